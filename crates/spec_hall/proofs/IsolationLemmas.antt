@@ -1,0 +1,64 @@
+use Rattle.std.proofs.Common.{◌≡◌, ◌≢◌, ℕ, Bool, true, false, cond, ◌==◌, List, [], ◌∷◌, ◌++◌, Some, refl, sym, ◌∙◌, ap, subst, append_assoc, append-nil}
+use Rattle.std.proofs.lemmas.Bool.{false_from_ne_true}
+use Rattle.std.proofs.lemmas.Bool.Decides.{Decides-eqb}
+use Rattle.spec_job.specs.Solo.{Own, Opened, Revised, Closed, Volume, Started, Finished, Exchanged, solo}
+use Rattle.spec_job.specs.Titled.{Key}
+use Rattle.spec_job.specs.Models.{KeepsAnswers}
+use Rattle.spec_job.proofs.StayLemmas.{push-stays, stays-on, stays-self}
+use Rattle.spec_hall.specs.Events.{Event, Open, Revise, Close, Balance, Start, Finish, Exchange}
+use Rattle.spec_hall.specs.Own.{own, own_step, adds, adds_volume, is_key, volume_in, volume_after}
+use Rattle.spec_hall.specs.Laws.{JobAnswersStay, OthersLeaveOwn, OwnEventsAnswer, SameVolumeLeavesOwn, job_in}
+use Rattle.spec_hall.proofs.KeyLemmas.{is_key-Decides}
+use Rattle.spec_hall.proofs.PushLemmas.{own-push}
+
+-- an own event that joins keeps the answers given
+adds-stays : (mine : Bool) (es : List Own) (o : Own) → KeepsAnswers (solo es) (solo (adds mine es o))
+adds-stays true es o = push-stays es o
+adds-stays false es o = stays-self (solo es)
+
+adds_volume-stays : (v : ℕ) (es : List Own) → KeepsAnswers (solo es) (solo (adds_volume v es))
+adds_volume-stays v es = by_test (v == volume_after es)
+  where
+    by_test : (b : Bool) → KeepsAnswers (solo es) (solo (cond b es (es ++ Volume v ∷ [])))
+    by_test true = stays-self (solo es)
+    by_test false = push-stays es (Volume v)
+
+-- an event keeps the answers that were given
+event-stays : (j : Key) (es : List Own) (e : Event) → KeepsAnswers (solo es) (solo (own_step j es e))
+event-stays j es (Open k ask) = adds-stays (is_key j k) es (Opened ask)
+event-stays j es (Revise k number r) = adds-stays (is_key j k) es (Revised r)
+event-stays j es (Close k) = adds-stays (is_key j k) es Closed
+event-stays j es (Balance shares) = adds_volume-stays (volume_in j shares) es
+event-stays j es (Start k index worker) = adds-stays (is_key j k) es (Started index)
+event-stays j es (Finish k index worker outcome) = adds-stays (is_key j k) es (Finished index outcome)
+event-stays j es (Exchange k) = adds-stays (is_key j k) es Exchanged
+
+pub job_answers-stay : JobAnswersStay
+job_answers-stay j past [] = subst (λ (h : List Event). KeepsAnswers (solo (own j past)) (solo (own j h))) (sym (append-nil past)) (stays-self (solo (own j past)))
+job_answers-stay j past (e ∷ es) =
+    let here : KeepsAnswers (solo (own j past)) (solo (own j (past ++ e ∷ []))) = subst (λ (os : List Own). KeepsAnswers (solo (own j past)) (solo os)) (sym (own-push j past e)) (event-stays j (own j past) e) in
+    let rest : KeepsAnswers (solo (own j (past ++ e ∷ []))) (solo (own j ((past ++ e ∷ []) ++ es))) = job_answers-stay j (past ++ e ∷ []) es in
+    subst (λ (h : List Event). KeepsAnswers (solo (own j past)) (solo (own j h))) (append_assoc past (e ∷ []) es) (stays-on (solo (own j past)) (solo (own j (past ++ e ∷ []))) (solo (own j ((past ++ e ∷ []) ++ es))) here rest)
+
+-- two histories with the same own events of a job
+pub own_events-answer : OwnEventsAnswer
+own_events-answer k one other same = ap (λ (es : List Own). (solo es).answers) same
+
+adds-other : (j k : Key) (es : List Own) (o : Own) → j ≢ k → adds (is_key j k) es o ≡ es
+adds-other j k es o other = rw (false_from_ne_true (is_key j k) (λ q. other ((is_key-Decides j k).0 q))) refl
+
+-- an event of another job
+step-other : (j k : Key) (es : List Own) (e : Event) → job_in e ≡ Some k → j ≢ k → own_step j es e ≡ es
+step-other j k es (Open i ask) e other = adds-other j i es (Opened ask) (subst (λ (x : Key). j ≢ x) (sym (let same : i ≡ k = cc in same)) other)
+step-other j k es (Revise i number r) e other = adds-other j i es (Revised r) (subst (λ (x : Key). j ≢ x) (sym (let same : i ≡ k = cc in same)) other)
+step-other j k es (Close i) e other = adds-other j i es Closed (subst (λ (x : Key). j ≢ x) (sym (let same : i ≡ k = cc in same)) other)
+step-other j k es (Balance shares) e other = absurd (cc)
+step-other j k es (Start i index worker) e other = adds-other j i es (Started index) (subst (λ (x : Key). j ≢ x) (sym (let same : i ≡ k = cc in same)) other)
+step-other j k es (Finish i index worker outcome) e other = adds-other j i es (Finished index outcome) (subst (λ (x : Key). j ≢ x) (sym (let same : i ≡ k = cc in same)) other)
+step-other j k es (Exchange i) e other = adds-other j i es Exchanged (subst (λ (x : Key). j ≢ x) (sym (let same : i ≡ k = cc in same)) other)
+
+pub others-leave_own : OthersLeaveOwn
+others-leave_own j k h e of_k other = own-push j h e ∙ step-other j k (own j h) e of_k other
+
+pub same_volume-leaves_own : SameVolumeLeavesOwn
+same_volume-leaves_own j h shares same = own-push j h (Balance shares) ∙ rw ((Decides-eqb (volume_in j shares) (volume_after (own j h))).1 same) refl

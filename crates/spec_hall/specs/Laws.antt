@@ -1,0 +1,47 @@
+use Rattle.std.specs.Prelude.{◌≡◌, ◌≢◌, ℕ, List, [], ◌∷◌, ◌++◌, Option, Some, None}
+use Rattle.mal_history.specs.declared.event.Share.{Share}
+use Rattle.spec_job.specs.Solo.{solo}
+use Rattle.spec_job.specs.Titled.{Key}
+use Rattle.spec_job.specs.Models.{AnswersFollow, AnswersSolve, KeepsAnswers}
+use Rattle.spec_job.specs.Runnable.{IsRunnable}
+use Rattle.spec_hall.specs.Events.{Event, Open, Revise, Close, Balance, Start, Finish, Exchange}
+use Rattle.spec_hall.specs.Own.{own, volume_in, volume_after}
+use Rattle.spec_hall.specs.Legal.{Legal}
+
+-- a job's own events in a legal history may each happen after those before them
+abbrev pub LegalIsRunnable : Type 0
+LegalIsRunnable = (workers : ℕ) (history : List Event) → Legal workers history → (k : Key) → IsRunnable [] (own k history)
+
+-- in a legal history each satisfiable answer of a job carries a model of its revision
+abbrev pub LegalAnswersSolve : Type 0
+LegalAnswersSolve = (workers : ℕ) (history : List Event) → Legal workers history → (k : Key) → AnswersSolve (solo (own k history))
+
+-- in a legal history no revision is answered before it is posted
+abbrev pub LegalAnswersFollow : Type 0
+LegalAnswersFollow = (workers : ℕ) (history : List Event) → Legal workers history → (k : Key) → AnswersFollow (solo (own k history))
+
+-- an answer that was given stays, whatever events of the hall follow
+abbrev pub JobAnswersStay : Type 0
+JobAnswersStay = (k : Key) (past later : List Event) → KeepsAnswers (solo (own k past)) (solo (own k (past ++ later)))
+
+-- the job that an event is of; a balancing is of all
+abbrev pub job_in : Event → Option Key
+job_in (Open k ask) = Some k
+job_in (Revise k number r) = Some k
+job_in (Close k) = Some k
+job_in (Balance shares) = None
+job_in (Start k index worker) = Some k
+job_in (Finish k index worker outcome) = Some k
+job_in (Exchange k) = Some k
+
+-- two histories in which a job has the same own events give it the same answers
+abbrev pub OwnEventsAnswer : Type 0
+OwnEventsAnswer = (k : Key) (one other : List Event) → own k one ≡ own k other → (solo (own k one)).answers ≡ (solo (own k other)).answers
+
+-- an event of another job leaves a job's own events as they are
+abbrev pub OthersLeaveOwn : Type 0
+OthersLeaveOwn = (j k : Key) (history : List Event) (e : Event) → job_in e ≡ Some k → j ≢ k → own j (history ++ e ∷ []) ≡ own j history
+
+-- so does a balancing that gives the job the volume that it has
+abbrev pub SameVolumeLeavesOwn : Type 0
+SameVolumeLeavesOwn = (j : Key) (history : List Event) (shares : List Share) → volume_in j shares ≡ volume_after (own j history) → own j (history ++ Balance shares ∷ []) ≡ own j history

@@ -1,0 +1,99 @@
+use Rattle.std.specs.Prelude.{◌≡◌, ◌≢◌, ℕ, ◌+◌, ◌<◌, ◌≤◌, true, false, ◌==◌, List, [], ◌∷◌, ◌++◌, length, map, find, sum_by, count_by, slice_get, Option, Some, None, if◌then◌else◌}
+use Rattle.mal_base.specs.Asks.{Terms, IsAsk}
+use Rattle.mal_base.specs.Names.{is_name}
+use Rattle.mal_history.specs.declared.event.Share.{Share}
+use Rattle.mal_revision.specs.Posted.{Posted, is_posted, literals_of}
+use Rattle.spec_balance.specs.Fair.{IsFair}
+use Rattle.spec_job.specs.Solo.{clauses_in}
+use Rattle.spec_job.specs.Titled.{Key, Titled}
+use Rattle.spec_hall.specs.Events.{Event, Open, Revise, Close, Balance, Start, Finish, Exchange, key_of}
+use Rattle.spec_hall.specs.Own.{is_text, is_key}
+use Rattle.spec_hall.specs.States.{Candidate, keys_of, states, lives, live_asks, balanced, leases, lease_of, exchange_due, picked}
+
+-- the job of a key
+abbrev pub job_of : Key → List Titled → Option Titled
+job_of k jobs = find (λ t. is_key k t.key) jobs
+
+-- how many jobs a tenant has
+abbrev pub jobs_of : List ℕ → List Titled → ℕ
+jobs_of tenant jobs = count_by (λ t. is_text tenant t.key.tenant) jobs
+
+-- how many tenants there are: a job counts where no later job has its tenant
+abbrev pub tenant_count : List Titled → ℕ
+tenant_count [] = 0
+tenant_count (t ∷ ts) = (if 0 == jobs_of t.key.tenant ts then 1 else 0) + tenant_count ts
+
+-- the literals of a job's revisions
+abbrev pub literals_in : List Posted → ℕ
+literals_in revisions = sum_by (λ r. literals_of r.clauses) revisions
+
+-- a job may be opened: it has a name and an ask in form, no job has its key, its tenant has fewer than 64 jobs, and
+-- there are fewer than 64 other tenants
+pub record MayOpen (past : List Event) (k : Key) (ask : Terms) : Type 0 where
+  pub tenant : is_name k.tenant ≡ true
+  pub job : is_name k.job ≡ true
+  pub asked : IsAsk ask
+  pub fresh : job_of k (states past) ≡ None
+  pub tenant_room : jobs_of k.tenant (states past) < 64
+  pub hall_room : (jobs_of k.tenant (states past) ≡ 0) → tenant_count (states past) < 64
+
+-- a job that is open may get its next revision, of which there are 256 at most with 2^20 clauses and 2^24 literals
+pub record MayRevise (past : List Event) (k : Key) (number : ℕ) (r : Posted) (t : Titled) : Type 0 where
+  pub job : job_of k (states past) ≡ Some t
+  pub open_still : t.state.closed ≡ false
+  pub posted : is_posted r ≡ true
+  pub next : number ≡ length t.state.revisions + 1
+  pub room : number ≤ 256
+  pub clause_room : clauses_in t.state.revisions + length r.clauses ≤ 1048576
+  pub literal_room : literals_in t.state.revisions + literals_of r.clauses ≤ 16777216
+
+-- a job that is open may be closed
+pub record MayClose (past : List Event) (k : Key) (t : Titled) : Type 0 where
+  pub job : job_of k (states past) ≡ Some t
+  pub open_still : t.state.closed ≡ false
+
+-- a balancing is due where the live jobs with their asks are not those of the last one
+abbrev pub IsBalanceDue : List Event → Type 0
+IsBalanceDue past = lives (states past) ≢ balanced past
+
+-- a balancing comes where it is due, and gives the live jobs, by opening, fair volumes
+pub record MayBalance (workers : ℕ) (past : List Event) (shares : List Share) : Type 0 where
+  pub due : IsBalanceDue past
+  pub keys : map key_of shares ≡ map (λ l. l.key) (lives (states past))
+  pub fair : IsFair workers (live_asks (states past)) (map (λ s. s.volume) shares)
+
+-- a start comes where neither a balancing nor an exchange is due, of the node that is picked, by a worker that has none out
+pub record MayStart (workers : ℕ) (past : List Event) (k : Key) (index worker : ℕ) (choice : Candidate) : Type 0 where
+  pub balance : lives (states past) ≡ balanced past
+  pub exchange : exchange_due (states past) ≡ None
+  pub first : picked (states past) ≡ Some choice
+  pub key : slice_get (keys_of past) choice.job ≡ Some k
+  pub place : choice.index ≡ index
+  pub some_worker : 1 ≤ worker
+  pub worker_bound : worker ≤ workers
+  pub idle : lease_of worker (leases past) ≡ None
+
+-- an exchange comes of the first job of which it is due, where no balancing is due
+pub record MayExchange (past : List Event) (k : Key) (t : Titled) : Type 0 where
+  pub balance : lives (states past) ≡ balanced past
+  pub first : exchange_due (states past) ≡ Some t
+  pub key : t.key ≡ k
+
+-- an event is allowed after a past
+abbrev pub Allowed : ℕ → List Event → Event → Type 0
+Allowed workers past (Open k ask) = MayOpen past k ask
+Allowed workers past (Revise k number r) = (t : Titled) × MayRevise past k number r t
+Allowed workers past (Close k) = (t : Titled) × MayClose past k t
+Allowed workers past (Balance shares) = MayBalance workers past shares
+Allowed workers past (Start k index worker) = (choice : Candidate) × MayStart workers past k index worker choice
+Allowed workers past (Finish k index worker outcome) = lease_of worker (leases past) ≡ Some (record { worker = worker; key = k; index = index })
+Allowed workers past (Exchange k) = (t : Titled) × MayExchange past k t
+
+-- each event is allowed after the past and those before it
+abbrev pub LegalFrom : ℕ → List Event → List Event → Type 0
+LegalFrom workers past [] = Unit {0}
+LegalFrom workers past (e ∷ es) = Allowed workers past e × LegalFrom workers (past ++ e ∷ []) es
+
+-- a history of so many workers in which each event is allowed after those before it
+abbrev pub Legal : ℕ → List Event → Type 0
+Legal workers history = LegalFrom workers [] history

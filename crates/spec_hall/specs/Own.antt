@@ -1,0 +1,56 @@
+use Rattle.std.specs.Prelude.{ℕ, Bool, ◌&&◌, ◌==◌, List, [], ◌∷◌, ◌++◌, fold, if◌then◌else◌}
+use Rattle.std.specs.Option.{option_map_or}
+use Rattle.std.specs.Prelude.{find}
+use Rattle.std.specs.Cmp.Lexicographic.{pointwise}
+use Rattle.mal_history.specs.declared.event.Share.{Share}
+use Rattle.spec_job.specs.Titled.{Key}
+use Rattle.spec_hall.specs.Events.{Event, Open, Revise, Close, Balance, Start, Finish, Exchange, key_of}
+use Rattle.spec_job.specs.Solo.{Own, Opened, Revised, Closed, Volume, Started, Finished, Exchanged}
+
+-- two texts are equal
+abbrev pub is_text : List ℕ → List ℕ → Bool
+is_text a b = pointwise (λ x y. x == y) a b
+
+-- two keys are equal
+abbrev pub is_key : Key → Key → Bool
+is_key a b = is_text a.tenant b.tenant && is_text a.job b.job
+
+-- the volume that a balancing gives a job, 0 where it is not listed
+abbrev pub volume_in : Key → List Share → ℕ
+volume_in k shares = option_map_or (λ s. s.volume) (find (λ s. is_key k (key_of s)) shares) 0
+
+-- the volume after an own event
+abbrev pub volume_step : ℕ → Own → ℕ
+volume_step v (Opened ask) = v
+volume_step v (Revised r) = v
+volume_step v Closed = v
+volume_step v (Volume w) = w
+volume_step v (Started i) = v
+volume_step v (Finished i outcome) = v
+volume_step v Exchanged = v
+
+-- the volume after a list of own events, 0 at first
+abbrev pub volume_after : List Own → ℕ
+volume_after own = fold volume_step 0 own
+
+-- an event of a job joins its own events, one of another job does not
+abbrev pub adds : Bool → List Own → Own → List Own
+adds mine own o = if mine then own ++ o ∷ [] else own
+
+-- of a balancing a job keeps its volume, only where it differs from the one before
+abbrev pub adds_volume : ℕ → List Own → List Own
+adds_volume v own = if v == volume_after own then own else own ++ Volume v ∷ []
+
+-- a job's own events after one more event of the hall
+abbrev pub own_step : Key → List Own → Event → List Own
+own_step j own (Open k ask) = adds (is_key j k) own (Opened ask)
+own_step j own (Revise k number r) = adds (is_key j k) own (Revised r)
+own_step j own (Close k) = adds (is_key j k) own Closed
+own_step j own (Balance shares) = adds_volume (volume_in j shares) own
+own_step j own (Start k index worker) = adds (is_key j k) own (Started index)
+own_step j own (Finish k index worker outcome) = adds (is_key j k) own (Finished index outcome)
+own_step j own (Exchange k) = adds (is_key j k) own Exchanged
+
+-- a job's own events in a history
+abbrev pub own : Key → List Event → List Own
+own j history = fold (own_step j) [] history

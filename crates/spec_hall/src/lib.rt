@@ -1,0 +1,25 @@
+//! A hall: own events, states, legal histories and replies. Definitions, and the laws about them as the contracts of
+//! functions without a body.
+#![tactic(auto)]
+
+ghost use Rattle.spec_hall.specs.Laws.{JobAnswersStay, LegalAnswersFollow, LegalAnswersSolve, LegalIsRunnable, OwnEventsAnswer, OthersLeaveOwn, SameVolumeLeavesOwn};
+
+/// A job's answers come from its own events alone, and events of other jobs are none of these.
+pub fn jobs_are_isolated()
+    ensures answers { OwnEventsAnswer }
+    ensures others { OthersLeaveOwn }
+    ensures volumes { SameVolumeLeavesOwn }
+{}
+
+/// In a legal history a job's own events are those that its machine may take: each satisfiable answer carries a model of
+/// its revision, and no revision is answered before it is posted.
+pub fn legal_answers_solve()
+    ensures runnable { LegalIsRunnable }
+    ensures solve { LegalAnswersSolve }
+    ensures follow { LegalAnswersFollow }
+{}
+
+/// An answer that was given stays, whatever events follow.
+pub fn job_answers_stay()
+    ensures { JobAnswersStay }
+{}

@@ -1,0 +1,5 @@
+pub mod ExampleLemmas
+pub mod StepLemmas
+pub mod LoadedLemmas
+pub mod SolvingLemmas
+pub mod StayLemmas

@@ -1,0 +1,33 @@
+use Rattle.std.specs.Prelude.{ℕ, ◌+◌, Bool, true, false, List, [], ◌∷◌, length, fold, count_by}
+use Rattle.mal_revision.specs.Posted.{Posted}
+use Rattle.spec_node.specs.State.{fresh}
+use Rattle.spec_node.specs.Slice.{Sliced, slice}
+use Rattle.spec_node.specs.Load.{loaded}
+
+-- an entry of a node's journal: a revision is loaded under the number of its first clause, or a slice is run
+pub data JournalEntry : Type 0 where
+  Load : Posted → ℕ → JournalEntry
+  Run : JournalEntry
+
+-- a node after one more entry, with the lines of its last slice
+abbrev pub after_entry : Sliced → JournalEntry → Sliced
+after_entry s (Load r first) = record { node = loaded r first s.node; lines = [] }
+after_entry s Run = slice s.node
+
+-- the replay of a journal: the fresh node of the index, then each entry in turn
+abbrev pub replay : ℕ → List JournalEntry → Sliced
+replay index entries = fold after_entry (record { node = fresh index; lines = [] }) entries
+
+-- whether an entry loads a revision
+abbrev pub is_load : JournalEntry → Bool
+is_load (Load r first) = true
+is_load Run = false
+
+-- how many revisions a journal has loaded
+abbrev pub loads_in : List JournalEntry → ℕ
+loads_in entries = count_by is_load entries
+
+-- the loads of these revisions, of which the first clause has this number
+abbrev pub loads_of : ℕ → List Posted → List JournalEntry
+loads_of first [] = []
+loads_of first (r ∷ rs) = Load r first ∷ loads_of (first + length r.clauses) rs

@@ -1,0 +1,162 @@
+use Rattle.std.specs.Prelude.{ℕ, ◌+◌, ◌-◌, ◌*◌, Bool, true, false, ◌&&◌, ◌==◌, nat_lt, nat_le, List, [], ◌∷◌, ◌++◌, length, take, drop, replicate, sum_by, count_by, fold, get_or, slice_set, Option, Some, None, is_none, if◌then◌else◌}
+use Rattle.mal_base.specs.Asks.{Terms}
+use Rattle.mal_base.specs.declared.answer.Answer.{Answer}
+use Rattle.mal_base.specs.declared.answer.Answer.TheVariants.{Satisfied, Spent, OutOfStarts}
+use Rattle.mal_base.specs.declared.verdict.Verdict.{Verdict}
+use Rattle.mal_base.specs.declared.verdict.Verdict.TheVariants.{Satisfiable, Unsatisfiable}
+use Rattle.mal_base.specs.declared.verdict.Outcome.{Outcome}
+use Rattle.mal_base.specs.declared.verdict.Outcome.TheVariants.{Ran, Starved, Lost}
+use Rattle.mal_revision.specs.Posted.{Posted}
+use Rattle.spec_node.specs.State.{Node}
+use Rattle.spec_node.specs.Model.{model_of}
+use Rattle.spec_job.specs.Journal.{JournalEntry, Run, replay, loads_in, loads_of}
+
+-- a job's own events: no other job, no worker and no start number stands in them
+pub data Own : Type 0 where
+  Opened : Terms → Own
+  Revised : Posted → Own
+  Closed : Own
+  Volume : ℕ → Own
+  Started : ℕ → Own
+  Finished : ℕ → Outcome → Own
+  Exchanged : Own
+
+-- a start that has not ended: for which revision (from 0), and the entries that it adds to the journal
+pub record Lease : Type 0 where
+  pub revision : ℕ
+  pub adds : List JournalEntry
+
+-- a place of the job's tree: the journal of its node, the start that is out, and how often it was started
+pub record Place : Type 0 where
+  pub entries : List JournalEntry
+  pub out : Option Lease
+  pub starts : ℕ
+
+-- a place that was never started
+abbrev pub vacant : Place
+vacant = record { entries = []; out = None; starts = 0 }
+
+-- what a job's machine remembers
+pub record Solo : Type 0 where
+  pub ask : Terms
+  pub closed : Bool
+  pub volume : ℕ
+  pub revisions : List Posted
+  pub answers : List Answer
+  pub places : List Place
+  pub ran : ℕ
+  pub spent : ℕ
+  pub starved : ℕ
+
+-- the machine before its first event: 64 vacant places and nothing else
+abbrev pub unopened : Solo
+unopened = record { ask = record { priority = 0; demand = 0; slices = 0 }; closed = false; volume = 0; revisions = []; answers = []; places = replicate 64 vacant; ran = 0; spent = 0; starved = 0 }
+
+-- revisions are answered in order: the current one is the first without an answer
+abbrev pub current : Solo → ℕ
+current s = length s.answers
+
+-- a job is live while it has a revision without an answer
+abbrev pub is_live : Solo → Bool
+is_live s = nat_lt (length s.answers) (length s.revisions)
+
+-- the place at an index
+abbrev pub place_at : Solo → ℕ → Place
+place_at s i = get_or s.places i vacant
+
+-- the machine with another place at an index
+abbrev pub with_place : Solo → ℕ → Place → Solo
+with_place s i p = record s { places = slice_set s.places i p }
+
+-- how many original clauses these revisions have
+abbrev pub clauses_in : List Posted → ℕ
+clauses_in revisions = sum_by (λ r. length r.clauses) revisions
+
+-- the loads that a journal lacks, up to the current revision
+abbrev pub missing_loads : Solo → Place → List JournalEntry
+missing_loads s p = let n = loads_in p.entries in loads_of (clauses_in (take n s.revisions) + 1) (take (current s + 1 - n) (drop n s.revisions))
+
+-- what a start adds to a journal: the missing loads, then one slice
+abbrev pub start_entries : Solo → Place → List JournalEntry
+start_entries s p = missing_loads s p ++ Run ∷ []
+
+-- the place is out for the current revision
+abbrev pub started : Solo → ℕ → Place → Solo
+started s i p = with_place s i (record p { out = Some (record { revision = current s; adds = start_entries s p }); starts = p.starts + 1 })
+
+-- the current revision is answered
+abbrev pub answered : Solo → Answer → Solo
+answered s a = record s { answers = s.answers ++ a ∷ []; spent = 0; starved = 0 }
+
+-- a slice without a verdict counts as spent, and the last of the budget answers unknown
+abbrev pub spend : Solo → Solo
+spend s = if s.spent + 1 == s.ask.slices then answered s (Spent s.ask.slices) else record s { spent = s.spent + 1 }
+
+-- a verdict answers the current revision
+abbrev pub conclude : Option Verdict → Node → Solo → Solo
+conclude None n s = spend s
+conclude (Some Satisfiable) n s = answered s (Satisfied (model_of n))
+conclude (Some (Unsatisfiable goal)) n s = spend s
+
+-- the third start of a revision that reported want of memory answers unknown
+abbrev pub starve : Solo → Solo
+starve s = if s.starved + 1 == 3 then answered s OutOfStarts else record s { starved = s.starved + 1 }
+
+-- a finish is late where the revision of its start has its answer
+abbrev pub is_late : Solo → Lease → Bool
+is_late s l = nat_lt l.revision (current s)
+
+-- a slice that was run: its entries join the journal, and unless it is late it answers or counts as spent
+abbrev pub finished_ran : Solo → ℕ → Place → Lease → Solo
+finished_ran s i p l =
+    let entries = p.entries ++ l.adds in
+    let node = (replay i entries).node in
+    let home = record (with_place s i (record p { entries = entries; out = None })) { ran = s.ran + 1 } in
+    if is_late s l then home else conclude node.verdict node home
+
+-- a start that comes to nothing leaves the node as it was
+abbrev pub finished_home : Solo → ℕ → Place → Solo
+finished_home s i p = with_place s i (record p { out = None })
+
+-- a start that ended, by its outcome
+abbrev pub finished_lease : Solo → ℕ → Place → Lease → Outcome → Solo
+finished_lease s i p l Ran = finished_ran s i p l
+finished_lease s i p l Starved = (let home = finished_home s i p in if is_late s l then home else starve home)
+finished_lease s i p l Lost = finished_home s i p
+
+-- a finish ends the start that is out
+abbrev pub finished : Solo → ℕ → Place → Option Lease → Outcome → Solo
+finished s i p None outcome = s
+finished s i p (Some l) outcome = finished_lease s i p l outcome
+
+-- the machine after one more event of its own
+abbrev pub solo_step : Solo → Own → Solo
+solo_step s (Opened ask) = record s { ask = ask }
+solo_step s (Revised r) = record s { revisions = s.revisions ++ r ∷ [] }
+solo_step s Closed = record s { closed = true }
+solo_step s (Volume v) = record s { volume = v }
+solo_step s (Started i) = started s i (place_at s i)
+solo_step s (Finished i outcome) = finished s i (place_at s i) (place_at s i).out outcome
+solo_step s Exchanged = record s { ran = 0 }
+
+-- the machine that is run alone on a list of own events
+abbrev pub solo : List Own → Solo
+solo events = fold solo_step unopened events
+
+-- whether a start is out for a revision
+abbrev pub is_for : ℕ → Option Lease → Bool
+is_for revision None = false
+is_for revision (Some l) = l.revision == revision
+
+-- how many starts are out for the current revision
+abbrev pub out_count : Solo → ℕ
+out_count s = count_by (λ p. is_for (current s) p.out) s.places
+
+-- a node may start where its job is live, its index is below the volume, it is at home, and the slices that the
+-- current revision has spent and those that are out are fewer than its budget
+abbrev pub startable : Solo → ℕ → Bool
+startable s i = (is_live s && nat_lt i s.volume) && (is_none (place_at s i).out && nat_lt (s.spent + out_count s) s.ask.slices)
+
+-- an exchange is due where the volume is at least 2 and twice as many slices as the volume were run since the last one
+abbrev pub is_exchange_due : Solo → Bool
+is_exchange_due s = nat_le 2 s.volume && nat_le (2 * s.volume) s.ran

@@ -1,0 +1,36 @@
+use Rattle.std.specs.Prelude.{ℕ, Bool, List, [], Option, None}
+use Rattle.mal_base.specs.declared.trail_entry.TrailEntry.{TrailEntry}
+use Rattle.mal_base.specs.declared.verdict.Verdict.{Verdict}
+
+-- a clause that a node holds, under its number
+pub record Held : Type 0 where
+  pub id : ℕ
+  pub lits : List ℕ
+
+-- a derived clause with the clauses that it follows from by unit propagation, in that order
+pub record Line : Type 0 where
+  pub id : ℕ
+  pub lits : List ℕ
+  pub hints : List ℕ
+
+-- a solver node: its place in the tree, its variables 1 to V, how many clauses it has derived (serial), the conflicts
+-- since the last restart, the number of the restart, the batches handled, the clause of a waiting conflict, a verdict,
+-- the assumptions by variable, the decision order, a phase per variable, the trail, and the clauses by rising number
+pub record Node : Type 0 where
+  pub index : ℕ
+  pub variables : ℕ
+  pub serial : ℕ
+  pub since : ℕ
+  pub round : ℕ
+  pub processed : ℕ
+  pub conflict : Option ℕ
+  pub verdict : Option Verdict
+  pub assumptions : List ℕ
+  pub order : List ℕ
+  pub phases : List Bool
+  pub trail : List TrailEntry
+  pub clauses : List Held
+
+-- the node of this index at its first start
+abbrev pub fresh : ℕ → Node
+fresh i = record { index = i; variables = 0; serial = 0; since = 0; round = 1; processed = 0; conflict = None; verdict = None; assumptions = []; order = []; phases = []; trail = []; clauses = [] }

@@ -1,0 +1,49 @@
+use Rattle.std.specs.Prelude.{◌≡◌, ℕ, ◌+◌, Bool, false, List, [], ◌∷◌, ◌++◌, map, filter, flat_map}
+use Rattle.mal_revision.specs.Posted.{Posted}
+use Rattle.spec_job.specs.Titled.{Key}
+use Rattle.spec_hall.specs.Events.{Event, Open, Revise, Close, Balance, Start, Finish, Exchange}
+use Rattle.spec_hall.specs.Own.{is_text}
+use Rattle.spec_hall.specs.States.{states, lives, leases}
+use Rattle.spec_script.specs.Script.{ScriptedJob, Scripted}
+
+-- whether a tenant posted the event
+abbrev pub is_post_of : List ℕ → Event → Bool
+is_post_of tenant (Open k ask) = is_text tenant k.tenant
+is_post_of tenant (Revise k number r) = is_text tenant k.tenant
+is_post_of tenant (Close k) = is_text tenant k.tenant
+is_post_of tenant (Balance shares) = false
+is_post_of tenant (Start k index worker) = false
+is_post_of tenant (Finish k index worker outcome) = false
+is_post_of tenant (Exchange k) = false
+
+-- the key of a script's job
+abbrev pub key_of_job : ScriptedJob → Key
+key_of_job j = record { tenant = j.tenant; job = j.name }
+
+-- the revisions of a job, numbered from this one on
+abbrev pub revise_events : Key → ℕ → List Posted → List Event
+revise_events k number [] = []
+revise_events k number (r ∷ rs) = Revise k number r ∷ revise_events k (number + 1) rs
+
+-- a job's revisions and its closing
+abbrev pub job_events : ScriptedJob → List Event
+job_events j = revise_events (key_of_job j) 1 j.revisions ++ Close (key_of_job j) ∷ []
+
+-- the openings of jobs
+abbrev pub open_events : List ScriptedJob → List Event
+open_events jobs = map (λ j. Open (key_of_job j) j.ask) jobs
+
+-- a tenant's jobs in a script
+abbrev pub jobs_of_tenant : List ℕ → Scripted → List ScriptedJob
+jobs_of_tenant tenant s = filter (λ j. is_text tenant j.tenant) s.jobs
+
+-- what a tenant posts by a script: its openings, then job by job the revisions and the closing
+abbrev pub posts_of : List ℕ → Scripted → List Event
+posts_of tenant s = open_events (jobs_of_tenant tenant s) ++ flat_map job_events (jobs_of_tenant tenant s)
+
+-- a history is complete for a script: each tenant posted just what the script says, in its order; every revision is
+-- answered, and nothing is out
+pub record IsComplete (s : Scripted) (history : List Event) : Type 0 where
+  pub posts : (tenant : List ℕ) → filter (is_post_of tenant) history ≡ posts_of tenant s
+  pub answered : lives (states history) ≡ []
+  pub home : leases history ≡ []

@@ -1,0 +1,37 @@
+use Rattle.std.specs.Prelude.{◌≡◌, ℕ, ◌+◌, List, [], ◌∷◌, ◌++◌, map, flat_map, Option, Some, None}
+use Rattle.mal_history.specs.Text.{history_text}
+use Rattle.mal_revision.specs.Posted.{Posted}
+use Rattle.spec_job.specs.Solo.{Solo, solo}
+use Rattle.spec_job.specs.Titled.{Key}
+use Rattle.spec_hall.specs.Events.{Event, bare}
+use Rattle.spec_hall.specs.Own.{own}
+use Rattle.spec_hall.specs.Legal.{Legal}
+use Rattle.spec_report.specs.Replies.{reply}
+use Rattle.spec_script.specs.Script.{ScriptedJob, Scripted}
+use Rattle.spec_run.specs.Complete.{IsComplete, key_of_job}
+
+-- the text of a reply, nothing where there is none
+abbrev pub text_or_none : Option (List ℕ) → List ℕ
+text_or_none None = []
+text_or_none (Some text) = text
+
+-- the replies of a machine to its revisions, from this one on
+abbrev pub replies_from : Key → ℕ → Solo → List Posted → List ℕ
+replies_from k r s [] = []
+replies_from k r s (p ∷ ps) = text_or_none (reply k r s) ++ replies_from k (r + 1) s ps
+
+-- the replies to a job: those of its machine run alone on the job's own events
+abbrev pub job_replies : List Event → ScriptedJob → List ℕ
+job_replies history j = replies_from (key_of_job j) 1 (solo (own (key_of_job j) history)) j.revisions
+
+-- the replies to a script, job by job in its order
+unfoldable pub replies : Scripted → List Event → List ℕ
+replies s history = flat_map (job_replies history) s.jobs
+
+-- a script was run with so many workers: the history is legal and complete for it, the log is the history's text, and
+-- the output is the replies of the jobs' machines, each run alone on its own events
+pub record IsRun (workers : ℕ) (s : Scripted) (history : List Event) (log out : List ℕ) : Type 0 where
+  pub legal : Legal workers history
+  pub complete : IsComplete s history
+  pub log_text : log ≡ history_text workers (map bare history)
+  pub out_text : out ≡ replies s history

@@ -1,0 +1,53 @@
+use Rattle.std.specs.Prelude.{◌≡◌, ℕ, ◌<◌, ◌≤◌, List, [], ◌∷◌, ◌++◌, length, map, flat_map, codes, Option, Some, None}
+use Rattle.mal_base.specs.Asks.{Terms}
+use Rattle.mal_revision.specs.Posted.{Posted}
+use Rattle.spec_text.specs.Lines.{text_of}
+use Rattle.spec_text.specs.Numbers.{decimal_word, literal_word}
+
+-- a job of a script: its tenant, its name, its ask and its revisions
+pub record ScriptedJob : Type 0 where
+  pub tenant : List ℕ
+  pub name : List ℕ
+  pub ask : Terms
+  pub revisions : List Posted
+
+-- a script: its jobs, in the order of the text
+pub record Scripted : Type 0 where
+  pub jobs : List ScriptedJob
+
+-- the words of literals, closed by a 0
+abbrev pub closed_words : List ℕ → List (List ℕ)
+closed_words lits = map literal_word lits ++ codes "0" ∷ []
+
+-- the words of a clause's line; a tautology is written as the literals 1 and -1
+abbrev pub clause_words : Option (List ℕ) → List (List ℕ)
+clause_words None = closed_words (2 ∷ 3 ∷ [])
+clause_words (Some lits) = closed_words lits
+
+-- the words of a header line: the variables and the number of clauses
+abbrev pub header_words : Posted → List (List ℕ)
+header_words r = codes "p" ∷ codes "cnf" ∷ decimal_word r.variables ∷ decimal_word (length r.clauses) ∷ []
+
+-- the words of the lines of a revision: the header, a line a clause, and the assumptions
+abbrev pub revision_rows : Posted → List (List (List ℕ))
+revision_rows r = header_words r ∷ (map clause_words r.clauses ++ (codes "a" ∷ closed_words r.assumptions) ∷ [])
+
+-- the words of a tenant's line
+abbrev pub tenant_words : List ℕ → List (List ℕ)
+tenant_words tenant = codes "t" ∷ tenant ∷ []
+
+-- the words of the line that begins a job
+abbrev pub job_words : List ℕ → Terms → List (List ℕ)
+job_words name ask = codes "j" ∷ name ∷ decimal_word ask.priority ∷ decimal_word ask.demand ∷ decimal_word ask.slices ∷ []
+
+-- the words of the lines of a job
+abbrev pub job_rows : ScriptedJob → List (List (List ℕ))
+job_rows j = tenant_words j.tenant ∷ job_words j.name j.ask ∷ (flat_map revision_rows j.revisions ++ (codes "e" ∷ []) ∷ [])
+
+-- the words of the lines of a script
+abbrev pub rows_of : Scripted → List (List (List ℕ))
+rows_of s = flat_map job_rows s.jobs
+
+-- the one text that a script is written as
+unfoldable pub spelling : Scripted → List ℕ
+spelling s = text_of (rows_of s)

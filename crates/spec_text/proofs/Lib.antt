@@ -1,0 +1,4 @@
+pub mod Clean
+pub mod Again
+pub mod Read
+pub mod Examples

@@ -1,0 +1,5 @@
+pub mod Lines
+pub mod Numbers
+pub mod Inputs
+pub mod Laws
+pub mod Examples

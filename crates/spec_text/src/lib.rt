@@ -1,0 +1,5 @@
+//! Texts as lines of words: how they are written, what is read in them, and the laws that lead from the one to the
+//! other. Each law is the contract of a function that does nothing.
+#![tactic(auto)]
+
+pub mod laws;
