@@ -1,0 +1,25 @@
+use Rattle.std.specs.Prelude.{ℕ, ◌≤◌, ℤ, pos, ◌≤ℤ◌}
+
+-- what a job asks for
+pub record Terms : Type 0 where
+  pub priority : ℕ
+  pub demand : ℕ
+  pub slices : ℕ
+
+-- the priority is 1 to 1,000, the demand 1 to 64, the slices of a revision 1 to 4,096
+pub record IsAsk (t : Terms) : Type 0 where
+  pub some_priority : 1 ≤ t.priority
+  pub priority_bound : t.priority ≤ 1000
+  pub some_demand : 1 ≤ t.demand
+  pub demand_bound : t.demand ≤ 64
+  pub some_slices : 1 ≤ t.slices
+  pub slices_bound : t.slices ≤ 4096
+
+-- the three numbers are in those ranges
+pub record InRange (priority demand slices : ℤ) : Type 0 where
+  pub some_priority : pos 1 ≤ℤ priority
+  pub priority_bound : priority ≤ℤ pos 1000
+  pub some_demand : pos 1 ≤ℤ demand
+  pub demand_bound : demand ≤ℤ pos 64
+  pub some_slices : pos 1 ≤ℤ slices
+  pub slices_bound : slices ≤ℤ pos 4096

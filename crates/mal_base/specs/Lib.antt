@@ -1,0 +1,5 @@
+pub mod Literals
+pub mod Clauses
+pub mod Names
+pub mod Asks
+pub mod NameFields

@@ -1,0 +1,25 @@
+use Rattle.std.specs.Prelude.{ℕ, ◌+◌, ◌-◌, ◌*◌, ◌/◌, ◌%◌, ◌<◌, ◌≤◌, Bool, ◌==◌, if◌then◌else◌}
+
+-- the greatest variable
+abbrev pub greatest_variable : ℕ
+greatest_variable = 65536
+
+-- a literal is written by its code: twice its variable, and one more where it is negative
+abbrev pub var_of : ℕ → ℕ
+var_of code = code / 2
+
+-- the code of the literal of a variable with a sign
+abbrev pub literal : ℕ → Bool → ℕ
+literal var positive = if positive then 2 * var else 2 * var + 1
+
+-- whether a literal is positive
+abbrev pub has_plus : ℕ → Bool
+has_plus code = code % 2 == 0
+
+-- the literal of the same variable with the other sign
+abbrev pub negated : ℕ → ℕ
+negated code = if code % 2 == 0 then code + 1 else code - 1
+
+-- a code is that of a literal of the variables 1 to 65,536
+abbrev pub IsLiteral : ℕ → Type 0
+IsLiteral code = (2 ≤ code) × (code < 131074)

@@ -1,0 +1,80 @@
+//! What a job asks for.
+
+ghost use Rattle.std.specs.Prelude.{◌≡◌, ℕ, ◌≤◌, ◌↔◌, ℤ, pos, IsSome, IfSome};
+ghost use Rattle.mal_base.specs.Asks.{InRange, IsAsk};
+
+use std::marker::Model;
+
+/// A job's priority (1 to 1,000), its demand (the most solvers that it can use at a time, 1 to 64), and the slices that
+/// each of its revisions may spend (1 to 4,096). Contracts see the three numbers.
+#[derive(Clone, Copy, Debug, PartialEq, Eq)]
+pub struct Ask {
+    priority: u32,
+    demand: u32,
+    slices: u32,
+}
+
+impl Model for Ask {
+    ghost use Rattle.mal_base.specs.Asks.{Terms, IsAsk};
+
+    ghost Value = { Terms };
+
+    ghost view = { λ a. record { priority = a.priority; demand = a.demand; slices = a.slices } };
+
+    ghost invariant = { λ a. IsAsk (record { priority = a.priority; demand = a.demand; slices = a.slices }) };
+
+    ghost inverse = { λ t. record { priority = t.priority; demand = t.demand; slices = t.slices } };
+}
+
+impl Ask {
+    /// The ask with these numbers. None exactly where one is out of its range.
+    pub fn of(priority: i64, demand: i64, slices: i64) -> Option<Ask>
+        ensures some { IsSome result ↔ InRange priority demand slices }
+        ensures priority { IfSome result (λ a. pos a.priority ≡ priority) }
+        ensures demand { IfSome result (λ a. pos a.demand ≡ demand) }
+        ensures slices { IfSome result (λ a. pos a.slices ≡ slices) }
+    {
+        if priority < 1 || priority > 1000 {
+            return None;
+        }
+        if demand < 1 || demand > 64 {
+            return None;
+        }
+        if slices < 1 || slices > 4096 {
+            return None;
+        }
+        Some(Ask {
+            priority: priority as u32,
+            demand: demand as u32,
+            slices: slices as u32,
+        })
+    }
+
+    /// The priority, from 1 to 1,000.
+    pub fn priority(self) -> u32
+        ensures value { result ≡ self.priority }
+        ensures form { IsAsk self }
+        ensures some { 1 ≤ result }
+        ensures bound { result ≤ 1000 }
+    {
+        self.priority
+    }
+
+    /// The demand, from 1 to 64.
+    pub fn demand(self) -> u32
+        ensures value { result ≡ self.demand }
+        ensures some { 1 ≤ result }
+        ensures bound { result ≤ 64 }
+    {
+        self.demand
+    }
+
+    /// The slices of a revision, from 1 to 4,096.
+    pub fn slices(self) -> u32
+        ensures value { result ≡ self.slices }
+        ensures some { 1 ≤ result }
+        ensures bound { result ≤ 4096 }
+    {
+        self.slices
+    }
+}

@@ -1,0 +1,83 @@
+//! Clauses.
+
+ghost use Rattle.std.specs.Prelude.{◌≡◌, ◌≢◌, ℕ, ◌<◌, ◌≤◌, ◌↔◌, List, true, length, IsTrue, IfOk, MatchOption};
+ghost use Rattle.mal_base.specs.Clauses.{rises, is_below, IsTautology, HaveSame};
+
+use crate::literal::Lit;
+use smallvec::SmallVec;
+use std::alloc::{AllocError, Global};
+use std::marker::Model;
+
+/// A clause: literals with strictly rising variables, so no variable stands twice. Contracts see the list of literals.
+#[derive(Debug, Drop)]
+pub struct Clause {
+    lits: SmallVec<Lit, 4>,
+}
+
+impl Model for Clause {
+    ghost Value = { List ℕ };
+
+    ghost view = { λ c. c.lits.items };
+
+    ghost invariant = { λ c. rises c.lits.items ≡ true };
+}
+
+impl Clause {
+    /// The clause of these literals, which stand in clause order. None exactly where the variables do not rise strictly.
+    pub fn of_rising(alloc: Global, lits: &[Lit]) -> Result<Option<Clause>, AllocError>
+        ensures { IfOk result (λ o. MatchOption o (rises lits.now ≢ true) (λ c. (c ≡ lits.now) × (rises lits.now ≡ true))) }
+    {
+        if !is_rising(lits) {
+            return Ok(None);
+        }
+        let lits = SmallVec::from_slice(alloc, lits)?;
+        Ok(Some(Clause { lits }))
+    }
+
+    /// The clause of these literals, in any order and with repeats, which count once. None exactly for a tautology, a
+    /// list that has a variable with both signs.
+    pub fn of_lits(alloc: Global, lits: &[Lit]) -> Result<Option<Clause>, AllocError>
+        ensures none { IfOk result (λ o. MatchOption o (IsTautology lits.now) (λ c. IsTautology lits.now → ⊥)) }
+        ensures rising { IfOk result (λ o. MatchOption o (IsTautology lits.now) (λ c. rises c ≡ true)) }
+        ensures same { IfOk result (λ o. MatchOption o (IsTautology lits.now) (λ c. HaveSame lits.now c)) }
+    {
+        let sorted = Lit::sorted(alloc, lits)?;
+        Clause::of_rising(alloc, sorted.as_slice())
+    }
+
+    /// An equal clause.
+    pub fn copy(&self, alloc: Global) -> Result<Clause, AllocError>
+        ensures { IfOk result (λ c. c ≡ self.now) }
+    {
+        let lits = SmallVec::from_slice(alloc, self.lits.as_slice())?;
+        Ok(Clause { lits })
+    }
+
+    /// The literals, by strictly rising variable.
+    pub fn lits(&self) -> &[Lit]
+        ensures value { result.now ≡ self.now }
+        ensures rising { rises self.now ≡ true }
+    {
+        self.lits.as_slice()
+    }
+}
+
+/// Whether the variables of the literals rise strictly.
+fn is_rising(lits: &[Lit]) -> bool
+    ensures { result ≡ rises lits.now }
+{
+    match lits {
+        [] => true,
+        [first, rest @ ..] => is_followed(*first, rest) && is_rising(rest),
+    }
+}
+
+/// Whether the next literal, if there is one, has a greater variable.
+fn is_followed(first: Lit, rest: &[Lit]) -> bool
+    ensures { result ≡ is_below first rest.now }
+{
+    match rest {
+        [] => true,
+        [second, ..] => first.var().number() < second.var().number(),
+    }
+}

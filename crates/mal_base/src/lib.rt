@@ -1,0 +1,69 @@
+//! The values that every layer speaks of: variables, literals, clauses and their numbers, names and asks.
+#![tactic(auto)]
+
+mod answer;
+mod ask;
+mod clause;
+mod clause_id;
+mod literal;
+mod name;
+mod trail_entry;
+mod verdict;
+mod which;
+
+pub use answer::{Answer, Values};
+pub use ask::Ask;
+pub use clause::Clause;
+pub use clause_id::ClauseId;
+pub use literal::{Lit, Var};
+pub use name::Name;
+pub use trail_entry::TrailEntry;
+pub use verdict::{Outcome, Verdict};
+pub use which::Which;
+
+#[cfg(test)]
+mod tests {
+    use super::*;
+    use std::test::Fail;
+
+    fn lit(number: i32) -> Result<Lit, Fail> {
+        Ok(Lit::of_dimacs(number).ok_or("no literal")?)
+    }
+
+    #[test]
+    fn a_clause_has_each_literal_once_in_order(rt: HostRuntime) -> Result<(), Fail> {
+        let given = [lit(3)?, lit(-1)?, lit(3)?, lit(2)?];
+        let clause = Clause::of_lits(rt.alloc(), &given)?.ok_or("a tautology")?;
+        assert_eq!(rt; clause.lits(), [lit(-1)?, lit(2)?, lit(3)?].as_slice());
+        let again = clause.copy(rt.alloc())?;
+        assert_eq!(rt; again.lits(), clause.lits());
+        Ok(())
+    }
+
+    #[test]
+    fn both_signs_of_a_variable_make_a_tautology(rt: HostRuntime) -> Result<(), Fail> {
+        let clause = Clause::of_lits(rt.alloc(), &[lit(2)?, lit(1)?, lit(-2)?])?;
+        assert!(rt; clause.is_none());
+        Ok(())
+    }
+
+    #[test]
+    fn names_are_small_letters_digits_and_underlines(rt: HostRuntime) -> Result<(), Fail> {
+        let name = Name::of(rt.alloc(), b"job_7")?.ok_or("no name")?;
+        assert_eq!(rt; name.as_bytes(), b"job_7".as_slice());
+        assert!(rt; Name::of(rt.alloc(), b"Job")?.is_none());
+        assert!(rt; Name::of(rt.alloc(), b"")?.is_none());
+        assert!(rt; Name::of(rt.alloc(), &[97; 33])?.is_none());
+        Ok(())
+    }
+
+    #[test]
+    fn literals_are_those_of_dimacs(rt: HostRuntime) -> Result<(), Fail> {
+        assert!(rt; Lit::of_dimacs(0).is_none());
+        assert!(rt; Lit::of_dimacs(65_537).is_none());
+        assert_eq!(rt; lit(65_536)?.var().number(), 65_536);
+        assert_eq!(rt; lit(-1)?.code(), 3);
+        assert_eq!(rt; lit(-1)?.negate(), lit(1)?);
+        Ok(())
+    }
+}

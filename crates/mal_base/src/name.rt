@@ -1,0 +1,101 @@
+//! The names of tenants and jobs.
+
+ghost use Rattle.std.specs.Prelude.{◌≡◌, ◌≢◌, ℕ, ◌-◌, ◌<◌, ◌≤◌, ◌++◌, List, true, length, take, replicate, IfOk, MatchOption};
+ghost use Rattle.std.specs.List.{list_all};
+ghost use Rattle.std.specs.Str.{bytes_eq};
+ghost use Rattle.std.specs.Cmp.Rules.{comparing};
+ghost use Rattle.std.proofs.Common.{rules};
+ghost use Rattle.mal_base.specs.Names.{is_name, is_name_byte};
+
+use std::alloc::{AllocError, Global};
+use std::marker::Model;
+
+/// The name of a tenant or of a job: 1 to 32 bytes, each a small letter, a digit or an underline. Contracts see the
+/// bytes.
+#[derive(Clone, Copy, Debug)]
+pub struct Name {
+    bytes: [u8; 32],
+    len: usize,
+}
+
+impl Model for Name {
+    ghost use Rattle.std.specs.Prelude.{◌≡◌, ℕ, ◌-◌, ◌≤◌, ◌++◌, List, true, length, take, replicate};
+    ghost use Rattle.mal_base.specs.Names.{is_name};
+
+    ghost Value = { List ℕ };
+
+    ghost use Rattle.mal_base.specs.NameFields.{IsPadded};
+
+    ghost view = { λ n. take n.len n.bytes };
+
+    ghost invariant = { IsPadded };
+
+    ghost inverse = { λ text. record { bytes = text ++ replicate (32 - length text) 0; len = length text } };
+}
+
+/// Two names are equal where their bytes are.
+impl PartialEq for Name {
+    ghost eq = { bytes_eq };
+
+    ghost laws = { Prim.search (comparing, rules) };
+
+    fn eq(&self, other: &Name) -> bool {
+        self.as_bytes() == other.as_bytes()
+    }
+}
+
+impl Eq for Name {
+    ghost laws = { Prim.search (comparing, rules) };
+}
+
+impl Name {
+    /// The name of these bytes. None exactly where they are no name.
+    pub fn of(_alloc: Global, text: &[u8]) -> Result<Option<Name>, AllocError>
+        ensures { IfOk result (λ o. MatchOption o (is_name text.now ≢ true) (λ n. (n ≡ text.now) × (is_name text.now ≡ true))) }
+    {
+        if !is_name_text(text) {
+            return Ok(None);
+        }
+        let mut bytes = [0; 32];
+        bytes[..text.len()].copy_from_slice(text);
+        Ok(Some(Name {
+            bytes,
+            len: text.len(),
+        }))
+    }
+
+    /// The bytes of the name.
+    pub fn as_bytes(&self) -> &[u8]
+        ensures value { result.now ≡ self.now }
+        ensures form { is_name self.now ≡ true }
+    {
+        &self.bytes[..self.len]
+    }
+}
+
+/// Whether these bytes are a name.
+fn is_name_text(text: &[u8]) -> bool
+    ensures { result ≡ is_name text.now }
+{
+    if text.is_empty() {
+        return false;
+    }
+    if text.len() > 32 {
+        return false;
+    }
+    has_name_bytes(text)
+}
+
+/// Whether each of these bytes may stand in a name.
+fn has_name_bytes(text: &[u8]) -> bool
+    ensures { result ≡ list_all is_name_byte text.now }
+{
+    text.iter().all(|b| is_name_letter(*b))
+}
+
+/// Whether a name may have this byte.
+fn is_name_letter(b: u8) -> bool
+    ensures { result ≡ is_name_byte b }
+{
+    (97..=122).contains(&b) || (48..=57).contains(&b) || b == 95
+}

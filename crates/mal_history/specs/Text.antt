@@ -1,0 +1,36 @@
+use Rattle.std.specs.Prelude.{ℕ, List, [], ◌∷◌, map, flat_map, codes}
+use Rattle.mal_base.specs.declared.verdict.Outcome.{Outcome}
+use Rattle.mal_base.specs.declared.verdict.Outcome.TheVariants.{Ran, Starved, Lost}
+use Rattle.mal_history.specs.declared.event.Event.{Event}
+use Rattle.mal_history.specs.declared.event.Event.TheVariants.{Open, Revise, Close, Balance, Start, Finish, Exchange}
+use Rattle.mal_history.specs.declared.event.Share.{Share}
+use Rattle.spec_text.specs.Lines.{text_of}
+use Rattle.spec_text.specs.Numbers.{decimal_word}
+
+-- the word of an outcome
+abbrev pub outcome_word : Outcome → List ℕ
+outcome_word Ran = codes "ran"
+outcome_word Starved = codes "starved"
+outcome_word Lost = codes "lost"
+
+-- the words of a volume
+abbrev pub share_words : Share → List (List ℕ)
+share_words s = s.tenant ∷ s.job ∷ decimal_word s.volume ∷ []
+
+-- the words of an event's line
+abbrev pub event_words : Event → List (List ℕ)
+event_words (Open tenant job ask) = codes "o" ∷ tenant ∷ job ∷ decimal_word ask.priority ∷ decimal_word ask.demand ∷ decimal_word ask.slices ∷ []
+event_words (Revise tenant job number) = codes "r" ∷ tenant ∷ job ∷ decimal_word number ∷ []
+event_words (Close tenant job) = codes "c" ∷ tenant ∷ job ∷ []
+event_words (Balance volumes) = codes "b" ∷ flat_map share_words volumes
+event_words (Start tenant job index worker) = codes "s" ∷ tenant ∷ job ∷ decimal_word index ∷ decimal_word worker ∷ []
+event_words (Finish tenant job index worker outcome) = codes "f" ∷ tenant ∷ job ∷ decimal_word index ∷ decimal_word worker ∷ outcome_word outcome ∷ []
+event_words (Exchange tenant job) = codes "x" ∷ tenant ∷ job ∷ []
+
+-- the words of the first line: the version and the number of workers
+abbrev pub header_words : ℕ → List (List ℕ)
+header_words workers = codes "h" ∷ codes "mal" ∷ codes "1" ∷ decimal_word workers ∷ []
+
+-- the text of a history: the first line, then a line an event
+unfoldable pub history_text : ℕ → List Event → List ℕ
+history_text workers events = text_of (header_words workers ∷ map event_words events)

@@ -1,0 +1,10 @@
+//! The events of a hall and its history.
+#![tactic(auto)]
+
+mod event;
+mod history;
+mod writing;
+
+pub use event::{Event, Share, Shares};
+pub use history::History;
+pub use writing::write;

@@ -1,0 +1,287 @@
+//! Writing a history: a first line with the number of workers, then a line an event.
+
+ghost use Rattle.std.specs.Prelude.{◌≡◌, [], ◌∷◌, ◌++◌, map, flat_map, codes, IfOk, OnOk};
+ghost use Rattle.spec_text.specs.Lines.{line_of};
+ghost use Rattle.spec_text.specs.Numbers.{decimal_word};
+ghost use Rattle.mal_history.specs.Text.{outcome_word, share_words, event_words, header_words, history_text};
+ghost use Rattle.mal_history.specs.declared.event.Event.TheVariants.{Open, Revise, Start, Finish};
+
+use crate::event::{Event, Share};
+use crate::history::History;
+use itoa::Buffer;
+use mal_base::{Ask, Name, Outcome};
+use mal_text::{end_line, put_line, put_word};
+use std::alloc::{AllocError, Global};
+
+/// The text of a history.
+#[tactic(auto, unfolding(crate::specs::Text::history_text))]
+pub fn write(alloc: Global, history: &History) -> Result<Vec<u8>, AllocError>
+    ensures { IfOk result (λ v. v.items ≡ history_text history.now.workers history.now.events) }
+{
+    let mut out = Vec::new(alloc);
+    put_header(&mut out, history.workers())?;
+    put_events(&mut out, history.events())?;
+    Ok(out)
+}
+
+/// Writes the first line: the version of the format and the number of workers.
+fn put_header(out: &mut Vec<u8>, workers: u32) -> Result<(), AllocError>
+    ensures { OnOk result (out.new.items ≡ out.old.items ++ line_of (header_words workers)) }
+{
+    let mut buffer = Buffer::new();
+    put_line(
+        out,
+        b"h",
+        &[b"mal", b"1", buffer.format(workers).as_bytes()],
+    )?;
+    Ok(())
+}
+
+/// Writes a line an event.
+fn put_events(out: &mut Vec<u8>, events: &[Event]) -> Result<(), AllocError>
+    ensures { OnOk result (out.new.items ≡ out.old.items ++ flat_map line_of (map event_words events.now)) }
+{
+    for event in events {
+        put_event(out, event)?;
+    }
+    Ok(())
+}
+
+/// Writes the line of an event.
+fn put_event(out: &mut Vec<u8>, event: &Event) -> Result<(), AllocError>
+    ensures { OnOk result (out.new.items ≡ out.old.items ++ line_of (event_words event.now)) }
+{
+    match event {
+        Event::Open { tenant, job, ask } => put_open(out, tenant, job, *ask),
+        Event::Revise {
+            tenant,
+            job,
+            number,
+        } => put_revise(out, tenant, job, *number),
+        Event::Close { tenant, job } => put_line(out, b"c", &[tenant.as_bytes(), job.as_bytes()]),
+        Event::Balance { volumes } => put_balance(out, volumes.as_slice()),
+        Event::Start {
+            tenant,
+            job,
+            index,
+            worker,
+        } => put_start(out, tenant, job, *index, *worker),
+        Event::Finish {
+            tenant,
+            job,
+            index,
+            worker,
+            outcome,
+        } => put_finish(out, tenant, job, *index, *worker, *outcome),
+        Event::Exchange { tenant, job } => put_line(
+            out,
+            b"x",
+            &[tenant.as_bytes(), job.as_bytes()],
+        ),
+    }
+}
+
+/// Writes the line of the opening of a job.
+fn put_open(out: &mut Vec<u8>, tenant: &Name, job: &Name, ask: Ask) -> Result<(), AllocError>
+    ensures { OnOk result (out.new.items ≡ out.old.items ++ line_of (event_words (Open tenant.now job.now ask))) }
+{
+    let mut priority = Buffer::new();
+    let mut demand = Buffer::new();
+    let mut slices = Buffer::new();
+    let words = [
+        tenant.as_bytes(),
+        job.as_bytes(),
+        priority.format(ask.priority()).as_bytes(),
+        demand.format(ask.demand()).as_bytes(),
+        slices.format(ask.slices()).as_bytes(),
+    ];
+    put_line(out, b"o", &words)
+}
+
+/// Writes the line of a revision of a job.
+fn put_revise(out: &mut Vec<u8>, tenant: &Name, job: &Name, number: u32) -> Result<(), AllocError>
+    ensures { OnOk result (out.new.items ≡ out.old.items ++ line_of (event_words (Revise tenant.now job.now number))) }
+{
+    let mut buffer = Buffer::new();
+    let words = [
+        tenant.as_bytes(),
+        job.as_bytes(),
+        buffer.format(number).as_bytes(),
+    ];
+    put_line(out, b"r", &words)
+}
+
+/// Writes the line of a balancing.
+fn put_balance(out: &mut Vec<u8>, shares: &[Share]) -> Result<(), AllocError>
+    ensures { OnOk result (out.new.items ≡ out.old.items ++ line_of (codes "b" ∷ flat_map share_words shares.now)) }
+{
+    out.push(b'b')?;
+    for share in shares {
+        put_share(out, share)?;
+    }
+    end_line(out)?;
+    Ok(())
+}
+
+/// Writes the words of a volume, each behind a space.
+fn put_share(out: &mut Vec<u8>, share: &Share) -> Result<(), AllocError>
+    ensures { OnOk result (out.new.items ≡ out.old.items ++ flat_map (λ w. 32 ∷ w) (share_words share.now)) }
+{
+    let mut buffer = Buffer::new();
+    put_word(out, share.tenant.as_bytes())?;
+    put_word(out, share.job.as_bytes())?;
+    put_word(out, buffer.format(share.volume).as_bytes())?;
+    Ok(())
+}
+
+/// Writes the line of a start of a node on a worker.
+fn put_start(
+    out: &mut Vec<u8>,
+    tenant: &Name,
+    job: &Name,
+    index: u32,
+    worker: u32,
+) -> Result<(), AllocError>
+    ensures { OnOk result (out.new.items ≡ out.old.items ++ line_of (event_words (Start tenant.now job.now index worker))) }
+{
+    let mut at = Buffer::new();
+    let mut by = Buffer::new();
+    let words = [
+        tenant.as_bytes(),
+        job.as_bytes(),
+        at.format(index).as_bytes(),
+        by.format(worker).as_bytes(),
+    ];
+    put_line(out, b"s", &words)
+}
+
+/// Writes the line of the end of a start.
+fn put_finish(
+    out: &mut Vec<u8>,
+    tenant: &Name,
+    job: &Name,
+    index: u32,
+    worker: u32,
+    outcome: Outcome,
+) -> Result<(), AllocError>
+    ensures { OnOk result (out.new.items ≡ out.old.items ++ line_of (event_words (Finish tenant.now job.now index worker outcome))) }
+{
+    out.push(b'f')?;
+    put_place(out, tenant, job, index, worker)?;
+    put_word(out, outcome_word(outcome))?;
+    end_line(out)?;
+    Ok(())
+}
+
+/// Writes the words of a node and its worker, each behind a space.
+fn put_place(
+    out: &mut Vec<u8>,
+    tenant: &Name,
+    job: &Name,
+    index: u32,
+    worker: u32,
+) -> Result<(), AllocError>
+    ensures { OnOk result (out.new.items ≡ out.old.items ++ flat_map (λ w. 32 ∷ w) (tenant.now ∷ job.now ∷ decimal_word index ∷ decimal_word worker ∷ [])) }
+{
+    let mut at = Buffer::new();
+    let mut by = Buffer::new();
+    put_word(out, tenant.as_bytes())?;
+    put_word(out, job.as_bytes())?;
+    put_word(out, at.format(index).as_bytes())?;
+    put_word(out, by.format(worker).as_bytes())?;
+    Ok(())
+}
+
+/// The word of an outcome.
+fn outcome_word(outcome: Outcome) -> &'static [u8]
+    ensures { result.now ≡ outcome_word outcome }
+{
+    match outcome {
+        Outcome::Ran => b"ran",
+        Outcome::Starved => b"starved",
+        Outcome::Lost => b"lost",
+    }
+}
+
+#[cfg(test)]
+mod tests {
+    use super::*;
+    use crate::event::Shares;
+    use std::test::Fail;
+
+    #[test]
+    fn a_job_is_written_from_open_to_finish(rt: HostRuntime) -> Result<(), Fail> {
+        let tenant = Name::of(rt.alloc(), b"a")?.ok_or("no name")?;
+        let job = Name::of(rt.alloc(), b"p")?.ok_or("no name")?;
+        let ask = Ask::of(1, 1, 4).ok_or("no ask")?;
+        let mut shares = Vec::new(rt.alloc());
+        shares.push(Share {
+            tenant,
+            job,
+            volume: 1,
+        })?;
+        let mut history = History::new(rt.alloc(), 1);
+        history.reserve(6)?;
+        history.push_reserved(Event::Open { tenant, job, ask });
+        history.push_reserved(Event::Revise {
+            tenant,
+            job,
+            number: 1,
+        });
+        history.push_reserved(Event::Close { tenant, job });
+        history.push_reserved(Event::Balance {
+            volumes: Shares::of(shares),
+        });
+        history.push_reserved(Event::Start {
+            tenant,
+            job,
+            index: 0,
+            worker: 1,
+        });
+        history.push_reserved(Event::Finish {
+            tenant,
+            job,
+            index: 0,
+            worker: 1,
+            outcome: Outcome::Ran,
+        });
+        let text = write(rt.alloc(), &history)?;
+        assert_eq!(rt;
+            text.as_slice(),
+            b"h mal 1 1\no a p 1 1 4\nr a p 1\nc a p\nb a p 1\ns a p 0 1\nf a p 0 1 ran\n".as_slice()
+        );
+        Ok(())
+    }
+
+    #[test]
+    fn other_outcomes_are_written(rt: HostRuntime) -> Result<(), Fail> {
+        let tenant = Name::of(rt.alloc(), b"a")?.ok_or("no name")?;
+        let job = Name::of(rt.alloc(), b"p")?.ok_or("no name")?;
+        let mut history = History::new(rt.alloc(), 64);
+        history.reserve(4)?;
+        history.push_reserved(Event::Balance {
+            volumes: Shares::of(Vec::new(rt.alloc())),
+        });
+        history.push_reserved(Event::Finish {
+            tenant,
+            job,
+            index: 3,
+            worker: 2,
+            outcome: Outcome::Starved,
+        });
+        history.push_reserved(Event::Finish {
+            tenant,
+            job,
+            index: 4,
+            worker: 5,
+            outcome: Outcome::Lost,
+        });
+        history.push_reserved(Event::Exchange { tenant, job });
+        let text = write(rt.alloc(), &history)?;
+        assert_eq!(rt;
+            text.as_slice(),
+            b"h mal 1 64\nb\nf a p 3 2 starved\nf a p 4 5 lost\nx a p\n".as_slice()
+        );
+        Ok(())
+    }
+}
