@@ -1,0 +1,6 @@
+//! The replies to the revisions of a job: the text that tells an answer.
+#![tactic(auto)]
+
+mod replies;
+
+pub use replies::{Cause, reply, satisfiable, unknown};

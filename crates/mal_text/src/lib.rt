@@ -1,0 +1,13 @@
+//! Numbers, words and lines of texts: writing and reading.
+#![tactic(auto)]
+
+pub mod numbers;
+pub mod read;
+pub mod write;
+
+pub use numbers::{NumberFault, number};
+pub use read::{first_line, words};
+pub use write::{end_line, put_line, put_number, put_word};
+
+#[cfg(test)]
+mod tests;

@@ -1,0 +1,37 @@
+//! Reading a text line by line, and a line word by word.
+ghost use Rattle.std.specs.Prelude.{◌≡◌, ◌<◌, [], ◌∷◌, map, length, IfOk, IfSome, MatchOption};
+ghost use Rattle.spec_text.specs.Inputs.{lines_of, words_of, is_blank};
+
+use std::alloc::{AllocError, Global};
+
+/// The first line of a text, without its line end, and the text behind it. An empty text has no line.
+pub fn first_line(text: &[u8]) -> Option<(&[u8], &[u8])>
+    ensures lines { MatchOption result (lines_of text.now ≡ []) (λ cut. lines_of text.now ≡ cut.0.now ∷ lines_of cut.1.now) }
+    ensures shorter { IfSome result (λ cut. length cut.1.now < length text.now) }
+{
+    if text.is_empty() {
+        return None;
+    }
+    for (index, byte) in text.iter().enumerate() {
+        if *byte == b'\n' {
+            return Some((&text[..index], &text[index + 1..]));
+        }
+    }
+    Some((text, &[]))
+}
+
+/// The words of a line: its longest runs of bytes that are not spaces, tabs or carriage returns.
+pub fn words(alloc: Global, line: &[u8]) -> Result<Vec<&[u8]>, AllocError>
+    ensures { IfOk result (λ found. map (λ w. w.now) found.items ≡ words_of line.now) }
+{
+    line.split(|byte| is_blank(*byte))
+        .filter(|part| !part.is_empty())
+        .collect(alloc)
+}
+
+/// Whether a byte is a space, a tab or a carriage return.
+fn is_blank(byte: u8) -> bool
+    ensures { result ≡ is_blank byte }
+{
+    byte == b' ' || byte == b'\t' || byte == b'\r'
+}
