@@ -1,0 +1,67 @@
+use Rattle.std.proofs.Common.{◌≡◌, ℕ, zero, suc, ◌+◌, ◌*◌, ◌/◌, ◌<◌, ◌≤◌, Bool, true, false, not, ◌&&◌, nat_le, List, length, Some, is_some, refl, arith}
+use Rattle.std.proofs.lemmas.Bool.{false≢true}
+use Rattle.std.proofs.lemmas.Bool.Decides.{nat_tests}
+use Rattle.mal_base.specs.Literals.{literal, var_of}
+use Rattle.mal_revision.specs.Posted.{is_within}
+use Rattle.mal_base.specs.declared.trail_entry.TrailEntry.{TrailEntry}
+use Rattle.spec_node.specs.State.{Node}
+use Rattle.spec_node.specs.Value.{is_true, has_value}
+use Rattle.spec_node.specs.Step.{luby, step, after_case, branching, first_open, first_free}
+use Rattle.spec_node.specs.Slice.{steps}
+use Rattle.mal_cdcl.specs.Within.{is_order_of}
+use Rattle.mal_cdcl.proofs.BatchLemmas.{and_true, found_passes, found_holds}
+
+-- no conflict waits, no batch is left, and no restart is due
+pub record IsIdle (n : Node) : Type 0 where
+  pub calm : is_some n.conflict ≡ false
+  pub handled : length n.trail < n.processed
+  pub young : n.since ≡ 0
+  pub first : n.round ≡ 1
+
+not_le : (a b : ℕ) → b < a → nat_le a b ≡ false
+not_le a b = grind (arith, nat_tests)
+
+-- an idle node assumes, decides or ends
+pub step-branches : (n : Node) → IsIdle n → step n ≡ after_case (branching n) n
+unfolding luby
+step-branches n h = rw (h.calm, not_le n.processed (length n.trail) h.handled, h.young, h.first) refl
+
+not_true : (b : Bool) → not b ≡ true → b ≡ false
+not_true true h = absurd (false≢true h)
+not_true false h = refl
+
+test_le : (a b : ℕ) → nat_le a b ≡ true → a ≤ b
+test_le a b = grind (arith, nat_tests)
+
+-- an open assumption is of a node's variables, and not true
+pub open_within : (n : ℕ) (trail : List TrailEntry) (assumptions : List ℕ) (l : ℕ) → is_within n assumptions ≡ true → first_open trail assumptions ≡ Some l → var_of l ≤ n
+open_within n trail assumptions l w e = test_le (var_of l) n (and_true (nat_le 1 (var_of l)) (nat_le (var_of l) n) (found_passes (λ (a : ℕ). not (is_true trail a)) (λ (a : ℕ). nat_le 1 (a / 2) && nat_le (a / 2) n) assumptions l w e)).1
+
+pub open_is : (trail : List TrailEntry) (assumptions : List ℕ) (l : ℕ) → first_open trail assumptions ≡ Some l → is_true trail l ≡ false
+open_is trail assumptions l e = not_true (is_true trail l) (found_holds (λ (a : ℕ). not (is_true trail a)) assumptions l e)
+
+-- a free variable is a node's, and has no value
+pub free_within : (n : ℕ) (trail : List TrailEntry) (order : List ℕ) (v : ℕ) → is_order_of n order ≡ true → first_free trail order ≡ Some v → v ≤ n
+free_within n trail order v w e = test_le v n (found_passes (λ (a : ℕ). not (has_value trail a)) (λ (a : ℕ). nat_le a n) order v w e)
+
+pub free_is : (trail : List TrailEntry) (order : List ℕ) (v : ℕ) → first_free trail order ≡ Some v → has_value trail v ≡ false
+free_is trail order v e = not_true (has_value trail v) (found_holds (λ (a : ℕ). not (has_value trail a)) order v e)
+
+pub var_literal : (v : ℕ) (b : Bool) → var_of (literal v b) ≡ v
+var_literal v true = halved v
+  where
+    halved : (v : ℕ) → 2 * v / 2 ≡ v
+    halved v = omega arith
+var_literal v false = halved v
+  where
+    halved : (v : ℕ) → (2 * v + 1) / 2 ≡ v
+    halved v = omega arith
+
+-- a step more, where no verdict stands
+pub steps-next : (k : ℕ) (n : Node) → is_some n.verdict ≡ false → steps (suc k) n ≡ steps k (step n)
+steps-next k n h = rw h refl
+
+-- a verdict ends the steps
+pub steps-ended : (k : ℕ) (n : Node) → is_some n.verdict ≡ true → steps k n ≡ n
+steps-ended zero n h = refl
+steps-ended (suc k) n h = rw h refl

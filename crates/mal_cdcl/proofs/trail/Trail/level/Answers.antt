@@ -1,0 +1,11 @@
+use Rattle.std.proofs.Common.{arith}
+use Rattle.std.proofs.lemmas.Grind.{common_steps}
+use Rattle.mal_cdcl.proofs.TrailLemmas.{length_fits}
+use Rattle.mal_cdcl.proofs.trail.Trail.level.Goals as goal
+
+pub returns-in-Some-clause-limit : goal.returns-in-Some-clause-limit
+returns-in-Some-clause-limit c =
+    let fits = c.self.invariant.fits in
+    let k = length_fits c.self.inside.room c.self.inside.entries.items fits in
+    let s = fits.small in
+    grind (arith, common_steps)

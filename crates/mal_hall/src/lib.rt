@@ -1,0 +1,11 @@
+//! The hall: it holds the jobs, enters each event, and keeps that its history is legal.
+#![tactic(auto)]
+
+mod enter;
+mod fault;
+mod hall;
+#[cfg(test)]
+mod tests;
+
+pub use fault::{CloseFault, OpenFault, ReplyFault, ReviseFault};
+pub use hall::Hall;

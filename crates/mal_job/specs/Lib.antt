@@ -1,0 +1,5 @@
+pub mod Places
+pub mod Kept
+pub mod Ready
+pub mod Ended
+pub mod Viewed

@@ -1,0 +1,8 @@
+//! A job: the machine that answers its revisions.
+#![tactic(auto)]
+
+mod job;
+#[cfg(test)]
+mod tests;
+
+pub use job::Job;

@@ -1,0 +1,32 @@
+//! The replies to a script that was run.
+
+ghost use Rattle.std.specs.Prelude.{◌≡◌, IfOk};
+ghost use Rattle.mal_pool.specs.Posts.{HasRun, IsKnown, first_reply};
+ghost use Rattle.spec_run.specs.Run.{replies, job_replies};
+ghost use Rattle.spec_script.specs.Plain.{IsPlain};
+
+use mal_hall::{Hall, ReplyFault};
+use mal_script::{Script, ScriptJob};
+use std::alloc::{AllocError, Global};
+
+/// The replies to a plain script that a hall has run.
+pub fn replies(alloc: Global, hall: &Hall, script: &Script) -> Result<Vec<u8>, AllocError>
+    requires plain { IsPlain script.now }
+    requires run { HasRun script.now hall.now }
+    ensures { IfOk result (λ v. v.items ≡ replies script.now hall.now.events) }
+{
+    reply_to(alloc, hall, &script.jobs()[0])
+}
+
+/// The reply to the one revision of a job.
+fn reply_to(alloc: Global, hall: &Hall, job: &ScriptJob) -> Result<Vec<u8>, AllocError>
+    requires known { IsKnown hall.now.events job.now }
+    ensures { IfOk result (λ v. v.items ≡ first_reply hall.now.events job.now) }
+{
+    match hall.reply(alloc, &job.tenant(), &job.name(), 1) {
+        Ok(Some(text)) => Ok(text),
+        Ok(None) => Ok(Vec::new(alloc)),
+        Err(ReplyFault::NoJob) => unreachable!(),
+        Err(ReplyFault::OutOfMemory) => Err(AllocError),
+    }
+}
