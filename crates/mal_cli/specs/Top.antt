@@ -1,0 +1,86 @@
+-- What a call of the program does to its source, its log and its output, by the status that it answers.
+use Rattle.std.specs.Prelude.{◌≡◌, ◌+◌, ◌^◌, ◌<◌, ◌≤◌, ℕ, List, [], ◌∷◌, ◌++◌, ◌⊎◌, length, drop, codes, Option, Some, None}
+use Rattle.std.specs.Io.KnownBytes.{Consumes, Appends, IsAtEnd}
+use Rattle.mal_io.specs.Moves.{GotFront}
+use Rattle.spec_hall.specs.Events.{Event}
+use Rattle.spec_run.specs.Run.{IsRun}
+use Rattle.spec_script.specs.Plain.{IsPlain, IsPlainText}
+use Rattle.spec_script.specs.Script.{Scripted, spelling}
+
+-- the words after the program's name are those of a run with one worker
+abbrev pub IsRunWords : List (List ℕ) → Type 0
+IsRunWords words = drop 1 words ≡ codes "run" ∷ codes "--workers" ∷ codes "1" ∷ []
+
+-- the line for refused words
+abbrev pub usage_line : List ℕ
+usage_line = codes "usage: mal run --workers N, check, replay, gen --seed S --jobs N [--workers W]" ++ 10 ∷ []
+
+-- the line for an input above the limit
+abbrev pub too_long_line : List ℕ
+too_long_line = codes "fault: input too long" ++ 10 ∷ []
+
+-- the line for an input that is no plain script
+abbrev pub not_plain_line : List ℕ
+not_plain_line = codes "fault: script not plain" ++ 10 ∷ []
+
+-- an input is known, and is a plain script within the limit of 2^26 bytes
+abbrev pub IsScript : Option (List ℕ) → Type 0
+IsScript None = ⊥
+IsScript (Some input) = (length input ≤ 2 ^ 26) × IsPlainText input
+
+-- an input is known, and is above the limit of 2^26 bytes or no plain script
+abbrev pub IsNoScript : Option (List ℕ) → Type 0
+IsNoScript None = ⊥
+IsNoScript (Some input) = (2 ^ 26 < length input) ⊎ (IsPlainText input → ⊥)
+
+-- a text spells a plain script, and the script was run with one worker: these are the texts of its log and its output
+pub record IsAnswer (text : List ℕ) (s : Scripted) (history : List Event) (log_text out_text : List ℕ) : Type 0 where
+  pub plain : IsPlain s
+  pub spelled : text ≡ spelling s
+  pub run : IsRun 1 s history log_text out_text
+
+-- both texts were written whole
+pub record WroteWhole (log log_now out out_now : Option (List ℕ)) (log_text out_text : List ℕ) : Type 0 where
+  pub logged : Appends log log_now log_text
+  pub replied : Appends out out_now out_text
+
+-- a front of the log's text and nothing else was written, or the log's text and a front of the output's
+abbrev pub WrotePart : Option (List ℕ) → Option (List ℕ) → Option (List ℕ) → Option (List ℕ) → List ℕ → List ℕ → Type 0
+WrotePart log log_now out out_now log_text out_text =
+    (((front : List ℕ) × GotFront log log_now log_text front) × Appends out out_now [])
+    ⊎ (Appends log log_now log_text × ((front : List ℕ) × GotFront out out_now out_text front))
+
+-- the source gave a plain script to its end; the log gained the text of a run's history, the output its replies
+pub record RanWhole (before now log log_now out out_now : Option (List ℕ)) (s : Scripted) (history : List Event) (log_text out_text : List ℕ) : Type 0 where
+  pub plain : IsPlain s
+  pub consumed : Consumes before now (spelling s)
+  pub ended : IsAtEnd now
+  pub run : IsRun 1 s history log_text out_text
+  pub logged : Appends log log_now log_text
+  pub replied : Appends out out_now out_text
+
+-- the source gave a plain script to its end; what was written is a front of the texts of a run, the log's first
+pub record RanPart (before now log log_now out out_now : Option (List ℕ)) (s : Scripted) (history : List Event) (log_text out_text : List ℕ) : Type 0 where
+  pub plain : IsPlain s
+  pub consumed : Consumes before now (spelling s)
+  pub ended : IsAtEnd now
+  pub run : IsRun 1 s history log_text out_text
+  pub wrote : WrotePart log log_now out out_now log_text out_text
+
+-- the log gained a front of a line, all of it where its count of faults did not rise
+pub record Complained (log log_now : Option (List ℕ)) (rose : Type 0) (line : List ℕ) : Type 0 where
+  pub front : (front : List ℕ) × GotFront log log_now line front
+  pub whole : (rose → ⊥) → Appends log log_now line
+
+-- the bytes that were taken are refused, and the line says why: one more than the limit, or to the end and no plain script
+abbrev pub IsRefusal : Option (List ℕ) → List ℕ → List ℕ → Type 0
+IsRefusal now taken line =
+    ((length taken ≡ 2 ^ 26 + 1) × (line ≡ too_long_line))
+    ⊎ (IsAtEnd now × (IsPlainText taken → ⊥) × (line ≡ not_plain_line))
+
+-- the source gave bytes that are refused; the log gained the line that says why, the output nothing
+pub record WasRefused (before now log log_now out out_now : Option (List ℕ)) (rose : Type 0) (taken line : List ℕ) : Type 0 where
+  pub consumed : Consumes before now taken
+  pub cause : IsRefusal now taken line
+  pub complained : Complained log log_now rose line
+  pub unanswered : Appends out out_now []

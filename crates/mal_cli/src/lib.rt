@@ -1,0 +1,11 @@
+//! The commands of the program.
+#![tactic(auto)]
+
+mod program;
+mod run;
+
+pub use program::top;
+pub use run::{Ran, run_script};
+
+#[cfg(test)]
+mod tests;

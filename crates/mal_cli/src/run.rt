@@ -1,0 +1,28 @@
+//! Running a script.
+
+ghost use Rattle.std.specs.Prelude.{List, IfOk};
+ghost use Rattle.spec_hall.specs.Events.{Event};
+ghost use Rattle.spec_run.specs.Run.{IsRun};
+ghost use Rattle.spec_script.specs.Plain.{IsPlain};
+
+use mal_pool::{replies, run_all};
+use mal_script::Script;
+use std::alloc::{AllocError, Global};
+
+/// What a run gives: the text of the history for the log, and the replies for the output.
+#[derive(Debug, Drop)]
+pub struct Ran {
+    pub log: Vec<u8>,
+    pub out: Vec<u8>,
+}
+
+/// Runs a plain script with one worker, and makes the texts of its history and its replies.
+pub fn run_script(alloc: Global, script: &Script) -> Result<Ran, AllocError>
+    requires { IsPlain script.now }
+    ensures { IfOk result (λ r. (history : List Event) × IsRun 1 script.now history r.log.items r.out.items) }
+{
+    let hall = run_all(alloc, script)?;
+    let log = mal_history::write(alloc, hall.history())?;
+    let out = replies(alloc, &hall, script)?;
+    Ok(Ran { log, out })
+}
