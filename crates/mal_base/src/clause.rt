@@ -66,18 +66,15 @@ impl Clause {
 fn is_rising(lits: &[Lit]) -> bool
     ensures { result ≡ rises lits.now }
 {
-    match lits {
-        [] => true,
-        [first, rest @ ..] => is_followed(*first, rest) && is_rising(rest),
+    let [first, rest @ ..] = lits else {
+        return true;
+    };
+    let mut last = *first;
+    for lit in rest {
+        if lit.var().number() <= last.var().number() {
+            return false;
+        }
+        last = *lit;
     }
-}
-
-/// Whether the next literal, if there is one, has a greater variable.
-fn is_followed(first: Lit, rest: &[Lit]) -> bool
-    ensures { result ≡ is_below first rest.now }
-{
-    match rest {
-        [] => true,
-        [second, ..] => first.var().number() < second.var().number(),
-    }
+    true
 }

@@ -1,6 +1,6 @@
 //! The numbers of clauses.
 
-ghost use Rattle.std.specs.Prelude.{◌≡◌, ℕ, ◌+◌, ◌*◌, ◌^◌, ◌<◌, ◌≤◌};
+ghost use Rattle.std.specs.Prelude.{◌≡◌, ℕ, ◌+◌, ◌*◌, ◌^◌, ◌<◌, ◌≤◌, MatchOption};
 
 use std::marker::Model;
 
@@ -22,6 +22,17 @@ impl Model for ClauseId {
 }
 
 impl ClauseId {
+    /// The number of a clause. None exactly for 0.
+    pub fn of(number: u64) -> Option<ClauseId>
+        ensures { MatchOption result (number ≡ 0) (λ id. (id ≡ number) × (1 ≤ number)) }
+    {
+        if number == 0 {
+            None
+        } else {
+            Some(ClauseId { number })
+        }
+    }
+
     /// The number of an original clause, at least 1.
     pub fn original(number: u32) -> ClauseId
         requires { 1 ≤ number }

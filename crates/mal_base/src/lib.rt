@@ -5,20 +5,24 @@ mod answer;
 mod ask;
 mod clause;
 mod clause_id;
+mod formula;
 mod literal;
 mod name;
 mod trail_entry;
 mod verdict;
+mod views;
 mod which;
 
 pub use answer::{Answer, Values};
 pub use ask::Ask;
 pub use clause::Clause;
 pub use clause_id::ClauseId;
+pub use formula::Formula;
 pub use literal::{Lit, Var};
 pub use name::Name;
 pub use trail_entry::TrailEntry;
 pub use verdict::{Outcome, Verdict};
+pub use views::{ClauseView, TrailView};
 pub use which::Which;
 
 #[cfg(test)]
@@ -64,6 +68,26 @@ mod tests {
         assert_eq!(rt; lit(65_536)?.var().number(), 65_536);
         assert_eq!(rt; lit(-1)?.code(), 3);
         assert_eq!(rt; lit(-1)?.negate(), lit(1)?);
+        Ok(())
+    }
+
+    #[test]
+    fn a_formula_is_of_its_variables(rt: HostRuntime) -> Result<(), Fail> {
+        let clause = Clause::of_lits(rt.alloc(), &[lit(2)?, lit(-1)?])?;
+        let formula = Formula::new(2, vec![in rt.alloc(); clause, None]?).ok_or("no formula")?;
+        assert_eq!(rt; formula.variables(), 2);
+        assert_eq!(rt; formula.clauses().len(), 2);
+        let clause = Clause::of_lits(rt.alloc(), &[lit(2)?])?;
+        assert!(rt; Formula::new(1, vec![in rt.alloc(); clause]?).is_none());
+        assert!(rt; Formula::new(0, vec![in rt.alloc(); None]?).is_none());
+        assert!(rt; Formula::new(65_537, Vec::new(rt.alloc())).is_none());
+        Ok(())
+    }
+
+    #[test]
+    fn a_clause_number_is_at_least_one(rt: HostRuntime) -> Result<(), Fail> {
+        assert!(rt; ClauseId::of(0).is_none());
+        assert_eq!(rt; ClauseId::of(7), Some(ClauseId::original(7)));
         Ok(())
     }
 }

@@ -7,7 +7,7 @@ use Rattle.std.proofs.lemmas.List.{length-take-le, take-take}
 use Rattle.std.proofs.lemmas.List.Folds.{list_all_at}
 use Rattle.std.proofs.Math.Seq.{drop-cons}
 use Rattle.mal_base.specs.declared.trail_entry.TrailEntry.{TrailEntry}
-use Rattle.spec_node.specs.State.{Held}
+use Rattle.mal_base.specs.Held.{Held}
 use Rattle.spec_node.specs.Batch.{Progress, after_all, after_clause, batch, is_in_batch}
 
 pub and_true : (a b : Bool) → (a && b) ≡ true → (a ≡ true) × (b ≡ true)

@@ -3,8 +3,9 @@ use Rattle.std.specs.List.{list_all}
 use Rattle.std.proofs.lemmas.Bool.Decides.{nat_tests}
 use Rattle.std.proofs.lemmas.List.Folds.{list_all-append}
 use Rattle.mal_base.specs.Clauses.{rises}
-use Rattle.mal_revision.specs.Posted.{Posted, is_posted, is_within_limits, is_clause_of, is_within, literals_of}
-use Rattle.spec_node.specs.State.{Held}
+use Rattle.mal_base.specs.Formulas.{is_within_limits, is_clause_of, is_within, literals_of}
+use Rattle.mal_revision.specs.Posted.{Posted, is_posted}
+use Rattle.mal_base.specs.Held.{Held}
 use Rattle.spec_node.specs.Load.{counted, numbered, new_order}
 use Rattle.mal_cdcl.specs.Within.{are_within, is_order_of}
 use Rattle.mal_cdcl.proofs.BatchLemmas.{and_true}

@@ -1,7 +1,7 @@
 use Rattle.std.specs.Prelude.{◌≡◌, ℕ, ◌≤◌, Bool, true, List, length, nat_le}
 use Rattle.std.specs.List.{list_all}
-use Rattle.mal_revision.specs.Posted.{is_within}
-use Rattle.spec_node.specs.State.{Held}
+use Rattle.mal_base.specs.Formulas.{is_within}
+use Rattle.mal_base.specs.Held.{Held}
 
 -- each literal of each clause is of a variable from 1 to this one
 abbrev pub are_within : ℕ → List Held → Bool

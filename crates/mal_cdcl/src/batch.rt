@@ -2,7 +2,7 @@
 
 ghost use Rattle.std.specs.Prelude.{◌≡◌, ℕ, ◌≤◌, true, List, length, take, None};
 ghost use Rattle.mal_base.specs.Literals.{var_of};
-ghost use Rattle.mal_revision.specs.Posted.{is_within};
+ghost use Rattle.mal_base.specs.Formulas.{is_within};
 ghost use Rattle.spec_node.specs.Value.{open_count, left_literal};
 ghost use Rattle.spec_node.specs.Batch.{is_in_batch, after_clause, after_batch, after_left, after_literal};
 ghost use Rattle.mal_cdcl.specs.Within.{are_within};

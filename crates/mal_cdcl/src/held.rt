@@ -13,7 +13,7 @@ pub struct HeldClause {
 }
 
 impl Model for HeldClause {
-    ghost use Rattle.spec_node.specs.State.{Held};
+    ghost use Rattle.mal_base.specs.Held.{Held};
 
     ghost Value = { Held };
 

@@ -27,7 +27,8 @@ use Rattle.mal_base.specs.Names.{is_name}
 use Rattle.mal_history.specs.declared.event.Event as written
 use Rattle.mal_history.specs.declared.event.Event.TheVariants as of
 use Rattle.mal_history.specs.Written.{Written}
-use Rattle.mal_revision.specs.Posted.{Posted, is_posted, literals_of}
+use Rattle.mal_base.specs.Formulas.{literals_of}
+use Rattle.mal_revision.specs.Posted.{Posted, is_posted}
 use Rattle.spec_job.specs.Solo.{Opened, Revised, Closed, unopened, solo_step, Solo, clauses_in}
 use Rattle.spec_job.specs.Titled.{Key, Titled, stepped}
 use Rattle.spec_hall.specs.Events.{Event, Open, Revise, Close}

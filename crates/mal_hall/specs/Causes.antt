@@ -5,7 +5,8 @@ use Rattle.mal_hall.specs.declared.fault.ReviseFault.{ReviseFault}
 use Rattle.mal_hall.specs.declared.fault.ReviseFault.TheVariants as revising
 use Rattle.mal_hall.specs.declared.fault.CloseFault.{CloseFault}
 use Rattle.mal_hall.specs.declared.fault.CloseFault.TheVariants as closing
-use Rattle.mal_revision.specs.Posted.{Posted, literals_of}
+use Rattle.mal_base.specs.Formulas.{literals_of}
+use Rattle.mal_revision.specs.Posted.{Posted}
 use Rattle.spec_job.specs.Solo.{clauses_in}
 use Rattle.spec_job.specs.Titled.{Key, Titled}
 use Rattle.spec_hall.specs.Legal.{job_of, jobs_of, literals_in}

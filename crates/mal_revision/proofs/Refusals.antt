@@ -6,7 +6,8 @@ use Rattle.mal_base.specs.Clauses.{rises, climbs, HaveSame, IsTautology, clash}
 use Rattle.mal_base.proofs.Sorting.{Contains-head, Contains-later, Contains-cases, and-left, and-right, and-both, rises-apart}
 use Rattle.mal_base.proofs.Tautologies.{rises-from_sorted, rising-unique, consistent-from_sorted}
 use Rattle.mal_base.specs.declared.which.Which.TheVariants.{Variables, Clauses, Literals}
-use Rattle.mal_revision.specs.Posted.{Posted, literals_of, is_within, is_clause_of, is_within_limits, is_posted}
+use Rattle.mal_base.specs.Formulas.{literals_of, is_within, is_clause_of, is_within_limits}
+use Rattle.mal_revision.specs.Posted.{Posted, is_posted}
 use Rattle.mal_revision.specs.Refused.{or_else, above, first_above, limit_passed, IsMadeOf, IsRefused}
 use Rattle.mal_revision.specs.declared.fault.RevisionFault.{RevisionFault}
 use Rattle.mal_revision.specs.declared.fault.RevisionFault.TheVariants.{Opposite, VarTooLarge, Limit, OutOfMemory}

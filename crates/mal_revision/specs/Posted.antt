@@ -1,34 +1,13 @@
-use Rattle.std.specs.Prelude.{ℕ, ◌/◌, Bool, ◌&&◌, nat_le, List, length, sum_by, Option, Some, None}
+use Rattle.std.specs.Prelude.{ℕ, Bool, ◌&&◌, List, Option}
 use Rattle.std.specs.List.{list_all}
 use Rattle.mal_base.specs.Clauses.{rises}
+use Rattle.mal_base.specs.Formulas.{is_within, is_clause_of, is_within_limits}
 
 -- a revision as it is posted: its variables, its clauses (none stands for a tautology) and its assumptions
 pub record Posted : Type 0 where
   pub variables : ℕ
   pub clauses : List (Option (List ℕ))
   pub assumptions : List ℕ
-
--- the literals that a clause counts for: a tautology counts none
-abbrev pub size_of : Option (List ℕ) → ℕ
-size_of None = 0
-size_of (Some lits) = length lits
-
--- the literals of a list of clauses
-abbrev pub literals_of : List (Option (List ℕ)) → ℕ
-literals_of clauses = sum_by size_of clauses
-
--- each literal is of a variable from 1 to this one
-abbrev pub is_within : ℕ → List ℕ → Bool
-is_within variables lits = list_all (λ l. nat_le 1 (l / 2) && nat_le (l / 2) variables) lits
-
--- a clause of these variables; a tautology stands only where there is a variable
-abbrev pub is_clause_of : ℕ → Option (List ℕ) → Bool
-is_clause_of variables None = nat_le 1 variables
-is_clause_of variables (Some lits) = rises lits && is_within variables lits
-
--- at most 65,536 variables, 2^20 clauses and 2^24 literals
-abbrev pub is_within_limits : ℕ → List (Option (List ℕ)) → Bool
-is_within_limits variables clauses = (nat_le variables 65536 && nat_le (length clauses) 1048576) && nat_le (literals_of clauses) 16777216
 
 -- clauses and assumptions of the revision's own variables, within the limits; the assumptions rise by variable
 abbrev pub is_posted : Posted → Bool

@@ -2,7 +2,8 @@ use Rattle.std.specs.Prelude.{◌≡◌, ℕ, ◌/◌, true, nat_lt, List, [], �
 use Rattle.mal_base.specs.Clauses.{rises, HaveSame, IsTautology, IsLeastOpposite}
 use Rattle.mal_base.specs.declared.which.Which.{Which}
 use Rattle.mal_base.specs.declared.which.Which.TheVariants.{Variables, Clauses, Literals}
-use Rattle.mal_revision.specs.Posted.{Posted, literals_of}
+use Rattle.mal_base.specs.Formulas.{literals_of}
+use Rattle.mal_revision.specs.Posted.{Posted}
 use Rattle.mal_revision.specs.declared.fault.RevisionFault.{RevisionFault}
 use Rattle.mal_revision.specs.declared.fault.RevisionFault.TheVariants.{Opposite, VarTooLarge, Limit, OutOfMemory}
 

@@ -3,7 +3,7 @@
 ghost use Rattle.std.specs.Prelude.{◌≡◌, ◌<◌, ℕ, true, None, nat_lt, length};
 ghost use Rattle.std.specs.List.{list_all};
 ghost use Rattle.mal_base.specs.Clauses.{clash};
-ghost use Rattle.mal_revision.specs.Posted.{is_within, is_clause_of, size_of, literals_of};
+ghost use Rattle.mal_base.specs.Formulas.{is_within, is_clause_of, size_of, literals_of};
 ghost use Rattle.mal_revision.specs.Refused.{above, above_in, first_above, or_else, limit_passed};
 
 use mal_base::{Clause, Lit, Var, Which};

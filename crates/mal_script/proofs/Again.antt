@@ -22,7 +22,8 @@ use Rattle.std.proofs.lemmas.Bool.Decides.{nat_tests}
 use borrow.Author.Tests.{ltb-true, leb-true}
 use Rattle.mal_base.specs.Asks.{Terms}
 use Rattle.mal_base.specs.Names.{is_name, is_name_byte}
-use Rattle.mal_revision.specs.Posted.{Posted, is_posted, is_within, is_clause_of}
+use Rattle.mal_base.specs.Formulas.{is_within, is_clause_of}
+use Rattle.mal_revision.specs.Posted.{Posted, is_posted}
 use Rattle.spec_script.specs.Plain.{IsPlain, IsPlainJob, IsPlainRevision}
 use Rattle.mal_base.specs.Clauses.{rises}
 use Rattle.spec_script.specs.Script.{ScriptedJob, Scripted, spelling, rows_of, job_rows, revision_rows, closed_words, clause_words, tenant_words, job_words, header_words}

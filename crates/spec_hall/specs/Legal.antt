@@ -2,7 +2,8 @@ use Rattle.std.specs.Prelude.{◌≡◌, ◌≢◌, ℕ, ◌+◌, ◌<◌, ◌�
 use Rattle.mal_base.specs.Asks.{Terms, IsAsk}
 use Rattle.mal_base.specs.Names.{is_name}
 use Rattle.mal_history.specs.declared.event.Share.{Share}
-use Rattle.mal_revision.specs.Posted.{Posted, is_posted, literals_of}
+use Rattle.mal_base.specs.Formulas.{literals_of}
+use Rattle.mal_revision.specs.Posted.{Posted, is_posted}
 use Rattle.spec_balance.specs.Fair.{IsFair}
 use Rattle.spec_job.specs.Solo.{clauses_in}
 use Rattle.spec_job.specs.Titled.{Key, Titled}

@@ -8,7 +8,8 @@ use Rattle.std.proofs.lemmas.List.Sums.{fold_push, sum_by-append, sum_by-cons}
 use Rattle.mal_base.specs.declared.verdict.Verdict.TheVariants.{Satisfiable}
 use Rattle.mal_revision.specs.Posted.{Posted, is_posted}
 use Rattle.spec_logic.specs.Logic.{satisfies, satisfies_with, is_true_in}
-use Rattle.spec_node.specs.State.{Held, Node, fresh}
+use Rattle.mal_base.specs.Held.{Held}
+use Rattle.spec_node.specs.State.{Node, fresh}
 use Rattle.spec_node.specs.Slice.{Sliced, slice}
 use Rattle.spec_node.specs.Load.{loaded, numbered}
 use Rattle.spec_node.specs.Model.{model_of}

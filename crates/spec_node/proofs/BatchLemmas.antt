@@ -6,7 +6,7 @@ use Rattle.std.proofs.lemmas.List.Elements.{All-nil, All-cons, All-head, All-tai
 use Rattle.std.proofs.lemmas.Bool.{and_from, or_left, or_right, eq-eqb}
 use Rattle.std.proofs.lemmas.List.Folds.{list_any-append}
 use Rattle.mal_base.specs.declared.trail_entry.TrailEntry.{TrailEntry}
-use Rattle.spec_node.specs.State.{Held}
+use Rattle.mal_base.specs.Held.{Held}
 use Rattle.spec_node.specs.Value.{is_true, is_false, level_of, left_literal}
 use Rattle.spec_node.specs.Batch.{Progress, after_left, after_clause, after_all}
 use Rattle.spec_node.specs.Sound.{left_is_true}

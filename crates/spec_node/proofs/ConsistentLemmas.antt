@@ -7,7 +7,8 @@ use Rattle.std.proofs.lemmas.List.Sorted.{All-permutation}
 use Rattle.std.proofs.lemmas.Bool.{not-true, cases_lt}
 use Rattle.mal_base.specs.Literals.{var_of}
 use Rattle.mal_base.specs.declared.trail_entry.TrailEntry.{TrailEntry}
-use Rattle.spec_node.specs.State.{Held, Node}
+use Rattle.mal_base.specs.Held.{Held}
+use Rattle.spec_node.specs.State.{Node}
 use Rattle.spec_node.specs.Value.{is_true, is_false, has_value, level_of}
 use Rattle.spec_node.specs.Batch.{Progress, batch, is_in_batch, after_batch, propagated}
 use Rattle.spec_node.specs.Cut.{kept, removed, cut}

@@ -11,9 +11,11 @@ use Rattle.std.proofs.lemmas.Bool.{and_parts, leb-true, lt-ltb, lt-leb}
 use Rattle.mal_base.specs.Literals.{var_of}
 use Rattle.mal_base.specs.Clauses.{rises}
 use Rattle.mal_base.specs.declared.trail_entry.TrailEntry.{TrailEntry}
-use Rattle.mal_revision.specs.Posted.{Posted, is_posted, is_within, is_clause_of, is_within_limits}
+use Rattle.mal_base.specs.Formulas.{is_within, is_clause_of, is_within_limits}
+use Rattle.mal_revision.specs.Posted.{Posted, is_posted}
 use Rattle.spec_logic.specs.Logic.{satisfies, satisfies_clause}
-use Rattle.spec_node.specs.State.{Held, Node, fresh}
+use Rattle.mal_base.specs.Held.{Held}
+use Rattle.spec_node.specs.State.{Node, fresh}
 use Rattle.spec_node.specs.Cut.{kept, removed}
 use Rattle.spec_node.specs.Load.{counted, rotated, new_order, numbered, is_derived, with_originals, added, loaded}
 use Rattle.spec_node.specs.Sound.{EachAfter, IsPlaced, IsLevelled, IsClosed, own_level, IsLiteralOf, AreLiteralsOf, IsConsistent}

@@ -9,7 +9,8 @@ use Rattle.mal_base.specs.Literals.{var_of, literal, has_plus}
 use Rattle.mal_base.specs.declared.verdict.Verdict.{Verdict}
 use Rattle.mal_base.specs.declared.verdict.Verdict.TheVariants.{Satisfiable}
 use Rattle.spec_logic.specs.Logic.{satisfies, is_true_in, value_of}
-use Rattle.spec_node.specs.State.{Held, Node}
+use Rattle.mal_base.specs.Held.{Held}
+use Rattle.spec_node.specs.State.{Node}
 use Rattle.spec_node.specs.Value.{is_true, is_false, has_value, open_count}
 use Rattle.spec_node.specs.Batch.{is_in_batch, propagated}
 use Rattle.spec_node.specs.Load.{counted}

@@ -5,7 +5,8 @@ use Rattle.std.specs.Option.{option_map_or}
 use Rattle.std.proofs.lemmas.Bool.{and_parts}
 use Rattle.mal_base.specs.Clauses.{rises}
 use Rattle.mal_base.proofs.Sorting.{and-both}
-use Rattle.mal_revision.specs.Posted.{Posted, is_posted, is_within, is_clause_of, is_within_limits}
+use Rattle.mal_base.specs.Formulas.{is_within, is_clause_of, is_within_limits}
+use Rattle.mal_revision.specs.Posted.{Posted, is_posted}
 use Rattle.spec_node.specs.Laws.{has_variables, has_literals}
 
 -- literals of variables from 1 to this one have variables from 1 on

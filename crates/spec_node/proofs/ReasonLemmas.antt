@@ -7,7 +7,7 @@ use Rattle.std.proofs.lemmas.List.Folds.{list_any-append}
 use Rattle.std.proofs.lemmas.Bool.{and_parts, and_from, or_parts, or_left, or_right, eq-eqb, eqb-true, ltb-true, leb-true, both_ways, ne_eqb, true_from_ne_false, not-true, not-false, false_from_ne_true}
 use Rattle.mal_base.specs.Literals.{var_of, negated}
 use Rattle.mal_base.specs.declared.trail_entry.TrailEntry.{TrailEntry}
-use Rattle.spec_node.specs.State.{Held}
+use Rattle.mal_base.specs.Held.{Held}
 use Rattle.spec_node.specs.Value.{is_true, is_false, has_value, level_of, open_count, left_literal}
 use Rattle.spec_node.specs.Batch.{Progress, is_in_batch, before_last, after_left, after_clause, after_all}
 use Rattle.spec_node.specs.Sound.{EachAfter, IsPlaced, IsLevelled, IsForced, IsReason, IsConflict, IsWaiting, AreLiteralsOf, level_in, greatest_level, current_count}

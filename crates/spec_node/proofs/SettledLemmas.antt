@@ -10,7 +10,7 @@ use Rattle.std.proofs.lemmas.Bool.{and_parts, and_from, or_left, or_right, ltb-t
 use Rattle.mal_base.specs.Literals.{var_of, negated}
 use Rattle.mal_base.specs.Clauses.{rises, is_below}
 use Rattle.mal_base.specs.declared.trail_entry.TrailEntry.{TrailEntry}
-use Rattle.spec_node.specs.State.{Held}
+use Rattle.mal_base.specs.Held.{Held}
 use Rattle.spec_node.specs.Value.{is_true, is_false, open_count}
 use Rattle.spec_node.specs.Batch.{is_in_batch, before_last}
 use Rattle.spec_node.specs.Sound.{left_is_true}

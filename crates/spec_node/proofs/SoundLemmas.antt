@@ -6,7 +6,8 @@ use Rattle.std.proofs.lemmas.List.Elements.{All-nil, All-cons, All-head, All-tai
 use Rattle.std.proofs.lemmas.Bool.{or_left, or_right, leb-true, ltb-true, lt-ltb, le-leb, lt-leb, both_ways, cases_lt, not-false}
 use Rattle.mal_base.specs.declared.trail_entry.TrailEntry.{TrailEntry}
 use Rattle.mal_revision.specs.Posted.{Posted, is_posted}
-use Rattle.spec_node.specs.State.{Held, Node, fresh}
+use Rattle.mal_base.specs.Held.{Held}
+use Rattle.spec_node.specs.State.{Node, fresh}
 use Rattle.spec_node.specs.Value.{is_true, level_of}
 use Rattle.spec_node.specs.Batch.{batch, is_in_batch, propagated}
 use Rattle.spec_node.specs.Cut.{kept, removed, saved}

@@ -7,7 +7,7 @@ use Rattle.std.proofs.lemmas.Bool.{or_left, or_right, or_cases, and_parts, and_f
 use Rattle.std.proofs.lemmas.List.{take-append-le}
 use Rattle.mal_base.specs.Literals.{var_of, negated}
 use Rattle.mal_base.specs.declared.trail_entry.TrailEntry.{TrailEntry}
-use Rattle.spec_node.specs.State.{Held}
+use Rattle.mal_base.specs.Held.{Held}
 use Rattle.spec_node.specs.Value.{is_true, is_false, has_value, left_literal}
 use Rattle.spec_node.specs.Batch.{batch}
 use Rattle.spec_node.specs.Sound.{EachAfter, IsPlaced, left_is_true, AreSettled, IsLiteralOf}

@@ -5,7 +5,8 @@ use Rattle.mal_base.specs.Literals.{var_of}
 use Rattle.mal_base.specs.declared.verdict.Verdict.TheVariants.{Satisfiable}
 use Rattle.mal_revision.specs.Posted.{Posted, is_posted}
 use Rattle.spec_logic.specs.Logic.{satisfies, satisfies_with, is_true_in}
-use Rattle.spec_node.specs.State.{Held, Node, fresh}
+use Rattle.mal_base.specs.Held.{Held}
+use Rattle.spec_node.specs.State.{Node, fresh}
 use Rattle.spec_node.specs.Value.{is_true}
 use Rattle.spec_node.specs.Batch.{batch}
 use Rattle.spec_node.specs.Step.{step}

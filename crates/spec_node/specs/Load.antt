@@ -1,6 +1,7 @@
 use Rattle.std.specs.Prelude.{ℕ, zero, suc, ◌+◌, ◌-◌, ◌*◌, ◌/◌, ◌%◌, ◌^◌, max, Bool, ◌==◌, nat_lt, nat_le, List, [], ◌∷◌, ◌++◌, take, drop, filter, replicate, Option, Some, None}
 use Rattle.mal_revision.specs.Posted.{Posted}
-use Rattle.spec_node.specs.State.{Held, Node}
+use Rattle.mal_base.specs.Held.{Held}
+use Rattle.spec_node.specs.State.{Node}
 use Rattle.spec_node.specs.Cut.{cut}
 
 -- clauses under rising numbers from the first on; a tautology keeps its number and is not held

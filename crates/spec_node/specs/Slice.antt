@@ -1,5 +1,6 @@
 use Rattle.std.specs.Prelude.{ℕ, zero, suc, Bool, true, false, List, [], is_some}
-use Rattle.spec_node.specs.State.{Node, Line}
+use Rattle.mal_base.specs.Held.{Line}
+use Rattle.spec_node.specs.State.{Node}
 use Rattle.spec_node.specs.Step.{step}
 
 -- up to this many steps, which end where a verdict stands

@@ -5,7 +5,8 @@ use Rattle.std.specs.Option.{option_map_or}
 use Rattle.mal_base.specs.Literals.{var_of}
 use Rattle.mal_base.specs.Clauses.{rises}
 use Rattle.mal_base.specs.declared.trail_entry.TrailEntry.{TrailEntry}
-use Rattle.spec_node.specs.State.{Held, Node}
+use Rattle.mal_base.specs.Held.{Held}
+use Rattle.spec_node.specs.State.{Node}
 use Rattle.spec_node.specs.Value.{is_true, is_false, has_value, level_of, left_literal}
 use Rattle.spec_node.specs.Batch.{batch}
 use Rattle.spec_node.specs.Load.{counted, is_derived}

@@ -1,17 +1,7 @@
 use Rattle.std.specs.Prelude.{ℕ, Bool, List, [], Option, None}
+use Rattle.mal_base.specs.Held.{Held}
 use Rattle.mal_base.specs.declared.trail_entry.TrailEntry.{TrailEntry}
 use Rattle.mal_base.specs.declared.verdict.Verdict.{Verdict}
-
--- a clause that a node holds, under its number
-pub record Held : Type 0 where
-  pub id : ℕ
-  pub lits : List ℕ
-
--- a derived clause with the clauses that it follows from by unit propagation, in that order
-pub record Line : Type 0 where
-  pub id : ℕ
-  pub lits : List ℕ
-  pub hints : List ℕ
 
 -- a solver node: its place in the tree, its variables 1 to V, how many clauses it has derived (serial), the conflicts
 -- since the last restart, the number of the restart, the batches handled, the clause of a waiting conflict, a verdict,

@@ -1,5 +1,5 @@
 use Rattle.std.proofs.Common.{◌≡◌, true, take, drop}
-use Rattle.mal_revision.specs.Posted.{is_within}
+use Rattle.mal_base.specs.Formulas.{is_within}
 use Rattle.mal_revision.specs.Refused.{above}
 use Rattle.mal_revision.proofs.scan.above.Given as goal
 

@@ -1,6 +1,6 @@
 use Rattle.std.proofs.Common.{◌≡◌, true}
 use Rattle.mal_base.proofs.Sorting.{and-both}
-use Rattle.mal_revision.specs.Posted.{is_within}
+use Rattle.mal_base.specs.Formulas.{is_within}
 use Rattle.mal_revision.proofs.scan.above_in.Goals as goal
 
 pub returns-in-Some-clause-form : goal.returns-in-Some-clause-form

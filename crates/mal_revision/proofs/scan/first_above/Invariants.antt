@@ -1,6 +1,6 @@
 use Rattle.std.proofs.Common.{◌≡◌, true, take, drop}
 use Rattle.std.specs.List.{list_all}
-use Rattle.mal_revision.specs.Posted.{is_clause_of}
+use Rattle.mal_base.specs.Formulas.{is_clause_of}
 use Rattle.mal_revision.specs.Refused.{first_above}
 use Rattle.mal_revision.proofs.scan.first_above.Given as goal
 

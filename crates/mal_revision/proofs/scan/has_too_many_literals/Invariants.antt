@@ -1,5 +1,5 @@
 use Rattle.std.proofs.Common.{◌≡◌, ◌+◌, ◌≤◌, drop}
-use Rattle.mal_revision.specs.Posted.{literals_of}
+use Rattle.mal_base.specs.Formulas.{literals_of}
 use Rattle.mal_revision.proofs.scan.has_too_many_literals.Given as goal
 
 abbrev pub invariant-loop-clause : goal.invariant-loop-clause

@@ -2,7 +2,7 @@ use Rattle.std.proofs.Common.{◌≡◌, Some, None, true}
 use Rattle.std.specs.List.{list_all}
 use Rattle.mal_base.specs.Clauses.{clash}
 use Rattle.mal_base.proofs.Tautologies.{opposite-from_sorted}
-use Rattle.mal_revision.specs.Posted.{is_within, is_clause_of}
+use Rattle.mal_base.specs.Formulas.{is_within, is_clause_of}
 use Rattle.mal_revision.specs.Refused.{or_else, first_above, above, limit_passed}
 use Rattle.mal_revision.proofs.Refusals.{posted-from_tests, made-from_tests, consistent-from_tests}
 use Rattle.mal_revision.proofs.revision.Revision.of_sorted.Goals as goal
