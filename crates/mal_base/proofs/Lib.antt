@@ -1,3 +1,4 @@
 pub mod Padding
 pub mod Sorting
 pub mod Tautologies
+pub mod LinesLemmas

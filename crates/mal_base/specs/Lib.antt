@@ -6,3 +6,4 @@ pub mod NameFields
 pub mod Formulas
 pub mod Held
 pub mod Trails
+pub mod Lined

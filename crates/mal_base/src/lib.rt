@@ -6,6 +6,8 @@ mod ask;
 mod clause;
 mod clause_id;
 mod formula;
+mod line_head;
+mod lines;
 mod literal;
 mod name;
 mod trail_entry;
@@ -18,6 +20,7 @@ pub use ask::Ask;
 pub use clause::Clause;
 pub use clause_id::ClauseId;
 pub use formula::Formula;
+pub use lines::Lines;
 pub use literal::{Lit, Var};
 pub use name::Name;
 pub use trail_entry::TrailEntry;
@@ -88,6 +91,26 @@ mod tests {
     fn a_clause_number_is_at_least_one(rt: HostRuntime) -> Result<(), Fail> {
         assert!(rt; ClauseId::of(0).is_none());
         assert_eq!(rt; ClauseId::of(7), Some(ClauseId::original(7)));
+        Ok(())
+    }
+
+    #[test]
+    fn lines_stand_one_behind_another(rt: HostRuntime) -> Result<(), Fail> {
+        let mut lines = Lines::new(rt.alloc());
+        lines.reserve(2, 3, 3)?;
+        let first = [lit(1)?, lit(-2)?];
+        let second = [lit(3)?];
+        let hints = [ClauseId::original(4), ClauseId::original(5)];
+        lines.push_reserved(ClauseId::original(7), &first, &hints[..1]);
+        lines.push_reserved(ClauseId::original(8), &second, &hints);
+        assert_eq!(rt; lines.count(), 2);
+        assert_eq!(rt; lines.id(1), ClauseId::original(8));
+        assert_eq!(rt; lines.lits(0), first.as_slice());
+        assert_eq!(rt; lines.lits(1), second.as_slice());
+        assert_eq!(rt; lines.hints(0), [ClauseId::original(4)].as_slice());
+        assert_eq!(rt; lines.hints(1), hints.as_slice());
+        lines.clear();
+        assert_eq!(rt; lines.count(), 0);
         Ok(())
     }
 }
