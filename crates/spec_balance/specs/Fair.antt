@@ -1,4 +1,4 @@
-use Rattle.std.specs.Prelude.{◌≡◌, ℕ, ◌-◌, ◌*◌, ◌<◌, ◌≤◌, ◌⊎◌, min, List, length, sum, sum_by, get_or}
+use Rattle.std.specs.Prelude.{◌≡◌, ℕ, ◌-◌, ◌*◌, ◌<◌, ◌≤◌, ◌⊎◌, min, List, length, map, sum, sum_by, get_or}
 use Rattle.mal_base.specs.Asks.{Terms}
 
 -- an ask that asks for nothing
@@ -34,3 +34,17 @@ pub record IsFair (workers : ℕ) (asks : List Terms) (volumes : List ℕ) : Typ
   pub others : (i : ℕ) → workers ≤ i → volume_at volumes i ≡ 0
   pub total : sum volumes ≡ min workers (sum_by (λ a. a.demand) asks)
   pub even : (i j : ℕ) → i < length asks → i < workers → j < length asks → j < workers → volume_at volumes i < demand_at asks i → 1 < volume_at volumes j → HasNoBetterClaim asks volumes i j
+
+-- a job asks for a worker at least, as every ask in form does
+abbrev pub AsksForSome : Terms → Type 0
+AsksForSome ask = 1 ≤ ask.demand
+
+-- a job by its names, with its ask
+pub record Asking : Type 0 where
+  pub tenant : List ℕ
+  pub name : List ℕ
+  pub ask : Terms
+
+-- the asks of jobs
+abbrev pub asks_of : List Asking → List Terms
+asks_of jobs = map (λ j. j.ask) jobs
