@@ -31,10 +31,10 @@ use Rattle.mal_base.specs.Formulas.{literals_of}
 use Rattle.mal_revision.specs.Posted.{Posted, is_posted}
 use Rattle.spec_job.specs.Solo.{Opened, Revised, Closed, unopened, solo_step, Solo, clauses_in}
 use Rattle.spec_job.specs.Titled.{Key, Titled, stepped}
-use Rattle.spec_hall.specs.Events.{Event, Open, Revise, Close}
+use Rattle.spec_hall.specs.Events.{Event, Revise, Close}
 use Rattle.spec_hall.specs.Own.{is_key}
 use Rattle.spec_hall.specs.States.{states}
-use Rattle.spec_hall.specs.Legal.{job_of, literals_in, MayRevise, MayClose}
+use Rattle.spec_hall.specs.Legal.{job_of, literals_in, MayRevise}
 use Rattle.spec_hall.specs.Dressed.{keyed, dressed, revise_count}
 use Rattle.spec_hall.specs.Alone.{IsCalm}
 use Rattle.spec_hall.proofs.KeyLemmas.{is_key-Decides, is_key-same}

@@ -1,15 +1,12 @@
-use Rattle.std.specs.Prelude.{◌≡◌, ℕ, ◌+◌, ◌<◌, ◌≤◌, Bool, true, false, List, length, Option, Some, None, Result, Ok, Err, is_some}
+use Rattle.std.specs.Prelude.{◌≡◌, ◌<◌, ◌≤◌, true, false, List, length, Some, None, Result, Ok, Err, is_some}
 use Rattle.mal_hall.specs.declared.fault.OpenFault.{OpenFault}
 use Rattle.mal_hall.specs.declared.fault.OpenFault.TheVariants as opening
 use Rattle.mal_hall.specs.declared.fault.ReviseFault.{ReviseFault}
 use Rattle.mal_hall.specs.declared.fault.ReviseFault.TheVariants as revising
 use Rattle.mal_hall.specs.declared.fault.CloseFault.{CloseFault}
 use Rattle.mal_hall.specs.declared.fault.CloseFault.TheVariants as closing
-use Rattle.mal_base.specs.Formulas.{literals_of}
-use Rattle.mal_revision.specs.Posted.{Posted}
-use Rattle.spec_job.specs.Solo.{clauses_in}
 use Rattle.spec_job.specs.Titled.{Key, Titled}
-use Rattle.spec_hall.specs.Legal.{job_of, jobs_of, literals_in}
+use Rattle.spec_hall.specs.Legal.{job_of, jobs_of}
 
 -- why a job was opened or not: no job has its key, its tenant has room, and the hall has no other job
 abbrev pub OpenCause : Key → List Titled → Result (Unit {0}) OpenFault → Type 0

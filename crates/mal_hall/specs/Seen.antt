@@ -1,4 +1,4 @@
-use Rattle.std.specs.Prelude.{◌≡◌, ℕ, ◌+◌, ◌<◌, ◌≤◌, Bool, true, false, List, [], length, Option, Some, None, if◌then◌else◌}
+use Rattle.std.specs.Prelude.{◌≡◌, ℕ, ◌≤◌, Bool, false, List, [], length, Option, Some, None}
 use Rattle.mal_history.specs.declared.event.Event as written
 use Rattle.mal_history.specs.Written.{Written}
 use Rattle.mal_revision.specs.Posted.{Posted}

@@ -1,7 +1,6 @@
 use Rattle.std.specs.Prelude.{◌≡◌, ℕ, ◌+◌, ◌*◌, Bool, true, false, ◌==◌, List, ◌++◌, length, sum_by, if◌then◌else◌}
 use Rattle.std.specs.List.{list_all}
 use Rattle.spec_job.specs.Left.{left_of}
-use Rattle.spec_job.specs.Titled.{Titled}
 use Rattle.spec_hall.specs.Events.{Event, Open, Revise, Close, Balance, Start, Finish, Exchange}
 use Rattle.spec_hall.specs.States.{states, lives, balanced}
 

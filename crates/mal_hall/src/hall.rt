@@ -159,7 +159,7 @@ impl Hall {
     }
 
     /// The reply to a revision of a job, numbered from 1: None exactly where it is not answered. A satisfiable reply carries
-    /// a model of the revision.
+    /// a model of the revision. A job that is not there is `NoJob`, however much memory there is.
     pub fn reply(
         &self,
         alloc: Global,
@@ -169,6 +169,7 @@ impl Hall {
     ) -> Result<Option<Vec<u8>>, ReplyFault>
         ensures reply { IfOk result (λ o. (t : Titled) × (job_of (keyed tenant.now job.now) (states self.now.events) ≡ Some t) × (MatchOption o (reply (keyed tenant.now job.now) r t.state ≡ None) (λ text. reply (keyed tenant.now job.now) r t.state ≡ Some text.items))) }
         ensures no_job { IsErrOf result ReplyFault.NoJob → job_of (keyed tenant.now job.now) (states self.now.events) ≡ None }
+        ensures out_of_memory { IsErrOf result ReplyFault.OutOfMemory → (t : Titled) × (job_of (keyed tenant.now job.now) (states self.now.events) ≡ Some t) }
         ensures models { (t : Titled) → job_of (keyed tenant.now job.now) (states self.now.events) ≡ Some t → AnswersSolve t.state }
     {
         let Some(held) = &self.job else {

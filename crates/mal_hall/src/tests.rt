@@ -1,6 +1,6 @@
 //! A hall whose replies and history are known.
 
-use crate::{CloseFault, Hall, OpenFault, ReviseFault};
+use crate::{CloseFault, Hall, OpenFault, ReplyFault, ReviseFault};
 use mal_base::{Ask, Clause, Lit, Name};
 use mal_revision::Revision;
 use std::alloc::Global;
@@ -64,6 +64,8 @@ fn a_satisfiable_revision_is_replied_to(rt: HostRuntime) -> Result<(), Fail> {
     hall.revise_job(alloc, &a, &p, one_of_two(alloc)?)?;
     hall.close_job(&a, &p)?;
     assert!(rt; hall.reply(alloc, &a, &p, 1)?.is_none());
+    assert!(rt; is_absent(alloc, &hall, &a, &a));
+    assert!(rt; is_absent(alloc, &hall, &p, &p));
     hall.drive(alloc)?;
     let reply = hall.reply(alloc, &a, &p, 1)?.ok_or("no reply")?;
     assert_eq!(rt;
@@ -74,4 +76,12 @@ fn a_satisfiable_revision_is_replied_to(rt: HostRuntime) -> Result<(), Fail> {
     let known = b"h mal 1 1\no a p 1 1 4\nr a p 1\nc a p\nb a p 1\ns a p 0 1\nf a p 0 1 ran\n";
     assert_eq!(rt; text.as_slice(), known.as_slice());
     Ok(())
+}
+
+/// Whether the hall tells that it has no such job.
+fn is_absent(alloc: Global, hall: &Hall, tenant: &Name, job: &Name) -> bool {
+    match hall.reply(alloc, tenant, job, 1) {
+        Err(ReplyFault::NoJob) => true,
+        _ => false,
+    }
 }

@@ -1,7 +1,4 @@
-use Rattle.std.proofs.Common.{◌≡◌, refl, arith, sym, ◌∙◌, ap, List, ◌++◌, [], ◌∷◌, Some}
-use Rattle.spec_hall.specs.Events.{Event, Close}
-use Rattle.spec_hall.specs.Dressed.{keyed}
-use Rattle.mal_hall.specs.Seen.{Seen, IsHall}
+use Rattle.std.proofs.Common.{sym, ◌∙◌}
 use Rattle.mal_hall.proofs.HallLemmas.{held-close, closed-events}
 use Rattle.mal_hall.proofs.hall.Hall.close_job.Goals as goal
 

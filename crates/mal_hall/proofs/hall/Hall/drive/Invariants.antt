@@ -1,4 +1,4 @@
-use Rattle.std.proofs.Common.{◌≡◌, ◌<◌}
+use Rattle.std.proofs.Common.{◌≡◌}
 use Rattle.mal_hall.specs.Work.{GrowsByWork, left_in}
 use Rattle.mal_hall.proofs.hall.Hall.drive.Given as goal
 

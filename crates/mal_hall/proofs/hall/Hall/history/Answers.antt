@@ -1,4 +1,4 @@
-use Rattle.std.proofs.Common.{sym, ◌∙◌, ap}
+use Rattle.std.proofs.Common.{sym}
 use Rattle.mal_hall.proofs.HallLemmas.{hall-bare, hall-home}
 use Rattle.mal_hall.proofs.hall.Hall.history.Goals as goal
 

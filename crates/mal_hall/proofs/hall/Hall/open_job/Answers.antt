@@ -1,7 +1,6 @@
-use Rattle.std.proofs.Common.{◌≡◌, ◌++◌, [], ◌∷◌, refl, arith, sym, ◌∙◌, ap, List}
+use Rattle.std.proofs.Common.{◌≡◌, ◌++◌, [], ◌∷◌, arith, ◌∙◌, ap, List}
 use Rattle.mal_history.specs.declared.event.Event as written
 use Rattle.mal_history.specs.declared.event.Event.TheVariants as of
-use Rattle.mal_hall.specs.Seen.{IsHall}
 use Rattle.mal_hall.proofs.HallLemmas.{held-open}
 use Rattle.mal_hall.proofs.hall.Hall.open_job.Goals as goal
 

@@ -1,4 +1,4 @@
-use Rattle.std.proofs.Common.{◌≡◌, sym, ap}
+use Rattle.std.proofs.Common.{sym, ap}
 use Rattle.mal_hall.specs.Seen.{Seen}
 use Rattle.mal_hall.proofs.HallLemmas.{hall-solves}
 use Rattle.mal_hall.proofs.hall.Hall.reply.Goals as goal

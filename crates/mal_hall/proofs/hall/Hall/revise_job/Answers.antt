@@ -1,9 +1,8 @@
-use Rattle.std.proofs.Common.{◌≡◌, refl, arith, sym, ◌∙◌, ap, List, ◌++◌, [], ◌∷◌, Some, length}
+use Rattle.std.proofs.Common.{◌≡◌, arith, sym, ◌∙◌, ap, List, ◌++◌, [], ◌∷◌, length}
 use Rattle.std.proofs.lemmas.Bool.Decides.{Decides-eqb}
 use Rattle.mal_history.specs.declared.event.Event as written
 use Rattle.mal_history.specs.declared.event.Event.TheVariants as of
 use Rattle.mal_revision.specs.Posted.{Posted}
-use Rattle.mal_hall.specs.Seen.{Seen, IsHall}
 use Rattle.mal_hall.proofs.HallLemmas.{held-revise, revised-events}
 use Rattle.mal_hall.proofs.hall.Hall.revise_job.Goals as goal
 

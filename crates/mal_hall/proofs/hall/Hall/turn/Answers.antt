@@ -1,11 +1,9 @@
-use Rattle.std.proofs.Common.{◌≡◌, ◌<◌, ◌≤◌, Bool, true, false, refl, arith, sym, ◌∙◌, ap, List, ◌++◌, [], ◌∷◌, Some, subst}
-use Rattle.mal_base.specs.Asks.{Terms, IsAsk}
+use Rattle.std.proofs.Common.{◌≡◌, true, refl, sym, ◌∙◌, [], ◌∷◌}
+use Rattle.mal_base.specs.Asks.{IsAsk}
 use Rattle.mal_base.specs.declared.verdict.Outcome.TheVariants.{Ran}
 use Rattle.spec_job.specs.Solo.{is_live}
-use Rattle.spec_job.specs.Titled.{Titled}
-use Rattle.spec_hall.specs.Alone.{listed_volume, shares_of, IsCalm}
-use Rattle.spec_hall.specs.Events.{Event, Balance, Start, Finish}
-use Rattle.mal_hall.specs.Seen.{Seen, IsHall, IsHeld}
+use Rattle.spec_hall.specs.Alone.{listed_volume, shares_of}
+use Rattle.spec_hall.specs.Events.{Balance, Start, Finish}
 use Rattle.mal_hall.proofs.HallLemmas.{held-balance, held-slice, balanced-events, sliced-events, balance-less, slice-less, beq-true, beq-false}
 use Rattle.mal_hall.proofs.hall.Hall.turn.Goals as goal
 
