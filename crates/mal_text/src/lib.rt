@@ -5,8 +5,8 @@ pub mod numbers;
 pub mod read;
 pub mod write;
 
-pub use numbers::{NumberFault, number};
-pub use read::{first_line, words};
+pub use numbers::{NumberFault, magnitude, number};
+pub use read::{first_line, first_word, words};
 pub use write::{end_line, put_line, put_number, put_word};
 
 #[cfg(test)]

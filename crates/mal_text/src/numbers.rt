@@ -16,4 +16,4 @@ pub enum NumberFault {
 
 mod reading;
 
-pub use reading::number;
+pub use reading::{magnitude, number};

@@ -1,5 +1,5 @@
 //! Reading a text line by line, and a line word by word.
-ghost use Rattle.std.specs.Prelude.{◌≡◌, ◌<◌, [], ◌∷◌, map, length, IfOk, IfSome, MatchOption};
+ghost use Rattle.std.specs.Prelude.{◌≡◌, ◌<◌, ◌≤◌, false, [], ◌∷◌, map, length, get_or, IfOk, IfSome, MatchOption};
 ghost use Rattle.spec_text.specs.Inputs.{lines_of, words_of, is_blank};
 
 use std::alloc::{AllocError, Global};
@@ -27,6 +27,48 @@ pub fn words(alloc: Global, line: &[u8]) -> Result<Vec<&[u8]>, AllocError>
     line.split(|byte| is_blank(*byte))
         .filter(|part| !part.is_empty())
         .collect(alloc)
+}
+
+/// The first word of a line, and the line behind it. A line of blanks alone has no word.
+pub fn first_word(line: &[u8]) -> Option<(&[u8], &[u8])>
+    ensures words { MatchOption result (words_of line.now ≡ []) (λ cut. words_of line.now ≡ cut.0.now ∷ words_of cut.1.now) }
+    ensures shorter { IfSome result (λ cut. length cut.1.now < length line.now) }
+{
+    let line = without_blanks(line);
+    if line.is_empty() {
+        return None;
+    }
+    Some(word_in_front(line))
+}
+
+/// The line without the blanks before its first word.
+fn without_blanks(line: &[u8]) -> &[u8]
+    ensures words { words_of result.now ≡ words_of line.now }
+    ensures shorter { length result.now ≤ length line.now }
+    ensures word { length result.now ≡ 0 → words_of line.now ≡ [] }
+    ensures first { is_blank (get_or result.now 0 0) ≡ false }
+{
+    for (index, byte) in line.iter().enumerate() {
+        if !is_blank(*byte) {
+            return &line[index..];
+        }
+    }
+    &[]
+}
+
+/// The word that a line begins with, and the line behind it.
+fn word_in_front(line: &[u8]) -> (&[u8], &[u8])
+    requires some { 0 < length line.now }
+    requires first { is_blank (get_or line.now 0 0) ≡ false }
+    ensures words { words_of line.now ≡ result.0.now ∷ words_of result.1.now }
+    ensures shorter { length result.1.now < length line.now }
+{
+    for (index, byte) in line.iter().enumerate() {
+        if is_blank(*byte) {
+            return (&line[..index], &line[index + 1..]);
+        }
+    }
+    (line, &[])
 }
 
 /// Whether a byte is a space, a tab or a carriage return.

@@ -47,3 +47,13 @@ fn the_last_line_needs_no_line_end(rt: HostRuntime) -> Result<(), Fail> {
     assert_eq!(rt; first_line(nothing).is_none(), true);
     Ok(())
 }
+
+#[test]
+fn words_are_cut_one_by_one(rt: HostRuntime) -> Result<(), Fail> {
+    let (word, rest) = first_word(b" 1\t-2\r").ok_or("no word")?;
+    assert_eq!(rt; word, b"1".as_slice());
+    let (last, nothing) = first_word(rest).ok_or("no second word")?;
+    assert_eq!(rt; last, b"-2".as_slice());
+    assert_eq!(rt; first_word(nothing).is_none(), true);
+    Ok(())
+}

@@ -1,4 +1,5 @@
 pub mod Clean
 pub mod Again
 pub mod Read
+pub mod Numerals
 pub mod Examples

@@ -1,11 +1,12 @@
 -- What is written is read again, line by line and word by word.
 use Rattle.std.proofs.Common.{◌≡◌, ◌≢◌, ℕ, zero, suc, ◌<◌, ◌≤◌, Bool, true, false, cond, ◌==◌, List, [], ◌∷◌, ◌++◌, length, take, drop, get_or, filter, arith, refl, ap, ◌∙◌}
 use Rattle.std.specs.List.{AllByRecursion, join_with_byte, slice_split, onto_first}
+use Rattle.std.proofs.lemmas.List.{length-take-le}
 use Rattle.std.proofs.lemmas.List.Splits.{slice_split_none, slice_split_at}
 use Rattle.std.proofs.lemmas.List.Elements.{All-from_recursion}
 use Rattle.std.proofs.lemmas.Bool.Decides.{nat_tests}
 use Rattle.spec_text.specs.Lines.{text_of, IsClean}
-use Rattle.spec_text.specs.Inputs.{before_lines, lines_of, is_blank, is_word}
+use Rattle.spec_text.specs.Inputs.{before_lines, lines_of, is_blank, is_word, words_of}
 use Rattle.spec_text.specs.Laws.{WordsReadAgain, LinesReadAgain}
 use Rattle.spec_text.proofs.Again.{no_end_in_line, text_of-cons}
 
@@ -65,3 +66,36 @@ only_line (b ∷ []) some none =
 only_line (b ∷ x ∷ xs) some none =
     let p : b ≢ 10 = none 0 (omega arith) in
     before_lines-no b (lines_of (x ∷ xs)) (grind (arith, nat_tests)) ∙ ap (onto_first b) (only_line (x ∷ xs) (omega arith) (λ k h. none (suc k) (omega arith)))
+
+-- a blank before a line changes no word
+pub words_behind_blank : (b : ℕ) (bs : List ℕ) → is_blank b ≡ true → words_of (b ∷ bs) ≡ words_of bs
+words_behind_blank b bs e = ap (λ (t : Bool). filter is_word (cond t ([] ∷ slice_split is_blank bs) (onto_first b (slice_split is_blank bs)))) e
+
+-- a byte that is no blank belongs to the first part
+parts-no : (b : ℕ) (bs : List ℕ) → is_blank b ≡ false → slice_split is_blank (b ∷ bs) ≡ onto_first b (slice_split is_blank bs)
+parts-no b bs e = ap (λ (t : Bool). cond t ([] ∷ slice_split is_blank bs) (onto_first b (slice_split is_blank bs))) e
+
+-- the first part ends at the first blank
+parts_at : (line : List ℕ) (index : ℕ) → index < length line → is_blank (get_or line index 0) ≡ true → ((k : ℕ) → k < index → is_blank (get_or line k 0) ≡ false) → slice_split is_blank line ≡ take index line ∷ slice_split is_blank (drop (suc index) line)
+parts_at [] index low e none = absurd (omega arith)
+parts_at (b ∷ bs) zero low e none = ap (λ (t : Bool). cond t ([] ∷ slice_split is_blank bs) (onto_first b (slice_split is_blank bs))) e
+parts_at (b ∷ bs) (suc index) low e none = parts-no b bs (none 0 (omega arith)) ∙ ap (onto_first b) (parts_at bs index (omega arith) e (λ k h. none (suc k) (omega arith)))
+
+-- without a blank there is one part
+one_part : (line : List ℕ) → ((k : ℕ) → k < length line → is_blank (get_or line k 0) ≡ false) → slice_split is_blank line ≡ line ∷ []
+one_part [] none = refl
+one_part (b ∷ bs) none = parts-no b bs (none 0 (omega arith)) ∙ ap (onto_first b) (one_part bs (λ k h. none (suc k) (omega arith)))
+
+-- a part that is not empty is a word
+keeps_part : (part : List ℕ) (parts : List (List ℕ)) → 0 < length part → filter is_word (part ∷ parts) ≡ part ∷ filter is_word parts
+keeps_part [] parts h = absurd (omega arith)
+keeps_part (b ∷ bs) parts h = let p : is_word (b ∷ bs) ≡ true = grind (arith, nat_tests) in ap (λ (t : Bool). cond t ((b ∷ bs) ∷ filter is_word parts) (filter is_word parts)) p
+
+-- the first word of a line ends at the first blank
+pub first_word_at : (line : List ℕ) (index : ℕ) → 0 < index → index < length line → is_blank (get_or line index 0) ≡ true → ((k : ℕ) → k < index → is_blank (get_or line k 0) ≡ false) → words_of line ≡ take index line ∷ words_of (drop (suc index) line)
+first_word_at line index some low e none =
+    ap (filter is_word) (parts_at line index low e none) ∙ keeps_part (take index line) (slice_split is_blank (drop (suc index) line)) (let n : length (take index line) ≡ index = length-take-le index line (omega arith) in omega arith)
+
+-- a line without a blank is one word
+pub only_word : (line : List ℕ) → 0 < length line → ((k : ℕ) → k < length line → is_blank (get_or line k 0) ≡ false) → words_of line ≡ line ∷ []
+only_word line some none = ap (filter is_word) (one_part line none) ∙ keeps_part line [] some

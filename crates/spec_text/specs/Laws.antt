@@ -1,8 +1,10 @@
 -- What holds of texts, words and numbers, in the form in which the law functions state it.
-use Rattle.std.specs.Prelude.{◌≡◌, ℕ, ◌≤◌, ◌<◌, ◌^◌, List, [], ◌∷◌, ◌++◌, map, length, ◌==◌, flat_map}
+use Rattle.std.specs.Prelude.{◌≡◌, ℕ, ◌≤◌, ◌<◌, ◌^◌, List, [], ◌∷◌, ◌++◌, map, length, ◌==◌, flat_map, ℤ, nat_abs}
+use Rattle.std.specs.Fmt.{signed_decimal}
 use Rattle.std.specs.List.{join_with_byte, slice_split}
 use Rattle.spec_text.specs.Lines.{text_of, IsClean, AreClean, AreRows}
-use Rattle.spec_text.specs.Numbers.{decimal_word, literal_word}
+use Rattle.spec_text.specs.Numbers.{decimal_word, literal_word, number_in}
+use Rattle.spec_text.specs.Numbers.NumberWord.{Number}
 use Rattle.spec_text.specs.Inputs.{lines_of, words_of}
 
 -- a written number is a clean word
@@ -52,3 +54,7 @@ WordsReadAgain = (words : List (List ℕ)) → AreClean words → words_of (join
 abbrev pub LinesReadAgain : Type 0
 LinesReadAgain =
     (rows : List (List (List ℕ))) → AreRows rows → lines_of (text_of rows) ≡ map (join_with_byte 32) rows
+
+-- a number that is written is read again, where its magnitude is within the bound
+abbrev pub NumbersReadAgain : Type 0
+NumbersReadAgain = (z : ℤ) (max : ℕ) → nat_abs z ≤ max → max < 2 ^ 63 → number_in (signed_decimal z) max ≡ Number z

@@ -1,7 +1,7 @@
 //! The laws of texts, words and numbers.
 ghost use Rattle.spec_text.specs.Laws.{DecimalsAreClean, LiteralsAreClean, DecimalsDiffer, LiteralsDiffer};
 ghost use Rattle.spec_text.specs.Laws.{WordsAgain, LinesAgain, TextsDiffer, JoinedWordByWord};
-ghost use Rattle.spec_text.specs.Laws.{WordsReadAgain, LinesReadAgain};
+ghost use Rattle.spec_text.specs.Laws.{WordsReadAgain, LinesReadAgain, NumbersReadAgain};
 ghost use Rattle.spec_text.specs.Examples.{NumberExamples, TextExamples};
 
 /// A written number is a clean word: it is not empty and has neither blanks nor line ends.
@@ -62,6 +62,12 @@ pub fn words_read_again()
 #[tactic(auto, using(crate::proofs::Read::lines_read_again))]
 pub fn lines_read_again()
     ensures { LinesReadAgain }
+{}
+
+/// A written number is read again.
+#[tactic(auto, using(crate::proofs::Numerals::numbers_read_again))]
+pub fn numbers_read_again()
+    ensures { NumbersReadAgain }
 {}
 
 /// What small words are read as where a number is wanted.

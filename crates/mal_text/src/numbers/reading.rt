@@ -21,8 +21,8 @@ pub fn number(word: &[u8], max: u64) -> Result<i64, NumberFault>
     }
 }
 
-/// Reads a number without a sign.
-fn magnitude(word: &[u8], max: u64) -> Result<u64, NumberFault>
+/// Reads a number without a sign, of at most `max`: one digit or more. Leading zeros are allowed.
+pub fn magnitude(word: &[u8], max: u64) -> Result<u64, NumberFault>
     ensures { magnitude_word_of result ≡ magnitude_in word.now max }
 {
     if !is_numeral(word) {
