@@ -56,6 +56,13 @@ impl Formula {
     {
         self.clauses.as_slice()
     }
+
+    /// The clauses themselves; the formula is given up. Takes no memory.
+    pub fn into_clauses(self) -> Vec<Option<Clause>>
+        ensures { result.items ≡ self.clauses }
+    {
+        self.clauses
+    }
 }
 
 /// Whether so many variables and these clauses are a formula.

@@ -1,0 +1,236 @@
+//! A reader of one block: a header and the lines of clauses behind it.
+
+ghost use Rattle.std.specs.Prelude.{◌≡◌, ◌≤◌, ◌∷◌, ◌++◌, [], true, nat_abs, Ok, ℤ};
+ghost use Rattle.std.specs.List.{list_all};
+ghost use Rattle.mal_base.specs.Formulas.{is_clause_of, is_within, size_of};
+ghost use Rattle.spec_text.specs.Inputs.{words_of};
+ghost use Rattle.spec_text.specs.Numbers.{number_in};
+ghost use Rattle.spec_dimacs.specs.Merged.{clause_of};
+ghost use Rattle.spec_dimacs.specs.Blocks.{IsBlock};
+ghost use Rattle.spec_dimacs.specs.Reading.{Block, after_counted, after_number, after_percent, after_row, after_words, after_zero, block_of, closed, code_of, ended, opened};
+ghost use Rattle.mal_dimacs.specs.Reads.{Gives, Leaves};
+ghost use Rattle.spec_dimacs.specs.declared.stage.Stage.TheVariants as stage;
+
+use crate::fault::DimacsError;
+use crate::header::counts;
+use crate::words::{clause_of, is_comment, is_p, is_percent, is_zero, literal, size};
+use mal_base::{Clause, Formula, Lit, Which};
+use mal_text::{NumberFault, first_word, number};
+use spec_dimacs::{BlockFault, Stage};
+use std::alloc::Global;
+use std::marker::Model;
+
+/// A block of which some lines are read: the header, and then lines of clauses. Contracts see the numbers of the header,
+/// the clauses that are closed, and the literals that wait for a 0.
+#[derive(Drop)]
+pub struct BlockReader {
+    alloc: Global,
+    variables: u32,
+    declared: u32,
+    clauses: Vec<Option<Clause>>,
+    found: u64,
+    literals: u32,
+    pending: Vec<Lit>,
+    stage: Stage,
+}
+
+impl Model for BlockReader {
+    ghost use Rattle.spec_dimacs.specs.Blocks.{IsBlock};
+    ghost use Rattle.spec_dimacs.specs.Reading.{Block};
+
+    ghost Value = { Block };
+
+    ghost view = { λ b. record { variables = b.variables; declared = b.declared; clauses = b.clauses.items; found = b.found; literals = b.literals; pending = b.pending.items; stage = b.stage } };
+
+    ghost invariant = { λ b. IsBlock (record { variables = b.variables; declared = b.declared; clauses = b.clauses.items; found = b.found; literals = b.literals; pending = b.pending.items; stage = b.stage }) };
+}
+
+impl BlockReader {
+    /// The reader behind a header line, `p cnf V C` with at most 65,536 variables and 2^20 clauses.
+    ///
+    /// Errors: `BadHeader` for any other words and for negative numbers, then `Limit` for too many variables, and then
+    /// for too many clauses.
+    pub fn of_header(alloc: Global, line: &[u8]) -> Result<BlockReader, BlockFault>
+        ensures { result ≡ opened (words_of line.now) }
+    {
+        match counts(line) {
+            Ok((variables, declared)) => Ok(BlockReader {
+                alloc,
+                variables,
+                declared,
+                clauses: Vec::new(alloc),
+                found: 0,
+                literals: 0,
+                pending: Vec::new(alloc),
+                stage: Stage::Clauses,
+            }),
+            Err(fault) => Err(fault),
+        }
+    }
+
+    /// The reader behind one more line: a line of numbers, an empty line, a comment, the line `%`, or one that may stand
+    /// behind it.
+    ///
+    /// Errors: the first fault of the line by its words from left to right, or `OutOfMemory`.
+    pub fn row(self, line: &[u8]) -> Result<BlockReader, DimacsError>
+        ensures { Gives result (after_row (words_of line.now) self) }
+    {
+        let Some((first, rest)) = first_word(line) else {
+            return Ok(self);
+        };
+        if is_comment(first) {
+            return Ok(self);
+        }
+        if is_p(first) {
+            return Err(DimacsError::Fault(BlockFault::BadHeader));
+        }
+        self.counted_row(line, first, rest)
+    }
+
+    /// The reader behind a line that counts and does not begin with `p`.
+    fn counted_row(self, line: &[u8], first: &[u8], rest: &[u8]) -> Result<BlockReader, DimacsError>
+        requires { words_of line.now ≡ first.now ∷ words_of rest.now }
+        ensures { Gives result (after_counted self.stage first.now (words_of rest.now) self) }
+    {
+        match self.stage {
+            Stage::Clauses => self.clause_row(line, first, rest),
+            Stage::Percent => self.zero_row(first, rest),
+            Stage::Zero => Err(DimacsError::Fault(BlockFault::Trailing)),
+        }
+    }
+
+    /// The reader behind a line of clauses, or the line `%`.
+    fn clause_row(self, line: &[u8], first: &[u8], rest: &[u8]) -> Result<BlockReader, DimacsError>
+        requires { words_of line.now ≡ first.now ∷ words_of rest.now }
+        ensures { Gives result (after_counted stage.Clauses first.now (words_of rest.now) self) }
+    {
+        if is_percent(first) {
+            self.percent_row(rest)
+        } else {
+            self.number_row(line)
+        }
+    }
+
+    /// The reader behind the line `%`, given what stands behind that word.
+    fn percent_row(self, rest: &[u8]) -> Result<BlockReader, DimacsError>
+        ensures { Gives result (after_percent (words_of rest.now) self) }
+    {
+        match first_word(rest) {
+            None => Ok(self.at(Stage::Percent)),
+            Some(_) => Err(DimacsError::Fault(BlockFault::Trailing)),
+        }
+    }
+
+    /// The reader behind the line `0`.
+    fn zero_row(self, first: &[u8], rest: &[u8]) -> Result<BlockReader, DimacsError>
+        ensures { Gives result (after_zero first.now (words_of rest.now) self) }
+    {
+        match first_word(rest) {
+            None if is_zero(first) => Ok(self.at(Stage::Zero)),
+            _ => Err(DimacsError::Fault(BlockFault::Trailing)),
+        }
+    }
+
+    /// The same reader at another stage.
+    fn at(self, stage: Stage) -> BlockReader
+        ensures { result ≡ record self { stage = stage } }
+    {
+        let mut reader = self;
+        reader.stage = stage;
+        reader
+    }
+
+    /// The reader behind a line of numbers.
+    fn number_row(self, line: &[u8]) -> Result<BlockReader, DimacsError>
+        ensures { Gives result (after_words (words_of line.now) self) }
+    {
+        let mut reader = self;
+        reader.read_numbers(line)?;
+        Ok(reader)
+    }
+
+    /// Reads the numbers of a line.
+    fn read_numbers(&mut self, line: &[u8]) -> Result<(), DimacsError>
+        ensures { Leaves result self.new (after_words (words_of line.now) self.old) }
+    {
+        let mut rest = line;
+        while let Some((word, behind)) = first_word(rest) {
+            self.read_word(word)?;
+            rest = behind;
+        }
+        Ok(())
+    }
+
+    /// Reads a word, which is a literal or the 0 that closes a clause.
+    fn read_word(&mut self, word: &[u8]) -> Result<(), DimacsError>
+        ensures { Leaves result self.new (after_number (number_in word.now self.old.variables) self.old) }
+    {
+        match number(word, u64::from(self.variables)) {
+            Err(NumberFault::NotANumber) => Err(DimacsError::Fault(BlockFault::BadNumber)),
+            Err(NumberFault::TooLarge) => Err(DimacsError::Fault(BlockFault::VarTooLarge)),
+            Ok(0) => self.close(),
+            Ok(number) => self.push(number),
+        }
+    }
+
+    /// Puts a literal behind those that wait for a 0.
+    fn push(&mut self, number: i64) -> Result<(), DimacsError>
+        requires some { 1 ≤ nat_abs number }
+        requires bound { nat_abs number ≤ self.old.variables }
+        ensures { Leaves result self.new (Ok (record self.old { pending = self.old.pending ++ code_of number ∷ [] })) }
+    {
+        self.pending.push(literal(number))?;
+        Ok(())
+    }
+
+    /// Closes the literals that wait for a 0.
+    fn close(&mut self) -> Result<(), DimacsError>
+        ensures { Leaves result self.new (closed (clause_of self.old.pending) self.old) }
+    {
+        let clause = clause_of(self.alloc, self.variables, self.pending.as_slice())?;
+        self.add(clause)
+    }
+
+    /// Adds a closed clause, where the limit of the literals allows it. It is kept where it is one of those declared.
+    fn add(&mut self, clause: Option<Clause>) -> Result<(), DimacsError>
+        requires { is_clause_of self.old.variables clause ≡ true }
+        ensures { Leaves result self.new (closed clause self.old) }
+    {
+        let size = size(&clause);
+        let left = (1 << 24) - self.literals as usize;
+        if size > left {
+            return Err(DimacsError::Fault(BlockFault::Limit {
+                which: Which::Literals,
+            }));
+        }
+        if self.clauses.len() < self.declared as usize {
+            self.clauses.push(clause)?;
+        }
+        self.found = self.found.saturating_add(1);
+        self.literals += size as u32;
+        self.pending.clear();
+        Ok(())
+    }
+
+    /// The formula of the whole block.
+    ///
+    /// Errors: `ClauseCount` where there are not as many clauses as declared, and then `Trailing` where literals wait for
+    /// a 0.
+    pub fn finish(self) -> Result<Formula, BlockFault>
+        ensures { result ≡ ended self }
+    {
+        if self.found != u64::from(self.declared) {
+            return Err(BlockFault::ClauseCount {
+                declared: self.declared,
+                found: self.found,
+            });
+        }
+        if !self.pending.is_empty() {
+            return Err(BlockFault::Trailing);
+        }
+        match Formula::new(self.variables, self.clauses) {
+            Some(formula) => Ok(formula),
+            None => unreachable!(),
+        }
+    }
+}

@@ -1,0 +1,19 @@
+//! DIMACS CNF: reading and writing formulas. A reader of one block of lines stands beside the reader of a whole text, for
+//! formats that have such blocks among other lines.
+#![tactic(auto)]
+
+mod block;
+mod fault;
+mod header;
+mod reading;
+mod words;
+mod writing;
+
+pub use block::BlockReader;
+pub use fault::{DimacsError, DimacsFault};
+pub use reading::read;
+pub use spec_dimacs::BlockFault;
+pub use writing::write;
+
+#[cfg(test)]
+mod tests;

@@ -1,0 +1,93 @@
+//! Reading a text of DIMACS CNF.
+
+ghost use Rattle.std.specs.Prelude.{◌≡◌, true, None, IfOk, MatchResult};
+ghost use Rattle.mal_base.specs.Formulas.{Formulated, is_formula};
+ghost use Rattle.spec_dimacs.specs.Grammar.{Spells};
+ghost use Rattle.spec_dimacs.specs.Written.{spelling};
+ghost use Rattle.mal_dimacs.specs.declared.fault.DimacsFault.TheVariants.{OutOfMemory};
+ghost use Rattle.spec_text.specs.Inputs.{words_of};
+ghost use Rattle.spec_dimacs.specs.Reading.{after_line, at_end, read_text};
+ghost use Rattle.mal_dimacs.specs.Reads.{Gives, GivesAt};
+
+use crate::block::BlockReader;
+use crate::fault::{DimacsError, DimacsFault};
+use crate::words::is_passed;
+use mal_base::Formula;
+use mal_text::first_line;
+use spec_dimacs::BlockFault;
+use std::alloc::Global;
+
+/// The formula of a text of DIMACS CNF: comments and empty lines, a header `p cnf V C`, numbers that are C clauses, each
+/// closed by a 0, and maybe a line `%` and a line `0`.
+///
+/// Errors: the first fault of the text, from its beginning, with its line; faults at the end are on the last line.
+/// `OutOfMemory` may come at any time.
+pub fn read(alloc: Global, text: &[u8]) -> Result<Formula, DimacsFault>
+    ensures exact { GivesAt result (read_text text.now) }
+    ensures spelled { IfOk result (λ f. Spells text.now f) }
+    ensures read { (f : Formulated) → Spells text.now f → MatchResult result (λ g. g ≡ f) (λ e. e ≡ OutOfMemory) }
+    ensures again { (f : Formulated) → is_formula f ≡ true → text.now ≡ spelling f → MatchResult result (λ g. g ≡ f) (λ e. e ≡ OutOfMemory) }
+{
+    first(alloc, text)
+}
+
+/// The formula of a text, or its first fault with its line.
+fn first(alloc: Global, text: &[u8]) -> Result<Formula, DimacsFault>
+    ensures { GivesAt result (read_text text.now) }
+{
+    let mut rest = text;
+    let mut line: u64 = 0;
+    let mut reader = None;
+    while let Some((row, behind)) = first_line(rest) {
+        line += 1;
+        match next(alloc, reader, row) {
+            Ok(read) => reader = read,
+            Err(error) => return Err(error.on_line(line)),
+        }
+        rest = behind;
+    }
+    match finish(reader) {
+        Ok(formula) => Ok(formula),
+        Err(fault) => Err(DimacsFault::Fault {
+            line: line.max(1),
+            fault,
+        }),
+    }
+}
+
+/// The reader behind a line of a text, none before the header.
+fn next(
+    alloc: Global,
+    reader: Option<BlockReader>,
+    line: &[u8],
+) -> Result<Option<BlockReader>, DimacsError>
+    ensures { Gives result (after_line (words_of line.now) reader) }
+{
+    match reader {
+        None => before_header(alloc, line),
+        Some(reader) => Ok(Some(reader.row(line)?)),
+    }
+}
+
+/// The reader behind a line before which only such lines stand as are passed over.
+fn before_header(alloc: Global, line: &[u8]) -> Result<Option<BlockReader>, DimacsError>
+    ensures { Gives result (after_line (words_of line.now) None) }
+{
+    if is_passed(line) {
+        return Ok(None);
+    }
+    match BlockReader::of_header(alloc, line) {
+        Ok(reader) => Ok(Some(reader)),
+        Err(fault) => Err(DimacsError::Fault(fault)),
+    }
+}
+
+/// The formula at the end of a text.
+fn finish(reader: Option<BlockReader>) -> Result<Formula, BlockFault>
+    ensures { result ≡ at_end reader }
+{
+    match reader {
+        None => Err(BlockFault::BadHeader),
+        Some(reader) => reader.finish(),
+    }
+}

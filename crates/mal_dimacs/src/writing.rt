@@ -1,0 +1,92 @@
+//! Writing formulas as DIMACS CNF.
+
+ghost use Rattle.std.specs.Prelude.{◌≡◌, ◌++◌, flat_map, length, codes, IfOk, OnOk};
+ghost use Rattle.spec_text.specs.Lines.{line_of};
+ghost use Rattle.spec_text.specs.Numbers.{number_of};
+ghost use Rattle.spec_dimacs.specs.Written.{clause_words, closed_words, header_words, spelling};
+ghost use Rattle.mal_dimacs.specs.Spaced.{spaced};
+
+use itoa::Buffer;
+use mal_base::{Clause, Formula, Lit};
+use mal_text::{put_line, put_number};
+use std::alloc::{AllocError, Global};
+
+/// The text of a formula: a header, and a line for each clause with its literals by rising variable. A tautology is
+/// written as the literals 1 and -1.
+pub fn write(alloc: Global, formula: &Formula) -> Result<Vec<u8>, AllocError>
+    ensures { IfOk result (λ text. text.items ≡ spelling formula.now) }
+{
+    let mut out = Vec::new(alloc);
+    put_header(&mut out, formula.variables(), formula.clauses().len())?;
+    put_clauses(&mut out, formula.clauses())?;
+    Ok(out)
+}
+
+/// Writes a header line.
+fn put_header(out: &mut Vec<u8>, variables: u32, clauses: usize) -> Result<(), AllocError>
+    ensures { OnOk result (out.new.items ≡ out.old.items ++ line_of (header_words variables clauses)) }
+{
+    let mut variables_word = Buffer::new();
+    let mut clauses_word = Buffer::new();
+    let words = [
+        b"cnf".as_slice(),
+        variables_word.format(variables).as_bytes(),
+        clauses_word.format(clauses).as_bytes(),
+    ];
+    put_line(out, b"p", &words)?;
+    Ok(())
+}
+
+/// Writes a line for each clause.
+fn put_clauses(out: &mut Vec<u8>, clauses: &[Option<Clause>]) -> Result<(), AllocError>
+    ensures { OnOk result (out.new.items ≡ out.old.items ++ flat_map (λ c. line_of (clause_words c)) clauses.now) }
+{
+    for clause in clauses {
+        put_clause(out, clause)?;
+    }
+    Ok(())
+}
+
+/// Writes the line of a clause, or of a tautology.
+fn put_clause(out: &mut Vec<u8>, clause: &Option<Clause>) -> Result<(), AllocError>
+    ensures { OnOk result (out.new.items ≡ out.old.items ++ line_of (clause_words clause.now)) }
+{
+    match clause {
+        None => {
+            put_line(out, b"1", &[b"-1", b"0"])?;
+            Ok(())
+        }
+        Some(clause) => {
+            put_closed(out, clause.lits())?;
+            Ok(())
+        }
+    }
+}
+
+/// Writes literals, each with a space behind it, and then a 0 and the line end.
+fn put_closed(out: &mut Vec<u8>, lits: &[Lit]) -> Result<(), AllocError>
+    ensures { OnOk result (out.new.items ≡ out.old.items ++ line_of (closed_words lits.now)) }
+{
+    for lit in lits {
+        put_literal(out, *lit)?;
+    }
+    out.extend_from_slice(b"0\n")?;
+    Ok(())
+}
+
+/// Writes a literal and a space.
+fn put_literal(out: &mut Vec<u8>, lit: Lit) -> Result<(), AllocError>
+    ensures { OnOk result (out.new.items ≡ out.old.items ++ spaced lit) }
+{
+    put_number(out, dimacs(lit))?;
+    out.push(b' ')?;
+    Ok(())
+}
+
+/// The number that stands for a literal.
+fn dimacs(lit: Lit) -> i64
+    ensures { result ≡ number_of lit }
+{
+    let var = i64::from(lit.var().number());
+    if lit.is_positive() { var } else { -var }
+}

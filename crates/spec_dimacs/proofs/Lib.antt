@@ -1,0 +1,9 @@
+pub mod Merging
+pub mod Numbers
+pub mod Steps
+pub mod Behind
+pub mod Spelled
+pub mod Again
+pub mod Firsts
+pub mod Laws
+pub mod Examples

@@ -1,0 +1,12 @@
+//! Where in a block a reader is.
+
+/// Where in a block of DIMACS CNF a reader is.
+#[derive(Clone, Copy, Debug, PartialEq, Eq, Drop)]
+pub enum Stage {
+    /// Among the clauses.
+    Clauses,
+    /// Behind the line `%`.
+    Percent,
+    /// Behind the line `0` that may follow the line `%`.
+    Zero,
+}
