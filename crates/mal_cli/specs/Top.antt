@@ -1,11 +1,19 @@
 -- What a call of the program does to its source, its log and its output, by the status that it answers.
-use Rattle.std.specs.Prelude.{◌≡◌, ◌+◌, ◌^◌, ◌<◌, ◌≤◌, ℕ, List, [], ◌∷◌, ◌++◌, ◌⊎◌, length, drop, codes, Option, Some, None}
+use Rattle.std.specs.Prelude.{◌≡◌, ◌+◌, ◌^◌, ◌<◌, ◌≤◌, ℕ, List, [], ◌∷◌, ◌++◌, ◌⊎◌, length, drop, codes, Option, Some, None, Err}
 use Rattle.std.specs.Io.KnownBytes.{Consumes, Appends, IsAtEnd}
 use Rattle.mal_io.specs.Moves.{GotFront}
+use Rattle.mal_cli.specs.declared.refusal.Refusal.{Refusal}
+use Rattle.mal_cli.specs.declared.refusal.Refusal.TheVariants as refusal
+use Rattle.mal_script.specs.declared.fault.ScriptFault.{ScriptFault}
+use Rattle.mal_script.specs.Given.{Tells}
 use Rattle.spec_hall.specs.Events.{Event}
 use Rattle.spec_run.specs.Run.{IsRun}
-use Rattle.spec_script.specs.Plain.{IsPlain, IsPlainText}
-use Rattle.spec_script.specs.Script.{Scripted, spelling}
+use Rattle.spec_script.specs.declared.fault.LineFault.{LineFault}
+use Rattle.spec_script.specs.FaultLines.{fault_line}
+use Rattle.spec_script.specs.Grammar.{Spells}
+use Rattle.spec_script.specs.Limits.{served}
+use Rattle.spec_script.specs.Reading.{read_text}
+use Rattle.spec_script.specs.Script.{Scripted}
 
 -- the words after the program's name are those of a run with one worker
 abbrev pub IsRunWords : List (List ℕ) → Type 0
@@ -19,24 +27,27 @@ usage_line = codes "usage: mal run --workers N, check, replay, gen --seed S --jo
 abbrev pub too_long_line : List ℕ
 too_long_line = codes "fault: input too long" ++ 10 ∷ []
 
--- the line for an input that is no plain script
-abbrev pub not_plain_line : List ℕ
-not_plain_line = codes "fault: script not plain" ++ 10 ∷ []
+-- a text spells a script that is served
+abbrev pub IsScriptText : List ℕ → Type 0
+IsScriptText text = (s : Scripted) × Spells served text s
 
--- an input is known, and is a plain script within the limit of 2^26 bytes
+-- the line tells the first fault of a text
+abbrev pub IsFirstFault : List ℕ → List ℕ → Type 0
+IsFirstFault text line = (n : ℕ) × (fault : LineFault) × (read_text served text ≡ Err (n, fault)) × (line ≡ fault_line n fault)
+
+-- an input is known, and is a script within the limit of 2^26 bytes
 abbrev pub IsScript : Option (List ℕ) → Type 0
 IsScript None = ⊥
-IsScript (Some input) = (length input ≤ 2 ^ 26) × IsPlainText input
+IsScript (Some input) = (length input ≤ 2 ^ 26) × IsScriptText input
 
--- an input is known, and is above the limit of 2^26 bytes or no plain script
+-- an input is known, and is above the limit of 2^26 bytes or no script
 abbrev pub IsNoScript : Option (List ℕ) → Type 0
 IsNoScript None = ⊥
-IsNoScript (Some input) = (2 ^ 26 < length input) ⊎ (IsPlainText input → ⊥)
+IsNoScript (Some input) = (2 ^ 26 < length input) ⊎ (IsScriptText input → ⊥)
 
--- a text spells a plain script, and the script was run with one worker: these are the texts of its log and its output
+-- a text spells a script, and the script was run with one worker: these are the texts of its log and its output
 pub record IsAnswer (text : List ℕ) (s : Scripted) (history : List Event) (log_text out_text : List ℕ) : Type 0 where
-  pub plain : IsPlain s
-  pub spelled : text ≡ spelling s
+  pub spelled : Spells served text s
   pub run : IsRun 1 s history log_text out_text
 
 -- both texts were written whole
@@ -50,19 +61,19 @@ WrotePart log log_now out out_now log_text out_text =
     (((front : List ℕ) × GotFront log log_now log_text front) × Appends out out_now [])
     ⊎ (Appends log log_now log_text × ((front : List ℕ) × GotFront out out_now out_text front))
 
--- the source gave a plain script to its end; the log gained the text of a run's history, the output its replies
-pub record RanWhole (before now log log_now out out_now : Option (List ℕ)) (s : Scripted) (history : List Event) (log_text out_text : List ℕ) : Type 0 where
-  pub plain : IsPlain s
-  pub consumed : Consumes before now (spelling s)
+-- the source gave the text of a script to its end; the log gained the text of a run's history, the output its replies
+pub record RanWhole (before now log log_now out out_now : Option (List ℕ)) (text : List ℕ) (s : Scripted) (history : List Event) (log_text out_text : List ℕ) : Type 0 where
+  pub spelled : Spells served text s
+  pub consumed : Consumes before now text
   pub ended : IsAtEnd now
   pub run : IsRun 1 s history log_text out_text
   pub logged : Appends log log_now log_text
   pub replied : Appends out out_now out_text
 
--- the source gave a plain script to its end; what was written is a front of the texts of a run, the log's first
-pub record RanPart (before now log log_now out out_now : Option (List ℕ)) (s : Scripted) (history : List Event) (log_text out_text : List ℕ) : Type 0 where
-  pub plain : IsPlain s
-  pub consumed : Consumes before now (spelling s)
+-- the source gave the text of a script to its end; what was written is a front of the texts of a run, the log's first
+pub record RanPart (before now log log_now out out_now : Option (List ℕ)) (text : List ℕ) (s : Scripted) (history : List Event) (log_text out_text : List ℕ) : Type 0 where
+  pub spelled : Spells served text s
+  pub consumed : Consumes before now text
   pub ended : IsAtEnd now
   pub run : IsRun 1 s history log_text out_text
   pub wrote : WrotePart log log_now out out_now log_text out_text
@@ -72,11 +83,11 @@ pub record Complained (log log_now : Option (List ℕ)) (rose : Type 0) (line : 
   pub front : (front : List ℕ) × GotFront log log_now line front
   pub whole : (rose → ⊥) → Appends log log_now line
 
--- the bytes that were taken are refused, and the line says why: one more than the limit, or to the end and no plain script
+-- the bytes that were taken are refused, and the line says why: one more than the limit, or to the end and the first fault
 abbrev pub IsRefusal : Option (List ℕ) → List ℕ → List ℕ → Type 0
 IsRefusal now taken line =
     ((length taken ≡ 2 ^ 26 + 1) × (line ≡ too_long_line))
-    ⊎ (IsAtEnd now × (IsPlainText taken → ⊥) × (line ≡ not_plain_line))
+    ⊎ (IsAtEnd now × (IsScriptText taken → ⊥) × IsFirstFault taken line)
 
 -- the source gave bytes that are refused; the log gained the line that says why, the output nothing
 pub record WasRefused (before now log log_now out out_now : Option (List ℕ)) (rose : Type 0) (taken line : List ℕ) : Type 0 where
@@ -84,3 +95,13 @@ pub record WasRefused (before now log log_now out out_now : Option (List ℕ)) (
   pub cause : IsRefusal now taken line
   pub complained : Complained log log_now rose line
   pub unanswered : Appends out out_now []
+
+-- why a text is not answered: the line tells its first fault, or memory ran out
+abbrev pub Refuses : List ℕ → Refusal → Type 0
+Refuses text (refusal.Line line) = (IsScriptText text → ⊥) × IsFirstFault text line.items
+Refuses text refusal.OutOfMemory = Unit {0}
+
+-- the refusal tells a fault, or memory ran out
+abbrev pub TellsFault : ScriptFault → Refusal → Type 0
+TellsFault fault (refusal.Line line) = Tells fault line.items
+TellsFault fault refusal.OutOfMemory = Unit {0}

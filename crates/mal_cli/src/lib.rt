@@ -2,6 +2,7 @@
 #![tactic(auto)]
 
 mod program;
+mod refusal;
 mod run;
 
 pub use program::top;

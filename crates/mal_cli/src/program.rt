@@ -1,16 +1,16 @@
 //! The program from its words and its devices to its exit status.
 
-ghost use Rattle.std.specs.Prelude.{◌≡◌, ◌↔◌, ◌⊎◌, ℕ, List, [], map, IfOk, IsErrOf, IsTrue, OnOk, OnErr, string_bytes, codes};
+ghost use Rattle.std.specs.Prelude.{◌≡◌, ◌↔◌, ◌⊎◌, ℕ, List, [], map, IfOk, IfErr, IsTrue, OnOk, OnErr, string_bytes, codes};
 ghost use Rattle.std.specs.Io.KnownBytes.{Appends};
-ghost use Rattle.mal_cli.specs.Top.{IsRunWords, IsScript, IsNoScript, IsAnswer, WroteWhole, WrotePart, RanWhole, RanPart, Complained, WasRefused, usage_line, not_plain_line};
+ghost use Rattle.mal_cli.specs.Top.{IsRunWords, IsScript, IsNoScript, IsAnswer, WroteWhole, WrotePart, RanWhole, RanPart, Complained, WasRefused, IsScriptText, IsFirstFault, Refuses, usage_line};
 ghost use Rattle.mal_io.specs.Moves.{Rose};
 ghost use Rattle.spec_hall.specs.Events.{Event};
-ghost use Rattle.spec_script.specs.Plain.{IsPlainText};
 ghost use Rattle.spec_script.specs.Script.{Scripted};
 
+use crate::refusal::{Refusal, refusal_of};
 use crate::run::{Ran, run_script};
 use mal_io::{ReadAllError, Sink, Source, WriteFault, read_all, write_all};
-use mal_script::{ScriptFault, read};
+use mal_script::read;
 use std::alloc::Global;
 
 /// The texts of a run were written whole.
@@ -19,7 +19,7 @@ const DONE: u8 = 0;
 /// The arguments are refused.
 const BAD_WORDS: u8 = 2;
 
-/// The input is too long or no plain script.
+/// The input is too long or no script.
 const REFUSED_INPUT: u8 = 3;
 
 /// The source failed.
@@ -39,16 +39,14 @@ const USAGE: &[u8] =
 
 const TOO_LONG: &[u8] = b"fault: input too long\n";
 
-const NOT_PLAIN: &[u8] = b"fault: script not plain\n";
-
-/// The program: runs the plain script that `source` gives with one worker, writes the text of the history to `log` and
+/// The program: runs the script that `source` gives with one worker, writes the text of the history to `log` and
 /// then the replies to `out`, and answers the exit status. `words` are the program's name and its arguments.
 ///
 /// | Status | Comes |
 /// |---|---|
 /// | 0 | done |
 /// | 2 | exactly where the arguments are not `run --workers 1`; the log gains the usage line |
-/// | 3 | the input is above 2^26 bytes or no plain script; the log gains the line that says which |
+/// | 3 | the input is above 2^26 bytes or no script that is served; the log gains the line that says so, or the first fault and its line |
 /// | 4 | only where the source failed; nothing is written |
 /// | 5 | only where a sink failed; what was written is a front of the log's text and then the replies |
 /// | 6 | memory ran out; nothing is written |
@@ -60,14 +58,14 @@ pub fn top<S: Source, K: Sink, L: Sink>(
     out: &mut K,
     log: &mut L,
 ) -> u8
-    ensures done { result ≡ 0 → (s : Scripted) × (history : List Event) × (log_text out_text : List ℕ) × RanWhole (S.left source.old) (S.left source.new) (L.got log.old) (L.got log.new) (K.got out.old) (K.got out.new) s history log_text out_text }
+    ensures done { result ≡ 0 → (text : List ℕ) × (s : Scripted) × (history : List Event) × (log_text out_text : List ℕ) × RanWhole (S.left source.old) (S.left source.new) (L.got log.old) (L.got log.new) (K.got out.old) (K.got out.new) text s history log_text out_text }
     ensures usage { (result ≡ 2) ↔ (IsRunWords (map string_bytes words.now) → ⊥) }
     ensures usage_line { result ≡ 2 → Complained (L.got log.old) (L.got log.new) (Rose (L.faults log.old) (L.faults log.new)) usage_line × Appends (K.got out.old) (K.got out.new) [] }
     ensures refused { result ≡ 3 → (taken line : List ℕ) × WasRefused (S.left source.old) (S.left source.new) (L.got log.old) (L.got log.new) (K.got out.old) (K.got out.new) (Rose (L.faults log.old) (L.faults log.new)) taken line }
     ensures refuses { IsRunWords (map string_bytes words.now) → IsNoScript (S.left source.old) → (Rose (S.faults source.old) (S.faults source.new) → ⊥) → (result ≡ 3) ⊎ (result ≡ 6) }
     ensures read_fault { result ≡ 4 → Rose (S.faults source.old) (S.faults source.new) }
     ensures write_fault { result ≡ 5 → Rose (L.faults log.old) (L.faults log.new) ⊎ Rose (K.faults out.old) (K.faults out.new) }
-    ensures part { result ≡ 5 → (s : Scripted) × (history : List Event) × (log_text out_text : List ℕ) × RanPart (S.left source.old) (S.left source.new) (L.got log.old) (L.got log.new) (K.got out.old) (K.got out.new) s history log_text out_text }
+    ensures part { result ≡ 5 → (text : List ℕ) × (s : Scripted) × (history : List Event) × (log_text out_text : List ℕ) × RanPart (S.left source.old) (S.left source.new) (L.got log.old) (L.got log.new) (K.got out.old) (K.got out.new) text s history log_text out_text }
     ensures complete { IsRunWords (map string_bytes words.now) → IsScript (S.left source.old) → (Rose (S.faults source.old) (S.faults source.new) → ⊥) → (Rose (L.faults log.old) (L.faults log.new) → ⊥) → (Rose (K.faults out.old) (K.faults out.new) → ⊥) → (result ≡ 0) ⊎ (result ≡ 6) }
     ensures silent { (result ≡ 4) ⊎ (result ≡ 6) → Appends (L.got log.old) (L.got log.new) [] × Appends (K.got out.old) (K.got out.new) [] }
     ensures statuses { (result ≡ 0) ⊎ (result ≡ 2) ⊎ (result ≡ 3) ⊎ (result ≡ 4) ⊎ (result ≡ 5) ⊎ (result ≡ 6) }
@@ -100,15 +98,15 @@ fn is_run(command: &str, option: &str, workers: &str) -> bool
     command == "run" && option == "--workers" && workers == "1"
 }
 
-/// Runs the plain script that `source` gives.
+/// Runs the script that `source` gives.
 #[tactic(auto, using(crate::proofs::Inputs::input_lemmas))]
 fn serve<S: Source, K: Sink, L: Sink>(alloc: Global, source: &mut S, out: &mut K, log: &mut L) -> u8
-    ensures done { result ≡ 0 → (s : Scripted) × (history : List Event) × (log_text out_text : List ℕ) × RanWhole (S.left source.old) (S.left source.new) (L.got log.old) (L.got log.new) (K.got out.old) (K.got out.new) s history log_text out_text }
+    ensures done { result ≡ 0 → (text : List ℕ) × (s : Scripted) × (history : List Event) × (log_text out_text : List ℕ) × RanWhole (S.left source.old) (S.left source.new) (L.got log.old) (L.got log.new) (K.got out.old) (K.got out.new) text s history log_text out_text }
     ensures refused { result ≡ 3 → (taken line : List ℕ) × WasRefused (S.left source.old) (S.left source.new) (L.got log.old) (L.got log.new) (K.got out.old) (K.got out.new) (Rose (L.faults log.old) (L.faults log.new)) taken line }
     ensures refuses { IsNoScript (S.left source.old) → (Rose (S.faults source.old) (S.faults source.new) → ⊥) → (result ≡ 3) ⊎ (result ≡ 6) }
     ensures read_fault { result ≡ 4 → Rose (S.faults source.old) (S.faults source.new) }
     ensures write_fault { result ≡ 5 → Rose (L.faults log.old) (L.faults log.new) ⊎ Rose (K.faults out.old) (K.faults out.new) }
-    ensures part { result ≡ 5 → (s : Scripted) × (history : List Event) × (log_text out_text : List ℕ) × RanPart (S.left source.old) (S.left source.new) (L.got log.old) (L.got log.new) (K.got out.old) (K.got out.new) s history log_text out_text }
+    ensures part { result ≡ 5 → (text : List ℕ) × (s : Scripted) × (history : List Event) × (log_text out_text : List ℕ) × RanPart (S.left source.old) (S.left source.new) (L.got log.old) (L.got log.new) (K.got out.old) (K.got out.new) text s history log_text out_text }
     ensures complete { IsScript (S.left source.old) → (Rose (S.faults source.old) (S.faults source.new) → ⊥) → (Rose (L.faults log.old) (L.faults log.new) → ⊥) → (Rose (K.faults out.old) (K.faults out.new) → ⊥) → (result ≡ 0) ⊎ (result ≡ 6) }
     ensures silent { (result ≡ 4) ⊎ (result ≡ 6) → Appends (L.got log.old) (L.got log.new) [] × Appends (K.got out.old) (K.got out.new) [] }
     ensures statuses { (result ≡ 0) ⊎ (result ≡ 3) ⊎ (result ≡ 4) ⊎ (result ≡ 5) ⊎ (result ≡ 6) }
@@ -124,12 +122,12 @@ fn serve<S: Source, K: Sink, L: Sink>(alloc: Global, source: &mut S, out: &mut K
     }
 }
 
-/// Runs the plain script that `text` spells, and writes what the run gives.
+/// Runs the script that `text` spells, and writes what the run gives.
 #[tactic(auto, using(crate::proofs::Inputs::input_lemmas))]
 fn reply<K: Sink, L: Sink>(alloc: Global, text: &[u8], out: &mut K, log: &mut L) -> u8
     ensures done { result ≡ 0 → (s : Scripted) × (history : List Event) × (log_text out_text : List ℕ) × IsAnswer text.now s history log_text out_text × WroteWhole (L.got log.old) (L.got log.new) (K.got out.old) (K.got out.new) log_text out_text }
-    ensures refused { result ≡ 3 → (IsPlainText text.now → ⊥) × Complained (L.got log.old) (L.got log.new) (Rose (L.faults log.old) (L.faults log.new)) not_plain_line × Appends (K.got out.old) (K.got out.new) [] }
-    ensures refuses { (IsPlainText text.now → ⊥) → (result ≡ 3) ⊎ (result ≡ 6) }
+    ensures refused { result ≡ 3 → (line : List ℕ) × (IsScriptText text.now → ⊥) × IsFirstFault text.now line × Complained (L.got log.old) (L.got log.new) (Rose (L.faults log.old) (L.faults log.new)) line × Appends (K.got out.old) (K.got out.new) [] }
+    ensures refuses { (IsScriptText text.now → ⊥) → (result ≡ 3) ⊎ (result ≡ 6) }
     ensures write_fault { result ≡ 5 → Rose (L.faults log.old) (L.faults log.new) ⊎ Rose (K.faults out.old) (K.faults out.new) }
     ensures part { result ≡ 5 → (s : Scripted) × (history : List Event) × (log_text out_text : List ℕ) × IsAnswer text.now s history log_text out_text × WrotePart (L.got log.old) (L.got log.new) (K.got out.old) (K.got out.new) log_text out_text }
     ensures silent { result ≡ 6 → Appends (L.got log.old) (L.got log.new) [] × Appends (K.got out.old) (K.got out.new) [] }
@@ -137,23 +135,26 @@ fn reply<K: Sink, L: Sink>(alloc: Global, text: &[u8], out: &mut K, log: &mut L)
 {
     match answer(alloc, text) {
         Ok(ran) => finish(&ran, out, log),
-        Err(ScriptFault::NotPlain) => {
-            complain(log, NOT_PLAIN);
+        Err(Refusal::Line(line)) => {
+            complain(log, line.as_slice());
             REFUSED_INPUT
         }
-        Err(ScriptFault::OutOfMemory) => OUT_OF_MEMORY,
+        Err(Refusal::OutOfMemory) => OUT_OF_MEMORY,
     }
 }
 
-/// What a run of the plain script that `text` spells gives.
-fn answer(alloc: Global, text: &[u8]) -> Result<Ran, ScriptFault>
+/// What a run of the script that `text` spells gives.
+#[tactic(auto, using(crate::proofs::Inputs::told_lemmas))]
+fn answer(alloc: Global, text: &[u8]) -> Result<Ran, Refusal>
     ensures ran { IfOk result (λ r. (s : Scripted) × (history : List Event) × IsAnswer text.now s history r.log.items r.out.items) }
-    ensures refused { IsErrOf result ScriptFault.NotPlain → IsPlainText text.now → ⊥ }
+    ensures refused { IfErr result (λ e. Refuses text.now e) }
 {
-    let script = read(alloc, text)?;
-    match run_script(alloc, &script) {
-        Ok(ran) => Ok(ran),
-        Err(_) => Err(ScriptFault::OutOfMemory),
+    match read(alloc, text) {
+        Ok(script) => match run_script(alloc, &script) {
+            Ok(ran) => Ok(ran),
+            Err(_) => Err(Refusal::OutOfMemory),
+        },
+        Err(fault) => Err(refusal_of(alloc, fault)),
     }
 }
 

@@ -7,6 +7,7 @@ mod scan;
 
 pub use fault::RevisionFault;
 pub use revision::Revision;
+pub use scan::opposite;
 
 #[cfg(test)]
 mod tests {

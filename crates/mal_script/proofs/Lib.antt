@@ -1,2 +1,3 @@
 pub mod Texts
-pub mod Again
+pub mod Steps
+pub mod Found

@@ -1,3 +1,2 @@
-pub mod Reads
 pub mod Spaced
-pub mod Parsed
+pub mod Given

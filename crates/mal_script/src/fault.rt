@@ -1,32 +1,108 @@
 //! Why a text is not read as a script.
 
 ghost use Rattle.std.specs.Prelude.{◌≡◌};
-ghost use Rattle.mal_script.specs.declared.fault.ScriptFault.TheVariants.{OutOfMemory};
+ghost use Rattle.mal_script.specs.declared.fault.LineRefusal.TheVariants.{OutOfMemory};
+ghost use Rattle.mal_script.specs.declared.fault.AssumptionFault.TheVariants as assumption;
+ghost use Rattle.mal_script.specs.Given.{OfAssumptions};
 
+use mal_base::{Name, Var, Which};
+use spec_dimacs::BlockFault;
+use spec_script::LineFault;
 use std::alloc::{AllocError, AllocFailed};
 use thiserror::Error;
 
-/// Why a text is not read as a script.
+/// Why a text is not read as a script: the first fault of the text with its line, counted from 1, or want of memory.
 #[derive(Clone, Copy, Debug, PartialEq, Eq, Drop, Error)]
 pub enum ScriptFault {
-    #[error("script not plain")]
-    NotPlain,
+    /// The line has another form, or stands where none of its form may stand; or the text ends inside a job.
+    #[error("line {line}: bad line")]
+    BadLine { line: u64 },
+    /// The line is one of a block, and wrong in it.
+    #[error("line {line}: {fault}")]
+    Dimacs { line: u64, fault: BlockFault },
+    /// The line assumes this variable with both signs, and none below it.
+    #[error("line {line}: variable {} is assumed with both signs", .var.number())]
+    Opposite { line: u64, var: Var },
+    /// The tenant has a job of this name.
+    #[error("line {line}: the tenant has a job of this name")]
+    Duplicate { line: u64, tenant: Name, job: Name },
+    /// A number of the line is outside its limits.
+    #[error("line {line}: number out of range")]
+    Range { line: u64 },
+    /// With the line there are more of these than may be.
+    #[error("line {line}: too many {which:?}")]
+    Limit { line: u64, which: Which },
+    /// Memory ran out.
     #[error("out of memory")]
     OutOfMemory,
 }
 
-impl From<AllocError> for ScriptFault {
+/// Why a line of a script is refused: a fault, or want of memory.
+#[derive(Clone, Copy, Debug, PartialEq, Eq, Drop)]
+pub enum LineRefusal {
+    Fault(LineFault),
+    OutOfMemory,
+}
+
+impl From<AllocError> for LineRefusal {
     ghost from_gives = { λ _ e. e ≡ OutOfMemory };
 
-    fn from(_error: AllocError) -> ScriptFault {
-        ScriptFault::OutOfMemory
+    fn from(_error: AllocError) -> LineRefusal {
+        LineRefusal::OutOfMemory
     }
 }
 
-impl<T: Drop> From<AllocFailed<T>> for ScriptFault {
+impl<T: Drop> From<AllocFailed<T>> for LineRefusal {
     ghost from_gives = { λ _ e. e ≡ OutOfMemory };
 
-    fn from(_error: AllocFailed<T>) -> ScriptFault {
-        ScriptFault::OutOfMemory
+    fn from(_error: AllocFailed<T>) -> LineRefusal {
+        LineRefusal::OutOfMemory
+    }
+}
+
+/// Why the words behind the first of a line are no assumptions: the causes stand in the order in which they are tested.
+#[derive(Clone, Copy, Debug, PartialEq, Eq, Drop, Error)]
+pub enum AssumptionFault {
+    /// A word is no number, the last is not 0, or another is 0.
+    #[error("bad line")]
+    BadLine,
+    /// A literal is of a variable above the greatest.
+    #[error("number out of range")]
+    Range,
+    /// This is the least variable that is assumed with both signs.
+    #[error("variable {} is assumed with both signs", .var.number())]
+    Opposite { var: Var },
+    /// Memory ran out.
+    #[error("out of memory")]
+    OutOfMemory,
+}
+
+impl From<AllocError> for AssumptionFault {
+    ghost from_gives = { λ _ e. e ≡ assumption.OutOfMemory };
+
+    fn from(_error: AllocError) -> AssumptionFault {
+        AssumptionFault::OutOfMemory
+    }
+}
+
+impl<T: Drop> From<AllocFailed<T>> for AssumptionFault {
+    ghost from_gives = { λ _ e. e ≡ assumption.OutOfMemory };
+
+    fn from(_error: AllocFailed<T>) -> AssumptionFault {
+        AssumptionFault::OutOfMemory
+    }
+}
+
+impl AssumptionFault {
+    /// The same as the refusal of a line.
+    pub fn refusal(self) -> LineRefusal
+        ensures { OfAssumptions self result }
+    {
+        match self {
+            AssumptionFault::BadLine => LineRefusal::Fault(LineFault::BadLine),
+            AssumptionFault::Range => LineRefusal::Fault(LineFault::Range),
+            AssumptionFault::Opposite { var } => LineRefusal::Fault(LineFault::Opposite { var }),
+            AssumptionFault::OutOfMemory => LineRefusal::OutOfMemory,
+        }
     }
 }

@@ -1,16 +1,24 @@
 //! Scripts: reading and writing them.
 #![tactic(auto)]
 
+mod asks;
+mod assuming;
+mod blocks;
 mod fault;
-mod parsing;
-mod plain;
+mod limits;
+mod opened;
+mod reader;
 mod reading;
 mod script;
+mod telling;
 mod writing;
 
-pub use fault::ScriptFault;
-pub use reading::read;
+pub use assuming::assumptions;
+pub use fault::{AssumptionFault, ScriptFault};
+pub use limits::Limits;
+pub use reading::{read, read_within};
 pub use script::{Script, ScriptJob};
+pub use telling::fault_line;
 pub use writing::write;
 
 #[cfg(test)]

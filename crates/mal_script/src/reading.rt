@@ -1,26 +1,87 @@
 //! Reading scripts.
 
-ghost use Rattle.std.specs.Prelude.{◌≡◌, IfOk};
-ghost use Rattle.mal_script.specs.Reads.{Reads};
-ghost use Rattle.spec_script.specs.Plain.{IsPlain};
-ghost use Rattle.spec_script.specs.Script.{Scripted, spelling};
+ghost use Rattle.std.specs.Prelude.{◌≡◌, ℕ, List, Err, IfOk, MatchResult};
+ghost use Rattle.spec_script.specs.Limits.{served};
+ghost use Rattle.spec_script.specs.Grammar.{Spells};
+ghost use Rattle.spec_script.specs.Reading.{read_text};
+ghost use Rattle.spec_script.specs.Script.{Scripted};
+ghost use Rattle.spec_script.specs.Within.{IsWithin};
+ghost use Rattle.mal_script.specs.declared.fault.ScriptFault.TheVariants.{OutOfMemory};
+ghost use Rattle.mal_script.specs.Given.{FailsAt, GivesAt, RefusedAt};
 
-use crate::fault::ScriptFault;
-use crate::plain::parse;
+use crate::fault::{LineRefusal, ScriptFault};
+use crate::limits::Limits;
+use crate::reader::Reader;
 use crate::script::Script;
-use crate::writing::write;
+use mal_text::first_line;
+use spec_script::LineFault;
 use std::alloc::Global;
 
-/// The plain script that the text spells. `NotPlain` exactly where the text is not that of a plain script: one job with
-/// one revision, without a tautology and without assumptions, each line as the script is written.
+/// The script that a text spells within the limits that are served, or the first fault of the text, with its line from 1
+/// on. A fault at the end names the last line, 1 where there is none. Want of memory may come at any time.
 pub fn read(alloc: Global, text: &[u8]) -> Result<Script, ScriptFault>
-    ensures found { IfOk result (λ s. IsPlain s × (text.now ≡ spelling s)) }
-    ensures only { (s : Scripted) → IsPlain s → text.now ≡ spelling s → Reads (λ x. x ≡ s) result }
+    // What is read is spelled so.
+    ensures found { IfOk result (λ s. Spells served text.now s) }
+    // What is spelled so is read, unless memory runs out.
+    ensures only { (s : Scripted) → Spells served text.now s → MatchResult result (λ x. x ≡ s) (λ e. e ≡ OutOfMemory) }
+    // Which fault it is, and where.
+    ensures exact { GivesAt (λ s. s) result (read_text served text.now) }
+    ensures within { IfOk result (λ s. IsWithin served s) }
 {
-    let script = parse(alloc, text)?;
-    if write(alloc, &script)?.as_slice() == text {
-        Ok(script)
-    } else {
-        Err(ScriptFault::NotPlain)
+    read_within(alloc, text, Limits::served())
+}
+
+/// The script that a text spells within these limits, or the first fault of the text.
+pub fn read_within(alloc: Global, text: &[u8], limits: Limits) -> Result<Script, ScriptFault>
+    ensures found { IfOk result (λ s. Spells limits text.now s) }
+    ensures only { (s : Scripted) → Spells limits text.now s → MatchResult result (λ x. x ≡ s) (λ e. e ≡ OutOfMemory) }
+    ensures exact { GivesAt (λ s. s) result (read_text limits text.now) }
+    ensures within { IfOk result (λ s. IsWithin limits s) }
+{
+    read_rows(alloc, text, limits)
+}
+
+/// The script that the lines of a text give, one behind another.
+fn read_rows(alloc: Global, text: &[u8], limits: Limits) -> Result<Script, ScriptFault>
+    ensures { GivesAt (λ s. s) result (read_text limits text.now) }
+{
+    let mut reader = Reader::new(alloc);
+    let mut rest = text;
+    let mut line: u64 = 0;
+    while let Some((row, behind)) = first_line(rest) {
+        line += 1;
+        match reader.after_row(alloc, limits, row) {
+            Ok(after) => reader = after,
+            Err(refusal) => return Err(refused(line, refusal)),
+        }
+        rest = behind;
+    }
+    match reader.finish() {
+        Ok(script) => Ok(script),
+        Err(refusal) => Err(refused(line.max(1), refusal)),
+    }
+}
+
+/// The refusal of this line as that of the text.
+fn refused(line: u64, refusal: LineRefusal) -> ScriptFault
+    ensures { RefusedAt line refusal result }
+{
+    match refusal {
+        LineRefusal::Fault(fault) => on_line(line, fault),
+        LineRefusal::OutOfMemory => ScriptFault::OutOfMemory,
+    }
+}
+
+/// The fault of this line as that of the text.
+fn on_line(line: u64, fault: LineFault) -> ScriptFault
+    ensures { FailsAt {Y = List ℕ} result (Err (line, fault)) }
+{
+    match fault {
+        LineFault::BadLine => ScriptFault::BadLine { line },
+        LineFault::Dimacs { fault } => ScriptFault::Dimacs { line, fault },
+        LineFault::Opposite { var } => ScriptFault::Opposite { line, var },
+        LineFault::Duplicate { tenant, job } => ScriptFault::Duplicate { line, tenant, job },
+        LineFault::Range => ScriptFault::Range { line },
+        LineFault::Limit { which } => ScriptFault::Limit { line, which },
     }
 }

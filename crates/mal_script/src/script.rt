@@ -1,9 +1,10 @@
 //! A script and its jobs.
 
-ghost use Rattle.std.specs.Prelude.{◌≡◌};
+ghost use Rattle.std.specs.Prelude.{◌≡◌, ◌++◌, ◌∷◌, [], IfOk};
 
 use mal_base::{Ask, Name};
 use mal_revision::Revision;
+use std::alloc::AllocError;
 use std::marker::Model;
 
 /// A job of a script: its tenant, its name, its ask and its revisions. Contracts see the four.
@@ -34,6 +35,20 @@ impl ScriptJob {
             ask,
             revisions,
         }
+    }
+
+    /// The job with one revision more, behind the others.
+    pub fn with_revision(self, revision: Revision) -> Result<ScriptJob, AllocError>
+        ensures { IfOk result (λ j. j ≡ record { tenant = self.tenant; name = self.name; ask = self.ask; revisions = self.revisions ++ revision ∷ [] }) }
+    {
+        let mut revisions = self.revisions;
+        revisions.push(revision)?;
+        Ok(ScriptJob {
+            tenant: self.tenant,
+            name: self.name,
+            ask: self.ask,
+            revisions,
+        })
     }
 
     /// The tenant's name.

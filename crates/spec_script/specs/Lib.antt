@@ -1,3 +1,9 @@
 pub mod Script
-pub mod Plain
+pub mod Limits
+pub mod Assumptions
+pub mod Reading
+pub mod Grammar
+pub mod Within
+pub mod FaultLines
+pub mod Laws
 pub mod Examples

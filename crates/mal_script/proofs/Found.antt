@@ -1,0 +1,38 @@
+-- What is read is spelled, and what is spelled is read.
+use Rattle.std.proofs.Common.{◌≡◌, ℕ, List, Result, Ok, Err, IfOk, MatchResult, refl, sym, ◌∙◌}
+use Rattle.spec_script.specs.declared.fault.LineFault.{LineFault}
+use Rattle.spec_script.specs.Limits.{Limits}
+use Rattle.spec_script.specs.Script.{Scripted}
+use Rattle.spec_script.specs.Reading.{read_text}
+use Rattle.spec_script.specs.Grammar.{Spells}
+use Rattle.spec_script.specs.Within.{IsWithin}
+use Rattle.spec_script.proofs.Reading.{read-spelled, spelled-read}
+use Rattle.spec_script.proofs.Bounds.{spelled-within}
+use Rattle.mal_script.specs.declared.fault.ScriptFault.{ScriptFault}
+use Rattle.mal_script.specs.declared.fault.ScriptFault.TheVariants as script
+use Rattle.mal_script.specs.Given.{FailsAt, GivesAt}
+
+pub found-spelled : (limits : Limits) (text : List ℕ) (result : Result Scripted ScriptFault) → GivesAt (λ s. s) result (read_text limits text) → IfOk result (λ s. Spells limits text s)
+found-spelled limits text (Ok s) e = read-spelled limits text s e
+found-spelled limits text (Err e) h = tt
+
+pub found-within : (limits : Limits) (text : List ℕ) (result : Result Scripted ScriptFault) → GivesAt (λ s. s) result (read_text limits text) → IfOk result (λ s. IsWithin limits s)
+found-within limits text (Ok s) e = spelled-within limits text s (read-spelled limits text s e)
+found-within limits text (Err e) h = tt
+
+-- a fault is not told where a script is read
+no-fault : (e : ScriptFault) (read : Result Scripted (ℕ × LineFault)) (s : Scripted) → read ≡ Ok s → FailsAt e read → e ≡ script.OutOfMemory
+no-fault (script.BadLine n) read s h k = absurd (cc)
+no-fault (script.Dimacs n fault) read s h k = absurd (cc)
+no-fault (script.Opposite n var) read s h k = absurd (cc)
+no-fault (script.Duplicate n tenant job) read s h k = absurd (cc)
+no-fault (script.Range n) read s h k = absurd (cc)
+no-fault (script.Limit n which) read s h k = absurd (cc)
+no-fault script.OutOfMemory read s h k = refl
+
+pub only-spelled : (limits : Limits) (text : List ℕ) (result : Result Scripted ScriptFault) → GivesAt (λ s. s) result (read_text limits text) → (s : Scripted) → Spells limits text s → MatchResult result (λ x. x ≡ s) (λ e. e ≡ script.OutOfMemory)
+only-spelled limits text (Ok x) e s is = let h = spelled-read limits text s is in ok_is x s (sym e ∙ h)
+  where
+    ok_is : (x y : Scripted) → ◌≡◌ {A = Result Scripted (ℕ × LineFault)} (Ok x) (Ok y) → x ≡ y
+    ok_is x y h = cc
+only-spelled limits text (Err e) h s is = no-fault e (read_text limits text) s (spelled-read limits text s is) h

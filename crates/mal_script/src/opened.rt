@@ -1,0 +1,269 @@
+//! A job that has begun and not ended.
+
+ghost use Rattle.std.specs.Prelude.{◌≡◌, ◌+◌, ◌≤◌, ◌∷◌, length, true, nat_lt, Some, Ok, IfOk};
+ghost use Rattle.mal_base.specs.Clauses.{rises};
+ghost use Rattle.mal_base.specs.Formulas.{is_formula, is_within, literals_of, size_of};
+ghost use Rattle.spec_text.specs.Inputs.{words_of};
+ghost use Rattle.spec_script.specs.Reading.{begun, with_block, after_header, revised, after_assumptions, inside_block, with_revision, assumed, ended_job, unended, without_block};
+ghost use Rattle.mal_script.specs.Given.{Fails, Gives};
+
+use crate::assuming::assumptions_in;
+use crate::blocks;
+use crate::fault::LineRefusal;
+use crate::limits::Limits;
+use crate::script::ScriptJob;
+use mal_base::{Ask, Clause, Formula, Lit, Name, Which};
+use mal_dimacs::BlockReader;
+use mal_revision::Revision;
+use mal_text::first_word;
+use spec_script::LineFault;
+use std::alloc::Global;
+use std::marker::Model;
+
+/// A job that has begun and not ended: what was read of it, the clauses and the literals of its revisions, and its block
+/// that has begun and not ended. Contracts see the four.
+#[derive(Drop)]
+pub struct OpenJob {
+    job: ScriptJob,
+    clauses: usize,
+    literals: usize,
+    block: Option<BlockReader>,
+}
+
+impl Model for OpenJob {
+    ghost use Rattle.std.specs.Prelude.{◌≤◌};
+    ghost use Rattle.spec_script.specs.Reading as reading;
+
+    ghost Value = { reading.OpenJob };
+
+    ghost view = { λ o. record { job = o.job; clauses = o.clauses; literals = o.literals; block = o.block } };
+
+    ghost invariant = { λ o. (o.clauses ≤ 1048576) × (o.literals ≤ 16777216) };
+}
+
+impl OpenJob {
+    /// The job of a tenant that begins.
+    pub fn begin(alloc: Global, tenant: Name, name: Name, ask: Ask) -> OpenJob
+        ensures { result ≡ begun tenant name ask }
+    {
+        OpenJob {
+            job: ScriptJob::new(tenant, name, ask, Vec::new(alloc)),
+            clauses: 0,
+            literals: 0,
+            block: None,
+        }
+    }
+
+    /// After the header of a block, which is this line.
+    pub fn after_header(
+        self,
+        alloc: Global,
+        limits: Limits,
+        line: &[u8],
+    ) -> Result<OpenJob, LineRefusal>
+        ensures { Gives (λ o. o) result (after_header limits (words_of line.now) self) }
+    {
+        if self.job.revisions().len() >= limits.revisions() {
+            return Err(LineRefusal::Fault(LineFault::Limit {
+                which: Which::Revisions,
+            }));
+        }
+        let block = blocks::opened(alloc, line)?;
+        Ok(self.with_block(block))
+    }
+
+    /// The job without its block, and the block.
+    pub fn without_block(mut self) -> (OpenJob, Option<BlockReader>)
+        ensures job { result.0 ≡ without_block self }
+        ensures block { result.1 ≡ self.block }
+    {
+        let block = self.block.take();
+        (self, block)
+    }
+
+    /// What is refused where the text ends in this job.
+    pub fn unended(self) -> LineRefusal
+        ensures { Fails result (unended self.block) }
+    {
+        let (_job, block) = self.without_block();
+        match block {
+            None => LineRefusal::Fault(LineFault::BadLine),
+            Some(block) => unended(block),
+        }
+    }
+
+    /// The job with this block in place of its own.
+    fn with_block(self, block: BlockReader) -> OpenJob
+        ensures { result ≡ with_block self block }
+    {
+        OpenJob {
+            job: self.job,
+            clauses: self.clauses,
+            literals: self.literals,
+            block: Some(block),
+        }
+    }
+
+    /// The job with one revision more, which has so many literals, in place of its block.
+    fn with_revision(
+        self,
+        alloc: Global,
+        formula: Formula,
+        literals: usize,
+        assumptions: &[Lit],
+    ) -> Result<OpenJob, LineRefusal>
+        requires count { literals ≡ literals_of formula.clauses }
+        requires clauses { self.clauses + length formula.clauses ≤ 1048576 }
+        requires literals { self.literals + literals ≤ 16777216 }
+        requires form { is_formula formula ≡ true }
+        requires rising { rises assumptions.now ≡ true }
+        requires within { is_within formula.variables assumptions.now ≡ true }
+        ensures { Gives (λ o. o) result (Ok (with_revision self formula assumptions.now)) }
+    {
+        let variables = formula.variables();
+        let clauses = self.clauses + formula.clauses().len();
+        let literals = self.literals + literals;
+        match Revision::new(alloc, variables, formula.into_clauses(), assumptions) {
+            Ok(revision) => Ok(OpenJob {
+                job: self.job.with_revision(revision)?,
+                clauses,
+                literals,
+                block: None,
+            }),
+            Err(_) => Err(LineRefusal::OutOfMemory),
+        }
+    }
+
+    /// After a revision of this formula under these assumptions.
+    fn revised(
+        self,
+        alloc: Global,
+        formula: Formula,
+        assumptions: &[Lit],
+    ) -> Result<OpenJob, LineRefusal>
+        requires rising { rises assumptions.now ≡ true }
+        requires within { is_within formula.variables assumptions.now ≡ true }
+        ensures { Gives (λ o. o) result (revised self formula assumptions.now) }
+    {
+        let literals = literals_of(formula.clauses());
+        if self.clauses + formula.clauses().len() > 1 << 20 {
+            return Err(LineRefusal::Fault(LineFault::Limit {
+                which: Which::Clauses,
+            }));
+        }
+        if self.literals + literals > 1 << 24 {
+            return Err(LineRefusal::Fault(LineFault::Limit {
+                which: Which::Literals,
+            }));
+        }
+        self.with_revision(alloc, formula, literals, assumptions)
+    }
+
+    /// After the words behind the `a` of the line that ends this block.
+    fn after_assumptions(
+        self,
+        alloc: Global,
+        limits: Limits,
+        words: &[u8],
+        block: BlockReader,
+    ) -> Result<OpenJob, LineRefusal>
+        ensures { Gives (λ o. o) result (after_assumptions limits (words_of words.now) self block) }
+    {
+        let formula = blocks::ended(block)?;
+        let assumptions = assumed(alloc, limits, words, formula.variables())?;
+        self.revised(alloc, formula, assumptions.as_slice())
+    }
+
+    /// After a line in this block, which is its first word and the others.
+    pub fn inside_block(
+        self,
+        alloc: Global,
+        limits: Limits,
+        line: &[u8],
+        first: &[u8],
+        others: &[u8],
+        block: BlockReader,
+    ) -> Result<OpenJob, LineRefusal>
+        requires { words_of line.now ≡ first.now ∷ words_of others.now }
+        ensures { Gives (λ o. o) result (inside_block limits first.now (words_of others.now) self block) }
+    {
+        if first == b"a".as_slice() {
+            return self.after_assumptions(alloc, limits, others, block);
+        }
+        let block = blocks::after_row(block, line)?;
+        Ok(self.with_block(block))
+    }
+
+    /// The job that is ended by these words behind an `e`.
+    pub fn ended(self, words: &[u8]) -> Result<ScriptJob, LineRefusal>
+        ensures { Gives (λ j. j) result (ended_job (words_of words.now) self) }
+    {
+        if first_word(words).is_some() {
+            return Err(LineRefusal::Fault(LineFault::BadLine));
+        }
+        Ok(self.job)
+    }
+}
+
+/// What is refused where the text ends in this block: its fault, or else that it has no line of assumptions.
+fn unended(block: BlockReader) -> LineRefusal
+    ensures { Fails result (unended (Some block)) }
+{
+    match blocks::ended(block) {
+        Ok(_formula) => LineRefusal::Fault(LineFault::BadLine),
+        Err(refusal) => refusal,
+    }
+}
+
+/// The literals of clauses, 2^24 at most; a tautology has none.
+fn literals_of(clauses: &[Option<Clause>]) -> usize
+    requires { literals_of clauses.now ≤ 16777216 }
+    ensures { result ≡ literals_of clauses.now }
+{
+    let mut literals = 0;
+    for clause in clauses {
+        literals += size_of(clause);
+    }
+    literals
+}
+
+/// The literals of a clause; a tautology has none.
+fn size_of(clause: &Option<Clause>) -> usize
+    ensures { result ≡ size_of clause.now }
+{
+    match clause {
+        None => 0,
+        Some(clause) => clause.lits().len(),
+    }
+}
+
+/// The assumptions of these words, none where there may be none.
+fn assumed(
+    alloc: Global,
+    limits: Limits,
+    words: &[u8],
+    variables: u32,
+) -> Result<Vec<Lit>, LineRefusal>
+    requires { variables ≤ 65536 }
+    ensures value { Gives (λ v. v.items) result (assumed limits variables (words_of words.now)) }
+    ensures rising { IfOk result (λ v. rises v.items ≡ true) }
+    ensures within { IfOk result (λ v. is_within variables v.items ≡ true) }
+{
+    if !limits.assumptions() && has_two_words(words) {
+        return Err(LineRefusal::Fault(LineFault::BadLine));
+    }
+    match assumptions_in(alloc, words, variables) {
+        Ok(assumptions) => Ok(assumptions),
+        Err(fault) => Err(fault.refusal()),
+    }
+}
+
+/// Whether a line has two words or more.
+fn has_two_words(line: &[u8]) -> bool
+    ensures { result ≡ nat_lt 1 (length (words_of line.now)) }
+{
+    match first_word(line) {
+        None => false,
+        Some((_, others)) => first_word(others).is_some(),
+    }
+}

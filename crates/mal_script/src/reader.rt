@@ -1,0 +1,349 @@
+//! A script of which some lines were read.
+
+ghost use Rattle.std.specs.Prelude.{◌≡◌, ◌≢◌, ◌∷◌, [], ℕ, List, MatchOption, count_by};
+ghost use Rattle.std.specs.List.{list_any};
+ghost use Rattle.std.specs.Str.{bytes_eq};
+ghost use Rattle.mal_base.specs.Asks.{Terms};
+ghost use Rattle.spec_text.specs.Inputs.{words_of};
+ghost use Rattle.spec_dimacs.specs.Rows.{is_comment};
+ghost use Rattle.spec_script.specs.Reading.{unread, named, after_tenant, is_of, is_job, has_room, admitted, of_tenant, after_job, outside, inside_job, inside, after_counted, after_row, at_end, after_end, going_on};
+ghost use Rattle.mal_script.specs.Given.{Gives};
+
+use crate::asks::asked;
+use crate::fault::LineRefusal;
+use crate::limits::Limits;
+use crate::opened::OpenJob;
+use crate::script::{Script, ScriptJob};
+use mal_base::{Ask, Name, Which};
+use mal_text::first_word;
+use spec_script::LineFault;
+use std::alloc::Global;
+use std::marker::Model;
+
+/// A script of which some lines were read: the jobs that have ended, the tenants that were named, the last of them, and
+/// the job that has begun. Contracts see the four.
+#[derive(Drop)]
+pub struct Reader {
+    jobs: Vec<ScriptJob>,
+    tenants: Vec<Name>,
+    tenant: Option<Name>,
+    opened: Option<OpenJob>,
+}
+
+impl Model for Reader {
+    ghost use Rattle.spec_script.specs.Reading.{Reading};
+
+    ghost Value = { Reading };
+
+    ghost view = { λ r. record { jobs = r.jobs.items; tenants = r.tenants.items; tenant = r.tenant; opened = r.opened } };
+}
+
+impl Reader {
+    /// Before the first line.
+    pub fn new(alloc: Global) -> Reader
+        ensures { result ≡ unread }
+    {
+        Reader {
+            jobs: Vec::new(alloc),
+            tenants: Vec::new(alloc),
+            tenant: None,
+            opened: None,
+        }
+    }
+
+    /// After the name of a tenant.
+    fn named(mut self, limits: Limits, name: Name) -> Result<Reader, LineRefusal>
+        ensures { Gives (λ r. r) result (named limits name self) }
+    {
+        if is_among(name, self.tenants.as_slice()) {
+            self.tenant = Some(name);
+            return Ok(self);
+        }
+        if self.tenants.len() >= limits.tenants() {
+            return Err(LineRefusal::Fault(LineFault::Limit {
+                which: Which::Tenants,
+            }));
+        }
+        self.tenants.push(name)?;
+        self.tenant = Some(name);
+        Ok(self)
+    }
+
+    /// After the words behind the `t` of a tenant's line.
+    fn after_tenant(
+        self,
+        alloc: Global,
+        limits: Limits,
+        words: &[u8],
+    ) -> Result<Reader, LineRefusal>
+        ensures { Gives (λ r. r) result (after_tenant limits (words_of words.now) self) }
+    {
+        let Some(word) = only_word(words) else {
+            return Err(LineRefusal::Fault(LineFault::BadLine));
+        };
+        match Name::of(alloc, word)? {
+            Some(name) => self.named(limits, name),
+            None => Err(LineRefusal::Fault(LineFault::BadLine)),
+        }
+    }
+
+    /// After a job of this tenant has begun.
+    fn admitted(
+        mut self,
+        alloc: Global,
+        limits: Limits,
+        tenant: Name,
+        name: Name,
+        ask: Ask,
+    ) -> Result<Reader, LineRefusal>
+        ensures { Gives (λ r. r) result (admitted limits tenant name self ask) }
+    {
+        if has_job(self.jobs.as_slice(), tenant, name) {
+            return Err(LineRefusal::Fault(LineFault::Duplicate { tenant, job: name }));
+        }
+        if !has_room(self.jobs.as_slice(), limits, tenant) {
+            return Err(LineRefusal::Fault(LineFault::Limit { which: Which::Jobs }));
+        }
+        self.opened = Some(OpenJob::begin(alloc, tenant, name, ask));
+        Ok(self)
+    }
+
+    /// After the words of a job's first line: its name, and its priority, demand and slices.
+    fn of_tenant(
+        self,
+        alloc: Global,
+        limits: Limits,
+        name: &[u8],
+        priority: &[u8],
+        demand: &[u8],
+        slices: &[u8],
+    ) -> Result<Reader, LineRefusal>
+        ensures { Gives (λ r. r) result (of_tenant limits self.tenant name.now priority.now demand.now slices.now self) }
+    {
+        let Some(tenant) = self.tenant else {
+            return Err(LineRefusal::Fault(LineFault::BadLine));
+        };
+        let Some(name) = Name::of(alloc, name)? else {
+            return Err(LineRefusal::Fault(LineFault::BadLine));
+        };
+        match asked(priority, demand, slices) {
+            Ok(ask) => self.admitted(alloc, limits, tenant, name, ask),
+            Err(fault) => Err(LineRefusal::Fault(fault)),
+        }
+    }
+
+    /// After the words behind the `j` of a job's first line.
+    fn after_job(self, alloc: Global, limits: Limits, words: &[u8]) -> Result<Reader, LineRefusal>
+        ensures { Gives (λ r. r) result (after_job limits (words_of words.now) self) }
+    {
+        match four_words(words) {
+            Some((name, priority, demand, slices)) => {
+                self.of_tenant(alloc, limits, name, priority, demand, slices)
+            }
+            None => Err(LineRefusal::Fault(LineFault::BadLine)),
+        }
+    }
+
+    /// After a line outside a job, which is its first word and the others.
+    fn outside(
+        self,
+        alloc: Global,
+        limits: Limits,
+        first: &[u8],
+        others: &[u8],
+    ) -> Result<Reader, LineRefusal>
+        ensures { Gives (λ r. r) result (outside limits first.now (words_of others.now) self) }
+    {
+        if first == b"t".as_slice() {
+            return self.after_tenant(alloc, limits, others);
+        }
+        if first == b"j".as_slice() {
+            return self.after_job(alloc, limits, others);
+        }
+        Err(LineRefusal::Fault(LineFault::BadLine))
+    }
+
+    /// With this job as the one that has begun.
+    fn goes_on(mut self, job: OpenJob) -> Reader
+        ensures { result ≡ going_on self job }
+    {
+        self.opened = Some(job);
+        self
+    }
+
+    /// After the line that ends this job.
+    fn after_end(mut self, job: OpenJob, words: &[u8]) -> Result<Reader, LineRefusal>
+        ensures { Gives (λ r. r) result (after_end (words_of words.now) job self) }
+    {
+        let job = job.ended(words)?;
+        self.jobs.push(job)?;
+        self.opened = None;
+        Ok(self)
+    }
+
+    /// After a line in this job and in no block, which is its first word and the others.
+    fn inside_job(
+        self,
+        alloc: Global,
+        limits: Limits,
+        line: &[u8],
+        first: &[u8],
+        others: &[u8],
+        job: OpenJob,
+    ) -> Result<Reader, LineRefusal>
+        requires { words_of line.now ≡ first.now ∷ words_of others.now }
+        ensures { Gives (λ r. r) result (inside_job limits first.now (words_of others.now) job self) }
+    {
+        if first == b"p".as_slice() {
+            let job = job.after_header(alloc, limits, line)?;
+            return Ok(self.goes_on(job));
+        }
+        if first == b"e".as_slice() {
+            return self.after_end(job, others);
+        }
+        Err(LineRefusal::Fault(LineFault::BadLine))
+    }
+
+    /// After a line in this job, which is its first word and the others.
+    fn inside(
+        self,
+        alloc: Global,
+        limits: Limits,
+        line: &[u8],
+        first: &[u8],
+        others: &[u8],
+        job: OpenJob,
+    ) -> Result<Reader, LineRefusal>
+        requires { words_of line.now ≡ first.now ∷ words_of others.now }
+        ensures { Gives (λ r. r) result (inside limits first.now (words_of others.now) job job.block self) }
+    {
+        let (job, block) = job.without_block();
+        match block {
+            None => self.inside_job(alloc, limits, line, first, others, job),
+            Some(block) => {
+                let job = job.inside_block(alloc, limits, line, first, others, block)?;
+                Ok(self.goes_on(job))
+            }
+        }
+    }
+
+    /// After a line, which is its first word and the others and no comment.
+    fn after_counted(
+        mut self,
+        alloc: Global,
+        limits: Limits,
+        line: &[u8],
+        first: &[u8],
+        others: &[u8],
+    ) -> Result<Reader, LineRefusal>
+        requires { words_of line.now ≡ first.now ∷ words_of others.now }
+        ensures { Gives (λ r. r) result (after_counted limits first.now (words_of others.now) self.opened self) }
+    {
+        match self.opened.take() {
+            None => self.outside(alloc, limits, first, others),
+            Some(job) => self.inside(alloc, limits, line, first, others, job),
+        }
+    }
+
+    /// After a line.
+    pub fn after_row(
+        self,
+        alloc: Global,
+        limits: Limits,
+        line: &[u8],
+    ) -> Result<Reader, LineRefusal>
+        ensures { Gives (λ r. r) result (after_row limits (words_of line.now) self) }
+    {
+        let Some((first, others)) = first_word(line) else {
+            return Ok(self);
+        };
+        if is_comment(first) {
+            return Ok(self);
+        }
+        self.after_counted(alloc, limits, line, first, others)
+    }
+
+    /// The script, where no job has begun that has not ended.
+    pub fn finish(self) -> Result<Script, LineRefusal>
+        ensures { Gives (λ s. s) result (at_end self.opened self.jobs) }
+    {
+        let Reader { jobs, opened, .. } = self;
+        match opened {
+            None => Ok(Script::new(jobs)),
+            Some(job) => Err(job.unended()),
+        }
+    }
+}
+
+/// Whether a word begins with the letter c.
+fn is_comment(word: &[u8]) -> bool
+    ensures { result ≡ is_comment word.now }
+{
+    match word {
+        [] => false,
+        [byte, ..] => *byte == b'c',
+    }
+}
+
+/// Whether a name is among these.
+fn is_among(name: Name, names: &[Name]) -> bool
+    ensures { result ≡ list_any (bytes_eq name) names.now }
+{
+    names.iter().any(|other| name == *other)
+}
+
+/// Whether a job is of this tenant.
+fn is_of(tenant: Name, job: &ScriptJob) -> bool
+    ensures { result ≡ is_of tenant job.now }
+{
+    tenant == job.tenant()
+}
+
+/// Whether a job is that of this tenant under this name.
+fn is_job(tenant: Name, name: Name, job: &ScriptJob) -> bool
+    ensures { result ≡ is_job tenant name job.now }
+{
+    is_of(tenant, job) && name == job.name()
+}
+
+/// Whether a tenant has a job of this name.
+fn has_job(jobs: &[ScriptJob], tenant: Name, name: Name) -> bool
+    ensures { result ≡ list_any (is_job tenant name) jobs.now }
+{
+    jobs.iter().any(|job| is_job(tenant, name, job))
+}
+
+/// The number of a tenant's jobs.
+fn jobs_of(jobs: &[ScriptJob], tenant: Name) -> usize
+    ensures { result ≡ count_by (is_of tenant) jobs.now }
+{
+    jobs.iter().filter(|job| is_of(tenant, job)).count()
+}
+
+/// Whether one job more of this tenant may begin.
+fn has_room(jobs: &[ScriptJob], limits: Limits, tenant: Name) -> bool
+    ensures { result ≡ has_room limits tenant jobs.now }
+{
+    jobs_of(jobs, tenant) < limits.jobs_of_tenant() && jobs.len() < limits.jobs()
+}
+
+/// The only word of a line. None exactly where the line has no word or more than one.
+fn only_word(line: &[u8]) -> Option<&[u8]>
+    ensures { MatchOption result ((word : List ℕ) → words_of line.now ≢ word ∷ []) (λ word. words_of line.now ≡ word.now ∷ []) }
+{
+    match first_word(line) {
+        Some((word, others)) if first_word(others).is_none() => Some(word),
+        _ => None,
+    }
+}
+
+/// The four words of a line. None exactly where the line has another number of words.
+fn four_words(line: &[u8]) -> Option<(&[u8], &[u8], &[u8], &[u8])>
+    ensures { MatchOption result ((a b c d : List ℕ) → words_of line.now ≢ a ∷ b ∷ c ∷ d ∷ []) (λ w. words_of line.now ≡ w.0.now ∷ w.1.now ∷ w.2.now ∷ w.3.now ∷ []) }
+{
+    let (first, others) = first_word(line)?;
+    let (second, others) = first_word(others)?;
+    let (third, others) = first_word(others)?;
+    let fourth = only_word(others)?;
+    Some((first, second, third, fourth))
+}
