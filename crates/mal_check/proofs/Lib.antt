@@ -1,0 +1,5 @@
+pub mod Lefts
+pub mod TrueLemmas
+pub mod PlaceLemmas
+pub mod SoundLemmas
+pub mod NumberLemmas

@@ -1,0 +1,25 @@
+-- Where the clauses of a checker lie.
+use Rattle.std.specs.Prelude.{◌≡◌, ℕ, ◌<◌, List, length, slice_get, Option, Some}
+use Rattle.std.specs.Map.{lookup}
+use Rattle.std.specs.BTreeMap.{is_at}
+use Rattle.std.specs.Ordering.{nat_cmp}
+use Rattle.mal_check.specs.declared.held.Place.{Place}
+use Rattle.mal_check.specs.declared.held.Place.TheVariants.{Original, Added}
+
+-- the clause at a place
+abbrev pub clause_at : List (Option (List ℕ)) → List (Option (List ℕ)) → Place → Option (Option (List ℕ))
+clause_at originals added (Original n) = slice_get originals n
+clause_at originals added (Added n) = slice_get added n
+
+-- a place has a clause
+abbrev pub IsPlace : List (Option (List ℕ)) → List (Option (List ℕ)) → Place → Type 0
+IsPlace originals added (Original n) = n < length originals
+IsPlace originals added (Added n) = n < length added
+
+-- the place of an id
+abbrev pub place_of : List (ℕ × Place) → ℕ → Option Place
+place_of ids id = lookup (is_at (nat_cmp id)) ids
+
+-- each id has a place with a clause
+abbrev pub HavePlaces : List (Option (List ℕ)) → List (Option (List ℕ)) → List (ℕ × Place) → Type 0
+HavePlaces originals added ids = (id : ℕ) (place : Place) → place_of ids id ≡ Some place → IsPlace originals added place

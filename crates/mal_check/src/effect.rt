@@ -1,0 +1,66 @@
+//! What a hint does.
+
+ghost use Rattle.std.specs.Prelude.{◌≡◌, not, Some};
+ghost use Rattle.std.specs.List.{list_any};
+ghost use Rattle.spec_logic.specs.Derivation.{is_true, is_false, left_of, effect_of, effect_of_lits, effect_of_left};
+ghost use Rattle.mal_check.specs.Seen.{effect_seen};
+
+use crate::trues::Trues;
+use mal_base::{Clause, Lit};
+
+/// What the clause of a hint does: it changes nothing, it makes a literal true, it is false, or two literals or more are
+/// left of it.
+#[derive(Clone, Copy)]
+pub enum Effect {
+    Passes,
+    Makes(Lit),
+    Conflicts,
+    LeavesMore,
+}
+
+/// What a clause does under the literals that are true so far; a tautology changes nothing.
+pub fn effect_of(trues: &Trues, clause: &Option<Clause>) -> Effect
+    ensures { effect_seen result ≡ effect_of trues.now (Some clause.now) }
+{
+    match clause {
+        None => Effect::Passes,
+        Some(clause) => effect_of_lits(trues, clause.lits()),
+    }
+}
+
+/// What the clause of these literals does.
+fn effect_of_lits(trues: &Trues, lits: &[Lit]) -> Effect
+    ensures { effect_seen result ≡ effect_of_lits trues.now lits.now }
+{
+    if has_true(trues, lits) {
+        Effect::Passes
+    } else {
+        effect_of_left(trues, lits)
+    }
+}
+
+/// Whether one of the literals is true.
+fn has_true(trues: &Trues, lits: &[Lit]) -> bool
+    ensures { result ≡ list_any (is_true trues.now) lits.now }
+{
+    lits.iter().any(|lit| trues.is_true(*lit))
+}
+
+/// What the clause of these literals does, where none of them is true.
+fn effect_of_left(trues: &Trues, lits: &[Lit]) -> Effect
+    ensures { effect_seen result ≡ effect_of_left (left_of trues.now lits.now) }
+{
+    let mut left = None;
+    for lit in lits {
+        if !trues.is_false(*lit) {
+            match left {
+                None => left = Some(*lit),
+                Some(_) => return Effect::LeavesMore,
+            }
+        }
+    }
+    match left {
+        None => Effect::Conflicts,
+        Some(lit) => Effect::Makes(lit),
+    }
+}

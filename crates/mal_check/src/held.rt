@@ -1,0 +1,131 @@
+//! The clauses of a checker.
+
+ghost use Rattle.std.specs.Prelude.{◌≡◌, ℕ, ◌∷◌, ◌++◌, ◌==◌, [], None, if◌then◌else◌, OnOk, OnErr};
+ghost use Rattle.std.specs.List.{list_any};
+ghost use Rattle.std.specs.Option.{option_map};
+ghost use Rattle.spec_logic.specs.Refutation.{with_clause, without};
+ghost use Rattle.mal_check.specs.Places.{clause_at, place_of};
+ghost use Rattle.mal_check.specs.Checked.{held};
+
+use mal_base::{Clause, ClauseId};
+use std::alloc::{AllocError, Global};
+use std::collections::BTreeMap;
+use std::marker::Model;
+
+/// Where a clause lies: among the originals, or among the added ones, by its place from 0 on.
+#[derive(Clone, Copy, Debug, Drop)]
+pub enum Place {
+    Original(usize),
+    Added(usize),
+}
+
+/// The original clauses and those that lines added. A deleted clause stays in its list and is held no more.
+#[derive(Drop)]
+pub struct Clauses {
+    originals: Vec<Option<Clause>>,
+    added: Vec<Option<Clause>>,
+    ids: BTreeMap<u64, Place>,
+}
+
+impl Model for Clauses {
+    ghost use Rattle.mal_check.specs.Places.{HavePlaces};
+    ghost use Rattle.mal_check.specs.Checked.{Checked};
+
+    ghost Value = { Checked };
+
+    ghost view = { λ c. record { originals = c.originals.items; added = c.added.items; ids = c.ids.entries } };
+
+    ghost invariant = { λ c. HavePlaces c.originals.items c.added.items c.ids.entries };
+}
+
+impl Clauses {
+    /// No clauses. Takes no memory.
+    pub fn new(alloc: Global) -> Clauses
+        ensures { result ≡ record { originals = []; added = []; ids = [] } }
+    {
+        Clauses {
+            originals: Vec::new(alloc),
+            added: Vec::new(alloc),
+            ids: BTreeMap::new(alloc),
+        }
+    }
+
+    /// The clause held under an id. None exactly where nothing is.
+    pub fn get(&self, id: ClauseId) -> Option<&Option<Clause>>
+        ensures { option_map (λ c. c.now) result ≡ held self.now id }
+    {
+        match self.ids.get(&id.number()) {
+            None => None,
+            Some(place) => clause_at(self.originals.as_slice(), self.added.as_slice(), *place),
+        }
+    }
+
+    /// Adds an original clause under an id that is not held. Where memory is refused nothing changes.
+    pub fn add_original(&mut self, id: ClauseId, clause: Option<Clause>) -> Result<(), AllocError>
+        requires { held self.old id ≡ None }
+        ensures originals { OnOk result (self.new.originals ≡ self.old.originals ++ clause ∷ []) }
+        ensures added { OnOk result (self.new.added ≡ self.old.added) }
+        ensures held { OnOk result (held self.new ≡ with_clause (held self.old) id clause) }
+        ensures err { OnErr result (self.new ≡ self.old) }
+    {
+        self.originals.reserve(1)?;
+        let place = Place::Original(self.originals.len());
+        self.ids.insert(id.number(), place)?;
+        self.originals.push_reserved(clause);
+        Ok(())
+    }
+
+    /// Adds the clause of a line under an id that is not held. Where memory is refused nothing changes.
+    pub fn add(&mut self, id: ClauseId, clause: Option<Clause>) -> Result<(), AllocError>
+        requires { held self.old id ≡ None }
+        ensures originals { OnOk result (self.new.originals ≡ self.old.originals) }
+        ensures added { OnOk result (self.new.added ≡ self.old.added ++ clause ∷ []) }
+        ensures held { OnOk result (held self.new ≡ with_clause (held self.old) id clause) }
+        ensures err { OnErr result (self.new ≡ self.old) }
+    {
+        self.added.reserve(1)?;
+        let place = Place::Added(self.added.len());
+        self.ids.insert(id.number(), place)?;
+        self.added.push_reserved(clause);
+        Ok(())
+    }
+
+    /// Holds the clauses of these ids no more; an id that is not held changes nothing.
+    pub fn delete(&mut self, ids: &[ClauseId])
+        ensures originals { self.new.originals ≡ self.old.originals }
+        ensures added { self.new.added ≡ self.old.added }
+        ensures held { held self.new ≡ without (held self.old) ids.now }
+    {
+        forget(&mut self.ids, ids);
+    }
+
+    /// The added clauses, in the order of their lines; None stands for a tautology.
+    pub fn added(&self) -> &[Option<Clause>]
+        ensures { result.now ≡ self.now.added }
+    {
+        self.added.as_slice()
+    }
+}
+
+/// The clause at a place.
+fn clause_at<'a>(
+    originals: &'a [Option<Clause>],
+    added: &'a [Option<Clause>],
+    place: Place,
+) -> Option<&'a Option<Clause>>
+    ensures { option_map (λ c. c.now) result ≡ clause_at originals.now added.now place }
+{
+    match place {
+        Place::Original(n) => originals.get(n),
+        Place::Added(n) => added.get(n),
+    }
+}
+
+/// Takes these ids away.
+fn forget(places: &mut BTreeMap<u64, Place>, ids: &[ClauseId])
+    ensures { (id : ℕ) → place_of places.new.entries id ≡ (if list_any (λ i. i == id) ids.now then None else place_of places.old.entries id) }
+{
+    for id in ids {
+        places.remove(&id.number());
+    }
+}

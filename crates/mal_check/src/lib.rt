@@ -1,0 +1,14 @@
+//! A checker of LRAT proofs.
+#![tactic(auto)]
+
+mod checker;
+mod effect;
+mod fault;
+mod held;
+mod trues;
+
+pub use checker::Checker;
+pub use fault::CheckFault;
+
+#[cfg(test)]
+mod tests;

@@ -1,0 +1,38 @@
+-- What is read word by word, with what was read before in front of it.
+use Rattle.std.proofs.Common.{true, ◌≡◌, ℕ, List, [], ◌∷◌, ◌++◌, Option, Some, None, Result, Ok, Err, IfOk, MatchOption, refl, sym, ap, append-nil, append_assoc}
+use Rattle.mal_base.specs.Clauses.{rises, IsTautology, HaveSame}
+use Rattle.spec_lrat.specs.Reading.{before_all, reading}
+use Rattle.spec_lrat.specs.Grammar.{Spells}
+use Rattle.spec_lrat.proofs.SpelledLemmas.{spells-read}
+use Rattle.mal_lrat.specs.declared.line.Line.{Line}
+use Rattle.mal_lrat.specs.declared.fault.LineFault.{LineFault}
+use Rattle.mal_lrat.specs.Seen.{seen}
+use Rattle.mal_lrat.specs.Answers.{Gives}
+use Rattle.spec_dimacs.specs.Merged.{clause_of}
+use Rattle.spec_lrat.proofs.MergedLemmas.{one_clause}
+
+abbrev pub behind : {A : Type 0} → List A → Option (List A) → Option (List A)
+behind front None = None
+behind front (Some xs) = Some (front ++ xs)
+
+pub behind-none : {A : Type 0} (o : Option (List A)) → behind [] o ≡ o
+behind-none None = refl
+behind-none (Some xs) = refl
+
+pub behind-push : {A : Type 0} (front : List A) (x : A) (o : Option (List A)) → behind front (before_all (Some x) o) ≡ behind (front ++ x ∷ []) o
+behind-push front x None = refl
+behind-push front x (Some xs) = ap Some (sym (append_assoc front (x ∷ []) xs))
+
+pub behind-all : {A : Type 0} (front : List A) → behind front (Some []) ≡ Some front
+behind-all front = ap Some (append-nil front)
+
+-- the clause of literals is the one that they make
+pub clause-made : {E : Type 0} (r : Result (Option (List ℕ)) E) (lits : List ℕ) → IfOk r (λ o. MatchOption o (IsTautology lits) (λ c. IsTautology lits → ⊥)) → IfOk r (λ o. MatchOption o (IsTautology lits) (λ c. rises c ≡ true)) → IfOk r (λ o. MatchOption o (IsTautology lits) (λ c. HaveSame lits c)) → IfOk r (λ o. o ≡ clause_of lits)
+clause-made (Err e) lits n u s = tt
+clause-made (Ok None) lits n u s = sym ((one_clause lits None).0 n)
+clause-made (Ok (Some c)) lits n u s = sym ((one_clause lits (Some c)).0 (u, s))
+
+-- what was read is spelled
+pub read-spelled : (last : ℕ) (row : List (List ℕ)) (r : Result Line LineFault) → Gives seen r (reading last row) → IfOk r (λ line. Spells last row (seen line))
+read-spelled last row (Ok line) e = (spells-read last row (seen line)).1 e
+read-spelled last row (Err e) h = tt

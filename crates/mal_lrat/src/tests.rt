@@ -1,0 +1,95 @@
+use super::*;
+use mal_base::{Clause, ClauseId, Lit};
+use std::alloc::Global;
+use std::test::Fail;
+
+fn id(number: u64) -> Result<ClauseId, Fail> {
+    Ok(ClauseId::of(number).ok_or("no id")?)
+}
+
+fn lit(number: i32) -> Result<Lit, Fail> {
+    Ok(Lit::of_dimacs(number).ok_or("no literal")?)
+}
+
+fn fault(alloc: Global, line: &[u8], last: u64) -> Result<LineFault, Fail> {
+    match read_line(alloc, line, last) {
+        Ok(_) => Err("no fault".into()),
+        Err(fault) => Ok(fault),
+    }
+}
+
+#[test]
+fn a_line_has_an_id_literals_and_hints(rt: HostRuntime) -> Result<(), Fail> {
+    let Line::Add {
+        id: added,
+        clause,
+        hints,
+    } = read_line(rt.alloc(), b"l 5 2 -1 02 0 1 2 0\r", 4)?
+    else {
+        return Err("no addition".into());
+    };
+    assert_eq!(rt; added, id(5)?);
+    let clause = clause.ok_or("a tautology")?;
+    assert_eq!(rt; clause.lits(), [lit(-1)?, lit(2)?].as_slice());
+    assert_eq!(rt; hints.as_slice(), [id(1)?, id(2)?].as_slice());
+    Ok(())
+}
+
+#[test]
+fn a_deletion_has_ids(rt: HostRuntime) -> Result<(), Fail> {
+    let Line::Delete { ids } = read_line(rt.alloc(), b"1 d 3 4 0", 4)? else {
+        return Err("no deletion".into());
+    };
+    assert_eq!(rt; ids.as_slice(), [id(3)?, id(4)?].as_slice());
+    Ok(())
+}
+
+#[test]
+fn the_first_fault_is_told(rt: HostRuntime) -> Result<(), Fail> {
+    assert_eq!(rt; fault(rt.alloc(), b"0 1 0 1 0", 4)?, LineFault::BadNumber);
+    assert_eq!(rt; fault(rt.alloc(), b"2 65537 0", 4)?, LineFault::BadNumber);
+    assert_eq!(rt; fault(rt.alloc(), b"1 d -3", 4)?, LineFault::BadNumber);
+    assert_eq!(rt; fault(rt.alloc(), b"2 1 0 1", 4)?, LineFault::MissingZero);
+    assert_eq!(rt; fault(rt.alloc(), b"l", 4)?, LineFault::MissingZero);
+    assert_eq!(rt; fault(rt.alloc(), b"1 d 0 0", 4)?, LineFault::MissingZero);
+    assert_eq!(rt;
+        fault(rt.alloc(), b"4 1 0 -1 2 0", 4)?,
+        LineFault::IdNotRising { last: 4, id: 4 }
+    );
+    assert_eq!(rt;
+        fault(rt.alloc(), b"5 1 0 -1 2 0", 4)?,
+        LineFault::NegativeHint
+    );
+    Ok(())
+}
+
+#[test]
+fn lines_are_written_with_their_line_end(rt: HostRuntime) -> Result<(), Fail> {
+    let alloc = rt.alloc();
+    let mut hints = Vec::new(alloc);
+    hints.push(id(1)?)?;
+    hints.push(id(4611686018427387904)?)?;
+    let clause = Clause::of_lits(alloc, &[lit(2)?, lit(-1)?])?;
+    let line = Line::Add {
+        id: id(7)?,
+        clause,
+        hints,
+    };
+    let text = write_line(alloc, &line)?;
+    assert_eq!(rt;
+        text.as_slice(),
+        b"7 -1 2 0 1 4611686018427387904 0\n".as_slice()
+    );
+    let tautology = Line::Add {
+        id: id(8)?,
+        clause: None,
+        hints: Vec::new(alloc),
+    };
+    let text = write_line(alloc, &tautology)?;
+    assert_eq!(rt; text.as_slice(), b"8 1 -1 0 0\n".as_slice());
+    let mut ids = Vec::new(alloc);
+    ids.push(id(7)?)?;
+    let text = write_line(alloc, &Line::Delete { ids })?;
+    assert_eq!(rt; text.as_slice(), b"1 d 7 0\n".as_slice());
+    Ok(())
+}

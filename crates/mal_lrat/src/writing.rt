@@ -1,0 +1,119 @@
+//! Writing a line of a proof.
+
+ghost use Rattle.std.specs.Prelude.{◌≡◌, ◌∷◌, ◌++◌, IfOk, OnOk};
+ghost use Rattle.spec_text.specs.Lines.{line_of};
+ghost use Rattle.spec_text.specs.Numbers.{decimal_word, literal_word};
+ghost use Rattle.spec_logic.specs.Refutation.ProofLine.{Add, Delete};
+ghost use Rattle.spec_lrat.specs.Written.{written_lits, words_of_ids, words_of_lits, row_of};
+ghost use Rattle.mal_lrat.specs.Seen.{seen};
+ghost use Rattle.mal_lrat.specs.Spaced.{spaced};
+
+use crate::line::Line;
+use itoa::Buffer;
+use mal_base::{Clause, ClauseId, Lit, Var};
+use mal_text::{end_line, put_word};
+use std::alloc::{AllocError, Global};
+
+/// The text of a line, with its line end and without a leading `l`. A tautology is written as the literals 1 and -1, a
+/// deletion with the id 1 before its `d`.
+pub fn write_line(alloc: Global, line: &Line) -> Result<Vec<u8>, AllocError>
+    ensures { IfOk result (λ text. text.items ≡ line_of (row_of (seen line.now))) }
+{
+    match line {
+        Line::Add { id, clause, hints } => addition(alloc, *id, clause, hints.as_slice()),
+        Line::Delete { ids } => deletion(alloc, ids.as_slice()),
+    }
+}
+
+/// The text of a line that adds a clause.
+fn addition(
+    alloc: Global,
+    id: ClauseId,
+    clause: &Option<Clause>,
+    hints: &[ClauseId],
+) -> Result<Vec<u8>, AllocError>
+    ensures { IfOk result (λ text. text.items ≡ line_of (row_of (Add id clause.now hints.now))) }
+{
+    let mut out = id_word(alloc, id)?;
+    put_clause(&mut out, clause)?;
+    put_ids(&mut out, hints)?;
+    end_line(&mut out)?;
+    Ok(out)
+}
+
+/// The text of a line that deletes clauses.
+fn deletion(alloc: Global, ids: &[ClauseId]) -> Result<Vec<u8>, AllocError>
+    ensures { IfOk result (λ text. text.items ≡ line_of (row_of (Delete ids.now))) }
+{
+    let mut out = Vec::from_slice(alloc, b"1 d")?;
+    put_ids(&mut out, ids)?;
+    end_line(&mut out)?;
+    Ok(out)
+}
+
+/// The word of an id.
+fn id_word(alloc: Global, id: ClauseId) -> Result<Vec<u8>, AllocError>
+    ensures { IfOk result (λ word. word.items ≡ decimal_word id) }
+{
+    let mut buffer = Buffer::new();
+    Vec::from_slice(alloc, buffer.format(id.number()).as_bytes())
+}
+
+/// Writes the literals of a clause and a 0, each behind a space.
+fn put_clause(out: &mut Vec<u8>, clause: &Option<Clause>) -> Result<(), AllocError>
+    ensures { OnOk result (out.new.items ≡ out.old.items ++ spaced (words_of_lits (written_lits clause.now))) }
+{
+    match clause {
+        None => {
+            let var = Var::of(1);
+            put_lits(out, &[var.literal(true), var.literal(false)])
+        }
+        Some(clause) => put_lits(out, clause.lits()),
+    }
+}
+
+/// Writes literals and a 0, each behind a space.
+fn put_lits(out: &mut Vec<u8>, lits: &[Lit]) -> Result<(), AllocError>
+    ensures { OnOk result (out.new.items ≡ out.old.items ++ spaced (words_of_lits lits.now)) }
+{
+    for lit in lits {
+        put_lit(out, *lit)?;
+    }
+    put_word(out, b"0")?;
+    Ok(())
+}
+
+/// Writes a space and then a literal.
+fn put_lit(out: &mut Vec<u8>, lit: Lit) -> Result<(), AllocError>
+    ensures { OnOk result (out.new.items ≡ out.old.items ++ 32 ∷ literal_word lit) }
+{
+    let mut buffer = Buffer::new();
+    let magnitude = i64::from(lit.var().number());
+    let signed = if lit.is_positive() {
+        magnitude
+    } else {
+        -magnitude
+    };
+    put_word(out, buffer.format(signed).as_bytes())?;
+    Ok(())
+}
+
+/// Writes ids and a 0, each behind a space.
+fn put_ids(out: &mut Vec<u8>, ids: &[ClauseId]) -> Result<(), AllocError>
+    ensures { OnOk result (out.new.items ≡ out.old.items ++ spaced (words_of_ids ids.now)) }
+{
+    for id in ids {
+        put_id(out, *id)?;
+    }
+    put_word(out, b"0")?;
+    Ok(())
+}
+
+/// Writes a space and then an id.
+fn put_id(out: &mut Vec<u8>, id: ClauseId) -> Result<(), AllocError>
+    ensures { OnOk result (out.new.items ≡ out.old.items ++ 32 ∷ decimal_word id) }
+{
+    let mut buffer = Buffer::new();
+    put_word(out, buffer.format(id.number()).as_bytes())?;
+    Ok(())
+}

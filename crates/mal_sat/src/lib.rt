@@ -1,0 +1,95 @@
+//! Whether an assignment satisfies a formula and assumptions.
+#![tactic(auto)]
+
+ghost use Rattle.std.specs.Prelude.{◌≡◌};
+ghost use Rattle.std.specs.List.{list_all, list_any};
+ghost use Rattle.spec_logic.specs.Logic.{value_of, is_true_in, satisfies_clause, satisfies, satisfies_with};
+
+use mal_base::{Clause, Formula, Lit, Var};
+
+/// Whether every clause of the formula has a true literal and every assumption is true, where `model` lists the truth
+/// values of the variables from 1 on. A variable past its end is false, and a tautology has a true literal. Takes no
+/// memory.
+pub fn satisfies(formula: &Formula, assumptions: &[Lit], model: &[bool]) -> bool
+    ensures { result ≡ satisfies_with model.now formula.now.clauses assumptions.now }
+{
+    are_satisfied(model, formula.clauses()) && are_true(model, assumptions)
+}
+
+/// Whether every clause is satisfied.
+fn are_satisfied(model: &[bool], clauses: &[Option<Clause>]) -> bool
+    ensures { result ≡ satisfies model.now clauses.now }
+{
+    clauses.iter().all(|clause| is_satisfied(model, clause))
+}
+
+/// Whether a clause has a true literal; a tautology has one.
+fn is_satisfied(model: &[bool], clause: &Option<Clause>) -> bool
+    ensures { result ≡ satisfies_clause model.now clause.now }
+{
+    match clause {
+        None => true,
+        Some(clause) => has_true(model, clause.lits()),
+    }
+}
+
+/// Whether one of the literals is true.
+fn has_true(model: &[bool], lits: &[Lit]) -> bool
+    ensures { result ≡ list_any (is_true_in model.now) lits.now }
+{
+    lits.iter().any(|lit| is_true(model, *lit))
+}
+
+/// Whether each of the literals is true.
+fn are_true(model: &[bool], lits: &[Lit]) -> bool
+    ensures { result ≡ list_all (is_true_in model.now) lits.now }
+{
+    lits.iter().all(|lit| is_true(model, *lit))
+}
+
+/// Whether a literal is true.
+fn is_true(model: &[bool], lit: Lit) -> bool
+    ensures { result ≡ is_true_in model.now lit }
+{
+    if lit.is_positive() {
+        value(model, lit.var())
+    } else {
+        !value(model, lit.var())
+    }
+}
+
+/// The value of a variable, false past the end of the list.
+fn value(model: &[bool], var: Var) -> bool
+    ensures { result ≡ value_of model.now var }
+{
+    let place = var.number() as usize - 1;
+    match model.get(place) {
+        Some(value) => *value,
+        None => false,
+    }
+}
+
+#[cfg(test)]
+mod tests {
+    use super::*;
+    use std::test::Fail;
+
+    fn lit(number: i32) -> Result<Lit, Fail> {
+        Ok(Lit::of_dimacs(number).ok_or("no literal")?)
+    }
+
+    #[test]
+    fn each_clause_and_each_assumption_counts(rt: HostRuntime) -> Result<(), Fail> {
+        let mut clauses = Vec::new(rt.alloc());
+        clauses.push(Clause::of_lits(rt.alloc(), &[lit(1)?, lit(2)?])?)?;
+        clauses.push(Clause::of_lits(rt.alloc(), &[lit(2)?, lit(-2)?])?)?;
+        clauses.push(Clause::of_lits(rt.alloc(), &[lit(-1)?])?)?;
+        let formula = Formula::new(3, clauses).ok_or("no formula")?;
+        assert!(rt; satisfies(&formula, &[], &[false, true, false]));
+        assert!(rt; satisfies(&formula, &[lit(-3)?, lit(2)?], &[false, true]));
+        assert!(rt; !satisfies(&formula, &[lit(3)?], &[false, true]));
+        assert!(rt; !satisfies(&formula, &[], &[true, true, true]));
+        assert!(rt; !satisfies(&formula, &[], &[]));
+        Ok(())
+    }
+}

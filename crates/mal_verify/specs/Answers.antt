@@ -1,0 +1,33 @@
+-- What the answers say.
+use Rattle.std.specs.Prelude.{◌≡◌, ℕ, List, ◌++◌, Result, Ok, Err}
+use Rattle.mal_lrat.specs.declared.fault.LineFault.{LineFault}
+use Rattle.mal_lrat.specs.declared.fault.LineFault.TheVariants as answer
+use Rattle.mal_check.specs.declared.fault.CheckFault.{CheckFault}
+use Rattle.mal_check.specs.declared.fault.CheckFault.TheVariants as fault
+use Rattle.spec_logic.specs.Refutation.{Refusal}
+use Rattle.spec_logic.specs.Refutation.Refusal.{IdUsed, UnknownHint, HintNotUnit, NoContradiction}
+use Rattle.spec_lrat.specs.Reading.{Fault}
+use Rattle.spec_lrat.specs.Reading.Fault.{BadNumber, MissingZero, IdNotRising, NegativeHint}
+use Rattle.spec_check.specs.Proofs.{Numbered, Read}
+use Rattle.mal_verify.specs.declared.reading.ProofFault.{ProofFault}
+
+-- an answer other than want of memory is this fault of this line
+abbrev pub FailsAt : {Y : Type 0} → ℕ → LineFault → Result Y (ℕ × Fault) → Type 0
+FailsAt line answer.BadNumber read = read ≡ Err (line, BadNumber)
+FailsAt line answer.MissingZero read = read ≡ Err (line, MissingZero)
+FailsAt line (answer.IdNotRising last id) read = read ≡ Err (line, IdNotRising last id)
+FailsAt line answer.NegativeHint read = read ≡ Err (line, NegativeHint)
+FailsAt line answer.OutOfMemory read = Unit {0}
+
+abbrev pub Fails : {Y : Type 0} → ProofFault → Result Y (ℕ × Fault) → Type 0
+Fails e read = FailsAt e.line e.fault read
+
+-- what was answered, seen by view, is what reading gives, unless memory ran out
+abbrev pub Gives : {X Y : Type 0} → (X → Y) → Result X ProofFault → Result Y (ℕ × Fault) → Type 0
+Gives view (Ok x) read = read ≡ Ok (view x)
+Gives view (Err e) read = Fails e read
+
+-- the answer is the last id behind a row, and its line, if it spells one, stands behind the lines before
+abbrev pub GivesRow : List Numbered → List Numbered → Result ℕ ProofFault → Result Read (ℕ × Fault) → Type 0
+GivesRow old new (Ok last) read = (lines : List Numbered) × (read ≡ Ok (record { last = last; lines = lines })) × (new ≡ old ++ lines)
+GivesRow old new (Err e) read = Fails e read

@@ -1,0 +1,54 @@
+-- What the answers of checking say.
+use Rattle.std.specs.Prelude.{◌≡◌, ℕ, Option, Some, None, Result, Ok, Err}
+use Rattle.mal_check.specs.declared.fault.CheckFault.{CheckFault}
+use Rattle.mal_check.specs.declared.fault.CheckFault.TheVariants as fault
+use Rattle.spec_logic.specs.Refutation.{Refusal}
+use Rattle.spec_logic.specs.Refutation.Refusal.{IdUsed, UnknownHint, HintNotUnit, NoContradiction}
+use Rattle.spec_check.specs.Proofs.{Verdict}
+use Rattle.spec_check.specs.Proofs.Verdict.{Verified, Refused, NoGoal}
+use Rattle.mal_verify.specs.declared.checking.VerifyFault.{VerifyFault}
+use Rattle.mal_verify.specs.declared.checking.VerifyFault.TheVariants as answer
+
+-- the refusal that a fault of the checker is, none for want of memory
+abbrev pub refusal_of : CheckFault → Option Refusal
+refusal_of (fault.IdUsed id) = Some (IdUsed id)
+refusal_of (fault.UnknownHint id) = Some (UnknownHint id)
+refusal_of (fault.HintNotUnit id) = Some (HintNotUnit id)
+refusal_of fault.NoContradiction = Some NoContradiction
+refusal_of fault.OutOfMemory = None
+
+-- a fault of the checker as an answer on its line
+abbrev pub IsFault : ℕ → CheckFault → VerifyFault → Type 0
+IsFault line (fault.IdUsed id) e = e ≡ answer.Refused line (fault.IdUsed id)
+IsFault line (fault.UnknownHint id) e = e ≡ answer.Refused line (fault.UnknownHint id)
+IsFault line (fault.HintNotUnit id) e = e ≡ answer.Refused line (fault.HintNotUnit id)
+IsFault line fault.NoContradiction e = e ≡ answer.Refused line fault.NoContradiction
+IsFault line fault.OutOfMemory e = e ≡ answer.OutOfMemory
+
+-- the first refused line is this one; want of memory is never told as a refusal
+abbrev pub IsRefused : ℕ → Option Refusal → Option (ℕ × Refusal) → Type 0
+IsRefused line None first = ⊥
+IsRefused line (Some refusal) first = first ≡ Some (line, refusal)
+
+abbrev pub StopsAt : VerifyFault → Option (ℕ × Refusal) → Type 0
+StopsAt (answer.Refused line fault) first = IsRefused line (refusal_of fault) first
+StopsAt answer.NoGoal first = ⊥
+StopsAt answer.OutOfMemory first = Unit {0}
+
+abbrev pub SaysLine : {X : Type 0} → Result X VerifyFault → Option (ℕ × Refusal) → Type 0
+SaysLine (Ok x) first = first ≡ None
+SaysLine (Err e) first = StopsAt e first
+
+abbrev pub IsVerdict : ℕ → Option Refusal → Verdict → Type 0
+IsVerdict line None said = ⊥
+IsVerdict line (Some refusal) said = said ≡ Refused line refusal
+
+abbrev pub Denies : VerifyFault → Verdict → Type 0
+Denies (answer.Refused line fault) said = IsVerdict line (refusal_of fault) said
+Denies answer.NoGoal said = said ≡ NoGoal
+Denies answer.OutOfMemory said = Unit {0}
+
+-- Ok says that the proof is verified, any other answer but want of memory why it is not
+abbrev pub Says : {X : Type 0} → Result X VerifyFault → Verdict → Type 0
+Says (Ok x) said = said ≡ Verified
+Says (Err e) said = Denies e said

@@ -1,0 +1,132 @@
+//! Reading the text of a proof.
+
+ghost use Rattle.std.specs.Prelude.{◌≡◌, ◌<◌, ◌+◌, ◌^◌, [], ◌∷◌, length, map, IfOk, IfSome, MatchOption};
+ghost use Rattle.spec_text.specs.Inputs.{lines_of, words_of};
+ghost use Rattle.spec_dimacs.specs.Rows.{is_comment, is_passed};
+ghost use Rattle.spec_check.specs.Proofs.{last_after, with_number, row_at, lines_from};
+ghost use Rattle.mal_lrat.specs.Seen.{seen};
+ghost use Rattle.spec_lrat.specs.Reading.{reading};
+ghost use Rattle.mal_verify.specs.Views.{views};
+ghost use Rattle.mal_verify.specs.Answers.{Gives, GivesRow};
+
+use mal_lrat::{Line, LineFault, read_line};
+use mal_text::{first_line, words};
+use std::alloc::{AllocError, Global};
+
+/// A line of a proof with the number of its line in the text, from 1 on.
+#[derive(Debug, Drop)]
+pub struct NumberedLine {
+    pub number: u64,
+    pub line: Line,
+}
+
+/// The line of a text that is no line of a proof, and why; or where memory was wanting.
+#[derive(Clone, Copy, Debug, Drop)]
+pub struct ProofFault {
+    pub line: u64,
+    pub fault: LineFault,
+}
+
+/// The lines of a proof's text with their numbers, where `last` is the number of original clauses. Empty lines and
+/// comments are passed over. The first line that is no line of a proof is a fault.
+pub fn read_proof(alloc: Global, text: &[u8], last: u64) -> Result<Vec<NumberedLine>, ProofFault>
+    requires { length text.now < 2 ^ 63 }
+    ensures { Gives (λ v. views v.items) result (lines_from 1 last (map words_of (lines_of text.now))) }
+{
+    let mut lines = Vec::new(alloc);
+    let mut last = last;
+    let mut number: u64 = 1;
+    let mut rest = text;
+    while let Some((line, behind)) = first_line(rest) {
+        last = read_row(alloc, &mut lines, number, line, last)?;
+        number += 1;
+        rest = behind;
+    }
+    Ok(lines)
+}
+
+/// Reads a line of the text, and puts what it spells behind the lines before. Answers the last id behind it.
+fn read_row(
+    alloc: Global,
+    lines: &mut Vec<NumberedLine>,
+    number: u64,
+    line: &[u8],
+    last: u64,
+) -> Result<u64, ProofFault>
+    ensures { GivesRow (views lines.old.items) (views lines.new.items) result (row_at number last (words_of line.now)) }
+{
+    match is_passed(alloc, line) {
+        Err(_) => Err(ProofFault {
+            line: number,
+            fault: LineFault::OutOfMemory,
+        }),
+        Ok(true) => Ok(last),
+        Ok(false) => put_line(alloc, lines, number, line, last),
+    }
+}
+
+/// Reads a line that counts, and puts it behind the lines before. Answers the last id behind it.
+fn put_line(
+    alloc: Global,
+    lines: &mut Vec<NumberedLine>,
+    number: u64,
+    line: &[u8],
+    last: u64,
+) -> Result<u64, ProofFault>
+    ensures { GivesRow (views lines.old.items) (views lines.new.items) result (with_number number last (reading last (words_of line.now))) }
+{
+    match read_line(alloc, line, last) {
+        Err(fault) => Err(ProofFault {
+            line: number,
+            fault,
+        }),
+        Ok(line) => {
+            let last = last_after(last, &line);
+            match lines.push(NumberedLine { number, line }) {
+                Ok(()) => Ok(last),
+                Err(_) => Err(ProofFault {
+                    line: number,
+                    fault: LineFault::OutOfMemory,
+                }),
+            }
+        }
+    }
+}
+
+/// The last id that was added.
+fn last_after(last: u64, line: &Line) -> u64
+    ensures { result ≡ last_after last (seen line.now) }
+{
+    match line {
+        Line::Add { id, .. } => id.number(),
+        Line::Delete { .. } => last,
+    }
+}
+
+/// Whether a line of a text is passed over: it is empty, or a comment.
+fn is_passed(alloc: Global, line: &[u8]) -> Result<bool, AllocError>
+    ensures { IfOk result (λ b. b ≡ is_passed (words_of line.now)) }
+{
+    let words = words(alloc, line)?;
+    Ok(are_passed(words.as_slice()))
+}
+
+/// Whether a line of these words is passed over.
+fn are_passed(words: &[&[u8]]) -> bool
+    ensures { result ≡ is_passed (map (λ w. w.now) words.now) }
+{
+    match words {
+        [] => true,
+        [first, ..] => is_comment(first),
+    }
+}
+
+/// Whether a word begins with the letter c.
+fn is_comment(word: &[u8]) -> bool
+    ensures { result ≡ is_comment word.now }
+{
+    match word {
+        [] => false,
+        [byte, ..] => *byte == b'c',
+    }
+}

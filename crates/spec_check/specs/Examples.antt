@@ -1,0 +1,31 @@
+use Rattle.std.specs.Prelude.{◌≡◌, ℕ, List, [], ◌∷◌, map, codes, Option, Some, None, Result, Ok, Err}
+use Rattle.spec_text.specs.Inputs.{lines_of, words_of}
+use Rattle.spec_logic.specs.Refutation.Refusal.{UnknownHint, HintNotUnit, NoContradiction}
+use Rattle.spec_lrat.specs.Reading.{Fault}
+use Rattle.spec_lrat.specs.Reading.Fault.{IdNotRising, NegativeHint}
+use Rattle.spec_check.specs.Proofs.{Numbered, Verdict, lines_from, verdict_of}
+use Rattle.spec_check.specs.Proofs.Verdict.{Verified, Refused, NoGoal}
+
+-- the clauses 1 2, 1 -2, -1 2 and -1 -2
+abbrev pub four : List (Option (List ℕ))
+four = Some (2 ∷ 4 ∷ []) ∷ Some (2 ∷ 5 ∷ []) ∷ Some (3 ∷ 4 ∷ []) ∷ Some (3 ∷ 5 ∷ []) ∷ []
+
+-- what is said of the text of a proof from these clauses
+abbrev pub said_of : List ℕ → Result (List Numbered) (ℕ × Fault) → Result Verdict (ℕ × Fault)
+said_of assumptions (Ok lines) = Ok (verdict_of four assumptions lines)
+said_of assumptions (Err fault) = Err fault
+
+abbrev pub said : List ℕ → List ℕ → Result Verdict (ℕ × Fault)
+said assumptions text = said_of assumptions (lines_from 1 4 (map words_of (lines_of text)))
+
+pub record HasVerdicts : Type 0 where
+  pub verified : said [] (codes "5 1 0 1 2 0\n6 0 5 3 4 0\n") ≡ Ok Verified
+  pub from_reply : said [] (codes "l 5 1 0 1 2 0\n\nc comment\nl 6 0 5 3 4 0") ≡ Ok Verified
+  pub not_unit : said [] (codes "5 0 1 0\n") ≡ Ok (Refused 1 (HintNotUnit 1))
+  pub unknown : said [] (codes "5 1 0 9 0\n") ≡ Ok (Refused 1 (UnknownHint 9))
+  pub no_contradiction : said [] (codes "\n5 1 0 3 0\n") ≡ Ok (Refused 2 NoContradiction)
+  pub no_goal : said [] (codes "5 1 0 1 2 0\n") ≡ Ok NoGoal
+  pub assumed : said (3 ∷ []) (codes "5 1 0 1 2 0\n") ≡ Ok Verified
+  pub negative_hint : said [] (codes "5 1 0 -1 2 0\n") ≡ Err (1, NegativeHint)
+  pub not_rising : said [] (codes "5 1 0 1 2 0\n5 0 5 3 4 0\n") ≡ Err (2, IdNotRising 5 5)
+  pub faults_first : said [] (codes "5 0 1 0\n4 1 0 1 2 0\n") ≡ Err (2, IdNotRising 5 4)
