@@ -1,14 +1,47 @@
-use Rattle.std.proofs.Common.{◌≡◌, ℕ, zero, suc, ◌+◌, ◌-◌, ◌*◌, ◌/◌, ◌<◌, ◌≤◌, Bool, true, ◌&&◌, nat_le, List, [], ◌∷◌, ◌++◌, length, take, drop, map, Option, Some, None, refl, ap, arith, append_assoc}
-use Rattle.std.specs.List.{list_all}
+use Rattle.std.proofs.Common.{◌≡◌, ℕ, zero, suc, ◌+◌, ◌-◌, ◌*◌, ◌/◌, ◌<◌, ◌≤◌, Bool, true, false, ◌&&◌, cond, nat_le, List, [], ◌∷◌, ◌++◌, length, take, drop, replicate, get_or, Option, Some, None, refl, sym, ap, ◌∙◌, arith, append_assoc}
+use Rattle.std.specs.List.{list_all, find}
+use Rattle.std.specs.Prelude.{filter, nat_lt, slice_set, ◌^◌}
+use Rattle.std.proofs.lemmas.Bool.{false≢true}
 use Rattle.std.proofs.lemmas.Bool.Decides.{nat_tests}
 use Rattle.std.proofs.lemmas.List.Folds.{list_all-append}
 use Rattle.mal_base.specs.Clauses.{rises}
+use Rattle.mal_base.specs.Literals.{var_of, has_plus}
+use Rattle.mal_base.specs.declared.trail_entry.TrailEntry.{TrailEntry}
+use Rattle.spec_node.specs.Cut.{saved}
 use Rattle.mal_base.specs.Formulas.{is_within_limits, is_clause_of, is_within, literals_of}
 use Rattle.mal_revision.specs.Posted.{Posted, is_posted}
 use Rattle.mal_base.specs.Held.{Held}
-use Rattle.spec_node.specs.Load.{counted, numbered, new_order}
-use Rattle.mal_cdcl.specs.Within.{are_within, is_order_of}
-use Rattle.mal_cdcl.proofs.BatchLemmas.{and_true}
+use Rattle.spec_node.specs.Load.{counted, numbered, new_order, with_originals, is_derived}
+use Rattle.mal_trail.specs.Rooms.{are_within}
+use Rattle.mal_cdcl.specs.Within.{is_order_of}
+
+pub and_true : (a b : Bool) → (a && b) ≡ true → (a ≡ true) × (b ≡ true)
+and_true true b h = (refl, h)
+and_true false b h = absurd (false≢true h)
+
+some_one : {X : Type 0} (x y : X) → Some x ≡ Some y → x ≡ y
+some_one x y e = cc
+
+none_some : {X : Type 0} (x : X) → ◌≡◌ {A = Option X} None (Some x) → ⊥
+none_some x e = cc
+
+-- what holds of each element holds of the one found
+pub found_passes : {X : Type 0} (p q : X → Bool) (xs : List X) (x : X) → list_all q xs ≡ true → find p xs ≡ Some x → q x ≡ true
+found_passes {X} p q [] x h e = absurd (none_some x e)
+found_passes {X} p q (y ∷ ys) x h e = by_test (p y) (λ f. found_passes p q ys x (and_true (q y) (list_all q ys) h).1 f) e
+  where
+    by_test : (b : Bool) → (find p ys ≡ Some x → q x ≡ true) → cond b (Some y) (find p ys) ≡ Some x → q x ≡ true
+    by_test true rest f = rw (← some_one y x f) ((and_true (q y) (list_all q ys) h).0)
+    by_test false rest f = rest f
+
+-- the one found passes
+pub found_holds : {X : Type 0} (p : X → Bool) (xs : List X) (x : X) → find p xs ≡ Some x → p x ≡ true
+found_holds {X} p [] x e = absurd (none_some x e)
+found_holds {X} p (y ∷ ys) x e = by_test (p y) refl (λ f. found_holds p ys x f) e
+  where
+    by_test : (b : Bool) → p y ≡ b → (find p ys ≡ Some x → p x ≡ true) → cond b (Some y) (find p ys) ≡ Some x → p x ≡ true
+    by_test true t rest f = rw (← some_one y x f) t
+    by_test false t rest f = rest f
 
 -- one number more, and the numbers behind it
 pub counted_next : (items : List ℕ) (a n p : ℕ) → p < n → (items ++ (a + p) ∷ []) ++ counted (a + (p + 1)) (n - (p + 1)) ≡ items ++ counted (a + p) (n - p)
@@ -16,13 +49,6 @@ counted_next items a n p h =
     let k : n - p ≡ suc (n - (p + 1)) = omega arith in
     let e : a + (p + 1) ≡ a + p + 1 = omega arith in
     rw (append_assoc, k, e) refl
-
-pub values_next : (f : ℕ → Bool) (items : List Bool) (n p : ℕ) → p < n → (items ++ f (p + 1) ∷ []) ++ map f (counted (1 + (p + 1)) (n - (p + 1))) ≡ items ++ map f (counted (1 + p) (n - p))
-values_next f items n p h =
-    let k : n - p ≡ suc (n - (p + 1)) = omega arith in
-    let e : 1 + (p + 1) ≡ 1 + p + 1 = omega arith in
-    let g : p + 1 ≡ 1 + p = omega arith in
-    rw (append_assoc, k, e, g) refl
 
 pub turn-le : (i n : ℕ) → i ≤ 63 → i * n / 64 ≤ n
 turn-le i n h = grind arith
@@ -43,12 +69,11 @@ take-counted zero n a h = refl
 take-counted (suc k) zero a h = absurd (omega arith)
 take-counted (suc k) (suc n) a h = ap (λ (xs : List ℕ). a ∷ xs) (take-counted k n (a + 1) (omega arith))
 
--- the decision order in two runs of rising numbers
-pub new_order-runs : (index n : ℕ) → index ≤ 63 → new_order index 0 n ≡ counted (index * n / 64 + 1) (n - index * n / 64) ++ counted 1 (index * n / 64)
-new_order-runs index n h =
+-- new variables of the decision order in two runs of rising numbers
+pub new_order-runs : (index variables n : ℕ) → index ≤ 63 → new_order index variables n ≡ counted (variables + 1 + index * n / 64) (n - index * n / 64) ++ counted (variables + 1) (index * n / 64)
+new_order-runs index variables n h =
     let t : index * n / 64 ≤ n = turn-le index n h in
-    let e : 1 + index * n / 64 ≡ index * n / 64 + 1 = omega arith in
-    rw (drop-counted (index * n / 64) n 1 t, take-counted (index * n / 64) n 1 t, e) refl
+    rw (drop-counted (index * n / 64) n (variables + 1) t, take-counted (index * n / 64) n (variables + 1) t) refl
 
 le_test : (a b : ℕ) → a ≤ b → nat_le a b ≡ true
 le_test a b = grind (arith, nat_tests)
@@ -62,10 +87,30 @@ order_of-counted m (suc n) a h =
     let t : nat_le a m ≡ true = le_test a m (omega arith) in
     rw t (order_of-counted m n (a + 1) (omega arith))
 
-pub order_of-new : (index n : ℕ) → index ≤ 63 → is_order_of n (new_order index 0 n) ≡ true
-order_of-new index n h =
+pub order_of-new : (index variables n m : ℕ) → index ≤ 63 → variables + n ≤ m → is_order_of m (new_order index variables n) ≡ true
+order_of-new index variables n m h l =
     let t : index * n / 64 ≤ n = turn-le index n h in
-    rw (new_order-runs index n h, list_all-append, order_of-counted n (n - index * n / 64) (index * n / 64 + 1) (omega arith)) (order_of-counted n (index * n / 64) 1 (omega arith))
+    rw (new_order-runs index variables n h, list_all-append, order_of-counted m (n - index * n / 64) (variables + 1 + index * n / 64) (omega arith)) (order_of-counted m (index * n / 64) (variables + 1) (omega arith))
+
+-- an order of some variables is one of more
+pub order_more : (n m : ℕ) (order : List ℕ) → n ≤ m → is_order_of n order ≡ true → is_order_of m order ≡ true
+order_more n m [] h w = refl
+order_more n m (v ∷ vs) h w =
+    let a = and_true (nat_le v n) (is_order_of n vs) w in
+    let t : nat_le v m ≡ true = le_test v m (omega (arith, test_le v n a.0)) in
+    rw t (order_more n m vs h a.1)
+
+-- the decision order of a node that gets variables
+pub order-loaded : (index variables n m : ℕ) (order : List ℕ) → index ≤ 63 → variables + n ≤ m → is_order_of variables order ≡ true → is_order_of m (order ++ new_order index variables n) ≡ true
+order-loaded index variables n m order h l w = rw (list_all-append, order_more variables m order (omega arith) w) (order_of-new index variables n m h l)
+
+all-filter : (q p : Held → Bool) (cs : List Held) → list_all q cs ≡ true → list_all q (filter p cs) ≡ true
+all-filter q p [] w = refl
+all-filter q p (c ∷ cs) w = by_test (p c) (all-filter q p cs (and_true (q c) (list_all q cs) w).1)
+  where
+    by_test : (b : Bool) → list_all q (filter p cs) ≡ true → list_all q (cond b (c ∷ filter p cs) (filter p cs)) ≡ true
+    by_test true r = rw ((and_true (q c) (list_all q cs) w).0) r
+    by_test false r = r
 
 pub within-numbered : (n first : ℕ) (clauses : List (Option (List ℕ))) → list_all (is_clause_of n) clauses ≡ true → are_within n (numbered first clauses) ≡ true
 within-numbered n first [] h = refl
@@ -103,3 +148,44 @@ clauses_more n m [] h w = refl
 clauses_more n m (c ∷ cs) h w =
     let a = and_true (is_within n c.lits) (are_within n cs) w in
     rw (lits_more n m c.lits h a.0) (clauses_more n m cs h a.1)
+
+-- clauses of a node that gets clauses of more variables
+pub within-loaded : (v n m first : ℕ) (held : List Held) (clauses : List (Option (List ℕ))) → v ≤ m → n ≤ m → are_within v held ≡ true → list_all (is_clause_of n) clauses ≡ true → are_within m (with_originals held (numbered first clauses)) ≡ true
+within-loaded v n m first held clauses h k w c =
+    let old = clauses_more v m held h w in
+    let new = clauses_more n m (numbered first clauses) k (within-numbered n first clauses c) in
+    rw (list_all-append, all-filter (λ (x : Held). is_within m x.lits) (λ (x : Held). nat_lt x.id (2 ^ 32)) held old, list_all-append, new) (all-filter (λ (x : Held). is_within m x.lits) is_derived held old)
+
+-- one entry more is saved before those in front of it
+pub saved-push : (phases : List Bool) (es : List TrailEntry) (e : TrailEntry) → saved phases (es ++ e ∷ []) ≡ saved (slice_set phases (var_of e.lit - 1) (has_plus e.lit)) es
+saved-push phases [] e = refl
+saved-push phases (x ∷ xs) e = ap (λ (ps : List Bool). slice_set ps (var_of x.lit - 1) (has_plus x.lit)) (saved-push phases xs e)
+
+take-next : (es : List TrailEntry) (k : ℕ) (e d : TrailEntry) → k < length es → e ≡ get_or es k d → take (suc k) es ≡ take k es ++ e ∷ []
+take-next [] k e d l is = absurd (omega arith)
+take-next (x ∷ xs) zero e d l is = rw is refl
+take-next (x ∷ xs) (suc k) e d l is = ap (λ (ys : List TrailEntry). x ∷ ys) (take-next xs k e d (omega arith) is)
+
+-- the entry behind those that are left is saved next
+pub saved-next : (phases : List Bool) (es : List TrailEntry) (made : ℕ) (d : TrailEntry) → made < length es → saved (slice_set phases (var_of (get_or es (length es - 1 - made) d).lit - 1) (has_plus (get_or es (length es - 1 - made) d).lit)) (take (length es - (made + 1)) es) ≡ saved phases (take (length es - made) es)
+saved-next phases es made d l =
+    let k : length es - 1 - made ≡ length es - (made + 1) = omega arith in
+    let n : length es - made ≡ suc (length es - (made + 1)) = omega arith in
+    rw (k, n) (sym (ap (saved phases) (take-next es (length es - (made + 1)) (get_or es (length es - (made + 1)) d) d (omega arith) refl) ∙ saved-push phases (take (length es - (made + 1)) es) (get_or es (length es - (made + 1)) d)))
+
+pub phases-next : (items : List Bool) (phase : Bool) (n p : ℕ) → p < n → (items ++ phase ∷ []) ++ replicate (n - (p + 1)) phase ≡ items ++ replicate (n - p) phase
+phases-next items phase n p h =
+    let k : n - p ≡ suc (n - (p + 1)) = omega arith in
+    rw (append_assoc, k) refl
+
+-- clauses of some variables are clauses of more
+pub clauses_of_more : (n m : ℕ) (clauses : List (Option (List ℕ))) → n ≤ m → list_all (is_clause_of n) clauses ≡ true → list_all (is_clause_of m) clauses ≡ true
+clauses_of_more n m [] h w = refl
+clauses_of_more n m (None ∷ cs) h w =
+    let a = and_true (nat_le 1 n) (list_all (is_clause_of n) cs) w in
+    let t : nat_le 1 m ≡ true = le_test 1 m (omega (arith, test_le 1 n a.0)) in
+    rw t (clauses_of_more n m cs h a.1)
+clauses_of_more n m (Some lits ∷ cs) h w =
+    let a = and_true (rises lits && is_within n lits) (list_all (is_clause_of n) cs) w in
+    let b = and_true (rises lits) (is_within n lits) a.0 in
+    rw (b.0, lits_more n m lits h b.1) (clauses_of_more n m cs h a.1)

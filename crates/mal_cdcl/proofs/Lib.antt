@@ -1,5 +1,5 @@
-pub mod TrailLemmas
-pub mod PlaceLemmas
-pub mod BatchLemmas
+pub mod LubyLemmas
+pub mod OriginalLemmas
 pub mod FillLemmas
+pub mod NeedLemmas
 pub mod StepLemmas

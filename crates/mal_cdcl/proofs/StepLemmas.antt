@@ -1,4 +1,4 @@
-use Rattle.std.proofs.Common.{◌≡◌, ℕ, zero, suc, ◌+◌, ◌*◌, ◌/◌, ◌<◌, ◌≤◌, Bool, true, false, not, ◌&&◌, nat_le, List, length, Some, is_some, refl, arith}
+use Rattle.std.proofs.Common.{◌≡◌, ℕ, zero, suc, ◌+◌, ◌*◌, ◌/◌, ◌≤◌, Bool, true, false, not, ◌&&◌, nat_le, List, Some, is_some, refl, arith}
 use Rattle.std.proofs.lemmas.Bool.{false≢true}
 use Rattle.std.proofs.lemmas.Bool.Decides.{nat_tests}
 use Rattle.mal_base.specs.Literals.{literal, var_of}
@@ -6,25 +6,10 @@ use Rattle.mal_base.specs.Formulas.{is_within}
 use Rattle.mal_base.specs.declared.trail_entry.TrailEntry.{TrailEntry}
 use Rattle.spec_node.specs.State.{Node}
 use Rattle.spec_node.specs.Value.{is_true, has_value}
-use Rattle.spec_node.specs.Step.{luby, step, after_case, branching, first_open, first_free}
+use Rattle.spec_node.specs.Step.{step, first_open, first_free}
 use Rattle.spec_node.specs.Slice.{steps}
 use Rattle.mal_cdcl.specs.Within.{is_order_of}
-use Rattle.mal_cdcl.proofs.BatchLemmas.{and_true, found_passes, found_holds}
-
--- no conflict waits, no batch is left, and no restart is due
-pub record IsIdle (n : Node) : Type 0 where
-  pub calm : is_some n.conflict ≡ false
-  pub handled : length n.trail < n.processed
-  pub young : n.since ≡ 0
-  pub first : n.round ≡ 1
-
-not_le : (a b : ℕ) → b < a → nat_le a b ≡ false
-not_le a b = grind (arith, nat_tests)
-
--- an idle node assumes, decides or ends
-pub step-branches : (n : Node) → IsIdle n → step n ≡ after_case (branching n) n
-unfolding luby
-step-branches n h = rw (h.calm, not_le n.processed (length n.trail) h.handled, h.young, h.first) refl
+use Rattle.mal_cdcl.proofs.FillLemmas.{and_true, found_passes, found_holds}
 
 not_true : (b : Bool) → not b ≡ true → b ≡ false
 not_true true h = absurd (false≢true h)

@@ -1,2 +1,2 @@
-pub mod Trailed
 pub mod Within
+pub mod Ready

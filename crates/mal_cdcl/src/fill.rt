@@ -1,58 +1,115 @@
-//! What a node makes of a revision: its decision order, phases and clauses.
+//! What a node makes of a revision: its decision order, phases, clauses and assumptions. Room was made before.
 
-ghost use Rattle.std.specs.Prelude.{◌≡◌, ℕ, ◌+◌, ◌-◌, ◌*◌, ◌/◌, ◌^◌, ◌≤◌, ◌<◌, List, ◌++◌, length, IfOk, OnOk};
-ghost use Rattle.spec_node.specs.Load.{counted, numbered, new_order};
+ghost use Rattle.std.specs.Prelude.{◌≡◌, ℕ, ◌+◌, ◌-◌, ◌*◌, ◌/◌, ◌^◌, ◌≤◌, ◌<◌, true, All, Bool, List, [], ◌∷◌, ◌++◌, length, replicate, slice_set, vec_len, vec_capacity};
+ghost use Rattle.std.specs.List.{list_all};
+ghost use Rattle.mal_base.specs.Formulas.{is_clause_of, literals_of};
+ghost use Rattle.mal_base.specs.Held.{Held};
+ghost use Rattle.mal_base.specs.Literals.{var_of, has_plus};
+ghost use Rattle.spec_node.specs.Cut.{saved};
+ghost use Rattle.spec_node.specs.Load.{counted, numbered, new_order, with_originals};
+ghost use Rattle.spec_node.specs.Sound.{NumbersRise};
+ghost use Rattle.mal_trail.specs.Rooms.{HasRoom, IsLeft};
 
-use crate::held::HeldClause;
-use mal_base::{Clause, ClauseId, Var};
-use std::alloc::{AllocError, Global};
+use mal_base::{Clause, ClauseId, Lit, TrailEntry, Var};
+use mal_trail::{Engine, Trail};
 
 /// Appends so many variables from this one on.
-fn push_counted(order: &mut Vec<Var>, first: u32, count: u32) -> Result<(), AllocError>
+fn push_counted(order: &mut Vec<Var>, first: u32, count: u32)
     requires some { 1 ≤ first }
     requires bound { first + count ≤ 65537 }
-    ensures { OnOk result (order.new.items ≡ order.old.items ++ counted first count) }
+    requires room { vec_len order.old + count ≤ vec_capacity order.old }
+    ensures items { order.new.items ≡ order.old.items ++ counted first count }
+    ensures len { vec_len order.new ≡ vec_len order.old + count }
+    ensures capacity { vec_capacity order.new ≡ vec_capacity order.old }
 {
     for place in 0..count {
-        order.push(Var::of(first + place))?;
+        order.push_reserved(Var::of(first + place));
     }
-    Ok(())
 }
 
-/// The decision order of so many variables at the node of this index: rising, turned left by the node's share of a turn.
-pub fn new_order(alloc: Global, index: u32, variables: u32) -> Result<Vec<Var>, AllocError>
+/// Appends to the decision order of a node of so many variables so many new ones: in rising order, turned left by the
+/// node's share of a turn.
+pub fn push_order(order: &mut Vec<Var>, index: u32, variables: u32, added: u32)
     requires index { index ≤ 63 }
-    requires bound { variables ≤ 65536 }
-    ensures { IfOk result (λ v. v.items ≡ new_order index 0 variables) }
+    requires bound { variables + added ≤ 65536 }
+    requires room { vec_len order.old + added ≤ vec_capacity order.old }
+    ensures items { order.new.items ≡ order.old.items ++ new_order index variables added }
+    ensures len { vec_len order.new ≡ vec_len order.old + added }
+    ensures capacity { vec_capacity order.new ≡ vec_capacity order.old }
 {
-    let turn = index * variables / 64;
-    let mut order = Vec::with_capacity(alloc, variables as usize)?;
-    push_counted(&mut order, turn + 1, variables - turn)?;
-    push_counted(&mut order, 1, turn)?;
-    Ok(order)
+    let turn = index * added / 64;
+    push_counted(order, variables + 1 + turn, added - turn);
+    push_counted(order, variables + 1, turn);
 }
 
-/// The clauses under rising numbers from the first on, without the tautologies.
-pub fn numbered(
-    alloc: Global,
-    first: u32,
-    clauses: &[Option<Clause>],
-) -> Result<Vec<HeldClause>, AllocError>
-    requires some { 1 ≤ first }
-    requires bound { first + length clauses.now ≤ 2 ^ 32 - 1 }
-    ensures { IfOk result (λ v. v.items ≡ numbered first clauses.now) }
+/// Appends the phases of so many new variables.
+pub fn push_phases(phases: &mut Vec<bool>, phase: bool, added: u32)
+    requires { vec_len phases.old + added ≤ vec_capacity phases.old }
+    ensures items { phases.new.items ≡ phases.old.items ++ replicate added phase }
+    ensures len { vec_len phases.new ≡ vec_len phases.old + added }
+    ensures capacity { vec_capacity phases.new ≡ vec_capacity phases.old }
 {
-    let mut held = Vec::with_capacity(alloc, clauses.len())?;
-    let mut number = first;
-    for clause in clauses {
-        match clause {
+    for _place in 0..added {
+        phases.push_reserved(phase);
+    }
+}
+
+/// Makes the sign of each removed literal its variable's phase.
+pub fn save(phases: &mut [bool], removed: &[TrailEntry])
+    ensures phases { phases.new ≡ saved phases.old removed.now }
+    ensures len { length phases.new ≡ length phases.old }
+{
+    for made in 0..removed.len() {
+        let lit = removed[removed.len() - 1 - made].lit;
+        set_phase(phases, lit);
+    }
+}
+
+/// Makes the sign of a literal its variable's phase, where there is a place for it.
+fn set_phase(phases: &mut [bool], lit: Lit)
+    ensures phases { phases.new ≡ slice_set phases.old (var_of lit - 1) (has_plus lit) }
+    ensures len { length phases.new ≡ length phases.old }
+{
+    let place = lit.var().number() as usize - 1;
+    if place < phases.len() {
+        phases[place] = lit.is_positive();
+    }
+}
+
+/// Puts these literals in place of the others.
+pub fn replace(assumptions: &mut Vec<Lit>, lits: &[Lit])
+    requires { length lits.now ≤ vec_capacity assumptions.old }
+    ensures items { assumptions.new.items ≡ lits.now }
+    ensures capacity { vec_capacity assumptions.new ≡ vec_capacity assumptions.old }
+{
+    assumptions.clear();
+    for lit in lits {
+        assumptions.push_reserved(*lit);
+    }
+}
+
+/// Adds the clauses under rising numbers from the first on, without the tautologies, which keep their numbers. The
+/// originals that are held have smaller numbers.
+pub fn add_clauses<E: Engine>(engine: &mut E, trail: &Trail, first: u32, clauses: &[Option<Clause>])
+    requires some { 1 ≤ first }
+    requires bound { first + length clauses.now ≤ 2 ^ 32 }
+    requires above { All (λ (c : Held). c.id < 2 ^ 32 → c.id < first) (E.clauses engine.old) }
+    requires rising { NumbersRise 1 (E.clauses engine.old) }
+    requires within { list_all (is_clause_of (E.room engine.old).variables) clauses.now ≡ true }
+    requires clause_room { length clauses.now ≤ (E.room engine.old).clauses }
+    requires literal_room { literals_of clauses.now ≤ (E.room engine.old).literals }
+    requires fits { E.fits engine.old trail.now.entries trail.now.processed }
+    ensures clauses { E.clauses engine.new ≡ with_originals (E.clauses engine.old) (numbered first clauses.now) }
+    ensures room { IsLeft (length clauses.now) (literals_of clauses.now) (E.room engine.old) (E.room engine.new) }
+    ensures fits { E.fits engine.new trail.now.entries trail.now.processed }
+{
+    for place in 0..clauses.len() {
+        match &clauses[place] {
             None => {}
             Some(clause) => {
-                let clause = clause.copy(alloc)?;
-                held.push(HeldClause::new(ClauseId::original(number), clause))?;
+                let id = ClauseId::original(first + place as u32);
+                engine.load(id, clause, trail);
             }
         }
-        number += 1;
     }
-    Ok(held)
 }

@@ -1,11 +1,10 @@
 //! A solver node: conflict-driven search over the clauses and assumptions of a job, a slice of steps at a time.
 #![tactic(auto)]
 
-mod batch;
 mod fill;
-mod held;
+mod needs;
 mod node;
-mod trail;
+mod restart;
 
 pub use node::Node;
 

@@ -1,10 +1,11 @@
 //! Searches whose answers are known.
 
-ghost use Rattle.std.specs.Prelude.{◌≤◌};
+ghost use Rattle.std.specs.Prelude.{◌≤◌, ◌<◌, ◌^◌, IfOk};
 
 use crate::Node;
 use mal_base::{Clause, Lit, Var, Verdict};
 use mal_revision::Revision;
+use mal_scan::Scan;
 use std::alloc::Global;
 use std::process::Abort;
 use std::test::Fail;
@@ -25,13 +26,14 @@ fn loaded(
     index: u32,
     variables: u32,
     clauses: Vec<Option<Clause>>,
-) -> Result<Node, Fail>
+) -> Result<Node<Scan>, Fail>
     requires { index ≤ 63 }
+    ensures { IfOk result (λ n. n.state.round < 2 ^ 31) }
 {
     let revision = Revision::new(alloc, variables, clauses, &[])?;
     assert!(rt; revision.clauses().len() < 9);
     let mut node = Node::fresh(alloc, index);
-    node.load(&revision, 1)?;
+    node.ready(&[(&revision, 1)])?;
     Ok(node)
 }
 
@@ -45,6 +47,7 @@ fn one_of_two_variables_is_true(rt: HostRuntime) -> Result<(), Fail> {
         assert_eq!(rt; node.verdict(), Some(Verdict::Satisfiable));
         assert_eq!(rt; node.value(Var::of(1)), Some(first));
         assert_eq!(rt; node.value(Var::of(2)), Some(true));
+        assert_eq!(rt; node.take_lines().count(), 0);
         let mut model = Vec::with_capacity(rt.alloc(), node.variables() as usize)?;
         node.model(&mut model);
         assert_eq!(rt; model.as_slice(), [first, true].as_slice());
@@ -72,7 +75,5 @@ fn a_slice_decides_at_most_499_variables(rt: HostRuntime) -> Result<(), Fail> {
     let mut node = loaded(&rt, rt.alloc(), 0, 500, Vec::new(rt.alloc()))?;
     node.run();
     assert_eq!(rt; node.verdict(), None);
-    node.run();
-    assert_eq!(rt; node.verdict(), Some(Verdict::Satisfiable));
     Ok(())
 }

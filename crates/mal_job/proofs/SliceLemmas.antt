@@ -1,5 +1,5 @@
-use Rattle.std.proofs.Common.{◌≡◌, ℕ, zero, suc, ◌+◌, ◌-◌, ◌*◌, ◌<◌, ◌≤◌, Bool, true, false, ◌&&◌, ◌==◌, nat_lt, if◌then◌else◌, cond, List, [], ◌∷◌, ◌++◌, length, take, drop, replicate, count_by, fold, get_or, Option, Some, None, is_none, refl, sym, ◌∙◌, ap, arith, add-one, append-nil, append_assoc, subst, lit<}
-use Rattle.std.proofs.lemmas.List.Sums.{fold_push, fold-append, sum_by-cons}
+use Rattle.std.proofs.Common.{◌≡◌, ℕ, zero, suc, ◌+◌, ◌-◌, ◌*◌, ◌^◌, ◌<◌, ◌≤◌, Bool, true, false, ◌&&◌, ◌==◌, nat_lt, if◌then◌else◌, cond, List, [], ◌∷◌, ◌++◌, length, replicate, Option, Some, None, refl, sym, ◌∙◌, ap, arith, add-one, append-nil, subst}
+use Rattle.std.proofs.lemmas.List.Sums.{fold_push, sum_by-cons}
 use Rattle.std.proofs.lemmas.List.Elements.{All-head}
 use Rattle.std.proofs.lemmas.Bool.{ltb-true}
 use Rattle.mal_base.specs.Asks.{Terms}
@@ -13,12 +13,13 @@ use Rattle.std.specs.Prelude.{All}
 use Rattle.spec_node.specs.State.{Node, fresh}
 use Rattle.spec_node.specs.Load.{loaded}
 use Rattle.spec_node.proofs.ModelLemmas.{slice-leaves}
+use Rattle.spec_node.proofs.RoundLemmas.{slice-round}
 use Rattle.spec_node.specs.Model.{model_of}
 use Rattle.spec_node.specs.Slice.{Sliced, slice}
 use Rattle.spec_job.specs.Journal.{JournalEntry, Load, Run, is_load, after_entry, replay, loads_in}
-use Rattle.spec_job.specs.Solo.{Solo, Place, Started, Finished, conclude, answered, spend, missing_loads, start_entries, is_live, startable, place_at, vacant}
+use Rattle.spec_job.specs.Solo.{Solo, Place, Started, Finished, conclude, answered, spend, missing_loads, start_entries, is_live, startable, vacant}
 use Rattle.spec_job.specs.Titled.{Key, Titled, stepped}
-use Rattle.mal_job.specs.Places.{entries_after, places_after}
+use Rattle.mal_job.specs.Places.{entries_after}
 use Rattle.mal_job.specs.Ready.{node_after, ready}
 use Rattle.mal_job.specs.Ended.{new_answers, new_spent, spent_answers, spent_after}
 use Rattle.mal_job.specs.Viewed.{viewed}
@@ -139,6 +140,22 @@ next-variables rs runs room n one fits is =
     let next : n ≡ node_after (r.0 ∷ []) (suc runs) = (rw r.1 at is) ∙ sym (node-next r.0 runs) in
     let small : All (λ q. q.variables ≤ room) (r.0 ∷ []) = subst (λ (qs : List Posted). All (λ q. q.variables ≤ room) qs) r.1 fits in
     omega (arith, ap (λ (x : Node). x.variables) next, node-variables r.0 runs, All-head (λ (q : Posted). q.variables ≤ room) r.0 [] small)
+
+-- a node that was started has begun few restarts
+node-round : (r : Posted) (k : ℕ) → (node_after (r ∷ []) (suc k)).round ≤ 1 + suc k * 1000
+node-round r zero = omega (arith, slice-round (loaded r 1 (fresh 0)))
+node-round r (suc k) = omega (arith, ap (λ (x : Node). x.round) (node-next r (suc k)), slice-round (node_after (r ∷ []) (suc k)), node-round r k)
+
+-- and so has the node that is made ready for its next slice
+pub ready-round : (rs : List Posted) (runs : ℕ) (n : Node) → length rs ≡ 1 → runs ≤ 4096 → n ≡ ready rs runs (node_after rs runs) → n.round < 2 ^ 31
+ready-round rs runs n one few is =
+    let r = one-of rs one in
+    let next : n ≡ ready (r.0 ∷ []) runs (node_after (r.0 ∷ []) runs) = rw r.1 at is in
+    by_runs runs few r.0 (ap (λ (x : Node). x.round) next)
+  where
+    by_runs : (k : ℕ) → k ≤ 4096 → (r : Posted) → n.round ≡ (ready (r ∷ []) k (node_after (r ∷ []) k)).round → n.round < 2 ^ 31
+    by_runs zero f r e = omega arith
+    by_runs (suc k) f r e = omega (arith, node-round r k)
 
 -- the counts that a job keeps, after a slice of a job with one revision that is not answered
 record KeepsCounts (rs : List Posted) (more : List Answer) (volume slices runs spent now : ℕ) : Type 0 where

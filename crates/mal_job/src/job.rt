@@ -13,6 +13,7 @@ ghost use Rattle.mal_job.specs.Ended.{new_answers, new_spent, spent_answers, spe
 use mal_base::{Answer, Ask, Name, Values, Verdict};
 use mal_cdcl::Node;
 use mal_revision::Revision;
+use mal_scan::Scan;
 use std::alloc::{AllocError, Global};
 use std::marker::Model;
 
@@ -27,7 +28,7 @@ pub struct Job {
     volume: u32,
     revisions: Vec<Revision>,
     answers: Vec<Answer>,
-    node: Node,
+    node: Node<Scan>,
     runs: u32,
     spent: u32,
 }
@@ -56,7 +57,7 @@ impl Model for Job {
       };
     } };
 
-    ghost invariant = { λ j. (IsKept j.revisions.items j.answers.items j.volume j.ask.slices j.runs j.spent) × (length j.revisions.items ≤ vec_capacity j.answers) × (j.node ≡ node_after j.revisions.items j.runs) };
+    ghost invariant = { λ j. (IsKept j.revisions.items j.answers.items j.volume j.ask.slices j.runs j.spent) × (length j.revisions.items ≤ vec_capacity j.answers) × (j.node.state ≡ node_after j.revisions.items j.runs) };
 }
 
 impl Job {
@@ -204,36 +205,36 @@ fn model_room(alloc: Global, revisions: &[Revision]) -> Result<Vec<bool>, AllocE
 
 /// Loads the revision, of which there is one, into a node that was never started. After want of memory the node is as
 /// before.
-fn make_ready(node: &mut Node, revisions: &[Revision], runs: u32) -> Result<(), AllocError>
+fn make_ready(node: &mut Node<Scan>, revisions: &[Revision], runs: u32) -> Result<(), AllocError>
     requires one { length revisions.now ≡ 1 }
-    requires unstarted { runs ≡ 0 → node.old ≡ fresh 0 }
-    ensures ok { OnOk result (node.new ≡ ready revisions.now runs node.old) }
-    ensures err { OnErr result (node.new ≡ node.old) }
+    requires unstarted { runs ≡ 0 → node.old.state ≡ fresh 0 }
+    ensures ok { OnOk result (node.new.state ≡ ready revisions.now runs node.old.state) }
+    ensures err { OnErr result (node.new.state ≡ node.old.state) }
 {
     if runs > 0 {
         return Ok(());
     }
     let first = &revisions[0];
     let _ = first.clauses();
-    node.load(first, 1)?;
+    node.ready(&[(first, 1)])?;
     Ok(())
 }
 
 /// Answers the current revision by the verdict of a slice, or counts the slice as spent. Takes no memory.
 fn conclude(
-    node: &Node,
+    node: &Node<Scan>,
     mut values: Vec<bool>,
     slices: u32,
     answers: &mut Vec<Answer>,
     spent: &mut u32,
 )
     requires empty { values.items ≡ [] }
-    requires model_room { node.now.variables ≤ vec_capacity values }
+    requires model_room { node.now.state.variables ≤ vec_capacity values }
     requires answer_room { vec_len answers.old < vec_capacity answers.old }
     requires left { spent.old < slices }
-    ensures answers { answers.new.items ≡ answers.old.items ++ new_answers node.now.verdict node.now slices spent.old }
+    ensures answers { answers.new.items ≡ answers.old.items ++ new_answers node.now.state.verdict node.now.state slices spent.old }
     ensures room { vec_capacity answers.new ≡ vec_capacity answers.old }
-    ensures spent { spent.new ≡ new_spent node.now.verdict slices spent.old }
+    ensures spent { spent.new ≡ new_spent node.now.state.verdict slices spent.old }
 {
     match node.verdict() {
         Some(Verdict::Satisfiable) => {

@@ -13,3 +13,4 @@ pub mod ReasonLemmas
 pub mod SoundLemmas
 pub mod ChainLemmas
 pub mod PostedLemmas
+pub mod RoundLemmas

@@ -132,7 +132,7 @@ filter-originals (c ∷ cs) h =
     let here : nat_lt c.id (2 ^ 32) ≡ true = lt-ltb c.id (2 ^ 32) (All-head (λ x. x.id < 2 ^ 32) c cs h) in
     rw here (ap (λ (xs : List Held). c ∷ xs) (filter-originals cs (All-tail (λ x. x.id < 2 ^ 32) c cs h)))
 
-filter-derived : (cs : List Held) → All (λ c. c.id < 2 ^ 32) cs → filter is_derived cs ≡ []
+pub filter-derived : (cs : List Held) → All (λ c. c.id < 2 ^ 32) cs → filter is_derived cs ≡ []
 filter-derived [] h = refl
 filter-derived (c ∷ cs) h =
     let here : nat_le (2 ^ 32) c.id ≡ false = lt-leb (2 ^ 32) c.id (All-head (λ x. x.id < 2 ^ 32) c cs h) in

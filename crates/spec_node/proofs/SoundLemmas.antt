@@ -191,7 +191,7 @@ numbers-from : (low from : ℕ) (cs : List Held) → NumbersRise low cs → All 
 numbers-from low from [] h k = tt
 numbers-from low from (c ∷ cs) h k = (All-head (λ x. from ≤ x.id) c cs k, h.1)
 
-numbers-filter : (test : Held → Bool) (low : ℕ) (cs : List Held) → NumbersRise low cs → NumbersRise low (filter test cs)
+pub numbers-filter : (test : Held → Bool) (low : ℕ) (cs : List Held) → NumbersRise low cs → NumbersRise low (filter test cs)
 numbers-filter test low [] h = tt
 numbers-filter test low (c ∷ cs) h = by_test (numbers-filter test (c.id + 1) cs h.1) (test c)
   where
@@ -209,7 +209,7 @@ numbers-numbered first (None ∷ cs) = numbers-lower first (first + 1) (numbered
 numbers-numbered first (Some lits ∷ cs) = (omega arith, numbers-numbered (first + 1) cs)
 
 -- the clauses held after a load have rising numbers
-loaded-numbers : (r : Posted) (first : ℕ) (n : Node) → AreNewNumbers r first n → NumbersRise 1 n.clauses → NumbersRise 1 (with_originals n.clauses (numbered first r.clauses))
+pub loaded-numbers : (r : Posted) (first : ℕ) (n : Node) → AreNewNumbers r first n → NumbersRise 1 n.clauses → NumbersRise 1 (with_originals n.clauses (numbered first r.clauses))
 loaded-numbers r first n new h =
     let below : first + length r.clauses ≤ 2 ^ 32 = new.below in
     let originals : List Held = filter (λ c. nat_lt c.id (2 ^ 32)) n.clauses in

@@ -5,6 +5,7 @@ pub mod Cut
 pub mod Step
 pub mod Slice
 pub mod Load
+pub mod Adding
 pub mod Examples
 pub mod Model
 pub mod Sound

@@ -4,4 +4,9 @@ use Rattle.mal_cdcl.proofs.fill.push_counted.Goals as goal
 
 pub loop-place-preserved : goal.loop-place-preserved
 loop-place-preserved c =
-    rw (c.in_ok-push.ensures.items, c.of.ensures) (counted_next c.loop-place.order.items c.args.first c.args.count c.loop-place.place (omega arith) ∙ c.loop-place.invariant)
+    let inv = c.loop-place.invariant in
+    record {
+      done = rw (c.push_reserved.ensures.items, c.of.ensures) (counted_next c.loop-place.order.items c.args.first c.args.count c.loop-place.place (omega arith) ∙ inv.done);
+      len = omega (arith, c.push_reserved.ensures.len, inv.len);
+      capacity = omega (arith, c.push_reserved.ensures.capacity, inv.capacity);
+    }

@@ -1,0 +1,64 @@
+use Rattle.std.proofs.Common.{◌≡◌, ℕ, zero, suc, ◌+◌, ◌<◌, ◌≤◌, List, [], ◌∷◌, length, drop, get_or, refl, ap, arith, Bor}
+use Rattle.std.specs.Prelude.{max}
+use Rattle.mal_revision.specs.Posted.{Posted}
+use Rattle.spec_node.specs.State.{Node}
+use Rattle.spec_node.specs.Load.{loaded}
+use Rattle.mal_cdcl.specs.Within.{Stocked}
+use Rattle.mal_cdcl.specs.Ready.{posted, readied, AreNew, greatest, most_assumptions, HasRoomFor, IsSpared}
+
+-- the loads that are left from a place on begin with the one that stands there
+pub posted-drop : (loads : List (Bor Posted × ℕ)) (i : ℕ) (x d : Bor Posted × ℕ) → i < length loads → x ≡ get_or loads i d → posted (drop i loads) ≡ (x.0.now, x.1) ∷ posted (drop (i + 1) loads)
+posted-drop [] i x d l e = absurd (omega arith)
+posted-drop (y ∷ ys) zero x d l e = rw e refl
+posted-drop (y ∷ ys) (suc i) x d l e =
+    let more : suc i + 1 ≡ suc (i + 1) = omega arith in
+    rw more (posted-drop ys i x d (omega arith) e)
+
+greatest-least : (ls : List (Posted × ℕ)) (v : ℕ) → v ≤ greatest ls v
+greatest-least [] v = omega arith
+greatest-least (l ∷ ls) v = omega (arith, greatest-least ls (max v l.0.variables))
+
+most-least : (ls : List (Posted × ℕ)) (a : ℕ) → a ≤ most_assumptions ls a
+most-least [] a = omega arith
+most-least (l ∷ ls) a = omega (arith, most-least ls (max a (length l.0.assumptions)))
+
+most-more : (ls : List (Posted × ℕ)) (a b : ℕ) → a ≤ b → most_assumptions ls a ≤ most_assumptions ls b
+most-more [] a b h = h
+most-more (l ∷ ls) a b h = most-more ls (max a (length l.0.assumptions)) (max b (length l.0.assumptions)) (omega arith)
+
+-- room for loads is room for the first
+pub room-head : (l : Posted × ℕ) (ls : List (Posted × ℕ)) (n : Stocked) → HasRoomFor (l ∷ ls) n → HasRoomFor (l ∷ []) n
+room-head l ls n h =
+    let g = greatest-least ls (max n.state.variables l.0.variables) in
+    record {
+      trail = omega (arith, g, h.trail);
+      order = omega (arith, g, h.order);
+      phases = omega (arith, g, h.phases);
+      assumptions = omega (arith, most-least ls (max 0 (length l.0.assumptions)), h.assumptions);
+      variables = omega (arith, g, h.variables);
+      clauses = omega (arith, h.clauses);
+      literals = omega (arith, h.literals);
+    }
+
+-- what is left to do of some loads: the node is ready after it, its numbers are new, and there is room for it
+pub record IsReadying (left all : List (Posted × ℕ)) (start : Node) (now : Stocked) : Type 0 where
+  pub done : readied left now.state ≡ readied all start
+  pub new : AreNew left now.state
+  pub room : HasRoomFor left now
+
+pub readying-next : (l : Posted × ℕ) (ls all : List (Posted × ℕ)) (start : Node) (now next : Stocked) → IsReadying (l ∷ ls) all start now → next.state ≡ loaded l.0 l.1 now.state → IsSpared l.0 now next → IsReadying ls all start next
+readying-next l ls all start now next h is s =
+    let v : next.state.variables ≡ max now.state.variables l.0.variables = ap (λ (n : Node). n.variables) is in
+    record {
+      done = rw is h.done;
+      new = rw is h.new.1;
+      room = record {
+        trail = rw v (omega (arith, h.room.trail, s.trail));
+        order = rw v (omega (arith, h.room.order, s.order));
+        phases = rw v (omega (arith, h.room.phases, s.phases));
+        assumptions = omega (arith, most-more ls 0 (max 0 (length l.0.assumptions)) (omega arith), h.room.assumptions, s.assumptions);
+        variables = rw v (omega (arith, h.room.variables, s.variables));
+        clauses = omega (arith, h.room.clauses, s.clauses);
+        literals = omega (arith, h.room.literals, s.literals);
+      };
+    }

@@ -1,8 +1,0 @@
-use Rattle.std.proofs.Common.{[], refl, arith}
-use Rattle.mal_cdcl.proofs.TrailLemmas.{Fits-none}
-use Rattle.mal_cdcl.proofs.PlaceLemmas.{Stands-none}
-use Rattle.mal_cdcl.proofs.trail.Trail.new.Goals as goal
-
-pub invariant_of-result : goal.invariant_of-result
-invariant_of-result c =
-    rw (c.new.ensures.items, c.new-2.ensures.items) (record { fits = Fits-none; held = omega arith; placed = refl; stands = Stands-none [] })

@@ -1,0 +1,78 @@
+//! What room loads need.
+
+ghost use Rattle.std.specs.Prelude.{◌≡◌, ℕ, ◌+◌, ◌^◌, ◌≤◌, true, length, IfOk};
+ghost use Rattle.mal_base.specs.Formulas.{literals_of};
+ghost use Rattle.mal_revision.specs.Posted.{is_posted};
+ghost use Rattle.mal_cdcl.specs.Ready.{posted, greatest, clauses_in, literals_in, most_assumptions};
+
+use mal_base::Clause;
+use mal_revision::Revision;
+use std::alloc::AllocError;
+
+/// What a node needs for its next loads: variables in all, clauses and literals more, and assumptions of one load.
+#[derive(Clone, Copy, Debug)]
+pub struct Needs {
+    pub variables: u32,
+    pub clauses: usize,
+    pub literals: usize,
+    pub assumptions: usize,
+}
+
+/// What these loads need at a node of so many variables, at most 65,536. Sizes that no memory holds are want of memory.
+pub fn needs_of(loads: &[(&Revision, u32)], variables: u32) -> Result<Needs, AllocError>
+    requires { variables ≤ 65536 }
+    ensures variables { IfOk result (λ n. n.variables ≡ greatest (posted loads.now) variables) }
+    ensures least { IfOk result (λ n. variables ≤ n.variables) }
+    ensures bound { IfOk result (λ n. n.variables ≤ 65536) }
+    ensures clauses { IfOk result (λ n. n.clauses ≡ clauses_in (posted loads.now)) }
+    ensures literals { IfOk result (λ n. n.literals ≡ literals_in (posted loads.now)) }
+    ensures assumptions { IfOk result (λ n. n.assumptions ≡ most_assumptions (posted loads.now) 0) }
+{
+    let mut needs = Needs {
+        variables,
+        clauses: 0,
+        literals: 0,
+        assumptions: 0,
+    };
+    for load in loads {
+        let (revision, _first) = load;
+        let literals = count_literals(revision);
+        needs.variables = needs.variables.max(revision.variables());
+        needs.clauses = added(needs.clauses, revision.clauses().len())?;
+        needs.literals = added(needs.literals, literals)?;
+        needs.assumptions = needs.assumptions.max(revision.assumptions().len());
+    }
+    Ok(needs)
+}
+
+/// The sum of two sizes. One that no memory holds is want of memory.
+fn added(one: usize, more: usize) -> Result<usize, AllocError>
+    ensures { IfOk result (λ n. n ≡ one + more) }
+{
+    match one.checked_add(more) {
+        None => Err(AllocError),
+        Some(sum) => Ok(sum),
+    }
+}
+
+/// How many literals the clauses of a revision have.
+fn count_literals(revision: &Revision) -> usize
+    ensures { result ≡ literals_of revision.now.clauses }
+{
+    count_in(revision.clauses())
+}
+
+/// How many literals the clauses have, at most 2^24.
+fn count_in(clauses: &[Option<Clause>]) -> usize
+    requires { literals_of clauses.now ≤ 2 ^ 24 }
+    ensures { result ≡ literals_of clauses.now }
+{
+    let mut count = 0;
+    for clause in clauses {
+        match clause {
+            None => {}
+            Some(clause) => count += clause.lits().len(),
+        }
+    }
+    count
+}

@@ -1,0 +1,10 @@
+//! The clauses of a solver node, in flat storage: their literals stand side by side.
+#![tactic(auto)]
+
+mod slot;
+mod store;
+
+pub use store::Store;
+
+#[cfg(test)]
+mod tests;

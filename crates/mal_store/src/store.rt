@@ -1,0 +1,154 @@
+//! A map from numbers to clauses.
+
+ghost use Rattle.std.specs.Prelude.{◌≡◌, ℕ, ◌+◌, ◌≤◌, ◌<◌, List, [], ◌∷◌, ◌++◌, length, take, drop, slice_get, slice_index_or, Some, None, OnOk, MatchOption, vec_len, vec_capacity};
+ghost use Rattle.mal_base.specs.Held.{lits_under};
+ghost use Rattle.spec_node.specs.Adding.{with_clause};
+ghost use Rattle.mal_store.specs.declared.slot.Slot.{Slot};
+ghost use Rattle.mal_store.specs.Stored.{SlotsRise};
+
+use crate::slot::Slot;
+use mal_base::{ClauseId, ClauseView, Lit};
+use std::alloc::{AllocError, Global};
+use std::marker::Model;
+
+/// Clauses by rising number. Contracts see them, and how many clauses and literals there is room for.
+#[derive(Drop)]
+pub struct Store {
+    slots: Vec<Slot>,
+    literals: Vec<Lit>,
+}
+
+impl Model for Store {
+    ghost use Rattle.std.specs.Prelude.{◌-◌};
+    ghost use Rattle.std.specs.Vec.{vec_len, vec_capacity};
+    ghost use Rattle.mal_store.specs.Stored.{Stored, IsStore, held_in};
+
+    ghost Value = { Stored };
+
+    ghost view = { λ s. record {
+      clauses = held_in s.literals.items s.slots.items;
+      clause_room = vec_capacity s.slots - vec_len s.slots;
+      literal_room = vec_capacity s.literals - vec_len s.literals;
+    } };
+
+    ghost invariant = { λ s. IsStore s.literals.items s.slots.items };
+}
+
+impl Store {
+    /// The store without a clause and without room. Takes no memory.
+    pub fn new(alloc: Global) -> Store
+        ensures { result.clauses ≡ [] }
+    {
+        Store {
+            slots: Vec::new(alloc),
+            literals: Vec::new(alloc),
+        }
+    }
+
+    /// Makes room for so many clauses and literals more.
+    pub fn reserve(&mut self, clauses: usize, literals: usize) -> Result<(), AllocError>
+        ensures clauses { self.new.clauses ≡ self.old.clauses }
+        ensures for_clauses { OnOk result (clauses ≤ self.new.clause_room) }
+        ensures for_literals { OnOk result (literals ≤ self.new.literal_room) }
+        ensures more_clauses { self.old.clause_room ≤ self.new.clause_room }
+        ensures more_literals { self.old.literal_room ≤ self.new.literal_room }
+    {
+        self.slots.reserve(clauses)?;
+        self.literals.reserve(literals)?;
+        Ok(())
+    }
+
+    /// Adds a clause under a number that is not held, where there is room for it. Takes no memory.
+    pub fn add_reserved(&mut self, id: ClauseId, lits: &[Lit])
+        requires new { lits_under id self.old.clauses ≡ None }
+        requires clause_room { 1 ≤ self.old.clause_room }
+        requires literal_room { length lits.now ≤ self.old.literal_room }
+        ensures clauses { self.new.clauses ≡ with_clause (record { id = id; lits = lits.now }) self.old.clauses }
+        ensures clause_room { self.old.clause_room ≤ self.new.clause_room + 1 }
+        ensures literal_room { self.old.literal_room ≤ self.new.literal_room + length lits.now }
+    {
+        let slot = Slot {
+            id,
+            start: self.literals.len(),
+            len: lits.len(),
+        };
+        let place = place_of(self.slots.as_slice(), id);
+        append_reserved(&mut self.literals, lits);
+        let _ = self.slots.insert(place, slot);
+    }
+
+    /// The number of clauses.
+    pub fn len(&self) -> usize
+        ensures { result ≡ length self.now.clauses }
+    {
+        self.slots.len()
+    }
+
+    /// The clause at a place, counted from 0: its number and its literals.
+    pub fn at(&self, place: usize) -> (ClauseId, &[Lit])
+        requires { place < length self.now.clauses }
+        ensures { slice_get self.now.clauses place ≡ Some (record { id = result.0; lits = result.1.now }) }
+    {
+        let slot = self.slots[place];
+        (
+            slot.id,
+            part(self.literals.as_slice(), slot.start, slot.len),
+        )
+    }
+
+    /// The literals of the clause of this number. None exactly where the number is not held.
+    pub fn get(&self, id: ClauseId) -> Option<&[Lit]>
+        ensures { MatchOption result (lits_under id self.now.clauses ≡ None) (λ lits. lits_under id self.now.clauses ≡ Some lits.now) }
+    {
+        let place = place_of(self.slots.as_slice(), id);
+        if self.slots.len() <= place {
+            return None;
+        }
+        let (found, lits) = self.at(place);
+        if found != id {
+            return None;
+        }
+        Some(lits)
+    }
+}
+
+impl ClauseView for Store {
+    ghost clauses = { λ s. s.clauses };
+
+    fn get(&self, id: ClauseId) -> Option<&[Lit]> {
+        Store::get(self, id)
+    }
+}
+
+/// How many of the slots, by rising number, have a number below this one.
+fn place_of(slots: &[Slot], id: ClauseId) -> usize
+    requires { SlotsRise 1 slots.now }
+    ensures some { 1 ≤ id }
+    ensures bound { result ≤ length slots.now }
+    ensures below { (k : ℕ) (d : Slot) → k < result → (slice_index_or slots.now k d).id < id }
+    ensures above { (k : ℕ) (d : Slot) → result ≤ k → k < length slots.now → id ≤ (slice_index_or slots.now k d).id }
+{
+    let number = id.number();
+    slots.partition_point(|slot| slot.id.number() < number)
+}
+
+/// So many literals from a place on.
+fn part(literals: &[Lit], start: usize, len: usize) -> &[Lit]
+    requires { start + len ≤ length literals.now }
+    ensures { result.now ≡ take len (drop start literals.now) }
+{
+    let (_before, rest) = literals.split_at(start);
+    let (part, _behind) = rest.split_at(len);
+    part
+}
+
+/// Appends literals to a list that has room for them. Takes no memory.
+fn append_reserved(list: &mut Vec<Lit>, lits: &[Lit])
+    requires { vec_len list.old + length lits.now ≤ vec_capacity list.old }
+    ensures items { list.new.items ≡ list.old.items ++ lits.now }
+    ensures capacity { vec_capacity list.new ≡ vec_capacity list.old }
+{
+    for lit in lits {
+        list.push_reserved(*lit);
+    }
+}

@@ -1,0 +1,5 @@
+pub mod LevelLemmas
+pub mod TrailLemmas
+pub mod PlaceLemmas
+pub mod CutLemmas
+pub mod ValueLemmas

@@ -1,0 +1,11 @@
+//! The trail of a solver node, and what an engine of unit propagation has to do on it.
+#![tactic(auto)]
+
+mod engine;
+mod trail;
+
+pub use engine::Engine;
+pub use trail::Trail;
+
+#[cfg(test)]
+mod tests;

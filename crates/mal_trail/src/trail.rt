@@ -1,0 +1,250 @@
+//! The trail: the literals that are true, in the order in which they became so.
+
+ghost use Rattle.std.specs.Prelude.{vec_capacity, ◌≡◌, ℕ, ◌+◌, ◌≤◌, ◌<◌, false, List, [], ◌∷◌, ◌++◌, length, slice_index, take, map, min, true, is_some, Some, None, OnOk, IfOk, IfSome};
+ghost use Rattle.mal_base.specs.Literals.{var_of, literal};
+ghost use Rattle.mal_base.specs.Trails.{value_on};
+ghost use Rattle.spec_node.specs.Load.{counted};
+ghost use Rattle.spec_node.specs.Cut.{kept, removed};
+ghost use Rattle.spec_node.specs.Value.{is_true, is_false, has_value, level_of};
+
+use mal_base::{ClauseId, Lit, TrailEntry, TrailView, Var};
+use std::alloc::{AllocError, Global};
+use std::marker::Model;
+
+/// A trail, on which no variable stands twice and no level falls, and how many of its propagation batches count as
+/// handled: at most one more than it has entries. Contracts see its entries, the batches and the greatest variable that it
+/// has room for. Beside the entries stands for each variable the index at which it is, if it is on the trail at all.
+#[derive(Drop)]
+pub struct Trail {
+    entries: Vec<TrailEntry>,
+    places: Vec<u32>,
+    processed: u32,
+    room: u32,
+}
+
+impl Model for Trail {
+    ghost use Rattle.std.specs.Vec.{vec_capacity};
+    ghost use Rattle.mal_trail.specs.Trailed.{Trailed, IsTrail};
+
+    ghost Value = { Trailed };
+
+    ghost view = { λ t. record { entries = t.entries.items; processed = t.processed; room = t.room } };
+
+    ghost invariant = { λ t. IsTrail t.room t.processed t.entries.items (vec_capacity t.entries) t.places.items };
+}
+
+impl Trail {
+    /// The trail without an entry, which has room for no variable.
+    pub fn new(alloc: Global) -> Trail
+        ensures { result ≡ record { entries = []; processed = 0; room = 0 } }
+    {
+        Trail {
+            entries: Vec::new(alloc),
+            places: Vec::new(alloc),
+            processed: 0,
+            room: 0,
+        }
+    }
+
+    /// Makes room for the variables up to this one, at most 65,536.
+    pub fn reserve(&mut self, variables: u32) -> Result<(), AllocError>
+        requires { variables ≤ 65536 }
+        ensures entries { self.new.entries ≡ self.old.entries }
+        ensures processed { self.new.processed ≡ self.old.processed }
+        ensures room { OnOk result (variables ≤ self.new.room) }
+        ensures more { self.old.room ≤ self.new.room }
+    {
+        if variables <= self.room {
+            return Ok(());
+        }
+        self.entries.reserve(variables as usize)?;
+        self.places.resize(variables as usize + 1, 0)?;
+        self.room = variables;
+        Ok(())
+    }
+
+    /// The number of entries, at most 65,536.
+    pub fn len(&self) -> usize
+        ensures value { result ≡ length self.now.entries }
+        ensures bound { result ≤ 65536 }
+    {
+        self.entries.len()
+    }
+
+    /// Whether the literal is true.
+    pub fn is_true(&self, lit: Lit) -> bool
+        ensures { result ≡ is_true self.now.entries lit }
+    {
+        self.is_true_before(self.entries.len(), lit)
+    }
+
+    /// Whether the literal is false.
+    pub fn is_false(&self, lit: Lit) -> bool
+        ensures { result ≡ is_false self.now.entries lit }
+    {
+        self.is_true(lit.negate())
+    }
+
+    /// Whether the literal is true under the first entries alone, so many.
+    pub fn is_true_before(&self, count: usize, lit: Lit) -> bool
+        requires { count ≤ length self.now.entries }
+        ensures { result ≡ is_true (take count self.now.entries) lit }
+    {
+        let place = place_at(self.places.as_slice(), lit.var());
+        if count <= place {
+            return false;
+        }
+        self.entries[place].lit == lit
+    }
+
+    /// Whether the literal is false under the first entries alone, so many.
+    pub fn is_false_before(&self, count: usize, lit: Lit) -> bool
+        requires { count ≤ length self.now.entries }
+        ensures { result ≡ is_false (take count self.now.entries) lit }
+    {
+        self.is_true_before(count, lit.negate())
+    }
+
+    /// Whether the variable has a value.
+    pub fn has_value(&self, var: Var) -> bool
+        ensures { result ≡ has_value self.now.entries var }
+    {
+        let place = place_at(self.places.as_slice(), var);
+        if self.entries.len() <= place {
+            return false;
+        }
+        var == self.entries[place].lit.var()
+    }
+
+    /// Writes into an empty list with room for them whether the variables, so many, are true, in rising order. At most
+    /// 65,536. Takes no memory.
+    pub fn truth_values(&self, variables: u32, values: &mut Vec<bool>)
+        requires bound { variables ≤ 65536 }
+        requires empty { values.old.items ≡ [] }
+        requires room { variables ≤ vec_capacity values.old }
+        ensures items { values.new.items ≡ map (λ v. is_true self.now.entries (literal v true)) (counted 1 variables) }
+        ensures len { length values.new.items ≡ variables }
+    {
+        for place in 0..variables {
+            values.push_reserved(self.is_true(Var::of(place + 1).literal(true)));
+        }
+    }
+
+    /// The decision level that the trail has reached, at most the number of its entries.
+    pub fn level(&self) -> u32
+        ensures value { result ≡ level_of self.now.entries }
+        ensures bound { result ≤ length self.now.entries }
+        ensures limit { result ≤ 65536 }
+    {
+        match self.entries.last() {
+            None => 0,
+            Some(entry) => entry.level,
+        }
+    }
+
+    /// The value of a variable. None exactly where it is not on the trail.
+    pub fn value(&self, var: Var) -> Option<bool>
+        ensures { result ≡ value_on self.now.entries var }
+    {
+        let place = place_at(self.places.as_slice(), var);
+        if self.entries.len() <= place {
+            return None;
+        }
+        let lit = self.entries[place].lit;
+        if var != lit.var() {
+            return None;
+        }
+        Some(lit.is_positive())
+    }
+
+    /// How many propagation batches count as handled: at most one more than the trail has entries.
+    pub fn processed(&self) -> u32
+        ensures value { result ≡ self.now.processed }
+        ensures bound { result ≤ length self.now.entries + 1 }
+        ensures limit { result ≤ 65537 }
+    {
+        self.processed
+    }
+
+    /// Says how many propagation batches count as handled: at most one more than the trail has entries.
+    pub fn set_processed(&mut self, processed: u32)
+        requires { processed ≤ length self.old.entries + 1 }
+        ensures entries { self.new.entries ≡ self.old.entries }
+        ensures processed { self.new.processed ≡ processed }
+        ensures room { self.new.room ≡ self.old.room }
+    {
+        self.processed = processed;
+    }
+
+    /// Makes a literal true whose variable has no value, by a clause or, where there is none, as a decision. Its level is
+    /// that of the last entry (0 on an empty trail) or the next. Takes no memory.
+    pub fn push(&mut self, lit: Lit, reason: Option<ClauseId>, level: u32)
+        requires room { var_of lit ≤ self.old.room }
+        requires free { has_value self.old.entries (var_of lit) ≡ false }
+        requires last { level_of self.old.entries ≤ level }
+        requires next { level ≤ level_of self.old.entries + 1 }
+        ensures entries { self.new.entries ≡ self.old.entries ++ record { lit = lit; reason = reason; level = level } ∷ [] }
+        ensures processed { self.new.processed ≡ self.old.processed }
+        ensures room { self.new.room ≡ self.old.room }
+    {
+        let number = lit.var().number() as usize;
+        self.places[number] = self.entries.len() as u32;
+        self.entries
+            .push_reserved(TrailEntry { lit, reason, level });
+    }
+
+    /// How many entries are of this level or of one below it: these stand in front.
+    fn count_up_to(&self, level: u32) -> usize
+        ensures count { result ≡ length (kept level self.now.entries) }
+        ensures bound { result ≤ length self.now.entries }
+    {
+        self.entries.partition_point(|entry| entry.level <= level)
+    }
+
+    /// The entries above this level: those that a cut back to it takes away.
+    pub fn above(&self, level: u32) -> &[TrailEntry]
+        ensures { result.now ≡ removed level self.now.entries }
+    {
+        let count = self.count_up_to(level);
+        &self.entries[count..]
+    }
+
+    /// Takes away the entries above this level. No more batches count as handled than the trail then has prefixes.
+    pub fn back_to(&mut self, level: u32)
+        ensures entries { self.new.entries ≡ kept level self.old.entries }
+        ensures processed { self.new.processed ≡ min self.old.processed (length (kept level self.old.entries) + 1) }
+        ensures room { self.new.room ≡ self.old.room }
+    {
+        let count = self.count_up_to(level);
+        self.entries.truncate(count);
+        self.processed = self.processed.min(count as u32 + 1);
+    }
+}
+
+impl TrailView for Trail {
+    ghost entries = { λ t. t.entries };
+
+    fn len(&self) -> usize {
+        Trail::len(self)
+    }
+
+    fn at(&self, place: usize) -> TrailEntry {
+        self.entries[place]
+    }
+
+    fn value(&self, var: Var) -> Option<bool> {
+        Trail::value(self, var)
+    }
+}
+
+/// The place of a variable, 0 where there is none.
+fn place_at(places: &[u32], var: Var) -> usize
+    ensures { result ≡ slice_index places.now var }
+{
+    let number = var.number() as usize;
+    if number < places.len() {
+        places[number] as usize
+    } else {
+        0
+    }
+}
