@@ -1,0 +1,11 @@
+use Rattle.std.proofs.Common.{rules, ◌≡◌, List, sym, subst}
+use Rattle.mal_base.specs.Held.{Held}
+use Rattle.spec_exchange.specs.Exchange.{front}
+use Rattle.spec_exchange.specs.Order.{IsSorted}
+use Rattle.spec_exchange.proofs.FrontLemmas.{front-sorted}
+use Rattle.mal_buffer.proofs.buffer.Buffer.cut.Goals as goal
+
+pub invariant_of-self : goal.invariant_of-self
+invariant_of-self c =
+    let same : c.truncate.new.self.items ≡ front c.args.literals c.self.inside.entries.items = search rules in
+    subst (λ (es : List Held). IsSorted es) (sym same) (front-sorted c.args.literals c.self.inside.entries.items c.self.invariant)

@@ -1,0 +1,149 @@
+//! Buffers, merging and cutting.
+
+ghost use Rattle.std.specs.Prelude.{◌≡◌, ℕ, ◌+◌, ◌-◌, ◌<◌, ◌≤◌, List, [], ◌∷◌, ◌++◌, length, take, IfOk, OnOk};
+ghost use Rattle.spec_exchange.specs.Exchange.{union, front, lesser, merged};
+ghost use Rattle.spec_exchange.specs.Order.{IsSorted};
+
+use crate::entry::Entry;
+use mal_base::{Clause, ClauseId};
+use std::alloc::{AllocError, Global};
+use std::cmp::Ordering;
+use std::marker::Model;
+
+/// A buffer: clauses with their numbers, the shorter ones first and those of one length by the codes of their literals. No
+/// list of literals stands twice. Contracts see the list of entries.
+#[derive(Drop)]
+pub struct Buffer {
+    entries: Vec<Entry>,
+}
+
+impl Model for Buffer {
+    ghost use Rattle.std.specs.Prelude.{List};
+    ghost use Rattle.mal_base.specs.Held.{Held};
+    ghost use Rattle.spec_exchange.specs.Order.{IsSorted};
+
+    ghost Value = { List Held };
+
+    ghost view = { λ b. b.entries.items };
+
+    ghost invariant = { λ b. IsSorted b.entries.items };
+}
+
+impl Buffer {
+    /// The empty buffer. Takes no memory.
+    pub fn new(alloc: Global) -> Buffer
+        ensures { result ≡ [] }
+    {
+        Buffer {
+            entries: Vec::new(alloc),
+        }
+    }
+
+    /// The buffer of one clause under its number.
+    pub fn single(alloc: Global, clause: Clause, id: ClauseId) -> Result<Buffer, AllocError>
+        ensures { IfOk result (λ b. b ≡ record { id = id; lits = clause } ∷ []) }
+    {
+        let entries = vec![in alloc; Entry::new(clause, id)]?;
+        Ok(Buffer { entries })
+    }
+
+    /// The entries, in their order.
+    pub fn entries(&self) -> &[Entry]
+        ensures value { result.now ≡ self.now }
+        ensures sorted { IsSorted self.now }
+    {
+        self.entries.as_slice()
+    }
+
+    /// An equal buffer.
+    pub fn copy(&self, alloc: Global) -> Result<Buffer, AllocError>
+        ensures { IfOk result (λ b. b ≡ self.now) }
+    {
+        let mut entries = Vec::with_capacity(alloc, self.entries.len())?;
+        push_copies(alloc, &mut entries, self.entries.as_slice())?;
+        Ok(Buffer { entries })
+    }
+
+    /// The union of two buffers: of clauses with the same literals one stays, with the lesser number. Linear in both.
+    pub fn merge(alloc: Global, one: &Buffer, other: &Buffer) -> Result<Buffer, AllocError>
+        ensures { IfOk result (λ b. b ≡ union (one.now ++ other.now)) }
+    {
+        let entries = merged(alloc, one.entries.as_slice(), other.entries.as_slice())?;
+        Ok(Buffer { entries })
+    }
+
+    /// Keeps the longest front that has at most so many literals. Takes no memory.
+    pub fn cut(&mut self, literals: usize)
+        ensures front { self.new ≡ front literals self.old }
+        ensures was_sorted { IsSorted self.old }
+    {
+        let kept = front_len(self.entries.as_slice(), literals);
+        self.entries.truncate(kept);
+    }
+}
+
+/// Copies of entries, put behind others.
+fn push_copies(alloc: Global, all: &mut Vec<Entry>, more: &[Entry]) -> Result<(), AllocError>
+    ensures { OnOk result (all.new.items ≡ all.old.items ++ more.now) }
+{
+    for entry in more {
+        all.push(entry.copy(alloc)?)?;
+    }
+    Ok(())
+}
+
+/// Two sorted lists merged: the lesser first entry first, and of two with the same literals the one with the lesser number.
+fn merged(alloc: Global, xs: &[Entry], ys: &[Entry]) -> Result<Vec<Entry>, AllocError>
+    ensures { IfOk result (λ v. v.items ≡ merged xs.now ys.now) }
+{
+    let mut all = Vec::with_capacity(alloc, xs.len() + ys.len())?;
+    let (mut i, mut j) = (0, 0);
+    while i < xs.len() && j < ys.len() {
+        let (x, y) = (&xs[i], &ys[j]);
+        match x.order(y) {
+            Ordering::Less => {
+                all.push(x.copy(alloc)?)?;
+                i += 1;
+            }
+            Ordering::Greater => {
+                all.push(y.copy(alloc)?)?;
+                j += 1;
+            }
+            Ordering::Equal => {
+                all.push(lesser(x, y).copy(alloc)?)?;
+                i += 1;
+                j += 1;
+            }
+        }
+    }
+    push_copies(alloc, &mut all, &xs[i..])?;
+    push_copies(alloc, &mut all, &ys[j..])?;
+    Ok(all)
+}
+
+/// Of two entries the one with the lesser number.
+fn lesser<'a>(x: &'a Entry, y: &'a Entry) -> &'a Entry
+    ensures { result.now ≡ lesser x.now y.now }
+{
+    if x.id().number() <= y.id().number() {
+        x
+    } else {
+        y
+    }
+}
+
+/// How many entries the longest front of at most so many literals has.
+fn front_len(entries: &[Entry], literals: usize) -> usize
+    ensures within { result ≤ length entries.now }
+    ensures front { take result entries.now ≡ front literals entries.now }
+{
+    let mut room = literals;
+    for place in 0..entries.len() {
+        let size = entries[place].lits().len();
+        if room < size {
+            return place;
+        }
+        room -= size;
+    }
+    entries.len()
+}

@@ -1,0 +1,54 @@
+//! The clauses that were seen.
+
+ghost use Rattle.std.specs.Prelude.{◌≡◌, ℕ, not, ◌||◌, List, [], bytes_eq, OnOk, OnErr};
+ghost use Rattle.mal_filter.specs.Noted.{is_noted};
+
+use mal_base::{Clause, Lit};
+use std::alloc::{AllocError, Global};
+use std::collections::BTreeSet;
+use std::marker::Model;
+
+/// The clauses that were noted, by their literals alone. Contracts see the lists of literals.
+#[derive(Drop)]
+pub struct Seen {
+    alloc: Global,
+    noted: BTreeSet<Vec<Lit>>,
+}
+
+impl Model for Seen {
+    ghost use Rattle.std.specs.Prelude.{ℕ, List, map};
+
+    ghost Value = { List (List ℕ) };
+
+    ghost view = { λ s. map (λ v. v.items) s.noted.keys };
+}
+
+impl Seen {
+    /// A filter that has seen nothing, and lets each clause pass. Takes no memory.
+    pub fn new(alloc: Global) -> Seen
+        ensures { result ≡ [] }
+    {
+        Seen {
+            alloc,
+            noted: BTreeSet::new(alloc),
+        }
+    }
+
+    /// Whether the clause is new: true exactly where no noted clause has the same literals. Logarithmic in the clauses
+    /// noted. Takes no memory.
+    pub fn passes(&self, clause: &Clause) -> bool
+        ensures { result ≡ not (is_noted clause.now self.now) }
+    {
+        !self.noted.contains(clause.lits())
+    }
+
+    /// Notes a clause, which then no longer passes. After want of memory the filter is as before.
+    pub fn note(&mut self, clause: &Clause) -> Result<(), AllocError>
+        ensures noted { OnOk result ((lits : List ℕ) → is_noted lits self.new ≡ (bytes_eq lits clause.now || is_noted lits self.old)) }
+        ensures unchanged { OnErr result (self.new ≡ self.old) }
+    {
+        let lits = Vec::from_slice(self.alloc, clause.lits())?;
+        self.noted.insert(lits)?;
+        Ok(())
+    }
+}

@@ -1,0 +1,152 @@
+use Rattle.std.proofs.Common.{◌≡◌, ℕ, ◌+◌, ◌-◌, ◌<◌, ◌≤◌, Bool, true, false, nat_le, List, [], ◌∷◌, ◌++◌, length, refl, sym, ap, ◌∙◌, arith, if◌then◌else◌}
+use Rattle.std.proofs.lemmas.Bool.{leb-true, leb-false, le-leb, lt-leb}
+use Rattle.std.proofs.lemmas.List.Sums.{sum_by-cons}
+use Rattle.std.specs.declared.cmp.Ordering.{Ordering}
+use Rattle.std.specs.declared.cmp.Ordering.TheVariants.{Less, Equal, Greater}
+use Rattle.mal_base.specs.Held.{Held}
+use Rattle.spec_exchange.specs.Exchange.{lits_cmp, lesser, union, merge_by, merged_from, merged, front}
+use Rattle.spec_exchange.specs.Order.{IsBefore, IsSorted}
+use Rattle.spec_exchange.specs.Laws.{literals_in, IsLongestFront}
+use Rattle.spec_exchange.proofs.OrderLemmas.{cmp_same, less-length, lesser-lits}
+use Rattle.spec_exchange.proofs.UnionLemmas.{union-sorted, union-front, of-unions}
+
+-- an entry that fits is the first of the front, and one that does not fit ends it
+front-fits : (room : ℕ) (e : Held) (es : List Held) → length e.lits ≤ room → front room (e ∷ es) ≡ e ∷ front (room - length e.lits) es
+front-fits room e es h = rw (le-leb (length e.lits) room h) refl
+
+front-ends : (room : ℕ) (e : Held) (es : List Held) → room < length e.lits → front room (e ∷ es) ≡ []
+front-ends room e es h = rw (lt-leb (length e.lits) room h) refl
+
+-- the front of a front
+pub front-front : (k m : ℕ) (es : List Held) → k ≤ m → front k (front m es) ≡ front k es
+front-front k m [] h = refl
+front-front k m (e ∷ es) h = by_fit (nat_le (length e.lits) m) refl (λ fits. front-front (k - length e.lits) (m - length e.lits) es (omega arith))
+  where
+    by_least : (c : Bool) → nat_le (length e.lits) k ≡ c → (length e.lits ≤ k → front (k - length e.lits) (front (m - length e.lits) es) ≡ front (k - length e.lits) es) → front k (e ∷ front (m - length e.lits) es) ≡ front k (e ∷ es)
+    by_least true q rest =
+        let fits : length e.lits ≤ k = leb-true (length e.lits) k q in
+        front-fits k e (front (m - length e.lits) es) fits ∙ (ap (λ (r : List Held). e ∷ r) (rest fits) ∙ sym (front-fits k e es fits))
+    by_least false q rest =
+        let over : k < length e.lits = leb-false (length e.lits) k q in
+        front-ends k e (front (m - length e.lits) es) over ∙ sym (front-ends k e es over)
+
+    by_fit : (b : Bool) → nat_le (length e.lits) m ≡ b → (length e.lits ≤ k → front (k - length e.lits) (front (m - length e.lits) es) ≡ front (k - length e.lits) es) → front k (if b then e ∷ front (m - length e.lits) es else []) ≡ front k (e ∷ es)
+    by_fit true q rest = by_least (nat_le (length e.lits) k) refl rest
+    by_fit false q rest = let over : m < length e.lits = leb-false (length e.lits) m q in sym (front-ends k e es (omega arith))
+
+-- an entry that does not fit, and what stands behind it, changes nothing
+front-without : (k : ℕ) (x : Held) (rest : List Held → List Held) (ys : List Held) → k < length x.lits → front k (merged_from x rest ys) ≡ front k ys
+front-without k x rest [] over = front-ends k x (rest []) over
+front-without k x rest (y ∷ ys) over =
+    by_order (lits_cmp x.lits y.lits) refl (λ fits. front-without (k - length y.lits) x rest ys (omega arith))
+  where
+    by_fit : (b : Bool) → nat_le (length y.lits) k ≡ b → (length y.lits ≤ k → front (k - length y.lits) (merged_from x rest ys) ≡ front (k - length y.lits) ys) → front k (y ∷ merged_from x rest ys) ≡ front k (y ∷ ys)
+    by_fit true q later =
+        let fits : length y.lits ≤ k = leb-true (length y.lits) k q in
+        front-fits k y (merged_from x rest ys) fits ∙ (ap (λ (r : List Held). y ∷ r) (later fits) ∙ sym (front-fits k y ys fits))
+    by_fit false q later =
+        let above : k < length y.lits = leb-false (length y.lits) k q in
+        front-ends k y (merged_from x rest ys) above ∙ sym (front-ends k y ys above)
+
+    by_order : (o : Ordering) → lits_cmp x.lits y.lits ≡ o → (length y.lits ≤ k → front (k - length y.lits) (merged_from x rest ys) ≡ front (k - length y.lits) ys)
+        → front k (merge_by o x y (rest (y ∷ ys)) (rest ys) (merged_from x rest ys)) ≡ front k (y ∷ ys)
+    by_order Less h later =
+        let longer : length x.lits ≤ length y.lits = less-length x.lits y.lits h in
+        front-ends k x (rest (y ∷ ys)) over ∙ sym (front-ends k y ys (omega arith))
+    by_order Equal h later =
+        let same : x.lits ≡ y.lits = cmp_same x.lits y.lits h in
+        let long : k < length y.lits = rw (← same) over in
+        front-ends k (lesser x y) (rest ys) (rw (lesser-lits x y same) long) ∙ sym (front-ends k y ys long)
+    by_order Greater h later = by_fit (nat_le (length y.lits) k) refl later
+
+-- cutting the first list early changes nothing
+early_into : (k m : ℕ) (x : Held) (xs : List Held) → length x.lits ≤ m
+    → ((j l : ℕ) (zs : List Held) → j ≤ l → front j (merged (front l xs) zs) ≡ front j (merged xs zs))
+    → (ys : List Held) → k ≤ m → front k (merged_from x (merged (front (m - length x.lits) xs)) ys) ≡ front k (merged_from x (merged xs) ys)
+early_into k m x xs fits rest [] h = by_fit (nat_le (length x.lits) k) refl
+  where
+    by_fit : (b : Bool) → nat_le (length x.lits) k ≡ b → front k (x ∷ merged (front (m - length x.lits) xs) []) ≡ front k (x ∷ merged xs [])
+    by_fit true q =
+        let small : length x.lits ≤ k = leb-true (length x.lits) k q in
+        front-fits k x (merged (front (m - length x.lits) xs) []) small ∙ (ap (λ (r : List Held). x ∷ r) (rest (k - length x.lits) (m - length x.lits) [] (omega arith)) ∙ sym (front-fits k x (merged xs []) small))
+    by_fit false q =
+        let over : k < length x.lits = leb-false (length x.lits) k q in
+        front-ends k x (merged (front (m - length x.lits) xs) []) over ∙ sym (front-ends k x (merged xs []) over)
+early_into k m x xs fits rest (y ∷ ys) h =
+    by_order (lits_cmp x.lits y.lits) refl (early_into (k - length y.lits) m x xs fits rest ys (omega arith))
+  where
+    -- one entry before two lists
+    ahead : (e : Held) (us vs : List Held) → (length e.lits ≤ k → front (k - length e.lits) us ≡ front (k - length e.lits) vs) → (b : Bool) → nat_le (length e.lits) k ≡ b → front k (e ∷ us) ≡ front k (e ∷ vs)
+    ahead e us vs later true q =
+        let small : length e.lits ≤ k = leb-true (length e.lits) k q in
+        front-fits k e us small ∙ (ap (λ (r : List Held). e ∷ r) (later small) ∙ sym (front-fits k e vs small))
+    ahead e us vs later false q =
+        let over : k < length e.lits = leb-false (length e.lits) k q in
+        front-ends k e us over ∙ sym (front-ends k e vs over)
+
+    by_order : (o : Ordering) → lits_cmp x.lits y.lits ≡ o
+        → front (k - length y.lits) (merged_from x (merged (front (m - length x.lits) xs)) ys) ≡ front (k - length y.lits) (merged_from x (merged xs) ys)
+        → front k (merge_by o x y (merged (front (m - length x.lits) xs) (y ∷ ys)) (merged (front (m - length x.lits) xs) ys) (merged_from x (merged (front (m - length x.lits) xs)) ys))
+        ≡ front k (merge_by o x y (merged xs (y ∷ ys)) (merged xs ys) (merged_from x (merged xs) ys))
+    by_order Less q later = ahead x _ _ (λ small. rest (k - length x.lits) (m - length x.lits) (y ∷ ys) (omega arith)) (nat_le (length x.lits) k) refl
+    by_order Equal q later =
+        let same : (lesser x y).lits ≡ x.lits = lesser-lits x y (cmp_same x.lits y.lits q) ∙ sym (cmp_same x.lits y.lits q) in
+        let long : length (lesser x y).lits ≡ length x.lits = ap length same in
+        ahead (lesser x y) _ _ (λ small. rest (k - length (lesser x y).lits) (m - length x.lits) ys (omega arith)) (nat_le (length (lesser x y).lits) k) refl
+    by_order Greater q later = ahead y _ _ (λ small. later) (nat_le (length y.lits) k) refl
+
+pub early : (k m : ℕ) (xs ys : List Held) → k ≤ m → front k (merged (front m xs) ys) ≡ front k (merged xs ys)
+early k m [] ys h = refl
+early k m (x ∷ xs) ys h = by_fit (nat_le (length x.lits) m) refl (λ j l zs. early j l xs zs)
+  where
+    by_fit : (b : Bool) → nat_le (length x.lits) m ≡ b → ((j l : ℕ) (zs : List Held) → j ≤ l → front j (merged (front l xs) zs) ≡ front j (merged xs zs))
+        → front k (merged (if b then x ∷ front (m - length x.lits) xs else []) ys) ≡ front k (merged_from x (merged xs) ys)
+    by_fit true q rest = early_into k m x xs (leb-true (length x.lits) m q) rest ys h
+    by_fit false q rest = let over : m < length x.lits = leb-false (length x.lits) m q in sym (front-without k x (merged xs) ys (omega arith))
+
+front-before : (a : List ℕ) (room : ℕ) (es : List Held) → IsBefore a es → IsBefore a (front room es)
+front-before a room [] b = b
+front-before a room (e ∷ es) b = by_fit (nat_le (length e.lits) room)
+  where
+    by_fit : (c : Bool) → IsBefore a (if c then e ∷ front (room - length e.lits) es else [])
+    by_fit true = b
+    by_fit false = tt
+
+pub front-sorted : (room : ℕ) (es : List Held) → IsSorted es → IsSorted (front room es)
+front-sorted room [] s = s
+front-sorted room (e ∷ es) (b, s) = by_fit (nat_le (length e.lits) room) (front-sorted (room - length e.lits) es s)
+  where
+    by_fit : (c : Bool) → IsSorted (front (room - length e.lits) es) → IsSorted (if c then e ∷ front (room - length e.lits) es else [])
+    by_fit true rest = (front-before e.lits (room - length e.lits) es b, rest)
+    by_fit false rest = tt
+
+pub cuts-early : (room : ℕ) (xs ys : List Held) → front room (union (front room (union xs) ++ ys)) ≡ front room (union (xs ++ ys))
+cuts-early room xs ys =
+    let s : IsSorted (union xs) = union-sorted xs in
+    let a : union (front room (union xs) ++ ys) ≡ merged (front room (union xs)) (union ys) = union-front (front room (union xs)) ys (front-sorted room (union xs) s) in
+    let b : union (union xs ++ ys) ≡ merged (union xs) (union ys) = union-front (union xs) ys s in
+    ap (front room) a ∙ (early room room (union xs) (union ys) (omega arith) ∙ (ap (front room) (sym b) ∙ ap (front room) (of-unions xs ys)))
+
+pub longest : (room : ℕ) (es : List Held) → IsLongestFront room es
+longest room [] = record { fits = omega arith; is_front = ([], refl, λ e others h. absurd (cc)) }
+longest room (e ∷ es) = by_fit (nat_le (length e.lits) room) refl (longest (room - length e.lits) es)
+  where
+    sum : (xs : List Held) → literals_in (e ∷ xs) ≡ length e.lits + literals_in xs
+    sum xs = sum_by-cons (λ (x : Held). length x.lits) e xs
+
+    by_fit : (b : Bool) → nat_le (length e.lits) room ≡ b → IsLongestFront (room - length e.lits) es → IsLongestFront room (e ∷ es)
+    by_fit true q rest =
+        let small : length e.lits ≤ room = leb-true (length e.lits) room q in
+        let is : front room (e ∷ es) ≡ e ∷ front (room - length e.lits) es = front-fits room e es small in
+        let within : literals_in (front (room - length e.lits) es) ≤ room - length e.lits = rest.fits in
+        record {
+          fits = rw is (omega (arith, sum (front (room - length e.lits) es)));
+          is_front = (rest.is_front.0, rw is (ap (λ (r : List Held). e ∷ r) rest.is_front.1), λ x others h. rw is (let over = rest.is_front.2 x others h in omega (arith, sum (front (room - length e.lits) es), over)));
+        }
+    by_fit false q rest =
+        let over : room < length e.lits = leb-false (length e.lits) room q in
+        let is : front room (e ∷ es) ≡ [] = front-ends room e es over in
+        record {
+          fits = rw is (omega arith);
+          is_front = (e ∷ es, rw is refl, λ x others h. rw is (let same : e ≡ x = cc in let long : room < length x.lits = rw (← same) over in omega arith));
+        }

@@ -1,0 +1,66 @@
+-- What the solvers of one job tell each other: their clauses in one order, each once, as many as a buffer takes.
+use Rattle.std.specs.Prelude.{ℕ, ◌-◌, nat_le, List, [], ◌∷◌, length, flat_map, if◌then◌else◌}
+use Rattle.std.specs.declared.cmp.Ordering.{Ordering}
+use Rattle.std.specs.declared.cmp.Ordering.TheVariants.{Less, Equal, Greater}
+use Rattle.std.specs.Ordering.{nat_cmp}
+use Rattle.std.specs.Cmp.Lexicographic.{slice_cmp}
+use Rattle.mal_base.specs.Held.{Held}
+
+-- a list of literals with its length before it
+abbrev pub sized : List ℕ → List ℕ
+sized lits = length lits ∷ lits
+
+-- the order of clauses: by length, and those of one length by the codes of their literals, the first difference counts
+abbrev pub lits_cmp : List ℕ → List ℕ → Ordering
+lits_cmp a b = slice_cmp nat_cmp (sized a) (sized b)
+
+-- of two entries the one with the lesser number, the first where they are equal
+abbrev pub lesser : Held → Held → Held
+lesser e x = if nat_le e.id x.id then e else x
+
+-- an entry in its place before, at or behind the first of some entries; behind it, the others have it in its place
+abbrev pub put_by : Ordering → Held → Held → List Held → List Held → List Held
+put_by Less e x xs others = e ∷ x ∷ xs
+put_by Equal e x xs others = lesser e x ∷ xs
+put_by Greater e x xs others = x ∷ others
+
+-- an entry put in its place among sorted entries; of two with the same literals the one with the lesser number stays
+abbrev pub put : Held → List Held → List Held
+put e [] = e ∷ []
+put e (x ∷ xs) = put_by (lits_cmp e.lits x.lits) e x xs (put e xs)
+
+-- the union of entries: sorted, each list of literals once, with the least of its numbers
+abbrev pub union : List Held → List Held
+union [] = []
+union (e ∷ es) = put e (union es)
+
+-- two sorted lists merged: the lesser first entry first, of two with the same literals the one with the lesser number
+abbrev pub merge_by : Ordering → Held → Held → List Held → List Held → List Held → List Held
+merge_by Less x y below same above = x ∷ below
+merge_by Equal x y below same above = lesser x y ∷ same
+merge_by Greater x y below same above = y ∷ above
+
+abbrev pub merged_from : Held → (List Held → List Held) → List Held → List Held
+merged_from x rest [] = x ∷ rest []
+merged_from x rest (y ∷ ys) = merge_by (lits_cmp x.lits y.lits) x y (rest (y ∷ ys)) (rest ys) (merged_from x rest ys)
+
+abbrev pub merged : List Held → List Held → List Held
+merged [] ys = ys
+merged (x ∷ xs) ys = merged_from x (merged xs) ys
+
+-- the longest front of entries that has at most so many literals
+abbrev pub front : ℕ → List Held → List Held
+front room [] = []
+front room (e ∷ es) = if nat_le (length e.lits) room then e ∷ front (room - length e.lits) es else []
+
+-- a buffer takes 1,500 literals
+abbrev pub most_literals : ℕ
+most_literals = 1500
+
+-- what is told to all solvers of a job when these entries are exported
+abbrev pub broadcast : List Held → List Held
+broadcast exports = front most_literals (union exports)
+
+-- all entries of the buffers of a tree's nodes, by index
+abbrev pub entries_of : List (List Held) → List Held
+entries_of buffers = flat_map (λ b. b) buffers

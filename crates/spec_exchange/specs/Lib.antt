@@ -1,0 +1,4 @@
+pub mod Exchange
+pub mod Order
+pub mod Laws
+pub mod Examples

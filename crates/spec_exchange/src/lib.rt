@@ -1,0 +1,37 @@
+//! What the solvers of one job tell each other: unions of clauses in one order, each clause once, and their longest fronts.
+//! Definitions, and the laws about them as the contracts of functions without a body.
+#![tactic(auto)]
+
+ghost use Rattle.spec_exchange.specs.Laws.{UnionIsSorted, UnionKeepsTheLeast, SortedAreDecided, OrderDoesNotMatter, UnionOfUnions, CutsEarly, FrontIsLongest, MergesUp};
+ghost use Rattle.spec_exchange.specs.Examples.{HasExamples};
+
+/// A union is sorted, has just the lists of literals that the entries have, each with the least of its numbers, and is the
+/// only such list.
+pub fn union_is_decided()
+    ensures sorted { UnionIsSorted }
+    ensures least { UnionKeepsTheLeast }
+    ensures decided { SortedAreDecided }
+{}
+
+/// The order of the entries does not matter, nor what was united before.
+pub fn order_does_not_matter()
+    ensures order { OrderDoesNotMatter }
+    ensures unions { UnionOfUnions }
+{}
+
+/// What is cut off early would be cut off at the end. So the buffers of a tree may be
+/// merged into those of the nodes above, whichever these are, and cut there.
+pub fn cutting_early_loses_nothing()
+    ensures early { CutsEarly }
+    ensures up { MergesUp }
+{}
+
+/// A front fits its room, and the entry behind it does not fit any more.
+pub fn front_is_longest()
+    ensures { FrontIsLongest }
+{}
+
+/// Worked examples.
+pub fn exchange_examples()
+    ensures { HasExamples }
+{}
