@@ -2,6 +2,7 @@
 
 ghost use Rattle.std.specs.Prelude.{◌≡◌, ◌≤◌, length};
 
+use crate::clause_id::ClauseId;
 use std::marker::Model;
 
 /// The values of the variables from 1 on, 65,536 at most. Contracts see the list.
@@ -38,11 +39,12 @@ impl Values {
     }
 }
 
-/// The answer to a revision: a model, or unknown, since the budget of so many slices is spent or since three starts
-/// reported want of memory.
+/// The answer to a revision: a model; the derived clause that refutes the clauses under the assumptions; or unknown, since
+/// the budget of so many slices is spent or since three starts reported want of memory.
 #[derive(Debug, Drop)]
 pub enum Answer {
     Satisfied(Values),
+    Refuted { goal: ClauseId },
     Spent(u32),
     OutOfStarts,
 }
