@@ -13,7 +13,7 @@ pub use block::BlockReader;
 pub use fault::{DimacsError, DimacsFault};
 pub use reading::read;
 pub use spec_dimacs::BlockFault;
-pub use writing::write;
+pub use writing::{put_block, put_closed, write};
 
 #[cfg(test)]
 mod tests;

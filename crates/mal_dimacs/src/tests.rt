@@ -1,5 +1,5 @@
 use super::*;
-use mal_base::Which;
+use mal_base::{Lit, Which};
 use std::alloc::Global;
 use std::test::Fail;
 
@@ -168,5 +168,21 @@ fn a_block_is_read_line_by_line(rt: HostRuntime) -> Result<(), Fail> {
     let reader = BlockReader::of_header(rt.alloc(), b"p cnf 2 1")?;
     let fault = reader.row(b"2 x").err();
     assert!(rt; fault == Some(DimacsError::Fault(BlockFault::BadNumber)));
+    Ok(())
+}
+
+#[test]
+fn lines_are_written_behind_a_text(rt: HostRuntime) -> Result<(), Fail> {
+    let alloc = rt.alloc();
+    let formula = read(alloc, b"p cnf 2 2\n2 -1 0\n1 -1 0\n")?;
+    let mut text = Vec::new(alloc);
+    put_block(&mut text, formula.variables(), formula.clauses())?;
+    let minus = Lit::of_dimacs(-2).ok_or("no literal")?;
+    put_closed(&mut text, &[minus])?;
+    put_closed(&mut text, &[])?;
+    assert_eq!(rt;
+        text.as_slice(),
+        b"p cnf 2 2\n-1 2 0\n1 -1 0\n-2 0\n0\n".as_slice()
+    );
     Ok(())
 }

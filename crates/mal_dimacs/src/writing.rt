@@ -1,9 +1,9 @@
 //! Writing formulas as DIMACS CNF.
 
 ghost use Rattle.std.specs.Prelude.{◌≡◌, ◌++◌, flat_map, length, codes, IfOk, OnOk};
-ghost use Rattle.spec_text.specs.Lines.{line_of};
+ghost use Rattle.spec_text.specs.Lines.{line_of, text_of};
 ghost use Rattle.spec_text.specs.Numbers.{number_of};
-ghost use Rattle.spec_dimacs.specs.Written.{clause_words, closed_words, header_words, spelling};
+ghost use Rattle.spec_dimacs.specs.Written.{clause_words, closed_words, formula_rows, header_words, spelling};
 ghost use Rattle.mal_dimacs.specs.Spaced.{spaced};
 
 use itoa::Buffer;
@@ -17,9 +17,22 @@ pub fn write(alloc: Global, formula: &Formula) -> Result<Vec<u8>, AllocError>
     ensures { IfOk result (λ text. text.items ≡ spelling formula.now) }
 {
     let mut out = Vec::new(alloc);
-    put_header(&mut out, formula.variables(), formula.clauses().len())?;
-    put_clauses(&mut out, formula.clauses())?;
+    put_block(&mut out, formula.variables(), formula.clauses())?;
     Ok(out)
+}
+
+/// Writes the lines of the formula of these variables and clauses behind a text, as `write` does. Where memory is
+/// refused, some of the lines are written.
+pub fn put_block(
+    out: &mut Vec<u8>,
+    variables: u32,
+    clauses: &[Option<Clause>],
+) -> Result<(), AllocError>
+    ensures { OnOk result (out.new.items ≡ out.old.items ++ text_of (formula_rows (record { variables = variables; clauses = clauses.now }))) }
+{
+    put_header(out, variables, clauses.len())?;
+    put_clauses(out, clauses)?;
+    Ok(())
 }
 
 /// Writes a header line.
@@ -63,8 +76,8 @@ fn put_clause(out: &mut Vec<u8>, clause: &Option<Clause>) -> Result<(), AllocErr
     }
 }
 
-/// Writes literals, each with a space behind it, and then a 0 and the line end.
-fn put_closed(out: &mut Vec<u8>, lits: &[Lit]) -> Result<(), AllocError>
+/// Writes a line of literals and then a 0 behind a text. Where memory is refused, a part of the line is written.
+pub fn put_closed(out: &mut Vec<u8>, lits: &[Lit]) -> Result<(), AllocError>
     ensures { OnOk result (out.new.items ≡ out.old.items ++ line_of (closed_words lits.now)) }
 {
     for lit in lits {

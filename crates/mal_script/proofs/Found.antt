@@ -1,13 +1,16 @@
 -- What is read is spelled, and what is spelled is read.
-use Rattle.std.proofs.Common.{◌≡◌, ℕ, List, Result, Ok, Err, IfOk, MatchResult, refl, sym, ◌∙◌}
+use Rattle.std.proofs.Common.{◌≡◌, ℕ, List, Result, Ok, Err, IfOk, MatchResult, refl, sym, ◌∙◌, subst}
 use Rattle.spec_script.specs.declared.fault.LineFault.{LineFault}
 use Rattle.spec_script.specs.Limits.{Limits}
-use Rattle.spec_script.specs.Script.{Scripted}
+use Rattle.spec_script.specs.Script.{Scripted, spelling}
 use Rattle.spec_script.specs.Reading.{read_text}
 use Rattle.spec_script.specs.Grammar.{Spells}
 use Rattle.spec_script.specs.Within.{IsWithin}
+use Rattle.spec_script.specs.Formed.{IsScript}
 use Rattle.spec_script.proofs.Reading.{read-spelled, spelled-read}
 use Rattle.spec_script.proofs.Bounds.{spelled-within}
+use Rattle.spec_script.proofs.Again.{written-spelled}
+use Rattle.spec_script.proofs.Formed.{spelled-script}
 use Rattle.mal_script.specs.declared.fault.ScriptFault.{ScriptFault}
 use Rattle.mal_script.specs.declared.fault.ScriptFault.TheVariants as script
 use Rattle.mal_script.specs.Given.{FailsAt, GivesAt}
@@ -19,6 +22,10 @@ found-spelled limits text (Err e) h = tt
 pub found-within : (limits : Limits) (text : List ℕ) (result : Result Scripted ScriptFault) → GivesAt (λ s. s) result (read_text limits text) → IfOk result (λ s. IsWithin limits s)
 found-within limits text (Ok s) e = spelled-within limits text s (read-spelled limits text s e)
 found-within limits text (Err e) h = tt
+
+pub found-formed : (limits : Limits) (text : List ℕ) (result : Result Scripted ScriptFault) → GivesAt (λ s. s) result (read_text limits text) → IfOk result (λ s. IsScript limits s)
+found-formed limits text (Ok s) e = spelled-script limits text s (read-spelled limits text s e)
+found-formed limits text (Err e) h = tt
 
 -- a fault is not told where a script is read
 no-fault : (e : ScriptFault) (read : Result Scripted (ℕ × LineFault)) (s : Scripted) → read ≡ Ok s → FailsAt e read → e ≡ script.OutOfMemory
@@ -36,3 +43,7 @@ only-spelled limits text (Ok x) e s is = let h = spelled-read limits text s is i
     ok_is : (x y : Scripted) → ◌≡◌ {A = Result Scripted (ℕ × LineFault)} (Ok x) (Ok y) → x ≡ y
     ok_is x y h = cc
 only-spelled limits text (Err e) h s is = no-fault e (read_text limits text) s (spelled-read limits text s is) h
+
+-- the script of the text that it is written as is answered
+pub again-read : (limits : Limits) (text : List ℕ) (result : Result Scripted ScriptFault) → GivesAt (λ s. s) result (read_text limits text) → (s : Scripted) → IsScript limits s → text ≡ spelling s → MatchResult result (λ x. x ≡ s) (λ e. e ≡ script.OutOfMemory)
+again-read limits text result e s is q = only-spelled limits text result e s (subst (λ (t : List ℕ). Spells limits t s) (sym q) (written-spelled limits s is))

@@ -1,5 +1,5 @@
 -- What is taken out of a job or of a script before a line is read changes nothing of what the line makes of it.
-use Rattle.std.proofs.Common.{◌≡◌, ℕ, List, Option, Some, None, Result, Ok, Err, Bool, [], ◌∷◌, map, ℤ, pos, refl, sym, ap, subst, ◌∙◌}
+use Rattle.std.proofs.Common.{◌≡◌, ℕ, List, Option, Some, None, Result, Ok, Bool, ◌∷◌, map, ℤ, pos, refl, sym, ap, subst, ◌∙◌}
 use Rattle.spec_dimacs.specs.Reading.{Block, ◌>>=◌}
 use Rattle.spec_script.specs.declared.fault.LineFault.{LineFault}
 use Rattle.spec_script.specs.Limits.{Limits}

@@ -4,7 +4,8 @@ ghost use Rattle.std.specs.Prelude.{◌≡◌, ℕ, List, Err, IfOk, MatchResult
 ghost use Rattle.spec_script.specs.Limits.{served};
 ghost use Rattle.spec_script.specs.Grammar.{Spells};
 ghost use Rattle.spec_script.specs.Reading.{read_text};
-ghost use Rattle.spec_script.specs.Script.{Scripted};
+ghost use Rattle.spec_script.specs.Formed.{IsScript};
+ghost use Rattle.spec_script.specs.Script.{Scripted, spelling};
 ghost use Rattle.spec_script.specs.Within.{IsWithin};
 ghost use Rattle.mal_script.specs.declared.fault.ScriptFault.TheVariants.{OutOfMemory};
 ghost use Rattle.mal_script.specs.Given.{FailsAt, GivesAt, RefusedAt};
@@ -26,7 +27,10 @@ pub fn read(alloc: Global, text: &[u8]) -> Result<Script, ScriptFault>
     ensures only { (s : Scripted) → Spells served text.now s → MatchResult result (λ x. x ≡ s) (λ e. e ≡ OutOfMemory) }
     // Which fault it is, and where.
     ensures exact { GivesAt (λ s. s) result (read_text served text.now) }
+    // The text of a script in form is read as this script, unless memory runs out; what is read is in form.
+    ensures again { (s : Scripted) → IsScript served s → text.now ≡ spelling s → MatchResult result (λ x. x ≡ s) (λ e. e ≡ OutOfMemory) }
     ensures within { IfOk result (λ s. IsWithin served s) }
+    ensures formed { IfOk result (λ s. IsScript served s) }
 {
     read_within(alloc, text, Limits::served())
 }
@@ -36,7 +40,9 @@ pub fn read_within(alloc: Global, text: &[u8], limits: Limits) -> Result<Script,
     ensures found { IfOk result (λ s. Spells limits text.now s) }
     ensures only { (s : Scripted) → Spells limits text.now s → MatchResult result (λ x. x ≡ s) (λ e. e ≡ OutOfMemory) }
     ensures exact { GivesAt (λ s. s) result (read_text limits text.now) }
+    ensures again { (s : Scripted) → IsScript limits s → text.now ≡ spelling s → MatchResult result (λ x. x ≡ s) (λ e. e ≡ OutOfMemory) }
     ensures within { IfOk result (λ s. IsWithin limits s) }
+    ensures formed { IfOk result (λ s. IsScript limits s) }
 {
     read_rows(alloc, text, limits)
 }

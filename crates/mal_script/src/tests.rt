@@ -151,6 +151,34 @@ fn faults_of_a_block_are_told_with_their_line(rt: HostRuntime) -> Result<(), Fai
 }
 
 #[test]
+fn limits_of_a_block_are_named(rt: HostRuntime) -> Result<(), Fail> {
+    let alloc = rt.alloc();
+    let variables = BlockFault::Limit {
+        which: Which::Variables,
+    };
+    let wide = b"t a\nj p 1 1 4\np cnf 65537 0\na 0\ne\n";
+    assert!(rt;
+        fault(alloc, wide)
+            == Some(ScriptFault::Dimacs {
+                line: 3,
+                fault: variables
+            })
+    );
+    let clauses = BlockFault::Limit {
+        which: Which::Clauses,
+    };
+    let long = b"t a\nj p 1 1 4\np cnf 65536 1048577\na 0\ne\n";
+    assert!(rt;
+        fault(alloc, long)
+            == Some(ScriptFault::Dimacs {
+                line: 3,
+                fault: clauses
+            })
+    );
+    Ok(())
+}
+
+#[test]
 fn a_job_of_the_same_name_is_refused(rt: HostRuntime) -> Result<(), Fail> {
     let alloc = rt.alloc();
     let text = b"t a\nj p 1 1 4\ne\nj p 1 1 4\ne\n";

@@ -20,11 +20,11 @@ use Rattle.spec_dimacs.proofs.Numbers.{number-no_comment}
 use Rattle.spec_dimacs.proofs.Behind.{counted_of, keeps_row}
 
 -- the literals that a clause is written with
-clause_lits : Option (List ℕ) → List ℕ
+pub clause_lits : Option (List ℕ) → List ℕ
 clause_lits None = 2 ∷ 3 ∷ []
 clause_lits (Some lits) = lits
 
-words-lits : (c : Option (List ℕ)) → clause_words c ≡ closed_words (clause_lits c)
+pub words-lits : (c : Option (List ℕ)) → clause_words c ≡ closed_words (clause_lits c)
 unfolding clause_lits
 words-lits None = refl
 words-lits (Some lits) = refl
@@ -38,7 +38,7 @@ abs-number_of lit = by_sign (lit % 2 == 0) (lit / 2)
     by_sign false zero = refl
     by_sign false (suc n) = refl
 
-literal_again : (v lit : ℕ) → v ≤ 65536 → (nat_le 1 (lit / 2) && nat_le (lit / 2) v) ≡ true → number_in (literal_word lit) v ≡ Number (number_of lit)
+pub literal_again : (v lit : ℕ) → v ≤ 65536 → (nat_le 1 (lit / 2) && nat_le (lit / 2) v) ≡ true → number_in (literal_word lit) v ≡ Number (number_of lit)
 literal_again v lit low h =
     let high : lit / 2 ≤ v = leb-true (lit / 2) v (and-right (nat_le 1 (lit / 2)) _ h) in
     let bound : nat_abs (number_of lit) ≤ v = omega (arith, abs-number_of lit) in
@@ -48,11 +48,11 @@ zero_again : (v : ℕ) → number_in (codes "0") v ≡ Number (pos 0)
 zero_again v = ap (λ (t : Bool). cond t (Number (pos 0)) TooLarge) (le-leb 0 v (omega arith))
 
 -- the words of a clause say its numbers
-clause_again : (v : ℕ) (lits : List ℕ) → v ≤ 65536 → is_within v lits ≡ true → map (λ w. number_in w v) (closed_words lits) ≡ map (λ z. Number z) (closed_numbers lits)
+pub clause_again : (v : ℕ) (lits : List ℕ) → v ≤ 65536 → is_within v lits ≡ true → map (λ w. number_in w v) (closed_words lits) ≡ map (λ z. Number z) (closed_numbers lits)
 clause_again v [] low h = ap (λ (x : NumberWord). x ∷ []) (zero_again v)
 clause_again v (l ∷ ls) low h = ap₂ (λ (x : NumberWord) (xs : List NumberWord). x ∷ xs) (literal_again v l low (and-left _ _ h)) (clause_again v ls low (and-right (nat_le 1 (l / 2) && nat_le (l / 2) v) _ h))
 
-lits_within : (v : ℕ) (c : Option (List ℕ)) → is_clause_of v c ≡ true → is_within v (clause_lits c) ≡ true
+pub lits_within : (v : ℕ) (c : Option (List ℕ)) → is_clause_of v c ≡ true → is_within v (clause_lits c) ≡ true
 unfolding clause_lits
 lits_within v None h = and-both _ _ (and-both _ _ refl h) (and-both _ _ (and-both _ _ refl h) refl)
 lits_within v (Some lits) h = and-right _ _ h
@@ -80,7 +80,7 @@ all_made v [] h = tt
 all_made v (c ∷ cs) h = (made_of v c (and-left _ _ h), all_made v cs (and-right (is_clause_of v c) _ h))
 
 -- the lines are clean, and none is passed over
-closed_row : (lits : List ℕ) → IsRow (closed_words lits)
+pub closed_row : (lits : List ℕ) → IsRow (closed_words lits)
 closed_row [] = (omega arith, ((omega arith, (omega arith, tt)), tt))
 closed_row (l ∷ ls) = let rest = closed_row ls in (omega arith, (literals_are_clean l, rest.1))
 
@@ -88,10 +88,10 @@ clause_rows : (cs : List (Option (List ℕ))) → AreRows (map clause_words cs)
 clause_rows [] = tt
 clause_rows (c ∷ cs) = (subst IsRow (sym (words-lits c)) (closed_row (clause_lits c)), clause_rows cs)
 
-header_row : (v n : ℕ) → IsRow (header_words v n)
+pub header_row : (v n : ℕ) → IsRow (header_words v n)
 header_row v n = (omega arith, ((omega arith, (omega arith, tt)), ((omega arith, (omega arith, (omega arith, (omega arith, tt)))), (decimals_are_clean v, (decimals_are_clean n, tt)))))
 
-closed_counts : (v : ℕ) (lits : List ℕ) → v ≤ 65536 → is_within v lits ≡ true → is_passed (closed_words lits) ≡ false
+pub closed_counts : (v : ℕ) (lits : List ℕ) → v ≤ 65536 → is_within v lits ≡ true → is_passed (closed_words lits) ≡ false
 closed_counts v [] low h = refl
 closed_counts v (l ∷ ls) low h = number-no_comment (literal_word l) v (number_of l) (literal_again v l low (and-left _ _ h))
 
@@ -106,10 +106,10 @@ words_again : (rows : List (List (List ℕ))) → AreRows rows → map words_of 
 words_again [] h = refl
 words_again (row ∷ rows) h = ap₂ (λ (r : List (List ℕ)) (rs : List (List (List ℕ))). r ∷ rs) (words_read_again row h.0.1) (words_again rows h.1)
 
-rows_again : (rows : List (List (List ℕ))) → AreRows rows → rows_of (text_of rows) ≡ rows
+pub rows_again : (rows : List (List (List ℕ))) → AreRows rows → rows_of (text_of rows) ≡ rows
 rows_again rows h = ap (map words_of) (lines_read_again rows h) ∙ words_again rows h
 
-written_rows : (f : Formulated) → f.variables ≤ 65536 → list_all (is_clause_of f.variables) f.clauses ≡ true → counted_rows (spelling f) ≡ header_words f.variables (length f.clauses) ∷ (map clause_words f.clauses ++ [])
+pub written_rows : (f : Formulated) → f.variables ≤ 65536 → list_all (is_clause_of f.variables) f.clauses ≡ true → counted_rows (spelling f) ≡ header_words f.variables (length f.clauses) ∷ (map clause_words f.clauses ++ [])
 unfolding spelling
 written_rows f low h =
     ap counted_of (rows_again (formula_rows f) (header_row f.variables (length f.clauses), clause_rows f.clauses))

@@ -14,18 +14,13 @@ use Rattle.spec_dimacs.specs.declared.stage.Stage.TheVariants as stage
 use Rattle.spec_dimacs.specs.Rows.{is_comment, is_passed}
 use Rattle.spec_dimacs.specs.Merged.{clause_of}
 use Rattle.spec_dimacs.specs.Grammar.{words_in, IsTail}
-use Rattle.spec_dimacs.specs.Reading.{Block, ◌>>=◌, with_clause, closed, after_number, after_words, after_percent, after_zero, after_counted, after_row, opened, formula_of, ended, as_some, on_line, read_rows}
+use Rattle.spec_dimacs.specs.Reading.{Block, ◌>>=◌, with_clause, closed, after_number, after_words, after_percent, after_zero, after_counted, after_row, after_rows, opened, formula_of, ended, as_some, on_line, read_rows}
 use Rattle.spec_dimacs.proofs.Numbers.{number-no_comment, number-not_word}
 use Rattle.spec_dimacs.proofs.Steps.{read_block, ok_block}
 
 -- the lines that count
 abbrev pub counted_of : List (List (List ℕ)) → List (List (List ℕ))
 counted_of rows = filter (λ row. not (is_passed row)) rows
-
--- the lines behind a header, one after another
-abbrev pub after_rows : List (List (List ℕ)) → Block → Result Block BlockFault
-after_rows [] b = Ok b
-after_rows (row ∷ rows) b = after_row row b >>= after_rows rows
 
 -- a line that is passed over changes nothing
 passed_row : (row : List (List ℕ)) (b : Block) → is_passed row ≡ true → after_row row b ≡ Ok b

@@ -30,7 +30,7 @@ unfolding read_formula
 spells_one text f g is is' = same_formula f g (sym (spelled_is_read text f is) ∙ spelled_is_read text g is')
 
 -- clauses of literals of some variables are of these variables
-clauses_within : (v : ℕ) (lists : List (List ℕ)) (clauses : List (Option (List ℕ))) → list_all (is_within v) lists ≡ true → AreClausesOf lists clauses → list_all (is_clause_of v) clauses ≡ true
+pub clauses_within : (v : ℕ) (lists : List (List ℕ)) (clauses : List (Option (List ℕ))) → list_all (is_within v) lists ≡ true → AreClausesOf lists clauses → list_all (is_clause_of v) clauses ≡ true
 clauses_within v [] [] h is = refl
 clauses_within v [] (c ∷ cs) h is = absurd is
 clauses_within v (l ∷ ls) [] h is = absurd is

@@ -7,3 +7,5 @@ pub mod Again
 pub mod Firsts
 pub mod Laws
 pub mod Examples
+pub mod Led
+pub mod Texts

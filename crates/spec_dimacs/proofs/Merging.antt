@@ -139,7 +139,7 @@ list_all-from_members : (p : ℕ → Bool) (lits : List ℕ) → ((x : ℕ) → 
 list_all-from_members p [] all = refl
 list_all-from_members p (l ∷ ls) all = and-both _ _ (all l (Contains-head l ls)) (list_all-from_members p ls (λ x h. all x (Contains-later l ls x h)))
 
-within-same : (v : ℕ) (lits others : List ℕ) → HaveSame lits others → is_within v lits ≡ true → is_within v others ≡ true
+pub within-same : (v : ℕ) (lits others : List ℕ) → HaveSame lits others → is_within v lits ≡ true → is_within v others ≡ true
 within-same v lits others same h = list_all-from_members (λ l. nat_le 1 (l / 2) && nat_le (l / 2) v) others (λ x has. list_all-member (λ l. nat_le 1 (l / 2) && nat_le (l / 2) v) lits x h (same.back x has))
 
 -- literals of some variables make a clause of these variables

@@ -17,10 +17,10 @@ use Rattle.spec_dimacs.specs.declared.stage.Stage.TheVariants as stage
 use Rattle.spec_dimacs.specs.Rows.{is_passed, rows_of, counted_rows}
 use Rattle.spec_dimacs.specs.Merged.{clause_of, AreClausesOf}
 use Rattle.spec_dimacs.specs.Grammar.{IsHeader, closed_numbers, words_in, AreClosed, IsTail, Spells}
-use Rattle.spec_dimacs.specs.Reading.{Block, ◌>>=◌, block_of, within_limits, opened_with, opened, formula_of, ended, read_text}
+use Rattle.spec_dimacs.specs.Reading.{Block, ◌>>=◌, after_rows, block_of, within_limits, opened_with, opened, formula_of, ended, read_text}
 use Rattle.spec_dimacs.proofs.Merging.{clause_of-made, clause_of-unique}
 use Rattle.spec_dimacs.proofs.Steps.{block_after, read_block, ok_block, said, Gathers, gathers, filled}
-use Rattle.spec_dimacs.proofs.Behind.{after_rows, all_counted, Leads, whole_leads, leads_whole, Splits, splits, say_numbers, number_rows, TailLeads, tail_leads}
+use Rattle.spec_dimacs.proofs.Behind.{all_counted, Leads, whole_leads, leads_whole, Splits, splits, say_numbers, number_rows, TailLeads, tail_leads}
 
 -- what a header that opens a block is
 pub record Opens (words : List (List ℕ)) (b : Block) : Type 0 where
@@ -54,7 +54,7 @@ opens-counts p cnf v c b h k e = by_tests (is_numeral v) refl (is_numeral c) ref
     by_tests true q false r e = absurd (cc)
     by_tests true q true r e = opens-limits p cnf v c b h k q r e
 
-opens : (words : List (List ℕ)) (b : Block) → opened words ≡ Ok b → Opens words b
+pub opens : (words : List (List ℕ)) (b : Block) → opened words ≡ Ok b → Opens words b
 opens [] b e = absurd (cc)
 opens (p ∷ []) b e = absurd (cc)
 opens (p ∷ cnf ∷ []) b e = absurd (cc)
@@ -82,24 +82,24 @@ take-nothing zero = refl
 take-nothing (suc n) = refl
 
 -- the block behind a header has no list yet
-block_of-after : (v c : ℕ) → block_of v c ≡ block_after v c [] []
+pub block_of-after : (v c : ℕ) → block_of v c ≡ block_after v c [] []
 block_of-after v c = ap (λ (cs : List (Option (List ℕ))). record { variables = v; declared = c; clauses = cs; found = 0; literals = 0; pending = []; stage = stage.Clauses }) (sym (take-nothing c))
 
 -- the formula of closed lists
-formula_at : ℕ → List (List ℕ) → Formulated
+unfoldable pub formula_at : ℕ → List (List ℕ) → Formulated
 formula_at v lists = record { variables = v; clauses = map clause_of lists }
 
 -- what the end of closed lists says
-record Ends (v c : ℕ) (lists : List (List ℕ)) (pending : List ℕ) (f : Formulated) : Type 0 where
-  none : pending ≡ []
-  count : length lists ≡ c
-  is : formula_at v lists ≡ f
+pub record Ends (v c : ℕ) (lists : List (List ℕ)) (pending : List ℕ) (f : Formulated) : Type 0 where
+  pub none : pending ≡ []
+  pub count : length lists ≡ c
+  pub is : formula_at v lists ≡ f
 
 the_formula : Formulated → Result Formulated BlockFault → Formulated
 the_formula f (Ok g) = g
 the_formula f (Err e) = f
 
-ends : (v c : ℕ) (lists : List (List ℕ)) (pending : List ℕ) (f : Formulated) → c ≤ 1048576 → ended (block_after v c lists pending) ≡ Ok f → Ends v c lists pending f
+pub ends : (v c : ℕ) (lists : List (List ℕ)) (pending : List ℕ) (f : Formulated) → c ≤ 1048576 → ended (block_after v c lists pending) ≡ Ok f → Ends v c lists pending f
 unfolding formula_at the_formula
 ends v c lists pending f few e = by_test (min (length lists) (2 ^ 64 - 1) == c) refl pending e
   where
@@ -125,7 +125,7 @@ lists_end v lists few =
     formula_read f = Ok f
 
 -- lists of literals and the clauses that they make
-clauses_made : (lists : List (List ℕ)) → AreClausesOf lists (map clause_of lists)
+pub clauses_made : (lists : List (List ℕ)) → AreClausesOf lists (map clause_of lists)
 clauses_made [] = tt
 clauses_made (l ∷ ls) = (clause_of-made l, clauses_made ls)
 

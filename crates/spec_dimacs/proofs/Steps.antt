@@ -107,7 +107,7 @@ gathers-word v c lists others pending waiting w ws d x q e g = record {
 }
 
 -- a literal more of the variables
-within-more : (v : ℕ) (pending : List ℕ) (lit : ℕ) → is_within v pending ≡ true → 1 ≤ lit / 2 → lit / 2 ≤ v → is_within v (pending ++ lit ∷ []) ≡ true
+pub within-more : (v : ℕ) (pending : List ℕ) (lit : ℕ) → is_within v pending ≡ true → 1 ≤ lit / 2 → lit / 2 ≤ v → is_within v (pending ++ lit ∷ []) ≡ true
 within-more v pending lit h low high =
     list_all-append (λ l. nat_le 1 (l / 2) && nat_le (l / 2) v) pending (lit ∷ [])
     ∙ and-both _ _ h (and-both _ _ (and-both _ _ (le-leb 1 (lit / 2) low) (le-leb (lit / 2) v high)) refl)

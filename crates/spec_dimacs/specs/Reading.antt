@@ -85,6 +85,11 @@ abbrev pub after_row : List (List ℕ) → Block → Result Block BlockFault
 after_row [] b = Ok b
 after_row (first ∷ others) b = if is_comment first then Ok b else if bytes_eq first (codes "p") then Err BadHeader else after_counted b.stage first others b
 
+-- after lines, one after another
+abbrev pub after_rows : List (List (List ℕ)) → Block → Result Block BlockFault
+after_rows [] b = Ok b
+after_rows (row ∷ rows) b = after_row row b >>= after_rows rows
+
 -- the block behind a header of these numbers
 abbrev pub block_of : ℕ → ℕ → Block
 block_of variables declared = record { variables = variables; declared = declared; clauses = []; found = 0; literals = 0; pending = []; stage = stage.Clauses }

@@ -1,5 +1,5 @@
 -- What is spelled is within the limits.
-use Rattle.std.proofs.Common.{◌≡◌, ℕ, ◌<◌, ◌≤◌, ◌+◌, Bool, true, false, cond, ◌&&◌, List, [], ◌∷◌, ◌++◌, length, Some, Ok, Err, refl, sym, ap, subst, ◌∙◌, nat_lt, arith, length-append}
+use Rattle.std.proofs.Common.{◌≡◌, ℕ, ◌<◌, ◌≤◌, Bool, true, false, cond, List, [], ◌∷◌, ◌++◌, length, Some, Ok, Err, sym, ap, subst, nat_lt, arith, length-append}
 use Rattle.std.specs.Str.{bytes_eq}
 use Rattle.std.specs.List.{AllByRecursion, list_any}
 use Rattle.std.proofs.lemmas.Bool.{ltb-true}
@@ -7,12 +7,11 @@ use Rattle.mal_base.specs.Asks.{Terms}
 use Rattle.mal_base.specs.declared.which.Which.TheVariants.{Tenants, Jobs}
 use Rattle.mal_base.proofs.Sorting.{and-right}
 use Rattle.mal_revision.specs.Posted.{Posted}
-use Rattle.spec_script.specs.declared.fault.LineFault.{LineFault}
 use Rattle.spec_script.specs.declared.fault.LineFault.TheVariants.{Limit, Duplicate}
 use Rattle.spec_script.specs.Limits.{Limits}
 use Rattle.spec_script.specs.Script.{ScriptedJob, Scripted}
 use Rattle.spec_script.specs.Reading.{Reading, OpenJob, unread, named, admitted, is_job, has_room, going_on, begun, with_job}
-use Rattle.spec_script.specs.Grammar.{RevisionLines, Part, Tenant, Job, Revises, ReviseAll, Runs, Makes, MakeAll, Spells}
+use Rattle.spec_script.specs.Grammar.{RevisionLines, Part, Tenant, Job, ReviseAll, MakeAll, Spells}
 use Rattle.spec_script.specs.Within.{IsWithin}
 use Rattle.spec_script.proofs.Inversions.{passed, not_refused, ok_is, revised_is}
 

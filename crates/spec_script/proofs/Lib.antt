@@ -4,3 +4,9 @@ pub mod Inversions
 pub mod Parsing
 pub mod Reading
 pub mod Bounds
+pub mod Assumed
+pub mod Written
+pub mod Again
+pub mod Named
+pub mod AssumedForms
+pub mod Formed

@@ -1,9 +1,8 @@
 -- What is read is spelled so: the lines that count are those of parts.
-use Rattle.std.proofs.Common.{◌≡◌, ℕ, ◌<◌, suc, Bool, true, false, cond, not, ◌&&◌, List, [], ◌∷◌, ◌++◌, length, filter, flat_map, codes, Option, Some, None, Result, Ok, Err, refl, sym, ap, subst, ◌∙◌, ◌⊎◌, inl, inr, nat_lt, append_assoc}
+use Rattle.std.proofs.Common.{◌≡◌, ℕ, Bool, true, false, cond, not, List, [], ◌∷◌, ◌++◌, length, flat_map, codes, Option, Some, None, Result, Ok, Err, refl, sym, ap, subst, ◌∙◌, inl, inr, nat_lt, append_assoc}
 use Rattle.std.specs.Str.{bytes_eq}
 use Rattle.std.specs.List.{list_all}
 use Rattle.std.proofs.lemmas.Bool.{ltb-true}
-use Rattle.mal_base.specs.Asks.{Terms}
 use Rattle.mal_base.specs.Names.{is_name}
 use Rattle.mal_base.specs.Formulas.{Formulated}
 use Rattle.mal_base.specs.declared.which.Which.TheVariants.{Revisions}
@@ -12,14 +11,14 @@ use Rattle.spec_text.specs.Numbers.{number_in}
 use Rattle.spec_dimacs.specs.declared.fault.BlockFault.{BlockFault}
 use Rattle.spec_dimacs.specs.Rows.{is_passed}
 use Rattle.spec_dimacs.specs.Reading as block
-use Rattle.spec_dimacs.specs.Reading.{Block, ◌>>=◌}
+use Rattle.spec_dimacs.specs.Reading.{Block, ◌>>=◌, after_rows}
 use Rattle.spec_script.specs.declared.fault.LineFault.{LineFault}
 use Rattle.spec_script.specs.declared.fault.LineFault.TheVariants.{BadLine, Limit}
 use Rattle.spec_script.specs.Limits.{Limits}
-use Rattle.spec_script.specs.Script.{ScriptedJob, Scripted}
-use Rattle.spec_script.specs.Reading.{Reading, OpenJob, in_block, named, asked, admitted, going_on, begun, with_block, with_job, with_revision, assumed, revised, after_header, after_assumptions, inside_block, inside_job, inside, outside, after_tenant, of_tenant, after_job, ended_job, after_end, after_counted, after_row, unended, at_end}
-use Rattle.spec_script.specs.Grammar.{RevisionLines, JobLines, Part, Tenant, Job, revision_lines, job_lines, part_lines, is_inside, is_assumed, after_rows, formula_of, Revises, ReviseAll, Runs, Makes, MakeAll}
-use Rattle.spec_script.proofs.Inversions.{bind_ok, in_block_ok, chosen, passed, not_refused, same_bytes, ok_is, named_opened, admitted_is, revised_is}
+use Rattle.spec_script.specs.Script.{Scripted}
+use Rattle.spec_script.specs.Reading.{Reading, OpenJob, in_block, named, asked, admitted, going_on, begun, with_block, with_job, with_revision, assumed, revised, after_header, after_assumptions, inside_block, inside_job, inside, outside, after_tenant, of_tenant, after_job, after_end, after_counted, after_row, unended, at_end}
+use Rattle.spec_script.specs.Grammar.{RevisionLines, Part, Tenant, Job, revision_lines, job_lines, part_lines, is_inside, ReviseAll, MakeAll}
+use Rattle.spec_script.proofs.Inversions.{bind_ok, in_block_ok, chosen, passed, same_bytes, ok_is, named_opened, admitted_is, revised_is}
 
 -- the lines that are left are those of parts, which make these jobs
 pub record Outside (limits : Limits) (rows : List (List (List ℕ))) (s : Reading) (r : Scripted) : Type 0 where

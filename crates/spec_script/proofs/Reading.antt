@@ -1,5 +1,5 @@
 -- What is spelled is read, and what is read is spelled.
-use Rattle.std.proofs.Common.{◌≡◌, ℕ, ◌<◌, suc, max, Bool, true, false, cond, not, ◌&&◌, List, [], ◌∷◌, ◌++◌, length, filter, flat_map, codes, Option, Some, None, Result, Ok, Err, refl, sym, ap, ap₂, subst, ◌∙◌, nat_lt, append_assoc, append-nil, ◌↔◌}
+use Rattle.std.proofs.Common.{◌≡◌, ℕ, ◌<◌, suc, max, Bool, true, false, cond, not, List, [], ◌∷◌, ◌++◌, length, filter, flat_map, codes, Option, None, Result, Ok, Err, refl, sym, ap, ◌∙◌, append_assoc}
 use Rattle.std.specs.Str.{bytes_eq}
 use Rattle.std.specs.List.{list_all}
 use Rattle.std.proofs.lemmas.Bool.{lt-ltb}
@@ -12,16 +12,16 @@ use Rattle.spec_text.specs.Numbers.{number_in}
 use Rattle.spec_dimacs.specs.declared.fault.BlockFault.{BlockFault}
 use Rattle.spec_dimacs.specs.Rows.{is_passed, rows_of, counted_rows}
 use Rattle.spec_dimacs.specs.Reading as block
-use Rattle.spec_dimacs.specs.Reading.{Block, ◌>>=◌}
+use Rattle.spec_dimacs.specs.Reading.{Block, ◌>>=◌, after_rows}
 use Rattle.spec_script.specs.declared.fault.LineFault.{LineFault}
 use Rattle.spec_script.specs.declared.fault.LineFault.TheVariants.{BadLine, Limit}
 use Rattle.spec_script.specs.Limits.{Limits}
 use Rattle.spec_script.specs.Script.{ScriptedJob, Scripted}
-use Rattle.spec_script.specs.Reading.{Reading, OpenJob, unread, in_block, named, asked, admitted, going_on, begun, with_block, with_job, assumed, revised, after_header, after_assumptions, inside_block, inside_job, inside, outside, after_tenant, of_tenant, after_job, after_end, after_counted, after_row, at_end, on_line, read_rows, read_text}
-use Rattle.spec_script.specs.Grammar.{RevisionLines, JobLines, Part, Tenant, Job, revision_lines, job_lines, part_lines, is_inside, is_assumed, after_rows, formula_of, Revises, ReviseAll, Runs, Makes, MakeAll, Spells}
+use Rattle.spec_script.specs.Reading.{Reading, OpenJob, unread, in_block, named, asked, admitted, going_on, begun, with_block, with_job, assumed, revised, after_assumptions, inside_block, inside, of_tenant, after_counted, after_row, at_end, on_line, read_rows, read_text}
+use Rattle.spec_script.specs.Grammar.{RevisionLines, JobLines, Part, Tenant, Job, revision_lines, job_lines, part_lines, is_inside, Revises, ReviseAll, Runs, MakeAll, Spells}
 use Rattle.spec_script.specs.Laws.{SpelledIsRead}
 use Rattle.spec_script.proofs.Inversions.{bind_ok, on_line_ok, ok_is, named_opened, revised_is}
-use Rattle.spec_script.proofs.Parsing.{run, counted, parsed, Outside, regroup, not_true}
+use Rattle.spec_script.proofs.Parsing.{run, counted, parsed, Outside, not_true}
 
 -- ---- lines and their numbers
 

@@ -1,5 +1,5 @@
 -- Literals in order, each once: one list for each set of literals.
-use Rattle.std.proofs.Common.{◌≡◌, ◌≢◌, ℕ, ◌<◌, ◌≤◌, ◌/◌, true, List, [], ◌∷◌, Contains, ◌⊎◌, inl, inr, refl, sym, subst, arith}
+use Rattle.std.proofs.Common.{◌≡◌, ℕ, ◌<◌, true, List, [], ◌∷◌, Contains, ◌⊎◌, inl, inr, refl, sym, subst, arith}
 use Rattle.mal_base.specs.Clauses.{climbs, HaveSame}
 use Rattle.mal_base.proofs.Sorting.{Contains-head, Contains-later, Contains-cases, and-right, above-first}
 use Rattle.spec_dimacs.specs.Merged.{sorted}

@@ -1,5 +1,5 @@
 -- The words behind the first of a line of assumptions, as they are read.
-use Rattle.std.specs.Prelude.{ℕ, zero, suc, ◌+◌, ◌*◌, Bool, true, false, List, [], ◌∷◌, ◌++◌, map, bytes_eq, codes, if◌then◌else◌, ℤ, pos, negsuc, Option, Some, None, Result, Ok, Err}
+use Rattle.std.specs.Prelude.{ℕ, zero, Bool, true, false, List, [], ◌∷◌, ◌++◌, map, bytes_eq, codes, if◌then◌else◌, pos, Option, Some, None, Result, Ok, Err}
 use Rattle.mal_base.specs.Clauses.{clash}
 use Rattle.spec_text.specs.Numbers.{NumberWord, number_in}
 use Rattle.spec_text.specs.Numbers.NumberWord.{NotANumber, TooLarge, Number}

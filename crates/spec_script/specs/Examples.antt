@@ -1,6 +1,11 @@
-use Rattle.std.specs.Prelude.{◌≡◌, ℕ, List, [], ◌∷◌, ◌++◌, codes, Some, None}
+use Rattle.std.specs.Prelude.{◌≡◌, List, [], ◌∷◌, ◌++◌, codes, Some, None, Ok, Err}
+use Rattle.mal_base.specs.declared.which.Which.TheVariants.{Jobs, Revisions}
 use Rattle.mal_revision.specs.Posted.{Posted}
-use Rattle.spec_script.specs.Script.{ScriptedJob, Scripted, spelling}
+use Rattle.spec_dimacs.specs.declared.fault.BlockFault.TheVariants.{VarTooLarge, ClauseCount}
+use Rattle.spec_script.specs.declared.fault.LineFault.TheVariants.{BadLine, Dimacs, Opposite, Duplicate, Range, Limit}
+use Rattle.spec_script.specs.Limits.{served, final_limits}
+use Rattle.spec_script.specs.Reading.{read_text}
+use Rattle.spec_script.specs.Script.{Scripted, spelling}
 
 -- the job p of tenant a with these revisions
 abbrev pub job_with : List Posted → Scripted
@@ -11,3 +16,35 @@ pub record HasExamples : Type 0 where
   pub no_job : spelling (record { jobs = [] }) ≡ []
   pub one_clause : spelling (job_with (record { variables = 2; clauses = Some (2 ∷ 4 ∷ []) ∷ []; assumptions = [] } ∷ [])) ≡ codes "t a" ++ 10 ∷ (codes "j p 1 1 4" ++ 10 ∷ (codes "p cnf 2 1" ++ 10 ∷ (codes "1 2 0" ++ 10 ∷ (codes "a 0" ++ 10 ∷ (codes "e" ++ 10 ∷ [])))))
   pub assumed : spelling (job_with (record { variables = 2; clauses = None ∷ []; assumptions = 2 ∷ 5 ∷ [] } ∷ [])) ≡ codes "t a" ++ 10 ∷ (codes "j p 1 1 4" ++ 10 ∷ (codes "p cnf 2 1" ++ 10 ∷ (codes "1 -1 0" ++ 10 ∷ (codes "a 1 -2 0" ++ 10 ∷ (codes "e" ++ 10 ∷ [])))))
+
+-- small texts that spell scripts; a literal is given by its code: 2 and 3 are 1 and -1
+pub record ReadingExamples : Type 0 where
+  pub empty : read_text served [] ≡ Ok (record { jobs = [] })
+  pub no_revision : read_text served (codes "t a\nj p 1 1 4\ne\n") ≡ Ok (job_with [])
+  pub tautology_keeps_its_number : read_text served (codes "t a\nj p 1 1 4\np cnf 2 2\n1 -1 0\n2 0\na 0\ne\n") ≡ Ok (job_with (record { variables = 2; clauses = None ∷ Some (4 ∷ []) ∷ []; assumptions = [] } ∷ []))
+  pub from_a_tool : read_text served (codes "c made by a tool\r\nt a\r\nj p 1 1 4\r\np cnf 2 1\r\n-2\r\n1 0\r\n%\r\n0\r\na 0\r\ne\r\n") ≡ Ok (job_with (record { variables = 2; clauses = Some (2 ∷ 5 ∷ []) ∷ []; assumptions = [] } ∷ []))
+  pub repeated_literal : read_text served (codes "t a\nj p 1 1 4\np cnf 2 1\n1 2 1 0\na 0\ne") ≡ Ok (job_with (record { variables = 2; clauses = Some (2 ∷ 4 ∷ []) ∷ []; assumptions = [] } ∷ []))
+  pub assumptions_in_order : read_text final_limits (codes "t a\nj p 1 1 4\np cnf 2 0\na 2 -1 2 0\ne\n") ≡ Ok (job_with (record { variables = 2; clauses = []; assumptions = 3 ∷ 4 ∷ [] } ∷ []))
+  pub fewer_variables_later : read_text final_limits (codes "t a\nj p 1 1 4\np cnf 2 0\na 0\np cnf 1 0\na 1 0\ne\n") ≡ Ok (job_with (record { variables = 2; clauses = []; assumptions = [] } ∷ record { variables = 1; clauses = []; assumptions = 2 ∷ [] } ∷ []))
+
+-- small texts with their first fault, whatever is served
+pub record FaultExamples : Type 0 where
+  pub end_alone : read_text served (codes "e") ≡ Err (1, BadLine)
+  pub compressed : read_text served (31 ∷ 139 ∷ 8 ∷ []) ≡ Err (1, BadLine)
+  pub no_tenant : read_text served (codes "j p 1 1 4") ≡ Err (1, BadLine)
+  pub priority_zero : read_text served (codes "t a\nj p 0 1 4\ne\n") ≡ Err (2, Range)
+  pub word_before_range : read_text served (codes "t a\nj p 0 +1 4\ne\n") ≡ Err (2, BadLine)
+  pub job_not_ended : read_text served (codes "t a\nj p 1 1 4\n\n") ≡ Err (3, BadLine)
+  pub variable_too_large : read_text served (codes "t a\nj p 1 1 4\np cnf 2 1\n3 0\na 0\ne\n") ≡ Err (4, Dimacs VarTooLarge)
+  pub block_cut_short : read_text served (codes "t a\nj p 1 1 4\np cnf 2 2\n1 2 0\n-1") ≡ Err (5, Dimacs (ClauseCount 2 1))
+  pub block_not_whole : read_text served (codes "t a\nj p 1 1 4\np cnf 2 2\n1 2 0\na 3 0\ne\n") ≡ Err (5, Dimacs (ClauseCount 2 1))
+  pub block_not_ended : read_text served (codes "t a\nj p 1 1 4\np cnf 1 1\n1 0\n") ≡ Err (4, BadLine)
+
+-- small texts that are refused by what is served today, and by the limits that are final
+pub record LimitExamples : Type 0 where
+  pub second_job : read_text served (codes "t a\nj p 1 1 4\ne\nj q 1 1 4\ne\n") ≡ Err (4, Limit Jobs)
+  pub second_revision : read_text served (codes "t a\nj p 1 1 4\np cnf 0 0\na 0\np cnf 0 0\na 0\ne\n") ≡ Err (5, Limit Revisions)
+  pub assumption : read_text served (codes "t a\nj p 1 1 4\np cnf 1 0\na 1 -1 0\ne\n") ≡ Err (4, BadLine)
+  pub opposite : read_text final_limits (codes "t a\nj p 1 1 4\np cnf 1 0\na 1 -1 0\ne\n") ≡ Err (4, Opposite 1)
+  pub above_the_variables : read_text final_limits (codes "t a\nj p 1 1 4\np cnf 1 0\na 2 0\ne\n") ≡ Err (4, Range)
+  pub duplicate : read_text final_limits (codes "t a\nj p 1 1 4\ne\nj p 1 1 4\ne\n") ≡ Err (4, Duplicate (codes "a") (codes "p"))

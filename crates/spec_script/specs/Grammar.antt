@@ -1,5 +1,5 @@
 -- The grammar of scripts: which script a text spells.
-use Rattle.std.specs.Prelude.{◌≡◌, ℕ, ◌<◌, Bool, true, false, not, ◌&&◌, List, [], ◌∷◌, ◌++◌, length, flat_map, codes, bytes_eq, Option, Some, Result, Ok, Err}
+use Rattle.std.specs.Prelude.{◌≡◌, ℕ, ◌<◌, Bool, true, false, not, ◌&&◌, List, [], ◌∷◌, ◌++◌, length, flat_map, codes, bytes_eq, Some, Result, Ok}
 use Rattle.std.specs.List.{list_all}
 use Rattle.mal_base.specs.Asks.{Terms}
 use Rattle.mal_base.specs.Formulas.{Formulated}
@@ -54,14 +54,9 @@ is_assumed (first ∷ others) = bytes_eq first (codes "a")
 abbrev pub is_inside : List (List ℕ) → Bool
 is_inside row = not (is_passed row) && not (is_assumed row)
 
--- the block after lines
-abbrev pub after_rows : List (List (List ℕ)) → Block → Result Block BlockFault
-after_rows [] b = Ok b
-after_rows (row ∷ rows) b = block.after_row row b >>= after_rows rows
-
 -- the formula of the lines of a block, as DIMACS CNF reads them
 abbrev pub formula_of : List (List ℕ) → List (List (List ℕ)) → Result Formulated BlockFault
-formula_of header body = block.opened (codes "p" ∷ header) >>= λ b. after_rows body b >>= block.ended
+formula_of header body = block.opened (codes "p" ∷ header) >>= λ b. block.after_rows body b >>= block.ended
 
 -- the lines of a revision make one more revision of a job: there may be one more, its block spells a formula, and its
 -- assumptions are literals of the formula's variables

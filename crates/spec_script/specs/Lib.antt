@@ -4,6 +4,7 @@ pub mod Assumptions
 pub mod Reading
 pub mod Grammar
 pub mod Within
+pub mod Formed
 pub mod FaultLines
 pub mod Laws
 pub mod Examples

@@ -1,11 +1,10 @@
 -- Reading a script line by line: the script, or the first fault with its line.
-use Rattle.std.specs.Prelude.{ℕ, zero, suc, ◌+◌, max, Bool, true, false, ◌&&◌, ◌||◌, List, [], ◌∷◌, ◌++◌, length, codes, bytes_eq, nat_lt, nat_le, if◌then◌else◌, ℤ, pos, negsuc, Option, Some, None, Result, Ok, Err, count_by}
+use Rattle.std.specs.Prelude.{ℕ, suc, ◌+◌, max, Bool, true, false, ◌&&◌, ◌||◌, List, [], ◌∷◌, ◌++◌, length, codes, bytes_eq, nat_lt, nat_le, if◌then◌else◌, pos, Option, Some, None, Result, Ok, Err, count_by}
 use Rattle.std.specs.List.{list_any}
 use Rattle.mal_base.specs.Asks.{Terms}
 use Rattle.mal_base.specs.Formulas.{Formulated, literals_of}
 use Rattle.mal_base.specs.Names.{is_name}
 use Rattle.mal_base.specs.declared.which.Which.TheVariants.{Clauses, Literals, Tenants, Jobs, Revisions}
-use Rattle.mal_revision.specs.Posted.{Posted}
 use Rattle.spec_text.specs.Numbers.{NumberWord, number_in}
 use Rattle.spec_text.specs.Numbers.NumberWord.{NotANumber, TooLarge, Number}
 use Rattle.spec_dimacs.specs.declared.fault.BlockFault.{BlockFault}

@@ -1,8 +1,9 @@
-use Rattle.std.specs.Prelude.{◌≡◌, ℕ, ◌<◌, ◌≤◌, List, [], ◌∷◌, ◌++◌, length, map, flat_map, codes, Option, Some, None}
+use Rattle.std.specs.Prelude.{ℕ, List, [], ◌∷◌, ◌++◌, length, map, flat_map, codes}
 use Rattle.mal_base.specs.Asks.{Terms}
 use Rattle.mal_revision.specs.Posted.{Posted}
 use Rattle.spec_text.specs.Lines.{text_of}
-use Rattle.spec_text.specs.Numbers.{decimal_word, literal_word}
+use Rattle.spec_text.specs.Numbers.{decimal_word}
+use Rattle.spec_dimacs.specs.Written.{closed_words, clause_words, header_words}
 
 -- a job of a script: its tenant, its name, its ask and its revisions
 pub record ScriptedJob : Type 0 where
@@ -15,22 +16,9 @@ pub record ScriptedJob : Type 0 where
 pub record Scripted : Type 0 where
   pub jobs : List ScriptedJob
 
--- the words of literals, closed by a 0
-abbrev pub closed_words : List ℕ → List (List ℕ)
-closed_words lits = map literal_word lits ++ codes "0" ∷ []
-
--- the words of a clause's line; a tautology is written as the literals 1 and -1
-abbrev pub clause_words : Option (List ℕ) → List (List ℕ)
-clause_words None = closed_words (2 ∷ 3 ∷ [])
-clause_words (Some lits) = closed_words lits
-
--- the words of a header line: the variables and the number of clauses
-abbrev pub header_words : Posted → List (List ℕ)
-header_words r = codes "p" ∷ codes "cnf" ∷ decimal_word r.variables ∷ decimal_word (length r.clauses) ∷ []
-
 -- the words of the lines of a revision: the header, a line a clause, and the assumptions
 abbrev pub revision_rows : Posted → List (List (List ℕ))
-revision_rows r = header_words r ∷ (map clause_words r.clauses ++ (codes "a" ∷ closed_words r.assumptions) ∷ [])
+revision_rows r = header_words r.variables (length r.clauses) ∷ (map clause_words r.clauses ++ (codes "a" ∷ closed_words r.assumptions) ∷ [])
 
 -- the words of a tenant's line
 abbrev pub tenant_words : List ℕ → List (List ℕ)

@@ -1,7 +1,7 @@
-use Rattle.std.specs.Prelude.{ℕ, ◌≤◌, length}
+use Rattle.std.specs.Prelude.{◌≤◌, length}
 use Rattle.std.specs.List.{AllByRecursion}
 use Rattle.spec_script.specs.Limits.{Limits}
-use Rattle.spec_script.specs.Script.{ScriptedJob, Scripted}
+use Rattle.spec_script.specs.Script.{Scripted}
 
 -- a script has no more jobs, and no job of it more revisions, than the limits say
 pub record IsWithin (limits : Limits) (s : Scripted) : Type 0 where

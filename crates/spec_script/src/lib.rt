@@ -4,14 +4,32 @@
 
 mod fault;
 
-ghost use Rattle.spec_script.specs.Examples.{HasExamples};
-ghost use Rattle.spec_script.specs.Laws.{SpelledIsRead, SpelledIsWithin};
+ghost use Rattle.spec_script.specs.Examples.{HasExamples, ReadingExamples, FaultExamples, LimitExamples};
+ghost use Rattle.spec_script.specs.Laws.{SpelledIsRead, SpelledIsWithin, WrittenIsSpelled, WrittenIsRead, SpelledIsScript, SpelledAgain};
 
 pub use fault::LineFault;
 
 /// The worked examples of a script's text compute to the texts that are known.
 pub fn script_examples()
     ensures { HasExamples }
+{}
+
+/// What small texts spell.
+#[tactic(auto, using(crate::proofs::ExampleLemmas::reading_examples))]
+pub fn reading_examples()
+    ensures { ReadingExamples }
+{}
+
+/// What is wrong with small texts, and where.
+#[tactic(auto, using(crate::proofs::ExampleLemmas::fault_examples))]
+pub fn fault_examples()
+    ensures { FaultExamples }
+{}
+
+/// Small texts that pass the limits.
+#[tactic(auto, using(crate::proofs::ExampleLemmas::limit_examples))]
+pub fn limit_examples()
+    ensures { LimitExamples }
 {}
 
 /// A text spells a script exactly where reading gives the script. So no text spells two, and none that has a first fault
@@ -23,4 +41,24 @@ pub fn spelled_is_read()
 /// What a text spells has no more jobs and revisions than the limits say.
 pub fn spelled_is_within()
     ensures { SpelledIsWithin }
+{}
+
+/// A script in form is spelled by the text that it is written as.
+pub fn written_is_spelled()
+    ensures { WrittenIsSpelled }
+{}
+
+/// A script in form is read again from the text that it is written as.
+pub fn written_is_read()
+    ensures { WrittenIsRead }
+{}
+
+/// What a text spells is a script in form.
+pub fn spelled_is_script()
+    ensures { SpelledIsScript }
+{}
+
+/// What a text spells is read again from the one text that it is written as.
+pub fn spelled_again()
+    ensures { SpelledAgain }
 {}

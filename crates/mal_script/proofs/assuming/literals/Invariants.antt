@@ -1,4 +1,4 @@
-use Rattle.std.proofs.Common.{◌≡◌, ℕ, true, false, [], map, length}
+use Rattle.std.proofs.Common.{◌≡◌, true, false, [], map, length}
 use Rattle.mal_base.specs.Formulas.{is_within}
 use Rattle.spec_text.specs.Inputs.{words_of}
 use Rattle.spec_text.specs.Numbers.{number_in}

@@ -1,4 +1,4 @@
-use Rattle.std.proofs.Common.{◌≡◌, ◌∙◌, List, ℕ, [], ◌∷◌, codes, ap₂}
+use Rattle.std.proofs.Common.{◌∙◌, List, ℕ, [], ◌∷◌, codes, ap₂}
 use Rattle.std.proofs.lemmas.Result.{IfOk-weaker}
 use Rattle.spec_text.specs.Lines.{line_of}
 use Rattle.spec_text.specs.Numbers.{decimal_word}

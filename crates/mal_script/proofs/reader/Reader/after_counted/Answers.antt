@@ -1,4 +1,4 @@
-use Rattle.std.proofs.Common.{◌≡◌, sym, refl}
+use Rattle.std.proofs.Common.{sym, refl}
 use Rattle.spec_text.specs.Inputs.{words_of}
 use Rattle.mal_script.proofs.Steps.{gives-counted}
 use Rattle.mal_script.proofs.reader.Reader.after_counted.Goals as goal

@@ -1,7 +1,0 @@
-use Rattle.std.proofs.Common.{◌≡◌, ◌++◌, flat_map, take}
-use Rattle.spec_text.specs.Lines.{line_of}
-use Rattle.spec_script.specs.Script.{clause_words}
-use Rattle.mal_script.proofs.writing.put_clauses.Given as goal
-
-abbrev pub invariant-loop-clause : goal.invariant-loop-clause
-invariant-loop-clause l = l.out.items ≡ l.fn.out.items ++ flat_map (λ c. line_of (clause_words c)) (take l.clause-index l.clauses)

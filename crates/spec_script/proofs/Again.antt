@@ -1,0 +1,212 @@
+-- A script in form is spelled by the text that it is written as.
+use Rattle.std.proofs.Common.{◌≡◌, ℕ, ◌+◌, ◌<◌, ◌≤◌, ◌^◌, Bool, true, false, cond, ◌&&◌, ◌||◌, nat_lt, nat_le, List, [], ◌∷◌, ◌++◌, map, length, pos, Option, Some, None, Result, Ok, Err, refl, sym, ap, ap₂, ◌∙◌, subst, arith, append_assoc, append-nil, length-append}
+use Rattle.std.specs.List.{list_all, list_any}
+use Rattle.std.specs.Str.{bytes_eq}
+use Rattle.std.proofs.lemmas.Bool.{lt-ltb, le-ltb, le-leb}
+use Rattle.std.proofs.lemmas.List.Sums.{sum_by-cons, fold-append}
+use Rattle.mal_base.specs.Asks.{Terms, IsAsk}
+use Rattle.mal_base.specs.Formulas.{Formulated, is_within, is_clause_of, is_within_limits, is_formula, literals_of}
+use Rattle.mal_base.specs.Clauses.{rises}
+use Rattle.mal_base.specs.declared.which.Which.TheVariants.{Clauses, Literals, Tenants, Jobs}
+use Rattle.mal_base.proofs.Sorting.{and-left, and-right, and-both}
+use Rattle.mal_revision.specs.Posted.{Posted, is_posted}
+use Rattle.spec_text.specs.Numbers.{NumberWord, number_in, decimal_word}
+use Rattle.spec_text.specs.Numbers.NumberWord.{Number}
+use Rattle.spec_text.proofs.Numerals.{numbers_read_again}
+use Rattle.spec_dimacs.specs.declared.fault.BlockFault.{BlockFault}
+use Rattle.spec_dimacs.specs.declared.fault.BlockFault.TheVariants.{BadHeader}
+use Rattle.spec_dimacs.specs.Rows as rows
+use Rattle.spec_dimacs.specs.Reading.{Block, ◌>>=◌, opened, after_rows, ended}
+use Rattle.spec_dimacs.specs.Written as formula
+use Rattle.spec_dimacs.specs.Written.{clause_words, header_words, closed_words, formula_rows}
+use Rattle.spec_dimacs.proofs.Behind.{Leads, whole_leads}
+use Rattle.spec_dimacs.proofs.Again.{written_rows}
+use Rattle.spec_dimacs.proofs.Laws.{written_is_read}
+use Rattle.spec_script.specs.declared.fault.LineFault.{LineFault}
+use Rattle.spec_script.specs.declared.fault.LineFault.TheVariants.{Range, Duplicate, Limit}
+use Rattle.spec_script.specs.Limits.{Limits}
+use Rattle.spec_script.specs.Script.{ScriptedJob, rows_of, spelling}
+use Rattle.spec_script.specs.Reading.{OpenJob, Reading, named, ranged, asked, is_job, has_room, begun, going_on, admitted, with_revision, revised}
+use Rattle.spec_script.specs.Formed.{with_name, tenants_of, is_revision, clauses_of, clause_literals, IsJob, MayFollow, MayAllFollow}
+use Rattle.spec_script.specs.Grammar.{formula_of, Revises, ReviseAll, Runs, MakeAll}
+use Rattle.spec_script.specs.Laws.{WrittenIsSpelled, WrittenIsRead}
+use Rattle.spec_script.proofs.Assumed.{assumed-again}
+use Rattle.spec_script.proofs.Reading.{spelled-read}
+use Rattle.spec_script.proofs.Written.{text-rows, jobs-stand, revision-formula, few-variables, lines_of, job_lines_of, parts_of, parts-lines, clauses-inside}
+
+-- ---- a block
+
+abbrev formula_in : Posted → Formulated
+formula_in r = record { variables = r.variables; clauses = r.clauses }
+
+-- the lines of a formula in form lead to it
+written-leads : (f : Formulated) → is_formula f ≡ true → Leads (formula_rows f) f
+written-leads f h =
+    let forms : list_all (is_clause_of f.variables) f.clauses ≡ true = and-right (is_within_limits f.variables f.clauses) _ h in
+    let low : f.variables ≤ 65536 = few-variables f.variables f.clauses (and-left _ _ h) in
+    subst (λ (rs : List (List (List ℕ))). Leads rs f)
+    (written_rows f low forms ∙ ap (λ (rs : List (List (List ℕ))). header_words f.variables (length f.clauses) ∷ rs) (append-nil (map clause_words f.clauses)))
+    (whole_leads (rows.rows_of (formula.spelling f)) 0 f (written_is_read f h))
+
+-- the formula of a header and of the lines behind it
+block_read : List (List (List ℕ)) → Result Formulated BlockFault
+block_read [] = Err BadHeader
+block_read (header ∷ body) = opened header >>= λ b. after_rows body b >>= ended
+
+leads-read : (lines : List (List (List ℕ))) (f : Formulated) → Leads lines f → block_read lines ≡ Ok f
+unfolding block_read
+leads-read lines f is =
+    ap block_read is.halves
+    ∙ ap (λ (r : Result Block BlockFault). r >>= λ b. after_rows is.others b >>= ended) is.opens
+    ∙ ap (λ (r : Result Block BlockFault). r >>= ended) is.rest.reads
+    ∙ is.rest.ends
+
+block-again : (r : Posted) → is_formula (formula_in r) ≡ true → formula_of (lines_of r).header (lines_of r).body ≡ Ok (formula_in r)
+unfolding block_read
+block-again r h = leads-read (formula_rows (formula_in r)) (formula_in r) (written-leads (formula_in r) h)
+
+-- ---- the revisions of a job
+
+revised-again : (o : OpenJob) (f : Formulated) (assumptions : List ℕ) → o.clauses + length f.clauses ≤ 1048576 → o.literals + literals_of f.clauses ≤ 16777216 → revised o f assumptions ≡ Ok (with_revision o f assumptions)
+revised-again o f assumptions few little =
+    ap (λ (b : Bool). cond b (Err (Limit Clauses)) (cond (nat_lt 16777216 (o.literals + literals_of f.clauses)) (Err (Limit Literals)) (Ok (with_revision o f assumptions)))) (le-ltb 1048576 (o.clauses + length f.clauses) few)
+    ∙ ap (λ (b : Bool). cond b (Err (Limit Literals)) (Ok (with_revision o f assumptions))) (le-ltb 16777216 (o.literals + literals_of f.clauses) little)
+
+revises : (limits : Limits) (o : OpenJob) (r : Posted) → is_revision limits r ≡ true → length o.job.revisions < limits.revisions → o.clauses + length r.clauses ≤ 1048576 → o.literals + literals_of r.clauses ≤ 16777216 → Revises limits o (lines_of r) (with_revision o (formula_in r) r.assumptions)
+revises limits o r h room few little =
+    let form : is_formula (formula_in r) ≡ true = revision-formula limits r h in
+    let low : r.variables ≤ 65536 = few-variables r.variables r.clauses (and-left _ _ form) in
+    let forms : list_all (is_clause_of r.variables) r.clauses ≡ true = and-right (is_within_limits r.variables r.clauses) _ form in
+    let posted : is_posted r ≡ true = and-left _ _ h in
+    let may : (limits.assumptions || nat_le (length r.assumptions) 0) ≡ true = and-right (is_posted r) _ h in
+    let assumptions : (rises r.assumptions && is_within r.variables r.assumptions) ≡ true = and-right (is_within_limits r.variables r.clauses && list_all (is_clause_of r.variables) r.clauses) _ posted in
+    record {
+      formula = formula_in r;
+      assumptions = r.assumptions;
+      room = room;
+      inside = clauses-inside r.variables r.clauses low forms;
+      spelled = block-again r form;
+      assumed = assumed-again limits r.variables r.assumptions low (and-left _ _ assumptions) (and-right (rises r.assumptions) _ assumptions) may;
+      revised = revised-again o (formula_in r) r.assumptions few little;
+    }
+
+-- a job with revisions behind its own
+abbrev with_rest : ScriptedJob → List Posted → ScriptedJob
+with_rest j rs = record { tenant = j.tenant; name = j.name; ask = j.ask; revisions = rs }
+
+-- what the lines of revisions make of a job
+record Ended (limits : Limits) (o : OpenJob) (rs : List Posted) : Type 0 where
+  ended : OpenJob
+  revised : ReviseAll limits o (map lines_of rs) ended
+  job : ended.job ≡ with_rest o.job (o.job.revisions ++ rs)
+
+revise-all : (limits : Limits) (rs : List Posted) (o : OpenJob) → list_all (is_revision limits) rs ≡ true → length o.job.revisions + length rs ≤ limits.revisions → o.clauses + clauses_of rs ≤ 1048576 → o.literals + clause_literals rs ≤ 16777216 → Ended limits o rs
+revise-all limits [] o h room few little = record { ended = o; revised = refl; job = ap (with_rest o.job) (sym (append-nil o.job.revisions)) }
+revise-all limits (r ∷ rs) o h room few little =
+    let next : OpenJob = with_revision o (formula_in r) r.assumptions in
+    let more : clauses_of (r ∷ rs) ≡ length r.clauses + clauses_of rs = sum_by-cons (λ (r : Posted). length r.clauses) r rs in
+    let longer : clause_literals (r ∷ rs) ≡ literals_of r.clauses + clause_literals rs = sum_by-cons (λ (r : Posted). literals_of r.clauses) r rs in
+    let one : length (o.job.revisions ++ r ∷ []) ≡ length o.job.revisions + 1 = length-append o.job.revisions (r ∷ []) in
+    let rest : Ended limits next rs = revise-all limits rs next (and-right (is_revision limits r) _ h) (omega arith) (omega arith) (omega arith) in
+    record {
+      ended = rest.ended;
+      revised = (next, revises limits o r (and-left _ _ h) (omega arith) (omega arith) (omega arith), rest.revised);
+      job = rest.job ∙ ap (with_rest o.job) (append_assoc o.job.revisions (r ∷ []) rs);
+    }
+
+-- ---- the first lines of a job
+
+abbrev reading : List ScriptedJob → List (List ℕ) → Option (List ℕ) → Reading
+reading jobs tenants tenant = record { jobs = jobs; tenants = tenants; tenant = tenant; opened = None }
+
+named-again : (limits : Limits) (jobs : List ScriptedJob) (names : List (List ℕ)) (tenant : Option (List ℕ)) (name : List ℕ) → length (with_name names name) ≤ limits.tenants → named limits name (reading jobs names tenant) ≡ Ok (reading jobs (with_name names name) (Some name))
+named-again limits jobs names tenant name few = by_test (list_any (bytes_eq name) names) few
+  where
+    by_test : (b : Bool) → length (cond b names (names ++ name ∷ [])) ≤ limits.tenants
+        → cond b (Ok (reading jobs names (Some name))) (cond (nat_lt (length names) limits.tenants) (Ok (reading jobs (names ++ name ∷ []) (Some name))) (Err (Limit Tenants))) ≡ Ok (reading jobs (cond b names (names ++ name ∷ [])) (Some name))
+    by_test true few = refl
+    by_test false few =
+        let one : length (names ++ name ∷ []) ≡ length names + 1 = length-append names (name ∷ []) in
+        ap (λ (b : Bool). cond b (Ok (reading jobs (names ++ name ∷ []) (Some name))) (Err (Limit Tenants))) (lt-ltb (length names) limits.tenants (omega arith))
+
+number-again : (n max : ℕ) → n ≤ max → max < 2 ^ 63 → number_in (decimal_word n) max ≡ Number (pos n)
+number-again n max low bound = numbers_read_again (pos n) max low bound
+
+ranged-again : (n max : ℕ) → 1 ≤ n → n ≤ max → ranged max (Number (pos n)) ≡ Ok n
+ranged-again n max some low = ap (λ (b : Bool). cond b (Ok n) (Err Range)) (and-both _ _ (le-leb 1 n some) (le-leb n max low))
+
+abbrev terms : ℕ → ℕ → ℕ → Terms
+terms p d s = record { priority = p; demand = d; slices = s }
+
+asked-again : (ask : Terms) → IsAsk ask → asked (number_in (decimal_word ask.priority) 1000) (number_in (decimal_word ask.demand) 64) (number_in (decimal_word ask.slices) 4096) ≡ Ok ask
+asked-again ask is =
+    ap (λ (x : NumberWord). asked x (number_in (decimal_word ask.demand) 64) (number_in (decimal_word ask.slices) 4096)) (number-again ask.priority 1000 is.priority_bound (omega arith))
+    ∙ ap (λ (x : NumberWord). asked (Number (pos ask.priority)) x (number_in (decimal_word ask.slices) 4096)) (number-again ask.demand 64 is.demand_bound (omega arith))
+    ∙ ap (λ (x : NumberWord). asked (Number (pos ask.priority)) (Number (pos ask.demand)) x) (number-again ask.slices 4096 is.slices_bound (omega arith))
+    ∙ ap (λ (r : Result ℕ LineFault). r >>= λ priority. ranged 64 (Number (pos ask.demand)) >>= λ demand. ranged 4096 (Number (pos ask.slices)) >>= λ slices. Ok (terms priority demand slices)) (ranged-again ask.priority 1000 is.some_priority is.priority_bound)
+    ∙ ap (λ (r : Result ℕ LineFault). r >>= λ demand. ranged 4096 (Number (pos ask.slices)) >>= λ slices. Ok (terms ask.priority demand slices)) (ranged-again ask.demand 64 is.some_demand is.demand_bound)
+    ∙ ap (λ (r : Result ℕ LineFault). r >>= λ slices. Ok (terms ask.priority ask.demand slices)) (ranged-again ask.slices 4096 is.some_slices is.slices_bound)
+
+admitted-again : (limits : Limits) (tenant name : List ℕ) (s : Reading) (ask : Terms) → list_any (is_job tenant name) s.jobs ≡ false → has_room limits tenant s.jobs ≡ true → admitted limits tenant name s ask ≡ Ok (going_on s (begun tenant name ask))
+admitted-again limits tenant name s ask new room =
+    ap (λ (b : Bool). cond b (Err (Duplicate tenant name)) (cond (has_room limits tenant s.jobs) (Ok (going_on s (begun tenant name ask))) (Err (Limit Jobs)))) new
+    ∙ ap (λ (b : Bool). cond b (Ok (going_on s (begun tenant name ask))) (Err (Limit Jobs))) room
+
+-- ---- the jobs of a script
+
+tenants-more : (jobs : List ScriptedJob) (j : ScriptedJob) → tenants_of (jobs ++ j ∷ []) ≡ with_name (tenants_of jobs) j.tenant
+tenants-more jobs j = fold-append (λ (names : List (List ℕ)) (j : ScriptedJob). with_name names j.tenant) [] jobs (j ∷ [])
+
+runs : (limits : Limits) (jobs : List ScriptedJob) (j : ScriptedJob) → MayFollow limits jobs j → Runs limits (reading jobs (with_name (tenants_of jobs) j.tenant) (Some j.tenant)) (job_lines_of j) (reading (jobs ++ j ∷ []) (tenants_of (jobs ++ j ∷ [])) (Some j.tenant))
+runs limits jobs j is =
+    let form : IsJob limits j = is.formed in
+    let some : clauses_of j.revisions ≤ 1048576 = form.clauses in
+    let short : clause_literals j.revisions ≤ 16777216 = form.literals in
+    let few : 0 + clauses_of j.revisions ≤ 1048576 = omega arith in
+    let little : 0 + clause_literals j.revisions ≤ 16777216 = omega arith in
+    let free : length j.revisions ≤ limits.revisions = form.few in
+    let room : 0 + length j.revisions ≤ limits.revisions = omega arith in
+    let e : Ended limits (begun j.tenant j.name j.ask) j.revisions = revise-all limits j.revisions (begun j.tenant j.name j.ask) form.formed room few little in
+    record {
+      tenant = j.tenant;
+      ask = j.ask;
+      ended = e.ended;
+      owned = refl;
+      name = form.name;
+      asks = asked-again j.ask form.ask;
+      admitted = admitted-again limits j.tenant j.name (reading jobs (with_name (tenants_of jobs) j.tenant) (Some j.tenant)) j.ask is.new is.room;
+      revised = e.revised;
+      left = ap₂ (λ (names : List (List ℕ)) (x : ScriptedJob). reading (jobs ++ x ∷ []) names (Some j.tenant)) (tenants-more jobs j) (sym e.job);
+    }
+
+-- what the parts of jobs make of a script
+record Made (limits : Limits) (jobs : List ScriptedJob) (tenant : Option (List ℕ)) (js : List ScriptedJob) : Type 0 where
+  after : Reading
+  made : MakeAll limits (reading jobs (tenants_of jobs) tenant) (parts_of js) after
+  all : jobs ++ js ≡ after.jobs
+
+make-all : (limits : Limits) (js jobs : List ScriptedJob) (tenant : Option (List ℕ)) → MayAllFollow limits jobs js → Made limits jobs tenant js
+make-all limits [] jobs tenant h = record { after = reading jobs (tenants_of jobs) tenant; made = refl; all = append-nil jobs }
+make-all limits (j ∷ js) jobs tenant (first, others) =
+    let rest : Made limits (jobs ++ j ∷ []) (Some j.tenant) js = make-all limits js (jobs ++ j ∷ []) (Some j.tenant) others in
+    let few : length (with_name (tenants_of jobs) j.tenant) ≤ limits.tenants = subst (λ (names : List (List ℕ)). length names ≤ limits.tenants) (tenants-more jobs j) first.tenants in
+    record {
+      after = rest.after;
+      made = (reading jobs (with_name (tenants_of jobs) j.tenant) (Some j.tenant), (first.formed.tenant, named-again limits jobs (tenants_of jobs) tenant j.tenant few), (reading (jobs ++ j ∷ []) (tenants_of (jobs ++ j ∷ [])) (Some j.tenant), runs limits jobs j first, rest.made));
+      all = sym (append_assoc jobs (j ∷ []) js) ∙ rest.all;
+    }
+
+pub written-spelled : WrittenIsSpelled
+unfolding spelling
+written-spelled limits s h =
+    let m : Made limits [] None s.jobs = make-all limits s.jobs [] None h in
+    record {
+      parts = parts_of s.jobs;
+      after = m.after;
+      lines = text-rows (rows_of s) (jobs-stand limits [] s.jobs h) ∙ sym (parts-lines s.jobs);
+      made = m.made;
+      jobs = m.all;
+    }
+
+pub written-read : WrittenIsRead
+written-read limits s h = spelled-read limits (spelling s) s (written-spelled limits s h)

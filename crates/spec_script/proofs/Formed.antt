@@ -1,0 +1,187 @@
+-- What a text spells is a script in form.
+use Rattle.std.proofs.Common.{◌≡◌, ℕ, ◌+◌, ◌<◌, ◌≤◌, Bool, true, false, cond, ◌&&◌, nat_lt, nat_le, List, [], ◌∷◌, ◌++◌, length, codes, pos, negsuc, Option, Some, None, Ok, Err, refl, sym, ap, ap₂, ◌∙◌, subst, arith, length-append, append-nil, append_assoc}
+use Rattle.std.specs.List.{AllByRecursion, list_all, list_any}
+use Rattle.std.specs.Str.{bytes_eq}
+use Rattle.std.proofs.lemmas.Bool.{leb-true, ltb-true, ltb-false}
+use Rattle.std.proofs.lemmas.List.Folds.{list_all-append}
+use Rattle.std.proofs.lemmas.List.Sums.{sum_by_push}
+use Rattle.mal_base.specs.Asks.{Terms, IsAsk}
+use Rattle.mal_base.specs.Formulas.{Formulated, is_formula, literals_of}
+use Rattle.mal_base.specs.Names.{is_name}
+use Rattle.mal_base.specs.declared.which.Which.TheVariants.{Clauses, Literals, Tenants, Jobs}
+use Rattle.mal_base.proofs.Sorting.{and-left, and-right, and-both}
+use Rattle.mal_revision.specs.Posted.{Posted}
+use Rattle.spec_text.specs.Numbers.{NumberWord, number_in}
+use Rattle.spec_text.specs.Numbers.NumberWord.{NotANumber, TooLarge, Number}
+use Rattle.spec_dimacs.specs.Rows.{is_passed}
+use Rattle.spec_dimacs.specs.Reading.{◌>>=◌, opened, after_rows, ended}
+use Rattle.spec_dimacs.proofs.Led.{led_formula}
+use Rattle.spec_script.specs.declared.fault.LineFault.TheVariants.{BadLine, Range, Duplicate, Limit}
+use Rattle.spec_script.specs.Limits.{Limits}
+use Rattle.spec_script.specs.Script.{ScriptedJob}
+use Rattle.spec_script.specs.Reading.{OpenJob, Reading, unread, named, is_number, ranged, in_range, asked, is_job, has_room, begun, going_on, with_revision, revised}
+use Rattle.spec_script.specs.Formed.{tenants_of, is_revision, clauses_of, clause_literals, IsJob, MayFollow, MayAllFollow}
+use Rattle.spec_script.specs.Grammar.{RevisionLines, JobLines, Part, Tenant, Job, is_inside, formula_of, ReviseAll, Runs, MakeAll}
+use Rattle.spec_script.specs.Laws.{SpelledIsScript, SpelledAgain}
+use Rattle.spec_script.proofs.Inversions.{bind_ok, passed, not_refused, ok_is, revised_is}
+use Rattle.spec_script.proofs.Parsing.{not_true}
+use Rattle.spec_script.proofs.AssumedForms.{InForm, assumed-formed}
+use Rattle.spec_script.proofs.Named.{AreNamed, tenants-few, named-last, named-more, all-named}
+use Rattle.spec_script.proofs.Again.{written-read}
+
+-- ---- a revision
+
+all-counted : (body : List (List (List ℕ))) → list_all is_inside body ≡ true → AllByRecursion (λ row. is_passed row ≡ false) body
+all-counted [] h = tt
+all-counted (row ∷ rows) h = (not_true (is_passed row) (and-left _ _ (and-left _ _ h)), all-counted rows (and-right (is_inside row) _ h))
+
+-- the formula of a block is in form
+block-formed : (header : List (List ℕ)) (body : List (List (List ℕ))) (f : Formulated) → list_all is_inside body ≡ true → formula_of header body ≡ Ok f → is_formula f ≡ true
+block-formed header body f inside e =
+    let a = bind_ok (opened (codes "p" ∷ header)) (λ b. after_rows body b >>= ended) f e in
+    let c = bind_ok (after_rows body a.0) ended f a.2 in
+    led_formula ((codes "p" ∷ header) ∷ body) f (refl, all-counted body inside) (record { header = codes "p" ∷ header; others = body; first = a.0; halves = refl; opens = a.1; rest = record { behind = c.0; reads = c.1; ends = c.2 } })
+
+abbrev posted : Formulated → List ℕ → Posted
+posted f lits = record { variables = f.variables; clauses = f.clauses; assumptions = lits }
+
+revision-formed : (limits : Limits) (f : Formulated) (lits : List ℕ) → is_formula f ≡ true → InForm limits f.variables lits → is_revision limits (posted f lits) ≡ true
+revision-formed limits f lits form is = and-both _ _ (and-both _ _ form is.formed) is.may
+
+-- ---- the revisions of a job
+
+-- a job of which some revisions are read
+record Fits (limits : Limits) (tenant name : List ℕ) (ask : Terms) (o : OpenJob) : Type 0 where
+  tenant_is : o.job.tenant ≡ tenant
+  name_is : o.job.name ≡ name
+  ask_is : o.job.ask ≡ ask
+  few : length o.job.revisions ≤ limits.revisions
+  formed : list_all (is_revision limits) o.job.revisions ≡ true
+  clauses : o.clauses ≡ clauses_of o.job.revisions
+  literals : o.literals ≡ clause_literals o.job.revisions
+  few_clauses : o.clauses ≤ 1048576
+  few_literals : o.literals ≤ 16777216
+
+within-job : (o : OpenJob) (f : Formulated) (lits : List ℕ) (next : OpenJob) → revised o f lits ≡ Ok next → (o.clauses + length f.clauses ≤ 1048576) × (o.literals + literals_of f.clauses ≤ 16777216)
+within-job o f lits next e =
+    let h = not_refused (nat_lt 1048576 (o.clauses + length f.clauses)) (cond (nat_lt 16777216 (o.literals + literals_of f.clauses)) (Err (Limit Literals)) (Ok (with_revision o f lits))) (Limit Clauses) next e in
+    let k = not_refused (nat_lt 16777216 (o.literals + literals_of f.clauses)) (Ok (with_revision o f lits)) (Limit Literals) next h.1 in
+    (ltb-false 1048576 (o.clauses + length f.clauses) h.0, ltb-false 16777216 (o.literals + literals_of f.clauses) k.0)
+
+fits-more : (limits : Limits) (tenant name : List ℕ) (ask : Terms) (o : OpenJob) (f : Formulated) (lits : List ℕ) → Fits limits tenant name ask o → length o.job.revisions < limits.revisions → is_revision limits (posted f lits) ≡ true → (o.clauses + length f.clauses ≤ 1048576) × (o.literals + literals_of f.clauses ≤ 16777216) → Fits limits tenant name ask (with_revision o f lits)
+fits-more limits tenant name ask o f lits is room form low = record {
+  tenant_is = is.tenant_is;
+  name_is = is.name_is;
+  ask_is = is.ask_is;
+  few = let one : length (o.job.revisions ++ posted f lits ∷ []) ≡ length o.job.revisions + 1 = length-append o.job.revisions (posted f lits ∷ []) in omega arith;
+  formed = list_all-append (is_revision limits) o.job.revisions (posted f lits ∷ []) ∙ and-both _ _ is.formed (and-both _ _ form refl);
+  clauses = ap (λ (n : ℕ). n + length f.clauses) is.clauses ∙ sym (sum_by_push (λ (r : Posted). length r.clauses) o.job.revisions (posted f lits));
+  literals = ap (λ (n : ℕ). n + literals_of f.clauses) is.literals ∙ sym (sum_by_push (λ (r : Posted). literals_of r.clauses) o.job.revisions (posted f lits));
+  few_clauses = low.0;
+  few_literals = low.1;
+}
+
+all-fit : (limits : Limits) (tenant name : List ℕ) (ask : Terms) (rs : List RevisionLines) (o after : OpenJob) → Fits limits tenant name ask o → ReviseAll limits o rs after → Fits limits tenant name ask after
+all-fit limits tenant name ask [] o after is same = subst (Fits limits tenant name ask) same is
+all-fit limits tenant name ask (r ∷ rs) o after is (next, one, others) =
+    let form : is_formula one.formula ≡ true = block-formed r.header r.body one.formula one.inside one.spelled in
+    let revision : is_revision limits (posted one.formula one.assumptions) ≡ true = revision-formed limits one.formula one.assumptions form (assumed-formed limits one.formula.variables r.assumed one.assumptions one.assumed) in
+    let more : Fits limits tenant name ask (with_revision o one.formula one.assumptions) = fits-more limits tenant name ask o one.formula one.assumptions is one.room revision (within-job o one.formula one.assumptions next one.revised) in
+    all-fit limits tenant name ask rs next after (subst (Fits limits tenant name ask) (revised_is o one.formula one.assumptions next one.revised) more) others
+
+-- ---- the ask of a job
+
+ranged-ok : (max : ℕ) (x : NumberWord) (n : ℕ) → ranged max x ≡ Ok n → (1 ≤ n) × (n ≤ max)
+ranged-ok max NotANumber n e = absurd (cc)
+ranged-ok max TooLarge n e = absurd (cc)
+ranged-ok max (Number (negsuc m)) n e = absurd (cc)
+ranged-ok max (Number (pos m)) n e =
+    let h = passed (nat_le 1 m && nat_le m max) (Ok m) Range n e in
+    let same : m ≡ n = ok_is m n h.1 in
+    (subst (λ (k : ℕ). 1 ≤ k) same (leb-true 1 m (and-left _ _ h.0)), subst (λ (k : ℕ). k ≤ max) same (leb-true m max (and-right (nat_le 1 m) _ h.0)))
+
+abbrev terms : ℕ → ℕ → ℕ → Terms
+terms p d s = record { priority = p; demand = d; slices = s }
+
+asked-formed : (p d s : NumberWord) (ask : Terms) → asked p d s ≡ Ok ask → IsAsk ask
+asked-formed p d s ask e =
+    let h = passed (is_number p && is_number d && is_number s) (in_range p d s) BadLine ask e in
+    let a = bind_ok (ranged 1000 p) (λ priority. ranged 64 d >>= λ demand. ranged 4096 s >>= λ slices. Ok (terms priority demand slices)) ask h.1 in
+    let b = bind_ok (ranged 64 d) (λ demand. ranged 4096 s >>= λ slices. Ok (terms a.0 demand slices)) ask a.2 in
+    let c = bind_ok (ranged 4096 s) (λ slices. Ok (terms a.0 b.0 slices)) ask b.2 in
+    let x = ranged-ok 1000 p a.0 a.1 in
+    let y = ranged-ok 64 d b.0 b.1 in
+    let z = ranged-ok 4096 s c.0 c.1 in
+    subst IsAsk (ok_is (terms a.0 b.0 c.0) ask c.2) (record { some_priority = x.0; priority_bound = x.1; some_demand = y.0; demand_bound = y.1; some_slices = z.0; slices_bound = z.1 })
+
+-- ---- the jobs of a script
+
+-- the tenant that was named last has a name, which is among those named
+abbrev Owned : Option (List ℕ) → List (List ℕ) → Type 0
+Owned None names = Unit {0}
+Owned (Some tenant) names = (is_name tenant ≡ true) × (list_any (bytes_eq tenant) names ≡ true)
+
+-- a script of which some lines are read
+record Stood (limits : Limits) (s : Reading) : Type 0 where
+  formed : MayAllFollow limits [] s.jobs
+  few : length s.tenants ≤ limits.tenants
+  owners : AreNamed s.tenants s.jobs
+  last : Owned s.tenant s.tenants
+
+named-stands : (limits : Limits) (name : List ℕ) (s next : Reading) → Stood limits s → is_name name ≡ true → named limits name s ≡ Ok next → Stood limits next
+named-stands limits name s next is form e = by_tests (list_any (bytes_eq name) s.tenants) refl (nat_lt (length s.tenants) limits.tenants) refl e
+  where
+    by_tests : (a : Bool) → list_any (bytes_eq name) s.tenants ≡ a → (b : Bool) → nat_lt (length s.tenants) limits.tenants ≡ b → cond a (Ok (record s { tenant = Some name })) (cond b (Ok (record s { tenants = s.tenants ++ name ∷ []; tenant = Some name })) (Err (Limit Tenants))) ≡ Ok next → Stood limits next
+    by_tests true q b r h = subst (Stood limits) (ok_is (record s { tenant = Some name }) next h) (record { formed = is.formed; few = is.few; owners = is.owners; last = (form, q) })
+    by_tests false q true r h = subst (Stood limits) (ok_is (record s { tenants = s.tenants ++ name ∷ []; tenant = Some name }) next h) (record {
+      formed = is.formed;
+      few = let room : length s.tenants < limits.tenants = ltb-true (length s.tenants) limits.tenants r in let one : length (s.tenants ++ name ∷ []) ≡ length s.tenants + 1 = length-append s.tenants (name ∷ []) in omega arith;
+      owners = named-more s.tenants name s.jobs is.owners;
+      last = (form, named-last s.tenants name);
+    })
+    by_tests false q false r h = absurd (cc)
+
+follows-last : (limits : Limits) (jobs js : List ScriptedJob) (j : ScriptedJob) → MayAllFollow limits jobs js → MayFollow limits (jobs ++ js) j → MayAllFollow limits jobs (js ++ j ∷ [])
+follows-last limits jobs [] j h k = (subst (λ (xs : List ScriptedJob). MayFollow limits xs j) (append-nil jobs) k, tt)
+follows-last limits jobs (i ∷ js) j h k = (h.0, follows-last limits (jobs ++ i ∷ []) js j h.1 (subst (λ (xs : List ScriptedJob). MayFollow limits xs j) (sym (append_assoc jobs (i ∷ []) js)) k))
+
+job-stands : (limits : Limits) (s : Reading) (j : JobLines) (next : Reading) → Stood limits s → Runs limits s j next → Stood limits next
+job-stands limits s j next is run =
+    let start : Fits limits run.tenant j.name run.ask (begun run.tenant j.name run.ask) = record { tenant_is = refl; name_is = refl; ask_is = refl; few = omega arith; formed = refl; clauses = refl; literals = refl; few_clauses = omega arith; few_literals = omega arith } in
+    let fits : Fits limits run.tenant j.name run.ask run.ended = all-fit limits run.tenant j.name run.ask j.revisions (begun run.tenant j.name run.ask) run.ended start run.revised in
+    let owner : (is_name run.tenant ≡ true) × (list_any (bytes_eq run.tenant) s.tenants ≡ true) = subst (λ (t : Option (List ℕ)). Owned t s.tenants) run.owned is.last in
+    let h = not_refused (list_any (is_job run.tenant j.name) s.jobs) (cond (has_room limits run.tenant s.jobs) (Ok (going_on s (begun run.tenant j.name run.ask))) (Err (Limit Jobs))) (Duplicate run.tenant j.name) _ run.admitted in
+    let k = passed (has_room limits run.tenant s.jobs) (Ok (going_on s (begun run.tenant j.name run.ask))) (Limit Jobs) _ h.1 in
+    let own : list_any (bytes_eq run.ended.job.tenant) s.tenants ≡ true = ap (λ (t : List ℕ). list_any (bytes_eq t) s.tenants) fits.tenant_is ∙ owner.1 in
+    let owners : AreNamed s.tenants (s.jobs ++ run.ended.job ∷ []) = all-named s.tenants s.jobs run.ended.job is.owners own in
+    let all : length (tenants_of (s.jobs ++ run.ended.job ∷ [])) ≤ length s.tenants = tenants-few (s.jobs ++ run.ended.job ∷ []) s.tenants owners in
+    let bound : length s.tenants ≤ limits.tenants = is.few in
+    let form : IsJob limits run.ended.job = record {
+      tenant = ap is_name fits.tenant_is ∙ owner.0;
+      name = ap is_name fits.name_is ∙ run.name;
+      ask = subst IsAsk (sym fits.ask_is) (asked-formed (number_in j.priority 1000) (number_in j.demand 64) (number_in j.slices 4096) run.ask run.asks);
+      few = fits.few;
+      formed = fits.formed;
+      clauses = subst (λ (n : ℕ). n ≤ 1048576) fits.clauses fits.few_clauses;
+      literals = subst (λ (n : ℕ). n ≤ 16777216) fits.literals fits.few_literals;
+    } in
+    let follows : MayFollow limits s.jobs run.ended.job = record {
+      formed = form;
+      new = ap₂ (λ (t n : List ℕ). list_any (is_job t n) s.jobs) fits.tenant_is fits.name_is ∙ h.0;
+      room = ap (λ (t : List ℕ). has_room limits t s.jobs) fits.tenant_is ∙ k.0;
+      tenants = omega arith;
+    } in
+    subst (Stood limits) (sym run.left) (record { formed = follows-last limits [] s.jobs run.ended.job is.formed follows; few = is.few; owners = owners; last = is.last })
+
+all-stand : (limits : Limits) (parts : List Part) (s after : Reading) → Stood limits s → MakeAll limits s parts after → Stood limits after
+all-stand limits [] s after is same = subst (Stood limits) same is
+all-stand limits (Tenant name ∷ parts) s after is (next, h, others) = all-stand limits parts next after (named-stands limits name s next is h.0 h.1) others
+all-stand limits (Job j ∷ parts) s after is (next, run, others) = all-stand limits parts next after (job-stands limits s j next is run) others
+
+pub spelled-script : SpelledIsScript
+spelled-script limits text s is =
+    let stood : Stood limits is.after = all-stand limits is.parts unread is.after (record { formed = tt; few = omega arith; owners = tt; last = tt }) is.made in
+    subst (λ (jobs : List ScriptedJob). MayAllFollow limits [] jobs) (sym is.jobs) stood.formed
+
+pub spelled-again : SpelledAgain
+spelled-again limits text s is = written-read limits s (spelled-script limits text s is)

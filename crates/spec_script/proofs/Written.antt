@@ -1,0 +1,145 @@
+-- The lines of the text that a script is written as: they are clean, each of them counts, and they are those of parts.
+use Rattle.std.proofs.Common.{◌≡◌, ℕ, ◌≤◌, Bool, true, false, not, ◌&&◌, ◌||◌, ◌==◌, nat_lt, nat_le, List, [], ◌∷◌, ◌++◌, map, flat_map, length, codes, Option, refl, sym, ap, ap₂, ◌∙◌, subst, arith}
+use Rattle.std.specs.List.{list_all, AllByRecursion}
+use Rattle.std.proofs.lemmas.Bool.{ltb-true, leb-true}
+use Rattle.std.proofs.lemmas.Bool.Decides.{nat_tests}
+use Rattle.mal_base.specs.Formulas.{is_within, is_clause_of, is_within_limits, is_formula}
+use Rattle.mal_base.specs.Names.{is_name, is_name_byte}
+use Rattle.mal_base.proofs.Sorting.{and-left, and-right, and-both}
+use Rattle.mal_revision.specs.Posted.{Posted}
+use Rattle.spec_text.specs.Lines.{text_of, IsClean, IsRow, AreRows}
+use Rattle.spec_text.specs.Numbers.{decimal_word, literal_word, number_of}
+use Rattle.spec_text.proofs.Clean.{decimals_are_clean}
+use Rattle.spec_dimacs.specs.Rows.{is_passed, counted_rows}
+use Rattle.spec_dimacs.specs.Written.{closed_words, clause_words}
+use Rattle.spec_dimacs.proofs.Numbers.{number-not_word}
+use Rattle.spec_dimacs.proofs.Behind.{counted_of, keeps_row}
+use Rattle.spec_dimacs.proofs.Again.{rows_again, clause_lits, words-lits, lits_within, closed_row, header_row, closed_counts, literal_again}
+use Rattle.spec_script.specs.Limits.{Limits}
+use Rattle.spec_script.specs.Script.{ScriptedJob, revision_rows, tenant_words, job_words, job_rows}
+use Rattle.spec_script.specs.Formed.{is_revision, IsJob, MayAllFollow}
+use Rattle.spec_script.specs.Grammar.{RevisionLines, JobLines, Part, Tenant, Job, revision_lines, part_lines, is_inside}
+
+-- a line that can be written, and that counts
+abbrev pub Stands : List (List ℕ) → Type 0
+Stands row = IsRow row × (is_passed row ≡ false)
+
+all-both : (xs ys : List (List (List ℕ))) → AllByRecursion Stands xs → AllByRecursion Stands ys → AllByRecursion Stands (xs ++ ys)
+all-both [] ys h k = k
+all-both (x ∷ xs) ys h k = (h.0, all-both xs ys h.1 k)
+
+all-count : (rows : List (List (List ℕ))) → AllByRecursion Stands rows → counted_of rows ≡ rows
+all-count [] h = refl
+all-count (row ∷ rows) h = keeps_row row rows h.0.1 ∙ ap (λ (rs : List (List (List ℕ))). row ∷ rs) (all-count rows h.1)
+
+all-rows : (rows : List (List (List ℕ))) → AllByRecursion Stands rows → AreRows rows
+all-rows [] h = tt
+all-rows (row ∷ rows) h = (h.0.0, all-rows rows h.1)
+
+-- the lines that count of a text of such lines are these
+pub text-rows : (rows : List (List (List ℕ))) → AllByRecursion Stands rows → counted_rows (text_of rows) ≡ rows
+text-rows rows h = ap counted_of (rows_again rows (all-rows rows h)) ∙ all-count rows h
+
+-- ---- names are clean words
+
+name-byte : (b : ℕ) (p q r : Bool) → nat_le 97 b ≡ p → nat_le 48 b ≡ q → (b == 95) ≡ r → ((p && nat_le b 122) || (q && nat_le b 57) || r) ≡ true → 33 ≤ b
+name-byte b true q r e f g h = let low : 97 ≤ b = leb-true 97 b e in omega arith
+name-byte b false true r e f g h = let low : 48 ≤ b = leb-true 48 b f in omega arith
+name-byte b false false true e f g h = grind (arith, nat_tests)
+name-byte b false false false e f g h = absurd (cc)
+
+name-bytes : (bytes : List ℕ) → list_all is_name_byte bytes ≡ true → AllByRecursion (λ b. 33 ≤ b) bytes
+name-bytes [] h = tt
+name-bytes (b ∷ bs) h = (name-byte b (nat_le 97 b) (nat_le 48 b) (b == 95) refl refl refl (and-left _ _ h), name-bytes bs (and-right (is_name_byte b) _ h))
+
+name-parts : (a b c : Bool) → (a && b && c) ≡ true → (a ≡ true) × (c ≡ true)
+name-parts true true true h = (refl, refl)
+name-parts true true false h = absurd (cc)
+name-parts true false c h = absurd (cc)
+name-parts false b c h = absurd (cc)
+
+name-clean : (name : List ℕ) → is_name name ≡ true → IsClean name
+name-clean name h =
+    let parts = name-parts (nat_lt 0 (length name)) (nat_le (length name) 32) (list_all is_name_byte name) h in
+    (ltb-true 0 (length name) parts.0, name-bytes name parts.1)
+
+-- ---- the lines of a revision
+
+-- the formula of a revision is in form
+pub revision-formula : (limits : Limits) (r : Posted) → is_revision limits r ≡ true → is_formula (record { variables = r.variables; clauses = r.clauses }) ≡ true
+revision-formula limits r h = and-left _ _ (and-left _ _ h)
+
+pub few-variables : (v : ℕ) (cs : List (Option (List ℕ))) → is_within_limits v cs ≡ true → v ≤ 65536
+few-variables v cs h = leb-true v 65536 (and-left _ _ (and-left _ _ h))
+
+clause-stands : (v : ℕ) (c : Option (List ℕ)) → v ≤ 65536 → is_clause_of v c ≡ true → Stands (clause_words c)
+clause-stands v c low h = subst Stands (sym (words-lits c)) (closed_row (clause_lits c), closed_counts v (clause_lits c) low (lits_within v c h))
+
+clauses-stand : (v : ℕ) (cs : List (Option (List ℕ))) → v ≤ 65536 → list_all (is_clause_of v) cs ≡ true → AllByRecursion Stands (map clause_words cs)
+clauses-stand v [] low h = tt
+clauses-stand v (c ∷ cs) low h = (clause-stands v c low (and-left _ _ h), clauses-stand v cs low (and-right (is_clause_of v c) _ h))
+
+revision-stands : (limits : Limits) (r : Posted) → is_revision limits r ≡ true → AllByRecursion Stands (revision_rows r)
+revision-stands limits r h =
+    let form : is_formula (record { variables = r.variables; clauses = r.clauses }) ≡ true = revision-formula limits r h in
+    let within : is_within_limits r.variables r.clauses ≡ true = and-left _ _ form in
+    let clauses : list_all (is_clause_of r.variables) r.clauses ≡ true = and-right (is_within_limits r.variables r.clauses) _ form in
+    let words = closed_row r.assumptions in (
+      (header_row r.variables (length r.clauses), refl),
+      all-both (map clause_words r.clauses) ((codes "a" ∷ closed_words r.assumptions) ∷ []) (clauses-stand r.variables r.clauses (few-variables r.variables r.clauses within) clauses)
+          (((omega arith, ((omega arith, (omega arith, tt)), words.1)), refl), tt),
+    )
+
+revisions-stand : (limits : Limits) (rs : List Posted) → list_all (is_revision limits) rs ≡ true → AllByRecursion Stands (flat_map revision_rows rs)
+revisions-stand limits [] h = tt
+revisions-stand limits (r ∷ rs) h = all-both (revision_rows r) (flat_map revision_rows rs) (revision-stands limits r (and-left _ _ h)) (revisions-stand limits rs (and-right (is_revision limits r) _ h))
+
+-- ---- the lines of a job
+
+tenant-stands : (tenant : List ℕ) → is_name tenant ≡ true → Stands (tenant_words tenant)
+tenant-stands tenant h = ((omega arith, ((omega arith, (omega arith, tt)), (name-clean tenant h, tt))), refl)
+
+terms-stand : (limits : Limits) (j : ScriptedJob) → is_name j.name ≡ true → Stands (job_words j.name j.ask)
+terms-stand limits j h = ((omega arith, ((omega arith, (omega arith, tt)), (name-clean j.name h, (decimals_are_clean j.ask.priority, (decimals_are_clean j.ask.demand, (decimals_are_clean j.ask.slices, tt)))))), refl)
+
+end-stands : Stands (codes "e" ∷ [])
+end-stands = ((omega arith, ((omega arith, (omega arith, tt)), tt)), refl)
+
+job-stands : (limits : Limits) (j : ScriptedJob) → IsJob limits j → AllByRecursion Stands (job_rows j)
+job-stands limits j is = (tenant-stands j.tenant is.tenant, (terms-stand limits j is.name, all-both (flat_map revision_rows j.revisions) ((codes "e" ∷ []) ∷ []) (revisions-stand limits j.revisions is.formed) (end-stands, tt)))
+
+pub jobs-stand : (limits : Limits) (jobs js : List ScriptedJob) → MayAllFollow limits jobs js → AllByRecursion Stands (flat_map job_rows js)
+jobs-stand limits jobs [] h = tt
+jobs-stand limits jobs (j ∷ js) (first, others) = all-both (job_rows j) (flat_map job_rows js) (job-stands limits j first.formed) (jobs-stand limits (jobs ++ j ∷ []) js others)
+
+-- ---- the parts that the lines are
+
+abbrev pub lines_of : Posted → RevisionLines
+lines_of r = record { header = codes "cnf" ∷ decimal_word r.variables ∷ decimal_word (length r.clauses) ∷ []; body = map clause_words r.clauses; assumed = closed_words r.assumptions }
+
+abbrev pub job_lines_of : ScriptedJob → JobLines
+job_lines_of j = record { name = j.name; priority = decimal_word j.ask.priority; demand = decimal_word j.ask.demand; slices = decimal_word j.ask.slices; revisions = map lines_of j.revisions }
+
+abbrev pub parts_of : List ScriptedJob → List Part
+parts_of [] = []
+parts_of (j ∷ js) = Tenant j.tenant ∷ Job (job_lines_of j) ∷ parts_of js
+
+revisions-lines : (rs : List Posted) → flat_map revision_lines (map lines_of rs) ≡ flat_map revision_rows rs
+revisions-lines [] = refl
+revisions-lines (r ∷ rs) = ap (λ (rest : List (List (List ℕ))). revision_rows r ++ rest) (revisions-lines rs)
+
+pub parts-lines : (js : List ScriptedJob) → flat_map part_lines (parts_of js) ≡ flat_map job_rows js
+parts-lines [] = refl
+parts-lines (j ∷ js) = ap₂ (λ (x y : List (List (List ℕ))). tenant_words j.tenant ∷ job_words j.name j.ask ∷ ((x ++ (codes "e" ∷ []) ∷ []) ++ y)) (revisions-lines j.revisions) (parts-lines js)
+
+-- ---- the lines of clauses stand in a block
+
+closed-inside : (v : ℕ) (lits : List ℕ) → v ≤ 65536 → is_within v lits ≡ true → is_inside (closed_words lits) ≡ true
+closed-inside v [] low h = refl
+closed-inside v (l ∷ ls) low h =
+    and-both _ _ (ap not (closed_counts v (l ∷ ls) low h)) (ap not (number-not_word (literal_word l) v (number_of l) 97 refl refl (literal_again v l low (and-left _ _ h))))
+
+pub clauses-inside : (v : ℕ) (cs : List (Option (List ℕ))) → v ≤ 65536 → list_all (is_clause_of v) cs ≡ true → list_all is_inside (map clause_words cs) ≡ true
+clauses-inside v [] low h = refl
+clauses-inside v (c ∷ cs) low h =
+    and-both _ _ (ap is_inside (words-lits c) ∙ closed-inside v (clause_lits c) low (lits_within v c (and-left _ _ h))) (clauses-inside v cs low (and-right (is_clause_of v c) _ h))

@@ -1,0 +1,58 @@
+-- Scripts in form: those that are read from a text.
+use Rattle.std.specs.Prelude.{◌≡◌, ℕ, ◌≤◌, Bool, true, false, ◌&&◌, ◌||◌, List, [], ◌∷◌, ◌++◌, length, nat_le, bytes_eq, if◌then◌else◌, fold, sum_by}
+use Rattle.std.specs.List.{list_all, list_any}
+use Rattle.mal_base.specs.Asks.{IsAsk}
+use Rattle.mal_base.specs.Formulas.{literals_of}
+use Rattle.mal_base.specs.Names.{is_name}
+use Rattle.mal_revision.specs.Posted.{Posted, is_posted}
+use Rattle.spec_script.specs.Limits.{Limits}
+use Rattle.spec_script.specs.Script.{ScriptedJob, Scripted}
+use Rattle.spec_script.specs.Reading.{is_job, has_room}
+
+-- names with one more, where it is not among them
+abbrev pub with_name : List (List ℕ) → List ℕ → List (List ℕ)
+with_name names name = if list_any (bytes_eq name) names then names else names ++ name ∷ []
+
+-- the tenants of jobs, each once
+abbrev pub tenants_of : List ScriptedJob → List (List ℕ)
+tenants_of jobs = fold (λ names j. with_name names j.tenant) [] jobs
+
+-- a revision in form, with assumptions only where there may be some
+abbrev pub is_revision : Limits → Posted → Bool
+is_revision limits r = is_posted r && (limits.assumptions || nat_le (length r.assumptions) 0)
+
+-- the clauses of revisions
+abbrev pub clauses_of : List Posted → ℕ
+clauses_of revisions = sum_by (λ r. length r.clauses) revisions
+
+-- the literals of the clauses of revisions
+abbrev pub clause_literals : List Posted → ℕ
+clause_literals revisions = sum_by (λ r. literals_of r.clauses) revisions
+
+-- a job in form: both names and the ask are, and its revisions are as many as there may be, with 2^20 clauses and 2^24
+-- literals in all
+pub record IsJob (limits : Limits) (j : ScriptedJob) : Type 0 where
+  pub tenant : is_name j.tenant ≡ true
+  pub name : is_name j.name ≡ true
+  pub ask : IsAsk j.ask
+  pub few : length j.revisions ≤ limits.revisions
+  pub formed : list_all (is_revision limits) j.revisions ≡ true
+  pub clauses : clauses_of j.revisions ≤ 1048576
+  pub literals : clause_literals j.revisions ≤ 16777216
+
+-- a job that may follow these: it is in form, its tenant has no job of this name, and with it there are not too many jobs,
+-- jobs of the tenant and tenants
+pub record MayFollow (limits : Limits) (jobs : List ScriptedJob) (j : ScriptedJob) : Type 0 where
+  pub formed : IsJob limits j
+  pub new : list_any (is_job j.tenant j.name) jobs ≡ false
+  pub room : has_room limits j.tenant jobs ≡ true
+  pub tenants : length (tenants_of (jobs ++ j ∷ [])) ≤ limits.tenants
+
+-- jobs that may follow these, one behind another
+abbrev pub MayAllFollow : Limits → List ScriptedJob → List ScriptedJob → Type 0
+MayAllFollow limits jobs [] = Unit {0}
+MayAllFollow limits jobs (j ∷ js) = MayFollow limits jobs j × MayAllFollow limits (jobs ++ j ∷ []) js
+
+-- a script in form within limits
+abbrev pub IsScript : Limits → Scripted → Type 0
+IsScript limits s = MayAllFollow limits [] s.jobs
