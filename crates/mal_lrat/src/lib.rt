@@ -10,7 +10,7 @@ mod writing;
 pub use fault::LineFault;
 pub use line::Line;
 pub use reading::read_line;
-pub use writing::write_line;
+pub use writing::{put_added, put_lits, write_line};
 
 #[cfg(test)]
 mod tests;

@@ -93,3 +93,13 @@ fn lines_are_written_with_their_line_end(rt: HostRuntime) -> Result<(), Fail> {
     assert_eq!(rt; text.as_slice(), b"1 d 7 0\n".as_slice());
     Ok(())
 }
+
+#[test]
+fn an_addition_is_written_behind_a_text(rt: HostRuntime) -> Result<(), Fail> {
+    let mut out = Vec::from_slice(rt.alloc(), b"k")?;
+    put_lits(&mut out, &[lit(2)?, lit(-1)?])?;
+    out.extend_from_slice(b"\nl ")?;
+    put_added(&mut out, id(5)?, &[lit(-3)?], &[id(1)?, id(4)?])?;
+    assert_eq!(rt; out.as_slice(), b"k 2 -1 0\nl 5 -3 0 1 4 0\n".as_slice());
+    Ok(())
+}

@@ -1,10 +1,10 @@
 //! Writing a line of a proof.
 
-ghost use Rattle.std.specs.Prelude.{◌≡◌, ◌∷◌, ◌++◌, IfOk, OnOk};
+ghost use Rattle.std.specs.Prelude.{◌≡◌, ◌∷◌, ◌++◌, Some, IfOk, OnOk};
 ghost use Rattle.spec_text.specs.Lines.{line_of};
 ghost use Rattle.spec_text.specs.Numbers.{decimal_word, literal_word};
 ghost use Rattle.spec_logic.specs.Refutation.ProofLine.{Add, Delete};
-ghost use Rattle.spec_lrat.specs.Written.{written_lits, words_of_ids, words_of_lits, row_of};
+ghost use Rattle.spec_lrat.specs.Written.{words_of_ids, words_of_lits, row_of};
 ghost use Rattle.mal_lrat.specs.Seen.{seen};
 ghost use Rattle.mal_lrat.specs.Spaced.{spaced};
 
@@ -34,11 +34,36 @@ fn addition(
 ) -> Result<Vec<u8>, AllocError>
     ensures { IfOk result (λ text. text.items ≡ line_of (row_of (Add id clause.now hints.now))) }
 {
-    let mut out = id_word(alloc, id)?;
-    put_clause(&mut out, clause)?;
-    put_ids(&mut out, hints)?;
-    end_line(&mut out)?;
+    let mut out = Vec::new(alloc);
+    match clause {
+        None => {
+            let var = Var::of(1);
+            put_added(
+                &mut out,
+                id,
+                &[var.literal(true), var.literal(false)],
+                hints,
+            )?;
+        }
+        Some(clause) => put_added(&mut out, id, clause.lits(), hints)?,
+    }
     Ok(out)
+}
+
+/// Writes the line that adds the clause of these literals, with its line end and without a leading `l`.
+pub fn put_added(
+    out: &mut Vec<u8>,
+    id: ClauseId,
+    lits: &[Lit],
+    hints: &[ClauseId],
+) -> Result<(), AllocError>
+    ensures { OnOk result (out.new.items ≡ out.old.items ++ line_of (row_of (Add id (Some lits.now) hints.now))) }
+{
+    put_first_id(out, id)?;
+    put_lits(out, lits)?;
+    put_ids(out, hints)?;
+    end_line(out)?;
+    Ok(())
 }
 
 /// The text of a line that deletes clauses.
@@ -51,29 +76,17 @@ fn deletion(alloc: Global, ids: &[ClauseId]) -> Result<Vec<u8>, AllocError>
     Ok(out)
 }
 
-/// The word of an id.
-fn id_word(alloc: Global, id: ClauseId) -> Result<Vec<u8>, AllocError>
-    ensures { IfOk result (λ word. word.items ≡ decimal_word id) }
+/// Writes an id, with no space before it.
+fn put_first_id(out: &mut Vec<u8>, id: ClauseId) -> Result<(), AllocError>
+    ensures { OnOk result (out.new.items ≡ out.old.items ++ decimal_word id) }
 {
     let mut buffer = Buffer::new();
-    Vec::from_slice(alloc, buffer.format(id.number()).as_bytes())
-}
-
-/// Writes the literals of a clause and a 0, each behind a space.
-fn put_clause(out: &mut Vec<u8>, clause: &Option<Clause>) -> Result<(), AllocError>
-    ensures { OnOk result (out.new.items ≡ out.old.items ++ spaced (words_of_lits (written_lits clause.now))) }
-{
-    match clause {
-        None => {
-            let var = Var::of(1);
-            put_lits(out, &[var.literal(true), var.literal(false)])
-        }
-        Some(clause) => put_lits(out, clause.lits()),
-    }
+    out.extend_from_slice(buffer.format(id.number()).as_bytes())?;
+    Ok(())
 }
 
 /// Writes literals and a 0, each behind a space.
-fn put_lits(out: &mut Vec<u8>, lits: &[Lit]) -> Result<(), AllocError>
+pub fn put_lits(out: &mut Vec<u8>, lits: &[Lit]) -> Result<(), AllocError>
     ensures { OnOk result (out.new.items ≡ out.old.items ++ spaced (words_of_lits lits.now)) }
 {
     for lit in lits {

@@ -1,10 +1,10 @@
-use Rattle.std.proofs.Common.{◌≡◌, ℕ, Bool, true, false, List, [], ◌∷◌, Option, Some, None, refl, sym, ap, ap₂, ◌∙◌}
+use Rattle.std.proofs.Common.{◌≡◌, ℕ, Bool, true, false, List, [], ◌∷◌, Option, Some, None, refl, ap, ap₂, ◌∙◌}
 use Rattle.std.specs.List.{list_any}
 use Rattle.spec_logic.specs.Derivation.{Holding}
 use Rattle.spec_logic.specs.Refutation.{Refusal, numbered, after_line, added_by, refusal, contradicts, IsProof, IsRefutation}
 use Rattle.spec_logic.proofs.RefutationLemmas.{refuted-unsatisfiable}
-use Rattle.spec_check.specs.Proofs.{Numbered, Verdict, first_of, first_refused, bare, judged, verdict_of}
-use Rattle.spec_check.specs.Proofs.Verdict.{Verified, Refused, NoGoal}
+use Rattle.spec_check.specs.Proofs.{Numbered, first_of, first_refused, bare, judged, verdict_of}
+use Rattle.spec_check.specs.Proofs.Verdict.{Verified}
 use Rattle.spec_check.specs.Laws.{VerifiedIsRefutation, VerifiedIsUnsatisfiable}
 
 -- no line is refused exactly where the lines are a proof

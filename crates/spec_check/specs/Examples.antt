@@ -1,4 +1,4 @@
-use Rattle.std.specs.Prelude.{◌≡◌, ℕ, List, [], ◌∷◌, map, codes, Option, Some, None, Result, Ok, Err}
+use Rattle.std.specs.Prelude.{◌≡◌, ℕ, List, [], ◌∷◌, map, codes, Option, Some, Result, Ok, Err}
 use Rattle.spec_text.specs.Inputs.{lines_of, words_of}
 use Rattle.spec_logic.specs.Refutation.Refusal.{UnknownHint, HintNotUnit, NoContradiction}
 use Rattle.spec_lrat.specs.Reading.{Fault}

@@ -1,5 +1,5 @@
-use Rattle.std.proofs.Common.{◌≡◌, sym, subst}
-use Rattle.spec_dimacs.specs.Merged.{IsClauseOf, clause_of}
+use Rattle.std.proofs.Common.{sym, subst}
+use Rattle.spec_dimacs.specs.Merged.{IsClauseOf}
 use Rattle.spec_dimacs.proofs.Merging.{clause_of-made, clause_of-unique}
 use Rattle.spec_lrat.specs.Laws.{MakesOneClause}
 

@@ -1,4 +1,4 @@
-use Rattle.std.proofs.Common.{◌≡◌, ◌<◌, ◌∙◌, ap, arith, length, take}
+use Rattle.std.proofs.Common.{◌<◌, ◌∙◌, ap, arith, length, take}
 use Rattle.std.proofs.lemmas.List.{length-take-le}
 use Rattle.spec_logic.specs.Derivation.{Holding}
 use Rattle.mal_check.specs.Checked.{held}
