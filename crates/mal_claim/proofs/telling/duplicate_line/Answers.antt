@@ -1,0 +1,11 @@
+use Rattle.std.proofs.Common.{◌∙◌, List, ℕ, [], ◌∷◌, codes, ap₂, ap}
+use Rattle.std.proofs.lemmas.Result.{IfOk-weaker}
+use Rattle.spec_text.specs.Lines.{line_of}
+use Rattle.spec_text.specs.Numbers.{decimal_word}
+use Rattle.mal_claim.proofs.telling.duplicate_line.Goals as goal
+
+pub returns : goal.returns
+returns c =
+    IfOk-weaker c.in_formula.result _ _ (λ text h. h
+    ∙ ap (λ (a : List ℕ). line_of (codes "fault:" ∷ codes "formula" ∷ codes "line" ∷ decimal_word c.args.line ∷ a ∷ c.as_bytes.result.now ∷ c.as_bytes-2.result.now ∷ [])) c.as_slice.ensures
+    ∙ ap₂ (λ (a b : List ℕ). line_of (codes "fault:" ∷ codes "formula" ∷ codes "line" ∷ decimal_word c.args.line ∷ codes "Duplicate" ∷ a ∷ b ∷ [])) c.as_bytes.ensures.value c.as_bytes-2.ensures.value) c.in_formula.ensures

@@ -1,0 +1,89 @@
+-- What the answers of reading and judging claims say.
+use Rattle.std.specs.Prelude.{◌≡◌, ℕ, List, Option, Some, None, Result, Ok, Err}
+use Rattle.spec_logic.specs.Refutation.{Refusal}
+use Rattle.spec_script.specs.declared.fault.LineFault.TheVariants.{BadLine, Dimacs, Opposite, Range}
+use Rattle.spec_dimacs.specs.Rows.{rows_of}
+use Rattle.mal_dimacs.specs.declared.fault.DimacsError.{DimacsError}
+use Rattle.mal_dimacs.specs.declared.fault.DimacsError.TheVariants as error
+use Rattle.mal_script.specs.declared.fault.AssumptionFault.{AssumptionFault}
+use Rattle.mal_script.specs.declared.fault.AssumptionFault.TheVariants as assumption
+use Rattle.spec_lrat.specs.Reading as proof
+use Rattle.spec_check.specs.Proofs.{Verdict}
+use Rattle.spec_check.specs.Proofs.Verdict.{Refused, NoGoal}
+use Rattle.spec_claim.specs.Claims as claim
+use Rattle.spec_claim.specs.Claims.Fault.{NoProof, InFormula, InProof}
+use Rattle.spec_claim.specs.FaultLines.{fault_line, verdict_line}
+use Rattle.mal_lrat.specs.declared.fault.LineFault.TheVariants as lrat
+use Rattle.mal_lrat.specs.declared.fault.LineFault as declared
+use Rattle.mal_verify.specs.declared.checking.VerifyFault.{VerifyFault}
+use Rattle.mal_verify.specs.declared.checking.VerifyFault.TheVariants as verify
+use Rattle.mal_verify.specs.Verdicts.{refusal_of}
+use Rattle.mal_verify.specs.Views.{views}
+use Rattle.mal_claim.specs.declared.claim.Claim.{Claim}
+use Rattle.mal_claim.specs.declared.fault.ClaimFault.{ClaimFault}
+use Rattle.mal_claim.specs.declared.fault.ClaimFault.TheVariants as claimed
+
+-- a claim without where its lines lie in memory
+abbrev pub seen : Claim → claim.Claim
+seen c = record { formula = c.formula; assumptions = c.assumptions.items; lines = views c.lines.items }
+
+-- the fault of a proof's line, none for want of memory
+abbrev pub in_line : ℕ → declared.LineFault → Option claim.Fault
+in_line line lrat.BadNumber = Some (InProof line proof.Fault.BadNumber)
+in_line line lrat.MissingZero = Some (InProof line proof.Fault.MissingZero)
+in_line line (lrat.IdNotRising last id) = Some (InProof line (proof.Fault.IdNotRising last id))
+in_line line lrat.NegativeHint = Some (InProof line proof.Fault.NegativeHint)
+in_line line lrat.OutOfMemory = None
+
+-- the fault of a text, none for want of memory
+abbrev pub fault_of : ClaimFault → Option claim.Fault
+fault_of claimed.NoProof = Some NoProof
+fault_of (claimed.Formula line fault) = Some (InFormula line fault)
+fault_of (claimed.Proof fault) = in_line fault.line fault.fault
+fault_of claimed.OutOfMemory = None
+
+-- reading gives this fault, of which want of memory claims nothing
+abbrev pub Fails : {Y : Type 0} → Option claim.Fault → Result Y claim.Fault → Type 0
+Fails None read = Unit {0}
+Fails (Some fault) read = read ≡ Err fault
+
+-- what was answered, seen by view, is what reading gives, unless memory ran out
+abbrev pub Gives : {X Y : Type 0} → (X → Y) → Result X ClaimFault → Result Y claim.Fault → Type 0
+Gives view (Ok x) read = read ≡ Ok (view x)
+Gives view (Err e) read = Fails (fault_of e) read
+
+-- the text is the line that tells the fault
+abbrev pub Tells : Option claim.Fault → List ℕ → Type 0
+Tells None text = ⊥
+Tells (Some fault) text = text ≡ fault_line fault
+
+-- the verdict on a proof of which a line is refused so, none for want of memory
+abbrev pub refused : ℕ → Option Refusal → Option Verdict
+refused line None = None
+refused line (Some refusal) = Some (Refused line refusal)
+
+abbrev pub verdict_in : VerifyFault → Option Verdict
+verdict_in (verify.Refused line fault) = refused line (refusal_of fault)
+verdict_in verify.NoGoal = Some NoGoal
+verdict_in verify.OutOfMemory = None
+
+-- the text is the line that tells the verdict
+abbrev pub TellsVerdict : Option Verdict → List ℕ → Type 0
+TellsVerdict None text = ⊥
+TellsVerdict (Some verdict) text = text ≡ verdict_line verdict
+
+-- an error of a block's reader as the fault of this line
+abbrev pub IsOnLine : ℕ → DimacsError → ClaimFault → Type 0
+IsOnLine line (error.Fault fault) e = e ≡ claimed.Formula line (Dimacs fault)
+IsOnLine line error.OutOfMemory e = e ≡ claimed.OutOfMemory
+
+-- the refusal of assumptions as the fault of this line
+abbrev pub IsAssumed : ℕ → AssumptionFault → ClaimFault → Type 0
+IsAssumed line assumption.BadLine e = e ≡ claimed.Formula line BadLine
+IsAssumed line assumption.Range e = e ≡ claimed.Formula line Range
+IsAssumed line (assumption.Opposite var) e = e ≡ claimed.Formula line (Opposite var)
+IsAssumed line assumption.OutOfMemory e = e ≡ claimed.OutOfMemory
+
+-- what was answered behind the formula: the assumptions, and the text of the proof
+abbrev pub seen_assumed : List ℕ → List ℕ → claim.Assumed
+seen_assumed lits text = record { assumptions = lits; rows = rows_of text }

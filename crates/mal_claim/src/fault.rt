@@ -1,0 +1,37 @@
+//! Why a text is no claim.
+
+ghost use Rattle.std.specs.Prelude.{◌≡◌};
+ghost use Rattle.mal_claim.specs.declared.fault.ClaimFault.TheVariants.{OutOfMemory};
+
+use mal_verify::ProofFault;
+use spec_script::LineFault;
+use std::alloc::{AllocError, AllocFailed};
+
+/// Why a text is no claim: its first fault, or want of memory.
+#[derive(Clone, Copy, Debug, Drop)]
+pub enum ClaimFault {
+    /// No line is the one word `proof`.
+    NoProof,
+    /// This line before the line `proof` is wrong, counted from 1.
+    Formula { line: u64, fault: LineFault },
+    /// A line behind the line `proof` is wrong.
+    Proof { fault: ProofFault },
+    /// Memory ran out.
+    OutOfMemory,
+}
+
+impl From<AllocError> for ClaimFault {
+    ghost from_gives = { λ _ e. e ≡ OutOfMemory };
+
+    fn from(_error: AllocError) -> ClaimFault {
+        ClaimFault::OutOfMemory
+    }
+}
+
+impl<T: Drop> From<AllocFailed<T>> for ClaimFault {
+    ghost from_gives = { λ _ e. e ≡ OutOfMemory };
+
+    fn from(_error: AllocFailed<T>) -> ClaimFault {
+        ClaimFault::OutOfMemory
+    }
+}

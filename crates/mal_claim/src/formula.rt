@@ -1,0 +1,110 @@
+//! Reading the lines of a claim's formula.
+
+ghost use Rattle.std.specs.Prelude.{◌≡◌, ◌≤◌, ◌+◌, None, length, max, IfOk};
+ghost use Rattle.spec_text.specs.Inputs.{words_of};
+ghost use Rattle.spec_dimacs.specs.Rows.{rows_of};
+ghost use Rattle.spec_dimacs.specs.Reading.{after_line, at_end, on_line, read_rows};
+ghost use Rattle.mal_dimacs.specs.Reads.{Gives as GivesBlock, Fails as FailsBlock};
+ghost use Rattle.spec_claim.specs.Claims.{formula_rows, behind_formula, in_formula};
+ghost use Rattle.mal_claim.specs.Given.{Gives, IsOnLine};
+
+use crate::fault::ClaimFault;
+use crate::words::{is_formula_line, is_passed};
+use mal_base::Formula;
+use mal_dimacs::{BlockFault, BlockReader, DimacsError};
+use mal_text::first_line;
+use spec_script::LineFault;
+use std::alloc::Global;
+
+/// The formula of the lines before the first one that begins with the word `a` or `proof`, how many lines these are, and
+/// the text behind them.
+pub fn read_formula(alloc: Global, text: &[u8]) -> Result<(Formula, u64, &[u8]), ClaimFault>
+    ensures formula { Gives (λ t. t.0) result (in_formula (read_rows (formula_rows (rows_of text.now)) 0 None)) }
+    ensures lines { IfOk result (λ t. t.1 ≡ length (formula_rows (rows_of text.now))) }
+    ensures behind { IfOk result (λ t. rows_of t.2.now ≡ behind_formula (rows_of text.now)) }
+    ensures short { IfOk result (λ t. t.1 + length t.2.now ≤ length text.now) }
+{
+    let mut rest = text;
+    let mut line: u64 = 0;
+    let mut reader = None;
+    while let Some((row, behind)) = first_line(rest) {
+        if !is_formula_line(row) {
+            return finish(reader, line, rest);
+        }
+        line += 1;
+        match next(alloc, reader, row) {
+            Ok(read) => reader = read,
+            Err(error) => return Err(on_line(line, error)),
+        }
+        rest = behind;
+    }
+    finish(reader, line, rest)
+}
+
+/// The formula of all its lines, of which there are so many, and what stands behind them.
+fn finish(
+    reader: Option<BlockReader>,
+    line: u64,
+    rest: &[u8],
+) -> Result<(Formula, u64, &[u8]), ClaimFault>
+    ensures formula { Gives (λ t. t.0) result (in_formula (on_line (max 1 line) (at_end reader))) }
+    ensures same { IfOk result (λ t. (t.1 ≡ line) × (t.2.now ≡ rest.now)) }
+{
+    match formula_of(reader) {
+        Ok(formula) => Ok((formula, line, rest)),
+        Err(fault) => Err(ClaimFault::Formula {
+            line: line.max(1),
+            fault: LineFault::Dimacs { fault },
+        }),
+    }
+}
+
+/// The reader behind one more line of the formula, none before the header.
+fn next(
+    alloc: Global,
+    reader: Option<BlockReader>,
+    line: &[u8],
+) -> Result<Option<BlockReader>, DimacsError>
+    ensures { GivesBlock result (after_line (words_of line.now) reader) }
+{
+    match reader {
+        None => before_header(alloc, line),
+        Some(reader) => Ok(Some(reader.row(line)?)),
+    }
+}
+
+/// The reader behind a line before which only such lines stand as are passed over.
+fn before_header(alloc: Global, line: &[u8]) -> Result<Option<BlockReader>, DimacsError>
+    ensures { GivesBlock result (after_line (words_of line.now) None) }
+{
+    if is_passed(line) {
+        return Ok(None);
+    }
+    match BlockReader::of_header(alloc, line) {
+        Ok(reader) => Ok(Some(reader)),
+        Err(fault) => Err(DimacsError::Fault(fault)),
+    }
+}
+
+/// The formula at the end of its lines.
+fn formula_of(reader: Option<BlockReader>) -> Result<Formula, BlockFault>
+    ensures { result ≡ at_end reader }
+{
+    match reader {
+        None => Err(BlockFault::BadHeader),
+        Some(reader) => reader.finish(),
+    }
+}
+
+/// The fault of this line of the formula.
+fn on_line(line: u64, error: DimacsError) -> ClaimFault
+    ensures { IsOnLine line error result }
+{
+    match error {
+        DimacsError::Fault(fault) => ClaimFault::Formula {
+            line,
+            fault: LineFault::Dimacs { fault },
+        },
+        DimacsError::OutOfMemory => ClaimFault::OutOfMemory,
+    }
+}

@@ -1,0 +1,158 @@
+//! Reading claims.
+
+ghost use Rattle.std.specs.Prelude.{◌≡◌, ◌≤◌, ◌<◌, ◌+◌, ◌^◌, length, IfOk};
+ghost use Rattle.std.specs.List.{list_any};
+ghost use Rattle.spec_dimacs.specs.Rows.{rows_of};
+ghost use Rattle.spec_check.specs.Proofs.{lines_from};
+ghost use Rattle.spec_claim.specs.Claims.{is_proof_line, assumed, to_proof, in_proof, read_lines, read_text};
+ghost use Rattle.spec_claim.specs.Grammar.{Spells};
+ghost use Rattle.mal_verify.specs.Views.{views};
+ghost use Rattle.mal_claim.specs.Given.{Gives, IsAssumed, seen, seen_assumed};
+
+use crate::claim::Claim;
+use crate::fault::ClaimFault;
+use crate::formula::read_formula;
+use crate::words::{is_passed, is_proof_line};
+use mal_base::Lit;
+use mal_script::{AssumptionFault, assumptions};
+use mal_text::first_line;
+use mal_verify::{NumberedLine, read_proof};
+use spec_script::LineFault;
+use std::alloc::Global;
+
+/// The claim that a text spells: a formula by DIMACS CNF, maybe a line `a`, literals and 0, then the line `proof`, and the
+/// lines of a proof.
+///
+/// Errors: `NoProof` where no line is the one word `proof`; else the first fault of the text, from its beginning, with its
+/// line. Lines of the proof are counted from 1 behind the line `proof`. `OutOfMemory` may come at any time.
+pub fn read(alloc: Global, text: &[u8]) -> Result<Claim, ClaimFault>
+    requires { length text.now < 2 ^ 63 }
+    // Which claim or which fault it is.
+    ensures exact { Gives seen result (read_text text.now) }
+    // What is read is spelled so.
+    ensures spelled { IfOk result (λ c. Spells text.now (seen c)) }
+{
+    first(alloc, text)
+}
+
+/// The claim of a text, or its first fault.
+fn first(alloc: Global, text: &[u8]) -> Result<Claim, ClaimFault>
+    requires { length text.now < 2 ^ 63 }
+    ensures { Gives seen result (read_text text.now) }
+{
+    if has_proof(text) {
+        read_lines(alloc, text)
+    } else {
+        Err(ClaimFault::NoProof)
+    }
+}
+
+/// Whether a line of a text is the one word `proof`.
+fn has_proof(text: &[u8]) -> bool
+    ensures { result ≡ list_any is_proof_line (rows_of text.now) }
+{
+    let mut rest = text;
+    while let Some((row, behind)) = first_line(rest) {
+        if is_proof_line(row) {
+            return true;
+        }
+        rest = behind;
+    }
+    false
+}
+
+/// The claim of a text in which a line is the word `proof`.
+fn read_lines(alloc: Global, text: &[u8]) -> Result<Claim, ClaimFault>
+    requires { length text.now < 2 ^ 63 }
+    ensures { Gives seen result (read_lines (rows_of text.now)) }
+{
+    let (formula, line, rest) = read_formula(alloc, text)?;
+    let (assumptions, rest) = read_assumptions(alloc, rest, line, formula.variables())?;
+    let lines = proof_lines(alloc, rest, formula.clauses().len() as u64)?;
+    Ok(Claim {
+        formula,
+        assumptions,
+        lines,
+    })
+}
+
+/// The assumptions behind so many lines of a formula of these variables, and the text behind the line `proof`.
+fn read_assumptions(
+    alloc: Global,
+    text: &[u8],
+    line: u64,
+    variables: u32,
+) -> Result<(Vec<Lit>, &[u8]), ClaimFault>
+    requires variables { variables ≤ 65536 }
+    requires short { line + length text.now < 2 ^ 63 }
+    ensures value { Gives (λ t. seen_assumed t.0.items t.1.now) result (assumed variables line (rows_of text.now)) }
+    ensures shorter { IfOk result (λ t. length t.1.now ≤ length text.now) }
+{
+    let Some((row, behind)) = first_line(text) else {
+        return Err(ClaimFault::NoProof);
+    };
+    if is_proof_line(row) {
+        return Ok((Vec::new(alloc), behind));
+    }
+    match assumptions(alloc, row, variables) {
+        Ok(lits) => to_proof(lits, line + 1, behind),
+        Err(fault) => Err(on_line(line + 1, fault)),
+    }
+}
+
+/// These assumptions, and the text behind the line `proof`, before which only such lines stand as are passed over.
+fn to_proof(lits: Vec<Lit>, line: u64, text: &[u8]) -> Result<(Vec<Lit>, &[u8]), ClaimFault>
+    requires short { line + length text.now < 2 ^ 63 }
+    ensures value { Gives (λ t. seen_assumed t.0.items t.1.now) result (to_proof lits.items line (rows_of text.now)) }
+    ensures shorter { IfOk result (λ t. length t.1.now ≤ length text.now) }
+{
+    let mut rest = text;
+    let mut line = line;
+    while let Some((row, behind)) = first_line(rest) {
+        if is_proof_line(row) {
+            return Ok((lits, behind));
+        }
+        line += 1;
+        if !is_passed(row) {
+            return Err(ClaimFault::Formula {
+                line,
+                fault: LineFault::BadLine,
+            });
+        }
+        rest = behind;
+    }
+    Err(ClaimFault::NoProof)
+}
+
+/// The refusal of assumptions as the fault of this line.
+fn on_line(line: u64, fault: AssumptionFault) -> ClaimFault
+    ensures { IsAssumed line fault result }
+{
+    match fault {
+        AssumptionFault::BadLine => ClaimFault::Formula {
+            line,
+            fault: LineFault::BadLine,
+        },
+        AssumptionFault::Range => ClaimFault::Formula {
+            line,
+            fault: LineFault::Range,
+        },
+        AssumptionFault::Opposite { var } => ClaimFault::Formula {
+            line,
+            fault: LineFault::Opposite { var },
+        },
+        AssumptionFault::OutOfMemory => ClaimFault::OutOfMemory,
+    }
+}
+
+/// The lines of a proof from so many clauses.
+#[tactic(auto, using(crate::proofs::Answered::proof_lemmas))]
+fn proof_lines(alloc: Global, text: &[u8], clauses: u64) -> Result<Vec<NumberedLine>, ClaimFault>
+    requires { length text.now < 2 ^ 63 }
+    ensures { Gives (λ v. views v.items) result (in_proof (lines_from 1 clauses (rows_of text.now))) }
+{
+    match read_proof(alloc, text, clauses) {
+        Ok(lines) => Ok(lines),
+        Err(fault) => Err(ClaimFault::Proof { fault }),
+    }
+}

@@ -1,0 +1,216 @@
+//! The lines that tell why a text is no claim, or why its proof is not verified.
+
+ghost use Rattle.std.specs.Prelude.{◌≡◌, ◌∷◌, [], None, map, codes, IfOk, MatchOption};
+ghost use Rattle.spec_text.specs.Lines.{line_of};
+ghost use Rattle.spec_text.specs.Numbers.{decimal_word};
+ghost use Rattle.spec_script.specs.FaultLines.{block_words, fault_words, which_word};
+ghost use Rattle.spec_claim.specs.FaultLines.{proof_line};
+ghost use Rattle.mal_claim.specs.Given.{Tells, TellsVerdict, fault_of, in_line, refused, verdict_in};
+ghost use Rattle.mal_verify.specs.Verdicts.{refusal_of};
+
+use crate::fault::ClaimFault;
+use itoa::Buffer;
+use mal_base::{Name, Which};
+use mal_check::CheckFault;
+use mal_text::put_line;
+use mal_verify::VerifyFault;
+use spec_dimacs::BlockFault;
+use spec_script::LineFault;
+use std::alloc::{AllocError, Global};
+
+/// The line that tells a fault of a text, as `fault: no proof`, `fault: formula line 3 Range` or
+/// `fault: proof line 1 MissingZero`, with its line end. None exactly for want of memory.
+pub fn fault_line(alloc: Global, fault: ClaimFault) -> Result<Option<Vec<u8>>, AllocError>
+    ensures { IfOk result (λ o. MatchOption o (fault_of fault ≡ None) (λ text. Tells (fault_of fault) text.items)) }
+{
+    match fault {
+        ClaimFault::NoProof => Ok(Some(no_proof(alloc)?)),
+        ClaimFault::Formula { line, fault } => Ok(Some(formula_line(alloc, line, fault)?)),
+        ClaimFault::Proof { fault } => proof_line(alloc, fault.line, fault.fault),
+        ClaimFault::OutOfMemory => Ok(None),
+    }
+}
+
+/// The line that tells why a proof is not verified, as `fault: proof line 1 UnknownHint 9` or `fault: proof goal`, with
+/// its line end. None exactly for want of memory.
+pub fn verdict_line(alloc: Global, fault: VerifyFault) -> Result<Option<Vec<u8>>, AllocError>
+    ensures { IfOk result (λ o. MatchOption o (verdict_in fault ≡ None) (λ text. TellsVerdict (verdict_in fault) text.items)) }
+{
+    match fault {
+        VerifyFault::Refused { line, fault } => refusal_line(alloc, line, fault),
+        VerifyFault::NoGoal => Ok(Some(no_goal(alloc)?)),
+        VerifyFault::OutOfMemory => Ok(None),
+    }
+}
+
+/// The line that tells that no line is the word `proof`.
+fn no_proof(alloc: Global) -> Result<Vec<u8>, AllocError>
+    ensures { IfOk result (λ text. text.items ≡ line_of (codes "fault:" ∷ codes "no" ∷ codes "proof" ∷ [])) }
+{
+    let mut text = Vec::new(alloc);
+    text.extend_from_slice(b"fault: no proof\n")?;
+    Ok(text)
+}
+
+/// The line that tells that the lines of a proof do not reach the goal.
+fn no_goal(alloc: Global) -> Result<Vec<u8>, AllocError>
+    ensures { IfOk result (λ text. text.items ≡ line_of (codes "fault:" ∷ codes "proof" ∷ codes "goal" ∷ [])) }
+{
+    let mut text = Vec::new(alloc);
+    text.extend_from_slice(b"fault: proof goal\n")?;
+    Ok(text)
+}
+
+/// The line that tells a fault of a line of the proof; none for want of memory.
+fn proof_line(
+    alloc: Global,
+    line: u64,
+    fault: mal_lrat::LineFault,
+) -> Result<Option<Vec<u8>>, AllocError>
+    ensures { IfOk result (λ o. MatchOption o (in_line line fault ≡ None) (λ text. Tells (in_line line fault) text.items)) }
+{
+    match fault {
+        mal_lrat::LineFault::BadNumber => Ok(Some(in_proof(alloc, line, &[b"BadNumber"])?)),
+        mal_lrat::LineFault::MissingZero => Ok(Some(in_proof(alloc, line, &[b"MissingZero"])?)),
+        mal_lrat::LineFault::IdNotRising { last, id } => {
+            Ok(Some(not_rising_line(alloc, line, last, id)?))
+        }
+        mal_lrat::LineFault::NegativeHint => Ok(Some(in_proof(alloc, line, &[b"NegativeHint"])?)),
+        mal_lrat::LineFault::OutOfMemory => Ok(None),
+    }
+}
+
+/// The line that tells that an id is not above the last one.
+fn not_rising_line(alloc: Global, line: u64, last: u64, id: u64) -> Result<Vec<u8>, AllocError>
+    ensures { IfOk result (λ text. text.items ≡ proof_line line (codes "IdNotRising" ∷ decimal_word last ∷ decimal_word id ∷ [])) }
+{
+    let mut one = Buffer::new();
+    let mut other = Buffer::new();
+    let words = [
+        b"IdNotRising".as_slice(),
+        one.format(last).as_bytes(),
+        other.format(id).as_bytes(),
+    ];
+    in_proof(alloc, line, &words)
+}
+
+/// The line that tells why a line of the proof is refused; none for want of memory.
+fn refusal_line(alloc: Global, line: u64, fault: CheckFault) -> Result<Option<Vec<u8>>, AllocError>
+    ensures { IfOk result (λ o. MatchOption o (refused line (refusal_of fault) ≡ None) (λ text. TellsVerdict (refused line (refusal_of fault)) text.items)) }
+{
+    match fault {
+        CheckFault::IdUsed { id } => Ok(Some(id_line(alloc, line, b"IdUsed", id.number())?)),
+        CheckFault::UnknownHint { id } => {
+            Ok(Some(id_line(alloc, line, b"UnknownHint", id.number())?))
+        }
+        CheckFault::HintNotUnit { id } => {
+            Ok(Some(id_line(alloc, line, b"HintNotUnit", id.number())?))
+        }
+        CheckFault::NoContradiction => Ok(Some(in_proof(alloc, line, &[b"NoContradiction"])?)),
+        CheckFault::OutOfMemory => Ok(None),
+    }
+}
+
+/// The line that tells this word and an id of a line of the proof.
+fn id_line(alloc: Global, line: u64, word: &[u8], id: u64) -> Result<Vec<u8>, AllocError>
+    ensures { IfOk result (λ text. text.items ≡ proof_line line (word.now ∷ decimal_word id ∷ [])) }
+{
+    let mut number = Buffer::new();
+    let words = [word, number.format(id).as_bytes()];
+    in_proof(alloc, line, &words)
+}
+
+/// The line that tells these words of a line of the proof.
+fn in_proof(alloc: Global, line: u64, words: &[&[u8]]) -> Result<Vec<u8>, AllocError>
+    ensures { IfOk result (λ text. text.items ≡ proof_line line (map (λ w. w.now) words.now)) }
+{
+    let mut text = Vec::new(alloc);
+    text.extend_from_slice(b"fault: proof line ")?;
+    put_line(&mut text, Buffer::new().format(line).as_bytes(), words)?;
+    Ok(text)
+}
+
+/// The line that tells these words of a line before the proof.
+fn in_formula(alloc: Global, line: u64, words: &[&[u8]]) -> Result<Vec<u8>, AllocError>
+    ensures { IfOk result (λ text. text.items ≡ line_of (codes "fault:" ∷ codes "formula" ∷ codes "line" ∷ decimal_word line ∷ map (λ w. w.now) words.now)) }
+{
+    let mut text = Vec::new(alloc);
+    text.extend_from_slice(b"fault: formula line ")?;
+    put_line(&mut text, Buffer::new().format(line).as_bytes(), words)?;
+    Ok(text)
+}
+
+/// The line that tells a fault of a line before the proof.
+fn formula_line(alloc: Global, line: u64, fault: LineFault) -> Result<Vec<u8>, AllocError>
+    ensures { IfOk result (λ text. text.items ≡ line_of (codes "fault:" ∷ codes "formula" ∷ codes "line" ∷ decimal_word line ∷ fault_words fault)) }
+{
+    match fault {
+        LineFault::BadLine => in_formula(alloc, line, &[b"BadLine"]),
+        LineFault::Dimacs { fault } => block_line(alloc, line, fault),
+        LineFault::Opposite { var } => opposite_line(alloc, line, var.number()),
+        LineFault::Duplicate { tenant, job } => duplicate_line(alloc, line, tenant, job),
+        LineFault::Range => in_formula(alloc, line, &[b"Range"]),
+        LineFault::Limit { which } => limit_line(alloc, line, which),
+    }
+}
+
+/// The line that tells that a variable is assumed with both signs.
+fn opposite_line(alloc: Global, line: u64, var: u32) -> Result<Vec<u8>, AllocError>
+    ensures { IfOk result (λ text. text.items ≡ line_of (codes "fault:" ∷ codes "formula" ∷ codes "line" ∷ decimal_word line ∷ codes "Opposite" ∷ decimal_word var ∷ [])) }
+{
+    let mut number = Buffer::new();
+    let words = [b"Opposite".as_slice(), number.format(var).as_bytes()];
+    in_formula(alloc, line, &words)
+}
+
+/// The line that tells that a tenant has a job of this name.
+fn duplicate_line(alloc: Global, line: u64, tenant: Name, job: Name) -> Result<Vec<u8>, AllocError>
+    ensures { IfOk result (λ text. text.items ≡ line_of (codes "fault:" ∷ codes "formula" ∷ codes "line" ∷ decimal_word line ∷ codes "Duplicate" ∷ tenant ∷ job ∷ [])) }
+{
+    let words = [b"Duplicate".as_slice(), tenant.as_bytes(), job.as_bytes()];
+    in_formula(alloc, line, &words)
+}
+
+/// The line that tells that there are too many of these.
+fn limit_line(alloc: Global, line: u64, which: Which) -> Result<Vec<u8>, AllocError>
+    ensures { IfOk result (λ text. text.items ≡ line_of (codes "fault:" ∷ codes "formula" ∷ codes "line" ∷ decimal_word line ∷ codes "Limit" ∷ which_word which ∷ [])) }
+{
+    in_formula(alloc, line, &[b"Limit", which_word(which)])
+}
+
+/// The line that tells a fault of the formula.
+fn block_line(alloc: Global, line: u64, fault: BlockFault) -> Result<Vec<u8>, AllocError>
+    ensures { IfOk result (λ text. text.items ≡ line_of (codes "fault:" ∷ codes "formula" ∷ codes "line" ∷ decimal_word line ∷ block_words fault)) }
+{
+    match fault {
+        BlockFault::BadHeader => in_formula(alloc, line, &[b"BadHeader"]),
+        BlockFault::BadNumber => in_formula(alloc, line, &[b"BadNumber"]),
+        BlockFault::VarTooLarge => in_formula(alloc, line, &[b"VarTooLarge"]),
+        BlockFault::ClauseCount { declared, found } => {
+            let mut one = Buffer::new();
+            let mut other = Buffer::new();
+            let words = [
+                b"ClauseCount".as_slice(),
+                one.format(declared).as_bytes(),
+                other.format(found).as_bytes(),
+            ];
+            in_formula(alloc, line, &words)
+        }
+        BlockFault::Limit { which } => limit_line(alloc, line, which),
+        BlockFault::Trailing => in_formula(alloc, line, &[b"Trailing"]),
+    }
+}
+
+/// The word of a limit.
+fn which_word(which: Which) -> &'static [u8]
+    ensures { result.now ≡ which_word which }
+{
+    match which {
+        Which::Variables => b"Variables",
+        Which::Clauses => b"Clauses",
+        Which::Literals => b"Literals",
+        Which::Tenants => b"Tenants",
+        Which::Jobs => b"Jobs",
+        Which::Revisions => b"Revisions",
+    }
+}

@@ -1,0 +1,4 @@
+pub mod ExampleLemmas
+pub mod FrontLemmas
+pub mod RowLemmas
+pub mod ReadLemmas
