@@ -1,0 +1,3 @@
+pub mod Draws
+pub mod Luby
+pub mod Laws
