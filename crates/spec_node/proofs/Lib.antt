@@ -1,16 +1,11 @@
-pub mod ExampleLemmas
 pub mod TrailLemmas
 pub mod BatchLemmas
-pub mod StepLemmas
 pub mod CutLemmas
 pub mod FindLemmas
-pub mod ConsistentLemmas
 pub mod SettledLemmas
-pub mod ModelLemmas
 pub mod LoadLemmas
 pub mod LevelLemmas
 pub mod ReasonLemmas
 pub mod SoundLemmas
 pub mod ChainLemmas
 pub mod PostedLemmas
-pub mod RoundLemmas

@@ -4,10 +4,10 @@ use Rattle.std.specs.List.{list_all}
 use Rattle.std.specs.List.Sorted.{IsPermutation}
 use Rattle.std.specs.Option.{option_map_or}
 use Rattle.std.proofs.lemmas.List.{take-append-drop, map-append}
-use Rattle.std.proofs.lemmas.List.Elements.{All-nil, All-cons, All-head, All-tail, All-weaker, All-append}
+use Rattle.std.proofs.lemmas.List.Elements.{All-nil, All-cons, All-head, All-tail, All-weaker, All-append, filter-append}
 use Rattle.std.proofs.lemmas.List.Sorted.{IsPermutation-refl, IsPermutation-append, IsPermutation-append_comm}
 use Rattle.std.proofs.lemmas.List.Folds.{list_all-append}
-use Rattle.std.proofs.lemmas.Bool.{and_parts, leb-true, lt-ltb, lt-leb}
+use Rattle.std.proofs.lemmas.Bool.{and_parts, leb-true, lt-ltb, le-ltb}
 use Rattle.mal_base.specs.Literals.{var_of}
 use Rattle.mal_base.specs.Clauses.{rises}
 use Rattle.mal_base.specs.declared.trail_entry.TrailEntry.{TrailEntry}
@@ -19,9 +19,9 @@ use Rattle.spec_node.specs.State.{Node, fresh}
 use Rattle.spec_node.specs.Cut.{kept, removed}
 use Rattle.spec_node.specs.Load.{counted, rotated, new_order, numbered, is_derived, with_originals, added, loaded}
 use Rattle.spec_node.specs.Sound.{EachAfter, IsPlaced, IsLevelled, IsClosed, own_level, IsLiteralOf, AreLiteralsOf, IsConsistent}
-use Rattle.spec_node.specs.Laws.{formula_of, has_variables, has_literals, LoadHolds, NumbersMeanSame}
+use Rattle.spec_node.specs.Laws.{formula_of, originals, has_variables, has_literals, LoadHolds, NumbersMeanSame}
 use Rattle.spec_node.proofs.TrailLemmas.{each-front, each-weaker}
-use Rattle.spec_node.proofs.BatchLemmas.{All-filtered}
+use Rattle.spec_node.proofs.BatchLemmas.{All-filtered, all-of}
 use Rattle.spec_node.proofs.CutLemmas.{kept-cons, kept-front}
 
 counted-append : (first m n : ℕ) → counted first (m + n) ≡ counted first m ++ counted (first + m) n
@@ -125,35 +125,50 @@ loaded-consistent r first n p l h =
 pub fresh-consistent : (i : ℕ) → IsConsistent (fresh i)
 fresh-consistent i = record { order = IsPermutation-refl []; clauses = All-nil (λ c. AreLiteralsOf 0 c.lits); assumptions = record { rising = refl; within = All-nil (IsLiteralOf 0) }; placed = tt; levels = tt; closed = tt; handled = omega arith; settled = λ e q k. absurd (omega arith) }
 
--- where all clauses held are originals, the new ones stand behind them
-pub filter-originals : (cs : List Held) → All (λ c. c.id < 2 ^ 32) cs → filter (λ c. nat_lt c.id (2 ^ 32)) cs ≡ cs
-filter-originals [] h = refl
-filter-originals (c ∷ cs) h =
-    let here : nat_lt c.id (2 ^ 32) ≡ true = lt-ltb c.id (2 ^ 32) (All-head (λ x. x.id < 2 ^ 32) c cs h) in
-    rw here (ap (λ (xs : List Held). c ∷ xs) (filter-originals cs (All-tail (λ x. x.id < 2 ^ 32) c cs h)))
+-- what passes a test passes it again
+pub filter-again : {X : Type 0} (test : X → Bool) (xs : List X) → All (λ x. test x ≡ true) xs → filter test xs ≡ xs
+filter-again test [] h = refl
+filter-again {X} test (x ∷ xs) h =
+    let here : test x ≡ true = All-head (λ (y : X). test y ≡ true) x xs h in
+    rw here (ap (λ (ys : List X). x ∷ ys) (filter-again test xs (All-tail (λ (y : X). test y ≡ true) x xs h)))
 
-pub filter-derived : (cs : List Held) → All (λ c. c.id < 2 ^ 32) cs → filter is_derived cs ≡ []
-filter-derived [] h = refl
-filter-derived (c ∷ cs) h =
-    let here : nat_le (2 ^ 32) c.id ≡ false = lt-leb (2 ^ 32) c.id (All-head (λ x. x.id < 2 ^ 32) c cs h) in
-    rw here (filter-derived cs (All-tail (λ x. x.id < 2 ^ 32) c cs h))
-
-with_originals-all : (held new : List Held) → All (λ c. c.id < 2 ^ 32) held → with_originals held new ≡ held ++ new
-with_originals-all held new h = ap (λ (xs : List Held). xs ++ (new ++ filter is_derived held)) (filter-originals held h) ∙ ap (λ (xs : List Held). held ++ xs) (ap (λ (xs : List Held). new ++ xs) (filter-derived held h) ∙ append-nil new)
+-- where nothing passes nothing is left
+pub filter-none : {X : Type 0} (test : X → Bool) (xs : List X) → All (λ x. test x ≡ false) xs → filter test xs ≡ []
+filter-none test [] h = refl
+filter-none {X} test (x ∷ xs) h =
+    let here : test x ≡ false = All-head (λ (y : X). test y ≡ false) x xs h in
+    rw here (filter-none test xs (All-tail (λ (y : X). test y ≡ false) x xs h))
 
 pub numbered-below : (bound first : ℕ) (cs : List (Option (List ℕ))) → first + length cs ≤ bound → All (λ c. c.id < bound) (numbered first cs)
 numbered-below bound first [] b = All-nil (λ c. c.id < bound)
 numbered-below bound first (None ∷ cs) b = numbered-below bound (first + 1) cs (omega arith)
 numbered-below bound first (Some lits ∷ cs) b = All-cons (λ c. c.id < bound) (record { id = first; lits = lits }) (numbered (first + 1) cs) (omega arith) (numbered-below bound (first + 1) cs (omega arith))
 
-numbered-originals : (first : ℕ) (cs : List (Option (List ℕ))) → first + length cs ≤ 2 ^ 32 → All (λ c. c.id < 2 ^ 32) (numbered first cs)
-numbered-originals first cs b = numbered-below (2 ^ 32) first cs b
+abbrev is-original : Held → Bool
+is-original c = nat_lt c.id (2 ^ 32)
+
+derived-apart : (cs : List Held) → All (λ c. is-original c ≡ false) (filter is_derived cs)
+derived-apart cs = All-weaker (λ c. (1 ≤ 1) × (is_derived c ≡ true)) (λ c. is-original c ≡ false) (λ c k. le-ltb c.id (2 ^ 32) (leb-true (2 ^ 32) c.id k.1)) (filter is_derived cs) (All-filtered (λ c. 1 ≤ 1) is_derived cs (all-of (λ c. 1 ≤ 1) (λ c. omega arith) cs))
+
+originals-again : (cs : List Held) → originals (originals cs) ≡ originals cs
+originals-again cs = filter-again is-original (originals cs) (All-weaker (λ c. (1 ≤ 1) × (is-original c ≡ true)) (λ c. is-original c ≡ true) (λ c k. k.1) (originals cs) (All-filtered (λ c. 1 ≤ 1) is-original cs (all-of (λ c. 1 ≤ 1) (λ c. omega arith) cs)))
+
+originals-numbered : (first : ℕ) (cs : List (Option (List ℕ))) → first + length cs ≤ 2 ^ 32 → originals (numbered first cs) ≡ numbered first cs
+originals-numbered first cs b = filter-again is-original (numbered first cs) (All-weaker (λ c. c.id < 2 ^ 32) (λ c. is-original c ≡ true) (λ c k. lt-ltb c.id (2 ^ 32) k) (numbered first cs) (numbered-below (2 ^ 32) first cs b))
+
+originals-loaded : (r : Posted) (first : ℕ) (n : Node) → first + length r.clauses ≤ 2 ^ 32 → originals (loaded r first n).clauses ≡ originals n.clauses ++ numbered first r.clauses
+originals-loaded r first n b =
+    let new : List Held = numbered first r.clauses in
+    let derived : List Held = filter is_derived n.clauses in
+    filter-append is-original (originals n.clauses) (new ++ derived)
+    ∙ (ap (λ (xs : List Held). xs ++ originals (new ++ derived)) (originals-again n.clauses)
+    ∙ ap (λ (xs : List Held). originals n.clauses ++ xs) (filter-append is-original new derived
+    ∙ (ap (λ (xs : List Held). originals new ++ xs) (filter-none is-original derived (derived-apart n.clauses))
+    ∙ (append-nil (originals new) ∙ originals-numbered first r.clauses b))))
 
 pub load-holds : LoadHolds
 load-holds = record {
-  fresh_clauses = λ r first i. append-nil (numbered first r.clauses);
-  clauses = λ r first n h. with_originals-all n.clauses (numbered first r.clauses) h;
-  originals = λ r first n b h. All-with_originals (λ c. c.id < 2 ^ 32) n.clauses (numbered first r.clauses) h (numbered-originals first r.clauses b);
+  originals = originals-loaded;
   assumptions = λ r first n. refl;
   verdict = λ r first n. refl;
   index = λ r first n. refl;

@@ -2,11 +2,8 @@ pub mod State
 pub mod Value
 pub mod Batch
 pub mod Cut
-pub mod Step
-pub mod Slice
 pub mod Load
 pub mod Adding
-pub mod Examples
 pub mod Model
 pub mod Sound
 pub mod Laws

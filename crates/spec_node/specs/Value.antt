@@ -31,3 +31,11 @@ left_literal trail lits = find (λ l. not (is_false trail l)) lits
 -- the variables of the trail
 abbrev pub vars_of : List TrailEntry → List ℕ
 vars_of trail = map (λ e. var_of e.lit) trail
+
+-- the first assumption by variable that is not true
+abbrev pub first_open : List TrailEntry → List ℕ → Option ℕ
+first_open trail assumptions = find (λ a. not (is_true trail a)) assumptions
+
+-- the first variable of the decision order without a value
+abbrev pub first_free : List TrailEntry → List ℕ → Option ℕ
+first_free trail order = find (λ v. not (has_value trail v)) order

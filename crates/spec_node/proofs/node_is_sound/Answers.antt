@@ -1,5 +1,5 @@
-use Rattle.spec_node.proofs.SoundLemmas.{fresh-sound, step-sound, slice-sound, loaded-sound}
+use Rattle.spec_node.proofs.SoundLemmas.{fresh-sound, loaded-sound}
 use Rattle.spec_node.proofs.node_is_sound.Goals as goal
 
 pub returns : goal.returns
-returns c = record { fresh = fresh-sound; step = step-sound; slice = slice-sound; load = loaded-sound }
+returns c = record { fresh = fresh-sound; load = loaded-sound }

@@ -1,0 +1,15 @@
+pub mod LogicLemmas
+pub mod HeartLemmas
+pub mod BehindLemmas
+pub mod UipLemmas
+pub mod ApartLemmas
+pub mod PointLemmas
+pub mod LawLemmas
+pub mod SoundParts
+pub mod SettleLemmas
+pub mod KeepLemmas
+pub mod RefuteLemmas
+pub mod CoreLemmas
+pub mod CoreClauseLemmas
+pub mod CoreSoundLemmas
+pub mod GoalLemmas

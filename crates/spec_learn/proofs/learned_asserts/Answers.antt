@@ -1,0 +1,5 @@
+use Rattle.spec_learn.proofs.LawLemmas.{sound-asserts, sound-empty}
+use Rattle.spec_learn.proofs.learned_asserts.Goals as goal
+
+pub returns : goal.returns
+returns c = record { asserts = sound-asserts; empty = sound-empty }

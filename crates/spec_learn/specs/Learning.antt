@@ -1,0 +1,47 @@
+use Rattle.std.specs.Prelude.{ℕ, ◌+◌, ◌*◌, ◌^◌, List, [], ◌∷◌, ◌++◌, length, reverse, Option, Some, None, option_map}
+use Rattle.mal_base.specs.Held.{Held, Line, lits_under}
+use Rattle.mal_base.specs.declared.trail_entry.TrailEntry.{TrailEntry}
+use Rattle.spec_logic.specs.Derivation.{Holding}
+use Rattle.spec_node.specs.State.{Node}
+use Rattle.spec_node.specs.Value.{left_literal, level_of}
+use Rattle.spec_node.specs.Cut.{cut}
+use Rattle.spec_node.specs.Adding.{with_clause}
+use Rattle.spec_learn.specs.Analysis.{Analysed, analysed, vars_in}
+use Rattle.spec_learn.specs.Order.{moved_all}
+
+-- the clauses held, as derived lines are checked against them; none of them is a tautology
+abbrev pub holding : List Held → Holding
+holding clauses id = option_map (λ (lits : List ℕ). Some lits) (lits_under id clauses)
+
+-- the number of the next clause that a node derives
+abbrev pub derived_id : Node → ℕ
+derived_id n = 2 ^ 32 + n.serial * 64 + n.index
+
+-- the analysis of a conflict of a node
+abbrev pub analysis : ℕ → Node → Analysed
+analysis id n = analysed n.clauses (reverse n.trail) id
+
+-- the line that a node derives from a conflict
+abbrev pub line_of : ℕ → Node → Line
+line_of id n = let a = analysis id n in record { id = derived_id n; lits = a.lits; hints = a.hints }
+
+-- the literal that is left of a clause is pushed with the clause as its reason
+abbrev pub forced_by : ℕ → List TrailEntry → Option ℕ → List TrailEntry
+forced_by id trail None = trail
+forced_by id trail (Some l) = trail ++ record { lit = l; reason = Some id; level = level_of trail } ∷ []
+
+-- a node after learning from a conflict above level 0: it goes back to the greatest level of the clause's other literals,
+-- holds the clause and pushes its remaining literal, and moves the clause's variables to the front by rising variable
+abbrev pub learned : ℕ → Node → Node
+learned id n =
+    let a = analysis id n in
+    let c = cut a.level n in
+    record c {
+      clauses = with_clause (record { id = derived_id n; lits = a.lits }) n.clauses;
+      trail = forced_by (derived_id n) c.trail (left_literal c.trail a.lits);
+      processed = length c.trail + 1;
+      order = moved_all (vars_in a.lits) n.order;
+      serial = n.serial + 1;
+      since = n.since + 1;
+      conflict = None;
+    }

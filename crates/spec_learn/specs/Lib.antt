@@ -1,0 +1,9 @@
+pub mod Analysis
+pub mod Order
+pub mod Learning
+pub mod Laws
+pub mod Refuting
+pub mod CoreLaws
+pub mod RefutingLaws
+pub mod Examples
+pub mod RefutingExamples

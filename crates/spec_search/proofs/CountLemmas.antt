@@ -1,0 +1,108 @@
+use Rattle.std.proofs.Common.{◌≡◌, ℕ, zero, suc, ◌+◌, ◌≤◌, Bool, true, false, length, Option, Some, None, refl, sym, subst, arith}
+use Rattle.std.specs.Prelude.{sum_by, nat_lt, is_some, ◌||◌}
+use Rattle.std.specs.Option.{option_map_or}
+use Rattle.std.proofs.lemmas.List.Sums.{sum_by-cons}
+use Rattle.std.proofs.lemmas.Bool.{le-ltb}
+use Rattle.mal_base.specs.Held.{Line}
+use Rattle.mal_base.specs.declared.verdict.Verdict.{Verdict}
+use Rattle.spec_node.specs.State.{Node}
+use Rattle.spec_learn.specs.Learning.{line_of}
+use Rattle.spec_learn.specs.Refuting.{core_line}
+use Rattle.spec_learn.proofs.LawLemmas.{sound-small}
+use Rattle.spec_learn.proofs.CoreClauseLemmas.{core-small}
+use Rattle.spec_search.specs.Step.{Case, Learns, Refutes, Propagates, Restarts, Contradicts, Assumes, Decides, Ends, case_of, line_by, next_line, after_case, step}
+use Rattle.spec_search.specs.Slice.{Sliced, slice, steps_unless, is_over, behind, used_after, numbers_of, most_numbers}
+use Rattle.spec_search.specs.Laws.{CountsRise, LinesFit, SliceGoesOn}
+use Rattle.spec_search.proofs.SliceLemmas.{behind-node, going}
+use Rattle.spec_search.proofs.ModelLemmas.{step-leaves}
+
+-- the counts of a node rise by so much at the most
+record Rise (k : ℕ) (before after : Node) : Type 0 where
+  pub serial : after.serial ≤ before.serial + k
+  pub since : after.since ≤ before.since + k
+  pub round : after.round ≤ before.round + k
+
+case-rise : (c : Case) (n : Node) → Rise 1 n (after_case c n)
+case-rise (Learns id) n = record { serial = omega arith; since = omega arith; round = omega arith }
+case-rise (Refutes id) n = record { serial = omega arith; since = omega arith; round = omega arith }
+case-rise Propagates n = record { serial = omega arith; since = omega arith; round = omega arith }
+case-rise Restarts n = record { serial = omega arith; since = omega arith; round = omega arith }
+case-rise (Contradicts a) n = record { serial = omega arith; since = omega arith; round = omega arith }
+case-rise (Assumes a) n = record { serial = omega arith; since = omega arith; round = omega arith }
+case-rise (Decides v) n = record { serial = omega arith; since = omega arith; round = omega arith }
+case-rise Ends n = record { serial = omega arith; since = omega arith; round = omega arith }
+
+rise-more : (k : ℕ) (n m o : Node) → Rise 1 n m → Rise k m o → Rise (suc k) n o
+rise-more k n m o a b = record { serial = omega (arith, a.serial, b.serial); since = omega (arith, a.since, b.since); round = omega (arith, a.round, b.round) }
+
+steps-rise : (k : ℕ) (over : Bool) (used : ℕ) (n : Node) → Rise k n (steps_unless k over used n).node
+steps-rise zero over used n = record { serial = omega arith; since = omega arith; round = omega arith }
+steps-rise (suc k) true used n = record { serial = omega arith; since = omega arith; round = omega arith }
+steps-rise (suc k) false used n =
+    let u : ℕ = used_after used (next_line n) in
+    let m : Node = step n in
+    subst (Rise (suc k) n) (sym (behind-node (next_line n) (steps_unless k (is_over u m) u m))) (rise-more k n m (steps_unless k (is_over u m) u m).node (case-rise (case_of n) n) (steps-rise k (is_over u m) u m))
+
+-- a slice raises each count by 1,000 at the most
+pub slice-counts : (n : Node) → CountsRise n
+unfolding slice
+slice-counts n = let r : Rise 1000 n (steps_unless 1000 (is_over 0 n) 0 n).node = steps-rise 1000 (is_over 0 n) 0 n in record { serial = r.serial; since = r.since; round = r.round }
+
+-- a line with so many lines
+behind-few : (k : ℕ) (o : Option Line) (s : Sliced) → length s.lines ≤ k → length (behind o s).lines ≤ suc k
+behind-few k None s h = omega arith
+behind-few k (Some l) s h = omega arith
+
+steps-few : (k : ℕ) (over : Bool) (used : ℕ) (n : Node) → length (steps_unless k over used n).lines ≤ k
+steps-few zero over used n = omega arith
+steps-few (suc k) true used n = omega arith
+steps-few (suc k) false used n =
+    let u : ℕ = used_after used (next_line n) in
+    behind-few k (next_line n) (steps_unless k (is_over u (step n)) u (step n)) (steps-few k (is_over u (step n)) u (step n))
+
+behind-numbers : (used most : ℕ) (o : Option Line) (s : Sliced) → used_after used o + sum_by numbers_of s.lines ≤ most → used + sum_by numbers_of (behind o s).lines ≤ most
+behind-numbers used most None s h = omega arith
+behind-numbers used most (Some l) s h = omega (arith, sum_by-cons numbers_of l s.lines)
+
+used-fits : (used most : ℕ) (o : Option Line) → used ≤ most → ((l : Line) → o ≡ Some l → used + numbers_of l ≤ most) → used_after used o ≤ most
+used-fits used most None b f = omega arith
+used-fits used most (Some l) b f = f l refl
+
+steps-numbers : (k : ℕ) (over : Bool) (used : ℕ) (n : Node) → is_over used n ≡ over → used ≤ most_numbers n.variables → used + sum_by numbers_of (steps_unless k over used n).lines ≤ most_numbers n.variables
+steps-numbers zero over used n e b = omega arith
+steps-numbers (suc k) true used n e b = omega arith
+steps-numbers (suc k) false used n e b =
+    let u : ℕ = used_after used (next_line n) in
+    let same : (step n).variables ≡ n.variables = (step-leaves n).variables in
+    let low : u ≤ most_numbers n.variables = used-fits used (most_numbers n.variables) (next_line n) b (going used n e).fits in
+    behind-numbers used (most_numbers n.variables) (next_line n) (steps_unless k (is_over u (step n)) u (step n))
+    (subst (λ (v : ℕ). u + sum_by numbers_of (steps_unless k (is_over u (step n)) u (step n)).lines ≤ most_numbers v) same (steps-numbers k (is_over u (step n)) u (step n) refl (subst (λ (v : ℕ). u ≤ most_numbers v) (sym same) low)))
+
+-- the lines of a slice have room
+pub slice-fits : (n : Node) → LinesFit n
+unfolding slice
+slice-fits n = record { few = steps-few 1000 (is_over 0 n) 0 n; numbers = let r : 0 + sum_by numbers_of (steps_unless 1000 (is_over 0 n) 0 n).lines ≤ most_numbers n.variables = steps-numbers 1000 (is_over 0 n) 0 n refl (omega arith) in omega arith }
+
+over-none : (v : Option Verdict) (b : Bool) → v ≡ None → b ≡ false → (is_some v || b) ≡ false
+over-none None b q k = k
+over-none (Some x) b q k = absurd (cc)
+
+-- one line always fits
+pub slice-goes_on : SliceGoesOn
+slice-goes_on n h none = over-none n.verdict (option_map_or (λ l. nat_lt (most_numbers n.variables) (0 + numbers_of l)) (next_line n) false) none (by_case (case_of n))
+  where
+    small : (id : ℕ) → nat_lt (most_numbers n.variables) (0 + numbers_of (line_of id n)) ≡ false
+    small id = le-ltb (most_numbers n.variables) (0 + numbers_of (line_of id n)) (omega (arith, sound-small n id h))
+
+    small-core : (a : ℕ) → nat_lt (most_numbers n.variables) (0 + numbers_of (core_line a n)) ≡ false
+    small-core a = le-ltb (most_numbers n.variables) (0 + numbers_of (core_line a n)) (omega (arith, core-small n a h))
+
+    by_case : (c : Case) → option_map_or (λ l. nat_lt (most_numbers n.variables) (0 + numbers_of l)) (line_by c n) false ≡ false
+    by_case (Learns id) = small id
+    by_case (Refutes id) = small id
+    by_case Propagates = refl
+    by_case Restarts = refl
+    by_case (Contradicts a) = small-core a
+    by_case (Assumes a) = refl
+    by_case (Decides v) = refl
+    by_case Ends = refl

@@ -1,0 +1,10 @@
+pub mod ExampleLemmas
+pub mod StepLemmas
+pub mod SliceLemmas
+pub mod ConsistentLemmas
+pub mod SoundLemmas
+pub mod ModelLemmas
+pub mod CountLemmas
+pub mod HintLemmas
+pub mod LineLemmas
+pub mod EmptyLemmas

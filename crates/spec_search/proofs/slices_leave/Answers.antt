@@ -1,0 +1,5 @@
+use Rattle.spec_search.proofs.ModelLemmas.{step-leaves, steps-leave, slice-leaves}
+use Rattle.spec_search.proofs.slices_leave.Goals as goal
+
+pub returns : goal.returns
+returns c = record { step = step-leaves; steps = steps-leave; slice = slice-leaves }

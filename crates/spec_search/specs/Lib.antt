@@ -1,0 +1,5 @@
+pub mod Step
+pub mod Slice
+pub mod Derived
+pub mod Laws
+pub mod Examples

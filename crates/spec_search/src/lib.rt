@@ -1,0 +1,49 @@
+//! Steps and slices of a solver node's search. Definitions, and the laws about them as the contracts of functions without
+//! a body.
+#![tactic(auto)]
+
+ghost use Rattle.spec_search.specs.Examples.{HasExamples};
+ghost use Rattle.spec_search.specs.Laws.{EmptyRefutes, LinesAreCounted, LinesAreDerived, LinesAreHeld, LinesHaveRoom, SliceCounts, SliceGoesOn, SliceKeepsModel, SliceKeepsSound, SliceLeaves, SliceRefutes, SliceSolves, StepKeepsSound, StepLeaves, StepsLeave};
+
+/// The worked examples of steps and slices compute to the answers that are known.
+pub fn search_examples()
+    ensures { HasExamples }
+{}
+
+/// Steps and slices keep a node sound.
+pub fn search_is_sound()
+    ensures step { StepKeepsSound }
+    ensures slice { SliceKeepsSound }
+{}
+
+/// Steps and slices leave the index, the variables, the assumptions and the original clauses.
+pub fn slices_leave()
+    ensures step { StepLeaves }
+    ensures steps { StepsLeave }
+    ensures slice { SliceLeaves }
+{}
+
+/// Where a slice of a sound node ends satisfiable, its trail is a model of the clauses and assumptions.
+pub fn slice_has_model()
+    ensures keeps { SliceKeepsModel }
+    ensures solves { SliceSolves }
+{}
+
+/// The lines of a slice of a sound node are derived one after another from the clauses held, have the node's next numbers,
+/// and are held after it; where it refutes the clauses under the assumptions, its last line has negations of these alone, and
+/// only then it derives an empty clause.
+pub fn slice_derives()
+    ensures derived { LinesAreDerived }
+    ensures held { LinesAreHeld }
+    ensures counted { LinesAreCounted }
+    ensures refutes { SliceRefutes }
+    ensures empty { EmptyRefutes }
+{}
+
+/// A slice of a sound node without a verdict makes a step; it derives 1,000 lines at the most, for which there is room, and
+/// raises each count by 1,000 at the most.
+pub fn slice_is_bounded()
+    ensures goes_on { SliceGoesOn }
+    ensures room { LinesHaveRoom }
+    ensures counts { SliceCounts }
+{}
