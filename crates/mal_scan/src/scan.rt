@@ -5,7 +5,7 @@ ghost use Rattle.std.specs.Prelude.{◌≡◌};
 use crate::batch;
 use mal_base::{Clause, ClauseId, ClauseView, Lit};
 use mal_store::Store;
-use mal_trail::{Engine, Trail};
+use mal_trail::{Engine, Listed, Trail};
 use std::alloc::{AllocError, Global};
 
 /// The clauses in flat storage. Nothing follows the trail, so the engine fits each.
@@ -62,4 +62,14 @@ impl Engine for Scan {
     ghost fits_cut = { λ engine entries processed level fits. tt };
 
     ghost fits_less = { λ engine entries processed less bound fits. tt };
+}
+
+impl Listed for Scan {
+    fn count(&self) -> usize {
+        self.store.len()
+    }
+
+    fn clause_at(&self, place: usize) -> (ClauseId, &[Lit]) {
+        self.store.at(place)
+    }
 }

@@ -2,9 +2,11 @@
 #![tactic(auto)]
 
 mod engine;
+mod listed;
 mod trail;
 
 pub use engine::Engine;
+pub use listed::Listed;
 pub use trail::Trail;
 
 #[cfg(test)]

@@ -63,6 +63,13 @@ impl Trail {
         Ok(())
     }
 
+    /// The entries, in the order in which they came.
+    pub fn entries(&self) -> &[TrailEntry]
+        ensures { result.now ≡ self.now.entries }
+    {
+        self.entries.as_slice()
+    }
+
     /// The number of entries, at most 65,536.
     pub fn len(&self) -> usize
         ensures value { result ≡ length self.now.entries }

@@ -1,0 +1,91 @@
+use Rattle.std.proofs.Common.{◌≡◌, ◌≢◌, ℕ, zero, suc, ◌+◌, ◌<◌, ◌≤◌, Bool, true, false, not, ◌||◌, ◌&&◌, eqb, nat_le, List, [], ◌∷◌, ◌++◌, length, take, drop, get_or, set, replicate, refl, ap, sym, ◌∙◌, arith, ⊎_elim, ◌⊎◌, inl, inr}
+use Rattle.std.specs.List.{list_any}
+use Rattle.std.proofs.lemmas.Bool.{false≢true, and_parts, and_from}
+use Rattle.std.proofs.lemmas.Bool.Decides.{nat_tests}
+use Rattle.std.proofs.lemmas.List.{get_or-set_same, get_or-set_other, length-set}
+use Rattle.std.proofs.lemmas.List.Folds.{list_any-append}
+use Rattle.mal_freeze.specs.Imaged.{is_new, are_new}
+use Rattle.mal_freeze.proofs.ListLemmas.{drop-at, take-at, by_true, by_false}
+
+-- the marks are those of these numbers
+pub record Marked (greatest : ℕ) (marks : List Bool) (before : List ℕ) : Type 0 where
+  pub places : length marks ≡ greatest + 1
+  pub marked : (w : ℕ) → w ≤ greatest → get_or marks w false ≡ list_any (eqb w) before
+
+unmarked : (n w : ℕ) → get_or (replicate n false) w false ≡ false
+unmarked zero w = refl
+unmarked (suc n) zero = refl
+unmarked (suc n) (suc w) = unmarked n w
+
+length_replicate : (n : ℕ) → length (replicate n false) ≡ n
+length_replicate zero = refl
+length_replicate (suc n) = omega (arith, length_replicate n)
+
+pub marked-begins : (greatest : ℕ) (marks : List Bool) → marks ≡ replicate (greatest + 1) false → Marked greatest marks []
+marked-begins greatest marks e = rw e (record { places = length_replicate (greatest + 1); marked = λ w l. unmarked (greatest + 1) w })
+
+or_none : (a b : Bool) → b ≡ false → a ≡ (a || (b || false))
+or_none true b h = refl
+or_none false b h = rw h refl
+
+or_some : (a b : Bool) → b ≡ true → (a || (b || false)) ≡ true
+or_some true b h = refl
+or_some false b h = rw h refl
+
+eqb_other : (a b : ℕ) → (a ≡ b → ⊥) → eqb a b ≡ false
+eqb_other a b = grind (arith, nat_tests)
+
+eqb_same : (a b : ℕ) → a ≡ b → eqb a b ≡ true
+eqb_same a b = grind (arith, nat_tests)
+
+eqb_is : (a b : ℕ) → eqb a b ≡ true → a ≡ b
+eqb_is a b = grind (arith, nat_tests)
+
+le_test : (a b : ℕ) → a ≤ b → nat_le a b ≡ true
+le_test a b = grind (arith, nat_tests)
+
+not_le : (a b : ℕ) → b < a → nat_le a b ≡ false
+not_le a b = grind (arith, nat_tests)
+
+-- one number more is marked
+pub marked-next : (greatest v : ℕ) (marks : List Bool) (before : List ℕ) → v ≤ greatest → Marked greatest marks before → Marked greatest (set marks v true) (before ++ v ∷ [])
+marked-next greatest v marks before l m =
+    record { places = length-set marks v true ∙ m.places; marked = λ w k. by_place w k (eqb w v) refl }
+  where
+    by_place : (w : ℕ) → w ≤ greatest → (b : Bool) → eqb w v ≡ b → get_or (set marks v true) w false ≡ list_any (eqb w) (before ++ v ∷ [])
+    by_place w k true t =
+        let same : w ≡ v = eqb_is w v t in
+        let room : v < length marks = omega (arith, m.places) in
+        rw (list_any-append (eqb w) before (v ∷ []), or_some (list_any (eqb w) before) (eqb w v) t, same) (get_or-set_same marks v true false room)
+    by_place w k false t =
+        let other : w ≢ v = (λ e. false≢true (sym t ∙ eqb_same w v e)) in
+        rw (list_any-append (eqb w) before (v ∷ []), ← or_none (list_any (eqb w) before) (eqb w v) t, get_or-set_other marks v w true false other) (m.marked w k)
+
+-- a number up to the greatest without a mark is new
+pub new_unmarked : (greatest v : ℕ) (marks : List Bool) (before : List ℕ) → 1 ≤ v → v ≤ greatest → get_or marks v false ≡ false → Marked greatest marks before → is_new greatest before v ≡ true
+new_unmarked greatest v marks before low high free m =
+    rw (le_test 1 v low, le_test v greatest high, ← m.marked v high, free) refl
+
+-- one with a mark is not
+pub old_marked : (greatest v : ℕ) (marks : List Bool) (before : List ℕ) → v ≤ greatest → get_or marks v false ≡ true → Marked greatest marks before → is_new greatest before v ≡ false
+old_marked greatest v marks before high old m = last_false (nat_le 1 v && nat_le v greatest) (list_any (eqb v) before) (sym (m.marked v high) ∙ old)
+  where
+    last_false : (a b : Bool) → b ≡ true → (a && not b) ≡ false
+    last_false true b h = rw h refl
+    last_false false b h = refl
+
+-- nor is one above the greatest
+pub beyond : (greatest v : ℕ) (before : List ℕ) → greatest < v → is_new greatest before v ≡ false
+beyond greatest v before h = by_false (nat_le 1 v && nat_le v greatest) (not (list_any (eqb v) before)) (last_false (nat_le 1 v) (nat_le v greatest) (not_le v greatest h))
+  where
+    last_false : (a b : Bool) → b ≡ false → (a && b) ≡ false
+    last_false true b k = k
+    last_false false b k = refl
+
+pub news-next : (greatest : ℕ) (vs : List ℕ) (i v d : ℕ) → i < length vs → v ≡ get_or vs i d → is_new greatest (take i vs) v ≡ true → are_new greatest (take (i + 1) vs) (drop (i + 1) vs) ≡ are_new greatest (take i vs) (drop i vs)
+news-next greatest vs i v d l e h =
+    rw (take-at vs i v d l e, drop-at vs i v d l e) (by_true (is_new greatest (take i vs) v) (are_new greatest (take i vs ++ v ∷ []) (drop (i + 1) vs)) h)
+
+pub news-end : (greatest : ℕ) (vs : List ℕ) (i v d : ℕ) → i < length vs → v ≡ get_or vs i d → is_new greatest (take i vs) v ≡ false → are_new greatest (take i vs) (drop i vs) ≡ false
+news-end greatest vs i v d l e h =
+    rw (drop-at vs i v d l e) (by_false (is_new greatest (take i vs) v) (are_new greatest (take i vs ++ v ∷ []) (drop (i + 1) vs)) h)

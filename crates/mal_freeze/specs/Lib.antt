@@ -1,0 +1,4 @@
+pub mod Parted
+pub mod Imaged
+pub mod Trailing
+pub mod Laws

@@ -1,0 +1,128 @@
+use Rattle.std.proofs.Common.{◌≡◌, ℕ, ◌+◌, ◌-◌, ◌<◌, ◌≤◌, ◌^◌, Bool, true, false, cond, List, [], ◌∷◌, ◌++◌, length, get_or, set, take, reverse, replicate, Option, Some, None, refl, sym, ap, ◌∙◌, subst, arith}
+use Rattle.std.specs.Prelude.{All, ◌==◌, ◌&&◌, ◌||◌, slice_get}
+use Rattle.std.specs.List.Sorted.{IsPermutation, IsSorted}
+use Rattle.std.specs.Ordering.{nat_cmp}
+use Rattle.std.specs.Option.{option_map_or}
+use Rattle.std.proofs.lemmas.List.{length-set, get_or-set_same, get_or-set_other, get_or-replicate, length-replicate, take_all}
+use Rattle.std.proofs.lemmas.List.Elements.{All-nil, All-cons}
+use Rattle.std.proofs.lemmas.List.Sorted.{list_any-IsPermutation, IsPermutation-reverse}
+use Rattle.std.proofs.lemmas.Bool.{eqb-true, eqb-false}
+use Rattle.mal_base.specs.Literals.{var_of}
+use Rattle.mal_base.specs.Held.{Held, lits_under}
+use Rattle.mal_base.specs.declared.trail_entry.TrailEntry.{TrailEntry}
+use Rattle.spec_node.specs.Sound.{EachAfter, IsPlaced}
+use Rattle.spec_learn.specs.Analysis.{Walk, has_var, vars_in, vars_under, begun, walk_of, analysed, top}
+use Rattle.mal_learn.specs.Working.{State, see_all, lits_of, visited_all, here_all}
+use Rattle.mal_learn.specs.Shown.{ClausesWithin, EntriesWithin}
+use Rattle.spec_learn.proofs.ApartLemmas.{IsApart, apart-reverse, apart-short}
+use Rattle.mal_learn.proofs.CountLemmas.{is_here, left_count, left-cons}
+use Rattle.mal_learn.proofs.SortLemmas.{turned-back, sorted-clause}
+use Rattle.mal_learn.proofs.WalkLemmas.{Leaves, see_all-leaves, lits-within, reverse-got}
+use Rattle.mal_learn.proofs.ShowsLemmas.{IsSeen, Shows, same-seen, see_all-shows, vars-of, walked-shows, AreBelow}
+
+-- the marks of a level
+here-is : (level v : ℕ) (es : List TrailEntry) (flags : List Bool) → v < length flags → get_or (here_all level es flags) v false ≡ (is_here level es v || get_or flags v false)
+here-is level v [] flags l = refl
+here-is level v (e ∷ es) flags l = by_level (λ xs k. here-is level v es xs k) (e.level == level)
+  where
+    turn : (x y z : Bool) → (x || (y || z)) ≡ ((y || x) || z)
+    turn true true z = refl
+    turn true false z = refl
+    turn false true z = refl
+    turn false false z = refl
+
+    own : (b : Bool) → (v == var_of e.lit) ≡ b → get_or (set flags (var_of e.lit) true) v false ≡ (b || get_or flags v false)
+    own true q = let same : v ≡ var_of e.lit = eqb-true v (var_of e.lit) q in subst (λ (x : ℕ). get_or (set flags x true) v false ≡ true) same (get_or-set_same flags v true false l)
+    own false q = get_or-set_other flags (var_of e.lit) v true false (eqb-false v (var_of e.lit) q)
+
+    by_level : ((xs : List Bool) → v < length xs → get_or (here_all level es xs) v false ≡ (is_here level es v || get_or xs v false)) → (b : Bool) → get_or (here_all level es (cond b (set flags (var_of e.lit) true) flags)) v false ≡ (((b && (v == var_of e.lit)) || is_here level es v) || get_or flags v false)
+    by_level f true = f (set flags (var_of e.lit) true) (let k = length-set flags (var_of e.lit) true in omega arith) ∙ (ap (λ (b : Bool). is_here level es v || b) (own (v == var_of e.lit) refl) ∙ turn (is_here level es v) (v == var_of e.lit) (get_or flags v false))
+    by_level f false = f flags l
+
+here-long : (level : ℕ) (es : List TrailEntry) (flags : List Bool) → length (here_all level es flags) ≡ length flags
+here-long level [] flags = refl
+here-long level (e ∷ es) flags = by_level (λ xs. here-long level es xs) (e.level == level)
+  where
+    by_level : ((xs : List Bool) → length (here_all level es xs) ≡ length xs) → (b : Bool) → length (here_all level es (cond b (set flags (var_of e.lit) true) flags)) ≡ length flags
+    by_level f true = f (set flags (var_of e.lit) true) ∙ length-set flags (var_of e.lit) true
+    by_level f false = f flags
+
+none-left : (level : ℕ) (past : List TrailEntry) → 0 ≡ left_count level (λ u. false) past
+none-left level [] = refl
+none-left level (e ∷ past) = let ih : 0 ≡ left_count level (λ u. false) past = none-left level past in sym (left-cons level (λ u. false) e past ∙ by_level (e.level == level) ih)
+  where
+    by_level : (b : Bool) → 0 ≡ left_count level (λ u. false) past → cond {A = ℕ} (b && false) 1 0 + left_count level (λ u. false) past ≡ 0
+    by_level true q = omega arith
+    by_level false q = omega arith
+
+-- the state in which an analysis begins
+abbrev pub start : ℕ → ℕ → ℕ → ℕ → List TrailEntry → State
+start a b level id es = record { seen = replicate a false; here = here_all level es (replicate b false); left = 0; lits = []; hints = id ∷ []; level = 0 }
+
+begin-seen : (n a b level id : ℕ) (es : List TrailEntry) → n ≤ a → n ≤ b → IsSeen n level (reverse es) (λ u. false) (start a b level id es)
+begin-seen n a b level id es p q =
+    let la : length (replicate a false) ≡ a = length-replicate a false in
+    let lb : length (replicate b false) ≡ b = length-replicate b false in
+    let lh = here-long level es (replicate b false) in
+    record {
+      seen_len = omega arith;
+      here_len = omega arith;
+      seen = λ v l. get_or-replicate a v false false (omega arith);
+      here = λ v l. here-is level v es (replicate b false) (omega arith) ∙ (ap (λ (x : Bool). is_here level es v || x) (get_or-replicate b v false false (omega arith)) ∙ (or-false (is_here level es v) ∙ list_any-IsPermutation (λ e. (e.level == level) && (v == var_of e.lit)) es (reverse es) (IsPermutation-reverse es)));
+      left = none-left level (reverse es);
+    }
+  where
+    or-false : (x : Bool) → (x || false) ≡ x
+    or-false true = refl
+    or-false false = refl
+
+begin-shows : (n a b level id : ℕ) (clauses : List Held) (es : List TrailEntry) → n ≤ a → n ≤ b → AreBelow n clauses → IsApart n (reverse es) → length (reverse es) < 2 ^ 64 → Shows n level id (reverse es) (begun (vars_under clauses id)) (see_all (lits_of clauses id) (start a b level id es))
+begin-shows n a b level id clauses es p q below apart long =
+    let s : State = start a b level id es in
+    let leaves : Leaves s (see_all (lits_of clauses id) s) = see_all-leaves (lits_of clauses id) s in
+    record {
+      is_seen = same-seen n level (reverse es) (λ u. has_var (vars_in (lits_of clauses id)) u || false) (has_var (vars_under clauses id)) (see_all (lits_of clauses id) s) (λ u. or-false (has_var (vars_in (lits_of clauses id)) u) ∙ ap (λ (vs : List ℕ). has_var vs u) (vars-of clauses id)) (see_all-shows n level (reverse es) (lits_of clauses id) (λ u. false) s (below id) apart long (begin-seen n a b level id es p q));
+      lits = leaves.lits;
+      hints = leaves.hints;
+      target = leaves.level;
+    }
+  where
+    or-false : (x : Bool) → (x || false) ≡ x
+    or-false true = refl
+    or-false false = refl
+
+pub entries-within : (n : ℕ) (es before : List TrailEntry) → 1 ≤ n → EachAfter (IsPlaced (n - 1)) before es → EntriesWithin n es
+entries-within n [] before l h = All-nil (λ e. var_of e.lit < n)
+entries-within n (e ∷ es) before l h = All-cons (λ x. var_of x.lit < n) e es (let u : var_of e.lit ≤ n - 1 = h.0.high in omega arith) (entries-within n es (before ++ e ∷ []) l h.1)
+
+pub clauses-below : (n : ℕ) (clauses : List Held) → ClausesWithin n clauses → AreBelow n clauses
+clauses-below n clauses h r = by_found (lits_under r clauses) refl
+  where
+    by_found : (o : Option (List ℕ)) → lits_under r clauses ≡ o → All (λ (l : ℕ). var_of l < n) (option_map_or (λ (l : List ℕ). l) o [])
+    by_found None q = All-nil (λ l. var_of l < n)
+    by_found (Some lits) q = lits-within n r clauses lits h q
+
+-- what is found, put in order, is what the definition gives
+pub record IsAnalysed (clauses : List Held) (past : List TrailEntry) (id : ℕ) (lits hints : List ℕ) (level : ℕ) : Type 0 where
+  pub clause : lits ≡ (analysed clauses past id).lits
+  pub hints_are : hints ≡ (analysed clauses past id).hints
+  pub target : level ≡ (analysed clauses past id).level
+
+pub analysis-done : (n a b id : ℕ) (clauses : List Held) (es : List TrailEntry) (s : State) (lits hints : List ℕ) → 1 ≤ n → n ≤ 65537 → n ≤ a → n ≤ b → ClausesWithin n clauses → EachAfter (IsPlaced (n - 1)) [] es → s ≡ visited_all clauses (top (reverse es)) (reverse es) (see_all (lits_of clauses id) (start a b (top (reverse es)) id es)) → IsPermutation s.lits lits → IsSorted nat_cmp lits → hints ≡ reverse s.hints → IsAnalysed clauses (reverse es) id lits hints s.level
+analysis-done n a b id clauses es s lits hints l small p q within placed is moved sorted turns =
+    let past : List TrailEntry = reverse es in
+    let apart : IsApart n past = apart-reverse n es l placed in
+    let short : length past + 1 ≤ n = apart-short n past l apart in
+    let w : Walk = walk_of clauses past id in
+    let shows : Shows n (top past) id [] w s = subst (Shows n (top past) id [] w) (sym is) (walked-shows n (top past) id clauses past (begun (vars_under clauses id)) (see_all (lits_of clauses id) (start a b (top past) id es)) (clauses-below n clauses within) apart (omega arith) (begin-shows n a b (top past) id clauses es p q (clauses-below n clauses within) apart (omega arith))) in
+    record {
+      clause = sorted-clause w.kept s.lits lits shows.lits moved sorted;
+      hints_are = turns ∙ (ap reverse shows.hints ∙ turned-back id w.hints);
+      target = shows.target;
+    }
+
+-- the level of the last entry
+pub top-reverse : (es : List TrailEntry) (e : TrailEntry) (n : ℕ) → n ≡ length es → 0 < n → slice_get es (n - 1) ≡ Some e → top (reverse es) ≡ e.level
+top-reverse es e n l some q =
+    let all : take (n - 1 + 1) es ≡ es = take_all (n - 1 + 1) es (omega arith) in
+    ap (λ (xs : List TrailEntry). top (reverse xs)) (sym all) ∙ ap top (reverse-got es (n - 1) e (omega arith) q)

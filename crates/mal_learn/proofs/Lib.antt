@@ -1,0 +1,7 @@
+mod FlagLemmas
+mod WalkLemmas
+mod CountLemmas
+mod ShowsLemmas
+mod SortLemmas
+mod AnalysedLemmas
+mod TraceLemmas

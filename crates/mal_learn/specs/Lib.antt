@@ -1,0 +1,4 @@
+pub mod Stamps
+pub mod Working
+pub mod Shown
+pub mod Tracing

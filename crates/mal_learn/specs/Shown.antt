@@ -1,0 +1,36 @@
+use Rattle.std.specs.Prelude.{ℕ, ◌+◌, ◌≤◌, ◌<◌, List, All}
+use Rattle.mal_base.specs.Held.{Held}
+use Rattle.mal_base.specs.Literals.{var_of}
+use Rattle.mal_base.specs.declared.trail_entry.TrailEntry.{TrailEntry}
+use Rattle.mal_learn.specs.Working.{State}
+
+-- a state, and the bound below which there is room for each variable, 0 before there is any
+pub record Work : Type 0 where
+  pub state : State
+  pub room : ℕ
+
+-- what an analysis leaves: the clause, its hints, the level to jump to, and the bound below which there is room for each
+-- variable, 0 before there is any
+pub record Shown : Type 0 where
+  pub clause : List ℕ
+  pub hints : List ℕ
+  pub level : ℕ
+  pub room : ℕ
+
+-- there is a flag of each kind for each variable, and room for literals and hints
+pub record IsFitted (room seen here lits hints : ℕ) : Type 0 where
+  pub small : room ≤ 65537
+  pub seen_fits : room ≤ seen
+  pub here_fits : room ≤ here
+  pub lits_fit : room ≤ lits + 1
+  pub hints_fit : room ≤ hints
+
+-- literals and entries of the variables below a bound
+abbrev pub AreWithin : ℕ → List ℕ → Type 0
+AreWithin room lits = All (λ l. var_of l < room) lits
+
+abbrev pub ClausesWithin : ℕ → List Held → Type 0
+ClausesWithin room clauses = All (λ c. AreWithin room c.lits) clauses
+
+abbrev pub EntriesWithin : ℕ → List TrailEntry → Type 0
+EntriesWithin room entries = All (λ e. var_of e.lit < room) entries

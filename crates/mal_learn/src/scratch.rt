@@ -1,0 +1,143 @@
+//! The scratch of an analysis, and the analysis.
+
+ghost use Rattle.std.specs.Prelude.{◌≡◌, ◌-◌, ◌<◌, ◌≤◌, [], length, reverse, take, OnOk};
+ghost use Rattle.spec_node.specs.Sound.{EachAfter, IsPlaced};
+ghost use Rattle.spec_learn.specs.Analysis.{analysed, core, reached, top};
+ghost use Rattle.mal_learn.specs.Shown.{ClausesWithin};
+
+use crate::work::Work;
+use mal_base::{ClauseId, ClauseView, Lit, TrailView};
+use std::alloc::{AllocError, Global};
+use std::marker::Model;
+
+/// What an analysis works in, and what the last one left: a derived clause, its hints and the level to jump to. Contracts
+/// see these and the bound below which there is room for each variable, 0 before the first `fit`. What else a scratch
+/// holds never changes an analysis.
+#[derive(Drop)]
+pub struct Scratch {
+    work: Work,
+}
+
+impl Model for Scratch {
+    ghost use Rattle.mal_learn.specs.Shown.{Shown};
+
+    ghost Value = { Shown };
+
+    ghost view = { λ s. record { clause = s.work.state.lits; hints = s.work.state.hints; level = s.work.state.level; room = s.work.room } };
+}
+
+impl Scratch {
+    /// A scratch without room. Takes no memory.
+    pub fn new(alloc: Global) -> Scratch
+        ensures { result.room ≡ 0 }
+    {
+        Scratch {
+            work: Work::new(alloc),
+        }
+    }
+
+    /// Makes room for the variables up to this one, at most 65,536. What the last analysis left stays.
+    pub fn fit(&mut self, variables: u32) -> Result<(), AllocError>
+        requires { variables ≤ 65536 }
+        ensures room { OnOk result (variables < self.new.room) }
+        ensures more { self.old.room ≤ self.new.room }
+        ensures clause { self.new.clause ≡ self.old.clause }
+        ensures hints { self.new.hints ≡ self.old.hints }
+        ensures level { self.new.level ≡ self.old.level }
+    {
+        self.work.fit(variables + 1)
+    }
+
+    /// The literals of the clause, in order.
+    pub fn clause(&self) -> &[Lit]
+        ensures { result.now ≡ self.now.clause }
+    {
+        self.work.lits.as_slice()
+    }
+
+    /// The hints, in the order in which unit propagation uses them.
+    pub fn hints(&self) -> &[ClauseId]
+        ensures { result.now ≡ self.now.hints }
+    {
+        self.work.hints.as_slice()
+    }
+
+    /// The level to jump to: the greatest of the clause's literals below the current level, 0 for none.
+    pub fn level(&self) -> u32
+        ensures { result ≡ self.now.level }
+    {
+        self.work.level
+    }
+}
+
+/// Analyses a conflict (first unique implication point): leaves in a fitted scratch the clause that is learned above level
+/// 0, at level 0 the empty clause, with its hints in trail order and the level to jump to. Takes no memory. The time is
+/// linear in the trail and the literals of the reasons used.
+pub fn analyse<T: TrailView, C: ClauseView>(
+    trail: &T,
+    clauses: &C,
+    conflict: ClauseId,
+    scratch: &mut Scratch,
+)
+    requires fitted { 1 ≤ scratch.old.room }
+    requires placed { EachAfter (IsPlaced (scratch.old.room - 1)) [] (T.entries trail.now) }
+    requires within { ClausesWithin scratch.old.room (C.clauses clauses.now) }
+    ensures clause { scratch.new.clause ≡ (analysed (C.clauses clauses.now) (reverse (T.entries trail.now)) conflict).lits }
+    ensures hints { scratch.new.hints ≡ (analysed (C.clauses clauses.now) (reverse (T.entries trail.now)) conflict).hints }
+    ensures level { scratch.new.level ≡ (analysed (C.clauses clauses.now) (reverse (T.entries trail.now)) conflict).level }
+    ensures room { scratch.new.room ≡ scratch.old.room }
+{
+    let level = current_level(trail);
+    scratch.work.begin(trail, clauses, conflict, level);
+    scratch.work.walk(trail, clauses, level);
+    scratch.work.finish();
+}
+
+/// Analyses a false assumption (final conflict): leaves in a fitted scratch the core clause, which has the negation of the
+/// assumption and negated decisions, with its hints in trail order, the reason of the negation last. Takes no memory. The
+/// time is linear in the trail and the literals of the reasons used.
+pub fn final_core<T: TrailView, C: ClauseView>(
+    trail: &T,
+    clauses: &C,
+    assumption: Lit,
+    scratch: &mut Scratch,
+)
+    requires fitted { 2 ≤ scratch.old.room }
+    requires placed { EachAfter (IsPlaced (scratch.old.room - 1)) [] (T.entries trail.now) }
+    requires within { ClausesWithin scratch.old.room (C.clauses clauses.now) }
+    ensures clause { scratch.new.clause ≡ (core (C.clauses clauses.now) (reverse (T.entries trail.now)) assumption).lits }
+    ensures hints { scratch.new.hints ≡ (core (C.clauses clauses.now) (reverse (T.entries trail.now)) assumption).hints }
+    ensures level { scratch.new.level ≡ (core (C.clauses clauses.now) (reverse (T.entries trail.now)) assumption).level }
+    ensures room { scratch.new.room ≡ scratch.old.room }
+{
+    let negation = assumption.negate();
+    let count = count_to(trail, negation);
+    scratch.work.begin_with(negation);
+    scratch.work.trace_from(trail, clauses, count);
+    scratch.work.finish();
+}
+
+/// How many entries a trail has up to the last one of a literal, 0 where it has none.
+fn count_to<T: TrailView>(trail: &T, literal: Lit) -> usize
+    ensures is { reached literal (reverse (T.entries trail.now)) ≡ reverse (take result (T.entries trail.now)) }
+    ensures bound { result ≤ length (T.entries trail.now) }
+{
+    let count = trail.len();
+    for made in 0..count {
+        if trail.at(count - 1 - made).lit == literal {
+            return count - made;
+        }
+    }
+    0
+}
+
+/// The level that a trail has reached.
+fn current_level<T: TrailView>(trail: &T) -> u32
+    ensures { result ≡ top (reverse (T.entries trail.now)) }
+{
+    let count = trail.len();
+    if count == 0 {
+        return 0;
+    }
+    trail.at(count - 1).level
+}

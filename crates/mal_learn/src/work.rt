@@ -1,0 +1,330 @@
+//! An analysis at work.
+
+ghost use Rattle.std.specs.Prelude.{◌≡◌, ◌+◌, ◌≤◌, ◌<◌, All, length, replicate, reverse, take, false, true, [], ◌∷◌, slice_index_or, OnOk};
+ghost use Rattle.std.specs.List.Sorted.{IsPermutation, IsSorted};
+ghost use Rattle.std.specs.Ordering.{nat_cmp};
+ghost use Rattle.mal_base.specs.Literals.{var_of};
+ghost use Rattle.mal_learn.specs.Working.{see, see_all, lits_of, kept, resolved, by_reason, visited, visited_all, here_all};
+ghost use Rattle.mal_learn.specs.Tracing.{begun_with, traced, traced_all, traced_from};
+ghost use Rattle.mal_learn.specs.Shown.{IsFitted, AreWithin, ClausesWithin, EntriesWithin};
+
+use crate::flags::Flags;
+use mal_base::{ClauseId, ClauseView, Lit, TrailEntry, TrailView, Var};
+use std::alloc::{AllocError, Global};
+use std::marker::Model;
+
+/// What an analysis has marked and found. Contracts see the state and the
+/// bound below which there is room for each variable, 0 before there is any.
+#[derive(Drop)]
+pub struct Work {
+    seen: Flags,
+    here: Flags,
+    left: u64,
+    pub lits: Vec<Lit>,
+    pub hints: Vec<ClauseId>,
+    pub level: u32,
+    room: u32,
+}
+
+impl Model for Work {
+    ghost use Rattle.std.specs.Prelude.{length};
+    ghost use Rattle.std.specs.Vec.{vec_capacity};
+    ghost use Rattle.mal_learn.specs.Shown.{Work, IsFitted};
+
+    ghost Value = { Work };
+
+    ghost view = { λ w. record {
+      state = record { seen = w.seen; here = w.here; left = w.left; lits = w.lits.items; hints = w.hints.items; level = w.level };
+      room = w.room;
+    } };
+
+    ghost invariant = { λ w. IsFitted w.room (length w.seen) (length w.here) (vec_capacity w.lits) (vec_capacity w.hints) };
+}
+
+impl Work {
+    /// Nothing marked, nothing found, and no room. Takes no memory.
+    pub fn new(alloc: Global) -> Work
+        ensures { result.room ≡ 0 }
+    {
+        Work {
+            seen: Flags::new(alloc),
+            here: Flags::new(alloc),
+            left: 0,
+            lits: Vec::new(alloc),
+            hints: Vec::new(alloc),
+            level: 0,
+            room: 0,
+        }
+    }
+
+    /// Makes room for the variables below this bound, which is at most 65,537. What was found stays.
+    pub fn fit(&mut self, bound: u32) -> Result<(), AllocError>
+        requires { bound ≤ 65537 }
+        ensures room { OnOk result (bound ≤ self.new.room) }
+        ensures more { self.old.room ≤ self.new.room }
+        ensures lits { self.new.state.lits ≡ self.old.state.lits }
+        ensures hints { self.new.state.hints ≡ self.old.state.hints }
+        ensures level { self.new.state.level ≡ self.old.state.level }
+    {
+        if bound <= self.room {
+            return Ok(());
+        }
+        let count = bound as usize;
+        self.seen.fit(count)?;
+        self.here.fit(count)?;
+        self.lits.reserve(count)?;
+        self.hints.reserve(count)?;
+        self.room = bound;
+        Ok(())
+    }
+
+    /// Puts the literals and the hints in order.
+    pub fn finish(&mut self)
+        ensures permutation { IsPermutation self.old.state.lits self.new.state.lits }
+        ensures sorted { IsSorted nat_cmp self.new.state.lits }
+        ensures hints { self.new.state.hints ≡ reverse self.old.state.hints }
+        ensures level { self.new.state.level ≡ self.old.state.level }
+        ensures room { self.new.room ≡ self.old.room }
+    {
+        self.lits.sort_unstable();
+        self.hints.as_mut_slice().reverse();
+    }
+
+    /// Sees a variable.
+    fn see(&mut self, var: Var)
+        requires { var < self.old.room }
+        ensures state { self.new.state ≡ see var self.old.state }
+        ensures room { self.new.room ≡ self.old.room }
+    {
+        let place = var.number() as usize;
+        if self.seen.has(place) {
+            return;
+        }
+        self.seen.insert(place);
+        if self.here.has(place) {
+            self.left = self.left.saturating_add(1);
+        }
+    }
+
+    /// Sees the variables of literals.
+    fn see_all(&mut self, lits: &[Lit])
+        requires { AreWithin self.old.room lits.now }
+        ensures state { self.new.state ≡ see_all lits.now self.old.state }
+        ensures room { self.new.room ≡ self.old.room }
+    {
+        for lit in lits {
+            self.see(lit.var());
+        }
+    }
+
+    /// Sees the variables of a clause, if it is held.
+    fn see_clause<C: ClauseView>(&mut self, clauses: &C, id: ClauseId)
+        requires { ClausesWithin self.old.room (C.clauses clauses.now) }
+        ensures state { self.new.state ≡ see_all (lits_of (C.clauses clauses.now) id) self.old.state }
+        ensures room { self.new.room ≡ self.old.room }
+    {
+        match clauses.get(id) {
+            None => {}
+            Some(lits) => self.see_all(lits),
+        }
+    }
+
+    /// Keeps an entry's negation in the clause.
+    fn keep(&mut self, entry: TrailEntry, level: u32)
+        requires { length self.old.state.lits + 1 < self.old.room }
+        ensures state { self.new.state ≡ kept level entry self.old.state }
+        ensures room { self.new.room ≡ self.old.room }
+    {
+        self.lits.push_reserved(entry.lit.negate());
+        let own = if entry.level == level { 0 } else { entry.level };
+        self.level = own.max(self.level);
+    }
+
+    /// Resolves with a reason.
+    fn resolve<C: ClauseView>(&mut self, clauses: &C, reason: ClauseId)
+        requires within { ClausesWithin self.old.room (C.clauses clauses.now) }
+        requires room { length self.old.state.hints < self.old.room }
+        ensures state { self.new.state ≡ resolved (C.clauses clauses.now) reason self.old.state }
+        ensures room { self.new.room ≡ self.old.room }
+    {
+        self.hints.push_reserved(reason);
+        self.see_clause(clauses, reason);
+    }
+
+    /// Resolves a seen entry away or keeps it.
+    fn handle<C: ClauseView>(&mut self, clauses: &C, entry: TrailEntry, level: u32)
+        requires within { ClausesWithin self.old.room (C.clauses clauses.now) }
+        requires lit_room { length self.old.state.lits + 1 < self.old.room }
+        requires hint_room { length self.old.state.hints < self.old.room }
+        ensures state { self.new.state ≡ by_reason (C.clauses clauses.now) level entry self.old.state entry.reason }
+        ensures room { self.new.room ≡ self.old.room }
+    {
+        match entry.reason {
+            None => self.keep(entry, level),
+            Some(reason) => {
+                if entry.level == 0 || (entry.level == level && 0 < self.left) {
+                    self.resolve(clauses, reason);
+                } else {
+                    self.keep(entry, level);
+                }
+            }
+        }
+    }
+
+    /// Passes an entry.
+    pub fn visit<C: ClauseView>(&mut self, clauses: &C, entry: TrailEntry, level: u32)
+        requires within { ClausesWithin self.old.room (C.clauses clauses.now) }
+        requires var { var_of entry.lit < self.old.room }
+        requires lit_room { length self.old.state.lits + 1 < self.old.room }
+        requires hint_room { length self.old.state.hints < self.old.room }
+        ensures state { self.new.state ≡ visited (C.clauses clauses.now) level entry self.old.state }
+        ensures room { self.new.room ≡ self.old.room }
+    {
+        let place = entry.lit.var().number() as usize;
+        let seen = self.seen.has(place);
+        self.here.remove(place);
+        if !seen {
+            return;
+        }
+        if entry.level == level {
+            self.left = self.left.saturating_sub(1);
+        }
+        self.handle(clauses, entry, level);
+    }
+
+    /// Passes the entries of a trail, the latest first.
+    pub fn walk<T: TrailView, C: ClauseView>(&mut self, trail: &T, clauses: &C, level: u32)
+        requires entries { EntriesWithin self.old.room (T.entries trail.now) }
+        requires within { ClausesWithin self.old.room (C.clauses clauses.now) }
+        requires lit_room { length (T.entries trail.now) + length self.old.state.lits < self.old.room }
+        requires hint_room { length (T.entries trail.now) + length self.old.state.hints ≤ self.old.room }
+        ensures state { self.new.state ≡ visited_all (C.clauses clauses.now) level (reverse (T.entries trail.now)) self.old.state }
+        ensures room { self.new.room ≡ self.old.room }
+    {
+        let count = trail.len();
+        for made in 0..count {
+            let entry = trail.at(count - 1 - made);
+            self.visit(clauses, entry, level);
+        }
+    }
+
+    /// Forgets all.
+    fn forget(&mut self)
+        ensures state { self.new.state ≡ (record { seen = replicate (length self.old.state.seen) false; here = replicate (length self.old.state.here) false; left = 0; lits = []; hints = []; level = 0 }) }
+        ensures fits { IsFitted self.old.room (length self.old.state.seen) (length self.old.state.here) 65537 65537 }
+        ensures room { self.new.room ≡ self.old.room }
+    {
+        self.seen.clear();
+        self.here.clear();
+        self.left = 0;
+        self.lits.clear();
+        self.hints.clear();
+        self.level = 0;
+    }
+
+    /// Forgets all, marks the entries of the current level, and sees the variables of the conflict, which is the last hint.
+    pub fn begin<T: TrailView, C: ClauseView>(
+        &mut self,
+        trail: &T,
+        clauses: &C,
+        conflict: ClauseId,
+        level: u32,
+    )
+        requires some { 1 ≤ self.old.room }
+        requires entries { EntriesWithin self.old.room (T.entries trail.now) }
+        requires within { ClausesWithin self.old.room (C.clauses clauses.now) }
+        ensures state { self.new.state ≡ see_all (lits_of (C.clauses clauses.now) conflict) (record { seen = replicate (length self.old.state.seen) false; here = here_all level (T.entries trail.now) (replicate (length self.old.state.here) false); left = 0; lits = []; hints = conflict ∷ []; level = 0 }) }
+        ensures lits { self.new.state.lits ≡ [] }
+        ensures hints { self.new.state.hints ≡ conflict ∷ [] }
+        ensures fits { IsFitted self.old.room (length self.old.state.seen) (length self.old.state.here) 65537 65537 }
+        ensures room { self.new.room ≡ self.old.room }
+    {
+        self.forget();
+        self.hints.push_reserved(conflict);
+        mark_level(&mut self.here, trail, level);
+        self.see_clause(clauses, conflict);
+    }
+
+    /// Forgets all, and begins a clause with a literal.
+    pub fn begin_with(&mut self, literal: Lit)
+        requires { 2 ≤ self.old.room }
+        ensures state { self.new.state ≡ begun_with (length self.old.state.seen) (length self.old.state.here) literal }
+        ensures lits { self.new.state.lits ≡ literal ∷ [] }
+        ensures hints { self.new.state.hints ≡ [] }
+        ensures fits { IsFitted self.old.room (length self.old.state.seen) (length self.old.state.here) 65537 65537 }
+        ensures room { self.new.room ≡ self.old.room }
+    {
+        self.forget();
+        self.lits.push_reserved(literal);
+    }
+
+    /// Keeps a decision's negation in the clause, and resolves any other entry away, if it is seen.
+    fn trace<C: ClauseView>(&mut self, clauses: &C, entry: TrailEntry)
+        requires within { ClausesWithin self.old.room (C.clauses clauses.now) }
+        requires var { var_of entry.lit < self.old.room }
+        requires lit_room { length self.old.state.lits + 1 < self.old.room }
+        requires hint_room { length self.old.state.hints < self.old.room }
+        ensures state { self.new.state ≡ traced (C.clauses clauses.now) entry self.old.state }
+        ensures room { self.new.room ≡ self.old.room }
+    {
+        if !self.seen.has(entry.lit.var().number() as usize) {
+            return;
+        }
+        match entry.reason {
+            None => self.lits.push_reserved(entry.lit.negate()),
+            Some(reason) => self.resolve(clauses, reason),
+        }
+    }
+
+    /// Traces the first entries of a trail, as many as this, the latest first.
+    fn trace_all<T: TrailView, C: ClauseView>(&mut self, trail: &T, clauses: &C, count: usize)
+        requires entries { EntriesWithin self.old.room (T.entries trail.now) }
+        requires within { ClausesWithin self.old.room (C.clauses clauses.now) }
+        requires count { count ≤ length (T.entries trail.now) }
+        requires lit_room { count + length self.old.state.lits < self.old.room }
+        requires hint_room { count + length self.old.state.hints ≤ self.old.room }
+        ensures state { self.new.state ≡ traced_all (C.clauses clauses.now) (reverse (take count (T.entries trail.now))) self.old.state }
+        ensures room { self.new.room ≡ self.old.room }
+    {
+        for made in 0..count {
+            let entry = trail.at(count - 1 - made);
+            self.trace(clauses, entry);
+        }
+    }
+
+    /// Resolves with the reason of the last of the first entries of a trail, as many as this, and traces those before it.
+    pub fn trace_from<T: TrailView, C: ClauseView>(&mut self, trail: &T, clauses: &C, count: usize)
+        requires entries { EntriesWithin self.old.room (T.entries trail.now) }
+        requires within { ClausesWithin self.old.room (C.clauses clauses.now) }
+        requires count { count ≤ length (T.entries trail.now) }
+        requires lit_room { count + length self.old.state.lits ≤ self.old.room }
+        requires hint_room { count + length self.old.state.hints ≤ self.old.room }
+        ensures state { self.new.state ≡ traced_from (C.clauses clauses.now) (reverse (take count (T.entries trail.now))) self.old.state }
+        ensures room { self.new.room ≡ self.old.room }
+    {
+        if count == 0 {
+            return;
+        }
+        match trail.at(count - 1).reason {
+            None => {}
+            Some(reason) => {
+                self.resolve(clauses, reason);
+                self.trace_all(trail, clauses, count - 1);
+            }
+        }
+    }
+}
+
+/// Marks the entries of a level.
+fn mark_level<T: TrailView>(here: &mut Flags, trail: &T, level: u32)
+    requires { All (λ e. var_of e.lit < length here.old) (T.entries trail.now) }
+    ensures marks { here.new ≡ here_all level (T.entries trail.now) here.old }
+    ensures len { length here.new ≡ length here.old }
+{
+    for place in 0..trail.len() {
+        let entry = trail.at(place);
+        if entry.level == level {
+            here.insert(entry.lit.var().number() as usize);
+        }
+    }
+}

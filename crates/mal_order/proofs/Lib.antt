@@ -1,0 +1,3 @@
+mod CountedLemmas
+mod FrontLemmas
+mod FreeLemmas
