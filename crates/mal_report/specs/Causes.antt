@@ -1,14 +1,13 @@
 use Rattle.std.specs.Prelude.{ℕ, List, [], ◌∷◌, codes}
-use Rattle.mal_base.specs.declared.answer.Answer.{Answer}
-use Rattle.mal_base.specs.declared.answer.Answer.TheVariants as answer
 use Rattle.mal_report.specs.declared.replies.Cause.{Cause}
 use Rattle.mal_report.specs.declared.replies.Cause.TheVariants as cause
 use Rattle.spec_text.specs.Numbers.{decimal_word}
+use Rattle.spec_report.specs.Replies.{Told, AllSpent, AllStarved}
 
--- the answer that has this cause
-abbrev pub answer_of : Cause → Answer
-answer_of (cause.Spent n) = answer.Spent n
-answer_of cause.Starved = answer.OutOfStarts
+-- what a reply of this cause tells
+abbrev pub told_of : Cause → Told
+told_of (cause.Spent n) = AllSpent n
+told_of cause.Starved = AllStarved
 
 -- the words of the line of a cause
 abbrev pub cause_words : Cause → List (List ℕ)

@@ -3,4 +3,7 @@
 
 mod replies;
 
-pub use replies::{Cause, reply, satisfiable, unknown};
+pub use replies::{Cause, satisfiable, unknown, unsatisfiable};
+
+#[cfg(test)]
+mod tests;

@@ -1,15 +1,16 @@
 //! Writing replies.
 
-ghost use Rattle.std.specs.Prelude.{◌≡◌, ◌≤◌, [], ◌∷◌, ◌++◌, codes, length, IfOk, OnOk};
+ghost use Rattle.std.specs.Prelude.{◌≡◌, ◌<◌, ◌≤◌, [], ◌∷◌, ◌++◌, codes, length, map, slice_get, Some, IfOk, OnOk};
+ghost use Rattle.mal_base.specs.Held.{Line};
 ghost use Rattle.mal_base.specs.Literals.{literal};
-ghost use Rattle.mal_base.specs.declared.answer.Answer.TheVariants.{Satisfied};
-ghost use Rattle.spec_text.specs.Lines.{line_of};
+ghost use Rattle.spec_text.specs.Lines.{line_of, text_of};
 ghost use Rattle.spec_text.specs.Numbers.{decimal_word, literal_word};
-ghost use Rattle.spec_report.specs.Replies.{model_words, reply_text};
-ghost use Rattle.mal_report.specs.Causes.{answer_of, cause_words};
+ghost use Rattle.spec_report.specs.Replies.{Model, Proof, model_words, proof_row, reply_text};
+ghost use Rattle.mal_report.specs.Causes.{told_of, cause_words};
 
 use itoa::Buffer;
-use mal_base::{Answer, Name};
+use mal_base::{Lines, Lit, Name};
+use mal_lrat::{put_added, put_lits};
 use mal_text::{end_line, put_line, put_word};
 use std::alloc::{AllocError, Global};
 
@@ -19,23 +20,6 @@ use std::alloc::{AllocError, Global};
 pub enum Cause {
     Spent(u32),
     Starved,
-}
-
-/// The reply to a job's revision, numbered from 1, whose answer is this one.
-pub fn reply(
-    alloc: Global,
-    tenant: &Name,
-    job: &Name,
-    r: u32,
-    answer: &Answer,
-) -> Result<Vec<u8>, AllocError>
-    ensures { IfOk result (λ v. v.items ≡ reply_text (record { tenant = tenant.now; job = job.now }) r answer.now) }
-{
-    match answer {
-        Answer::Satisfied(model) => satisfiable(alloc, tenant, job, r, model.as_slice()),
-        Answer::Spent(slices) => unknown(alloc, tenant, job, r, Cause::Spent(*slices)),
-        Answer::OutOfStarts => unknown(alloc, tenant, job, r, Cause::Starved),
-    }
 }
 
 /// The reply to a job's revision, numbered from 1, that has this model: the values of variable 1 and the next ones, at
@@ -49,12 +33,33 @@ pub fn satisfiable(
     model: &[bool],
 ) -> Result<Vec<u8>, AllocError>
     requires { length model.now ≤ 65536 }
-    ensures { IfOk result (λ v. v.items ≡ reply_text (record { tenant = tenant.now; job = job.now }) r (Satisfied model.now)) }
+    ensures { IfOk result (λ v. v.items ≡ reply_text tenant.now job.now r (Model model.now)) }
 {
     let mut out = Vec::new(alloc);
     put_head(&mut out, tenant, job, r)?;
     put_line(&mut out, b"s", &[b"SATISFIABLE"])?;
     put_model(&mut out, model)?;
+    Ok(out)
+}
+
+/// The reply to a job's revision, numbered from 1, whose clauses no assignment satisfies where the assumptions hold: the
+/// assumptions that fail, and the lines of the proof.
+#[tactic(auto, unfolding(spec_report::specs::Replies::reply_text))]
+pub fn unsatisfiable(
+    alloc: Global,
+    tenant: &Name,
+    job: &Name,
+    r: u32,
+    failed: &[Lit],
+    lines: &Lines,
+) -> Result<Vec<u8>, AllocError>
+    ensures { IfOk result (λ v. v.items ≡ reply_text tenant.now job.now r (Proof failed.now lines.now.lines)) }
+{
+    let mut out = Vec::new(alloc);
+    put_head(&mut out, tenant, job, r)?;
+    put_line(&mut out, b"s", &[b"UNSATISFIABLE"])?;
+    put_failed(&mut out, failed)?;
+    put_proof(&mut out, lines)?;
     Ok(out)
 }
 
@@ -67,7 +72,7 @@ pub fn unknown(
     r: u32,
     cause: Cause,
 ) -> Result<Vec<u8>, AllocError>
-    ensures { IfOk result (λ v. v.items ≡ reply_text (record { tenant = tenant.now; job = job.now }) r (answer_of cause)) }
+    ensures { IfOk result (λ v. v.items ≡ reply_text tenant.now job.now r (told_of cause)) }
 {
     let mut out = Vec::new(alloc);
     put_head(&mut out, tenant, job, r)?;
@@ -132,44 +137,32 @@ fn put_literal(out: &mut Vec<u8>, number: u32, value: bool) -> Result<(), AllocE
     Ok(())
 }
 
-#[cfg(test)]
-mod tests {
-    use super::*;
-    use mal_base::Values;
-    use std::test::Fail;
+/// Writes the line of the assumptions that fail.
+fn put_failed(out: &mut Vec<u8>, failed: &[Lit]) -> Result<(), AllocError>
+    ensures { OnOk result (out.new.items ≡ out.old.items ++ line_of (codes "k" ∷ (map literal_word failed.now ++ codes "0" ∷ []))) }
+{
+    out.push(b'k')?;
+    put_lits(out, failed)?;
+    end_line(out)?;
+    Ok(())
+}
 
-    #[test]
-    fn a_model_is_written_by_variable(rt: HostRuntime) -> Result<(), Fail> {
-        let tenant = Name::of(rt.alloc(), b"a")?.ok_or("no name")?;
-        let job = Name::of(rt.alloc(), b"p")?.ok_or("no name")?;
-        let text = satisfiable(rt.alloc(), &tenant, &job, 2, &[false, true, true])?;
-        assert_eq!(rt;
-            text.as_slice(),
-            b"r a p 2\ns SATISFIABLE\nv -1 2 3 0\n".as_slice()
-        );
-        let answer = Answer::Satisfied(Values::of(Vec::new(rt.alloc())));
-        let text = reply(rt.alloc(), &tenant, &job, 1, &answer)?;
-        assert_eq!(rt;
-            text.as_slice(),
-            b"r a p 1\ns SATISFIABLE\nv 0\n".as_slice()
-        );
-        Ok(())
+/// Writes the lines of a proof.
+fn put_proof(out: &mut Vec<u8>, lines: &Lines) -> Result<(), AllocError>
+    ensures { OnOk result (out.new.items ≡ out.old.items ++ text_of (map proof_row lines.now.lines)) }
+{
+    for n in 0..lines.count() {
+        put_row(out, lines, n)?;
     }
+    Ok(())
+}
 
-    #[test]
-    fn a_cause_is_told(rt: HostRuntime) -> Result<(), Fail> {
-        let tenant = Name::of(rt.alloc(), b"a")?.ok_or("no name")?;
-        let job = Name::of(rt.alloc(), b"p")?.ok_or("no name")?;
-        let text = unknown(rt.alloc(), &tenant, &job, 1, Cause::Spent(4))?;
-        assert_eq!(rt;
-            text.as_slice(),
-            b"r a p 1\ns UNKNOWN\nu spent 4\n".as_slice()
-        );
-        let text = reply(rt.alloc(), &tenant, &job, 1, &Answer::OutOfStarts)?;
-        assert_eq!(rt;
-            text.as_slice(),
-            b"r a p 1\ns UNKNOWN\nu starved 3\n".as_slice()
-        );
-        Ok(())
-    }
+/// Writes a line of a proof, the lines counted from 0.
+fn put_row(out: &mut Vec<u8>, lines: &Lines, n: usize) -> Result<(), AllocError>
+    requires { n < length lines.now.lines }
+    ensures { OnOk result ((line : Line) → slice_get lines.now.lines n ≡ Some line → out.new.items ≡ out.old.items ++ line_of (proof_row line)) }
+{
+    out.extend_from_slice(b"l ")?;
+    put_added(out, lines.id(n), lines.lits(n), lines.hints(n))?;
+    Ok(())
 }

@@ -6,4 +6,4 @@ use Rattle.spec_report.specs.Examples.{ReplyExamples}
 
 pub reply_examples : ReplyExamples
 unfolding digits reply_text
-reply_examples = record { no_variables = refl; two_variables = refl; spent = refl; starved = refl }
+reply_examples = record { no_variables = refl; two_variables = refl; refuted = refl; refuted_under = refl; spent = refl; starved = refl }

@@ -1,16 +1,16 @@
 -- What small answers are written as.
-use Rattle.std.specs.Prelude.{◌≡◌, false, true, [], ◌∷◌, codes}
-use Rattle.mal_base.specs.declared.answer.Answer.TheVariants.{Satisfied, Spent, OutOfStarts}
-use Rattle.spec_job.specs.Titled.{Key}
-use Rattle.spec_report.specs.Replies.{reply_text}
+use Rattle.std.specs.Prelude.{◌≡◌, ℕ, false, true, List, [], ◌∷◌, codes}
+use Rattle.spec_report.specs.Replies.{Told, Model, Proof, AllSpent, AllStarved, reply_text}
 
--- the job p of the tenant a
-abbrev pub small_job : Key
-small_job = record { tenant = codes "a"; job = codes "p" }
+-- the text of a reply to a revision of the job p of the tenant a
+abbrev pub reply_to : ℕ → Told → List ℕ
+reply_to r told = reply_text (codes "a") (codes "p") r told
 
--- the replies to its first revision
+-- small replies
 pub record ReplyExamples : Type 0 where
-  pub no_variables : reply_text small_job 1 (Satisfied []) ≡ codes "r a p 1\ns SATISFIABLE\nv 0\n"
-  pub two_variables : reply_text small_job 1 (Satisfied (false ∷ true ∷ [])) ≡ codes "r a p 1\ns SATISFIABLE\nv -1 2 0\n"
-  pub spent : reply_text small_job 1 (Spent 4) ≡ codes "r a p 1\ns UNKNOWN\nu spent 4\n"
-  pub starved : reply_text small_job 1 OutOfStarts ≡ codes "r a p 1\ns UNKNOWN\nu starved 3\n"
+  pub no_variables : reply_to 1 (Model []) ≡ codes "r a p 1\ns SATISFIABLE\nv 0\n"
+  pub two_variables : reply_to 1 (Model (false ∷ true ∷ [])) ≡ codes "r a p 1\ns SATISFIABLE\nv -1 2 0\n"
+  pub refuted : reply_to 1 (Proof [] (record { id = 5; lits = 2 ∷ []; hints = 1 ∷ 2 ∷ [] } ∷ record { id = 6; lits = []; hints = 5 ∷ 3 ∷ 4 ∷ [] } ∷ [])) ≡ codes "r a p 1\ns UNSATISFIABLE\nk 0\nl 5 1 0 1 2 0\nl 6 0 5 3 4 0\n"
+  pub refuted_under : reply_to 2 (Proof (2 ∷ 4 ∷ []) (record { id = 2; lits = 3 ∷ 5 ∷ []; hints = 1 ∷ [] } ∷ [])) ≡ codes "r a p 2\ns UNSATISFIABLE\nk 1 2 0\nl 2 -1 -2 0 1 0\n"
+  pub spent : reply_to 1 (AllSpent 4) ≡ codes "r a p 1\ns UNKNOWN\nu spent 4\n"
+  pub starved : reply_to 1 AllStarved ≡ codes "r a p 1\ns UNKNOWN\nu starved 3\n"

@@ -1,0 +1,5 @@
+pub mod Keeping
+pub mod Lending
+pub mod Marking
+pub mod Trimming
+pub mod Placing

@@ -1,0 +1,68 @@
+//! Lines of a log, lent.
+
+ghost use Rattle.std.specs.Prelude.{◌≡◌, ◌++◌, ◌∷◌, [], OnOk, IfOk};
+ghost use Rattle.spec_proof.specs.Log.{AreApart};
+ghost use Rattle.spec_proof.specs.Trimmed.{by_id, ids_of};
+
+use mal_base::{ClauseId, Lines, Lit};
+use std::alloc::{AllocError, Global};
+use std::marker::Model;
+
+/// A line that stands in a log. Contracts see the line.
+#[derive(Drop)]
+pub struct LentLine<'a> {
+    pub id: ClauseId,
+    pub lits: &'a [Lit],
+    pub hints: &'a [ClauseId],
+}
+
+impl<'a> Model for LentLine<'a> {
+    ghost use Rattle.mal_base.specs.Held.{Line};
+
+    ghost Value = { Line };
+
+    ghost view = { λ l. record { id = l.id; lits = l.lits.now; hints = l.hints.now } };
+}
+
+/// Puts lines behind others, lent.
+pub fn lend_all<'a>(all: &mut Vec<LentLine<'a>>, lines: &'a Lines) -> Result<(), AllocError>
+    ensures { OnOk result (all.new.items ≡ all.old.items ++ lines.now.lines) }
+{
+    for n in 0..lines.count() {
+        all.push(LentLine {
+            id: lines.id(n),
+            lits: lines.lits(n),
+            hints: lines.hints(n),
+        })?;
+    }
+    Ok(())
+}
+
+/// Sorts lines by rising number.
+pub fn sort(lines: &mut Vec<LentLine<'_>>)
+    requires { AreApart lines.old.items }
+    ensures { lines.new.items ≡ by_id lines.old.items }
+{
+    lines.sort_unstable_by_key(|line| line.id);
+}
+
+/// The numbers of lines.
+pub fn ids_of(alloc: Global, lines: &[LentLine<'_>]) -> Result<Vec<ClauseId>, AllocError>
+    ensures { IfOk result (λ ids. ids.items ≡ ids_of lines.now) }
+{
+    lines.iter().map(|line| line.id).collect(alloc)
+}
+
+/// Copies a line behind others.
+pub fn push(
+    lines: &mut Lines,
+    id: ClauseId,
+    lits: &[Lit],
+    hints: &[ClauseId],
+) -> Result<(), AllocError>
+    ensures { OnOk result (lines.new.lines ≡ lines.old.lines ++ record { id = id; lits = lits.now; hints = hints.now } ∷ []) }
+{
+    lines.reserve(1, lits.len(), hints.len())?;
+    lines.push_reserved(id, lits, hints);
+    Ok(())
+}

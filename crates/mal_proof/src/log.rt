@@ -1,0 +1,174 @@
+//! The log.
+
+ghost use Rattle.std.specs.Prelude.{◌≡◌, ◌≢◌, ◌+◌, ◌<◌, ◌≤◌, [], ◌∷◌, ◌++◌, length, slice_get, Some, All, IfOk, OnOk, OnErr};
+ghost use Rattle.mal_base.specs.Held.{Line};
+ghost use Rattle.spec_proof.specs.Log.{IsAbove, IsOrderly};
+ghost use Rattle.spec_proof.specs.Trimmed.{IsTrimmed, reached};
+
+use crate::lent::{LentLine, lend_all, sort};
+use crate::trim::trimmed;
+use mal_base::{ClauseId, Lines, Lit};
+use std::alloc::{AllocError, Global};
+use std::marker::Model;
+use std::mem;
+
+/// The lines that a chunk takes at least.
+const LEAST_LINES: usize = 64;
+
+/// The literals, and the hints, that a chunk takes at least.
+const LEAST_NUMBERS: usize = 1_024;
+
+/// The derived lines of a job in the order in which they were entered. They stand in chunks, and what stands never moves.
+/// Contracts see the lines, and for how many more lines and numbers, which are literals and hints, there is room; the lines
+/// have the numbers of derived clauses, each once and above all its hints.
+#[derive(Drop)]
+pub struct Log {
+    full: Vec<Lines>,
+    last: Lines,
+    count: usize,
+    room: usize,
+    number_room: usize,
+}
+
+impl Model for Log {
+    ghost use Rattle.mal_proof.specs.Logged.{Logged, lines_in, IsKept};
+
+    ghost Value = { Logged };
+
+    ghost view = { λ l. record { lines = lines_in l.full.items l.last; room = l.room; number_room = l.number_room } };
+
+    ghost invariant = { λ l. IsKept l.full.items l.last l.count l.room l.number_room };
+}
+
+impl Log {
+    /// No lines. Takes no memory.
+    pub fn new(alloc: Global) -> Log
+        ensures { result ≡ record { lines = []; room = 0; number_room = 0 } }
+    {
+        Log {
+            full: Vec::new(alloc),
+            last: Lines::new(alloc),
+            count: 0,
+            room: 0,
+            number_room: 0,
+        }
+    }
+
+    /// Makes room for so many more lines with so many literals and hints. Where there is not enough, a new chunk is begun that
+    /// has room for twice as many, and for some at least. After want of memory the log is as before.
+    pub fn reserve(&mut self, lines: usize, numbers: usize) -> Result<(), AllocError>
+        ensures lines { self.new.lines ≡ self.old.lines }
+        ensures room { OnOk result (lines ≤ self.new.room) }
+        ensures number_room { OnOk result (numbers ≤ self.new.number_room) }
+        ensures err { OnErr result (self.new ≡ self.old) }
+    {
+        if lines <= self.room && numbers <= self.number_room {
+            return Ok(());
+        }
+        let room = lines.saturating_mul(2).max(LEAST_LINES);
+        let number_room = numbers.saturating_mul(2).max(LEAST_NUMBERS);
+        if self.count.checked_add(room).is_none() {
+            return Err(AllocError);
+        }
+        let mut fresh = Lines::new(*self.full.allocator());
+        fresh.reserve(room, number_room, number_room)?;
+        self.full.reserve(1)?;
+        self.full.push_reserved(mem::replace(&mut self.last, fresh));
+        self.room = room;
+        self.number_room = number_room;
+        Ok(())
+    }
+
+    /// Puts a line behind the others, for which there is room. It has the number of a derived clause that is not in the log
+    /// and is above all its hints. Takes no memory.
+    pub fn append_reserved(&mut self, id: ClauseId, lits: &[Lit], hints: &[ClauseId])
+        requires room { 1 ≤ self.old.room }
+        requires number_room { length lits.now + length hints.now ≤ self.old.number_room }
+        requires fresh { All (λ other. other.id ≢ id) self.old.lines }
+        requires above { IsAbove (record { id = id; lits = lits.now; hints = hints.now }) }
+        ensures lines { self.new.lines ≡ self.old.lines ++ record { id = id; lits = lits.now; hints = hints.now } ∷ [] }
+        ensures less { self.new.room + 1 ≡ self.old.room }
+        ensures less_numbers { self.new.number_room + (length lits.now + length hints.now) ≡ self.old.number_room }
+    {
+        self.last.push_reserved(id, lits, hints);
+        self.count += 1;
+        self.room -= 1;
+        self.number_room -= lits.len() + hints.len();
+    }
+
+    /// The number of lines.
+    pub fn count(&self) -> usize
+        ensures value { result ≡ length self.now.lines }
+        ensures orderly { IsOrderly self.now.lines }
+    {
+        self.count
+    }
+
+    /// The number of the clause of a line, the lines counted from 0.
+    pub fn id(&self, n: usize) -> ClauseId
+        requires { n < length self.now.lines }
+        ensures { (line : Line) → slice_get self.now.lines n ≡ Some line → result ≡ line.id }
+    {
+        let (chunk, place) = self.place(n);
+        chunk.id(place)
+    }
+
+    /// The literals of a line, the lines counted from 0.
+    pub fn lits(&self, n: usize) -> &[Lit]
+        requires { n < length self.now.lines }
+        ensures { (line : Line) → slice_get self.now.lines n ≡ Some line → result.now ≡ line.lits }
+    {
+        let (chunk, place) = self.place(n);
+        chunk.lits(place)
+    }
+
+    /// The hints of a line, the lines counted from 0.
+    pub fn hints(&self, n: usize) -> &[ClauseId]
+        requires { n < length self.now.lines }
+        ensures { (line : Line) → slice_get self.now.lines n ≡ Some line → result.now ≡ line.hints }
+    {
+        let (chunk, place) = self.place(n);
+        chunk.hints(place)
+    }
+
+    /// The chunk of a line and the line's place there.
+    fn place(&self, n: usize) -> (&Lines, usize)
+        requires { n < length self.now.lines }
+        ensures within { result.1 < length result.0.now.lines }
+        ensures same { slice_get result.0.now.lines result.1 ≡ slice_get self.now.lines n }
+    {
+        let mut rest = n;
+        for chunk in &self.full {
+            let count = chunk.count();
+            if rest < count {
+                return (chunk, rest);
+            }
+            rest -= count;
+        }
+        (&self.last, rest)
+    }
+
+    /// The lines that are reached backwards from a goal over hints, by rising number. Where no line has the goal's number
+    /// there are none.
+    pub fn trim(&self, goal: ClauseId) -> Result<Lines, AllocError>
+        ensures reached { IfOk result (λ out. out.lines ≡ reached goal self.now.lines) }
+        ensures trimmed { IfOk result (λ out. IsTrimmed out.lines) }
+    {
+        let mut lines = self.lend()?;
+        sort(&mut lines);
+        trimmed(*self.full.allocator(), lines.as_slice(), goal)
+    }
+
+    /// All lines, lent.
+    fn lend(&self) -> Result<Vec<LentLine<'_>>, AllocError>
+        ensures lines { IfOk result (λ lines. lines.items ≡ self.now.lines) }
+        ensures orderly { IsOrderly self.now.lines }
+    {
+        let mut lines = Vec::with_capacity(*self.full.allocator(), self.count)?;
+        for chunk in &self.full {
+            lend_all(&mut lines, chunk)?;
+        }
+        lend_all(&mut lines, &self.last)?;
+        Ok(lines)
+    }
+}

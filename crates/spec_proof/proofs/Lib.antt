@@ -1,0 +1,10 @@
+pub mod Among
+pub mod Deriving
+pub mod LogLemmas
+pub mod Growing
+pub mod Reaching
+pub mod OrderLemmas
+pub mod Staying
+pub mod Renumbering
+pub mod Refuting
+pub mod Examples

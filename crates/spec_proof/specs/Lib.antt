@@ -1,0 +1,4 @@
+pub mod Log
+pub mod Trimmed
+pub mod Laws
+pub mod Examples
