@@ -1,5 +1,6 @@
 use Rattle.std.proofs.Common.{◌≡◌, ℕ, zero, suc, ◌+◌, ◌-◌, ◌*◌, ◌/◌, ◌<◌, ◌≤◌, Bool, true, false, ◌&&◌, cond, nat_le, List, [], ◌∷◌, ◌++◌, length, take, drop, replicate, get_or, Option, Some, None, refl, sym, ap, ◌∙◌, arith, append_assoc}
 use Rattle.std.specs.List.{list_all, find}
+use Rattle.std.proofs.lemmas.List.{length-append}
 use Rattle.std.specs.Prelude.{filter, nat_lt, slice_set, ◌^◌}
 use Rattle.std.proofs.lemmas.Bool.{false≢true}
 use Rattle.std.proofs.lemmas.Bool.Decides.{nat_tests}
@@ -103,6 +104,16 @@ order_more n m (v ∷ vs) h w =
 -- the decision order of a node that gets variables
 pub order-loaded : (index variables n m : ℕ) (order : List ℕ) → index ≤ 63 → variables + n ≤ m → is_order_of variables order ≡ true → is_order_of m (order ++ new_order index variables n) ≡ true
 order-loaded index variables n m order h l w = rw (list_all-append, order_more variables m order (omega arith) w) (order_of-new index variables n m h l)
+
+long-counted : (n first : ℕ) → length (counted first n) ≡ n
+long-counted zero first = refl
+long-counted (suc n) first = omega (arith, long-counted n (first + 1))
+
+-- as many variables are new as were added
+pub order-long : (index variables n : ℕ) (order : List ℕ) → index ≤ 63 → length (order ++ new_order index variables n) ≡ length order + n
+order-long index variables n order h =
+    let t : index * n / 64 ≤ n = turn-le index n h in
+    rw (new_order-runs index variables n h, length-append, length-append, long-counted, long-counted) (omega arith)
 
 all-filter : (q p : Held → Bool) (cs : List Held) → list_all q cs ≡ true → list_all q (filter p cs) ≡ true
 all-filter q p [] w = refl

@@ -1,5 +1,9 @@
-pub mod LubyLemmas
 pub mod OriginalLemmas
 pub mod FillLemmas
 pub mod NeedLemmas
 pub mod StepLemmas
+pub mod ImageLemmas
+pub mod DeriveLemmas
+pub mod BumpLemmas
+pub mod SliceLemmas
+pub mod LineLemmas

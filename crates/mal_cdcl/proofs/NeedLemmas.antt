@@ -1,9 +1,10 @@
-use Rattle.std.proofs.Common.{◌≡◌, ℕ, zero, suc, ◌+◌, ◌<◌, ◌≤◌, List, [], ◌∷◌, length, drop, get_or, refl, ap, arith, Bor}
+use Rattle.std.proofs.Common.{◌≡◌, ℕ, zero, suc, ◌+◌, ◌<◌, ◌≤◌, List, [], ◌∷◌, length, drop, get_or, refl, ap, ◌∙◌, arith, Bor}
 use Rattle.std.specs.Prelude.{max}
 use Rattle.mal_revision.specs.Posted.{Posted}
 use Rattle.spec_node.specs.State.{Node}
 use Rattle.spec_node.specs.Load.{loaded}
 use Rattle.mal_cdcl.specs.Within.{Stocked}
+use Rattle.mal_cdcl.specs.Sliced.{HasSliceRoom}
 use Rattle.mal_cdcl.specs.Ready.{posted, readied, AreNew, greatest, most_assumptions, HasRoomFor, IsSpared}
 
 -- the loads that are left from a place on begin with the one that stands there
@@ -37,17 +38,23 @@ room-head l ls n h =
       assumptions = omega (arith, most-least ls (max 0 (length l.0.assumptions)), h.assumptions);
       variables = omega (arith, g, h.variables);
       clauses = omega (arith, h.clauses);
-      literals = omega (arith, h.literals);
+      literals = omega (arith, g, h.literals);
+      none = h.none;
+      lines = h.lines;
+      line_literals = omega (arith, g, h.line_literals);
+      hints = omega (arith, g, h.hints);
     }
 
--- what is left to do of some loads: the node is ready after it, its numbers are new, and there is room for it
-pub record IsReadying (left all : List (Posted × ℕ)) (start : Node) (now : Stocked) : Type 0 where
+-- what is left to do of some loads: the node is ready after it, its numbers are new, and there is room for it, in a scratch
+-- of this bound too
+pub record IsReadying (left all : List (Posted × ℕ)) (start : Node) (bound : ℕ) (now : Stocked) : Type 0 where
   pub done : readied left now.state ≡ readied all start
   pub new : AreNew left now.state
   pub room : HasRoomFor left now
+  pub fitted : greatest left now.state.variables < bound
 
-pub readying-next : (l : Posted × ℕ) (ls all : List (Posted × ℕ)) (start : Node) (now next : Stocked) → IsReadying (l ∷ ls) all start now → next.state ≡ loaded l.0 l.1 now.state → IsSpared l.0 now next → IsReadying ls all start next
-readying-next l ls all start now next h is s =
+pub readying-next : (l : Posted × ℕ) (ls all : List (Posted × ℕ)) (start : Node) (bound : ℕ) (now next : Stocked) → IsReadying (l ∷ ls) all start bound now → next.state ≡ loaded l.0 l.1 now.state → IsSpared l.0 now next → IsReadying ls all start bound next
+readying-next l ls all start bound now next h is s =
     let v : next.state.variables ≡ max now.state.variables l.0.variables = ap (λ (n : Node). n.variables) is in
     record {
       done = rw is h.done;
@@ -59,6 +66,27 @@ readying-next l ls all start now next h is s =
         assumptions = omega (arith, most-more ls 0 (max 0 (length l.0.assumptions)) (omega arith), h.room.assumptions, s.assumptions);
         variables = rw v (omega (arith, h.room.variables, s.variables));
         clauses = omega (arith, h.room.clauses, s.clauses);
-        literals = omega (arith, h.room.literals, s.literals);
+        literals = rw v (omega (arith, h.room.literals, s.literals));
+        none = s.derived ∙ h.room.none;
+        lines = omega (arith, h.room.lines, s.lines);
+        line_literals = rw v (omega (arith, h.room.line_literals, s.line_literals));
+        hints = rw v (omega (arith, h.room.hints, s.hints));
+      };
+      fitted = rw v h.fitted;
+    }
+
+-- where no load is left there is room for a slice
+pub readying-ends : (all : List (Posted × ℕ)) (start : Node) (bound : ℕ) (now : Stocked) → IsReadying [] all start bound now → HasSliceRoom now
+readying-ends all start bound now h =
+    record {
+      none = h.room.none;
+      room = record {
+        few = omega arith;
+        variables = h.room.variables;
+        clauses = h.room.clauses;
+        literals = omega (arith, h.room.literals);
+        lines = h.room.lines;
+        line_literals = omega (arith, h.room.line_literals);
+        hints = omega (arith, h.room.hints);
       };
     }

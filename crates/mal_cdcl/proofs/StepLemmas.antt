@@ -1,13 +1,10 @@
-use Rattle.std.proofs.Common.{◌≡◌, ℕ, zero, suc, ◌+◌, ◌*◌, ◌/◌, ◌≤◌, Bool, true, false, not, ◌&&◌, nat_le, List, Some, is_some, refl, arith}
+use Rattle.std.proofs.Common.{◌≡◌, ℕ, ◌+◌, ◌*◌, ◌/◌, ◌≤◌, Bool, true, false, not, ◌&&◌, nat_le, List, Some, refl, arith}
 use Rattle.std.proofs.lemmas.Bool.{false≢true}
 use Rattle.std.proofs.lemmas.Bool.Decides.{nat_tests}
 use Rattle.mal_base.specs.Literals.{literal, var_of}
 use Rattle.mal_base.specs.Formulas.{is_within}
 use Rattle.mal_base.specs.declared.trail_entry.TrailEntry.{TrailEntry}
-use Rattle.spec_node.specs.State.{Node}
-use Rattle.spec_node.specs.Value.{is_true, has_value}
-use Rattle.spec_node.specs.Step.{step, first_open, first_free}
-use Rattle.spec_node.specs.Slice.{steps}
+use Rattle.spec_node.specs.Value.{is_true, has_value, first_open, first_free}
 use Rattle.mal_cdcl.specs.Within.{is_order_of}
 use Rattle.mal_cdcl.proofs.FillLemmas.{and_true, found_passes, found_holds}
 
@@ -41,12 +38,3 @@ var_literal v false = halved v
   where
     halved : (v : ℕ) → (2 * v + 1) / 2 ≡ v
     halved v = omega arith
-
--- a step more, where no verdict stands
-pub steps-next : (k : ℕ) (n : Node) → is_some n.verdict ≡ false → steps (suc k) n ≡ steps k (step n)
-steps-next k n h = rw h refl
-
--- a verdict ends the steps
-pub steps-ended : (k : ℕ) (n : Node) → is_some n.verdict ≡ true → steps k n ≡ n
-steps-ended zero n h = refl
-steps-ended (suc k) n h = rw h refl

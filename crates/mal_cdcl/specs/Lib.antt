@@ -1,2 +1,4 @@
 pub mod Within
 pub mod Ready
+pub mod Rising
+pub mod Sliced

@@ -1,10 +1,11 @@
-use Rattle.std.specs.Prelude.{ℕ, ◌+◌, ◌≤◌, max, List, [], ◌∷◌, length, map}
+use Rattle.std.specs.Prelude.{◌≡◌, ℕ, ◌+◌, ◌≤◌, max, List, [], ◌∷◌, length, map}
 use Rattle.std.specs.Borrow.{Bor}
 use Rattle.mal_base.specs.Formulas.{literals_of}
 use Rattle.mal_revision.specs.Posted.{Posted}
 use Rattle.spec_node.specs.State.{Node}
 use Rattle.spec_node.specs.Load.{loaded, added}
 use Rattle.spec_node.specs.Laws.{AreNewNumbers}
+use Rattle.spec_search.specs.Slice.{most_numbers}
 use Rattle.mal_cdcl.specs.Within.{Stocked}
 
 -- revisions, each with the number of its first clause, as they are lent
@@ -41,17 +42,21 @@ abbrev pub most_assumptions : List (Posted × ℕ) → ℕ → ℕ
 most_assumptions [] most = most
 most_assumptions (l ∷ ls) most = most_assumptions ls (max most (length l.0.assumptions))
 
--- a node has room for these loads
+-- a node has room for these loads and a slice after them, and has no lines
 pub record HasRoomFor (loads : List (Posted × ℕ)) (n : Stocked) : Type 0 where
   pub trail : greatest loads n.state.variables ≤ n.spare.trail
   pub order : greatest loads n.state.variables ≤ n.spare.order + n.state.variables
   pub phases : greatest loads n.state.variables ≤ n.spare.phases + n.state.variables
   pub assumptions : most_assumptions loads 0 ≤ n.spare.assumptions
   pub variables : greatest loads n.state.variables ≤ n.spare.engine.variables
-  pub clauses : clauses_in loads ≤ n.spare.engine.clauses
-  pub literals : literals_in loads ≤ n.spare.engine.literals
+  pub clauses : clauses_in loads + 1000 ≤ n.spare.engine.clauses
+  pub literals : literals_in loads + most_numbers (greatest loads n.state.variables) ≤ n.spare.engine.literals
+  pub none : n.lines ≡ []
+  pub lines : 1000 ≤ n.spare.lines
+  pub line_literals : most_numbers (greatest loads n.state.variables) ≤ n.spare.line_literals
+  pub hints : most_numbers (greatest loads n.state.variables) ≤ n.spare.hints
 
--- a load uses no more room than it needs
+-- a load uses no more room than it needs, and leaves the lines
 pub record IsSpared (r : Posted) (before after : Stocked) : Type 0 where
   pub trail : before.spare.trail ≤ after.spare.trail
   pub order : before.spare.order ≤ after.spare.order + added r before.state
@@ -60,3 +65,7 @@ pub record IsSpared (r : Posted) (before after : Stocked) : Type 0 where
   pub variables : before.spare.engine.variables ≤ after.spare.engine.variables
   pub clauses : before.spare.engine.clauses ≤ after.spare.engine.clauses + length r.clauses
   pub literals : before.spare.engine.literals ≤ after.spare.engine.literals + literals_of r.clauses
+  pub derived : after.lines ≡ before.lines
+  pub lines : before.spare.lines ≤ after.spare.lines
+  pub line_literals : before.spare.line_literals ≤ after.spare.line_literals
+  pub hints : before.spare.hints ≤ after.spare.hints

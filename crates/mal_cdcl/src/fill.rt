@@ -13,35 +13,6 @@ ghost use Rattle.mal_trail.specs.Rooms.{HasRoom, IsLeft};
 use mal_base::{Clause, ClauseId, Lit, TrailEntry, Var};
 use mal_trail::{Engine, Trail};
 
-/// Appends so many variables from this one on.
-fn push_counted(order: &mut Vec<Var>, first: u32, count: u32)
-    requires some { 1 ≤ first }
-    requires bound { first + count ≤ 65537 }
-    requires room { vec_len order.old + count ≤ vec_capacity order.old }
-    ensures items { order.new.items ≡ order.old.items ++ counted first count }
-    ensures len { vec_len order.new ≡ vec_len order.old + count }
-    ensures capacity { vec_capacity order.new ≡ vec_capacity order.old }
-{
-    for place in 0..count {
-        order.push_reserved(Var::of(first + place));
-    }
-}
-
-/// Appends to the decision order of a node of so many variables so many new ones: in rising order, turned left by the
-/// node's share of a turn.
-pub fn push_order(order: &mut Vec<Var>, index: u32, variables: u32, added: u32)
-    requires index { index ≤ 63 }
-    requires bound { variables + added ≤ 65536 }
-    requires room { vec_len order.old + added ≤ vec_capacity order.old }
-    ensures items { order.new.items ≡ order.old.items ++ new_order index variables added }
-    ensures len { vec_len order.new ≡ vec_len order.old + added }
-    ensures capacity { vec_capacity order.new ≡ vec_capacity order.old }
-{
-    let turn = index * added / 64;
-    push_counted(order, variables + 1 + turn, added - turn);
-    push_counted(order, variables + 1, turn);
-}
-
 /// Appends the phases of so many new variables.
 pub fn push_phases(phases: &mut Vec<bool>, phase: bool, added: u32)
     requires { vec_len phases.old + added ≤ vec_capacity phases.old }

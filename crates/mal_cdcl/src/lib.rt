@@ -1,12 +1,16 @@
 //! A solver node: conflict-driven search over the clauses and assumptions of a job, a slice of steps at a time.
 #![tactic(auto)]
 
+mod copies;
 mod fill;
+mod learning;
 mod needs;
 mod node;
 mod restart;
 
 pub use node::Node;
 
+#[cfg(test)]
+mod core_tests;
 #[cfg(test)]
 mod tests;

@@ -46,7 +46,7 @@ pub fn needs_of(loads: &[(&Revision, u32)], variables: u32) -> Result<Needs, All
 }
 
 /// The sum of two sizes. One that no memory holds is want of memory.
-fn added(one: usize, more: usize) -> Result<usize, AllocError>
+pub fn added(one: usize, more: usize) -> Result<usize, AllocError>
     ensures { IfOk result (λ n. n ≡ one + more) }
 {
     match one.checked_add(more) {

@@ -1,30 +1,41 @@
 //! A solver node.
 
-ghost use Rattle.std.specs.Prelude.{◌≡◌, ℕ, ◌+◌, ◌-◌, ◌^◌, ◌<◌, ◌≤◌, Bool, true, false, length, Some, None, [], ◌∷◌, OnOk, OnErr, vec_capacity};
+ghost use Rattle.std.specs.Prelude.{◌≡◌, ◌+◌, ◌-◌, ◌^◌, ◌<◌, ◌≤◌, length, Some, None, [], ◌∷◌, ◌++◌, OnOk, OnErr, IfOk, MatchOption, vec_capacity};
 ghost use Rattle.mal_base.specs.Trails.{value_on};
 ghost use Rattle.spec_node.specs.State.{fresh};
+ghost use Rattle.spec_node.specs.Value.{first_open, first_free, level_of};
 ghost use Rattle.spec_node.specs.Batch.{propagated};
 ghost use Rattle.spec_node.specs.Cut.{cut};
-ghost use Rattle.spec_node.specs.Step.{step, first_open, first_free, branching, after_case};
-ghost use Rattle.spec_node.specs.Step.Case.{Decides, Restarts};
-ghost use Rattle.spec_node.specs.Slice.{slice};
 ghost use Rattle.spec_node.specs.Load.{loaded};
 ghost use Rattle.spec_node.specs.Laws.{AreNewNumbers};
 ghost use Rattle.spec_node.specs.Model.{model_of};
-ghost use Rattle.mal_cdcl.specs.Ready.{posted, readied, AreNew, HasRoomFor, IsSpared};
+ghost use Rattle.spec_node.specs.Sound.{IsSound};
+ghost use Rattle.spec_learn.specs.Learning.{analysis, derived_id, line_of, learned};
+ghost use Rattle.spec_learn.specs.Refuting.{refuted, core_analysis, core_line, cored};
+ghost use Rattle.spec_learn.specs.CoreLaws.{HasFailed};
+ghost use Rattle.spec_search.specs.Step.{step, branching, case_of, after_case};
+ghost use Rattle.spec_search.specs.Step.Case.{Contradicts, Decides, Restarts};
+ghost use Rattle.spec_search.specs.Slice.{slice, numbers_of, most_numbers};
+ghost use Rattle.mal_cdcl.specs.Ready.{posted, readied, greatest, AreNew, HasRoomFor, IsSpared};
+ghost use Rattle.mal_cdcl.specs.Sliced.{HasSliceRoom, HasStepRoom, HasLowCounts, MayCount, Keeps, IsShown, IsEnded, IsStepped, IsSearched, IsFailing, HasClauseRoom, HasLineRoom, IsLineLess};
+ghost use Rattle.mal_freeze.specs.Imaged.{IsImage};
 
-use crate::{fill, needs, restart};
+use crate::{copies, fill, learning, needs, restart};
 use mal_base::{ClauseId, Lines, Lit, Var, Verdict};
+use mal_freeze::{Image, Parts};
+use mal_learn::Scratch;
+use mal_order::Order;
 use mal_revision::Revision;
-use mal_trail::{Engine, Trail};
+use mal_trail::{Engine, Listed, Trail};
 use std::alloc::{AllocError, Global};
 use std::marker::Model;
+use std::mem;
 
 /// How many steps a slice has.
 const SLICE_STEPS: u32 = 1000;
 
-/// A solver node over an engine of unit propagation: what it holds, and how far its search has come. Contracts see the
-/// record of its state, and what it has room for.
+/// A solver node over an engine of unit propagation: what it holds, how far its search has come, and what its last slice
+/// derived. Contracts see the record of its state, what it has room for, and the lines of that slice.
 #[derive(Drop)]
 pub struct Node<E: Engine> {
     index: u32,
@@ -35,10 +46,11 @@ pub struct Node<E: Engine> {
     conflict: Option<ClauseId>,
     verdict: Option<Verdict>,
     assumptions: Vec<Lit>,
-    order: Vec<Var>,
+    order: Order,
     phases: Vec<bool>,
     trail: Trail,
     engine: E,
+    lines: Lines,
 }
 
 impl<E: Engine> Model for Node<E> {
@@ -59,21 +71,25 @@ impl<E: Engine> Model for Node<E> {
         conflict = n.conflict;
         verdict = n.verdict;
         assumptions = n.assumptions.items;
-        order = n.order.items;
+        order = n.order.list;
         phases = n.phases.items;
         trail = n.trail.entries;
         clauses = E.clauses n.engine;
       };
       spare = record {
         trail = n.trail.room;
-        order = vec_capacity n.order - vec_len n.order;
+        order = n.order.room;
         phases = vec_capacity n.phases - vec_len n.phases;
         assumptions = vec_capacity n.assumptions;
         engine = E.room n.engine;
+        lines = n.lines.room;
+        line_literals = n.lines.lit_room;
+        hints = n.lines.hint_room;
       };
+      lines = n.lines.lines;
     } };
 
-    ghost invariant = { λ n. (IsNode n.index n.variables n.trail.room n.assumptions.items n.order.items n.phases.items (E.clauses n.engine)) × (E.fits n.engine n.trail.entries n.trail.processed) };
+    ghost invariant = { λ n. (IsNode n.index n.variables n.trail.room n.assumptions.items n.order n.phases.items (E.clauses n.engine)) × (E.fits n.engine n.trail.entries n.trail.processed) };
 }
 
 impl<E: Engine> Node<E> {
@@ -91,21 +107,30 @@ impl<E: Engine> Node<E> {
             conflict: None,
             verdict: None,
             assumptions: Vec::new(alloc),
-            order: Vec::new(alloc),
+            order: Order::new(alloc, index),
             phases: Vec::new(alloc),
             trail: Trail::new(alloc),
             engine: E::new(alloc),
+            lines: Lines::new(alloc),
         }
     }
 
-    /// Loads revisions, each with the number of its first clause, one after another. Where memory is wanting the state of
-    /// the node stays as it was.
-    pub fn ready(&mut self, loads: &[(&Revision, u32)]) -> Result<(), AllocError>
-        requires { AreNew (posted loads.now) self.old.state }
+    /// Loads revisions, each with the number of its first clause, one after another, and makes room for a slice in the node
+    /// and in a scratch. Where memory is wanting the state of the node stays as it was. The lines of the last slice are
+    /// taken away.
+    pub fn ready(
+        &mut self,
+        loads: &[(&Revision, u32)],
+        scratch: &mut Scratch,
+    ) -> Result<(), AllocError>
+        requires new { AreNew (posted loads.now) self.old.state }
         ensures loaded { OnOk result (self.new.state ≡ readied (posted loads.now) self.old.state) }
         ensures unchanged { OnErr result (self.new.state ≡ self.old.state) }
+        ensures stocked { OnOk result (HasSliceRoom self.new) }
+        ensures fitted { OnOk result (self.new.state.variables < scratch.new.room) }
+        ensures more { scratch.old.room ≤ scratch.new.room }
     {
-        self.make_room(loads)?;
+        self.make_room(loads, scratch)?;
         for load in loads {
             let (revision, first) = load;
             self.load_reserved(revision, *first);
@@ -113,25 +138,33 @@ impl<E: Engine> Node<E> {
         Ok(())
     }
 
-    /// Runs a slice: 1,000 steps, or those until a verdict stands. Takes no memory.
-    pub fn run(&mut self)
-        requires { self.old.state.round < 2 ^ 31 }
-        ensures { self.new.state ≡ (slice self.old.state).node }
+    /// Runs a slice: 1,000 steps, or those until a verdict stands or the next line would not fit. Takes no memory.
+    pub fn run(&mut self, scratch: &mut Scratch)
+        requires sound { IsSound self.old.state }
+        requires stocked { HasSliceRoom self.old }
+        requires fitted { self.old.state.variables < scratch.old.room }
+        requires counts { HasLowCounts self.old.state }
+        ensures node { self.new.state ≡ (slice self.old.state).node }
+        ensures lines { self.new.lines ≡ (slice self.old.state).lines }
+        ensures room { scratch.new.room ≡ scratch.old.room }
     {
+        let mut used = 0;
         for _made in 0..SLICE_STEPS {
-            if self.verdict.is_some() {
-                return;
+            match self.step(used, scratch) {
+                None => return,
+                Some(now) => used = now,
             }
-            self.step();
         }
     }
 
-    /// The lines that the last slice derived: none, since conflicts wait. Takes no memory.
+    /// Gives the lines that the last slice derived away. Takes no memory.
     pub fn take_lines(&mut self) -> Lines
-        ensures lines { result.lines ≡ [] }
-        ensures same { self.new ≡ self.old }
+        ensures lines { result.lines ≡ self.old.lines }
+        ensures none { self.new.lines ≡ [] }
+        ensures state { self.new.state ≡ self.old.state }
     {
-        Lines::new(*self.order.allocator())
+        let none = Lines::new(*self.phases.allocator());
+        mem::replace(&mut self.lines, none)
     }
 
     /// The verdict, if the search has ended.
@@ -174,19 +207,54 @@ impl<E: Engine> Node<E> {
         self.trail.truth_values(self.variables, values);
     }
 
-    /// Makes room for these loads.
-    fn make_room(&mut self, loads: &[(&Revision, u32)]) -> Result<(), AllocError>
+    /// The node of this image. It goes on as the node of which this is the image.
+    pub fn of_image(alloc: Global, image: &Image) -> Result<Node<E>, AllocError>
+        ensures { IfOk result (λ n. n.state ≡ image.now) }
+    {
+        let parts = image.parts();
+        let trail = image.trail(alloc)?;
+        let engine = copies::engine_of(alloc, parts.variables, parts.clauses.as_slice(), &trail)?;
+        Ok(Node {
+            index: parts.index,
+            variables: parts.variables,
+            serial: parts.serial,
+            since: parts.since,
+            round: parts.round,
+            conflict: parts.conflict,
+            verdict: parts.verdict,
+            assumptions: Vec::from_slice(alloc, parts.assumptions.as_slice())?,
+            order: Order::of_list(alloc, parts.index, parts.order.as_slice())?,
+            phases: Vec::from_slice(alloc, parts.phases.as_slice())?,
+            trail,
+            engine,
+            lines: Lines::new(alloc),
+        })
+    }
+
+    /// Makes room for these loads and a slice after them, in a scratch too, and takes the lines away.
+    fn make_room(
+        &mut self,
+        loads: &[(&Revision, u32)],
+        scratch: &mut Scratch,
+    ) -> Result<(), AllocError>
         ensures room { OnOk result (HasRoomFor (posted loads.now) self.new) }
+        ensures fitted { OnOk result (greatest (posted loads.now) self.old.state.variables < scratch.new.room) }
+        ensures more { scratch.old.room ≤ scratch.new.room }
         ensures state { self.new.state ≡ self.old.state }
     {
+        self.lines.clear();
         let needs = needs::needs_of(loads, self.variables)?;
-        let added = (needs.variables - self.variables) as usize;
+        let added = needs.variables - self.variables;
+        let numbers = most_numbers(needs.variables);
         self.trail.reserve(needs.variables)?;
         self.order.reserve(added)?;
-        self.phases.reserve(added)?;
+        self.phases.reserve(added as usize)?;
         self.assumptions.reserve(needs.assumptions)?;
-        self.engine
-            .reserve(needs.variables, needs.clauses, needs.literals)?;
+        let clauses = needs::added(needs.clauses, SLICE_STEPS as usize)?;
+        let literals = needs::added(needs.literals, numbers)?;
+        self.engine.reserve(needs.variables, clauses, literals)?;
+        self.lines.reserve(SLICE_STEPS as usize, numbers, numbers)?;
+        scratch.fit(needs.variables)?;
         Ok(())
     }
 
@@ -201,7 +269,7 @@ impl<E: Engine> Node<E> {
         let added = variables.saturating_sub(self.variables);
         self.cut(0);
         self.trail.set_processed(0);
-        fill::push_order(&mut self.order, self.index, self.variables, added);
+        self.order.append_reserved(added);
         fill::push_phases(&mut self.phases, self.index % 2 == 1, added);
         fill::replace(&mut self.assumptions, revision.assumptions());
         fill::add_clauses(&mut self.engine, &self.trail, first, revision.clauses());
@@ -214,34 +282,71 @@ impl<E: Engine> Node<E> {
     fn cut(&mut self, level: u32)
         ensures state { self.new.state ≡ cut level self.old.state }
         ensures spare { self.new.spare ≡ self.old.spare }
+        ensures lines { self.new.lines ≡ self.old.lines }
     {
         fill::save(self.phases.as_mut_slice(), self.trail.above(level));
         self.trail.back_to(level);
     }
 
-    /// Makes a step.
-    fn step(&mut self)
-        requires { self.old.state.round < 2 ^ 32 - 1 }
-        ensures { self.new.state ≡ step self.old.state }
+    /// Makes a step of a slice in which so many literals and hints were derived, and tells how many were after it. None
+    /// where the slice is over.
+    fn step(&mut self, used: usize, scratch: &mut Scratch) -> Option<usize>
+        requires sound { IsSound self.old.state }
+        requires room { HasStepRoom 1 used self.old }
+        requires fitted { self.old.state.variables < scratch.old.room }
+        requires counts { MayCount self.old.state }
+        ensures step { MatchOption result (IsEnded used self.old self.new) (λ now. IsStepped used self.old now self.new) }
+        ensures room { scratch.new.room ≡ scratch.old.room }
     {
-        if self.conflict.is_some() {
-            return;
+        if self.verdict.is_some() {
+            return None;
         }
+        match self.conflict {
+            None => self.go_on(used, scratch),
+            Some(id) => self.derive(id, used, scratch),
+        }
+    }
+
+    /// Makes a step where no conflict waits and no verdict stands, in a slice in which so many literals and hints were
+    /// derived, and tells how many were after it. None where the slice is over.
+    fn go_on(&mut self, used: usize, scratch: &mut Scratch) -> Option<usize>
+        requires sound { IsSound self.old.state }
+        requires goes { self.old.state.verdict ≡ None }
+        requires calm { self.old.state.conflict ≡ None }
+        requires room { HasStepRoom 1 used self.old }
+        requires fitted { self.old.state.variables < scratch.old.room }
+        requires counts { MayCount self.old.state }
+        ensures step { MatchOption result (IsEnded used self.old self.new) (λ now. IsStepped used self.old now self.new) }
+        ensures room { scratch.new.room ≡ scratch.old.room }
+    {
+        match self.search() {
+            None => Some(used),
+            Some(assumption) => self.derive_core(assumption, used, scratch),
+        }
+    }
+
+    /// Makes a step where no conflict waits, unless an assumption has failed: then tells which one, and the node stays.
+    fn search(&mut self) -> Option<Lit>
+        requires calm { self.old.state.conflict ≡ None }
+        requires counts { MayCount self.old.state }
+        ensures { MatchOption result (IsSearched (case_of self.old.state) self.old self.new) (λ a. IsFailing (case_of self.old.state) a self.old self.new) }
+    {
         if self.trail.processed() as usize <= self.trail.len() {
             self.propagate();
-            return;
+            return None;
         }
         if restart::is_due(self.since, self.round) {
             self.restart();
-            return;
+            return None;
         }
-        self.branch();
+        self.branch()
     }
 
     /// Handles the next batch.
     fn propagate(&mut self)
         requires { self.old.state.processed ≤ length self.old.state.trail }
-        ensures { self.new.state ≡ propagated self.old.state }
+        ensures state { self.new.state ≡ propagated self.old.state }
+        ensures keeps { Keeps 0 0 self.old self.new }
     {
         self.conflict = self.engine.propagate_one(&mut self.trail);
     }
@@ -249,20 +354,25 @@ impl<E: Engine> Node<E> {
     /// Goes back to level 0, and counts the conflicts anew.
     fn restart(&mut self)
         requires { self.old.state.round < 2 ^ 32 - 1 }
-        ensures { self.new.state ≡ after_case Restarts self.old.state }
+        ensures state { self.new.state ≡ after_case Restarts self.old.state }
+        ensures keeps { Keeps 0 0 self.old self.new }
     {
         self.cut(0);
         self.since = 0;
         self.round += 1;
     }
 
-    /// Assumes the first assumption that is not true, unless it is false. Where all are true, decides or ends.
-    fn branch(&mut self)
+    /// Assumes the first assumption that is not true, unless it is false: then tells which one it is. Where all are true,
+    /// decides or ends.
+    fn branch(&mut self) -> Option<Lit>
         requires { self.old.state.processed ≤ length self.old.state.trail + 1 }
-        ensures { self.new.state ≡ after_case (branching self.old.state) self.old.state }
+        ensures { MatchOption result (IsSearched (branching self.old.state) self.old self.new) (λ a. IsFailing (branching self.old.state) a self.old self.new) }
     {
         match self.first_open() {
-            None => self.decide(),
+            None => {
+                self.decide();
+                None
+            }
             Some(lit) => self.assume(lit),
         }
     }
@@ -278,34 +388,28 @@ impl<E: Engine> Node<E> {
             .find(|l| !trail.is_true(*l))
     }
 
-    /// The first variable of the decision order without a value.
-    fn first_free(&self) -> Option<Var>
-        ensures { result ≡ first_free self.now.state.trail self.now.state.order }
-    {
-        let trail = &self.trail;
-        self.order.iter().copied().find(|v| !trail.has_value(*v))
-    }
-
-    /// Assumes this assumption, which is not true, at a new level, unless it is false.
-    fn assume(&mut self, lit: Lit)
+    /// Assumes this assumption, the first that is not true, at a new level, unless it is false: then gives it back.
+    fn assume(&mut self, lit: Lit) -> Option<Lit>
         requires found { first_open self.old.state.trail self.old.state.assumptions ≡ Some lit }
         requires handled { self.old.state.processed ≤ length self.old.state.trail + 1 }
-        ensures { self.new.state ≡ after_case (branching self.old.state) self.old.state }
+        ensures { MatchOption result (IsSearched (branching self.old.state) self.old self.new) (λ a. IsFailing (branching self.old.state) a self.old self.new) }
     {
         if self.trail.is_false(lit) {
-            return;
+            return Some(lit);
         }
         let level = self.trail.level() + 1;
         self.trail.push(lit, None, level);
+        None
     }
 
     /// Decides the first variable without a value with its phase, at a new level. Where each has a value the search ends.
     fn decide(&mut self)
         requires found { first_open self.old.state.trail self.old.state.assumptions ≡ None }
         requires handled { self.old.state.processed ≤ length self.old.state.trail + 1 }
-        ensures { self.new.state ≡ after_case (branching self.old.state) self.old.state }
+        ensures state { self.new.state ≡ after_case (branching self.old.state) self.old.state }
+        ensures keeps { Keeps 0 0 self.old self.new }
     {
-        match self.first_free() {
+        match self.order.first_free(&self.trail) {
             None => self.verdict = Some(Verdict::Satisfiable),
             Some(var) => self.decide_var(var),
         }
@@ -315,10 +419,187 @@ impl<E: Engine> Node<E> {
     fn decide_var(&mut self, var: Var)
         requires found { first_free self.old.state.trail self.old.state.order ≡ Some var }
         requires handled { self.old.state.processed ≤ length self.old.state.trail + 1 }
-        ensures { self.new.state ≡ after_case (Decides var) self.old.state }
+        ensures state { self.new.state ≡ after_case (Decides var) self.old.state }
+        ensures keeps { Keeps 0 0 self.old self.new }
     {
         let positive = self.phases[var.number() as usize - 1];
         let level = self.trail.level() + 1;
         self.trail.push(var.literal(positive), None, level);
     }
+
+    /// Derives a clause from a waiting conflict in a slice in which so many literals and hints were derived, and tells how
+    /// many were after it. None where they would be too many, and the slice is over.
+    fn derive(&mut self, id: ClauseId, used: usize, scratch: &mut Scratch) -> Option<usize>
+        requires sound { IsSound self.old.state }
+        requires goes { self.old.state.verdict ≡ None }
+        requires conflict { self.old.state.conflict ≡ Some id }
+        requires room { HasStepRoom 1 used self.old }
+        requires fitted { self.old.state.variables < scratch.old.room }
+        requires counts { MayCount self.old.state }
+        ensures step { MatchOption result (IsEnded used self.old self.new) (λ now. IsStepped used self.old now self.new) }
+        ensures room { scratch.new.room ≡ scratch.old.room }
+    {
+        let numbers = self.analyse(id, scratch);
+        if most_numbers(self.variables) < used + numbers {
+            return None;
+        }
+        self.hold(id, scratch);
+        Some(used + numbers)
+    }
+
+    /// Analyses a conflict, and tells how many literals and hints come of it.
+    fn analyse(&self, id: ClauseId, scratch: &mut Scratch) -> usize
+        requires sound { IsSound self.now.state }
+        requires fitted { self.now.state.variables < scratch.old.room }
+        ensures shown { IsShown (analysis id self.now.state) scratch.new }
+        ensures numbers { result ≡ numbers_of (line_of id self.now.state) }
+        ensures few { result ≤ self.now.state.variables + 1 }
+        ensures room { scratch.new.room ≡ scratch.old.room }
+    {
+        mal_learn::analyse(&self.trail, &self.engine, id, scratch);
+        scratch.clause().len() + scratch.hints().len()
+    }
+
+    /// Notes the line of a conflict that was analysed, and learns from it, or refutes the clauses.
+    fn hold(&mut self, id: ClauseId, scratch: &Scratch)
+        requires sound { IsSound self.old.state }
+        requires conflict { self.old.state.conflict ≡ Some id }
+        requires shown { IsShown (analysis id self.old.state) scratch.now }
+        requires counts { MayCount self.old.state }
+        requires room { HasLineRoom (line_of id self.old.state) self.old }
+        ensures state { self.new.state ≡ step self.old.state }
+        ensures lines { self.new.lines ≡ self.old.lines ++ line_of id self.old.state ∷ [] }
+        ensures room { IsLineLess (line_of id self.old.state) self.old self.new }
+    {
+        let number = ClauseId::derived(self.serial, self.index);
+        self.lines
+            .push_reserved(number, scratch.clause(), scratch.hints());
+        if self.trail.level() == 0 {
+            self.refute(number, scratch);
+        } else {
+            self.learn(id, number, scratch);
+        }
+    }
+
+    /// Holds the derived clause of a scratch, the goal of the verdict.
+    fn refute(&mut self, number: ClauseId, scratch: &Scratch)
+        requires sound { IsSound self.old.state }
+        requires kept { IsSound (refuted scratch.now.clause self.old.state) }
+        requires number { number ≡ derived_id self.old.state }
+        requires counts { MayCount self.old.state }
+        requires room { HasClauseRoom scratch.now.clause self.old }
+        ensures state { self.new.state ≡ refuted scratch.now.clause self.old.state }
+        ensures keeps { Keeps 1 (length scratch.now.clause) self.old self.new }
+    {
+        self.engine.learn(number, scratch.clause(), &self.trail);
+        self.serial += 1;
+        self.verdict = Some(Verdict::Unsatisfiable { goal: number });
+    }
+
+    /// Learns the clause that was derived from a conflict above level 0: goes back to the level to jump to, holds the
+    /// clause, makes its remaining literal true, and moves its variables to the front.
+    fn learn(&mut self, id: ClauseId, number: ClauseId, scratch: &Scratch)
+        requires sound { IsSound self.old.state }
+        requires conflict { self.old.state.conflict ≡ Some id }
+        requires level { 0 < level_of self.old.state.trail }
+        requires shown { IsShown (analysis id self.old.state) scratch.now }
+        requires number { number ≡ derived_id self.old.state }
+        requires counts { MayCount self.old.state }
+        requires room { HasClauseRoom (analysis id self.old.state).lits self.old }
+        ensures state { self.new.state ≡ learned id self.old.state }
+        ensures keeps { Keeps 1 (length (analysis id self.old.state).lits) self.old self.new }
+    {
+        self.cut(scratch.level());
+        self.engine.learn(number, scratch.clause(), &self.trail);
+        learning::force(&mut self.trail, number, scratch.clause());
+        learning::bump_all(&mut self.order, scratch.clause());
+        self.serial += 1;
+        self.since += 1;
+        self.conflict = None;
+    }
+
+    /// Derives the core clause of a failed assumption in a slice in which so many literals and hints were derived, and
+    /// tells how many were after it. None where they would be too many, and the slice is over.
+    fn derive_core(&mut self, assumption: Lit, used: usize, scratch: &mut Scratch) -> Option<usize>
+        requires sound { IsSound self.old.state }
+        requires goes { self.old.state.verdict ≡ None }
+        requires failed { case_of self.old.state ≡ Contradicts assumption }
+        requires room { HasStepRoom 1 used self.old }
+        requires fitted { self.old.state.variables < scratch.old.room }
+        requires counts { MayCount self.old.state }
+        ensures step { MatchOption result (IsEnded used self.old self.new) (λ now. IsStepped used self.old now self.new) }
+        ensures room { scratch.new.room ≡ scratch.old.room }
+    {
+        let numbers = self.analyse_core(assumption, scratch);
+        if most_numbers(self.variables) < used + numbers {
+            return None;
+        }
+        self.hold_core(assumption, scratch);
+        Some(used + numbers)
+    }
+
+    /// Analyses a failed assumption, and tells how many literals and hints come of it.
+    fn analyse_core(&self, assumption: Lit, scratch: &mut Scratch) -> usize
+        requires sound { IsSound self.now.state }
+        requires failed { HasFailed self.now.state assumption }
+        requires fitted { self.now.state.variables < scratch.old.room }
+        ensures shown { IsShown (core_analysis assumption self.now.state) scratch.new }
+        ensures numbers { result ≡ numbers_of (core_line assumption self.now.state) }
+        ensures few { result ≤ self.now.state.variables + 1 }
+        ensures room { scratch.new.room ≡ scratch.old.room }
+    {
+        mal_learn::final_core(&self.trail, &self.engine, assumption, scratch);
+        scratch.clause().len() + scratch.hints().len()
+    }
+
+    /// Notes the line of a failed assumption that was analysed, and ends the search with it.
+    fn hold_core(&mut self, assumption: Lit, scratch: &Scratch)
+        requires sound { IsSound self.old.state }
+        requires failed { HasFailed self.old.state assumption }
+        requires shown { IsShown (core_analysis assumption self.old.state) scratch.now }
+        requires counts { MayCount self.old.state }
+        requires room { HasLineRoom (core_line assumption self.old.state) self.old }
+        ensures state { self.new.state ≡ cored assumption self.old.state }
+        ensures lines { self.new.lines ≡ self.old.lines ++ core_line assumption self.old.state ∷ [] }
+        ensures room { IsLineLess (core_line assumption self.old.state) self.old self.new }
+    {
+        let goal = ClauseId::derived(self.serial, self.index);
+        self.lines
+            .push_reserved(goal, scratch.clause(), scratch.hints());
+        self.refute(goal, scratch);
+    }
+}
+
+impl<E: Listed> Node<E> {
+    /// The image of this node, whose state is in form, as that of each sound node of a serial below 2^57 is.
+    pub fn image(&self) -> Result<Image, AllocError>
+        requires { IsImage self.now.state }
+        ensures { IfOk result (λ i. i ≡ self.now.state) }
+    {
+        let alloc = *self.phases.allocator();
+        let parts = Parts {
+            index: self.index,
+            variables: self.variables,
+            serial: self.serial,
+            since: self.since,
+            round: self.round,
+            processed: self.trail.processed(),
+            conflict: self.conflict,
+            verdict: self.verdict,
+            assumptions: Vec::from_slice(alloc, self.assumptions.as_slice())?,
+            order: Vec::from_slice(alloc, self.order.variables())?,
+            phases: Vec::from_slice(alloc, self.phases.as_slice())?,
+            trail: Vec::from_slice(alloc, self.trail.entries())?,
+            clauses: copies::clauses_of(alloc, &self.engine)?,
+        };
+        Ok(Image::of_form(parts))
+    }
+}
+
+/// How many literals and hints a slice may derive, for so many variables.
+fn most_numbers(variables: u32) -> usize
+    requires { variables ≤ 65536 }
+    ensures { result ≡ most_numbers variables }
+{
+    65_536 + 2 * variables as usize + 2
 }

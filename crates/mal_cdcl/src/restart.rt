@@ -1,30 +1,12 @@
 //! When a node restarts.
 
-ghost use Rattle.std.specs.Prelude.{◌≡◌, ℕ, ◌*◌, ◌^◌, ◌<◌, nat_le};
-ghost use Rattle.spec_node.specs.Step.{luby};
+ghost use Rattle.std.specs.Prelude.{◌≡◌, ◌*◌, ◌≤◌, nat_le};
+ghost use Rattle.spec_seq.specs.Luby.{luby};
 
-/// Whether a restart is due: so many conflicts came since the last one, of which this is the number.
+/// Whether a restart is due: 64 conflicts times Luby's number at the place of this one came since the last.
 pub fn is_due(since: u32, round: u32) -> bool
+    requires { 1 ≤ round }
     ensures { result ≡ nat_le (64 * luby round) since }
 {
-    64 * luby(round) <= u64::from(since)
-}
-
-/// Luby's number at this place: the sequence 1, 1, 2, 1, 1, 2, 4, .. of Luby, Sinclair and Zuckerman.
-fn luby(place: u32) -> u64
-    ensures value { result ≡ luby place }
-    ensures bound { result < 2 ^ 32 }
-{
-    let mut rest = u64::from(place);
-    let mut size: u64 = 2_147_483_648;
-    for _made in 0..32u32 {
-        if rest + 1 == 2 * size {
-            return size;
-        }
-        if size <= rest {
-            rest = rest + 1 - size;
-        }
-        size /= 2;
-    }
-    1
+    mal_seq::luby(u64::from(round)) <= u64::from(since) / 64
 }

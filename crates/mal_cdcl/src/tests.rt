@@ -1,9 +1,14 @@
-//! Searches whose answers are known.
+//! Searches whose answers are known, and nodes that come back from their images.
 
-ghost use Rattle.std.specs.Prelude.{◌≤◌, ◌<◌, ◌^◌, IfOk};
+ghost use Rattle.std.specs.Prelude.{◌≡◌, ◌≤◌, ◌<◌, IfOk};
+ghost use Rattle.spec_node.specs.Sound.{IsSound};
+ghost use Rattle.mal_cdcl.specs.Sliced.{HasSliceRoom, HasLowCounts, IsUnrun};
+ghost use Rattle.mal_freeze.specs.Imaged.{IsImage};
 
 use crate::Node;
-use mal_base::{Clause, Lit, Var, Verdict};
+use mal_base::{Clause, ClauseId, Lines, Lit, Var, Verdict};
+use mal_freeze::Image;
+use mal_learn::Scratch;
 use mal_revision::Revision;
 use mal_scan::Scan;
 use std::alloc::Global;
@@ -19,61 +24,312 @@ fn clause(alloc: Global, numbers: &[i32]) -> Result<Option<Clause>, Fail> {
     Ok(Clause::of_lits(alloc, lits.as_slice())?)
 }
 
-/// A node of this index that has loaded these clauses as a revision without assumptions.
+/// The clauses of these pairs of literals, as DIMACS CNF numbers them.
+fn pairs(alloc: Global, numbers: &[(i32, i32)]) -> Result<Vec<Option<Clause>>, Fail> {
+    let mut clauses = Vec::new(alloc);
+    for pair in numbers {
+        let (one, other) = pair;
+        clauses.push(clause(alloc, &[*one, *other])?)?;
+    }
+    Ok(clauses)
+}
+
+/// A node of this index that has loaded these clauses as a revision without assumptions, and has room for a slice.
 fn loaded(
     rt: &impl Abort,
     alloc: Global,
     index: u32,
     variables: u32,
     clauses: Vec<Option<Clause>>,
+    scratch: &mut Scratch,
 ) -> Result<Node<Scan>, Fail>
     requires { index ≤ 63 }
-    ensures { IfOk result (λ n. n.state.round < 2 ^ 31) }
+    ensures sound { IfOk result (λ n. IsSound n.state) }
+    ensures new { IfOk result (λ n. IsUnrun n.state) }
+    ensures stocked { IfOk result (λ n. HasSliceRoom n) }
+    ensures fitted { IfOk result (λ n. n.state.variables < scratch.new.room) }
 {
     let revision = Revision::new(alloc, variables, clauses, &[])?;
     assert!(rt; revision.clauses().len() < 9);
     let mut node = Node::fresh(alloc, index);
-    node.ready(&[(&revision, 1)])?;
+    node.ready(&[(&revision, 1)], scratch)?;
     Ok(node)
+}
+
+/// Runs the first slice of a node, and takes its lines.
+fn run_first(node: &mut Node<Scan>, scratch: &mut Scratch) -> Lines
+    requires sound { IsSound node.old.state }
+    requires new { IsUnrun node.old.state }
+    requires stocked { HasSliceRoom node.old }
+    requires fitted { node.old.state.variables < scratch.old.room }
+    ensures sound { IsSound node.new.state }
+    ensures counts { HasLowCounts node.new.state }
+    ensures form { IsImage node.new.state }
+{
+    node.run(scratch);
+    node.take_lines()
+}
+
+/// Makes a node ready without a load, runs a slice, and takes its lines.
+fn run_again(node: &mut Node<Scan>, scratch: &mut Scratch) -> Result<Lines, Fail>
+    requires sound { IsSound node.old.state }
+    requires counts { HasLowCounts node.old.state }
+{
+    node.ready(&[], scratch)?;
+    node.run(scratch);
+    Ok(node.take_lines())
+}
+
+/// A node of this index that has loaded these clauses and run its first slice, in form, and the lines of that.
+fn searched(
+    rt: &impl Abort,
+    alloc: Global,
+    index: u32,
+    variables: u32,
+    clauses: Vec<Option<Clause>>,
+    scratch: &mut Scratch,
+) -> Result<(Node<Scan>, Lines), Fail>
+    requires { index ≤ 63 }
+    ensures sound { IfOk result (λ r. IsSound r.0.state) }
+    ensures counts { IfOk result (λ r. HasLowCounts r.0.state) }
+    ensures form { IfOk result (λ r. IsImage r.0.state) }
+{
+    let mut node = loaded(rt, alloc, index, variables, clauses, scratch)?;
+    let lines = run_first(&mut node, scratch);
+    Ok((node, lines))
+}
+
+/// What the first slice of a node gives: its verdict, the value of the first variable, its model, and its lines.
+#[derive(Drop)]
+struct Solved {
+    verdict: Option<Verdict>,
+    first: Option<bool>,
+    model: Vec<bool>,
+    lines: Lines,
+}
+
+/// What the first slice gives of a node of this index with these clauses.
+fn solve(
+    rt: &impl Abort,
+    alloc: Global,
+    index: u32,
+    variables: u32,
+    clauses: Vec<Option<Clause>>,
+) -> Result<Solved, Fail>
+    requires { index ≤ 63 }
+{
+    let mut scratch = Scratch::new(alloc);
+    let (node, lines) = searched(rt, alloc, index, variables, clauses, &mut scratch)?;
+    let mut model = Vec::with_capacity(alloc, node.variables() as usize)?;
+    node.model(&mut model);
+    Ok(Solved {
+        verdict: node.verdict(),
+        first: node.value(Var::of(1)),
+        model,
+        lines,
+    })
+}
+
+/// Compares a line: its number, its literals and its hints.
+fn compare(
+    rt: &impl Abort,
+    lines: &Lines,
+    n: usize,
+    number: u64,
+    lits: &[Lit],
+    hints: &[ClauseId],
+) {
+    assert!(rt; n < lines.count());
+    assert_eq!(rt; lines.id(n).number(), number);
+    assert_eq!(rt; lines.lits(n), lits);
+    assert_eq!(rt; lines.hints(n), hints);
 }
 
 #[test]
 fn one_of_two_variables_is_true(rt: HostRuntime) -> Result<(), Fail> {
-    for (index, first) in [(0, false), (1, true)] {
-        let clauses = vec![in rt.alloc(); clause(rt.alloc(), &[1, 2])?]?;
-        let mut node = loaded(&rt, rt.alloc(), index, 2, clauses)?;
-        assert_eq!(rt; node.value(Var::of(1)), None);
-        node.run();
-        assert_eq!(rt; node.verdict(), Some(Verdict::Satisfiable));
-        assert_eq!(rt; node.value(Var::of(1)), Some(first));
-        assert_eq!(rt; node.value(Var::of(2)), Some(true));
-        assert_eq!(rt; node.take_lines().count(), 0);
-        let mut model = Vec::with_capacity(rt.alloc(), node.variables() as usize)?;
-        node.model(&mut model);
-        assert_eq!(rt; model.as_slice(), [first, true].as_slice());
-        assert_eq!(rt; node.index(), index);
-        assert_eq!(rt; node.variables(), 2);
-    }
+    let solved = solve(&rt, rt.alloc(), 0, 2, pairs(rt.alloc(), &[(1, 2)])?)?;
+    assert_eq!(rt; solved.verdict, Some(Verdict::Satisfiable));
+    assert_eq!(rt; solved.first, Some(false));
+    assert_eq!(rt; solved.model.as_slice(), [false, true].as_slice());
+    assert_eq!(rt; solved.lines.count(), 0);
     Ok(())
 }
 
 #[test]
-fn opposite_units_get_no_verdict(rt: HostRuntime) -> Result<(), Fail> {
-    let clauses = vec![in rt.alloc(); clause(rt.alloc(), &[1])?, clause(rt.alloc(), &[-1])?]?;
-    let mut node = loaded(&rt, rt.alloc(), 0, 1, clauses)?;
-    node.run();
-    assert_eq!(rt; node.verdict(), None);
+fn an_odd_node_begins_with_true(rt: HostRuntime) -> Result<(), Fail> {
+    let solved = solve(&rt, rt.alloc(), 1, 2, pairs(rt.alloc(), &[(1, 2)])?)?;
+    assert_eq!(rt; solved.verdict, Some(Verdict::Satisfiable));
+    assert_eq!(rt; solved.first, Some(true));
+    assert_eq!(rt; solved.model.as_slice(), [true, true].as_slice());
+    Ok(())
+}
+
+#[test]
+fn a_unit_clause_is_learned(rt: HostRuntime) -> Result<(), Fail> {
+    let clauses = pairs(rt.alloc(), &[(1, 2), (1, -2), (-1, 2)])?;
+    let solved = solve(&rt, rt.alloc(), 0, 2, clauses)?;
+    assert_eq!(rt; solved.lines.count(), 1);
+    let hints = [ClauseId::original(1), ClauseId::original(2)];
+    compare(
+        &rt,
+        &solved.lines,
+        0,
+        4_294_967_296,
+        &[Var::of(1).literal(true)],
+        &hints,
+    );
+    assert_eq!(rt; solved.verdict, Some(Verdict::Satisfiable));
+    assert_eq!(rt; solved.model.as_slice(), [true, true].as_slice());
+    Ok(())
+}
+
+#[test]
+fn four_clauses_are_refuted_by_two_lines(rt: HostRuntime) -> Result<(), Fail> {
+    let clauses = pairs(rt.alloc(), &[(1, 2), (1, -2), (-1, 2), (-1, -2)])?;
+    let solved = solve(&rt, rt.alloc(), 0, 2, clauses)?;
+    assert_eq!(rt; solved.lines.count(), 2);
+    let hints = [ClauseId::original(1), ClauseId::original(2)];
+    compare(
+        &rt,
+        &solved.lines,
+        0,
+        4_294_967_296,
+        &[Var::of(1).literal(true)],
+        &hints,
+    );
+    let learned = ClauseId::derived(0, 0);
+    let hints = [learned, ClauseId::original(3), ClauseId::original(4)];
+    compare(&rt, &solved.lines, 1, 4_294_967_360, &[], &hints);
+    let goal = ClauseId::derived(1, 0);
+    assert_eq!(rt; solved.verdict, Some(Verdict::Unsatisfiable { goal }));
+    Ok(())
+}
+
+#[test]
+fn node_3_numbers_its_clauses(rt: HostRuntime) -> Result<(), Fail> {
+    let clauses = pairs(rt.alloc(), &[(1, 2), (1, -2), (-1, 2), (-1, -2)])?;
+    let solved = solve(&rt, rt.alloc(), 3, 2, clauses)?;
+    assert_eq!(rt; solved.lines.count(), 2);
+    assert_eq!(rt; solved.lines.id(0).number(), 4_294_967_299);
+    assert_eq!(rt; solved.lines.id(1).number(), 4_294_967_363);
     Ok(())
 }
 
 #[test]
 fn a_slice_decides_at_most_499_variables(rt: HostRuntime) -> Result<(), Fail> {
-    let mut node = loaded(&rt, rt.alloc(), 0, 499, Vec::new(rt.alloc()))?;
-    node.run();
-    assert_eq!(rt; node.verdict(), Some(Verdict::Satisfiable));
-    assert_eq!(rt; node.value(Var::of(499)), Some(false));
-    let mut node = loaded(&rt, rt.alloc(), 0, 500, Vec::new(rt.alloc()))?;
-    node.run();
-    assert_eq!(rt; node.verdict(), None);
+    let solved = solve(&rt, rt.alloc(), 0, 499, Vec::new(rt.alloc()))?;
+    assert_eq!(rt; solved.verdict, Some(Verdict::Satisfiable));
+    let solved = solve(&rt, rt.alloc(), 0, 500, Vec::new(rt.alloc()))?;
+    assert_eq!(rt; solved.verdict, None);
+    Ok(())
+}
+
+/// The verdicts of a node of this index with these clauses after its first slice and after one more, and how many lines
+/// that derives.
+fn search_twice(
+    rt: &impl Abort,
+    alloc: Global,
+    index: u32,
+    variables: u32,
+    clauses: Vec<Option<Clause>>,
+) -> Result<(Option<Verdict>, Option<Verdict>, usize), Fail>
+    requires { index ≤ 63 }
+{
+    let mut scratch = Scratch::new(alloc);
+    let (mut node, _) = searched(rt, alloc, index, variables, clauses, &mut scratch)?;
+    let verdict = node.verdict();
+    let lines = run_again(&mut node, &mut scratch)?;
+    Ok((verdict, node.verdict(), lines.count()))
+}
+
+#[test]
+fn a_refuted_node_stays(rt: HostRuntime) -> Result<(), Fail> {
+    let clauses = pairs(rt.alloc(), &[(1, 1), (-1, -1)])?;
+    let (first, second, lines) = search_twice(&rt, rt.alloc(), 0, 1, clauses)?;
+    let goal = ClauseId::derived(0, 0);
+    assert_eq!(rt; first, Some(Verdict::Unsatisfiable { goal }));
+    assert_eq!(rt; second, first);
+    assert_eq!(rt; lines, 0);
+    Ok(())
+}
+
+/// The node of this node's image, after both images were compared.
+fn come_back(
+    rt: &impl Abort,
+    alloc: Global,
+    node: &Node<Scan>,
+    image: &Image,
+) -> Result<Node<Scan>, Fail>
+    requires { image.now ≡ node.now.state }
+    ensures { IfOk result (λ n. n.state ≡ node.now.state) }
+{
+    let left = image.parts();
+    let again: Node<Scan> = Node::of_image(alloc, image)?;
+    let second = again.image()?;
+    let right = second.parts();
+    assert_eq!(rt; left.index, right.index);
+    assert_eq!(rt; left.variables, right.variables);
+    assert_eq!(rt; left.processed, right.processed);
+    assert_eq!(rt; left.conflict, right.conflict);
+    assert_eq!(rt; left.verdict, right.verdict);
+    assert_eq!(rt; left.assumptions.as_slice(), right.assumptions.as_slice());
+    assert_eq!(rt; left.order.as_slice(), right.order.as_slice());
+    assert_eq!(rt; left.phases.as_slice(), right.phases.as_slice());
+    assert_eq!(rt; left.trail.as_slice(), right.trail.as_slice());
+    assert_eq!(rt; left.clauses.len(), right.clauses.len());
+    assert_eq!(rt; again.verdict(), node.verdict());
+    Ok(again)
+}
+
+#[test]
+fn a_fresh_node_comes_back(rt: HostRuntime) -> Result<(), Fail> {
+    let node: Node<Scan> = Node::fresh(rt.alloc(), 5);
+    let image = node.image()?;
+    assert_eq!(rt; image.parts().index, 5);
+    assert_eq!(rt; image.parts().round, 1);
+    let again = come_back(&rt, rt.alloc(), &node, &image)?;
+    assert_eq!(rt; again.index(), 5);
+    assert_eq!(rt; again.variables(), 0);
+    Ok(())
+}
+
+/// The verdicts of a node of this index with these clauses that comes back from its image after its first slice, then
+/// and after one more, and the conflict that waited.
+fn return_and_go_on(
+    rt: &impl Abort,
+    alloc: Global,
+    index: u32,
+    variables: u32,
+    clauses: Vec<Option<Clause>>,
+) -> Result<(Option<Verdict>, Option<Verdict>, Option<ClauseId>), Fail>
+    requires { index ≤ 63 }
+{
+    let mut scratch = Scratch::new(alloc);
+    let (node, _) = searched(rt, alloc, index, variables, clauses, &mut scratch)?;
+    let image = node.image()?;
+    let mut again = come_back(rt, alloc, &node, &image)?;
+    let verdict = again.verdict();
+    let _ = run_again(&mut again, &mut scratch)?;
+    Ok((verdict, again.verdict(), image.parts().conflict))
+}
+
+#[test]
+fn a_node_in_mid_search_comes_back_and_goes_on(rt: HostRuntime) -> Result<(), Fail> {
+    let clauses = pairs(rt.alloc(), &[(1, 2), (3, 4)])?;
+    let (before, after, conflict) = return_and_go_on(&rt, rt.alloc(), 0, 503, clauses)?;
+    assert_eq!(rt; before, None);
+    assert_eq!(rt; after, Some(Verdict::Satisfiable));
+    assert_eq!(rt; conflict, None);
+    Ok(())
+}
+
+#[test]
+fn a_refuted_node_comes_back(rt: HostRuntime) -> Result<(), Fail> {
+    let clauses = pairs(rt.alloc(), &[(1, 1), (-1, -1)])?;
+    let (before, after, conflict) = return_and_go_on(&rt, rt.alloc(), 1, 1, clauses)?;
+    let goal = ClauseId::derived(0, 1);
+    assert_eq!(rt; before, Some(Verdict::Unsatisfiable { goal }));
+    assert_eq!(rt; after, before);
+    assert_eq!(rt; conflict, Some(ClauseId::original(2)));
     Ok(())
 }

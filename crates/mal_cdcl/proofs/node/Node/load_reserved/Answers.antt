@@ -1,10 +1,10 @@
-use Rattle.std.proofs.Common.{◌≡◌, ◌-◌, ◌≤◌, List, ap, ◌∙◌, arith}
+use Rattle.std.proofs.Common.{◌≡◌, ◌-◌, ◌≤◌, List, length, ap, ◌∙◌, arith}
 use Rattle.std.specs.Prelude.{max}
 use Rattle.mal_base.specs.Held.{Held}
 use Rattle.spec_node.specs.State.{Node}
 use Rattle.spec_node.proofs.SoundLemmas.{loaded-numbers}
 use Rattle.mal_cdcl.specs.Within.{Stocked, Spare}
-use Rattle.mal_cdcl.proofs.FillLemmas.{posted_parts, clauses_of_more, lits_more, order-loaded, within-loaded}
+use Rattle.mal_cdcl.proofs.FillLemmas.{posted_parts, clauses_of_more, lits_more, order-loaded, order-long, within-loaded}
 use Rattle.mal_cdcl.proofs.node.Node.load_reserved.Goals as goal
 
 pub add_clauses-requires-clause-within : goal.add_clauses-requires-clause-within
@@ -28,12 +28,14 @@ invariant_of-self g c =
     let trail : n.trail.room ≡ c.args.self.now.spare.trail = ap (λ (s : Stocked). s.spare.trail) c.self-2.view_is ∙ ap (λ (s : Spare). s.trail) c.cut.ensures.spare in
     let added : c.saturating_sub-added.result ≡ r.variables - n.variables = omega (arith, c.saturating_sub-added.ensures, c.variables-variables.ensures.value, variables, before) in
     let most : c.max-self-inside.result ≡ max n.variables r.variables = omega (arith, c.max-self-inside.ensures, c.variables-variables.ensures.value) in (
-      rw (c.replace.ensures.items, c.assumptions.ensures.value, c.push_order.ensures.items, c.add_clauses.ensures.clauses, c.clauses.ensures.value) (record {
+      rw (c.replace.ensures.items, c.assumptions.ensures.value, c.add_clauses.ensures.clauses, c.clauses.ensures.value) (record {
         place = inv.place;
         small = omega (arith, most, inv.small, parts.small);
         room = omega (arith, most, c.requires.room.trail, trail, variables, c.set_processed.ensures.room);
         assumed = lits_more r.variables c.max-self-inside.result r.assumptions (omega (arith, most)) parts.assumed;
-        ordered = order-loaded n.index n.variables c.saturating_sub-added.result c.max-self-inside.result n.order.items inv.place (omega (arith, most, added)) inv.ordered;
+        turned = c.append_reserved.ensures.index ∙ inv.turned;
+        ordered = rw (c.append_reserved.ensures.list, inv.turned, inv.complete) (order-loaded n.index n.variables c.saturating_sub-added.result c.max-self-inside.result n.order.list inv.place (omega (arith, most, added)) inv.ordered);
+        complete = rw c.append_reserved.ensures.list (omega (arith, order-long n.order.index (length n.order.list) c.saturating_sub-added.result n.order.list (omega (arith, inv.turned, inv.place)), inv.complete, most, added));
         phased = omega (arith, c.push_phases.ensures.len, inv.phased, most, added);
         claused = within-loaded n.variables r.variables c.max-self-inside.result c.args.first held r.clauses (omega (arith, most)) (omega (arith, most)) inv.claused parts.claused;
         rising = rw same (loaded-numbers r c.args.first c.args.self.now.state c.requires.new (rw same at inv.rising));

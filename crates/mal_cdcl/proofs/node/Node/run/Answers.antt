@@ -1,26 +1,41 @@
-use Rattle.std.proofs.Common.{◌≡◌, suc, ◌+◌, ◌-◌, true, false, is_some, arith, sym, ◌∙◌}
-use Rattle.spec_node.specs.Slice.{slice}
-use Rattle.mal_cdcl.proofs.StepLemmas.{steps-next, steps-ended}
-use Rattle.spec_node.proofs.RoundLemmas.{step-round}
+use Rattle.std.proofs.Common.{◌≡◌, suc, ◌+◌, ◌-◌, ap, ◌∙◌, arith}
+use Rattle.spec_search.specs.Slice.{slice}
+use Rattle.mal_cdcl.specs.Within.{Stocked}
+use Rattle.mal_cdcl.proofs.SliceLemmas.{IsSlicing, slicing-next, slicing-over, slicing-ends}
 use Rattle.mal_cdcl.proofs.node.Node.run.Goals as goal
 
-pub returns-then-is_some : goal.returns-then-is_some
+pub returns-in-None-clause-node : goal.returns-in-None-clause-node
 unfolding slice
-returns-then-is_some g c =
-    let ended : is_some c.loop-made.self.state.verdict ≡ true = rw (← c.self.view_is) (sym c.is_some.ensures ∙ c.if-is_some.true) in
-    sym (steps-ended (1000 - c.loop-made._made) c.loop-made.self.state ended) ∙ c.loop-made.invariant.done
+returns-in-None-clause-node g c =
+    let ended = c.in-None.ensures.step in
+    ap (λ (s : Stocked). s.state) ended.same ∙ (slicing-over (1000 - c.loop-made._made) c.loop-made.used c.args.self.now c.loop-made.self ended.over c.loop-made.invariant.slicing).node
+
+pub returns-in-None-clause-lines : goal.returns-in-None-clause-lines
+unfolding slice
+returns-in-None-clause-lines g c =
+    let ended = c.in-None.ensures.step in
+    ap (λ (s : Stocked). s.lines) ended.same ∙ (slicing-over (1000 - c.loop-made._made) c.loop-made.used c.args.self.now c.loop-made.self ended.over c.loop-made.invariant.slicing).lines
 
 pub loop-made-preserved : goal.loop-made-preserved
 loop-made-preserved g c =
-    let goes_on : is_some c.loop-made.self.state.verdict ≡ false = rw (← c.self.view_is) (sym c.is_some.ensures ∙ c.if-is_some.false) in
     let left : 1000 - c.loop-made._made ≡ suc (1000 - (c.loop-made._made + 1)) = omega arith in
-    rw c.step.ensures (record {
-      done = sym (steps-next (1000 - (c.loop-made._made + 1)) c.loop-made.self.state goes_on) ∙ rw left at c.loop-made.invariant.done;
-      round = omega (arith, step-round c.loop-made.self.state, c.loop-made.invariant.round);
-    })
+    let inv : IsSlicing (suc (1000 - (c.loop-made._made + 1))) c.loop-made.used c.args.self.now c.loop-made.self = rw left at c.loop-made.invariant.slicing in
+    record {
+      slicing = slicing-next (1000 - (c.loop-made._made + 1)) c.loop-made.used c.in-Some.now c.args.self.now c.loop-made.self c.step.new.self inv c.in-Some.ensures.step;
+      bound = c.step.ensures.room ∙ c.loop-made.invariant.bound;
+      made = omega arith;
+    }
 
-pub returns : goal.returns
+pub returns-clause-node : goal.returns-clause-node
 unfolding slice
-returns g c =
-    let none_left : 1000 - c.loop-made._made ≡ 0 = omega arith in
-    rw none_left at c.loop-made.invariant.done
+returns-clause-node g c =
+    let left : 1000 - c.loop-made._made ≡ 0 = omega arith in
+    let inv : IsSlicing 0 c.loop-made.used c.args.self.now c.loop-made.self = rw left at c.loop-made.invariant.slicing in
+    (slicing-ends c.loop-made.used c.args.self.now c.loop-made.self inv).node
+
+pub returns-clause-lines : goal.returns-clause-lines
+unfolding slice
+returns-clause-lines g c =
+    let left : 1000 - c.loop-made._made ≡ 0 = omega arith in
+    let inv : IsSlicing 0 c.loop-made.used c.args.self.now c.loop-made.self = rw left at c.loop-made.invariant.slicing in
+    (slicing-ends c.loop-made.used c.args.self.now c.loop-made.self inv).lines

@@ -1,10 +1,11 @@
-use Rattle.std.proofs.Common.{◌≡◌, ◌+◌, ◌-◌, ◌≤◌}
-use Rattle.spec_node.specs.Slice.{steps}
+use Rattle.std.proofs.Common.{◌≡◌, ◌-◌, ◌≤◌}
+use Rattle.mal_cdcl.proofs.SliceLemmas.{IsSlicing}
 use Rattle.mal_cdcl.proofs.node.Node.run.Given as goal
 
 abbrev pub invariant-loop-made : goal.invariant-loop-made
 invariant-loop-made g l =
     record {
-      done : steps (1000 - l._made) l.self.state ≡ steps 1000 l.fn.self.state;
-      round : l.self.state.round ≤ l.fn.self.state.round + l._made;
+      slicing : IsSlicing (1000 - l._made) l.used l.fn.self l.self;
+      bound : l.scratch.room ≡ l.fn.scratch.room;
+      made : l._made ≤ 1000;
     }

@@ -1,0 +1,104 @@
+use Rattle.std.proofs.Common.{◌≡◌, ℕ, zero, suc, ◌+◌, ◌≤◌, true, false, List, [], ◌∷◌, ◌++◌, Option, Some, None, refl, sym, ap, ◌∙◌, append_assoc, append-nil, arith}
+use Rattle.mal_base.specs.Held.{Line}
+use Rattle.spec_node.specs.State.{Node}
+use Rattle.spec_node.specs.Sound.{IsSound}
+use Rattle.spec_search.specs.Step.{Case, Learns, Refutes, Propagates, Restarts, Contradicts, Assumes, Decides, Ends, case_of, after_case, step, next_line}
+use Rattle.spec_search.specs.Slice.{Sliced, behind, steps_from, is_over, used_after}
+use Rattle.spec_search.proofs.SliceLemmas.{behind-node}
+use Rattle.spec_search.proofs.SoundLemmas.{step-sound}
+use Rattle.spec_search.proofs.ModelLemmas.{step-leaves}
+use Rattle.mal_cdcl.specs.Within.{Stocked}
+use Rattle.mal_cdcl.specs.Sliced.{HasStepRoom, HasSliceRoom, HasLowCounts, MayCount, and_line, IsStepped}
+
+-- a step raises each count by 1 at the most
+record Rises (before after : Node) : Type 0 where
+  pub serial : after.serial ≤ before.serial + 1
+  pub since : after.since ≤ before.since + 1
+  pub round : after.round ≤ before.round + 1
+
+case-rises : (c : Case) (n : Node) → Rises n (after_case c n)
+case-rises (Learns id) n = record { serial = omega arith; since = omega arith; round = omega arith }
+case-rises (Refutes id) n = record { serial = omega arith; since = omega arith; round = omega arith }
+case-rises Propagates n = record { serial = omega arith; since = omega arith; round = omega arith }
+case-rises Restarts n = record { serial = omega arith; since = omega arith; round = omega arith }
+case-rises (Contradicts a) n = record { serial = omega arith; since = omega arith; round = omega arith }
+case-rises (Assumes a) n = record { serial = omega arith; since = omega arith; round = omega arith }
+case-rises (Decides v) n = record { serial = omega arith; since = omega arith; round = omega arith }
+case-rises Ends n = record { serial = omega arith; since = omega arith; round = omega arith }
+
+steps-next : (k used : ℕ) (n : Node) → is_over used n ≡ false → steps_from (suc k) used n ≡ behind (next_line n) (steps_from k (used_after used (next_line n)) (step n))
+steps-next k used n h = rw h refl
+
+steps-ended : (k used : ℕ) (n : Node) → is_over used n ≡ true → steps_from k used n ≡ record { node = n; lines = [] }
+steps-ended zero used n h = refl
+steps-ended (suc k) used n h = rw h refl
+
+behind-lines : (ls : List Line) (o : Option Line) (s : Sliced) → ls ++ (behind o s).lines ≡ and_line ls o ++ s.lines
+behind-lines ls None s = refl
+behind-lines ls (Some l) s = sym (append_assoc ls (l ∷ []) s.lines)
+
+-- what is left of a slice: so many steps, before which so many literals and hints were derived, give what the whole gives
+pub record IsSlicing (left used : ℕ) (start now : Stocked) : Type 0 where
+  pub node : (steps_from left used now.state).node ≡ (steps_from 1000 0 start.state).node
+  pub lines : now.lines ++ (steps_from left used now.state).lines ≡ (steps_from 1000 0 start.state).lines
+  pub sound : IsSound now.state
+  pub room : HasStepRoom left used now
+  pub variables : now.state.variables ≡ start.state.variables
+  pub serial : now.state.serial + left ≤ start.state.serial + 1000
+  pub since : now.state.since + left ≤ start.state.since + 1000
+  pub round : now.state.round + left ≤ start.state.round + 1000
+
+pub slicing-begins : (n : Stocked) → IsSound n.state → HasSliceRoom n → IsSlicing 1000 0 n n
+slicing-begins n h r =
+    record {
+      node = refl;
+      lines = rw r.none refl;
+      sound = h;
+      room = r.room;
+      variables = refl;
+      serial = omega arith;
+      since = omega arith;
+      round = omega arith;
+    }
+
+pub slicing-next : (k used u : ℕ) (start now next : Stocked) → IsSlicing (suc k) used start now → IsStepped used now u next → IsSlicing k u start next
+slicing-next k used u start now next h s =
+    let line : Option Line = next_line now.state in
+    let rest : Sliced = steps_from k (used_after used line) (step now.state) in
+    let whole : steps_from (suc k) used now.state ≡ behind line rest = steps-next k used now.state s.on in
+    let after : steps_from k u next.state ≡ rest = rw (s.numbers, s.state) refl in
+    let rises : Rises now.state (step now.state) = case-rises (case_of now.state) now.state in
+    record {
+      node = rw after (sym (behind-node line rest) ∙ (sym (ap (λ (x : Sliced). x.node) whole) ∙ h.node));
+      lines = rw (after, s.lines) (sym (behind-lines now.lines line rest) ∙ (sym (ap (λ (x : Sliced). now.lines ++ x.lines) whole) ∙ h.lines));
+      sound = rw s.state (step-sound now.state h.sound);
+      room = s.room k h.room;
+      variables = ap (λ (n : Node). n.variables) s.state ∙ ((step-leaves now.state).variables ∙ h.variables);
+      serial = rw s.state (omega (arith, rises.serial, h.serial));
+      since = rw s.state (omega (arith, rises.since, h.since));
+      round = rw s.state (omega (arith, rises.round, h.round));
+    }
+
+-- where a slice is over, or no step is left, it was made
+pub record HasRun (start now : Stocked) : Type 0 where
+  pub node : now.state ≡ (steps_from 1000 0 start.state).node
+  pub lines : now.lines ≡ (steps_from 1000 0 start.state).lines
+
+pub slicing-over : (k used : ℕ) (start now : Stocked) → is_over used now.state ≡ true → IsSlicing k used start now → HasRun start now
+slicing-over k used start now o h =
+    let none = steps-ended k used now.state o in
+    record {
+      node = sym (ap (λ (x : Sliced). x.node) none) ∙ h.node;
+      lines = sym (append-nil now.lines) ∙ (sym (ap (λ (x : Sliced). now.lines ++ x.lines) none) ∙ h.lines);
+    }
+
+pub slicing-ends : (used : ℕ) (start now : Stocked) → IsSlicing 0 used start now → HasRun start now
+slicing-ends used start now h = record { node = h.node; lines = sym (append-nil now.lines) ∙ h.lines }
+
+-- the counts stay low enough for a step
+pub may-count : (k used : ℕ) (start now : Stocked) → HasLowCounts start.state → IsSlicing (suc k) used start now → MayCount now.state
+may-count k used start now c h = record { first = h.sound.ranged.round; since = omega (arith, c.since, h.since); round = omega (arith, c.round, h.round); serial = omega (arith, c.serial, h.serial) }
+
+-- there is room for a step
+pub room-step : (k used : ℕ) (n : Stocked) → HasStepRoom (suc k) used n → HasStepRoom 1 used n
+room-step k used n h = record { few = h.few; variables = h.variables; clauses = omega (arith, h.clauses); literals = h.literals; lines = omega (arith, h.lines); line_literals = h.line_literals; hints = h.hints }

@@ -1,0 +1,14 @@
+use Rattle.std.proofs.Common.{◌≡◌, true, drop}
+use Rattle.spec_learn.specs.Analysis.{vars_in}
+use Rattle.spec_learn.specs.Order.{moved_all}
+use Rattle.mal_cdcl.proofs.BumpLemmas.{are_in}
+use Rattle.mal_cdcl.proofs.learning.bump_all.Given as goal
+
+abbrev pub invariant-loop-lit : goal.invariant-loop-lit
+invariant-loop-lit l =
+    record {
+      index_is : l.order.index ≡ l.fn.order.index;
+      room_is : l.order.room ≡ l.fn.order.room;
+      done : moved_all (vars_in (drop l.lit-index l.lits)) l.order.list ≡ moved_all (vars_in l.lits) l.fn.order.list;
+      has : are_in l.order.list (vars_in (drop l.lit-index l.lits)) ≡ true;
+    }

@@ -1,0 +1,24 @@
+use Rattle.std.proofs.Common.{◌≡◌, ◌<◌, ◌^◌, arith, ◌∙◌}
+use Rattle.spec_search.specs.Laws.{CountsRise}
+use Rattle.spec_search.specs.Slice.{slice}
+use Rattle.spec_search.proofs.SoundLemmas.{slice-sound}
+use Rattle.spec_search.proofs.CountLemmas.{slice-counts}
+use Rattle.mal_freeze.proofs.SoundLemmas.{sound-image}
+use Rattle.mal_cdcl.proofs.tests.run_first.Goals as goal
+
+pub returns-clause-sound : goal.returns-clause-sound
+returns-clause-sound c =
+    let n = c.args.node.now.state in
+    rw (c.take_lines.ensures.state, c.run.ensures.node) (slice-sound n c.requires.sound)
+
+pub returns-clause-counts : goal.returns-clause-counts
+returns-clause-counts c =
+    let n = c.args.node.now.state in
+    let rise : CountsRise n = slice-counts n in
+    rw (c.take_lines.ensures.state, c.run.ensures.node) (record { since = omega (arith, rise.since, c.requires.new.since); round = omega (arith, rise.round, c.requires.new.round); serial = omega (arith, rise.serial, c.requires.new.serial) })
+
+pub returns-clause-form : goal.returns-clause-form
+returns-clause-form c =
+    let n = c.args.node.now.state in
+    let rise : CountsRise n = slice-counts n in
+    rw (c.take_lines.ensures.state, c.run.ensures.node) (sound-image _ (slice-sound n c.requires.sound) (omega (arith, rise.serial, c.requires.new.serial)))

@@ -1,0 +1,8 @@
+use Rattle.std.specs.Prelude.{Bool, List}
+use Rattle.std.specs.List.{list_all}
+use Rattle.mal_base.specs.Clauses.{rises}
+use Rattle.mal_base.specs.Held.{Held}
+
+-- the literals of each clause rise by variable
+abbrev pub all_rise : List Held → Bool
+all_rise clauses = list_all (λ c. rises c.lits) clauses
