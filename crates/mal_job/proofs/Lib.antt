@@ -1,1 +1,3 @@
 pub mod SliceLemmas
+pub mod LogLemmas
+pub mod ToldLemmas

@@ -2,7 +2,9 @@
 #![tactic(auto)]
 
 mod job;
+mod lines;
 #[cfg(test)]
 mod tests;
+mod told;
 
 pub use job::Job;

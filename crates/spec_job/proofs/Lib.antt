@@ -3,3 +3,8 @@ pub mod StepLemmas
 pub mod LoadedLemmas
 pub mod SolvingLemmas
 pub mod StayLemmas
+pub mod ReachedLemmas
+pub mod LinesLemmas
+pub mod TrackedLemmas
+pub mod DerivingLemmas
+pub mod RefutingLemmas

@@ -1,24 +1,27 @@
-use Rattle.std.proofs.Common.{◌≡◌, ℕ, zero, suc, ◌+◌, ◌<◌, ◌^◌, Bool, true, cond, List, [], ◌∷◌, ◌++◌, length, take, fold, Option, Some, refl, sym, ◌∙◌, ap, subst, arith, append_assoc, append-nil, length-append}
+use Rattle.std.proofs.Common.{◌≡◌, ℕ, zero, suc, ◌+◌, ◌<◌, ◌≤◌, ◌^◌, Bool, true, false, cond, nat_lt, List, [], ◌∷◌, ◌++◌, length, take, fold, Option, Some, refl, sym, ◌∙◌, ap, subst, arith, append_assoc, append-nil, length-append}
 use Rattle.std.specs.Prelude.{All, slice_get}
 use Rattle.std.specs.List.{list_all}
-use Rattle.std.proofs.lemmas.Bool.{and_from}
+use Rattle.std.proofs.lemmas.Bool.{and_from, and_parts}
 use Rattle.std.proofs.lemmas.List.Concat.{length-flat_map, flat_map-append}
 use Rattle.std.proofs.lemmas.List.Elements.{All-head, All-tail}
 use Rattle.std.proofs.lemmas.List.Sums.{fold_push, sum_by-append, sum_by-cons}
 use Rattle.mal_base.specs.declared.verdict.Verdict.TheVariants.{Satisfiable}
 use Rattle.mal_revision.specs.Posted.{Posted, is_posted}
-use Rattle.spec_logic.specs.Logic.{satisfies, satisfies_with, is_true_in}
+use Rattle.spec_logic.specs.Logic.{satisfies, satisfies_clause, satisfies_with, is_true_in}
 use Rattle.mal_base.specs.Held.{Held}
 use Rattle.spec_node.specs.State.{Node, fresh}
-use Rattle.spec_node.specs.Slice.{Sliced, slice}
 use Rattle.spec_node.specs.Load.{loaded, numbered}
 use Rattle.spec_node.specs.Model.{model_of}
-use Rattle.spec_node.specs.Sound.{IsConsistent}
-use Rattle.spec_node.specs.Laws.{HasModel, IsModel, HoldsAll, Leaves, formula_of}
-use Rattle.spec_node.proofs.LoadLemmas.{fresh-consistent, loaded-consistent, numbers-mean_same}
-use Rattle.spec_node.proofs.ModelLemmas.{slice-consistent, slice-keeps_model, slice-leaves}
+use Rattle.spec_node.specs.Sound.{IsSound}
+use Rattle.spec_node.specs.Laws.{HasModel, IsModel, HoldsAll, formula_of, originals}
+use Rattle.spec_node.proofs.LoadLemmas.{numbers-mean_same}
+use Rattle.spec_node.proofs.SoundLemmas.{fresh-sound, loaded-sound}
 use Rattle.spec_node.proofs.PostedLemmas.{posted-literals}
 use Rattle.spec_node.proofs.ChainLemmas.{loads-hold_all}
+use Rattle.spec_search.specs.Slice.{Sliced, slice}
+use Rattle.spec_search.specs.Laws.{Leaves}
+use Rattle.spec_search.proofs.SoundLemmas.{slice-sound}
+use Rattle.spec_search.proofs.ModelLemmas.{slice-keeps_model, slice-leaves}
 use Rattle.spec_job.specs.Journal.{JournalEntry, Load, after_entry, is_load, loads_in, loads_of}
 use Rattle.spec_job.specs.Solo.{clauses_in}
 use Rattle.spec_job.specs.Models.{clauses_of}
@@ -35,11 +38,11 @@ last_assumed revisions = fold (λ (a : List ℕ) (p : Posted). p.assumptions) []
 abbrev pub Solves : List Posted → List Bool → Type 0
 Solves revisions model = satisfies_with model (clauses_of revisions) (last_assumed revisions) ≡ true
 
--- a node that has loaded these revisions and nothing else
+-- a sound node that has loaded these revisions and no others
 pub record HasLoaded (revisions : List Posted) (n : Node) : Type 0 where
-  pub consistent : IsConsistent n
+  pub sound : IsSound n
   pub model : HasModel n
-  pub held : n.clauses ≡ numbered 1 (clauses_of revisions)
+  pub held : originals n.clauses ≡ numbered 1 (clauses_of revisions)
   pub assumed : n.assumptions ≡ last_assumed revisions
 
 pub clauses-length : (ps : List Posted) → length (clauses_of ps) ≡ clauses_in ps
@@ -51,15 +54,15 @@ clauses-push ps r = flat_map-append (λ (p : Posted). p.clauses) ps (r ∷ []) �
 pub clauses_in-append : (ps rs : List Posted) → clauses_in (ps ++ rs) ≡ clauses_in ps + clauses_in rs
 clauses_in-append ps rs = sum_by-append (λ (p : Posted). length p.clauses) ps rs
 
-clauses_in-cons : (r : Posted) (rs : List Posted) → clauses_in (r ∷ rs) ≡ length r.clauses + clauses_in rs
+pub clauses_in-cons : (r : Posted) (rs : List Posted) → clauses_in (r ∷ rs) ≡ length r.clauses + clauses_in rs
 clauses_in-cons r rs = sum_by-cons (λ (p : Posted). length p.clauses) r rs
 
 pub clauses_in-push : (ps : List Posted) (r : Posted) → clauses_in (ps ++ r ∷ []) ≡ clauses_in ps + length r.clauses
 clauses_in-push ps r = fold_push (λ (a : ℕ) (p : Posted). a + length p.clauses) 0 ps r
 
 -- a fresh node has loaded nothing
-pub fresh-loaded : (i : ℕ) → HasLoaded [] (fresh i)
-fresh-loaded i = record { consistent = fresh-consistent i; model = λ v. absurd (cc); held = refl; assumed = refl }
+pub fresh-loaded : (i : ℕ) → i ≤ 63 → HasLoaded [] (fresh i)
+fresh-loaded i low = record { sound = fresh-sound i low; model = λ v. absurd (cc); held = refl; assumed = refl }
 
 -- a load adds its revision
 pub load-loaded : (ps : List Posted) (r : Posted) (n : Node) → IsLoadable r → clauses_in ps + length r.clauses < 2 ^ 32 → HasLoaded ps n → HasLoaded (ps ++ r ∷ []) (loaded r (1 + length (clauses_of ps)) n)
@@ -68,7 +71,7 @@ load-loaded ps r n may room h =
     let count : length (clauses_of ps) ≡ clauses_in ps = clauses-length ps in
     let holds : HoldsAll r (clauses_of ps) n = loads-hold_all r (clauses_of ps) n h.held (omega arith) in
     record {
-      consistent = loaded-consistent r (1 + length (clauses_of ps)) n may (posted-literals r may) h.consistent;
+      sound = loaded-sound r (1 + length (clauses_of ps)) n may (posted-literals r may) holds.new h.sound;
       model = λ v. absurd (cc);
       held = holds.held ∙ ap (numbered 1) (sym (clauses-push ps r));
       assumed = sym (fold_push (λ (a : List ℕ) (p : Posted). p.assumptions) [] ps r);
@@ -78,13 +81,24 @@ load-loaded ps r n may room h =
 pub slice-loaded : (ps : List Posted) (n : Node) → HasLoaded ps n → HasLoaded ps (slice n).node
 slice-loaded ps n h =
     let k : Leaves n (slice n).node = slice-leaves n in
-    record { consistent = slice-consistent n h.consistent; model = slice-keeps_model n h.consistent h.model; held = k.clauses ∙ h.held; assumed = k.assumptions ∙ h.assumed }
+    record { sound = slice-sound n h.sound; model = slice-keeps_model n h.sound h.model; held = k.originals ∙ h.held; assumed = k.assumptions ∙ h.assumed }
+
+-- what satisfies the clauses held satisfies the originals among them
+originals-satisfied : (a : List Bool) (cs : List Held) → satisfies a (formula_of cs) ≡ true → satisfies a (formula_of (originals cs)) ≡ true
+originals-satisfied a [] e = refl
+originals-satisfied a (c ∷ cs) e =
+    let parts = and_parts (satisfies_clause a (Some c.lits)) (satisfies a (formula_of cs)) e in
+    by_kind (nat_lt c.id (2 ^ 32)) parts.0 (originals-satisfied a cs parts.1)
+  where
+    by_kind : (b : Bool) → satisfies_clause a (Some c.lits) ≡ true → satisfies a (formula_of (originals cs)) ≡ true → satisfies a (formula_of (cond b (c ∷ originals cs) (originals cs))) ≡ true
+    by_kind true here rest = and_from _ _ here rest
+    by_kind false here rest = rest
 
 -- a satisfiable node's model solves what it has loaded
 pub loaded-solves : (ps : List Posted) (n : Node) → HasLoaded ps n → n.verdict ≡ Some Satisfiable → Solves ps (model_of n)
 loaded-solves ps n h v =
     let model : IsModel (model_of n) n.clauses n.assumptions = h.model v in
-    let held : satisfies (model_of n) (formula_of (numbered 1 (clauses_of ps))) ≡ true = subst (λ (cs : List Held). satisfies (model_of n) (formula_of cs) ≡ true) h.held model.satisfied in
+    let held : satisfies (model_of n) (formula_of (numbered 1 (clauses_of ps))) ≡ true = subst (λ (cs : List Held). satisfies (model_of n) (formula_of cs) ≡ true) h.held (originals-satisfied (model_of n) n.clauses model.satisfied) in
     and_from _ _ (sym (numbers-mean_same.by_number (model_of n) 1 (clauses_of ps)) ∙ held) (subst (λ (xs : List ℕ). list_all (is_true_in (model_of n)) xs ≡ true) h.assumed model.assumed)
 
 -- the loads of further revisions add them all

@@ -1,15 +1,16 @@
-use Rattle.std.proofs.Common.{ℕ, ◌+◌, Bool, true, false, cond, ◌==◌, List, [], ◌∷◌, ◌++◌, Option, Some, None, refl, sym, ◌∙◌, ap, subst, append_assoc, append-nil}
+use Rattle.std.proofs.Common.{ℕ, ◌+◌, ◌-◌, Bool, true, false, cond, ◌==◌, List, [], ◌∷◌, ◌++◌, length, replicate, Option, Some, None, refl, sym, ◌∙◌, ap, subst, append_assoc, append-nil}
 use Rattle.std.proofs.lemmas.List.Sums.{fold_push}
 use Rattle.mal_base.specs.declared.answer.Answer.{Answer}
-use Rattle.mal_base.specs.declared.answer.Answer.TheVariants.{Satisfied, Spent, OutOfStarts}
+use Rattle.mal_base.specs.declared.answer.Answer.TheVariants.{Satisfied, Refuted, Spent, OutOfStarts}
 use Rattle.mal_base.specs.declared.verdict.Verdict.{Verdict}
 use Rattle.mal_base.specs.declared.verdict.Verdict.TheVariants.{Satisfiable, Unsatisfiable}
 use Rattle.mal_base.specs.declared.verdict.Outcome.{Outcome}
 use Rattle.mal_base.specs.declared.verdict.Outcome.TheVariants.{Ran, Starved, Lost}
 use Rattle.spec_node.specs.State.{Node}
 use Rattle.spec_node.specs.Model.{model_of}
+use Rattle.spec_search.specs.Slice.{Sliced}
 use Rattle.spec_job.specs.Journal.{replay}
-use Rattle.spec_job.specs.Solo.{Own, Opened, Revised, Closed, Volume, Started, Finished, Exchanged, Lease, Place, Solo, unopened, solo, solo_step, place_at, with_place, answered, spend, starve, conclude, is_late, finished_home, finished_lease, finished}
+use Rattle.spec_job.specs.Solo.{Own, Opened, Revised, Closed, Volume, Started, Finished, Exchanged, Lease, Place, Solo, unopened, solo, solo_step, place_at, with_place, answered, spend, starve, conclude, first_empty, settled_by, settled, is_late, finished_home, finished_lease, finished}
 use Rattle.spec_job.specs.Models.{KeepsAnswers}
 use Rattle.spec_job.specs.Runnable.{AnswersStay}
 
@@ -35,12 +36,17 @@ starve-stays s = stays-cond (s.starved + 1 == 3) s (answered s OutOfStarts) (rec
 conclude-stays : (v : Option Verdict) (n : Node) (s : Solo) → KeepsAnswers s (conclude v n s)
 conclude-stays None n s = spend-stays s
 conclude-stays (Some Satisfiable) n s = answered-stays s (Satisfied (model_of n))
-conclude-stays (Some (Unsatisfiable goal)) n s = spend-stays s
+conclude-stays (Some (Unsatisfiable goal)) n s = answered-stays s (Refuted goal)
+
+pub settled-stays : (o : Option ℕ) (s : Solo) → KeepsAnswers s (settled_by o s)
+settled-stays None s = stays-self s
+settled-stays (Some goal) s = record { more = replicate (length s.revisions - length s.answers) (Refuted goal); kept = refl }
 
 lease-stays : (s : Solo) (i : ℕ) (p : Place) (l : Lease) (o : Outcome) → KeepsAnswers s (finished_lease s i p l o)
 lease-stays s i p l Ran =
-    let node : Node = (replay i (p.entries ++ l.adds)).node in
-    let home : Solo = record (with_place s i (record p { entries = p.entries ++ l.adds; out = None })) { ran = s.ran + 1 } in
+    let slice : Sliced = replay i (p.entries ++ l.adds) in
+    let node : Node = slice.node in
+    let home : Solo = record (with_place s i (record p { entries = p.entries ++ l.adds; out = None })) { log = s.log ++ slice.lines; ran = s.ran + 1 } in
     let same : KeepsAnswers s home = record { more = []; kept = sym (append-nil s.answers) } in
     stays-cond (is_late s l) s home (conclude node.verdict node home) same (stays-on s home (conclude node.verdict node home) same (conclude-stays node.verdict node home))
 lease-stays s i p l Starved =
@@ -51,12 +57,16 @@ lease-stays s i p l Lost = record { more = []; kept = sym (append-nil s.answers)
 
 finished-stays : (s : Solo) (i : ℕ) (p : Place) (out : Option Lease) (o : Outcome) → KeepsAnswers s (finished s i p out o)
 finished-stays s i p None o = stays-self s
-finished-stays s i p (Some l) o = lease-stays s i p l o
+finished-stays s i p (Some l) o =
+    let ended : Solo = finished_lease s i p l o in
+    stays-on s ended (settled ended) (lease-stays s i p l o) (settled-stays (first_empty ended.log) ended)
 
 -- an own event keeps the answers given
 pub step-stays : (s : Solo) (o : Own) → KeepsAnswers s (solo_step s o)
 step-stays s (Opened ask) = record { more = []; kept = sym (append-nil s.answers) }
-step-stays s (Revised r) = record { more = []; kept = sym (append-nil s.answers) }
+step-stays s (Revised r) =
+    let longer : Solo = record s { revisions = s.revisions ++ r ∷ [] } in
+    stays-on s longer (settled longer) (record { more = []; kept = sym (append-nil s.answers) }) (settled-stays (first_empty s.log) longer)
 step-stays s Closed = record { more = []; kept = sym (append-nil s.answers) }
 step-stays s (Volume v) = record { more = []; kept = sym (append-nil s.answers) }
 step-stays s (Started i) = record { more = []; kept = sym (append-nil s.answers) }

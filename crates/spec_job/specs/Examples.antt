@@ -1,10 +1,13 @@
-use Rattle.std.specs.Prelude.{◌≡◌, ℕ, true, false, List, [], ◌∷◌, Some}
+use Rattle.std.specs.Prelude.{◌≡◌, ℕ, true, false, List, [], ◌∷◌, Some, None}
 use Rattle.mal_base.specs.Asks.{Terms}
-use Rattle.mal_base.specs.declared.answer.Answer.TheVariants.{Satisfied, Spent, OutOfStarts}
+use Rattle.mal_base.specs.Held.{Line}
+use Rattle.mal_base.specs.declared.answer.Answer.TheVariants.{Satisfied, Refuted, Spent, OutOfStarts}
 use Rattle.mal_base.specs.declared.verdict.Outcome.TheVariants.{Ran, Starved, Lost}
 use Rattle.mal_revision.specs.Posted.{Posted}
+use Rattle.spec_node.specs.State.{fresh}
 use Rattle.spec_job.specs.Journal.{Load, Run}
-use Rattle.spec_job.specs.Solo.{Own, Opened, Revised, Closed, Volume, Started, Finished, solo, startable, place_at}
+use Rattle.spec_job.specs.Solo.{Own, Opened, Revised, Closed, Volume, Started, Finished, Solo, unopened, solo, startable, place_at, conclude}
+use Rattle.spec_job.specs.Proofs.{failed, proof_lines}
 
 -- an ask of this demand with these slices
 abbrev pub ask : ℕ → ℕ → Terms
@@ -18,21 +21,64 @@ one_of_two = record { variables = 2; clauses = Some (2 ∷ 4 ∷ []) ∷ []; ass
 abbrev pub at_odds : Posted
 at_odds = record { variables = 1; clauses = Some (2 ∷ []) ∷ Some (3 ∷ []) ∷ []; assumptions = [] }
 
+-- the clauses 1 2, 1 -2, -1 2 and -1 -2
+abbrev pub four : Posted
+four = record { variables = 2; clauses = Some (2 ∷ 4 ∷ []) ∷ Some (2 ∷ 5 ∷ []) ∷ Some (3 ∷ 4 ∷ []) ∷ Some (3 ∷ 5 ∷ []) ∷ []; assumptions = [] }
+
+-- two variables, one of which has to be false, where both are assumed true
+abbrev pub both_assumed : Posted
+both_assumed = record { variables = 2; clauses = Some (3 ∷ 5 ∷ []) ∷ []; assumptions = 2 ∷ 4 ∷ [] }
+
 -- a job with a revision and one volume
 abbrev pub ready : Posted → ℕ → List Own
 ready r slices = Opened (ask 1 slices) ∷ Revised r ∷ Closed ∷ Volume 1 ∷ []
+
+-- a job whose revision one node ran a slice of
+abbrev pub ran_once : Posted → Solo
+ran_once r = solo (Opened (ask 1 4) ∷ Revised r ∷ Closed ∷ Volume 1 ∷ Started 0 ∷ Finished 0 Ran ∷ [])
+
+-- a job whose first revision one node ran a slice of, and then another one was posted
+abbrev pub ran_before : Posted → Posted → Solo
+ran_before r later = solo (Opened (ask 1 4) ∷ Revised r ∷ Volume 1 ∷ Started 0 ∷ Finished 0 Ran ∷ Revised later ∷ [])
+
+-- a job with a budget of two slices, of which so many are spent
+abbrev pub with_spent : ℕ → Solo
+with_spent n = record unopened { ask = ask 1 2; revisions = one_of_two ∷ []; spent = n }
+
+abbrev pub line : ℕ → List ℕ → List ℕ → Line
+line id lits hints = record { id = id; lits = lits; hints = hints }
+
+-- the lines of a job's proof for a revision and a goal
+abbrev pub proof_for : Solo → ℕ → ℕ → List Line
+proof_for s r goal = proof_lines s.revisions s.log r goal
 
 -- worked examples of a job's machine: answers, budgets, starved and lost starts, late finishes
 pub record HasExamples : Type 0 where
   pub answered : (solo (Opened (ask 1 4) ∷ Revised one_of_two ∷ Closed ∷ Volume 1 ∷ Started 0 ∷ Finished 0 Ran ∷ [])).answers ≡ Satisfied (false ∷ true ∷ []) ∷ []
   pub second_node : (solo (Opened (ask 2 4) ∷ Revised one_of_two ∷ Closed ∷ Volume 2 ∷ Started 0 ∷ Started 1 ∷ Finished 1 Ran ∷ Finished 0 Ran ∷ [])).answers ≡ Satisfied (true ∷ true ∷ []) ∷ []
-  pub budget_spent : (solo (Opened (ask 1 2) ∷ Revised at_odds ∷ Closed ∷ Volume 1 ∷ Started 0 ∷ Finished 0 Ran ∷ Started 0 ∷ Finished 0 Ran ∷ [])).answers ≡ Spent 2 ∷ []
-  pub budget_left : (solo (Opened (ask 1 2) ∷ Revised at_odds ∷ Closed ∷ Volume 1 ∷ Started 0 ∷ Finished 0 Ran ∷ [])).answers ≡ []
+  pub budget_spent : (conclude None (fresh 0) (with_spent 1)).answers ≡ Spent 2 ∷ []
+  pub budget_left : (conclude None (fresh 0) (with_spent 0)).answers ≡ []
+  pub budget_counts : (conclude None (fresh 0) (with_spent 0)).spent ≡ 1
   pub starved_thrice : (solo (Opened (ask 1 4) ∷ Revised one_of_two ∷ Volume 1 ∷ Started 0 ∷ Finished 0 Starved ∷ Started 0 ∷ Finished 0 Starved ∷ Started 0 ∷ Finished 0 Starved ∷ [])).answers ≡ OutOfStarts ∷ []
   pub lost_counts_nothing : (solo (Opened (ask 1 1) ∷ Revised one_of_two ∷ Volume 1 ∷ Started 0 ∷ Finished 0 Lost ∷ Started 0 ∷ Finished 0 Ran ∷ [])).answers ≡ Satisfied (false ∷ true ∷ []) ∷ []
-  pub journal : (place_at (solo (Opened (ask 1 4) ∷ Revised at_odds ∷ Volume 1 ∷ Started 0 ∷ Finished 0 Ran ∷ Started 0 ∷ Finished 0 Ran ∷ [])) 0).entries ≡ Load at_odds 1 ∷ Run ∷ Run ∷ []
+  pub journal : (place_at (solo (Opened (ask 1 4) ∷ Revised one_of_two ∷ Volume 1 ∷ Started 0 ∷ Finished 0 Ran ∷ Revised at_odds ∷ Started 0 ∷ Finished 0 Ran ∷ [])) 0).entries ≡ Load one_of_two 1 ∷ Run ∷ Load at_odds 2 ∷ Run ∷ []
   pub may_start : startable (solo (ready one_of_two 1)) 0 ≡ true
   pub not_above_volume : startable (solo (ready one_of_two 1)) 1 ≡ false
   pub not_while_out : startable (solo (Opened (ask 1 4) ∷ Revised one_of_two ∷ Volume 1 ∷ Started 0 ∷ [])) 0 ≡ false
   pub not_past_budget : startable (solo (Opened (ask 2 1) ∷ Revised one_of_two ∷ Volume 2 ∷ Started 0 ∷ [])) 1 ≡ false
   pub not_when_answered : startable (solo (Opened (ask 1 4) ∷ Revised one_of_two ∷ Volume 1 ∷ Started 0 ∷ Finished 0 Ran ∷ [])) 0 ≡ false
+
+-- worked examples of refutations: a job that its first slice refutes, with its log and its proof; a proof of two lines; a
+-- revision that is posted behind an empty clause; and assumptions that fail
+pub record HasRefutations : Type 0 where
+  pub refuted_at_once : (ran_once at_odds).answers ≡ Refuted 4294967296 ∷ []
+  pub one_line : (ran_once at_odds).log ≡ line 4294967296 [] (1 ∷ 2 ∷ []) ∷ []
+  pub numbered : proof_for (ran_once at_odds) 0 4294967296 ≡ line 3 [] (1 ∷ 2 ∷ []) ∷ []
+  pub none_failed : failed 4294967296 (ran_once at_odds).log ≡ []
+  pub two_lines : proof_for (ran_once four) 0 4294967360 ≡ line 5 (2 ∷ []) (1 ∷ 2 ∷ []) ∷ line 6 [] (5 ∷ 3 ∷ 4 ∷ []) ∷ []
+  pub answered_at_once : (ran_before at_odds one_of_two).answers ≡ Refuted 4294967296 ∷ Refuted 4294967296 ∷ []
+  pub behind_both : proof_for (ran_before at_odds one_of_two) 1 4294967296 ≡ line 4 [] (1 ∷ 2 ∷ []) ∷ []
+  pub both_refuted : (ran_once both_assumed).answers ≡ Refuted 4294967296 ∷ []
+  pub both_failed : failed 4294967296 (ran_once both_assumed).log ≡ 2 ∷ 4 ∷ []
+  pub core : proof_for (ran_once both_assumed) 0 4294967296 ≡ line 2 (3 ∷ 5 ∷ []) (1 ∷ []) ∷ []
+  pub not_settled : (ran_before both_assumed one_of_two).answers ≡ Refuted 4294967296 ∷ []

@@ -1,7 +1,7 @@
 use Rattle.std.specs.Prelude.{ℕ, ◌+◌, Bool, true, false, List, [], ◌∷◌, length, fold, count_by}
 use Rattle.mal_revision.specs.Posted.{Posted}
 use Rattle.spec_node.specs.State.{fresh}
-use Rattle.spec_node.specs.Slice.{Sliced, slice}
+use Rattle.spec_search.specs.Slice.{Sliced, slice}
 use Rattle.spec_node.specs.Load.{loaded}
 
 -- an entry of a node's journal: a revision is loaded under the number of its first clause, or a slice is run

@@ -4,5 +4,7 @@ pub mod Titled
 pub mod Left
 pub mod Keeps
 pub mod Models
+pub mod Proofs
+pub mod Replies
 pub mod Runnable
 pub mod Examples

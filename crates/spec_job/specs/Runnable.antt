@@ -2,6 +2,7 @@ use Rattle.std.specs.Prelude.{◌≡◌, ◌+◌, ◌<◌, ◌^◌, true, List, 
 use Rattle.mal_revision.specs.Posted.{Posted, is_posted}
 use Rattle.spec_job.specs.Solo.{Own, Opened, Revised, Closed, Volume, Started, Finished, Exchanged, Solo, solo, startable, clauses_in}
 use Rattle.spec_job.specs.Models.{AnswersFollow, AnswersSolve, KeepsAnswers}
+use Rattle.spec_job.specs.Proofs.{AnswersRefute, LogIsDerived}
 
 -- a revision may come that was posted and whose clauses leave the numbers of originals below 2^32
 pub record MayCome (s : Solo) (r : Posted) : Type 0 where
@@ -30,6 +31,14 @@ RunnableAnswersSolve = (events : List Own) → IsRunnable [] events → AnswersS
 -- such a machine answers no revision before it is posted
 abbrev pub RunnableAnswersFollow : Type 0
 RunnableAnswersFollow = (events : List Own) → IsRunnable [] events → AnswersFollow (solo events)
+
+-- such a machine answers unsatisfiable only with a proof
+abbrev pub RunnableAnswersRefute : Type 0
+RunnableAnswersRefute = (events : List Own) → IsRunnable [] events → AnswersRefute (solo events)
+
+-- the log of such a machine is derived from its clauses
+abbrev pub RunnableLogsDerived : Type 0
+RunnableLogsDerived = (events : List Own) → IsRunnable [] events → LogIsDerived (solo events)
 
 -- an answer that was given stays, whatever own events follow
 abbrev pub AnswersStay : Type 0

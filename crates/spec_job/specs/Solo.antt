@@ -1,11 +1,12 @@
-use Rattle.std.specs.Prelude.{ℕ, ◌+◌, ◌-◌, ◌*◌, Bool, true, false, ◌&&◌, ◌==◌, nat_lt, nat_le, List, [], ◌∷◌, ◌++◌, length, take, drop, replicate, sum_by, count_by, fold, get_or, slice_set, Option, Some, None, is_none, if◌then◌else◌}
+use Rattle.std.specs.Prelude.{find, option_map, ℕ, ◌+◌, ◌-◌, ◌*◌, Bool, true, false, ◌&&◌, ◌==◌, nat_lt, nat_le, List, [], ◌∷◌, ◌++◌, length, take, drop, replicate, sum_by, count_by, fold, get_or, slice_set, Option, Some, None, is_none, if◌then◌else◌}
 use Rattle.mal_base.specs.Asks.{Terms}
 use Rattle.mal_base.specs.declared.answer.Answer.{Answer}
-use Rattle.mal_base.specs.declared.answer.Answer.TheVariants.{Satisfied, Spent, OutOfStarts}
+use Rattle.mal_base.specs.declared.answer.Answer.TheVariants.{Satisfied, Refuted, Spent, OutOfStarts}
 use Rattle.mal_base.specs.declared.verdict.Verdict.{Verdict}
 use Rattle.mal_base.specs.declared.verdict.Verdict.TheVariants.{Satisfiable, Unsatisfiable}
 use Rattle.mal_base.specs.declared.verdict.Outcome.{Outcome}
 use Rattle.mal_base.specs.declared.verdict.Outcome.TheVariants.{Ran, Starved, Lost}
+use Rattle.mal_base.specs.Held.{Line}
 use Rattle.mal_revision.specs.Posted.{Posted}
 use Rattle.spec_node.specs.State.{Node}
 use Rattle.spec_node.specs.Model.{model_of}
@@ -44,13 +45,14 @@ pub record Solo : Type 0 where
   pub revisions : List Posted
   pub answers : List Answer
   pub places : List Place
+  pub log : List Line
   pub ran : ℕ
   pub spent : ℕ
   pub starved : ℕ
 
 -- the machine before its first event: 64 vacant places and nothing else
 abbrev pub unopened : Solo
-unopened = record { ask = record { priority = 0; demand = 0; slices = 0 }; closed = false; volume = 0; revisions = []; answers = []; places = replicate 64 vacant; ran = 0; spent = 0; starved = 0 }
+unopened = record { ask = record { priority = 0; demand = 0; slices = 0 }; closed = false; volume = 0; revisions = []; answers = []; places = replicate 64 vacant; log = []; ran = 0; spent = 0; starved = 0 }
 
 -- revisions are answered in order: the current one is the first without an answer
 abbrev pub current : Solo → ℕ
@@ -88,31 +90,46 @@ started s i p = with_place s i (record p { out = Some (record { revision = curre
 abbrev pub answered : Solo → Answer → Solo
 answered s a = record s { answers = s.answers ++ a ∷ []; spent = 0; starved = 0 }
 
--- a slice without a verdict counts as spent, and the last of the budget answers unknown
+-- a slice that answers nothing counts as spent, and the last of the budget answers unknown
 abbrev pub spend : Solo → Solo
 spend s = if s.spent + 1 == s.ask.slices then answered s (Spent s.ask.slices) else record s { spent = s.spent + 1 }
 
--- a verdict answers the current revision
+-- a satisfiable node's model answers the current revision, and so does the goal of a node that is refuted; a slice without
+-- a verdict counts as spent
 abbrev pub conclude : Option Verdict → Node → Solo → Solo
 conclude None n s = spend s
 conclude (Some Satisfiable) n s = answered s (Satisfied (model_of n))
-conclude (Some (Unsatisfiable goal)) n s = spend s
+conclude (Some (Unsatisfiable goal)) n s = answered s (Refuted goal)
 
 -- the third start of a revision that reported want of memory answers unknown
 abbrev pub starve : Solo → Solo
 starve s = if s.starved + 1 == 3 then answered s OutOfStarts else record s { starved = s.starved + 1 }
 
+-- the number of the first empty clause of a log
+abbrev pub first_empty : List Line → Option ℕ
+first_empty log = option_map (λ l. l.id) (find (λ l. length l.lits == 0) log)
+
+-- an empty clause answers every revision without an answer
+abbrev pub settled_by : Option ℕ → Solo → Solo
+settled_by None s = s
+settled_by (Some goal) s = record s { answers = s.answers ++ replicate (length s.revisions - length s.answers) (Refuted goal); spent = 0; starved = 0 }
+
+-- once the log holds an empty clause every revision is answered
+abbrev pub settled : Solo → Solo
+settled s = settled_by (first_empty s.log) s
+
 -- a finish is late where the revision of its start has its answer
 abbrev pub is_late : Solo → Lease → Bool
 is_late s l = nat_lt l.revision (current s)
 
--- a slice that was run: its entries join the journal, and unless it is late it answers or counts as spent
+-- a slice that was run: its entries join the journal, its lines the log, and unless it is late it answers or counts as
+-- spent
 abbrev pub finished_ran : Solo → ℕ → Place → Lease → Solo
 finished_ran s i p l =
     let entries = p.entries ++ l.adds in
-    let node = (replay i entries).node in
-    let home = record (with_place s i (record p { entries = entries; out = None })) { ran = s.ran + 1 } in
-    if is_late s l then home else conclude node.verdict node home
+    let slice = replay i entries in
+    let home = record (with_place s i (record p { entries = entries; out = None })) { log = s.log ++ slice.lines; ran = s.ran + 1 } in
+    if is_late s l then home else conclude slice.node.verdict slice.node home
 
 -- a start that comes to nothing leaves the node as it was
 abbrev pub finished_home : Solo → ℕ → Place → Solo
@@ -124,15 +141,15 @@ finished_lease s i p l Ran = finished_ran s i p l
 finished_lease s i p l Starved = (let home = finished_home s i p in if is_late s l then home else starve home)
 finished_lease s i p l Lost = finished_home s i p
 
--- a finish ends the start that is out
+-- a finish ends the start that is out, whatever its outcome
 abbrev pub finished : Solo → ℕ → Place → Option Lease → Outcome → Solo
 finished s i p None outcome = s
-finished s i p (Some l) outcome = finished_lease s i p l outcome
+finished s i p (Some l) outcome = settled (finished_lease s i p l outcome)
 
 -- the machine after one more event of its own
 abbrev pub solo_step : Solo → Own → Solo
 solo_step s (Opened ask) = record s { ask = ask }
-solo_step s (Revised r) = record s { revisions = s.revisions ++ r ∷ [] }
+solo_step s (Revised r) = settled (record s { revisions = s.revisions ++ r ∷ [] })
 solo_step s Closed = record s { closed = true }
 solo_step s (Volume v) = record s { volume = v }
 solo_step s (Started i) = started s i (place_at s i)
