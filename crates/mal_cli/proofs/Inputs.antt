@@ -1,5 +1,5 @@
 -- What was taken from a source to its end is its whole input.
-use Rattle.std.proofs.Common.{◌≡◌, ℕ, ◌≤◌, ◌<◌, ◌+◌, ◌^◌, List, [], ◌++◌, ◌∙◌, ap, sym, inl, inr, append-nil, length, length-append, arith, subst, Ok, Err, Result, refl}
+use Rattle.std.proofs.Common.{◌≡◌, ℕ, ◌≤◌, ◌<◌, ◌+◌, ◌^◌, List, [], ◌++◌, ◌∙◌, ap, sym, inl, inr, append-nil, length, length-append, arith, subst, Ok, Err, Result}
 use Rattle.std.proofs.KnownBytes.{Appends-nil}
 use Rattle.std.specs.Prelude.{Option, Some, None}
 use Rattle.std.specs.Io.KnownBytes.{Appends, Consumes, IsAtEnd}

@@ -1,1 +1,3 @@
 pub mod Top
+pub mod Check
+pub mod Words

@@ -1,9 +1,13 @@
 //! The commands of the program.
 #![tactic(auto)]
 
+mod answering;
+mod checking;
+mod denial;
 mod program;
 mod refusal;
 mod run;
+mod verifying;
 
 pub use program::top;
 pub use run::{Ran, run_script};

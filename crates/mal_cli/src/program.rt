@@ -3,53 +3,39 @@
 ghost use Rattle.std.specs.Prelude.{◌≡◌, ◌↔◌, ◌⊎◌, ℕ, List, [], map, IfOk, IfErr, IsTrue, OnOk, OnErr, string_bytes, codes};
 ghost use Rattle.std.specs.Io.KnownBytes.{Appends};
 ghost use Rattle.mal_cli.specs.Top.{IsRunWords, IsScript, IsNoScript, IsAnswer, WroteWhole, WrotePart, RanWhole, RanPart, Complained, WasRefused, IsScriptText, IsFirstFault, Refuses, usage_line};
+ghost use Rattle.mal_cli.specs.Check.{IsCheckWords, IsCommand, IsProvedClaim, IsUnprovedClaim, IsNoClaim, VerifiedWhole, VerifiedPart, WasNoClaim, WasDenied};
+ghost use Rattle.mal_cli.specs.Words.{IsCommandOf};
+ghost use Rattle.spec_claim.specs.Claims.{Claim};
 ghost use Rattle.mal_io.specs.Moves.{Rose};
 ghost use Rattle.spec_hall.specs.Events.{Event};
 ghost use Rattle.spec_script.specs.Script.{Scripted};
 
+use crate::answering::{
+    BAD_WORDS, INPUT_LIMIT, OUT_OF_MEMORY, READ_FAULT, REFUSED_INPUT, TOO_LONG, complain, finish,
+};
 use crate::refusal::{Refusal, refusal_of};
 use crate::run::{Ran, run_script};
-use mal_io::{ReadAllError, Sink, Source, WriteFault, read_all, write_all};
+use crate::verifying::serve_claim;
+use mal_io::{ReadAllError, Sink, Source, read_all};
 use mal_script::read;
 use std::alloc::Global;
-
-/// The texts of a run were written whole.
-const DONE: u8 = 0;
-
-/// The arguments are refused.
-const BAD_WORDS: u8 = 2;
-
-/// The input is too long or no script.
-const REFUSED_INPUT: u8 = 3;
-
-/// The source failed.
-const READ_FAULT: u8 = 4;
-
-/// A sink failed.
-const WRITE_FAULT: u8 = 5;
-
-/// Memory ran out.
-const OUT_OF_MEMORY: u8 = 6;
-
-/// The most bytes of an input.
-const INPUT_LIMIT: u32 = 67_108_864;
 
 const USAGE: &[u8] =
     b"usage: mal run --workers N, check, replay, gen --seed S --jobs N [--workers W]\n";
 
-const TOO_LONG: &[u8] = b"fault: input too long\n";
-
-/// The program: runs the script that `source` gives with one worker, writes the text of the history to `log` and
-/// then the replies to `out`, and answers the exit status. `words` are the program's name and its arguments.
+/// The program. `run --workers 1` runs the script that `source` gives with one worker, and writes the text of the history
+/// to `log` and then the replies to `out`. `check` checks the proof of the claim that `source` gives, and writes the line
+/// `s VERIFIED` to `out`. `words` are the program's name and its arguments.
 ///
 /// | Status | Comes |
 /// |---|---|
 /// | 0 | done |
-/// | 2 | exactly where the arguments are not `run --workers 1`; the log gains the usage line |
-/// | 3 | the input is above 2^26 bytes or no script that is served; the log gains the line that says so, or the first fault and its line |
+/// | 2 | exactly where the arguments are neither `run --workers 1` nor `check`; the log gains the usage line |
+/// | 3 | the input is above 2^26 bytes, or no script that is served or no claim; the log gains the line that says so, or the first fault and its line |
 /// | 4 | only where the source failed; nothing is written |
-/// | 5 | only where a sink failed; what was written is a front of the log's text and then the replies |
+/// | 5 | only where a sink failed; what was written is a front of the log's text and then of the output's |
 /// | 6 | memory ran out; nothing is written |
+/// | 7 | `check` alone: the input is a claim, and its proof is no refutation; the log gains the line that says why |
 #[tactic(auto, using(crate::proofs::Inputs::input_lemmas))]
 pub fn top<S: Source, K: Sink, L: Sink>(
     alloc: Global,
@@ -58,23 +44,71 @@ pub fn top<S: Source, K: Sink, L: Sink>(
     out: &mut K,
     log: &mut L,
 ) -> u8
-    ensures done { result ≡ 0 → (text : List ℕ) × (s : Scripted) × (history : List Event) × (log_text out_text : List ℕ) × RanWhole (S.left source.old) (S.left source.new) (L.got log.old) (L.got log.new) (K.got out.old) (K.got out.new) text s history log_text out_text }
-    ensures usage { (result ≡ 2) ↔ (IsRunWords (map string_bytes words.now) → ⊥) }
+    ensures done { IsRunWords (map string_bytes words.now) → result ≡ 0 → (text : List ℕ) × (s : Scripted) × (history : List Event) × (log_text out_text : List ℕ) × RanWhole (S.left source.old) (S.left source.new) (L.got log.old) (L.got log.new) (K.got out.old) (K.got out.new) text s history log_text out_text }
+    ensures verified { IsCheckWords (map string_bytes words.now) → result ≡ 0 → (text : List ℕ) × (c : Claim) × VerifiedWhole (S.left source.old) (S.left source.new) (L.got log.old) (L.got log.new) (K.got out.old) (K.got out.new) text c }
+    ensures usage { (result ≡ 2) ↔ (IsCommand (map string_bytes words.now) → ⊥) }
     ensures usage_line { result ≡ 2 → Complained (L.got log.old) (L.got log.new) (Rose (L.faults log.old) (L.faults log.new)) usage_line × Appends (K.got out.old) (K.got out.new) [] }
-    ensures refused { result ≡ 3 → (taken line : List ℕ) × WasRefused (S.left source.old) (S.left source.new) (L.got log.old) (L.got log.new) (K.got out.old) (K.got out.new) (Rose (L.faults log.old) (L.faults log.new)) taken line }
+    ensures refused { IsRunWords (map string_bytes words.now) → result ≡ 3 → (taken line : List ℕ) × WasRefused (S.left source.old) (S.left source.new) (L.got log.old) (L.got log.new) (K.got out.old) (K.got out.new) (Rose (L.faults log.old) (L.faults log.new)) taken line }
+    ensures no_claim { IsCheckWords (map string_bytes words.now) → result ≡ 3 → (taken line : List ℕ) × WasNoClaim (S.left source.old) (S.left source.new) (L.got log.old) (L.got log.new) (K.got out.old) (K.got out.new) (Rose (L.faults log.old) (L.faults log.new)) taken line }
     ensures refuses { IsRunWords (map string_bytes words.now) → IsNoScript (S.left source.old) → (Rose (S.faults source.old) (S.faults source.new) → ⊥) → (result ≡ 3) ⊎ (result ≡ 6) }
+    ensures refuses_claims { IsCheckWords (map string_bytes words.now) → IsNoClaim (S.left source.old) → (Rose (S.faults source.old) (S.faults source.new) → ⊥) → (result ≡ 3) ⊎ (result ≡ 6) }
+    ensures denied { result ≡ 7 → IsCheckWords (map string_bytes words.now) × ((text : List ℕ) × (c : Claim) × (line : List ℕ) × WasDenied (S.left source.old) (S.left source.new) (L.got log.old) (L.got log.new) (K.got out.old) (K.got out.new) (Rose (L.faults log.old) (L.faults log.new)) text c line) }
+    ensures denies { IsCheckWords (map string_bytes words.now) → IsUnprovedClaim (S.left source.old) → (Rose (S.faults source.old) (S.faults source.new) → ⊥) → (result ≡ 7) ⊎ (result ≡ 6) }
     ensures read_fault { result ≡ 4 → Rose (S.faults source.old) (S.faults source.new) }
     ensures write_fault { result ≡ 5 → Rose (L.faults log.old) (L.faults log.new) ⊎ Rose (K.faults out.old) (K.faults out.new) }
-    ensures part { result ≡ 5 → (text : List ℕ) × (s : Scripted) × (history : List Event) × (log_text out_text : List ℕ) × RanPart (S.left source.old) (S.left source.new) (L.got log.old) (L.got log.new) (K.got out.old) (K.got out.new) text s history log_text out_text }
+    ensures part { IsRunWords (map string_bytes words.now) → result ≡ 5 → (text : List ℕ) × (s : Scripted) × (history : List Event) × (log_text out_text : List ℕ) × RanPart (S.left source.old) (S.left source.new) (L.got log.old) (L.got log.new) (K.got out.old) (K.got out.new) text s history log_text out_text }
+    ensures verified_part { IsCheckWords (map string_bytes words.now) → result ≡ 5 → (text : List ℕ) × (c : Claim) × VerifiedPart (S.left source.old) (S.left source.new) (L.got log.old) (L.got log.new) (K.got out.old) (K.got out.new) text c }
     ensures complete { IsRunWords (map string_bytes words.now) → IsScript (S.left source.old) → (Rose (S.faults source.old) (S.faults source.new) → ⊥) → (Rose (L.faults log.old) (L.faults log.new) → ⊥) → (Rose (K.faults out.old) (K.faults out.new) → ⊥) → (result ≡ 0) ⊎ (result ≡ 6) }
+    ensures complete_checks { IsCheckWords (map string_bytes words.now) → IsProvedClaim (S.left source.old) → (Rose (S.faults source.old) (S.faults source.new) → ⊥) → (Rose (L.faults log.old) (L.faults log.new) → ⊥) → (Rose (K.faults out.old) (K.faults out.new) → ⊥) → (result ≡ 0) ⊎ (result ≡ 6) }
     ensures silent { (result ≡ 4) ⊎ (result ≡ 6) → Appends (L.got log.old) (L.got log.new) [] × Appends (K.got out.old) (K.got out.new) [] }
-    ensures statuses { (result ≡ 0) ⊎ (result ≡ 2) ⊎ (result ≡ 3) ⊎ (result ≡ 4) ⊎ (result ≡ 5) ⊎ (result ≡ 6) }
+    ensures statuses { (result ≡ 0) ⊎ (result ≡ 2) ⊎ (result ≡ 3) ⊎ (result ≡ 4) ⊎ (result ≡ 5) ⊎ (result ≡ 6) ⊎ (result ≡ 7) }
 {
-    if !asks_for_a_run(words) {
-        complain(log, USAGE);
-        return BAD_WORDS;
+    match command_of(words) {
+        Some(Command::Run) => serve(alloc, source, out, log),
+        Some(Command::Check) => serve_claim(alloc, source, out, log),
+        None => {
+            complain(log, USAGE);
+            BAD_WORDS
+        }
     }
-    serve(alloc, source, out, log)
+}
+
+/// What the program does.
+enum Command {
+    /// Runs a script with one worker.
+    Run,
+    /// Checks the proof of a claim.
+    Check,
+}
+
+/// The command of the program's words, none where they are refused.
+fn command_of(words: &[String]) -> Option<Command>
+    ensures { IsCommandOf result (map string_bytes words.now) }
+{
+    if asks_for_a_run(words) {
+        return Some(Command::Run);
+    }
+    if asks_for_a_check(words) {
+        return Some(Command::Check);
+    }
+    None
+}
+
+/// Whether the one argument is `check`.
+fn asks_for_a_check(words: &[String]) -> bool
+    ensures { IsTrue result ↔ IsCheckWords (map string_bytes words.now) }
+{
+    match words {
+        [_, command] => is_check(command.as_str()),
+        _ => false,
+    }
+}
+
+/// Whether the word is `check`.
+fn is_check(command: &str) -> bool
+    ensures { IsTrue result ↔ (command.now ≡ codes "check") }
+{
+    command == "check"
 }
 
 /// Whether the arguments are `run --workers 1`.
@@ -156,35 +190,4 @@ fn answer(alloc: Global, text: &[u8]) -> Result<Ran, Refusal>
         },
         Err(fault) => Err(refusal_of(alloc, fault)),
     }
-}
-
-/// Writes what a run gave: status 0, or 5 where a sink failed.
-fn finish<K: Sink, L: Sink>(ran: &Ran, out: &mut K, log: &mut L) -> u8
-    ensures done { result ≡ 0 → WroteWhole (L.got log.old) (L.got log.new) (K.got out.old) (K.got out.new) ran.now.log.items ran.now.out.items }
-    ensures write_fault { result ≡ 5 → Rose (L.faults log.old) (L.faults log.new) ⊎ Rose (K.faults out.old) (K.faults out.new) }
-    ensures part { result ≡ 5 → WrotePart (L.got log.old) (L.got log.new) (K.got out.old) (K.got out.new) ran.now.log.items ran.now.out.items }
-    ensures statuses { (result ≡ 0) ⊎ (result ≡ 5) }
-{
-    match write_both(ran, out, log) {
-        Ok(()) => DONE,
-        Err(_) => WRITE_FAULT,
-    }
-}
-
-/// Writes the text of the log, and then that of the output.
-#[tactic(auto, using(crate::proofs::Inputs::input_lemmas))]
-fn write_both<K: Sink, L: Sink>(ran: &Ran, out: &mut K, log: &mut L) -> Result<(), WriteFault>
-    ensures whole { OnOk result (WroteWhole (L.got log.old) (L.got log.new) (K.got out.old) (K.got out.new) ran.now.log.items ran.now.out.items) }
-    ensures cause { OnErr result (Rose (L.faults log.old) (L.faults log.new) ⊎ Rose (K.faults out.old) (K.faults out.new)) }
-    ensures part { OnErr result (WrotePart (L.got log.old) (L.got log.new) (K.got out.old) (K.got out.new) ran.now.log.items ran.now.out.items) }
-{
-    write_all(log, ran.log.as_slice())?;
-    write_all(out, ran.out.as_slice())
-}
-
-/// Writes a line to the log, as far as the log takes it.
-fn complain<L: Sink>(log: &mut L, line: &[u8])
-    ensures { Complained (L.got log.old) (L.got log.new) (Rose (L.faults log.old) (L.faults log.new)) line.now }
-{
-    let _ = write_all(log, line);
 }

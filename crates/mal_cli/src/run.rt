@@ -10,7 +10,7 @@ use mal_pool::{replies, run_all};
 use mal_script::Script;
 use std::alloc::{AllocError, Global};
 
-/// What a run gives: the text of the history for the log, and the replies for the output.
+/// What a command gives: the text for the log, which is the history of a run, and the text for the output.
 #[derive(Debug, Drop)]
 pub struct Ran {
     pub log: Vec<u8>,

@@ -3,7 +3,8 @@ use Rattle.std.proofs.Common.{subst}
 use Rattle.spec_hall.specs.States.{titled, keys_of}
 use Rattle.spec_hall.specs.Legal.{Legal}
 use Rattle.spec_job.specs.Models.{AnswersSolve}
-use Rattle.spec_hall.proofs.RunnableLemmas.{find-titled, legal-answers_solve}
+use Rattle.spec_job.specs.Proofs.{AnswersRefute}
+use Rattle.spec_hall.proofs.RunnableLemmas.{find-titled, legal-answers_solve, legal-answers_refute}
 use Rattle.mal_hall.specs.Seen.{Seen}
 use Rattle.std.proofs.Common.{map}
 use Rattle.spec_hall.specs.Events.{bare}
@@ -39,7 +40,7 @@ use Rattle.spec_hall.specs.Dressed.{keyed, dressed, revise_count}
 use Rattle.spec_hall.specs.Alone.{IsCalm}
 use Rattle.spec_hall.proofs.KeyLemmas.{is_key-Decides, is_key-same}
 use Rattle.spec_hall.proofs.DressedLemmas.{dressed-append, revise_count-append}
-use Rattle.spec_hall.proofs.AloneLemmas.{alone-states}
+use Rattle.spec_hall.proofs.AloneLemmas.{alone-states, revise-keeps}
 use Rattle.spec_hall.proofs.CalmLemmas.{calm-open, calm-revise, calm-close}
 use Rattle.mal_hall.specs.Seen.{IsHeld, events_of}
 
@@ -57,7 +58,7 @@ held-open h t tenant job ask tenant_named job_named asked events key state room 
     titled-equal x k s p q = ap (λ (a : Key). let y : Titled = record { key = a; state = x.state } in y) p ∙ ap (λ (a : Solo). let y : Titled = record { key = k; state = a } in y) q
 
 -- a key that is tested to be the job's is the job's
-same-key : (t : Titled) (tenant job : List ℕ) → is_key (keyed tenant job) t.key ≡ true → t.key ≡ keyed tenant job
+pub same-key : (t : Titled) (tenant job : List ℕ) → is_key (keyed tenant job) t.key ≡ true → t.key ≡ keyed tenant job
 same-key t tenant job e = sym ((is_key-Decides (keyed tenant job) t.key).0 e)
 
 -- the job is found under its key
@@ -88,12 +89,12 @@ no-revisions (r ∷ rs) e = absurd (omega arith)
 
 -- the events after a revision was posted
 pub revised-events : (h after : Written) (t : Titled) (l : Bool) (tenant job : List ℕ) (r : Posted) → IsHeld h t l → after.events ≡ h.events ++ of.Revise tenant job 1 ∷ [] → events_of after.events (Some (stepped t (Revised r))) ≡ events_of h.events (Some t) ++ Revise (keyed tenant job) 1 r ∷ []
-revised-events h after t l tenant job r held events = ap (λ (x : List written.Event). dressed x (t.state.revisions ++ r ∷ [])) events ∙ dressed-append h.events (of.Revise tenant job 1 ∷ []) t.state.revisions (r ∷ []) held.count
+revised-events h after t l tenant job r held events = ap (dressed after.events) (revise-keeps t.state r).revisions ∙ (ap (λ (x : List written.Event). dressed x (t.state.revisions ++ r ∷ [])) events ∙ dressed-append h.events (of.Revise tenant job 1 ∷ []) t.state.revisions (r ∷ []) held.count)
 
 pub held-revise : (h after : Written) (t : Titled) (l : Bool) (tenant job : List ℕ) (r : Posted) → IsHeld h t l → is_key (keyed tenant job) t.key ≡ true → t.state.closed ≡ false → length t.state.revisions ≡ 0 → is_posted r ≡ true → after.events ≡ h.events ++ of.Revise tenant job 1 ∷ [] → 1 ≤ after.room → IsHeld after (stepped t (Revised r)) l
 held-revise h after t l tenant job r held key still none posted events room =
     let before : List Event = dressed h.events t.state.revisions in
-    let es : dressed after.events (t.state.revisions ++ r ∷ []) ≡ before ++ Revise t.key 1 r ∷ [] =
+    let es : dressed after.events (solo_step t.state (Revised r)).revisions ≡ before ++ Revise t.key 1 r ∷ [] =
     revised-events h after t l tenant job r held events ∙ ap (λ (k : Key). before ++ Revise k 1 r ∷ []) (sym (same-key t tenant job key)) in
     let clauses : clauses_in t.state.revisions ≡ 0 = ap clauses_in (no-revisions t.state.revisions none) in
     let literals : literals_in t.state.revisions ≡ 0 = ap literals_in (no-revisions t.state.revisions none) in
@@ -108,7 +109,7 @@ held-revise h after t l tenant job r held key still none posted events room =
     } in
     record {
       calm = rw es (calm-revise before t l 1 r held.calm may);
-      count = ap revise_count events ∙ (revise_count-append h.events (of.Revise tenant job 1 ∷ []) ∙ omega (arith, held.count, length-append {A = Posted} t.state.revisions (r ∷ [])));
+      count = ap revise_count events ∙ (revise_count-append h.events (of.Revise tenant job 1 ∷ []) ∙ omega (arith, held.count, length-append {A = Posted} t.state.revisions (r ∷ []), ap (λ (rs : List Posted). length rs) (revise-keeps t.state r).revisions));
       room = λ _. room;
     }
   where
@@ -250,12 +251,23 @@ pub hall-legal : (h : Written) (job : Option Titled) (l : Bool) → IsHall h job
 hall-legal h None l empty = rw empty tt
 hall-legal h (Some t) l held = held.calm.legal
 
+-- the job of a hall is found under its key
+pub hall-found : (h : Written) (t : Titled) (l : Bool) (tenant job : List ℕ) (seen : Seen) → IsHeld h t l → seen.events ≡ events_of h.events (Some t) → is_key (keyed tenant job) t.key ≡ true → job_of (keyed tenant job) (states seen.events) ≡ Some t
+hall-found h t l tenant job seen held events named = subst (λ (k : Key). job_of k (states seen.events) ≡ Some t) (same-key t tenant job named) (rw events (found (events_of h.events (Some t)) t l held.calm))
+
 -- the answers of a job of a hall carry models
 pub hall-solves : (h : Written) (job : Option Titled) (l : Bool) (seen : Seen) → IsHall h job l → seen.events ≡ events_of h.events job → (k : Key) (t : Titled) → job_of k (states seen.events) ≡ Some t → AnswersSolve t.state
 hall-solves h job l seen hall events k t found_at =
     let legal : Legal 1 seen.events = rw events (hall-legal h job l hall) in
     let same : titled seen.events k ≡ t = find-titled seen.events k (keys_of seen.events) t found_at in
     subst (λ (x : Titled). AnswersSolve x.state) same (legal-answers_solve 1 seen.events legal k)
+
+-- and proofs
+pub hall-refutes : (h : Written) (job : Option Titled) (l : Bool) (seen : Seen) → IsHall h job l → seen.events ≡ events_of h.events job → (k : Key) (t : Titled) → job_of k (states seen.events) ≡ Some t → AnswersRefute t.state
+hall-refutes h job l seen hall events k t found_at =
+    let legal : Legal 1 seen.events = rw events (hall-legal h job l hall) in
+    let same : titled seen.events k ≡ t = find-titled seen.events k (keys_of seen.events) t found_at in
+    subst (λ (x : Titled). AnswersRefute x.state) same (legal-answers_refute 1 seen.events legal k)
 
 -- nothing is out in a hall
 pub hall-home : (h : Written) (job : Option Titled) (l : Bool) → IsHall h job l → leases (events_of h.events job) ≡ []

@@ -10,6 +10,7 @@ ghost use Rattle.spec_hall.specs.Alone.{shares_of, listed_volume};
 use mal_base::Outcome;
 use mal_history::{Event, History, Share, Shares};
 use mal_job::Job;
+use mal_learn::Scratch;
 use std::alloc::{AllocError, Global};
 
 /// The volumes of a balancing: 1 for the job where it is live, and it is not listed where it is not.
@@ -52,7 +53,12 @@ pub fn enter_balance(alloc: Global, history: &mut History, job: &mut Job) -> Res
 
 /// Runs a slice of the first node of a live job with a volume, enters its start and its finish, and leaves room for one
 /// more event.
-pub fn enter_slice(alloc: Global, history: &mut History, job: &mut Job) -> Result<(), AllocError>
+pub fn enter_slice(
+    alloc: Global,
+    history: &mut History,
+    job: &mut Job,
+    scratch: &mut Scratch,
+) -> Result<(), AllocError>
     requires live { is_live job.old.state ≡ true }
     requires volume { 1 ≤ job.old.state.volume }
     ensures workers { history.new.workers ≡ history.old.workers }
@@ -69,7 +75,7 @@ pub fn enter_slice(alloc: Global, history: &mut History, job: &mut Job) -> Resul
     let tenant = job.tenant();
     let name = job.name();
     history.reserve(3)?;
-    job.run_slice(alloc)?;
+    job.run_slice(alloc, scratch)?;
     history.push_reserved(Event::Start {
         tenant,
         job: name,

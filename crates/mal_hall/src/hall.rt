@@ -7,20 +7,21 @@ ghost use Rattle.mal_hall.specs.Causes.{OpenCause, ReviseCause, CloseCause};
 ghost use Rattle.spec_hall.specs.Dressed.{keyed};
 ghost use Rattle.mal_hall.specs.Work.{GrowsByWork, left_in};
 ghost use Rattle.spec_hall.specs.Events.{Open, Revise, Close, bare};
-ghost use Rattle.std.specs.Option.{option_copied};
 ghost use Rattle.spec_job.specs.Models.{AnswersSolve};
+ghost use Rattle.spec_job.specs.Proofs.{AnswersRefute};
+ghost use Rattle.spec_job.specs.Replies.{reply};
 ghost use Rattle.spec_job.specs.Solo.{is_live};
 ghost use Rattle.spec_job.specs.Titled.{Titled};
-ghost use Rattle.spec_report.specs.Replies.{answer_among, reply};
 ghost use Rattle.spec_hall.specs.States.{states, lives, leases};
 ghost use Rattle.spec_hall.specs.Legal.{Legal, job_of};
 ghost use Rattle.spec_hall.specs.Own.{is_key};
 
 use crate::enter::{enter_balance, enter_slice};
 use crate::fault::{CloseFault, OpenFault, ReplyFault, ReviseFault};
-use mal_base::{Answer, Ask, Name};
+use mal_base::{Ask, Name};
 use mal_history::{Event, History, Share, Shares};
 use mal_job::Job;
+use mal_learn::Scratch;
 use mal_revision::Revision;
 use std::alloc::{AllocError, Global};
 use std::marker::Model;
@@ -159,18 +160,13 @@ impl Hall {
     }
 
     /// The reply to a revision of a job, numbered from 1: None exactly where it is not answered. A satisfiable reply carries
-    /// a model of the revision. A job that is not there is `NoJob`, however much memory there is.
-    pub fn reply(
-        &self,
-        alloc: Global,
-        tenant: &Name,
-        job: &Name,
-        r: u32,
-    ) -> Result<Option<Vec<u8>>, ReplyFault>
+    /// a model of the revision, an unsatisfiable one a proof from the job's clauses alone. A job that is not there is `NoJob`, however much memory there is.
+    pub fn reply(&self, tenant: &Name, job: &Name, r: u32) -> Result<Option<Vec<u8>>, ReplyFault>
         ensures reply { IfOk result (λ o. (t : Titled) × (job_of (keyed tenant.now job.now) (states self.now.events) ≡ Some t) × (MatchOption o (reply (keyed tenant.now job.now) r t.state ≡ None) (λ text. reply (keyed tenant.now job.now) r t.state ≡ Some text.items))) }
         ensures no_job { IsErrOf result ReplyFault.NoJob → job_of (keyed tenant.now job.now) (states self.now.events) ≡ None }
         ensures out_of_memory { IsErrOf result ReplyFault.OutOfMemory → (t : Titled) × (job_of (keyed tenant.now job.now) (states self.now.events) ≡ Some t) }
         ensures models { (t : Titled) → job_of (keyed tenant.now job.now) (states self.now.events) ≡ Some t → AnswersSolve t.state }
+        ensures proofs { (t : Titled) → job_of (keyed tenant.now job.now) (states self.now.events) ≡ Some t → AnswersRefute t.state }
     {
         let Some(held) = &self.job else {
             return Err(ReplyFault::NoJob);
@@ -178,11 +174,8 @@ impl Hall {
         if !is_named(held, *tenant, *job) {
             return Err(ReplyFault::NoJob);
         }
-        let Some(answer) = answer_at(held.answers(), r) else {
-            return Ok(None);
-        };
-        match mal_report::reply(alloc, tenant, job, r, answer) {
-            Ok(text) => Ok(Some(text)),
+        match held.reply(r) {
+            Ok(text) => Ok(text),
             Err(_) => Err(ReplyFault::OutOfMemory),
         }
     }
@@ -199,18 +192,18 @@ impl Hall {
 
     /// Runs the job until every revision is answered: balances where that is due, and starts the node that may start, as
     /// worker 1. After want of memory the events entered so far stay, and the hall may be driven again.
-    pub fn drive(&mut self, alloc: Global) -> Result<(), AllocError>
+    pub fn drive(&mut self, alloc: Global, scratch: &mut Scratch) -> Result<(), AllocError>
         ensures workers { self.new.workers ≡ self.old.workers }
         ensures work { GrowsByWork self.old.events self.new.events }
         ensures answered { OnOk result (lives (states self.new.events) ≡ []) }
     {
-        while self.turn(alloc)? {}
+        while self.turn(alloc, scratch)? {}
         Ok(())
     }
 
     /// Enters a balancing where it is due, or else a start of the node that may start with its slice. False where nothing
     /// was left to do.
-    fn turn(&mut self, alloc: Global) -> Result<bool, AllocError>
+    fn turn(&mut self, alloc: Global, scratch: &mut Scratch) -> Result<bool, AllocError>
         ensures workers { self.new.workers ≡ self.old.workers }
         ensures work { GrowsByWork self.old.events self.new.events }
         ensures idle { IfOk result (λ b. b ≡ false → lives (states self.new.events) ≡ []) }
@@ -224,7 +217,7 @@ impl Hall {
             if !live {
                 return Ok(false);
             }
-            enter_slice(alloc, &mut self.history, job)?;
+            enter_slice(alloc, &mut self.history, job, scratch)?;
             return Ok(true);
         }
         if is_done(job) {
@@ -242,16 +235,6 @@ fn is_done(job: &Job) -> bool
     ensures { IsTrue result → is_live job.now.state ≡ false }
 {
     job.is_closed() && !job.is_live()
-}
-
-/// The answer to a revision, numbered from 1.
-fn answer_at(answers: &[Answer], r: u32) -> Option<&Answer>
-    ensures { option_copied result ≡ answer_among r answers.now }
-{
-    if r == 0 {
-        return None;
-    }
-    answers.get(r as usize - 1)
 }
 
 /// What the types of names and asks keep.

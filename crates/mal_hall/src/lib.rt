@@ -4,8 +4,6 @@
 mod enter;
 mod fault;
 mod hall;
-#[cfg(test)]
-mod tests;
 
 pub use fault::{CloseFault, OpenFault, ReplyFault, ReviseFault};
 pub use hall::Hall;

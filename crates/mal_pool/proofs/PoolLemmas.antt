@@ -1,5 +1,5 @@
 use Rattle.std.proofs.Common.{get_or}
-use Rattle.spec_report.specs.Replies.{reply}
+use Rattle.spec_job.specs.Replies.{reply}
 use Rattle.spec_run.specs.Run.{text_or_none, replies, job_replies}
 use Rattle.mal_pool.specs.Posts.{first_reply}
 use Rattle.std.proofs.Common.{◌≡◌, ℕ, ◌+◌, ◌<◌, ◌≤◌, Bool, true, false, ◌&&◌, cond, List, [], ◌∷◌, ◌++◌, length, map, filter, flat_map, fold, find, Option, Some, None, refl, sym, ◌∙◌, ap, arith, append-nil, append_assoc, subst}

@@ -1,7 +1,7 @@
 use Rattle.std.specs.Prelude.{◌≡◌, ℕ, List, [], ◌∷◌, ◌++◌, Some}
 use Rattle.spec_job.specs.Solo.{solo}
 use Rattle.spec_hall.specs.Own.{own}
-use Rattle.spec_report.specs.Replies.{reply}
+use Rattle.spec_job.specs.Replies.{reply}
 use Rattle.spec_run.specs.Run.{text_or_none}
 use Rattle.mal_hall.specs.Seen.{Seen}
 use Rattle.mal_revision.specs.Posted.{Posted}

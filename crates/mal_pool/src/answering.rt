@@ -39,7 +39,7 @@ fn reply_to(alloc: Global, hall: &Hall, job: &ScriptJob) -> Result<Vec<u8>, Allo
     requires known { IsKnown hall.now.events job.now }
     ensures { IfOk result (λ v. v.items ≡ first_reply hall.now.events job.now) }
 {
-    match hall.reply(alloc, &job.tenant(), &job.name(), 1) {
+    match hall.reply(&job.tenant(), &job.name(), 1) {
         Ok(Some(text)) => Ok(text),
         Ok(None) => Ok(Vec::new(alloc)),
         Err(ReplyFault::NoJob) => unreachable!(),

@@ -9,6 +9,7 @@ ghost use Rattle.spec_script.specs.Limits.{served};
 ghost use Rattle.spec_script.specs.Within.{IsWithin};
 
 use mal_hall::{CloseFault, Hall, OpenFault, ReviseFault};
+use mal_learn::Scratch;
 use mal_revision::Revision;
 use mal_script::{Script, ScriptJob};
 use std::alloc::{AllocError, Global};
@@ -19,24 +20,25 @@ pub fn run_all(alloc: Global, script: &Script) -> Result<Hall, AllocError>
     requires { IsWithin served script.now }
     ensures { IfOk result (λ h. HasRun script.now h) }
 {
+    let mut scratch = Scratch::new(alloc);
     match script.jobs() {
-        [] => run_none(alloc),
-        [job, ..] => run_job(alloc, job),
+        [] => run_none(alloc, &mut scratch),
+        [job, ..] => run_job(alloc, job, &mut scratch),
     }
 }
 
 /// Runs a script without a job.
-fn run_none(alloc: Global) -> Result<Hall, AllocError>
+fn run_none(alloc: Global, scratch: &mut Scratch) -> Result<Hall, AllocError>
     ensures { IfOk result (λ h. HasRun (record { jobs = [] }) h) }
 {
     let mut hall = Hall::new(alloc);
-    hall.drive(alloc)?;
+    hall.drive(alloc, scratch)?;
     let _ = hall.history();
     Ok(hall)
 }
 
 /// Runs a script of this job.
-fn run_job(alloc: Global, job: &ScriptJob) -> Result<Hall, AllocError>
+fn run_job(alloc: Global, job: &ScriptJob, scratch: &mut Scratch) -> Result<Hall, AllocError>
     requires { length job.now.revisions ≤ 1 }
     ensures { IfOk result (λ h. HasRun (record { jobs = job.now ∷ [] }) h) }
 {
@@ -44,7 +46,7 @@ fn run_job(alloc: Global, job: &ScriptJob) -> Result<Hall, AllocError>
     open(alloc, &mut hall, job)?;
     revise(alloc, &mut hall, job)?;
     close(&mut hall, job);
-    hall.drive(alloc)?;
+    hall.drive(alloc, scratch)?;
     let _ = hall.history();
     Ok(hall)
 }

@@ -23,6 +23,17 @@ fn a_satisfiable_script_is_replied_to(rt: HostRuntime) -> Result<(), Fail> {
 }
 
 #[test]
+fn a_refuted_script_is_replied_to(rt: HostRuntime) -> Result<(), Fail> {
+    let text = replies_of(
+        rt.alloc(),
+        b"t a\nj p 1 1 4\np cnf 2 4\n1 2 0\n1 -2 0\n-1 2 0\n-1 -2 0\na 0\ne\n",
+    )?;
+    let known = b"r a p 1\ns UNSATISFIABLE\nk 0\nl 5 1 0 1 2 0\nl 6 0 5 3 4 0\n";
+    assert_eq!(rt; text.as_slice(), known.as_slice());
+    Ok(())
+}
+
+#[test]
 fn a_tautology_needs_no_value(rt: HostRuntime) -> Result<(), Fail> {
     let text = replies_of(
         rt.alloc(),

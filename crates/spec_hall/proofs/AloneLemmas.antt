@@ -1,9 +1,11 @@
 use Rattle.std.proofs.Common.{◌≡◌, ℕ, Bool, true, false, ◌==◌, cond, List, [], ◌∷◌, ◌++◌, map, fold, refl, sym, ◌∙◌, ap}
 use Rattle.std.proofs.lemmas.Bool.Decides.{Decides-eqb}
 use Rattle.mal_history.specs.declared.event.Share.{Share}
-use Rattle.spec_job.specs.Solo.{Own, Opened, Revised, Closed, Volume, Started, Finished, Exchanged, Solo, solo, solo_step, unopened}
+use Rattle.mal_revision.specs.Posted.{Posted}
+use Rattle.spec_job.specs.Keeps.{KeepsTerms}
+use Rattle.spec_job.specs.Solo.{first_empty, Own, Opened, Revised, Closed, Volume, Started, Finished, Exchanged, Solo, solo, solo_step, unopened}
 use Rattle.spec_job.specs.Titled.{Key, Titled, stepped}
-use Rattle.spec_job.proofs.StepLemmas.{start-keeps, finish-keeps}
+use Rattle.spec_job.proofs.StepLemmas.{settled-keeps, start-keeps, finish-keeps}
 use Rattle.spec_hall.specs.Events.{Event, Balance}
 use Rattle.spec_hall.specs.Own.{own, own_step, adds, is_key, volume_in, volume_step, volume_after}
 use Rattle.spec_hall.specs.States.{keys_of, keys_step, states, titled}
@@ -11,10 +13,16 @@ use Rattle.spec_hall.specs.Alone.{IsAlone}
 use Rattle.spec_hall.proofs.KeyLemmas.{is_key-same}
 use Rattle.spec_hall.proofs.PushLemmas.{own-push, solo-push, keys-push}
 
+-- a revision leaves the ask and the volume
+pub revise-keeps : (s : Solo) (r : Posted) → KeepsTerms (record s { revisions = s.revisions ++ r ∷ [] }) (solo_step s (Revised r))
+revise-keeps s r =
+    let m : Solo = record s { revisions = s.revisions ++ r ∷ [] } in
+    settled-keeps (first_empty s.log) m m (record { ask = refl; volume = refl; revisions = refl; closed = refl })
+
 -- each step moves the volume as the fold over own events does
 step-volume : (s : Solo) (o : Own) → (solo_step s o).volume ≡ volume_step s.volume o
 step-volume s (Opened ask) = refl
-step-volume s (Revised r) = refl
+step-volume s (Revised r) = (revise-keeps s r).volume
 step-volume s Closed = refl
 step-volume s (Volume v) = refl
 step-volume s (Started i) = (start-keeps s i).volume

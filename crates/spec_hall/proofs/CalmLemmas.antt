@@ -18,7 +18,7 @@ use Rattle.spec_hall.specs.Legal.{MayRevise, MayClose, MayBalance, MayStart}
 use Rattle.spec_hall.specs.Alone.{IsAlone, IsCalm, listing, listed_volume, shares_of}
 use Rattle.spec_hall.proofs.KeyLemmas.{is_key-same}
 use Rattle.spec_hall.proofs.PushLemmas.{leases-push, balanced-push, Legal-push}
-use Rattle.spec_hall.proofs.AloneLemmas.{alone-step, adds-mine, alone-states, alone-balance}
+use Rattle.spec_hall.proofs.AloneLemmas.{alone-step, adds-mine, alone-states, alone-balance, revise-keeps}
 use Rattle.spec_hall.proofs.FairLemmas.{fair-none, fair-one}
 
 -- a job that was just opened in a hall without events
@@ -31,14 +31,19 @@ calm-open k ask tenant job asked = record {
   volume = refl;
 }
 
+-- what the balancing reads of a job hangs on its key and its ask
+listing-same : (l : Bool) (k : Key) (s u : Solo) → u.ask ≡ s.ask → listing l (record { key = k; state = s }) ≡ listing l (record { key = k; state = u })
+listing-same true k s u e = ap (λ (a : Terms). record { key = k; priority = a.priority; demand = a.demand } ∷ []) (sym e)
+listing-same false k s u e = refl
+
 -- the job gets a revision
 pub calm-revise : (h : List Event) (t : Titled) (l : Bool) (n : ℕ) (r : Posted) → IsCalm h t l → MayRevise h t.key n r t → IsCalm (h ++ Revise t.key n r ∷ []) (stepped t (Revised r)) l
 calm-revise h t l n r calm may = record {
   legal = Legal-push 1 h (Revise t.key n r) calm.legal (t, may);
   alone = alone-step h t (Revise t.key n r) (Revised r) calm.alone refl (adds-mine t.key (own t.key h) (Revised r));
-  last = balanced-push h (Revise t.key n r) ∙ calm.last;
+  last = balanced-push h (Revise t.key n r) ∙ (calm.last ∙ listing-same l t.key t.state (solo_step t.state (Revised r)) (revise-keeps t.state r).ask);
   home = leases-push h (Revise t.key n r) ∙ calm.home;
-  volume = calm.volume;
+  volume = (revise-keeps t.state r).volume ∙ calm.volume;
 }
 
 -- the job is closed

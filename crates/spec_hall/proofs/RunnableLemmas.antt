@@ -9,12 +9,13 @@ use Rattle.spec_node.proofs.BatchLemmas.{All-filtered, all-of}
 use Rattle.spec_job.specs.Solo.{Own, Opened, Revised, Closed, Volume, Started, Finished, Exchanged, solo, startable, place_at, clauses_in}
 use Rattle.spec_job.specs.Titled.{Key, Titled}
 use Rattle.spec_job.specs.Runnable.{MayCome, MayHappen, IsRunnable}
+use Rattle.spec_job.proofs.RefutingLemmas.{runnable-answers_refute, runnable-logs_derived}
 use Rattle.spec_job.proofs.SolvingLemmas.{runnable-answers_follow, runnable-answers_solve}
 use Rattle.spec_hall.specs.Events.{Event, Open, Revise, Close, Balance, Start, Finish, Exchange}
 use Rattle.spec_hall.specs.Own.{own, own_step, adds, adds_volume, is_key, volume_in, volume_after}
 use Rattle.spec_hall.specs.States.{Candidate, keys_of, states, titled, candidates_of, candidates_from, fewer}
 use Rattle.spec_hall.specs.Legal.{LegalFrom, Allowed, MayRevise, MayStart}
-use Rattle.spec_hall.specs.Laws.{LegalAnswersFollow, LegalAnswersSolve, LegalIsRunnable}
+use Rattle.spec_hall.specs.Laws.{LegalAnswersFollow, LegalAnswersRefute, LegalAnswersSolve, LegalIsRunnable, LegalLogsDerived}
 use Rattle.spec_hall.proofs.KeyLemmas.{is_key-Decides}
 use Rattle.spec_hall.proofs.PushLemmas.{own-push}
 
@@ -135,3 +136,9 @@ legal-answers_solve w h legal k = runnable-answers_solve (own k h) (legal-is_run
 -- none comes before its revision
 pub legal-answers_follow : LegalAnswersFollow
 legal-answers_follow w h legal k = runnable-answers_follow (own k h) (legal-is_runnable w h legal k)
+
+pub legal-answers_refute : LegalAnswersRefute
+legal-answers_refute w h legal k = runnable-answers_refute (own k h) (legal-is_runnable w h legal k)
+
+pub legal-logs_derived : LegalLogsDerived
+legal-logs_derived w h legal k = runnable-logs_derived (own k h) (legal-is_runnable w h legal k)

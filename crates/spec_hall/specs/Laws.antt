@@ -3,6 +3,7 @@ use Rattle.mal_history.specs.declared.event.Share.{Share}
 use Rattle.spec_job.specs.Solo.{solo}
 use Rattle.spec_job.specs.Titled.{Key}
 use Rattle.spec_job.specs.Models.{AnswersFollow, AnswersSolve, KeepsAnswers}
+use Rattle.spec_job.specs.Proofs.{AnswersRefute, LogIsDerived}
 use Rattle.spec_job.specs.Runnable.{IsRunnable}
 use Rattle.spec_hall.specs.Events.{Event, Open, Revise, Close, Balance, Start, Finish, Exchange}
 use Rattle.spec_hall.specs.Own.{own, volume_in, volume_after}
@@ -19,6 +20,14 @@ LegalAnswersSolve = (workers : ℕ) (history : List Event) → Legal workers his
 -- in a legal history no revision is answered before it is posted
 abbrev pub LegalAnswersFollow : Type 0
 LegalAnswersFollow = (workers : ℕ) (history : List Event) → Legal workers history → (k : Key) → AnswersFollow (solo (own k history))
+
+-- in a legal history each answer of a job that refutes carries a proof from the job's clauses alone
+abbrev pub LegalAnswersRefute : Type 0
+LegalAnswersRefute = (workers : ℕ) (history : List Event) → Legal workers history → (k : Key) → AnswersRefute (solo (own k history))
+
+-- in a legal history the log of a job is derived from the job's clauses alone
+abbrev pub LegalLogsDerived : Type 0
+LegalLogsDerived = (workers : ℕ) (history : List Event) → Legal workers history → (k : Key) → LogIsDerived (solo (own k history))
 
 -- an answer that was given stays, whatever events of the hall follow
 abbrev pub JobAnswersStay : Type 0

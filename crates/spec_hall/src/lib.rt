@@ -2,7 +2,7 @@
 //! functions without a body.
 #![tactic(auto)]
 
-ghost use Rattle.spec_hall.specs.Laws.{JobAnswersStay, LegalAnswersFollow, LegalAnswersSolve, LegalIsRunnable, OwnEventsAnswer, OthersLeaveOwn, SameVolumeLeavesOwn};
+ghost use Rattle.spec_hall.specs.Laws.{JobAnswersStay, LegalAnswersFollow, LegalAnswersRefute, LegalAnswersSolve, LegalIsRunnable, LegalLogsDerived, OwnEventsAnswer, OthersLeaveOwn, SameVolumeLeavesOwn};
 
 /// A job's answers come from its own events alone, and events of other jobs are none of these.
 pub fn jobs_are_isolated()
@@ -17,6 +17,13 @@ pub fn legal_answers_solve()
     ensures runnable { LegalIsRunnable }
     ensures solve { LegalAnswersSolve }
     ensures follow { LegalAnswersFollow }
+{}
+
+/// In a legal history a job's log is derived from the job's clauses alone, and each answer that refutes carries a proof from
+/// them.
+pub fn legal_answers_refute()
+    ensures log { LegalLogsDerived }
+    ensures refute { LegalAnswersRefute }
 {}
 
 /// An answer that was given stays, whatever events follow.

@@ -6,7 +6,9 @@ use Rattle.spec_job.specs.Titled.{Key}
 use Rattle.spec_hall.specs.Events.{Event, bare}
 use Rattle.spec_hall.specs.Own.{own}
 use Rattle.spec_hall.specs.Legal.{Legal}
-use Rattle.spec_report.specs.Replies.{reply}
+use Rattle.spec_job.specs.Models.{AnswersSolve}
+use Rattle.spec_job.specs.Proofs.{AnswersRefute}
+use Rattle.spec_job.specs.Replies.{reply}
 use Rattle.spec_script.specs.Script.{ScriptedJob, Scripted}
 use Rattle.spec_run.specs.Complete.{IsComplete, key_of_job}
 
@@ -28,10 +30,17 @@ job_replies history j = replies_from (key_of_job j) 1 (solo (own (key_of_job j) 
 unfoldable pub replies : Scripted → List Event → List ℕ
 replies s history = flat_map (job_replies history) s.jobs
 
+-- the answers of a machine are evidence: satisfiable carries a model of its revision, unsatisfiable a proof from the job's
+-- clauses alone
+pub record IsEvident (s : Solo) : Type 0 where
+  pub models : AnswersSolve s
+  pub proofs : AnswersRefute s
+
 -- a script was run with so many workers: the history is legal and complete for it, the log is the history's text, and
--- the output is the replies of the jobs' machines, each run alone on its own events
+-- the output is the replies of the jobs' machines, each run alone on its own events, whose answers are evidence
 pub record IsRun (workers : ℕ) (s : Scripted) (history : List Event) (log out : List ℕ) : Type 0 where
   pub legal : Legal workers history
   pub complete : IsComplete s history
   pub log_text : log ≡ history_text workers (map bare history)
   pub out_text : out ≡ replies s history
+  pub evident : (k : Key) → IsEvident (solo (own k history))

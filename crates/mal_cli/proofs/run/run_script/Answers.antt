@@ -1,0 +1,21 @@
+use Rattle.std.proofs.Common.{◌≡◌, ℕ, List, map, subst, ap, ◌∙◌}
+use Rattle.mal_history.specs.Text.{history_text}
+use Rattle.spec_hall.specs.Events.{Event, bare}
+use Rattle.spec_hall.specs.Legal.{Legal}
+use Rattle.spec_run.proofs.Evidence.{evident_by_law}
+use Rattle.mal_cli.proofs.run.run_script.Goals as goal
+
+pub returns : goal.returns
+returns c =
+    let history : List Event = c.in_ok-hall.hall.events in
+    let ran = c.in_ok-hall.ensures in
+    let legal : Legal 1 history = subst (λ (w : ℕ). Legal w history) ran.workers ran.legal in (
+      history,
+      record {
+        legal = legal;
+        complete = ran.complete;
+        log_text = c.in_ok-log.ensures ∙ (ap (λ (w : ℕ). history_text w c.history.result.now.events) (c.history.ensures.workers ∙ ran.workers) ∙ ap (history_text 1) c.history.ensures.events);
+        out_text = c.in_ok-out.ensures;
+        evident = evident_by_law 1 history legal;
+      },
+    )
