@@ -1,9 +1,9 @@
 #!/usr/bin/env python3
-"""Writes a formula, a line `proof` and a proof: a chain of implications with a unit clause at each end, and a proof of LINES lines
+"""Writes an input of `mal check`: a chain of implications with a unit clause at each end, and a proof of LINES lines
 (100,000 where no number is given). Each line but the last derives that a variable implies the one 20 places behind it,
 along the 20 clauses between, so it has 20 hints; the last one derives the empty clause along some of these lines.
 
-Usage: python3 examples/big_proof.py [LINES]
+Usage: python3 examples/big_proof.py [LINES] | ./mal check
 """
 import sys
 
