@@ -17,20 +17,20 @@ fails-first refusal.OutOfMemory read f h = tt
 fails-first (refusal.Fault fault) read f h = rw h refl
 
 pub inside-at : (limits : Limits) (first : List ℕ) (others : List (List ℕ)) (o : OpenJob) (read : Option Block) (b : Block) (s : Reading) → read ≡ Some b
-    → inside limits first others o read s ≡ (inside_block limits first others (without_block o) b >>= λ after. Ok (going_on s after))
+    → inside limits first others o read s ≡ (inside_block first others (without_block o) b >>= λ after. Ok (going_on s after))
 inside-at limits first others o read b s e = rw e refl
 
 pub inside-ok : (limits : Limits) (first : List ℕ) (others : List (List ℕ)) (o apart : OpenJob) (read : Option Block) (b : Block) (s : Reading) (after : OpenJob) (left : Reading) → read ≡ Some b → apart ≡ without_block o
-    → inside_block limits first others apart b ≡ Ok after → left ≡ going_on s after → inside limits first others o read s ≡ Ok left
+    → inside_block first others apart b ≡ Ok after → left ≡ going_on s after → inside limits first others o read s ≡ Ok left
 inside-ok limits first others o apart read b s after left e f g h =
-    let p : inside_block limits first others (without_block o) b ≡ Ok after = subst (λ (x : OpenJob). inside_block limits first others x b ≡ Ok after) f g in
+    let p : inside_block first others (without_block o) b ≡ Ok after = subst (λ (x : OpenJob). inside_block first others x b ≡ Ok after) f g in
     inside-at limits first others o read b s e ∙ ap (λ (r : Result OpenJob LineFault). r >>= λ after. Ok (going_on s after)) p ∙ ap (λ (r : Reading). Ok r) (sym h)
 
 pub inside-err : (limits : Limits) (first : List ℕ) (others : List (List ℕ)) (o apart : OpenJob) (read : Option Block) (b : Block) (s : Reading) (e : LineRefusal) → read ≡ Some b → apart ≡ without_block o
-    → Fails e (inside_block limits first others apart b) → Fails e (inside limits first others o read s)
+    → Fails e (inside_block first others apart b) → Fails e (inside limits first others o read s)
 inside-err limits first others o apart read b s e r f g =
-    let p : Fails e (inside_block limits first others (without_block o) b) = subst (λ (x : OpenJob). Fails e (inside_block limits first others x b)) f g in
-    subst (λ (x : Result Reading LineFault). Fails e x) (sym (inside-at limits first others o read b s r)) (fails-first e (inside_block limits first others (without_block o) b) (λ after. Ok (going_on s after)) p)
+    let p : Fails e (inside_block first others (without_block o) b) = subst (λ (x : OpenJob). Fails e (inside_block first others x b)) f g in
+    subst (λ (x : Result Reading LineFault). Fails e x) (sym (inside-at limits first others o read b s r)) (fails-first e (inside_block first others (without_block o) b) (λ after. Ok (going_on s after)) p)
 
 inside-closed : (limits : Limits) (first : List ℕ) (others : List (List ℕ)) (o : OpenJob) (read : Option Block) (s : Reading)
     → inside limits first others o read s ≡ inside limits first others o read (record s { opened = None })

@@ -1,6 +1,6 @@
 //! The asks of jobs, as they are read.
 
-ghost use Rattle.std.specs.Prelude.{◌≡◌, ◌≤◌, ◌<◌, ◌^◌, IfOk};
+ghost use Rattle.std.specs.Prelude.{◌≡◌, ◌≤◌, ◌<◌, IfOk};
 ghost use Rattle.spec_text.specs.Numbers.{number_in};
 ghost use Rattle.mal_text.specs.Numbers.{word_of};
 ghost use Rattle.spec_script.specs.Reading.{is_number, ranged, in_range, asked};

@@ -1,6 +1,6 @@
 //! The words of assumptions, as they are read.
 
-ghost use Rattle.std.specs.Prelude.{◌≡◌, ◌≤◌, ◌++◌, ◌∷◌, [], map, false, true, nat_abs, ℕ, None, IfOk};
+ghost use Rattle.std.specs.Prelude.{◌≡◌, ◌≤◌, [], map, false, true, nat_abs, ℕ, None, IfOk};
 ghost use Rattle.mal_base.specs.Clauses.{clash, rises};
 ghost use Rattle.mal_base.specs.Formulas.{is_within};
 ghost use Rattle.spec_text.specs.Inputs.{words_of};

@@ -1,19 +1,18 @@
 //! The limits of a script.
 
 ghost use Rattle.std.specs.Prelude.{◌≡◌};
-ghost use Rattle.spec_script.specs.Limits.{final_limits, served};
+ghost use Rattle.spec_script.specs.Limits.{served};
 
 use std::marker::Model;
 
-/// How many tenants a script names, how many jobs it has in all and of a tenant, how many revisions a job has, and
-/// whether a revision may have assumptions. Contracts see the five.
+/// How many tenants a script names, how many jobs it has in all and of a tenant, and how many revisions a job has.
+/// Contracts see the four.
 #[derive(Clone, Copy, Debug)]
 pub struct Limits {
     tenants: usize,
     jobs: usize,
     jobs_of_tenant: usize,
     revisions: usize,
-    assumptions: bool,
 }
 
 impl Model for Limits {
@@ -21,35 +20,21 @@ impl Model for Limits {
 
     ghost Value = { limits.Limits };
 
-    ghost view = { λ l. record { tenants = l.tenants; jobs = l.jobs; jobs_of_tenant = l.jobs_of_tenant; revisions = l.revisions; assumptions = l.assumptions } };
+    ghost view = { λ l. record { tenants = l.tenants; jobs = l.jobs; jobs_of_tenant = l.jobs_of_tenant; revisions = l.revisions } };
 
-    ghost inverse = { λ l. record { tenants = l.tenants; jobs = l.jobs; jobs_of_tenant = l.jobs_of_tenant; revisions = l.revisions; assumptions = l.assumptions } };
+    ghost inverse = { λ l. record { tenants = l.tenants; jobs = l.jobs; jobs_of_tenant = l.jobs_of_tenant; revisions = l.revisions } };
 }
 
 impl Limits {
-    /// What is served today: 64 tenants, one job with one revision, no assumptions.
+    /// What is served: 64 tenants with 64 jobs each, and 256 revisions of a job.
     pub fn served() -> Limits
         ensures { result ≡ served }
-    {
-        Limits {
-            tenants: 64,
-            jobs: 1,
-            jobs_of_tenant: 64,
-            revisions: 1,
-            assumptions: false,
-        }
-    }
-
-    /// The limits of the format: 64 tenants with 64 jobs each, 256 revisions of a job, with assumptions.
-    pub fn final_limits() -> Limits
-        ensures { result ≡ final_limits }
     {
         Limits {
             tenants: 64,
             jobs: 4096,
             jobs_of_tenant: 64,
             revisions: 256,
-            assumptions: true,
         }
     }
 
@@ -79,12 +64,5 @@ impl Limits {
         ensures { result ≡ self.revisions }
     {
         self.revisions
-    }
-
-    /// Whether a revision may have assumptions.
-    pub fn assumptions(self) -> bool
-        ensures { result ≡ self.assumptions }
-    {
-        self.assumptions
     }
 }

@@ -1,10 +1,11 @@
 //! A job that has begun and not ended.
 
-ghost use Rattle.std.specs.Prelude.{◌≡◌, ◌+◌, ◌≤◌, ◌∷◌, length, true, nat_lt, Some, Ok, IfOk};
+ghost use Rattle.std.specs.Prelude.{◌≡◌, ◌+◌, ◌≤◌, ◌∷◌, length, true, Some, Ok, IfOk};
 ghost use Rattle.mal_base.specs.Clauses.{rises};
 ghost use Rattle.mal_base.specs.Formulas.{is_formula, is_within, literals_of, size_of};
 ghost use Rattle.spec_text.specs.Inputs.{words_of};
-ghost use Rattle.spec_script.specs.Reading.{begun, with_block, after_header, revised, after_assumptions, inside_block, with_revision, assumed, ended_job, unended, without_block};
+ghost use Rattle.spec_script.specs.Assumptions.{assumptions_in};
+ghost use Rattle.spec_script.specs.Reading.{begun, with_block, after_header, revised, after_assumptions, inside_block, with_revision, ended_job, unended, without_block};
 ghost use Rattle.mal_script.specs.Given.{Fails, Gives};
 
 use crate::assuming::assumptions_in;
@@ -163,14 +164,13 @@ impl OpenJob {
     fn after_assumptions(
         self,
         alloc: Global,
-        limits: Limits,
         words: &[u8],
         block: BlockReader,
     ) -> Result<OpenJob, LineRefusal>
-        ensures { Gives (λ o. o) result (after_assumptions limits (words_of words.now) self block) }
+        ensures { Gives (λ o. o) result (after_assumptions (words_of words.now) self block) }
     {
         let formula = blocks::ended(block)?;
-        let assumptions = assumed(alloc, limits, words, formula.variables())?;
+        let assumptions = assumed(alloc, words, formula.variables())?;
         self.revised(alloc, formula, assumptions.as_slice())
     }
 
@@ -178,17 +178,16 @@ impl OpenJob {
     pub fn inside_block(
         self,
         alloc: Global,
-        limits: Limits,
         line: &[u8],
         first: &[u8],
         others: &[u8],
         block: BlockReader,
     ) -> Result<OpenJob, LineRefusal>
         requires { words_of line.now ≡ first.now ∷ words_of others.now }
-        ensures { Gives (λ o. o) result (inside_block limits first.now (words_of others.now) self block) }
+        ensures { Gives (λ o. o) result (inside_block first.now (words_of others.now) self block) }
     {
         if first == b"a".as_slice() {
-            return self.after_assumptions(alloc, limits, others, block);
+            return self.after_assumptions(alloc, others, block);
         }
         let block = blocks::after_row(block, line)?;
         Ok(self.with_block(block))
@@ -237,33 +236,15 @@ fn size_of(clause: &Option<Clause>) -> usize
     }
 }
 
-/// The assumptions of these words, none where there may be none.
-fn assumed(
-    alloc: Global,
-    limits: Limits,
-    words: &[u8],
-    variables: u32,
-) -> Result<Vec<Lit>, LineRefusal>
+/// The assumptions of these words, the fault as that of their line.
+fn assumed(alloc: Global, words: &[u8], variables: u32) -> Result<Vec<Lit>, LineRefusal>
     requires { variables ≤ 65536 }
-    ensures value { Gives (λ v. v.items) result (assumed limits variables (words_of words.now)) }
+    ensures value { Gives (λ v. v.items) result (assumptions_in variables (words_of words.now)) }
     ensures rising { IfOk result (λ v. rises v.items ≡ true) }
     ensures within { IfOk result (λ v. is_within variables v.items ≡ true) }
 {
-    if !limits.assumptions() && has_two_words(words) {
-        return Err(LineRefusal::Fault(LineFault::BadLine));
-    }
     match assumptions_in(alloc, words, variables) {
         Ok(assumptions) => Ok(assumptions),
         Err(fault) => Err(fault.refusal()),
-    }
-}
-
-/// Whether a line has two words or more.
-fn has_two_words(line: &[u8]) -> bool
-    ensures { result ≡ nat_lt 1 (length (words_of line.now)) }
-{
-    match first_word(line) {
-        None => false,
-        Some((_, others)) => first_word(others).is_some(),
     }
 }

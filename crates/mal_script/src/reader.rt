@@ -3,7 +3,6 @@
 ghost use Rattle.std.specs.Prelude.{◌≡◌, ◌≢◌, ◌∷◌, [], ℕ, List, MatchOption, count_by};
 ghost use Rattle.std.specs.List.{list_any};
 ghost use Rattle.std.specs.Str.{bytes_eq};
-ghost use Rattle.mal_base.specs.Asks.{Terms};
 ghost use Rattle.spec_text.specs.Inputs.{words_of};
 ghost use Rattle.spec_dimacs.specs.Rows.{is_comment};
 ghost use Rattle.spec_script.specs.Reading.{unread, named, after_tenant, is_of, is_job, has_room, admitted, of_tenant, after_job, outside, inside_job, inside, after_counted, after_row, at_end, after_end, going_on};
@@ -221,7 +220,7 @@ impl Reader {
         match block {
             None => self.inside_job(alloc, limits, line, first, others, job),
             Some(block) => {
-                let job = job.inside_block(alloc, limits, line, first, others, block)?;
+                let job = job.inside_block(alloc, line, first, others, block)?;
                 Ok(self.goes_on(job))
             }
         }

@@ -8,14 +8,14 @@ fn lit(number: i32) -> Result<Lit, Fail> {
     Ok(Lit::of_dimacs(number).ok_or("no literal")?)
 }
 
-/// The fault of a text within the limits of the format.
+/// The fault of a text.
 fn fault(alloc: Global, text: &[u8]) -> Option<ScriptFault> {
-    read_within(alloc, text, Limits::final_limits()).err()
+    read(alloc, text).err()
 }
 
-/// The text of a script that is read within the limits of the format.
+/// The text of the script that is read.
 fn again(alloc: Global, text: &[u8]) -> Result<Vec<u8>, Fail> {
-    let script = read_within(alloc, text, Limits::final_limits())?;
+    let script = read(alloc, text)?;
     Ok(write(alloc, &script)?)
 }
 
@@ -236,26 +236,20 @@ fn faults_are_told_in_words(rt: HostRuntime) -> Result<(), Fail> {
 }
 
 #[test]
-fn what_is_not_served_yet_is_refused(rt: HostRuntime) -> Result<(), Fail> {
+fn a_second_job_a_second_revision_and_assumptions_are_read(rt: HostRuntime) -> Result<(), Fail> {
     let alloc = rt.alloc();
-    let jobs = read(alloc, b"t a\nj p 1 1 4\ne\nj q 1 1 4\ne\n").err();
-    assert!(rt;
-        jobs == Some(ScriptFault::Limit {
-            line: 4,
-            which: Which::Jobs
-        })
+    let jobs = b"t a\nj p 1 1 4\ne\nj q 1 1 4\ne\n";
+    let plain = again(alloc, jobs)?;
+    assert_eq!(rt;
+        plain.as_slice(),
+        b"t a\nj p 1 1 4\ne\nt a\nj q 1 1 4\ne\n".as_slice()
     );
-    let text = b"t a\nj p 1 1 4\np cnf 0 0\na 0\np cnf 0 0\na 0\ne\n";
-    let revisions = read(alloc, text).err();
-    assert!(rt;
-        revisions
-            == Some(ScriptFault::Limit {
-                line: 5,
-                which: Which::Revisions
-            })
-    );
-    let assumed = read(alloc, b"t a\nj p 1 1 4\np cnf 2 0\na 1 0\ne\n").err();
-    assert!(rt; assumed == Some(ScriptFault::BadLine { line: 4 }));
+    let revisions = b"t a\nj p 1 1 4\np cnf 0 0\na 0\np cnf 0 0\na 0\ne\n";
+    let plain = again(alloc, revisions)?;
+    assert_eq!(rt; plain.as_slice(), revisions.as_slice());
+    let assumed = b"t a\nj p 1 1 4\np cnf 2 0\na 1 0\ne\n";
+    let plain = again(alloc, assumed)?;
+    assert_eq!(rt; plain.as_slice(), assumed.as_slice());
     Ok(())
 }
 
@@ -314,6 +308,27 @@ fn one_job_of_a_tenant_too_many_is_refused(rt: HostRuntime) -> Result<(), Fail> 
     Ok(())
 }
 
+/// The text of so many tenants with 64 jobs each.
+fn full_tenants(alloc: Global, tenants: usize) -> Result<Vec<u8>, Fail> {
+    let mut text = Vec::new(alloc);
+    for tenant in 0..tenants {
+        put(&mut text, b"t t", tenant, b"\n")?;
+        for job in 0..64 {
+            put(&mut text, b"j j", job, b" 1 1 1\ne\n")?;
+        }
+    }
+    Ok(text)
+}
+
+#[test]
+fn all_jobs_of_all_tenants_are_read(rt: HostRuntime) -> Result<(), Fail> {
+    let alloc = rt.alloc();
+    let text = full_tenants(alloc, 64)?;
+    let script = read(alloc, text.as_slice())?;
+    assert_eq!(rt; script.jobs().len(), 4096);
+    Ok(())
+}
+
 #[test]
 fn one_revision_too_many_is_refused(rt: HostRuntime) -> Result<(), Fail> {
     let alloc = rt.alloc();
@@ -322,6 +337,9 @@ fn one_revision_too_many_is_refused(rt: HostRuntime) -> Result<(), Fail> {
     for _ in 0..256 {
         text.extend_from_slice(b"p cnf 0 0\na 0\n")?;
     }
+    let mut ended = text.clone()?;
+    ended.extend_from_slice(b"e\n")?;
+    assert!(rt; fault(alloc, ended.as_slice()).is_none());
     text.extend_from_slice(b"p cnf 0 0\na 0\ne\n")?;
     let which = Which::Revisions;
     assert!(rt; fault(alloc, text.as_slice()) == Some(ScriptFault::Limit { line: 515, which }));

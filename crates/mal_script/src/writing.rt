@@ -3,7 +3,7 @@
 ghost use Rattle.std.specs.Prelude.{◌≡◌, ◌∷◌, ◌++◌, [], flat_map, codes, IfOk, OnOk};
 ghost use Rattle.spec_text.specs.Lines.{line_of, text_of};
 ghost use Rattle.spec_dimacs.specs.Written.{closed_words};
-ghost use Rattle.spec_script.specs.Script.{job_rows, job_words, revision_rows, rows_of, spelling, tenant_words};
+ghost use Rattle.spec_script.specs.Script.{job_rows, job_words, revision_rows, spelling, tenant_words};
 
 use crate::script::{Script, ScriptJob};
 use itoa::Buffer;

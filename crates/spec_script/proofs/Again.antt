@@ -1,5 +1,5 @@
 -- A script in form is spelled by the text that it is written as.
-use Rattle.std.proofs.Common.{◌≡◌, ℕ, ◌+◌, ◌<◌, ◌≤◌, ◌^◌, Bool, true, false, cond, ◌&&◌, ◌||◌, nat_lt, nat_le, List, [], ◌∷◌, ◌++◌, map, length, pos, Option, Some, None, Result, Ok, Err, refl, sym, ap, ap₂, ◌∙◌, subst, arith, append_assoc, append-nil, length-append}
+use Rattle.std.proofs.Common.{◌≡◌, ℕ, ◌+◌, ◌<◌, ◌≤◌, ◌^◌, Bool, true, false, cond, ◌&&◌, nat_lt, List, [], ◌∷◌, ◌++◌, map, length, pos, Option, Some, None, Result, Ok, Err, refl, sym, ap, ap₂, ◌∙◌, subst, arith, append_assoc, append-nil, length-append}
 use Rattle.std.specs.List.{list_all, list_any}
 use Rattle.std.specs.Str.{bytes_eq}
 use Rattle.std.proofs.lemmas.Bool.{lt-ltb, le-ltb, le-leb}
@@ -18,7 +18,7 @@ use Rattle.spec_dimacs.specs.declared.fault.BlockFault.TheVariants.{BadHeader}
 use Rattle.spec_dimacs.specs.Rows as rows
 use Rattle.spec_dimacs.specs.Reading.{Block, ◌>>=◌, opened, after_rows, ended}
 use Rattle.spec_dimacs.specs.Written as formula
-use Rattle.spec_dimacs.specs.Written.{clause_words, header_words, closed_words, formula_rows}
+use Rattle.spec_dimacs.specs.Written.{clause_words, header_words, formula_rows}
 use Rattle.spec_dimacs.proofs.Behind.{Leads, whole_leads}
 use Rattle.spec_dimacs.proofs.Again.{written_rows}
 use Rattle.spec_dimacs.proofs.Laws.{written_is_read}
@@ -27,10 +27,10 @@ use Rattle.spec_script.specs.declared.fault.LineFault.TheVariants.{Range, Duplic
 use Rattle.spec_script.specs.Limits.{Limits}
 use Rattle.spec_script.specs.Script.{ScriptedJob, rows_of, spelling}
 use Rattle.spec_script.specs.Reading.{OpenJob, Reading, named, ranged, asked, is_job, has_room, begun, going_on, admitted, with_revision, revised}
-use Rattle.spec_script.specs.Formed.{with_name, tenants_of, is_revision, clauses_of, clause_literals, IsJob, MayFollow, MayAllFollow}
+use Rattle.spec_script.specs.Formed.{with_name, tenants_of, clauses_of, clause_literals, IsJob, MayFollow, MayAllFollow}
 use Rattle.spec_script.specs.Grammar.{formula_of, Revises, ReviseAll, Runs, MakeAll}
 use Rattle.spec_script.specs.Laws.{WrittenIsSpelled, WrittenIsRead}
-use Rattle.spec_script.proofs.Assumed.{assumed-again}
+use Rattle.spec_script.proofs.Assumed.{assumptions-again}
 use Rattle.spec_script.proofs.Reading.{spelled-read}
 use Rattle.spec_script.proofs.Written.{text-rows, jobs-stand, revision-formula, few-variables, lines_of, job_lines_of, parts_of, parts-lines, clauses-inside}
 
@@ -72,21 +72,19 @@ revised-again o f assumptions few little =
     ap (λ (b : Bool). cond b (Err (Limit Clauses)) (cond (nat_lt 16777216 (o.literals + literals_of f.clauses)) (Err (Limit Literals)) (Ok (with_revision o f assumptions)))) (le-ltb 1048576 (o.clauses + length f.clauses) few)
     ∙ ap (λ (b : Bool). cond b (Err (Limit Literals)) (Ok (with_revision o f assumptions))) (le-ltb 16777216 (o.literals + literals_of f.clauses) little)
 
-revises : (limits : Limits) (o : OpenJob) (r : Posted) → is_revision limits r ≡ true → length o.job.revisions < limits.revisions → o.clauses + length r.clauses ≤ 1048576 → o.literals + literals_of r.clauses ≤ 16777216 → Revises limits o (lines_of r) (with_revision o (formula_in r) r.assumptions)
+revises : (limits : Limits) (o : OpenJob) (r : Posted) → is_posted r ≡ true → length o.job.revisions < limits.revisions → o.clauses + length r.clauses ≤ 1048576 → o.literals + literals_of r.clauses ≤ 16777216 → Revises limits o (lines_of r) (with_revision o (formula_in r) r.assumptions)
 revises limits o r h room few little =
-    let form : is_formula (formula_in r) ≡ true = revision-formula limits r h in
+    let form : is_formula (formula_in r) ≡ true = revision-formula r h in
     let low : r.variables ≤ 65536 = few-variables r.variables r.clauses (and-left _ _ form) in
     let forms : list_all (is_clause_of r.variables) r.clauses ≡ true = and-right (is_within_limits r.variables r.clauses) _ form in
-    let posted : is_posted r ≡ true = and-left _ _ h in
-    let may : (limits.assumptions || nat_le (length r.assumptions) 0) ≡ true = and-right (is_posted r) _ h in
-    let assumptions : (rises r.assumptions && is_within r.variables r.assumptions) ≡ true = and-right (is_within_limits r.variables r.clauses && list_all (is_clause_of r.variables) r.clauses) _ posted in
+    let assumptions : (rises r.assumptions && is_within r.variables r.assumptions) ≡ true = and-right (is_within_limits r.variables r.clauses && list_all (is_clause_of r.variables) r.clauses) _ h in
     record {
       formula = formula_in r;
       assumptions = r.assumptions;
       room = room;
       inside = clauses-inside r.variables r.clauses low forms;
       spelled = block-again r form;
-      assumed = assumed-again limits r.variables r.assumptions low (and-left _ _ assumptions) (and-right (rises r.assumptions) _ assumptions) may;
+      assumed = assumptions-again r.variables r.assumptions low (and-left _ _ assumptions) (and-right (rises r.assumptions) _ assumptions);
       revised = revised-again o (formula_in r) r.assumptions few little;
     }
 
@@ -100,14 +98,14 @@ record Ended (limits : Limits) (o : OpenJob) (rs : List Posted) : Type 0 where
   revised : ReviseAll limits o (map lines_of rs) ended
   job : ended.job ≡ with_rest o.job (o.job.revisions ++ rs)
 
-revise-all : (limits : Limits) (rs : List Posted) (o : OpenJob) → list_all (is_revision limits) rs ≡ true → length o.job.revisions + length rs ≤ limits.revisions → o.clauses + clauses_of rs ≤ 1048576 → o.literals + clause_literals rs ≤ 16777216 → Ended limits o rs
+revise-all : (limits : Limits) (rs : List Posted) (o : OpenJob) → list_all is_posted rs ≡ true → length o.job.revisions + length rs ≤ limits.revisions → o.clauses + clauses_of rs ≤ 1048576 → o.literals + clause_literals rs ≤ 16777216 → Ended limits o rs
 revise-all limits [] o h room few little = record { ended = o; revised = refl; job = ap (with_rest o.job) (sym (append-nil o.job.revisions)) }
 revise-all limits (r ∷ rs) o h room few little =
     let next : OpenJob = with_revision o (formula_in r) r.assumptions in
     let more : clauses_of (r ∷ rs) ≡ length r.clauses + clauses_of rs = sum_by-cons (λ (r : Posted). length r.clauses) r rs in
     let longer : clause_literals (r ∷ rs) ≡ literals_of r.clauses + clause_literals rs = sum_by-cons (λ (r : Posted). literals_of r.clauses) r rs in
     let one : length (o.job.revisions ++ r ∷ []) ≡ length o.job.revisions + 1 = length-append o.job.revisions (r ∷ []) in
-    let rest : Ended limits next rs = revise-all limits rs next (and-right (is_revision limits r) _ h) (omega arith) (omega arith) (omega arith) in
+    let rest : Ended limits next rs = revise-all limits rs next (and-right (is_posted r) _ h) (omega arith) (omega arith) (omega arith) in
     record {
       ended = rest.ended;
       revised = (next, revises limits o r (and-left _ _ h) (omega arith) (omega arith) (omega arith), rest.revised);

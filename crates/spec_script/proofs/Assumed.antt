@@ -1,5 +1,5 @@
 -- The assumptions of a written line are read again.
-use Rattle.std.proofs.Common.{◌≡◌, ℕ, zero, suc, ◌/◌, ◌≤◌, ◌<◌, Bool, true, false, cond, ◌==◌, ◌&&◌, ◌||◌, nat_lt, nat_le, List, [], ◌∷◌, ◌++◌, map, length, ℤ, pos, negsuc, Some, None, Result, Ok, Err, refl, sym, ap, ◌∙◌, arith, append_assoc, append-nil}
+use Rattle.std.proofs.Common.{◌≡◌, ℕ, zero, suc, ◌/◌, ◌≤◌, ◌<◌, Bool, true, false, cond, ◌==◌, ◌&&◌, nat_lt, nat_le, List, [], ◌∷◌, ◌++◌, map, ℤ, pos, negsuc, Some, None, Result, Ok, refl, sym, ap, ◌∙◌, arith, append_assoc, append-nil}
 use Rattle.std.proofs.lemmas.Bool.{leb-true, ltb-true}
 use Rattle.std.proofs.lemmas.Bool.Decides.{nat_tests}
 use Rattle.mal_base.specs.Clauses.{rises, clash, clash_after}
@@ -14,10 +14,7 @@ use Rattle.spec_dimacs.specs.Written.{closed_words}
 use Rattle.spec_dimacs.proofs.Numbers.{code_of-number_of}
 use Rattle.spec_dimacs.proofs.Again.{clause_again}
 use Rattle.spec_script.specs.declared.fault.LineFault.{LineFault}
-use Rattle.spec_script.specs.declared.fault.LineFault.TheVariants.{BadLine}
-use Rattle.spec_script.specs.Limits.{Limits}
 use Rattle.spec_script.specs.Assumptions.{literals_from, consistent, assumptions_in}
-use Rattle.spec_script.specs.Reading.{assumed}
 use Rattle.spec_script.proofs.Sorted.{sorted-unique}
 
 abbrev lits_read : List ℕ → Result (List ℕ) LineFault
@@ -53,19 +50,9 @@ no-clash : (lits : List ℕ) → rises lits ≡ true → clash lits ≡ None
 no-clash [] h = refl
 no-clash (l ∷ ls) h = rises-clash l ls h
 
-assumptions-again : (v : ℕ) (lits : List ℕ) → v ≤ 65536 → rises lits ≡ true → is_within v lits ≡ true → assumptions_in v (closed_words lits) ≡ Ok lits
+pub assumptions-again : (v : ℕ) (lits : List ℕ) → v ≤ 65536 → rises lits ≡ true → is_within v lits ≡ true → assumptions_in v (closed_words lits) ≡ Ok lits
 assumptions-again v lits low up h =
     ap (λ (ws : List NumberWord). literals_from [] false ws >>= λ ls. consistent (sorted ls) (clash (sorted ls))) (clause_again v lits low h)
     ∙ ap (λ (r : Result (List ℕ) LineFault). r >>= λ ls. consistent (sorted ls) (clash (sorted ls))) (literals-behind lits [] v h)
     ∙ ap (λ (ls : List ℕ). consistent ls (clash ls)) (sym (sorted-unique lits lits (climbs-from_rises lits up) (record { there = λ x k. k; back = λ x k. k })))
     ∙ ap (consistent lits) (no-clash lits up)
-
--- where there may be no literal, only the 0 is written
-served-words : (b : Bool) (lits : List ℕ) → (b || nat_le (length lits) 0) ≡ true → (b || nat_le (length (closed_words lits)) 1) ≡ true
-served-words true lits h = refl
-served-words false [] h = refl
-served-words false (l ∷ ls) h = let none : length (l ∷ ls) ≤ 0 = leb-true (length (l ∷ ls)) 0 h in absurd (omega arith)
-
-pub assumed-again : (limits : Limits) (v : ℕ) (lits : List ℕ) → v ≤ 65536 → rises lits ≡ true → is_within v lits ≡ true → (limits.assumptions || nat_le (length lits) 0) ≡ true → assumed limits v (closed_words lits) ≡ Ok lits
-assumed-again limits v lits low up h may =
-    ap (λ (b : Bool). cond b (assumptions_in v (closed_words lits)) (Err BadLine)) (served-words limits.assumptions lits may) ∙ assumptions-again v lits low up h

@@ -6,11 +6,12 @@ use Rattle.std.proofs.lemmas.Bool.{leb-true, ltb-true, ltb-false}
 use Rattle.std.proofs.lemmas.List.Folds.{list_all-append}
 use Rattle.std.proofs.lemmas.List.Sums.{sum_by_push}
 use Rattle.mal_base.specs.Asks.{Terms, IsAsk}
-use Rattle.mal_base.specs.Formulas.{Formulated, is_formula, literals_of}
+use Rattle.mal_base.specs.Formulas.{Formulated, is_formula, is_within, literals_of}
+use Rattle.mal_base.specs.Clauses.{rises}
 use Rattle.mal_base.specs.Names.{is_name}
 use Rattle.mal_base.specs.declared.which.Which.TheVariants.{Clauses, Literals, Tenants, Jobs}
 use Rattle.mal_base.proofs.Sorting.{and-left, and-right, and-both}
-use Rattle.mal_revision.specs.Posted.{Posted}
+use Rattle.mal_revision.specs.Posted.{Posted, is_posted}
 use Rattle.spec_text.specs.Numbers.{NumberWord, number_in}
 use Rattle.spec_text.specs.Numbers.NumberWord.{NotANumber, TooLarge, Number}
 use Rattle.spec_dimacs.specs.Rows.{is_passed}
@@ -20,12 +21,12 @@ use Rattle.spec_script.specs.declared.fault.LineFault.TheVariants.{BadLine, Rang
 use Rattle.spec_script.specs.Limits.{Limits}
 use Rattle.spec_script.specs.Script.{ScriptedJob}
 use Rattle.spec_script.specs.Reading.{OpenJob, Reading, unread, named, is_number, ranged, in_range, asked, is_job, has_room, begun, going_on, with_revision, revised}
-use Rattle.spec_script.specs.Formed.{tenants_of, is_revision, clauses_of, clause_literals, IsJob, MayFollow, MayAllFollow}
+use Rattle.spec_script.specs.Formed.{tenants_of, clauses_of, clause_literals, IsJob, MayFollow, MayAllFollow}
 use Rattle.spec_script.specs.Grammar.{RevisionLines, JobLines, Part, Tenant, Job, is_inside, formula_of, ReviseAll, Runs, MakeAll}
 use Rattle.spec_script.specs.Laws.{SpelledIsScript, SpelledAgain}
 use Rattle.spec_script.proofs.Inversions.{bind_ok, passed, not_refused, ok_is, revised_is}
 use Rattle.spec_script.proofs.Parsing.{not_true}
-use Rattle.spec_script.proofs.AssumedForms.{InForm, assumed-formed}
+use Rattle.spec_script.proofs.AssumedForms.{assumed-formed}
 use Rattle.spec_script.proofs.Named.{AreNamed, tenants-few, named-last, named-more, all-named}
 use Rattle.spec_script.proofs.Again.{written-read}
 
@@ -45,8 +46,8 @@ block-formed header body f inside e =
 abbrev posted : Formulated → List ℕ → Posted
 posted f lits = record { variables = f.variables; clauses = f.clauses; assumptions = lits }
 
-revision-formed : (limits : Limits) (f : Formulated) (lits : List ℕ) → is_formula f ≡ true → InForm limits f.variables lits → is_revision limits (posted f lits) ≡ true
-revision-formed limits f lits form is = and-both _ _ (and-both _ _ form is.formed) is.may
+revision-formed : (f : Formulated) (lits : List ℕ) → is_formula f ≡ true → (rises lits && is_within f.variables lits) ≡ true → is_posted (posted f lits) ≡ true
+revision-formed f lits form formed = and-both _ _ form formed
 
 -- ---- the revisions of a job
 
@@ -56,7 +57,7 @@ record Fits (limits : Limits) (tenant name : List ℕ) (ask : Terms) (o : OpenJo
   name_is : o.job.name ≡ name
   ask_is : o.job.ask ≡ ask
   few : length o.job.revisions ≤ limits.revisions
-  formed : list_all (is_revision limits) o.job.revisions ≡ true
+  formed : list_all is_posted o.job.revisions ≡ true
   clauses : o.clauses ≡ clauses_of o.job.revisions
   literals : o.literals ≡ clause_literals o.job.revisions
   few_clauses : o.clauses ≤ 1048576
@@ -68,13 +69,13 @@ within-job o f lits next e =
     let k = not_refused (nat_lt 16777216 (o.literals + literals_of f.clauses)) (Ok (with_revision o f lits)) (Limit Literals) next h.1 in
     (ltb-false 1048576 (o.clauses + length f.clauses) h.0, ltb-false 16777216 (o.literals + literals_of f.clauses) k.0)
 
-fits-more : (limits : Limits) (tenant name : List ℕ) (ask : Terms) (o : OpenJob) (f : Formulated) (lits : List ℕ) → Fits limits tenant name ask o → length o.job.revisions < limits.revisions → is_revision limits (posted f lits) ≡ true → (o.clauses + length f.clauses ≤ 1048576) × (o.literals + literals_of f.clauses ≤ 16777216) → Fits limits tenant name ask (with_revision o f lits)
+fits-more : (limits : Limits) (tenant name : List ℕ) (ask : Terms) (o : OpenJob) (f : Formulated) (lits : List ℕ) → Fits limits tenant name ask o → length o.job.revisions < limits.revisions → is_posted (posted f lits) ≡ true → (o.clauses + length f.clauses ≤ 1048576) × (o.literals + literals_of f.clauses ≤ 16777216) → Fits limits tenant name ask (with_revision o f lits)
 fits-more limits tenant name ask o f lits is room form low = record {
   tenant_is = is.tenant_is;
   name_is = is.name_is;
   ask_is = is.ask_is;
   few = let one : length (o.job.revisions ++ posted f lits ∷ []) ≡ length o.job.revisions + 1 = length-append o.job.revisions (posted f lits ∷ []) in omega arith;
-  formed = list_all-append (is_revision limits) o.job.revisions (posted f lits ∷ []) ∙ and-both _ _ is.formed (and-both _ _ form refl);
+  formed = list_all-append is_posted o.job.revisions (posted f lits ∷ []) ∙ and-both _ _ is.formed (and-both _ _ form refl);
   clauses = ap (λ (n : ℕ). n + length f.clauses) is.clauses ∙ sym (sum_by_push (λ (r : Posted). length r.clauses) o.job.revisions (posted f lits));
   literals = ap (λ (n : ℕ). n + literals_of f.clauses) is.literals ∙ sym (sum_by_push (λ (r : Posted). literals_of r.clauses) o.job.revisions (posted f lits));
   few_clauses = low.0;
@@ -85,7 +86,7 @@ all-fit : (limits : Limits) (tenant name : List ℕ) (ask : Terms) (rs : List Re
 all-fit limits tenant name ask [] o after is same = subst (Fits limits tenant name ask) same is
 all-fit limits tenant name ask (r ∷ rs) o after is (next, one, others) =
     let form : is_formula one.formula ≡ true = block-formed r.header r.body one.formula one.inside one.spelled in
-    let revision : is_revision limits (posted one.formula one.assumptions) ≡ true = revision-formed limits one.formula one.assumptions form (assumed-formed limits one.formula.variables r.assumed one.assumptions one.assumed) in
+    let revision : is_posted (posted one.formula one.assumptions) ≡ true = revision-formed one.formula one.assumptions form (assumed-formed one.formula.variables r.assumed one.assumptions one.assumed) in
     let more : Fits limits tenant name ask (with_revision o one.formula one.assumptions) = fits-more limits tenant name ask o one.formula one.assumptions is one.room revision (within-job o one.formula one.assumptions next one.revised) in
     all-fit limits tenant name ask rs next after (subst (Fits limits tenant name ask) (revised_is o one.formula one.assumptions next one.revised) more) others
 

@@ -15,8 +15,9 @@ use Rattle.spec_dimacs.specs.Reading.{Block, ◌>>=◌, after_rows}
 use Rattle.spec_script.specs.declared.fault.LineFault.{LineFault}
 use Rattle.spec_script.specs.declared.fault.LineFault.TheVariants.{BadLine, Limit}
 use Rattle.spec_script.specs.Limits.{Limits}
+use Rattle.spec_script.specs.Assumptions.{assumptions_in}
 use Rattle.spec_script.specs.Script.{Scripted}
-use Rattle.spec_script.specs.Reading.{Reading, OpenJob, in_block, named, asked, admitted, going_on, begun, with_block, with_job, with_revision, assumed, revised, after_header, after_assumptions, inside_block, inside_job, inside, outside, after_tenant, of_tenant, after_job, after_end, after_counted, after_row, unended, at_end}
+use Rattle.spec_script.specs.Reading.{Reading, OpenJob, in_block, named, asked, admitted, going_on, begun, with_block, with_job, with_revision, revised, after_header, after_assumptions, inside_block, inside_job, inside, outside, after_tenant, of_tenant, after_job, after_end, after_counted, after_row, unended, at_end}
 use Rattle.spec_script.specs.Grammar.{RevisionLines, Part, Tenant, Job, revision_lines, job_lines, part_lines, is_inside, ReviseAll, MakeAll}
 use Rattle.spec_script.proofs.Inversions.{bind_ok, in_block_ok, chosen, passed, same_bytes, ok_is, named_opened, admitted_is, revised_is}
 
@@ -48,7 +49,7 @@ pub record InBlock (limits : Limits) (rows : List (List (List ℕ))) (s : Readin
   pub lines : rows ≡ body ++ (codes "a" ∷ words) ∷ rest
   pub inside : list_all is_inside body ≡ true
   pub spelled : (after_rows body b >>= block.ended) ≡ Ok formula
-  pub assumed : assumed limits formula.variables words ≡ Ok assumptions
+  pub assumed : assumptions_in formula.variables words ≡ Ok assumptions
   pub revised : revised o formula assumptions ≡ Ok next
   pub job : InJob limits rest s next r
 
@@ -157,11 +158,11 @@ job-goes-on limits first others rows s t o r e rest = elim (chosen (bytes_eq fir
 
 -- ---- in a block
 
-block-ended : (limits : Limits) (others : List (List ℕ)) (rows : List (List (List ℕ))) (s t : Reading) (o : OpenJob) (b : Block) (r : Scripted) → (after_assumptions limits others o b >>= λ after. Ok (going_on s after)) ≡ Ok t → Parsed limits rows t t.opened r → InBlock limits ((codes "a" ∷ others) ∷ rows) s o b r
+block-ended : (limits : Limits) (others : List (List ℕ)) (rows : List (List (List ℕ))) (s t : Reading) (o : OpenJob) (b : Block) (r : Scripted) → (after_assumptions others o b >>= λ after. Ok (going_on s after)) ≡ Ok t → Parsed limits rows t t.opened r → InBlock limits ((codes "a" ∷ others) ∷ rows) s o b r
 block-ended limits others rows s t o b r e rest =
-    let a = bind_ok (after_assumptions limits others o b) (λ after. Ok (going_on s after)) t e in
-    let c = bind_ok (in_block (block.ended b)) (λ f. assumed limits f.variables others >>= revised o f) a.0 a.1 in
-    let d = bind_ok (assumed limits c.0.variables others) (revised o c.0) a.0 c.2 in
+    let a = bind_ok (after_assumptions others o b) (λ after. Ok (going_on s after)) t e in
+    let c = bind_ok (in_block (block.ended b)) (λ f. assumptions_in f.variables others >>= revised o f) a.0 a.1 in
+    let d = bind_ok (assumptions_in c.0.variables others) (revised o c.0) a.0 c.2 in
     let next : with_revision o c.0 d.0 ≡ a.0 = revised_is o c.0 d.0 a.0 d.2 in
     let is : going_on s (with_revision o c.0 d.0) ≡ t = ap (λ (x : OpenJob). going_on s x) next ∙ ok_is (going_on s a.0) t a.2 in
     let job : InJob limits rows (going_on s (with_revision o c.0 d.0)) (with_revision o c.0 d.0) r = subst (λ (x : Reading). Parsed limits rows x x.opened r) (sym is) rest in
@@ -205,10 +206,10 @@ block-goes-on limits first others rows s t o b r counts other e rest =
     }
 
 block-parsed : (limits : Limits) (first : List ℕ) (others : List (List ℕ)) (rows : List (List (List ℕ))) (s t : Reading) (o : OpenJob) (b : Block) (r : Scripted) → is_passed (first ∷ others) ≡ false
-    → (inside_block limits first others o b >>= λ after. Ok (going_on s after)) ≡ Ok t → Parsed limits rows t t.opened r → InBlock limits ((first ∷ others) ∷ rows) s o b r
+    → (inside_block first others o b >>= λ after. Ok (going_on s after)) ≡ Ok t → Parsed limits rows t t.opened r → InBlock limits ((first ∷ others) ∷ rows) s o b r
 block-parsed limits first others rows s t o b r counts e rest = by_test (bytes_eq first (codes "a")) refl e
   where
-    by_test : (a : Bool) → bytes_eq first (codes "a") ≡ a → (cond a (after_assumptions limits others o b) (in_block (block.after_row (first ∷ others) b) >>= λ after. Ok (with_block o after)) >>= λ after. Ok (going_on s after)) ≡ Ok t → InBlock limits ((first ∷ others) ∷ rows) s o b r
+    by_test : (a : Bool) → bytes_eq first (codes "a") ≡ a → (cond a (after_assumptions others o b) (in_block (block.after_row (first ∷ others) b) >>= λ after. Ok (with_block o after)) >>= λ after. Ok (going_on s after)) ≡ Ok t → InBlock limits ((first ∷ others) ∷ rows) s o b r
     by_test true p h = subst (λ (x : List ℕ). InBlock limits ((x ∷ others) ∷ rows) s o b r) (sym (same_bytes first (codes "a") p)) (block-ended limits others rows s t o b r h rest)
     by_test false p h = block-goes-on limits first others rows s t o b r counts p h rest
 

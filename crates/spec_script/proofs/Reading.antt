@@ -16,8 +16,9 @@ use Rattle.spec_dimacs.specs.Reading.{Block, ◌>>=◌, after_rows}
 use Rattle.spec_script.specs.declared.fault.LineFault.{LineFault}
 use Rattle.spec_script.specs.declared.fault.LineFault.TheVariants.{BadLine, Limit}
 use Rattle.spec_script.specs.Limits.{Limits}
+use Rattle.spec_script.specs.Assumptions.{assumptions_in}
 use Rattle.spec_script.specs.Script.{ScriptedJob, Scripted}
-use Rattle.spec_script.specs.Reading.{Reading, OpenJob, unread, in_block, named, asked, admitted, going_on, begun, with_block, with_job, assumed, revised, after_assumptions, inside_block, inside, of_tenant, after_counted, after_row, at_end, on_line, read_rows, read_text}
+use Rattle.spec_script.specs.Reading.{Reading, OpenJob, unread, in_block, named, asked, admitted, going_on, begun, with_block, with_job, revised, after_assumptions, inside_block, inside, of_tenant, after_counted, after_row, at_end, on_line, read_rows, read_text}
 use Rattle.spec_script.specs.Grammar.{RevisionLines, JobLines, Part, Tenant, Job, revision_lines, job_lines, part_lines, is_inside, Revises, ReviseAll, Runs, MakeAll, Spells}
 use Rattle.spec_script.specs.Laws.{SpelledIsRead}
 use Rattle.spec_script.proofs.Inversions.{bind_ok, on_line_ok, ok_is, named_opened, revised_is}
@@ -83,15 +84,15 @@ run-body limits ((first ∷ others) ∷ body) rest s o b e inside h =
   where
     one : is_passed (first ∷ others) ≡ false → bytes_eq first (codes "a") ≡ false → (c : Block) → block.after_row (first ∷ others) b ≡ Ok c → after_row limits (first ∷ others) (going_on s (with_block o b)) ≡ Ok (going_on s (with_block o c))
     one counts other c h =
-        ap (λ (x : Bool). cond x (Ok (going_on s (with_block o b))) (inside_block limits first others (with_block o b) b >>= λ after. Ok (going_on (going_on s (with_block o b)) after))) counts
-        ∙ ap (λ (x : Bool). cond x (after_assumptions limits others (with_block o b) b) (in_block (block.after_row (first ∷ others) b) >>= λ after. Ok (with_block (with_block o b) after)) >>= λ after. Ok (going_on (going_on s (with_block o b)) after)) other
+        ap (λ (x : Bool). cond x (Ok (going_on s (with_block o b))) (inside_block first others (with_block o b) b >>= λ after. Ok (going_on (going_on s (with_block o b)) after))) counts
+        ∙ ap (λ (x : Bool). cond x (after_assumptions others (with_block o b) b) (in_block (block.after_row (first ∷ others) b) >>= λ after. Ok (with_block (with_block o b) after)) >>= λ after. Ok (going_on (going_on s (with_block o b)) after)) other
         ∙ ap (λ (x : Result Block BlockFault). (in_block x >>= λ after. Ok (with_block (with_block o b) after)) >>= λ after. Ok (going_on (going_on s (with_block o b)) after)) h
 
 -- the line of assumptions
-run-assumed : (limits : Limits) (words : List (List ℕ)) (s : Reading) (o next : OpenJob) (e : Block) (f : Formulated) (assumptions : List ℕ) → block.ended e ≡ Ok f → assumed limits f.variables words ≡ Ok assumptions → revised o f assumptions ≡ Ok next
+run-assumed : (limits : Limits) (words : List (List ℕ)) (s : Reading) (o next : OpenJob) (e : Block) (f : Formulated) (assumptions : List ℕ) → block.ended e ≡ Ok f → assumptions_in f.variables words ≡ Ok assumptions → revised o f assumptions ≡ Ok next
     → after_row limits (codes "a" ∷ words) (going_on s (with_block o e)) ≡ Ok (going_on s next)
 run-assumed limits words s o next e f assumptions h k l =
-    ap (λ (x : Result Formulated BlockFault). (in_block x >>= λ f. assumed limits f.variables words >>= revised o f) >>= λ after. Ok (going_on s after)) h
+    ap (λ (x : Result Formulated BlockFault). (in_block x >>= λ f. assumptions_in f.variables words >>= revised o f) >>= λ after. Ok (going_on s after)) h
     ∙ ap (λ (x : Result (List ℕ) LineFault). (x >>= revised o f) >>= λ after. Ok (going_on s after)) k
     ∙ ap (λ (x : Result OpenJob LineFault). x >>= λ after. Ok (going_on s after)) l
 

@@ -6,7 +6,7 @@ use Rattle.std.proofs.lemmas.Bool.Decides.{nat_tests}
 use Rattle.mal_base.specs.Formulas.{is_within, is_clause_of, is_within_limits, is_formula}
 use Rattle.mal_base.specs.Names.{is_name, is_name_byte}
 use Rattle.mal_base.proofs.Sorting.{and-left, and-right, and-both}
-use Rattle.mal_revision.specs.Posted.{Posted}
+use Rattle.mal_revision.specs.Posted.{Posted, is_posted}
 use Rattle.spec_text.specs.Lines.{text_of, IsClean, IsRow, AreRows}
 use Rattle.spec_text.specs.Numbers.{decimal_word, literal_word, number_of}
 use Rattle.spec_text.proofs.Clean.{decimals_are_clean}
@@ -17,7 +17,7 @@ use Rattle.spec_dimacs.proofs.Behind.{counted_of, keeps_row}
 use Rattle.spec_dimacs.proofs.Again.{rows_again, clause_lits, words-lits, lits_within, closed_row, header_row, closed_counts, literal_again}
 use Rattle.spec_script.specs.Limits.{Limits}
 use Rattle.spec_script.specs.Script.{ScriptedJob, revision_rows, tenant_words, job_words, job_rows}
-use Rattle.spec_script.specs.Formed.{is_revision, IsJob, MayAllFollow}
+use Rattle.spec_script.specs.Formed.{IsJob, MayAllFollow}
 use Rattle.spec_script.specs.Grammar.{RevisionLines, JobLines, Part, Tenant, Job, revision_lines, part_lines, is_inside}
 
 -- a line that can be written, and that counts
@@ -66,8 +66,8 @@ name-clean name h =
 -- ---- the lines of a revision
 
 -- the formula of a revision is in form
-pub revision-formula : (limits : Limits) (r : Posted) → is_revision limits r ≡ true → is_formula (record { variables = r.variables; clauses = r.clauses }) ≡ true
-revision-formula limits r h = and-left _ _ (and-left _ _ h)
+pub revision-formula : (r : Posted) → is_posted r ≡ true → is_formula (record { variables = r.variables; clauses = r.clauses }) ≡ true
+revision-formula r h = and-left _ _ h
 
 pub few-variables : (v : ℕ) (cs : List (Option (List ℕ))) → is_within_limits v cs ≡ true → v ≤ 65536
 few-variables v cs h = leb-true v 65536 (and-left _ _ (and-left _ _ h))
@@ -79,9 +79,9 @@ clauses-stand : (v : ℕ) (cs : List (Option (List ℕ))) → v ≤ 65536 → li
 clauses-stand v [] low h = tt
 clauses-stand v (c ∷ cs) low h = (clause-stands v c low (and-left _ _ h), clauses-stand v cs low (and-right (is_clause_of v c) _ h))
 
-revision-stands : (limits : Limits) (r : Posted) → is_revision limits r ≡ true → AllByRecursion Stands (revision_rows r)
-revision-stands limits r h =
-    let form : is_formula (record { variables = r.variables; clauses = r.clauses }) ≡ true = revision-formula limits r h in
+revision-stands : (r : Posted) → is_posted r ≡ true → AllByRecursion Stands (revision_rows r)
+revision-stands r h =
+    let form : is_formula (record { variables = r.variables; clauses = r.clauses }) ≡ true = revision-formula r h in
     let within : is_within_limits r.variables r.clauses ≡ true = and-left _ _ form in
     let clauses : list_all (is_clause_of r.variables) r.clauses ≡ true = and-right (is_within_limits r.variables r.clauses) _ form in
     let words = closed_row r.assumptions in (
@@ -90,9 +90,9 @@ revision-stands limits r h =
           (((omega arith, ((omega arith, (omega arith, tt)), words.1)), refl), tt),
     )
 
-revisions-stand : (limits : Limits) (rs : List Posted) → list_all (is_revision limits) rs ≡ true → AllByRecursion Stands (flat_map revision_rows rs)
-revisions-stand limits [] h = tt
-revisions-stand limits (r ∷ rs) h = all-both (revision_rows r) (flat_map revision_rows rs) (revision-stands limits r (and-left _ _ h)) (revisions-stand limits rs (and-right (is_revision limits r) _ h))
+revisions-stand : (rs : List Posted) → list_all is_posted rs ≡ true → AllByRecursion Stands (flat_map revision_rows rs)
+revisions-stand [] h = tt
+revisions-stand (r ∷ rs) h = all-both (revision_rows r) (flat_map revision_rows rs) (revision-stands r (and-left _ _ h)) (revisions-stand rs (and-right (is_posted r) _ h))
 
 -- ---- the lines of a job
 
@@ -106,7 +106,7 @@ end-stands : Stands (codes "e" ∷ [])
 end-stands = ((omega arith, ((omega arith, (omega arith, tt)), tt)), refl)
 
 job-stands : (limits : Limits) (j : ScriptedJob) → IsJob limits j → AllByRecursion Stands (job_rows j)
-job-stands limits j is = (tenant-stands j.tenant is.tenant, (terms-stand limits j is.name, all-both (flat_map revision_rows j.revisions) ((codes "e" ∷ []) ∷ []) (revisions-stand limits j.revisions is.formed) (end-stands, tt)))
+job-stands limits j is = (tenant-stands j.tenant is.tenant, (terms-stand limits j is.name, all-both (flat_map revision_rows j.revisions) ((codes "e" ∷ []) ∷ []) (revisions-stand j.revisions is.formed) (end-stands, tt)))
 
 pub jobs-stand : (limits : Limits) (jobs js : List ScriptedJob) → MayAllFollow limits jobs js → AllByRecursion Stands (flat_map job_rows js)
 jobs-stand limits jobs [] h = tt

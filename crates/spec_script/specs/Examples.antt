@@ -1,15 +1,19 @@
-use Rattle.std.specs.Prelude.{◌≡◌, List, [], ◌∷◌, ◌++◌, codes, Some, None, Ok, Err}
-use Rattle.mal_base.specs.declared.which.Which.TheVariants.{Jobs, Revisions}
+use Rattle.std.specs.Prelude.{◌≡◌, ℕ, List, [], ◌∷◌, ◌++◌, codes, Some, None, Ok, Err}
+use Rattle.mal_base.specs.declared.which.Which.TheVariants.{Tenants, Jobs, Revisions}
 use Rattle.mal_revision.specs.Posted.{Posted}
 use Rattle.spec_dimacs.specs.declared.fault.BlockFault.TheVariants.{VarTooLarge, ClauseCount}
 use Rattle.spec_script.specs.declared.fault.LineFault.TheVariants.{BadLine, Dimacs, Opposite, Duplicate, Range, Limit}
-use Rattle.spec_script.specs.Limits.{served, final_limits}
+use Rattle.spec_script.specs.Limits.{Limits, served}
 use Rattle.spec_script.specs.Reading.{read_text}
-use Rattle.spec_script.specs.Script.{Scripted, spelling}
+use Rattle.spec_script.specs.Script.{ScriptedJob, Scripted, spelling}
+
+-- the job of tenant a with this name and these revisions
+abbrev pub job_named : List ℕ → List Posted → ScriptedJob
+job_named name revisions = record { tenant = codes "a"; name = name; ask = record { priority = 1; demand = 1; slices = 4 }; revisions = revisions }
 
 -- the job p of tenant a with these revisions
 abbrev pub job_with : List Posted → Scripted
-job_with revisions = record { jobs = record { tenant = codes "a"; name = codes "p"; ask = record { priority = 1; demand = 1; slices = 4 }; revisions = revisions } ∷ [] }
+job_with revisions = record { jobs = job_named (codes "p") revisions ∷ [] }
 
 -- worked examples of the text of a script
 pub record HasExamples : Type 0 where
@@ -24,10 +28,11 @@ pub record ReadingExamples : Type 0 where
   pub tautology_keeps_its_number : read_text served (codes "t a\nj p 1 1 4\np cnf 2 2\n1 -1 0\n2 0\na 0\ne\n") ≡ Ok (job_with (record { variables = 2; clauses = None ∷ Some (4 ∷ []) ∷ []; assumptions = [] } ∷ []))
   pub from_a_tool : read_text served (codes "c made by a tool\r\nt a\r\nj p 1 1 4\r\np cnf 2 1\r\n-2\r\n1 0\r\n%\r\n0\r\na 0\r\ne\r\n") ≡ Ok (job_with (record { variables = 2; clauses = Some (2 ∷ 5 ∷ []) ∷ []; assumptions = [] } ∷ []))
   pub repeated_literal : read_text served (codes "t a\nj p 1 1 4\np cnf 2 1\n1 2 1 0\na 0\ne") ≡ Ok (job_with (record { variables = 2; clauses = Some (2 ∷ 4 ∷ []) ∷ []; assumptions = [] } ∷ []))
-  pub assumptions_in_order : read_text final_limits (codes "t a\nj p 1 1 4\np cnf 2 0\na 2 -1 2 0\ne\n") ≡ Ok (job_with (record { variables = 2; clauses = []; assumptions = 3 ∷ 4 ∷ [] } ∷ []))
-  pub fewer_variables_later : read_text final_limits (codes "t a\nj p 1 1 4\np cnf 2 0\na 0\np cnf 1 0\na 1 0\ne\n") ≡ Ok (job_with (record { variables = 2; clauses = []; assumptions = [] } ∷ record { variables = 1; clauses = []; assumptions = 2 ∷ [] } ∷ []))
+  pub assumptions_in_order : read_text served (codes "t a\nj p 1 1 4\np cnf 2 0\na 2 -1 2 0\ne\n") ≡ Ok (job_with (record { variables = 2; clauses = []; assumptions = 3 ∷ 4 ∷ [] } ∷ []))
+  pub second_job : read_text served (codes "t a\nj p 1 1 4\ne\nj q 1 1 4\ne\n") ≡ Ok (record { jobs = job_named (codes "p") [] ∷ job_named (codes "q") [] ∷ [] })
+  pub fewer_variables_later : read_text served (codes "t a\nj p 1 1 4\np cnf 2 0\na 0\np cnf 1 0\na 1 0\ne\n") ≡ Ok (job_with (record { variables = 2; clauses = []; assumptions = [] } ∷ record { variables = 1; clauses = []; assumptions = 2 ∷ [] } ∷ []))
 
--- small texts with their first fault, whatever is served
+-- small texts with their first fault
 pub record FaultExamples : Type 0 where
   pub end_alone : read_text served (codes "e") ≡ Err (1, BadLine)
   pub compressed : read_text served (31 ∷ 139 ∷ 8 ∷ []) ≡ Err (1, BadLine)
@@ -39,12 +44,17 @@ pub record FaultExamples : Type 0 where
   pub block_cut_short : read_text served (codes "t a\nj p 1 1 4\np cnf 2 2\n1 2 0\n-1") ≡ Err (5, Dimacs (ClauseCount 2 1))
   pub block_not_whole : read_text served (codes "t a\nj p 1 1 4\np cnf 2 2\n1 2 0\na 3 0\ne\n") ≡ Err (5, Dimacs (ClauseCount 2 1))
   pub block_not_ended : read_text served (codes "t a\nj p 1 1 4\np cnf 1 1\n1 0\n") ≡ Err (4, BadLine)
+  pub opposite : read_text served (codes "t a\nj p 1 1 4\np cnf 1 0\na 1 -1 0\ne\n") ≡ Err (4, Opposite 1)
+  pub above_the_variables : read_text served (codes "t a\nj p 1 1 4\np cnf 1 0\na 2 0\ne\n") ≡ Err (4, Range)
+  pub duplicate : read_text served (codes "t a\nj p 1 1 4\ne\nj p 1 1 4\ne\n") ≡ Err (4, Duplicate (codes "a") (codes "p"))
 
--- small texts that are refused by what is served today, and by the limits that are final
+-- limits that small texts pass
+abbrev pub few : Limits
+few = record { tenants = 2; jobs = 2; jobs_of_tenant = 1; revisions = 1 }
+
+-- small texts that pass limits
 pub record LimitExamples : Type 0 where
-  pub second_job : read_text served (codes "t a\nj p 1 1 4\ne\nj q 1 1 4\ne\n") ≡ Err (4, Limit Jobs)
-  pub second_revision : read_text served (codes "t a\nj p 1 1 4\np cnf 0 0\na 0\np cnf 0 0\na 0\ne\n") ≡ Err (5, Limit Revisions)
-  pub assumption : read_text served (codes "t a\nj p 1 1 4\np cnf 1 0\na 1 -1 0\ne\n") ≡ Err (4, BadLine)
-  pub opposite : read_text final_limits (codes "t a\nj p 1 1 4\np cnf 1 0\na 1 -1 0\ne\n") ≡ Err (4, Opposite 1)
-  pub above_the_variables : read_text final_limits (codes "t a\nj p 1 1 4\np cnf 1 0\na 2 0\ne\n") ≡ Err (4, Range)
-  pub duplicate : read_text final_limits (codes "t a\nj p 1 1 4\ne\nj p 1 1 4\ne\n") ≡ Err (4, Duplicate (codes "a") (codes "p"))
+  pub third_tenant : read_text few (codes "t a\nt b\nt a\nt c\n") ≡ Err (4, Limit Tenants)
+  pub second_job_of_tenant : read_text few (codes "t a\nj p 1 1 4\ne\nj q 1 1 4\ne\n") ≡ Err (4, Limit Jobs)
+  pub second_job : read_text (record few { jobs = 1 }) (codes "t a\nj p 1 1 4\ne\nt b\nj p 1 1 4\ne\n") ≡ Err (5, Limit Jobs)
+  pub second_revision : read_text few (codes "t a\nj p 1 1 4\np cnf 0 0\na 0\np cnf 0 0\na 0\ne\n") ≡ Err (5, Limit Revisions)

@@ -1,5 +1,5 @@
 -- Scripts in form: those that are read from a text.
-use Rattle.std.specs.Prelude.{◌≡◌, ℕ, ◌≤◌, Bool, true, false, ◌&&◌, ◌||◌, List, [], ◌∷◌, ◌++◌, length, nat_le, bytes_eq, if◌then◌else◌, fold, sum_by}
+use Rattle.std.specs.Prelude.{◌≡◌, ℕ, ◌≤◌, true, false, List, [], ◌∷◌, ◌++◌, length, bytes_eq, if◌then◌else◌, fold, sum_by}
 use Rattle.std.specs.List.{list_all, list_any}
 use Rattle.mal_base.specs.Asks.{IsAsk}
 use Rattle.mal_base.specs.Formulas.{literals_of}
@@ -17,10 +17,6 @@ with_name names name = if list_any (bytes_eq name) names then names else names +
 abbrev pub tenants_of : List ScriptedJob → List (List ℕ)
 tenants_of jobs = fold (λ names j. with_name names j.tenant) [] jobs
 
--- a revision in form, with assumptions only where there may be some
-abbrev pub is_revision : Limits → Posted → Bool
-is_revision limits r = is_posted r && (limits.assumptions || nat_le (length r.assumptions) 0)
-
 -- the clauses of revisions
 abbrev pub clauses_of : List Posted → ℕ
 clauses_of revisions = sum_by (λ r. length r.clauses) revisions
@@ -36,7 +32,7 @@ pub record IsJob (limits : Limits) (j : ScriptedJob) : Type 0 where
   pub name : is_name j.name ≡ true
   pub ask : IsAsk j.ask
   pub few : length j.revisions ≤ limits.revisions
-  pub formed : list_all (is_revision limits) j.revisions ≡ true
+  pub formed : list_all is_posted j.revisions ≡ true
   pub clauses : clauses_of j.revisions ≤ 1048576
   pub literals : clause_literals j.revisions ≤ 16777216
 

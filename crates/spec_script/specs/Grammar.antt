@@ -8,10 +8,11 @@ use Rattle.spec_text.specs.Numbers.{number_in}
 use Rattle.spec_dimacs.specs.declared.fault.BlockFault.{BlockFault}
 use Rattle.spec_dimacs.specs.Rows.{is_passed, counted_rows}
 use Rattle.spec_dimacs.specs.Reading as block
-use Rattle.spec_dimacs.specs.Reading.{Block, ◌>>=◌}
+use Rattle.spec_dimacs.specs.Reading.{◌>>=◌}
 use Rattle.spec_script.specs.Limits.{Limits}
 use Rattle.spec_script.specs.Script.{Scripted}
-use Rattle.spec_script.specs.Reading.{OpenJob, Reading, unread, named, asked, admitted, begun, going_on, assumed, revised, with_job}
+use Rattle.spec_script.specs.Assumptions.{assumptions_in}
+use Rattle.spec_script.specs.Reading.{OpenJob, Reading, unread, named, asked, admitted, begun, going_on, revised, with_job}
 
 -- the lines of a revision: those of its block, and the line of its assumptions, of which the words behind the `a`
 pub record RevisionLines : Type 0 where
@@ -66,7 +67,7 @@ pub record Revises (limits : Limits) (o : OpenJob) (r : RevisionLines) (after : 
   pub room : length o.job.revisions < limits.revisions
   pub inside : list_all is_inside r.body ≡ true
   pub spelled : formula_of r.header r.body ≡ Ok formula
-  pub assumed : assumed limits formula.variables r.assumed ≡ Ok assumptions
+  pub assumed : assumptions_in formula.variables r.assumed ≡ Ok assumptions
   pub revised : revised o formula assumptions ≡ Ok after
 
 -- lines of several revisions, one behind another

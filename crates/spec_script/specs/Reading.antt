@@ -1,5 +1,5 @@
 -- Reading a script line by line: the script, or the first fault with its line.
-use Rattle.std.specs.Prelude.{ℕ, suc, ◌+◌, max, Bool, true, false, ◌&&◌, ◌||◌, List, [], ◌∷◌, ◌++◌, length, codes, bytes_eq, nat_lt, nat_le, if◌then◌else◌, pos, Option, Some, None, Result, Ok, Err, count_by}
+use Rattle.std.specs.Prelude.{ℕ, suc, ◌+◌, max, Bool, true, false, ◌&&◌, List, [], ◌∷◌, ◌++◌, length, codes, bytes_eq, nat_lt, nat_le, if◌then◌else◌, pos, Option, Some, None, Result, Ok, Err, count_by}
 use Rattle.std.specs.List.{list_any}
 use Rattle.mal_base.specs.Asks.{Terms}
 use Rattle.mal_base.specs.Formulas.{Formulated, literals_of}
@@ -152,18 +152,14 @@ revised o f assumptions =
     if nat_lt 16777216 (o.literals + literals_of f.clauses) then Err (Limit Literals) else
     Ok (with_revision o f assumptions)
 
--- a line of assumptions has no literal where there may be none
-abbrev pub assumed : Limits → ℕ → List (List ℕ) → Result (List ℕ) LineFault
-assumed limits variables words = if limits.assumptions || nat_le (length words) 1 then assumptions_in variables words else Err BadLine
-
 -- after the words behind the `a` of the line that ends a block
-abbrev pub after_assumptions : Limits → List (List ℕ) → OpenJob → Block → Result OpenJob LineFault
-after_assumptions limits words o b = in_block (block.ended b) >>= λ f. assumed limits f.variables words >>= revised o f
+abbrev pub after_assumptions : List (List ℕ) → OpenJob → Block → Result OpenJob LineFault
+after_assumptions words o b = in_block (block.ended b) >>= λ f. assumptions_in f.variables words >>= revised o f
 
 -- after a line that counts and stands in a block
-abbrev pub inside_block : Limits → List ℕ → List (List ℕ) → OpenJob → Block → Result OpenJob LineFault
-inside_block limits first others o b =
-    if bytes_eq first (codes "a") then after_assumptions limits others o b else
+abbrev pub inside_block : List ℕ → List (List ℕ) → OpenJob → Block → Result OpenJob LineFault
+inside_block first others o b =
+    if bytes_eq first (codes "a") then after_assumptions others o b else
     in_block (block.after_row (first ∷ others) b) >>= λ after. Ok (with_block o after)
 
 -- the job that these words behind an `e` end
@@ -189,7 +185,7 @@ inside_job limits first others o s =
 -- after a line that counts and stands in a job, of which a block may have begun
 abbrev pub inside : Limits → List ℕ → List (List ℕ) → OpenJob → Option Block → Reading → Result Reading LineFault
 inside limits first others o None s = inside_job limits first others o s
-inside limits first others o (Some b) s = inside_block limits first others o b >>= λ after. Ok (going_on s after)
+inside limits first others o (Some b) s = inside_block first others o b >>= λ after. Ok (going_on s after)
 
 -- after a line that counts
 abbrev pub after_counted : Limits → List ℕ → List (List ℕ) → Option OpenJob → Reading → Result Reading LineFault
