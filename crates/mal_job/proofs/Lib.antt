@@ -1,3 +1,9 @@
-pub mod SliceLemmas
 pub mod LogLemmas
+pub mod JournalLemmas
+pub mod LoadingLemmas
+pub mod StateLemmas
+pub mod KeptLemmas
+pub mod StartLemmas
+pub mod ProgressLemmas
+pub mod EndedLemmas
 pub mod ToldLemmas

@@ -1,45 +1,26 @@
 -- The lines of a slice are entered in a log.
-use Rattle.std.proofs.Common.{◌≡◌, ◌≢◌, ℕ, zero, suc, ◌+◌, ◌-◌, ◌*◌, ◌^◌, ◌<◌, ◌≤◌, List, [], ◌∷◌, ◌++◌, length, take, drop, get_or, slice_get, sum_by, Option, Some, None, refl, sym, ◌∙◌, ap, arith, add-one, append-nil, append_assoc, subst}
+use Rattle.std.proofs.Common.{true, false, ◌==◌, ◌≡◌, ◌≢◌, ℕ, zero, suc, ◌+◌, ◌<◌, ◌≤◌, List, [], ◌∷◌, ◌++◌, length, take, drop, get_or, slice_get, sum_by, Option, Some, None, refl, sym, ◌∙◌, ap, arith, add-one, append_assoc, subst}
 use Rattle.std.specs.Prelude.{All}
 use Rattle.std.proofs.lemmas.Option.{slice_get-get_or}
 use Rattle.std.proofs.lemmas.List.{take_more, take_all}
 use Rattle.std.proofs.lemmas.List.Sums.{sum_by-cons}
-use Rattle.std.proofs.lemmas.List.Elements.{All-nil, All-cons, All-weaker, All-contains, All-get_or}
-use Rattle.mal_base.specs.Held.{Held, Line}
+use Rattle.std.proofs.lemmas.List.Elements.{All-nil, All-cons, All-head, All-tail, All-get_or}
+use Rattle.mal_base.specs.Held.{Line}
 use Rattle.spec_search.specs.Slice.{numbers_of}
-use Rattle.spec_search.specs.Derived.{IsHeld, with_line, IsDerivedFrom, AreDerivedFrom}
-use Rattle.spec_search.specs.Laws.{AreNumbered}
-use Rattle.spec_proof.specs.Log.{IsAbove}
+use Rattle.spec_proof.specs.Log.{IsAbove, AreApart}
 use Rattle.mal_proof.specs.Logged.{Logged}
+use Rattle.spec_job.specs.Solo.{first_empty}
+use Rattle.std.proofs.lemmas.Bool.{ne_eqb, eq-eqb}
 
--- lines with the next numbers behind others
-pub numbered-append : (serial index : ℕ) (xs ys : List Line) → AreNumbered serial index xs → AreNumbered (serial + length xs) index ys → AreNumbered serial index (xs ++ ys)
-numbered-append serial index [] ys h k = subst (λ (s : ℕ). AreNumbered s index ys) (let same : serial + 0 ≡ serial = omega arith in same) k
-numbered-append serial index (x ∷ xs) ys h k = (h.0, numbered-append (serial + 1) index xs ys h.1 (subst (λ (s : ℕ). AreNumbered s index ys) (let same : serial + suc (length xs) ≡ serial + 1 + length xs = omega arith in same) k))
+-- what holds of all holds of the one between
+of-middle : (P : Line → Type 0) (xs ys : List Line) (l : Line) → All P (xs ++ l ∷ ys) → P l
+of-middle P [] ys l h = All-head P l ys h
+of-middle P (x ∷ xs) ys l h = of-middle P xs ys l (All-tail P x (xs ++ l ∷ ys) h)
 
--- the number of a line behind others
-numbered-here : (serial index : ℕ) (xs ys : List Line) (l : Line) → AreNumbered serial index (xs ++ l ∷ ys) → l.id ≡ 2 ^ 32 + (serial + length xs) * 64 + index
-numbered-here serial index [] ys l h = h.0 ∙ omega arith
-numbered-here serial index (x ∷ xs) ys l h = numbered-here (serial + 1) index xs ys l h.1 ∙ omega arith
-
--- is none of theirs
-numbered-fresh : (serial index : ℕ) (xs ys : List Line) (l : Line) → AreNumbered serial index (xs ++ l ∷ ys) → All (λ other. other.id ≢ l.id) xs
-numbered-fresh serial index [] ys l h = All-nil (λ other. other.id ≢ l.id)
-numbered-fresh serial index (x ∷ xs) ys l h =
-    let here : l.id ≡ 2 ^ 32 + (serial + 1 + length xs) * 64 + index = numbered-here (serial + 1) index xs ys l h.1 in
-    let first : x.id ≡ 2 ^ 32 + serial * 64 + index = h.0 in
-    All-cons (λ other. other.id ≢ l.id) x xs (λ q. omega arith) (numbered-fresh (serial + 1) index xs ys l h.1)
-
--- lines that are derived one after another under a node's numbers are above their hints
-pub derived-above : (clauses : List Held) (serial index : ℕ) (lines : List Line) → AreDerivedFrom clauses lines → AreNumbered serial index lines → All IsAbove lines
-derived-above clauses serial index [] d e = All-nil IsAbove
-derived-above clauses serial index (l ∷ ls) d e =
-    All-cons IsAbove l ls
-    (record { derived = let number : l.id ≡ 2 ^ 32 + serial * 64 + index = e.0 in omega arith; above = All-weaker (IsHeld clauses) (λ hint. hint < l.id) (λ hint h. below hint h d.0) l.hints d.0.hints })
-    (derived-above (with_line clauses l) (serial + 1) index ls d.1 e.1)
-  where
-    below : (hint : ℕ) → IsHeld clauses hint → IsDerivedFrom clauses l → hint < l.id
-    below hint (c, m, q) from = let less : c.id < l.id = All-contains (λ x. x.id < l.id) clauses c from.above m in omega arith
+-- where no two lines have one number, that of a line is none of those before it
+apart-fresh : (xs ys : List Line) (l : Line) → AreApart (xs ++ l ∷ ys) → All (λ other. other.id ≢ l.id) xs
+apart-fresh [] ys l h = All-nil (λ other. other.id ≢ l.id)
+apart-fresh (x ∷ xs) ys l h = All-cons (λ other. other.id ≢ l.id) x xs (λ q. of-middle (λ other. other.id ≢ x.id) xs ys l h.0 (sym q)) (apart-fresh xs ys l h.1)
 
 -- a list from a place on
 pub from-place : (xs : List Line) (n : ℕ) (d : Line) → n < length xs → drop n xs ≡ get_or xs n d ∷ drop (suc n) xs
@@ -78,13 +59,13 @@ none = record { id = 0; lits = []; hints = [] }
 rest-numbers : (lines : List Line) (n : ℕ) → n < length lines → sum_by numbers_of (drop n lines) ≡ numbers_of (get_or lines n none) + sum_by numbers_of (drop (suc n) lines)
 rest-numbers lines n low = ap (sum_by numbers_of) (from-place lines n none low) ∙ sum_by-cons numbers_of (get_or lines n none) (drop (suc n) lines)
 
-pub entering-next : (before : Logged) (lines : List Line) (n : ℕ) (now : Logged) → n < length lines → AreNumbered 0 0 (before.lines ++ lines) → All IsAbove lines → IsEntering before lines n now → IsNext lines n now
-entering-next before lines n now low numbered above h =
+pub entering-next : (before : Logged) (lines : List Line) (n : ℕ) (now : Logged) → n < length lines → AreApart (before.lines ++ lines) → All IsAbove lines → IsEntering before lines n now → IsNext lines n now
+entering-next before lines n now low apart above h =
     let is : slice_get lines n ≡ Some (get_or lines n none) = slice_get-get_or lines n none low in
     let split : before.lines ++ lines ≡ (before.lines ++ take n lines) ++ get_or lines n none ∷ drop (suc n) lines =
     ap (λ (ls : List Line). before.lines ++ ls) (around-place lines n none low) ∙ sym (append_assoc before.lines (take n lines) (get_or lines n none ∷ drop (suc n) lines)) in
     let fresh : All (λ other. other.id ≢ (get_or lines n none).id) now.lines =
-    subst (λ (ls : List Line). All (λ (other : Line). other.id ≢ (get_or lines n none).id) ls) (sym h.entered) (numbered-fresh 0 0 (before.lines ++ take n lines) (drop (suc n) lines) (get_or lines n none) (subst (λ (ls : List Line). AreNumbered 0 0 ls) split numbered)) in
+    subst (λ (ls : List Line). All (λ (other : Line). other.id ≢ (get_or lines n none).id) ls) (sym h.entered) (apart-fresh (before.lines ++ take n lines) (drop (suc n) lines) (get_or lines n none) (subst (λ (ls : List Line). AreApart ls) split apart)) in
     let short : numbers_of (get_or lines n none) ≤ now.number_room = omega (arith, rest-numbers lines n low, h.number_room) in
     record {
       room = omega (arith, h.room);
@@ -133,3 +114,29 @@ pub line-above : (lines : List Line) (n id : ℕ) (lits hints : List ℕ) → n 
     → ((l : Line) → slice_get lines n ≡ Some l → id ≡ l.id) → ((l : Line) → slice_get lines n ≡ Some l → lits ≡ l.lits) → ((l : Line) → slice_get lines n ≡ Some l → hints ≡ l.hints)
     → ((l : Line) → slice_get lines n ≡ Some l → IsAbove l) → IsAbove (record { id = id; lits = lits; hints = hints })
 line-above lines n id lits hints low a b c f = let there = line-is lines n id lits hints low a b c in subst IsAbove there.2 (f there.0 there.1)
+
+-- the lines from a place on begin with the one that stands there, which is empty or not
+pub empty-here : (log : List Line) (n id : ℕ) (lits : List ℕ) → n < length log → ((l : Line) → slice_get log n ≡ Some l → id ≡ l.id) → ((l : Line) → slice_get log n ≡ Some l → lits ≡ l.lits) → length lits ≡ 0 → first_empty (drop n log) ≡ first_empty log → Some id ≡ first_empty log
+empty-here log n id lits low a b short from =
+    let l : Line = get_or log n none in
+    let is : slice_get log n ≡ Some l = slice_get-get_or log n none low in
+    let own : length l.lits ≡ 0 = ap (λ (ls : List ℕ). length ls) (sym (b l is)) ∙ short in
+    ap (λ (m : ℕ). Some m) (a l is) ∙ (sym (first l (drop (suc n) log) own) ∙ (ap first_empty (sym (from-place log n none low)) ∙ from))
+  where
+    first : (l : Line) (rest : List Line) → length l.lits ≡ 0 → first_empty (l ∷ rest) ≡ Some l.id
+    first l rest e = let found : (length l.lits == 0) ≡ true = eq-eqb (length l.lits) 0 e in rw found refl
+
+pub empty-later : (log : List Line) (n : ℕ) (lits : List ℕ) → n < length log → ((l : Line) → slice_get log n ≡ Some l → lits ≡ l.lits) → (length lits ≡ 0 → ⊥) → first_empty (drop n log) ≡ first_empty log → first_empty (drop (n + 1) log) ≡ first_empty log
+empty-later log n lits low b long from =
+    let l : Line = get_or log n none in
+    let is : slice_get log n ≡ Some l = slice_get-get_or log n none low in
+    let differs : (length l.lits ≡ 0 → ⊥) = λ e. long (ap (λ (ls : List ℕ). length ls) (b l is) ∙ e) in
+    ap (λ (m : ℕ). first_empty (drop m log)) (add-one n) ∙ (sym (past l (drop (suc n) log) differs) ∙ (ap first_empty (sym (from-place log n none low)) ∙ from))
+  where
+    past : (l : Line) (rest : List Line) → (length l.lits ≡ 0 → ⊥) → first_empty (l ∷ rest) ≡ first_empty rest
+    past l rest differs = let no-match : (length l.lits == 0) ≡ false = ne_eqb (length l.lits) 0 differs in rw no-match refl
+
+-- what holds of all holds of those behind
+pub behind-all : (P : Line → Type 0) (xs ys : List Line) → All P (xs ++ ys) → All P ys
+behind-all P [] ys h = h
+behind-all P (x ∷ xs) ys h = behind-all P xs ys (All-tail P x (xs ++ ys) h)

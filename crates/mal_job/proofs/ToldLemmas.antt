@@ -1,6 +1,5 @@
 -- What a reply tells.
-use Rattle.std.proofs.Common.{◌≡◌, ℕ, zero, suc, ◌+◌, ◌-◌, ◌<◌, ◌≤◌, Bool, true, false, ◌==◌, cond, List, [], ◌∷◌, length, take, drop, find, get_or, slice_get, map, Option, Some, None, refl, sym, ◌∙◌, ap, arith, add-one, take_all, subst}
-use Rattle.std.specs.Option.{option_map, option_map_or}
+use Rattle.std.proofs.Common.{◌≡◌, ℕ, suc, ◌+◌, ◌-◌, ◌<◌, ◌≤◌, true, false, ◌==◌, List, [], ◌∷◌, length, take, drop, get_or, slice_get, map, Some, refl, sym, ◌∙◌, ap, arith, add-one}
 use Rattle.std.proofs.lemmas.Option.{slice_get-get_or}
 use Rattle.std.proofs.lemmas.List.{drop_all}
 use Rattle.std.proofs.lemmas.Bool.{ne_eqb}
@@ -11,6 +10,8 @@ use Rattle.mal_revision.specs.Posted.{Posted}
 use Rattle.spec_proof.specs.Trimmed.{reached, renumbered}
 use Rattle.spec_report.specs.Replies.{Proof}
 use Rattle.spec_job.specs.Models.{clauses_of}
+use Rattle.spec_job.specs.Solo.{clauses_in}
+use Rattle.spec_job.proofs.LoadedLemmas.{clauses-length}
 use Rattle.spec_job.specs.Proofs.{lits_at, failed, proof_lines}
 use Rattle.mal_job.proofs.LogLemmas.{from-place}
 
@@ -41,8 +42,9 @@ lits-later goal id log n low a other from =
 pub lits-none : (goal : ℕ) (log : List Line) (n : ℕ) → length log ≤ n → lits_at goal (drop n log) ≡ lits_at goal log → [] ≡ lits_at goal log
 lits-none goal log n all from = ap (lits_at goal) (sym (drop_all n log all)) ∙ from
 
--- what is told of a proof that is numbered behind the clauses of all revisions, of which there is one at the most
-pub proof-told : (revisions : List Posted) (log : List Line) (r goal count : ℕ) (lits given : List ℕ) (needed lines : List Line) → length revisions ≤ 1 → 1 ≤ r → lits ≡ lits_at goal log → given ≡ map negated lits → needed ≡ reached goal log → count ≡ length (clauses_of revisions) → lines ≡ renumbered count needed → Proof given lines ≡ Proof (failed goal log) (proof_lines revisions log (r - 1) goal)
-proof-told revisions log r goal count lits given needed lines one some a b c d e =
-    let all : take (r - 1 + 1) revisions ≡ revisions = take_all (r - 1 + 1) revisions (omega arith) in
-    rw (e, d, c, b, a, all) refl
+-- what is told of a proof that is numbered behind the clauses of the revisions up to this one
+pub proof-told : (revisions : List Posted) (log : List Line) (r goal count : ℕ) (lits given : List ℕ) (needed lines : List Line) → 1 ≤ r → lits ≡ lits_at goal log → given ≡ map negated lits → needed ≡ reached goal log → count ≡ clauses_in (take r revisions) → lines ≡ renumbered count needed → Proof given lines ≡ Proof (failed goal log) (proof_lines revisions log (r - 1) goal)
+proof-told revisions log r goal count lits given needed lines some a b c d e =
+    let next : r ≡ r - 1 + 1 = omega arith in
+    let all : count ≡ length (clauses_of (take (r - 1 + 1) revisions)) = d ∙ (sym (clauses-length (take r revisions)) ∙ ap (λ (k : ℕ). length (clauses_of (take k revisions))) next) in
+    rw (e, all, c, b, a) refl

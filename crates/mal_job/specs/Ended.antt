@@ -1,4 +1,4 @@
-use Rattle.std.specs.Prelude.{ℕ, ◌+◌, ◌==◌, List, [], ◌∷◌, Option, Some, None, if◌then◌else◌}
+use Rattle.std.specs.Prelude.{ℕ, ◌+◌, ◌==◌, List, [], ◌∷◌, replicate, Option, Some, None, if◌then◌else◌}
 use Rattle.mal_base.specs.declared.answer.Answer.{Answer}
 use Rattle.mal_base.specs.declared.answer.Answer.TheVariants.{Satisfied, Refuted, Spent}
 use Rattle.mal_base.specs.declared.verdict.Verdict.{Verdict}
@@ -28,3 +28,13 @@ new_answers (Some v) n slices spent = answer_by v n ∷ []
 abbrev pub new_spent : Option Verdict → ℕ → ℕ → ℕ
 new_spent None slices spent = spent_after slices spent
 new_spent (Some v) slices spent = 0
+
+-- what the number of an empty clause answers where so many revisions have no answer
+abbrev pub settled_answers : Option ℕ → ℕ → List Answer
+settled_answers None open_revisions = []
+settled_answers (Some goal) open_revisions = replicate open_revisions (Refuted goal)
+
+-- the slices spent after it
+abbrev pub settled_spent : Option ℕ → ℕ → ℕ
+settled_spent None spent = spent
+settled_spent (Some goal) spent = 0

@@ -1,15 +1,29 @@
-use Rattle.std.specs.Prelude.{◌≡◌, ℕ, ◌<◌, ◌≤◌, List, length}
-use Rattle.mal_revision.specs.Posted.{Posted}
-use Rattle.mal_base.specs.declared.answer.Answer.{Answer}
+use Rattle.std.specs.Prelude.{◌≡◌, ℕ, ◌+◌, ◌*◌, ◌<◌, ◌≤◌, ◌^◌, List, [], length, Option}
+use Rattle.spec_node.specs.State.{Node}
+use Rattle.spec_job.specs.Journal.{replay}
+use Rattle.spec_job.specs.Counts.{runs_in}
+use Rattle.spec_job.specs.Solo.{Own, Solo, solo, place_at, clauses_in, first_empty}
+use Rattle.spec_job.specs.Runnable.{IsRunnable}
+use Rattle.mal_job.specs.declared.step.Step.{Step}
+use Rattle.mal_job.specs.Places.{loads_among}
 
--- what a job keeps of its counts: one revision at most, no more answers than revisions, a volume of 1 at most; the
--- slices that were run are within the budget, and those spent are they until the answer comes
-pub record IsKept (revisions : List Posted) (answers : List Answer) (volume slices runs spent : ℕ) : Type 0 where
-  pub one_revision : length revisions ≤ 1
-  pub fewer_answers : length answers ≤ length revisions
-  pub volume_bound : volume ≤ 1
-  pub budget_bound : slices ≤ 4096
-  pub some_slices : 1 ≤ slices
-  pub unrevised : length revisions ≡ 0 → runs ≡ 0
-  pub unanswered : length answers ≡ 0 → (spent ≡ runs) × (runs < slices)
-  pub within_budget : runs ≤ slices
+-- what a job keeps of its machine, of its first node, of the number of its log's first empty clause, of its steps with the
+-- revisions that they load, and of the room for answers: the machine was run alone on own events that may happen; the
+-- node is the one of the first journal; and the counts are within their bounds
+pub record IsKept (s : Solo) (n : Node) (goal : Option ℕ) (steps : List Step) (loaded room : ℕ) : Type 0 where
+  pub events : List Own
+  pub runnable : IsRunnable [] events
+  pub is : s ≡ solo events
+  pub node : n ≡ (replay 0 (place_at s 0).entries).node
+  pub empty : goal ≡ first_empty s.log
+  pub loads : loaded ≡ loads_among steps
+  pub posted : loaded ≤ length s.revisions
+  pub runs : runs_in (place_at s 0).entries ≤ s.ran
+  pub budget : s.ran ≤ length s.answers * s.ask.slices + s.spent
+  pub left : s.spent < s.ask.slices
+  pub few_slices : s.ask.slices ≤ 4096
+  pub answers : length s.answers ≤ length s.revisions
+  pub revisions : length s.revisions ≤ 256
+  pub clauses : clauses_in s.revisions ≤ 2 ^ 20
+  pub volume : s.volume ≤ 1
+  pub answer_room : length s.revisions ≤ room

@@ -1,7 +1,6 @@
 pub mod Places
 pub mod Kept
-pub mod Ready
-pub mod Logged
+pub mod Loads
 pub mod Ended
 pub mod Answered
 pub mod Viewed

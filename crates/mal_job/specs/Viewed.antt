@@ -3,23 +3,21 @@ use Rattle.mal_base.specs.Asks.{Terms}
 use Rattle.mal_base.specs.Held.{Line}
 use Rattle.mal_base.specs.declared.answer.Answer.{Answer}
 use Rattle.mal_revision.specs.Posted.{Posted}
-use Rattle.spec_job.specs.Titled.{Key, Titled}
-use Rattle.mal_job.specs.Places.{places_after}
+use Rattle.spec_job.specs.Solo.{Solo}
+use Rattle.mal_job.specs.declared.step.Step.{Step}
+use Rattle.mal_job.specs.Places.{places_of}
 
--- a job of which the first node alone was started, with so many slices run and spent
-abbrev pub viewed : Key → Terms → Bool → ℕ → List Posted → List Answer → List Line → ℕ → ℕ → Titled
-viewed k ask closed volume revisions answers log runs spent = record {
-  key = k;
-  state = record {
-    ask = ask;
-    closed = closed;
-    volume = volume;
-    revisions = revisions;
-    answers = answers;
-    places = places_after revisions runs;
-    log = log;
-    ran = runs;
-    spent = spent;
-    starved = 0;
-  };
+-- the machine of a job of which the first node alone was started, with so many slices run and spent
+abbrev pub state_of : Terms → Bool → ℕ → List Posted → List Answer → List Step → List Line → ℕ → ℕ → Solo
+state_of ask closed volume revisions answers steps log ran spent = record {
+  ask = ask;
+  closed = closed;
+  volume = volume;
+  revisions = revisions;
+  answers = answers;
+  places = places_of steps revisions ran;
+  log = log;
+  ran = ran;
+  spent = spent;
+  starved = 0;
 }

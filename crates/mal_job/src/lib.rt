@@ -1,8 +1,11 @@
 //! A job: the machine that answers its revisions.
 #![tactic(auto)]
 
+mod ending;
 mod job;
 mod lines;
+mod loading;
+mod step;
 #[cfg(test)]
 mod tests;
 mod told;

@@ -3,18 +3,18 @@
 ghost use Rattle.std.specs.Prelude.{◌≡◌, ◌≢◌, ◌+◌, ◌<◌, ◌≤◌, [], ◌∷◌, ◌++◌, length, sum_by, slice_get, Some, All};
 ghost use Rattle.mal_base.specs.Held.{Line};
 ghost use Rattle.spec_search.specs.Slice.{numbers_of};
-ghost use Rattle.spec_search.specs.Laws.{AreNumbered};
-ghost use Rattle.spec_proof.specs.Log.{IsAbove};
+ghost use Rattle.spec_proof.specs.Log.{IsAbove, AreApart};
+ghost use Rattle.spec_job.specs.Solo.{first_empty};
 
-use mal_base::Lines;
+use mal_base::{ClauseId, Lines};
 use mal_proof::Log;
 
-/// Puts lines behind those of a log, for which there is room. They have the next numbers of the first node, above all their
-/// hints. Takes no memory.
+/// Puts lines behind those of a log, for which there is room. They have numbers of their own, above all their hints. Takes no
+/// memory.
 pub fn append_lines(log: &mut Log, lines: &Lines)
     requires room { length lines.now.lines ≤ log.old.room }
     requires number_room { sum_by numbers_of lines.now.lines ≤ log.old.number_room }
-    requires numbered { AreNumbered 0 0 (log.old.lines ++ lines.now.lines) }
+    requires apart { AreApart (log.old.lines ++ lines.now.lines) }
     requires above { All IsAbove lines.now.lines }
     ensures { log.new.lines ≡ log.old.lines ++ lines.now.lines }
 {
@@ -35,4 +35,16 @@ fn append_line(log: &mut Log, lines: &Lines, n: usize)
     ensures number_room { (line : Line) → slice_get lines.now.lines n ≡ Some line → log.new.number_room + numbers_of line ≡ log.old.number_room }
 {
     log.append_reserved(lines.id(n), lines.lits(n), lines.hints(n));
+}
+
+/// The number of the first of these lines that is empty.
+pub fn empty_among(lines: &Lines) -> Option<ClauseId>
+    ensures { result ≡ first_empty lines.now.lines }
+{
+    for n in 0..lines.count() {
+        if lines.lits(n).is_empty() {
+            return Some(lines.id(n));
+        }
+    }
+    None
 }

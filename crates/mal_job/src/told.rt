@@ -1,15 +1,13 @@
 //! What the reply to a revision is made of.
 
-ghost use Rattle.std.specs.Prelude.{◌≡◌, ◌<◌, ◌≤◌, ◌^◌, length, map, IfOk};
+ghost use Rattle.std.specs.Prelude.{◌≡◌, map, IfOk};
 ghost use Rattle.std.specs.Option.{option_copied};
 ghost use Rattle.mal_base.specs.Literals.{negated};
-ghost use Rattle.spec_job.specs.Models.{clauses_of};
 ghost use Rattle.spec_job.specs.Proofs.{lits_at};
 ghost use Rattle.mal_job.specs.Answered.{answer_among};
 
 use mal_base::{Answer, ClauseId, Lit};
 use mal_proof::Log;
-use mal_revision::Revision;
 use std::alloc::{AllocError, Global};
 
 /// The answer to a revision, numbered from 1.
@@ -20,18 +18,6 @@ pub fn answer_at(answers: &[Answer], r: u32) -> Option<&Answer>
         return None;
     }
     answers.get(r as usize - 1)
-}
-
-/// The number of the clauses of these revisions, tautologies among them. There is one revision at the most.
-pub fn count_clauses(revisions: &[Revision]) -> u64
-    requires { length revisions.now ≤ 1 }
-    ensures count { result ≡ length (clauses_of revisions.now) }
-    ensures few { result < 2 ^ 32 }
-{
-    match revisions.first() {
-        None => 0,
-        Some(first) => first.clauses().len() as u64,
-    }
 }
 
 /// The literals of the line of a log with this number, none where there is no such line.

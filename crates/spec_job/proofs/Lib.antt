@@ -3,6 +3,8 @@ pub mod StepLemmas
 pub mod LoadedLemmas
 pub mod SolvingLemmas
 pub mod StayLemmas
+pub mod CountLemmas
+pub mod PushLemmas
 pub mod ReachedLemmas
 pub mod LinesLemmas
 pub mod TrackedLemmas

@@ -3,6 +3,7 @@ pub mod Solo
 pub mod Titled
 pub mod Left
 pub mod Keeps
+pub mod Counts
 pub mod Models
 pub mod Proofs
 pub mod Replies

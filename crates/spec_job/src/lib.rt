@@ -2,6 +2,7 @@
 //! and the laws about them as the contracts of functions without a body.
 #![tactic(auto)]
 
+ghost use Rattle.spec_job.specs.Counts.{ReplaysCount};
 ghost use Rattle.spec_job.specs.Examples.{HasExamples, HasRefutations};
 ghost use Rattle.spec_job.specs.Runnable.{AnswersStay, RunnableAnswersFollow, RunnableAnswersRefute, RunnableAnswersSolve, RunnableLogsDerived};
 
@@ -28,4 +29,9 @@ pub fn answers_refute()
 /// An answer that was given stays, whatever own events follow.
 pub fn answers_stay()
     ensures { AnswersStay }
+{}
+
+/// A replay brings a node's counts no further than the slices that were run.
+pub fn replays_count()
+    ensures { ReplaysCount }
 {}

@@ -1,6 +1,6 @@
 use Rattle.std.proofs.Common.{arith, sym}
 use Rattle.std.proofs.lemmas.Bool.{eqb-true, eqb-false}
-use Rattle.mal_job.proofs.ToldLemmas.{lits-here, lits-later, lits-none}
+use Rattle.mal_job.proofs.ToldLemmas.{lits-here, lits-later}
 use Rattle.mal_job.proofs.told.lits_of.Goals as goal
 
 pub returns-then-eq : goal.returns-then-eq

@@ -1,0 +1,8 @@
+//! The journal of a node.
+
+/// What a node did: it loaded the next revision, or it ran a slice.
+#[derive(Clone, Copy, Debug, PartialEq, Eq)]
+pub enum Step {
+    Loads,
+    Runs,
+}

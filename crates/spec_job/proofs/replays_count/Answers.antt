@@ -1,0 +1,5 @@
+use Rattle.spec_job.proofs.CountLemmas.{replays-count}
+use Rattle.spec_job.proofs.replays_count.Goals as goal
+
+pub returns : goal.returns
+returns c = replays-count
