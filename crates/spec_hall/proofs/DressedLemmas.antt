@@ -1,36 +1,161 @@
-use Rattle.std.proofs.Common.{◌≡◌, ◌+◌, ◌≤◌, List, [], ◌∷◌, ◌++◌, length, map, refl, ap, arith}
+use Rattle.std.proofs.Common.{◌≡◌, ℕ, zero, suc, ◌-◌, Bool, true, false, cond, ◌==◌, if◌then◌else◌, List, [], ◌∷◌, ◌++◌, length, map, slice_get, Option, Some, None, refl, sym, ◌∙◌, ap, subst, arith, append-nil}
+use Rattle.std.specs.Prelude.{All}
+use Rattle.std.specs.List.{list_any}
+use Rattle.std.specs.Option.{option_map_or}
+use Rattle.std.proofs.lemmas.List.Elements.{All-nil, All-head, All-tail, All-weaker, All-push}
+use Rattle.std.proofs.lemmas.Option.{get_or_from_slice_get}
 use Rattle.mal_revision.specs.Posted.{Posted}
-use Rattle.mal_history.specs.declared.event.Event as written
-use Rattle.mal_history.specs.declared.event.Event.TheVariants as of
+use Rattle.spec_job.specs.Solo.{Own, Opened, Revised, Closed, Volume, Started, Finished, Exchanged, Solo, solo, solo_step}
+use Rattle.spec_job.specs.Titled.{Key, Titled}
+use Rattle.spec_job.proofs.StepLemmas.{start-keeps, finish-keeps}
 use Rattle.spec_hall.specs.Events.{Event, Open, Revise, Close, Balance, Start, Finish, Exchange, bare}
-use Rattle.spec_hall.specs.Dressed.{dressed, keyed, revise_count}
+use Rattle.spec_hall.specs.Own.{own, own_step, adds, adds_volume, is_key, volume_in, volume_after}
+use Rattle.spec_hall.specs.States.{keys_of, states, titled}
+use Rattle.spec_hall.specs.Legal.{Allowed, MayRevise}
+use Rattle.spec_hall.specs.Dressed.{LegalIsDressed, dressed, revisions_of, no_revision}
+use Rattle.spec_hall.specs.Seats.{Seat, IsSeated, jobs_in}
+use Rattle.spec_hall.proofs.KeyLemmas.{is_key-same}
+use Rattle.spec_hall.proofs.PushLemmas.{own-push, solo-push, keys-push}
+use Rattle.spec_hall.proofs.VolumeLemmas.{revise-keeps}
+use Rattle.spec_hall.proofs.StatesLemmas.{IsFound, keys-stay, job_of-found, job_of-states, legal_from-keeps}
 
--- where each Revise has its posted revision, what is written down is the history without them
-pub dressed-bare : (es : List written.Event) (rs : List Posted) → revise_count es ≤ length rs → map bare (dressed es rs) ≡ es
-dressed-bare [] rs h = refl
-dressed-bare (of.Open t j ask ∷ es) rs h = ap (λ (xs : List written.Event). of.Open t j ask ∷ xs) (dressed-bare es rs (omega arith))
-dressed-bare (of.Revise t j n ∷ es) [] h = absurd (omega arith)
-dressed-bare (of.Revise t j n ∷ es) (r ∷ rs) h = ap (λ (xs : List written.Event). of.Revise t j n ∷ xs) (dressed-bare es rs (omega arith))
-dressed-bare (of.Close t j ∷ es) rs h = ap (λ (xs : List written.Event). of.Close t j ∷ xs) (dressed-bare es rs (omega arith))
-dressed-bare (of.Balance v ∷ es) rs h = ap (λ (xs : List written.Event). of.Balance v ∷ xs) (dressed-bare es rs (omega arith))
-dressed-bare (of.Start t j i w ∷ es) rs h = ap (λ (xs : List written.Event). of.Start t j i w ∷ xs) (dressed-bare es rs (omega arith))
-dressed-bare (of.Finish t j i w o ∷ es) rs h = ap (λ (xs : List written.Event). of.Finish t j i w o ∷ xs) (dressed-bare es rs (omega arith))
-dressed-bare (of.Exchange t j ∷ es) rs h = ap (λ (xs : List written.Event). of.Exchange t j ∷ xs) (dressed-bare es rs (omega arith))
+-- a list of revisions with more behind them
+record Grows (xs ys : List Posted) : Type 0 where
+  more : List Posted
+  is : ys ≡ xs ++ more
 
--- events behind a history whose revisions are all its own
-pub dressed-append : (es fs : List written.Event) (rs ss : List Posted) → revise_count es ≡ length rs → dressed (es ++ fs) (rs ++ ss) ≡ dressed es rs ++ dressed fs ss
-dressed-append [] fs [] ss h = refl
-dressed-append [] fs (r ∷ rs) ss h = absurd (omega arith)
-dressed-append (of.Open t j ask ∷ es) fs rs ss h = ap (λ (xs : List Event). Open (keyed t j) ask ∷ xs) (dressed-append es fs rs ss (omega arith))
-dressed-append (of.Revise t j n ∷ es) fs [] ss h = absurd (omega arith)
-dressed-append (of.Revise t j n ∷ es) fs (r ∷ rs) ss h = ap (λ (xs : List Event). Revise (keyed t j) n r ∷ xs) (dressed-append es fs rs ss (omega arith))
-dressed-append (of.Close t j ∷ es) fs rs ss h = ap (λ (xs : List Event). Close (keyed t j) ∷ xs) (dressed-append es fs rs ss (omega arith))
-dressed-append (of.Balance v ∷ es) fs rs ss h = ap (λ (xs : List Event). Balance v ∷ xs) (dressed-append es fs rs ss (omega arith))
-dressed-append (of.Start t j i w ∷ es) fs rs ss h = ap (λ (xs : List Event). Start (keyed t j) i w ∷ xs) (dressed-append es fs rs ss (omega arith))
-dressed-append (of.Finish t j i w o ∷ es) fs rs ss h = ap (λ (xs : List Event). Finish (keyed t j) i w o ∷ xs) (dressed-append es fs rs ss (omega arith))
-dressed-append (of.Exchange t j ∷ es) fs rs ss h = ap (λ (xs : List Event). Exchange (keyed t j) ∷ xs) (dressed-append es fs rs ss (omega arith))
+grows-same : (xs ys : List Posted) → ys ≡ xs → Grows xs ys
+grows-same xs ys e = record { more = []; is = e ∙ sym (append-nil xs) }
 
--- the count of Revises of two histories, one behind the other
-pub revise_count-append : (es fs : List written.Event) → revise_count (es ++ fs) ≡ revise_count es + revise_count fs
-revise_count-append [] fs = omega arith
-revise_count-append (e ∷ es) fs = omega (arith, revise_count-append es fs)
+-- an own event leaves the revisions or adds one
+step-grows : (s : Solo) (o : Own) → Grows s.revisions (solo_step s o).revisions
+step-grows s (Opened ask) = grows-same s.revisions s.revisions refl
+step-grows s (Revised r) = record { more = r ∷ []; is = (revise-keeps s r).revisions }
+step-grows s Closed = grows-same s.revisions s.revisions refl
+step-grows s (Volume v) = grows-same s.revisions s.revisions refl
+step-grows s (Started i) = grows-same s.revisions (solo_step s (Started i)).revisions (start-keeps s i).revisions
+step-grows s (Finished i o) = grows-same s.revisions (solo_step s (Finished i o)).revisions (finish-keeps s i o).revisions
+step-grows s Exchanged = grows-same s.revisions s.revisions refl
+
+push-grows : (es : List Own) (o : Own) → Grows (solo es).revisions (solo (es ++ o ∷ [])).revisions
+push-grows es o = subst (λ (s : Solo). Grows (solo es).revisions s.revisions) (sym (solo-push es o)) (step-grows (solo es) o)
+
+adds-grows : (mine : Bool) (es : List Own) (o : Own) → Grows (solo es).revisions (solo (adds mine es o)).revisions
+adds-grows true es o = push-grows es o
+adds-grows false es o = grows-same (solo es).revisions (solo es).revisions refl
+
+adds_volume-grows : (v : ℕ) (es : List Own) → Grows (solo es).revisions (solo (adds_volume v es)).revisions
+adds_volume-grows v es = by_test (v == volume_after es)
+  where
+    by_test : (b : Bool) → Grows (solo es).revisions (solo (cond b es (es ++ Volume v ∷ []))).revisions
+    by_test true = grows-same (solo es).revisions (solo es).revisions refl
+    by_test false = push-grows es (Volume v)
+
+event-grows : (j : Key) (es : List Own) (e : Event) → Grows (solo es).revisions (solo (own_step j es e)).revisions
+event-grows j es (Open k ask) = adds-grows (is_key j k) es (Opened ask)
+event-grows j es (Revise k number r) = adds-grows (is_key j k) es (Revised r)
+event-grows j es (Close k) = adds-grows (is_key j k) es Closed
+event-grows j es (Balance shares) = adds_volume-grows (volume_in j shares) es
+event-grows j es (Start k index worker) = adds-grows (is_key j k) es (Started index)
+event-grows j es (Finish k index worker outcome) = adds-grows (is_key j k) es (Finished index outcome)
+event-grows j es (Exchange k) = adds-grows (is_key j k) es Exchanged
+
+-- the revisions under a key are those of its machine, where it was opened
+revisions-states : (past : List Event) (k : Key) → revisions_of k (states past) ≡ (if list_any (is_key k) (keys_of past) then (solo (own k past)).revisions else [])
+revisions-states past k = ap (λ (o : Option Titled). option_map_or (λ (t : Titled). t.state.revisions) o []) (job_of-states past k) ∙ by_test (list_any (is_key k) (keys_of past))
+  where
+    by_test : (b : Bool) → option_map_or (λ (t : Titled). t.state.revisions) (cond b (Some (titled past k)) None) [] ≡ cond b (solo (own k past)).revisions []
+    by_test true = refl
+    by_test false = refl
+
+grows-opened : (b c : Bool) (xs ys : List Posted) → (b ≡ true → c ≡ true) → Grows xs ys → Grows (cond b xs []) (cond c ys [])
+grows-opened false c xs ys stay g = record { more = cond c ys []; is = refl }
+grows-opened true true xs ys stay g = g
+grows-opened true false xs ys stay g = let q : false ≡ true = stay refl in absurd (cc)
+
+revisions-grow : (past : List Event) (e : Event) (k : Key) → Grows (revisions_of k (states past)) (revisions_of k (states (past ++ e ∷ [])))
+revisions-grow past e k =
+    let stay : list_any (is_key k) (keys_of past) ≡ true → list_any (is_key k) (keys_of (past ++ e ∷ [])) ≡ true = λ h. ap (list_any (is_key k)) (keys-push past e) ∙ keys-stay k (keys_of past) e h in
+    let machine : Grows (solo (own k past)).revisions (solo (own k (past ++ e ∷ []))).revisions = subst (λ (os : List Own). Grows (solo (own k past)).revisions (solo os).revisions) (sym (own-push k past e)) (event-grows k (own k past) e) in
+    let both = grows-opened (list_any (is_key k) (keys_of past)) (list_any (is_key k) (keys_of (past ++ e ∷ []))) (solo (own k past)).revisions (solo (own k (past ++ e ∷ []))).revisions stay machine in
+    record { more = both.more; is = revisions-states (past ++ e ∷ []) k ∙ (both.is ∙ ap (λ (xs : List Posted). xs ++ both.more) (sym (revisions-states past k))) }
+
+-- a revision that was posted stands among its job's revisions
+abbrev IsHeld : List Event → Event → Type 0
+IsHeld past (Open k ask) = Unit {0}
+IsHeld past (Revise k number r) = slice_get (revisions_of k (states past)) (number - 1) ≡ Some r
+IsHeld past (Close k) = Unit {0}
+IsHeld past (Balance shares) = Unit {0}
+IsHeld past (Start k index worker) = Unit {0}
+IsHeld past (Finish k index worker outcome) = Unit {0}
+IsHeld past (Exchange k) = Unit {0}
+
+slice_get-more : (xs ys : List Posted) (n : ℕ) (x : Posted) → slice_get xs n ≡ Some x → slice_get (xs ++ ys) n ≡ Some x
+slice_get-more [] ys n x e = absurd (cc)
+slice_get-more (y ∷ xs) ys zero x e = e
+slice_get-more (y ∷ xs) ys (suc n) x e = slice_get-more xs ys n x e
+
+slice_get-end : (xs : List Posted) (x : Posted) → slice_get (xs ++ x ∷ []) (length xs) ≡ Some x
+slice_get-end [] x = refl
+slice_get-end (y ∷ xs) x = slice_get-end xs x
+
+-- it stays there
+held-stays : (past : List Event) (e x : Event) → IsHeld past x → IsHeld (past ++ e ∷ []) x
+held-stays past e (Open k ask) h = tt
+held-stays past e (Revise k number r) h =
+    let g = revisions-grow past e k in
+    ap (λ (xs : List Posted). slice_get xs (number - 1)) g.is ∙ slice_get-more (revisions_of k (states past)) g.more (number - 1) r h
+held-stays past e (Close k) h = tt
+held-stays past e (Balance shares) h = tt
+held-stays past e (Start k index worker) h = tt
+held-stays past e (Finish k index worker outcome) h = tt
+held-stays past e (Exchange k) h = tt
+
+-- a revision that comes is held
+revise-held : (past : List Event) (k : Key) (number : ℕ) (r : Posted) (t : Titled) → MayRevise past k number r t → IsHeld (past ++ Revise k number r ∷ []) (Revise k number r)
+revise-held past k number r t may =
+    let found : IsFound past k t = job_of-found past k t may.job in
+    let s : Solo = solo (own k past) in
+    let same : length t.state.revisions ≡ length s.revisions = ap (λ (x : Titled). length x.state.revisions) (sym found.machine) in
+    let place : number - 1 ≡ length s.revisions = omega (arith, may.next, same) in
+    let mine : own k (past ++ Revise k number r ∷ []) ≡ own k past ++ Revised r ∷ [] = own-push k past (Revise k number r) ∙ ap (λ (b : Bool). adds b (own k past) (Revised r)) (is_key-same k) in
+    let machine : (solo (own k (past ++ Revise k number r ∷ []))).revisions ≡ s.revisions ++ r ∷ [] = ap (λ (es : List Own). (solo es).revisions) mine ∙ (ap (λ (x : Solo). x.revisions) (solo-push (own k past) (Revised r)) ∙ (revise-keeps s r).revisions) in
+    let opened : list_any (is_key k) (keys_of (past ++ Revise k number r ∷ [])) ≡ true = ap (list_any (is_key k)) (keys-push past (Revise k number r)) ∙ found.opened in
+    let all : revisions_of k (states (past ++ Revise k number r ∷ [])) ≡ s.revisions ++ r ∷ [] = revisions-states (past ++ Revise k number r ∷ []) k ∙ (ap (λ (b : Bool). cond b (solo (own k (past ++ Revise k number r ∷ []))).revisions []) opened ∙ machine) in
+    ap (λ (xs : List Posted). slice_get xs (number - 1)) all ∙ (ap (slice_get (s.revisions ++ r ∷ [])) place ∙ slice_get-end s.revisions r)
+
+allowed-held : (w : ℕ) (past : List Event) (e : Event) → Allowed w past e → IsHeld (past ++ e ∷ []) e
+allowed-held w past (Open k ask) may = tt
+allowed-held w past (Revise k number r) may = revise-held past k number r may.0 may.1
+allowed-held w past (Close k) may = tt
+allowed-held w past (Balance shares) may = tt
+allowed-held w past (Start k index worker) may = tt
+allowed-held w past (Finish k index worker outcome) may = tt
+allowed-held w past (Exchange k) may = tt
+
+held-push : (w : ℕ) (past : List Event) (e : Event) → Allowed w past e → All (IsHeld past) past → All (IsHeld (past ++ e ∷ [])) (past ++ e ∷ [])
+held-push w past e may h = All-push (IsHeld (past ++ e ∷ [])) past e (All-weaker (IsHeld past) (IsHeld (past ++ e ∷ [])) (held-stays past e) past h) (allowed-held w past e may)
+
+-- an event that is held is read off what is written down
+event-dressed : (past : List Event) (e : Event) → IsHeld past e → dressed (states past) (bare e) ≡ e
+event-dressed past (Open k ask) h = refl
+event-dressed past (Revise k number r) h = ap (Revise k number) (get_or_from_slice_get (revisions_of k (states past)) (number - 1) r no_revision h)
+event-dressed past (Close k) h = refl
+event-dressed past (Balance shares) h = refl
+event-dressed past (Start k index worker) h = refl
+event-dressed past (Finish k index worker outcome) h = refl
+event-dressed past (Exchange k) h = refl
+
+events-dressed : (past es : List Event) → All (IsHeld past) es → map (dressed (states past)) (map bare es) ≡ es
+events-dressed past [] h = refl
+events-dressed past (e ∷ es) h =
+    ap (λ (x : Event). x ∷ map (dressed (states past)) (map bare es)) (event-dressed past e (All-head (IsHeld past) e es h))
+    ∙ ap (λ (xs : List Event). e ∷ xs) (events-dressed past es (All-tail (IsHeld past) e es h))
+
+-- a legal history is what is written down with the jobs' revisions
+pub legal-is_dressed : LegalIsDressed
+legal-is_dressed w h legal = events-dressed h h (legal_from-keeps w (λ (past : List Event). All (IsHeld past) past) (held-push w) [] h legal (All-nil (IsHeld [])))
+
+-- so is that of a hall whose jobs are in their seats
+pub seated-dressed : (h : List Event) (ss : List Seat) → IsSeated h ss → map (dressed (jobs_in ss)) (map bare h) ≡ h
+seated-dressed h ss seated = ap (λ (jobs : List Titled). map (dressed jobs) (map bare h)) (sym seated.jobs) ∙ legal-is_dressed 1 h seated.legal

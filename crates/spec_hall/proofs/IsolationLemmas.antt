@@ -4,10 +4,11 @@ use Rattle.std.proofs.lemmas.Bool.Decides.{Decides-eqb}
 use Rattle.spec_job.specs.Solo.{Own, Opened, Revised, Closed, Volume, Started, Finished, Exchanged, solo}
 use Rattle.spec_job.specs.Titled.{Key}
 use Rattle.spec_job.specs.Models.{KeepsAnswers}
+use Rattle.spec_job.specs.Replies.{reply}
 use Rattle.spec_job.proofs.StayLemmas.{push-stays, stays-on, stays-self}
 use Rattle.spec_hall.specs.Events.{Event, Open, Revise, Close, Balance, Start, Finish, Exchange}
 use Rattle.spec_hall.specs.Own.{own, own_step, adds, adds_volume, is_key, volume_in, volume_after}
-use Rattle.spec_hall.specs.Laws.{JobAnswersStay, OthersLeaveOwn, OwnEventsAnswer, SameVolumeLeavesOwn, job_in}
+use Rattle.spec_hall.specs.Laws.{JobAnswersStay, OthersLeaveOwn, OwnEventsAnswer, OwnEventsReply, SameVolumeLeavesOwn, job_in}
 use Rattle.spec_hall.proofs.KeyLemmas.{is_key-Decides}
 use Rattle.spec_hall.proofs.PushLemmas.{own-push}
 
@@ -43,6 +44,9 @@ job_answers-stay j past (e ∷ es) =
 -- two histories with the same own events of a job
 pub own_events-answer : OwnEventsAnswer
 own_events-answer k one other same = ap (λ (es : List Own). (solo es).answers) same
+
+pub own_events-reply : OwnEventsReply
+own_events-reply k one other same r = ap (λ (es : List Own). reply k r (solo es)) same
 
 adds-other : (j k : Key) (es : List Own) (o : Own) → j ≢ k → adds (is_key j k) es o ≡ es
 adds-other j k es o other = rw (false_from_ne_true (is_key j k) (λ q. other ((is_key-Decides j k).0 q))) refl

@@ -1,41 +1,35 @@
-use Rattle.std.specs.Prelude.{ℕ, ◌+◌, Bool, true, false, List, [], ◌∷◌, drop, if◌then◌else◌}
+use Rattle.std.specs.Prelude.{◌≡◌, ℕ, ◌-◌, List, [], map, get_or}
+use Rattle.std.specs.Option.{option_map_or}
 use Rattle.mal_revision.specs.Posted.{Posted}
 use Rattle.mal_history.specs.declared.event.Event as written
 use Rattle.mal_history.specs.declared.event.Event.TheVariants as of
-use Rattle.spec_job.specs.Titled.{Key}
-use Rattle.spec_hall.specs.Events.{Event, Open, Revise, Close, Balance, Start, Finish, Exchange}
+use Rattle.spec_job.specs.Titled.{Key, Titled}
+use Rattle.spec_hall.specs.Events.{Event, Open, Revise, Close, Balance, Start, Finish, Exchange, bare}
+use Rattle.spec_hall.specs.States.{states}
+use Rattle.spec_hall.specs.Legal.{Legal, job_of}
 
 -- a key from the two names
 abbrev pub keyed : List ℕ → List ℕ → Key
 keyed tenant job = record { tenant = tenant; job = job }
 
--- the next posted revision is what a Revise stands for
-abbrev pub with_posted : Key → ℕ → List Posted → List Event → List Event
-with_posted k number [] rest = rest
-with_posted k number (r ∷ rs) rest = Revise k number r ∷ rest
+-- a revision that says nothing
+abbrev pub no_revision : Posted
+no_revision = record { variables = 0; clauses = []; assumptions = [] }
 
--- the events of a history as it is written down, each Revise with the revision that was posted at its turn
-abbrev pub dressed : List written.Event → List Posted → List Event
-dressed [] posted = []
-dressed (of.Open tenant job ask ∷ es) posted = Open (keyed tenant job) ask ∷ dressed es posted
-dressed (of.Revise tenant job number ∷ es) posted = with_posted (keyed tenant job) number posted (dressed es (drop 1 posted))
-dressed (of.Close tenant job ∷ es) posted = Close (keyed tenant job) ∷ dressed es posted
-dressed (of.Balance volumes ∷ es) posted = Balance volumes ∷ dressed es posted
-dressed (of.Start tenant job index worker ∷ es) posted = Start (keyed tenant job) index worker ∷ dressed es posted
-dressed (of.Finish tenant job index worker outcome ∷ es) posted = Finish (keyed tenant job) index worker outcome ∷ dressed es posted
-dressed (of.Exchange tenant job ∷ es) posted = Exchange (keyed tenant job) ∷ dressed es posted
+-- the revisions of the job of a key, none where there is no such job
+abbrev pub revisions_of : Key → List Titled → List Posted
+revisions_of k jobs = option_map_or (λ t. t.state.revisions) (job_of k jobs) []
 
--- whether an event posts a revision
-abbrev pub is_revise : written.Event → Bool
-is_revise (of.Open tenant job ask) = false
-is_revise (of.Revise tenant job number) = true
-is_revise (of.Close tenant job) = false
-is_revise (of.Balance volumes) = false
-is_revise (of.Start tenant job index worker) = false
-is_revise (of.Finish tenant job index worker outcome) = false
-is_revise (of.Exchange tenant job) = false
+-- an event as it is written down, a Revise with the job's revision of that number
+abbrev pub dressed : List Titled → written.Event → Event
+dressed jobs (of.Open tenant job ask) = Open (keyed tenant job) ask
+dressed jobs (of.Revise tenant job number) = Revise (keyed tenant job) number (get_or (revisions_of (keyed tenant job) jobs) (number - 1) no_revision)
+dressed jobs (of.Close tenant job) = Close (keyed tenant job)
+dressed jobs (of.Balance volumes) = Balance volumes
+dressed jobs (of.Start tenant job index worker) = Start (keyed tenant job) index worker
+dressed jobs (of.Finish tenant job index worker outcome) = Finish (keyed tenant job) index worker outcome
+dressed jobs (of.Exchange tenant job) = Exchange (keyed tenant job)
 
--- how many revisions the events post
-abbrev pub revise_count : List written.Event → ℕ
-revise_count [] = 0
-revise_count (e ∷ es) = (if is_revise e then 1 else 0) + revise_count es
+-- the events of a legal history are read off what is written down and off the jobs
+abbrev pub LegalIsDressed : Type 0
+LegalIsDressed = (workers : ℕ) (history : List Event) → Legal workers history → map (dressed (states history)) (map bare history) ≡ history

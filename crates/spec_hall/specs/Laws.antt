@@ -4,6 +4,7 @@ use Rattle.spec_job.specs.Solo.{solo}
 use Rattle.spec_job.specs.Titled.{Key}
 use Rattle.spec_job.specs.Models.{AnswersFollow, AnswersSolve, KeepsAnswers}
 use Rattle.spec_job.specs.Proofs.{AnswersRefute, LogIsDerived}
+use Rattle.spec_job.specs.Replies.{reply}
 use Rattle.spec_job.specs.Runnable.{IsRunnable}
 use Rattle.spec_hall.specs.Events.{Event, Open, Revise, Close, Balance, Start, Finish, Exchange}
 use Rattle.spec_hall.specs.Own.{own, volume_in, volume_after}
@@ -46,6 +47,10 @@ job_in (Exchange k) = Some k
 -- two histories in which a job has the same own events give it the same answers
 abbrev pub OwnEventsAnswer : Type 0
 OwnEventsAnswer = (k : Key) (one other : List Event) → own k one ≡ own k other → (solo (own k one)).answers ≡ (solo (own k other)).answers
+
+-- and the same replies
+abbrev pub OwnEventsReply : Type 0
+OwnEventsReply = (k : Key) (one other : List Event) → own k one ≡ own k other → (r : ℕ) → reply k r (solo (own k one)) ≡ reply k r (solo (own k other))
 
 -- an event of another job leaves a job's own events as they are
 abbrev pub OthersLeaveOwn : Type 0

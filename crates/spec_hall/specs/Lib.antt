@@ -3,5 +3,6 @@ pub mod Own
 pub mod States
 pub mod Dressed
 pub mod Legal
-pub mod Alone
+pub mod Seats
+pub mod Driven
 pub mod Laws

@@ -2,11 +2,14 @@
 //! functions without a body.
 #![tactic(auto)]
 
-ghost use Rattle.spec_hall.specs.Laws.{JobAnswersStay, LegalAnswersFollow, LegalAnswersRefute, LegalAnswersSolve, LegalIsRunnable, LegalLogsDerived, OwnEventsAnswer, OthersLeaveOwn, SameVolumeLeavesOwn};
+ghost use Rattle.spec_hall.specs.Laws.{JobAnswersStay, LegalAnswersFollow, LegalAnswersRefute, LegalAnswersSolve, LegalIsRunnable, LegalLogsDerived, OwnEventsAnswer, OwnEventsReply, OthersLeaveOwn, SameVolumeLeavesOwn};
+ghost use Rattle.spec_hall.specs.Dressed.{LegalIsDressed};
+ghost use Rattle.spec_hall.specs.Driven.{DrivenIsDecided};
 
-/// A job's answers come from its own events alone, and events of other jobs are none of these.
+/// A job's answers and replies come from its own events alone, and events of other jobs are none of these.
 pub fn jobs_are_isolated()
     ensures answers { OwnEventsAnswer }
+    ensures replies { OwnEventsReply }
     ensures others { OthersLeaveOwn }
     ensures volumes { SameVolumeLeavesOwn }
 {}
@@ -29,4 +32,14 @@ pub fn legal_answers_refute()
 /// An answer that was given stays, whatever events follow.
 pub fn job_answers_stay()
     ensures { JobAnswersStay }
+{}
+
+/// The events of a legal history are read off what is written down and off the jobs' revisions.
+pub fn legal_is_dressed()
+    ensures { LegalIsDressed }
+{}
+
+/// What comes of a past by balancings and slices until nothing is left to do is decided by the past.
+pub fn driven_is_decided()
+    ensures { DrivenIsDecided }
 {}

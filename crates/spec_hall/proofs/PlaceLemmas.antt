@@ -1,0 +1,90 @@
+use Rattle.std.proofs.Common.{◌≡◌, ℕ, suc, ◌<◌, Bool, true, false, cond, List, [], ◌∷◌, length, slice_get, Option, Some, None, refl, sym, ◌∙◌, ap, subst, arith}
+use Rattle.std.specs.Option.{option_map}
+use Rattle.spec_job.specs.Titled.{Key}
+use Rattle.spec_hall.specs.Events.{Event}
+use Rattle.spec_hall.specs.Own.{is_key}
+use Rattle.spec_hall.specs.States.{states}
+use Rattle.spec_hall.specs.Legal.{job_of}
+use Rattle.spec_hall.specs.Seats.{Seat, IsSeated, jobs_in, is_live_seat, first_live, place_of}
+use Rattle.spec_hall.proofs.KeyLemmas.{is_key-Decides}
+
+-- the seat of a key has the job of that key
+placed : (k : Key) (ss : List Seat) (n : ℕ) (s : Seat) → place_of k ss ≡ Some n → slice_get ss n ≡ Some s → (s.titled.key ≡ k) × (job_of k (jobs_in ss) ≡ Some s.titled)
+placed k [] n s place at = absurd (cc)
+placed k (x ∷ xs) n s place at = by_test (is_key k x.titled.key) refl place (placed k xs)
+  where
+    by_rest : (o : Option ℕ) → place_of k xs ≡ o → option_map suc o ≡ Some n → ((m : ℕ) (t : Seat) → place_of k xs ≡ Some m → slice_get xs m ≡ Some t → (t.titled.key ≡ k) × (job_of k (jobs_in xs) ≡ Some t.titled)) → (s.titled.key ≡ k) × (job_of k (jobs_in xs) ≡ Some s.titled)
+    by_rest None e q rest = absurd (cc)
+    by_rest (Some m) e q rest = let same : n ≡ suc m = cc in rest m s e (subst (λ (i : ℕ). slice_get (x ∷ xs) i ≡ Some s) same at)
+
+    by_test : (b : Bool) → is_key k x.titled.key ≡ b → cond b (Some 0) (option_map suc (place_of k xs)) ≡ Some n → ((m : ℕ) (t : Seat) → place_of k xs ≡ Some m → slice_get xs m ≡ Some t → (t.titled.key ≡ k) × (job_of k (jobs_in xs) ≡ Some t.titled)) → (s.titled.key ≡ k) × (cond b (Some x.titled) (job_of k (jobs_in xs)) ≡ Some s.titled)
+    by_test true e q rest =
+        let none : n ≡ 0 = cc in
+        let here : slice_get (x ∷ xs) 0 ≡ Some s = subst (λ (i : ℕ). slice_get (x ∷ xs) i ≡ Some s) none at in
+        let same : x ≡ s = cc in
+        (subst (λ (y : Seat). y.titled.key ≡ k) same (sym ((is_key-Decides k x.titled.key).0 e)), ap (λ (y : Seat). Some y.titled) same)
+    by_test false e q rest = by_rest (place_of k xs) refl q rest
+
+pub seated-found : (h : List Event) (ss : List Seat) (k : Key) (n : ℕ) (s : Seat) → IsSeated h ss → place_of k ss ≡ Some n → slice_get ss n ≡ Some s → (s.titled.key ≡ k) × (job_of k (states h) ≡ Some s.titled)
+seated-found h ss k n s seated place at =
+    let both = placed k ss n s place at in
+    (both.0, ap (job_of k) seated.jobs ∙ both.1)
+
+-- a key without a seat has no job
+unplaced : (k : Key) (ss : List Seat) → place_of k ss ≡ None → job_of k (jobs_in ss) ≡ None
+unplaced k [] none = refl
+unplaced k (x ∷ xs) none = by_test (is_key k x.titled.key) none (unplaced k xs)
+  where
+    by_rest : (o : Option ℕ) → option_map suc o ≡ None → o ≡ None
+    by_rest None e = refl
+    by_rest (Some m) e = absurd (cc)
+
+    by_test : (b : Bool) → cond b (Some 0) (option_map suc (place_of k xs)) ≡ None → (place_of k xs ≡ None → job_of k (jobs_in xs) ≡ None) → cond b (Some x.titled) (job_of k (jobs_in xs)) ≡ None
+    by_test true q rest = absurd (cc)
+    by_test false q rest = rest (by_rest (place_of k xs) q)
+
+pub seated-absent : (h : List Event) (ss : List Seat) (k : Key) → IsSeated h ss → place_of k ss ≡ None → job_of k (states h) ≡ None
+seated-absent h ss k seated none = ap (job_of k) seated.jobs ∙ unplaced k ss none
+
+-- the place of a key is one of the seats
+pub placed-within : (k : Key) (ss : List Seat) (n : ℕ) → place_of k ss ≡ Some n → n < length ss
+placed-within k [] n place = absurd (cc)
+placed-within k (x ∷ xs) n place = by_test (is_key k x.titled.key) place (placed-within k xs)
+  where
+    by_rest : (o : Option ℕ) → place_of k xs ≡ o → option_map suc o ≡ Some n → ((m : ℕ) → place_of k xs ≡ Some m → m < length xs) → n < length (x ∷ xs)
+    by_rest None e q rest = absurd (cc)
+    by_rest (Some m) e q rest = let same : n ≡ suc m = cc in omega (arith, same, rest m e)
+
+    by_test : (b : Bool) → cond b (Some 0) (option_map suc (place_of k xs)) ≡ Some n → ((m : ℕ) → place_of k xs ≡ Some m → m < length xs) → n < length (x ∷ xs)
+    by_test true q rest = let none : n ≡ 0 = cc in omega (arith, none)
+    by_test false q rest = by_rest (place_of k xs) refl q rest
+
+-- so is that of the first live job
+pub first-within : (ss : List Seat) (n : ℕ) → first_live ss ≡ Some n → n < length ss
+first-within [] n first = absurd (cc)
+first-within (x ∷ xs) n first = by_test (is_live_seat x) first (first-within xs)
+  where
+    by_rest : (o : Option ℕ) → first_live xs ≡ o → option_map suc o ≡ Some n → ((m : ℕ) → first_live xs ≡ Some m → m < length xs) → n < length (x ∷ xs)
+    by_rest None e q rest = absurd (cc)
+    by_rest (Some m) e q rest = let same : n ≡ suc m = cc in omega (arith, same, rest m e)
+
+    by_test : (b : Bool) → cond b (Some 0) (option_map suc (first_live xs)) ≡ Some n → ((m : ℕ) → first_live xs ≡ Some m → m < length xs) → n < length (x ∷ xs)
+    by_test true q rest = let none : n ≡ 0 = cc in omega (arith, none)
+    by_test false q rest = by_rest (first_live xs) refl q rest
+
+-- and its job is live
+pub first-live : (ss : List Seat) (n : ℕ) (s : Seat) → first_live ss ≡ Some n → slice_get ss n ≡ Some s → is_live_seat s ≡ true
+first-live [] n s first at = absurd (cc)
+first-live (x ∷ xs) n s first at = by_test (is_live_seat x) refl first (first-live xs)
+  where
+    by_rest : (o : Option ℕ) → first_live xs ≡ o → option_map suc o ≡ Some n → ((m : ℕ) (t : Seat) → first_live xs ≡ Some m → slice_get xs m ≡ Some t → is_live_seat t ≡ true) → is_live_seat s ≡ true
+    by_rest None e q rest = absurd (cc)
+    by_rest (Some m) e q rest = let same : n ≡ suc m = cc in rest m s e (subst (λ (i : ℕ). slice_get (x ∷ xs) i ≡ Some s) same at)
+
+    by_test : (b : Bool) → is_live_seat x ≡ b → cond b (Some 0) (option_map suc (first_live xs)) ≡ Some n → ((m : ℕ) (t : Seat) → first_live xs ≡ Some m → slice_get xs m ≡ Some t → is_live_seat t ≡ true) → is_live_seat s ≡ true
+    by_test true e q rest =
+        let none : n ≡ 0 = cc in
+        let here : slice_get (x ∷ xs) 0 ≡ Some s = subst (λ (i : ℕ). slice_get (x ∷ xs) i ≡ Some s) none at in
+        let same : x ≡ s = cc in
+        subst (λ (y : Seat). is_live_seat y ≡ true) same e
+    by_test false e q rest = by_rest (first_live xs) refl q rest
