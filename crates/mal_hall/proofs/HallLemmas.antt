@@ -1,275 +1,228 @@
-use Rattle.spec_hall.specs.States.{leases}
-use Rattle.std.proofs.Common.{subst}
-use Rattle.spec_hall.specs.States.{titled, keys_of}
-use Rattle.spec_hall.specs.Legal.{Legal}
-use Rattle.spec_job.specs.Models.{AnswersSolve}
-use Rattle.spec_job.specs.Proofs.{AnswersRefute}
-use Rattle.spec_hall.proofs.RunnableLemmas.{find-titled, legal-answers_solve, legal-answers_refute}
-use Rattle.mal_hall.specs.Seen.{Seen}
-use Rattle.std.proofs.Common.{map}
-use Rattle.spec_hall.specs.Events.{bare}
-use Rattle.spec_hall.proofs.DressedLemmas.{dressed-bare}
-use Rattle.mal_hall.specs.Seen.{IsHall}
-use Rattle.std.proofs.Math.Bool.{beq}
-use Rattle.std.proofs.Common.{◌≢◌, ◌*◌, ◌<◌, ◌==◌, if◌then◌else◌, sum_by, append_assoc}
-use Rattle.mal_base.specs.declared.verdict.Outcome.TheVariants.{Ran}
-use Rattle.spec_job.specs.Left.{left_of}
-use Rattle.spec_job.specs.Solo.{Volume, Started, Finished, is_live, startable}
-use Rattle.spec_job.proofs.StepLemmas.{finish-keeps}
-use Rattle.spec_hall.specs.Events.{Balance, Start, Finish}
-use Rattle.spec_hall.specs.States.{lives}
-use Rattle.spec_hall.specs.Alone.{listing, listed_volume, shares_of}
-use Rattle.spec_hall.proofs.CalmLemmas.{calm-balance, calm-slice, lives-one}
-use Rattle.mal_hall.specs.Work.{left_in}
-use Rattle.std.proofs.Common.{◌≡◌, ℕ, ◌+◌, ◌≤◌, Bool, true, false, ◌&&◌, nat_le, List, [], ◌∷◌, ◌++◌, length, Option, Some, None, refl, sym, ◌∙◌, ap, arith, append-nil, length-append}
-use Rattle.std.proofs.lemmas.Bool.{leb-true}
+use Rattle.std.proofs.Common.{◌≡◌, ℕ, ◌+◌, ◌-◌, ◌<◌, ◌≤◌, true, false, List, [], ◌∷◌, ◌++◌, map, length, get_or, slice_get, slice_set, suc, Bool, cond, Option, Some, None, option_map, is_some, refl, sym, ◌∙◌, ap, subst, arith, append_assoc}
+use Rattle.std.specs.Option.{option_map_or}
+use Rattle.std.specs.Prelude.{All}
+use Rattle.std.proofs.lemmas.List.{map-append}
+use Rattle.std.proofs.lemmas.Option.{slice_get_read}
 use Rattle.mal_base.specs.Asks.{Terms, IsAsk}
 use Rattle.mal_base.specs.Names.{is_name}
+use Rattle.mal_base.specs.declared.verdict.Outcome.TheVariants.{Ran}
 use Rattle.mal_history.specs.declared.event.Event as written
 use Rattle.mal_history.specs.declared.event.Event.TheVariants as of
 use Rattle.mal_history.specs.Written.{Written}
-use Rattle.mal_base.specs.Formulas.{literals_of}
 use Rattle.mal_revision.specs.Posted.{Posted, is_posted}
-use Rattle.spec_job.specs.Solo.{Opened, Revised, Closed, unopened, solo_step, Solo, clauses_in}
+use Rattle.spec_job.specs.Models.{AnswersSolve}
+use Rattle.spec_job.specs.Proofs.{AnswersRefute}
+use Rattle.spec_job.specs.Solo.{Solo, Revised, Closed, Started, Finished, startable, solo, solo_step}
 use Rattle.spec_job.specs.Titled.{Key, Titled, stepped}
-use Rattle.spec_hall.specs.Events.{Event, Revise, Close}
-use Rattle.spec_hall.specs.Own.{is_key}
-use Rattle.spec_hall.specs.States.{states}
-use Rattle.spec_hall.specs.Legal.{job_of, literals_in, MayRevise}
-use Rattle.spec_hall.specs.Dressed.{keyed, dressed, revise_count}
-use Rattle.spec_hall.specs.Alone.{IsCalm}
-use Rattle.spec_hall.proofs.KeyLemmas.{is_key-Decides, is_key-same}
-use Rattle.spec_hall.proofs.DressedLemmas.{dressed-append, revise_count-append}
-use Rattle.spec_hall.proofs.AloneLemmas.{alone-states, revise-keeps}
-use Rattle.spec_hall.proofs.CalmLemmas.{calm-open, calm-revise, calm-close}
-use Rattle.mal_hall.specs.Seen.{IsHeld, events_of}
+use Rattle.spec_job.proofs.StepLemmas.{finish-keeps}
+use Rattle.spec_hall.specs.Events.{Event, Open, Revise, Close, Balance, Start, Finish, bare}
+use Rattle.spec_hall.specs.Dressed.{dressed}
+use Rattle.spec_hall.specs.Own.{own, is_key}
+use Rattle.spec_hall.specs.States.{keys_of, states, titled}
+use Rattle.spec_hall.specs.Legal.{MayOpen, MayRevise, MayClose, job_of, jobs_of, tenant_count}
+use Rattle.spec_hall.specs.Seats.{Seat, IsSeated, jobs_in, place_of, first_live, is_due, opened_seat, shares_from, balanced_seats}
+use Rattle.spec_hall.proofs.DressedLemmas.{seated-dressed}
+use Rattle.spec_hall.proofs.DueLemmas.{seated-balance}
+use Rattle.spec_hall.proofs.PlaceLemmas.{seated-found, seated-absent, placed-within}
+use Rattle.spec_hall.proofs.RunnableLemmas.{find-titled, legal-answers_solve, legal-answers_refute}
+use Rattle.spec_hall.proofs.SeatLemmas.{seated-open, seated-revise, seated-close}
+use Rattle.spec_hall.proofs.SliceLemmas.{seated-slice}
+use Rattle.spec_hall.proofs.VolumeLemmas.{revise-keeps}
+use Rattle.mal_hall.specs.Room.{HasRoomFor}
+use Rattle.mal_hall.specs.Seen.{IsHall, events_of, unclosed_in, next_number}
+use Rattle.mal_hall.proofs.KeptLemmas.{first_of, tenants-push, tenants-set, tenants-balanced, unclosed-open, unclosed-same, unclosed-closed, unclosed-balanced}
 
--- a hall with a job that was just opened
-pub held-open : (h : Written) (t : Titled) (tenant job : List ℕ) (ask : Terms) → is_name tenant ≡ true → is_name job ≡ true → IsAsk ask → h.events ≡ of.Open tenant job ask ∷ [] → t.key ≡ keyed tenant job → t.state ≡ solo_step unopened (Opened ask) → 1 ≤ h.room → IsHeld h t false
-held-open h t tenant job ask tenant_named job_named asked events key state room =
-    let whole : t ≡ record { key = keyed tenant job; state = solo_step unopened (Opened ask) } = titled-equal t (keyed tenant job) (solo_step unopened (Opened ask)) key state in
-    rw whole (record {
-      calm = rw events (calm-open (keyed tenant job) ask tenant_named job_named asked);
-      count = rw events refl;
-      room = λ _. room;
-    })
-  where
-    titled-equal : (x : Titled) (k : Key) (s : Solo) → x.key ≡ k → x.state ≡ s → x ≡ record { key = k; state = s }
-    titled-equal x k s p q = ap (λ (a : Key). let y : Titled = record { key = a; state = x.state } in y) p ∙ ap (λ (a : Solo). let y : Titled = record { key = k; state = a } in y) q
+-- the events of a hall are its past
+pub hall-events : (h : Written) (ss : List Seat) (u n : ℕ) (hall : IsHall h ss u n) → events_of h.events ss ≡ hall.past
+hall-events h ss u n hall = ap (map (dressed (jobs_in ss))) hall.written ∙ seated-dressed hall.past ss hall.seated
 
--- a key that is tested to be the job's is the job's
-pub same-key : (t : Titled) (tenant job : List ℕ) → is_key (keyed tenant job) t.key ≡ true → t.key ≡ keyed tenant job
-same-key t tenant job e = sym ((is_key-Decides (keyed tenant job) t.key).0 e)
-
--- the job is found under its key
-found : (h : List Event) (t : Titled) (l : Bool) → IsCalm h t l → job_of t.key (states h) ≡ Some t
-found h t l calm = ap (job_of t.key) (alone-states h t calm.alone) ∙ rw (is_key-same t.key) refl
-
--- an event that posts nothing stands behind the history as it is written down
-pub pushed : (es fs : List written.Event) (rs : List Posted) → revise_count es ≡ length rs → dressed (es ++ fs) rs ≡ dressed es rs ++ dressed fs []
-pushed es fs rs count = ap (dressed (es ++ fs)) (sym (append-nil rs)) ∙ dressed-append es fs rs [] count
-
-pub held-close : (h after : Written) (t : Titled) (l : Bool) (tenant job : List ℕ) → IsHeld h t l → is_key (keyed tenant job) t.key ≡ true → t.state.closed ≡ false → after.events ≡ h.events ++ of.Close tenant job ∷ [] → IsHeld after (stepped t Closed) l
-held-close h after t l tenant job held key still events =
-    let es : dressed after.events t.state.revisions ≡ dressed h.events t.state.revisions ++ Close t.key ∷ [] =
-    ap (λ (x : List written.Event). dressed x t.state.revisions) events ∙ (pushed h.events (of.Close tenant job ∷ []) t.state.revisions held.count ∙ ap (λ (k : Key). dressed h.events t.state.revisions ++ Close k ∷ []) (sym (same-key t tenant job key))) in
-    record {
-      calm = rw es (calm-close (dressed h.events t.state.revisions) t l held.calm (record { job = found (dressed h.events t.state.revisions) t l held.calm; open_still = still }));
-      count = ap revise_count events ∙ (revise_count-append h.events (of.Close tenant job ∷ []) ∙ omega (arith, held.count));
-      room = λ open_again. absurd (cc);
-    }
-
--- the events after a closing
-pub closed-events : (h after : Written) (t : Titled) (l : Bool) (tenant job : List ℕ) → IsHeld h t l → after.events ≡ h.events ++ of.Close tenant job ∷ [] → events_of after.events (Some (stepped t Closed)) ≡ events_of h.events (Some t) ++ Close (keyed tenant job) ∷ []
-closed-events h after t l tenant job held events = ap (λ (x : List written.Event). dressed x t.state.revisions) events ∙ pushed h.events (of.Close tenant job ∷ []) t.state.revisions held.count
-
-no-revisions : (rs : List Posted) → length rs ≡ 0 → rs ≡ []
-no-revisions [] e = refl
-no-revisions (r ∷ rs) e = absurd (omega arith)
-
--- the events after a revision was posted
-pub revised-events : (h after : Written) (t : Titled) (l : Bool) (tenant job : List ℕ) (r : Posted) → IsHeld h t l → after.events ≡ h.events ++ of.Revise tenant job 1 ∷ [] → events_of after.events (Some (stepped t (Revised r))) ≡ events_of h.events (Some t) ++ Revise (keyed tenant job) 1 r ∷ []
-revised-events h after t l tenant job r held events = ap (dressed after.events) (revise-keeps t.state r).revisions ∙ (ap (λ (x : List written.Event). dressed x (t.state.revisions ++ r ∷ [])) events ∙ dressed-append h.events (of.Revise tenant job 1 ∷ []) t.state.revisions (r ∷ []) held.count)
-
-pub held-revise : (h after : Written) (t : Titled) (l : Bool) (tenant job : List ℕ) (r : Posted) → IsHeld h t l → is_key (keyed tenant job) t.key ≡ true → t.state.closed ≡ false → length t.state.revisions ≡ 0 → is_posted r ≡ true → after.events ≡ h.events ++ of.Revise tenant job 1 ∷ [] → 1 ≤ after.room → IsHeld after (stepped t (Revised r)) l
-held-revise h after t l tenant job r held key still none posted events room =
-    let before : List Event = dressed h.events t.state.revisions in
-    let es : dressed after.events (solo_step t.state (Revised r)).revisions ≡ before ++ Revise t.key 1 r ∷ [] =
-    revised-events h after t l tenant job r held events ∙ ap (λ (k : Key). before ++ Revise k 1 r ∷ []) (sym (same-key t tenant job key)) in
-    let clauses : clauses_in t.state.revisions ≡ 0 = ap clauses_in (no-revisions t.state.revisions none) in
-    let literals : literals_in t.state.revisions ≡ 0 = ap literals_in (no-revisions t.state.revisions none) in
-    let may : MayRevise before t.key 1 r t = record {
-      job = found before t l held.calm;
-      open_still = still;
-      posted = posted;
-      next = omega (arith, none);
-      room = omega arith;
-      clause_room = omega (arith, clauses, posted-clauses r posted);
-      literal_room = omega (arith, literals, posted-literals r posted);
-    } in
-    record {
-      calm = rw es (calm-revise before t l 1 r held.calm may);
-      count = ap revise_count events ∙ (revise_count-append h.events (of.Revise tenant job 1 ∷ []) ∙ omega (arith, held.count, length-append {A = Posted} t.state.revisions (r ∷ []), ap (λ (rs : List Posted). length rs) (revise-keeps t.state r).revisions));
-      room = λ _. room;
-    }
-  where
-    limits : (a b c d e : Bool) → ((((a && b) && c) && d) && e) ≡ true → (b ≡ true) × (c ≡ true)
-    limits true true true d e h = (refl, refl)
-    limits true true false d e h = absurd (cc)
-    limits true false c d e h = absurd (cc)
-    limits false b c d e h = absurd (cc)
-
-    posted-clauses : (q : Posted) → is_posted q ≡ true → length q.clauses ≤ 1048576
-    posted-clauses q p = leb-true (length q.clauses) 1048576 (limits (nat_le q.variables 65536) (nat_le (length q.clauses) 1048576) (nat_le (literals_of q.clauses) 16777216) _ _ p).0
-
-    posted-literals : (q : Posted) → is_posted q ≡ true → literals_of q.clauses ≤ 16777216
-    posted-literals q p = leb-true (literals_of q.clauses) 16777216 (limits (nat_le q.variables 65536) (nat_le (length q.clauses) 1048576) (nat_le (literals_of q.clauses) 16777216) _ _ p).1
-
--- a balancing that is due is entered
-pub held-balance : (h after : Written) (t : Titled) (l b : Bool) → IsHeld h t l → IsAsk t.state.ask → is_live t.state ≡ b → (b ≡ l → ⊥) → after.events ≡ h.events ++ of.Balance (shares_of b t.key) ∷ [] → 1 ≤ after.room → IsHeld after (stepped t (Volume (listed_volume b))) b
-held-balance h after t l b held asked live differs events room =
-    let before : List Event = dressed h.events t.state.revisions in
-    let es : dressed after.events t.state.revisions ≡ before ++ Balance (shares_of b t.key) ∷ [] = ap (λ (x : List written.Event). dressed x t.state.revisions) events ∙ pushed h.events (of.Balance (shares_of b t.key) ∷ []) t.state.revisions held.count in
-    record {
-      calm = rw es (calm-balance before t l b held.calm asked live (listings-differ b l t differs));
-      count = ap revise_count events ∙ (revise_count-append h.events (of.Balance (shares_of b t.key) ∷ []) ∙ omega (arith, held.count));
-      room = λ _. room;
-    }
-  where
-    listings-differ : (x y : Bool) (u : Titled) → (x ≡ y → ⊥) → listing x u ≢ listing y u
-    listings-differ true true u d = λ e. d refl
-    listings-differ true false u d = λ e. cc
-    listings-differ false true u d = λ e. cc
-    listings-differ false false u d = λ e. d refl
-
--- the events after a balancing
-pub balanced-events : (h after : Written) (t : Titled) (l b : Bool) (v : ℕ) → IsHeld h t l → after.events ≡ h.events ++ of.Balance (shares_of b t.key) ∷ [] → events_of after.events (Some (stepped t (Volume v))) ≡ events_of h.events (Some t) ++ Balance (shares_of b t.key) ∷ []
-balanced-events h after t l b v held events = ap (λ (x : List written.Event). dressed x t.state.revisions) events ∙ pushed h.events (of.Balance (shares_of b t.key) ∷ []) t.state.revisions held.count
-
--- the events of a start and its finish
-abbrev pub slice_events : Key → List written.Event
-slice_events k = of.Start k.tenant k.job 0 1 ∷ of.Finish k.tenant k.job 0 1 Ran ∷ []
-
--- the revisions after a start and its finish
-slice-revisions : (t : Titled) → (stepped (stepped t (Started 0)) (Finished 0 Ran)).state.revisions ≡ t.state.revisions
-slice-revisions t = (finish-keeps (solo_step t.state (Started 0)) 0 Ran).revisions
-
-slice-closed : (t : Titled) → (stepped (stepped t (Started 0)) (Finished 0 Ran)).state.closed ≡ t.state.closed
-slice-closed t = (finish-keeps (solo_step t.state (Started 0)) 0 Ran).closed
-
--- the events after a slice
-pub sliced-events : (h after : Written) (t : Titled) (l : Bool) → IsHeld h t l → after.events ≡ h.events ++ slice_events t.key → events_of after.events (Some (stepped (stepped t (Started 0)) (Finished 0 Ran))) ≡ events_of h.events (Some t) ++ Start t.key 0 1 ∷ Finish t.key 0 1 Ran ∷ []
-sliced-events h after t l held events =
-    ap (λ (rs : List Posted). dressed after.events rs) (slice-revisions t)
-    ∙ (ap (λ (x : List written.Event). dressed x t.state.revisions) events ∙ pushed h.events (slice_events t.key) t.state.revisions held.count)
-
--- a node that may start is started and runs a slice
-pub held-slice : (h after : Written) (t : Titled) (l : Bool) → IsHeld h t l → is_live t.state ≡ l → startable t.state 0 ≡ true → after.events ≡ h.events ++ slice_events t.key → 1 ≤ after.room → IsHeld after (stepped (stepped t (Started 0)) (Finished 0 Ran)) l
-held-slice h after t l held live start events room =
-    let before : List Event = dressed h.events t.state.revisions in
-    let more : before ++ Start t.key 0 1 ∷ Finish t.key 0 1 Ran ∷ [] ≡ (before ++ Start t.key 0 1 ∷ []) ++ Finish t.key 0 1 Ran ∷ [] = sym (append_assoc before (Start t.key 0 1 ∷ []) (Finish t.key 0 1 Ran ∷ [])) in
-    record {
-      calm = rw (sliced-events h after t l held events ∙ more) (calm-slice before t l held.calm (lives-one t l live) start);
-      count = ap revise_count events ∙ (revise_count-append h.events (slice_events t.key) ∙ omega (arith, held.count, ap (λ (rs : List Posted). length rs) (slice-revisions t)));
-      room = λ _. room;
-    }
-
--- whether the number of live jobs differs from that at the last balancing
-due : Bool → Bool → ℕ
-due true true = 0
-due true false = 1
-due false true = 1
-due false false = 0
-
--- what is left in a hall of one job
-left-held : (h : List Event) (t : Titled) (l b : Bool) → IsCalm h t l → is_live t.state ≡ b → left_in h ≡ 2 * left_of t.state + due b l
-unfolding due
-left-held h t l b calm live =
-    let jobs : states h ≡ t ∷ [] = alone-states h t calm.alone in
-    let now : lives (states h) ≡ listing b t = ap lives jobs ∙ lives-one t b live in
-    rw (now, calm.last, jobs) (by_cases b l)
-  where
-    by_cases : (x y : Bool) → 2 * sum_by (λ (u : Titled). left_of u.state) (t ∷ []) + (if length (listing x t) == length (listing y t) then 0 else 1) ≡ 2 * left_of t.state + due x y
-    by_cases true true = omega arith
-    by_cases true false = omega arith
-    by_cases false true = omega arith
-    by_cases false false = omega arith
-
--- less is left after a balancing
-pub balance-less : (h after : List Event) (t : Titled) (l b : Bool) (v : ℕ) → IsCalm h t l → IsCalm after (stepped t (Volume v)) b → is_live t.state ≡ b → (b ≡ l → ⊥) → left_in after < left_in h
-unfolding due
-balance-less h after t true true v calm now live differs = absurd (differs refl)
-balance-less h after t true false v calm now live differs = omega (arith, left-held h t true false calm live, left-held after (stepped t (Volume v)) false false now live)
-balance-less h after t false true v calm now live differs = omega (arith, left-held h t false true calm live, left-held after (stepped t (Volume v)) true true now live)
-balance-less h after t false false v calm now live differs = absurd (differs refl)
-
--- less is left after a slice
-pub slice-less : (h after : List Event) (t u : Titled) → IsCalm h t true → IsCalm after u true → is_live t.state ≡ true → left_of u.state < left_of t.state → left_in after < left_in h
-unfolding due
-slice-less h after t u calm now live less = by_live (is_live u.state) refl
-  where
-    by_live : (b : Bool) → is_live u.state ≡ b → left_in after < left_in h
-    by_live true e = omega (arith, left-held h t true true calm live, left-held after u true true now e)
-    by_live false e = omega (arith, left-held h t true true calm live, left-held after u true false now e)
-
--- a job that is not live leaves no live job
-pub idle-held : (h : List Event) (t : Titled) (l : Bool) → IsCalm h t l → is_live t.state ≡ false → lives (states h) ≡ []
-idle-held h t l calm e = ap lives (alone-states h t calm.alone) ∙ lives-one t false e
-
--- the test of two truth values
-pub beq-true : (x y : Bool) → beq x y ≡ true → x ≡ y
-beq-true true true e = refl
-beq-true true false e = cc
-beq-true false true e = cc
-beq-true false false e = refl
-
-pub beq-false : (x y : Bool) → beq x y ≡ false → x ≡ y → ⊥
-beq-false true true e h = true-not-false e
-  where
-    true-not-false : true ≡ false → ⊥
-    true-not-false q = cc
-beq-false true false e h = true-not-false h
-  where
-    true-not-false : true ≡ false → ⊥
-    true-not-false q = cc
-beq-false false true e h = false-not-true h
-  where
-    false-not-true : false ≡ true → ⊥
-    false-not-true q = cc
-beq-false false false e h = true-not-false e
-  where
-    true-not-false : true ≡ false → ⊥
-    true-not-false q = cc
+-- the jobs of a hall are those of its events
+pub hall-seated : (h : Written) (ss : List Seat) (u n : ℕ) → IsHall h ss u n → IsSeated (events_of h.events ss) ss
+hall-seated h ss u n hall = subst (λ (es : List Event). IsSeated es ss) (sym (hall-events h ss u n hall)) hall.seated
 
 -- what is written down is the hall's events without what was posted
-pub hall-bare : (h : Written) (job : Option Titled) (l : Bool) → IsHall h job l → map bare (events_of h.events job) ≡ h.events
-hall-bare h None l empty = rw empty refl
-hall-bare h (Some t) l held = dressed-bare h.events t.state.revisions (omega (arith, held.count))
+pub hall-bare : (h : Written) (ss : List Seat) (u n : ℕ) → IsHall h ss u n → map bare (events_of h.events ss) ≡ h.events
+hall-bare h ss u n hall = ap (map bare) (hall-events h ss u n hall) ∙ sym hall.written
 
--- a hall's history is legal
-pub hall-legal : (h : Written) (job : Option Titled) (l : Bool) → IsHall h job l → Legal 1 (events_of h.events job)
-hall-legal h None l empty = rw empty tt
-hall-legal h (Some t) l held = held.calm.legal
+-- a hall in which nothing was entered
+pub hall-waits : (h after : Written) (ss now : List Seat) (u n : ℕ) → IsHall h ss u n → after.events ≡ h.events → now ≡ ss → h.room ≤ after.room → IsHall after now u n
+hall-waits h after ss now u n hall events seats room = rw seats (record {
+  past = hall.past;
+  written = events ∙ hall.written;
+  seated = hall.seated;
+  unclosed_is = hall.unclosed_is;
+  tenants_is = hall.tenants_is;
+  room = omega (arith, hall.room, room);
+})
 
--- the job of a hall is found under its key
-pub hall-found : (h : Written) (t : Titled) (l : Bool) (tenant job : List ℕ) (seen : Seen) → IsHeld h t l → seen.events ≡ events_of h.events (Some t) → is_key (keyed tenant job) t.key ≡ true → job_of (keyed tenant job) (states seen.events) ≡ Some t
-hall-found h t l tenant job seen held events named = subst (λ (k : Key). job_of k (states seen.events) ≡ Some t) (same-key t tenant job named) (rw events (found (events_of h.events (Some t)) t l held.calm))
+-- a hall in which events were entered
+pub record Grown (h after : Written) (ss now : List Seat) (u n : ℕ) (es : List Event) : Type 0 where
+  pub hall : IsHall after now u n
+  pub events : events_of after.events now ≡ events_of h.events ss ++ es
+
+grown : (h after : Written) (ss now : List Seat) (u n v m : ℕ) (es : List Event) → IsHall h ss u n → after.events ≡ h.events ++ map bare es → IsSeated (events_of h.events ss ++ es) now → v ≡ unclosed_in now → m ≡ tenant_count (jobs_in now) → v ≤ after.room → Grown h after ss now v m es
+grown h after ss now u n v m es hall events seated unclosed tenants room =
+    let past : List Event = events_of h.events ss ++ es in
+    let whole : after.events ≡ map bare past = events ∙ (ap (λ (xs : List written.Event). xs ++ map bare es) (sym (hall-bare h ss u n hall)) ∙ sym (map-append bare (events_of h.events ss) es)) in
+    let here : IsHall after now v m = record { past = past; written = whole; seated = seated; unclosed_is = unclosed; tenants_is = tenants; room = room } in
+    record { hall = here; events = hall-events after now v m here }
+
+-- a job is opened
+pub hall-open : (h after : Written) (ss : List Seat) (u n m : ℕ) (k : Key) (ask : Terms) → IsHall h ss u n → after.events ≡ h.events ++ of.Open k.tenant k.job ask ∷ [] → is_name k.tenant ≡ true → is_name k.job ≡ true → IsAsk ask → place_of k ss ≡ None → jobs_of k.tenant (jobs_in ss) < 64 → (jobs_of k.tenant (jobs_in ss) ≡ 0 → n < 64) → m ≡ n + first_of (jobs_of k.tenant (jobs_in ss)) → u + 1 ≤ after.room → Grown h after ss (ss ++ opened_seat k ask ∷ []) (u + 1) m (Open k ask ∷ [])
+hall-open h after ss u n m k ask hall events tenant job asked absent few others counted room =
+    let past : List Event = events_of h.events ss in
+    let seated = hall-seated h ss u n hall in
+    let may : MayOpen past k ask = record {
+      tenant = tenant;
+      job = job;
+      asked = asked;
+      fresh = seated-absent past ss k seated absent;
+      tenant_room = rw seated.jobs few;
+      hall_room = λ none. rw (seated.jobs, ← hall.tenants_is) (others (ap (jobs_of k.tenant) (sym seated.jobs) ∙ none));
+    } in
+    grown h after ss (ss ++ opened_seat k ask ∷ []) u n (u + 1) m (Open k ask ∷ []) hall events (seated-open past ss k ask seated may) (omega (arith, hall.unclosed_is, unclosed-open ss k ask)) tenants room
+  where
+    tenants : m ≡ tenant_count (jobs_in (ss ++ opened_seat k ask ∷ []))
+    tenants =
+        let one = opened_seat k ask in
+        counted ∙ (ap (λ (x : ℕ). x + first_of (jobs_of k.tenant (jobs_in ss))) hall.tenants_is ∙ (sym (tenants-push (jobs_in ss) one.titled) ∙ ap tenant_count (sym (map-append (λ (s : Seat). s.titled) ss (one ∷ [])))))
+
+-- the seat at the place of a key
+pub record Sits (ss : List Seat) (k : Key) (at : ℕ) (s : Seat) : Type 0 where
+  pub place : place_of k ss ≡ Some at
+  pub seat : slice_get ss at ≡ Some s
+
+-- the place that a scan of the seats found
+pub placed : (ss xs : List Seat) (k : Key) (r o : Option ℕ) → xs ≡ ss → r ≡ place_of k xs → r ≡ o → place_of k ss ≡ o
+placed ss xs k r o same scan is = ap (place_of k) (sym same) ∙ (sym scan ∙ is)
+
+pub placed-below : (ss xs : List Seat) (k : Key) (r : Option ℕ) (at : ℕ) → xs ≡ ss → r ≡ place_of k xs → r ≡ Some at → at < length ss
+placed-below ss xs k r at same scan is = placed-within k ss at (placed ss xs k r (Some at) same scan is)
+
+-- a seat that is read at that place
+pub sits : (ss xs : List Seat) (k : Key) (r : Option ℕ) (at : ℕ) (s : Seat) → xs ≡ ss → r ≡ place_of k xs → r ≡ Some at → s ≡ get_or ss at s → Sits ss k at s
+sits ss xs k r at s same scan is read = record {
+  place = placed ss xs k r (Some at) same scan is;
+  seat = slice_get_read ss (length ss) at s refl (placed-below ss xs k r at same scan is) read;
+}
+
+-- two reads of one place give one seat
+pub same-seat : (ss : List Seat) (k : Key) (at : ℕ) (s t : Seat) → Sits ss k at s → Sits ss k at t → s ≡ t
+same-seat ss k at s t one other = let both : Some s ≡ Some t = sym one.seat ∙ other.seat in cc
+
+-- a job that is found
+pub record Found (h : Written) (ss : List Seat) (k : Key) (t : Titled) : Type 0 where
+  pub key : t.key ≡ k
+  pub job : job_of k (states (events_of h.events ss)) ≡ Some t
+
+pub hall-found : (h : Written) (ss : List Seat) (u n : ℕ) (k : Key) (at : ℕ) (s : Seat) → IsHall h ss u n → Sits ss k at s → Found h ss k s.titled
+hall-found h ss u n k at s hall sits =
+    let both = seated-found (events_of h.events ss) ss k at s (hall-seated h ss u n hall) sits.place sits.seat in
+    record { key = both.0; job = both.1 }
+
+-- what holds of a job that is found holds of its machine run alone on the job's own events, in whatever history has these
+pub found-alone : (h : Written) (ss : List Seat) (k : Key) (t : Titled) (P : Key → Solo → Type 0) → Found h ss k t → P t.key t.state → (other : List Event) → own k other ≡ own k (events_of h.events ss) → P k (solo (own k other))
+found-alone h ss k t P found holds other same =
+    let past : List Event = events_of h.events ss in
+    let is : titled past k ≡ t = find-titled past k (keys_of past) t found.job in
+    let state : t.state ≡ solo (own k other) = sym (ap (λ (x : Titled). x.state) is) ∙ ap solo (sym same) in
+    subst (P k) state (subst (λ (j : Key). P j t.state) found.key holds)
+
+pub hall-absent : (h : Written) (ss : List Seat) (u n : ℕ) (k : Key) → IsHall h ss u n → place_of k ss ≡ None → job_of k (states (events_of h.events ss)) ≡ None
+hall-absent h ss u n k hall place = seated-absent (events_of h.events ss) ss k (hall-seated h ss u n hall) place
+
+-- a key has a place where it has a job
+place-some : (k : Key) (ss : List Seat) → is_some (place_of k ss) ≡ is_some (job_of k (jobs_in ss))
+place-some k [] = refl
+place-some k (s ∷ ss) = by_test (is_key k s.titled.key) (same_some (place_of k ss) ∙ place-some k ss)
+  where
+    same_some : (o : Option ℕ) → is_some (option_map suc o) ≡ is_some o
+    same_some None = refl
+    same_some (Some n) = refl
+
+    by_test : (b : Bool) → is_some (option_map suc (place_of k ss)) ≡ is_some (job_of k (jobs_in ss)) → is_some (cond b (Some 0) (option_map suc (place_of k ss))) ≡ is_some (cond b (Some s.titled) (job_of k (jobs_in ss)))
+    by_test true rest = refl
+    by_test false rest = rest
+
+pub hall-some_job : (h : Written) (ss xs : List Seat) (u n : ℕ) (k : Key) (r : Option ℕ) → IsHall h ss u n → xs ≡ ss → r ≡ place_of k xs → is_some (job_of k (states (events_of h.events ss))) ≡ is_some r
+hall-some_job h ss xs u n k r hall same scan = ap (λ (ts : List Titled). is_some (job_of k ts)) (hall-seated h ss u n hall).jobs ∙ (sym (place-some k ss) ∙ ap is_some (ap (place_of k) (sym same) ∙ sym scan))
+
+-- the jobs of a tenant that a scan of the seats counted
+pub hall-jobs : (h : Written) (ss xs : List Seat) (u n : ℕ) (tenant : List ℕ) (count : ℕ) → IsHall h ss u n → xs ≡ ss → count ≡ jobs_of tenant (jobs_in xs) → count ≡ jobs_of tenant (states (events_of h.events ss))
+hall-jobs h ss xs u n tenant count hall same scan = scan ∙ ap (jobs_of tenant) (ap jobs_in same ∙ sym (hall-seated h ss u n hall).jobs)
+
+-- the tenants of a hall
+pub hall-tenants : (h : Written) (ss : List Seat) (u n : ℕ) → IsHall h ss u n → n ≡ tenant_count (states (events_of h.events ss))
+hall-tenants h ss u n hall = hall.tenants_is ∙ ap tenant_count (sym (hall-seated h ss u n hall).jobs)
+
+-- the number of a job's next revision
+pub hall-next : (h : Written) (ss : List Seat) (k : Key) (t : Titled) (number : ℕ) → Found h ss k t → number ≡ length t.state.revisions + 1 → number ≡ next_number k (events_of h.events ss)
+hall-next h ss k t number found next = next ∙ ap (λ (o : Option Titled). option_map_or (λ (x : Titled). length x.state.revisions + 1) o 1) (sym found.job)
+
+-- a test that is not passed
+pub none-from : (o : Option ℕ) (b : Bool) → b ≡ is_some o → b ≡ false → o ≡ None
+none-from None b e f = refl
+none-from (Some n) b e f = absurd (cc)
+
+-- a revision is posted
+pub hall-revise : (h after : Written) (ss : List Seat) (u n : ℕ) (k : Key) (at : ℕ) (s : Seat) (number : ℕ) (r : Posted) → IsHall h ss u n → Sits ss k at s → after.events ≡ h.events ++ of.Revise k.tenant k.job number ∷ [] → s.titled.state.closed ≡ false → number ≡ length s.titled.state.revisions + 1 → length s.titled.state.revisions < 256 → HasRoomFor s.titled.state.revisions r → is_posted r ≡ true → u ≤ after.room → Grown h after ss (slice_set ss at (record s { titled = stepped s.titled (Revised r) })) u n (Revise k number r ∷ [])
+hall-revise h after ss u n k at s number r hall sits events still next few fits posted room =
+    let past : List Event = events_of h.events ss in
+    let found = hall-found h ss u n k at s hall sits in
+    let now : Seat = record s { titled = stepped s.titled (Revised r) } in
+    let may : MayRevise past s.titled.key number r s.titled = record {
+      job = subst (λ (x : Key). job_of x (states past) ≡ Some s.titled) (sym found.key) found.job;
+      open_still = still;
+      posted = posted;
+      next = next;
+      room = omega (arith, next, few);
+      clause_room = fits.clauses;
+      literal_room = fits.literals;
+    } in
+    let seated = subst (λ (x : Key). IsSeated (past ++ Revise x number r ∷ []) (slice_set ss at now)) found.key (seated-revise past ss at s number r (hall-seated h ss u n hall) sits.seat may) in
+    grown h after ss (slice_set ss at now) u n u n (Revise k number r ∷ []) hall events seated (hall.unclosed_is ∙ unclosed-same ss at s now sits.seat (revise-keeps s.titled.state r).closed) (hall.tenants_is ∙ tenants-set ss at s now sits.seat refl) room
+
+-- where a job is open some are not closed
+pub hall-some : (h : Written) (ss : List Seat) (u n : ℕ) (k : Key) (at : ℕ) (s : Seat) → IsHall h ss u n → Sits ss k at s → s.titled.state.closed ≡ false → 1 ≤ u
+hall-some h ss u n k at s hall sits still = omega (arith, hall.unclosed_is, unclosed-closed ss at s (record s { titled = stepped s.titled Closed }) sits.seat still refl)
+
+-- a job is closed
+pub hall-close : (h after : Written) (ss : List Seat) (u n : ℕ) (k : Key) (at : ℕ) (s : Seat) → IsHall h ss u n → Sits ss k at s → after.events ≡ h.events ++ of.Close k.tenant k.job ∷ [] → s.titled.state.closed ≡ false → after.room + 1 ≡ h.room → Grown h after ss (slice_set ss at (record s { titled = stepped s.titled Closed })) (u - 1) n (Close k ∷ [])
+hall-close h after ss u n k at s hall sits events still room =
+    let past : List Event = events_of h.events ss in
+    let found = hall-found h ss u n k at s hall sits in
+    let now : Seat = record s { titled = stepped s.titled Closed } in
+    let may : MayClose past s.titled.key s.titled = record { job = subst (λ (x : Key). job_of x (states past) ≡ Some s.titled) (sym found.key) found.job; open_still = still } in
+    let seated = subst (λ (x : Key). IsSeated (past ++ Close x ∷ []) (slice_set ss at now)) found.key (seated-close past ss at s (hall-seated h ss u n hall) sits.seat may) in
+    grown h after ss (slice_set ss at now) u n (u - 1) n (Close k ∷ []) hall events seated (omega (arith, hall.unclosed_is, unclosed-closed ss at s now sits.seat still refl)) (hall.tenants_is ∙ tenants-set ss at s now sits.seat refl) (omega (arith, hall.room, hall-some h ss u n k at s hall sits still))
+
+-- a balancing that is due is entered
+pub hall-balance : (h after : Written) (ss : List Seat) (u n : ℕ) → IsHall h ss u n → All (λ (s : Seat). IsAsk s.titled.state.ask) ss → is_due ss ≡ true → after.events ≡ h.events ++ of.Balance (shares_from false ss) ∷ [] → u ≤ after.room → Grown h after ss (balanced_seats false ss) u n (Balance (shares_from false ss) ∷ [])
+hall-balance h after ss u n hall asks due events room =
+    grown h after ss (balanced_seats false ss) u n u n (Balance (shares_from false ss) ∷ []) hall events (seated-balance (events_of h.events ss) ss (hall-seated h ss u n hall) asks due) (hall.unclosed_is ∙ unclosed-balanced false ss) (hall.tenants_is ∙ tenants-balanced ss) room
+
+-- the job of a seat after a slice of its first node
+abbrev pub sliced : Titled → Titled
+sliced t = stepped (stepped t (Started 0)) (Finished 0 Ran)
+
+-- a slice of the first live job is entered
+pub hall-slice : (h after : Written) (ss : List Seat) (u n at : ℕ) (s : Seat) → IsHall h ss u n → is_due ss ≡ false → first_live ss ≡ Some at → slice_get ss at ≡ Some s → startable s.titled.state 0 ≡ true → after.events ≡ h.events ++ of.Start s.titled.key.tenant s.titled.key.job 0 1 ∷ of.Finish s.titled.key.tenant s.titled.key.job 0 1 Ran ∷ [] → u ≤ after.room → Grown h after ss (slice_set ss at (record s { titled = sliced s.titled })) u n (Start s.titled.key 0 1 ∷ Finish s.titled.key 0 1 Ran ∷ [])
+hall-slice h after ss u n at s hall calm first sits start events room =
+    let past : List Event = events_of h.events ss in
+    let now : Seat = record s { titled = sliced s.titled } in
+    let seated = rw (append_assoc past (Start s.titled.key 0 1 ∷ []) (Finish s.titled.key 0 1 Ran ∷ [])) at (seated-slice past ss at s (hall-seated h ss u n hall) calm first sits start) in
+    grown h after ss (slice_set ss at now) u n u n (Start s.titled.key 0 1 ∷ Finish s.titled.key 0 1 Ran ∷ []) hall events seated (hall.unclosed_is ∙ unclosed-same ss at s now sits (finish-keeps (solo_step s.titled.state (Started 0)) 0 Ran).closed) (hall.tenants_is ∙ tenants-set ss at s now sits refl) room
 
 -- the answers of a job of a hall carry models
-pub hall-solves : (h : Written) (job : Option Titled) (l : Bool) (seen : Seen) → IsHall h job l → seen.events ≡ events_of h.events job → (k : Key) (t : Titled) → job_of k (states seen.events) ≡ Some t → AnswersSolve t.state
-hall-solves h job l seen hall events k t found_at =
-    let legal : Legal 1 seen.events = rw events (hall-legal h job l hall) in
-    let same : titled seen.events k ≡ t = find-titled seen.events k (keys_of seen.events) t found_at in
-    subst (λ (x : Titled). AnswersSolve x.state) same (legal-answers_solve 1 seen.events legal k)
+pub hall-solves : (h : Written) (ss : List Seat) (u n : ℕ) → IsHall h ss u n → (k : Key) (t : Titled) → job_of k (states (events_of h.events ss)) ≡ Some t → AnswersSolve t.state
+hall-solves h ss u n hall k t found =
+    let past : List Event = events_of h.events ss in
+    let same : titled past k ≡ t = find-titled past k (keys_of past) t found in
+    subst (λ (x : Titled). AnswersSolve x.state) same (legal-answers_solve 1 past (hall-seated h ss u n hall).legal k)
 
 -- and proofs
-pub hall-refutes : (h : Written) (job : Option Titled) (l : Bool) (seen : Seen) → IsHall h job l → seen.events ≡ events_of h.events job → (k : Key) (t : Titled) → job_of k (states seen.events) ≡ Some t → AnswersRefute t.state
-hall-refutes h job l seen hall events k t found_at =
-    let legal : Legal 1 seen.events = rw events (hall-legal h job l hall) in
-    let same : titled seen.events k ≡ t = find-titled seen.events k (keys_of seen.events) t found_at in
-    subst (λ (x : Titled). AnswersRefute x.state) same (legal-answers_refute 1 seen.events legal k)
-
--- nothing is out in a hall
-pub hall-home : (h : Written) (job : Option Titled) (l : Bool) → IsHall h job l → leases (events_of h.events job) ≡ []
-hall-home h None l empty = rw empty refl
-hall-home h (Some t) l held = held.calm.home
+pub hall-refutes : (h : Written) (ss : List Seat) (u n : ℕ) → IsHall h ss u n → (k : Key) (t : Titled) → job_of k (states (events_of h.events ss)) ≡ Some t → AnswersRefute t.state
+hall-refutes h ss u n hall k t found =
+    let past : List Event = events_of h.events ss in
+    let same : titled past k ≡ t = find-titled past k (keys_of past) t found in
+    subst (λ (x : Titled). AnswersRefute x.state) same (legal-answers_refute 1 past (hall-seated h ss u n hall).legal k)

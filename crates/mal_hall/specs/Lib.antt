@@ -1,3 +1,4 @@
 pub mod Seen
 pub mod Causes
 pub mod Work
+pub mod Room

@@ -1,27 +1,23 @@
-use Rattle.std.specs.Prelude.{◌≡◌, ℕ, ◌+◌, ◌*◌, Bool, true, false, ◌==◌, List, ◌++◌, length, sum_by, if◌then◌else◌}
-use Rattle.std.specs.List.{list_all}
+use Rattle.std.specs.Prelude.{ℕ, ◌+◌, ◌*◌, Bool, ◌&&◌, ◌==◌, List, sum_by, if◌then◌else◌}
+use Rattle.std.specs.Cmp.Lexicographic.{pointwise}
 use Rattle.spec_job.specs.Left.{left_of}
-use Rattle.spec_hall.specs.Events.{Event, Open, Revise, Close, Balance, Start, Finish, Exchange}
-use Rattle.spec_hall.specs.States.{states, lives, balanced}
+use Rattle.spec_job.specs.Titled.{Titled}
+use Rattle.spec_hall.specs.Events.{Event}
+use Rattle.spec_hall.specs.Own.{is_key}
+use Rattle.spec_hall.specs.States.{Live, states, lives, balanced}
 
--- whether the hall enters the event by itself, and no tenant posts it
-abbrev pub is_work : Event → Bool
-is_work (Open k ask) = false
-is_work (Revise k number r) = false
-is_work (Close k) = false
-is_work (Balance shares) = true
-is_work (Start k index worker) = true
-is_work (Finish k index worker outcome) = true
-is_work (Exchange k) = true
+-- two live jobs are equal
+abbrev pub is_same_live : Live → Live → Bool
+is_same_live a b = is_key a.key b.key && (a.priority == b.priority && a.demand == b.demand)
 
--- events that the hall enters by itself
-abbrev pub AreWork : List Event → Type 0
-AreWork es = list_all is_work es ≡ true
+-- whether the live jobs are those of the last balancing
+abbrev pub is_balanced : List Event → Bool
+is_balanced history = pointwise is_same_live (lives (states history)) (balanced history)
 
--- a history has grown by events that the hall entered by itself
-abbrev pub GrowsByWork : List Event → List Event → Type 0
-GrowsByWork before after = (es : List Event) × (after ≡ before ++ es) × AreWork es
+-- how many slices some jobs may still run
+abbrev pub left_among : List Titled → ℕ
+left_among jobs = sum_by (λ t. left_of t.state) jobs
 
--- how many slices may still be run, twice, and one more where another number of jobs is live than at the last balancing
+-- how many slices may still be run, twice, and one more where a balancing is due
 abbrev pub left_in : List Event → ℕ
-left_in history = 2 * sum_by (λ t. left_of t.state) (states history) + (if length (lives (states history)) == length (balanced history) then 0 else 1)
+left_in history = 2 * left_among (states history) + (if is_balanced history then 0 else 1)

@@ -1,5 +1,6 @@
 //! Why a hall refuses a call.
 
+use mal_base::Which;
 use thiserror::Error;
 
 /// Why a job is not opened.
@@ -9,7 +10,7 @@ pub enum OpenFault {
     Duplicate,
     #[error("the tenant has 64 jobs")]
     TenantFull,
-    #[error("the hall has room for no further job")]
+    #[error("the hall has 64 tenants")]
     HallFull,
     #[error("out of memory")]
     OutOfMemory,
@@ -22,8 +23,10 @@ pub enum ReviseFault {
     NoJob,
     #[error("the job is closed")]
     Closed,
-    #[error("the job has room for no further revision")]
+    #[error("the job has 256 revisions")]
     RevisionsFull,
+    #[error("more {which:?} than a job may have")]
+    JobFull { which: Which },
     #[error("out of memory")]
     OutOfMemory,
 }

@@ -4,6 +4,10 @@
 mod enter;
 mod fault;
 mod hall;
+mod room;
+mod seats;
+#[cfg(test)]
+mod tests;
 
 pub use fault::{CloseFault, OpenFault, ReplyFault, ReviseFault};
 pub use hall::Hall;

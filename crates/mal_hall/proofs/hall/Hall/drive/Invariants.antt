@@ -1,11 +1,12 @@
 use Rattle.std.proofs.Common.{◌≡◌}
-use Rattle.mal_hall.specs.Work.{GrowsByWork, left_in}
+use Rattle.spec_hall.specs.Driven.{GrowsByTurns}
+use Rattle.mal_hall.specs.Work.{left_in}
 use Rattle.mal_hall.proofs.hall.Hall.drive.Given as goal
 
 abbrev pub invariant-loop : goal.invariant-loop
 invariant-loop l = record {
   workers : l.self.workers ≡ l.fn.self.workers;
-  work : GrowsByWork l.fn.self.events l.self.events;
+  turns : GrowsByTurns 1 l.fn.self.events l.self.events;
 }
 
 abbrev pub decreases-loop : goal.decreases-loop

@@ -1,9 +1,12 @@
 use Rattle.std.proofs.Common.{sym}
-use Rattle.mal_hall.proofs.HallLemmas.{hall-bare, hall-home}
+use Rattle.mal_hall.proofs.HallLemmas.{hall-bare, hall-seated}
 use Rattle.mal_hall.proofs.hall.Hall.history.Goals as goal
 
 pub returns-clause-events : goal.returns-clause-events
-returns-clause-events c = rw (← c.self.view_is) (sym (hall-bare c.self.inside.history c.self.inside.job c.self.inside.listed c.self.invariant.1))
+returns-clause-events c = rw (← c.self.view_is) (sym (hall-bare c.self.inside.history c.self.inside.seats.items c.self.inside.unclosed c.self.inside.tenants c.self.invariant.1))
+
+pub returns-clause-legal : goal.returns-clause-legal
+returns-clause-legal c = rw (← c.self.view_is, c.self.invariant.0) (hall-seated c.self.inside.history c.self.inside.seats.items c.self.inside.unclosed c.self.inside.tenants c.self.invariant.1).legal
 
 pub returns-clause-home : goal.returns-clause-home
-returns-clause-home c = rw (← c.self.view_is) (hall-home c.self.inside.history c.self.inside.job c.self.inside.listed c.self.invariant.1)
+returns-clause-home c = rw (← c.self.view_is) (hall-seated c.self.inside.history c.self.inside.seats.items c.self.inside.unclosed c.self.inside.tenants c.self.invariant.1).home

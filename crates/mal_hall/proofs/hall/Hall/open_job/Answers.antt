@@ -1,14 +1,49 @@
-use Rattle.std.proofs.Common.{◌≡◌, ◌++◌, [], ◌∷◌, arith, ◌∙◌, ap, List}
-use Rattle.mal_history.specs.declared.event.Event as written
-use Rattle.mal_history.specs.declared.event.Event.TheVariants as of
-use Rattle.mal_hall.proofs.HallLemmas.{held-open}
+use Rattle.std.proofs.Common.{◌∙◌, sym, subst, arith, Err}
+use Rattle.std.proofs.lemmas.Result.{err_from_is_err_and}
+use Rattle.spec_hall.specs.Dressed.{keyed}
+use Rattle.spec_hall.specs.States.{states}
+use Rattle.mal_hall.specs.Causes.{OpenCause}
+use Rattle.mal_hall.specs.Seen.{Seen, events_of}
+use Rattle.mal_hall.proofs.HallLemmas.{placed, none-from, hall-absent, hall-some_job, hall-jobs, hall-tenants, hall-open}
 use Rattle.mal_hall.proofs.hall.Hall.open_job.Goals as goal
+
+pub returns-then-is_some-clause-cause : goal.returns-then-is_some-clause-cause
+returns-then-is_some-clause-cause c =
+    let found = sym c.is_some.ensures ∙ c.if-is_some.true in
+    rw (← c.self.view_is) (hall-some_job c.self.inside.history _ _ _ _ _ _ c.self.invariant.1 c.deref.ensures.value c.place_of.ensures ∙ found)
+
+pub returns-in_err-tenants-clause-cause : goal.returns-in_err-tenants-clause-cause
+returns-in_err-tenants-clause-cause c =
+    let absent = placed _ _ _ _ _ c.deref.ensures.value c.place_of.ensures (none-from _ _ c.is_some.ensures c.if-is_some.false) in
+    let none = hall-absent c.self.inside.history _ _ _ _ c.self.invariant.1 absent in
+    let jobs = hall-jobs c.self.inside.history _ _ _ _ _ _ c.self.invariant.1 c.deref-2.ensures.value c.jobs_of-jobs.ensures in
+    let tenants = hall-tenants c.self.inside.history _ _ _ c.self.invariant.1 in
+    let p = err_from_is_err_and c.from_residual.result c.from_residual.ensures.1 in
+    let cause = c.in_err-tenants.ensures.refusal (keyed c.args.tenant c.args.job) (states (events_of c.self.inside.history.events c.self.inside.seats.items)) none jobs tenants in
+    rw (p.1, p.2) (subst (λ (s : Seen). OpenCause (keyed c.args.tenant c.args.job) (states s.events) (Err c.in_err-tenants.field-0.0)) c.self.view_is cause)
 
 pub invariant_of-self-2 : goal.invariant_of-self-2
 invariant_of-self-2 c =
-    let i = c.self.invariant in
-    let none = rw c.in-None.is at i.1 in
-    let events : c.push_reserved.new.self.events ≡ of.Open c.args.tenant c.args.job c.args.ask ∷ [] = c.push_reserved.ensures.events ∙ ap (λ (es : List written.Event). es ++ of.Open c.args.tenant c.args.job c.args.ask ∷ []) (c.in-Ok.ensures.events ∙ none) in (
-      c.push_reserved.ensures.workers ∙ (c.in-Ok.ensures.workers ∙ i.0),
-      held-open c.push_reserved.new.self c.fresh.result c.args.tenant c.args.job c.args.ask c.are_in_form.ensures.tenant c.are_in_form.ensures.job c.are_in_form.ensures.ask events c.fresh.ensures.key c.fresh.ensures.state (omega (arith, c.in-Ok.ensures.room, c.push_reserved.ensures.room)),
-    )
+    let absent = placed _ _ _ _ _ c.deref.ensures.value c.place_of.ensures (none-from _ _ c.is_some.ensures c.if-is_some.false) in
+    let events = rw c.in-Ok.ensures.events at c.push_reserved.ensures.events in
+    let fits = rw (c.jobs_of-jobs.ensures, c.deref-2.ensures.value) at c.in_ok-tenants.ensures in
+    let now = hall-open c.self.inside.history c.push_reserved.new.self _ _ _ c.in_ok-tenants.tenants (keyed c.args.tenant c.args.job) c.args.ask c.self.invariant.1 events c.are_in_form.ensures.tenant c.are_in_form.ensures.job c.are_in_form.ensures.ask absent fits.few fits.others fits.count (omega (arith, c.in-Ok.ensures.room, c.push_reserved.ensures.room)) in
+    (c.push_reserved.ensures.workers ∙ (c.in-Ok.ensures.workers ∙ c.self.invariant.0), rw (c.push_reserved-2.ensures.items, c.in-Ok-reserve.ensures.items, c.fresh.ensures) now.hall)
+
+pub returns-clause-ok : goal.returns-clause-ok
+returns-clause-ok c =
+    let absent = placed _ _ _ _ _ c.deref.ensures.value c.place_of.ensures (none-from _ _ c.is_some.ensures c.if-is_some.false) in
+    let events = rw c.in-Ok.ensures.events at c.push_reserved.ensures.events in
+    let fits = rw (c.jobs_of-jobs.ensures, c.deref-2.ensures.value) at c.in_ok-tenants.ensures in
+    let now = hall-open c.self.inside.history c.push_reserved.new.self _ _ _ c.in_ok-tenants.tenants (keyed c.args.tenant c.args.job) c.args.ask c.self.invariant.1 events c.are_in_form.ensures.tenant c.are_in_form.ensures.job c.are_in_form.ensures.ask absent fits.few fits.others fits.count (omega (arith, c.in-Ok.ensures.room, c.push_reserved.ensures.room)) in
+    rw (← c.self.view_is, c.push_reserved-2.ensures.items, c.in-Ok-reserve.ensures.items, c.fresh.ensures) now.events
+
+pub returns-clause-cause : goal.returns-clause-cause
+returns-clause-cause c =
+    let absent = placed _ _ _ _ _ c.deref.ensures.value c.place_of.ensures (none-from _ _ c.is_some.ensures c.if-is_some.false) in
+    let none = hall-absent c.self.inside.history _ _ _ _ c.self.invariant.1 absent in
+    let jobs = hall-jobs c.self.inside.history _ _ _ _ _ _ c.self.invariant.1 c.deref-2.ensures.value c.jobs_of-jobs.ensures in
+    let tenants = hall-tenants c.self.inside.history _ _ _ c.self.invariant.1 in
+    let few = rw jobs at c.in_ok-tenants.ensures.few in
+    let others = rw (jobs, tenants) at c.in_ok-tenants.ensures.others in
+    rw (← c.self.view_is) (none, few, others)

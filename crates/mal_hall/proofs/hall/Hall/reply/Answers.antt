@@ -1,27 +1,53 @@
-use Rattle.std.proofs.Common.{◌≡◌, ◌∙◌, sym, ap, subst, Some, None, MatchOption}
+use Rattle.std.proofs.Common.{◌≡◌, subst, arith, Some, None, MatchOption}
+use Rattle.spec_job.specs.Solo.{Solo}
 use Rattle.spec_job.specs.Titled.{Key}
 use Rattle.spec_job.specs.Replies.{reply}
-use Rattle.mal_hall.specs.Seen.{Seen}
-use Rattle.mal_hall.proofs.HallLemmas.{same-key, hall-found, hall-solves, hall-refutes}
+use Rattle.mal_hall.proofs.HallLemmas.{placed, placed-below, sits, hall-absent, hall-found, hall-solves, hall-refutes, found-alone}
 use Rattle.mal_hall.proofs.hall.Hall.reply.Goals as goal
 
-pub returns-in-Ok-clause-models : goal.returns-in-Ok-clause-models
-returns-in-Ok-clause-models c = λ t found. hall-solves c.self.inside.history c.self.inside.job c.self.inside.listed c.args.self.now c.self.invariant.1 (ap (λ (s : Seen). s.events) (sym c.self.view_is)) _ t found
+pub returns-in_default-clause-no_job : goal.returns-in_default-clause-no_job
+returns-in_default-clause-no_job c = λ _.
+    rw (← c.self.view_is) (hall-absent c.self.inside.history _ _ _ _ c.self.invariant.1 (placed _ _ _ _ _ c.deref.ensures.value c.place_of.ensures c.in_default.is))
 
-pub returns-in-Err-clause-models : goal.returns-in-Err-clause-models
-returns-in-Err-clause-models c = λ t found. hall-solves c.self.inside.history c.self.inside.job c.self.inside.listed c.args.self.now c.self.invariant.1 (ap (λ (s : Seen). s.events) (sym c.self.view_is)) _ t found
+pub returns-in_default-clause-models : goal.returns-in_default-clause-models
+returns-in_default-clause-models c = rw (← c.self.view_is) (hall-solves c.self.inside.history _ _ _ c.self.invariant.1 _)
+
+pub returns-in_default-clause-proofs : goal.returns-in_default-clause-proofs
+returns-in_default-clause-proofs c = rw (← c.self.view_is) (hall-refutes c.self.inside.history _ _ _ c.self.invariant.1 _)
+
+pub index-requires : goal.index-requires
+index-requires c = omega (arith, placed-below _ _ _ _ _ c.deref.ensures.value c.place_of.ensures c.in-Some.is)
+
+pub returns-in-Ok-clause-models : goal.returns-in-Ok-clause-models
+returns-in-Ok-clause-models c = rw (← c.self.view_is) (hall-solves c.self.inside.history _ _ _ c.self.invariant.1 _)
 
 pub returns-in-Ok-clause-proofs : goal.returns-in-Ok-clause-proofs
-returns-in-Ok-clause-proofs c = λ t found. hall-refutes c.self.inside.history c.self.inside.job c.self.inside.listed c.args.self.now c.self.invariant.1 (ap (λ (s : Seen). s.events) (sym c.self.view_is)) _ t found
+returns-in-Ok-clause-proofs c = rw (← c.self.view_is) (hall-refutes c.self.inside.history _ _ _ c.self.invariant.1 _)
+
+pub returns-in-Err-clause-models : goal.returns-in-Err-clause-models
+returns-in-Err-clause-models c = rw (← c.self.view_is) (hall-solves c.self.inside.history _ _ _ c.self.invariant.1 _)
 
 pub returns-in-Err-clause-proofs : goal.returns-in-Err-clause-proofs
-returns-in-Err-clause-proofs c = λ t found. hall-refutes c.self.inside.history c.self.inside.job c.self.inside.listed c.args.self.now c.self.invariant.1 (ap (λ (s : Seen). s.events) (sym c.self.view_is)) _ t found
+returns-in-Err-clause-proofs c = rw (← c.self.view_is) (hall-refutes c.self.inside.history _ _ _ c.self.invariant.1 _)
 
 pub returns-in-Ok-clause-reply : goal.returns-in-Ok-clause-reply
 returns-in-Ok-clause-reply c =
-    let held = rw c.in-Some.is at c.self.invariant.1 in
-    let view = rw c.in-Some.is at c.self.view_is in
-    let named = sym c.is_named.ensures ∙ c.if-not-is_named.false in
-    let found = hall-found c.self.inside.history c.in-Some.held c.self.inside.listed c.args.tenant.now c.args.job.now c.args.self.now held (ap (λ (s : Seen). s.events) (sym view)) named in
-    let told = subst (λ (k : Key). MatchOption c.in-Ok.text (reply k c.args.r c.in-Some.held.state ≡ None) (λ text. reply k c.args.r c.in-Some.held.state ≡ Some text.items)) (same-key c.in-Some.held c.args.tenant.now c.args.job.now named) c.in-Ok.ensures in
-    (c.in-Some.held, found, told)
+    let here = sits _ _ _ _ _ _ c.deref.ensures.value c.place_of.ensures c.in-Some.is c.index.ensures in
+    let found = hall-found c.self.inside.history _ _ _ _ _ _ c.self.invariant.1 here in
+    let told = rw c.job.ensures at c.in-Ok.ensures in
+    let state = c.index.result.now.titled.state in (
+      c.index.result.now.titled,
+      rw (← c.self.view_is) found.job,
+      subst (λ (k : Key). MatchOption c.in-Ok.text (reply k c.args.r state ≡ None) (λ text. reply k c.args.r state ≡ Some text.items)) found.key told,
+    )
+
+pub returns-in-Err-clause-out_of_memory : goal.returns-in-Err-clause-out_of_memory
+returns-in-Err-clause-out_of_memory c = λ _.
+    let here = sits _ _ _ _ _ _ c.deref.ensures.value c.place_of.ensures c.in-Some.is c.index.ensures in
+    (c.index.result.now.titled, rw (← c.self.view_is) (hall-found c.self.inside.history _ _ _ _ _ _ c.self.invariant.1 here).job)
+
+pub returns-in-Ok-clause-alone : goal.returns-in-Ok-clause-alone
+returns-in-Ok-clause-alone c = λ other same.
+    let here = sits _ _ _ _ _ _ c.deref.ensures.value c.place_of.ensures c.in-Some.is c.index.ensures in
+    let found = hall-found c.self.inside.history _ _ _ _ _ _ c.self.invariant.1 here in
+    found-alone c.self.inside.history _ _ _ (λ (k : Key) (state : Solo). MatchOption c.in-Ok.text (reply k c.args.r state ≡ None) (λ text. reply k c.args.r state ≡ Some text.items)) found (rw c.job.ensures at c.in-Ok.ensures) other (rw (← c.self.view_is) at same)

@@ -1,72 +1,91 @@
-use Rattle.std.proofs.Common.{◌≡◌, true, refl, sym, ◌∙◌, [], ◌∷◌}
-use Rattle.mal_base.specs.Asks.{IsAsk}
-use Rattle.mal_base.specs.declared.verdict.Outcome.TheVariants.{Ran}
-use Rattle.spec_job.specs.Solo.{is_live}
-use Rattle.spec_hall.specs.Alone.{listed_volume, shares_of}
-use Rattle.spec_hall.specs.Events.{Balance, Start, Finish}
-use Rattle.mal_hall.proofs.HallLemmas.{held-balance, held-slice, balanced-events, sliced-events, balance-less, slice-less, beq-true, beq-false}
+use Rattle.std.proofs.Common.{◌≡◌, ◌∙◌, length, sym, arith}
+use Rattle.spec_hall.proofs.PlaceLemmas.{first-live}
+use Rattle.mal_hall.proofs.KeptLemmas.{set-same}
+use Rattle.mal_hall.proofs.TurnLemmas.{hall-done, hall-idle, leading, leading-below, leads, leads-volume, turns-wait, turned-balance, turned-slice, written-back}
 use Rattle.mal_hall.proofs.hall.Hall.turn.Goals as goal
 
-pub invariant_of-self-then-live-self : goal.invariant_of-self-then-live-self
-invariant_of-self-then-live-self c =
-    let i = c.self.invariant in
-    let held = rw c.in-Some.is at i.1 in
-    let same : is_live c.in-Some.job.state ≡ c.self.inside.listed = sym c.is_live-live.ensures ∙ beq-true _ _ c.if-live-self.true in (
-      c.in_ok-enter_slice.ensures.workers ∙ i.0,
-      rw c.in_ok-enter_slice.ensures.job (held-slice c.self.inside.history c.enter_slice.new.history c.in-Some.job c.self.inside.listed held same c.in_ok-enter_slice.ensures.startable c.in_ok-enter_slice.ensures.events c.in_ok-enter_slice.ensures.room),
-    )
+pub returns-then-is_done-clause-idle : goal.returns-then-is_done-clause-idle
+returns-then-is_done-clause-idle c = λ _.
+    let done = rw (c.deref.ensures.value, c.if-is_done.true) at c.is_done.ensures in
+    rw (← c.self.view_is) (hall-done c.self.inside.history _ _ _ c.self.invariant.1 (sym done))
 
-pub returns-then-live-self-clause-work : goal.returns-then-live-self-clause-work
-returns-then-live-self-clause-work c =
-    let i = c.self.invariant in
-    let held = rw c.in-Some.is at i.1 in
-    let view = rw c.in-Some.is at c.self.view_is in
-    let events = sliced-events c.self.inside.history c.enter_slice.new.history c.in-Some.job c.self.inside.listed held c.in_ok-enter_slice.ensures.events in
-    (Start c.in-Some.job.key 0 1 ∷ Finish c.in-Some.job.key 0 1 Ran ∷ [], rw (← view, c.in_ok-enter_slice.ensures.job) events, refl)
+pub invariant_of-self-then-is_due : goal.invariant_of-self-then-is_due
+invariant_of-self-then-is_due c =
+    let some = rw (c.deref.ensures.value, c.if-is_done.false) at c.is_done.ensures in
+    let due = rw (c.deref-2.ensures.value, c.if-is_due.true) at c.is_due.ensures in
+    let e = rw c.deref_mut.ensures.value at c.in_ok-enter_balance.ensures in
+    let len : c.self.inside.seats.len ≡ length c.self.inside.seats.items = omega arith in
+    let back = written-back _ _ _ len e.seats in
+    let turned = turned-balance c.self.inside.history c.enter_balance.new.history _ _ _ _ c.self.invariant.1 (sym some) (sym due) e.asks e.events back e.room in
+    (e.workers ∙ c.self.invariant.0, turned.hall)
 
-pub returns-then-live-self-clause-less : goal.returns-then-live-self-clause-less
-returns-then-live-self-clause-less c = λ _.
-    let i = c.self.invariant in
-    let held = rw c.in-Some.is at i.1 in
-    let view = rw c.in-Some.is at c.self.view_is in
-    let live : is_live c.in-Some.job.state ≡ true = sym c.is_live-live.ensures ∙ c.if-not-live.false in
-    let listed : c.self.inside.listed ≡ true = sym (beq-true _ _ c.if-live-self.true) ∙ c.if-not-live.false in
-    let after = held-slice c.self.inside.history c.enter_slice.new.history c.in-Some.job c.self.inside.listed held (live ∙ sym listed) c.in_ok-enter_slice.ensures.startable c.in_ok-enter_slice.ensures.events c.in_ok-enter_slice.ensures.room in
-    let now = rw (← c.in_ok-enter_slice.ensures.job) at after in
-    rw (← view) (slice-less _ _ c.in-Some.job c.enter_slice.new.job (rw listed at held.calm) (rw listed at now.calm) live c.in_ok-enter_slice.ensures.less)
+pub returns-then-is_due-clause-turns : goal.returns-then-is_due-clause-turns
+returns-then-is_due-clause-turns c =
+    let some = rw (c.deref.ensures.value, c.if-is_done.false) at c.is_done.ensures in
+    let due = rw (c.deref-2.ensures.value, c.if-is_due.true) at c.is_due.ensures in
+    let e = rw c.deref_mut.ensures.value at c.in_ok-enter_balance.ensures in
+    let len : c.self.inside.seats.len ≡ length c.self.inside.seats.items = omega arith in
+    let back = written-back _ _ _ len e.seats in
+    let turned = turned-balance c.self.inside.history c.enter_balance.new.history _ _ _ _ c.self.invariant.1 (sym some) (sym due) e.asks e.events back e.room in
+    rw (← c.self.view_is) turned.turns
+
+pub returns-then-is_due-clause-less : goal.returns-then-is_due-clause-less
+returns-then-is_due-clause-less c = λ _.
+    let some = rw (c.deref.ensures.value, c.if-is_done.false) at c.is_done.ensures in
+    let due = rw (c.deref-2.ensures.value, c.if-is_due.true) at c.is_due.ensures in
+    let e = rw c.deref_mut.ensures.value at c.in_ok-enter_balance.ensures in
+    let len : c.self.inside.seats.len ≡ length c.self.inside.seats.items = omega arith in
+    let back = written-back _ _ _ len e.seats in
+    let turned = turned-balance c.self.inside.history c.enter_balance.new.history _ _ _ _ c.self.invariant.1 (sym some) (sym due) e.asks e.events back e.room in
+    rw (← c.self.view_is) turned.less
+
+pub returns-in_default-clause-idle : goal.returns-in_default-clause-idle
+returns-in_default-clause-idle c = λ _.
+    rw (← c.self.view_is) (hall-idle c.self.inside.history _ _ _ c.self.invariant.1 (leading _ _ _ _ c.deref-3.ensures.value c.first_live.ensures c.in_default.is))
+
+pub index_mut-seat-requires : goal.index_mut-seat-requires
+index_mut-seat-requires c = omega (arith, leading-below _ _ _ _ c.deref-3.ensures.value c.first_live.ensures c.in-Some.is)
+
+pub enter_slice-requires-clause-live : goal.enter_slice-requires-clause-live
+enter_slice-requires-clause-live c =
+    let lead = leads _ _ _ _ _ c.deref-3.ensures.value c.first_live.ensures c.in-Some.is c.index_mut-seat.ensures.value in
+    first-live _ _ _ lead.first lead.seat
+
+pub enter_slice-requires-clause-volume : goal.enter_slice-requires-clause-volume
+enter_slice-requires-clause-volume c =
+    let calm = rw (c.deref-2.ensures.value, c.if-is_due.false) at c.is_due.ensures in
+    let lead = leads _ _ _ _ _ c.deref-3.ensures.value c.first_live.ensures c.in-Some.is c.index_mut-seat.ensures.value in
+    omega (arith, leads-volume c.self.inside.history _ _ _ _ _ c.self.invariant.1 (sym calm) lead)
+
+pub returns-in_err-enter_slice-clause-turns : goal.returns-in_err-enter_slice-clause-turns
+returns-in_err-enter_slice-clause-turns c =
+    let lead = leads _ _ _ _ _ c.deref-3.ensures.value c.first_live.ensures c.in-Some.is c.index_mut-seat.ensures.value in
+    let e = c.in_err-enter_slice.ensures in
+    rw (← c.self.view_is) (turns-wait c.self.inside.history c.enter_slice.new.history _ _ e.same_events (set-same _ _ _ _ lead.seat e.same_seat))
 
 pub invariant_of-self-2 : goal.invariant_of-self-2
 invariant_of-self-2 c =
-    let i = c.self.invariant in
-    let held = rw c.in-Some.is at i.1 in
-    let asked : IsAsk c.in-Some.job.state.ask = rw c.ask.ensures at c.priority.ensures.form in
-    let differs = beq-false c.is_live-live.result c.self.inside.listed c.if-live-self.false in
-    let events = rw (← c.is_live-live.ensures) at c.in_ok-enter_balance.ensures.events in
-    let job = rw (← c.is_live-live.ensures) at c.in_ok-enter_balance.ensures.job in (
-      c.in_ok-enter_balance.ensures.workers ∙ i.0,
-      rw job (held-balance c.self.inside.history c.enter_balance.new.history c.in-Some.job c.self.inside.listed c.is_live-live.result held asked (sym c.is_live-live.ensures) differs events c.in_ok-enter_balance.ensures.room),
-    )
+    let some = rw (c.deref.ensures.value, c.if-is_done.false) at c.is_done.ensures in
+    let calm = rw (c.deref-2.ensures.value, c.if-is_due.false) at c.is_due.ensures in
+    let lead = leads _ _ _ _ _ c.deref-3.ensures.value c.first_live.ensures c.in-Some.is c.index_mut-seat.ensures.value in
+    let e = c.in_ok-enter_slice.ensures in
+    let turned = turned-slice c.self.inside.history c.enter_slice.new.history _ _ _ _ _ _ c.self.invariant.1 (sym some) (sym calm) lead e.startable e.seat e.less e.events e.room in
+    (e.workers ∙ c.self.invariant.0, turned.hall)
 
-pub returns-clause-work : goal.returns-clause-work
-returns-clause-work c =
-    let i = c.self.invariant in
-    let held = rw c.in-Some.is at i.1 in
-    let view = rw c.in-Some.is at c.self.view_is in
-    let events = rw (← c.is_live-live.ensures) at c.in_ok-enter_balance.ensures.events in
-    let job = rw (← c.is_live-live.ensures) at c.in_ok-enter_balance.ensures.job in (
-      Balance (shares_of c.is_live-live.result c.in-Some.job.key) ∷ [],
-      rw (← view, job) (balanced-events c.self.inside.history c.enter_balance.new.history c.in-Some.job c.self.inside.listed c.is_live-live.result (listed_volume c.is_live-live.result) held events),
-      refl,
-    )
+pub returns-clause-turns : goal.returns-clause-turns
+returns-clause-turns c =
+    let some = rw (c.deref.ensures.value, c.if-is_done.false) at c.is_done.ensures in
+    let calm = rw (c.deref-2.ensures.value, c.if-is_due.false) at c.is_due.ensures in
+    let lead = leads _ _ _ _ _ c.deref-3.ensures.value c.first_live.ensures c.in-Some.is c.index_mut-seat.ensures.value in
+    let e = c.in_ok-enter_slice.ensures in
+    let turned = turned-slice c.self.inside.history c.enter_slice.new.history _ _ _ _ _ _ c.self.invariant.1 (sym some) (sym calm) lead e.startable e.seat e.less e.events e.room in
+    rw (← c.self.view_is) turned.turns
 
 pub returns-clause-less : goal.returns-clause-less
 returns-clause-less c = λ _.
-    let i = c.self.invariant in
-    let held = rw c.in-Some.is at i.1 in
-    let view = rw c.in-Some.is at c.self.view_is in
-    let asked : IsAsk c.in-Some.job.state.ask = rw c.ask.ensures at c.priority.ensures.form in
-    let differs = beq-false c.is_live-live.result c.self.inside.listed c.if-live-self.false in
-    let events = rw (← c.is_live-live.ensures) at c.in_ok-enter_balance.ensures.events in
-    let job = rw (← c.is_live-live.ensures) at c.in_ok-enter_balance.ensures.job in
-    let after = held-balance c.self.inside.history c.enter_balance.new.history c.in-Some.job c.self.inside.listed c.is_live-live.result held asked (sym c.is_live-live.ensures) differs events c.in_ok-enter_balance.ensures.room in
-    rw (← view, job) (balance-less _ _ c.in-Some.job c.self.inside.listed c.is_live-live.result (listed_volume c.is_live-live.result) held.calm after.calm (sym c.is_live-live.ensures) differs)
+    let some = rw (c.deref.ensures.value, c.if-is_done.false) at c.is_done.ensures in
+    let calm = rw (c.deref-2.ensures.value, c.if-is_due.false) at c.is_due.ensures in
+    let lead = leads _ _ _ _ _ c.deref-3.ensures.value c.first_live.ensures c.in-Some.is c.index_mut-seat.ensures.value in
+    let e = c.in_ok-enter_slice.ensures in
+    let turned = turned-slice c.self.inside.history c.enter_slice.new.history _ _ _ _ _ _ c.self.invariant.1 (sym some) (sym calm) lead e.startable e.seat e.less e.events e.room in
+    rw (← c.self.view_is) turned.less

@@ -1,0 +1,6 @@
+use Rattle.std.proofs.Common.{◌≡◌, ◌+◌, drop}
+use Rattle.spec_job.specs.Solo.{clauses_in}
+use Rattle.mal_hall.proofs.room.count_clauses.Given as goal
+
+abbrev pub invariant-loop-revision : goal.invariant-loop-revision
+invariant-loop-revision l = l.count + clauses_in (drop l.revision-index l.revisions) ≡ clauses_in l.revisions

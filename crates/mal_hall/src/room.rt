@@ -1,0 +1,120 @@
+//! Whether a hall takes a further job, and a job a further revision.
+
+ghost use Rattle.std.specs.Prelude.{◌≡◌, ◌+◌, ◌<◌, ◌≤◌, ◌^◌, true, false, ◌==◌, if◌then◌else◌, List, length, Some, None, Err, MatchOption, IfOk, IfErr};
+ghost use Rattle.mal_base.specs.Formulas.{literals_of};
+ghost use Rattle.mal_revision.specs.Posted.{is_posted};
+ghost use Rattle.spec_job.specs.Solo.{clauses_in};
+ghost use Rattle.spec_hall.specs.Legal.{literals_in};
+ghost use Rattle.mal_hall.specs.Causes.{OpenCause, ReviseCause};
+ghost use Rattle.mal_hall.specs.Room.{HasRoomFor, IsOver};
+ghost use Rattle.spec_hall.specs.Legal.{job_of, jobs_of, tenant_count};
+ghost use Rattle.spec_job.specs.Titled.{Key, Titled};
+
+use crate::fault::{OpenFault, ReviseFault};
+use mal_base::{Clause, Which};
+use mal_job::Job;
+use mal_revision::Revision;
+
+/// How many tenants a hall with so many tenants has after a further job of a tenant with so many jobs, or why it does not
+/// take the job: the tenant has 64 jobs, or there are 64 other tenants.
+pub fn tenants_after(tenants: usize, jobs: usize) -> Result<usize, OpenFault>
+    ensures count { IfOk result (λ n. n ≡ tenants + (if 0 == jobs then 1 else 0)) }
+    ensures few { IfOk result (λ n. jobs < 64) }
+    ensures others { IfOk result (λ n. jobs ≡ 0 → tenants < 64) }
+    ensures refusal { IfErr result (λ fault. (k : Key) (ts : List Titled) → job_of k ts ≡ None → jobs ≡ jobs_of k.tenant ts → tenants ≡ tenant_count ts → OpenCause k ts (Err fault)) }
+{
+    if jobs >= 64 {
+        return Err(OpenFault::TenantFull);
+    }
+    if jobs > 0 {
+        return Ok(tenants);
+    }
+    if tenants >= 64 {
+        return Err(OpenFault::HallFull);
+    }
+    Ok(tenants + 1)
+}
+
+/// The number of a job's next revision, or why the job does not take it: it is closed, it has 256 revisions, or it has no
+/// room for the clauses or the literals.
+pub fn next_number(job: &Job, revision: &Revision) -> Result<u32, ReviseFault>
+    ensures open { IfOk result (λ n. job.now.state.closed ≡ false) }
+    ensures number { IfOk result (λ n. n ≡ length job.now.state.revisions + 1) }
+    ensures few { IfOk result (λ n. length job.now.state.revisions < 256) }
+    ensures room { IfOk result (λ n. HasRoomFor job.now.state.revisions revision.now) }
+    ensures form { is_posted revision.now ≡ true }
+    ensures refusal { IfErr result (λ fault. (k : Key) (jobs : List Titled) → job_of k jobs ≡ Some job.now → ReviseCause k jobs revision.now (Err fault)) }
+{
+    let _ = revision.clauses();
+    if job.is_closed() {
+        return Err(ReviseFault::Closed);
+    }
+    let posted = job.revisions().len();
+    if posted == 256 {
+        return Err(ReviseFault::RevisionsFull);
+    }
+    match limit_passed(job.revisions(), revision) {
+        Some(which) => Err(ReviseFault::JobFull { which }),
+        None => Ok(posted as u32 + 1),
+    }
+}
+
+/// Which limit of a job a further revision would pass: 2^20 clauses, then 2^24 literals, over all revisions.
+fn limit_passed(revisions: &[Revision], revision: &Revision) -> Option<Which>
+    requires few { length revisions.now ≤ 256 }
+    requires clauses { clauses_in revisions.now ≤ 2 ^ 20 }
+    ensures limit { MatchOption result (HasRoomFor revisions.now revision.now) (λ which. IsOver which revisions.now revision.now) }
+    ensures form { is_posted revision.now ≡ true }
+{
+    let clauses = count_clauses(revisions) + revision.clauses().len() as u64;
+    if clauses > 1_048_576 {
+        return Some(Which::Clauses);
+    }
+    let literals = count_literals(revisions) + literals_among(revision.clauses()) as u64;
+    if literals > 16_777_216 {
+        return Some(Which::Literals);
+    }
+    None
+}
+
+/// The number of the clauses of these revisions, at most 2^20.
+fn count_clauses(revisions: &[Revision]) -> u64
+    requires { clauses_in revisions.now ≤ 2 ^ 20 }
+    ensures value { result ≡ clauses_in revisions.now }
+    ensures bound { result ≤ 2 ^ 20 }
+{
+    let mut count = 0;
+    for revision in revisions {
+        count += revision.clauses().len() as u64;
+    }
+    count
+}
+
+/// How many literals the clauses of these revisions have, of which there are 256 at most.
+fn count_literals(revisions: &[Revision]) -> u64
+    requires { length revisions.now ≤ 256 }
+    ensures value { result ≡ literals_in revisions.now }
+    ensures bound { result ≤ 2 ^ 32 }
+{
+    let mut count = 0;
+    for revision in revisions {
+        count += literals_among(revision.clauses()) as u64;
+    }
+    count
+}
+
+/// How many literals the clauses have, at most 2^24.
+fn literals_among(clauses: &[Option<Clause>]) -> usize
+    requires { literals_of clauses.now ≤ 2 ^ 24 }
+    ensures value { result ≡ literals_of clauses.now }
+    ensures bound { result ≤ 2 ^ 24 }
+{
+    let mut count = 0;
+    for clause in clauses {
+        match clause {
+            None => {}
+            Some(clause) => count += clause.lits().len(),
+        }
+    }
+    count
+}
