@@ -3,8 +3,8 @@
 ghost use Rattle.std.specs.Prelude.{List, IfOk};
 ghost use Rattle.spec_hall.specs.Events.{Event};
 ghost use Rattle.spec_run.specs.Run.{IsRun};
+ghost use Rattle.spec_script.specs.Formed.{IsScript};
 ghost use Rattle.spec_script.specs.Limits.{served};
-ghost use Rattle.spec_script.specs.Within.{IsWithin};
 
 use mal_pool::{replies, run_all};
 use mal_script::Script;
@@ -19,7 +19,7 @@ pub struct Ran {
 
 /// Runs a script with one worker, and makes the texts of its history and its replies.
 pub fn run_script(alloc: Global, script: &Script) -> Result<Ran, AllocError>
-    requires { IsWithin served script.now }
+    requires { IsScript served script.now }
     ensures { IfOk result (λ r. (history : List Event) × IsRun 1 script.now history r.log.items r.out.items) }
 {
     let hall = run_all(alloc, script)?;

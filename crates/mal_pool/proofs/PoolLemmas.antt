@@ -1,201 +1,118 @@
-use Rattle.std.proofs.Common.{get_or}
-use Rattle.spec_job.specs.Replies.{reply}
-use Rattle.spec_run.specs.Run.{text_or_none, replies, job_replies}
-use Rattle.mal_pool.specs.Posts.{first_reply}
-use Rattle.std.proofs.Common.{◌≡◌, ℕ, ◌+◌, ◌<◌, ◌≤◌, Bool, true, false, ◌&&◌, cond, List, [], ◌∷◌, ◌++◌, length, map, filter, flat_map, fold, find, Option, Some, None, refl, sym, ◌∙◌, ap, arith, append-nil, append_assoc, subst}
-use Rattle.std.specs.List.{list_all}
-use Rattle.std.proofs.lemmas.List.Sums.{fold-append}
-use Rattle.std.proofs.lemmas.List.Elements.{filter-append}
-use Rattle.mal_base.specs.Asks.{Terms}
-use Rattle.mal_revision.specs.Posted.{Posted}
-use Rattle.mal_hall.specs.Seen.{Seen}
-use Rattle.mal_hall.specs.Work.{is_work, AreWork}
-use Rattle.spec_job.specs.Solo.{Solo, Opened, Revised, unopened, solo, solo_step}
-use Rattle.spec_job.specs.Titled.{Key, Titled, stepped}
-use Rattle.spec_hall.specs.Events.{Event, Open, Revise, Close, Balance, Start, Finish, Exchange}
-use Rattle.spec_hall.specs.Own.{own, is_key, is_text}
-use Rattle.spec_hall.specs.States.{keys_of, keys_step, states, titled, lives, leases}
-use Rattle.spec_hall.specs.Legal.{Legal, job_of}
-use Rattle.spec_hall.specs.Alone.{IsAlone}
-use Rattle.spec_hall.proofs.KeyLemmas.{is_key-same}
-use Rattle.spec_hall.proofs.AloneLemmas.{alone-step, alone-states, adds-mine}
-use Rattle.spec_hall.proofs.RunnableLemmas.{find-titled}
-use Rattle.spec_run.specs.Complete.{IsComplete, is_post_of, key_of_job, revise_events, posts_of}
-use Rattle.spec_script.specs.Script.{ScriptedJob, Scripted}
+-- What the hall's calls say, for a script that is posted and answered.
+use Rattle.std.proofs.Common.{◌≡◌, ℕ, zero, suc, ◌+◌, ◌<◌, ◌≤◌, true, false, List, [], ◌∷◌, ◌++◌, length, map, take, get_or, flat_map, Option, Some, None, sym, ◌∙◌, ap, arith, append-nil, append_assoc, subst}
+use Rattle.std.specs.List.{list_any}
+use Rattle.std.specs.Option.{option_map_or}
+use Rattle.std.proofs.lemmas.List.{take_all, take_more, length-take-le, flat_map_more}
+use Rattle.mal_hall.specs.Seen.{Seen, next_number}
 use Rattle.mal_pool.specs.Posts.{IsKnown, AreKnown, HasRun}
+use Rattle.mal_revision.specs.Posted.{Posted}
+use Rattle.spec_job.specs.Replies.{reply}
+use Rattle.spec_job.specs.Solo.{Solo, solo}
+use Rattle.spec_job.specs.Titled.{Key, Titled}
+use Rattle.spec_hall.specs.Events.{Event, Revise}
+use Rattle.spec_hall.specs.Driven.{GrowsByTurns}
+use Rattle.spec_hall.specs.Own.{own, is_key}
+use Rattle.spec_hall.specs.States.{keys_of, states, titled, lives, leases}
+use Rattle.spec_hall.specs.Legal.{Legal, job_of}
+use Rattle.spec_hall.proofs.RunnableLemmas.{find-titled}
+use Rattle.spec_run.specs.Complete.{key_of_job, script_events}
+use Rattle.spec_run.specs.Posting.{IsOpen}
+use Rattle.spec_run.specs.Run.{text_or_none, replies_from, job_replies, replies}
+use Rattle.spec_run.proofs.KeyLemmas.{among-keys, among-parts, job-found}
+use Rattle.spec_run.proofs.OpenLemmas.{open-found, revised-is_open}
+use Rattle.spec_run.proofs.PostingLemmas.{take-one}
+use Rattle.spec_run.proofs.CompleteLemmas.{grown-keys, grown-driven, grown-complete}
+use Rattle.spec_script.specs.Script.{ScriptedJob, Scripted}
 
--- a job that was just opened
-alone-opened : (k : Key) (ask : Terms) → IsAlone (Open k ask ∷ []) (record { key = k; state = solo_step unopened (Opened ask) })
-alone-opened k ask = record { key = refl; state = rw (is_key-same k) refl }
+-- the number of the next revision of a job that is open
+pub next-number : (k : Key) (rs : List Posted) (h : List Event) → IsOpen k rs h → next_number k h ≡ length rs + 1
+next-number k rs h is =
+    ap (λ (o : Option Titled). option_map_or (λ t. length t.state.revisions + 1) o 1) (open-found k rs h is)
+    ∙ ap (λ (x : List Posted). length x + 1) is.posted
 
--- the job of a hall with one job is found under its key
-known : (h : List Event) (t : Titled) → IsAlone h t → job_of t.key (states h) ≡ Some t
-known h t alone = ap (job_of t.key) (alone-states h t alone) ∙ rw (is_key-same t.key) refl
+pub next-place : (k : Key) (rs : List Posted) (i : ℕ) (h : List Event) → IsOpen k (take i rs) h → i < length rs → next_number k h ≡ i + 1
+next-place k rs i h is low = next-number k (take i rs) h is ∙ ap (λ (n : ℕ). n + 1) (length-take-le i rs (omega arith))
 
--- a job that was opened is found, and is open
-pub record IsFresh (k : Key) (h : List Event) : Type 0 where
-  pub job : Titled
-  pub found : job_of k (states h) ≡ Some job
-  pub unclosed : job.state.closed ≡ false
-  pub unrevised : length job.state.revisions ≡ 0
-
-pub opened-fresh : (k : Key) (ask : Terms) (h : List Event) → h ≡ Open k ask ∷ [] → IsFresh k h
-opened-fresh k ask h e = rw e (record { job = record { key = k; state = solo_step unopened (Opened ask) }; found = known (Open k ask ∷ []) (record { key = k; state = solo_step unopened (Opened ask) }) (alone-opened k ask); unclosed = refl; unrevised = refl })
-
--- a job that was opened and has its revision is found, and is open
-pub record IsOpen (k : Key) (h : List Event) : Type 0 where
-  pub job : Titled
-  pub found : job_of k (states h) ≡ Some job
-  pub unclosed : job.state.closed ≡ false
-
-pub revised-open : (k : Key) (ask : Terms) (rs : List Posted) (h : List Event) → length rs ≤ 1 → h ≡ Open k ask ∷ [] ++ revise_events k 1 rs → IsOpen k h
-revised-open k ask [] h few e = let fresh : IsFresh k h = opened-fresh k ask h e in record { job = fresh.job; found = fresh.found; unclosed = fresh.unclosed }
-revised-open k ask (r ∷ []) h few e =
-    let t : Titled = record { key = k; state = solo_step unopened (Opened ask) } in
-    let alone : IsAlone (Open k ask ∷ [] ++ Revise k 1 r ∷ []) (stepped t (Revised r)) = alone-step (Open k ask ∷ []) t (Revise k 1 r) (Revised r) (alone-opened k ask) refl (adds-mine k (own k (Open k ask ∷ [])) (Revised r)) in
-    rw e (record { job = stepped t (Revised r); found = known (Open k ask ∷ [] ++ Revise k 1 r ∷ []) (stepped t (Revised r)) alone; unclosed = refl })
-revised-open k ask (r ∷ (q ∷ qs)) h few e = absurd (omega arith)
-
--- a job that is found is not missing
-pub not-missing : (k : Key) (h : List Event) (t : Titled) → job_of k (states h) ≡ Some t → job_of k (states h) ≡ None → ⊥
-not-missing k h t found none = some-not-none (sym found ∙ none)
+-- a job that is open is neither missing nor closed
+pub open-not_missing : (k : Key) (rs : List Posted) (h : List Event) → IsOpen k rs h → job_of k (states h) ≡ None → ⊥
+open-not_missing k rs h is none = some-not-none (titled h k) (sym (open-found k rs h is) ∙ none)
   where
-    some-not-none : Some t ≡ None → ⊥
-    some-not-none e = cc
+    some-not-none : (t : Titled) → Some t ≡ None → ⊥
+    some-not-none t e = cc
 
--- a job that is found open is not found closed
-pub not-closed : (k : Key) (h : List Event) (t u : Titled) → job_of k (states h) ≡ Some t → t.state.closed ≡ false → job_of k (states h) ≡ Some u → u.state.closed ≡ true → ⊥
-not-closed k h t u found open_still found_too closed = true-not-false (sym closed ∙ (ap (λ (x : Titled). x.state.closed) (same (sym found_too ∙ found)) ∙ open_still))
+pub open-not_closed : (k : Key) (rs : List Posted) (h : List Event) → IsOpen k rs h → (t : Titled) → job_of k (states h) ≡ Some t → t.state.closed ≡ true → ⊥
+open-not_closed k rs h is t found closed =
+    true-not-false (sym closed ∙ (ap (λ (x : Titled). x.state.closed) (sym (find-titled h k (keys_of h) t found)) ∙ is.unclosed))
   where
-    same : Some u ≡ Some t → u ≡ t
-    same e = cc
-
     true-not-false : true ≡ false → ⊥
     true-not-false e = cc
 
--- what the hall enters by itself opens no job
-work-keys : (es : List Event) (keys : List Key) → AreWork es → fold keys_step keys es ≡ keys
-work-keys [] keys work = refl
-work-keys (Open k ask ∷ es) keys work = absurd (cc)
-work-keys (Revise k n r ∷ es) keys work = absurd (cc)
-work-keys (Close k ∷ es) keys work = absurd (cc)
-work-keys (Balance v ∷ es) keys work = work-keys es keys work
-work-keys (Start k i w ∷ es) keys work = work-keys es keys work
-work-keys (Finish k i w o ∷ es) keys work = work-keys es keys work
-work-keys (Exchange k ∷ es) keys work = work-keys es keys work
+-- the job of a key after one revision more
+pub revised-on : (k : Key) (rs : List Posted) (h after : List Event) (i n : ℕ) (r : Posted) → IsOpen k (take i rs) h → after ≡ h ++ Revise k n r ∷ [] → i < length rs → r ≡ get_or rs i r → IsOpen k (take (i + 1) rs) after
+revised-on k rs h after i n r is step low at =
+    subst (λ (x : List Posted). IsOpen k x after) (sym (take-one rs i r low at)) (subst (λ (x : List Event). IsOpen k (take i rs ++ r ∷ []) x) (sym step) (revised-is_open k (take i rs) h n r is))
 
--- nor does any tenant post it
-work-posts : (tenant : List ℕ) (es : List Event) → AreWork es → filter (is_post_of tenant) es ≡ []
-work-posts tenant [] work = refl
-work-posts tenant (Open k ask ∷ es) work = absurd (cc)
-work-posts tenant (Revise k n r ∷ es) work = absurd (cc)
-work-posts tenant (Close k ∷ es) work = absurd (cc)
-work-posts tenant (Balance v ∷ es) work = work-posts tenant es work
-work-posts tenant (Start k i w ∷ es) work = work-posts tenant es work
-work-posts tenant (Finish k i w o ∷ es) work = work-posts tenant es work
-work-posts tenant (Exchange k ∷ es) work = work-posts tenant es work
+-- the jobs of a script are known to a history that has their keys
+known-all : (h : List Event) (before js : List ScriptedJob) → keys_of h ≡ map key_of_job (before ++ js) → AreKnown h js
+known-all h before [] keys = tt
+known-all h before (j ∷ js) keys = (
+  (titled h (key_of_job j), job-found h (key_of_job j) (ap (λ (ks : List Key). list_any (is_key (key_of_job j)) ks) keys ∙ (among-keys (key_of_job j) (before ++ j ∷ js) ∙ among-parts before j js))),
+  known-all h (before ++ j ∷ []) js (keys ∙ ap (map key_of_job) (sym (append_assoc before (j ∷ []) js))),
+)
 
--- the posts of a job
-posted : ScriptedJob → List Posted → List Event
-posted j rs = (Open (key_of_job j) j.ask ∷ [] ++ revise_events (key_of_job j) 1 rs) ++ Close (key_of_job j) ∷ []
-
--- what each tenant posts by a script of one job with one revision or none
-tenant-posts : (tenant : List ℕ) (j : ScriptedJob) (rs : List Posted) → length rs ≤ 1 → j.revisions ≡ rs → filter (is_post_of tenant) (posted j rs) ≡ posts_of tenant (record { jobs = j ∷ [] })
-unfolding posted
-tenant-posts tenant j [] few is = by_test (is_text tenant j.tenant) refl
-  where
-    by_test : (b : Bool) → is_text tenant j.tenant ≡ b → filter (is_post_of tenant) (posted j []) ≡ posts_of tenant (record { jobs = j ∷ [] })
-    by_test true e = rw (e, is) refl
-    by_test false e = rw e refl
-tenant-posts tenant j (r ∷ []) few is = by_test (is_text tenant j.tenant) refl
-  where
-    by_test : (b : Bool) → is_text tenant j.tenant ≡ b → filter (is_post_of tenant) (posted j (r ∷ [])) ≡ posts_of tenant (record { jobs = j ∷ [] })
-    by_test true e = rw (e, is) refl
-    by_test false e = rw e refl
-tenant-posts tenant j (r ∷ (q ∷ qs)) few is = absurd (omega arith)
-
--- they open the job
-posted-keys : (j : ScriptedJob) (rs : List Posted) → length rs ≤ 1 → fold keys_step [] (posted j rs) ≡ key_of_job j ∷ []
-unfolding posted
-posted-keys j [] few = refl
-posted-keys j (r ∷ []) few = refl
-posted-keys j (r ∷ (q ∷ qs)) few = absurd (omega arith)
-
--- a hall has run a script of one job with one revision or none: it was posted, and all that follows is the hall's own work
-pub has-run : (h : Seen) (j : ScriptedJob) (es : List Event) → length j.revisions ≤ 1 → h.events ≡ ((Open (key_of_job j) j.ask ∷ [] ++ revise_events (key_of_job j) 1 j.revisions) ++ Close (key_of_job j) ∷ []) ++ es → AreWork es → h.workers ≡ 1 → Legal h.workers h.events → lives (states h.events) ≡ [] → leases h.events ≡ [] → HasRun (record { jobs = j ∷ [] }) h
-unfolding posted
-has-run h j es few events work workers legal answered home =
-    let posts : h.events ≡ posted j j.revisions ++ es = events in
-    let keys : keys_of h.events ≡ key_of_job j ∷ [] = ap keys_of posts ∙ (fold-append keys_step [] (posted j j.revisions) es ∙ (ap (λ (x : List Key). fold keys_step x es) (posted-keys j j.revisions few) ∙ work-keys es (key_of_job j ∷ []) work)) in
-    let jobs : states h.events ≡ titled h.events (key_of_job j) ∷ [] = ap (map (titled h.events)) keys in
-    let found : job_of (key_of_job j) (states h.events) ≡ Some (titled h.events (key_of_job j)) = ap (job_of (key_of_job j)) jobs ∙ rw (is_key-same (key_of_job j)) refl in
-    record {
-      workers = workers;
-      legal = legal;
-      complete = record {
-        posts = λ tenant. ap (filter (is_post_of tenant)) posts ∙ (filter-append (is_post_of tenant) (posted j j.revisions) es ∙ (ap (λ (x : List Event). filter (is_post_of tenant) (posted j j.revisions) ++ x) (work-posts tenant es work) ∙ (append-nil (filter (is_post_of tenant) (posted j j.revisions)) ∙ tenant-posts tenant j j.revisions few refl)));
-        answered = answered;
-        home = home;
-      };
-      known = ((titled h.events (key_of_job j), found), tt);
-    }
-
--- a hall has run a script without a job: all is the hall's own work
-pub has-run-none : (h : Seen) (es : List Event) → h.events ≡ es → AreWork es → h.workers ≡ 1 → Legal h.workers h.events → lives (states h.events) ≡ [] → leases h.events ≡ [] → HasRun (record { jobs = [] }) h
-has-run-none h es events work workers legal answered home = record {
+-- a hall in which a script was posted and that went on by turns until no job was live has run it
+pub has-run : (s : Scripted) (h : Seen) → h.workers ≡ 1 → Legal h.workers h.events → GrowsByTurns 1 (script_events s) h.events → lives (states h.events) ≡ [] → leases h.events ≡ [] → HasRun s h
+has-run s h workers legal grows answered home = record {
   workers = workers;
   legal = legal;
-  complete = record { posts = λ tenant. ap (filter (is_post_of tenant)) events ∙ work-posts tenant es work; answered = answered; home = home };
-  known = tt;
+  complete = grown-complete 1 s h.events grows answered home;
+  driven = grown-driven 1 s h.events grows answered;
+  known = known-all h.events [] s.jobs (grown-keys 1 s h.events grows);
 }
 
--- a script of one job or none
-pub script-none : (s : Scripted) → s.jobs ≡ [] → record { jobs = [] } ≡ s
-script-none s e = ap script (sym e)
-  where
-    script : List ScriptedJob → Scripted
-    script x = record { jobs = x }
-
-pub script-one : (s : Scripted) (j : ScriptedJob) → s.jobs ≡ j ∷ [] → record { jobs = j ∷ [] } ≡ s
-script-one s j e = ap script (sym e)
-  where
-    script : List ScriptedJob → Scripted
-    script x = record { jobs = x }
-
--- the reply of the machine that is found under a key is that of the machine run alone on the key's own events
-pub found-state : (k : Key) (h : List Event) (t : Titled) → job_of k (states h) ≡ Some t → solo (own k h) ≡ t.state
-found-state k h t found = ap (λ (x : Titled). x.state) (find-titled h k (keys_of h) t found)
+-- each job of a script that was run is known
+pub known-at : (h : List Event) (js : List ScriptedJob) (i : ℕ) (j : ScriptedJob) → AreKnown h js → i < length js → j ≡ get_or js i j → IsKnown h j
+known-at h [] i j are low is = absurd (omega arith)
+known-at h (k ∷ ks) zero j are low is = subst (λ (x : ScriptedJob). IsKnown h x) (sym is) are.0
+known-at h (k ∷ ks) (suc i) j are low is = known-at h ks i j are.1 (omega arith) is
 
 -- the reply of a job that is found
-pub reply-is : (k : Key) (h : List Event) (t : Titled) (v : Option (List ℕ)) → job_of k (states h) ≡ Some t → reply k 1 t.state ≡ v → text_or_none (reply k 1 (solo (own k h))) ≡ text_or_none v
-reply-is k h t v found e = ap (λ (s : Solo). text_or_none (reply k 1 s)) (found-state k h t found) ∙ ap text_or_none e
+pub reply-is : (k : Key) (n : ℕ) (h : List Event) (t : Titled) (v : Option (List ℕ)) → job_of k (states h) ≡ Some t → reply k n t.state ≡ v → text_or_none (reply k n (solo (own k h))) ≡ text_or_none v
+reply-is k n h t v found e =
+    ap (λ (x : Titled). text_or_none (reply k n x.state)) (find-titled h k (keys_of h) t found) ∙ ap text_or_none e
 
--- the replies to a job with one revision
-pub replies-one : (h : List Event) (j : ScriptedJob) (rs : List Posted) → j.revisions ≡ rs → length rs ≤ 1 → 0 < length rs → first_reply h j ≡ job_replies h j
-replies-one h j [] is few some = absurd (omega arith)
-replies-one h j (r ∷ []) is few some = rw is (sym (append-nil (first_reply h j)))
-replies-one h j (r ∷ (q ∷ qs)) is few some = absurd (omega arith)
+-- the replies to one revision more
+replies-more : (k : Key) (n : ℕ) (s : Solo) (ps : List Posted) (p : Posted) → replies_from k n s (ps ++ p ∷ []) ≡ replies_from k n s ps ++ text_or_none (reply k (n + length ps) s)
+replies-more k n s [] p = append-nil (text_or_none (reply k n s)) ∙ ap (λ (m : ℕ). text_or_none (reply k m s)) (plus-zero n)
+  where
+    plus-zero : (m : ℕ) → m ≡ m + 0
+    plus-zero m = omega arith
+replies-more k n s (q ∷ qs) p =
+    ap (λ (x : List ℕ). text_or_none (reply k n s) ++ x) (replies-more k (n + 1) s qs p ∙ ap (λ (m : ℕ). replies_from k (n + 1) s qs ++ text_or_none (reply k m s)) (plus-one n (length qs)))
+    ∙ sym (append_assoc (text_or_none (reply k n s)) (replies_from k (n + 1) s qs) (text_or_none (reply k (n + suc (length qs)) s)))
+  where
+    plus-one : (m l : ℕ) → (m + 1) + l ≡ m + suc l
+    plus-one m l = omega arith
 
--- the replies to a job without a revision
-pub replies-none : (h : List Event) (j : ScriptedJob) (rs : List Posted) → j.revisions ≡ rs → length rs ≡ 0 → [] ≡ job_replies h j
-replies-none h j [] is none = rw is refl
-replies-none h j (r ∷ rs) is none = absurd (omega arith)
+pub put-more : (k : Key) (s : Solo) (rs : List Posted) (i n : ℕ) (old text after : List ℕ) → text ≡ old ++ replies_from k 1 s (take i rs) → after ≡ text ++ text_or_none (reply k n s) → n ≡ i + 1 → i < length rs → after ≡ old ++ replies_from k 1 s (take (i + 1) rs)
+put-more k s rs i n old text after e step number low =
+    let r : Posted = get_or rs i (record { variables = 0; clauses = []; assumptions = [] }) in
+    let count : length (take i rs) ≡ i = length-take-le i rs (omega arith) in
+    let place : n ≡ 1 + length (take i rs) = omega arith in
+    step ∙ (ap (λ (x : List ℕ). x ++ text_or_none (reply k n s)) e
+    ∙ (append_assoc old (replies_from k 1 s (take i rs)) (text_or_none (reply k n s))
+    ∙ ap (λ (x : List ℕ). old ++ x) (ap (λ (m : ℕ). replies_from k 1 s (take i rs) ++ text_or_none (reply k m s)) place
+    ∙ (sym (replies-more k 1 s (take i rs) r) ∙ ap (replies_from k 1 s) (sym (take_more rs i (record { variables = 0; clauses = []; assumptions = [] }) low))))))
 
--- the replies to a script of one job
-pub replies-job : (s : Scripted) (h : List Event) (j : ScriptedJob) → s.jobs ≡ j ∷ [] → job_replies h j ≡ replies s h
+pub put-all : (k : Key) (s : Solo) (rs : List Posted) (i : ℕ) (old text : List ℕ) → text ≡ old ++ replies_from k 1 s (take i rs) → length rs ≤ i → text ≡ old ++ replies_from k 1 s rs
+put-all k s rs i old text e all = e ∙ ap (λ (x : List Posted). old ++ replies_from k 1 s x) (take_all i rs all)
+
+-- the replies to one job more
+pub replied-more : (h : List Event) (js : List ScriptedJob) (i : ℕ) (j : ScriptedJob) (text after : List ℕ) → text ≡ flat_map (job_replies h) (take i js) → after ≡ text ++ job_replies h j → i < length js → j ≡ get_or js i j → after ≡ flat_map (job_replies h) (take (i + 1) js)
+replied-more h js i j text after e step low is =
+    step ∙ (ap (λ (x : List ℕ). x ++ job_replies h j) e
+    ∙ (flat_map_more (job_replies h) [] (take i js) j ∙ ap (flat_map (job_replies h)) (sym (take-one js i j low is))))
+
+pub replied-all : (s : Scripted) (h : List Event) (js : List ScriptedJob) (i : ℕ) (text : List ℕ) → js ≡ s.jobs → text ≡ flat_map (job_replies h) (take i js) → length js ≤ i → text ≡ replies s h
 unfolding replies
-replies-job s h j e = rw e (sym (append-nil (job_replies h j)))
-
-pub replies-nothing : (s : Scripted) (h : List Event) → s.jobs ≡ [] → [] ≡ replies s h
-unfolding replies
-replies-nothing s h e = rw e refl
-
--- a list of at most one that has this first item
-pub only-job : (js : List ScriptedJob) (j : ScriptedJob) → length js ≤ 1 → 0 < length js → j ≡ get_or js 0 j → js ≡ j ∷ []
-only-job [] j few some first = absurd (omega arith)
-only-job (i ∷ []) j few some first = ap (λ (x : ScriptedJob). x ∷ []) (sym first)
-only-job (i ∷ (k ∷ ks)) j few some first = absurd (omega arith)
-
-pub no-jobs : (js : List ScriptedJob) → length js < 1 → js ≡ []
-no-jobs [] few = refl
-no-jobs (j ∷ js) few = absurd (omega arith)
+replied-all s h js i text is e all = e ∙ ap (flat_map (job_replies h)) (take_all i js all ∙ is)

@@ -1,45 +1,57 @@
 //! The replies to a script that was run.
 
-ghost use Rattle.std.specs.Prelude.{◌≡◌, ◌≤◌, length, IfOk};
-ghost use Rattle.mal_pool.specs.Posts.{HasRun, IsKnown, first_reply};
+ghost use Rattle.std.specs.Prelude.{◌≡◌, ◌++◌, ◌≤◌, length, IfOk, OnOk};
+ghost use Rattle.mal_pool.specs.Posts.{HasRun, IsKnown, reply_to};
 ghost use Rattle.spec_run.specs.Run.{replies, job_replies};
+ghost use Rattle.spec_script.specs.Formed.{IsScript};
 ghost use Rattle.spec_script.specs.Limits.{served};
-ghost use Rattle.spec_script.specs.Within.{IsWithin};
 
 use mal_hall::{Hall, ReplyFault};
 use mal_script::{Script, ScriptJob};
 use std::alloc::{AllocError, Global};
 
-/// The replies to a script that a hall has run.
+/// The replies to a script that a hall has run, job by job and revision by revision.
 pub fn replies(alloc: Global, hall: &Hall, script: &Script) -> Result<Vec<u8>, AllocError>
-    requires within { IsWithin served script.now }
+    requires formed { IsScript served script.now }
     requires run { HasRun script.now hall.now }
     ensures { IfOk result (λ v. v.items ≡ replies script.now hall.now.events) }
 {
-    match script.jobs() {
-        [] => Ok(Vec::new(alloc)),
-        [job, ..] => replies_to(alloc, hall, job),
+    let mut text = Vec::new(alloc);
+    for job in script.jobs() {
+        put_replies(alloc, hall, job, &mut text)?;
     }
+    Ok(text)
 }
 
-/// The reply to the one revision of a job, where it has one.
-fn replies_to(alloc: Global, hall: &Hall, job: &ScriptJob) -> Result<Vec<u8>, AllocError>
-    requires few { length job.now.revisions ≤ 1 }
+/// Writes the replies to the revisions of a job.
+fn put_replies(
+    alloc: Global,
+    hall: &Hall,
+    job: &ScriptJob,
+    text: &mut Vec<u8>,
+) -> Result<(), AllocError>
+    requires few { length job.now.revisions ≤ 256 }
     requires known { IsKnown hall.now.events job.now }
-    ensures { IfOk result (λ v. v.items ≡ job_replies hall.now.events job.now) }
+    ensures { OnOk result (text.new.items ≡ text.old.items ++ job_replies hall.now.events job.now) }
 {
-    if job.revisions().is_empty() {
-        return Ok(Vec::new(alloc));
+    for posted in 0..job.revisions().len() {
+        let reply = reply_to(alloc, hall, job, posted as u32 + 1)?;
+        text.extend_from_slice(reply.as_slice())?;
     }
-    reply_to(alloc, hall, job)
+    Ok(())
 }
 
-/// The reply to the first revision of a job.
-fn reply_to(alloc: Global, hall: &Hall, job: &ScriptJob) -> Result<Vec<u8>, AllocError>
-    requires known { IsKnown hall.now.events job.now }
-    ensures { IfOk result (λ v. v.items ≡ first_reply hall.now.events job.now) }
+/// The reply to a revision of a job, nothing where there is none.
+fn reply_to(
+    alloc: Global,
+    hall: &Hall,
+    job: &ScriptJob,
+    revision: u32,
+) -> Result<Vec<u8>, AllocError>
+    requires { IsKnown hall.now.events job.now }
+    ensures { IfOk result (λ v. v.items ≡ reply_to hall.now.events job.now revision) }
 {
-    match hall.reply(&job.tenant(), &job.name(), 1) {
+    match hall.reply(&job.tenant(), &job.name(), revision) {
         Ok(Some(text)) => Ok(text),
         Ok(None) => Ok(Vec::new(alloc)),
         Err(ReplyFault::NoJob) => unreachable!(),

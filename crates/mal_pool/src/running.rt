@@ -1,12 +1,16 @@
 //! Running a script.
 
-ghost use Rattle.std.specs.Prelude.{◌≡◌, ◌≤◌, ◌++◌, [], ◌∷◌, length, IfOk, OnOk};
+ghost use Rattle.std.specs.Prelude.{◌≡◌, List, ◌++◌, [], ◌∷◌, flat_map, IfOk, OnOk};
+ghost use Rattle.mal_hall.specs.Seen.{next_number};
 ghost use Rattle.mal_pool.specs.Posts.{HasRun};
-ghost use Rattle.spec_hall.specs.Dressed.{keyed};
+ghost use Rattle.mal_revision.specs.Posted.{Posted};
 ghost use Rattle.spec_hall.specs.Events.{Open, Revise, Close};
-ghost use Rattle.spec_run.specs.Complete.{key_of_job, revise_events};
+ghost use Rattle.spec_hall.specs.Legal.{MayOpen, MayRevise};
+ghost use Rattle.spec_job.specs.Titled.{Titled};
+ghost use Rattle.spec_run.specs.Complete.{key_of_job, job_events, open_events, revise_events};
+ghost use Rattle.spec_run.specs.Posting.{IsOpen};
+ghost use Rattle.spec_script.specs.Formed.{IsJob, IsScript, MayAllFollow};
 ghost use Rattle.spec_script.specs.Limits.{served};
-ghost use Rattle.spec_script.specs.Within.{IsWithin};
 
 use mal_hall::{CloseFault, Hall, OpenFault, ReviseFault};
 use mal_learn::Scratch;
@@ -14,48 +18,39 @@ use mal_revision::Revision;
 use mal_script::{Script, ScriptJob};
 use std::alloc::{AllocError, Global};
 
-/// Runs a script with one worker: the openings, the revisions and the closings are posted in the order of the script,
-/// and the hall is driven until every revision is answered.
+/// Runs a script with one worker: all jobs are opened, and then job by job its revisions and its closing are posted, in
+/// the order of the script. The hall is driven until every revision is answered.
 pub fn run_all(alloc: Global, script: &Script) -> Result<Hall, AllocError>
-    requires { IsWithin served script.now }
+    requires { IsScript served script.now }
     ensures { IfOk result (λ h. HasRun script.now h) }
 {
     let mut scratch = Scratch::new(alloc);
-    match script.jobs() {
-        [] => run_none(alloc, &mut scratch),
-        [job, ..] => run_job(alloc, job, &mut scratch),
-    }
-}
-
-/// Runs a script without a job.
-fn run_none(alloc: Global, scratch: &mut Scratch) -> Result<Hall, AllocError>
-    ensures { IfOk result (λ h. HasRun (record { jobs = [] }) h) }
-{
     let mut hall = Hall::new(alloc);
-    hall.drive(alloc, scratch)?;
+    open_all(alloc, &mut hall, script.jobs())?;
+    post_all(alloc, &mut hall, script.jobs())?;
+    hall.drive(alloc, &mut scratch)?;
     let _ = hall.history();
     Ok(hall)
 }
 
-/// Runs a script of this job.
-fn run_job(alloc: Global, job: &ScriptJob, scratch: &mut Scratch) -> Result<Hall, AllocError>
-    requires { length job.now.revisions ≤ 1 }
-    ensures { IfOk result (λ h. HasRun (record { jobs = job.now ∷ [] }) h) }
-{
-    let mut hall = Hall::new(alloc);
-    open(alloc, &mut hall, job)?;
-    revise(alloc, &mut hall, job)?;
-    close(&mut hall, job);
-    hall.drive(alloc, scratch)?;
-    let _ = hall.history();
-    Ok(hall)
-}
-
-/// Opens the job of a script in a hall without events.
-fn open(alloc: Global, hall: &mut Hall, job: &ScriptJob) -> Result<(), AllocError>
-    requires { hall.old.events ≡ [] }
+/// Opens the jobs of a script in a hall without events.
+fn open_all(alloc: Global, hall: &mut Hall, jobs: &[ScriptJob]) -> Result<(), AllocError>
+    requires new { hall.old.events ≡ [] }
+    requires follow { MayAllFollow served [] jobs.now }
     ensures workers { hall.new.workers ≡ hall.old.workers }
-    ensures events { OnOk result (hall.new.events ≡ Open (key_of_job job.now) job.now.ask ∷ []) }
+    ensures events { OnOk result (hall.new.events ≡ open_events jobs.now) }
+{
+    for job in jobs {
+        open(alloc, hall, job)?;
+    }
+    Ok(())
+}
+
+/// Opens a job.
+fn open(alloc: Global, hall: &mut Hall, job: &ScriptJob) -> Result<(), AllocError>
+    requires { MayOpen hall.old.events (key_of_job job.now) job.now.ask }
+    ensures workers { hall.new.workers ≡ hall.old.workers }
+    ensures events { OnOk result (hall.new.events ≡ hall.old.events ++ Open (key_of_job job.now) job.now.ask ∷ []) }
 {
     match hall.open_job(alloc, job.tenant(), job.name(), job.ask()) {
         Ok(()) => Ok(()),
@@ -66,29 +61,55 @@ fn open(alloc: Global, hall: &mut Hall, job: &ScriptJob) -> Result<(), AllocErro
     }
 }
 
-/// Posts the revision of a job that was just opened, where it has one.
-fn revise(alloc: Global, hall: &mut Hall, job: &ScriptJob) -> Result<(), AllocError>
-    requires opened { hall.old.events ≡ Open (key_of_job job.now) job.now.ask ∷ [] }
-    requires few { length job.now.revisions ≤ 1 }
+/// Posts the revisions and the closings of a script's jobs, all of which were just opened.
+fn post_all(alloc: Global, hall: &mut Hall, jobs: &[ScriptJob]) -> Result<(), AllocError>
+    requires opened { hall.old.events ≡ open_events jobs.now }
+    requires follow { MayAllFollow served [] jobs.now }
     ensures workers { hall.new.workers ≡ hall.old.workers }
-    ensures events { OnOk result (hall.new.events ≡ hall.old.events ++ revise_events (key_of_job job.now) 1 job.now.revisions) }
+    ensures events { OnOk result (hall.new.events ≡ hall.old.events ++ flat_map job_events jobs.now) }
 {
-    match job.revisions() {
-        [] => Ok(()),
-        [revision, ..] => post(alloc, hall, job, revision),
+    for job in jobs {
+        post(alloc, hall, job)?;
     }
+    Ok(())
 }
 
-/// Posts this revision as the first of a job that was just opened.
-fn post(
+/// Posts the revisions and the closing of a job.
+fn post(alloc: Global, hall: &mut Hall, job: &ScriptJob) -> Result<(), AllocError>
+    requires opened { IsOpen (key_of_job job.now) [] hall.old.events }
+    requires formed { IsJob served job.now }
+    ensures workers { hall.new.workers ≡ hall.old.workers }
+    ensures events { OnOk result (hall.new.events ≡ hall.old.events ++ job_events job.now) }
+{
+    revise_all(alloc, hall, job)?;
+    close(hall, job);
+    Ok(())
+}
+
+/// Posts the revisions of a job that has none.
+fn revise_all(alloc: Global, hall: &mut Hall, job: &ScriptJob) -> Result<(), AllocError>
+    requires opened { IsOpen (key_of_job job.now) [] hall.old.events }
+    requires formed { IsJob served job.now }
+    ensures workers { hall.new.workers ≡ hall.old.workers }
+    ensures events { OnOk result (hall.new.events ≡ hall.old.events ++ revise_events (key_of_job job.now) 1 job.now.revisions) }
+    ensures opened { OnOk result (IsOpen (key_of_job job.now) job.now.revisions hall.new.events) }
+{
+    for revision in job.revisions() {
+        revise(alloc, hall, job, revision)?;
+    }
+    Ok(())
+}
+
+/// Posts the next revision of a job.
+fn revise(
     alloc: Global,
     hall: &mut Hall,
     job: &ScriptJob,
     revision: &Revision,
 ) -> Result<(), AllocError>
-    requires opened { hall.old.events ≡ Open (key_of_job job.now) job.now.ask ∷ [] }
+    requires { (t : Titled) × MayRevise hall.old.events (key_of_job job.now) (next_number (key_of_job job.now) hall.old.events) revision.now t }
     ensures workers { hall.new.workers ≡ hall.old.workers }
-    ensures events { OnOk result (hall.new.events ≡ hall.old.events ++ Revise (key_of_job job.now) 1 revision.now ∷ []) }
+    ensures events { OnOk result (hall.new.events ≡ hall.old.events ++ Revise (key_of_job job.now) (next_number (key_of_job job.now) hall.old.events) revision.now ∷ []) }
 {
     let revision = revision.copy(alloc)?;
     match hall.revise_job(alloc, &job.tenant(), &job.name(), revision) {
@@ -96,14 +117,14 @@ fn post(
         Err(ReviseFault::NoJob) => unreachable!(),
         Err(ReviseFault::Closed) => unreachable!(),
         Err(ReviseFault::RevisionsFull) => unreachable!(),
+        Err(ReviseFault::JobFull { .. }) => unreachable!(),
         Err(ReviseFault::OutOfMemory) => Err(AllocError),
     }
 }
 
-/// Closes a job that has its revision, where it has one.
+/// Closes a job that is open.
 fn close(hall: &mut Hall, job: &ScriptJob)
-    requires opened { hall.old.events ≡ Open (key_of_job job.now) job.now.ask ∷ [] ++ revise_events (key_of_job job.now) 1 job.now.revisions }
-    requires few { length job.now.revisions ≤ 1 }
+    requires { (revisions : List Posted) × IsOpen (key_of_job job.now) revisions hall.old.events }
     ensures workers { hall.new.workers ≡ hall.old.workers }
     ensures events { hall.new.events ≡ hall.old.events ++ Close (key_of_job job.now) ∷ [] }
 {

@@ -1,1 +1,7 @@
 pub mod Evidence
+pub mod KeyLemmas
+pub mod TenantLemmas
+pub mod OpenLemmas
+pub mod PostingLemmas
+pub mod CompleteLemmas
+pub mod DecidedLemmas

@@ -41,6 +41,10 @@ jobs_of_tenant tenant s = filter (λ j. is_text tenant j.tenant) s.jobs
 abbrev pub posts_of : List ℕ → Scripted → List Event
 posts_of tenant s = open_events (jobs_of_tenant tenant s) ++ flat_map job_events (jobs_of_tenant tenant s)
 
+-- all that a script posts: the openings, then job by job the revisions and the closing
+abbrev pub script_events : Scripted → List Event
+script_events s = open_events s.jobs ++ flat_map job_events s.jobs
+
 -- a history is complete for a script: each tenant posted just what the script says, in its order; every revision is
 -- answered, and nothing is out
 pub record IsComplete (s : Scripted) (history : List Event) : Type 0 where

@@ -6,11 +6,12 @@ use Rattle.spec_job.specs.Titled.{Key}
 use Rattle.spec_hall.specs.Events.{Event, bare}
 use Rattle.spec_hall.specs.Own.{own}
 use Rattle.spec_hall.specs.Legal.{Legal}
+use Rattle.spec_hall.specs.Driven.{IsDriven}
 use Rattle.spec_job.specs.Models.{AnswersSolve}
 use Rattle.spec_job.specs.Proofs.{AnswersRefute}
 use Rattle.spec_job.specs.Replies.{reply}
 use Rattle.spec_script.specs.Script.{ScriptedJob, Scripted}
-use Rattle.spec_run.specs.Complete.{IsComplete, key_of_job}
+use Rattle.spec_run.specs.Complete.{IsComplete, key_of_job, script_events}
 
 -- the text of a reply, nothing where there is none
 abbrev pub text_or_none : Option (List ℕ) → List ℕ
@@ -36,11 +37,23 @@ pub record IsEvident (s : Solo) : Type 0 where
   pub models : AnswersSolve s
   pub proofs : AnswersRefute s
 
--- a script was run with so many workers: the history is legal and complete for it, the log is the history's text, and
--- the output is the replies of the jobs' machines, each run alone on its own events, whose answers are evidence
+-- a script was run with so many workers: the history is legal and complete for it, and comes by turns of the hall of all
+-- that the script posts; the log is the history's text, and the output is the replies of the jobs' machines, each run alone
+-- on its own events, whose answers are evidence
 pub record IsRun (workers : ℕ) (s : Scripted) (history : List Event) (log out : List ℕ) : Type 0 where
   pub legal : Legal workers history
   pub complete : IsComplete s history
+  pub driven : IsDriven workers (script_events s) history
   pub log_text : log ≡ history_text workers (map bare history)
   pub out_text : out ≡ replies s history
   pub evident : (k : Key) → IsEvident (solo (own k history))
+
+-- a script is run in one way: the history, and with it the log and the output, are decided by the script and the number of
+-- workers
+pub record AreSameRuns (one other : List Event) (log_one log_other out_one out_other : List ℕ) : Type 0 where
+  pub histories : one ≡ other
+  pub logs : log_one ≡ log_other
+  pub outs : out_one ≡ out_other
+
+abbrev pub RunIsDecided : Type 0
+RunIsDecided = (workers : ℕ) (s : Scripted) (one other : List Event) (log_one log_other out_one out_other : List ℕ) → IsRun workers s one log_one out_one → IsRun workers s other log_other out_other → AreSameRuns one other log_one log_other out_one out_other

@@ -1,3 +1,10 @@
 //! A script that is run: complete histories and the texts of a run. Definitions, and the laws about them as the
 //! contracts of functions without a body.
 #![tactic(auto)]
+
+ghost use Rattle.spec_run.specs.Run.{RunIsDecided};
+
+/// A script and a number of workers decide the history of a run, and with it the log and the output.
+pub fn run_is_decided()
+    ensures { RunIsDecided }
+{}

@@ -14,6 +14,7 @@ returns c =
       record {
         legal = legal;
         complete = ran.complete;
+        driven = ran.driven;
         log_text = c.in_ok-log.ensures ∙ (ap (λ (w : ℕ). history_text w c.history.result.now.events) (c.history.ensures.workers ∙ ran.workers) ∙ ap (history_text 1) c.history.ensures.events);
         out_text = c.in_ok-out.ensures;
         evident = evident_by_law 1 history legal;

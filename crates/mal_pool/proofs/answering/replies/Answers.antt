@@ -1,16 +1,17 @@
-use Rattle.std.proofs.Common.{◌≡◌, ◌<◌, ◌∷◌, [], List, ℕ, length, IfOk, arith, sym, subst, ◌∙◌}
-use Rattle.spec_script.specs.Script.{ScriptedJob}
-use Rattle.mal_pool.proofs.PoolLemmas.{no-jobs, only-job, replies-job, replies-nothing}
+use Rattle.std.proofs.Common.{◌<◌, length, arith}
+use Rattle.spec_run.proofs.PostingLemmas.{posting-formed}
+use Rattle.mal_pool.proofs.PoolLemmas.{known-at, replied-all}
 use Rattle.mal_pool.proofs.answering.replies.Goals as goal
 
-pub returns-in-empty : goal.returns-in-empty
-returns-in-empty c =
-    let few : length c.jobs.result.now < 1 = omega arith in
-    let none : c.args.script.now.jobs ≡ [] = sym c.jobs.ensures ∙ no-jobs c.jobs.result.now few in
-    c.new.ensures.items ∙ replies-nothing c.args.script.now c.args.hall.now.events none
+pub put_replies-requires-clause-few : goal.put_replies-requires-clause-few
+put_replies-requires-clause-few c =
+    let low : c.loop-job.job-index < length c.jobs-job-items.result.now = omega arith in
+    (posting-formed c.args.script.now.jobs c.loop-job.job-index c.job-item.result c.requires.formed (rw c.jobs-job-items.ensures at low) (rw c.jobs-job-items.ensures at c.job-item.is)).few
 
-pub returns-in-len1-up : goal.returns-in-len1-up
-returns-in-len1-up c =
-    let some : 0 < length c.jobs.result.now = omega arith in
-    let one : c.args.script.now.jobs ≡ c.job-item.result ∷ [] = only-job c.args.script.now.jobs c.job-item.result c.requires.within.jobs (subst (λ (js : List ScriptedJob). 0 < length js) c.jobs.ensures some) (rw c.jobs.ensures at c.job-item.is) in
-    subst (λ (x : List ℕ). IfOk c.replies_to.result (λ v. v.items ≡ x)) (replies-job c.args.script.now c.args.hall.now.events c.job-item.result one) c.replies_to.ensures
+pub put_replies-requires-clause-known : goal.put_replies-requires-clause-known
+put_replies-requires-clause-known c =
+    let low : c.loop-job.job-index < length c.jobs-job-items.result.now = omega arith in
+    known-at c.args.hall.now.events c.args.script.now.jobs c.loop-job.job-index c.job-item.result c.requires.run.known (rw c.jobs-job-items.ensures at low) (rw c.jobs-job-items.ensures at c.job-item.is)
+
+pub returns : goal.returns
+returns c = replied-all c.args.script.now c.args.hall.now.events c.jobs-job-items.result.now c.loop-job.job-index c.loop-job.text.items c.jobs-job-items.ensures c.loop-job.invariant (omega arith)

@@ -1,0 +1,18 @@
+use Rattle.std.proofs.Common.{◌≡◌, ◌++◌, flat_map, List, ◌∙◌, ap, subst}
+use Rattle.spec_hall.specs.Driven.{GrowsByTurns}
+use Rattle.spec_hall.specs.Events.{Event}
+use Rattle.spec_run.specs.Complete.{job_events, open_events, script_events}
+use Rattle.spec_script.specs.Script.{ScriptedJob, Scripted}
+use Rattle.mal_pool.proofs.PoolLemmas.{has-run}
+use Rattle.mal_pool.proofs.running.run_all.Goals as goal
+
+pub returns : goal.returns
+returns c =
+    let s : Scripted = c.args.script.now in
+    let opened : c.open_all.new.hall.events ≡ open_events s.jobs = c.in_ok-open_all.ensures.events ∙ ap open_events c.jobs.ensures in
+    let posted : c.post_all.new.hall.events ≡ script_events s =
+    c.in_ok-post_all.ensures.events
+    ∙ (ap (λ (js : List ScriptedJob). c.open_all.new.hall.events ++ flat_map job_events js) c.jobs-2.ensures ∙ ap (λ (es : List Event). es ++ flat_map job_events s.jobs) opened) in
+    let workers = c.in_ok-drive.ensures.workers ∙ (c.in_ok-post_all.ensures.workers ∙ (c.in_ok-open_all.ensures.workers ∙ c.new-hall.ensures.workers)) in
+    let turns : GrowsByTurns 1 (script_events s) c.drive.new.self.events = subst (λ (past : List Event). GrowsByTurns 1 past c.drive.new.self.events) posted c.in_ok-drive.ensures.turns in
+    has-run s c.drive.new.self workers c.history.ensures.legal turns c.in_ok-drive.ensures.answered c.history.ensures.home

@@ -1,0 +1,96 @@
+-- A script that is posted job by job: what is true before each step, and after it.
+use Rattle.std.proofs.Common.{◌≡◌, ℕ, zero, suc, ◌+◌, ◌<◌, ◌≤◌, Bool, true, List, [], ◌∷◌, ◌++◌, length, take, drop, get_or, flat_map, sym, ◌∙◌, ap, arith, append_assoc, subst}
+use Rattle.std.specs.List.{list_all}
+use Rattle.std.proofs.lemmas.Bool.{and_parts}
+use Rattle.std.proofs.lemmas.List.{map-append, take-append-drop, drop_more, take_more, take_all, length-take-le, flat_map_more}
+use Rattle.std.proofs.lemmas.List.Sums.{sum_by_more_le}
+use Rattle.mal_base.specs.Formulas.{literals_of}
+use Rattle.mal_revision.specs.Posted.{Posted, is_posted}
+use Rattle.spec_job.specs.Solo.{clauses_in}
+use Rattle.spec_job.specs.Titled.{Key}
+use Rattle.spec_hall.specs.Events.{Event, Open, Revise}
+use Rattle.spec_hall.specs.States.{keys_of, titled}
+use Rattle.spec_hall.specs.Legal.{MayOpen, MayRevise, literals_in}
+use Rattle.spec_run.specs.Complete.{key_of_job, job_events, open_events, revise_events}
+use Rattle.spec_run.specs.Posting.{IsOpen}
+use Rattle.spec_run.proofs.KeyLemmas.{opened-keys}
+use Rattle.spec_run.proofs.OpenLemmas.{IsPart, follow-split, part-of, next-may_open, next-is_open, open-may_revise, revise-more}
+use Rattle.spec_script.specs.Formed.{IsJob, MayFollow, MayAllFollow}
+use Rattle.spec_script.specs.Limits.{served}
+use Rattle.spec_script.specs.Script.{ScriptedJob}
+
+-- a list at one of its items: those before it, it, and those behind it
+pub at-parts : {A : Type 0} (xs : List A) (i : ℕ) (x : A) → i < length xs → x ≡ get_or xs i x → xs ≡ take i xs ++ x ∷ drop (i + 1) xs
+at-parts xs i x low is = sym (take-append-drop i xs) ∙ ap (λ ys. take i xs ++ ys) (drop_more xs i x low ∙ ap (λ y. y ∷ drop (i + 1) xs) (sym is))
+
+pub take-one : {A : Type 0} (xs : List A) (i : ℕ) (x : A) → i < length xs → x ≡ get_or xs i x → take (i + 1) xs ≡ take i xs ++ x ∷ []
+take-one xs i x low is = take_more xs i x low ∙ ap (λ y. take i xs ++ y ∷ []) (sym is)
+
+-- the job of a script at a place may follow those before it
+follow-at : (js : List ScriptedJob) (i : ℕ) (j : ScriptedJob) → MayAllFollow served [] js → i < length js → j ≡ get_or js i j → MayFollow served (take i js) j
+follow-at js i j follow low is = (follow-split served [] (take i js) j (drop (i + 1) js) (subst (λ (x : List ScriptedJob). MayAllFollow served [] x) (at-parts js i j low is) follow)).0
+
+-- where the jobs before it are opened, it may be opened
+pub opened-may_open : (h : List Event) (js : List ScriptedJob) (i : ℕ) (j : ScriptedJob) → h ≡ open_events (take i js) → MayAllFollow served [] js → i < length js → j ≡ get_or js i j → MayOpen h (key_of_job j) j.ask
+opened-may_open h js i j e follow low is = next-may_open h (take i js) j (ap keys_of e ∙ opened-keys (take i js) []) (follow-at js i j follow low is)
+
+-- then one job more is opened
+pub opened-more : (h after : List Event) (js : List ScriptedJob) (i : ℕ) (j : ScriptedJob) → h ≡ open_events (take i js) → after ≡ h ++ Open (key_of_job j) j.ask ∷ [] → i < length js → j ≡ get_or js i j → after ≡ open_events (take (i + 1) js)
+opened-more h after js i j e step low is =
+    step ∙ (ap (λ (x : List Event). x ++ Open (key_of_job j) j.ask ∷ []) e
+    ∙ (sym (map-append (λ n. Open (key_of_job n) n.ask) (take i js) (j ∷ [])) ∙ ap open_events (sym (take-one js i j low is))))
+
+pub opened-all : (h : List Event) (js : List ScriptedJob) (i : ℕ) → h ≡ open_events (take i js) → length js ≤ i → h ≡ open_events js
+opened-all h js i e all = e ∙ ap open_events (take_all i js all)
+
+-- where all jobs are opened and those before it are posted, it is open without a revision
+pub posting-is_open : (h start : List Event) (js : List ScriptedJob) (i : ℕ) (j : ScriptedJob) → start ≡ open_events js → h ≡ start ++ flat_map job_events (take i js) → MayAllFollow served [] js → i < length js → j ≡ get_or js i j → IsOpen (key_of_job j) [] h
+posting-is_open h start js i j opened e follow low is =
+    let parts : js ≡ take i js ++ j ∷ drop (i + 1) js = at-parts js i j low is in
+    let part : IsPart (take i js) j (drop (i + 1) js) = part-of served (take i js) j (drop (i + 1) js) (subst (λ (x : List ScriptedJob). MayAllFollow served [] x) parts follow) in
+    let here : h ≡ open_events (take i js ++ j ∷ drop (i + 1) js) ++ flat_map job_events (take i js) = e ∙ ap (λ (x : List Event). x ++ flat_map job_events (take i js)) (opened ∙ ap open_events parts) in
+    subst (λ (x : List Event). IsOpen (key_of_job j) [] x) (sym here) (next-is_open (take i js) j (drop (i + 1) js) part)
+
+pub posting-formed : (js : List ScriptedJob) (i : ℕ) (j : ScriptedJob) → MayAllFollow served [] js → i < length js → j ≡ get_or js i j → IsJob served j
+posting-formed js i j follow low is = (follow-at js i j follow low is).formed
+
+-- then one job more is posted
+pub posted-more : (h after start : List Event) (js : List ScriptedJob) (i : ℕ) (j : ScriptedJob) → h ≡ start ++ flat_map job_events (take i js) → after ≡ h ++ job_events j → i < length js → j ≡ get_or js i j → after ≡ start ++ flat_map job_events (take (i + 1) js)
+posted-more h after start js i j e step low is =
+    step ∙ (ap (λ (x : List Event). x ++ job_events j) e
+    ∙ (flat_map_more job_events start (take i js) j ∙ ap (λ (x : List ScriptedJob). start ++ flat_map job_events x) (sym (take-one js i j low is))))
+
+pub posted-all : (h start : List Event) (js : List ScriptedJob) (i : ℕ) → h ≡ start ++ flat_map job_events (take i js) → length js ≤ i → h ≡ start ++ flat_map job_events js
+posted-all h start js i e all = e ∙ ap (λ (x : List ScriptedJob). start ++ flat_map job_events x) (take_all i js all)
+
+-- each of a list that passes a test passes it
+pub passes-at : {A : Type 0} (p : A → Bool) (xs : List A) (i : ℕ) (x : A) → list_all p xs ≡ true → i < length xs → x ≡ get_or xs i x → p x ≡ true
+passes-at p [] i x all low is = absurd (omega arith)
+passes-at p (y ∷ ys) zero x all low is = ap p is ∙ (and_parts (p y) (list_all p ys) all).0
+passes-at p (y ∷ ys) (suc i) x all low is = passes-at p ys i x (and_parts (p y) (list_all p ys) all).1 (omega arith) is
+
+-- the revision of a job at a place may be posted where those before it are
+pub next-may_revise : (j : ScriptedJob) (h : List Event) (i n : ℕ) (r : Posted) → IsJob served j → IsOpen (key_of_job j) (take i j.revisions) h → i < length j.revisions → r ≡ get_or j.revisions i r → n ≡ i + 1 → MayRevise h (key_of_job j) n r (titled h (key_of_job j))
+next-may_revise j h i n r formed opened low is number =
+    let rs : List Posted = j.revisions in
+    let count : length (take i rs) ≡ i = length-take-le i rs (omega arith) in
+    let posted : is_posted r ≡ true = passes-at is_posted rs i r formed.formed low is in
+    let few : length rs ≤ 256 = formed.few in
+    let clauses : clauses_in (take i rs) + length (get_or rs i r).clauses ≤ clauses_in rs = sum_by_more_le (λ (x : Posted). length x.clauses) rs i r low in
+    let literals : literals_in (take i rs) + literals_of (get_or rs i r).clauses ≤ literals_in rs = sum_by_more_le (λ (x : Posted). literals_of x.clauses) rs i r low in
+    let clause_room : clauses_in (take i rs) + length r.clauses ≤ clauses_in rs = subst (λ (x : Posted). clauses_in (take i rs) + length x.clauses ≤ clauses_in rs) (sym is) clauses in
+    let literal_room : literals_in (take i rs) + literals_of r.clauses ≤ literals_in rs = subst (λ (x : Posted). literals_in (take i rs) + literals_of x.clauses ≤ literals_in rs) (sym is) literals in
+    open-may_revise (key_of_job j) (take i rs) h n r opened posted (omega arith) (omega arith) (within _ (clauses_in rs) 1048576 clause_room formed.clauses) (within _ (literals_in rs) 16777216 literal_room formed.literals)
+  where
+    within : (a b c : ℕ) → a ≤ b → b ≤ c → a ≤ c
+    within a b c p q = omega arith
+
+-- then one revision more is posted
+pub revised-more : (k : Key) (h after start : List Event) (rs : List Posted) (i n : ℕ) (r : Posted) → h ≡ start ++ revise_events k 1 (take i rs) → after ≡ h ++ Revise k n r ∷ [] → n ≡ i + 1 → i < length rs → r ≡ get_or rs i r → after ≡ start ++ revise_events k 1 (take (i + 1) rs)
+revised-more k h after start rs i n r e step number low is =
+    let count : length (take i rs) ≡ i = length-take-le i rs (omega arith) in
+    let place : n ≡ 1 + length (take i rs) = omega arith in
+    step ∙ (ap (λ (x : List Event). x ++ Revise k n r ∷ []) e
+    ∙ (append_assoc start (revise_events k 1 (take i rs)) (Revise k n r ∷ [])
+    ∙ ap (λ (x : List Event). start ++ x) (ap (λ (m : ℕ). revise_events k 1 (take i rs) ++ Revise k m r ∷ []) place
+    ∙ (sym (revise-more k 1 (take i rs) r) ∙ ap (revise_events k 1) (sym (take-one rs i r low is))))))
