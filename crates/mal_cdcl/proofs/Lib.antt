@@ -1,6 +1,10 @@
 pub mod OriginalLemmas
 pub mod FillLemmas
 pub mod NeedLemmas
+pub mod PickLemmas
+pub mod TellingLemmas
+pub mod ImportingLemmas
+pub mod SingleLemmas
 pub mod StepLemmas
 pub mod ImageLemmas
 pub mod DeriveLemmas

@@ -1,10 +1,10 @@
 use Rattle.std.proofs.Common.{◌≡◌, ℕ, zero, suc, ◌+◌, ◌<◌, ◌≤◌, List, [], ◌∷◌, length, drop, get_or, refl, ap, ◌∙◌, arith, Bor}
 use Rattle.std.specs.Prelude.{max}
+use Rattle.mal_base.specs.Held.{Held}
 use Rattle.mal_revision.specs.Posted.{Posted}
 use Rattle.spec_node.specs.State.{Node}
 use Rattle.spec_node.specs.Load.{loaded}
 use Rattle.mal_cdcl.specs.Within.{Stocked}
-use Rattle.mal_cdcl.specs.Sliced.{HasSliceRoom}
 use Rattle.mal_cdcl.specs.Ready.{posted, readied, AreNew, greatest, most_assumptions, HasRoomFor, IsSpared}
 
 -- the loads that are left from a place on begin with the one that stands there
@@ -28,8 +28,8 @@ most-more [] a b h = h
 most-more (l ∷ ls) a b h = most-more ls (max a (length l.0.assumptions)) (max b (length l.0.assumptions)) (omega arith)
 
 -- room for loads is room for the first
-pub room-head : (l : Posted × ℕ) (ls : List (Posted × ℕ)) (n : Stocked) → HasRoomFor (l ∷ ls) n → HasRoomFor (l ∷ []) n
-room-head l ls n h =
+pub room-head : (l : Posted × ℕ) (ls : List (Posted × ℕ)) (told : List (List Held)) (n : Stocked) → HasRoomFor (l ∷ ls) told n → HasRoomFor (l ∷ []) [] n
+room-head l ls told n h =
     let g = greatest-least ls (max n.state.variables l.0.variables) in
     record {
       trail = omega (arith, g, h.trail);
@@ -47,14 +47,14 @@ room-head l ls n h =
 
 -- what is left to do of some loads: the node is ready after it, its numbers are new, and there is room for it, in a scratch
 -- of this bound too
-pub record IsReadying (left all : List (Posted × ℕ)) (start : Node) (bound : ℕ) (now : Stocked) : Type 0 where
+pub record IsReadying (left all : List (Posted × ℕ)) (told : List (List Held)) (start : Node) (bound : ℕ) (now : Stocked) : Type 0 where
   pub done : readied left now.state ≡ readied all start
   pub new : AreNew left now.state
-  pub room : HasRoomFor left now
+  pub room : HasRoomFor left told now
   pub fitted : greatest left now.state.variables < bound
 
-pub readying-next : (l : Posted × ℕ) (ls all : List (Posted × ℕ)) (start : Node) (bound : ℕ) (now next : Stocked) → IsReadying (l ∷ ls) all start bound now → next.state ≡ loaded l.0 l.1 now.state → IsSpared l.0 now next → IsReadying ls all start bound next
-readying-next l ls all start bound now next h is s =
+pub readying-next : (l : Posted × ℕ) (ls all : List (Posted × ℕ)) (told : List (List Held)) (start : Node) (bound : ℕ) (now next : Stocked) → IsReadying (l ∷ ls) all told start bound now → next.state ≡ loaded l.0 l.1 now.state → IsSpared l.0 now next → IsReadying ls all told start bound next
+readying-next l ls all told start bound now next h is s =
     let v : next.state.variables ≡ max now.state.variables l.0.variables = ap (λ (n : Node). n.variables) is in
     record {
       done = rw is h.done;
@@ -75,18 +75,9 @@ readying-next l ls all start bound now next h is s =
       fitted = rw v h.fitted;
     }
 
--- where no load is left there is room for a slice
-pub readying-ends : (all : List (Posted × ℕ)) (start : Node) (bound : ℕ) (now : Stocked) → IsReadying [] all start bound now → HasSliceRoom now
-readying-ends all start bound now h =
-    record {
-      none = h.room.none;
-      room = record {
-        few = omega arith;
-        variables = h.room.variables;
-        clauses = h.room.clauses;
-        literals = omega (arith, h.room.literals);
-        lines = h.room.lines;
-        line_literals = omega (arith, h.room.line_literals);
-        hints = omega (arith, h.room.hints);
-      };
-    }
+-- behind the last load nothing is left
+pub posted-end : (loads : List (Bor Posted × ℕ)) (i : ℕ) → length loads ≤ i → posted (drop i loads) ≡ []
+posted-end [] zero l = refl
+posted-end [] (suc i) l = refl
+posted-end (x ∷ xs) zero l = absurd (omega arith)
+posted-end (x ∷ xs) (suc i) l = posted-end xs i (omega arith)

@@ -39,7 +39,7 @@ fn run_under(
     assert!(rt; revision.clauses().len() < 9);
     let mut scratch = Scratch::new(alloc);
     let mut node = Node::fresh(alloc, 0);
-    node.ready(&[(&revision, 1)], &mut scratch)?;
+    node.ready(&[(&revision, 1)], &[], &mut scratch)?;
     node.run(&mut scratch);
     Ok(node)
 }

@@ -8,9 +8,13 @@ ghost use Rattle.mal_base.specs.Literals.{var_of, has_plus};
 ghost use Rattle.spec_node.specs.Cut.{saved};
 ghost use Rattle.spec_node.specs.Load.{counted, numbered, new_order, with_originals};
 ghost use Rattle.spec_node.specs.Sound.{NumbersRise};
+ghost use Rattle.spec_node.specs.Import.{with_clauses, serial_above};
+ghost use Rattle.mal_cdcl.specs.Told.{lits_in};
+ghost use Rattle.mal_cdcl.specs.Importing.{AreNewTo};
 ghost use Rattle.mal_trail.specs.Rooms.{HasRoom, IsLeft};
 
 use mal_base::{Clause, ClauseId, Lit, TrailEntry, Var};
+use mal_buffer::Entry;
 use mal_trail::{Engine, Trail};
 
 /// Appends the phases of so many new variables.
@@ -83,4 +87,31 @@ pub fn add_clauses<E: Engine>(engine: &mut E, trail: &Trail, first: u32, clauses
             }
         }
     }
+}
+
+/// Adds clauses of the variables that there is room for, under numbers that differ and are not held.
+pub fn add_told<E: Engine>(engine: &mut E, trail: &Trail, told: &[Entry])
+    requires new { AreNewTo (E.clauses engine.old) (E.room engine.old).variables told.now }
+    requires clause_room { length told.now ≤ (E.room engine.old).clauses }
+    requires literal_room { lits_in told.now ≤ (E.room engine.old).literals }
+    requires fits { E.fits engine.old trail.now.entries trail.now.processed }
+    ensures clauses { E.clauses engine.new ≡ with_clauses told.now (E.clauses engine.old) }
+    ensures room { IsLeft (length told.now) (lits_in told.now) (E.room engine.old) (E.room engine.new) }
+    ensures fits { E.fits engine.new trail.now.entries trail.now.processed }
+{
+    for entry in told {
+        engine.learn(entry.id(), entry.lits(), trail);
+    }
+}
+
+/// The least serial from this one on that is above those of derived clauses.
+pub fn serial_above(serial: u64, told: &[Entry]) -> u64
+    ensures { result ≡ serial_above serial told.now }
+{
+    let mut above = serial;
+    for entry in told {
+        let own = entry.id().number().saturating_sub(1 << 32) / 64;
+        above = above.max(own + 1);
+    }
+    above
 }

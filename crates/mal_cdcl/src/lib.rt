@@ -6,11 +6,14 @@ mod fill;
 mod learning;
 mod needs;
 mod node;
+mod pick;
 mod restart;
 
 pub use node::Node;
 
 #[cfg(test)]
 mod core_tests;
+#[cfg(test)]
+mod import_tests;
 #[cfg(test)]
 mod tests;

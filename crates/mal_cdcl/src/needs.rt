@@ -3,9 +3,12 @@
 ghost use Rattle.std.specs.Prelude.{◌≡◌, ℕ, ◌+◌, ◌^◌, ◌≤◌, true, length, IfOk};
 ghost use Rattle.mal_base.specs.Formulas.{literals_of};
 ghost use Rattle.mal_revision.specs.Posted.{is_posted};
+ghost use Rattle.mal_cdcl.specs.Told.{lits_in, told_clauses, told_literals};
 ghost use Rattle.mal_cdcl.specs.Ready.{posted, greatest, clauses_in, literals_in, most_assumptions};
 
+use crate::pick::Pick;
 use mal_base::Clause;
+use mal_buffer::Entry;
 use mal_revision::Revision;
 use std::alloc::AllocError;
 
@@ -19,7 +22,7 @@ pub struct Needs {
 }
 
 /// What these loads need at a node of so many variables, at most 65,536. Sizes that no memory holds are want of memory.
-pub fn needs_of(loads: &[(&Revision, u32)], variables: u32) -> Result<Needs, AllocError>
+fn needs_of(loads: &[(&Revision, u32)], variables: u32) -> Result<Needs, AllocError>
     requires { variables ≤ 65536 }
     ensures variables { IfOk result (λ n. n.variables ≡ greatest (posted loads.now) variables) }
     ensures least { IfOk result (λ n. variables ≤ n.variables) }
@@ -43,6 +46,40 @@ pub fn needs_of(loads: &[(&Revision, u32)], variables: u32) -> Result<Needs, All
         needs.assumptions = needs.assumptions.max(revision.assumptions().len());
     }
     Ok(needs)
+}
+
+/// What these loads and then the clauses taken need at a node of so many variables, at most 65,536.
+pub fn needs_with(
+    loads: &[(&Revision, u32)],
+    picks: &[Pick],
+    variables: u32,
+) -> Result<Needs, AllocError>
+    requires { variables ≤ 65536 }
+    ensures variables { IfOk result (λ n. n.variables ≡ greatest (posted loads.now) variables) }
+    ensures least { IfOk result (λ n. variables ≤ n.variables) }
+    ensures bound { IfOk result (λ n. n.variables ≤ 65536) }
+    ensures clauses { IfOk result (λ n. n.clauses ≡ clauses_in (posted loads.now) + told_clauses picks.now) }
+    ensures literals { IfOk result (λ n. n.literals ≡ literals_in (posted loads.now) + told_literals picks.now) }
+    ensures assumptions { IfOk result (λ n. n.assumptions ≡ most_assumptions (posted loads.now) 0) }
+{
+    let mut needs = needs_of(loads, variables)?;
+    for pick in picks {
+        let literals = count_lits(pick.entries())?;
+        needs.clauses = added(needs.clauses, pick.entries().len())?;
+        needs.literals = added(needs.literals, literals)?;
+    }
+    Ok(needs)
+}
+
+/// How many literals clauses have. A size that no memory holds is want of memory.
+fn count_lits(entries: &[Entry]) -> Result<usize, AllocError>
+    ensures { IfOk result (λ n. n ≡ lits_in entries.now) }
+{
+    let mut count = 0;
+    for entry in entries {
+        count = added(count, entry.lits().len())?;
+    }
+    Ok(count)
 }
 
 /// The sum of two sizes. One that no memory holds is want of memory.

@@ -7,6 +7,10 @@ ghost use Rattle.spec_node.specs.Value.{first_open, first_free, level_of};
 ghost use Rattle.spec_node.specs.Batch.{propagated};
 ghost use Rattle.spec_node.specs.Cut.{cut};
 ghost use Rattle.spec_node.specs.Load.{loaded};
+ghost use Rattle.spec_node.specs.Import.{with_new};
+ghost use Rattle.mal_cdcl.specs.Told.{lits_in};
+ghost use Rattle.mal_cdcl.specs.Importing.{AreNewTo, lent, MayImportAll, all_imported};
+ghost use Rattle.mal_trail.specs.Rooms.{HasRoom};
 ghost use Rattle.spec_node.specs.Laws.{AreNewNumbers};
 ghost use Rattle.spec_node.specs.Model.{model_of};
 ghost use Rattle.spec_node.specs.Sound.{IsSound};
@@ -20,8 +24,10 @@ ghost use Rattle.mal_cdcl.specs.Ready.{posted, readied, greatest, AreNew, HasRoo
 ghost use Rattle.mal_cdcl.specs.Sliced.{HasSliceRoom, HasStepRoom, HasLowCounts, MayCount, Keeps, IsShown, IsEnded, IsStepped, IsSearched, IsFailing, HasClauseRoom, HasLineRoom, IsLineLess};
 ghost use Rattle.mal_freeze.specs.Imaged.{IsImage};
 
+use crate::pick::{self, Pick};
 use crate::{copies, fill, learning, needs, restart};
 use mal_base::{ClauseId, Lines, Lit, Var, Verdict};
+use mal_buffer::{Buffer, Entry};
 use mal_freeze::{Image, Parts};
 use mal_learn::Scratch;
 use mal_order::Order;
@@ -113,29 +119,6 @@ impl<E: Engine> Node<E> {
             engine: E::new(alloc),
             lines: Lines::new(alloc),
         }
-    }
-
-    /// Loads revisions, each with the number of its first clause, one after another, and makes room for a slice in the node
-    /// and in a scratch. Where memory is wanting the state of the node stays as it was. The lines of the last slice are
-    /// taken away.
-    pub fn ready(
-        &mut self,
-        loads: &[(&Revision, u32)],
-        scratch: &mut Scratch,
-    ) -> Result<(), AllocError>
-        requires new { AreNew (posted loads.now) self.old.state }
-        ensures loaded { OnOk result (self.new.state ≡ readied (posted loads.now) self.old.state) }
-        ensures unchanged { OnErr result (self.new.state ≡ self.old.state) }
-        ensures stocked { OnOk result (HasSliceRoom self.new) }
-        ensures fitted { OnOk result (self.new.state.variables < scratch.new.room) }
-        ensures more { scratch.old.room ≤ scratch.new.room }
-    {
-        self.make_room(loads, scratch)?;
-        for load in loads {
-            let (revision, first) = load;
-            self.load_reserved(revision, *first);
-        }
-        Ok(())
     }
 
     /// Runs a slice: 1,000 steps, or those until a verdict stands or the next line would not fit. Takes no memory.
@@ -231,19 +214,21 @@ impl<E: Engine> Node<E> {
         })
     }
 
-    /// Makes room for these loads and a slice after them, in a scratch too, and takes the lines away.
+    /// Makes room for these loads, the clauses that are taken and a slice after them, in a scratch too, and takes the lines
+    /// away.
     fn make_room(
         &mut self,
         loads: &[(&Revision, u32)],
+        picks: &[Pick],
         scratch: &mut Scratch,
     ) -> Result<(), AllocError>
-        ensures room { OnOk result (HasRoomFor (posted loads.now) self.new) }
+        ensures room { OnOk result (HasRoomFor (posted loads.now) picks.now self.new) }
         ensures fitted { OnOk result (greatest (posted loads.now) self.old.state.variables < scratch.new.room) }
         ensures more { scratch.old.room ≤ scratch.new.room }
         ensures state { self.new.state ≡ self.old.state }
     {
         self.lines.clear();
-        let needs = needs::needs_of(loads, self.variables)?;
+        let needs = needs::needs_with(loads, picks, self.variables)?;
         let added = needs.variables - self.variables;
         let numbers = most_numbers(needs.variables);
         self.trail.reserve(needs.variables)?;
@@ -261,7 +246,7 @@ impl<E: Engine> Node<E> {
     /// Loads a revision, whose first clause has this number, where there is room for it. Takes no memory.
     fn load_reserved(&mut self, revision: &Revision, first: u32)
         requires new { AreNewNumbers revision.now first self.old.state }
-        requires room { HasRoomFor ((revision.now, first) ∷ []) self.old }
+        requires room { HasRoomFor ((revision.now, first) ∷ []) [] self.old }
         ensures state { self.new.state ≡ loaded revision.now first self.old.state }
         ensures spare { IsSpared revision.now self.old self.new }
     {
@@ -276,6 +261,20 @@ impl<E: Engine> Node<E> {
         self.variables = self.variables.max(variables);
         self.conflict = None;
         self.verdict = None;
+    }
+
+    /// Imports clauses under their numbers, where there is room for them. Takes no memory.
+    fn import_reserved(&mut self, told: &[Entry])
+        requires new { AreNewTo self.old.state.clauses self.old.state.variables told.now }
+        requires room { HasRoom self.old.state.variables (length told.now) (lits_in told.now) self.old.spare.engine }
+        ensures state { self.new.state ≡ with_new told.now self.old.state }
+        ensures keeps { Keeps (length told.now) (lits_in told.now) self.old self.new }
+    {
+        self.cut(0);
+        self.trail.set_processed(0);
+        fill::add_told(&mut self.engine, &self.trail, told);
+        self.serial = fill::serial_above(self.serial, told);
+        self.conflict = None;
     }
 
     /// Goes back to a level. The sign of each literal that leaves the trail becomes its variable's phase.
@@ -571,6 +570,36 @@ impl<E: Engine> Node<E> {
 }
 
 impl<E: Listed> Node<E> {
+    /// Loads revisions, each with the number of its first clause, one after another, then imports what was told, one list
+    /// after another, and makes room for a slice in the node and in a scratch. Where memory is wanting the state of the
+    /// node stays as it was. The lines of the last slice are taken away.
+    pub fn ready(
+        &mut self,
+        loads: &[(&Revision, u32)],
+        imports: &[&Buffer],
+        scratch: &mut Scratch,
+    ) -> Result<(), AllocError>
+        requires new { AreNew (posted loads.now) self.old.state }
+        requires told { MayImportAll (lent imports.now) (readied (posted loads.now) self.old.state) }
+        ensures loaded { OnOk result (self.new.state ≡ all_imported (lent imports.now) (readied (posted loads.now) self.old.state)) }
+        ensures unchanged { OnErr result (self.new.state ≡ self.old.state) }
+        ensures stocked { OnOk result (HasSliceRoom self.new) }
+        ensures fitted { OnOk result (self.new.state.variables < scratch.new.room) }
+        ensures more { scratch.old.room ≤ scratch.new.room }
+    {
+        let alloc = *self.phases.allocator();
+        let picks = pick::picks_of(alloc, &self.engine, loads, imports)?;
+        self.make_room(loads, picks.as_slice(), scratch)?;
+        for load in loads {
+            let (revision, first) = load;
+            self.load_reserved(revision, *first);
+        }
+        for pick in picks.as_slice() {
+            self.import_reserved(pick.entries());
+        }
+        Ok(())
+    }
+
     /// The image of this node, whose state is in form, as that of each sound node of a serial below 2^57 is.
     pub fn image(&self) -> Result<Image, AllocError>
         requires { IsImage self.now.state }

@@ -52,7 +52,7 @@ fn loaded(
     let revision = Revision::new(alloc, variables, clauses, &[])?;
     assert!(rt; revision.clauses().len() < 9);
     let mut node = Node::fresh(alloc, index);
-    node.ready(&[(&revision, 1)], scratch)?;
+    node.ready(&[(&revision, 1)], &[], scratch)?;
     Ok(node)
 }
 
@@ -75,7 +75,7 @@ fn run_again(node: &mut Node<Scan>, scratch: &mut Scratch) -> Result<Lines, Fail
     requires sound { IsSound node.old.state }
     requires counts { HasLowCounts node.old.state }
 {
-    node.ready(&[], scratch)?;
+    node.ready(&[], &[], scratch)?;
     node.run(scratch);
     Ok(node.take_lines())
 }

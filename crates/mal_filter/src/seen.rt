@@ -39,7 +39,14 @@ impl Seen {
     pub fn passes(&self, clause: &Clause) -> bool
         ensures { result ≡ not (is_noted clause.now self.now) }
     {
-        !self.noted.contains(clause.lits())
+        self.passes_lits(clause.lits())
+    }
+
+    /// Whether a clause of these literals is new.
+    pub fn passes_lits(&self, lits: &[Lit]) -> bool
+        ensures { result ≡ not (is_noted lits.now self.now) }
+    {
+        !self.noted.contains(lits)
     }
 
     /// Notes a clause, which then no longer passes. After want of memory the filter is as before.
@@ -47,7 +54,15 @@ impl Seen {
         ensures noted { OnOk result ((lits : List ℕ) → is_noted lits self.new ≡ (bytes_eq lits clause.now || is_noted lits self.old)) }
         ensures unchanged { OnErr result (self.new ≡ self.old) }
     {
-        let lits = Vec::from_slice(self.alloc, clause.lits())?;
+        self.note_lits(clause.lits())
+    }
+
+    /// Notes a clause of these literals.
+    pub fn note_lits(&mut self, lits: &[Lit]) -> Result<(), AllocError>
+        ensures noted { OnOk result ((others : List ℕ) → is_noted others self.new ≡ (bytes_eq others lits.now || is_noted others self.old)) }
+        ensures unchanged { OnErr result (self.new ≡ self.old) }
+    {
+        let lits = Vec::from_slice(self.alloc, lits)?;
         self.noted.insert(lits)?;
         Ok(())
     }

@@ -9,3 +9,4 @@ pub mod ReasonLemmas
 pub mod SoundLemmas
 pub mod ChainLemmas
 pub mod PostedLemmas
+pub mod ImportLemmas

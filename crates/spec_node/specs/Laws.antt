@@ -1,4 +1,4 @@
-use Rattle.std.specs.Prelude.{◌≡◌, ℕ, ◌+◌, ◌≤◌, ◌<◌, ◌^◌, Bool, true, ◌&&◌, nat_le, nat_lt, All, List, ◌++◌, length, take, map, filter, Option, Some, None}
+use Rattle.std.specs.Prelude.{◌≡◌, ◌≢◌, ℕ, ◌+◌, ◌≤◌, ◌<◌, ◌^◌, Bool, true, ◌&&◌, nat_le, nat_lt, All, Contains, List, [], ◌∷◌, ◌++◌, length, take, map, filter, Option, Some, None}
 use Rattle.std.specs.List.{list_all, list_any}
 use Rattle.std.specs.Option.{option_map_or}
 use Rattle.mal_base.specs.Literals.{var_of}
@@ -9,9 +9,10 @@ use Rattle.mal_base.specs.Held.{Held}
 use Rattle.spec_node.specs.State.{Node, fresh}
 use Rattle.spec_node.specs.Value.{is_true}
 use Rattle.spec_node.specs.Batch.{batch}
-use Rattle.spec_node.specs.Load.{loaded, numbered}
+use Rattle.spec_node.specs.Load.{loaded, numbered, is_derived}
+use Rattle.spec_node.specs.Import.{imported}
 use Rattle.spec_node.specs.Model.{model_of}
-use Rattle.spec_node.specs.Sound.{IsConsistent, IsSound}
+use Rattle.spec_node.specs.Sound.{AreLiteralsOf, IsConsistent, IsSound}
 
 -- the clauses that a node holds, as a formula
 abbrev pub formula_of : List Held → List (Option (List ℕ))
@@ -82,6 +83,34 @@ pub record HoldsAll (r : Posted) (clauses : List (Option (List ℕ))) (n : Node)
 -- revisions loaded one after another are held as one list of numbered clauses, where the numbers suffice
 abbrev pub LoadsHoldAll : Type 0
 LoadsHoldAll = (r : Posted) (clauses : List (Option (List ℕ))) (n : Node) → originals n.clauses ≡ numbered 1 clauses → 1 + length (clauses ++ r.clauses) ≤ 2 ^ 32 → HoldsAll r clauses n
+
+-- no two of the clauses have one number
+abbrev pub HaveOwnNumbers : List Held → Type 0
+HaveOwnNumbers [] = Unit {0}
+HaveOwnNumbers (c ∷ cs) = All (λ d. c.id ≢ d.id) cs × HaveOwnNumbers cs
+
+-- clauses may be told to a node: they are derived ones of its variables, no two have one number, and one whose number is
+-- held has the literals that are held under it
+pub record MayImport (told : List Held) (n : Node) : Type 0 where
+  pub derived : All (λ c. is_derived c ≡ true) told
+  pub within : All (λ c. AreLiteralsOf n.variables c.lits) told
+  pub apart : HaveOwnNumbers told
+  pub agree : (c d : Held) → Contains told c → Contains n.clauses d → c.id ≡ d.id → c.lits ≡ d.lits
+
+-- importing clauses that may be told to it keeps a node sound
+abbrev pub ImportKeepsSound : Type 0
+ImportKeepsSound = (told : List Held) (n : Node) → MayImport told n → IsSound n → IsSound (imported told n)
+
+-- what importing leaves in a node: its originals, its assumptions, its variables, its verdict and its index; and what it
+-- holds, it held before or was told
+pub record ImportHolds : Type 0 where
+  pub originals : (told : List Held) (n : Node) → All (λ c. is_derived c ≡ true) told → originals (imported told n).clauses ≡ originals n.clauses
+  pub assumptions : (told : List Held) (n : Node) → (imported told n).assumptions ≡ n.assumptions
+  pub variables : (told : List Held) (n : Node) → (imported told n).variables ≡ n.variables
+  pub verdict : (told : List Held) (n : Node) → (imported told n).verdict ≡ n.verdict
+  pub index : (told : List Held) (n : Node) → (imported told n).index ≡ n.index
+  pub held : (told : List Held) (n : Node) (c : Held) → Contains (imported told n).clauses c → Contains (n.clauses ++ told) c
+  pub kept : (told : List Held) (n : Node) (c : Held) → Contains n.clauses c → Contains (imported told n).clauses c
 
 -- in a sound node without a waiting conflict each clause of a batch that was handled has a true literal
 abbrev pub HandledAreTrue : Type 0

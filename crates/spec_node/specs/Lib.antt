@@ -3,7 +3,9 @@ pub mod Value
 pub mod Batch
 pub mod Cut
 pub mod Load
+pub mod Import
 pub mod Adding
 pub mod Model
 pub mod Sound
 pub mod Laws
+pub mod Examples

@@ -2,7 +2,8 @@
 //! contracts of functions without a body.
 #![tactic(auto)]
 
-ghost use Rattle.spec_node.specs.Laws.{FreshIsConsistent, FreshIsSound, HandledAreTrue, LoadsHoldAll, LoadKeepsSound, LoadHolds, LoadKeepsConsistent, NumbersMeanSame};
+ghost use Rattle.spec_node.specs.Examples.{HasExamples};
+ghost use Rattle.spec_node.specs.Laws.{FreshIsConsistent, FreshIsSound, HandledAreTrue, ImportHolds, ImportKeepsSound, LoadsHoldAll, LoadKeepsSound, LoadHolds, LoadKeepsConsistent, NumbersMeanSame};
 
 /// The search of a node is consistent at its first start, and loads keep it so.
 pub fn search_is_consistent()
@@ -26,4 +27,19 @@ pub fn node_is_sound()
 /// Each clause of a batch that was handled has a true literal, where no conflict waits.
 pub fn handled_are_true()
     ensures { HandledAreTrue }
+{}
+
+/// Imports of clauses that may be told to a node keep it sound.
+pub fn imports_keep_sound()
+    ensures { ImportKeepsSound }
+{}
+
+/// What importing clauses leaves in a node.
+pub fn import_holds()
+    ensures { ImportHolds }
+{}
+
+/// The worked examples of imports compute to the numbers that are known.
+pub fn import_examples()
+    ensures { HasExamples }
 {}

@@ -1,0 +1,181 @@
+use Rattle.std.proofs.Common.{◌≡◌, ℕ, zero, suc, ◌+◌, ◌<◌, ◌^◌, Bool, true, false, cond, not, ◌||◌, List, [], ◌∷◌, ◌++◌, length, take, drop, get_or, map, filter, bytes_eq, Option, Some, None, refl, sym, ap, ◌∙◌, subst, append_assoc, append-nil, arith, Bor, ◌≤◌, ◌⊎◌, inl, inr}
+use Rattle.std.specs.Prelude.{nat_lt, nat_le}
+use Rattle.std.specs.List.{list_any}
+use Rattle.std.specs.Option.{option_map_or}
+use Rattle.std.proofs.lemmas.List.{map-append}
+use Rattle.std.proofs.lemmas.List.Folds.{list_any-append}
+use Rattle.std.proofs.lemmas.List.Elements.{filter-append}
+use Rattle.std.proofs.lemmas.Bool.{cases_lt, lt-ltb, le-ltb, le-leb, lt-leb}
+use Rattle.std.proofs.lemmas.Slice.Eq.{bytes_eq-Decides}
+use Rattle.mal_base.specs.Held.{Held}
+use Rattle.mal_revision.specs.Posted.{Posted}
+use Rattle.mal_filter.specs.Noted.{is_noted}
+use Rattle.mal_freeze.proofs.ListLemmas.{take-at}
+use Rattle.spec_node.specs.State.{Node}
+use Rattle.spec_node.specs.Adding.{with_clause}
+use Rattle.spec_node.specs.Load.{numbered, with_originals, is_derived, loaded}
+use Rattle.spec_node.specs.Import.{has_lits, taken, with_clauses}
+use Rattle.spec_node.specs.Laws.{originals}
+use Rattle.mal_cdcl.specs.Ready.{posted, readied}
+use Rattle.mal_cdcl.specs.Importing.{Sees, lent, picked, is_posted_in, is_loaded_in}
+
+or-moved : (a b c : Bool) → (b || (a || c)) ≡ ((a || (b || false)) || c)
+or-moved true true c = refl
+or-moved true false c = refl
+or-moved false true c = refl
+or-moved false false c = refl
+
+-- what is noted after one element more
+pub noted-next : {X : Type 0} (test : X → Bool) (xs : List X) (i : ℕ) (x d : X) → i < length xs → x ≡ get_or xs i d → (before now next : Bool) → now ≡ (list_any test (take i xs) || before) → next ≡ (test x || now) → next ≡ (list_any test (take (i + 1) xs) || before)
+noted-next test xs i x d l e before now next h k = rw (take-at xs i x d l e, list_any-append) (k ∙ (ap (λ (b : Bool). test x || b) h ∙ or-moved (list_any test (take i xs)) (test x) before))
+
+-- the same for loads as they are lent
+pub noted-next_load : (lits : List ℕ) (loads : List (Bor Posted × ℕ)) (i : ℕ) (x d : Bor Posted × ℕ) → i < length loads → x ≡ get_or loads i d → (before now next : Bool) → now ≡ (is_loaded_in lits (posted (take i loads)) || before) → next ≡ (is_posted_in lits x.0.now.clauses || now) → next ≡ (is_loaded_in lits (posted (take (i + 1) loads)) || before)
+noted-next_load lits loads i x d l e before now next h k = rw (take-at loads i x d l e, map-append, list_any-append) (k ∙ (ap (λ (b : Bool). is_posted_in lits x.0.now.clauses || b) h ∙ or-moved (is_loaded_in lits (posted (take i loads))) (is_posted_in lits x.0.now.clauses) before))
+
+-- what passes a test after one element more
+pub filter-next : {X : Type 0} (test : X → Bool) (xs : List X) (i : ℕ) (x d : X) → i < length xs → x ≡ get_or xs i d → filter test (take (i + 1) xs) ≡ filter test (take i xs) ++ filter test (x ∷ [])
+filter-next test xs i x d l e = rw (take-at xs i x d l e) (filter-append test (take i xs) (x ∷ []))
+
+-- whether literals are held does not depend on where clauses stand
+lits-with_clause : (lits : List ℕ) (c : Held) (cs : List Held) → has_lits lits (with_clause c cs) ≡ (bytes_eq lits c.lits || has_lits lits cs)
+lits-with_clause lits c [] = refl
+lits-with_clause lits c (d ∷ ds) = by_order (lits-with_clause lits c ds) (nat_lt c.id d.id)
+  where
+    swap : (a b e : Bool) → (a || (b || e)) ≡ (b || (a || e))
+    swap true true e = refl
+    swap true false e = refl
+    swap false true e = refl
+    swap false false e = refl
+
+    by_order : has_lits lits (with_clause c ds) ≡ (bytes_eq lits c.lits || has_lits lits ds) → (b : Bool) → has_lits lits (cond b (c ∷ (d ∷ ds)) (d ∷ with_clause c ds)) ≡ (bytes_eq lits c.lits || (bytes_eq lits d.lits || has_lits lits ds))
+    by_order k true = refl
+    by_order k false = ap (λ (b : Bool). bytes_eq lits d.lits || b) k ∙ swap (bytes_eq lits d.lits) (bytes_eq lits c.lits) (has_lits lits ds)
+
+or-joined : (a b c : Bool) → (a || (b || c)) ≡ ((b || a) || c)
+or-joined true true c = refl
+or-joined true false c = refl
+or-joined false true c = refl
+or-joined false false c = refl
+
+lits-with_clauses : (lits : List ℕ) (new cs : List Held) → has_lits lits (with_clauses new cs) ≡ (has_lits lits new || has_lits lits cs)
+lits-with_clauses lits [] cs = refl
+lits-with_clauses lits (c ∷ new) cs = lits-with_clauses lits new (with_clause c cs) ∙ (ap (λ (b : Bool). has_lits lits new || b) (lits-with_clause lits c cs) ∙ or-joined (has_lits lits new) (bytes_eq lits c.lits) (has_lits lits cs))
+
+-- literals that are told were held or are taken
+lits-taken : (lits : List ℕ) (told cs : List Held) → (has_lits lits (taken told cs) || has_lits lits cs) ≡ (has_lits lits told || has_lits lits cs)
+lits-taken lits [] cs = refl
+lits-taken lits (c ∷ told) cs = by_test (lits-taken lits told cs) (has_lits c.lits cs) refl (bytes_eq lits c.lits) refl
+  where
+    has : bytes_eq lits c.lits ≡ true → has_lits c.lits cs ≡ true → has_lits lits cs ≡ true
+    has same h = ap (λ (ls : List ℕ). has_lits ls cs) ((bytes_eq-Decides lits c.lits).0 same) ∙ h
+
+    last : (a b : Bool) → b ≡ true → (a || b) ≡ true
+    last true b h = refl
+    last false b h = h
+
+    by_test : (has_lits lits (taken told cs) || has_lits lits cs) ≡ (has_lits lits told || has_lits lits cs) → (b : Bool) → has_lits c.lits cs ≡ b → (e : Bool) → bytes_eq lits c.lits ≡ e → (has_lits lits (cond (not b) (c ∷ taken told cs) (taken told cs)) || has_lits lits cs) ≡ ((e || has_lits lits told) || has_lits lits cs)
+    by_test k true h true same = last (has_lits lits (taken told cs)) (has_lits lits cs) (has same h)
+    by_test k true h false same = k
+    by_test k false h true same = rw same refl
+    by_test k false h false same = rw same k
+
+-- literals are held after what is told is taken, where they are told or held
+lits-imported : (lits : List ℕ) (told cs : List Held) → has_lits lits (with_clauses (taken told cs) cs) ≡ (has_lits lits told || has_lits lits cs)
+lits-imported lits told cs = lits-with_clauses lits (taken told cs) cs ∙ lits-taken lits told cs
+
+lits-numbered : (lits : List ℕ) (first : ℕ) (cs : List (Option (List ℕ))) → has_lits lits (numbered first cs) ≡ is_posted_in lits cs
+lits-numbered lits first [] = refl
+lits-numbered lits first (None ∷ cs) = lits-numbered lits (first + 1) cs
+lits-numbered lits first (Some c ∷ cs) = ap (λ (b : Bool). bytes_eq lits c || b) (lits-numbered lits (first + 1) cs)
+
+-- each clause is an original one or derived
+parted : (lits : List ℕ) (ds : List Held) → (has_lits lits (originals ds) || has_lits lits (filter is_derived ds)) ≡ has_lits lits ds
+parted lits [] = refl
+parted lits (d ∷ ds) = by_kind (parted lits ds) (cases_lt d.id (2 ^ 32))
+  where
+    behind : (a b c : Bool) → (b || (a || c)) ≡ (a || (b || c))
+    behind true true c = refl
+    behind true false c = refl
+    behind false true c = refl
+    behind false false c = refl
+
+    before : (a b c : Bool) → ((a || b) || c) ≡ (a || (b || c))
+    before true b c = refl
+    before false b c = refl
+
+    by_kind : (has_lits lits (originals ds) || has_lits lits (filter is_derived ds)) ≡ has_lits lits ds → (d.id < 2 ^ 32) ⊎ (2 ^ 32 ≤ d.id) → (has_lits lits (originals (d ∷ ds)) || has_lits lits (filter is_derived (d ∷ ds))) ≡ (bytes_eq lits d.lits || has_lits lits ds)
+    by_kind k (inl l) = rw (lt-ltb d.id (2 ^ 32) l, lt-leb (2 ^ 32) d.id l) (before (bytes_eq lits d.lits) (has_lits lits (originals ds)) (has_lits lits (filter is_derived ds)) ∙ ap (λ (b : Bool). bytes_eq lits d.lits || b) k)
+    by_kind k (inr l) = rw (le-ltb d.id (2 ^ 32) l, le-leb (2 ^ 32) d.id l) (behind (bytes_eq lits d.lits) (has_lits lits (originals ds)) (has_lits lits (filter is_derived ds)) ∙ ap (λ (b : Bool). bytes_eq lits d.lits || b) k)
+
+lits-parted : (lits : List ℕ) (new cs : List Held) → has_lits lits (with_originals cs new) ≡ (has_lits lits new || has_lits lits cs)
+lits-parted lits new cs = list_any-append (λ (c : Held). bytes_eq lits c.lits) (originals cs) (new ++ filter is_derived cs) ∙ (ap (λ (b : Bool). has_lits lits (originals cs) || b) (list_any-append (λ (c : Held). bytes_eq lits c.lits) new (filter is_derived cs)) ∙ (moved (has_lits lits (originals cs)) (has_lits lits new) (has_lits lits (filter is_derived cs)) ∙ ap (λ (b : Bool). has_lits lits new || b) (parts cs)))
+  where
+    moved : (a b c : Bool) → (a || (b || c)) ≡ (b || (a || c))
+    moved true true c = refl
+    moved true false c = refl
+    moved false true c = refl
+    moved false false c = refl
+
+    parts : (ds : List Held) → (has_lits lits (originals ds) || has_lits lits (filter is_derived ds)) ≡ has_lits lits ds
+    parts ds = parted lits ds
+
+lits-loaded : (lits : List ℕ) (r : Posted) (first : ℕ) (n : Node) → has_lits lits (loaded r first n).clauses ≡ (is_posted_in lits r.clauses || has_lits lits n.clauses)
+lits-loaded lits r first n = lits-parted lits (numbered first r.clauses) n.clauses ∙ ap (λ (b : Bool). b || has_lits lits n.clauses) (lits-numbered lits first r.clauses)
+
+pub lits-readied : (lits : List ℕ) (loads : List (Posted × ℕ)) (n : Node) → has_lits lits (readied loads n).clauses ≡ (is_loaded_in lits loads || has_lits lits n.clauses)
+lits-readied lits [] n = refl
+lits-readied lits (l ∷ ls) n = lits-readied lits ls (loaded l.0 l.1 n) ∙ (ap (λ (b : Bool). is_loaded_in lits ls || b) (lits-loaded lits l.0 l.1 n) ∙ or-joined (is_loaded_in lits ls) (is_posted_in lits l.0.clauses) (has_lits lits n.clauses))
+
+-- what a filter lets pass is taken of a list by a node whose clauses it has seen
+taken-seen : (seen : List (List ℕ)) (cs told : List Held) → Sees seen cs → filter (λ c. not (is_noted c.lits seen)) told ≡ taken told cs
+taken-seen seen cs [] h = refl
+taken-seen seen cs (c ∷ told) h = ap (λ (b : Bool). cond (not b) (c ∷ filter (λ d. not (is_noted d.lits seen)) told) (filter (λ d. not (is_noted d.lits seen)) told)) (h c.lits) ∙ ap (λ (xs : List Held). cond (not (has_lits c.lits cs)) (c ∷ xs) xs) (taken-seen seen cs told h)
+
+-- what is left to be picked of some lists by a node that held these clauses
+pub record IsPicking (left all : List (List Held)) (clauses : List Held) (picks : List (List Held)) (seen : List (List ℕ)) : Type 0 where
+  pub now : List Held
+  pub sees : Sees seen now
+  pub done : picks ++ picked left now ≡ picked all clauses
+
+pub picking-begins : (all : List (List Held)) (clauses : List Held) (seen : List (List ℕ)) → Sees seen clauses → IsPicking all all clauses [] seen
+picking-begins all clauses seen h = record { now = clauses; sees = h; done = refl }
+
+-- the lists that are left from a place on begin with the one that stands there
+drop-told : (all : List (Bor (List Held))) (i : ℕ) (x d : Bor (List Held)) → i < length all → x ≡ get_or all i d → lent (drop i all) ≡ x.now ∷ lent (drop (i + 1) all)
+drop-told [] i x d l e = absurd (omega arith)
+drop-told (y ∷ ys) zero x d l e = rw e refl
+drop-told (y ∷ ys) (suc i) x d l e =
+    let more : suc i + 1 ≡ suc (i + 1) = omega arith in
+    rw more (drop-told ys i x d (omega arith) e)
+
+pub picking-next : (all : List (Bor (List Held))) (i : ℕ) (told d : Bor (List Held)) (pick : List Held) (clauses : List Held) (picks : List (List Held)) (seen next : List (List ℕ)) → i < length all → told ≡ get_or all i d → pick ≡ filter (λ c. not (is_noted c.lits seen)) told.now → ((lits : List ℕ) → is_noted lits next ≡ (has_lits lits told.now || is_noted lits seen)) → IsPicking (lent (drop i all)) (lent all) clauses picks seen → IsPicking (lent (drop (i + 1) all)) (lent all) clauses (picks ++ pick ∷ []) next
+picking-next all i told d pick clauses picks seen next l e p noted h =
+    let split : lent (drop i all) ≡ told.now ∷ lent (drop (i + 1) all) = drop-told all i told d l e in
+    let taking : pick ≡ taken told.now h.now = p ∙ taken-seen seen h.now told.now h.sees in
+    let done : picks ++ picked (told.now ∷ lent (drop (i + 1) all)) h.now ≡ picked (lent all) clauses = ap (λ (left : List (List Held)). picks ++ picked left h.now) (sym split) ∙ h.done in
+    record {
+      now = with_clauses (taken told.now h.now) h.now;
+      sees = λ lits. noted lits ∙ (ap (λ (b : Bool). has_lits lits told.now || b) (h.sees lits) ∙ sym (lits-imported lits told.now h.now));
+      done = append_assoc picks (pick ∷ []) (picked (lent (drop (i + 1) all)) (with_clauses (taken told.now h.now) h.now)) ∙ (ap (λ (x : List Held). picks ++ x ∷ picked (lent (drop (i + 1) all)) (with_clauses (taken told.now h.now) h.now)) taking ∙ done);
+    }
+
+-- behind the last list nothing is left
+drop-all : (all : List (Bor (List Held))) (i : ℕ) → length all ≤ i → lent (drop i all) ≡ []
+drop-all [] zero l = refl
+drop-all [] (suc i) l = refl
+drop-all (x ∷ xs) zero l = absurd (omega arith)
+drop-all (x ∷ xs) (suc i) l = drop-all xs i (omega arith)
+
+pub picking-ends : (all : List (Bor (List Held))) (i : ℕ) (clauses : List Held) (picks : List (List Held)) (seen : List (List ℕ)) → length all ≤ i → IsPicking (lent (drop i all)) (lent all) clauses picks seen → picks ≡ picked (lent all) clauses
+picking-ends all i clauses picks seen l h = sym (append-nil picks) ∙ (ap (λ (left : List (List Held)). picks ++ picked left h.now) (sym (drop-all all i l)) ∙ h.done)
+
+-- what has noted the clauses of a node and those of loads has seen those of the node after the loads
+pub sees-readied : (loads : List (Posted × ℕ)) (n : Node) (clauses : List Held) (none held all : List (List ℕ)) → n.clauses ≡ clauses → none ≡ [] → ((lits : List ℕ) → is_noted lits held ≡ (has_lits lits clauses || is_noted lits none)) → ((lits : List ℕ) → is_noted lits all ≡ (is_loaded_in lits loads || is_noted lits held)) → Sees all (readied loads n).clauses
+sees-readied loads n clauses none held all same empty h k = λ lits.
+    let first : is_noted lits held ≡ has_lits lits n.clauses = h lits ∙ (ap (λ (xs : List (List ℕ)). has_lits lits clauses || is_noted lits xs) empty ∙ (no-more (has_lits lits clauses) ∙ ap (λ (cs : List Held). has_lits lits cs) (sym same))) in
+    k lits ∙ (ap (λ (b : Bool). is_loaded_in lits loads || b) first ∙ sym (lits-readied lits loads n))
+  where
+    no-more : (b : Bool) → (b || false) ≡ b
+    no-more true = refl
+    no-more false = refl

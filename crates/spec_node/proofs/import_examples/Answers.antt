@@ -1,0 +1,5 @@
+use Rattle.std.proofs.Common.{refl}
+use Rattle.spec_node.proofs.import_examples.Goals as goal
+
+pub returns : goal.returns
+returns c = record { told = refl; serial = refl; next = refl }

@@ -1,0 +1,38 @@
+use Rattle.std.specs.Prelude.{ℕ, ◌+◌, max, Bool, not, bytes_eq, List, filter, fold, None}
+use Rattle.std.specs.List.{list_any}
+use Rattle.mal_base.specs.Held.{Held}
+use Rattle.spec_node.specs.State.{Node}
+use Rattle.spec_node.specs.Cut.{cut}
+use Rattle.spec_node.specs.Adding.{with_clause}
+use Rattle.spec_node.specs.Sound.{serial_of}
+
+-- whether a clause with these literals is held
+abbrev pub has_lits : List ℕ → List Held → Bool
+has_lits lits clauses = list_any (λ c. bytes_eq lits c.lits) clauses
+
+-- of what is told, the clauses whose literals no clause held has
+abbrev pub taken : List Held → List Held → List Held
+taken told clauses = filter (λ c. not (has_lits c.lits clauses)) told
+
+-- clauses with these among them, each at its place
+abbrev pub with_clauses : List Held → List Held → List Held
+with_clauses new clauses = fold (λ cs c. with_clause c cs) clauses new
+
+-- the least serial above these and that of each of the clauses
+abbrev pub serial_above : ℕ → List Held → ℕ
+serial_above serial new = fold (λ s c. max s (serial_of c + 1)) serial new
+
+-- a node cut to level 0 that gets these clauses under their numbers, the serial above theirs, and nothing handled
+abbrev pub with_new : List Held → Node → Node
+with_new new n =
+    let c = cut 0 n in
+    record c {
+      clauses = with_clauses new c.clauses;
+      serial = serial_above c.serial new;
+      processed = 0;
+      conflict = None;
+    }
+
+-- a node after importing what is told: with the clauses that are taken
+abbrev pub imported : List Held → Node → Node
+imported told n = with_new (taken told n.clauses) n
