@@ -8,9 +8,9 @@ use Rattle.mal_base.specs.Held.{Held, Line}
 use Rattle.spec_logic.specs.Derivation.{Holding, derivation}
 use Rattle.spec_logic.specs.Derivation.Derivation.{Derived}
 use Rattle.spec_logic.specs.Refutation.{numbered}
-use Rattle.spec_node.specs.Adding.{with_clause}
 use Rattle.spec_node.specs.Load.{numbered as numbered_from}
 use Rattle.spec_node.specs.Laws.{originals}
+use Rattle.spec_node.proofs.ImportLemmas.{All-with_clause}
 use Rattle.spec_learn.specs.Learning.{holding as holding_of}
 use Rattle.spec_search.specs.Derived.{IsHeld, with_line, with_lines, IsDerivedFrom, AreDerivedFrom}
 use Rattle.spec_search.specs.Laws.{AreNumbered}
@@ -35,15 +35,6 @@ of-line-later log more c (line, h, e, f) = (line, among-left log more line h, e,
 pub known-later : (clauses : List (Option (List ℕ))) (log more : List Line) (c : Held) → IsKnown clauses log c → IsKnown clauses (log ++ more) c
 known-later clauses log more c (inl e) = inl e
 known-later clauses log more c (inr k) = inr (of-line-later log more c k)
-
--- what holds of clauses and of one more holds of them with it
-All-with_clause : (P : Held → Type 0) (c : Held) (ds : List Held) → P c → All P ds → All P (with_clause c ds)
-All-with_clause P c [] h k = All-cons P c [] h (All-nil P)
-All-with_clause P c (d ∷ ds) h k = by_order (nat_lt c.id d.id) (All-with_clause P c ds h (All-tail P d ds k))
-  where
-    by_order : (b : Bool) → All P (with_clause c ds) → All P (cond b (c ∷ (d ∷ ds)) (d ∷ with_clause c ds))
-    by_order true rest = All-cons P c (d ∷ ds) h k
-    by_order false rest = All-cons P d (with_clause c ds) (All-head P d ds k) rest
 
 -- what is held of clauses under their numbers is held of all that they hold
 held-there : (clauses : List Held) (more : Holding) → All (λ c. more c.id ≡ Some (Some c.lits)) clauses → (id : ℕ) (c : Option (List ℕ)) → holding_of clauses id ≡ Some c → more id ≡ Some c

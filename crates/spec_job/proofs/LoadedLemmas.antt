@@ -1,10 +1,10 @@
-use Rattle.std.proofs.Common.{◌≡◌, ℕ, zero, suc, ◌+◌, ◌<◌, ◌≤◌, ◌^◌, Bool, true, false, cond, nat_lt, List, [], ◌∷◌, ◌++◌, length, take, fold, Option, Some, refl, sym, ◌∙◌, ap, subst, arith, append_assoc, append-nil, length-append}
+use Rattle.std.proofs.Common.{◌≡◌, ℕ, zero, suc, ◌+◌, ◌<◌, ◌≤◌, ◌^◌, max, Bool, true, false, cond, nat_lt, List, [], ◌∷◌, ◌++◌, length, map, take, fold, Option, Some, refl, sym, ◌∙◌, ap, subst, arith, append_assoc, append-nil, length-append}
 use Rattle.std.specs.Prelude.{All, slice_get}
 use Rattle.std.specs.List.{list_all}
 use Rattle.std.proofs.lemmas.Bool.{and_from, and_parts}
 use Rattle.std.proofs.lemmas.List.Concat.{length-flat_map, flat_map-append}
 use Rattle.std.proofs.lemmas.List.Elements.{All-head, All-tail}
-use Rattle.std.proofs.lemmas.List.Sums.{fold_push, sum_by-append, sum_by-cons}
+use Rattle.std.proofs.lemmas.List.Sums.{fold_push, fold-append, sum_by-append, sum_by-cons}
 use Rattle.mal_base.specs.declared.verdict.Verdict.TheVariants.{Satisfiable}
 use Rattle.mal_revision.specs.Posted.{Posted, is_posted}
 use Rattle.spec_logic.specs.Logic.{satisfies, satisfies_clause, satisfies_with, is_true_in}
@@ -22,7 +22,7 @@ use Rattle.spec_search.specs.Slice.{Sliced, slice}
 use Rattle.spec_search.specs.Laws.{Leaves}
 use Rattle.spec_search.proofs.SoundLemmas.{slice-sound}
 use Rattle.spec_search.proofs.ModelLemmas.{slice-keeps_model, slice-leaves}
-use Rattle.spec_job.specs.Journal.{JournalEntry, Load, after_entry, is_load, loads_in, loads_of}
+use Rattle.spec_job.specs.Journal.{JournalEntry, Load, Import, after_entry, is_load, loads_in, loads_of}
 use Rattle.spec_job.specs.Solo.{clauses_in}
 use Rattle.spec_job.specs.Models.{clauses_of}
 
@@ -38,9 +38,22 @@ last_assumed revisions = fold (λ (a : List ℕ) (p : Posted). p.assumptions) []
 abbrev pub Solves : List Posted → List Bool → Type 0
 Solves revisions model = satisfies_with model (clauses_of revisions) (last_assumed revisions) ≡ true
 
+-- how many variables these revisions have: the most that one of them has
+abbrev pub variables_of : List Posted → ℕ
+variables_of revisions = fold (λ (v : ℕ) (p : Posted). max v p.variables) 0 revisions
+
+variables-from : (ps : List Posted) (v : ℕ) → v ≤ fold (λ (x : ℕ) (p : Posted). max x p.variables) v ps
+variables-from [] v = omega arith
+variables-from (p ∷ ps) v = let rest : max v p.variables ≤ fold (λ (x : ℕ) (q : Posted). max x q.variables) (max v p.variables) ps = variables-from ps (max v p.variables) in omega arith
+
+-- more revisions have no fewer
+pub variables-more : (ps rs : List Posted) → variables_of ps ≤ variables_of (ps ++ rs)
+variables-more ps rs = subst (λ (v : ℕ). variables_of ps ≤ v) (sym (fold-append (λ (x : ℕ) (p : Posted). max x p.variables) 0 ps rs)) (variables-from rs (variables_of ps))
+
 -- a sound node that has loaded these revisions and no others
 pub record HasLoaded (revisions : List Posted) (n : Node) : Type 0 where
   pub sound : IsSound n
+  pub variables : n.variables ≡ variables_of revisions
   pub model : HasModel n
   pub held : originals n.clauses ≡ numbered 1 (clauses_of revisions)
   pub assumed : n.assumptions ≡ last_assumed revisions
@@ -62,7 +75,7 @@ clauses_in-push ps r = fold_push (λ (a : ℕ) (p : Posted). a + length p.clause
 
 -- a fresh node has loaded nothing
 pub fresh-loaded : (i : ℕ) → i ≤ 63 → HasLoaded [] (fresh i)
-fresh-loaded i low = record { sound = fresh-sound i low; model = λ v. absurd (cc); held = refl; assumed = refl }
+fresh-loaded i low = record { sound = fresh-sound i low; variables = refl; model = λ v. absurd (cc); held = refl; assumed = refl }
 
 -- a load adds its revision
 pub load-loaded : (ps : List Posted) (r : Posted) (n : Node) → IsLoadable r → clauses_in ps + length r.clauses < 2 ^ 32 → HasLoaded ps n → HasLoaded (ps ++ r ∷ []) (loaded r (1 + length (clauses_of ps)) n)
@@ -72,6 +85,7 @@ load-loaded ps r n may room h =
     let holds : HoldsAll r (clauses_of ps) n = loads-hold_all r (clauses_of ps) n h.held (omega arith) in
     record {
       sound = loaded-sound r (1 + length (clauses_of ps)) n may (posted-literals r may) holds.new h.sound;
+      variables = ap (λ (v : ℕ). max v r.variables) h.variables ∙ sym (fold_push (λ (v : ℕ) (p : Posted). max v p.variables) 0 ps r);
       model = λ v. absurd (cc);
       held = holds.held ∙ ap (numbered 1) (sym (clauses-push ps r));
       assumed = sym (fold_push (λ (a : List ℕ) (p : Posted). p.assumptions) [] ps r);
@@ -81,7 +95,7 @@ load-loaded ps r n may room h =
 pub slice-loaded : (ps : List Posted) (n : Node) → HasLoaded ps n → HasLoaded ps (slice n).node
 slice-loaded ps n h =
     let k : Leaves n (slice n).node = slice-leaves n in
-    record { sound = slice-sound n h.sound; model = slice-keeps_model n h.sound h.model; held = k.originals ∙ h.held; assumed = k.assumptions ∙ h.assumed }
+    record { sound = slice-sound n h.sound; variables = k.variables ∙ h.variables; model = slice-keeps_model n h.sound h.model; held = k.originals ∙ h.held; assumed = k.assumptions ∙ h.assumed }
 
 -- what satisfies the clauses held satisfies the originals among them
 originals-satisfied : (a : List Bool) (cs : List Held) → satisfies a (formula_of cs) ≡ true → satisfies a (formula_of (originals cs)) ≡ true
@@ -121,6 +135,14 @@ loads_in-loads first [] = refl
 loads_in-loads first (r ∷ rs) =
     let here : loads_in (Load r first ∷ loads_of (first + length r.clauses) rs) ≡ 1 + loads_in (loads_of (first + length r.clauses) rs) = sum_by-cons (λ (e : JournalEntry). cond (is_load e) 1 0) (Load r first) (loads_of (first + length r.clauses) rs) in
     let rest : loads_in (loads_of (first + length r.clauses) rs) ≡ length rs = loads_in-loads (first + length r.clauses) rs in
+    omega arith
+
+-- imports load nothing
+pub loads_in-imports : (tolds : List (List Held)) → loads_in (map Import tolds) ≡ 0
+loads_in-imports [] = refl
+loads_in-imports (t ∷ ts) =
+    let here : loads_in (Import t ∷ map Import ts) ≡ 0 + loads_in (map Import ts) = sum_by-cons (λ (e : JournalEntry). cond (is_load e) 1 0) (Import t) (map Import ts) in
+    let rest : loads_in (map Import ts) ≡ 0 = loads_in-imports ts in
     omega arith
 
 -- the assumptions of the last of the first revisions

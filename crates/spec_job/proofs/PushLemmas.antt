@@ -3,6 +3,7 @@ use Rattle.std.proofs.Common.{◌≡◌, List, [], ◌∷◌, ◌++◌, sym, sub
 use Rattle.std.proofs.lemmas.List.Sums.{fold_push}
 use Rattle.spec_job.specs.Solo.{Own, unopened, solo, solo_step}
 use Rattle.spec_job.specs.Runnable.{MayHappen, IsRunnable}
+use Rattle.spec_job.proofs.CourseLemmas.{next}
 
 pub solo-push : (events : List Own) (o : Own) → solo (events ++ o ∷ []) ≡ solo_step (solo events) o
 solo-push events o = fold_push solo_step unopened events o

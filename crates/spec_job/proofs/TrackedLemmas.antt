@@ -26,7 +26,7 @@ use Rattle.spec_job.specs.Solo.{clauses_in}
 use Rattle.spec_job.specs.Models.{clauses_of}
 use Rattle.spec_job.proofs.LoadedLemmas.{clauses-length, clauses_in-cons}
 use Rattle.spec_job.proofs.ReachedLemmas.{IsClosed}
-use Rattle.spec_job.proofs.LinesLemmas.{IsOfLine, IsKnown, Covers, of-line-later, take-lines, numbered-known, of-originals}
+use Rattle.spec_job.proofs.LinesLemmas.{IsOfLine, IsKnown, of-line-later, Covers, numbered-known, of-originals, take-lines}
 
 -- a log of a job's first revisions stays one for more of them
 log-longer : (xs ys : List Posted) (log : List Line) → IsLog (clauses_of xs) log → clauses_in (xs ++ ys) < 2 ^ 32 → IsLog (clauses_of (xs ++ ys)) log
@@ -36,7 +36,7 @@ log-longer xs ys log is room =
     let size : length (clauses_of xs ++ clauses_of ys) ≡ length (clauses_of (xs ++ ys)) = ap (λ (cs : List (Option (List ℕ))). length cs) (sym joined) in
     subst (λ (cs : List (Option (List ℕ))). IsLog cs log) (sym joined) (log-takes-originals (clauses_of xs) (clauses_of ys) log is (omega arith))
 
-take-split : (revisions : List Posted) (k m : ℕ) → k ≤ m → take m revisions ≡ take k revisions ++ take (m - k) (drop k revisions)
+pub take-split : (revisions : List Posted) (k m : ℕ) → k ≤ m → take m revisions ≡ take k revisions ++ take (m - k) (drop k revisions)
 take-split revisions k m low = let sum : m ≡ k + (m - k) = omega arith in ap (λ (n : ℕ). take n revisions) sum ∙ take-add k (m - k) revisions
 
 pub log-later : (revisions : List Posted) (k m : ℕ) (log : List Line) → k ≤ m → clauses_in revisions < 2 ^ 32 → IsLog (clauses_of (take k revisions)) log → IsLog (clauses_of (take m revisions)) log
@@ -52,7 +52,7 @@ log-all revisions k log room is =
     let same : clauses_in (take k revisions ++ drop k revisions) ≡ clauses_in revisions = ap clauses_in split in
     subst (λ (ps : List Posted). IsLog (clauses_of ps) log) split (log-longer (take k revisions) (drop k revisions) log is (omega arith))
 
-take-more : (k : ℕ) (xs ys : List Posted) → take k (xs ++ ys) ≡ take k xs ++ take (k - length xs) ys
+pub take-more : (k : ℕ) (xs ys : List Posted) → take k (xs ++ ys) ≡ take k xs ++ take (k - length xs) ys
 take-more zero xs ys = let none : 0 ≡ 0 - length xs = omega arith in ap (λ (n : ℕ). take n ys) none
 take-more (suc k) [] ys = let all : suc k ≡ suc k - 0 = omega arith in ap (λ (n : ℕ). take n ys) all
 take-more (suc k) (x ∷ xs) ys =
@@ -110,28 +110,31 @@ pub loads-calm : (rs : List Posted) (first : ℕ) (s : Sliced) → (length rs �
 loads-calm [] first s h = h refl
 loads-calm (r ∷ rs) first s h = loads-calm rs (first + length r.clauses) (after_entry s (Load r first)) (λ e. refl)
 
--- the log of the current revision covers a node that has loaded this revision or an earlier one
-covers-node : (revisions : List Posted) (log : List Line) (m k i : ℕ) (n : Node) → m ≤ k → IsLog (clauses_of (take k revisions)) log → IsClosed log → originals n.clauses ≡ numbered_from 1 (clauses_of (take m revisions)) → IsLogged log i n → Covers (clauses_of (take k revisions)) log i n.serial n.clauses
-covers-node revisions log m k i n low is closed held h = record { derived = is; closed = closed; known = All-both; before = h.before }
+-- what a node holds that has loaded the first of these revisions is an original, or the clause of a line
+pub node-known : (front more : List Posted) (log : List Line) (i : ℕ) (n : Node) → originals n.clauses ≡ numbered_from 1 (clauses_of front) → IsLogged log i n → All (IsKnown (clauses_of (front ++ more)) log) n.clauses
+node-known front more log i n held h = λ j d b. by_size _ (below j d b) (h.held j d b) (cases_lt _ (2 ^ 32))
   where
-    more : List Posted
-    more = take (k - m) (drop m revisions)
+    split : clauses_of (front ++ more) ≡ clauses_of front ++ clauses_of more
+    split = flat_map-append (λ (p : Posted). p.clauses) front more
 
-    split : clauses_of (take k revisions) ≡ clauses_of (take m revisions) ++ clauses_of more
-    split = ap clauses_of (take-split revisions m k low) ∙ flat_map-append (λ (p : Posted). p.clauses) (take m revisions) more
+    known-originals : All (λ c. numbered (clauses_of (front ++ more)) c.id ≡ Some (Some c.lits)) (originals n.clauses)
+    known-originals = subst (λ (cs : List (Option (List ℕ))). All (λ (c : Held). numbered cs c.id ≡ Some (Some c.lits)) (originals n.clauses)) (sym split) (subst (λ (hs : List Held). All (λ (c : Held). numbered (clauses_of front ++ clauses_of more) c.id ≡ Some (Some c.lits)) hs) (sym held) (numbered-known (clauses_of front) (clauses_of more)))
 
-    known-originals : All (λ c. numbered (clauses_of (take k revisions)) c.id ≡ Some (Some c.lits)) (originals n.clauses)
-    known-originals = subst (λ (cs : List (Option (List ℕ))). All (λ (c : Held). numbered cs c.id ≡ Some (Some c.lits)) (originals n.clauses)) (sym split) (subst (λ (hs : List Held). All (λ (c : Held). numbered (clauses_of (take m revisions) ++ clauses_of more) c.id ≡ Some (Some c.lits)) hs) (sym held) (numbered-known (clauses_of (take m revisions)) (clauses_of more)))
+    below : All (λ c. nat_lt c.id (2 ^ 32) ≡ true → numbered (clauses_of (front ++ more)) c.id ≡ Some (Some c.lits)) n.clauses
+    below = of-originals (λ c. numbered (clauses_of (front ++ more)) c.id ≡ Some (Some c.lits)) n.clauses known-originals
 
-    below : All (λ c. nat_lt c.id (2 ^ 32) ≡ true → numbered (clauses_of (take k revisions)) c.id ≡ Some (Some c.lits)) n.clauses
-    below = of-originals (λ c. numbered (clauses_of (take k revisions)) c.id ≡ Some (Some c.lits)) n.clauses known-originals
-
-    by_size : (c : Held) → (nat_lt c.id (2 ^ 32) ≡ true → numbered (clauses_of (take k revisions)) c.id ≡ Some (Some c.lits)) → (2 ^ 32 ≤ c.id → IsOfLine log c) → (c.id < 2 ^ 32) ⊎ (2 ^ 32 ≤ c.id) → IsKnown (clauses_of (take k revisions)) log c
+    by_size : (c : Held) → (nat_lt c.id (2 ^ 32) ≡ true → numbered (clauses_of (front ++ more)) c.id ≡ Some (Some c.lits)) → (2 ^ 32 ≤ c.id → IsOfLine log c) → (c.id < 2 ^ 32) ⊎ (2 ^ 32 ≤ c.id) → IsKnown (clauses_of (front ++ more)) log c
     by_size c f g (inl less) = inl (f (lt-ltb c.id (2 ^ 32) less))
     by_size c f g (inr high) = inr (g high)
 
-    All-both : All (IsKnown (clauses_of (take k revisions)) log) n.clauses
-    All-both j d b = by_size _ (below j d b) (h.held j d b) (cases_lt _ (2 ^ 32))
+-- the log of the current revision covers a node that has loaded this revision or an earlier one
+covers-node : (revisions : List Posted) (log : List Line) (m k i : ℕ) (n : Node) → m ≤ k → IsLog (clauses_of (take k revisions)) log → IsClosed log → originals n.clauses ≡ numbered_from 1 (clauses_of (take m revisions)) → IsLogged log i n → Covers (clauses_of (take k revisions)) log i n.serial n.clauses
+covers-node revisions log m k i n low is closed held h = record {
+  derived = is;
+  closed = closed;
+  known = subst (λ (ps : List Posted). All (IsKnown (clauses_of ps) log) n.clauses) (sym (take-split revisions m k low)) (node-known (take m revisions) (take (k - m) (drop m revisions)) log i n held h);
+  before = h.before;
+}
 
 -- after a slice the log with its lines covers the node
 pub slice-covers : (revisions : List Posted) (log : List Line) (m k i : ℕ) (n : Node) → i ≤ 63 → m ≤ k → IsLog (clauses_of (take k revisions)) log → IsClosed log → IsSound n → originals n.clauses ≡ numbered_from 1 (clauses_of (take m revisions)) → IsLogged log i n → Covers (clauses_of (take k revisions)) (log ++ (slice n).lines) i (slice n).node.serial (slice n).node.clauses

@@ -1,13 +1,16 @@
 use Rattle.std.specs.Prelude.{◌≡◌, ℕ, true, false, List, [], ◌∷◌, Some, None}
 use Rattle.mal_base.specs.Asks.{Terms}
-use Rattle.mal_base.specs.Held.{Line}
+use Rattle.mal_base.specs.Held.{Held, Line}
 use Rattle.mal_base.specs.declared.answer.Answer.TheVariants.{Satisfied, Refuted, Spent, OutOfStarts}
 use Rattle.mal_base.specs.declared.verdict.Outcome.TheVariants.{Ran, Starved, Lost}
 use Rattle.mal_revision.specs.Posted.{Posted}
 use Rattle.spec_node.specs.State.{fresh}
-use Rattle.spec_job.specs.Journal.{Load, Run}
-use Rattle.spec_job.specs.Solo.{Own, Opened, Revised, Closed, Volume, Started, Finished, Solo, unopened, solo, startable, place_at, conclude}
+use Rattle.spec_job.specs.Journal.{Load, Import, Run, replay}
+use Rattle.spec_job.specs.Solo.{Own, Opened, Revised, Closed, Volume, Started, Finished, Exchanged, Solo, unopened, solo, startable, start_entries, is_exchange_due, place_at, conclude}
 use Rattle.spec_job.specs.Proofs.{failed, proof_lines}
+use Rattle.spec_job.specs.Runnable.{IsRunnable}
+use Rattle.spec_job.specs.Counts.{IsOpenedOnce}
+use Rattle.spec_job.specs.DemandOne.{IsSingle}
 
 -- an ask of this demand with these slices
 abbrev pub ask : ℕ → ℕ → Terms
@@ -82,3 +85,39 @@ pub record HasRefutations : Type 0 where
   pub both_failed : failed 4294967296 (ran_once both_assumed).log ≡ 2 ∷ 4 ∷ []
   pub core : proof_for (ran_once both_assumed) 0 4294967296 ≡ line 2 (3 ∷ 5 ∷ []) (1 ∷ []) ∷ []
   pub not_settled : (ran_before both_assumed one_of_two).answers ≡ Refuted 4294967296 ∷ []
+
+abbrev pub told : ℕ → List ℕ → Held
+told id lits = record { id = id; lits = lits }
+
+-- a job with a volume of two, of which the first node has derived a clause, and then another revision was posted
+abbrev pub derived_before : Posted → List Own → Solo
+derived_before later own = solo (Opened (ask 2 4) ∷ Revised both_assumed ∷ Volume 2 ∷ Started 0 ∷ Finished 0 Ran ∷ Revised later ∷ own)
+
+-- the same job after an exchange
+abbrev pub exchanged_once : Solo
+exchanged_once = derived_before one_of_two (Exchanged ∷ [])
+
+-- worked examples of exchanges: what is told, which marks move, what is told once alone, what the next starts import, and
+-- the clauses of a node that has imported
+pub record HasExchanges : Type 0 where
+  pub not_due : is_exchange_due (derived_before one_of_two []) ≡ false
+  pub ran : (derived_before one_of_two []).ran ≡ 1
+  pub broadcast : exchanged_once.broadcasts ≡ (told 4294967296 (3 ∷ 5 ∷ []) ∷ []) ∷ []
+  pub ran_after : exchanged_once.ran ≡ 0
+  pub moved : (place_at exchanged_once 0).mark ≡ 1
+  pub moved_too : (place_at exchanged_once 1).mark ≡ 1
+  pub above_volume : (place_at exchanged_once 2).mark ≡ 0
+  pub while_out : (place_at (derived_before one_of_two (Started 0 ∷ Exchanged ∷ [])) 0).mark ≡ 0
+  pub not_while_out : (derived_before one_of_two (Started 0 ∷ Exchanged ∷ [])).broadcasts ≡ [] ∷ []
+  pub once : (derived_before one_of_two (Exchanged ∷ Exchanged ∷ [])).broadcasts ≡ (told 4294967296 (3 ∷ 5 ∷ []) ∷ []) ∷ [] ∷ []
+  pub own : start_entries exchanged_once (place_at exchanged_once 0) ≡ Load one_of_two 2 ∷ Import (told 4294967296 (3 ∷ 5 ∷ []) ∷ []) ∷ Run ∷ []
+  pub other : start_entries exchanged_once (place_at exchanged_once 1) ≡ Load both_assumed 1 ∷ Load one_of_two 2 ∷ Import (told 4294967296 (3 ∷ 5 ∷ []) ∷ []) ∷ Run ∷ []
+  pub imported : (replay 1 (Load four 1 ∷ Import (told 4294967296 (3 ∷ []) ∷ []) ∷ [])).node.clauses ≡ told 1 (2 ∷ 4 ∷ []) ∷ told 2 (2 ∷ 5 ∷ []) ∷ told 3 (3 ∷ 4 ∷ []) ∷ told 4 (3 ∷ 5 ∷ []) ∷ told 4294967296 (3 ∷ []) ∷ []
+  pub serial : (replay 1 (Load four 1 ∷ Import (told 4294967296 (3 ∷ []) ∷ []) ∷ [])).node.serial ≡ 1
+  pub line_after : (replay 1 (Load four 1 ∷ Import (told 4294967296 (3 ∷ []) ∷ []) ∷ Run ∷ [])).lines ≡ line 4294967361 [] (4294967296 ∷ 1 ∷ 2 ∷ []) ∷ []
+
+-- worked examples of own events that may happen: two nodes with an exchange between their starts, and one node alone
+pub record HasRunnable : Type 0 where
+  pub two : IsRunnable [] (Opened (ask 2 4) ∷ Revised both_assumed ∷ Volume 2 ∷ Started 0 ∷ Finished 0 Ran ∷ Revised one_of_two ∷ Exchanged ∷ Started 1 ∷ Started 0 ∷ Finished 1 Ran ∷ Finished 0 Lost ∷ [])
+  pub one : IsSingle (ask 1 4) (Revised one_of_two ∷ Closed ∷ Volume 1 ∷ Started 0 ∷ Finished 0 Ran ∷ [])
+  pub once : IsOpenedOnce (ask 1 4) (Revised one_of_two ∷ Volume 1 ∷ Started 0 ∷ Finished 0 Starved ∷ [])

@@ -3,15 +3,20 @@ use Rattle.mal_revision.specs.Posted.{Posted}
 use Rattle.spec_node.specs.State.{fresh}
 use Rattle.spec_search.specs.Slice.{Sliced, slice}
 use Rattle.spec_node.specs.Load.{loaded}
+use Rattle.spec_node.specs.Import.{imported}
+use Rattle.mal_base.specs.Held.{Held}
 
--- an entry of a node's journal: a revision is loaded under the number of its first clause, or a slice is run
+-- an entry of a node's journal: a revision is loaded under the number of its first clause, what was told is imported, or a
+-- slice is run
 pub data JournalEntry : Type 0 where
   Load : Posted → ℕ → JournalEntry
+  Import : List Held → JournalEntry
   Run : JournalEntry
 
 -- a node after one more entry, with the lines of its last slice
 abbrev pub after_entry : Sliced → JournalEntry → Sliced
 after_entry s (Load r first) = record { node = loaded r first s.node; lines = [] }
+after_entry s (Import told) = record { node = imported told s.node; lines = [] }
 after_entry s Run = slice s.node
 
 -- the replay of a journal: the fresh node of the index, then each entry in turn
@@ -21,11 +26,22 @@ replay index entries = fold after_entry (record { node = fresh index; lines = []
 -- whether an entry loads a revision
 abbrev pub is_load : JournalEntry → Bool
 is_load (Load r first) = true
+is_load (Import told) = false
 is_load Run = false
+
+-- whether an entry imports what was told
+abbrev pub is_import : JournalEntry → Bool
+is_import (Load r first) = false
+is_import (Import told) = true
+is_import Run = false
 
 -- how many revisions a journal has loaded
 abbrev pub loads_in : List JournalEntry → ℕ
 loads_in entries = count_by is_load entries
+
+-- how much of what was told a journal has imported
+abbrev pub imports_in : List JournalEntry → ℕ
+imports_in entries = count_by is_import entries
 
 -- the loads of these revisions, of which the first clause has this number
 abbrev pub loads_of : ℕ → List Posted → List JournalEntry

@@ -3,9 +3,12 @@ pub mod Solo
 pub mod Titled
 pub mod Left
 pub mod Keeps
-pub mod Counts
 pub mod Models
 pub mod Proofs
 pub mod Replies
 pub mod Runnable
+pub mod Counts
+pub mod Provenance
+pub mod Following
+pub mod DemandOne
 pub mod Examples

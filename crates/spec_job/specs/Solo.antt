@@ -1,4 +1,4 @@
-use Rattle.std.specs.Prelude.{find, option_map, ℕ, ◌+◌, ◌-◌, ◌*◌, Bool, true, false, ◌&&◌, ◌==◌, nat_lt, nat_le, List, [], ◌∷◌, ◌++◌, length, take, drop, replicate, sum_by, count_by, fold, get_or, slice_set, Option, Some, None, is_none, if◌then◌else◌}
+use Rattle.std.specs.Prelude.{find, option_map, ℕ, ◌+◌, ◌-◌, ◌*◌, ◌%◌, Bool, true, false, ◌&&◌, ◌==◌, nat_lt, nat_le, List, [], ◌∷◌, ◌++◌, map, filter, length, take, drop, replicate, sum_by, count_by, fold, get_or, slice_set, Option, Some, None, is_none, if◌then◌else◌}
 use Rattle.mal_base.specs.Asks.{Terms}
 use Rattle.mal_base.specs.declared.answer.Answer.{Answer}
 use Rattle.mal_base.specs.declared.answer.Answer.TheVariants.{Satisfied, Refuted, Spent, OutOfStarts}
@@ -6,11 +6,12 @@ use Rattle.mal_base.specs.declared.verdict.Verdict.{Verdict}
 use Rattle.mal_base.specs.declared.verdict.Verdict.TheVariants.{Satisfiable, Unsatisfiable}
 use Rattle.mal_base.specs.declared.verdict.Outcome.{Outcome}
 use Rattle.mal_base.specs.declared.verdict.Outcome.TheVariants.{Ran, Starved, Lost}
-use Rattle.mal_base.specs.Held.{Line}
+use Rattle.mal_base.specs.Held.{Held, Line}
 use Rattle.mal_revision.specs.Posted.{Posted}
 use Rattle.spec_node.specs.State.{Node}
 use Rattle.spec_node.specs.Model.{model_of}
-use Rattle.spec_job.specs.Journal.{JournalEntry, Run, replay, loads_in, loads_of}
+use Rattle.spec_exchange.specs.Exchange.{broadcast}
+use Rattle.spec_job.specs.Journal.{JournalEntry, Import, Run, replay, loads_in, loads_of, imports_in}
 
 -- a job's own events: no other job, no worker and no start number stands in them
 pub data Own : Type 0 where
@@ -27,15 +28,17 @@ pub record Lease : Type 0 where
   pub revision : ℕ
   pub adds : List JournalEntry
 
--- a place of the job's tree: the journal of its node, the start that is out, and how often it was started
+-- a place of the job's tree: the journal of its node, the start that is out, how often it was started, and how long the
+-- log was at the last exchange in which it took part
 pub record Place : Type 0 where
   pub entries : List JournalEntry
   pub out : Option Lease
   pub starts : ℕ
+  pub mark : ℕ
 
 -- a place that was never started
 abbrev pub vacant : Place
-vacant = record { entries = []; out = None; starts = 0 }
+vacant = record { entries = []; out = None; starts = 0; mark = 0 }
 
 -- what a job's machine remembers
 pub record Solo : Type 0 where
@@ -46,13 +49,14 @@ pub record Solo : Type 0 where
   pub answers : List Answer
   pub places : List Place
   pub log : List Line
+  pub broadcasts : List (List Held)
   pub ran : ℕ
   pub spent : ℕ
   pub starved : ℕ
 
 -- the machine before its first event: 64 vacant places and nothing else
 abbrev pub unopened : Solo
-unopened = record { ask = record { priority = 0; demand = 0; slices = 0 }; closed = false; volume = 0; revisions = []; answers = []; places = replicate 64 vacant; log = []; ran = 0; spent = 0; starved = 0 }
+unopened = record { ask = record { priority = 0; demand = 0; slices = 0 }; closed = false; volume = 0; revisions = []; answers = []; places = replicate 64 vacant; log = []; broadcasts = []; ran = 0; spent = 0; starved = 0 }
 
 -- revisions are answered in order: the current one is the first without an answer
 abbrev pub current : Solo → ℕ
@@ -78,9 +82,13 @@ clauses_in revisions = sum_by (λ r. length r.clauses) revisions
 abbrev pub missing_loads : Solo → Place → List JournalEntry
 missing_loads s p = let n = loads_in p.entries in loads_of (clauses_in (take n s.revisions) + 1) (take (current s + 1 - n) (drop n s.revisions))
 
--- what a start adds to a journal: the missing loads, then one slice
+-- the imports that a journal lacks
+abbrev pub missing_imports : Solo → Place → List JournalEntry
+missing_imports s p = map Import (drop (imports_in p.entries) s.broadcasts)
+
+-- what a start adds to a journal: the missing loads, the missing imports, then one slice
 abbrev pub start_entries : Solo → Place → List JournalEntry
-start_entries s p = missing_loads s p ++ Run ∷ []
+start_entries s p = missing_loads s p ++ (missing_imports s p ++ Run ∷ [])
 
 -- the place is out for the current revision
 abbrev pub started : Solo → ℕ → Place → Solo
@@ -146,6 +154,32 @@ abbrev pub finished : Solo → ℕ → Place → Option Lease → Outcome → So
 finished s i p None outcome = s
 finished s i p (Some l) outcome = settled (finished_lease s i p l outcome)
 
+-- whether a node that takes part in an exchange exports a line: it is one of its own, of 1 to 16 literals
+abbrev pub is_exported : ℕ → Line → Bool
+is_exported i l = (l.id % 64 == i) && (nat_le 1 (length l.lits) && nat_le (length l.lits) 16)
+
+-- what a place exports: of the lines that entered the log since the last exchange in which it took part
+abbrev pub exports_of : List Line → ℕ → Place → List Held
+exports_of log i p = map (λ l. record { id = l.id; lits = l.lits }) (filter (is_exported i) (drop p.mark log))
+
+-- whether a place takes part in an exchange: it is below the volume and at home
+abbrev pub takes_part : ℕ → ℕ → Place → Bool
+takes_part volume i p = nat_lt i volume && is_none p.out
+
+-- what the places export that take part; the first place has this index
+abbrev pub exports_from : ℕ → List Line → ℕ → List Place → List Held
+exports_from volume log i [] = []
+exports_from volume log i (p ∷ ps) = (if takes_part volume i p then exports_of log i p else []) ++ exports_from volume log (i + 1) ps
+
+-- the places with the marks of those moved that take part
+abbrev pub marked_from : ℕ → ℕ → ℕ → List Place → List Place
+marked_from volume mark i [] = []
+marked_from volume mark i (p ∷ ps) = (if takes_part volume i p then record p { mark = mark } else p) ∷ marked_from volume mark (i + 1) ps
+
+-- an exchange: what is exported is told to all, and the marks of those that took part move
+abbrev pub exchanged : Solo → Solo
+exchanged s = record s { broadcasts = s.broadcasts ++ broadcast (exports_from s.volume s.log 0 s.places) ∷ []; places = marked_from s.volume (length s.log) 0 s.places; ran = 0 }
+
 -- the machine after one more event of its own
 abbrev pub solo_step : Solo → Own → Solo
 solo_step s (Opened ask) = record s { ask = ask }
@@ -154,7 +188,7 @@ solo_step s Closed = record s { closed = true }
 solo_step s (Volume v) = record s { volume = v }
 solo_step s (Started i) = started s i (place_at s i)
 solo_step s (Finished i outcome) = finished s i (place_at s i) (place_at s i).out outcome
-solo_step s Exchanged = record s { ran = 0 }
+solo_step s Exchanged = exchanged s
 
 -- the machine that is run alone on a list of own events
 abbrev pub solo : List Own → Solo

@@ -2,14 +2,19 @@
 //! and the laws about them as the contracts of functions without a body.
 #![tactic(auto)]
 
-ghost use Rattle.spec_job.specs.Counts.{ReplaysCount};
-ghost use Rattle.spec_job.specs.Examples.{HasExamples, HasRefutations};
+ghost use Rattle.spec_job.specs.Counts.{ReplaysCount, RunsAreFew};
+ghost use Rattle.spec_job.specs.DemandOne.{NoneIsDue, SinglesAgree};
+ghost use Rattle.spec_job.specs.Examples.{HasExamples, HasExchanges, HasRefutations, HasRunnable};
+ghost use Rattle.spec_job.specs.Following.{RunnableJournalsFollow};
+ghost use Rattle.spec_job.specs.Provenance.{RunnableClausesOwn};
 ghost use Rattle.spec_job.specs.Runnable.{AnswersStay, RunnableAnswersFollow, RunnableAnswersRefute, RunnableAnswersSolve, RunnableLogsDerived};
 
-/// The worked examples of a job's machine compute to the answers that are known.
+/// The worked examples of a job's machine compute to the answers that are known, and own events may happen as they should.
 pub fn job_examples()
     ensures machines { HasExamples }
     ensures refutations { HasRefutations }
+    ensures exchanges { HasExchanges }
+    ensures runnable { HasRunnable }
 {}
 
 /// Where each own event may happen after those before it, each satisfiable answer carries a model of its revision, and
@@ -31,7 +36,32 @@ pub fn answers_stay()
     ensures { AnswersStay }
 {}
 
-/// A replay brings a node's counts no further than the slices that were run.
+/// Replays bring the counts of a job's nodes no further than the slices that were run.
 pub fn replays_count()
     ensures { ReplaysCount }
+{}
+
+/// The slices of a job are no more than the budgets of its revisions.
+pub fn runs_are_few()
+    ensures { RunsAreFew }
+{}
+
+/// Where each own event may happen after those before it, each clause that a node holds, that is exported or that was told to
+/// all is an original of the job or a line of its log, which is derived from the job's clauses; the literals of each line rise
+/// by variable.
+pub fn clauses_are_own()
+    ensures { RunnableClausesOwn }
+{}
+
+/// The answers and the replies of a job that one node runs are decided by its name, its budget and its revisions, whatever own
+/// events lie between them; no exchange is due then.
+pub fn singles_agree()
+    ensures agree { SinglesAgree }
+    ensures alone { NoneIsDue }
+{}
+
+/// Where each own event may happen after those before it, the journals of a job's nodes can be replayed: each revision is loaded
+/// under new numbers, what is imported may be told to the node, and each slice is run on a sound node without a verdict.
+pub fn journals_follow()
+    ensures { RunnableJournalsFollow }
 {}

@@ -1,4 +1,4 @@
-use Rattle.spec_job.proofs.RefutingLemmas.{runnable-answers_refute, runnable-logs_derived}
+use Rattle.spec_job.proofs.RefutingLemmas.{runnable-logs_derived, runnable-answers_refute}
 use Rattle.spec_job.proofs.answers_refute.Goals as goal
 
 pub returns : goal.returns

@@ -1,4 +1,4 @@
-use Rattle.spec_job.proofs.SolvingLemmas.{runnable-answers_follow, runnable-answers_solve}
+use Rattle.spec_job.proofs.RefutingLemmas.{runnable-answers_solve, runnable-answers_follow}
 use Rattle.spec_job.proofs.answers_solve.Goals as goal
 
 pub returns : goal.returns

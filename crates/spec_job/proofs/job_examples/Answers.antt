@@ -1,5 +1,5 @@
-use Rattle.spec_job.proofs.ExampleLemmas.{examples, refutations}
+use Rattle.spec_job.proofs.ExampleLemmas.{examples, exchanges, refutations, runnable}
 use Rattle.spec_job.proofs.job_examples.Goals as goal
 
 pub returns : goal.returns
-returns c = record { machines = examples; refutations = refutations }
+returns c = record { machines = examples; refutations = refutations; exchanges = exchanges; runnable = runnable }

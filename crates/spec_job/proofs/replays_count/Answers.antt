@@ -1,4 +1,4 @@
-use Rattle.spec_job.proofs.CountLemmas.{replays-count}
+use Rattle.spec_job.proofs.CountingLemmas.{replays-count}
 use Rattle.spec_job.proofs.replays_count.Goals as goal
 
 pub returns : goal.returns

@@ -1,0 +1,177 @@
+-- The nodes of a machine count no further than the slices that were run.
+use Rattle.std.proofs.Common.{◌≡◌, ℕ, suc, ◌+◌, ◌-◌, ◌*◌, ◌/◌, ◌<◌, ◌≤◌, ◌^◌, Bool, true, false, cond, ◌==◌, List, [], ◌∷◌, ◌++◌, length, Option, Some, None, inl, inr, ◌⊎◌, refl, sym, ◌∙◌, ap, subst, arith, append_assoc, append-nil}
+use Rattle.std.specs.Prelude.{All, slice_set}
+use Rattle.std.proofs.lemmas.List.Elements.{All-nil, All-cons, All-append, All-weaker}
+use Rattle.std.proofs.lemmas.List.Sums.{fold_push}
+use Rattle.mal_base.specs.Held.{Held, Line}
+use Rattle.mal_base.specs.declared.answer.Answer.TheVariants.{Spent, OutOfStarts}
+use Rattle.mal_base.specs.declared.verdict.Verdict.{Verdict}
+use Rattle.mal_base.specs.declared.verdict.Verdict.TheVariants.{Satisfiable, Unsatisfiable}
+use Rattle.mal_base.specs.declared.verdict.Outcome.{Outcome}
+use Rattle.mal_base.specs.declared.verdict.Outcome.TheVariants.{Ran, Starved, Lost}
+use Rattle.spec_exchange.specs.Exchange.{broadcast}
+use Rattle.spec_node.specs.State.{Node}
+use Rattle.spec_search.specs.Slice.{Sliced, slice}
+use Rattle.spec_search.specs.Laws.{IsCounted, AreNumbered}
+use Rattle.spec_search.proofs.LineLemmas.{lines-counted}
+use Rattle.spec_proof.proofs.Among.{Among, among-append}
+use Rattle.spec_job.specs.Journal.{JournalEntry, replay}
+use Rattle.spec_job.specs.Solo.{Own, Opened, Revised, Closed, Volume, Started, Finished, Exchanged, Lease, Place, Solo, unopened, solo, solo_step, place_at, with_place, answered, spend, starve, conclude, first_empty, settled_by, is_late, finished_home, finished_lease, finished, exports_from, exchanged}
+use Rattle.spec_job.specs.Counts.{runs_in, runs_of, HasCounts, PlaceCounts, ReplaysCount}
+use Rattle.spec_job.proofs.PlacesLemmas.{marked-length, all-marked, get-vacant, out-within}
+use Rattle.spec_job.proofs.CountLemmas.{IsLow, slice-counted, replay-index, replay-runs, runs-set, runs-marked}
+use Rattle.spec_job.proofs.LinesLemmas.{IsOfLine}
+use Rattle.spec_job.proofs.ImportingLemmas.{clause_of}
+use Rattle.spec_job.proofs.ExportLemmas.{All-broadcast, all-exports}
+use Rattle.spec_job.proofs.LowLemmas.{adds-run, IsOutLow, IsPlaceLow, AreLow, IsLowSolo, set-low, numbered-low, start-ready, started-low, idle-low}
+
+-- a slice that was run
+home-low : (s : Solo) (i : ℕ) (l : Lease) → (place_at s i).out ≡ Some l → IsLowSolo s → AreLow (runs_of (slice_set s.places i (record (place_at s i) { entries = (place_at s i).entries ++ l.adds; out = None }))) (slice_set s.places i (record (place_at s i) { entries = (place_at s i).entries ++ l.adds; out = None })) (s.log ++ (replay i ((place_at s i).entries ++ l.adds)).lines) s.broadcasts
+home-low s i l out h = subst (λ (n : ℕ). AreLow n (slice_set s.places i q) (s.log ++ ran.lines) s.broadcasts) (sym total) (record { count = set.count; places_low = set.places_low; lines = λ line m. by_side line (among-append s.log ran.lines line m); told = set.told })
+  where
+    p : Place
+    p = place_at s i
+
+    q : Place
+    q = record p { entries = p.entries ++ l.adds; out = None }
+
+    all : ℕ
+    all = runs_of s.places
+
+    within : i < length s.places
+    within = out-within s.places i l out
+
+    few : i ≤ 63
+    few = let inside : i < length s.places = within in let most : length s.places ≤ 64 = h.count in omega arith
+
+    is : IsOutLow all i p.entries l
+    is = (h.places_low i few).out l out
+
+    node : Node
+    node = (replay i (p.entries ++ is.before)).node
+
+    ran : Sliced
+    ran = replay i (p.entries ++ l.adds)
+
+    runs : ran ≡ slice node
+    runs = ap (λ (es : List JournalEntry). replay i (p.entries ++ es)) is.adds ∙ replay-runs i p.entries is.before
+
+    more : runs_in (p.entries ++ l.adds) ≡ runs_in p.entries + 1
+    more = adds-run all i p.entries l is
+
+    total : runs_of (slice_set s.places i q) ≡ all + 1
+    total = runs-set s.places i 1 q within more
+
+    counts : HasCounts (all + 1) (runs_in (p.entries ++ l.adds)) ran.node
+    counts =
+        let sliced : HasCounts (suc all) (suc (runs_in p.entries)) (slice node).node = slice-counted all (runs_in p.entries) node is.counts in
+        let next : suc all ≡ all + 1 = omega arith in
+        let same : suc (runs_in p.entries) ≡ runs_in (p.entries ++ l.adds) = omega (arith, more) in
+        subst (λ (x : Sliced). HasCounts (all + 1) (runs_in (p.entries ++ l.adds)) x.node) (sym runs) (subst (λ (n : ℕ). HasCounts (all + 1) n (slice node).node) same (subst (λ (n : ℕ). HasCounts n (suc (runs_in p.entries)) (slice node).node) next sliced))
+
+    set : AreLow (all + 1) (slice_set s.places i q) s.log s.broadcasts
+    set = set-low all (all + 1) s.places s.log s.broadcasts i q (omega arith) (λ low. record { home = counts; out = λ x e. absurd (cc) }) h
+
+    new : (line : Line) → Among line (slice node).lines → IsLow (all + 1) (clause_of line)
+    new =
+        let counted : IsCounted node = lines-counted node in
+        let serial : (slice node).node.serial ≡ node.serial + length (slice node).lines = counted.serial in
+        let index : node.index ≡ i = replay-index i (p.entries ++ is.before) in
+        let low : (slice node).node.serial ≤ (all + 1) * 1000 = subst (λ (x : Sliced). x.node.serial ≤ (all + 1) * 1000) runs counts.serial in
+        numbered-low node.serial i (all + 1) (slice node).lines few (subst (λ (n : ℕ). n ≤ (all + 1) * 1000) serial low) (subst (λ (n : ℕ). AreNumbered node.serial n (slice node).lines) index counted.numbered)
+
+    by_side : (line : Line) → Among line s.log ⊎ Among line ran.lines → IsLow (all + 1) (clause_of line)
+    by_side line (inl m) = set.lines line m
+    by_side line (inr m) = new line (subst (λ (x : Sliced). Among line x.lines) runs m)
+
+-- answers change none of it
+settled-low : (o : Option ℕ) (s : Solo) → IsLowSolo s → IsLowSolo (settled_by o s)
+settled-low None s h = h
+settled-low (Some goal) s h = h
+
+spend-low : (s : Solo) → IsLowSolo s → IsLowSolo (spend s)
+spend-low s h = by_test (s.spent + 1 == s.ask.slices)
+  where
+    by_test : (b : Bool) → IsLowSolo (cond b (answered s (Spent s.ask.slices)) (record s { spent = s.spent + 1 }))
+    by_test true = h
+    by_test false = h
+
+starve-low : (s : Solo) → IsLowSolo s → IsLowSolo (starve s)
+starve-low s h = by_test (s.starved + 1 == 3)
+  where
+    by_test : (b : Bool) → IsLowSolo (cond b (answered s OutOfStarts) (record s { starved = s.starved + 1 }))
+    by_test true = h
+    by_test false = h
+
+conclude-low : (v : Option Verdict) (n : Node) (s : Solo) → IsLowSolo s → IsLowSolo (conclude v n s)
+conclude-low None n s h = spend-low s h
+conclude-low (Some Satisfiable) n s h = h
+conclude-low (Some (Unsatisfiable goal)) n s h = h
+
+lease-low : (s : Solo) (i : ℕ) (l : Lease) (o : Outcome) → (place_at s i).out ≡ Some l → IsLowSolo s → IsLowSolo (finished_lease s i (place_at s i) l o)
+lease-low s i l Ran e h = by_late (is_late s l)
+  where
+    ran : Sliced
+    ran = replay i ((place_at s i).entries ++ l.adds)
+
+    home : Solo
+    home = record (with_place s i (record (place_at s i) { entries = (place_at s i).entries ++ l.adds; out = None })) { log = s.log ++ ran.lines; ran = s.ran + 1 }
+
+    by_late : (b : Bool) → IsLowSolo (cond b home (conclude ran.node.verdict ran.node home))
+    by_late true = home-low s i l e h
+    by_late false = conclude-low ran.node.verdict ran.node home (home-low s i l e h)
+lease-low s i l Starved e h = by_late (is_late s l)
+  where
+    by_late : (b : Bool) → IsLowSolo (cond b (finished_home s i (place_at s i)) (starve (finished_home s i (place_at s i))))
+    by_late true = idle-low s i h
+    by_late false = starve-low (finished_home s i (place_at s i)) (idle-low s i h)
+lease-low s i l Lost e h = idle-low s i h
+
+finished-low : (s : Solo) (i : ℕ) (out : Option Lease) (o : Outcome) → (place_at s i).out ≡ out → IsLowSolo s → IsLowSolo (finished s i (place_at s i) out o)
+finished-low s i None o e h = h
+finished-low s i (Some l) o e h = let ended : Solo = finished_lease s i (place_at s i) l o in settled-low (first_empty ended.log) ended (lease-low s i l o e h)
+
+-- an exchange
+of-line-low : (all : ℕ) (log : List Line) → ((line : Line) → Among line log → IsLow all (clause_of line)) → (c : Held) → IsOfLine log c → IsLow all c
+of-line-low all log h c (line, m, i, l) = subst (λ (n : ℕ). (n - 2 ^ 32) / 64 < all * 1000) i (h line m)
+
+exchanged-low : (s : Solo) → IsLowSolo s → IsLowSolo (exchanged s)
+exchanged-low s h =
+    let all : ℕ = runs_of s.places in
+    let exports : List Held = exports_from s.volume s.log 0 s.places in
+    let low : All (IsLow all) (broadcast exports) = All-broadcast (IsLow all) exports (All-weaker (IsOfLine s.log) (IsLow all) (of-line-low all s.log h.lines) exports (all-exports s.volume s.log 0 s.places)) in
+    subst (λ (n : ℕ). AreLow n (exchanged s).places s.log (s.broadcasts ++ broadcast exports ∷ [])) (sym (runs-marked s.volume (length s.log) 0 s.places)) (record {
+      count = subst (λ (n : ℕ). n ≤ 64) (sym (marked-length s.volume (length s.log) 0 s.places)) h.count;
+      places_low = all-marked (λ (i : ℕ) (p : Place). IsPlaceLow all i p) (λ i m p k. record { home = k.home; out = k.out }) s.volume (length s.log) s.places h.places_low;
+      lines = h.lines;
+      told = All-append (All (IsLow all)) s.broadcasts (broadcast exports ∷ []) h.told (All-cons (All (IsLow all)) (broadcast exports) [] low (All-nil (All (IsLow all))));
+    })
+
+pub step-low : (s : Solo) (o : Own) → IsLowSolo s → IsLowSolo (solo_step s o)
+step-low s (Opened ask) h = h
+step-low s (Revised r) h = settled-low (first_empty s.log) (record s { revisions = s.revisions ++ r ∷ [] }) h
+step-low s Closed h = h
+step-low s (Volume v) h = h
+step-low s (Started i) h = started-low s i h
+step-low s (Finished i o) h = finished-low s i (place_at s i).out o refl h
+step-low s Exchanged h = exchanged-low s h
+
+pub unopened-low : IsLowSolo unopened
+unopened-low = record {
+  count = omega arith;
+  places_low = λ i few. subst (λ (p : Place). IsPlaceLow 0 i p) (sym (get-vacant 64 i)) (record { home = record { serial = omega arith; since = omega arith; round = omega arith }; out = λ l e. absurd (cc) });
+  lines = λ line m. absurd m;
+  told = All-nil (All (IsLow 0));
+}
+
+events-low : (past events : List Own) → IsLowSolo (solo past) → IsLowSolo (solo (past ++ events))
+events-low past [] h = subst (λ (es : List Own). IsLowSolo (solo es)) (sym (append-nil past)) h
+events-low past (o ∷ os) h =
+    let next : IsLowSolo (solo (past ++ o ∷ [])) = subst (λ (s : Solo). IsLowSolo s) (sym (fold_push solo_step unopened past o)) (step-low (solo past) o h) in
+    subst (λ (es : List Own). IsLowSolo (solo es)) (append_assoc past (o ∷ []) os) (events-low (past ++ o ∷ []) os next)
+
+place-counts : (s : Solo) (i : ℕ) → i ≤ 63 → IsLowSolo s → PlaceCounts s i (place_at s i)
+place-counts s i few h = record { home = (h.places_low i few).home; ready = start-ready s i few h }
+
+pub replays-count : ReplaysCount
+replays-count events i few = place-counts (solo events) i few (events-low [] events unopened-low)

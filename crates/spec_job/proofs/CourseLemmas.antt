@@ -1,0 +1,150 @@
+-- The course of a job that one node runs: slice after slice, whatever own events lie between them.
+use Rattle.std.proofs.Common.{◌≡◌, ℕ, zero, suc, ◌+◌, ◌-◌, ◌<◌, ◌≤◌, Bool, true, false, cond, ◌==◌, List, [], ◌∷◌, ◌++◌, length, take, drop, Option, Some, None, refl, sym, ◌∙◌, ap, subst, arith, append_assoc, append-nil, length-append}
+use Rattle.std.specs.Prelude.{slice_get}
+use Rattle.std.proofs.lemmas.List.{take-append-le}
+use Rattle.mal_base.specs.Held.{Line}
+use Rattle.mal_base.specs.declared.answer.Answer.{Answer}
+use Rattle.mal_base.specs.declared.answer.Answer.TheVariants.{Satisfied, Refuted, Spent}
+use Rattle.mal_base.specs.declared.verdict.Verdict.{Verdict}
+use Rattle.mal_base.specs.declared.verdict.Verdict.TheVariants.{Satisfiable, Unsatisfiable}
+use Rattle.mal_revision.specs.Posted.{Posted}
+use Rattle.spec_node.specs.State.{Node}
+use Rattle.spec_node.specs.Model.{model_of}
+use Rattle.spec_search.specs.Slice.{Sliced}
+use Rattle.spec_job.specs.Journal.{JournalEntry, Run, replay, loads_in, loads_of}
+use Rattle.spec_job.specs.Solo.{clauses_in, first_empty}
+use Rattle.spec_job.proofs.ElementLemmas.{get-front}
+
+-- how far a node has come: its journal, the log, the answers before an empty clause gives more, and the slices spent
+pub record Course : Type 0 where
+  pub entries : List JournalEntry
+  pub log : List Line
+  pub answers : List Answer
+  pub spent : ℕ
+
+abbrev pub with_answer : Course → Answer → Course
+with_answer c a = record c { answers = c.answers ++ a ∷ []; spent = 0 }
+
+abbrev pub concluded : Option Verdict → Node → ℕ → Course → Course
+concluded None n slices c = cond (c.spent + 1 == slices) (with_answer c (Spent slices)) (record c { spent = c.spent + 1 })
+concluded (Some Satisfiable) n slices c = with_answer c (Satisfied (model_of n))
+concluded (Some (Unsatisfiable goal)) n slices c = with_answer c (Refuted goal)
+
+-- what the next start adds
+abbrev pub next_adds : List Posted → Course → List JournalEntry
+next_adds revisions c = let n = loads_in c.entries in loads_of (clauses_in (take n revisions) + 1) (take (length c.answers + 1 - n) (drop n revisions)) ++ Run ∷ []
+
+abbrev pub ran_on : ℕ → List JournalEntry → Course → Course
+ran_on slices adds c = let ran = replay 0 (c.entries ++ adds) in concluded ran.node.verdict ran.node slices (record c { entries = c.entries ++ adds; log = c.log ++ ran.lines })
+
+-- one more slice
+abbrev pub next : ℕ → List Posted → Course → Course
+next slices revisions c = ran_on slices (next_adds revisions c) c
+
+-- the course after so many slices
+abbrev pub course : ℕ → List Posted → ℕ → Course
+course slices revisions zero = record { entries = []; log = []; answers = []; spent = 0 }
+course slices revisions (suc n) = next slices revisions (course slices revisions n)
+
+-- a course goes on: a revision is open, the node has loaded no more than were posted, and no empty clause was derived
+pub record GoesOn (revisions : List Posted) (c : Course) : Type 0 where
+  pub live : length c.answers < length revisions
+  pub loaded : loads_in c.entries ≤ length revisions
+  pub open_yet : first_empty c.log ≡ None
+
+-- each of so many slices went on
+abbrev pub WentOn : ℕ → List Posted → ℕ → Type 0
+WentOn slices revisions zero = Unit {0}
+WentOn slices revisions (suc n) = WentOn slices revisions n × GoesOn revisions (course slices revisions n)
+
+drop-append : (n : ℕ) (xs ys : List Posted) → n ≤ length xs → drop n (xs ++ ys) ≡ drop n xs ++ ys
+drop-append zero xs ys low = refl
+drop-append (suc n) [] ys low = absurd (omega arith)
+drop-append (suc n) (x ∷ xs) ys low = drop-append n xs ys (omega arith)
+
+length-dropped : (n : ℕ) (xs : List Posted) → length (drop n xs) + n ≡ length xs + (n - length xs)
+length-dropped zero xs = omega arith
+length-dropped (suc n) [] = omega arith
+length-dropped (suc n) (x ∷ xs) = let rest : length (drop n xs) + n ≡ length xs + (n - length xs) = length-dropped n xs in omega arith
+
+-- further revisions change nothing of what an open one is run on
+pub adds-more : (revisions more : List Posted) (c : Course) → length c.answers < length revisions → loads_in c.entries ≤ length revisions → next_adds (revisions ++ more) c ≡ next_adds revisions c
+adds-more revisions more c live loaded =
+    let n : ℕ = loads_in c.entries in
+    let m : ℕ = length c.answers + 1 - n in
+    let front : take n (revisions ++ more) ≡ take n revisions = take-append-le n revisions more loaded in
+    let size : length (drop n revisions) + n ≡ length revisions + (n - length revisions) = length-dropped n revisions in
+    let back : take m (drop n (revisions ++ more)) ≡ take m (drop n revisions) = ap (λ (ps : List Posted). take m ps) (drop-append n revisions more loaded) ∙ take-append-le m (drop n revisions) more (omega arith) in
+    ap (λ (ps : List Posted). loads_of (clauses_in ps + 1) (take m (drop n (revisions ++ more))) ++ Run ∷ []) front ∙ ap (λ (ps : List Posted). loads_of (clauses_in (take n revisions) + 1) ps ++ Run ∷ []) back
+
+pub course-more : (slices : ℕ) (revisions more : List Posted) (n : ℕ) → WentOn slices revisions n → course slices (revisions ++ more) n ≡ course slices revisions n
+course-more slices revisions more zero w = refl
+course-more slices revisions more (suc n) w =
+    let c : Course = course slices revisions n in
+    let on : GoesOn revisions c = w.1 in
+    ap (next slices (revisions ++ more)) (course-more slices revisions more n w.0) ∙ ap (λ (adds : List JournalEntry). ran_on slices adds c) (adds-more revisions more c on.live on.loaded)
+
+on-more : (revisions more : List Posted) (c : Course) → GoesOn revisions c → GoesOn (revisions ++ more) c
+on-more revisions more c h =
+    let sum : length (revisions ++ more) ≡ length revisions + length more = length-append revisions more in
+    record { live = omega (arith, h.live); loaded = omega (arith, h.loaded); open_yet = h.open_yet }
+
+pub went-more : (slices : ℕ) (revisions more : List Posted) (n : ℕ) → WentOn slices revisions n → WentOn slices (revisions ++ more) n
+went-more slices revisions more zero w = tt
+went-more slices revisions more (suc n) w = (went-more slices revisions more n w.0, subst (λ (c : Course). GoesOn (revisions ++ more) c) (sym (course-more slices revisions more n w.0)) (on-more revisions more (course slices revisions n) w.1))
+
+-- so many slices later
+abbrev pub beyond : ℕ → ℕ → ℕ
+beyond zero n = n
+beyond (suc k) n = suc (beyond k n)
+
+beyond-sum : (k n : ℕ) → beyond k n ≡ k + n
+beyond-sum zero n = omega arith
+beyond-sum (suc k) n = let rest : beyond k n ≡ k + n = beyond-sum k n in omega arith
+
+pub beyond-gap : (n m : ℕ) → n ≤ m → m ≡ beyond (m - n) n
+beyond-gap n m low = let sum : beyond (m - n) n ≡ (m - n) + n = beyond-sum (m - n) n in omega arith
+
+-- a course goes on before each later slice
+pub went-before : (slices : ℕ) (revisions : List Posted) (n k : ℕ) → WentOn slices revisions (beyond (suc k) n) → GoesOn revisions (course slices revisions n)
+went-before slices revisions n zero w = w.1
+went-before slices revisions n (suc k) w = went-before slices revisions n k w.0
+
+-- answers and lines stay
+concluded-answers : (v : Option Verdict) (n : Node) (slices : ℕ) (c : Course) (r : ℕ) (a : Answer) → slice_get c.answers r ≡ Some a → slice_get (concluded v n slices c).answers r ≡ Some a
+concluded-answers None n slices c r a e = by_test (c.spent + 1 == slices)
+  where
+    by_test : (b : Bool) → slice_get (cond b (with_answer c (Spent slices)) (record c { spent = c.spent + 1 })).answers r ≡ Some a
+    by_test true = get-front c.answers (Spent slices ∷ []) r a e
+    by_test false = e
+concluded-answers (Some Satisfiable) n slices c r a e = get-front c.answers (Satisfied (model_of n) ∷ []) r a e
+concluded-answers (Some (Unsatisfiable goal)) n slices c r a e = get-front c.answers (Refuted goal ∷ []) r a e
+
+pub course-answers : (slices : ℕ) (revisions : List Posted) (n k r : ℕ) (a : Answer) → slice_get (course slices revisions n).answers r ≡ Some a → slice_get (course slices revisions (beyond k n)).answers r ≡ Some a
+course-answers slices revisions n zero r a e = e
+course-answers slices revisions n (suc k) r a e =
+    let c : Course = course slices revisions (beyond k n) in
+    let ran : Sliced = replay 0 (c.entries ++ next_adds revisions c) in
+    concluded-answers ran.node.verdict ran.node slices (record c { entries = c.entries ++ next_adds revisions c; log = c.log ++ ran.lines }) r a (course-answers slices revisions n k r a e)
+
+concluded-log : (v : Option Verdict) (n : Node) (slices : ℕ) (c : Course) → (concluded v n slices c).log ≡ c.log
+concluded-log None n slices c = by_test (c.spent + 1 == slices)
+  where
+    by_test : (b : Bool) → (cond b (with_answer c (Spent slices)) (record c { spent = c.spent + 1 })).log ≡ c.log
+    by_test true = refl
+    by_test false = refl
+concluded-log (Some Satisfiable) n slices c = refl
+concluded-log (Some (Unsatisfiable goal)) n slices c = refl
+
+pub course-log : (slices : ℕ) (revisions : List Posted) (n k : ℕ) → (lines : List Line) × ((course slices revisions (beyond k n)).log ≡ (course slices revisions n).log ++ lines)
+course-log slices revisions n zero = ([], sym (append-nil (course slices revisions n).log))
+course-log slices revisions n (suc k) = by_rest (course-log slices revisions n k)
+  where
+    c : Course
+    c = course slices revisions (beyond k n)
+
+    ran : Sliced
+    ran = replay 0 (c.entries ++ next_adds revisions c)
+
+    by_rest : (lines : List Line) × (c.log ≡ (course slices revisions n).log ++ lines) → (lines : List Line) × ((next slices revisions c).log ≡ (course slices revisions n).log ++ lines)
+    by_rest (lines, e) = (lines ++ ran.lines, concluded-log ran.node.verdict ran.node slices (record c { entries = c.entries ++ next_adds revisions c; log = c.log ++ ran.lines }) ∙ (ap (λ (ls : List Line). ls ++ ran.lines) e ∙ append_assoc (course slices revisions n).log lines ran.lines))

@@ -1,0 +1,107 @@
+-- Finishes of a machine whose log is derived, and each of its events.
+use Rattle.std.proofs.Common.{◌≡◌, ℕ, ◌+◌, ◌<◌, ◌≤◌, Bool, true, false, cond, List, [], ◌∷◌, ◌++◌, length, take, Option, Some, None, inl, refl, sym, ◌∙◌, ap, subst, arith, append-nil}
+use Rattle.std.specs.Prelude.{slice_set}
+use Rattle.mal_base.specs.Held.{Line}
+use Rattle.mal_base.specs.declared.verdict.Verdict.TheVariants.{Unsatisfiable}
+use Rattle.mal_base.specs.declared.verdict.Outcome.{Outcome}
+use Rattle.mal_base.specs.declared.verdict.Outcome.TheVariants.{Ran, Starved, Lost}
+use Rattle.spec_logic.specs.Refutation.{contradicts}
+use Rattle.spec_node.specs.State.{Node}
+use Rattle.spec_search.specs.Slice.{Sliced, slice}
+use Rattle.spec_search.specs.Laws.{IsRefutedBy}
+use Rattle.spec_search.proofs.LineLemmas.{slice-refutes}
+use Rattle.spec_proof.proofs.Among.{Among}
+use Rattle.spec_job.specs.Journal.{replay}
+use Rattle.spec_job.specs.Solo.{Own, Opened, Revised, Closed, Volume, Started, Finished, Exchanged, Lease, Place, Solo, solo_step, place_at, with_place, starve, conclude, first_empty, is_late, finished_ran, finished_home, finished_lease, finished}
+use Rattle.spec_job.specs.Runnable.{MayHappen}
+use Rattle.spec_job.proofs.LoadedLemmas.{last_assumed}
+use Rattle.spec_job.proofs.PlacesLemmas.{out-within}
+use Rattle.spec_job.proofs.SolvingLemmas.{IsSolvingSolo, out-leased}
+use Rattle.spec_job.proofs.PostingLemmas.{posted-solving}
+use Rattle.spec_job.proofs.SolvedLemmas.{in-time, lease-solving}
+use Rattle.spec_job.proofs.ReachedLemmas.{among-right}
+use Rattle.spec_job.proofs.DerivingLemmas.{IsRefuted, IsRunning, IsDeriving, IsDerivingSolo, AreCalm, starve-deriving, conclude-deriving, posted-deriving, settled-deriving}
+use Rattle.spec_job.proofs.RunningLemmas.{started-deriving, exchanged-deriving, idle-deriving, home-deriving}
+
+-- where a slice refutes the clauses, its last line is the goal's
+ran-refuted : (s : Solo) (i : ℕ) (l : Lease) (goal : ℕ) → (out : (place_at s i).out ≡ Some l) → IsSolvingSolo s → IsDerivingSolo s → i ≤ 63 → l.revision ≡ length s.answers → (replay i ((place_at s i).entries ++ l.adds)).node.verdict ≡ Some (Unsatisfiable goal) → IsRefuted (take (length s.answers + 1) s.revisions) (s.log ++ (replay i ((place_at s i).entries ++ l.adds)).lines) goal
+ran-refuted s i l goal out k h low now v = record {
+  front = log;
+  more = [];
+  is = sym (append-nil log);
+  derived = home.derived;
+  closed = home.closed;
+  line = by.line;
+  among = among-right s.log ran.lines by.line (subst (λ (ls : List Line). Among by.line ls) (sym lines) (among-right by.before (by.line ∷ []) by.line (inl refl)));
+  number = by.number;
+  contradicted = subst (λ (n : ℕ). contradicts (last_assumed (take (n + 1) s.revisions)) (Some by.line.lits) ≡ true) now (subst (λ (xs : List ℕ). contradicts xs (Some by.line.lits) ≡ true) run.ready.assumed by.contradicted);
+}
+  where
+    ran : Sliced
+    ran = replay i ((place_at s i).entries ++ l.adds)
+
+    log : List Line
+    log = s.log ++ ran.lines
+
+    run : IsRunning s.revisions s.log i (place_at s i).entries l
+    run = (h.tracked i low).running l out
+
+    home : IsDeriving s.revisions s.answers (slice_set s.places i (record (place_at s i) { entries = (place_at s i).entries ++ l.adds; out = None })) log s.broadcasts
+    home = home-deriving s i l out k h
+
+    by : IsRefutedBy run.node.assumptions goal (slice run.node).lines
+    by = slice-refutes run.node goal run.ready.sound run.calm (sym (ap (λ (x : Sliced). x.node.verdict) run.runs) ∙ v)
+
+    lines : ran.lines ≡ by.before ++ by.line ∷ []
+    lines = ap (λ (x : Sliced). x.lines) run.runs ∙ by.last
+
+pub out-low : (s : Solo) (i : ℕ) (l : Lease) → (place_at s i).out ≡ Some l → IsSolvingSolo s → i ≤ 63
+out-low s i l out k = let inside : i < length s.places = out-within s.places i l out in let few : length s.places ≤ 64 = k.count in omega arith
+
+-- a slice that was run
+ran-deriving : (s : Solo) (i : ℕ) (l : Lease) → (place_at s i).out ≡ Some l → IsSolvingSolo s → IsDerivingSolo s → IsDerivingSolo (finished_ran s i (place_at s i) l)
+ran-deriving s i l out k h = by_late (is_late s l) refl
+  where
+    p : Place
+    p = place_at s i
+
+    node : Node
+    node = (replay i (p.entries ++ l.adds)).node
+
+    home : Solo
+    home = record (with_place s i (record p { entries = p.entries ++ l.adds; out = None })) { log = s.log ++ (replay i (p.entries ++ l.adds)).lines; ran = s.ran + 1 }
+
+    at_home : IsDerivingSolo home
+    at_home = home-deriving s i l out k h
+
+    by_late : (b : Bool) → is_late s l ≡ b → IsDerivingSolo (cond b home (conclude node.verdict node home))
+    by_late true e = at_home
+    by_late false e = conclude-deriving node.verdict node home k.room (λ goal v. ran-refuted s i l goal out k h (out-low s i l out k) (in-time s l (out-leased s i l out k).reached e) v) at_home
+
+starved-deriving : (s : Solo) (i : ℕ) (l : Lease) → IsSolvingSolo s → IsDerivingSolo s → IsDerivingSolo (finished_lease s i (place_at s i) l Starved)
+starved-deriving s i l k h = by_late (is_late s l)
+  where
+    by_late : (b : Bool) → IsDerivingSolo (cond b (finished_home s i (place_at s i)) (starve (finished_home s i (place_at s i))))
+    by_late true = idle-deriving s i h
+    by_late false = starve-deriving (finished_home s i (place_at s i)) k.room (idle-deriving s i h)
+
+lease-deriving : (s : Solo) (i : ℕ) (l : Lease) (o : Outcome) → (place_at s i).out ≡ Some l → IsSolvingSolo s → IsDerivingSolo s → IsDerivingSolo (finished_lease s i (place_at s i) l o)
+lease-deriving s i l Ran e k h = ran-deriving s i l e k h
+lease-deriving s i l Starved e k h = starved-deriving s i l k h
+lease-deriving s i l Lost e k h = idle-deriving s i h
+
+finished-deriving : (s : Solo) (i : ℕ) (out : Option Lease) (o : Outcome) → (place_at s i).out ≡ out → IsSolvingSolo s → IsDerivingSolo s → IsDerivingSolo (finished s i (place_at s i) out o)
+finished-deriving s i None o e k h = h
+finished-deriving s i (Some l) o e k h =
+    let ended : Solo = finished_lease s i (place_at s i) l o in
+    settled-deriving (first_empty ended.log) ended refl (lease-solving s i l o e k).room (lease-deriving s i l o e k h)
+
+-- each event that may happen
+pub step-deriving : (s : Solo) (o : Own) → MayHappen s o → IsSolvingSolo s → AreCalm (length s.answers) s.places → IsDerivingSolo s → IsDerivingSolo (solo_step s o)
+step-deriving s (Opened ask) may k calm h = h
+step-deriving s (Revised r) may k calm h = settled-deriving (first_empty s.log) (record s { revisions = s.revisions ++ r ∷ [] }) refl (posted-solving s r may k).room (posted-deriving s r may k h)
+step-deriving s Closed may k calm h = h
+step-deriving s (Volume v) may k calm h = h
+step-deriving s (Started i) may k calm h = started-deriving s i may k calm h
+step-deriving s (Finished i o) may k calm h = finished-deriving s i (place_at s i).out o refl k h
+step-deriving s Exchanged may k calm h = exchanged-deriving s h

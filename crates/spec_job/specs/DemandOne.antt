@@ -1,0 +1,53 @@
+use Rattle.std.specs.Prelude.{◌≡◌, ℕ, ◌≤◌, Bool, true, false, nat_le, List, [], ◌∷◌, ◌++◌, slice_get, Some}
+use Rattle.std.specs.List.{list_all}
+use Rattle.mal_base.specs.Asks.{Terms}
+use Rattle.mal_base.specs.declared.answer.Answer.{Answer}
+use Rattle.mal_base.specs.declared.verdict.Outcome.{Outcome}
+use Rattle.mal_base.specs.declared.verdict.Outcome.TheVariants.{Ran, Starved, Lost}
+use Rattle.mal_revision.specs.Posted.{Posted}
+use Rattle.spec_job.specs.Solo.{Own, Opened, Revised, Closed, Volume, Started, Finished, Exchanged, Solo, solo, is_exchange_due}
+use Rattle.spec_job.specs.Titled.{Key}
+use Rattle.spec_job.specs.Replies.{reply}
+use Rattle.spec_job.specs.Runnable.{IsRunnable}
+
+-- no exchange is due where the volume is not above 1
+abbrev pub NoneIsDue : Type 0
+NoneIsDue = (s : Solo) → s.volume ≤ 1 → is_exchange_due s ≡ false
+
+-- a start did not want for memory
+abbrev pub had_memory : Outcome → Bool
+had_memory Ran = true
+had_memory Starved = false
+had_memory Lost = true
+
+-- an own event of a job of demand 1 behind its opening: no volume is above 1, so that no exchange is due, and no start wants
+-- for memory
+abbrev pub is_single : Own → Bool
+is_single (Opened ask) = false
+is_single (Revised r) = true
+is_single Closed = true
+is_single (Volume v) = nat_le v 1
+is_single (Started i) = true
+is_single (Finished i outcome) = had_memory outcome
+is_single Exchanged = false
+
+-- a job is run by one node: it is opened once, and each of its own events may happen
+pub record IsSingle (ask : Terms) (own : List Own) : Type 0 where
+  pub runnable : IsRunnable [] (Opened ask ∷ own)
+  pub single : list_all is_single own ≡ true
+
+-- two lists of answers agree as far as both go
+abbrev pub Agree : List Answer → List Answer → Type 0
+Agree xs ys = (r : ℕ) (a b : Answer) → slice_get xs r ≡ Some a → slice_get ys r ≡ Some b → a ≡ b
+
+-- the answers and the replies of two machines agree as far as both go
+pub record AgreeAll (s t : Solo) : Type 0 where
+  pub answers : Agree s.answers t.answers
+  pub replies : (k : Key) (r : ℕ) (a b : List ℕ) → reply k r s ≡ Some a → reply k r t ≡ Some b → a ≡ b
+
+-- each answer and each reply of a job that one node runs is decided by its name, its budget and its revisions up to that
+-- one: where the revisions of one run begin with those of another, with the same budget, they agree
+abbrev pub SinglesAgree : Type 0
+SinglesAgree =
+    (ask asked : Terms) (own others : List Own) (more : List Posted) → ask.slices ≡ asked.slices → IsSingle ask own → IsSingle asked others
+    → (solo (Opened asked ∷ others)).revisions ≡ (solo (Opened ask ∷ own)).revisions ++ more → AgreeAll (solo (Opened ask ∷ own)) (solo (Opened asked ∷ others))
