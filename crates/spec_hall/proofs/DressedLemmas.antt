@@ -157,5 +157,5 @@ pub legal-is_dressed : LegalIsDressed
 legal-is_dressed w h legal = events-dressed h h (legal_from-keeps w (λ (past : List Event). All (IsHeld past) past) (held-push w) [] h legal (All-nil (IsHeld [])))
 
 -- so is that of a hall whose jobs are in their seats
-pub seated-dressed : (h : List Event) (ss : List Seat) → IsSeated h ss → map (dressed (jobs_in ss)) (map bare h) ≡ h
-seated-dressed h ss seated = ap (λ (jobs : List Titled). map (dressed jobs) (map bare h)) (sym seated.jobs) ∙ legal-is_dressed 1 h seated.legal
+pub seated-dressed : (w : ℕ) (h : List Event) (ss : List Seat) → IsSeated w h ss → map (dressed (jobs_in ss)) (map bare h) ≡ h
+seated-dressed w h ss seated = ap (λ (jobs : List Titled). map (dressed jobs) (map bare h)) (sym seated.jobs) ∙ legal-is_dressed w h seated.legal

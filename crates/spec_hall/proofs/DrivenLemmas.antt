@@ -1,12 +1,12 @@
-use Rattle.std.proofs.Common.{◌≡◌, ℕ, true, List, [], ◌∷◌, ◌++◌, map, flat_map, slice_get, Some, refl, sym, ◌∙◌, ap, subst, append_assoc, append-nil}
+use Rattle.std.proofs.Common.{◌≡◌, ℕ, true, List, [], ◌∷◌, ◌++◌, map, flat_map, slice_get, Some, None, refl, sym, ◌∙◌, ap, subst, append_assoc, append-nil}
 use Rattle.std.proofs.lemmas.Bool.{both_ways}
 use Rattle.mal_history.specs.declared.event.Share.{Share}
 use Rattle.spec_balance.proofs.Unique.{unique}
-use Rattle.spec_job.specs.Titled.{Key}
+use Rattle.spec_job.specs.Titled.{Key, Titled}
 use Rattle.spec_hall.specs.Events.{Event, key_of}
 use Rattle.spec_hall.specs.States.{Candidate, keys_of, states, live_asks}
-use Rattle.spec_hall.specs.Legal.{LegalFrom, MayBalance, MayStart}
-use Rattle.spec_hall.specs.Driven.{Turn, Balances, Slices, AreTurns, GrowsByTurns, DrivenIsDecided, events_in, is_done}
+use Rattle.spec_hall.specs.Legal.{LegalFrom, MayBalance, MayStart, MayExchange}
+use Rattle.spec_hall.specs.Driven.{Turn, Balances, Exchanges, Slices, AreTurns, GrowsByTurns, DrivenIsDecided, events_in, is_done}
 
 -- volumes with the same keys and the same numbers
 shares-same : (one other : List Share) → map key_of one ≡ map key_of other → map (λ (s : Share). s.volume) one ≡ map (λ (s : Share). s.volume) other → one ≡ other
@@ -28,7 +28,18 @@ balances-decided : (workers : ℕ) (past : List Event) (one other : List Share) 
 balances-decided workers past one other may might =
     shares-same one other (may.keys ∙ sym might.keys) (unique workers (live_asks (states past)) (map (λ (s : Share). s.volume) one) (map (λ (s : Share). s.volume) other) may.fair might.fair)
 
--- so is the node that starts
+-- so is the job of an exchange
+exchanges-decided : (past : List Event) (k j : Key) (t u : Titled) → MayExchange past k t → MayExchange past j u → Exchanges k ≡ Exchanges j
+exchanges-decided past k j t u may might =
+    let first : Some t ≡ Some u = sym may.first ∙ might.first in
+    let same : t ≡ u = cc in
+    ap Exchanges (sym may.key ∙ (ap (λ (x : Titled). x.key) same ∙ might.key))
+
+-- no node starts where an exchange is due
+exchange-first : (workers : ℕ) (past : List Event) (k j : Key) (index : ℕ) (t : Titled) (choice : Candidate) → MayExchange past k t → MayStart workers past j index 1 choice → ⊥
+exchange-first workers past k j index t choice may might = let both : Some t ≡ None = sym may.first ∙ might.exchange in absurd (cc)
+
+-- and the node that starts
 starts-decided : (workers : ℕ) (past : List Event) (k j : Key) (index place : ℕ) (choice pick : Candidate) → MayStart workers past k index 1 choice → MayStart workers past j place 1 pick → Slices k index ≡ Slices j place
 starts-decided workers past k j index place choice pick may might =
     let first : Some choice ≡ Some pick = sym may.first ∙ might.first in
@@ -41,8 +52,13 @@ starts-decided workers past k j index place choice pick may might =
 -- a turn that is allowed after a past is decided by it
 turn-decided : (workers : ℕ) (past : List Event) (t u : Turn) → LegalFrom workers past (events_in t) → LegalFrom workers past (events_in u) → t ≡ u
 turn-decided workers past (Balances one) (Balances other) may might = ap Balances (balances-decided workers past one other may.0 might.0)
+turn-decided workers past (Balances one) (Exchanges k) may might = absurd (may.0.due might.0.1.balance)
 turn-decided workers past (Balances one) (Slices k index) may might = absurd (may.0.due might.0.1.balance)
+turn-decided workers past (Exchanges k) (Balances other) may might = absurd (might.0.due may.0.1.balance)
+turn-decided workers past (Exchanges k) (Exchanges j) may might = exchanges-decided past k j may.0.0 might.0.0 may.0.1 might.0.1
+turn-decided workers past (Exchanges k) (Slices j place) may might = absurd (exchange-first workers past k j place may.0.0 might.0.0 may.0.1 might.0.1)
 turn-decided workers past (Slices k index) (Balances other) may might = absurd (might.0.due may.0.1.balance)
+turn-decided workers past (Slices k index) (Exchanges j) may might = absurd (exchange-first workers past j k index might.0.0 may.0.0 might.0.1 may.0.1)
 turn-decided workers past (Slices k index) (Slices j place) may might = starts-decided workers past k j index place may.0.0 might.0.0 may.0.1 might.0.1
 
 -- turns until nothing is left to do are decided by the past

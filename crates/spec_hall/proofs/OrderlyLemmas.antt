@@ -31,7 +31,7 @@ pub record IsOrderly (past : List Event) : Type 0 where
   pub leased : All (HasOpened past) (leases past)
 
 -- what a search finds is what holds of each
-find-holds : {X : Type 0} (P : X → Type 0) (test : X → Bool) (xs : List X) (x : X) → All P xs → find test xs ≡ Some x → P x
+pub find-holds : {X : Type 0} (P : X → Type 0) (test : X → Bool) (xs : List X) (x : X) → All P xs → find test xs ≡ Some x → P x
 find-holds P test [] x h e = absurd (cc)
 find-holds {X} P test (y ∷ ys) x h e = by_test (find-holds P test ys x (All-tail P y ys h)) (test y) e
   where
@@ -121,7 +121,7 @@ event-apart w past (Start k index worker) may h = h
 event-apart w past (Finish k index worker outcome) may h = h
 event-apart w past (Exchange k) may h = h
 
-orderly-push : (w : ℕ) (past : List Event) (e : Event) → Allowed w past e → IsOrderly past → IsOrderly (past ++ e ∷ [])
+pub orderly-push : (w : ℕ) (past : List Event) (e : Event) → Allowed w past e → IsOrderly past → IsOrderly (past ++ e ∷ [])
 orderly-push w past e may orderly = record {
   apart = subst AreApart (sym (keys-push past e)) (event-apart w past e may orderly.apart);
   absent = λ k absent. own-push k past e ∙ event-absent w past e may orderly k (ap (list_any (is_key k)) (sym (keys-push past e)) ∙ absent);

@@ -1,11 +1,12 @@
 use Rattle.std.proofs.Common.{◌≡◌, ℕ, suc, ◌<◌, Bool, true, false, cond, List, [], ◌∷◌, length, slice_get, Option, Some, None, refl, sym, ◌∙◌, ap, subst, arith}
 use Rattle.std.specs.Option.{option_map}
+use Rattle.spec_job.specs.Solo.{is_exchange_due}
 use Rattle.spec_job.specs.Titled.{Key}
 use Rattle.spec_hall.specs.Events.{Event}
 use Rattle.spec_hall.specs.Own.{is_key}
 use Rattle.spec_hall.specs.States.{states}
 use Rattle.spec_hall.specs.Legal.{job_of}
-use Rattle.spec_hall.specs.Seats.{Seat, IsSeated, jobs_in, is_live_seat, first_live, place_of}
+use Rattle.spec_hall.specs.Seats.{Seat, IsSeated, jobs_in, first_exchange, place_of}
 use Rattle.spec_hall.proofs.KeyLemmas.{is_key-Decides}
 
 -- the seat of a key has the job of that key
@@ -25,8 +26,8 @@ placed k (x ∷ xs) n s place at = by_test (is_key k x.titled.key) refl place (p
         (subst (λ (y : Seat). y.titled.key ≡ k) same (sym ((is_key-Decides k x.titled.key).0 e)), ap (λ (y : Seat). Some y.titled) same)
     by_test false e q rest = by_rest (place_of k xs) refl q rest
 
-pub seated-found : (h : List Event) (ss : List Seat) (k : Key) (n : ℕ) (s : Seat) → IsSeated h ss → place_of k ss ≡ Some n → slice_get ss n ≡ Some s → (s.titled.key ≡ k) × (job_of k (states h) ≡ Some s.titled)
-seated-found h ss k n s seated place at =
+pub seated-found : (w : ℕ) (h : List Event) (ss : List Seat) (k : Key) (n : ℕ) (s : Seat) → IsSeated w h ss → place_of k ss ≡ Some n → slice_get ss n ≡ Some s → (s.titled.key ≡ k) × (job_of k (states h) ≡ Some s.titled)
+seated-found w h ss k n s seated place at =
     let both = placed k ss n s place at in
     (both.0, ap (job_of k) seated.jobs ∙ both.1)
 
@@ -43,8 +44,8 @@ unplaced k (x ∷ xs) none = by_test (is_key k x.titled.key) none (unplaced k xs
     by_test true q rest = absurd (cc)
     by_test false q rest = rest (by_rest (place_of k xs) q)
 
-pub seated-absent : (h : List Event) (ss : List Seat) (k : Key) → IsSeated h ss → place_of k ss ≡ None → job_of k (states h) ≡ None
-seated-absent h ss k seated none = ap (job_of k) seated.jobs ∙ unplaced k ss none
+pub seated-absent : (w : ℕ) (h : List Event) (ss : List Seat) (k : Key) → IsSeated w h ss → place_of k ss ≡ None → job_of k (states h) ≡ None
+seated-absent w h ss k seated none = ap (job_of k) seated.jobs ∙ unplaced k ss none
 
 -- the place of a key is one of the seats
 pub placed-within : (k : Key) (ss : List Seat) (n : ℕ) → place_of k ss ≡ Some n → n < length ss
@@ -59,32 +60,32 @@ placed-within k (x ∷ xs) n place = by_test (is_key k x.titled.key) place (plac
     by_test true q rest = let none : n ≡ 0 = cc in omega (arith, none)
     by_test false q rest = by_rest (place_of k xs) refl q rest
 
--- so is that of the first live job
-pub first-within : (ss : List Seat) (n : ℕ) → first_live ss ≡ Some n → n < length ss
+-- so is that of the first job of which an exchange is due
+pub first-within : (ss : List Seat) (n : ℕ) → first_exchange ss ≡ Some n → n < length ss
 first-within [] n first = absurd (cc)
-first-within (x ∷ xs) n first = by_test (is_live_seat x) first (first-within xs)
+first-within (x ∷ xs) n first = by_test (is_exchange_due x.titled.state) first (first-within xs)
   where
-    by_rest : (o : Option ℕ) → first_live xs ≡ o → option_map suc o ≡ Some n → ((m : ℕ) → first_live xs ≡ Some m → m < length xs) → n < length (x ∷ xs)
+    by_rest : (o : Option ℕ) → first_exchange xs ≡ o → option_map suc o ≡ Some n → ((m : ℕ) → first_exchange xs ≡ Some m → m < length xs) → n < length (x ∷ xs)
     by_rest None e q rest = absurd (cc)
     by_rest (Some m) e q rest = let same : n ≡ suc m = cc in omega (arith, same, rest m e)
 
-    by_test : (b : Bool) → cond b (Some 0) (option_map suc (first_live xs)) ≡ Some n → ((m : ℕ) → first_live xs ≡ Some m → m < length xs) → n < length (x ∷ xs)
+    by_test : (b : Bool) → cond b (Some 0) (option_map suc (first_exchange xs)) ≡ Some n → ((m : ℕ) → first_exchange xs ≡ Some m → m < length xs) → n < length (x ∷ xs)
     by_test true q rest = let none : n ≡ 0 = cc in omega (arith, none)
-    by_test false q rest = by_rest (first_live xs) refl q rest
+    by_test false q rest = by_rest (first_exchange xs) refl q rest
 
--- and its job is live
-pub first-live : (ss : List Seat) (n : ℕ) (s : Seat) → first_live ss ≡ Some n → slice_get ss n ≡ Some s → is_live_seat s ≡ true
-first-live [] n s first at = absurd (cc)
-first-live (x ∷ xs) n s first at = by_test (is_live_seat x) refl first (first-live xs)
+-- and of its job an exchange is due
+pub first-due : (ss : List Seat) (n : ℕ) (s : Seat) → first_exchange ss ≡ Some n → slice_get ss n ≡ Some s → is_exchange_due s.titled.state ≡ true
+first-due [] n s first at = absurd (cc)
+first-due (x ∷ xs) n s first at = by_test (is_exchange_due x.titled.state) refl first (first-due xs)
   where
-    by_rest : (o : Option ℕ) → first_live xs ≡ o → option_map suc o ≡ Some n → ((m : ℕ) (t : Seat) → first_live xs ≡ Some m → slice_get xs m ≡ Some t → is_live_seat t ≡ true) → is_live_seat s ≡ true
+    by_rest : (o : Option ℕ) → first_exchange xs ≡ o → option_map suc o ≡ Some n → ((m : ℕ) (t : Seat) → first_exchange xs ≡ Some m → slice_get xs m ≡ Some t → is_exchange_due t.titled.state ≡ true) → is_exchange_due s.titled.state ≡ true
     by_rest None e q rest = absurd (cc)
     by_rest (Some m) e q rest = let same : n ≡ suc m = cc in rest m s e (subst (λ (i : ℕ). slice_get (x ∷ xs) i ≡ Some s) same at)
 
-    by_test : (b : Bool) → is_live_seat x ≡ b → cond b (Some 0) (option_map suc (first_live xs)) ≡ Some n → ((m : ℕ) (t : Seat) → first_live xs ≡ Some m → slice_get xs m ≡ Some t → is_live_seat t ≡ true) → is_live_seat s ≡ true
+    by_test : (b : Bool) → is_exchange_due x.titled.state ≡ b → cond b (Some 0) (option_map suc (first_exchange xs)) ≡ Some n → ((m : ℕ) (t : Seat) → first_exchange xs ≡ Some m → slice_get xs m ≡ Some t → is_exchange_due t.titled.state ≡ true) → is_exchange_due s.titled.state ≡ true
     by_test true e q rest =
         let none : n ≡ 0 = cc in
         let here : slice_get (x ∷ xs) 0 ≡ Some s = subst (λ (i : ℕ). slice_get (x ∷ xs) i ≡ Some s) none at in
         let same : x ≡ s = cc in
-        subst (λ (y : Seat). is_live_seat y ≡ true) same e
-    by_test false e q rest = by_rest (first_live xs) refl q rest
+        subst (λ (y : Seat). is_exchange_due y.titled.state ≡ true) same e
+    by_test false e q rest = by_rest (first_exchange xs) refl q rest

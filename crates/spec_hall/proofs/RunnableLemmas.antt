@@ -1,4 +1,4 @@
-use Rattle.std.proofs.Common.{◌≡◌, ℕ, suc, ◌+◌, ◌-◌, ◌≤◌, Bool, true, false, cond, ◌==◌, List, [], ◌∷◌, ◌++◌, length, map, filter, find, fold, slice_get, Option, Some, None, refl, sym, ◌∙◌, ap, subst, arith, append_assoc, append-nil}
+use Rattle.std.proofs.Common.{◌≡◌, ℕ, suc, ◌+◌, ◌-◌, ◌<◌, ◌≤◌, Bool, true, false, cond, ◌==◌, List, [], ◌∷◌, ◌++◌, length, map, filter, find, fold, slice_get, Option, Some, None, refl, sym, ◌∙◌, ap, subst, arith, append_assoc, append-nil}
 use Rattle.std.specs.Prelude.{All, nat_lt}
 use Rattle.std.specs.Option.{option_map}
 use Rattle.std.proofs.lemmas.Option.{slice_get-map}
@@ -9,13 +9,13 @@ use Rattle.spec_node.proofs.BatchLemmas.{All-filtered, all-of}
 use Rattle.spec_job.specs.Solo.{Own, Opened, Revised, Closed, Volume, Started, Finished, Exchanged, solo, startable, place_at, clauses_in}
 use Rattle.spec_job.specs.Titled.{Key, Titled}
 use Rattle.spec_job.specs.Runnable.{MayCome, MayHappen, IsRunnable}
-use Rattle.spec_job.proofs.RefutingLemmas.{runnable-answers_refute, runnable-logs_derived}
-use Rattle.spec_job.proofs.SolvingLemmas.{runnable-answers_follow, runnable-answers_solve}
+use Rattle.spec_job.proofs.OwnLemmas.{runnable-clauses_own}
+use Rattle.spec_job.proofs.RefutingLemmas.{runnable-answers_follow, runnable-answers_refute, runnable-answers_solve, runnable-logs_derived}
 use Rattle.spec_hall.specs.Events.{Event, Open, Revise, Close, Balance, Start, Finish, Exchange}
 use Rattle.spec_hall.specs.Own.{own, own_step, adds, adds_volume, is_key, volume_in, volume_after}
 use Rattle.spec_hall.specs.States.{Candidate, keys_of, states, titled, candidates_of, candidates_from, fewer}
 use Rattle.spec_hall.specs.Legal.{LegalFrom, Allowed, MayRevise, MayStart}
-use Rattle.spec_hall.specs.Laws.{LegalAnswersFollow, LegalAnswersRefute, LegalAnswersSolve, LegalIsRunnable, LegalLogsDerived}
+use Rattle.spec_hall.specs.Laws.{LegalAnswersFollow, LegalAnswersRefute, LegalAnswersSolve, LegalClausesOwn, LegalIsRunnable, LegalLogsDerived}
 use Rattle.spec_hall.proofs.KeyLemmas.{is_key-Decides}
 use Rattle.spec_hall.proofs.PushLemmas.{own-push}
 
@@ -31,10 +31,11 @@ find-titled past k (x ∷ xs) t e = by_test (find-titled past k xs t) (is_key k 
 -- a candidate of these jobs, of which the first has this place, is a node that may start
 pub record IsCandidate (first : ℕ) (jobs : List Titled) (c : Candidate) : Type 0 where
   pub behind : first ≤ c.job
+  pub within : c.job < first + length jobs
   pub may : (t : Titled) → slice_get jobs (c.job - first) ≡ Some t → startable t.state c.index ≡ true
 
 candidate-first : (first : ℕ) (t : Titled) (ts : List Titled) (i starts : ℕ) → startable t.state i ≡ true → IsCandidate first (t ∷ ts) (record { job = first; index = i; starts = starts })
-candidate-first first t ts i starts h = record { behind = omega arith; may = λ u e. at_first u (subst (λ (n : ℕ). slice_get (t ∷ ts) n ≡ Some u) zero_is e) }
+candidate-first first t ts i starts h = record { behind = omega arith; within = omega arith; may = λ u e. at_first u (subst (λ (n : ℕ). slice_get (t ∷ ts) n ≡ Some u) zero_is e) }
   where
     zero_is : first - first ≡ 0
     zero_is = omega arith
@@ -46,9 +47,9 @@ candidate-later : (first : ℕ) (t : Titled) (ts : List Titled) (c : Candidate) 
 candidate-later first t ts c h =
     let behind : first + 1 ≤ c.job = h.behind in
     let next : c.job - first ≡ suc (c.job - (first + 1)) = omega arith in
-    record { behind = omega arith; may = λ u e. h.may u (subst (λ (n : ℕ). slice_get (t ∷ ts) n ≡ Some u) next e) }
+    record { behind = omega arith; within = omega (arith, h.within); may = λ u e. h.may u (subst (λ (n : ℕ). slice_get (t ∷ ts) n ≡ Some u) next e) }
 
-candidates-may : (first : ℕ) (jobs : List Titled) → All (IsCandidate first jobs) (candidates_from first jobs)
+pub candidates-may : (first : ℕ) (jobs : List Titled) → All (IsCandidate first jobs) (candidates_from first jobs)
 candidates-may first [] = All-nil (IsCandidate first [])
 candidates-may first (t ∷ ts) = All-append (IsCandidate first (t ∷ ts)) (candidates_of first t.state) (candidates_from (first + 1) ts) here (All-weaker (IsCandidate (first + 1) ts) (IsCandidate first (t ∷ ts)) (candidate-later first t ts) (candidates_from (first + 1) ts) (candidates-may (first + 1) ts))
   where
@@ -62,7 +63,7 @@ candidates-may first (t ∷ ts) = All-append (IsCandidate first (t ∷ ts)) (can
     here = All-map (IsCandidate first (t ∷ ts)) one (filter (startable t.state) (counted 0 t.state.volume)) (All-weaker (λ (i : ℕ). Unit {0} × (startable t.state i ≡ true)) (λ (i : ℕ). IsCandidate first (t ∷ ts) (one i)) (λ i k. candidate-first first t ts i (place_at t.state i).starts k.1) (filter (startable t.state) (counted 0 t.state.volume)) passed)
 
 -- what holds of each candidate holds of the one with the fewest starts
-fewest-All : (P : Candidate → Type 0) (cs : List Candidate) (o : Option Candidate) → ((b : Candidate) → o ≡ Some b → P b) → All P cs → (c : Candidate) → fold fewer o cs ≡ Some c → P c
+pub fewest-All : (P : Candidate → Type 0) (cs : List Candidate) (o : Option Candidate) → ((b : Candidate) → o ≡ Some b → P b) → All P cs → (c : Candidate) → fold fewer o cs ≡ Some c → P c
 fewest-All P [] o h a c e = h c e
 fewest-All P (x ∷ xs) o h a c e = fewest-All P xs (fewer o x) (next o h) (All-tail P x xs a) c e
   where
@@ -142,3 +143,7 @@ legal-answers_refute w h legal k = runnable-answers_refute (own k h) (legal-is_r
 
 pub legal-logs_derived : LegalLogsDerived
 legal-logs_derived w h legal k = runnable-logs_derived (own k h) (legal-is_runnable w h legal k)
+
+-- each clause of a job is its own
+pub legal-clauses_own : LegalClausesOwn
+legal-clauses_own w h legal k = runnable-clauses_own (own k h) (legal-is_runnable w h legal k)

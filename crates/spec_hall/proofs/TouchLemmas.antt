@@ -7,9 +7,9 @@ use Rattle.mal_base.specs.Asks.{Terms}
 use Rattle.mal_base.specs.declared.verdict.Outcome.{Outcome}
 use Rattle.mal_history.specs.declared.event.Share.{Share}
 use Rattle.mal_revision.specs.Posted.{Posted}
-use Rattle.spec_job.specs.Solo.{Own, Opened, Revised, Closed, Volume, Started, Finished, Solo, solo, solo_step, unopened}
+use Rattle.spec_job.specs.Solo.{Own, Opened, Revised, Closed, Volume, Started, Finished, Exchanged, Solo, solo, solo_step, unopened}
 use Rattle.spec_job.specs.Titled.{Key, Titled, stepped}
-use Rattle.spec_hall.specs.Events.{Event, Open, Revise, Close, Balance, Start, Finish}
+use Rattle.spec_hall.specs.Events.{Event, Open, Revise, Close, Balance, Start, Finish, Exchange}
 use Rattle.spec_hall.specs.Own.{own, own_step, adds, is_key, volume_in, volume_after}
 use Rattle.spec_hall.specs.States.{keys_of, keys_step, states, titled, is_balance}
 use Rattle.spec_hall.proofs.KeyLemmas.{AreApart, is_key-back, is_key-same, key-differs, key-stands}
@@ -33,6 +33,9 @@ start-touches k index worker = record { owns = λ j es. refl; keys = λ ks. refl
 
 pub finish-touches : (k : Key) (index worker : ℕ) (outcome : Outcome) → Touches (Finish k index worker outcome) k (Finished index outcome)
 finish-touches k index worker outcome = record { owns = λ j es. refl; keys = λ ks. refl; other_kind = refl }
+
+pub exchange-touches : (k : Key) → Touches (Exchange k) k Exchanged
+exchange-touches k = record { owns = λ j es. refl; keys = λ ks. refl; other_kind = refl }
 
 -- the job that it is of takes a step
 titled-mine : (h : List Event) (e : Event) (k : Key) (o : Own) → Touches e k o → titled (h ++ e ∷ []) k ≡ stepped (titled h k) o

@@ -4,18 +4,20 @@ use Rattle.mal_base.specs.declared.verdict.Outcome.TheVariants.{Ran}
 use Rattle.mal_history.specs.declared.event.Share.{Share}
 use Rattle.spec_job.specs.Solo.{is_live}
 use Rattle.spec_job.specs.Titled.{Key, Titled}
-use Rattle.spec_hall.specs.Events.{Event, Balance, Start, Finish}
+use Rattle.spec_hall.specs.Events.{Event, Balance, Start, Finish, Exchange}
 use Rattle.spec_hall.specs.States.{states}
 use Rattle.spec_hall.specs.Legal.{LegalFrom}
 
--- a turn of a hall that is driven by its first worker: a balancing, or a slice of a node
+-- a turn of a hall that is driven by its first worker: a balancing, an exchange of a job, or a slice of a node
 pub data Turn : Type 0 where
   Balances : List Share → Turn
+  Exchanges : Key → Turn
   Slices : Key → ℕ → Turn
 
 -- the events of a turn: a slice is a start with its finish behind it
 abbrev pub events_in : Turn → List Event
 events_in (Balances shares) = Balance shares ∷ []
+events_in (Exchanges k) = Exchange k ∷ []
 events_in (Slices k index) = Start k index 1 ∷ Finish k index 1 Ran ∷ []
 
 -- whether every job is closed and answered

@@ -1,9 +1,13 @@
-use Rattle.std.specs.Prelude.{◌≡◌, ◌≢◌, ℕ, List, [], ◌∷◌, ◌++◌, Option, Some, None}
+use Rattle.std.specs.Prelude.{◌≡◌, ◌≢◌, ℕ, Bool, true, List, [], ◌∷◌, ◌++◌, Option, Some, None}
+use Rattle.std.specs.List.{list_all}
+use Rattle.mal_revision.specs.Posted.{Posted}
 use Rattle.mal_history.specs.declared.event.Share.{Share}
-use Rattle.spec_job.specs.Solo.{solo}
+use Rattle.spec_job.specs.Solo.{Own, Opened, Revised, Closed, Volume, Started, Finished, Exchanged, solo}
 use Rattle.spec_job.specs.Titled.{Key}
 use Rattle.spec_job.specs.Models.{AnswersFollow, AnswersSolve, KeepsAnswers}
 use Rattle.spec_job.specs.Proofs.{AnswersRefute, LogIsDerived}
+use Rattle.spec_job.specs.DemandOne.{AgreeAll, had_memory}
+use Rattle.spec_job.specs.Provenance.{ClausesAreOwn}
 use Rattle.spec_job.specs.Replies.{reply}
 use Rattle.spec_job.specs.Runnable.{IsRunnable}
 use Rattle.spec_hall.specs.Events.{Event, Open, Revise, Close, Balance, Start, Finish, Exchange}
@@ -59,3 +63,30 @@ OthersLeaveOwn = (j k : Key) (history : List Event) (e : Event) → job_in e ≡
 -- so does a balancing that gives the job the volume that it has
 abbrev pub SameVolumeLeavesOwn : Type 0
 SameVolumeLeavesOwn = (j : Key) (history : List Event) (shares : List Share) → volume_in j shares ≡ volume_after (own j history) → own j (history ++ Balance shares ∷ []) ≡ own j history
+
+-- in a legal history the clauses of each job are its own
+abbrev pub LegalClausesOwn : Type 0
+LegalClausesOwn = (workers : ℕ) (history : List Event) → Legal workers history → (k : Key) → ClausesAreOwn (solo (own k history))
+
+-- whether an own event is no start that wanted for memory
+abbrev pub is_fed : Own → Bool
+is_fed (Opened ask) = true
+is_fed (Revised r) = true
+is_fed Closed = true
+is_fed (Volume v) = true
+is_fed (Started i) = true
+is_fed (Finished i outcome) = had_memory outcome
+is_fed Exchanged = true
+
+-- a job asks for one worker, and no start of it wanted for memory
+pub record AsksForOne (history : List Event) (k : Key) : Type 0 where
+  pub demand : (solo (own k history)).ask.demand ≡ 1
+  pub fed : list_all is_fed (own k history) ≡ true
+
+-- the answers and the replies of a job that asks for one worker are decided by its name, its budget and its revisions up to
+-- that one: in any two legal histories, whatever the numbers of workers and the other jobs, in which it has the same
+-- budget and its revisions in one begin with those in the other, they agree as far as both go
+abbrev pub LegalSinglesAgree : Type 0
+LegalSinglesAgree =
+    (k : Key) (workers others : ℕ) (one other : List Event) (more : List Posted) → Legal workers one → Legal others other → AsksForOne one k → AsksForOne other k
+    → (solo (own k one)).ask.slices ≡ (solo (own k other)).ask.slices → (solo (own k other)).revisions ≡ (solo (own k one)).revisions ++ more → AgreeAll (solo (own k one)) (solo (own k other))

@@ -4,5 +4,6 @@ pub mod States
 pub mod Dressed
 pub mod Legal
 pub mod Seats
+pub mod Measure
 pub mod Driven
 pub mod Laws

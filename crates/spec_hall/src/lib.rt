@@ -2,7 +2,7 @@
 //! functions without a body.
 #![tactic(auto)]
 
-ghost use Rattle.spec_hall.specs.Laws.{JobAnswersStay, LegalAnswersFollow, LegalAnswersRefute, LegalAnswersSolve, LegalIsRunnable, LegalLogsDerived, OwnEventsAnswer, OwnEventsReply, OthersLeaveOwn, SameVolumeLeavesOwn};
+ghost use Rattle.spec_hall.specs.Laws.{JobAnswersStay, LegalAnswersFollow, LegalAnswersRefute, LegalAnswersSolve, LegalClausesOwn, LegalIsRunnable, LegalLogsDerived, LegalSinglesAgree, OwnEventsAnswer, OwnEventsReply, OthersLeaveOwn, SameVolumeLeavesOwn};
 ghost use Rattle.spec_hall.specs.Dressed.{LegalIsDressed};
 ghost use Rattle.spec_hall.specs.Driven.{DrivenIsDecided};
 
@@ -29,6 +29,18 @@ pub fn legal_answers_refute()
     ensures refute { LegalAnswersRefute }
 {}
 
+/// In a legal history each clause that a job's nodes hold, that is exported or that was told to them is an original of the job
+/// or a line of its log.
+pub fn legal_clauses_are_own()
+    ensures { LegalClausesOwn }
+{}
+
+/// The answers and the replies of a job that asks for one worker and never wanted for memory are decided by its name, its
+/// budget and its revisions, whatever the number of workers and whatever other jobs there are.
+pub fn legal_singles_agree()
+    ensures { LegalSinglesAgree }
+{}
+
 /// An answer that was given stays, whatever events follow.
 pub fn job_answers_stay()
     ensures { JobAnswersStay }
@@ -39,7 +51,7 @@ pub fn legal_is_dressed()
     ensures { LegalIsDressed }
 {}
 
-/// What comes of a past by balancings and slices until nothing is left to do is decided by the past.
+/// What comes of a past by balancings, exchanges and slices until nothing is left to do is decided by the past.
 pub fn driven_is_decided()
     ensures { DrivenIsDecided }
 {}

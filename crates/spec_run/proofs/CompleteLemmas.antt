@@ -9,7 +9,7 @@ use Rattle.spec_job.specs.Solo.{Own, Opened, Revised, Closed, Volume, Started, F
 use Rattle.spec_job.specs.Titled.{Key, Titled}
 use Rattle.spec_job.proofs.StepLemmas.{start-keeps, finish-keeps}
 use Rattle.spec_hall.specs.Events.{Event, Open, Revise, Close, Balance, Start, Finish, Exchange}
-use Rattle.spec_hall.specs.Driven.{Turn, Balances, Slices, events_in, is_done, GrowsByTurns, IsDriven}
+use Rattle.spec_hall.specs.Driven.{Turn, Balances, Exchanges, Slices, events_in, is_done, GrowsByTurns, IsDriven}
 use Rattle.spec_hall.specs.Own.{own, own_step, adds, is_key, is_text, volume_in}
 use Rattle.spec_hall.specs.States.{keys_of, keys_step, states, titled, lives, live_of, live_ones, leases}
 use Rattle.spec_hall.proofs.PushLemmas.{solo-push}
@@ -145,6 +145,7 @@ posted-posts tenant (j ∷ js) =
 turned-posts : (tenant : List ℕ) (ts : List Turn) → filter (is_post_of tenant) (flat_map events_in ts) ≡ []
 turned-posts tenant [] = refl
 turned-posts tenant (Balances shares ∷ ts) = turned-posts tenant ts
+turned-posts tenant (Exchanges k ∷ ts) = turned-posts tenant ts
 turned-posts tenant (Slices k index ∷ ts) = turned-posts tenant ts
 
 -- what a tenant posts of all that a script posts

@@ -6,7 +6,7 @@ use Rattle.mal_revision.specs.Posted.{Posted}
 use Rattle.spec_job.specs.Solo.{Own}
 use Rattle.spec_job.specs.Titled.{Key}
 use Rattle.spec_hall.specs.Events.{Event, Close}
-use Rattle.spec_hall.specs.Driven.{Turn, Balances, Slices, events_in}
+use Rattle.spec_hall.specs.Driven.{Turn, Balances, Exchanges, Slices, events_in}
 use Rattle.spec_hall.specs.Own.{adds, is_key}
 use Rattle.spec_hall.specs.States.{keys_of, keys_step, states, titled}
 use Rattle.spec_hall.specs.Legal.{job_of}
@@ -38,6 +38,7 @@ posted-keys (j ∷ js) keys =
 pub turned-keys : (ts : List Turn) (keys : List Key) → fold keys_step keys (flat_map events_in ts) ≡ keys
 turned-keys [] keys = refl
 turned-keys (Balances shares ∷ ts) keys = turned-keys ts keys
+turned-keys (Exchanges k ∷ ts) keys = turned-keys ts keys
 turned-keys (Slices k index ∷ ts) keys = turned-keys ts keys
 
 -- a history that begins with the openings of jobs, and in which no other opening stands, has their keys

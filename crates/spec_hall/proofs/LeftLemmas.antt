@@ -1,0 +1,92 @@
+use Rattle.std.proofs.Common.{◌≡◌, ℕ, zero, suc, ◌<◌, Bool, true, false, ◌||◌, not, ◌==◌, List, [], ◌∷◌, ◌++◌, slice_get, slice_set, Some, refl, sym, ◌∙◌, ap, subst, Decides}
+use Rattle.std.proofs.lemmas.Bool.Decides.{Decides-and, Decides-eqb}
+use Rattle.std.proofs.lemmas.Slice.Eq.{slice_eq-Decides}
+use Rattle.mal_base.specs.declared.verdict.Outcome.TheVariants.{Ran}
+use Rattle.spec_balance.specs.Fair.{IsFair}
+use Rattle.spec_job.specs.Left.{left_of}
+use Rattle.spec_job.specs.Solo.{Started, Finished, Exchanged}
+use Rattle.spec_job.specs.Titled.{Key, stepped}
+use Rattle.spec_hall.specs.Events.{Event, Balance, Start, Finish, Exchange}
+use Rattle.spec_hall.specs.Measure.{is_same_live, is_balanced, left_by, left_in}
+use Rattle.spec_hall.specs.Seats.{Seat, IsSeated, jobs_in, has_changed, is_due, first_exchange, shares_by, balanced_by}
+use Rattle.spec_hall.specs.States.{Live, Candidate, states, lives, live_asks, balanced}
+use Rattle.spec_hall.proofs.KeyLemmas.{is_key-Decides}
+use Rattle.spec_hall.proofs.DueLemmas.{seated-calm, seated-due}
+use Rattle.spec_hall.proofs.BalanceLemmas.{seated-balance}
+use Rattle.spec_hall.proofs.ExchangeLemmas.{seated-exchange}
+use Rattle.spec_hall.proofs.SliceLemmas.{IsNext, seated-slice}
+use Rattle.spec_hall.proofs.MeasureLemmas.{balance-less, exchange-less, slice-less, calm-balanced}
+
+-- the test of two live jobs says whether they are equal
+is_same_live-Decides : (a b : Live) → Decides (is_same_live a b) (a ≡ b)
+is_same_live-Decides a b =
+    let numbers = Decides-and (a.priority == b.priority) (a.demand == b.demand) (Decides-eqb a.priority b.priority) (Decides-eqb a.demand b.demand) in
+    let all = Decides-and _ _ (is_key-Decides a.key b.key) numbers in (
+      (λ e. let parts = all.0 e in equal a b parts.0 parts.1.0 parts.1.1),
+      (λ e. all.1 (ap (λ (l : Live). l.key) e, (ap (λ (l : Live). l.priority) e, ap (λ (l : Live). l.demand) e))),
+    )
+  where
+    equal : (x y : Live) → x.key ≡ y.key → x.priority ≡ y.priority → x.demand ≡ y.demand → x ≡ y
+    equal x y p q r =
+        ap (λ (k : Key). let l : Live = record { key = k; priority = x.priority; demand = x.demand } in l) p
+        ∙ (ap (λ (n : ℕ). let l : Live = record { key = y.key; priority = n; demand = x.demand } in l) q ∙ ap (λ (n : ℕ). let l : Live = record { key = y.key; priority = y.priority; demand = n } in l) r)
+
+-- the test of a history says whether its live jobs are those of the last balancing
+balanced-Decides : (h : List Event) → Decides (is_balanced h) (lives (states h) ≡ balanced h)
+balanced-Decides h = slice_eq-Decides is_same_live-Decides (lives (states h)) (balanced h) (is_balanced h) refl
+
+-- a balancing is due of the history where a job has changed in its seat
+balance-due : (w : ℕ) (h : List Event) (ss : List Seat) → IsSeated w h ss → not (is_balanced h) ≡ is_due ss
+balance-due w h ss seated = by_test (is_due ss) refl
+  where
+    by_balance : (b : Bool) → is_balanced h ≡ b → is_due ss ≡ true → not b ≡ true
+    by_balance true e due = absurd (seated-due w h ss seated due ((balanced-Decides h).0 e))
+    by_balance false e due = refl
+
+    by_test : (d : Bool) → is_due ss ≡ d → not (is_balanced h) ≡ d
+    by_test true e = by_balance (is_balanced h) refl e
+    by_test false e = ap not ((balanced-Decides h).1 (seated-calm w h ss seated e))
+
+-- what is left behind a history is left in its seats
+pub seated-left : (w : ℕ) (h : List Event) (ss : List Seat) → IsSeated w h ss → left_in h ≡ left_by (is_due ss) (jobs_in ss)
+seated-left w h ss seated = ap (λ (b : Bool). left_by b (states h)) (balance-due w h ss seated) ∙ ap (left_by (is_due ss)) seated.jobs
+
+-- and where no balancing is due, or one is
+left-when : (w : ℕ) (h : List Event) (ss : List Seat) (due : Bool) → IsSeated w h ss → is_due ss ≡ due → left_in h ≡ left_by due (jobs_in ss)
+left-when w h ss due seated e = seated-left w h ss seated ∙ ap (λ (b : Bool). left_by b (jobs_in ss)) e
+
+-- less is left behind a balancing
+pub left-balance : (w : ℕ) (h : List Event) (ss : List Seat) (vs : List ℕ) → IsSeated w h ss → IsFair w (live_asks (jobs_in ss)) vs → is_due ss ≡ true → left_in (h ++ Balance (shares_by vs ss) ∷ []) < left_in h
+left-balance w h ss vs seated fair due =
+    let later : List Event = h ++ Balance (shares_by vs ss) ∷ [] in
+    let now : left_in later ≡ left_by false (jobs_in (balanced_by vs ss)) = left-when w later (balanced_by vs ss) false (seated-balance w h ss vs seated fair due) (calm-balanced 0 vs ss) in
+    let was : left_in h ≡ left_by true (jobs_in ss) = left-when w h ss true seated due in
+    subst (λ (n : ℕ). n < left_in h) (sym now) (subst (λ (n : ℕ). left_by false (jobs_in (balanced_by vs ss)) < n) (sym was) (balance-less vs ss))
+
+-- a seat that changes as little as the one before
+due-set : (ss : List Seat) (n : ℕ) (s now : Seat) → slice_get ss n ≡ Some s → has_changed now ≡ has_changed s → is_due (slice_set ss n now) ≡ is_due ss
+due-set [] n s now at same = refl
+due-set (x ∷ xs) zero s now at same = let here : x ≡ s = cc in ap (λ (b : Bool). b || is_due xs) (same ∙ ap has_changed (sym here))
+due-set (x ∷ xs) (suc n) s now at same = ap (λ (b : Bool). has_changed x || b) (due-set xs n s now at same)
+
+-- less is left behind an exchange
+pub left-exchange : (w : ℕ) (h : List Event) (ss : List Seat) (n : ℕ) (s : Seat) → IsSeated w h ss → is_due ss ≡ false → first_exchange ss ≡ Some n → slice_get ss n ≡ Some s → left_in (h ++ Exchange s.titled.key ∷ []) < left_in h
+left-exchange w h ss n s seated calm first at =
+    let later : List Event = h ++ Exchange s.titled.key ∷ [] in
+    let seat : Seat = record s { titled = stepped s.titled Exchanged } in
+    let now : left_in later ≡ left_by false (jobs_in (slice_set ss n seat)) = left-when w later (slice_set ss n seat) false (seated-exchange w h ss n s seated calm first at) (due-set ss n s seat at refl ∙ calm) in
+    let was : left_in h ≡ left_by false (jobs_in ss) = left-when w h ss false seated calm in
+    subst (λ (m : ℕ). m < left_in h) (sym now) (subst (λ (m : ℕ). left_by false (jobs_in (slice_set ss n seat)) < m) (sym was) (exchange-less ss n s first at))
+
+-- a job after a slice
+abbrev pub sliced : Seat → ℕ → Seat
+sliced s i = record s { titled = stepped (stepped s.titled (Started i)) (Finished i Ran) }
+
+-- less is left behind a slice that leaves less to its job
+pub left-slice : (w : ℕ) (h : List Event) (ss : List Seat) (c : Candidate) (s : Seat) → IsSeated w h ss → IsNext ss c s → left_of (sliced s c.index).titled.state < left_of s.titled.state → left_in ((h ++ Start s.titled.key c.index 1 ∷ []) ++ Finish s.titled.key c.index 1 Ran ∷ []) < left_in h
+left-slice w h ss c s seated next less =
+    let later : List Event = (h ++ Start s.titled.key c.index 1 ∷ []) ++ Finish s.titled.key c.index 1 Ran ∷ [] in
+    let seats : List Seat = slice_set ss c.job (sliced s c.index) in
+    let now : left_in later ≡ left_by (is_due seats) (jobs_in seats) = seated-left w later seats (seated-slice w h ss c s seated next) in
+    let was : left_in h ≡ left_by false (jobs_in ss) = left-when w h ss false seated next.calm in
+    subst (λ (m : ℕ). m < left_in h) (sym now) (subst (λ (m : ℕ). left_by (is_due seats) (jobs_in seats) < m) (sym was) (slice-less (is_due seats) ss c.job s (sliced s c.index) next.at less))
