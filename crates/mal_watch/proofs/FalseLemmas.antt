@@ -1,0 +1,56 @@
+use Rattle.std.proofs.Common.{◌≡◌, ℕ, zero, suc, ◌+◌, ◌<◌, ◌≤◌, Bool, true, false, ◌||◌, List, [], ◌∷◌, take, refl, sym, ◌∙◌, arith}
+use Rattle.std.specs.Prelude.{nat_eq, nat_lt}
+use Rattle.std.proofs.lemmas.Bool.{false≢true, ltb-true, ltb-false}
+use Rattle.std.proofs.lemmas.Bool.Decides.{nat_tests}
+use Rattle.mal_base.specs.Literals.{negated}
+use Rattle.mal_base.specs.declared.trail_entry.TrailEntry.{TrailEntry}
+use Rattle.spec_node.specs.Value.{is_true, is_false}
+use Rattle.mal_watch.specs.Pairs.{IsOpenUntil}
+
+-- what is true under the first entries is so under more of them
+pub true-more : (n m : ℕ) (es : List TrailEntry) (l : ℕ) → n ≤ m → is_true (take n es) l ≡ true → is_true (take m es) l ≡ true
+true-more zero m es l h t = absurd (false≢true t)
+true-more (suc n) zero es l h t = absurd (omega arith)
+true-more (suc n) (suc m) [] l h t = t
+true-more (suc n) (suc m) (e ∷ es) l h t = by_here (nat_eq e.lit l) (true-more n m es l (omega arith)) t
+  where
+    by_here : (b : Bool) → (is_true (take n es) l ≡ true → is_true (take m es) l ≡ true) → (b || is_true (take n es) l) ≡ true → (b || is_true (take m es) l) ≡ true
+    by_here true rest h = refl
+    by_here false rest h = rest h
+
+pub false-more : (n m : ℕ) (es : List TrailEntry) (l : ℕ) → n ≤ m → is_false (take n es) l ≡ true → is_false (take m es) l ≡ true
+false-more n m es l h t = true-more n m es (negated l) h t
+
+-- what is not false under more entries is not false under the first of them
+pub open-less : (n m : ℕ) (es : List TrailEntry) (l : ℕ) → n ≤ m → is_false (take m es) l ≡ false → is_false (take n es) l ≡ false
+open-less n m es l h o = by_value (is_false (take n es) l) refl
+  where
+    by_value : (b : Bool) → is_false (take n es) l ≡ b → is_false (take n es) l ≡ false
+    by_value true t = absurd (false≢true (sym o ∙ false-more n m es l h t))
+    by_value false t = t
+
+not_lt : (a b : ℕ) → b ≤ a → nat_lt a b ≡ false
+not_lt a b = grind (arith, nat_tests)
+
+is_lt : (a b : ℕ) → a < b → nat_lt a b ≡ true
+is_lt a b = grind (arith, nat_tests)
+
+-- a literal that is not false is so throughout
+pub open-never : (es : List TrailEntry) (count l : ℕ) → is_false (take count es) l ≡ false → IsOpenUntil es count l count
+open-never es count l o =
+    record {
+      until_is = λ n h. open-less n count es l h o ∙ sym (not_lt count n h);
+      bound = omega arith;
+    }
+
+-- a literal that is false under one entry more than it is not
+pub open-until : (es : List TrailEntry) (count low high l : ℕ) → low < high → high ≤ low + 1 → high ≤ count → is_false (take low es) l ≡ false → is_false (take high es) l ≡ true → IsOpenUntil es count l low
+open-until es count low high l a b d o f =
+    record {
+      until_is = λ n h. by_order n (nat_lt low n) refl;
+      bound = omega arith;
+    }
+  where
+    by_order : (n : ℕ) → (t : Bool) → nat_lt low n ≡ t → is_false (take n es) l ≡ nat_lt low n
+    by_order n true t = let m : low < n = ltb-true low n t in false-more high n es l (omega arith) f ∙ sym t
+    by_order n false t = let m : n ≤ low = ltb-false low n t in open-less n low es l m o ∙ sym t

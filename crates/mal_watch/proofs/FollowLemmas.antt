@@ -1,0 +1,346 @@
+use Rattle.std.proofs.Common.{◌≡◌, ◌≢◌, ℕ, ◌+◌, ◌-◌, ◌/◌, ◌%◌, ◌<◌, ◌≤◌, ◌↔◌, ◌⊎◌, ◌&&◌, inl, inr, Bool, true, false, not, List, [], ◌∷◌, ◌++◌, length, take, map, get_or, None, refl, sym, ap, subst, ◌∙◌, arith}
+use Rattle.std.specs.Prelude.{nat_le, nat_lt, filter}
+use Rattle.std.specs.List.Sorted.{IsPermutation, IsSorted}
+use Rattle.std.specs.Ordering.{nat_cmp}
+use Rattle.std.proofs.lemmas.Bool.{false≢true, cases_eq, ltb-true, ltb-false}
+use Rattle.std.proofs.lemmas.Bool.Decides.{nat_tests}
+use Rattle.std.proofs.lemmas.List.{length_push, get_or_append_left, get_or_at, get_or_past}
+use Rattle.std.proofs.lemmas.List.Sums.{count_by-le-length}
+use Rattle.mal_base.specs.Formulas.{is_within}
+use Rattle.mal_base.specs.Held.{Held, lits_under}
+use Rattle.mal_base.specs.Literals.{negated}
+use Rattle.mal_base.specs.declared.trail_entry.TrailEntry.{TrailEntry}
+use Rattle.spec_node.specs.Adding.{with_clause}
+use Rattle.spec_node.specs.Batch.{is_in_batch, batch}
+use Rattle.spec_node.specs.Value.{is_false, open_count}
+use Rattle.mal_watch.specs.Chains.{Has, AreOnce, IsAt}
+use Rattle.mal_watch.specs.Pairs.{ArePicked}
+use Rattle.mal_watch.specs.Watching.{no_row, row_at, partner, other_key, IsKept, Walk, walked}
+use Rattle.mal_watch.specs.Following.{Among, AreSingle, Follows}
+use Rattle.mal_watch.proofs.HasLemmas.{has-none, has-cases}
+use Rattle.mal_watch.proofs.HeldLemmas.{among-at, among-with, with-among, under-none, rise-with}
+use Rattle.mal_watch.proofs.TurnLemmas.{Turns, Goes, ids_in, partner-even, partner-odd, only-last, goes-start, goes-walked, goes-end, goes-apart}
+use Rattle.mal_watch.proofs.FoundLemmas.{found-is}
+use Rattle.mal_watch.proofs.FalseLemmas.{false-more, open-less}
+use Rattle.mal_watch.proofs.WalkLemmas.{partner-below}
+use Rattle.mal_watch.proofs.CountLemmas.{count-same, batch-before, batch-no}
+
+-- what follows a trail follows it with more room for the numbers found and more lists
+pub follows-more : (clauses rows : List Held) (keys out : List ℕ) (lists more capacity wider : ℕ) (entries : List TrailEntry) (processed : ℕ) → lists ≤ more → length rows ≤ wider → Follows clauses rows keys out lists capacity entries processed → Follows clauses rows keys out more wider entries processed
+follows-more clauses rows keys out lists more capacity wider entries processed l c f =
+    record {
+      numbers = f.numbers;
+      held = f.held;
+      each = f.each;
+      single = f.single;
+      form = f.form;
+      watching = record { paired = f.watching.paired; own = f.watching.own; below = λ k x h. omega (arith, f.watching.below k x h, l) };
+      apart = f.apart;
+      idle = f.idle;
+      room = c;
+      kept = f.kept;
+    }
+
+-- with no clause everything follows
+pub follows-none : (clauses rows : List Held) (keys out : List ℕ) (lists capacity : ℕ) (entries : List TrailEntry) (processed : ℕ) → clauses ≡ [] → rows ≡ [] → keys ≡ [] → out ≡ [] → Follows clauses rows keys out lists capacity entries processed
+follows-none clauses rows keys out lists capacity entries processed c r k o =
+    rw (c, r, k, o)
+    (record {
+      numbers = tt;
+      held = λ d h. h;
+      each = λ d h. absurd h;
+      single = λ i j h. absurd (omega arith);
+      form = λ d h. absurd h;
+      watching = record { paired = refl; own = λ i h. absurd (omega arith); below = λ i l h. absurd (has-none l h) };
+      apart = λ i h. absurd (omega arith);
+      idle = refl;
+      room = omega arith;
+      kept = λ n i h l. absurd (omega arith);
+    })
+
+-- a clause of at most one literal more
+pub follows-short : (clauses rows : List Held) (keys out : List ℕ) (lists capacity : ℕ) (entries : List TrailEntry) (processed : ℕ) (c : Held) → lits_under c.id clauses ≡ None → length c.lits ≤ 1 → Follows clauses rows keys out lists capacity entries processed → Follows (with_clause c clauses) rows keys out lists capacity entries processed
+follows-short clauses rows keys out lists capacity entries processed c n s f =
+    record {
+      numbers = rise-with 0 c clauses (omega arith) (λ d h. under-none c.id clauses d n h) f.numbers;
+      held = λ d h. with-among d c clauses (inr (f.held d h));
+      each = λ d h. elim (among-with d c clauses h) [
+        | inl e ↦ inl (rw e s)
+        | inr m ↦ f.each d m
+      ];
+      single = f.single;
+      form = f.form;
+      watching = f.watching;
+      apart = f.apart;
+      idle = f.idle;
+      room = f.room;
+      kept = f.kept;
+    }
+
+among-push : (c d : Held) (cs : List Held) → Among c (cs ++ d ∷ []) → Among c cs ⊎ (c ≡ d)
+among-push c d [] (inl e) = inr e
+among-push c d [] (inr h) = absurd h
+among-push c d (x ∷ xs) (inl e) = inl (inl e)
+among-push c d (x ∷ xs) (inr h) = elim (among-push c d xs h) [
+  | inl m ↦ inl (inr m)
+  | inr e ↦ inr e
+]
+
+push-among : (c d : Held) (cs : List Held) → Among c cs → Among c (cs ++ d ∷ [])
+push-among c d [] h = absurd h
+push-among c d (x ∷ xs) (inl e) = inl e
+push-among c d (x ∷ xs) (inr h) = inr (push-among c d xs h)
+
+push-last : (d : Held) (cs : List Held) → Among d (cs ++ d ∷ [])
+push-last d [] = inl refl
+push-last d (x ∷ xs) = inr (push-last d xs)
+
+-- the rows with one more
+row-old : (rows : List Held) (c : Held) (i : ℕ) → i < length rows → get_or (rows ++ c ∷ []) i no_row ≡ get_or rows i no_row
+row-old rows c i l = get_or_append_left rows (c ∷ []) no_row i l
+
+row-new : (rows : List Held) (c : Held) (i : ℕ) → length rows ≡ i → get_or (rows ++ c ∷ []) i no_row ≡ c
+row-new rows c i e = get_or_at rows c [] no_row i e
+
+single-push : (rows : List Held) (c : Held) → ((d : Held) → Among d rows → d.id ≢ c.id) → AreSingle rows → AreSingle (rows ++ c ∷ [])
+single-push rows c n s i j a b e = by_places (cases_eq i (length rows)) (cases_eq j (length rows))
+  where
+    long : length (rows ++ c ∷ []) ≡ length rows + 1
+    long = length_push rows c
+
+    same : (x y : Held) → get_or (rows ++ c ∷ []) i no_row ≡ x → get_or (rows ++ c ∷ []) j no_row ≡ y → x.id ≡ y.id
+    same x y p q = ap (λ (h : Held). h.id) (sym p) ∙ (e ∙ ap (λ (h : Held). h.id) q)
+
+    by_places : (i ≡ length rows) ⊎ (i ≡ length rows → ⊥) → (j ≡ length rows) ⊎ (j ≡ length rows → ⊥) → i ≡ j
+    by_places (inl p) (inl q) = p ∙ sym q
+    by_places (inl p) (inr q) =
+        let l : j < length rows = omega (arith, b, long, q) in
+        absurd (n (get_or rows j no_row) (among-at rows j no_row l) (sym (same c (get_or rows j no_row) (row-new rows c i (sym p)) (row-old rows c j l))))
+    by_places (inr p) (inl q) =
+        let l : i < length rows = omega (arith, a, long, p) in
+        absurd (n (get_or rows i no_row) (among-at rows i no_row l) (same (get_or rows i no_row) c (row-old rows c i l) (row-new rows c j (sym q))))
+    by_places (inr p) (inr q) =
+        let l : i < length rows = omega (arith, a, long, p) in
+        let m : j < length rows = omega (arith, b, long, q) in
+        s i j l m (same (get_or rows i no_row) (get_or rows j no_row) (row-old rows c i l) (row-old rows c j m))
+
+-- the nodes with two more
+pub record HasPair (keys now : List ℕ) (first second : ℕ) : Type 0 where
+  pub long : length now ≡ length keys + 2
+  pub old : (k : ℕ) → k < length keys → get_or now k 0 ≡ get_or keys k 0
+  pub first_is : get_or now (length keys) 0 ≡ first
+  pub second_is : get_or now (length keys + 1) 0 ≡ second
+
+pub pair-push : (keys : List ℕ) (first second : ℕ) → HasPair keys ((keys ++ first ∷ []) ++ second ∷ []) first second
+pair-push keys first second =
+    let one : length (keys ++ first ∷ []) ≡ length keys + 1 = length_push keys first in
+    let two : length ((keys ++ first ∷ []) ++ second ∷ []) ≡ length (keys ++ first ∷ []) + 1 = length_push (keys ++ first ∷ []) second in
+    record {
+      long = omega (arith, one, two);
+      old = λ k l. get_or_append_left (keys ++ first ∷ []) (second ∷ []) 0 k (omega (arith, l, one)) ∙ get_or_append_left keys (first ∷ []) 0 k l;
+      first_is = get_or_append_left (keys ++ first ∷ []) (second ∷ []) 0 (length keys) (omega (arith, one)) ∙ get_or_at keys first [] 0 (length keys) refl;
+      second_is = get_or_at (keys ++ first ∷ []) second [] 0 (length keys + 1) one;
+    }
+
+-- what holds of a node, by what it and its partner watch and by its clause
+kept-as : (prefix : List TrailEntry) (rows : List Held) (keys : List ℕ) (k a b : ℕ) (c : Held) → get_or keys k 0 ≡ a → other_key keys k ≡ b → row_at rows k ≡ c → (is_false prefix a ≡ true → (x : ℕ) → Has c.lits x → x ≢ b → is_false prefix x ≡ true) → IsKept prefix rows keys k
+kept-as prefix rows keys k a b c e f g h = rw (e, f, g) h
+
+-- a node is an old one, or one of the two new ones
+split : (n k : ℕ) → k < n + 2 → (k < n) ⊎ ((k ≡ n) ⊎ (k ≡ n + 1))
+split n k l = by_case (cases_eq k n) (cases_eq k (n + 1))
+  where
+    by_case : (k ≡ n) ⊎ (k ≡ n → ⊥) → (k ≡ n + 1) ⊎ (k ≡ n + 1 → ⊥) → (k < n) ⊎ ((k ≡ n) ⊎ (k ≡ n + 1))
+    by_case (inl e) c = inr (inl e)
+    by_case (inr d) (inl e) = inr (inr e)
+    by_case (inr d) (inr c) = inl (omega arith)
+
+-- each literal of a clause that there is room for has a list
+below-push : (lists : ℕ) (rows : List Held) (c : Held) → ((k l : ℕ) → Has (row_at rows k).lits l → l < lists) → ((l : ℕ) → Has c.lits l → l < lists) → (k l : ℕ) → Has (row_at (rows ++ c ∷ []) k).lits l → l < lists
+below-push lists rows c old new k l h = by_place (cases_eq (k / 2) (length rows)) (nat_lt (k / 2) (length rows)) refl
+  where
+    by_place : (k / 2 ≡ length rows) ⊎ (k / 2 ≡ length rows → ⊥) → (b : Bool) → nat_lt (k / 2) (length rows) ≡ b → l < lists
+    by_place (inl e) b t = new l (rw (row-new rows c (k / 2) (sym e)) at h)
+    by_place (inr d) true t = old k l (rw (row-old rows c (k / 2) (ltb-true (k / 2) (length rows) t)) at h)
+    by_place (inr d) false t =
+        let beyond : length (rows ++ c ∷ []) ≤ k / 2 = omega (arith, length_push rows c, ltb-false (k / 2) (length rows) t, d) in
+        absurd (has-none l (rw (get_or_past (rows ++ c ∷ []) (k / 2) no_row beyond) at h))
+
+-- a clause of two or more literals more, which watches the two that were picked
+pub follows-long : (clauses rows : List Held) (keys out : List ℕ) (lists capacity : ℕ) (entries : List TrailEntry) (processed : ℕ) (c : Held) (first second : ℕ) → lits_under c.id clauses ≡ None → AreOnce c.lits → ArePicked entries (processed - 1) c.lits first second → ((l : ℕ) → Has c.lits l → l < lists) → length rows + 1 ≤ capacity → Follows clauses rows keys out lists capacity entries processed → Follows (with_clause c clauses) (rows ++ c ∷ []) ((keys ++ first ∷ []) ++ second ∷ []) out lists capacity entries processed
+follows-long clauses rows keys out lists capacity entries processed c first second fresh once p below room f =
+    let n = length keys in
+    let now = (keys ++ first ∷ []) ++ second ∷ [] in
+    let next = rows ++ c ∷ [] in
+    let pair = pair-push keys first second in
+    let paired : n ≡ length rows + length rows = f.watching.paired in
+    let even : n % 2 ≡ 0 = omega arith in
+    let odd : (n + 1) % 2 ≡ 1 = omega arith in
+    let other_n : partner n ≡ n + 1 = partner-even n even in
+    let other_m : partner (n + 1) ≡ n = let e = partner-odd (n + 1) odd in omega arith in
+    let row_n : row_at next n ≡ c = row-new rows c (n / 2) (omega arith) in
+    let row_m : row_at next (n + 1) ≡ c = row-new rows c ((n + 1) / 2) (omega arith) in
+    let row_k : (k : ℕ) → k < n → row_at next k ≡ row_at rows k = λ k l. row-old rows c (k / 2) (omega (arith, l, paired)) in
+    let key_other_n : other_key now n ≡ second = ap (λ (i : ℕ). get_or now i 0) other_n ∙ pair.second_is in
+    let key_other_m : other_key now (n + 1) ≡ first = ap (λ (i : ℕ). get_or now i 0) other_m ∙ pair.first_is in
+    let key_other_k : (k : ℕ) → k < n → other_key now k ≡ other_key keys k = λ k l. pair.old (partner k) (partner-below lists rows keys k f.watching l) in
+    let places : (k : ℕ) → k < length now → (k < n) ⊎ ((k ≡ n) ⊎ (k ≡ n + 1)) = λ k l. split n k (omega (arith, l, pair.long)) in
+    record {
+      numbers = rise-with 0 c clauses (omega arith) (λ d h. under-none c.id clauses d fresh h) f.numbers;
+      held = λ d h. elim (among-push d c rows h) [
+        | inl m ↦ with-among d c clauses (inr (f.held d m))
+        | inr e ↦ with-among d c clauses (inl e)
+      ];
+      each = λ d h. elim (among-with d c clauses h) [
+        | inl e ↦ inr (rw e (push-last c rows))
+        | inr m ↦ elim (f.each d m) [
+          | inl s ↦ inl s
+          | inr r ↦ inr (push-among d c rows r)
+        ]
+      ];
+      single = single-push rows c (λ d h. under-none c.id clauses d fresh (f.held d h)) f.single;
+      form = λ d h. elim (among-push d c rows h) [
+        | inl m ↦ f.form d m
+        | inr e ↦ rw e once
+      ];
+      watching = record {
+        paired = omega (arith, pair.long, paired, length_push rows c);
+        own = λ k l. elim (places k l) [
+          | inl o ↦ rw (row_k k o, pair.old k o) (f.watching.own k o)
+          | inr (inl e) ↦ rw e (rw (row_n, pair.first_is) p.first_in)
+          | inr (inr e) ↦ rw e (rw (row_m, pair.second_is) p.second_in)
+        ];
+        below = below-push lists rows c f.watching.below below;
+      };
+      apart = λ k l. elim (places k l) [
+        | inl o ↦ rw (pair.old k o, key_other_k k o) (f.apart k o)
+        | inr (inl e) ↦ rw e (rw (pair.first_is, key_other_n) p.apart)
+        | inr (inr e) ↦ rw e (rw (pair.second_is, key_other_m) (λ s. p.apart (sym s)))
+      ];
+      idle = f.idle;
+      room = omega (arith, room, length_push rows c);
+      kept = λ m k h l. elim (places k l) [
+        | inl o ↦ kept-as (take m entries) next now k (get_or keys k 0) (other_key keys k) (row_at rows k) (pair.old k o) (key_other_k k o) (row_k k o) (f.kept m k h o)
+        | inr (inl e) ↦ rw e (kept-as (take m entries) next now n first second c pair.first_is key_other_n row_n (λ z x i d. elim (cases_eq x first) [
+          | inl s ↦ rw s z
+          | inr u ↦ p.others x i u m h (p.order m h z)
+        ]))
+        | inr (inr e) ↦ rw e (kept-as (take m entries) next now (n + 1) second first c pair.second_is key_other_m row_m (λ z x i d. p.others x i d m h z))
+      ];
+    }
+
+le_true : (a b : ℕ) → nat_le a b ≡ true → a ≤ b
+le_true a b = grind (arith, nat_tests)
+
+and_true : (a b : Bool) → (a && b) ≡ true → (a ≡ true) × (b ≡ true)
+and_true true b h = (refl, h)
+and_true false b h = absurd (false≢true h)
+
+-- literals of variables that there is room for have lists
+pub lists-within : (lists : ℕ) (lits : List ℕ) → is_within (lists / 2 - 1) lits ≡ true → (l : ℕ) → Has lits l → l < lists
+lists-within lists [] w l h = absurd (has-none l h)
+lists-within lists (x ∷ xs) w l h =
+    let parts = and_true (nat_le 1 (x / 2) && nat_le (x / 2) (lists / 2 - 1)) (is_within (lists / 2 - 1) xs) w in
+    let here = and_true (nat_le 1 (x / 2)) (nat_le (x / 2) (lists / 2 - 1)) parts.0 in
+    let low = le_true 1 (x / 2) here.0 in
+    let high = le_true (x / 2) (lists / 2 - 1) here.1 in
+    elim (has-cases l x xs h) [
+      | inl e ↦ let s : l ≡ x = e in omega arith
+      | inr m ↦ lists-within lists xs parts.1 l m
+    ]
+
+-- the rows' literals stand once each
+pub rows-once : (rows : List Held) → ((c : Held) → Among c rows → AreOnce c.lits) → (k : ℕ) → AreOnce (row_at rows k).lits
+rows-once rows form k = by_place (nat_lt (k / 2) (length rows)) refl
+  where
+    by_place : (b : Bool) → nat_lt (k / 2) (length rows) ≡ b → AreOnce (row_at rows k).lits
+    by_place true t = form (row_at rows k) (among-at rows (k / 2) no_row (ltb-true (k / 2) (length rows) t))
+    by_place false t = rw (get_or_past rows (k / 2) no_row (ltb-false (k / 2) (length rows) t)) tt
+
+-- the batch is of rows alone
+pub batch-rows : (clauses rows : List Held) (entries : List TrailEntry) (q : ℕ) → 1 ≤ q → q ≤ length entries → ((c : Held) → Among c clauses → (length c.lits ≤ 1) ⊎ Among c rows) → (c : Held) → Among c clauses → is_in_batch (take q entries) c ≡ true → Among c rows
+batch-rows clauses rows entries q s l each c h t = elim (each c h) [
+  | inl short ↦
+      let few : open_count (take (q - 1) entries) c.lits ≤ 1 = omega (arith, short, count_by-le-length (λ x. not (is_false (take (q - 1) entries) x)) c.lits) in
+      absurd (false≢true (sym (batch-before entries q c s l few) ∙ t))
+  | inr m ↦ m
+]
+
+-- after the walk: what the nodes watch follows the trail with one batch more, and the numbers found are the batch's
+pub record IsFound (clauses rows : List Held) (keys found : List ℕ) (lists capacity : ℕ) (entries : List TrailEntry) (count : ℕ) : Type 0 where
+  pub follows : Follows clauses rows keys [] lists capacity entries (count + 1)
+  pub numbers : found ≡ map (λ (c : Held). c.id) (batch (take count entries) clauses)
+
+pub after-walk : (clauses rows : List Held) (keys out idle now unsorted found : List ℕ) (lists capacity : ℕ) (entries : List TrailEntry) (count : ℕ) (f : ℕ) → Follows clauses rows keys idle lists capacity entries count → Turns entries count f → ((k : ℕ) → Has out k ↔ IsAt keys k f) → AreOnce out → walked (take count entries) rows (record { keys = keys; found = [] }) out ≡ record { keys = now; found = unsorted } → IsPermutation unsorted found → IsSorted nat_cmp found → IsFound clauses rows now found lists capacity entries count
+after-walk clauses rows keys out idle now unsorted found lists capacity entries count f w t nodes once walk p s =
+    let form = rows-once rows w.form in
+    let start = goes-start entries count f lists rows keys out t w.watching w.apart form w.kept nodes once in
+    let end = goes-walked entries count f lists rows out keys [] t start in
+    let keys_are : (walked (take count entries) rows (record { keys = keys; found = [] }) out).keys ≡ now = ap (λ (x : Walk). x.keys) walk in
+    let found_are : (walked (take count entries) rows (record { keys = keys; found = [] }) out).found ≡ unsorted = ap (λ (x : Walk). x.found) walk in
+    let goes : Goes entries count f lists rows now [] = subst (λ (ks : List ℕ). Goes entries count f lists rows ks []) keys_are end.0 in
+    let ids : ids_in (take count entries) rows out ≡ unsorted = sym end.1 ∙ found_are in
+    let moved : IsPermutation (ids_in (take count entries) rows out) found = subst (λ (xs : List ℕ). IsPermutation xs found) (sym ids) p in
+    record {
+      follows = record {
+        numbers = w.numbers;
+        held = w.held;
+        each = w.each;
+        single = w.single;
+        form = w.form;
+        watching = goes.watching;
+        apart = goes.apart;
+        idle = refl;
+        room = w.room;
+        kept = goes-end entries count f lists rows now goes;
+      };
+      numbers = found-is (take count entries) f lists clauses rows keys out found w.numbers w.held w.single w.watching w.apart nodes once (batch-rows clauses rows entries count t.some t.within w.each) (λ k l d e. goes-apart entries count f lists rows keys k t w.watching w.apart form w.kept l d e) moved s;
+    }
+
+passed-none : (p : Held → Bool) → ((c : Held) → p c ≡ false) → (cs : List Held) → filter p cs ≡ []
+passed-none p h [] = refl
+passed-none p h (c ∷ cs) = rw (h c) (passed-none p h cs)
+
+-- an entry whose literal was true before makes no batch
+pub no-walk : (clauses rows : List Held) (keys : List ℕ) (lists capacity : ℕ) (entries : List TrailEntry) (count : ℕ) (e : TrailEntry) (idle : List ℕ) → 1 ≤ count → count ≤ length entries → e ≡ get_or entries (count - 1) e → is_false (take (count - 1) entries) (negated e.lit) ≡ true → Follows clauses rows keys idle lists capacity entries count → Follows clauses rows keys idle lists capacity entries (count + 1) × ([] ≡ map (λ (c : Held). c.id) (batch (take count entries) clauses))
+no-walk clauses rows keys lists capacity entries count e idle s l is was f = (
+  record {
+    numbers = f.numbers;
+    held = f.held;
+    each = f.each;
+    single = f.single;
+    form = f.form;
+    watching = f.watching;
+    apart = f.apart;
+    idle = f.idle;
+    room = f.room;
+    kept = λ n k h m. elim (cases_eq n count) [
+      | inl q ↦ rw q (λ z x i d. false-more (count - 1) count entries x (omega arith) (f.kept (count - 1) k (omega arith) m (back (get_or keys k 0) z) x i d))
+      | inr d ↦ f.kept n k (omega (arith, h, d)) m
+    ];
+  },
+  ap (λ (cs : List Held). map (λ (c : Held). c.id) cs) (sym (passed-none (is_in_batch (take count entries)) never clauses)),
+)
+  where
+    back : (x : ℕ) → is_false (take count entries) x ≡ true → is_false (take (count - 1) entries) x ≡ true
+    back x z = elim (cases_eq x (negated e.lit)) [
+      | inl q ↦ rw q was
+      | inr d ↦ only-last entries count e s l is x z d
+    ]
+
+    same : (x : ℕ) → is_false (take count entries) x ≡ is_false (take (count - 1) entries) x
+    same x = by_value (is_false (take count entries) x) refl
+      where
+        by_value : (b : Bool) → is_false (take count entries) x ≡ b → is_false (take count entries) x ≡ is_false (take (count - 1) entries) x
+        by_value true z = z ∙ sym (back x z)
+        by_value false z = z ∙ sym (open-less (count - 1) count entries x (omega arith) z)
+
+    never : (c : Held) → is_in_batch (take count entries) c ≡ false
+    never c = by_many (nat_lt 1 (open_count (take (count - 1) entries) c.lits)) refl
+      where
+        alike : open_count (take count entries) c.lits ≡ open_count (take (count - 1) entries) c.lits
+        alike = count-same (λ x. not (is_false (take count entries) x)) (λ x. not (is_false (take (count - 1) entries) x)) (λ x. ap not (same x)) c.lits
+
+        by_many : (b : Bool) → nat_lt 1 (open_count (take (count - 1) entries) c.lits) ≡ b → is_in_batch (take count entries) c ≡ false
+        by_many true t = batch-no entries count c s l (λ o. omega (arith, o, alike, ltb-true 1 (open_count (take (count - 1) entries) c.lits) t))
+        by_many false t = batch-before entries count c s l (ltb-false 1 (open_count (take (count - 1) entries) c.lits) t)

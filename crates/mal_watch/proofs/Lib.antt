@@ -1,0 +1,11 @@
+pub mod HasLemmas
+pub mod ChainLemmas
+pub mod RowLemmas
+pub mod FalseLemmas
+pub mod HeldLemmas
+pub mod BatchLemmas
+pub mod WalkLemmas
+pub mod CountLemmas
+pub mod TurnLemmas
+pub mod FoundLemmas
+pub mod FollowLemmas

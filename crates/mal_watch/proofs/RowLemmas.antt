@@ -1,0 +1,53 @@
+use Rattle.std.proofs.Common.{◌≡◌, ℕ, zero, suc, ◌+◌, ◌<◌, ◌≤◌, List, [], ◌∷◌, ◌++◌, length, take, drop, get_or, Some, refl, ap, ◌∙◌, arith}
+use Rattle.std.specs.List.{slice_get}
+use Rattle.std.proofs.lemmas.List.{length-append, length-map, take-append-le, take_all, drop_at, map-append}
+use Rattle.mal_base.specs.Held.{Held}
+use Rattle.mal_watch.specs.declared.rows.Row.{Row}
+use Rattle.mal_watch.specs.Rowed.{clause_in, clauses_in, AreRows}
+
+pub rows-at : (count : ℕ) (rs : List Row) (k : ℕ) (d : Row) → AreRows count rs → k < length rs → (get_or rs k d).start + (get_or rs k d).len ≤ count
+rows-at count [] k d w l = absurd (omega arith)
+rows-at count (r ∷ rs) zero d w l = w.0
+rows-at count (r ∷ rs) (suc k) d w l = rows-at count rs k d w.1 (omega arith)
+
+pub get-row : (literals : List ℕ) (rs : List Row) (k : ℕ) (d : Row) → k < length rs → slice_get (clauses_in literals rs) k ≡ Some (clause_in literals (get_or rs k d))
+get-row literals [] k d l = absurd (omega arith)
+get-row literals (r ∷ rs) zero d l = refl
+get-row literals (r ∷ rs) (suc k) d l = get-row literals rs k d (omega arith)
+
+pub rows-length : (literals : List ℕ) (rs : List Row) → length (clauses_in literals rs) ≡ length rs
+rows-length literals rs = length-map rs (clause_in literals)
+
+rows-push : (count more : ℕ) (rs : List Row) (r : Row) → count ≤ more → r.start + r.len ≤ more → AreRows count rs → AreRows more (rs ++ r ∷ [])
+rows-push count more [] r l h w = (h, tt)
+rows-push count more (x ∷ xs) r l h w = (omega (arith, w.0), rows-push count more xs r l h w.1)
+
+part-front : (i n : ℕ) (xs ys : List ℕ) → i + n ≤ length xs → take n (drop i (xs ++ ys)) ≡ take n (drop i xs)
+part-front zero n xs ys l = take-append-le n xs ys (omega arith)
+part-front (suc i) zero xs ys l = refl
+part-front (suc i) (suc n) [] ys l = absurd (omega arith)
+part-front (suc i) (suc n) (x ∷ xs) ys l = part-front i (suc n) xs ys (omega arith)
+
+-- clauses stay where more literals are appended
+rows-more : (literals more : List ℕ) (rs : List Row) → AreRows (length literals) rs → clauses_in (literals ++ more) rs ≡ clauses_in literals rs
+rows-more literals more [] w = refl
+rows-more literals more (r ∷ rs) w = rw (part-front r.start r.len literals more w.0, rows-more literals more rs w.1) refl
+
+-- the literals that were appended are those of the row that is made of them
+part-behind : (literals more : List ℕ) → take (length more) (drop (length literals) (literals ++ more)) ≡ more
+part-behind literals more = rw (drop_at literals more (length literals) refl) (take_all (length more) more (omega arith))
+
+-- rows with one more
+pub record HasOneMore (literals lits : List ℕ) (id : ℕ) (rs next : List Row) : Type 0 where
+  pub within : AreRows (length (literals ++ lits)) next
+  pub clauses : clauses_in (literals ++ lits) next ≡ clauses_in literals rs ++ record { id = id; lits = lits } ∷ []
+
+pub one-more : (literals lits : List ℕ) (id start len : ℕ) (rs : List Row) → AreRows (length literals) rs → start ≡ length literals → len ≡ length lits → HasOneMore literals lits id rs (rs ++ record { id = id; start = start; len = len } ∷ [])
+one-more literals lits id start len rs w s l =
+    let row : Row = record { id = id; start = start; len = len } in
+    let longer : length (literals ++ lits) ≡ length literals + length lits = length-append literals lits in
+    let lits_are : take len (drop start (literals ++ lits)) ≡ lits = rw (s, l) (part-behind literals lits) in
+    record {
+      within = rows-push (length literals) (length (literals ++ lits)) rs row (omega arith) (omega arith) w;
+      clauses = map-append (clause_in (literals ++ lits)) rs (row ∷ []) ∙ (ap (λ (cs : List Held). cs ++ clause_in (literals ++ lits) row ∷ []) (rows-more literals lits rs w) ∙ ap (λ (ls : List ℕ). let c : Held = record { id = id; lits = ls } in clauses_in literals rs ++ c ∷ []) lits_are);
+    }

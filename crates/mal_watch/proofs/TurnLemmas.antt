@@ -1,0 +1,407 @@
+use Rattle.std.proofs.Common.{◌≡◌, ◌≢◌, ℕ, ◌+◌, ◌-◌, ◌/◌, ◌%◌, ◌<◌, ◌≤◌, ◌↔◌, ◌⊎◌, inl, inr, Bool, true, false, not, ◌&&◌, ◌||◌, cond, List, [], ◌∷◌, ◌++◌, length, take, set, get_or, Option, Some, None, refl, sym, ap, subst, ◌∙◌, append-nil, append_assoc, arith}
+use Rattle.std.specs.Prelude.{nat_eq, is_none}
+use Rattle.std.specs.Option.{unwrap_or}
+use Rattle.std.proofs.lemmas.Bool.{false≢true, cases_eq}
+use Rattle.std.proofs.lemmas.Bool.Decides.{nat_tests}
+use Rattle.std.proofs.lemmas.List.{length-set, get_or-set_same, get_or-set_other, set-get_or, take_more}
+use Rattle.mal_base.specs.Literals.{negated}
+use Rattle.mal_base.specs.Held.{Held}
+use Rattle.mal_base.specs.declared.trail_entry.TrailEntry.{TrailEntry}
+use Rattle.spec_node.specs.Value.{is_true, is_false, open_count}
+use Rattle.spec_node.specs.Batch.{is_in_batch}
+use Rattle.mal_watch.specs.Chains.{Has, AreOnce, IsAt}
+use Rattle.mal_watch.specs.Watching.{no_row, row_at, partner, replacement, other_key, replaced, found_at, IsWatching, walked, IsKept}
+use Rattle.mal_watch.proofs.HasLemmas.{has-none, has-head, has-tail, has-cases}
+use Rattle.mal_watch.proofs.FalseLemmas.{false-more, open-less}
+use Rattle.mal_watch.proofs.WalkLemmas.{watching-set, partner-below}
+use Rattle.mal_watch.proofs.CountLemmas.{count-one, count-two, count-none, count-most, batch-yes, batch-no, batch-before}
+
+-- a literal becomes false by the last of the first entries, and no other does
+pub record Turns (es : List TrailEntry) (q f : ℕ) : Type 0 where
+  pub some : 1 ≤ q
+  pub within : q ≤ length es
+  pub now : is_false (take q es) f ≡ true
+  pub fresh : is_false (take (q - 1) es) f ≡ false
+  pub others : (x : ℕ) → is_false (take q es) x ≡ true → x ≢ f → is_false (take (q - 1) es) x ≡ true
+
+eq_true : (a b : ℕ) → nat_eq a b ≡ true → a ≡ b
+eq_true a b = grind (arith, nat_tests)
+
+eq_yes : (a : ℕ) → nat_eq a a ≡ true
+eq_yes a = grind (arith, nat_tests)
+
+parity : (a : ℕ) → (a % 2 ≡ 0) ⊎ (a % 2 ≡ 1)
+parity a = by_case (nat_eq (a % 2) 0) refl
+  where
+    odd : nat_eq (a % 2) 0 ≡ false → a % 2 ≡ 1
+    odd e = let n : a % 2 ≡ 0 → ⊥ = grind (arith, nat_tests) in omega arith
+
+    by_case : (b : Bool) → nat_eq (a % 2) 0 ≡ b → (a % 2 ≡ 0) ⊎ (a % 2 ≡ 1)
+    by_case true e = inl (eq_true (a % 2) 0 e)
+    by_case false e = inr (odd e)
+
+test_zero : (n : ℕ) → n ≡ 0 → nat_eq n 0 ≡ true
+test_zero n = grind (arith, nat_tests)
+
+test_one : (n : ℕ) → n ≡ 1 → nat_eq n 0 ≡ false
+test_one n = grind (arith, nat_tests)
+
+-- the partner of an even node is the next, that of an odd one the one before
+pub partner-even : (k : ℕ) → k % 2 ≡ 0 → partner k ≡ k + 1
+partner-even k e = rw (test_zero (k % 2) e) refl
+
+pub partner-odd : (k : ℕ) → k % 2 ≡ 1 → partner k ≡ k - 1
+partner-odd k e = rw (test_one (k % 2) e) refl
+
+pub partner-other : (k : ℕ) → partner k ≢ k
+partner-other k = by_side (parity k)
+  where
+    by_side : (k % 2 ≡ 0) ⊎ (k % 2 ≡ 1) → partner k ≢ k
+    by_side (inl e) = λ s. let p = partner-even k e in omega arith
+    by_side (inr e) = λ s. let p = partner-odd k e in omega arith
+
+pub partner-half : (k : ℕ) → partner k / 2 ≡ k / 2
+partner-half k = by_side (parity k)
+  where
+    by_side : (k % 2 ≡ 0) ⊎ (k % 2 ≡ 1) → partner k / 2 ≡ k / 2
+    by_side (inl e) = let p = partner-even k e in omega arith
+    by_side (inr e) = let p = partner-odd k e in omega arith
+
+pub partner-back : (k : ℕ) → partner (partner k) ≡ k
+partner-back k = by_side (parity k)
+  where
+    by_side : (k % 2 ≡ 0) ⊎ (k % 2 ≡ 1) → partner (partner k) ≡ k
+    by_side (inl e) =
+        let p = partner-even k e in
+        let odd : partner k % 2 ≡ 1 = omega arith in
+        let b = partner-odd (partner k) odd in
+        omega arith
+    by_side (inr e) =
+        let p = partner-odd k e in
+        let even : partner k % 2 ≡ 0 = omega arith in
+        let b = partner-even (partner k) even in
+        omega arith
+
+pub negated-back : (l : ℕ) → negated (negated l) ≡ l
+negated-back l = partner-back l
+
+pub same-row : (rows : List Held) (k : ℕ) → row_at rows (partner k) ≡ row_at rows k
+same-row rows k = ap (λ (i : ℕ). get_or rows i no_row) (partner-half k)
+
+-- what is true under one entry more is its literal or was true before
+push-cases : (es : List TrailEntry) (e : TrailEntry) (l : ℕ) → is_true (es ++ e ∷ []) l ≡ true → (e.lit ≡ l) ⊎ (is_true es l ≡ true)
+push-cases [] e l h = by_test (nat_eq e.lit l) refl h
+  where
+    by_test : (b : Bool) → nat_eq e.lit l ≡ b → (b || false) ≡ true → (e.lit ≡ l) ⊎ (is_true [] l ≡ true)
+    by_test true q t = inl (eq_true e.lit l q)
+    by_test false q t = inr t
+push-cases (d ∷ ds) e l h = by_test (nat_eq d.lit l) (push-cases ds e l) h
+  where
+    by_test : (b : Bool) → (is_true (ds ++ e ∷ []) l ≡ true → (e.lit ≡ l) ⊎ (is_true ds l ≡ true)) → (b || is_true (ds ++ e ∷ []) l) ≡ true → (e.lit ≡ l) ⊎ ((b || is_true ds l) ≡ true)
+    by_test true rest t = inr refl
+    by_test false rest t = rest t
+
+push-here : (es : List TrailEntry) (e : TrailEntry) → is_true (es ++ e ∷ []) e.lit ≡ true
+push-here [] e = by_test (nat_eq e.lit e.lit) (eq_yes e.lit)
+  where
+    by_test : (b : Bool) → b ≡ true → (b || false) ≡ true
+    by_test true t = refl
+    by_test false t = t
+push-here (d ∷ ds) e = by_test (nat_eq d.lit e.lit) (push-here ds e)
+  where
+    by_test : (b : Bool) → is_true (ds ++ e ∷ []) e.lit ≡ true → (b || is_true (ds ++ e ∷ []) e.lit) ≡ true
+    by_test true rest = refl
+    by_test false rest = rest
+
+-- one entry makes one literal false
+pub only-last : (es : List TrailEntry) (q : ℕ) (e : TrailEntry) → 1 ≤ q → q ≤ length es → e ≡ get_or es (q - 1) e → (x : ℕ) → is_false (take q es) x ≡ true → x ≢ negated e.lit → is_false (take (q - 1) es) x ≡ true
+only-last es q e s l is x f d =
+    let one : q - 1 + 1 ≡ q = omega arith in
+    let more : take q es ≡ take (q - 1) es ++ e ∷ [] = rw one at (take_more es (q - 1) e (omega arith)) ∙ ap (λ (y : TrailEntry). take (q - 1) es ++ y ∷ []) (sym is) in
+    by_side (push-cases (take (q - 1) es) e (negated x) (rw more at f))
+  where
+    by_side : (e.lit ≡ negated x) ⊎ (is_true (take (q - 1) es) (negated x) ≡ true) → is_false (take (q - 1) es) x ≡ true
+    by_side (inl s) = absurd (d (sym (negated-back x) ∙ ap negated (sym s)))
+    by_side (inr t) = t
+
+pub turns-is : (es : List TrailEntry) (q : ℕ) (e : TrailEntry) → 1 ≤ q → q ≤ length es → e ≡ get_or es (q - 1) e → is_false (take (q - 1) es) (negated e.lit) ≡ false → Turns es q (negated e.lit)
+turns-is es q e s l is fresh =
+    let one : q - 1 + 1 ≡ q = omega arith in
+    let more : take q es ≡ take (q - 1) es ++ e ∷ [] = rw one at (take_more es (q - 1) e (omega arith)) ∙ ap (λ (y : TrailEntry). take (q - 1) es ++ y ∷ []) (sym is) in
+    record {
+      some = s;
+      within = l;
+      now = rw (more, negated-back e.lit) (push-here (take (q - 1) es) e);
+      fresh = fresh;
+      others = only-last es q e s l is;
+    }
+
+-- how far the nodes that watch a literal that has become false were gone over: these are left
+pub record Goes (es : List TrailEntry) (q f lists : ℕ) (rows : List Held) (keys rest : List ℕ) : Type 0 where
+  pub watching : IsWatching lists rows keys
+  pub apart : (k : ℕ) → k < length keys → get_or keys k 0 ≢ other_key keys k
+  pub form : (k : ℕ) → AreOnce (row_at rows k).lits
+  pub left : (k : ℕ) → Has rest k → (k < length keys) × (get_or keys k 0 ≡ f)
+  pub once : AreOnce rest
+  pub kept : (n k : ℕ) → n ≤ q - 1 → k < length keys → IsKept (take n es) rows keys k
+  pub done : (k : ℕ) → k < length keys → (Has rest k → ⊥) → IsKept (take q es) rows keys k
+
+-- a test that is not passed is failed
+none-of : (b : Bool) → (b ≡ true → ⊥) → b ≡ false
+none-of true h = absurd (h refl)
+none-of false h = refl
+
+not-false : (b : Bool) → b ≡ false → not b ≡ true
+not-false true h = absurd (false≢true (sym h))
+not-false false h = refl
+
+not-true : (b : Bool) → b ≡ true → not b ≡ false
+not-true true h = refl
+not-true false h = absurd (false≢true h)
+
+-- the literal found: another of the clause that is not false
+pub record IsOther (prefix : List TrailEntry) (other : ℕ) (lits : List ℕ) (r : ℕ) : Type 0 where
+  pub there : Has lits r
+  pub apart : r ≢ other
+  pub free : is_false prefix r ≡ false
+
+some_one : (x y : ℕ) → Some x ≡ Some y → x ≡ y
+some_one x y e = cc
+
+none_some : (x : ℕ) → ◌≡◌ {A = Option ℕ} None (Some x) → ⊥
+none_some x e = cc
+
+some_none : (x : ℕ) → ◌≡◌ {A = Option ℕ} (Some x) None → ⊥
+some_none x e = cc
+
+both-parts : (a b : Bool) → (not a && not b) ≡ true → (a ≡ false) × (b ≡ false)
+both-parts true b h = absurd (false≢true h)
+both-parts false true h = absurd (false≢true h)
+both-parts false false h = (refl, refl)
+
+eq_apart : (a b : ℕ) → nat_eq a b ≡ false → a ≢ b
+eq_apart a b = grind (arith, nat_tests)
+
+pub found-other : (prefix : List TrailEntry) (other : ℕ) (lits : List ℕ) (r : ℕ) → replacement prefix other lits ≡ Some r → IsOther prefix other lits r
+found-other prefix other [] r h = absurd (none_some r h)
+found-other prefix other (l ∷ ls) r h = by_test (not (nat_eq l other) && not (is_false prefix l)) refl (found-other prefix other ls r) h
+  where
+    by_test : (b : Bool) → (not (nat_eq l other) && not (is_false prefix l)) ≡ b → (replacement prefix other ls ≡ Some r → IsOther prefix other ls r) → cond b (Some l) (replacement prefix other ls) ≡ Some r → IsOther prefix other (l ∷ ls) r
+    by_test true t rest e =
+        let same : l ≡ r = some_one l r e in
+        let parts = both-parts (nat_eq l other) (is_false prefix l) t in
+        record { there = has-head r l ls (sym same); apart = rw (← same) (eq_apart l other parts.0); free = rw (← same) parts.1 }
+    by_test false t rest e =
+        let o = rest e in
+        record { there = has-tail r l ls o.there; apart = o.apart; free = o.free }
+
+fails-parts : (a b : Bool) → (not a && not b) ≡ false → (a ≡ false) → b ≡ true
+fails-parts true b h e = absurd (false≢true (sym e))
+fails-parts false true h e = refl
+fails-parts false false h e = absurd (false≢true (sym h))
+
+eq_not : (a b : ℕ) → a ≢ b → nat_eq a b ≡ false
+eq_not a b = grind (arith, nat_tests)
+
+-- where none is found each other literal is false
+pub found-none : (prefix : List TrailEntry) (other : ℕ) (lits : List ℕ) → replacement prefix other lits ≡ None → (x : ℕ) → Has lits x → x ≢ other → is_false prefix x ≡ true
+found-none prefix other [] h x m d = absurd (has-none x m)
+found-none prefix other (l ∷ ls) h x m d = by_test (not (nat_eq l other) && not (is_false prefix l)) refl (λ e n. found-none prefix other ls e x n d) h (has-cases x l ls m)
+  where
+    by_test : (b : Bool) → (not (nat_eq l other) && not (is_false prefix l)) ≡ b → (replacement prefix other ls ≡ None → Has ls x → is_false prefix x ≡ true) → cond b (Some l) (replacement prefix other ls) ≡ None → (x ≡ l) ⊎ Has ls x → is_false prefix x ≡ true
+    by_test true t rest e s = absurd (some_none l e)
+    by_test false t rest e (inl s) = rw s (fails-parts (nat_eq l other) (is_false prefix l) t (eq_not l other (rw s at d)))
+    by_test false t rest e (inr n) = rest e n
+
+-- a node keeps what holds of it where it and its partner watch what they did
+kept-same : (prefix : List TrailEntry) (rows : List Held) (keys now : List ℕ) (k : ℕ) → get_or now k 0 ≡ get_or keys k 0 → other_key now k ≡ other_key keys k → IsKept prefix rows keys k → IsKept prefix rows now k
+kept-same prefix rows keys now k a b h = rw (a, b) h
+
+-- a node whose literal is not false keeps it
+kept-open : (prefix : List TrailEntry) (rows : List Held) (keys : List ℕ) (k : ℕ) → is_false prefix (get_or keys k 0) ≡ false → IsKept prefix rows keys k
+kept-open prefix rows keys k o = λ f. absurd (false≢true (sym o ∙ f))
+
+-- what is left of the nodes once the first is done
+pub record Goes-next (es : List TrailEntry) (q f lists : ℕ) (rows : List Held) (keys now rest : List ℕ) (k : ℕ) (found : Bool) : Type 0 where
+  pub goes : Goes es q f lists rows now rest
+  pub batch : is_in_batch (take q es) (row_at rows k) ≡ found
+
+other-has : (lists : ℕ) (rows : List Held) (keys : List ℕ) (k : ℕ) → IsWatching lists rows keys → k < length keys → Has (row_at rows k).lits (other_key keys k)
+other-has lists rows keys k w l = subst (λ (c : Held). Has c.lits (other_key keys k)) (same-row rows k) (w.own (partner k) (partner-below lists rows keys k w l))
+
+-- the partner of the first node that is left is not left
+partner-done : (es : List TrailEntry) (q f lists : ℕ) (rows : List Held) (keys rest : List ℕ) (k : ℕ) → Goes es q f lists rows keys (k ∷ rest) → Has (k ∷ rest) (partner k) → ⊥
+partner-done es q f lists rows keys rest k g h =
+    let here = g.left k (has-head k k rest refl) in
+    let there = g.left (partner k) h in
+    g.apart k here.0 (here.1 ∙ sym there.1)
+
+-- a clause that another literal of is open
+pub goes-moved : (es : List TrailEntry) (q f lists : ℕ) (rows : List Held) (keys rest : List ℕ) (k r : ℕ) → Turns es q f → Goes es q f lists rows keys (k ∷ rest) → replaced (take q es) rows keys k ≡ Some r → Goes-next es q f lists rows keys (set keys k r) rest k false
+goes-moved es q f lists rows keys rest k r t g e =
+    let j = partner k in
+    let lits = (row_at rows k).lits in
+    let o = other_key keys k in
+    let now = set keys k r in
+    let here = g.left k (has-head k k rest refl) in
+    let found : IsOther (take q es) o lits r = found-other (take q es) o lits r e in
+    let below : j < length keys = partner-below lists rows keys k g.watching here.0 in
+    let back : other_key keys j ≡ f = ap (λ (i : ℕ). get_or keys i 0) (partner-back k) ∙ here.1 in
+    let r_other : r ≢ f = λ s. false≢true (sym found.free ∙ rw (sym s) at t.now) in
+    let kept_o : IsKept (take q es) rows keys j = g.done j below (partner-done es q f lists rows keys rest k g) in
+    let free_o : is_false (take q es) o ≡ false = none-of (is_false (take q es) o) (λ h. false≢true (sym found.free ∙ kept_o h r (subst (λ (c : Held). Has c.lits r) (sym (same-row rows k)) found.there) (λ s. r_other (s ∙ back)))) in
+    let long : length now ≡ length keys = length-set keys k r in
+    let key_k : get_or now k 0 ≡ r = get_or-set_same keys k r 0 here.0 in
+    let key_other : (m : ℕ) → m ≢ k → get_or now m 0 ≡ get_or keys m 0 = λ m d. get_or-set_other keys k m r 0 d in
+    let key_j : get_or now j 0 ≡ o = key_other j (partner-other k) in
+    let other_k : other_key now k ≡ o = key_j in
+    let other_j : other_key now j ≡ r = ap (λ (i : ℕ). get_or now i 0) (partner-back k) ∙ key_k in
+    let other_m : (m : ℕ) → m ≢ j → other_key now m ≡ other_key keys m = λ m d. key_other (partner m) (λ s. d (sym (partner-back m) ∙ ap partner s)) in
+    let open_k : (n : ℕ) → n ≤ q → is_false (take n es) (get_or now k 0) ≡ false = λ n h. rw key_k (open-less n q es r h found.free) in
+    let open_j : (n : ℕ) → n ≤ q → is_false (take n es) (get_or now j 0) ≡ false = λ n h. rw key_j (open-less n q es o h free_o) in
+    record {
+      goes = record {
+        watching = watching-set lists rows keys k r g.watching here.0 found.there;
+        apart = λ m l. elim (cases_eq m k) [
+          | inl s ↦ rw (s, key_k, other_k) found.apart
+          | inr d ↦ elim (cases_eq m j) [
+            | inl s ↦ rw (s, key_j, other_j) (λ x. found.apart (sym x))
+            | inr n ↦ rw (key_other m d, other_m m n) (g.apart m (omega (arith, l, long)))
+          ]
+        ];
+        form = g.form;
+        left = λ m h.
+            let d : m ≢ k = λ s. g.once.0 (rw s at h) in
+            let was = g.left m (has-tail m k rest h) in
+            (omega (arith, was.0, long), key_other m d ∙ was.1);
+        once = g.once.1;
+        kept = λ n m h l. elim (cases_eq m k) [
+          | inl s ↦ rw s (kept-open (take n es) rows now k (open_k n (omega (arith, h))))
+          | inr d ↦ elim (cases_eq m j) [
+            | inl s ↦ rw s (kept-open (take n es) rows now j (open_j n (omega (arith, h))))
+            | inr u ↦ kept-same (take n es) rows keys now m (key_other m d) (other_m m u) (g.kept n m h (omega (arith, l, long)))
+          ]
+        ];
+        done = λ m l h. elim (cases_eq m k) [
+          | inl s ↦ rw s (kept-open (take q es) rows now k (open_k q (omega arith)))
+          | inr d ↦ elim (cases_eq m j) [
+            | inl s ↦ rw s (kept-open (take q es) rows now j (open_j q (omega arith)))
+            | inr u ↦ kept-same (take q es) rows keys now m (key_other m d) (other_m m u) (g.done m (omega (arith, l, long)) (λ i. elim (has-cases m k rest i) [ inl s ↦ d s | inr x ↦ h x ]))
+          ]
+        ];
+      };
+      batch =
+          let two : 2 ≤ open_count (take q es) lits = count-two (λ l. not (is_false (take q es) l)) lits r o found.there (other-has lists rows keys k g.watching here.0) found.apart (not-false (is_false (take q es) r) found.free) (not-false (is_false (take q es) o) free_o) in
+          batch-no es q (row_at rows k) t.some t.within (λ s. omega (arith, two, s));
+    }
+
+-- a clause whose other literals are false but for the other watched one
+pub goes-stays : (es : List TrailEntry) (q f lists : ℕ) (rows : List Held) (keys rest : List ℕ) (k : ℕ) → Turns es q f → Goes es q f lists rows keys (k ∷ rest) → replaced (take q es) rows keys k ≡ None → Goes-next es q f lists rows keys keys rest k (not (is_false (take q es) (other_key keys k)))
+goes-stays es q f lists rows keys rest k t g e =
+    let lits = (row_at rows k).lits in
+    let o = other_key keys k in
+    let here = g.left k (has-head k k rest refl) in
+    let others : (x : ℕ) → Has lits x → x ≢ o → is_false (take q es) x ≡ true = found-none (take q es) o lits e in
+    let has_o : Has lits o = other-has lists rows keys k g.watching here.0 in
+    let has_f : Has lits f = rw here.1 at (g.watching.own k here.0) in
+    let f_other : f ≢ o = rw here.1 at (g.apart k here.0) in
+    record {
+      goes = record {
+        watching = g.watching;
+        apart = g.apart;
+        form = g.form;
+        left = λ m h. g.left m (has-tail m k rest h);
+        once = g.once.1;
+        kept = g.kept;
+        done = λ m l h. elim (cases_eq m k) [
+          | inl s ↦ rw s (λ z. others)
+          | inr d ↦ g.done m l (λ i. elim (has-cases m k rest i) [ inl s ↦ d s | inr x ↦ h x ])
+        ];
+      };
+      batch = by_value others has_o has_f f_other (g.form k) (is_false (take q es) o) refl;
+    }
+  where
+    by_value : ((x : ℕ) → Has (row_at rows k).lits x → x ≢ other_key keys k → is_false (take q es) x ≡ true) → Has (row_at rows k).lits (other_key keys k) → Has (row_at rows k).lits f → f ≢ other_key keys k → AreOnce (row_at rows k).lits → (b : Bool) → is_false (take q es) (other_key keys k) ≡ b → is_in_batch (take q es) (row_at rows k) ≡ not b
+    by_value others has_o has_f f_other once true u =
+        let none : open_count (take q es) (row_at rows k).lits ≡ 0 = count-none (λ l. not (is_false (take q es) l)) (row_at rows k).lits (λ x m. elim (cases_eq x (other_key keys k)) [ inl s ↦ not-true (is_false (take q es) x) (rw s u) | inr d ↦ not-true (is_false (take q es) x) (others x m d) ]) in
+        batch-no es q (row_at rows k) t.some t.within (λ s. omega (arith, none, s))
+    by_value others has_o has_f f_other once false u =
+        let most : open_count (take q es) (row_at rows k).lits ≤ 1 = count-most (λ l. not (is_false (take q es) l)) (row_at rows k).lits (other_key keys k) once (λ x m d. not-true (is_false (take q es) x) (others x m d)) in
+        let least : 1 ≤ open_count (take q es) (row_at rows k).lits = count-one (λ l. not (is_false (take q es) l)) (row_at rows k).lits (other_key keys k) has_o (not-false (is_false (take q es) (other_key keys k)) u) in
+        let before : is_false (take (q - 1) es) (other_key keys k) ≡ false = open-less (q - 1) q es (other_key keys k) (omega arith) u in
+        let two : 2 ≤ open_count (take (q - 1) es) (row_at rows k).lits = count-two (λ l. not (is_false (take (q - 1) es) l)) (row_at rows k).lits f (other_key keys k) has_f has_o f_other (not-false (is_false (take (q - 1) es) f) t.fresh) (not-false (is_false (take (q - 1) es) (other_key keys k)) before) in
+        batch-yes es q (row_at rows k) t.some t.within (omega arith) two
+
+-- the number of a node's clause, where it is in the batch
+abbrev pub batch_at : List TrailEntry → List Held → ℕ → List ℕ
+batch_at prefix rows k = cond (is_in_batch prefix (row_at rows k)) ((row_at rows k).id ∷ []) []
+
+-- the numbers of the clauses of nodes that are in the batch
+abbrev pub ids_in : List TrailEntry → List Held → List ℕ → List ℕ
+ids_in prefix rows [] = []
+ids_in prefix rows (k ∷ ks) = batch_at prefix rows k ++ ids_in prefix rows ks
+
+-- a visit goes over the first node that is left, and finds its clause where it is in the batch
+goes-visited : (es : List TrailEntry) (q f lists : ℕ) (rows : List Held) (keys rest : List ℕ) (k : ℕ) → Turns es q f → Goes es q f lists rows keys (k ∷ rest) → Goes es q f lists rows (set keys k (unwrap_or (replaced (take q es) rows keys k) (get_or keys k 0))) rest × (found_at (take q es) rows keys k ≡ batch_at (take q es) rows k)
+goes-visited es q f lists rows keys rest k t g = by_found (replaced (take q es) rows keys k) refl
+  where
+    by_found : (o : Option ℕ) → replaced (take q es) rows keys k ≡ o → Goes es q f lists rows (set keys k (unwrap_or o (get_or keys k 0))) rest × (cond (is_none o && not (is_false (take q es) (other_key keys k))) ((row_at rows k).id ∷ []) [] ≡ batch_at (take q es) rows k)
+    by_found (Some r) e =
+        let next = goes-moved es q f lists rows keys rest k r t g e in
+        (next.goes, rw next.batch refl)
+    by_found None e =
+        let next = goes-stays es q f lists rows keys rest k t g e in
+        (rw (set-get_or keys k 0) next.goes, rw next.batch refl)
+
+pub goes-walked : (es : List TrailEntry) (q f lists : ℕ) (rows : List Held) (ks : List ℕ) (keys found : List ℕ) → Turns es q f → Goes es q f lists rows keys ks → Goes es q f lists rows (walked (take q es) rows (record { keys = keys; found = found }) ks).keys [] × ((walked (take q es) rows (record { keys = keys; found = found }) ks).found ≡ found ++ ids_in (take q es) rows ks)
+goes-walked es q f lists rows [] keys found t g = (g, sym (append-nil found))
+goes-walked es q f lists rows (k ∷ ks) keys found t g =
+    let next = goes-visited es q f lists rows keys ks k t g in
+    let rest = goes-walked es q f lists rows ks (set keys k (unwrap_or (replaced (take q es) rows keys k) (get_or keys k 0))) (found ++ found_at (take q es) rows keys k) t next.0 in
+    (rest.0, rest.1 ∙ (rw next.1 (append_assoc found (batch_at (take q es) rows k) (ids_in (take q es) rows ks))))
+
+-- the nodes of the literal are left at the start
+pub goes-start : (es : List TrailEntry) (q f lists : ℕ) (rows : List Held) (keys out : List ℕ) → Turns es q f → IsWatching lists rows keys → ((k : ℕ) → k < length keys → get_or keys k 0 ≢ other_key keys k) → ((k : ℕ) → AreOnce (row_at rows k).lits) → ((n k : ℕ) → n ≤ q - 1 → k < length keys → IsKept (take n es) rows keys k) → ((k : ℕ) → Has out k ↔ IsAt keys k f) → AreOnce out → Goes es q f lists rows keys out
+goes-start es q f lists rows keys out t w a form kept nodes once =
+    record {
+      watching = w;
+      apart = a;
+      form = form;
+      left = λ k h. (nodes k).0 h;
+      once = once;
+      kept = kept;
+      done = λ k l h z x m d.
+          let other : get_or keys k 0 ≢ f = λ s. h ((nodes k).1 (l, s)) in
+          false-more (q - 1) q es x (omega arith) (kept (q - 1) k (omega arith) l (t.others (get_or keys k 0) z other) x m d);
+    }
+
+-- at the end each node keeps under one entry more
+pub goes-end : (es : List TrailEntry) (q f lists : ℕ) (rows : List Held) (keys : List ℕ) → Goes es q f lists rows keys [] → (n k : ℕ) → n ≤ q + 1 - 1 → k < length keys → IsKept (take n es) rows keys k
+goes-end es q f lists rows keys g n k h l = by_place (cases_eq n q)
+  where
+    by_place : (n ≡ q) ⊎ (n ≡ q → ⊥) → IsKept (take n es) rows keys k
+    by_place (inl e) = rw e (g.done k l (has-none k))
+    by_place (inr d) = g.kept n k (omega arith) l
+
+-- a clause that does not watch the literal is not in the batch
+pub goes-apart : (es : List TrailEntry) (q f lists : ℕ) (rows : List Held) (keys : List ℕ) (k : ℕ) → Turns es q f → IsWatching lists rows keys → ((k : ℕ) → k < length keys → get_or keys k 0 ≢ other_key keys k) → ((k : ℕ) → AreOnce (row_at rows k).lits) → ((n k : ℕ) → n ≤ q - 1 → k < length keys → IsKept (take n es) rows keys k) → k < length keys → get_or keys k 0 ≢ f → other_key keys k ≢ f → is_in_batch (take q es) (row_at rows k) ≡ false
+goes-apart es q f lists rows keys k t w a form kept l d e =
+    let j = partner k in
+    let below : j < length keys = partner-below lists rows keys k w l in
+    let own : Has (row_at rows k).lits (get_or keys k 0) = w.own k l in
+    let other : Has (row_at rows k).lits (other_key keys k) = other-has lists rows keys k w l in
+    let back : other_key keys j ≡ get_or keys k 0 = ap (λ (i : ℕ). get_or keys i 0) (partner-back k) in
+    let by_own : is_false (take (q - 1) es) (get_or keys k 0) ≡ true → (x : ℕ) → Has (row_at rows k).lits x → x ≢ other_key keys k → is_false (take (q - 1) es) x ≡ true = kept (q - 1) k (omega arith) l in
+    let by_other : is_false (take (q - 1) es) (other_key keys k) ≡ true → (x : ℕ) → Has (row_at rows k).lits x → x ≢ get_or keys k 0 → is_false (take (q - 1) es) x ≡ true = λ z x m n. kept (q - 1) j (omega arith) below z x (subst (λ (c : Held). Has c.lits x) (sym (same-row rows k)) m) (λ s. n (s ∙ back)) in
+    by_values own other by_own by_other (is_false (take q es) (get_or keys k 0)) refl (is_false (take q es) (other_key keys k)) refl
+  where
+    by_values : Has (row_at rows k).lits (get_or keys k 0) → Has (row_at rows k).lits (other_key keys k) → (is_false (take (q - 1) es) (get_or keys k 0) ≡ true → (x : ℕ) → Has (row_at rows k).lits x → x ≢ other_key keys k → is_false (take (q - 1) es) x ≡ true) → (is_false (take (q - 1) es) (other_key keys k) ≡ true → (x : ℕ) → Has (row_at rows k).lits x → x ≢ get_or keys k 0 → is_false (take (q - 1) es) x ≡ true) → (b : Bool) → is_false (take q es) (get_or keys k 0) ≡ b → (c : Bool) → is_false (take q es) (other_key keys k) ≡ c → is_in_batch (take q es) (row_at rows k) ≡ false
+    by_values own other by_own by_other true u c v =
+        let others = by_own (t.others (get_or keys k 0) u d) in
+        batch-before es q (row_at rows k) t.some t.within (count-most (λ l. not (is_false (take (q - 1) es) l)) (row_at rows k).lits (other_key keys k) (form k) (λ x m n. not-true (is_false (take (q - 1) es) x) (others x m n)))
+    by_values own other by_own by_other false u true v =
+        let others = by_other (t.others (other_key keys k) v e) in
+        batch-before es q (row_at rows k) t.some t.within (count-most (λ l. not (is_false (take (q - 1) es) l)) (row_at rows k).lits (get_or keys k 0) (form k) (λ x m n. not-true (is_false (take (q - 1) es) x) (others x m n)))
+    by_values own other by_own by_other false u false v =
+        let two : 2 ≤ open_count (take q es) (row_at rows k).lits = count-two (λ l. not (is_false (take q es) l)) (row_at rows k).lits (get_or keys k 0) (other_key keys k) own other (a k l) (not-false (is_false (take q es) (get_or keys k 0)) u) (not-false (is_false (take q es) (other_key keys k)) v) in
+        batch-no es q (row_at rows k) t.some t.within (λ s. omega (arith, two, s))

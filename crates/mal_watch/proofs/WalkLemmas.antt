@@ -1,0 +1,76 @@
+use Rattle.std.proofs.Common.{◌≡◌, ℕ, zero, suc, ◌+◌, ◌-◌, ◌/◌, ◌%◌, ◌<◌, inl, inr, Bool, true, false, cond, List, [], ◌∷◌, ◌++◌, length, set, get_or, Option, Some, None, refl, sym, ◌∙◌, append-nil, arith}
+use Rattle.std.specs.Prelude.{slice_get, find, nat_eq}
+use Rattle.std.proofs.lemmas.Bool.{cases_eq}
+use Rattle.std.proofs.lemmas.Bool.Decides.{nat_tests}
+use Rattle.std.proofs.lemmas.List.{length-set, get_or-set_same, get_or-set_other}
+use Rattle.mal_base.specs.Held.{Held}
+use Rattle.mal_base.specs.declared.trail_entry.TrailEntry.{TrailEntry}
+use Rattle.spec_node.specs.Value.{is_false}
+use Rattle.mal_watch.specs.Chains.{Has}
+use Rattle.mal_watch.specs.Watching.{row_at, partner, other_key, replaced, IsWatching, visited}
+use Rattle.mal_watch.proofs.HasLemmas.{has-head, has-tail}
+
+some_held : (c d : Held) → Some c ≡ Some d → c ≡ d
+some_held c d e = cc
+
+none_held : (c : Held) → ◌≡◌ {A = Option Held} None (Some c) → ⊥
+none_held c e = cc
+
+some_one : (x y : ℕ) → Some x ≡ Some y → x ≡ y
+some_one x y e = cc
+
+none_some : (x : ℕ) → ◌≡◌ {A = Option ℕ} None (Some x) → ⊥
+none_some x e = cc
+
+pub get-is : (cs : List Held) (i : ℕ) (c d : Held) → slice_get cs i ≡ Some c → get_or cs i d ≡ c
+get-is [] i c d e = absurd (none_held c e)
+get-is (x ∷ xs) zero c d e = some_held x c e
+get-is (x ∷ xs) (suc i) c d e = get-is xs i c d e
+
+-- what was found is there
+pub find-has : (p : ℕ → Bool) (xs : List ℕ) (x : ℕ) → find p xs ≡ Some x → Has xs x
+find-has p [] x e = absurd (none_some x e)
+find-has p (y ∷ ys) x e = by_test (p y) (find-has p ys x) e
+  where
+    by_test : (b : Bool) → (find p ys ≡ Some x → Has ys x) → cond b (Some y) (find p ys) ≡ Some x → Has (y ∷ ys) x
+    by_test true rest f = has-head x y ys (sym (some_one y x f))
+    by_test false rest f = has-tail x y ys (rest f)
+
+-- the other node is one too
+pub partner-below : (lists : ℕ) (rows : List Held) (keys : List ℕ) (node : ℕ) → IsWatching lists rows keys → node < length keys → partner node < length keys
+partner-below lists rows keys node w l = by_side (nat_eq (node % 2) 0) refl
+  where
+    even : nat_eq (node % 2) 0 ≡ true → node % 2 ≡ 0
+    even = grind (arith, nat_tests)
+
+    by_side : (b : Bool) → nat_eq (node % 2) 0 ≡ b → cond b (node + 1) (node - 1) < length keys
+    by_side true e = let z : node % 2 ≡ 0 = even e in omega (arith, w.paired)
+    by_side false e = omega arith
+
+pub row-below : (lists : ℕ) (rows : List Held) (keys : List ℕ) (node : ℕ) → IsWatching lists rows keys → node < length keys → node / 2 < length rows
+row-below lists rows keys node w l = omega (arith, w.paired)
+
+-- nodes watch literals of their clauses also where one watches another of its clause
+pub watching-set : (lists : ℕ) (rows : List Held) (keys : List ℕ) (node lit : ℕ) → IsWatching lists rows keys → node < length keys → Has (row_at rows node).lits lit → IsWatching lists rows (set keys node lit)
+watching-set lists rows keys node lit w l h =
+    let longer : length (set keys node lit) ≡ length keys = length-set keys node lit in
+    record {
+      paired = longer ∙ w.paired;
+      own = λ k m. elim (cases_eq k node) [
+        | inl e ↦ rw e (rw (get_or-set_same keys node lit 0 l) h)
+        | inr d ↦ rw (get_or-set_other keys node k lit 0 d) (w.own k (omega (arith, m, longer)))
+      ];
+      below = w.below;
+    }
+
+-- a node that goes to another literal
+pub visit-moved : (prefix : List TrailEntry) (rows : List Held) (keys found : List ℕ) (node lit : ℕ) → Some lit ≡ replaced prefix rows keys node → visited prefix rows (record { keys = keys; found = found }) node ≡ record { keys = set keys node lit; found = found }
+visit-moved prefix rows keys found node lit e = rw (← e, append-nil found) refl
+
+-- a node that stays, whose clause is found
+pub visit-found : (prefix : List TrailEntry) (rows : List Held) (keys found : List ℕ) (node id key : ℕ) → None ≡ replaced prefix rows keys node → key ≡ get_or keys node 0 → is_false prefix (other_key keys node) ≡ false → (row_at rows node).id ≡ id → visited prefix rows (record { keys = keys; found = found }) node ≡ record { keys = set keys node key; found = found ++ id ∷ [] }
+visit-found prefix rows keys found node id key e k f i = rw (← e, k, f, i) refl
+
+-- a node that stays, whose clause is not
+pub visit-stays : (prefix : List TrailEntry) (rows : List Held) (keys found : List ℕ) (node key : ℕ) → None ≡ replaced prefix rows keys node → key ≡ get_or keys node 0 → is_false prefix (other_key keys node) ≡ true → visited prefix rows (record { keys = keys; found = found }) node ≡ record { keys = set keys node key; found = found }
+visit-stays prefix rows keys found node key e k f = rw (← e, k, f, append-nil found) refl

@@ -1,0 +1,60 @@
+use Rattle.std.proofs.Common.{◌≡◌, ◌≤◌, ◌-◌, ◌↔◌, ℕ, [], length, take, get_or, true, false, vec_capacity, sym, ◌∙◌, arith}
+use Rattle.mal_base.specs.Literals.{negated}
+use Rattle.spec_node.specs.Value.{is_false}
+use Rattle.mal_watch.specs.Chains.{Has, IsAt}
+use Rattle.mal_watch.specs.Watching.{walked}
+use Rattle.mal_watch.proofs.TurnLemmas.{turns-is}
+use Rattle.mal_watch.proofs.FoundLemmas.{out-length}
+use Rattle.mal_watch.proofs.FollowLemmas.{after-walk, no-walk}
+use Rattle.mal_watch.proofs.watch.Watch.find.Goals as goal
+
+pub returns-then-is_false_before-clause-found : goal.returns-then-is_false_before-clause-found
+returns-then-is_false_before-clause-found c =
+    let s = c.args.self.now in
+    let entries = c.args.trail.now.entries in
+    let last = c.index-entries-count.result in
+    let is : last ≡ get_or entries (c.args.count - 1) last = rw c.entries.ensures at c.index-entries-count.is in
+    let was : is_false (take (c.args.count - 1) entries) (negated last.lit) ≡ true = rw (← c.negate-lit.ensures) (sym c.is_false_before.ensures ∙ c.if-is_false_before.true) in
+    rw c.clear.ensures.items (no-walk s.store.clauses s.rows.clauses s.chains.keys s.chains.lists _ entries c.args.count last s.chains.out c.requires.some c.requires.count is was c.requires.fits).1
+
+pub returns-then-is_false_before-clause-fits : goal.returns-then-is_false_before-clause-fits
+returns-then-is_false_before-clause-fits c =
+    let s = c.args.self.now in
+    let entries = c.args.trail.now.entries in
+    let last = c.index-entries-count.result in
+    let is : last ≡ get_or entries (c.args.count - 1) last = rw c.entries.ensures at c.index-entries-count.is in
+    let was : is_false (take (c.args.count - 1) entries) (negated last.lit) ≡ true = rw (← c.negate-lit.ensures) (sym c.is_false_before.ensures ∙ c.if-is_false_before.true) in
+    rw c.clear.ensures.capacity (no-walk s.store.clauses s.rows.clauses s.chains.keys s.chains.lists _ entries c.args.count last s.chains.out c.requires.some c.requires.count is was c.requires.fits).0
+
+pub walk-requires-clause-room : goal.walk-requires-clause-room
+walk-requires-clause-room c =
+    let s = c.args.self.now in
+    let w = c.requires.fits in
+    let nodes : (k : ℕ) → Has c.take.new.self.out k ↔ IsAt s.chains.keys k c.negate-lit.result = rw c.take.ensures.keys at c.take.ensures.nodes in
+    let few : length c.take.new.self.out ≤ length s.rows.clauses = out-length c.negate-lit.result s.chains.lists s.rows.clauses s.chains.keys c.take.new.self.out w.watching w.apart nodes c.take.ensures.once in
+    omega (arith, few, w.room, c.clear.ensures.len, c.clear.ensures.capacity)
+
+pub returns-clause-found : goal.returns-clause-found
+returns-clause-found c =
+    let s = c.args.self.now in
+    let entries = c.args.trail.now.entries in
+    let last = c.index-entries-count.result in
+    let is : last ≡ get_or entries (c.args.count - 1) last = rw c.entries.ensures at c.index-entries-count.is in
+    let fresh : is_false (take (c.args.count - 1) entries) (negated last.lit) ≡ false = rw (← c.negate-lit.ensures) (sym c.is_false_before.ensures ∙ c.if-is_false_before.false) in
+    let turns = turns-is entries c.args.count last c.requires.some c.requires.count is fresh in
+    let nodes : (k : ℕ) → Has c.take.new.self.out k ↔ IsAt s.chains.keys k (negated last.lit) = rw (c.take.ensures.keys, c.negate-lit.ensures) at c.take.ensures.nodes in
+    let walk : walked (take c.args.count entries) s.rows.clauses (record { keys = s.chains.keys; found = [] }) c.take.new.self.out ≡ record { keys = c.walk.new.chains.keys; found = c.walk.new.found.items } = rw (c.take.ensures.keys, c.clear.ensures.items) at c.walk.ensures.walk in
+    (after-walk s.store.clauses s.rows.clauses s.chains.keys c.take.new.self.out s.chains.out c.walk.new.chains.keys c.walk.new.found.items c.sort_unstable.new.self.items s.chains.lists _ entries c.args.count (negated last.lit) c.requires.fits turns nodes c.take.ensures.once walk c.sort_unstable.ensures.permutation c.sort_unstable.ensures.sorted).numbers
+
+pub returns-clause-fits : goal.returns-clause-fits
+returns-clause-fits c =
+    let s = c.args.self.now in
+    let entries = c.args.trail.now.entries in
+    let last = c.index-entries-count.result in
+    let is : last ≡ get_or entries (c.args.count - 1) last = rw c.entries.ensures at c.index-entries-count.is in
+    let fresh : is_false (take (c.args.count - 1) entries) (negated last.lit) ≡ false = rw (← c.negate-lit.ensures) (sym c.is_false_before.ensures ∙ c.if-is_false_before.false) in
+    let turns = turns-is entries c.args.count last c.requires.some c.requires.count is fresh in
+    let nodes : (k : ℕ) → Has c.take.new.self.out k ↔ IsAt s.chains.keys k (negated last.lit) = rw (c.take.ensures.keys, c.negate-lit.ensures) at c.take.ensures.nodes in
+    let walk : walked (take c.args.count entries) s.rows.clauses (record { keys = s.chains.keys; found = [] }) c.take.new.self.out ≡ record { keys = c.walk.new.chains.keys; found = c.walk.new.found.items } = rw (c.take.ensures.keys, c.clear.ensures.items) at c.walk.ensures.walk in
+    let capacity : vec_capacity c.sort_unstable.new.self ≡ vec_capacity s.found = c.sort_unstable.ensures.capacity ∙ (c.walk.ensures.capacity ∙ c.clear.ensures.capacity) in
+    rw (c.walk.ensures.out, c.walk.ensures.lists, c.take.ensures.lists, capacity) (after-walk s.store.clauses s.rows.clauses s.chains.keys c.take.new.self.out s.chains.out c.walk.new.chains.keys c.walk.new.found.items c.sort_unstable.new.self.items s.chains.lists _ entries c.args.count (negated last.lit) c.requires.fits turns nodes c.take.ensures.once walk c.sort_unstable.ensures.permutation c.sort_unstable.ensures.sorted).follows

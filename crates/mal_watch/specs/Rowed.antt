@@ -1,0 +1,22 @@
+use Rattle.std.specs.Prelude.{ℕ, ◌+◌, ◌≤◌, List, [], ◌∷◌, take, drop, map}
+use Rattle.mal_base.specs.Held.{Held}
+use Rattle.mal_watch.specs.declared.rows.Row.{Row}
+
+-- clauses in the order in which they came, and how many clauses and literals there is room for
+pub record Rowed : Type 0 where
+  pub clauses : List Held
+  pub clause_room : ℕ
+  pub literal_room : ℕ
+
+-- the clause of a row
+abbrev pub clause_in : List ℕ → Row → Held
+clause_in literals r = record { id = r.id; lits = take r.len (drop r.start literals) }
+
+-- the clauses of the rows
+abbrev pub clauses_in : List ℕ → List Row → List Held
+clauses_in literals rows = map (clause_in literals) rows
+
+-- so many literals have those of each row among them
+abbrev pub AreRows : ℕ → List Row → Type 0
+AreRows count [] = Unit {0}
+AreRows count (r ∷ rs) = (r.start + r.len ≤ count) × AreRows count rs

@@ -1,0 +1,104 @@
+//! Handling the clauses of a batch on the trail.
+
+ghost use Rattle.std.specs.Prelude.{◌≡◌, ℕ, ◌≤◌, true, List, length, take, map, None};
+ghost use Rattle.mal_base.specs.Literals.{var_of};
+ghost use Rattle.mal_base.specs.Formulas.{is_within};
+ghost use Rattle.spec_node.specs.Value.{left_literal};
+ghost use Rattle.spec_node.specs.Batch.{batch, after_clause, after_batch, after_literal};
+ghost use Rattle.spec_node.specs.Sound.{NumbersRise};
+ghost use Rattle.mal_trail.specs.Rooms.{are_within};
+
+use mal_base::{ClauseId, Lit};
+use mal_store::Store;
+use mal_trail::Trail;
+
+/// The first literal that is not false under the first entries of the trail, so many.
+fn left_literal(trail: &Trail, count: usize, lits: &[Lit]) -> Option<Lit>
+    requires { count ≤ length trail.now.entries }
+    ensures { result ≡ left_literal (take count trail.now.entries) lits.now }
+{
+    lits.iter()
+        .copied()
+        .find(|l| !trail.is_false_before(count, *l))
+}
+
+/// Pushes the literal left of this clause, unless it is true. The conflict is the clause where it is false.
+fn handle_literal(trail: &mut Trail, id: ClauseId, lit: Lit) -> Option<ClauseId>
+    requires { var_of lit ≤ trail.old.room }
+    ensures progress { after_literal trail.old.entries id lit ≡ record { trail = trail.new.entries; conflict = result } }
+    ensures longer { length trail.old.entries ≤ length trail.new.entries }
+    ensures prefix { (n : ℕ) → n ≤ length trail.old.entries → take n trail.new.entries ≡ take n trail.old.entries }
+    ensures processed { trail.new.processed ≡ trail.old.processed }
+    ensures room { trail.new.room ≡ trail.old.room }
+{
+    if trail.is_true(lit) {
+        return None;
+    }
+    if trail.is_false(lit) {
+        return Some(id);
+    }
+    let level = trail.level();
+    trail.push(lit, Some(id), level);
+    None
+}
+
+/// Handles a clause of the batch of the first entries of the trail, so many. The result is the conflict.
+fn handle_clause(trail: &mut Trail, count: usize, id: ClauseId, lits: &[Lit]) -> Option<ClauseId>
+    requires count { count ≤ length trail.old.entries }
+    requires within { is_within trail.old.room lits.now ≡ true }
+    ensures progress { after_clause (take count trail.old.entries) trail.old.entries (record { id = id; lits = lits.now }) ≡ record { trail = trail.new.entries; conflict = result } }
+    ensures longer { length trail.old.entries ≤ length trail.new.entries }
+    ensures prefix { (n : ℕ) → n ≤ length trail.old.entries → take n trail.new.entries ≡ take n trail.old.entries }
+    ensures processed { trail.new.processed ≡ trail.old.processed }
+    ensures room { trail.new.room ≡ trail.old.room }
+{
+    match left_literal(trail, count, lits) {
+        None => Some(id),
+        Some(lit) => handle_literal(trail, id, lit),
+    }
+}
+
+/// Handles the clauses of at most one literal: the batch of no entry. The result is the conflict.
+pub fn handle_short(trail: &mut Trail, store: &Store) -> Option<ClauseId>
+    requires { are_within trail.old.room store.now.clauses ≡ true }
+    ensures progress { after_batch 0 trail.old.entries store.now.clauses ≡ record { trail = trail.new.entries; conflict = result } }
+    ensures longer { length trail.old.entries ≤ length trail.new.entries }
+    ensures processed { trail.new.processed ≡ trail.old.processed }
+    ensures room { trail.new.room ≡ trail.old.room }
+{
+    for place in 0..store.len() {
+        let (id, lits) = store.at(place);
+        if lits.len() <= 1 {
+            match handle_clause(trail, 0, id, lits) {
+                Some(id) => return Some(id),
+                None => {}
+            }
+        }
+    }
+    None
+}
+
+/// Handles the clauses of these numbers: the batch of the first entries of the trail, so many. The result is the conflict.
+pub fn handle(trail: &mut Trail, count: usize, ids: &[ClauseId], store: &Store) -> Option<ClauseId>
+    requires count { count ≤ length trail.old.entries }
+    requires within { are_within trail.old.room store.now.clauses ≡ true }
+    requires numbers { NumbersRise 0 store.now.clauses }
+    requires ids { ids.now ≡ map (λ c. c.id) (batch (take count trail.old.entries) store.now.clauses) }
+    ensures progress { after_batch count trail.old.entries store.now.clauses ≡ record { trail = trail.new.entries; conflict = result } }
+    ensures longer { length trail.old.entries ≤ length trail.new.entries }
+    ensures prefix { (n : ℕ) → n ≤ length trail.old.entries → take n trail.new.entries ≡ take n trail.old.entries }
+    ensures processed { trail.new.processed ≡ trail.old.processed }
+    ensures room { trail.new.room ≡ trail.old.room }
+{
+    for id in ids {
+        let lits = match store.get(*id) {
+            Some(lits) => lits,
+            None => unreachable!(),
+        };
+        match handle_clause(trail, count, *id, lits) {
+            Some(id) => return Some(id),
+            None => {}
+        }
+    }
+    None
+}

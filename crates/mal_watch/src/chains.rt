@@ -1,0 +1,131 @@
+//! Lists of nodes, linked in place: a node moves from one list to another without memory.
+
+ghost use Rattle.std.specs.Prelude.{◌≡◌, ℕ, ◌+◌, ◌≤◌, ◌<◌, List, [], ◌∷◌, ◌++◌, length, drop, slice_index, slice_set, OnOk, IfSome, MatchOption, ◌↔◌};
+ghost use Rattle.mal_watch.specs.Chains.{Has, AreOnce, IsAt};
+
+use mal_base::Lit;
+use std::alloc::{AllocError, Global};
+use std::marker::Model;
+
+/// Nodes, each in the list of its literal, but for those that were taken out of a list and not put back yet. Contracts see
+/// each node's literal, the nodes taken out, in the order in which they go back, how many lists there are (one for each
+/// code of a literal below this number), and how many nodes more there is room for.
+#[derive(Drop)]
+pub struct Chains {
+    heads: Vec<Option<usize>>,
+    links: Vec<Option<usize>>,
+    keys: Vec<Lit>,
+    taken: Option<usize>,
+}
+
+impl Model for Chains {
+    ghost use Rattle.std.specs.Prelude.{◌-◌, length, min};
+    ghost use Rattle.std.specs.Vec.{vec_len, vec_capacity};
+    ghost use Rattle.mal_watch.specs.Chains.{Chained, IsChained, chain};
+
+    ghost Value = { Chained };
+
+    ghost view = { λ c. record {
+      keys = c.keys.items;
+      out = chain c.links.items (length c.links.items) c.taken;
+      lists = length c.heads.items;
+      room = min (vec_capacity c.links - vec_len c.links) (vec_capacity c.keys - vec_len c.keys);
+    } };
+
+    ghost invariant = { λ c. IsChained c.heads.items c.links.items c.keys.items c.taken };
+}
+
+impl Chains {
+    /// No node and no list. Takes no memory.
+    pub fn new(alloc: Global) -> Chains
+        ensures keys { result.keys ≡ [] }
+        ensures out { result.out ≡ [] }
+    {
+        Chains {
+            heads: Vec::new(alloc),
+            links: Vec::new(alloc),
+            keys: Vec::new(alloc),
+            taken: None,
+        }
+    }
+
+    /// Makes so many lists, if there are fewer, and room for so many nodes more.
+    pub fn reserve(&mut self, lists: usize, nodes: usize) -> Result<(), AllocError>
+        ensures lists { OnOk result (lists ≤ self.new.lists) }
+        ensures room { OnOk result (nodes ≤ self.new.room) }
+        ensures more_lists { self.old.lists ≤ self.new.lists }
+        ensures more_room { self.old.room ≤ self.new.room }
+        ensures keys { self.new.keys ≡ self.old.keys }
+        ensures out { self.new.out ≡ self.old.out }
+    {
+        self.links.reserve(nodes)?;
+        self.keys.reserve(nodes)?;
+        if self.heads.len() < lists {
+            self.heads.resize(lists, None)?;
+        }
+        Ok(())
+    }
+
+    /// The literal of a node.
+    pub fn key(&self, node: usize) -> Lit
+        requires { node < length self.now.keys }
+        ensures { result ≡ slice_index self.now.keys node }
+    {
+        self.keys[node]
+    }
+
+    /// Adds a node to the list of a literal. Takes no memory.
+    pub fn add(&mut self, key: Lit)
+        requires list { key < self.old.lists }
+        requires room { 1 ≤ self.old.room }
+        ensures keys { self.new.keys ≡ self.old.keys ++ key ∷ [] }
+        ensures out { self.new.out ≡ self.old.out }
+        ensures lists { self.new.lists ≡ self.old.lists }
+        ensures room { self.old.room ≤ self.new.room + 1 }
+    {
+        let list = key.code() as usize;
+        let node = self.links.len();
+        self.links.push_reserved(self.heads[list]);
+        self.keys.push_reserved(key);
+        self.heads[list] = Some(node);
+    }
+
+    /// Takes all nodes of a literal out of its list, where none is out.
+    pub fn take(&mut self, key: Lit)
+        requires { self.old.out ≡ [] }
+        ensures nodes { (k : ℕ) → Has self.new.out k ↔ IsAt self.new.keys k key }
+        ensures once { AreOnce self.new.out }
+        ensures keys { self.new.keys ≡ self.old.keys }
+        ensures lists { self.new.lists ≡ self.old.lists }
+        ensures room { self.new.room ≡ self.old.room }
+    {
+        let list = key.code() as usize;
+        if list < self.heads.len() {
+            self.taken = self.heads[list];
+            self.heads[list] = None;
+        }
+    }
+
+    /// The first of the nodes taken out. None exactly where none is out.
+    pub fn first(&self) -> Option<usize>
+        ensures { MatchOption result (self.now.out ≡ []) (λ k. (self.now.out ≡ k ∷ drop 1 self.now.out) × (k < length self.now.keys)) }
+    {
+        self.taken
+    }
+
+    /// Puts the first of the nodes taken out into the list of a literal.
+    pub fn put(&mut self, node: usize, key: Lit)
+        requires first { self.old.out ≡ node ∷ drop 1 self.old.out }
+        requires list { key < self.old.lists }
+        ensures keys { self.new.keys ≡ slice_set self.old.keys node key }
+        ensures out { self.new.out ≡ drop 1 self.old.out }
+        ensures lists { self.new.lists ≡ self.old.lists }
+        ensures room { self.new.room ≡ self.old.room }
+    {
+        let list = key.code() as usize;
+        self.taken = self.links[node];
+        self.links[node] = self.heads[list];
+        self.heads[list] = Some(node);
+        self.keys[node] = key;
+    }
+}

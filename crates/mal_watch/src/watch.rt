@@ -1,0 +1,174 @@
+//! The engine.
+
+ghost use Rattle.std.specs.Prelude.{◌≡◌, ℕ, ◌+◌, ◌≤◌, true, length, take, map, None, vec_capacity};
+ghost use Rattle.mal_base.specs.Clauses.{rises};
+ghost use Rattle.mal_base.specs.Held.{lits_under};
+ghost use Rattle.spec_node.specs.Adding.{with_clause};
+ghost use Rattle.spec_node.specs.Batch.{batch, after_batch};
+ghost use Rattle.mal_trail.specs.Rooms.{IsRoomFor, IsLeft, are_within};
+ghost use Rattle.mal_watch.specs.Fitting.{room_in, Fits};
+ghost use Rattle.mal_watch.specs.FollowLaws.{follows-push, follows-cut, follows-less};
+
+use crate::chains::Chains;
+use crate::rows::Rows;
+use crate::{batch, pair, walk};
+use mal_base::{Clause, ClauseId, ClauseView, Lit};
+use mal_store::Store;
+use mal_trail::{Engine, Listed, Trail};
+use std::alloc::{AllocError, Global};
+
+/// The clauses by number, those of two or more literals also in the order in which they came, and for each of these the
+/// two literals that it watches. It fits a trail where, under each front of the handled entries, a watched literal is false
+/// only where all others of its clause are but the other watched one.
+#[derive(Drop)]
+pub struct Watch {
+    store: Store,
+    rows: Rows,
+    chains: Chains,
+    found: Vec<ClauseId>,
+}
+
+impl Watch {
+    /// Adds a clause, whose literals rise by variable. Takes no memory.
+    fn add(&mut self, id: ClauseId, lits: &[Lit], trail: &Trail)
+        requires new { lits_under id self.old.store.clauses ≡ None }
+        requires form { rises lits.now ≡ true }
+        requires room { IsRoomFor lits.now (room_in self.old) }
+        requires fits { Fits self.old trail.now.entries trail.now.processed }
+        ensures clauses { self.new.store.clauses ≡ with_clause (record { id = id; lits = lits.now }) self.old.store.clauses }
+        ensures room { IsLeft 1 (length lits.now) (room_in self.old) (room_in self.new) }
+        ensures fits { Fits self.new trail.now.entries trail.now.processed }
+    {
+        self.store.add_reserved(id, lits);
+        if lits.len() < 2 {
+            return;
+        }
+        let handled = trail.processed().saturating_sub(1) as usize;
+        let (first, second) = pair::pick(trail, handled, lits);
+        self.rows.add_reserved(id, lits);
+        self.chains.add(first);
+        self.chains.add(second);
+    }
+
+    /// Finds the clauses of two or more literals that are in the batch of the first entries of the trail, so many, by
+    /// rising number. Takes no memory.
+    fn find(&mut self, trail: &Trail, count: usize)
+        requires some { 1 ≤ count }
+        requires count { count ≤ length trail.now.entries }
+        requires fits { Fits self.old trail.now.entries count }
+        ensures found { self.new.found.items ≡ map (λ c. c.id) (batch (take count trail.now.entries) self.old.store.clauses) }
+        ensures store { self.new.store ≡ self.old.store }
+        ensures rows { self.new.rows ≡ self.old.rows }
+        ensures lists { self.new.chains.lists ≡ self.old.chains.lists }
+        ensures nodes { self.new.chains.room ≡ self.old.chains.room }
+        ensures capacity { vec_capacity self.new.found ≡ vec_capacity self.old.found }
+        ensures fits { Fits self.new trail.now.entries (count + 1) }
+    {
+        self.found.clear();
+        let last = trail.entries()[count - 1];
+        let lit = last.lit.negate();
+        if trail.is_false_before(count - 1, lit) {
+            return;
+        }
+        self.chains.take(lit);
+        walk::walk(&mut self.chains, &mut self.found, &self.rows, trail, count);
+        self.found.sort_unstable();
+    }
+
+    /// Handles the next batch, which does not count as handled yet. The result is the conflict. Takes no memory.
+    fn handle_next(&mut self, trail: &mut Trail) -> Option<ClauseId>
+        requires left { trail.old.processed ≤ length trail.old.entries }
+        requires within { are_within trail.old.room self.old.store.clauses ≡ true }
+        requires fits { Fits self.old trail.old.entries trail.old.processed }
+        ensures progress { after_batch trail.old.processed trail.old.entries self.old.store.clauses ≡ record { trail = trail.new.entries; conflict = result } }
+        ensures longer { length trail.old.entries ≤ length trail.new.entries }
+        ensures processed { trail.new.processed ≡ trail.old.processed }
+        ensures trail_room { trail.new.room ≡ trail.old.room }
+        ensures store { self.new.store ≡ self.old.store }
+        ensures rows { self.new.rows ≡ self.old.rows }
+        ensures lists { self.new.chains.lists ≡ self.old.chains.lists }
+        ensures nodes { self.new.chains.room ≡ self.old.chains.room }
+        ensures capacity { vec_capacity self.new.found ≡ vec_capacity self.old.found }
+        ensures fits { Fits self.new trail.new.entries (trail.old.processed + 1) }
+    {
+        let count = trail.processed() as usize;
+        if count == 0 {
+            return batch::handle_short(trail, &self.store);
+        }
+        self.find(trail, count);
+        batch::handle(trail, count, self.found.as_slice(), &self.store)
+    }
+}
+
+impl ClauseView for Watch {
+    ghost clauses = { λ s. s.store.clauses };
+
+    fn get(&self, id: ClauseId) -> Option<&[Lit]> {
+        self.store.get(id)
+    }
+}
+
+impl Engine for Watch {
+    ghost room = { room_in };
+
+    ghost fits = { Fits };
+
+    fn new(alloc: Global) -> Watch {
+        Watch {
+            store: Store::new(alloc),
+            rows: Rows::new(alloc),
+            chains: Chains::new(alloc),
+            found: Vec::new(alloc),
+        }
+    }
+
+    fn reserve(
+        &mut self,
+        variables: u32,
+        clauses: usize,
+        literals: usize,
+    ) -> Result<(), AllocError> {
+        let Some(nodes) = clauses.checked_mul(2) else {
+            return Err(AllocError);
+        };
+        let Some(total) = clauses.checked_add(self.rows.len()) else {
+            return Err(AllocError);
+        };
+        self.store.reserve(clauses, literals)?;
+        self.rows.reserve(clauses, literals)?;
+        self.chains.reserve(2 * variables as usize + 2, nodes)?;
+        self.found.clear();
+        self.found.reserve(total)
+    }
+
+    fn load(&mut self, id: ClauseId, clause: &Clause, trail: &Trail) {
+        self.add(id, clause.lits(), trail);
+    }
+
+    fn learn(&mut self, id: ClauseId, lits: &[Lit], trail: &Trail) {
+        self.add(id, lits, trail);
+    }
+
+    fn propagate_one(&mut self, trail: &mut Trail) -> Option<ClauseId> {
+        let conflict = self.handle_next(trail);
+        let processed = trail.processed();
+        trail.set_processed(processed + 1);
+        conflict
+    }
+
+    ghost fits_push = { λ engine entries entry processed bound fits. follows-push _ _ _ _ _ _ entries entry processed bound fits };
+
+    ghost fits_cut = { λ engine entries processed level fits. follows-cut _ _ _ _ _ _ entries processed level fits };
+
+    ghost fits_less = { λ engine entries processed less bound fits. follows-less _ _ _ _ _ _ entries processed less bound fits };
+}
+
+impl Listed for Watch {
+    fn count(&self) -> usize {
+        self.store.len()
+    }
+
+    fn clause_at(&self, place: usize) -> (ClauseId, &[Lit]) {
+        self.store.at(place)
+    }
+}
