@@ -1,44 +1,54 @@
 -- A slice ends: what a job keeps after it.
-use Rattle.std.proofs.Common.{◌≡◌, ℕ, ◌+◌, ◌-◌, ◌<◌, ◌≤◌, ◌^◌, Bool, true, false, cond, ◌==◌, List, [], ◌∷◌, ◌++◌, length, take, drop, find, Option, Some, refl, sym, ◌∙◌, ap, subst, arith, length-append}
+use Rattle.std.proofs.Common.{◌≡◌, ℕ, ◌+◌, ◌-◌, ◌*◌, ◌<◌, ◌≤◌, Bool, true, false, cond, ◌==◌, List, [], ◌∷◌, ◌++◌, length, find, get_or, Option, Some, refl, sym, ◌∙◌, ap, subst, arith}
 use Rattle.std.specs.Option.{option_map, option_or}
-use Rattle.mal_base.specs.Asks.{Terms}
-use Rattle.mal_base.specs.Held.{Line}
+use Rattle.std.specs.Prelude.{slice_set}
+use Rattle.mal_base.specs.Held.{Held, Line}
 use Rattle.mal_base.specs.declared.answer.Answer.{Answer}
 use Rattle.mal_base.specs.declared.verdict.Outcome.TheVariants.{Ran}
-use Rattle.mal_revision.specs.Posted.{Posted, is_posted}
-use Rattle.spec_node.specs.State.{Node}
+use Rattle.mal_revision.specs.Posted.{Posted}
 use Rattle.spec_search.specs.Slice.{Sliced, slice}
-use Rattle.spec_job.specs.Journal.{JournalEntry, Run, replay, loads_of}
-use Rattle.spec_job.specs.Counts.{runs_in}
-use Rattle.spec_job.specs.Solo.{Revised, Started, Finished, solo_step, clauses_in, startable, first_empty, settled_by}
-use Rattle.spec_job.proofs.CountLemmas.{runs_in-append, runs_in-loads}
-use Rattle.mal_cdcl.specs.Ready.{readied, AreNew}
-use Rattle.mal_cdcl.specs.Sliced.{HasLowCounts}
-use Rattle.spec_node.specs.Sound.{IsSound}
-use Rattle.spec_proof.specs.Log.{IsOrderly}
-use Rattle.mal_job.specs.declared.step.Step.{Step}
-use Rattle.mal_job.specs.Loads.{paired}
-use Rattle.mal_job.specs.Places.{loads_among, entries_of, start_steps}
-use Rattle.mal_job.specs.Viewed.{state_of}
+use Rattle.spec_job.specs.Counts.{runs_in, runs_of}
+use Rattle.spec_job.specs.Left.{left_of}
+use Rattle.spec_job.specs.Solo.{Place, Started, Finished, solo_step, place_at, startable, first_empty, settled_by}
+use Rattle.spec_job.proofs.CountLemmas.{runs-set}
+use Rattle.spec_job.proofs.SolvingLemmas.{live-parts}
+use Rattle.mal_job.specs.Homes.{Home}
+use Rattle.mal_job.specs.Places.{entries_of, place_of, fresh_home}
+use Rattle.mal_job.specs.Starts.{MayStart, ready_of, run_home}
+use Rattle.mal_job.specs.Viewed.{Parts, state_of}
 use Rattle.mal_job.specs.Ended.{new_answers, new_spent, settled_answers, settled_spent}
-use Rattle.mal_job.specs.Kept.{IsKept}
-use Rattle.mal_job.proofs.JournalLemmas.{entries-next, loads-next}
-use Rattle.mal_job.proofs.StateLemmas.{settled-state, slice-state, revised-state}
-use Rattle.mal_job.proofs.KeptLemmas.{IsOwn, IsWithin, kept-revised}
-use Rattle.mal_job.proofs.StartLemmas.{MayLoad, MayRun, kept-loads, kept-runs, sliced-own}
-use Rattle.mal_job.proofs.ProgressLemmas.{HasConcluded, concluded, after-all}
+use Rattle.mal_job.specs.Kept.{IsOwn, IsReplayed, IsKept}
+use Rattle.mal_job.proofs.PlaceLemmas.{set-home, home-at, length-set, length-filled}
+use Rattle.mal_job.proofs.ReplayedLemmas.{replayed-set}
+use Rattle.mal_job.proofs.StateLemmas.{settled-state}
+use Rattle.mal_job.proofs.StartLemmas.{run-state, run-own, run-replayed, run-more}
+use Rattle.mal_job.proofs.ProgressLemmas.{HasConcluded, concluded, after-all, left-less}
 
--- what a slice of a node that is ready leaves of a job
-pub record HasEnded (slices : ℕ) (revisions : List Posted) (answers : List Answer) (steps : List Step) (log : List Line) (spent : ℕ) (goal : Option ℕ) (m : ℕ) (ready node : Node) (empty : Option ℕ) (given answers_after : List Answer) (steps_after : List Step) (log_after : List Line) (spent_then spent_after unanswered : ℕ) : Type 0 where
-  pub ran : node ≡ (slice ready).node
-  pub lines : log_after ≡ log ++ (slice ready).lines
-  pub first : empty ≡ option_or goal (first_empty (slice ready).lines)
-  pub started : steps_after ≡ steps ++ start_steps m
-  pub gave : given ≡ answers ++ new_answers node.verdict node slices spent
-  pub counted : spent_then ≡ new_spent node.verdict slices spent
-  pub settled : answers_after ≡ given ++ settled_answers empty unanswered
-  pub cleared : spent_after ≡ settled_spent empty spent_then
-  pub left : unanswered ≡ length revisions - length given
+-- the answers that a slice gives, before an empty clause is looked for
+abbrev pub given : Parts → Sliced → List Answer
+given q x = q.answers ++ new_answers x.node.verdict x.node q.ask.slices q.spent
+
+-- a job after a slice, where its log has this empty clause
+abbrev pub ended : Parts → ℕ → Home → Sliced → Option ℕ → Parts
+ended q i h x o = record q { answers = given q x ++ settled_answers o (length q.revisions - length (given q x)); homes = slice_set q.homes i h; log = q.log ++ x.lines; ran = q.ran + 1; spent = settled_spent o (new_spent x.node.verdict q.ask.slices q.spent) }
+
+-- the same, as the code has it
+pub ended-is : (q : Parts) (i : ℕ) (h : Home) (x : Sliced) (o : Option ℕ) (gave answers : List Answer) (homes : List Home) (log : List Line) (counted spent unanswered : ℕ) → gave ≡ given q x → counted ≡ new_spent x.node.verdict q.ask.slices q.spent → answers ≡ gave ++ settled_answers o unanswered → spent ≡ settled_spent o counted → unanswered ≡ length q.revisions - length gave → homes ≡ slice_set q.homes i h → log ≡ q.log ++ x.lines → record q { answers = answers; homes = homes; log = log; ran = q.ran + 1; spent = spent } ≡ ended q i h x o
+ended-is q i h x o gave answers homes log counted spent unanswered a b c d e f g = rw (c, d, e, a, b, f, g) refl
+
+-- a start, as the code has it
+pub start-by : (now h : Home) (rs revisions : List Posted) (current c : ℕ) (ts tolds : List (List Held)) (log : List Line) → now ≡ h → rs ≡ revisions → current ≡ c → ts ≡ tolds → MayStart h revisions c tolds log → MayStart now rs current ts log
+start-by now h rs revisions current c ts tolds log a b d e m = rw (a, b, d, e) m
+
+pub ready-by : (now h : Home) (rs revisions : List Posted) (current c : ℕ) (ts tolds : List (List Held)) → now ≡ h → rs ≡ revisions → current ≡ c → ts ≡ tolds → slice (ready_of now rs current ts) ≡ slice (ready_of h revisions c tolds)
+ready-by now h rs revisions current c ts tolds a b d e = rw (a, b, d, e) refl
+
+pub run-by : (now h : Home) (rs revisions : List Posted) (current c : ℕ) (ts tolds : List (List Held)) → now ≡ h → rs ≡ revisions → current ≡ c → ts ≡ tolds → run_home now rs current ts ≡ run_home h revisions c tolds
+run-by now h rs revisions current c ts tolds a b d e = rw (a, b, d, e) refl
+
+-- homes and a log that are as before
+pub unchanged : (q : Parts) (homes : List Home) (log : List Line) → homes ≡ q.homes → log ≡ q.log → record q { homes = homes; log = log } ≡ q
+unchanged q homes log a b = rw (a, b) refl
 
 -- the first empty line of two logs
 first-append : (xs ys : List Line) → option_or (first_empty xs) (first_empty ys) ≡ first_empty (xs ++ ys)
@@ -49,109 +59,72 @@ first-append (x ∷ xs) ys = by_test (length x.lits == 0) (first-append xs ys)
     by_test true rest = refl
     by_test false rest = rest
 
--- the counts after it
-pub ended-counts : (slices : ℕ) (revisions : List Posted) (answers : List Answer) (steps : List Step) (log : List Line) (ran spent : ℕ) (goal : Option ℕ) (m : ℕ) (ready node : Node) (empty : Option ℕ) (given answers_after : List Answer) (steps_after : List Step) (log_after : List Line) (spent_then spent_after unanswered : ℕ) → length answers < length revisions → IsWithin (length revisions) (length answers) slices ran spent → HasEnded slices revisions answers steps log spent goal m ready node empty given answers_after steps_after log_after spent_then spent_after unanswered → HasConcluded (length revisions) slices ran spent (length answers) (length answers_after) spent_after
-ended-counts slices revisions answers steps log ran spent goal m ready node empty given answers_after steps_after log_after spent_then spent_after unanswered live h e =
-    let one : HasConcluded (length revisions) slices ran spent (length answers) (length given) spent_then = rw (e.gave, e.counted) (concluded node.verdict node (length revisions) slices ran spent answers live h) in
-    rw (e.settled, e.cleared) (after-all empty (length revisions) slices ran spent (length answers) spent_then unanswered given live e.left one)
+-- the slice of a node that is there
+module _ (q : Parts) (goal : Option ℕ) (room i : ℕ) (k : IsKept q goal room) (may : startable (state_of q) i ≡ true) (within : i < length q.homes) where
+  abbrev h : Home
+  h = get_or q.homes i (fresh_home 0)
 
--- the machine after it
-pub ended-state : (ask : Terms) (closed : Bool) (volume : ℕ) (revisions : List Posted) (answers : List Answer) (steps : List Step) (log : List Line) (ran spent : ℕ) (goal : Option ℕ) (loaded room : ℕ) (n node : Node) (empty : Option ℕ) (given answers_after : List Answer) (steps_after : List Step) (log_after : List Line) (spent_then spent_after unanswered : ℕ) → length answers < length revisions → startable (state_of ask closed volume revisions answers steps log ran spent) 0 ≡ true → IsKept (state_of ask closed volume revisions answers steps log ran spent) n goal steps loaded room → HasEnded ask.slices revisions answers steps log spent goal (length answers + 1 - loaded) (readied (paired (clauses_in (take loaded revisions) + 1) (take (length answers + 1 - loaded) (drop loaded revisions))) n) node empty given answers_after steps_after log_after spent_then spent_after unanswered → solo_step (solo_step (state_of ask closed volume revisions answers steps log ran spent) (Started 0)) (Finished 0 Ran) ≡ state_of ask closed volume revisions answers_after steps_after log_after (ran + 1) spent_after
-ended-state ask closed volume revisions answers steps log ran spent goal loaded room n node empty given answers_after steps_after log_after spent_then spent_after unanswered live may k e =
-    let m : ℕ = length answers + 1 - loaded in
-    let ready : Node = readied (paired (clauses_in (take loaded revisions) + 1) (take m (drop loaded revisions))) n in
-    let x : Sliced = slice ready in
-    let loads : MayLoad revisions (length answers) loaded n = kept-loads ask closed volume revisions answers steps log ran spent n goal loaded room live k in
-    let runs : MayRun revisions steps log m ready = kept-runs ask closed volume revisions answers steps log ran spent n goal loaded room live may k in
-    let early : loaded ≤ length answers + 1 = loads.early in
-    let sum : loads_among steps + m ≡ length answers + 1 = omega (arith, k.loads) in
-    let now : List Answer = answers ++ new_answers x.node.verdict x.node ask.slices spent in
-    let gave : given ≡ now = e.gave ∙ ap (λ (y : Node). answers ++ new_answers y.verdict y ask.slices spent) e.ran in
-    let counted : spent_then ≡ new_spent x.node.verdict ask.slices spent = e.counted ∙ ap (λ (y : Node). new_spent y.verdict ask.slices spent) e.ran in
-    let first : first_empty (log ++ x.lines) ≡ empty = sym (e.first ∙ (ap (λ (o : Option ℕ). option_or o (first_empty x.lines)) k.empty ∙ first-append log x.lines)) in
-    let left : unanswered ≡ length revisions - length now = e.left ∙ ap (λ (xs : List Answer). length revisions - length xs) gave in
-    let done : solo_step (solo_step (state_of ask closed volume revisions answers steps log ran spent) (Started 0)) (Finished 0 Ran) ≡ state_of ask closed volume revisions (now ++ settled_answers empty unanswered) (steps ++ start_steps m) (log ++ x.lines) (ran + 1) (settled_spent empty (new_spent x.node.verdict ask.slices spent)) =
-    slice-state ask closed volume revisions answers steps log ran spent m x sum live runs.replays
-    ∙ (ap (λ (o : Option ℕ). settled_by o (state_of ask closed volume revisions now (steps ++ start_steps m) (log ++ x.lines) (ran + 1) (new_spent x.node.verdict ask.slices spent))) first
-    ∙ settled-state ask closed volume revisions now (steps ++ start_steps m) (log ++ x.lines) (ran + 1) (new_spent x.node.verdict ask.slices spent) empty unanswered left) in
-    rw (e.settled, e.cleared, e.started, e.lines, gave, counted) done
+  abbrev x : Sliced
+  x = slice (ready_of h q.revisions (length q.answers) q.broadcasts)
 
--- what a job keeps after it
-pub kept-ended : (ask : Terms) (closed : Bool) (volume : ℕ) (revisions : List Posted) (answers : List Answer) (steps : List Step) (log : List Line) (ran spent : ℕ) (goal : Option ℕ) (loaded room : ℕ) (n node : Node) (empty : Option ℕ) (given answers_after : List Answer) (steps_after : List Step) (log_after : List Line) (spent_then spent_after unanswered now : ℕ) → length answers < length revisions → startable (state_of ask closed volume revisions answers steps log ran spent) 0 ≡ true → IsKept (state_of ask closed volume revisions answers steps log ran spent) n goal steps loaded room → room ≤ now → HasEnded ask.slices revisions answers steps log spent goal (length answers + 1 - loaded) (readied (paired (clauses_in (take loaded revisions) + 1) (take (length answers + 1 - loaded) (drop loaded revisions))) n) node empty given answers_after steps_after log_after spent_then spent_after unanswered → IsKept (state_of ask closed volume revisions answers_after steps_after log_after (ran + 1) spent_after) node empty steps_after (length answers + 1) now
-kept-ended ask closed volume revisions answers steps log ran spent goal loaded room n node empty given answers_after steps_after log_after spent_then spent_after unanswered now live may k wide e =
-    let m : ℕ = length answers + 1 - loaded in
-    let first : ℕ = clauses_in (take loaded revisions) + 1 in
-    let more : List Posted = take m (drop loaded revisions) in
-    let ready : Node = readied (paired first more) n in
-    let x : Sliced = slice ready in
-    let loads : MayLoad revisions (length answers) loaded n = kept-loads ask closed volume revisions answers steps log ran spent n goal loaded room live k in
-    let runs : MayRun revisions steps log m ready = kept-runs ask closed volume revisions answers steps log ran spent n goal loaded room live may k in
-    let early : loaded ≤ length answers + 1 = loads.early in
-    let sum : loads_among steps + m ≡ length answers + 1 = omega (arith, k.loads) in
-    let within : HasConcluded (length revisions) ask.slices ran spent (length answers) (length answers_after) spent_after = ended-counts ask.slices revisions answers steps log ran spent goal m ready node empty given answers_after steps_after log_after spent_then spent_after unanswered live (record { budget = k.budget; left = k.left; order = k.answers }) e in
-    let entries : List JournalEntry = entries_of steps 1 revisions in
-    let grown : entries_of (steps ++ start_steps m) 1 revisions ≡ entries ++ (loads_of (clauses_in (take (loads_among steps) revisions) + 1) (take m (drop (loads_among steps) revisions)) ++ Run ∷ []) = entries-next steps m 1 revisions (omega arith) in
-    let added : List JournalEntry = loads_of (clauses_in (take (loads_among steps) revisions) + 1) (take m (drop (loads_among steps) revisions)) in
-    let none : runs_in added ≡ 0 = runs_in-loads (clauses_in (take (loads_among steps) revisions) + 1) (take m (drop (loads_among steps) revisions)) in
-    let one : runs_in (added ++ Run ∷ []) ≡ runs_in added + 1 = runs_in-append added (Run ∷ []) in
-    let all : runs_in (entries ++ (added ++ Run ∷ [])) ≡ runs_in entries + runs_in (added ++ Run ∷ []) = runs_in-append entries (added ++ Run ∷ []) in
-    let before : runs_in entries ≤ ran = k.runs in
-    let count : runs_in (entries ++ (added ++ Run ∷ [])) ≤ ran + 1 = omega arith in
-    let own : IsOwn (solo_step (solo_step (state_of ask closed volume revisions answers steps log ran spent) (Started 0)) (Finished 0 Ran)) = subst IsOwn (sym (slice-state ask closed volume revisions answers steps log ran spent m x sum live runs.replays)) (sliced-own ask closed volume revisions answers steps log ran spent n goal loaded room x live may k runs.replays) in
-    let state : solo_step (solo_step (state_of ask closed volume revisions answers steps log ran spent) (Started 0)) (Finished 0 Ran) ≡ state_of ask closed volume revisions answers_after steps_after log_after (ran + 1) spent_after = ended-state ask closed volume revisions answers steps log ran spent goal loaded room n node empty given answers_after steps_after log_after spent_then spent_after unanswered live may k e in
-    record {
-      events = own.events;
-      runnable = own.runnable;
-      is = sym state ∙ own.is;
-      node = e.ran ∙ (ap (λ (y : Sliced). y.node) runs.replays ∙ ap (λ (es : List Step). (replay 0 (entries_of es 1 revisions)).node) (sym e.started));
-      empty = e.first ∙ (ap (λ (o : Option ℕ). option_or o (first_empty x.lines)) k.empty ∙ (first-append log x.lines ∙ ap first_empty (sym e.lines)));
-      loads = sym (ap loads_among e.started ∙ (loads-next steps m ∙ sum));
-      posted = omega arith;
-      runs = subst (λ (es : List Step). runs_in (entries_of es 1 revisions) ≤ ran + 1) (sym e.started) (subst (λ (es : List JournalEntry). runs_in es ≤ ran + 1) (sym grown) count);
-      budget = within.within.budget;
-      left = within.within.left;
-      few_slices = k.few_slices;
-      answers = within.within.order;
-      revisions = k.revisions;
-      clauses = k.clauses;
-      volume = k.volume;
-      answer_room = omega (arith, k.answer_room, wide);
-    }
+  abbrev o : Option ℕ
+  o = option_or goal (first_empty x.lines)
 
--- what the code has at hand of a start
-pub record HasStarted (revisions : List Posted) (answers : List Answer) (loaded count current : ℕ) (front back : List Posted) : Type 0 where
-  pub now : current ≡ length answers
-  pub before : front ≡ take loaded revisions
-  pub behind : back ≡ drop loaded revisions
-  pub counted : count ≡ clauses_in front
+  abbrev pub after : Parts
+  after = ended q i (run_home h q.revisions (length q.answers) q.broadcasts) x o
 
--- the loads that the code makes
-pub ready-is : (revisions : List Posted) (answers : List Answer) (loaded count current : ℕ) (front back : List Posted) (n : Node) → HasStarted revisions answers loaded count current front back → readied (paired (count + 1) (take (current + 1 - loaded) back)) n ≡ readied (paired (clauses_in (take loaded revisions) + 1) (take (length answers + 1 - loaded) (drop loaded revisions))) n
-ready-is revisions answers loaded count current front back n h = rw (h.counted, h.before, h.behind, h.now) refl
+  first : o ≡ first_empty (q.log ++ x.lines)
+  first = ap (λ (a : Option ℕ). option_or a (first_empty x.lines)) k.empty ∙ first-append q.log x.lines
 
-pub started-new : (revisions : List Posted) (answers : List Answer) (loaded count current : ℕ) (front back : List Posted) (n : Node) → HasStarted revisions answers loaded count current front back → MayLoad revisions (length answers) loaded n → AreNew (paired (count + 1) (take (current + 1 - loaded) back)) n
-started-new revisions answers loaded count current front back n h may = rw (h.counted, h.before, h.behind, h.now) may.new
+  abbrev then : Parts
+  then = record q { answers = given q x; homes = slice_set q.homes i (run_home h q.revisions (length q.answers) q.broadcasts); log = q.log ++ x.lines; ran = q.ran + 1; spent = new_spent x.node.verdict q.ask.slices q.spent }
 
-pub started-numbers : (revisions : List Posted) (answers : List Answer) (loaded count current : ℕ) (front back : List Posted) (n : Node) → HasStarted revisions answers loaded count current front back → MayLoad revisions (length answers) loaded n → count + 1 + clauses_in (take (current + 1 - loaded) back) < 2 ^ 32
-started-numbers revisions answers loaded count current front back n h may = rw (h.counted, h.before, h.behind, h.now) may.numbers
+  settles : settled_by (first_empty (q.log ++ x.lines)) (state_of then) ≡ state_of after
+  settles = ap (λ (a : Option ℕ). settled_by a (state_of then)) (sym first) ∙ settled-state then o (length q.revisions - length (given q x)) refl
 
--- the node that is ready, and the log
-pub record RunsNow (log : List Line) (ready : Node) : Type 0 where
-  pub sound : IsSound ready
-  pub counts : HasLowCounts ready
-  pub orderly : IsOrderly (log ++ (slice ready).lines)
+  pub ended-state : solo_step (solo_step (state_of q) (Started i)) (Finished i Ran) ≡ state_of after
+  ended-state = run-state q goal room i k may within ∙ settles
 
-pub runs-now : (revisions : List Posted) (steps : List Step) (log now : List Line) (m : ℕ) (ready node : Node) → node ≡ ready → now ≡ log → MayRun revisions steps log m ready → RunsNow now node
-runs-now revisions steps log now m ready node e f h = rw (e, f) (record { sound = h.sound; counts = h.counts; orderly = h.orderly })
+  live : length q.answers < length q.revisions
+  live = live-parts (state_of q) i may
 
--- a job with one revision more, as the code has it
-pub kept-revised-by : (ask : Terms) (closed : Bool) (volume : ℕ) (revisions revisions_after : List Posted) (answers answers_after : List Answer) (steps : List Step) (log : List Line) (ran spent spent_after : ℕ) (n : Node) (goal : Option ℕ) (loaded room now unanswered : ℕ) (r : Posted) → revisions_after ≡ revisions ++ r ∷ [] → answers_after ≡ answers ++ settled_answers goal unanswered → spent_after ≡ settled_spent goal spent → unanswered ≡ length revisions - length answers + 1 → is_posted r ≡ true → length revisions < 256 → clauses_in revisions + length r.clauses ≤ 2 ^ 20 → length revisions + 1 ≤ now → IsKept (state_of ask closed volume revisions answers steps log ran spent) n goal steps loaded room → IsKept (state_of ask closed volume revisions_after answers_after steps log ran spent_after) n goal steps loaded now
-kept-revised-by ask closed volume revisions revisions_after answers answers_after steps log ran spent spent_after n goal loaded room now unanswered r a b c d posted few clauses wide k = rw (a, b, c, d) (kept-revised ask closed volume revisions answers steps log ran spent n goal loaded room now r posted few clauses wide k)
+  counts : (runs : ℕ) → runs ≤ length q.answers * q.ask.slices + q.spent → HasConcluded (length q.revisions) q.ask.slices runs q.spent (length q.answers) (length after.answers) after.spent
+  counts runs low =
+      let one : HasConcluded (length q.revisions) q.ask.slices runs q.spent (length q.answers) (length (given q x)) (new_spent x.node.verdict q.ask.slices q.spent) = concluded x.node.verdict x.node (length q.revisions) q.ask.slices runs q.spent q.answers live (record { budget = low; left = k.left; order = k.answers }) in
+      after-all o (length q.revisions) q.ask.slices runs q.spent (length q.answers) (new_spent x.node.verdict q.ask.slices q.spent) (length q.revisions - length (given q x)) (given q x) live refl one
 
-pub revised-by : (ask : Terms) (closed : Bool) (volume : ℕ) (revisions revisions_after : List Posted) (answers answers_after : List Answer) (steps : List Step) (log : List Line) (ran spent spent_after : ℕ) (n : Node) (goal : Option ℕ) (loaded room unanswered : ℕ) (r : Posted) → revisions_after ≡ revisions ++ r ∷ [] → answers_after ≡ answers ++ settled_answers goal unanswered → spent_after ≡ settled_spent goal spent → unanswered ≡ length revisions - length answers + 1 → IsKept (state_of ask closed volume revisions answers steps log ran spent) n goal steps loaded room → state_of ask closed volume revisions_after answers_after steps log ran spent_after ≡ solo_step (state_of ask closed volume revisions answers steps log ran spent) (Revised r)
-revised-by ask closed volume revisions revisions_after answers answers_after steps log ran spent spent_after n goal loaded room unanswered r a b c d k =
-    let more : length (revisions ++ r ∷ []) ≡ length revisions + 1 = length-append revisions (r ∷ []) in
-    let order : length answers ≤ length revisions = k.answers in
-    let low : loads_among steps ≤ length revisions = omega (arith, k.loads, k.posted) in
-    let count : unanswered ≡ length (revisions ++ r ∷ []) - length answers = omega arith in
-    rw (a, b, c) (sym (revised-state ask closed volume revisions answers steps log ran spent goal r unanswered low k.empty count))
+  pub ended-less : left_of (state_of after) < left_of (state_of q)
+  ended-less = left-less (length q.revisions) (length q.answers) (length after.answers) q.ask.slices (runs_of (state_of q).places) q.spent after.spent live k.left (counts (runs_of (state_of q).places) k.budget)
+
+  pub given-order : length (given q x) ≤ length q.revisions
+  given-order =
+      let one : HasConcluded (length q.revisions) q.ask.slices (runs_of (state_of q).places) q.spent (length q.answers) (length (given q x)) (new_spent x.node.verdict q.ask.slices q.spent) = concluded x.node.verdict x.node (length q.revisions) q.ask.slices (runs_of (state_of q).places) q.spent q.answers live (record { budget = k.budget; left = k.left; order = k.answers }) in
+      one.within.order
+
+  runs : runs_of (state_of after).places ≡ runs_of (state_of q).places + 1
+  runs =
+      let run : Home = run_home h q.revisions (length q.answers) q.broadcasts in
+      let inside : i < length (state_of q).places = omega (arith, within, k.few_homes, length-filled q.homes (place_of q.revisions q.broadcasts) k.few_homes) in
+      let here : runs_in (place_at (state_of q) i).entries ≡ runs_in (entries_of h.steps 1 q.revisions q.broadcasts) = ap (λ (p : Place). runs_in p.entries) (home-at q.homes (place_of q.revisions q.broadcasts) i (fresh_home 0) within) in
+      let more : runs_in (place_of q.revisions q.broadcasts run).entries ≡ runs_in (place_at (state_of q) i).entries + 1 = run-more q goal room i k may within ∙ ap (λ (n : ℕ). n + 1) (sym here) in
+      ap runs_of (sym (set-home q.homes (place_of q.revisions q.broadcasts) i run within)) ∙ runs-set (state_of q).places i 1 (place_of q.revisions q.broadcasts run) inside more
+
+  pub kept-ended : (now : ℕ) → room ≤ now → IsKept after o now
+  kept-ended now wide =
+      let run : Home = run_home h q.revisions (length q.answers) q.broadcasts in
+      let all : HasConcluded (length q.revisions) q.ask.slices (runs_of (state_of q).places) q.spent (length q.answers) (length after.answers) after.spent = counts (runs_of (state_of q).places) k.budget in
+      record {
+        own = subst IsOwn settles (run-own q goal room i k may within);
+        replayed = let same : i ≡ 0 + i = omega arith in replayed-set q.revisions q.broadcasts q.homes 0 i run (subst (λ (j : ℕ). IsReplayed q.revisions q.broadcasts j run) same (run-replayed q goal room i k may within)) k.replayed;
+        few_homes = subst (λ (n : ℕ). n ≤ 64) (sym (length-set q.homes i run)) k.few_homes;
+        empty = first;
+        ran = subst (λ (n : ℕ). q.ran + 1 ≤ n) (sym runs) (omega (arith, k.ran));
+        budget = subst (λ (n : ℕ). n ≤ length after.answers * q.ask.slices + after.spent) (sym runs) all.within.budget;
+        left = all.within.left;
+        few_slices = k.few_slices;
+        answers = all.within.order;
+        revisions = k.revisions;
+        clauses = k.clauses;
+        volume = k.volume;
+        answer_room = omega (arith, k.answer_room, wide);
+      }

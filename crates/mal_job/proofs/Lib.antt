@@ -1,9 +1,13 @@
 pub mod LogLemmas
 pub mod JournalLemmas
 pub mod LoadingLemmas
+pub mod PlaceLemmas
+pub mod ReplayedLemmas
 pub mod StateLemmas
+pub mod ExchangeLemmas
+pub mod ExportedLemmas
 pub mod KeptLemmas
-pub mod StartLemmas
 pub mod ProgressLemmas
+pub mod StartLemmas
 pub mod EndedLemmas
 pub mod ToldLemmas

@@ -2,9 +2,11 @@
 use Rattle.std.proofs.Common.{◌≡◌, ℕ, ◌+◌, ◌<◌, ◌^◌, List, [], ◌∷◌, ◌++◌, length, fold, refl, sym, ◌∙◌, ap, subst, arith}
 use Rattle.std.specs.Prelude.{All}
 use Rattle.std.proofs.lemmas.List.Elements.{All-head, All-tail}
+use Rattle.mal_base.specs.Held.{Held}
 use Rattle.mal_revision.specs.Posted.{Posted}
 use Rattle.spec_node.specs.State.{Node}
 use Rattle.spec_node.specs.Load.{loaded}
+use Rattle.spec_node.specs.Import.{imported}
 use Rattle.spec_node.specs.Laws.{AreNewNumbers, HoldsAll}
 use Rattle.spec_node.proofs.ChainLemmas.{loads-hold_all}
 use Rattle.spec_search.specs.Slice.{Sliced}
@@ -14,6 +16,7 @@ use Rattle.spec_job.specs.Models.{clauses_of}
 use Rattle.spec_job.proofs.LoadedLemmas.{IsLoadable, HasLoaded, clauses-length, clauses_in-cons, clauses_in-push, load-loaded}
 use Rattle.std.proofs.Common.{length-append}
 use Rattle.mal_cdcl.specs.Ready.{readied, greatest, AreNew}
+use Rattle.mal_cdcl.specs.Importing.{all_imported}
 use Rattle.mal_job.specs.Loads.{paired}
 
 -- the node that is made ready is that of the journal with the loads
@@ -39,5 +42,9 @@ pub readied-variables : (loads : List (Posted × ℕ)) (n : Node) → (readied l
 readied-variables [] n = refl
 readied-variables (l ∷ ls) n = readied-variables ls (loaded l.0 l.1 n)
 
-pub made-variables : (before after : Node) (loads others : List (Posted × ℕ)) (variables most : ℕ) → after ≡ readied loads before → loads ≡ others → variables ≡ before.variables → most ≡ greatest others variables → after.variables ≡ most
-made-variables before after loads others variables most e f g h = ap (λ (n : Node). n.variables) e ∙ (readied-variables loads before ∙ (ap (λ (ls : List (Posted × ℕ)). greatest ls before.variables) f ∙ (ap (λ (v : ℕ). greatest others v) (sym g) ∙ sym h)))
+imported-variables : (tolds : List (List Held)) (n : Node) → (all_imported tolds n).variables ≡ n.variables
+imported-variables [] n = refl
+imported-variables (t ∷ ts) n = imported-variables ts (imported t n)
+
+pub made-variables : (before after : Node) (loads others : List (Posted × ℕ)) (tolds : List (List Held)) (variables most : ℕ) → after ≡ all_imported tolds (readied loads before) → loads ≡ others → variables ≡ before.variables → most ≡ greatest others variables → after.variables ≡ most
+made-variables before after loads others tolds variables most e f g h = ap (λ (n : Node). n.variables) e ∙ (imported-variables tolds (readied loads before) ∙ (readied-variables loads before ∙ (ap (λ (ls : List (Posted × ℕ)). greatest ls before.variables) f ∙ (ap (λ (v : ℕ). greatest others v) (sym g) ∙ sym h))))

@@ -1,24 +1,23 @@
--- A job's machine after a revision, and after a slice.
-use Rattle.std.proofs.Common.{◌≡◌, ℕ, ◌+◌, ◌-◌, ◌<◌, ◌≤◌, Bool, true, false, cond, ◌==◌, nat_lt, List, [], ◌∷◌, ◌++◌, length, take, drop, replicate, Option, Some, None, refl, sym, ◌∙◌, ap, arith, append-nil}
+-- A job's machine after a revision, after a slice, and once it is settled.
+use Rattle.std.proofs.Common.{◌≡◌, ℕ, ◌+◌, ◌-◌, ◌<◌, ◌≤◌, Bool, true, false, cond, ◌==◌, nat_lt, List, [], ◌∷◌, ◌++◌, length, replicate, Option, Some, None, refl, sym, ◌∙◌, ap, arith, append-nil}
+use Rattle.std.specs.Prelude.{slice_set}
 use Rattle.std.proofs.lemmas.Bool.{ltb-true}
-use Rattle.mal_base.specs.Asks.{Terms}
-use Rattle.mal_base.specs.Held.{Line}
 use Rattle.mal_base.specs.declared.answer.Answer.{Answer}
 use Rattle.mal_base.specs.declared.answer.Answer.TheVariants.{Satisfied, Refuted, Spent}
 use Rattle.mal_base.specs.declared.verdict.Verdict.{Verdict}
 use Rattle.mal_base.specs.declared.verdict.Verdict.TheVariants.{Satisfiable, Unsatisfiable}
 use Rattle.mal_base.specs.declared.verdict.Outcome.TheVariants.{Ran}
-use Rattle.mal_revision.specs.Posted.{Posted}
 use Rattle.spec_node.specs.State.{Node}
 use Rattle.spec_node.specs.Model.{model_of}
 use Rattle.spec_search.specs.Slice.{Sliced}
-use Rattle.spec_job.specs.Journal.{JournalEntry, Run, replay, loads_in, loads_of}
-use Rattle.spec_job.specs.Solo.{Solo, Revised, Started, Finished, vacant, solo_step, conclude, answered, spend, clauses_in, first_empty, settled_by, settled}
-use Rattle.mal_job.specs.declared.step.Step.{Step}
-use Rattle.mal_job.specs.Places.{loads_among, entries_of, start_steps}
-use Rattle.mal_job.specs.Viewed.{state_of}
+use Rattle.spec_job.specs.Journal.{replay}
+use Rattle.spec_job.specs.Solo.{Started, Finished, Place, Lease, Solo, place_at, current, start_entries, with_place, solo_step, conclude, answered, spend, finished, first_empty, settled_by, settled}
+use Rattle.spec_job.proofs.PlacesLemmas.{set-here}
+use Rattle.mal_job.specs.Homes.{Home}
+use Rattle.mal_job.specs.Places.{place_of}
+use Rattle.mal_job.specs.Viewed.{Parts, state_of}
 use Rattle.mal_job.specs.Ended.{new_answers, new_spent, spent_answers, spent_after, settled_answers, settled_spent}
-use Rattle.mal_job.proofs.JournalLemmas.{entries-grown, entries-loads, entries-next}
+use Rattle.mal_job.proofs.PlaceLemmas.{set-twice, set-home, length-filled}
 
 -- an empty clause records the answers and the spent slices given the code does
 settled-is : (o : Option ℕ) (s : Solo) → s.starved ≡ 0 → settled_by o s ≡ record s { answers = s.answers ++ settled_answers o (length s.revisions - length s.answers); spent = settled_spent o s.spent }
@@ -40,18 +39,8 @@ conclude-is (Some Satisfiable) n s e = ap (λ (m : ℕ). let x : Solo = record s
 conclude-is (Some (Unsatisfiable goal)) n s e = ap (λ (m : ℕ). let x : Solo = record s { answers = s.answers ++ Refuted goal ∷ []; spent = 0; starved = m } in x) (sym e)
 
 -- a machine that is settled
-pub settled-state : (ask : Terms) (closed : Bool) (volume : ℕ) (revisions : List Posted) (answers : List Answer) (steps : List Step) (log : List Line) (ran spent : ℕ) (o : Option ℕ) (unanswered : ℕ) → unanswered ≡ length revisions - length answers → settled_by o (state_of ask closed volume revisions answers steps log ran spent) ≡ state_of ask closed volume revisions (answers ++ settled_answers o unanswered) steps log ran (settled_spent o spent)
-settled-state ask closed volume revisions answers steps log ran spent o unanswered e = settled-is o (state_of ask closed volume revisions answers steps log ran spent) refl ∙ ap (λ (m : ℕ). state_of ask closed volume revisions (answers ++ settled_answers o m) steps log ran (settled_spent o spent)) (sym e)
-
--- a further revision
-pub revised-state : (ask : Terms) (closed : Bool) (volume : ℕ) (revisions : List Posted) (answers : List Answer) (steps : List Step) (log : List Line) (ran spent : ℕ) (o : Option ℕ) (r : Posted) (unanswered : ℕ) → loads_among steps ≤ length revisions → o ≡ first_empty log → unanswered ≡ length (revisions ++ r ∷ []) - length answers → solo_step (state_of ask closed volume revisions answers steps log ran spent) (Revised r) ≡ state_of ask closed volume (revisions ++ r ∷ []) (answers ++ settled_answers o unanswered) steps log ran (settled_spent o spent)
-revised-state ask closed volume revisions answers steps log ran spent o r unanswered low e f =
-    ap (λ (es : List JournalEntry). settled_by (first_empty log) (grown es)) (sym (entries-grown steps 1 revisions (r ∷ []) low))
-    ∙ (ap (λ (x : Option ℕ). settled_by x (state_of ask closed volume (revisions ++ r ∷ []) answers steps log ran spent)) (sym e)
-    ∙ settled-state ask closed volume (revisions ++ r ∷ []) answers steps log ran spent o unanswered f)
-  where
-    grown : List JournalEntry → Solo
-    grown es = record { ask = ask; closed = closed; volume = volume; revisions = revisions ++ r ∷ []; answers = answers; places = record { entries = es; out = None; starts = ran } ∷ replicate 63 vacant; log = log; ran = ran; spent = spent; starved = 0 }
+pub settled-state : (q : Parts) (o : Option ℕ) (unanswered : ℕ) → unanswered ≡ length q.revisions - length q.answers → settled_by o (state_of q) ≡ state_of (record q { answers = q.answers ++ settled_answers o unanswered; spent = settled_spent o q.spent })
+settled-state q o unanswered e = settled-is o (state_of q) refl ∙ ap (λ (m : ℕ). state_of (record q { answers = q.answers ++ settled_answers o m; spent = settled_spent o q.spent })) (sym e)
 
 -- a start of the current revision is not late
 not-late : (n : ℕ) → nat_lt n n ≡ false
@@ -62,31 +51,36 @@ not-late n = by_test (nat_lt n n) refl
     by_test false e = refl
 
 -- a start and its finish
-pub slice-state : (ask : Terms) (closed : Bool) (volume : ℕ) (revisions : List Posted) (answers : List Answer) (steps : List Step) (log : List Line) (ran spent m : ℕ) (x : Sliced) → loads_among steps + m ≡ length answers + 1 → length answers < length revisions → x ≡ replay 0 (entries_of (steps ++ start_steps m) 1 revisions) → solo_step (solo_step (state_of ask closed volume revisions answers steps log ran spent) (Started 0)) (Finished 0 Ran) ≡ settled_by (first_empty (log ++ x.lines)) (state_of ask closed volume revisions (answers ++ new_answers x.node.verdict x.node ask.slices spent) (steps ++ start_steps m) (log ++ x.lines) (ran + 1) (new_spent x.node.verdict ask.slices spent))
-slice-state ask closed volume revisions answers steps log ran spent m x sum live is =
-    ap (λ (b : Bool). after b (begun n) (replay 0 (begun n))) (not-late (length answers))
-    ∙ (ap (λ (es : List JournalEntry). after false es (replay 0 es)) same
-    ∙ (ap (λ (y : Sliced). after false (entries_of (steps ++ start_steps m) 1 revisions) y) (sym is)
-    ∙ ap settled (conclude-is x.node.verdict x.node (home (entries_of (steps ++ start_steps m) 1 revisions) x) refl)))
-  where
-    n : ℕ
-    n = loads_in (entries_of steps 1 revisions)
+module _ (s : Solo) (i : ℕ) where
+  abbrev p : Place
+  p = place_at s i
 
-    lacking : ℕ → ℕ → List JournalEntry
-    lacking k j = entries_of steps 1 revisions ++ (loads_of (clauses_in (take k revisions) + 1) (take j (drop k revisions)) ++ Run ∷ [])
+  abbrev lease : Lease
+  lease = record { revision = current s; adds = start_entries s p }
 
-    begun : ℕ → List JournalEntry
-    begun k = lacking k (length answers + 1 - k)
+  abbrev gone : Place
+  gone = record p { out = Some lease; starts = p.starts + 1 }
 
-    home : List JournalEntry → Sliced → Solo
-    home es y = record { ask = ask; closed = closed; volume = volume; revisions = revisions; answers = answers; places = record { entries = es; out = None; starts = ran + 1 } ∷ replicate 63 vacant; log = log ++ y.lines; ran = ran + 1; spent = spent; starved = 0 }
+  abbrev pub back : Place
+  back = record p { entries = p.entries ++ start_entries s p; out = None; starts = p.starts + 1 }
 
-    after : Bool → List JournalEntry → Sliced → Solo
-    after b es y = settled (cond b (home es y) (conclude y.node.verdict y.node (home es y)))
+  abbrev pub ran_slice : Sliced
+  ran_slice = replay i (p.entries ++ start_entries s p)
 
-    same : begun n ≡ entries_of (steps ++ start_steps m) 1 revisions
-    same =
-        let low : loads_among steps ≤ length revisions = omega arith in
-        let loads : n ≡ loads_among steps = entries-loads steps 1 revisions low in
-        let missing : length answers + 1 - loads_among steps ≡ m = omega arith in
-        ap begun loads ∙ (ap (lacking (loads_among steps)) missing ∙ sym (entries-next steps m 1 revisions (omega arith)))
+  abbrev home : Sliced → List Place → Solo
+  home x ps = record s { places = ps; log = s.log ++ x.lines; ran = s.ran + 1 }
+
+  pub slice-is : i < length s.places → solo_step (solo_step s (Started i)) (Finished i Ran) ≡ settled (conclude ran_slice.node.verdict ran_slice.node (home ran_slice (slice_set s.places i back)))
+  slice-is within =
+      ap (λ (y : Place). finished (with_place s i gone) i y y.out Ran) (set-here s.places i gone within)
+      ∙ (ap (λ (b : Bool). settled (cond b (home ran_slice (slice_set (slice_set s.places i gone) i back)) (conclude ran_slice.node.verdict ran_slice.node (home ran_slice (slice_set (slice_set s.places i gone) i back))))) (not-late (length s.answers))
+      ∙ ap (λ (ps : List Place). settled (conclude ran_slice.node.verdict ran_slice.node (home ran_slice ps))) (set-twice s.places i gone back))
+
+-- the same, as the code has it
+pub slice-state : (q : Parts) (i : ℕ) (h : Home) (x : Sliced) → i < length q.homes → length q.homes ≤ 64 → place_of q.revisions q.broadcasts h ≡ back (state_of q) i → x ≡ ran_slice (state_of q) i → solo_step (solo_step (state_of q) (Started i)) (Finished i Ran) ≡ settled_by (first_empty (q.log ++ x.lines)) (state_of (record q { answers = q.answers ++ new_answers x.node.verdict x.node q.ask.slices q.spent; homes = slice_set q.homes i h; log = q.log ++ x.lines; ran = q.ran + 1; spent = new_spent x.node.verdict q.ask.slices q.spent }))
+slice-state q i h x within low place is =
+    slice-is (state_of q) i (omega (arith, length-filled q.homes (place_of q.revisions q.broadcasts) low))
+    ∙ (ap (λ (y : Sliced). settled (conclude y.node.verdict y.node (home (state_of q) i y (slice_set (state_of q).places i (back (state_of q) i))))) (sym is)
+    ∙ (ap (λ (b : Place). settled (conclude x.node.verdict x.node (home (state_of q) i x (slice_set (state_of q).places i b)))) (sym place)
+    ∙ (ap (λ (ps : List Place). settled (conclude x.node.verdict x.node (home (state_of q) i x ps))) (set-home q.homes (place_of q.revisions q.broadcasts) i h within)
+    ∙ ap settled (conclude-is x.node.verdict x.node (state_of (record q { homes = slice_set q.homes i h; log = q.log ++ x.lines; ran = q.ran + 1 })) refl))))

@@ -1,6 +1,9 @@
+pub mod Homes
 pub mod Places
+pub mod Viewed
 pub mod Kept
 pub mod Loads
+pub mod Starts
+pub mod Exports
 pub mod Ended
 pub mod Answered
-pub mod Viewed

@@ -14,11 +14,11 @@ use mal_base::{Answer, ClauseId, Values, Verdict};
 use mal_cdcl::Node;
 use mal_learn::Scratch;
 use mal_proof::Log;
-use mal_scan::Scan;
+use mal_watch::Watch;
 
 /// Runs a slice of a node that is ready, and puts its lines behind those of the log. Gives the number of the first empty
 /// clause among the new lines. Takes no memory.
-pub fn run_node(node: &mut Node<Scan>, log: &mut Log, scratch: &mut Scratch) -> Option<ClauseId>
+pub fn run_node(node: &mut Node<Watch>, log: &mut Log, scratch: &mut Scratch) -> Option<ClauseId>
     requires sound { IsSound node.old.state }
     requires stocked { HasSliceRoom node.old }
     requires fitted { node.old.state.variables < scratch.old.room }
@@ -39,7 +39,7 @@ pub fn run_node(node: &mut Node<Scan>, log: &mut Log, scratch: &mut Scratch) -> 
 
 /// Answers the current revision where a slice ended with a verdict, or else counts the slice as spent. Takes no memory.
 pub fn conclude(
-    node: &Node<Scan>,
+    node: &Node<Watch>,
     values: Vec<bool>,
     slices: u32,
     answers: &mut Vec<Answer>,
@@ -63,7 +63,7 @@ pub fn conclude(
 }
 
 /// The answer of a node with this verdict. Takes no memory.
-fn answer_of(verdict: Verdict, node: &Node<Scan>, mut values: Vec<bool>) -> Answer
+fn answer_of(verdict: Verdict, node: &Node<Watch>, mut values: Vec<bool>) -> Answer
     requires empty { values.items ≡ [] }
     requires model_room { node.now.state.variables ≤ vec_capacity values }
     ensures { result ≡ answer_by verdict node.now.state }

@@ -2,29 +2,30 @@
 
 ghost use Rattle.std.specs.Prelude.{◌≡◌, ◌+◌, ◌-◌, ◌<◌, ◌≤◌, ◌^◌, true, length, Some, None, MatchOption, OnOk, OnErr, IfOk};
 ghost use Rattle.mal_base.specs.declared.verdict.Outcome.TheVariants.{Ran};
-ghost use Rattle.spec_job.specs.Solo.{Opened, Revised, Closed, Volume, Started, Finished, unopened, solo_step, is_live, startable, clauses_in};
+ghost use Rattle.spec_job.specs.Solo.{Opened, Revised, Closed, Volume, Started, Finished, Exchanged, unopened, solo_step, is_live, startable, is_exchange_due, place_at, clauses_in};
 ghost use Rattle.spec_job.specs.Titled.{stepped};
 ghost use Rattle.spec_job.specs.Left.{left_of};
 ghost use Rattle.spec_job.specs.Proofs.{failed, proof_lines};
 ghost use Rattle.spec_job.specs.Replies.{told_by, reply};
 ghost use Rattle.spec_report.specs.Replies.{Proof, reply_text};
 
-use crate::ending::{conclude, run_node, settle};
-use crate::loading::{count_clauses, enter_start, make_ready};
-use crate::step::Step;
+use crate::ending::{conclude, settle};
+use crate::exchange::{exports, move_marks};
+use crate::loading::count_clauses;
+use crate::place::{Place, grow};
 use crate::told::{answer_at, lits_of, negations};
 use mal_base::{Answer, Ask, ClauseId, Name};
-use mal_cdcl::Node;
+use mal_buffer::Buffer;
+use mal_exchange::up;
 use mal_learn::Scratch;
 use mal_proof::{Log, renumber};
 use mal_report::{Cause, satisfiable, unknown, unsatisfiable};
 use mal_revision::Revision;
-use mal_scan::Scan;
 use std::alloc::{AllocError, Global};
 use std::marker::Model;
 
-/// A job as its machine run alone: the ask, the volume, the revisions with their answers, the log of derived lines, and
-/// the first node of its tree with its journal. Contracts see the job's key with the machine; the type keeps that the
+/// A job as its machine run alone: the ask, the volume, the revisions with their answers, the log of derived lines, the first
+/// places of its tree, as many as were ever used, and what its nodes were told. Contracts see the job's key with the machine; the type keeps that the
 /// machine was run on own events that may happen.
 #[derive(Drop)]
 pub struct Job {
@@ -37,9 +38,8 @@ pub struct Job {
     answers: Vec<Answer>,
     log: Log,
     empty: Option<ClauseId>,
-    node: Node<Scan>,
-    steps: Vec<Step>,
-    loaded: usize,
+    places: Vec<Place>,
+    broadcasts: Vec<Buffer>,
     ran: u32,
     spent: u32,
 }
@@ -54,10 +54,10 @@ impl Model for Job {
 
     ghost view = { λ j. record {
       key = record { tenant = j.tenant; job = j.name };
-      state = state_of j.ask j.closed j.volume j.revisions.items j.answers.items j.steps.items j.log.lines j.ran j.spent;
+      state = state_of (record { ask = j.ask; closed = j.closed; volume = j.volume; revisions = j.revisions.items; answers = j.answers.items; homes = j.places.items; log = j.log.lines; broadcasts = j.broadcasts.items; ran = j.ran; spent = j.spent });
     } };
 
-    ghost invariant = { λ j. IsKept (state_of j.ask j.closed j.volume j.revisions.items j.answers.items j.steps.items j.log.lines j.ran j.spent) j.node.state j.empty j.steps.items j.loaded (vec_capacity j.answers) };
+    ghost invariant = { λ j. IsKept (record { ask = j.ask; closed = j.closed; volume = j.volume; revisions = j.revisions.items; answers = j.answers.items; homes = j.places.items; log = j.log.lines; broadcasts = j.broadcasts.items; ran = j.ran; spent = j.spent }) j.empty (vec_capacity j.answers) };
 }
 
 impl Job {
@@ -77,9 +77,8 @@ impl Job {
             answers: Vec::new(alloc),
             log: Log::new(alloc),
             empty: None,
-            node: Node::fresh(alloc, 0),
-            steps: Vec::new(alloc),
-            loaded: 0,
+            places: Vec::new(alloc),
+            broadcasts: Vec::new(alloc),
             ran: 0,
             spent: 0,
         }
@@ -220,56 +219,91 @@ impl Job {
         self.closed = true;
     }
 
-    /// Sets how many of the job's nodes may run at a time, 1 at most.
+    /// Sets how many of the job's nodes may run at a time, 64 at most.
     pub fn set_volume(&mut self, volume: u32)
-        requires { volume ≤ 1 }
+        requires { volume ≤ 64 }
         ensures { self.new ≡ stepped self.old (Volume volume) }
     {
         self.volume = volume;
     }
 
-    /// Whether the first node may start.
-    pub fn is_startable(&self) -> bool
-        ensures value { result ≡ startable self.now.state 0 }
-        ensures live { is_live self.now.state ≡ true → 1 ≤ self.now.state.volume → startable self.now.state 0 ≡ true }
+    /// How often the node of this index was started.
+    pub fn starts(&self, index: u32) -> u32
+        ensures { result ≡ (place_at self.now.state index).starts }
     {
-        self.is_live() && self.volume > 0
+        match self.places.get(index as usize) {
+            None => 0,
+            Some(place) => place.starts(),
+        }
     }
 
-    /// Starts the first node for the current revision and runs one slice. After want of memory the job is as before.
-    pub fn run_slice(&mut self, alloc: Global, scratch: &mut Scratch) -> Result<(), AllocError>
-        requires { startable self.old.state 0 ≡ true }
-        ensures ok { OnOk result (self.new ≡ stepped (stepped self.old (Started 0)) (Finished 0 Ran)) }
+    /// Whether the node of this index may start: the first one of a live job with a volume may.
+    pub fn is_startable(&self, index: u32) -> bool
+        ensures value { result ≡ startable self.now.state index }
+        ensures live { is_live self.now.state ≡ true → 1 ≤ self.now.state.volume → startable self.now.state 0 ≡ true }
+    {
+        self.is_live() && index < self.volume
+    }
+
+    /// Starts the node of this index for the current revision and runs one slice. After want of memory the job is as before.
+    pub fn run_slice(
+        &mut self,
+        alloc: Global,
+        index: u32,
+        scratch: &mut Scratch,
+    ) -> Result<(), AllocError>
+        requires { startable self.old.state index ≡ true }
+        ensures ok { OnOk result (self.new ≡ stepped (stepped self.old (Started index)) (Finished index Ran)) }
         ensures less { OnOk result (left_of self.new.state < left_of self.old.state) }
         ensures err { OnErr result (self.new ≡ self.old) }
     {
+        grow(alloc, &mut self.places, index as usize + 1)?;
         let current = self.answers.len();
-        let (before, later) = self.revisions.as_slice().split_at(self.loaded);
-        let missing = current + 1 - self.loaded;
-        self.steps.reserve(missing + 1)?;
-        let values = make_ready(
+        let place = &mut self.places[index as usize];
+        let (values, empty) = place.start(
             alloc,
-            &mut self.node,
             &mut self.log,
-            &later[..missing],
-            count_clauses(before) + 1,
+            self.revisions.as_slice(),
+            current,
+            self.broadcasts.as_slice(),
             scratch,
         )?;
-        let empty = run_node(&mut self.node, &mut self.log, scratch);
-        self.empty = self.empty.or(empty);
-        enter_start(&mut self.steps, missing);
-        self.loaded = current + 1;
-        self.ran += 1;
         let slices = self.ask.slices();
         conclude(
-            &self.node,
+            place.node(),
             values,
             slices,
             &mut self.answers,
             &mut self.spent,
         );
+        self.empty = self.empty.or(empty);
+        self.ran += 1;
         let unanswered = self.revisions.len() - self.answers.len();
         settle(self.empty, unanswered, &mut self.answers, &mut self.spent);
+        Ok(())
+    }
+
+    /// Whether an exchange is due: at a volume of at least 2, once twice as many slices as the volume were run since the last
+    /// one.
+    pub fn is_exchange_due(&self) -> bool
+        ensures { result ≡ is_exchange_due self.now.state }
+    {
+        self.volume >= 2 && 2 * self.volume <= self.ran
+    }
+
+    /// Lets the nodes below the volume tell one another what they derived since their last exchange. After want of memory the
+    /// job is as before.
+    pub fn exchange(&mut self, alloc: Global) -> Result<(), AllocError>
+        ensures ok { OnOk result (self.new ≡ stepped self.old Exchanged) }
+        ensures err { OnErr result (self.new ≡ self.old) }
+    {
+        let count = self.volume as usize;
+        grow(alloc, &mut self.places, count)?;
+        let exported = exports(alloc, &self.places[..count], &self.log)?;
+        let told = up(alloc, exported.as_slice())?;
+        self.broadcasts.push(told)?;
+        move_marks(&mut self.places, count, self.log.count());
+        self.ran = 0;
         Ok(())
     }
 }

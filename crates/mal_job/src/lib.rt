@@ -2,9 +2,11 @@
 #![tactic(auto)]
 
 mod ending;
+mod exchange;
 mod job;
 mod lines;
 mod loading;
+mod place;
 mod step;
 #[cfg(test)]
 mod tests;

@@ -67,8 +67,8 @@ fn post(job: &mut Job, revision: Revision) -> Result<(), Fail> {
 fn run(alloc: Global, job: &mut Job, slices: u32) -> Result<(), Fail> {
     let mut scratch = Scratch::new(alloc);
     for _ in 0..slices {
-        if job.is_startable() {
-            job.run_slice(alloc, &mut scratch)?;
+        if job.is_startable(0) {
+            job.run_slice(alloc, 0, &mut scratch)?;
         }
     }
     Ok(())
@@ -323,5 +323,74 @@ fn as_many_revisions_as_may_be_are_answered(rt: HostRuntime) -> Result<(), Fail>
     let known =
         b"r a p 255\ns SATISFIABLE\nv 1 0\nr a p 256\ns UNSATISFIABLE\nk 0\nl 257 0 1 256 0\n";
     assert_eq!(rt; text.as_slice(), known.as_slice());
+    Ok(())
+}
+
+/// A job of so many slices and two nodes, with a revision of so many variables and no clause.
+fn shared(alloc: Global, slices: i64, variables: u32) -> Result<Job, Fail> {
+    let mut job = opened(alloc, slices)?;
+    job.set_volume(2);
+    let revision = Revision::new(alloc, variables, Vec::new(alloc), &[])?;
+    post(&mut job, revision)?;
+    Ok(job)
+}
+
+/// Runs a slice of each of these nodes that may start, one after another.
+fn take_turns(
+    alloc: Global,
+    job: &mut Job,
+    scratch: &mut Scratch,
+    nodes: &[u32],
+) -> Result<(), Fail> {
+    for node in nodes {
+        if job.is_startable(*node) {
+            job.run_slice(alloc, *node, scratch)?;
+        }
+    }
+    Ok(())
+}
+
+#[test]
+fn two_nodes_spend_a_budget_and_begin_anew_behind_an_exchange(rt: HostRuntime) -> Result<(), Fail> {
+    let alloc = rt.alloc();
+    let mut scratch = Scratch::new(alloc);
+    let mut job = shared(alloc, 8, 1_000)?;
+    assert!(rt; !job.is_startable(2));
+    take_turns(alloc, &mut job, &mut scratch, &[0, 1, 0])?;
+    assert!(rt; !job.is_exchange_due());
+    take_turns(alloc, &mut job, &mut scratch, &[1])?;
+    assert!(rt; job.is_exchange_due());
+    job.exchange(alloc)?;
+    assert!(rt; !job.is_exchange_due());
+    take_turns(alloc, &mut job, &mut scratch, &[0, 1, 0, 1])?;
+    assert_eq!(rt; job.starts(0), 4);
+    assert_eq!(rt; job.starts(1), 4);
+    assert_eq!(rt; job.starts(2), 0);
+    let text = replies_of(alloc, &job)?;
+    let known = b"r a p 1\ns UNKNOWN\nu spent 8\n";
+    assert_eq!(rt; text.as_slice(), known.as_slice());
+    Ok(())
+}
+
+/// The reply that makes each of 999 variables false.
+fn all_false(alloc: Global) -> Result<Vec<u8>, Fail> {
+    let mut text = Vec::from_slice(alloc, b"r a p 1\ns SATISFIABLE\nv ")?;
+    for variable in 1..=999 {
+        text.extend_from_slice(format!(in alloc; "-{variable} ")?.as_bytes())?;
+    }
+    text.extend_from_slice(b"0\n")?;
+    Ok(text)
+}
+
+#[test]
+fn the_first_of_two_nodes_ends_with_its_second_slice(rt: HostRuntime) -> Result<(), Fail> {
+    let alloc = rt.alloc();
+    let mut scratch = Scratch::new(alloc);
+    let mut job = shared(alloc, 8, 999)?;
+    take_turns(alloc, &mut job, &mut scratch, &[0, 1])?;
+    assert!(rt; replies_of(alloc, &job)?.is_empty());
+    take_turns(alloc, &mut job, &mut scratch, &[0])?;
+    let text = replies_of(alloc, &job)?;
+    assert_eq!(rt; text.as_slice(), all_false(alloc)?.as_slice());
     Ok(())
 }

@@ -8,4 +8,4 @@ invariant_of-result c =
     let lines = ap (λ (l : Logged). l.lines) c.new-3.ensures in
     let some : 1 ≤ c.args.ask.slices = omega (arith, c.slices.ensures.value, c.slices.ensures.some) in
     let few : c.args.ask.slices ≤ 4096 = omega (arith, c.slices.ensures.value, c.slices.ensures.bound) in
-    rw (c.new.ensures.items, c.new-2.ensures.items, c.new-4.ensures.items, lines, c.fresh.ensures) (kept-fresh c.args.ask (vec_capacity c.new-2.result) some few)
+    rw (c.new.ensures.items, c.new-2.ensures.items, c.new-4.ensures.items, c.new-5.ensures.items, lines) (kept-fresh c.args.ask (vec_capacity c.new-2.result) some few)

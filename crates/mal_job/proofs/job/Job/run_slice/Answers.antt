@@ -1,188 +1,166 @@
-use Rattle.std.proofs.Common.{◌≡◌, ℕ, ◌+◌, ◌-◌, ◌<◌, ◌≤◌, true, List, ◌++◌, length, take, drop, Option, vec_capacity, ◌∙◌, sym, ap, subst, arith}
+use Rattle.std.proofs.Common.{◌≡◌, ℕ, ◌+◌, ◌-◌, ◌<◌, ◌≤◌, true, List, ◌++◌, length, get_or, Option, vec_capacity, ◌∙◌, sym, ap, subst, arith}
+use Rattle.std.specs.Prelude.{slice_set}
 use Rattle.std.specs.Option.{option_or}
-use Rattle.mal_base.specs.Held.{Line}
+use Rattle.std.proofs.lemmas.List.{get_or_default, set-get_or}
 use Rattle.mal_base.specs.declared.verdict.Outcome.TheVariants.{Ran}
-use Rattle.mal_revision.specs.Posted.{Posted}
+use Rattle.mal_base.specs.declared.answer.Answer.{Answer}
 use Rattle.spec_node.specs.State.{Node}
-use Rattle.spec_search.specs.Slice.{slice}
-use Rattle.spec_search.proofs.ModelLemmas.{slice-leaves}
-use Rattle.spec_job.specs.Solo.{Solo, Started, Finished, first_empty, startable, clauses_in}
+use Rattle.spec_search.specs.Slice.{Sliced, slice}
+use Rattle.spec_job.specs.Left.{left_of}
+use Rattle.spec_job.specs.Solo.{Solo, Started, Finished, solo_step, first_empty, startable}
 use Rattle.spec_job.specs.Titled.{Key, Titled, stepped}
-use Rattle.spec_job.proofs.SolvingLemmas.{live-parts}
-use Rattle.mal_cdcl.specs.Ready.{readied}
-use Rattle.mal_job.specs.declared.step.Step.{Step}
-use Rattle.mal_job.specs.Loads.{paired}
-use Rattle.mal_job.specs.Places.{start_steps}
-use Rattle.mal_job.specs.Viewed.{state_of}
+use Rattle.mal_job.specs.Homes.{Home}
+use Rattle.mal_job.specs.Places.{fresh_home}
+use Rattle.mal_job.specs.Starts.{ready_of, run_home}
+use Rattle.mal_job.specs.Viewed.{Parts, state_of}
 use Rattle.mal_job.specs.Kept.{IsKept}
 use Rattle.mal_job.specs.Ended.{new_answers, new_spent}
-use Rattle.mal_job.proofs.StartLemmas.{MayLoad, kept-loads, kept-runs}
-use Rattle.mal_job.proofs.ProgressLemmas.{left-less}
-use Rattle.mal_job.proofs.EndedLemmas.{HasStarted, HasEnded, RunsNow, ready-is, started-new, runs-now, ended-counts, ended-state, kept-ended}
+use Rattle.mal_job.proofs.KeptLemmas.{on-err, grown-state, kept-grown}
+use Rattle.mal_job.proofs.StartLemmas.{may-start}
+use Rattle.mal_job.proofs.EndedLemmas.{given, ended, ended-is, start-by, ready-by, run-by, unchanged, given-order, ended-state, ended-less, kept-ended}
 use Rattle.mal_job.proofs.job.Job.run_slice.Goals as goal
 
-pub overflow_sub-missing : goal.overflow_sub-missing
-overflow_sub-missing c =
-    let may : startable (state_of c.self.inside.ask c.self.inside.closed c.self.inside.volume c.self.inside.revisions.items c.self.inside.answers.items c.self.inside.steps.items c.self.inside.log.lines c.self.inside.ran c.self.inside.spent) 0 ≡ true = rw (← c.self.view_is) at c.requires in
-    let live : length c.self.inside.answers.items < length c.self.inside.revisions.items = live-parts (state_of c.self.inside.ask c.self.inside.closed c.self.inside.volume c.self.inside.revisions.items c.self.inside.answers.items c.self.inside.steps.items c.self.inside.log.lines c.self.inside.ran c.self.inside.spent) 0 may in
-    let loads : MayLoad c.self.inside.revisions.items (length c.self.inside.answers.items) c.self.inside.loaded c.self.inside.node.state = kept-loads c.self.inside.ask c.self.inside.closed c.self.inside.volume c.self.inside.revisions.items c.self.inside.answers.items c.self.inside.steps.items c.self.inside.log.lines c.self.inside.ran c.self.inside.spent c.self.inside.node.state c.self.inside.empty c.self.inside.loaded (vec_capacity c.self.inside.answers) live c.self.invariant in
-    let now : c.len-current.result ≡ length c.self.inside.answers.items = omega (arith, c.len-current.ensures) in
-    omega (arith, loads.early, now)
+pub invariant_of-self : goal.invariant_of-self
+invariant_of-self c =
+    let q : Parts = record { ask = c.self.inside.ask; closed = c.self.inside.closed; volume = c.self.inside.volume; revisions = c.self.inside.revisions.items; answers = c.self.inside.answers.items; homes = c.self.inside.places.items; log = c.self.inside.log.lines; broadcasts = c.self.inside.broadcasts.items; ran = c.self.inside.ran; spent = c.self.inside.spent } in
+    kept-grown q c.grow.new.places.items c.self.inside.empty (vec_capacity c.self.inside.answers) c.grow.ensures.grown c.grow.ensures.few c.self.invariant
 
-pub make_ready-requires-clause-new : goal.make_ready-requires-clause-new
-make_ready-requires-clause-new c =
-    let may : startable (state_of c.self.inside.ask c.self.inside.closed c.self.inside.volume c.self.inside.revisions.items c.self.inside.answers.items c.self.inside.steps.items c.self.inside.log.lines c.self.inside.ran c.self.inside.spent) 0 ≡ true = rw (← c.self.view_is) at c.requires in
-    let live : length c.self.inside.answers.items < length c.self.inside.revisions.items = live-parts (state_of c.self.inside.ask c.self.inside.closed c.self.inside.volume c.self.inside.revisions.items c.self.inside.answers.items c.self.inside.steps.items c.self.inside.log.lines c.self.inside.ran c.self.inside.spent) 0 may in
-    let loads : MayLoad c.self.inside.revisions.items (length c.self.inside.answers.items) c.self.inside.loaded c.self.inside.node.state = kept-loads c.self.inside.ask c.self.inside.closed c.self.inside.volume c.self.inside.revisions.items c.self.inside.answers.items c.self.inside.steps.items c.self.inside.log.lines c.self.inside.ran c.self.inside.spent c.self.inside.node.state c.self.inside.empty c.self.inside.loaded (vec_capacity c.self.inside.answers) live c.self.invariant in
-    let now : c.len-current.result ≡ length c.self.inside.answers.items = omega (arith, c.len-current.ensures) in
-    let begun : HasStarted c.self.inside.revisions.items c.self.inside.answers.items c.self.inside.loaded c.count_clauses.result c.len-current.result c.split_at.result.0.now c.split_at.result.1.now = record {
-      now = now;
-      before = c.split_at.ensures.front ∙ ap (λ (ps : List Posted). take c.self.inside.loaded ps) c.as_slice.ensures.value;
-      behind = c.split_at.ensures.back ∙ ap (λ (ps : List Posted). drop c.self.inside.loaded ps) c.as_slice.ensures.value;
-      counted = c.count_clauses.ensures;
-    } in
-    started-new c.self.inside.revisions.items c.self.inside.answers.items c.self.inside.loaded c.count_clauses.result c.len-current.result c.split_at.result.0.now c.split_at.result.1.now c.self.inside.node.state begun loads
+pub returns-in_err-grow-clause-err : goal.returns-in_err-grow-clause-err
+returns-in_err-grow-clause-err c =
+    let q : Parts = record { ask = c.self.inside.ask; closed = c.self.inside.closed; volume = c.self.inside.volume; revisions = c.self.inside.revisions.items; answers = c.self.inside.answers.items; homes = c.self.inside.places.items; log = c.self.inside.log.lines; broadcasts = c.self.inside.broadcasts.items; ran = c.self.inside.ran; spent = c.self.inside.spent } in
+    let key : Key = record { tenant = c.self.inside.tenant; job = c.self.inside.name } in
+    on-err c.from_residual.result (ap (λ (s : Solo). let t : Titled = record { key = key; state = s } in t) (grown-state q c.grow.new.places.items c.grow.ensures.grown c.grow.ensures.few) ∙ c.self.view_is)
 
-pub run_node-empty-requires-clause-sound : goal.run_node-empty-requires-clause-sound
-run_node-empty-requires-clause-sound c =
-    let may : startable (state_of c.self.inside.ask c.self.inside.closed c.self.inside.volume c.self.inside.revisions.items c.self.inside.answers.items c.self.inside.steps.items c.self.inside.log.lines c.self.inside.ran c.self.inside.spent) 0 ≡ true = rw (← c.self.view_is) at c.requires in
-    let live : length c.self.inside.answers.items < length c.self.inside.revisions.items = live-parts (state_of c.self.inside.ask c.self.inside.closed c.self.inside.volume c.self.inside.revisions.items c.self.inside.answers.items c.self.inside.steps.items c.self.inside.log.lines c.self.inside.ran c.self.inside.spent) 0 may in
+pub start-requires : goal.start-requires
+start-requires c =
+    let q : Parts = record { ask = c.self.inside.ask; closed = c.self.inside.closed; volume = c.self.inside.volume; revisions = c.self.inside.revisions.items; answers = c.self.inside.answers.items; homes = c.self.inside.places.items; log = c.self.inside.log.lines; broadcasts = c.self.inside.broadcasts.items; ran = c.self.inside.ran; spent = c.self.inside.spent } in
+    let g : Parts = record { ask = c.self.inside.ask; closed = c.self.inside.closed; volume = c.self.inside.volume; revisions = c.self.inside.revisions.items; answers = c.self.inside.answers.items; homes = c.grow.new.places.items; log = c.self.inside.log.lines; broadcasts = c.self.inside.broadcasts.items; ran = c.self.inside.ran; spent = c.self.inside.spent } in
+    let requested : startable (state_of q) c.args.index ≡ true = rw (← c.self.view_is) at c.requires in
+    let kept : IsKept g c.self.inside.empty (vec_capacity c.self.inside.answers) = kept-grown q c.grow.new.places.items c.self.inside.empty (vec_capacity c.self.inside.answers) c.grow.ensures.grown c.grow.ensures.few c.self.invariant in
+    let may : startable (state_of g) c.args.index ≡ true = subst (λ (s : Solo). startable s c.args.index ≡ true) (sym (grown-state q c.grow.new.places.items c.grow.ensures.grown c.grow.ensures.few)) requested in
+    let within : c.args.index < length c.grow.new.places.items = omega (arith, c.in_ok-grow.ensures.ok) in
+    let h : Home = get_or c.grow.new.places.items c.args.index (fresh_home 0) in
+    let here : c.index_mut-place.result.now ≡ h = c.index_mut-place.ensures.value ∙ sym (get_or_default c.grow.new.places.items c.args.index (fresh_home 0) c.index_mut-place.result.now within) in
     let now : c.len-current.result ≡ length c.self.inside.answers.items = omega (arith, c.len-current.ensures) in
-    let begun : HasStarted c.self.inside.revisions.items c.self.inside.answers.items c.self.inside.loaded c.count_clauses.result c.len-current.result c.split_at.result.0.now c.split_at.result.1.now = record {
-      now = now;
-      before = c.split_at.ensures.front ∙ ap (λ (ps : List Posted). take c.self.inside.loaded ps) c.as_slice.ensures.value;
-      behind = c.split_at.ensures.back ∙ ap (λ (ps : List Posted). drop c.self.inside.loaded ps) c.as_slice.ensures.value;
-      counted = c.count_clauses.ensures;
-    } in
-    let made : c.make_ready.new.node.state ≡ readied (paired (clauses_in (take c.self.inside.loaded c.self.inside.revisions.items) + 1) (take (length c.self.inside.answers.items + 1 - c.self.inside.loaded) (drop c.self.inside.loaded c.self.inside.revisions.items))) c.self.inside.node.state = c.in_ok-values.ensures.loaded ∙ ready-is c.self.inside.revisions.items c.self.inside.answers.items c.self.inside.loaded c.count_clauses.result c.len-current.result c.split_at.result.0.now c.split_at.result.1.now c.self.inside.node.state begun in
-    let runs : RunsNow c.make_ready.new.log.lines c.make_ready.new.node.state = runs-now c.self.inside.revisions.items c.self.inside.steps.items c.self.inside.log.lines c.make_ready.new.log.lines (length c.self.inside.answers.items + 1 - c.self.inside.loaded) (readied (paired (clauses_in (take c.self.inside.loaded c.self.inside.revisions.items) + 1) (take (length c.self.inside.answers.items + 1 - c.self.inside.loaded) (drop c.self.inside.loaded c.self.inside.revisions.items))) c.self.inside.node.state) c.make_ready.new.node.state made c.make_ready.ensures.lines (kept-runs c.self.inside.ask c.self.inside.closed c.self.inside.volume c.self.inside.revisions.items c.self.inside.answers.items c.self.inside.steps.items c.self.inside.log.lines c.self.inside.ran c.self.inside.spent c.self.inside.node.state c.self.inside.empty c.self.inside.loaded (vec_capacity c.self.inside.answers) live may c.self.invariant) in
-    runs.sound
+    start-by c.index_mut-place.result.now h c.as_slice.result.now c.self.inside.revisions.items c.len-current.result (length c.self.inside.answers.items) c.as_slice-2.result.now c.self.inside.broadcasts.items c.self.inside.log.lines here c.as_slice.ensures.value now c.as_slice-2.ensures.value (may-start g c.self.inside.empty (vec_capacity c.self.inside.answers) c.args.index kept may within)
 
-pub run_node-empty-requires-clause-counts : goal.run_node-empty-requires-clause-counts
-run_node-empty-requires-clause-counts c =
-    let may : startable (state_of c.self.inside.ask c.self.inside.closed c.self.inside.volume c.self.inside.revisions.items c.self.inside.answers.items c.self.inside.steps.items c.self.inside.log.lines c.self.inside.ran c.self.inside.spent) 0 ≡ true = rw (← c.self.view_is) at c.requires in
-    let live : length c.self.inside.answers.items < length c.self.inside.revisions.items = live-parts (state_of c.self.inside.ask c.self.inside.closed c.self.inside.volume c.self.inside.revisions.items c.self.inside.answers.items c.self.inside.steps.items c.self.inside.log.lines c.self.inside.ran c.self.inside.spent) 0 may in
+pub invariant_of-self-in_err-values : goal.invariant_of-self-in_err-values
+invariant_of-self-in_err-values c =
+    let q : Parts = record { ask = c.self.inside.ask; closed = c.self.inside.closed; volume = c.self.inside.volume; revisions = c.self.inside.revisions.items; answers = c.self.inside.answers.items; homes = c.self.inside.places.items; log = c.self.inside.log.lines; broadcasts = c.self.inside.broadcasts.items; ran = c.self.inside.ran; spent = c.self.inside.spent } in
+    let g : Parts = record { ask = c.self.inside.ask; closed = c.self.inside.closed; volume = c.self.inside.volume; revisions = c.self.inside.revisions.items; answers = c.self.inside.answers.items; homes = c.grow.new.places.items; log = c.self.inside.log.lines; broadcasts = c.self.inside.broadcasts.items; ran = c.self.inside.ran; spent = c.self.inside.spent } in
+    let homes : slice_set c.grow.new.places.items c.args.index c.start.new.self ≡ c.grow.new.places.items = ap (λ (k : Home). slice_set c.grow.new.places.items c.args.index k) (c.in_err-values.ensures.err ∙ c.index_mut-place.ensures.value) ∙ set-get_or c.grow.new.places.items c.args.index c.index_mut-place.result.now in
+    subst (λ (t : Parts). IsKept t c.self.inside.empty (vec_capacity c.self.inside.answers)) (sym (unchanged g (slice_set c.grow.new.places.items c.args.index c.start.new.self) c.start.new.log.lines homes c.in_err-values.ensures.err_lines)) (kept-grown q c.grow.new.places.items c.self.inside.empty (vec_capacity c.self.inside.answers) c.grow.ensures.grown c.grow.ensures.few c.self.invariant)
+
+pub returns-in_err-values-clause-err : goal.returns-in_err-values-clause-err
+returns-in_err-values-clause-err c =
+    let q : Parts = record { ask = c.self.inside.ask; closed = c.self.inside.closed; volume = c.self.inside.volume; revisions = c.self.inside.revisions.items; answers = c.self.inside.answers.items; homes = c.self.inside.places.items; log = c.self.inside.log.lines; broadcasts = c.self.inside.broadcasts.items; ran = c.self.inside.ran; spent = c.self.inside.spent } in
+    let g : Parts = record { ask = c.self.inside.ask; closed = c.self.inside.closed; volume = c.self.inside.volume; revisions = c.self.inside.revisions.items; answers = c.self.inside.answers.items; homes = c.grow.new.places.items; log = c.self.inside.log.lines; broadcasts = c.self.inside.broadcasts.items; ran = c.self.inside.ran; spent = c.self.inside.spent } in
+    let key : Key = record { tenant = c.self.inside.tenant; job = c.self.inside.name } in
+    let homes : slice_set c.grow.new.places.items c.args.index c.start.new.self ≡ c.grow.new.places.items = ap (λ (k : Home). slice_set c.grow.new.places.items c.args.index k) (c.in_err-values.ensures.err ∙ c.index_mut-place.ensures.value) ∙ set-get_or c.grow.new.places.items c.args.index c.index_mut-place.result.now in
+    on-err c.from_residual-in_err-values.result (ap (λ (s : Solo). let t : Titled = record { key = key; state = s } in t) (ap state_of (unchanged g (slice_set c.grow.new.places.items c.args.index c.start.new.self) c.start.new.log.lines homes c.in_err-values.ensures.err_lines) ∙ grown-state q c.grow.new.places.items c.grow.ensures.grown c.grow.ensures.few) ∙ c.self.view_is)
+
+pub overflow_sub-unanswered : goal.overflow_sub-unanswered
+overflow_sub-unanswered c =
+    let q : Parts = record { ask = c.self.inside.ask; closed = c.self.inside.closed; volume = c.self.inside.volume; revisions = c.self.inside.revisions.items; answers = c.self.inside.answers.items; homes = c.self.inside.places.items; log = c.self.inside.log.lines; broadcasts = c.self.inside.broadcasts.items; ran = c.self.inside.ran; spent = c.self.inside.spent } in
+    let g : Parts = record { ask = c.self.inside.ask; closed = c.self.inside.closed; volume = c.self.inside.volume; revisions = c.self.inside.revisions.items; answers = c.self.inside.answers.items; homes = c.grow.new.places.items; log = c.self.inside.log.lines; broadcasts = c.self.inside.broadcasts.items; ran = c.self.inside.ran; spent = c.self.inside.spent } in
+    let requested : startable (state_of q) c.args.index ≡ true = rw (← c.self.view_is) at c.requires in
+    let kept : IsKept g c.self.inside.empty (vec_capacity c.self.inside.answers) = kept-grown q c.grow.new.places.items c.self.inside.empty (vec_capacity c.self.inside.answers) c.grow.ensures.grown c.grow.ensures.few c.self.invariant in
+    let may : startable (state_of g) c.args.index ≡ true = subst (λ (s : Solo). startable s c.args.index ≡ true) (sym (grown-state q c.grow.new.places.items c.grow.ensures.grown c.grow.ensures.few)) requested in
+    let within : c.args.index < length c.grow.new.places.items = omega (arith, c.in_ok-grow.ensures.ok) in
+    let h : Home = get_or c.grow.new.places.items c.args.index (fresh_home 0) in
+    let here : c.index_mut-place.result.now ≡ h = c.index_mut-place.ensures.value ∙ sym (get_or_default c.grow.new.places.items c.args.index (fresh_home 0) c.index_mut-place.result.now within) in
     let now : c.len-current.result ≡ length c.self.inside.answers.items = omega (arith, c.len-current.ensures) in
-    let begun : HasStarted c.self.inside.revisions.items c.self.inside.answers.items c.self.inside.loaded c.count_clauses.result c.len-current.result c.split_at.result.0.now c.split_at.result.1.now = record {
-      now = now;
-      before = c.split_at.ensures.front ∙ ap (λ (ps : List Posted). take c.self.inside.loaded ps) c.as_slice.ensures.value;
-      behind = c.split_at.ensures.back ∙ ap (λ (ps : List Posted). drop c.self.inside.loaded ps) c.as_slice.ensures.value;
-      counted = c.count_clauses.ensures;
-    } in
-    let made : c.make_ready.new.node.state ≡ readied (paired (clauses_in (take c.self.inside.loaded c.self.inside.revisions.items) + 1) (take (length c.self.inside.answers.items + 1 - c.self.inside.loaded) (drop c.self.inside.loaded c.self.inside.revisions.items))) c.self.inside.node.state = c.in_ok-values.ensures.loaded ∙ ready-is c.self.inside.revisions.items c.self.inside.answers.items c.self.inside.loaded c.count_clauses.result c.len-current.result c.split_at.result.0.now c.split_at.result.1.now c.self.inside.node.state begun in
-    let runs : RunsNow c.make_ready.new.log.lines c.make_ready.new.node.state = runs-now c.self.inside.revisions.items c.self.inside.steps.items c.self.inside.log.lines c.make_ready.new.log.lines (length c.self.inside.answers.items + 1 - c.self.inside.loaded) (readied (paired (clauses_in (take c.self.inside.loaded c.self.inside.revisions.items) + 1) (take (length c.self.inside.answers.items + 1 - c.self.inside.loaded) (drop c.self.inside.loaded c.self.inside.revisions.items))) c.self.inside.node.state) c.make_ready.new.node.state made c.make_ready.ensures.lines (kept-runs c.self.inside.ask c.self.inside.closed c.self.inside.volume c.self.inside.revisions.items c.self.inside.answers.items c.self.inside.steps.items c.self.inside.log.lines c.self.inside.ran c.self.inside.spent c.self.inside.node.state c.self.inside.empty c.self.inside.loaded (vec_capacity c.self.inside.answers) live may c.self.invariant) in
-    runs.counts
-
-pub run_node-empty-requires-clause-apart : goal.run_node-empty-requires-clause-apart
-run_node-empty-requires-clause-apart c =
-    let may : startable (state_of c.self.inside.ask c.self.inside.closed c.self.inside.volume c.self.inside.revisions.items c.self.inside.answers.items c.self.inside.steps.items c.self.inside.log.lines c.self.inside.ran c.self.inside.spent) 0 ≡ true = rw (← c.self.view_is) at c.requires in
-    let live : length c.self.inside.answers.items < length c.self.inside.revisions.items = live-parts (state_of c.self.inside.ask c.self.inside.closed c.self.inside.volume c.self.inside.revisions.items c.self.inside.answers.items c.self.inside.steps.items c.self.inside.log.lines c.self.inside.ran c.self.inside.spent) 0 may in
-    let now : c.len-current.result ≡ length c.self.inside.answers.items = omega (arith, c.len-current.ensures) in
-    let begun : HasStarted c.self.inside.revisions.items c.self.inside.answers.items c.self.inside.loaded c.count_clauses.result c.len-current.result c.split_at.result.0.now c.split_at.result.1.now = record {
-      now = now;
-      before = c.split_at.ensures.front ∙ ap (λ (ps : List Posted). take c.self.inside.loaded ps) c.as_slice.ensures.value;
-      behind = c.split_at.ensures.back ∙ ap (λ (ps : List Posted). drop c.self.inside.loaded ps) c.as_slice.ensures.value;
-      counted = c.count_clauses.ensures;
-    } in
-    let made : c.make_ready.new.node.state ≡ readied (paired (clauses_in (take c.self.inside.loaded c.self.inside.revisions.items) + 1) (take (length c.self.inside.answers.items + 1 - c.self.inside.loaded) (drop c.self.inside.loaded c.self.inside.revisions.items))) c.self.inside.node.state = c.in_ok-values.ensures.loaded ∙ ready-is c.self.inside.revisions.items c.self.inside.answers.items c.self.inside.loaded c.count_clauses.result c.len-current.result c.split_at.result.0.now c.split_at.result.1.now c.self.inside.node.state begun in
-    let runs : RunsNow c.make_ready.new.log.lines c.make_ready.new.node.state = runs-now c.self.inside.revisions.items c.self.inside.steps.items c.self.inside.log.lines c.make_ready.new.log.lines (length c.self.inside.answers.items + 1 - c.self.inside.loaded) (readied (paired (clauses_in (take c.self.inside.loaded c.self.inside.revisions.items) + 1) (take (length c.self.inside.answers.items + 1 - c.self.inside.loaded) (drop c.self.inside.loaded c.self.inside.revisions.items))) c.self.inside.node.state) c.make_ready.new.node.state made c.make_ready.ensures.lines (kept-runs c.self.inside.ask c.self.inside.closed c.self.inside.volume c.self.inside.revisions.items c.self.inside.answers.items c.self.inside.steps.items c.self.inside.log.lines c.self.inside.ran c.self.inside.spent c.self.inside.node.state c.self.inside.empty c.self.inside.loaded (vec_capacity c.self.inside.answers) live may c.self.invariant) in
-    runs.orderly.apart
-
-pub run_node-empty-requires-clause-above : goal.run_node-empty-requires-clause-above
-run_node-empty-requires-clause-above c =
-    let may : startable (state_of c.self.inside.ask c.self.inside.closed c.self.inside.volume c.self.inside.revisions.items c.self.inside.answers.items c.self.inside.steps.items c.self.inside.log.lines c.self.inside.ran c.self.inside.spent) 0 ≡ true = rw (← c.self.view_is) at c.requires in
-    let live : length c.self.inside.answers.items < length c.self.inside.revisions.items = live-parts (state_of c.self.inside.ask c.self.inside.closed c.self.inside.volume c.self.inside.revisions.items c.self.inside.answers.items c.self.inside.steps.items c.self.inside.log.lines c.self.inside.ran c.self.inside.spent) 0 may in
-    let now : c.len-current.result ≡ length c.self.inside.answers.items = omega (arith, c.len-current.ensures) in
-    let begun : HasStarted c.self.inside.revisions.items c.self.inside.answers.items c.self.inside.loaded c.count_clauses.result c.len-current.result c.split_at.result.0.now c.split_at.result.1.now = record {
-      now = now;
-      before = c.split_at.ensures.front ∙ ap (λ (ps : List Posted). take c.self.inside.loaded ps) c.as_slice.ensures.value;
-      behind = c.split_at.ensures.back ∙ ap (λ (ps : List Posted). drop c.self.inside.loaded ps) c.as_slice.ensures.value;
-      counted = c.count_clauses.ensures;
-    } in
-    let made : c.make_ready.new.node.state ≡ readied (paired (clauses_in (take c.self.inside.loaded c.self.inside.revisions.items) + 1) (take (length c.self.inside.answers.items + 1 - c.self.inside.loaded) (drop c.self.inside.loaded c.self.inside.revisions.items))) c.self.inside.node.state = c.in_ok-values.ensures.loaded ∙ ready-is c.self.inside.revisions.items c.self.inside.answers.items c.self.inside.loaded c.count_clauses.result c.len-current.result c.split_at.result.0.now c.split_at.result.1.now c.self.inside.node.state begun in
-    let runs : RunsNow c.make_ready.new.log.lines c.make_ready.new.node.state = runs-now c.self.inside.revisions.items c.self.inside.steps.items c.self.inside.log.lines c.make_ready.new.log.lines (length c.self.inside.answers.items + 1 - c.self.inside.loaded) (readied (paired (clauses_in (take c.self.inside.loaded c.self.inside.revisions.items) + 1) (take (length c.self.inside.answers.items + 1 - c.self.inside.loaded) (drop c.self.inside.loaded c.self.inside.revisions.items))) c.self.inside.node.state) c.make_ready.new.node.state made c.make_ready.ensures.lines (kept-runs c.self.inside.ask c.self.inside.closed c.self.inside.volume c.self.inside.revisions.items c.self.inside.answers.items c.self.inside.steps.items c.self.inside.log.lines c.self.inside.ran c.self.inside.spent c.self.inside.node.state c.self.inside.empty c.self.inside.loaded (vec_capacity c.self.inside.answers) live may c.self.invariant) in
-    runs.orderly.above
-
-pub conclude-requires-clause-model_room : goal.conclude-requires-clause-model_room
-conclude-requires-clause-model_room c =
-    let same = ap (λ (n : Node). n.variables) c.run_node-empty.ensures.node ∙ (slice-leaves c.make_ready.new.node.state).variables in
-    omega (arith, same, c.in_ok-values.ensures.values)
+    let x : Sliced = slice (ready_of h c.self.inside.revisions.items (length c.self.inside.answers.items) c.self.inside.broadcasts.items) in
+    let run : Home = run_home h c.self.inside.revisions.items (length c.self.inside.answers.items) c.self.inside.broadcasts.items in
+    let ran : c.start.new.self ≡ run = c.in_ok-values.ensures.ok ∙ run-by c.index_mut-place.result.now h c.as_slice.result.now c.self.inside.revisions.items c.len-current.result (length c.self.inside.answers.items) c.as_slice-2.result.now c.self.inside.broadcasts.items here c.as_slice.ensures.value now c.as_slice-2.ensures.value in
+    let sliced = ready-by c.index_mut-place.result.now h c.as_slice.result.now c.self.inside.revisions.items c.len-current.result (length c.self.inside.answers.items) c.as_slice-2.result.now c.self.inside.broadcasts.items here c.as_slice.ensures.value now c.as_slice-2.ensures.value in
+    let node : c.node.result.now.state ≡ x.node = c.node.ensures ∙ ap (λ (k : Home). k.node) ran in
+    let gave : c.conclude.new.answers.items ≡ given g x = c.conclude.ensures.answers ∙ (ap (λ (n : Node). c.self.inside.answers.items ++ new_answers n.verdict n c.slices-slices.result c.self.inside.spent) node ∙ ap (λ (m : ℕ). c.self.inside.answers.items ++ new_answers x.node.verdict x.node m c.self.inside.spent) c.slices-slices.ensures.value) in
+    let count : length c.conclude.new.answers.items ≡ length (given g x) = ap (λ (xs : List Answer). length xs) gave in
+    let order : length (given g x) ≤ length c.self.inside.revisions.items = given-order g c.self.inside.empty (vec_capacity c.self.inside.answers) c.args.index kept may within in
+    omega (arith, c.len.ensures, c.len-2.ensures, count, order)
 
 pub invariant_of-self-2 : goal.invariant_of-self-2
 invariant_of-self-2 c =
-    let may : startable (state_of c.self.inside.ask c.self.inside.closed c.self.inside.volume c.self.inside.revisions.items c.self.inside.answers.items c.self.inside.steps.items c.self.inside.log.lines c.self.inside.ran c.self.inside.spent) 0 ≡ true = rw (← c.self.view_is) at c.requires in
-    let live : length c.self.inside.answers.items < length c.self.inside.revisions.items = live-parts (state_of c.self.inside.ask c.self.inside.closed c.self.inside.volume c.self.inside.revisions.items c.self.inside.answers.items c.self.inside.steps.items c.self.inside.log.lines c.self.inside.ran c.self.inside.spent) 0 may in
+    let q : Parts = record { ask = c.self.inside.ask; closed = c.self.inside.closed; volume = c.self.inside.volume; revisions = c.self.inside.revisions.items; answers = c.self.inside.answers.items; homes = c.self.inside.places.items; log = c.self.inside.log.lines; broadcasts = c.self.inside.broadcasts.items; ran = c.self.inside.ran; spent = c.self.inside.spent } in
+    let g : Parts = record { ask = c.self.inside.ask; closed = c.self.inside.closed; volume = c.self.inside.volume; revisions = c.self.inside.revisions.items; answers = c.self.inside.answers.items; homes = c.grow.new.places.items; log = c.self.inside.log.lines; broadcasts = c.self.inside.broadcasts.items; ran = c.self.inside.ran; spent = c.self.inside.spent } in
+    let requested : startable (state_of q) c.args.index ≡ true = rw (← c.self.view_is) at c.requires in
+    let kept : IsKept g c.self.inside.empty (vec_capacity c.self.inside.answers) = kept-grown q c.grow.new.places.items c.self.inside.empty (vec_capacity c.self.inside.answers) c.grow.ensures.grown c.grow.ensures.few c.self.invariant in
+    let may : startable (state_of g) c.args.index ≡ true = subst (λ (s : Solo). startable s c.args.index ≡ true) (sym (grown-state q c.grow.new.places.items c.grow.ensures.grown c.grow.ensures.few)) requested in
+    let within : c.args.index < length c.grow.new.places.items = omega (arith, c.in_ok-grow.ensures.ok) in
+    let h : Home = get_or c.grow.new.places.items c.args.index (fresh_home 0) in
+    let here : c.index_mut-place.result.now ≡ h = c.index_mut-place.ensures.value ∙ sym (get_or_default c.grow.new.places.items c.args.index (fresh_home 0) c.index_mut-place.result.now within) in
     let now : c.len-current.result ≡ length c.self.inside.answers.items = omega (arith, c.len-current.ensures) in
-    let begun : HasStarted c.self.inside.revisions.items c.self.inside.answers.items c.self.inside.loaded c.count_clauses.result c.len-current.result c.split_at.result.0.now c.split_at.result.1.now = record {
-      now = now;
-      before = c.split_at.ensures.front ∙ ap (λ (ps : List Posted). take c.self.inside.loaded ps) c.as_slice.ensures.value;
-      behind = c.split_at.ensures.back ∙ ap (λ (ps : List Posted). drop c.self.inside.loaded ps) c.as_slice.ensures.value;
-      counted = c.count_clauses.ensures;
-    } in
-    let made : c.make_ready.new.node.state ≡ readied (paired (clauses_in (take c.self.inside.loaded c.self.inside.revisions.items) + 1) (take (length c.self.inside.answers.items + 1 - c.self.inside.loaded) (drop c.self.inside.loaded c.self.inside.revisions.items))) c.self.inside.node.state = c.in_ok-values.ensures.loaded ∙ ready-is c.self.inside.revisions.items c.self.inside.answers.items c.self.inside.loaded c.count_clauses.result c.len-current.result c.split_at.result.0.now c.split_at.result.1.now c.self.inside.node.state begun in
-    let ended : HasEnded c.self.inside.ask.slices c.self.inside.revisions.items c.self.inside.answers.items c.self.inside.steps.items c.self.inside.log.lines c.self.inside.spent c.self.inside.empty (length c.self.inside.answers.items + 1 - c.self.inside.loaded) (readied (paired (clauses_in (take c.self.inside.loaded c.self.inside.revisions.items) + 1) (take (length c.self.inside.answers.items + 1 - c.self.inside.loaded) (drop c.self.inside.loaded c.self.inside.revisions.items))) c.self.inside.node.state) c.run_node-empty.new.node.state c.or-self-inside.result c.conclude.new.answers.items c.settle.new.answers.items c.enter_start.new.steps.items c.run_node-empty.new.log.lines c.conclude.new.spent c.settle.new.spent (c.len.result - c.len-2.result) = record {
-      ran = c.run_node-empty.ensures.node ∙ ap (λ (n : Node). (slice n).node) made;
-      lines = c.run_node-empty.ensures.lines ∙ (ap (λ (ls : List Line). ls ++ (slice c.make_ready.new.node.state).lines) c.make_ready.ensures.lines ∙ ap (λ (n : Node). c.self.inside.log.lines ++ (slice n).lines) made);
-      first = c.or-self-inside.ensures ∙ ap (λ (o : Option ℕ). option_or c.self.inside.empty o) (c.run_node-empty.ensures.empty ∙ ap (λ (n : Node). first_empty (slice n).lines) made);
-      started = c.enter_start.ensures ∙ (ap (λ (ss : List Step). ss ++ start_steps (c.len-current.result + 1 - c.self.inside.loaded)) c.in_ok-reserve.ensures.items ∙ ap (λ (j : ℕ). c.self.inside.steps.items ++ start_steps (j + 1 - c.self.inside.loaded)) now);
-      gave = c.conclude.ensures.answers ∙ ap (λ (m : ℕ). c.self.inside.answers.items ++ new_answers c.run_node-empty.new.node.state.verdict c.run_node-empty.new.node.state m c.self.inside.spent) c.slices-slices.ensures.value;
-      counted = c.conclude.ensures.spent ∙ ap (λ (m : ℕ). new_spent c.run_node-empty.new.node.state.verdict m c.self.inside.spent) c.slices-slices.ensures.value;
-      settled = c.settle.ensures.answers;
-      cleared = c.settle.ensures.spent;
-      left = omega (arith, c.len.ensures, c.len-2.ensures);
-    } in
+    let x : Sliced = slice (ready_of h c.self.inside.revisions.items (length c.self.inside.answers.items) c.self.inside.broadcasts.items) in
+    let run : Home = run_home h c.self.inside.revisions.items (length c.self.inside.answers.items) c.self.inside.broadcasts.items in
+    let ran : c.start.new.self ≡ run = c.in_ok-values.ensures.ok ∙ run-by c.index_mut-place.result.now h c.as_slice.result.now c.self.inside.revisions.items c.len-current.result (length c.self.inside.answers.items) c.as_slice-2.result.now c.self.inside.broadcasts.items here c.as_slice.ensures.value now c.as_slice-2.ensures.value in
+    let sliced = ready-by c.index_mut-place.result.now h c.as_slice.result.now c.self.inside.revisions.items c.len-current.result (length c.self.inside.answers.items) c.as_slice-2.result.now c.self.inside.broadcasts.items here c.as_slice.ensures.value now c.as_slice-2.ensures.value in
+    let node : c.node.result.now.state ≡ x.node = c.node.ensures ∙ ap (λ (k : Home). k.node) ran in
+    let gave : c.conclude.new.answers.items ≡ given g x = c.conclude.ensures.answers ∙ (ap (λ (n : Node). c.self.inside.answers.items ++ new_answers n.verdict n c.slices-slices.result c.self.inside.spent) node ∙ ap (λ (m : ℕ). c.self.inside.answers.items ++ new_answers x.node.verdict x.node m c.self.inside.spent) c.slices-slices.ensures.value) in
+    let counted : c.conclude.new.spent ≡ new_spent x.node.verdict c.self.inside.ask.slices c.self.inside.spent = c.conclude.ensures.spent ∙ (ap (λ (n : Node). new_spent n.verdict c.slices-slices.result c.self.inside.spent) node ∙ ap (λ (m : ℕ). new_spent x.node.verdict m c.self.inside.spent) c.slices-slices.ensures.value) in
+    let lines : c.start.new.log.lines ≡ c.self.inside.log.lines ++ x.lines = c.in_ok-values.ensures.lines ∙ ap (λ (y : Sliced). c.self.inside.log.lines ++ y.lines) sliced in
+    let first : c.or-self-inside.result ≡ option_or c.self.inside.empty (first_empty x.lines) = c.or-self-inside.ensures ∙ ap (λ (o : Option ℕ). option_or c.self.inside.empty o) (c.in_ok-values.ensures.empty ∙ ap (λ (y : Sliced). first_empty y.lines) sliced) in
+    let left : c.len.result - c.len-2.result ≡ length c.self.inside.revisions.items - length c.conclude.new.answers.items = omega (arith, c.len.ensures, c.len-2.ensures) in
+    let homes : slice_set c.grow.new.places.items c.args.index c.start.new.self ≡ slice_set c.grow.new.places.items c.args.index run = ap (λ (k : Home). slice_set c.grow.new.places.items c.args.index k) ran in
+    let done : Parts = record { ask = c.self.inside.ask; closed = c.self.inside.closed; volume = c.self.inside.volume; revisions = c.self.inside.revisions.items; answers = c.settle.new.answers.items; homes = slice_set c.grow.new.places.items c.args.index c.start.new.self; log = c.start.new.log.lines; broadcasts = c.self.inside.broadcasts.items; ran = c.self.inside.ran + 1; spent = c.settle.new.spent } in
+    let same : done ≡ ended g c.args.index run x c.or-self-inside.result = ended-is g c.args.index run x c.or-self-inside.result c.conclude.new.answers.items c.settle.new.answers.items (slice_set c.grow.new.places.items c.args.index c.start.new.self) c.start.new.log.lines c.conclude.new.spent c.settle.new.spent (c.len.result - c.len-2.result) gave counted c.settle.ensures.answers c.settle.ensures.spent left homes lines in
+    let all : done ≡ ended g c.args.index run x (option_or c.self.inside.empty (first_empty x.lines)) = same ∙ ap (λ (o : Option ℕ). ended g c.args.index run x o) first in
     let wide : vec_capacity c.self.inside.answers ≤ vec_capacity c.settle.new.answers = omega (arith, c.settle.ensures.room, c.conclude.ensures.room) in
-    subst (λ (j : ℕ). IsKept (state_of c.self.inside.ask c.self.inside.closed c.self.inside.volume c.self.inside.revisions.items c.settle.new.answers.items c.enter_start.new.steps.items c.run_node-empty.new.log.lines (c.self.inside.ran + 1) c.settle.new.spent) c.run_node-empty.new.node.state c.or-self-inside.result c.enter_start.new.steps.items (j + 1) (vec_capacity c.settle.new.answers)) (sym now) (kept-ended c.self.inside.ask c.self.inside.closed c.self.inside.volume c.self.inside.revisions.items c.self.inside.answers.items c.self.inside.steps.items c.self.inside.log.lines c.self.inside.ran c.self.inside.spent c.self.inside.empty c.self.inside.loaded (vec_capacity c.self.inside.answers) c.self.inside.node.state c.run_node-empty.new.node.state c.or-self-inside.result c.conclude.new.answers.items c.settle.new.answers.items c.enter_start.new.steps.items c.run_node-empty.new.log.lines c.conclude.new.spent c.settle.new.spent (c.len.result - c.len-2.result) (vec_capacity c.settle.new.answers) live may c.self.invariant wide ended)
+    subst (λ (t : Parts). IsKept t c.or-self-inside.result (vec_capacity c.settle.new.answers)) (sym all) (subst (λ (o : Option ℕ). IsKept (ended g c.args.index run x (option_or c.self.inside.empty (first_empty x.lines))) o (vec_capacity c.settle.new.answers)) (sym first) (kept-ended g c.self.inside.empty (vec_capacity c.self.inside.answers) c.args.index kept may within (vec_capacity c.settle.new.answers) wide))
 
 pub returns-clause-ok : goal.returns-clause-ok
 returns-clause-ok c =
-    let may : startable (state_of c.self.inside.ask c.self.inside.closed c.self.inside.volume c.self.inside.revisions.items c.self.inside.answers.items c.self.inside.steps.items c.self.inside.log.lines c.self.inside.ran c.self.inside.spent) 0 ≡ true = rw (← c.self.view_is) at c.requires in
-    let live : length c.self.inside.answers.items < length c.self.inside.revisions.items = live-parts (state_of c.self.inside.ask c.self.inside.closed c.self.inside.volume c.self.inside.revisions.items c.self.inside.answers.items c.self.inside.steps.items c.self.inside.log.lines c.self.inside.ran c.self.inside.spent) 0 may in
+    let q : Parts = record { ask = c.self.inside.ask; closed = c.self.inside.closed; volume = c.self.inside.volume; revisions = c.self.inside.revisions.items; answers = c.self.inside.answers.items; homes = c.self.inside.places.items; log = c.self.inside.log.lines; broadcasts = c.self.inside.broadcasts.items; ran = c.self.inside.ran; spent = c.self.inside.spent } in
+    let g : Parts = record { ask = c.self.inside.ask; closed = c.self.inside.closed; volume = c.self.inside.volume; revisions = c.self.inside.revisions.items; answers = c.self.inside.answers.items; homes = c.grow.new.places.items; log = c.self.inside.log.lines; broadcasts = c.self.inside.broadcasts.items; ran = c.self.inside.ran; spent = c.self.inside.spent } in
+    let requested : startable (state_of q) c.args.index ≡ true = rw (← c.self.view_is) at c.requires in
+    let kept : IsKept g c.self.inside.empty (vec_capacity c.self.inside.answers) = kept-grown q c.grow.new.places.items c.self.inside.empty (vec_capacity c.self.inside.answers) c.grow.ensures.grown c.grow.ensures.few c.self.invariant in
+    let may : startable (state_of g) c.args.index ≡ true = subst (λ (s : Solo). startable s c.args.index ≡ true) (sym (grown-state q c.grow.new.places.items c.grow.ensures.grown c.grow.ensures.few)) requested in
+    let within : c.args.index < length c.grow.new.places.items = omega (arith, c.in_ok-grow.ensures.ok) in
+    let h : Home = get_or c.grow.new.places.items c.args.index (fresh_home 0) in
+    let here : c.index_mut-place.result.now ≡ h = c.index_mut-place.ensures.value ∙ sym (get_or_default c.grow.new.places.items c.args.index (fresh_home 0) c.index_mut-place.result.now within) in
     let now : c.len-current.result ≡ length c.self.inside.answers.items = omega (arith, c.len-current.ensures) in
-    let begun : HasStarted c.self.inside.revisions.items c.self.inside.answers.items c.self.inside.loaded c.count_clauses.result c.len-current.result c.split_at.result.0.now c.split_at.result.1.now = record {
-      now = now;
-      before = c.split_at.ensures.front ∙ ap (λ (ps : List Posted). take c.self.inside.loaded ps) c.as_slice.ensures.value;
-      behind = c.split_at.ensures.back ∙ ap (λ (ps : List Posted). drop c.self.inside.loaded ps) c.as_slice.ensures.value;
-      counted = c.count_clauses.ensures;
-    } in
-    let made : c.make_ready.new.node.state ≡ readied (paired (clauses_in (take c.self.inside.loaded c.self.inside.revisions.items) + 1) (take (length c.self.inside.answers.items + 1 - c.self.inside.loaded) (drop c.self.inside.loaded c.self.inside.revisions.items))) c.self.inside.node.state = c.in_ok-values.ensures.loaded ∙ ready-is c.self.inside.revisions.items c.self.inside.answers.items c.self.inside.loaded c.count_clauses.result c.len-current.result c.split_at.result.0.now c.split_at.result.1.now c.self.inside.node.state begun in
-    let ended : HasEnded c.self.inside.ask.slices c.self.inside.revisions.items c.self.inside.answers.items c.self.inside.steps.items c.self.inside.log.lines c.self.inside.spent c.self.inside.empty (length c.self.inside.answers.items + 1 - c.self.inside.loaded) (readied (paired (clauses_in (take c.self.inside.loaded c.self.inside.revisions.items) + 1) (take (length c.self.inside.answers.items + 1 - c.self.inside.loaded) (drop c.self.inside.loaded c.self.inside.revisions.items))) c.self.inside.node.state) c.run_node-empty.new.node.state c.or-self-inside.result c.conclude.new.answers.items c.settle.new.answers.items c.enter_start.new.steps.items c.run_node-empty.new.log.lines c.conclude.new.spent c.settle.new.spent (c.len.result - c.len-2.result) = record {
-      ran = c.run_node-empty.ensures.node ∙ ap (λ (n : Node). (slice n).node) made;
-      lines = c.run_node-empty.ensures.lines ∙ (ap (λ (ls : List Line). ls ++ (slice c.make_ready.new.node.state).lines) c.make_ready.ensures.lines ∙ ap (λ (n : Node). c.self.inside.log.lines ++ (slice n).lines) made);
-      first = c.or-self-inside.ensures ∙ ap (λ (o : Option ℕ). option_or c.self.inside.empty o) (c.run_node-empty.ensures.empty ∙ ap (λ (n : Node). first_empty (slice n).lines) made);
-      started = c.enter_start.ensures ∙ (ap (λ (ss : List Step). ss ++ start_steps (c.len-current.result + 1 - c.self.inside.loaded)) c.in_ok-reserve.ensures.items ∙ ap (λ (j : ℕ). c.self.inside.steps.items ++ start_steps (j + 1 - c.self.inside.loaded)) now);
-      gave = c.conclude.ensures.answers ∙ ap (λ (m : ℕ). c.self.inside.answers.items ++ new_answers c.run_node-empty.new.node.state.verdict c.run_node-empty.new.node.state m c.self.inside.spent) c.slices-slices.ensures.value;
-      counted = c.conclude.ensures.spent ∙ ap (λ (m : ℕ). new_spent c.run_node-empty.new.node.state.verdict m c.self.inside.spent) c.slices-slices.ensures.value;
-      settled = c.settle.ensures.answers;
-      cleared = c.settle.ensures.spent;
-      left = omega (arith, c.len.ensures, c.len-2.ensures);
-    } in
+    let x : Sliced = slice (ready_of h c.self.inside.revisions.items (length c.self.inside.answers.items) c.self.inside.broadcasts.items) in
+    let run : Home = run_home h c.self.inside.revisions.items (length c.self.inside.answers.items) c.self.inside.broadcasts.items in
+    let ran : c.start.new.self ≡ run = c.in_ok-values.ensures.ok ∙ run-by c.index_mut-place.result.now h c.as_slice.result.now c.self.inside.revisions.items c.len-current.result (length c.self.inside.answers.items) c.as_slice-2.result.now c.self.inside.broadcasts.items here c.as_slice.ensures.value now c.as_slice-2.ensures.value in
+    let sliced = ready-by c.index_mut-place.result.now h c.as_slice.result.now c.self.inside.revisions.items c.len-current.result (length c.self.inside.answers.items) c.as_slice-2.result.now c.self.inside.broadcasts.items here c.as_slice.ensures.value now c.as_slice-2.ensures.value in
+    let node : c.node.result.now.state ≡ x.node = c.node.ensures ∙ ap (λ (k : Home). k.node) ran in
+    let gave : c.conclude.new.answers.items ≡ given g x = c.conclude.ensures.answers ∙ (ap (λ (n : Node). c.self.inside.answers.items ++ new_answers n.verdict n c.slices-slices.result c.self.inside.spent) node ∙ ap (λ (m : ℕ). c.self.inside.answers.items ++ new_answers x.node.verdict x.node m c.self.inside.spent) c.slices-slices.ensures.value) in
+    let counted : c.conclude.new.spent ≡ new_spent x.node.verdict c.self.inside.ask.slices c.self.inside.spent = c.conclude.ensures.spent ∙ (ap (λ (n : Node). new_spent n.verdict c.slices-slices.result c.self.inside.spent) node ∙ ap (λ (m : ℕ). new_spent x.node.verdict m c.self.inside.spent) c.slices-slices.ensures.value) in
+    let lines : c.start.new.log.lines ≡ c.self.inside.log.lines ++ x.lines = c.in_ok-values.ensures.lines ∙ ap (λ (y : Sliced). c.self.inside.log.lines ++ y.lines) sliced in
+    let first : c.or-self-inside.result ≡ option_or c.self.inside.empty (first_empty x.lines) = c.or-self-inside.ensures ∙ ap (λ (o : Option ℕ). option_or c.self.inside.empty o) (c.in_ok-values.ensures.empty ∙ ap (λ (y : Sliced). first_empty y.lines) sliced) in
+    let left : c.len.result - c.len-2.result ≡ length c.self.inside.revisions.items - length c.conclude.new.answers.items = omega (arith, c.len.ensures, c.len-2.ensures) in
+    let homes : slice_set c.grow.new.places.items c.args.index c.start.new.self ≡ slice_set c.grow.new.places.items c.args.index run = ap (λ (k : Home). slice_set c.grow.new.places.items c.args.index k) ran in
+    let done : Parts = record { ask = c.self.inside.ask; closed = c.self.inside.closed; volume = c.self.inside.volume; revisions = c.self.inside.revisions.items; answers = c.settle.new.answers.items; homes = slice_set c.grow.new.places.items c.args.index c.start.new.self; log = c.start.new.log.lines; broadcasts = c.self.inside.broadcasts.items; ran = c.self.inside.ran + 1; spent = c.settle.new.spent } in
+    let same : done ≡ ended g c.args.index run x c.or-self-inside.result = ended-is g c.args.index run x c.or-self-inside.result c.conclude.new.answers.items c.settle.new.answers.items (slice_set c.grow.new.places.items c.args.index c.start.new.self) c.start.new.log.lines c.conclude.new.spent c.settle.new.spent (c.len.result - c.len-2.result) gave counted c.settle.ensures.answers c.settle.ensures.spent left homes lines in
+    let all : done ≡ ended g c.args.index run x (option_or c.self.inside.empty (first_empty x.lines)) = same ∙ ap (λ (o : Option ℕ). ended g c.args.index run x o) first in
     let key : Key = record { tenant = c.self.inside.tenant; job = c.self.inside.name } in
-    let state = ended-state c.self.inside.ask c.self.inside.closed c.self.inside.volume c.self.inside.revisions.items c.self.inside.answers.items c.self.inside.steps.items c.self.inside.log.lines c.self.inside.ran c.self.inside.spent c.self.inside.empty c.self.inside.loaded (vec_capacity c.self.inside.answers) c.self.inside.node.state c.run_node-empty.new.node.state c.or-self-inside.result c.conclude.new.answers.items c.settle.new.answers.items c.enter_start.new.steps.items c.run_node-empty.new.log.lines c.conclude.new.spent c.settle.new.spent (c.len.result - c.len-2.result) live may c.self.invariant ended in
-    ap (λ (s : Solo). let t : Titled = record { key = key; state = s } in t) (sym state) ∙ ap (λ (t : Titled). stepped (stepped t (Started 0)) (Finished 0 Ran)) c.self.view_is
+    let state = ap state_of all ∙ (sym (ended-state g c.self.inside.empty (vec_capacity c.self.inside.answers) c.args.index kept may within) ∙ ap (λ (s : Solo). solo_step (solo_step s (Started c.args.index)) (Finished c.args.index Ran)) (grown-state q c.grow.new.places.items c.grow.ensures.grown c.grow.ensures.few)) in
+    ap (λ (s : Solo). let t : Titled = record { key = key; state = s } in t) state ∙ ap (λ (t : Titled). stepped (stepped t (Started c.args.index)) (Finished c.args.index Ran)) c.self.view_is
 
 pub returns-clause-less : goal.returns-clause-less
 returns-clause-less c =
-    let may : startable (state_of c.self.inside.ask c.self.inside.closed c.self.inside.volume c.self.inside.revisions.items c.self.inside.answers.items c.self.inside.steps.items c.self.inside.log.lines c.self.inside.ran c.self.inside.spent) 0 ≡ true = rw (← c.self.view_is) at c.requires in
-    let live : length c.self.inside.answers.items < length c.self.inside.revisions.items = live-parts (state_of c.self.inside.ask c.self.inside.closed c.self.inside.volume c.self.inside.revisions.items c.self.inside.answers.items c.self.inside.steps.items c.self.inside.log.lines c.self.inside.ran c.self.inside.spent) 0 may in
+    let q : Parts = record { ask = c.self.inside.ask; closed = c.self.inside.closed; volume = c.self.inside.volume; revisions = c.self.inside.revisions.items; answers = c.self.inside.answers.items; homes = c.self.inside.places.items; log = c.self.inside.log.lines; broadcasts = c.self.inside.broadcasts.items; ran = c.self.inside.ran; spent = c.self.inside.spent } in
+    let g : Parts = record { ask = c.self.inside.ask; closed = c.self.inside.closed; volume = c.self.inside.volume; revisions = c.self.inside.revisions.items; answers = c.self.inside.answers.items; homes = c.grow.new.places.items; log = c.self.inside.log.lines; broadcasts = c.self.inside.broadcasts.items; ran = c.self.inside.ran; spent = c.self.inside.spent } in
+    let requested : startable (state_of q) c.args.index ≡ true = rw (← c.self.view_is) at c.requires in
+    let kept : IsKept g c.self.inside.empty (vec_capacity c.self.inside.answers) = kept-grown q c.grow.new.places.items c.self.inside.empty (vec_capacity c.self.inside.answers) c.grow.ensures.grown c.grow.ensures.few c.self.invariant in
+    let may : startable (state_of g) c.args.index ≡ true = subst (λ (s : Solo). startable s c.args.index ≡ true) (sym (grown-state q c.grow.new.places.items c.grow.ensures.grown c.grow.ensures.few)) requested in
+    let within : c.args.index < length c.grow.new.places.items = omega (arith, c.in_ok-grow.ensures.ok) in
+    let h : Home = get_or c.grow.new.places.items c.args.index (fresh_home 0) in
+    let here : c.index_mut-place.result.now ≡ h = c.index_mut-place.ensures.value ∙ sym (get_or_default c.grow.new.places.items c.args.index (fresh_home 0) c.index_mut-place.result.now within) in
     let now : c.len-current.result ≡ length c.self.inside.answers.items = omega (arith, c.len-current.ensures) in
-    let begun : HasStarted c.self.inside.revisions.items c.self.inside.answers.items c.self.inside.loaded c.count_clauses.result c.len-current.result c.split_at.result.0.now c.split_at.result.1.now = record {
-      now = now;
-      before = c.split_at.ensures.front ∙ ap (λ (ps : List Posted). take c.self.inside.loaded ps) c.as_slice.ensures.value;
-      behind = c.split_at.ensures.back ∙ ap (λ (ps : List Posted). drop c.self.inside.loaded ps) c.as_slice.ensures.value;
-      counted = c.count_clauses.ensures;
-    } in
-    let made : c.make_ready.new.node.state ≡ readied (paired (clauses_in (take c.self.inside.loaded c.self.inside.revisions.items) + 1) (take (length c.self.inside.answers.items + 1 - c.self.inside.loaded) (drop c.self.inside.loaded c.self.inside.revisions.items))) c.self.inside.node.state = c.in_ok-values.ensures.loaded ∙ ready-is c.self.inside.revisions.items c.self.inside.answers.items c.self.inside.loaded c.count_clauses.result c.len-current.result c.split_at.result.0.now c.split_at.result.1.now c.self.inside.node.state begun in
-    let ended : HasEnded c.self.inside.ask.slices c.self.inside.revisions.items c.self.inside.answers.items c.self.inside.steps.items c.self.inside.log.lines c.self.inside.spent c.self.inside.empty (length c.self.inside.answers.items + 1 - c.self.inside.loaded) (readied (paired (clauses_in (take c.self.inside.loaded c.self.inside.revisions.items) + 1) (take (length c.self.inside.answers.items + 1 - c.self.inside.loaded) (drop c.self.inside.loaded c.self.inside.revisions.items))) c.self.inside.node.state) c.run_node-empty.new.node.state c.or-self-inside.result c.conclude.new.answers.items c.settle.new.answers.items c.enter_start.new.steps.items c.run_node-empty.new.log.lines c.conclude.new.spent c.settle.new.spent (c.len.result - c.len-2.result) = record {
-      ran = c.run_node-empty.ensures.node ∙ ap (λ (n : Node). (slice n).node) made;
-      lines = c.run_node-empty.ensures.lines ∙ (ap (λ (ls : List Line). ls ++ (slice c.make_ready.new.node.state).lines) c.make_ready.ensures.lines ∙ ap (λ (n : Node). c.self.inside.log.lines ++ (slice n).lines) made);
-      first = c.or-self-inside.ensures ∙ ap (λ (o : Option ℕ). option_or c.self.inside.empty o) (c.run_node-empty.ensures.empty ∙ ap (λ (n : Node). first_empty (slice n).lines) made);
-      started = c.enter_start.ensures ∙ (ap (λ (ss : List Step). ss ++ start_steps (c.len-current.result + 1 - c.self.inside.loaded)) c.in_ok-reserve.ensures.items ∙ ap (λ (j : ℕ). c.self.inside.steps.items ++ start_steps (j + 1 - c.self.inside.loaded)) now);
-      gave = c.conclude.ensures.answers ∙ ap (λ (m : ℕ). c.self.inside.answers.items ++ new_answers c.run_node-empty.new.node.state.verdict c.run_node-empty.new.node.state m c.self.inside.spent) c.slices-slices.ensures.value;
-      counted = c.conclude.ensures.spent ∙ ap (λ (m : ℕ). new_spent c.run_node-empty.new.node.state.verdict m c.self.inside.spent) c.slices-slices.ensures.value;
-      settled = c.settle.ensures.answers;
-      cleared = c.settle.ensures.spent;
-      left = omega (arith, c.len.ensures, c.len-2.ensures);
-    } in
-    let counts = ended-counts c.self.inside.ask.slices c.self.inside.revisions.items c.self.inside.answers.items c.self.inside.steps.items c.self.inside.log.lines c.self.inside.ran c.self.inside.spent c.self.inside.empty (length c.self.inside.answers.items + 1 - c.self.inside.loaded) (readied (paired (clauses_in (take c.self.inside.loaded c.self.inside.revisions.items) + 1) (take (length c.self.inside.answers.items + 1 - c.self.inside.loaded) (drop c.self.inside.loaded c.self.inside.revisions.items))) c.self.inside.node.state) c.run_node-empty.new.node.state c.or-self-inside.result c.conclude.new.answers.items c.settle.new.answers.items c.enter_start.new.steps.items c.run_node-empty.new.log.lines c.conclude.new.spent c.settle.new.spent (c.len.result - c.len-2.result) live (record { budget = c.self.invariant.budget; left = c.self.invariant.left; order = c.self.invariant.answers }) ended in
-    rw (← c.self.view_is) (left-less (length c.self.inside.revisions.items) (length c.self.inside.answers.items) (length c.settle.new.answers.items) c.self.inside.ask.slices c.self.inside.ran c.self.inside.spent c.settle.new.spent live c.self.invariant.left counts)
+    let x : Sliced = slice (ready_of h c.self.inside.revisions.items (length c.self.inside.answers.items) c.self.inside.broadcasts.items) in
+    let run : Home = run_home h c.self.inside.revisions.items (length c.self.inside.answers.items) c.self.inside.broadcasts.items in
+    let ran : c.start.new.self ≡ run = c.in_ok-values.ensures.ok ∙ run-by c.index_mut-place.result.now h c.as_slice.result.now c.self.inside.revisions.items c.len-current.result (length c.self.inside.answers.items) c.as_slice-2.result.now c.self.inside.broadcasts.items here c.as_slice.ensures.value now c.as_slice-2.ensures.value in
+    let sliced = ready-by c.index_mut-place.result.now h c.as_slice.result.now c.self.inside.revisions.items c.len-current.result (length c.self.inside.answers.items) c.as_slice-2.result.now c.self.inside.broadcasts.items here c.as_slice.ensures.value now c.as_slice-2.ensures.value in
+    let node : c.node.result.now.state ≡ x.node = c.node.ensures ∙ ap (λ (k : Home). k.node) ran in
+    let gave : c.conclude.new.answers.items ≡ given g x = c.conclude.ensures.answers ∙ (ap (λ (n : Node). c.self.inside.answers.items ++ new_answers n.verdict n c.slices-slices.result c.self.inside.spent) node ∙ ap (λ (m : ℕ). c.self.inside.answers.items ++ new_answers x.node.verdict x.node m c.self.inside.spent) c.slices-slices.ensures.value) in
+    let counted : c.conclude.new.spent ≡ new_spent x.node.verdict c.self.inside.ask.slices c.self.inside.spent = c.conclude.ensures.spent ∙ (ap (λ (n : Node). new_spent n.verdict c.slices-slices.result c.self.inside.spent) node ∙ ap (λ (m : ℕ). new_spent x.node.verdict m c.self.inside.spent) c.slices-slices.ensures.value) in
+    let lines : c.start.new.log.lines ≡ c.self.inside.log.lines ++ x.lines = c.in_ok-values.ensures.lines ∙ ap (λ (y : Sliced). c.self.inside.log.lines ++ y.lines) sliced in
+    let first : c.or-self-inside.result ≡ option_or c.self.inside.empty (first_empty x.lines) = c.or-self-inside.ensures ∙ ap (λ (o : Option ℕ). option_or c.self.inside.empty o) (c.in_ok-values.ensures.empty ∙ ap (λ (y : Sliced). first_empty y.lines) sliced) in
+    let left : c.len.result - c.len-2.result ≡ length c.self.inside.revisions.items - length c.conclude.new.answers.items = omega (arith, c.len.ensures, c.len-2.ensures) in
+    let homes : slice_set c.grow.new.places.items c.args.index c.start.new.self ≡ slice_set c.grow.new.places.items c.args.index run = ap (λ (k : Home). slice_set c.grow.new.places.items c.args.index k) ran in
+    let done : Parts = record { ask = c.self.inside.ask; closed = c.self.inside.closed; volume = c.self.inside.volume; revisions = c.self.inside.revisions.items; answers = c.settle.new.answers.items; homes = slice_set c.grow.new.places.items c.args.index c.start.new.self; log = c.start.new.log.lines; broadcasts = c.self.inside.broadcasts.items; ran = c.self.inside.ran + 1; spent = c.settle.new.spent } in
+    let same : done ≡ ended g c.args.index run x c.or-self-inside.result = ended-is g c.args.index run x c.or-self-inside.result c.conclude.new.answers.items c.settle.new.answers.items (slice_set c.grow.new.places.items c.args.index c.start.new.self) c.start.new.log.lines c.conclude.new.spent c.settle.new.spent (c.len.result - c.len-2.result) gave counted c.settle.ensures.answers c.settle.ensures.spent left homes lines in
+    let all : done ≡ ended g c.args.index run x (option_or c.self.inside.empty (first_empty x.lines)) = same ∙ ap (λ (o : Option ℕ). ended g c.args.index run x o) first in
+    let less : left_of (state_of done) < left_of (state_of q) = subst (λ (t : Parts). left_of (state_of t) < left_of (state_of q)) (sym all) (ended-less g c.self.inside.empty (vec_capacity c.self.inside.answers) c.args.index kept may within) in
+    rw (← c.self.view_is) less
