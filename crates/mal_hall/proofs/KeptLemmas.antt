@@ -1,13 +1,14 @@
-use Rattle.std.proofs.Common.{◌≡◌, ℕ, zero, suc, ◌+◌, ◌≤◌, Bool, true, false, ◌||◌, not, ◌==◌, if◌then◌else◌, List, [], ◌∷◌, ◌++◌, map, slice_get, slice_set, Some, refl, sym, ◌∙◌, ap, arith}
+use Rattle.std.proofs.Common.{◌≡◌, ℕ, zero, suc, ◌+◌, ◌≤◌, Bool, true, false, not, ◌==◌, if◌then◌else◌, List, [], ◌∷◌, ◌++◌, map, slice_get, slice_set, Some, refl, sym, ◌∙◌, ap, arith}
 use Rattle.std.proofs.lemmas.Bool.Decides.{Decides-eqb}
 use Rattle.std.proofs.lemmas.List.{set-get_or}
 use Rattle.std.proofs.lemmas.List.Sums.{sum_by-cons, sum_by-append, sum_by-set}
 use Rattle.std.proofs.lemmas.Option.{slice_get_within, get_or_from_slice_get}
 use Rattle.mal_base.specs.Asks.{Terms}
+use Rattle.spec_balance.specs.Fair.{volume_at}
 use Rattle.spec_job.specs.Titled.{Key, Titled}
 use Rattle.spec_hall.specs.Legal.{jobs_of, tenant_count}
 use Rattle.spec_hall.specs.Own.{is_text}
-use Rattle.spec_hall.specs.Seats.{Seat, jobs_in, is_live_seat, opened_seat, balanced_seat, balanced_seats}
+use Rattle.spec_hall.specs.Seats.{Seat, jobs_in, is_live_seat, opened_seat, balanced_seat, balanced_from, balanced_by}
 use Rattle.spec_hall.proofs.KeyLemmas.{is_text-Decides}
 use Rattle.mal_hall.specs.Seen.{unclosed_in}
 
@@ -108,16 +109,16 @@ seat-keys (x ∷ xs) zero s now at key = let same : x ≡ s = cc in ap (λ (k : 
 seat-keys (x ∷ xs) (suc n) s now at key = ap (λ (ks : List Key). x.titled.key ∷ ks) (seat-keys xs n s now at key)
 
 -- and in a balancing
-balanced-keys : (served : Bool) (ss : List Seat) → keys (jobs_in (balanced_seats served ss)) ≡ keys (jobs_in ss)
-balanced-keys served [] = refl
-balanced-keys served (x ∷ xs) = ap (λ (ks : List Key). x.titled.key ∷ ks) (balanced-keys (served || is_live_seat x) xs)
+balanced-keys : (n : ℕ) (vs : List ℕ) (ss : List Seat) → keys (jobs_in (balanced_from n vs ss)) ≡ keys (jobs_in ss)
+balanced-keys n vs [] = refl
+balanced-keys n vs (x ∷ xs) = ap (λ (ks : List Key). x.titled.key ∷ ks) (balanced-keys (if is_live_seat x then n + 1 else n) vs xs)
 
 -- so do the tenants
 pub tenants-set : (ss : List Seat) (n : ℕ) (s now : Seat) → slice_get ss n ≡ Some s → now.titled.key ≡ s.titled.key → tenant_count (jobs_in ss) ≡ tenant_count (jobs_in (slice_set ss n now))
 tenants-set ss n s now at key = sym (tenants-keys (jobs_in (slice_set ss n now)) (jobs_in ss) (seat-keys ss n s now at key))
 
-pub tenants-balanced : (ss : List Seat) → tenant_count (jobs_in ss) ≡ tenant_count (jobs_in (balanced_seats false ss))
-tenants-balanced ss = sym (tenants-keys (jobs_in (balanced_seats false ss)) (jobs_in ss) (balanced-keys false ss))
+pub tenants-balanced : (vs : List ℕ) (ss : List Seat) → tenant_count (jobs_in ss) ≡ tenant_count (jobs_in (balanced_by vs ss))
+tenants-balanced vs ss = sym (tenants-keys (jobs_in (balanced_by vs ss)) (jobs_in ss) (balanced-keys 0 vs ss))
 
 -- what a job counts among those that are not closed
 abbrev pub unclosed_at : Seat → ℕ
@@ -141,11 +142,12 @@ unclosed-closed ss n s now at before after =
 pub unclosed-open : (ss : List Seat) (k : Key) (ask : Terms) → unclosed_in (ss ++ opened_seat k ask ∷ []) ≡ unclosed_in ss + 1
 unclosed-open ss k ask = sum_by-append unclosed_at ss (opened_seat k ask ∷ [])
 
-pub unclosed-balanced : (served : Bool) (ss : List Seat) → unclosed_in ss ≡ unclosed_in (balanced_seats served ss)
-unclosed-balanced served [] = refl
-unclosed-balanced served (x ∷ xs) =
+pub unclosed-balanced : (n : ℕ) (vs : List ℕ) (ss : List Seat) → unclosed_in ss ≡ unclosed_in (balanced_from n vs ss)
+unclosed-balanced n vs [] = refl
+unclosed-balanced n vs (x ∷ xs) =
+    let m : ℕ = if is_live_seat x then n + 1 else n in
     sum_by-cons unclosed_at x xs
-    ∙ (ap (λ (n : ℕ). unclosed_at x + n) (unclosed-balanced (served || is_live_seat x) xs) ∙ sym (sum_by-cons unclosed_at (balanced_seat served x) (balanced_seats (served || is_live_seat x) xs)))
+    ∙ (ap (λ (k : ℕ). unclosed_at x + k) (unclosed-balanced m vs xs) ∙ sym (sum_by-cons unclosed_at (balanced_seat (volume_at vs n) x) (balanced_from m vs xs)))
 
 -- a seat that is written as it was
 pub set-same : (ss : List Seat) (n : ℕ) (s now : Seat) → slice_get ss n ≡ Some s → now ≡ s → slice_set ss n now ≡ ss

@@ -1,19 +1,14 @@
-use Rattle.std.proofs.Common.{◌≡◌, ℕ, ◌+◌, ◌*◌, ◌<◌, ◌≤◌, Bool, true, false, ◌||◌, not, cond, ◌==◌, if◌then◌else◌, List, [], ◌∷◌, slice_get, slice_set, Some, option_map, refl, sym, ◌∙◌, ap, arith, Decides}
-use Rattle.std.specs.Prelude.{All}
+use Rattle.std.proofs.Common.{◌≡◌, ℕ, zero, suc, Bool, true, false, ◌||◌, not, ◌==◌, List, [], ◌∷◌, slice_get, slice_set, Some, refl, sym, ◌∙◌, ap, Decides}
 use Rattle.std.proofs.lemmas.Bool.Decides.{Decides-and, Decides-eqb}
-use Rattle.std.proofs.lemmas.List.{map-set}
-use Rattle.std.proofs.lemmas.List.Sums.{sum_by-cons, sum_by-set}
-use Rattle.std.proofs.lemmas.Option.{slice_get_within, get_or_from_slice_get, slice_get-map}
 use Rattle.std.proofs.lemmas.Slice.Eq.{slice_eq-Decides}
-use Rattle.mal_base.specs.Asks.{IsAsk}
-use Rattle.spec_job.specs.Left.{left_of}
-use Rattle.spec_job.specs.Titled.{Key, Titled}
+use Rattle.spec_job.specs.Titled.{Key}
 use Rattle.spec_hall.specs.Events.{Event}
 use Rattle.spec_hall.specs.States.{Live, states, lives, balanced}
-use Rattle.spec_hall.specs.Seats.{Seat, IsSeated, jobs_in, is_live_seat, is_due, balanced_seat, balanced_seats}
+use Rattle.spec_hall.specs.Measure.{left_by}
+use Rattle.spec_hall.specs.Seats.{Seat, IsSeated, jobs_in, has_changed, is_due}
 use Rattle.spec_hall.proofs.KeyLemmas.{is_key-Decides}
-use Rattle.spec_hall.proofs.DueLemmas.{balance-allowed, lives-listed}
-use Rattle.mal_hall.specs.Work.{is_same_live, is_balanced, left_among, left_in}
+use Rattle.spec_hall.proofs.DueLemmas.{seated-calm, seated-due}
+use Rattle.mal_hall.specs.Work.{is_same_live, is_balanced, left_in}
 
 -- the test of two live jobs says whether they are equal
 is_same_live-Decides : (a b : Live) → Decides (is_same_live a b) (a ≡ b)
@@ -33,65 +28,18 @@ is_same_live-Decides a b =
 balanced-Decides : (h : List Event) → Decides (is_balanced h) (lives (states h) ≡ balanced h)
 balanced-Decides h = slice_eq-Decides is_same_live-Decides (lives (states h)) (balanced h) (is_balanced h) refl
 
--- one where the live jobs are not those of the last balancing
-abbrev pub due_in : Bool → ℕ
-due_in same = if same then 0 else 1
-
--- what is left where no balancing is due
-pub left-calm : (h : List Event) (ss : List Seat) → IsSeated h ss → is_due ss ≡ false → left_in h ≡ 2 * left_among (jobs_in ss)
-left-calm h ss seated calm =
-    let same : lives (states h) ≡ balanced h = ap lives seated.jobs ∙ (lives-listed ss calm ∙ sym seated.last) in
-    let test : is_balanced h ≡ true = (balanced-Decides h).1 same in
-    let more : due_in (is_balanced h) ≡ 0 = ap due_in test in
-    let left : left_among (states h) ≡ left_among (jobs_in ss) = ap left_among seated.jobs in
-    omega arith
-
--- what is left where one is due
-pub left-due : (h : List Event) (ss : List Seat) → IsSeated h ss → All (λ (s : Seat). IsAsk s.titled.state.ask) ss → is_due ss ≡ true → left_in h ≡ 2 * left_among (jobs_in ss) + 1
-left-due h ss seated asks due =
-    let more : due_in (is_balanced h) ≡ 1 = by_test (is_balanced h) refl in
-    let left : left_among (states h) ≡ left_among (jobs_in ss) = ap left_among seated.jobs in
-    omega arith
+-- what is left is read of the seats
+pub left-is : (w : ℕ) (h : List Event) (ss : List Seat) (due : Bool) → IsSeated w h ss → is_due ss ≡ due → left_in h ≡ left_by due (jobs_in ss)
+left-is w h ss due seated e = ap (λ (b : Bool). left_by b (states h)) (by_test due (is_balanced h) e refl) ∙ ap (left_by due) seated.jobs
   where
-    by_test : (b : Bool) → is_balanced h ≡ b → due_in b ≡ 1
-    by_test true e = absurd ((balance-allowed h ss seated asks due).due ((balanced-Decides h).0 e))
-    by_test false e = refl
+    by_test : (a b : Bool) → is_due ss ≡ a → is_balanced h ≡ b → not b ≡ a
+    by_test true true p q = absurd (seated-due w h ss seated p ((balanced-Decides h).0 q))
+    by_test true false p q = refl
+    by_test false true p q = refl
+    by_test false false p q = let on = (balanced-Decides h).1 (seated-calm w h ss seated p) in cc
 
--- at the most one more than the slices
-pub left-most : (h : List Event) (ss : List Seat) → IsSeated h ss → left_in h ≤ 2 * left_among (jobs_in ss) + 1
-left-most h ss seated =
-    let more : due_in (is_balanced h) ≤ 1 = by_test (is_balanced h) in
-    let left : left_among (states h) ≡ left_among (jobs_in ss) = ap left_among seated.jobs in
-    omega arith
-  where
-    by_test : (b : Bool) → due_in b ≤ 1
-    by_test true = omega arith
-    by_test false = omega arith
-
--- what a job may still run
-abbrev pub left_at : Titled → ℕ
-left_at t = left_of t.state
-
--- a slice of a job leaves less among all
-pub left-set : (ss : List Seat) (n : ℕ) (s now : Seat) → slice_get ss n ≡ Some s → left_of now.titled.state < left_of s.titled.state → left_among (jobs_in (slice_set ss n now)) < left_among (jobs_in ss)
-left-set ss n s now at less =
-    let found : slice_get (jobs_in ss) n ≡ Some s.titled = slice_get-map (λ (x : Seat). x.titled) ss n ∙ ap (option_map (λ (x : Seat). x.titled)) at in
-    let sums = rw (get_or_from_slice_get (jobs_in ss) n s.titled s.titled found) at (sum_by-set left_at (jobs_in ss) n now.titled s.titled (slice_get_within (jobs_in ss) n s.titled found)) in
-    let here : left_among (jobs_in (slice_set ss n now)) ≡ left_among (slice_set (jobs_in ss) n now.titled) = ap left_among (map-set (λ (x : Seat). x.titled) ss n now) in
-    omega arith
-
--- a balancing leaves as much
-pub left-balanced : (served : Bool) (ss : List Seat) → left_among (jobs_in (balanced_seats served ss)) ≡ left_among (jobs_in ss)
-left-balanced served [] = refl
-left-balanced served (x ∷ xs) =
-    sum_by-cons left_at (balanced_seat served x).titled (jobs_in (balanced_seats (served || is_live_seat x) xs))
-    ∙ (ap (λ (n : ℕ). left_of x.titled.state + n) (left-balanced (served || is_live_seat x) xs) ∙ sym (sum_by-cons left_at x.titled (jobs_in xs)))
-
--- after a balancing none is due
-pub calm-balanced : (served : Bool) (ss : List Seat) → is_due (balanced_seats served ss) ≡ false
-calm-balanced served [] = refl
-calm-balanced served (x ∷ xs) = rw (calm-balanced (served || is_live_seat x) xs) (by_test (is_live_seat x))
-  where
-    by_test : (b : Bool) → (cond b (not b) b || false) ≡ false
-    by_test true = refl
-    by_test false = refl
+-- a seat that changes as little as the one before it leaves due what was due
+pub due-set : (ss : List Seat) (n : ℕ) (s now : Seat) → slice_get ss n ≡ Some s → has_changed now ≡ has_changed s → is_due (slice_set ss n now) ≡ is_due ss
+due-set [] n s now at same = refl
+due-set (x ∷ xs) zero s now at same = let here : x ≡ s = cc in ap (λ (b : Bool). b || is_due xs) (same ∙ ap has_changed (sym here))
+due-set (x ∷ xs) (suc n) s now at same = ap (λ (b : Bool). has_changed x || b) (due-set xs n s now at same)

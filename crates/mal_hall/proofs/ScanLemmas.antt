@@ -1,12 +1,14 @@
-use Rattle.std.proofs.Common.{◌≡◌, ℕ, ◌+◌, ◌<◌, Bool, true, if◌then◌else◌, List, [], ◌∷◌, ◌++◌, length, drop, get_or, sym, ◌∙◌, ap, subst, append_assoc, below_more}
+use Rattle.std.proofs.Common.{◌≡◌, ℕ, ◌+◌, ◌-◌, ◌<◌, Bool, true, false, if◌then◌else◌, List, ◌∷◌, length, drop, fold, get_or, Option, sym, ◌∙◌, ap, subst, below_more}
 use Rattle.std.proofs.lemmas.List.{drop_more, get_or_default}
 use Rattle.std.proofs.lemmas.List.Sums.{sum_by-cons}
-use Rattle.mal_base.specs.Asks.{IsAsk}
-use Rattle.mal_history.specs.declared.event.Share.{Share}
+use Rattle.spec_node.specs.Load.{counted}
+use Rattle.spec_job.specs.Solo.{Solo, place_at, startable}
 use Rattle.spec_job.specs.Titled.{Titled}
 use Rattle.spec_hall.specs.Legal.{jobs_of}
 use Rattle.spec_hall.specs.Own.{is_text}
-use Rattle.spec_hall.specs.Seats.{Seat, jobs_in, is_live_seat, one_volume, shares_from}
+use Rattle.spec_hall.specs.Seats.{Seat, jobs_in, pick_from, pick_job, pick_node}
+use Rattle.spec_hall.specs.States.{Candidate, fewer}
+use Rattle.spec_hall.proofs.PickLemmas.{pick-more}
 
 -- the seats from a place on
 seats-from : (ss : List Seat) (i : ℕ) (s : Seat) → i < length ss → s ≡ get_or ss i s → drop i ss ≡ s ∷ drop (i + 1) ss
@@ -18,21 +20,32 @@ jobs_of-from tenant ss i s within at =
     ap (λ (xs : List Seat). jobs_of tenant (jobs_in xs)) (seats-from ss i s within at)
     ∙ sum_by-cons (λ (t : Titled). if is_text tenant t.key.tenant then 1 else 0) s.titled (jobs_in (drop (i + 1) ss))
 
--- the volumes from a place on
-pub shares-from : (served b : Bool) (ss : List Seat) (i : ℕ) (s : Seat) → i < length ss → s ≡ get_or ss i s → is_live_seat s ≡ b → shares_from served (drop i ss) ≡ (if b then record { tenant = s.titled.key.tenant; job = s.titled.key.job; volume = one_volume served true } ∷ shares_from true (drop (i + 1) ss) else shares_from served (drop (i + 1) ss))
-shares-from served b ss i s within at live =
-    ap (shares_from served) (seats-from ss i s within at)
-    ∙ ap (λ (x : Bool). if x then record { tenant = s.titled.key.tenant; job = s.titled.key.job; volume = one_volume served true } ∷ shares_from true (drop (i + 1) ss) else shares_from served (drop (i + 1) ss)) live
+-- what holds of the seats up to a place, and of the seat there
+pub seats-more : (P : Seat → Type 0) (ss : List Seat) (i : ℕ) (s : Seat) → i < length ss → s ≡ get_or ss i s → ((k : ℕ) (d : Seat) → k < i → P (get_or ss k d)) → P s → (k : ℕ) (d : Seat) → k < i + 1 → P (get_or ss k d)
+seats-more P ss i s within at below holds k d lt =
+    let Q : ℕ → Type 0 = λ n. (x : Seat) → P (get_or ss n x) in
+    let here : Q i = λ x. subst P (at ∙ get_or_default ss i s x within) holds in
+    below_more Q i (λ n l x. below n x l) here k lt d
 
--- the asks up to a place are in form
-pub asks-more : (ss : List Seat) (i : ℕ) (s : Seat) → i < length ss → s ≡ get_or ss i s → ((k : ℕ) (d : Seat) → k < i → IsAsk (get_or ss k d).titled.state.ask) → IsAsk s.titled.state.ask → (k : ℕ) (d : Seat) → k < i + 1 → IsAsk (get_or ss k d).titled.state.ask
-asks-more ss i s within at below asked k d lt =
-    let P : ℕ → Type 0 = λ n. (x : Seat) → IsAsk (get_or ss n x).titled.state.ask in
-    let here : P i = λ x. subst (λ (y : Seat). IsAsk y.titled.state.ask) (at ∙ get_or_default ss i s x within) asked in
-    below_more P i (λ n l x. below n x l) here k lt d
+-- what is picked from a place on
+pub picks-from : (job : ℕ) (best now all : Option Candidate) (ss : List Seat) (i : ℕ) (s : Seat) → i < length ss → s ≡ get_or ss i s → now ≡ pick_job job s.titled.state best → pick_from job best (drop i ss) ≡ all → pick_from (job + 1) now (drop (i + 1) ss) ≡ all
+picks-from job best now all ss i s within at is whole =
+    ap (λ (o : Option Candidate). pick_from (job + 1) o (drop (i + 1) ss)) is
+    ∙ (sym (ap (pick_from job best) (seats-from ss i s within at)) ∙ whole)
 
--- a further volume behind those before
-pub shares-more : (items now before rest all : List Share) (share : Share) → now ≡ items ++ share ∷ [] → before ≡ share ∷ rest → items ++ before ≡ all → now ++ rest ≡ all
-shares-more items now before rest all share more first whole =
-    ap (λ (xs : List Share). xs ++ rest) more
-    ∙ (append_assoc items (share ∷ []) rest ∙ (ap (λ (xs : List Share). items ++ xs) (sym first) ∙ whole))
+-- a node that may start
+pub picked-then : (job : ℕ) (s : Solo) (best now : Option Candidate) (i starts : ℕ) (may : Bool) → may ≡ startable s i → may ≡ true → starts ≡ (place_at s i).starts → now ≡ fewer best (record { job = job; index = i; starts = starts }) → now ≡ pick_node job s best i
+picked-then job s best now i starts may is on count next =
+    next
+    ∙ (ap (λ (n : ℕ). fewer best (record { job = job; index = i; starts = n })) count
+    ∙ sym (ap (λ (b : Bool). if b then fewer best (record { job = job; index = i; starts = (place_at s i).starts }) else best) (sym is ∙ on)))
+
+-- one that may not
+pub picked-else : (job : ℕ) (s : Solo) (best : Option Candidate) (i : ℕ) (may : Bool) → may ≡ startable s i → may ≡ false → best ≡ pick_node job s best i
+picked-else job s best i may is off = sym (ap (λ (b : Bool). if b then fewer best (record { job = job; index = i; starts = (place_at s i).starts }) else best) (sym is ∙ off))
+
+-- what is picked of a job from an index on
+pub picks-more : (job : ℕ) (s : Solo) (best now all : Option Candidate) (i : ℕ) → i < s.volume → now ≡ pick_node job s best i → fold (pick_node job s) best (counted i (s.volume - i)) ≡ all → fold (pick_node job s) now (counted (i + 1) (s.volume - (i + 1))) ≡ all
+picks-more job s best now all i within is whole =
+    ap (λ (o : Option Candidate). fold (pick_node job s) o (counted (i + 1) (s.volume - (i + 1)))) is
+    ∙ (sym (pick-more job s best i s.volume within) ∙ whole)

@@ -1,4 +1,5 @@
 pub mod Seen
 pub mod Causes
 pub mod Work
+pub mod Turned
 pub mod Room

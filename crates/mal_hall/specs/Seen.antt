@@ -22,12 +22,12 @@ events_of events seats = map (dressed (jobs_in seats)) events
 abbrev pub unclosed_in : List Seat → ℕ
 unclosed_in seats = count_by (λ s. not s.titled.state.closed) seats
 
--- what a hall of one worker keeps of its history, its jobs, how many of these are not closed, and how many tenants there
+-- what a hall keeps of its history, its jobs, how many of these are not closed, and how many tenants there
 -- are: what is written down is a history of these jobs, and there is room for the closing of each job that is not closed
 pub record IsHall (h : Written) (seats : List Seat) (unclosed tenants : ℕ) : Type 0 where
   pub past : List Event
   pub written : h.events ≡ map bare past
-  pub seated : IsSeated past seats
+  pub seated : IsSeated h.workers past seats
   pub unclosed_is : unclosed ≡ unclosed_in seats
   pub tenants_is : tenants ≡ tenant_count (jobs_in seats)
   pub room : unclosed ≤ h.room

@@ -1,8 +1,7 @@
-use Rattle.std.specs.Prelude.{ℕ, ◌+◌, ◌*◌, Bool, ◌&&◌, ◌==◌, List, sum_by, if◌then◌else◌}
+use Rattle.std.specs.Prelude.{ℕ, Bool, ◌&&◌, not, ◌==◌, List}
 use Rattle.std.specs.Cmp.Lexicographic.{pointwise}
-use Rattle.spec_job.specs.Left.{left_of}
-use Rattle.spec_job.specs.Titled.{Titled}
 use Rattle.spec_hall.specs.Events.{Event}
+use Rattle.spec_hall.specs.Measure.{left_by}
 use Rattle.spec_hall.specs.Own.{is_key}
 use Rattle.spec_hall.specs.States.{Live, states, lives, balanced}
 
@@ -14,10 +13,6 @@ is_same_live a b = is_key a.key b.key && (a.priority == b.priority && a.demand =
 abbrev pub is_balanced : List Event → Bool
 is_balanced history = pointwise is_same_live (lives (states history)) (balanced history)
 
--- how many slices some jobs may still run
-abbrev pub left_among : List Titled → ℕ
-left_among jobs = sum_by (λ t. left_of t.state) jobs
-
--- how many slices may still be run, twice, and one more where a balancing is due
+-- what is left to do; it falls at each turn
 abbrev pub left_in : List Event → ℕ
-left_in history = 2 * left_among (states history) + (if is_balanced history then 0 else 1)
+left_in history = left_by (not (is_balanced history)) (states history)

@@ -1,6 +1,6 @@
 //! The hall and its calls.
 
-ghost use Rattle.std.specs.Prelude.{◌≡◌, ◌+◌, ◌<◌, List, [], ◌∷◌, ◌++◌, true, false, Some, None, MatchOption, IsErrOf, map, OnOk, OnErr, IfOk};
+ghost use Rattle.std.specs.Prelude.{◌≡◌, ◌+◌, ◌<◌, ◌≤◌, List, [], ◌∷◌, ◌++◌, true, false, Some, None, MatchOption, IsErrOf, map, OnOk, OnErr, IfOk};
 ghost use Rattle.mal_base.specs.Asks.{IsAsk};
 ghost use Rattle.mal_base.specs.Names.{is_name};
 ghost use Rattle.mal_hall.specs.Causes.{OpenCause, ReviseCause, CloseCause};
@@ -13,16 +13,18 @@ ghost use Rattle.spec_hall.specs.Events as entered;
 ghost use Rattle.spec_hall.specs.Own.{own};
 ghost use Rattle.spec_job.specs.Models.{AnswersSolve};
 ghost use Rattle.spec_job.specs.Proofs.{AnswersRefute};
+ghost use Rattle.spec_job.specs.Provenance.{ClausesAreOwn};
 ghost use Rattle.spec_job.specs.Replies.{reply};
 ghost use Rattle.spec_job.specs.Solo.{solo};
 ghost use Rattle.spec_job.specs.Titled.{Titled};
 ghost use Rattle.spec_hall.specs.States.{states, lives, leases};
 ghost use Rattle.spec_hall.specs.Legal.{Legal, job_of};
 
-use crate::enter::{enter_balance, enter_slice};
+use crate::enter::{enter_balance, enter_exchange, enter_slice};
 use crate::fault::{CloseFault, OpenFault, ReplyFault, ReviseFault};
+use crate::pick::pick;
 use crate::room::{next_number, tenants_after};
-use crate::seats::{Seat, first_live, is_done, is_due, jobs_of, place_of};
+use crate::seats::{Seat, first_exchange, is_done, is_due, jobs_of, place_of};
 use mal_base::{Ask, Name};
 use mal_history::{Event, History};
 use mal_learn::Scratch;
@@ -30,9 +32,9 @@ use mal_revision::Revision;
 use std::alloc::{AllocError, Global};
 use std::marker::Model;
 
-/// A hall of one worker with room for 64 tenants with 64 jobs each. Contracts see its events, each posted revision
-/// standing at its event; the type keeps that they are a legal history and that each job is its machine run alone on its
-/// own events.
+/// A hall of 1 to 64 workers with room for 64 tenants with 64 jobs each. Contracts see its workers and its events, each
+/// posted revision standing at its event; the type keeps that they are a legal history and that each job is its machine run
+/// alone on its own events.
 #[derive(Drop)]
 pub struct Hall {
     history: History,
@@ -42,24 +44,25 @@ pub struct Hall {
 }
 
 impl Model for Hall {
-    ghost use Rattle.std.specs.Prelude.{◌≡◌};
     ghost use Rattle.mal_hall.specs.Seen.{Seen, IsHall, events_of};
 
     ghost Value = { Seen };
 
     ghost view = { λ h. record { workers = h.history.workers; events = events_of h.history.events h.seats.items } };
 
-    ghost invariant = { λ h. (h.history.workers ≡ 1) × IsHall h.history h.seats.items h.unclosed h.tenants };
+    ghost invariant = { λ h. IsHall h.history h.seats.items h.unclosed h.tenants };
 }
 
 impl Hall {
-    /// The hall of one worker without a job. Takes no memory.
-    pub fn new(alloc: Global) -> Hall
-        ensures workers { result.workers ≡ 1 }
+    /// The hall of so many workers, 1 to 64, without a job. Takes no memory.
+    pub fn new(alloc: Global, workers: u32) -> Hall
+        requires some { 1 ≤ workers }
+        requires bound { workers ≤ 64 }
+        ensures workers { result.workers ≡ workers }
         ensures events { result.events ≡ [] }
     {
         Hall {
-            history: History::new(alloc, 1),
+            history: History::new(alloc, workers),
             seats: Vec::new(alloc),
             unclosed: 0,
             tenants: 0,
@@ -162,8 +165,8 @@ impl Hall {
 
     /// The reply to a revision of a job, numbered from 1: None exactly where it is not answered. It is that of the job's
     /// machine run alone on the job's own events, and the same in each history that has these. A satisfiable reply carries a
-    /// model of the revision, an unsatisfiable one a proof from the job's clauses alone. A job that is not there is `NoJob`,
-    /// however much memory there is.
+    /// model of the revision, an unsatisfiable one a proof from the job's clauses alone; each clause that the job's nodes hold
+    /// or tell one another is the job's own. A job that is not there is `NoJob`, however much memory there is.
     pub fn reply(&self, tenant: &Name, job: &Name, r: u32) -> Result<Option<Vec<u8>>, ReplyFault>
         ensures reply { IfOk result (λ o. (t : Titled) × (job_of (keyed tenant.now job.now) (states self.now.events) ≡ Some t) × (MatchOption o (reply (keyed tenant.now job.now) r t.state ≡ None) (λ text. reply (keyed tenant.now job.now) r t.state ≡ Some text.items))) }
         ensures alone { IfOk result (λ o. (other : List entered.Event) → own (keyed tenant.now job.now) other ≡ own (keyed tenant.now job.now) self.now.events → MatchOption o (reply (keyed tenant.now job.now) r (solo (own (keyed tenant.now job.now) other)) ≡ None) (λ text. reply (keyed tenant.now job.now) r (solo (own (keyed tenant.now job.now) other)) ≡ Some text.items)) }
@@ -171,6 +174,7 @@ impl Hall {
         ensures out_of_memory { IsErrOf result ReplyFault.OutOfMemory → (t : Titled) × (job_of (keyed tenant.now job.now) (states self.now.events) ≡ Some t) }
         ensures models { (t : Titled) → job_of (keyed tenant.now job.now) (states self.now.events) ≡ Some t → AnswersSolve t.state }
         ensures proofs { (t : Titled) → job_of (keyed tenant.now job.now) (states self.now.events) ≡ Some t → AnswersRefute t.state }
+        ensures own { (t : Titled) → job_of (keyed tenant.now job.now) (states self.now.events) ≡ Some t → ClausesAreOwn t.state }
     {
         let Some(at) = place_of(&self.seats, *tenant, *job) else {
             return Err(ReplyFault::NoJob);
@@ -191,37 +195,47 @@ impl Hall {
         &self.history
     }
 
-    /// Runs the jobs until every revision is answered, turn by turn: a balancing where that is due, or else a slice of the
-    /// first live job, as worker 1. After want of memory the events entered so far stay, and the hall may be driven again.
+    /// Runs the jobs until every revision is answered, turn by turn, as worker 1. After want of memory the events entered so
+    /// far stay, and the hall may be driven again.
     pub fn drive(&mut self, alloc: Global, scratch: &mut Scratch) -> Result<(), AllocError>
         ensures workers { self.new.workers ≡ self.old.workers }
-        ensures turns { GrowsByTurns 1 self.old.events self.new.events }
+        ensures turns { GrowsByTurns self.old.workers self.old.events self.new.events }
         ensures answered { OnOk result (lives (states self.new.events) ≡ []) }
     {
         while self.turn(alloc, scratch)? {}
         Ok(())
     }
 
-    /// Enters a balancing where it is due, or else a start of the first live job's node with its slice. False where nothing
-    /// was left to do.
+    /// Enters a balancing where it is due, or else the first exchange that is due, or else a start of the node that is picked
+    /// with its slice. False where nothing was left to do.
     fn turn(&mut self, alloc: Global, scratch: &mut Scratch) -> Result<bool, AllocError>
         ensures workers { self.new.workers ≡ self.old.workers }
-        ensures turns { GrowsByTurns 1 self.old.events self.new.events }
+        ensures turns { GrowsByTurns self.old.workers self.old.events self.new.events }
         ensures idle { IfOk result (λ b. b ≡ false → lives (states self.new.events) ≡ []) }
         ensures less { IfOk result (λ b. b ≡ true → left_in self.new.events < left_in self.old.events) }
     {
         if is_done(&self.seats) {
             return Ok(false);
         }
+        let unclosed = self.unclosed;
         if is_due(&self.seats) {
-            enter_balance(alloc, &mut self.history, &mut self.seats, self.unclosed)?;
+            enter_balance(alloc, &mut self.history, &mut self.seats, unclosed)?;
             return Ok(true);
         }
-        let Some(at) = first_live(&self.seats) else {
+        match first_exchange(&self.seats) {
+            None => {}
+            Some(at) => {
+                let seat = &mut self.seats[at];
+                enter_exchange(alloc, &mut self.history, seat, unclosed)?;
+                return Ok(true);
+            }
+        }
+        let Some(next) = pick(&self.seats) else {
             return Ok(false);
         };
+        let (at, index) = (next.job(), next.index());
         let seat = &mut self.seats[at];
-        enter_slice(alloc, &mut self.history, seat, self.unclosed, scratch)?;
+        enter_slice(alloc, &mut self.history, seat, index, unclosed, scratch)?;
         Ok(true)
     }
 }

@@ -4,10 +4,12 @@
 mod enter;
 mod fault;
 mod hall;
+mod pick;
 mod room;
 mod seats;
 #[cfg(test)]
 mod tests;
+mod volumes;
 
 pub use fault::{CloseFault, OpenFault, ReplyFault, ReviseFault};
 pub use hall::Hall;

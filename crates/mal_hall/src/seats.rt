@@ -1,16 +1,17 @@
 //! The jobs of a hall in their seats, by opening.
 
-ghost use Rattle.std.specs.Prelude.{◌≡◌, ◌+◌, ◌<◌, ◌≤◌, true, false, All, IfOk, OnOk, OnErr, length};
+ghost use Rattle.std.specs.Prelude.{◌≡◌, ◌+◌, ◌<◌, ◌≤◌, true, OnOk, OnErr, length};
 ghost use Rattle.mal_base.specs.Asks.{IsAsk};
 ghost use Rattle.mal_base.specs.declared.verdict.Outcome.TheVariants.{Ran};
 ghost use Rattle.spec_job.specs.Left.{left_of};
-ghost use Rattle.spec_job.specs.Solo.{Revised, Closed, Started, Finished, is_live, startable, clauses_in};
+ghost use Rattle.spec_job.specs.Solo.{Revised, Closed, Started, Finished, Exchanged, is_exchange_due, place_at, startable, clauses_in};
 ghost use Rattle.spec_job.specs.Titled.{stepped};
 ghost use Rattle.spec_hall.specs.Dressed.{keyed};
 ghost use Rattle.spec_hall.specs.Driven as driven;
 ghost use Rattle.spec_hall.specs.Legal as legal;
 ghost use Rattle.spec_hall.specs.Own.{is_key};
 ghost use Rattle.spec_hall.specs.Seats as spec;
+ghost use Rattle.mal_hall.specs.Turned.{FirstMay};
 
 use mal_base::{Ask, Name};
 use mal_history::Share;
@@ -60,13 +61,20 @@ impl Seat {
         tenant == self.job.tenant() && name == self.job.name()
     }
 
-    /// Whether the job is live. Its ask is in form.
-    fn is_live(&self) -> bool
-        ensures value { result ≡ spec.is_live_seat self.now }
-        ensures ask { IsAsk self.now.titled.state.ask }
+    /// Whether the job is live.
+    pub fn is_live(&self) -> bool
+        ensures { result ≡ spec.is_live_seat self.now }
+    {
+        self.job.is_live()
+    }
+
+    /// What the job asks for.
+    pub fn ask(&self) -> Ask
+        ensures value { result ≡ self.now.titled.state.ask }
+        ensures form { IsAsk self.now.titled.state.ask }
     {
         let _ = self.job.ask().priority();
-        self.job.is_live()
+        self.job.ask()
     }
 
     /// Whether the job is live and the last balancing did not list it, or the other way round.
@@ -76,14 +84,14 @@ impl Seat {
         self.job.is_live() != self.listed
     }
 
-    /// The job's volume in a balancing that lists it, in which an earlier job was served or not.
-    fn share(&self, served: bool) -> Share
-        ensures { result ≡ record { tenant = self.now.titled.key.tenant; job = self.now.titled.key.job; volume = spec.one_volume served true } }
+    /// What a balancing notes of the job that gives it this volume.
+    pub fn share(&self, volume: u32) -> Share
+        ensures { result ≡ spec.share_of volume self.now }
     {
         Share {
             tenant: self.job.tenant(),
             job: self.job.name(),
-            volume: one_volume(served, true),
+            volume,
         }
     }
 
@@ -104,34 +112,66 @@ impl Seat {
         self.job.close();
     }
 
-    /// Gives the job its volume in a balancing, in which an earlier job was served or not, and notes whether it is listed.
-    fn balance(&mut self, served: bool)
-        ensures { self.new ≡ spec.balanced_seat served self.old }
+    /// Gives the job its volume in a balancing if it is live, and else none, and notes whether it is listed.
+    pub fn balance(&mut self, volume: u32)
+        requires { volume ≤ 64 }
+        ensures { self.new ≡ spec.balanced_seat volume self.old }
     {
         self.listed = self.job.is_live();
-        self.job.set_volume(one_volume(served, self.listed));
+        self.job.set_volume(if self.listed { volume } else { 0 });
     }
 
-    /// Starts the first node of a live job with a volume, and runs one slice. After want of memory the job is as before.
-    pub fn run_slice(&mut self, alloc: Global, scratch: &mut Scratch) -> Result<(), AllocError>
-        requires live { is_live self.old.titled.state ≡ true }
-        requires volume { 1 ≤ self.old.titled.state.volume }
-        ensures ok { OnOk result (self.new ≡ record self.old { titled = stepped (stepped self.old.titled (Started 0)) (Finished 0 Ran) }) }
-        ensures startable { OnOk result (startable self.old.titled.state 0 ≡ true) }
+    /// How many of the job's nodes may run at a time.
+    pub fn volume(&self) -> u32
+        ensures { result ≡ self.now.titled.state.volume }
+    {
+        self.job.volume()
+    }
+
+    /// Whether the node of this index may start: the first one of a live job with a volume may.
+    pub fn is_startable(&self, index: u32) -> bool
+        ensures value { result ≡ startable self.now.titled.state index }
+        ensures first { FirstMay self.now }
+    {
+        self.job.is_startable(index)
+    }
+
+    /// How often the node of this index was started.
+    pub fn starts(&self, index: u32) -> u32
+        ensures { result ≡ (place_at self.now.titled.state index).starts }
+    {
+        self.job.starts(index)
+    }
+
+    /// Starts the node of this index and runs one slice. After want of memory the job is as before.
+    pub fn run_slice(
+        &mut self,
+        alloc: Global,
+        index: u32,
+        scratch: &mut Scratch,
+    ) -> Result<(), AllocError>
+        requires { startable self.old.titled.state index ≡ true }
+        ensures ok { OnOk result (self.new ≡ record self.old { titled = stepped (stepped self.old.titled (Started index)) (Finished index Ran) }) }
         ensures less { OnOk result (left_of self.new.titled.state < left_of self.old.titled.state) }
         ensures err { OnErr result (self.new ≡ self.old) }
     {
-        let _ = self.job.is_startable();
-        self.job.run_slice(alloc, scratch)
+        self.job.run_slice(alloc, index, scratch)
     }
-}
 
-/// The volume that one worker gives a job, where an earlier one was served or not.
-fn one_volume(served: bool, live: bool) -> u32
-    ensures value { result ≡ spec.one_volume served live }
-    ensures bound { result ≤ 1 }
-{
-    if live && !served { 1 } else { 0 }
+    /// Whether an exchange of the job is due.
+    fn is_exchange_due(&self) -> bool
+        ensures { result ≡ is_exchange_due self.now.titled.state }
+    {
+        self.job.is_exchange_due()
+    }
+
+    /// Lets the job's nodes tell one another what they derived. After want of memory the job is as before.
+    pub fn exchange(&mut self, alloc: Global) -> Result<(), AllocError>
+        ensures ok { OnOk result (self.new ≡ record self.old { titled = stepped self.old.titled Exchanged }) }
+        ensures err { OnErr result (self.new ≡ self.old) }
+    {
+        self.job.exchange(alloc)
+    }
 }
 
 /// The place of the job with this key.
@@ -146,12 +186,12 @@ pub fn place_of(seats: &[Seat], tenant: Name, job: Name) -> Option<usize>
     None
 }
 
-/// The place of the first live job.
-pub fn first_live(seats: &[Seat]) -> Option<usize>
-    ensures { result ≡ spec.first_live seats.now }
+/// The place of the first job of which an exchange is due.
+pub fn first_exchange(seats: &[Seat]) -> Option<usize>
+    ensures { result ≡ spec.first_exchange seats.now }
 {
     for (at, seat) in seats.iter().enumerate() {
-        if seat.job.is_live() {
+        if seat.is_exchange_due() {
             return Some(at);
         }
     }
@@ -188,31 +228,4 @@ pub fn jobs_of(seats: &[Seat], tenant: Name) -> usize
         }
     }
     count
-}
-
-/// The volumes of a balancing for one worker: 1 for the first live job, 0 for the other live ones.
-pub fn shares(alloc: Global, seats: &[Seat]) -> Result<Vec<Share>, AllocError>
-    ensures shares { IfOk result (λ v. v.items ≡ spec.shares_from false seats.now) }
-    ensures asks { OnOk result (All (λ s. IsAsk s.titled.state.ask) seats.now) }
-{
-    let mut shares = Vec::new(alloc);
-    let mut served = false;
-    for seat in seats {
-        if seat.is_live() {
-            shares.push(seat.share(served))?;
-            served = true;
-        }
-    }
-    Ok(shares)
-}
-
-/// Gives each job its volume in a balancing for one worker.
-pub fn balance(seats: &mut [Seat])
-    ensures { seats.new ≡ spec.balanced_seats false seats.old }
-{
-    let mut served = false;
-    for seat in seats.iter_mut() {
-        seat.balance(served);
-        served = served || seat.listed;
-    }
 }

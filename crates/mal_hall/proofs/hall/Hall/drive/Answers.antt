@@ -1,15 +1,15 @@
 use Rattle.std.proofs.Common.{◌∙◌}
-use Rattle.mal_hall.proofs.TurnLemmas.{turns-more}
+use Rattle.mal_hall.proofs.TurnLemmas.{turns-behind}
 use Rattle.mal_hall.proofs.hall.Hall.drive.Goals as goal
 
 pub returns-in_err-turn-clause-turns : goal.returns-in_err-turn-clause-turns
-returns-in_err-turn-clause-turns c = turns-more 1 _ _ _ c.loop.invariant.turns c.in_err-turn.ensures.turns
+returns-in_err-turn-clause-turns c = turns-behind _ _ _ _ _ c.loop.invariant.workers c.loop.invariant.turns c.in_err-turn.ensures.turns
 
 pub loop-preserved : goal.loop-preserved
 loop-preserved c = record {
   workers = c.turn.ensures.workers ∙ c.loop.invariant.workers;
-  turns = turns-more 1 _ _ _ c.loop.invariant.turns c.turn.ensures.turns;
+  turns = turns-behind _ _ _ _ _ c.loop.invariant.workers c.loop.invariant.turns c.turn.ensures.turns;
 }
 
 pub returns-clause-turns : goal.returns-clause-turns
-returns-clause-turns c = turns-more 1 _ _ _ c.loop.invariant.turns c.turn.ensures.turns
+returns-clause-turns c = turns-behind _ _ _ _ _ c.loop.invariant.workers c.loop.invariant.turns c.turn.ensures.turns

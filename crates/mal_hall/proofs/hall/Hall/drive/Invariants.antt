@@ -6,7 +6,7 @@ use Rattle.mal_hall.proofs.hall.Hall.drive.Given as goal
 abbrev pub invariant-loop : goal.invariant-loop
 invariant-loop l = record {
   workers : l.self.workers ≡ l.fn.self.workers;
-  turns : GrowsByTurns 1 l.fn.self.events l.self.events;
+  turns : GrowsByTurns l.fn.self.workers l.fn.self.events l.self.events;
 }
 
 abbrev pub decreases-loop : goal.decreases-loop
