@@ -3,7 +3,7 @@ use Rattle.std.specs.Prelude.{◌≡◌, ◌+◌, ◌^◌, ◌<◌, ◌≤◌, �
 use Rattle.std.specs.Io.KnownBytes.{Consumes, Appends, IsAtEnd}
 use Rattle.mal_claim.specs.Given.{Tells, TellsVerdict, fault_of, verdict_in}
 use Rattle.mal_claim.specs.declared.fault.ClaimFault.{ClaimFault}
-use Rattle.mal_cli.specs.Top.{Complained, IsRunWords, WrotePart, too_long_line}
+use Rattle.mal_cli.specs.Top.{Complained, IsRunCommand, WrotePart, too_long_line}
 use Rattle.mal_cli.specs.declared.denial.Denial.{Denial}
 use Rattle.mal_cli.specs.declared.denial.Denial.TheVariants as denial
 use Rattle.mal_verify.specs.declared.checking.VerifyFault.{VerifyFault}
@@ -20,7 +20,7 @@ IsCheckWords words = drop 1 words ≡ codes "check" ∷ []
 
 -- the words are those of a command
 abbrev pub IsCommand : List (List ℕ) → Type 0
-IsCommand words = IsRunWords words ⊎ IsCheckWords words
+IsCommand words = IsRunCommand words ⊎ IsCheckWords words
 
 -- the lines of a claim's proof refute its formula under its assumptions
 abbrev pub IsProved : Claim → Type 0

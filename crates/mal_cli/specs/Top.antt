@@ -1,5 +1,5 @@
 -- What a call of the program does to its source, its log and its output, by the status that it answers.
-use Rattle.std.specs.Prelude.{◌≡◌, ◌+◌, ◌^◌, ◌<◌, ◌≤◌, ℕ, List, [], ◌∷◌, ◌++◌, ◌⊎◌, length, drop, codes, Option, Some, None, Err}
+use Rattle.std.specs.Prelude.{◌≡◌, ◌+◌, ◌^◌, ◌<◌, ◌≤◌, ℕ, List, [], ◌∷◌, ◌++◌, ◌⊎◌, length, drop, codes, decimal, Option, Some, None, Err}
 use Rattle.std.specs.Io.KnownBytes.{Consumes, Appends, IsAtEnd}
 use Rattle.mal_io.specs.Moves.{GotFront}
 use Rattle.mal_cli.specs.declared.refusal.Refusal.{Refusal}
@@ -15,9 +15,22 @@ use Rattle.spec_script.specs.Limits.{served}
 use Rattle.spec_script.specs.Reading.{read_text}
 use Rattle.spec_script.specs.Script.{Scripted}
 
--- the words after the program's name are those of a run with one worker
-abbrev pub IsRunWords : List (List ℕ) → Type 0
-IsRunWords words = drop 1 words ≡ codes "run" ∷ codes "--workers" ∷ codes "1" ∷ []
+-- a word is a number of workers: 1 to 64, in decimal digits without a sign and without a leading zero
+abbrev pub IsWorkers : ℕ → List ℕ → Type 0
+IsWorkers workers word = (1 ≤ workers) × (workers ≤ 64) × (word ≡ decimal workers)
+
+-- three words are those of a run with so many workers
+abbrev pub AreRunWords : ℕ → List ℕ → List ℕ → List ℕ → Type 0
+AreRunWords workers command option number = (command ≡ codes "run") × (option ≡ codes "--workers") × IsWorkers workers number
+
+-- the words after the program's name are those of a run with so many workers
+abbrev pub IsRunWords : ℕ → List (List ℕ) → Type 0
+IsRunWords workers words =
+    (1 ≤ workers) × (workers ≤ 64) × (drop 1 words ≡ codes "run" ∷ codes "--workers" ∷ decimal workers ∷ [])
+
+-- the words are those of a run with some number of workers
+abbrev pub IsRunCommand : List (List ℕ) → Type 0
+IsRunCommand words = (workers : ℕ) × IsRunWords workers words
 
 -- the line for refused words
 abbrev pub usage_line : List ℕ
@@ -45,10 +58,10 @@ abbrev pub IsNoScript : Option (List ℕ) → Type 0
 IsNoScript None = ⊥
 IsNoScript (Some input) = (2 ^ 26 < length input) ⊎ (IsScriptText input → ⊥)
 
--- a text spells a script, and the script was run with one worker: these are the texts of its log and its output
-pub record IsAnswer (text : List ℕ) (s : Scripted) (history : List Event) (log_text out_text : List ℕ) : Type 0 where
+-- a text spells a script, and the script was run with so many workers: these are the texts of its log and its output
+pub record IsAnswer (workers : ℕ) (text : List ℕ) (s : Scripted) (history : List Event) (log_text out_text : List ℕ) : Type 0 where
   pub spelled : Spells served text s
-  pub run : IsRun 1 s history log_text out_text
+  pub run : IsRun workers s history log_text out_text
 
 -- both texts were written whole
 pub record WroteWhole (log log_now out out_now : Option (List ℕ)) (log_text out_text : List ℕ) : Type 0 where
@@ -61,21 +74,23 @@ WrotePart log log_now out out_now log_text out_text =
     (((front : List ℕ) × GotFront log log_now log_text front) × Appends out out_now [])
     ⊎ (Appends log log_now log_text × ((front : List ℕ) × GotFront out out_now out_text front))
 
--- the source gave the text of a script to its end; the log gained the text of a run's history, the output its replies
-pub record RanWhole (before now log log_now out out_now : Option (List ℕ)) (text : List ℕ) (s : Scripted) (history : List Event) (log_text out_text : List ℕ) : Type 0 where
+-- the source gave the text of a script to its end; the log gained the text of the history of a
+-- run with so many workers, the output its replies
+pub record RanWhole (workers : ℕ) (before now log log_now out out_now : Option (List ℕ)) (text : List ℕ) (s : Scripted) (history : List Event) (log_text out_text : List ℕ) : Type 0 where
   pub spelled : Spells served text s
   pub consumed : Consumes before now text
   pub ended : IsAtEnd now
-  pub run : IsRun 1 s history log_text out_text
+  pub run : IsRun workers s history log_text out_text
   pub logged : Appends log log_now log_text
   pub replied : Appends out out_now out_text
 
--- the source gave the text of a script to its end; what was written is a front of the texts of a run, the log's first
-pub record RanPart (before now log log_now out out_now : Option (List ℕ)) (text : List ℕ) (s : Scripted) (history : List Event) (log_text out_text : List ℕ) : Type 0 where
+-- the source gave the text of a script to its end; what was written is a front of the texts of a run
+-- with so many workers, the log's first
+pub record RanPart (workers : ℕ) (before now log log_now out out_now : Option (List ℕ)) (text : List ℕ) (s : Scripted) (history : List Event) (log_text out_text : List ℕ) : Type 0 where
   pub spelled : Spells served text s
   pub consumed : Consumes before now text
   pub ended : IsAtEnd now
-  pub run : IsRun 1 s history log_text out_text
+  pub run : IsRun workers s history log_text out_text
   pub wrote : WrotePart log log_now out out_now log_text out_text
 
 -- the log gained a front of a line, all of it where its count of faults did not rise

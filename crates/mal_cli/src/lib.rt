@@ -8,6 +8,7 @@ mod program;
 mod refusal;
 mod run;
 mod verifying;
+mod words;
 
 pub use program::top;
 pub use run::{Ran, run_script};

@@ -1,6 +1,6 @@
 //! Running a script.
 
-ghost use Rattle.std.specs.Prelude.{List, IfOk};
+ghost use Rattle.std.specs.Prelude.{◌≤◌, List, IfOk};
 ghost use Rattle.spec_hall.specs.Events.{Event};
 ghost use Rattle.spec_run.specs.Run.{IsRun};
 ghost use Rattle.spec_script.specs.Formed.{IsScript};
@@ -17,12 +17,14 @@ pub struct Ran {
     pub out: Vec<u8>,
 }
 
-/// Runs a script with one worker, and makes the texts of its history and its replies.
-pub fn run_script(alloc: Global, script: &Script) -> Result<Ran, AllocError>
-    requires { IsScript served script.now }
-    ensures { IfOk result (λ r. (history : List Event) × IsRun 1 script.now history r.log.items r.out.items) }
+/// Runs a script with 1 to 64 workers, and makes the texts of its history and its replies.
+pub fn run_script(alloc: Global, script: &Script, workers: u32) -> Result<Ran, AllocError>
+    requires formed { IsScript served script.now }
+    requires some { 1 ≤ workers }
+    requires bound { workers ≤ 64 }
+    ensures { IfOk result (λ r. (history : List Event) × IsRun workers script.now history r.log.items r.out.items) }
 {
-    let hall = run_all(alloc, script)?;
+    let hall = run_all(alloc, script, workers)?;
     let log = mal_history::write(alloc, hall.history())?;
     let out = replies(alloc, &hall, script)?;
     Ok(Ran { log, out })

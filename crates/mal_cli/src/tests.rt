@@ -19,10 +19,16 @@ fn words(alloc: Global, texts: &[&str]) -> Result<Vec<String>, AllocError> {
 #[test]
 fn other_words_are_refused_with_the_usage_line(rt: HostRuntime) {
     let alloc = rt.alloc();
-    let refused: [&[&str]; 7] = [
+    let refused: [&[&str]; 13] = [
         &["mal"],
         &["mal", "run"],
         &["mal", "run", "--workers", "0"],
+        &["mal", "run", "--workers", "65"],
+        &["mal", "run", "--workers", "04"],
+        &["mal", "run", "--workers", "+4"],
+        &["mal", "run", "--workers", "-1"],
+        &["mal", "run", "--workers", ""],
+        &["mal", "run", "--workers", "1 "],
         &["mal", "run", "--workers", "1", "1"],
         &["mal", "fly"],
         &["mal", "check", "check"],
@@ -67,6 +73,26 @@ fn a_script_without_a_job_has_an_empty_history(rt: HostRuntime) {
     assert_eq!(rt; status, 0);
     assert_eq!(rt; log.bytes(), b"h mal 1 1\n".as_slice());
     assert_eq!(rt; out.bytes(), b"".as_slice());
+}
+
+#[test]
+fn the_history_names_the_workers_of_the_words(rt: HostRuntime) {
+    let alloc = rt.alloc();
+    let runs: [(&str, &[u8]); 4] = [
+        ("2", b"h mal 1 2\n"),
+        ("9", b"h mal 1 9\n"),
+        ("10", b"h mal 1 10\n"),
+        ("64", b"h mal 1 64\n"),
+    ];
+    for (number, history) in runs {
+        let words = words(alloc, &["mal", "run", "--workers", number]).expect(&rt, "words");
+        let mut source = MemSource::new(b"c x\n", 4, &[]);
+        let mut out = MemSink::new(alloc, 4, &[]);
+        let mut log = MemSink::new(alloc, 4, &[]);
+        let status = top(alloc, words.as_slice(), &mut source, &mut out, &mut log);
+        assert_eq!(rt; status, 0);
+        assert_eq!(rt; log.bytes(), history);
+    }
 }
 
 #[test]

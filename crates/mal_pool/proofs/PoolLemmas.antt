@@ -61,13 +61,13 @@ known-all h before (j ∷ js) keys = (
 )
 
 -- a hall in which a script was posted and that went on by turns until no job was live has run it
-pub has-run : (s : Scripted) (h : Seen) → h.workers ≡ 1 → Legal h.workers h.events → GrowsByTurns 1 (script_events s) h.events → lives (states h.events) ≡ [] → leases h.events ≡ [] → HasRun s h
-has-run s h workers legal grows answered home = record {
-  workers = workers;
+pub has-run : (workers : ℕ) (s : Scripted) (h : Seen) → h.workers ≡ workers → Legal h.workers h.events → GrowsByTurns workers (script_events s) h.events → lives (states h.events) ≡ [] → leases h.events ≡ [] → HasRun workers s h
+has-run workers s h are legal grows answered home = record {
+  workers_are = are;
   legal = legal;
-  complete = grown-complete 1 s h.events grows answered home;
-  driven = grown-driven 1 s h.events grows answered;
-  known = known-all h.events [] s.jobs (grown-keys 1 s h.events grows);
+  complete = grown-complete workers s h.events grows answered home;
+  driven = grown-driven workers s h.events grows answered;
+  known = known-all h.events [] s.jobs (grown-keys workers s h.events grows);
 }
 
 -- each job of a script that was run is known

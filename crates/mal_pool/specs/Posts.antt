@@ -21,13 +21,13 @@ abbrev pub AreKnown : List Event → List ScriptedJob → Type 0
 AreKnown history [] = Unit {0}
 AreKnown history (j ∷ js) = IsKnown history j × AreKnown history js
 
--- a hall of one worker has run a script: its history is legal and complete for the script, and comes by turns of all that
--- the script posts; the hall knows the jobs
-pub record HasRun (s : Scripted) (h : Seen) : Type 0 where
-  pub workers : h.workers ≡ 1
+-- a hall of so many workers has run a script: its history is legal and complete for the script, and comes by turns of all
+-- that the script posts; the hall knows the jobs
+pub record HasRun (workers : ℕ) (s : Scripted) (h : Seen) : Type 0 where
+  pub workers_are : h.workers ≡ workers
   pub legal : Legal h.workers h.events
   pub complete : IsComplete s h.events
-  pub driven : IsDriven 1 (script_events s) h.events
+  pub driven : IsDriven workers (script_events s) h.events
   pub known : AreKnown h.events s.jobs
 
 -- the reply to a job's revision of this number

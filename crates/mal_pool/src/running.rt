@@ -1,6 +1,6 @@
 //! Running a script.
 
-ghost use Rattle.std.specs.Prelude.{◌≡◌, List, ◌++◌, [], ◌∷◌, flat_map, IfOk, OnOk};
+ghost use Rattle.std.specs.Prelude.{◌≡◌, ◌≤◌, List, ◌++◌, [], ◌∷◌, flat_map, IfOk, OnOk};
 ghost use Rattle.mal_hall.specs.Seen.{next_number};
 ghost use Rattle.mal_pool.specs.Posts.{HasRun};
 ghost use Rattle.mal_revision.specs.Posted.{Posted};
@@ -18,14 +18,16 @@ use mal_revision::Revision;
 use mal_script::{Script, ScriptJob};
 use std::alloc::{AllocError, Global};
 
-/// Runs a script with one worker: all jobs are opened, and then job by job its revisions and its closing are posted, in
+/// Runs a script with 1 to 64 workers: all jobs are opened, and then job by job its revisions and its closing are posted, in
 /// the order of the script. The hall is driven until every revision is answered.
-pub fn run_all(alloc: Global, script: &Script) -> Result<Hall, AllocError>
-    requires { IsScript served script.now }
-    ensures { IfOk result (λ h. HasRun script.now h) }
+pub fn run_all(alloc: Global, script: &Script, workers: u32) -> Result<Hall, AllocError>
+    requires formed { IsScript served script.now }
+    requires some { 1 ≤ workers }
+    requires bound { workers ≤ 64 }
+    ensures { IfOk result (λ h. HasRun workers script.now h) }
 {
     let mut scratch = Scratch::new(alloc);
-    let mut hall = Hall::new(alloc);
+    let mut hall = Hall::new(alloc, workers);
     open_all(alloc, &mut hall, script.jobs())?;
     post_all(alloc, &mut hall, script.jobs())?;
     hall.drive(alloc, &mut scratch)?;

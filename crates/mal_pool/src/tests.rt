@@ -1,5 +1,7 @@
 //! Scripts whose replies and whose history are known.
 
+ghost use Rattle.std.specs.Prelude.{◌≤◌};
+
 use crate::{replies, run_all};
 use mal_script::read;
 use std::alloc::Global;
@@ -8,14 +10,17 @@ use std::test::Fail;
 /// The replies to the script of a text.
 fn replies_of(alloc: Global, text: &[u8]) -> Result<Vec<u8>, Fail> {
     let script = read(alloc, text)?;
-    let hall = run_all(alloc, &script)?;
+    let hall = run_all(alloc, &script, 1)?;
     Ok(replies(alloc, &hall, &script)?)
 }
 
 /// The text of the history of a run of the script of a text.
-fn history_of(alloc: Global, text: &[u8]) -> Result<Vec<u8>, Fail> {
+fn history_of(alloc: Global, text: &[u8], workers: u32) -> Result<Vec<u8>, Fail>
+    requires some { 1 ≤ workers }
+    requires bound { workers ≤ 64 }
+{
     let script = read(alloc, text)?;
-    let hall = run_all(alloc, &script)?;
+    let hall = run_all(alloc, &script, workers)?;
     Ok(mal_history::write(alloc, hall.history())?)
 }
 
@@ -81,7 +86,7 @@ fn each_revision_is_replied_to(rt: HostRuntime) -> Result<(), Fail> {
 
 #[test]
 fn all_revisions_are_posted_before_the_first_slice(rt: HostRuntime) -> Result<(), Fail> {
-    let text = history_of(rt.alloc(), THREE_REVISIONS)?;
+    let text = history_of(rt.alloc(), THREE_REVISIONS, 1)?;
     let known =
         b"h mal 1 1\no a p 1 1 4\nr a p 1\nr a p 2\nr a p 3\nc a p\nb a p 1\ns a p 0 1\nf a p 0 1 ran\ns a p 0 1\nf a p 0 1 ran\ns a p 0 1\nf a p 0 1 ran\n";
     assert_eq!(rt; text.as_slice(), known.as_slice());
@@ -99,9 +104,18 @@ fn jobs_of_two_tenants_are_replied_to_in_their_order(rt: HostRuntime) -> Result<
 
 #[test]
 fn jobs_of_two_tenants_run_one_behind_another(rt: HostRuntime) -> Result<(), Fail> {
-    let text = history_of(rt.alloc(), TWO_TENANTS)?;
+    let text = history_of(rt.alloc(), TWO_TENANTS, 1)?;
     let known =
         b"h mal 1 1\no a p 1 1 4\no b p 1 1 4\nr a p 1\nc a p\nr b p 1\nc b p\nb a p 1 b p 0\ns a p 0 1\nf a p 0 1 ran\nb b p 1\ns b p 0 1\nf b p 0 1 ran\n";
+    assert_eq!(rt; text.as_slice(), known.as_slice());
+    Ok(())
+}
+
+#[test]
+fn each_of_two_jobs_has_a_worker_where_there_are_two(rt: HostRuntime) -> Result<(), Fail> {
+    let text = history_of(rt.alloc(), TWO_TENANTS, 2)?;
+    let known =
+        b"h mal 1 2\no a p 1 1 4\no b p 1 1 4\nr a p 1\nc a p\nr b p 1\nc b p\nb a p 1 b p 1\ns a p 0 1\nf a p 0 1 ran\nb b p 1\ns b p 0 1\nf b p 0 1 ran\n";
     assert_eq!(rt; text.as_slice(), known.as_slice());
     Ok(())
 }

@@ -11,7 +11,7 @@ put_replies-requires-clause-few c =
 pub put_replies-requires-clause-known : goal.put_replies-requires-clause-known
 put_replies-requires-clause-known c =
     let low : c.loop-job.job-index < length c.jobs-job-items.result.now = omega arith in
-    known-at c.args.hall.now.events c.args.script.now.jobs c.loop-job.job-index c.job-item.result c.requires.run.known (rw c.jobs-job-items.ensures at low) (rw c.jobs-job-items.ensures at c.job-item.is)
+    known-at c.args.hall.now.events c.args.script.now.jobs c.loop-job.job-index c.job-item.result c.requires.run.1.known (rw c.jobs-job-items.ensures at low) (rw c.jobs-job-items.ensures at c.job-item.is)
 
 pub returns : goal.returns
 returns c = replied-all c.args.script.now c.args.hall.now.events c.jobs-job-items.result.now c.loop-job.job-index c.loop-job.text.items c.jobs-job-items.ensures c.loop-job.invariant (omega arith)
