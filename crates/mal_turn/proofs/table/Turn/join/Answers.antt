@@ -1,0 +1,70 @@
+use Rattle.std.proofs.Common.{refl}
+use Rattle.std.proofs.Common.{rules, ◌≡◌, [], sym, ap, ◌∙◌, subst}
+use mathlib.Core.Option as lean
+use Rattle.atomic_table.specs.Table.{Allows, Joins, step}
+use Rattle.spec_turn.specs.declared.view.View.{View}
+use Rattle.spec_turn.specs.declared.view.Stage.TheVariants.{Idle}
+use Rattle.spec_turn.specs.Rule.{Begins, TurnRule, Has, at_stage, join_both, nobody}
+use Rattle.spec_turn.specs.Steps.{Sat, learns, looks}
+use Rattle.spec_turn.proofs.Paths.{has_left}
+use Rattle.spec_turn.proofs.Keeps.{joins_keep, learns_keep}
+use Rattle.mal_turn.proofs.table.Turn.join.Goals as goal
+
+pub join_seat-requires : goal.join_seat-requires
+join_seat-requires g c =
+    let id = c.args.seat.place.id in
+    let v = c.args.seat.place.me.0 in
+    let other = c.args.other.place.id in
+    let w = c.args.other.place.me.0 in
+    let is : v ≡ at_stage Idle v = ap (λ (m : Sat g.row.T.Denot g.row.T-Entry.Denot). m.0) c.args.seat.idle in
+    let is2 : w ≡ at_stage Idle w = ap (λ (m : Sat g.row.T.Denot g.row.T-Entry.Denot). m.0) c.args.other.idle in
+    let F = λ (x y : View g.row.T-Entry.Denot). Joins (TurnRule g.T.Recorded.stands) id x other y (join_both x y) nobody in (
+      c.requires.one,
+      c.requires.other,
+      ap (λ (m : Sat g.row.T.Denot g.row.T-Entry.Denot). m.1) c.args.other.idle,
+      search rules,
+      subst (λ (x : View g.row.T-Entry.Denot). F x w) (sym is) (subst (F (at_stage Idle v)) (sym is2) (joins_keep g.T.Recorded.stands id v other w c.args.seat.live)),
+    )
+
+pub load-requires : goal.load-requires
+load-requires g c =
+    let n = c.args.self.now.table.shared.table_id.slots in
+    let id = c.join_seat.new.seat.id in
+    let v = c.args.seat.place.me.0 in
+    let w = c.args.other.place.me.0 in
+    let is : c.join_seat.new.seat.me ≡ (at_stage Idle (join_both v w), []) = c.join_seat.ensures.2 ∙ ap (λ (m : Sat g.row.T.Denot g.row.T-Entry.Denot). (join_both m.0 w, m.1)) c.args.seat.idle in
+    let F = λ (m : Sat g.row.T.Denot g.row.T-Entry.Denot). Allows (TurnRule g.T.Recorded.stands) n id m 1 (λ x. x) (looks g.T.Recorded.stands (step n 1 0 0 lean.none) m) in (
+      search rules,
+      search rules,
+      subst F (sym is) (learns_keep g.T.Recorded.stands n id (join_both v w) (has_left v.of.first v.of.all w.of.all c.args.seat.live)),
+    )
+
+pub invariant_of-result : goal.invariant_of-result
+invariant_of-result g c =
+    let v = c.args.seat.place.me.0 in
+    let w = c.args.other.place.me.0 in
+    let is : c.join_seat.new.seat.me ≡ (at_stage Idle (join_both v w), []) = c.join_seat.ensures.2 ∙ ap (λ (m : Sat g.row.T.Denot g.row.T-Entry.Denot). (join_both m.0 w, m.1)) c.args.seat.idle in
+    let n = c.args.self.now.table.shared.table_id.slots in
+    let told : learns (at_stage Idle (join_both v w), []) c.load.new.seat.me = subst (λ (m : Sat g.row.T.Denot g.row.T-Entry.Denot). looks g.T.Recorded.stands (step n 1 0 0 lean.none) m c.load.result c.load.new.seat.me) is c.load.ensures.2 in
+    record {
+      idle = told.1 ∙ ap (λ (m : Sat g.row.T.Denot g.row.T-Entry.Denot). (at_stage Idle m.0, [])) (sym told.1);
+      live = subst (λ (m : Sat g.row.T.Denot g.row.T-Entry.Denot). Has m.0.of m.0.of.first) (sym told.1) (has_left v.of.first v.of.all w.of.all c.args.seat.live);
+    }
+
+pub returns-clause-one : goal.returns-clause-one
+returns-clause-one g c =
+    let v = c.args.seat.place.me.0 in
+    let w = c.args.other.place.me.0 in
+    let is : c.join_seat.new.seat.me ≡ (at_stage Idle (join_both v w), []) = c.join_seat.ensures.2 ∙ ap (λ (m : Sat g.row.T.Denot g.row.T-Entry.Denot). (join_both m.0 w, m.1)) c.args.seat.idle in
+    let n = c.args.self.now.table.shared.table_id.slots in
+    let told : learns (at_stage Idle (join_both v w), []) c.load.new.seat.me = subst (λ (m : Sat g.row.T.Denot g.row.T-Entry.Denot). looks g.T.Recorded.stands (step n 1 0 0 lean.none) m c.load.result c.load.new.seat.me) is c.load.ensures.2 in
+    subst (λ (m : Sat g.row.T.Denot g.row.T-Entry.Denot). Begins m.0.seen v.of.all v.seen) (sym told.1) (told.3 0 (v.of.all, v.seen) refl)
+
+pub returns-clause-other : goal.returns-clause-other
+returns-clause-other g c =
+    let v = c.args.seat.place.me.0 in
+    let w = c.args.other.place.me.0 in
+    let is : c.join_seat.new.seat.me ≡ (at_stage Idle (join_both v w), []) = c.join_seat.ensures.2 ∙ ap (λ (m : Sat g.row.T.Denot g.row.T-Entry.Denot). (join_both m.0 w, m.1)) c.args.seat.idle in
+    let n = c.args.self.now.table.shared.table_id.slots in
+    let told : learns (at_stage Idle (join_both v w), []) c.load.new.seat.me = subst (λ (m : Sat g.row.T.Denot g.row.T-Entry.Denot). looks g.T.Recorded.stands (step n 1 0 0 lean.none) m c.load.result c.load.new.seat.me) is c.load.ensures.2 in
+    subst (λ (m : Sat g.row.T.Denot g.row.T-Entry.Denot). Begins m.0.seen w.of.all w.seen) (sym told.1) (told.3 1 (w.of.all, w.seen) refl)

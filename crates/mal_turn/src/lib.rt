@@ -1,0 +1,13 @@
+//! A value that threads take in turns, by a ticket over an atomic table, with one record of what its holders did.
+#![tactic(auto)]
+
+mod holding;
+mod rule;
+mod steps;
+mod table;
+#[cfg(test)]
+mod tests;
+mod turn;
+mod waiting;
+
+pub use table::{Held, HeldOf, InUse, Seat, SeatOf, Turn};

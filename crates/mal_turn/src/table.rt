@@ -1,0 +1,63 @@
+//! The turn, its seats, and what a holder has.
+ghost use Rattle.std.specs.Prelude.{◌≡◌, ◌+◌, ◌^◌, ◌<◌, [], ◌∷◌, None, true};
+ghost use Rattle.spec_turn.specs.declared.view.Stage.TheVariants.{Idle, Holds};
+ghost use Rattle.spec_turn.specs.Numbers.{among};
+ghost use Rattle.spec_turn.specs.Rule.{at_stage};
+
+use crate::rule::TurnRule;
+use crate::waiting::Waiting;
+use atomic_table::Table;
+use spec_turn::{Recorded, View};
+use std::alloc::Global;
+
+// Indexes of words.
+pub(crate) const TICKET: usize = 0;
+
+pub(crate) const SERVING: usize = 1;
+
+pub(crate) const HISTORY: usize = 2;
+
+/// The table of a turn: three words, and one slot in which the value lies.
+type Board<T> = Table<Option<T>, View<<T as Recorded>::Entry>, (), TurnRule<T>, Global>;
+
+/// A seat at the table.
+pub(crate) type Place<T, E> = atomic_table::Seat<Option<T>, View<E>>;
+
+/// A value that threads take in turns.
+#[derive(Drop)]
+pub struct Turn<T: Recorded + Drop> {
+    pub(crate) table: Board<T>,
+    pub(crate) waiting: Waiting,
+    ghost wide: { (table.shared.table_id.words ≡ 3) × (table.shared.table_id.slots ≡ 1) },
+}
+
+/// The right to wait for the turn.
+pub type Seat<T> = SeatOf<T, <T as Recorded>::Entry>;
+
+/// A seat of values of a type, with the type of their entries.
+#[derive(Drop)]
+pub struct SeatOf<T, E> {
+    pub(crate) place: Place<T, E>,
+    ghost idle: { place.me ≡ (at_stage Idle place.me.0, []) },
+    ghost live: { among place.me.0.of.first place.me.0.of.all ≡ true },
+}
+
+/// The value, for as long as its holder has the turn. It is put back by `Turn::put`.
+pub type Held<T> = HeldOf<T, <T as Recorded>::Entry>;
+
+/// A held value of a type, with the type of its entries.
+pub struct HeldOf<T, E> {
+    pub value: T,
+    pub(crate) place: Place<T, E>,
+    pub(crate) ticket: u64,
+    ghost holds: { place.me ≡ (at_stage (Holds ticket) place.me.0, (0, None) ∷ []) },
+    ghost small: { ticket + 1 < 2 ^ 64 },
+    ghost live: { among place.me.0.of.first place.me.0.of.all ≡ true },
+}
+
+/// Why a turn was not closed: a ticket was drawn that its holder never passed on.
+#[derive(Debug, Drop)]
+pub struct InUse {
+    pub ticket: u64,
+    pub serving: u64,
+}

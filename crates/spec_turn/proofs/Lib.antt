@@ -1,0 +1,5 @@
+pub mod Lists
+pub mod Paths
+pub mod Keeps
+pub mod Records
+pub mod Wholes
