@@ -1,6 +1,8 @@
-use Rattle.std.proofs.Common.{◌≡◌, ℕ, zero, suc, ◌+◌, ◌<◌, ◌≤◌, true, false, ◌&&◌, ◌==◌, nat_lt, nat_le, nat_eq, List, [], ◌∷◌, ◌++◌, length, take, get_or, Option, Some, None, sym, refl, ap, arith}
-use Rattle.std.specs.List.{slice_get}
-use Rattle.std.proofs.lemmas.Bool.{and_parts, and_from, eqb-true}
+use Rattle.std.proofs.Common.{◌≡◌, ℕ, zero, suc, ◌+◌, ◌<◌, ◌≤◌, Bool, true, false, not, ◌&&◌, ◌==◌, ◌≢◌, eqb, nat_lt, nat_le, nat_eq, List, [], ◌∷◌, ◌++◌, length, take, get_or, Option, Some, None, sym, refl, ap, ◌∙◌, subst, arith}
+use Rattle.std.specs.Prelude.{◌||◌}
+use Rattle.std.specs.List.{slice_get, list_any}
+use Rattle.std.proofs.lemmas.Bool.{and_parts, and_from, eqb-true, eq-eqb, false≢true}
+use Rattle.std.proofs.lemmas.List.Folds.{list_any-append}
 use Rattle.std.proofs.lemmas.Bool.Decides.{nat_tests}
 use Rattle.mal_base.specs.Clauses.{rises}
 use Rattle.mal_base.specs.Formulas.{is_within}
@@ -9,11 +11,13 @@ use Rattle.spec_node.specs.Adding.{with_clause}
 use Rattle.spec_node.specs.State.{Node}
 use Rattle.spec_node.specs.Sound.{NumbersRise}
 use Rattle.mal_order.specs.Ordered.{Ordered}
+use Rattle.mal_order.specs.Rings.{IsApart, AreOnce, ArePlaced, IsTurned}
 use Rattle.mal_trail.specs.Rooms.{are_within}
 use Rattle.mal_freeze.specs.Imaged.{IsImage, are_new, is_new, are_clauses, are_literals, numbers_rise}
 use Rattle.mal_freeze.proofs.ListLemmas.{take-at}
 use Rattle.mal_cdcl.specs.Within.{IsNode, is_order_of}
 use Rattle.mal_cdcl.specs.Rising.{all_rise}
+use Rattle.mal_cdcl.proofs.StepLemmas.{test_le}
 
 test_lt : (a b : ℕ) → nat_lt a b ≡ true → a < b
 test_lt a b = grind (arith, nat_tests)
@@ -127,6 +131,43 @@ image-node n most o room turned listed i =
       claused = within-clauses n.variables n.clauses i.clauses;
       rising = rise-from 0 n.clauses i.numbers;
     }
+
+or-true : (b : Bool) → (b || true) ≡ true
+or-true true = refl
+or-true false = refl
+
+-- new numbers are apart from those before, and stand once
+apart-new : (g u : ℕ) (before vs : List ℕ) → list_any (eqb u) before ≡ true → are_new g before vs ≡ true → IsApart u vs
+apart-new g u before [] h w = tt
+apart-new g u before (v ∷ vs) h w =
+    let a = and_parts (is_new g before v) (are_new g (before ++ v ∷ []) vs) w in
+    let b = and_parts (nat_le 1 v && nat_le v g) (not (list_any (eqb v) before)) a.0 in
+    let other : v ≢ u = λ q. false≢true (sym (ap not (subst (λ (x : ℕ). list_any (eqb x) before ≡ true) (sym q) h)) ∙ b.1) in
+    let more : list_any (eqb u) (before ++ v ∷ []) ≡ true = rw (list_any-append (eqb u) before (v ∷ []), h) refl in
+    (other, apart-new g u (before ++ v ∷ []) vs more a.1)
+
+once-new : (g : ℕ) (before vs : List ℕ) → are_new g before vs ≡ true → AreOnce vs
+once-new g before [] w = tt
+once-new g before (v ∷ vs) w =
+    let a = and_parts (is_new g before v) (are_new g (before ++ v ∷ []) vs) w in
+    let here : list_any (eqb v) (before ++ v ∷ []) ≡ true = rw (list_any-append (eqb v) before (v ∷ []), eq-eqb v v refl) (or-true (list_any (eqb v) before)) in
+    (apart-new g v (before ++ v ∷ []) vs here a.1, once-new g (before ++ v ∷ []) vs a.1)
+
+placed-new : (g : ℕ) (before vs : List ℕ) → are_new g before vs ≡ true → ArePlaced (g + 1) vs
+placed-new g before [] w = tt
+placed-new g before (v ∷ vs) w =
+    let a = and_parts (is_new g before v) (are_new g (before ++ v ∷ []) vs) w in
+    let b = and_parts (nat_le 1 v && nat_le v g) (not (list_any (eqb v) before)) a.0 in
+    let c = and_parts (nat_le 1 v) (nat_le v g) b.0 in
+    let low : v ≤ g = test_le v g c.1 in
+    (test_le 1 v c.0, omega (arith, low), placed-new g (before ++ v ∷ []) vs a.1)
+
+-- the order of an image has the variables 1 to their number, each once
+pub image-turned : (n : Node) → IsImage n → IsTurned n.order
+image-turned n i =
+    let parts = and_parts (length n.order == n.variables) (are_new n.variables [] n.order) i.order in
+    let same : length n.order ≡ n.variables = eqb-true (length n.order) n.variables parts.0 in
+    record { once = once-new n.variables [] n.order parts.1; placed = rw same (placed-new n.variables [] n.order parts.1) }
 
 -- there are no more variables than the order of an image has
 pub image-order : (n : Node) → IsImage n → length n.order ≤ 65536

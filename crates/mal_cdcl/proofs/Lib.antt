@@ -11,3 +11,4 @@ pub mod DeriveLemmas
 pub mod BumpLemmas
 pub mod SliceLemmas
 pub mod LineLemmas
+pub mod PastLemmas

@@ -12,7 +12,7 @@ not_true : (b : Bool) → not b ≡ true → b ≡ false
 not_true true h = absurd (false≢true h)
 not_true false h = refl
 
-test_le : (a b : ℕ) → nat_le a b ≡ true → a ≤ b
+pub test_le : (a b : ℕ) → nat_le a b ≡ true → a ≤ b
 test_le a b = grind (arith, nat_tests)
 
 -- an open assumption is of a node's variables, and not true

@@ -1,8 +1,10 @@
-use Rattle.std.specs.Prelude.{◌≡◌, ℕ, ◌≤◌, Bool, true, List, length, nat_le}
+use Rattle.std.specs.Prelude.{◌≡◌, ℕ, ◌≤◌, Bool, true, List, length, take, nat_le}
 use Rattle.std.specs.List.{list_all}
 use Rattle.mal_base.specs.Formulas.{is_within}
 use Rattle.mal_base.specs.Held.{Held, Line}
+use Rattle.mal_base.specs.declared.trail_entry.TrailEntry.{TrailEntry}
 use Rattle.spec_node.specs.State.{Node}
+use Rattle.spec_node.specs.Value.{has_value, is_true}
 use Rattle.spec_node.specs.Sound.{NumbersRise}
 use Rattle.mal_order.specs.Ordered.{Ordered}
 use Rattle.mal_trail.specs.Rooms.{Room, are_within}
@@ -24,6 +26,11 @@ pub record IsNode (index variables most : ℕ) (assumptions : List ℕ) (order :
   pub phased : length phases ≡ variables
   pub claused : are_within variables clauses ≡ true
   pub rising : NumbersRise 1 clauses
+
+-- what a search has passed: the first variables of the order have values, and the first assumptions are true
+pub record IsPast (trail : List TrailEntry) (order : Ordered) (assumptions : List ℕ) (passed : ℕ) : Type 0 where
+  pub valued : list_all (has_value trail) (take order.passed order.list) ≡ true
+  pub assumed : list_all (is_true trail) (take passed assumptions) ≡ true
 
 -- what a node has room for: variables on its trail, variables of the order and phases that it does not have yet,
 -- assumptions, what its engine has room for, and lines more with their literals and hints

@@ -1,6 +1,6 @@
 //! What learning a clause does to a trail and to a decision order.
 
-ghost use Rattle.std.specs.Prelude.{◌≡◌, ℕ, ◌==◌, true, Some};
+ghost use Rattle.std.specs.Prelude.{◌≡◌, ℕ, Bool, ◌==◌, true, take, Some};
 ghost use Rattle.std.specs.List.{list_all, list_any};
 ghost use Rattle.spec_node.specs.Value.{left_literal};
 ghost use Rattle.spec_learn.specs.Analysis.{vars_in};
@@ -41,6 +41,7 @@ pub fn bump_all(order: &mut Order, lits: &[Lit])
     ensures index { order.new.index ≡ order.old.index }
     ensures list { order.new.list ≡ moved_all (vars_in lits.now) order.old.list }
     ensures room { order.new.room ≡ order.old.room }
+    ensures passed { (p : ℕ → Bool) → list_all p (take order.old.passed order.old.list) ≡ true → list_all p (take order.new.passed order.new.list) ≡ true }
 {
     for lit in lits {
         order.bump(lit.var());

@@ -6,6 +6,7 @@ mod fill;
 mod learning;
 mod needs;
 mod node;
+mod open;
 mod pick;
 mod restart;
 

@@ -25,7 +25,7 @@ ghost use Rattle.mal_cdcl.specs.Sliced.{HasSliceRoom, HasStepRoom, HasLowCounts,
 ghost use Rattle.mal_freeze.specs.Imaged.{IsImage};
 
 use crate::pick::{self, Pick};
-use crate::{copies, fill, learning, needs, restart};
+use crate::{copies, fill, learning, needs, open, restart};
 use mal_base::{ClauseId, Lines, Lit, Var, Verdict};
 use mal_buffer::{Buffer, Entry};
 use mal_freeze::{Image, Parts};
@@ -41,7 +41,8 @@ use std::mem;
 const SLICE_STEPS: u32 = 1000;
 
 /// A solver node over an engine of unit propagation: what it holds, how far its search has come, and what its last slice
-/// derived. Contracts see the record of its state, what it has room for, and the lines of that slice.
+/// derived. The first assumptions that were found true are passed until a cut. Contracts see the record of its state, what
+/// it has room for, and the lines of that slice.
 #[derive(Drop)]
 pub struct Node<E: Engine> {
     index: u32,
@@ -57,12 +58,13 @@ pub struct Node<E: Engine> {
     trail: Trail,
     engine: E,
     lines: Lines,
+    passed: usize,
 }
 
 impl<E: Engine> Model for Node<E> {
     ghost use Rattle.std.specs.Prelude.{◌-◌};
     ghost use Rattle.std.specs.Vec.{vec_len, vec_capacity};
-    ghost use Rattle.mal_cdcl.specs.Within.{Stocked, IsNode};
+    ghost use Rattle.mal_cdcl.specs.Within.{Stocked, IsNode, IsPast};
 
     ghost Value = { Stocked };
 
@@ -95,7 +97,7 @@ impl<E: Engine> Model for Node<E> {
       lines = n.lines.lines;
     } };
 
-    ghost invariant = { λ n. (IsNode n.index n.variables n.trail.room n.assumptions.items n.order n.phases.items (E.clauses n.engine)) × (E.fits n.engine n.trail.entries n.trail.processed) };
+    ghost invariant = { λ n. (IsNode n.index n.variables n.trail.room n.assumptions.items n.order n.phases.items (E.clauses n.engine)) × (E.fits n.engine n.trail.entries n.trail.processed) × (IsPast n.trail.entries n.order n.assumptions.items n.passed) };
 }
 
 impl<E: Engine> Node<E> {
@@ -118,6 +120,7 @@ impl<E: Engine> Node<E> {
             trail: Trail::new(alloc),
             engine: E::new(alloc),
             lines: Lines::new(alloc),
+            passed: 0,
         }
     }
 
@@ -211,6 +214,7 @@ impl<E: Engine> Node<E> {
             trail,
             engine,
             lines: Lines::new(alloc),
+            passed: 0,
         })
     }
 
@@ -254,9 +258,11 @@ impl<E: Engine> Node<E> {
         let added = variables.saturating_sub(self.variables);
         self.cut(0);
         self.trail.set_processed(0);
+        self.order.rewind();
         self.order.append_reserved(added);
         fill::push_phases(&mut self.phases, self.index % 2 == 1, added);
         fill::replace(&mut self.assumptions, revision.assumptions());
+        self.passed = 0;
         fill::add_clauses(&mut self.engine, &self.trail, first, revision.clauses());
         self.variables = self.variables.max(variables);
         self.conflict = None;
@@ -284,6 +290,8 @@ impl<E: Engine> Node<E> {
         ensures lines { self.new.lines ≡ self.old.lines }
     {
         fill::save(self.phases.as_mut_slice(), self.trail.above(level));
+        self.order.rewind();
+        self.passed = 0;
         self.trail.back_to(level);
     }
 
@@ -376,15 +384,12 @@ impl<E: Engine> Node<E> {
         }
     }
 
-    /// The first assumption that is not true.
-    fn first_open(&self) -> Option<Lit>
-        ensures { result ≡ first_open self.now.state.trail self.now.state.assumptions }
+    /// The first assumption that is not true. Those in front of it are passed.
+    fn first_open(&mut self) -> Option<Lit>
+        ensures value { result ≡ first_open self.old.state.trail self.old.state.assumptions }
+        ensures same { self.new ≡ self.old }
     {
-        let trail = &self.trail;
-        self.assumptions
-            .iter()
-            .copied()
-            .find(|l| !trail.is_true(*l))
+        open::first_open(&self.trail, self.assumptions.as_slice(), &mut self.passed)
     }
 
     /// Assumes this assumption, the first that is not true, at a new level, unless it is false: then gives it back.
@@ -616,7 +621,7 @@ impl<E: Listed> Node<E> {
             conflict: self.conflict,
             verdict: self.verdict,
             assumptions: Vec::from_slice(alloc, self.assumptions.as_slice())?,
-            order: Vec::from_slice(alloc, self.order.variables())?,
+            order: self.order.variables(alloc)?,
             phases: Vec::from_slice(alloc, self.phases.as_slice())?,
             trail: Vec::from_slice(alloc, self.trail.entries())?,
             clauses: copies::clauses_of(alloc, &self.engine)?,

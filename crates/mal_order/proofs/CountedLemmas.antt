@@ -1,5 +1,6 @@
-use Rattle.std.proofs.Common.{◌≡◌, ℕ, zero, suc, ◌+◌, ◌-◌, ◌*◌, ◌/◌, ◌<◌, ◌≤◌, List, [], ◌∷◌, ◌++◌, length, take, drop, refl, sym, ap, ◌∙◌, append_assoc, arith}
+use Rattle.std.proofs.Common.{◌≡◌, ℕ, zero, suc, ◌+◌, ◌-◌, ◌*◌, ◌/◌, ◌<◌, ◌≤◌, List, [], ◌∷◌, ◌++◌, length, take, drop, refl, ap, append_assoc, arith}
 use Rattle.spec_node.specs.Load.{counted, new_order}
+use Rattle.mal_order.specs.Rings.{IsApart}
 
 -- one number more, and the numbers behind it
 pub counted_next : (items : List ℕ) (a n p : ℕ) → p < n → (items ++ (a + p) ∷ []) ++ counted (a + (p + 1)) (n - (p + 1)) ≡ items ++ counted (a + p) (n - p)
@@ -32,3 +33,12 @@ pub new_order-runs : (index variables n : ℕ) → index ≤ 63 → new_order in
 new_order-runs index variables n h =
     let t : index * n / 64 ≤ n = turn-le index n h in
     rw (drop-counted (index * n / 64) n (variables + 1) t, take-counted (index * n / 64) n (variables + 1) t) refl
+
+pub length-counted : (n first : ℕ) → length (counted first n) ≡ n
+length-counted zero first = refl
+length-counted (suc n) first = omega (arith, length-counted n (first + 1))
+
+-- a number below those counted is none of them
+pub apart-counted : (k n first : ℕ) → k < first → IsApart k (counted first n)
+apart-counted k zero first l = tt
+apart-counted k (suc n) first l = ((λ q. omega (arith, q, l)), apart-counted k n (first + 1) (omega (arith, l)))

@@ -1,7 +1,8 @@
-use Rattle.std.proofs.Common.{◌≡◌, ℕ, ◌+◌, ◌<◌, ◌≤◌, Bool, true, false, cond, not, List, [], ◌∷◌, length, drop, get_or, Some, None, Option, is_some, refl, sym, ap, ◌∙◌, arith}
-use Rattle.std.specs.Prelude.{find, ◌||◌, option_map, ◌==◌}
-use Rattle.std.specs.List.{list_any}
-use Rattle.std.proofs.lemmas.List.{drop_more, drop_all}
+use Rattle.std.proofs.Common.{◌≡◌, ℕ, ◌+◌, ◌<◌, ◌≤◌, Bool, true, false, cond, not, List, [], ◌∷◌, zero, suc, length, take, drop, get_or, Some, None, is_some, refl, sym, ap, ◌∙◌}
+use Rattle.std.specs.Prelude.{find, ◌||◌, ◌&&◌, option_map, ◌==◌}
+use Rattle.std.specs.List.{list_all}
+use Rattle.std.proofs.lemmas.List.{drop_more, drop_all, take_more}
+use Rattle.std.proofs.lemmas.List.Folds.{list_all-append}
 use Rattle.mal_base.specs.Trails.{value_on}
 use Rattle.mal_base.specs.Literals.{var_of, has_plus}
 use Rattle.mal_base.specs.declared.trail_entry.TrailEntry.{TrailEntry}
@@ -29,3 +30,19 @@ free-later trail list place v b l q k =
 
 pub free-ends : (trail : List TrailEntry) (list : List ℕ) (place : ℕ) → length list ≤ place → first_free trail (drop place list) ≡ None
 free-ends trail list place l = rw (drop_all place list l) refl
+
+-- where the first variables have values, the first without one stands behind them
+pub free-passed : (trail : List TrailEntry) (list : List ℕ) (p : ℕ) → list_all (has_value trail) (take p list) ≡ true → first_free trail list ≡ first_free trail (drop p list)
+free-passed trail list zero h = refl
+free-passed trail [] (suc p) h = refl
+free-passed trail (v ∷ vs) (suc p) h = by_here (has_value trail v) h (free-passed trail vs p)
+  where
+    by_here : (b : Bool) → (b && list_all (has_value trail) (take p vs)) ≡ true → (list_all (has_value trail) (take p vs) ≡ true → first_free trail vs ≡ first_free trail (drop p vs)) → cond (not b) (Some v) (first_free trail vs) ≡ first_free trail (drop p vs)
+    by_here true k f = f k
+    by_here false k f = absurd (cc)
+
+-- one variable with a value more
+pub passed-more : (trail : List TrailEntry) (list : List ℕ) (p v : ℕ) (b : Bool) → p < length list → v ≡ get_or list p 0 → value_on trail v ≡ Some b → list_all (has_value trail) (take p list) ≡ true → list_all (has_value trail) (take (p + 1) list) ≡ true
+passed-more trail list p v b l q k h =
+    let valued : has_value trail v ≡ true = sym (value-shown trail v) ∙ ap is_some k in
+    rw (take_more list p 0 l, ← q, list_all-append, h, valued) refl

@@ -1,3 +1,3 @@
 mod CountedLemmas
-mod FrontLemmas
 mod FreeLemmas
+mod RingLemmas

@@ -1,34 +1,36 @@
 //! A decision order.
 
-ghost use Rattle.std.specs.Prelude.{◌≡◌, ◌+◌, ◌≤◌, ◌==◌, true, length, [], ◌++◌, OnOk, OnErr, IfOk, vec_len, vec_capacity};
-ghost use Rattle.std.specs.List.{list_any};
+ghost use Rattle.std.specs.Prelude.{◌≡◌, ℕ, ◌+◌, ◌≤◌, ◌<◌, ◌==◌, true, length, [], ◌++◌, take, get_or, OnOk, OnErr, IfOk};
+ghost use Rattle.std.specs.List.{list_any, list_all};
 ghost use Rattle.spec_node.specs.Load.{counted, new_order};
-ghost use Rattle.spec_node.specs.Value.{first_free};
+ghost use Rattle.spec_node.specs.Value.{first_free, has_value};
 ghost use Rattle.spec_learn.specs.Order.{moved};
+ghost use Rattle.mal_order.specs.Rings.{IsApart, IsTurned};
 
-use crate::front;
+use crate::ring::Ring;
 use mal_base::{TrailView, Var};
 use std::alloc::{AllocError, Global};
 use std::marker::Model;
 
-/// The decision order of a node: the first variable without a value is decided next. Contracts see the node's index (0 to
-/// 63), the variables in order, at most 65,536, and for how many more there is room.
+/// The decision order of a node: the first variable without a value is decided next. A search mark tells how many of the
+/// first variables were passed since they had values; who takes values away rewinds it. Contracts see the node's index (0
+/// to 63), the variables in order, at most 65,536, for how many more there is room, and how many are passed.
 #[derive(Drop)]
 pub struct Order {
     index: u32,
-    list: Vec<Var>,
+    ring: Ring,
+    passed: u32,
+    mark: u32,
 }
 
 impl Model for Order {
-    ghost use Rattle.std.specs.Prelude.{◌-◌};
-    ghost use Rattle.std.specs.Vec.{vec_len, vec_capacity};
     ghost use Rattle.mal_order.specs.Ordered.{Ordered, IsOrder};
 
     ghost Value = { Ordered };
 
-    ghost view = { λ o. record { index = o.index; list = o.list.items; room = vec_capacity o.list - vec_len o.list } };
+    ghost view = { λ o. record { index = o.index; list = o.ring.list; room = o.ring.room; passed = o.passed } };
 
-    ghost invariant = { λ o. IsOrder o.index o.list.items };
+    ghost invariant = { λ o. IsOrder o.index o.ring o.passed o.mark };
 }
 
 impl Order {
@@ -37,23 +39,38 @@ impl Order {
         requires { index ≤ 63 }
         ensures index { result.index ≡ index }
         ensures list { result.list ≡ [] }
+        ensures passed { result.passed ≡ 0 }
     {
         Order {
             index,
-            list: Vec::new(alloc),
+            ring: Ring::new(alloc),
+            passed: 0,
+            mark: 0,
         }
     }
 
-    /// The order of the node with this index (0 to 63) that has these variables, at most 65,536, in a row.
+    /// The order of the node with this index (0 to 63) that has the variables in this row: those from 1 to their number,
+    /// each once, at most 65,536.
     pub fn of_list(alloc: Global, index: u32, list: &[Var]) -> Result<Order, AllocError>
         requires index { index ≤ 63 }
         requires bound { length list.now ≤ 65536 }
+        requires turned { IsTurned list.now }
         ensures index { IfOk result (λ o. o.index ≡ index) }
         ensures list { IfOk result (λ o. o.list ≡ list.now) }
+        ensures passed { IfOk result (λ o. o.passed ≡ 0) }
     {
+        let mut ring = Ring::new(alloc);
+        let places = list.len() as u32;
+        ring.reserve(places)?;
+        ring.grow_reserved(places);
+        for var in list {
+            ring.push(var.number());
+        }
         Ok(Order {
             index,
-            list: Vec::from_slice(alloc, list)?,
+            ring,
+            passed: 0,
+            mark: 0,
         })
     }
 
@@ -61,11 +78,11 @@ impl Order {
     pub fn reserve(&mut self, n: u32) -> Result<(), AllocError>
         ensures index { self.new.index ≡ self.old.index }
         ensures list { self.new.list ≡ self.old.list }
+        ensures passed { self.new.passed ≡ self.old.passed }
         ensures room { OnOk result (n ≤ self.new.room) }
         ensures more { self.old.room ≤ self.new.room }
     {
-        self.list.reserve(n as usize)?;
-        Ok(())
+        self.ring.reserve(n)
     }
 
     /// Appends the next n variables, for which there is room: in rising order, turned left by the node's share of a turn.
@@ -75,12 +92,14 @@ impl Order {
         requires room { n ≤ self.old.room }
         ensures index { self.new.index ≡ self.old.index }
         ensures list { self.new.list ≡ self.old.list ++ new_order self.old.index (length self.old.list) n }
+        ensures passed { self.new.passed ≡ self.old.passed }
         ensures room { self.new.room + n ≡ self.old.room }
     {
-        let variables = self.list.len() as u32;
+        let variables = self.ring.len();
         let turn = self.index * n / 64;
-        push_counted(&mut self.list, variables + 1 + turn, n - turn);
-        push_counted(&mut self.list, variables + 1, turn);
+        self.ring.grow_reserved(n);
+        push_counted(&mut self.ring, variables + 1 + turn, n - turn);
+        push_counted(&mut self.ring, variables + 1, turn);
     }
 
     /// Appends the next n variables: in rising order, turned left by the node's share of a turn. With those that stand they
@@ -90,67 +109,110 @@ impl Order {
         ensures index { self.new.index ≡ self.old.index }
         ensures list { OnOk result (self.new.list ≡ self.old.list ++ new_order self.old.index (length self.old.list) n) }
         ensures unchanged { OnErr result (self.new.list ≡ self.old.list) }
+        ensures passed { self.new.passed ≡ self.old.passed }
     {
         self.reserve(n)?;
         self.append_reserved(n);
         Ok(())
     }
 
-    /// The first variable without a value. None exactly where every variable of the order has one.
+    /// The first variable without a value, where those that are passed have values. None exactly where every variable of
+    /// the order has one. What has a value in front of it is passed.
     pub fn first_free<T: TrailView>(&mut self, trail: &T) -> Option<Var>
+        requires { list_all (has_value (T.entries trail.now)) (take self.old.passed self.old.list) ≡ true }
         ensures value { result ≡ first_free (T.entries trail.now) self.old.list }
-        ensures same { self.new ≡ self.old }
+        ensures index { self.new.index ≡ self.old.index }
+        ensures list { self.new.list ≡ self.old.list }
+        ensures room { self.new.room ≡ self.old.room }
+        ensures passed { list_all (has_value (T.entries trail.now)) (take self.new.passed self.new.list) ≡ true }
     {
-        for place in 0..self.list.len() {
-            let var = self.list[place];
+        for _place in self.passed..self.ring.len() {
+            let var = self.ahead();
             match trail.value(var) {
                 None => return Some(var),
-                Some(_) => {}
+                Some(_) => self.pass(var),
             }
         }
         None
     }
 
-    /// Moves a variable of the order to the front. Takes no memory.
+    /// The variable behind those that are passed.
+    fn ahead(&self) -> Var
+        requires { self.now.passed < length self.now.list }
+        ensures { result ≡ get_or self.now.list self.now.passed 0 }
+    {
+        Var::of(self.ring.next(self.mark))
+    }
+
+    /// Passes the variable behind those that are passed.
+    fn pass(&mut self, var: Var)
+        requires within { self.old.passed < length self.old.list }
+        requires ahead { var ≡ get_or self.old.list self.old.passed 0 }
+        ensures index { self.new.index ≡ self.old.index }
+        ensures list { self.new.list ≡ self.old.list }
+        ensures room { self.new.room ≡ self.old.room }
+        ensures passed { self.new.passed ≡ self.old.passed + 1 }
+    {
+        self.passed += 1;
+        self.mark = var.number();
+    }
+
+    /// Moves a variable of the order to the front, and rewinds. Takes no memory.
     pub fn bump(&mut self, var: Var)
         requires { list_any (λ w. w == var) self.old.list ≡ true }
         ensures index { self.new.index ≡ self.old.index }
         ensures list { self.new.list ≡ moved var self.old.list }
         ensures room { self.new.room ≡ self.old.room }
+        ensures passed { self.new.passed ≡ 0 }
     {
-        front::move_to_front(self.list.as_mut_slice(), var);
+        self.rewind();
+        self.ring.bump(var.number());
     }
 
-    /// Tells the order that variables may have lost their values. The order stays as it is.
+    /// Tells the order that variables may have lost their values: none is passed any more.
     pub fn rewind(&mut self)
-        ensures { self.new ≡ self.old }
-    {}
+        ensures index { self.new.index ≡ self.old.index }
+        ensures list { self.new.list ≡ self.old.list }
+        ensures room { self.new.room ≡ self.old.room }
+        ensures passed { self.new.passed ≡ 0 }
+    {
+        self.passed = 0;
+        self.mark = 0;
+    }
 
     /// The variables in order.
-    pub fn variables(&self) -> &[Var]
-        ensures { result.now ≡ self.now.list }
+    pub fn variables(&self, alloc: Global) -> Result<Vec<Var>, AllocError>
+        ensures { IfOk result (λ v. v.items ≡ self.now.list) }
     {
-        self.list.as_slice()
+        let mut list = Vec::with_capacity(alloc, self.ring.len() as usize)?;
+        let mut mark = 0;
+        for _place in 0..self.ring.len() {
+            mark = self.ring.next(mark);
+            list.push_reserved(Var::of(mark));
+        }
+        Ok(list)
     }
 
     /// The number of variables.
     pub fn len(&self) -> usize
         ensures { result ≡ length self.now.list }
     {
-        self.list.len()
+        self.ring.len() as usize
     }
 }
 
-/// Appends so many variables from this one on.
-fn push_counted(list: &mut Vec<Var>, first: u32, count: u32)
+/// Appends so many numbers from this one on, none of which is in the ring.
+fn push_counted(ring: &mut Ring, first: u32, count: u32)
     requires some { 1 ≤ first }
     requires bound { first + count ≤ 65537 }
-    requires room { vec_len list.old + count ≤ vec_capacity list.old }
-    ensures items { list.new.items ≡ list.old.items ++ counted first count }
-    ensures len { vec_len list.new ≡ vec_len list.old + count }
-    ensures capacity { vec_capacity list.new ≡ vec_capacity list.old }
+    requires places { first + count ≤ ring.old.places }
+    requires few { length ring.old.list + count ≤ 65536 }
+    requires new { (v : ℕ) → first ≤ v → v < first + count → IsApart v ring.old.list }
+    ensures places { ring.new.places ≡ ring.old.places }
+    ensures list { ring.new.list ≡ ring.old.list ++ counted first count }
+    ensures room { ring.new.room ≡ ring.old.room }
 {
     for place in 0..count {
-        list.push_reserved(Var::of(first + place));
+        ring.push(first + place);
     }
 }

@@ -1,4 +1,4 @@
-use Rattle.std.proofs.Common.{◌≡◌, ℕ, ◌+◌, ◌∙◌, ap, drop, arith}
+use Rattle.std.proofs.Common.{◌≡◌, ℕ, ◌+◌, ◌∙◌, refl, ap, drop, arith}
 use Rattle.mal_base.specs.Literals.{var_of}
 use Rattle.spec_learn.specs.Analysis.{vars_in}
 use Rattle.spec_learn.specs.Order.{moved}
@@ -19,5 +19,6 @@ loop-lit-preserved c =
       index_is = c.bump.ensures.index ∙ inv.index_is;
       room_is = c.bump.ensures.room ∙ inv.room_is;
       done = rw listed (rw split at inv.done);
+      passed = λ p h. rw c.bump.ensures.passed refl;
       has = rw listed (are_in-moved (var_of c.lit-item.result) (vars_in (drop (c.loop-lit.lit-index + 1) c.args.lits.now)) c.loop-lit.order.list (rw split at inv.has));
     }

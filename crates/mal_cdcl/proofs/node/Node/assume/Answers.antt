@@ -1,5 +1,6 @@
-use Rattle.std.proofs.Common.{◌+◌, ◌≤◌, length, arith, sym, ◌∙◌}
+use Rattle.std.proofs.Common.{[], ◌∷◌, ◌+◌, ◌≤◌, length, arith, sym, ◌∙◌}
 use Rattle.mal_trail.proofs.TrailLemmas.{free_from_open}
+use Rattle.mal_cdcl.proofs.PastLemmas.{past-more}
 use Rattle.mal_cdcl.proofs.StepLemmas.{open_within, open_is}
 use Rattle.mal_cdcl.proofs.node.Node.assume.Goals as goal
 
@@ -19,4 +20,4 @@ pub invariant_of-self : goal.invariant_of-self
 invariant_of-self g c =
     let n = c.self.inside in
     let handled : n.trail.processed ≤ length n.trail.entries + 1 = rw (← c.self.view_is) at c.requires.handled in
-    rw (c.push.ensures.room, c.push.ensures.entries, c.push.ensures.processed) (c.self.invariant.0, g.met.E.Engine.fits_push n.engine n.trail.entries _ n.trail.processed handled c.self.invariant.1)
+    rw (c.push.ensures.room, c.push.ensures.entries, c.push.ensures.processed) (c.self.invariant.0, g.met.E.Engine.fits_push n.engine n.trail.entries _ n.trail.processed handled c.self.invariant.1, past-more n.trail.entries (_ ∷ []) n.order n.assumptions.items n.passed c.self.invariant.2)

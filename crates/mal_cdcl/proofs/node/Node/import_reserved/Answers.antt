@@ -27,4 +27,5 @@ invariant_of-self g c =
         rising = rw c.add_told.ensures.clauses (rising-new n.variables c.args.told.now held new inv.rising);
       },
       c.add_told.ensures.fits,
+      rw c.set_processed.ensures.entries c.self.invariant.2,
     )

@@ -1,14 +1,15 @@
-use Rattle.std.proofs.Common.{◌≡◌, ℕ, ◌+◌, true, List, length, None, refl, sym, ap, ◌∙◌, subst, arith}
+use Rattle.std.proofs.Common.{◌≡◌, ℕ, ◌+◌, true, List, [], ◌∷◌, length, None, refl, sym, ap, ◌∙◌, subst, arith}
 use Rattle.mal_base.specs.declared.trail_entry.TrailEntry.{TrailEntry}
 use Rattle.spec_node.specs.State.{Node}
-use Rattle.spec_node.specs.Value.{left_literal}
+use Rattle.spec_node.specs.Value.{has_value, left_literal}
 use Rattle.spec_node.specs.Cut.{cut, kept}
 use Rattle.spec_node.specs.Adding.{with_clause}
 use Rattle.spec_learn.specs.Analysis.{vars_in}
 use Rattle.spec_learn.specs.Learning.{analysis, derived_id, forced_by, learned}
 use Rattle.spec_learn.specs.Order.{moved_all}
-use Rattle.mal_cdcl.specs.Within.{Stocked, IsNode}
+use Rattle.mal_cdcl.specs.Within.{Stocked, IsNode, IsPast}
 use Rattle.mal_cdcl.proofs.ImageLemmas.{image-node}
+use Rattle.mal_cdcl.proofs.PastLemmas.{past-more}
 use Rattle.mal_cdcl.proofs.BumpLemmas.{are_in}
 use Rattle.mal_cdcl.proofs.DeriveLemmas.{new-number, fit-learned, image-learned, has-learned, processed-learned, free-learned, forced-keeps}
 use Rattle.mal_cdcl.proofs.node.Node.learn.Goals as goal
@@ -60,9 +61,11 @@ invariant_of-self g c =
     let turned : c.bump_all.new.order.index ≡ n.index = c.bump_all.ensures.index ∙ (c.self.invariant.0.turned ∙ ap (λ (m : Node). m.index) same) in
     let form = image-learned n c.args.id c.requires.sound c.requires.conflict c.requires.level c.requires.counts.serial in
     let after : IsNode n.index n.variables c.force.new.trail.room n.assumptions c.bump_all.new.order (cut a.level n).phases (g.E.ClauseView.clauses c.learn.new.self) = rw whole (image-node (learned c.args.id n) c.force.new.trail.room c.bump_all.new.order (omega (arith, c.self.invariant.0.room, variables, c.force.ensures.room)) turned listed form) in
-    let handled : v.trail.processed ≡ length v.trail.entries + 1 = ap (λ (m : Node). m.processed) same ∙ (processed-learned n c.args.id c.requires.sound c.requires.conflict c.requires.level ∙ sym (ap (λ (m : Node). length m.trail + 1) same)) in (
+    let handled : v.trail.processed ≡ length v.trail.entries + 1 = ap (λ (m : Node). m.processed) same ∙ (processed-learned n c.args.id c.requires.sound c.requires.conflict c.requires.level ∙ sym (ap (λ (m : Node). length m.trail + 1) same)) in
+    let past : IsPast c.force.new.trail.entries v.order v.assumptions.items v.passed = rw c.force.ensures.entries (forced-keeps (λ (es : List TrailEntry). IsPast es v.order v.assumptions.items v.passed) c.args.number v.trail.entries (left_literal v.trail.entries c.clause-2.result.now) c.self.invariant.2 (λ e. past-more v.trail.entries (e ∷ []) v.order v.assumptions.items v.passed c.self.invariant.2)) in (
       subst (λ (m : Node). IsNode m.index m.variables c.force.new.trail.room m.assumptions c.bump_all.new.order m.phases (g.E.ClauseView.clauses c.learn.new.self)) (sym same) after,
       rw (c.force.ensures.entries, c.force.ensures.processed) (forced-keeps (λ (es : List TrailEntry). g.E.Engine.fits c.learn.new.self es v.trail.processed) c.args.number v.trail.entries (left_literal v.trail.entries c.clause-2.result.now) c.learn.ensures.fits (λ e. g.met.E.Engine.fits_push c.learn.new.self v.trail.entries e v.trail.processed (omega (arith, handled)) c.learn.ensures.fits)),
+      record { valued = c.bump_all.ensures.passed (has_value c.force.new.trail.entries) past.valued; assumed = past.assumed },
     )
 
 pub returns-clause-state : goal.returns-clause-state

@@ -1,4 +1,4 @@
-use Rattle.std.proofs.Common.{◌≡◌, ◌-◌, ◌≤◌, List, length, ap, ◌∙◌, arith}
+use Rattle.std.proofs.Common.{◌≡◌, ◌-◌, ◌≤◌, List, length, refl, ap, ◌∙◌, arith}
 use Rattle.std.specs.Prelude.{max}
 use Rattle.mal_base.specs.Held.{Held}
 use Rattle.spec_node.specs.State.{Node}
@@ -33,12 +33,13 @@ invariant_of-self g c =
         small = omega (arith, most, inv.small, parts.small);
         room = omega (arith, most, c.requires.room.trail, trail, variables, c.set_processed.ensures.room);
         assumed = lits_more r.variables c.max-self-inside.result r.assumptions (omega (arith, most)) parts.assumed;
-        turned = c.append_reserved.ensures.index ∙ inv.turned;
-        ordered = rw (c.append_reserved.ensures.list, inv.turned, inv.complete) (order-loaded n.index n.variables c.saturating_sub-added.result c.max-self-inside.result n.order.list inv.place (omega (arith, most, added)) inv.ordered);
-        complete = rw c.append_reserved.ensures.list (omega (arith, order-long n.order.index (length n.order.list) c.saturating_sub-added.result n.order.list (omega (arith, inv.turned, inv.place)), inv.complete, most, added));
+        turned = c.append_reserved.ensures.index ∙ (c.rewind.ensures.index ∙ inv.turned);
+        ordered = rw (c.append_reserved.ensures.list, c.rewind.ensures.list, c.rewind.ensures.index, inv.turned, inv.complete) (order-loaded n.index n.variables c.saturating_sub-added.result c.max-self-inside.result n.order.list inv.place (omega (arith, most, added)) inv.ordered);
+        complete = rw (c.append_reserved.ensures.list, c.rewind.ensures.list, c.rewind.ensures.index) (omega (arith, order-long n.order.index (length n.order.list) c.saturating_sub-added.result n.order.list (omega (arith, inv.turned, inv.place)), inv.complete, most, added));
         phased = omega (arith, c.push_phases.ensures.len, inv.phased, most, added);
         claused = within-loaded n.variables r.variables c.max-self-inside.result c.args.first held r.clauses (omega (arith, most)) (omega (arith, most)) inv.claused parts.claused;
         rising = rw same (loaded-numbers r c.args.first c.args.self.now.state c.requires.new (rw same at inv.rising));
       }),
       c.add_clauses.ensures.fits,
+      record { valued = rw (c.append_reserved.ensures.passed, c.rewind.ensures.passed) refl; assumed = refl },
     )

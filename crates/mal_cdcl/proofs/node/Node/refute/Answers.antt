@@ -28,4 +28,4 @@ invariant_of-self g c =
     let form = image-refuted n c.args.scratch.now.clause c.requires.kept c.requires.counts.serial in
     let kept : IsNode n.index n.variables v.trail.room n.assumptions v.order n.phases (with_clause (record { id = c.args.number; lits = c.clause.result.now }) n.clauses) = rw (c.clause.ensures, c.requires.number) (image-node (refuted c.args.scratch.now.clause n) v.trail.room v.order (omega (arith, c.self.invariant.0.room, variables)) (c.self.invariant.0.turned ∙ ap (λ (m : Node). m.index) same) (ap (λ (m : Node). m.order) same) form) in
     let now : IsNode state.index state.variables v.trail.room state.assumptions v.order state.phases (with_clause (record { id = c.args.number; lits = c.clause.result.now }) state.clauses) = subst (λ (m : Node). IsNode m.index m.variables v.trail.room m.assumptions v.order m.phases (with_clause (record { id = c.args.number; lits = c.clause.result.now }) m.clauses)) (sym same) kept in
-    (rw c.learn.ensures.clauses now, c.learn.ensures.fits)
+    (rw c.learn.ensures.clauses now, c.learn.ensures.fits, c.self.invariant.2)

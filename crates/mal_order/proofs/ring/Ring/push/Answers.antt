@@ -1,0 +1,45 @@
+use Rattle.std.proofs.Common.{◌≡◌, ◌+◌, ◌++◌, ◌∷◌, [], length, refl, ap, ◌∙◌, sym, ℕ, arith}
+use Rattle.std.proofs.lemmas.List.{length-set, length-append}
+use Rattle.mal_order.specs.Rings.{walk, Leads}
+use Rattle.mal_order.proofs.RingLemmas.{ring-ended, walk-leads, length-walk}
+use Rattle.mal_order.proofs.ring.Ring.push.Goals as goal
+
+pub tie-requires-clause-here : goal.tie-requires-clause-here
+tie-requires-clause-here c =
+    let r = c.self.inside in
+    let t = ring-ended r.after r.before c.args.number r.spare _ c.self.invariant c.requires.some (rw (← c.self.view_is) at c.requires.place) (rw (← c.self.view_is) at c.requires.new) in
+    rw c.get-last.ensures t.last
+
+pub overflow_add-self : goal.overflow_add-self
+overflow_add-self c =
+    let bound = rw (← c.self.view_is, length-walk) at c.requires.bound in
+    omega (arith, bound)
+
+pub invariant_of-self : goal.invariant_of-self
+invariant_of-self c =
+    let r = c.self.inside in
+    let list = walk r.after.numbers 0 r.count in
+    let t = ring-ended r.after r.before c.args.number r.spare _ c.self.invariant c.requires.some (rw (← c.self.view_is) at c.requires.place) (rw (← c.self.view_is) at c.requires.new) in
+    let leads : Leads c.tie-2.new.after.numbers c.tie-2.new.before.numbers 0 (list ++ c.args.number ∷ []) 0 = rw (c.tie-2.ensures.after, c.tie-2.ensures.before, c.tie.ensures.after, c.tie.ensures.before, c.get-last.ensures) t.leads in
+    let long : length (list ++ c.args.number ∷ []) ≡ r.count + 1 = length-append list (c.args.number ∷ []) ∙ ap (λ (k : ℕ). k + 1) (length-walk r.after.numbers 0 r.count) in
+    let same = ap (λ (n : ℕ). walk c.tie-2.new.after.numbers 0 n) (sym long) ∙ walk-leads c.tie-2.new.after.numbers c.tie-2.new.before.numbers 0 0 (list ++ c.args.number ∷ []) leads in
+    let after : length c.tie-2.new.after.numbers ≡ length r.after.numbers = rw (c.tie-2.ensures.after, c.tie.ensures.after, length-set, length-set) refl in
+    let before : length c.tie-2.new.before.numbers ≡ length r.before.numbers = rw (c.tie-2.ensures.before, c.tie.ensures.before, length-set, length-set) refl in
+    rw same (record {
+      leads = leads;
+      once = t.once;
+      placed = rw after t.placed;
+      same = before ∙ (c.self.invariant.same ∙ sym after);
+      some = rw after c.self.invariant.some;
+      room_after = omega (arith, c.tie-2.ensures.room_after, c.tie.ensures.room_after, c.self.invariant.room_after);
+      room_before = omega (arith, c.tie-2.ensures.room_before, c.tie.ensures.room_before, c.self.invariant.room_before);
+    })
+
+pub returns-clause-list : goal.returns-clause-list
+returns-clause-list c =
+    let r = c.self.inside in
+    let list = walk r.after.numbers 0 r.count in
+    let t = ring-ended r.after r.before c.args.number r.spare _ c.self.invariant c.requires.some (rw (← c.self.view_is) at c.requires.place) (rw (← c.self.view_is) at c.requires.new) in
+    let leads : Leads c.tie-2.new.after.numbers c.tie-2.new.before.numbers 0 (list ++ c.args.number ∷ []) 0 = rw (c.tie-2.ensures.after, c.tie-2.ensures.before, c.tie.ensures.after, c.tie.ensures.before, c.get-last.ensures) t.leads in
+    let long : length (list ++ c.args.number ∷ []) ≡ r.count + 1 = length-append list (c.args.number ∷ []) ∙ ap (λ (k : ℕ). k + 1) (length-walk r.after.numbers 0 r.count) in
+    rw (← c.self.view_is) (ap (λ (n : ℕ). walk c.tie-2.new.after.numbers 0 n) (sym long) ∙ walk-leads c.tie-2.new.after.numbers c.tie-2.new.before.numbers 0 0 (list ++ c.args.number ∷ []) leads)
