@@ -10,8 +10,8 @@ ghost use Rattle.mal_verify.specs.Views.{views};
 ghost use Rattle.mal_verify.specs.Answers.{Gives, GivesRow};
 
 use mal_lrat::{Line, LineFault, read_line};
-use mal_text::{first_line, words};
-use std::alloc::{AllocError, Global};
+use mal_text::{first_line, first_word};
+use std::alloc::Global;
 
 /// A line of a proof with the number of its line in the text, from 1 on.
 #[derive(Debug, Drop)]
@@ -55,14 +55,10 @@ fn read_row(
 ) -> Result<u64, ProofFault>
     ensures { GivesRow (views lines.old.items) (views lines.new.items) result (row_at number last (words_of line.now)) }
 {
-    match is_passed(alloc, line) {
-        Err(_) => Err(ProofFault {
-            line: number,
-            fault: LineFault::OutOfMemory,
-        }),
-        Ok(true) => Ok(last),
-        Ok(false) => put_line(alloc, lines, number, line, last),
+    if is_passed(line) {
+        return Ok(last);
     }
+    put_line(alloc, lines, number, line, last)
 }
 
 /// Reads a line that counts, and puts it behind the lines before. Answers the last id behind it.
@@ -104,20 +100,12 @@ fn last_after(last: u64, line: &Line) -> u64
 }
 
 /// Whether a line of a text is passed over: it is empty, or a comment.
-fn is_passed(alloc: Global, line: &[u8]) -> Result<bool, AllocError>
-    ensures { IfOk result (λ b. b ≡ is_passed (words_of line.now)) }
+fn is_passed(line: &[u8]) -> bool
+    ensures { result ≡ is_passed (words_of line.now) }
 {
-    let words = words(alloc, line)?;
-    Ok(are_passed(words.as_slice()))
-}
-
-/// Whether a line of these words is passed over.
-fn are_passed(words: &[&[u8]]) -> bool
-    ensures { result ≡ is_passed (map (λ w. w.now) words.now) }
-{
-    match words {
-        [] => true,
-        [first, ..] => is_comment(first),
+    match first_word(line) {
+        None => true,
+        Some((first, _behind)) => is_comment(first),
     }
 }
 
