@@ -9,3 +9,4 @@ pub mod Laws
 pub mod Examples
 pub mod Led
 pub mod Texts
+pub mod Differ

@@ -6,3 +6,4 @@ pub mod Blocks
 pub mod Written
 pub mod Examples
 pub mod Laws
+pub mod Differ

@@ -2,6 +2,7 @@
 //! functions without a body.
 #![tactic(auto)]
 
+ghost use Rattle.spec_dimacs.specs.Differ.{FormulasDiffer, HaveOtherTexts};
 ghost use Rattle.spec_dimacs.specs.Examples.{SpelledExamples, HeaderExamples, FaultExamples};
 ghost use Rattle.spec_dimacs.specs.Laws.{SpellingIsRead, SpellsOne, SpelledIsFormula, WrittenIsSpelled, WrittenIsRead, LiteralsMakeOne, FaultIsFirst};
 
@@ -67,4 +68,10 @@ pub fn header_examples()
 #[tactic(auto, using(crate::proofs::Examples::fault_examples))]
 pub fn fault_examples()
     ensures { FaultExamples }
+{}
+
+/// Two formulas in form with one text are equal.
+pub fn formulas_differ()
+    ensures differ { FormulasDiffer }
+    ensures examples { HaveOtherTexts }
 {}

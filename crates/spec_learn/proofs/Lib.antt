@@ -13,3 +13,4 @@ pub mod CoreLemmas
 pub mod CoreClauseLemmas
 pub mod CoreSoundLemmas
 pub mod GoalLemmas
+pub mod FirstPointLemmas

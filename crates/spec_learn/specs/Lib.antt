@@ -7,3 +7,4 @@ pub mod CoreLaws
 pub mod RefutingLaws
 pub mod Examples
 pub mod RefutingExamples
+pub mod FirstPoint

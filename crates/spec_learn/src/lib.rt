@@ -5,6 +5,7 @@
 
 ghost use Rattle.spec_learn.specs.Examples.{HasExamples};
 ghost use Rattle.spec_learn.specs.CoreLaws.{CoreIsAssumed, CoreIsDerived, CoreIsSmall, FailedHasReason};
+ghost use Rattle.spec_learn.specs.FirstPoint.{HasFirstPoints, ResolvesAboveOne, WayEnds};
 ghost use Rattle.spec_learn.specs.Laws.{AnalysisIsSmall, EmptyAtZero, LearnedAsserts, LearnKeepsSound, LineIsDerived};
 ghost use Rattle.spec_learn.specs.RefutingExamples.{HasRefutingExamples};
 ghost use Rattle.spec_learn.specs.RefutingLaws.{CoreKeepsSound, EmptyKeepsSound, GoalIsHeld, NumberIsNew, OthersStayHeld};
@@ -23,6 +24,15 @@ pub fn line_is_derived()
 pub fn learned_asserts()
     ensures asserts { LearnedAsserts }
     ensures empty { EmptyAtZero }
+{}
+
+/// The clause that is learned is that of the first implication point: each time that a reason is resolved with at the current level,
+/// above level 0, the clause on its way has two literals of that level or more, and the way ends with the clause that is learned, which
+/// has one.
+pub fn first_implication_point()
+    ensures above_one { ResolvesAboveOne }
+    ensures ends { WayEnds }
+    ensures examples { HasFirstPoints }
 {}
 
 /// An analysis gives no more literals and hints than there are variables, and one more.

@@ -10,3 +10,4 @@ pub mod Again
 pub mod Named
 pub mod AssumedForms
 pub mod Formed
+pub mod Differ

@@ -8,3 +8,4 @@ pub mod Formed
 pub mod FaultLines
 pub mod Laws
 pub mod Examples
+pub mod Differ

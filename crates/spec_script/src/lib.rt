@@ -4,6 +4,7 @@
 
 mod fault;
 
+ghost use Rattle.spec_script.specs.Differ.{HaveOtherTexts, ScriptsDiffer};
 ghost use Rattle.spec_script.specs.Examples.{HasExamples, ReadingExamples, FaultExamples, LimitExamples};
 ghost use Rattle.spec_script.specs.Laws.{SpelledIsRead, SpelledIsWithin, WrittenIsSpelled, WrittenIsRead, SpelledIsScript, SpelledAgain};
 
@@ -61,4 +62,10 @@ pub fn spelled_is_script()
 /// What a text spells is read again from the one text that it is written as.
 pub fn spelled_again()
     ensures { SpelledAgain }
+{}
+
+/// Two scripts in form with one text are equal.
+pub fn scripts_differ()
+    ensures differ { ScriptsDiffer }
+    ensures examples { HaveOtherTexts }
 {}

@@ -1,0 +1,53 @@
+-- No two histories are written as one text.
+use Rattle.std.specs.Prelude.{◌≡◌, ◌≢◌, ℕ, ◌<◌, ◌^◌, List, [], ◌∷◌, codes}
+use Rattle.std.specs.List.{AllByRecursion}
+use Rattle.mal_base.specs.declared.verdict.Outcome.{Outcome}
+use Rattle.mal_base.specs.declared.verdict.Outcome.TheVariants.{Ran, Lost}
+use Rattle.spec_text.specs.Lines.{IsClean}
+use Rattle.mal_history.specs.declared.event.Event.{Event}
+use Rattle.mal_history.specs.declared.event.Event.TheVariants.{Open, Revise, Close, Balance, Start, Finish, Exchange}
+use Rattle.mal_history.specs.declared.event.Share.{Share}
+use Rattle.mal_history.specs.Text.{history_text}
+
+-- a number that is written has 64 bits
+abbrev pub IsNumber : ℕ → Type 0
+IsNumber n = n < 2 ^ 64
+
+-- the names of a volume's job are words, and its volume is a number
+pub record IsShare (s : Share) : Type 0 where
+  pub tenant : IsClean s.tenant
+  pub job : IsClean s.job
+  pub volume : IsNumber s.volume
+
+-- the names of an event are words, and its numbers are numbers
+abbrev pub IsWritable : Event → Type 0
+IsWritable (Open tenant job ask) = IsClean tenant × IsClean job × IsNumber ask.priority × IsNumber ask.demand × IsNumber ask.slices
+IsWritable (Revise tenant job number) = IsClean tenant × IsClean job × IsNumber number
+IsWritable (Close tenant job) = IsClean tenant × IsClean job
+IsWritable (Balance volumes) = AllByRecursion IsShare volumes
+IsWritable (Start tenant job index worker) = IsClean tenant × IsClean job × IsNumber index × IsNumber worker
+IsWritable (Finish tenant job index worker outcome) = IsClean tenant × IsClean job × IsNumber index × IsNumber worker
+IsWritable (Exchange tenant job) = IsClean tenant × IsClean job
+
+-- two histories are the same: they have as many workers, and the same events in the same order
+pub record AreSame (workers others : ℕ) (one other : List Event) : Type 0 where
+  pub workers_are : workers ≡ others
+  pub events : one ≡ other
+
+-- two histories with one text are the same
+abbrev pub HistoriesDiffer : Type 0
+HistoriesDiffer =
+    (workers others : ℕ) (one other : List Event) → IsNumber workers → IsNumber others → AllByRecursion IsWritable one → AllByRecursion IsWritable other
+    → history_text workers one ≡ history_text others other → AreSame workers others one other
+
+-- a start of a node by a worker, with its finish
+abbrev pub one_start : ℕ → ℕ → Outcome → List Event
+one_start index worker outcome = Start (codes "a") (codes "p") index worker ∷ Finish (codes "a") (codes "p") index worker outcome ∷ []
+
+-- worked examples: another outcome, another number of workers, the node's index and the worker exchanged, and an event less are
+-- other texts
+pub record HaveOtherTexts : Type 0 where
+  pub outcome : history_text 2 (one_start 0 1 Ran) ≢ history_text 2 (one_start 0 1 Lost)
+  pub workers : history_text 2 (one_start 0 1 Ran) ≢ history_text 3 (one_start 0 1 Ran)
+  pub exchanged : history_text 2 (one_start 2 1 Ran) ≢ history_text 2 (one_start 1 2 Ran)
+  pub less : history_text 2 (one_start 0 1 Ran) ≢ history_text 2 []

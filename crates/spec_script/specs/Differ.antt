@@ -1,0 +1,22 @@
+-- No two scripts are written as one text.
+use Rattle.std.specs.Prelude.{◌≡◌, ◌≢◌, [], ◌∷◌, codes}
+use Rattle.spec_script.specs.Limits.{Limits}
+use Rattle.spec_script.specs.Script.{Scripted, spelling}
+use Rattle.spec_script.specs.Formed.{IsScript}
+use Rattle.spec_script.specs.Examples.{job_named, job_with}
+
+-- two scripts in form with one text are equal
+abbrev pub ScriptsDiffer : Type 0
+ScriptsDiffer = (limits : Limits) (one other : Scripted) → IsScript limits one → IsScript limits other → spelling one ≡ spelling other → one ≡ other
+
+-- two jobs without revisions, in either order
+abbrev pub first_p : Scripted
+first_p = record { jobs = job_named (codes "p") [] ∷ job_named (codes "q") [] ∷ [] }
+
+abbrev pub first_q : Scripted
+first_q = record { jobs = job_named (codes "q") [] ∷ job_named (codes "p") [] ∷ [] }
+
+-- worked examples: another order of jobs, and a job less, are other texts
+pub record HaveOtherTexts : Type 0 where
+  pub order : spelling first_p ≢ spelling first_q
+  pub less : spelling first_p ≢ spelling (job_with [])
