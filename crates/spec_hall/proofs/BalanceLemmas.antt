@@ -10,25 +10,26 @@ use Rattle.mal_history.specs.declared.event.Share.{Share}
 use Rattle.spec_balance.specs.Fair.{IsFair, volume_at}
 use Rattle.spec_job.specs.Solo.{Volume}
 use Rattle.spec_job.specs.Titled.{Key, Titled, stepped}
+use Rattle.spec_job.specs.Viewed.{and_own}
 use Rattle.spec_hall.specs.Events.{Event, Balance, key_of}
 use Rattle.spec_hall.specs.Own.{is_key, volume_in}
 use Rattle.spec_hall.specs.States.{lives, live_of, live_ones, live_asks}
 use Rattle.spec_hall.specs.Legal.{Allowed}
-use Rattle.spec_hall.specs.Seats.{Seat, HasNoneUnlisted, HaveVolumes, IsSeated, jobs_in, listed_seats, listed_in, listed_asks, listed_volumes, is_live_seat, is_due, share_of, shares_from, shares_by, balanced_seat, balanced_from, balanced_by}
+use Rattle.spec_hall.specs.Seats.{Seat, HasNoneUnlisted, HaveVolumes, IsSeated, jobs_in, listed_seats, listed_in, noted_of, listed_asks, listed_volumes, is_live_seat, is_due, share_of, shares_from, shares_by, balanced_seat, balanced_from, balanced_by}
 use Rattle.spec_hall.proofs.KeyLemmas.{AreApart, is_key-back, is_key-same, key-differs}
-use Rattle.spec_hall.proofs.PushLemmas.{balanced-push, leases-push, Legal-push}
+use Rattle.spec_hall.proofs.PushLemmas.{balanced-push, Legal-push}
 use Rattle.spec_hall.proofs.OrderlyLemmas.{volume_in-absent}
 use Rattle.spec_hall.proofs.TouchLemmas.{given, states-balance}
 use Rattle.spec_hall.proofs.SeatLemmas.{seat_keys}
 use Rattle.spec_hall.proofs.DueLemmas.{live_keys, lives-unseated, seats-apart, seated-due}
 
 -- the shares are those of the live jobs, by opening
-shares-keys : (n : ℕ) (vs : List ℕ) (ss : List Seat) → map key_of (shares_from n vs ss) ≡ live_keys (lives (jobs_in ss))
+pub shares-keys : (n : ℕ) (vs : List ℕ) (ss : List Seat) → map key_of (shares_from n vs ss) ≡ live_keys (lives (jobs_in ss))
 shares-keys n vs [] = refl
 shares-keys n vs (x ∷ xs) = by_test (is_live_seat x) (shares-keys (n + 1) vs xs) (shares-keys n vs xs)
   where
-    by_test : (a : Bool) → map key_of (shares_from (n + 1) vs xs) ≡ live_keys (lives (jobs_in xs)) → map key_of (shares_from n vs xs) ≡ live_keys (lives (jobs_in xs)) → map key_of (cond a (share_of (volume_at vs n) x ∷ shares_from (n + 1) vs xs) (shares_from n vs xs)) ≡ live_keys (map live_of (cond a (x.titled ∷ live_ones (jobs_in xs)) (live_ones (jobs_in xs))))
-    by_test true later rest = ap (λ (ks : List Key). x.titled.key ∷ ks) later
+    by_test : (a : Bool) → map key_of (shares_from (n + 1) vs xs) ≡ live_keys (lives (jobs_in xs)) → map key_of (shares_from n vs xs) ≡ live_keys (lives (jobs_in xs)) → map key_of (cond a (share_of (volume_at vs n) x ∷ shares_from (n + 1) vs xs) (shares_from n vs xs)) ≡ live_keys (map live_of (cond a (x.job.titled ∷ live_ones (jobs_in xs)) (live_ones (jobs_in xs))))
+    by_test true later rest = ap (λ (ks : List Key). x.job.titled.key ∷ ks) later
     by_test false later rest = rest
 
 -- the volumes are given in order
@@ -42,7 +43,7 @@ shares-volumes n vs [] long = sym (drop-all n vs (omega (arith, long)))
     drop-all (suc m) (y ∷ ys) e = drop-all m ys (omega (arith, e))
 shares-volumes n vs (x ∷ xs) long = by_test (is_live_seat x) long (shares-volumes (n + 1) vs xs) (shares-volumes n vs xs)
   where
-    by_test : (a : Bool) → length vs ≡ n + length (map (λ (t : Titled). t.state.ask) (cond a (x.titled ∷ live_ones (jobs_in xs)) (live_ones (jobs_in xs)))) → (length vs ≡ (n + 1) + length (live_asks (jobs_in xs)) → map (λ (s : Share). s.volume) (shares_from (n + 1) vs xs) ≡ drop (n + 1) vs) → (length vs ≡ n + length (live_asks (jobs_in xs)) → map (λ (s : Share). s.volume) (shares_from n vs xs) ≡ drop n vs) → map (λ (s : Share). s.volume) (cond a (share_of (volume_at vs n) x ∷ shares_from (n + 1) vs xs) (shares_from n vs xs)) ≡ drop n vs
+    by_test : (a : Bool) → length vs ≡ n + length (map (λ (t : Titled). t.state.ask) (cond a (x.job.titled ∷ live_ones (jobs_in xs)) (live_ones (jobs_in xs)))) → (length vs ≡ (n + 1) + length (live_asks (jobs_in xs)) → map (λ (s : Share). s.volume) (shares_from (n + 1) vs xs) ≡ drop (n + 1) vs) → (length vs ≡ n + length (live_asks (jobs_in xs)) → map (λ (s : Share). s.volume) (shares_from n vs xs) ≡ drop n vs) → map (λ (s : Share). s.volume) (cond a (share_of (volume_at vs n) x ∷ shares_from (n + 1) vs xs) (shares_from n vs xs)) ≡ drop n vs
     by_test true e later rest =
         let within : n < length vs = omega (arith, e) in
         let long : length vs ≡ (n + 1) + length (live_asks (jobs_in xs)) = omega (arith, e) in
@@ -58,18 +59,18 @@ shares-unseated : (k : Key) (n : ℕ) (vs : List ℕ) (ss : List Seat) → list_
 shares-unseated k n vs ss h = volume_in-absent k (shares_from n vs ss) (ap (list_any (is_key k)) (shares-keys n vs ss) ∙ lives-unseated k ss h)
 
 -- the volume of the job in the first seat
-head-volume : (n : ℕ) (vs : List ℕ) (x : Seat) (xs : List Seat) → list_any (is_key x.titled.key) (seat_keys xs) ≡ false → volume_in x.titled.key (shares_from n vs (x ∷ xs)) ≡ cond (is_live_seat x) (volume_at vs n) 0
+head-volume : (n : ℕ) (vs : List ℕ) (x : Seat) (xs : List Seat) → list_any (is_key x.job.titled.key) (seat_keys xs) ≡ false → volume_in x.job.titled.key (shares_from n vs (x ∷ xs)) ≡ cond (is_live_seat x) (volume_at vs n) 0
 head-volume n vs x xs absent = by_test (is_live_seat x)
   where
     k : Key
-    k = x.titled.key
+    k = x.job.titled.key
 
     by_test : (a : Bool) → volume_in k (cond a (share_of (volume_at vs n) x ∷ shares_from (n + 1) vs xs) (shares_from n vs xs)) ≡ cond a (volume_at vs n) 0
     by_test true = ap (λ (mine : Bool). option_map_or (λ (s : Share). s.volume) (cond mine (Some (share_of (volume_at vs n) x)) (find (λ (s : Share). is_key k (key_of s)) (shares_from (n + 1) vs xs))) 0) (is_key-same k)
     by_test false = shares-unseated k n vs xs absent
 
 -- the volumes of the jobs behind it
-tail-volume : (n : ℕ) (vs : List ℕ) (x : Seat) (xs : List Seat) (j : Key) → is_key j x.titled.key ≡ false → volume_in j (shares_from n vs (x ∷ xs)) ≡ volume_in j (shares_from (cond (is_live_seat x) (n + 1) n) vs xs)
+tail-volume : (n : ℕ) (vs : List ℕ) (x : Seat) (xs : List Seat) (j : Key) → is_key j x.job.titled.key ≡ false → volume_in j (shares_from n vs (x ∷ xs)) ≡ volume_in j (shares_from (cond (is_live_seat x) (n + 1) n) vs xs)
 tail-volume n vs x xs j other = by_test (is_live_seat x)
   where
     by_test : (a : Bool) → volume_in j (cond a (share_of (volume_at vs n) x ∷ shares_from (n + 1) vs xs) (shares_from n vs xs)) ≡ volume_in j (shares_from (cond a (n + 1) n) vs xs)
@@ -81,28 +82,28 @@ balanced-jobs : (n : ℕ) (vs : List ℕ) (ss : List Seat) (shares : List Share)
 balanced-jobs n vs [] shares apart same = refl
 balanced-jobs n vs (x ∷ xs) shares apart same =
     let m : ℕ = cond (is_live_seat x) (n + 1) n in
-    let mine : volume_in x.titled.key shares ≡ cond (is_live_seat x) (volume_at vs n) 0 = same x.titled.key (or_left (is_key x.titled.key x.titled.key) (list_any (is_key x.titled.key) (seat_keys xs)) (is_key-same x.titled.key)) ∙ head-volume n vs x xs apart.0 in
-    ap (λ (v : ℕ). stepped x.titled (Volume v) ∷ jobs_in (balanced_from m vs xs)) (sym mine)
-    ∙ ap (λ (ts : List Titled). given shares x.titled ∷ ts) (balanced-jobs m vs xs shares apart.1 behind)
+    let mine : volume_in x.job.titled.key shares ≡ cond (is_live_seat x) (volume_at vs n) 0 = same x.job.titled.key (or_left (is_key x.job.titled.key x.job.titled.key) (list_any (is_key x.job.titled.key) (seat_keys xs)) (is_key-same x.job.titled.key)) ∙ head-volume n vs x xs apart.0 in
+    ap (λ (v : ℕ). stepped x.job.titled (Volume v) ∷ jobs_in (balanced_from m vs xs)) (sym mine)
+    ∙ ap (λ (ts : List Titled). given shares x.job.titled ∷ ts) (balanced-jobs m vs xs shares apart.1 behind)
   where
     behind : (j : Key) → list_any (is_key j) (seat_keys xs) ≡ true → volume_in j shares ≡ volume_in j (shares_from (cond (is_live_seat x) (n + 1) n) vs xs)
-    behind j stands = same j (or_right (is_key j x.titled.key) (list_any (is_key j) (seat_keys xs)) stands) ∙ tail-volume n vs x xs j (is_key-back x.titled.key j (key-differs (seat_keys xs) x.titled.key j apart.0 stands))
+    behind j stands = same j (or_right (is_key j x.job.titled.key) (list_any (is_key j) (seat_keys xs)) stands) ∙ tail-volume n vs x xs j (is_key-back x.job.titled.key j (key-differs (seat_keys xs) x.job.titled.key j apart.0 stands))
 
--- what a balancing keeps of a job is read of the live jobs after it
-balanced-read : {X : Type 0} (f : Titled → X) (keeps : (t : Titled) (v : ℕ) → f (stepped t (Volume v)) ≡ f t) (n : ℕ) (vs : List ℕ) (ss : List Seat) → map (λ (s : Seat). f s.titled) (listed_seats (balanced_from n vs ss)) ≡ map f (live_ones (jobs_in ss))
-balanced-read f keeps n vs [] = refl
-balanced-read {X} f keeps n vs (x ∷ xs) = by_test (is_live_seat x) (balanced_seat (volume_at vs n) x) (keeps x.titled (cond (is_live_seat x) (volume_at vs n) 0)) (balanced-read f keeps (cond (is_live_seat x) (n + 1) n) vs xs)
+-- what a balancing notes of a job is read of the live jobs
+balanced-read : {X : Type 0} (f : Seat → X) (g : Titled → X) (keeps : (x : Seat) (v : ℕ) → f (balanced_seat v x) ≡ g x.job.titled) (n : ℕ) (vs : List ℕ) (ss : List Seat) → map f (listed_seats (balanced_from n vs ss)) ≡ map g (live_ones (jobs_in ss))
+balanced-read f g keeps n vs [] = refl
+balanced-read {X} f g keeps n vs (x ∷ xs) = by_test (is_live_seat x) (balanced_seat (volume_at vs n) x) (keeps x (volume_at vs n)) (balanced-read f g keeps (cond (is_live_seat x) (n + 1) n) vs xs)
   where
     later : List Seat
     later = balanced_from (cond (is_live_seat x) (n + 1) n) vs xs
 
-    by_test : (a : Bool) (now : Seat) → f now.titled ≡ f x.titled → map (λ (s : Seat). f s.titled) (listed_seats later) ≡ map f (live_ones (jobs_in xs)) → map (λ (s : Seat). f s.titled) (cond a (now ∷ listed_seats later) (listed_seats later)) ≡ map f (cond a (x.titled ∷ live_ones (jobs_in xs)) (live_ones (jobs_in xs)))
-    by_test true now same rest = ap (λ (y : X). y ∷ map (λ (s : Seat). f s.titled) (listed_seats later)) same ∙ ap (λ (ys : List X). f x.titled ∷ ys) rest
+    by_test : (a : Bool) (now : Seat) → f now ≡ g x.job.titled → map f (listed_seats later) ≡ map g (live_ones (jobs_in xs)) → map f (cond a (now ∷ listed_seats later) (listed_seats later)) ≡ map g (cond a (x.job.titled ∷ live_ones (jobs_in xs)) (live_ones (jobs_in xs)))
+    by_test true now same rest = ap (λ (y : X). y ∷ map f (listed_seats later)) same ∙ ap (λ (ys : List X). g x.job.titled ∷ ys) rest
     by_test false now same rest = rest
 
 -- the seats after a balancing list the live jobs
 pub balanced-listed : (vs : List ℕ) (ss : List Seat) → listed_in (balanced_by vs ss) ≡ lives (jobs_in ss)
-balanced-listed vs ss = balanced-read live_of (λ t v. refl) 0 vs ss
+balanced-listed vs ss = balanced-read noted_of live_of (λ x v. refl) 0 vs ss
 
 -- with the volumes of the shares
 balanced-volumes : (n : ℕ) (vs : List ℕ) (ss : List Seat) → listed_volumes (balanced_from n vs ss) ≡ map (λ (s : Share). s.volume) (shares_from n vs ss)
@@ -110,9 +111,9 @@ balanced-volumes n vs [] = refl
 balanced-volumes n vs (x ∷ xs) = by_test (is_live_seat x) (is_live_seat x) refl (balanced-volumes (n + 1) vs xs) (balanced-volumes n vs xs)
   where
     now : Bool → Bool → Seat
-    now a b = record { titled = stepped x.titled (Volume (cond a (volume_at vs n) 0)); listed = b }
+    now a b = record { job = and_own x.job (Volume (cond a (volume_at vs n) 0)); listed = b; noted = x.job.titled.state.ask }
 
-    by_test : (a b : Bool) → b ≡ a → listed_volumes (balanced_from (n + 1) vs xs) ≡ map (λ (s : Share). s.volume) (shares_from (n + 1) vs xs) → listed_volumes (balanced_from n vs xs) ≡ map (λ (s : Share). s.volume) (shares_from n vs xs) → map (λ (s : Seat). s.titled.state.volume) (cond b (now a b ∷ listed_seats (balanced_from (cond a (n + 1) n) vs xs)) (listed_seats (balanced_from (cond a (n + 1) n) vs xs))) ≡ map (λ (s : Share). s.volume) (cond a (share_of (volume_at vs n) x ∷ shares_from (n + 1) vs xs) (shares_from n vs xs))
+    by_test : (a b : Bool) → b ≡ a → listed_volumes (balanced_from (n + 1) vs xs) ≡ map (λ (s : Share). s.volume) (shares_from (n + 1) vs xs) → listed_volumes (balanced_from n vs xs) ≡ map (λ (s : Share). s.volume) (shares_from n vs xs) → map (λ (s : Seat). s.job.titled.state.volume) (cond b (now a b ∷ listed_seats (balanced_from (cond a (n + 1) n) vs xs)) (listed_seats (balanced_from (cond a (n + 1) n) vs xs))) ≡ map (λ (s : Share). s.volume) (cond a (share_of (volume_at vs n) x ∷ shares_from (n + 1) vs xs) (shares_from n vs xs))
     by_test true true e later rest = ap (λ (ws : List ℕ). volume_at vs n ∷ ws) later
     by_test true false e later rest = absurd (cc)
     by_test false true e later rest = absurd (cc)
@@ -124,7 +125,7 @@ balanced-others n vs (x ∷ xs) = All-cons HasNoneUnlisted (balanced_seat (volum
 
 balanced-fair : (w : ℕ) (vs : List ℕ) (ss : List Seat) → IsFair w (live_asks (jobs_in ss)) vs → HaveVolumes w (balanced_by vs ss)
 balanced-fair w vs ss fair =
-    let asks : listed_asks (balanced_by vs ss) ≡ live_asks (jobs_in ss) = balanced-read (λ (t : Titled). t.state.ask) (λ t v. refl) 0 vs ss in
+    let asks : listed_asks (balanced_by vs ss) ≡ live_asks (jobs_in ss) = balanced-read (λ (s : Seat). s.noted) (λ (t : Titled). t.state.ask) (λ x v. refl) 0 vs ss in
     let volumes : listed_volumes (balanced_by vs ss) ≡ vs = balanced-volumes 0 vs ss ∙ shares-fair w vs ss fair in
     record {
       fair = subst (λ (asks : List Terms). IsFair w asks (listed_volumes (balanced_by vs ss))) (sym asks) (subst (IsFair w (live_asks (jobs_in ss))) (sym volumes) fair);
@@ -148,6 +149,5 @@ seated-balance w h ss vs seated fair due =
       legal = Legal-push w h (Balance shares) seated.legal (balance-allowed w h ss vs seated fair due);
       jobs = states-balance h shares ∙ (ap (map (given shares)) seated.jobs ∙ sym (balanced-jobs 0 vs ss shares (seats-apart w h ss seated) (λ j stands. refl)));
       last = balanced-push h (Balance shares) ∙ (ap lives seated.jobs ∙ sym (balanced-listed vs ss));
-      home = leases-push h (Balance shares) ∙ seated.home;
       volumes = balanced-fair w vs ss fair;
     }

@@ -1,42 +1,41 @@
 use Rattle.std.proofs.Common.{◌≡◌, ℕ, suc, Bool, true, false, cond, List, [], ◌∷◌, ◌++◌, slice_get, slice_set, Option, Some, None, refl, ◌∙◌, ap, subst}
 use Rattle.std.specs.Option.{option_map}
 use Rattle.spec_job.specs.Solo.{Exchanged, is_exchange_due}
-use Rattle.spec_job.specs.Titled.{stepped}
+use Rattle.spec_job.specs.Viewed.{and_own}
 use Rattle.spec_hall.specs.Events.{Event, Exchange}
 use Rattle.spec_hall.specs.States.{states, exchange_due}
 use Rattle.spec_hall.specs.Legal.{Allowed}
 use Rattle.spec_hall.specs.Seats.{Seat, IsSeated, jobs_in, is_due, first_exchange}
-use Rattle.spec_hall.proofs.PushLemmas.{leases-push}
 use Rattle.spec_hall.proofs.TouchLemmas.{exchange-touches}
-use Rattle.spec_hall.proofs.SeatLemmas.{seated-from, seats-of, seats-touch}
+use Rattle.spec_hall.proofs.SeatLemmas.{reseated, seats-touch}
 use Rattle.spec_hall.proofs.DueLemmas.{seated-calm}
 
 -- the first seat of whose job an exchange is due
-first-found : (ss : List Seat) (n : ℕ) (s : Seat) → first_exchange ss ≡ Some n → slice_get ss n ≡ Some s → exchange_due (jobs_in ss) ≡ Some s.titled
+pub first-found : (ss : List Seat) (n : ℕ) (s : Seat) → first_exchange ss ≡ Some n → slice_get ss n ≡ Some s → exchange_due (jobs_in ss) ≡ Some s.job.titled
 first-found [] n s first at = absurd (cc)
-first-found (x ∷ xs) n s first at = by_test (is_exchange_due x.titled.state) first (λ m e q. first-found xs m s e q)
+first-found (x ∷ xs) n s first at = by_test (is_exchange_due x.job.titled.state) first (λ m e q. first-found xs m s e q)
   where
-    by_rest : (o : Option ℕ) → first_exchange xs ≡ o → option_map suc o ≡ Some n → ((m : ℕ) → first_exchange xs ≡ Some m → slice_get xs m ≡ Some s → exchange_due (jobs_in xs) ≡ Some s.titled) → exchange_due (jobs_in xs) ≡ Some s.titled
+    by_rest : (o : Option ℕ) → first_exchange xs ≡ o → option_map suc o ≡ Some n → ((m : ℕ) → first_exchange xs ≡ Some m → slice_get xs m ≡ Some s → exchange_due (jobs_in xs) ≡ Some s.job.titled) → exchange_due (jobs_in xs) ≡ Some s.job.titled
     by_rest None e q rest = absurd (cc)
     by_rest (Some m) e q rest = let same : n ≡ suc m = cc in rest m e (subst (λ (i : ℕ). slice_get (x ∷ xs) i ≡ Some s) same at)
 
-    by_test : (b : Bool) → cond b (Some 0) (option_map suc (first_exchange xs)) ≡ Some n → ((m : ℕ) → first_exchange xs ≡ Some m → slice_get xs m ≡ Some s → exchange_due (jobs_in xs) ≡ Some s.titled) → cond b (Some x.titled) (exchange_due (jobs_in xs)) ≡ Some s.titled
+    by_test : (b : Bool) → cond b (Some 0) (option_map suc (first_exchange xs)) ≡ Some n → ((m : ℕ) → first_exchange xs ≡ Some m → slice_get xs m ≡ Some s → exchange_due (jobs_in xs) ≡ Some s.job.titled) → cond b (Some x.job.titled) (exchange_due (jobs_in xs)) ≡ Some s.job.titled
     by_test true q rest =
         let none : n ≡ 0 = cc in
         let here : slice_get (x ∷ xs) 0 ≡ Some s = subst (λ (i : ℕ). slice_get (x ∷ xs) i ≡ Some s) none at in
         let same : x ≡ s = cc in
-        ap (λ (y : Seat). Some y.titled) same
+        ap (λ (y : Seat). Some y.job.titled) same
     by_test false q rest = by_rest (first_exchange xs) refl q rest
 
-first-none : (ss : List Seat) → first_exchange ss ≡ None → exchange_due (jobs_in ss) ≡ None
+pub first-none : (ss : List Seat) → first_exchange ss ≡ None → exchange_due (jobs_in ss) ≡ None
 first-none [] none = refl
-first-none (x ∷ xs) none = by_test (is_exchange_due x.titled.state) none (first-none xs)
+first-none (x ∷ xs) none = by_test (is_exchange_due x.job.titled.state) none (first-none xs)
   where
     by_rest : (o : Option ℕ) → option_map suc o ≡ None → o ≡ None
     by_rest None e = refl
     by_rest (Some m) e = absurd (cc)
 
-    by_test : (b : Bool) → cond b (Some 0) (option_map suc (first_exchange xs)) ≡ None → (first_exchange xs ≡ None → exchange_due (jobs_in xs) ≡ None) → cond b (Some x.titled) (exchange_due (jobs_in xs)) ≡ None
+    by_test : (b : Bool) → cond b (Some 0) (option_map suc (first_exchange xs)) ≡ None → (first_exchange xs ≡ None → exchange_due (jobs_in xs) ≡ None) → cond b (Some x.job.titled) (exchange_due (jobs_in xs)) ≡ None
     by_test true q rest = absurd (cc)
     by_test false q rest = rest (by_rest (first_exchange xs) q)
 
@@ -45,9 +44,9 @@ pub seated-no_exchange : (w : ℕ) (h : List Event) (ss : List Seat) → IsSeate
 seated-no_exchange w h ss seated none = ap exchange_due seated.jobs ∙ first-none ss none
 
 -- where no job has changed, the first exchange that is due is allowed
-pub exchange-allowed : (w : ℕ) (h : List Event) (ss : List Seat) (n : ℕ) (s : Seat) → IsSeated w h ss → is_due ss ≡ false → first_exchange ss ≡ Some n → slice_get ss n ≡ Some s → Allowed w h (Exchange s.titled.key)
+pub exchange-allowed : (w : ℕ) (h : List Event) (ss : List Seat) (n : ℕ) (s : Seat) → IsSeated w h ss → is_due ss ≡ false → first_exchange ss ≡ Some n → slice_get ss n ≡ Some s → Allowed w h (Exchange s.job.titled.key)
 exchange-allowed w h ss n s seated calm first at = (
-  s.titled,
+  s.job.titled,
   record {
     balance = seated-calm w h ss seated calm;
     first = ap exchange_due seated.jobs ∙ first-found ss n s first at;
@@ -56,8 +55,6 @@ exchange-allowed w h ss n s seated calm first at = (
 )
 
 -- and the job of that seat takes its step
-pub seated-exchange : (w : ℕ) (h : List Event) (ss : List Seat) (n : ℕ) (s : Seat) → IsSeated w h ss → is_due ss ≡ false → first_exchange ss ≡ Some n → slice_get ss n ≡ Some s → IsSeated w (h ++ Exchange s.titled.key ∷ []) (slice_set ss n (record s { titled = stepped s.titled Exchanged }))
+pub seated-exchange : (w : ℕ) (h : List Event) (ss : List Seat) (n : ℕ) (s : Seat) → IsSeated w h ss → is_due ss ≡ false → first_exchange ss ≡ Some n → slice_get ss n ≡ Some s → IsSeated w (h ++ Exchange s.job.titled.key ∷ []) (slice_set ss n (reseated s (and_own s.job Exchanged)))
 seated-exchange w h ss n s seated calm first at =
-    seated-from w (h ++ Exchange s.titled.key ∷ []) (slice_set ss n (record s { titled = stepped s.titled Exchanged }))
-    (seats-touch w h ss n s (Exchange s.titled.key) Exchanged (seats-of w h ss seated) at (exchange-allowed w h ss n s seated calm first at) (exchange-touches s.titled.key) refl refl)
-    (leases-push h (Exchange s.titled.key) ∙ seated.home)
+    seats-touch w h ss n s (Exchange s.job.titled.key) Exchanged (and_own s.job Exchanged) seated at (exchange-allowed w h ss n s seated calm first at) (exchange-touches s.job.titled.key) refl refl

@@ -1,21 +1,24 @@
 use Rattle.std.proofs.Common.{◌≡◌, ℕ, zero, suc, ◌<◌, Bool, true, false, ◌||◌, not, ◌==◌, List, [], ◌∷◌, ◌++◌, slice_get, slice_set, Some, refl, sym, ◌∙◌, ap, subst, Decides}
 use Rattle.std.proofs.lemmas.Bool.Decides.{Decides-and, Decides-eqb}
 use Rattle.std.proofs.lemmas.Slice.Eq.{slice_eq-Decides}
-use Rattle.mal_base.specs.declared.verdict.Outcome.TheVariants.{Ran}
+use Rattle.std.proofs.lemmas.List.{set-set}
+use Rattle.mal_base.specs.declared.verdict.Outcome.{Outcome}
+use Rattle.spec_hall.specs.Legal.{Allowed}
+use Rattle.spec_job.specs.Viewed.{and_own, and_start}
 use Rattle.spec_balance.specs.Fair.{IsFair}
-use Rattle.spec_job.specs.Left.{left_of}
-use Rattle.spec_job.specs.Solo.{Started, Finished, Exchanged}
-use Rattle.spec_job.specs.Titled.{Key, stepped}
+use Rattle.spec_job.specs.Left.{after_start, left_of}
+use Rattle.spec_job.specs.Solo.{Finished, Exchanged}
+use Rattle.spec_job.specs.Titled.{Key}
 use Rattle.spec_hall.specs.Events.{Event, Balance, Start, Finish, Exchange}
 use Rattle.spec_hall.specs.Measure.{is_same_live, is_balanced, left_by, left_in}
 use Rattle.spec_hall.specs.Seats.{Seat, IsSeated, jobs_in, has_changed, is_due, first_exchange, shares_by, balanced_by}
-use Rattle.spec_hall.specs.States.{Live, Candidate, states, lives, live_asks, balanced}
+use Rattle.spec_hall.specs.States.{Live, states, lives, live_asks, balanced}
 use Rattle.spec_hall.proofs.KeyLemmas.{is_key-Decides}
 use Rattle.spec_hall.proofs.DueLemmas.{seated-calm, seated-due}
 use Rattle.spec_hall.proofs.BalanceLemmas.{seated-balance}
 use Rattle.spec_hall.proofs.ExchangeLemmas.{seated-exchange}
-use Rattle.spec_hall.proofs.SliceLemmas.{IsNext, seated-slice}
-use Rattle.spec_hall.proofs.MeasureLemmas.{balance-less, exchange-less, slice-less, calm-balanced}
+use Rattle.spec_hall.proofs.SeatLemmas.{seated-start, seated-finish}
+use Rattle.spec_hall.proofs.MeasureLemmas.{balance-less, exchange-less, slice-less, start-same, calm-balanced}
 
 -- the test of two live jobs says whether they are equal
 is_same_live-Decides : (a b : Live) → Decides (is_same_live a b) (a ≡ b)
@@ -64,29 +67,46 @@ left-balance w h ss vs seated fair due =
     subst (λ (n : ℕ). n < left_in h) (sym now) (subst (λ (n : ℕ). left_by false (jobs_in (balanced_by vs ss)) < n) (sym was) (balance-less vs ss))
 
 -- a seat that changes as little as the one before
-due-set : (ss : List Seat) (n : ℕ) (s now : Seat) → slice_get ss n ≡ Some s → has_changed now ≡ has_changed s → is_due (slice_set ss n now) ≡ is_due ss
+pub due-set : (ss : List Seat) (n : ℕ) (s now : Seat) → slice_get ss n ≡ Some s → has_changed now ≡ has_changed s → is_due (slice_set ss n now) ≡ is_due ss
 due-set [] n s now at same = refl
 due-set (x ∷ xs) zero s now at same = let here : x ≡ s = cc in ap (λ (b : Bool). b || is_due xs) (same ∙ ap has_changed (sym here))
 due-set (x ∷ xs) (suc n) s now at same = ap (λ (b : Bool). has_changed x || b) (due-set xs n s now at same)
 
 -- less is left behind an exchange
-pub left-exchange : (w : ℕ) (h : List Event) (ss : List Seat) (n : ℕ) (s : Seat) → IsSeated w h ss → is_due ss ≡ false → first_exchange ss ≡ Some n → slice_get ss n ≡ Some s → left_in (h ++ Exchange s.titled.key ∷ []) < left_in h
+pub left-exchange : (w : ℕ) (h : List Event) (ss : List Seat) (n : ℕ) (s : Seat) → IsSeated w h ss → is_due ss ≡ false → first_exchange ss ≡ Some n → slice_get ss n ≡ Some s → left_in (h ++ Exchange s.job.titled.key ∷ []) < left_in h
 left-exchange w h ss n s seated calm first at =
-    let later : List Event = h ++ Exchange s.titled.key ∷ [] in
-    let seat : Seat = record s { titled = stepped s.titled Exchanged } in
+    let later : List Event = h ++ Exchange s.job.titled.key ∷ [] in
+    let seat : Seat = record s { job = and_own s.job Exchanged } in
     let now : left_in later ≡ left_by false (jobs_in (slice_set ss n seat)) = left-when w later (slice_set ss n seat) false (seated-exchange w h ss n s seated calm first at) (due-set ss n s seat at refl ∙ calm) in
     let was : left_in h ≡ left_by false (jobs_in ss) = left-when w h ss false seated calm in
     subst (λ (m : ℕ). m < left_in h) (sym now) (subst (λ (m : ℕ). left_by false (jobs_in (slice_set ss n seat)) < m) (sym was) (exchange-less ss n s first at))
 
--- a job after a slice
-abbrev pub sliced : Seat → ℕ → Seat
-sliced s i = record s { titled = stepped (stepped s.titled (Started i)) (Finished i Ran) }
+-- as much is left behind a start
+pub left-start : (w : ℕ) (h : List Event) (ss : List Seat) (n : ℕ) (s : Seat) (index worker : ℕ) → IsSeated w h ss → slice_get ss n ≡ Some s → Allowed w h (Start s.job.titled.key index worker) → left_in (h ++ Start s.job.titled.key index worker ∷ []) ≡ left_in h
+left-start w h ss n s index worker seated at may =
+    let later : List Event = h ++ Start s.job.titled.key index worker ∷ [] in
+    let seat : Seat = record s { job = and_start s.job index 0 } in
+    let seats : List Seat = slice_set ss n seat in
+    let now : left_in later ≡ left_by (is_due seats) (jobs_in seats) = seated-left w later seats (seated-start w h ss n s index worker 0 seated at may) in
+    let was : left_in h ≡ left_by (is_due ss) (jobs_in ss) = seated-left w h ss seated in
+    now ∙ (ap (λ (b : Bool). left_by b (jobs_in seats)) (due-set ss n s seat at refl) ∙ (start-same (is_due ss) ss n s seat at refl refl ∙ sym was))
 
--- less is left behind a slice that leaves less to its job
-pub left-slice : (w : ℕ) (h : List Event) (ss : List Seat) (c : Candidate) (s : Seat) → IsSeated w h ss → IsNext ss c s → left_of (sliced s c.index).titled.state < left_of s.titled.state → left_in ((h ++ Start s.titled.key c.index 1 ∷ []) ++ Finish s.titled.key c.index 1 Ran ∷ []) < left_in h
-left-slice w h ss c s seated next less =
-    let later : List Event = (h ++ Start s.titled.key c.index 1 ∷ []) ++ Finish s.titled.key c.index 1 Ran ∷ [] in
-    let seats : List Seat = slice_set ss c.job (sliced s c.index) in
-    let now : left_in later ≡ left_by (is_due seats) (jobs_in seats) = seated-left w later seats (seated-slice w h ss c s seated next) in
-    let was : left_in h ≡ left_by false (jobs_in ss) = left-when w h ss false seated next.calm in
-    subst (λ (m : ℕ). m < left_in h) (sym now) (subst (λ (m : ℕ). left_by (is_due seats) (jobs_in seats) < m) (sym was) (slice-less (is_due seats) ss c.job s (sliced s c.index) next.at less))
+-- less is left behind a start with its end that leaves less to its job
+pub left-slice : (w : ℕ) (h : List Event) (ss : List Seat) (n : ℕ) (s : Seat) (index worker : ℕ) (outcome : Outcome) → IsSeated w h ss → slice_get ss n ≡ Some s → is_due ss ≡ false → Allowed w h (Start s.job.titled.key index worker) → Allowed w (h ++ Start s.job.titled.key index worker ∷ []) (Finish s.job.titled.key index worker outcome) → left_of (after_start s.job.titled.state index outcome) < left_of s.job.titled.state → left_in ((h ++ Start s.job.titled.key index worker ∷ []) ++ Finish s.job.titled.key index worker outcome ∷ []) < left_in h
+left-slice w h ss n s index worker outcome seated at calm may ends less =
+    let begun : Seat = record s { job = and_start s.job index 0 } in
+    let ended : Seat = record begun { job = and_own begun.job (Finished index outcome) } in
+    let middle : List Seat = slice_set ss n begun in
+    let later : List Event = (h ++ Start s.job.titled.key index worker ∷ []) ++ Finish s.job.titled.key index worker outcome ∷ [] in
+    let started : IsSeated w (h ++ Start s.job.titled.key index worker ∷ []) middle = seated-start w h ss n s index worker 0 seated at may in
+    let finished : IsSeated w later (slice_set middle n ended) = seated-finish w (h ++ Start s.job.titled.key index worker ∷ []) middle n begun index worker outcome started (set-get ss n s begun at) ends in
+    let seats : List Seat = slice_set ss n ended in
+    let whole : IsSeated w later seats = subst (IsSeated w later) (set-set ss n begun ended) finished in
+    let now : left_in later ≡ left_by (is_due seats) (jobs_in seats) = seated-left w later seats whole in
+    let was : left_in h ≡ left_by false (jobs_in ss) = left-when w h ss false seated calm in
+    subst (λ (m : ℕ). m < left_in h) (sym now) (subst (λ (m : ℕ). left_by (is_due seats) (jobs_in seats) < m) (sym was) (slice-less (is_due seats) ss n s ended at less))
+  where
+    set-get : (xs : List Seat) (m : ℕ) (x t : Seat) → slice_get xs m ≡ Some x → slice_get (slice_set xs m t) m ≡ Some t
+    set-get [] m x t e = absurd (cc)
+    set-get (y ∷ ys) zero x t e = refl
+    set-get (y ∷ ys) (suc m) x t e = set-get ys m x t e

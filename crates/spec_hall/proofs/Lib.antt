@@ -12,6 +12,7 @@ pub mod DressedLemmas
 pub mod DrivenLemmas
 pub mod RunnableLemmas
 pub mod OnceLemmas
+pub mod LastingLemmas
 pub mod SingleLemmas
 pub mod PickLemmas
 pub mod ExchangeLemmas
@@ -19,4 +20,17 @@ pub mod SliceLemmas
 pub mod IdleLemmas
 pub mod MeasureLemmas
 pub mod LeftLemmas
+pub mod SeatedLemmas
+pub mod OutLemmas
+pub mod LeasesLemmas
+pub mod SpotLemmas
+pub mod GoesOnLemmas
+pub mod JournalLemmas
+pub mod TurnLemmas
+pub mod ArrangeLemmas
+pub mod CallLemmas
+pub mod DecidedCallLemmas
 pub mod IsolationLemmas
+pub mod OpenedLemmas
+pub mod PickedLemmas
+pub mod UpToLemmas

@@ -16,7 +16,7 @@ use Rattle.spec_hall.specs.Events.{Event, key_of}
 use Rattle.spec_hall.specs.Own.{own, adds, adds_volume, is_key, volume_in, volume_step, volume_after}
 use Rattle.spec_hall.specs.States.{keys_of, states, titled, live_of, live_ones, live_asks}
 use Rattle.spec_hall.specs.Legal.{MayBalance, MayExchange}
-use Rattle.spec_hall.specs.Laws.{is_fed}
+use Rattle.spec_job.specs.Unknown.{is_fed}
 use Rattle.spec_hall.proofs.KeyLemmas.{is_key-Decides, is_key-back, key-differs}
 use Rattle.spec_hall.proofs.PushLemmas.{solo-push}
 use Rattle.spec_hall.proofs.VolumeLemmas.{solo-volume}

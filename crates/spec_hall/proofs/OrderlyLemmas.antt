@@ -62,7 +62,7 @@ lives-absent past k (x ∷ xs) h = by_test (lives-absent past k xs parts.1) (is_
     by_test rest false = rest
 
 -- the jobs of a history were opened
-titled-opened : (past : List Event) (k : Key) (ks : List Key) (test : Titled → Bool) (t : Titled) → find test (map (titled past) ks) ≡ Some t → list_any (is_key t.key) ks ≡ true
+pub titled-opened : (past : List Event) (k : Key) (ks : List Key) (test : Titled → Bool) (t : Titled) → find test (map (titled past) ks) ≡ Some t → list_any (is_key t.key) ks ≡ true
 titled-opened past k [] test t e = absurd (cc)
 titled-opened past k (x ∷ xs) test t e = by_test (titled-opened past k xs test t) (test (titled past x)) e
   where
@@ -82,7 +82,7 @@ other-absent : (past : List Event) (j k : Key) (o : Own) → IsOrderly past → 
 other-absent past j k o orderly opened absent = ap (λ (b : Bool). adds b (own j past) o) (key-differs (keys_of past) j k absent opened) ∙ orderly.absent j absent
 
 -- the lease of a worker is of a job that was opened
-lease-opened : (past : List Event) (worker index : ℕ) (k : Key) → IsOrderly past → lease_of worker (leases past) ≡ Some (record { worker = worker; key = k; index = index }) → was_opened past k ≡ true
+pub lease-opened : (past : List Event) (worker index : ℕ) (k : Key) → IsOrderly past → lease_of worker (leases past) ≡ Some (record { worker = worker; key = k; index = index }) → was_opened past k ≡ true
 lease-opened past worker index k orderly e = find-holds (HasOpened past) (λ (l : Held). l.worker == worker) (leases past) (record { worker = worker; key = k; index = index }) orderly.leased e
 
 -- an event that is allowed gives no own event to a job that is not opened then

@@ -25,9 +25,9 @@ nodes-picked job s best (i ∷ is) = by_test (startable s i) (λ o. nodes-picked
 jobs-picked : (job : ℕ) (best : Option Candidate) (ss : List Seat) → fold fewer best (candidates_from job (jobs_in ss)) ≡ pick_from job best ss
 jobs-picked job best [] = refl
 jobs-picked job best (x ∷ xs) =
-    fold-append fewer best (candidates_of job x.titled.state) (candidates_from (job + 1) (jobs_in xs))
-    ∙ (ap (λ (o : Option Candidate). fold fewer o (candidates_from (job + 1) (jobs_in xs))) (nodes-picked job x.titled.state best (counted 0 x.titled.state.volume))
-    ∙ jobs-picked (job + 1) (pick_job job x.titled.state best) xs)
+    fold-append fewer best (candidates_of job x.job.titled.state) (candidates_from (job + 1) (jobs_in xs))
+    ∙ (ap (λ (o : Option Candidate). fold fewer o (candidates_from (job + 1) (jobs_in xs))) (nodes-picked job x.job.titled.state best (counted 0 x.job.titled.state.volume))
+    ∙ jobs-picked (job + 1) (pick_job job x.job.titled.state best) xs)
 
 -- what is picked of the jobs is found seat by seat
 pub seats-picked : (ss : List Seat) → picked (jobs_in ss) ≡ pick ss
@@ -48,11 +48,11 @@ pub pick-within : (ss : List Seat) (c : Candidate) → pick ss ≡ Some c → c.
 pick-within ss c e = omega (arith, (pick-candidate ss c e).within, length-jobs ss)
 
 -- and may start
-pub pick-startable : (ss : List Seat) (c : Candidate) (s : Seat) → pick ss ≡ Some c → slice_get ss c.job ≡ Some s → startable s.titled.state c.index ≡ true
+pub pick-startable : (ss : List Seat) (c : Candidate) (s : Seat) → pick ss ≡ Some c → slice_get ss c.job ≡ Some s → startable s.job.titled.state c.index ≡ true
 pick-startable ss c s e at =
     let same : c.job ≡ c.job - 0 = omega arith in
-    let found : slice_get (jobs_in ss) c.job ≡ Some s.titled = slice_get-map (λ (x : Seat). x.titled) ss c.job ∙ ap (option_map (λ (x : Seat). x.titled)) at in
-    (pick-candidate ss c e).may s.titled (subst (λ (n : ℕ). slice_get (jobs_in ss) n ≡ Some s.titled) same found)
+    let found : slice_get (jobs_in ss) c.job ≡ Some s.job.titled = slice_get-map (λ (x : Seat). x.job.titled) ss c.job ∙ ap (option_map (λ (x : Seat). x.job.titled)) at in
+    (pick-candidate ss c e).may s.job.titled (subst (λ (n : ℕ). slice_get (jobs_in ss) n ≡ Some s.job.titled) same found)
 
 -- the nodes from a place on, one by one
 pub counted-more : (first last : ℕ) → first < last → counted first (last - first) ≡ first ∷ counted (first + 1) (last - (first + 1))

@@ -1,15 +1,16 @@
-use Rattle.std.specs.Prelude.{◌≡◌, ◌≢◌, ℕ, Bool, true, List, [], ◌∷◌, ◌++◌, Option, Some, None}
+use Rattle.std.specs.Prelude.{◌≡◌, ◌≢◌, ℕ, true, List, [], ◌∷◌, ◌++◌, Option, Some, None}
 use Rattle.std.specs.List.{list_all}
 use Rattle.mal_revision.specs.Posted.{Posted}
 use Rattle.mal_history.specs.declared.event.Share.{Share}
-use Rattle.spec_job.specs.Solo.{Own, Opened, Revised, Closed, Volume, Started, Finished, Exchanged, solo}
+use Rattle.spec_job.specs.Solo.{solo}
 use Rattle.spec_job.specs.Titled.{Key}
 use Rattle.spec_job.specs.Models.{AnswersFollow, AnswersSolve, KeepsAnswers}
 use Rattle.spec_job.specs.Proofs.{AnswersRefute, LogIsDerived}
-use Rattle.spec_job.specs.DemandOne.{AgreeAll, had_memory}
+use Rattle.spec_job.specs.DemandOne.{AgreeAll}
 use Rattle.spec_job.specs.Provenance.{ClausesAreOwn}
 use Rattle.spec_job.specs.Replies.{reply}
 use Rattle.spec_job.specs.Runnable.{IsRunnable}
+use Rattle.spec_job.specs.Unknown.{is_fed}
 use Rattle.spec_hall.specs.Events.{Event, Open, Revise, Close, Balance, Start, Finish, Exchange}
 use Rattle.spec_hall.specs.Own.{own, volume_in, volume_after}
 use Rattle.spec_hall.specs.Legal.{Legal}
@@ -67,16 +68,6 @@ SameVolumeLeavesOwn = (j : Key) (history : List Event) (shares : List Share) →
 -- in a legal history the clauses of each job are its own
 abbrev pub LegalClausesOwn : Type 0
 LegalClausesOwn = (workers : ℕ) (history : List Event) → Legal workers history → (k : Key) → ClausesAreOwn (solo (own k history))
-
--- whether an own event is no start that wanted for memory
-abbrev pub is_fed : Own → Bool
-is_fed (Opened ask) = true
-is_fed (Revised r) = true
-is_fed Closed = true
-is_fed (Volume v) = true
-is_fed (Started i) = true
-is_fed (Finished i outcome) = had_memory outcome
-is_fed Exchanged = true
 
 -- a job asks for one worker, and no start of it wanted for memory
 pub record AsksForOne (history : List Event) (k : Key) : Type 0 where

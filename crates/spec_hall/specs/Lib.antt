@@ -4,6 +4,13 @@ pub mod States
 pub mod Dressed
 pub mod Legal
 pub mod Seats
+pub mod Leases
+pub mod Spots
+pub mod Room
+pub mod Calls
 pub mod Measure
 pub mod Driven
 pub mod Laws
+pub mod Unknowns
+pub mod Picked
+pub mod SinglesUpTo

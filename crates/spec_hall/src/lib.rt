@@ -2,9 +2,18 @@
 //! functions without a body.
 #![tactic(auto)]
 
+mod fault;
+
 ghost use Rattle.spec_hall.specs.Laws.{JobAnswersStay, LegalAnswersFollow, LegalAnswersRefute, LegalAnswersSolve, LegalClausesOwn, LegalIsRunnable, LegalLogsDerived, LegalSinglesAgree, OwnEventsAnswer, OwnEventsReply, OthersLeaveOwn, SameVolumeLeavesOwn};
 ghost use Rattle.spec_hall.specs.Dressed.{LegalIsDressed};
 ghost use Rattle.spec_hall.specs.Driven.{DrivenIsDecided};
+ghost use Rattle.spec_hall.specs.Picked.{HasPicks, PicksFirst, PicksNone};
+ghost use Rattle.spec_hall.specs.SinglesUpTo.{LegalSinglesAgreeUpTo};
+ghost use Rattle.spec_hall.specs.Unknowns.{LegalAnswersAccountedFor, LegalFedAnswersDecide};
+ghost use Rattle.spec_hall.specs.Leases.{LegalLeases, LegalGoesOn};
+ghost use Rattle.spec_hall.specs.Calls.{CallIsDecided, CallIsLegal};
+
+pub use fault::{CloseFault, OpenFault, PickFault, ReplyFault, ReviseFault};
 
 /// A job's answers and replies come from its own events alone, and events of other jobs are none of these.
 pub fn jobs_are_isolated()
@@ -51,7 +60,50 @@ pub fn legal_is_dressed()
     ensures { LegalIsDressed }
 {}
 
-/// What comes of a past by balancings, exchanges and slices until nothing is left to do is decided by the past.
+/// What comes of a past by balancings, exchanges and slices that ran until nothing is left to do is decided by the past.
 pub fn driven_is_decided()
     ensures { DrivenIsDecided }
+{}
+
+/// In a legal history each answer of a job without a verdict is accounted for by the job's own events; where none of its starts
+/// wanted for memory, each answer is a verdict, or its budget of slices was spent.
+pub fn legal_unknowns_are_accounted_for()
+    ensures accounted { LegalAnswersAccountedFor }
+    ensures fed { LegalFedAnswersDecide }
+{}
+
+/// The node that is picked may start, and is the first of those that may: by how often they were started, then by the opening of
+/// their jobs, then by index. None is picked exactly where none may start.
+pub fn first_startable_is_picked()
+    ensures first { PicksFirst }
+    ensures none { PicksNone }
+    ensures examples { HasPicks }
+{}
+
+/// In a legal history the leases that are out are of workers of the hall, each of another worker and another node, and a node is
+/// out exactly where a lease of it is.
+pub fn legal_leases()
+    ensures { LegalLeases }
+{}
+
+/// Where a job is live and nothing is out, a balancing is due or some node may start.
+pub fn legal_goes_on()
+    ensures { LegalGoesOn }
+{}
+
+/// The answer of a call of a hall and the events that it enters are decided by the history, the call and whether memory was
+/// wanting.
+pub fn call_is_decided()
+    ensures { CallIsDecided }
+{}
+
+/// The events that a call enters leave a legal history legal.
+pub fn call_is_legal()
+    ensures { CallIsLegal }
+{}
+
+/// The answer and the reply to a revision of a job that asks for one worker and never wanted for memory are decided by its name,
+/// its budget and its revisions up to that one.
+pub fn legal_singles_agree_up_to()
+    ensures { LegalSinglesAgreeUpTo }
 {}

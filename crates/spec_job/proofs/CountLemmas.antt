@@ -20,7 +20,7 @@ use Rattle.spec_job.specs.Counts.{is_run, runs_in, runs_of, HasCounts}
 pub runs_in-append : (xs ys : List JournalEntry) → runs_in (xs ++ ys) ≡ runs_in xs + runs_in ys
 runs_in-append xs ys = sum_by-append (λ (e : JournalEntry). cond (is_run e) 1 0) xs ys
 
-runs_in-cons : (e : JournalEntry) (es : List JournalEntry) → runs_in (e ∷ es) ≡ cond (is_run e) 1 0 + runs_in es
+pub runs_in-cons : (e : JournalEntry) (es : List JournalEntry) → runs_in (e ∷ es) ≡ cond (is_run e) 1 0 + runs_in es
 runs_in-cons e es = sum_by-cons (λ (x : JournalEntry). cond (is_run x) 1 0) e es
 
 -- loads run nothing

@@ -17,9 +17,9 @@ use Rattle.spec_proof.specs.Log.{IsLog}
 use Rattle.spec_proof.proofs.Among.{Among}
 use Rattle.spec_job.specs.Journal.{JournalEntry, Run, replay, loads_in}
 use Rattle.spec_job.specs.Solo.{Lease, Place, vacant, Solo, place_at, clauses_in, answered, spend, starve, conclude, first_empty, settled_by}
-use Rattle.spec_job.specs.Models.{clauses_of}
+use Rattle.spec_job.specs.Models.{clauses_of, variables_of}
 use Rattle.spec_job.specs.Runnable.{MayCome}
-use Rattle.spec_job.proofs.LoadedLemmas.{last_assumed, variables_of, HasLoaded, clauses_in-push}
+use Rattle.spec_job.proofs.LoadedLemmas.{last_assumed, HasLoaded, clauses_in-push}
 use Rattle.spec_job.proofs.ElementLemmas.{get-push, get-repeated}
 use Rattle.spec_job.proofs.PlacesLemmas.{set-place}
 use Rattle.spec_job.proofs.SolvingLemmas.{IsSolvingSolo}

@@ -5,7 +5,7 @@ use Rattle.spec_job.specs.Examples.{HasExamples, HasExchanges, HasRefutations, H
 
 pub examples : HasExamples
 unfolding luby slice
-examples = record { answered = refl; second_node = refl; budget_spent = refl; budget_left = refl; budget_counts = refl; starved_thrice = refl; lost_counts_nothing = refl; journal = refl; may_start = refl; not_above_volume = refl; not_while_out = refl; not_past_budget = refl; not_when_answered = refl }
+examples = record { answered = refl; whole = refl; second_node = refl; budget_spent = refl; budget_left = refl; budget_counts = refl; starved_thrice = refl; lost_counts_nothing = refl; journal = refl; may_start = refl; not_above_volume = refl; not_while_out = refl; not_past_budget = refl; not_when_answered = refl }
 
 pub refutations : HasRefutations
 unfolding luby slice

@@ -11,9 +11,9 @@ use Rattle.spec_node.proofs.ChainLemmas.{loads-hold_all}
 use Rattle.spec_search.specs.Slice.{Sliced}
 use Rattle.spec_job.specs.Journal.{JournalEntry, Load, Import, Run, after_entry, replay, loads_in, loads_of, imports_in}
 use Rattle.spec_job.specs.Solo.{Solo, place_at, clauses_in, missing_loads, start_entries}
-use Rattle.spec_job.specs.Models.{clauses_of}
+use Rattle.spec_job.specs.Models.{clauses_of, variables_of}
 use Rattle.spec_job.specs.Following.{MayAllFollow}
-use Rattle.spec_job.proofs.LoadedLemmas.{IsLoadable, HasLoaded, variables_of, clauses-length, clauses_in-append, clauses_in-cons, clauses_in-push, load-loaded}
+use Rattle.spec_job.proofs.LoadedLemmas.{IsLoadable, HasLoaded, clauses-length, clauses_in-append, clauses_in-cons, clauses_in-push, load-loaded}
 use Rattle.spec_job.proofs.SolvingLemmas.{IsSolvingSolo}
 use Rattle.spec_job.proofs.ImportingLemmas.{IsSaid, IsTellable, IsPrepared, may-import, import-prepared, imports-prepared}
 use Rattle.spec_job.proofs.DerivingLemmas.{AreCalm, IsDerivingSolo}

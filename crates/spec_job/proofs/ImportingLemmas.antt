@@ -19,7 +19,8 @@ use Rattle.spec_search.specs.Derived.{with_line, with_lines}
 use Rattle.spec_proof.specs.Log.{IsAbove, AreApart}
 use Rattle.spec_proof.proofs.Among.{Among, of-all}
 use Rattle.spec_job.specs.Journal.{Import, after_entry}
-use Rattle.spec_job.proofs.LoadedLemmas.{variables_of, HasLoaded}
+use Rattle.spec_job.specs.Models.{variables_of}
+use Rattle.spec_job.proofs.LoadedLemmas.{HasLoaded}
 use Rattle.spec_job.proofs.ReachedLemmas.{lits-found}
 use Rattle.spec_job.proofs.LinesLemmas.{IsOfLine}
 use Rattle.spec_job.proofs.TrackedLemmas.{IsLogged}

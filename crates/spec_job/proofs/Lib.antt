@@ -37,3 +37,11 @@ pub mod ReplyLemmas
 pub mod SingleLemmas
 pub mod FollowLemmas
 pub mod FollowingLemmas
+pub mod LeftLemmas
+pub mod TallyLemmas
+pub mod UnknownLemmas
+pub mod UnknownExampleLemmas
+pub mod ExportedLemmas
+pub mod ExportedExampleLemmas
+pub mod UpToLemmas
+pub mod UpToExampleLemmas

@@ -2,6 +2,7 @@ use Rattle.std.proofs.Common.{◌≡◌, ℕ, zero, suc, ◌+◌, ◌<◌, ◌�
 use Rattle.std.specs.Prelude.{All, slice_get}
 use Rattle.std.specs.List.{list_all}
 use Rattle.std.proofs.lemmas.Bool.{and_from, and_parts}
+use Rattle.std.proofs.lemmas.List.{length-map}
 use Rattle.std.proofs.lemmas.List.Concat.{length-flat_map, flat_map-append}
 use Rattle.std.proofs.lemmas.List.Elements.{All-head, All-tail}
 use Rattle.std.proofs.lemmas.List.Sums.{fold_push, fold-append, sum_by-append, sum_by-cons}
@@ -9,8 +10,10 @@ use Rattle.mal_base.specs.declared.verdict.Verdict.TheVariants.{Satisfiable}
 use Rattle.mal_revision.specs.Posted.{Posted, is_posted}
 use Rattle.spec_logic.specs.Logic.{satisfies, satisfies_clause, satisfies_with, is_true_in}
 use Rattle.mal_base.specs.Held.{Held}
+use Rattle.mal_base.specs.Literals.{literal}
 use Rattle.spec_node.specs.State.{Node, fresh}
-use Rattle.spec_node.specs.Load.{loaded, numbered}
+use Rattle.spec_node.specs.Load.{counted, loaded, numbered}
+use Rattle.spec_node.specs.Value.{is_true}
 use Rattle.spec_node.specs.Model.{model_of}
 use Rattle.spec_node.specs.Sound.{IsSound}
 use Rattle.spec_node.specs.Laws.{HasModel, IsModel, HoldsAll, formula_of, originals}
@@ -25,6 +28,7 @@ use Rattle.spec_search.proofs.ModelLemmas.{slice-keeps_model, slice-leaves}
 use Rattle.spec_job.specs.Journal.{JournalEntry, Load, Import, after_entry, is_load, loads_in, loads_of}
 use Rattle.spec_job.specs.Solo.{clauses_in}
 use Rattle.spec_job.specs.Models.{clauses_of}
+pub use Rattle.spec_job.specs.Models.{variables_of}
 
 -- a revision that a node can load
 abbrev pub IsLoadable : Posted → Type 0
@@ -34,13 +38,11 @@ IsLoadable r = is_posted r ≡ true
 abbrev pub last_assumed : List Posted → List ℕ
 last_assumed revisions = fold (λ (a : List ℕ) (p : Posted). p.assumptions) [] revisions
 
--- an assignment solves these revisions: it satisfies their clauses, and the assumptions of the last are true
-abbrev pub Solves : List Posted → List Bool → Type 0
-Solves revisions model = satisfies_with model (clauses_of revisions) (last_assumed revisions) ≡ true
-
--- how many variables these revisions have: the most that one of them has
-abbrev pub variables_of : List Posted → ℕ
-variables_of revisions = fold (λ (v : ℕ) (p : Posted). max v p.variables) 0 revisions
+-- an assignment solves these revisions: it satisfies their clauses, the assumptions of the last are true, and it has a value for
+-- each of their variables
+pub record Solves (revisions : List Posted) (model : List Bool) : Type 0 where
+  pub solves : satisfies_with model (clauses_of revisions) (last_assumed revisions) ≡ true
+  pub whole : length model ≡ variables_of revisions
 
 variables-from : (ps : List Posted) (v : ℕ) → v ≤ fold (λ (x : ℕ) (p : Posted). max x p.variables) v ps
 variables-from [] v = omega arith
@@ -109,11 +111,18 @@ originals-satisfied a (c ∷ cs) e =
     by_kind false here rest = rest
 
 -- a satisfiable node's model solves what it has loaded
+counted-length : (first n : ℕ) → length (counted first n) ≡ n
+counted-length first zero = refl
+counted-length first (suc n) = ap suc (counted-length (first + 1) n)
+
 pub loaded-solves : (ps : List Posted) (n : Node) → HasLoaded ps n → n.verdict ≡ Some Satisfiable → Solves ps (model_of n)
 loaded-solves ps n h v =
     let model : IsModel (model_of n) n.clauses n.assumptions = h.model v in
     let held : satisfies (model_of n) (formula_of (numbered 1 (clauses_of ps))) ≡ true = subst (λ (cs : List Held). satisfies (model_of n) (formula_of cs) ≡ true) h.held (originals-satisfied (model_of n) n.clauses model.satisfied) in
-    and_from _ _ (sym (numbers-mean_same.by_number (model_of n) 1 (clauses_of ps)) ∙ held) (subst (λ (xs : List ℕ). list_all (is_true_in (model_of n)) xs ≡ true) h.assumed model.assumed)
+    record {
+      solves = and_from _ _ (sym (numbers-mean_same.by_number (model_of n) 1 (clauses_of ps)) ∙ held) (subst (λ (xs : List ℕ). list_all (is_true_in (model_of n)) xs ≡ true) h.assumed model.assumed);
+      whole = length-map (counted 1 n.variables) (λ v. is_true n.trail (literal v true)) ∙ (counted-length 1 n.variables ∙ h.variables);
+    }
 
 -- the loads of further revisions add them all
 pub loads-loaded : (rs ps : List Posted) (first : ℕ) (s : Sliced) → All IsLoadable rs → clauses_in ps + clauses_in rs < 2 ^ 32 → first ≡ clauses_in ps + 1 → HasLoaded ps s.node → HasLoaded (ps ++ rs) (fold after_entry s (loads_of first rs)).node

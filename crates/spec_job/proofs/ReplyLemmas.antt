@@ -66,7 +66,7 @@ proof-same : (xs ys : List ℕ) (ps rs : List Posted) (ls ms : List Line) → xs
 proof-same xs ys ps rs ls ms a b c = rw (a, b, c) refl
 
 -- what is told of one answer
-told-same : (s t : Solo) (r : ℕ) (x : Answer) → IsKept s → IsKept t → IsFront s.log t.log ⊎ IsFront t.log s.log → take (r + 1) s.revisions ≡ take (r + 1) t.revisions → slice_get s.answers r ≡ Some x → slice_get t.answers r ≡ Some x → told_by s r x ≡ told_by t r x
+pub told-same : (s t : Solo) (r : ℕ) (x : Answer) → IsKept s → IsKept t → IsFront s.log t.log ⊎ IsFront t.log s.log → take (r + 1) s.revisions ≡ take (r + 1) t.revisions → slice_get s.answers r ≡ Some x → slice_get t.answers r ≡ Some x → told_by s r x ≡ told_by t r x
 told-same s t r (Satisfied model) h k logs front e f = refl
 told-same s t r (Refuted goal) h k logs front e f =
     let same : MeansSame goal s.log t.log = goal-same s t r goal h k logs e f in
@@ -75,7 +75,7 @@ told-same s t r (Spent n) h k logs front e f = refl
 told-same s t r OutOfStarts h k logs front e f = refl
 
 -- a reply tells of an answer
-reply-at : (k : Key) (s : Solo) (r : ℕ) (a : List ℕ) → reply k (suc r) s ≡ Some a → (x : Answer) × (slice_get s.answers r ≡ Some x) × (reply_text k.tenant k.job (suc r) (told_by s r x) ≡ a)
+pub reply-at : (k : Key) (s : Solo) (r : ℕ) (a : List ℕ) → reply k (suc r) s ≡ Some a → (x : Answer) × (slice_get s.answers r ≡ Some x) × (reply_text k.tenant k.job (suc r) (told_by s r x) ≡ a)
 reply-at k s r a e = by_answer (slice_get s.answers r) refl e
   where
     by_answer : (o : Option Answer) → slice_get s.answers r ≡ o → option_map (reply_text k.tenant k.job (suc r)) (option_map (told_by s r) o) ≡ Some a → (x : Answer) × (slice_get s.answers r ≡ Some x) × (reply_text k.tenant k.job (suc r) (told_by s r x) ≡ a)

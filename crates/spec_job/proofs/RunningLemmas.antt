@@ -18,8 +18,8 @@ use Rattle.spec_proof.proofs.Among.{Among}
 use Rattle.spec_proof.proofs.LogLemmas.{log-orderly}
 use Rattle.spec_job.specs.Journal.{JournalEntry, Import, Run, after_entry, replay, loads_in, loads_of, imports_in}
 use Rattle.spec_job.specs.Solo.{Started, Lease, Place, vacant, Solo, solo_step, place_at, clauses_in, startable, finished_home, missing_loads, exports_from, exchanged}
-use Rattle.spec_job.specs.Models.{clauses_of}
-use Rattle.spec_job.proofs.LoadedLemmas.{IsLoadable, variables_of, HasLoaded, clauses_in-append, slice-loaded, loads-loaded}
+use Rattle.spec_job.specs.Models.{clauses_of, variables_of}
+use Rattle.spec_job.proofs.LoadedLemmas.{IsLoadable, HasLoaded, clauses_in-append, slice-loaded, loads-loaded}
 use Rattle.spec_job.proofs.PlacesLemmas.{all-marked, set-place, out-within, set-here}
 use Rattle.spec_job.proofs.SolvingLemmas.{IsReady, IsSolvingSolo, start-loads, live-parts, lease_of, MayLease, out-leased}
 use Rattle.spec_job.proofs.LinesLemmas.{Covers, numbers-apart}

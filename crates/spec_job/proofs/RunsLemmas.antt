@@ -125,20 +125,23 @@ step-few slices s (Finished i o) may once k low h = finished-few slices i s (pla
 step-few slices s Exchanged may once k low h = exchanged-few slices s h
 
 -- a machine within its budgets, and what is kept of any
-record IsWithin (slices : ℕ) (s : Solo) : Type 0 where
+pub record IsWithin (slices : ℕ) (s : Solo) : Type 0 where
   pub kept : IsKept s
   pub low : IsLowSolo s
   pub few : IsFew slices s
 
-events-within : (slices : ℕ) (past events : List Own) → IsRunnable past events → list_any is_opening events ≡ false → IsWithin slices (solo past) → IsWithin slices (solo (past ++ events))
+pub step-within : (slices : ℕ) (s : Solo) (o : Own) → MayHappen s o → is_opening o ≡ false → IsWithin slices s → IsWithin slices (solo_step s o)
+step-within slices s o may once h = record { kept = step-kept s o may h.kept; low = step-low s o h.low; few = step-few slices s o may once h.kept h.low h.few }
+
+pub events-within : (slices : ℕ) (past events : List Own) → IsRunnable past events → list_any is_opening events ≡ false → IsWithin slices (solo past) → IsWithin slices (solo (past ++ events))
 events-within slices past [] may once h = subst (λ (es : List Own). IsWithin slices (solo es)) (sym (append-nil past)) h
 events-within slices past (o ∷ os) may once h =
     let parts = or_parts (is_opening o) (list_any is_opening os) once in
-    let here : IsWithin slices (solo_step (solo past) o) = record { kept = step-kept (solo past) o may.0 h.kept; low = step-low (solo past) o h.low; few = step-few slices (solo past) o may.0 parts.0 h.kept h.low h.few } in
+    let here : IsWithin slices (solo_step (solo past) o) = step-within slices (solo past) o may.0 parts.0 h in
     let next : IsWithin slices (solo (past ++ o ∷ [])) = subst (λ (s : Solo). IsWithin slices s) (sym (fold_push solo_step unopened past o)) here in
     subst (λ (es : List Own). IsWithin slices (solo es)) (append_assoc past (o ∷ []) os) (events-within slices (past ++ o ∷ []) os may.1 parts.1 next)
 
-opened-within : (ask : Terms) → IsWithin ask.slices (solo (Opened ask ∷ []))
+pub opened-within : (ask : Terms) → IsWithin ask.slices (solo (Opened ask ∷ []))
 opened-within ask = record {
   kept = step-kept unopened (Opened ask) tt unopened-kept;
   low = unopened-low;

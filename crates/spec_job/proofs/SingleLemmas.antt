@@ -23,8 +23,12 @@ use Rattle.spec_job.proofs.SliceLemmas.{lease-there, home-there}
 use Rattle.spec_job.proofs.ReplyLemmas.{replies-agree}
 
 -- a machine has run some slices of its course
-abbrev IsOnCourse : ℕ → Solo → Type 0
+abbrev pub IsOnCourse : ℕ → Solo → Type 0
 IsOnCourse slices s = (n : ℕ) × IsAlong slices s n
+
+-- a machine has run no more than one slice more of its course than so many
+abbrev pub GoesOneOn : ℕ → ℕ → Solo → Type 0
+GoesOneOn slices n s = (m : ℕ) × (m ≤ suc n) × IsAlong slices s m
 
 -- a further revision
 open-revised : (s : Solo) (c : Course) (r : Posted) → IsSolvingSolo s → IsOpen s c → IsOpen (record s { revisions = s.revisions ++ r ∷ [] }) c
@@ -85,16 +89,16 @@ started-on slices n (suc i) s may h =
     absurd (omega arith)
 
 -- a finish of the start that is out
-finished-open : (slices n : ℕ) (s : Solo) (l : Lease) (o : Outcome) → had_memory o ≡ true → (place_at s 0).out ≡ Some l → IsSolvingSolo s → IsAlong slices s n → IsOpen s (course slices s.revisions n) → (m : ℕ) × IsThere slices (finished_lease s 0 (place_at s 0) l o) m
-finished-open slices n s l Ran m out k h x = (suc n, lease-there slices n s l out k h x)
+finished-open : (slices n : ℕ) (s : Solo) (l : Lease) (o : Outcome) → had_memory o ≡ true → (place_at s 0).out ≡ Some l → IsSolvingSolo s → IsAlong slices s n → IsOpen s (course slices s.revisions n) → (m : ℕ) × (m ≤ suc n) × IsThere slices (finished_lease s 0 (place_at s 0) l o) m
+finished-open slices n s l Ran m out k h x = (suc n, omega arith, lease-there slices n s l out k h x)
 finished-open slices n s l Starved m out k h x = absurd (false≢true m)
-finished-open slices n s l Lost m out k h x = (n, home-there slices n s h x)
+finished-open slices n s l Lost m out k h x = (n, omega arith, home-there slices n s h x)
 
-there-on : (slices : ℕ) (t : Solo) → length (settled t).answers ≤ length t.revisions → (m : ℕ) × IsThere slices t m → IsOnCourse slices (settled t)
-there-on slices t order (m, x) = (m, there-settled slices m t (first_empty t.log) refl order x)
+there-on : (slices n : ℕ) (t : Solo) → length (settled t).answers ≤ length t.revisions → (m : ℕ) × (m ≤ suc n) × IsThere slices t m → GoesOneOn slices n (settled t)
+there-on slices n t order (m, low, x) = (m, low, there-settled slices m t (first_empty t.log) refl order x)
 
-finished-on : (slices n : ℕ) (s : Solo) (out : Option Lease) (o : Outcome) → had_memory o ≡ true → (place_at s 0).out ≡ out → IsSolvingSolo s → IsSolvingSolo (finished s 0 (place_at s 0) out o) → IsAlong slices s n → IsOnCourse slices (finished s 0 (place_at s 0) out o)
-finished-on slices n s None o m e k after h = (n, h)
+finished-on : (slices n : ℕ) (s : Solo) (out : Option Lease) (o : Outcome) → had_memory o ≡ true → (place_at s 0).out ≡ out → IsSolvingSolo s → IsSolvingSolo (finished s 0 (place_at s 0) out o) → IsAlong slices s n → GoesOneOn slices n (finished s 0 (place_at s 0) out o)
+finished-on slices n s None o m e k after h = (n, omega arith, h)
 finished-on slices n s (Some l) o m e k after h = by_stand h.stands
   where
     c : Course
@@ -107,34 +111,34 @@ finished-on slices n s (Some l) o m e k after h = by_stand h.stands
     settled-order None u q = q
     settled-order (Some goal) u q = q
 
-    by_stand : IsOpen s c ⊎ ((goal : ℕ) × IsSettled s c goal) → IsOnCourse slices (settled t)
-    by_stand (inl x) = there-on slices t (settled-order (first_empty t.log) t after.order) (finished-open slices n s l o m e k h x)
+    by_stand : IsOpen s c ⊎ ((goal : ℕ) × IsSettled s c goal) → GoesOneOn slices n (settled t)
+    by_stand (inl x) = there-on slices n t (settled-order (first_empty t.log) t after.order) (finished-open slices n s l o m e k h x)
     by_stand (inr (goal, x)) = absurd (let bad : None ≡ Some l = sym x.idle ∙ e in cc)
 
-finish-on : (slices n i : ℕ) (s : Solo) (o : Outcome) → had_memory o ≡ true → IsSolvingSolo s → IsSolvingSolo (solo_step s (Finished i o)) → IsAlong slices s n → IsOnCourse slices (solo_step s (Finished i o))
+finish-on : (slices n i : ℕ) (s : Solo) (o : Outcome) → had_memory o ≡ true → IsSolvingSolo s → IsSolvingSolo (solo_step s (Finished i o)) → IsAlong slices s n → GoesOneOn slices n (solo_step s (Finished i o))
 finish-on slices n zero s o m k after h = finished-on slices n s (place_at s 0).out o m refl k after h
-finish-on slices n (suc i) s o m k after h = subst (λ (out : Option Lease). IsOnCourse slices (finished s (suc i) (place_at s (suc i)) out o)) (sym (h.others i)) (n, h)
+finish-on slices n (suc i) s o m k after h = subst (λ (out : Option Lease). GoesOneOn slices n (finished s (suc i) (place_at s (suc i)) out o)) (sym (h.others i)) (n, omega arith, h)
 
 -- each event of a job that one node runs
-step-on : (slices : ℕ) (s : Solo) (o : Own) → MayHappen s o → is_single o ≡ true → IsKept s → IsKept (solo_step s o) → IsOnCourse slices s → IsOnCourse slices (solo_step s o)
-step-on slices s (Opened ask) may single k after h = absurd (false≢true single)
-step-on slices s (Revised r) may single k after (n, h) = (n, revised-along slices n s r k.solving h)
-step-on slices s Closed may single k after (n, h) = (n, record { budget = h.budget; low = h.low; untold = h.untold; some = h.some; others = h.others; went = h.went; stands = same-stand n h.stands })
+pub step-on : (slices n : ℕ) (s : Solo) (o : Own) → MayHappen s o → is_single o ≡ true → IsKept s → IsKept (solo_step s o) → IsAlong slices s n → GoesOneOn slices n (solo_step s o)
+step-on slices n s (Opened ask) may single k after h = absurd (false≢true single)
+step-on slices n s (Revised r) may single k after h = (n, omega arith, revised-along slices n s r k.solving h)
+step-on slices n s Closed may single k after h = (n, omega arith, record { budget = h.budget; low = h.low; untold = h.untold; some = h.some; others = h.others; went = h.went; stands = same-stand h.stands })
   where
-    same-stand : (n : ℕ) → IsOpen s (course slices s.revisions n) ⊎ ((goal : ℕ) × IsSettled s (course slices s.revisions n) goal) → IsOpen (record s { closed = true }) (course slices s.revisions n) ⊎ ((goal : ℕ) × IsSettled (record s { closed = true }) (course slices s.revisions n) goal)
-    same-stand n (inl x) = inl (record { none = x.none; same = x.same; leased = x.leased })
-    same-stand n (inr (goal, x)) = inr (goal, record { found = x.found; log = x.log; idle = x.idle; all = x.all; come = x.come })
-step-on slices s (Volume v) may single k after (n, h) = (n, record { budget = h.budget; low = leb-true v 1 single; untold = h.untold; some = h.some; others = h.others; went = h.went; stands = same-stand n h.stands })
+    same-stand : IsOpen s (course slices s.revisions n) ⊎ ((goal : ℕ) × IsSettled s (course slices s.revisions n) goal) → IsOpen (record s { closed = true }) (course slices s.revisions n) ⊎ ((goal : ℕ) × IsSettled (record s { closed = true }) (course slices s.revisions n) goal)
+    same-stand (inl x) = inl (record { none = x.none; same = x.same; leased = x.leased })
+    same-stand (inr (goal, x)) = inr (goal, record { found = x.found; log = x.log; idle = x.idle; all = x.all; come = x.come })
+step-on slices n s (Volume v) may single k after h = (n, omega arith, record { budget = h.budget; low = leb-true v 1 single; untold = h.untold; some = h.some; others = h.others; went = h.went; stands = same-stand h.stands })
   where
-    same-stand : (n : ℕ) → IsOpen s (course slices s.revisions n) ⊎ ((goal : ℕ) × IsSettled s (course slices s.revisions n) goal) → IsOpen (record s { volume = v }) (course slices s.revisions n) ⊎ ((goal : ℕ) × IsSettled (record s { volume = v }) (course slices s.revisions n) goal)
-    same-stand n (inl x) = inl (record { none = x.none; same = x.same; leased = x.leased })
-    same-stand n (inr (goal, x)) = inr (goal, record { found = x.found; log = x.log; idle = x.idle; all = x.all; come = x.come })
-step-on slices s (Started i) may single k after (n, h) = (n, started-on slices n i s may h)
-step-on slices s (Finished i o) may single k after (n, h) = finish-on slices n i s o single k.solving after.solving h
-step-on slices s Exchanged may single k after h = absurd (false≢true single)
+    same-stand : IsOpen s (course slices s.revisions n) ⊎ ((goal : ℕ) × IsSettled s (course slices s.revisions n) goal) → IsOpen (record s { volume = v }) (course slices s.revisions n) ⊎ ((goal : ℕ) × IsSettled (record s { volume = v }) (course slices s.revisions n) goal)
+    same-stand (inl x) = inl (record { none = x.none; same = x.same; leased = x.leased })
+    same-stand (inr (goal, x)) = inr (goal, record { found = x.found; log = x.log; idle = x.idle; all = x.all; come = x.come })
+step-on slices n s (Started i) may single k after h = (n, omega arith, started-on slices n i s may h)
+step-on slices n s (Finished i o) may single k after h = finish-on slices n i s o single k.solving after.solving h
+step-on slices n s Exchanged may single k after h = absurd (false≢true single)
 
 -- a machine on its course, and what is kept of any machine
-record IsFollowing (slices : ℕ) (s : Solo) : Type 0 where
+pub record IsFollowing (slices : ℕ) (s : Solo) : Type 0 where
   pub kept : IsKept s
   pub on : IsOnCourse slices s
 
@@ -143,11 +147,11 @@ events-follow slices past [] may single h = subst (λ (es : List Own). IsFollowi
 events-follow slices past (o ∷ os) may single h =
     let parts = and_parts (is_single o) (list_all is_single os) single in
     let after : IsKept (solo_step (solo past) o) = step-kept (solo past) o may.0 h.kept in
-    let here : IsFollowing slices (solo_step (solo past) o) = record { kept = after; on = step-on slices (solo past) o may.0 parts.0 h.kept after h.on } in
+    let here : IsFollowing slices (solo_step (solo past) o) = record { kept = after; on = let on : GoesOneOn slices h.on.0 (solo_step (solo past) o) = step-on slices h.on.0 (solo past) o may.0 parts.0 h.kept after h.on.1 in (on.0, on.2) } in
     let next : IsFollowing slices (solo (past ++ o ∷ [])) = subst (λ (s : Solo). IsFollowing slices s) (sym (fold_push solo_step unopened past o)) here in
     subst (λ (es : List Own). IsFollowing slices (solo es)) (append_assoc past (o ∷ []) os) (events-follow slices (past ++ o ∷ []) os may.1 parts.1 next)
 
-opened-follows : (ask : Terms) → IsFollowing ask.slices (solo (Opened ask ∷ []))
+pub opened-follows : (ask : Terms) → IsFollowing ask.slices (solo (Opened ask ∷ []))
 opened-follows ask = record {
   kept = step-kept unopened (Opened ask) tt unopened-kept;
   on = (
@@ -167,7 +171,7 @@ opened-follows ask = record {
 single-follows : (ask : Terms) (own : List Own) → IsSingle ask own → IsFollowing ask.slices (solo (Opened ask ∷ own))
 single-follows ask own h = events-follow ask.slices (Opened ask ∷ []) own h.runnable.1 h.single (opened-follows ask)
 
-come-along : (slices n : ℕ) (s : Solo) → IsAlong slices s n → ComeFrom (course slices s.revisions n) s.answers
+pub come-along : (slices n : ℕ) (s : Solo) → IsAlong slices s n → ComeFrom (course slices s.revisions n) s.answers
 come-along slices n s h = by_stand h.stands
   where
     by_stand : IsOpen s (course slices s.revisions n) ⊎ ((goal : ℕ) × IsSettled s (course slices s.revisions n) goal) → ComeFrom (course slices s.revisions n) s.answers
@@ -179,7 +183,7 @@ on-agree : (slices : ℕ) (s t : Solo) (more : List Posted) → t.revisions ≡ 
 on-agree slices s t more e (n, h) (m, k) = courses-agree slices (s.revisions ++ more) n m s.answers t.answers (went-more slices s.revisions more n h.went) (subst (λ (rs : List Posted). WentOn slices rs m) e k.went) (subst (λ (c : Course). ComeFrom c s.answers) (sym (course-more slices s.revisions more n h.went)) (come-along slices n s h)) (subst (λ (rs : List Posted). ComeFrom (course slices rs m) t.answers) e (come-along slices m t k)) (le-or_lt n m)
 
 -- the log of one begins with that of the other
-log-along : (slices n : ℕ) (s : Solo) → IsAlong slices s n → s.log ≡ (course slices s.revisions n).log
+pub log-along : (slices n : ℕ) (s : Solo) → IsAlong slices s n → s.log ≡ (course slices s.revisions n).log
 log-along slices n s h = by_stand h.stands
   where
     by_stand : IsOpen s (course slices s.revisions n) ⊎ ((goal : ℕ) × IsSettled s (course slices s.revisions n) goal) → s.log ≡ (course slices s.revisions n).log

@@ -143,7 +143,7 @@ unopened-solving = record {
 -- the satisfiable answers of a machine that solves carry models of their revisions
 pub solving-answers : (s : Solo) → IsSolvingSolo s → AnswersSolve s
 solving-answers s h r model e =
-    let parts = and_parts (satisfies model (clauses_of (take (r + 1) s.revisions))) (list_all (is_true_in model) (last_assumed (take (r + 1) s.revisions))) (h.solved r model e) in
+    let parts = and_parts (satisfies model (clauses_of (take (r + 1) s.revisions))) (list_all (is_true_in model) (last_assumed (take (r + 1) s.revisions))) (h.solved r model e).solves in
     let next : r + 1 ≡ suc r = omega arith in
     let within : r < length s.answers = slice_get_within s.answers r (Satisfied model) e in
     let order : length s.answers ≤ length s.revisions = h.order in
@@ -151,4 +151,5 @@ solving-answers s h r model e =
       posted = omega arith;
       satisfied = parts.0;
       assumed = λ p at. subst (λ (xs : List ℕ). list_all (is_true_in model) xs ≡ true) (ap (λ (k : ℕ). last_assumed (take k s.revisions)) next ∙ last-at s.revisions r p [] at) parts.1;
+      whole = (h.solved r model e).whole;
     }

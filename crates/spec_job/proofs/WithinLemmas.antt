@@ -9,7 +9,8 @@ use Rattle.spec_node.specs.Sound.{IsLiteralOf, AreLiteralsOf}
 use Rattle.spec_search.specs.Slice.{slice}
 use Rattle.spec_search.proofs.LineLemmas.{lines-held}
 use Rattle.spec_proof.proofs.Among.{Among, among-append}
-use Rattle.spec_job.proofs.LoadedLemmas.{variables_of, variables-more, HasLoaded, slice-loaded}
+use Rattle.spec_job.specs.Models.{variables_of}
+use Rattle.spec_job.proofs.LoadedLemmas.{variables-more, HasLoaded, slice-loaded}
 use Rattle.spec_job.proofs.LinesLemmas.{IsOfLine, of-line-later}
 use Rattle.spec_job.proofs.TrackedLemmas.{take-split, take-more}
 use Rattle.spec_job.proofs.ImportingLemmas.{IsSaid, AreWithin, parts-with_lines}

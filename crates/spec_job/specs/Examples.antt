@@ -32,6 +32,10 @@ four = record { variables = 2; clauses = Some (2 ∷ 4 ∷ []) ∷ Some (2 ∷ 5
 abbrev pub both_assumed : Posted
 both_assumed = record { variables = 2; clauses = Some (3 ∷ 5 ∷ []) ∷ []; assumptions = 2 ∷ 4 ∷ [] }
 
+-- three variables, the last of which has to be true
+abbrev pub third_true : Posted
+third_true = record { variables = 3; clauses = Some (6 ∷ []) ∷ []; assumptions = [] }
+
 -- a job with a revision and one volume
 abbrev pub ready : Posted → ℕ → List Own
 ready r slices = Opened (ask 1 slices) ∷ Revised r ∷ Closed ∷ Volume 1 ∷ []
@@ -55,9 +59,11 @@ line id lits hints = record { id = id; lits = lits; hints = hints }
 abbrev pub proof_for : Solo → ℕ → ℕ → List Line
 proof_for s r goal = proof_lines s.revisions s.log r goal
 
--- worked examples of a job's machine: answers, budgets, starved and lost starts, late finishes
+-- worked examples of a job's machine: answers, models of as many values as there are variables by then, budgets, starved and
+-- lost starts, late finishes
 pub record HasExamples : Type 0 where
   pub answered : (solo (Opened (ask 1 4) ∷ Revised one_of_two ∷ Closed ∷ Volume 1 ∷ Started 0 ∷ Finished 0 Ran ∷ [])).answers ≡ Satisfied (false ∷ true ∷ []) ∷ []
+  pub whole : (solo (Opened (ask 1 4) ∷ Revised one_of_two ∷ Volume 1 ∷ Started 0 ∷ Finished 0 Ran ∷ Revised third_true ∷ Revised one_of_two ∷ Started 0 ∷ Finished 0 Ran ∷ Started 0 ∷ Finished 0 Ran ∷ [])).answers ≡ Satisfied (false ∷ true ∷ []) ∷ Satisfied (false ∷ true ∷ true ∷ []) ∷ Satisfied (false ∷ true ∷ true ∷ []) ∷ []
   pub second_node : (solo (Opened (ask 2 4) ∷ Revised one_of_two ∷ Closed ∷ Volume 2 ∷ Started 0 ∷ Started 1 ∷ Finished 1 Ran ∷ Finished 0 Ran ∷ [])).answers ≡ Satisfied (true ∷ true ∷ []) ∷ []
   pub budget_spent : (conclude None (fresh 0) (with_spent 1)).answers ≡ Spent 2 ∷ []
   pub budget_left : (conclude None (fresh 0) (with_spent 0)).answers ≡ []

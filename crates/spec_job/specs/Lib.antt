@@ -1,6 +1,9 @@
 pub mod Journal
+pub mod Journaled
+pub mod Leased
 pub mod Solo
 pub mod Titled
+pub mod Viewed
 pub mod Left
 pub mod Keeps
 pub mod Models
@@ -11,4 +14,8 @@ pub mod Counts
 pub mod Provenance
 pub mod Following
 pub mod DemandOne
+pub mod Unknown
 pub mod Examples
+pub mod UnknownExamples
+pub mod Exported
+pub mod DemandOneUpTo

@@ -4,10 +4,15 @@
 
 ghost use Rattle.spec_job.specs.Counts.{ReplaysCount, RunsAreFew};
 ghost use Rattle.spec_job.specs.DemandOne.{NoneIsDue, SinglesAgree};
+ghost use Rattle.spec_job.specs.DemandOneUpTo.{HasUpTo, SinglesAgreeUpTo};
 ghost use Rattle.spec_job.specs.Examples.{HasExamples, HasExchanges, HasRefutations, HasRunnable};
+ghost use Rattle.spec_job.specs.Exported.{ExchangesTellDerived, ExportsAreDerived, HasUntold};
 ghost use Rattle.spec_job.specs.Following.{RunnableJournalsFollow};
+ghost use Rattle.spec_job.specs.Left.{LeftFalls};
 ghost use Rattle.spec_job.specs.Provenance.{RunnableClausesOwn};
 ghost use Rattle.spec_job.specs.Runnable.{AnswersStay, RunnableAnswersFollow, RunnableAnswersRefute, RunnableAnswersSolve, RunnableLogsDerived};
+ghost use Rattle.spec_job.specs.Unknown.{RunnableAnswersAccountedFor, RunnableFedAnswersDecide};
+ghost use Rattle.spec_job.specs.UnknownExamples.{HasEndings};
 
 /// The worked examples of a job's machine compute to the answers that are known, and own events may happen as they should.
 pub fn job_examples()
@@ -17,8 +22,8 @@ pub fn job_examples()
     ensures runnable { HasRunnable }
 {}
 
-/// Where each own event may happen after those before it, each satisfiable answer carries a model of its revision, and
-/// no revision is answered before it is posted.
+/// Where each own event may happen after those before it, each satisfiable answer carries a model of its revision, which has a
+/// value for each variable that the job has by then, and no revision is answered before it is posted.
 pub fn answers_solve()
     ensures solve { RunnableAnswersSolve }
     ensures follow { RunnableAnswersFollow }
@@ -64,4 +69,33 @@ pub fn singles_agree()
 /// under new numbers, what is imported may be told to the node, and each slice is run on a sound node without a verdict.
 pub fn journals_follow()
     ensures { RunnableJournalsFollow }
+{}
+
+/// A start of a node that may start leaves less to run where it ends as ran or starved, and as much as before where it is lost.
+pub fn left_falls()
+    ensures { LeftFalls }
+{}
+
+/// Each answer without a verdict is accounted for by the job's own events: as many slices as the budget were run for the revision,
+/// none of which gave a verdict, or just three starts of it wanted for memory before it was answered. Where none wanted for memory,
+/// each answer is a verdict, or the budget was spent.
+pub fn unknowns_are_accounted_for()
+    ensures accounted { RunnableAnswersAccountedFor }
+    ensures fed { RunnableFedAnswersDecide }
+    ensures examples { HasEndings }
+{}
+
+/// What a node exports are the short lines that the slices of its journal derived since it last took part in an exchange; an
+/// exchange tells all that the nodes export that take part.
+pub fn exports_are_derived()
+    ensures exports { ExportsAreDerived }
+    ensures exchanges { ExchangesTellDerived }
+    ensures examples { HasUntold }
+{}
+
+/// The answer and the reply to a revision of a job that one node runs are decided by its name, its budget and its revisions up to
+/// that one, whatever revisions come behind and whatever own events lie between them.
+pub fn singles_agree_up_to()
+    ensures agree { SinglesAgreeUpTo }
+    ensures example { HasUpTo }
 {}

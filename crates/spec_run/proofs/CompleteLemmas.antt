@@ -146,7 +146,7 @@ turned-posts : (tenant : List ℕ) (ts : List Turn) → filter (is_post_of tenan
 turned-posts tenant [] = refl
 turned-posts tenant (Balances shares ∷ ts) = turned-posts tenant ts
 turned-posts tenant (Exchanges k ∷ ts) = turned-posts tenant ts
-turned-posts tenant (Slices k index ∷ ts) = turned-posts tenant ts
+turned-posts tenant (Slices k index outcome ∷ ts) = turned-posts tenant ts
 
 -- what a tenant posts of all that a script posts
 script-posts : (tenant : List ℕ) (s : Scripted) → filter (is_post_of tenant) (script_events s) ≡ posts_of tenant s

@@ -39,7 +39,7 @@ pub turned-keys : (ts : List Turn) (keys : List Key) → fold keys_step keys (fl
 turned-keys [] keys = refl
 turned-keys (Balances shares ∷ ts) keys = turned-keys ts keys
 turned-keys (Exchanges k ∷ ts) keys = turned-keys ts keys
-turned-keys (Slices k index ∷ ts) keys = turned-keys ts keys
+turned-keys (Slices k index outcome ∷ ts) keys = turned-keys ts keys
 
 -- a history that begins with the openings of jobs, and in which no other opening stands, has their keys
 pub begun-keys : (js : List ScriptedJob) (es : List Event) → ((keys : List Key) → fold keys_step keys es ≡ keys) → keys_of (open_events js ++ es) ≡ map key_of_job js

@@ -4,4 +4,5 @@ pub mod TenantLemmas
 pub mod OpenLemmas
 pub mod PostingLemmas
 pub mod CompleteLemmas
+pub mod HomeLemmas
 pub mod DecidedLemmas

@@ -1,15 +1,18 @@
-use Rattle.std.specs.Prelude.{◌≡◌, ℕ, ◌+◌, List, [], ◌∷◌, ◌++◌, map, flat_map, Option, Some, None}
+use Rattle.std.specs.Prelude.{◌≡◌, ℕ, ◌+◌, Bool, true, List, [], ◌∷◌, ◌++◌, map, flat_map, Option, Some, None}
+use Rattle.std.specs.List.{list_all}
 use Rattle.mal_history.specs.Text.{history_text}
 use Rattle.mal_revision.specs.Posted.{Posted}
-use Rattle.spec_job.specs.Solo.{Solo, solo}
+use Rattle.spec_job.specs.Solo.{Own, Solo, solo}
 use Rattle.spec_job.specs.Titled.{Key}
-use Rattle.spec_hall.specs.Events.{Event, bare}
+use Rattle.spec_hall.specs.Events.{Event, Open, Revise, Close, Balance, Start, Finish, Exchange, bare}
 use Rattle.spec_hall.specs.Own.{own}
 use Rattle.spec_hall.specs.Legal.{Legal}
 use Rattle.spec_hall.specs.Driven.{IsDriven}
+use Rattle.spec_job.specs.DemandOne.{had_memory}
 use Rattle.spec_job.specs.Models.{AnswersSolve}
 use Rattle.spec_job.specs.Proofs.{AnswersRefute}
 use Rattle.spec_job.specs.Replies.{reply}
+use Rattle.spec_job.specs.Unknown.{AnswersAccountedFor, FedAnswersDecide}
 use Rattle.spec_script.specs.Script.{ScriptedJob, Scripted}
 use Rattle.spec_run.specs.Complete.{IsComplete, key_of_job, script_events}
 
@@ -31,29 +34,50 @@ job_replies history j = replies_from (key_of_job j) 1 (solo (own (key_of_job j) 
 unfoldable pub replies : Scripted → List Event → List ℕ
 replies s history = flat_map (job_replies history) s.jobs
 
--- the answers of a machine are evidence: satisfiable carries a model of its revision, unsatisfiable a proof from the job's
--- clauses alone
-pub record IsEvident (s : Solo) : Type 0 where
-  pub models : AnswersSolve s
-  pub proofs : AnswersRefute s
+-- the answers of a job with these own events are evidence: satisfiable carries a model of its revision, unsatisfiable a proof
+-- from the job's clauses alone, and unknown is accounted for: the budget was spent on slices without a verdict, or three starts
+-- wanted for memory; where none did, each answer is a verdict, or the budget was spent
+pub record IsEvident (own : List Own) : Type 0 where
+  pub models : AnswersSolve (solo own)
+  pub proofs : AnswersRefute (solo own)
+  pub unknowns : AnswersAccountedFor own
+  pub decided : FedAnswersDecide own
 
--- a script was run with so many workers: the history is legal and complete for it, and comes by turns of the hall of all
--- that the script posts; the log is the history's text, and the output is the replies of the jobs' machines, each run alone
--- on its own events, whose answers are evidence
+-- a script was run with so many workers: the history is legal and complete for it; the log is the history's text, and the output
+-- is the replies of the jobs' machines, each run alone on its own events, whose answers are evidence
 pub record IsRun (workers : ℕ) (s : Scripted) (history : List Event) (log out : List ℕ) : Type 0 where
   pub legal : Legal workers history
   pub complete : IsComplete s history
-  pub driven : IsDriven workers (script_events s) history
   pub log_text : log ≡ history_text workers (map bare history)
   pub out_text : out ≡ replies s history
-  pub evident : (k : Key) → IsEvident (solo (own k history))
+  pub evident : (k : Key) → IsEvident (own k history)
 
--- a script is run in one way: the history, and with it the log and the output, are decided by the script and the number of
--- workers
+-- a run is sequential: after all that the script posts its history comes by turns of one worker
+pub record IsSequentialRun (workers : ℕ) (s : Scripted) (history : List Event) (log out : List ℕ) : Type 0 where
+  pub run : IsRun workers s history log out
+  pub driven : IsDriven workers (script_events s) history
+
+-- whether an event is no end of a start that wanted for memory
+abbrev pub is_fed : Event → Bool
+is_fed (Open k ask) = true
+is_fed (Revise k number r) = true
+is_fed (Close k) = true
+is_fed (Balance shares) = true
+is_fed (Start k index worker) = true
+is_fed (Finish k index worker outcome) = had_memory outcome
+is_fed (Exchange k) = true
+
+-- no start of a history wanted for memory
+abbrev pub IsFed : List Event → Type 0
+IsFed history = list_all is_fed history ≡ true
+
+-- two runs have the same history, the same log and the same output
 pub record AreSameRuns (one other : List Event) (log_one log_other out_one out_other : List ℕ) : Type 0 where
   pub histories : one ≡ other
   pub logs : log_one ≡ log_other
   pub outs : out_one ≡ out_other
 
+-- a script is run sequentially in one way where no start wants for memory: the history, and with it the log and the output, are
+-- decided by the script and the number of workers
 abbrev pub RunIsDecided : Type 0
-RunIsDecided = (workers : ℕ) (s : Scripted) (one other : List Event) (log_one log_other out_one out_other : List ℕ) → IsRun workers s one log_one out_one → IsRun workers s other log_other out_other → AreSameRuns one other log_one log_other out_one out_other
+RunIsDecided = (workers : ℕ) (s : Scripted) (one other : List Event) (log_one log_other out_one out_other : List ℕ) → IsSequentialRun workers s one log_one out_one → IsSequentialRun workers s other log_other out_other → IsFed one → IsFed other → AreSameRuns one other log_one log_other out_one out_other

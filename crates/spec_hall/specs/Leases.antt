@@ -1,0 +1,99 @@
+use Rattle.std.specs.Prelude.{◌≡◌, ◌≢◌, ℕ, suc, ◌+◌, ◌≤◌, Bool, ◌&&◌, ◌==◌, All, List, [], ◌∷◌, find, fold, Option, Some, None, is_some, if◌then◌else◌}
+use Rattle.std.specs.Option.{option_map_or}
+use Rattle.spec_job.specs.Journal.{JournalEntry}
+use Rattle.spec_job.specs.Journaled.{Journaled}
+use Rattle.spec_job.specs.Solo.{solo, place_at}
+use Rattle.spec_job.specs.Titled.{Key}
+use Rattle.spec_hall.specs.Events.{Event, Open, Revise, Close, Balance, Start, Finish, Exchange}
+use Rattle.spec_hall.specs.Own.{own, is_key}
+use Rattle.spec_hall.specs.States.{Held, Candidate, keys_of, states, lives, balanced, leases, lease_of, picked}
+use Rattle.spec_hall.specs.Legal.{Legal}
+
+-- how many starts there were, and the number of the last one of a worker, 0 before it
+pub record Numbered : Type 0 where
+  pub all : ℕ
+  pub last : ℕ
+
+-- starts are numbered 1, 2, .. in a history
+abbrev pub numbered_step : ℕ → Numbered → Event → Numbered
+numbered_step worker n (Open k ask) = n
+numbered_step worker n (Revise k number r) = n
+numbered_step worker n (Close k) = n
+numbered_step worker n (Balance shares) = n
+numbered_step worker n (Start k index w) = record { all = n.all + 1; last = if w == worker then n.all + 1 else n.last }
+numbered_step worker n (Finish k index w outcome) = n
+numbered_step worker n (Exchange k) = n
+
+-- the starts of a history as they concern a worker
+abbrev pub numbered : ℕ → List Event → Numbered
+numbered worker history = fold (numbered_step worker) (record { all = 0; last = 0 }) history
+
+-- the number of the last start of a worker
+abbrev pub start_number : ℕ → List Event → ℕ
+start_number worker history = (numbered worker history).last
+
+-- how many starts there were after one more event
+abbrev pub starts_step : ℕ → Event → ℕ
+starts_step n (Open k ask) = n
+starts_step n (Revise k number r) = n
+starts_step n (Close k) = n
+starts_step n (Balance shares) = n
+starts_step n (Start k index worker) = n + 1
+starts_step n (Finish k index worker outcome) = n
+starts_step n (Exchange k) = n
+
+-- how many starts a history has
+abbrev pub starts_in : List Event → ℕ
+starts_in history = fold starts_step 0 history
+
+-- the place of a key among others, counted from 0
+abbrev pub place_among : Key → List Key → ℕ
+place_among k [] = 0
+place_among k (j ∷ ks) = if is_key k j then 0 else suc (place_among k ks)
+
+-- the number of a job: its place by opening, counted from 0
+abbrev pub job_number : Key → List Event → ℕ
+job_number k history = place_among k (keys_of history)
+
+-- the journal of a lease that is out: that of its node, under the number of its job and the number of its start
+abbrev pub lease_journal : List Event → Held → Journaled
+lease_journal history l = record { job = job_number l.key history; index = l.index; start = start_number l.worker history; entries = (place_at (solo (own l.key history)) l.index).entries }
+
+-- what the start of a lease that is out adds to that journal
+abbrev pub lease_adds : List Event → Held → List JournalEntry
+lease_adds history l = option_map_or (λ o. o.adds) (place_at (solo (own l.key history)) l.index).out []
+
+-- whether a lease is of this node
+abbrev pub is_of : Key → ℕ → Held → Bool
+is_of k index l = is_key k l.key && index == l.index
+
+-- the lease of a node
+abbrev pub lease_at : Key → ℕ → List Held → Option Held
+lease_at k index out = find (is_of k index) out
+
+-- a worker of a hall: they are numbered from 1
+pub record IsWorker (workers worker : ℕ) : Type 0 where
+  pub low : 1 ≤ worker
+  pub high : worker ≤ workers
+
+-- no two of these leases are of one worker, or of one node
+abbrev pub AreApart : List Held → Type 0
+AreApart [] = Unit {0}
+AreApart (l ∷ ls) = (lease_of l.worker ls ≡ None) × (lease_at l.key l.index ls ≡ None) × AreApart ls
+
+-- the leases that are out: they are of workers of the hall, each of another worker and another node, and a node is out
+-- exactly where a lease of it is
+pub record AreLeases (workers : ℕ) (history : List Event) : Type 0 where
+  pub of_workers : All (λ l. IsWorker workers l.worker) (leases history)
+  pub apart : AreApart (leases history)
+  pub nodes : (k : Key) (index : ℕ) → is_some (place_at (solo (own k history)) index).out ≡ is_some (lease_at k index (leases history))
+
+-- so it is in each legal history of 1 to 64 workers
+abbrev pub LegalLeases : Type 0
+LegalLeases = (workers : ℕ) (history : List Event) → 1 ≤ workers → workers ≤ 64 → Legal workers history → AreLeases workers history
+
+-- where a job is live and nothing is out, a balancing is due or some node may start
+abbrev pub LegalGoesOn : Type 0
+LegalGoesOn =
+    (workers : ℕ) (history : List Event) → 1 ≤ workers → workers ≤ 64 → Legal workers history → leases history ≡ []
+    → lives (states history) ≢ [] → lives (states history) ≡ balanced history → (choice : Candidate) × (picked (states history) ≡ Some choice)

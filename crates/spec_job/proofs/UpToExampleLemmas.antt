@@ -1,0 +1,16 @@
+use Rattle.std.proofs.Common.{refl, arith}
+use Rattle.spec_seq.specs.Luby.{luby}
+use Rattle.spec_search.specs.Slice.{slice}
+use Rattle.spec_job.specs.DemandOneUpTo.{HasUpTo}
+
+pub up-to : HasUpTo
+unfolding luby slice
+up-to = record {
+  one = record { runnable = (tt, (record { posted = refl; room = omega arith }, (record { posted = refl; room = omega arith }, (tt, (tt, (refl, (tt, (refl, (tt, tt))))))))); single = refl };
+  other = record { runnable = (tt, (record { posted = refl; room = omega arith }, (record { posted = refl; room = omega arith }, (tt, (tt, (refl, (tt, (refl, (tt, tt))))))))); single = refl };
+  alike = refl;
+  first = refl;
+  same = refl;
+  second = refl;
+  not_same = refl;
+}

@@ -1,0 +1,71 @@
+-- What nodes export, in the words of their journals: the short lines that a node's own slices derived since the last exchange in
+-- which it took part.
+use Rattle.std.specs.Prelude.{◌≡◌, ℕ, ◌≤◌, Bool, ◌&&◌, nat_le, List, [], ◌∷◌, ◌++◌, length, map, filter, drop, flat_map, if◌then◌else◌}
+use Rattle.mal_base.specs.Held.{Held, Line}
+use Rattle.mal_base.specs.declared.verdict.Outcome.TheVariants.{Ran}
+use Rattle.spec_node.specs.Load.{counted}
+use Rattle.spec_search.specs.Slice.{Sliced}
+use Rattle.spec_exchange.specs.Exchange.{broadcast}
+use Rattle.spec_job.specs.Journal.{JournalEntry, after_entry, replay}
+use Rattle.spec_job.specs.Solo.{Own, Opened, Revised, Closed, Volume, Started, Finished, Exchanged, Solo, unopened, solo, solo_step, place_at, takes_part, exports_of}
+use Rattle.spec_job.specs.Examples.{ask, both_assumed, one_of_two, told}
+
+-- the lines that these entries of a journal derive, from a replay on
+abbrev pub derived_from : Sliced → List JournalEntry → List Line
+derived_from s [] = []
+derived_from s (e ∷ es) = (after_entry s e).lines ++ derived_from (after_entry s e) es
+
+-- the lines that a node's journal derives behind its first entries
+abbrev pub derived_behind : ℕ → List JournalEntry → List JournalEntry → List Line
+derived_behind i first entries = derived_from (replay i first) (drop (length first) entries)
+
+-- the journal with which a node last took part in an exchange, after one more event
+abbrev pub told_step : ℕ → Solo → List JournalEntry → Own → List JournalEntry
+told_step i s last (Opened ask) = last
+told_step i s last (Revised r) = last
+told_step i s last Closed = last
+told_step i s last (Volume v) = last
+told_step i s last (Started j) = last
+told_step i s last (Finished j outcome) = last
+told_step i s last Exchanged = if takes_part s.volume i (place_at s i) then (place_at s i).entries else last
+
+-- the same after the events that follow
+abbrev pub told_from : ℕ → Solo → List JournalEntry → List Own → List JournalEntry
+told_from i s last [] = last
+told_from i s last (o ∷ os) = told_from i (solo_step s o) (told_step i s last o) os
+
+-- the journal with which a node last took part in an exchange, empty before it first did
+abbrev pub journal_told : ℕ → List Own → List JournalEntry
+journal_told i events = told_from i unopened [] events
+
+-- a line is short: it has 1 to 16 literals
+abbrev pub is_short : Line → Bool
+is_short l = nat_le 1 (length l.lits) && nat_le (length l.lits) 16
+
+-- what a node has derived since then, as it is exported: the short lines, without their hints
+abbrev pub untold : ℕ → List Own → List Held
+untold i events = map (λ l. record { id = l.id; lits = l.lits }) (filter is_short (derived_behind i (journal_told i events) (place_at (solo events) i).entries))
+
+-- this is what a node exports
+abbrev pub ExportsAreDerived : Type 0
+ExportsAreDerived = (events : List Own) (i : ℕ) → i ≤ 63 → exports_of (solo events).log i (place_at (solo events) i) ≡ untold i events
+
+-- what the nodes export that take part
+abbrev pub exported_by : List Own → ℕ → List Held
+exported_by events i = if takes_part (solo events).volume i (place_at (solo events) i) then untold i events else []
+
+-- an exchange tells all of it to all
+abbrev pub ExchangesTellDerived : Type 0
+ExchangesTellDerived = (events : List Own) → (solo (events ++ Exchanged ∷ [])).broadcasts ≡ (solo events).broadcasts ++ broadcast (flat_map (exported_by events) (counted 0 64)) ∷ []
+
+-- a job of two nodes, of which the first has derived a clause
+abbrev pub derived_one : List Own
+derived_one = Opened (ask 2 4) ∷ Revised both_assumed ∷ Volume 2 ∷ Started 0 ∷ Finished 0 Ran ∷ Revised one_of_two ∷ []
+
+-- worked examples: a clause that is not told yet, which is none of the other node's; it is none any more behind an exchange, and is
+-- still one where the node was out then
+pub record HasUntold : Type 0 where
+  pub first : untold 0 derived_one ≡ told 4294967296 (3 ∷ 5 ∷ []) ∷ []
+  pub other : untold 1 derived_one ≡ []
+  pub behind : untold 0 (derived_one ++ Exchanged ∷ []) ≡ []
+  pub while_out : untold 0 (derived_one ++ (Started 0 ∷ Exchanged ∷ [])) ≡ told 4294967296 (3 ∷ 5 ∷ []) ∷ []
