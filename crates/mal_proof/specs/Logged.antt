@@ -3,11 +3,12 @@ use Rattle.mal_base.specs.Held.{Line}
 use Rattle.mal_base.specs.Lined.{Lined}
 use Rattle.spec_proof.specs.Log.{IsOrderly}
 
--- the lines of a log, and for how many more lines and numbers there is room
+-- the lines of a log, for how many more lines and numbers there is room, and for how many more chunks
 pub record Logged : Type 0 where
   pub lines : List Line
   pub room : ℕ
   pub number_room : ℕ
+  pub chunk_room : ℕ
 
 -- the lines of chunks and of the last one
 abbrev pub lines_in : List Lined → Lined → List Line

@@ -1,6 +1,6 @@
 //! The log.
 
-ghost use Rattle.std.specs.Prelude.{◌≡◌, ◌≢◌, ◌+◌, ◌<◌, ◌≤◌, [], ◌∷◌, ◌++◌, length, slice_get, Some, All, IfOk, OnOk, OnErr};
+ghost use Rattle.std.specs.Prelude.{◌≡◌, ◌≢◌, ◌+◌, ◌<◌, ◌≤◌, ◌^◌, [], ◌∷◌, ◌++◌, length, slice_get, Some, All, IfOk, OnOk, OnErr};
 ghost use Rattle.mal_base.specs.Held.{Line};
 ghost use Rattle.spec_proof.specs.Log.{IsAbove, IsOrderly};
 ghost use Rattle.spec_proof.specs.Trimmed.{IsTrimmed, reached};
@@ -19,8 +19,8 @@ const LEAST_LINES: usize = 64;
 const LEAST_NUMBERS: usize = 1_024;
 
 /// The derived lines of a job in the order in which they were entered. They stand in chunks, and what stands never moves.
-/// Contracts see the lines, and for how many more lines and numbers, which are literals and hints, there is room; the lines
-/// have the numbers of derived clauses, each once and above all its hints.
+/// Contracts see the lines, for how many more lines and numbers, which are literals and hints, there is room, and for how many
+/// more chunks; the lines have the numbers of derived clauses, each once and above all its hints.
 #[derive(Drop)]
 pub struct Log {
     full: Vec<Lines>,
@@ -31,11 +31,17 @@ pub struct Log {
 }
 
 impl Model for Log {
+    ghost use Rattle.std.specs.Prelude.{◌-◌, vec_len, vec_capacity};
     ghost use Rattle.mal_proof.specs.Logged.{Logged, lines_in, IsKept};
 
     ghost Value = { Logged };
 
-    ghost view = { λ l. record { lines = lines_in l.full.items l.last; room = l.room; number_room = l.number_room } };
+    ghost view = { λ l. record {
+      lines = lines_in l.full.items l.last;
+      room = l.room;
+      number_room = l.number_room;
+      chunk_room = vec_capacity l.full - vec_len l.full;
+    } };
 
     ghost invariant = { λ l. IsKept l.full.items l.last l.count l.room l.number_room };
 }
@@ -43,7 +49,7 @@ impl Model for Log {
 impl Log {
     /// No lines. Takes no memory.
     pub fn new(alloc: Global) -> Log
-        ensures { result ≡ record { lines = []; room = 0; number_room = 0 } }
+        ensures { result.lines ≡ [] }
     {
         Log {
             full: Vec::new(alloc),
@@ -55,12 +61,12 @@ impl Log {
     }
 
     /// Makes room for so many more lines with so many literals and hints. Where there is not enough, a new chunk is begun that
-    /// has room for twice as many, and for some at least. After want of memory the log is as before.
+    /// has room for twice as many, and for some at least. After want of memory the lines and the room for more are as before.
     pub fn reserve(&mut self, lines: usize, numbers: usize) -> Result<(), AllocError>
         ensures lines { self.new.lines ≡ self.old.lines }
         ensures room { OnOk result (lines ≤ self.new.room) }
         ensures number_room { OnOk result (numbers ≤ self.new.number_room) }
-        ensures err { OnErr result (self.new ≡ self.old) }
+        ensures err { OnErr result ((self.new.room ≡ self.old.room) × (self.new.number_room ≡ self.old.number_room)) }
     {
         if lines <= self.room && numbers <= self.number_room {
             return Ok(());
@@ -94,6 +100,32 @@ impl Log {
         self.count += 1;
         self.room -= 1;
         self.number_room -= lits.len() + hints.len();
+    }
+
+    /// Makes room for so many more chunks.
+    pub fn reserve_chunks(&mut self, chunks: usize) -> Result<(), AllocError>
+        ensures lines { self.new.lines ≡ self.old.lines }
+        ensures room { OnOk result (chunks ≤ self.new.chunk_room) }
+        ensures more { self.old.chunk_room ≤ self.new.chunk_room }
+    {
+        self.full.reserve(chunks)?;
+        Ok(())
+    }
+
+    /// Puts lines behind the others as a chunk of their own, for which there is room: they are moved. With those before them
+    /// they have numbers of derived clauses, each once and above all its hints, so that proofs can be trimmed of them. No room
+    /// is left for further single lines. Takes no memory.
+    pub fn append_chunk(&mut self, lines: Lines)
+        requires room { 1 ≤ self.old.chunk_room }
+        requires countable { length self.old.lines + length lines.lines < 2 ^ 64 }
+        requires orderly { IsOrderly (self.old.lines ++ lines.lines) }
+        ensures lines { self.new.lines ≡ self.old.lines ++ lines.lines }
+        ensures less { self.new.chunk_room + 1 ≡ self.old.chunk_room }
+    {
+        self.count += lines.count();
+        self.full.push_reserved(mem::replace(&mut self.last, lines));
+        self.room = 0;
+        self.number_room = 0;
     }
 
     /// The number of lines.

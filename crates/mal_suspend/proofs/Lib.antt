@@ -1,0 +1,4 @@
+pub mod ReplayLemmas
+pub mod StartLemmas
+mod EntryLemmas
+mod FirstLemmas

@@ -1,0 +1,4 @@
+pub mod Replaying
+pub mod Entries
+pub mod Starting
+pub mod Kept

@@ -1,0 +1,27 @@
+use Rattle.std.specs.Prelude.{ℕ, List, [], ◌∷◌, ◌++◌, map}
+use Rattle.std.specs.Arc.{arc_value}
+use Rattle.std.specs.declared.sync.Arc.{Arc}
+use Rattle.mal_base.specs.Held.{Held}
+use Rattle.mal_revision.specs.Posted.{Posted}
+use Rattle.spec_job.specs.Journal.{JournalEntry, Load, Import, Run}
+
+module _ {Z : Type 0} where
+  -- shared revisions, each with the number of its first clause
+  abbrev pub shared_loads : List (Arc Posted Z × ℕ) → List (Posted × ℕ)
+  shared_loads loads = map (λ l. (arc_value l.0, l.1)) loads
+
+  -- shared lists of what is told
+  abbrev pub shared_tolds : List (Arc (List Held) Z) → List (List Held)
+  shared_tolds imports = map (λ t. arc_value t) imports
+
+-- the loads of revisions, each with the number of its first clause
+abbrev pub load_entries : List (Posted × ℕ) → List JournalEntry
+load_entries loads = map (λ l. Load l.0 l.1) loads
+
+-- the imports of what is told
+abbrev pub import_entries : List (List Held) → List JournalEntry
+import_entries tolds = map (λ t. Import t) tolds
+
+-- what a start adds to a journal: loads, then imports, then a slice
+abbrev pub start_entries : List (Posted × ℕ) → List (List Held) → List JournalEntry
+start_entries loads tolds = load_entries loads ++ (import_entries tolds ++ Run ∷ [])

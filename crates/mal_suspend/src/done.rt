@@ -1,0 +1,186 @@
+//! What came of a lease.
+
+ghost use Rattle.std.specs.Prelude.{◌≡◌, ◌≤◌, true, false, [], None, length, vec_capacity};
+ghost use Rattle.mal_base.specs.declared.verdict.Outcome.TheVariants.{Ran, Starved};
+ghost use Rattle.spec_job.specs.Journaled.{replayed, node_of};
+ghost use Rattle.mal_suspend.specs.Kept.{journal_of, is_gone};
+ghost use Rattle.spec_job.specs.Leased.{Tells, model_with};
+
+use crate::journal::Journal;
+use crate::kept::Kept;
+use crate::suspended::{Solver, Suspended};
+use mal_base::{Lines, Outcome, Values, Verdict};
+use std::marker::Model;
+
+/// What came of a lease: the worker, how the start ended, and what is kept of the node; of a start that ran also the lines of its
+/// slice, the verdict and the model. Contracts see them; the type keeps that they are those of the journal's last slice.
+#[derive(Drop)]
+pub struct Done {
+    worker: u32,
+    outcome: Outcome,
+    kept: Kept,
+    lines: Lines,
+    verdict: Option<Verdict>,
+    values: Values,
+}
+
+impl Model for Done {
+    ghost use Rattle.mal_suspend.specs.Kept.{journal_of, is_gone};
+    ghost use Rattle.spec_job.specs.Leased.{Finished, Tells};
+
+    ghost Value = { Finished };
+
+    ghost view = { λ d. record {
+      worker = d.worker;
+      outcome = d.outcome;
+      journal = journal_of d.kept;
+      gone = is_gone d.kept;
+      lines = d.lines.lines;
+      verdict = d.verdict;
+      model = d.values;
+    } };
+
+    ghost invariant = { λ d. Tells d.outcome (record {
+      worker = d.worker;
+      outcome = d.outcome;
+      journal = journal_of d.kept;
+      gone = is_gone d.kept;
+      lines = d.lines.lines;
+      verdict = d.verdict;
+      model = d.values;
+    }) };
+}
+
+impl Done {
+    /// A start that ran: the node with the lines of its slice, its journal, and an empty list with room for the values of a
+    /// model. Takes no memory.
+    pub fn ran(worker: u32, mut node: Solver, journal: Journal, values: Vec<bool>) -> Done
+        requires node { node.state ≡ node_of journal }
+        requires lines { node.lines ≡ (replayed journal).lines }
+        requires empty { values.items ≡ [] }
+        requires room { (node_of journal).variables ≤ vec_capacity values }
+        ensures worker { result.worker ≡ worker }
+        ensures outcome { result.outcome ≡ Ran }
+        ensures journal { result.journal ≡ journal }
+    {
+        let lines = node.take_lines();
+        let values = with_model(&node, values);
+        let verdict = node.verdict();
+        let kept = Kept::Live(Suspended::of(node, journal));
+        Done {
+            worker,
+            outcome: Outcome::Ran,
+            kept,
+            lines,
+            verdict,
+            values,
+        }
+    }
+
+    /// A start that wanted for memory. Takes no memory.
+    pub fn starved(worker: u32, kept: Kept) -> Done
+        ensures worker { result.worker ≡ worker }
+        ensures outcome { result.outcome ≡ Starved }
+        ensures journal { result.journal ≡ journal_of kept }
+        ensures gone { result.gone ≡ is_gone kept }
+    {
+        let alloc = kept.journal().allocator();
+        Done {
+            worker,
+            outcome: Outcome::Starved,
+            kept,
+            lines: Lines::new(alloc),
+            verdict: None,
+            values: Values::of(Vec::new(alloc)),
+        }
+    }
+
+    /// The worker.
+    pub fn worker(&self) -> u32
+        ensures { result ≡ self.now.worker }
+    {
+        self.worker
+    }
+
+    /// How the start ended: it ran, or it wanted for memory.
+    pub fn outcome(&self) -> Outcome
+        ensures value { result ≡ self.now.outcome }
+        ensures tells { Tells self.now.outcome self.now }
+    {
+        self.outcome
+    }
+
+    /// What is kept of the node.
+    pub fn kept(&self) -> &Kept
+        ensures journal { journal_of result.now ≡ self.now.journal }
+        ensures gone { is_gone result.now ≡ self.now.gone }
+    {
+        &self.kept
+    }
+
+    /// The journal of the node.
+    pub fn journal(&self) -> &Journal
+        ensures { result.now ≡ self.now.journal }
+    {
+        self.kept.journal()
+    }
+
+    /// The lines of the slice; none where memory was wanting.
+    pub fn lines(&self) -> &Lines
+        ensures value { result.now.lines ≡ self.now.lines }
+        ensures tells { Tells self.now.outcome self.now }
+    {
+        &self.lines
+    }
+
+    /// The verdict of the slice. None where memory was wanting, and where the slice ended without one.
+    pub fn verdict(&self) -> Option<Verdict>
+        ensures value { result ≡ self.now.verdict }
+        ensures tells { Tells self.now.outcome self.now }
+    {
+        self.verdict
+    }
+
+    /// The values of the variables, from variable 1 on, where the verdict is satisfiable; none otherwise.
+    pub fn model(&self) -> &[bool]
+        ensures value { result.now ≡ self.now.model }
+        ensures tells { Tells self.now.outcome self.now }
+    {
+        self.values.as_slice()
+    }
+
+    /// Gives away what is kept of the node.
+    pub fn into_kept(self) -> Kept
+        ensures journal { journal_of result ≡ self.journal }
+        ensures gone { is_gone result ≡ self.gone }
+    {
+        self.kept
+    }
+
+    /// Gives away what is kept of the node, the lines and the values of the model. Takes no memory.
+    pub fn into_parts(self) -> (Kept, Lines, Values)
+        ensures journal { journal_of result.0 ≡ self.journal }
+        ensures gone { is_gone result.0 ≡ self.gone }
+        ensures lines { result.1.lines ≡ self.lines }
+        ensures model { result.2 ≡ self.model }
+        ensures tells { Tells self.outcome self }
+    {
+        (self.kept, self.lines, self.values)
+    }
+}
+
+/// The model that goes with a node's verdict, in an empty list with room for it. Takes no memory.
+fn with_model(node: &Solver, mut values: Vec<bool>) -> Values
+    requires empty { values.items ≡ [] }
+    requires room { node.now.state.variables ≤ vec_capacity values }
+    ensures { result ≡ model_with node.now.state.verdict node.now.state }
+{
+    match node.verdict() {
+        None => {}
+        Some(verdict) => match verdict {
+            Verdict::Satisfiable => node.model(&mut values),
+            Verdict::Unsatisfiable { .. } => {}
+        },
+    }
+    Values::of(values)
+}

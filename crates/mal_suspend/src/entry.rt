@@ -1,0 +1,125 @@
+//! The entries of a journal.
+
+ghost use Rattle.std.specs.Prelude.{◌≡◌, ◌↔◌, IsTrue, IfOk};
+ghost use Rattle.spec_job.specs.Journal.{is_load, is_import};
+ghost use Rattle.mal_suspend.specs.Entries.{entry_of};
+ghost use Rattle.mal_suspend.specs.Replaying.{variables_with};
+
+use mal_base::Lit;
+use mal_buffer::Buffer;
+use mal_revision::Revision;
+use std::alloc::AllocError;
+use std::sync::Arc;
+
+/// What a node did: it loaded a revision, of which the first clause has this number, it imported what was told, or it ran a
+/// slice.
+#[derive(Drop)]
+pub enum Entry {
+    Load(Arc<Revision>, u32),
+    Import(Arc<Buffer>),
+    Run,
+}
+
+impl Entry {
+    /// An equal entry. It shares the revision or what was told.
+    pub fn copy(&self) -> Result<Entry, AllocError>
+        ensures { IfOk result (λ e. entry_of e ≡ entry_of self.now) }
+    {
+        match self {
+            Entry::Load(revision, first) => Ok(Entry::Load(Arc::try_clone(revision)?, *first)),
+            Entry::Import(told) => Ok(Entry::Import(Arc::try_clone(told)?)),
+            Entry::Run => Ok(Entry::Run),
+        }
+    }
+
+    /// Whether the other entry is of the same kind and has the same revision under the same number, or the same clauses.
+    pub fn same(&self, other: &Entry) -> bool
+        ensures { IsTrue result ↔ (entry_of self.now ≡ entry_of other.now) }
+    {
+        match (self, other) {
+            (Entry::Load(revision, first), Entry::Load(posted, number)) => {
+                is_same_load(revision, *first, posted, *number)
+            }
+            (Entry::Import(told), Entry::Import(others)) => is_same_told(told, others),
+            (Entry::Run, Entry::Run) => true,
+            _ => false,
+        }
+    }
+
+    /// Whether the entry loads a revision.
+    pub fn is_load(&self) -> bool
+        ensures { result ≡ is_load (entry_of self.now) }
+    {
+        match self {
+            Entry::Load(_, _) => true,
+            Entry::Import(_) => false,
+            Entry::Run => false,
+        }
+    }
+
+    /// Whether the entry imports what was told.
+    pub fn is_import(&self) -> bool
+        ensures { result ≡ is_import (entry_of self.now) }
+    {
+        match self {
+            Entry::Load(_, _) => false,
+            Entry::Import(_) => true,
+            Entry::Run => false,
+        }
+    }
+
+    /// The greatest number of variables after this entry, where this was the greatest before.
+    pub fn variables_with(&self, most: u32) -> u32
+        ensures { result ≡ variables_with most (entry_of self.now) }
+    {
+        match self {
+            Entry::Load(revision, _) => most.max(revision.variables()),
+            Entry::Import(_) => most,
+            Entry::Run => most,
+        }
+    }
+}
+
+/// Whether two loads are of the same revision under the same number.
+fn is_same_load(revision: &Revision, first: u32, other: &Revision, number: u32) -> bool
+    ensures { IsTrue result ↔ ((revision.now ≡ other.now) × (first ≡ number)) }
+{
+    if first != number {
+        return false;
+    }
+    revision.same(other)
+}
+
+/// Whether these are the same clauses under the same numbers, in the same order.
+fn is_same_told(told: &Buffer, other: &Buffer) -> bool
+    ensures { IsTrue result ↔ (told.now ≡ other.now) }
+{
+    let entries = told.entries();
+    let others = other.entries();
+    if entries.len() != others.len() {
+        return false;
+    }
+    for i in 0..entries.len() {
+        if !is_same_clause(&entries[i], &others[i]) {
+            return false;
+        }
+    }
+    true
+}
+
+/// Whether these are the same literals under the same number.
+fn is_same_clause(entry: &mal_buffer::Entry, other: &mal_buffer::Entry) -> bool
+    ensures { IsTrue result ↔ (entry.now ≡ other.now) }
+{
+    if entry.id() != other.id() {
+        return false;
+    }
+    have_same(entry.lits(), other.lits())
+}
+
+/// Whether these are the same literals in the same order.
+fn have_same(lits: &[Lit], others: &[Lit]) -> bool
+    ensures { IsTrue result ↔ (lits.now ≡ others.now) }
+{
+    lits == others
+}

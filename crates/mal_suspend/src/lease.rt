@@ -1,0 +1,109 @@
+//! Leases of nodes.
+
+ghost use Rattle.std.specs.Prelude.{◌≡◌, IfOk, IfErr};
+ghost use Rattle.spec_job.specs.Journaled.{replayed, started};
+ghost use Rattle.mal_suspend.specs.Kept.{journal_of, is_gone};
+ghost use Rattle.spec_job.specs.Leased.{Becomes, Tells};
+ghost use Rattle.mal_suspend.specs.Replaying.{MayAllReplay};
+ghost use Rattle.mal_suspend.specs.Starting.{shared_loads, shared_tolds, start_entries};
+
+use crate::done::Done;
+use crate::journal::Journal;
+use crate::kept::Kept;
+use crate::start::Start;
+use mal_buffer::Buffer;
+use mal_learn::Scratch;
+use mal_revision::Revision;
+use std::alloc::AllocError;
+use std::marker::Model;
+use std::sync::Arc;
+
+/// A node that is handed out to a worker for one start. Contracts see its journal, whether it is gone, what the start adds to the
+/// journal, and the worker; the type keeps that this may be replayed behind the journal.
+#[derive(Drop)]
+pub struct Lease {
+    kept: Kept,
+    start: Start,
+    worker: u32,
+}
+
+impl Model for Lease {
+    ghost use Rattle.std.specs.Prelude.{◌≡◌};
+    ghost use Rattle.spec_job.specs.Journaled.{and_entries};
+    ghost use Rattle.mal_suspend.specs.Kept.{journal_of, is_gone};
+    ghost use Rattle.spec_job.specs.Leased.{Leased};
+
+    ghost Value = { Leased };
+
+    ghost view = { λ l. record {
+      journal = journal_of l.kept;
+      gone = is_gone l.kept;
+      adds = l.start.adds;
+      worker = l.worker;
+    } };
+
+    ghost invariant = { λ l. l.start.grown ≡ and_entries (journal_of l.kept) l.start.adds };
+}
+
+impl Lease {
+    /// Hands a node out to a worker for the start of this number: it loads these revisions, each with the number of its first
+    /// clause, then imports what was told, then runs a slice. After want of memory gives back what is kept of the node, as it
+    /// was.
+    pub fn new(
+        kept: Kept,
+        loads: Vec<(Arc<Revision>, u32)>,
+        imports: Vec<Arc<Buffer>>,
+        start: u64,
+        worker: u32,
+    ) -> Result<Lease, (Kept, AllocError)>
+        requires { MayAllReplay (replayed (journal_of kept)) (start_entries (shared_loads loads.items) (shared_tolds imports.items)) }
+        ensures journal { IfOk result (λ l. l.journal ≡ started start (journal_of kept)) }
+        ensures gone { IfOk result (λ l. l.gone ≡ is_gone kept) }
+        ensures adds { IfOk result (λ l. l.adds ≡ start_entries (shared_loads loads.items) (shared_tolds imports.items)) }
+        ensures worker { IfOk result (λ l. l.worker ≡ worker) }
+        ensures refused { IfErr result (λ e. e.0 ≡ kept) }
+    {
+        match Start::new(kept.journal(), loads, imports, start) {
+            Err(error) => Err((kept, error)),
+            Ok(begun) => Ok(Lease {
+                kept: kept.started(start),
+                start: begun,
+                worker,
+            }),
+        }
+    }
+
+    /// The number of the start.
+    pub fn start(&self) -> u64
+        ensures { result ≡ self.now.journal.start }
+    {
+        self.kept.journal().start()
+    }
+
+    /// The worker.
+    pub fn worker(&self) -> u32
+        ensures { result ≡ self.now.worker }
+    {
+        self.worker
+    }
+
+    /// The journal of the node, before the start.
+    pub fn journal(&self) -> &Journal
+        ensures { result.now ≡ self.now.journal }
+    {
+        self.kept.journal()
+    }
+
+    /// Works the lease off: rebuilds a node that is gone, loads, imports and runs a slice. It is never refused; where memory is
+    /// wanting, the journal and the node are as before the start.
+    pub fn work(self, scratch: &mut Scratch) -> Done
+        ensures worker { result.worker ≡ self.worker }
+        ensures becomes { Becomes result.outcome self result }
+        ensures tells { Tells result.outcome result }
+    {
+        match self.kept.wake(scratch) {
+            Err(journal) => Done::starved(self.worker, Kept::Gone(journal)),
+            Ok(suspended) => self.start.run(suspended, self.worker, scratch),
+        }
+    }
+}

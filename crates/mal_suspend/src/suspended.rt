@@ -1,0 +1,81 @@
+//! A node with its journal.
+
+ghost use Rattle.std.specs.Prelude.{◌≡◌, ◌≤◌, []};
+ghost use Rattle.spec_job.specs.Journaled.{node_of, started};
+
+use crate::journal::Journal;
+use mal_cdcl::Node;
+use mal_watch::Watch;
+use std::alloc::Global;
+use std::marker::Model;
+
+/// The nodes that are handed out, over the engine with two watched literals a clause.
+pub type Solver = Node<Watch>;
+
+/// A node with its journal. Contracts see the journal; the type keeps that the node is that of the journal.
+#[derive(Drop)]
+pub struct Suspended {
+    node: Solver,
+    journal: Journal,
+}
+
+impl Model for Suspended {
+    ghost use Rattle.std.specs.Prelude.{◌≡◌};
+    ghost use Rattle.spec_job.specs.Journaled.{Journaled, node_of};
+
+    ghost Value = { Journaled };
+
+    ghost view = { λ s. s.journal };
+
+    ghost invariant = { λ s. s.node.state ≡ node_of s.journal };
+}
+
+impl Suspended {
+    /// The node of this index (0 to 63) of a job, before its first start. Takes no memory.
+    pub fn fresh(alloc: Global, job: u64, index: u32) -> Suspended
+        requires { index ≤ 63 }
+        ensures { result ≡ record { job = job; index = index; start = 0; entries = [] } }
+    {
+        Suspended {
+            node: Node::fresh(alloc, index),
+            journal: Journal::new(alloc, job, index),
+        }
+    }
+
+    /// A node with its journal.
+    pub fn of(node: Solver, journal: Journal) -> Suspended
+        requires { node.state ≡ node_of journal }
+        ensures { result ≡ journal }
+    {
+        Suspended { node, journal }
+    }
+
+    /// The node.
+    pub fn node(&self) -> &Solver
+        ensures { result.now.state ≡ node_of self.now }
+    {
+        &self.node
+    }
+
+    /// The journal.
+    pub fn journal(&self) -> &Journal
+        ensures { result.now ≡ self.now }
+    {
+        &self.journal
+    }
+
+    /// Gives the node and its journal away.
+    pub fn into_parts(self) -> (Solver, Journal)
+        ensures node { result.0.state ≡ node_of self }
+        ensures journal { result.1 ≡ self }
+    {
+        (self.node, self.journal)
+    }
+
+    /// Gives the journal the number of a new start.
+    pub fn set_start(&mut self, start: u64)
+        ensures { self.new ≡ started start self.old }
+    {
+        self.journal.set_start(start);
+    }
+}
