@@ -2,17 +2,15 @@
 use Rattle.std.proofs.Common.{◌≡◌, ℕ, zero, suc, ◌+◌, ◌-◌, ◌<◌, ◌≤◌, min, Bool, true, false, cond, ◌&&◌, List, [], ◌∷◌, ◌++◌, length, map, take, replicate, refl, sym, ◌∙◌, ap, arith}
 use Rattle.std.specs.Prelude.{is_none}
 use Rattle.std.proofs.lemmas.Bool.{lt-ltb, le-ltb}
-use Rattle.std.proofs.lemmas.List.{length-take}
+use Rattle.std.proofs.lemmas.List.{length-take, length-map}
 use Rattle.mal_base.specs.Held.{Held, Line}
-use Rattle.mal_revision.specs.Posted.{Posted}
 use Rattle.spec_exchange.specs.Exchange.{union, broadcast, entries_of, front, most_literals}
 use Rattle.spec_exchange.proofs.UnionLemmas.{order-free, of-unions}
 use Rattle.spec_job.specs.Solo.{Place, vacant, exports_of, takes_part, exports_from, marked_from}
-use Rattle.mal_job.specs.Homes.{Home}
-use Rattle.mal_job.specs.Places.{place_of, places_of}
-use Rattle.mal_job.specs.Exports.{unions_from, marked}
-use Rattle.mal_job.proofs.PlaceLemmas.{length-homes}
-use Rattle.mal_job.proofs.ReplayedLemmas.{length-marked}
+use Rattle.spec_job.specs.Journaled.{Journaled}
+use Rattle.mal_job.specs.Viewed.{PlaceView, place_of, places_of, starts_of}
+use Rattle.mal_job.specs.Placing.{AreOwn}
+use Rattle.mal_job.specs.Exports.{exports_at, unions_from, marked_at, marked}
 
 -- no place from the volume on takes part
 beyond-part : (v k : ℕ) (p : Place) → v ≤ k → takes_part v k p ≡ false
@@ -30,48 +28,84 @@ beyond-exports v log k (p ∷ ps) low =
     ap (λ (b : Bool). cond b (exports_of log k p) [] ++ exports_from v log (k + 1) ps) (beyond-part v k p low)
     ∙ beyond-exports v log (k + 1) ps (omega arith)
 
-module _ (revisions : List Posted) (tolds : List (List Held)) where
-  -- each place below it does
-  below-part : (v k : ℕ) (h : Home) → k < v → takes_part v k (place_of revisions tolds h) ≡ true
-  below-part v k h low = ap (λ (b : Bool). b && true) (lt-ltb k v low)
+-- below it those that are at home do
+below-part : (v k : ℕ) (p : PlaceView) → k < v → takes_part v k (place_of p) ≡ is_none p.out
+below-part v k p low = ap (λ (b : Bool). b && is_none p.out) (lt-ltb k v low)
 
-  front-marked : (v left mark k : ℕ) (hs : List Home) (rest : List Place) → k + left ≡ v → left ≤ length hs → marked_from v mark k (map (place_of revisions tolds) hs ++ rest) ≡ map (place_of revisions tolds) (marked left mark hs) ++ rest
-  front-marked v zero mark k hs rest e low = beyond-marked v mark k (map (place_of revisions tolds) hs ++ rest) (omega arith)
-  front-marked v (suc left) mark k [] rest e low = absurd (omega arith)
-  front-marked v (suc left) mark k (h ∷ hs) rest e low =
-      ap (λ (b : Bool). cond b (record (place_of revisions tolds h) { mark = mark }) (place_of revisions tolds h) ∷ marked_from v mark (k + 1) (map (place_of revisions tolds) hs ++ rest)) (below-part v k h (omega arith))
-      ∙ ap (λ (ps : List Place). record (place_of revisions tolds h) { mark = mark } ∷ ps) (front-marked v left mark (k + 1) hs rest (omega arith) (omega arith))
+marked-place : (mark : ℕ) (p : PlaceView) → cond (is_none p.out) (record (place_of p) { mark = mark }) (place_of p) ≡ place_of (marked_at mark p)
+marked-place mark p = by_test (is_none p.out)
+  where
+    by_test : (b : Bool) → cond b (record (place_of p) { mark = mark }) (place_of p) ≡ place_of (cond b (record p { mark = mark }) p)
+    by_test true = refl
+    by_test false = refl
 
-  -- the marks that are moved
-  pub places-marked : (v mark : ℕ) (hs : List Home) → v ≤ length hs → marked_from v mark 0 (places_of revisions tolds hs) ≡ places_of revisions tolds (marked v mark hs)
-  places-marked v mark hs low =
-      let f : Home → Place = place_of revisions tolds in
-      let one : length (map f hs) ≡ length hs = length-homes hs f in
-      let two : length (map f (marked v mark hs)) ≡ length (marked v mark hs) = length-homes (marked v mark hs) f in
-      let same : length (map f hs) ≡ length (map f (marked v mark hs)) = one ∙ (sym (length-marked v mark hs) ∙ sym two) in
-      front-marked v v mark 0 hs (replicate (64 - length (map f hs)) vacant) (omega arith) low ∙ ap (λ (n : ℕ). map f (marked v mark hs) ++ replicate (64 - n) vacant) same
+front-marked : (v left mark k : ℕ) (ps : List PlaceView) (rest : List Place) → k + left ≡ v → left ≤ length ps → marked_from v mark k (map place_of ps ++ rest) ≡ map place_of (marked left mark ps) ++ rest
+front-marked v zero mark k ps rest e low = beyond-marked v mark k (map place_of ps ++ rest) (omega arith)
+front-marked v (suc left) mark k [] rest e low = absurd (omega arith)
+front-marked v (suc left) mark k (p ∷ ps) rest e low =
+    ap (λ (b : Bool). cond b (record (place_of p) { mark = mark }) (place_of p) ∷ marked_from v mark (k + 1) (map place_of ps ++ rest)) (below-part v k p (omega arith))
+    ∙ (ap (λ (x : Place). x ∷ marked_from v mark (k + 1) (map place_of ps ++ rest)) (marked-place mark p)
+    ∙ ap (λ (xs : List Place). place_of (marked_at mark p) ∷ xs) (front-marked v left mark (k + 1) ps rest (omega arith) (omega arith)))
 
-  -- unions of what is exported
-  front-exports : (v left k : ℕ) (log : List Line) (hs : List Home) (rest : List Place) → k + left ≡ v → left ≤ length hs → union (entries_of (unions_from log k (take left hs))) ≡ union (exports_from v log k (map (place_of revisions tolds) hs ++ rest))
-  front-exports v zero k log hs rest e low = ap union (sym (beyond-exports v log k (map (place_of revisions tolds) hs ++ rest) (omega arith)))
-  front-exports v (suc left) k log [] rest e low = absurd (omega arith)
-  front-exports v (suc left) k log (h ∷ hs) rest e low =
-      joined (exports_of log k (place_of revisions tolds h)) (entries_of (unions_from log (k + 1) (take left hs))) (exports_from v log (k + 1) (map (place_of revisions tolds) hs ++ rest)) (front-exports v left (k + 1) log hs rest (omega arith) (omega arith))
-      ∙ ap (λ (b : Bool). union (cond b (exports_of log k (place_of revisions tolds h)) [] ++ exports_from v log (k + 1) (map (place_of revisions tolds) hs ++ rest))) (sym (below-part v k h (omega arith)))
-    where
-      joined : (xs ys zs : List Held) → union ys ≡ union zs → union (union xs ++ ys) ≡ union (xs ++ zs)
-      joined xs ys zs same = of-unions xs ys ∙ (order-free xs ys ∙ (sym (of-unions ys xs) ∙ (ap (λ (us : List Held). union (us ++ xs)) same ∙ (of-unions zs xs ∙ order-free zs xs))))
+pub length-marked : (n mark : ℕ) (ps : List PlaceView) → length (marked n mark ps) ≡ length ps
+length-marked zero mark ps = refl
+length-marked (suc n) mark [] = refl
+length-marked (suc n) mark (p ∷ ps) = ap (λ (j : ℕ). suc j) (length-marked n mark ps)
 
-  -- what is told
-  pub told-is : (v : ℕ) (log : List Line) (hs : List Home) → v ≤ length hs → broadcast (entries_of (unions_from log 0 (take v hs))) ≡ broadcast (exports_from v log 0 (places_of revisions tolds hs))
-  told-is v log hs low = ap (front most_literals) (front-exports v v 0 log hs (replicate (64 - length (map (place_of revisions tolds) hs)) vacant) (omega arith) low)
+-- the marks that are moved
+pub places-marked : (v mark : ℕ) (ps : List PlaceView) → v ≤ length ps → marked_from v mark 0 (places_of ps) ≡ places_of (marked v mark ps)
+places-marked v mark ps low =
+    let one : length (map place_of ps) ≡ length ps = length-map ps place_of in
+    let two : length (map place_of (marked v mark ps)) ≡ length (marked v mark ps) = length-map (marked v mark ps) place_of in
+    let same : length (map place_of ps) ≡ length (map place_of (marked v mark ps)) = one ∙ (sym (length-marked v mark ps) ∙ sym two) in
+    front-marked v v mark 0 ps (replicate (64 - length (map place_of ps)) vacant) (omega arith) low ∙ ap (λ (n : ℕ). map place_of (marked v mark ps) ++ replicate (64 - n) vacant) same
+
+-- they leave the numbers of the starts and the journals
+marked-start : (mark : ℕ) (p : PlaceView) → (marked_at mark p).journal ≡ p.journal
+marked-start mark p = by_test (is_none p.out)
+  where
+    by_test : (b : Bool) → (cond b (record p { mark = mark }) p).journal ≡ p.journal
+    by_test true = refl
+    by_test false = refl
+
+starts-front : (n mark : ℕ) (ps : List PlaceView) → map (λ (p : PlaceView). p.journal.start) (marked n mark ps) ≡ map (λ (p : PlaceView). p.journal.start) ps
+starts-front zero mark ps = refl
+starts-front (suc n) mark [] = refl
+starts-front (suc n) mark (p ∷ ps) =
+    ap (λ (j : Journaled). j.start ∷ map (λ (x : PlaceView). x.journal.start) (marked n mark ps)) (marked-start mark p)
+    ∙ ap (λ (xs : List ℕ). p.journal.start ∷ xs) (starts-front n mark ps)
+
+pub starts-marked : (n mark : ℕ) (ps : List PlaceView) → starts_of (marked n mark ps) ≡ starts_of ps
+starts-marked n mark ps = ap (λ (xs : List ℕ). xs ++ replicate (64 - length (marked n mark ps)) 0) (starts-front n mark ps) ∙ ap (λ (k : ℕ). map (λ (p : PlaceView). p.journal.start) ps ++ replicate (64 - k) 0) (length-marked n mark ps)
+
+pub own-marked : (number k n mark : ℕ) (ps : List PlaceView) → AreOwn number k ps → AreOwn number k (marked n mark ps)
+own-marked number k zero mark ps all = all
+own-marked number k (suc n) mark [] all = all
+own-marked number k (suc n) mark (p ∷ ps) all =
+    let same : (marked_at mark p).journal ≡ p.journal = marked-start mark p in
+    (ap (λ (j : Journaled). j.job) same ∙ all.0, ap (λ (j : Journaled). j.index) same ∙ all.1, own-marked number (k + 1) n mark ps all.2)
+
+-- unions of what is exported
+front-exports : (v left k : ℕ) (log : List Line) (ps : List PlaceView) (rest : List Place) → k + left ≡ v → left ≤ length ps → union (entries_of (unions_from log k (take left ps))) ≡ union (exports_from v log k (map place_of ps ++ rest))
+front-exports v zero k log ps rest e low = ap union (sym (beyond-exports v log k (map place_of ps ++ rest) (omega arith)))
+front-exports v (suc left) k log [] rest e low = absurd (omega arith)
+front-exports v (suc left) k log (p ∷ ps) rest e low =
+    joined (exports_at log k p) (entries_of (unions_from log (k + 1) (take left ps))) (exports_from v log (k + 1) (map place_of ps ++ rest)) (front-exports v left (k + 1) log ps rest (omega arith) (omega arith))
+    ∙ ap (λ (b : Bool). union (cond b (exports_of log k (place_of p)) [] ++ exports_from v log (k + 1) (map place_of ps ++ rest))) (sym (below-part v k p (omega arith)))
+  where
+    joined : (xs ys zs : List Held) → union ys ≡ union zs → union (union xs ++ ys) ≡ union (xs ++ zs)
+    joined xs ys zs same = of-unions xs ys ∙ (order-free xs ys ∙ (sym (of-unions ys xs) ∙ (ap (λ (us : List Held). union (us ++ xs)) same ∙ (of-unions zs xs ∙ order-free zs xs))))
+
+-- what is told
+pub told-is : (v : ℕ) (log : List Line) (ps : List PlaceView) → v ≤ length ps → broadcast (entries_of (unions_from log 0 (take v ps))) ≡ broadcast (exports_from v log 0 (places_of ps))
+told-is v log ps low = ap (front most_literals) (front-exports v v 0 log ps (replicate (64 - length (map place_of ps)) vacant) (omega arith) low)
 
 -- as many unions as nodes
-unions-length : (log : List Line) (k : ℕ) (hs : List Home) → length (unions_from log k hs) ≡ length hs
+unions-length : (log : List Line) (k : ℕ) (hs : List PlaceView) → length (unions_from log k hs) ≡ length hs
 unions-length log k [] = refl
 unions-length log k (h ∷ hs) = ap (λ (n : ℕ). suc n) (unions-length log (k + 1) hs)
 
-pub unions-few : (log : List Line) (v : ℕ) (hs : List Home) (us : List (List Held)) → us ≡ unions_from log 0 (take v hs) → v ≤ 64 → length us ≤ 64
+pub unions-few : (log : List Line) (v : ℕ) (hs : List PlaceView) (us : List (List Held)) → us ≡ unions_from log 0 (take v hs) → v ≤ 64 → length us ≤ 64
 unions-few log v hs us e low =
     let same : length us ≡ length (take v hs) = ap (λ (xs : List (List Held)). length xs) e ∙ unions-length log 0 (take v hs) in
     let short : length (take v hs) ≡ min v (length hs) = length-take v hs in

@@ -7,8 +7,8 @@ use Rattle.mal_base.specs.Held.{Held, Line}
 use Rattle.spec_exchange.specs.Exchange.{union}
 use Rattle.spec_exchange.proofs.UnionLemmas.{order-free, of-unions}
 use Rattle.spec_job.specs.Solo.{is_exported}
-use Rattle.mal_job.specs.Homes.{Home}
-use Rattle.mal_job.specs.Exports.{exported_by, marked}
+use Rattle.mal_job.specs.Viewed.{PlaceView}
+use Rattle.mal_job.specs.Exports.{exported_by, marked_at, marked}
 
 -- two stretches behind one another
 exported-append : (i : ℕ) (xs ys : List Line) → exported_by i (xs ++ ys) ≡ exported_by i xs ++ exported_by i ys
@@ -66,15 +66,15 @@ rising-at zero (x ∷ xs) lits low same up = ap rises (same x refl) ∙ All-head
 rising-at (suc n) (x ∷ xs) lits low same up = rising-at n xs lits (omega arith) (λ line e. same line e) (All-tail (λ line. rises line.lits ≡ true) x xs up)
 
 -- one mark more is moved
-pub marked-next : (k mark : ℕ) (hs : List Home) (d : Home) → k < length hs → slice_set (marked k mark hs) k (record (get_or (marked k mark hs) k d) { mark = mark }) ≡ marked (suc k) mark hs
+pub marked-next : (k mark : ℕ) (ps : List PlaceView) (d : PlaceView) → k < length ps → slice_set (marked k mark ps) k (marked_at mark (get_or (marked k mark ps) k d)) ≡ marked (suc k) mark ps
 marked-next zero mark [] d low = absurd (omega arith)
-marked-next zero mark (h ∷ hs) d low = refl
+marked-next zero mark (p ∷ ps) d low = refl
 marked-next (suc k) mark [] d low = absurd (omega arith)
-marked-next (suc k) mark (h ∷ hs) d low = ap (λ (xs : List Home). record h { mark = mark } ∷ xs) (marked-next k mark hs d (omega arith))
+marked-next (suc k) mark (p ∷ ps) d low = ap (λ (xs : List PlaceView). marked_at mark p ∷ xs) (marked-next k mark ps d (omega arith))
 
-pub marked-step : (k mark : ℕ) (hs ps : List Home) (old new : Home) → k < length hs → ps ≡ marked k mark hs → old ≡ get_or ps k old → new ≡ record old { mark = mark } → slice_set ps k new ≡ marked (k + 1) mark hs
-marked-step k mark hs ps old new low e f g =
+pub marked-step : (k mark : ℕ) (ps qs : List PlaceView) (old new : PlaceView) → k < length ps → qs ≡ marked k mark ps → old ≡ get_or qs k old → new ≡ marked_at mark old → slice_set qs k new ≡ marked (k + 1) mark ps
+marked-step k mark ps qs old new low e f g =
     let same : suc k ≡ k + 1 = omega arith in
-    ap (λ (h : Home). slice_set ps k h) (g ∙ ap (λ (h : Home). let t : Home = record h { mark = mark } in t) f)
-    ∙ (ap (λ (xs : List Home). slice_set xs k (record (get_or xs k old) { mark = mark })) e
-    ∙ (marked-next k mark hs old low ∙ ap (λ (n : ℕ). marked n mark hs) same))
+    ap (λ (p : PlaceView). slice_set qs k p) (g ∙ ap (λ (p : PlaceView). marked_at mark p) f)
+    ∙ (ap (λ (xs : List PlaceView). slice_set xs k (marked_at mark (get_or xs k old))) e
+    ∙ (marked-next k mark ps old low ∙ ap (λ (n : ℕ). marked n mark ps) same))

@@ -1,13 +1,12 @@
-pub mod LogLemmas
-pub mod JournalLemmas
-pub mod LoadingLemmas
-pub mod PlaceLemmas
-pub mod ReplayedLemmas
-pub mod StateLemmas
-pub mod ExchangeLemmas
-pub mod ExportedLemmas
-pub mod KeptLemmas
-pub mod ProgressLemmas
-pub mod StartLemmas
-pub mod EndedLemmas
-pub mod ToldLemmas
+mod LogLemmas
+mod ToldLemmas
+mod ExportedLemmas
+mod ExchangeLemmas
+mod PlaceLemmas
+mod LoadingLemmas
+mod StateLemmas
+mod TreeLemmas
+mod KeptLemmas
+mod PartLemmas
+mod FinishLemmas
+mod StartLemmas

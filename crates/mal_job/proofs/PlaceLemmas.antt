@@ -1,154 +1,187 @@
--- The places of a job: one is set, some are made, and none has a start out.
-use Rattle.std.proofs.Common.{◌≡◌, ℕ, zero, suc, ◌+◌, ◌-◌, ◌<◌, ◌≤◌, Bool, true, false, cond, ◌&&◌, nat_lt, List, [], ◌∷◌, ◌++◌, length, map, replicate, get_or, count_by, Option, None, refl, sym, ◌∙◌, ap, arith, length-append}
-use Rattle.std.specs.Prelude.{slice_set, is_none}
-use Rattle.std.proofs.lemmas.Bool.{lt-ltb, ltb-true, and_parts}
-use Rattle.std.proofs.lemmas.List.{length-replicate}
+-- The places of a tree: one is set, some are made, and how many are out.
+use Rattle.std.proofs.Common.{◌≡◌, ℕ, zero, suc, ◌+◌, ◌-◌, ◌<◌, ◌≤◌, Bool, true, false, cond, ◌&&◌, List, [], ◌∷◌, ◌++◌, length, map, replicate, take, get_or, count_by, Option, None, inl, inr, ◌⊎◌, refl, sym, ◌∙◌, ap, subst, arith, append-nil, length-append}
+use Rattle.std.specs.Prelude.{slice_set, is_some}
+use Rattle.std.proofs.lemmas.Bool.{ltb-true, and_parts}
+use Rattle.std.proofs.lemmas.List.{length-replicate, length-map}
 use Rattle.std.proofs.lemmas.List.Sums.{sum_by-cons}
-use Rattle.mal_base.specs.Held.{Held}
-use Rattle.mal_revision.specs.Posted.{Posted}
-use Rattle.spec_job.specs.Counts.{runs_in, runs_of}
-use Rattle.spec_job.specs.Solo.{Place, vacant, Solo, place_at, is_live, is_for, out_count, startable}
-use Rattle.mal_job.specs.Homes.{Home}
-use Rattle.mal_job.specs.Places.{place_of, filled, places_of, fresh_from, IsGrown}
-use Rattle.mal_job.specs.Viewed.{Parts, state_of}
+use Rattle.spec_job.proofs.AgreeLemmas.{le-or_lt}
+use Rattle.spec_job.specs.Counts.{runs_in, runs_of, starts_out}
+use Rattle.spec_job.specs.Journaled.{Journaled}
+use Rattle.spec_job.specs.Solo.{Place, Lease, vacant, Solo, place_at, is_live, startable}
+use Rattle.mal_job.specs.Viewed.{PlaceView, place_of, filled, places_of, starts_of}
+use Rattle.mal_job.specs.Placing.{fresh_place, fresh_from, IsGrown, AreOwn}
 
--- one place set after another
-pub set-twice : (ps : List Place) (i : ℕ) (p q : Place) → slice_set (slice_set ps i p) i q ≡ slice_set ps i q
-set-twice [] i p q = refl
-set-twice (x ∷ xs) zero p q = refl
-set-twice (x ∷ xs) (suc i) p q = ap (λ (ys : List Place). x ∷ ys) (set-twice xs i p q)
+lt-or_le : (i n : ℕ) → (i < n) ⊎ (n ≤ i)
+lt-or_le i n = turned (le-or_lt n i)
+  where
+    turned : (n ≤ i) ⊎ (i < n) → (i < n) ⊎ (n ≤ i)
+    turned (inl a) = inr a
+    turned (inr a) = inl a
 
-pub length-homes : (hs : List Home) (f : Home → Place) → length (map f hs) ≡ length hs
-length-homes [] f = refl
-length-homes (h ∷ hs) f = ap (λ (n : ℕ). suc n) (length-homes hs f)
+pub length-set : {X : Type 0} (xs : List X) (i : ℕ) (x : X) → length (slice_set xs i x) ≡ length xs
+length-set [] i x = refl
+length-set (y ∷ ys) zero x = refl
+length-set (y ∷ ys) (suc i) x = ap (λ (n : ℕ). suc n) (length-set ys i x)
 
-pub length-set : (hs : List Home) (i : ℕ) (h : Home) → length (slice_set hs i h) ≡ length hs
-length-set [] i h = refl
-length-set (x ∷ xs) zero h = refl
-length-set (x ∷ xs) (suc i) h = ap (λ (n : ℕ). suc n) (length-set xs i h)
-
-set-front : (hs : List Home) (f : Home → Place) (rest : List Place) (i : ℕ) (h : Home) → i < length hs → slice_set (map f hs ++ rest) i (f h) ≡ map f (slice_set hs i h) ++ rest
-set-front [] f rest i h low = absurd (omega arith)
-set-front (x ∷ xs) f rest zero h low = refl
-set-front (x ∷ xs) f rest (suc i) h low = ap (λ (ys : List Place). f x ∷ ys) (set-front xs f rest i h (omega arith))
+set-front : (ps : List PlaceView) (rest : List Place) (i : ℕ) (p : PlaceView) → i < length ps → slice_set (map place_of ps ++ rest) i (place_of p) ≡ map place_of (slice_set ps i p) ++ rest
+set-front [] rest i p low = absurd (omega arith)
+set-front (x ∷ xs) rest zero p low = refl
+set-front (x ∷ xs) rest (suc i) p low = ap (λ (ys : List Place). place_of x ∷ ys) (set-front xs rest i p (omega arith))
 
 -- a place that is set
-pub set-home : (hs : List Home) (f : Home → Place) (i : ℕ) (h : Home) → i < length hs → slice_set (filled (map f hs)) i (f h) ≡ filled (map f (slice_set hs i h))
-set-home hs f i h low =
-    let one : length (map f hs) ≡ length hs = length-homes hs f in
-    let two : length (map f (slice_set hs i h)) ≡ length (slice_set hs i h) = length-homes (slice_set hs i h) f in
-    let same : length (map f hs) ≡ length (map f (slice_set hs i h)) = one ∙ (sym (length-set hs i h) ∙ sym two) in
-    set-front hs f (replicate (64 - length (map f hs)) vacant) i h low ∙ ap (λ (n : ℕ). map f (slice_set hs i h) ++ replicate (64 - n) vacant) same
+pub set-placed : (ps : List PlaceView) (i : ℕ) (p : PlaceView) → i < length ps → slice_set (places_of ps) i (place_of p) ≡ places_of (slice_set ps i p)
+set-placed ps i p low =
+    let one : length (map place_of ps) ≡ length ps = length-map ps place_of in
+    let two : length (map place_of (slice_set ps i p)) ≡ length (slice_set ps i p) = length-map (slice_set ps i p) place_of in
+    let same : length (map place_of ps) ≡ length (map place_of (slice_set ps i p)) = one ∙ (sym (length-set ps i p) ∙ sym two) in
+    set-front ps (replicate (64 - length (map place_of ps)) vacant) i p low ∙ ap (λ (n : ℕ). map place_of (slice_set ps i p) ++ replicate (64 - n) vacant) same
 
 -- the place at an index
-home-front : (hs : List Home) (f : Home → Place) (rest : List Place) (i : ℕ) (d : Home) → i < length hs → get_or (map f hs ++ rest) i vacant ≡ f (get_or hs i d)
-home-front [] f rest i d low = absurd (omega arith)
-home-front (x ∷ xs) f rest zero d low = refl
-home-front (x ∷ xs) f rest (suc i) d low = home-front xs f rest i d (omega arith)
+placed-front : (ps : List PlaceView) (rest : List Place) (i : ℕ) (d : PlaceView) → i < length ps → get_or (map place_of ps ++ rest) i vacant ≡ place_of (get_or ps i d)
+placed-front [] rest i d low = absurd (omega arith)
+placed-front (x ∷ xs) rest zero d low = refl
+placed-front (x ∷ xs) rest (suc i) d low = placed-front xs rest i d (omega arith)
 
-pub home-at : (hs : List Home) (f : Home → Place) (i : ℕ) (d : Home) → i < length hs → get_or (filled (map f hs)) i vacant ≡ f (get_or hs i d)
-home-at hs f i d low = home-front hs f (replicate (64 - length (map f hs)) vacant) i d low
+pub placed-at : (ps : List PlaceView) (i : ℕ) (d : PlaceView) → i < length ps → get_or (places_of ps) i vacant ≡ place_of (get_or ps i d)
+placed-at ps i d low = placed-front ps (replicate (64 - length (map place_of ps)) vacant) i d low
 
 vacant-at : (n i : ℕ) → get_or (replicate n vacant) i vacant ≡ vacant
 vacant-at zero i = refl
 vacant-at (suc n) zero = refl
 vacant-at (suc n) (suc i) = vacant-at n i
 
-vacant-back : (hs : List Home) (f : Home → Place) (n i : ℕ) → length hs ≤ i → get_or (map f hs ++ replicate n vacant) i vacant ≡ vacant
-vacant-back [] f n i low = vacant-at n i
-vacant-back (x ∷ xs) f n zero low = absurd (omega arith)
-vacant-back (x ∷ xs) f n (suc i) low = vacant-back xs f n i (omega arith)
+vacant-back : (ps : List PlaceView) (n i : ℕ) → length ps ≤ i → get_or (map place_of ps ++ replicate n vacant) i vacant ≡ vacant
+vacant-back [] n i low = vacant-at n i
+vacant-back (x ∷ xs) n zero low = absurd (omega arith)
+vacant-back (x ∷ xs) n (suc i) low = vacant-back xs n i (omega arith)
 
-pub home-behind : (hs : List Home) (f : Home → Place) (i : ℕ) → length hs ≤ i → get_or (filled (map f hs)) i vacant ≡ vacant
-home-behind hs f i low = vacant-back hs f (64 - length (map f hs)) i low
+pub placed-behind : (ps : List PlaceView) (i : ℕ) → length ps ≤ i → get_or (places_of ps) i vacant ≡ vacant
+placed-behind ps i low = vacant-back ps (64 - length (map place_of ps)) i low
 
-pub length-filled : (hs : List Home) (f : Home → Place) → length hs ≤ 64 → length (filled (map f hs)) ≡ 64
-length-filled hs f low =
-    let one : length (map f hs) ≡ length hs = length-homes hs f in
-    let all : length (map f hs ++ replicate (64 - length (map f hs)) vacant) ≡ length (map f hs) + length (replicate (64 - length (map f hs)) vacant) = length-append (map f hs) (replicate (64 - length (map f hs)) vacant) in
-    let rest : length (replicate (64 - length (map f hs)) vacant) ≡ 64 - length (map f hs) = length-replicate (64 - length (map f hs)) vacant in
+pub length-filled : (ps : List PlaceView) → length ps ≤ 64 → length (places_of ps) ≡ 64
+length-filled ps low =
+    let one : length (map place_of ps) ≡ length ps = length-map ps place_of in
+    let all : length (map place_of ps ++ replicate (64 - length (map place_of ps)) vacant) ≡ length (map place_of ps) + length (replicate (64 - length (map place_of ps)) vacant) = length-append (map place_of ps) (replicate (64 - length (map place_of ps)) vacant) in
+    let rest : length (replicate (64 - length (map place_of ps)) vacant) ≡ 64 - length (map place_of ps) = length-replicate (64 - length (map place_of ps)) vacant in
     omega arith
 
-pub fresh-length : (k n : ℕ) → length (fresh_from k n) ≡ n
-fresh-length k zero = refl
-fresh-length k (suc n) = ap (λ (j : ℕ). suc j) (fresh-length (k + 1) n)
+pub get-within : (ps : List PlaceView) (i : ℕ) (d e : PlaceView) → i < length ps → get_or ps i d ≡ get_or ps i e
+get-within [] i d e low = absurd (omega arith)
+get-within (x ∷ xs) zero d e low = refl
+get-within (x ∷ xs) (suc i) d e low = get-within xs i d e (omega arith)
 
--- no start is out
-module _ (revisions : List Posted) (tolds : List (List Held)) where
-  none-out : (hs : List Home) (n i : ℕ) → (get_or (map (place_of revisions tolds) hs ++ replicate n vacant) i vacant).out ≡ None
-  none-out [] n i = ap (λ (p : Place). p.out) (vacant-at n i)
-  none-out (x ∷ xs) n zero = refl
-  none-out (x ∷ xs) n (suc i) = none-out xs n i
+pub get-behind : (ps : List PlaceView) (i : ℕ) (d : PlaceView) → length ps ≤ i → get_or ps i d ≡ d
+get-behind [] i d low = refl
+get-behind (x ∷ xs) zero d low = absurd (omega arith)
+get-behind (x ∷ xs) (suc i) d low = get-behind xs i d (omega arith)
 
-  pub out-none : (hs : List Home) (i : ℕ) → (get_or (places_of revisions tolds hs) i vacant).out ≡ None
-  out-none hs i = none-out hs (64 - length (map (place_of revisions tolds) hs)) i
+-- a place that is out is one of them
+pub out-within : (ps : List PlaceView) (i n k : ℕ) → is_some (get_or ps i (fresh_place n k)).out ≡ true → i < length ps
+out-within ps i n k e = by_place (get_or ps i (fresh_place n k)) refl e
+  where
+    by_test : (i < length ps) ⊎ (length ps ≤ i) → (p : PlaceView) → get_or ps i (fresh_place n k) ≡ p → is_some p.out ≡ true → i < length ps
+    by_test (inl low) p f g = low
+    by_test (inr high) p f g =
+        let none : p ≡ fresh_place n k = sym f ∙ get-behind ps i (fresh_place n k) high in
+        let no : false ≡ true = ap (λ (x : PlaceView). is_some x.out) (sym none) ∙ g in
+        absurd (cc)
 
-  none-vacant : (c n : ℕ) → count_by (λ (p : Place). is_for c p.out) (replicate n vacant) ≡ 0
-  none-vacant c zero = refl
-  none-vacant c (suc n) =
-      let cons : count_by (λ (p : Place). is_for c p.out) (vacant ∷ replicate n vacant) ≡ 0 + count_by (λ (p : Place). is_for c p.out) (replicate n vacant) = sum_by-cons (λ (p : Place). cond (is_for c p.out) 1 0) vacant (replicate n vacant) in
-      let rest : count_by (λ (p : Place). is_for c p.out) (replicate n vacant) ≡ 0 = none-vacant c n in
-      omega arith
+    by_place : (p : PlaceView) → get_or ps i (fresh_place n k) ≡ p → is_some p.out ≡ true → i < length ps
+    by_place p f g = by_test (lt-or_le i (length ps)) p f g
 
-  none-counted : (hs : List Home) (c n : ℕ) → count_by (λ (p : Place). is_for c p.out) (map (place_of revisions tolds) hs ++ replicate n vacant) ≡ 0
-  none-counted [] c n = none-vacant c n
-  none-counted (x ∷ xs) c n =
-      let cons : count_by (λ (p : Place). is_for c p.out) (place_of revisions tolds x ∷ (map (place_of revisions tolds) xs ++ replicate n vacant)) ≡ 0 + count_by (λ (p : Place). is_for c p.out) (map (place_of revisions tolds) xs ++ replicate n vacant) = sum_by-cons (λ (p : Place). cond (is_for c p.out) 1 0) (place_of revisions tolds x) (map (place_of revisions tolds) xs ++ replicate n vacant) in
-      let rest : count_by (λ (p : Place). is_for c p.out) (map (place_of revisions tolds) xs ++ replicate n vacant) ≡ 0 = none-counted xs c n in
-      omega arith
+-- the place of the machine and that of the tree have the same start out
+pub out-same : (ps : List PlaceView) (i n k : ℕ) → (get_or (places_of ps) i vacant).out ≡ (get_or ps i (fresh_place n k)).out
+out-same ps i n k = by_test (lt-or_le i (length ps))
+  where
+    by_test : (i < length ps) ⊎ (length ps ≤ i) → (get_or (places_of ps) i vacant).out ≡ (get_or ps i (fresh_place n k)).out
+    by_test (inl low) = ap (λ (p : Place). p.out) (placed-at ps i (fresh_place n k) low)
+    by_test (inr high) = ap (λ (p : Place). p.out) (placed-behind ps i high) ∙ ap (λ (p : PlaceView). p.out) (sym (get-behind ps i (fresh_place n k) high))
 
-  pub count-none : (hs : List Home) (c : ℕ) → count_by (λ (p : Place). is_for c p.out) (places_of revisions tolds hs) ≡ 0
-  count-none hs c = none-counted hs c (64 - length (map (place_of revisions tolds) hs))
+-- places that are made are vacant
+pub fresh-length : (number k n : ℕ) → length (fresh_from number k n) ≡ n
+fresh-length number k zero = refl
+fresh-length number k (suc n) = ap (λ (j : ℕ). suc j) (fresh-length number (k + 1) n)
 
-  -- fresh homes are vacant places
-  fresh-vacant : (k n : ℕ) → map (place_of revisions tolds) (fresh_from k n) ≡ replicate n vacant
-  fresh-vacant k zero = refl
-  fresh-vacant k (suc n) = ap (λ (ps : List Place). vacant ∷ ps) (fresh-vacant (k + 1) n)
+fresh-vacant : (number k n : ℕ) → map place_of (fresh_from number k n) ≡ replicate n vacant
+fresh-vacant number k zero = refl
+fresh-vacant number k (suc n) = ap (λ (ps : List Place). vacant ∷ ps) (fresh-vacant number (k + 1) n)
 
-  grown-front : (hs : List Home) (k n m : ℕ) → map (place_of revisions tolds) (hs ++ fresh_from k n) ++ replicate m vacant ≡ map (place_of revisions tolds) hs ++ replicate (n + m) vacant
-  grown-front [] k n m = ap (λ (ps : List Place). ps ++ replicate m vacant) (fresh-vacant k n) ∙ sum n
-    where
-      sum : (j : ℕ) → replicate j vacant ++ replicate m vacant ≡ replicate (j + m) vacant
-      sum zero = let same : m ≡ 0 + m = omega arith in ap (λ (x : ℕ). replicate x vacant) same
-      sum (suc j) = let same : suc (j + m) ≡ suc j + m = omega arith in ap (λ (ps : List Place). vacant ∷ ps) (sum j) ∙ ap (λ (x : ℕ). replicate x vacant) same
-  grown-front (x ∷ xs) k n m = ap (λ (ps : List Place). place_of revisions tolds x ∷ ps) (grown-front xs k n m)
+fresh-starts : (number k n : ℕ) → map (λ (p : PlaceView). p.journal.start) (fresh_from number k n) ≡ replicate n 0
+fresh-starts number k zero = refl
+fresh-starts number k (suc n) = ap (λ (ps : List ℕ). 0 ∷ ps) (fresh-starts number (k + 1) n)
 
-  pub grown-places : (hs gs : List Home) → IsGrown hs gs → length gs ≤ 64 → places_of revisions tolds gs ≡ places_of revisions tolds hs
-  grown-places hs gs (n, e) low =
-      let f : Home → Place = place_of revisions tolds in
-      let one : length (map f gs) ≡ length gs = length-homes gs f in
-      let two : length (map f hs) ≡ length hs = length-homes hs f in
-      let all : length (hs ++ fresh_from (length hs) n) ≡ length hs + length (fresh_from (length hs) n) = length-append hs (fresh_from (length hs) n) in
-      let more : length (fresh_from (length hs) n) ≡ n = fresh-length (length hs) n in
-      let same : length gs ≡ length (hs ++ fresh_from (length hs) n) = ap (λ (xs : List Home). length xs) e in
-      let sum : n + (64 - length (map f gs)) ≡ 64 - length (map f hs) = omega arith in
-      ap (λ (xs : List Home). map f xs ++ replicate (64 - length (map f gs)) vacant) e ∙ (grown-front hs (length hs) n (64 - length (map f gs)) ∙ ap (λ (x : ℕ). map f hs ++ replicate x vacant) sum)
+repeated : {X : Type 0} (x : X) (j m : ℕ) → replicate j x ++ replicate m x ≡ replicate (j + m) x
+repeated x zero m = let same : m ≡ 0 + m = omega arith in ap (λ (n : ℕ). replicate n x) same
+repeated x (suc j) m = let same : suc (j + m) ≡ suc j + m = omega arith in ap (λ (ps : List _). x ∷ ps) (repeated x j m) ∙ ap (λ (n : ℕ). replicate n x) same
 
--- a node may start where its job is live and its index is below the volume
-right-true : (a b c : Bool) → b ≡ true → c ≡ true → a && (b && c) ≡ a
-right-true true b c e f = rw (e, f) refl
-right-true false b c e f = refl
+grown-front : (number : ℕ) (ps : List PlaceView) (k n m : ℕ) → map place_of (ps ++ fresh_from number k n) ++ replicate m vacant ≡ map place_of ps ++ replicate (n + m) vacant
+grown-front number [] k n m = ap (λ (xs : List Place). xs ++ replicate m vacant) (fresh-vacant number k n) ∙ repeated vacant n m
+grown-front number (x ∷ xs) k n m = ap (λ (ys : List Place). place_of x ∷ ys) (grown-front number xs k n m)
 
-pub startable-is : (q : Parts) (i : ℕ) → q.spent < q.ask.slices → startable (state_of q) i ≡ (is_live (state_of q) && nat_lt i q.volume)
-startable-is q i left =
-    let none : out_count (state_of q) ≡ 0 = count-none q.revisions q.broadcasts q.homes (length q.answers) in
-    let home : is_none (place_at (state_of q) i).out ≡ true = ap (λ (o : Option _). is_none o) (out-none q.revisions q.broadcasts q.homes i) in
-    let fits : nat_lt (q.spent + out_count (state_of q)) q.ask.slices ≡ true = lt-ltb (q.spent + out_count (state_of q)) q.ask.slices (omega arith) in
-    right-true (is_live (state_of q) && nat_lt i q.volume) (is_none (place_at (state_of q) i).out) (nat_lt (q.spent + out_count (state_of q)) q.ask.slices) home fits
+grown-rear : (number : ℕ) (ps : List PlaceView) (k n m : ℕ) → map (λ (p : PlaceView). p.journal.start) (ps ++ fresh_from number k n) ++ replicate m 0 ≡ map (λ (p : PlaceView). p.journal.start) ps ++ replicate (n + m) 0
+grown-rear number [] k n m = ap (λ (xs : List ℕ). xs ++ replicate m 0) (fresh-starts number k n) ∙ repeated 0 n m
+grown-rear number (x ∷ xs) k n m = ap (λ (ys : List ℕ). x.journal.start ∷ ys) (grown-rear number xs k n m)
 
-pub startable-live : (q : Parts) (i : ℕ) (b : Bool) → q.spent < q.ask.slices → b ≡ is_live (state_of q) → b ≡ true → nat_lt i q.volume ≡ startable (state_of q) i
-startable-live q i b left e f = sym (startable-is q i left ∙ ap (λ (x : Bool). x && nat_lt i q.volume) (sym e ∙ f))
+pub grown-length : (number : ℕ) (ps qs : List PlaceView) → (g : IsGrown number ps qs) → length qs ≡ length ps + g.0
+grown-length number ps qs (n, e) =
+    let all : length (ps ++ fresh_from number (length ps) n) ≡ length ps + length (fresh_from number (length ps) n) = length-append ps (fresh_from number (length ps) n) in
+    let more : length (fresh_from number (length ps) n) ≡ n = fresh-length number (length ps) n in
+    let same : length qs ≡ length (ps ++ fresh_from number (length ps) n) = ap (λ (xs : List PlaceView). length xs) e in
+    omega arith
 
-pub startable-first : (q : Parts) → q.spent < q.ask.slices → is_live (state_of q) ≡ true → 1 ≤ q.volume → startable (state_of q) 0 ≡ true
-startable-first q left live some = sym (startable-live q 0 true left (sym live) refl) ∙ lt-ltb 0 q.volume (omega (arith, some))
+pub grown-places : (number : ℕ) (ps qs : List PlaceView) → IsGrown number ps qs → length qs ≤ 64 → places_of qs ≡ places_of ps
+grown-places number ps qs (n, e) low =
+    let one : length (map place_of qs) ≡ length qs = length-map qs place_of in
+    let two : length (map place_of ps) ≡ length ps = length-map ps place_of in
+    let all : length qs ≡ length ps + n = grown-length number ps qs (n, e) in
+    let sum : n + (64 - length (map place_of qs)) ≡ 64 - length (map place_of ps) = omega arith in
+    ap (λ (xs : List PlaceView). map place_of xs ++ replicate (64 - length (map place_of qs)) vacant) e ∙ (grown-front number ps (length ps) n (64 - length (map place_of qs)) ∙ ap (λ (x : ℕ). map place_of ps ++ replicate x vacant) sum)
 
--- how often a node was started
-pub starts-behind : (q : Parts) (i : ℕ) → length q.homes ≤ i → (place_at (state_of q) i).starts ≡ 0
-starts-behind q i low = ap (λ (p : Place). p.starts) (home-behind q.homes (place_of q.revisions q.broadcasts) i low)
+pub grown-starts : (number : ℕ) (ps qs : List PlaceView) → IsGrown number ps qs → length qs ≤ 64 → starts_of qs ≡ starts_of ps
+grown-starts number ps qs (n, e) low =
+    let all : length qs ≡ length ps + n = grown-length number ps qs (n, e) in
+    let sum : n + (64 - length qs) ≡ 64 - length ps = omega arith in
+    ap (λ (xs : List PlaceView). map (λ (p : PlaceView). p.journal.start) xs ++ replicate (64 - length qs) 0) e ∙ (grown-rear number ps (length ps) n (64 - length qs) ∙ ap (λ (x : ℕ). map (λ (p : PlaceView). p.journal.start) ps ++ replicate x 0) sum)
 
--- its index is below the volume
-pub startable-below : (s : Solo) (i : ℕ) → startable s i ≡ true → i < s.volume
-startable-below s i may = ltb-true i s.volume (and_parts (is_live s) (nat_lt i s.volume) (and_parts (is_live s && nat_lt i s.volume) _ may).0).1
+-- one place more is made
+grown-append : (number : ℕ) (ps : List PlaceView) (k n : ℕ) → (ps ++ fresh_from number k n) ++ fresh_place number (k + n) ∷ [] ≡ ps ++ fresh_from number k (suc n)
+grown-append number [] k n = made k n
+  where
+    made : (k n : ℕ) → fresh_from number k n ++ fresh_place number (k + n) ∷ [] ≡ fresh_from number k (suc n)
+    made k zero = let same : k + 0 ≡ k = omega arith in ap (λ (j : ℕ). fresh_place number j ∷ []) same
+    made k (suc n) = let same : k + suc n ≡ k + 1 + n = omega arith in ap (λ (j : ℕ). fresh_place number k ∷ (fresh_from number (k + 1) n ++ fresh_place number j ∷ [])) same ∙ ap (λ (ps : List PlaceView). fresh_place number k ∷ ps) (made (k + 1) n)
+grown-append number (x ∷ xs) k n = ap (λ (ys : List PlaceView). x ∷ ys) (grown-append number xs k n)
+
+pub grown-push : (number : ℕ) (ps qs : List PlaceView) (index : ℕ) → IsGrown number ps qs → length qs ≡ index → IsGrown number ps (qs ++ fresh_place number index ∷ [])
+grown-push number ps qs index (n, e) f =
+    let all : length qs ≡ length ps + n = grown-length number ps qs (n, e) in
+    let same : index ≡ length ps + n = sym f ∙ all in
+    (suc n, ap (λ (xs : List PlaceView). xs ++ fresh_place number index ∷ []) e ∙ (ap (λ (j : ℕ). (ps ++ fresh_from number (length ps) n) ++ fresh_place number j ∷ []) same ∙ grown-append number ps (length ps) n))
+
+pub grown-none : (number : ℕ) (ps : List PlaceView) → IsGrown number ps ps
+grown-none number ps = (0, sym (append-nil ps))
+
+-- each place has the journal of its own node
+pub own-at : (number : ℕ) (ps : List PlaceView) (k i : ℕ) (d : PlaceView) → i < length ps → AreOwn number k ps → ((get_or ps i d).journal.job ≡ number) × ((get_or ps i d).journal.index ≡ k + i)
+own-at number [] k i d low all = absurd (omega arith)
+own-at number (p ∷ ps) k zero d low all = (all.0, all.1 ∙ omega arith)
+own-at number (p ∷ ps) k (suc i) d low all = let rest = own-at number ps (k + 1) i d (omega arith) all.2 in (rest.0, rest.1 ∙ omega arith)
+
+pub own-set : (number : ℕ) (ps : List PlaceView) (k i : ℕ) (p : PlaceView) → p.journal.job ≡ number → p.journal.index ≡ k + i → AreOwn number k ps → AreOwn number k (slice_set ps i p)
+own-set number [] k i p e f all = tt
+own-set number (x ∷ xs) k zero p e f all = (e, f ∙ omega arith, all.2)
+own-set number (x ∷ xs) k (suc i) p e f all = (all.0, all.1, own-set number xs (k + 1) i p e (f ∙ omega arith) all.2)
+
+fresh-own : (number k n : ℕ) → AreOwn number k (fresh_from number k n)
+fresh-own number k zero = tt
+fresh-own number k (suc n) = (refl, refl, fresh-own number (k + 1) n)
+
+append-own : (number : ℕ) (ps : List PlaceView) (k j n : ℕ) → j ≡ k + length ps → AreOwn number k ps → AreOwn number k (ps ++ fresh_from number j n)
+append-own number [] k j n e all = let same : j ≡ k = e ∙ omega arith in subst (λ (m : ℕ). AreOwn number m (fresh_from number j n)) same (fresh-own number j n)
+append-own number (p ∷ ps) k j n e all = (all.0, all.1, append-own number ps (k + 1) j n (omega (arith, e)) all.2)
+
+pub grown-own : (number : ℕ) (ps qs : List PlaceView) → IsGrown number ps qs → AreOwn number 0 ps → AreOwn number 0 qs
+grown-own number ps qs (n, e) all = let same : length ps ≡ 0 + length ps = omega arith in subst (λ (xs : List PlaceView). AreOwn number 0 xs) (sym e) (append-own number ps 0 (length ps) n same all)
 
 -- a place has run no more slices than all
 runs-cons : (p : Place) (ps : List Place) → runs_of (p ∷ ps) ≡ runs_in p.entries + runs_of ps
@@ -161,3 +194,9 @@ runs-least (p ∷ ps) (suc i) low =
     let cons : runs_of (p ∷ ps) ≡ runs_in p.entries + runs_of ps = runs-cons p ps in
     let rest : runs_in (get_or ps i vacant).entries ≤ runs_of ps = runs-least ps i (omega arith) in
     omega arith
+
+-- the place that was set
+pub set-here : (ps : List PlaceView) (i : ℕ) (p d : PlaceView) → i < length ps → get_or (slice_set ps i p) i d ≡ p
+set-here [] i p d low = absurd (omega arith)
+set-here (x ∷ xs) zero p d low = refl
+set-here (x ∷ xs) (suc i) p d low = set-here xs i p d (omega arith)

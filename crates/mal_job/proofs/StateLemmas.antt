@@ -1,86 +1,101 @@
--- A job's machine after a revision, after a slice, and once it is settled.
-use Rattle.std.proofs.Common.{◌≡◌, ℕ, ◌+◌, ◌-◌, ◌<◌, ◌≤◌, Bool, true, false, cond, ◌==◌, nat_lt, List, [], ◌∷◌, ◌++◌, length, replicate, Option, Some, None, refl, sym, ◌∙◌, ap, arith, append-nil}
-use Rattle.std.specs.Prelude.{slice_set}
-use Rattle.std.proofs.lemmas.Bool.{ltb-true}
-use Rattle.mal_base.specs.declared.answer.Answer.{Answer}
-use Rattle.mal_base.specs.declared.answer.Answer.TheVariants.{Satisfied, Refuted, Spent}
+-- A job's machine after each event of its own, by its parts.
+use Rattle.std.proofs.Common.{◌≡◌, ℕ, ◌+◌, ◌<◌, Bool, true, false, cond, ◌==◌, nat_lt, List, ◌++◌, length, Option, Some, None, refl, sym, ◌∙◌, ap}
+use Rattle.mal_base.specs.Held.{Line}
+use Rattle.mal_base.specs.declared.answer.Answer.TheVariants.{Spent, OutOfStarts}
+use Rattle.mal_base.specs.declared.verdict.Outcome.{Outcome}
+use Rattle.mal_base.specs.declared.verdict.Outcome.TheVariants.{Ran, Starved, Lost}
 use Rattle.mal_base.specs.declared.verdict.Verdict.{Verdict}
 use Rattle.mal_base.specs.declared.verdict.Verdict.TheVariants.{Satisfiable, Unsatisfiable}
-use Rattle.mal_base.specs.declared.verdict.Outcome.TheVariants.{Ran}
 use Rattle.spec_node.specs.State.{Node}
-use Rattle.spec_node.specs.Model.{model_of}
 use Rattle.spec_search.specs.Slice.{Sliced}
 use Rattle.spec_job.specs.Journal.{replay}
-use Rattle.spec_job.specs.Solo.{Started, Finished, Place, Lease, Solo, place_at, current, start_entries, with_place, solo_step, conclude, answered, spend, finished, first_empty, settled_by, settled}
-use Rattle.spec_job.proofs.PlacesLemmas.{set-here}
-use Rattle.mal_job.specs.Homes.{Home}
-use Rattle.mal_job.specs.Places.{place_of}
-use Rattle.mal_job.specs.Viewed.{Parts, state_of}
-use Rattle.mal_job.specs.Ended.{new_answers, new_spent, spent_answers, spent_after, settled_answers, settled_spent}
-use Rattle.mal_job.proofs.PlaceLemmas.{set-twice, set-home, length-filled}
+use Rattle.spec_job.specs.Leased.{model_with}
+use Rattle.spec_job.specs.Solo.{Started, Finished, Place, Lease, Solo, solo_step, place_at, started, start_entries, with_place, finished, first_empty, settled_by, settled, conclude, spend, starve, answered}
+use Rattle.mal_job.specs.Asking.{replied, concluded, concluded_by, starved_once, starved_by, settled_with}
+use Rattle.mal_job.specs.Placing.{placed, with_placed, sent, ran_home, came_home, one_more_ran, fresh_place, adds_of}
+use Rattle.mal_job.specs.Viewed.{PlaceView, TreeView, QuestionsView, LogView, Parts, place_of, places_of, state_of}
+use Rattle.mal_job.proofs.PlaceLemmas.{set-placed, placed-at}
 
--- an empty clause records the answers and the spent slices given the code does
-settled-is : (o : Option ℕ) (s : Solo) → s.starved ≡ 0 → settled_by o s ≡ record s { answers = s.answers ++ settled_answers o (length s.revisions - length s.answers); spent = settled_spent o s.spent }
-settled-is None s e = ap (λ (given : List Answer). let x : Solo = record s { answers = given } in x) (sym (append-nil s.answers))
-settled-is (Some goal) s e = ap (λ (m : ℕ). let x : Solo = record s { answers = s.answers ++ replicate (length s.revisions - length s.answers) (Refuted goal); spent = 0; starved = m } in x) (sym e)
+-- what an empty clause answers
+pub settled-by_state : (o : Option ℕ) (q : Parts) → settled_by o (state_of q) ≡ state_of (record q { asked = settled_with o q.asked })
+settled-by_state None q = refl
+settled-by_state (Some goal) q = refl
 
--- so does a slice without a verdict
-spend-is : (s : Solo) → s.starved ≡ 0 → spend s ≡ record s { answers = s.answers ++ spent_answers s.ask.slices s.spent; spent = spent_after s.ask.slices s.spent }
-spend-is s e = by_test (s.spent + 1 == s.ask.slices)
+pub settled-state : (q : Parts) → settled (state_of q) ≡ state_of (record q { asked = settled_with (first_empty q.log.lines) q.asked })
+settled-state q = settled-by_state (first_empty q.log.lines) q
+
+-- what a slice answers
+pub conclude-state : (v : Option Verdict) (n : Node) (q : Parts) → conclude v n (state_of q) ≡ state_of (record q { asked = concluded v (model_with v n) q.asked })
+conclude-state None n q = by_test (q.asked.spent + 1 == q.asked.ask.slices)
   where
-    by_test : (b : Bool) → cond b (answered s (Spent s.ask.slices)) (record s { spent = s.spent + 1 }) ≡ record s { answers = s.answers ++ cond b (Spent s.ask.slices ∷ []) []; spent = cond b 0 (s.spent + 1) }
-    by_test true = ap (λ (m : ℕ). let x : Solo = record s { answers = s.answers ++ Spent s.ask.slices ∷ []; spent = 0; starved = m } in x) (sym e)
-    by_test false = ap (λ (given : List Answer). let x : Solo = record s { answers = given; spent = s.spent + 1 } in x) (sym (append-nil s.answers))
+    by_test : (b : Bool) → cond b (answered (state_of q) (Spent q.asked.ask.slices)) (record (state_of q) { spent = q.asked.spent + 1 }) ≡ state_of (record q { asked = cond b (replied q.asked (Spent q.asked.ask.slices)) (record q.asked { spent = q.asked.spent + 1 }) })
+    by_test true = refl
+    by_test false = refl
+conclude-state (Some Satisfiable) n q = refl
+conclude-state (Some (Unsatisfiable goal)) n q = refl
 
--- and a verdict
-conclude-is : (v : Option Verdict) (n : Node) (s : Solo) → s.starved ≡ 0 → conclude v n s ≡ record s { answers = s.answers ++ new_answers v n s.ask.slices s.spent; spent = new_spent v s.ask.slices s.spent }
-conclude-is None n s e = spend-is s e
-conclude-is (Some Satisfiable) n s e = ap (λ (m : ℕ). let x : Solo = record s { answers = s.answers ++ Satisfied (model_of n) ∷ []; spent = 0; starved = m } in x) (sym e)
-conclude-is (Some (Unsatisfiable goal)) n s e = ap (λ (m : ℕ). let x : Solo = record s { answers = s.answers ++ Refuted goal ∷ []; spent = 0; starved = m } in x) (sym e)
-
--- a machine that is settled
-pub settled-state : (q : Parts) (o : Option ℕ) (unanswered : ℕ) → unanswered ≡ length q.revisions - length q.answers → settled_by o (state_of q) ≡ state_of (record q { answers = q.answers ++ settled_answers o unanswered; spent = settled_spent o q.spent })
-settled-state q o unanswered e = settled-is o (state_of q) refl ∙ ap (λ (m : ℕ). state_of (record q { answers = q.answers ++ settled_answers o m; spent = settled_spent o q.spent })) (sym e)
-
--- a start of the current revision is not late
-not-late : (n : ℕ) → nat_lt n n ≡ false
-not-late n = by_test (nat_lt n n) refl
+-- what a start answers that wanted for memory
+pub starve-state : (q : Parts) → starve (state_of q) ≡ state_of (record q { asked = starved_once q.asked })
+starve-state q = by_test (q.asked.starved + 1 == 3)
   where
-    by_test : (b : Bool) → nat_lt n n ≡ b → b ≡ false
-    by_test true e = absurd (let less : n < n = ltb-true n n e in omega arith)
-    by_test false e = refl
+    by_test : (b : Bool) → cond b (answered (state_of q) OutOfStarts) (record (state_of q) { starved = q.asked.starved + 1 }) ≡ state_of (record q { asked = cond b (replied q.asked OutOfStarts) (record q.asked { starved = q.asked.starved + 1 }) })
+    by_test true = refl
+    by_test false = refl
 
--- a start and its finish
-module _ (s : Solo) (i : ℕ) where
-  abbrev p : Place
-  p = place_at s i
+-- a place that is set
+pub with-state : (q : Parts) (i : ℕ) (p : PlaceView) → i < length q.tree.places → with_place (state_of q) i (place_of p) ≡ state_of (record q { tree = with_placed q.tree i p })
+with-state q i p low = ap (λ (ps : List Place). let s : Solo = record (state_of q) { places = ps } in s) (set-placed q.tree.places i p low)
 
-  abbrev lease : Lease
-  lease = record { revision = current s; adds = start_entries s p }
+-- a start
+pub started-state : (q : Parts) (i start : ℕ) → i < length q.tree.places → solo_step (state_of q) (Started i) ≡ state_of (record q { tree = with_placed q.tree i (sent (length q.asked.answers) (start_entries (state_of q) (place_at (state_of q) i)) start (placed q.tree i)) })
+started-state q i start low =
+    ap (λ (p : Place). with_place (state_of q) i (record p { out = Some (record { revision = length q.asked.answers; adds = start_entries (state_of q) (place_at (state_of q) i) }); starts = p.starts + 1 })) (placed-at q.tree.places i (fresh_place 0 0) low)
+    ∙ with-state q i (sent (length q.asked.answers) (start_entries (state_of q) (place_at (state_of q) i)) start (placed q.tree i)) low
 
-  abbrev gone : Place
-  gone = record p { out = Some lease; starts = p.starts + 1 }
+-- the parts of a job whose start ran, with these lines and this verdict, and so much room for chunks
+abbrev pub with_run : Parts → ℕ → Lease → Sliced → ℕ → Parts
+with_run q i l x room = record {
+  asked = concluded_by l.revision x.node.verdict (model_with x.node.verdict x.node) q.asked;
+  tree = one_more_ran (with_placed q.tree i (ran_home (placed q.tree i)));
+  log = record { lines = q.log.lines ++ x.lines; chunk_room = room };
+}
 
-  abbrev pub back : Place
-  back = record p { entries = p.entries ++ start_entries s p; out = None; starts = p.starts + 1 }
+module _ (q : Parts) (i : ℕ) (l : Lease) (low : i < length q.tree.places) (out : (placed q.tree i).out ≡ Some l) where
+  abbrev p : PlaceView
+  p = placed q.tree i
 
-  abbrev pub ran_slice : Sliced
-  ran_slice = replay i (p.entries ++ start_entries s p)
+  finished-is : (o : Outcome) → finished (state_of q) i (place_at (state_of q) i) (place_at (state_of q) i).out o ≡ finished (state_of q) i (place_of p) (Some l) o
+  finished-is o =
+      ap (λ (x : Place). finished (state_of q) i x x.out o) (placed-at q.tree.places i (fresh_place 0 0) low)
+      ∙ ap (λ (x : Option Lease). finished (state_of q) i (place_of p) x o) out
 
-  abbrev home : Sliced → List Place → Solo
-  home x ps = record s { places = ps; log = s.log ++ x.lines; ran = s.ran + 1 }
+  -- the place after a start that ran
+  ran-place : (room : ℕ) (x : Sliced) → record (with_place (state_of q) i (record (place_of p) { entries = p.journal.entries ++ l.adds; out = None })) { log = q.log.lines ++ x.lines; ran = q.tree.ran + 1 } ≡ state_of (record { asked = q.asked; tree = one_more_ran (with_placed q.tree i (ran_home p)); log = record { lines = q.log.lines ++ x.lines; chunk_room = room } })
+  ran-place room x =
+      ap (λ (o : Option Lease). record (with_place (state_of q) i (record (place_of p) { entries = p.journal.entries ++ adds_of o; out = None })) { log = q.log.lines ++ x.lines; ran = q.tree.ran + 1 }) (sym out)
+      ∙ ap (λ (s : Solo). let t : Solo = record s { log = q.log.lines ++ x.lines; ran = q.tree.ran + 1 } in t) (with-state q i (ran_home p) low)
 
-  pub slice-is : i < length s.places → solo_step (solo_step s (Started i)) (Finished i Ran) ≡ settled (conclude ran_slice.node.verdict ran_slice.node (home ran_slice (slice_set s.places i back)))
-  slice-is within =
-      ap (λ (y : Place). finished (with_place s i gone) i y y.out Ran) (set-here s.places i gone within)
-      ∙ (ap (λ (b : Bool). settled (cond b (home ran_slice (slice_set (slice_set s.places i gone) i back)) (conclude ran_slice.node.verdict ran_slice.node (home ran_slice (slice_set (slice_set s.places i gone) i back))))) (not-late (length s.answers))
-      ∙ ap (λ (ps : List Place). settled (conclude ran_slice.node.verdict ran_slice.node (home ran_slice ps))) (set-twice s.places i gone back))
+  pub ran-state : (room : ℕ) → solo_step (state_of q) (Finished i Ran) ≡ settled (state_of (with_run q i l (replay i (p.journal.entries ++ l.adds)) room))
+  ran-state room = finished-is Ran ∙ ap settled (by_test (replay i (p.journal.entries ++ l.adds)) (nat_lt l.revision (length q.asked.answers)))
+    where
+      home : Sliced → Solo
+      home x = record (with_place (state_of q) i (record (place_of p) { entries = p.journal.entries ++ l.adds; out = None })) { log = q.log.lines ++ x.lines; ran = q.tree.ran + 1 }
 
--- the same, as the code has it
-pub slice-state : (q : Parts) (i : ℕ) (h : Home) (x : Sliced) → i < length q.homes → length q.homes ≤ 64 → place_of q.revisions q.broadcasts h ≡ back (state_of q) i → x ≡ ran_slice (state_of q) i → solo_step (solo_step (state_of q) (Started i)) (Finished i Ran) ≡ settled_by (first_empty (q.log ++ x.lines)) (state_of (record q { answers = q.answers ++ new_answers x.node.verdict x.node q.ask.slices q.spent; homes = slice_set q.homes i h; log = q.log ++ x.lines; ran = q.ran + 1; spent = new_spent x.node.verdict q.ask.slices q.spent }))
-slice-state q i h x within low place is =
-    slice-is (state_of q) i (omega (arith, length-filled q.homes (place_of q.revisions q.broadcasts) low))
-    ∙ (ap (λ (y : Sliced). settled (conclude y.node.verdict y.node (home (state_of q) i y (slice_set (state_of q).places i (back (state_of q) i))))) (sym is)
-    ∙ (ap (λ (b : Place). settled (conclude x.node.verdict x.node (home (state_of q) i x (slice_set (state_of q).places i b)))) (sym place)
-    ∙ (ap (λ (ps : List Place). settled (conclude x.node.verdict x.node (home (state_of q) i x ps))) (set-home q.homes (place_of q.revisions q.broadcasts) i h within)
-    ∙ ap settled (conclude-is x.node.verdict x.node (state_of (record q { homes = slice_set q.homes i h; log = q.log ++ x.lines; ran = q.ran + 1 })) refl))))
+      by_test : (x : Sliced) (b : Bool) → cond b (home x) (conclude x.node.verdict x.node (home x)) ≡ state_of (record { asked = cond b q.asked (concluded x.node.verdict (model_with x.node.verdict x.node) q.asked); tree = one_more_ran (with_placed q.tree i (ran_home p)); log = record { lines = q.log.lines ++ x.lines; chunk_room = room } })
+      by_test x true = ran-place room x
+      by_test x false = ap (λ (s : Solo). conclude x.node.verdict x.node s) (ran-place room x) ∙ conclude-state x.node.verdict x.node (record { asked = q.asked; tree = one_more_ran (with_placed q.tree i (ran_home p)); log = record { lines = q.log.lines ++ x.lines; chunk_room = room } })
+
+  -- a start that wanted for memory
+  pub starved-state : solo_step (state_of q) (Finished i Starved) ≡ settled (state_of (record q { asked = starved_by l.revision q.asked; tree = with_placed q.tree i (came_home p) }))
+  starved-state = finished-is Starved ∙ ap settled (by_test (nat_lt l.revision (length q.asked.answers)))
+    where
+      home : Solo
+      home = with_place (state_of q) i (record (place_of p) { out = None })
+
+      by_test : (b : Bool) → cond b home (starve home) ≡ state_of (record q { asked = cond b q.asked (starved_once q.asked); tree = with_placed q.tree i (came_home p) })
+      by_test true = with-state q i (came_home p) low
+      by_test false = ap starve (with-state q i (came_home p) low) ∙ starve-state (record q { tree = with_placed q.tree i (came_home p) })
+
+  -- a start that is lost
+  pub lost-state : solo_step (state_of q) (Finished i Lost) ≡ settled (state_of (record q { tree = with_placed q.tree i (came_home p) }))
+  lost-state = finished-is Lost ∙ ap settled (with-state q i (came_home p) low)

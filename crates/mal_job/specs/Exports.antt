@@ -1,20 +1,28 @@
-use Rattle.std.specs.Prelude.{ℕ, zero, suc, ◌+◌, List, [], ◌∷◌, map, filter, drop}
+use Rattle.std.specs.Prelude.{ℕ, zero, suc, ◌+◌, List, [], ◌∷◌, map, filter, drop, is_none, if◌then◌else◌}
 use Rattle.mal_base.specs.Held.{Held, Line}
 use Rattle.spec_exchange.specs.Exchange.{union}
 use Rattle.spec_job.specs.Solo.{is_exported}
-use Rattle.mal_job.specs.Homes.{Home}
+use Rattle.mal_job.specs.Viewed.{PlaceView}
 
 -- what a node exports of these lines
 abbrev pub exported_by : ℕ → List Line → List Held
 exported_by i lines = map (λ l. record { id = l.id; lits = l.lits }) (filter (is_exported i) lines)
 
--- what each of these nodes exports of the lines behind its mark, united; the first has this index
-abbrev pub unions_from : List Line → ℕ → List Home → List (List Held)
-unions_from log i [] = []
-unions_from log i (h ∷ hs) = union (exported_by i (drop h.mark log)) ∷ unions_from log (i + 1) hs
+-- what a place of this index exports of the lines behind its mark, nothing where it is out
+abbrev pub exports_at : List Line → ℕ → PlaceView → List Held
+exports_at log i p = if is_none p.out then exported_by i (drop p.mark log) else []
 
--- nodes with the marks of the first ones moved, so many
-abbrev pub marked : ℕ → ℕ → List Home → List Home
-marked zero mark hs = hs
+-- what each of these places exports, united; the first has this index
+abbrev pub unions_from : List Line → ℕ → List PlaceView → List (List Held)
+unions_from log i [] = []
+unions_from log i (p ∷ ps) = union (exports_at log i p) ∷ unions_from log (i + 1) ps
+
+-- a place with its mark moved, where it is at home
+abbrev pub marked_at : ℕ → PlaceView → PlaceView
+marked_at mark p = if is_none p.out then record p { mark = mark } else p
+
+-- places with the marks of those moved that are at home, among the first so many
+abbrev pub marked : ℕ → ℕ → List PlaceView → List PlaceView
+marked zero mark ps = ps
 marked (suc n) mark [] = []
-marked (suc n) mark (h ∷ hs) = record h { mark = mark } ∷ marked n mark hs
+marked (suc n) mark (p ∷ ps) = marked_at mark p ∷ marked n mark ps

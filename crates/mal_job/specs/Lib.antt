@@ -1,9 +1,8 @@
-pub mod Homes
-pub mod Places
 pub mod Viewed
+pub mod Asking
+pub mod Placing
 pub mod Kept
 pub mod Loads
-pub mod Starts
 pub mod Exports
-pub mod Ended
-pub mod Answered
+pub mod Among
+pub mod Finishing

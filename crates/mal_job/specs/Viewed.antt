@@ -1,37 +1,89 @@
-use Rattle.std.specs.Prelude.{ℕ, Bool, List}
+use Rattle.std.specs.Prelude.{ℕ, ◌-◌, Bool, List, ◌++◌, length, map, replicate, Option}
+use Rattle.std.specs.Arc.{arc_value}
+use Rattle.std.specs.declared.sync.Arc.{Arc}
 use Rattle.mal_base.specs.Asks.{Terms}
 use Rattle.mal_base.specs.Held.{Held, Line}
 use Rattle.mal_base.specs.declared.answer.Answer.{Answer}
 use Rattle.mal_revision.specs.Posted.{Posted}
-use Rattle.spec_job.specs.Solo.{Solo}
-use Rattle.mal_job.specs.Homes.{Home}
-use Rattle.mal_job.specs.Places.{places_of}
+use Rattle.spec_job.specs.Journaled.{Journaled}
+use Rattle.spec_job.specs.Solo.{Solo, Place, Lease, vacant}
+use Rattle.spec_job.specs.Titled.{Key}
+use Rattle.spec_job.specs.Viewed.{JobView}
 
--- what a job holds of its machine
-pub record Parts : Type 0 where
+-- what is shared
+abbrev pub shared : {X Z : Type 0} → List (Arc X Z) → List X
+shared xs = map (λ x. arc_value x) xs
+
+-- what was asked of a job and what was answered: the ask, whether it was closed, the revisions with their answers, and how
+-- many slices the current revision has spent and how many of its starts wanted for memory
+pub record QuestionsView : Type 0 where
   pub ask : Terms
   pub closed : Bool
-  pub volume : ℕ
   pub revisions : List Posted
   pub answers : List Answer
-  pub homes : List Home
-  pub log : List Line
+  pub spent : ℕ
+  pub starved : ℕ
+
+-- a place of a job: the journal of its node, the start that is out, how often the node was started, and how long the log was
+-- at the last exchange in which it took part
+pub record PlaceView : Type 0 where
+  pub journal : Journaled
+  pub out : Option Lease
+  pub starts : ℕ
+  pub mark : ℕ
+
+-- the tree of a job: the job's number, the volume, the first places, as many as were ever used, what was told to all, and how
+-- many slices were run since the last exchange
+pub record TreeView : Type 0 where
+  pub number : ℕ
+  pub volume : ℕ
+  pub places : List PlaceView
   pub broadcasts : List (List Held)
   pub ran : ℕ
-  pub spent : ℕ
 
--- the machine of a job: no start is out, and none wanted for memory
+-- the log of a job: its lines, and for how many more chunks of them there is room
+pub record LogView : Type 0 where
+  pub lines : List Line
+  pub chunk_room : ℕ
+
+-- the three parts of a job
+pub record Parts : Type 0 where
+  pub asked : QuestionsView
+  pub tree : TreeView
+  pub log : LogView
+
+-- a place of the machine
+abbrev pub place_of : PlaceView → Place
+place_of p = record { entries = p.journal.entries; out = p.out; starts = p.starts; mark = p.mark }
+
+-- 64 places: these, and vacant ones behind them
+abbrev pub filled : List Place → List Place
+filled places = places ++ replicate (64 - length places) vacant
+
+-- the places of the machine, of which the first ones were ever used
+abbrev pub places_of : List PlaceView → List Place
+places_of ps = filled (map place_of ps)
+
+-- the number of the last start of each of the 64 places
+abbrev pub starts_of : List PlaceView → List ℕ
+starts_of ps = map (λ p. p.journal.start) ps ++ replicate (64 - length ps) 0
+
+-- the machine of a job
 abbrev pub state_of : Parts → Solo
 state_of q = record {
-  ask = q.ask;
-  closed = q.closed;
-  volume = q.volume;
-  revisions = q.revisions;
-  answers = q.answers;
-  places = places_of q.revisions q.broadcasts q.homes;
-  log = q.log;
-  broadcasts = q.broadcasts;
-  ran = q.ran;
-  spent = q.spent;
-  starved = 0;
+  ask = q.asked.ask;
+  closed = q.asked.closed;
+  volume = q.tree.volume;
+  revisions = q.asked.revisions;
+  answers = q.asked.answers;
+  places = places_of q.tree.places;
+  log = q.log.lines;
+  broadcasts = q.tree.broadcasts;
+  ran = q.tree.ran;
+  spent = q.asked.spent;
+  starved = q.asked.starved;
 }
+
+-- a job of these parts
+abbrev pub viewed : List ℕ → List ℕ → Parts → JobView
+viewed tenant job q = record { number = q.tree.number; titled = record { key = record { tenant = tenant; job = job }; state = state_of q }; starts = starts_of q.tree.places }

@@ -4,7 +4,7 @@ ghost use Rattle.std.specs.Prelude.{◌≡◌, ◌-◌, ◌<◌, ◌≤◌, true
 ghost use Rattle.mal_base.specs.Clauses.{rises};
 ghost use Rattle.spec_exchange.specs.Exchange.{union};
 ghost use Rattle.spec_job.specs.Solo.{is_exported};
-ghost use Rattle.mal_job.specs.Exports.{exported_by, unions_from, marked};
+ghost use Rattle.mal_job.specs.Exports.{exported_by, exports_at, unions_from, marked, marked_at};
 
 use crate::place::Place;
 use mal_base::{Clause, ClauseId, Lit};
@@ -18,8 +18,8 @@ const MOST_LITERALS: usize = 16;
 /// A tree has 64 places.
 const PLACES: u64 = 64;
 
-/// What these places, the first ones of a job, export of the lines behind their marks; the literals of each line rise by
-/// variable.
+/// What these places, the first ones of a job, export of the lines behind their marks, and nothing of those that are out; the
+/// literals of each line rise by variable.
 pub fn exports(alloc: Global, places: &[Place], log: &Log) -> Result<Vec<Buffer>, AllocError>
     requires { All (λ line. rises line.lits ≡ true) log.now.lines }
     ensures { IfOk result (λ v. v.items ≡ unions_from log.now.lines 0 places.now) }
@@ -27,10 +27,27 @@ pub fn exports(alloc: Global, places: &[Place], log: &Log) -> Result<Vec<Buffer>
     let count = log.count();
     let mut buffers = Vec::with_capacity(alloc, places.len())?;
     for index in 0..places.len() {
-        let mark = places[index].mark();
-        buffers.push(exported(alloc, log, index as u64, mark, count)?)?;
+        buffers.push(exported_of(alloc, &places[index], log, index as u64, count)?)?;
     }
     Ok(buffers)
+}
+
+/// What a place of this index exports of a log of so many lines.
+fn exported_of(
+    alloc: Global,
+    place: &Place,
+    log: &Log,
+    index: u64,
+    count: usize,
+) -> Result<Buffer, AllocError>
+    requires count { count ≡ length log.now.lines }
+    requires rising { All (λ line. rises line.lits ≡ true) log.now.lines }
+    ensures { IfOk result (λ b. b ≡ union (exports_at log.now.lines index place.now)) }
+{
+    if place.is_out() {
+        return Ok(Buffer::new(alloc));
+    }
+    exported(alloc, log, index, place.mark(), count)
 }
 
 /// What a node exports of a log's lines from one place to another, in halves that are merged.
@@ -95,12 +112,21 @@ fn clause_of(alloc: Global, lits: &[Lit]) -> Result<Clause, AllocError>
     }
 }
 
-/// Moves the marks of the first places, so many, to a length of the log.
+/// Moves the marks of those of the first places, so many, that are at home, to a length of the log.
 pub fn move_marks(places: &mut Vec<Place>, count: usize, mark: usize)
     requires { count ≤ length places.old.items }
     ensures { places.new.items ≡ marked count mark places.old.items }
 {
     for index in 0..count {
-        places[index].set_mark(mark);
+        move_mark(&mut places[index], mark);
+    }
+}
+
+/// Moves the mark of a place that is at home.
+fn move_mark(place: &mut Place, mark: usize)
+    ensures { place.new ≡ marked_at mark place.old }
+{
+    if !place.is_out() {
+        place.set_mark(mark);
     }
 }

@@ -1,153 +1,162 @@
-//! A job and its steps.
+//! A job: its machine, which only takes events.
 
-ghost use Rattle.std.specs.Prelude.{◌≡◌, ◌+◌, ◌-◌, ◌<◌, ◌≤◌, ◌^◌, true, length, Some, None, MatchOption, OnOk, OnErr, IfOk};
-ghost use Rattle.mal_base.specs.declared.verdict.Outcome.TheVariants.{Ran};
-ghost use Rattle.spec_job.specs.Solo.{Opened, Revised, Closed, Volume, Started, Finished, Exchanged, unopened, solo_step, is_live, startable, is_exchange_due, place_at, clauses_in};
-ghost use Rattle.spec_job.specs.Titled.{stepped};
-ghost use Rattle.spec_job.specs.Left.{left_of};
+ghost use Rattle.std.specs.Prelude.{◌≡◌, ◌↔◌, ◌+◌, ◌-◌, ◌<◌, ◌≤◌, ◌^◌, true, length, is_some, IsTrue, Some, None, MatchOption, OnOk, OnErr, IfOk};
+ghost use Rattle.std.specs.Option.{option_copied};
+ghost use Rattle.mal_base.specs.declared.verdict.Outcome.TheVariants.{Ran, Starved, Lost};
+ghost use Rattle.spec_job.specs.Solo.{Opened, Revised, Closed, Volume, Finished, Exchanged, unopened, solo_step, is_live, startable, is_exchange_due, place_at, clauses_in};
+ghost use Rattle.spec_job.specs.Viewed.{unstarted, and_own, and_start, IsLeaseOf, IsBack};
 ghost use Rattle.spec_job.specs.Proofs.{failed, proof_lines};
 ghost use Rattle.spec_job.specs.Replies.{told_by, reply};
 ghost use Rattle.spec_report.specs.Replies.{Proof, reply_text};
+ghost use Rattle.mal_job.specs.Among.{among};
+ghost use Rattle.mal_job.specs.Finishing.{outcome_of, MayFinish};
+ghost use Rattle.mal_job.specs.Viewed.{shared};
 
-use crate::ending::{conclude, settle};
-use crate::exchange::{exports, move_marks};
-use crate::loading::count_clauses;
-use crate::place::{Place, grow};
-use crate::told::{answer_at, lits_of, negations};
-use mal_base::{Answer, Ask, ClauseId, Name};
-use mal_buffer::Buffer;
-use mal_exchange::up;
-use mal_learn::Scratch;
-use mal_proof::{Log, renumber};
+use crate::derivation::Derivation;
+use crate::finishing::{finish_lost, finish_run, finish_starved};
+use crate::loading::{count_clauses, missing_loads};
+use crate::questions::Questions;
+use crate::told::{answer_at, lits_of, negations, revision_at};
+use crate::tree::Tree;
+use mal_base::{Answer, Ask, ClauseId, Name, Outcome};
+use mal_proof::renumber;
 use mal_report::{Cause, satisfiable, unknown, unsatisfiable};
 use mal_revision::Revision;
+use mal_suspend::{Done, Lease};
 use std::alloc::{AllocError, Global};
 use std::marker::Model;
+use std::sync::Arc;
 
-/// A job as its machine run alone: the ask, the volume, the revisions with their answers, the log of derived lines, the first
-/// places of its tree, as many as were ever used, and what its nodes were told. Contracts see the job's key with the machine; the type keeps that the
-/// machine was run on own events that may happen.
+/// A job as its machine run alone: what was asked and answered, the tree of its nodes, and the log of derived lines. Contracts
+/// see the job's number and key with the machine, and the numbers of the last starts; the type keeps that the machine was run on
+/// own events that may happen.
 #[derive(Drop)]
 pub struct Job {
     tenant: Name,
     name: Name,
-    ask: Ask,
-    closed: bool,
-    volume: u32,
-    revisions: Vec<Revision>,
-    answers: Vec<Answer>,
-    log: Log,
-    empty: Option<ClauseId>,
-    places: Vec<Place>,
-    broadcasts: Vec<Buffer>,
-    ran: u32,
-    spent: u32,
+    questions: Questions,
+    tree: Tree,
+    log: Derivation,
 }
 
 impl Model for Job {
-    ghost use Rattle.std.specs.Prelude.{vec_capacity};
-    ghost use Rattle.spec_job.specs.Titled.{Titled};
-    ghost use Rattle.mal_job.specs.Viewed.{state_of};
+    ghost use Rattle.spec_job.specs.Viewed.{JobView};
+    ghost use Rattle.mal_job.specs.Viewed.{viewed};
     ghost use Rattle.mal_job.specs.Kept.{IsKept};
 
-    ghost Value = { Titled };
+    ghost Value = { JobView };
 
-    ghost view = { λ j. record {
-      key = record { tenant = j.tenant; job = j.name };
-      state = state_of (record { ask = j.ask; closed = j.closed; volume = j.volume; revisions = j.revisions.items; answers = j.answers.items; homes = j.places.items; log = j.log.lines; broadcasts = j.broadcasts.items; ran = j.ran; spent = j.spent });
-    } };
+    ghost view = { λ j. viewed j.tenant j.name (record { asked = j.questions; tree = j.tree; log = j.log }) };
 
-    ghost invariant = { λ j. IsKept (record { ask = j.ask; closed = j.closed; volume = j.volume; revisions = j.revisions.items; answers = j.answers.items; homes = j.places.items; log = j.log.lines; broadcasts = j.broadcasts.items; ran = j.ran; spent = j.spent }) j.empty (vec_capacity j.answers) };
+    ghost invariant = { λ j. IsKept (record { asked = j.questions; tree = j.tree; log = j.log }) };
 }
 
 impl Job {
-    /// A job that was just opened. Takes no memory.
-    pub fn fresh(alloc: Global, tenant: Name, name: Name, ask: Ask) -> Job
-        ensures key { result.key ≡ record { tenant = tenant; job = name } }
-        ensures state { result.state ≡ solo_step unopened (Opened ask) }
+    /// A job of this number that was just opened.
+    pub fn fresh(
+        alloc: Global,
+        number: u64,
+        tenant: Name,
+        job: Name,
+        ask: Ask,
+    ) -> Result<Job, AllocError>
+        ensures { IfOk result (λ j. j ≡ unstarted number (record { key = record { tenant = tenant; job = job }; state = solo_step unopened (Opened ask) })) }
     {
-        let _ = ask.slices();
-        Job {
+        Ok(Job {
             tenant,
-            name,
-            ask,
-            closed: false,
-            volume: 0,
-            revisions: Vec::new(alloc),
-            answers: Vec::new(alloc),
-            log: Log::new(alloc),
-            empty: None,
-            places: Vec::new(alloc),
-            broadcasts: Vec::new(alloc),
-            ran: 0,
-            spent: 0,
-        }
+            name: job,
+            questions: Questions::fresh(alloc, ask),
+            tree: Tree::fresh(alloc, number),
+            log: Derivation::new(alloc),
+        })
+    }
+
+    /// The job's number.
+    pub fn number(&self) -> u64
+        ensures { result ≡ self.now.number }
+    {
+        self.tree.number()
     }
 
     /// The job's tenant.
     pub fn tenant(&self) -> Name
-        ensures { result ≡ self.now.key.tenant }
+        ensures { result ≡ self.now.titled.key.tenant }
     {
         self.tenant
     }
 
     /// The job's name.
     pub fn name(&self) -> Name
-        ensures { result ≡ self.now.key.job }
+        ensures { result ≡ self.now.titled.key.job }
     {
         self.name
     }
 
     /// What the job asks for.
     pub fn ask(&self) -> Ask
-        ensures { result ≡ self.now.state.ask }
+        ensures { result ≡ self.now.titled.state.ask }
     {
-        self.ask
+        self.questions.ask()
     }
 
     /// Whether the job was closed.
     pub fn is_closed(&self) -> bool
-        ensures { result ≡ self.now.state.closed }
+        ensures { result ≡ self.now.titled.state.closed }
     {
-        self.closed
+        self.questions.is_closed()
     }
 
     /// Whether a revision has no answer yet.
     pub fn is_live(&self) -> bool
-        ensures { result ≡ is_live self.now.state }
+        ensures { result ≡ is_live self.now.titled.state }
     {
-        self.answers.len() < self.revisions.len()
+        self.questions.answers().len() < self.questions.revisions().len()
     }
 
     /// How many of the job's nodes may run at a time.
     pub fn volume(&self) -> u32
-        ensures { result ≡ self.now.state.volume }
+        ensures value { result ≡ self.now.titled.state.volume }
+        ensures few { self.now.titled.state.volume ≤ 64 }
     {
-        self.volume
+        self.tree.volume()
     }
 
     /// The revisions, in the order in which they were posted.
-    pub fn revisions(&self) -> &[Revision]
-        ensures value { result.now ≡ self.now.state.revisions }
-        ensures few { length self.now.state.revisions ≤ 256 }
-        ensures clauses { clauses_in self.now.state.revisions ≤ 2 ^ 20 }
+    pub fn revisions(&self) -> &[Arc<Revision>]
+        ensures value { shared result.now ≡ self.now.titled.state.revisions }
+        ensures few { length self.now.titled.state.revisions ≤ 256 }
+        ensures clauses { clauses_in self.now.titled.state.revisions ≤ 2 ^ 20 }
     {
-        self.revisions.as_slice()
+        self.questions.revisions()
+    }
+
+    /// A revision, numbered from 1: None exactly where the job has no such revision.
+    pub fn revision(&self, r: u32) -> Option<&Revision>
+        ensures { option_copied result ≡ among r self.now.titled.state.revisions }
+    {
+        revision_at(self.questions.revisions(), r)
     }
 
     /// The answers, in the order of the revisions.
     pub fn answers(&self) -> &[Answer]
-        ensures value { result.now ≡ self.now.state.answers }
-        ensures fewer { length self.now.state.answers ≤ length self.now.state.revisions }
+        ensures value { result.now ≡ self.now.titled.state.answers }
+        ensures fewer { length self.now.titled.state.answers ≤ length self.now.titled.state.revisions }
     {
-        self.answers.as_slice()
+        self.questions.answers()
+    }
+
+    /// Whether a revision, numbered from 1, is answered.
+    pub fn answered(&self, r: u32) -> bool
+        ensures { IsTrue result ↔ ((1 ≤ r) × (r ≤ length self.now.titled.state.answers)) }
+    {
+        1 <= r && r as usize <= self.questions.answers().len()
     }
 
     /// The reply to a revision, numbered from 1: None exactly where it is not answered.
     pub fn reply(&self, r: u32) -> Result<Option<Vec<u8>>, AllocError>
-        ensures { IfOk result (λ o. MatchOption o (reply self.now.key r self.now.state ≡ None) (λ text. reply self.now.key r self.now.state ≡ Some text.items)) }
+        ensures { IfOk result (λ o. MatchOption o (reply self.now.titled.key r self.now.titled.state ≡ None) (λ text. reply self.now.titled.key r self.now.titled.state ≡ Some text.items)) }
     {
-        match answer_at(self.answers.as_slice(), r) {
+        match answer_at(self.questions.answers(), r) {
             None => Ok(None),
             Some(answer) => Ok(Some(self.tell(r, answer)?)),
         }
@@ -156,10 +165,10 @@ impl Job {
     /// The text that tells an answer to a revision, numbered from 1.
     fn tell(&self, r: u32, answer: &Answer) -> Result<Vec<u8>, AllocError>
         requires first { 1 ≤ r }
-        requires posted { r ≤ length self.now.state.revisions }
-        ensures { IfOk result (λ text. text.items ≡ reply_text self.now.key.tenant self.now.key.job r (told_by self.now.state (r - 1) answer.now)) }
+        requires posted { r ≤ length self.now.titled.state.revisions }
+        ensures { IfOk result (λ text. text.items ≡ reply_text self.now.titled.key.tenant self.now.titled.key.job r (told_by self.now.titled.state (r - 1) answer.now)) }
     {
-        let alloc = *self.answers.allocator();
+        let alloc = self.questions.allocator();
         let (tenant, job) = (&self.tenant, &self.name);
         match answer {
             Answer::Satisfied(model) => satisfiable(alloc, tenant, job, r, model.as_slice()),
@@ -173,14 +182,16 @@ impl Job {
     /// goal needs, numbered behind the clauses of the revisions up to this one.
     fn tell_proof(&self, r: u32, goal: ClauseId) -> Result<Vec<u8>, AllocError>
         requires first { 1 ≤ r }
-        requires posted { r ≤ length self.now.state.revisions }
-        ensures { IfOk result (λ text. text.items ≡ reply_text self.now.key.tenant self.now.key.job r (Proof (failed goal self.now.state.log) (proof_lines self.now.state.revisions self.now.state.log (r - 1) goal))) }
+        requires posted { r ≤ length self.now.titled.state.revisions }
+        ensures { IfOk result (λ text. text.items ≡ reply_text self.now.titled.key.tenant self.now.titled.key.job r (Proof (failed goal self.now.titled.state.log) (proof_lines self.now.titled.state.revisions self.now.titled.state.log (r - 1) goal))) }
     {
-        let alloc = *self.answers.allocator();
-        let needed = self.log.trim(goal)?;
-        let count = count_clauses(&self.revisions[..r as usize]);
+        let alloc = self.questions.allocator();
+        let log = self.log.log();
+        let needed = log.trim(goal)?;
+        let revisions = self.questions.revisions();
+        let count = count_clauses(&revisions[..r as usize]);
         let lines = renumber(alloc, &needed, count as u64)?;
-        let failed = negations(alloc, lits_of(&self.log, goal))?;
+        let failed = negations(alloc, lits_of(log, goal))?;
         unsatisfiable(
             alloc,
             &self.tenant,
@@ -194,116 +205,161 @@ impl Job {
     /// Posts the job's next revision, and makes room for its answer. It is answered at once where the log holds an empty
     /// clause. After want of memory the job is as before.
     pub fn revise(&mut self, revision: Revision) -> Result<(), AllocError>
-        requires few { length self.old.state.revisions < 256 }
-        requires clauses { clauses_in self.old.state.revisions + length revision.clauses ≤ 2 ^ 20 }
-        ensures ok { OnOk result (self.new ≡ stepped self.old (Revised revision)) }
+        requires few { length self.old.titled.state.revisions < 256 }
+        requires clauses { clauses_in self.old.titled.state.revisions + length revision.clauses ≤ 2 ^ 20 }
+        ensures ok { OnOk result (self.new ≡ and_own self.old (Revised revision)) }
         ensures err { OnErr result (self.new ≡ self.old) }
     {
-        let unanswered = self.revisions.len() - self.answers.len();
         let _ = revision.clauses();
-        self.answers.reserve(unanswered + 1)?;
-        self.revisions.push(revision)?;
-        settle(
-            self.empty,
-            unanswered + 1,
-            &mut self.answers,
-            &mut self.spent,
-        );
-        Ok(())
+        self.questions.revise(revision, self.log.empty())
     }
 
     /// Closes the job: no revision follows.
     pub fn close(&mut self)
-        ensures { self.new ≡ stepped self.old Closed }
+        ensures { self.new ≡ and_own self.old Closed }
     {
-        self.closed = true;
+        self.questions.close();
     }
 
     /// Sets how many of the job's nodes may run at a time, 64 at most.
     pub fn set_volume(&mut self, volume: u32)
         requires { volume ≤ 64 }
-        ensures { self.new ≡ stepped self.old (Volume volume) }
+        ensures { self.new ≡ and_own self.old (Volume volume) }
     {
-        self.volume = volume;
+        self.tree.set_volume(volume);
     }
 
-    /// How often the node of this index was started.
-    pub fn starts(&self, index: u32) -> u32
-        ensures { result ≡ (place_at self.now.state index).starts }
+    /// How often the node of this index (0 to 63) was started.
+    pub fn starts(&self, index: u32) -> u64
+        requires { index ≤ 63 }
+        ensures { result ≡ (place_at self.now.titled.state index).starts }
     {
-        match self.places.get(index as usize) {
-            None => 0,
-            Some(place) => place.starts(),
+        self.tree.starts(index)
+    }
+
+    /// Whether the start of the node of this index (0 to 63) is out.
+    pub fn is_out(&self, index: u32) -> bool
+        requires { index ≤ 63 }
+        ensures { result ≡ is_some (place_at self.now.titled.state index).out }
+    {
+        self.tree.is_out(index)
+    }
+
+    /// Whether the node of this index (0 to 63) may start.
+    pub fn startable(&self, index: u32) -> bool
+        requires { index ≤ 63 }
+        ensures { result ≡ startable self.now.titled.state index }
+    {
+        if !self.is_live() || index >= self.tree.volume() {
+            return false;
+        }
+        if self.tree.is_out(index) {
+            return false;
+        }
+        let out = self.tree.out_count(self.questions.answers().len());
+        self.questions.spent() as usize + out < self.questions.ask().slices() as usize
+    }
+
+    /// Starts the node of this index for the current revision: hands it out to a worker as the lease of the start of this number.
+    /// Makes room for what comes back. After want of memory, and where the count of starts would pass its end, the job is as
+    /// before.
+    pub fn start(&mut self, index: u32, worker: u32, start: u64) -> Result<Lease, AllocError>
+        requires { startable self.old.titled.state index ≡ true }
+        ensures ok { OnOk result (self.new ≡ and_start self.old index start) }
+        ensures lease { IfOk result (λ l. IsLeaseOf self.old index start worker l) }
+        ensures err { OnErr result (self.new ≡ self.old) }
+    {
+        let _ = self.tree.volume();
+        self.tree.grow(index as usize + 1)?;
+        self.log.reserve(self.tree.starts_out() + 1)?;
+        let loads = missing_loads(&self.questions, self.tree.loads(index))?;
+        let current = self.questions.answers().len();
+        self.tree.start(index, current, loads, start, worker)
+    }
+
+    /// Whether what came back is that of the lease that is out at this index (0 to 63): its journal is the lease's, after a start
+    /// that ran with the start's entries besides.
+    pub fn is_back(&self, index: u32, back: &Done) -> bool
+        requires { index ≤ 63 }
+        ensures { IsTrue result ↔ IsBack self.now index back.now }
+    {
+        self.tree.is_back(index, back)
+    }
+
+    /// Ends the start that is out at this index (0 to 63): it is lost where nothing came back. Takes no memory.
+    pub fn finish(&mut self, index: u32, back: Option<Done>)
+        requires index { index ≤ 63 }
+        requires back { MayFinish self.old index back }
+        ensures { self.new ≡ and_own self.old (Finished index (outcome_of back)) }
+    {
+        match back {
+            None => self.end_lost(index),
+            Some(done) => self.end_back(index, done),
         }
     }
 
-    /// Whether the node of this index may start: the first one of a live job with a volume may.
-    pub fn is_startable(&self, index: u32) -> bool
-        ensures value { result ≡ startable self.now.state index }
-        ensures live { is_live self.now.state ≡ true → 1 ≤ self.now.state.volume → startable self.now.state 0 ≡ true }
+    /// Ends a start of which this came back.
+    fn end_back(&mut self, index: u32, back: Done)
+        requires back { IsBack self.old index back }
+        ensures { self.new ≡ and_own self.old (Finished index back.outcome) }
     {
-        self.is_live() && index < self.volume
+        match back.outcome() {
+            Outcome::Ran => self.end_run(index, back),
+            Outcome::Starved => self.end_starved(index, back),
+            Outcome::Lost => unreachable!(),
+        }
     }
 
-    /// Starts the node of this index for the current revision and runs one slice. After want of memory the job is as before.
-    pub fn run_slice(
-        &mut self,
-        alloc: Global,
-        index: u32,
-        scratch: &mut Scratch,
-    ) -> Result<(), AllocError>
-        requires { startable self.old.state index ≡ true }
-        ensures ok { OnOk result (self.new ≡ stepped (stepped self.old (Started index)) (Finished index Ran)) }
-        ensures less { OnOk result (left_of self.new.state < left_of self.old.state) }
-        ensures err { OnErr result (self.new ≡ self.old) }
+    /// Ends a start that ran.
+    fn end_run(&mut self, index: u32, back: Done)
+        requires ran { back.outcome ≡ Ran }
+        requires back { IsBack self.old index back }
+        ensures { self.new ≡ and_own self.old (Finished index Ran) }
     {
-        grow(alloc, &mut self.places, index as usize + 1)?;
-        let current = self.answers.len();
-        let place = &mut self.places[index as usize];
-        let (values, empty) = place.start(
-            alloc,
+        let _ = back.lines();
+        finish_run(
+            &mut self.questions,
+            &mut self.tree,
             &mut self.log,
-            self.revisions.as_slice(),
-            current,
-            self.broadcasts.as_slice(),
-            scratch,
-        )?;
-        let slices = self.ask.slices();
-        conclude(
-            place.node(),
-            values,
-            slices,
-            &mut self.answers,
-            &mut self.spent,
+            index,
+            back,
         );
-        self.empty = self.empty.or(empty);
-        self.ran += 1;
-        let unanswered = self.revisions.len() - self.answers.len();
-        settle(self.empty, unanswered, &mut self.answers, &mut self.spent);
-        Ok(())
+    }
+
+    /// Ends a start that wanted for memory.
+    fn end_starved(&mut self, index: u32, back: Done)
+        requires starved { back.outcome ≡ Starved }
+        requires back { IsBack self.old index back }
+        ensures { self.new ≡ and_own self.old (Finished index Starved) }
+    {
+        finish_starved(&mut self.questions, &mut self.tree, &self.log, index, back);
+    }
+
+    /// Ends a start that is lost.
+    fn end_lost(&mut self, index: u32)
+        requires { is_some (place_at self.old.titled.state index).out ≡ true }
+        ensures { self.new ≡ and_own self.old (Finished index Lost) }
+    {
+        finish_lost(&mut self.questions, &mut self.tree, &self.log, index);
     }
 
     /// Whether an exchange is due: at a volume of at least 2, once twice as many slices as the volume were run since the last
     /// one.
-    pub fn is_exchange_due(&self) -> bool
-        ensures { result ≡ is_exchange_due self.now.state }
+    pub fn exchange_due(&self) -> bool
+        ensures { result ≡ is_exchange_due self.now.titled.state }
     {
-        self.volume >= 2 && 2 * self.volume <= self.ran
+        let volume = self.tree.volume();
+        volume >= 2 && 2 * volume <= self.tree.ran()
     }
 
-    /// Lets the nodes below the volume tell one another what they derived since their last exchange. After want of memory the
-    /// job is as before.
-    pub fn exchange(&mut self, alloc: Global) -> Result<(), AllocError>
-        ensures ok { OnOk result (self.new ≡ stepped self.old Exchanged) }
+    /// Lets the nodes below the volume that are at home tell one another what they derived since their last exchange. After want
+    /// of memory the job is as before.
+    pub fn exchange(&mut self) -> Result<(), AllocError>
+        ensures ok { OnOk result (self.new ≡ and_own self.old Exchanged) }
         ensures err { OnErr result (self.new ≡ self.old) }
     {
-        let count = self.volume as usize;
-        grow(alloc, &mut self.places, count)?;
-        let exported = exports(alloc, &self.places[..count], &self.log)?;
-        let told = up(alloc, exported.as_slice())?;
-        self.broadcasts.push(told)?;
-        move_marks(&mut self.places, count, self.log.count());
-        self.ran = 0;
-        Ok(())
+        let volume = self.tree.volume();
+        self.tree.grow(volume as usize)?;
+        self.tree.exchange(self.log.log())
     }
 }

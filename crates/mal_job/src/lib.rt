@@ -1,15 +1,14 @@
-//! A job: the machine that answers its revisions.
+//! A job: it takes the events of its own, and its nodes go out as leases.
 #![tactic(auto)]
 
-mod ending;
+mod derivation;
 mod exchange;
+mod finishing;
 mod job;
-mod lines;
 mod loading;
 mod place;
-mod step;
-#[cfg(test)]
-mod tests;
+mod questions;
 mod told;
+mod tree;
 
 pub use job::Job;

@@ -1,77 +1,101 @@
-//! A place of a job: a node with its journal.
+//! A place of a job's tree: a node at home, gone, or out.
 
-ghost use Rattle.std.specs.Prelude.{◌≡◌, ◌≤◌, [], ◌++◌, length, vec_capacity, IfOk, OnOk, OnErr};
-ghost use Rattle.spec_search.specs.Slice.{slice};
-ghost use Rattle.spec_job.specs.Solo.{first_empty};
-ghost use Rattle.mal_job.specs.Homes.{Home};
-ghost use Rattle.mal_job.specs.Places.{fresh_home, IsGrown};
-ghost use Rattle.mal_job.specs.Starts.{MayStart, ready_of, run_home};
+ghost use Rattle.std.specs.Prelude.{◌≡◌, ◌↔◌, ◌≤◌, IsTrue, is_some, true, None, IfOk, OnOk, OnErr};
+ghost use Rattle.std.specs.Option.{option_map};
+ghost use Rattle.spec_job.specs.Journaled.{replayed, started, and_entries};
+ghost use Rattle.mal_suspend.specs.Kept.{journal_of};
+ghost use Rattle.mal_suspend.specs.Replaying.{MayAllReplay};
+ghost use Rattle.mal_suspend.specs.Starting.{shared_loads, shared_tolds, start_entries};
+ghost use Rattle.mal_job.specs.Placing.{fresh_place, sent, ran_home, came_home, IsBackAt, IsSeatOf, adds_of};
 
-use crate::ending::run_node;
-use crate::loading::{count_clauses, enter_start, make_ready};
-use crate::step::Step;
-use mal_base::ClauseId;
+use mal_base::Outcome;
 use mal_buffer::Buffer;
-use mal_cdcl::Node;
-use mal_learn::Scratch;
-use mal_proof::Log;
 use mal_revision::Revision;
-use mal_watch::Watch;
+use mal_suspend::{Done, Journal, Kept, Lease, Suspended};
 use std::alloc::{AllocError, Global};
 use std::marker::Model;
+use std::mem;
+use std::sync::Arc;
 
-/// A node of a job's tree with its steps: how many revisions it has loaded, how much of what was told it has imported, how
-/// often it was started, and how long the log was at the last exchange in which it took part.
+/// What stands at a place: the node with its journal; nothing, where the node is gone, or was never started; or, where the node
+/// is out, the revision that it was started for and the journal that it has once its slice ran.
+#[derive(Drop)]
+pub enum Seat {
+    Home(Suspended),
+    Gone,
+    Out(usize, Journal),
+}
+
+/// A place of a job's tree. It keeps a journal of its node, wherever that is.
 #[derive(Drop)]
 pub struct Place {
-    node: Node<Watch>,
-    steps: Vec<Step>,
-    loaded: usize,
-    imported: usize,
-    starts: u32,
+    journal: Journal,
+    seat: Seat,
+    starts: u64,
     mark: usize,
 }
 
 impl Model for Place {
-    ghost use Rattle.mal_job.specs.Homes.{Home};
+    ghost use Rattle.mal_job.specs.Viewed.{PlaceView};
+    ghost use Rattle.mal_job.specs.Placing.{out_of, IsSeated};
 
-    ghost Value = { Home };
+    ghost Value = { PlaceView };
 
     ghost view = { λ p. record {
-      node = p.node.state;
-      steps = p.steps.items;
-      loaded = p.loaded;
-      imported = p.imported;
+      journal = p.journal;
+      out = out_of p.journal.entries p.seat;
       starts = p.starts;
       mark = p.mark;
     } };
+
+    ghost invariant = { λ p. IsSeated p.journal p.seat };
 }
 
 impl Place {
-    /// The place of this index (0 to 63) before its first start. Takes no memory.
-    pub fn fresh(alloc: Global, index: u32) -> Place
+    /// The place of this index (0 to 63) of a job before its first start. Takes no memory.
+    pub fn fresh(alloc: Global, job: u64, index: u32) -> Place
         requires { index ≤ 63 }
-        ensures { result ≡ fresh_home index }
+        ensures { result ≡ fresh_place job index }
     {
         Place {
-            node: Node::fresh(alloc, index),
-            steps: Vec::new(alloc),
-            loaded: 0,
-            imported: 0,
+            journal: Journal::new(alloc, job, index),
+            seat: Seat::Gone,
             starts: 0,
             mark: 0,
         }
     }
 
-    /// The node.
-    pub fn node(&self) -> &Node<Watch>
-        ensures { result.now.state ≡ self.now.node }
+    /// The journal of the node.
+    pub fn journal(&self) -> &Journal
+        ensures { result.now ≡ self.now.journal }
     {
-        &self.node
+        &self.journal
+    }
+
+    /// Whether a start is out.
+    pub fn is_out(&self) -> bool
+        ensures { result ≡ is_some self.now.out }
+    {
+        match &self.seat {
+            Seat::Home(_) => false,
+            Seat::Gone => false,
+            Seat::Out(_, _) => true,
+        }
+    }
+
+    /// The revision that the start that is out is for, counted from 0.
+    pub fn revision(&self) -> Option<usize>
+        ensures { result ≡ option_map (λ l. l.revision) self.now.out }
+    {
+        match &self.seat {
+            Seat::Home(_) => None,
+            Seat::Gone => None,
+            Seat::Out(revision, _) => Some(*revision),
+        }
     }
 
     /// How often the node was started.
-    pub fn starts(&self) -> u32
+    pub fn starts(&self) -> u64
         ensures { result ≡ self.now.starts }
     {
         self.starts
@@ -91,53 +115,112 @@ impl Place {
         self.mark = mark;
     }
 
-    /// Loads what the node lacks up to the current revision, counted from 0, and imports what it lacks of what was told; then
-    /// runs a slice and puts its lines behind those of the log. Gives an empty list with room for the values of a model,
-    /// and the number of the first empty clause among the new lines. After want of memory the place and the lines of the
-    /// log are as before.
+    /// Hands the node, which is at home, out to a worker for the start of this number and for a revision: it loads these revisions,
+    /// each with the number of its first clause, then imports what was told, then runs a slice. After want of memory, and
+    /// where the count of starts would pass its end, the place is as before.
     pub fn start(
         &mut self,
-        alloc: Global,
-        log: &mut Log,
-        revisions: &[Revision],
-        current: usize,
-        tolds: &[Buffer],
-        scratch: &mut Scratch,
-    ) -> Result<(Vec<bool>, Option<ClauseId>), AllocError>
-        requires { MayStart self.old revisions.now current tolds.now log.old.lines }
-        ensures ok { OnOk result (self.new ≡ run_home self.old revisions.now current tolds.now) }
-        ensures lines { OnOk result (log.new.lines ≡ log.old.lines ++ (slice (ready_of self.old revisions.now current tolds.now)).lines) }
-        ensures values { IfOk result (λ r. r.0.items ≡ []) }
-        ensures room { IfOk result (λ r. self.new.node.variables ≤ vec_capacity r.0) }
-        ensures empty { IfOk result (λ r. r.1 ≡ first_empty (slice (ready_of self.old revisions.now current tolds.now)).lines) }
+        revision: usize,
+        loads: Vec<(Arc<Revision>, u32)>,
+        imports: Vec<Arc<Buffer>>,
+        start: u64,
+        worker: u32,
+    ) -> Result<Lease, AllocError>
+        requires home { self.old.out ≡ None }
+        requires replays { MayAllReplay (replayed self.old.journal) (start_entries (shared_loads loads.items) (shared_tolds imports.items)) }
+        ensures ok { OnOk result (self.new ≡ sent revision (start_entries (shared_loads loads.items) (shared_tolds imports.items)) start self.old) }
+        ensures journal { IfOk result (λ l. l.journal ≡ started start self.old.journal) }
+        ensures adds { IfOk result (λ l. l.adds ≡ start_entries (shared_loads loads.items) (shared_tolds imports.items)) }
+        ensures worker { IfOk result (λ l. l.worker ≡ worker) }
         ensures err { OnErr result (self.new ≡ self.old) }
-        ensures err_lines { OnErr result (log.new.lines ≡ log.old.lines) }
+        ensures own_job { self.new.journal.job ≡ self.old.journal.job }
+        ensures own_index { self.new.journal.index ≡ self.old.journal.index }
     {
-        let (before, later) = revisions.split_at(self.loaded);
-        let missing = &later[..current + 1 - self.loaded];
-        let imports = &tolds[self.imported..];
-        self.steps.reserve(missing.len() + imports.len() + 1)?;
-        let first = count_clauses(before) + 1;
-        let values = make_ready(alloc, &mut self.node, log, missing, first, imports, scratch)?;
-        let empty = run_node(&mut self.node, log, scratch);
-        enter_start(&mut self.steps, missing.len(), imports.len());
-        self.loaded = current + 1;
-        self.imported = tolds.len();
-        self.starts += 1;
-        Ok((values, empty))
+        let starts = match self.starts.checked_add(1) {
+            Some(starts) => starts,
+            None => return Err(AllocError),
+        };
+        let grown = self
+            .journal
+            .grown(start, loads.as_slice(), imports.as_slice())?;
+        let kept = self.hand_out()?;
+        match Lease::new(kept, loads, imports, start, worker) {
+            Err((kept, error)) => {
+                self.seat = seat_of(kept);
+                Err(error)
+            }
+            Ok(lease) => {
+                self.seat = Seat::Out(revision, grown);
+                self.journal.set_start(start);
+                self.starts = starts;
+                Ok(lease)
+            }
+        }
+    }
+
+    /// Takes the node out of its seat, or a copy of the journal where it is gone.
+    fn hand_out(&mut self) -> Result<Kept, AllocError>
+        requires home { self.old.out ≡ None }
+        ensures kept { IfOk result (λ k. journal_of k ≡ self.old.journal) }
+        ensures same { self.new ≡ self.old }
+    {
+        match mem::replace(&mut self.seat, Seat::Gone) {
+            Seat::Home(suspended) => Ok(Kept::Live(suspended)),
+            Seat::Gone => Ok(Kept::Gone(self.journal.copy()?)),
+            Seat::Out(_, _) => unreachable!(),
+        }
+    }
+
+    /// Whether what came back is that of the start that is out.
+    pub fn is_back(&self, back: &Done) -> bool
+        ensures { IsTrue result ↔ IsBackAt self.now back.now }
+    {
+        match &self.seat {
+            Seat::Home(_) => false,
+            Seat::Gone => false,
+            Seat::Out(_, grown) => match back.outcome() {
+                Outcome::Ran => grown.same(back.journal()),
+                Outcome::Starved => self.journal.same(back.journal()),
+                Outcome::Lost => false,
+            },
+        }
+    }
+
+    /// The node comes back from a start that ran. Takes no memory.
+    pub fn come_back(&mut self, kept: Kept)
+        requires out { is_some self.old.out ≡ true }
+        requires back { journal_of kept ≡ and_entries self.old.journal (adds_of self.old.out) }
+        ensures { self.new ≡ ran_home self.old }
+    {
+        match mem::replace(&mut self.seat, seat_of(kept)) {
+            Seat::Home(_) => {}
+            Seat::Gone => {}
+            Seat::Out(_, grown) => self.journal = grown,
+        }
+    }
+
+    /// The node comes back from a start that came to nothing. Takes no memory.
+    pub fn come_home(&mut self, kept: Kept)
+        requires { journal_of kept ≡ self.old.journal }
+        ensures { self.new ≡ came_home self.old }
+    {
+        self.seat = seat_of(kept);
+    }
+
+    /// The node is gone: its start is lost. Takes no memory.
+    pub fn lose(&mut self)
+        ensures { self.new ≡ came_home self.old }
+    {
+        self.seat = Seat::Gone;
     }
 }
 
-/// Makes the first so many places of a job, where they are not there yet. After want of memory some of them may be there.
-pub fn grow(alloc: Global, places: &mut Vec<Place>, count: usize) -> Result<(), AllocError>
-    requires count { count ≤ 64 }
-    requires few { length places.old.items ≤ 64 }
-    ensures grown { IsGrown places.old.items places.new.items }
-    ensures few { length places.new.items ≤ 64 }
-    ensures ok { OnOk result (count ≤ length places.new.items) }
+/// The seat of what is kept of a node.
+fn seat_of(kept: Kept) -> Seat
+    ensures { IsSeatOf (journal_of kept) result }
 {
-    for index in places.len()..count {
-        places.push(Place::fresh(alloc, index as u32))?;
+    match kept {
+        Kept::Live(suspended) => Seat::Home(suspended),
+        Kept::Gone(_) => Seat::Gone,
     }
-    Ok(())
 }

@@ -4,20 +4,36 @@ ghost use Rattle.std.specs.Prelude.{◌≡◌, map, IfOk};
 ghost use Rattle.std.specs.Option.{option_copied};
 ghost use Rattle.mal_base.specs.Literals.{negated};
 ghost use Rattle.spec_job.specs.Proofs.{lits_at};
-ghost use Rattle.mal_job.specs.Answered.{answer_among};
+ghost use Rattle.mal_job.specs.Among.{among};
+ghost use Rattle.mal_job.specs.Viewed.{shared};
 
 use mal_base::{Answer, ClauseId, Lit};
 use mal_proof::Log;
+use mal_revision::Revision;
 use std::alloc::{AllocError, Global};
+use std::sync::Arc;
 
 /// The answer to a revision, numbered from 1.
 pub fn answer_at(answers: &[Answer], r: u32) -> Option<&Answer>
-    ensures { option_copied result ≡ answer_among r answers.now }
+    ensures { option_copied result ≡ among r answers.now }
 {
     if r == 0 {
         return None;
     }
     answers.get(r as usize - 1)
+}
+
+/// A revision, numbered from 1.
+pub fn revision_at(revisions: &[Arc<Revision>], r: u32) -> Option<&Revision>
+    ensures { option_copied result ≡ among r (shared revisions.now) }
+{
+    if r == 0 {
+        return None;
+    }
+    match revisions.get(r as usize - 1) {
+        None => None,
+        Some(revision) => Some(&**revision),
+    }
 }
 
 /// The literals of the line of a log with this number, none where there is no such line.

@@ -1,11 +1,26 @@
-use Rattle.std.proofs.Common.{◌≡◌, ◌∙◌, List, take, IfOk, subst, ap}
+use Rattle.std.proofs.Common.{◌≡◌, ◌≤◌, ◌∙◌, List, take, IfOk, subst, sym, ap, arith}
+use Rattle.mal_base.specs.Held.{Line}
 use Rattle.mal_revision.specs.Posted.{Posted}
 use Rattle.spec_job.specs.Solo.{clauses_in}
+use Rattle.spec_job.specs.Proofs.{lits_at}
+use Rattle.spec_proof.specs.Trimmed.{reached}
 use Rattle.spec_report.specs.Replies.{Told, reply_text}
+use Rattle.mal_job.specs.Viewed.{shared}
+use Rattle.mal_job.proofs.LoadingLemmas.{few-front}
 use Rattle.mal_job.proofs.ToldLemmas.{proof-told}
+use Rattle.mal_job.proofs.TreeLemmas.{shared-take}
 use Rattle.mal_job.proofs.job.Job.tell_proof.Goals as goal
+
+pub count_clauses-count-requires : goal.count_clauses-count-requires
+count_clauses-count-requires c =
+    let rs : List Posted = c.self.inside.questions.revisions in
+    let front : shared (take c.args.r c.revisions-revisions.result.now) ≡ take c.args.r rs = shared-take c.args.r c.revisions-revisions.result.now ∙ ap (λ (xs : List Posted). take c.args.r xs) c.revisions-revisions.ensures.value in
+    let same : clauses_in (shared (take c.args.r c.revisions-revisions.result.now)) ≡ clauses_in (take c.args.r rs) = ap clauses_in front in
+    omega (arith, same, few-front c.args.r rs, c.revisions-revisions.ensures.kept.clauses)
 
 pub returns : goal.returns
 returns c =
-    let same = proof-told c.self.inside.revisions.items c.self.inside.log.lines c.args.r c.args.goal c.count_clauses-count.result c.lits_of.result.now c.as_slice.result.now c.in_ok-needed.needed.lines c.in_ok-lines.lines.lines c.requires.first c.lits_of.ensures (c.as_slice.ensures.value ∙ c.in_ok-failed.ensures) c.in_ok-needed.ensures.reached (c.count_clauses-count.ensures ∙ ap (λ (ps : List Posted). clauses_in (take c.args.r ps)) c.deref.ensures.value) c.in_ok-lines.ensures in
+    let rs : List Posted = c.self.inside.questions.revisions in
+    let front : shared (take c.args.r c.revisions-revisions.result.now) ≡ take c.args.r rs = shared-take c.args.r c.revisions-revisions.result.now ∙ ap (λ (xs : List Posted). take c.args.r xs) c.revisions-revisions.ensures.value in
+    let same = proof-told rs c.self.inside.log.lines c.args.r c.args.goal c.count_clauses-count.result c.lits_of.result.now c.as_slice.result.now c.in_ok-needed.needed.lines c.in_ok-lines.lines.lines c.requires.first (c.lits_of.ensures ∙ ap (λ (ls : List Line). lits_at c.args.goal ls) c.log-log.ensures) (c.as_slice.ensures.value ∙ c.in_ok-failed.ensures) (c.in_ok-needed.ensures.reached ∙ ap (λ (ls : List Line). reached c.args.goal ls) c.log-log.ensures) (c.count_clauses-count.ensures ∙ ap clauses_in front) c.in_ok-lines.ensures in
     rw (← c.self.view_is) (subst (λ (t : Told). IfOk c.unsatisfiable.result (λ text. text.items ≡ reply_text c.self.inside.tenant c.self.inside.name c.args.r t)) same c.unsatisfiable.ensures)

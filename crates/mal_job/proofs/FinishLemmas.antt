@@ -1,0 +1,245 @@
+-- A start that is out ends.
+use Rattle.std.proofs.Common.{◌≡◌, ℕ, ◌+◌, ◌*◌, ◌<◌, ◌≤◌, ◌^◌, true, false, List, [], ◌∷◌, ◌++◌, length, get_or, Option, Some, None, Bool, cond, nat_lt, refl, sym, ◌∙◌, ap, subst, arith, length-append}
+use Rattle.std.specs.Prelude.{is_some, slice_set}
+use Rattle.mal_base.specs.Held.{Line}
+use Rattle.mal_base.specs.declared.verdict.Outcome.{Outcome}
+use Rattle.mal_base.specs.declared.verdict.Outcome.TheVariants.{Ran, Starved, Lost}
+use Rattle.mal_base.specs.declared.verdict.Verdict.{Verdict}
+use Rattle.spec_node.specs.State.{Node}
+use Rattle.spec_search.specs.Slice.{Sliced, slice}
+use Rattle.spec_search.proofs.CountLemmas.{slice-fits}
+use Rattle.spec_proof.specs.Log.{IsLog, IsOrderly}
+use Rattle.spec_proof.proofs.LogLemmas.{log-orderly}
+use Rattle.spec_job.specs.Counts.{runs_in, runs_of, starts_out}
+use Rattle.spec_job.specs.Journal.{JournalEntry, Run, replay}
+use Rattle.spec_job.specs.Journaled.{Journaled, replayed, node_of, and_entries}
+use Rattle.spec_job.specs.Leased.{Finished, HasRun, model_with}
+use Rattle.spec_job.specs.Models.{clauses_of}
+use Rattle.spec_job.specs.Solo.{Own, Opened, Place, Lease, Solo, solo, solo_step, place_at, vacant, first_empty, settled_by}
+use Rattle.spec_job.specs.Solo as own
+use Rattle.spec_job.specs.Viewed.{JobView, IsBack, IsGrownBy, and_own, journal_at}
+use Rattle.spec_job.proofs.CountLemmas.{runs_in-append, runs-set, runs-same}
+use Rattle.spec_job.proofs.DerivingLemmas.{IsRunning}
+use Rattle.spec_job.proofs.RefutingLemmas.{runnable-logs_derived}
+use Rattle.spec_job.proofs.SolvingLemmas.{IsLeased, out-leased}
+use Rattle.mal_job.specs.Asking.{IsAsked, concluded_by, starved_by, settled_with}
+use Rattle.mal_job.specs.Finishing.{MayFinish}
+use Rattle.mal_job.specs.Kept.{IsOwn, IsKept}
+use Rattle.mal_job.specs.Placing.{IsBackAt, IsTree, placed, with_placed, ran_home, came_home, one_more_ran, fresh_place, revision_of, adds_of}
+use Rattle.mal_job.specs.Viewed.{PlaceView, TreeView, LogView, QuestionsView, Parts, place_of, places_of, starts_of, state_of, viewed}
+use Rattle.mal_job.proofs.KeptLemmas.{own-next, own-kept, few-runs, outs-less}
+use Rattle.mal_job.proofs.PartLemmas.{starts-same, journal-same, view-same}
+use Rattle.mal_job.proofs.PlaceLemmas.{placed-at, out-within, out-same, own-at, set-placed, length-filled}
+use Rattle.mal_job.proofs.StateLemmas.{settled-state, with_run, ran-state, starved-state, lost-state}
+
+pub some-is : (o : Option Lease) → is_some o ≡ true → (l : Lease) × (o ≡ Some l)
+some-is (Some l) e = (l, refl)
+some-is None e = absurd (cc)
+
+-- what came back, seen from the place
+pub back-place : (tenant job : List ℕ) (q : Parts) (i : ℕ) (d : Finished) → IsTree q.tree → IsBack (viewed tenant job q) i d → IsBackAt (placed q.tree i) d
+back-place tenant job q i d k b =
+    let out : (placed q.tree i).out ≡ Some b.lease = sym (out-same q.tree.places i 0 0) ∙ b.out in
+    let low : i < length q.tree.places = out-within q.tree.places i 0 0 (ap (λ (o : Option Lease). is_some o) out) in
+    record { lease = b.lease; out = out; journal = subst (λ (j : Journaled). IsGrownBy d.outcome b.lease.adds j d.journal) (journal-same tenant job q i low k) b.journal }
+
+pub place-back : (tenant job : List ℕ) (q : Parts) (i : ℕ) (d : Finished) → IsTree q.tree → IsBackAt (placed q.tree i) d → IsBack (viewed tenant job q) i d
+place-back tenant job q i d k b =
+    let low : i < length q.tree.places = out-within q.tree.places i 0 0 (ap (λ (o : Option Lease). is_some o) b.out) in
+    record { lease = b.lease; out = out-same q.tree.places i 0 0 ∙ b.out; journal = subst (λ (j : Journaled). IsGrownBy d.outcome b.lease.adds j d.journal) (sym (journal-same tenant job q i low k)) b.journal }
+
+-- how what came back ended
+pub back-ran : (p : PlaceView) (d : Finished) → d.outcome ≡ Ran → IsBackAt p d → d.journal ≡ and_entries p.journal (adds_of p.out)
+back-ran p d o b = subst (λ (x : Outcome). IsGrownBy x b.lease.adds p.journal d.journal) o b.journal ∙ ap (λ (x : Option Lease). and_entries p.journal (adds_of x)) (sym b.out)
+
+pub back-starved : (p : PlaceView) (d : Finished) → d.outcome ≡ Starved → IsBackAt p d → d.journal ≡ p.journal
+back-starved p d o b = subst (λ (x : Outcome). IsGrownBy x b.lease.adds p.journal d.journal) o b.journal
+
+settled-log : (o : Option ℕ) (s : Solo) → (settled_by o s).log ≡ s.log
+settled-log None s = refl
+settled-log (Some goal) s = refl
+
+module _ (q : Parts) (i : ℕ) (k : IsKept q) (is_out : is_some (placed q.tree i).out ≡ true) where
+  abbrev p : PlaceView
+  p = placed q.tree i
+
+  abbrev s : Solo
+  s = state_of q
+
+  abbrev l : Lease
+  l = (some-is p.out is_out).0
+
+  out : p.out ≡ Some l
+  out = (some-is p.out is_out).1
+
+  pub low : i < length q.tree.places
+  low = out-within q.tree.places i 0 0 is_out
+
+  there : i < length (places_of q.tree.places)
+  there = omega (arith, low, k.tree.few, length-filled q.tree.places k.tree.few)
+
+  few : i ≤ 63
+  few = omega (arith, low, k.tree.few)
+
+  machine-out : (place_at s i).out ≡ Some l
+  machine-out = out-same q.tree.places i 0 0 ∙ out
+
+  here : place_at s i ≡ place_of p
+  here = placed-at q.tree.places i (fresh_place 0 0) low
+
+  -- the revision of the start is posted
+  pub live : length q.asked.answers ≤ revision_of p.out → length q.asked.answers < length q.asked.revisions
+  live reached =
+      let leased : IsLeased q.asked.revisions (length q.asked.answers) i (place_at s i).entries l = out-leased s i l machine-out (own-kept s k.own).solving in
+      let same : revision_of p.out ≡ l.revision = ap (λ (o : Option Lease). revision_of o) out in
+      omega (arith, same, reached, leased.posted)
+
+  -- few slices were run
+  pub few-ran : q.tree.ran < 2 ^ 31
+  few-ran = omega (arith, k.ran, few-runs q k.own k.asked)
+
+  pub chunk : 1 ≤ q.log.chunk_room
+  chunk =
+      let less : starts_out (slice_set (places_of q.tree.places) i vacant) + 1 ≡ starts_out (places_of q.tree.places) = outs-less (places_of q.tree.places) i vacant there (ap (λ (o : Option Lease). is_some o) machine-out) refl in
+      omega (arith, less, k.chunks)
+
+  running : IsRunning q.asked.revisions q.log.lines i p.journal.entries l
+  running = subst (λ (x : Place). IsRunning q.asked.revisions q.log.lines i x.entries l) here (((own-kept s k.own).derives.tracked i few).running l machine-out)
+
+  abbrev pub x : Sliced
+  x = replay i (p.journal.entries ++ l.adds)
+
+  few-new : length x.lines ≤ 1000
+  few-new = subst (λ (y : Sliced). length y.lines ≤ 1000) (sym running.runs) (slice-fits running.node).few
+
+  -- what came back is the replay
+  pub replay-is : (d : Finished) → d.journal ≡ and_entries p.journal (adds_of p.out) → replayed d.journal ≡ x
+  replay-is d e =
+      let own-index : p.journal.index ≡ i = (own-at q.tree.number q.tree.places 0 i (fresh_place 0 0) low k.tree.own).1 ∙ omega arith in
+      ap (λ (j : Journaled). replayed j) (e ∙ ap (λ (o : Option Lease). and_entries p.journal (adds_of o)) out)
+      ∙ ap (λ (n : ℕ). replay n (p.journal.entries ++ l.adds)) own-index
+
+  pub lines-is : (d : Finished) → d.journal ≡ and_entries p.journal (adds_of p.out) → HasRun d → d.lines ≡ x.lines
+  lines-is d e h = h.lines ∙ ap (λ (y : Sliced). y.lines) (replay-is d e)
+
+  pub countable : (d : Finished) → d.journal ≡ and_entries p.journal (adds_of p.out) → HasRun d → length q.log.lines + length d.lines < 2 ^ 64
+  countable d e h =
+      let same : length d.lines ≡ length x.lines = ap (λ (ls : List Line). length ls) (lines-is d e h) in
+      omega (arith, same, few-new, k.few_lines, few-runs q k.own k.asked)
+
+  -- the job after a start that ran
+  abbrev pub after_run : ℕ → Parts
+  after_run room = let r : Parts = with_run q i l x room in record r { asked = settled_with (first_empty (q.log.lines ++ x.lines)) r.asked }
+
+  run-step : (room : ℕ) → solo_step s (own.Finished i Ran) ≡ state_of (after_run room)
+  run-step room = ran-state q i l low out room ∙ settled-state (with_run q i l x room)
+
+  run-own : (room : ℕ) → IsOwn (state_of (after_run room))
+  run-own room = own-next s (state_of (after_run room)) (own.Finished i Ran) k.own tt refl (run-step room)
+
+  pub orderly : (d : Finished) → d.journal ≡ and_entries p.journal (adds_of p.out) → HasRun d → IsOrderly (q.log.lines ++ d.lines)
+  orderly d e h =
+      let o : IsOwn (state_of (after_run 0)) = run-own 0 in
+      let derived : IsLog (clauses_of (solo (Opened o.ask ∷ o.own)).revisions) (solo (Opened o.ask ∷ o.own)).log = runnable-logs_derived (Opened o.ask ∷ o.own) o.once.runnable in
+      let all : IsLog (clauses_of (state_of (after_run 0)).revisions) (q.log.lines ++ x.lines) = subst (λ (y : Solo). IsLog (clauses_of y.revisions) y.log) (sym o.is) derived in
+      subst (λ (ls : List Line). IsOrderly (q.log.lines ++ ls)) (sym (lines-is d e h)) (log-orderly (clauses_of (state_of (after_run 0)).revisions) (q.log.lines ++ x.lines) all)
+
+  more-runs : runs_of (places_of (slice_set q.tree.places i (ran_home p))) ≡ runs_of (places_of q.tree.places) + runs_in l.adds
+  more-runs =
+      let entries : p.journal.entries ++ adds_of p.out ≡ p.journal.entries ++ l.adds = ap (λ (o : Option Lease). p.journal.entries ++ adds_of o) out in
+      let sum : runs_in (place_of (ran_home p)).entries ≡ runs_in (place_at s i).entries + runs_in l.adds = ap (λ (es : List JournalEntry). runs_in es) entries ∙ (runs_in-append p.journal.entries l.adds ∙ ap (λ (y : Place). runs_in y.entries + runs_in l.adds) (sym here)) in
+      ap (λ (ps : List Place). runs_of ps) (sym (set-placed q.tree.places i (ran_home p) low)) ∙ runs-set (places_of q.tree.places) i (runs_in l.adds) (place_of (ran_home p)) there sum
+
+  some-runs : 1 ≤ runs_in l.adds
+  some-runs =
+      let all : runs_in l.adds ≡ runs_in running.before + 1 = ap (λ (es : List JournalEntry). runs_in es) running.adds ∙ runs_in-append running.before (Run ∷ []) in
+      omega (arith, all)
+
+  -- one start less is out
+  outs : (y : PlaceView) → y.out ≡ None → starts_out (places_of (slice_set q.tree.places i y)) + 1 ≡ starts_out (places_of q.tree.places)
+  outs y none = ap (λ (ps : List Place). starts_out ps + 1) (sym (set-placed q.tree.places i y low)) ∙ outs-less (places_of q.tree.places) i (place_of y) there (ap (λ (o : Option Lease). is_some o) machine-out) none
+
+  -- what is kept after a start that ran
+  module _ (d : Finished) (e : d.journal ≡ and_entries p.journal (adds_of p.out)) (h : HasRun d) (asked : QuestionsView) (tree : TreeView) (log : LogView) (a : asked ≡ settled_with (first_empty log.lines) (concluded_by (revision_of p.out) d.verdict d.model q.asked)) (t : tree ≡ one_more_ran (with_placed q.tree i (ran_home p))) (ls : log.lines ≡ q.log.lines ++ d.lines) (room : log.chunk_room + 1 ≡ q.log.chunk_room) where
+    verdict-is : d.verdict ≡ x.node.verdict
+    verdict-is = h.verdict ∙ ap (λ (y : Sliced). y.node.verdict) (replay-is d e)
+
+    model-is : d.model ≡ model_with x.node.verdict x.node
+    model-is = h.model ∙ (ap (λ (v : Option Verdict). model_with v (node_of d.journal)) verdict-is ∙ ap (λ (y : Sliced). model_with x.node.verdict y.node) (replay-is d e))
+
+    lines-all : log.lines ≡ q.log.lines ++ x.lines
+    lines-all = ls ∙ ap (λ (ys : List Line). q.log.lines ++ ys) (lines-is d e h)
+
+    log-is : log ≡ record { lines = q.log.lines ++ x.lines; chunk_room = log.chunk_room }
+    log-is = ap (λ (ys : List Line). let y : LogView = record { lines = ys; chunk_room = log.chunk_room } in y) lines-all
+
+    asked-is : asked ≡ (after_run log.chunk_room).asked
+    asked-is =
+        a
+        ∙ (ap (λ (ys : List Line). settled_with (first_empty ys) (concluded_by (revision_of p.out) d.verdict d.model q.asked)) lines-all
+        ∙ (ap (λ (o : Option Lease). settled_with (first_empty (q.log.lines ++ x.lines)) (concluded_by (revision_of o) d.verdict d.model q.asked)) out
+        ∙ (ap (λ (v : Option Verdict). settled_with (first_empty (q.log.lines ++ x.lines)) (concluded_by l.revision v d.model q.asked)) verdict-is
+        ∙ ap (λ (m : List Bool). settled_with (first_empty (q.log.lines ++ x.lines)) (concluded_by l.revision x.node.verdict m q.asked)) model-is)))
+
+    abbrev r : Parts
+    r = record { asked = asked; tree = tree; log = log }
+
+    same : r ≡ after_run log.chunk_room
+    same = ap (λ (y : QuestionsView). let z : Parts = record { asked = y; tree = tree; log = log } in z) asked-is ∙ (ap (λ (y : TreeView). let z : Parts = record { asked = (after_run log.chunk_room).asked; tree = y; log = log } in z) t ∙ ap (λ (y : LogView). let z : Parts = record { asked = (after_run log.chunk_room).asked; tree = one_more_ran (with_placed q.tree i (ran_home p)); log = y } in z) log-is)
+
+    pub ran-view : (tenant job : List ℕ) → viewed tenant job r ≡ and_own (viewed tenant job q) (own.Finished i Ran)
+    ran-view tenant job = ap (λ (y : Parts). viewed tenant job y) same ∙ view-same tenant job q.tree.number q.tree.number (state_of (after_run log.chunk_room)) (solo_step s (own.Finished i Ran)) (starts_of (slice_set q.tree.places i (ran_home p))) (starts_of q.tree.places) refl (sym (run-step log.chunk_room)) (starts-same q.tree.places i (fresh_place 0 0) (ran_home p) low refl)
+
+    pub ran-kept : IsAsked asked → IsTree tree → IsKept r
+    ran-kept ha ht =
+        let places : places_of tree.places ≡ places_of (slice_set q.tree.places i (ran_home p)) = ap (λ (y : TreeView). places_of y.places) t in
+        let runs : runs_of (places_of tree.places) ≡ runs_of (places_of q.tree.places) + runs_in l.adds = ap (λ (ps : List Place). runs_of ps) places ∙ more-runs in
+        let less : starts_out (places_of tree.places) + 1 ≡ starts_out (places_of q.tree.places) = ap (λ (ps : List Place). starts_out ps + 1) places ∙ outs (ran_home p) refl in
+        let long : length log.lines ≡ length q.log.lines + length x.lines = ap (λ (ys : List Line). length ys) lines-all ∙ length-append q.log.lines x.lines in
+        let count : tree.ran ≡ q.tree.ran + 1 = ap (λ (y : TreeView). y.ran) t in
+        record {
+          own = subst (λ (y : Parts). IsOwn (state_of y)) (sym same) (run-own log.chunk_room);
+          asked = ha;
+          tree = ht;
+          ran = omega (arith, count, runs, some-runs, k.ran);
+          few_lines = omega (arith, long, runs, some-runs, few-new, k.few_lines);
+          chunks = omega (arith, less, room, k.chunks);
+        }
+
+  -- the job after a start that came to nothing
+  module _ (o : Outcome) (asked : QuestionsView) (tree : TreeView) (t : tree ≡ with_placed q.tree i (came_home p)) (step : solo_step s (own.Finished i o) ≡ state_of (record { asked = asked; tree = with_placed q.tree i (came_home p); log = q.log })) where
+    abbrev home : Parts
+    home = record { asked = asked; tree = tree; log = q.log }
+
+    home-state : solo_step s (own.Finished i o) ≡ state_of home
+    home-state = step ∙ ap (λ (y : TreeView). state_of (record { asked = asked; tree = y; log = q.log })) (sym t)
+
+    pub home-view : (tenant job : List ℕ) → viewed tenant job home ≡ and_own (viewed tenant job q) (own.Finished i o)
+    home-view tenant job = view-same tenant job tree.number q.tree.number (state_of home) (solo_step s (own.Finished i o)) (starts_of tree.places) (starts_of q.tree.places) (ap (λ (y : TreeView). y.number) t) (sym home-state) (ap (λ (y : TreeView). starts_of y.places) t ∙ starts-same q.tree.places i (fresh_place 0 0) (came_home p) low refl)
+
+    pub home-kept : IsAsked asked → IsTree tree → IsKept home
+    home-kept ha ht =
+        let places : places_of tree.places ≡ places_of (slice_set q.tree.places i (came_home p)) = ap (λ (y : TreeView). places_of y.places) t in
+        let runs : runs_of (places_of tree.places) ≡ runs_of (places_of q.tree.places) = ap (λ (ps : List Place). runs_of ps) (places ∙ sym (set-placed q.tree.places i (came_home p) low)) ∙ runs-same (places_of q.tree.places) i (place_of (came_home p)) (ap (λ (y : Place). y.entries) (sym here)) in
+        let less : starts_out (places_of tree.places) + 1 ≡ starts_out (places_of q.tree.places) = ap (λ (ps : List Place). starts_out ps + 1) places ∙ outs (came_home p) refl in
+        let count : tree.ran ≡ q.tree.ran = ap (λ (y : TreeView). y.ran) t in
+        record {
+          own = own-next s (state_of home) (own.Finished i o) k.own tt refl home-state;
+          asked = ha;
+          tree = ht;
+          ran = omega (arith, count, runs, k.ran);
+          few_lines = omega (arith, runs, k.few_lines);
+          chunks = omega (arith, less, k.chunks);
+        }
+
+  pub starved-step : (asked : QuestionsView) → asked ≡ settled_with (first_empty q.log.lines) (starved_by (revision_of p.out) q.asked) → solo_step s (own.Finished i Starved) ≡ state_of (record { asked = asked; tree = with_placed q.tree i (came_home p); log = q.log })
+  starved-step asked a =
+      starved-state q i l low out
+      ∙ (settled-state (record q { asked = starved_by l.revision q.asked; tree = with_placed q.tree i (came_home p) })
+      ∙ ap (λ (y : QuestionsView). state_of (record { asked = y; tree = with_placed q.tree i (came_home p); log = q.log })) (ap (λ (z : Option Lease). settled_with (first_empty q.log.lines) (starved_by (revision_of z) q.asked)) (sym out) ∙ sym a))
+
+  pub lost-step : (asked : QuestionsView) → asked ≡ settled_with (first_empty q.log.lines) q.asked → solo_step s (own.Finished i Lost) ≡ state_of (record { asked = asked; tree = with_placed q.tree i (came_home p); log = q.log })
+  lost-step asked a =
+      lost-state q i l low out
+      ∙ (settled-state (record q { tree = with_placed q.tree i (came_home p) })
+      ∙ ap (λ (y : QuestionsView). state_of (record { asked = y; tree = with_placed q.tree i (came_home p); log = q.log })) (sym a))

@@ -1,0 +1,56 @@
+use Rattle.std.specs.Prelude.{ℕ, ◌+◌, ◌-◌, ◌<◌, ◌≤◌, ◌^◌, ◌==◌, nat_lt, Bool, List, [], ◌∷◌, ◌++◌, length, replicate, Option, Some, None, if◌then◌else◌}
+use Rattle.mal_base.specs.declared.answer.Answer.{Answer}
+use Rattle.mal_base.specs.declared.answer.Answer.TheVariants.{Satisfied, Refuted, Spent, OutOfStarts}
+use Rattle.mal_base.specs.declared.verdict.Verdict.{Verdict}
+use Rattle.mal_base.specs.declared.verdict.Verdict.TheVariants.{Satisfiable, Unsatisfiable}
+use Rattle.mal_revision.specs.Posted.{Posted}
+use Rattle.spec_job.specs.Solo.{clauses_in}
+use Rattle.mal_job.specs.Viewed.{QuestionsView}
+
+-- one revision more
+abbrev pub and_revision : QuestionsView → Posted → QuestionsView
+and_revision q r = record q { revisions = q.revisions ++ r ∷ [] }
+
+-- the current revision is answered
+abbrev pub replied : QuestionsView → Answer → QuestionsView
+replied q a = record q { answers = q.answers ++ a ∷ []; spent = 0; starved = 0 }
+
+-- a slice that answers nothing counts as spent, and the last of the budget answers unknown
+abbrev pub spent_once : QuestionsView → QuestionsView
+spent_once q = if q.spent + 1 == q.ask.slices then replied q (Spent q.ask.slices) else record q { spent = q.spent + 1 }
+
+-- what a verdict answers with the model that goes with it
+abbrev pub answer_by : Verdict → List Bool → Answer
+answer_by Satisfiable model = Satisfied model
+answer_by (Unsatisfiable goal) model = Refuted goal
+
+-- a slice ended with this verdict and the model that goes with it
+abbrev pub concluded : Option Verdict → List Bool → QuestionsView → QuestionsView
+concluded None model q = spent_once q
+concluded (Some v) model q = replied q (answer_by v model)
+
+-- the third start of a revision that wanted for memory answers unknown
+abbrev pub starved_once : QuestionsView → QuestionsView
+starved_once q = if q.starved + 1 == 3 then replied q OutOfStarts else record q { starved = q.starved + 1 }
+
+-- a slice for this revision ended with this verdict: where the revision has its answer it came late and answers nothing
+abbrev pub concluded_by : ℕ → Option Verdict → List Bool → QuestionsView → QuestionsView
+concluded_by revision verdict model q = if nat_lt revision (length q.answers) then q else concluded verdict model q
+
+-- a start for this revision wanted for memory: where the revision has its answer it is not counted
+abbrev pub starved_by : ℕ → QuestionsView → QuestionsView
+starved_by revision q = if nat_lt revision (length q.answers) then q else starved_once q
+
+-- the number of an empty clause answers every revision without an answer
+abbrev pub settled_with : Option ℕ → QuestionsView → QuestionsView
+settled_with None q = q
+settled_with (Some goal) q = record q { answers = q.answers ++ replicate (length q.revisions - length q.answers) (Refuted goal); spent = 0; starved = 0 }
+
+-- the counts of what was asked are within their bounds
+pub record IsAsked (q : QuestionsView) : Type 0 where
+  pub left : q.spent < q.ask.slices
+  pub few_slices : q.ask.slices ≤ 4096
+  pub few_starved : q.starved ≤ 2
+  pub order : length q.answers ≤ length q.revisions
+  pub few : length q.revisions ≤ 256
+  pub clauses : clauses_in q.revisions ≤ 2 ^ 20

@@ -1,0 +1,89 @@
+//! The log of a job.
+
+ghost use Rattle.std.specs.Prelude.{◌≡◌, ◌+◌, ◌<◌, ◌≤◌, ◌^◌, [], ◌++◌, length, OnOk};
+ghost use Rattle.spec_proof.specs.Log.{IsOrderly};
+ghost use Rattle.spec_job.specs.Solo.{first_empty};
+
+use mal_base::{ClauseId, Lines};
+use mal_proof::Log;
+use std::alloc::{AllocError, Global};
+use std::marker::Model;
+
+/// The derived lines of a job, with the number of the first empty clause among them.
+#[derive(Drop)]
+pub struct Derivation {
+    log: Log,
+    empty: Option<ClauseId>,
+}
+
+impl Model for Derivation {
+    ghost use Rattle.std.specs.Prelude.{◌≡◌};
+    ghost use Rattle.spec_job.specs.Solo.{first_empty};
+    ghost use Rattle.mal_job.specs.Viewed.{LogView};
+
+    ghost Value = { LogView };
+
+    ghost view = { λ d. record { lines = d.log.lines; chunk_room = d.log.chunk_room } };
+
+    ghost invariant = { λ d. d.empty ≡ first_empty d.log.lines };
+}
+
+impl Derivation {
+    /// No lines. Takes no memory.
+    pub fn new(alloc: Global) -> Derivation
+        ensures { result.lines ≡ [] }
+    {
+        Derivation {
+            log: Log::new(alloc),
+            empty: None,
+        }
+    }
+
+    /// The lines.
+    pub fn log(&self) -> &Log
+        ensures { result.now.lines ≡ self.now.lines }
+    {
+        &self.log
+    }
+
+    /// The number of the first empty clause.
+    pub fn empty(&self) -> Option<ClauseId>
+        ensures { result ≡ first_empty self.now.lines }
+    {
+        self.empty
+    }
+
+    /// Makes room for the lines of so many slices.
+    pub fn reserve(&mut self, slices: usize) -> Result<(), AllocError>
+        ensures lines { self.new.lines ≡ self.old.lines }
+        ensures room { OnOk result (slices ≤ self.new.chunk_room) }
+        ensures more { self.old.chunk_room ≤ self.new.chunk_room }
+    {
+        self.log.reserve_chunks(slices)
+    }
+
+    /// Puts the lines of a slice behind the others, for which there is room. With those before them they have numbers of derived
+    /// clauses, each once and above all its hints. Takes no memory.
+    pub fn append(&mut self, lines: Lines)
+        requires room { 1 ≤ self.old.chunk_room }
+        requires countable { length self.old.lines + length lines.lines < 2 ^ 64 }
+        requires orderly { IsOrderly (self.old.lines ++ lines.lines) }
+        ensures lines { self.new.lines ≡ self.old.lines ++ lines.lines }
+        ensures less { self.new.chunk_room + 1 ≡ self.old.chunk_room }
+    {
+        self.empty = self.empty.or(empty_among(&lines));
+        self.log.append_chunk(lines);
+    }
+}
+
+/// The number of the first of these lines that is empty.
+fn empty_among(lines: &Lines) -> Option<ClauseId>
+    ensures { result ≡ first_empty lines.now.lines }
+{
+    for n in 0..lines.count() {
+        if lines.lits(n).is_empty() {
+            return Some(lines.id(n));
+        }
+    }
+    None
+}

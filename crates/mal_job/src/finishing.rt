@@ -1,0 +1,84 @@
+//! How a start ends that came back.
+
+ghost use Rattle.std.specs.Prelude.{◌≡◌, ◌+◌, ◌<◌, ◌≤◌, ◌^◌, true, ◌++◌, length, is_some};
+ghost use Rattle.mal_base.specs.declared.verdict.Outcome.TheVariants.{Ran};
+ghost use Rattle.spec_proof.specs.Log.{IsOrderly};
+ghost use Rattle.spec_job.specs.Journaled.{and_entries};
+ghost use Rattle.spec_job.specs.Solo.{first_empty};
+ghost use Rattle.mal_job.specs.Asking.{IsAsked, concluded_by, starved_by, settled_with};
+ghost use Rattle.mal_job.specs.Placing.{IsTree, placed, with_placed, ran_home, came_home, one_more_ran, revision_of, adds_of};
+
+use crate::derivation::Derivation;
+use crate::questions::Questions;
+use crate::tree::Tree;
+use mal_suspend::Done;
+
+/// Ends a start that ran: the node comes home with its journal, the lines enter the log, and unless the revision of the start has
+/// its answer, the slice answers it or counts as spent. Takes no memory.
+pub fn finish_run(
+    questions: &mut Questions,
+    tree: &mut Tree,
+    log: &mut Derivation,
+    index: u32,
+    back: Done,
+)
+    requires ran { back.outcome ≡ Ran }
+    requires out { is_some (placed tree.old index).out ≡ true }
+    requires back { back.journal ≡ and_entries (placed tree.old index).journal (adds_of (placed tree.old index).out) }
+    requires few { tree.old.ran < 2 ^ 31 }
+    requires live { length questions.old.answers ≤ revision_of (placed tree.old index).out → length questions.old.answers < length questions.old.revisions }
+    requires room { 1 ≤ log.old.chunk_room }
+    requires countable { length log.old.lines + length back.lines < 2 ^ 64 }
+    requires orderly { IsOrderly (log.old.lines ++ back.lines) }
+    ensures tree { tree.new ≡ one_more_ran (with_placed tree.old index (ran_home (placed tree.old index))) }
+    ensures questions { questions.new ≡ settled_with (first_empty log.new.lines) (concluded_by (revision_of (placed tree.old index).out) back.verdict back.model questions.old) }
+    ensures log { log.new.lines ≡ log.old.lines ++ back.lines }
+    ensures less { log.new.chunk_room + 1 ≡ log.old.chunk_room }
+    ensures asked { IsAsked questions.new }
+    ensures kept { IsTree tree.new }
+{
+    let verdict = back.verdict();
+    let (kept, lines, model) = back.into_parts();
+    let revision = tree.come_back(index, kept);
+    log.append(lines);
+    if questions.answers().len() <= revision {
+        questions.conclude(verdict, model);
+    }
+    questions.settle(log.empty());
+}
+
+/// Ends a start that wanted for memory: the node comes home as it was, and unless the revision of the start has its answer, the
+/// start is counted. Takes no memory.
+pub fn finish_starved(
+    questions: &mut Questions,
+    tree: &mut Tree,
+    log: &Derivation,
+    index: u32,
+    back: Done,
+)
+    requires out { is_some (placed tree.old index).out ≡ true }
+    requires back { back.journal ≡ (placed tree.old index).journal }
+    requires live { length questions.old.answers ≤ revision_of (placed tree.old index).out → length questions.old.answers < length questions.old.revisions }
+    ensures tree { tree.new ≡ with_placed tree.old index (came_home (placed tree.old index)) }
+    ensures questions { questions.new ≡ settled_with (first_empty log.now.lines) (starved_by (revision_of (placed tree.old index).out) questions.old) }
+    ensures asked { IsAsked questions.new }
+    ensures kept { IsTree tree.new }
+{
+    let revision = tree.come_home(index, back.into_kept());
+    if questions.answers().len() <= revision {
+        questions.starve();
+    }
+    questions.settle(log.empty());
+}
+
+/// Ends a start that is lost: the node is gone. Takes no memory.
+pub fn finish_lost(questions: &mut Questions, tree: &mut Tree, log: &Derivation, index: u32)
+    requires out { is_some (placed tree.old index).out ≡ true }
+    ensures tree { tree.new ≡ with_placed tree.old index (came_home (placed tree.old index)) }
+    ensures questions { questions.new ≡ settled_with (first_empty log.now.lines) questions.old }
+    ensures asked { IsAsked questions.new }
+    ensures kept { IsTree tree.new }
+{
+    tree.lose(index);
+    questions.settle(log.empty());
+}

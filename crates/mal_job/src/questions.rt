@@ -1,0 +1,228 @@
+//! What was asked of a job, and what was answered.
+
+ghost use Rattle.std.specs.Prelude.{◌≡◌, ◌+◌, ◌-◌, ◌<◌, ◌≤◌, ◌^◌, [], ◌++◌, true, false, length, replicate, vec_len, vec_capacity, OnOk, OnErr};
+ghost use Rattle.mal_base.specs.declared.answer.Answer.TheVariants.{Refuted};
+ghost use Rattle.spec_job.specs.Solo.{clauses_in};
+ghost use Rattle.mal_job.specs.Viewed.{shared};
+ghost use Rattle.mal_job.specs.Asking.{IsAsked, and_revision, replied, answer_by, spent_once, concluded, starved_once, settled_with};
+
+use mal_base::{Answer, Ask, ClauseId, Values, Verdict};
+use mal_revision::Revision;
+use std::alloc::{AllocError, Global};
+use std::marker::Model;
+use std::sync::Arc;
+
+/// Three starts of a revision that wanted for memory answer it.
+const MOST_STARVED: u32 = 3;
+
+/// The ask of a job, whether it was closed, its revisions with their answers, and how many slices the current revision has spent
+/// and how many of its starts wanted for memory. There is room for each answer that is owed.
+#[derive(Drop)]
+pub struct Questions {
+    ask: Ask,
+    closed: bool,
+    revisions: Vec<Arc<Revision>>,
+    answers: Vec<Answer>,
+    spent: u32,
+    starved: u32,
+}
+
+impl Model for Questions {
+    ghost use Rattle.std.specs.Prelude.{◌≤◌, length, vec_capacity};
+    ghost use Rattle.mal_job.specs.Viewed.{QuestionsView, shared};
+    ghost use Rattle.mal_job.specs.Asking.{IsAsked};
+
+    ghost Value = { QuestionsView };
+
+    ghost view = { λ q. record {
+      ask = q.ask;
+      closed = q.closed;
+      revisions = shared q.revisions.items;
+      answers = q.answers.items;
+      spent = q.spent;
+      starved = q.starved;
+    } };
+
+    ghost invariant = { λ q. IsAsked (record {
+      ask = q.ask;
+      closed = q.closed;
+      revisions = shared q.revisions.items;
+      answers = q.answers.items;
+      spent = q.spent;
+      starved = q.starved;
+    }) × (length q.revisions.items ≤ vec_capacity q.answers) };
+}
+
+impl Questions {
+    /// Nothing but an ask. Takes no memory.
+    pub fn fresh(alloc: Global, ask: Ask) -> Questions
+        ensures value { result ≡ record { ask = ask; closed = false; revisions = []; answers = []; spent = 0; starved = 0 } }
+        ensures kept { IsAsked result }
+    {
+        let _ = ask.slices();
+        Questions {
+            ask,
+            closed: false,
+            revisions: Vec::new(alloc),
+            answers: Vec::new(alloc),
+            spent: 0,
+            starved: 0,
+        }
+    }
+
+    /// What the job asks for.
+    pub fn ask(&self) -> Ask
+        ensures { result ≡ self.now.ask }
+    {
+        self.ask
+    }
+
+    /// Whether the job was closed.
+    pub fn is_closed(&self) -> bool
+        ensures { result ≡ self.now.closed }
+    {
+        self.closed
+    }
+
+    /// The revisions, in the order in which they were posted.
+    pub fn revisions(&self) -> &[Arc<Revision>]
+        ensures value { shared result.now ≡ self.now.revisions }
+        ensures kept { IsAsked self.now }
+    {
+        self.revisions.as_slice()
+    }
+
+    /// The answers, in the order of the revisions.
+    pub fn answers(&self) -> &[Answer]
+        ensures value { result.now ≡ self.now.answers }
+        ensures kept { IsAsked self.now }
+    {
+        self.answers.as_slice()
+    }
+
+    /// How many slices the current revision has spent.
+    pub fn spent(&self) -> u32
+        ensures value { result ≡ self.now.spent }
+        ensures kept { IsAsked self.now }
+    {
+        self.spent
+    }
+
+    /// The allocator that these take memory from.
+    pub fn allocator(&self) -> Global {
+        *self.answers.allocator()
+    }
+
+    /// Closes the job.
+    pub fn close(&mut self)
+        ensures { self.new ≡ record self.old { closed = true } }
+    {
+        self.closed = true;
+    }
+
+    /// Posts a revision, and makes room for its answer. It is answered at once where there is the number of an empty clause.
+    /// After want of memory all is as before.
+    pub fn revise(&mut self, revision: Revision, goal: Option<ClauseId>) -> Result<(), AllocError>
+        requires few { length self.old.revisions < 256 }
+        requires clauses { clauses_in self.old.revisions + length revision.clauses ≤ 2 ^ 20 }
+        ensures ok { OnOk result (self.new ≡ settled_with goal (and_revision self.old revision)) }
+        ensures err { OnErr result (self.new ≡ self.old) }
+        ensures kept { IsAsked self.new }
+    {
+        let alloc = self.allocator();
+        let posted = Arc::new(alloc, revision)?;
+        let unanswered = self.revisions.len() - self.answers.len();
+        self.answers.reserve(unanswered + 1)?;
+        self.revisions.push(posted)?;
+        self.settle(goal);
+        Ok(())
+    }
+
+    /// A slice of the current revision ended with this verdict and the model that goes with it: they answer it, or the slice counts
+    /// as spent. Takes no memory.
+    pub fn conclude(&mut self, verdict: Option<Verdict>, model: Values)
+        requires live { length self.old.answers < length self.old.revisions }
+        ensures value { self.new ≡ concluded verdict model self.old }
+        ensures kept { IsAsked self.new }
+    {
+        match verdict {
+            None => self.spend(),
+            Some(verdict) => self.reply(answer_of(verdict, model)),
+        }
+    }
+
+    /// Answers the current revision.
+    fn reply(&mut self, answer: Answer)
+        requires live { length self.old.answers < length self.old.revisions }
+        ensures value { self.new ≡ replied self.old answer }
+        ensures kept { IsAsked self.new }
+    {
+        self.answers.push_reserved(answer);
+        self.spent = 0;
+        self.starved = 0;
+    }
+
+    /// Counts a slice that answers nothing as spent; the last of the budget answers unknown.
+    fn spend(&mut self)
+        requires live { length self.old.answers < length self.old.revisions }
+        ensures value { self.new ≡ spent_once self.old }
+        ensures kept { IsAsked self.new }
+    {
+        let slices = self.ask.slices();
+        if self.spent + 1 == slices {
+            self.reply(Answer::Spent(slices));
+        } else {
+            self.spent += 1;
+        }
+    }
+
+    /// A start of the current revision wanted for memory: the third one answers unknown. Takes no memory.
+    pub fn starve(&mut self)
+        requires live { length self.old.answers < length self.old.revisions }
+        ensures value { self.new ≡ starved_once self.old }
+        ensures kept { IsAsked self.new }
+    {
+        if self.starved + 1 == MOST_STARVED {
+            self.reply(Answer::OutOfStarts);
+        } else {
+            self.starved += 1;
+        }
+    }
+
+    /// Answers each revision that has no answer by the number of an empty clause, where there is one. Takes no memory.
+    pub fn settle(&mut self, goal: Option<ClauseId>)
+        ensures value { self.new ≡ settled_with goal self.old }
+        ensures kept { IsAsked self.new }
+    {
+        match goal {
+            None => {}
+            Some(goal) => {
+                let unanswered = self.revisions.len() - self.answers.len();
+                refute(goal, unanswered, &mut self.answers);
+                self.spent = 0;
+                self.starved = 0;
+            }
+        }
+    }
+}
+
+/// The answer of a verdict with the model that goes with it.
+fn answer_of(verdict: Verdict, model: Values) -> Answer
+    ensures { result ≡ answer_by verdict model }
+{
+    match verdict {
+        Verdict::Satisfiable => Answer::Satisfied(model),
+        Verdict::Unsatisfiable { goal } => Answer::Refuted { goal },
+    }
+}
+
+/// Answers so many revisions by one goal. Takes no memory.
+fn refute(goal: ClauseId, unanswered: usize, answers: &mut Vec<Answer>)
+    requires { vec_len answers.old + unanswered ≤ vec_capacity answers.old }
+    ensures answers { answers.new.items ≡ answers.old.items ++ replicate unanswered (Refuted goal) }
+    ensures room { vec_capacity answers.new ≡ vec_capacity answers.old }
+{
+    for _made in 0..unanswered {
+        answers.push_reserved(Answer::Refuted { goal });
+    }
+}
