@@ -1,10 +1,12 @@
-use Rattle.std.proofs.Common.{◌≡◌, ℕ, ◌+◌, ◌-◌, ◌<◌, ◌≤◌, true, false, List, [], ◌∷◌, ◌++◌, map, length, get_or, slice_get, slice_set, suc, Bool, cond, Option, Some, None, option_map, is_some, refl, sym, ◌∙◌, ap, subst, arith, append_assoc}
+use Rattle.std.proofs.Common.{◌≡◌, ℕ, zero, ◌+◌, ◌-◌, ◌<◌, ◌≤◌, true, false, List, [], ◌∷◌, ◌++◌, map, length, get_or, slice_get, slice_set, suc, Bool, cond, Option, Some, None, option_map, is_some, refl, sym, ◌∙◌, ap, subst, arith, append-nil}
+use Rattle.std.specs.Prelude.{count_by, replicate, not}
 use Rattle.std.specs.Option.{option_map_or}
-use Rattle.std.proofs.lemmas.List.{map-append}
-use Rattle.std.proofs.lemmas.Option.{slice_get_read}
+use Rattle.std.proofs.lemmas.List.{map-append, map-set}
+use Rattle.std.proofs.lemmas.List.Sums.{sum_by-cons}
+use Rattle.std.proofs.lemmas.Option.{slice_get_read, slice_get-map}
 use Rattle.mal_base.specs.Asks.{Terms, IsAsk}
 use Rattle.mal_base.specs.Names.{is_name}
-use Rattle.mal_base.specs.declared.verdict.Outcome.TheVariants.{Ran}
+use Rattle.mal_base.specs.declared.verdict.Outcome.{Outcome}
 use Rattle.mal_history.specs.declared.event.Event as written
 use Rattle.mal_history.specs.declared.event.Event.TheVariants as of
 use Rattle.mal_history.specs.Written.{Written}
@@ -13,85 +15,159 @@ use Rattle.spec_balance.specs.Fair.{IsFair}
 use Rattle.spec_job.specs.Models.{AnswersSolve}
 use Rattle.spec_job.specs.Proofs.{AnswersRefute}
 use Rattle.spec_job.specs.Provenance.{ClausesAreOwn}
-use Rattle.spec_job.specs.Solo.{Solo, Revised, Closed, Started, Finished, Exchanged, solo, solo_step}
+use Rattle.spec_job.specs.Solo.{Own, Solo, Revised, Closed, Started, Finished, Exchanged, solo, solo_step}
 use Rattle.spec_job.specs.Titled.{Key, Titled, stepped}
-use Rattle.spec_job.proofs.StepLemmas.{finish-keeps}
+use Rattle.spec_job.specs.Viewed.{JobView, and_own, and_start}
+use Rattle.spec_job.proofs.StepLemmas.{finish-keeps, start-keeps}
 use Rattle.spec_hall.specs.Events.{Event, Open, Revise, Close, Balance, Start, Finish, Exchange, bare}
+use Rattle.spec_hall.specs.Calls.{AnswerTo, Call, HasCalled, IsCall}
 use Rattle.spec_hall.specs.Dressed.{dressed}
+use Rattle.spec_hall.specs.Leases.{start_number, starts_in}
 use Rattle.spec_hall.specs.Own.{own, is_key}
-use Rattle.spec_hall.specs.States.{Candidate, keys_of, states, live_asks, titled}
-use Rattle.spec_hall.specs.Legal.{MayOpen, MayRevise, MayClose, job_of, jobs_of, tenant_count}
-use Rattle.spec_hall.specs.Seats.{Seat, IsSeated, jobs_in, place_of, first_exchange, is_due, opened_seat, shares_by, balanced_by}
+use Rattle.spec_hall.specs.States.{Candidate, Held, keys_of, states, live_asks, titled, leases, lease_of}
+use Rattle.spec_hall.specs.Legal.{Allowed, MayOpen, MayRevise, MayClose, job_of, jobs_of, tenant_count}
+use Rattle.spec_hall.specs.Room.{HasRoomFor}
+use Rattle.spec_hall.specs.Seats.{Seat, IsSeated, jobs_in, place_of, first_exchange, is_due, opened_seat, shares_by, balanced_seat, balanced_from, balanced_by, is_live_seat}
+use Rattle.spec_hall.specs.Spots.{Spot, Tag, AreSpots, tag_of, tags_of}
 use Rattle.spec_hall.proofs.DressedLemmas.{seated-dressed}
 use Rattle.spec_hall.proofs.BalanceLemmas.{seated-balance}
-use Rattle.spec_hall.proofs.ExchangeLemmas.{seated-exchange}
+use Rattle.spec_hall.proofs.TouchLemmas.{exchange-touches}
 use Rattle.spec_hall.proofs.PlaceLemmas.{seated-found, seated-absent, placed-within}
+use Rattle.spec_hall.proofs.PushLemmas.{leases-push}
 use Rattle.spec_hall.proofs.RunnableLemmas.{find-titled, legal-answers_solve, legal-answers_refute, legal-clauses_own}
-use Rattle.spec_hall.proofs.SeatLemmas.{seated-none, seated-open, seated-revise, seated-close}
-use Rattle.spec_hall.proofs.SliceLemmas.{IsNext, seated-slice}
+use Rattle.spec_hall.proofs.SeatLemmas.{reseated, seats-touch, seated-none, seated-open, seated-revise, seated-close, seated-start, seated-finish}
+use Rattle.spec_hall.proofs.SpotLemmas.{and_started, numbered-push, starts-push, spots-stay, spots-open, spots-start, spots-finish, spots-none}
 use Rattle.spec_hall.proofs.VolumeLemmas.{revise-keeps}
-use Rattle.mal_hall.specs.Room.{HasRoomFor}
-use Rattle.mal_hall.specs.Seen.{IsHall, events_of, unclosed_in, next_number}
+use Rattle.mal_hall.specs.Seen.{Inside, IsHall, events_in, events_of, out_in, unclosed_in, next_number}
 use Rattle.mal_hall.proofs.KeptLemmas.{first_of, tenants-push, tenants-set, tenants-balanced, unclosed-open, unclosed-same, unclosed-closed, unclosed-balanced}
 
 -- the events of a hall are its past
-pub hall-events : (h : Written) (ss : List Seat) (u n : ℕ) (hall : IsHall h ss u n) → events_of h.events ss ≡ hall.past
-hall-events h ss u n hall = ap (map (dressed (jobs_in ss))) hall.written ∙ seated-dressed h.workers hall.past ss hall.seated
+pub hall-events : (x : Inside) (hall : IsHall x) → events_in x ≡ hall.past
+hall-events x hall = ap (map (dressed (jobs_in x.seats))) hall.written ∙ seated-dressed x.history.workers hall.past x.seats hall.seated
 
 -- the jobs of a hall are those of its events
-pub hall-seated : (h : Written) (ss : List Seat) (u n : ℕ) → IsHall h ss u n → IsSeated h.workers (events_of h.events ss) ss
-hall-seated h ss u n hall = subst (λ (es : List Event). IsSeated h.workers es ss) (sym (hall-events h ss u n hall)) hall.seated
+pub hall-seated : (x : Inside) → IsHall x → IsSeated x.history.workers (events_in x) x.seats
+hall-seated x hall = subst (λ (es : List Event). IsSeated x.history.workers es x.seats) (sym (hall-events x hall)) hall.seated
+
+-- so are its leases
+pub hall-spots : (x : Inside) → IsHall x → AreSpots x.history.workers (events_in x) (tags_of x.seats) x.spots
+hall-spots x hall = subst (λ (es : List Event). AreSpots x.history.workers es (tags_of x.seats) x.spots) (sym (hall-events x hall)) hall.spots
+
+-- and its starts
+pub hall-starts : (x : Inside) → IsHall x → x.starts ≡ starts_in (events_in x)
+hall-starts x hall = hall.starts_is ∙ ap starts_in (sym (hall-events x hall))
 
 -- what is written down is the hall's events without what was posted
-pub hall-bare : (h : Written) (ss : List Seat) (u n : ℕ) → IsHall h ss u n → map bare (events_of h.events ss) ≡ h.events
-hall-bare h ss u n hall = ap (map bare) (hall-events h ss u n hall) ∙ sym hall.written
+pub hall-bare : (x : Inside) → IsHall x → map bare (events_in x) ≡ x.history.events
+hall-bare x hall = ap (map bare) (hall-events x hall) ∙ sym hall.written
+
+count-none : (n : ℕ) → out_in (replicate n None) ≡ 0
+count-none zero = refl
+count-none (suc n) = omega (arith, sum_by-cons (λ (o : Option Spot). cond (is_some o) 1 0) None (replicate n None), count-none n)
 
 -- a hall without jobs
-pub hall-none : (h : Written) (ss : List Seat) → 1 ≤ h.workers → h.events ≡ [] → ss ≡ [] → IsHall h ss 0 0
-hall-none h ss some events seats = rw seats (record { past = []; written = events; seated = seated-none h.workers some; unclosed_is = refl; tenants_is = refl; room = omega arith })
-
--- a hall in which nothing was entered
-pub hall-waits : (h after : Written) (ss now : List Seat) (u n : ℕ) → IsHall h ss u n → after.workers ≡ h.workers → after.events ≡ h.events → now ≡ ss → h.room ≤ after.room → IsHall after now u n
-hall-waits h after ss now u n hall workers events seats room = rw seats (record {
-  past = hall.past;
-  written = events ∙ hall.written;
-  seated = subst (λ (w : ℕ). IsSeated w hall.past ss) (sym workers) hall.seated;
-  unclosed_is = hall.unclosed_is;
-  tenants_is = hall.tenants_is;
-  room = omega (arith, hall.room, room);
+pub hall-none : (h : Written) (w : ℕ) (ss : List Seat) (sp : List (Option Spot)) → h.workers ≡ w → 1 ≤ w → w ≤ 64 → h.events ≡ [] → ss ≡ [] → sp ≡ replicate w None → IsHall (record { history = h; seats = ss; spots = sp; starts = 0; unclosed = 0; tenants = 0 })
+hall-none h w ss sp workers some bound events seats spots = rw (seats, spots) (record {
+  past = [];
+  written = events;
+  bound = omega (arith, workers, bound);
+  seated = seated-none h.workers (omega (arith, workers, some));
+  spots = subst (λ (n : ℕ). AreSpots n [] [] (replicate w None)) (sym workers) (spots-none w);
+  starts_is = refl;
+  unclosed_is = refl;
+  tenants_is = refl;
+  room = omega (arith, count-none w);
 })
 
--- a hall in which events were entered
-pub record Grown (h after : Written) (ss now : List Seat) (u n : ℕ) (es : List Event) : Type 0 where
-  pub hall : IsHall after now u n
-  pub events : events_of after.events now ≡ events_of h.events ss ++ es
+-- a hall in which nothing was entered
+pub hall-waits : (x y : Inside) → IsHall x → y.history.workers ≡ x.history.workers → y.history.events ≡ x.history.events → y.seats ≡ x.seats → y.spots ≡ x.spots → y.starts ≡ x.starts → y.unclosed ≡ x.unclosed → y.tenants ≡ x.tenants → x.history.room ≤ y.history.room → IsHall y
+hall-waits x y hall workers events seats spots starts unclosed tenants room = record {
+  past = hall.past;
+  written = events ∙ hall.written;
+  bound = omega (arith, workers, hall.bound);
+  seated = rw (seats, workers) hall.seated;
+  spots = rw (seats, spots, workers) hall.spots;
+  starts_is = starts ∙ hall.starts_is;
+  unclosed_is = unclosed ∙ (hall.unclosed_is ∙ ap unclosed_in (sym seats));
+  tenants_is = tenants ∙ (hall.tenants_is ∙ ap (λ (ss : List Seat). tenant_count (jobs_in ss)) (sym seats));
+  room = omega (arith, hall.room, room, unclosed, ap out_in spots);
+}
 
-grown : (h after : Written) (ss now : List Seat) (u n v m : ℕ) (es : List Event) → IsHall h ss u n → after.workers ≡ h.workers → after.events ≡ h.events ++ map bare es → IsSeated h.workers (events_of h.events ss ++ es) now → v ≡ unclosed_in now → m ≡ tenant_count (jobs_in now) → v ≤ after.room → Grown h after ss now v m es
-grown h after ss now u n v m es hall workers events seated unclosed tenants room =
-    let past : List Event = events_of h.events ss ++ es in
-    let whole : after.events ≡ map bare past = events ∙ (ap (λ (xs : List written.Event). xs ++ map bare es) (sym (hall-bare h ss u n hall)) ∙ sym (map-append bare (events_of h.events ss) es)) in
-    let here : IsHall after now v m = record { past = past; written = whole; seated = subst (λ (w : ℕ). IsSeated w past now) (sym workers) seated; unclosed_is = unclosed; tenants_is = tenants; room = room } in
-    record { hall = here; events = hall-events after now v m here }
+-- a hall in which events were entered
+pub record Grown (x y : Inside) (es : List Event) : Type 0 where
+  pub hall : IsHall y
+  pub events : events_in y ≡ events_in x ++ es
+
+pub grown : (x y : Inside) (es : List Event) → IsHall x → y.history.workers ≡ x.history.workers → y.history.events ≡ x.history.events ++ map bare es → IsSeated x.history.workers (events_in x ++ es) y.seats → AreSpots x.history.workers (events_in x ++ es) (tags_of y.seats) y.spots → y.starts ≡ starts_in (events_in x ++ es) → y.unclosed ≡ unclosed_in y.seats → y.tenants ≡ tenant_count (jobs_in y.seats) → y.unclosed + out_in y.spots ≤ y.history.room → Grown x y es
+grown x y es hall workers events seated spots starts unclosed tenants room =
+    let past : List Event = events_in x ++ es in
+    let whole : y.history.events ≡ map bare past = events ∙ (ap (λ (xs : List written.Event). xs ++ map bare es) (sym (hall-bare x hall)) ∙ sym (map-append bare (events_in x) es)) in
+    let here : IsHall y = record {
+      past = past;
+      written = whole;
+      bound = omega (arith, workers, hall.bound);
+      seated = subst (λ (w : ℕ). IsSeated w past y.seats) (sym workers) seated;
+      spots = subst (λ (w : ℕ). AreSpots w past (tags_of y.seats) y.spots) (sym workers) spots;
+      starts_is = starts;
+      unclosed_is = unclosed;
+      tenants_is = tenants;
+      room = room;
+    } in
+    record { hall = here; events = hall-events y here }
+
+-- an event that leaves the leases
+stay : (x : Inside) (e : Event) (tags : List Tag) → IsHall x → tags ≡ tags_of x.seats → leases (events_in x ++ e ∷ []) ≡ leases (events_in x) → ((worker : ℕ) → start_number worker (events_in x ++ e ∷ []) ≡ start_number worker (events_in x)) → AreSpots x.history.workers (events_in x ++ e ∷ []) tags x.spots
+stay x e tags hall same out numbers =
+    subst (λ (ts : List Tag). AreSpots x.history.workers (events_in x ++ e ∷ []) ts x.spots) (sym same) (spots-stay x.history.workers (events_in x) (events_in x ++ e ∷ []) (tags_of x.seats) x.spots out numbers (hall-spots x hall))
+
+-- the tags of seats of which one has another job with the same tag
+set-tags : (ss : List Seat) (n : ℕ) (s : Seat) (v : JobView) → slice_get ss n ≡ Some s → tag_of (reseated s v) ≡ tag_of s → tags_of (slice_set ss n (reseated s v)) ≡ tags_of ss
+set-tags [] n s v at same = refl
+set-tags (x ∷ xs) zero s v at same = let here : x ≡ s = cc in ap (λ (t : Tag). t ∷ tags_of xs) (same ∙ ap tag_of (sym here))
+set-tags (x ∷ xs) (suc n) s v at same = ap (λ (ts : List Tag). tag_of x ∷ ts) (set-tags xs n s v at same)
+
+balanced-tags : (n : ℕ) (vs : List ℕ) (ss : List Seat) → tags_of (balanced_from n vs ss) ≡ tags_of ss
+balanced-tags n vs [] = refl
+balanced-tags n vs (x ∷ xs) = ap (λ (ts : List Tag). tag_of x ∷ ts) (balanced-tags (cond (is_live_seat x) (n + 1) n) vs xs)
+
+length-tags : (ss : List Seat) → length (tags_of ss) ≡ length ss
+length-tags [] = refl
+length-tags (x ∷ xs) = ap suc (length-tags xs)
+
+-- the seats of a hall with a further job
+abbrev pub with_job : Inside → ℕ → Key → Terms → List Seat
+with_job x number k ask = x.seats ++ opened_seat number k ask ∷ []
 
 -- a job is opened
-pub hall-open : (h after : Written) (ss : List Seat) (u n m : ℕ) (k : Key) (ask : Terms) → IsHall h ss u n → after.workers ≡ h.workers → after.events ≡ h.events ++ of.Open k.tenant k.job ask ∷ [] → is_name k.tenant ≡ true → is_name k.job ≡ true → IsAsk ask → place_of k ss ≡ None → jobs_of k.tenant (jobs_in ss) < 64 → (jobs_of k.tenant (jobs_in ss) ≡ 0 → n < 64) → m ≡ n + first_of (jobs_of k.tenant (jobs_in ss)) → u + 1 ≤ after.room → Grown h after ss (ss ++ opened_seat k ask ∷ []) (u + 1) m (Open k ask ∷ [])
-hall-open h after ss u n m k ask hall workers events tenant job asked absent few others counted room =
-    let past : List Event = events_of h.events ss in
-    let seated = hall-seated h ss u n hall in
-    let may : MayOpen past k ask = record {
+pub may-open : (x : Inside) (k : Key) (ask : Terms) → IsHall x → is_name k.tenant ≡ true → is_name k.job ≡ true → IsAsk ask → place_of k x.seats ≡ None → jobs_of k.tenant (jobs_in x.seats) < 64 → (jobs_of k.tenant (jobs_in x.seats) ≡ 0 → x.tenants < 64) → MayOpen (events_in x) k ask
+may-open x k ask hall tenant job asked absent few others =
+    let past : List Event = events_in x in
+    let seated = hall-seated x hall in
+    record {
       tenant = tenant;
       job = job;
       asked = asked;
-      fresh = seated-absent h.workers past ss k seated absent;
+      fresh = seated-absent x.history.workers past x.seats k seated absent;
       tenant_room = rw seated.jobs few;
       hall_room = λ none. rw (seated.jobs, ← hall.tenants_is) (others (ap (jobs_of k.tenant) (sym seated.jobs) ∙ none));
-    } in
-    grown h after ss (ss ++ opened_seat k ask ∷ []) u n (u + 1) m (Open k ask ∷ []) hall workers events (seated-open h.workers past ss k ask seated may) (omega (arith, hall.unclosed_is, unclosed-open ss k ask)) tenants room
-  where
-    tenants : m ≡ tenant_count (jobs_in (ss ++ opened_seat k ask ∷ []))
-    tenants =
-        let one = opened_seat k ask in
-        counted ∙ (ap (λ (x : ℕ). x + first_of (jobs_of k.tenant (jobs_in ss))) hall.tenants_is ∙ (sym (tenants-push (jobs_in ss) one.titled) ∙ ap tenant_count (sym (map-append (λ (s : Seat). s.titled) ss (one ∷ [])))))
+    }
+
+pub hall-open : (x y : Inside) (number : ℕ) (k : Key) (ask : Terms) → IsHall x → y.history.workers ≡ x.history.workers → y.history.events ≡ x.history.events ++ of.Open k.tenant k.job ask ∷ [] → y.seats ≡ with_job x number k ask → y.spots ≡ x.spots → y.starts ≡ x.starts → number ≡ length x.seats → MayOpen (events_in x) k ask → y.unclosed ≡ x.unclosed + 1 → y.tenants ≡ x.tenants + first_of (jobs_of k.tenant (jobs_in x.seats)) → y.unclosed + out_in x.spots ≤ y.history.room → Grown x y (Open k ask ∷ [])
+hall-open x y number k ask hall workers events seats spots starts numbered may unclosed tenants room =
+    let past : List Event = events_in x in
+    let now : List Event = past ++ Open k ask ∷ [] in
+    let seat : Seat = opened_seat number k ask in
+    let tags : tags_of y.seats ≡ tags_of x.seats ++ tag_of seat ∷ [] = ap tags_of seats ∙ map-append tag_of x.seats (seat ∷ []) in
+    let here = spots-open x.history.workers past (tags_of x.seats) x.spots (tag_of seat) (numbered ∙ sym (length-tags x.seats)) refl (hall-spots x hall) in
+    let kept = spots-stay x.history.workers past now (tags_of x.seats ++ tag_of seat ∷ []) x.spots (leases-push past (Open k ask)) (λ v. ap (λ n. n.last) (numbered-push v past (Open k ask))) here in
+    grown x y (Open k ask ∷ []) hall workers events (rw seats (seated-open x.history.workers past x.seats number k ask (hall-seated x hall) may)) (rw (tags, spots) kept) (starts ∙ (hall-starts x hall ∙ sym (starts-push past (Open k ask)))) (unclosed ∙ (ap (λ (n : ℕ). n + 1) hall.unclosed_is ∙ (sym (unclosed-open x.seats number k ask) ∙ ap unclosed_in (sym seats)))) (tenants ∙ (ap (λ (n : ℕ). n + first_of (jobs_of k.tenant (jobs_in x.seats))) hall.tenants_is ∙ (sym (tenants-push (jobs_in x.seats) seat.job.titled) ∙ ap tenant_count (sym (map-append (λ (s : Seat). s.job.titled) x.seats (seat ∷ [])) ∙ ap jobs_in (sym seats))))) (omega (arith, room, ap out_in spots))
+
+-- an event of one job that starts none and closes none
+own-grown : (x y : Inside) (at : ℕ) (s : Seat) (e : Event) (o : Own) → IsHall x → slice_get x.seats at ≡ Some s → y.history.workers ≡ x.history.workers → y.history.events ≡ x.history.events ++ bare e ∷ [] → y.seats ≡ slice_set x.seats at (reseated s (and_own s.job o)) → y.spots ≡ x.spots → y.starts ≡ x.starts → y.tenants ≡ x.tenants → IsSeated x.history.workers (events_in x ++ e ∷ []) (slice_set x.seats at (reseated s (and_own s.job o))) → leases (events_in x ++ e ∷ []) ≡ leases (events_in x) → ((worker : ℕ) → start_number worker (events_in x ++ e ∷ []) ≡ start_number worker (events_in x)) → starts_in (events_in x ++ e ∷ []) ≡ starts_in (events_in x) → y.unclosed ≡ unclosed_in (slice_set x.seats at (reseated s (and_own s.job o))) → y.unclosed + out_in x.spots ≤ y.history.room → Grown x y (e ∷ [])
+own-grown x y at s e o hall sits workers events seats spots starts tenants seated out numbers count unclosed room =
+    let now : Seat = reseated s (and_own s.job o) in
+    let kept = stay x e (tags_of (slice_set x.seats at now)) hall (set-tags x.seats at s (and_own s.job o) sits refl) out numbers in
+    grown x y (e ∷ []) hall workers events (rw seats seated) (rw (seats, spots) kept) (starts ∙ (hall-starts x hall ∙ sym count)) (unclosed ∙ ap unclosed_in (sym seats)) (tenants ∙ (hall.tenants_is ∙ (tenants-set x.seats at s now sits refl ∙ ap (λ (ss : List Seat). tenant_count (jobs_in ss)) (sym seats)))) (omega (arith, room, ap out_in spots))
 
 -- the seat at the place of a key
 pub record Sits (ss : List Seat) (k : Key) (at : ℕ) (s : Seat) : Type 0 where
@@ -117,131 +193,137 @@ pub same-seat : (ss : List Seat) (k : Key) (at : ℕ) (s t : Seat) → Sits ss k
 same-seat ss k at s t one other = let both : Some s ≡ Some t = sym one.seat ∙ other.seat in cc
 
 -- a job that is found
-pub record Found (h : Written) (ss : List Seat) (k : Key) (t : Titled) : Type 0 where
+pub record Found (x : Inside) (k : Key) (t : Titled) : Type 0 where
   pub key : t.key ≡ k
-  pub job : job_of k (states (events_of h.events ss)) ≡ Some t
+  pub job : job_of k (states (events_in x)) ≡ Some t
 
-pub hall-found : (h : Written) (ss : List Seat) (u n : ℕ) (k : Key) (at : ℕ) (s : Seat) → IsHall h ss u n → Sits ss k at s → Found h ss k s.titled
-hall-found h ss u n k at s hall sits =
-    let both = seated-found h.workers (events_of h.events ss) ss k at s (hall-seated h ss u n hall) sits.place sits.seat in
+pub hall-found : (x : Inside) (k : Key) (at : ℕ) (s : Seat) → IsHall x → Sits x.seats k at s → Found x k s.job.titled
+hall-found x k at s hall sits =
+    let both = seated-found x.history.workers (events_in x) x.seats k at s (hall-seated x hall) sits.place sits.seat in
     record { key = both.0; job = both.1 }
 
 -- what holds of a job that is found holds of its machine run alone on the job's own events, in whatever history has these
-pub found-alone : (h : Written) (ss : List Seat) (k : Key) (t : Titled) (P : Key → Solo → Type 0) → Found h ss k t → P t.key t.state → (other : List Event) → own k other ≡ own k (events_of h.events ss) → P k (solo (own k other))
-found-alone h ss k t P found holds other same =
-    let past : List Event = events_of h.events ss in
+pub found-alone : (x : Inside) (k : Key) (t : Titled) (P : Key → Solo → Type 0) → Found x k t → P t.key t.state → (other : List Event) → own k other ≡ own k (events_in x) → P k (solo (own k other))
+found-alone x k t P found holds other same =
+    let past : List Event = events_in x in
     let is : titled past k ≡ t = find-titled past k (keys_of past) t found.job in
-    let state : t.state ≡ solo (own k other) = sym (ap (λ (x : Titled). x.state) is) ∙ ap solo (sym same) in
+    let state : t.state ≡ solo (own k other) = sym (ap (λ (u : Titled). u.state) is) ∙ ap solo (sym same) in
     subst (P k) state (subst (λ (j : Key). P j t.state) found.key holds)
 
-pub hall-absent : (h : Written) (ss : List Seat) (u n : ℕ) (k : Key) → IsHall h ss u n → place_of k ss ≡ None → job_of k (states (events_of h.events ss)) ≡ None
-hall-absent h ss u n k hall place = seated-absent h.workers (events_of h.events ss) ss k (hall-seated h ss u n hall) place
+pub hall-absent : (x : Inside) (k : Key) → IsHall x → place_of k x.seats ≡ None → job_of k (states (events_in x)) ≡ None
+hall-absent x k hall place = seated-absent x.history.workers (events_in x) x.seats k (hall-seated x hall) place
 
 -- a key has a place where it has a job
 place-some : (k : Key) (ss : List Seat) → is_some (place_of k ss) ≡ is_some (job_of k (jobs_in ss))
 place-some k [] = refl
-place-some k (s ∷ ss) = by_test (is_key k s.titled.key) (same_some (place_of k ss) ∙ place-some k ss)
+place-some k (s ∷ ss) = by_test (is_key k s.job.titled.key) (same_some (place_of k ss) ∙ place-some k ss)
   where
     same_some : (o : Option ℕ) → is_some (option_map suc o) ≡ is_some o
     same_some None = refl
     same_some (Some n) = refl
 
-    by_test : (b : Bool) → is_some (option_map suc (place_of k ss)) ≡ is_some (job_of k (jobs_in ss)) → is_some (cond b (Some 0) (option_map suc (place_of k ss))) ≡ is_some (cond b (Some s.titled) (job_of k (jobs_in ss)))
+    by_test : (b : Bool) → is_some (option_map suc (place_of k ss)) ≡ is_some (job_of k (jobs_in ss)) → is_some (cond b (Some 0) (option_map suc (place_of k ss))) ≡ is_some (cond b (Some s.job.titled) (job_of k (jobs_in ss)))
     by_test true rest = refl
     by_test false rest = rest
 
-pub hall-some_job : (h : Written) (ss xs : List Seat) (u n : ℕ) (k : Key) (r : Option ℕ) → IsHall h ss u n → xs ≡ ss → r ≡ place_of k xs → is_some (job_of k (states (events_of h.events ss))) ≡ is_some r
-hall-some_job h ss xs u n k r hall same scan = ap (λ (ts : List Titled). is_some (job_of k ts)) (hall-seated h ss u n hall).jobs ∙ (sym (place-some k ss) ∙ ap is_some (ap (place_of k) (sym same) ∙ sym scan))
+pub hall-some_job : (x : Inside) (xs : List Seat) (k : Key) (r : Option ℕ) → IsHall x → xs ≡ x.seats → r ≡ place_of k xs → is_some (job_of k (states (events_in x))) ≡ is_some r
+hall-some_job x xs k r hall same scan = ap (λ (ts : List Titled). is_some (job_of k ts)) (hall-seated x hall).jobs ∙ (sym (place-some k x.seats) ∙ ap is_some (ap (place_of k) (sym same) ∙ sym scan))
 
 -- the jobs of a tenant that a scan of the seats counted
-pub hall-jobs : (h : Written) (ss xs : List Seat) (u n : ℕ) (tenant : List ℕ) (count : ℕ) → IsHall h ss u n → xs ≡ ss → count ≡ jobs_of tenant (jobs_in xs) → count ≡ jobs_of tenant (states (events_of h.events ss))
-hall-jobs h ss xs u n tenant count hall same scan = scan ∙ ap (jobs_of tenant) (ap jobs_in same ∙ sym (hall-seated h ss u n hall).jobs)
+pub hall-jobs : (x : Inside) (xs : List Seat) (tenant : List ℕ) (count : ℕ) → IsHall x → xs ≡ x.seats → count ≡ jobs_of tenant (jobs_in xs) → count ≡ jobs_of tenant (states (events_in x))
+hall-jobs x xs tenant count hall same scan = scan ∙ ap (jobs_of tenant) (ap jobs_in same ∙ sym (hall-seated x hall).jobs)
 
 -- the tenants of a hall
-pub hall-tenants : (h : Written) (ss : List Seat) (u n : ℕ) → IsHall h ss u n → n ≡ tenant_count (states (events_of h.events ss))
-hall-tenants h ss u n hall = hall.tenants_is ∙ ap tenant_count (sym (hall-seated h ss u n hall).jobs)
+pub hall-tenants : (x : Inside) → IsHall x → x.tenants ≡ tenant_count (states (events_in x))
+hall-tenants x hall = hall.tenants_is ∙ ap tenant_count (sym (hall-seated x hall).jobs)
 
 -- the number of a job's next revision
-pub hall-next : (h : Written) (ss : List Seat) (k : Key) (t : Titled) (number : ℕ) → Found h ss k t → number ≡ length t.state.revisions + 1 → number ≡ next_number k (events_of h.events ss)
-hall-next h ss k t number found next = next ∙ ap (λ (o : Option Titled). option_map_or (λ (x : Titled). length x.state.revisions + 1) o 1) (sym found.job)
+pub hall-next : (x : Inside) (k : Key) (t : Titled) (number : ℕ) → Found x k t → number ≡ length t.state.revisions + 1 → number ≡ next_number k (events_in x)
+hall-next x k t number found next = next ∙ ap (λ (o : Option Titled). option_map_or (λ (u : Titled). length u.state.revisions + 1) o 1) (sym found.job)
 
 -- a test that is not passed
 pub none-from : (o : Option ℕ) (b : Bool) → b ≡ is_some o → b ≡ false → o ≡ None
 none-from None b e f = refl
 none-from (Some n) b e f = absurd (cc)
 
+-- a revision may be posted
+pub may-revise : (x : Inside) (k : Key) (at : ℕ) (s : Seat) (r : Posted) → IsHall x → Sits x.seats k at s → s.job.titled.state.closed ≡ false → length s.job.titled.state.revisions < 256 → HasRoomFor s.job.titled.state.revisions r → is_posted r ≡ true → MayRevise (events_in x) k (length s.job.titled.state.revisions + 1) r s.job.titled
+may-revise x k at s r hall sits still few fits posted = record {
+  job = (hall-found x k at s hall sits).job;
+  open_still = still;
+  posted = posted;
+  next = refl;
+  room = omega (arith, few);
+  clause_room = fits.clauses;
+  literal_room = fits.literals;
+}
+
 -- a revision is posted
-pub hall-revise : (h after : Written) (ss : List Seat) (u n : ℕ) (k : Key) (at : ℕ) (s : Seat) (number : ℕ) (r : Posted) → IsHall h ss u n → Sits ss k at s → after.workers ≡ h.workers → after.events ≡ h.events ++ of.Revise k.tenant k.job number ∷ [] → s.titled.state.closed ≡ false → number ≡ length s.titled.state.revisions + 1 → length s.titled.state.revisions < 256 → HasRoomFor s.titled.state.revisions r → is_posted r ≡ true → u ≤ after.room → Grown h after ss (slice_set ss at (record s { titled = stepped s.titled (Revised r) })) u n (Revise k number r ∷ [])
-hall-revise h after ss u n k at s number r hall sits workers events still next few fits posted room =
-    let past : List Event = events_of h.events ss in
-    let found = hall-found h ss u n k at s hall sits in
-    let now : Seat = record s { titled = stepped s.titled (Revised r) } in
-    let may : MayRevise past s.titled.key number r s.titled = record {
-      job = subst (λ (x : Key). job_of x (states past) ≡ Some s.titled) (sym found.key) found.job;
-      open_still = still;
-      posted = posted;
-      next = next;
-      room = omega (arith, next, few);
-      clause_room = fits.clauses;
-      literal_room = fits.literals;
-    } in
-    let seated = subst (λ (x : Key). IsSeated h.workers (past ++ Revise x number r ∷ []) (slice_set ss at now)) found.key (seated-revise h.workers past ss at s number r (hall-seated h ss u n hall) sits.seat may) in
-    grown h after ss (slice_set ss at now) u n u n (Revise k number r ∷ []) hall workers events seated (hall.unclosed_is ∙ unclosed-same ss at s now sits.seat (revise-keeps s.titled.state r).closed) (hall.tenants_is ∙ tenants-set ss at s now sits.seat refl) room
+pub hall-revise : (x y : Inside) (k : Key) (at : ℕ) (s : Seat) (number : ℕ) (r : Posted) → IsHall x → Sits x.seats k at s → y.history.workers ≡ x.history.workers → y.history.events ≡ x.history.events ++ of.Revise k.tenant k.job number ∷ [] → y.seats ≡ slice_set x.seats at (reseated s (and_own s.job (Revised r))) → y.spots ≡ x.spots → y.starts ≡ x.starts → y.unclosed ≡ x.unclosed → y.tenants ≡ x.tenants → number ≡ length s.job.titled.state.revisions + 1 → MayRevise (events_in x) k (length s.job.titled.state.revisions + 1) r s.job.titled → y.unclosed + out_in x.spots ≤ y.history.room → Grown x y (Revise k number r ∷ [])
+hall-revise x y k at s number r hall sits workers events seats spots starts unclosed tenants next may room =
+    let past : List Event = events_in x in
+    let found = hall-found x k at s hall sits in
+    let now : Seat = reseated s (and_own s.job (Revised r)) in
+    let mine : MayRevise past s.job.titled.key number r s.job.titled = rw next (subst (λ (j : Key). MayRevise past j (length s.job.titled.state.revisions + 1) r s.job.titled) (sym found.key) may) in
+    let seated = subst (λ (j : Key). IsSeated x.history.workers (past ++ Revise j number r ∷ []) (slice_set x.seats at now)) found.key (seated-revise x.history.workers past x.seats at s number r (hall-seated x hall) sits.seat mine) in
+    own-grown x y at s (Revise k number r) (Revised r) hall sits.seat workers events seats spots starts tenants seated (leases-push past (Revise k number r)) (λ v. ap (λ n. n.last) (numbered-push v past (Revise k number r))) (starts-push past (Revise k number r)) (unclosed ∙ (hall.unclosed_is ∙ unclosed-same x.seats at s now sits.seat (revise-keeps s.job.titled.state r).closed)) room
 
 -- where a job is open some are not closed
-pub hall-some : (h : Written) (ss : List Seat) (u n : ℕ) (k : Key) (at : ℕ) (s : Seat) → IsHall h ss u n → Sits ss k at s → s.titled.state.closed ≡ false → 1 ≤ u
-hall-some h ss u n k at s hall sits still = omega (arith, hall.unclosed_is, unclosed-closed ss at s (record s { titled = stepped s.titled Closed }) sits.seat still refl)
+pub hall-some : (x : Inside) (k : Key) (at : ℕ) (s : Seat) → IsHall x → Sits x.seats k at s → s.job.titled.state.closed ≡ false → 1 ≤ x.unclosed
+hall-some x k at s hall sits still = omega (arith, hall.unclosed_is, unclosed-closed x.seats at s (reseated s (and_own s.job Closed)) sits.seat still refl)
 
 -- a job is closed
-pub hall-close : (h after : Written) (ss : List Seat) (u n : ℕ) (k : Key) (at : ℕ) (s : Seat) → IsHall h ss u n → Sits ss k at s → after.workers ≡ h.workers → after.events ≡ h.events ++ of.Close k.tenant k.job ∷ [] → s.titled.state.closed ≡ false → after.room + 1 ≡ h.room → Grown h after ss (slice_set ss at (record s { titled = stepped s.titled Closed })) (u - 1) n (Close k ∷ [])
-hall-close h after ss u n k at s hall sits workers events still room =
-    let past : List Event = events_of h.events ss in
-    let found = hall-found h ss u n k at s hall sits in
-    let now : Seat = record s { titled = stepped s.titled Closed } in
-    let may : MayClose past s.titled.key s.titled = record { job = subst (λ (x : Key). job_of x (states past) ≡ Some s.titled) (sym found.key) found.job; open_still = still } in
-    let seated = subst (λ (x : Key). IsSeated h.workers (past ++ Close x ∷ []) (slice_set ss at now)) found.key (seated-close h.workers past ss at s (hall-seated h ss u n hall) sits.seat may) in
-    grown h after ss (slice_set ss at now) u n (u - 1) n (Close k ∷ []) hall workers events seated (omega (arith, hall.unclosed_is, unclosed-closed ss at s now sits.seat still refl)) (hall.tenants_is ∙ tenants-set ss at s now sits.seat refl) (omega (arith, hall.room, hall-some h ss u n k at s hall sits still))
+pub hall-close : (x y : Inside) (k : Key) (at : ℕ) (s : Seat) → IsHall x → Sits x.seats k at s → y.history.workers ≡ x.history.workers → y.history.events ≡ x.history.events ++ of.Close k.tenant k.job ∷ [] → y.seats ≡ slice_set x.seats at (reseated s (and_own s.job Closed)) → y.spots ≡ x.spots → y.starts ≡ x.starts → y.unclosed ≡ x.unclosed - 1 → y.tenants ≡ x.tenants → s.job.titled.state.closed ≡ false → y.history.room + 1 ≡ x.history.room → Grown x y (Close k ∷ [])
+hall-close x y k at s hall sits workers events seats spots starts unclosed tenants still room =
+    let past : List Event = events_in x in
+    let found = hall-found x k at s hall sits in
+    let now : Seat = reseated s (and_own s.job Closed) in
+    let may : MayClose past s.job.titled.key s.job.titled = record { job = subst (λ (j : Key). job_of j (states past) ≡ Some s.job.titled) (sym found.key) found.job; open_still = still } in
+    let seated = subst (λ (j : Key). IsSeated x.history.workers (past ++ Close j ∷ []) (slice_set x.seats at now)) found.key (seated-close x.history.workers past x.seats at s (hall-seated x hall) sits.seat may) in
+    own-grown x y at s (Close k) Closed hall sits.seat workers events seats spots starts tenants seated (leases-push past (Close k)) (λ v. ap (λ n. n.last) (numbered-push v past (Close k))) (starts-push past (Close k)) (omega (arith, unclosed, hall.unclosed_is, unclosed-closed x.seats at s now sits.seat still refl)) (omega (arith, unclosed, hall.room, room, hall-some x k at s hall sits still))
 
 -- a balancing that is due is entered
-pub hall-balance : (h after : Written) (ss : List Seat) (u n : ℕ) (vs : List ℕ) → IsHall h ss u n → is_due ss ≡ true → IsFair h.workers (live_asks (jobs_in ss)) vs → after.workers ≡ h.workers → after.events ≡ h.events ++ of.Balance (shares_by vs ss) ∷ [] → u ≤ after.room → Grown h after ss (balanced_by vs ss) u n (Balance (shares_by vs ss) ∷ [])
-hall-balance h after ss u n vs hall due fair workers events room =
-    grown h after ss (balanced_by vs ss) u n u n (Balance (shares_by vs ss) ∷ []) hall workers events (seated-balance h.workers (events_of h.events ss) ss vs (hall-seated h ss u n hall) fair due) (hall.unclosed_is ∙ unclosed-balanced 0 vs ss) (hall.tenants_is ∙ tenants-balanced vs ss) room
+pub hall-balance : (x y : Inside) (vs : List ℕ) → IsHall x → is_due x.seats ≡ true → IsFair x.history.workers (live_asks (jobs_in x.seats)) vs → y.history.workers ≡ x.history.workers → y.history.events ≡ x.history.events ++ of.Balance (shares_by vs x.seats) ∷ [] → y.seats ≡ balanced_by vs x.seats → y.spots ≡ x.spots → y.starts ≡ x.starts → y.unclosed ≡ x.unclosed → y.tenants ≡ x.tenants → x.unclosed + out_in x.spots ≤ y.history.room → Grown x y (Balance (shares_by vs x.seats) ∷ [])
+hall-balance x y vs hall due fair workers events seats spots starts unclosed tenants room =
+    let past : List Event = events_in x in
+    let e : Event = Balance (shares_by vs x.seats) in
+    let kept = stay x e (tags_of (balanced_by vs x.seats)) hall (balanced-tags 0 vs x.seats) (leases-push past e) (λ v. ap (λ n. n.last) (numbered-push v past e)) in
+    grown x y (e ∷ []) hall workers events (rw seats (seated-balance x.history.workers past x.seats vs (hall-seated x hall) fair due)) (rw (seats, spots) kept) (starts ∙ (hall-starts x hall ∙ sym (starts-push past e))) (unclosed ∙ (hall.unclosed_is ∙ (unclosed-balanced 0 vs x.seats ∙ ap unclosed_in (sym seats)))) (tenants ∙ (hall.tenants_is ∙ (tenants-balanced vs x.seats ∙ ap (λ (ss : List Seat). tenant_count (jobs_in ss)) (sym seats)))) (omega (arith, room, unclosed, ap out_in spots))
 
--- an exchange of the first job of which it is due is entered
-pub hall-exchange : (h after : Written) (ss : List Seat) (u n at : ℕ) (s : Seat) → IsHall h ss u n → is_due ss ≡ false → first_exchange ss ≡ Some at → slice_get ss at ≡ Some s → after.workers ≡ h.workers → after.events ≡ h.events ++ of.Exchange s.titled.key.tenant s.titled.key.job ∷ [] → u ≤ after.room → Grown h after ss (slice_set ss at (record s { titled = stepped s.titled Exchanged })) u n (Exchange s.titled.key ∷ [])
-hall-exchange h after ss u n at s hall calm first sits workers events room =
-    let now : Seat = record s { titled = stepped s.titled Exchanged } in
-    grown h after ss (slice_set ss at now) u n u n (Exchange s.titled.key ∷ []) hall workers events (seated-exchange h.workers (events_of h.events ss) ss at s (hall-seated h ss u n hall) calm first sits) (hall.unclosed_is ∙ unclosed-same ss at s now sits refl) (hall.tenants_is ∙ tenants-set ss at s now sits refl) room
-
--- the job of a seat after a slice of a node
-abbrev pub sliced : Titled → ℕ → Titled
-sliced t i = stepped (stepped t (Started i)) (Finished i Ran)
-
--- a slice of the node that is picked is entered
-pub hall-slice : (h after : Written) (ss : List Seat) (u n : ℕ) (c : Candidate) (s : Seat) → IsHall h ss u n → IsNext ss c s → after.workers ≡ h.workers → after.events ≡ h.events ++ of.Start s.titled.key.tenant s.titled.key.job c.index 1 ∷ of.Finish s.titled.key.tenant s.titled.key.job c.index 1 Ran ∷ [] → u ≤ after.room → Grown h after ss (slice_set ss c.job (record s { titled = sliced s.titled c.index })) u n (Start s.titled.key c.index 1 ∷ Finish s.titled.key c.index 1 Ran ∷ [])
-hall-slice h after ss u n c s hall next workers events room =
-    let past : List Event = events_of h.events ss in
-    let now : Seat = record s { titled = sliced s.titled c.index } in
-    let seated = rw (append_assoc past (Start s.titled.key c.index 1 ∷ []) (Finish s.titled.key c.index 1 Ran ∷ [])) at (seated-slice h.workers past ss c s (hall-seated h ss u n hall) next) in
-    grown h after ss (slice_set ss c.job now) u n u n (Start s.titled.key c.index 1 ∷ Finish s.titled.key c.index 1 Ran ∷ []) hall workers events seated (hall.unclosed_is ∙ unclosed-same ss c.job s now next.at (finish-keeps (solo_step s.titled.state (Started c.index)) c.index Ran).closed) (hall.tenants_is ∙ tenants-set ss c.job s now next.at refl) room
+-- an exchange that is allowed is entered
+pub hall-exchange : (x y : Inside) (at : ℕ) (s : Seat) → IsHall x → Allowed x.history.workers (events_in x) (Exchange s.job.titled.key) → slice_get x.seats at ≡ Some s → y.history.workers ≡ x.history.workers → y.history.events ≡ x.history.events ++ of.Exchange s.job.titled.key.tenant s.job.titled.key.job ∷ [] → y.seats ≡ slice_set x.seats at (reseated s (and_own s.job Exchanged)) → y.spots ≡ x.spots → y.starts ≡ x.starts → y.unclosed ≡ x.unclosed → y.tenants ≡ x.tenants → x.unclosed + out_in x.spots ≤ y.history.room → Grown x y (Exchange s.job.titled.key ∷ [])
+hall-exchange x y at s hall may sits workers events seats spots starts unclosed tenants room =
+    let past : List Event = events_in x in
+    let now : Seat = reseated s (and_own s.job Exchanged) in
+    let e : Event = Exchange s.job.titled.key in
+    let seated = seats-touch x.history.workers past x.seats at s e Exchanged (and_own s.job Exchanged) (hall-seated x hall) sits may (exchange-touches s.job.titled.key) refl refl in
+    own-grown x y at s e Exchanged hall sits workers events seats spots starts tenants seated (leases-push past e) (λ v. ap (λ n. n.last) (numbered-push v past e)) (starts-push past e) (unclosed ∙ (hall.unclosed_is ∙ unclosed-same x.seats at s now sits refl)) (omega (arith, room, unclosed))
 
 -- the answers of a job of a hall carry models
-pub hall-solves : (h : Written) (ss : List Seat) (u n : ℕ) → IsHall h ss u n → (k : Key) (t : Titled) → job_of k (states (events_of h.events ss)) ≡ Some t → AnswersSolve t.state
-hall-solves h ss u n hall k t found =
-    let past : List Event = events_of h.events ss in
+pub hall-solves : (x : Inside) → IsHall x → (k : Key) (t : Titled) → job_of k (states (events_in x)) ≡ Some t → AnswersSolve t.state
+hall-solves x hall k t found =
+    let past : List Event = events_in x in
     let same : titled past k ≡ t = find-titled past k (keys_of past) t found in
-    subst (λ (x : Titled). AnswersSolve x.state) same (legal-answers_solve h.workers past (hall-seated h ss u n hall).legal k)
+    subst (λ (u : Titled). AnswersSolve u.state) same (legal-answers_solve x.history.workers past (hall-seated x hall).legal k)
 
 -- and proofs
-pub hall-refutes : (h : Written) (ss : List Seat) (u n : ℕ) → IsHall h ss u n → (k : Key) (t : Titled) → job_of k (states (events_of h.events ss)) ≡ Some t → AnswersRefute t.state
-hall-refutes h ss u n hall k t found =
-    let past : List Event = events_of h.events ss in
+pub hall-refutes : (x : Inside) → IsHall x → (k : Key) (t : Titled) → job_of k (states (events_in x)) ≡ Some t → AnswersRefute t.state
+hall-refutes x hall k t found =
+    let past : List Event = events_in x in
     let same : titled past k ≡ t = find-titled past k (keys_of past) t found in
-    subst (λ (x : Titled). AnswersRefute x.state) same (legal-answers_refute h.workers past (hall-seated h ss u n hall).legal k)
+    subst (λ (u : Titled). AnswersRefute u.state) same (legal-answers_refute x.history.workers past (hall-seated x hall).legal k)
 
 -- and its clauses are its own
-pub hall-owns : (h : Written) (ss : List Seat) (u n : ℕ) → IsHall h ss u n → (k : Key) (t : Titled) → job_of k (states (events_of h.events ss)) ≡ Some t → ClausesAreOwn t.state
-hall-owns h ss u n hall k t found =
-    let past : List Event = events_of h.events ss in
+pub hall-owns : (x : Inside) → IsHall x → (k : Key) (t : Titled) → job_of k (states (events_in x)) ≡ Some t → ClausesAreOwn t.state
+hall-owns x hall k t found =
+    let past : List Event = events_in x in
     let same : titled past k ≡ t = find-titled past k (keys_of past) t found in
-    subst (λ (x : Titled). ClausesAreOwn x.state) same (legal-clauses_own h.workers past (hall-seated h ss u n hall).legal k)
+    subst (λ (u : Titled). ClausesAreOwn u.state) same (legal-clauses_own x.history.workers past (hall-seated x hall).legal k)
+
+-- a call that enters nothing
+pub called-none : (w : ℕ) (past : List Event) (c : Call) (answer : AnswerTo c) → IsCall w past c answer [] → HasCalled w past c answer past
+called-none w past c answer is = record { events = []; grown = sym (append-nil past); call = is }
+
+-- a call that enters one event
+pub called-one : (w : ℕ) (past now : List Event) (c : Call) (answer : AnswerTo c) (e : Event) → now ≡ past ++ e ∷ [] → IsCall w past c answer (e ∷ []) → HasCalled w past c answer now
+called-one w past now c answer e grown is = record { events = e ∷ []; grown = grown; call = is }

@@ -103,18 +103,18 @@ tenants-push (t ∷ ts) u = by_test (tenants-push ts u) (is_text t.key.tenant u.
         differ same = let back = (is_text-Decides t.key.tenant u.key.tenant).1 (sym same) in cc
 
 -- the keys stay where a job keeps its own
-seat-keys : (ss : List Seat) (n : ℕ) (s now : Seat) → slice_get ss n ≡ Some s → now.titled.key ≡ s.titled.key → keys (jobs_in (slice_set ss n now)) ≡ keys (jobs_in ss)
+seat-keys : (ss : List Seat) (n : ℕ) (s now : Seat) → slice_get ss n ≡ Some s → now.job.titled.key ≡ s.job.titled.key → keys (jobs_in (slice_set ss n now)) ≡ keys (jobs_in ss)
 seat-keys [] n s now at key = refl
-seat-keys (x ∷ xs) zero s now at key = let same : x ≡ s = cc in ap (λ (k : Key). k ∷ keys (jobs_in xs)) (key ∙ ap (λ (y : Seat). y.titled.key) (sym same))
-seat-keys (x ∷ xs) (suc n) s now at key = ap (λ (ks : List Key). x.titled.key ∷ ks) (seat-keys xs n s now at key)
+seat-keys (x ∷ xs) zero s now at key = let same : x ≡ s = cc in ap (λ (k : Key). k ∷ keys (jobs_in xs)) (key ∙ ap (λ (y : Seat). y.job.titled.key) (sym same))
+seat-keys (x ∷ xs) (suc n) s now at key = ap (λ (ks : List Key). x.job.titled.key ∷ ks) (seat-keys xs n s now at key)
 
 -- and in a balancing
 balanced-keys : (n : ℕ) (vs : List ℕ) (ss : List Seat) → keys (jobs_in (balanced_from n vs ss)) ≡ keys (jobs_in ss)
 balanced-keys n vs [] = refl
-balanced-keys n vs (x ∷ xs) = ap (λ (ks : List Key). x.titled.key ∷ ks) (balanced-keys (if is_live_seat x then n + 1 else n) vs xs)
+balanced-keys n vs (x ∷ xs) = ap (λ (ks : List Key). x.job.titled.key ∷ ks) (balanced-keys (if is_live_seat x then n + 1 else n) vs xs)
 
 -- so do the tenants
-pub tenants-set : (ss : List Seat) (n : ℕ) (s now : Seat) → slice_get ss n ≡ Some s → now.titled.key ≡ s.titled.key → tenant_count (jobs_in ss) ≡ tenant_count (jobs_in (slice_set ss n now))
+pub tenants-set : (ss : List Seat) (n : ℕ) (s now : Seat) → slice_get ss n ≡ Some s → now.job.titled.key ≡ s.job.titled.key → tenant_count (jobs_in ss) ≡ tenant_count (jobs_in (slice_set ss n now))
 tenants-set ss n s now at key = sym (tenants-keys (jobs_in (slice_set ss n now)) (jobs_in ss) (seat-keys ss n s now at key))
 
 pub tenants-balanced : (vs : List ℕ) (ss : List Seat) → tenant_count (jobs_in ss) ≡ tenant_count (jobs_in (balanced_by vs ss))
@@ -122,25 +122,25 @@ tenants-balanced vs ss = sym (tenants-keys (jobs_in (balanced_by vs ss)) (jobs_i
 
 -- what a job counts among those that are not closed
 abbrev pub unclosed_at : Seat → ℕ
-unclosed_at s = if not s.titled.state.closed then 1 else 0
+unclosed_at s = if not s.job.titled.state.closed then 1 else 0
 
 -- how many are not closed after one job has changed
 pub unclosed-set : (ss : List Seat) (n : ℕ) (s now : Seat) → slice_get ss n ≡ Some s → unclosed_in (slice_set ss n now) + unclosed_at s ≡ unclosed_in ss + unclosed_at now
 unclosed-set ss n s now at = rw (get_or_from_slice_get ss n s s at) at (sum_by-set unclosed_at ss n now s (slice_get_within ss n s at))
 
-pub unclosed-same : (ss : List Seat) (n : ℕ) (s now : Seat) → slice_get ss n ≡ Some s → now.titled.state.closed ≡ s.titled.state.closed → unclosed_in ss ≡ unclosed_in (slice_set ss n now)
+pub unclosed-same : (ss : List Seat) (n : ℕ) (s now : Seat) → slice_get ss n ≡ Some s → now.job.titled.state.closed ≡ s.job.titled.state.closed → unclosed_in ss ≡ unclosed_in (slice_set ss n now)
 unclosed-same ss n s now at closed =
     let same : unclosed_at now ≡ unclosed_at s = ap (λ (b : Bool). if not b then 1 else 0) closed in
     omega (arith, unclosed-set ss n s now at)
 
-pub unclosed-closed : (ss : List Seat) (n : ℕ) (s now : Seat) → slice_get ss n ≡ Some s → s.titled.state.closed ≡ false → now.titled.state.closed ≡ true → unclosed_in ss ≡ unclosed_in (slice_set ss n now) + 1
+pub unclosed-closed : (ss : List Seat) (n : ℕ) (s now : Seat) → slice_get ss n ≡ Some s → s.job.titled.state.closed ≡ false → now.job.titled.state.closed ≡ true → unclosed_in ss ≡ unclosed_in (slice_set ss n now) + 1
 unclosed-closed ss n s now at before after =
     let one : unclosed_at s ≡ 1 = ap (λ (b : Bool). if not b then 1 else 0) before in
     let none : unclosed_at now ≡ 0 = ap (λ (b : Bool). if not b then 1 else 0) after in
     omega (arith, unclosed-set ss n s now at)
 
-pub unclosed-open : (ss : List Seat) (k : Key) (ask : Terms) → unclosed_in (ss ++ opened_seat k ask ∷ []) ≡ unclosed_in ss + 1
-unclosed-open ss k ask = sum_by-append unclosed_at ss (opened_seat k ask ∷ [])
+pub unclosed-open : (ss : List Seat) (number : ℕ) (k : Key) (ask : Terms) → unclosed_in (ss ++ opened_seat number k ask ∷ []) ≡ unclosed_in ss + 1
+unclosed-open ss number k ask = sum_by-append unclosed_at ss (opened_seat number k ask ∷ [])
 
 pub unclosed-balanced : (n : ℕ) (vs : List ℕ) (ss : List Seat) → unclosed_in ss ≡ unclosed_in (balanced_from n vs ss)
 unclosed-balanced n vs [] = refl

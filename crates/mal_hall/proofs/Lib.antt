@@ -1,5 +1,7 @@
 pub mod ScanLemmas
 pub mod KeptLemmas
-pub mod LeftLemmas
-pub mod TurnLemmas
 pub mod HallLemmas
+pub mod LeaseLemmas
+pub mod PhaseLemmas
+pub mod DriveLemmas
+pub mod RecallLemmas

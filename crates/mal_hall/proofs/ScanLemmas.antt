@@ -15,10 +15,10 @@ seats-from : (ss : List Seat) (i : ℕ) (s : Seat) → i < length ss → s ≡ g
 seats-from ss i s within at = drop_more ss i s within ∙ ap (λ (x : Seat). x ∷ drop (i + 1) ss) (sym at)
 
 -- a tenant's jobs from a place on
-pub jobs_of-from : (tenant : List ℕ) (ss : List Seat) (i : ℕ) (s : Seat) → i < length ss → s ≡ get_or ss i s → jobs_of tenant (jobs_in (drop i ss)) ≡ (if is_text tenant s.titled.key.tenant then 1 else 0) + jobs_of tenant (jobs_in (drop (i + 1) ss))
+pub jobs_of-from : (tenant : List ℕ) (ss : List Seat) (i : ℕ) (s : Seat) → i < length ss → s ≡ get_or ss i s → jobs_of tenant (jobs_in (drop i ss)) ≡ (if is_text tenant s.job.titled.key.tenant then 1 else 0) + jobs_of tenant (jobs_in (drop (i + 1) ss))
 jobs_of-from tenant ss i s within at =
     ap (λ (xs : List Seat). jobs_of tenant (jobs_in xs)) (seats-from ss i s within at)
-    ∙ sum_by-cons (λ (t : Titled). if is_text tenant t.key.tenant then 1 else 0) s.titled (jobs_in (drop (i + 1) ss))
+    ∙ sum_by-cons (λ (t : Titled). if is_text tenant t.key.tenant then 1 else 0) s.job.titled (jobs_in (drop (i + 1) ss))
 
 -- what holds of the seats up to a place, and of the seat there
 pub seats-more : (P : Seat → Type 0) (ss : List Seat) (i : ℕ) (s : Seat) → i < length ss → s ≡ get_or ss i s → ((k : ℕ) (d : Seat) → k < i → P (get_or ss k d)) → P s → (k : ℕ) (d : Seat) → k < i + 1 → P (get_or ss k d)
@@ -28,7 +28,7 @@ seats-more P ss i s within at below holds k d lt =
     below_more Q i (λ n l x. below n x l) here k lt d
 
 -- what is picked from a place on
-pub picks-from : (job : ℕ) (best now all : Option Candidate) (ss : List Seat) (i : ℕ) (s : Seat) → i < length ss → s ≡ get_or ss i s → now ≡ pick_job job s.titled.state best → pick_from job best (drop i ss) ≡ all → pick_from (job + 1) now (drop (i + 1) ss) ≡ all
+pub picks-from : (job : ℕ) (best now all : Option Candidate) (ss : List Seat) (i : ℕ) (s : Seat) → i < length ss → s ≡ get_or ss i s → now ≡ pick_job job s.job.titled.state best → pick_from job best (drop i ss) ≡ all → pick_from (job + 1) now (drop (i + 1) ss) ≡ all
 picks-from job best now all ss i s within at is whole =
     ap (λ (o : Option Candidate). pick_from (job + 1) o (drop (i + 1) ss)) is
     ∙ (sym (ap (pick_from job best) (seats-from ss i s within at)) ∙ whole)

@@ -1,5 +1,3 @@
 pub mod Seen
-pub mod Causes
-pub mod Work
+pub mod Offered
 pub mod Turned
-pub mod Room

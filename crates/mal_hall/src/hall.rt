@@ -1,15 +1,19 @@
 //! The hall and its calls.
 
-ghost use Rattle.std.specs.Prelude.{◌≡◌, ◌+◌, ◌<◌, ◌≤◌, List, [], ◌∷◌, ◌++◌, true, false, Some, None, MatchOption, IsErrOf, map, OnOk, OnErr, IfOk};
+ghost use Rattle.std.specs.Prelude.{◌≡◌, ◌+◌, ◌<◌, ◌≤◌, List, [], ◌∷◌, ◌++◌, true, false, Some, None, MatchOption, IsErrOf, map, option_map, is_some, OnOk, OnErr, IfOk, IfErr};
+ghost use Rattle.std.specs.Option.{option_copied};
 ghost use Rattle.mal_base.specs.Asks.{IsAsk};
 ghost use Rattle.mal_base.specs.Names.{is_name};
-ghost use Rattle.mal_hall.specs.Causes.{OpenCause, ReviseCause, CloseCause};
+ghost use Rattle.mal_hall.specs.Offered.{HasArranged, HasBalanced, HasEnded, HasExchanged, HasStarted, IsFirst, MayEnd, MayStartAt, offered, returned};
 ghost use Rattle.mal_hall.specs.Seen.{next_number};
-ghost use Rattle.spec_hall.specs.Dressed.{keyed};
-ghost use Rattle.mal_hall.specs.Work.{left_in};
-ghost use Rattle.spec_hall.specs.Driven.{GrowsByTurns};
+ghost use Rattle.mal_job.specs.Among.{among};
+ghost use Rattle.mal_job.specs.Finishing.{outcome_of};
+ghost use Rattle.spec_hall.specs.Calls.{HasCalled, IsOfLease, Opens, Revises, Closes, Picks, Finishes, Recalls, is_over};
+ghost use Rattle.spec_hall.specs.Dressed.{keyed, revisions_of};
+ghost use Rattle.spec_hall.specs.Driven.{GrowsByTurns, IsAtEnd, IsCalm};
 ghost use Rattle.spec_hall.specs.Events.{Open, Revise, Close, bare};
 ghost use Rattle.spec_hall.specs.Events as entered;
+ghost use Rattle.spec_hall.specs.Leases.{start_number};
 ghost use Rattle.spec_hall.specs.Own.{own};
 ghost use Rattle.spec_job.specs.Models.{AnswersSolve};
 ghost use Rattle.spec_job.specs.Proofs.{AnswersRefute};
@@ -17,28 +21,35 @@ ghost use Rattle.spec_job.specs.Provenance.{ClausesAreOwn};
 ghost use Rattle.spec_job.specs.Replies.{reply};
 ghost use Rattle.spec_job.specs.Solo.{solo};
 ghost use Rattle.spec_job.specs.Titled.{Titled};
-ghost use Rattle.spec_hall.specs.States.{states, lives, leases};
-ghost use Rattle.spec_hall.specs.Legal.{Legal, job_of};
+ghost use Rattle.spec_hall.specs.States as states_of;
+ghost use Rattle.spec_hall.specs.States.{Held, states, lives, leases, lease_of, balanced, exchange_due};
+ghost use Rattle.spec_hall.specs.Legal.{IsBalanceDue, Legal, job_of};
+ghost use Rattle.spec_hall.specs.Measure.{left_in};
 
-use crate::enter::{enter_balance, enter_exchange, enter_slice};
-use crate::fault::{CloseFault, OpenFault, ReplyFault, ReviseFault};
-use crate::pick::pick;
+use crate::enter::{enter_balance, enter_exchange};
+use crate::offer::{Back, Pick, Strange};
+use crate::pick::{Candidate, pick};
 use crate::room::{next_number, tenants_after};
 use crate::seats::{Seat, first_exchange, is_done, is_due, jobs_of, place_of};
-use mal_base::{Ask, Name};
+use crate::spots::{Spot, count_out, no_spots, owed, spot_of};
+use mal_base::{Ask, Name, Outcome};
 use mal_history::{Event, History};
 use mal_learn::Scratch;
 use mal_revision::Revision;
+use mal_suspend::{Done, Lease};
+use spec_hall::{CloseFault, OpenFault, PickFault, ReplyFault, ReviseFault};
 use std::alloc::{AllocError, Global};
 use std::marker::Model;
 
 /// A hall of 1 to 64 workers with room for 64 tenants with 64 jobs each. Contracts see its workers and its events, each
-/// posted revision standing at its event; the type keeps that they are a legal history and that each job is its machine run
-/// alone on its own events.
+/// posted revision standing at its event; the type keeps that they are a legal history, that each job is its machine run
+/// alone on its own events, and which leases are out.
 #[derive(Drop)]
 pub struct Hall {
     history: History,
     seats: Vec<Seat>,
+    spots: Vec<Option<Spot>>,
+    starts: u64,
     unclosed: usize,
     tenants: usize,
 }
@@ -50,44 +61,42 @@ impl Model for Hall {
 
     ghost view = { λ h. record { workers = h.history.workers; events = events_of h.history.events h.seats.items } };
 
-    ghost invariant = { λ h. IsHall h.history h.seats.items h.unclosed h.tenants };
+    ghost invariant = { λ h. IsHall (record { history = h.history; seats = h.seats.items; spots = h.spots.items; starts = h.starts; unclosed = h.unclosed; tenants = h.tenants }) };
 }
 
 impl Hall {
-    /// The hall of so many workers, 1 to 64, without a job. Takes no memory.
-    pub fn new(alloc: Global, workers: u32) -> Hall
+    /// The hall of so many workers, 1 to 64, without a job.
+    pub fn new(alloc: Global, workers: u32) -> Result<Hall, AllocError>
         requires some { 1 ≤ workers }
         requires bound { workers ≤ 64 }
-        ensures workers { result.workers ≡ workers }
-        ensures events { result.events ≡ [] }
+        ensures workers { IfOk result (λ h. h.workers ≡ workers) }
+        ensures events { IfOk result (λ h. h.events ≡ []) }
     {
-        Hall {
+        Ok(Hall {
             history: History::new(alloc, workers),
             seats: Vec::new(alloc),
+            spots: no_spots(alloc, workers)?,
+            starts: 0,
             unclosed: 0,
             tenants: 0,
-        }
+        })
     }
 
     /// Opens a job. There is room for 64 tenants with 64 jobs each; after a refusal the hall is as before.
-    pub fn open_job(
-        &mut self,
-        alloc: Global,
-        tenant: Name,
-        job: Name,
-        ask: Ask,
-    ) -> Result<(), OpenFault>
+    pub fn open_job(&mut self, tenant: Name, job: Name, ask: Ask) -> Result<(), OpenFault>
         ensures workers { self.new.workers ≡ self.old.workers }
         ensures ok { OnOk result (self.new.events ≡ self.old.events ++ Open (keyed tenant job) ask ∷ []) }
         ensures err { OnErr result (self.new.events ≡ self.old.events) }
-        ensures cause { OpenCause (keyed tenant job) (states self.old.events) result }
+        ensures call { HasCalled self.old.workers self.old.events (Opens (keyed tenant job) ask) result self.new.events }
     {
         if place_of(&self.seats, tenant, job).is_some() {
             return Err(OpenFault::Duplicate);
         }
         let jobs = jobs_of(&self.seats, tenant);
         let tenants = tenants_after(self.tenants, jobs)?;
-        match self.history.reserve(self.unclosed + 2) {
+        are_in_form(&tenant, &job, ask);
+        let owed = owed(self.unclosed, &self.spots);
+        match self.history.reserve(owed + 2) {
             Ok(()) => {}
             Err(_) => return Err(OpenFault::OutOfMemory),
         }
@@ -95,10 +104,13 @@ impl Hall {
             Ok(()) => {}
             Err(_) => return Err(OpenFault::OutOfMemory),
         }
-        are_in_form(&tenant, &job, ask);
+        let alloc = *self.seats.allocator();
+        let seat = match Seat::fresh(alloc, self.seats.len() as u64, tenant, job, ask) {
+            Ok(seat) => seat,
+            Err(_) => return Err(OpenFault::OutOfMemory),
+        };
         self.history.push_reserved(Event::Open { tenant, job, ask });
-        self.seats
-            .push_reserved(Seat::fresh(alloc, tenant, job, ask));
+        self.seats.push_reserved(seat);
         self.unclosed += 1;
         self.tenants = tenants;
         Ok(())
@@ -108,7 +120,6 @@ impl Hall {
     /// hall is as before.
     pub fn revise_job(
         &mut self,
-        alloc: Global,
         tenant: &Name,
         job: &Name,
         revision: Revision,
@@ -116,14 +127,14 @@ impl Hall {
         ensures workers { self.new.workers ≡ self.old.workers }
         ensures ok { OnOk result (self.new.events ≡ self.old.events ++ Revise (keyed tenant.now job.now) (next_number (keyed tenant.now job.now) self.old.events) revision ∷ []) }
         ensures err { OnErr result (self.new.events ≡ self.old.events) }
-        ensures cause { ReviseCause (keyed tenant.now job.now) (states self.old.events) revision result }
+        ensures call { HasCalled self.old.workers self.old.events (Revises (keyed tenant.now job.now) revision) result self.new.events }
     {
-        let _ = alloc;
         let Some(at) = place_of(&self.seats, *tenant, *job) else {
             return Err(ReviseFault::NoJob);
         };
         let number = next_number(self.seats[at].job(), &revision)?;
-        match self.history.reserve(self.unclosed + 1) {
+        let owed = owed(self.unclosed, &self.spots);
+        match self.history.reserve(owed + 1) {
             Ok(()) => {}
             Err(_) => return Err(ReviseFault::OutOfMemory),
         }
@@ -145,7 +156,7 @@ impl Hall {
         ensures workers { self.new.workers ≡ self.old.workers }
         ensures ok { OnOk result (self.new.events ≡ self.old.events ++ Close (keyed tenant.now job.now) ∷ []) }
         ensures err { OnErr result (self.new.events ≡ self.old.events) }
-        ensures cause { CloseCause (keyed tenant.now job.now) (states self.old.events) result }
+        ensures call { HasCalled self.old.workers self.old.events (Closes (keyed tenant.now job.now)) result self.new.events }
     {
         let Some(at) = place_of(&self.seats, *tenant, *job) else {
             return Err(CloseFault::NoJob);
@@ -190,52 +201,312 @@ impl Hall {
         ensures workers { result.now.workers ≡ self.now.workers }
         ensures events { result.now.events ≡ map bare self.now.events }
         ensures legal { Legal self.now.workers self.now.events }
-        ensures home { leases self.now.events ≡ [] }
     {
         &self.history
     }
 
-    /// Runs the jobs until every revision is answered, turn by turn, as worker 1. After want of memory the events entered so
-    /// far stay, and the hall may be driven again.
-    pub fn drive(&mut self, alloc: Global, scratch: &mut Scratch) -> Result<(), AllocError>
-        ensures workers { self.new.workers ≡ self.old.workers }
-        ensures turns { GrowsByTurns self.old.workers self.old.events self.new.events }
-        ensures answered { OnOk result (lives (states self.new.events) ≡ []) }
+    /// A revision of a job, numbered from 1: None exactly where the job is not there or has no such revision.
+    pub fn revision(&self, tenant: &Name, job: &Name, r: u32) -> Option<&Revision>
+        ensures { option_copied result ≡ among r (revisions_of (keyed tenant.now job.now) (states self.now.events)) }
     {
-        while self.turn(alloc, scratch)? {}
+        let Some(at) = place_of(&self.seats, *tenant, *job) else {
+            return None;
+        };
+        self.seats[at].job().revision(r)
+    }
+
+    /// Whether a balancing is due.
+    fn is_due(&self) -> bool
+        ensures due { result ≡ true → IsBalanceDue self.now.events }
+        ensures calm { result ≡ false → lives (states self.now.events) ≡ balanced self.now.events }
+        ensures legal { Legal self.now.workers self.now.events }
+        ensures some { 1 ≤ self.now.workers }
+        ensures bound { self.now.workers ≤ 64 }
+    {
+        is_due(&self.seats)
+    }
+
+    /// The place of the first job of which an exchange is due.
+    fn first_exchange(&self) -> Option<usize>
+        ensures value { MatchOption result (exchange_due (states self.now.events) ≡ None) (λ at. IsFirst self.now.events at) }
+        ensures legal { Legal self.now.workers self.now.events }
+        ensures some { 1 ≤ self.now.workers }
+    {
+        first_exchange(&self.seats)
+    }
+
+    /// The node that starts next.
+    fn next(&self) -> Option<Candidate>
+        ensures { result ≡ states_of.picked (states self.now.events) }
+    {
+        pick(&self.seats)
+    }
+
+    /// Whether every job is closed and answered and nothing is out.
+    fn is_over(&self) -> bool
+        ensures { result ≡ is_over self.now.events }
+    {
+        is_done(&self.seats) && count_out(&self.spots) == 0
+    }
+
+    /// Enters a balancing that is due. After want of memory nothing is entered.
+    fn balance(&mut self) -> Result<(), AllocError>
+        requires due { IsBalanceDue self.old.events }
+        ensures workers { self.new.workers ≡ self.old.workers }
+        ensures ok { OnOk result (HasBalanced self.old.workers self.old.events self.new.events) }
+        ensures err { OnErr result (self.new.events ≡ self.old.events) }
+    {
+        let alloc = *self.seats.allocator();
+        let owed = owed(self.unclosed, &self.spots);
+        enter_balance(alloc, &mut self.history, &mut self.seats, owed)?;
         Ok(())
     }
 
-    /// Enters a balancing where it is due, or else the first exchange that is due, or else a start of the node that is picked
-    /// with its slice. False where nothing was left to do.
-    fn turn(&mut self, alloc: Global, scratch: &mut Scratch) -> Result<bool, AllocError>
+    /// Enters an exchange of the first job of which it is due, where no balancing is. After want of memory nothing is entered.
+    fn exchange_at(&mut self, at: usize) -> Result<(), AllocError>
+        requires calm { lives (states self.old.events) ≡ balanced self.old.events }
+        requires first { IsFirst self.old.events at }
         ensures workers { self.new.workers ≡ self.old.workers }
-        ensures turns { GrowsByTurns self.old.workers self.old.events self.new.events }
-        ensures idle { IfOk result (λ b. b ≡ false → lives (states self.new.events) ≡ []) }
+        ensures ok { OnOk result (HasExchanged self.old.workers self.old.events self.new.events) }
+        ensures err { OnErr result (self.new.events ≡ self.old.events) }
+    {
+        let owed = owed(self.unclosed, &self.spots);
+        let seat = &mut self.seats[at];
+        match enter_exchange(&mut self.history, seat, owed) {
+            Ok(()) => {}
+            Err(_) => return Err(AllocError),
+        }
+        Ok(())
+    }
+
+    /// Enters a balancing if it is due. After want of memory nothing is entered.
+    fn balance_due(&mut self) -> Result<(), AllocError>
+        ensures workers { self.new.workers ≡ self.old.workers }
+        ensures due { HasArranged self.old.workers self.old.events self.new.events }
+        ensures calm { OnOk result (lives (states self.new.events) ≡ balanced self.new.events) }
+    {
+        if !self.is_due() {
+            return Ok(());
+        }
+        match self.balance() {
+            Ok(()) => {}
+            Err(_) => return Err(AllocError),
+        }
+        Ok(())
+    }
+
+    /// Enters the first exchange that is due, where no balancing is. False where none was due.
+    fn exchange_due(&mut self) -> Result<bool, AllocError>
+        requires calm { lives (states self.old.events) ≡ balanced self.old.events }
+        ensures workers { self.new.workers ≡ self.old.workers }
+        ensures due { HasArranged self.old.workers self.old.events self.new.events }
+        ensures calm { IfOk result (λ b. lives (states self.new.events) ≡ balanced self.new.events) }
+        ensures none { IfOk result (λ b. b ≡ false → exchange_due (states self.new.events) ≡ None) }
         ensures less { IfOk result (λ b. b ≡ true → left_in self.new.events < left_in self.old.events) }
     {
-        if is_done(&self.seats) {
-            return Ok(false);
-        }
-        let unclosed = self.unclosed;
-        if is_due(&self.seats) {
-            enter_balance(alloc, &mut self.history, &mut self.seats, unclosed)?;
-            return Ok(true);
-        }
-        match first_exchange(&self.seats) {
-            None => {}
-            Some(at) => {
-                let seat = &mut self.seats[at];
-                enter_exchange(alloc, &mut self.history, seat, unclosed)?;
-                return Ok(true);
-            }
-        }
-        let Some(next) = pick(&self.seats) else {
+        let Some(at) = self.first_exchange() else {
             return Ok(false);
         };
-        let (at, index) = (next.job(), next.index());
+        match self.exchange_at(at) {
+            Ok(()) => {}
+            Err(_) => return Err(AllocError),
+        }
+        Ok(true)
+    }
+
+    /// Enters the balancing if it is due, then each exchange that is due, by opening. After want of memory what was entered
+    /// stays.
+    fn arrange(&mut self) -> Result<(), AllocError>
+        ensures workers { self.new.workers ≡ self.old.workers }
+        ensures due { HasArranged self.old.workers self.old.events self.new.events }
+        ensures calm { OnOk result (IsCalm self.new.events) }
+    {
+        match self.balance_due() {
+            Ok(()) => {}
+            Err(_) => return Err(AllocError),
+        }
+        while self.exchange_due()? {}
+        Ok(())
+    }
+
+    /// Starts a node of the job at this place, which a worker may start, and makes room for the finish. After want of memory
+    /// nothing is entered.
+    fn start_at(&mut self, at: usize, index: u32, worker: u32) -> Result<Lease, AllocError>
+        requires { MayStartAt self.old.workers self.old.events at index worker }
+        ensures workers { self.new.workers ≡ self.old.workers }
+        ensures ok { IfOk result (λ lease. HasStarted self.old.workers self.old.events self.new.events index worker lease) }
+        ensures err { OnErr result (self.new.events ≡ self.old.events) }
+    {
+        if self.starts == u64::MAX {
+            return Err(AllocError);
+        }
+        let owed = owed(self.unclosed, &self.spots);
+        self.history.reserve(owed + 2)?;
+        let start = self.starts + 1;
         let seat = &mut self.seats[at];
-        enter_slice(alloc, &mut self.history, seat, index, unclosed, scratch)?;
+        let (tenant, job) = (seat.job().tenant(), seat.job().name());
+        let lease = match seat.start(index, worker, start) {
+            Ok(lease) => lease,
+            Err(_) => return Err(AllocError),
+        };
+        self.history.push_reserved(Event::Start {
+            tenant,
+            job,
+            index,
+            worker,
+        });
+        self.starts = start;
+        self.spots[worker as usize - 1] = Some(Spot::new(at, index, start));
+        Ok(lease)
+    }
+
+    /// Hands a node out to a worker, 1 to the number of workers, behind the balancing and the exchanges that are due: the one
+    /// that was started least often, then by its job's opening, then by index. It waits where no node may start, and all is done
+    /// where every job is closed and answered and nothing is out. After want of memory the balancing and the exchanges that were
+    /// entered stay.
+    pub fn pick(&mut self, worker: u32) -> Result<Pick, PickFault>
+        requires some { 1 ≤ worker }
+        requires bound { worker ≤ self.old.workers }
+        ensures workers { self.new.workers ≡ self.old.workers }
+        ensures call { HasCalled self.old.workers self.old.events (Picks worker) (offered result) self.new.events }
+    {
+        if self.has_lease(worker) {
+            return Err(PickFault::Busy);
+        }
+        if self.is_over() {
+            return Ok(Pick::AllDone);
+        }
+        match self.arrange() {
+            Ok(()) => {}
+            Err(_) => return Err(PickFault::OutOfMemory),
+        }
+        let Some(next) = self.next() else {
+            return Ok(Pick::Idle);
+        };
+        match self.start_at(next.job(), next.index(), worker) {
+            Ok(lease) => Ok(Pick::Leased(lease)),
+            Err(_) => Err(PickFault::OutOfMemory),
+        }
+    }
+
+    /// Whether a worker has a lease out.
+    fn has_lease(&self, worker: u32) -> bool
+        requires { 1 ≤ worker }
+        ensures { result ≡ is_some (lease_of worker (leases self.now.events)) }
+    {
+        spot_of(&self.spots, worker).is_some()
+    }
+
+    /// Whether what came back is that of the lease which its worker has out, or else the number of that lease's start.
+    fn compare(&self, back: &Done) -> Result<(), Option<u64>>
+        ensures ok { OnOk result (MayEnd self.now.events back.now.worker (Some back.now)) }
+        ensures worker { OnOk result (1 ≤ back.now.worker) }
+        ensures strange { OnErr result ((l : Held) → IsOfLease self.now.events back.now l → ⊥) }
+        ensures kept { IfErr result (λ kept. kept ≡ option_map (λ l. start_number l.worker self.now.events) (lease_of back.now.worker (leases self.now.events))) }
+    {
+        let _starts = self.starts;
+        let worker = back.worker();
+        if worker == 0 {
+            return Err(None);
+        }
+        let Some(spot) = spot_of(&self.spots, worker) else {
+            return Err(None);
+        };
+        if !self.seats[spot.job()].is_back(spot.index(), back) {
+            return Err(Some(spot.start()));
+        }
+        Ok(())
+    }
+
+    /// Ends the lease that a worker has out: it is lost where nothing came back.
+    fn end(&mut self, worker: u32, back: Option<Done>)
+        requires some { 1 ≤ worker }
+        requires may { MayEnd self.old.events worker back }
+        ensures workers { self.new.workers ≡ self.old.workers }
+        ensures ended { HasEnded self.old.events self.new.events worker (outcome_of back) }
+    {
+        let Some(spot) = spot_of(&self.spots, worker) else {
+            return;
+        };
+        let index = spot.index();
+        let outcome = outcome_of(&back);
+        let seat = &mut self.seats[spot.job()];
+        let (tenant, job) = (seat.job().tenant(), seat.job().name());
+        seat.finish(index, back);
+        self.spots[worker as usize - 1] = None;
+        self.history.push_reserved(Event::Finish {
+            tenant,
+            job,
+            index,
+            worker,
+            outcome,
+        });
+    }
+
+    /// Takes back what came of a lease, where its journal is that of the lease which its worker has out. What is strange is
+    /// handed back with the number of that lease's start, and the hall is as before. Takes no memory.
+    pub fn finish(&mut self, back: Done) -> Result<Back, Strange>
+        ensures workers { self.new.workers ≡ self.old.workers }
+        ensures call { HasCalled self.old.workers self.old.events (Finishes back) (returned result) self.new.events }
+        ensures back { IfErr result (λ s. s.back ≡ back) }
+    {
+        match self.compare(&back) {
+            Err(kept) => Err(Strange { kept, back }),
+            Ok(()) => {
+                self.end(back.worker(), Some(back));
+                Ok(Back)
+            }
+        }
+    }
+
+    /// Enters every lease that is out as lost, by rising worker. Takes no memory.
+    pub fn recall(&mut self)
+        ensures workers { self.new.workers ≡ self.old.workers }
+        ensures call { HasCalled self.old.workers self.old.events Recalls tt self.new.events }
+        ensures home { leases self.new.events ≡ [] }
+    {
+        let _ = self.is_due();
+        for worker in 1..self.history.workers() + 1 {
+            if self.has_lease(worker) {
+                self.end(worker, None);
+            }
+        }
+    }
+
+    /// Runs the jobs until nothing is left to do, turn by turn, as worker 1: every job is closed and answered, or nothing is due
+    /// and no node may start. After want of memory the events entered so far stay, no lease is out, and the hall may be driven
+    /// again.
+    pub fn drive(&mut self, scratch: &mut Scratch) -> Result<(), AllocError>
+        requires home { leases self.old.events ≡ [] }
+        ensures workers { self.new.workers ≡ self.old.workers }
+        ensures turns { GrowsByTurns self.old.workers self.old.events self.new.events }
+        ensures home { leases self.new.events ≡ [] }
+        ensures end { OnOk result (IsAtEnd self.new.events) }
+        ensures answered { OnOk result (lives (states self.new.events) ≡ []) }
+    {
+        while self.turn(scratch)? {}
+        Ok(())
+    }
+
+    /// Picks as worker 1, works the lease off and takes it back. False where nothing was left to do.
+    fn turn(&mut self, scratch: &mut Scratch) -> Result<bool, AllocError>
+        requires home { leases self.old.events ≡ [] }
+        ensures workers { self.new.workers ≡ self.old.workers }
+        ensures turns { GrowsByTurns self.old.workers self.old.events self.new.events }
+        ensures home { leases self.new.events ≡ [] }
+        ensures end { IfOk result (λ b. b ≡ false → IsAtEnd self.new.events) }
+        ensures answered { IfOk result (λ b. b ≡ false → lives (states self.new.events) ≡ []) }
+        ensures less { IfOk result (λ b. b ≡ true → left_in self.new.events < left_in self.old.events) }
+    {
+        let _ = self.is_due();
+        let lease = match self.pick(1) {
+            Err(_) => return Err(AllocError),
+            Ok(Pick::Idle) => return Ok(false),
+            Ok(Pick::AllDone) => return Ok(false),
+            Ok(Pick::Leased(lease)) => lease,
+        };
+        let done = lease.work(scratch);
+        let _ = self.finish(done);
         Ok(true)
     }
 }
@@ -249,4 +520,14 @@ fn are_in_form(tenant: &Name, job: &Name, ask: Ask)
     let _ = tenant.as_bytes();
     let _ = job.as_bytes();
     let _ = ask.priority();
+}
+
+/// How a start ended of which this came back: it is lost where nothing came.
+fn outcome_of(back: &Option<Done>) -> Outcome
+    ensures { result ≡ outcome_of back.now }
+{
+    match back {
+        None => Outcome::Lost,
+        Some(done) => done.outcome(),
+    }
 }

@@ -1,9 +1,8 @@
 //! Picking the node that starts next.
 
-ghost use Rattle.std.specs.Prelude.{◌≡◌, All};
+ghost use Rattle.std.specs.Prelude.{◌≡◌};
 ghost use Rattle.spec_hall.specs.States as states;
 ghost use Rattle.spec_hall.specs.Seats as spec;
-ghost use Rattle.mal_hall.specs.Turned.{FirstMay};
 
 use crate::seats::Seat;
 use std::marker::Model;
@@ -13,7 +12,7 @@ use std::marker::Model;
 pub struct Candidate {
     job: usize,
     index: u32,
-    starts: u32,
+    starts: u64,
 }
 
 impl Model for Candidate {
@@ -55,11 +54,9 @@ fn fewer(best: Option<Candidate>, next: Candidate) -> Option<Candidate>
 
 /// What was picked so far, or a node of the job at this place.
 fn pick_of_job(seat: &Seat, job: usize, best: Option<Candidate>) -> Option<Candidate>
-    ensures value { result ≡ spec.pick_job job seat.now.titled.state best }
-    ensures first { FirstMay seat.now }
+    ensures { result ≡ spec.pick_job job seat.now.job.titled.state best }
 {
     let mut best = best;
-    let _ = seat.is_startable(0);
     for index in 0..seat.volume() {
         if seat.is_startable(index) {
             let starts = seat.starts(index);
@@ -71,8 +68,7 @@ fn pick_of_job(seat: &Seat, job: usize, best: Option<Candidate>) -> Option<Candi
 
 /// The node that starts next: that with the fewest starts, then by its job's opening, then by index.
 pub fn pick(seats: &[Seat]) -> Option<Candidate>
-    ensures value { result ≡ spec.pick seats.now }
-    ensures first { All FirstMay seats.now }
+    ensures { result ≡ spec.pick seats.now }
 {
     let mut best = None;
     for (job, seat) in seats.iter().enumerate() {

@@ -1,19 +1,24 @@
 //! Whether a hall takes a further job, and a job a further revision.
 
-ghost use Rattle.std.specs.Prelude.{◌≡◌, ◌+◌, ◌<◌, ◌≤◌, ◌^◌, true, false, ◌==◌, if◌then◌else◌, List, length, Some, None, Err, MatchOption, IfOk, IfErr};
+ghost use Rattle.std.specs.Prelude.{◌≡◌, ◌+◌, ◌<◌, ◌≤◌, ◌^◌, true, false, ◌==◌, if◌then◌else◌, List, [], length, Some, None, Err, MatchOption, IfOk, IfErr};
 ghost use Rattle.mal_base.specs.Formulas.{literals_of};
 ghost use Rattle.mal_revision.specs.Posted.{is_posted};
 ghost use Rattle.spec_job.specs.Solo.{clauses_in};
 ghost use Rattle.spec_hall.specs.Legal.{literals_in};
-ghost use Rattle.mal_hall.specs.Causes.{OpenCause, ReviseCause};
-ghost use Rattle.mal_hall.specs.Room.{HasRoomFor, IsOver};
+ghost use Rattle.spec_hall.specs.Calls.{IsOpening, IsRevising};
+ghost use Rattle.spec_hall.specs.Events.{Event};
+ghost use Rattle.spec_hall.specs.Room.{HasRoomFor, IsOver};
+ghost use Rattle.spec_hall.specs.States.{states};
+ghost use Rattle.mal_job.specs.Viewed.{shared};
+ghost use Rattle.mal_base.specs.Asks.{Terms};
 ghost use Rattle.spec_hall.specs.Legal.{job_of, jobs_of, tenant_count};
-ghost use Rattle.spec_job.specs.Titled.{Key, Titled};
+ghost use Rattle.spec_job.specs.Titled.{Key};
 
-use crate::fault::{OpenFault, ReviseFault};
 use mal_base::{Clause, Which};
 use mal_job::Job;
 use mal_revision::Revision;
+use spec_hall::{OpenFault, ReviseFault};
+use std::sync::Arc;
 
 /// How many tenants a hall with so many tenants has after a further job of a tenant with so many jobs, or why it does not
 /// take the job: the tenant has 64 jobs, or there are 64 other tenants.
@@ -21,7 +26,7 @@ pub fn tenants_after(tenants: usize, jobs: usize) -> Result<usize, OpenFault>
     ensures count { IfOk result (λ n. n ≡ tenants + (if 0 == jobs then 1 else 0)) }
     ensures few { IfOk result (λ n. jobs < 64) }
     ensures others { IfOk result (λ n. jobs ≡ 0 → tenants < 64) }
-    ensures refusal { IfErr result (λ fault. (k : Key) (ts : List Titled) → job_of k ts ≡ None → jobs ≡ jobs_of k.tenant ts → tenants ≡ tenant_count ts → OpenCause k ts (Err fault)) }
+    ensures refusal { IfErr result (λ fault. (k : Key) (ask : Terms) (past : List Event) → job_of k (states past) ≡ None → jobs ≡ jobs_of k.tenant (states past) → tenants ≡ tenant_count (states past) → IsOpening past k ask (Err fault) []) }
 {
     if jobs >= 64 {
         return Err(OpenFault::TenantFull);
@@ -38,12 +43,12 @@ pub fn tenants_after(tenants: usize, jobs: usize) -> Result<usize, OpenFault>
 /// The number of a job's next revision, or why the job does not take it: it is closed, it has 256 revisions, or it has no
 /// room for the clauses or the literals.
 pub fn next_number(job: &Job, revision: &Revision) -> Result<u32, ReviseFault>
-    ensures open { IfOk result (λ n. job.now.state.closed ≡ false) }
-    ensures number { IfOk result (λ n. n ≡ length job.now.state.revisions + 1) }
-    ensures few { IfOk result (λ n. length job.now.state.revisions < 256) }
-    ensures room { IfOk result (λ n. HasRoomFor job.now.state.revisions revision.now) }
+    ensures open { IfOk result (λ n. job.now.titled.state.closed ≡ false) }
+    ensures number { IfOk result (λ n. n ≡ length job.now.titled.state.revisions + 1) }
+    ensures few { IfOk result (λ n. length job.now.titled.state.revisions < 256) }
+    ensures room { IfOk result (λ n. HasRoomFor job.now.titled.state.revisions revision.now) }
     ensures form { is_posted revision.now ≡ true }
-    ensures refusal { IfErr result (λ fault. (k : Key) (jobs : List Titled) → job_of k jobs ≡ Some job.now → ReviseCause k jobs revision.now (Err fault)) }
+    ensures refusal { IfErr result (λ fault. (k : Key) (past : List Event) → job_of k (states past) ≡ Some job.now.titled → IsRevising past k revision.now (Err fault) []) }
 {
     let _ = revision.clauses();
     if job.is_closed() {
@@ -60,10 +65,10 @@ pub fn next_number(job: &Job, revision: &Revision) -> Result<u32, ReviseFault>
 }
 
 /// Which limit of a job a further revision would pass: 2^20 clauses, then 2^24 literals, over all revisions.
-fn limit_passed(revisions: &[Revision], revision: &Revision) -> Option<Which>
-    requires few { length revisions.now ≤ 256 }
-    requires clauses { clauses_in revisions.now ≤ 2 ^ 20 }
-    ensures limit { MatchOption result (HasRoomFor revisions.now revision.now) (λ which. IsOver which revisions.now revision.now) }
+fn limit_passed(revisions: &[Arc<Revision>], revision: &Revision) -> Option<Which>
+    requires few { length (shared revisions.now) ≤ 256 }
+    requires clauses { clauses_in (shared revisions.now) ≤ 2 ^ 20 }
+    ensures limit { MatchOption result (HasRoomFor (shared revisions.now) revision.now) (λ which. IsOver which (shared revisions.now) revision.now) }
     ensures form { is_posted revision.now ≡ true }
 {
     let clauses = count_clauses(revisions) + revision.clauses().len() as u64;
@@ -78,9 +83,9 @@ fn limit_passed(revisions: &[Revision], revision: &Revision) -> Option<Which>
 }
 
 /// The number of the clauses of these revisions, at most 2^20.
-fn count_clauses(revisions: &[Revision]) -> u64
-    requires { clauses_in revisions.now ≤ 2 ^ 20 }
-    ensures value { result ≡ clauses_in revisions.now }
+fn count_clauses(revisions: &[Arc<Revision>]) -> u64
+    requires { clauses_in (shared revisions.now) ≤ 2 ^ 20 }
+    ensures value { result ≡ clauses_in (shared revisions.now) }
     ensures bound { result ≤ 2 ^ 20 }
 {
     let mut count = 0;
@@ -91,9 +96,9 @@ fn count_clauses(revisions: &[Revision]) -> u64
 }
 
 /// How many literals the clauses of these revisions have, of which there are 256 at most.
-fn count_literals(revisions: &[Revision]) -> u64
-    requires { length revisions.now ≤ 256 }
-    ensures value { result ≡ literals_in revisions.now }
+fn count_literals(revisions: &[Arc<Revision>]) -> u64
+    requires { length (shared revisions.now) ≤ 256 }
+    ensures value { result ≡ literals_in (shared revisions.now) }
     ensures bound { result ≤ 2 ^ 32 }
 {
     let mut count = 0;

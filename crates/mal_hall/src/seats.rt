@@ -1,31 +1,30 @@
 //! The jobs of a hall in their seats, by opening.
 
-ghost use Rattle.std.specs.Prelude.{◌≡◌, ◌+◌, ◌<◌, ◌≤◌, true, OnOk, OnErr, length};
+ghost use Rattle.std.specs.Prelude.{◌≡◌, ◌↔◌, ◌+◌, ◌<◌, ◌≤◌, true, IfOk, IsTrue, OnOk, OnErr, length};
 ghost use Rattle.mal_base.specs.Asks.{IsAsk};
-ghost use Rattle.mal_base.specs.declared.verdict.Outcome.TheVariants.{Ran};
-ghost use Rattle.spec_job.specs.Left.{left_of};
-ghost use Rattle.spec_job.specs.Solo.{Revised, Closed, Started, Finished, Exchanged, is_exchange_due, place_at, startable, clauses_in};
-ghost use Rattle.spec_job.specs.Titled.{stepped};
+ghost use Rattle.mal_job.specs.Finishing.{outcome_of, MayFinish};
+ghost use Rattle.spec_job.specs.Solo.{Revised, Closed, Finished, Exchanged, is_exchange_due, place_at, startable, clauses_in};
+ghost use Rattle.spec_job.specs.Viewed.{and_own, and_start, IsLeaseOf, IsBack};
 ghost use Rattle.spec_hall.specs.Dressed.{keyed};
 ghost use Rattle.spec_hall.specs.Driven as driven;
 ghost use Rattle.spec_hall.specs.Legal as legal;
 ghost use Rattle.spec_hall.specs.Own.{is_key};
 ghost use Rattle.spec_hall.specs.Seats as spec;
-ghost use Rattle.mal_hall.specs.Turned.{FirstMay};
 
 use mal_base::{Ask, Name};
 use mal_history::Share;
 use mal_job::Job;
-use mal_learn::Scratch;
 use mal_revision::Revision;
+use mal_suspend::{Done, Lease};
 use std::alloc::{AllocError, Global};
 use std::marker::Model;
 
-/// A job of a hall, with whether the last balancing listed it.
+/// A job of a hall, with whether the last balancing listed it and the ask that it had then.
 #[derive(Drop)]
 pub struct Seat {
     job: Job,
     listed: bool,
+    noted: Ask,
 }
 
 impl Model for Seat {
@@ -33,30 +32,37 @@ impl Model for Seat {
 
     ghost Value = { Seat };
 
-    ghost view = { λ s. record { titled = s.job; listed = s.listed } };
+    ghost view = { λ s. record { job = s.job; listed = s.listed; noted = s.noted } };
 }
 
 impl Seat {
-    /// The seat of a job that was just opened. Takes no memory.
-    pub fn fresh(alloc: Global, tenant: Name, name: Name, ask: Ask) -> Seat
-        ensures { result ≡ spec.opened_seat (keyed tenant name) ask }
+    /// The seat of a job of this number that was just opened.
+    pub fn fresh(
+        alloc: Global,
+        number: u64,
+        tenant: Name,
+        name: Name,
+        ask: Ask,
+    ) -> Result<Seat, AllocError>
+        ensures { IfOk result (λ s. s ≡ spec.opened_seat number (keyed tenant name) ask) }
     {
-        Seat {
-            job: Job::fresh(alloc, tenant, name, ask),
+        Ok(Seat {
+            job: Job::fresh(alloc, number, tenant, name, ask)?,
             listed: false,
-        }
+            noted: ask,
+        })
     }
 
     /// The job.
     pub fn job(&self) -> &Job
-        ensures { result.now ≡ self.now.titled }
+        ensures { result.now ≡ self.now.job }
     {
         &self.job
     }
 
     /// Whether the job has this key.
     fn is_named(&self, tenant: Name, name: Name) -> bool
-        ensures { result ≡ is_key (keyed tenant name) self.now.titled.key }
+        ensures { result ≡ is_key (keyed tenant name) self.now.job.titled.key }
     {
         tenant == self.job.tenant() && name == self.job.name()
     }
@@ -70,18 +76,21 @@ impl Seat {
 
     /// What the job asks for.
     pub fn ask(&self) -> Ask
-        ensures value { result ≡ self.now.titled.state.ask }
-        ensures form { IsAsk self.now.titled.state.ask }
+        ensures value { result ≡ self.now.job.titled.state.ask }
+        ensures form { IsAsk self.now.job.titled.state.ask }
     {
         let _ = self.job.ask().priority();
         self.job.ask()
     }
 
-    /// Whether the job is live and the last balancing did not list it, or the other way round.
+    /// Whether the job is live and the last balancing did not list it or noted another ask, or the other way round.
     fn has_changed(&self) -> bool
         ensures { result ≡ spec.has_changed self.now }
     {
-        self.job.is_live() != self.listed
+        if !self.job.is_live() {
+            return self.listed;
+        }
+        !(self.listed && are_alike(self.job.ask(), self.noted))
     }
 
     /// What a balancing notes of the job that gives it this volume.
@@ -97,9 +106,9 @@ impl Seat {
 
     /// Posts the job's next revision. After want of memory the job is as before.
     pub fn revise(&mut self, revision: Revision) -> Result<(), AllocError>
-        requires few { length self.old.titled.state.revisions < 256 }
-        requires clauses { clauses_in self.old.titled.state.revisions + length revision.clauses ≤ 1048576 }
-        ensures ok { OnOk result (self.new ≡ record self.old { titled = stepped self.old.titled (Revised revision) }) }
+        requires few { length self.old.job.titled.state.revisions < 256 }
+        requires clauses { clauses_in self.old.job.titled.state.revisions + length revision.clauses ≤ 1048576 }
+        ensures ok { OnOk result (self.new ≡ record self.old { job = and_own self.old.job (Revised revision) }) }
         ensures err { OnErr result (self.new ≡ self.old) }
     {
         self.job.revise(revision)
@@ -107,7 +116,7 @@ impl Seat {
 
     /// Closes the job.
     pub fn close(&mut self)
-        ensures { self.new ≡ record self.old { titled = stepped self.old.titled Closed } }
+        ensures { self.new ≡ record self.old { job = and_own self.old.job Closed } }
     {
         self.job.close();
     }
@@ -118,60 +127,83 @@ impl Seat {
         ensures { self.new ≡ spec.balanced_seat volume self.old }
     {
         self.listed = self.job.is_live();
+        self.noted = self.job.ask();
         self.job.set_volume(if self.listed { volume } else { 0 });
     }
 
     /// How many of the job's nodes may run at a time.
     pub fn volume(&self) -> u32
-        ensures { result ≡ self.now.titled.state.volume }
+        ensures value { result ≡ self.now.job.titled.state.volume }
+        ensures few { result ≤ 64 }
     {
         self.job.volume()
     }
 
-    /// Whether the node of this index may start: the first one of a live job with a volume may.
+    /// Whether the node of this index (0 to 63) may start.
     pub fn is_startable(&self, index: u32) -> bool
-        ensures value { result ≡ startable self.now.titled.state index }
-        ensures first { FirstMay self.now }
+        requires { index ≤ 63 }
+        ensures { result ≡ startable self.now.job.titled.state index }
     {
-        self.job.is_startable(index)
+        self.job.startable(index)
     }
 
-    /// How often the node of this index was started.
-    pub fn starts(&self, index: u32) -> u32
-        ensures { result ≡ (place_at self.now.titled.state index).starts }
+    /// How often the node of this index (0 to 63) was started.
+    pub fn starts(&self, index: u32) -> u64
+        requires { index ≤ 63 }
+        ensures { result ≡ (place_at self.now.job.titled.state index).starts }
     {
         self.job.starts(index)
     }
 
-    /// Starts the node of this index and runs one slice. After want of memory the job is as before.
-    pub fn run_slice(
-        &mut self,
-        alloc: Global,
-        index: u32,
-        scratch: &mut Scratch,
-    ) -> Result<(), AllocError>
-        requires { startable self.old.titled.state index ≡ true }
-        ensures ok { OnOk result (self.new ≡ record self.old { titled = stepped (stepped self.old.titled (Started index)) (Finished index Ran) }) }
-        ensures less { OnOk result (left_of self.new.titled.state < left_of self.old.titled.state) }
+    /// Starts the node of this index, as the start of this number: hands it out to a worker. After want of memory the job is as
+    /// before.
+    pub fn start(&mut self, index: u32, worker: u32, start: u64) -> Result<Lease, AllocError>
+        requires { startable self.old.job.titled.state index ≡ true }
+        ensures ok { OnOk result (self.new ≡ record self.old { job = and_start self.old.job index start }) }
+        ensures lease { IfOk result (λ l. IsLeaseOf self.old.job index start worker l) }
         ensures err { OnErr result (self.new ≡ self.old) }
     {
-        self.job.run_slice(alloc, index, scratch)
+        self.job.start(index, worker, start)
+    }
+
+    /// Whether what came back is that of the lease that is out at this index (0 to 63).
+    pub fn is_back(&self, index: u32, back: &Done) -> bool
+        requires { index ≤ 63 }
+        ensures { IsTrue result ↔ IsBack self.now.job index back.now }
+    {
+        self.job.is_back(index, back)
+    }
+
+    /// Ends the start that is out at this index (0 to 63): it is lost where nothing came back. Takes no memory.
+    pub fn finish(&mut self, index: u32, back: Option<Done>)
+        requires index { index ≤ 63 }
+        requires back { MayFinish self.old.job index back }
+        ensures { self.new ≡ record self.old { job = and_own self.old.job (Finished index (outcome_of back)) } }
+    {
+        self.job.finish(index, back);
     }
 
     /// Whether an exchange of the job is due.
     fn is_exchange_due(&self) -> bool
-        ensures { result ≡ is_exchange_due self.now.titled.state }
+        ensures { result ≡ is_exchange_due self.now.job.titled.state }
     {
-        self.job.is_exchange_due()
+        self.job.exchange_due()
     }
 
     /// Lets the job's nodes tell one another what they derived. After want of memory the job is as before.
-    pub fn exchange(&mut self, alloc: Global) -> Result<(), AllocError>
-        ensures ok { OnOk result (self.new ≡ record self.old { titled = stepped self.old.titled Exchanged }) }
+    pub fn exchange(&mut self) -> Result<(), AllocError>
+        ensures ok { OnOk result (self.new ≡ record self.old { job = and_own self.old.job Exchanged }) }
         ensures err { OnErr result (self.new ≡ self.old) }
     {
-        self.job.exchange(alloc)
+        self.job.exchange()
     }
+}
+
+/// Whether two asks are the same to a balancing.
+fn are_alike(one: Ask, other: Ask) -> bool
+    ensures { result ≡ spec.asks_alike one other }
+{
+    one.priority() == other.priority() && one.demand() == other.demand()
 }
 
 /// The place of the job with this key.

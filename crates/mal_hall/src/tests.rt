@@ -2,10 +2,11 @@
 
 ghost use Rattle.std.specs.Prelude.{◌≤◌};
 
-use crate::{CloseFault, Hall, OpenFault, ReplyFault, ReviseFault};
+use crate::{CloseFault, Hall, OpenFault, Pick, PickFault, ReplyFault, ReviseFault};
 use mal_base::{Ask, Clause, Lit, Name, Which};
 use mal_learn::Scratch;
 use mal_revision::Revision;
+use mal_suspend::{Done, Lease};
 use std::alloc::Global;
 use std::test::Fail;
 
@@ -17,14 +18,14 @@ struct Trial {
 }
 
 impl Trial {
-    fn new(alloc: Global, workers: u32) -> Trial
+    fn new(alloc: Global, workers: u32) -> Result<Trial, Fail>
         requires some { 1 ≤ workers }
         requires bound { workers ≤ 64 }
     {
-        Trial {
+        Ok(Trial {
             alloc,
-            hall: Hall::new(alloc, workers),
-        }
+            hall: Hall::new(alloc, workers)?,
+        })
     }
 
     /// Why a job is not opened, none where it is.
@@ -42,7 +43,7 @@ impl Trial {
     ) -> Result<Option<OpenFault>, Fail> {
         let ask = Ask::of(1, demand, slices).ok_or("no ask")?;
         let (tenant, job) = (name(self.alloc, tenant)?, name(self.alloc, job)?);
-        Ok(self.hall.open_job(self.alloc, tenant, job, ask).err())
+        Ok(self.hall.open_job(tenant, job, ask).err())
     }
 
     /// Why a revision is not posted, none where it is.
@@ -53,11 +54,7 @@ impl Trial {
         revision: Revision,
     ) -> Result<Option<ReviseFault>, Fail> {
         let (tenant, job) = (name(self.alloc, tenant)?, name(self.alloc, job)?);
-        Ok(
-            self.hall
-                .revise_job(self.alloc, &tenant, &job, revision)
-                .err(),
-        )
+        Ok(self.hall.revise_job(&tenant, &job, revision).err())
     }
 
     /// Why a job is not closed, none where it is.
@@ -66,10 +63,45 @@ impl Trial {
         Ok(self.hall.close_job(&tenant, &job).err())
     }
 
-    /// Drives the hall until nothing is left to do.
+    /// Drives the hall until nothing is left to do; what is out is lost first.
     fn drive(&mut self) -> Result<(), Fail> {
-        self.hall.drive(self.alloc, &mut Scratch::new(self.alloc))?;
+        self.hall.recall();
+        self.hall.drive(&mut Scratch::new(self.alloc))?;
         Ok(())
+    }
+
+    /// What a worker is told that picks, with the lease that it gets.
+    fn pick(&mut self, worker: u32) -> Result<(Told, Option<Lease>), Fail> {
+        if worker < 1 || self.hall.history().workers() < worker {
+            return Err(Fail::from("no worker"));
+        }
+        match self.hall.pick(worker) {
+            Ok(Pick::Leased(lease)) => Ok((Told::Leased, Some(lease))),
+            Ok(Pick::Idle) => Ok((Told::Idle, None)),
+            Ok(Pick::AllDone) => Ok((Told::AllDone, None)),
+            Err(PickFault::Busy) => Ok((Told::Busy, None)),
+            Err(PickFault::OutOfMemory) => Err(Fail::from("no memory")),
+        }
+    }
+
+    /// What a worker is told that picks.
+    fn told(&mut self, worker: u32) -> Result<Told, Fail> {
+        let (told, _lease) = self.pick(worker)?;
+        Ok(told)
+    }
+
+    /// What came of the lease that a worker gets, which is worked off.
+    fn worked(&mut self, worker: u32) -> Result<Done, Fail> {
+        let (_told, lease) = self.pick(worker)?;
+        Ok(lease.ok_or("no lease")?.work(&mut Scratch::new(self.alloc)))
+    }
+
+    /// Gives back what came of a lease: none where it is taken back, or else the number of the start that its worker has out.
+    fn give(&mut self, done: Done) -> Option<Option<u64>> {
+        match self.hall.finish(done) {
+            Ok(_) => None,
+            Err(strange) => Some(strange.kept),
+        }
     }
 
     /// The reply to a revision, none before it is answered.
@@ -101,6 +133,15 @@ impl Trial {
     fn history(&self) -> Result<Vec<u8>, Fail> {
         Ok(mal_history::write(self.alloc, self.hall.history())?)
     }
+}
+
+/// What a worker is told that picks.
+#[derive(Clone, Copy, PartialEq, Eq, Debug)]
+enum Told {
+    Leased,
+    Idle,
+    AllDone,
+    Busy,
 }
 
 fn name(alloc: Global, text: &[u8]) -> Result<Name, Fail> {
@@ -160,7 +201,7 @@ const THREE_REPLIES: &[u8] =
 /// A driven hall of two workers with one job of demand 2, which has 8 slices for a revision of so many variables and no
 /// clause.
 fn shared_by_two(alloc: Global, variables: u32) -> Result<Trial, Fail> {
-    let mut trial = Trial::new(alloc, 2);
+    let mut trial = Trial::new(alloc, 2)?;
     trial.open_for(b"a", b"p", 2, 8)?;
     trial.revise(b"a", b"p", free(alloc, variables)?)?;
     trial.close(b"a", b"p")?;
@@ -168,47 +209,9 @@ fn shared_by_two(alloc: Global, variables: u32) -> Result<Trial, Fail> {
     Ok(trial)
 }
 
-/// A driven hall of so many workers in which the job of three revisions stands between jobs of three other tenants: one that
-/// is refuted, one whose only slice is too short, and one that is satisfiable.
-fn beside_three_tenants(alloc: Global, workers: u32) -> Result<Trial, Fail>
-    requires some { 1 ≤ workers }
-    requires bound { workers ≤ 64 }
-{
-    let (one, two) = (lit(1)?, lit(2)?);
-    let mut trial = Trial::new(alloc, workers);
-    trial.open(b"b", b"p")?;
-    trial.open(b"a", b"p")?;
-    trial.open_for(b"c", b"q", 4, 1)?;
-    trial.open(b"d", b"p")?;
-    let clause = [lit(-1)?, lit(-2)?];
-    trial.revise(b"b", b"p", with_clause(alloc, &clause, &[one, two])?)?;
-    trial.close(b"b", b"p")?;
-    post_three(&mut trial)?;
-    trial.revise(b"c", b"q", free(alloc, 500)?)?;
-    trial.close(b"c", b"q")?;
-    trial.revise(b"d", b"p", with_clause(alloc, &[one, two], &[])?)?;
-    trial.close(b"d", b"p")?;
-    trial.drive()?;
-    Ok(trial)
-}
-
-/// Whether each of the four tenants has the replies that are its own.
-fn has_own_replies(trial: &Trial) -> Result<bool, Fail> {
-    let b = trial.reply(b"b", b"p", 1)?.ok_or("no reply")?;
-    let c = trial.reply(b"c", b"q", 1)?.ok_or("no reply")?;
-    let d = trial.reply(b"d", b"p", 1)?.ok_or("no reply")?;
-    let refuted = b"r b p 1\ns UNSATISFIABLE\nk 1 2 0\nl 2 -1 -2 0 1 0\n";
-    Ok(
-        trial.replies(b"a", b"p", 3)?.as_slice() == THREE_REPLIES
-            && b.as_slice() == refuted.as_slice()
-            && c.as_slice() == b"r c q 1\ns UNKNOWN\nu spent 1\n".as_slice()
-            && d.as_slice() == b"r d p 1\ns SATISFIABLE\nv -1 2 0\n".as_slice(),
-    )
-}
-
 #[test]
 fn an_opening_is_refused(rt: HostRuntime) -> Result<(), Fail> {
-    let mut trial = Trial::new(rt.alloc(), 1);
+    let mut trial = Trial::new(rt.alloc(), 1)?;
     assert_eq!(rt; trial.open(b"a", b"p")?, None);
     assert_eq!(rt; trial.open(b"a", b"p")?, Some(OpenFault::Duplicate));
     assert_eq!(rt; trial.open(b"p", b"a")?, None);
@@ -217,7 +220,7 @@ fn an_opening_is_refused(rt: HostRuntime) -> Result<(), Fail> {
 
 #[test]
 fn a_tenant_has_room_for_64_jobs(rt: HostRuntime) -> Result<(), Fail> {
-    let mut trial = Trial::new(rt.alloc(), 1);
+    let mut trial = Trial::new(rt.alloc(), 1)?;
     for n in 0..64 {
         assert_eq!(rt; trial.open(b"a", &numbered(n))?, None);
     }
@@ -229,7 +232,7 @@ fn a_tenant_has_room_for_64_jobs(rt: HostRuntime) -> Result<(), Fail> {
 
 #[test]
 fn a_hall_has_room_for_64_tenants(rt: HostRuntime) -> Result<(), Fail> {
-    let mut trial = Trial::new(rt.alloc(), 1);
+    let mut trial = Trial::new(rt.alloc(), 1)?;
     for n in 0..64 {
         assert_eq!(rt; trial.open(&numbered(n), b"p")?, None);
     }
@@ -241,7 +244,7 @@ fn a_hall_has_room_for_64_tenants(rt: HostRuntime) -> Result<(), Fail> {
 #[test]
 fn a_revision_and_a_closing_are_refused(rt: HostRuntime) -> Result<(), Fail> {
     let alloc = rt.alloc();
-    let mut trial = Trial::new(alloc, 1);
+    let mut trial = Trial::new(alloc, 1)?;
     trial.open(b"a", b"p")?;
     assert_eq!(rt;
         trial.revise(b"a", b"q", empty(alloc)?)?,
@@ -260,7 +263,7 @@ fn a_revision_and_a_closing_are_refused(rt: HostRuntime) -> Result<(), Fail> {
 #[test]
 fn a_job_has_room_for_256_revisions(rt: HostRuntime) -> Result<(), Fail> {
     let alloc = rt.alloc();
-    let mut trial = Trial::new(alloc, 1);
+    let mut trial = Trial::new(alloc, 1)?;
     trial.open(b"a", b"p")?;
     for _ in 0..256 {
         assert_eq!(rt; trial.revise(b"a", b"p", empty(alloc)?)?, None);
@@ -273,7 +276,7 @@ fn a_job_has_room_for_256_revisions(rt: HostRuntime) -> Result<(), Fail> {
 #[test]
 fn a_job_has_room_for_its_clauses(rt: HostRuntime) -> Result<(), Fail> {
     let alloc = rt.alloc();
-    let mut trial = Trial::new(alloc, 1);
+    let mut trial = Trial::new(alloc, 1)?;
     trial.open(b"a", b"p")?;
     assert_eq!(rt; trial.revise(b"a", b"p", trivial(alloc, 1_048_575)?)?, None);
     let refused = trial.revise(b"a", b"p", trivial(alloc, 2)?)?;
@@ -287,7 +290,7 @@ fn a_job_has_room_for_its_clauses(rt: HostRuntime) -> Result<(), Fail> {
 
 #[test]
 fn an_absent_job_is_told(rt: HostRuntime) -> Result<(), Fail> {
-    let mut trial = Trial::new(rt.alloc(), 1);
+    let mut trial = Trial::new(rt.alloc(), 1)?;
     trial.open(b"a", b"p")?;
     assert!(rt; trial.is_absent(b"a", b"a")?);
     assert!(rt; trial.is_absent(b"p", b"p")?);
@@ -296,26 +299,8 @@ fn an_absent_job_is_told(rt: HostRuntime) -> Result<(), Fail> {
 }
 
 #[test]
-fn two_jobs_are_served_by_opening(rt: HostRuntime) -> Result<(), Fail> {
-    let alloc = rt.alloc();
-    let mut trial = Trial::new(alloc, 1);
-    trial.open(b"a", b"p")?;
-    trial.open(b"a", b"q")?;
-    trial.revise(b"a", b"p", empty(alloc)?)?;
-    trial.close(b"a", b"p")?;
-    trial.revise(b"a", b"q", empty(alloc)?)?;
-    trial.close(b"a", b"q")?;
-    trial.drive()?;
-    let text = trial.history()?;
-    let known =
-        b"h mal 1 1\no a p 1 1 4\no a q 1 1 4\nr a p 1\nc a p\nr a q 1\nc a q\nb a p 1 a q 0\ns a p 0 1\nf a p 0 1 ran\nb a q 1\ns a q 0 1\nf a q 0 1 ran\n";
-    assert_eq!(rt; text.as_slice(), known.as_slice());
-    Ok(())
-}
-
-#[test]
 fn three_revisions_are_replied_to(rt: HostRuntime) -> Result<(), Fail> {
-    let mut trial = Trial::new(rt.alloc(), 1);
+    let mut trial = Trial::new(rt.alloc(), 1)?;
     trial.open(b"a", b"p")?;
     post_three(&mut trial)?;
     assert!(rt; trial.reply(b"a", b"p", 1)?.is_none());
@@ -326,42 +311,6 @@ fn three_revisions_are_replied_to(rt: HostRuntime) -> Result<(), Fail> {
     let known =
         b"h mal 1 1\no a p 1 1 4\nr a p 1\nr a p 2\nr a p 3\nc a p\nb a p 1\ns a p 0 1\nf a p 0 1 ran\ns a p 0 1\nf a p 0 1 ran\ns a p 0 1\nf a p 0 1 ran\n";
     assert_eq!(rt; text.as_slice(), known.as_slice());
-    Ok(())
-}
-
-#[test]
-fn four_workers_are_shared(rt: HostRuntime) -> Result<(), Fail> {
-    let alloc = rt.alloc();
-    let mut trial = Trial::new(alloc, 4);
-    trial.open_for(b"a", b"p", 2, 4)?;
-    trial.open_for(b"a", b"q", 64, 4)?;
-    trial.revise(b"a", b"p", empty(alloc)?)?;
-    trial.close(b"a", b"p")?;
-    trial.revise(b"a", b"q", empty(alloc)?)?;
-    trial.close(b"a", b"q")?;
-    trial.drive()?;
-    let text = trial.history()?;
-    let known =
-        b"h mal 1 4\no a p 1 2 4\no a q 1 64 4\nr a p 1\nc a p\nr a q 1\nc a q\nb a p 2 a q 2\ns a p 0 1\nf a p 0 1 ran\nb a q 4\ns a q 0 1\nf a q 0 1 ran\n";
-    assert_eq!(rt; text.as_slice(), known.as_slice());
-    Ok(())
-}
-
-#[test]
-fn the_first_of_two_nodes_answers_with_its_second_slice(rt: HostRuntime) -> Result<(), Fail> {
-    let alloc = rt.alloc();
-    let trial = shared_by_two(alloc, 999)?;
-    let text = trial.history()?;
-    let known =
-        b"h mal 1 2\no a p 1 2 8\nr a p 1\nc a p\nb a p 2\ns a p 0 1\nf a p 0 1 ran\ns a p 1 1\nf a p 1 1 ran\ns a p 0 1\nf a p 0 1 ran\n";
-    assert_eq!(rt; text.as_slice(), known.as_slice());
-    let mut known = Vec::from_slice(alloc, b"r a p 1\ns SATISFIABLE\nv ")?;
-    for variable in 1..=999 {
-        known.extend_from_slice(format!(in alloc; "-{variable} ")?.as_bytes())?;
-    }
-    known.extend_from_slice(b"0\n")?;
-    let reply = trial.reply(b"a", b"p", 1)?.ok_or("no reply")?;
-    assert_eq!(rt; reply.as_slice(), known.as_slice());
     Ok(())
 }
 
@@ -378,24 +327,98 @@ fn two_nodes_spend_8_slices_with_an_exchange_between(rt: HostRuntime) -> Result<
     Ok(())
 }
 
+/// A hall of so many workers with one job of demand 1, whose one revision has neither variables nor clauses.
+fn with_one_job(alloc: Global, workers: u32) -> Result<Trial, Fail>
+    requires some { 1 ≤ workers }
+    requires bound { workers ≤ 64 }
+{
+    let mut trial = Trial::new(alloc, workers)?;
+    trial.open(b"a", b"p")?;
+    trial.revise(b"a", b"p", empty(alloc)?)?;
+    trial.close(b"a", b"p")?;
+    Ok(trial)
+}
+
+/// The reply to that job's revision.
+const FREE_REPLY: &[u8] = b"r a p 1\ns SATISFIABLE\nv 0\n";
+
 #[test]
-fn one_worker_serves_four_tenants_by_opening(rt: HostRuntime) -> Result<(), Fail> {
-    let trial = beside_three_tenants(rt.alloc(), 1)?;
-    let text = trial.history()?;
-    let known =
-        b"h mal 1 1\no b p 1 1 4\no a p 1 1 4\no c q 1 4 1\no d p 1 1 4\nr b p 1\nc b p\nr a p 1\nr a p 2\nr a p 3\nc a p\nr c q 1\nc c q\nr d p 1\nc d p\nb b p 1 a p 0 c q 0 d p 0\ns b p 0 1\nf b p 0 1 ran\nb a p 1 c q 0 d p 0\ns a p 0 1\nf a p 0 1 ran\ns a p 0 1\nf a p 0 1 ran\ns a p 0 1\nf a p 0 1 ran\nb c q 1 d p 0\ns c q 0 1\nf c q 0 1 ran\nb d p 1\ns d p 0 1\nf d p 0 1 ran\n";
-    assert_eq!(rt; text.as_slice(), known.as_slice());
-    assert!(rt; has_own_replies(&trial)?);
+fn a_worker_with_a_lease_is_busy(rt: HostRuntime) -> Result<(), Fail> {
+    let mut trial = with_one_job(rt.alloc(), 2)?;
+    assert_eq!(rt; trial.told(1)?, Told::Leased);
+    assert_eq!(rt; trial.told(1)?, Told::Busy);
+    assert_eq!(rt; trial.told(2)?, Told::Idle);
+    assert!(rt; trial.reply(b"a", b"p", 1)?.is_none());
     Ok(())
 }
 
 #[test]
-fn four_workers_serve_four_tenants_side_by_side(rt: HostRuntime) -> Result<(), Fail> {
-    let trial = beside_three_tenants(rt.alloc(), 4)?;
+fn a_lease_that_was_recalled_is_strange(rt: HostRuntime) -> Result<(), Fail> {
+    let mut trial = with_one_job(rt.alloc(), 1)?;
+    let late = trial.worked(1)?;
+    trial.hall.recall();
+    let done = trial.worked(1)?;
+    assert_eq!(rt; trial.give(late), Some(Some(2)));
+    assert_eq!(rt; trial.give(done), None);
+    let reply = trial.reply(b"a", b"p", 1)?.ok_or("no reply")?;
+    assert_eq!(rt; reply.as_slice(), FREE_REPLY);
+    assert_eq!(rt; trial.told(1)?, Told::AllDone);
     let text = trial.history()?;
     let known =
-        b"h mal 1 4\no b p 1 1 4\no a p 1 1 4\no c q 1 4 1\no d p 1 1 4\nr b p 1\nc b p\nr a p 1\nr a p 2\nr a p 3\nc a p\nr c q 1\nc c q\nr d p 1\nc d p\nb b p 1 a p 1 c q 1 d p 1\ns b p 0 1\nf b p 0 1 ran\nb a p 1 c q 2 d p 1\ns a p 0 1\nf a p 0 1 ran\ns c q 0 1\nf c q 0 1 ran\nb a p 1 d p 1\ns d p 0 1\nf d p 0 1 ran\nb a p 1\ns a p 0 1\nf a p 0 1 ran\ns a p 0 1\nf a p 0 1 ran\n";
+        b"h mal 1 1\no a p 1 1 4\nr a p 1\nc a p\nb a p 1\ns a p 0 1\nf a p 0 1 lost\ns a p 0 1\nf a p 0 1 ran\n";
     assert_eq!(rt; text.as_slice(), known.as_slice());
-    assert!(rt; has_own_replies(&trial)?);
+    Ok(())
+}
+
+#[test]
+fn an_equal_journal_of_another_hall_is_taken_back(rt: HostRuntime) -> Result<(), Fail> {
+    let alloc = rt.alloc();
+    let mut one = with_one_job(alloc, 1)?;
+    let mut other = with_one_job(alloc, 1)?;
+    let mine = one.worked(1)?;
+    let own = other.worked(1)?;
+    assert_eq!(rt; other.give(mine), None);
+    assert_eq!(rt; other.give(own), Some(None));
+    let reply = other.reply(b"a", b"p", 1)?.ok_or("no reply")?;
+    assert_eq!(rt; reply.as_slice(), FREE_REPLY);
+    Ok(())
+}
+
+#[test]
+fn the_last_balancing_comes_before_a_hall_idles(rt: HostRuntime) -> Result<(), Fail> {
+    let alloc = rt.alloc();
+    let mut trial = Trial::new(alloc, 1)?;
+    trial.open(b"a", b"p")?;
+    trial.revise(b"a", b"p", empty(alloc)?)?;
+    trial.drive()?;
+    let text = trial.history()?;
+    let known = b"h mal 1 1\no a p 1 1 4\nr a p 1\nb a p 1\ns a p 0 1\nf a p 0 1 ran\nb\n";
+    assert_eq!(rt; text.as_slice(), known.as_slice());
+    assert_eq!(rt; trial.told(1)?, Told::Idle);
+    Ok(())
+}
+
+/// A hall of two workers with one job of demand 2, one of whose two variables has to be true.
+fn with_two_nodes(alloc: Global) -> Result<Trial, Fail> {
+    let mut trial = Trial::new(alloc, 2)?;
+    trial.open_for(b"a", b"p", 2, 4)?;
+    trial.revise(b"a", b"p", with_clause(alloc, &[lit(1)?, lit(2)?], &[])?)?;
+    Ok(trial)
+}
+
+#[test]
+fn the_first_node_that_comes_back_answers(rt: HostRuntime) -> Result<(), Fail> {
+    let alloc = rt.alloc();
+    let mut trial = with_two_nodes(alloc)?;
+    let (one, two) = (trial.worked(1)?, trial.worked(2)?);
+    assert_eq!(rt; trial.give(two), None);
+    trial.revise(b"a", b"p", with_clause(alloc, &[lit(-1)?], &[])?)?;
+    assert_eq!(rt; trial.give(one), None);
+    let reply = trial.reply(b"a", b"p", 1)?.ok_or("no reply")?;
+    assert_eq!(rt;
+        reply.as_slice(),
+        b"r a p 1\ns SATISFIABLE\nv 1 2 0\n".as_slice()
+    );
+    assert!(rt; trial.reply(b"a", b"p", 2)?.is_none());
     Ok(())
 }

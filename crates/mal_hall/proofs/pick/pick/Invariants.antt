@@ -1,10 +1,6 @@
-use Rattle.std.proofs.Common.{◌≡◌, ℕ, ◌<◌, drop, get_or}
-use Rattle.spec_hall.specs.Seats.{Seat, pick_from, pick}
-use Rattle.mal_hall.specs.Turned.{FirstMay}
+use Rattle.std.proofs.Common.{◌≡◌, drop}
+use Rattle.spec_hall.specs.Seats.{pick_from, pick}
 use Rattle.mal_hall.proofs.pick.pick.Given as goal
 
 abbrev pub invariant-loop-job : goal.invariant-loop-job
-invariant-loop-job l = record {
-  picked : pick_from l.job l.best (drop l.job l.seats) ≡ pick l.seats;
-  first : (k : ℕ) (d : Seat) → k < l.job → FirstMay (get_or l.seats k d);
-}
+invariant-loop-job l = pick_from l.job l.best (drop l.job l.seats) ≡ pick l.seats

@@ -4,4 +4,4 @@ use Rattle.spec_hall.specs.Seats.{pick_node, pick_job}
 use Rattle.mal_hall.proofs.pick.pick_of_job.Given as goal
 
 abbrev pub invariant-loop-index : goal.invariant-loop-index
-invariant-loop-index l = fold (pick_node l.job l.seat.titled.state) l.best (counted l.index (l.seat.titled.state.volume - l.index)) ≡ pick_job l.job l.seat.titled.state l.fn.best
+invariant-loop-index l = fold (pick_node l.job l.seat.job.titled.state) l.best (counted l.index (l.seat.job.titled.state.volume - l.index)) ≡ pick_job l.job l.seat.job.titled.state l.fn.best

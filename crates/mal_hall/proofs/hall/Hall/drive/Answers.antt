@@ -1,5 +1,5 @@
 use Rattle.std.proofs.Common.{◌∙◌}
-use Rattle.mal_hall.proofs.TurnLemmas.{turns-behind}
+use Rattle.mal_hall.proofs.DriveLemmas.{turns-behind}
 use Rattle.mal_hall.proofs.hall.Hall.drive.Goals as goal
 
 pub returns-in_err-turn-clause-turns : goal.returns-in_err-turn-clause-turns
@@ -9,6 +9,7 @@ pub loop-preserved : goal.loop-preserved
 loop-preserved c = record {
   workers = c.turn.ensures.workers ∙ c.loop.invariant.workers;
   turns = turns-behind _ _ _ _ _ c.loop.invariant.workers c.loop.invariant.turns c.turn.ensures.turns;
+  home = c.turn.ensures.home;
 }
 
 pub returns-clause-turns : goal.returns-clause-turns

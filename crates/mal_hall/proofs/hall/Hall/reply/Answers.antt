@@ -7,45 +7,45 @@ use Rattle.mal_hall.proofs.hall.Hall.reply.Goals as goal
 
 pub returns-in_default-clause-no_job : goal.returns-in_default-clause-no_job
 returns-in_default-clause-no_job c = λ _.
-    rw (← c.self.view_is) (hall-absent c.self.inside.history _ _ _ _ c.self.invariant (placed _ _ _ _ _ c.deref.ensures.value c.place_of.ensures c.in_default.is))
+    rw (← c.self.view_is) (hall-absent _ _ c.self.invariant (placed _ _ _ _ _ c.deref.ensures.value c.place_of.ensures c.in_default.is))
 
 pub returns-in_default-clause-models : goal.returns-in_default-clause-models
-returns-in_default-clause-models c = rw (← c.self.view_is) (hall-solves c.self.inside.history _ _ _ c.self.invariant _)
+returns-in_default-clause-models c = rw (← c.self.view_is) (hall-solves _ c.self.invariant _)
 
 pub returns-in_default-clause-own : goal.returns-in_default-clause-own
-returns-in_default-clause-own c = rw (← c.self.view_is) (hall-owns c.self.inside.history _ _ _ c.self.invariant _)
+returns-in_default-clause-own c = rw (← c.self.view_is) (hall-owns _ c.self.invariant _)
 
 pub returns-in_default-clause-proofs : goal.returns-in_default-clause-proofs
-returns-in_default-clause-proofs c = rw (← c.self.view_is) (hall-refutes c.self.inside.history _ _ _ c.self.invariant _)
+returns-in_default-clause-proofs c = rw (← c.self.view_is) (hall-refutes _ c.self.invariant _)
 
 pub index-requires : goal.index-requires
 index-requires c = omega (arith, placed-below _ _ _ _ _ c.deref.ensures.value c.place_of.ensures c.in-Some.is)
 
 pub returns-in-Ok-clause-models : goal.returns-in-Ok-clause-models
-returns-in-Ok-clause-models c = rw (← c.self.view_is) (hall-solves c.self.inside.history _ _ _ c.self.invariant _)
+returns-in-Ok-clause-models c = rw (← c.self.view_is) (hall-solves _ c.self.invariant _)
 
 pub returns-in-Ok-clause-own : goal.returns-in-Ok-clause-own
-returns-in-Ok-clause-own c = rw (← c.self.view_is) (hall-owns c.self.inside.history _ _ _ c.self.invariant _)
+returns-in-Ok-clause-own c = rw (← c.self.view_is) (hall-owns _ c.self.invariant _)
 
 pub returns-in-Ok-clause-proofs : goal.returns-in-Ok-clause-proofs
-returns-in-Ok-clause-proofs c = rw (← c.self.view_is) (hall-refutes c.self.inside.history _ _ _ c.self.invariant _)
+returns-in-Ok-clause-proofs c = rw (← c.self.view_is) (hall-refutes _ c.self.invariant _)
 
 pub returns-in-Err-clause-models : goal.returns-in-Err-clause-models
-returns-in-Err-clause-models c = rw (← c.self.view_is) (hall-solves c.self.inside.history _ _ _ c.self.invariant _)
+returns-in-Err-clause-models c = rw (← c.self.view_is) (hall-solves _ c.self.invariant _)
 
 pub returns-in-Err-clause-own : goal.returns-in-Err-clause-own
-returns-in-Err-clause-own c = rw (← c.self.view_is) (hall-owns c.self.inside.history _ _ _ c.self.invariant _)
+returns-in-Err-clause-own c = rw (← c.self.view_is) (hall-owns _ c.self.invariant _)
 
 pub returns-in-Err-clause-proofs : goal.returns-in-Err-clause-proofs
-returns-in-Err-clause-proofs c = rw (← c.self.view_is) (hall-refutes c.self.inside.history _ _ _ c.self.invariant _)
+returns-in-Err-clause-proofs c = rw (← c.self.view_is) (hall-refutes _ c.self.invariant _)
 
 pub returns-in-Ok-clause-reply : goal.returns-in-Ok-clause-reply
 returns-in-Ok-clause-reply c =
     let here = sits _ _ _ _ _ _ c.deref.ensures.value c.place_of.ensures c.in-Some.is c.index.ensures in
-    let found = hall-found c.self.inside.history _ _ _ _ _ _ c.self.invariant here in
+    let found = hall-found _ _ _ _ c.self.invariant here in
     let told = rw c.job.ensures at c.in-Ok.ensures in
-    let state = c.index.result.now.titled.state in (
-      c.index.result.now.titled,
+    let state = c.index.result.now.job.titled.state in (
+      c.index.result.now.job.titled,
       rw (← c.self.view_is) found.job,
       subst (λ (k : Key). MatchOption c.in-Ok.text (reply k c.args.r state ≡ None) (λ text. reply k c.args.r state ≡ Some text.items)) found.key told,
     )
@@ -53,10 +53,10 @@ returns-in-Ok-clause-reply c =
 pub returns-in-Err-clause-out_of_memory : goal.returns-in-Err-clause-out_of_memory
 returns-in-Err-clause-out_of_memory c = λ _.
     let here = sits _ _ _ _ _ _ c.deref.ensures.value c.place_of.ensures c.in-Some.is c.index.ensures in
-    (c.index.result.now.titled, rw (← c.self.view_is) (hall-found c.self.inside.history _ _ _ _ _ _ c.self.invariant here).job)
+    (c.index.result.now.job.titled, rw (← c.self.view_is) (hall-found _ _ _ _ c.self.invariant here).job)
 
 pub returns-in-Ok-clause-alone : goal.returns-in-Ok-clause-alone
 returns-in-Ok-clause-alone c = λ other same.
     let here = sits _ _ _ _ _ _ c.deref.ensures.value c.place_of.ensures c.in-Some.is c.index.ensures in
-    let found = hall-found c.self.inside.history _ _ _ _ _ _ c.self.invariant here in
-    found-alone c.self.inside.history _ _ _ (λ (k : Key) (state : Solo). MatchOption c.in-Ok.text (reply k c.args.r state ≡ None) (λ text. reply k c.args.r state ≡ Some text.items)) found (rw c.job.ensures at c.in-Ok.ensures) other (rw (← c.self.view_is) at same)
+    let found = hall-found _ _ _ _ c.self.invariant here in
+    found-alone _ _ _ (λ (k : Key) (state : Solo). MatchOption c.in-Ok.text (reply k c.args.r state ≡ None) (λ text. reply k c.args.r state ≡ Some text.items)) found (rw c.job.ensures at c.in-Ok.ensures) other (rw (← c.self.view_is) at same)

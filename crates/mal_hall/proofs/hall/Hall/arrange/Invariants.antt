@@ -1,0 +1,15 @@
+use Rattle.std.proofs.Common.{◌≡◌}
+use Rattle.spec_hall.specs.Measure.{left_in}
+use Rattle.spec_hall.specs.States.{balanced, lives, states}
+use Rattle.mal_hall.specs.Offered.{HasArranged}
+use Rattle.mal_hall.proofs.hall.Hall.arrange.Given as goal
+
+abbrev pub invariant-loop : goal.invariant-loop
+invariant-loop l = record {
+  workers : l.self.workers ≡ l.fn.self.workers;
+  due : HasArranged l.fn.self.workers l.fn.self.events l.self.events;
+  calm : lives (states l.self.events) ≡ balanced l.self.events;
+}
+
+abbrev pub decreases-loop : goal.decreases-loop
+decreases-loop l = left_in l.self.events

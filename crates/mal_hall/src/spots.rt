@@ -1,0 +1,105 @@
+//! Where the leases are that are out.
+
+ghost use Rattle.std.specs.Prelude.{◌≡◌, ◌+◌, ◌-◌, ◌<◌, ◌≤◌, ◌^◌, get_or, length, replicate, IfOk, None};
+ghost use Rattle.spec_hall.specs.Spots as spec;
+ghost use Rattle.mal_hall.specs.Seen.{out_in};
+
+use std::alloc::{AllocError, Global};
+use std::marker::Model;
+
+/// Where a worker's lease is: the place of its job by opening, the index of its node, and the number of its start.
+#[derive(Clone, Copy)]
+pub struct Spot {
+    job: usize,
+    index: u32,
+    start: u64,
+}
+
+impl Model for Spot {
+    ghost use Rattle.spec_hall.specs.Spots.{Spot};
+
+    ghost Value = { Spot };
+
+    ghost view = { λ s. record { job = s.job; index = s.index; start = s.start } };
+
+    ghost inverse = { λ s. record { job = s.job; index = s.index; start = s.start } };
+}
+
+impl Spot {
+    /// The spot of the start of this number of a node.
+    pub fn new(job: usize, index: u32, start: u64) -> Spot
+        ensures job { result.job ≡ job }
+        ensures index { result.index ≡ index }
+        ensures start { result.start ≡ start }
+    {
+        Spot { job, index, start }
+    }
+
+    /// The place of the job.
+    pub fn job(self) -> usize
+        ensures { result ≡ self.job }
+    {
+        self.job
+    }
+
+    /// The node's index.
+    pub fn index(self) -> u32
+        ensures { result ≡ self.index }
+    {
+        self.index
+    }
+
+    /// The number of the start.
+    pub fn start(self) -> u64
+        ensures { result ≡ self.start }
+    {
+        self.start
+    }
+}
+
+/// The spots of so many workers without a lease.
+pub fn no_spots(alloc: Global, workers: u32) -> Result<Vec<Option<Spot>>, AllocError>
+    ensures { IfOk result (λ v. v.items ≡ replicate workers None) }
+{
+    let mut spots = Vec::new(alloc);
+    for worker in 0..workers {
+        let _ = worker;
+        spots.push(None)?;
+    }
+    Ok(spots)
+}
+
+/// The spot of a worker, None where it has no lease or is no worker of the hall.
+pub fn spot_of(spots: &[Option<Spot>], worker: u32) -> Option<Spot>
+    requires { 1 ≤ worker }
+    ensures { result ≡ get_or spots.now (worker - 1) None }
+{
+    match spots.get(worker as usize - 1) {
+        None => None,
+        Some(spot) => *spot,
+    }
+}
+
+/// How many leases are out.
+pub fn count_out(spots: &[Option<Spot>]) -> usize
+    ensures value { result ≡ out_in spots.now }
+    ensures few { result ≤ length spots.now }
+{
+    let mut count = 0;
+    for spot in spots {
+        if spot.is_some() {
+            count += 1;
+        }
+    }
+    count
+}
+
+/// For how many events room is kept: the closing of each job that is not closed, and the finish of each lease.
+pub fn owed(unclosed: usize, spots: &[Option<Spot>]) -> usize
+    requires few { unclosed < 2 ^ 63 }
+    requires workers { length spots.now ≤ 64 }
+    ensures value { result ≡ unclosed + out_in spots.now }
+    ensures bound { result ≤ unclosed + 64 }
+{
+    unclosed + count_out(spots)
+}
