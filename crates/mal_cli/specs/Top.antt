@@ -7,7 +7,7 @@ use Rattle.mal_cli.specs.declared.refusal.Refusal.TheVariants as refusal
 use Rattle.mal_script.specs.declared.fault.ScriptFault.{ScriptFault}
 use Rattle.mal_script.specs.Given.{Tells}
 use Rattle.spec_hall.specs.Events.{Event}
-use Rattle.spec_run.specs.Run.{IsRun}
+use Rattle.spec_run.specs.Run.{IsRun, IsSequentialRun}
 use Rattle.spec_script.specs.declared.fault.LineFault.{LineFault}
 use Rattle.spec_script.specs.FaultLines.{fault_line}
 use Rattle.spec_script.specs.Grammar.{Spells}
@@ -58,10 +58,11 @@ abbrev pub IsNoScript : Option (List ℕ) → Type 0
 IsNoScript None = ⊥
 IsNoScript (Some input) = (2 ^ 26 < length input) ⊎ (IsScriptText input → ⊥)
 
--- a text spells a script, and the script was run with so many workers: these are the texts of its log and its output
+-- a text spells a script, and the script was run with so many workers by one thread: these are the texts of its log and its
+-- output
 pub record IsAnswer (workers : ℕ) (text : List ℕ) (s : Scripted) (history : List Event) (log_text out_text : List ℕ) : Type 0 where
   pub spelled : Spells served text s
-  pub run : IsRun workers s history log_text out_text
+  pub run : IsSequentialRun workers s history log_text out_text
 
 -- both texts were written whole
 pub record WroteWhole (log log_now out out_now : Option (List ℕ)) (log_text out_text : List ℕ) : Type 0 where
@@ -92,6 +93,15 @@ pub record RanPart (workers : ℕ) (before now log log_now out out_now : Option 
   pub ended : IsAtEnd now
   pub run : IsRun workers s history log_text out_text
   pub wrote : WrotePart log log_now out out_now log_text out_text
+
+-- the same of a run by one thread, which is sequential: the script and the number of workers decide it
+pub record RanWholeAlone (workers : ℕ) (before now log log_now out out_now : Option (List ℕ)) (text : List ℕ) (s : Scripted) (history : List Event) (log_text out_text : List ℕ) : Type 0 where
+  pub whole : RanWhole workers before now log log_now out out_now text s history log_text out_text
+  pub sequential : IsSequentialRun workers s history log_text out_text
+
+pub record RanPartAlone (workers : ℕ) (before now log log_now out out_now : Option (List ℕ)) (text : List ℕ) (s : Scripted) (history : List Event) (log_text out_text : List ℕ) : Type 0 where
+  pub part : RanPart workers before now log log_now out out_now text s history log_text out_text
+  pub sequential : IsSequentialRun workers s history log_text out_text
 
 -- the log gained a front of a line, all of it where its count of faults did not rise
 pub record Complained (log log_now : Option (List ℕ)) (rose : Type 0) (line : List ℕ) : Type 0 where

@@ -2,7 +2,7 @@
 
 ghost use Rattle.std.specs.Prelude.{◌≡◌, ◌≤◌, ◌↔◌, ◌⊎◌, ℕ, List, [], map, IfOk, IfErr, string_bytes};
 ghost use Rattle.std.specs.Io.KnownBytes.{Appends};
-ghost use Rattle.mal_cli.specs.Top.{IsRunWords, IsRunCommand, IsScript, IsNoScript, IsAnswer, WroteWhole, WrotePart, RanWhole, RanPart, Complained, WasRefused, IsScriptText, IsFirstFault, Refuses, usage_line};
+ghost use Rattle.mal_cli.specs.Top.{IsRunWords, IsRunCommand, IsScript, IsNoScript, IsAnswer, WroteWhole, WrotePart, RanWhole, RanWholeAlone, RanPart, RanPartAlone, Complained, WasRefused, IsScriptText, IsFirstFault, Refuses, usage_line};
 ghost use Rattle.mal_cli.specs.Check.{IsCheckWords, IsCommand, IsProvedClaim, IsUnprovedClaim, IsNoClaim, VerifiedWhole, VerifiedPart, WasNoClaim, WasDenied};
 ghost use Rattle.spec_claim.specs.Claims.{Claim};
 ghost use Rattle.mal_io.specs.Moves.{Rose};
@@ -45,6 +45,7 @@ pub fn top<S: Source, K: Sink, L: Sink>(
     log: &mut L,
 ) -> u8
     ensures done { (workers : ℕ) → IsRunWords workers (map string_bytes words.now) → result ≡ 0 → (text : List ℕ) × (s : Scripted) × (history : List Event) × (log_text out_text : List ℕ) × RanWhole workers (S.left source.old) (S.left source.new) (L.got log.old) (L.got log.new) (K.got out.old) (K.got out.new) text s history log_text out_text }
+    ensures alone { (workers : ℕ) → IsRunWords workers (map string_bytes words.now) → result ≡ 0 → (text : List ℕ) × (s : Scripted) × (history : List Event) × (log_text out_text : List ℕ) × RanWholeAlone workers (S.left source.old) (S.left source.new) (L.got log.old) (L.got log.new) (K.got out.old) (K.got out.new) text s history log_text out_text }
     ensures verified { IsCheckWords (map string_bytes words.now) → result ≡ 0 → (text : List ℕ) × (c : Claim) × VerifiedWhole (S.left source.old) (S.left source.new) (L.got log.old) (L.got log.new) (K.got out.old) (K.got out.new) text c }
     ensures usage { (result ≡ 2) ↔ (IsCommand (map string_bytes words.now) → ⊥) }
     ensures usage_line { result ≡ 2 → Complained (L.got log.old) (L.got log.new) (Rose (L.faults log.old) (L.faults log.new)) usage_line × Appends (K.got out.old) (K.got out.new) [] }
@@ -57,6 +58,7 @@ pub fn top<S: Source, K: Sink, L: Sink>(
     ensures read_fault { result ≡ 4 → Rose (S.faults source.old) (S.faults source.new) }
     ensures write_fault { result ≡ 5 → Rose (L.faults log.old) (L.faults log.new) ⊎ Rose (K.faults out.old) (K.faults out.new) }
     ensures part { (workers : ℕ) → IsRunWords workers (map string_bytes words.now) → result ≡ 5 → (text : List ℕ) × (s : Scripted) × (history : List Event) × (log_text out_text : List ℕ) × RanPart workers (S.left source.old) (S.left source.new) (L.got log.old) (L.got log.new) (K.got out.old) (K.got out.new) text s history log_text out_text }
+    ensures part_alone { (workers : ℕ) → IsRunWords workers (map string_bytes words.now) → result ≡ 5 → (text : List ℕ) × (s : Scripted) × (history : List Event) × (log_text out_text : List ℕ) × RanPartAlone workers (S.left source.old) (S.left source.new) (L.got log.old) (L.got log.new) (K.got out.old) (K.got out.new) text s history log_text out_text }
     ensures verified_part { IsCheckWords (map string_bytes words.now) → result ≡ 5 → (text : List ℕ) × (c : Claim) × VerifiedPart (S.left source.old) (S.left source.new) (L.got log.old) (L.got log.new) (K.got out.old) (K.got out.new) text c }
     ensures complete { IsRunCommand (map string_bytes words.now) → IsScript (S.left source.old) → (Rose (S.faults source.old) (S.faults source.new) → ⊥) → (Rose (L.faults log.old) (L.faults log.new) → ⊥) → (Rose (K.faults out.old) (K.faults out.new) → ⊥) → (result ≡ 0) ⊎ (result ≡ 6) }
     ensures complete_checks { IsCheckWords (map string_bytes words.now) → IsProvedClaim (S.left source.old) → (Rose (S.faults source.old) (S.faults source.new) → ⊥) → (Rose (L.faults log.old) (L.faults log.new) → ⊥) → (Rose (K.faults out.old) (K.faults out.new) → ⊥) → (result ≡ 0) ⊎ (result ≡ 6) }
@@ -84,12 +86,12 @@ fn serve<S: Source, K: Sink, L: Sink>(
 ) -> u8
     requires some { 1 ≤ workers }
     requires bound { workers ≤ 64 }
-    ensures done { result ≡ 0 → (text : List ℕ) × (s : Scripted) × (history : List Event) × (log_text out_text : List ℕ) × RanWhole workers (S.left source.old) (S.left source.new) (L.got log.old) (L.got log.new) (K.got out.old) (K.got out.new) text s history log_text out_text }
+    ensures done { result ≡ 0 → (text : List ℕ) × (s : Scripted) × (history : List Event) × (log_text out_text : List ℕ) × RanWholeAlone workers (S.left source.old) (S.left source.new) (L.got log.old) (L.got log.new) (K.got out.old) (K.got out.new) text s history log_text out_text }
     ensures refused { result ≡ 3 → (taken line : List ℕ) × WasRefused (S.left source.old) (S.left source.new) (L.got log.old) (L.got log.new) (K.got out.old) (K.got out.new) (Rose (L.faults log.old) (L.faults log.new)) taken line }
     ensures refuses { IsNoScript (S.left source.old) → (Rose (S.faults source.old) (S.faults source.new) → ⊥) → (result ≡ 3) ⊎ (result ≡ 6) }
     ensures read_fault { result ≡ 4 → Rose (S.faults source.old) (S.faults source.new) }
     ensures write_fault { result ≡ 5 → Rose (L.faults log.old) (L.faults log.new) ⊎ Rose (K.faults out.old) (K.faults out.new) }
-    ensures part { result ≡ 5 → (text : List ℕ) × (s : Scripted) × (history : List Event) × (log_text out_text : List ℕ) × RanPart workers (S.left source.old) (S.left source.new) (L.got log.old) (L.got log.new) (K.got out.old) (K.got out.new) text s history log_text out_text }
+    ensures part { result ≡ 5 → (text : List ℕ) × (s : Scripted) × (history : List Event) × (log_text out_text : List ℕ) × RanPartAlone workers (S.left source.old) (S.left source.new) (L.got log.old) (L.got log.new) (K.got out.old) (K.got out.new) text s history log_text out_text }
     ensures complete { IsScript (S.left source.old) → (Rose (S.faults source.old) (S.faults source.new) → ⊥) → (Rose (L.faults log.old) (L.faults log.new) → ⊥) → (Rose (K.faults out.old) (K.faults out.new) → ⊥) → (result ≡ 0) ⊎ (result ≡ 6) }
     ensures silent { (result ≡ 4) ⊎ (result ≡ 6) → Appends (L.got log.old) (L.got log.new) [] × Appends (K.got out.old) (K.got out.new) [] }
     ensures statuses { (result ≡ 0) ⊎ (result ≡ 3) ⊎ (result ≡ 4) ⊎ (result ≡ 5) ⊎ (result ≡ 6) }

@@ -21,7 +21,7 @@ use Rattle.spec_run.specs.Run.{text_or_none, replies_from, job_replies, replies}
 use Rattle.spec_run.proofs.KeyLemmas.{among-keys, among-parts, job-found}
 use Rattle.spec_run.proofs.OpenLemmas.{open-found, revised-is_open}
 use Rattle.spec_run.proofs.PostingLemmas.{take-one}
-use Rattle.spec_run.proofs.CompleteLemmas.{grown-keys, grown-driven, grown-complete}
+use Rattle.spec_run.proofs.CompleteLemmas.{grown-keys, grown-complete}
 use Rattle.spec_script.specs.Script.{ScriptedJob, Scripted}
 
 -- the number of the next revision of a job that is open
@@ -66,7 +66,6 @@ has-run workers s h are legal grows answered home = record {
   workers_are = are;
   legal = legal;
   complete = grown-complete workers s h.events grows answered home;
-  driven = grown-driven workers s h.events grows answered;
   known = known-all h.events [] s.jobs (grown-keys workers s h.events grows);
 }
 

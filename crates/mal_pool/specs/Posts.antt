@@ -4,12 +4,11 @@ use Rattle.spec_job.specs.Replies.{reply}
 use Rattle.spec_job.specs.Solo.{solo}
 use Rattle.spec_job.specs.Titled.{Titled}
 use Rattle.spec_hall.specs.Events.{Event}
-use Rattle.spec_hall.specs.Driven.{IsDriven}
 use Rattle.spec_hall.specs.Legal.{Legal, job_of}
 use Rattle.spec_hall.specs.Own.{own}
 use Rattle.spec_hall.specs.States.{states}
 use Rattle.spec_run.specs.Run.{text_or_none}
-use Rattle.spec_run.specs.Complete.{IsComplete, key_of_job, script_events}
+use Rattle.spec_run.specs.Complete.{IsComplete, key_of_job}
 use Rattle.spec_script.specs.Script.{ScriptedJob, Scripted}
 
 -- a job of a script is known to a hall
@@ -21,13 +20,11 @@ abbrev pub AreKnown : List Event → List ScriptedJob → Type 0
 AreKnown history [] = Unit {0}
 AreKnown history (j ∷ js) = IsKnown history j × AreKnown history js
 
--- a hall of so many workers has run a script: its history is legal and complete for the script, and comes by turns of all
--- that the script posts; the hall knows the jobs
+-- a hall of so many workers has run a script: its history is legal and complete for the script, and it knows the jobs
 pub record HasRun (workers : ℕ) (s : Scripted) (h : Seen) : Type 0 where
   pub workers_are : h.workers ≡ workers
   pub legal : Legal h.workers h.events
   pub complete : IsComplete s h.events
-  pub driven : IsDriven workers (script_events s) h.events
   pub known : AreKnown h.events s.jobs
 
 -- the reply to a job's revision of this number

@@ -4,10 +4,11 @@ ghost use Rattle.std.specs.Prelude.{◌≡◌, ◌≤◌, List, ◌++◌, [], �
 ghost use Rattle.mal_hall.specs.Seen.{next_number};
 ghost use Rattle.mal_pool.specs.Posts.{HasRun};
 ghost use Rattle.mal_revision.specs.Posted.{Posted};
+ghost use Rattle.spec_hall.specs.Driven.{IsDriven};
 ghost use Rattle.spec_hall.specs.Events.{Open, Revise, Close};
 ghost use Rattle.spec_hall.specs.Legal.{MayOpen, MayRevise};
 ghost use Rattle.spec_job.specs.Titled.{Titled};
-ghost use Rattle.spec_run.specs.Complete.{key_of_job, job_events, open_events, revise_events};
+ghost use Rattle.spec_run.specs.Complete.{key_of_job, job_events, open_events, revise_events, script_events};
 ghost use Rattle.spec_run.specs.Posting.{IsOpen};
 ghost use Rattle.spec_script.specs.Formed.{IsJob, IsScript, MayAllFollow};
 ghost use Rattle.spec_script.specs.Limits.{served};
@@ -19,42 +20,43 @@ use mal_script::{Script, ScriptJob};
 use std::alloc::{AllocError, Global};
 
 /// Runs a script with 1 to 64 workers: all jobs are opened, and then job by job its revisions and its closing are posted, in
-/// the order of the script. The hall is driven until every revision is answered.
+/// the order of the script. The hall is driven by one thread until every revision is answered, so its history comes by turns.
 pub fn run_all(alloc: Global, script: &Script, workers: u32) -> Result<Hall, AllocError>
     requires formed { IsScript served script.now }
     requires some { 1 ≤ workers }
     requires bound { workers ≤ 64 }
-    ensures { IfOk result (λ h. HasRun workers script.now h) }
+    ensures run { IfOk result (λ h. HasRun workers script.now h) }
+    ensures sequential { IfOk result (λ h. IsDriven workers (script_events script.now) h.events) }
 {
     let mut scratch = Scratch::new(alloc);
-    let mut hall = Hall::new(alloc, workers);
-    open_all(alloc, &mut hall, script.jobs())?;
+    let mut hall = Hall::new(alloc, workers)?;
+    open_all(&mut hall, script.jobs())?;
     post_all(alloc, &mut hall, script.jobs())?;
-    hall.drive(alloc, &mut scratch)?;
+    hall.drive(&mut scratch)?;
     let _ = hall.history();
     Ok(hall)
 }
 
 /// Opens the jobs of a script in a hall without events.
-fn open_all(alloc: Global, hall: &mut Hall, jobs: &[ScriptJob]) -> Result<(), AllocError>
+fn open_all(hall: &mut Hall, jobs: &[ScriptJob]) -> Result<(), AllocError>
     requires new { hall.old.events ≡ [] }
     requires follow { MayAllFollow served [] jobs.now }
     ensures workers { hall.new.workers ≡ hall.old.workers }
     ensures events { OnOk result (hall.new.events ≡ open_events jobs.now) }
 {
     for job in jobs {
-        open(alloc, hall, job)?;
+        open(hall, job)?;
     }
     Ok(())
 }
 
 /// Opens a job.
-fn open(alloc: Global, hall: &mut Hall, job: &ScriptJob) -> Result<(), AllocError>
+fn open(hall: &mut Hall, job: &ScriptJob) -> Result<(), AllocError>
     requires { MayOpen hall.old.events (key_of_job job.now) job.now.ask }
     ensures workers { hall.new.workers ≡ hall.old.workers }
     ensures events { OnOk result (hall.new.events ≡ hall.old.events ++ Open (key_of_job job.now) job.now.ask ∷ []) }
 {
-    match hall.open_job(alloc, job.tenant(), job.name(), job.ask()) {
+    match hall.open_job(job.tenant(), job.name(), job.ask()) {
         Ok(()) => Ok(()),
         Err(OpenFault::Duplicate) => unreachable!(),
         Err(OpenFault::TenantFull) => unreachable!(),
@@ -114,7 +116,7 @@ fn revise(
     ensures events { OnOk result (hall.new.events ≡ hall.old.events ++ Revise (key_of_job job.now) (next_number (key_of_job job.now) hall.old.events) revision.now ∷ []) }
 {
     let revision = revision.copy(alloc)?;
-    match hall.revise_job(alloc, &job.tenant(), &job.name(), revision) {
+    match hall.revise_job(&job.tenant(), &job.name(), revision) {
         Ok(()) => Ok(()),
         Err(ReviseFault::NoJob) => unreachable!(),
         Err(ReviseFault::Closed) => unreachable!(),
