@@ -91,8 +91,8 @@ pub fn legal_goes_on()
     ensures { LegalGoesOn }
 {}
 
-/// The answer of a call of a hall and the events that it enters are decided by the history, the call and whether memory was
-/// wanting.
+/// The answer of a call of a hall is decided by the history, the call and whether memory was wanting; where it was not, so are
+/// the events that it enters.
 pub fn call_is_decided()
     ensures { CallIsDecided }
 {}
