@@ -30,6 +30,10 @@ source_calls s = s.calls
 abbrev pub sink_got : MemSink → Option (List ℕ)
 sink_got s = Some s.bytes.items
 
+-- for how many more bytes a sink in memory has room
+abbrev pub sink_room : MemSink → ℕ
+sink_room s = s.room
+
 -- the most bytes that a sink in memory takes in a call
 abbrev pub sink_piece : MemSink → ℕ
 sink_piece s = s.piece

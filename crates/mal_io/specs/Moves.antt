@@ -1,5 +1,5 @@
 -- What a call moved, and that a device failed in it.
-use Rattle.std.specs.Prelude.{◌≡◌, ◌+◌, ◌-◌, ◌^◌, ◌≤◌, ◌↔◌, ℕ, List, ◌++◌, length, min, Contains}
+use Rattle.std.specs.Prelude.{◌≡◌, ◌+◌, ◌-◌, ◌^◌, ◌<◌, ◌≤◌, ◌↔◌, ℕ, List, ◌++◌, length, min, Contains}
 use Rattle.std.specs.Io.KnownBytes.{Consumes, Appends}
 use Rattle.std.specs.declared.option.Option.{Option}
 
@@ -21,3 +21,7 @@ pub record GotFront (old new : Option (List ℕ)) (text front : List ℕ) : Type
 -- the call after so many calls is one of those that are told to fail
 abbrev pub FailsNext : List ℕ → ℕ → Type 0
 FailsNext failing calls = Contains failing (min (calls + 1) (2 ^ 64 - 1))
+
+-- no room is left for a piece that is not empty
+abbrev pub IsFull : ℕ → List ℕ → Type 0
+IsFull room piece = (room ≡ 0) × (0 < length piece)

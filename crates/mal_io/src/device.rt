@@ -1,5 +1,5 @@
 //! What every source and every sink does.
-ghost use Rattle.std.specs.Prelude.{◌<◌, ◌≤◌, ℕ, List, IfOk, OnErr, length};
+ghost use Rattle.std.specs.Prelude.{◌≡◌, ◌<◌, ◌≤◌, ℕ, List, IfOk, OnOk, OnErr, length};
 ghost use Rattle.std.specs.Io.{ReadsAtMost, WritesAtMost};
 ghost use Rattle.std.specs.Io.KnownBytes.{ReadConsumes, WriteAppends};
 ghost use Rattle.std.specs.declared.option.Option.{Option};
@@ -21,12 +21,14 @@ pub trait Source {
     ghost faults: { Self → ℕ };
 
     /// Moves the next bytes to the front of `into`, at most its length, and says how many. 0 for a
-    /// slice that is not empty is the end of the input. After `Failed` no byte is lost.
+    /// slice that is not empty is the end of the input. After `Failed` no byte is lost; only then the count of
+    /// faults rises.
     fn take(&mut self, into: &mut [u8]) -> Result<usize, Failed>
         ensures bound { ReadsAtMost result into.new }
         ensures bytes { ReadConsumes (left self.old) (left self.new) result into.new }
         ensures later { faults self.old ≤ faults self.new }
-        ensures cause { OnErr result (Rose (faults self.old) (faults self.new)) };
+        ensures cause { OnErr result (Rose (faults self.old) (faults self.new)) }
+        ensures counted { OnOk result (faults self.new ≡ faults self.old) };
 }
 
 /// A device that takes bytes.
@@ -38,11 +40,12 @@ pub trait Sink {
     ghost faults: { Self → ℕ };
 
     /// Takes bytes from the front of `bytes`, at least one where there is one, and says how many.
-    /// After `Failed` it got nothing.
+    /// After `Failed` it got nothing; only then the count of faults rises.
     fn put(&mut self, bytes: &[u8]) -> Result<usize, Failed>
         ensures bound { WritesAtMost result bytes.now }
         ensures bytes { WriteAppends (got self.old) (got self.new) result bytes.now }
         ensures moves { IfOk result (λ n. 0 < length bytes.now → 0 < n) }
         ensures later { faults self.old ≤ faults self.new }
-        ensures cause { OnErr result (Rose (faults self.old) (faults self.new)) };
+        ensures cause { OnErr result (Rose (faults self.old) (faults self.new)) }
+        ensures counted { OnOk result (faults self.new ≡ faults self.old) };
 }

@@ -1,11 +1,11 @@
 //! Devices in memory: they tell their bytes, move few of them in a call, and fail when told to.
-ghost use Rattle.std.specs.Prelude.{◌≡◌, ◌<◌, ◌≤◌, ◌+◌, ◌-◌, ◌^◌, ◌↔◌, [], min, length, IfOk, OnErr, IsErr};
+ghost use Rattle.std.specs.Prelude.{◌≡◌, ◌<◌, ◌≤◌, ◌+◌, ◌-◌, ◌^◌, ◌↔◌, ◌⊎◌, ◌++◌, [], min, length, IfOk, OnOk, OnErr, IsErr, IsTrue, vec_len, vec_capacity};
 ghost use Rattle.std.specs.Io.{ReadsAtMost, WritesAtMost};
 ghost use Rattle.std.specs.Io.KnownBytes.{ReadConsumes, WriteAppends};
-ghost use Rattle.mal_io.specs.Moves.{Rose, FailsNext};
+ghost use Rattle.mal_io.specs.Moves.{Rose, FailsNext, IsFull};
 
 use crate::device::{Failed, Sink, Source};
-use std::alloc::Global;
+use std::alloc::{AllocError, Global};
 
 /// A source over a slice.
 #[derive(Drop)]
@@ -53,6 +53,7 @@ impl<'a> Source for MemSource<'a> {
         ensures bytes { ReadConsumes (source_left self.old) (source_left self.new) result into.new }
         ensures later { source_faults self.old ≤ source_faults self.new }
         ensures cause { OnErr result (Rose (source_faults self.old) (source_faults self.new)) }
+        ensures counted { OnOk result (source_faults self.new ≡ source_faults self.old) }
         ensures told { IsErr result ↔ FailsNext (source_failing self.old) (source_calls self.old) }
         ensures few { IfOk result (λ n. n ≤ source_piece self.old) }
         ensures calls { source_calls self.new ≡ min (source_calls self.old + 1) (2 ^ 64 - 1) }
@@ -70,37 +71,48 @@ impl<'a> Source for MemSource<'a> {
     }
 }
 
-/// A sink into a vector, which keeps its allocator. A refused growth is a fault like any other.
+/// A sink into a vector, with room for a number of bytes. A piece for which no room is left is a fault like any other.
 #[derive(Drop)]
 pub struct MemSink<'a> {
     bytes: Vec<u8>,
+    room: usize,
     piece: usize,
     failing: &'a [u64],
     calls: u64,
     faults: u64,
     ghost moves: { 0 < piece },
+    ghost fits: { vec_len bytes + room ≤ vec_capacity bytes },
 }
 
 impl<'a> MemSink<'a> {
-    ghost use Rattle.mal_io.specs.Held.{sink_got, sink_piece, sink_failing, sink_faults, sink_calls};
+    ghost use Rattle.mal_io.specs.Held.{sink_got, sink_room, sink_piece, sink_failing, sink_faults, sink_calls};
 
-    /// A sink that got nothing yet, takes at most `piece` (at least 1) bytes in a call, and fails in
-    /// the calls that `failing` numbers, counted from 1.
-    pub fn new(alloc: Global, piece: usize, failing: &'a [u64]) -> Self
+    /// A sink that got nothing yet, has room for `room` bytes, takes at most `piece` (at least 1) bytes in a
+    /// call, and fails in the calls that `failing` numbers, counted from 1.
+    pub fn new(
+        alloc: Global,
+        room: usize,
+        piece: usize,
+        failing: &'a [u64],
+    ) -> Result<Self, AllocError>
         requires { 0 < piece }
-        ensures got { sink_got result ≡ Some [] }
-        ensures piece { sink_piece result ≡ piece }
-        ensures failing { sink_failing result ≡ failing.entry.now }
-        ensures faults { sink_faults result ≡ 0 }
-        ensures calls { sink_calls result ≡ 0 }
+        ensures got { IfOk result (λ s. sink_got s ≡ Some []) }
+        ensures room { IfOk result (λ s. sink_room s ≡ room) }
+        ensures piece { IfOk result (λ s. sink_piece s ≡ piece) }
+        ensures failing { IfOk result (λ s. sink_failing s ≡ failing.entry.now) }
+        ensures faults { IfOk result (λ s. sink_faults s ≡ 0) }
+        ensures calls { IfOk result (λ s. sink_calls s ≡ 0) }
     {
-        MemSink {
-            bytes: Vec::new(alloc),
+        let mut bytes = Vec::new(alloc);
+        bytes.reserve(room)?;
+        Ok(MemSink {
+            bytes,
+            room,
             piece,
             failing,
             calls: 0,
             faults: 0,
-        }
+        })
     }
 
     /// The bytes that it got, in order.
@@ -112,7 +124,7 @@ impl<'a> MemSink<'a> {
 }
 
 impl<'a> Sink for MemSink<'a> {
-    ghost use Rattle.mal_io.specs.Held.{sink_got, sink_piece, sink_failing, sink_faults, sink_calls};
+    ghost use Rattle.mal_io.specs.Held.{sink_got, sink_room, sink_piece, sink_failing, sink_faults, sink_calls};
 
     ghost got = { sink_got };
 
@@ -124,17 +136,44 @@ impl<'a> Sink for MemSink<'a> {
         ensures moves { IfOk result (λ n. 0 < length bytes.now → 0 < n) }
         ensures later { sink_faults self.old ≤ sink_faults self.new }
         ensures cause { OnErr result (Rose (sink_faults self.old) (sink_faults self.new)) }
-        ensures told { FailsNext (sink_failing self.old) (sink_calls self.old) → IsErr result }
+        ensures counted { OnOk result (sink_faults self.new ≡ sink_faults self.old) }
+        ensures told { IsErr result ↔ (FailsNext (sink_failing self.old) (sink_calls self.old) ⊎ IsFull (sink_room self.old) bytes.now) }
         ensures few { IfOk result (λ n. n ≤ sink_piece self.old) }
+        ensures room { IfOk result (λ n. sink_room self.new + n ≡ sink_room self.old) }
         ensures calls { sink_calls self.new ≡ min (sink_calls self.old + 1) (2 ^ 64 - 1) }
     {
         self.calls = self.calls.saturating_add(1);
-        let count = bytes.len().min(self.piece);
-        let (front, _) = bytes.split_at(count);
-        if self.failing.contains(&self.calls) || self.bytes.extend_from_slice(front).is_err() {
+        if self.failing.contains(&self.calls) {
             self.faults = self.faults.saturating_add(1);
             return Err(Failed);
         }
+        if is_full(self.room, bytes) {
+            self.faults = self.faults.saturating_add(1);
+            return Err(Failed);
+        }
+        let count = bytes.len().min(self.piece).min(self.room);
+        let (front, _) = bytes.split_at(count);
+        self.room -= count;
+        push_all(&mut self.bytes, front);
         Ok(count)
+    }
+}
+
+/// Whether no room is left for a piece that is not empty.
+fn is_full(room: usize, bytes: &[u8]) -> bool
+    ensures { IsTrue result ↔ IsFull room bytes.now }
+{
+    room == 0 && !bytes.is_empty()
+}
+
+/// Puts these bytes behind the others, for which there is room. Takes no memory.
+fn push_all(bytes: &mut Vec<u8>, front: &[u8])
+    requires { vec_len bytes.old + length front.now ≤ vec_capacity bytes.old }
+    ensures items { bytes.new.items ≡ bytes.old.items ++ front.now }
+    ensures len { vec_len bytes.new ≡ vec_len bytes.old + length front.now }
+    ensures capacity { vec_capacity bytes.new ≡ vec_capacity bytes.old }
+{
+    for byte in front {
+        bytes.push_reserved(*byte);
     }
 }

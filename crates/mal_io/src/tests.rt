@@ -27,10 +27,13 @@ fn as_many_bytes_as_the_limit_are_read_and_one_more_is_too_long(rt: HostRuntime)
 
 #[test]
 fn a_sink_keeps_what_it_got_before_its_fault(rt: HostRuntime) {
-    let mut failing = MemSink::new(rt.alloc(), 4, &[2]);
+    let mut failing = MemSink::new(rt.alloc(), 9, 4, &[2]).expect(&rt, "sink");
     assert_eq!(rt; write_all(&mut failing, b"123456789"), Err(WriteFault));
     assert_eq!(rt; failing.bytes(), b"1234".as_slice());
-    let mut whole = MemSink::new(rt.alloc(), 4, &[]);
+    let mut full = MemSink::new(rt.alloc(), 6, 4, &[]).expect(&rt, "sink");
+    assert_eq!(rt; write_all(&mut full, b"123456789"), Err(WriteFault));
+    assert_eq!(rt; full.bytes(), b"123456".as_slice());
+    let mut whole = MemSink::new(rt.alloc(), 9, 4, &[]).expect(&rt, "sink");
     assert_eq!(rt; write_all(&mut whole, b"123456789"), Ok(()));
     assert_eq!(rt; whole.bytes(), b"123456789".as_slice());
 }

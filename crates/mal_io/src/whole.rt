@@ -27,7 +27,7 @@ pub enum ReadAllError {
 pub struct WriteFault;
 
 /// All bytes that `source` has left, where they are at most `max`. `TooLong` comes exactly where
-/// `max + 1` bytes were taken, `ReadFault` only where the source counted a fault.
+/// `max + 1` bytes were taken, `ReadFault` only where the source counted a fault; else its count stays.
 pub fn read_all<S: Source>(alloc: Global, source: &mut S, max: u32) -> Result<Vec<u8>, ReadAllError>
     ensures all { IfOk result (λ v. Consumes (S.left source.old) (S.left source.new) v.items) }
     ensures end { OnOk result (IsAtEnd (S.left source.new)) }
@@ -37,6 +37,7 @@ pub fn read_all<S: Source>(alloc: Global, source: &mut S, max: u32) -> Result<Ve
     ensures later { S.faults source.old ≤ S.faults source.new }
     ensures cause { IsErrOf result ReadAllError.ReadFault
         → Rose (S.faults source.old) (S.faults source.new) }
+    ensures counted { (IsErrOf result ReadAllError.ReadFault → ⊥) → S.faults source.new ≡ S.faults source.old }
 {
     let limit = max as usize + 1;
     let mut out = Vec::new(alloc);
@@ -58,12 +59,14 @@ pub fn read_all<S: Source>(alloc: Global, source: &mut S, max: u32) -> Result<Ve
     }
 }
 
-/// Hands all of `bytes` to `sink`. After a fault the sink got a front of them. It takes no memory.
+/// Hands all of `bytes` to `sink`, whose count of faults then stays. After a fault the sink got a front of them. It takes no
+/// memory.
 pub fn write_all<K: Sink>(sink: &mut K, bytes: &[u8]) -> Result<(), WriteFault>
     ensures all { OnOk result (Appends (K.got sink.old) (K.got sink.new) bytes.now) }
     ensures front { (front : List ℕ) × GotFront (K.got sink.old) (K.got sink.new) bytes.now front }
     ensures later { K.faults sink.old ≤ K.faults sink.new }
     ensures cause { OnErr result (Rose (K.faults sink.old) (K.faults sink.new)) }
+    ensures counted { OnOk result (K.faults sink.new ≡ K.faults sink.old) }
 {
     let mut rest = bytes;
     'pieces: while !rest.is_empty() {

@@ -1,4 +1,4 @@
-use Rattle.std.proofs.Common.{ℕ, List, ◌++◌, take, ap, sym, ◌∙◌, arith}
+use Rattle.std.proofs.Common.{ℕ, List, ◌++◌, take, ap, sym, ◌∙◌}
 use Rattle.mal_io.proofs.Gains.{gains_more, front_grows}
 use Rattle.mal_io.proofs.whole.write_all.Goals as goal
 
@@ -12,5 +12,5 @@ pieces-preserved g c =
         front_grows c.args.bytes.now gained.0 c.pieces.rest.now c.in-Ok.count gained.1 ∙ ap (λ (left : List ℕ). (gained.0 ++ piece) ++ left) (sym c.split_at.ensures.back),
         gains_more _ _ _ gained.0 piece gained.2 c.in-Ok.ensures.bytes,
       );
-      later = omega (arith, c.pieces.invariant.later, c.in-Ok.ensures.later);
+      counted = c.in-Ok.ensures.counted ∙ c.pieces.invariant.counted;
     }

@@ -1,11 +1,11 @@
-use Rattle.std.proofs.Common.{◌≡◌, ◌≤◌, ℕ, List, ◌++◌, length}
+use Rattle.std.proofs.Common.{◌≡◌, ℕ, List, ◌++◌, length}
 use Rattle.std.specs.Io.KnownBytes.{Appends}
 use Rattle.mal_io.proofs.whole.write_all.Given as goal
 
 abbrev pub invariant-pieces : goal.invariant-pieces
 invariant-pieces g l = let sink = g.K.Sink in record {
   gained : (front : List ℕ) × (l.bytes ≡ front ++ l.rest) × Appends (sink.got l.fn.sink) (sink.got l.sink) front;
-  later : sink.faults l.fn.sink ≤ sink.faults l.sink;
+  counted : sink.faults l.sink ≡ sink.faults l.fn.sink;
 }
 
 abbrev pub decreases-pieces : goal.decreases-pieces
