@@ -1,8 +1,7 @@
-use Rattle.std.proofs.Common.{◌≡◌, ℕ, zero, suc, ◌<◌, ◌≤◌, Bool, true, false, ◌||◌, eqb, nat_le, List, [], ◌∷◌, length, take, refl, sym, ◌∙◌, ap, arith, ⊎_elim}
+use Rattle.std.proofs.Common.{◌≡◌, ℕ, zero, suc, ◌≤◌, Bool, true, false, ◌||◌, eqb, nat_le, List, [], ◌∷◌, length, take, refl, sym, ◌∙◌, ap, arith, ⊎_elim}
 use Rattle.std.specs.List.{list_any, IsDistinct, prefix_len}
 use Rattle.std.specs.List.Sorted.{IsPartitionPoint}
 use Rattle.std.specs.List.{AllByRecursion}
-use Rattle.std.proofs.lemmas.List.{get_or-take, length-take-le}
 use Rattle.std.proofs.lemmas.List.Sums.{prefix_len_is, prefix_len-le-length}
 use Rattle.std.proofs.lemmas.List.Folds.{length-prefix_len}
 use Rattle.std.proofs.lemmas.Map.Keys.{IsDistinct-head, IsDistinct-tail, IsDistinct-cons}
@@ -11,7 +10,7 @@ use Rattle.mal_base.specs.Literals.{var_of}
 use Rattle.mal_base.specs.declared.trail_entry.TrailEntry.{TrailEntry}
 use Rattle.spec_node.specs.Value.{vars_of}
 use Rattle.spec_node.specs.Cut.{kept}
-use Rattle.mal_trail.specs.Trailed.{Fits, Stands}
+use Rattle.mal_trail.specs.Trailed.{Fits}
 use Rattle.mal_trail.proofs.LevelLemmas.{rise-take}
 use Rattle.mal_trail.proofs.TrailLemmas.{or_cases}
 
@@ -61,9 +60,3 @@ Fits-take n k es f = record {
   within = λ v h. f.within v (any-take v k (vars_of es) (rw (vars_of-take k es) at h));
   levels = rise-take k 0 es f.levels;
 }
-
--- and its entries stand at their places
-pub Stands-take : (places : List ℕ) (k : ℕ) (es : List TrailEntry) → k ≤ length es → Stands places es → Stands places (take k es)
-Stands-take places k es l stands i d h =
-    let below : i < k = omega (arith, length-take-le k es l) in
-    rw (get_or-take k es i d below) (stands i d (omega arith))

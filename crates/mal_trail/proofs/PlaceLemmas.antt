@@ -1,24 +1,65 @@
-use Rattle.std.proofs.Common.{◌≡◌, ℕ, zero, suc, ◌<◌, ◌≤◌, Bool, true, false, nat_eq, List, [], ◌∷◌, ◌++◌, length, take, replicate, get_or, set, Some, None, not, cond, ◌||◌, ap, refl, sym, ◌∙◌, arith, ⊎_elim, ◌≢◌}
-use Rattle.std.specs.List.{list_any, find}
+use Rattle.std.proofs.Common.{◌≡◌, ℕ, zero, suc, ◌+◌, ◌-◌, ◌/◌, ◌%◌, ◌*◌, ◌<◌, ◌≤◌, Bool, true, false, nat_eq, nat_lt, List, [], ◌∷◌, ◌++◌, length, take, replicate, get_or, set, Some, None, cond, ◌||◌, ap, refl, sym, ◌∙◌, arith, ⊎_elim, ◌⊎◌, inl, inr, ◌≢◌}
+use Rattle.std.specs.List.{list_any, find, IsDistinct}
 use Rattle.std.specs.Option.{option_map}
-use Rattle.std.proofs.lemmas.Bool.{false≢true, cases_lt}
+use Rattle.std.specs.Prelude.{eqb}
+use Rattle.std.proofs.lemmas.Bool.{false≢true, cases_lt, cases_eq, ltb-true}
 use Rattle.std.proofs.lemmas.Bool.Decides.{nat_tests}
-use Rattle.std.proofs.lemmas.List.{get_or-take, length-take-le, get_or_append_left, get_or_push, get_or-set_same, get_or-set_other, length_push}
+use Rattle.std.proofs.lemmas.Map.Keys.{apart_from_distinct}
+use Rattle.std.proofs.lemmas.List.{length-map, get_or-take, length-take-le, get_or_append_left, get_or_push, get_or-set_same, get_or-set_other, length_push}
 use Rattle.std.proofs.lemmas.List.Folds.{list_any_at}
-use Rattle.mal_base.specs.Literals.{var_of, has_plus}
+use Rattle.mal_base.specs.Literals.{var_of, has_plus, negated, literal}
 use Rattle.mal_base.specs.Trails.{value_on}
 use Rattle.mal_base.specs.declared.trail_entry.TrailEntry.{TrailEntry}
-use Rattle.spec_node.specs.Value.{has_value}
-use Rattle.mal_trail.specs.Trailed.{Stands}
-use Rattle.mal_trail.proofs.TrailLemmas.{none_of, or_cases}
+use Rattle.spec_node.specs.Value.{is_true, is_false, has_value, vars_of}
+use Rattle.mal_trail.specs.Trailed.{nowhere, false_place, Stand}
+use Rattle.mal_trail.proofs.TrailLemmas.{none_of, or_cases, or_false}
+
+parity : (a : ℕ) → (a % 2 ≡ 0) ⊎ (a % 2 ≡ 1)
+parity a = by_case (nat_eq (a % 2) 0) refl
+  where
+    by_case : (b : Bool) → nat_eq (a % 2) 0 ≡ b → (a % 2 ≡ 0) ⊎ (a % 2 ≡ 1)
+    by_case true e = inl (grind (arith, nat_tests))
+    by_case false e = inr (let n : a % 2 ≡ 0 → ⊥ = grind (arith, nat_tests) in omega arith)
+
+test_zero : (n : ℕ) → n ≡ 0 → nat_eq n 0 ≡ true
+test_zero n = grind (arith, nat_tests)
+
+test_one : (n : ℕ) → n ≡ 1 → nat_eq n 0 ≡ false
+test_one n = grind (arith, nat_tests)
+
+even-negated : (l : ℕ) → l % 2 ≡ 0 → negated l ≡ l + 1
+even-negated l e = rw (test_zero (l % 2) e) refl
+
+odd-negated : (l : ℕ) → l % 2 ≡ 1 → negated l ≡ l - 1
+odd-negated l e = rw (test_one (l % 2) e) refl
+
+-- the negation of a literal's negation is the literal
+pub negated-back : (l : ℕ) → negated (negated l) ≡ l
+negated-back l = ⊎_elim
+    (λ e. let p = even-negated l e in let odd : negated l % 2 ≡ 1 = omega arith in let b = odd-negated (negated l) odd in omega arith)
+    (λ e. let p = odd-negated l e in let even : negated l % 2 ≡ 0 = omega arith in let b = even-negated (negated l) even in omega arith)
+    (parity l)
+
+-- and it is of the same variable
+pub negated-var : (l : ℕ) → var_of (negated l) ≡ var_of l
+negated-var l = ⊎_elim (λ e. let p = even-negated l e in omega arith) (λ e. let p = odd-negated l e in omega arith) (parity l)
+
+nat_eq_same : (a b : ℕ) → a ≡ b → nat_eq a b ≡ true
+nat_eq_same a b = grind (arith, nat_tests)
+
+eq_of : (a b : ℕ) → nat_eq a b ≡ true → a ≡ b
+eq_of a b = grind (arith, nat_tests)
+
+lt_test : (a b : ℕ) → a < b → nat_lt a b ≡ true
+lt_test a b = grind (arith, nat_tests)
 
 -- an entry that passes a test, where some entry does
-pub record Witness (p : TrailEntry → Bool) (entries : List TrailEntry) (d : TrailEntry) : Type 0 where
+record Witness (p : TrailEntry → Bool) (entries : List TrailEntry) (d : TrailEntry) : Type 0 where
   pub at : ℕ
   pub within : at < length entries
   pub passes : p (get_or entries at d) ≡ true
 
-pub witness : (p : TrailEntry → Bool) (entries : List TrailEntry) (d : TrailEntry) → list_any p entries ≡ true → Witness p entries d
+witness : (p : TrailEntry → Bool) (entries : List TrailEntry) (d : TrailEntry) → list_any p entries ≡ true → Witness p entries d
 witness p [] d h = absurd (false≢true h)
 witness p (e ∷ es) d h =
     ⊎_elim
@@ -26,72 +67,157 @@ witness p (e ∷ es) d h =
     (λ t. let w = witness p es d t in record { at = suc w.at; within = omega (arith, w.within); passes = w.passes })
     (or_cases (p e) (list_any p es) h)
 
--- where an entry of a variable passes a test, it stands at the variable's place
-pub witness_place : (p : TrailEntry → Bool) (v : ℕ) → ((e : TrailEntry) → p e ≡ true → var_of e.lit ≡ v) → (places : List ℕ) (entries : List TrailEntry) → Stands places entries → (count : ℕ) → count ≤ length entries → (d : TrailEntry) → list_any p (take count entries) ≡ true → (get_or places v 0 < count) × (p (get_or entries (get_or places v 0) d) ≡ true)
-witness_place p v only places entries stands count l d h =
-    let w = witness p (take count entries) d h in
-    let below : w.at < count = omega (arith, w.within, length-take-le count entries l) in
-    let passes : p (get_or entries w.at d) ≡ true = rw (get_or-take count entries w.at d below) at w.passes in
-    let place : get_or places v 0 ≡ w.at = rw (only (get_or entries w.at d) passes) at (stands w.at d (omega arith)) in
-    rw place (below, passes)
-
--- whether an entry of a variable passes a test is whether the one at the variable's place does
-pub seen : (p : TrailEntry → Bool) (v : ℕ) → ((e : TrailEntry) → p e ≡ true → var_of e.lit ≡ v) → (places : List ℕ) (entries : List TrailEntry) → Stands places entries → (count : ℕ) → count ≤ length entries → (e : TrailEntry) → get_or places v 0 < count → e ≡ get_or entries (get_or places v 0) e → p e ≡ list_any p (take count entries)
-seen p v only places entries stands count l e b is = by_test (p e) refl
+-- a literal is false under the first entries exactly where its false place is among them
+pub false-told : (places : List ℕ) (entries : List TrailEntry) → Stand places entries → length entries < nowhere → (l count : ℕ) → count ≤ length entries → nat_lt (false_place places l) count ≡ is_false (take count entries) l
+false-told places entries s bound l count h = by_value (is_false (take count entries) l) refl
   where
-    by_test : (r : Bool) → p e ≡ r → r ≡ list_any p (take count entries)
-    by_test true t =
-        let inside : get_or places v 0 < length (take count entries) = omega (arith, length-take-le count entries l) in
-        let passes : p (get_or (take count entries) (get_or places v 0) e) ≡ true = rw (get_or-take count entries (get_or places v 0) e b, ← is) t in
-        sym (list_any_at p (take count entries) (get_or places v 0) e inside passes)
-    by_test false t =
-        sym (none_of (list_any p (take count entries)) (λ h. false≢true (sym t ∙ rw (← is) at (witness_place p v only places entries stands count l e h).1)))
+    none : TrailEntry
+    none = record { lit = 2; reason = None; level = 0 }
 
--- where a variable's place is behind the entries, none of them passes a test of the variable
-pub unseen : (p : TrailEntry → Bool) (v : ℕ) → ((e : TrailEntry) → p e ≡ true → var_of e.lit ≡ v) → (places : List ℕ) (entries : List TrailEntry) → Stands places entries → (count : ℕ) → count ≤ length entries → (d : TrailEntry) → count ≤ get_or places v 0 → list_any p (take count entries) ≡ false
-unseen p v only places entries stands count l d b =
-    none_of (list_any p (take count entries)) (λ h. omega (arith, (witness_place p v only places entries stands count l d h).0))
+    by_value : (b : Bool) → is_false (take count entries) l ≡ b → nat_lt (false_place places l) count ≡ b
+    by_value true t =
+        let w = witness (λ (e : TrailEntry). nat_eq e.lit (negated l)) (take count entries) none t in
+        let below : w.at < count = omega (arith, w.within, length-take-le count entries h) in
+        let passes : nat_eq (get_or entries w.at none).lit (negated l) ≡ true = rw (get_or-take count entries w.at none below) at w.passes in
+        let is : (get_or entries w.at none).lit ≡ negated l = eq_of _ _ passes in
+        let place : false_place places (negated (negated l)) ≡ w.at = rw is at (s.placed w.at none (omega arith)) in
+        lt_test _ _ (let p : false_place places l ≡ w.at = rw (negated-back l) at place in omega arith)
+    by_value false t = none_of (nat_lt (false_place places l) count) (λ m.
+        let below : false_place places l < count = ltb-true _ _ m in
+        ⊎_elim (λ e. omega arith) (λ there.
+        let inside : false_place places l < length (take count entries) = omega (arith, length-take-le count entries h) in
+        let passes : nat_eq (get_or (take count entries) (false_place places l) none).lit (negated l) ≡ true = rw (get_or-take count entries (false_place places l) none below) (nat_eq_same _ _ there.1) in
+        false≢true (sym t ∙ list_any_at (λ (e : TrailEntry). nat_eq e.lit (negated l)) (take count entries) (false_place places l) none inside passes)) (s.there l none))
 
-pub same_lit : (l : ℕ) (e : TrailEntry) → nat_eq e.lit l ≡ true → var_of e.lit ≡ var_of l
-same_lit l e h = grind (arith, nat_tests)
+-- nothing stands on the trail without an entry
+pub stand-none : (places : List ℕ) → ((l : ℕ) → false_place places l ≡ nowhere) → Stand places []
+stand-none places h = record { placed = λ k d l. absurd (omega arith); there = λ l d. inl (h l) }
 
-pub same_var : (v : ℕ) (e : TrailEntry) → nat_eq v (var_of e.lit) ≡ true → var_of e.lit ≡ v
-same_var v e h = grind (arith, nat_tests)
+none-more : (m u : ℕ) → ◌≡◌ {A = ℕ} (get_or (replicate m nowhere) u nowhere) nowhere
+none-more zero u = refl
+none-more (suc m) zero = refl
+none-more (suc m) (suc u) = none-more m u
 
-zeros : (m u : ℕ) → ◌≡◌ {A = ℕ} (get_or (replicate m 0) u 0) 0
-zeros zero u = refl
-zeros (suc m) zero = refl
-zeros (suc m) (suc u) = zeros m u
+place-more : (places : List ℕ) (m l : ℕ) → false_place (places ++ replicate m nowhere) l ≡ false_place places l
+place-more [] m l = none-more m l
+place-more (x ∷ xs) m zero = refl
+place-more (x ∷ xs) m (suc l) = place-more xs m l
 
-get_or_zeros : (xs : List ℕ) (m u : ℕ) → get_or (xs ++ replicate m 0) u 0 ≡ get_or xs u 0
-get_or_zeros [] m u = zeros m u
-get_or_zeros (x ∷ xs) m zero = refl
-get_or_zeros (x ∷ xs) m (suc u) = get_or_zeros xs m u
-
--- entries stand at their places also where there are more places
-pub Stands-more : (places : List ℕ) (m : ℕ) (entries : List TrailEntry) → Stands places entries → Stands (places ++ replicate m 0) entries
-Stands-more places m entries stands k d h = get_or_zeros places m (var_of (get_or entries k d).lit) ∙ stands k d h
-
-pub Stands-none : (places : List ℕ) → Stands places []
-Stands-none places k d h = absurd (omega arith)
-
-nat_eq_same : (a b : ℕ) → a ≡ b → nat_eq a b ≡ true
-nat_eq_same a b = grind (arith, nat_tests)
+-- entries stand also where there are places of more literals
+pub stand-more : (places : List ℕ) (m : ℕ) (entries : List TrailEntry) → Stand places entries → Stand (places ++ replicate m nowhere) entries
+stand-more places m entries s = record {
+  placed = λ k d h. place-more places m _ ∙ s.placed k d h;
+  there = λ l d. rw (place-more places m l) (s.there l d);
+}
 
 -- an entry of a variable without a value takes its place
-pub Stands-push : (places : List ℕ) (entries : List TrailEntry) (e : TrailEntry) → Stands places entries → has_value entries (var_of e.lit) ≡ false → var_of e.lit < length places → Stands (set places (var_of e.lit) (length entries)) (entries ++ e ∷ [])
-Stands-push places entries e stands free room k d h = ⊎_elim old new (cases_lt k (length entries))
+pub stand-push : (places : List ℕ) (entries : List TrailEntry) (e : TrailEntry) → Stand places entries → has_value entries (var_of e.lit) ≡ false → negated e.lit < length places → Stand (set places (negated e.lit) (length entries)) (entries ++ e ∷ [])
+stand-push places entries e s free room = record {
+  placed = λ k d h. ⊎_elim (old k d) (new k d h) (cases_lt k (length entries));
+  there = λ l d. ⊎_elim (same l d) (other l d) (cases_eq l (negated e.lit));
+}
   where
-    old : k < length entries → get_or (set places (var_of e.lit) (length entries)) (var_of (get_or (entries ++ e ∷ []) k d).lit) 0 ≡ k
-    old b =
-        let other : var_of (get_or entries k d).lit ≢ var_of e.lit =
-        (λ same. false≢true (sym free ∙ list_any_at (λ (x : TrailEntry). nat_eq (var_of e.lit) (var_of x.lit)) entries k d b (nat_eq_same (var_of e.lit) (var_of (get_or entries k d).lit) (sym same)))) in
-        rw (get_or_append_left entries (e ∷ []) d k b, get_or-set_other places (var_of e.lit) (var_of (get_or entries k d).lit) (length entries) 0 other) (stands k d b)
+    old : (k : ℕ) (d : TrailEntry) → k < length entries → false_place (set places (negated e.lit) (length entries)) (negated (get_or (entries ++ e ∷ []) k d).lit) ≡ k
+    old k d b =
+        let apart : negated (get_or entries k d).lit ≢ negated e.lit =
+        (λ q. let v : var_of (get_or entries k d).lit ≡ var_of e.lit = sym (negated-var (get_or entries k d).lit) ∙ (ap var_of q ∙ negated-var e.lit) in
+        false≢true (sym free ∙ list_any_at (λ (x : TrailEntry). nat_eq (var_of e.lit) (var_of x.lit)) entries k d b (nat_eq_same (var_of e.lit) (var_of (get_or entries k d).lit) (sym v)))) in
+        rw (get_or_append_left entries (e ∷ []) d k b, get_or-set_other places (negated e.lit) (negated (get_or entries k d).lit) (length entries) nowhere apart) (s.placed k d b)
 
-    new : length entries ≤ k → get_or (set places (var_of e.lit) (length entries)) (var_of (get_or (entries ++ e ∷ []) k d).lit) 0 ≡ k
-    new b =
+    new : (k : ℕ) (d : TrailEntry) → k < length (entries ++ e ∷ []) → length entries ≤ k → false_place (set places (negated e.lit) (length entries)) (negated (get_or (entries ++ e ∷ []) k d).lit) ≡ k
+    new k d h b =
         let last : length entries ≡ k = omega (arith, length_push entries e) in
-        rw (get_or_push entries e d k last, get_or-set_same places (var_of e.lit) (length entries) 0 room) last
+        rw (get_or_push entries e d k last, get_or-set_same places (negated e.lit) (length entries) nowhere room) last
+
+    same : (l : ℕ) (d : TrailEntry) → l ≡ negated e.lit → (false_place (set places (negated e.lit) (length entries)) l ≡ nowhere) ⊎ ((false_place (set places (negated e.lit) (length entries)) l < length (entries ++ e ∷ [])) × ((get_or (entries ++ e ∷ []) (false_place (set places (negated e.lit) (length entries)) l) d).lit ≡ negated l))
+    same l d q = rw (q, get_or-set_same places (negated e.lit) (length entries) nowhere room, get_or_push entries e d (length entries) refl, negated-back e.lit) (inr (omega (arith, length_push entries e), refl))
+
+    other : (l : ℕ) (d : TrailEntry) → (l ≡ negated e.lit → ⊥) → (false_place (set places (negated e.lit) (length entries)) l ≡ nowhere) ⊎ ((false_place (set places (negated e.lit) (length entries)) l < length (entries ++ e ∷ [])) × ((get_or (entries ++ e ∷ []) (false_place (set places (negated e.lit) (length entries)) l) d).lit ≡ negated l))
+    other l d q = rw (get_or-set_other places (negated e.lit) l (length entries) nowhere q) (⊎_elim (λ n. inl n) (λ t. inr (omega (arith, t.0, length_push entries e), rw (get_or_append_left entries (e ∷ []) d (false_place places l) t.0) t.1)) (s.there l d))
+
+-- the last entry leaves its place
+pub stand-pop : (places : List ℕ) (n : ℕ) (entries : List TrailEntry) (e : TrailEntry) → Stand places entries → length entries ≡ n + 1 → e ≡ get_or entries n e → negated e.lit < length places → Stand (set places (negated e.lit) nowhere) (take n entries)
+stand-pop places n entries e s long is room = record {
+  placed = λ k d h. kept k d (let l = length-take-le n entries (omega arith) in omega arith);
+  there = λ l d. ⊎_elim (same l d) (other l d) (cases_eq l (negated e.lit));
+}
+  where
+    last : false_place places (negated e.lit) ≡ n
+    last = rw (← is) at (s.placed n e (omega arith))
+
+    kept : (k : ℕ) (d : TrailEntry) → k < n → false_place (set places (negated e.lit) nowhere) (negated (get_or (take n entries) k d).lit) ≡ k
+    kept k d b =
+        let here : false_place places (negated (get_or entries k d).lit) ≡ k = s.placed k d (omega arith) in
+        let apart : negated (get_or entries k d).lit ≢ negated e.lit = (λ q. let p : false_place places (negated e.lit) ≡ k = rw q at here in omega (arith, p, last)) in
+        rw (get_or-take n entries k d b, get_or-set_other places (negated e.lit) (negated (get_or entries k d).lit) nowhere nowhere apart) here
+
+    same : (l : ℕ) (d : TrailEntry) → l ≡ negated e.lit → (false_place (set places (negated e.lit) nowhere) l ≡ nowhere) ⊎ ((false_place (set places (negated e.lit) nowhere) l < length (take n entries)) × ((get_or (take n entries) (false_place (set places (negated e.lit) nowhere) l) d).lit ≡ negated l))
+    same l d q = inl (rw q (get_or-set_same places (negated e.lit) nowhere nowhere room))
+
+    before : (l : ℕ) (d : TrailEntry) → (l ≡ negated e.lit → ⊥) → (false_place places l < length entries) × ((get_or entries (false_place places l) d).lit ≡ negated l) → false_place places l < n
+    before l d q t = ⊎_elim (λ x. let at_end : get_or entries n d ≡ e = get_or_either entries n d e (omega arith) ∙ sym is in absurd (q (sym (negated-back l) ∙ ap negated (sym t.1 ∙ ap (λ (y : TrailEntry). y.lit) (ap (λ (i : ℕ). get_or entries i d) x ∙ at_end))))) (λ x. omega (arith, t.0, x)) (cases_eq (false_place places l) n)
+      where
+        get_or_either : (es : List TrailEntry) (k : ℕ) (a b : TrailEntry) → k < length es → get_or es k a ≡ get_or es k b
+        get_or_either [] k a b h = absurd (omega arith)
+        get_or_either (x ∷ xs) zero a b h = refl
+        get_or_either (x ∷ xs) (suc k) a b h = get_or_either xs k a b (omega arith)
+
+    other : (l : ℕ) (d : TrailEntry) → (l ≡ negated e.lit → ⊥) → (false_place (set places (negated e.lit) nowhere) l ≡ nowhere) ⊎ ((false_place (set places (negated e.lit) nowhere) l < length (take n entries)) × ((get_or (take n entries) (false_place (set places (negated e.lit) nowhere) l) d).lit ≡ negated l))
+    other l d q = rw (get_or-set_other places (negated e.lit) l nowhere nowhere q) (⊎_elim (λ x. inl x) (λ t. let b = before l d q t in inr (let m = length-take-le n entries (omega arith) in omega arith, rw (get_or-take n entries (false_place places l) d b) t.1)) (s.there l d))
+
+plus-var : (l : ℕ) → l % 2 ≡ 0 → 2 * (l / 2) ≡ l
+plus-var l e = omega arith
+
+-- an entry is of a variable where it is one of its two literals
+lit-cases : (v l : ℕ) → nat_eq v (var_of l) ≡ (nat_eq l (literal v true) || nat_eq l (literal v false))
+lit-cases v l = grind (arith, nat_tests)
+
+or-swap : (a b c d : Bool) → ((a || b) || (c || d)) ≡ ((a || c) || (b || d))
+or-swap true b c d = refl
+or-swap false true true d = refl
+or-swap false true false d = refl
+or-swap false false c d = refl
+
+-- a variable has a value where one of its literals is true
+pub has-either : (entries : List TrailEntry) (v : ℕ) → has_value entries v ≡ (is_true entries (literal v true) || is_true entries (literal v false))
+has-either [] v = refl
+has-either (e ∷ es) v = rw (lit-cases v e.lit, has-either es v) (or-swap (nat_eq e.lit (literal v true)) (nat_eq e.lit (literal v false)) (is_true es (literal v true)) (is_true es (literal v false)))
+
+pub none-has : (entries : List TrailEntry) (v : ℕ) → is_true entries (literal v true) ≡ false → is_true entries (literal v false) ≡ false → has_value entries v ≡ false
+none-has entries v p n = has-either entries v ∙ rw (p, n) refl
+
+plus-sign : (v l : ℕ) → nat_eq v (var_of l) ≡ true → nat_eq l (literal v false) ≡ false → has_plus l ≡ true
+plus-sign v l = grind (arith, nat_tests)
+
+minus-sign : (v l : ℕ) → nat_eq v (var_of l) ≡ true → nat_eq l (literal v true) ≡ false → has_plus l ≡ false
+minus-sign v l = grind (arith, nat_tests)
+
+not-lit : (v l : ℕ) (b : Bool) → nat_eq v (var_of l) ≡ false → nat_eq l (literal v b) ≡ false
+not-lit v l true = grind (arith, nat_tests)
+not-lit v l false = grind (arith, nat_tests)
+
+-- the value of a variable is the sign of the one of its literals that is true
+pub value-true : (entries : List TrailEntry) (v : ℕ) → is_true entries (literal v true) ≡ true → is_true entries (literal v false) ≡ false → value_on entries v ≡ Some true
+value-true [] v t f = absurd (false≢true t)
+value-true (e ∷ es) v t f = by_test (nat_eq v (var_of e.lit)) refl (λ h. value-true es v (rw (not-lit v e.lit true h) at t) apart.1)
+  where
+    apart : (nat_eq e.lit (literal v false) ≡ false) × (is_true es (literal v false) ≡ false)
+    apart = or_false (nat_eq e.lit (literal v false)) (is_true es (literal v false)) f
+
+    by_test : (b : Bool) → nat_eq v (var_of e.lit) ≡ b → (nat_eq v (var_of e.lit) ≡ false → value_on es v ≡ Some true) → option_map (λ (x : TrailEntry). has_plus x.lit) (cond b (Some e) (find (λ (x : TrailEntry). nat_eq v (var_of x.lit)) es)) ≡ Some true
+    by_test true h rest = ap (λ (b : Bool). Some b) (plus-sign v e.lit h apart.0)
+    by_test false h rest = rest h
+
+pub value-false : (entries : List TrailEntry) (v : ℕ) → is_true entries (literal v false) ≡ true → is_true entries (literal v true) ≡ false → value_on entries v ≡ Some false
+value-false [] v t f = absurd (false≢true t)
+value-false (e ∷ es) v t f = by_test (nat_eq v (var_of e.lit)) refl (λ h. value-false es v (rw (not-lit v e.lit false h) at t) apart.1)
+  where
+    apart : (nat_eq e.lit (literal v true) ≡ false) × (is_true es (literal v true) ≡ false)
+    apart = or_false (nat_eq e.lit (literal v true)) (is_true es (literal v true)) f
+
+    by_test : (b : Bool) → nat_eq v (var_of e.lit) ≡ b → (nat_eq v (var_of e.lit) ≡ false → value_on es v ≡ Some false) → option_map (λ (x : TrailEntry). has_plus x.lit) (cond b (Some e) (find (λ (x : TrailEntry). nat_eq v (var_of x.lit)) es)) ≡ Some false
+    by_test true h rest = ap (λ (b : Bool). Some b) (minus-sign v e.lit h apart.0)
+    by_test false h rest = rest h
 
 find-none : (p : TrailEntry → Bool) (es : List TrailEntry) → list_any p es ≡ false → find p es ≡ None
 find-none p [] h = refl
@@ -101,32 +227,46 @@ find-none p (e ∷ es) h = by_test (p e) (find-none p es) h
     by_test true rest h = absurd (false≢true (sym h))
     by_test false rest h = rest h
 
-find-first : (p : TrailEntry → Bool) (es : List TrailEntry) (k : ℕ) (d : TrailEntry) → k < length es → p (get_or es k d) ≡ true → ((i : ℕ) → i < k → p (get_or es i d) ≡ false) → find p es ≡ Some (get_or es k d)
-find-first p [] k d l t f = absurd (omega arith)
-find-first p (e ∷ es) zero d l t f = rw t refl
-find-first p (e ∷ es) (suc k) d l t f =
-    let first : p e ≡ false = f 0 (omega arith) in
-    rw first (find-first p es k d (omega arith) t (λ i h. f (suc i) (omega arith)))
-
 -- a variable of which no entry stands on a trail has no value
-pub value-none : (entries : List TrailEntry) (v : ℕ) → list_any (λ e. nat_eq v (var_of e.lit)) entries ≡ false → value_on entries v ≡ None
+pub value-none : (entries : List TrailEntry) (v : ℕ) → has_value entries v ≡ false → value_on entries v ≡ None
 value-none entries v h = ap (option_map (λ (e : TrailEntry). has_plus e.lit)) (find-none (λ e. nat_eq v (var_of e.lit)) entries h)
 
--- the entry at a variable's place gives its value
-pub value-at : (places : List ℕ) (entries : List TrailEntry) (v : ℕ) (e : TrailEntry) → Stands places entries → get_or places v 0 < length entries → e ≡ get_or entries (get_or places v 0) e → v ≡ var_of e.lit → value_on entries v ≡ Some (has_plus e.lit)
-value-at places entries v e stands b is same =
-    let p : TrailEntry → Bool = λ x. nat_eq v (var_of x.lit) in
-    let passes : p (get_or entries (get_or places v 0) e) ≡ true = rw (← is) (nat_eq_same v (var_of e.lit) same) in
-    let fails : (i : ℕ) → i < get_or places v 0 → p (get_or entries i e) ≡ false = λ i l. none_of (p (get_or entries i e)) (λ h. by_place i l (same_var v (get_or entries i e) h)) in
-    ap (option_map (λ (x : TrailEntry). has_plus x.lit)) (find-first p entries (get_or places v 0) e b passes fails ∙ ap (λ (x : TrailEntry). Some x) (sym is))
+eqb_same : (a b : ℕ) → a ≡ b → eqb a b ≡ true
+eqb_same a b = grind (arith, nat_tests)
+
+var-literal : (v : ℕ) (b : Bool) → var_of (literal v b) ≡ v
+var-literal v true = omega arith
+var-literal v false = omega arith
+
+lits-differ : (v : ℕ) → literal v true ≢ literal v false
+lits-differ v e = omega arith
+
+-- of the two literals of a variable that stands once, one alone is true
+pub not-both : (entries : List TrailEntry) (v : ℕ) → IsDistinct eqb (vars_of entries) → is_true entries (literal v true) ≡ true → is_true entries (literal v false) ≡ false
+not-both entries v d t = none_of (is_true entries (literal v false)) (λ f.
+    let a = witness (λ (e : TrailEntry). nat_eq e.lit (literal v true)) entries none t in
+    let b = witness (λ (e : TrailEntry). nat_eq e.lit (literal v false)) entries none f in
+    let at_a : (get_or entries a.at none).lit ≡ literal v true = eq_of _ _ a.passes in
+    let at_b : (get_or entries b.at none).lit ≡ literal v false = eq_of _ _ b.passes in
+    let var_a : get_or (vars_of entries) a.at 0 ≡ v = get-var entries a.at a.within ∙ (ap var_of at_a ∙ var-literal v true) in
+    let var_b : get_or (vars_of entries) b.at 0 ≡ v = get-var entries b.at b.within ∙ (ap var_of at_b ∙ var-literal v false) in
+    let long : length (vars_of entries) ≡ length entries = length-map entries (λ (e : TrailEntry). var_of e.lit) in
+    ⊎_elim
+    (λ l. false≢true (sym (apart_from_distinct eqb (vars_of entries) a.at b.at 0 d l (omega (arith, b.within, long))) ∙ eqb_same _ _ (var_a ∙ sym var_b)))
+    (λ l. ⊎_elim
+    (λ s. lits-differ v (sym at_a ∙ (ap (λ (i : ℕ). (get_or entries i none).lit) s ∙ at_b)))
+    (λ n. false≢true (sym (apart_from_distinct eqb (vars_of entries) b.at a.at 0 d (omega (arith, l, n)) (omega (arith, a.within, long))) ∙ eqb_same _ _ (var_b ∙ sym var_a)))
+    (cases_eq a.at b.at))
+    (cases_lt a.at b.at))
   where
-    by_place : (i : ℕ) → i < get_or places v 0 → var_of (get_or entries i e).lit ≡ v → ⊥
-    by_place i l w =
-        let place : get_or places v 0 ≡ i = rw w at (stands i e (omega arith)) in
-        omega arith
+    none : TrailEntry
+    none = record { lit = 2; reason = None; level = 0 }
 
-pub apart_eq : (a b : ℕ) → true ≡ not (nat_eq a b) → nat_eq a b ≡ false
-apart_eq a b = grind (arith, nat_tests)
+    get-var : (es : List TrailEntry) (k : ℕ) → k < length es → get_or (vars_of es) k 0 ≡ var_of (get_or es k none).lit
+    get-var [] k l = absurd (omega arith)
+    get-var (e ∷ es) zero l = refl
+    get-var (e ∷ es) (suc k) l = get-var es k (omega arith)
 
-pub same_eq : (a b : ℕ) → false ≡ not (nat_eq a b) → a ≡ b
-same_eq a b = grind (arith, nat_tests)
+-- the code of the negation of a literal of a variable up to the greatest that there is room for has a place
+pub has-place : (most count l : ℕ) → count / 2 - 1 ≡ most → 1 ≤ var_of l → var_of l ≤ most → negated l < count
+has-place most count l w low high = let v = negated-var l in omega (arith, v)

@@ -1,10 +1,10 @@
-use Rattle.std.proofs.Common.{◌≡◌, ℕ, ◌+◌, ◌<◌, ◌≤◌, Bool, true, false, ◌||◌, eqb, nat_eq, List, [], ◌∷◌, ◌++◌, length, refl, sym, ap, ◌∙◌, arith, inl, inr, ⊎_elim, ◌⊎◌, rules}
+use Rattle.std.proofs.Common.{◌≡◌, ℕ, ◌+◌, ◌<◌, ◌≤◌, Bool, true, false, ◌||◌, eqb, nat_eq, List, [], ◌∷◌, ◌++◌, length, get_or, refl, sym, ap, ◌∙◌, arith, inl, inr, ⊎_elim, ◌⊎◌, rules}
 use Rattle.std.specs.List.{list_any, IsDistinct}
 use Rattle.std.proofs.lemmas.Cmp.{nat_eq_equiv}
 use Rattle.std.proofs.lemmas.Bool.{false≢true}
 use Rattle.std.proofs.lemmas.Bool.Decides.{nat_tests}
 use Rattle.std.proofs.lemmas.List.{map-append, length_push, length-map}
-use Rattle.std.proofs.lemmas.List.Folds.{list_any-append}
+use Rattle.std.proofs.lemmas.List.Folds.{list_any-append, list_any_at}
 use Rattle.std.proofs.lemmas.Map.Keys.{IsDistinct-push}
 use Rattle.std.proofs.lemmas.Map.Steps.{length-le_from_distinct_below}
 use Rattle.mal_base.specs.Literals.{var_of, negated}
@@ -96,3 +96,10 @@ Fits-push n trail e f h low high l m =
 pub Fits-none : Fits 0 []
 unfolding IsDistinct
 Fits-none = record { small = omega arith; distinct = search rules; within = λ v h. absurd (false≢true h); levels = tt }
+
+-- the variable of an entry is one that there is room for
+pub var-at : (n : ℕ) (trail : List TrailEntry) (k : ℕ) (e : TrailEntry) → Fits n trail → k < length trail → e ≡ get_or trail k e → (1 ≤ var_of e.lit) × (var_of e.lit ≤ n)
+var-at n trail k e f l is = f.within (var_of e.lit) (has_value-vars trail (var_of e.lit) ∙ rw (list_any_at (λ (x : TrailEntry). nat_eq (var_of e.lit) (var_of x.lit)) trail k e l (rw (← is) (same (var_of e.lit)))) refl)
+  where
+    same : (v : ℕ) → nat_eq v v ≡ true
+    same v = grind (arith, nat_tests)

@@ -1,6 +1,6 @@
-use Rattle.std.specs.Prelude.{◌≡◌, ℕ, ◌+◌, ◌-◌, ◌≤◌, ◌<◌, true, eqb, List, [], ◌∷◌, length, slice_index, slice_index_or}
+use Rattle.std.specs.Prelude.{◌≡◌, ℕ, ◌+◌, ◌-◌, ◌/◌, ◌≤◌, ◌<◌, ◌⊎◌, true, eqb, List, [], ◌∷◌, length, slice_index_or}
 use Rattle.std.specs.List.{list_any, IsDistinct}
-use Rattle.mal_base.specs.Literals.{var_of}
+use Rattle.mal_base.specs.Literals.{negated}
 use Rattle.mal_base.specs.declared.trail_entry.TrailEntry.{TrailEntry}
 use Rattle.spec_node.specs.Value.{vars_of}
 
@@ -22,15 +22,25 @@ pub record Fits (most : ℕ) (entries : List TrailEntry) : Type 0 where
   pub within : (v : ℕ) → list_any (eqb v) (vars_of entries) ≡ true → (1 ≤ v) × (v ≤ most)
   pub levels : LevelsRise 0 entries
 
--- each entry stands at its variable's place
-abbrev pub Stands : List ℕ → List TrailEntry → Type 0
-Stands places entries = (k : ℕ) (d : TrailEntry) → k < length entries → slice_index places (var_of (slice_index_or entries k d).lit) ≡ k
+-- a place that no entry has
+abbrev pub nowhere : ℕ
+nowhere = 4294967295
 
--- a trail fits its room, which memory is held for, each entry stands at its variable's place, and no more batches count
--- as handled than the trail has prefixes
+-- the place of the entry that makes a literal false, by the literals' codes
+abbrev pub false_place : List ℕ → ℕ → ℕ
+false_place places l = slice_index_or places l nowhere
+
+-- each entry stands at the false place of its literal's negation, and a literal whose false place is somewhere has its
+-- negation there
+pub record Stand (places : List ℕ) (entries : List TrailEntry) : Type 0 where
+  pub placed : (k : ℕ) (d : TrailEntry) → k < length entries → false_place places (negated (slice_index_or entries k d).lit) ≡ k
+  pub there : (l : ℕ) (d : TrailEntry) → (false_place places l ≡ nowhere) ⊎ ((false_place places l < length entries) × ((slice_index_or entries (false_place places l) d).lit ≡ negated l))
+
+-- a trail fits its room, which memory is held for, each entry stands at its place, and no more batches count as handled
+-- than the trail has prefixes
 pub record IsTrail (most processed : ℕ) (entries : List TrailEntry) (capacity : ℕ) (places : List ℕ) : Type 0 where
   pub fits : Fits most entries
   pub held : most ≤ capacity
-  pub placed : length places - 1 ≡ most
-  pub stands : Stands places entries
+  pub wide : length places / 2 - 1 ≡ most
+  pub stand : Stand places entries
   pub handled : processed ≤ length entries + 1

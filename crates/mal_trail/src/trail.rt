@@ -1,11 +1,12 @@
 //! The trail: the literals that are true, in the order in which they became so.
 
-ghost use Rattle.std.specs.Prelude.{vec_capacity, ◌≡◌, ℕ, ◌+◌, ◌≤◌, ◌<◌, false, List, [], ◌∷◌, ◌++◌, length, slice_index, take, map, min, true, is_some, Some, None, OnOk, IfOk, IfSome};
+ghost use Rattle.std.specs.Prelude.{vec_capacity, ◌≡◌, ℕ, ◌+◌, ◌-◌, ◌≤◌, ◌<◌, false, List, [], ◌∷◌, ◌++◌, length, slice_index, take, map, min, true, is_some, Some, None, OnOk, IfOk, IfSome};
 ghost use Rattle.mal_base.specs.Literals.{var_of, literal};
 ghost use Rattle.mal_base.specs.Trails.{value_on};
 ghost use Rattle.spec_node.specs.Load.{counted};
 ghost use Rattle.spec_node.specs.Cut.{kept, removed};
 ghost use Rattle.spec_node.specs.Value.{is_true, is_false, has_value, level_of};
+ghost use Rattle.mal_trail.specs.Trailed.{false_place};
 
 use mal_base::{ClauseId, Lit, TrailEntry, TrailView, Var};
 use std::alloc::{AllocError, Global};
@@ -13,11 +14,12 @@ use std::marker::Model;
 
 /// A trail, on which no variable stands twice and no level falls, and how many of its propagation batches count as
 /// handled: at most one more than it has entries. Contracts see its entries, the batches and the greatest variable that it
-/// has room for. Beside the entries stands for each variable the index at which it is, if it is on the trail at all.
+/// has room for. Beside the entries stands for each literal, by its code, the index of the entry that makes it false, and
+/// the greatest number where there is none.
 #[derive(Drop)]
 pub struct Trail {
     entries: Vec<TrailEntry>,
-    places: Vec<u32>,
+    false_places: Vec<u32>,
     processed: u32,
     room: u32,
 }
@@ -30,7 +32,7 @@ impl Model for Trail {
 
     ghost view = { λ t. record { entries = t.entries.items; processed = t.processed; room = t.room } };
 
-    ghost invariant = { λ t. IsTrail t.room t.processed t.entries.items (vec_capacity t.entries) t.places.items };
+    ghost invariant = { λ t. IsTrail t.room t.processed t.entries.items (vec_capacity t.entries) t.false_places.items };
 }
 
 impl Trail {
@@ -40,7 +42,7 @@ impl Trail {
     {
         Trail {
             entries: Vec::new(alloc),
-            places: Vec::new(alloc),
+            false_places: Vec::new(alloc),
             processed: 0,
             room: 0,
         }
@@ -58,7 +60,8 @@ impl Trail {
             return Ok(());
         }
         self.entries.reserve(variables as usize)?;
-        self.places.resize(variables as usize + 1, 0)?;
+        self.false_places
+            .resize(2 * variables as usize + 2, u32::MAX)?;
         self.room = variables;
         Ok(())
     }
@@ -82,14 +85,14 @@ impl Trail {
     pub fn is_true(&self, lit: Lit) -> bool
         ensures { result ≡ is_true self.now.entries lit }
     {
-        self.is_true_before(self.entries.len(), lit)
+        self.is_false(lit.negate())
     }
 
     /// Whether the literal is false.
     pub fn is_false(&self, lit: Lit) -> bool
         ensures { result ≡ is_false self.now.entries lit }
     {
-        self.is_true(lit.negate())
+        self.is_false_before(self.entries.len(), lit)
     }
 
     /// Whether the literal is true under the first entries alone, so many.
@@ -97,11 +100,7 @@ impl Trail {
         requires { count ≤ length self.now.entries }
         ensures { result ≡ is_true (take count self.now.entries) lit }
     {
-        let place = place_at(self.places.as_slice(), lit.var());
-        if count <= place {
-            return false;
-        }
-        self.entries[place].lit == lit
+        self.is_false_before(count, lit.negate())
     }
 
     /// Whether the literal is false under the first entries alone, so many.
@@ -109,18 +108,14 @@ impl Trail {
         requires { count ≤ length self.now.entries }
         ensures { result ≡ is_false (take count self.now.entries) lit }
     {
-        self.is_true_before(count, lit.negate())
+        (false_place(self.false_places.as_slice(), lit) as usize) < count
     }
 
     /// Whether the variable has a value.
     pub fn has_value(&self, var: Var) -> bool
         ensures { result ≡ has_value self.now.entries var }
     {
-        let place = place_at(self.places.as_slice(), var);
-        if self.entries.len() <= place {
-            return false;
-        }
-        var == self.entries[place].lit.var()
+        self.is_true(var.literal(true)) || self.is_true(var.literal(false))
     }
 
     /// Writes into an empty list with room for them whether the variables, so many, are true, in rising order. At most
@@ -153,15 +148,14 @@ impl Trail {
     pub fn value(&self, var: Var) -> Option<bool>
         ensures { result ≡ value_on self.now.entries var }
     {
-        let place = place_at(self.places.as_slice(), var);
-        if self.entries.len() <= place {
-            return None;
+        let count = self.entries.len();
+        if self.is_true_before(count, var.literal(true)) {
+            return Some(true);
         }
-        let lit = self.entries[place].lit;
-        if var != lit.var() {
-            return None;
+        if self.is_true_before(count, var.literal(false)) {
+            return Some(false);
         }
-        Some(lit.is_positive())
+        None
     }
 
     /// How many propagation batches count as handled: at most one more than the trail has entries.
@@ -194,10 +188,24 @@ impl Trail {
         ensures processed { self.new.processed ≡ self.old.processed }
         ensures room { self.new.room ≡ self.old.room }
     {
-        let number = lit.var().number() as usize;
-        self.places[number] = self.entries.len() as u32;
+        let code = lit.negate().code() as usize;
+        self.false_places[code] = self.entries.len() as u32;
         self.entries
             .push_reserved(TrailEntry { lit, reason, level });
+    }
+
+    /// Takes the last entry away. No more batches count as handled than the trail then has prefixes.
+    fn pop(&mut self)
+        requires { 1 ≤ length self.old.entries }
+        ensures entries { self.new.entries ≡ take (length self.old.entries - 1) self.old.entries }
+        ensures processed { self.new.processed ≡ min self.old.processed (length self.old.entries) }
+        ensures room { self.new.room ≡ self.old.room }
+    {
+        let count = self.entries.len() - 1;
+        let code = self.entries[count].lit.negate().code() as usize;
+        self.false_places[code] = u32::MAX;
+        self.entries.truncate(count);
+        self.processed = self.processed.min(count as u32 + 1);
     }
 
     /// How many entries are of this level or of one below it: these stand in front.
@@ -223,8 +231,7 @@ impl Trail {
         ensures room { self.new.room ≡ self.old.room }
     {
         let count = self.count_up_to(level);
-        self.entries.truncate(count);
-        self.processed = self.processed.min(count as u32 + 1);
+        cut(self, count);
     }
 }
 
@@ -244,14 +251,27 @@ impl TrailView for Trail {
     }
 }
 
-/// The place of a variable, 0 where there is none.
-fn place_at(places: &[u32], var: Var) -> usize
-    ensures { result ≡ slice_index places.now var }
+/// Leaves the first entries, so many. No more batches count as handled than the trail then has prefixes.
+fn cut(trail: &mut Trail, count: usize)
+    requires { count ≤ length trail.old.entries }
+    ensures entries { trail.new.entries ≡ take count trail.old.entries }
+    ensures processed { trail.new.processed ≡ min trail.old.processed (count + 1) }
+    ensures room { trail.new.room ≡ trail.old.room }
 {
-    let number = var.number() as usize;
-    if number < places.len() {
-        places[number] as usize
+    let _handled = trail.processed();
+    while count < trail.len() {
+        trail.pop();
+    }
+}
+
+/// The place of the entry that makes the literal false, the greatest number where there is none.
+fn false_place(places: &[u32], lit: Lit) -> u32
+    ensures { result ≡ false_place places.now lit }
+{
+    let code = lit.code() as usize;
+    if code < places.len() {
+        places[code]
     } else {
-        0
+        u32::MAX
     }
 }

@@ -1,7 +1,6 @@
-use Rattle.std.proofs.Common.{◌≡◌, ◌≢◌, ℕ, ◌+◌, ◌-◌, ◌/◌, ◌%◌, ◌<◌, ◌≤◌, ◌↔◌, ◌⊎◌, ◌&&◌, inl, inr, Bool, true, false, not, List, [], ◌∷◌, ◌++◌, length, take, map, get_or, None, refl, sym, ap, subst, ◌∙◌, arith}
+use Rattle.std.proofs.Common.{◌≡◌, ◌≢◌, ℕ, ◌+◌, ◌-◌, ◌/◌, ◌%◌, ◌<◌, ◌≤◌, ◌↔◌, ◌⊎◌, ◌&&◌, inl, inr, Bool, true, false, not, List, [], ◌∷◌, ◌++◌, length, take, map, get_or, None, refl, sym, ap, ◌∙◌, arith}
 use Rattle.std.specs.Prelude.{nat_le, nat_lt, filter}
-use Rattle.std.specs.List.Sorted.{IsPermutation, IsSorted}
-use Rattle.std.specs.Ordering.{nat_cmp}
+use Rattle.std.specs.List.Sorted.{IsPermutation, IsNonDecreasingBy}
 use Rattle.std.proofs.lemmas.Bool.{false≢true, cases_eq, ltb-true, ltb-false}
 use Rattle.std.proofs.lemmas.Bool.Decides.{nat_tests}
 use Rattle.std.proofs.lemmas.List.{length_push, get_or_append_left, get_or_at, get_or_past}
@@ -11,15 +10,18 @@ use Rattle.mal_base.specs.Held.{Held, lits_under}
 use Rattle.mal_base.specs.Literals.{negated}
 use Rattle.mal_base.specs.declared.trail_entry.TrailEntry.{TrailEntry}
 use Rattle.spec_node.specs.Adding.{with_clause}
-use Rattle.spec_node.specs.Batch.{is_in_batch, batch}
+use Rattle.spec_node.specs.Batch.{is_in_batch}
 use Rattle.spec_node.specs.Value.{is_false, open_count}
 use Rattle.mal_watch.specs.Chains.{Has, AreOnce, IsAt}
 use Rattle.mal_watch.specs.Pairs.{ArePicked}
-use Rattle.mal_watch.specs.Watching.{no_row, row_at, partner, other_key, IsKept, Walk, walked}
+use Rattle.mal_watch.specs.Watching.{no_row, row_at, partner, other_key, IsKept}
+use Rattle.mal_watch.specs.Going.{Turns, Goes}
+use Rattle.mal_watch.specs.Finding.{is_pending, found_of, pending, found_in}
+use Rattle.mal_watch.specs.declared.found.Found.{Found}
 use Rattle.mal_watch.specs.Following.{Among, AreSingle, Follows}
 use Rattle.mal_watch.proofs.HasLemmas.{has-none, has-cases}
 use Rattle.mal_watch.proofs.HeldLemmas.{among-at, among-with, with-among, under-none, rise-with}
-use Rattle.mal_watch.proofs.TurnLemmas.{Turns, Goes, ids_in, partner-even, partner-odd, only-last, goes-start, goes-walked, goes-end, goes-apart}
+use Rattle.mal_watch.proofs.TurnLemmas.{partner-even, partner-odd, only-last, goes-start, goes-end, goes-apart}
 use Rattle.mal_watch.proofs.FoundLemmas.{found-is}
 use Rattle.mal_watch.proofs.FalseLemmas.{false-more, open-less}
 use Rattle.mal_watch.proofs.WalkLemmas.{partner-below}
@@ -266,21 +268,17 @@ batch-rows clauses rows entries q s l each c h t = elim (each c h) [
   | inr m ↦ m
 ]
 
--- after the walk: what the nodes watch follows the trail with one batch more, and the numbers found are the batch's
-pub record IsFound (clauses rows : List Held) (keys found : List ℕ) (lists capacity : ℕ) (entries : List TrailEntry) (count : ℕ) : Type 0 where
-  pub follows : Follows clauses rows keys [] lists capacity entries (count + 1)
-  pub numbers : found ≡ map (λ (c : Held). c.id) (batch (take count entries) clauses)
+-- before the walk the nodes that watch the literal are left
+pub before-walk : (clauses rows : List Held) (keys out idle : List ℕ) (lists capacity : ℕ) (entries : List TrailEntry) (count f : ℕ) → Follows clauses rows keys idle lists capacity entries count → Turns entries count f → ((k : ℕ) → Has out k ↔ IsAt keys k f) → AreOnce out → Goes entries count f lists rows keys out
+before-walk clauses rows keys out idle lists capacity entries count f w t nodes once = goes-start entries count f lists rows keys out t w.watching w.apart (rows-once rows w.form) w.kept nodes once
 
-pub after-walk : (clauses rows : List Held) (keys out idle now unsorted found : List ℕ) (lists capacity : ℕ) (entries : List TrailEntry) (count : ℕ) (f : ℕ) → Follows clauses rows keys idle lists capacity entries count → Turns entries count f → ((k : ℕ) → Has out k ↔ IsAt keys k f) → AreOnce out → walked (take count entries) rows (record { keys = keys; found = [] }) out ≡ record { keys = now; found = unsorted } → IsPermutation unsorted found → IsSorted nat_cmp found → IsFound clauses rows now found lists capacity entries count
-after-walk clauses rows keys out idle now unsorted found lists capacity entries count f w t nodes once walk p s =
-    let form = rows-once rows w.form in
-    let start = goes-start entries count f lists rows keys out t w.watching w.apart form w.kept nodes once in
-    let end = goes-walked entries count f lists rows out keys [] t start in
-    let keys_are : (walked (take count entries) rows (record { keys = keys; found = [] }) out).keys ≡ now = ap (λ (x : Walk). x.keys) walk in
-    let found_are : (walked (take count entries) rows (record { keys = keys; found = [] }) out).found ≡ unsorted = ap (λ (x : Walk). x.found) walk in
-    let goes : Goes entries count f lists rows now [] = subst (λ (ks : List ℕ). Goes entries count f lists rows ks []) keys_are end.0 in
-    let ids : ids_in (take count entries) rows out ≡ unsorted = sym end.1 ∙ found_are in
-    let moved : IsPermutation (ids_in (take count entries) rows out) found = subst (λ (xs : List ℕ). IsPermutation xs found) (sym ids) p in
+-- after the walk: what the nodes watch follows the trail with one batch more, and what was found is what is pending
+pub record IsFound (clauses rows : List Held) (keys : List ℕ) (found : List Found) (lists capacity : ℕ) (entries : List TrailEntry) (count : ℕ) : Type 0 where
+  pub follows : Follows clauses rows keys [] lists capacity entries (count + 1)
+  pub found_is : found ≡ pending (take count entries) entries clauses
+
+pub after-walk : (clauses rows : List Held) (keys out idle now : List ℕ) (found : List Found) (lists capacity : ℕ) (entries : List TrailEntry) (count : ℕ) (f : ℕ) → Follows clauses rows keys idle lists capacity entries count → Turns entries count f → ((k : ℕ) → Has out k ↔ IsAt keys k f) → AreOnce out → Goes entries count f lists rows now [] → IsPermutation (found_in (take count entries) entries rows out) found → IsNonDecreasingBy (λ (x : Found). x.id) found → IsFound clauses rows now found lists capacity entries count
+after-walk clauses rows keys out idle now found lists capacity entries count f w t nodes once goes moved s =
     record {
       follows = record {
         numbers = w.numbers;
@@ -294,7 +292,7 @@ after-walk clauses rows keys out idle now unsorted found lists capacity entries 
         room = w.room;
         kept = goes-end entries count f lists rows now goes;
       };
-      numbers = found-is (take count entries) f lists clauses rows keys out found w.numbers w.held w.single w.watching w.apart nodes once (batch-rows clauses rows entries count t.some t.within w.each) (λ k l d e. goes-apart entries count f lists rows keys k t w.watching w.apart form w.kept l d e) moved s;
+      found_is = found-is (take count entries) entries f lists clauses rows keys out found w.numbers w.held w.single w.watching w.apart nodes once (batch-rows clauses rows entries count t.some t.within w.each) (λ k l d e. goes-apart entries count f lists rows keys k t w.watching w.apart (rows-once rows w.form) w.kept l d e) moved s;
     }
 
 passed-none : (p : Held → Bool) → ((c : Held) → p c ≡ false) → (cs : List Held) → filter p cs ≡ []
@@ -302,7 +300,7 @@ passed-none p h [] = refl
 passed-none p h (c ∷ cs) = rw (h c) (passed-none p h cs)
 
 -- an entry whose literal was true before makes no batch
-pub no-walk : (clauses rows : List Held) (keys : List ℕ) (lists capacity : ℕ) (entries : List TrailEntry) (count : ℕ) (e : TrailEntry) (idle : List ℕ) → 1 ≤ count → count ≤ length entries → e ≡ get_or entries (count - 1) e → is_false (take (count - 1) entries) (negated e.lit) ≡ true → Follows clauses rows keys idle lists capacity entries count → Follows clauses rows keys idle lists capacity entries (count + 1) × ([] ≡ map (λ (c : Held). c.id) (batch (take count entries) clauses))
+pub no-walk : (clauses rows : List Held) (keys : List ℕ) (lists capacity : ℕ) (entries : List TrailEntry) (count : ℕ) (e : TrailEntry) (idle : List ℕ) → 1 ≤ count → count ≤ length entries → e ≡ get_or entries (count - 1) e → is_false (take (count - 1) entries) (negated e.lit) ≡ true → Follows clauses rows keys idle lists capacity entries count → Follows clauses rows keys idle lists capacity entries (count + 1) × ([] ≡ pending (take count entries) entries clauses)
 no-walk clauses rows keys lists capacity entries count e idle s l is was f = (
   record {
     numbers = f.numbers;
@@ -319,7 +317,7 @@ no-walk clauses rows keys lists capacity entries count e idle s l is was f = (
       | inr d ↦ f.kept n k (omega (arith, h, d)) m
     ];
   },
-  ap (λ (cs : List Held). map (λ (c : Held). c.id) cs) (sym (passed-none (is_in_batch (take count entries)) never clauses)),
+  ap (λ (cs : List Held). map (found_of (take count entries)) cs) (sym (passed-none (is_pending (take count entries) entries) (λ c. rw (never c) refl) clauses)),
 )
   where
     back : (x : ℕ) → is_false (take count entries) x ≡ true → is_false (take (count - 1) entries) x ≡ true

@@ -1,20 +1,25 @@
-use Rattle.std.proofs.Common.{◌≡◌, ◌≢◌, ℕ, suc, ◌+◌, ◌*◌, ◌/◌, ◌<◌, ◌≤◌, ◌↔◌, ◌⊎◌, inl, inr, Bool, true, false, cond, eqb, List, [], ◌∷◌, ◌++◌, length, map, get_or, refl, sym, ap, ◌∙◌, arith}
-use Rattle.std.specs.List.Sorted.{IsPermutation, IsSorted, IsStrictlyIncreasing}
-use Rattle.std.specs.Ordering.{nat_cmp}
+use Rattle.std.proofs.Common.{◌≡◌, ◌≢◌, ℕ, zero, suc, ◌+◌, ◌*◌, ◌/◌, ◌<◌, ◌≤◌, ◌↔◌, ◌⊎◌, inl, inr, Bool, true, false, not, ◌&&◌, cond, eqb, List, [], ◌∷◌, ◌++◌, length, map, get_or, Some, refl, sym, ap, subst, ◌∙◌, arith}
+use Rattle.std.specs.Prelude.{filter}
+use Rattle.std.specs.List.{AllByRecursion}
+use Rattle.std.specs.List.Sorted.{IsPermutation, IsNonDecreasing, IsNonDecreasingBy, IsStrictlyIncreasing}
 use Rattle.std.proofs.lemmas.Bool.{false≢true, cases_eq, eq-eqb, ne_eqb}
-use Rattle.std.proofs.lemmas.List.Sorted.{Contains-permutation, IsPermutation-sym, IsNonDecreasingBy-from_sort}
+use Rattle.std.proofs.lemmas.List.Sorted.{All-permutation, Contains-permutation, IsPermutation-sym, IsPermutation-map}
+use Rattle.std.proofs.lemmas.List.Elements.{All-from_recursion, recursion_from_All}
+use Rattle.std.proofs.lemmas.List.{length-map}
 use Rattle.std.proofs.lemmas.Map.Keys.{IsStrictlyIncreasing-from_distinct, IsDistinct-IsPermutation}
-use Rattle.mal_base.specs.Held.{Held}
+use Rattle.mal_base.specs.Held.{Held, lits_under}
 use Rattle.mal_base.specs.declared.trail_entry.TrailEntry.{TrailEntry}
-use Rattle.spec_node.specs.Batch.{is_in_batch, batch}
-use Rattle.spec_node.specs.Sound.{NumbersRise}
+use Rattle.spec_node.specs.Batch.{is_in_batch}
+use Rattle.spec_node.specs.Sound.{NumbersRise, left_is_true}
 use Rattle.mal_watch.specs.Chains.{Has, AreOnce, IsAt}
 use Rattle.mal_watch.specs.Following.{Among, AreSingle}
 use Rattle.mal_watch.specs.Watching.{no_row, row_at, partner, other_key, IsWatching}
+use Rattle.mal_watch.specs.declared.found.Found.{Found}
+use Rattle.mal_watch.specs.Finding.{is_pending, found_of, pending, found_in}
 use Rattle.mal_watch.proofs.HasLemmas.{has-none, has-head, has-tail, has-cases, has-contains, contains-has, distinct-from, long-below}
-use Rattle.mal_watch.proofs.HeldLemmas.{among-passed, among-passes, among-place, among-at, rise-passed}
+use Rattle.mal_watch.proofs.HeldLemmas.{among-passed, among-passes, among-place, among-at, rise-passed, rise-under}
 use Rattle.mal_watch.proofs.WalkLemmas.{partner-below, row-below}
-use Rattle.mal_watch.proofs.TurnLemmas.{ids_in, same-row, partner-other, partner-half}
+use Rattle.mal_watch.proofs.TurnLemmas.{same-row, partner-other, partner-half}
 
 eqb_flips : (a b : ℕ) → eqb a b ≡ eqb b a
 eqb_flips a b = by_case (cases_eq a b)
@@ -89,47 +94,56 @@ numbered-has c [] h = absurd h
 numbered-has c (d ∷ ds) (inl e) = has-head c.id d.id (map (λ (x : Held). x.id) ds) (ap (λ (x : Held). x.id) e)
 numbered-has c (d ∷ ds) (inr h) = has-tail c.id d.id (map (λ (x : Held). x.id) ds) (numbered-has c ds h)
 
--- a node whose clause is in the batch
-pub record IsFrom (prefix : List TrailEntry) (rows : List Held) (ks : List ℕ) (x : ℕ) : Type 0 where
+-- the number of a node's clause, where it passes a test
+abbrev pub id_at : (Held → Bool) → List Held → ℕ → List ℕ
+id_at p rows k = cond (p (row_at rows k)) ((row_at rows k).id ∷ []) []
+
+-- the numbers of the clauses of nodes that pass a test
+abbrev pub ids_in : (Held → Bool) → List Held → List ℕ → List ℕ
+ids_in p rows [] = []
+ids_in p rows (k ∷ ks) = id_at p rows k ++ ids_in p rows ks
+
+-- a node whose clause passes a test
+pub record IsFrom (p : Held → Bool) (rows : List Held) (ks : List ℕ) (x : ℕ) : Type 0 where
   pub node : ℕ
   pub there : Has ks node
-  pub inside : is_in_batch prefix (row_at rows node) ≡ true
+  pub inside : p (row_at rows node) ≡ true
   pub is : (row_at rows node).id ≡ x
 
-ids-from : (prefix : List TrailEntry) (rows : List Held) (ks : List ℕ) (x : ℕ) → Has (ids_in prefix rows ks) x → IsFrom prefix rows ks x
-ids-from prefix rows [] x h = absurd (has-none x h)
-ids-from prefix rows (k ∷ ks) x h = by_test (is_in_batch prefix (row_at rows k)) refl (λ m. let f = ids-from prefix rows ks x m in record { node = f.node; there = has-tail f.node k ks f.there; inside = f.inside; is = f.is }) h
+ids-from : (p : Held → Bool) (rows : List Held) (ks : List ℕ) (x : ℕ) → Has (ids_in p rows ks) x → IsFrom p rows ks x
+ids-from p rows [] x h = absurd (has-none x h)
+ids-from p rows (k ∷ ks) x h = by_test (p (row_at rows k)) refl (λ m. let f = ids-from p rows ks x m in record { node = f.node; there = has-tail f.node k ks f.there; inside = f.inside; is = f.is }) h
   where
-    by_side : is_in_batch prefix (row_at rows k) ≡ true → (Has (ids_in prefix rows ks) x → IsFrom prefix rows (k ∷ ks) x) → (x ≡ (row_at rows k).id) ⊎ Has (ids_in prefix rows ks) x → IsFrom prefix rows (k ∷ ks) x
+    by_side : p (row_at rows k) ≡ true → (Has (ids_in p rows ks) x → IsFrom p rows (k ∷ ks) x) → (x ≡ (row_at rows k).id) ⊎ Has (ids_in p rows ks) x → IsFrom p rows (k ∷ ks) x
     by_side e rest (inl s) = record { node = k; there = has-head k k ks refl; inside = e; is = sym s }
     by_side e rest (inr m) = rest m
 
-    by_test : (b : Bool) → is_in_batch prefix (row_at rows k) ≡ b → (Has (ids_in prefix rows ks) x → IsFrom prefix rows (k ∷ ks) x) → Has (cond b ((row_at rows k).id ∷ []) [] ++ ids_in prefix rows ks) x → IsFrom prefix rows (k ∷ ks) x
-    by_test true e rest m = by_side e rest (has-cases x (row_at rows k).id (ids_in prefix rows ks) m)
+    by_test : (b : Bool) → p (row_at rows k) ≡ b → (Has (ids_in p rows ks) x → IsFrom p rows (k ∷ ks) x) → Has (cond b ((row_at rows k).id ∷ []) [] ++ ids_in p rows ks) x → IsFrom p rows (k ∷ ks) x
+    by_test true e rest m = by_side e rest (has-cases x (row_at rows k).id (ids_in p rows ks) m)
     by_test false e rest m = rest m
 
-has-ids : (prefix : List TrailEntry) (rows : List Held) (ks : List ℕ) (k : ℕ) → Has ks k → is_in_batch prefix (row_at rows k) ≡ true → Has (ids_in prefix rows ks) (row_at rows k).id
-has-ids prefix rows [] k h t = absurd (has-none k h)
-has-ids prefix rows (j ∷ ks) k h t = by_test (is_in_batch prefix (row_at rows j)) refl (λ m. has-ids prefix rows ks k m t) (has-cases k j ks h)
+has-ids : (p : Held → Bool) (rows : List Held) (ks : List ℕ) (k : ℕ) → Has ks k → p (row_at rows k) ≡ true → Has (ids_in p rows ks) (row_at rows k).id
+has-ids p rows [] k h t = absurd (has-none k h)
+has-ids p rows (j ∷ ks) k h t = by_test (p (row_at rows j)) refl (λ m. has-ids p rows ks k m t) (has-cases k j ks h)
   where
-    by_test : (b : Bool) → is_in_batch prefix (row_at rows j) ≡ b → (Has ks k → Has (ids_in prefix rows ks) (row_at rows k).id) → (k ≡ j) ⊎ Has ks k → Has (cond b ((row_at rows j).id ∷ []) [] ++ ids_in prefix rows ks) (row_at rows k).id
-    by_test true e rest (inl s) = has-head (row_at rows k).id (row_at rows j).id (ids_in prefix rows ks) (ap (λ (i : ℕ). (row_at rows i).id) s)
-    by_test true e rest (inr m) = has-tail (row_at rows k).id (row_at rows j).id (ids_in prefix rows ks) (rest m)
+    by_test : (b : Bool) → p (row_at rows j) ≡ b → (Has ks k → Has (ids_in p rows ks) (row_at rows k).id) → (k ≡ j) ⊎ Has ks k → Has (cond b ((row_at rows j).id ∷ []) [] ++ ids_in p rows ks) (row_at rows k).id
+    by_test true e rest (inl s) = has-head (row_at rows k).id (row_at rows j).id (ids_in p rows ks) (ap (λ (i : ℕ). (row_at rows i).id) s)
+    by_test true e rest (inr m) = has-tail (row_at rows k).id (row_at rows j).id (ids_in p rows ks) (rest m)
     by_test false e rest (inl s) = absurd (false≢true (sym e ∙ rw s at t))
     by_test false e rest (inr m) = rest m
 
 -- numbers of clauses of different nodes stand once, where nodes of the same number are the same
-ids-once : (prefix : List TrailEntry) (rows : List Held) (ks : List ℕ) → AreOnce ks → ((i j : ℕ) → Has ks i → Has ks j → (row_at rows i).id ≡ (row_at rows j).id → i ≡ j) → AreOnce (ids_in prefix rows ks)
-ids-once prefix rows [] o h = tt
-ids-once prefix rows (k ∷ ks) o h = by_test (is_in_batch prefix (row_at rows k)) (ids-once prefix rows ks o.1 (λ i j m n. h i j (has-tail i k ks m) (has-tail j k ks n)))
+ids-once : (p : Held → Bool) (rows : List Held) (ks : List ℕ) → AreOnce ks → ((i j : ℕ) → Has ks i → Has ks j → (row_at rows i).id ≡ (row_at rows j).id → i ≡ j) → AreOnce (ids_in p rows ks)
+ids-once p rows [] o h = tt
+ids-once p rows (k ∷ ks) o h = by_test (p (row_at rows k)) (ids-once p rows ks o.1 (λ i j m n. h i j (has-tail i k ks m) (has-tail j k ks n)))
   where
-    apart : Has (ids_in prefix rows ks) (row_at rows k).id → ⊥
+    apart : Has (ids_in p rows ks) (row_at rows k).id → ⊥
     apart m =
-        let f = ids-from prefix rows ks (row_at rows k).id m in
+        let f = ids-from p rows ks (row_at rows k).id m in
         let same : f.node ≡ k = h f.node k (has-tail f.node k ks f.there) (has-head k k ks refl) f.is in
         o.0 (rw same at f.there)
 
-    by_test : (b : Bool) → AreOnce (ids_in prefix rows ks) → AreOnce (cond b ((row_at rows k).id ∷ []) [] ++ ids_in prefix rows ks)
+    by_test : (b : Bool) → AreOnce (ids_in p rows ks) → AreOnce (cond b ((row_at rows k).id ∷ []) [] ++ ids_in p rows ks)
     by_test true rest = (apart, rest)
     by_test false rest = rest
 
@@ -180,38 +194,126 @@ out-length f lists rows keys out w a nodes o =
     let most = long-below (length rows) (map (λ (k : ℕ). k / 2) out) (map-once out o (node-half f lists rows keys out a nodes)) (λ x m. map-below (length rows) x out (λ k n. row-below lists rows keys k w ((nodes k).0 n).0) m) in
     rw (map-length out) at most
 
--- the numbers found, in order, are those of the batch
-pub found-is : (prefix : List TrailEntry) (f lists : ℕ) (clauses rows : List Held) (keys out found : List ℕ) → NumbersRise 0 clauses → ((c : Held) → Among c rows → Among c clauses) → AreSingle rows → IsWatching lists rows keys → ((k : ℕ) → k < length keys → get_or keys k 0 ≢ other_key keys k) → ((k : ℕ) → Has out k ↔ IsAt keys k f) → AreOnce out → ((c : Held) → Among c clauses → is_in_batch prefix c ≡ true → Among c rows) → ((k : ℕ) → k < length keys → get_or keys k 0 ≢ f → other_key keys k ≢ f → is_in_batch prefix (row_at rows k) ≡ false) → IsPermutation (ids_in prefix rows out) found → IsSorted nat_cmp found → found ≡ map (λ (c : Held). c.id) (batch prefix clauses)
-found-is prefix f lists clauses rows keys out found r held single w a nodes once rowed apart p s =
-    let ids = ids_in prefix rows out in
+-- numbers found, in order, are those of all clauses that pass a test
+ids-are : (p : Held → Bool) (f lists : ℕ) (clauses rows : List Held) (keys out found : List ℕ) → NumbersRise 0 clauses → ((c : Held) → Among c rows → Among c clauses) → AreSingle rows → IsWatching lists rows keys → ((k : ℕ) → k < length keys → get_or keys k 0 ≢ other_key keys k) → ((k : ℕ) → Has out k ↔ IsAt keys k f) → AreOnce out → ((c : Held) → Among c clauses → p c ≡ true → Among c rows) → ((k : ℕ) → k < length keys → get_or keys k 0 ≢ f → other_key keys k ≢ f → p (row_at rows k) ≡ false) → IsPermutation (ids_in p rows out) found → IsNonDecreasing found → found ≡ map (λ (c : Held). c.id) (filter p clauses)
+ids-are p f lists clauses rows keys out found r held single w a nodes once rowed apart moved s =
+    let ids = ids_in p rows out in
     let below : (k : ℕ) → Has out k → k / 2 < length rows = λ k h. row-below lists rows keys k w ((nodes k).0 h).0 in
-    let ids_once : AreOnce ids = ids-once prefix rows out once (λ i j m n e. node-half f lists rows keys out a nodes i j m n (single (i / 2) (j / 2) (below i m) (below j n) e)) in
-    let rising : RisesFrom 0 found = rises-from 0 found (λ l. omega arith) (IsStrictlyIncreasing-from_distinct found (IsNonDecreasingBy-from_sort (λ x. x) found s) (IsDistinct-IsPermutation eqb eqb_flips ids found p (distinct-from ids ids_once))) in
-    let there : (x : ℕ) → Has found x → Has (map (λ (c : Held). c.id) (batch prefix clauses)) x = λ x m.
-    let from = ids-from prefix rows out x (contains-has ids x (Contains-permutation found ids x (IsPermutation-sym ids found p) (has-contains found x m))) in
+    let ids_once : AreOnce ids = ids-once p rows out once (λ i j m n e. node-half f lists rows keys out a nodes i j m n (single (i / 2) (j / 2) (below i m) (below j n) e)) in
+    let rising : RisesFrom 0 found = rises-from 0 found (λ l. omega arith) (IsStrictlyIncreasing-from_distinct found s (IsDistinct-IsPermutation eqb eqb_flips ids found moved (distinct-from ids ids_once))) in
+    let there : (x : ℕ) → Has found x → Has (map (λ (c : Held). c.id) (filter p clauses)) x = λ x m.
+    let from = ids-from p rows out x (contains-has ids x (Contains-permutation found ids x (IsPermutation-sym ids found moved) (has-contains found x m))) in
     let among : Among (row_at rows from.node) clauses = held (row_at rows from.node) (among-at rows (from.node / 2) no_row (below from.node from.there)) in
-    rw from.is at (numbered-has (row_at rows from.node) (batch prefix clauses) (among-passes (is_in_batch prefix) (row_at rows from.node) clauses among from.inside)) in
-    let back : (x : ℕ) → Has (map (λ (c : Held). c.id) (batch prefix clauses)) x → Has found x = λ x m.
-    let numbered = has-numbered x (batch prefix clauses) m in
-    let passed = among-passed (is_in_batch prefix) numbered.clause clauses numbered.among in
+    rw from.is at (numbered-has (row_at rows from.node) (filter p clauses) (among-passes p (row_at rows from.node) clauses among from.inside)) in
+    let back : (x : ℕ) → Has (map (λ (c : Held). c.id) (filter p clauses)) x → Has found x = λ x m.
+    let numbered = has-numbered x (filter p clauses) m in
+    let passed = among-passed p numbered.clause clauses numbered.among in
     let place = among-place numbered.clause rows no_row (rowed numbered.clause passed.0 passed.1) in
     let node = place.place * 2 in
     let half : node / 2 ≡ place.place = omega arith in
     let row : row_at rows node ≡ numbered.clause = rw half place.is in
-    let inside : is_in_batch prefix (row_at rows node) ≡ true = rw row passed.1 in
+    let inside : p (row_at rows node) ≡ true = rw row passed.1 in
     let here : node < length keys = omega (arith, w.paired, place.inside) in
     let has : Has ids x = rw (← numbered.is, ← row) (watching-has node here inside) in
-    contains-has found x (Contains-permutation ids found x p (has-contains ids x has)) in
-    rises-same 0 0 found (map (λ (c : Held). c.id) (batch prefix clauses)) rising (rises-ids 0 (batch prefix clauses) (rise-passed (is_in_batch prefix) 0 clauses r)) there back
+    contains-has found x (Contains-permutation ids found x moved (has-contains ids x has)) in
+    rises-same 0 0 found (map (λ (c : Held). c.id) (filter p clauses)) rising (rises-ids 0 (filter p clauses) (rise-passed p 0 clauses r)) there back
   where
-    watching-has : (k : ℕ) → k < length keys → is_in_batch prefix (row_at rows k) ≡ true → Has (ids_in prefix rows out) (row_at rows k).id
+    watching-has : (k : ℕ) → k < length keys → p (row_at rows k) ≡ true → Has (ids_in p rows out) (row_at rows k).id
     watching-has k l t = elim (cases_eq (get_or keys k 0) f) [
-      | inl e ↦ has-ids prefix rows out k ((nodes k).1 (l, e)) t
+      | inl e ↦ has-ids p rows out k ((nodes k).1 (l, e)) t
       | inr d ↦ elim (cases_eq (other_key keys k) f) [
         | inl e ↦
             let same : row_at rows (partner k) ≡ row_at rows k = same-row rows k in
-            let m = has-ids prefix rows out (partner k) ((nodes (partner k)).1 (partner-below lists rows keys k w l, e)) (rw same t) in
+            let m = has-ids p rows out (partner k) ((nodes (partner k)).1 (partner-below lists rows keys k w l, e)) (rw same t) in
             rw same at m
         | inr n ↦ absurd (false≢true (sym (apart k l d n) ∙ t))
       ]
     ]
+
+held-same : (low : ℕ) (cs : List Held) (c d : Held) → NumbersRise low cs → Among c cs → Among d cs → c.id ≡ d.id → c ≡ d
+held-same low cs c d r a b e =
+    let lits : c.lits ≡ d.lits = some_lits c.lits d.lits (sym (rise-under low cs c r a) ∙ (ap (λ (i : ℕ). lits_under i cs) e ∙ rise-under low cs d r b)) in
+    same c.id d.id c.lits d.lits e lits
+  where
+    some_lits : (x y : List ℕ) → Some x ≡ Some y → x ≡ y
+    some_lits x y q = cc
+
+    same : (i j : ℕ) (x y : List ℕ) → i ≡ j → x ≡ y → (let c : Held = record { id = i; lits = x } in let d : Held = record { id = j; lits = y } in c ≡ d)
+    same i j x y p q = rw (p, q) refl
+
+-- what is found of a clause
+pub record IsFoundOf (prefix : List TrailEntry) (clauses : List Held) (f : Found) : Type 0 where
+  pub clause : Held
+  pub among : Among clause clauses
+  pub is : f ≡ found_of prefix clause
+
+ids-head : (x y : ℕ) (xs ys : List ℕ) → x ∷ xs ≡ y ∷ ys → (x ≡ y) × (xs ≡ ys)
+ids-head x y xs ys e = (cc, cc)
+
+-- what is found of clauses, by their numbers
+found-same : (prefix : List TrailEntry) (clauses cs : List Held) (fs : List Found) → NumbersRise 0 clauses → ((c : Held) → Among c cs → Among c clauses) → AllByRecursion (IsFoundOf prefix clauses) fs → map (λ (f : Found). f.id) fs ≡ map (λ (c : Held). c.id) cs → fs ≡ map (found_of prefix) cs
+found-same prefix clauses [] [] r a o e = refl
+found-same prefix clauses (c ∷ cs) [] r a o e = absurd (nil_cons c.id (map (λ (x : Held). x.id) cs) e)
+  where
+    nil_cons : (x : ℕ) (xs : List ℕ) → ◌≡◌ {A = List ℕ} [] (x ∷ xs) → ⊥
+    nil_cons x xs q = cc
+found-same prefix clauses [] (f ∷ fs) r a o e = absurd (cons_nil f.id (map (λ (x : Found). x.id) fs) e)
+  where
+    cons_nil : (x : ℕ) (xs : List ℕ) → ◌≡◌ {A = List ℕ} (x ∷ xs) [] → ⊥
+    cons_nil x xs q = cc
+found-same prefix clauses (c ∷ cs) (f ∷ fs) r a o e =
+    let heads = ids-head f.id c.id (map (λ (x : Found). x.id) fs) (map (λ (x : Held). x.id) cs) e in
+    let same : o.0.clause ≡ c = held-same 0 clauses o.0.clause c r o.0.among (a c (inl refl)) (ap (λ (x : Found). x.id) (sym o.0.is) ∙ heads.0) in
+    let first : f ≡ found_of prefix c = o.0.is ∙ ap (found_of prefix) same in
+    rw (first, found-same prefix clauses cs fs r (λ d h. a d (inr h)) o.1 heads.1) refl
+
+-- what is found of nodes is found of their clauses
+each-found : (prefix trail : List TrailEntry) (clauses rows : List Held) (ks : List ℕ) → ((k : ℕ) → Has ks k → Among (row_at rows k) clauses) → AllByRecursion (IsFoundOf prefix clauses) (found_in prefix trail rows ks)
+each-found prefix trail clauses rows [] h = tt
+each-found prefix trail clauses rows (k ∷ ks) h = by_test (is_pending prefix trail (row_at rows k)) (each-found prefix trail clauses rows ks (λ j m. h j (has-tail j k ks m)))
+  where
+    by_test : (b : Bool) → AllByRecursion (IsFoundOf prefix clauses) (found_in prefix trail rows ks) → AllByRecursion (IsFoundOf prefix clauses) (cond b (found_of prefix (row_at rows k) ∷ []) [] ++ found_in prefix trail rows ks)
+    by_test true rest = (record { clause = row_at rows k; among = h k (has-head k k ks refl); is = refl }, rest)
+    by_test false rest = rest
+
+-- and their numbers are those of the pending ones
+found-ids : (prefix trail : List TrailEntry) (rows : List Held) (ks : List ℕ) → map (λ (f : Found). f.id) (found_in prefix trail rows ks) ≡ ids_in (is_pending prefix trail) rows ks
+found-ids prefix trail rows [] = refl
+found-ids prefix trail rows (k ∷ ks) = by_test (is_pending prefix trail (row_at rows k)) (found-ids prefix trail rows ks)
+  where
+    by_test : (b : Bool) → map (λ (f : Found). f.id) (found_in prefix trail rows ks) ≡ ids_in (is_pending prefix trail) rows ks → map (λ (f : Found). f.id) (cond b (found_of prefix (row_at rows k) ∷ []) [] ++ found_in prefix trail rows ks) ≡ cond b ((row_at rows k).id ∷ []) [] ++ ids_in (is_pending prefix trail) rows ks
+    by_test true rest = ap (λ (xs : List ℕ). (row_at rows k).id ∷ xs) rest
+    by_test false rest = rest
+
+ids-order : (fs : List Found) → IsNonDecreasingBy (λ (f : Found). f.id) fs → IsNonDecreasing (map (λ (f : Found). f.id) fs)
+ids-order fs h i j d a l =
+    let long : length (map (λ (f : Found). f.id) fs) ≡ length fs = length-map fs (λ (f : Found). f.id) in
+    let none : Found = record { id = d; lit = 0 } in
+    rw (get-id fs i none, get-id fs j none) (h i j none a (omega (arith, l, long)))
+  where
+    get-id : (xs : List Found) (k : ℕ) (n : Found) → get_or (map (λ (f : Found). f.id) xs) k n.id ≡ (get_or xs k n).id
+    get-id [] k n = refl
+    get-id (x ∷ xs) zero n = refl
+    get-id (x ∷ xs) (suc k) n = get-id xs k n
+
+pending-batch : (prefix trail : List TrailEntry) (c : Held) → is_pending prefix trail c ≡ true → is_in_batch prefix c ≡ true
+pending-batch prefix trail c h = by_test (is_in_batch prefix c) (left_is_true prefix trail c) h
+  where
+    by_test : (a b : Bool) → (a && not b) ≡ true → a ≡ true
+    by_test true b q = refl
+    by_test false b q = q
+
+not-pending : (prefix trail : List TrailEntry) (c : Held) → is_in_batch prefix c ≡ false → is_pending prefix trail c ≡ false
+not-pending prefix trail c h = rw h refl
+
+-- what was found, in order, is what is pending
+pub found-is : (prefix trail : List TrailEntry) (f lists : ℕ) (clauses rows : List Held) (keys out : List ℕ) (found : List Found) → NumbersRise 0 clauses → ((c : Held) → Among c rows → Among c clauses) → AreSingle rows → IsWatching lists rows keys → ((k : ℕ) → k < length keys → get_or keys k 0 ≢ other_key keys k) → ((k : ℕ) → Has out k ↔ IsAt keys k f) → AreOnce out → ((c : Held) → Among c clauses → is_in_batch prefix c ≡ true → Among c rows) → ((k : ℕ) → k < length keys → get_or keys k 0 ≢ f → other_key keys k ≢ f → is_in_batch prefix (row_at rows k) ≡ false) → IsPermutation (found_in prefix trail rows out) found → IsNonDecreasingBy (λ (x : Found). x.id) found → found ≡ pending prefix trail clauses
+found-is prefix trail f lists clauses rows keys out found r held single w a nodes once rowed apart moved s =
+    let p : Held → Bool = is_pending prefix trail in
+    let number : Found → ℕ = λ x. x.id in
+    let below : (k : ℕ) → Has out k → k / 2 < length rows = λ k h. row-below lists rows keys k w ((nodes k).0 h).0 in
+    let each = each-found prefix trail clauses rows out (λ k h. held (row_at rows k) (among-at rows (k / 2) no_row (below k h))) in
+    let now : AllByRecursion (IsFoundOf prefix clauses) found = recursion_from_All (IsFoundOf prefix clauses) found (All-permutation (IsFoundOf prefix clauses) (found_in prefix trail rows out) found moved (All-from_recursion (IsFoundOf prefix clauses) (found_in prefix trail rows out) each)) in
+    let ids : IsPermutation (ids_in p rows out) (map number found) = subst (λ (xs : List ℕ). IsPermutation xs (map number found)) (found-ids prefix trail rows out) (IsPermutation-map number (found_in prefix trail rows out) found moved) in
+    let same = ids-are p f lists clauses rows keys out (map number found) r held single w a nodes once (λ c h t. rowed c h (pending-batch prefix trail c t)) (λ k l d e. not-pending prefix trail (row_at rows k) (apart k l d e)) ids (ids-order found s) in
+    found-same prefix clauses (filter p clauses) found r (λ c h. (among-passed p c clauses h).0) now same

@@ -80,3 +80,20 @@ contains-has xs x c = has-at xs c.0 x x c.1 (sym c.2)
 pub rises-once : (lits : List ℕ) → rises lits ≡ true → AreOnce lits
 rises-once [] h = tt
 rises-once (l ∷ ls) h = ((λ m. let less : l / 2 < l / 2 = over-first l ls l h (has-contains ls l m) in omega arith), rises-once ls (rises-tail l ls h))
+
+-- the place at which a number stands
+pub record IsPlaced (xs : List ℕ) (x : ℕ) : Type 0 where
+  pub place : ℕ
+  pub inside : place < length xs
+  pub is : get_or xs place 0 ≡ x
+
+pub has-place : (xs : List ℕ) (x : ℕ) → Has xs x → IsPlaced xs x
+has-place [] x h = absurd (has-none x h)
+has-place (y ∷ ys) x h = by_side (has-place ys x) (has-cases x y ys h)
+  where
+    by_side : (Has ys x → IsPlaced ys x) → (x ≡ y) ⊎ Has ys x → IsPlaced (y ∷ ys) x
+    by_side rest (inl e) = record { place = 0; inside = omega arith; is = sym e }
+    by_side rest (inr m) = let p = rest m in record { place = suc p.place; inside = omega (arith, p.inside); is = p.is }
+
+pub place-has : (xs : List ℕ) (i : ℕ) → i < length xs → Has xs (get_or xs i 0)
+place-has xs i l = has-at xs i (get_or xs i 0) 0 l refl

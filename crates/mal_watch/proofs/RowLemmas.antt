@@ -1,4 +1,4 @@
-use Rattle.std.proofs.Common.{◌≡◌, ℕ, zero, suc, ◌+◌, ◌<◌, ◌≤◌, List, [], ◌∷◌, ◌++◌, length, take, drop, get_or, Some, refl, ap, ◌∙◌, arith}
+use Rattle.std.proofs.Common.{◌≡◌, ℕ, zero, suc, ◌+◌, ◌<◌, ◌≤◌, List, [], ◌∷◌, ◌++◌, length, take, drop, set, get_or, Some, refl, ap, ◌∙◌, arith}
 use Rattle.std.specs.List.{slice_get}
 use Rattle.std.proofs.lemmas.List.{length-append, length-map, take-append-le, take_all, drop_at, map-append}
 use Rattle.mal_base.specs.Held.{Held}
@@ -42,12 +42,23 @@ pub record HasOneMore (literals lits : List ℕ) (id : ℕ) (rs next : List Row)
   pub within : AreRows (length (literals ++ lits)) next
   pub clauses : clauses_in (literals ++ lits) next ≡ clauses_in literals rs ++ record { id = id; lits = lits } ∷ []
 
-pub one-more : (literals lits : List ℕ) (id start len : ℕ) (rs : List Row) → AreRows (length literals) rs → start ≡ length literals → len ≡ length lits → HasOneMore literals lits id rs (rs ++ record { id = id; start = start; len = len } ∷ [])
-one-more literals lits id start len rs w s l =
-    let row : Row = record { id = id; start = start; len = len } in
+pub one-more : (literals lits : List ℕ) (id start len hint : ℕ) (rs : List Row) → AreRows (length literals) rs → start ≡ length literals → len ≡ length lits → HasOneMore literals lits id rs (rs ++ record { id = id; start = start; len = len; hint = hint } ∷ [])
+one-more literals lits id start len hint rs w s l =
+    let row : Row = record { id = id; start = start; len = len; hint = hint } in
     let longer : length (literals ++ lits) ≡ length literals + length lits = length-append literals lits in
     let lits_are : take len (drop start (literals ++ lits)) ≡ lits = rw (s, l) (part-behind literals lits) in
     record {
       within = rows-push (length literals) (length (literals ++ lits)) rs row (omega arith) (omega arith) w;
       clauses = map-append (clause_in (literals ++ lits)) rs (row ∷ []) ∙ (ap (λ (cs : List Held). cs ++ clause_in (literals ++ lits) row ∷ []) (rows-more literals lits rs w) ∙ ap (λ (ls : List ℕ). let c : Held = record { id = id; lits = ls } in clauses_in literals rs ++ c ∷ []) lits_are);
     }
+
+-- the rows' clauses stay where a search begins elsewhere
+pub rows-hint : (literals : List ℕ) (rs : List Row) (k hint : ℕ) (r : Row) → k < length rs → r ≡ get_or rs k r → clauses_in literals (set rs k (record r { hint = hint })) ≡ clauses_in literals rs
+rows-hint literals [] k hint r l e = absurd (omega arith)
+rows-hint literals (x ∷ xs) zero hint r l e = rw e refl
+rows-hint literals (x ∷ xs) (suc k) hint r l e = ap (λ (cs : List Held). clause_in literals x ∷ cs) (rows-hint literals xs k hint r (omega arith) e)
+
+pub within-hint : (count : ℕ) (rs : List Row) (k hint : ℕ) (r : Row) → k < length rs → r ≡ get_or rs k r → AreRows count rs → AreRows count (set rs k (record r { hint = hint }))
+within-hint count [] k hint r l e w = absurd (omega arith)
+within-hint count (x ∷ xs) zero hint r l e w = rw e w
+within-hint count (x ∷ xs) (suc k) hint r l e w = (w.0, within-hint count xs k hint r (omega arith) e w.1)

@@ -1,28 +1,22 @@
-use Rattle.std.proofs.Common.{◌≡◌, ◌≢◌, ℕ, ◌+◌, ◌-◌, ◌/◌, ◌%◌, ◌<◌, ◌≤◌, ◌↔◌, ◌⊎◌, inl, inr, Bool, true, false, not, ◌&&◌, ◌||◌, cond, List, [], ◌∷◌, ◌++◌, length, take, set, get_or, Option, Some, None, refl, sym, ap, subst, ◌∙◌, append-nil, append_assoc, arith}
-use Rattle.std.specs.Prelude.{nat_eq, is_none}
-use Rattle.std.specs.Option.{unwrap_or}
+use Rattle.std.proofs.Common.{◌≡◌, ◌≢◌, ℕ, ◌+◌, ◌-◌, ◌/◌, ◌%◌, ◌<◌, ◌≤◌, ◌↔◌, ◌⊎◌, inl, inr, Bool, true, false, not, ◌&&◌, ◌||◌, List, [], ◌∷◌, ◌++◌, length, take, set, get_or, Some, refl, sym, ap, subst, ◌∙◌, arith}
+use Rattle.std.specs.Prelude.{nat_eq}
 use Rattle.std.proofs.lemmas.Bool.{false≢true, cases_eq}
 use Rattle.std.proofs.lemmas.Bool.Decides.{nat_tests}
 use Rattle.std.proofs.lemmas.List.{length-set, get_or-set_same, get_or-set_other, set-get_or, take_more}
 use Rattle.mal_base.specs.Literals.{negated}
 use Rattle.mal_base.specs.Held.{Held}
 use Rattle.mal_base.specs.declared.trail_entry.TrailEntry.{TrailEntry}
-use Rattle.spec_node.specs.Value.{is_true, is_false, open_count}
+use Rattle.spec_node.specs.Value.{is_true, is_false, open_count, left_literal}
 use Rattle.spec_node.specs.Batch.{is_in_batch}
 use Rattle.mal_watch.specs.Chains.{Has, AreOnce, IsAt}
-use Rattle.mal_watch.specs.Watching.{no_row, row_at, partner, replacement, other_key, replaced, found_at, IsWatching, walked, IsKept}
-use Rattle.mal_watch.proofs.HasLemmas.{has-none, has-head, has-tail, has-cases}
+use Rattle.mal_watch.specs.Watching.{no_row, row_at, partner, IsOther, AreOthersFalse, other_key, IsWatching, IsKept}
+use Rattle.mal_watch.specs.Going.{Turns, Goes}
+use Rattle.mal_watch.specs.Finding.{found_at}
+use Rattle.mal_watch.specs.declared.found.Found.{Found}
+use Rattle.mal_watch.proofs.HasLemmas.{has-none, has-head, has-tail, has-cases, has-other}
 use Rattle.mal_watch.proofs.FalseLemmas.{false-more, open-less}
 use Rattle.mal_watch.proofs.WalkLemmas.{watching-set, partner-below}
 use Rattle.mal_watch.proofs.CountLemmas.{count-one, count-two, count-none, count-most, batch-yes, batch-no, batch-before}
-
--- a literal becomes false by the last of the first entries, and no other does
-pub record Turns (es : List TrailEntry) (q f : ℕ) : Type 0 where
-  pub some : 1 ≤ q
-  pub within : q ≤ length es
-  pub now : is_false (take q es) f ≡ true
-  pub fresh : is_false (take (q - 1) es) f ≡ false
-  pub others : (x : ℕ) → is_false (take q es) x ≡ true → x ≢ f → is_false (take (q - 1) es) x ≡ true
 
 eq_true : (a b : ℕ) → nat_eq a b ≡ true → a ≡ b
 eq_true a b = grind (arith, nat_tests)
@@ -136,16 +130,6 @@ turns-is es q e s l is fresh =
       others = only-last es q e s l is;
     }
 
--- how far the nodes that watch a literal that has become false were gone over: these are left
-pub record Goes (es : List TrailEntry) (q f lists : ℕ) (rows : List Held) (keys rest : List ℕ) : Type 0 where
-  pub watching : IsWatching lists rows keys
-  pub apart : (k : ℕ) → k < length keys → get_or keys k 0 ≢ other_key keys k
-  pub form : (k : ℕ) → AreOnce (row_at rows k).lits
-  pub left : (k : ℕ) → Has rest k → (k < length keys) × (get_or keys k 0 ≡ f)
-  pub once : AreOnce rest
-  pub kept : (n k : ℕ) → n ≤ q - 1 → k < length keys → IsKept (take n es) rows keys k
-  pub done : (k : ℕ) → k < length keys → (Has rest k → ⊥) → IsKept (take q es) rows keys k
-
 -- a test that is not passed is failed
 none-of : (b : Bool) → (b ≡ true → ⊥) → b ≡ false
 none-of true h = absurd (h refl)
@@ -158,60 +142,6 @@ not-false false h = refl
 not-true : (b : Bool) → b ≡ true → not b ≡ false
 not-true true h = refl
 not-true false h = absurd (false≢true h)
-
--- the literal found: another of the clause that is not false
-pub record IsOther (prefix : List TrailEntry) (other : ℕ) (lits : List ℕ) (r : ℕ) : Type 0 where
-  pub there : Has lits r
-  pub apart : r ≢ other
-  pub free : is_false prefix r ≡ false
-
-some_one : (x y : ℕ) → Some x ≡ Some y → x ≡ y
-some_one x y e = cc
-
-none_some : (x : ℕ) → ◌≡◌ {A = Option ℕ} None (Some x) → ⊥
-none_some x e = cc
-
-some_none : (x : ℕ) → ◌≡◌ {A = Option ℕ} (Some x) None → ⊥
-some_none x e = cc
-
-both-parts : (a b : Bool) → (not a && not b) ≡ true → (a ≡ false) × (b ≡ false)
-both-parts true b h = absurd (false≢true h)
-both-parts false true h = absurd (false≢true h)
-both-parts false false h = (refl, refl)
-
-eq_apart : (a b : ℕ) → nat_eq a b ≡ false → a ≢ b
-eq_apart a b = grind (arith, nat_tests)
-
-pub found-other : (prefix : List TrailEntry) (other : ℕ) (lits : List ℕ) (r : ℕ) → replacement prefix other lits ≡ Some r → IsOther prefix other lits r
-found-other prefix other [] r h = absurd (none_some r h)
-found-other prefix other (l ∷ ls) r h = by_test (not (nat_eq l other) && not (is_false prefix l)) refl (found-other prefix other ls r) h
-  where
-    by_test : (b : Bool) → (not (nat_eq l other) && not (is_false prefix l)) ≡ b → (replacement prefix other ls ≡ Some r → IsOther prefix other ls r) → cond b (Some l) (replacement prefix other ls) ≡ Some r → IsOther prefix other (l ∷ ls) r
-    by_test true t rest e =
-        let same : l ≡ r = some_one l r e in
-        let parts = both-parts (nat_eq l other) (is_false prefix l) t in
-        record { there = has-head r l ls (sym same); apart = rw (← same) (eq_apart l other parts.0); free = rw (← same) parts.1 }
-    by_test false t rest e =
-        let o = rest e in
-        record { there = has-tail r l ls o.there; apart = o.apart; free = o.free }
-
-fails-parts : (a b : Bool) → (not a && not b) ≡ false → (a ≡ false) → b ≡ true
-fails-parts true b h e = absurd (false≢true (sym e))
-fails-parts false true h e = refl
-fails-parts false false h e = absurd (false≢true (sym h))
-
-eq_not : (a b : ℕ) → a ≢ b → nat_eq a b ≡ false
-eq_not a b = grind (arith, nat_tests)
-
--- where none is found each other literal is false
-pub found-none : (prefix : List TrailEntry) (other : ℕ) (lits : List ℕ) → replacement prefix other lits ≡ None → (x : ℕ) → Has lits x → x ≢ other → is_false prefix x ≡ true
-found-none prefix other [] h x m d = absurd (has-none x m)
-found-none prefix other (l ∷ ls) h x m d = by_test (not (nat_eq l other) && not (is_false prefix l)) refl (λ e n. found-none prefix other ls e x n d) h (has-cases x l ls m)
-  where
-    by_test : (b : Bool) → (not (nat_eq l other) && not (is_false prefix l)) ≡ b → (replacement prefix other ls ≡ None → Has ls x → is_false prefix x ≡ true) → cond b (Some l) (replacement prefix other ls) ≡ None → (x ≡ l) ⊎ Has ls x → is_false prefix x ≡ true
-    by_test true t rest e s = absurd (some_none l e)
-    by_test false t rest e (inl s) = rw s (fails-parts (nat_eq l other) (is_false prefix l) t (eq_not l other (rw s at d)))
-    by_test false t rest e (inr n) = rest e n
 
 -- a node keeps what holds of it where it and its partner watch what they did
 kept-same : (prefix : List TrailEntry) (rows : List Held) (keys now : List ℕ) (k : ℕ) → get_or now k 0 ≡ get_or keys k 0 → other_key now k ≡ other_key keys k → IsKept prefix rows keys k → IsKept prefix rows now k
@@ -232,19 +162,18 @@ other-has lists rows keys k w l = subst (λ (c : Held). Has c.lits (other_key ke
 -- the partner of the first node that is left is not left
 partner-done : (es : List TrailEntry) (q f lists : ℕ) (rows : List Held) (keys rest : List ℕ) (k : ℕ) → Goes es q f lists rows keys (k ∷ rest) → Has (k ∷ rest) (partner k) → ⊥
 partner-done es q f lists rows keys rest k g h =
-    let here = g.left k (has-head k k rest refl) in
-    let there = g.left (partner k) h in
+    let here = g.left_is k (has-head k k rest refl) in
+    let there = g.left_is (partner k) h in
     g.apart k here.0 (here.1 ∙ sym there.1)
 
 -- a clause that another literal of is open
-pub goes-moved : (es : List TrailEntry) (q f lists : ℕ) (rows : List Held) (keys rest : List ℕ) (k r : ℕ) → Turns es q f → Goes es q f lists rows keys (k ∷ rest) → replaced (take q es) rows keys k ≡ Some r → Goes-next es q f lists rows keys (set keys k r) rest k false
-goes-moved es q f lists rows keys rest k r t g e =
+pub goes-moved : (es : List TrailEntry) (q f lists : ℕ) (rows : List Held) (keys rest : List ℕ) (k r : ℕ) → Turns es q f → Goes es q f lists rows keys (k ∷ rest) → IsOther (take q es) (other_key keys k) (row_at rows k).lits r → Goes-next es q f lists rows keys (set keys k r) rest k false
+goes-moved es q f lists rows keys rest k r t g found =
     let j = partner k in
     let lits = (row_at rows k).lits in
     let o = other_key keys k in
     let now = set keys k r in
-    let here = g.left k (has-head k k rest refl) in
-    let found : IsOther (take q es) o lits r = found-other (take q es) o lits r e in
+    let here = g.left_is k (has-head k k rest refl) in
     let below : j < length keys = partner-below lists rows keys k g.watching here.0 in
     let back : other_key keys j ≡ f = ap (λ (i : ℕ). get_or keys i 0) (partner-back k) ∙ here.1 in
     let r_other : r ≢ f = λ s. false≢true (sym found.free ∙ rw (sym s) at t.now) in
@@ -270,9 +199,9 @@ goes-moved es q f lists rows keys rest k r t g e =
           ]
         ];
         form = g.form;
-        left = λ m h.
+        left_is = λ m h.
             let d : m ≢ k = λ s. g.once.0 (rw s at h) in
-            let was = g.left m (has-tail m k rest h) in
+            let was = g.left_is m (has-tail m k rest h) in
             (omega (arith, was.0, long), key_other m d ∙ was.1);
         once = g.once.1;
         kept = λ n m h l. elim (cases_eq m k) [
@@ -296,12 +225,11 @@ goes-moved es q f lists rows keys rest k r t g e =
     }
 
 -- a clause whose other literals are false but for the other watched one
-pub goes-stays : (es : List TrailEntry) (q f lists : ℕ) (rows : List Held) (keys rest : List ℕ) (k : ℕ) → Turns es q f → Goes es q f lists rows keys (k ∷ rest) → replaced (take q es) rows keys k ≡ None → Goes-next es q f lists rows keys keys rest k (not (is_false (take q es) (other_key keys k)))
-goes-stays es q f lists rows keys rest k t g e =
+pub goes-stays : (es : List TrailEntry) (q f lists : ℕ) (rows : List Held) (keys rest : List ℕ) (k : ℕ) → Turns es q f → Goes es q f lists rows keys (k ∷ rest) → AreOthersFalse (take q es) (other_key keys k) (row_at rows k).lits → Goes-next es q f lists rows keys keys rest k (not (is_false (take q es) (other_key keys k)))
+goes-stays es q f lists rows keys rest k t g others =
     let lits = (row_at rows k).lits in
     let o = other_key keys k in
-    let here = g.left k (has-head k k rest refl) in
-    let others : (x : ℕ) → Has lits x → x ≢ o → is_false (take q es) x ≡ true = found-none (take q es) o lits e in
+    let here = g.left_is k (has-head k k rest refl) in
     let has_o : Has lits o = other-has lists rows keys k g.watching here.0 in
     let has_f : Has lits f = rw here.1 at (g.watching.own k here.0) in
     let f_other : f ≢ o = rw here.1 at (g.apart k here.0) in
@@ -310,7 +238,7 @@ goes-stays es q f lists rows keys rest k t g e =
         watching = g.watching;
         apart = g.apart;
         form = g.form;
-        left = λ m h. g.left m (has-tail m k rest h);
+        left_is = λ m h. g.left_is m (has-tail m k rest h);
         once = g.once.1;
         kept = g.kept;
         done = λ m l h. elim (cases_eq m k) [
@@ -332,33 +260,54 @@ goes-stays es q f lists rows keys rest k t g e =
         let two : 2 ≤ open_count (take (q - 1) es) (row_at rows k).lits = count-two (λ l. not (is_false (take (q - 1) es) l)) (row_at rows k).lits f (other_key keys k) has_f has_o f_other (not-false (is_false (take (q - 1) es) f) t.fresh) (not-false (is_false (take (q - 1) es) (other_key keys k)) before) in
         batch-yes es q (row_at rows k) t.some t.within (omega arith) two
 
--- the number of a node's clause, where it is in the batch
-abbrev pub batch_at : List TrailEntry → List Held → ℕ → List ℕ
-batch_at prefix rows k = cond (is_in_batch prefix (row_at rows k)) ((row_at rows k).id ∷ []) []
+-- where all literals of a clause are false but one, that one is left
+pub left-only : (prefix : List TrailEntry) (o : ℕ) (lits : List ℕ) → AreOthersFalse prefix o lits → Has lits o → is_false prefix o ≡ false → left_literal prefix lits ≡ Some o
+left-only prefix o [] others h e = absurd (has-none o h)
+left-only prefix o (l ∷ ls) others h e = elim (cases_eq l o) [
+  | inl s ↦ let free : is_false prefix l ≡ false = rw s e in rw free (ap (λ (x : ℕ). Some x) s)
+  | inr d ↦
+      let closed : is_false prefix l ≡ true = others l (has-head l l ls refl) d in
+      rw closed (left-only prefix o ls (λ x m. others x (has-tail x l ls m)) (has-other o l ls (λ s. d (sym s)) h) e)
+]
 
--- the numbers of the clauses of nodes that are in the batch
-abbrev pub ids_in : List TrailEntry → List Held → List ℕ → List ℕ
-ids_in prefix rows [] = []
-ids_in prefix rows (k ∷ ks) = batch_at prefix rows k ++ ids_in prefix rows ks
+and-not : (a b : Bool) → a ≡ false → (a && not b) ≡ false
+and-not true b h = absurd (false≢true (sym h))
+and-not false b h = refl
 
--- a visit goes over the first node that is left, and finds its clause where it is in the batch
-goes-visited : (es : List TrailEntry) (q f lists : ℕ) (rows : List Held) (keys rest : List ℕ) (k : ℕ) → Turns es q f → Goes es q f lists rows keys (k ∷ rest) → Goes es q f lists rows (set keys k (unwrap_or (replaced (take q es) rows keys k) (get_or keys k 0))) rest × (found_at (take q es) rows keys k ≡ batch_at (take q es) rows k)
-goes-visited es q f lists rows keys rest k t g = by_found (replaced (take q es) rows keys k) refl
-  where
-    by_found : (o : Option ℕ) → replaced (take q es) rows keys k ≡ o → Goes es q f lists rows (set keys k (unwrap_or o (get_or keys k 0))) rest × (cond (is_none o && not (is_false (take q es) (other_key keys k))) ((row_at rows k).id ∷ []) [] ≡ batch_at (take q es) rows k)
-    by_found (Some r) e =
-        let next = goes-moved es q f lists rows keys rest k r t g e in
-        (next.goes, rw next.batch refl)
-    by_found None e =
-        let next = goes-stays es q f lists rows keys rest k t g e in
-        (rw (set-get_or keys k 0) next.goes, rw next.batch refl)
+-- a visit to the first node that is left: what is left then, and what is found
+pub record Visited (es : List TrailEntry) (q f lists : ℕ) (rows : List Held) (now rest : List ℕ) (k : ℕ) (found : List Found) : Type 0 where
+  pub goes : Goes es q f lists rows now rest
+  pub finds : found_at (take q es) es rows k ≡ found
 
-pub goes-walked : (es : List TrailEntry) (q f lists : ℕ) (rows : List Held) (ks : List ℕ) (keys found : List ℕ) → Turns es q f → Goes es q f lists rows keys ks → Goes es q f lists rows (walked (take q es) rows (record { keys = keys; found = found }) ks).keys [] × ((walked (take q es) rows (record { keys = keys; found = found }) ks).found ≡ found ++ ids_in (take q es) rows ks)
-goes-walked es q f lists rows [] keys found t g = (g, sym (append-nil found))
-goes-walked es q f lists rows (k ∷ ks) keys found t g =
-    let next = goes-visited es q f lists rows keys ks k t g in
-    let rest = goes-walked es q f lists rows ks (set keys k (unwrap_or (replaced (take q es) rows keys k) (get_or keys k 0))) (found ++ found_at (take q es) rows keys k) t next.0 in
-    (rest.0, rest.1 ∙ (rw next.1 (append_assoc found (batch_at (take q es) rows k) (ids_in (take q es) rows ks))))
+pub visit-moved : (es : List TrailEntry) (q f lists : ℕ) (rows : List Held) (keys rest : List ℕ) (k r : ℕ) → Turns es q f → Goes es q f lists rows keys (k ∷ rest) → IsOther (take q es) (other_key keys k) (row_at rows k).lits r → Visited es q f lists rows (set keys k r) rest k []
+visit-moved es q f lists rows keys rest k r t g o =
+    let next = goes-moved es q f lists rows keys rest k r t g o in
+    record { goes = next.goes; finds = rw next.batch refl }
+
+stays : (es : List TrailEntry) (q f lists : ℕ) (rows : List Held) (keys rest : List ℕ) (k : ℕ) → Goes es q f lists rows keys (k ∷ rest) → set keys k f ≡ keys
+stays es q f lists rows keys rest k g = let here = g.left_is k (has-head k k rest refl) in ap (λ (x : ℕ). set keys k x) (sym here.1) ∙ set-get_or keys k 0
+
+pub visit-false : (es : List TrailEntry) (q f lists : ℕ) (rows : List Held) (keys rest : List ℕ) (k : ℕ) → Turns es q f → Goes es q f lists rows keys (k ∷ rest) → AreOthersFalse (take q es) (other_key keys k) (row_at rows k).lits → is_false (take q es) (other_key keys k) ≡ true → Visited es q f lists rows (set keys k f) rest k []
+visit-false es q f lists rows keys rest k t g o e =
+    let next = goes-stays es q f lists rows keys rest k t g o in
+    let no : is_in_batch (take q es) (row_at rows k) ≡ false = next.batch ∙ ap not e in
+    record { goes = rw (stays es q f lists rows keys rest k g) next.goes; finds = rw no refl }
+
+pub visit-true : (es : List TrailEntry) (q f lists : ℕ) (rows : List Held) (keys rest : List ℕ) (k : ℕ) → Turns es q f → Goes es q f lists rows keys (k ∷ rest) → AreOthersFalse (take q es) (other_key keys k) (row_at rows k).lits → is_false (take q es) (other_key keys k) ≡ false → is_true es (other_key keys k) ≡ true → Visited es q f lists rows (set keys k f) rest k []
+visit-true es q f lists rows keys rest k t g o e u =
+    let next = goes-stays es q f lists rows keys rest k t g o in
+    let yes : is_in_batch (take q es) (row_at rows k) ≡ true = next.batch ∙ ap not e in
+    let here = g.left_is k (has-head k k rest refl) in
+    let left = left-only (take q es) (other_key keys k) (row_at rows k).lits o (other-has lists rows keys k g.watching here.0) e in
+    record { goes = rw (stays es q f lists rows keys rest k g) next.goes; finds = rw (yes, left, u) refl }
+
+pub visit-found : (es : List TrailEntry) (q f lists : ℕ) (rows : List Held) (keys rest : List ℕ) (k : ℕ) → Turns es q f → Goes es q f lists rows keys (k ∷ rest) → AreOthersFalse (take q es) (other_key keys k) (row_at rows k).lits → is_false (take q es) (other_key keys k) ≡ false → is_true es (other_key keys k) ≡ false → Visited es q f lists rows (set keys k f) rest k (record { id = (row_at rows k).id; lit = other_key keys k } ∷ [])
+visit-found es q f lists rows keys rest k t g o e u =
+    let next = goes-stays es q f lists rows keys rest k t g o in
+    let yes : is_in_batch (take q es) (row_at rows k) ≡ true = next.batch ∙ ap not e in
+    let here = g.left_is k (has-head k k rest refl) in
+    let left = left-only (take q es) (other_key keys k) (row_at rows k).lits o (other-has lists rows keys k g.watching here.0) e in
+    record { goes = rw (stays es q f lists rows keys rest k g) next.goes; finds = rw (yes, left, u) refl }
 
 -- the nodes of the literal are left at the start
 pub goes-start : (es : List TrailEntry) (q f lists : ℕ) (rows : List Held) (keys out : List ℕ) → Turns es q f → IsWatching lists rows keys → ((k : ℕ) → k < length keys → get_or keys k 0 ≢ other_key keys k) → ((k : ℕ) → AreOnce (row_at rows k).lits) → ((n k : ℕ) → n ≤ q - 1 → k < length keys → IsKept (take n es) rows keys k) → ((k : ℕ) → Has out k ↔ IsAt keys k f) → AreOnce out → Goes es q f lists rows keys out
@@ -367,7 +316,7 @@ goes-start es q f lists rows keys out t w a form kept nodes once =
       watching = w;
       apart = a;
       form = form;
-      left = λ k h. (nodes k).0 h;
+      left_is = λ k h. (nodes k).0 h;
       once = once;
       kept = kept;
       done = λ k l h z x m d.
@@ -405,3 +354,40 @@ goes-apart es q f lists rows keys k t w a form kept l d e =
     by_values own other by_own by_other false u false v =
         let two : 2 ≤ open_count (take q es) (row_at rows k).lits = count-two (λ l. not (is_false (take q es) l)) (row_at rows k).lits (get_or keys k 0) (other_key keys k) own other (a k l) (not-false (is_false (take q es) (get_or keys k 0)) u) (not-false (is_false (take q es) (other_key keys k)) v) in
         batch-no es q (row_at rows k) t.some t.within (λ s. omega (arith, two, s))
+
+-- of two places two different numbers take both
+both-places : (p q a b x : ℕ) → (a ≡ p) ⊎ (a ≡ q) → (b ≡ p) ⊎ (b ≡ q) → a ≢ b → (x ≡ p) ⊎ (x ≡ q) → (x ≡ a) ⊎ (x ≡ b)
+both-places p q a b x (inl e) g d (inl h) = inl (h ∙ sym e)
+both-places p q a b x (inl e) (inl g) d (inr h) = absurd (d (e ∙ sym g))
+both-places p q a b x (inl e) (inr g) d (inr h) = inr (h ∙ sym g)
+both-places p q a b x (inr e) (inl g) d (inl h) = inr (h ∙ sym g)
+both-places p q a b x (inr e) (inr g) d (inl h) = absurd (d (e ∙ sym g))
+both-places p q a b x (inr e) g d (inr h) = inl (h ∙ sym e)
+
+has-two : (p q x : ℕ) → Has (p ∷ (q ∷ [])) x → (x ≡ p) ⊎ (x ≡ q)
+has-two p q x h = elim (has-cases x p (q ∷ []) h) [
+  | inl e ↦ inl e
+  | inr m ↦ elim (has-cases x q [] m) [
+    | inl e ↦ inr e
+    | inr n ↦ absurd (has-none x n)
+  ]
+]
+
+-- a clause of two literals has those alone that it watches
+two-only : (lits : List ℕ) (a b x : ℕ) → length lits ≡ 2 → Has lits a → Has lits b → a ≢ b → Has lits x → (x ≡ a) ⊎ (x ≡ b)
+two-only [] a b x l h g d m = absurd (has-none x m)
+two-only (p ∷ []) a b x l h g d m = absurd (omega arith)
+two-only (p ∷ (q ∷ [])) a b x l h g d m = both-places p q a b x (has-two p q a h) (has-two p q b g) d (has-two p q x m)
+two-only (p ∷ (q ∷ (r ∷ rs))) a b x l h g d m = absurd (omega arith)
+
+-- so where a watched one has become false, each is but the other
+pub two-watched : (es : List TrailEntry) (q f lists : ℕ) (rows : List Held) (keys rest : List ℕ) (k : ℕ) → Turns es q f → Goes es q f lists rows keys (k ∷ rest) → length (row_at rows k).lits ≡ 2 → AreOthersFalse (take q es) (other_key keys k) (row_at rows k).lits
+two-watched es q f lists rows keys rest k t g l =
+    let here = g.left_is k (has-head k k rest refl) in
+    let has_f : Has (row_at rows k).lits f = rw here.1 at (g.watching.own k here.0) in
+    let has_o = other-has lists rows keys k g.watching here.0 in
+    let apart : f ≢ other_key keys k = rw here.1 at (g.apart k here.0) in
+    λ x m d. elim (two-only (row_at rows k).lits f (other_key keys k) x l has_f has_o apart m) [
+      | inl e ↦ rw e t.now
+      | inr e ↦ absurd (d e)
+    ]

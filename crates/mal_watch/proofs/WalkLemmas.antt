@@ -1,14 +1,11 @@
-use Rattle.std.proofs.Common.{◌≡◌, ℕ, zero, suc, ◌+◌, ◌-◌, ◌/◌, ◌%◌, ◌<◌, inl, inr, Bool, true, false, cond, List, [], ◌∷◌, ◌++◌, length, set, get_or, Option, Some, None, refl, sym, ◌∙◌, append-nil, arith}
-use Rattle.std.specs.Prelude.{slice_get, find, nat_eq}
+use Rattle.std.proofs.Common.{◌≡◌, ℕ, zero, suc, ◌+◌, ◌-◌, ◌/◌, ◌%◌, ◌<◌, inl, inr, Bool, true, false, cond, List, [], ◌∷◌, length, set, get_or, Option, Some, None, refl, ◌∙◌, arith}
+use Rattle.std.specs.Prelude.{slice_get, nat_eq}
 use Rattle.std.proofs.lemmas.Bool.{cases_eq}
 use Rattle.std.proofs.lemmas.Bool.Decides.{nat_tests}
 use Rattle.std.proofs.lemmas.List.{length-set, get_or-set_same, get_or-set_other}
 use Rattle.mal_base.specs.Held.{Held}
-use Rattle.mal_base.specs.declared.trail_entry.TrailEntry.{TrailEntry}
-use Rattle.spec_node.specs.Value.{is_false}
 use Rattle.mal_watch.specs.Chains.{Has}
-use Rattle.mal_watch.specs.Watching.{row_at, partner, other_key, replaced, IsWatching, visited}
-use Rattle.mal_watch.proofs.HasLemmas.{has-head, has-tail}
+use Rattle.mal_watch.specs.Watching.{row_at, partner, IsWatching}
 
 some_held : (c d : Held) → Some c ≡ Some d → c ≡ d
 some_held c d e = cc
@@ -26,15 +23,6 @@ pub get-is : (cs : List Held) (i : ℕ) (c d : Held) → slice_get cs i ≡ Some
 get-is [] i c d e = absurd (none_held c e)
 get-is (x ∷ xs) zero c d e = some_held x c e
 get-is (x ∷ xs) (suc i) c d e = get-is xs i c d e
-
--- what was found is there
-pub find-has : (p : ℕ → Bool) (xs : List ℕ) (x : ℕ) → find p xs ≡ Some x → Has xs x
-find-has p [] x e = absurd (none_some x e)
-find-has p (y ∷ ys) x e = by_test (p y) (find-has p ys x) e
-  where
-    by_test : (b : Bool) → (find p ys ≡ Some x → Has ys x) → cond b (Some y) (find p ys) ≡ Some x → Has (y ∷ ys) x
-    by_test true rest f = has-head x y ys (sym (some_one y x f))
-    by_test false rest f = has-tail x y ys (rest f)
 
 -- the other node is one too
 pub partner-below : (lists : ℕ) (rows : List Held) (keys : List ℕ) (node : ℕ) → IsWatching lists rows keys → node < length keys → partner node < length keys
@@ -62,15 +50,3 @@ watching-set lists rows keys node lit w l h =
       ];
       below = w.below;
     }
-
--- a node that goes to another literal
-pub visit-moved : (prefix : List TrailEntry) (rows : List Held) (keys found : List ℕ) (node lit : ℕ) → Some lit ≡ replaced prefix rows keys node → visited prefix rows (record { keys = keys; found = found }) node ≡ record { keys = set keys node lit; found = found }
-visit-moved prefix rows keys found node lit e = rw (← e, append-nil found) refl
-
--- a node that stays, whose clause is found
-pub visit-found : (prefix : List TrailEntry) (rows : List Held) (keys found : List ℕ) (node id key : ℕ) → None ≡ replaced prefix rows keys node → key ≡ get_or keys node 0 → is_false prefix (other_key keys node) ≡ false → (row_at rows node).id ≡ id → visited prefix rows (record { keys = keys; found = found }) node ≡ record { keys = set keys node key; found = found ++ id ∷ [] }
-visit-found prefix rows keys found node id key e k f i = rw (← e, k, f, i) refl
-
--- a node that stays, whose clause is not
-pub visit-stays : (prefix : List TrailEntry) (rows : List Held) (keys found : List ℕ) (node key : ℕ) → None ≡ replaced prefix rows keys node → key ≡ get_or keys node 0 → is_false prefix (other_key keys node) ≡ true → visited prefix rows (record { keys = keys; found = found }) node ≡ record { keys = set keys node key; found = found }
-visit-stays prefix rows keys found node key e k f = rw (← e, k, f, append-nil found) refl

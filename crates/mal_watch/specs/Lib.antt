@@ -2,6 +2,8 @@ pub mod Chains
 pub mod Rowed
 pub mod Pairs
 pub mod Watching
+pub mod Finding
+pub mod Going
 pub mod Following
 pub mod FollowLaws
 pub mod Fitting

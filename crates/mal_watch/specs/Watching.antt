@@ -1,5 +1,4 @@
-use Rattle.std.specs.Prelude.{◌≡◌, ◌≢◌, ℕ, ◌+◌, ◌-◌, ◌/◌, ◌%◌, ◌<◌, Bool, true, not, ◌&&◌, ◌==◌, if◌then◌else◌, List, [], ◌∷◌, ◌++◌, length, slice_index, slice_index_or, slice_set, find, Option, is_none}
-use Rattle.std.specs.Option.{unwrap_or}
+use Rattle.std.specs.Prelude.{◌≡◌, ◌≢◌, ℕ, ◌+◌, ◌-◌, ◌/◌, ◌%◌, ◌<◌, true, false, ◌==◌, if◌then◌else◌, List, [], length, slice_index, slice_index_or}
 use Rattle.mal_base.specs.Held.{Held}
 use Rattle.mal_base.specs.declared.trail_entry.TrailEntry.{TrailEntry}
 use Rattle.spec_node.specs.Value.{is_false}
@@ -23,39 +22,20 @@ pub record IsWatching (lists : ℕ) (rows : List Held) (keys : List ℕ) : Type 
   pub own : (k : ℕ) → k < length keys → Has (row_at rows k).lits (slice_index keys k)
   pub below : (k l : ℕ) → Has (row_at rows k).lits l → l < lists
 
--- the first literal other than this one that is not false
-abbrev pub replacement : List TrailEntry → ℕ → List ℕ → Option ℕ
-replacement prefix other lits = find (λ l. not (l == other) && not (is_false prefix l)) lits
+-- a literal of a clause other than this one that is not false
+pub record IsOther (prefix : List TrailEntry) (other : ℕ) (lits : List ℕ) (r : ℕ) : Type 0 where
+  pub there : Has lits r
+  pub apart : r ≢ other
+  pub free : is_false prefix r ≡ false
+
+-- each literal of a clause is false but this one
+abbrev pub AreOthersFalse : List TrailEntry → ℕ → List ℕ → Type 0
+AreOthersFalse prefix other lits = (x : ℕ) → Has lits x → x ≢ other → is_false prefix x ≡ true
 
 -- the literal that the other node of a node's clause watches
 abbrev pub other_key : List ℕ → ℕ → ℕ
 other_key keys node = slice_index keys (partner node)
 
--- what takes the place of the literal that a node watches
-abbrev pub replaced : List TrailEntry → List Held → List ℕ → ℕ → Option ℕ
-replaced prefix rows keys node = replacement prefix (other_key keys node) (row_at rows node).lits
-
--- how far nodes were gone over: what each watches, and the clauses found
-pub record Walk : Type 0 where
-  pub keys : List ℕ
-  pub found : List ℕ
-
--- a clause is found where nothing takes the literal's place and the other watched literal is not false
-abbrev pub is_left : List TrailEntry → List Held → List ℕ → ℕ → Bool
-is_left prefix rows keys node = is_none (replaced prefix rows keys node) && not (is_false prefix (other_key keys node))
-
-abbrev pub found_at : List TrailEntry → List Held → List ℕ → ℕ → List ℕ
-found_at prefix rows keys node = if is_left prefix rows keys node then (row_at rows node).id ∷ [] else []
-
--- after a node was visited
-abbrev pub visited : List TrailEntry → List Held → Walk → ℕ → Walk
-visited prefix rows w node = record { keys = slice_set w.keys node (unwrap_or (replaced prefix rows w.keys node) (slice_index w.keys node)); found = w.found ++ found_at prefix rows w.keys node }
-
--- after nodes were visited
-abbrev pub walked : List TrailEntry → List Held → Walk → List ℕ → Walk
-walked prefix rows w [] = w
-walked prefix rows w (k ∷ ks) = walked prefix rows (visited prefix rows w k) ks
-
 -- where the literal that a node watches is false, each literal of its clause is but the other watched one
 abbrev pub IsKept : List TrailEntry → List Held → List ℕ → ℕ → Type 0
-IsKept prefix rows keys k = is_false prefix (slice_index keys k) ≡ true → (x : ℕ) → Has (row_at rows k).lits x → x ≢ other_key keys k → is_false prefix x ≡ true
+IsKept prefix rows keys k = is_false prefix (slice_index keys k) ≡ true → AreOthersFalse prefix (other_key keys k) (row_at rows k).lits

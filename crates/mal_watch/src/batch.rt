@@ -1,13 +1,14 @@
 //! Handling the clauses of a batch on the trail.
 
-ghost use Rattle.std.specs.Prelude.{◌≡◌, ℕ, ◌≤◌, true, List, length, take, map, None};
+ghost use Rattle.std.specs.Prelude.{◌≡◌, ℕ, ◌≤◌, true, List, length, take, None, All};
 ghost use Rattle.mal_base.specs.Literals.{var_of};
 ghost use Rattle.mal_base.specs.Formulas.{is_within};
 ghost use Rattle.spec_node.specs.Value.{left_literal};
-ghost use Rattle.spec_node.specs.Batch.{batch, after_clause, after_batch, after_literal};
-ghost use Rattle.spec_node.specs.Sound.{NumbersRise};
+ghost use Rattle.spec_node.specs.Batch.{after_clause, after_batch, after_literal};
 ghost use Rattle.mal_trail.specs.Rooms.{are_within};
+ghost use Rattle.mal_watch.specs.Finding.{after_found};
 
+use crate::found::Found;
 use mal_base::{ClauseId, Lit};
 use mal_store::Store;
 use mal_trail::Trail;
@@ -78,24 +79,18 @@ pub fn handle_short(trail: &mut Trail, store: &Store) -> Option<ClauseId>
     None
 }
 
-/// Handles the clauses of these numbers: the batch of the first entries of the trail, so many. The result is the conflict.
-pub fn handle(trail: &mut Trail, count: usize, ids: &[ClauseId], store: &Store) -> Option<ClauseId>
-    requires count { count ≤ length trail.old.entries }
-    requires within { are_within trail.old.room store.now.clauses ≡ true }
-    requires numbers { NumbersRise 0 store.now.clauses }
-    requires ids { ids.now ≡ map (λ c. c.id) (batch (take count trail.old.entries) store.now.clauses) }
-    ensures progress { after_batch count trail.old.entries store.now.clauses ≡ record { trail = trail.new.entries; conflict = result } }
+/// Handles what was found of a batch: pushes the literal left of each clause, one after another. The result is the
+/// conflict.
+pub fn handle(trail: &mut Trail, found: &[Found]) -> Option<ClauseId>
+    requires { All (λ f. var_of f.lit ≤ trail.old.room) found.now }
+    ensures progress { after_found (record { trail = trail.old.entries; conflict = None }) found.now ≡ record { trail = trail.new.entries; conflict = result } }
     ensures longer { length trail.old.entries ≤ length trail.new.entries }
     ensures prefix { (n : ℕ) → n ≤ length trail.old.entries → take n trail.new.entries ≡ take n trail.old.entries }
     ensures processed { trail.new.processed ≡ trail.old.processed }
     ensures room { trail.new.room ≡ trail.old.room }
 {
-    for id in ids {
-        let lits = match store.get(*id) {
-            Some(lits) => lits,
-            None => unreachable!(),
-        };
-        match handle_clause(trail, count, *id, lits) {
+    for next in found {
+        match handle_literal(trail, next.id, next.lit) {
             Some(id) => return Some(id),
             None => {}
         }

@@ -3,6 +3,7 @@
 
 mod batch;
 mod chains;
+mod found;
 mod pair;
 mod rows;
 mod walk;

@@ -6,16 +6,18 @@ use mal_base::{ClauseId, Lit};
 use std::alloc::{AllocError, Global};
 use std::marker::Model;
 
-/// A clause's number, and where its literals stand: the place of the first, and how many there are.
+/// A clause's number, where its literals stand: the place of the first, and how many there are, and at which of them a
+/// search begins.
 #[derive(Clone, Copy)]
 struct Row {
     id: ClauseId,
     start: usize,
     len: usize,
+    hint: usize,
 }
 
 /// Clauses in the order in which they came, their literals side by side. Contracts see them, and how many clauses and
-/// literals there is room for.
+/// literals there is room for. Where a search in a clause begins is kept beside it, and no contract speaks of it.
 #[derive(Drop)]
 pub struct Rows {
     rows: Vec<Row>,
@@ -81,6 +83,7 @@ impl Rows {
             id,
             start: self.literals.len(),
             len: lits.len(),
+            hint: 0,
         });
         append_reserved(&mut self.literals, lits);
     }
@@ -92,6 +95,21 @@ impl Rows {
     {
         let row = self.rows[place];
         (row.id, part(self.literals.as_slice(), row.start, row.len))
+    }
+
+    /// At which of its literals a search in the clause at a place begins, as it was kept last.
+    pub fn hint(&self, place: usize) -> usize
+        requires { place < length self.now.clauses }
+    {
+        self.rows[place].hint
+    }
+
+    /// Keeps at which of its literals the next search in the clause at a place begins.
+    pub fn keep_hint(&mut self, place: usize, hint: usize)
+        requires { place < length self.old.clauses }
+        ensures { self.new ≡ self.old }
+    {
+        self.rows[place].hint = hint;
     }
 }
 

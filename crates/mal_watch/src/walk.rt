@@ -1,11 +1,14 @@
 //! Going over the clauses that watch a literal which has become false.
 
-ghost use Rattle.std.specs.Prelude.{◌≡◌, ◌+◌, ◌≤◌, ◌<◌, [], length, take, drop, ◌∷◌, vec_len, vec_capacity};
-ghost use Rattle.mal_watch.specs.Watching.{partner, replacement, IsWatching, visited, walked};
+ghost use Rattle.std.specs.Prelude.{◌≡◌, ◌+◌, ◌≤◌, ◌<◌, [], ◌++◌, length, take, drop, ◌∷◌, slice_index, MatchOption, vec_len, vec_capacity};
+ghost use Rattle.mal_watch.specs.Watching.{partner, IsOther, AreOthersFalse};
+ghost use Rattle.mal_watch.specs.Going.{Turns, Goes};
+ghost use Rattle.mal_watch.specs.Finding.{found_at, found_in};
 
 use crate::chains::Chains;
+use crate::found::Found;
 use crate::rows::Rows;
-use mal_base::{ClauseId, Lit};
+use mal_base::Lit;
 use mal_trail::Trail;
 
 /// The other of the two nodes of a clause.
@@ -15,71 +18,111 @@ fn partner(node: usize) -> usize
     if node % 2 == 0 { node + 1 } else { node - 1 }
 }
 
-/// The first literal other than this one that is not false under the first entries of the trail, so many.
-fn replacement(trail: &Trail, count: usize, lits: &[Lit], other: Lit) -> Option<Lit>
+/// The place of a literal other than this one that is not false under the first entries of the trail, so many.
+fn first_open(trail: &Trail, count: usize, lits: &[Lit], other: Lit) -> Option<usize>
     requires { count ≤ length trail.now.entries }
-    ensures { result ≡ replacement (take count trail.now.entries) other lits.now }
+    ensures { MatchOption result (AreOthersFalse (take count trail.now.entries) other lits.now) (λ i. (i < length lits.now) × IsOther (take count trail.now.entries) other lits.now (slice_index lits.now i)) }
 {
-    lits.iter()
-        .copied()
-        .find(|l| *l != other && !trail.is_false_before(count, *l))
+    for place in 0..lits.len() {
+        let lit = lits[place];
+        if lit != other && !trail.is_false_before(count, lit) {
+            return Some(place);
+        }
+    }
+    None
 }
 
-/// Visits the clause of the first node that is out: the node goes to another literal that is not false, or back. Where
-/// the other watched literal alone is left, the clause is found.
+/// The same, sought from a place on and round to it.
+fn next_open(trail: &Trail, count: usize, lits: &[Lit], other: Lit, from: usize) -> Option<usize>
+    requires { count ≤ length trail.now.entries }
+    ensures { MatchOption result (AreOthersFalse (take count trail.now.entries) other lits.now) (λ i. (i < length lits.now) × IsOther (take count trail.now.entries) other lits.now (slice_index lits.now i)) }
+{
+    let start = from.min(lits.len());
+    let (front, back) = lits.split_at(start);
+    match first_open(trail, count, back, other) {
+        Some(place) => return Some(start + place),
+        None => {}
+    }
+    first_open(trail, count, front, other)
+}
+
+/// The place of a literal of a clause that may be watched in the place of one that is false: not false under the first
+/// entries of the trail, so many, and not the other watched one. A clause of two literals has no other, and is not looked at.
+fn to_watch(trail: &Trail, count: usize, lits: &[Lit], other: Lit, from: usize) -> Option<usize>
+    requires count { count ≤ length trail.now.entries }
+    requires two { length lits.now ≡ 2 → AreOthersFalse (take count trail.now.entries) other lits.now }
+    ensures { MatchOption result (AreOthersFalse (take count trail.now.entries) other lits.now) (λ i. (i < length lits.now) × IsOther (take count trail.now.entries) other lits.now (slice_index lits.now i)) }
+{
+    if lits.len() == 2 {
+        return None;
+    }
+    next_open(trail, count, lits, other, from)
+}
+
+/// Visits the clause of the first node that is out, which watches the literal that became false by the last of the first
+/// entries, so many: the node goes to another literal that is not false, or back. Where the other watched literal alone is
+/// left, and not true, the clause is found.
 fn visit(
     chains: &mut Chains,
-    found: &mut Vec<ClauseId>,
-    rows: &Rows,
+    found: &mut Vec<Found>,
+    rows: &mut Rows,
     trail: &Trail,
     count: usize,
+    lit: Lit,
     node: usize,
 )
-    requires count { count ≤ length trail.now.entries }
+    requires turns { Turns trail.now.entries count lit }
     requires first { chains.old.out ≡ node ∷ drop 1 chains.old.out }
-    requires node { node < length chains.old.keys }
-    requires watching { IsWatching chains.old.lists rows.now.clauses chains.old.keys }
+    requires goes { Goes trail.now.entries count lit chains.old.lists rows.old.clauses chains.old.keys (node ∷ drop 1 chains.old.out) }
     requires room { vec_len found.old < vec_capacity found.old }
-    ensures walk { visited (take count trail.now.entries) rows.now.clauses (record { keys = chains.old.keys; found = found.old.items }) node ≡ record { keys = chains.new.keys; found = found.new.items } }
+    ensures goes { Goes trail.now.entries count lit chains.new.lists rows.old.clauses chains.new.keys (drop 1 chains.old.out) }
+    ensures found { found.new.items ≡ found.old.items ++ found_at (take count trail.now.entries) trail.now.entries rows.old.clauses node }
     ensures out { chains.new.out ≡ drop 1 chains.old.out }
-    ensures watching { IsWatching chains.new.lists rows.now.clauses chains.new.keys }
+    ensures rows { rows.new ≡ rows.old }
     ensures lists { chains.new.lists ≡ chains.old.lists }
     ensures chains_room { chains.new.room ≡ chains.old.room }
     ensures len { vec_len found.new ≤ vec_len found.old + 1 }
     ensures capacity { vec_capacity found.new ≡ vec_capacity found.old }
 {
-    let (id, lits) = rows.at(node / 2);
+    let row = node / 2;
+    let (id, lits) = rows.at(row);
     let other = chains.key(partner(node));
-    match replacement(trail, count, lits, other) {
-        Some(lit) => chains.put(node, lit),
+    match to_watch(trail, count, lits, other, rows.hint(row)) {
+        Some(place) => {
+            chains.put(node, lits[place]);
+            rows.keep_hint(row, place);
+        }
         None => {
-            let key = chains.key(node);
-            chains.put(node, key);
-            if !trail.is_false_before(count, other) {
-                found.push_reserved(id);
+            chains.put(node, lit);
+            if !trail.is_false_before(count, other) && !trail.is_true(other) {
+                found.push_reserved(Found { id, lit: other });
             }
         }
     }
 }
 
-/// Visits the clauses of all nodes that are out.
+/// Visits the clauses of all nodes that are out, which watch the literal that became false by the last of the first
+/// entries, so many. What is found of them is put behind the rest.
 pub fn walk(
     chains: &mut Chains,
-    found: &mut Vec<ClauseId>,
-    rows: &Rows,
+    found: &mut Vec<Found>,
+    rows: &mut Rows,
     trail: &Trail,
     count: usize,
+    lit: Lit,
 )
-    requires count { count ≤ length trail.now.entries }
-    requires watching { IsWatching chains.old.lists rows.now.clauses chains.old.keys }
+    requires turns { Turns trail.now.entries count lit }
+    requires goes { Goes trail.now.entries count lit chains.old.lists rows.old.clauses chains.old.keys chains.old.out }
     requires room { vec_len found.old + length chains.old.out ≤ vec_capacity found.old }
-    ensures walk { walked (take count trail.now.entries) rows.now.clauses (record { keys = chains.old.keys; found = found.old.items }) chains.old.out ≡ record { keys = chains.new.keys; found = found.new.items } }
+    ensures goes { Goes trail.now.entries count lit chains.new.lists rows.old.clauses chains.new.keys [] }
+    ensures found { found.new.items ≡ found.old.items ++ found_in (take count trail.now.entries) trail.now.entries rows.old.clauses chains.old.out }
     ensures out { chains.new.out ≡ [] }
+    ensures rows { rows.new ≡ rows.old }
     ensures lists { chains.new.lists ≡ chains.old.lists }
     ensures chains_room { chains.new.room ≡ chains.old.room }
     ensures capacity { vec_capacity found.new ≡ vec_capacity found.old }
 {
     while let Some(node) = chains.first() {
-        visit(chains, found, rows, trail, count, node);
+        visit(chains, found, rows, trail, count, lit, node);
     }
 }

@@ -1,17 +1,19 @@
 //! The engine.
 
-ghost use Rattle.std.specs.Prelude.{◌≡◌, ℕ, ◌+◌, ◌≤◌, true, length, take, map, None, vec_capacity};
+ghost use Rattle.std.specs.Prelude.{◌≡◌, ℕ, ◌+◌, ◌≤◌, true, length, take, None, vec_capacity};
 ghost use Rattle.mal_base.specs.Clauses.{rises};
 ghost use Rattle.mal_base.specs.Held.{lits_under};
 ghost use Rattle.spec_node.specs.Adding.{with_clause};
-ghost use Rattle.spec_node.specs.Batch.{batch, after_batch};
+ghost use Rattle.spec_node.specs.Batch.{after_batch};
 ghost use Rattle.mal_trail.specs.Rooms.{IsRoomFor, IsLeft, are_within};
+ghost use Rattle.mal_watch.specs.Finding.{pending};
 ghost use Rattle.mal_watch.specs.Fitting.{room_in, Fits};
 ghost use Rattle.mal_watch.specs.FollowLaws.{follows-push, follows-cut, follows-less};
 
 use crate::chains::Chains;
+use crate::found::Found;
 use crate::rows::Rows;
-use crate::{batch, pair, walk};
+use crate::{batch, found, pair, walk};
 use mal_base::{Clause, ClauseId, ClauseView, Lit};
 use mal_store::Store;
 use mal_trail::{Engine, Listed, Trail};
@@ -25,7 +27,7 @@ pub struct Watch {
     store: Store,
     rows: Rows,
     chains: Chains,
-    found: Vec<ClauseId>,
+    found: Vec<Found>,
 }
 
 impl Watch {
@@ -50,13 +52,13 @@ impl Watch {
         self.chains.add(second);
     }
 
-    /// Finds the clauses of two or more literals that are in the batch of the first entries of the trail, so many, by
-    /// rising number. Takes no memory.
+    /// Finds what is pending of the batch of the first entries of the trail, so many: its clauses whose literal left is not
+    /// true, by rising number. Takes no memory.
     fn find(&mut self, trail: &Trail, count: usize)
         requires some { 1 ≤ count }
         requires count { count ≤ length trail.now.entries }
         requires fits { Fits self.old trail.now.entries count }
-        ensures found { self.new.found.items ≡ map (λ c. c.id) (batch (take count trail.now.entries) self.old.store.clauses) }
+        ensures found { self.new.found.items ≡ pending (take count trail.now.entries) trail.now.entries self.old.store.clauses }
         ensures store { self.new.store ≡ self.old.store }
         ensures rows { self.new.rows ≡ self.old.rows }
         ensures lists { self.new.chains.lists ≡ self.old.chains.lists }
@@ -71,8 +73,15 @@ impl Watch {
             return;
         }
         self.chains.take(lit);
-        walk::walk(&mut self.chains, &mut self.found, &self.rows, trail, count);
-        self.found.sort_unstable();
+        walk::walk(
+            &mut self.chains,
+            &mut self.found,
+            &mut self.rows,
+            trail,
+            count,
+            lit,
+        );
+        found::sort(&mut self.found);
     }
 
     /// Handles the next batch, which does not count as handled yet. The result is the conflict. Takes no memory.
@@ -96,7 +105,7 @@ impl Watch {
             return batch::handle_short(trail, &self.store);
         }
         self.find(trail, count);
-        batch::handle(trail, count, self.found.as_slice(), &self.store)
+        batch::handle(trail, self.found.as_slice())
     }
 }
 

@@ -1,14 +1,16 @@
-use Rattle.std.proofs.Common.{◌≡◌, ◌≤◌, ◌+◌, length, take, vec_len, vec_capacity}
-use Rattle.mal_watch.specs.Watching.{IsWatching, walked}
+use Rattle.std.proofs.Common.{◌≡◌, ◌≤◌, ◌+◌, ◌++◌, length, take, vec_len, vec_capacity}
+use Rattle.mal_watch.specs.Going.{Goes}
+use Rattle.mal_watch.specs.Finding.{found_in}
 use Rattle.mal_watch.proofs.walk.walk.Given as goal
 
 abbrev pub invariant-loop-node : goal.invariant-loop-node
 invariant-loop-node l =
     let prefix = take l.count l.trail.entries in
     record {
-      walk : walked prefix l.rows.clauses (record { keys = l.chains.keys; found = l.found.items }) l.chains.out ≡ walked prefix l.rows.clauses (record { keys = l.fn.chains.keys; found = l.fn.found.items }) l.fn.chains.out;
-      watching : IsWatching l.chains.lists l.rows.clauses l.chains.keys;
+      goes : Goes l.trail.entries l.count l.lit l.chains.lists l.fn.rows.clauses l.chains.keys l.chains.out;
+      found : l.found.items ++ found_in prefix l.trail.entries l.fn.rows.clauses l.chains.out ≡ l.fn.found.items ++ found_in prefix l.trail.entries l.fn.rows.clauses l.fn.chains.out;
       room : vec_len l.found + length l.chains.out ≤ vec_capacity l.found;
+      rows : l.rows ≡ l.fn.rows;
       lists : l.chains.lists ≡ l.fn.chains.lists;
       chains_room : l.chains.room ≡ l.fn.chains.room;
       capacity : vec_capacity l.found ≡ vec_capacity l.fn.found;

@@ -1,11 +1,13 @@
 use Rattle.std.proofs.Common.{◌≡◌, ◌≤◌, ◌-◌, ◌↔◌, ℕ, [], length, take, get_or, true, false, vec_capacity, sym, ◌∙◌, arith}
+use Rattle.std.specs.List.Sorted.{IsPermutation}
 use Rattle.mal_base.specs.Literals.{negated}
 use Rattle.spec_node.specs.Value.{is_false}
 use Rattle.mal_watch.specs.Chains.{Has, IsAt}
-use Rattle.mal_watch.specs.Watching.{walked}
+use Rattle.mal_watch.specs.Going.{Goes}
+use Rattle.mal_watch.specs.Finding.{found_in}
 use Rattle.mal_watch.proofs.TurnLemmas.{turns-is}
 use Rattle.mal_watch.proofs.FoundLemmas.{out-length}
-use Rattle.mal_watch.proofs.FollowLemmas.{after-walk, no-walk}
+use Rattle.mal_watch.proofs.FollowLemmas.{before-walk, after-walk, no-walk}
 use Rattle.mal_watch.proofs.watch.Watch.find.Goals as goal
 
 pub returns-then-is_false_before-clause-found : goal.returns-then-is_false_before-clause-found
@@ -26,6 +28,27 @@ returns-then-is_false_before-clause-fits c =
     let was : is_false (take (c.args.count - 1) entries) (negated last.lit) ≡ true = rw (← c.negate-lit.ensures) (sym c.is_false_before.ensures ∙ c.if-is_false_before.true) in
     rw c.clear.ensures.capacity (no-walk s.store.clauses s.rows.clauses s.chains.keys s.chains.lists _ entries c.args.count last s.chains.out c.requires.some c.requires.count is was c.requires.fits).0
 
+pub walk-requires-clause-turns : goal.walk-requires-clause-turns
+walk-requires-clause-turns c =
+    let s = c.args.self.now in
+    let entries = c.args.trail.now.entries in
+    let last = c.index-entries-count.result in
+    let is : last ≡ get_or entries (c.args.count - 1) last = rw c.entries.ensures at c.index-entries-count.is in
+    let fresh : is_false (take (c.args.count - 1) entries) (negated last.lit) ≡ false = rw (← c.negate-lit.ensures) (sym c.is_false_before.ensures ∙ c.if-is_false_before.false) in
+    let turns = turns-is entries c.args.count last c.requires.some c.requires.count is fresh in
+    rw c.negate-lit.ensures turns
+
+pub walk-requires-clause-goes : goal.walk-requires-clause-goes
+walk-requires-clause-goes c =
+    let s = c.args.self.now in
+    let entries = c.args.trail.now.entries in
+    let last = c.index-entries-count.result in
+    let is : last ≡ get_or entries (c.args.count - 1) last = rw c.entries.ensures at c.index-entries-count.is in
+    let fresh : is_false (take (c.args.count - 1) entries) (negated last.lit) ≡ false = rw (← c.negate-lit.ensures) (sym c.is_false_before.ensures ∙ c.if-is_false_before.false) in
+    let turns = turns-is entries c.args.count last c.requires.some c.requires.count is fresh in
+    let nodes : (k : ℕ) → Has c.take.new.self.out k ↔ IsAt s.chains.keys k (negated last.lit) = rw (c.take.ensures.keys, c.negate-lit.ensures) at c.take.ensures.nodes in
+    rw (c.negate-lit.ensures, c.take.ensures.lists, c.take.ensures.keys) (before-walk s.store.clauses s.rows.clauses s.chains.keys c.take.new.self.out s.chains.out s.chains.lists _ entries c.args.count (negated last.lit) c.requires.fits turns nodes c.take.ensures.once)
+
 pub walk-requires-clause-room : goal.walk-requires-clause-room
 walk-requires-clause-room c =
     let s = c.args.self.now in
@@ -43,8 +66,10 @@ returns-clause-found c =
     let fresh : is_false (take (c.args.count - 1) entries) (negated last.lit) ≡ false = rw (← c.negate-lit.ensures) (sym c.is_false_before.ensures ∙ c.if-is_false_before.false) in
     let turns = turns-is entries c.args.count last c.requires.some c.requires.count is fresh in
     let nodes : (k : ℕ) → Has c.take.new.self.out k ↔ IsAt s.chains.keys k (negated last.lit) = rw (c.take.ensures.keys, c.negate-lit.ensures) at c.take.ensures.nodes in
-    let walk : walked (take c.args.count entries) s.rows.clauses (record { keys = s.chains.keys; found = [] }) c.take.new.self.out ≡ record { keys = c.walk.new.chains.keys; found = c.walk.new.found.items } = rw (c.take.ensures.keys, c.clear.ensures.items) at c.walk.ensures.walk in
-    (after-walk s.store.clauses s.rows.clauses s.chains.keys c.take.new.self.out s.chains.out c.walk.new.chains.keys c.walk.new.found.items c.sort_unstable.new.self.items s.chains.lists _ entries c.args.count (negated last.lit) c.requires.fits turns nodes c.take.ensures.once walk c.sort_unstable.ensures.permutation c.sort_unstable.ensures.sorted).numbers
+    let goes : Goes entries c.args.count (negated last.lit) s.chains.lists s.rows.clauses c.walk.new.chains.keys [] = rw (c.walk.ensures.lists, c.take.ensures.lists, c.negate-lit.ensures) at c.walk.ensures.goes in
+    let moved : IsPermutation (found_in (take c.args.count entries) entries s.rows.clauses c.take.new.self.out) c.sort.new.found.items = rw (c.walk.ensures.found, c.clear.ensures.items) at c.sort.ensures.same in
+    let found = after-walk s.store.clauses s.rows.clauses s.chains.keys c.take.new.self.out s.chains.out c.walk.new.chains.keys c.sort.new.found.items s.chains.lists _ entries c.args.count (negated last.lit) c.requires.fits turns nodes c.take.ensures.once goes moved c.sort.ensures.order in
+    found.found_is
 
 pub returns-clause-fits : goal.returns-clause-fits
 returns-clause-fits c =
@@ -55,6 +80,8 @@ returns-clause-fits c =
     let fresh : is_false (take (c.args.count - 1) entries) (negated last.lit) ≡ false = rw (← c.negate-lit.ensures) (sym c.is_false_before.ensures ∙ c.if-is_false_before.false) in
     let turns = turns-is entries c.args.count last c.requires.some c.requires.count is fresh in
     let nodes : (k : ℕ) → Has c.take.new.self.out k ↔ IsAt s.chains.keys k (negated last.lit) = rw (c.take.ensures.keys, c.negate-lit.ensures) at c.take.ensures.nodes in
-    let walk : walked (take c.args.count entries) s.rows.clauses (record { keys = s.chains.keys; found = [] }) c.take.new.self.out ≡ record { keys = c.walk.new.chains.keys; found = c.walk.new.found.items } = rw (c.take.ensures.keys, c.clear.ensures.items) at c.walk.ensures.walk in
-    let capacity : vec_capacity c.sort_unstable.new.self ≡ vec_capacity s.found = c.sort_unstable.ensures.capacity ∙ (c.walk.ensures.capacity ∙ c.clear.ensures.capacity) in
-    rw (c.walk.ensures.out, c.walk.ensures.lists, c.take.ensures.lists, capacity) (after-walk s.store.clauses s.rows.clauses s.chains.keys c.take.new.self.out s.chains.out c.walk.new.chains.keys c.walk.new.found.items c.sort_unstable.new.self.items s.chains.lists _ entries c.args.count (negated last.lit) c.requires.fits turns nodes c.take.ensures.once walk c.sort_unstable.ensures.permutation c.sort_unstable.ensures.sorted).follows
+    let goes : Goes entries c.args.count (negated last.lit) s.chains.lists s.rows.clauses c.walk.new.chains.keys [] = rw (c.walk.ensures.lists, c.take.ensures.lists, c.negate-lit.ensures) at c.walk.ensures.goes in
+    let moved : IsPermutation (found_in (take c.args.count entries) entries s.rows.clauses c.take.new.self.out) c.sort.new.found.items = rw (c.walk.ensures.found, c.clear.ensures.items) at c.sort.ensures.same in
+    let found = after-walk s.store.clauses s.rows.clauses s.chains.keys c.take.new.self.out s.chains.out c.walk.new.chains.keys c.sort.new.found.items s.chains.lists _ entries c.args.count (negated last.lit) c.requires.fits turns nodes c.take.ensures.once goes moved c.sort.ensures.order in
+    let capacity : vec_capacity c.sort.new.found ≡ vec_capacity s.found = c.sort.ensures.capacity ∙ (c.walk.ensures.capacity ∙ c.clear.ensures.capacity) in
+    rw (c.walk.ensures.out, c.walk.ensures.rows, c.walk.ensures.lists, c.take.ensures.lists, capacity) found.follows
