@@ -605,6 +605,13 @@ impl<E: Listed> Node<E> {
         Ok(())
     }
 
+    /// The number of clauses held.
+    pub fn clause_count(&self) -> usize
+        ensures { result ≡ length self.now.state.clauses }
+    {
+        self.engine.count()
+    }
+
     /// The image of this node, whose state is in form, as that of each sound node of a serial below 2^57 is.
     pub fn image(&self) -> Result<Image, AllocError>
         requires { IsImage self.now.state }

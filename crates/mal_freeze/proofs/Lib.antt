@@ -2,3 +2,9 @@ pub mod ListLemmas
 pub mod OrderLemmas
 pub mod FollowLemmas
 pub mod SoundLemmas
+pub mod ManyLemmas
+pub mod TestLemmas
+pub mod FieldLemmas
+pub mod BeginsLemmas
+pub mod AgainLemmas
+pub mod CanonicalLemmas

@@ -66,3 +66,15 @@ pub record IsImage (n : Node) : Type 0 where
   pub clauses : are_clauses n.variables n.clauses ≡ true
   -- from at least 1
   pub numbers : numbers_rise 0 n.clauses ≡ true
+
+-- the same ranges and lengths, as a test
+abbrev pub has_ranges : Node → Bool
+has_ranges n = (nat_le n.index 63 && (nat_le n.variables 65536 && (nat_lt n.serial (2 ^ 57) && nat_le 1 n.round))) && (nat_le n.processed (length n.trail + 1) && (length n.phases == n.variables))
+
+-- the lists are in order
+abbrev pub has_order : Node → Bool
+has_order n = (are_literals n.variables n.assumptions && is_order n.variables n.order) && (all_follow n.variables [] n.trail && (are_clauses n.variables n.clauses && numbers_rise 0 n.clauses))
+
+-- an image is in form, as a test
+abbrev pub is_image : Node → Bool
+is_image n = has_ranges n && has_order n

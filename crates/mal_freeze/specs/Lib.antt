@@ -2,3 +2,8 @@ pub mod Parted
 pub mod Imaged
 pub mod Trailing
 pub mod Laws
+pub mod Spelling
+pub mod Widths
+pub mod Fields
+pub mod Reading
+pub mod Holding

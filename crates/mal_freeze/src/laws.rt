@@ -1,8 +1,23 @@
 //! What is known of images, as the contract of a function without a body.
 
-ghost use Rattle.mal_freeze.specs.Laws.{SoundHasImage};
+ghost use Rattle.mal_freeze.specs.Laws.{SoundHasImage, ReadIsSpelled, SpelledIsRead, FreshBytes};
 
 /// A sound node of a serial below 2^57 is in the form of an image.
 pub fn sound_has_image()
     ensures { SoundHasImage }
+{}
+
+/// What is read of bytes was spelled so.
+pub fn read_is_spelled()
+    ensures { ReadIsSpelled }
+{}
+
+/// What is spelled of an image is read again.
+pub fn spelled_is_read()
+    ensures { SpelledIsRead }
+{}
+
+/// The 65 bytes of the node of index 0 at its first start.
+pub fn fresh_bytes()
+    ensures { FreshBytes }
 {}

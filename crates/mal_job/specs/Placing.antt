@@ -5,24 +5,27 @@ use Rattle.spec_job.specs.Leased.{Finished}
 use Rattle.spec_job.specs.Solo.{Lease}
 use Rattle.spec_job.specs.Viewed.{IsGrownBy}
 use Rattle.mal_job.specs.declared.place.Seat.{Seat}
-use Rattle.mal_job.specs.declared.place.Seat.TheVariants.{Home, Gone, Out}
+use Rattle.mal_job.specs.declared.place.Seat.TheVariants.{Home, Cold, Gone, Out}
 use Rattle.mal_job.specs.Viewed.{PlaceView, TreeView}
 
 -- the start that is out of a place with these entries
 abbrev pub out_of : List JournalEntry → Seat → Option Lease
 out_of entries (Home s) = None
+out_of entries (Cold s) = None
 out_of entries Gone = None
 out_of entries (Out revision grown) = Some (record { revision = revision; adds = drop (length entries) grown.entries })
 
--- what stands at a place with this journal: its node, nothing, or the journal that the start will leave, where it runs
+-- what stands at a place with this journal: its node, live or as bytes, nothing, or the journal that the start will leave, where it runs
 abbrev pub IsSeated : Journaled → Seat → Type 0
 IsSeated j (Home s) = s ≡ j
+IsSeated j (Cold s) = s ≡ j
 IsSeated j Gone = Unit {0}
 IsSeated j (Out revision grown) = grown ≡ and_entries j (drop (length j.entries) grown.entries)
 
 -- the seat of what is kept of a node with this journal: none is out
 abbrev pub IsSeatOf : Journaled → Seat → Type 0
 IsSeatOf j (Home s) = s ≡ j
+IsSeatOf j (Cold s) = s ≡ j
 IsSeatOf j Gone = Unit {0}
 IsSeatOf j (Out revision grown) = ⊥
 

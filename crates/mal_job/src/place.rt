@@ -11,17 +11,18 @@ ghost use Rattle.mal_job.specs.Placing.{fresh_place, sent, ran_home, came_home, 
 use mal_base::Outcome;
 use mal_buffer::Buffer;
 use mal_revision::Revision;
-use mal_suspend::{Done, Journal, Kept, Lease, Suspended};
+use mal_suspend::{Done, Frozen, Journal, Kept, Lease, Suspended};
 use std::alloc::{AllocError, Global};
 use std::marker::Model;
 use std::mem;
 use std::sync::Arc;
 
-/// What stands at a place: the node with its journal; nothing, where the node is gone, or was never started; or, where the node
+/// What stands at a place: the node with its journal; its bytes with its journal; nothing, where the node is gone, or was never started; or, where the node
 /// is out, the revision that it was started for and the journal that it has once its slice ran.
 #[derive(Drop)]
 pub enum Seat {
     Home(Suspended),
+    Cold(Frozen),
     Gone,
     Out(usize, Journal),
 }
@@ -78,6 +79,7 @@ impl Place {
     {
         match &self.seat {
             Seat::Home(_) => false,
+            Seat::Cold(_) => false,
             Seat::Gone => false,
             Seat::Out(_, _) => true,
         }
@@ -89,6 +91,7 @@ impl Place {
     {
         match &self.seat {
             Seat::Home(_) => None,
+            Seat::Cold(_) => None,
             Seat::Gone => None,
             Seat::Out(revision, _) => Some(*revision),
         }
@@ -166,6 +169,7 @@ impl Place {
     {
         match mem::replace(&mut self.seat, Seat::Gone) {
             Seat::Home(suspended) => Ok(Kept::Live(suspended)),
+            Seat::Cold(frozen) => Ok(Kept::Cold(frozen)),
             Seat::Gone => Ok(Kept::Gone(self.journal.copy()?)),
             Seat::Out(_, _) => unreachable!(),
         }
@@ -177,6 +181,7 @@ impl Place {
     {
         match &self.seat {
             Seat::Home(_) => false,
+            Seat::Cold(_) => false,
             Seat::Gone => false,
             Seat::Out(_, grown) => match back.outcome() {
                 Outcome::Ran => grown.same(back.journal()),
@@ -194,6 +199,7 @@ impl Place {
     {
         match mem::replace(&mut self.seat, seat_of(kept)) {
             Seat::Home(_) => {}
+            Seat::Cold(_) => {}
             Seat::Gone => {}
             Seat::Out(_, grown) => self.journal = grown,
         }
@@ -221,6 +227,7 @@ fn seat_of(kept: Kept) -> Seat
 {
     match kept {
         Kept::Live(suspended) => Seat::Home(suspended),
+        Kept::Cold(frozen) => Seat::Cold(frozen),
         Kept::Gone(_) => Seat::Gone,
     }
 }

@@ -2,3 +2,4 @@ pub mod ReplayLemmas
 pub mod StartLemmas
 mod EntryLemmas
 mod FirstLemmas
+pub mod FormLemmas

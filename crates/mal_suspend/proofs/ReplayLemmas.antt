@@ -1,10 +1,13 @@
 -- Entries that may be replayed.
-use Rattle.std.proofs.Common.{◌≡◌, ℕ, List, [], ◌∷◌, ◌++◌, fold, refl, ◌∙◌, ap}
+use Rattle.std.proofs.Common.{◌≡◌, ℕ, List, [], ◌∷◌, ◌++◌, fold, refl, sym, ◌∙◌, ap, append_assoc, inl, inr}
 use Rattle.std.proofs.lemmas.List.Sums.{fold-append}
 use Rattle.spec_search.specs.Slice.{Sliced}
 use Rattle.spec_search.proofs.ModelLemmas.{slice-leaves}
 use Rattle.spec_job.specs.Journal.{JournalEntry, Load, Import, Run, after_entry, replay}
-use Rattle.mal_suspend.specs.Replaying.{alone, after_entries, MayAllReplay, IsJournal, variables_with, variables_after}
+use Rattle.mal_base.specs.Held.{Held}
+use Rattle.mal_revision.specs.Posted.{Posted}
+use Rattle.mal_suspend.specs.Replaying.{alone, after_entries, MayAllReplay, AreAtRest, IsJournal, variables_with, variables_after}
+use Rattle.mal_suspend.specs.Starting.{load_entries, import_entries, start_entries}
 
 -- a front of entries may be replayed
 pub may-front : (s : Sliced) (es fs : List JournalEntry) → MayAllReplay s (es ++ fs) → MayAllReplay s es
@@ -36,8 +39,15 @@ pub after-more_alone : (s : Sliced) (e : JournalEntry) (es : List JournalEntry) 
 after-more_alone s e es = ap (λ (t : Sliced). fold after_entry t es) (after-alone s e)
 
 -- a journal with entries that may be replayed after it is one
-pub journal-grows : (i : ℕ) (es fs : List JournalEntry) → IsJournal i es → MayAllReplay (replay i es) fs → IsJournal i (es ++ fs)
-journal-grows i es fs h k = record { place = h.place; replays = may-append (replay i []) es fs h.replays k }
+pub journal-grows : (i : ℕ) (es fs : List JournalEntry) → IsJournal i es → MayAllReplay (replay i es) fs → AreAtRest (es ++ fs) → IsJournal i (es ++ fs)
+journal-grows i es fs h k r = record { place = h.place; replays = may-append (replay i []) es fs h.replays k; rest = r }
+
+-- a journal is at rest after what a start adds
+pub start-rests : (es : List JournalEntry) (loads : List (Posted × ℕ)) (tolds : List (List Held)) → AreAtRest (es ++ start_entries loads tolds)
+start-rests es loads tolds =
+    let inner : load_entries loads ++ (import_entries tolds ++ Run ∷ []) ≡ (load_entries loads ++ import_entries tolds) ++ Run ∷ [] = sym (append_assoc (load_entries loads) (import_entries tolds) (Run ∷ [])) in
+    let outer : es ++ ((load_entries loads ++ import_entries tolds) ++ Run ∷ []) ≡ (es ++ (load_entries loads ++ import_entries tolds)) ++ Run ∷ [] = sym (append_assoc es (load_entries loads ++ import_entries tolds) (Run ∷ [])) in
+    inr (es ++ (load_entries loads ++ import_entries tolds), ap (λ (xs : List JournalEntry). es ++ xs) inner ∙ outer)
 
 -- the entries that a journal got may be replayed after it
 pub journal-behind : (i : ℕ) (es fs : List JournalEntry) → IsJournal i (es ++ fs) → MayAllReplay (replay i es) fs

@@ -2,3 +2,4 @@ pub mod Replaying
 pub mod Entries
 pub mod Starting
 pub mod Kept
+pub mod Freezing

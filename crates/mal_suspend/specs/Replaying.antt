@@ -1,4 +1,4 @@
-use Rattle.std.specs.Prelude.{ℕ, ◌≤◌, max, fold, List, [], ◌∷◌}
+use Rattle.std.specs.Prelude.{◌≡◌, ℕ, ◌≤◌, ◌⊎◌, max, fold, List, [], ◌∷◌, ◌++◌}
 use Rattle.spec_node.specs.State.{Node}
 use Rattle.spec_search.specs.Slice.{Sliced}
 use Rattle.spec_job.specs.Journal.{JournalEntry, Load, Import, Run, after_entry, replay}
@@ -29,11 +29,16 @@ abbrev pub MayAllReplay : Sliced → List JournalEntry → Type 0
 MayAllReplay s [] = Unit {0}
 MayAllReplay s (e ∷ es) = MayReplay e s.node × MayAllReplay (after_entry s e) es
 
--- what the entries of a node's journal keep: a node of a job has this index, and each entry may be replayed behind those
--- before it
+-- entries between two starts: the last, if there is one, is a slice
+abbrev pub AreAtRest : List JournalEntry → Type 0
+AreAtRest entries = (entries ≡ []) ⊎ ((before : List JournalEntry) × (entries ≡ before ++ Run ∷ []))
+
+-- what the entries of a node's journal keep: a node of a job has this index, each entry may be replayed behind those before
+-- it, and they are those between two starts
 pub record IsJournal (index : ℕ) (entries : List JournalEntry) : Type 0 where
   pub place : index ≤ 63
   pub replays : MayAllReplay (replay index []) entries
+  pub rest : AreAtRest entries
 
 -- the greatest number of variables after an entry, where this was the greatest before
 abbrev pub variables_with : ℕ → JournalEntry → ℕ

@@ -149,6 +149,20 @@ impl Done {
         self.values.as_slice()
     }
 
+    /// The same, with the node frozen where that is cheap and memory for it is there.
+    pub fn cooled(self) -> Done
+        ensures { result ≡ self }
+    {
+        Done {
+            worker: self.worker,
+            outcome: self.outcome,
+            kept: self.kept.cooled(),
+            lines: self.lines,
+            verdict: self.verdict,
+            values: self.values,
+        }
+    }
+
     /// Gives away what is kept of the node.
     pub fn into_kept(self) -> Kept
         ensures journal { journal_of result ≡ self.journal }

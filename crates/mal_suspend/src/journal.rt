@@ -107,7 +107,9 @@ impl Journal {
     }
 
     /// The allocator that the journal takes memory from.
-    pub fn allocator(&self) -> Global {
+    pub fn allocator(&self) -> Global
+        ensures { IsJournal self.now.index self.now.entries }
+    {
         *self.entries.allocator()
     }
 

@@ -1,18 +1,24 @@
 //! What is kept of a node.
 
-ghost use Rattle.std.specs.Prelude.{◌≡◌, true, IfOk, IfErr};
+ghost use Rattle.std.specs.Prelude.{◌≡◌, true, false, IfOk, IfErr};
 ghost use Rattle.spec_job.specs.Journaled.{started};
-ghost use Rattle.mal_suspend.specs.Kept.{journal_of, is_gone};
+ghost use Rattle.mal_suspend.specs.Kept.{journal_of, is_gone, IsSmall};
 
+use crate::frozen::Frozen;
 use crate::journal::Journal;
 use crate::rebuilding::replay;
-use crate::suspended::Suspended;
+use crate::suspended::{Solver, Suspended};
 use mal_learn::Scratch;
 
-/// What is kept of a node: the node with its journal, or its journal alone, since it never came back.
+/// The greatest length of an image of which the node is kept frozen between two starts.
+pub const FROZEN_BYTES: usize = 1 << 14;
+
+/// What is kept of a node: the node with its journal, its bytes with its journal, or its journal alone, since it never came
+/// back.
 #[derive(Drop)]
 pub enum Kept {
     Live(Suspended),
+    Cold(Frozen),
     Gone(Journal),
 }
 
@@ -23,6 +29,7 @@ impl Kept {
     {
         match self {
             Kept::Live(suspended) => suspended.journal(),
+            Kept::Cold(frozen) => frozen.journal(),
             Kept::Gone(journal) => journal,
         }
     }
@@ -33,6 +40,7 @@ impl Kept {
     {
         match self {
             Kept::Live(_) => false,
+            Kept::Cold(_) => false,
             Kept::Gone(_) => true,
         }
     }
@@ -47,6 +55,10 @@ impl Kept {
                 suspended.set_start(start);
                 Kept::Live(suspended)
             }
+            Kept::Cold(mut frozen) => {
+                frozen.set_start(start);
+                Kept::Cold(frozen)
+            }
             Kept::Gone(mut journal) => {
                 journal.set_start(start);
                 Kept::Gone(journal)
@@ -54,18 +66,54 @@ impl Kept {
         }
     }
 
-    /// The node with its journal; one that is gone is rebuilt. Where memory for that is wanting, gives the journal back.
-    pub fn wake(self, scratch: &mut Scratch) -> Result<Suspended, Journal>
+    /// The node with its journal; one that is frozen is thawed, and one that is gone is rebuilt. Where memory for that is
+    /// wanting, gives back what was kept, as it was.
+    pub fn wake(self, scratch: &mut Scratch) -> Result<Suspended, Kept>
         ensures live { IfOk result (λ s. s ≡ journal_of self) }
-        ensures wanting { IfErr result (λ j. j ≡ journal_of self) }
-        ensures gone { IfErr result (λ _. is_gone self ≡ true) }
+        ensures wanting { IfErr result (λ k. k ≡ self) }
     {
         match self {
             Kept::Live(suspended) => Ok(suspended),
+            Kept::Cold(frozen) => match frozen.thaw() {
+                Ok(suspended) => Ok(suspended),
+                Err((frozen, _)) => Err(Kept::Cold(frozen)),
+            },
             Kept::Gone(journal) => match replay(&journal, scratch) {
                 Ok(node) => Ok(Suspended::of(node, journal)),
-                Err(_) => Err(journal),
+                Err(_) => Err(Kept::Gone(journal)),
             },
         }
     }
+
+    /// The same, frozen where the node is live, its image is no longer than `FROZEN_BYTES`, and memory for it is there.
+    pub fn cooled(self) -> Kept
+        ensures journal { journal_of result ≡ journal_of self }
+        ensures gone { is_gone result ≡ is_gone self }
+    {
+        match self {
+            Kept::Live(suspended) => cool(suspended),
+            Kept::Cold(frozen) => Kept::Cold(frozen),
+            Kept::Gone(journal) => Kept::Gone(journal),
+        }
+    }
+}
+
+/// A node with its journal, frozen where its image is no longer than `FROZEN_BYTES` and memory for it is there.
+fn cool(suspended: Suspended) -> Kept
+    ensures journal { journal_of result ≡ suspended }
+    ensures there { is_gone result ≡ false }
+    ensures small { IsSmall result }
+{
+    if is_large(suspended.node()) {
+        return Kept::Live(suspended);
+    }
+    match suspended.freeze_within(FROZEN_BYTES) {
+        Err(suspended) => Kept::Live(suspended),
+        Ok(frozen) => Kept::Cold(frozen),
+    }
+}
+
+/// Whether the image of a node is surely longer than `FROZEN_BYTES`.
+fn is_large(node: &Solver) -> bool {
+    node.variables() as usize > FROZEN_BYTES / 5 || node.clause_count() > FROZEN_BYTES / 12
 }

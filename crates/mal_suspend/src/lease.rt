@@ -1,6 +1,7 @@
 //! Leases of nodes.
 
 ghost use Rattle.std.specs.Prelude.{◌≡◌, IfOk, IfErr};
+ghost use Rattle.mal_base.specs.declared.verdict.Outcome.TheVariants.{Starved};
 ghost use Rattle.spec_job.specs.Journaled.{replayed, started};
 ghost use Rattle.mal_suspend.specs.Kept.{journal_of, is_gone};
 ghost use Rattle.spec_job.specs.Leased.{Becomes, Tells};
@@ -94,16 +95,26 @@ impl Lease {
         self.kept.journal()
     }
 
-    /// Works the lease off: rebuilds a node that is gone, loads, imports and runs a slice. It is never refused; where memory is
-    /// wanting, the journal and the node are as before the start.
+    /// Works the lease off: thaws a node that is frozen and rebuilds one that is gone, loads, imports and runs a slice, and
+    /// freezes the node where that is cheap. It is never refused; where memory is wanting, the journal and the node are as before
+    /// the start.
     pub fn work(self, scratch: &mut Scratch) -> Done
         ensures worker { result.worker ≡ self.worker }
         ensures becomes { Becomes result.outcome self result }
         ensures tells { Tells result.outcome result }
     {
         match self.kept.wake(scratch) {
-            Err(journal) => Done::starved(self.worker, Kept::Gone(journal)),
-            Ok(suspended) => self.start.run(suspended, self.worker, scratch),
+            Err(kept) => Done::starved(self.worker, kept),
+            Ok(suspended) => self.start.run(suspended, self.worker, scratch).cooled(),
         }
+    }
+
+    /// Gives the lease back as one whose start wanted for memory: the journal and the node are as before it. Takes no memory.
+    pub fn starved(self) -> Done
+        ensures worker { result.worker ≡ self.worker }
+        ensures outcome { result.outcome ≡ Starved }
+        ensures becomes { Becomes Starved self result }
+    {
+        Done::starved(self.worker, self.kept)
     }
 }

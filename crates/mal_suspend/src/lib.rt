@@ -1,8 +1,10 @@
-//! Nodes that are handed out and come back: journals, leases, and nodes that are rebuilt from their journals.
+//! Nodes that are handed out and come back: journals, leases, nodes that are kept as bytes, and nodes
+//! that are rebuilt from their journals.
 #![tactic(auto)]
 
 mod done;
 mod entry;
+mod frozen;
 mod journal;
 mod kept;
 mod lease;
@@ -15,8 +17,9 @@ mod tests;
 
 pub use done::Done;
 pub use entry::Entry;
+pub use frozen::Frozen;
 pub use journal::Journal;
-pub use kept::Kept;
+pub use kept::{FROZEN_BYTES, Kept};
 pub use lease::Lease;
 pub use rebuilding::rebuild;
 pub use suspended::{Solver, Suspended};

@@ -1,12 +1,16 @@
 //! A node with its journal.
 
-ghost use Rattle.std.specs.Prelude.{◌≡◌, ◌≤◌, []};
+ghost use Rattle.std.specs.Prelude.{◌≡◌, ◌≤◌, [], length, IfOk, IfErr};
+ghost use Rattle.mal_freeze.specs.Spelling.{image_bytes};
 ghost use Rattle.spec_job.specs.Journaled.{node_of, started};
+ghost use Rattle.mal_suspend.specs.Freezing.{IsFrozen};
 
+use crate::frozen::Frozen;
 use crate::journal::Journal;
 use mal_cdcl::Node;
+use mal_freeze::freeze;
 use mal_watch::Watch;
-use std::alloc::Global;
+use std::alloc::{AllocError, Global};
 use std::marker::Model;
 
 /// The nodes that are handed out, over the engine with two watched literals a clause.
@@ -77,5 +81,44 @@ impl Suspended {
         ensures { self.new ≡ started start self.old }
     {
         self.journal.set_start(start);
+    }
+
+    /// The bytes of the node, with its journal. After want of memory gives the node and its journal back, as they were.
+    pub fn freeze(self) -> Result<Frozen, (Suspended, AllocError)>
+        ensures frozen { IfOk result (λ f. f ≡ self) }
+        ensures refused { IfErr result (λ e. e.0 ≡ self) }
+    {
+        match self.bytes() {
+            Err(error) => Err((self, error)),
+            Ok(bytes) => Ok(Frozen::of(bytes, self.journal)),
+        }
+    }
+
+    /// The bytes of the node, with its journal, where they are no more than these and memory for them is there. Else gives the
+    /// node and its journal back, as they were.
+    pub fn freeze_within(self, most: usize) -> Result<Frozen, Suspended>
+        ensures frozen { IfOk result (λ f. f ≡ self) }
+        ensures short { IfOk result (λ f. length (image_bytes (node_of f)) ≤ most) }
+        ensures kept { IfErr result (λ s. s ≡ self) }
+    {
+        match self.bytes() {
+            Err(_) => Err(self),
+            Ok(bytes) => {
+                if bytes.len() > most {
+                    return Err(self);
+                }
+                Ok(Frozen::of(bytes, self.journal))
+            }
+        }
+    }
+
+    /// The bytes of the image of the node.
+    fn bytes(&self) -> Result<Vec<u8>, AllocError>
+        ensures { IfOk result (λ v. IsFrozen v.items self.now) }
+    {
+        let alloc = self.journal.allocator();
+        let image = self.node.image()?;
+        let bytes = freeze(alloc, &image)?;
+        Ok(bytes)
     }
 }

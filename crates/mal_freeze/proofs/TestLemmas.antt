@@ -1,0 +1,84 @@
+-- The form of an image, as a test and as what it says.
+use Rattle.std.proofs.Common.{◌≡◌, ℕ, ◌+◌, ◌<◌, ◌≤◌, ◌^◌, Bool, true, false, ◌&&◌, eqb, nat_lt, nat_le, List, [], ◌∷◌, length, refl, sym, ◌∙◌, arith}
+use Rattle.std.specs.List.{list_all}
+use Rattle.std.proofs.lemmas.Bool.{false≢true, and_parts, and_from, false_from_ne_true}
+use Rattle.std.proofs.lemmas.Bool.Decides.{nat_tests}
+use Rattle.mal_base.specs.Clauses.{rises}
+use Rattle.mal_base.specs.Formulas.{is_within}
+use Rattle.mal_base.specs.Held.{Held}
+use Rattle.spec_node.specs.State.{Node}
+use Rattle.mal_freeze.specs.Imaged.{IsImage, HasRanges, is_image, has_ranges, has_order, are_literals, is_order, all_follow, are_clauses, numbers_rise}
+use Rattle.mal_freeze.specs.Holding.{can_hold}
+
+pub le_is : (a b : ℕ) → nat_le a b ≡ true → a ≤ b
+le_is a b = grind (arith, nat_tests)
+
+pub lt_is : (a b : ℕ) → nat_lt a b ≡ true → a < b
+lt_is a b = grind (arith, nat_tests)
+
+pub eqb_is : (a b : ℕ) → eqb a b ≡ true → a ≡ b
+eqb_is a b = grind (arith, nat_tests)
+
+pub is_le : (a b : ℕ) → a ≤ b → nat_le a b ≡ true
+is_le a b = grind (arith, nat_tests)
+
+pub is_lt : (a b : ℕ) → a < b → nat_lt a b ≡ true
+is_lt a b = grind (arith, nat_tests)
+
+pub is_eqb : (a b : ℕ) → a ≡ b → eqb a b ≡ true
+is_eqb a b = grind (arith, nat_tests)
+
+ranges-are : (n : Node) → has_ranges n ≡ true → HasRanges n
+ranges-are n h =
+    let a = and_parts (nat_le n.index 63 && (nat_le n.variables 65536 && (nat_lt n.serial (2 ^ 57) && nat_le 1 n.round))) (nat_le n.processed (length n.trail + 1) && eqb (length n.phases) n.variables) h in
+    let b = and_parts (nat_le n.index 63) (nat_le n.variables 65536 && (nat_lt n.serial (2 ^ 57) && nat_le 1 n.round)) a.0 in
+    let d = and_parts (nat_le n.variables 65536) (nat_lt n.serial (2 ^ 57) && nat_le 1 n.round) b.1 in
+    let e = and_parts (nat_lt n.serial (2 ^ 57)) (nat_le 1 n.round) d.1 in
+    let f = and_parts (nat_le n.processed (length n.trail + 1)) (eqb (length n.phases) n.variables) a.1 in
+    record {
+      index = le_is n.index 63 b.0;
+      variables = le_is n.variables 65536 d.0;
+      serial = lt_is n.serial (2 ^ 57) e.0;
+      round = le_is 1 n.round e.1;
+      processed = le_is n.processed (length n.trail + 1) f.0;
+      phases = eqb_is (length n.phases) n.variables f.1;
+    }
+
+has-ranges : (n : Node) → HasRanges n → has_ranges n ≡ true
+has-ranges n r =
+    rw (is_le n.index 63 r.index, is_le n.variables 65536 r.variables, is_lt n.serial (2 ^ 57) r.serial, is_le 1 n.round r.round, is_le n.processed (length n.trail + 1) r.processed, is_eqb (length n.phases) n.variables r.phases) refl
+
+-- a node that passes the test is in form
+pub image-is : (n : Node) → is_image n ≡ true → IsImage n
+image-is n h =
+    let a = and_parts (has_ranges n) (has_order n) h in
+    let b = and_parts (are_literals n.variables n.assumptions && is_order n.variables n.order) (all_follow n.variables [] n.trail && (are_clauses n.variables n.clauses && numbers_rise 0 n.clauses)) a.1 in
+    let d = and_parts (are_literals n.variables n.assumptions) (is_order n.variables n.order) b.0 in
+    let e = and_parts (all_follow n.variables [] n.trail) (are_clauses n.variables n.clauses && numbers_rise 0 n.clauses) b.1 in
+    let f = and_parts (are_clauses n.variables n.clauses) (numbers_rise 0 n.clauses) e.1 in
+    record { ranges = ranges-are n a.0; assumptions = d.0; order = d.1; trail = e.0; clauses = f.0; numbers = f.1 }
+
+-- a node in form passes the test
+pub is-image : (n : Node) → IsImage n → is_image n ≡ true
+is-image n i =
+    and_from (has_ranges n) (has_order n) (has-ranges n i.ranges)
+    (and_from (are_literals n.variables n.assumptions && is_order n.variables n.order) (all_follow n.variables [] n.trail && (are_clauses n.variables n.clauses && numbers_rise 0 n.clauses))
+    (and_from (are_literals n.variables n.assumptions) (is_order n.variables n.order) i.assumptions i.order)
+    (and_from (all_follow n.variables [] n.trail) (are_clauses n.variables n.clauses && numbers_rise 0 n.clauses) i.trail
+    (and_from (are_clauses n.variables n.clauses) (numbers_rise 0 n.clauses) i.clauses i.numbers)))
+
+-- clauses in form can be held
+all-hold : (greatest last : ℕ) (cs : List Held) → are_clauses greatest cs ≡ true → numbers_rise last cs ≡ true → list_all can_hold cs ≡ true
+all-hold greatest last [] h k = refl
+all-hold greatest last (c ∷ cs) h k =
+    let a = and_parts (are_literals greatest c.lits) (are_clauses greatest cs) h in
+    let b = and_parts (rises c.lits) (is_within greatest c.lits) a.0 in
+    let d = and_parts (nat_lt last c.id) (numbers_rise c.id cs) k in
+    let low : last < c.id = lt_is last c.id d.0 in
+    and_from (can_hold c) (list_all can_hold cs) (and_from (nat_lt 0 c.id) (rises c.lits) (is_lt 0 c.id (omega arith)) b.0) (all-hold greatest c.id cs a.1 d.1)
+
+pub not-held : (n : Node) → list_all can_hold n.clauses ≡ false → is_image n ≡ false
+not-held n h = false_from_ne_true (is_image n) (λ k. let i = image-is n k in false≢true (sym h ∙ all-hold n.variables 0 n.clauses i.clauses i.numbers))
+
+pub not-image : (n : Node) → (IsImage n → ⊥) → is_image n ≡ false
+not-image n h = false_from_ne_true (is_image n) (λ k. h (image-is n k))

@@ -1,0 +1,7 @@
+use Rattle.std.proofs.Common.{refl}
+use Rattle.mal_freeze.specs.Spelling.{spelled}
+use Rattle.mal_freeze.proofs.laws.fresh_bytes.Goals as goal
+
+pub returns : goal.returns
+unfolding spelled
+returns c = refl

@@ -1,0 +1,437 @@
+//! Reading the fields of an image from front to back. `total` is the length of the whole text.
+
+ghost use Rattle.std.specs.Prelude.{◌≡◌, ◌≤◌, ◌+◌, ◌-◌, ◌*◌, ◌<◌, ◌^◌, length, IfOk};
+ghost use Rattle.std.specs.Int.{w32, w64};
+ghost use Rattle.mal_freeze.specs.declared.fault.ThawFault.TheVariants.{BadField};
+ghost use Rattle.mal_freeze.specs.Reading.{Gives, place_of, number_at, ranged_at, byte_at, many_at, counted_at, literal_at, variable_at, number_in, phase_at, entry_at, clause_at, magic_at, head_at, search_at, ended_at, lists_at, fields_at};
+
+use crate::fault::ThawFault;
+use crate::fields::{Ended, Fields, Head, Lists, Search};
+use crate::numbered::Numbered;
+use mal_base::{ClauseId, Lit, TrailEntry, Var};
+use smallvec::SmallVec;
+use std::alloc::Global;
+
+/// The first 8 bytes of each image, `MALNODE1`, as one number.
+pub const MAGIC: u64 = 0x4d41_4c4e_4f44_4531;
+
+/// The fault of a field that begins where these bytes do.
+fn bad_field(total: usize, bytes: &[u8]) -> ThawFault
+    ensures { result ≡ BadField (place_of total bytes.now) }
+{
+    ThawFault::BadField {
+        place: total.saturating_sub(bytes.len()),
+    }
+}
+
+/// The 4 bytes at the front as a number, and the bytes behind them.
+#[tactic(auto, unfolding(crate::specs::Reading::number_at))]
+fn u32_at(bytes: &[u8]) -> Result<(u32, &[u8]), ThawFault>
+    ensures { Gives (λ x. (x.0, x.1.now)) result (number_at w32 bytes.now) }
+{
+    if bytes.len() < 4 {
+        return Err(ThawFault::Truncated);
+    }
+    let (front, rest) = bytes.split_at(4);
+    let number = u32::from_be_bytes([front[0], front[1], front[2], front[3]]);
+    Ok((number, rest))
+}
+
+/// The 8 bytes at the front as a number, and the bytes behind them.
+#[tactic(auto, unfolding(crate::specs::Reading::number_at))]
+fn u64_at(bytes: &[u8]) -> Result<(u64, &[u8]), ThawFault>
+    ensures { Gives (λ x. (x.0, x.1.now)) result (number_at w64 bytes.now) }
+{
+    if bytes.len() < 8 {
+        return Err(ThawFault::Truncated);
+    }
+    let (front, rest) = bytes.split_at(8);
+    let number = u64::from_be_bytes([
+        front[0], front[1], front[2], front[3], front[4], front[5], front[6], front[7],
+    ]);
+    Ok((number, rest))
+}
+
+/// The number of 4 bytes at the front, which is from `low` to `high`.
+#[tactic(auto, unfolding(crate::specs::Reading::ranged_at))]
+fn u32_within(total: usize, low: u32, high: u32, bytes: &[u8]) -> Result<(u32, &[u8]), ThawFault>
+    ensures value { Gives (λ x. (x.0, x.1.now)) result (ranged_at total w32 low high bytes.now) }
+    ensures low { IfOk result (λ x. low ≤ x.0) }
+    ensures high { IfOk result (λ x. x.0 ≤ high) }
+{
+    let (number, rest) = u32_at(bytes)?;
+    if number < low || high < number {
+        return Err(bad_field(total, bytes));
+    }
+    Ok((number, rest))
+}
+
+/// The number of 8 bytes at the front, which is from `low` to `high`.
+#[tactic(auto, unfolding(crate::specs::Reading::ranged_at))]
+fn u64_within(total: usize, low: u64, high: u64, bytes: &[u8]) -> Result<(u64, &[u8]), ThawFault>
+    ensures { Gives (λ x. (x.0, x.1.now)) result (ranged_at total w64 low high bytes.now) }
+{
+    let (number, rest) = u64_at(bytes)?;
+    if number < low || high < number {
+        return Err(bad_field(total, bytes));
+    }
+    Ok((number, rest))
+}
+
+/// The byte at the front, which is up to `high`.
+#[tactic(auto, unfolding(crate::specs::Reading::byte_at))]
+fn u8_within(total: usize, high: u8, bytes: &[u8]) -> Result<(u8, &[u8]), ThawFault>
+    ensures { Gives (λ x. (x.0, x.1.now)) result (byte_at total high bytes.now) }
+{
+    match bytes {
+        [] => Err(ThawFault::Truncated),
+        [byte, rest @ ..] => {
+            if high < *byte {
+                return Err(bad_field(total, bytes));
+            }
+            Ok((*byte, rest))
+        }
+    }
+}
+
+/// The literal of this code, which is that of a variable up to 65,536.
+fn literal_of(code: u32) -> Lit
+    requires low { 2 ≤ code }
+    requires high { code < 131074 }
+    ensures { result ≡ code }
+{
+    Var::of(code / 2).literal(code % 2 == 0)
+}
+
+/// The number of a clause, none for 0.
+fn number_of(number: u64) -> Option<ClauseId>
+    ensures { result ≡ number_in number }
+{
+    ClauseId::of(number)
+}
+
+/// A phase.
+#[tactic(auto, unfolding(crate::specs::Reading::phase_at))]
+fn phase(total: usize, bytes: &[u8]) -> Result<(bool, &[u8]), ThawFault>
+    ensures { Gives (λ x. (x.0, x.1.now)) result (phase_at total bytes.now) }
+{
+    let (code, rest) = u8_within(total, 1, bytes)?;
+    Ok((code == 1, rest))
+}
+
+/// An entry of the trail, of the variables up to the greatest.
+#[tactic(auto, unfolding(crate::specs::Reading::entry_at))]
+fn entry(total: usize, greatest: u32, bytes: &[u8]) -> Result<(TrailEntry, &[u8]), ThawFault>
+    requires { greatest ≤ 65536 }
+    ensures { Gives (λ x. (x.0, x.1.now)) result (entry_at total greatest bytes.now) }
+{
+    let (code, rest) = u32_within(total, 2, 2 * greatest + 1, bytes)?;
+    let (reason, rest) = u64_at(rest)?;
+    let (level, rest) = u32_at(rest)?;
+    Ok((
+        TrailEntry {
+            lit: literal_of(code),
+            reason: number_of(reason),
+            level,
+        },
+        rest,
+    ))
+}
+
+/// So many literals of the variables up to the greatest.
+fn literals(
+    alloc: Global,
+    total: usize,
+    greatest: u32,
+    count: u32,
+    bytes: &[u8],
+) -> Result<(SmallVec<Lit, 4>, &[u8]), ThawFault>
+    requires { greatest ≤ 65536 }
+    ensures { Gives (λ x. (x.0.items, x.1.now)) result (many_at (literal_at total greatest) count bytes.now) }
+{
+    let mut all = SmallVec::new(alloc);
+    let mut rest = bytes;
+    for _ in 0..count {
+        let (code, after) = u32_within(total, 2, 2 * greatest + 1, rest)?;
+        all.push(literal_of(code))?;
+        rest = after;
+    }
+    Ok((all, rest))
+}
+
+/// A count up to the greatest variable, and so many literals.
+#[tactic(auto, unfolding(crate::specs::Reading::counted_at))]
+fn counted_literals(
+    alloc: Global,
+    total: usize,
+    greatest: u32,
+    bytes: &[u8],
+) -> Result<(SmallVec<Lit, 4>, &[u8]), ThawFault>
+    requires { greatest ≤ 65536 }
+    ensures { Gives (λ x. (x.0.items, x.1.now)) result (counted_at total greatest (literal_at total greatest) bytes.now) }
+{
+    let (count, rest) = u32_within(total, 0, greatest, bytes)?;
+    literals(alloc, total, greatest, count, rest)
+}
+
+/// A count up to the greatest variable, and so many assumptions.
+fn assumptions(
+    alloc: Global,
+    total: usize,
+    greatest: u32,
+    bytes: &[u8],
+) -> Result<(Vec<Lit>, &[u8]), ThawFault>
+    requires { greatest ≤ 65536 }
+    ensures { Gives (λ x. (x.0.items, x.1.now)) result (counted_at total greatest (literal_at total greatest) bytes.now) }
+{
+    let (lits, rest) = counted_literals(alloc, total, greatest, bytes)?;
+    Ok((Vec::from_slice(alloc, lits.as_slice())?, rest))
+}
+
+/// As many variables as the greatest.
+fn variables(
+    alloc: Global,
+    total: usize,
+    greatest: u32,
+    bytes: &[u8],
+) -> Result<(Vec<Var>, &[u8]), ThawFault>
+    requires { greatest ≤ 65536 }
+    ensures { Gives (λ x. (x.0.items, x.1.now)) result (many_at (variable_at total greatest) greatest bytes.now) }
+{
+    let mut all = Vec::new(alloc);
+    let mut rest = bytes;
+    for _ in 0..greatest {
+        let (number, after) = u32_within(total, 1, greatest, rest)?;
+        all.push(Var::of(number))?;
+        rest = after;
+    }
+    Ok((all, rest))
+}
+
+/// So many phases.
+fn phases(
+    alloc: Global,
+    total: usize,
+    count: u32,
+    bytes: &[u8],
+) -> Result<(Vec<bool>, &[u8]), ThawFault>
+    ensures { Gives (λ x. (x.0.items, x.1.now)) result (many_at (phase_at total) count bytes.now) }
+{
+    let mut all = Vec::new(alloc);
+    let mut rest = bytes;
+    for _ in 0..count {
+        let (value, after) = phase(total, rest)?;
+        all.push(value)?;
+        rest = after;
+    }
+    Ok((all, rest))
+}
+
+/// So many entries of the trail, of the variables up to the greatest.
+fn entries(
+    alloc: Global,
+    total: usize,
+    greatest: u32,
+    count: u32,
+    bytes: &[u8],
+) -> Result<(Vec<TrailEntry>, &[u8]), ThawFault>
+    requires { greatest ≤ 65536 }
+    ensures { Gives (λ x. (x.0.items, x.1.now)) result (many_at (entry_at total greatest) count bytes.now) }
+{
+    let mut all = Vec::new(alloc);
+    let mut rest = bytes;
+    for _ in 0..count {
+        let (one, after) = match entry(total, greatest, rest) {
+            Ok(read) => read,
+            Err(fault) => return Err(fault),
+        };
+        all.push(one)?;
+        rest = after;
+    }
+    Ok((all, rest))
+}
+
+/// A count up to the greatest variable, and so many entries of the trail.
+#[tactic(auto, unfolding(crate::specs::Reading::counted_at))]
+fn trail(
+    alloc: Global,
+    total: usize,
+    greatest: u32,
+    bytes: &[u8],
+) -> Result<(Vec<TrailEntry>, &[u8]), ThawFault>
+    requires { greatest ≤ 65536 }
+    ensures { Gives (λ x. (x.0.items, x.1.now)) result (counted_at total greatest (entry_at total greatest) bytes.now) }
+{
+    let (count, rest) = u32_within(total, 0, greatest, bytes)?;
+    entries(alloc, total, greatest, count, rest)
+}
+
+/// A clause of the variables up to the greatest.
+#[tactic(auto, unfolding(crate::specs::Reading::clause_at))]
+fn clause(
+    alloc: Global,
+    total: usize,
+    greatest: u32,
+    bytes: &[u8],
+) -> Result<(Numbered, &[u8]), ThawFault>
+    requires { greatest ≤ 65536 }
+    ensures { Gives (λ x. (x.0, x.1.now)) result (clause_at total greatest bytes.now) }
+{
+    let (number, rest) = u64_at(bytes)?;
+    let (lits, rest) = counted_literals(alloc, total, greatest, rest)?;
+    Ok((Numbered::new(number, lits), rest))
+}
+
+/// So many clauses of the variables up to the greatest.
+fn many_clauses(
+    alloc: Global,
+    total: usize,
+    greatest: u32,
+    count: u32,
+    bytes: &[u8],
+) -> Result<(Vec<Numbered>, &[u8]), ThawFault>
+    requires { greatest ≤ 65536 }
+    ensures { Gives (λ x. (x.0.items, x.1.now)) result (many_at (clause_at total greatest) count bytes.now) }
+{
+    let mut all = Vec::new(alloc);
+    let mut rest = bytes;
+    for _ in 0..count {
+        let (one, after) = match clause(alloc, total, greatest, rest) {
+            Ok(read) => read,
+            Err(fault) => return Err(fault),
+        };
+        all.push(one)?;
+        rest = after;
+    }
+    Ok((all, rest))
+}
+
+/// A count, and so many clauses of the variables up to the greatest.
+#[tactic(auto, unfolding(crate::specs::Reading::counted_at))]
+fn clauses(
+    alloc: Global,
+    total: usize,
+    greatest: u32,
+    bytes: &[u8],
+) -> Result<(Vec<Numbered>, &[u8]), ThawFault>
+    requires { greatest ≤ 65536 }
+    ensures { Gives (λ x. (x.0.items, x.1.now)) result (counted_at total (2 ^ 32 - 1) (clause_at total greatest) bytes.now) }
+{
+    let (count, rest) = u32_within(total, 0, u32::MAX, bytes)?;
+    many_clauses(alloc, total, greatest, count, rest)
+}
+
+/// What stands behind the first 8 bytes, which are those of an image.
+#[tactic(auto, unfolding(crate::specs::Reading::magic_at))]
+fn behind_magic(bytes: &[u8]) -> Result<&[u8], ThawFault>
+    ensures { Gives (λ x. x.now) result (magic_at bytes.now) }
+{
+    let (number, rest) = u64_at(bytes)?;
+    if number != MAGIC {
+        return Err(ThawFault::BadMagic);
+    }
+    Ok(rest)
+}
+
+/// The index, the variables, the serial, and the conflicts since the last restart.
+#[tactic(auto, unfolding(crate::specs::Reading::head_at))]
+fn head(total: usize, bytes: &[u8]) -> Result<(Head, &[u8]), ThawFault>
+    ensures value { Gives (λ x. (x.0, x.1.now)) result (head_at total bytes.now) }
+    ensures bound { IfOk result (λ x. x.0.variables ≤ 65536) }
+{
+    let (index, rest) = u32_within(total, 0, 63, bytes)?;
+    let (variables, rest) = u32_within(total, 0, 65_536, rest)?;
+    let (serial, rest) = u64_within(total, 0, (1 << 57) - 1, rest)?;
+    let (since, rest) = u32_at(rest)?;
+    Ok((
+        Head {
+            index,
+            variables,
+            serial,
+            since,
+        },
+        rest,
+    ))
+}
+
+/// The number of the restart, the batches handled, and the waiting conflict.
+#[tactic(auto, unfolding(crate::specs::Reading::search_at))]
+fn search(total: usize, bytes: &[u8]) -> Result<(Search, &[u8]), ThawFault>
+    ensures { Gives (λ x. (x.0, x.1.now)) result (search_at total bytes.now) }
+{
+    let (round, rest) = u32_within(total, 1, u32::MAX, bytes)?;
+    let (processed, rest) = u32_at(rest)?;
+    let (conflict, rest) = u64_at(rest)?;
+    Ok((
+        Search {
+            round,
+            processed,
+            conflict: number_of(conflict),
+        },
+        rest,
+    ))
+}
+
+/// The code of the verdict, and the goal.
+#[tactic(auto, unfolding(crate::specs::Reading::ended_at))]
+fn ended(total: usize, bytes: &[u8]) -> Result<(Ended, &[u8]), ThawFault>
+    ensures { Gives (λ x. (x.0, x.1.now)) result (ended_at total bytes.now) }
+{
+    let (code, rest) = u8_within(total, 2, bytes)?;
+    let (goal, rest) = u64_at(rest)?;
+    Ok((Ended { code, goal }, rest))
+}
+
+/// The lists, of the variables up to the greatest.
+#[tactic(auto, unfolding(crate::specs::Reading::lists_at))]
+fn lists(
+    alloc: Global,
+    total: usize,
+    greatest: u32,
+    bytes: &[u8],
+) -> Result<(Lists, &[u8]), ThawFault>
+    requires { greatest ≤ 65536 }
+    ensures { Gives (λ x. (x.0, x.1.now)) result (lists_at total greatest bytes.now) }
+{
+    let (assumptions, rest) = assumptions(alloc, total, greatest, bytes)?;
+    let (order, rest) = variables(alloc, total, greatest, rest)?;
+    let (phases, rest) = phases(alloc, total, greatest, rest)?;
+    let (trail, rest) = trail(alloc, total, greatest, rest)?;
+    let (clauses, rest) = clauses(alloc, total, greatest, rest)?;
+    Ok((
+        Lists {
+            assumptions,
+            order,
+            phases,
+            trail,
+            clauses,
+        },
+        rest,
+    ))
+}
+
+/// All fields of an image, and how many bytes are left over.
+#[tactic(auto, unfolding(crate::specs::Reading::fields_at))]
+pub fn fields(alloc: Global, bytes: &[u8]) -> Result<Fields, ThawFault>
+    ensures { Gives (λ x. x) result (fields_at (length bytes.now) bytes.now) }
+{
+    let total = bytes.len();
+    let rest = behind_magic(bytes)?;
+    let (head, rest) = head(total, rest)?;
+    let (search, rest) = match search(total, rest) {
+        Ok(read) => read,
+        Err(fault) => return Err(fault),
+    };
+    let (ended, rest) = ended(total, rest)?;
+    let (lists, rest) = match lists(alloc, total, head.variables, rest) {
+        Ok(read) => read,
+        Err(fault) => return Err(fault),
+    };
+    Ok(Fields {
+        head,
+        search,
+        ended,
+        lists,
+        left: rest.len(),
+    })
+}
