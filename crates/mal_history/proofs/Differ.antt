@@ -48,11 +48,11 @@ event-row (Start t j i w) h = (omega arith, ((omega arith, (omega arith, tt)), (
 event-row (Finish t j i w o) h = (omega arith, ((omega arith, (omega arith, tt)), (h.0, (h.1, (decimals_are_clean i, (decimals_are_clean w, (outcome-clean o, tt)))))))
 event-row (Exchange t j) h = (omega arith, ((omega arith, (omega arith, tt)), (h.0, (h.1, tt))))
 
-event-rows : (es : List Event) → AllByRecursion IsWritable es → AreRows (map event_words es)
+pub event-rows : (es : List Event) → AllByRecursion IsWritable es → AreRows (map event_words es)
 event-rows [] h = tt
 event-rows (e ∷ es) h = (event-row e h.0, event-rows es h.1)
 
-header-row : (workers : ℕ) → IsRow (header_words workers)
+pub header-row : (workers : ℕ) → IsRow (header_words workers)
 header-row workers = (omega arith, ((omega arith, (omega arith, tt)), ((omega arith, (omega arith, (omega arith, (omega arith, tt)))), ((omega arith, (omega arith, tt)), (decimals_are_clean workers, tt)))))
 
 -- an outcome is told by its word

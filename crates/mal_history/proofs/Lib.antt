@@ -1,3 +1,10 @@
 pub mod Balance
 pub mod Events
 pub mod Differ
+pub mod ExampleLemmas
+pub mod Behind
+pub mod Words
+pub mod Spelled
+pub mod Rows
+pub mod Again
+pub mod Found

@@ -1,3 +1,10 @@
 pub mod Written
 pub mod Text
 pub mod Differ
+pub mod Reading
+pub mod Grammar
+pub mod Formed
+pub mod Laws
+pub mod Examples
+pub mod Own
+pub mod Given

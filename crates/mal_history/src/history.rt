@@ -1,28 +1,30 @@
 //! A history: events in the order in which they were entered.
 
-ghost use Rattle.std.specs.Prelude.{◌≡◌, ℕ, ◌+◌, ◌-◌, ◌<◌, ◌≤◌, [], ◌∷◌, ◌++◌, OnOk, OnErr};
+ghost use Rattle.std.specs.Prelude.{◌≡◌, ℕ, ◌+◌, ◌-◌, ◌<◌, ◌≤◌, [], ◌∷◌, ◌++◌, length, OnOk, OnErr};
+ghost use Rattle.mal_history.specs.Written.{line_at};
 
 use crate::event::Event;
 use std::alloc::{AllocError, Global};
 use std::marker::Model;
 
-/// A history of a hall with so many workers (1 to 64). Contracts see the number of workers, the events, and the room:
-/// for how many more events there is memory.
+/// A history of a hall with so many workers (1 to 64). Contracts see the number of workers, the events, the lines of those
+/// that were read, which are the first, and the room: for how many more events there is memory.
 #[derive(Drop)]
 pub struct History {
     workers: u32,
     events: Vec<Event>,
+    lines: Vec<u64>,
 }
 
 impl Model for History {
-    ghost use Rattle.std.specs.Prelude.{◌-◌, ◌≤◌, vec_len, vec_capacity};
+    ghost use Rattle.std.specs.Prelude.{◌-◌, ◌≤◌, length, vec_len, vec_capacity};
     ghost use Rattle.mal_history.specs.Written.{Written};
 
     ghost Value = { Written };
 
-    ghost view = { λ h. record { workers = h.workers; events = h.events.items; room = vec_capacity h.events - vec_len h.events } };
+    ghost view = { λ h. record { workers = h.workers; events = h.events.items; lines = h.lines.items; room = vec_capacity h.events - vec_len h.events } };
 
-    ghost invariant = { λ h. (1 ≤ h.workers) × (h.workers ≤ 64) };
+    ghost invariant = { λ h. (1 ≤ h.workers) × (h.workers ≤ 64) × (length h.lines.items ≤ length h.events.items) };
 }
 
 impl History {
@@ -32,10 +34,12 @@ impl History {
         requires bound { workers ≤ 64 }
         ensures workers { result.workers ≡ workers }
         ensures events { result.events ≡ [] }
+        ensures lines { result.lines ≡ [] }
     {
         History {
             workers,
             events: Vec::new(alloc),
+            lines: Vec::new(alloc),
         }
     }
 
@@ -45,6 +49,7 @@ impl History {
         ensures more { self.old.room ≤ self.new.room }
         ensures workers { self.new.workers ≡ self.old.workers }
         ensures events { self.new.events ≡ self.old.events }
+        ensures lines { self.new.lines ≡ self.old.lines }
     {
         self.events.reserve(events)
     }
@@ -54,9 +59,27 @@ impl History {
         requires { 1 ≤ self.old.room }
         ensures workers { self.new.workers ≡ self.old.workers }
         ensures events { self.new.events ≡ self.old.events ++ event ∷ [] }
+        ensures lines { self.new.lines ≡ self.old.lines }
         ensures room { self.new.room + 1 ≡ self.old.room }
     {
         self.events.push_reserved(event);
+    }
+
+    /// Puts an event that was read on this line behind those before, each of which was read. After want of memory the history
+    /// is as before.
+    pub fn push_read(&mut self, event: Event, line: u64) -> Result<(), AllocError>
+        requires { length self.old.lines ≡ length self.old.events }
+        ensures workers { self.new.workers ≡ self.old.workers }
+        ensures events { OnOk result (self.new.events ≡ self.old.events ++ event ∷ []) }
+        ensures lines { OnOk result (self.new.lines ≡ self.old.lines ++ line ∷ []) }
+        ensures events_stay { OnErr result (self.new.events ≡ self.old.events) }
+        ensures lines_stay { OnErr result (self.new.lines ≡ self.old.lines) }
+    {
+        self.events.reserve(1)?;
+        self.lines.reserve(1)?;
+        self.events.push_reserved(event);
+        self.lines.push_reserved(line);
+        Ok(())
     }
 
     /// The number of workers, 1 to 64.
@@ -73,5 +96,17 @@ impl History {
         ensures { result.now ≡ self.now.events }
     {
         self.events.as_slice()
+    }
+
+    /// The line of an event, by its place from 0: the line it was read from, or, where it was pushed, the one that `write`
+    /// gives it.
+    pub fn line(&self, n: usize) -> u64
+        requires { n < length self.now.events }
+        ensures { result ≡ line_at self.now.lines n }
+    {
+        match self.lines.get(n) {
+            Some(line) => *line,
+            None => n as u64 + 2,
+        }
     }
 }

@@ -1,9 +1,32 @@
-//! What is known of the texts of histories, as the contract of a function without a body.
+//! What is known of histories and of their texts, as the contracts of functions without a body.
 
 ghost use Rattle.mal_history.specs.Differ.{HaveOtherTexts, HistoriesDiffer};
+ghost use Rattle.mal_history.specs.Laws.{SpelledEventIsRead, SpelledIsFormed, SpelledIsRead, WrittenIsRead};
+ghost use Rattle.mal_history.specs.Examples.{HaveHistories, HaveFaults, HaveLimits};
 
 /// Two histories with one text have as many workers and the same events in the same order.
 pub fn histories_differ()
     ensures differ { HistoriesDiffer }
     ensures examples { HaveOtherTexts }
+{}
+
+/// What small texts are read as, and what is wrong with others.
+#[tactic(auto, using(crate::proofs::ExampleLemmas::histories, crate::proofs::ExampleLemmas::faults, crate::proofs::ExampleLemmas::limits))]
+pub fn reading_examples()
+    ensures histories { HaveHistories }
+    ensures faults { HaveFaults }
+    ensures limits { HaveLimits }
+{}
+
+/// The words of a line spell an event exactly where reading gives it, and the lines of a text a history. So no text spells
+/// two histories, and none that has a first fault spells one. What is spelled is in form.
+pub fn spelled_is_read()
+    ensures event { SpelledEventIsRead }
+    ensures history { SpelledIsRead }
+    ensures formed { SpelledIsFormed }
+{}
+
+/// A history in form is read again from the text that it is written as.
+pub fn written_is_read()
+    ensures { WrittenIsRead }
 {}

@@ -277,6 +277,7 @@ mod tests {
             outcome: Outcome::Lost,
         });
         history.push_reserved(Event::Exchange { tenant, job });
+        assert_eq!(rt; history.line(3), 5);
         let text = write(rt.alloc(), &history)?;
         assert_eq!(rt;
             text.as_slice(),

@@ -1,0 +1,46 @@
+-- The own events of a job: what its history tells of it alone.
+use Rattle.std.specs.Prelude.{ℕ, Bool, ◌&&◌, true, false, ◌==◌, bytes_eq, List, [], ◌∷◌, ◌++◌, fold, find, if◌then◌else◌}
+use Rattle.std.specs.Option.{option_map_or}
+use Rattle.mal_history.specs.declared.event.Event.{Event}
+use Rattle.mal_history.specs.declared.event.Event.TheVariants.{Open, Revise, Close, Balance, Start, Finish, Exchange}
+use Rattle.mal_history.specs.declared.event.Share.{Share}
+
+-- a job of a tenant is the one of these names
+abbrev pub is_of : List ℕ → List ℕ → List ℕ → List ℕ → Bool
+is_of tenant job t j = bytes_eq t tenant && bytes_eq j job
+
+-- the volume that a balancing gives a job, 0 where it is not listed
+abbrev pub volume_in : List ℕ → List ℕ → List Share → ℕ
+volume_in tenant job volumes = option_map_or (λ s. s.volume) (find (λ s. is_of tenant job s.tenant s.job) volumes) 0
+
+-- what is told of a job so far: its own events, and its volume
+pub record Told : Type 0 where
+  pub own : List Event
+  pub volume : ℕ
+
+abbrev pub told_of : List Event → ℕ → Told
+told_of own volume = record { own = own; volume = volume }
+
+-- an event of the job is told
+abbrev pub tells : Bool → Event → Told → Told
+tells true e told = told_of (told.own ++ e ∷ []) told.volume
+tells false e told = told
+
+-- of a balancing the job's volume is told, where it differs from the one before
+abbrev pub tells_volume : List ℕ → List ℕ → ℕ → Told → Told
+tells_volume tenant job volume told =
+    if volume == told.volume then told else told_of (told.own ++ Balance (record { tenant = tenant; job = job; volume = volume } ∷ []) ∷ []) volume
+
+-- after one more event; a start and a finish are told without their worker, as of worker 1
+abbrev pub own_step : List ℕ → List ℕ → Told → Event → Told
+own_step tenant job told (Open t j ask) = tells (is_of tenant job t j) (Open tenant job ask) told
+own_step tenant job told (Revise t j number) = tells (is_of tenant job t j) (Revise tenant job number) told
+own_step tenant job told (Close t j) = tells (is_of tenant job t j) (Close tenant job) told
+own_step tenant job told (Balance volumes) = tells_volume tenant job (volume_in tenant job volumes) told
+own_step tenant job told (Start t j index worker) = tells (is_of tenant job t j) (Start tenant job index 1) told
+own_step tenant job told (Finish t j index worker outcome) = tells (is_of tenant job t j) (Finish tenant job index 1 outcome) told
+own_step tenant job told (Exchange t j) = tells (is_of tenant job t j) (Exchange tenant job) told
+
+-- the own events of a job in a history, whose volume is 0 at first
+abbrev pub own : List ℕ → List ℕ → List Event → List Event
+own tenant job events = (fold (own_step tenant job) (told_of [] 0) events).own

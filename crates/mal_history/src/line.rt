@@ -1,0 +1,284 @@
+//! Reading the line of an event, or of the header.
+
+ghost use Rattle.std.specs.Prelude.{◌≡◌, ◌≤◌, ◌<◌, ◌∷◌, length, IfOk, IfSome};
+ghost use Rattle.spec_text.specs.Inputs.{words_of};
+ghost use Rattle.mal_history.specs.Reading.{header_of, outcome_of, opened, revised, closed, started, finished, exchanged, event_of_job, named_event, balanced, event_of, next_event};
+ghost use Rattle.mal_history.specs.Given.{AreNamed, AreTwo, Gives, IsOnly};
+
+use crate::event::{Event, Share, Shares};
+use crate::fault::EventFault;
+use crate::numbers::{ask_in, in_range};
+use mal_base::{Name, Outcome};
+use mal_text::first_word;
+use std::alloc::Global;
+
+/// The number of workers that a header says, from 1 to 64: its first word, and the line behind it.
+pub fn read_header(first: &[u8], line: &[u8]) -> Result<u32, EventFault>
+    ensures value { Gives result (header_of (first.now ∷ words_of line.now)) }
+    ensures some { IfOk result (λ n. 1 ≤ n) }
+    ensures bound { IfOk result (λ n. n ≤ 64) }
+{
+    let Some((mal, line)) = first_word(line) else {
+        return Err(EventFault::BadLine);
+    };
+    let Some((version, line)) = first_word(line) else {
+        return Err(EventFault::BadLine);
+    };
+    let Some(workers) = only_word(line) else {
+        return Err(EventFault::BadLine);
+    };
+    let is_header = first == b"h".as_slice()
+        && mal == b"mal".as_slice()
+        && version == b"1".as_slice();
+    if !is_header {
+        return Err(EventFault::BadLine);
+    }
+    in_range(workers, 1, 64).ok_or(EventFault::BadNumber)
+}
+
+/// The one word of a line, none where it has none or more.
+fn only_word(line: &[u8]) -> Option<&[u8]>
+    ensures { IsOnly result (words_of line.now) }
+{
+    match first_word(line) {
+        None => None,
+        Some((word, behind)) => match first_word(behind) {
+            None => Some(word),
+            Some(_) => None,
+        },
+    }
+}
+
+/// The event of a line behind so many events, of which there may be `max`: its first word, and the line behind it.
+pub fn next_event(
+    alloc: Global,
+    first: &[u8],
+    line: &[u8],
+    workers: u32,
+    count: usize,
+    max: usize,
+) -> Result<Event, EventFault>
+    ensures { Gives result (next_event max workers count (first.now ∷ words_of line.now)) }
+{
+    let event = read_event(alloc, first, line, workers)?;
+    if count < max {
+        Ok(event)
+    } else {
+        Err(EventFault::TooLong)
+    }
+}
+
+/// The event of a line: its first word, and the line behind it.
+fn read_event(alloc: Global, first: &[u8], line: &[u8], workers: u32) -> Result<Event, EventFault>
+    ensures { Gives result (event_of workers (first.now ∷ words_of line.now)) }
+{
+    if first == b"b".as_slice() {
+        read_balance(alloc, line)
+    } else {
+        read_named(alloc, first, line, workers)
+    }
+}
+
+/// The event of this kind, of a line that begins with the names of a tenant and of a job.
+fn read_named(alloc: Global, kind: &[u8], line: &[u8], workers: u32) -> Result<Event, EventFault>
+    ensures { Gives result (named_event workers kind.now (words_of line.now)) }
+{
+    let Some((tenant, job, line)) = two_words(line) else {
+        return Err(EventFault::BadLine);
+    };
+    let (tenant, job) = names_in(alloc, tenant, job)?;
+    read_kind(kind, tenant, job, line, workers)
+}
+
+/// The event of this kind, of a job of a tenant, of the line behind their names.
+fn read_kind(
+    kind: &[u8],
+    tenant: Name,
+    job: Name,
+    line: &[u8],
+    workers: u32,
+) -> Result<Event, EventFault>
+    ensures { Gives result (event_of_job workers kind.now tenant job (words_of line.now)) }
+{
+    if kind == b"o".as_slice() {
+        read_open(tenant, job, line)
+    } else if kind == b"r".as_slice() {
+        read_revise(tenant, job, line)
+    } else if kind == b"c".as_slice() {
+        read_close(tenant, job, line)
+    } else if kind == b"s".as_slice() {
+        read_start(tenant, job, line, workers)
+    } else if kind == b"f".as_slice() {
+        read_finish(tenant, job, line, workers)
+    } else if kind == b"x".as_slice() {
+        read_exchange(tenant, job, line)
+    } else {
+        Err(EventFault::BadLine)
+    }
+}
+
+/// The opening of a job, of the words of its ask.
+fn read_open(tenant: Name, job: Name, line: &[u8]) -> Result<Event, EventFault>
+    ensures { Gives result (opened tenant job (words_of line.now)) }
+{
+    let Some((priority, line)) = first_word(line) else {
+        return Err(EventFault::BadLine);
+    };
+    let Some((demand, line)) = first_word(line) else {
+        return Err(EventFault::BadLine);
+    };
+    let Some(slices) = only_word(line) else {
+        return Err(EventFault::BadLine);
+    };
+    let ask = ask_in(priority, demand, slices)?;
+    Ok(Event::Open { tenant, job, ask })
+}
+
+/// A revision of a job, of the word of its number.
+fn read_revise(tenant: Name, job: Name, line: &[u8]) -> Result<Event, EventFault>
+    ensures { Gives result (revised tenant job (words_of line.now)) }
+{
+    let Some(number) = only_word(line) else {
+        return Err(EventFault::BadLine);
+    };
+    let number = in_range(number, 1, 256).ok_or(EventFault::BadNumber)?;
+    Ok(Event::Revise {
+        tenant,
+        job,
+        number,
+    })
+}
+
+/// The closing of a job, behind which no word stands.
+fn read_close(tenant: Name, job: Name, line: &[u8]) -> Result<Event, EventFault>
+    ensures { Gives result (closed tenant job (words_of line.now)) }
+{
+    match first_word(line) {
+        None => Ok(Event::Close { tenant, job }),
+        Some(_) => Err(EventFault::BadLine),
+    }
+}
+
+/// A start, of the words of a node's index and of a worker.
+fn read_start(tenant: Name, job: Name, line: &[u8], workers: u32) -> Result<Event, EventFault>
+    ensures { Gives result (started workers tenant job (words_of line.now)) }
+{
+    let Some((index, line)) = first_word(line) else {
+        return Err(EventFault::BadLine);
+    };
+    let Some(worker) = only_word(line) else {
+        return Err(EventFault::BadLine);
+    };
+    let index = in_range(index, 0, 63).ok_or(EventFault::BadNumber)?;
+    let worker = in_range(worker, 1, workers).ok_or(EventFault::BadNumber)?;
+    Ok(Event::Start {
+        tenant,
+        job,
+        index,
+        worker,
+    })
+}
+
+/// A finish, of the words of a node's index, of a worker, and of an outcome.
+fn read_finish(tenant: Name, job: Name, line: &[u8], workers: u32) -> Result<Event, EventFault>
+    ensures { Gives result (finished workers tenant job (words_of line.now)) }
+{
+    let Some((index, line)) = first_word(line) else {
+        return Err(EventFault::BadLine);
+    };
+    let Some((worker, line)) = first_word(line) else {
+        return Err(EventFault::BadLine);
+    };
+    let Some(outcome) = only_word(line) else {
+        return Err(EventFault::BadLine);
+    };
+    let outcome = outcome_in(outcome)?;
+    let index = in_range(index, 0, 63).ok_or(EventFault::BadNumber)?;
+    let worker = in_range(worker, 1, workers).ok_or(EventFault::BadNumber)?;
+    Ok(Event::Finish {
+        tenant,
+        job,
+        index,
+        worker,
+        outcome,
+    })
+}
+
+/// The outcome that a word says.
+fn outcome_in(word: &[u8]) -> Result<Outcome, EventFault>
+    ensures { Gives result (outcome_of word.now) }
+{
+    if word == b"ran".as_slice() {
+        Ok(Outcome::Ran)
+    } else if word == b"starved".as_slice() {
+        Ok(Outcome::Starved)
+    } else if word == b"lost".as_slice() {
+        Ok(Outcome::Lost)
+    } else {
+        Err(EventFault::BadLine)
+    }
+}
+
+/// An exchange of a job, behind which no word stands.
+fn read_exchange(tenant: Name, job: Name, line: &[u8]) -> Result<Event, EventFault>
+    ensures { Gives result (exchanged tenant job (words_of line.now)) }
+{
+    match first_word(line) {
+        None => Ok(Event::Exchange { tenant, job }),
+        Some(_) => Err(EventFault::BadLine),
+    }
+}
+
+/// A balancing, of the names and the volumes of jobs. Volumes out of range count where all names are names.
+fn read_balance(alloc: Global, line: &[u8]) -> Result<Event, EventFault>
+    ensures { Gives result (balanced (words_of line.now)) }
+{
+    let mut shares = Vec::new(alloc);
+    let mut are_ranged = true;
+    let mut rest = line;
+    while let Some((tenant, behind)) = first_word(rest) {
+        let Some((job, volume, behind)) = two_words(behind) else {
+            return Err(EventFault::BadLine);
+        };
+        let (tenant, job) = names_in(alloc, tenant, job)?;
+        match in_range(volume, 0, 64) {
+            Some(volume) => shares.push(Share {
+                tenant,
+                job,
+                volume,
+            })?,
+            None => are_ranged = false,
+        }
+        rest = behind;
+    }
+    if are_ranged {
+        Ok(Event::Balance {
+            volumes: Shares::of(shares),
+        })
+    } else {
+        Err(EventFault::BadNumber)
+    }
+}
+
+/// The first two words of a line, and the line behind them. None where it has fewer.
+fn two_words(line: &[u8]) -> Option<(&[u8], &[u8], &[u8])>
+    ensures two { AreTwo result (words_of line.now) }
+    ensures shorter { IfSome result (λ t. length t.2.now ≤ length line.now) }
+{
+    let (first, line) = first_word(line)?;
+    let (second, line) = first_word(line)?;
+    Some((first, second, line))
+}
+
+/// The names of a tenant and of a job, where both words are names.
+fn names_in(alloc: Global, tenant: &[u8], job: &[u8]) -> Result<(Name, Name), EventFault>
+    ensures { AreNamed result tenant.now job.now }
+{
+    let Some(tenant) = Name::of(alloc, tenant)? else {
+        return Err(EventFault::BadLine);
+    };
+    let Some(job) = Name::of(alloc, job)? else {
+        return Err(EventFault::BadLine);
+    };
+    Ok((tenant, job))
+}

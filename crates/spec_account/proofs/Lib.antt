@@ -1,0 +1,5 @@
+pub mod ExampleLemmas
+pub mod LineLemmas
+pub mod RowLemmas
+pub mod ReadLemmas
+pub mod AgainLemmas

@@ -1,0 +1,5 @@
+pub mod Accounts
+pub mod Grammar
+pub mod FaultLines
+pub mod Laws
+pub mod Examples
