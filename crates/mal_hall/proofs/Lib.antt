@@ -5,3 +5,5 @@ pub mod LeaseLemmas
 pub mod PhaseLemmas
 pub mod DriveLemmas
 pub mod RecallLemmas
+pub mod InsideLemmas
+pub mod ApplyLemmas

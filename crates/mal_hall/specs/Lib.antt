@@ -1,3 +1,5 @@
 pub mod Seen
 pub mod Offered
 pub mod Turned
+pub mod Applied
+pub mod Desks

@@ -1,4 +1,5 @@
-use Rattle.std.specs.Prelude.{◌≡◌, ℕ, List, [], ◌∷◌, ◌++◌, slice_get, Option, Some, None, Result, Ok, Err}
+use Rattle.std.specs.Prelude.{◌≡◌, ℕ, List, [], ◌∷◌, ◌++◌, slice_get, Option, Some, None, Result, Ok, Err, Vec}
+use Rattle.std.specs.declared.alloc.Global.{Global}
 use Rattle.mal_history.specs.declared.event.Share.{Share}
 use Rattle.mal_hall.specs.declared.offer.Pick.{Pick}
 use Rattle.mal_hall.specs.declared.offer.Pick.TheVariants as pick
@@ -7,6 +8,7 @@ use Rattle.mal_hall.specs.declared.offer.Strange.{Strange}
 use Rattle.spec_job.specs.Leased.{Leased, Finished}
 use Rattle.spec_job.specs.Titled.{Key, Titled}
 use Rattle.spec_hall.specs.declared.fault.PickFault.{PickFault}
+use Rattle.spec_hall.specs.declared.fault.ReplyFault.{ReplyFault}
 use Rattle.spec_hall.specs.Calls as calls
 use Rattle.spec_hall.specs.Events.{Event, Balance, Start, Finish, Exchange}
 use Rattle.spec_hall.specs.Legal.{Allowed}
@@ -30,6 +32,12 @@ offered (Err fault) = Err fault
 abbrev pub returned : Result Back Strange → calls.Return
 returned (Ok back) = calls.Back
 returned (Err s) = calls.Strange s.kept
+
+-- the answer to who asks for a reply
+abbrev pub replied : Result (Option (Vec ℕ Global)) ReplyFault → Result (Option (List ℕ)) ReplyFault
+replied (Ok (Some text)) = Ok (Some text.items)
+replied (Ok None) = Ok None
+replied (Err fault) = Err fault
 
 -- a balancing was entered
 pub record HasBalanced (workers : ℕ) (past now : List Event) : Type 0 where

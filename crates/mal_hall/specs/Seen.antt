@@ -3,6 +3,7 @@ use Rattle.std.specs.Option.{option_map_or}
 use Rattle.mal_history.specs.declared.event.Event as written
 use Rattle.mal_history.specs.Written.{Written}
 use Rattle.spec_job.specs.Titled.{Key}
+use Rattle.spec_hall.specs.Calls.{Handed}
 use Rattle.spec_hall.specs.Events.{Event, bare}
 use Rattle.spec_hall.specs.Leases.{starts_in}
 use Rattle.spec_hall.specs.States.{states}
@@ -11,10 +12,12 @@ use Rattle.spec_hall.specs.Dressed.{dressed}
 use Rattle.spec_hall.specs.Seats.{Seat, IsSeated, jobs_in}
 use Rattle.spec_hall.specs.Spots.{Spot, AreSpots, tags_of}
 
--- a hall as contracts see it: the number of workers, and the events with the revisions that were posted
+-- a hall as contracts see it: the number of workers, the events with the revisions that were posted, and the leases that are
+-- kept inside
 pub record Seen : Type 0 where
   pub workers : ℕ
   pub events : List Event
+  pub inside : List (Option Handed)
 
 -- the events of a hall: those that are written down, with the revisions of its jobs
 abbrev pub events_of : List written.Event → List Seat → List Event

@@ -1,14 +1,15 @@
 //! The hall and its calls.
 
-ghost use Rattle.std.specs.Prelude.{◌≡◌, ◌+◌, ◌<◌, ◌≤◌, List, [], ◌∷◌, ◌++◌, true, false, Some, None, MatchOption, IsErrOf, map, option_map, is_some, OnOk, OnErr, IfOk, IfErr};
+ghost use Rattle.std.specs.Prelude.{◌≡◌, ◌↔◌, ◌+◌, ◌-◌, ◌<◌, ◌≤◌, IsTrue, length, get_or, slice_get, slice_set, List, [], ◌∷◌, ◌++◌, true, false, Some, None, MatchOption, IsErrOf, map, option_map, is_some, OnOk, OnErr, IfOk, IfErr};
 ghost use Rattle.std.specs.Option.{option_copied};
 ghost use Rattle.mal_base.specs.Asks.{IsAsk};
 ghost use Rattle.mal_base.specs.Names.{is_name};
-ghost use Rattle.mal_hall.specs.Offered.{HasArranged, HasBalanced, HasEnded, HasExchanged, HasStarted, IsFirst, MayEnd, MayStartAt, offered, returned};
+ghost use Rattle.mal_hall.specs.Applied.{IsInside, listed_last};
+ghost use Rattle.mal_hall.specs.Offered.{HasArranged, HasBalanced, HasEnded, HasExchanged, HasStarted, IsFirst, MayEnd, MayStartAt, handed_of, offered, replied, returned};
 ghost use Rattle.mal_hall.specs.Seen.{next_number};
 ghost use Rattle.mal_job.specs.Among.{among};
 ghost use Rattle.mal_job.specs.Finishing.{outcome_of};
-ghost use Rattle.spec_hall.specs.Calls.{HasCalled, IsOfLease, Opens, Revises, Closes, Picks, Finishes, Recalls, is_over};
+ghost use Rattle.spec_hall.specs.Calls.{HasCalled, IsOfLease, Opens, Revises, Closes, Picks, Finishes, Recalls, Asks, is_over};
 ghost use Rattle.spec_hall.specs.Dressed.{keyed, revisions_of};
 ghost use Rattle.spec_hall.specs.Driven.{GrowsByTurns, IsAtEnd, IsCalm};
 ghost use Rattle.spec_hall.specs.Events.{Open, Revise, Close, bare};
@@ -22,28 +23,30 @@ ghost use Rattle.spec_job.specs.Replies.{reply};
 ghost use Rattle.spec_job.specs.Solo.{solo};
 ghost use Rattle.spec_job.specs.Titled.{Titled};
 ghost use Rattle.spec_hall.specs.States as states_of;
-ghost use Rattle.spec_hall.specs.States.{Held, states, lives, leases, lease_of, balanced, exchange_due};
+ghost use Rattle.spec_hall.specs.States.{Held, keys_of, states, lives, leases, lease_of, balanced, exchange_due};
 ghost use Rattle.spec_hall.specs.Legal.{IsBalanceDue, Legal, job_of};
 ghost use Rattle.spec_hall.specs.Measure.{left_in};
 
 use crate::enter::{enter_balance, enter_exchange};
+use crate::lodging::{lists, none_lodged};
 use crate::offer::{Back, Pick, Strange};
 use crate::pick::{Candidate, pick};
 use crate::room::{next_number, tenants_after};
-use crate::seats::{Seat, first_exchange, is_done, is_due, jobs_of, place_of};
+use crate::seats::{Seat, first_exchange, is_answered, is_done, is_due, jobs_of, place_of};
 use crate::spots::{Spot, count_out, no_spots, owed, spot_of};
 use mal_base::{Ask, Name, Outcome};
-use mal_history::{Event, History};
+use mal_history::{Event, History, Share};
 use mal_learn::Scratch;
 use mal_revision::Revision;
 use mal_suspend::{Done, Lease};
 use spec_hall::{CloseFault, OpenFault, PickFault, ReplyFault, ReviseFault};
 use std::alloc::{AllocError, Global};
 use std::marker::Model;
+use std::mem;
 
-/// A hall of 1 to 64 workers with room for 64 tenants with 64 jobs each. Contracts see its workers and its events, each
-/// posted revision standing at its event; the type keeps that they are a legal history, that each job is its machine run
-/// alone on its own events, and which leases are out.
+/// A hall of 1 to 64 workers with room for 64 tenants with 64 jobs each. Contracts see its workers, its events, each
+/// posted revision standing at its event, and the leases that are kept inside, which no worker has; the type keeps that the
+/// events are a legal history, that each job is its machine run alone on its own events, and which leases are out.
 #[derive(Drop)]
 pub struct Hall {
     history: History,
@@ -52,14 +55,17 @@ pub struct Hall {
     starts: u64,
     unclosed: usize,
     tenants: usize,
+    lodged: Vec<Option<Lease>>,
 }
 
 impl Model for Hall {
+    ghost use Rattle.std.specs.Prelude.{map, option_map};
+    ghost use Rattle.mal_hall.specs.Offered.{handed_of};
     ghost use Rattle.mal_hall.specs.Seen.{Seen, IsHall, events_of};
 
     ghost Value = { Seen };
 
-    ghost view = { λ h. record { workers = h.history.workers; events = events_of h.history.events h.seats.items } };
+    ghost view = { λ h. record { workers = h.history.workers; events = events_of h.history.events h.seats.items; inside = map (option_map handed_of) h.lodged.items } };
 
     ghost invariant = { λ h. IsHall (record { history = h.history; seats = h.seats.items; spots = h.spots.items; starts = h.starts; unclosed = h.unclosed; tenants = h.tenants }) };
 }
@@ -71,6 +77,7 @@ impl Hall {
         requires bound { workers ≤ 64 }
         ensures workers { IfOk result (λ h. h.workers ≡ workers) }
         ensures events { IfOk result (λ h. h.events ≡ []) }
+        ensures inside { IfOk result (λ h. IsInside h) }
     {
         Ok(Hall {
             history: History::new(alloc, workers),
@@ -79,12 +86,14 @@ impl Hall {
             starts: 0,
             unclosed: 0,
             tenants: 0,
+            lodged: none_lodged(alloc, workers)?,
         })
     }
 
     /// Opens a job. There is room for 64 tenants with 64 jobs each; after a refusal the hall is as before.
     pub fn open_job(&mut self, tenant: Name, job: Name, ask: Ask) -> Result<(), OpenFault>
         ensures workers { self.new.workers ≡ self.old.workers }
+        ensures inside { self.new.inside ≡ self.old.inside }
         ensures ok { OnOk result (self.new.events ≡ self.old.events ++ Open (keyed tenant job) ask ∷ []) }
         ensures err { OnErr result (self.new.events ≡ self.old.events) }
         ensures call { HasCalled self.old.workers self.old.events (Opens (keyed tenant job) ask) result self.new.events }
@@ -125,6 +134,7 @@ impl Hall {
         revision: Revision,
     ) -> Result<(), ReviseFault>
         ensures workers { self.new.workers ≡ self.old.workers }
+        ensures inside { self.new.inside ≡ self.old.inside }
         ensures ok { OnOk result (self.new.events ≡ self.old.events ++ Revise (keyed tenant.now job.now) (next_number (keyed tenant.now job.now) self.old.events) revision ∷ []) }
         ensures err { OnErr result (self.new.events ≡ self.old.events) }
         ensures call { HasCalled self.old.workers self.old.events (Revises (keyed tenant.now job.now) revision) result self.new.events }
@@ -154,6 +164,7 @@ impl Hall {
     /// Closes a job: no revision of it follows. Takes no memory; after a refusal the hall is as before.
     pub fn close_job(&mut self, tenant: &Name, job: &Name) -> Result<(), CloseFault>
         ensures workers { self.new.workers ≡ self.old.workers }
+        ensures inside { self.new.inside ≡ self.old.inside }
         ensures ok { OnOk result (self.new.events ≡ self.old.events ++ Close (keyed tenant.now job.now) ∷ []) }
         ensures err { OnErr result (self.new.events ≡ self.old.events) }
         ensures call { HasCalled self.old.workers self.old.events (Closes (keyed tenant.now job.now)) result self.new.events }
@@ -186,6 +197,7 @@ impl Hall {
         ensures models { (t : Titled) → job_of (keyed tenant.now job.now) (states self.now.events) ≡ Some t → AnswersSolve t.state }
         ensures proofs { (t : Titled) → job_of (keyed tenant.now job.now) (states self.now.events) ≡ Some t → AnswersRefute t.state }
         ensures own { (t : Titled) → job_of (keyed tenant.now job.now) (states self.now.events) ≡ Some t → ClausesAreOwn t.state }
+        ensures call { HasCalled self.now.workers self.now.events (Asks (keyed tenant.now job.now) r) (replied result) self.now.events }
     {
         let Some(at) = place_of(&self.seats, *tenant, *job) else {
             return Err(ReplyFault::NoJob);
@@ -216,7 +228,7 @@ impl Hall {
     }
 
     /// Whether a balancing is due.
-    fn is_due(&self) -> bool
+    pub(crate) fn is_due(&self) -> bool
         ensures due { result ≡ true → IsBalanceDue self.now.events }
         ensures calm { result ≡ false → lives (states self.now.events) ≡ balanced self.now.events }
         ensures legal { Legal self.now.workers self.now.events }
@@ -227,7 +239,7 @@ impl Hall {
     }
 
     /// The place of the first job of which an exchange is due.
-    fn first_exchange(&self) -> Option<usize>
+    pub(crate) fn first_exchange(&self) -> Option<usize>
         ensures value { MatchOption result (exchange_due (states self.now.events) ≡ None) (λ at. IsFirst self.now.events at) }
         ensures legal { Legal self.now.workers self.now.events }
         ensures some { 1 ≤ self.now.workers }
@@ -236,7 +248,7 @@ impl Hall {
     }
 
     /// The node that starts next.
-    fn next(&self) -> Option<Candidate>
+    pub(crate) fn next(&self) -> Option<Candidate>
         ensures { result ≡ states_of.picked (states self.now.events) }
     {
         pick(&self.seats)
@@ -250,9 +262,10 @@ impl Hall {
     }
 
     /// Enters a balancing that is due. After want of memory nothing is entered.
-    fn balance(&mut self) -> Result<(), AllocError>
+    pub(crate) fn balance(&mut self) -> Result<(), AllocError>
         requires due { IsBalanceDue self.old.events }
         ensures workers { self.new.workers ≡ self.old.workers }
+        ensures inside { self.new.inside ≡ self.old.inside }
         ensures ok { OnOk result (HasBalanced self.old.workers self.old.events self.new.events) }
         ensures err { OnErr result (self.new.events ≡ self.old.events) }
     {
@@ -263,10 +276,11 @@ impl Hall {
     }
 
     /// Enters an exchange of the first job of which it is due, where no balancing is. After want of memory nothing is entered.
-    fn exchange_at(&mut self, at: usize) -> Result<(), AllocError>
+    pub(crate) fn exchange_at(&mut self, at: usize) -> Result<(), AllocError>
         requires calm { lives (states self.old.events) ≡ balanced self.old.events }
         requires first { IsFirst self.old.events at }
         ensures workers { self.new.workers ≡ self.old.workers }
+        ensures inside { self.new.inside ≡ self.old.inside }
         ensures ok { OnOk result (HasExchanged self.old.workers self.old.events self.new.events) }
         ensures err { OnErr result (self.new.events ≡ self.old.events) }
     {
@@ -331,9 +345,15 @@ impl Hall {
 
     /// Starts a node of the job at this place, which a worker may start, and makes room for the finish. After want of memory
     /// nothing is entered.
-    fn start_at(&mut self, at: usize, index: u32, worker: u32) -> Result<Lease, AllocError>
+    pub(crate) fn start_at(
+        &mut self,
+        at: usize,
+        index: u32,
+        worker: u32,
+    ) -> Result<Lease, AllocError>
         requires { MayStartAt self.old.workers self.old.events at index worker }
         ensures workers { self.new.workers ≡ self.old.workers }
+        ensures inside { self.new.inside ≡ self.old.inside }
         ensures ok { IfOk result (λ lease. HasStarted self.old.workers self.old.events self.new.events index worker lease) }
         ensures err { OnErr result (self.new.events ≡ self.old.events) }
     {
@@ -390,7 +410,7 @@ impl Hall {
     }
 
     /// Whether a worker has a lease out.
-    fn has_lease(&self, worker: u32) -> bool
+    pub(crate) fn has_lease(&self, worker: u32) -> bool
         requires { 1 ≤ worker }
         ensures { result ≡ is_some (lease_of worker (leases self.now.events)) }
     {
@@ -419,10 +439,11 @@ impl Hall {
     }
 
     /// Ends the lease that a worker has out: it is lost where nothing came back.
-    fn end(&mut self, worker: u32, back: Option<Done>)
+    pub(crate) fn end(&mut self, worker: u32, back: Option<Done>)
         requires some { 1 ≤ worker }
         requires may { MayEnd self.old.events worker back }
         ensures workers { self.new.workers ≡ self.old.workers }
+        ensures inside { self.new.inside ≡ self.old.inside }
         ensures ended { HasEnded self.old.events self.new.events worker (outcome_of back) }
     {
         let Some(spot) = spot_of(&self.spots, worker) else {
@@ -508,6 +529,90 @@ impl Hall {
         let done = lease.work(scratch);
         let _ = self.finish(done);
         Ok(true)
+    }
+
+    /// Whether every revision is answered.
+    pub fn is_answered(&self) -> bool
+        ensures { IsTrue result ↔ (lives (states self.now.events) ≡ []) }
+    {
+        is_answered(&self.seats)
+    }
+
+    /// Whether no lease is out.
+    pub fn is_home(&self) -> bool
+        ensures { IsTrue result ↔ (leases self.now.events ≡ []) }
+    {
+        count_out(&self.spots) == 0
+    }
+
+    /// The number of the next revision of a job, 1 where there is no such job.
+    pub(crate) fn next_of(&self, tenant: &Name, job: &Name) -> usize
+        ensures { result ≡ next_number (keyed tenant.now job.now) self.now.events }
+    {
+        let Some(at) = place_of(&self.seats, *tenant, *job) else {
+            return 1;
+        };
+        self.seats[at].job().revisions().len() + 1
+    }
+
+    /// Whether the job at a place, by opening, has this key.
+    pub(crate) fn is_named(&self, at: usize, tenant: &Name, job: &Name) -> bool
+        ensures { IsTrue result ↔ (slice_get (keys_of self.now.events) at ≡ Some (keyed tenant.now job.now)) }
+    {
+        match self.seats.get(at) {
+            None => false,
+            Some(seat) => seat.is_named(*tenant, *job),
+        }
+    }
+
+    /// Whether the lease that a worker has out is of this node of a job.
+    pub(crate) fn holds(&self, worker: u32, tenant: &Name, job: &Name, index: u32) -> bool
+        ensures { IsTrue result ↔ (lease_of worker (leases self.now.events) ≡ Some (record { worker = worker; key = keyed tenant.now job.now; index = index })) }
+    {
+        let _starts = self.starts;
+        if worker == 0 {
+            return false;
+        }
+        let Some(spot) = spot_of(&self.spots, worker) else {
+            return false;
+        };
+        if spot.index() != index {
+            return false;
+        }
+        self.is_named(spot.job(), tenant, job)
+    }
+
+    /// Whether the last event is a balancing that lists these volumes.
+    pub(crate) fn has_listed(&self, volumes: &[Share]) -> bool
+        ensures { IsTrue result ↔ (listed_last (map bare self.now.events) ≡ Some volumes.now) }
+    {
+        match self.history.events().last() {
+            None => false,
+            Some(event) => lists(event, volumes),
+        }
+    }
+
+    /// Keeps the lease of a worker inside.
+    pub(crate) fn lodge(&mut self, worker: u32, lease: Lease)
+        requires some { 1 ≤ worker }
+        requires bound { worker ≤ length self.old.inside }
+        ensures workers { self.new.workers ≡ self.old.workers }
+        ensures events { self.new.events ≡ self.old.events }
+        ensures inside { self.new.inside ≡ slice_set self.old.inside (worker - 1) (Some (handed_of lease)) }
+    {
+        self.lodged[worker as usize - 1] = Some(lease);
+    }
+
+    /// Takes the lease of a worker that is kept inside, none where it is not.
+    pub(crate) fn take_lodged(&mut self, worker: u32) -> Option<Lease>
+        requires some { 1 ≤ worker }
+        requires bound { worker ≤ length self.old.inside }
+        ensures workers { self.new.workers ≡ self.old.workers }
+        ensures events { self.new.events ≡ self.old.events }
+        ensures taken { option_map handed_of result ≡ get_or self.old.inside (worker - 1) None }
+        ensures inside { self.new.inside ≡ slice_set self.old.inside (worker - 1) None }
+    {
+        mem::replace(&mut self.lodged[worker as usize - 1], None)
     }
 }
 

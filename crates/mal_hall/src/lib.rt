@@ -1,8 +1,11 @@
 //! The hall: it holds the jobs, enters each event, hands nodes out and takes them back, and keeps that its history is legal.
 #![tactic(auto)]
 
+mod apply;
+mod desk;
 mod enter;
 mod hall;
+mod lodging;
 mod offer;
 mod pick;
 mod room;
@@ -12,6 +15,7 @@ mod spots;
 mod tests;
 mod volumes;
 
+pub use desk::{Desk, Post, PostFault};
 pub use hall::Hall;
 pub use offer::{Back, Pick, Strange};
-pub use spec_hall::{CloseFault, OpenFault, PickFault, ReplyFault, ReviseFault};
+pub use spec_hall::{ApplyFault, CloseFault, OpenFault, PickFault, ReplyFault, ReviseFault};

@@ -1,6 +1,7 @@
 //! The jobs of a hall in their seats, by opening.
 
-ghost use Rattle.std.specs.Prelude.{◌≡◌, ◌↔◌, ◌+◌, ◌<◌, ◌≤◌, true, IfOk, IsTrue, OnOk, OnErr, length};
+ghost use Rattle.std.specs.Prelude.{◌≡◌, ◌↔◌, ◌+◌, ◌<◌, ◌≤◌, true, not, IfOk, IsTrue, OnOk, OnErr, length};
+ghost use Rattle.std.specs.List.{list_all};
 ghost use Rattle.mal_base.specs.Asks.{IsAsk};
 ghost use Rattle.mal_job.specs.Finishing.{outcome_of, MayFinish};
 ghost use Rattle.spec_job.specs.Solo.{Revised, Closed, Finished, Exchanged, is_exchange_due, place_at, startable, clauses_in};
@@ -61,7 +62,7 @@ impl Seat {
     }
 
     /// Whether the job has this key.
-    fn is_named(&self, tenant: Name, name: Name) -> bool
+    pub fn is_named(&self, tenant: Name, name: Name) -> bool
         ensures { result ≡ is_key (keyed tenant name) self.now.job.titled.key }
     {
         tenant == self.job.tenant() && name == self.job.name()
@@ -247,6 +248,13 @@ pub fn is_done(seats: &[Seat]) -> bool
         }
     }
     true
+}
+
+/// Whether no job is live.
+pub fn is_answered(seats: &[Seat]) -> bool
+    ensures { result ≡ list_all (λ s. not (spec.is_live_seat s)) seats.now }
+{
+    seats.iter().all(|seat| !seat.is_live())
 }
 
 /// How many jobs a tenant has.

@@ -26,6 +26,7 @@ pub mod LeasesLemmas
 pub mod SpotLemmas
 pub mod GoesOnLemmas
 pub mod JournalLemmas
+pub mod HandedLemmas
 pub mod TurnLemmas
 pub mod ArrangeLemmas
 pub mod CallLemmas

@@ -19,7 +19,7 @@ is_out s i = is_some (place_at s i).out
 places-out : (s t : Solo) (i : ℕ) → t.places ≡ s.places → is_out t i ≡ is_out s i
 places-out s t i same = ap (λ (ps : List Place). is_some (get_or ps i vacant).out) same
 
-settled-same : (o : Option ℕ) (s : Solo) → (settled_by o s).places ≡ s.places
+pub settled-same : (o : Option ℕ) (s : Solo) → (settled_by o s).places ≡ s.places
 settled-same None s = refl
 settled-same (Some goal) s = refl
 
@@ -81,12 +81,12 @@ started-out s i j low = set-out s.places i j (record (place_at s i) { out = Some
     by_test false false = refl
 
 -- a place that comes home
-record EndsAt (s t : Solo) (i : ℕ) : Type 0 where
-  place : Place
-  home : place.out ≡ None
-  is : t.places ≡ slice_set s.places i place
+pub record EndsAt (s t : Solo) (i : ℕ) : Type 0 where
+  pub place : Place
+  pub home : place.out ≡ None
+  pub is : t.places ≡ slice_set s.places i place
 
-lease-ends : (s : Solo) (i : ℕ) (p : Place) (l : Lease) (o : Outcome) → EndsAt s (finished_lease s i p l o) i
+pub lease-ends : (s : Solo) (i : ℕ) (p : Place) (l : Lease) (o : Outcome) → EndsAt s (finished_lease s i p l o) i
 lease-ends s i p l Ran = record { place = record p { entries = p.entries ++ l.adds; out = None }; home = refl; is = by_late (is_late s l) }
   where
     n : Node

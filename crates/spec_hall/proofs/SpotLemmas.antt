@@ -65,19 +65,19 @@ spots-open workers past tags spots tag number places are = record {
     stays n (Some spot) h = record { tag = h.tag; at = get-front tags (tag ∷ []) spot.job h.tag h.at; out = h.out; number = h.number; started = h.started; low = h.low }
 
 -- elements of a list that is set
-set-here : {X : Type 0} (xs : List X) (n : ℕ) (x d : X) → n < length xs → get_or (slice_set xs n x) n d ≡ x
+pub set-here : {X : Type 0} (xs : List X) (n : ℕ) (x d : X) → n < length xs → get_or (slice_set xs n x) n d ≡ x
 set-here [] n x d low = absurd (omega (arith, low))
 set-here (y ∷ ys) zero x d low = refl
 set-here (y ∷ ys) (suc n) x d low = set-here ys n x d (omega (arith, low))
 
-set-there : {X : Type 0} (xs : List X) (n m : ℕ) (x d : X) → (n ≡ m → ⊥) → get_or (slice_set xs n x) m d ≡ get_or xs m d
+pub set-there : {X : Type 0} (xs : List X) (n m : ℕ) (x d : X) → (n ≡ m → ⊥) → get_or (slice_set xs n x) m d ≡ get_or xs m d
 set-there [] n m x d other = refl
 set-there (y ∷ ys) zero zero x d other = absurd (other refl)
 set-there (y ∷ ys) zero (suc m) x d other = refl
 set-there (y ∷ ys) (suc n) zero x d other = refl
 set-there (y ∷ ys) (suc n) (suc m) x d other = set-there ys n m x d (λ e. other (ap suc e))
 
-set-count : {X : Type 0} (xs : List X) (n : ℕ) (x : X) → length (slice_set xs n x) ≡ length xs
+pub set-count : {X : Type 0} (xs : List X) (n : ℕ) (x : X) → length (slice_set xs n x) ≡ length xs
 set-count [] n x = refl
 set-count (y ∷ ys) zero x = refl
 set-count (y ∷ ys) (suc n) x = ap suc (set-count ys n x)
@@ -95,7 +95,7 @@ get-there (y ∷ ys) (suc n) zero x other = refl
 get-there (y ∷ ys) (suc n) (suc m) x other = get-there ys n m x (λ e. other (ap suc e))
 
 -- the lease of a worker who starts, and of others
-push-mine : (ls : List Held) (l : Held) → lease_of l.worker ls ≡ None → lease_of l.worker (ls ++ l ∷ []) ≡ Some l
+pub push-mine : (ls : List Held) (l : Held) → lease_of l.worker ls ≡ None → lease_of l.worker (ls ++ l ∷ []) ≡ Some l
 push-mine ls l none = find-append (λ (x : Held). x.worker == l.worker) ls (l ∷ []) ∙ (ap (λ (o : Option Held). option_or o (lease_of l.worker (l ∷ []))) none ∙ ap (λ (b : Bool). cond b (Some l) None) ((Decides-eqb l.worker l.worker).1 refl))
 
 or-none : {X : Type 0} (o : Option X) → option_or o None ≡ o
@@ -109,7 +109,7 @@ differs a b other = by_test (a == b) refl
     by_test true e = absurd (other ((Decides-eqb a b).0 e))
     by_test false e = refl
 
-push-other : (ls : List Held) (l : Held) (worker : ℕ) → (l.worker ≡ worker → ⊥) → lease_of worker (ls ++ l ∷ []) ≡ lease_of worker ls
+pub push-other : (ls : List Held) (l : Held) (worker : ℕ) → (l.worker ≡ worker → ⊥) → lease_of worker (ls ++ l ∷ []) ≡ lease_of worker ls
 push-other ls l worker other = find-append (λ (x : Held). x.worker == worker) ls (l ∷ []) ∙ (ap (λ (b : Bool). option_or (lease_of worker ls) (cond b (Some l) None)) (differs l.worker worker other) ∙ or-none (lease_of worker ls))
 
 -- the lease of a worker whose lease came back, and of others

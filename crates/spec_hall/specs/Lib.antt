@@ -2,6 +2,7 @@ pub mod Events
 pub mod Own
 pub mod States
 pub mod Dressed
+pub mod Given
 pub mod Legal
 pub mod Seats
 pub mod Leases

@@ -57,3 +57,12 @@ pub enum PickFault {
     #[error("out of memory")]
     OutOfMemory,
 }
+
+/// Why an event of a history is not entered.
+#[derive(Clone, Copy, Debug, PartialEq, Eq, Drop, Error)]
+pub enum ApplyFault {
+    #[error("the event is not allowed")]
+    NotAllowed,
+    #[error("out of memory")]
+    OutOfMemory,
+}

@@ -13,7 +13,7 @@ ghost use Rattle.spec_hall.specs.Unknowns.{LegalAnswersAccountedFor, LegalFedAns
 ghost use Rattle.spec_hall.specs.Leases.{LegalLeases, LegalGoesOn};
 ghost use Rattle.spec_hall.specs.Calls.{CallIsDecided, CallIsLegal};
 
-pub use fault::{CloseFault, OpenFault, PickFault, ReplyFault, ReviseFault};
+pub use fault::{ApplyFault, CloseFault, OpenFault, PickFault, ReplyFault, ReviseFault};
 
 /// A job's answers and replies come from its own events alone, and events of other jobs are none of these.
 pub fn jobs_are_isolated()

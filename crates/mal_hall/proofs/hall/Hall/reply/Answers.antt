@@ -1,9 +1,24 @@
-use Rattle.std.proofs.Common.{◌≡◌, subst, arith, Some, None, MatchOption}
+use Rattle.std.proofs.Common.{◌≡◌, ℕ, List, [], Option, subst, sym, refl, arith, append-nil, Some, None, Ok, Err, MatchOption}
 use Rattle.spec_job.specs.Solo.{Solo}
 use Rattle.spec_job.specs.Titled.{Key}
 use Rattle.spec_job.specs.Replies.{reply}
+use Rattle.std.specs.declared.alloc.Global.{Global}
+use Rattle.std.specs.declared.vec.Vec.{Vec}
+use Rattle.spec_job.specs.Titled.{Titled}
+use Rattle.spec_hall.specs.declared.fault.ReplyFault.TheVariants.{NoJob, OutOfMemory}
+use Rattle.spec_hall.specs.Calls.{IsAsking}
+use Rattle.spec_hall.specs.Dressed.{keyed}
+use Rattle.spec_hall.specs.Events.{Event}
+use Rattle.spec_hall.specs.Legal.{job_of}
+use Rattle.spec_hall.specs.States.{states}
+use Rattle.mal_hall.specs.Offered.{replied}
 use Rattle.mal_hall.proofs.HallLemmas.{placed, placed-below, sits, hall-absent, hall-found, hall-solves, hall-refutes, hall-owns, found-alone}
 use Rattle.mal_hall.proofs.hall.Hall.reply.Goals as goal
+
+-- a text that is the reply of the job's machine
+asked : (past : List Event) (k : Key) (r : ℕ) (o : Option (Vec ℕ Global)) (t : Titled) → job_of k (states past) ≡ Some t → MatchOption o (reply k r t.state ≡ None) (λ text. reply k r t.state ≡ Some text.items) → IsAsking past k r (replied (Ok o)) []
+asked past k r (Some text) t job told = (t, job, sym told, refl)
+asked past k r None t job told = (t, job, sym told, refl)
 
 pub returns-in_default-clause-no_job : goal.returns-in_default-clause-no_job
 returns-in_default-clause-no_job c = λ _.
@@ -60,3 +75,31 @@ returns-in-Ok-clause-alone c = λ other same.
     let here = sits _ _ _ _ _ _ c.deref.ensures.value c.place_of.ensures c.in-Some.is c.index.ensures in
     let found = hall-found _ _ _ _ c.self.invariant here in
     found-alone _ _ _ (λ (k : Key) (state : Solo). MatchOption c.in-Ok.text (reply k c.args.r state ≡ None) (λ text. reply k c.args.r state ≡ Some text.items)) found (rw c.job.ensures at c.in-Ok.ensures) other (rw (← c.self.view_is) at same)
+
+pub returns-in_default-clause-call : goal.returns-in_default-clause-call
+returns-in_default-clause-call c = record {
+  events = [];
+  grown = sym (append-nil _);
+  call = (rw (← c.self.view_is) (hall-absent _ _ c.self.invariant (placed _ _ _ _ _ c.deref.ensures.value c.place_of.ensures c.in_default.is)), refl);
+}
+
+pub returns-in-Ok-clause-call : goal.returns-in-Ok-clause-call
+returns-in-Ok-clause-call c =
+    let here = sits _ _ _ _ _ _ c.deref.ensures.value c.place_of.ensures c.in-Some.is c.index.ensures in
+    let found = hall-found _ _ _ _ c.self.invariant here in
+    let told = rw c.job.ensures at c.in-Ok.ensures in
+    let past = c.args.self.now.events in
+    let key = keyed c.args.tenant.now c.args.job.now in
+    let titled = c.index.result.now.job.titled in
+    let job : job_of key (states past) ≡ Some titled = rw (← c.self.view_is) found.job in
+    let replies : MatchOption c.in-Ok.text (reply key c.args.r titled.state ≡ None) (λ text. reply key c.args.r titled.state ≡ Some text.items) =
+    subst (λ (k : Key). MatchOption c.in-Ok.text (reply k c.args.r titled.state ≡ None) (λ text. reply k c.args.r titled.state ≡ Some text.items)) found.key told in
+    record { events = []; grown = sym (append-nil past); call = asked past key c.args.r c.in-Ok.text titled job replies }
+
+pub returns-in-Err-clause-call : goal.returns-in-Err-clause-call
+returns-in-Err-clause-call c =
+    let here = sits _ _ _ _ _ _ c.deref.ensures.value c.place_of.ensures c.in-Some.is c.index.ensures in record {
+      events = [];
+      grown = sym (append-nil _);
+      call = (c.index.result.now.job.titled, rw (← c.self.view_is) (hall-found _ _ _ _ c.self.invariant here).job, refl);
+    }

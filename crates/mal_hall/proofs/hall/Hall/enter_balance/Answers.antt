@@ -1,0 +1,9 @@
+use Rattle.mal_hall.proofs.ApplyLemmas.{balance-entered, balance-refused}
+use Rattle.mal_hall.proofs.PhaseLemmas.{test-not, test-yes}
+use Rattle.mal_hall.proofs.hall.Hall.enter_balance.Goals as goal
+
+pub returns-then-not-has_listed-clause-refused : goal.returns-then-not-has_listed-clause-refused
+returns-then-not-has_listed-clause-refused c = λ is may. balance-refused _ _ _ c.args.volumes.now c.in-Ok.ensures.ok (test-not c.has_listed.result c.has_listed.ensures c.if-not-has_listed.true) may
+
+pub returns-clause-entered : goal.returns-clause-entered
+returns-clause-entered c = balance-entered _ _ _ c.args.volumes.now c.in-Ok.ensures.ok (test-yes c.has_listed.result c.has_listed.ensures c.if-not-has_listed.false)

@@ -1,0 +1,297 @@
+//! Entering an event that was written down.
+
+ghost use Rattle.std.specs.Prelude.{◌≡◌, false, Some, Err, MatchOption, IfOk, OnOk, IsErrOf};
+ghost use Rattle.mal_base.specs.Asks.{Terms};
+ghost use Rattle.mal_hall.specs.Applied.{HasApplied, HasEntered, IsInside, IsRefused, StartsAt};
+ghost use Rattle.mal_revision.specs.Posted.{Posted};
+ghost use Rattle.spec_hall.specs.Calls.{Opens, Revises, wanted};
+ghost use Rattle.spec_hall.specs.Dressed.{keyed};
+ghost use Rattle.spec_hall.specs.Events.{Open, Revise, Close, Balance, Start, Finish, Exchange};
+ghost use Rattle.spec_hall.specs.Legal.{Allowed};
+ghost use Rattle.spec_job.specs.Titled.{Key};
+
+use crate::hall::Hall;
+use crate::lodging::back_of;
+use mal_base::{Ask, Name, Outcome};
+use mal_history::{Event, Share};
+use mal_learn::Scratch;
+use mal_revision::Revision;
+use spec_hall::{ApplyFault, OpenFault, ReviseFault};
+
+impl Hall {
+    /// Enters this one event, a Revise with the revision that is given. It is not allowed exactly where it may not come after
+    /// the events before it, a Revise without a revision among them. The lease of a start stays inside the hall: where the
+    /// event says that the start ran it is worked there, where it says that memory was wanting it is given back as it was, and
+    /// where it says that the start was lost it is dropped. Each lease that is out has to be inside, as it is in a new hall and
+    /// after each event that was entered so. The hall is given up where the event is not entered.
+    pub fn apply(
+        self,
+        event: &Event,
+        revision: Option<Revision>,
+        scratch: &mut Scratch,
+    ) -> Result<Hall, ApplyFault>
+        requires { IsInside self }
+        ensures workers { IfOk result (λ h. h.workers ≡ self.workers) }
+        ensures applied { IfOk result (λ h. HasApplied self.workers self.events revision event.now h.events) }
+        ensures inside { IfOk result (λ h. IsInside h) }
+        ensures refused { IsErrOf result ApplyFault.NotAllowed → IsRefused self.workers self.events revision event.now }
+    {
+        let mut hall = self;
+        match hall.enter(event, revision, scratch) {
+            Ok(()) => Ok(hall),
+            Err(fault) => Err(fault),
+        }
+    }
+
+    /// Enters an event.
+    fn enter(
+        &mut self,
+        event: &Event,
+        revision: Option<Revision>,
+        scratch: &mut Scratch,
+    ) -> Result<(), ApplyFault>
+        requires { IsInside self.old }
+        ensures workers { self.new.workers ≡ self.old.workers }
+        ensures applied { OnOk result (HasApplied self.old.workers self.old.events revision event.now self.new.events) }
+        ensures inside { OnOk result (IsInside self.new) }
+        ensures refused { IsErrOf result ApplyFault.NotAllowed → IsRefused self.old.workers self.old.events revision event.now }
+    {
+        match event {
+            Event::Open { tenant, job, ask } => self.enter_open(*tenant, *job, *ask),
+            Event::Revise {
+                tenant,
+                job,
+                number,
+            } => match revision {
+                None => Err(ApplyFault::NotAllowed),
+                Some(revision) => self.enter_revise(tenant, job, *number, revision),
+            },
+            Event::Close { tenant, job } => self.enter_close(tenant, job),
+            Event::Balance { volumes } => self.enter_balance(volumes.as_slice()),
+            Event::Start {
+                tenant,
+                job,
+                index,
+                worker,
+            } => self.enter_start(tenant, job, *index, *worker),
+            Event::Finish {
+                tenant,
+                job,
+                index,
+                worker,
+                outcome,
+            } => self.enter_finish(tenant, job, *index, *worker, *outcome, scratch),
+            Event::Exchange { tenant, job } => self.enter_exchange(tenant, job),
+        }
+    }
+
+    /// Enters the opening of a job.
+    fn enter_open(&mut self, tenant: Name, job: Name, ask: Ask) -> Result<(), ApplyFault>
+        requires { IsInside self.old }
+        ensures workers { self.new.workers ≡ self.old.workers }
+        ensures entered { OnOk result (HasEntered self.old.workers self.old.events (Open (keyed tenant job) ask) self.new.events) }
+        ensures inside { OnOk result (IsInside self.new) }
+        ensures refused { IsErrOf result ApplyFault.NotAllowed → Allowed self.old.workers self.old.events (Open (keyed tenant job) ask) → ⊥ }
+    {
+        let _ = self.history().workers();
+        match self.open_job(tenant, job, ask) {
+            Ok(()) => Ok(()),
+            Err(fault) => Err(refusal_to_open(fault)),
+        }
+    }
+
+    /// Enters a revision of a job.
+    fn enter_revise(
+        &mut self,
+        tenant: &Name,
+        job: &Name,
+        number: u32,
+        revision: Revision,
+    ) -> Result<(), ApplyFault>
+        requires { IsInside self.old }
+        ensures workers { self.new.workers ≡ self.old.workers }
+        ensures entered { OnOk result (HasEntered self.old.workers self.old.events (Revise (keyed tenant.now job.now) number revision) self.new.events) }
+        ensures inside { OnOk result (IsInside self.new) }
+        ensures refused { IsErrOf result ApplyFault.NotAllowed → Allowed self.old.workers self.old.events (Revise (keyed tenant.now job.now) number revision) → ⊥ }
+    {
+        let _ = self.history().workers();
+        if self.next_of(tenant, job) != number as usize {
+            return Err(ApplyFault::NotAllowed);
+        }
+        match self.revise_job(tenant, job, revision) {
+            Ok(()) => Ok(()),
+            Err(fault) => Err(refusal_to_revise(fault)),
+        }
+    }
+
+    /// Enters the closing of a job.
+    fn enter_close(&mut self, tenant: &Name, job: &Name) -> Result<(), ApplyFault>
+        requires { IsInside self.old }
+        ensures workers { self.new.workers ≡ self.old.workers }
+        ensures entered { OnOk result (HasEntered self.old.workers self.old.events (Close (keyed tenant.now job.now)) self.new.events) }
+        ensures inside { OnOk result (IsInside self.new) }
+        ensures refused { IsErrOf result ApplyFault.NotAllowed → Allowed self.old.workers self.old.events (Close (keyed tenant.now job.now)) → ⊥ }
+    {
+        let _ = self.history().workers();
+        match self.close_job(tenant, job) {
+            Ok(()) => Ok(()),
+            Err(_) => Err(ApplyFault::NotAllowed),
+        }
+    }
+
+    /// Enters a balancing that lists these volumes.
+    fn enter_balance(&mut self, volumes: &[Share]) -> Result<(), ApplyFault>
+        requires { IsInside self.old }
+        ensures workers { self.new.workers ≡ self.old.workers }
+        ensures entered { OnOk result (HasEntered self.old.workers self.old.events (Balance volumes.now) self.new.events) }
+        ensures inside { OnOk result (IsInside self.new) }
+        ensures refused { IsErrOf result ApplyFault.NotAllowed → Allowed self.old.workers self.old.events (Balance volumes.now) → ⊥ }
+    {
+        if !self.is_due() {
+            return Err(ApplyFault::NotAllowed);
+        }
+        match self.balance() {
+            Ok(()) => {}
+            Err(_) => return Err(ApplyFault::OutOfMemory),
+        }
+        if !self.has_listed(volumes) {
+            return Err(ApplyFault::NotAllowed);
+        }
+        Ok(())
+    }
+
+    /// Enters the start of a node of a job by a worker, and keeps its lease inside.
+    fn enter_start(
+        &mut self,
+        tenant: &Name,
+        job: &Name,
+        index: u32,
+        worker: u32,
+    ) -> Result<(), ApplyFault>
+        requires { IsInside self.old }
+        ensures workers { self.new.workers ≡ self.old.workers }
+        ensures entered { OnOk result (HasEntered self.old.workers self.old.events (Start (keyed tenant.now job.now) index worker) self.new.events) }
+        ensures inside { OnOk result (IsInside self.new) }
+        ensures refused { IsErrOf result ApplyFault.NotAllowed → Allowed self.old.workers self.old.events (Start (keyed tenant.now job.now) index worker) → ⊥ }
+    {
+        let _ = self.history().workers();
+        let Some(at) = self.startable_at(tenant, job, index, worker) else {
+            return Err(ApplyFault::NotAllowed);
+        };
+        let lease = match self.start_at(at, index, worker) {
+            Ok(lease) => lease,
+            Err(_) => return Err(ApplyFault::OutOfMemory),
+        };
+        self.lodge(worker, lease);
+        Ok(())
+    }
+
+    /// The place of a job where a worker may start this node of it: where neither a balancing nor an exchange is due, the node
+    /// is the one that starts next, and the worker has no lease out.
+    fn startable_at(&self, tenant: &Name, job: &Name, index: u32, worker: u32) -> Option<usize>
+        ensures { MatchOption result (Allowed self.now.workers self.now.events (Start (keyed tenant.now job.now) index worker) → ⊥) (λ at. StartsAt self.now.workers self.now.events (keyed tenant.now job.now) index worker at) }
+    {
+        if worker == 0 || worker > self.history().workers() {
+            return None;
+        }
+        if self.has_lease(worker) {
+            return None;
+        }
+        let balances = self.is_due();
+        if balances {
+            return None;
+        }
+        if self.first_exchange().is_some() {
+            return None;
+        }
+        let Some(next) = self.next() else {
+            return None;
+        };
+        if next.index() != index {
+            return None;
+        }
+        if !self.is_named(next.job(), tenant, job) {
+            return None;
+        }
+        Some(next.job())
+    }
+
+    /// Enters the finish of the lease that a worker has out, which is kept inside.
+    fn enter_finish(
+        &mut self,
+        tenant: &Name,
+        job: &Name,
+        index: u32,
+        worker: u32,
+        outcome: Outcome,
+        scratch: &mut Scratch,
+    ) -> Result<(), ApplyFault>
+        requires { IsInside self.old }
+        ensures workers { self.new.workers ≡ self.old.workers }
+        ensures entered { OnOk result (HasEntered self.old.workers self.old.events (Finish (keyed tenant.now job.now) index worker outcome) self.new.events) }
+        ensures inside { OnOk result (IsInside self.new) }
+        ensures refused { IsErrOf result ApplyFault.NotAllowed → Allowed self.old.workers self.old.events (Finish (keyed tenant.now job.now) index worker outcome) → ⊥ }
+    {
+        let _ = self.history().workers();
+        if !self.holds(worker, tenant, job, index) {
+            return Err(ApplyFault::NotAllowed);
+        }
+        let Some(lease) = self.take_lodged(worker) else {
+            unreachable!();
+        };
+        let back = match back_of(lease, outcome, scratch) {
+            Ok(back) => back,
+            Err(_) => return Err(ApplyFault::OutOfMemory),
+        };
+        self.end(worker, back);
+        Ok(())
+    }
+
+    /// Enters an exchange of a job.
+    fn enter_exchange(&mut self, tenant: &Name, job: &Name) -> Result<(), ApplyFault>
+        requires { IsInside self.old }
+        ensures workers { self.new.workers ≡ self.old.workers }
+        ensures entered { OnOk result (HasEntered self.old.workers self.old.events (Exchange (keyed tenant.now job.now)) self.new.events) }
+        ensures inside { OnOk result (IsInside self.new) }
+        ensures refused { IsErrOf result ApplyFault.NotAllowed → Allowed self.old.workers self.old.events (Exchange (keyed tenant.now job.now)) → ⊥ }
+    {
+        if self.is_due() {
+            return Err(ApplyFault::NotAllowed);
+        }
+        let Some(at) = self.first_exchange() else {
+            return Err(ApplyFault::NotAllowed);
+        };
+        if !self.is_named(at, tenant, job) {
+            return Err(ApplyFault::NotAllowed);
+        }
+        match self.exchange_at(at) {
+            Ok(()) => Ok(()),
+            Err(_) => Err(ApplyFault::OutOfMemory),
+        }
+    }
+}
+
+/// Why the opening of a job is not entered that is refused so.
+fn refusal_to_open(fault: OpenFault) -> ApplyFault
+    ensures { result ≡ ApplyFault.NotAllowed → (k : Key) (ask : Terms) → wanted (Opens k ask) (Err fault) ≡ false }
+{
+    match fault {
+        OpenFault::Duplicate => ApplyFault::NotAllowed,
+        OpenFault::TenantFull => ApplyFault::NotAllowed,
+        OpenFault::HallFull => ApplyFault::NotAllowed,
+        OpenFault::OutOfMemory => ApplyFault::OutOfMemory,
+    }
+}
+
+/// Why a revision is not entered that is refused so.
+fn refusal_to_revise(fault: ReviseFault) -> ApplyFault
+    ensures { result ≡ ApplyFault.NotAllowed → (k : Key) (r : Posted) → wanted (Revises k r) (Err fault) ≡ false }
+{
+    match fault {
+        ReviseFault::NoJob => ApplyFault::NotAllowed,
+        ReviseFault::Closed => ApplyFault::NotAllowed,
+        ReviseFault::RevisionsFull => ApplyFault::NotAllowed,
+        ReviseFault::JobFull { .. } => ApplyFault::NotAllowed,
+        ReviseFault::OutOfMemory => ApplyFault::OutOfMemory,
+    }
+}

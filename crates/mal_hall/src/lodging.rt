@@ -1,0 +1,76 @@
+//! Leases that are kept inside a hall, and what comes of them.
+
+ghost use Rattle.std.specs.Prelude.{◌≡◌, ◌↔◌, IfOk, IsTrue, None, Some, replicate};
+ghost use Rattle.mal_hall.specs.Applied.{IsBackOf, listed_in};
+ghost use Rattle.mal_base.specs.declared.verdict.Outcome.TheVariants.{Ran};
+ghost use Rattle.spec_job.specs.Leased.{Becomes};
+
+use mal_base::Outcome;
+use mal_history::{Event, Share};
+use mal_learn::Scratch;
+use mal_suspend::{Done, Lease};
+use std::alloc::{AllocError, Global};
+
+/// Room for the leases of so many workers, without a lease.
+pub fn none_lodged(alloc: Global, workers: u32) -> Result<Vec<Option<Lease>>, AllocError>
+    ensures { IfOk result (λ v. v.items ≡ replicate workers None) }
+{
+    let mut lodged = Vec::new(alloc);
+    for worker in 0..workers {
+        let _ = worker;
+        lodged.push(None)?;
+    }
+    Ok(lodged)
+}
+
+/// What comes of a lease whose start ended so: one that ran is worked off, one that wanted for memory is given back as it was,
+/// and one that was lost is dropped. A slice that wants for memory now is refused.
+pub fn back_of(
+    lease: Lease,
+    outcome: Outcome,
+    scratch: &mut Scratch,
+) -> Result<Option<Done>, AllocError>
+    ensures { IfOk result (λ back. IsBackOf lease outcome back) }
+{
+    match outcome {
+        Outcome::Ran => Ok(Some(ran(lease, scratch)?)),
+        Outcome::Starved => Ok(Some(lease.starved())),
+        Outcome::Lost => Ok(None),
+    }
+}
+
+/// Works a lease off. A slice that wants for memory is refused.
+fn ran(lease: Lease, scratch: &mut Scratch) -> Result<Done, AllocError>
+    ensures outcome { IfOk result (λ done. done.outcome ≡ Ran) }
+    ensures worker { IfOk result (λ done. done.worker ≡ lease.worker) }
+    ensures becomes { IfOk result (λ done. Becomes Ran lease done) }
+{
+    let done = lease.work(scratch);
+    match done.outcome() {
+        Outcome::Ran => Ok(done),
+        Outcome::Starved => Err(AllocError),
+        Outcome::Lost => unreachable!(),
+    }
+}
+
+/// Whether an event is a balancing that lists these volumes.
+pub fn lists(event: &Event, volumes: &[Share]) -> bool
+    ensures { IsTrue result ↔ (listed_in event.now ≡ Some volumes.now) }
+{
+    match event {
+        Event::Open { .. } => false,
+        Event::Revise { .. } => false,
+        Event::Close { .. } => false,
+        Event::Balance { volumes: listed } => are_same(listed.as_slice(), volumes),
+        Event::Start { .. } => false,
+        Event::Finish { .. } => false,
+        Event::Exchange { .. } => false,
+    }
+}
+
+/// Whether these are the same volumes of the same jobs in the same order.
+fn are_same(one: &[Share], other: &[Share]) -> bool
+    ensures { IsTrue result ↔ (one.now ≡ other.now) }
+{
+    one == other
+}

@@ -1,0 +1,224 @@
+-- What a lease was handed out with stays, whatever happens while it is out.
+use Rattle.std.proofs.Common.{◌≡◌, ℕ, zero, suc, ◌+◌, ◌<◌, ◌≤◌, Bool, true, false, cond, not, ◌&&◌, ◌||◌, ◌==◌, List, [], ◌∷◌, ◌++◌, get_or, slice_set, length, Option, Some, None, option_map, is_some, inl, inr, ◌⊎◌, refl, sym, ◌∙◌, ap, subst, arith}
+use Rattle.std.specs.List.{list_any}
+use Rattle.std.specs.Option.{option_map_or}
+use Rattle.std.proofs.lemmas.Bool.{both_ways, false_from_ne_true}
+use Rattle.std.proofs.lemmas.Bool.Decides.{Decides-eqb}
+use Rattle.mal_base.specs.declared.verdict.Outcome.{Outcome}
+use Rattle.mal_revision.specs.Posted.{Posted}
+use Rattle.spec_job.specs.Journal.{JournalEntry}
+use Rattle.spec_job.specs.Journaled.{Journaled}
+use Rattle.spec_job.specs.Solo.{Own, Opened, Revised, Closed, Volume, Started, Finished, Exchanged, Solo, Place, Lease, vacant, place_at, solo, solo_step, start_entries, current, first_empty, finished_lease, finished, exchanged}
+use Rattle.spec_job.specs.Titled.{Key}
+use Rattle.spec_job.proofs.PlacesLemmas.{marked-place, set-place}
+use Rattle.spec_hall.specs.Calls.{Handed, handed}
+use Rattle.spec_hall.specs.Events.{Event, Open, Revise, Close, Balance, Start, Finish, Exchange}
+use Rattle.spec_hall.specs.Leases.{Numbered, job_number, numbered, place_among, start_number}
+use Rattle.spec_hall.specs.Legal.{Allowed, Legal}
+use Rattle.spec_hall.specs.Own.{own, own_step, adds, adds_volume, is_key, volume_in, volume_after}
+use Rattle.spec_hall.specs.States.{Held, keys_of, leases, lease_of}
+use Rattle.spec_hall.proofs.KeyLemmas.{is_key-Decides}
+use Rattle.spec_hall.proofs.LeasesLemmas.{lease-out, lease-worker, start-free}
+use Rattle.spec_hall.proofs.OrderlyLemmas.{lease-opened, legal-orderly}
+use Rattle.spec_hall.proofs.OutLemmas.{EndsAt, finished-out, is_out, lease-ends, settled-same}
+use Rattle.spec_hall.proofs.PushLemmas.{Legal-push, keys-push, own-push, solo-push}
+use Rattle.spec_hall.proofs.SpotLemmas.{numbered-push}
+
+-- what stands at a place as a lease concerns it: the entries of the journal, and the start that is out
+record Left : Type 0 where
+  entries : List JournalEntry
+  out : Option Lease
+
+abbrev left_of : Place → Left
+left_of p = record { entries = p.entries; out = p.out }
+
+abbrev left_at : Solo → ℕ → Left
+left_at s i = left_of (place_at s i)
+
+places-left : (s t : Solo) (i : ℕ) → t.places ≡ s.places → left_at t i ≡ left_at s i
+places-left s t i same = ap (λ (ps : List Place). left_of (get_or ps i vacant)) same
+
+-- an event of the machine leaves it at each place of which it is not
+revised-left : (s : Solo) (r : Posted) (i : ℕ) → left_at (solo_step s (Revised r)) i ≡ left_at s i
+revised-left s r i = places-left s (solo_step s (Revised r)) i (settled-same (first_empty s.log) _)
+
+exchanged-left : (s : Solo) (i : ℕ) → left_at (solo_step s Exchanged) i ≡ left_at s i
+exchanged-left s i = by_mark (marked-place s.volume (length s.log) 0 s.places i)
+  where
+    by_mark : (m : ℕ) × (get_or (exchanged s).places i vacant ≡ record (get_or s.places i vacant) { mark = m }) → left_at (solo_step s Exchanged) i ≡ left_at s i
+    by_mark (m, e) = ap left_of e
+
+set-other : (ps : List Place) (i j : ℕ) (p : Place) → (j ≡ i → ⊥) → get_or (slice_set ps i p) j vacant ≡ get_or ps j vacant
+set-other ps i j p other = by_place (set-place ps i j p)
+  where
+    by_place : ((j ≡ i) × (get_or (slice_set ps i p) j vacant ≡ p)) ⊎ (get_or (slice_set ps i p) j vacant ≡ get_or ps j vacant) → get_or (slice_set ps i p) j vacant ≡ get_or ps j vacant
+    by_place (inl k) = absurd (other k.0)
+    by_place (inr e) = e
+
+started-left : (s : Solo) (i j : ℕ) → (j ≡ i → ⊥) → left_at (solo_step s (Started i)) j ≡ left_at s j
+started-left s i j other = ap left_of (set-other s.places i j (record (place_at s i) { out = Some (record { revision = current s; adds = start_entries s (place_at s i) }); starts = (place_at s i).starts + 1 }) other)
+
+finished-left : (s : Solo) (i j : ℕ) (o : Outcome) → (j ≡ i → ⊥) → left_at (solo_step s (Finished i o)) j ≡ left_at s j
+finished-left s i j o other = by_lease (place_at s i).out refl
+  where
+    by_lease : (q : Option Lease) → (place_at s i).out ≡ q → left_at (solo_step s (Finished i o)) j ≡ left_at s j
+    by_lease None e = ap (λ (x : Option Lease). left_at (finished s i (place_at s i) x o) j) e
+    by_lease (Some l) e =
+        let ends : EndsAt s (finished_lease s i (place_at s i) l o) i = lease-ends s i (place_at s i) l o in
+        let whole : (solo_step s (Finished i o)).places ≡ slice_set s.places i ends.place =
+        ap (λ (x : Option Lease). (finished s i (place_at s i) x o).places) e ∙ (settled-same (first_empty (finished_lease s i (place_at s i) l o).log) (finished_lease s i (place_at s i) l o) ∙ ends.is) in
+        ap (λ (ps : List Place). left_of (get_or ps j vacant)) whole ∙ ap left_of (set-other s.places i j ends.place other)
+
+-- an own event that leaves it for each machine, whether it joins or not
+adds-left : (mine : Bool) (es : List Own) (o : Own) (i : ℕ) → ((s : Solo) → left_at (solo_step s o) i ≡ left_at s i) → left_at (solo (adds mine es o)) i ≡ left_at (solo es) i
+adds-left true es o i same = ap (λ (s : Solo). left_at s i) (solo-push es o) ∙ same (solo es)
+adds-left false es o i same = refl
+
+-- or of another node, where it joins
+other-left : (mine : Bool) (es : List Own) (o : Own) (i : ℕ) → (mine ≡ true → (s : Solo) → left_at (solo_step s o) i ≡ left_at s i) → left_at (solo (adds mine es o)) i ≡ left_at (solo es) i
+other-left true es o i same = adds-left true es o i (same refl)
+other-left false es o i same = refl
+
+volume-left : (v : ℕ) (es : List Own) (i : ℕ) → left_at (solo (adds_volume v es)) i ≡ left_at (solo es) i
+volume-left v es i = by_test (v == volume_after es)
+  where
+    by_test : (b : Bool) → left_at (solo (cond b es (es ++ Volume v ∷ []))) i ≡ left_at (solo es) i
+    by_test true = refl
+    by_test false = ap (λ (s : Solo). left_at s i) (solo-push es (Volume v))
+
+-- a lease that is out before an event and after it
+record IsOutStill (w : ℕ) (past : List Event) (e : Event) (worker : ℕ) (l : Held) : Type 0 where
+  some : 1 ≤ w
+  bound : w ≤ 64
+  legal : Legal w past
+  allowed : Allowed w past e
+  out : lease_of worker (leases past) ≡ Some l
+  still : lease_of worker (leases (past ++ e ∷ [])) ≡ Some l
+
+-- it is of that worker
+mine-is : (w : ℕ) (past : List Event) (e : Event) (worker : ℕ) (l : Held) → IsOutStill w past e worker l → l.worker ≡ worker
+mine-is w past e worker l is = (lease-worker w past worker l is.some is.bound is.legal is.out).0
+
+held-as : (h : List Event) (worker : ℕ) (l : Held) → l.worker ≡ worker → lease_of worker (leases h) ≡ Some l → lease_of worker (leases h) ≡ Some (record { worker = worker; key = l.key; index = l.index })
+held-as h worker l same e = e ∙ ap (λ (v : ℕ). let o : Option Held = Some (record { worker = v; key = l.key; index = l.index }) in o) same
+
+-- its node is not the one that starts
+start-other : (w : ℕ) (past : List Event) (k : Key) (index v worker : ℕ) (l : Held) → IsOutStill w past (Start k index v) worker l → is_key l.key k ≡ true → l.index ≡ index → ⊥
+start-other w past k index v worker l is mine same =
+    let key : l.key ≡ k = (is_key-Decides l.key k).0 mine in
+    let held : lease_of worker (leases past) ≡ Some (record { worker = worker; key = k; index = l.index }) = subst (λ (j : Key). lease_of worker (leases past) ≡ Some (record { worker = worker; key = j; index = l.index })) key (held-as past worker l (mine-is w past (Start k index v) worker l is) is.out) in
+    (start-free w past k index v is.some is.bound is.legal is.allowed).home worker l.index held same
+
+-- nor the one that comes back
+finish-other : (w : ℕ) (past : List Event) (k : Key) (index v : ℕ) (o : Outcome) (worker : ℕ) (l : Held) → IsOutStill w past (Finish k index v o) worker l → is_key l.key k ≡ true → l.index ≡ index → ⊥
+finish-other w past k index v o worker l is mine same = both_ways (is_out (solo (own k now)) index) home out
+  where
+    now : List Event
+    now = past ++ Finish k index v o ∷ []
+
+    key : l.key ≡ k
+    key = (is_key-Decides l.key k).0 mine
+
+    legal : Legal w now
+    legal = Legal-push w past (Finish k index v o) is.legal is.allowed
+
+    out : is_out (solo (own k now)) index ≡ true
+    out = subst (λ (i : ℕ). is_out (solo (own k now)) i ≡ true) same (subst (λ (j : Key). is_out (solo (own j now)) l.index ≡ true) key (lease-out w now l.key l.index worker is.some is.bound legal (held-as now worker l (mine-is w past (Finish k index v o) worker l is) is.still)))
+
+    there : is_out (solo (own k past)) index ≡ true
+    there = lease-out w past k index v is.some is.bound is.legal is.allowed
+
+    within : (ps : List Place) (i : ℕ) → is_some (get_or ps i vacant).out ≡ true → i < length ps
+    within [] i e = absurd (cc)
+    within (p ∷ ps) zero e = omega arith
+    within (p ∷ ps) (suc i) e = let u : i < length ps = within ps i e in omega arith
+
+    same_key : is_key k k ≡ true
+    same_key = subst (λ (j : Key). is_key j k ≡ true) key mine
+
+    and-false : (a b : Bool) → b ≡ true → (a && not b) ≡ false
+    and-false true true e = refl
+    and-false true false e = absurd (cc)
+    and-false false b e = refl
+
+    home : is_out (solo (own k now)) index ≡ false
+    home =
+        ap (λ (es : List Own). is_out (solo es) index) (own-push k past (Finish k index v o) ∙ ap (λ (b : Bool). adds b (own k past) (Finished index o)) same_key)
+        ∙ (ap (λ (s : Solo). is_out s index) (solo-push (own k past) (Finished index o))
+        ∙ (finished-out (solo (own k past)) index index o there (within (solo (own k past)).places index there)
+        ∙ and-false (is_out (solo (own k past)) index) (index == index) ((Decides-eqb index index).1 refl)))
+
+event-left : (w : ℕ) (past : List Event) (e : Event) (worker : ℕ) (l : Held) → IsOutStill w past e worker l → left_at (solo (own_step l.key (own l.key past) e)) l.index ≡ left_at (solo (own l.key past)) l.index
+event-left w past (Open k ask) worker l is = adds-left (is_key l.key k) (own l.key past) (Opened ask) l.index (λ s. refl)
+event-left w past (Revise k number r) worker l is = adds-left (is_key l.key k) (own l.key past) (Revised r) l.index (λ s. revised-left s r l.index)
+event-left w past (Close k) worker l is = adds-left (is_key l.key k) (own l.key past) Closed l.index (λ s. refl)
+event-left w past (Balance shares) worker l is = volume-left (volume_in l.key shares) (own l.key past) l.index
+event-left w past (Start k index v) worker l is = other-left (is_key l.key k) (own l.key past) (Started index) l.index (λ mine s. started-left s index l.index (start-other w past k index v worker l is mine))
+event-left w past (Finish k index v o) worker l is = other-left (is_key l.key k) (own l.key past) (Finished index o) l.index (λ mine s. finished-left s index l.index o (finish-other w past k index v o worker l is mine))
+event-left w past (Exchange k) worker l is = adds-left (is_key l.key k) (own l.key past) Exchanged l.index (λ s. exchanged-left s l.index)
+
+-- its job keeps its number
+among-push : (k j : Key) (ks : List Key) → list_any (is_key k) ks ≡ true → place_among k (ks ++ j ∷ []) ≡ place_among k ks
+among-push k j [] e = absurd (cc)
+among-push k j (x ∷ xs) e = by_test (is_key k x) e (among-push k j xs)
+  where
+    by_test : (b : Bool) → (b || list_any (is_key k) xs) ≡ true → (list_any (is_key k) xs ≡ true → place_among k (xs ++ j ∷ []) ≡ place_among k xs) → cond b 0 (suc (place_among k (xs ++ j ∷ []))) ≡ cond b 0 (suc (place_among k xs))
+    by_test true f rest = refl
+    by_test false f rest = ap suc (rest f)
+
+number-stays : (w : ℕ) (past : List Event) (e : Event) (worker : ℕ) (l : Held) → IsOutStill w past e worker l → job_number l.key (past ++ e ∷ []) ≡ job_number l.key past
+number-stays w past (Open k ask) worker l is =
+    ap (place_among l.key) (keys-push past (Open k ask))
+    ∙ among-push l.key k (keys_of past) (lease-opened past worker l.index l.key (legal-orderly w past is.legal) (held-as past worker l (mine-is w past (Open k ask) worker l is) is.out))
+number-stays w past (Revise k number r) worker l is = ap (place_among l.key) (keys-push past (Revise k number r))
+number-stays w past (Close k) worker l is = ap (place_among l.key) (keys-push past (Close k))
+number-stays w past (Balance shares) worker l is = ap (place_among l.key) (keys-push past (Balance shares))
+number-stays w past (Start k index v) worker l is = ap (place_among l.key) (keys-push past (Start k index v))
+number-stays w past (Finish k index v o) worker l is = ap (place_among l.key) (keys-push past (Finish k index v o))
+number-stays w past (Exchange k) worker l is = ap (place_among l.key) (keys-push past (Exchange k))
+
+-- its worker has no later start
+starts-stay : (w : ℕ) (past : List Event) (e : Event) (worker : ℕ) (l : Held) → IsOutStill w past e worker l → start_number worker (past ++ e ∷ []) ≡ start_number worker past
+starts-stay w past (Open k ask) worker l is = ap (λ (n : Numbered). n.last) (numbered-push worker past (Open k ask))
+starts-stay w past (Revise k number r) worker l is = ap (λ (n : Numbered). n.last) (numbered-push worker past (Revise k number r))
+starts-stay w past (Close k) worker l is = ap (λ (n : Numbered). n.last) (numbered-push worker past (Close k))
+starts-stay w past (Balance shares) worker l is = ap (λ (n : Numbered). n.last) (numbered-push worker past (Balance shares))
+starts-stay w past (Start k index v) worker l is =
+    ap (λ (n : Numbered). n.last) (numbered-push worker past (Start k index v))
+    ∙ ap (λ (b : Bool). cond b ((numbered worker past).all + 1) (numbered worker past).last) (false_from_ne_true (v == worker) other)
+  where
+    other : (v == worker) ≡ true → ⊥
+    other e =
+        let none : lease_of worker (leases past) ≡ None = subst (λ (n : ℕ). lease_of n (leases past) ≡ None) ((Decides-eqb v worker).0 e) is.allowed.1.idle in
+        let both : None ≡ Some l = sym none ∙ is.out in
+        cc
+starts-stay w past (Finish k index v o) worker l is = ap (λ (n : Numbered). n.last) (numbered-push worker past (Finish k index v o))
+starts-stay w past (Exchange k) worker l is = ap (λ (n : Numbered). n.last) (numbered-push worker past (Exchange k))
+
+-- a lease from these parts
+abbrev handed_by : Held → ℕ → ℕ → Left → Handed
+handed_by l job start p = record { journal = record { job = job; index = l.index; start = start; entries = p.entries }; adds = option_map_or (λ o. o.adds) p.out []; worker = l.worker }
+
+-- a lease that stays out is as it was handed out
+handed-stays : (w : ℕ) (past : List Event) (e : Event) (worker : ℕ) (l : Held) → IsOutStill w past e worker l → handed (past ++ e ∷ []) l ≡ handed past l
+handed-stays w past e worker l is =
+    let now : List Event = past ++ e ∷ [] in
+    let same : l.worker ≡ worker = mine-is w past e worker l is in
+    let start : start_number l.worker now ≡ start_number l.worker past = subst (λ (v : ℕ). start_number v now ≡ start_number v past) (sym same) (starts-stay w past e worker l is) in
+    let left : left_at (solo (own l.key now)) l.index ≡ left_at (solo (own l.key past)) l.index = ap (λ (es : List Own). left_at (solo es) l.index) (own-push l.key past e) ∙ event-left w past e worker l is in
+    ap (λ (n : ℕ). handed_by l n (start_number l.worker now) (left_at (solo (own l.key now)) l.index)) (number-stays w past e worker l is)
+    ∙ (ap (λ (n : ℕ). handed_by l (job_number l.key past) n (left_at (solo (own l.key now)) l.index)) start
+    ∙ ap (λ (p : Left). handed_by l (job_number l.key past) (start_number l.worker past) p) left)
+
+-- what a worker has stays where its lease does
+pub lease-stays : (w : ℕ) (past : List Event) (e : Event) (worker : ℕ) → 1 ≤ w → w ≤ 64 → Legal w past → Allowed w past e → lease_of worker (leases (past ++ e ∷ [])) ≡ lease_of worker (leases past) → option_map (handed (past ++ e ∷ [])) (lease_of worker (leases (past ++ e ∷ []))) ≡ option_map (handed past) (lease_of worker (leases past))
+lease-stays w past e worker some bound legal allowed same = by_lease (lease_of worker (leases past)) refl
+  where
+    now : List Event
+    now = past ++ e ∷ []
+
+    by_lease : (o : Option Held) → lease_of worker (leases past) ≡ o → option_map (handed now) (lease_of worker (leases now)) ≡ option_map (handed past) (lease_of worker (leases past))
+    by_lease None q = ap (option_map (handed now)) (same ∙ q) ∙ sym (ap (option_map (handed past)) q)
+    by_lease (Some l) q =
+        let is : IsOutStill w past e worker l = record { some = some; bound = bound; legal = legal; allowed = allowed; out = q; still = same ∙ q } in
+        ap (option_map (handed now)) (same ∙ q) ∙ (ap Some (handed-stays w past e worker l is) ∙ sym (ap (option_map (handed past)) q))
