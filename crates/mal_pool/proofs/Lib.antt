@@ -1,1 +1,12 @@
 pub mod PoolLemmas
+pub mod RunLosses
+pub mod CallLosses
+pub mod Loops
+pub mod LoopLaws
+pub mod Postings
+pub mod Leavings
+pub mod Agreements
+pub mod Writings
+pub mod Knowing
+pub mod Gating
+pub mod Demands

@@ -1,10 +1,28 @@
-//! Running a script: what the tenants post is posted, and the hall is driven until every revision is answered.
+//! Running a script: tenants post and workers work at the same time, or one thread does both, until every revision is answered.
 #![tactic(auto)]
 
 mod answering;
+mod board;
+mod gate;
+mod laws;
+mod leaving;
+mod mutex;
+mod posting;
+mod role;
+mod run;
 mod running;
+mod shared;
+mod testing;
 #[cfg(test)]
 mod tests;
+mod working;
 
 pub use answering::replies;
-pub use running::run_all;
+pub use board::{Board, InUse};
+pub use gate::{Gate, PlainGate, Point, Step};
+pub use laws::loops_end_so;
+pub use mutex::{Noted, OwnCalls, Shared};
+pub use run::{run_all, run_with};
+pub use running::run_alone;
+pub use shared::{Kept, Size};
+pub use working::{End, work_loop};

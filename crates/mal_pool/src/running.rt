@@ -1,4 +1,4 @@
-//! Running a script.
+//! Running a script on one thread.
 
 ghost use Rattle.std.specs.Prelude.{◌≡◌, ◌≤◌, List, ◌++◌, [], ◌∷◌, flat_map, IfOk, OnOk};
 ghost use Rattle.mal_hall.specs.Seen.{next_number};
@@ -9,6 +9,7 @@ ghost use Rattle.spec_hall.specs.Events.{Open, Revise, Close};
 ghost use Rattle.spec_hall.specs.Legal.{MayOpen, MayRevise};
 ghost use Rattle.spec_job.specs.Titled.{Titled};
 ghost use Rattle.spec_run.specs.Complete.{key_of_job, job_events, open_events, revise_events, script_events};
+ghost use Rattle.spec_run.specs.Losses.{NoneIsLost};
 ghost use Rattle.spec_run.specs.Posting.{IsOpen};
 ghost use Rattle.spec_script.specs.Formed.{IsJob, IsScript, MayAllFollow};
 ghost use Rattle.spec_script.specs.Limits.{served};
@@ -19,14 +20,16 @@ use mal_revision::Revision;
 use mal_script::{Script, ScriptJob};
 use std::alloc::{AllocError, Global};
 
-/// Runs a script with 1 to 64 workers: all jobs are opened, and then job by job its revisions and its closing are posted, in
-/// the order of the script. The hall is driven by one thread until every revision is answered, so its history comes by turns.
-pub fn run_all(alloc: Global, script: &Script, workers: u32) -> Result<Hall, AllocError>
+/// Runs a script with 1 to 64 workers on this thread: all jobs are opened, and then job by job its revisions and its closing are
+/// posted, in the order of the script. The hall is driven as its first worker until every revision is answered, so its history
+/// comes by turns, and no lease is lost.
+pub fn run_alone(alloc: Global, script: &Script, workers: u32) -> Result<Hall, AllocError>
     requires formed { IsScript served script.now }
     requires some { 1 ≤ workers }
     requires bound { workers ≤ 64 }
     ensures run { IfOk result (λ h. HasRun workers script.now h) }
     ensures sequential { IfOk result (λ h. IsDriven workers (script_events script.now) h.events) }
+    ensures none_lost { IfOk result (λ h. NoneIsLost h.events) }
 {
     let mut scratch = Scratch::new(alloc);
     let mut hall = Hall::new(alloc, workers)?;

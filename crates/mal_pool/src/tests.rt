@@ -2,15 +2,17 @@
 
 ghost use Rattle.std.specs.Prelude.{◌≤◌};
 
-use crate::{replies, run_all};
+use crate::{replies, run_alone};
 use mal_script::read;
 use std::alloc::Global;
 use std::test::Fail;
 
+mod threads;
+
 /// The replies to the script of a text.
 fn replies_of(alloc: Global, text: &[u8]) -> Result<Vec<u8>, Fail> {
     let script = read(alloc, text)?;
-    let hall = run_all(alloc, &script, 1)?;
+    let hall = run_alone(alloc, &script, 1)?;
     Ok(replies(alloc, &hall, &script)?)
 }
 
@@ -20,7 +22,7 @@ fn history_of(alloc: Global, text: &[u8], workers: u32) -> Result<Vec<u8>, Fail>
     requires bound { workers ≤ 64 }
 {
     let script = read(alloc, text)?;
-    let hall = run_all(alloc, &script, workers)?;
+    let hall = run_alone(alloc, &script, workers)?;
     Ok(mal_history::write(alloc, hall.history())?)
 }
 

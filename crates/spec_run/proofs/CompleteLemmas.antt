@@ -149,7 +149,7 @@ turned-posts tenant (Exchanges k ∷ ts) = turned-posts tenant ts
 turned-posts tenant (Slices k index outcome ∷ ts) = turned-posts tenant ts
 
 -- what a tenant posts of all that a script posts
-script-posts : (tenant : List ℕ) (s : Scripted) → filter (is_post_of tenant) (script_events s) ≡ posts_of tenant s
+pub script-posts : (tenant : List ℕ) (s : Scripted) → filter (is_post_of tenant) (script_events s) ≡ posts_of tenant s
 script-posts tenant s =
     filter-append (is_post_of tenant) (open_events s.jobs) (flat_map job_events s.jobs)
     ∙ (ap (λ (x : List Event). x ++ filter (is_post_of tenant) (flat_map job_events s.jobs)) (opened-posts tenant s.jobs)

@@ -6,3 +6,4 @@ pub mod PostingLemmas
 pub mod CompleteLemmas
 pub mod HomeLemmas
 pub mod DecidedLemmas
+pub mod LossLemmas

@@ -1,3 +1,4 @@
 pub mod Complete
 pub mod Posting
 pub mod Run
+pub mod Losses

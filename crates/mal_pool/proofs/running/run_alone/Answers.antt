@@ -5,9 +5,10 @@ use Rattle.spec_hall.specs.States.{leases}
 use Rattle.spec_run.specs.Complete.{job_events, open_events, script_events}
 use Rattle.spec_run.proofs.CompleteLemmas.{grown-driven}
 use Rattle.spec_run.proofs.HomeLemmas.{script-home}
+use Rattle.spec_run.proofs.LossLemmas.{grown-loses-none, script-loses-none}
 use Rattle.spec_script.specs.Script.{ScriptedJob, Scripted}
 use Rattle.mal_pool.proofs.PoolLemmas.{has-run}
-use Rattle.mal_pool.proofs.running.run_all.Goals as goal
+use Rattle.mal_pool.proofs.running.run_alone.Goals as goal
 
 pub drive-requires : goal.drive-requires
 drive-requires c =
@@ -32,4 +33,5 @@ returns c =
     record {
       run = has-run c.args.workers s c.drive.new.self workers c.history.ensures.legal turns c.in_ok-drive.ensures.answered c.in_ok-drive.ensures.home;
       sequential = grown-driven c.args.workers s c.drive.new.self.events turns c.in_ok-drive.ensures.answered;
+      none_lost = grown-loses-none c.args.workers (script_events s) c.drive.new.self.events turns (script-loses-none s);
     }

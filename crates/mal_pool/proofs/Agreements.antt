@@ -1,0 +1,229 @@
+-- When a history has what a script posts.
+use Rattle.std.proofs.Common.{◌≡◌, ℕ, zero, suc, ◌+◌, ◌-◌, ◌<◌, ◌≤◌, Bool, true, false, ◌||◌, ◌&&◌, cond, List, [], ◌∷◌, ◌++◌, length, map, take, get_or, flat_map, filter, fold, Option, Some, None, refl, sym, ◌∙◌, ap, subst, append-nil, append_assoc, arith, length-append}
+use Rattle.std.specs.Prelude.{slice_get}
+use Rattle.std.specs.List.{list_any, list_all}
+use Rattle.std.proofs.lemmas.List.{map-append, take_all, get_or-append-add}
+use Rattle.std.proofs.lemmas.List.Concat.{flat_map-append}
+use Rattle.std.proofs.lemmas.List.Elements.{filter-append}
+use Rattle.std.proofs.lemmas.Option.{get_or_from_slice_get, slice_get_read}
+use Rattle.mal_history.specs.declared.event.Event as written
+use Rattle.mal_history.specs.declared.event.Event.TheVariants as of
+use Rattle.mal_job.specs.Among.{among}
+use Rattle.mal_pool.specs.Posts.{AreKnown}
+use Rattle.mal_pool.specs.Testing as testing
+use Rattle.mal_pool.specs.Testing.{is_by, is_among, AgreeOn, HasContents, HaveContents, HasPosts}
+use Rattle.mal_revision.specs.Posted.{Posted}
+use Rattle.spec_job.specs.Titled.{Key, Titled}
+use Rattle.spec_hall.specs.Dressed.{dressed, no_revision, revisions_of}
+use Rattle.spec_hall.specs.Events.{Event, Open, Revise, Close, Balance, Start, Finish, Exchange, bare}
+use Rattle.spec_hall.specs.Legal.{Legal}
+use Rattle.spec_hall.specs.Own.{is_text, is_key}
+use Rattle.spec_hall.specs.States.{states, keys_of, keys_step, titled}
+use Rattle.spec_hall.proofs.DressedLemmas.{legal-is_dressed}
+use Rattle.spec_hall.proofs.KeyLemmas.{is_text-Decides, is_key-same}
+use Rattle.spec_run.specs.Complete.{is_post_of, key_of_job, job_events, open_events, posts_of, revise_events, script_events, jobs_of_tenant}
+use Rattle.spec_run.specs.Losses as losses
+use Rattle.spec_run.proofs.CompleteLemmas.{script-posts}
+use Rattle.spec_run.proofs.KeyLemmas.{job-found}
+use Rattle.spec_run.proofs.PostingLemmas.{take-one}
+use Rattle.spec_script.specs.Script.{ScriptedJob, Scripted}
+
+-- the losses that are written down
+pub bare-losses : (h : List Event) → list_any testing.is_loss (map bare h) ≡ list_any losses.is_loss h
+bare-losses [] = refl
+bare-losses (Open k ask ∷ es) = bare-losses es
+bare-losses (Revise k number r ∷ es) = bare-losses es
+bare-losses (Close k ∷ es) = bare-losses es
+bare-losses (Balance shares ∷ es) = bare-losses es
+bare-losses (Start k index worker ∷ es) = bare-losses es
+bare-losses (Finish k index worker outcome ∷ es) = ap (λ (b : Bool). losses.is_loss (Finish k index worker outcome) || b) (bare-losses es)
+bare-losses (Exchange k ∷ es) = bare-losses es
+
+-- one more event of a list: a tenant's post, or none of it
+by-mine : (t : List ℕ) (es : List written.Event) (i : ℕ) (e : written.Event) → i < length es → e ≡ get_or es i e → is_by t e ≡ true → filter (is_by t) (take (i + 1) es) ≡ filter (is_by t) (take i es) ++ e ∷ []
+by-mine t es i e low is mine =
+    ap (filter (is_by t)) (take-one es i e low is)
+    ∙ (filter-append (is_by t) (take i es) (e ∷ []) ∙ ap (λ (b : Bool). filter (is_by t) (take i es) ++ cond b (e ∷ []) []) mine)
+
+pub by-other : (t : List ℕ) (es : List written.Event) (i : ℕ) (e : written.Event) → i < length es → e ≡ get_or es i e → is_by t e ≡ false → filter (is_by t) (take (i + 1) es) ≡ filter (is_by t) (take i es)
+by-other t es i e low is other =
+    ap (filter (is_by t)) (take-one es i e low is)
+    ∙ (filter-append (is_by t) (take i es) (e ∷ [])
+    ∙ (ap (λ (b : Bool). filter (is_by t) (take i es) ++ cond b (e ∷ []) []) other ∙ append-nil (filter (is_by t) (take i es))))
+
+-- passing over an event that is no post of the tenant's, or over the next post of the tenant's
+pub stay-at : (t : List ℕ) (b : List written.Event) (at : ℕ) (e : written.Event) → is_by t e ≡ false → filter (is_by t) (take at b) ≡ filter (is_by t) (take at b) ++ filter (is_by t) (e ∷ [])
+stay-at t b at e other = sym (ap (λ (x : Bool). filter (is_by t) (take at b) ++ cond x (e ∷ []) []) other ∙ append-nil (filter (is_by t) (take at b)))
+
+pub step-to : (t : List ℕ) (b : List written.Event) (at next : ℕ) (x y : written.Event) → filter (is_by t) (take next b) ≡ filter (is_by t) (take at b) → next < length b → y ≡ get_or b next y → is_by t x ≡ true → x ≡ y → filter (is_by t) (take (next + 1) b) ≡ filter (is_by t) (take at b) ++ filter (is_by t) (x ∷ [])
+step-to t b at next x y none below here mine same =
+    by-mine t b next y below here (ap (is_by t) (sym same) ∙ mine)
+    ∙ (ap (λ (es : List written.Event). es ++ y ∷ []) none
+    ∙ (ap (λ (e : written.Event). filter (is_by t) (take at b) ++ e ∷ []) (sym same)
+    ∙ sym (ap (λ (z : Bool). filter (is_by t) (take at b) ++ cond z (x ∷ []) []) mine)))
+
+-- two lists that agree so far, one event further
+pub same-more : (t : List ℕ) (a b : List written.Event) (i at next : ℕ) (x : written.Event) → filter (is_by t) (take i a) ≡ filter (is_by t) (take at b) → i < length a → x ≡ get_or a i x → filter (is_by t) (take next b) ≡ filter (is_by t) (take at b) ++ filter (is_by t) (x ∷ []) → filter (is_by t) (take (i + 1) a) ≡ filter (is_by t) (take next b)
+same-more t a b i at next x agree low is step =
+    ap (filter (is_by t)) (take-one a i x low is)
+    ∙ (filter-append (is_by t) (take i a) (x ∷ [])
+    ∙ (ap (λ (es : List written.Event). es ++ filter (is_by t) (x ∷ [])) agree ∙ sym step))
+
+pub same-all : (t : List ℕ) (a b : List written.Event) (i at next : ℕ) → filter (is_by t) (take i a) ≡ filter (is_by t) (take at b) → filter (is_by t) (take next b) ≡ filter (is_by t) (take at b) → length a ≤ i → next ≡ length b → filter (is_by t) a ≡ filter (is_by t) b
+same-all t a b i at next agree none all end =
+    ap (filter (is_by t)) (sym (take_all i a all)) ∙ (agree ∙ (sym none ∙ ap (filter (is_by t)) (take_all next b (omega (arith, end)))))
+
+-- lists that agree on one more tenant
+agree-behind : (names : List (List ℕ)) (name : List ℕ) (a b : List written.Event) → AgreeOn names a b → filter (is_by name) a ≡ filter (is_by name) b → AgreeOn (names ++ name ∷ []) a b
+agree-behind [] name a b agree here = (here, tt)
+agree-behind (n ∷ ns) name a b agree here = (agree.0, agree-behind ns name a b agree.1 here)
+
+pub agree-more : (names : List (List ℕ)) (i : ℕ) (name : List ℕ) (a b : List written.Event) → AgreeOn (take i names) a b → filter (is_by name) a ≡ filter (is_by name) b → i < length names → name ≡ get_or names i name → AgreeOn (take (i + 1) names) a b
+agree-more names i name a b agree here low is = subst (λ (ns : List (List ℕ)). AgreeOn ns a b) (sym (take-one names i name low is)) (agree-behind (take i names) name a b agree here)
+
+pub agree-all : (names : List (List ℕ)) (i : ℕ) (a b : List written.Event) → AgreeOn (take i names) a b → length names ≤ i → AgreeOn names a b
+agree-all names i a b agree all = subst (λ (ns : List (List ℕ)). AgreeOn ns a b) (take_all i names all) agree
+
+-- one more job with its contents
+contents-behind : (h : List Event) (js : List ScriptedJob) (j : ScriptedJob) → HaveContents h js → HasContents h j → HaveContents h (js ++ j ∷ [])
+contents-behind h [] j have here = (here, tt)
+contents-behind h (i ∷ is) j have here = (have.0, contents-behind h is j have.1 here)
+
+pub contents-more : (h : List Event) (js : List ScriptedJob) (i : ℕ) (j : ScriptedJob) → HaveContents h (take i js) → HasContents h j → i < length js → j ≡ get_or js i j → HaveContents h (take (i + 1) js)
+contents-more h js i j have here low is = subst (HaveContents h) (sym (take-one js i j low is)) (contents-behind h (take i js) j have here)
+
+pub contents-all : (h : List Event) (js : List ScriptedJob) (i : ℕ) → HaveContents h (take i js) → length js ≤ i → HaveContents h js
+contents-all h js i have all = subst (HaveContents h) (take_all i js all) have
+
+-- a revision that is there
+pub among-at : (n i : ℕ) (rs : List Posted) (r : Posted) → n ≡ i + 1 → Some r ≡ among n rs → get_or rs i no_revision ≡ r
+among-at zero i rs r is e = absurd (omega (arith, is))
+among-at (suc k) i rs r is e = get_or_from_slice_get rs i r no_revision (ap (slice_get rs) (omega (arith, is)) ∙ sym e)
+
+pub at-default : (rs : List Posted) (i : ℕ) (r : Posted) → i < length rs → r ≡ get_or rs i r → get_or rs i no_revision ≡ r
+at-default rs i r low is = get_or_from_slice_get rs i r no_revision (slice_get_read rs (length rs) i r refl low is)
+
+-- lists that agree on all their tenants agree on each text
+true-not-false : true ≡ false → ⊥
+true-not-false e = cc
+
+absent : (t : List ℕ) (names : List (List ℕ)) (tenant : List ℕ) → list_any (λ name. is_text name t) names ≡ false → list_any (λ name. is_text name tenant) names ≡ true → is_text t tenant ≡ false
+absent t names tenant none some = by_test (is_text t tenant) refl
+  where
+    by_test : (b : Bool) → is_text t tenant ≡ b → b ≡ false
+    by_test true is = absurd (true-not-false (sym some ∙ (ap (λ (x : List ℕ). list_any (λ name. is_text name x) names) (sym ((is_text-Decides t tenant).0 is)) ∙ none)))
+    by_test false is = refl
+
+none-by : (t : List ℕ) (names : List (List ℕ)) (e : written.Event) → list_any (λ name. is_text name t) names ≡ false → is_among names e ≡ true → is_by t e ≡ false
+none-by t names (of.Open tenant job ask) none some = absent t names tenant none some
+none-by t names (of.Revise tenant job number) none some = absent t names tenant none some
+none-by t names (of.Close tenant job) none some = absent t names tenant none some
+none-by t names (of.Balance volumes) none some = refl
+none-by t names (of.Start tenant job index worker) none some = refl
+none-by t names (of.Finish tenant job index worker outcome) none some = refl
+none-by t names (of.Exchange tenant job) none some = refl
+
+none-posted : (t : List ℕ) (names : List (List ℕ)) (es : List written.Event) → list_any (λ name. is_text name t) names ≡ false → list_all (is_among names) es ≡ true → filter (is_by t) es ≡ []
+none-posted t names [] none all = refl
+none-posted t names (e ∷ es) none all = by_test (is_among names e) refl all (none-posted t names es none)
+  where
+    by_test : (b : Bool) → is_among names e ≡ b → (b && list_all (is_among names) es) ≡ true → (list_all (is_among names) es ≡ true → filter (is_by t) es ≡ []) → filter (is_by t) (e ∷ es) ≡ []
+    by_test true is h rest = ap (λ (b : Bool). cond b (e ∷ filter (is_by t) es) (filter (is_by t) es)) (none-by t names e none is) ∙ rest h
+    by_test false is h rest = absurd (true-not-false (sym h))
+
+agree-at : (t : List ℕ) (names : List (List ℕ)) (a b : List written.Event) → AgreeOn names a b → list_any (λ name. is_text name t) names ≡ true → filter (is_by t) a ≡ filter (is_by t) b
+agree-at t [] a b agree some = absurd (true-not-false (sym some))
+agree-at t (n ∷ ns) a b agree some = by_test (is_text n t) refl some (λ h. agree-at t ns a b agree.1 h)
+  where
+    by_test : (x : Bool) → is_text n t ≡ x → (x || list_any (λ name. is_text name t) ns) ≡ true → (list_any (λ name. is_text name t) ns ≡ true → filter (is_by t) a ≡ filter (is_by t) b) → filter (is_by t) a ≡ filter (is_by t) b
+    by_test true is h rest = subst (λ (x : List ℕ). filter (is_by x) a ≡ filter (is_by x) b) ((is_text-Decides n t).0 is) agree.0
+    by_test false is h rest = rest h
+
+agreed : (t : List ℕ) (names : List (List ℕ)) (a b : List written.Event) → list_all (is_among names) a ≡ true → list_all (is_among names) b ≡ true → AgreeOn names a b → filter (is_by t) a ≡ filter (is_by t) b
+agreed t names a b x y agree = by_test (list_any (λ name. is_text name t) names) refl
+  where
+    by_test : (s : Bool) → list_any (λ name. is_text name t) names ≡ s → filter (is_by t) a ≡ filter (is_by t) b
+    by_test true is = agree-at t names a b agree is
+    by_test false is = none-posted t names a is x ∙ sym (none-posted t names b is y)
+
+-- what is written down, with the revisions of the jobs
+dressed-by : (ts : List Titled) (t : List ℕ) (e : written.Event) → is_post_of t (dressed ts e) ≡ is_by t e
+dressed-by ts t (of.Open tenant job ask) = refl
+dressed-by ts t (of.Revise tenant job number) = refl
+dressed-by ts t (of.Close tenant job) = refl
+dressed-by ts t (of.Balance volumes) = refl
+dressed-by ts t (of.Start tenant job index worker) = refl
+dressed-by ts t (of.Finish tenant job index worker outcome) = refl
+dressed-by ts t (of.Exchange tenant job) = refl
+
+filter-dressed : (ts : List Titled) (t : List ℕ) (es : List written.Event) → filter (is_post_of t) (map (dressed ts) es) ≡ map (dressed ts) (filter (is_by t) es)
+filter-dressed ts t [] = refl
+filter-dressed ts t (e ∷ es) =
+    ap (λ (b : Bool). cond b (dressed ts e ∷ filter (is_post_of t) (map (dressed ts) es)) (filter (is_post_of t) (map (dressed ts) es))) (dressed-by ts t e)
+    ∙ by_test (is_by t e) (filter-dressed ts t es)
+  where
+    by_test : (b : Bool) → filter (is_post_of t) (map (dressed ts) es) ≡ map (dressed ts) (filter (is_by t) es) → cond b (dressed ts e ∷ filter (is_post_of t) (map (dressed ts) es)) (filter (is_post_of t) (map (dressed ts) es)) ≡ map (dressed ts) (cond b (e ∷ filter (is_by t) es) (filter (is_by t) es))
+    by_test true h = ap (λ (x : List Event). dressed ts e ∷ x) h
+    by_test false h = h
+
+-- what a script posts, written down and with the revisions of jobs that have its contents
+opened-dressed : (ts : List Titled) (js : List ScriptedJob) → map (dressed ts) (map bare (open_events js)) ≡ open_events js
+opened-dressed ts [] = refl
+opened-dressed ts (j ∷ js) = ap (λ (x : List Event). Open (key_of_job j) j.ask ∷ x) (opened-dressed ts js)
+
+revised-dressed : (ts : List Titled) (k : Key) (all front rs : List Posted) (n : ℕ) → all ≡ front ++ rs → n ≡ length front + 1 → ((i : ℕ) → i < length all → get_or (revisions_of k ts) i no_revision ≡ get_or all i no_revision) → map (dressed ts) (map bare (revise_events k n rs)) ≡ revise_events k n rs
+revised-dressed ts k all front [] n is count has = refl
+revised-dressed ts k all front (r ∷ rs) n is count has =
+    let place : n - 1 ≡ length front = omega (arith, count) in
+    let low : length front < length all = low-in all front r rs is in
+    let here : get_or (revisions_of k ts) (n - 1) no_revision ≡ r = ap (λ (m : ℕ). get_or (revisions_of k ts) m no_revision) place ∙ (has (length front) low ∙ (ap (λ (x : List Posted). get_or x (length front) no_revision) is ∙ at-front front r rs)) in
+    ap (λ (q : Posted). Revise k n q ∷ map (dressed ts) (map bare (revise_events k (n + 1) rs))) here
+    ∙ ap (λ (x : List Event). Revise k n r ∷ x) (revised-dressed ts k all (front ++ r ∷ []) rs (n + 1) (is ∙ sym (append_assoc front (r ∷ []) rs)) (ap (λ (m : ℕ). m + 1) (count ∙ sym (one-more front r))) has)
+  where
+    one-more : (xs : List Posted) (x : Posted) → length (xs ++ x ∷ []) ≡ length xs + 1
+    one-more xs x = length-append xs (x ∷ [])
+
+    low-in : (xs ys : List Posted) (z : Posted) (zs : List Posted) → xs ≡ ys ++ z ∷ zs → length ys < length xs
+    low-in xs ys z zs e = let size : length xs ≡ length ys + suc (length zs) = ap (λ (x : List Posted). length x) e ∙ length-append ys (z ∷ zs) in omega (arith, size)
+
+    at-front : (xs : List Posted) (x : Posted) (ys : List Posted) → get_or (xs ++ x ∷ ys) (length xs) no_revision ≡ x
+    at-front [] x ys = refl
+    at-front (z ∷ zs) x ys = at-front zs x ys
+
+job-dressed : (h : List Event) (j : ScriptedJob) → HasContents h j → map (dressed (states h)) (map bare (job_events j)) ≡ job_events j
+job-dressed h j has =
+    let ts : List Titled = states h in
+    let k : Key = key_of_job j in
+    let revised : List Event = revise_events k 1 j.revisions in
+    ap (map (dressed ts)) (map-append bare revised (Close k ∷ []))
+    ∙ (map-append (dressed ts) (map bare revised) (map bare (Close k ∷ []))
+    ∙ ap (λ (x : List Event). x ++ Close k ∷ []) (revised-dressed ts k j.revisions [] j.revisions 1 refl refl has))
+
+jobs-dressed : (h : List Event) (js : List ScriptedJob) → HaveContents h js → map (dressed (states h)) (map bare (flat_map job_events js)) ≡ flat_map job_events js
+jobs-dressed h [] have = refl
+jobs-dressed h (j ∷ js) have =
+    let ts : List Titled = states h in
+    ap (map (dressed ts)) (map-append bare (job_events j) (flat_map job_events js))
+    ∙ (map-append (dressed ts) (map bare (job_events j)) (map bare (flat_map job_events js))
+    ∙ (ap (λ (x : List Event). x ++ map (dressed ts) (map bare (flat_map job_events js))) (job-dressed h j have.0)
+    ∙ ap (λ (x : List Event). job_events j ++ x) (jobs-dressed h js have.1)))
+
+script-dressed : (h : List Event) (s : Scripted) → HaveContents h s.jobs → map (dressed (states h)) (map bare (script_events s)) ≡ script_events s
+script-dressed h s have =
+    let ts : List Titled = states h in
+    let opens : List Event = open_events s.jobs in
+    let rest : List Event = flat_map job_events s.jobs in
+    ap (map (dressed ts)) (map-append bare opens rest)
+    ∙ (map-append (dressed ts) (map bare opens) (map bare rest)
+    ∙ (ap (λ (x : List Event). x ++ map (dressed ts) (map bare rest)) (opened-dressed ts s.jobs)
+    ∙ ap (λ (x : List Event). opens ++ x) (jobs-dressed h s.jobs have)))
+
+-- a legal history whose written posts are the script's, of jobs with its contents, has its posts
+pub have-posts : (w : ℕ) (s : Scripted) (h : List Event) (names : List (List ℕ)) → Legal w h → list_all (is_among names) (map bare h) ≡ true → list_all (is_among names) (map bare (script_events s)) ≡ true → AgreeOn names (map bare h) (map bare (script_events s)) → HaveContents h s.jobs → HasPosts s h
+have-posts w s h names legal x y agree have = λ t.
+    let ts : List Titled = states h in
+    ap (filter (is_post_of t)) (sym (legal-is_dressed w h legal))
+    ∙ (filter-dressed ts t (map bare h)
+    ∙ (ap (map (dressed ts)) (agreed t names (map bare h) (map bare (script_events s)) x y agree)
+    ∙ (sym (filter-dressed ts t (map bare (script_events s)))
+    ∙ (ap (filter (is_post_of t)) (script-dressed h s have) ∙ script-posts t s))))

@@ -1,0 +1,121 @@
+-- The calls of a hall but the recall lose no lease, and a lease that is picked is its worker's.
+use Rattle.std.proofs.Common.{◌≡◌, ℕ, ◌+◌, Bool, true, false, ◌||◌, ◌&&◌, cond, List, [], ◌∷◌, ◌++◌, refl, sym, ◌∙◌, ap, subst, Option, Some, None, Result, Ok, Err}
+use Rattle.std.specs.List.{list_all, list_any}
+use Rattle.mal_base.specs.declared.verdict.Outcome.{Outcome}
+use Rattle.mal_base.specs.declared.verdict.Outcome.TheVariants.{Ran, Starved, Lost}
+use Rattle.mal_hall.specs.declared.desk.Post.{Post}
+use Rattle.mal_hall.specs.declared.desk.Post.TheVariants as posts
+use Rattle.mal_hall.specs.declared.desk.PostFault.{PostFault}
+use Rattle.mal_hall.specs.declared.desk.PostFault.TheVariants as faults
+use Rattle.mal_hall.specs.Desks.{HasPosted, IsOwn}
+use Rattle.spec_job.specs.Journal.{JournalEntry}
+use Rattle.spec_job.specs.Journaled.{Journaled}
+use Rattle.spec_job.specs.Leased.{Finished}
+use Rattle.spec_job.specs.Viewed.{IsGrownBy}
+use Rattle.spec_hall.specs.declared.fault.OpenFault.{OpenFault}
+use Rattle.spec_hall.specs.declared.fault.OpenFault.TheVariants as opening
+use Rattle.spec_hall.specs.declared.fault.ReviseFault.{ReviseFault}
+use Rattle.spec_hall.specs.declared.fault.ReviseFault.TheVariants as revising
+use Rattle.spec_hall.specs.declared.fault.CloseFault.{CloseFault}
+use Rattle.spec_hall.specs.declared.fault.CloseFault.TheVariants as closing
+use Rattle.spec_hall.specs.declared.fault.PickFault.{PickFault}
+use Rattle.spec_hall.specs.declared.fault.PickFault.TheVariants as picking
+use Rattle.spec_hall.specs.Calls as calls
+use Rattle.spec_hall.specs.Calls.{HasCalled, Opens, Revises, Closes, Picks, Finishes, Offer, Leased, Idle, AllDone, Return, IsOpening, IsRevising, IsClosing, IsPicking, IsReturning, AreDue, arranges}
+use Rattle.spec_hall.specs.Driven.{was_lost}
+use Rattle.spec_hall.specs.Events.{Event, Open, Revise, Close, Balance, Start, Finish, Exchange}
+use Rattle.spec_run.specs.Losses.{is_loss, NoneIsLost}
+use Rattle.spec_run.proofs.LossLemmas.{parts-lose-none}
+
+-- what is due loses none
+arranged-loses : (e : Event) → arranges e ≡ true → is_loss e ≡ false
+arranged-loses (Open k ask) h = refl
+arranged-loses (Revise k number r) h = refl
+arranged-loses (Close k) h = refl
+arranged-loses (Balance shares) h = refl
+arranged-loses (Start k index worker) h = refl
+arranged-loses (Finish k index worker outcome) h = absurd (cc)
+arranged-loses (Exchange k) h = refl
+
+due-lose-none : (es : List Event) → list_all arranges es ≡ true → NoneIsLost es
+due-lose-none [] h = refl
+due-lose-none (e ∷ es) h = by_test (arranges e) refl h (due-lose-none es)
+  where
+    by_test : (b : Bool) → arranges e ≡ b → (b && list_all arranges es) ≡ true → (list_all arranges es ≡ true → list_any is_loss es ≡ false) → (is_loss e || list_any is_loss es) ≡ false
+    by_test true is h rest = rw (arranged-loses e is) (rest h)
+    by_test false is h rest = absurd (cc)
+
+nothing : (es : List Event) → es ≡ [] → NoneIsLost es
+nothing es e = ap (list_any is_loss) e
+
+picking-loses : (w : ℕ) (past : List Event) (worker : ℕ) (answer : Result Offer PickFault) (es : List Event) → IsPicking w past worker answer es → NoneIsLost es
+picking-loses w past worker (Ok (Leased l)) es is = ap (list_any is_loss) is.events ∙ parts-lose-none is.due (Start is.key is.index worker ∷ []) (due-lose-none is.due is.first.kinds) refl
+picking-loses w past worker (Ok Idle) es is = due-lose-none es is.due.kinds
+picking-loses w past worker (Ok AllDone) es is = nothing es is.1
+picking-loses w past worker (Err picking.Busy) es is = nothing es is.1
+picking-loses w past worker (Err picking.OutOfMemory) es is = due-lose-none es is.due.kinds
+
+grown-not-lost : (o : Outcome) (adds : List JournalEntry) (j back : Journaled) → IsGrownBy o adds j back → was_lost o ≡ false
+grown-not-lost Ran adds j back is = refl
+grown-not-lost Starved adds j back is = refl
+grown-not-lost Lost adds j back is = absurd is
+
+returning-loses : (past : List Event) (d : Finished) (answer : Return) (es : List Event) → IsReturning past d answer es → NoneIsLost es
+returning-loses past d calls.Back es is = ap (list_any is_loss) is.2 ∙ rw (grown-not-lost d.outcome _ _ _ is.1.journal) refl
+returning-loses past d (calls.Strange kept) es is = nothing es is.2
+
+opening-loses : (past : List Event) (k : _) (ask : _) (answer : Result (Unit {0}) OpenFault) (es : List Event) → IsOpening past k ask answer es → NoneIsLost es
+opening-loses past k ask (Ok done) es is = ap (list_any is_loss) is.1
+opening-loses past k ask (Err opening.Duplicate) es is = nothing es is.1
+opening-loses past k ask (Err opening.TenantFull) es is = nothing es is.2
+opening-loses past k ask (Err opening.HallFull) es is = nothing es is.3
+opening-loses past k ask (Err opening.OutOfMemory) es is = nothing es is.1
+
+revising-loses : (past : List Event) (k : _) (r : _) (answer : Result (Unit {0}) ReviseFault) (es : List Event) → IsRevising past k r answer es → NoneIsLost es
+revising-loses past k r (Ok done) es is = ap (list_any is_loss) is.2
+revising-loses past k r (Err revising.NoJob) es is = nothing es is.1
+revising-loses past k r (Err revising.Closed) es is = nothing es is.3
+revising-loses past k r (Err revising.RevisionsFull) es is = nothing es is.4
+revising-loses past k r (Err (revising.JobFull which)) es is = nothing es is.5
+revising-loses past k r (Err revising.OutOfMemory) es is = nothing es is.2
+
+closing-loses : (past : List Event) (k : _) (answer : Result (Unit {0}) CloseFault) (es : List Event) → IsClosing past k answer es → NoneIsLost es
+closing-loses past k (Ok done) es is = ap (list_any is_loss) is.2
+closing-loses past k (Err closing.NoJob) es is = nothing es is.1
+closing-loses past k (Err closing.Closed) es is = nothing es is.3
+
+pub pick_loses_none : (w : ℕ) (past : List Event) (worker : ℕ) (answer : Result Offer PickFault) (now : List Event) → HasCalled w past (Picks worker) answer now → NoneIsLost past → NoneIsLost now
+pick_loses_none w past worker answer now called none = ap (list_any is_loss) called.grown ∙ parts-lose-none past called.events none (picking-loses w past worker answer called.events called.call)
+
+pub finish_loses_none : (w : ℕ) (past : List Event) (d : Finished) (answer : Return) (now : List Event) → HasCalled w past (Finishes d) answer now → NoneIsLost past → NoneIsLost now
+finish_loses_none w past d answer now called none = ap (list_any is_loss) called.grown ∙ parts-lose-none past called.events none (returning-loses past d answer called.events called.call)
+
+open-loses-none : (w : ℕ) (past : List Event) (k : _) (ask : _) (answer : Result (Unit {0}) OpenFault) (now : List Event) → HasCalled w past (Opens k ask) answer now → NoneIsLost past → NoneIsLost now
+open-loses-none w past k ask answer now called none = ap (list_any is_loss) called.grown ∙ parts-lose-none past called.events none (opening-loses past k ask answer called.events called.call)
+
+revise-loses-none : (w : ℕ) (past : List Event) (k : _) (r : _) (answer : Result (Unit {0}) ReviseFault) (now : List Event) → HasCalled w past (Revises k r) answer now → NoneIsLost past → NoneIsLost now
+revise-loses-none w past k r answer now called none = ap (list_any is_loss) called.grown ∙ parts-lose-none past called.events none (revising-loses past k r answer called.events called.call)
+
+close-loses-none : (w : ℕ) (past : List Event) (k : _) (answer : Result (Unit {0}) CloseFault) (now : List Event) → HasCalled w past (Closes k) answer now → NoneIsLost past → NoneIsLost now
+close-loses-none w past k answer now called none = ap (list_any is_loss) called.grown ∙ parts-lose-none past called.events none (closing-loses past k answer called.events called.call)
+
+pub post_loses_none : (w : ℕ) (past : List Event) (post : Post) (answer : Result (Unit {0}) PostFault) (now : List Event) → HasPosted w past post answer now → NoneIsLost past → NoneIsLost now
+post_loses_none w past (posts.Open tenant job ask) (Ok done) now called none = open-loses-none w past _ ask (Ok done) now called none
+post_loses_none w past (posts.Open tenant job ask) (Err (faults.Open fault)) now called none = open-loses-none w past _ ask (Err fault) now called none
+post_loses_none w past (posts.Open tenant job ask) (Err (faults.Revise fault)) now called none = absurd called
+post_loses_none w past (posts.Open tenant job ask) (Err (faults.Close fault)) now called none = absurd called
+post_loses_none w past (posts.Revise tenant job r) (Ok done) now called none = revise-loses-none w past _ r (Ok done) now called none
+post_loses_none w past (posts.Revise tenant job r) (Err (faults.Open fault)) now called none = absurd called
+post_loses_none w past (posts.Revise tenant job r) (Err (faults.Revise fault)) now called none = revise-loses-none w past _ r (Err fault) now called none
+post_loses_none w past (posts.Revise tenant job r) (Err (faults.Close fault)) now called none = absurd called
+post_loses_none w past (posts.Close tenant job) (Ok done) now called none = close-loses-none w past _ (Ok done) now called none
+post_loses_none w past (posts.Close tenant job) (Err (faults.Open fault)) now called none = absurd called
+post_loses_none w past (posts.Close tenant job) (Err (faults.Revise fault)) now called none = absurd called
+post_loses_none w past (posts.Close tenant job) (Err (faults.Close fault)) now called none = close-loses-none w past _ (Err fault) now called none
+
+-- a lease that is picked is its worker's
+pub picked_own : (w : ℕ) (past : List Event) (worker : ℕ) (answer : Result Offer PickFault) (now : List Event) → HasCalled w past (Picks worker) answer now → IsOwn worker answer
+picked_own w past worker (Ok (Leased l)) now called = ap (λ (h : calls.Handed). h.worker) called.call.lease_is
+picked_own w past worker (Ok Idle) now called = tt
+picked_own w past worker (Ok AllDone) now called = tt
+picked_own w past worker (Err fault) now called = tt

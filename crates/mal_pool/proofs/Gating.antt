@@ -1,0 +1,84 @@
+-- What a worker does with a lease at a gate.
+use Rattle.std.proofs.Common.{◌≡◌, ℕ, Bool, true, false, if◌then◌else◌, List, [], ◌∷◌, ◌++◌, inl, inr, refl, sym, ◌∙◌, ap, subst, append-nil, append_assoc, Option, Some, None, Result, Ok, Err}
+use Rattle.mal_base.specs.declared.verdict.Outcome.{Outcome}
+use Rattle.mal_base.specs.declared.verdict.Outcome.TheVariants.{Ran, Starved, Lost}
+use Rattle.mal_hall.specs.Desks.{Told, Picked, Gave, IsWorked}
+use Rattle.mal_hall.specs.Offered.{handed_of}
+use Rattle.mal_pool.specs.declared.gate.Point.TheVariants.{Before, After}
+use Rattle.mal_pool.specs.declared.gate.Step.{Step}
+use Rattle.mal_pool.specs.declared.gate.Step.TheVariants.{Go, Stop}
+use Rattle.mal_pool.specs.declared.working.End.TheVariants as ends
+use Rattle.mal_pool.specs.declared.working.Turned.{Turned}
+use Rattle.mal_pool.specs.declared.working.Turned.TheVariants as turned
+use Rattle.mal_pool.specs.Gates.{Stops, StopsSomewhere, Passes, Halts}
+use Rattle.mal_pool.specs.Works.{IsTurn, turned_by}
+use Rattle.spec_job.specs.Leased as job
+use Rattle.spec_job.specs.Leased.{Finished, Becomes, Tells}
+use Rattle.spec_job.specs.Viewed.{IsGrownBy}
+use Rattle.spec_hall.specs.Calls as calls
+use Rattle.spec_hall.specs.Calls.{Leased, Handed, Return, Offer}
+use Rattle.spec_hall.specs.declared.fault.PickFault.{PickFault}
+
+stop-is : (b : Bool) (s : Step) → s ≡ (if b then Stop else Go) → s ≡ Stop → b ≡ true
+stop-is true s e is = refl
+stop-is false s e is = absurd (let no : Go ≡ Stop = sym e ∙ is in cc)
+
+go-is : (b : Bool) (s : Step) → s ≡ (if b then Stop else Go) → s ≡ Go → b ≡ false
+go-is true s e is = absurd (let no : Stop ≡ Go = sym e ∙ is in cc)
+go-is false s e is = refl
+
+grown-from : (o : Outcome) (l : job.Leased) (d : Finished) → Becomes o l d → IsGrownBy o l.adds l.journal d.journal
+grown-from Ran l d is = is
+grown-from Starved l d is = is.0
+grown-from Lost l d is = absurd is
+
+-- a lease that was worked off
+worked : (l : job.Leased) (d : Finished) → d.worker ≡ l.worker → Becomes d.outcome l d → Tells d.outcome d → IsWorked (handed_of l) d
+worked l d who is tells = record { worker = who; journal = grown-from d.outcome l d is; tells = tells }
+
+-- the gate stops the worker before the slice, or after it
+pub stopped-before : (stops : Stops) (w start : ℕ) (l : job.Leased) (old : List Told) (s : Step) → start ≡ l.journal.start → s ≡ (if stops Before start w then Stop else Go) → s ≡ Stop → (mine : List Told) × (old ≡ old ++ mine) × IsTurn stops w (Picked w (Ok (Leased (handed_of l))) ∷ mine) (turned.Ended ends.Stopped)
+stopped-before stops w start l old s is told stop = (
+  [],
+  sym (append-nil old),
+  (handed_of l, inl (subst (λ (n : ℕ). stops Before n w ≡ true) is (stop-is (stops Before start w) s told stop)), refl),
+)
+
+pub stopped-after : (stops : Stops) (w start : ℕ) (l : job.Leased) (old : List Told) (s t : Step) → start ≡ l.journal.start → s ≡ (if stops Before start w then Stop else Go) → s ≡ Go → t ≡ (if stops After start w then Stop else Go) → t ≡ Stop → (mine : List Told) × (old ≡ old ++ mine) × IsTurn stops w (Picked w (Ok (Leased (handed_of l))) ∷ mine) (turned.Ended ends.Stopped)
+stopped-after stops w start l old s t is first go told stop = (
+  [],
+  sym (append-nil old),
+  (handed_of l, inr (subst (λ (n : ℕ). stops Before n w ≡ false) is (go-is (stops Before start w) s first go), subst (λ (n : ℕ). stops After n w ≡ true) is (stop-is (stops After start w) t told stop)), refl),
+)
+
+-- a lease that passed is given back
+given : (stops : Stops) (w : ℕ) (l : Handed) (d : Finished) (answer : Return) → Passes stops w l → IsWorked l d → IsTurn stops w (Picked w (Ok (Leased l)) ∷ Gave d answer ∷ []) (turned_by answer)
+given stops w l d calls.Back pass done = (l, d, pass, done, refl)
+given stops w l d (calls.Strange kept) pass done = (l, d, kept, pass, done, refl)
+
+pub worked-off : (stops : Stops) (w start : ℕ) (l : job.Leased) (d : Finished) (old now : List Told) (s t : Step) (r : Turned) → start ≡ l.journal.start → s ≡ (if stops Before start w then Stop else Go) → s ≡ Go → t ≡ (if stops After start w then Stop else Go) → t ≡ Go → d.worker ≡ l.worker → Becomes d.outcome l d → Tells d.outcome d → ((answer : Return) × (now ≡ old ++ Gave d answer ∷ []) × (r ≡ turned_by answer)) → (mine : List Told) × (now ≡ old ++ mine) × IsTurn stops w (Picked w (Ok (Leased (handed_of l))) ∷ mine) r
+worked-off stops w start l d old now s t r is first go second pass who becomes tells (answer, e, came) = (
+  Gave d answer ∷ [],
+  e,
+  subst (λ (x : Turned). IsTurn stops w (Picked w (Ok (Leased (handed_of l))) ∷ Gave d answer ∷ []) x) (sym came)
+      (given stops w (handed_of l) d answer (subst (λ (n : ℕ). stops Before n w ≡ false) is (go-is (stops Before start w) s first go), subst (λ (n : ℕ). stops After n w ≡ false) is (go-is (stops After start w) t second pass)) (worked l d who becomes tells)),
+)
+
+-- a turn that leased
+pub turn-leased : (stops : Stops) (w : ℕ) (l : job.Leased) (old middle now : List Told) (answer : Result Offer PickFault) (r : Turned) → middle ≡ old ++ Picked w answer ∷ [] → answer ≡ Ok (Leased (handed_of l)) → ((mine : List Told) × (now ≡ middle ++ mine) × IsTurn stops w (Picked w (Ok (Leased (handed_of l))) ∷ mine) r) → (mine : List Told) × (now ≡ old ++ mine) × IsTurn stops w mine r
+turn-leased stops w l old middle now answer r picked is (mine, e, turn) = (
+  Picked w (Ok (Leased (handed_of l))) ∷ mine,
+  e ∙ (ap (λ (cs : List Told). cs ++ mine) (picked ∙ ap (λ (a : Result Offer PickFault). old ++ Picked w a ∷ []) is) ∙ append_assoc old (Picked w (Ok (Leased (handed_of l))) ∷ []) mine),
+  turn,
+)
+
+-- a turn that ended by a stop
+halts-somewhere : (stops : Stops) (w : ℕ) (l : Handed) → Halts stops w l → StopsSomewhere stops
+halts-somewhere stops w l (inl is) = (Before, l.journal.start, w, is)
+halts-somewhere stops w l (inr is) = (After, l.journal.start, w, is.1)
+
+pub turn-stops : (stops : Stops) (w : ℕ) (mine : List Told) (r : Turned) → IsTurn stops w mine r → r ≡ turned.Ended ends.Stopped → StopsSomewhere stops
+turn-stops stops w mine r turn is = by (subst (IsTurn stops w mine) is turn)
+  where
+    by : IsTurn stops w mine (turned.Ended ends.Stopped) → StopsSomewhere stops
+    by (l, halts, e) = halts-somewhere stops w l halts

@@ -1,0 +1,6 @@
+use Rattle.std.specs.List.{All}
+use Rattle.mal_pool.specs.Runs.{Fits}
+use Rattle.mal_pool.proofs.run.deal.Given as goal
+
+abbrev pub invariant-loop-part : goal.invariant-loop-part
+invariant-loop-part g l = g.B.Desk.is_of l.board l.pass × All (λ x. g.B.Desk.is_of l.board x.pass × Fits (g.B.Desk.workers l.board) l.jobs x.part) l.roles.items

@@ -1,0 +1,53 @@
+//! Boards: desks at which tenants post, and which give their hall back in the end.
+
+use mal_hall::{Desk, Hall, Post, PostFault};
+use std::sync::Wait;
+
+/// A holder never passed its turn on: the ticket that was drawn last, and the one that is served.
+#[derive(Clone, Copy, Debug, PartialEq, Eq, Drop)]
+pub struct InUse {
+    pub ticket: u64,
+    pub serving: u64,
+}
+
+/// A desk at which tenants post, with passes that are split and joined. In the end it gives its hall, of which no lease was lost.
+pub trait Board: Desk + Drop {
+    ghost use Rattle.std.specs.Prelude.{◌≡◌, ℕ, ◌<◌, List, [], ◌∷◌, ◌++◌, IfOk, IfErr};
+    ghost use Rattle.mal_hall.specs.Desks.{Told, Posted};
+    ghost use Rattle.spec_run.specs.Losses.{NoneIsLost};
+
+    /// Whether a pass is the whole of its board's: no other is left.
+    ghost is_whole: { Self.Pass → Type 0 };
+
+    /// Posts for a tenant. After a refusal the hall is as before.
+    fn post<R: Wait>(
+        &self,
+        rt: &R,
+        pass: Self::Pass,
+        post: Post,
+    ) -> (Self::Pass, Result<(), PostFault>)
+        requires of { Self.is_of self.now pass }
+        ensures of { Self.is_of self.now result.0 }
+        ensures calls { Self.calls result.0 ≡ Self.calls pass ++ Posted post result.1 ∷ [] };
+
+    /// A second pass, for another caller.
+    fn split(&self, pass: Self::Pass) -> (Self::Pass, Self::Pass)
+        requires of { Self.is_of self.now pass }
+        ensures of { Self.is_of self.now result.0 }
+        ensures other { Self.is_of self.now result.1 }
+        ensures calls { Self.calls result.0 ≡ Self.calls pass };
+
+    /// One pass of two.
+    fn join(&self, pass: Self::Pass, other: Self::Pass) -> Self::Pass
+        requires of { Self.is_of self.now pass }
+        requires other { Self.is_of self.now other }
+        ensures of { Self.is_of self.now result };
+
+    /// Gives the hall. It is in use only where the pass is not whole and a holder did not pass its turn on; the hall is given up
+    /// then.
+    fn close(self, pass: Self::Pass) -> Result<Hall, InUse>
+        requires of { Self.is_of self pass }
+        ensures workers { IfOk result (λ h. h.workers ≡ Self.workers self) }
+        ensures none_lost { IfOk result (λ h. NoneIsLost h.events) }
+        ensures in_use { IfErr result (λ u. (u.serving < u.ticket) × ¬ is_whole pass) };
+}

@@ -1,0 +1,154 @@
+//! What posters left, posted in a hall that nobody shares any more.
+
+ghost use Rattle.std.specs.Prelude.{◌≡◌, ◌≤◌, [], ◌∷◌, ◌++◌, length, flat_map, drop, true, IfOk};
+ghost use Rattle.mal_hall.specs.Desks.{event_of};
+ghost use Rattle.mal_pool.specs.Runs.{job_posts, left_by, of_tenant, posted_on, posts_behind, revise_posts};
+
+use crate::posting::Left;
+use mal_base::Name;
+use mal_hall::{CloseFault, Hall, OpenFault, Post, PostFault, ReviseFault};
+use mal_script::ScriptJob;
+use std::alloc::{AllocError, Global};
+
+/// Posts what posters left, in their order. False where a post was refused for another cause than want of memory.
+pub fn post_left(
+    alloc: Global,
+    hall: &mut Hall,
+    jobs: &[ScriptJob],
+    left: &[Left],
+) -> Result<bool, AllocError>
+    ensures workers { hall.new.workers ≡ hall.old.workers }
+    ensures events { IfOk result (λ done. done ≡ true → hall.new.events ≡ posted_on hall.old.events (flat_map (left_by jobs.now) left.now)) }
+{
+    for one in left {
+        if !post_from(alloc, hall, jobs, *one)? {
+            return Ok(false);
+        }
+    }
+    Ok(true)
+}
+
+/// Posts what one poster left: the rest of a job, and the later jobs of its tenant.
+fn post_from(
+    alloc: Global,
+    hall: &mut Hall,
+    jobs: &[ScriptJob],
+    left: Left,
+) -> Result<bool, AllocError>
+    ensures workers { hall.new.workers ≡ hall.old.workers }
+    ensures events { IfOk result (λ done. done ≡ true → hall.new.events ≡ posted_on hall.old.events (left_by jobs.now left)) }
+{
+    if left.job >= jobs.len() {
+        return Ok(true);
+    }
+    let job = &jobs[left.job];
+    if !post_rest(alloc, hall, job, left.posted)? {
+        return Ok(false);
+    }
+    post_later(alloc, hall, jobs, job.tenant(), left.job + 1)
+}
+
+/// Posts the jobs of a tenant from a place of the script on.
+fn post_later(
+    alloc: Global,
+    hall: &mut Hall,
+    jobs: &[ScriptJob],
+    tenant: Name,
+    from: usize,
+) -> Result<bool, AllocError>
+    requires { from ≤ length jobs.now }
+    ensures workers { hall.new.workers ≡ hall.old.workers }
+    ensures events { IfOk result (λ done. done ≡ true → hall.new.events ≡ posted_on hall.old.events (flat_map job_posts (of_tenant tenant (drop from jobs.now)))) }
+{
+    for place in from..jobs.len() {
+        if !post_for(alloc, hall, tenant, &jobs[place])? {
+            return Ok(false);
+        }
+    }
+    Ok(true)
+}
+
+/// Posts the revisions and the closing of a job, if it is the tenant's.
+fn post_for(
+    alloc: Global,
+    hall: &mut Hall,
+    tenant: Name,
+    job: &ScriptJob,
+) -> Result<bool, AllocError>
+    ensures workers { hall.new.workers ≡ hall.old.workers }
+    ensures events { IfOk result (λ done. done ≡ true → hall.new.events ≡ posted_on hall.old.events (flat_map job_posts (of_tenant tenant (job.now ∷ [])))) }
+{
+    if tenant == job.tenant() {
+        return post_rest(alloc, hall, job, 0);
+    }
+    Ok(true)
+}
+
+/// Posts the revisions of a job behind the first ones, of which there are so many, and its closing.
+fn post_rest(
+    alloc: Global,
+    hall: &mut Hall,
+    job: &ScriptJob,
+    posted: usize,
+) -> Result<bool, AllocError>
+    ensures workers { hall.new.workers ≡ hall.old.workers }
+    ensures events { IfOk result (λ done. done ≡ true → hall.new.events ≡ posted_on hall.old.events (posts_behind posted job.now)) }
+{
+    if !post_revisions(alloc, hall, job, posted)? {
+        return Ok(false);
+    }
+    let closing = Post::Close {
+        tenant: job.tenant(),
+        job: job.name(),
+    };
+    post_one(hall, closing)
+}
+
+/// Posts the revisions of a job behind the first ones, of which there are so many.
+fn post_revisions(
+    alloc: Global,
+    hall: &mut Hall,
+    job: &ScriptJob,
+    posted: usize,
+) -> Result<bool, AllocError>
+    ensures workers { hall.new.workers ≡ hall.old.workers }
+    ensures events { IfOk result (λ done. done ≡ true → hall.new.events ≡ posted_on hall.old.events (revise_posts job.now (drop posted job.now.revisions))) }
+{
+    for at in posted..job.revisions().len() {
+        let revision = job.revisions()[at].copy(alloc)?;
+        let post = Post::Revise {
+            tenant: job.tenant(),
+            job: job.name(),
+            revision,
+        };
+        if !post_one(hall, post)? {
+            return Ok(false);
+        }
+    }
+    Ok(true)
+}
+
+/// Posts. False where the post was refused for another cause than want of memory.
+fn post_one(hall: &mut Hall, post: Post) -> Result<bool, AllocError>
+    ensures workers { hall.new.workers ≡ hall.old.workers }
+    ensures events { IfOk result (λ done. done ≡ true → hall.new.events ≡ hall.old.events ++ event_of hall.old.events post ∷ []) }
+{
+    match hall.post(post) {
+        Ok(()) => Ok(true),
+        Err(fault) => {
+            if wanted(fault) {
+                return Err(AllocError);
+            }
+            Ok(false)
+        }
+    }
+}
+
+/// Whether a post was refused for want of memory.
+fn wanted(fault: PostFault) -> bool {
+    match fault {
+        PostFault::Open(fault) => fault == OpenFault::OutOfMemory,
+        PostFault::Revise(fault) => fault == ReviseFault::OutOfMemory,
+        PostFault::Close(_) => false,
+    }
+}

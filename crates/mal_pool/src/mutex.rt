@@ -1,0 +1,118 @@
+//! The board of a hall under a lock. A pass is the list of its caller's own calls, of which only contracts know.
+
+ghost use Rattle.std.specs.Prelude.{◌≡◌, []};
+
+use crate::board::{Board, InUse};
+use crate::shared::{Kept, Size};
+use http_server::Log;
+use mal_hall::{Back, Desk, Hall, Pick, Post, PostFault, Strange};
+use mal_suspend::Done;
+use spec_hall::PickFault;
+use std::snapshot::Snapshot;
+use std::sync::{Mutex, Wait};
+
+/// One call with its answer, as a pass tells it. It has no bytes but those of the worker's number.
+#[derive(Drop)]
+pub enum Noted {
+    Picked(u32, Snapshot<Result<Pick, PickFault>>),
+    Gave(Snapshot<Done>, Snapshot<Result<Back, Strange>>),
+    Posted(Snapshot<Post>, Snapshot<Result<(), PostFault>>),
+}
+
+/// A caller's own calls, in their order. It has no bytes.
+#[derive(Drop)]
+pub struct OwnCalls {
+    log: Log<Noted, ()>,
+}
+
+impl OwnCalls {
+    /// No call yet.
+    pub fn new() -> OwnCalls
+        ensures { result.log.items ≡ [] }
+    {
+        OwnCalls { log: Log::new() }
+    }
+}
+
+/// A hall that workers and tenants share by a lock. A caller holds it for one call of the hall alone.
+#[derive(Drop)]
+pub struct Shared<S: Size> {
+    kept: Mutex<Kept<S>>,
+}
+
+impl<S: Size> Shared<S> {
+    /// Shares a hall. Takes no memory.
+    pub fn new(kept: Kept<S>) -> Shared<S> {
+        Shared {
+            kept: Mutex::new(kept),
+        }
+    }
+}
+
+impl<S: Size + Send + Sync> Desk for Shared<S> {
+    ghost use Rattle.std.specs.Prelude.{map};
+    ghost use Rattle.mal_pool.specs.Noting.{told_of};
+
+    type Pass = OwnCalls;
+
+    ghost workers = { λ desk. S.workers };
+
+    ghost is_of = { λ desk pass. Unit {0} };
+
+    ghost calls = { λ pass. map (λ entry. told_of entry.0) pass.log.items };
+
+    fn pick<R: Wait>(
+        &self,
+        rt: &R,
+        pass: OwnCalls,
+        worker: u32,
+    ) -> (OwnCalls, Result<Pick, PickFault>) {
+        let answer = self.kept.lock(rt).pick(worker);
+        let noted = Noted::Picked(worker, Snapshot::of(&answer));
+        let log = pass.log.and(&noted, &());
+        (OwnCalls { log }, answer)
+    }
+
+    fn finish<R: Wait>(
+        &self,
+        rt: &R,
+        pass: OwnCalls,
+        back: Done,
+    ) -> (OwnCalls, Result<Back, Strange>) {
+        let given = Snapshot::of(&back);
+        let answer = self.kept.lock(rt).finish(back);
+        let noted = Noted::Gave(given, Snapshot::of(&answer));
+        let log = pass.log.and(&noted, &());
+        (OwnCalls { log }, answer)
+    }
+}
+
+impl<S: Size + Send + Sync> Board for Shared<S> {
+    ghost is_whole = { λ pass. Unit {0} };
+
+    fn post<R: Wait>(
+        &self,
+        rt: &R,
+        pass: OwnCalls,
+        post: Post,
+    ) -> (OwnCalls, Result<(), PostFault>) {
+        let posted = Snapshot::of(&post);
+        let answer = self.kept.lock(rt).post(post);
+        let noted = Noted::Posted(posted, Snapshot::of(&answer));
+        let log = pass.log.and(&noted, &());
+        (OwnCalls { log }, answer)
+    }
+
+    fn split(&self, pass: OwnCalls) -> (OwnCalls, OwnCalls) {
+        (pass, OwnCalls::new())
+    }
+
+    fn join(&self, pass: OwnCalls, _other: OwnCalls) -> OwnCalls {
+        pass
+    }
+
+    fn close(self, _pass: OwnCalls) -> Result<Hall, InUse> {
+        let Shared { kept } = self;
+        Ok(kept.into_inner().into_hall())
+    }
+}

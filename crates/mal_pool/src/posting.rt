@@ -1,0 +1,170 @@
+//! Posting: by a tenant's poster while workers work, and afterwards of what is left.
+
+ghost use Rattle.std.specs.Prelude.{◌≡◌, ◌<◌, List, [], ◌∷◌, ◌++◌, length, map, get_or, true, false, OnOk};
+ghost use Rattle.mal_hall.specs.Desks.{Told};
+ghost use Rattle.mal_hall.specs.declared.desk.Post.TheVariants as posts;
+ghost use Rattle.mal_pool.specs.Runs.{HasPosted, HasPostedFor, HasPostedOf, IsRefusal, open_post, taken};
+ghost use Rattle.spec_hall.specs.Dressed.{no_revision};
+
+use crate::board::Board;
+use mal_base::Name;
+use mal_hall::Post;
+use mal_script::ScriptJob;
+use std::alloc::{AllocError, Global};
+use std::sync::Wait;
+
+/// What a poster hands back: of the job at this place of the script so many revisions are posted, and no later job of its
+/// tenant.
+#[derive(Clone, Copy, PartialEq, Eq, Debug)]
+pub struct Left {
+    pub job: usize,
+    pub posted: usize,
+}
+
+/// Opens all jobs, in the order of the script.
+pub fn open_all<R: Wait, B: Board>(
+    rt: &R,
+    board: &B,
+    pass: B::Pass,
+    jobs: &[ScriptJob],
+) -> (B::Pass, Result<(), AllocError>)
+    requires of { B.is_of board.now pass }
+    ensures of { B.is_of board.now result.0 }
+    ensures calls { OnOk result.1 (B.calls result.0 ≡ B.calls pass ++ taken (map open_post jobs.now)) }
+{
+    let mut pass = pass;
+    for job in jobs {
+        let post = Post::Open {
+            tenant: job.tenant(),
+            job: job.name(),
+            ask: job.ask(),
+        };
+        let (back, answer) = board.post(rt, pass, post);
+        pass = back;
+        if answer.is_err() {
+            return (pass, Err(AllocError));
+        }
+    }
+    (pass, Ok(()))
+}
+
+/// Posts the revisions and the closing of a tenant's jobs, job by job. Stops at a post that is refused, or for which memory is
+/// wanting, and hands back the place.
+pub fn post_all<R: Wait, B: Board>(
+    rt: &R,
+    alloc: Global,
+    board: &B,
+    pass: B::Pass,
+    tenant: Name,
+    jobs: &[ScriptJob],
+) -> (B::Pass, Option<Left>)
+    requires of { B.is_of board.now pass }
+    ensures of { B.is_of board.now result.0 }
+    ensures calls { (mine : List Told) × (B.calls result.0 ≡ B.calls pass ++ mine) × HasPosted tenant jobs.now result.1 mine }
+{
+    let mut pass = pass;
+    for place in 0..jobs.len() {
+        let (back, stopped) = post_for(rt, alloc, board, pass, tenant, &jobs[place]);
+        pass = back;
+        match stopped {
+            Some(posted) => return (pass, Some(Left { job: place, posted })),
+            None => {}
+        }
+    }
+    (pass, None)
+}
+
+/// Posts the revisions and the closing of a job, if it is the tenant's. Where it stops, it tells how many revisions are posted.
+fn post_for<R: Wait, B: Board>(
+    rt: &R,
+    alloc: Global,
+    board: &B,
+    pass: B::Pass,
+    tenant: Name,
+    job: &ScriptJob,
+) -> (B::Pass, Option<usize>)
+    requires of { B.is_of board.now pass }
+    ensures of { B.is_of board.now result.0 }
+    ensures calls { (mine : List Told) × (B.calls result.0 ≡ B.calls pass ++ mine) × HasPostedFor tenant job.now result.1 mine }
+{
+    if tenant == job.tenant() {
+        return post_job(rt, alloc, board, pass, job);
+    }
+    (pass, None)
+}
+
+/// Posts the revisions and the closing of a job. Where it stops, it tells how many revisions are posted.
+fn post_job<R: Wait, B: Board>(
+    rt: &R,
+    alloc: Global,
+    board: &B,
+    pass: B::Pass,
+    job: &ScriptJob,
+) -> (B::Pass, Option<usize>)
+    requires of { B.is_of board.now pass }
+    ensures of { B.is_of board.now result.0 }
+    ensures calls { (mine : List Told) × (B.calls result.0 ≡ B.calls pass ++ mine) × HasPostedOf job.now result.1 mine }
+{
+    let mut pass = pass;
+    for posted in 0..job.revisions().len() {
+        let (back, done) = post_revision(rt, alloc, board, pass, job, posted);
+        pass = back;
+        if !done {
+            return (pass, Some(posted));
+        }
+    }
+    let (pass, done) = post_closing(rt, board, pass, job);
+    if !done {
+        return (pass, Some(job.revisions().len()));
+    }
+    (pass, None)
+}
+
+/// Posts a revision of a job, a copy that is made before the hall is asked. False where memory was wanting or the post was
+/// refused.
+fn post_revision<R: Wait, B: Board>(
+    rt: &R,
+    alloc: Global,
+    board: &B,
+    pass: B::Pass,
+    job: &ScriptJob,
+    at: usize,
+) -> (B::Pass, bool)
+    requires of { B.is_of board.now pass }
+    requires low { at < length job.now.revisions }
+    ensures of { B.is_of board.now result.0 }
+    ensures taken { result.1 ≡ true → B.calls result.0 ≡ B.calls pass ++ taken (posts.Revise job.now.tenant job.now.name (get_or job.now.revisions at no_revision) ∷ []) }
+    ensures refused { result.1 ≡ false → (last : List Told) × IsRefusal last × (B.calls result.0 ≡ B.calls pass ++ last) }
+{
+    let revision = match job.revisions()[at].copy(alloc) {
+        Ok(revision) => revision,
+        Err(_) => return (pass, false),
+    };
+    let post = Post::Revise {
+        tenant: job.tenant(),
+        job: job.name(),
+        revision,
+    };
+    let (pass, answer) = board.post(rt, pass, post);
+    (pass, answer.is_ok())
+}
+
+/// Posts the closing of a job. False where the post was refused.
+fn post_closing<R: Wait, B: Board>(
+    rt: &R,
+    board: &B,
+    pass: B::Pass,
+    job: &ScriptJob,
+) -> (B::Pass, bool)
+    requires of { B.is_of board.now pass }
+    ensures of { B.is_of board.now result.0 }
+    ensures taken { result.1 ≡ true → B.calls result.0 ≡ B.calls pass ++ taken (posts.Close job.now.tenant job.now.name ∷ []) }
+    ensures refused { result.1 ≡ false → (last : List Told) × IsRefusal last × (B.calls result.0 ≡ B.calls pass ++ last) }
+{
+    let post = Post::Close {
+        tenant: job.tenant(),
+        job: job.name(),
+    };
+    let (pass, answer) = board.post(rt, pass, post);
+    (pass, answer.is_ok())
+}

@@ -1,0 +1,109 @@
+//! The parts of threads in a run.
+
+ghost use Rattle.std.specs.Prelude.{◌≡◌, ℕ, ◌≤◌, List, [], ◌∷◌, ◌++◌, true};
+ghost use Rattle.mal_hall.specs.Desks.{Told};
+ghost use Rattle.mal_pool.specs.Gates.{StopsSomewhere};
+ghost use Rattle.mal_pool.specs.Runs.{Fits, HasPlayed};
+
+use crate::board::Board;
+use crate::gate::Gate;
+use crate::posting::{Left, post_all};
+use crate::working::{End, work_loop};
+use mal_learn::Scratch;
+use mal_script::ScriptJob;
+use std::alloc::Global;
+use std::sync::Wait;
+
+/// What a thread is to do: post for the tenant of the job at this place of the script, or work as a worker of this number.
+#[derive(Clone, Copy, PartialEq, Eq, Debug)]
+pub enum Part {
+    Poster(usize),
+    Worker(u32),
+}
+
+/// How many turns a worker's loop is given.
+const TURNS: u64 = 1 << 20;
+
+/// How often a worker's loop is called again where there was nothing for it.
+const AGAIN: u32 = 32;
+
+/// A part with its pass.
+#[derive(Drop)]
+pub struct Role<P> {
+    pub pass: P,
+    pub part: Part,
+}
+
+/// What a part hands back: its pass, what it did not post, and whether the gate stopped it.
+#[derive(Drop)]
+pub struct Played<P> {
+    pub pass: P,
+    pub left: Option<Left>,
+    pub stopped: bool,
+}
+
+/// Plays a part to its end.
+pub fn play<R: Wait, B: Board, G: Gate>(
+    rt: &R,
+    alloc: Global,
+    board: &B,
+    jobs: &[ScriptJob],
+    gate: &G,
+    role: Role<B::Pass>,
+) -> Played<B::Pass>
+    requires of { B.is_of board.now role.pass }
+    requires fits { Fits (B.workers board.now) jobs.now role.part }
+    ensures of { B.is_of board.now result.pass }
+    ensures played { (mine : List Told) × (B.calls result.pass ≡ B.calls role.pass ++ mine) × HasPlayed jobs.now role.part result.left mine }
+    ensures stopped { result.stopped ≡ true → StopsSomewhere (G.stops gate.now) }
+{
+    match role.part {
+        Part::Poster(place) => {
+            let tenant = jobs[place].tenant();
+            let (pass, left) = post_all(rt, alloc, board, role.pass, tenant, jobs);
+            Played {
+                pass,
+                left,
+                stopped: false,
+            }
+        }
+        Part::Worker(number) => {
+            let (pass, stopped) = work(rt, alloc, board, role.pass, number, gate);
+            Played {
+                pass,
+                left: None,
+                stopped,
+            }
+        }
+    }
+}
+
+/// Works as long as there is work, with a scratch of its own. True where the gate stopped the worker.
+fn work<R: Wait, B: Board, G: Gate>(
+    rt: &R,
+    alloc: Global,
+    board: &B,
+    pass: B::Pass,
+    number: u32,
+    gate: &G,
+) -> (B::Pass, bool)
+    requires of { B.is_of board.now pass }
+    requires low { 1 ≤ number }
+    requires high { number ≤ B.workers board.now }
+    ensures of { B.is_of board.now result.0 }
+    ensures calls { (mine : List Told) × (B.calls result.0 ≡ B.calls pass ++ mine) }
+    ensures stopped { result.1 ≡ true → StopsSomewhere (G.stops gate.now) }
+{
+    let mut scratch = Scratch::new(alloc);
+    let mut pass = pass;
+    for _ in 0..=AGAIN {
+        let (back, end) = work_loop(rt, board, pass, number, &mut scratch, gate, TURNS);
+        pass = back;
+        match end {
+            End::Idle => {}
+            End::Stopped => return (pass, true),
+            _ => return (pass, false),
+        }
+    }
+    (pass, false)
+}

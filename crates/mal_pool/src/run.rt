@@ -1,0 +1,304 @@
+//! Running a script with many workers.
+
+ghost use Rattle.std.specs.Prelude.{◌≡◌, ◌≤◌, min, true, List, [], IfOk, IfSome, OnOk};
+ghost use Rattle.std.specs.List.{All, filter_map, list_any};
+ghost use Rattle.mal_pool.specs.Gates.{LosesByStops, StopsSomewhere};
+ghost use Rattle.mal_pool.specs.Posts.{HasRun};
+ghost use Rattle.mal_pool.specs.Runs.{Fits, IsSettled, demand_of};
+ghost use Rattle.spec_hall.specs.Driven.{GrowsByTurns, IsDriven};
+ghost use Rattle.spec_hall.specs.Events.{Event};
+ghost use Rattle.spec_hall.specs.States.{leases, lives, states};
+ghost use Rattle.spec_run.specs.Complete.{script_events};
+ghost use Rattle.spec_run.specs.Losses.{NoneIsLost};
+ghost use Rattle.spec_script.specs.Formed.{IsScript};
+ghost use Rattle.spec_script.specs.Limits.{served};
+
+use crate::board::Board;
+use crate::gate::Gate;
+use crate::leaving::post_left;
+use crate::mutex::{OwnCalls, Shared};
+use crate::posting::{Left, open_all};
+use crate::role::{Part, Played, Role, play};
+use crate::running::run_alone;
+use crate::shared::{Kept, Size};
+use crate::testing::{has_lost_unasked, has_name, has_posts};
+use mal_hall::Hall;
+use mal_learn::Scratch;
+use mal_script::{Script, ScriptJob};
+use std::alloc::{AllocError, Global};
+use std::marker::Brand;
+use std::sync::Wait;
+use std::thread::{self, Threads};
+
+/// Runs a script with 1 to 64 workers. With one worker no thread is made and nothing is waited for: all jobs are opened, then job
+/// by job its revisions and its closing are posted, and the hall is driven. With more, tenants post and workers work at the same
+/// time, each in a thread where one can be had, and share the hall by a lock.
+#[tactic(auto, using(crate::proofs::RunLosses::alone_by_stops))]
+pub fn run_all<R: Threads + Wait + Sync, G: Gate>(
+    rt: &R,
+    alloc: Global,
+    script: &Script,
+    workers: u32,
+    gate: &G,
+) -> Result<Hall, AllocError>
+    requires formed { IsScript served script.now }
+    requires some { 1 ≤ workers }
+    requires bound { workers ≤ 64 }
+    ensures run { IfOk result (λ h. HasRun workers script.now h) }
+    ensures sequential { workers ≡ 1 → IfOk result (λ h. IsDriven workers (script_events script.now) h.events) }
+    ensures lost { IfOk result (λ h. LosesByStops (G.stops gate.now) h.events) }
+{
+    if workers == 1 {
+        return run_alone(alloc, script, workers);
+    }
+    run_locked::<Brand, R, G>(rt, alloc, script, workers, gate)
+}
+
+/// Runs a script in threads that share a hall by a lock.
+fn run_locked<S: Size + Send + Sync, R: Threads + Wait + Sync, G: Gate>(
+    rt: &R,
+    alloc: Global,
+    script: &Script,
+    workers: u32,
+    gate: &G,
+) -> Result<Hall, AllocError>
+    requires formed { IsScript served script.now }
+    requires some { 1 ≤ workers }
+    requires bound { workers ≤ 64 }
+    requires size { workers ≡ S.workers }
+    ensures run { IfOk result (λ h. HasRun workers script.now h) }
+    ensures lost { IfOk result (λ h. LosesByStops (G.stops gate.now) h.events) }
+{
+    let board: Shared<S> = Shared::new(Kept::new(Hall::new(alloc, workers)?));
+    run_with(rt, alloc, board, OwnCalls::new(), script, workers, gate)
+}
+
+/// Runs a script in threads that share a board, whose hall has so many workers, 1 to 64, and no event yet. Tenants post and
+/// workers work at the same time; what a tenant did not post is posted afterwards, what is out is recalled, and the hall is driven
+/// to its end. A new hall is run on this thread in its place where the board was in use, where a lease was lost though the gate
+/// stopped no worker, and where the history is not complete for the script.
+pub fn run_with<R: Threads + Wait + Sync, B: Board, G: Gate>(
+    rt: &R,
+    alloc: Global,
+    board: B,
+    pass: B::Pass,
+    script: &Script,
+    workers: u32,
+    gate: &G,
+) -> Result<Hall, AllocError>
+    requires of { B.is_of board pass }
+    requires formed { IsScript served script.now }
+    requires some { 1 ≤ workers }
+    requires bound { workers ≤ 64 }
+    requires size { B.workers board ≡ workers }
+    ensures run { IfOk result (λ h. HasRun workers script.now h) }
+    ensures lost { IfOk result (λ h. LosesByStops (G.stops gate.now) h.events) }
+{
+    let (pass, played) = share(rt, alloc, &board, pass, script.jobs(), workers, gate)?;
+    let stopped = is_stopped(&played);
+    let Some(hall) = take_down(alloc, board, pass, played, script.jobs())? else {
+        return run_alone(alloc, script, workers);
+    };
+    if has_lost_unasked(hall.history(), stopped) {
+        return run_alone(alloc, script, workers);
+    }
+    if !has_posts(alloc, &hall, script)? {
+        return run_alone(alloc, script, workers);
+    }
+    Ok(hall)
+}
+
+/// Whether the gate stopped a worker.
+fn is_stopped<P: Drop>(played: &[Played<P>]) -> bool
+    ensures { result ≡ list_any (λ x. x.stopped) played.now }
+{
+    played.iter().any(|one| one.stopped)
+}
+
+/// Puts the passes together, closes the board, and brings its hall to an end. None where the board was in use, or where what was
+/// left could not be posted.
+fn take_down<B: Board>(
+    alloc: Global,
+    board: B,
+    pass: B::Pass,
+    played: Vec<Played<B::Pass>>,
+    jobs: &[ScriptJob],
+) -> Result<Option<Hall>, AllocError>
+    requires of { B.is_of board pass }
+    requires all { All (λ x. B.is_of board x.pass) played.items }
+    ensures workers { IfOk result (λ o. IfSome o (λ h. h.workers ≡ B.workers board)) }
+    ensures settled { IfOk result (λ o. IfSome o (λ h. (before : List Event) × NoneIsLost before × IsSettled h.workers jobs.now (filter_map (λ x. x.left) played.items) before h.events)) }
+{
+    let (pass, left) = gather(alloc, &board, pass, played)?;
+    let Ok(hall) = board.close(pass) else {
+        return Ok(None);
+    };
+    settle(alloc, hall, jobs, left.as_slice())
+}
+
+/// Posts what was left, recalls what is out, and drives the hall to its end. None where a post was refused for another cause than
+/// want of memory. Where driving wants for memory it is tried once more.
+fn settle(
+    alloc: Global,
+    hall: Hall,
+    jobs: &[ScriptJob],
+    left: &[Left],
+) -> Result<Option<Hall>, AllocError>
+    ensures workers { IfOk result (λ o. IfSome o (λ h. h.workers ≡ hall.workers)) }
+    ensures settled { IfOk result (λ o. IfSome o (λ h. IsSettled hall.workers jobs.now left.now hall.events h.events)) }
+{
+    let mut hall = hall;
+    if !post_left(alloc, &mut hall, jobs, left)? {
+        return Ok(None);
+    }
+    hall.recall();
+    drive_twice(alloc, &mut hall)?;
+    Ok(Some(hall))
+}
+
+/// Drives a hall to its end. Where memory is wanting, the scratch is given up and it is driven once more.
+fn drive_twice(alloc: Global, hall: &mut Hall) -> Result<(), AllocError>
+    requires home { leases hall.old.events ≡ [] }
+    ensures workers { hall.new.workers ≡ hall.old.workers }
+    ensures turns { GrowsByTurns hall.old.workers hall.old.events hall.new.events }
+    ensures home { leases hall.new.events ≡ [] }
+    ensures answered { OnOk result (lives (states hall.new.events) ≡ []) }
+{
+    match drive_once(alloc, hall) {
+        Ok(()) => Ok(()),
+        Err(_) => drive_once(alloc, hall),
+    }
+}
+
+/// Drives a hall to its end, with a scratch of its own.
+fn drive_once(alloc: Global, hall: &mut Hall) -> Result<(), AllocError>
+    requires home { leases hall.old.events ≡ [] }
+    ensures workers { hall.new.workers ≡ hall.old.workers }
+    ensures turns { GrowsByTurns hall.old.workers hall.old.events hall.new.events }
+    ensures home { leases hall.new.events ≡ [] }
+    ensures answered { OnOk result (lives (states hall.new.events) ≡ []) }
+{
+    let mut scratch = Scratch::new(alloc);
+    hall.drive(&mut scratch)
+}
+
+/// Opens all jobs, and lets posters and workers play their parts.
+fn share<R: Threads + Wait + Sync, B: Board, G: Gate>(
+    rt: &R,
+    alloc: Global,
+    board: &B,
+    pass: B::Pass,
+    jobs: &[ScriptJob],
+    workers: u32,
+    gate: &G,
+) -> Result<(B::Pass, Vec<Played<B::Pass>>), AllocError>
+    requires of { B.is_of board.now pass }
+    requires size { B.workers board.now ≡ workers }
+    requires bound { workers ≤ 64 }
+    ensures of { IfOk result (λ r. B.is_of board.now r.0) }
+    ensures all { IfOk result (λ r. All (λ x. B.is_of board.now x.pass × (x.stopped ≡ true → StopsSomewhere (G.stops gate.now))) r.1.items) }
+{
+    let (pass, opened) = open_all(rt, board, pass, jobs);
+    opened?;
+    let parts = parts_of(alloc, jobs, workers)?;
+    let (pass, roles) = deal(alloc, board, pass, jobs, parts.as_slice())?;
+    let played = thread::map_vec(
+        rt,
+        roles,
+        &|role: Role<B::Pass>| -> Played<B::Pass>
+            requires of { B.is_of board.now role.pass }
+            requires fits { Fits (B.workers board.now) jobs.now role.part }
+            ensures of { B.is_of board.entry.now result.pass }
+            ensures stopped { result.stopped ≡ true → StopsSomewhere (G.stops gate.entry.now) }
+        { play(rt, alloc, board, jobs, gate, role) },
+    )?;
+    Ok((pass, played))
+}
+
+/// A poster for each tenant, and the workers, but no more of them than all jobs together ask for.
+fn parts_of(alloc: Global, jobs: &[ScriptJob], workers: u32) -> Result<Vec<Part>, AllocError>
+    requires { workers ≤ 64 }
+    ensures { IfOk result (λ v. All (Fits workers jobs.now) v.items) }
+{
+    let mut parts = Vec::new(alloc);
+    let mut names = Vec::new(alloc);
+    'tenants: for place in 0..jobs.len() {
+        let tenant = jobs[place].tenant();
+        if !has_name(names.as_slice(), tenant) {
+            names.push(tenant)?;
+            parts.push(Part::Poster(place))?;
+        }
+    }
+    let used = useful(jobs, workers);
+    'workers: for number in 1..=used {
+        parts.push(Part::Worker(number))?;
+    }
+    Ok(parts)
+}
+
+/// How many of so many workers the jobs can use at a time: no more than they ask for together.
+fn useful(jobs: &[ScriptJob], workers: u32) -> u32
+    requires { workers ≤ 64 }
+    ensures { result ≡ min workers (demand_of jobs.now) }
+{
+    let mut sum = 0;
+    for job in jobs {
+        let demand = job.ask().demand();
+        if workers <= sum + demand {
+            return workers;
+        }
+        sum += demand;
+    }
+    sum
+}
+
+/// Gives each part a pass of its own.
+fn deal<B: Board>(
+    alloc: Global,
+    board: &B,
+    pass: B::Pass,
+    jobs: &[ScriptJob],
+    parts: &[Part],
+) -> Result<(B::Pass, Vec<Role<B::Pass>>), AllocError>
+    requires of { B.is_of board.now pass }
+    requires fits { All (Fits (B.workers board.now) jobs.now) parts.now }
+    ensures of { IfOk result (λ r. B.is_of board.now r.0) }
+    ensures roles { IfOk result (λ r. All (λ x. B.is_of board.now x.pass × Fits (B.workers board.now) jobs.now x.part) r.1.items) }
+{
+    let _ = jobs.len();
+    let mut pass = pass;
+    let mut roles = Vec::new(alloc);
+    for part in parts {
+        let (mine, theirs) = board.split(pass);
+        pass = mine;
+        roles.push(Role {
+            pass: theirs,
+            part: *part,
+        })?;
+    }
+    Ok((pass, roles))
+}
+
+/// Puts the passes together, and lists what was left.
+fn gather<B: Board>(
+    alloc: Global,
+    board: &B,
+    pass: B::Pass,
+    played: Vec<Played<B::Pass>>,
+) -> Result<(B::Pass, Vec<Left>), AllocError>
+    requires of { B.is_of board.now pass }
+    requires all { All (λ x. B.is_of board.now x.pass) played.items }
+    ensures of { IfOk result (λ r. B.is_of board.now r.0) }
+    ensures left { IfOk result (λ r. r.1.items ≡ filter_map (λ x. x.left) played.items) }
+{
+    let mut pass = pass;
+    let mut left = Vec::new(alloc);
+    for one in played {
+        pass = board.join(pass, one.pass);
+        match one.left {
+            Some(place) => left.push(place)?,
+            None => {}
+        }
+    }
+    Ok((pass, left))
+}

@@ -1,0 +1,81 @@
+//! A hall under a lock.
+
+ghost use Rattle.std.specs.Prelude.{◌≡◌, ℕ, ◌≤◌, ◌++◌, ◌∷◌, []};
+ghost use Rattle.mal_hall.specs.Desks.{HasPosted, IsOwn};
+ghost use Rattle.mal_hall.specs.Offered.{offered, returned};
+ghost use Rattle.spec_hall.specs.Calls.{HasCalled, Picks, Finishes};
+ghost use Rattle.spec_run.specs.Losses.{NoneIsLost};
+
+use mal_hall::{Back, Hall, Pick, Post, PostFault, Strange};
+use mal_suspend::Done;
+use spec_hall::PickFault;
+use std::marker::{Brand, PhantomData};
+
+/// How many workers a hall has that lies under a lock: of what is locked, contracts know the type alone.
+pub trait Size {
+    ghost use Rattle.std.specs.Prelude.{ℕ};
+
+    ghost workers: { ℕ };
+}
+
+impl Size for Brand {
+    ghost workers = { 1 };
+}
+
+/// A hall of so many workers of which no lease was lost.
+#[derive(Drop)]
+pub struct Kept<S: Size> {
+    hall: Hall,
+    of: PhantomData<S>,
+    ghost workers: { hall.workers ≡ S.workers },
+    ghost none_lost: { NoneIsLost hall.events },
+}
+
+impl<S: Size> Kept<S> {
+    /// Keeps a hall of which no lease was lost.
+    pub fn new(hall: Hall) -> Kept<S>
+        requires workers { hall.workers ≡ S.workers }
+        requires none_lost { NoneIsLost hall.events }
+        ensures { result.hall ≡ hall }
+    {
+        Kept {
+            hall,
+            of: PhantomData,
+        }
+    }
+
+    /// Picks as a worker, 1 to the number of workers.
+    #[tactic(auto, using(crate::proofs::CallLosses::pick_loses_none))]
+    pub fn pick(&mut self, worker: u32) -> Result<Pick, PickFault>
+        requires low { 1 ≤ worker }
+        requires high { worker ≤ S.workers }
+        ensures own { IsOwn worker (offered result) }
+        ensures call { HasCalled S.workers self.old.hall.events (Picks worker) (offered result) self.new.hall.events }
+    {
+        self.hall.pick(worker)
+    }
+
+    /// Takes back what came of a lease.
+    #[tactic(auto, using(crate::proofs::CallLosses::finish_loses_none))]
+    pub fn finish(&mut self, back: Done) -> Result<Back, Strange>
+        ensures { HasCalled S.workers self.old.hall.events (Finishes back) (returned result) self.new.hall.events }
+    {
+        self.hall.finish(back)
+    }
+
+    /// Posts.
+    #[tactic(auto, using(crate::proofs::CallLosses::post_loses_none))]
+    pub fn post(&mut self, post: Post) -> Result<(), PostFault>
+        ensures { HasPosted S.workers self.old.hall.events post result self.new.hall.events }
+    {
+        self.hall.post(post)
+    }
+
+    /// Gives the hall away.
+    pub fn into_hall(self) -> Hall
+        ensures workers { result.workers ≡ S.workers }
+        ensures none_lost { NoneIsLost result.events }
+    {
+        self.hall
+    }
+}

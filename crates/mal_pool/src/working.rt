@@ -1,0 +1,151 @@
+//! What a worker does at a desk.
+
+ghost use Rattle.std.specs.Prelude.{◌≡◌, ◌≤◌, List, [], ◌∷◌, ◌++◌, None, Ok};
+ghost use Rattle.mal_hall.specs.Desks.{Told, Picked, Gave};
+ghost use Rattle.mal_hall.specs.Offered.{handed_of};
+ghost use Rattle.mal_pool.specs.Gates.{StopsSomewhere};
+ghost use Rattle.mal_pool.specs.Works.{IsTurn, Works, turned_by};
+ghost use Rattle.mal_pool.specs.declared.working.End.TheVariants.{Stopped};
+ghost use Rattle.spec_hall.specs.Calls.{Leased, Return};
+
+use crate::gate::{Gate, Point, Step};
+use mal_hall::{Desk, Pick};
+use mal_learn::Scratch;
+use mal_suspend::{Done, Lease};
+use spec_hall::PickFault;
+use std::sync::Wait;
+use std::thread;
+
+/// How many answers in a row may be that there is nothing now.
+const PATIENCE: u32 = 1_000;
+
+/// How a worker's loop ends.
+#[derive(Clone, Copy, PartialEq, Eq, Debug)]
+pub enum End {
+    /// Every job is closed and answered and nothing is out.
+    AllDone,
+    /// 1,000 answers in a row were that there is nothing now.
+    Idle,
+    /// So many picks were made as the loop had turns.
+    Spent,
+    /// The worker has a lease out.
+    Busy,
+    /// What came of a lease was not taken back.
+    Strange,
+    /// The gate stopped the worker.
+    Stopped,
+    /// A pick wanted for memory.
+    OutOfMemory,
+}
+
+/// What one turn of the loop came to.
+#[derive(Clone, Copy, PartialEq, Eq, Debug)]
+pub enum Turned {
+    Worked,
+    Idle,
+    Ended(End),
+}
+
+/// Works at a desk as a worker, 1 to the number of workers, for so many turns at most: each turn picks, works the lease and gives
+/// back what came of it. The calls that were made decide the end. After each answer that there is nothing now it yields once.
+pub fn work_loop<R: Wait, D: Desk, G: Gate>(
+    rt: &R,
+    desk: &D,
+    pass: D::Pass,
+    worker: u32,
+    scratch: &mut Scratch,
+    gate: &G,
+    turns: u64,
+) -> (D::Pass, End)
+    requires of { D.is_of desk.now pass }
+    requires low { 1 ≤ worker }
+    requires high { worker ≤ D.workers desk.now }
+    ensures of { D.is_of desk.now result.0 }
+    ensures calls { (mine : List Told) × (D.calls result.0 ≡ D.calls pass ++ mine) × Works (G.stops gate.now) worker turns 0 None mine result.1 }
+    ensures stopped { result.1 ≡ Stopped → StopsSomewhere (G.stops gate.now) }
+{
+    let mut pass = pass;
+    let mut idles = 0;
+    for _made in 0..turns {
+        let (back, turned) = turn(rt, desk, pass, worker, scratch, gate);
+        pass = back;
+        match turned {
+            Turned::Worked => idles = 0,
+            Turned::Idle => {
+                idles += 1;
+                thread::yield_now();
+                if idles == PATIENCE {
+                    return (pass, End::Idle);
+                }
+            }
+            Turned::Ended(end) => return (pass, end),
+        }
+    }
+    (pass, End::Spent)
+}
+
+/// Picks once, works what was leased off, and gives it back.
+fn turn<R: Wait, D: Desk, G: Gate>(
+    rt: &R,
+    desk: &D,
+    pass: D::Pass,
+    worker: u32,
+    scratch: &mut Scratch,
+    gate: &G,
+) -> (D::Pass, Turned)
+    requires of { D.is_of desk.now pass }
+    requires low { 1 ≤ worker }
+    requires high { worker ≤ D.workers desk.now }
+    ensures of { D.is_of desk.now result.0 }
+    ensures calls { (mine : List Told) × (D.calls result.0 ≡ D.calls pass ++ mine) × IsTurn (G.stops gate.now) worker mine result.1 }
+{
+    let (pass, answer) = desk.pick(rt, pass, worker);
+    match answer {
+        Ok(Pick::Leased(lease)) => work_off(rt, desk, pass, worker, lease, scratch, gate),
+        Ok(Pick::Idle) => (pass, Turned::Idle),
+        Ok(Pick::AllDone) => (pass, Turned::Ended(End::AllDone)),
+        Err(PickFault::Busy) => (pass, Turned::Ended(End::Busy)),
+        Err(PickFault::OutOfMemory) => (pass, Turned::Ended(End::OutOfMemory)),
+    }
+}
+
+/// Works a lease off that a worker has just picked, and gives it back. Where the gate stops the worker, the lease or what came of it
+/// is let go.
+fn work_off<R: Wait, D: Desk, G: Gate>(
+    rt: &R,
+    desk: &D,
+    pass: D::Pass,
+    worker: u32,
+    lease: Lease,
+    scratch: &mut Scratch,
+    gate: &G,
+) -> (D::Pass, Turned)
+    requires of { D.is_of desk.now pass }
+    ensures of { D.is_of desk.now result.0 }
+    ensures calls { (mine : List Told) × (D.calls result.0 ≡ D.calls pass ++ mine) × IsTurn (G.stops gate.now) worker (Picked worker (Ok (Leased (handed_of lease))) ∷ mine) result.1 }
+{
+    let start = lease.start();
+    match gate.at(Point::Before, start, worker) {
+        Step::Stop => return (pass, Turned::Ended(End::Stopped)),
+        Step::Go => {}
+    }
+    let back = lease.work(scratch);
+    match gate.at(Point::After, start, worker) {
+        Step::Stop => return (pass, Turned::Ended(End::Stopped)),
+        Step::Go => {}
+    }
+    give_back(rt, desk, pass, back)
+}
+
+/// Gives back what came of a lease.
+fn give_back<R: Wait, D: Desk>(rt: &R, desk: &D, pass: D::Pass, back: Done) -> (D::Pass, Turned)
+    requires of { D.is_of desk.now pass }
+    ensures of { D.is_of desk.now result.0 }
+    ensures calls { (answer : Return) × (D.calls result.0 ≡ D.calls pass ++ Gave back answer ∷ []) × (result.1 ≡ turned_by answer) }
+{
+    let (pass, answer) = desk.finish(rt, pass, back);
+    match answer {
+        Ok(_) => (pass, Turned::Worked),
+        Err(_) => (pass, Turned::Ended(End::Strange)),
+    }
+}

@@ -1,0 +1,37 @@
+use Rattle.std.specs.Prelude.{◌≡◌, ℕ, Bool, true, false, ◌==◌, List, ◌++◌}
+use Rattle.std.specs.List.{list_all, list_any}
+use Rattle.spec_hall.specs.Driven.{was_lost}
+use Rattle.spec_hall.specs.Events.{Event, Open, Revise, Close, Balance, Start, Finish, Exchange}
+
+-- whether an event is the loss of a lease
+abbrev pub is_loss : Event → Bool
+is_loss (Open k ask) = false
+is_loss (Revise k number r) = false
+is_loss (Close k) = false
+is_loss (Balance shares) = false
+is_loss (Start k index worker) = false
+is_loss (Finish k index worker outcome) = was_lost outcome
+is_loss (Exchange k) = false
+
+-- no lease was lost
+abbrev pub NoneIsLost : List Event → Type 0
+NoneIsLost history = list_any is_loss history ≡ false
+
+-- whether an event is no start by another worker than the first
+abbrev pub is_not_by_others : Event → Bool
+is_not_by_others (Open k ask) = true
+is_not_by_others (Revise k number r) = true
+is_not_by_others (Close k) = true
+is_not_by_others (Balance shares) = true
+is_not_by_others (Start k index worker) = worker == 1
+is_not_by_others (Finish k index worker outcome) = true
+is_not_by_others (Exchange k) = true
+
+-- where leases are lost, only the first worker starts nodes from the first loss on: in a first part none is lost, and in the rest
+-- no other worker starts one
+pub record LosesLate (history : List Event) : Type 0 where
+  pub before : List Event
+  pub after : List Event
+  pub parts : history ≡ before ++ after
+  pub none : NoneIsLost before
+  pub first : list_all is_not_by_others after ≡ true
