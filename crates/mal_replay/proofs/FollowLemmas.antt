@@ -1,0 +1,181 @@
+-- A tenant's posts that are gone through beside what a script says of it.
+use Rattle.std.proofs.Common.{◌≡◌, ℕ, zero, suc, ◌+◌, ◌<◌, ◌≤◌, Bool, true, false, cond, List, [], ◌∷◌, ◌++◌, length, map, filter, flat_map, take, drop, get_or, slice_get, Option, Some, None, refl, sym, ◌∙◌, ap, subst, arith, append_assoc, append-nil, length-append}
+use Rattle.std.specs.Prelude.{All, IsTrue, ◌↔◌}
+use Rattle.std.proofs.lemmas.Bool.{both_ways}
+use Rattle.std.proofs.lemmas.List.{drop_more, map-append, take_all, take_more, length-take-le}
+use Rattle.std.proofs.lemmas.Option.{get_or_from_slice_get, slice_get_within}
+use Rattle.std.proofs.lemmas.List.Elements.{All-cons, All-head, All-nil, All-tail, filter-append}
+use Rattle.mal_history.specs.declared.event.Event as written
+use Rattle.mal_history.specs.declared.event.Event.TheVariants as of
+use Rattle.mal_replay.specs.Replaying.{AreFew, GoesOn, Leaves, job_lines, line_of, lines_of, opening_lines}
+use Rattle.mal_replay.specs.declared.expected.Post.{Post}
+use Rattle.mal_revision.specs.Posted.{Posted}
+use Rattle.spec_job.specs.Titled.{Key}
+use Rattle.spec_hall.specs.Events.{Event, Revise, bare}
+use Rattle.spec_hall.specs.Own.{is_text}
+use Rattle.spec_replay.specs.Posts.{is_post_line, post_lines}
+use Rattle.spec_run.proofs.OpenLemmas.{revise-more}
+use Rattle.spec_run.proofs.PostingLemmas.{take-one}
+use Rattle.spec_run.specs.Complete.{job_events, open_events, revise_events}
+use Rattle.spec_script.specs.Formed.{IsScript, MayAllFollow}
+use Rattle.spec_script.specs.Limits.{served}
+use Rattle.spec_script.specs.Script.{ScriptedJob, Scripted}
+
+-- what is left of posts at a place
+drop-some : (posts : List Post) (n : ℕ) (p : Post) → slice_get posts n ≡ Some p → drop n posts ≡ p ∷ drop (n + 1) posts
+drop-some posts n p e = drop_more posts n p (slice_get_within posts n p e) ∙ ap (λ (q : Post). q ∷ drop (n + 1) posts) (get_or_from_slice_get posts n p p e)
+
+drop-none : (posts : List Post) (n : ℕ) → slice_get posts n ≡ None → drop n posts ≡ []
+drop-none [] zero e = refl
+drop-none [] (suc n) e = refl
+drop-none (x ∷ xs) zero e = absurd (cc)
+drop-none (x ∷ xs) (suc n) e = drop-none xs n e
+
+-- an event that the tenant did not post
+pub goes-over : (tenant : List ℕ) (event : written.Event) (posts : List Post) (n : ℕ) → is_post_line tenant event ≡ false → GoesOn tenant event posts n n
+goes-over tenant event posts n other lines =
+    let same : post_lines tenant (event ∷ lines) ≡ post_lines tenant lines = ap (λ (b : Bool). cond b (event ∷ post_lines tenant lines) (post_lines tenant lines)) other in
+    (λ e. sym same ∙ e, λ e. same ∙ e)
+
+-- one that it did
+mine : (tenant : List ℕ) (event : written.Event) (lines : List written.Event) → is_post_line tenant event ≡ true → post_lines tenant (event ∷ lines) ≡ event ∷ post_lines tenant lines
+mine tenant event lines posted = ap (λ (b : Bool). cond b (event ∷ post_lines tenant lines) (post_lines tenant lines)) posted
+
+pub leaves-end : (tenant : List ℕ) (event : written.Event) (posts : List Post) (n : ℕ) → is_post_line tenant event ≡ true → slice_get posts n ≡ None → Leaves tenant event posts n
+leaves-end tenant event posts n posted none lines e =
+    let both : event ∷ post_lines tenant lines ≡ [] = sym (mine tenant event lines posted) ∙ (e ∙ ap lines_of (drop-none posts n none)) in
+    absurd (cc)
+
+pub leaves-other : (tenant : List ℕ) (event : written.Event) (posts : List Post) (n : ℕ) (p : Post) → is_post_line tenant event ≡ true → slice_get posts n ≡ Some p → (event ≡ line_of p → ⊥) → Leaves tenant event posts n
+leaves-other tenant event posts n p posted found other lines e =
+    let both : event ∷ post_lines tenant lines ≡ line_of p ∷ lines_of (drop (n + 1) posts) = sym (mine tenant event lines posted) ∙ (e ∙ ap lines_of (drop-some posts n p found)) in
+    let same : event ≡ line_of p = cc in
+    other same
+
+pub goes-on : (tenant : List ℕ) (event : written.Event) (posts : List Post) (n : ℕ) (p : Post) → is_post_line tenant event ≡ true → slice_get posts n ≡ Some p → event ≡ line_of p → GoesOn tenant event posts n (n + 1)
+goes-on tenant event posts n p posted found same lines = (λ e. forth e, λ e. back e)
+  where
+    ahead : lines_of (drop n posts) ≡ line_of p ∷ lines_of (drop (n + 1) posts)
+    ahead = ap lines_of (drop-some posts n p found)
+
+    forth : post_lines tenant (event ∷ lines) ≡ lines_of (drop n posts) → post_lines tenant lines ≡ lines_of (drop (n + 1) posts)
+    forth e =
+        let both : event ∷ post_lines tenant lines ≡ line_of p ∷ lines_of (drop (n + 1) posts) = sym (mine tenant event lines posted) ∙ (e ∙ ahead) in
+        cc
+
+    back : post_lines tenant lines ≡ lines_of (drop (n + 1) posts) → post_lines tenant (event ∷ lines) ≡ lines_of (drop n posts)
+    back e = mine tenant event lines posted ∙ (ap (λ (x : written.Event). x ∷ post_lines tenant lines) same ∙ (ap (λ (xs : List written.Event). line_of p ∷ xs) e ∙ sym ahead))
+
+-- all events up to a place
+abbrev pub IsLeft : List ℕ → List written.Event → List Post → ℕ → ℕ → Type 0
+IsLeft tenant events posts i n = (post_lines tenant events ≡ lines_of posts) ↔ (post_lines tenant (drop i events) ≡ lines_of (drop n posts))
+
+drop-one : (xs : List written.Event) (i : ℕ) (x : written.Event) → i < length xs → x ≡ get_or xs i x → drop i xs ≡ x ∷ drop (i + 1) xs
+drop-one xs i x low is = drop_more xs i x low ∙ ap (λ (y : written.Event). y ∷ drop (i + 1) xs) (sym is)
+
+pub left-more : (tenant : List ℕ) (events : List written.Event) (posts : List Post) (i n m : ℕ) (event : written.Event) → IsLeft tenant events posts i n → i < length events → event ≡ get_or events i event → GoesOn tenant event posts n m → IsLeft tenant events posts (i + 1) m
+left-more tenant events posts i n m event left low read goes = (λ e. (goes rest).0 (sym here ∙ left.0 e), λ e. left.1 (here ∙ (goes rest).1 e))
+  where
+    rest : List written.Event
+    rest = drop (i + 1) events
+
+    here : post_lines tenant (drop i events) ≡ post_lines tenant (event ∷ rest)
+    here = ap (post_lines tenant) (drop-one events i event low read)
+
+pub left-false : (tenant : List ℕ) (events : List written.Event) (posts : List Post) (i n : ℕ) (event : written.Event) → IsLeft tenant events posts i n → i < length events → event ≡ get_or events i event → Leaves tenant event posts n → IsTrue false ↔ (post_lines tenant events ≡ lines_of posts)
+left-false tenant events posts i n event left low read leaves = (λ t. absurd (cc), λ e. absurd (leaves (drop (i + 1) events) (sym (ap (post_lines tenant) (drop-one events i event low read)) ∙ left.0 e)))
+
+drop-all : {A : Type 0} (xs : List A) (i : ℕ) → length xs ≤ i → drop i xs ≡ []
+drop-all [] zero all = refl
+drop-all [] (suc i) all = refl
+drop-all (x ∷ xs) zero all = absurd (omega (arith, all))
+drop-all (x ∷ xs) (suc i) all = drop-all xs i (omega (arith, all))
+
+drop-left : (posts : List Post) (n : ℕ) → n < length posts → [] ≡ lines_of (drop n posts) → ⊥
+drop-left [] n low e = omega (arith, low)
+drop-left (x ∷ xs) zero low e = absurd (cc)
+drop-left (x ∷ xs) (suc n) low e = drop-left xs n (omega (arith, low)) e
+
+pub left-end : (tenant : List ℕ) (events : List written.Event) (posts : List Post) (i n : ℕ) → IsLeft tenant events posts i n → length events ≤ i → length posts ≤ n → IsTrue true ↔ (post_lines tenant events ≡ lines_of posts)
+left-end tenant events posts i n left all end = (λ t. left.1 (ap (post_lines tenant) (drop-all events i all) ∙ sym (ap lines_of (drop-all posts n end))), λ e. refl)
+
+pub left-short : (tenant : List ℕ) (events : List written.Event) (posts : List Post) (i n : ℕ) → IsLeft tenant events posts i n → length events ≤ i → n < length posts → IsTrue false ↔ (post_lines tenant events ≡ lines_of posts)
+left-short tenant events posts i n left all low = (λ t. absurd (cc), λ e. absurd (drop-left posts n low (sym (ap (post_lines tenant) (drop-all events i all)) ∙ left.0 e)))
+
+-- the lines of what a script posts, job by job
+opening-append : (tenant : List ℕ) (xs ys : List ScriptedJob) → opening_lines tenant (xs ++ ys) ≡ opening_lines tenant xs ++ opening_lines tenant ys
+opening-append tenant xs ys =
+    let test : ScriptedJob → Bool = λ j. is_text tenant j.tenant in
+    ap (λ (js : List ScriptedJob). map bare (open_events js)) (filter-append test xs ys)
+    ∙ (ap (map bare) (map-append _ (filter test xs) (filter test ys)) ∙ map-append bare (open_events (filter test xs)) (open_events (filter test ys)))
+
+job-append : (tenant : List ℕ) (xs ys : List ScriptedJob) → job_lines tenant (xs ++ ys) ≡ job_lines tenant xs ++ job_lines tenant ys
+job-append tenant xs ys =
+    let test : ScriptedJob → Bool = λ j. is_text tenant j.tenant in
+    ap (λ (js : List ScriptedJob). map bare (flat_map job_events js)) (filter-append test xs ys)
+    ∙ (ap (map bare) (behind (filter test xs)) ∙ map-append bare (flat_map job_events (filter test xs)) (flat_map job_events (filter test ys)))
+  where
+    behind : (js : List ScriptedJob) → flat_map job_events (js ++ filter (λ j. is_text tenant j.tenant) ys) ≡ flat_map job_events js ++ flat_map job_events (filter (λ j. is_text tenant j.tenant) ys)
+    behind [] = refl
+    behind (j ∷ js) = ap (λ (es : List Event). job_events j ++ es) (behind js) ∙ sym (append_assoc (job_events j) (flat_map job_events js) (flat_map job_events (filter (λ i. is_text tenant i.tenant) ys)))
+
+more : (f : List ScriptedJob → List written.Event) → ((xs ys : List ScriptedJob) → f (xs ++ ys) ≡ f xs ++ f ys) → (js : List ScriptedJob) (i : ℕ) (j : ScriptedJob) (old text after : List written.Event) → text ≡ old ++ f (take i js) → after ≡ text ++ f (j ∷ []) → i < length js → j ≡ get_or js i j → after ≡ old ++ f (take (i + 1) js)
+more f append js i j old text after is step low read =
+    step ∙ (ap (λ (x : List written.Event). x ++ f (j ∷ [])) is
+    ∙ (append_assoc old (f (take i js)) (f (j ∷ []))
+    ∙ ap (λ (x : List written.Event). old ++ x) (sym (append (take i js) (j ∷ [])) ∙ ap f (sym (take-one js i j low read)))))
+
+pub opening-more : (tenant : List ℕ) (js : List ScriptedJob) (i : ℕ) (j : ScriptedJob) (old text after : List written.Event) → text ≡ old ++ opening_lines tenant (take i js) → after ≡ text ++ opening_lines tenant (j ∷ []) → i < length js → j ≡ get_or js i j → after ≡ old ++ opening_lines tenant (take (i + 1) js)
+opening-more tenant js i j old text after is step low read = more (opening_lines tenant) (opening-append tenant) js i j old text after is step low read
+
+pub job-more : (tenant : List ℕ) (js : List ScriptedJob) (i : ℕ) (j : ScriptedJob) (old text after : List written.Event) → text ≡ old ++ job_lines tenant (take i js) → after ≡ text ++ job_lines tenant (j ∷ []) → i < length js → j ≡ get_or js i j → after ≡ old ++ job_lines tenant (take (i + 1) js)
+job-more tenant js i j old text after is step low read = more (job_lines tenant) (job-append tenant) js i j old text after is step low read
+
+pub few-at : (js : List ScriptedJob) (i : ℕ) (j : ScriptedJob) → AreFew js → i < length js → j ≡ get_or js i j → length j.revisions ≤ 256
+few-at [] i j few low read = absurd (omega (arith, low))
+few-at (k ∷ ks) zero j few low read = subst (λ (x : ScriptedJob). length x.revisions ≤ 256) (sym read) (All-head (λ (x : ScriptedJob). length x.revisions ≤ 256) k ks few)
+few-at (k ∷ ks) (suc i) j few low read = few-at ks i j (All-tail (λ (x : ScriptedJob). length x.revisions ≤ 256) k ks few) (omega (arith, low)) read
+
+-- one revision more
+pub revision-more : (k : Key) (rs : List Posted) (i : ℕ) (old text after : List written.Event) (line : written.Event) → text ≡ old ++ map bare (revise_events k 1 (take i rs)) → after ≡ text ++ line ∷ [] → i < length rs → line ≡ bare (Revise k (i + 1) (record { variables = 0; clauses = []; assumptions = [] })) → after ≡ old ++ map bare (revise_events k 1 (take (i + 1) rs))
+revision-more k rs i old text after line is step low line_is =
+    let d : Posted = record { variables = 0; clauses = []; assumptions = [] } in
+    let r : Posted = get_or rs i d in
+    let number : 1 + length (take i rs) ≡ i + 1 = omega (arith, length-take-le i rs (omega (arith, low))) in
+    let whole : map bare (revise_events k 1 (take (i + 1) rs)) ≡ map bare (revise_events k 1 (take i rs)) ++ line ∷ [] =
+    ap (λ (x : List Posted). map bare (revise_events k 1 x)) (take_more rs i d low)
+    ∙ (ap (map bare) (revise-more k 1 (take i rs) r)
+    ∙ (map-append bare (revise_events k 1 (take i rs)) (Revise k (1 + length (take i rs)) r ∷ [])
+    ∙ ap (λ (n : ℕ). map bare (revise_events k 1 (take i rs)) ++ bare (Revise k n r) ∷ []) number
+    ∙ ap (λ (x : written.Event). map bare (revise_events k 1 (take i rs)) ++ x ∷ []) (sym line_is))) in
+    step ∙ (ap (λ (x : List written.Event). x ++ line ∷ []) is ∙ (append_assoc old (map bare (revise_events k 1 (take i rs))) (line ∷ []) ∙ ap (λ (x : List written.Event). old ++ x) (sym whole)))
+
+-- the lines of one job
+pub opening-one : (tenant : List ℕ) (j : ScriptedJob) (old after : List Post) (p : Post) → is_text tenant j.tenant ≡ true → after ≡ old ++ p ∷ [] → line_of p ≡ of.Open j.tenant j.name j.ask → lines_of after ≡ lines_of old ++ opening_lines tenant (j ∷ [])
+opening-one tenant j old after p mine_is step line_is =
+    ap lines_of step
+    ∙ (map-append line_of old (p ∷ [])
+    ∙ (ap (λ (x : written.Event). lines_of old ++ x ∷ []) line_is
+    ∙ ap (λ (b : Bool). lines_of old ++ map bare (open_events (cond b (j ∷ []) []))) (sym mine_is)))
+
+pub opening-none : (tenant : List ℕ) (j : ScriptedJob) (old : List Post) → is_text tenant j.tenant ≡ false → lines_of old ≡ lines_of old ++ opening_lines tenant (j ∷ [])
+opening-none tenant j old other = sym (append-nil (lines_of old)) ∙ ap (λ (b : Bool). lines_of old ++ map bare (open_events (cond b (j ∷ []) []))) (sym other)
+
+pub job-one : (tenant : List ℕ) (j : ScriptedJob) (old after : List Post) → is_text tenant j.tenant ≡ true → lines_of after ≡ lines_of old ++ map bare (job_events j) → lines_of after ≡ lines_of old ++ job_lines tenant (j ∷ [])
+job-one tenant j old after mine_is step =
+    step ∙ (ap (λ (es : List Event). lines_of old ++ map bare es) (sym (append-nil (job_events j)))
+    ∙ ap (λ (b : Bool). lines_of old ++ map bare (flat_map job_events (cond b (j ∷ []) []))) (sym mine_is))
+
+pub job-none : (tenant : List ℕ) (j : ScriptedJob) (old : List Post) → is_text tenant j.tenant ≡ false → lines_of old ≡ lines_of old ++ job_lines tenant (j ∷ [])
+job-none tenant j old other = sym (append-nil (lines_of old)) ∙ ap (λ (b : Bool). lines_of old ++ map bare (flat_map job_events (cond b (j ∷ []) []))) (sym other)
+
+pub lines-more : (old after : List Post) (p : Post) → after ≡ old ++ p ∷ [] → lines_of after ≡ lines_of old ++ line_of p ∷ []
+lines-more old after p step = ap lines_of step ∙ map-append line_of old (p ∷ [])
+
+-- the jobs of a script in form have few revisions
+few-from : (done js : List ScriptedJob) → MayAllFollow served done js → AreFew js
+few-from done [] h = All-nil (λ (j : ScriptedJob). length j.revisions ≤ 256)
+few-from done (j ∷ js) h = All-cons (λ (x : ScriptedJob). length x.revisions ≤ 256) j js h.0.formed.few (few-from (done ++ j ∷ []) js h.1)
+
+pub few-jobs : (s : Scripted) → IsScript served s → AreFew s.jobs
+few-jobs s h = few-from [] s.jobs h

@@ -1,0 +1,4 @@
+pub mod EnterLemmas
+pub mod FollowLemmas
+pub mod KnownLemmas
+pub mod TenantLemmas

@@ -1,0 +1,197 @@
+//! What a script posts of a tenant.
+
+ghost use Rattle.std.specs.Prelude.{◌≡◌, ◌↔◌, ◌++◌, ◌∷◌, [], ◌≤◌, IsTrue, length, map, IfOk, OnOk};
+ghost use Rattle.mal_history.specs.declared.event.Event.TheVariants as of;
+ghost use Rattle.mal_replay.specs.Replaying.{AreFew, job_lines, line_of, lines_of, opening_lines};
+ghost use Rattle.spec_hall.specs.Events.{bare};
+ghost use Rattle.spec_hall.specs.Own.{is_text};
+ghost use Rattle.spec_run.specs.Complete.{job_events, posts_of};
+
+use mal_base::{Ask, Name};
+use mal_history::Event;
+use mal_script::{Script, ScriptJob};
+use std::alloc::{AllocError, Global};
+
+/// A post: a job is opened, its revision of a number is posted, or it is closed.
+#[derive(Clone, Copy)]
+pub enum Post {
+    Open {
+        tenant: Name,
+        job: Name,
+        ask: Ask,
+    },
+    Revise {
+        tenant: Name,
+        job: Name,
+        number: u32,
+    },
+    Close {
+        tenant: Name,
+        job: Name,
+    },
+}
+
+/// What a script posts of a tenant, in its order: the openings, then job by job the revisions and the closing. A job has 256
+/// revisions at most.
+pub fn posts_of(alloc: Global, script: &Script, tenant: Name) -> Result<Vec<Post>, AllocError>
+    requires { AreFew script.now.jobs }
+    ensures { IfOk result (λ v. lines_of v.items ≡ map bare (posts_of tenant script.now)) }
+{
+    let mut posts = Vec::new(alloc);
+    put_openings(&mut posts, script.jobs(), tenant)?;
+    put_jobs(&mut posts, script.jobs(), tenant)?;
+    Ok(posts)
+}
+
+/// Puts the openings of a tenant's jobs behind the posts.
+fn put_openings(posts: &mut Vec<Post>, jobs: &[ScriptJob], tenant: Name) -> Result<(), AllocError>
+    ensures { OnOk result (lines_of posts.new.items ≡ lines_of posts.old.items ++ opening_lines tenant jobs.now) }
+{
+    for job in jobs {
+        put_opening(posts, job, tenant)?;
+    }
+    Ok(())
+}
+
+/// Puts the opening of a job behind the posts, where it is of this tenant.
+fn put_opening(posts: &mut Vec<Post>, job: &ScriptJob, tenant: Name) -> Result<(), AllocError>
+    ensures { OnOk result (lines_of posts.new.items ≡ lines_of posts.old.items ++ opening_lines tenant (job.now ∷ [])) }
+{
+    if !is_of(job, tenant) {
+        return Ok(());
+    }
+    posts.push(Post::Open {
+        tenant: job.tenant(),
+        job: job.name(),
+        ask: job.ask(),
+    })?;
+    Ok(())
+}
+
+/// Puts the revisions and the closings of a tenant's jobs behind the posts.
+fn put_jobs(posts: &mut Vec<Post>, jobs: &[ScriptJob], tenant: Name) -> Result<(), AllocError>
+    requires { AreFew jobs.now }
+    ensures { OnOk result (lines_of posts.new.items ≡ lines_of posts.old.items ++ job_lines tenant jobs.now) }
+{
+    for job in jobs {
+        put_job_of(posts, job, tenant)?;
+    }
+    Ok(())
+}
+
+/// Puts the revisions and the closing of a job behind the posts, where it is of this tenant.
+fn put_job_of(posts: &mut Vec<Post>, job: &ScriptJob, tenant: Name) -> Result<(), AllocError>
+    requires { length job.now.revisions ≤ 256 }
+    ensures { OnOk result (lines_of posts.new.items ≡ lines_of posts.old.items ++ job_lines tenant (job.now ∷ [])) }
+{
+    if !is_of(job, tenant) {
+        return Ok(());
+    }
+    put_job(posts, job)
+}
+
+/// Whether a job is of this tenant.
+fn is_of(job: &ScriptJob, tenant: Name) -> bool
+    ensures { result ≡ is_text tenant job.now.tenant }
+{
+    tenant == job.tenant()
+}
+
+/// Puts the revisions and the closing of a job behind the posts.
+fn put_job(posts: &mut Vec<Post>, job: &ScriptJob) -> Result<(), AllocError>
+    requires { length job.now.revisions ≤ 256 }
+    ensures { OnOk result (lines_of posts.new.items ≡ lines_of posts.old.items ++ map bare (job_events job.now)) }
+{
+    for posted in 0..job.revisions().len() {
+        posts.push(Post::Revise {
+            tenant: job.tenant(),
+            job: job.name(),
+            number: posted as u32 + 1,
+        })?;
+    }
+    posts.push(Post::Close {
+        tenant: job.tenant(),
+        job: job.name(),
+    })?;
+    Ok(())
+}
+
+/// Whether an event is this post.
+pub fn is_post(event: &Event, post: Post) -> bool
+    ensures { IsTrue result ↔ (event.now ≡ line_of post) }
+{
+    match post {
+        Post::Open { tenant, job, ask } => is_opening(event, tenant, job, ask),
+        Post::Revise {
+            tenant,
+            job,
+            number,
+        } => is_revision(event, tenant, job, number),
+        Post::Close { tenant, job } => is_closing(event, tenant, job),
+    }
+}
+
+/// Whether an event is the opening of this job with this ask.
+fn is_opening(event: &Event, tenant: Name, job: Name, ask: Ask) -> bool
+    ensures { IsTrue result ↔ (event.now ≡ of.Open tenant job ask) }
+{
+    match event {
+        Event::Open {
+            tenant: of,
+            job: name,
+            ask: other,
+        } => *of == tenant && *name == job && are_same(*other, ask),
+        Event::Revise { .. } => false,
+        Event::Close { .. } => false,
+        Event::Balance { .. } => false,
+        Event::Start { .. } => false,
+        Event::Finish { .. } => false,
+        Event::Exchange { .. } => false,
+    }
+}
+
+/// Whether two asks are the same.
+fn are_same(one: Ask, other: Ask) -> bool
+    ensures { IsTrue result ↔ (one ≡ other) }
+{
+    one.priority() == other.priority()
+        && one.demand() == other.demand()
+        && one.slices() == other.slices()
+}
+
+/// Whether an event is the revision of this number of this job.
+fn is_revision(event: &Event, tenant: Name, job: Name, number: u32) -> bool
+    ensures { IsTrue result ↔ (event.now ≡ of.Revise tenant job number) }
+{
+    match event {
+        Event::Open { .. } => false,
+        Event::Revise {
+            tenant: of,
+            job: name,
+            number: other,
+        } => *of == tenant && *name == job && *other == number,
+        Event::Close { .. } => false,
+        Event::Balance { .. } => false,
+        Event::Start { .. } => false,
+        Event::Finish { .. } => false,
+        Event::Exchange { .. } => false,
+    }
+}
+
+/// Whether an event is the closing of this job.
+fn is_closing(event: &Event, tenant: Name, job: Name) -> bool
+    ensures { IsTrue result ↔ (event.now ≡ of.Close tenant job) }
+{
+    match event {
+        Event::Open { .. } => false,
+        Event::Revise { .. } => false,
+        Event::Close {
+            tenant: of,
+            job: name,
+        } => *of == tenant && *name == job,
+        Event::Balance { .. } => false,
+        Event::Start { .. } => false,
+        Event::Finish { .. } => false,
+        Event::Exchange { .. } => false,
+    }
+}

@@ -1,0 +1,5 @@
+pub mod Scripted
+pub mod Posts
+pub mod Replayed
+pub mod Laws
+pub mod Examples
