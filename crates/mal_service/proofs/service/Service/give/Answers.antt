@@ -1,0 +1,21 @@
+use Rattle.mal_turn.specs.Seats.{view, held_view}
+use Rattle.mal_hall.specs.Offered.{returned}
+use Rattle.spec_service.specs.Record.{Gave}
+use Rattle.spec_service.proofs.RecordLemmas.{noted-stands}
+use Rattle.mal_service.specs.Entries.{noted_in}
+use Rattle.mal_service.proofs.NotedLemmas.{entered}
+use Rattle.mal_service.proofs.service.Service.give.Goals as goal
+
+pub put-requires-clause-value : goal.put-requires-clause-value
+put-requires-clause-value g c =
+    let held = c.take-held.result in
+    let after = c.finish-answer.new.self in
+    noted-stands g.S.Size.workers held.value.some held.value.bound held.value.hall.events after.hall.events (Gave c.args.back (returned c.finish-answer.result)) (noted_in after.noted)
+    (held_view held).seen (held_view held).of.first c.take-held.ensures.value c.finish-answer.ensures.call
+
+pub returns-clause-entry : goal.returns-clause-entry
+returns-clause-entry g c =
+    let held = c.take-held.result in
+    let after = c.finish-answer.new.self in
+    entered g.S.Size.workers held.value.some held.value.bound (view c.args.pass) (held_view held) (view c.put.result) held.value.hall.events after.hall.events (Gave c.args.back (returned c.finish-answer.result)) (noted_in after.noted)
+    c.take-held.ensures.first c.take-held.ensures.seen c.take-held.ensures.numbers c.take-held.ensures.value c.finish-answer.ensures.call c.put.ensures.seen c.put.ensures.numbers

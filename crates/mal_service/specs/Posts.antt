@@ -1,0 +1,22 @@
+use Rattle.std.specs.Prelude.{Result, Ok, Err}
+use Rattle.mal_hall.specs.declared.desk.Post.{Post}
+use Rattle.mal_hall.specs.declared.desk.Post.TheVariants as posts
+use Rattle.mal_hall.specs.declared.desk.PostFault.{PostFault}
+use Rattle.mal_hall.specs.declared.desk.PostFault.TheVariants as faults
+use Rattle.spec_hall.specs.Dressed.{keyed}
+use Rattle.spec_service.specs.Record.{Answered, Opened, Revised, Closed}
+
+-- it holds of the hall's call that a post is, with the answer to the post
+abbrev pub HoldsOfPost : Post → Result (Unit {0}) PostFault → (Answered → Type 0) → Type 0
+HoldsOfPost (posts.Open tenant job ask) (Ok done) P = P (Opened (keyed tenant job) ask (Ok done))
+HoldsOfPost (posts.Open tenant job ask) (Err (faults.Open fault)) P = P (Opened (keyed tenant job) ask (Err fault))
+HoldsOfPost (posts.Open tenant job ask) (Err (faults.Revise fault)) P = ⊥
+HoldsOfPost (posts.Open tenant job ask) (Err (faults.Close fault)) P = ⊥
+HoldsOfPost (posts.Revise tenant job r) (Ok done) P = P (Revised (keyed tenant job) r (Ok done))
+HoldsOfPost (posts.Revise tenant job r) (Err (faults.Open fault)) P = ⊥
+HoldsOfPost (posts.Revise tenant job r) (Err (faults.Revise fault)) P = P (Revised (keyed tenant job) r (Err fault))
+HoldsOfPost (posts.Revise tenant job r) (Err (faults.Close fault)) P = ⊥
+HoldsOfPost (posts.Close tenant job) (Ok done) P = P (Closed (keyed tenant job) (Ok done))
+HoldsOfPost (posts.Close tenant job) (Err (faults.Open fault)) P = ⊥
+HoldsOfPost (posts.Close tenant job) (Err (faults.Revise fault)) P = ⊥
+HoldsOfPost (posts.Close tenant job) (Err (faults.Close fault)) P = P (Closed (keyed tenant job) (Err fault))

@@ -1,0 +1,12 @@
+//! The shared service: a hall that many threads call in turns, each call being one entry of one legal record.
+#![tactic(auto)]
+
+mod entry;
+mod noted;
+mod service;
+mod told;
+
+pub use entry::Entry;
+pub use mal_turn::InUse;
+pub use noted::{NotedHall, Size};
+pub use service::{Pass, Service};

@@ -1,0 +1,209 @@
+//! The value that the passes of a service take in turns.
+ghost use Rattle.std.specs.Prelude.{◌≡◌, ◌≤◌, [], IfOk, IfErr};
+ghost use Rattle.mal_hall.specs.Offered.{offered, replied, returned};
+ghost use Rattle.spec_hall.specs.Dressed.{keyed};
+ghost use Rattle.spec_service.specs.Passes.{HasNoted};
+ghost use Rattle.spec_service.specs.Record.{Opened, Revised, Closed, Asked, Picked, Gave};
+ghost use Rattle.mal_service.specs.Entries.{noted_in};
+ghost use Rattle.mal_service.specs.Posts.{HoldsOfPost};
+
+use crate::entry::Entry;
+use crate::told::Told;
+use mal_base::{Ask, Name};
+use mal_hall::{
+    Back, CloseFault, Hall, OpenFault, Pick, PickFault, Post, PostFault, ReplyFault, ReviseFault,
+    Strange,
+};
+use mal_revision::Revision;
+use mal_suspend::Done;
+use spec_turn::Recorded;
+use std::alloc::{AllocError, Global};
+use std::marker::{Brand, PhantomData};
+use std::snapshot::Snapshot;
+
+/// How many workers the hall of a service has.
+pub trait Size {
+    ghost use Rattle.std.specs.Prelude.{ℕ};
+
+    ghost workers: { ℕ };
+}
+
+impl Size for Brand {
+    ghost workers = { 1 };
+}
+
+/// A hall of so many workers with the entry of its last call. It stands for the records whose events are its history.
+#[derive(Drop)]
+pub struct NotedHall<S: Size> {
+    hall: Hall,
+    noted: Option<Entry>,
+    of: PhantomData<S>,
+    ghost workers: { hall.workers ≡ S.workers },
+    ghost some: { 1 ≤ S.workers },
+    ghost bound: { S.workers ≤ 64 },
+}
+
+impl<S: Size> Recorded for NotedHall<S> {
+    ghost use Rattle.spec_service.specs.Record.{StandsFor};
+    ghost use Rattle.mal_service.specs.Entries.{noted_in};
+
+    type Entry = Entry;
+
+    ghost stands = { λ x log. StandsFor S.workers x.hall.events log };
+
+    ghost last = { λ x. noted_in x.noted };
+}
+
+impl<S: Size> NotedHall<S> {
+    /// The hall of so many workers, 1 to 64, without a job.
+    pub(crate) fn new(alloc: Global, workers: u32) -> Result<NotedHall<S>, AllocError>
+        requires some { 1 ≤ workers }
+        requires bound { workers ≤ 64 }
+        requires size { workers ≡ S.workers }
+        ensures { IfOk result (λ x. x.hall.events ≡ []) }
+    {
+        Ok(NotedHall {
+            hall: Hall::new(alloc, workers)?,
+            noted: None,
+            of: PhantomData,
+        })
+    }
+
+    /// The hall.
+    pub(crate) fn into_hall(self) -> Hall
+        ensures workers { result.workers ≡ S.workers }
+        ensures hall { result ≡ self.hall }
+    {
+        self.hall
+    }
+
+    /// Opens a job, and notes the call.
+    fn open_job(&mut self, tenant: Name, job: Name, ask: Ask) -> Result<(), OpenFault>
+        ensures { HasNoted S.workers self.old.hall.events (Opened (keyed tenant job) ask result) self.new.hall.events (noted_in self.new.noted) }
+    {
+        let before = Snapshot::of(&self.hall);
+        let answer = self.hall.open_job(tenant, job, ask);
+        let told = Told::Opened {
+            tenant: Snapshot::of(&tenant),
+            job: Snapshot::of(&job),
+            ask: Snapshot::of(&ask),
+            answer: Snapshot::of(&answer),
+        };
+        self.noted = Some(Entry::of(told, before, &self.hall));
+        answer
+    }
+
+    /// Posts a job's next revision, and notes the call.
+    fn revise_job(
+        &mut self,
+        tenant: &Name,
+        job: &Name,
+        revision: Revision,
+    ) -> Result<(), ReviseFault>
+        ensures { HasNoted S.workers self.old.hall.events (Revised (keyed tenant.now job.now) revision result) self.new.hall.events (noted_in self.new.noted) }
+    {
+        let before = Snapshot::of(&self.hall);
+        let posted = Snapshot::of(&revision);
+        let answer = self.hall.revise_job(tenant, job, revision);
+        let told = Told::Revised {
+            tenant: Snapshot::of(tenant),
+            job: Snapshot::of(job),
+            revision: posted,
+            answer: Snapshot::of(&answer),
+        };
+        self.noted = Some(Entry::of(told, before, &self.hall));
+        answer
+    }
+
+    /// Closes a job, and notes the call.
+    fn close_job(&mut self, tenant: &Name, job: &Name) -> Result<(), CloseFault>
+        ensures { HasNoted S.workers self.old.hall.events (Closed (keyed tenant.now job.now) result) self.new.hall.events (noted_in self.new.noted) }
+    {
+        let before = Snapshot::of(&self.hall);
+        let answer = self.hall.close_job(tenant, job);
+        let told = Told::Closed {
+            tenant: Snapshot::of(tenant),
+            job: Snapshot::of(job),
+            answer: Snapshot::of(&answer),
+        };
+        self.noted = Some(Entry::of(told, before, &self.hall));
+        answer
+    }
+
+    /// Posts by the call of the post's kind, and notes that call.
+    pub(crate) fn post(&mut self, post: Post) -> Result<(), PostFault>
+        ensures { HoldsOfPost post result (λ c. HasNoted S.workers self.old.hall.events c self.new.hall.events (noted_in self.new.noted)) }
+    {
+        match post {
+            Post::Open { tenant, job, ask } => match self.open_job(tenant, job, ask) {
+                Ok(()) => Ok(()),
+                Err(fault) => Err(PostFault::Open(fault)),
+            },
+            Post::Revise {
+                tenant,
+                job,
+                revision,
+            } => match self.revise_job(&tenant, &job, revision) {
+                Ok(()) => Ok(()),
+                Err(fault) => Err(PostFault::Revise(fault)),
+            },
+            Post::Close { tenant, job } => match self.close_job(&tenant, &job) {
+                Ok(()) => Ok(()),
+                Err(fault) => Err(PostFault::Close(fault)),
+            },
+        }
+    }
+
+    /// Asks for the reply to a job's revision, and notes the call.
+    pub(crate) fn reply(
+        &mut self,
+        tenant: &Name,
+        job: &Name,
+        r: u32,
+    ) -> Result<Option<Vec<u8>>, ReplyFault>
+        ensures { HasNoted S.workers self.old.hall.events (Asked (keyed tenant.now job.now) r (replied result)) self.new.hall.events (noted_in self.new.noted) }
+    {
+        let before = Snapshot::of(&self.hall);
+        let answer = self.hall.reply(tenant, job, r);
+        let told = Told::Asked {
+            tenant: Snapshot::of(tenant),
+            job: Snapshot::of(job),
+            r: Snapshot::of(&r),
+            answer: Snapshot::of(&answer),
+        };
+        self.noted = Some(Entry::of(told, before, &self.hall));
+        answer
+    }
+
+    /// Hands a node out to a worker, 1 to the number of workers, and notes the call.
+    pub(crate) fn pick(&mut self, worker: u32) -> Result<Pick, PickFault>
+        requires some { 1 ≤ worker }
+        requires bound { worker ≤ S.workers }
+        ensures { HasNoted S.workers self.old.hall.events (Picked worker (offered result)) self.new.hall.events (noted_in self.new.noted) }
+    {
+        let before = Snapshot::of(&self.hall);
+        let answer = self.hall.pick(worker);
+        let told = Told::Picked {
+            worker: Snapshot::of(&worker),
+            answer: Snapshot::of(&answer),
+        };
+        self.noted = Some(Entry::of(told, before, &self.hall));
+        answer
+    }
+
+    /// Takes back what came of a lease, and notes the call.
+    pub(crate) fn finish(&mut self, back: Done) -> Result<Back, Strange>
+        ensures call { HasNoted S.workers self.old.hall.events (Gave back (returned result)) self.new.hall.events (noted_in self.new.noted) }
+        ensures back { IfErr result (λ s. s.back ≡ back) }
+    {
+        let before = Snapshot::of(&self.hall);
+        let given = Snapshot::of(&back);
+        let answer = self.hall.finish(back);
+        let told = Told::Gave {
+            back: given,
+            answer: Snapshot::of(&answer),
+        };
+        self.noted = Some(Entry::of(told, before, &self.hall));
+        answer
+    }
+}
