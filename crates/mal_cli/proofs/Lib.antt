@@ -1,3 +1,2 @@
-pub mod Inputs
-pub mod Denials
-pub mod WordLemmas
+pub mod Replays
+pub mod Rules

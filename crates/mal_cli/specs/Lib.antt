@@ -1,3 +1,1 @@
-pub mod Top
-pub mod Check
-pub mod Words
+pub mod Accounts

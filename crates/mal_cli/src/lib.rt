@@ -1,17 +1,9 @@
 //! The commands of the program.
 #![tactic(auto)]
 
-mod answering;
-mod checking;
-mod denial;
+mod generating;
 mod program;
-mod refusal;
-mod run;
-mod verifying;
-mod words;
+mod replaying;
+mod running;
 
 pub use program::top;
-pub use run::{Ran, run_script};
-
-#[cfg(test)]
-mod tests;

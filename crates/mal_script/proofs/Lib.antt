@@ -1,3 +1,4 @@
 pub mod Texts
 pub mod Steps
 pub mod Found
+pub mod GenerateSteps

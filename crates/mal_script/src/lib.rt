@@ -5,6 +5,7 @@ mod asks;
 mod assuming;
 mod blocks;
 mod fault;
+mod generating;
 mod limits;
 mod opened;
 mod reader;
@@ -15,6 +16,7 @@ mod writing;
 
 pub use assuming::assumptions;
 pub use fault::{AssumptionFault, ScriptFault};
+pub use generating::generate;
 pub use limits::Limits;
 pub use reading::{read, read_within};
 pub use script::{Script, ScriptJob};

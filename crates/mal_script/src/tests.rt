@@ -365,3 +365,15 @@ fn too_many_clauses_of_a_job_are_refused(rt: HostRuntime) -> Result<(), Fail> {
     );
     Ok(())
 }
+
+#[test]
+fn a_seed_decides_a_script(rt: HostRuntime) -> Result<(), Fail> {
+    let alloc = rt.alloc();
+    let script = generate(alloc, 1, 5)?;
+    assert_eq!(rt; script.jobs().len(), 5);
+    let text = write(alloc, &script)?;
+    assert!(rt;
+        text.as_slice().starts_with(b"t t1\nj j1 7 1 64\np cnf 50 213\n-9 13 -24 0\n20 -21 50 0\n")
+    );
+    Ok(())
+}

@@ -1,0 +1,4 @@
+pub mod Serving
+pub mod Denials
+pub mod ScriptLemmas
+pub mod Counting

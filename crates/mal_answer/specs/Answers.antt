@@ -1,0 +1,78 @@
+-- What the steps of a command answer.
+use Rattle.std.specs.Prelude.{◌≡◌, ℕ, List, [], ◌⊎◌, Result, Ok, Err}
+use Rattle.mal_answer.specs.Commands.{Gives, Refuses, Denies}
+use Rattle.mal_answer.specs.Devices.{Device, Failed, Gave, GaveTooMuch, AreSilent, WroteWhole, WrotePart, Complained, too_long_line}
+use Rattle.mal_answer.specs.declared.answer.Complaint.{Complaint}
+use Rattle.mal_answer.specs.declared.answer.Complaint.TheVariants as complaint
+use Rattle.mal_answer.specs.declared.answer.Texts.{Texts}
+use Rattle.mal_answer.specs.Summaries.{summary_line}
+use Rattle.mal_script.specs.declared.fault.ScriptFault.{ScriptFault}
+use Rattle.mal_script.specs.Given.{Tells}
+use Rattle.mal_words.specs.declared.request.Request.{Request}
+use Rattle.mal_words.specs.declared.request.Request.TheVariants.{Run}
+
+-- a command's answer to a text: what it gives, why it gives nothing, or memory ran out
+abbrev pub IsAnswerTo : Request → List ℕ → Result Texts Complaint → Type 0
+IsAnswerTo r text (Ok texts) = Gives r text texts.log.items texts.out.items
+IsAnswerTo r text (Err complaint.Unread) = ⊥
+IsAnswerTo r text (Err complaint.TooLong) = ⊥
+IsAnswerTo r text (Err (complaint.Refused line)) = Refuses r text line.items
+IsAnswerTo r text (Err (complaint.Denied line)) = Denies r text line.items
+IsAnswerTo r text (Err complaint.OutOfMemory) = Unit {0}
+
+-- why a source gave no text
+abbrev pub IsUnread : Device → Complaint → Type 0
+IsUnread source complaint.Unread = Failed source
+IsUnread source complaint.TooLong = GaveTooMuch source
+IsUnread source (complaint.Refused line) = ⊥
+IsUnread source (complaint.Denied line) = ⊥
+IsUnread source complaint.OutOfMemory = Unit {0}
+
+-- an answer to a source that gave no text
+abbrev pub IsUnanswered : Device → Result Texts Complaint → Type 0
+IsUnanswered source (Ok texts) = ⊥
+IsUnanswered source (Err e) = IsUnread source e
+
+-- a command's answer to what a source gives
+abbrev pub IsAnswer : Request → Device → Result Texts Complaint → Type 0
+IsAnswer r source answer = ((text : List ℕ) × Gave source text × IsAnswerTo r text answer) ⊎ IsUnanswered source answer
+
+-- what is written for texts, and the status
+abbrev pub IsFinished : Device → Device → List ℕ → List ℕ → ℕ → Type 0
+IsFinished log out log_text out_text status =
+    ((status ≡ 0) × WroteWhole log out log_text out_text)
+    ⊎ ((status ≡ 5) × (Failed log ⊎ Failed out) × WrotePart log out log_text out_text)
+
+-- what is written for an answer, and the status
+abbrev pub IsConcluded : Device → Device → Result Texts Complaint → ℕ → Type 0
+IsConcluded log out (Ok texts) status = IsFinished log out texts.log.items texts.out.items status
+IsConcluded log out (Err complaint.Unread) status = (status ≡ 4) × AreSilent log out
+IsConcluded log out (Err complaint.TooLong) status = (status ≡ 3) × Complained log out too_long_line
+IsConcluded log out (Err (complaint.Refused line)) status = (status ≡ 3) × Complained log out line.items
+IsConcluded log out (Err (complaint.Denied line)) status = (status ≡ 7) × Complained log out line.items
+IsConcluded log out (Err complaint.OutOfMemory) status = (status ≡ 6) × AreSilent log out
+
+-- the complaint about a text that spells no script: the line tells its first fault, or memory ran out
+abbrev pub IsScriptRefusal : List ℕ → Complaint → Type 0
+IsScriptRefusal text complaint.Unread = ⊥
+IsScriptRefusal text complaint.TooLong = ⊥
+IsScriptRefusal text (complaint.Refused line) = Refuses (Run 1) text line.items
+IsScriptRefusal text (complaint.Denied line) = ⊥
+IsScriptRefusal text complaint.OutOfMemory = Unit {0}
+
+-- the complaint tells a fault of a script, or memory ran out
+abbrev pub TellsScriptFault : ScriptFault → Complaint → Type 0
+TellsScriptFault fault complaint.Unread = ⊥
+TellsScriptFault fault complaint.TooLong = ⊥
+TellsScriptFault fault (complaint.Refused line) = Tells fault line.items
+TellsScriptFault fault (complaint.Denied line) = ⊥
+TellsScriptFault fault complaint.OutOfMemory = Unit {0}
+
+-- the log of a run, with the summary of its replies for the output
+abbrev pub IsSummaryOf : ℕ → List ℕ → List ℕ → Result Texts Complaint → Type 0
+IsSummaryOf jobs log replies (Ok texts) = (texts.log.items ≡ log) × (texts.out.items ≡ summary_line jobs replies)
+IsSummaryOf jobs log replies (Err complaint.Unread) = ⊥
+IsSummaryOf jobs log replies (Err complaint.TooLong) = ⊥
+IsSummaryOf jobs log replies (Err (complaint.Refused line)) = ⊥
+IsSummaryOf jobs log replies (Err (complaint.Denied line)) = ⊥
+IsSummaryOf jobs log replies (Err complaint.OutOfMemory) = Unit {0}

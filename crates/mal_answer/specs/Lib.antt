@@ -1,0 +1,6 @@
+pub mod Devices
+pub mod Summaries
+pub mod Commands
+pub mod Served
+pub mod Answers
+pub mod Claims

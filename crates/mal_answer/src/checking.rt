@@ -1,0 +1,97 @@
+//! Checking the proof of a claim.
+
+ghost use Rattle.std.specs.Prelude.{◌≡◌, ◌<◌, ◌^◌, [], length, IfOk, IfErr, OnOk};
+ghost use Rattle.mal_claim.specs.Given.{seen};
+ghost use Rattle.mal_answer.specs.Answers.{IsAnswer, IsAnswerTo};
+ghost use Rattle.mal_answer.specs.Commands.{IsProved, Verifies};
+ghost use Rattle.mal_answer.specs.Claims.{TellsFault, TellsRefusal, IsUnverified};
+ghost use Rattle.mal_answer.specs.Devices.{device};
+ghost use Rattle.mal_words.specs.declared.request.Request.TheVariants.{Check};
+ghost use Rattle.spec_claim.specs.FaultLines.{verified_line};
+ghost use Rattle.spec_logic.specs.Logic.{IsUnsatisfiable};
+
+use crate::answer::{Complaint, Texts};
+use crate::reading::input;
+use mal_claim::{ClaimFault, fault_line, read, verdict_line};
+use mal_io::Source;
+use mal_verify::{VerifyFault, verify};
+use std::alloc::{AllocError, Global};
+
+/// Checks the proof of the claim that `source` gives.
+#[tactic(auto, using(crate::proofs::Serving::answer_lemmas))]
+pub fn check_source<S: Source>(alloc: Global, source: &mut S) -> Result<Texts, Complaint>
+    ensures { IsAnswer Check (device (S.left source.old) (S.left source.new) (S.faults source.old) (S.faults source.new)) result }
+{
+    match input(alloc, source) {
+        Ok(text) => check_text(alloc, text.as_slice()),
+        Err(complaint) => Err(complaint),
+    }
+}
+
+/// Checks the proof of the claim that a text spells: nothing for the log, and the line `s VERIFIED` for the output.
+#[tactic(auto, using(crate::proofs::Denials::denial_lemmas))]
+fn check_text(alloc: Global, text: &[u8]) -> Result<Texts, Complaint>
+    requires { length text.now < 2 ^ 63 }
+    ensures { IsAnswerTo Check text.now result }
+{
+    match read(alloc, text) {
+        Ok(claim) => judge(alloc, claim),
+        Err(fault) => Err(no_claim(alloc, fault)),
+    }
+}
+
+/// Checks the proof of a claim.
+#[tactic(auto, using(crate::proofs::Denials::denial_lemmas))]
+fn judge(alloc: Global, claim: mal_claim::Claim) -> Result<Texts, Complaint>
+    ensures proved { OnOk result (IsProved (seen claim)) }
+    ensures unsatisfiable { OnOk result (IsUnsatisfiable claim.formula.clauses claim.assumptions.items) }
+    ensures texts { IfOk result (λ t. (t.log.items ≡ []) × (t.out.items ≡ verified_line)) }
+    ensures denied { IfErr result (λ e. IsUnverified (seen claim) e) }
+{
+    let mal_claim::Claim {
+        formula,
+        assumptions,
+        lines,
+    } = claim;
+    match verify(alloc, &formula, assumptions.as_slice(), lines) {
+        Ok(()) => match verified(alloc) {
+            Ok(texts) => Ok(texts),
+            Err(_) => Err(Complaint::OutOfMemory),
+        },
+        Err(fault) => Err(no_proof(alloc, fault)),
+    }
+}
+
+/// The texts of a verified claim.
+fn verified(alloc: Global) -> Result<Texts, AllocError>
+    ensures { IfOk result (λ t. (t.log.items ≡ []) × (t.out.items ≡ verified_line)) }
+{
+    let mut out = Vec::new(alloc);
+    out.extend_from_slice(b"s VERIFIED\n")?;
+    Ok(Texts {
+        log: Vec::new(alloc),
+        out,
+    })
+}
+
+/// The complaint about a text whose first fault this is.
+fn no_claim(alloc: Global, fault: ClaimFault) -> Complaint
+    ensures { TellsFault fault result }
+{
+    match fault_line(alloc, fault) {
+        Ok(Some(line)) => Complaint::Refused(line),
+        Ok(None) => Complaint::OutOfMemory,
+        Err(_) => Complaint::OutOfMemory,
+    }
+}
+
+/// The complaint about a claim whose proof is refused so.
+fn no_proof(alloc: Global, fault: VerifyFault) -> Complaint
+    ensures { TellsRefusal fault result }
+{
+    match verdict_line(alloc, fault) {
+        Ok(Some(line)) => Complaint::Denied(line),
+        Ok(None) => Complaint::OutOfMemory,
+        Err(_) => Complaint::OutOfMemory,
+    }
+}

@@ -1,0 +1,37 @@
+//! The script that a text spells.
+
+ghost use Rattle.std.specs.Prelude.{IfOk, IfErr};
+ghost use Rattle.mal_answer.specs.Answers.{IsScriptRefusal, TellsScriptFault};
+ghost use Rattle.spec_script.specs.Formed.{IsScript};
+ghost use Rattle.spec_script.specs.Grammar.{Spells};
+ghost use Rattle.spec_script.specs.Limits.{served};
+
+use crate::answer::Complaint;
+use mal_script::{Script, ScriptFault, fault_line, read};
+use std::alloc::Global;
+
+/// The script that a text spells.
+///
+/// Errors: `Refused` with the line that tells the first fault, exactly where the text spells no script; `OutOfMemory` at any time.
+#[tactic(auto, using(crate::proofs::ScriptLemmas::script_lemmas))]
+pub fn script_of(alloc: Global, text: &[u8]) -> Result<Script, Complaint>
+    ensures spelled { IfOk result (λ s. Spells served text.now s) }
+    ensures formed { IfOk result (λ s. IsScript served s) }
+    ensures refused { IfErr result (λ e. IsScriptRefusal text.now e) }
+{
+    match read(alloc, text) {
+        Ok(script) => Ok(script),
+        Err(fault) => Err(refusal_of(alloc, fault)),
+    }
+}
+
+/// The complaint about a text whose first fault this is.
+fn refusal_of(alloc: Global, fault: ScriptFault) -> Complaint
+    ensures { TellsScriptFault fault result }
+{
+    match fault_line(alloc, fault) {
+        Ok(Some(line)) => Complaint::Refused(line),
+        Ok(None) => Complaint::OutOfMemory,
+        Err(_) => Complaint::OutOfMemory,
+    }
+}

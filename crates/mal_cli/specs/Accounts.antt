@@ -1,0 +1,42 @@
+-- The complaints about accounts.
+use Rattle.std.specs.Prelude.{◌≡◌, ℕ, List, [], ◌∷◌, codes, Option, Some, None}
+use Rattle.mal_account.specs.Given.{Tells, fault_of}
+use Rattle.mal_account.specs.declared.fault.AccountFault.{AccountFault}
+use Rattle.mal_answer.specs.Commands.{TellsUnsound}
+use Rattle.mal_answer.specs.declared.answer.Complaint.{Complaint}
+use Rattle.mal_answer.specs.declared.answer.Complaint.TheVariants as complaint
+use Rattle.spec_account.specs.Accounts.{Account}
+use Rattle.spec_account.specs.FaultLines.{history_line}
+use Rattle.spec_replay.specs.declared.fault.ReplayFault.{ReplayFault}
+use Rattle.spec_replay.specs.declared.fault.ReplayFault.TheVariants.{NotLegal, NotComplete, OutOfMemory}
+use Rattle.spec_text.specs.Lines.{line_of}
+
+-- the complaint tells the fault of a text, or memory ran out
+abbrev pub TellsFault : AccountFault → Complaint → Type 0
+TellsFault fault complaint.Unread = ⊥
+TellsFault fault complaint.TooLong = ⊥
+TellsFault fault (complaint.Refused line) = Tells (fault_of fault) line.items
+TellsFault fault (complaint.Denied line) = ⊥
+TellsFault fault complaint.OutOfMemory = Unit {0}
+
+-- the text tells why a history is not replayed
+abbrev pub IsReplayText : ReplayFault → List ℕ → Type 0
+IsReplayText (NotLegal line) text = text ≡ history_line line (codes "NotLegal")
+IsReplayText NotComplete text = text ≡ line_of (codes "fault:" ∷ codes "history" ∷ codes "NotComplete" ∷ [])
+IsReplayText OutOfMemory text = ⊥
+
+-- the complaint tells why a history is not replayed, or memory ran out
+abbrev pub TellsReplay : ReplayFault → Complaint → Type 0
+TellsReplay fault complaint.Unread = ⊥
+TellsReplay fault complaint.TooLong = ⊥
+TellsReplay fault (complaint.Refused line) = ⊥
+TellsReplay fault (complaint.Denied line) = IsReplayText fault line.items
+TellsReplay fault complaint.OutOfMemory = Unit {0}
+
+-- why an account has no replies
+abbrev pub IsUnsound : Account → Complaint → Type 0
+IsUnsound a complaint.Unread = ⊥
+IsUnsound a complaint.TooLong = ⊥
+IsUnsound a (complaint.Refused line) = ⊥
+IsUnsound a (complaint.Denied line) = TellsUnsound a line.items
+IsUnsound a complaint.OutOfMemory = Unit {0}

@@ -1,0 +1,117 @@
+//! Replaying a history.
+
+ghost use Rattle.std.specs.Prelude.{◌≡◌, ◌∷◌, [], codes, IfOk, IfErr, MatchOption};
+ghost use Rattle.mal_account.specs.Given.{seen};
+ghost use Rattle.mal_cli.specs.Accounts.{IsReplayText, IsUnsound, TellsFault, TellsReplay};
+ghost use Rattle.mal_answer.specs.Answers.{IsAnswer, IsAnswerTo};
+ghost use Rattle.mal_answer.specs.Commands.{AreReplies};
+ghost use Rattle.mal_answer.specs.Devices.{device};
+ghost use Rattle.mal_words.specs.declared.request.Request.TheVariants.{Replay};
+ghost use Rattle.spec_account.specs.FaultLines.{history_line};
+ghost use Rattle.spec_replay.specs.declared.fault.ReplayFault.TheVariants.{OutOfMemory};
+ghost use Rattle.spec_script.specs.Formed.{IsScript};
+ghost use Rattle.spec_script.specs.Limits.{served};
+ghost use Rattle.spec_text.specs.Lines.{line_of};
+
+use itoa::Buffer;
+use mal_account::{Account, AccountFault, fault_line, read};
+use mal_answer::{Complaint, Texts, input};
+use mal_io::Source;
+use mal_replay::{ReplayFault, replay};
+use mal_text::put_line;
+use std::alloc::{AllocError, Global};
+
+/// Replays the history that `source` gives behind its script.
+#[tactic(auto, using(crate::proofs::Rules::answer_lemmas))]
+pub fn replay_source<S: Source>(alloc: Global, source: &mut S) -> Result<Texts, Complaint>
+    ensures { IsAnswer Replay (device (S.left source.old) (S.left source.new) (S.faults source.old) (S.faults source.new)) result }
+{
+    match input(alloc, source) {
+        Ok(text) => replay_text(alloc, text.as_slice()),
+        Err(complaint) => Err(complaint),
+    }
+}
+
+/// Replays the history of the account that a text spells: nothing for the log, and the replies for the output.
+#[tactic(auto, using(crate::proofs::Replays::replay_lemmas))]
+fn replay_text(alloc: Global, text: &[u8]) -> Result<Texts, Complaint>
+    ensures { IsAnswerTo Replay text.now result }
+{
+    match read(alloc, text) {
+        Ok(account) => judge(alloc, &account),
+        Err(fault) => Err(no_account(alloc, fault)),
+    }
+}
+
+/// Replays the history of an account.
+#[tactic(auto, using(crate::proofs::Replays::judge_lemmas))]
+fn judge(alloc: Global, account: &Account) -> Result<Texts, Complaint>
+    requires { IsScript served account.now.script }
+    ensures replies { IfOk result (λ t. AreReplies (seen account.now) t.out.items) }
+    ensures silent { IfOk result (λ t. t.log.items ≡ []) }
+    ensures denied { IfErr result (λ e. IsUnsound (seen account.now) e) }
+{
+    match replay(alloc, &account.script, &account.history) {
+        Ok(out) => Ok(Texts {
+            log: Vec::new(alloc),
+            out,
+        }),
+        Err(fault) => Err(no_replay(alloc, fault)),
+    }
+}
+
+/// The complaint about a text whose first fault this is.
+fn no_account(alloc: Global, fault: AccountFault) -> Complaint
+    ensures { TellsFault fault result }
+{
+    match fault_line(alloc, fault) {
+        Ok(Some(line)) => Complaint::Refused(line),
+        Ok(None) => Complaint::OutOfMemory,
+        Err(_) => Complaint::OutOfMemory,
+    }
+}
+
+/// The complaint about an account whose history is not replayed for this cause.
+fn no_replay(alloc: Global, fault: ReplayFault) -> Complaint
+    ensures { TellsReplay fault result }
+{
+    match replay_line(alloc, fault) {
+        Ok(Some(line)) => Complaint::Denied(line),
+        Ok(None) => Complaint::OutOfMemory,
+        Err(_) => Complaint::OutOfMemory,
+    }
+}
+
+/// The line that tells why a history is not replayed; none for want of memory.
+fn replay_line(alloc: Global, fault: ReplayFault) -> Result<Option<Vec<u8>>, AllocError>
+    ensures { IfOk result (λ o. MatchOption o (fault ≡ OutOfMemory) (λ text. IsReplayText fault text.items)) }
+{
+    match fault {
+        ReplayFault::NotLegal { line } => Ok(Some(not_legal(alloc, line)?)),
+        ReplayFault::NotComplete => Ok(Some(not_complete(alloc)?)),
+        ReplayFault::OutOfMemory => Ok(None),
+    }
+}
+
+/// The line that tells that the event on this line is not allowed.
+fn not_legal(alloc: Global, line: u64) -> Result<Vec<u8>, AllocError>
+    ensures { IfOk result (λ text. text.items ≡ history_line line (codes "NotLegal")) }
+{
+    let mut text = Vec::new(alloc);
+    text.extend_from_slice(b"fault: history line ")?;
+    put_line(
+        &mut text,
+        Buffer::new().format(line).as_bytes(),
+        &[b"NotLegal"],
+    )?;
+    Ok(text)
+}
+
+/// The line that tells that the history is not complete.
+fn not_complete(alloc: Global) -> Result<Vec<u8>, AllocError>
+    ensures { IfOk result (λ text. text.items ≡ line_of (codes "fault:" ∷ codes "history" ∷ codes "NotComplete" ∷ [])) }
+{
+    let mut text = Vec::new(alloc);
+    text.extend_from_slice(b"fault: history NotComplete\n")?;
+    Ok(text)
+}

@@ -1,0 +1,5 @@
+pub mod CommandLine
+pub mod Requests
+pub mod Found
+pub mod Examples
+pub mod Laws

@@ -1,0 +1,41 @@
+-- What the program's words ask for.
+use Rattle.std.specs.Prelude.{◌≡◌, ℕ, ◌<◌, ◌≤◌, ◌^◌, List, [], codes, decimal, Option, Some, None}
+use Rattle.clap.specs.Walk.{Row, Text, first_of}
+use Rattle.mal_words.specs.CommandLine.{refusals, subcommand}
+use Rattle.mal_words.specs.declared.request.Request.{Request}
+use Rattle.mal_words.specs.declared.request.Request.TheVariants.{Run, Check, Replay, Generate, RunGenerated}
+
+-- the value of an option is a number in decimal digits, without a sign and without a leading zero
+abbrev pub IsNumber : ℕ → ℕ → ℕ → Option Text → Type 0
+IsNumber least most n None = ⊥
+IsNumber least most n (Some word) = (least ≤ n) × (n ≤ most) × (word ≡ decimal n)
+
+-- a subcommand with these options asks for this: workers are 1 to 64, a seed is below 2^31, jobs are 1 to 256
+abbrev pub Asks : Text → List Row → Request → Type 0
+Asks name rows (Run workers) = (name ≡ codes "run") × IsNumber 1 64 workers (first_of (codes "workers") rows)
+Asks name rows Check = name ≡ codes "check"
+Asks name rows Replay = name ≡ codes "replay"
+Asks name rows (Generate seed jobs) =
+    (name ≡ codes "gen") × (first_of (codes "workers") rows ≡ None) × IsNumber 0 2147483647 seed (first_of (codes "seed") rows) × IsNumber 1 256 jobs (first_of (codes "jobs") rows)
+Asks name rows (RunGenerated seed jobs workers) =
+    (name ≡ codes "gen") × IsNumber 1 64 workers (first_of (codes "workers") rows) × IsNumber 0 2147483647 seed (first_of (codes "seed") rows) × IsNumber 1 256 jobs (first_of (codes "jobs") rows)
+
+-- the words, the first of which is the program's name, ask for this: clap takes them, and their subcommand asks for it
+pub record Means (words : List Text) (r : Request) : Type 0 where
+  pub name : Text
+  pub rows : List Row
+  pub taken : refusals words ≡ []
+  pub named : subcommand words ≡ Some (name, rows)
+  pub asks : Asks name rows r
+
+-- the words ask for nothing
+abbrev pub MeansNothing : List Text → Type 0
+MeansNothing words = (r : Request) → Means words r → ⊥
+
+-- the numbers of a request are in their ranges
+abbrev pub IsRequest : Request → Type 0
+IsRequest (Run workers) = (1 ≤ workers) × (workers ≤ 64)
+IsRequest Check = Unit {0}
+IsRequest Replay = Unit {0}
+IsRequest (Generate seed jobs) = (seed < 2 ^ 31) × (1 ≤ jobs) × (jobs ≤ 256)
+IsRequest (RunGenerated seed jobs workers) = (seed < 2 ^ 31) × (1 ≤ jobs) × (jobs ≤ 256) × (1 ≤ workers) × (workers ≤ 64)

@@ -1,0 +1,14 @@
+//! Laws on the meaning of words, as the contracts of functions without a body.
+
+ghost use Rattle.mal_words.specs.Examples.{HasExamples};
+ghost use Rattle.mal_words.specs.Laws.{OneMeaning};
+
+/// Words ask for one thing at most.
+pub fn words_have_one_meaning()
+    ensures { OneMeaning }
+{}
+
+/// The worked examples mean what is known.
+pub fn word_examples()
+    ensures { HasExamples }
+{}

@@ -1,0 +1,16 @@
+//! Requests.
+
+/// What the program's words ask for.
+#[derive(Clone, Copy, Debug, PartialEq, Eq)]
+pub enum Request {
+    /// Runs a script with so many workers, 1 to 64.
+    Run { workers: u32 },
+    /// Checks the proof of a claim.
+    Check,
+    /// Replays a history over its script.
+    Replay,
+    /// Writes the script of a seed below 2^31 with so many jobs, 1 to 256.
+    Generate { seed: u32, jobs: u32 },
+    /// Runs that script with so many workers, 1 to 64.
+    RunGenerated { seed: u32, jobs: u32, workers: u32 },
+}
