@@ -1,0 +1,166 @@
+#!/usr/bin/env python3
+"""Inputs of the bench, each decided by its arguments alone.
+
+Usage: python3 bench/inputs.py NAME [ARGUMENT..] writes an input to standard output; without a name it lists them.
+"""
+
+import random
+import sys
+from itertools import chain, islice
+from typing import Callable, Iterable, Iterator, TextIO
+
+Clause = list[int]
+
+MOST_CLAUSES = 1 << 20
+MOST_VARIABLES = 65536
+MOST_TENANTS = 64
+MOST_JOBS = 64
+SLICES = 4096
+
+
+def literals(clause: Clause) -> str:
+    """A clause as a line of DIMACS CNF has it."""
+    return " ".join(map(str, [*clause, 0]))
+
+
+def block(out: TextIO, variables: int, count: int, clauses: Iterable[Clause]) -> None:
+    """A formula of so many clauses in DIMACS CNF."""
+    print(f"p cnf {variables} {count}", file=out)
+    out.writelines(literals(clause) + "\n" for clause in clauses)
+
+
+def script(
+    out: TextIO, variables: int, count: int, revisions: Iterable[Iterable[Clause]], assumptions: Iterable[int] = ()
+) -> None:
+    """A script of one job of demand 1, each revision of which has so many clauses and these assumptions."""
+    print(f"t t\nj p 1 1 {SLICES}", file=out)
+    for clauses in revisions:
+        block(out, variables, count, clauses)
+        print("a " + literals(list(assumptions)), file=out)
+    print("e", file=out)
+
+
+def hard(variables: int, count: int, seed: int) -> Iterator[Clause]:
+    """So many clauses of three different variables, each literal with either sign."""
+    draw = random.Random(seed)
+    for _ in range(count):
+        chosen = sorted(draw.sample(range(1, variables + 1), 3))
+        yield [v if draw.random() < 0.5 else -v for v in chosen]
+
+
+def easy(draw: random.Random, variables: int, count: int) -> Iterator[Clause]:
+    """So many clauses of three different variables, of which the first is negative: all variables may be false."""
+    made = 0
+    while made < count:
+        a, b, c = (1 + int(draw.random() * variables) for _ in range(3))
+        if a != b and a != c and b != c:
+            made += 1
+            yield [-a, b, c]
+
+
+def big(seed: int) -> Iterator[Clause]:
+    """2^20 clauses over 65,536 variables, which are satisfiable."""
+    return easy(random.Random(seed), MOST_VARIABLES, MOST_CLAUSES)
+
+
+def opposed(seed: int) -> Iterator[Clause]:
+    """2^20 clauses over 65,536 variables, of which the last two are 1 and -1."""
+    return chain(islice(big(seed), MOST_CLAUSES - 2), [[1], [-1]])
+
+
+def implications() -> Iterator[Clause]:
+    """65,536 variables, each of which implies the next one."""
+    return ([-i, i + 1] for i in range(1, MOST_VARIABLES))
+
+
+def write_hard(out: TextIO, variables: str = "150", seed: str = "1") -> None:
+    """A job of a random formula with 4.26 times as many clauses as variables, about half of which are satisfiable."""
+    count = round(4.26 * int(variables))
+    script(out, int(variables), count, [hard(int(variables), count, int(seed))])
+
+
+def write_read(out: TextIO, seed: str = "1") -> None:
+    """A job of 2^20 clauses that the last two refute."""
+    script(out, MOST_VARIABLES, MOST_CLAUSES, [opposed(int(seed))])
+
+
+def write_read_check(out: TextIO, seed: str = "1") -> None:
+    """The same formula with its proof of one line."""
+    block(out, MOST_VARIABLES, MOST_CLAUSES, opposed(int(seed)))
+    print(f"proof\nl {MOST_CLAUSES + 1} 0 {MOST_CLAUSES - 1} {MOST_CLAUSES} 0", file=out)
+
+
+def write_solve(out: TextIO, seed: str = "1") -> None:
+    """A job of 2^20 clauses that are satisfiable."""
+    script(out, MOST_VARIABLES, MOST_CLAUSES, [big(int(seed))])
+
+
+def write_variables(out: TextIO) -> None:
+    """A job of a chain of 65,536 variables, all of which are decided."""
+    script(out, MOST_VARIABLES, MOST_VARIABLES - 1, [implications()])
+
+
+def write_assumptions(out: TextIO) -> None:
+    """A job of 65,536 assumptions and no clause."""
+    script(out, MOST_VARIABLES, 0, [[]], range(1, MOST_VARIABLES + 1))
+
+
+def write_revisions(out: TextIO, seed: str = "1", revisions: str = "256", clauses: str = "2000") -> None:
+    """A job of so many revisions, each of so many easy clauses over 2,000 variables."""
+    draw = random.Random(int(seed))
+    script(out, 2000, int(clauses), (easy(draw, 2000, int(clauses)) for _ in range(int(revisions))))
+
+
+def write_many(out: TextIO) -> None:
+    """64 tenants with 64 jobs each, each of one revision with one clause."""
+    for tenant in range(MOST_TENANTS):
+        print(f"t t{tenant}", file=out)
+        for job in range(MOST_JOBS):
+            print(f"j j{job} {1 + job % 9} 1 64\np cnf 2 1\n1 2 0\na 0\ne", file=out)
+
+
+def write_formulas(out: TextIO, source: str, folder: str) -> None:
+    """Each revision of a script as a file of its own in DIMACS CNF: the clauses of its job so far, and its assumptions
+    as unit clauses. Writes the files' names, in the order of the script."""
+    variables, clauses, count = 0, [], 0
+    with open(source, encoding="ascii") as lines:
+        for line in lines:
+            words = line.split()
+            if words[0] == "j":
+                variables, clauses = 0, []
+            elif words[0] == "p":
+                variables = max(variables, int(words[2]))
+            elif words[0] == "a":
+                count += 1
+                units = [f"{word} 0\n" for word in words[1:-1]]
+                name = f"{folder}/{count}.cnf"
+                with open(name, "w", encoding="ascii") as file:
+                    file.write(f"p cnf {variables} {len(clauses) + len(units)}\n")
+                    file.writelines(clauses)
+                    file.writelines(units)
+                print(name, file=out)
+            elif words[0] not in ("t", "e"):
+                clauses.append(line)
+
+
+WRITERS: dict[str, tuple[Callable[..., None], str]] = {
+    "hard": (write_hard, "[VARIABLES [SEED]]: random 3-SAT at 4.26, a job"),
+    "read": (write_read, "[SEED]: 2^20 clauses that the last two refute, a job"),
+    "read_check": (write_read_check, "[SEED]: the same with its proof, an input of check"),
+    "solve": (write_solve, "[SEED]: 2^20 clauses that are satisfiable, a job"),
+    "variables": (write_variables, ": a chain of 65,536 variables, a job"),
+    "assumptions": (write_assumptions, ": 65,536 assumptions and no clause, a job"),
+    "revisions": (write_revisions, "[SEED [REVISIONS [CLAUSES]]]: 256 revisions of 2,000 easy clauses each, a job"),
+    "many": (write_many, ": 4,096 jobs of one clause each"),
+    "formulas": (write_formulas, "SCRIPT FOLDER: a script's revisions as files of their own, whose names are written"),
+}
+
+
+def main() -> None:
+    if len(sys.argv) < 2 or sys.argv[1] not in WRITERS:
+        sys.exit("\n".join([(__doc__ or "").strip(), ""] + [f"  {name} {text}" for name, (_, text) in WRITERS.items()]))
+    WRITERS[sys.argv[1]][0](sys.stdout, *sys.argv[2:])
+
+
+if __name__ == "__main__":
+    main()
