@@ -3,3 +3,4 @@ pub mod TrueLemmas
 pub mod PlaceLemmas
 pub mod SoundLemmas
 pub mod NumberLemmas
+pub mod AssumedLemmas

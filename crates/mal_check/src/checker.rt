@@ -1,7 +1,7 @@
 //! The checker.
 
 ghost use Rattle.std.specs.Prelude.{◌≡◌, ◌∷◌, ◌++◌, ◌==◌, [], map, IsTrue, IfOk, OnOk, OnErr, All};
-ghost use Rattle.std.specs.List.{list_any, list_all};
+ghost use Rattle.std.specs.List.{list_any};
 ghost use Rattle.mal_base.specs.Literals.{negated};
 ghost use Rattle.mal_lrat.specs.Seen.{seen};
 ghost use Rattle.spec_logic.specs.Logic.{Entails, IsUnsatisfiable};
@@ -11,6 +11,7 @@ ghost use Rattle.spec_logic.specs.Refutation.ProofLine.{Add, Delete};
 ghost use Rattle.mal_check.specs.Checked.{held, IsSound};
 ghost use Rattle.mal_check.specs.Seen.{Ends, Answers};
 
+use crate::assumed::has_contradiction;
 use crate::effect::{Effect, effect_of};
 use crate::fault::CheckFault;
 use crate::held::Clauses;
@@ -139,39 +140,6 @@ fn copy(alloc: Global, clause: &Option<Clause>) -> Result<Option<Clause>, AllocE
         None => Ok(None),
         Some(clause) => Ok(Some(clause.copy(alloc)?)),
     }
-}
-
-/// Whether one of the clauses has negated assumptions alone.
-fn has_contradiction(assumptions: &[Lit], clauses: &[Option<Clause>]) -> bool
-    ensures { result ≡ list_any (contradicts assumptions.now) clauses.now }
-{
-    clauses
-        .iter()
-        .any(|clause| contradicts(assumptions, clause))
-}
-
-/// Whether a clause has negated assumptions alone; a tautology does not.
-fn contradicts(assumptions: &[Lit], clause: &Option<Clause>) -> bool
-    ensures { result ≡ contradicts assumptions.now clause.now }
-{
-    match clause {
-        None => false,
-        Some(clause) => are_negated(assumptions, clause.lits()),
-    }
-}
-
-/// Whether each literal is the negation of an assumption.
-fn are_negated(assumptions: &[Lit], lits: &[Lit]) -> bool
-    ensures { result ≡ list_all (λ l. list_any (λ a. a == negated l) assumptions.now) lits.now }
-{
-    lits.iter().all(|lit| is_assumed(assumptions, lit.negate()))
-}
-
-/// Whether a literal is an assumption.
-fn is_assumed(assumptions: &[Lit], lit: Lit) -> bool
-    ensures { result ≡ list_any (λ a. a == lit) assumptions.now }
-{
-    assumptions.iter().any(|assumption| *assumption == lit)
 }
 
 /// Whether a clause is derived along hints; no literal is true before and after.

@@ -1,6 +1,7 @@
 //! A checker of LRAT proofs.
 #![tactic(auto)]
 
+mod assumed;
 mod checker;
 mod effect;
 mod fault;
