@@ -1,6 +1,6 @@
 //! Reading a line of a proof.
 
-ghost use Rattle.std.specs.Prelude.{◌≡◌, map, Some, IfOk};
+ghost use Rattle.std.specs.Prelude.{◌≡◌, Some, IfOk};
 ghost use Rattle.std.specs.List.{list_any};
 ghost use Rattle.spec_text.specs.Inputs.{words_of};
 ghost use Rattle.spec_text.specs.Numbers.{number_in};
@@ -13,7 +13,7 @@ ghost use Rattle.mal_lrat.specs.Answers.{Gives, GivesWords};
 use crate::fault::LineFault;
 use crate::line::Line;
 use mal_base::{Clause, ClauseId, Lit};
-use mal_text::{number, words};
+use mal_text::{first_word, number};
 use std::alloc::{AllocError, Global};
 
 /// The greatest id of a clause in a proof.
@@ -27,18 +27,17 @@ pub fn read_line(alloc: Global, line: &[u8], last: u64) -> Result<Line, LineFaul
     ensures exact { Gives seen result (reading last (words_of line.now)) }
     ensures spelled { IfOk result (λ read. Spells last (words_of line.now) (seen read)) }
 {
-    let words = words(alloc, line)?;
-    line_of(alloc, behind_l(words.as_slice()), last)
+    line_of(alloc, behind_l(line), last)
 }
 
 /// The words behind a leading word `l`.
-fn behind_l<'a, 't>(words: &'a [&'t [u8]]) -> &'a [&'t [u8]]
-    ensures { map (λ w. w.now) result.now ≡ behind_l (map (λ w. w.now) words.now) }
+fn behind_l(words: &[u8]) -> &[u8]
+    ensures { words_of result.now ≡ behind_l (words_of words.now) }
 {
-    match words {
-        [] => words,
-        [first, rest @ ..] => {
-            if *first == b"l".as_slice() {
+    match first_word(words) {
+        None => words,
+        Some((first, rest)) => {
+            if first == b"l".as_slice() {
                 rest
             } else {
                 words
@@ -48,10 +47,10 @@ fn behind_l<'a, 't>(words: &'a [&'t [u8]]) -> &'a [&'t [u8]]
 }
 
 /// The line of these words.
-fn line_of(alloc: Global, words: &[&[u8]], last: u64) -> Result<Line, LineFault>
-    ensures { Gives seen result (reading_of last (map (λ w. w.now) words.now)) }
+fn line_of(alloc: Global, words: &[u8], last: u64) -> Result<Line, LineFault>
+    ensures { Gives seen result (reading_of last (words_of words.now)) }
 {
-    let [word, rest @ ..] = words else {
+    let Some((word, rest)) = first_word(words) else {
         return Err(LineFault::MissingZero);
     };
     match id_in(word) {
@@ -61,13 +60,13 @@ fn line_of(alloc: Global, words: &[&[u8]], last: u64) -> Result<Line, LineFault>
 }
 
 /// The line of an id and the words behind it.
-fn behind_id(alloc: Global, id: ClauseId, words: &[&[u8]], last: u64) -> Result<Line, LineFault>
-    ensures { Gives seen result (behind_id last id (map (λ w. w.now) words.now)) }
+fn behind_id(alloc: Global, id: ClauseId, words: &[u8], last: u64) -> Result<Line, LineFault>
+    ensures { Gives seen result (behind_id last id (words_of words.now)) }
 {
-    match words {
-        [] => addition(alloc, id, words, last),
-        [first, rest @ ..] => {
-            if *first == b"d".as_slice() {
+    match first_word(words) {
+        None => addition(alloc, id, words, last),
+        Some((first, rest)) => {
+            if first == b"d".as_slice() {
                 deletion(alloc, rest)
             } else {
                 addition(alloc, id, words, last)
@@ -77,8 +76,8 @@ fn behind_id(alloc: Global, id: ClauseId, words: &[&[u8]], last: u64) -> Result<
 }
 
 /// The deletion of the ids that words say.
-fn deletion(alloc: Global, words: &[&[u8]]) -> Result<Line, LineFault>
-    ensures { Gives seen result (deleting (numbers_of (map (λ w. w.now) words.now))) }
+fn deletion(alloc: Global, words: &[u8]) -> Result<Line, LineFault>
+    ensures { Gives seen result (deleting (numbers_of (words_of words.now))) }
 {
     let numbers = numbers(alloc, words)?;
     let numbers = numbers.as_slice();
@@ -93,11 +92,10 @@ fn deletion(alloc: Global, words: &[&[u8]]) -> Result<Line, LineFault>
 }
 
 /// The line that adds the clause of this id, of the words of its literals and hints.
-fn addition(alloc: Global, id: ClauseId, words: &[&[u8]], last: u64) -> Result<Line, LineFault>
-    ensures { Gives seen result (added last id (map (λ w. w.now) words.now)) }
+fn addition(alloc: Global, id: ClauseId, words: &[u8], last: u64) -> Result<Line, LineFault>
+    ensures { Gives seen result (added last id (words_of words.now)) }
 {
-    let (lit_words, hint_words) = cut(words);
-    let lits = literals(alloc, lit_words)?;
+    let (lits, hint_words) = literals(alloc, words)?;
     let hints = numbers(alloc, hint_words)?;
     added(alloc, id, lits.as_slice(), hints.as_slice(), last)
 }
@@ -136,19 +134,6 @@ fn clause(alloc: Global, lits: &[Lit]) -> Result<Option<Clause>, AllocError>
     Clause::of_lits(alloc, lits)
 }
 
-/// The words before the first 0, and those behind it.
-fn cut<'a, 't>(words: &'a [&'t [u8]]) -> (&'a [&'t [u8]], &'a [&'t [u8]])
-    ensures before { map (λ w. w.now) result.0.now ≡ before_end (map (λ w. w.now) words.now) }
-    ensures behind { map (λ w. w.now) result.1.now ≡ behind_end (map (λ w. w.now) words.now) }
-{
-    for (index, word) in words.iter().enumerate() {
-        if is_end(word) {
-            return (&words[..index], &words[index + 1..]);
-        }
-    }
-    (words, &[])
-}
-
 /// Whether a word says 0.
 fn is_end(word: &[u8]) -> bool
     ensures { result ≡ is_end word.now }
@@ -182,30 +167,38 @@ fn literal_in(word: &[u8]) -> Option<Lit>
     Lit::of_dimacs(number as i32)
 }
 
-/// The literals that words say.
-fn literals(alloc: Global, words: &[&[u8]]) -> Result<Vec<Lit>, LineFault>
-    ensures { GivesWords (λ v. v.items) result (literals_of (map (λ w. w.now) words.now)) }
+/// The literals that the words before the first 0 say, and the words behind it.
+fn literals(alloc: Global, words: &[u8]) -> Result<(Vec<Lit>, &[u8]), LineFault>
+    ensures lits { GivesWords (λ r. r.0.items) result (literals_of (before_end (words_of words.now))) }
+    ensures behind { IfOk result (λ r. words_of r.1.now ≡ behind_end (words_of words.now)) }
 {
     let mut lits = Vec::new(alloc);
-    for word in words {
+    let mut rest = words;
+    while let Some((word, behind)) = first_word(rest) {
+        if is_end(word) {
+            return Ok((lits, behind));
+        }
         match literal_in(word) {
             Some(lit) => lits.push(lit)?,
             None => return Err(LineFault::BadNumber),
         }
+        rest = behind;
     }
-    Ok(lits)
+    Ok((lits, rest))
 }
 
 /// The numbers with a magnitude up to 2^62 that words say.
-fn numbers(alloc: Global, words: &[&[u8]]) -> Result<Vec<i64>, LineFault>
-    ensures { GivesWords (λ v. v.items) result (numbers_of (map (λ w. w.now) words.now)) }
+fn numbers(alloc: Global, words: &[u8]) -> Result<Vec<i64>, LineFault>
+    ensures { GivesWords (λ v. v.items) result (numbers_of (words_of words.now)) }
 {
     let mut numbers = Vec::new(alloc);
-    for word in words {
+    let mut rest = words;
+    while let Some((word, behind)) = first_word(rest) {
         match number(word, GREATEST_ID) {
             Ok(number) => numbers.push(number)?,
             Err(_) => return Err(LineFault::BadNumber),
         }
+        rest = behind;
     }
     Ok(numbers)
 }
