@@ -3,3 +3,4 @@ pub mod TrailLemmas
 pub mod PlaceLemmas
 pub mod CutLemmas
 pub mod ValueLemmas
+pub mod SignLemmas

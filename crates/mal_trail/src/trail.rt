@@ -111,6 +111,13 @@ impl Trail {
         (false_place(self.false_places.as_slice(), lit) as usize) < count
     }
 
+    /// No literal is true and false. There is nothing to be done for it.
+    pub fn is_consistent(&self)
+        ensures { (lit : ℕ) → is_true self.now.entries lit ≡ true → is_false self.now.entries lit ≡ false }
+    {
+        let _count = self.entries.len();
+    }
+
     /// Whether the variable has a value.
     pub fn has_value(&self, var: Var) -> bool
         ensures { result ≡ has_value self.now.entries var }

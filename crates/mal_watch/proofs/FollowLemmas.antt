@@ -11,10 +11,10 @@ use Rattle.mal_base.specs.Literals.{negated}
 use Rattle.mal_base.specs.declared.trail_entry.TrailEntry.{TrailEntry}
 use Rattle.spec_node.specs.Adding.{with_clause}
 use Rattle.spec_node.specs.Batch.{is_in_batch}
-use Rattle.spec_node.specs.Value.{is_false, open_count}
+use Rattle.spec_node.specs.Value.{is_true, is_false, open_count}
 use Rattle.mal_watch.specs.Chains.{Has, AreOnce, IsAt}
 use Rattle.mal_watch.specs.Pairs.{ArePicked}
-use Rattle.mal_watch.specs.Watching.{no_row, row_at, partner, other_key, IsKept}
+use Rattle.mal_watch.specs.Watching.{no_row, row_at, partner, other_key, AreOthersFalse, IsKept}
 use Rattle.mal_watch.specs.Going.{Turns, Goes}
 use Rattle.mal_watch.specs.Finding.{is_pending, found_of, pending, found_in}
 use Rattle.mal_watch.specs.declared.found.Found.{Found}
@@ -23,7 +23,7 @@ use Rattle.mal_watch.proofs.HasLemmas.{has-none, has-cases}
 use Rattle.mal_watch.proofs.HeldLemmas.{among-at, among-with, with-among, under-none, rise-with}
 use Rattle.mal_watch.proofs.TurnLemmas.{partner-even, partner-odd, only-last, goes-start, goes-end, goes-apart}
 use Rattle.mal_watch.proofs.FoundLemmas.{found-is}
-use Rattle.mal_watch.proofs.FalseLemmas.{false-more, open-less}
+use Rattle.mal_watch.proofs.FalseLemmas.{true-more, false-more, open-less}
 use Rattle.mal_watch.proofs.WalkLemmas.{partner-below}
 use Rattle.mal_watch.proofs.CountLemmas.{count-same, batch-before, batch-no}
 
@@ -145,7 +145,7 @@ pair-push keys first second =
     }
 
 -- what holds of a node, by what it and its partner watch and by its clause
-kept-as : (prefix : List TrailEntry) (rows : List Held) (keys : List ℕ) (k a b : ℕ) (c : Held) → get_or keys k 0 ≡ a → other_key keys k ≡ b → row_at rows k ≡ c → (is_false prefix a ≡ true → (x : ℕ) → Has c.lits x → x ≢ b → is_false prefix x ≡ true) → IsKept prefix rows keys k
+kept-as : (prefix : List TrailEntry) (rows : List Held) (keys : List ℕ) (k a b : ℕ) (c : Held) → get_or keys k 0 ≡ a → other_key keys k ≡ b → row_at rows k ≡ c → (is_false prefix a ≡ true → AreOthersFalse prefix b c.lits ⊎ (is_true prefix b ≡ true)) → IsKept prefix rows keys k
 kept-as prefix rows keys k a b c e f g h = rw (e, f, g) h
 
 -- a node is an old one, or one of the two new ones
@@ -223,11 +223,11 @@ follows-long clauses rows keys out lists capacity entries processed c first seco
       room = omega (arith, room, length_push rows c);
       kept = λ m k h l. elim (places k l) [
         | inl o ↦ kept-as (take m entries) next now k (get_or keys k 0) (other_key keys k) (row_at rows k) (pair.old k o) (key_other_k k o) (row_k k o) (f.kept m k h o)
-        | inr (inl e) ↦ rw e (kept-as (take m entries) next now n first second c pair.first_is key_other_n row_n (λ z x i d. elim (cases_eq x first) [
+        | inr (inl e) ↦ rw e (kept-as (take m entries) next now n first second c pair.first_is key_other_n row_n (λ z. inl (λ x i d. elim (cases_eq x first) [
           | inl s ↦ rw s z
           | inr u ↦ p.others x i u m h (p.order m h z)
-        ]))
-        | inr (inr e) ↦ rw e (kept-as (take m entries) next now (n + 1) second first c pair.second_is key_other_m row_m (λ z x i d. p.others x i d m h z))
+        ])))
+        | inr (inr e) ↦ rw e (kept-as (take m entries) next now (n + 1) second first c pair.second_is key_other_m row_m (λ z. inl (λ x i d. p.others x i d m h z)))
       ];
     }
 
@@ -313,7 +313,10 @@ no-walk clauses rows keys lists capacity entries count e idle s l is was f = (
     idle = f.idle;
     room = f.room;
     kept = λ n k h m. elim (cases_eq n count) [
-      | inl q ↦ rw q (λ z x i d. false-more (count - 1) count entries x (omega arith) (f.kept (count - 1) k (omega arith) m (back (get_or keys k 0) z) x i d))
+      | inl q ↦ rw q (λ z. elim (f.kept (count - 1) k (omega arith) m (back (get_or keys k 0) z)) [
+        | inl closed ↦ inl (λ x i d. false-more (count - 1) count entries x (omega arith) (closed x i d))
+        | inr holds ↦ inr (true-more (count - 1) count entries (other_key keys k) (omega arith) holds)
+      ])
       | inr d ↦ f.kept n k (omega (arith, h, d)) m
     ];
   },

@@ -303,11 +303,8 @@ pending-batch prefix trail c h = by_test (is_in_batch prefix c) (left_is_true pr
     by_test true b q = refl
     by_test false b q = q
 
-not-pending : (prefix trail : List TrailEntry) (c : Held) → is_in_batch prefix c ≡ false → is_pending prefix trail c ≡ false
-not-pending prefix trail c h = rw h refl
-
 -- what was found, in order, is what is pending
-pub found-is : (prefix trail : List TrailEntry) (f lists : ℕ) (clauses rows : List Held) (keys out : List ℕ) (found : List Found) → NumbersRise 0 clauses → ((c : Held) → Among c rows → Among c clauses) → AreSingle rows → IsWatching lists rows keys → ((k : ℕ) → k < length keys → get_or keys k 0 ≢ other_key keys k) → ((k : ℕ) → Has out k ↔ IsAt keys k f) → AreOnce out → ((c : Held) → Among c clauses → is_in_batch prefix c ≡ true → Among c rows) → ((k : ℕ) → k < length keys → get_or keys k 0 ≢ f → other_key keys k ≢ f → is_in_batch prefix (row_at rows k) ≡ false) → IsPermutation (found_in prefix trail rows out) found → IsNonDecreasingBy (λ (x : Found). x.id) found → found ≡ pending prefix trail clauses
+pub found-is : (prefix trail : List TrailEntry) (f lists : ℕ) (clauses rows : List Held) (keys out : List ℕ) (found : List Found) → NumbersRise 0 clauses → ((c : Held) → Among c rows → Among c clauses) → AreSingle rows → IsWatching lists rows keys → ((k : ℕ) → k < length keys → get_or keys k 0 ≢ other_key keys k) → ((k : ℕ) → Has out k ↔ IsAt keys k f) → AreOnce out → ((c : Held) → Among c clauses → is_in_batch prefix c ≡ true → Among c rows) → ((k : ℕ) → k < length keys → get_or keys k 0 ≢ f → other_key keys k ≢ f → is_pending prefix trail (row_at rows k) ≡ false) → IsPermutation (found_in prefix trail rows out) found → IsNonDecreasingBy (λ (x : Found). x.id) found → found ≡ pending prefix trail clauses
 found-is prefix trail f lists clauses rows keys out found r held single w a nodes once rowed apart moved s =
     let p : Held → Bool = is_pending prefix trail in
     let number : Found → ℕ = λ x. x.id in
@@ -315,5 +312,5 @@ found-is prefix trail f lists clauses rows keys out found r held single w a node
     let each = each-found prefix trail clauses rows out (λ k h. held (row_at rows k) (among-at rows (k / 2) no_row (below k h))) in
     let now : AllByRecursion (IsFoundOf prefix clauses) found = recursion_from_All (IsFoundOf prefix clauses) found (All-permutation (IsFoundOf prefix clauses) (found_in prefix trail rows out) found moved (All-from_recursion (IsFoundOf prefix clauses) (found_in prefix trail rows out) each)) in
     let ids : IsPermutation (ids_in p rows out) (map number found) = subst (λ (xs : List ℕ). IsPermutation xs (map number found)) (found-ids prefix trail rows out) (IsPermutation-map number (found_in prefix trail rows out) found moved) in
-    let same = ids-are p f lists clauses rows keys out (map number found) r held single w a nodes once (λ c h t. rowed c h (pending-batch prefix trail c t)) (λ k l d e. not-pending prefix trail (row_at rows k) (apart k l d e)) ids (ids-order found s) in
+    let same = ids-are p f lists clauses rows keys out (map number found) r held single w a nodes once (λ c h t. rowed c h (pending-batch prefix trail c t)) apart ids (ids-order found s) in
     found-same prefix clauses (filter p clauses) found r (λ c h. (among-passed p c clauses h).0) now same

@@ -2,7 +2,7 @@ use Rattle.std.proofs.Common.{◌≡◌, ◌≢◌, ℕ, ◌+◌, ◌-◌, ◌/�
 use Rattle.std.specs.Prelude.{nat_eq}
 use Rattle.std.proofs.lemmas.Bool.{false≢true, cases_eq}
 use Rattle.std.proofs.lemmas.Bool.Decides.{nat_tests}
-use Rattle.std.proofs.lemmas.List.{length-set, get_or-set_same, get_or-set_other, set-get_or, take_more}
+use Rattle.std.proofs.lemmas.List.{length-set, get_or-set_same, get_or-set_other, set-get_or, take_more, take_all}
 use Rattle.mal_base.specs.Literals.{negated}
 use Rattle.mal_base.specs.Held.{Held}
 use Rattle.mal_base.specs.declared.trail_entry.TrailEntry.{TrailEntry}
@@ -11,10 +11,10 @@ use Rattle.spec_node.specs.Batch.{is_in_batch}
 use Rattle.mal_watch.specs.Chains.{Has, AreOnce, IsAt}
 use Rattle.mal_watch.specs.Watching.{no_row, row_at, partner, IsOther, AreOthersFalse, other_key, IsWatching, IsKept}
 use Rattle.mal_watch.specs.Going.{Turns, Goes}
-use Rattle.mal_watch.specs.Finding.{found_at}
+use Rattle.mal_watch.specs.Finding.{is_pending, found_at}
 use Rattle.mal_watch.specs.declared.found.Found.{Found}
 use Rattle.mal_watch.proofs.HasLemmas.{has-none, has-head, has-tail, has-cases, has-other}
-use Rattle.mal_watch.proofs.FalseLemmas.{false-more, open-less}
+use Rattle.mal_watch.proofs.FalseLemmas.{true-more, false-more, open-less}
 use Rattle.mal_watch.proofs.WalkLemmas.{watching-set, partner-below}
 use Rattle.mal_watch.proofs.CountLemmas.{count-one, count-two, count-none, count-most, batch-yes, batch-no, batch-before}
 
@@ -118,8 +118,15 @@ only-last es q e s l is x f d =
     by_side (inl s) = absurd (d (sym (negated-back x) ∙ ap negated (sym s)))
     by_side (inr t) = t
 
-pub turns-is : (es : List TrailEntry) (q : ℕ) (e : TrailEntry) → 1 ≤ q → q ≤ length es → e ≡ get_or es (q - 1) e → is_false (take (q - 1) es) (negated e.lit) ≡ false → Turns es q (negated e.lit)
-turns-is es q e s l is fresh =
+-- what is true under the first entries is true under all, and what all leave open the first do
+true-all : (q : ℕ) (es : List TrailEntry) (x : ℕ) → is_true (take q es) x ≡ true → is_true es x ≡ true
+true-all q es x t = rw (take_all (q + length es) es (omega arith)) at (true-more q (q + length es) es x (omega arith) t)
+
+open-front : (q : ℕ) (es : List TrailEntry) (x : ℕ) → is_false es x ≡ false → is_false (take q es) x ≡ false
+open-front q es x o = open-less q (q + length es) es x (omega arith) (rw (take_all (q + length es) es (omega arith)) o)
+
+pub turns-is : (es : List TrailEntry) (q : ℕ) (e : TrailEntry) → 1 ≤ q → q ≤ length es → e ≡ get_or es (q - 1) e → is_false (take (q - 1) es) (negated e.lit) ≡ false → ((x : ℕ) → is_true es x ≡ true → is_false es x ≡ false) → Turns es q (negated e.lit)
+turns-is es q e s l is fresh clear =
     let one : q - 1 + 1 ≡ q = omega arith in
     let more : take q es ≡ take (q - 1) es ++ e ∷ [] = rw one at (take_more es (q - 1) e (omega arith)) ∙ ap (λ (y : TrailEntry). take (q - 1) es ++ y ∷ []) (sym is) in
     record {
@@ -128,6 +135,7 @@ turns-is es q e s l is fresh =
       now = rw (more, negated-back e.lit) (push-here (take (q - 1) es) e);
       fresh = fresh;
       others = only-last es q e s l is;
+      clear = λ x t. open-front q es x (clear x (true-all q es x t));
     }
 
 -- a test that is not passed is failed
@@ -178,7 +186,10 @@ goes-moved es q f lists rows keys rest k r t g found =
     let back : other_key keys j ≡ f = ap (λ (i : ℕ). get_or keys i 0) (partner-back k) ∙ here.1 in
     let r_other : r ≢ f = λ s. false≢true (sym found.free ∙ rw (sym s) at t.now) in
     let kept_o : IsKept (take q es) rows keys j = g.done j below (partner-done es q f lists rows keys rest k g) in
-    let free_o : is_false (take q es) o ≡ false = none-of (is_false (take q es) o) (λ h. false≢true (sym found.free ∙ kept_o h r (subst (λ (c : Held). Has c.lits r) (sym (same-row rows k)) found.there) (λ s. r_other (s ∙ back)))) in
+    let free_o : is_false (take q es) o ≡ false = none-of (is_false (take q es) o) (λ h. elim (kept_o h) [
+      | inl closed ↦ false≢true (sym found.free ∙ closed r (subst (λ (c : Held). Has c.lits r) (sym (same-row rows k)) found.there) (λ s. r_other (s ∙ back)))
+      | inr true_f ↦ false≢true (sym (t.clear f (rw back at true_f)) ∙ t.now)
+    ]) in
     let long : length now ≡ length keys = length-set keys k r in
     let key_k : get_or now k 0 ≡ r = get_or-set_same keys k r 0 here.0 in
     let key_other : (m : ℕ) → m ≢ k → get_or now m 0 ≡ get_or keys m 0 = λ m d. get_or-set_other keys k m r 0 d in
@@ -242,7 +253,7 @@ goes-stays es q f lists rows keys rest k t g others =
         once = g.once.1;
         kept = g.kept;
         done = λ m l h. elim (cases_eq m k) [
-          | inl s ↦ rw s (λ z. others)
+          | inl s ↦ rw s (λ z. inl others)
           | inr d ↦ g.done m l (λ i. elim (has-cases m k rest i) [ inl s ↦ d s | inr x ↦ h x ])
         ];
       };
@@ -270,9 +281,25 @@ left-only prefix o (l ∷ ls) others h e = elim (cases_eq l o) [
       rw closed (left-only prefix o ls (λ x m. others x (has-tail x l ls m)) (has-other o l ls (λ s. d (sym s)) h) e)
 ]
 
-and-not : (a b : Bool) → a ≡ false → (a && not b) ≡ false
-and-not true b h = absurd (false≢true (sym h))
-and-not false b h = refl
+-- a clause with a literal that is true under the first entries is not pending
+pub true-not-pending : (es : List TrailEntry) (q : ℕ) (c : Held) (o : ℕ) → 1 ≤ q → q ≤ length es → Has c.lits o → is_true (take q es) o ≡ true → is_false (take q es) o ≡ false → is_pending (take q es) es c ≡ false
+true-not-pending es q c o s l h u e = by_batch (is_in_batch (take q es) c) refl
+  where
+    closed : is_in_batch (take q es) c ≡ true → AreOthersFalse (take q es) o c.lits
+    closed b x m d = by_value (is_false (take q es) x) refl
+      where
+        by_value : (v : Bool) → is_false (take q es) x ≡ v → is_false (take q es) x ≡ true
+        by_value true z = z
+        by_value false z =
+            let two : 2 ≤ open_count (take q es) c.lits = count-two (λ y. not (is_false (take q es) y)) c.lits x o m h d (not-false (is_false (take q es) x) z) (not-false (is_false (take q es) o) e) in
+            absurd (false≢true (sym (batch-no es q c s l (λ n. omega (arith, two, n))) ∙ b))
+
+    by_batch : (b : Bool) → is_in_batch (take q es) c ≡ b → is_pending (take q es) es c ≡ false
+    by_batch true b =
+        let left = left-only (take q es) o c.lits (closed b) h e in
+        let now : is_true es o ≡ true = true-all q es o u in
+        rw (b, left, now) refl
+    by_batch false b = rw b refl
 
 -- a visit to the first node that is left: what is left then, and what is found
 pub record Visited (es : List TrailEntry) (q f lists : ℕ) (rows : List Held) (now rest : List ℕ) (k : ℕ) (found : List Found) : Type 0 where
@@ -286,6 +313,28 @@ visit-moved es q f lists rows keys rest k r t g o =
 
 stays : (es : List TrailEntry) (q f lists : ℕ) (rows : List Held) (keys rest : List ℕ) (k : ℕ) → Goes es q f lists rows keys (k ∷ rest) → set keys k f ≡ keys
 stays es q f lists rows keys rest k g = let here = g.left_is k (has-head k k rest refl) in ap (λ (x : ℕ). set keys k x) (sym here.1) ∙ set-get_or keys k 0
+
+-- the other watched literal is true
+pub visit-spared : (es : List TrailEntry) (q f lists : ℕ) (rows : List Held) (keys rest : List ℕ) (k : ℕ) → Turns es q f → Goes es q f lists rows keys (k ∷ rest) → is_true (take q es) (other_key keys k) ≡ true → Visited es q f lists rows (set keys k f) rest k []
+visit-spared es q f lists rows keys rest k t g u =
+    let here = g.left_is k (has-head k k rest refl) in
+    let has_o : Has (row_at rows k).lits (other_key keys k) = other-has lists rows keys k g.watching here.0 in
+    let no = true-not-pending es q (row_at rows k) (other_key keys k) t.some t.within has_o u (t.clear (other_key keys k) u) in
+    record {
+      goes = rw (stays es q f lists rows keys rest k g) (record {
+        watching = g.watching;
+        apart = g.apart;
+        form = g.form;
+        left_is = λ m h. g.left_is m (has-tail m k rest h);
+        once = g.once.1;
+        kept = g.kept;
+        done = λ m l h. elim (cases_eq m k) [
+          | inl s ↦ rw s (λ z. inr u)
+          | inr d ↦ g.done m l (λ i. elim (has-cases m k rest i) [ inl s ↦ d s | inr x ↦ h x ])
+        ];
+      });
+      finds = rw no refl;
+    }
 
 pub visit-false : (es : List TrailEntry) (q f lists : ℕ) (rows : List Held) (keys rest : List ℕ) (k : ℕ) → Turns es q f → Goes es q f lists rows keys (k ∷ rest) → AreOthersFalse (take q es) (other_key keys k) (row_at rows k).lits → is_false (take q es) (other_key keys k) ≡ true → Visited es q f lists rows (set keys k f) rest k []
 visit-false es q f lists rows keys rest k t g o e =
@@ -319,9 +368,12 @@ goes-start es q f lists rows keys out t w a form kept nodes once =
       left_is = λ k h. (nodes k).0 h;
       once = once;
       kept = kept;
-      done = λ k l h z x m d.
+      done = λ k l h z.
           let other : get_or keys k 0 ≢ f = λ s. h ((nodes k).1 (l, s)) in
-          false-more (q - 1) q es x (omega arith) (kept (q - 1) k (omega arith) l (t.others (get_or keys k 0) z other) x m d);
+          elim (kept (q - 1) k (omega arith) l (t.others (get_or keys k 0) z other)) [
+            | inl closed ↦ inl (λ x m d. false-more (q - 1) q es x (omega arith) (closed x m d))
+            | inr holds ↦ inr (true-more (q - 1) q es (other_key keys k) (omega arith) holds)
+          ];
     }
 
 -- at the end each node keeps under one entry more
@@ -332,28 +384,41 @@ goes-end es q f lists rows keys g n k h l = by_place (cases_eq n q)
     by_place (inl e) = rw e (g.done k l (has-none k))
     by_place (inr d) = g.kept n k (omega arith) l
 
--- a clause that does not watch the literal is not in the batch
-pub goes-apart : (es : List TrailEntry) (q f lists : ℕ) (rows : List Held) (keys : List ℕ) (k : ℕ) → Turns es q f → IsWatching lists rows keys → ((k : ℕ) → k < length keys → get_or keys k 0 ≢ other_key keys k) → ((k : ℕ) → AreOnce (row_at rows k).lits) → ((n k : ℕ) → n ≤ q - 1 → k < length keys → IsKept (take n es) rows keys k) → k < length keys → get_or keys k 0 ≢ f → other_key keys k ≢ f → is_in_batch (take q es) (row_at rows k) ≡ false
+-- before the last of the first entries all literals but one were false, or that one was true
+abbrev IsApart : List TrailEntry → ℕ → List ℕ → ℕ → Type 0
+IsApart es q lits o = AreOthersFalse (take (q - 1) es) o lits ⊎ (is_true (take (q - 1) es) o ≡ true)
+
+not-pending : (prefix trail : List TrailEntry) (c : Held) → is_in_batch prefix c ≡ false → is_pending prefix trail c ≡ false
+not-pending prefix trail c h = rw h refl
+
+-- a clause that does not watch the literal is not pending
+pub goes-apart : (es : List TrailEntry) (q f lists : ℕ) (rows : List Held) (keys : List ℕ) (k : ℕ) → Turns es q f → IsWatching lists rows keys → ((k : ℕ) → k < length keys → get_or keys k 0 ≢ other_key keys k) → ((k : ℕ) → AreOnce (row_at rows k).lits) → ((n k : ℕ) → n ≤ q - 1 → k < length keys → IsKept (take n es) rows keys k) → k < length keys → get_or keys k 0 ≢ f → other_key keys k ≢ f → is_pending (take q es) es (row_at rows k) ≡ false
 goes-apart es q f lists rows keys k t w a form kept l d e =
     let j = partner k in
     let below : j < length keys = partner-below lists rows keys k w l in
     let own : Has (row_at rows k).lits (get_or keys k 0) = w.own k l in
     let other : Has (row_at rows k).lits (other_key keys k) = other-has lists rows keys k w l in
     let back : other_key keys j ≡ get_or keys k 0 = ap (λ (i : ℕ). get_or keys i 0) (partner-back k) in
-    let by_own : is_false (take (q - 1) es) (get_or keys k 0) ≡ true → (x : ℕ) → Has (row_at rows k).lits x → x ≢ other_key keys k → is_false (take (q - 1) es) x ≡ true = kept (q - 1) k (omega arith) l in
-    let by_other : is_false (take (q - 1) es) (other_key keys k) ≡ true → (x : ℕ) → Has (row_at rows k).lits x → x ≢ get_or keys k 0 → is_false (take (q - 1) es) x ≡ true = λ z x m n. kept (q - 1) j (omega arith) below z x (subst (λ (c : Held). Has c.lits x) (sym (same-row rows k)) m) (λ s. n (s ∙ back)) in
+    let by_own : is_false (take (q - 1) es) (get_or keys k 0) ≡ true → IsApart es q (row_at rows k).lits (other_key keys k) = kept (q - 1) k (omega arith) l in
+    let by_other : is_false (take (q - 1) es) (other_key keys k) ≡ true → IsApart es q (row_at rows k).lits (get_or keys k 0) = λ z. elim (kept (q - 1) j (omega arith) below z) [
+      | inl closed ↦ inl (λ x m n. closed x (subst (λ (c : Held). Has c.lits x) (sym (same-row rows k)) m) (λ s. n (s ∙ back)))
+      | inr holds ↦ inr (rw back at holds)
+    ] in
     by_values own other by_own by_other (is_false (take q es) (get_or keys k 0)) refl (is_false (take q es) (other_key keys k)) refl
   where
-    by_values : Has (row_at rows k).lits (get_or keys k 0) → Has (row_at rows k).lits (other_key keys k) → (is_false (take (q - 1) es) (get_or keys k 0) ≡ true → (x : ℕ) → Has (row_at rows k).lits x → x ≢ other_key keys k → is_false (take (q - 1) es) x ≡ true) → (is_false (take (q - 1) es) (other_key keys k) ≡ true → (x : ℕ) → Has (row_at rows k).lits x → x ≢ get_or keys k 0 → is_false (take (q - 1) es) x ≡ true) → (b : Bool) → is_false (take q es) (get_or keys k 0) ≡ b → (c : Bool) → is_false (take q es) (other_key keys k) ≡ c → is_in_batch (take q es) (row_at rows k) ≡ false
-    by_values own other by_own by_other true u c v =
-        let others = by_own (t.others (get_or keys k 0) u d) in
-        batch-before es q (row_at rows k) t.some t.within (count-most (λ l. not (is_false (take (q - 1) es) l)) (row_at rows k).lits (other_key keys k) (form k) (λ x m n. not-true (is_false (take (q - 1) es) x) (others x m n)))
-    by_values own other by_own by_other false u true v =
-        let others = by_other (t.others (other_key keys k) v e) in
-        batch-before es q (row_at rows k) t.some t.within (count-most (λ l. not (is_false (take (q - 1) es) l)) (row_at rows k).lits (get_or keys k 0) (form k) (λ x m n. not-true (is_false (take (q - 1) es) x) (others x m n)))
+    by_side : (o : ℕ) → Has (row_at rows k).lits o → IsApart es q (row_at rows k).lits o → is_pending (take q es) es (row_at rows k) ≡ false
+    by_side o h (inl closed) =
+        not-pending (take q es) es (row_at rows k) (batch-before es q (row_at rows k) t.some t.within (count-most (λ l. not (is_false (take (q - 1) es) l)) (row_at rows k).lits o (form k) (λ x m n. not-true (is_false (take (q - 1) es) x) (closed x m n))))
+    by_side o h (inr holds) =
+        let now : is_true (take q es) o ≡ true = true-more (q - 1) q es o (omega arith) holds in
+        true-not-pending es q (row_at rows k) o t.some t.within h now (t.clear o now)
+
+    by_values : Has (row_at rows k).lits (get_or keys k 0) → Has (row_at rows k).lits (other_key keys k) → (is_false (take (q - 1) es) (get_or keys k 0) ≡ true → IsApart es q (row_at rows k).lits (other_key keys k)) → (is_false (take (q - 1) es) (other_key keys k) ≡ true → IsApart es q (row_at rows k).lits (get_or keys k 0)) → (b : Bool) → is_false (take q es) (get_or keys k 0) ≡ b → (c : Bool) → is_false (take q es) (other_key keys k) ≡ c → is_pending (take q es) es (row_at rows k) ≡ false
+    by_values own other by_own by_other true u c v = by_side (other_key keys k) other (by_own (t.others (get_or keys k 0) u d))
+    by_values own other by_own by_other false u true v = by_side (get_or keys k 0) own (by_other (t.others (other_key keys k) v e))
     by_values own other by_own by_other false u false v =
         let two : 2 ≤ open_count (take q es) (row_at rows k).lits = count-two (λ l. not (is_false (take q es) l)) (row_at rows k).lits (get_or keys k 0) (other_key keys k) own other (a k l) (not-false (is_false (take q es) (get_or keys k 0)) u) (not-false (is_false (take q es) (other_key keys k)) v) in
-        batch-no es q (row_at rows k) t.some t.within (λ s. omega (arith, two, s))
+        not-pending (take q es) es (row_at rows k) (batch-no es q (row_at rows k) t.some t.within (λ s. omega (arith, two, s)))
 
 -- of two places two different numbers take both
 both-places : (p q a b x : ℕ) → (a ≡ p) ⊎ (a ≡ q) → (b ≡ p) ⊎ (b ≡ q) → a ≢ b → (x ≡ p) ⊎ (x ≡ q) → (x ≡ a) ⊎ (x ≡ b)

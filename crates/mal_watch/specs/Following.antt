@@ -16,8 +16,8 @@ AreSingle rows = (i j : ℕ) → i < length rows → j < length rows → (slice_
 
 -- the clauses are by rising number, and the rows are those of two or more literals; each watches two different ones of its
 -- literals, and no node is out of its list; there is room for the numbers of all rows; and under each front of the
--- handled entries, those before the last batch that counts as handled, a watched literal is false only where all others
--- of its clause are but the other watched one
+-- handled entries, those before the last batch that counts as handled, a watched literal is false only where the other
+-- watched one of its clause is true, or all others are false but that one
 pub record Follows (clauses rows : List Held) (keys out : List ℕ) (lists capacity : ℕ) (entries : List TrailEntry) (processed : ℕ) : Type 0 where
   pub numbers : NumbersRise 0 clauses
   pub held : (c : Held) → Among c rows → Among c clauses

@@ -1,17 +1,18 @@
 use Rattle.std.specs.Prelude.{◌≡◌, ◌≢◌, ℕ, ◌-◌, ◌≤◌, ◌<◌, true, false, List, length, take, slice_index}
 use Rattle.mal_base.specs.Held.{Held}
 use Rattle.mal_base.specs.declared.trail_entry.TrailEntry.{TrailEntry}
-use Rattle.spec_node.specs.Value.{is_false}
+use Rattle.spec_node.specs.Value.{is_true, is_false}
 use Rattle.mal_watch.specs.Chains.{Has, AreOnce}
 use Rattle.mal_watch.specs.Watching.{row_at, other_key, IsWatching, IsKept}
 
--- a literal becomes false by the last of the first entries, and no other does
+-- a literal becomes false by the last of the first entries, and no other does; none is true and false
 pub record Turns (entries : List TrailEntry) (count lit : ℕ) : Type 0 where
   pub some : 1 ≤ count
   pub within : count ≤ length entries
   pub now : is_false (take count entries) lit ≡ true
   pub fresh : is_false (take (count - 1) entries) lit ≡ false
   pub others : (x : ℕ) → is_false (take count entries) x ≡ true → x ≢ lit → is_false (take (count - 1) entries) x ≡ true
+  pub clear : (x : ℕ) → is_true (take count entries) x ≡ true → is_false (take count entries) x ≡ false
 
 -- how far the nodes that watch a literal that has become false were gone over: these are left, which still watch it, and
 -- all others are where they may be under one entry more

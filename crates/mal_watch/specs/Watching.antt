@@ -1,7 +1,7 @@
-use Rattle.std.specs.Prelude.{◌≡◌, ◌≢◌, ℕ, ◌+◌, ◌-◌, ◌/◌, ◌%◌, ◌<◌, true, false, ◌==◌, if◌then◌else◌, List, [], length, slice_index, slice_index_or}
+use Rattle.std.specs.Prelude.{◌≡◌, ◌≢◌, ℕ, ◌+◌, ◌-◌, ◌/◌, ◌%◌, ◌<◌, ◌⊎◌, true, false, ◌==◌, if◌then◌else◌, List, [], length, slice_index, slice_index_or}
 use Rattle.mal_base.specs.Held.{Held}
 use Rattle.mal_base.specs.declared.trail_entry.TrailEntry.{TrailEntry}
-use Rattle.spec_node.specs.Value.{is_false}
+use Rattle.spec_node.specs.Value.{is_true, is_false}
 use Rattle.mal_watch.specs.Chains.{Has}
 
 -- no clause
@@ -36,6 +36,7 @@ AreOthersFalse prefix other lits = (x : ℕ) → Has lits x → x ≢ other → 
 abbrev pub other_key : List ℕ → ℕ → ℕ
 other_key keys node = slice_index keys (partner node)
 
--- where the literal that a node watches is false, each literal of its clause is but the other watched one
+-- where the literal that a node watches is false, the other watched one is true, or each other literal of its clause is
+-- false but that one
 abbrev pub IsKept : List TrailEntry → List Held → List ℕ → ℕ → Type 0
-IsKept prefix rows keys k = is_false prefix (slice_index keys k) ≡ true → AreOthersFalse prefix (other_key keys k) (row_at rows k).lits
+IsKept prefix rows keys k = is_false prefix (slice_index keys k) ≡ true → AreOthersFalse prefix (other_key keys k) (row_at rows k).lits ⊎ (is_true prefix (other_key keys k) ≡ true)

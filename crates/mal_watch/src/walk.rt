@@ -59,10 +59,10 @@ fn to_watch(trail: &Trail, count: usize, lits: &[Lit], other: Lit, from: usize) 
     next_open(trail, count, lits, other, from)
 }
 
-/// Visits the clause of the first node that is out, which watches the literal that became false by the last of the first
-/// entries, so many: the node goes to another literal that is not false, or back. Where the other watched literal alone is
-/// left, and not true, the clause is found.
-fn visit(
+/// Looks into the clause of the first node that is out, which watches the literal that became false by the last of the
+/// first entries, so many: the node goes to another literal that is not false, or back. Where the other watched literal
+/// alone is left, and not true, the clause is found.
+fn seek(
     chains: &mut Chains,
     found: &mut Vec<Found>,
     rows: &mut Rows,
@@ -99,6 +99,38 @@ fn visit(
             }
         }
     }
+}
+
+/// Visits the first node that is out, as `seek` does. Where the other watched literal is true under the first entries
+/// already the node goes back, and its clause is not looked at.
+fn visit(
+    chains: &mut Chains,
+    found: &mut Vec<Found>,
+    rows: &mut Rows,
+    trail: &Trail,
+    count: usize,
+    lit: Lit,
+    node: usize,
+)
+    requires turns { Turns trail.now.entries count lit }
+    requires first { chains.old.out ≡ node ∷ drop 1 chains.old.out }
+    requires goes { Goes trail.now.entries count lit chains.old.lists rows.old.clauses chains.old.keys (node ∷ drop 1 chains.old.out) }
+    requires room { vec_len found.old < vec_capacity found.old }
+    ensures goes { Goes trail.now.entries count lit chains.new.lists rows.old.clauses chains.new.keys (drop 1 chains.old.out) }
+    ensures found { found.new.items ≡ found.old.items ++ found_at (take count trail.now.entries) trail.now.entries rows.old.clauses node }
+    ensures out { chains.new.out ≡ drop 1 chains.old.out }
+    ensures rows { rows.new ≡ rows.old }
+    ensures lists { chains.new.lists ≡ chains.old.lists }
+    ensures chains_room { chains.new.room ≡ chains.old.room }
+    ensures len { vec_len found.new ≤ vec_len found.old + 1 }
+    ensures capacity { vec_capacity found.new ≡ vec_capacity found.old }
+{
+    let other = chains.key(partner(node));
+    if trail.is_true_before(count, other) {
+        chains.put(node, lit);
+        return;
+    }
+    seek(chains, found, rows, trail, count, lit, node);
 }
 
 /// Visits the clauses of all nodes that are out, which watch the literal that became false by the last of the first

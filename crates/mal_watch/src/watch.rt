@@ -21,7 +21,7 @@ use std::alloc::{AllocError, Global};
 
 /// The clauses by number, those of two or more literals also in the order in which they came, and for each of these the
 /// two literals that it watches. It fits a trail where, under each front of the handled entries, a watched literal is false
-/// only where all others of its clause are but the other watched one.
+/// only where the other watched one of its clause is true, or all others are false but that one.
 #[derive(Drop)]
 pub struct Watch {
     store: Store,
@@ -72,6 +72,7 @@ impl Watch {
         if trail.is_false_before(count - 1, lit) {
             return;
         }
+        trail.is_consistent();
         self.chains.take(lit);
         walk::walk(
             &mut self.chains,

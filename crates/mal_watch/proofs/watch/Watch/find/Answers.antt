@@ -35,7 +35,7 @@ walk-requires-clause-turns c =
     let last = c.index-entries-count.result in
     let is : last ≡ get_or entries (c.args.count - 1) last = rw c.entries.ensures at c.index-entries-count.is in
     let fresh : is_false (take (c.args.count - 1) entries) (negated last.lit) ≡ false = rw (← c.negate-lit.ensures) (sym c.is_false_before.ensures ∙ c.if-is_false_before.false) in
-    let turns = turns-is entries c.args.count last c.requires.some c.requires.count is fresh in
+    let turns = turns-is entries c.args.count last c.requires.some c.requires.count is fresh c.is_consistent.ensures in
     rw c.negate-lit.ensures turns
 
 pub walk-requires-clause-goes : goal.walk-requires-clause-goes
@@ -45,7 +45,7 @@ walk-requires-clause-goes c =
     let last = c.index-entries-count.result in
     let is : last ≡ get_or entries (c.args.count - 1) last = rw c.entries.ensures at c.index-entries-count.is in
     let fresh : is_false (take (c.args.count - 1) entries) (negated last.lit) ≡ false = rw (← c.negate-lit.ensures) (sym c.is_false_before.ensures ∙ c.if-is_false_before.false) in
-    let turns = turns-is entries c.args.count last c.requires.some c.requires.count is fresh in
+    let turns = turns-is entries c.args.count last c.requires.some c.requires.count is fresh c.is_consistent.ensures in
     let nodes : (k : ℕ) → Has c.take.new.self.out k ↔ IsAt s.chains.keys k (negated last.lit) = rw (c.take.ensures.keys, c.negate-lit.ensures) at c.take.ensures.nodes in
     rw (c.negate-lit.ensures, c.take.ensures.lists, c.take.ensures.keys) (before-walk s.store.clauses s.rows.clauses s.chains.keys c.take.new.self.out s.chains.out s.chains.lists _ entries c.args.count (negated last.lit) c.requires.fits turns nodes c.take.ensures.once)
 
@@ -64,7 +64,7 @@ returns-clause-found c =
     let last = c.index-entries-count.result in
     let is : last ≡ get_or entries (c.args.count - 1) last = rw c.entries.ensures at c.index-entries-count.is in
     let fresh : is_false (take (c.args.count - 1) entries) (negated last.lit) ≡ false = rw (← c.negate-lit.ensures) (sym c.is_false_before.ensures ∙ c.if-is_false_before.false) in
-    let turns = turns-is entries c.args.count last c.requires.some c.requires.count is fresh in
+    let turns = turns-is entries c.args.count last c.requires.some c.requires.count is fresh c.is_consistent.ensures in
     let nodes : (k : ℕ) → Has c.take.new.self.out k ↔ IsAt s.chains.keys k (negated last.lit) = rw (c.take.ensures.keys, c.negate-lit.ensures) at c.take.ensures.nodes in
     let goes : Goes entries c.args.count (negated last.lit) s.chains.lists s.rows.clauses c.walk.new.chains.keys [] = rw (c.walk.ensures.lists, c.take.ensures.lists, c.negate-lit.ensures) at c.walk.ensures.goes in
     let moved : IsPermutation (found_in (take c.args.count entries) entries s.rows.clauses c.take.new.self.out) c.sort.new.found.items = rw (c.walk.ensures.found, c.clear.ensures.items) at c.sort.ensures.same in
@@ -78,7 +78,7 @@ returns-clause-fits c =
     let last = c.index-entries-count.result in
     let is : last ≡ get_or entries (c.args.count - 1) last = rw c.entries.ensures at c.index-entries-count.is in
     let fresh : is_false (take (c.args.count - 1) entries) (negated last.lit) ≡ false = rw (← c.negate-lit.ensures) (sym c.is_false_before.ensures ∙ c.if-is_false_before.false) in
-    let turns = turns-is entries c.args.count last c.requires.some c.requires.count is fresh in
+    let turns = turns-is entries c.args.count last c.requires.some c.requires.count is fresh c.is_consistent.ensures in
     let nodes : (k : ℕ) → Has c.take.new.self.out k ↔ IsAt s.chains.keys k (negated last.lit) = rw (c.take.ensures.keys, c.negate-lit.ensures) at c.take.ensures.nodes in
     let goes : Goes entries c.args.count (negated last.lit) s.chains.lists s.rows.clauses c.walk.new.chains.keys [] = rw (c.walk.ensures.lists, c.take.ensures.lists, c.negate-lit.ensures) at c.walk.ensures.goes in
     let moved : IsPermutation (found_in (take c.args.count entries) entries s.rows.clauses c.take.new.self.out) c.sort.new.found.items = rw (c.walk.ensures.found, c.clear.ensures.items) at c.sort.ensures.same in
