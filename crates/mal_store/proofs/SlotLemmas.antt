@@ -1,4 +1,4 @@
-use Rattle.std.proofs.Common.{◌≡◌, ◌≢◌, ℕ, zero, suc, ◌+◌, ◌<◌, ◌≤◌, Bool, true, false, nat_lt, nat_eq, not, cond, List, [], ◌∷◌, ◌++◌, length, take, drop, get_or, Option, Some, None, refl, sym, ◌∙◌, ap, arith}
+use Rattle.std.proofs.Common.{◌≡◌, ◌≢◌, ℕ, zero, suc, ◌+◌, ◌-◌, ◌<◌, ◌≤◌, Bool, true, false, nat_lt, nat_le, nat_eq, not, cond, List, [], ◌∷◌, ◌++◌, length, take, drop, get_or, Option, Some, None, refl, sym, ◌∙◌, ap, arith}
 use Rattle.std.specs.List.{insert, slice_get}
 use Rattle.std.specs.List.Sorted.{IsPartitionedBy}
 use Rattle.std.specs.Result.{IsOk, is_ok}
@@ -22,11 +22,20 @@ rising low (s ∷ ss) i zero d h a l = absurd (omega arith)
 rising low (s ∷ ss) zero (suc j) d h a l = omega (arith, at_least (s.id + 1) ss j d h.1 (omega arith))
 rising low (s ∷ ss) (suc i) (suc j) d h a l = rising (s.id + 1) ss i j d h.1 (omega arith) (omega arith)
 
+-- what stands at a place does not depend on what would stand past the end
+get_or-same : (ss : List Slot) (k : ℕ) (d e : Slot) → k < length ss → get_or ss k d ≡ get_or ss k e
+get_or-same [] k d e l = absurd (omega arith)
+get_or-same (s ∷ ss) zero d e l = refl
+get_or-same (s ∷ ss) (suc k) d e l = get_or-same ss k d e (omega arith)
+
 pub test_lt : (a b : ℕ) → nat_lt a b ≡ true → a < b
 test_lt a b = grind (arith, nat_tests)
 
 lt_test : (a b : ℕ) → a < b → nat_lt a b ≡ true
 lt_test a b = grind (arith, nat_tests)
+
+pub test_le : (a b : ℕ) → nat_le a b ≡ true → a ≤ b
+test_le a b = grind (arith, nat_tests)
 
 pub test_not : (a b : ℕ) → nat_lt a b ≡ false → b ≤ a
 test_not a b = grind (arith, nat_tests)
@@ -204,3 +213,34 @@ add-slot literals lits id start len ss place w r some e f n l b a =
         by_order : (t : Bool) → nat_lt x y ≡ t → x < y
         by_order true t = test_lt x y t
         by_order false t = absurd (d (omega (arith, test_not x y t)))
+
+-- numbers from one on, and before one
+pub from-place : (ss : List Slot) (id place k : ℕ) (s d : Slot) → SlotsRise 1 ss → place ≤ k → k < length ss → s ≡ get_or ss place s → id ≤ s.id → id ≤ (get_or ss k d).id
+from-place ss id place k s d r a l e n = by_order (nat_lt place k) refl
+  where
+    here : get_or ss place d ≡ get_or ss place s
+    here = get_or-same ss place d s (omega arith)
+
+    first : id ≤ (get_or ss place d).id
+    first = rw (here, ← e) n
+
+    by_order : (b : Bool) → nat_lt place k ≡ b → id ≤ (get_or ss k d).id
+    by_order true t = omega (arith, first, rising 1 ss place k d r (test_lt place k t) l)
+    by_order false t =
+        let same : k ≡ place = omega (arith, test_not place k t) in
+        rw same first
+
+pub to-place : (ss : List Slot) (id place k : ℕ) (s d : Slot) → SlotsRise 1 ss → 1 ≤ place → place ≤ length ss → k < place → s ≡ get_or ss (place - 1) s → s.id < id → (get_or ss k d).id < id
+to-place ss id place k s d r m w l e n = by_order (nat_lt k (place - 1)) refl
+  where
+    here : get_or ss (place - 1) d ≡ get_or ss (place - 1) s
+    here = get_or-same ss (place - 1) d s (omega arith)
+
+    last : (get_or ss (place - 1) d).id < id
+    last = rw (here, ← e) n
+
+    by_order : (b : Bool) → nat_lt k (place - 1) ≡ b → (get_or ss k d).id < id
+    by_order true t = omega (arith, last, rising 1 ss k (place - 1) d r (test_lt k (place - 1) t) (omega arith))
+    by_order false t =
+        let same : k ≡ place - 1 = omega (arith, test_not k (place - 1) t) in
+        rw same last

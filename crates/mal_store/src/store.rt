@@ -1,6 +1,6 @@
 //! A map from numbers to clauses.
 
-ghost use Rattle.std.specs.Prelude.{◌≡◌, ℕ, ◌+◌, ◌≤◌, ◌<◌, List, [], ◌∷◌, ◌++◌, length, take, drop, slice_get, slice_index_or, Some, None, OnOk, MatchOption, vec_len, vec_capacity};
+ghost use Rattle.std.specs.Prelude.{◌≡◌, ℕ, ◌+◌, ◌≤◌, ◌<◌, true, List, [], ◌∷◌, ◌++◌, length, take, drop, slice_get, slice_index_or, Some, None, OnOk, MatchOption, vec_len, vec_capacity};
 ghost use Rattle.mal_base.specs.Held.{lits_under};
 ghost use Rattle.spec_node.specs.Adding.{with_clause};
 ghost use Rattle.mal_store.specs.declared.slot.Slot.{Slot};
@@ -129,7 +129,58 @@ fn place_of(slots: &[Slot], id: ClauseId) -> usize
     ensures above { (k : ℕ) (d : Slot) → result ≤ k → k < length slots.now → id ≤ (slice_index_or slots.now k d).id }
 {
     let number = id.number();
+    let guess = guess_of(slots, number);
+    if is_up_to(slots, number, guess) && is_above(slots, number, guess) {
+        return guess;
+    }
     slots.partition_point(|slot| slot.id.number() < number)
+}
+
+/// Where the slot of a number stands if numbers are dense: those of the original clauses, which begin with 1, and those that
+/// one solver derives, each 64 above the one before it, up to the last.
+fn guess_of(slots: &[Slot], number: u64) -> usize
+    ensures { result ≤ length slots.now }
+{
+    if number < 1 << 32 {
+        let before = number.saturating_sub(1) as usize;
+        return before.min(slots.len());
+    }
+    match slots.last() {
+        None => 0,
+        Some(last) => {
+            if last.id.number() < number {
+                return slots.len();
+            }
+            let back = (last.id.number() - number) / 64;
+            (slots.len() - 1).saturating_sub(back as usize)
+        }
+    }
+}
+
+/// Whether the slots from a place on, by rising number, have no number below this one.
+fn is_up_to(slots: &[Slot], number: u64, place: usize) -> bool
+    requires rising { SlotsRise 1 slots.now }
+    requires within { place ≤ length slots.now }
+    ensures { result ≡ true → (k : ℕ) (d : Slot) → place ≤ k → k < length slots.now → number ≤ (slice_index_or slots.now k d).id }
+{
+    if place == slots.len() {
+        return true;
+    }
+    let slot = slots[place];
+    number <= slot.id.number()
+}
+
+/// Whether the slots before a place, by rising number, have numbers below this one.
+fn is_above(slots: &[Slot], number: u64, place: usize) -> bool
+    requires rising { SlotsRise 1 slots.now }
+    requires within { place ≤ length slots.now }
+    ensures { result ≡ true → (k : ℕ) (d : Slot) → k < place → (slice_index_or slots.now k d).id < number }
+{
+    if place == 0 {
+        return true;
+    }
+    let slot = slots[place - 1];
+    slot.id.number() < number
 }
 
 /// So many literals from a place on.
