@@ -9,3 +9,4 @@ pub mod CountLemmas
 pub mod TurnLemmas
 pub mod FoundLemmas
 pub mod FollowLemmas
+pub mod WiderLemmas

@@ -1,3 +1,5 @@
+pub mod Links
+pub mod LinkLaws
 pub mod Chains
 pub mod Rowed
 pub mod Pairs

@@ -3,25 +3,30 @@
 ghost use Rattle.std.specs.Prelude.{◌≡◌, ℕ, ◌+◌, ◌≤◌, ◌<◌, List, [], ◌∷◌, ◌++◌, length, drop, slice_index, slice_set, OnOk, IfSome, MatchOption, ◌↔◌};
 ghost use Rattle.mal_watch.specs.Chains.{Has, AreOnce, IsAt};
 
+use crate::link::Link;
 use mal_base::Lit;
 use std::alloc::{AllocError, Global};
 use std::marker::Model;
+
+/// So many nodes there may be.
+const MOST: usize = 4_294_967_295;
 
 /// Nodes, each in the list of its literal, but for those that were taken out of a list and not put back yet. Contracts see
 /// each node's literal, the nodes taken out, in the order in which they go back, how many lists there are (one for each
 /// code of a literal below this number), and how many nodes more there is room for.
 #[derive(Drop)]
 pub struct Chains {
-    heads: Vec<Option<usize>>,
-    links: Vec<Option<usize>>,
+    heads: Vec<Link>,
+    links: Vec<Link>,
     keys: Vec<Lit>,
-    taken: Option<usize>,
+    taken: Link,
 }
 
 impl Model for Chains {
     ghost use Rattle.std.specs.Prelude.{◌-◌, length, min};
     ghost use Rattle.std.specs.Vec.{vec_len, vec_capacity};
     ghost use Rattle.mal_watch.specs.Chains.{Chained, IsChained, chain};
+    ghost use Rattle.mal_watch.specs.Links.{nowhere};
 
     ghost Value = { Chained };
 
@@ -29,7 +34,7 @@ impl Model for Chains {
       keys = c.keys.items;
       out = chain c.links.items (length c.links.items) c.taken;
       lists = length c.heads.items;
-      room = min (vec_capacity c.links - vec_len c.links) (vec_capacity c.keys - vec_len c.keys);
+      room = min (min (vec_capacity c.links - vec_len c.links) (vec_capacity c.keys - vec_len c.keys)) (nowhere - vec_len c.links);
     } };
 
     ghost invariant = { λ c. IsChained c.heads.items c.links.items c.keys.items c.taken };
@@ -45,11 +50,11 @@ impl Chains {
             heads: Vec::new(alloc),
             links: Vec::new(alloc),
             keys: Vec::new(alloc),
-            taken: None,
+            taken: Link::none(),
         }
     }
 
-    /// Makes so many lists, if there are fewer, and room for so many nodes more.
+    /// Makes so many lists, if there are fewer, and room for so many nodes more. There are fewer than 2^32 - 1 nodes.
     pub fn reserve(&mut self, lists: usize, nodes: usize) -> Result<(), AllocError>
         ensures lists { OnOk result (lists ≤ self.new.lists) }
         ensures room { OnOk result (nodes ≤ self.new.room) }
@@ -58,10 +63,13 @@ impl Chains {
         ensures keys { self.new.keys ≡ self.old.keys }
         ensures out { self.new.out ≡ self.old.out }
     {
+        if MOST - self.links.len().min(MOST) < nodes {
+            return Err(AllocError);
+        }
         self.links.reserve(nodes)?;
         self.keys.reserve(nodes)?;
         if self.heads.len() < lists {
-            self.heads.resize(lists, None)?;
+            self.heads.resize(lists, Link::none())?;
         }
         Ok(())
     }
@@ -87,7 +95,7 @@ impl Chains {
         let node = self.links.len();
         self.links.push_reserved(self.heads[list]);
         self.keys.push_reserved(key);
-        self.heads[list] = Some(node);
+        self.heads[list] = Link::to(node);
     }
 
     /// Takes all nodes of a literal out of its list, where none is out.
@@ -102,7 +110,7 @@ impl Chains {
         let list = key.code() as usize;
         if list < self.heads.len() {
             self.taken = self.heads[list];
-            self.heads[list] = None;
+            self.heads[list] = Link::none();
         }
     }
 
@@ -110,7 +118,7 @@ impl Chains {
     pub fn first(&self) -> Option<usize>
         ensures { MatchOption result (self.now.out ≡ []) (λ k. (self.now.out ≡ k ∷ drop 1 self.now.out) × (k < length self.now.keys)) }
     {
-        self.taken
+        self.taken.node()
     }
 
     /// Puts the first of the nodes taken out into the list of a literal.
@@ -123,9 +131,10 @@ impl Chains {
         ensures room { self.new.room ≡ self.old.room }
     {
         let list = key.code() as usize;
+        let first = self.taken;
         self.taken = self.links[node];
         self.links[node] = self.heads[list];
-        self.heads[list] = Some(node);
+        self.heads[list] = first;
         self.keys[node] = key;
     }
 }

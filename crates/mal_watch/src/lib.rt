@@ -4,6 +4,7 @@
 mod batch;
 mod chains;
 mod found;
+mod link;
 mod pair;
 mod rows;
 mod walk;

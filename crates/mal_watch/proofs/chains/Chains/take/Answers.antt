@@ -10,7 +10,7 @@ invariant_of-self c =
     let none : chain s.links.items (length s.links.items) s.taken ≡ [] = rw (← c.self.view_is) at c.requires in
     let inside : c.code-list.result < length s.heads.items = omega (arith, c.if-list-len.true, c.len.ensures) in
     let head : c.index.result.now ≡ link_at s.heads.items c.code-list.result = get_or_read s.heads.items c.code-list.result c.index.result.now inside c.index.ensures None in
-    (took s.heads.items s.links.items s.keys.items s.taken c.args.key c.code-list.result c.index.result.now c.self.invariant none c.code-list.ensures.value inside head).0
+    rw c.none.ensures (took s.heads.items s.links.items s.keys.items s.taken c.args.key c.code-list.result c.index.result.now c.self.invariant none c.code-list.ensures.value inside head).0
 
 pub returns-then-list-len-clause-nodes : goal.returns-then-list-len-clause-nodes
 returns-then-list-len-clause-nodes c =

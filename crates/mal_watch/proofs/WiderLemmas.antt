@@ -1,0 +1,27 @@
+use Rattle.std.proofs.Common.{◌≡◌, ℕ, zero, suc, List, [], ◌∷◌, ◌++◌, replicate, Option, None, refl}
+use Rattle.mal_watch.specs.Chains.{link_at, IsChained}
+
+none-more : (m k : ℕ) → ◌≡◌ {A = Option ℕ} (link_at (replicate m None) k) None
+none-more zero k = refl
+none-more (suc m) zero = refl
+none-more (suc m) (suc k) = none-more m k
+
+head-more : (heads : List (Option ℕ)) (m k : ℕ) → link_at (heads ++ replicate m None) k ≡ link_at heads k
+head-more [] m k = none-more m k
+head-more (x ∷ xs) m zero = refl
+head-more (x ∷ xs) m (suc k) = head-more xs m k
+
+-- lists stay as they are where there are more of them, without a node
+pub wider : (heads links : List (Option ℕ)) (keys : List ℕ) (taken : Option ℕ) (m : ℕ) → IsChained heads links keys taken → IsChained (heads ++ replicate m None) links keys taken
+wider heads links keys taken m c =
+    record {
+      lists = c.lists;
+      linked = λ key. rw (head-more heads m key) (c.linked key);
+      out = c.out;
+      home = c.home;
+      apart = c.apart;
+      each = c.each;
+      once = c.once;
+      out_once = c.out_once;
+      long = c.long;
+    }
