@@ -1,2 +1,3 @@
 pub mod PostLemmas
 pub mod ReplayLemmas
+pub mod RunLemmas

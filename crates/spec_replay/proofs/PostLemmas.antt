@@ -1,13 +1,11 @@
 -- What is written down of a legal history posts what a script says exactly where its events do.
-use Rattle.std.proofs.Common.{◌≡◌, ℕ, zero, suc, ◌+◌, ◌<◌, ◌≤◌, Bool, true, false, ◌||◌, cond, List, [], ◌∷◌, ◌++◌, length, map, filter, flat_map, slice_get, Option, Some, None, option_map, refl, sym, ◌∙◌, ap, subst, arith, append_assoc, length-append}
+use Rattle.std.proofs.Common.{◌≡◌, ℕ, suc, ◌+◌, Bool, true, false, cond, List, [], ◌∷◌, ◌++◌, length, map, filter, flat_map, slice_get, Option, Some, None, option_map, refl, sym, ◌∙◌, ap, subst, arith, append_assoc, length-append}
 use Rattle.std.specs.List.{list_any}
 use Rattle.std.specs.Option.{option_map_or}
 use Rattle.std.proofs.lemmas.Bool.{or_parts}
-use Rattle.std.proofs.lemmas.List.{map-append}
 use Rattle.mal_history.specs.declared.event.Event as written
 use Rattle.mal_history.specs.declared.event.Event.TheVariants as of
 use Rattle.mal_revision.specs.Posted.{Posted}
-use Rattle.spec_job.specs.Titled.{Key}
 use Rattle.spec_hall.specs.Events.{Event, Open, Revise, Close, Balance, Start, Finish, Exchange, bare}
 use Rattle.spec_hall.specs.Dressed.{keyed}
 use Rattle.spec_hall.specs.Own.{is_key, is_text}
@@ -58,7 +56,7 @@ written-bare s (x ∷ xs) (y ∷ ys) e =
     ap (λ (z : written.Event). z ∷ xs) (sym (bare-given s x y head)) ∙ ap (λ (zs : List written.Event). bare y ∷ zs) (written-bare s xs ys tail)
 
 -- each event has what the script says
-abbrev AreScripted : Scripted → List Event → Type 0
+abbrev pub AreScripted : Scripted → List Event → Type 0
 AreScripted s events = AreWritten s (map bare events) events
 
 scripted-of : (s : Scripted) (lines : List written.Event) (events : List Event) → AreWritten s lines events → AreScripted s events
@@ -155,7 +153,7 @@ posted-scripted : (s : Scripted) (js : List ScriptedJob) → AreUnder s js → A
 posted-scripted s [] are = refl
 posted-scripted s (j ∷ js) are = scripted-append s (job_events j) (flat_map job_events js) (job-scripted s j are.0) (posted-scripted s js are.1)
 
-posts-scripted : (s : Scripted) (tenant : List ℕ) → IsScript served s → AreScripted s (posts_of tenant s)
+pub posts-scripted : (s : Scripted) (tenant : List ℕ) → IsScript served s → AreScripted s (posts_of tenant s)
 posts-scripted s tenant formed =
     let js : List ScriptedJob = jobs_of_tenant tenant s in
     scripted-append s (open_events js) (flat_map job_events js) (opened-scripted s js) (posted-scripted s js (filter-under s (λ j. is_text tenant j.tenant) s.jobs (all-under s [] s.jobs refl formed)))

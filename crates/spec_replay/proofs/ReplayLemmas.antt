@@ -1,14 +1,12 @@
 -- The answers to a replay exclude each other.
-use Rattle.std.proofs.Common.{◌≡◌, ◌≢◌, ℕ, zero, suc, ◌+◌, ◌<◌, ◌≤◌, List, [], ◌∷◌, ◌++◌, length, map, take, drop, slice_get, Option, Some, None, Result, Ok, Err, inl, inr, ◌⊎◌, refl, sym, ◌∙◌, ap, subst, arith, append_assoc, append-nil}
+use Rattle.std.proofs.Common.{◌≡◌, ℕ, zero, suc, ◌<◌, ◌≤◌, List, [], ◌∷◌, ◌++◌, take, slice_get, Some, Ok, Err, inl, inr, ◌⊎◌, refl, sym, ◌∙◌, ap, subst, arith, append_assoc, append-nil}
 use Rattle.std.proofs.lemmas.Bool.{cases_lt}
-use Rattle.std.proofs.lemmas.List.{map-append}
 use Rattle.mal_history.specs.declared.event.Event as written
 use Rattle.spec_hall.specs.Events.{Event}
-use Rattle.spec_hall.specs.Legal.{Allowed, Legal, LegalFrom}
-use Rattle.spec_replay.specs.declared.fault.ReplayFault.{ReplayFault}
+use Rattle.spec_hall.specs.Legal.{Allowed, LegalFrom}
 use Rattle.spec_replay.specs.declared.fault.ReplayFault.TheVariants.{NotLegal, NotComplete, OutOfMemory}
 use Rattle.spec_replay.specs.Laws.{ReplayIsDecided}
-use Rattle.spec_replay.specs.Replayed.{IsLegal, IsFirstRefused, IsReplied, IsLacking, IsRefusedAt, IsReplay}
+use Rattle.spec_replay.specs.Replayed.{IsLegal, IsFirstRefused}
 use Rattle.spec_replay.specs.Scripted.{AreWritten, event_by}
 use Rattle.spec_replay.proofs.PostLemmas.{some-same}
 use Rattle.spec_run.specs.Run.{replies}

@@ -1,8 +1,12 @@
-use Rattle.std.specs.Prelude.{◌≡◌, ◌≢◌, ℕ, List, Result, Err}
+use Rattle.std.specs.Prelude.{◌≡◌, ◌≢◌, ℕ, List, map, Result, Ok, Err}
 use Rattle.mal_history.specs.declared.event.Event as written
+use Rattle.spec_hall.specs.Events.{Event, bare}
 use Rattle.spec_replay.specs.declared.fault.ReplayFault.{ReplayFault}
 use Rattle.spec_replay.specs.declared.fault.ReplayFault.TheVariants.{OutOfMemory}
-use Rattle.spec_replay.specs.Replayed.{IsReplay}
+use Rattle.spec_replay.specs.Replayed.{IsReplay, IsReplied}
+use Rattle.spec_run.specs.Run.{IsRun}
+use Rattle.spec_script.specs.Formed.{IsScript}
+use Rattle.spec_script.specs.Limits.{served}
 use Rattle.spec_script.specs.Script.{Scripted}
 
 -- the answers exclude each other: where memory was wanting neither time, the answers to one history are the same
@@ -10,3 +14,16 @@ abbrev pub ReplayIsDecided : Type 0
 ReplayIsDecided =
     (workers : ℕ) (s : Scripted) (lines : List written.Event) (line_of : ℕ → ℕ) (one other : Result (List ℕ) ReplayFault)
     → IsReplay workers s lines line_of one → IsReplay workers s lines line_of other → one ≢ Err OutOfMemory → other ≢ Err OutOfMemory → one ≡ other
+
+-- a run's own history replays to its output: where a script was run, what the log writes down is a legal history, complete for the
+-- script, whose replies are the output
+abbrev pub RunIsReplied : Type 0
+RunIsReplied =
+    (workers : ℕ) (s : Scripted) (history : List Event) (log out : List ℕ)
+    → IsScript served s → IsRun workers s history log out → IsReplied workers s (map bare history) out
+
+-- so no replay of it answers anything else, unless memory is wanting
+abbrev pub RunIsReplayed : Type 0
+RunIsReplayed =
+    (workers : ℕ) (s : Scripted) (history : List Event) (log out : List ℕ) (line_of : ℕ → ℕ) (answer : Result (List ℕ) ReplayFault)
+    → IsScript served s → IsRun workers s history log out → IsReplay workers s (map bare history) line_of answer → answer ≢ Err OutOfMemory → answer ≡ Ok out

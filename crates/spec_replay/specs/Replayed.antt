@@ -1,5 +1,5 @@
 -- What is answered to a history that is replayed for a script.
-use Rattle.std.specs.Prelude.{◌≡◌, ℕ, List, slice_get, take, Option, Some, Result, Ok, Err}
+use Rattle.std.specs.Prelude.{◌≡◌, ℕ, List, slice_get, take, Some, Result, Ok, Err}
 use Rattle.mal_history.specs.declared.event.Event as written
 use Rattle.spec_hall.specs.Events.{Event}
 use Rattle.spec_hall.specs.Legal.{Allowed, Legal}

@@ -4,13 +4,20 @@
 mod fault;
 
 ghost use Rattle.spec_replay.specs.Examples.{HasEvents};
-ghost use Rattle.spec_replay.specs.Laws.{ReplayIsDecided};
+ghost use Rattle.spec_replay.specs.Laws.{ReplayIsDecided, RunIsReplayed, RunIsReplied};
 
 pub use fault::ReplayFault;
 
 /// There is one answer to a replay at most, where memory was not wanting.
 pub fn replay_is_decided()
     ensures { ReplayIsDecided }
+{}
+
+/// A run's own history replays to its output: it is legal and complete for the script, and its replies are the output. So a
+/// replay of it answers nothing else, where memory was not wanting.
+pub fn run_is_replayed()
+    ensures replied { RunIsReplied }
+    ensures replayed { RunIsReplayed }
 {}
 
 /// Worked examples of the event that a line stands for.
