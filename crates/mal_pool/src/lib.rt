@@ -15,6 +15,7 @@ mod shared;
 mod testing;
 #[cfg(test)]
 mod tests;
+mod trace;
 mod working;
 
 pub use answering::replies;

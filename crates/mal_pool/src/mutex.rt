@@ -1,10 +1,11 @@
 //! The board of a hall under a lock. A pass is the list of its caller's own calls, of which only contracts know.
 
 ghost use Rattle.std.specs.Prelude.{◌≡◌, []};
+ghost use Rattle.mal_pool.specs.Traces.{traced};
 
 use crate::board::{Board, InUse};
 use crate::shared::{Kept, Size};
-use http_server::Log;
+use crate::trace::Trace;
 use mal_hall::{Back, Desk, Hall, Pick, Post, PostFault, Strange};
 use mal_suspend::Done;
 use spec_hall::PickFault;
@@ -19,18 +20,18 @@ pub enum Noted {
     Posted(Snapshot<Post>, Snapshot<Result<(), PostFault>>),
 }
 
-/// A caller's own calls, in their order. It has no bytes.
+/// A caller's own calls, in their order. It has no bytes but those of the last call.
 #[derive(Drop)]
 pub struct OwnCalls {
-    log: Log<Noted, ()>,
+    log: Trace<Noted>,
 }
 
 impl OwnCalls {
     /// No call yet.
     pub fn new() -> OwnCalls
-        ensures { result.log.items ≡ [] }
+        ensures { traced result.log ≡ [] }
     {
-        OwnCalls { log: Log::new() }
+        OwnCalls { log: Trace::new() }
     }
 }
 
@@ -52,6 +53,7 @@ impl<S: Size> Shared<S> {
 impl<S: Size + Send + Sync> Desk for Shared<S> {
     ghost use Rattle.std.specs.Prelude.{map};
     ghost use Rattle.mal_pool.specs.Noting.{told_of};
+    ghost use Rattle.mal_pool.specs.Traces.{traced};
 
     type Pass = OwnCalls;
 
@@ -59,7 +61,7 @@ impl<S: Size + Send + Sync> Desk for Shared<S> {
 
     ghost is_of = { λ desk pass. Unit {0} };
 
-    ghost calls = { λ pass. map (λ entry. told_of entry.0) pass.log.items };
+    ghost calls = { λ pass. map told_of (traced pass.log) };
 
     fn pick<R: Wait>(
         &self,
@@ -69,7 +71,7 @@ impl<S: Size + Send + Sync> Desk for Shared<S> {
     ) -> (OwnCalls, Result<Pick, PickFault>) {
         let answer = self.kept.lock(rt).pick(worker);
         let noted = Noted::Picked(worker, Snapshot::of(&answer));
-        let log = pass.log.and(&noted, &());
+        let log = pass.log.and(noted);
         (OwnCalls { log }, answer)
     }
 
@@ -82,7 +84,7 @@ impl<S: Size + Send + Sync> Desk for Shared<S> {
         let given = Snapshot::of(&back);
         let answer = self.kept.lock(rt).finish(back);
         let noted = Noted::Gave(given, Snapshot::of(&answer));
-        let log = pass.log.and(&noted, &());
+        let log = pass.log.and(noted);
         (OwnCalls { log }, answer)
     }
 }
@@ -99,7 +101,7 @@ impl<S: Size + Send + Sync> Board for Shared<S> {
         let posted = Snapshot::of(&post);
         let answer = self.kept.lock(rt).post(post);
         let noted = Noted::Posted(posted, Snapshot::of(&answer));
-        let log = pass.log.and(&noted, &());
+        let log = pass.log.and(noted);
         (OwnCalls { log }, answer)
     }
 

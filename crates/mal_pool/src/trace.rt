@@ -1,0 +1,31 @@
+//! Lists that only contracts read.
+
+ghost use Rattle.std.specs.Prelude.{◌≡◌, [], ◌∷◌, ◌++◌};
+ghost use Rattle.mal_pool.specs.Traces.{traced};
+
+use std::snapshot::Snapshot;
+
+/// What came one after the other. Only the last item has bytes: what was before it is known to contracts alone, which see the
+/// whole as a list.
+#[derive(Drop)]
+pub enum Trace<T> {
+    Empty,
+    After(Snapshot<Trace<T>>, T),
+}
+
+impl<T: Drop> Trace<T> {
+    /// Nothing yet.
+    pub fn new() -> Trace<T>
+        ensures { traced result ≡ [] }
+    {
+        Trace::Empty
+    }
+
+    /// This behind what came before. Takes no memory.
+    pub fn and(self, last: T) -> Trace<T>
+        ensures { traced result ≡ traced self ++ last ∷ [] }
+    {
+        let before = Snapshot::of(&self);
+        Trace::After(before, last)
+    }
+}
