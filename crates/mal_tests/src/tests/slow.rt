@@ -1,0 +1,127 @@
+//! A board whose posts are slow.
+
+ghost use Rattle.std.specs.Prelude.{◌≡◌, ◌≤◌, IfOk};
+ghost use Rattle.mal_pool.specs.Posts.{HasRun};
+ghost use Rattle.spec_script.specs.Formed.{IsScript};
+ghost use Rattle.spec_script.specs.Limits.{served};
+
+use super::gates::losses;
+use super::scripts::{FOUR_REPLIES, FOUR_TENANTS};
+use mal_hall::{Back, Desk, Hall, Pick, Post, PostFault, Strange};
+use mal_pool::{Board, InUse, Kept, OwnCalls, PlainGate, Shared, Size, replies, run_with};
+use mal_script::Script;
+use mal_suspend::Done;
+use spec_hall::PickFault;
+use std::alloc::{AllocError, Global};
+use std::marker::Brand;
+use std::process::Abort;
+use std::sync::Wait;
+use std::test::Fail;
+use std::thread::{self, Threads};
+
+/// A board at which a poster waits so many turns before each post.
+#[derive(Drop)]
+struct Slow<B: Board> {
+    board: B,
+    turns: u32,
+}
+
+impl<B: Board> Desk for Slow<B> {
+    type Pass = B::Pass;
+
+    ghost workers = { λ desk. B.workers desk.board };
+
+    ghost is_of = { λ desk pass. B.is_of desk.board pass };
+
+    ghost calls = { λ pass. B.calls pass };
+
+    fn pick<R: Wait>(
+        &self,
+        rt: &R,
+        pass: B::Pass,
+        worker: u32,
+    ) -> (B::Pass, Result<Pick, PickFault>) {
+        self.board.pick(rt, pass, worker)
+    }
+
+    fn finish<R: Wait>(
+        &self,
+        rt: &R,
+        pass: B::Pass,
+        back: Done,
+    ) -> (B::Pass, Result<Back, Strange>) {
+        self.board.finish(rt, pass, back)
+    }
+}
+
+impl<B: Board> Board for Slow<B> {
+    ghost is_whole = { λ pass. B.is_whole pass };
+
+    fn post<R: Wait>(&self, rt: &R, pass: B::Pass, post: Post) -> (B::Pass, Result<(), PostFault>) {
+        for _ in 0..self.turns {
+            thread::yield_now();
+        }
+        self.board.post(rt, pass, post)
+    }
+
+    fn split(&self, pass: B::Pass) -> (B::Pass, B::Pass) {
+        self.board.split(pass)
+    }
+
+    fn join(&self, pass: B::Pass, other: B::Pass) -> B::Pass {
+        self.board.join(pass, other)
+    }
+
+    fn close(self, pass: B::Pass) -> Result<Hall, InUse> {
+        let Slow { board, turns: _ } = self;
+        board.close(pass)
+    }
+}
+
+/// Runs a script over a hall under a lock, whose posts are slow.
+fn run_slowly<S: Size + Send + Sync, R: Threads + Wait + Sync>(
+    rt: &R,
+    alloc: Global,
+    script: &Script,
+    workers: u32,
+    turns: u32,
+) -> Result<Hall, AllocError>
+    requires formed { IsScript served script.now }
+    requires some { 1 ≤ workers }
+    requires bound { workers ≤ 64 }
+    requires size { workers ≡ S.workers }
+    ensures { IfOk result (λ h. HasRun workers script.now h) }
+{
+    let board: Shared<S> = Shared::new(Kept::new(Hall::new(alloc, workers)?));
+    let slow = Slow { board, turns };
+    run_with(
+        rt,
+        alloc,
+        slow,
+        OwnCalls::new(),
+        script,
+        workers,
+        &PlainGate,
+    )
+}
+
+/// Four tenants post slowly, and are replied to as if they were quick.
+fn reply_slowly<R: Threads + Wait + Sync + Abort>(
+    rt: &R,
+    alloc: Global,
+    turns: u32,
+) -> Result<(), Fail> {
+    let workers = 4;
+    let script = mal_script::read(alloc, FOUR_TENANTS)?;
+    let hall = run_slowly::<Brand, R>(rt, alloc, &script, workers, turns)?;
+    let text = replies(alloc, &hall, &script)?;
+    assert_eq!(rt; text.as_slice(), FOUR_REPLIES);
+    assert_eq!(rt; losses(hall.history()), 0);
+    Ok(())
+}
+
+#[test]
+fn slow_posters_are_waited_for(rt: HostRuntime) -> Result<(), Fail> {
+    reply_slowly(&rt, rt.alloc(), 50)?;
+    reply_slowly(&rt, rt.alloc(), 20_000)
+}
