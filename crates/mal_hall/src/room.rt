@@ -1,7 +1,6 @@
 //! Whether a hall takes a further job, and a job a further revision.
 
 ghost use Rattle.std.specs.Prelude.{◌≡◌, ◌+◌, ◌<◌, ◌≤◌, ◌^◌, true, false, ◌==◌, if◌then◌else◌, List, [], length, Some, None, Err, MatchOption, IfOk, IfErr};
-ghost use Rattle.mal_base.specs.Formulas.{literals_of};
 ghost use Rattle.mal_revision.specs.Posted.{is_posted};
 ghost use Rattle.spec_job.specs.Solo.{clauses_in};
 ghost use Rattle.spec_hall.specs.Legal.{literals_in};
@@ -14,7 +13,7 @@ ghost use Rattle.mal_base.specs.Asks.{Terms};
 ghost use Rattle.spec_hall.specs.Legal.{job_of, jobs_of, tenant_count};
 ghost use Rattle.spec_job.specs.Titled.{Key};
 
-use mal_base::{Clause, Which};
+use mal_base::Which;
 use mal_job::Job;
 use mal_revision::Revision;
 use spec_hall::{OpenFault, ReviseFault};
@@ -64,7 +63,8 @@ pub fn next_number(job: &Job, revision: &Revision) -> Result<u32, ReviseFault>
     }
 }
 
-/// Which limit of a job a further revision would pass: 2^20 clauses, then 2^24 literals, over all revisions.
+/// Which limit of a job a further revision would pass: 2^20 clauses, then 2^24 literals, over all revisions. It goes over the
+/// revisions, of which there are 256 at most, and not over their clauses.
 fn limit_passed(revisions: &[Arc<Revision>], revision: &Revision) -> Option<Which>
     requires few { length (shared revisions.now) ≤ 256 }
     requires clauses { clauses_in (shared revisions.now) ≤ 2 ^ 20 }
@@ -75,7 +75,7 @@ fn limit_passed(revisions: &[Arc<Revision>], revision: &Revision) -> Option<Whic
     if clauses > 1_048_576 {
         return Some(Which::Clauses);
     }
-    let literals = count_literals(revisions) + literals_among(revision.clauses()) as u64;
+    let literals = count_literals(revisions) + revision.literals() as u64;
     if literals > 16_777_216 {
         return Some(Which::Literals);
     }
@@ -103,23 +103,7 @@ fn count_literals(revisions: &[Arc<Revision>]) -> u64
 {
     let mut count = 0;
     for revision in revisions {
-        count += literals_among(revision.clauses()) as u64;
-    }
-    count
-}
-
-/// How many literals the clauses have, at most 2^24.
-fn literals_among(clauses: &[Option<Clause>]) -> usize
-    requires { literals_of clauses.now ≤ 2 ^ 24 }
-    ensures value { result ≡ literals_of clauses.now }
-    ensures bound { result ≤ 2 ^ 24 }
-{
-    let mut count = 0;
-    for clause in clauses {
-        match clause {
-            None => {}
-            Some(clause) => count += clause.lits().len(),
-        }
+        count += revision.literals() as u64;
     }
     count
 }

@@ -33,6 +33,7 @@ mod tests {
         let revision = Revision::new(rt.alloc(), 2, clauses(rt.alloc())?, &assumed)?;
         assert_eq!(rt; revision.variables(), 2);
         assert_eq!(rt; revision.clauses().len(), 2);
+        assert_eq!(rt; revision.literals(), 2);
         assert_eq!(rt; revision.assumptions(), [lit(-1)?, lit(2)?].as_slice());
         let again = revision.copy(rt.alloc())?;
         assert!(rt; again.same(&revision));

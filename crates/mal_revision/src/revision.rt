@@ -1,6 +1,6 @@
 //! A revision: clauses that are added to a job, and assumptions for one answer.
 
-ghost use Rattle.std.specs.Prelude.{◌≡◌, ◌≤◌, ◌↔◌, ℕ, length, true, IsTrue, IfOk, IfErr, MatchResult};
+ghost use Rattle.std.specs.Prelude.{◌≡◌, ◌≤◌, ◌^◌, ◌↔◌, true, IsTrue, IfOk, IfErr, MatchResult};
 ghost use Rattle.mal_base.specs.Formulas.{literals_of};
 ghost use Rattle.mal_revision.specs.Posted.{Posted, is_posted};
 ghost use Rattle.mal_base.specs.Clauses.{climbs, HaveSame};
@@ -12,26 +12,31 @@ use crate::scan;
 use mal_base::{Clause, Lit};
 use std::alloc::{AllocError, Global};
 use std::marker::Model;
+use std::sync::Arc;
 
 /// A revision of a job: the number of its variables (at most 65,536), its clauses (at most 2^20 with at most 2^24
 /// literals; None stands for a tautology, which keeps its number and counts no literal) and its assumptions, by
-/// strictly rising variable. Contracts see the three.
+/// strictly rising variable. Contracts see the three. Copies share the lists, and the number of the literals is kept beside
+/// them, so that a copy and the limits take no walk over the clauses.
 #[derive(Drop)]
 pub struct Revision {
     variables: u32,
-    clauses: Vec<Option<Clause>>,
-    assumptions: Vec<Lit>,
+    literals: u32,
+    clauses: Arc<Vec<Option<Clause>>>,
+    assumptions: Arc<Vec<Lit>>,
 }
 
 impl Model for Revision {
     ghost use Rattle.std.specs.Prelude.{◌≡◌, true};
+    ghost use Rattle.std.specs.Arc.{arc_value};
+    ghost use Rattle.mal_base.specs.Formulas.{literals_of};
     ghost use Rattle.mal_revision.specs.Posted.{Posted, is_posted};
 
     ghost Value = { Posted };
 
-    ghost view = { λ r. record { variables = r.variables; clauses = r.clauses.items; assumptions = r.assumptions.items } };
+    ghost view = { λ r. record { variables = r.variables; clauses = (arc_value r.clauses).items; assumptions = (arc_value r.assumptions).items } };
 
-    ghost invariant = { λ r. is_posted (record { variables = r.variables; clauses = r.clauses.items; assumptions = r.assumptions.items }) ≡ true };
+    ghost invariant = { λ r. (is_posted (record { variables = r.variables; clauses = (arc_value r.clauses).items; assumptions = (arc_value r.assumptions).items }) ≡ true) × (r.literals ≡ literals_of (arc_value r.clauses).items) };
 }
 
 impl Revision {
@@ -54,11 +59,12 @@ impl Revision {
         let Ok(sorted) = Lit::sorted(alloc, assumptions) else {
             return Err(RevisionFault::OutOfMemory);
         };
-        Revision::of_sorted(variables, clauses, assumptions, sorted)
+        Revision::of_sorted(alloc, variables, clauses, assumptions, sorted)
     }
 
     /// The revision of these parts, where the assumptions have been sorted.
     fn of_sorted(
+        alloc: Global,
         variables: u32,
         clauses: Vec<Option<Clause>>,
         assumptions: &[Lit],
@@ -77,30 +83,48 @@ impl Revision {
             Some(var) => return Err(RevisionFault::VarTooLarge { var }),
             None => {}
         }
-        match scan::limit_passed(variables, clauses.as_slice()) {
-            Some(which) => return Err(RevisionFault::Limit { which }),
-            None => {}
+        match scan::literals_within(variables, clauses.as_slice()) {
+            Err(which) => Err(RevisionFault::Limit { which }),
+            Ok(literals) => Revision::shared(alloc, variables, literals, clauses, sorted),
         }
+    }
+
+    /// The revision of these parts, of which the clauses have so many literals. Its lists are shared from now on.
+    fn shared(
+        alloc: Global,
+        variables: u32,
+        literals: u32,
+        clauses: Vec<Option<Clause>>,
+        assumptions: Vec<Lit>,
+    ) -> Result<Revision, RevisionFault>
+        requires form { is_posted (record { variables = variables; clauses = clauses.items; assumptions = assumptions.items }) ≡ true }
+        requires sum { literals ≡ literals_of clauses.items }
+        ensures { MatchResult result (λ r. r ≡ record { variables = variables; clauses = clauses.items; assumptions = assumptions.items }) (λ e. e ≡ OutOfMemory) }
+    {
+        let Ok(clauses) = Arc::new(alloc, clauses) else {
+            return Err(RevisionFault::OutOfMemory);
+        };
+        let Ok(assumptions) = Arc::new(alloc, assumptions) else {
+            return Err(RevisionFault::OutOfMemory);
+        };
         Ok(Revision {
             variables,
+            literals,
             clauses,
-            assumptions: sorted,
+            assumptions,
         })
     }
 
-    /// An equal revision.
-    pub fn copy(&self, alloc: Global) -> Result<Revision, AllocError>
+    /// An equal revision. It shares the lists, so that it takes no memory of the allocator and is made at once, however many
+    /// clauses there are; an error only where they are shared 2^63 times.
+    pub fn copy(&self, _alloc: Global) -> Result<Revision, AllocError>
         ensures { IfOk result (λ r. r ≡ self.now) }
     {
-        let mut clauses = Vec::with_capacity(alloc, self.clauses.len())?;
-        for clause in &self.clauses {
-            clauses.push(copied(alloc, clause)?)?;
-        }
-        let assumptions = Vec::from_slice(alloc, self.assumptions.as_slice())?;
         Ok(Revision {
             variables: self.variables,
-            clauses,
-            assumptions,
+            literals: self.literals,
+            clauses: Arc::try_clone(&self.clauses)?,
+            assumptions: Arc::try_clone(&self.assumptions)?,
         })
     }
 
@@ -125,6 +149,14 @@ impl Revision {
         self.variables
     }
 
+    /// The number of the literals of the clauses, at most 2^24. It is kept, and takes no count.
+    pub fn literals(&self) -> u32
+        ensures value { result ≡ literals_of self.now.clauses }
+        ensures bound { result ≤ 2 ^ 24 }
+    {
+        self.literals
+    }
+
     /// The clauses, in the order of their numbers; None stands for a tautology.
     pub fn clauses(&self) -> &[Option<Clause>]
         ensures value { result.now ≡ self.now.clauses }
@@ -139,16 +171,6 @@ impl Revision {
         ensures form { is_posted self.now ≡ true }
     {
         self.assumptions.as_slice()
-    }
-}
-
-/// An equal clause, or none.
-fn copied(alloc: Global, clause: &Option<Clause>) -> Result<Option<Clause>, AllocError>
-    ensures { IfOk result (λ c. c ≡ clause.now) }
-{
-    match clause {
-        None => Ok(None),
-        Some(clause) => Ok(Some(clause.copy(alloc)?)),
     }
 }
 

@@ -1,6 +1,6 @@
 //! What a revision's parts are tested for.
 
-ghost use Rattle.std.specs.Prelude.{◌≡◌, ◌<◌, ℕ, true, None, nat_lt, length};
+ghost use Rattle.std.specs.Prelude.{◌≡◌, ◌<◌, ◌≤◌, true, Some, None, IfSome, IfOk, IfErr, MatchOption};
 ghost use Rattle.std.specs.List.{list_all};
 ghost use Rattle.mal_base.specs.Clauses.{clash};
 ghost use Rattle.mal_base.specs.Formulas.{is_within, is_clause_of, size_of, literals_of};
@@ -88,33 +88,36 @@ fn size(clause: &Option<Clause>) -> usize
     }
 }
 
-/// Whether the clauses have more than 2^24 literals.
-fn has_too_many_literals(clauses: &[Option<Clause>]) -> bool
-    ensures { result ≡ nat_lt 16777216 (literals_of clauses.now) }
+/// The number of the literals of the clauses, none where they have more than 2^24.
+fn literals_among(clauses: &[Option<Clause>]) -> Option<u32>
+    ensures value { MatchOption result (16777216 < literals_of clauses.now) (λ n. n ≡ literals_of clauses.now) }
+    ensures bound { IfSome result (λ n. n ≤ 16777216) }
 {
     let mut left: usize = 1 << 24;
     for clause in clauses {
         let size = size(clause);
         if left < size {
-            return true;
+            return None;
         }
         left -= size;
     }
-    false
+    Some((1 << 24) - left as u32)
 }
 
-/// The first limit that these variables and clauses pass.
-pub fn limit_passed(variables: u32, clauses: &[Option<Clause>]) -> Option<Which>
-    ensures { result ≡ limit_passed variables clauses.now }
+/// The number of the literals of the clauses, or the first limit that these variables and clauses pass.
+pub fn literals_within(variables: u32, clauses: &[Option<Clause>]) -> Result<u32, Which>
+    ensures within { IfOk result (λ n. limit_passed variables clauses.now ≡ None) }
+    ensures number { IfOk result (λ n. n ≡ literals_of clauses.now) }
+    ensures passed { IfErr result (λ which. limit_passed variables clauses.now ≡ Some which) }
 {
     if variables > Var::MAX {
-        return Some(Which::Variables);
+        return Err(Which::Variables);
     }
     if clauses.len() > 1 << 20 {
-        return Some(Which::Clauses);
+        return Err(Which::Clauses);
     }
-    if has_too_many_literals(clauses) {
-        return Some(Which::Literals);
+    match literals_among(clauses) {
+        None => Err(Which::Literals),
+        Some(literals) => Ok(literals),
     }
-    None
 }
