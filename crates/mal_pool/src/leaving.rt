@@ -8,20 +8,15 @@ use crate::posting::Left;
 use mal_base::Name;
 use mal_hall::{CloseFault, Hall, OpenFault, Post, PostFault, ReviseFault};
 use mal_script::ScriptJob;
-use std::alloc::{AllocError, Global};
+use std::alloc::AllocError;
 
 /// Posts what posters left, in their order. False where a post was refused for another cause than want of memory.
-pub fn post_left(
-    alloc: Global,
-    hall: &mut Hall,
-    jobs: &[ScriptJob],
-    left: &[Left],
-) -> Result<bool, AllocError>
+pub fn post_left(hall: &mut Hall, jobs: &[ScriptJob], left: &[Left]) -> Result<bool, AllocError>
     ensures workers { hall.new.workers ≡ hall.old.workers }
     ensures events { IfOk result (λ done. done ≡ true → hall.new.events ≡ posted_on hall.old.events (flat_map (left_by jobs.now) left.now)) }
 {
     for one in left {
-        if !post_from(alloc, hall, jobs, *one)? {
+        if !post_from(hall, jobs, *one)? {
             return Ok(false);
         }
     }
@@ -29,12 +24,7 @@ pub fn post_left(
 }
 
 /// Posts what one poster left: the rest of a job, and the later jobs of its tenant.
-fn post_from(
-    alloc: Global,
-    hall: &mut Hall,
-    jobs: &[ScriptJob],
-    left: Left,
-) -> Result<bool, AllocError>
+fn post_from(hall: &mut Hall, jobs: &[ScriptJob], left: Left) -> Result<bool, AllocError>
     ensures workers { hall.new.workers ≡ hall.old.workers }
     ensures events { IfOk result (λ done. done ≡ true → hall.new.events ≡ posted_on hall.old.events (left_by jobs.now left)) }
 {
@@ -42,15 +32,14 @@ fn post_from(
         return Ok(true);
     }
     let job = &jobs[left.job];
-    if !post_rest(alloc, hall, job, left.posted)? {
+    if !post_rest(hall, job, left.posted)? {
         return Ok(false);
     }
-    post_later(alloc, hall, jobs, job.tenant(), left.job + 1)
+    post_later(hall, jobs, job.tenant(), left.job + 1)
 }
 
 /// Posts the jobs of a tenant from a place of the script on.
 fn post_later(
-    alloc: Global,
     hall: &mut Hall,
     jobs: &[ScriptJob],
     tenant: Name,
@@ -61,7 +50,7 @@ fn post_later(
     ensures events { IfOk result (λ done. done ≡ true → hall.new.events ≡ posted_on hall.old.events (flat_map job_posts (of_tenant tenant (drop from jobs.now)))) }
 {
     for place in from..jobs.len() {
-        if !post_for(alloc, hall, tenant, &jobs[place])? {
+        if !post_for(hall, tenant, &jobs[place])? {
             return Ok(false);
         }
     }
@@ -69,32 +58,22 @@ fn post_later(
 }
 
 /// Posts the revisions and the closing of a job, if it is the tenant's.
-fn post_for(
-    alloc: Global,
-    hall: &mut Hall,
-    tenant: Name,
-    job: &ScriptJob,
-) -> Result<bool, AllocError>
+fn post_for(hall: &mut Hall, tenant: Name, job: &ScriptJob) -> Result<bool, AllocError>
     ensures workers { hall.new.workers ≡ hall.old.workers }
     ensures events { IfOk result (λ done. done ≡ true → hall.new.events ≡ posted_on hall.old.events (flat_map job_posts (of_tenant tenant (job.now ∷ [])))) }
 {
     if tenant == job.tenant() {
-        return post_rest(alloc, hall, job, 0);
+        return post_rest(hall, job, 0);
     }
     Ok(true)
 }
 
 /// Posts the revisions of a job behind the first ones, of which there are so many, and its closing.
-fn post_rest(
-    alloc: Global,
-    hall: &mut Hall,
-    job: &ScriptJob,
-    posted: usize,
-) -> Result<bool, AllocError>
+fn post_rest(hall: &mut Hall, job: &ScriptJob, posted: usize) -> Result<bool, AllocError>
     ensures workers { hall.new.workers ≡ hall.old.workers }
     ensures events { IfOk result (λ done. done ≡ true → hall.new.events ≡ posted_on hall.old.events (posts_behind posted job.now)) }
 {
-    if !post_revisions(alloc, hall, job, posted)? {
+    if !post_revisions(hall, job, posted)? {
         return Ok(false);
     }
     let closing = Post::Close {
@@ -105,17 +84,12 @@ fn post_rest(
 }
 
 /// Posts the revisions of a job behind the first ones, of which there are so many.
-fn post_revisions(
-    alloc: Global,
-    hall: &mut Hall,
-    job: &ScriptJob,
-    posted: usize,
-) -> Result<bool, AllocError>
+fn post_revisions(hall: &mut Hall, job: &ScriptJob, posted: usize) -> Result<bool, AllocError>
     ensures workers { hall.new.workers ≡ hall.old.workers }
     ensures events { IfOk result (λ done. done ≡ true → hall.new.events ≡ posted_on hall.old.events (revise_posts job.now (drop posted job.now.revisions))) }
 {
     for at in posted..job.revisions().len() {
-        let revision = job.revisions()[at].copy(alloc)?;
+        let revision = job.revisions()[at].copy()?;
         let post = Post::Revise {
             tenant: job.tenant(),
             job: job.name(),

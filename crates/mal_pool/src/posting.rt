@@ -10,7 +10,7 @@ use crate::board::Board;
 use mal_base::Name;
 use mal_hall::Post;
 use mal_script::ScriptJob;
-use std::alloc::{AllocError, Global};
+use std::alloc::AllocError;
 use std::sync::Wait;
 
 /// What a poster hands back: of the job at this place of the script so many revisions are posted, and no later job of its
@@ -52,7 +52,6 @@ pub fn open_all<R: Wait, B: Board>(
 /// wanting, and hands back the place.
 pub fn post_all<R: Wait, B: Board>(
     rt: &R,
-    alloc: Global,
     board: &B,
     pass: B::Pass,
     tenant: Name,
@@ -64,7 +63,7 @@ pub fn post_all<R: Wait, B: Board>(
 {
     let mut pass = pass;
     for place in 0..jobs.len() {
-        let (back, stopped) = post_for(rt, alloc, board, pass, tenant, &jobs[place]);
+        let (back, stopped) = post_for(rt, board, pass, tenant, &jobs[place]);
         pass = back;
         match stopped {
             Some(posted) => return (pass, Some(Left { job: place, posted })),
@@ -77,7 +76,6 @@ pub fn post_all<R: Wait, B: Board>(
 /// Posts the revisions and the closing of a job, if it is the tenant's. Where it stops, it tells how many revisions are posted.
 fn post_for<R: Wait, B: Board>(
     rt: &R,
-    alloc: Global,
     board: &B,
     pass: B::Pass,
     tenant: Name,
@@ -88,7 +86,7 @@ fn post_for<R: Wait, B: Board>(
     ensures calls { (mine : List Told) × (B.calls result.0 ≡ B.calls pass ++ mine) × HasPostedFor tenant job.now result.1 mine }
 {
     if tenant == job.tenant() {
-        return post_job(rt, alloc, board, pass, job);
+        return post_job(rt, board, pass, job);
     }
     (pass, None)
 }
@@ -96,7 +94,6 @@ fn post_for<R: Wait, B: Board>(
 /// Posts the revisions and the closing of a job. Where it stops, it tells how many revisions are posted.
 fn post_job<R: Wait, B: Board>(
     rt: &R,
-    alloc: Global,
     board: &B,
     pass: B::Pass,
     job: &ScriptJob,
@@ -107,7 +104,7 @@ fn post_job<R: Wait, B: Board>(
 {
     let mut pass = pass;
     for posted in 0..job.revisions().len() {
-        let (back, done) = post_revision(rt, alloc, board, pass, job, posted);
+        let (back, done) = post_revision(rt, board, pass, job, posted);
         pass = back;
         if !done {
             return (pass, Some(posted));
@@ -124,7 +121,6 @@ fn post_job<R: Wait, B: Board>(
 /// refused.
 fn post_revision<R: Wait, B: Board>(
     rt: &R,
-    alloc: Global,
     board: &B,
     pass: B::Pass,
     job: &ScriptJob,
@@ -136,7 +132,7 @@ fn post_revision<R: Wait, B: Board>(
     ensures taken { result.1 ≡ true → B.calls result.0 ≡ B.calls pass ++ taken (posts.Revise job.now.tenant job.now.name (get_or job.now.revisions at no_revision) ∷ []) }
     ensures refused { result.1 ≡ false → (last : List Told) × IsRefusal last × (B.calls result.0 ≡ B.calls pass ++ last) }
 {
-    let revision = match job.revisions()[at].copy(alloc) {
+    let revision = match job.revisions()[at].copy() {
         Ok(revision) => revision,
         Err(_) => return (pass, false),
     };

@@ -60,7 +60,7 @@ pub fn play<R: Wait, B: Board, G: Gate>(
     match role.part {
         Part::Poster(place) => {
             let tenant = jobs[place].tenant();
-            let (pass, left) = post_all(rt, alloc, board, role.pass, tenant, jobs);
+            let (pass, left) = post_all(rt, board, role.pass, tenant, jobs);
             Played {
                 pass,
                 left,

@@ -148,7 +148,7 @@ fn settle(
     ensures settled { IfOk result (λ o. IfSome o (λ h. IsSettled hall.workers jobs.now left.now hall.events h.events)) }
 {
     let mut hall = hall;
-    if !post_left(alloc, &mut hall, jobs, left)? {
+    if !post_left(&mut hall, jobs, left)? {
         return Ok(None);
     }
     hall.recall();

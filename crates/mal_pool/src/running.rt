@@ -34,7 +34,7 @@ pub fn run_alone(alloc: Global, script: &Script, workers: u32) -> Result<Hall, A
     let mut scratch = Scratch::new(alloc);
     let mut hall = Hall::new(alloc, workers)?;
     open_all(&mut hall, script.jobs())?;
-    post_all(alloc, &mut hall, script.jobs())?;
+    post_all(&mut hall, script.jobs())?;
     hall.drive(&mut scratch)?;
     let _ = hall.history();
     Ok(hall)
@@ -69,32 +69,32 @@ fn open(hall: &mut Hall, job: &ScriptJob) -> Result<(), AllocError>
 }
 
 /// Posts the revisions and the closings of a script's jobs, all of which were just opened.
-fn post_all(alloc: Global, hall: &mut Hall, jobs: &[ScriptJob]) -> Result<(), AllocError>
+fn post_all(hall: &mut Hall, jobs: &[ScriptJob]) -> Result<(), AllocError>
     requires opened { hall.old.events ≡ open_events jobs.now }
     requires follow { MayAllFollow served [] jobs.now }
     ensures workers { hall.new.workers ≡ hall.old.workers }
     ensures events { OnOk result (hall.new.events ≡ hall.old.events ++ flat_map job_events jobs.now) }
 {
     for job in jobs {
-        post(alloc, hall, job)?;
+        post(hall, job)?;
     }
     Ok(())
 }
 
 /// Posts the revisions and the closing of a job.
-fn post(alloc: Global, hall: &mut Hall, job: &ScriptJob) -> Result<(), AllocError>
+fn post(hall: &mut Hall, job: &ScriptJob) -> Result<(), AllocError>
     requires opened { IsOpen (key_of_job job.now) [] hall.old.events }
     requires formed { IsJob served job.now }
     ensures workers { hall.new.workers ≡ hall.old.workers }
     ensures events { OnOk result (hall.new.events ≡ hall.old.events ++ job_events job.now) }
 {
-    revise_all(alloc, hall, job)?;
+    revise_all(hall, job)?;
     close(hall, job);
     Ok(())
 }
 
 /// Posts the revisions of a job that has none.
-fn revise_all(alloc: Global, hall: &mut Hall, job: &ScriptJob) -> Result<(), AllocError>
+fn revise_all(hall: &mut Hall, job: &ScriptJob) -> Result<(), AllocError>
     requires opened { IsOpen (key_of_job job.now) [] hall.old.events }
     requires formed { IsJob served job.now }
     ensures workers { hall.new.workers ≡ hall.old.workers }
@@ -102,23 +102,18 @@ fn revise_all(alloc: Global, hall: &mut Hall, job: &ScriptJob) -> Result<(), All
     ensures opened { OnOk result (IsOpen (key_of_job job.now) job.now.revisions hall.new.events) }
 {
     for revision in job.revisions() {
-        revise(alloc, hall, job, revision)?;
+        revise(hall, job, revision)?;
     }
     Ok(())
 }
 
 /// Posts the next revision of a job.
-fn revise(
-    alloc: Global,
-    hall: &mut Hall,
-    job: &ScriptJob,
-    revision: &Revision,
-) -> Result<(), AllocError>
+fn revise(hall: &mut Hall, job: &ScriptJob, revision: &Revision) -> Result<(), AllocError>
     requires { (t : Titled) × MayRevise hall.old.events (key_of_job job.now) (next_number (key_of_job job.now) hall.old.events) revision.now t }
     ensures workers { hall.new.workers ≡ hall.old.workers }
     ensures events { OnOk result (hall.new.events ≡ hall.old.events ++ Revise (key_of_job job.now) (next_number (key_of_job job.now) hall.old.events) revision.now ∷ []) }
 {
-    let revision = revision.copy(alloc)?;
+    let revision = revision.copy()?;
     match hall.revise_job(&job.tenant(), &job.name(), revision) {
         Ok(()) => Ok(()),
         Err(ReviseFault::NoJob) => unreachable!(),

@@ -11,14 +11,10 @@ use mal_base::Name;
 use mal_history::Event;
 use mal_revision::Revision;
 use mal_script::{Script, ScriptJob};
-use std::alloc::{AllocError, Global};
+use std::alloc::AllocError;
 
 /// What the script posts in an event: a copy of its revision, none where it lacks the revision or the event is no Revise.
-pub fn posted_in(
-    alloc: Global,
-    script: &Script,
-    event: &Event,
-) -> Result<Option<Revision>, AllocError>
+pub fn posted_in(script: &Script, event: &Event) -> Result<Option<Revision>, AllocError>
     ensures { IfOk result (λ o. o ≡ posted_in script.now event.now) }
 {
     match event {
@@ -27,7 +23,7 @@ pub fn posted_in(
             tenant,
             job,
             number,
-        } => copied(alloc, script, *tenant, *job, *number),
+        } => copied(script, *tenant, *job, *number),
         Event::Close { .. } => Ok(None),
         Event::Balance { .. } => Ok(None),
         Event::Start { .. } => Ok(None),
@@ -38,7 +34,6 @@ pub fn posted_in(
 
 /// A copy of the revision of this number that a script has for a job, none where it lacks it.
 fn copied(
-    alloc: Global,
     script: &Script,
     tenant: Name,
     job: Name,
@@ -48,7 +43,7 @@ fn copied(
 {
     match revision_in(script, tenant, job, number) {
         None => Ok(None),
-        Some(revision) => Ok(Some(revision.copy(alloc)?)),
+        Some(revision) => Ok(Some(revision.copy()?)),
     }
 }
 

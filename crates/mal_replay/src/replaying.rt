@@ -72,7 +72,7 @@ fn enter_all(alloc: Global, script: &Script, history: &History) -> Result<Hall, 
         Err(_) => return Err(ReplayFault::OutOfMemory),
     };
     for n in 0..history.events().len() {
-        hall = match enter(alloc, script, history, hall, n, &mut scratch) {
+        hall = match enter(script, history, hall, n, &mut scratch) {
             Ok(hall) => hall,
             Err(fault) => return Err(fault),
         };
@@ -82,7 +82,6 @@ fn enter_all(alloc: Global, script: &Script, history: &History) -> Result<Hall, 
 
 /// Enters the event at this place, counted from 0, behind those before it.
 fn enter(
-    alloc: Global,
     script: &Script,
     history: &History,
     hall: Hall,
@@ -96,7 +95,7 @@ fn enter(
 {
     let _ = hall.history();
     let event = &history.events()[n];
-    let posted = match posted_in(alloc, script, event) {
+    let posted = match posted_in(script, event) {
         Ok(posted) => posted,
         Err(_) => return Err(ReplayFault::OutOfMemory),
     };

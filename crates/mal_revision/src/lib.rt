@@ -35,7 +35,7 @@ mod tests {
         assert_eq!(rt; revision.clauses().len(), 2);
         assert_eq!(rt; revision.literals(), 2);
         assert_eq!(rt; revision.assumptions(), [lit(-1)?, lit(2)?].as_slice());
-        let again = revision.copy(rt.alloc())?;
+        let again = revision.copy()?;
         assert!(rt; again.same(&revision));
         let other = Revision::new(rt.alloc(), 2, clauses(rt.alloc())?, &[])?;
         assert!(rt; !again.same(&other));

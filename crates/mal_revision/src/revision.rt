@@ -115,9 +115,9 @@ impl Revision {
         })
     }
 
-    /// An equal revision. It shares the lists, so that it takes no memory of the allocator and is made at once, however many
-    /// clauses there are; an error only where they are shared 2^63 times.
-    pub fn copy(&self, _alloc: Global) -> Result<Revision, AllocError>
+    /// An equal revision. It shares the lists, so that it takes no memory and is made at once, however many clauses there are;
+    /// an error only where they are shared 2^63 times.
+    pub fn copy(&self) -> Result<Revision, AllocError>
         ensures { IfOk result (λ r. r ≡ self.now) }
     {
         Ok(Revision {
