@@ -230,8 +230,8 @@ impl<E: Engine> Node<E> {
         ensures fitted { OnOk result (greatest (posted loads.now) self.old.state.variables < scratch.new.room) }
         ensures more { scratch.old.room ≤ scratch.new.room }
         ensures state { self.new.state ≡ self.old.state }
+        ensures kept { OnErr result (self.new.lines ≡ self.old.lines) }
     {
-        self.lines.clear();
         let needs = needs::needs_with(loads, picks, self.variables)?;
         let added = needs.variables - self.variables;
         let numbers = most_numbers(needs.variables);
@@ -244,6 +244,7 @@ impl<E: Engine> Node<E> {
         self.engine.reserve(needs.variables, clauses, literals)?;
         self.lines.reserve(SLICE_STEPS as usize, numbers, numbers)?;
         scratch.fit(needs.variables)?;
+        self.lines.clear();
         Ok(())
     }
 
@@ -576,8 +577,8 @@ impl<E: Engine> Node<E> {
 
 impl<E: Listed> Node<E> {
     /// Loads revisions, each with the number of its first clause, one after another, then imports what was told, one list
-    /// after another, and makes room for a slice in the node and in a scratch. Where memory is wanting the state of the
-    /// node stays as it was. The lines of the last slice are taken away.
+    /// after another, and makes room for a slice in the node and in a scratch. Where memory is wanting the node's state and
+    /// its lines stay as they were; else the lines of the last slice are taken away.
     pub fn ready(
         &mut self,
         loads: &[(&Revision, u32)],
@@ -588,6 +589,7 @@ impl<E: Listed> Node<E> {
         requires told { MayImportAll (lent imports.now) (readied (posted loads.now) self.old.state) }
         ensures loaded { OnOk result (self.new.state ≡ all_imported (lent imports.now) (readied (posted loads.now) self.old.state)) }
         ensures unchanged { OnErr result (self.new.state ≡ self.old.state) }
+        ensures kept { OnErr result (self.new.lines ≡ self.old.lines) }
         ensures stocked { OnOk result (HasSliceRoom self.new) }
         ensures fitted { OnOk result (self.new.state.variables < scratch.new.room) }
         ensures more { scratch.old.room ≤ scratch.new.room }
