@@ -10,3 +10,4 @@ pub mod TurnLemmas
 pub mod FoundLemmas
 pub mod FollowLemmas
 pub mod WiderLemmas
+pub mod NodeLemmas

@@ -1,6 +1,7 @@
 pub mod Links
 pub mod LinkLaws
 pub mod Chains
+pub mod Nodes
 pub mod Rowed
 pub mod Pairs
 pub mod Watching

@@ -11,14 +11,20 @@ use std::marker::Model;
 /// So many nodes there may be.
 const MOST: usize = 4_294_967_295;
 
+/// The node behind this one in its list, and the literal whose list it is.
+#[derive(Clone, Copy)]
+struct Node {
+    link: Link,
+    key: Lit,
+}
+
 /// Nodes, each in the list of its literal, but for those that were taken out of a list and not put back yet. Contracts see
 /// each node's literal, the nodes taken out, in the order in which they go back, how many lists there are (one for each
 /// code of a literal below this number), and how many nodes more there is room for.
 #[derive(Drop)]
 pub struct Chains {
     heads: Vec<Link>,
-    links: Vec<Link>,
-    keys: Vec<Lit>,
+    nodes: Vec<Node>,
     taken: Link,
 }
 
@@ -27,17 +33,18 @@ impl Model for Chains {
     ghost use Rattle.std.specs.Vec.{vec_len, vec_capacity};
     ghost use Rattle.mal_watch.specs.Chains.{Chained, IsChained, chain};
     ghost use Rattle.mal_watch.specs.Links.{nowhere};
+    ghost use Rattle.mal_watch.specs.Nodes.{links_of, keys_of};
 
     ghost Value = { Chained };
 
     ghost view = { λ c. record {
-      keys = c.keys.items;
-      out = chain c.links.items (length c.links.items) c.taken;
+      keys = keys_of c.nodes.items;
+      out = chain (links_of c.nodes.items) (length (links_of c.nodes.items)) c.taken;
       lists = length c.heads.items;
-      room = min (min (vec_capacity c.links - vec_len c.links) (vec_capacity c.keys - vec_len c.keys)) (nowhere - vec_len c.links);
+      room = min (vec_capacity c.nodes - vec_len c.nodes) (nowhere - vec_len c.nodes);
     } };
 
-    ghost invariant = { λ c. IsChained c.heads.items c.links.items c.keys.items c.taken };
+    ghost invariant = { λ c. IsChained c.heads.items (links_of c.nodes.items) (keys_of c.nodes.items) c.taken };
 }
 
 impl Chains {
@@ -48,8 +55,7 @@ impl Chains {
     {
         Chains {
             heads: Vec::new(alloc),
-            links: Vec::new(alloc),
-            keys: Vec::new(alloc),
+            nodes: Vec::new(alloc),
             taken: Link::none(),
         }
     }
@@ -63,11 +69,10 @@ impl Chains {
         ensures keys { self.new.keys ≡ self.old.keys }
         ensures out { self.new.out ≡ self.old.out }
     {
-        if MOST - self.links.len().min(MOST) < nodes {
+        if MOST - self.nodes.len().min(MOST) < nodes {
             return Err(AllocError);
         }
-        self.links.reserve(nodes)?;
-        self.keys.reserve(nodes)?;
+        self.nodes.reserve(nodes)?;
         if self.heads.len() < lists {
             self.heads.resize(lists, Link::none())?;
         }
@@ -79,7 +84,7 @@ impl Chains {
         requires { node < length self.now.keys }
         ensures { result ≡ slice_index self.now.keys node }
     {
-        self.keys[node]
+        self.nodes[node].key
     }
 
     /// Adds a node to the list of a literal. Takes no memory.
@@ -92,9 +97,9 @@ impl Chains {
         ensures room { self.old.room ≤ self.new.room + 1 }
     {
         let list = key.code() as usize;
-        let node = self.links.len();
-        self.links.push_reserved(self.heads[list]);
-        self.keys.push_reserved(key);
+        let node = self.nodes.len();
+        let link = self.heads[list];
+        self.nodes.push_reserved(Node { link, key });
         self.heads[list] = Link::to(node);
     }
 
@@ -132,9 +137,10 @@ impl Chains {
     {
         let list = key.code() as usize;
         let first = self.taken;
-        self.taken = self.links[node];
-        self.links[node] = self.heads[list];
+        let next = self.nodes[node].link;
+        let link = self.heads[list];
+        self.taken = next;
+        self.nodes[node] = Node { link, key };
         self.heads[list] = first;
-        self.keys[node] = key;
     }
 }

@@ -4,7 +4,7 @@ use Rattle.mal_watch.proofs.chains.Chains.new.Goals as goal
 
 pub invariant_of-result : goal.invariant_of-result
 invariant_of-result c =
-    rw (c.new.ensures.items, c.new-2.ensures.items, c.new-3.ensures.items, c.none.ensures)
+    rw (c.new.ensures.items, c.new-2.ensures.items, c.none.ensures)
     (record {
       lists = λ key. [];
       linked = λ key. refl;
