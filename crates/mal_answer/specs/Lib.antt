@@ -4,3 +4,4 @@ pub mod Commands
 pub mod Served
 pub mod Answers
 pub mod Claims
+pub mod Laws

@@ -1,0 +1,22 @@
+-- A run's own history replays to its output.
+use Rattle.std.proofs.Common.{◌≡◌, ℕ, List, ◌++◌, map, codes, Ok, refl, sym, subst}
+use Rattle.mal_answer.specs.Commands.{Gives, IsRunOf}
+use Rattle.mal_answer.specs.Laws.{RunReplays}
+use Rattle.mal_history.specs.Formed.{IsHistory, written_read}
+use Rattle.mal_history.specs.Text.{history_text}
+use Rattle.spec_account.specs.Accounts.{Account}
+use Rattle.spec_account.specs.Grammar.{Spells}
+use Rattle.spec_account.proofs.AgainLemmas.{written-is-read}
+use Rattle.spec_account.proofs.ReadLemmas.{spelled-is-read}
+use Rattle.spec_hall.specs.Events.{bare}
+use Rattle.spec_replay.proofs.RunLemmas.{run-is_replied}
+use Rattle.spec_script.specs.Formed.{IsScript}
+use Rattle.spec_script.specs.Limits.{served}
+use Rattle.spec_script.specs.Script.{Scripted, spelling}
+
+pub run-replays : RunReplays
+run-replays workers s log out run formed within =
+    let a : Account = record { script = s; history = written_read workers (map bare run.history) } in
+    let spelled : Spells (spelling s ++ (codes "history\n" ++ history_text workers (map bare run.history))) a =
+    (spelled-is-read (spelling s ++ (codes "history\n" ++ history_text workers (map bare run.history))) a).1 (written-is-read s workers (map bare run.history) formed within) in
+    (a, subst (λ (text : List ℕ). Spells (spelling s ++ (codes "history\n" ++ text)) a) (sym run.run.log_text) spelled, run-is_replied workers s run.history log out formed run.run, refl)

@@ -1,0 +1,16 @@
+-- What holds of every run, in the form in which the law function states it.
+use Rattle.std.specs.Prelude.{ℕ, List, [], ◌++◌, map, codes}
+use Rattle.mal_answer.specs.Commands.{Gives, IsRunOf}
+use Rattle.mal_history.specs.Formed.{IsHistory}
+use Rattle.mal_words.specs.declared.request.Request.TheVariants.{Replay}
+use Rattle.spec_hall.specs.Events.{bare}
+use Rattle.spec_script.specs.Formed.{IsScript}
+use Rattle.spec_script.specs.Limits.{served}
+use Rattle.spec_script.specs.Script.{Scripted, spelling}
+
+-- where a script was run, replaying the text that is the script's, the line `history` and the run's log gives the run's output, unless
+-- the history is longer than a text of one may be, or otherwise out of form
+abbrev pub RunReplays : Type 0
+RunReplays =
+    (workers : ℕ) (s : Scripted) (log out : List ℕ) (run : IsRunOf workers s log out) → IsScript served s → IsHistory workers (map bare run.history)
+    → Gives Replay (spelling s ++ (codes "history\n" ++ log)) [] out
