@@ -1,4 +1,4 @@
-use Rattle.std.proofs.Common.{◌≡◌, ℕ, zero, suc, ◌+◌, ◌<◌, ◌≤◌, Bool, true, false, not, ◌&&◌, ◌==◌, ◌≢◌, eqb, nat_lt, nat_le, nat_eq, List, [], ◌∷◌, ◌++◌, length, take, get_or, Option, Some, None, sym, refl, ap, ◌∙◌, subst, arith}
+use Rattle.std.proofs.Common.{◌≡◌, ℕ, zero, suc, ◌+◌, ◌<◌, ◌≤◌, Bool, true, false, not, ◌&&◌, ◌==◌, ◌≢◌, eqb, nat_lt, nat_le, nat_eq, List, [], ◌∷◌, ◌++◌, length, take, drop, get_or, Option, Some, None, sym, refl, ap, ◌∙◌, subst, arith}
 use Rattle.std.specs.Prelude.{◌||◌}
 use Rattle.std.specs.List.{slice_get, list_any}
 use Rattle.std.proofs.lemmas.Bool.{and_parts, and_from, eqb-true, eq-eqb, false≢true}
@@ -17,6 +17,7 @@ use Rattle.mal_freeze.specs.Imaged.{IsImage, are_new, is_new, are_clauses, are_l
 use Rattle.mal_freeze.proofs.ListLemmas.{take-at}
 use Rattle.mal_cdcl.specs.Within.{IsNode, is_order_of}
 use Rattle.mal_cdcl.specs.Rising.{all_rise}
+use Rattle.mal_cdcl.specs.Told.{lits_in}
 use Rattle.mal_cdcl.proofs.StepLemmas.{test_le}
 
 test_lt : (a b : ℕ) → nat_lt a b ≡ true → a < b
@@ -172,3 +173,12 @@ image-turned n i =
 -- there are no more variables than the order of an image has
 pub image-order : (n : Node) → IsImage n → length n.order ≤ 65536
 image-order n i = let same : length n.order ≡ n.variables = eqb-true (length n.order) n.variables (and_parts (length n.order == n.variables) (are_new n.variables [] n.order) i.order).0 in omega (arith, i.ranges.variables)
+
+-- the literals of the clauses from one on are its own and those of the clauses behind it
+pub lits-next : (cs : List Held) (i : ℕ) (c d : Held) → i < length cs → c ≡ get_or cs i d → lits_in (drop i cs) ≡ length c.lits + lits_in (drop (suc i) cs)
+lits-next [] i c d l e = absurd (omega arith)
+lits-next (x ∷ xs) zero c d l e = rw e refl
+lits-next (x ∷ xs) (suc i) c d l e = lits-next xs i c d (omega arith) e
+
+pub lits-after : (cs : List Held) (i : ℕ) (c d : Held) → i < length cs → c ≡ get_or cs i d → lits_in (drop i cs) ≡ length c.lits + lits_in (drop (i + 1) cs)
+lits-after cs i c d l e = let q : i + 1 ≡ suc i = omega arith in rw q (lits-next cs i c d l e)

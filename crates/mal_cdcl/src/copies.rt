@@ -4,7 +4,9 @@ ghost use Rattle.std.specs.Prelude.{◌≡◌, ◌≤◌, true, List, [], IfOk};
 ghost use Rattle.mal_base.specs.Clauses.{rises};
 ghost use Rattle.mal_freeze.specs.Imaged.{are_clauses, numbers_rise};
 ghost use Rattle.mal_cdcl.specs.Rising.{all_rise};
+ghost use Rattle.mal_cdcl.specs.Told.{lits_in};
 
+use crate::needs::added;
 use mal_base::{Clause, ClauseId, Lit};
 use mal_freeze::HeldClause;
 use mal_trail::{Engine, Listed, Trail};
@@ -34,6 +36,17 @@ pub fn clauses_of<E: Listed>(alloc: Global, engine: &E) -> Result<Vec<HeldClause
     Ok(clauses)
 }
 
+/// How many literals these clauses have. A size that no memory holds is want of memory.
+fn count_held(clauses: &[HeldClause]) -> Result<usize, AllocError>
+    ensures { IfOk result (λ n. n ≡ lits_in clauses.now) }
+{
+    let mut count = 0;
+    for held in clauses {
+        count = added(count, held.clause().lits().len())?;
+    }
+    Ok(count)
+}
+
 /// An engine of these clauses, whose numbers rise, which fits a trail.
 pub fn engine_of<E: Engine>(
     alloc: Global,
@@ -48,10 +61,10 @@ pub fn engine_of<E: Engine>(
     ensures fits { IfOk result (λ e. E.fits e trail.now.entries trail.now.processed) }
 {
     let mut engine = E::new(alloc);
+    let literals = count_held(clauses)?;
+    engine.reserve(variables, clauses.len(), literals)?;
     for held in clauses {
-        let clause = held.clause();
-        engine.reserve(variables, 1, clause.lits().len())?;
-        engine.load(held.id(), clause, trail);
+        engine.load(held.id(), held.clause(), trail);
     }
     Ok(engine)
 }
