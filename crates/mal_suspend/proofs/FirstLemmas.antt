@@ -22,7 +22,7 @@ use Rattle.mal_suspend.specs.Replaying.{MayAllReplay}
 new-numbers : (i : ℕ) (r : Posted) → 1 + length r.clauses ≤ 2 ^ 32 → AreNewNumbers r 1 (fresh i)
 new-numbers i r b = record { some = omega arith; above = All-nil (λ (c : Held). c.id < 2 ^ 32 → c.id < 1); below = b }
 
-sound-first : (i : ℕ) (r : Posted) → i ≤ 63 → is_posted r ≡ true → 1 + length r.clauses ≤ 2 ^ 32 → IsSound (loaded r 1 (fresh i))
+pub sound-first : (i : ℕ) (r : Posted) → i ≤ 63 → is_posted r ≡ true → 1 + length r.clauses ≤ 2 ^ 32 → IsSound (loaded r 1 (fresh i))
 sound-first i r l p b = loaded-sound r 1 (fresh i) p (posted-literals r p) (new-numbers i r b) (fresh-sound i l)
 
 -- a node at its first start may load a revision and run a slice

@@ -3,3 +3,4 @@ pub mod StartLemmas
 mod EntryLemmas
 mod FirstLemmas
 pub mod FormLemmas
+pub mod GoingLemmas

@@ -5,9 +5,15 @@
 mod done;
 mod entry;
 mod frozen;
+#[cfg(test)]
+mod going;
+#[cfg(test)]
+mod going_tests;
 mod journal;
 mod kept;
 mod lease;
+#[cfg(test)]
+mod lease_tests;
 mod lending;
 mod rebuilding;
 mod start;
