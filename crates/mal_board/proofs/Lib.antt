@@ -1,0 +1,3 @@
+pub mod CallLemmas
+pub mod Crossings
+pub mod LossLemmas

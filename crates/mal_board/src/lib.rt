@@ -1,0 +1,11 @@
+//! The shared service as a board: tenants post and workers work at the same time, and every call of theirs is one entry of one
+//! legal record.
+#![tactic(auto)]
+
+mod laws;
+mod run;
+mod served;
+
+pub use laws::records_lose_none;
+pub use run::run_served;
+pub use served::Served;
