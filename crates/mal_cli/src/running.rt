@@ -11,9 +11,10 @@ ghost use Rattle.spec_script.specs.Formed.{IsScript};
 ghost use Rattle.spec_script.specs.Limits.{served};
 
 use mal_answer::{Complaint, Texts, input, script_of};
+use mal_board::run_served;
 use mal_hall::Hall;
 use mal_io::Source;
-use mal_pool::{Gate, replies, run_all, run_alone};
+use mal_pool::{Gate, replies, run_alone};
 use mal_script::Script;
 use std::alloc::{AllocError, Global};
 use std::sync::Wait;
@@ -103,7 +104,7 @@ pub fn run_script<R: Threads + Wait + Sync, G: Gate>(
     requires bound { workers ≤ 64 }
     ensures { IfOk result (λ t. IsRunOf workers script.now t.log.items t.out.items) }
 {
-    let hall = run_all(rt, alloc, script, workers, gate)?;
+    let hall = run_served(rt, alloc, script, workers, gate)?;
     texts_of(alloc, script, &hall)
 }
 
