@@ -54,7 +54,7 @@ fn four_workers_reply_to_four_tenants(rt: HostRuntime) -> Result<(), Fail> {
 }
 
 /// How often a script is run with each number of workers.
-const TIMES: u32 = 25;
+const TIMES: u32 = 6;
 
 /// The replies to the jobs of demand 1, which stand first in the script.
 fn single_replies(alloc: Global) -> Result<Vec<u8>, Fail> {
