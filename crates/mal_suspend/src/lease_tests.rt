@@ -88,7 +88,8 @@ fn a_late_lease_and_the_one_after_it_are_frozen(rt: HostRuntime) -> Result<(), F
     Ok(())
 }
 
-/// How many bytes a frozen node has that is thawed and frozen again. Where memory for that is wanting, those that come back.
+/// How many bytes a frozen node has that is thawed and frozen again: those that come back where the thaw is refused, and none
+/// where the freeze is, after which the journal is that of no start.
 fn thaw_and_freeze(frozen: Frozen) -> usize {
     match frozen.thaw() {
         Err((frozen, _)) => frozen.bytes().len(),
