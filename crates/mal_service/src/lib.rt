@@ -4,6 +4,8 @@
 mod entry;
 mod noted;
 mod service;
+#[cfg(test)]
+mod tests;
 mod told;
 
 pub use entry::Entry;
