@@ -5,5 +5,7 @@ mod generating;
 mod program;
 mod replaying;
 mod running;
+#[cfg(test)]
+mod tests;
 
 pub use program::top;
