@@ -10,6 +10,13 @@ use Rattle.spec_run.specs.Losses.{is_loss, LosesLate}
 abbrev pub Stops : Type 0
 Stops = Point → ℕ → ℕ → Bool
 
+-- the second of two points is the first
+abbrev pub at_point : Point → Point → Bool
+at_point Before Before = true
+at_point Before After = false
+at_point After Before = false
+at_point After After = true
+
 -- a gate stops some worker somewhere
 abbrev pub StopsSomewhere : Stops → Type 0
 StopsSomewhere stops = (p : Point) × (start : ℕ) × (worker : ℕ) × (stops p start worker ≡ true)

@@ -7,6 +7,7 @@ use mal_script::read;
 use std::alloc::Global;
 use std::test::Fail;
 
+mod stops;
 mod threads;
 
 /// The replies to the script of a text.

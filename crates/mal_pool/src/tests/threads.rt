@@ -2,11 +2,11 @@
 
 ghost use Rattle.std.specs.Prelude.{◌≤◌};
 
-use crate::{Gate, PlainGate, Point, Step, replies, run_all, run_alone};
+use crate::{Gate, PlainGate, Point, Step, replies, run_all};
 use mal_base::Outcome;
 use mal_history::{Event, History};
 use mal_script::read;
-use std::alloc::{AllocError, Global};
+use std::alloc::Global;
 use std::process::Abort;
 use std::sync::Wait;
 use std::sync::atomic::{AtomicU64, Ordering};
@@ -159,52 +159,4 @@ fn any_number_of_workers_replies_alike(rt: HostRuntime) -> Result<(), Fail> {
     reply_alike(&rt, rt.alloc(), FOUR_TENANTS, 1, FOUR_REPLIES)?;
     reply_alike(&rt, rt.alloc(), FOUR_TENANTS, 4, FOUR_REPLIES)?;
     reply_alike(&rt, rt.alloc(), FOUR_TENANTS, 64, FOUR_REPLIES)
-}
-
-/// Sixteen jobs of one tenant, each with the same revision.
-fn sixteen_jobs(alloc: Global) -> Result<Vec<u8>, AllocError> {
-    let mut text = Vec::new(alloc);
-    text.extend_from_slice(b"t a\n")?;
-    for letter in b'a'..=b'p' {
-        text.extend_from_slice(b"j ")?;
-        text.push(letter)?;
-        text.extend_from_slice(b" 1 1 4\np cnf 2 1\n1 2 0\na 0\ne\n")?;
-    }
-    Ok(text)
-}
-
-#[test]
-fn sixteen_jobs_are_all_answered_by_threads(rt: HostRuntime) -> Result<(), Fail> {
-    let text = sixteen_jobs(rt.alloc())?;
-    let script = read(rt.alloc(), text.as_slice())?;
-    let hall = run_alone(rt.alloc(), &script, 1)?;
-    let known = replies(rt.alloc(), &hall, &script)?;
-    assert_eq!(rt; known.len(), 16 * 31);
-    reply_alike(&rt, rt.alloc(), text.as_slice(), 2, known.as_slice())?;
-    reply_alike(&rt, rt.alloc(), text.as_slice(), 4, known.as_slice())?;
-    reply_alike(&rt, rt.alloc(), text.as_slice(), 16, known.as_slice())
-}
-
-/// A gate that stops everyone before the first slice.
-#[derive(Clone, Copy, Debug)]
-struct Closed;
-
-impl Gate for Closed {
-    ghost use Rattle.std.specs.Prelude.{true};
-
-    ghost stops = { λ gate point start worker. true };
-
-    fn at(&self, _point: Point, _start: u64, _worker: u32) -> Step {
-        Step::Stop
-    }
-}
-
-#[test]
-fn what_stopped_workers_held_is_lost_and_run_again(rt: HostRuntime) -> Result<(), Fail> {
-    let script = read(rt.alloc(), FOUR_TENANTS)?;
-    let hall = run_all(&rt, rt.alloc(), &script, 4, &Closed)?;
-    let text = replies(rt.alloc(), &hall, &script)?;
-    assert_eq!(rt; text.as_slice(), FOUR_REPLIES);
-    assert!(rt; losses(hall.history()) > 0);
-    Ok(())
 }

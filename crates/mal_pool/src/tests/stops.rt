@@ -1,0 +1,180 @@
+//! Runs whose gate stops workers: what they held is lost, and the replies are the same.
+
+use crate::{Gate, PlainGate, Point, Step, replies, run_all};
+use mal_base::Outcome;
+use mal_history::{Event, History};
+use mal_script::read;
+use std::alloc::Global;
+use std::process::Abort;
+use std::sync::Wait;
+use std::test::Fail;
+use std::thread::Threads;
+
+/// A gate that stops everyone before the slice.
+#[derive(Clone, Copy, Debug)]
+struct EachBefore;
+
+impl Gate for EachBefore {
+    ghost use Rattle.mal_pool.specs.Gates.{at_point};
+    ghost use Rattle.mal_pool.specs.declared.gate.Point.TheVariants.{Before};
+
+    ghost stops = { λ gate point start worker. at_point Before point };
+
+    fn at(&self, point: Point, _start: u64, _worker: u32) -> Step {
+        match point {
+            Point::Before => Step::Stop,
+            Point::After => Step::Go,
+        }
+    }
+}
+
+/// A gate that stops everyone after the slice.
+#[derive(Clone, Copy, Debug)]
+struct EachAfter;
+
+impl Gate for EachAfter {
+    ghost use Rattle.mal_pool.specs.Gates.{at_point};
+    ghost use Rattle.mal_pool.specs.declared.gate.Point.TheVariants.{After};
+
+    ghost stops = { λ gate point start worker. at_point After point };
+
+    fn at(&self, point: Point, _start: u64, _worker: u32) -> Step {
+        match point {
+            Point::Before => Step::Go,
+            Point::After => Step::Stop,
+        }
+    }
+}
+
+/// A gate that stops one start alone, before its slice.
+#[derive(Clone, Copy, Debug)]
+struct OneBefore {
+    start: u64,
+}
+
+impl Gate for OneBefore {
+    ghost use Rattle.std.specs.Prelude.{◌&&◌, ◌==◌};
+    ghost use Rattle.mal_pool.specs.Gates.{at_point};
+    ghost use Rattle.mal_pool.specs.declared.gate.Point.TheVariants.{Before};
+
+    ghost stops = { λ gate point start worker. at_point Before point && start == gate.start };
+
+    fn at(&self, point: Point, start: u64, _worker: u32) -> Step {
+        match point {
+            Point::Before if start == self.start => Step::Stop,
+            _ => Step::Go,
+        }
+    }
+}
+
+/// A gate that stops one start alone, after its slice.
+#[derive(Clone, Copy, Debug)]
+struct OneAfter {
+    start: u64,
+}
+
+impl Gate for OneAfter {
+    ghost use Rattle.std.specs.Prelude.{◌&&◌, ◌==◌};
+    ghost use Rattle.mal_pool.specs.Gates.{at_point};
+    ghost use Rattle.mal_pool.specs.declared.gate.Point.TheVariants.{After};
+
+    ghost stops = { λ gate point start worker. at_point After point && start == gate.start };
+
+    fn at(&self, point: Point, start: u64, _worker: u32) -> Step {
+        match point {
+            Point::After if start == self.start => Step::Stop,
+            _ => Step::Go,
+        }
+    }
+}
+
+/// How many starts stand before the recall, and how many leases were lost.
+fn started_and_lost(history: &History) -> (usize, usize) {
+    let mut started: usize = 0;
+    let mut lost: usize = 0;
+    for event in history.events() {
+        match event {
+            Event::Start { .. } => {
+                if lost == 0 {
+                    started = started.saturating_add(1);
+                }
+            }
+            Event::Finish {
+                outcome: Outcome::Lost,
+                ..
+            } => lost = lost.saturating_add(1),
+            _ => {}
+        }
+    }
+    (started, lost)
+}
+
+/// Three revisions of one job: one that is satisfiable, one whose assumption fails, and one that is satisfiable again.
+const THREE_REVISIONS: &[u8] =
+    b"t a\nj p 1 1 4\np cnf 2 1\n1 2 0\na 0\np cnf 2 1\n-1 0\na -2 0\np cnf 2 0\na 0\ne\n";
+
+/// The replies to them.
+const THREE_REPLIES: &[u8] =
+    b"r a p 1\ns SATISFIABLE\nv -1 2 0\nr a p 2\ns UNSATISFIABLE\nk -2 0\nl 3 2 0 2 1 0\nr a p 3\ns SATISFIABLE\nv -1 2 0\n";
+
+/// The replies of four workers to a script, and how many starts stand before the recall and how many leases were lost.
+fn stopped<R: Threads + Wait + Sync, G: Gate>(
+    rt: &R,
+    alloc: Global,
+    text: &[u8],
+    gate: &G,
+) -> Result<(Vec<u8>, (usize, usize)), Fail> {
+    let script = read(alloc, text)?;
+    let hall = run_all(rt, alloc, &script, 4, gate)?;
+    Ok((
+        replies(alloc, &hall, &script)?,
+        started_and_lost(hall.history()),
+    ))
+}
+
+#[test]
+fn who_stops_before_each_slice_loses_each_lease(rt: HostRuntime) -> Result<(), Fail> {
+    let (text, (started, lost)) = stopped(&rt, rt.alloc(), THREE_REVISIONS, &EachBefore)?;
+    assert_eq!(rt; text.as_slice(), THREE_REPLIES);
+    assert!(rt; started > 0);
+    assert_eq!(rt; lost, started);
+    Ok(())
+}
+
+#[test]
+fn who_stops_after_each_slice_loses_each_lease(rt: HostRuntime) -> Result<(), Fail> {
+    let (text, (started, lost)) = stopped(&rt, rt.alloc(), THREE_REVISIONS, &EachAfter)?;
+    assert_eq!(rt; text.as_slice(), THREE_REPLIES);
+    assert!(rt; started > 0);
+    assert_eq!(rt; lost, started);
+    Ok(())
+}
+
+/// Eight jobs of two tenants.
+const EIGHT_JOBS: &[u8] =
+    b"t a\nj p 1 1 4\np cnf 2 1\n1 2 0\na 0\ne\nj q 1 1 4\np cnf 2 4\n1 2 0\n1 -2 0\n-1 2 0\n-1 -2 0\na 0\ne\nj r 1 1 4\np cnf 2 1\n-1 -2 0\na 1 2 0\ne\nj s 1 1 4\np cnf 0 0\na 0\ne\nt b\nj p 1 1 4\np cnf 2 1\n1 2 0\na 0\ne\nj q 1 1 4\np cnf 2 4\n1 2 0\n1 -2 0\n-1 2 0\n-1 -2 0\na 0\ne\nj r 1 1 4\np cnf 2 1\n-1 -2 0\na 1 2 0\ne\nj s 1 1 4\np cnf 0 0\na 0\ne\n";
+
+/// The replies to them.
+const EIGHT_REPLIES: &[u8] =
+    b"r a p 1\ns SATISFIABLE\nv -1 2 0\nr a q 1\ns UNSATISFIABLE\nk 0\nl 5 1 0 1 2 0\nl 6 0 5 3 4 0\nr a r 1\ns UNSATISFIABLE\nk 1 2 0\nl 2 -1 -2 0 1 0\nr a s 1\ns SATISFIABLE\nv 0\nr b p 1\ns SATISFIABLE\nv -1 2 0\nr b q 1\ns UNSATISFIABLE\nk 0\nl 5 1 0 1 2 0\nl 6 0 5 3 4 0\nr b r 1\ns UNSATISFIABLE\nk 1 2 0\nl 2 -1 -2 0 1 0\nr b s 1\ns SATISFIABLE\nv 0\n";
+
+/// Runs eight jobs with a gate and compares the replies.
+fn eight_reply_alike<R: Threads + Wait + Sync + Abort, G: Gate>(
+    rt: &R,
+    alloc: Global,
+    gate: &G,
+) -> Result<(), Fail> {
+    let (text, _) = stopped(rt, alloc, EIGHT_JOBS, gate)?;
+    assert_eq!(rt; text.as_slice(), EIGHT_REPLIES);
+    Ok(())
+}
+
+#[test]
+fn one_stop_changes_no_reply(rt: HostRuntime) -> Result<(), Fail> {
+    eight_reply_alike(&rt, rt.alloc(), &PlainGate)?;
+    eight_reply_alike(&rt, rt.alloc(), &OneBefore { start: 1 })?;
+    eight_reply_alike(&rt, rt.alloc(), &OneAfter { start: 1 })?;
+    eight_reply_alike(&rt, rt.alloc(), &OneBefore { start: 8 })?;
+    eight_reply_alike(&rt, rt.alloc(), &OneAfter { start: 8 })?;
+    Ok(())
+}
