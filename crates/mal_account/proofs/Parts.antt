@@ -13,12 +13,12 @@ use Rattle.spec_script.specs.Formed.{IsScript}
 use Rattle.spec_script.specs.Script.{Scripted, spelling}
 use Rattle.mal_script.specs.declared.fault.ScriptFault.{ScriptFault}
 use Rattle.mal_script.specs.declared.fault.ScriptFault.TheVariants as script_fault
-use Rattle.mal_script.specs.Given as script_given
+use Rattle.mal_script.specs.ReadResult as script_given
 use Rattle.mal_history.specs.declared.event.Event.{Event}
 use Rattle.mal_history.specs.Formed.{IsHistory, written_read}
 use Rattle.mal_history.specs.Text.{history_text}
 use Rattle.mal_history.specs.Reading as history
-use Rattle.mal_history.specs.Given as history_given
+use Rattle.mal_history.specs.ReadResult as history_given
 use Rattle.mal_history.specs.declared.fault.HistoryFault.{HistoryFault}
 use Rattle.mal_history.specs.declared.fault.HistoryFault.TheVariants as history_fault
 use Rattle.spec_account.specs.Accounts as account
@@ -31,7 +31,7 @@ use Rattle.spec_account.proofs.ReadLemmas.{spelled-is-read}
 use Rattle.spec_account.proofs.AgainLemmas.{written-is-read}
 use Rattle.mal_account.specs.declared.account.Account.{Account}
 use Rattle.mal_account.specs.declared.fault.AccountFault.{AccountFault}
-use Rattle.mal_account.specs.Given.{seen, in_script, in_history, fault_of, Fails, Gives}
+use Rattle.mal_account.specs.ReadResult.{seen, in_script, in_history, fault_of, Fails, Gives}
 
 -- a fault of the script's text, and of the history's, is one of the whole text
 pub script_fails : {Y : Type 0} (fault : ScriptFault) (read : Result Y (ℕ × LineFault)) → script_given.FailsAt fault read → Fails (in_script fault) (account.in_script read)

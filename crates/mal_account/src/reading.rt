@@ -11,12 +11,12 @@ ghost use Rattle.spec_script.specs.Script.{Scripted, spelling};
 ghost use Rattle.mal_history.specs.declared.event.Event.{Event};
 ghost use Rattle.mal_history.specs.Formed.{IsHistory};
 ghost use Rattle.mal_history.specs.Text.{history_text};
-ghost use Rattle.mal_history.specs.Given as history_given;
+ghost use Rattle.mal_history.specs.ReadResult as history_given;
 ghost use Rattle.mal_history.specs.Reading as history;
 ghost use Rattle.spec_account.specs.Accounts as spelled;
 ghost use Rattle.spec_account.specs.Accounts.{in_history, in_script, is_history_line, read_text};
 ghost use Rattle.spec_account.specs.Grammar.{Spells};
-ghost use Rattle.mal_account.specs.Given.{Gives, IsCut, fault_of, seen};
+ghost use Rattle.mal_account.specs.ReadResult.{Gives, IsCut, fault_of, seen};
 
 use crate::account::Account;
 use crate::fault::AccountFault;

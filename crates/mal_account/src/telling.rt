@@ -1,7 +1,7 @@
 //! The lines that tell why a text is no account.
 
 ghost use Rattle.std.specs.Prelude.{◌≡◌, [], ◌∷◌, None, codes, IfOk, MatchOption};
-ghost use Rattle.mal_account.specs.Given.{Tells, fault_of, in_history, in_script};
+ghost use Rattle.mal_account.specs.ReadResult.{Tells, fault_of, in_history, in_script};
 ghost use Rattle.spec_text.specs.Lines.{line_of};
 ghost use Rattle.spec_account.specs.FaultLines.{history_line};
 

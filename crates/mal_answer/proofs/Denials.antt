@@ -13,7 +13,7 @@ use Rattle.mal_verify.specs.declared.checking.VerifyFault.{VerifyFault}
 use Rattle.mal_verify.specs.declared.checking.VerifyFault.TheVariants as verify
 use Rattle.mal_verify.specs.Verdicts as verdicts
 use Rattle.mal_claim.specs.declared.fault.ClaimFault.{ClaimFault}
-use Rattle.mal_claim.specs.Given.{Fails, Tells, TellsVerdict, fault_of, refused, verdict_in}
+use Rattle.mal_claim.specs.ReadResult.{Fails, Tells, TellsVerdict, fault_of, refused, verdict_in}
 use Rattle.mal_answer.specs.Answers.{IsAnswerTo}
 use Rattle.mal_answer.specs.Claims.{TellsFault, TellsRefusal, IsUnverified}
 use Rattle.mal_answer.specs.Commands.{IsProved, InGrammar, Meets, TellsFirst}

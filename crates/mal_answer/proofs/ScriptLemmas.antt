@@ -8,7 +8,7 @@ use Rattle.spec_script.specs.Script.{Scripted}
 use Rattle.spec_script.proofs.Reading.{spelled-read}
 use Rattle.mal_script.specs.declared.fault.ScriptFault.{ScriptFault}
 use Rattle.mal_script.specs.declared.fault.ScriptFault.TheVariants as script
-use Rattle.mal_script.specs.Given.{FailsAt, Tells}
+use Rattle.mal_script.specs.ReadResult.{FailsAt, Tells}
 use Rattle.mal_answer.specs.Answers.{IsAnswerTo, IsScriptRefusal, TellsScriptFault}
 use Rattle.mal_answer.specs.Commands.{InGrammar, TellsFirst}
 use Rattle.mal_answer.specs.declared.answer.Complaint.{Complaint}

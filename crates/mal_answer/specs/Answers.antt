@@ -7,7 +7,7 @@ use Rattle.mal_answer.specs.declared.answer.Complaint.TheVariants as complaint
 use Rattle.mal_answer.specs.declared.answer.Texts.{Texts}
 use Rattle.mal_answer.specs.Summaries.{summary_line}
 use Rattle.mal_script.specs.declared.fault.ScriptFault.{ScriptFault}
-use Rattle.mal_script.specs.Given.{Tells}
+use Rattle.mal_script.specs.ReadResult.{Tells}
 use Rattle.mal_words.specs.declared.request.Request.{Request}
 use Rattle.mal_words.specs.declared.request.Request.TheVariants.{Run}
 

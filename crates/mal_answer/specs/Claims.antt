@@ -1,6 +1,6 @@
 -- The complaints about claims.
 use Rattle.std.specs.Prelude.{◌≡◌}
-use Rattle.mal_claim.specs.Given.{Tells, TellsVerdict, fault_of, verdict_in}
+use Rattle.mal_claim.specs.ReadResult.{Tells, TellsVerdict, fault_of, verdict_in}
 use Rattle.mal_claim.specs.declared.fault.ClaimFault.{ClaimFault}
 use Rattle.mal_answer.specs.Commands.{IsProved}
 use Rattle.mal_answer.specs.declared.answer.Complaint.{Complaint}

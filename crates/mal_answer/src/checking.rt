@@ -1,7 +1,7 @@
 //! Checking the proof of a claim.
 
 ghost use Rattle.std.specs.Prelude.{◌≡◌, ◌<◌, ◌^◌, [], length, IfOk, IfErr, OnOk};
-ghost use Rattle.mal_claim.specs.Given.{seen};
+ghost use Rattle.mal_claim.specs.ReadResult.{seen};
 ghost use Rattle.mal_answer.specs.Answers.{IsAnswer, IsAnswerTo};
 ghost use Rattle.mal_answer.specs.Commands.{IsProved, Verifies};
 ghost use Rattle.mal_answer.specs.Claims.{TellsFault, TellsRefusal, IsUnverified};

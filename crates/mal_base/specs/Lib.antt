@@ -4,6 +4,6 @@ pub mod Names
 pub mod Asks
 pub mod NameFields
 pub mod Formulas
-pub mod Held
+pub mod NumberedClause
 pub mod Trails
 pub mod Lined

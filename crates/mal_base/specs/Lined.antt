@@ -1,5 +1,5 @@
 use Rattle.std.specs.Prelude.{ℕ, ◌≤◌, List, length, map, slice_range, All}
-use Rattle.mal_base.specs.Held.{Line}
+use Rattle.mal_base.specs.NumberedClause.{Line}
 use Rattle.mal_base.specs.declared.line_head.Span.{Span}
 use Rattle.mal_base.specs.declared.line_head.LineHead.{LineHead}
 

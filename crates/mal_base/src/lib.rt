@@ -6,6 +6,7 @@ mod ask;
 mod clause;
 mod clause_id;
 mod formula;
+mod limit_kind;
 mod line_head;
 mod lines;
 mod literal;
@@ -13,20 +14,19 @@ mod name;
 mod trail_entry;
 mod verdict;
 mod views;
-mod which;
 
 pub use answer::{Answer, Values};
 pub use ask::Ask;
 pub use clause::Clause;
 pub use clause_id::ClauseId;
 pub use formula::Formula;
+pub use limit_kind::LimitKind;
 pub use lines::Lines;
 pub use literal::{Lit, Var};
 pub use name::Name;
 pub use trail_entry::TrailEntry;
 pub use verdict::{Outcome, Verdict};
 pub use views::{ClauseView, TrailView};
-pub use which::Which;
 
 #[cfg(test)]
 mod tests {

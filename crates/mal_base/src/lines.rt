@@ -1,7 +1,7 @@
 //! Lists of derived lines.
 
 ghost use Rattle.std.specs.Prelude.{◌≡◌, ◌+◌, ◌<◌, ◌≤◌, [], ◌∷◌, ◌++◌, length, slice_get, vec_len, vec_capacity, Some, OnOk};
-ghost use Rattle.mal_base.specs.Held.{Line};
+ghost use Rattle.mal_base.specs.NumberedClause.{Line};
 
 use crate::clause_id::ClauseId;
 use crate::line_head::{LineHead, Span};

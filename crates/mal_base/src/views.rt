@@ -1,7 +1,7 @@
 //! A trail and clauses as the layers above see them, whatever keeps them.
 
 ghost use Rattle.std.specs.Prelude.{◌≡◌, ◌<◌, List, length, slice_get, Some, None, MatchOption};
-ghost use Rattle.mal_base.specs.Held.{Held, lits_under};
+ghost use Rattle.mal_base.specs.NumberedClause.{NumberedClause, lits_under};
 ghost use Rattle.mal_base.specs.Trails.{value_on};
 ghost use Rattle.mal_base.specs.declared.trail_entry.TrailEntry.{TrailEntry};
 
@@ -29,7 +29,7 @@ pub trait TrailView {
 
 /// Clauses, each under its number.
 pub trait ClauseView {
-    ghost clauses: { Self → List Held };
+    ghost clauses: { Self → List NumberedClause };
 
     /// The literals of the clause of this number. None exactly where the number is not held.
     fn get(&self, id: ClauseId) -> Option<&[Lit]>

@@ -18,18 +18,18 @@ use Rattle.mal_hall.specs.declared.desk.Post.{Post}
 use Rattle.mal_hall.specs.declared.desk.Post.TheVariants as posts
 use Rattle.mal_hall.specs.declared.desk.PostFault.{PostFault}
 use Rattle.mal_hall.specs.declared.desk.PostFault.TheVariants as faults
-use Rattle.mal_hall.specs.Desks.{Told, Picked, Gave, Posted, IsOwn}
+use Rattle.mal_hall.specs.Desks.{DeskCall, Picked, Gave, Posted, IsOwn}
 use Rattle.mal_pool.proofs.CallLosses.{picked_own}
 use Rattle.mal_service.specs.Posts.{HoldsOfPost}
 use Rattle.mal_board.specs.Calls.{calls_of, told, told_by}
 
 -- the entry of a call that a board has is told behind those before it
-entered-calls : (w : ℕ) (v after : View Entry) (c : Answered) (t : Told) → told c ≡ Some t → Enters w v c after → calls_of after ≡ calls_of v ++ t ∷ []
+entered-calls : (w : ℕ) (v after : View Entry) (c : Answered) (t : DeskCall) → told c ≡ Some t → Enters w v c after → calls_of after ≡ calls_of v ++ t ∷ []
 entered-calls w v after c t is h =
     ap (λ (n : Numbers). filter_map told_by (part n.all after.seen)) h.extends.numbers
     ∙ (ap (filter_map told_by) h.extends.own
     ∙ (filter_map-append told_by (part v.of.all v.seen) ((v.of.first, entry c h.events) ∷ [])
-    ∙ ap (λ (o : Option Told). calls_of v ++ cons_option o []) is))
+    ∙ ap (λ (o : Option DeskCall). calls_of v ++ cons_option o []) is))
 
 pub picked_calls : (w : ℕ) (v after : View Entry) (worker : ℕ) (answer : Result Offer PickFault) → Enters w v (service.Picked worker answer) after → calls_of after ≡ calls_of v ++ Picked worker answer ∷ []
 picked_calls w v after worker answer h = entered-calls w v after (service.Picked worker answer) (Picked worker answer) refl h

@@ -19,10 +19,10 @@ pub struct Buffer {
 
 impl Model for Buffer {
     ghost use Rattle.std.specs.Prelude.{List};
-    ghost use Rattle.mal_base.specs.Held.{Held};
+    ghost use Rattle.mal_base.specs.NumberedClause.{NumberedClause};
     ghost use Rattle.spec_exchange.specs.Order.{IsSorted};
 
-    ghost Value = { List Held };
+    ghost Value = { List NumberedClause };
 
     ghost view = { λ b. b.entries.items };
 

@@ -17,9 +17,9 @@ pub struct Entry {
 }
 
 impl Model for Entry {
-    ghost use Rattle.mal_base.specs.Held.{Held};
+    ghost use Rattle.mal_base.specs.NumberedClause.{NumberedClause};
 
-    ghost Value = { Held };
+    ghost Value = { NumberedClause };
 
     ghost view = { λ e. record { id = e.id; lits = e.clause } };
 }

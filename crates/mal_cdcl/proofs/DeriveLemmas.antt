@@ -7,7 +7,7 @@ use Rattle.std.proofs.lemmas.Bool.Decides.{nat_tests}
 use Rattle.mal_base.specs.Clauses.{rises}
 use Rattle.mal_base.specs.Literals.{var_of}
 use Rattle.mal_base.specs.Formulas.{is_within}
-use Rattle.mal_base.specs.Held.{Held, lits_under}
+use Rattle.mal_base.specs.NumberedClause.{NumberedClause, lits_under}
 use Rattle.mal_base.specs.declared.trail_entry.TrailEntry.{TrailEntry}
 use Rattle.spec_node.specs.State.{Node}
 use Rattle.spec_node.specs.Value.{has_value, level_of, left_literal}
@@ -37,7 +37,7 @@ placed-wider v w [] before l h = tt
 placed-wider v w (e ∷ es) before l h = (record { low = h.0.low; high = omega (arith, h.0.high); free = h.0.free }, placed-wider v w es (before ++ e ∷ []) l h.1)
 
 -- a number above those held is not held
-none-under : (id : ℕ) (ds : List Held) → All (λ d. d.id < id) ds → lits_under id ds ≡ None
+none-under : (id : ℕ) (ds : List NumberedClause) → All (λ d. d.id < id) ds → lits_under id ds ≡ None
 none-under id [] h = refl
 none-under id (d ∷ ds) h =
     let low : d.id < id = All-head (λ x. x.id < id) d ds h in
@@ -49,7 +49,7 @@ pub new-number : (n : Node) → IsSound n → lits_under (derived_id n) n.clause
 new-number n h = none-under (derived_id n) n.clauses (below-derived n.serial n.index n.clauses h.ranged.serial)
 
 -- what holds of the clauses held with one more holds of that
-all-new : (P : Held → Type 0) (c : Held) (ds : List Held) → All P (with_clause c ds) → P c
+all-new : (P : NumberedClause → Type 0) (c : NumberedClause) (ds : List NumberedClause) → All P (with_clause c ds) → P c
 all-new P c [] h = All-head P c [] h
 all-new P c (d ∷ ds) h = by_less (nat_lt c.id d.id) (all-new P c ds) h
   where

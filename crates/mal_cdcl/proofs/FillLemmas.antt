@@ -11,7 +11,7 @@ use Rattle.mal_base.specs.declared.trail_entry.TrailEntry.{TrailEntry}
 use Rattle.spec_node.specs.Cut.{saved}
 use Rattle.mal_base.specs.Formulas.{is_within_limits, is_clause_of, is_within, literals_of}
 use Rattle.mal_revision.specs.Posted.{Posted, is_posted}
-use Rattle.mal_base.specs.Held.{Held}
+use Rattle.mal_base.specs.NumberedClause.{NumberedClause}
 use Rattle.spec_node.specs.Load.{counted, numbered, new_order, with_originals, is_derived}
 use Rattle.mal_trail.specs.Rooms.{are_within}
 use Rattle.mal_cdcl.specs.Within.{is_order_of}
@@ -115,7 +115,7 @@ order-long index variables n order h =
     let t : index * n / 64 ≤ n = turn-le index n h in
     rw (new_order-runs index variables n h, length-append, length-append, long-counted, long-counted) (omega arith)
 
-all-filter : (q p : Held → Bool) (cs : List Held) → list_all q cs ≡ true → list_all q (filter p cs) ≡ true
+all-filter : (q p : NumberedClause → Bool) (cs : List NumberedClause) → list_all q cs ≡ true → list_all q (filter p cs) ≡ true
 all-filter q p [] w = refl
 all-filter q p (c ∷ cs) w = by_test (p c) (all-filter q p cs (and_true (q c) (list_all q cs) w).1)
   where
@@ -154,18 +154,18 @@ lits_more n m (l ∷ ls) h w =
     let t : nat_le (l / 2) m ≡ true = le_test (l / 2) m (omega (arith, test_le (l / 2) n b.1)) in
     rw (b.0, t) (lits_more n m ls h a.1)
 
-pub clauses_more : (n m : ℕ) (clauses : List Held) → n ≤ m → are_within n clauses ≡ true → are_within m clauses ≡ true
+pub clauses_more : (n m : ℕ) (clauses : List NumberedClause) → n ≤ m → are_within n clauses ≡ true → are_within m clauses ≡ true
 clauses_more n m [] h w = refl
 clauses_more n m (c ∷ cs) h w =
     let a = and_true (is_within n c.lits) (are_within n cs) w in
     rw (lits_more n m c.lits h a.0) (clauses_more n m cs h a.1)
 
 -- clauses of a node that gets clauses of more variables
-pub within-loaded : (v n m first : ℕ) (held : List Held) (clauses : List (Option (List ℕ))) → v ≤ m → n ≤ m → are_within v held ≡ true → list_all (is_clause_of n) clauses ≡ true → are_within m (with_originals held (numbered first clauses)) ≡ true
+pub within-loaded : (v n m first : ℕ) (held : List NumberedClause) (clauses : List (Option (List ℕ))) → v ≤ m → n ≤ m → are_within v held ≡ true → list_all (is_clause_of n) clauses ≡ true → are_within m (with_originals held (numbered first clauses)) ≡ true
 within-loaded v n m first held clauses h k w c =
     let old = clauses_more v m held h w in
     let new = clauses_more n m (numbered first clauses) k (within-numbered n first clauses c) in
-    rw (list_all-append, all-filter (λ (x : Held). is_within m x.lits) (λ (x : Held). nat_lt x.id (2 ^ 32)) held old, list_all-append, new) (all-filter (λ (x : Held). is_within m x.lits) is_derived held old)
+    rw (list_all-append, all-filter (λ (x : NumberedClause). is_within m x.lits) (λ (x : NumberedClause). nat_lt x.id (2 ^ 32)) held old, list_all-append, new) (all-filter (λ (x : NumberedClause). is_within m x.lits) is_derived held old)
 
 -- one entry more is saved before those in front of it
 pub saved-push : (phases : List Bool) (es : List TrailEntry) (e : TrailEntry) → saved phases (es ++ e ∷ []) ≡ saved (slice_set phases (var_of e.lit - 1) (has_plus e.lit)) es

@@ -6,7 +6,7 @@ use Rattle.std.proofs.lemmas.List.Folds.{list_any-append}
 use Rattle.std.proofs.lemmas.Bool.Decides.{nat_tests}
 use Rattle.mal_base.specs.Clauses.{rises}
 use Rattle.mal_base.specs.Formulas.{is_within}
-use Rattle.mal_base.specs.Held.{Held, lits_under}
+use Rattle.mal_base.specs.NumberedClause.{NumberedClause, lits_under}
 use Rattle.spec_node.specs.Adding.{with_clause}
 use Rattle.spec_node.specs.State.{Node}
 use Rattle.spec_node.specs.Sound.{NumbersRise}
@@ -17,7 +17,7 @@ use Rattle.mal_freeze.specs.Imaged.{IsImage, are_new, is_new, are_clauses, are_l
 use Rattle.mal_freeze.proofs.ListLemmas.{take-at}
 use Rattle.mal_cdcl.specs.Within.{IsNode, is_order_of}
 use Rattle.mal_cdcl.specs.Rising.{all_rise}
-use Rattle.mal_cdcl.specs.Told.{lits_in}
+use Rattle.mal_cdcl.specs.ImportSizes.{lits_in}
 use Rattle.mal_cdcl.proofs.StepLemmas.{test_le}
 
 test_lt : (a b : ℕ) → nat_lt a b ≡ true → a < b
@@ -30,7 +30,7 @@ not_same : (a b : ℕ) → a < b → nat_eq a b ≡ false
 not_same a b = grind (arith, nat_tests)
 
 -- clauses of rising numbers have numbers above the start
-above-start : (cs : List Held) (i : ℕ) (c d : Held) (last : ℕ) → numbers_rise last cs ≡ true → i < length cs → c ≡ get_or cs i d → last < c.id
+above-start : (cs : List NumberedClause) (i : ℕ) (c d : NumberedClause) (last : ℕ) → numbers_rise last cs ≡ true → i < length cs → c ≡ get_or cs i d → last < c.id
 above-start [] i c d last h l e = absurd (omega arith)
 above-start (x ∷ xs) zero c d last h l e =
     let a = and_parts (nat_lt last x.id) (numbers_rise x.id xs) h in
@@ -40,7 +40,7 @@ above-start (x ∷ xs) (suc i) c d last h l e =
     omega (arith, test_lt last x.id a.0, above-start xs i c d x.id a.1 (omega arith) e)
 
 -- the next clause is not among those before it
-pub not_before : (cs : List Held) (i : ℕ) (c d : Held) (last : ℕ) → numbers_rise last cs ≡ true → i < length cs → c ≡ get_or cs i d → lits_under c.id (take i cs) ≡ None
+pub not_before : (cs : List NumberedClause) (i : ℕ) (c d : NumberedClause) (last : ℕ) → numbers_rise last cs ≡ true → i < length cs → c ≡ get_or cs i d → lits_under c.id (take i cs) ≡ None
 not_before [] i c d last h l e = absurd (omega arith)
 not_before (x ∷ xs) zero c d last h l e = refl
 not_before (x ∷ xs) (suc i) c d last h l e =
@@ -49,16 +49,16 @@ not_before (x ∷ xs) (suc i) c d last h l e =
     rw other (not_before xs i c d x.id a.1 (omega arith) e)
 
 -- it stands behind them
-behind : (cs : List Held) (i : ℕ) (c d : Held) (last : ℕ) → numbers_rise last cs ≡ true → i < length cs → c ≡ get_or cs i d → with_clause c (take i cs) ≡ take i cs ++ c ∷ []
+behind : (cs : List NumberedClause) (i : ℕ) (c d : NumberedClause) (last : ℕ) → numbers_rise last cs ≡ true → i < length cs → c ≡ get_or cs i d → with_clause c (take i cs) ≡ take i cs ++ c ∷ []
 behind [] i c d last h l e = absurd (omega arith)
 behind (x ∷ xs) zero c d last h l e = refl
 behind (x ∷ xs) (suc i) c d last h l e =
     let a = and_parts (nat_lt last x.id) (numbers_rise x.id xs) h in
     let b = above-start xs i c d x.id a.1 (omega arith) e in
     let other : nat_lt c.id x.id ≡ false = not_lt c.id x.id (omega arith) in
-    rw other (ap (λ (ys : List Held). x ∷ ys) (behind xs i c d x.id a.1 (omega arith) e))
+    rw other (ap (λ (ys : List NumberedClause). x ∷ ys) (behind xs i c d x.id a.1 (omega arith) e))
 
-pub one_more : (cs : List Held) (i : ℕ) (c d : Held) → numbers_rise 0 cs ≡ true → i < length cs → c ≡ get_or cs i d → with_clause c (take i cs) ≡ take (i + 1) cs
+pub one_more : (cs : List NumberedClause) (i : ℕ) (c d : NumberedClause) → numbers_rise 0 cs ≡ true → i < length cs → c ≡ get_or cs i d → with_clause c (take i cs) ≡ take (i + 1) cs
 one_more cs i c d h l e = rw (take-at cs i c d l e) (behind cs i c d 0 h l e)
 
 none_some : {X : Type 0} (x : X) → ◌≡◌ {A = Option X} None (Some x) → ⊥
@@ -75,7 +75,7 @@ got {X} (y ∷ ys) zero x d h = sym (some_one y x h)
 got {X} (y ∷ ys) (suc i) x d h = got ys i x d h
 
 -- a clause of a list in form is within
-pub within-at : (variables : ℕ) (cs : List Held) (i : ℕ) (c d : Held) → are_clauses variables cs ≡ true → i < length cs → c ≡ get_or cs i d → is_within variables c.lits ≡ true
+pub within-at : (variables : ℕ) (cs : List NumberedClause) (i : ℕ) (c d : NumberedClause) → are_clauses variables cs ≡ true → i < length cs → c ≡ get_or cs i d → is_within variables c.lits ≡ true
 within-at variables [] i c d h l e = absurd (omega arith)
 within-at variables (x ∷ xs) zero c d h l e =
     let a = and_parts (are_literals variables x.lits) (are_clauses variables xs) h in
@@ -85,18 +85,18 @@ within-at variables (x ∷ xs) (suc i) c d h l e =
     within-at variables xs i c d a.1 (omega arith) e
 
 -- the literals of a clause of clauses that rise do
-pub rises-at : (cs : List Held) (i : ℕ) (c d : Held) → all_rise cs ≡ true → i < length cs → c ≡ get_or cs i d → rises c.lits ≡ true
+pub rises-at : (cs : List NumberedClause) (i : ℕ) (c d : NumberedClause) → all_rise cs ≡ true → i < length cs → c ≡ get_or cs i d → rises c.lits ≡ true
 rises-at [] i c d h l e = absurd (omega arith)
 rises-at (x ∷ xs) zero c d h l e = rw e (and_parts (rises x.lits) (all_rise xs) h).0
 rises-at (x ∷ xs) (suc i) c d h l e = rises-at xs i c d (and_parts (rises x.lits) (all_rise xs) h).1 (omega arith) e
 
-pub all_rise-clauses : (variables : ℕ) (cs : List Held) → are_clauses variables cs ≡ true → all_rise cs ≡ true
+pub all_rise-clauses : (variables : ℕ) (cs : List NumberedClause) → are_clauses variables cs ≡ true → all_rise cs ≡ true
 all_rise-clauses variables [] h = refl
 all_rise-clauses variables (c ∷ cs) h =
     let a = and_parts (are_literals variables c.lits) (are_clauses variables cs) h in
     and_from _ _ (and_parts (rises c.lits) (is_within variables c.lits) a.0).0 (all_rise-clauses variables cs a.1)
 
-within-clauses : (variables : ℕ) (cs : List Held) → are_clauses variables cs ≡ true → are_within variables cs ≡ true
+within-clauses : (variables : ℕ) (cs : List NumberedClause) → are_clauses variables cs ≡ true → are_within variables cs ≡ true
 within-clauses variables [] h = refl
 within-clauses variables (c ∷ cs) h =
     let a = and_parts (are_literals variables c.lits) (are_clauses variables cs) h in
@@ -109,7 +109,7 @@ order-of variables before (v ∷ vs) h =
     let b = and_parts (nat_le 1 v && nat_le v variables) _ a.0 in
     and_from _ _ (and_parts (nat_le 1 v) (nat_le v variables) b.0).1 (order-of variables (before ++ v ∷ []) vs a.1)
 
-rise-from : (last : ℕ) (cs : List Held) → numbers_rise last cs ≡ true → NumbersRise (last + 1) cs
+rise-from : (last : ℕ) (cs : List NumberedClause) → numbers_rise last cs ≡ true → NumbersRise (last + 1) cs
 rise-from last [] h = tt
 rise-from last (c ∷ cs) h =
     let a = and_parts (nat_lt last c.id) (numbers_rise c.id cs) h in
@@ -175,10 +175,10 @@ pub image-order : (n : Node) → IsImage n → length n.order ≤ 65536
 image-order n i = let same : length n.order ≡ n.variables = eqb-true (length n.order) n.variables (and_parts (length n.order == n.variables) (are_new n.variables [] n.order) i.order).0 in omega (arith, i.ranges.variables)
 
 -- the literals of the clauses from one on are its own and those of the clauses behind it
-pub lits-next : (cs : List Held) (i : ℕ) (c d : Held) → i < length cs → c ≡ get_or cs i d → lits_in (drop i cs) ≡ length c.lits + lits_in (drop (suc i) cs)
+pub lits-next : (cs : List NumberedClause) (i : ℕ) (c d : NumberedClause) → i < length cs → c ≡ get_or cs i d → lits_in (drop i cs) ≡ length c.lits + lits_in (drop (suc i) cs)
 lits-next [] i c d l e = absurd (omega arith)
 lits-next (x ∷ xs) zero c d l e = rw e refl
 lits-next (x ∷ xs) (suc i) c d l e = lits-next xs i c d (omega arith) e
 
-pub lits-after : (cs : List Held) (i : ℕ) (c d : Held) → i < length cs → c ≡ get_or cs i d → lits_in (drop i cs) ≡ length c.lits + lits_in (drop (i + 1) cs)
+pub lits-after : (cs : List NumberedClause) (i : ℕ) (c d : NumberedClause) → i < length cs → c ≡ get_or cs i d → lits_in (drop i cs) ≡ length c.lits + lits_in (drop (i + 1) cs)
 lits-after cs i c d l e = let q : i + 1 ≡ suc i = omega arith in rw q (lits-next cs i c d l e)

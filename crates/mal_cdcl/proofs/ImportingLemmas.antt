@@ -4,7 +4,7 @@ use Rattle.std.specs.List.{list_all}
 use Rattle.std.proofs.lemmas.Bool.{leb-true, and_parts}
 use Rattle.std.proofs.lemmas.List.Elements.{All-head, All-tail, All-cons, All-nil, All-weaker}
 use Rattle.mal_base.specs.Formulas.{is_within}
-use Rattle.mal_base.specs.Held.{Held}
+use Rattle.mal_base.specs.NumberedClause.{NumberedClause}
 use Rattle.mal_revision.specs.Posted.{Posted}
 use Rattle.mal_trail.specs.Rooms.{HasRoom, are_within}
 use Rattle.spec_node.specs.State.{Node}
@@ -14,8 +14,8 @@ use Rattle.spec_node.specs.Sound.{AreLiteralsOf, NumbersRise}
 use Rattle.spec_node.specs.Laws.{MayImport}
 use Rattle.spec_node.proofs.LoadLemmas.{literals-wider}
 use Rattle.spec_node.proofs.ImportLemmas.{All-passed, All-with_clauses, own-passed, taken-apart, numbers-with_clauses}
-use Rattle.mal_cdcl.specs.Within.{Stocked, Spare}
-use Rattle.mal_cdcl.specs.Told.{lits_in}
+use Rattle.mal_cdcl.specs.Within.{NodeWithRoom, NodeRoom}
+use Rattle.mal_cdcl.specs.ImportSizes.{lits_in}
 use Rattle.mal_cdcl.specs.Ready.{readied, HasRoomFor}
 use Rattle.mal_cdcl.specs.Sliced.{HasSliceRoom, Keeps}
 use Rattle.mal_cdcl.specs.Importing.{all_imported, MayImportAll, picked, with_picks, AreNewTo, AreAllNew}
@@ -23,31 +23,31 @@ use Rattle.mal_cdcl.proofs.NeedLemmas.{IsReadying}
 use Rattle.mal_cdcl.proofs.TellingLemmas.{within-literals}
 
 -- what is new to some variables is new to more
-pub new-wider : (v w : ℕ) (held new : List Held) → v ≤ w → AreNewTo held v new → AreNewTo held w new
+pub new-wider : (v w : ℕ) (held new : List NumberedClause) → v ≤ w → AreNewTo held v new → AreNewTo held w new
 new-wider v w held new b h = record { some = h.some; within = All-weaker (λ c. AreLiteralsOf v c.lits) (λ c. AreLiteralsOf w c.lits) (λ c k. literals-wider v w c.lits b k) new h.within; own = h.own; apart = h.apart }
 
-all-within : (v : ℕ) (cs : List Held) → All (λ c. is_within v c.lits ≡ true) cs → are_within v cs ≡ true
+all-within : (v : ℕ) (cs : List NumberedClause) → All (λ c. is_within v c.lits ≡ true) cs → are_within v cs ≡ true
 all-within v [] h = refl
 all-within v (c ∷ cs) h = rw (All-head (λ x. is_within v x.lits ≡ true) c cs h) (all-within v cs (All-tail (λ x. is_within v x.lits ≡ true) c cs h))
 
-within-all : (v : ℕ) (cs : List Held) → are_within v cs ≡ true → All (λ c. is_within v c.lits ≡ true) cs
+within-all : (v : ℕ) (cs : List NumberedClause) → are_within v cs ≡ true → All (λ c. is_within v c.lits ≡ true) cs
 within-all v [] h = All-nil (λ c. is_within v c.lits ≡ true)
 within-all v (c ∷ cs) h =
     let parts = and_parts (is_within v c.lits) (are_within v cs) h in
     All-cons (λ x. is_within v x.lits ≡ true) c cs parts.0 (within-all v cs parts.1)
 
 -- the clauses held with new ones are of the same variables
-pub within-new : (v : ℕ) (new held : List Held) → AreNewTo held v new → are_within v held ≡ true → are_within v (with_clauses new held) ≡ true
+pub within-new : (v : ℕ) (new held : List NumberedClause) → AreNewTo held v new → are_within v held ≡ true → are_within v (with_clauses new held) ≡ true
 within-new v new held h w = all-within v (with_clauses new held) (All-with_clauses (λ c. is_within v c.lits ≡ true) new held (All-weaker (λ c. AreLiteralsOf v c.lits) (λ c. is_within v c.lits ≡ true) (λ c k. within-literals v c.lits k.within) new h.within) (within-all v held w))
 
 -- and their numbers rise
-pub rising-new : (v : ℕ) (new held : List Held) → AreNewTo held v new → NumbersRise 1 held → NumbersRise 1 (with_clauses new held)
+pub rising-new : (v : ℕ) (new held : List NumberedClause) → AreNewTo held v new → NumbersRise 1 held → NumbersRise 1 (with_clauses new held)
 rising-new v new held h r = numbers-with_clauses 1 new held h.some h.own h.apart r
 
 -- what is taken of what may be told is new
-taken-new : (told : List Held) (n : Node) → MayImport told n → AreNewTo n.clauses n.variables (taken told n.clauses)
+taken-new : (told : List NumberedClause) (n : Node) → MayImport told n → AreNewTo n.clauses n.variables (taken told n.clauses)
 taken-new told n h =
-    let test : Held → Bool = λ x. not (has_lits x.lits n.clauses) in
+    let test : NumberedClause → Bool = λ x. not (has_lits x.lits n.clauses) in
     record {
       some = All-passed (λ x. 1 ≤ x.id) test told (All-weaker (λ x. is_derived x ≡ true) (λ x. 1 ≤ x.id) (λ x k. let high : 2 ^ 32 ≤ x.id = leb-true (2 ^ 32) x.id k in omega arith) told h.derived);
       within = All-passed (λ x. AreLiteralsOf n.variables x.lits) test told h.within;
@@ -55,43 +55,43 @@ taken-new told n h =
       apart = taken-apart told n.clauses h.agree;
     }
 
-picked-new : (imports : List (List Held)) (n : Node) → MayImportAll imports n → AreAllNew (picked imports n.clauses) n
+picked-new : (imports : List (List NumberedClause)) (n : Node) → MayImportAll imports n → AreAllNew (picked imports n.clauses) n
 picked-new [] n h = tt
 picked-new (told ∷ more) n h = (taken-new told n h.0, picked-new more (imported told n) h.1)
 
-picked-done : (imports : List (List Held)) (n : Node) → with_picks (picked imports n.clauses) n ≡ all_imported imports n
+picked-done : (imports : List (List NumberedClause)) (n : Node) → with_picks (picked imports n.clauses) n ≡ all_imported imports n
 picked-done [] n = refl
 picked-done (told ∷ more) n = picked-done more (imported told n)
 
 -- what is left to import of some picks: this node is reached with them, they are new, and there is room for them, in a
 -- scratch of this bound too
-pub record IsImporting (left : List (List Held)) (target : Node) (bound : ℕ) (now : Stocked) : Type 0 where
+pub record IsImporting (left : List (List NumberedClause)) (target : Node) (bound : ℕ) (now : NodeWithRoom) : Type 0 where
   pub done : with_picks left now.state ≡ target
   pub new : AreAllNew left now.state
   pub room : HasRoomFor [] left now
   pub fitted : now.state.variables < bound
 
 -- after the loads the picks are left
-pub importing-begins : (loads : List (Posted × ℕ)) (imports picks : List (List Held)) (start : Node) (bound : ℕ) (now : Stocked) → picks ≡ picked imports (readied loads start).clauses → MayImportAll imports (readied loads start) → IsReadying [] loads picks start bound now → IsImporting picks (all_imported imports (readied loads start)) bound now
+pub importing-begins : (loads : List (Posted × ℕ)) (imports picks : List (List NumberedClause)) (start : Node) (bound : ℕ) (now : NodeWithRoom) → picks ≡ picked imports (readied loads start).clauses → MayImportAll imports (readied loads start) → IsReadying [] loads picks start bound now → IsImporting picks (all_imported imports (readied loads start)) bound now
 importing-begins loads imports picks start bound now is may h =
     let same : picks ≡ picked imports now.state.clauses = is ∙ ap (λ (n : Node). picked imports n.clauses) (sym h.done) in
     record {
-      done = ap (λ (ps : List (List Held)). with_picks ps now.state) same ∙ (picked-done imports now.state ∙ ap (λ (n : Node). all_imported imports n) h.done);
+      done = ap (λ (ps : List (List NumberedClause)). with_picks ps now.state) same ∙ (picked-done imports now.state ∙ ap (λ (n : Node). all_imported imports n) h.done);
       new = rw same (picked-new imports now.state (rw h.done may));
       room = h.room;
       fitted = h.fitted;
     }
 
-importing-first : (new : List Held) (more : List (List Held)) (target : Node) (bound : ℕ) (now next : Stocked) → next.state ≡ with_new new now.state → Keeps (length new) (lits_in new) now next → IsImporting (new ∷ more) target bound now → IsImporting more target bound next
+importing-first : (new : List NumberedClause) (more : List (List NumberedClause)) (target : Node) (bound : ℕ) (now next : NodeWithRoom) → next.state ≡ with_new new now.state → Keeps (length new) (lits_in new) now next → IsImporting (new ∷ more) target bound now → IsImporting more target bound next
 importing-first new more target bound now next is k h =
     let v : next.state.variables ≡ now.state.variables = ap (λ (n : Node). n.variables) is in
-    let trail : next.spare.trail ≡ now.spare.trail = ap (λ (s : Spare). s.trail) k.spare in
-    let order : next.spare.order ≡ now.spare.order = ap (λ (s : Spare). s.order) k.spare in
-    let phases : next.spare.phases ≡ now.spare.phases = ap (λ (s : Spare). s.phases) k.spare in
-    let assumptions : next.spare.assumptions ≡ now.spare.assumptions = ap (λ (s : Spare). s.assumptions) k.spare in
-    let lines : next.spare.lines ≡ now.spare.lines = ap (λ (s : Spare). s.lines) k.spare in
-    let line_literals : next.spare.line_literals ≡ now.spare.line_literals = ap (λ (s : Spare). s.line_literals) k.spare in
-    let hints : next.spare.hints ≡ now.spare.hints = ap (λ (s : Spare). s.hints) k.spare in
+    let trail : next.spare.trail ≡ now.spare.trail = ap (λ (s : NodeRoom). s.trail) k.spare in
+    let order : next.spare.order ≡ now.spare.order = ap (λ (s : NodeRoom). s.order) k.spare in
+    let phases : next.spare.phases ≡ now.spare.phases = ap (λ (s : NodeRoom). s.phases) k.spare in
+    let assumptions : next.spare.assumptions ≡ now.spare.assumptions = ap (λ (s : NodeRoom). s.assumptions) k.spare in
+    let lines : next.spare.lines ≡ now.spare.lines = ap (λ (s : NodeRoom). s.lines) k.spare in
+    let line_literals : next.spare.line_literals ≡ now.spare.line_literals = ap (λ (s : NodeRoom). s.line_literals) k.spare in
+    let hints : next.spare.hints ≡ now.spare.hints = ap (λ (s : NodeRoom). s.hints) k.spare in
     record {
       done = rw is h.done;
       new = rw is h.new.1;
@@ -111,36 +111,36 @@ importing-first new more target bound now next is k h =
       fitted = omega (arith, v, h.fitted);
     }
 
-drop-at : (picks : List (List Held)) (i : ℕ) (x d : List Held) → i < length picks → x ≡ get_or picks i d → drop i picks ≡ x ∷ drop (i + 1) picks
+drop-at : (picks : List (List NumberedClause)) (i : ℕ) (x d : List NumberedClause) → i < length picks → x ≡ get_or picks i d → drop i picks ≡ x ∷ drop (i + 1) picks
 drop-at [] i x d l e = absurd (omega arith)
 drop-at (y ∷ ys) zero x d l e = rw e refl
 drop-at (y ∷ ys) (suc i) x d l e =
     let more : suc i + 1 ≡ suc (i + 1) = omega arith in
     rw more (drop-at ys i x d (omega arith) e)
 
-pub importing-here : (picks : List (List Held)) (i : ℕ) (x d : List Held) (target : Node) (bound : ℕ) (now : Stocked) → i < length picks → x ≡ get_or picks i d → IsImporting (drop i picks) target bound now → IsImporting (x ∷ drop (i + 1) picks) target bound now
+pub importing-here : (picks : List (List NumberedClause)) (i : ℕ) (x d : List NumberedClause) (target : Node) (bound : ℕ) (now : NodeWithRoom) → i < length picks → x ≡ get_or picks i d → IsImporting (drop i picks) target bound now → IsImporting (x ∷ drop (i + 1) picks) target bound now
 importing-here picks i x d target bound now l e h = rw (drop-at picks i x d l e) at h
 
 -- there is room for the first of the picks that are left
-pub importing-room : (x : List Held) (more : List (List Held)) (now : Stocked) → HasRoomFor [] (x ∷ more) now → HasRoom now.state.variables (length x) (lits_in x) now.spare.engine
+pub importing-room : (x : List NumberedClause) (more : List (List NumberedClause)) (now : NodeWithRoom) → HasRoomFor [] (x ∷ more) now → HasRoom now.state.variables (length x) (lits_in x) now.spare.engine
 importing-room x more now h = record { variables = h.variables; clauses = omega (arith, h.clauses); literals = omega (arith, h.literals) }
 
-pub importing-next : (picks : List (List Held)) (i : ℕ) (x d : List Held) (target : Node) (bound : ℕ) (now next : Stocked) → i < length picks → x ≡ get_or picks i d → next.state ≡ with_new x now.state → Keeps (length x) (lits_in x) now next → IsImporting (drop i picks) target bound now → IsImporting (drop (i + 1) picks) target bound next
+pub importing-next : (picks : List (List NumberedClause)) (i : ℕ) (x d : List NumberedClause) (target : Node) (bound : ℕ) (now next : NodeWithRoom) → i < length picks → x ≡ get_or picks i d → next.state ≡ with_new x now.state → Keeps (length x) (lits_in x) now next → IsImporting (drop i picks) target bound now → IsImporting (drop (i + 1) picks) target bound next
 importing-next picks i x d target bound now next l e is k h = importing-first x (drop (i + 1) picks) target bound now next is k (importing-here picks i x d target bound now l e h)
 
 -- where nothing is left the node is reached, with room for a slice
-pub record IsImported (target : Node) (bound : ℕ) (now : Stocked) : Type 0 where
+pub record IsImported (target : Node) (bound : ℕ) (now : NodeWithRoom) : Type 0 where
   pub done : now.state ≡ target
   pub room : HasSliceRoom now
   pub fitted : now.state.variables < bound
 
-drop-all : (picks : List (List Held)) (i : ℕ) → length picks ≤ i → drop i picks ≡ []
+drop-all : (picks : List (List NumberedClause)) (i : ℕ) → length picks ≤ i → drop i picks ≡ []
 drop-all [] zero l = refl
 drop-all [] (suc i) l = refl
 drop-all (x ∷ xs) zero l = absurd (omega arith)
 drop-all (x ∷ xs) (suc i) l = drop-all xs i (omega arith)
 
-pub importing-ends : (picks : List (List Held)) (i : ℕ) (target : Node) (bound : ℕ) (now : Stocked) → length picks ≤ i → IsImporting (drop i picks) target bound now → IsImported target bound now
+pub importing-ends : (picks : List (List NumberedClause)) (i : ℕ) (target : Node) (bound : ℕ) (now : NodeWithRoom) → length picks ≤ i → IsImporting (drop i picks) target bound now → IsImported target bound now
 importing-ends picks i target bound now l h =
     let none : drop i picks ≡ [] = drop-all picks i l in
     let end : IsImporting [] target bound now = rw none at h in

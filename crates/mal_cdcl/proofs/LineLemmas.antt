@@ -2,7 +2,7 @@ use Rattle.std.proofs.Common.{◌≡◌, ℕ, ◌+◌, ◌<◌, ◌≤◌, Bool,
 use Rattle.std.specs.Prelude.{◌==◌, ◌||◌, nat_lt}
 use Rattle.std.specs.Option.{option_map_or}
 use Rattle.std.proofs.lemmas.Bool.{le-ltb, ne_eqb}
-use Rattle.mal_base.specs.Held.{Line}
+use Rattle.mal_base.specs.NumberedClause.{Line}
 use Rattle.mal_base.specs.declared.verdict.Verdict.{Verdict}
 use Rattle.mal_base.specs.Formulas.{is_within}
 use Rattle.spec_node.specs.State.{Node}
@@ -14,7 +14,7 @@ use Rattle.spec_search.specs.Step.{Case, Learns, Refutes, Contradicts, case_by, 
 use Rattle.spec_search.specs.Slice.{numbers_of, most_numbers}
 use Rattle.spec_search.proofs.StepLemmas.{by_cases}
 use Rattle.spec_search.proofs.ModelLemmas.{step-leaves}
-use Rattle.mal_cdcl.specs.Within.{Spare, Stocked}
+use Rattle.mal_cdcl.specs.Within.{NodeRoom, NodeWithRoom}
 use Rattle.mal_cdcl.specs.Sliced.{HasStepRoom, HasLineRoom, IsLineLess, Keeps, IsStepped, IsSearched}
 use Rattle.mal_cdcl.proofs.FillLemmas.{lits_more}
 
@@ -53,7 +53,7 @@ pub step-core : (n : Node) (a : ℕ) → case_of n ≡ Contradicts a → step n 
 step-core n a q = ap (λ (c : Case). after_case c n) q
 
 -- a line that is short enough has room
-pub line-room : (used : ℕ) (l : Line) (n : Stocked) → HasStepRoom 1 used n → used + numbers_of l ≤ most_numbers n.state.variables → is_within n.state.variables l.lits ≡ true → HasLineRoom l n
+pub line-room : (used : ℕ) (l : Line) (n : NodeWithRoom) → HasStepRoom 1 used n → used + numbers_of l ≤ most_numbers n.state.variables → is_within n.state.variables l.lits ≡ true → HasLineRoom l n
 line-room used l n h low w =
     record {
       clause = record {
@@ -70,7 +70,7 @@ not-over : (v : Option Verdict) (o p : Option Line) (f : Line → Bool) → is_s
 not-over v o p f a e h = rw (a, e) h
 
 -- a step with a line
-pub derived-step : (used now : ℕ) (line : Line) (before after : Stocked) → before.state.verdict ≡ None → next_line before.state ≡ Some line → now ≡ used + numbers_of line → now ≤ most_numbers before.state.variables → after.state ≡ step before.state → after.lines ≡ before.lines ++ line ∷ [] → IsLineLess line before after → IsStepped used before now after
+pub derived-step : (used now : ℕ) (line : Line) (before after : NodeWithRoom) → before.state.verdict ≡ None → next_line before.state ≡ Some line → now ≡ used + numbers_of line → now ≤ most_numbers before.state.variables → after.state ≡ step before.state → after.lines ≡ before.lines ++ line ∷ [] → IsLineLess line before after → IsStepped used before now after
 derived-step used now line before after v next e low s l r =
     let short : nat_lt (most_numbers before.state.variables) (used + numbers_of line) ≡ false = le-ltb (most_numbers before.state.variables) (used + numbers_of line) (omega arith) in
     let variables : after.state.variables ≡ before.state.variables = ap (λ (n : Node). n.variables) s ∙ (step-leaves before.state).variables in
@@ -91,15 +91,15 @@ derived-step used now line before after v next e low s l r =
     }
 
 -- a step without a line
-pub searched-step : (used : ℕ) (before after : Stocked) → before.state.verdict ≡ None → IsSearched (case_of before.state) before after → IsStepped used before used after
+pub searched-step : (used : ℕ) (before after : NodeWithRoom) → before.state.verdict ≡ None → IsSearched (case_of before.state) before after → IsStepped used before used after
 searched-step used before after v h =
     let next : next_line before.state ≡ None = h.none in
     let s : after.state ≡ step before.state = h.state in
     let r : Keeps 0 0 before after = h.keeps in
     let variables : after.state.variables ≡ before.state.variables = ap (λ (n : Node). n.variables) s ∙ (step-leaves before.state).variables in
-    let lines : after.spare.lines ≡ before.spare.lines = ap (λ (x : Spare). x.lines) r.spare in
-    let lits : after.spare.line_literals ≡ before.spare.line_literals = ap (λ (x : Spare). x.line_literals) r.spare in
-    let hints : after.spare.hints ≡ before.spare.hints = ap (λ (x : Spare). x.hints) r.spare in
+    let lines : after.spare.lines ≡ before.spare.lines = ap (λ (x : NodeRoom). x.lines) r.spare in
+    let lits : after.spare.line_literals ≡ before.spare.line_literals = ap (λ (x : NodeRoom). x.line_literals) r.spare in
+    let hints : after.spare.hints ≡ before.spare.hints = ap (λ (x : NodeRoom). x.hints) r.spare in
     record {
       on = not-over before.state.verdict (next_line before.state) None (λ l. nat_lt (most_numbers before.state.variables) (used + numbers_of l)) (ap is_some v) next refl;
       state = s;

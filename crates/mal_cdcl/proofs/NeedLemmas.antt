@@ -1,10 +1,10 @@
 use Rattle.std.proofs.Common.{◌≡◌, ℕ, zero, suc, ◌+◌, ◌<◌, ◌≤◌, List, [], ◌∷◌, length, drop, get_or, refl, ap, ◌∙◌, arith, Bor}
 use Rattle.std.specs.Prelude.{max}
-use Rattle.mal_base.specs.Held.{Held}
+use Rattle.mal_base.specs.NumberedClause.{NumberedClause}
 use Rattle.mal_revision.specs.Posted.{Posted}
 use Rattle.spec_node.specs.State.{Node}
 use Rattle.spec_node.specs.Load.{loaded}
-use Rattle.mal_cdcl.specs.Within.{Stocked}
+use Rattle.mal_cdcl.specs.Within.{NodeWithRoom}
 use Rattle.mal_cdcl.specs.Ready.{posted, readied, AreNew, greatest, most_assumptions, HasRoomFor, IsSpared}
 
 -- the loads that are left from a place on begin with the one that stands there
@@ -28,7 +28,7 @@ most-more [] a b h = h
 most-more (l ∷ ls) a b h = most-more ls (max a (length l.0.assumptions)) (max b (length l.0.assumptions)) (omega arith)
 
 -- room for loads is room for the first
-pub room-head : (l : Posted × ℕ) (ls : List (Posted × ℕ)) (told : List (List Held)) (n : Stocked) → HasRoomFor (l ∷ ls) told n → HasRoomFor (l ∷ []) [] n
+pub room-head : (l : Posted × ℕ) (ls : List (Posted × ℕ)) (told : List (List NumberedClause)) (n : NodeWithRoom) → HasRoomFor (l ∷ ls) told n → HasRoomFor (l ∷ []) [] n
 room-head l ls told n h =
     let g = greatest-least ls (max n.state.variables l.0.variables) in
     record {
@@ -47,13 +47,13 @@ room-head l ls told n h =
 
 -- what is left to do of some loads: the node is ready after it, its numbers are new, and there is room for it, in a scratch
 -- of this bound too
-pub record IsReadying (left all : List (Posted × ℕ)) (told : List (List Held)) (start : Node) (bound : ℕ) (now : Stocked) : Type 0 where
+pub record IsReadying (left all : List (Posted × ℕ)) (told : List (List NumberedClause)) (start : Node) (bound : ℕ) (now : NodeWithRoom) : Type 0 where
   pub done : readied left now.state ≡ readied all start
   pub new : AreNew left now.state
   pub room : HasRoomFor left told now
   pub fitted : greatest left now.state.variables < bound
 
-pub readying-next : (l : Posted × ℕ) (ls all : List (Posted × ℕ)) (told : List (List Held)) (start : Node) (bound : ℕ) (now next : Stocked) → IsReadying (l ∷ ls) all told start bound now → next.state ≡ loaded l.0 l.1 now.state → IsSpared l.0 now next → IsReadying ls all told start bound next
+pub readying-next : (l : Posted × ℕ) (ls all : List (Posted × ℕ)) (told : List (List NumberedClause)) (start : Node) (bound : ℕ) (now next : NodeWithRoom) → IsReadying (l ∷ ls) all told start bound now → next.state ≡ loaded l.0 l.1 now.state → IsSpared l.0 now next → IsReadying ls all told start bound next
 readying-next l ls all told start bound now next h is s =
     let v : next.state.variables ≡ max now.state.variables l.0.variables = ap (λ (n : Node). n.variables) is in
     record {

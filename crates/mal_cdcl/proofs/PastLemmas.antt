@@ -4,7 +4,7 @@ use Rattle.std.specs.List.{list_all}
 use Rattle.std.proofs.lemmas.List.{take_more, drop_more, drop_all}
 use Rattle.std.proofs.lemmas.List.Folds.{list_all-append, list_any-append}
 use Rattle.mal_base.specs.Literals.{var_of}
-use Rattle.mal_base.specs.Held.{Held}
+use Rattle.mal_base.specs.NumberedClause.{NumberedClause}
 use Rattle.mal_base.specs.declared.trail_entry.TrailEntry.{TrailEntry}
 use Rattle.spec_node.specs.Value.{is_true, has_value, first_open}
 use Rattle.spec_node.specs.Batch.{Progress, after_batch, after_all, batch}
@@ -34,7 +34,7 @@ past-more trail rest order assumptions passed h =
     }
 
 -- a batch makes the trail longer
-pub past-batch : (q : ℕ) (trail now : List TrailEntry) (clauses : List Held) (o : Option ℕ) (order : Ordered) (assumptions : List ℕ) (passed : ℕ) → after_batch q trail clauses ≡ record { trail = now; conflict = o } → IsPast trail order assumptions passed → IsPast now order assumptions passed
+pub past-batch : (q : ℕ) (trail now : List TrailEntry) (clauses : List NumberedClause) (o : Option ℕ) (order : Ordered) (assumptions : List ℕ) (passed : ℕ) → after_batch q trail clauses ≡ record { trail = now; conflict = o } → IsPast trail order assumptions passed → IsPast now order assumptions passed
 past-batch q trail now clauses o order assumptions passed e h =
     let start : Progress = record { trail = trail; conflict = None } in
     let k = after_all-extends (take q trail) (batch (take q trail) clauses) start in

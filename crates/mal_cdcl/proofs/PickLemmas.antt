@@ -7,7 +7,7 @@ use Rattle.std.proofs.lemmas.List.Folds.{list_any-append}
 use Rattle.std.proofs.lemmas.List.Elements.{filter-append}
 use Rattle.std.proofs.lemmas.Bool.{cases_lt, lt-ltb, le-ltb, le-leb, lt-leb}
 use Rattle.std.proofs.lemmas.Slice.Eq.{bytes_eq-Decides}
-use Rattle.mal_base.specs.Held.{Held}
+use Rattle.mal_base.specs.NumberedClause.{NumberedClause}
 use Rattle.mal_revision.specs.Posted.{Posted}
 use Rattle.mal_filter.specs.Noted.{is_noted}
 use Rattle.mal_freeze.proofs.ListLemmas.{take-at}
@@ -38,7 +38,7 @@ pub filter-next : {X : Type 0} (test : X → Bool) (xs : List X) (i : ℕ) (x d 
 filter-next test xs i x d l e = rw (take-at xs i x d l e) (filter-append test (take i xs) (x ∷ []))
 
 -- whether literals are held does not depend on where clauses stand
-lits-with_clause : (lits : List ℕ) (c : Held) (cs : List Held) → has_lits lits (with_clause c cs) ≡ (bytes_eq lits c.lits || has_lits lits cs)
+lits-with_clause : (lits : List ℕ) (c : NumberedClause) (cs : List NumberedClause) → has_lits lits (with_clause c cs) ≡ (bytes_eq lits c.lits || has_lits lits cs)
 lits-with_clause lits c [] = refl
 lits-with_clause lits c (d ∷ ds) = by_order (lits-with_clause lits c ds) (nat_lt c.id d.id)
   where
@@ -58,12 +58,12 @@ or-joined true false c = refl
 or-joined false true c = refl
 or-joined false false c = refl
 
-lits-with_clauses : (lits : List ℕ) (new cs : List Held) → has_lits lits (with_clauses new cs) ≡ (has_lits lits new || has_lits lits cs)
+lits-with_clauses : (lits : List ℕ) (new cs : List NumberedClause) → has_lits lits (with_clauses new cs) ≡ (has_lits lits new || has_lits lits cs)
 lits-with_clauses lits [] cs = refl
 lits-with_clauses lits (c ∷ new) cs = lits-with_clauses lits new (with_clause c cs) ∙ (ap (λ (b : Bool). has_lits lits new || b) (lits-with_clause lits c cs) ∙ or-joined (has_lits lits new) (bytes_eq lits c.lits) (has_lits lits cs))
 
 -- literals that are told were held or are taken
-lits-taken : (lits : List ℕ) (told cs : List Held) → (has_lits lits (taken told cs) || has_lits lits cs) ≡ (has_lits lits told || has_lits lits cs)
+lits-taken : (lits : List ℕ) (told cs : List NumberedClause) → (has_lits lits (taken told cs) || has_lits lits cs) ≡ (has_lits lits told || has_lits lits cs)
 lits-taken lits [] cs = refl
 lits-taken lits (c ∷ told) cs = by_test (lits-taken lits told cs) (has_lits c.lits cs) refl (bytes_eq lits c.lits) refl
   where
@@ -81,7 +81,7 @@ lits-taken lits (c ∷ told) cs = by_test (lits-taken lits told cs) (has_lits c.
     by_test k false h false same = rw same k
 
 -- literals are held after what is told is taken, where they are told or held
-lits-imported : (lits : List ℕ) (told cs : List Held) → has_lits lits (with_clauses (taken told cs) cs) ≡ (has_lits lits told || has_lits lits cs)
+lits-imported : (lits : List ℕ) (told cs : List NumberedClause) → has_lits lits (with_clauses (taken told cs) cs) ≡ (has_lits lits told || has_lits lits cs)
 lits-imported lits told cs = lits-with_clauses lits (taken told cs) cs ∙ lits-taken lits told cs
 
 lits-numbered : (lits : List ℕ) (first : ℕ) (cs : List (Option (List ℕ))) → has_lits lits (numbered first cs) ≡ is_posted_in lits cs
@@ -90,7 +90,7 @@ lits-numbered lits first (None ∷ cs) = lits-numbered lits (first + 1) cs
 lits-numbered lits first (Some c ∷ cs) = ap (λ (b : Bool). bytes_eq lits c || b) (lits-numbered lits (first + 1) cs)
 
 -- each clause is an original one or derived
-parted : (lits : List ℕ) (ds : List Held) → (has_lits lits (originals ds) || has_lits lits (filter is_derived ds)) ≡ has_lits lits ds
+parted : (lits : List ℕ) (ds : List NumberedClause) → (has_lits lits (originals ds) || has_lits lits (filter is_derived ds)) ≡ has_lits lits ds
 parted lits [] = refl
 parted lits (d ∷ ds) = by_kind (parted lits ds) (cases_lt d.id (2 ^ 32))
   where
@@ -108,8 +108,8 @@ parted lits (d ∷ ds) = by_kind (parted lits ds) (cases_lt d.id (2 ^ 32))
     by_kind k (inl l) = rw (lt-ltb d.id (2 ^ 32) l, lt-leb (2 ^ 32) d.id l) (before (bytes_eq lits d.lits) (has_lits lits (originals ds)) (has_lits lits (filter is_derived ds)) ∙ ap (λ (b : Bool). bytes_eq lits d.lits || b) k)
     by_kind k (inr l) = rw (le-ltb d.id (2 ^ 32) l, le-leb (2 ^ 32) d.id l) (behind (bytes_eq lits d.lits) (has_lits lits (originals ds)) (has_lits lits (filter is_derived ds)) ∙ ap (λ (b : Bool). bytes_eq lits d.lits || b) k)
 
-lits-parted : (lits : List ℕ) (new cs : List Held) → has_lits lits (with_originals cs new) ≡ (has_lits lits new || has_lits lits cs)
-lits-parted lits new cs = list_any-append (λ (c : Held). bytes_eq lits c.lits) (originals cs) (new ++ filter is_derived cs) ∙ (ap (λ (b : Bool). has_lits lits (originals cs) || b) (list_any-append (λ (c : Held). bytes_eq lits c.lits) new (filter is_derived cs)) ∙ (moved (has_lits lits (originals cs)) (has_lits lits new) (has_lits lits (filter is_derived cs)) ∙ ap (λ (b : Bool). has_lits lits new || b) (parts cs)))
+lits-parted : (lits : List ℕ) (new cs : List NumberedClause) → has_lits lits (with_originals cs new) ≡ (has_lits lits new || has_lits lits cs)
+lits-parted lits new cs = list_any-append (λ (c : NumberedClause). bytes_eq lits c.lits) (originals cs) (new ++ filter is_derived cs) ∙ (ap (λ (b : Bool). has_lits lits (originals cs) || b) (list_any-append (λ (c : NumberedClause). bytes_eq lits c.lits) new (filter is_derived cs)) ∙ (moved (has_lits lits (originals cs)) (has_lits lits new) (has_lits lits (filter is_derived cs)) ∙ ap (λ (b : Bool). has_lits lits new || b) (parts cs)))
   where
     moved : (a b c : Bool) → (a || (b || c)) ≡ (b || (a || c))
     moved true true c = refl
@@ -117,7 +117,7 @@ lits-parted lits new cs = list_any-append (λ (c : Held). bytes_eq lits c.lits) 
     moved false true c = refl
     moved false false c = refl
 
-    parts : (ds : List Held) → (has_lits lits (originals ds) || has_lits lits (filter is_derived ds)) ≡ has_lits lits ds
+    parts : (ds : List NumberedClause) → (has_lits lits (originals ds) || has_lits lits (filter is_derived ds)) ≡ has_lits lits ds
     parts ds = parted lits ds
 
 lits-loaded : (lits : List ℕ) (r : Posted) (first : ℕ) (n : Node) → has_lits lits (loaded r first n).clauses ≡ (is_posted_in lits r.clauses || has_lits lits n.clauses)
@@ -128,52 +128,52 @@ lits-readied lits [] n = refl
 lits-readied lits (l ∷ ls) n = lits-readied lits ls (loaded l.0 l.1 n) ∙ (ap (λ (b : Bool). is_loaded_in lits ls || b) (lits-loaded lits l.0 l.1 n) ∙ or-joined (is_loaded_in lits ls) (is_posted_in lits l.0.clauses) (has_lits lits n.clauses))
 
 -- what a filter lets pass is taken of a list by a node whose clauses it has seen
-taken-seen : (seen : List (List ℕ)) (cs told : List Held) → Sees seen cs → filter (λ c. not (is_noted c.lits seen)) told ≡ taken told cs
+taken-seen : (seen : List (List ℕ)) (cs told : List NumberedClause) → Sees seen cs → filter (λ c. not (is_noted c.lits seen)) told ≡ taken told cs
 taken-seen seen cs [] h = refl
-taken-seen seen cs (c ∷ told) h = ap (λ (b : Bool). cond (not b) (c ∷ filter (λ d. not (is_noted d.lits seen)) told) (filter (λ d. not (is_noted d.lits seen)) told)) (h c.lits) ∙ ap (λ (xs : List Held). cond (not (has_lits c.lits cs)) (c ∷ xs) xs) (taken-seen seen cs told h)
+taken-seen seen cs (c ∷ told) h = ap (λ (b : Bool). cond (not b) (c ∷ filter (λ d. not (is_noted d.lits seen)) told) (filter (λ d. not (is_noted d.lits seen)) told)) (h c.lits) ∙ ap (λ (xs : List NumberedClause). cond (not (has_lits c.lits cs)) (c ∷ xs) xs) (taken-seen seen cs told h)
 
 -- what is left to be picked of some lists by a node that held these clauses
-pub record IsPicking (left all : List (List Held)) (clauses : List Held) (picks : List (List Held)) (seen : List (List ℕ)) : Type 0 where
-  pub now : List Held
+pub record IsPicking (left all : List (List NumberedClause)) (clauses : List NumberedClause) (picks : List (List NumberedClause)) (seen : List (List ℕ)) : Type 0 where
+  pub now : List NumberedClause
   pub sees : Sees seen now
   pub done : picks ++ picked left now ≡ picked all clauses
 
-pub picking-begins : (all : List (List Held)) (clauses : List Held) (seen : List (List ℕ)) → Sees seen clauses → IsPicking all all clauses [] seen
+pub picking-begins : (all : List (List NumberedClause)) (clauses : List NumberedClause) (seen : List (List ℕ)) → Sees seen clauses → IsPicking all all clauses [] seen
 picking-begins all clauses seen h = record { now = clauses; sees = h; done = refl }
 
 -- the lists that are left from a place on begin with the one that stands there
-drop-told : (all : List (Bor (List Held))) (i : ℕ) (x d : Bor (List Held)) → i < length all → x ≡ get_or all i d → lent (drop i all) ≡ x.now ∷ lent (drop (i + 1) all)
+drop-told : (all : List (Bor (List NumberedClause))) (i : ℕ) (x d : Bor (List NumberedClause)) → i < length all → x ≡ get_or all i d → lent (drop i all) ≡ x.now ∷ lent (drop (i + 1) all)
 drop-told [] i x d l e = absurd (omega arith)
 drop-told (y ∷ ys) zero x d l e = rw e refl
 drop-told (y ∷ ys) (suc i) x d l e =
     let more : suc i + 1 ≡ suc (i + 1) = omega arith in
     rw more (drop-told ys i x d (omega arith) e)
 
-pub picking-next : (all : List (Bor (List Held))) (i : ℕ) (told d : Bor (List Held)) (pick : List Held) (clauses : List Held) (picks : List (List Held)) (seen next : List (List ℕ)) → i < length all → told ≡ get_or all i d → pick ≡ filter (λ c. not (is_noted c.lits seen)) told.now → ((lits : List ℕ) → is_noted lits next ≡ (has_lits lits told.now || is_noted lits seen)) → IsPicking (lent (drop i all)) (lent all) clauses picks seen → IsPicking (lent (drop (i + 1) all)) (lent all) clauses (picks ++ pick ∷ []) next
+pub picking-next : (all : List (Bor (List NumberedClause))) (i : ℕ) (told d : Bor (List NumberedClause)) (pick : List NumberedClause) (clauses : List NumberedClause) (picks : List (List NumberedClause)) (seen next : List (List ℕ)) → i < length all → told ≡ get_or all i d → pick ≡ filter (λ c. not (is_noted c.lits seen)) told.now → ((lits : List ℕ) → is_noted lits next ≡ (has_lits lits told.now || is_noted lits seen)) → IsPicking (lent (drop i all)) (lent all) clauses picks seen → IsPicking (lent (drop (i + 1) all)) (lent all) clauses (picks ++ pick ∷ []) next
 picking-next all i told d pick clauses picks seen next l e p noted h =
     let split : lent (drop i all) ≡ told.now ∷ lent (drop (i + 1) all) = drop-told all i told d l e in
     let taking : pick ≡ taken told.now h.now = p ∙ taken-seen seen h.now told.now h.sees in
-    let done : picks ++ picked (told.now ∷ lent (drop (i + 1) all)) h.now ≡ picked (lent all) clauses = ap (λ (left : List (List Held)). picks ++ picked left h.now) (sym split) ∙ h.done in
+    let done : picks ++ picked (told.now ∷ lent (drop (i + 1) all)) h.now ≡ picked (lent all) clauses = ap (λ (left : List (List NumberedClause)). picks ++ picked left h.now) (sym split) ∙ h.done in
     record {
       now = with_clauses (taken told.now h.now) h.now;
       sees = λ lits. noted lits ∙ (ap (λ (b : Bool). has_lits lits told.now || b) (h.sees lits) ∙ sym (lits-imported lits told.now h.now));
-      done = append_assoc picks (pick ∷ []) (picked (lent (drop (i + 1) all)) (with_clauses (taken told.now h.now) h.now)) ∙ (ap (λ (x : List Held). picks ++ x ∷ picked (lent (drop (i + 1) all)) (with_clauses (taken told.now h.now) h.now)) taking ∙ done);
+      done = append_assoc picks (pick ∷ []) (picked (lent (drop (i + 1) all)) (with_clauses (taken told.now h.now) h.now)) ∙ (ap (λ (x : List NumberedClause). picks ++ x ∷ picked (lent (drop (i + 1) all)) (with_clauses (taken told.now h.now) h.now)) taking ∙ done);
     }
 
 -- behind the last list nothing is left
-drop-all : (all : List (Bor (List Held))) (i : ℕ) → length all ≤ i → lent (drop i all) ≡ []
+drop-all : (all : List (Bor (List NumberedClause))) (i : ℕ) → length all ≤ i → lent (drop i all) ≡ []
 drop-all [] zero l = refl
 drop-all [] (suc i) l = refl
 drop-all (x ∷ xs) zero l = absurd (omega arith)
 drop-all (x ∷ xs) (suc i) l = drop-all xs i (omega arith)
 
-pub picking-ends : (all : List (Bor (List Held))) (i : ℕ) (clauses : List Held) (picks : List (List Held)) (seen : List (List ℕ)) → length all ≤ i → IsPicking (lent (drop i all)) (lent all) clauses picks seen → picks ≡ picked (lent all) clauses
-picking-ends all i clauses picks seen l h = sym (append-nil picks) ∙ (ap (λ (left : List (List Held)). picks ++ picked left h.now) (sym (drop-all all i l)) ∙ h.done)
+pub picking-ends : (all : List (Bor (List NumberedClause))) (i : ℕ) (clauses : List NumberedClause) (picks : List (List NumberedClause)) (seen : List (List ℕ)) → length all ≤ i → IsPicking (lent (drop i all)) (lent all) clauses picks seen → picks ≡ picked (lent all) clauses
+picking-ends all i clauses picks seen l h = sym (append-nil picks) ∙ (ap (λ (left : List (List NumberedClause)). picks ++ picked left h.now) (sym (drop-all all i l)) ∙ h.done)
 
 -- what has noted the clauses of a node and those of loads has seen those of the node after the loads
-pub sees-readied : (loads : List (Posted × ℕ)) (n : Node) (clauses : List Held) (none held all : List (List ℕ)) → n.clauses ≡ clauses → none ≡ [] → ((lits : List ℕ) → is_noted lits held ≡ (has_lits lits clauses || is_noted lits none)) → ((lits : List ℕ) → is_noted lits all ≡ (is_loaded_in lits loads || is_noted lits held)) → Sees all (readied loads n).clauses
+pub sees-readied : (loads : List (Posted × ℕ)) (n : Node) (clauses : List NumberedClause) (none held all : List (List ℕ)) → n.clauses ≡ clauses → none ≡ [] → ((lits : List ℕ) → is_noted lits held ≡ (has_lits lits clauses || is_noted lits none)) → ((lits : List ℕ) → is_noted lits all ≡ (is_loaded_in lits loads || is_noted lits held)) → Sees all (readied loads n).clauses
 sees-readied loads n clauses none held all same empty h k = λ lits.
-    let first : is_noted lits held ≡ has_lits lits n.clauses = h lits ∙ (ap (λ (xs : List (List ℕ)). has_lits lits clauses || is_noted lits xs) empty ∙ (no-more (has_lits lits clauses) ∙ ap (λ (cs : List Held). has_lits lits cs) (sym same))) in
+    let first : is_noted lits held ≡ has_lits lits n.clauses = h lits ∙ (ap (λ (xs : List (List ℕ)). has_lits lits clauses || is_noted lits xs) empty ∙ (no-more (has_lits lits clauses) ∙ ap (λ (cs : List NumberedClause). has_lits lits cs) (sym same))) in
     k lits ∙ (ap (λ (b : Bool). is_loaded_in lits loads || b) first ∙ sym (lits-readied lits loads n))
   where
     no-more : (b : Bool) → (b || false) ≡ b

@@ -5,7 +5,7 @@ use Rattle.std.proofs.lemmas.List.Elements.{All-nil, All-cons, All-head, All-tai
 use Rattle.mal_base.specs.Literals.{var_of}
 use Rattle.mal_base.specs.Clauses.{rises}
 use Rattle.mal_base.specs.Formulas.{is_within}
-use Rattle.mal_base.specs.Held.{Held}
+use Rattle.mal_base.specs.NumberedClause.{NumberedClause}
 use Rattle.mal_revision.specs.Posted.{Posted, is_posted}
 use Rattle.spec_node.specs.State.{Node, fresh}
 use Rattle.spec_node.specs.Load.{is_derived, numbered, loaded}
@@ -21,7 +21,7 @@ use Rattle.mal_cdcl.specs.Single.{IsSingle, AreFirstTold}
 use Rattle.mal_cdcl.specs.Sliced.{IsUnrun, HasLowCounts}
 
 -- importing lists one after another keeps a node sound
-pub imports-sound : (imports : List (List Held)) (n : Node) → MayImportAll imports n → IsSound n → IsSound (all_imported imports n)
+pub imports-sound : (imports : List (List NumberedClause)) (n : Node) → MayImportAll imports n → IsSound n → IsSound (all_imported imports n)
 imports-sound [] n h s = s
 imports-sound (told ∷ more) n h s = imports-sound more (imported told n) h.1 (import-keeps_sound told n h.0 s)
 
@@ -37,9 +37,9 @@ pub literals-tested : (v : ℕ) (lits : List ℕ) → rises lits ≡ true → is
 literals-tested v lits r h = record { rising = r; within = all-literals v lits h }
 
 -- a list of one derived clause may be told where no clause held has its number
-pub single-may : (v id : ℕ) (told : List Held) (n : Node) → 2 ^ 32 ≤ id → n.variables ≡ v → All (λ d. id ≢ d.id) n.clauses → IsSingle v id told → MayImport told n
+pub single-may : (v id : ℕ) (told : List NumberedClause) (n : Node) → 2 ^ 32 ≤ id → n.variables ≡ v → All (λ d. id ≢ d.id) n.clauses → IsSingle v id told → MayImport told n
 single-may v id told n high same apart h =
-    let one : Held = record { id = id; lits = h.0 } in
+    let one : NumberedClause = record { id = id; lits = h.0 } in
     rw h.1 (record {
       derived = All-cons (λ c. is_derived c ≡ true) one [] (le-leb (2 ^ 32) id high) (All-nil (λ c. is_derived c ≡ true));
       within = All-cons (λ c. AreLiteralsOf n.variables c.lits) one [] (rw same h.2) (All-nil (λ c. AreLiteralsOf n.variables c.lits));
@@ -48,52 +48,52 @@ single-may v id told n high same apart h =
     })
 
 -- originals have no number of a derived clause
-pub originals-apart : (id : ℕ) (clauses : List Held) → 2 ^ 32 ≤ id → All (λ c. c.id < 2 ^ 32) clauses → All (λ d. id ≢ d.id) clauses
+pub originals-apart : (id : ℕ) (clauses : List NumberedClause) → 2 ^ 32 ≤ id → All (λ c. c.id < 2 ^ 32) clauses → All (λ d. id ≢ d.id) clauses
 originals-apart id clauses high h = All-weaker (λ c. c.id < 2 ^ 32) (λ d. id ≢ d.id) (λ c k e. absurd (omega (arith, e))) clauses h
 
 -- after the import of a list of one clause no clause held has another number that none had before
-pub apart-after : (v id other : ℕ) (told : List Held) (n : Node) → (other ≢ id) → All (λ d. other ≢ d.id) n.clauses → IsSingle v id told → All (λ d. other ≢ d.id) (imported told n).clauses
+pub apart-after : (v id other : ℕ) (told : List NumberedClause) (n : Node) → (other ≢ id) → All (λ d. other ≢ d.id) n.clauses → IsSingle v id told → All (λ d. other ≢ d.id) (imported told n).clauses
 apart-after v id other told n differ apart h =
-    let one : Held = record { id = id; lits = h.0 } in
+    let one : NumberedClause = record { id = id; lits = h.0 } in
     let each : All (λ d. other ≢ d.id) told = rw h.1 (All-cons (λ d. other ≢ d.id) one [] differ (All-nil (λ d. other ≢ d.id))) in
     All-with_clauses (λ d. other ≢ d.id) (taken told n.clauses) n.clauses (All-passed (λ d. other ≢ d.id) _ told each) apart
 
 -- the serial stays below a bound that is above the serials of clauses
-serial-within : (bound serial : ℕ) (new : List Held) → serial ≤ bound → All (λ c. serial_of c < bound) new → serial_above serial new ≤ bound
+serial-within : (bound serial : ℕ) (new : List NumberedClause) → serial ≤ bound → All (λ c. serial_of c < bound) new → serial_above serial new ≤ bound
 serial-within bound serial [] b h = b
 serial-within bound serial (c ∷ new) b h =
     let here : serial_of c < bound = All-head (λ x. serial_of x < bound) c new h in
     serial-within bound (max serial (serial_of c + 1)) new (omega arith) (All-tail (λ x. serial_of x < bound) c new h)
 
 -- so does the serial of a node that imports one clause
-serial-after : (bound v id : ℕ) (told : List Held) (n : Node) → n.serial ≤ bound → (id - 2 ^ 32) / 64 < bound → IsSingle v id told → (imported told n).serial ≤ bound
+serial-after : (bound v id : ℕ) (told : List NumberedClause) (n : Node) → n.serial ≤ bound → (id - 2 ^ 32) / 64 < bound → IsSingle v id told → (imported told n).serial ≤ bound
 serial-after bound v id told n b low h =
-    let one : Held = record { id = id; lits = h.0 } in
+    let one : NumberedClause = record { id = id; lits = h.0 } in
     let each : All (λ c. serial_of c < bound) told = rw h.1 (All-cons (λ c. serial_of c < bound) one [] low (All-nil (λ c. serial_of c < bound))) in
     serial-within bound n.serial (taken told n.clauses) b (All-passed (λ c. serial_of c < bound) _ told each)
 
 -- a list of one derived clause of a low serial may be the first to be told
-pub one-first : (v id : ℕ) (told : List Held) → 2 ^ 32 ≤ id → (id - 2 ^ 32) / 64 < 2 ^ 40 → IsSingle v id told → AreFirstTold v (told ∷ [])
+pub one-first : (v id : ℕ) (told : List NumberedClause) → 2 ^ 32 ≤ id → (id - 2 ^ 32) / 64 < 2 ^ 40 → IsSingle v id told → AreFirstTold v (told ∷ [])
 one-first v id told high low h n same unrun originals =
     let serial : (imported told n).serial ≤ 2 ^ 40 = serial-after (2 ^ 40) v id told n (omega (arith, unrun.serial)) low h in (
       (single-may v id told n high same (originals-apart id n.clauses high originals) h, tt),
-      record { since = omega (arith, unrun.since); round = omega (arith, unrun.round); serial = omega (arith, serial) },
+      record { conflicts_since_restart = omega (arith, unrun.conflicts_since_restart); restart_number = omega (arith, unrun.restart_number); serial = omega (arith, serial) },
     )
 
 -- and one under another number after it
-pub two-first : (v id other : ℕ) (told more : List Held) → 2 ^ 32 ≤ id → 2 ^ 32 ≤ other → (other ≢ id) → (id - 2 ^ 32) / 64 < 2 ^ 40 → (other - 2 ^ 32) / 64 < 2 ^ 40 → IsSingle v id told → IsSingle v other more → AreFirstTold v (told ∷ (more ∷ []))
+pub two-first : (v id other : ℕ) (told more : List NumberedClause) → 2 ^ 32 ≤ id → 2 ^ 32 ≤ other → (other ≢ id) → (id - 2 ^ 32) / 64 < 2 ^ 40 → (other - 2 ^ 32) / 64 < 2 ^ 40 → IsSingle v id told → IsSingle v other more → AreFirstTold v (told ∷ (more ∷ []))
 two-first v id other told more high high' differ low low' h k n same unrun originals =
     let next : Node = imported told n in
     let once : next.serial ≤ 2 ^ 40 = serial-after (2 ^ 40) v id told n (omega (arith, unrun.serial)) low h in
     let twice : (imported more next).serial ≤ 2 ^ 40 = serial-after (2 ^ 40) v other more next once low' k in
     let apart : All (λ d. other ≢ d.id) next.clauses = apart-after v id other told n differ (originals-apart other n.clauses high' originals) h in (
       (single-may v id told n high same (originals-apart id n.clauses high originals) h, (single-may v other more next high' same apart k, tt)),
-      record { since = omega (arith, unrun.since); round = omega (arith, unrun.round); serial = omega (arith, twice) },
+      record { conflicts_since_restart = omega (arith, unrun.conflicts_since_restart); restart_number = omega (arith, unrun.restart_number); serial = omega (arith, twice) },
     )
 
 -- lists that may be the first to be told may be told to node 0 after its first load, which is sound and of low counts then
-pub first-told : (r : Posted) (imports : List (List Held)) → r.variables ≡ 2 → 1 + length r.clauses ≤ 2 ^ 32 → AreFirstTold 2 imports → MayImportAll imports (loaded r 1 (fresh 0)) × HasLowCounts (all_imported imports (loaded r 1 (fresh 0)))
-first-told r imports v b h = h (loaded r 1 (fresh 0)) (omega (arith, v)) (record { since = refl; round = refl; serial = refl }) (All-with_originals (λ c. c.id < 2 ^ 32) [] (numbered 1 r.clauses) (All-nil (λ (c : Held). c.id < 2 ^ 32)) (numbered-below (2 ^ 32) 1 r.clauses b))
+pub first-told : (r : Posted) (imports : List (List NumberedClause)) → r.variables ≡ 2 → 1 + length r.clauses ≤ 2 ^ 32 → AreFirstTold 2 imports → MayImportAll imports (loaded r 1 (fresh 0)) × HasLowCounts (all_imported imports (loaded r 1 (fresh 0)))
+first-told r imports v b h = h (loaded r 1 (fresh 0)) (omega (arith, v)) (record { conflicts_since_restart = refl; restart_number = refl; serial = refl }) (All-with_originals (λ c. c.id < 2 ^ 32) [] (numbered 1 r.clauses) (All-nil (λ (c : NumberedClause). c.id < 2 ^ 32)) (numbered-below (2 ^ 32) 1 r.clauses b))
 
-pub first-sound : (r : Posted) (imports : List (List Held)) → is_posted r ≡ true → r.variables ≡ 2 → 1 + length r.clauses ≤ 2 ^ 32 → AreFirstTold 2 imports → IsSound (all_imported imports (loaded r 1 (fresh 0)))
-first-sound r imports p v b h = imports-sound imports (loaded r 1 (fresh 0)) (first-told r imports v b h).0 (loaded-sound r 1 (fresh 0) p (posted-literals r p) (record { some = omega arith; above = All-nil (λ (c : Held). c.id < 2 ^ 32 → c.id < 1); below = b }) (fresh-sound 0 (omega arith)))
+pub first-sound : (r : Posted) (imports : List (List NumberedClause)) → is_posted r ≡ true → r.variables ≡ 2 → 1 + length r.clauses ≤ 2 ^ 32 → AreFirstTold 2 imports → IsSound (all_imported imports (loaded r 1 (fresh 0)))
+first-sound r imports p v b h = imports-sound imports (loaded r 1 (fresh 0)) (first-told r imports v b h).0 (loaded-sound r 1 (fresh 0) p (posted-literals r p) (record { some = omega arith; above = All-nil (λ (c : NumberedClause). c.id < 2 ^ 32 → c.id < 1); below = b }) (fresh-sound 0 (omega arith)))

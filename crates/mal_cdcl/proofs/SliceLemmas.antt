@@ -1,5 +1,5 @@
 use Rattle.std.proofs.Common.{◌≡◌, ℕ, zero, suc, ◌+◌, ◌≤◌, true, false, List, [], ◌∷◌, ◌++◌, Option, Some, None, refl, sym, ap, ◌∙◌, append_assoc, append-nil, arith}
-use Rattle.mal_base.specs.Held.{Line}
+use Rattle.mal_base.specs.NumberedClause.{Line}
 use Rattle.spec_node.specs.State.{Node}
 use Rattle.spec_node.specs.Sound.{IsSound}
 use Rattle.spec_search.specs.Step.{Case, Learns, Refutes, Propagates, Restarts, Contradicts, Assumes, Decides, Ends, case_of, after_case, step, next_line}
@@ -7,24 +7,24 @@ use Rattle.spec_search.specs.Slice.{Sliced, behind, steps_from, is_over, used_af
 use Rattle.spec_search.proofs.SliceLemmas.{behind-node}
 use Rattle.spec_search.proofs.SoundLemmas.{step-sound}
 use Rattle.spec_search.proofs.ModelLemmas.{step-leaves}
-use Rattle.mal_cdcl.specs.Within.{Stocked}
+use Rattle.mal_cdcl.specs.Within.{NodeWithRoom}
 use Rattle.mal_cdcl.specs.Sliced.{HasStepRoom, HasSliceRoom, HasLowCounts, MayCount, and_line, IsStepped}
 
 -- a step raises each count by 1 at the most
 record Rises (before after : Node) : Type 0 where
   pub serial : after.serial ≤ before.serial + 1
-  pub since : after.since ≤ before.since + 1
-  pub round : after.round ≤ before.round + 1
+  pub conflicts_since_restart : after.conflicts_since_restart ≤ before.conflicts_since_restart + 1
+  pub restart_number : after.restart_number ≤ before.restart_number + 1
 
 case-rises : (c : Case) (n : Node) → Rises n (after_case c n)
-case-rises (Learns id) n = record { serial = omega arith; since = omega arith; round = omega arith }
-case-rises (Refutes id) n = record { serial = omega arith; since = omega arith; round = omega arith }
-case-rises Propagates n = record { serial = omega arith; since = omega arith; round = omega arith }
-case-rises Restarts n = record { serial = omega arith; since = omega arith; round = omega arith }
-case-rises (Contradicts a) n = record { serial = omega arith; since = omega arith; round = omega arith }
-case-rises (Assumes a) n = record { serial = omega arith; since = omega arith; round = omega arith }
-case-rises (Decides v) n = record { serial = omega arith; since = omega arith; round = omega arith }
-case-rises Ends n = record { serial = omega arith; since = omega arith; round = omega arith }
+case-rises (Learns id) n = record { serial = omega arith; conflicts_since_restart = omega arith; restart_number = omega arith }
+case-rises (Refutes id) n = record { serial = omega arith; conflicts_since_restart = omega arith; restart_number = omega arith }
+case-rises Propagates n = record { serial = omega arith; conflicts_since_restart = omega arith; restart_number = omega arith }
+case-rises Restarts n = record { serial = omega arith; conflicts_since_restart = omega arith; restart_number = omega arith }
+case-rises (Contradicts a) n = record { serial = omega arith; conflicts_since_restart = omega arith; restart_number = omega arith }
+case-rises (Assumes a) n = record { serial = omega arith; conflicts_since_restart = omega arith; restart_number = omega arith }
+case-rises (Decides v) n = record { serial = omega arith; conflicts_since_restart = omega arith; restart_number = omega arith }
+case-rises Ends n = record { serial = omega arith; conflicts_since_restart = omega arith; restart_number = omega arith }
 
 steps-next : (k used : ℕ) (n : Node) → is_over used n ≡ false → steps_from (suc k) used n ≡ behind (next_line n) (steps_from k (used_after used (next_line n)) (step n))
 steps-next k used n h = rw h refl
@@ -38,17 +38,17 @@ behind-lines ls None s = refl
 behind-lines ls (Some l) s = sym (append_assoc ls (l ∷ []) s.lines)
 
 -- what is left of a slice: so many steps, before which so many literals and hints were derived, give what the whole gives
-pub record IsSlicing (left used : ℕ) (start now : Stocked) : Type 0 where
+pub record IsSlicing (left used : ℕ) (start now : NodeWithRoom) : Type 0 where
   pub node : (steps_from left used now.state).node ≡ (steps_from 1000 0 start.state).node
   pub lines : now.lines ++ (steps_from left used now.state).lines ≡ (steps_from 1000 0 start.state).lines
   pub sound : IsSound now.state
   pub room : HasStepRoom left used now
   pub variables : now.state.variables ≡ start.state.variables
   pub serial : now.state.serial + left ≤ start.state.serial + 1000
-  pub since : now.state.since + left ≤ start.state.since + 1000
-  pub round : now.state.round + left ≤ start.state.round + 1000
+  pub conflicts_since_restart : now.state.conflicts_since_restart + left ≤ start.state.conflicts_since_restart + 1000
+  pub restart_number : now.state.restart_number + left ≤ start.state.restart_number + 1000
 
-pub slicing-begins : (n : Stocked) → IsSound n.state → HasSliceRoom n → IsSlicing 1000 0 n n
+pub slicing-begins : (n : NodeWithRoom) → IsSound n.state → HasSliceRoom n → IsSlicing 1000 0 n n
 slicing-begins n h r =
     record {
       node = refl;
@@ -57,11 +57,11 @@ slicing-begins n h r =
       room = r.room;
       variables = refl;
       serial = omega arith;
-      since = omega arith;
-      round = omega arith;
+      conflicts_since_restart = omega arith;
+      restart_number = omega arith;
     }
 
-pub slicing-next : (k used u : ℕ) (start now next : Stocked) → IsSlicing (suc k) used start now → IsStepped used now u next → IsSlicing k u start next
+pub slicing-next : (k used u : ℕ) (start now next : NodeWithRoom) → IsSlicing (suc k) used start now → IsStepped used now u next → IsSlicing k u start next
 slicing-next k used u start now next h s =
     let line : Option Line = next_line now.state in
     let rest : Sliced = steps_from k (used_after used line) (step now.state) in
@@ -75,16 +75,16 @@ slicing-next k used u start now next h s =
       room = s.room k h.room;
       variables = ap (λ (n : Node). n.variables) s.state ∙ ((step-leaves now.state).variables ∙ h.variables);
       serial = rw s.state (omega (arith, rises.serial, h.serial));
-      since = rw s.state (omega (arith, rises.since, h.since));
-      round = rw s.state (omega (arith, rises.round, h.round));
+      conflicts_since_restart = rw s.state (omega (arith, rises.conflicts_since_restart, h.conflicts_since_restart));
+      restart_number = rw s.state (omega (arith, rises.restart_number, h.restart_number));
     }
 
 -- where a slice is over, or no step is left, it was made
-pub record HasRun (start now : Stocked) : Type 0 where
+pub record HasRun (start now : NodeWithRoom) : Type 0 where
   pub node : now.state ≡ (steps_from 1000 0 start.state).node
   pub lines : now.lines ≡ (steps_from 1000 0 start.state).lines
 
-pub slicing-over : (k used : ℕ) (start now : Stocked) → is_over used now.state ≡ true → IsSlicing k used start now → HasRun start now
+pub slicing-over : (k used : ℕ) (start now : NodeWithRoom) → is_over used now.state ≡ true → IsSlicing k used start now → HasRun start now
 slicing-over k used start now o h =
     let none = steps-ended k used now.state o in
     record {
@@ -92,13 +92,13 @@ slicing-over k used start now o h =
       lines = sym (append-nil now.lines) ∙ (sym (ap (λ (x : Sliced). now.lines ++ x.lines) none) ∙ h.lines);
     }
 
-pub slicing-ends : (used : ℕ) (start now : Stocked) → IsSlicing 0 used start now → HasRun start now
+pub slicing-ends : (used : ℕ) (start now : NodeWithRoom) → IsSlicing 0 used start now → HasRun start now
 slicing-ends used start now h = record { node = h.node; lines = sym (append-nil now.lines) ∙ h.lines }
 
 -- the counts stay low enough for a step
-pub may-count : (k used : ℕ) (start now : Stocked) → HasLowCounts start.state → IsSlicing (suc k) used start now → MayCount now.state
-may-count k used start now c h = record { first = h.sound.ranged.round; since = omega (arith, c.since, h.since); round = omega (arith, c.round, h.round); serial = omega (arith, c.serial, h.serial) }
+pub may-count : (k used : ℕ) (start now : NodeWithRoom) → HasLowCounts start.state → IsSlicing (suc k) used start now → MayCount now.state
+may-count k used start now c h = record { first = h.sound.ranged.restart_number; conflicts_since_restart = omega (arith, c.conflicts_since_restart, h.conflicts_since_restart); restart_number = omega (arith, c.restart_number, h.restart_number); serial = omega (arith, c.serial, h.serial) }
 
 -- there is room for a step
-pub room-step : (k used : ℕ) (n : Stocked) → HasStepRoom (suc k) used n → HasStepRoom 1 used n
+pub room-step : (k used : ℕ) (n : NodeWithRoom) → HasStepRoom (suc k) used n → HasStepRoom 1 used n
 room-step k used n h = record { few = h.few; variables = h.variables; clauses = omega (arith, h.clauses); literals = h.literals; lines = omega (arith, h.lines); line_literals = h.line_literals; hints = h.hints }

@@ -6,14 +6,14 @@ use Rattle.std.proofs.lemmas.List.Elements.{All-head, All-tail}
 use Rattle.mal_base.specs.Literals.{var_of}
 use Rattle.mal_base.specs.Clauses.{rises}
 use Rattle.mal_base.specs.Formulas.{is_within}
-use Rattle.mal_base.specs.Held.{Held, lits_under}
+use Rattle.mal_base.specs.NumberedClause.{NumberedClause, lits_under}
 use Rattle.mal_trail.specs.Rooms.{Room, IsLeft, IsRoomFor}
 use Rattle.spec_node.specs.Adding.{with_clause}
 use Rattle.spec_node.specs.Import.{with_clauses}
 use Rattle.spec_node.specs.Sound.{IsLiteralOf, AreLiteralsOf}
 use Rattle.spec_node.specs.Laws.{HaveOwnNumbers}
 use Rattle.spec_node.proofs.ImportLemmas.{apart-with}
-use Rattle.mal_cdcl.specs.Told.{lits_in}
+use Rattle.mal_cdcl.specs.ImportSizes.{lits_in}
 use Rattle.mal_cdcl.specs.Importing.{AreNewTo}
 use Rattle.mal_cdcl.proofs.FillLemmas.{lits_more}
 
@@ -21,7 +21,7 @@ nat_eq_less : (a b : ℕ) → (b ≡ a → ⊥) → nat_eq a b ≡ false
 nat_eq_less a b = grind (arith, nat_tests)
 
 -- a number that no clause has is not held
-pub not-under : (id : ℕ) (held : List Held) → All (λ d. id ≢ d.id) held → lits_under id held ≡ None
+pub not-under : (id : ℕ) (held : List NumberedClause) → All (λ d. id ≢ d.id) held → lits_under id held ≡ None
 not-under id [] h = refl
 not-under id (d ∷ ds) h =
     let other : nat_eq d.id id ≡ false = nat_eq_less d.id id (All-head (λ x. id ≢ x.id) d ds h) in
@@ -37,7 +37,7 @@ within-literals v (l ∷ ls) h =
     rw (low, high) (within-literals v ls (All-tail (IsLiteralOf v) l ls h))
 
 -- the parts of what is new after the first clause
-pub new-rest : (c : Held) (cs held : List Held) (v : ℕ) → AreNewTo held v (c ∷ cs) → AreNewTo (with_clause c held) v cs
+pub new-rest : (c : NumberedClause) (cs held : List NumberedClause) (v : ℕ) → AreNewTo held v (c ∷ cs) → AreNewTo (with_clause c held) v cs
 new-rest c cs held v h =
     record {
       some = All-tail (λ x. 1 ≤ x.id) c cs h.some;
@@ -47,30 +47,30 @@ new-rest c cs held v h =
     }
 
 -- what is left to do of some clauses that are added to those held
-pub record IsTelling (left told start held : List Held) (made now : Room) : Type 0 where
+pub record IsTelling (left told start held : List NumberedClause) (made now : Room) : Type 0 where
   pub done : with_clauses left held ≡ with_clauses told start
   pub new : AreNewTo held made.variables left
   pub variables : made.variables ≤ now.variables
   pub clause_room : made.clauses + length left ≤ now.clauses + length told
   pub literal_room : made.literals + lits_in left ≤ now.literals + lits_in told
 
-pub telling-begins : (told held : List Held) (room : Room) → AreNewTo held room.variables told → IsTelling told told held held room room
+pub telling-begins : (told held : List NumberedClause) (room : Room) → AreNewTo held room.variables told → IsTelling told told held held room room
 telling-begins told held room h = record { done = refl; new = h; variables = omega arith; clause_room = omega arith; literal_room = omega arith }
 
 -- a clause that is left can be added
-pub record MayTell (c : Held) (held : List Held) (now : Room) : Type 0 where
+pub record MayTell (c : NumberedClause) (held : List NumberedClause) (now : Room) : Type 0 where
   pub new : lits_under c.id held ≡ None
   pub form : rises c.lits ≡ true
   pub room : IsRoomFor c.lits now
 
-drop-at : (told : List Held) (i : ℕ) (c d : Held) → i < length told → c ≡ get_or told i d → drop i told ≡ c ∷ drop (i + 1) told
+drop-at : (told : List NumberedClause) (i : ℕ) (c d : NumberedClause) → i < length told → c ≡ get_or told i d → drop i told ≡ c ∷ drop (i + 1) told
 drop-at [] i c d l e = absurd (omega arith)
 drop-at (x ∷ xs) zero c d l e = rw e refl
 drop-at (x ∷ xs) (suc i) c d l e =
     let more : suc i + 1 ≡ suc (i + 1) = omega arith in
     rw more (drop-at xs i c d (omega arith) e)
 
-may-tell_first : (c : Held) (cs told start held : List Held) (made now : Room) → length told ≤ made.clauses → lits_in told ≤ made.literals → IsTelling (c ∷ cs) told start held made now → MayTell c held now
+may-tell_first : (c : NumberedClause) (cs told start held : List NumberedClause) (made now : Room) → length told ≤ made.clauses → lits_in told ≤ made.literals → IsTelling (c ∷ cs) told start held made now → MayTell c held now
 may-tell_first c cs told start held made now cr lr h =
     let lits : AreLiteralsOf made.variables c.lits = All-head (λ x. AreLiteralsOf made.variables x.lits) c cs h.new.within in
     record {
@@ -83,10 +83,10 @@ may-tell_first c cs told start held made now cr lr h =
       };
     }
 
-pub may-tell : (i : ℕ) (c d : Held) (told start held : List Held) (made now : Room) → i < length told → c ≡ get_or told i d → length told ≤ made.clauses → lits_in told ≤ made.literals → IsTelling (drop i told) told start held made now → MayTell c held now
+pub may-tell : (i : ℕ) (c d : NumberedClause) (told start held : List NumberedClause) (made now : Room) → i < length told → c ≡ get_or told i d → length told ≤ made.clauses → lits_in told ≤ made.literals → IsTelling (drop i told) told start held made now → MayTell c held now
 may-tell i c d told start held made now l e cr lr h = may-tell_first c (drop (i + 1) told) told start held made now cr lr (rw (drop-at told i c d l e) at h)
 
-telling-first : (c : Held) (cs told start held : List Held) (made now next : Room) → IsLeft 1 (length c.lits) now next → IsTelling (c ∷ cs) told start held made now → IsTelling cs told start (with_clause c held) made next
+telling-first : (c : NumberedClause) (cs told start held : List NumberedClause) (made now next : Room) → IsLeft 1 (length c.lits) now next → IsTelling (c ∷ cs) told start held made now → IsTelling cs told start (with_clause c held) made next
 telling-first c cs told start held made now next left h =
     record {
       done = h.done;
@@ -96,5 +96,5 @@ telling-first c cs told start held made now next left h =
       literal_room = omega (arith, h.literal_room, left.literals);
     }
 
-pub telling-next : (i : ℕ) (c d : Held) (told start held : List Held) (made now next : Room) → i < length told → c ≡ get_or told i d → IsLeft 1 (length c.lits) now next → IsTelling (drop i told) told start held made now → IsTelling (drop (i + 1) told) told start (with_clause c held) made next
+pub telling-next : (i : ℕ) (c d : NumberedClause) (told start held : List NumberedClause) (made now next : Room) → i < length told → c ≡ get_or told i d → IsLeft 1 (length c.lits) now next → IsTelling (drop i told) told start held made now → IsTelling (drop (i + 1) told) told start (with_clause c held) made next
 telling-next i c d told start held made now next l e left h = telling-first c (drop (i + 1) told) told start held made now next left (rw (drop-at told i c d l e) at h)

@@ -1,5 +1,5 @@
 pub mod Within
-pub mod Told
+pub mod ImportSizes
 pub mod Ready
 pub mod Rising
 pub mod Sliced

@@ -6,9 +6,9 @@ use Rattle.spec_node.specs.State.{Node}
 use Rattle.spec_node.specs.Load.{loaded, added}
 use Rattle.spec_node.specs.Laws.{AreNewNumbers}
 use Rattle.spec_search.specs.Slice.{most_numbers}
-use Rattle.mal_base.specs.Held.{Held}
-use Rattle.mal_cdcl.specs.Within.{Stocked}
-use Rattle.mal_cdcl.specs.Told.{told_clauses, told_literals}
+use Rattle.mal_base.specs.NumberedClause.{NumberedClause}
+use Rattle.mal_cdcl.specs.Within.{NodeWithRoom}
+use Rattle.mal_cdcl.specs.ImportSizes.{told_clauses, told_literals}
 
 -- revisions, each with the number of its first clause, as they are lent
 abbrev pub posted : List (Bor Posted × ℕ) → List (Posted × ℕ)
@@ -45,7 +45,7 @@ most_assumptions [] most = most
 most_assumptions (l ∷ ls) most = most_assumptions ls (max most (length l.0.assumptions))
 
 -- a node has room for these loads, for the clauses of these lists and a slice after them, and has no lines
-pub record HasRoomFor (loads : List (Posted × ℕ)) (told : List (List Held)) (n : Stocked) : Type 0 where
+pub record HasRoomFor (loads : List (Posted × ℕ)) (told : List (List NumberedClause)) (n : NodeWithRoom) : Type 0 where
   pub trail : greatest loads n.state.variables ≤ n.spare.trail
   pub order : greatest loads n.state.variables ≤ n.spare.order + n.state.variables
   pub phases : greatest loads n.state.variables ≤ n.spare.phases + n.state.variables
@@ -59,7 +59,7 @@ pub record HasRoomFor (loads : List (Posted × ℕ)) (told : List (List Held)) (
   pub hints : most_numbers (greatest loads n.state.variables) ≤ n.spare.hints
 
 -- a load uses no more room than it needs, and leaves the lines
-pub record IsSpared (r : Posted) (before after : Stocked) : Type 0 where
+pub record IsSpared (r : Posted) (before after : NodeWithRoom) : Type 0 where
   pub trail : before.spare.trail ≤ after.spare.trail
   pub order : before.spare.order ≤ after.spare.order + added r before.state
   pub phases : before.spare.phases ≤ after.spare.phases + added r before.state

@@ -1,5 +1,5 @@
 use Rattle.std.specs.Prelude.{◌≡◌, ℕ, suc, ◌+◌, ◌-◌, ◌≤◌, ◌<◌, ◌^◌, true, false, List, [], ◌∷◌, ◌++◌, length, Option, Some, None}
-use Rattle.mal_base.specs.Held.{Line}
+use Rattle.mal_base.specs.NumberedClause.{Line}
 use Rattle.spec_node.specs.State.{Node}
 use Rattle.spec_learn.specs.Analysis.{Analysed}
 use Rattle.spec_search.specs.Step.{Case, step, next_line, after_case, line_by}
@@ -10,10 +10,10 @@ use Rattle.mal_base.specs.Literals.{var_of}
 use Rattle.spec_node.specs.Value.{has_value}
 use Rattle.mal_trail.specs.Trailed.{Trailed}
 use Rattle.mal_trail.specs.Rooms.{IsLeft, IsRoomFor}
-use Rattle.mal_cdcl.specs.Within.{Stocked}
+use Rattle.mal_cdcl.specs.Within.{NodeWithRoom}
 
 -- a node has room for what so many steps more derive, of a slice in which so many literals and hints were derived
-pub record HasStepRoom (steps used : ℕ) (n : Stocked) : Type 0 where
+pub record HasStepRoom (steps used : ℕ) (n : NodeWithRoom) : Type 0 where
   pub few : used ≤ most_numbers n.state.variables
   pub variables : n.state.variables ≤ n.spare.engine.variables
   pub clauses : steps ≤ n.spare.engine.clauses
@@ -23,31 +23,31 @@ pub record HasStepRoom (steps used : ℕ) (n : Stocked) : Type 0 where
   pub hints : most_numbers n.state.variables ≤ n.spare.hints + used
 
 -- a node has room for a slice: it has no lines, and has room for those of 1,000 steps
-pub record HasSliceRoom (n : Stocked) : Type 0 where
+pub record HasSliceRoom (n : NodeWithRoom) : Type 0 where
   pub none : n.lines ≡ []
   pub room : HasStepRoom 1000 0 n
 
 -- the counts of a node are low enough for a slice
 pub record HasLowCounts (n : Node) : Type 0 where
-  pub since : n.since < 2 ^ 31
-  pub round : n.round < 2 ^ 31
+  pub conflicts_since_restart : n.conflicts_since_restart < 2 ^ 31
+  pub restart_number : n.restart_number < 2 ^ 31
   pub serial : n.serial < 2 ^ 56
 
 -- the counts of a node are those of a node that was never run
 pub record IsUnrun (n : Node) : Type 0 where
-  pub since : n.since ≡ 0
-  pub round : n.round ≡ 1
+  pub conflicts_since_restart : n.conflicts_since_restart ≡ 0
+  pub restart_number : n.restart_number ≡ 1
   pub serial : n.serial ≡ 0
 
 -- the counts of a node are low enough for a step
 pub record MayCount (n : Node) : Type 0 where
-  pub first : 1 ≤ n.round
-  pub since : n.since < 2 ^ 32 - 1
-  pub round : n.round < 2 ^ 32 - 1
+  pub first : 1 ≤ n.restart_number
+  pub conflicts_since_restart : n.conflicts_since_restart < 2 ^ 32 - 1
+  pub restart_number : n.restart_number < 2 ^ 32 - 1
   pub serial : n.serial + 1 < 2 ^ 57
 
 -- the lines stay, and no room is lost but for so many clauses and literals
-pub record Keeps (clauses literals : ℕ) (before after : Stocked) : Type 0 where
+pub record Keeps (clauses literals : ℕ) (before after : NodeWithRoom) : Type 0 where
   pub lines : after.lines ≡ before.lines
   pub spare : after.spare ≡ record before.spare { engine = after.spare.engine }
   pub room : IsLeft clauses literals before.spare.engine after.spare.engine
@@ -64,12 +64,12 @@ and_line lines None = lines
 and_line lines (Some l) = lines ++ l ∷ []
 
 -- a slice is over, in which so many literals and hints were derived, and the node is as before
-pub record IsEnded (used : ℕ) (before after : Stocked) : Type 0 where
+pub record IsEnded (used : ℕ) (before after : NodeWithRoom) : Type 0 where
   pub over : is_over used before.state ≡ true
   pub same : after ≡ before
 
 -- a slice is not over; a step was made, after which so many literals and hints were derived
-pub record IsStepped (used : ℕ) (before : Stocked) (now : ℕ) (after : Stocked) : Type 0 where
+pub record IsStepped (used : ℕ) (before : NodeWithRoom) (now : ℕ) (after : NodeWithRoom) : Type 0 where
   pub on : is_over used before.state ≡ false
   pub state : after.state ≡ step before.state
   pub lines : after.lines ≡ and_line before.lines (next_line before.state)
@@ -77,29 +77,29 @@ pub record IsStepped (used : ℕ) (before : Stocked) (now : ℕ) (after : Stocke
   pub room : (k : ℕ) → HasStepRoom (suc k) used before → HasStepRoom k now after
 
 -- a case that derives no line was made
-pub record IsSearched (c : Case) (before after : Stocked) : Type 0 where
+pub record IsSearched (c : Case) (before after : NodeWithRoom) : Type 0 where
   pub state : after.state ≡ after_case c before.state
   pub none : line_by c before.state ≡ None
   pub keeps : Keeps 0 0 before after
 
 -- the case is that this assumption is contradicted, and the node is as before
-pub record IsFailing (c : Case) (a : ℕ) (before after : Stocked) : Type 0 where
+pub record IsFailing (c : Case) (a : ℕ) (before after : NodeWithRoom) : Type 0 where
   pub failed : c ≡ Contradicts a
   pub same : after ≡ before
 
 -- an engine has room for a clause of these literals
-abbrev pub HasClauseRoom : List ℕ → Stocked → Type 0
+abbrev pub HasClauseRoom : List ℕ → NodeWithRoom → Type 0
 HasClauseRoom lits n = IsRoomFor lits n.spare.engine
 
 -- a node has room for a line: its clause in the engine, and the line among the lines
-pub record HasLineRoom (l : Line) (n : Stocked) : Type 0 where
+pub record HasLineRoom (l : Line) (n : NodeWithRoom) : Type 0 where
   pub clause : IsRoomFor l.lits n.spare.engine
   pub lines : 1 ≤ n.spare.lines
   pub line_literals : length l.lits ≤ n.spare.line_literals
   pub hints : length l.hints ≤ n.spare.hints
 
 -- a line takes no more room than it needs
-pub record IsLineLess (l : Line) (before after : Stocked) : Type 0 where
+pub record IsLineLess (l : Line) (before after : NodeWithRoom) : Type 0 where
   pub engine : IsLeft 1 (length l.lits) before.spare.engine after.spare.engine
   pub lines : after.spare.lines + 1 ≡ before.spare.lines
   pub line_literals : after.spare.line_literals + length l.lits ≡ before.spare.line_literals

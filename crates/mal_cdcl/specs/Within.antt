@@ -1,7 +1,7 @@
 use Rattle.std.specs.Prelude.{◌≡◌, ℕ, ◌≤◌, Bool, true, List, length, take, nat_le}
 use Rattle.std.specs.List.{list_all}
 use Rattle.mal_base.specs.Formulas.{is_within}
-use Rattle.mal_base.specs.Held.{Held, Line}
+use Rattle.mal_base.specs.NumberedClause.{NumberedClause, Line}
 use Rattle.mal_base.specs.declared.trail_entry.TrailEntry.{TrailEntry}
 use Rattle.spec_node.specs.State.{Node}
 use Rattle.spec_node.specs.Value.{has_value, is_true}
@@ -15,7 +15,7 @@ is_order_of variables order = list_all (λ v. nat_le v variables) order
 
 -- what a node's parts keep: all that it holds speaks of its variables, which the trail has room for, the order has as many
 -- as there are and turns by the node's index, and the numbers of its clauses rise
-pub record IsNode (index variables most : ℕ) (assumptions : List ℕ) (order : Ordered) (phases : List Bool) (clauses : List Held) : Type 0 where
+pub record IsNode (index variables most : ℕ) (assumptions : List ℕ) (order : Ordered) (phases : List Bool) (clauses : List NumberedClause) : Type 0 where
   pub place : index ≤ 63
   pub small : variables ≤ 65536
   pub room : variables ≤ most
@@ -34,7 +34,7 @@ pub record IsPast (trail : List TrailEntry) (order : Ordered) (assumptions : Lis
 
 -- what a node has room for: variables on its trail, variables of the order and phases that it does not have yet,
 -- assumptions, what its engine has room for, and lines more with their literals and hints
-pub record Spare : Type 0 where
+pub record NodeRoom : Type 0 where
   pub trail : ℕ
   pub order : ℕ
   pub phases : ℕ
@@ -45,7 +45,7 @@ pub record Spare : Type 0 where
   pub hints : ℕ
 
 -- a node as contracts see it: its state, what it has room for, and the lines that its last slice derived
-pub record Stocked : Type 0 where
+pub record NodeWithRoom : Type 0 where
   pub state : Node
-  pub spare : Spare
+  pub spare : NodeRoom
   pub lines : List Line

@@ -2,12 +2,12 @@
 #![tactic(auto)]
 
 mod copies;
-mod fill;
+mod import_filter;
 mod learning;
 mod needs;
 mod node;
+mod node_load;
 mod open;
-mod pick;
 mod restart;
 
 pub use node::Node;

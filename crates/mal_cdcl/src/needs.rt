@@ -3,10 +3,10 @@
 ghost use Rattle.std.specs.Prelude.{◌≡◌, ℕ, ◌+◌, ◌^◌, ◌≤◌, true, length, IfOk};
 ghost use Rattle.mal_base.specs.Formulas.{literals_of};
 ghost use Rattle.mal_revision.specs.Posted.{is_posted};
-ghost use Rattle.mal_cdcl.specs.Told.{lits_in, told_clauses, told_literals};
+ghost use Rattle.mal_cdcl.specs.ImportSizes.{lits_in, told_clauses, told_literals};
 ghost use Rattle.mal_cdcl.specs.Ready.{posted, greatest, clauses_in, literals_in, most_assumptions};
 
-use crate::pick::Pick;
+use crate::import_filter::Pick;
 use mal_base::Clause;
 use mal_buffer::Entry;
 use mal_revision::Revision;

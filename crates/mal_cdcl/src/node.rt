@@ -8,7 +8,7 @@ ghost use Rattle.spec_node.specs.Batch.{propagated};
 ghost use Rattle.spec_node.specs.Cut.{cut};
 ghost use Rattle.spec_node.specs.Load.{loaded};
 ghost use Rattle.spec_node.specs.Import.{with_new};
-ghost use Rattle.mal_cdcl.specs.Told.{lits_in};
+ghost use Rattle.mal_cdcl.specs.ImportSizes.{lits_in};
 ghost use Rattle.mal_cdcl.specs.Importing.{AreNewTo, lent, MayImportAll, all_imported};
 ghost use Rattle.mal_trail.specs.Rooms.{HasRoom};
 ghost use Rattle.spec_node.specs.Laws.{AreNewNumbers};
@@ -24,7 +24,7 @@ ghost use Rattle.mal_cdcl.specs.Ready.{posted, readied, greatest, AreNew, HasRoo
 ghost use Rattle.mal_cdcl.specs.Sliced.{HasSliceRoom, HasStepRoom, HasLowCounts, MayCount, Keeps, IsShown, IsEnded, IsStepped, IsSearched, IsFailing, HasClauseRoom, HasLineRoom, IsLineLess};
 ghost use Rattle.mal_freeze.specs.Imaged.{IsImage};
 
-use crate::pick::{self, Pick};
+use crate::import_filter::{self, Pick};
 use crate::{copies, fill, learning, needs, open, restart};
 use mal_base::{ClauseId, Lines, Lit, Var, Verdict};
 use mal_buffer::{Buffer, Entry};
@@ -48,8 +48,8 @@ pub struct Node<E: Engine> {
     index: u32,
     variables: u32,
     serial: u64,
-    since: u32,
-    round: u32,
+    conflicts_since_restart: u32,
+    restart_number: u32,
     conflict: Option<ClauseId>,
     verdict: Option<Verdict>,
     assumptions: Vec<Lit>,
@@ -64,17 +64,17 @@ pub struct Node<E: Engine> {
 impl<E: Engine> Model for Node<E> {
     ghost use Rattle.std.specs.Prelude.{◌-◌};
     ghost use Rattle.std.specs.Vec.{vec_len, vec_capacity};
-    ghost use Rattle.mal_cdcl.specs.Within.{Stocked, IsNode, IsPast};
+    ghost use Rattle.mal_cdcl.specs.Within.{NodeWithRoom, IsNode, IsPast};
 
-    ghost Value = { Stocked };
+    ghost Value = { NodeWithRoom };
 
     ghost view = { λ n. record {
       state = record {
         index = n.index;
         variables = n.variables;
         serial = n.serial;
-        since = n.since;
-        round = n.round;
+        conflicts_since_restart = n.conflicts_since_restart;
+        restart_number = n.restart_number;
         processed = n.trail.processed;
         conflict = n.conflict;
         verdict = n.verdict;
@@ -110,8 +110,8 @@ impl<E: Engine> Node<E> {
             index,
             variables: 0,
             serial: 0,
-            since: 0,
-            round: 1,
+            conflicts_since_restart: 0,
+            restart_number: 1,
             conflict: None,
             verdict: None,
             assumptions: Vec::new(alloc),
@@ -204,8 +204,8 @@ impl<E: Engine> Node<E> {
             index: parts.index,
             variables: parts.variables,
             serial: parts.serial,
-            since: parts.since,
-            round: parts.round,
+            conflicts_since_restart: parts.conflicts_since_restart,
+            restart_number: parts.restart_number,
             conflict: parts.conflict,
             verdict: parts.verdict,
             assumptions: Vec::from_slice(alloc, parts.assumptions.as_slice())?,
@@ -343,7 +343,7 @@ impl<E: Engine> Node<E> {
             self.propagate();
             return None;
         }
-        if restart::is_due(self.since, self.round) {
+        if restart::is_due(self.conflicts_since_restart, self.restart_number) {
             self.restart();
             return None;
         }
@@ -361,13 +361,13 @@ impl<E: Engine> Node<E> {
 
     /// Goes back to level 0, and counts the conflicts anew.
     fn restart(&mut self)
-        requires { self.old.state.round < 2 ^ 32 - 1 }
+        requires { self.old.state.restart_number < 2 ^ 32 - 1 }
         ensures state { self.new.state ≡ after_case Restarts self.old.state }
         ensures keeps { Keeps 0 0 self.old self.new }
     {
         self.cut(0);
-        self.since = 0;
-        self.round += 1;
+        self.conflicts_since_restart = 0;
+        self.restart_number += 1;
     }
 
     /// Assumes the first assumption that is not true, unless it is false: then tells which one it is. Where all are true,
@@ -519,7 +519,7 @@ impl<E: Engine> Node<E> {
         learning::force(&mut self.trail, number, scratch.clause());
         learning::bump_all(&mut self.order, scratch.clause());
         self.serial += 1;
-        self.since += 1;
+        self.conflicts_since_restart += 1;
         self.conflict = None;
     }
 
@@ -624,8 +624,8 @@ impl<E: Listed> Node<E> {
             index: self.index,
             variables: self.variables,
             serial: self.serial,
-            since: self.since,
-            round: self.round,
+            conflicts_since_restart: self.conflicts_since_restart,
+            restart_number: self.restart_number,
             processed: self.trail.processed(),
             conflict: self.conflict,
             verdict: self.verdict,

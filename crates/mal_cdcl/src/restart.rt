@@ -4,9 +4,9 @@ ghost use Rattle.std.specs.Prelude.{◌≡◌, ◌*◌, ◌≤◌, nat_le};
 ghost use Rattle.spec_seq.specs.Luby.{luby};
 
 /// Whether a restart is due: 64 conflicts times Luby's number at the place of this one came since the last.
-pub fn is_due(since: u32, round: u32) -> bool
-    requires { 1 ≤ round }
-    ensures { result ≡ nat_le (64 * luby round) since }
+pub fn is_due(conflicts_since_restart: u32, restart_number: u32) -> bool
+    requires { 1 ≤ restart_number }
+    ensures { result ≡ nat_le (64 * luby restart_number) conflicts_since_restart }
 {
-    mal_seq::luby(u64::from(round)) <= u64::from(since) / 64
+    mal_seq::luby(u64::from(restart_number)) <= u64::from(conflicts_since_restart) / 64
 }

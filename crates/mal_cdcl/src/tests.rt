@@ -286,7 +286,7 @@ fn a_fresh_node_comes_back(rt: HostRuntime) -> Result<(), Fail> {
     let node: Node<Scan> = Node::fresh(rt.alloc(), 5);
     let image = node.image()?;
     assert_eq!(rt; image.parts().index, 5);
-    assert_eq!(rt; image.parts().round, 1);
+    assert_eq!(rt; image.parts().restart_number, 1);
     let again = come_back(&rt, rt.alloc(), &node, &image)?;
     assert_eq!(rt; again.index(), 5);
     assert_eq!(rt; again.variables(), 0);

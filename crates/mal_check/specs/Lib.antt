@@ -1,3 +1,3 @@
 pub mod Places
 pub mod Checked
-pub mod Seen
+pub mod CheckAnswers

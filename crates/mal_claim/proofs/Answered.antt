@@ -10,7 +10,7 @@ use Rattle.mal_lrat.specs.declared.fault.LineFault.TheVariants as lrat
 use Rattle.mal_verify.specs.Answers as verify
 use Rattle.mal_claim.specs.declared.claim.Claim.{Claim}
 use Rattle.mal_claim.specs.declared.fault.ClaimFault.{ClaimFault}
-use Rattle.mal_claim.specs.Given.{seen, in_line, Fails, Gives}
+use Rattle.mal_claim.specs.ReadResult.{seen, in_line, Fails, Gives}
 
 -- a fault of the proof's text is one of the whole text
 pub proof_fails : {Y : Type 0} (line : ℕ) (fault : LineFault) (read : Result Y (ℕ × proof.Fault)) → verify.FailsAt line fault read → Fails (in_line line fault) (in_proof read)

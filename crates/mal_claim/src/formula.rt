@@ -6,7 +6,7 @@ ghost use Rattle.spec_dimacs.specs.Rows.{rows_of};
 ghost use Rattle.spec_dimacs.specs.Reading.{after_line, at_end, on_line, read_rows};
 ghost use Rattle.mal_dimacs.specs.Reads.{Gives as GivesBlock, Fails as FailsBlock};
 ghost use Rattle.spec_claim.specs.Claims.{formula_rows, behind_formula, in_formula};
-ghost use Rattle.mal_claim.specs.Given.{Gives, IsOnLine};
+ghost use Rattle.mal_claim.specs.ReadResult.{Gives, IsOnLine};
 
 use crate::fault::ClaimFault;
 use crate::words::{is_formula_line, is_passed};

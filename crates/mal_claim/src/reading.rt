@@ -7,7 +7,7 @@ ghost use Rattle.spec_check.specs.Proofs.{lines_from};
 ghost use Rattle.spec_claim.specs.Claims.{is_proof_line, assumed, to_proof, in_proof, read_lines, read_text};
 ghost use Rattle.spec_claim.specs.Grammar.{Spells};
 ghost use Rattle.mal_verify.specs.Views.{views};
-ghost use Rattle.mal_claim.specs.Given.{Gives, IsAssumed, seen, seen_assumed};
+ghost use Rattle.mal_claim.specs.ReadResult.{Gives, IsAssumed, seen, seen_assumed};
 
 use crate::claim::Claim;
 use crate::fault::ClaimFault;

@@ -5,12 +5,12 @@ ghost use Rattle.spec_text.specs.Lines.{line_of};
 ghost use Rattle.spec_text.specs.Numbers.{decimal_word};
 ghost use Rattle.spec_script.specs.FaultLines.{block_words, fault_words, which_word};
 ghost use Rattle.spec_claim.specs.FaultLines.{proof_line};
-ghost use Rattle.mal_claim.specs.Given.{Tells, TellsVerdict, fault_of, in_line, refused, verdict_in};
+ghost use Rattle.mal_claim.specs.ReadResult.{Tells, TellsVerdict, fault_of, in_line, refused, verdict_in};
 ghost use Rattle.mal_verify.specs.Verdicts.{refusal_of};
 
 use crate::fault::ClaimFault;
 use itoa::Buffer;
-use mal_base::{Name, Which};
+use mal_base::{LimitKind, Name};
 use mal_check::CheckFault;
 use mal_text::put_line;
 use mal_verify::VerifyFault;
@@ -172,7 +172,7 @@ fn duplicate_line(alloc: Global, line: u64, tenant: Name, job: Name) -> Result<V
 }
 
 /// The line that tells that there are too many of these.
-fn limit_line(alloc: Global, line: u64, which: Which) -> Result<Vec<u8>, AllocError>
+fn limit_line(alloc: Global, line: u64, which: LimitKind) -> Result<Vec<u8>, AllocError>
     ensures { IfOk result (λ text. text.items ≡ line_of (codes "fault:" ∷ codes "formula" ∷ codes "line" ∷ decimal_word line ∷ codes "Limit" ∷ which_word which ∷ [])) }
 {
     in_formula(alloc, line, &[b"Limit", which_word(which)])
@@ -202,15 +202,15 @@ fn block_line(alloc: Global, line: u64, fault: BlockFault) -> Result<Vec<u8>, Al
 }
 
 /// The word of a limit.
-fn which_word(which: Which) -> &'static [u8]
+fn which_word(which: LimitKind) -> &'static [u8]
     ensures { result.now ≡ which_word which }
 {
     match which {
-        Which::Variables => b"Variables",
-        Which::Clauses => b"Clauses",
-        Which::Literals => b"Literals",
-        Which::Tenants => b"Tenants",
-        Which::Jobs => b"Jobs",
-        Which::Revisions => b"Revisions",
+        LimitKind::Variables => b"Variables",
+        LimitKind::Clauses => b"Clauses",
+        LimitKind::Literals => b"Literals",
+        LimitKind::Tenants => b"Tenants",
+        LimitKind::Jobs => b"Jobs",
+        LimitKind::Revisions => b"Revisions",
     }
 }

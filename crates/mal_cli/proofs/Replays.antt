@@ -2,7 +2,7 @@
 use Rattle.std.proofs.Common.{◌≡◌, ◌⊎◌, ℕ, List, [], ◌∙◌, ap, inl, inr, refl, sym, subst, Ok, Err, Result}
 use Rattle.std.specs.Prelude.{Option, Some, None}
 use Rattle.mal_account.specs.declared.fault.AccountFault.{AccountFault}
-use Rattle.mal_account.specs.Given.{Fails, Tells, fault_of}
+use Rattle.mal_account.specs.ReadResult.{Fails, Tells, fault_of}
 use Rattle.mal_cli.specs.Accounts.{IsReplayText, IsUnsound, TellsFault, TellsReplay}
 use Rattle.mal_answer.specs.Answers.{IsAnswerTo}
 use Rattle.mal_answer.specs.Commands.{AreReplies, InGrammar, IsSound, Meets, TellsFirst, TellsUnsound}

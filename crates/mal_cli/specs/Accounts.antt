@@ -1,6 +1,6 @@
 -- The complaints about accounts.
 use Rattle.std.specs.Prelude.{◌≡◌, ℕ, List, [], ◌∷◌, codes, Option, Some, None}
-use Rattle.mal_account.specs.Given.{Tells, fault_of}
+use Rattle.mal_account.specs.ReadResult.{Tells, fault_of}
 use Rattle.mal_account.specs.declared.fault.AccountFault.{AccountFault}
 use Rattle.mal_answer.specs.Commands.{TellsUnsound}
 use Rattle.mal_answer.specs.declared.answer.Complaint.{Complaint}

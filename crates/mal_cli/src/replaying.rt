@@ -1,7 +1,7 @@
 //! Replaying a history.
 
 ghost use Rattle.std.specs.Prelude.{◌≡◌, ◌∷◌, [], codes, IfOk, IfErr, MatchOption};
-ghost use Rattle.mal_account.specs.Given.{seen};
+ghost use Rattle.mal_account.specs.ReadResult.{seen};
 ghost use Rattle.mal_cli.specs.Accounts.{IsReplayText, IsUnsound, TellsFault, TellsReplay};
 ghost use Rattle.mal_answer.specs.Answers.{IsAnswer, IsAnswerTo};
 ghost use Rattle.mal_answer.specs.Commands.{AreReplies};

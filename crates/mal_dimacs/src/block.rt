@@ -14,7 +14,7 @@ ghost use Rattle.spec_dimacs.specs.declared.stage.Stage.TheVariants as stage;
 use crate::fault::DimacsError;
 use crate::header::counts;
 use crate::words::{clause_of, is_comment, is_p, is_percent, is_zero, literal, size};
-use mal_base::{Clause, Formula, Lit, Which};
+use mal_base::{Clause, Formula, LimitKind, Lit};
 use mal_text::{NumberFault, first_word, number};
 use spec_dimacs::{BlockFault, Stage};
 use std::alloc::Global;
@@ -200,7 +200,7 @@ impl BlockReader {
         let left = (1 << 24) - self.literals as usize;
         if size > left {
             return Err(DimacsError::Fault(BlockFault::Limit {
-                which: Which::Literals,
+                which: LimitKind::Literals,
             }));
         }
         if self.clauses.len() < self.declared as usize {

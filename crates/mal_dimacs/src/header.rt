@@ -9,7 +9,7 @@ ghost use Rattle.mal_dimacs.specs.Counts.{opens_with};
 ghost use Rattle.spec_dimacs.specs.declared.fault.BlockFault.TheVariants.{BadHeader};
 
 use crate::words::{is_cnf, is_p};
-use mal_base::Which;
+use mal_base::LimitKind;
 use mal_text::{NumberFault, first_word, magnitude};
 use spec_dimacs::BlockFault;
 
@@ -56,10 +56,10 @@ fn counts_of(variables: &[u8], clauses: &[u8]) -> Result<(u32, u32), BlockFault>
         (Err(NumberFault::NotANumber), _) => Err(BlockFault::BadHeader),
         (_, Err(NumberFault::NotANumber)) => Err(BlockFault::BadHeader),
         (Err(NumberFault::TooLarge), _) => Err(BlockFault::Limit {
-            which: Which::Variables,
+            which: LimitKind::Variables,
         }),
         (_, Err(NumberFault::TooLarge)) => Err(BlockFault::Limit {
-            which: Which::Clauses,
+            which: LimitKind::Clauses,
         }),
         (Ok(variables), Ok(clauses)) => Ok((variables, clauses)),
     }

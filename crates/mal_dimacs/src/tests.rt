@@ -1,5 +1,5 @@
 use super::*;
-use mal_base::{Lit, Which};
+use mal_base::{LimitKind, Lit};
 use std::alloc::Global;
 use std::test::Fail;
 
@@ -56,7 +56,7 @@ fn limits_are_named(rt: HostRuntime) -> Result<(), Fail> {
         (
             1,
             BlockFault::Limit {
-                which: Which::Variables
+                which: LimitKind::Variables
             }
         )
     );
@@ -66,7 +66,7 @@ fn limits_are_named(rt: HostRuntime) -> Result<(), Fail> {
         (
             2,
             BlockFault::Limit {
-                which: Which::Clauses
+                which: LimitKind::Clauses
             }
         )
     );
@@ -76,7 +76,7 @@ fn limits_are_named(rt: HostRuntime) -> Result<(), Fail> {
         (
             1,
             BlockFault::Limit {
-                which: Which::Variables
+                which: LimitKind::Variables
             }
         )
     );

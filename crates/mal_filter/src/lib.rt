@@ -1,9 +1,9 @@
 //! A filter that tells clauses that were seen from new ones.
 #![tactic(auto)]
 
-mod seen;
+mod clause_set;
 
-pub use seen::Seen;
+pub use clause_set::ClauseSet;
 
 #[cfg(test)]
 mod tests {
@@ -22,7 +22,7 @@ mod tests {
 
     #[test]
     fn a_clause_passes_until_one_with_its_literals_is_noted(rt: HostRuntime) -> Result<(), Fail> {
-        let mut seen = Seen::new(rt.alloc());
+        let mut seen = ClauseSet::new(rt.alloc());
         let (first, other) = (clause(rt.alloc(), &[1, -2])?, clause(rt.alloc(), &[1, 2])?);
         assert!(rt; seen.passes(&first));
         seen.note(&first)?;

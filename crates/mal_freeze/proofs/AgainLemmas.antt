@@ -6,7 +6,7 @@ use Rattle.std.proofs.lemmas.Bool.{false≢true, and_parts, and_from}
 use Rattle.std.proofs.lemmas.List.{append-nil, length_push}
 use Rattle.mal_base.specs.Clauses.{rises, is_below}
 use Rattle.mal_base.specs.Formulas.{is_within}
-use Rattle.mal_base.specs.Held.{Held}
+use Rattle.mal_base.specs.NumberedClause.{NumberedClause}
 use Rattle.mal_base.specs.Literals.{var_of}
 use Rattle.mal_base.specs.declared.trail_entry.TrailEntry.{TrailEntry}
 use Rattle.mal_base.specs.declared.verdict.Verdict.{Verdict}
@@ -108,10 +108,10 @@ trail_few greatest es h k =
     omega arith
 
 -- a clause whose numbers are in their ranges
-abbrev pub IsClauseOf : ℕ → Held → Type 0
+abbrev pub IsClauseOf : ℕ → NumberedClause → Type 0
 IsClauseOf greatest c = (c.id < 2 ^ 64) × AllByRecursion (Within 2 (2 * greatest + 1)) c.lits × (length c.lits ≤ greatest)
 
-clauses_within : (greatest : ℕ) (cs : List Held) → are_clauses greatest cs ≡ true → AllByRecursion FitsClause cs → AllByRecursion (IsClauseOf greatest) cs
+clauses_within : (greatest : ℕ) (cs : List NumberedClause) → are_clauses greatest cs ≡ true → AllByRecursion FitsClause cs → AllByRecursion (IsClauseOf greatest) cs
 clauses_within greatest [] h f = tt
 clauses_within greatest (c ∷ cs) h f =
     let a = and_parts (are_literals greatest c.lits) (are_clauses greatest cs) h in
@@ -156,7 +156,7 @@ entry_again total greatest h e rest w =
     ap (entry_at total greatest) (assoc_3 (spelled w32 e.lit) (spelled w64 (number_or_0 e.reason)) (spelled w32 e.level) rest)
     ∙ rw (literal_again total greatest h e.lit (spelled w64 (number_or_0 e.reason) ++ (spelled w32 e.level ++ rest)) w.0, number_again w64 (2 ^ 64) eight (number_or_0 e.reason) (spelled w32 e.level ++ rest) (number_fits e.reason w.1.0), number_again w32 (2 ^ 32) four e.level rest w.1.1, number_in_again e.reason w.1.0) refl
 
-clause_again : (total greatest : ℕ) → greatest ≤ 65536 → (c : Held) (rest : List ℕ) → IsClauseOf greatest c → clause_at total greatest (clause_bytes c ++ rest) ≡ Ok (c, rest)
+clause_again : (total greatest : ℕ) → greatest ≤ 65536 → (c : NumberedClause) (rest : List ℕ) → IsClauseOf greatest c → clause_at total greatest (clause_bytes c ++ rest) ≡ Ok (c, rest)
 unfolding clause_at
 clause_again total greatest h c rest w =
     ap (clause_at total greatest) (append_assoc (spelled w64 c.id) (counted (spelled w32) c.lits) rest)
@@ -168,18 +168,18 @@ magic_again : (rest : List ℕ) → magic_at (spelled w64 magic ++ rest) ≡ Ok 
 unfolding magic_at
 magic_again rest = rw (number_again w64 (2 ^ 64) eight magic rest (omega arith)) refl
 
-head_again : (total : ℕ) (h : Head) (rest : List ℕ) → h.index ≤ 63 → h.variables ≤ 65536 → h.serial < 2 ^ 57 → h.since < 2 ^ 32 → head_at total (head_spelled h ++ rest) ≡ Ok (h, rest)
+head_again : (total : ℕ) (h : Head) (rest : List ℕ) → h.index ≤ 63 → h.variables ≤ 65536 → h.serial < 2 ^ 57 → h.conflicts_since_restart < 2 ^ 32 → head_at total (head_spelled h ++ rest) ≡ Ok (h, rest)
 unfolding head_at
 head_again total h rest a b c d =
-    ap (head_at total) (assoc_4 (spelled w32 h.index) (spelled w32 h.variables) (spelled w64 h.serial) (spelled w32 h.since) rest)
-    ∙ rw (ranged_again w32 (2 ^ 32) four total 0 63 h.index (spelled w32 h.variables ++ (spelled w64 h.serial ++ (spelled w32 h.since ++ rest))) (omega arith) (omega arith) a, ranged_again w32 (2 ^ 32) four total 0 65536 h.variables (spelled w64 h.serial ++ (spelled w32 h.since ++ rest)) (omega arith) (omega arith) b, ranged_again w64 (2 ^ 64) eight total 0 (2 ^ 57 - 1) h.serial (spelled w32 h.since ++ rest) (omega arith) (omega arith) (omega arith), number_again w32 (2 ^ 32) four h.since rest d) refl
+    ap (head_at total) (assoc_4 (spelled w32 h.index) (spelled w32 h.variables) (spelled w64 h.serial) (spelled w32 h.conflicts_since_restart) rest)
+    ∙ rw (ranged_again w32 (2 ^ 32) four total 0 63 h.index (spelled w32 h.variables ++ (spelled w64 h.serial ++ (spelled w32 h.conflicts_since_restart ++ rest))) (omega arith) (omega arith) a, ranged_again w32 (2 ^ 32) four total 0 65536 h.variables (spelled w64 h.serial ++ (spelled w32 h.conflicts_since_restart ++ rest)) (omega arith) (omega arith) b, ranged_again w64 (2 ^ 64) eight total 0 (2 ^ 57 - 1) h.serial (spelled w32 h.conflicts_since_restart ++ rest) (omega arith) (omega arith) (omega arith), number_again w32 (2 ^ 32) four h.conflicts_since_restart rest d) refl
 
-search_again : (total round processed : ℕ) (conflict : Option ℕ) (rest : List ℕ) → 1 ≤ round → round < 2 ^ 32 → processed < 2 ^ 32 → FitsNumber conflict
-    → search_at total ((spelled w32 round ++ (spelled w32 processed ++ spelled w64 (number_or_0 conflict))) ++ rest) ≡ Ok (record { round = round; processed = processed; conflict = conflict }, rest)
+search_again : (total restart_number processed : ℕ) (conflict : Option ℕ) (rest : List ℕ) → 1 ≤ restart_number → restart_number < 2 ^ 32 → processed < 2 ^ 32 → FitsNumber conflict
+    → search_at total ((spelled w32 restart_number ++ (spelled w32 processed ++ spelled w64 (number_or_0 conflict))) ++ rest) ≡ Ok (record { restart_number = restart_number; processed = processed; conflict = conflict }, rest)
 unfolding search_at
-search_again total round processed conflict rest a b c d =
-    ap (search_at total) (assoc_3 (spelled w32 round) (spelled w32 processed) (spelled w64 (number_or_0 conflict)) rest)
-    ∙ rw (ranged_again w32 (2 ^ 32) four total 1 (2 ^ 32 - 1) round (spelled w32 processed ++ (spelled w64 (number_or_0 conflict) ++ rest)) b a (omega arith), number_again w32 (2 ^ 32) four processed (spelled w64 (number_or_0 conflict) ++ rest) c, number_again w64 (2 ^ 64) eight (number_or_0 conflict) rest (number_fits conflict d), number_in_again conflict d) refl
+search_again total restart_number processed conflict rest a b c d =
+    ap (search_at total) (assoc_3 (spelled w32 restart_number) (spelled w32 processed) (spelled w64 (number_or_0 conflict)) rest)
+    ∙ rw (ranged_again w32 (2 ^ 32) four total 1 (2 ^ 32 - 1) restart_number (spelled w32 processed ++ (spelled w64 (number_or_0 conflict) ++ rest)) b a (omega arith), number_again w32 (2 ^ 32) four processed (spelled w64 (number_or_0 conflict) ++ rest) c, number_again w64 (2 ^ 64) eight (number_or_0 conflict) rest (number_fits conflict d), number_in_again conflict d) refl
 
 ended_again : (total : ℕ) (e : Ended) (rest : List ℕ) → e.code ≤ 2 → e.goal < 2 ^ 64 → ended_at total (ended_spelled e ++ rest) ≡ Ok (e, rest)
 unfolding ended_at
@@ -258,8 +258,8 @@ verdict_again (Some (Unsatisfiable goal)) = refl
 -- the fields of a node's image
 abbrev pub fields_of : Node → Fields
 fields_of n = record {
-  head = record { index = n.index; variables = n.variables; serial = n.serial; since = n.since };
-  search = record { round = n.round; processed = n.processed; conflict = n.conflict };
+  head = record { index = n.index; variables = n.variables; serial = n.serial; conflicts_since_restart = n.conflicts_since_restart };
+  search = record { restart_number = n.restart_number; processed = n.processed; conflict = n.conflict };
   ended = ended_of n.verdict;
   lists = record { assumptions = n.assumptions; order = n.order; phases = n.phases; trail = n.trail; clauses = n.clauses };
   left = 0;
@@ -268,14 +268,14 @@ fields_of n = record {
 fields_again : (total : ℕ) (n : Node) → IsImage n → Fits n → fields_at total (image_bytes n) ≡ Ok (fields_of n)
 unfolding fields_at
 fields_again total n i f =
-    let h : Head = record { index = n.index; variables = n.variables; serial = n.serial; since = n.since } in
+    let h : Head = record { index = n.index; variables = n.variables; serial = n.serial; conflicts_since_restart = n.conflicts_since_restart } in
     let l : Listing = record { assumptions = n.assumptions; order = n.order; phases = n.phases; trail = n.trail; clauses = n.clauses } in
-    let search = spelled w32 n.round ++ (spelled w32 n.processed ++ spelled w64 (number_or_0 n.conflict)) in
+    let search = spelled w32 n.restart_number ++ (spelled w32 n.processed ++ spelled w64 (number_or_0 n.conflict)) in
     let lists : lists_at total n.variables (lists_spelled l) ≡ Ok (l, []) = ap (lists_at total n.variables) (sym (append-nil (lists_spelled l))) ∙ lists_again total n.variables l [] (lists_are n i f) in
     rw (
       magic_again (head_spelled h ++ (search ++ (ended_spelled (ended_of n.verdict) ++ lists_spelled l))),
-      head_again total h (search ++ (ended_spelled (ended_of n.verdict) ++ lists_spelled l)) i.ranges.index i.ranges.variables i.ranges.serial f.since,
-      search_again total n.round n.processed n.conflict (ended_spelled (ended_of n.verdict) ++ lists_spelled l) i.ranges.round f.counts.round f.counts.processed f.counts.conflict,
+      head_again total h (search ++ (ended_spelled (ended_of n.verdict) ++ lists_spelled l)) i.ranges.index i.ranges.variables i.ranges.serial f.conflicts_since_restart,
+      search_again total n.restart_number n.processed n.conflict (ended_spelled (ended_of n.verdict) ++ lists_spelled l) i.ranges.restart_number f.counts.restart_number f.counts.processed f.counts.conflict,
       ended_again total (ended_of n.verdict) (lists_spelled l) (code_fits n.verdict) (goal_fits n.verdict f.goal),
       lists,
     ) refl

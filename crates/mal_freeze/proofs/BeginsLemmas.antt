@@ -4,7 +4,7 @@ use Rattle.std.specs.List.{flat_map}
 use Rattle.std.specs.Int.{w32, w64}
 use Rattle.std.proofs.lemmas.Bool.{false≢true, and_parts, eqb-true}
 use Rattle.std.proofs.lemmas.List.{append-nil, nil_from_length}
-use Rattle.mal_base.specs.Held.{Held}
+use Rattle.mal_base.specs.NumberedClause.{NumberedClause}
 use Rattle.mal_base.specs.declared.trail_entry.TrailEntry.{TrailEntry}
 use Rattle.spec_node.specs.State.{Node}
 use Rattle.mal_freeze.specs.declared.fault.ThawFault.{ThawFault}
@@ -57,7 +57,7 @@ entry_begins total greatest bytes x are e =
     let made : TrailEntry × List ℕ = (record { lit = a.0.0; reason = number_in b.0.0; level = d.0.0 }, d.0.1) in
     subst (λ (y : TrailEntry × List ℕ). Begins bytes (entry_bytes y.0) y.1) (ok_same made x d.2) (subst (λ (k : ℕ). Begins bytes (spelled w32 a.0.0 ++ (spelled w64 k ++ spelled w32 d.0.0)) d.0.1) (sym (number_back b.0.0)) all)
 
-clause_begins : (total greatest : ℕ) (bytes : List ℕ) (x : Held × List ℕ) → IsBytes bytes → clause_at total greatest bytes ≡ Ok x → Begins bytes (clause_bytes x.0) x.1
+clause_begins : (total greatest : ℕ) (bytes : List ℕ) (x : NumberedClause × List ℕ) → IsBytes bytes → clause_at total greatest bytes ≡ Ok x → Begins bytes (clause_bytes x.0) x.1
 unfolding clause_at
 clause_begins total greatest bytes x are e =
     let a = step_ok (number_at w64 bytes) (λ id. counted_at total greatest (literal_at total greatest) id.1 >>= λ lits. Ok (record { id = id.0; lits = lits.0 }, lits.1)) x e in
@@ -65,8 +65,8 @@ clause_begins total greatest bytes x are e =
     let p = number_begins w64 (2 ^ 64) eight bytes a.0 are a.1 in
     let q = counted_begins total greatest (literal_at total greatest) (spelled w32) (literal_begins total greatest) a.0.1 b.0 p.are_bytes b.1 in
     let all = begins-more bytes (spelled w64 a.0.0) a.0.1 (counted (spelled w32) b.0.0) b.0.1 p q in
-    let made : Held × List ℕ = (record { id = a.0.0; lits = b.0.0 }, b.0.1) in
-    subst (λ (y : Held × List ℕ). Begins bytes (clause_bytes y.0) y.1) (ok_same made x b.2) all
+    let made : NumberedClause × List ℕ = (record { id = a.0.0; lits = b.0.0 }, b.0.1) in
+    subst (λ (y : NumberedClause × List ℕ). Begins bytes (clause_bytes y.0) y.1) (ok_same made x b.2) all
 
 -- ---- the parts of an image
 
@@ -80,15 +80,15 @@ magic_begins bytes rest are e =
     subst (λ (k : ℕ). Begins bytes (spelled w64 k) rest) same (subst (λ (r : List ℕ). Begins bytes (spelled w64 a.0.0) r) g.1 p)
 
 abbrev pub head_spelled : Head → List ℕ
-head_spelled h = spelled w32 h.index ++ (spelled w32 h.variables ++ (spelled w64 h.serial ++ spelled w32 h.since))
+head_spelled h = spelled w32 h.index ++ (spelled w32 h.variables ++ (spelled w64 h.serial ++ spelled w32 h.conflicts_since_restart))
 
 head_begins : (total : ℕ) (bytes : List ℕ) (x : Head × List ℕ) → IsBytes bytes → head_at total bytes ≡ Ok x → Begins bytes (head_spelled x.0) x.1
 unfolding head_at
 head_begins total bytes x are e =
-    let a = step_ok (ranged_at total w32 0 63 bytes) (λ index. ranged_at total w32 0 65536 index.1 >>= λ variables. ranged_at total w64 0 (2 ^ 57 - 1) variables.1 >>= λ serial. number_at w32 serial.1 >>= λ since. Ok (record { index = index.0; variables = variables.0; serial = serial.0; since = since.0 }, since.1)) x e in
-    let b = step_ok (ranged_at total w32 0 65536 a.0.1) (λ variables. ranged_at total w64 0 (2 ^ 57 - 1) variables.1 >>= λ serial. number_at w32 serial.1 >>= λ since. Ok (record { index = a.0.0; variables = variables.0; serial = serial.0; since = since.0 }, since.1)) x a.2 in
-    let d = step_ok (ranged_at total w64 0 (2 ^ 57 - 1) b.0.1) (λ serial. number_at w32 serial.1 >>= λ since. Ok (record { index = a.0.0; variables = b.0.0; serial = serial.0; since = since.0 }, since.1)) x b.2 in
-    let f = step_ok (number_at w32 d.0.1) (λ since. Ok (record { index = a.0.0; variables = b.0.0; serial = d.0.0; since = since.0 }, since.1)) x d.2 in
+    let a = step_ok (ranged_at total w32 0 63 bytes) (λ index. ranged_at total w32 0 65536 index.1 >>= λ variables. ranged_at total w64 0 (2 ^ 57 - 1) variables.1 >>= λ serial. number_at w32 serial.1 >>= λ conflicts_since_restart. Ok (record { index = index.0; variables = variables.0; serial = serial.0; conflicts_since_restart = conflicts_since_restart.0 }, conflicts_since_restart.1)) x e in
+    let b = step_ok (ranged_at total w32 0 65536 a.0.1) (λ variables. ranged_at total w64 0 (2 ^ 57 - 1) variables.1 >>= λ serial. number_at w32 serial.1 >>= λ conflicts_since_restart. Ok (record { index = a.0.0; variables = variables.0; serial = serial.0; conflicts_since_restart = conflicts_since_restart.0 }, conflicts_since_restart.1)) x a.2 in
+    let d = step_ok (ranged_at total w64 0 (2 ^ 57 - 1) b.0.1) (λ serial. number_at w32 serial.1 >>= λ conflicts_since_restart. Ok (record { index = a.0.0; variables = b.0.0; serial = serial.0; conflicts_since_restart = conflicts_since_restart.0 }, conflicts_since_restart.1)) x b.2 in
+    let f = step_ok (number_at w32 d.0.1) (λ conflicts_since_restart. Ok (record { index = a.0.0; variables = b.0.0; serial = d.0.0; conflicts_since_restart = conflicts_since_restart.0 }, conflicts_since_restart.1)) x d.2 in
     let p = ranged_begins w32 (2 ^ 32) four total 0 63 bytes a.0 are a.1 in
     let q = ranged_begins w32 (2 ^ 32) four total 0 65536 a.0.1 b.0 p.are_bytes b.1 in
     let r = ranged_begins w64 (2 ^ 64) eight total 0 (2 ^ 57 - 1) b.0.1 d.0 q.are_bytes d.1 in
@@ -96,24 +96,24 @@ head_begins total bytes x are e =
     let rs = begins-more b.0.1 (spelled w64 d.0.0) d.0.1 (spelled w32 f.0.0) f.0.1 r s in
     let qs = begins-more a.0.1 (spelled w32 b.0.0) b.0.1 (spelled w64 d.0.0 ++ spelled w32 f.0.0) f.0.1 q rs in
     let all = begins-more bytes (spelled w32 a.0.0) a.0.1 (spelled w32 b.0.0 ++ (spelled w64 d.0.0 ++ spelled w32 f.0.0)) f.0.1 p qs in
-    let made : Head × List ℕ = (record { index = a.0.0; variables = b.0.0; serial = d.0.0; since = f.0.0 }, f.0.1) in
+    let made : Head × List ℕ = (record { index = a.0.0; variables = b.0.0; serial = d.0.0; conflicts_since_restart = f.0.0 }, f.0.1) in
     subst (λ (y : Head × List ℕ). Begins bytes (head_spelled y.0) y.1) (ok_same made x f.2) all
 
 abbrev pub search_spelled : Search → List ℕ
-search_spelled s = spelled w32 s.round ++ (spelled w32 s.processed ++ spelled w64 (number_or_0 s.conflict))
+search_spelled s = spelled w32 s.restart_number ++ (spelled w32 s.processed ++ spelled w64 (number_or_0 s.conflict))
 
 search_begins : (total : ℕ) (bytes : List ℕ) (x : Search × List ℕ) → IsBytes bytes → search_at total bytes ≡ Ok x → Begins bytes (search_spelled x.0) x.1
 unfolding search_at
 search_begins total bytes x are e =
-    let a = step_ok (ranged_at total w32 1 (2 ^ 32 - 1) bytes) (λ round. number_at w32 round.1 >>= λ processed. number_at w64 processed.1 >>= λ conflict. Ok (record { round = round.0; processed = processed.0; conflict = number_in conflict.0 }, conflict.1)) x e in
-    let b = step_ok (number_at w32 a.0.1) (λ processed. number_at w64 processed.1 >>= λ conflict. Ok (record { round = a.0.0; processed = processed.0; conflict = number_in conflict.0 }, conflict.1)) x a.2 in
-    let d = step_ok (number_at w64 b.0.1) (λ conflict. Ok (record { round = a.0.0; processed = b.0.0; conflict = number_in conflict.0 }, conflict.1)) x b.2 in
+    let a = step_ok (ranged_at total w32 1 (2 ^ 32 - 1) bytes) (λ restart_number. number_at w32 restart_number.1 >>= λ processed. number_at w64 processed.1 >>= λ conflict. Ok (record { restart_number = restart_number.0; processed = processed.0; conflict = number_in conflict.0 }, conflict.1)) x e in
+    let b = step_ok (number_at w32 a.0.1) (λ processed. number_at w64 processed.1 >>= λ conflict. Ok (record { restart_number = a.0.0; processed = processed.0; conflict = number_in conflict.0 }, conflict.1)) x a.2 in
+    let d = step_ok (number_at w64 b.0.1) (λ conflict. Ok (record { restart_number = a.0.0; processed = b.0.0; conflict = number_in conflict.0 }, conflict.1)) x b.2 in
     let p = ranged_begins w32 (2 ^ 32) four total 1 (2 ^ 32 - 1) bytes a.0 are a.1 in
     let q = number_begins w32 (2 ^ 32) four a.0.1 b.0 p.are_bytes b.1 in
     let r = number_begins w64 (2 ^ 64) eight b.0.1 d.0 q.are_bytes d.1 in
     let qr = begins-more a.0.1 (spelled w32 b.0.0) b.0.1 (spelled w64 d.0.0) d.0.1 q r in
     let all = begins-more bytes (spelled w32 a.0.0) a.0.1 (spelled w32 b.0.0 ++ spelled w64 d.0.0) d.0.1 p qr in
-    let made : Search × List ℕ = (record { round = a.0.0; processed = b.0.0; conflict = number_in d.0.0 }, d.0.1) in
+    let made : Search × List ℕ = (record { restart_number = a.0.0; processed = b.0.0; conflict = number_in d.0.0 }, d.0.1) in
     subst (λ (y : Search × List ℕ). Begins bytes (search_spelled y.0) y.1) (ok_same made x d.2) (subst (λ (k : ℕ). Begins bytes (spelled w32 a.0.0 ++ (spelled w32 b.0.0 ++ spelled w64 k)) d.0.1) (sym (number_back d.0.0)) all)
 
 abbrev pub ended_spelled : Ended → List ℕ

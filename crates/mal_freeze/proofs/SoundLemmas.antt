@@ -10,7 +10,7 @@ use Rattle.std.proofs.lemmas.List.Sorted.{length_permutation, All-permutation}
 use Rattle.std.proofs.lemmas.Map.Keys.{IsDistinct-head, IsDistinct-tail, IsDistinct-cons, IsDistinct-IsPermutation}
 use Rattle.mal_base.specs.Clauses.{rises}
 use Rattle.mal_base.specs.Formulas.{is_within}
-use Rattle.mal_base.specs.Held.{Held}
+use Rattle.mal_base.specs.NumberedClause.{NumberedClause}
 use Rattle.mal_base.specs.Literals.{var_of}
 use Rattle.mal_base.specs.declared.trail_entry.TrailEntry.{TrailEntry}
 use Rattle.spec_node.specs.Load.{counted}
@@ -102,11 +102,11 @@ lits-within n (l ∷ ls) h =
 literals-from : (n : ℕ) (lits : List ℕ) → AreLiteralsOf n lits → are_literals n lits ≡ true
 literals-from n lits h = and_from (rises lits) (is_within n lits) h.rising (lits-within n lits h.within)
 
-clauses-from : (n : ℕ) (cs : List Held) → All (λ (c : Held). AreLiteralsOf n c.lits) cs → are_clauses n cs ≡ true
+clauses-from : (n : ℕ) (cs : List NumberedClause) → All (λ (c : NumberedClause). AreLiteralsOf n c.lits) cs → are_clauses n cs ≡ true
 clauses-from n [] h = refl
-clauses-from n (c ∷ cs) h = and_from (are_literals n c.lits) (are_clauses n cs) (literals-from n c.lits (All-head (λ (x : Held). AreLiteralsOf n x.lits) c cs h)) (clauses-from n cs (All-tail (λ (x : Held). AreLiteralsOf n x.lits) c cs h))
+clauses-from n (c ∷ cs) h = and_from (are_literals n c.lits) (are_clauses n cs) (literals-from n c.lits (All-head (λ (x : NumberedClause). AreLiteralsOf n x.lits) c cs h)) (clauses-from n cs (All-tail (λ (x : NumberedClause). AreLiteralsOf n x.lits) c cs h))
 
-numbers-from : (last : ℕ) (cs : List Held) → NumbersRise (last + 1) cs → numbers_rise last cs ≡ true
+numbers-from : (last : ℕ) (cs : List NumberedClause) → NumbersRise (last + 1) cs → numbers_rise last cs ≡ true
 numbers-from last [] h = refl
 numbers-from last (c ∷ cs) h =
     let low : last + 1 ≤ c.id = h.0 in
@@ -128,7 +128,7 @@ follow-from n before (e ∷ es) p l =
 
 pub sound-image : SoundHasImage
 sound-image n s h = record {
-  ranges = record { index = s.ranged.index; variables = s.ranged.variables; serial = h; round = s.ranged.round; processed = s.consistent.handled; phases = s.ranged.phases };
+  ranges = record { index = s.ranged.index; variables = s.ranged.variables; serial = h; restart_number = s.ranged.restart_number; processed = s.consistent.handled; phases = s.ranged.phases };
   assumptions = literals-from n.variables n.assumptions s.consistent.assumptions;
   order = order-from n.variables n.order s.consistent.order;
   trail = follow-from n.variables [] n.trail s.consistent.placed s.consistent.levels;

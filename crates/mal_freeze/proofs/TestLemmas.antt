@@ -5,7 +5,7 @@ use Rattle.std.proofs.lemmas.Bool.{false≢true, and_parts, and_from, false_from
 use Rattle.std.proofs.lemmas.Bool.Decides.{nat_tests}
 use Rattle.mal_base.specs.Clauses.{rises}
 use Rattle.mal_base.specs.Formulas.{is_within}
-use Rattle.mal_base.specs.Held.{Held}
+use Rattle.mal_base.specs.NumberedClause.{NumberedClause}
 use Rattle.spec_node.specs.State.{Node}
 use Rattle.mal_freeze.specs.Imaged.{IsImage, HasRanges, is_image, has_ranges, has_order, are_literals, is_order, all_follow, are_clauses, numbers_rise}
 use Rattle.mal_freeze.specs.Holding.{can_hold}
@@ -30,23 +30,23 @@ is_eqb a b = grind (arith, nat_tests)
 
 ranges-are : (n : Node) → has_ranges n ≡ true → HasRanges n
 ranges-are n h =
-    let a = and_parts (nat_le n.index 63 && (nat_le n.variables 65536 && (nat_lt n.serial (2 ^ 57) && nat_le 1 n.round))) (nat_le n.processed (length n.trail + 1) && eqb (length n.phases) n.variables) h in
-    let b = and_parts (nat_le n.index 63) (nat_le n.variables 65536 && (nat_lt n.serial (2 ^ 57) && nat_le 1 n.round)) a.0 in
-    let d = and_parts (nat_le n.variables 65536) (nat_lt n.serial (2 ^ 57) && nat_le 1 n.round) b.1 in
-    let e = and_parts (nat_lt n.serial (2 ^ 57)) (nat_le 1 n.round) d.1 in
+    let a = and_parts (nat_le n.index 63 && (nat_le n.variables 65536 && (nat_lt n.serial (2 ^ 57) && nat_le 1 n.restart_number))) (nat_le n.processed (length n.trail + 1) && eqb (length n.phases) n.variables) h in
+    let b = and_parts (nat_le n.index 63) (nat_le n.variables 65536 && (nat_lt n.serial (2 ^ 57) && nat_le 1 n.restart_number)) a.0 in
+    let d = and_parts (nat_le n.variables 65536) (nat_lt n.serial (2 ^ 57) && nat_le 1 n.restart_number) b.1 in
+    let e = and_parts (nat_lt n.serial (2 ^ 57)) (nat_le 1 n.restart_number) d.1 in
     let f = and_parts (nat_le n.processed (length n.trail + 1)) (eqb (length n.phases) n.variables) a.1 in
     record {
       index = le_is n.index 63 b.0;
       variables = le_is n.variables 65536 d.0;
       serial = lt_is n.serial (2 ^ 57) e.0;
-      round = le_is 1 n.round e.1;
+      restart_number = le_is 1 n.restart_number e.1;
       processed = le_is n.processed (length n.trail + 1) f.0;
       phases = eqb_is (length n.phases) n.variables f.1;
     }
 
 has-ranges : (n : Node) → HasRanges n → has_ranges n ≡ true
 has-ranges n r =
-    rw (is_le n.index 63 r.index, is_le n.variables 65536 r.variables, is_lt n.serial (2 ^ 57) r.serial, is_le 1 n.round r.round, is_le n.processed (length n.trail + 1) r.processed, is_eqb (length n.phases) n.variables r.phases) refl
+    rw (is_le n.index 63 r.index, is_le n.variables 65536 r.variables, is_lt n.serial (2 ^ 57) r.serial, is_le 1 n.restart_number r.restart_number, is_le n.processed (length n.trail + 1) r.processed, is_eqb (length n.phases) n.variables r.phases) refl
 
 -- a node that passes the test is in form
 pub image-is : (n : Node) → is_image n ≡ true → IsImage n
@@ -68,7 +68,7 @@ is-image n i =
     (and_from (are_clauses n.variables n.clauses) (numbers_rise 0 n.clauses) i.clauses i.numbers)))
 
 -- clauses in form can be held
-all-hold : (greatest last : ℕ) (cs : List Held) → are_clauses greatest cs ≡ true → numbers_rise last cs ≡ true → list_all can_hold cs ≡ true
+all-hold : (greatest last : ℕ) (cs : List NumberedClause) → are_clauses greatest cs ≡ true → numbers_rise last cs ≡ true → list_all can_hold cs ≡ true
 all-hold greatest last [] h k = refl
 all-hold greatest last (c ∷ cs) h k =
     let a = and_parts (are_literals greatest c.lits) (are_clauses greatest cs) h in

@@ -1,6 +1,6 @@
 -- What stands in the fields of a text of the form of an image.
 use Rattle.std.specs.Prelude.{ℕ, Bool, List}
-use Rattle.mal_base.specs.Held.{Held}
+use Rattle.mal_base.specs.NumberedClause.{NumberedClause}
 use Rattle.mal_base.specs.declared.trail_entry.TrailEntry.{TrailEntry}
 
 -- the lists of an image, in order or not
@@ -9,4 +9,4 @@ pub record Listing : Type 0 where
   pub order : List ℕ
   pub phases : List Bool
   pub trail : List TrailEntry
-  pub clauses : List Held
+  pub clauses : List NumberedClause

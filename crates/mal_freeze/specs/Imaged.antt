@@ -2,7 +2,7 @@ use Rattle.std.specs.Prelude.{◌≡◌, ℕ, ◌+◌, ◌≤◌, ◌<◌, ◌^�
 use Rattle.std.specs.List.{list_all, list_any}
 use Rattle.mal_base.specs.Clauses.{rises}
 use Rattle.mal_base.specs.Formulas.{is_within}
-use Rattle.mal_base.specs.Held.{Held}
+use Rattle.mal_base.specs.NumberedClause.{NumberedClause}
 use Rattle.mal_base.specs.Literals.{var_of}
 use Rattle.mal_base.specs.declared.trail_entry.TrailEntry.{TrailEntry}
 use Rattle.spec_node.specs.State.{Node}
@@ -36,11 +36,11 @@ abbrev pub are_literals : ℕ → List ℕ → Bool
 are_literals greatest lits = rises lits && is_within greatest lits
 
 -- the literals of each clause are
-abbrev pub are_clauses : ℕ → List Held → Bool
+abbrev pub are_clauses : ℕ → List NumberedClause → Bool
 are_clauses greatest clauses = list_all (λ c. are_literals greatest c.lits) clauses
 
 -- the numbers of the clauses rise strictly, from above this one on
-abbrev pub numbers_rise : ℕ → List Held → Bool
+abbrev pub numbers_rise : ℕ → List NumberedClause → Bool
 numbers_rise last [] = true
 numbers_rise last (c ∷ cs) = nat_lt last c.id && numbers_rise c.id cs
 
@@ -49,7 +49,7 @@ pub record HasRanges (n : Node) : Type 0 where
   pub index : n.index ≤ 63
   pub variables : n.variables ≤ 65536
   pub serial : n.serial < 2 ^ 57
-  pub round : 1 ≤ n.round
+  pub restart_number : 1 ≤ n.restart_number
   -- no more batches count as handled than the trail has prefixes
   pub processed : n.processed ≤ length n.trail + 1
   -- one phase a variable
@@ -69,7 +69,7 @@ pub record IsImage (n : Node) : Type 0 where
 
 -- the same ranges and lengths, as a test
 abbrev pub has_ranges : Node → Bool
-has_ranges n = (nat_le n.index 63 && (nat_le n.variables 65536 && (nat_lt n.serial (2 ^ 57) && nat_le 1 n.round))) && (nat_le n.processed (length n.trail + 1) && (length n.phases == n.variables))
+has_ranges n = (nat_le n.index 63 && (nat_le n.variables 65536 && (nat_lt n.serial (2 ^ 57) && nat_le 1 n.restart_number))) && (nat_le n.processed (length n.trail + 1) && (length n.phases == n.variables))
 
 -- the lists are in order
 abbrev pub has_order : Node → Bool

@@ -2,7 +2,7 @@
 -- it. `total` is the length of the whole text.
 use Rattle.std.specs.Prelude.{◌≡◌, ℕ, zero, suc, ◌+◌, ◌-◌, ◌*◌, ◌^◌, Bool, true, ◌&&◌, ◌||◌, List, [], ◌∷◌, length, take, drop, Option, Some, None, Result, Ok, Err, nat_lt, nat_le, ◌==◌, if◌then◌else◌}
 use Rattle.std.specs.Int.{Width, w32, w64, byte_len, from_be_bytes}
-use Rattle.mal_base.specs.Held.{Held}
+use Rattle.mal_base.specs.NumberedClause.{NumberedClause}
 use Rattle.mal_base.specs.declared.trail_entry.TrailEntry.{TrailEntry}
 use Rattle.mal_base.specs.declared.verdict.Verdict.{Verdict}
 use Rattle.mal_base.specs.declared.verdict.Verdict.TheVariants.{Satisfiable, Unsatisfiable}
@@ -96,7 +96,7 @@ entry_at total greatest bytes = do
   Ok (record { lit = lit.0; reason = number_in reason.0; level = level.0 }, level.1)
 
 -- a clause
-unfoldable pub clause_at : ℕ → ℕ → List ℕ → Result (Held × List ℕ) ThawFault
+unfoldable pub clause_at : ℕ → ℕ → List ℕ → Result (NumberedClause × List ℕ) ThawFault
 clause_at total greatest bytes = do
   id ← number_at w64 bytes
   lits ← counted_at total greatest (literal_at total greatest) id.1
@@ -114,16 +114,16 @@ head_at total bytes = do
   index ← ranged_at total w32 0 63 bytes
   variables ← ranged_at total w32 0 65536 index.1
   serial ← ranged_at total w64 0 (2 ^ 57 - 1) variables.1
-  since ← number_at w32 serial.1
-  Ok (record { index = index.0; variables = variables.0; serial = serial.0; since = since.0 }, since.1)
+  conflicts_since_restart ← number_at w32 serial.1
+  Ok (record { index = index.0; variables = variables.0; serial = serial.0; conflicts_since_restart = conflicts_since_restart.0 }, conflicts_since_restart.1)
 
 -- the number of the restart, the batches handled, and the waiting conflict
 unfoldable pub search_at : ℕ → List ℕ → Result (Search × List ℕ) ThawFault
 search_at total bytes = do
-  round ← ranged_at total w32 1 (2 ^ 32 - 1) bytes
-  processed ← number_at w32 round.1
+  restart_number ← ranged_at total w32 1 (2 ^ 32 - 1) bytes
+  processed ← number_at w32 restart_number.1
   conflict ← number_at w64 processed.1
-  Ok (record { round = round.0; processed = processed.0; conflict = number_in conflict.0 }, conflict.1)
+  Ok (record { restart_number = restart_number.0; processed = processed.0; conflict = number_in conflict.0 }, conflict.1)
 
 -- the verdict and the goal
 unfoldable pub ended_at : ℕ → List ℕ → Result (Ended × List ℕ) ThawFault
@@ -166,8 +166,8 @@ node_in f = record {
   index = f.head.index;
   variables = f.head.variables;
   serial = f.head.serial;
-  since = f.head.since;
-  round = f.search.round;
+  conflicts_since_restart = f.head.conflicts_since_restart;
+  restart_number = f.search.restart_number;
   processed = f.search.processed;
   conflict = f.search.conflict;
   verdict = verdict_in f.ended;

@@ -1,7 +1,7 @@
 -- The bytes of an image, version 1. Numbers have their greatest byte first.
 use Rattle.std.specs.Prelude.{ℕ, Bool, true, false, List, [], ◌∷◌, ◌++◌, length, flat_map, codes, Option, Some, None}
 use Rattle.std.specs.Int.{Width, w32, w64, to_be_bytes, from_be_bytes}
-use Rattle.mal_base.specs.Held.{Held}
+use Rattle.mal_base.specs.NumberedClause.{NumberedClause}
 use Rattle.mal_base.specs.declared.trail_entry.TrailEntry.{TrailEntry}
 use Rattle.mal_base.specs.declared.verdict.Verdict.{Verdict}
 use Rattle.mal_base.specs.declared.verdict.Verdict.TheVariants.{Satisfiable, Unsatisfiable}
@@ -49,16 +49,16 @@ abbrev pub entry_bytes : TrailEntry → List ℕ
 entry_bytes e = spelled w32 e.lit ++ (spelled w64 (number_or_0 e.reason) ++ spelled w32 e.level)
 
 -- a clause: its number and its literals
-abbrev pub clause_bytes : Held → List ℕ
+abbrev pub clause_bytes : NumberedClause → List ℕ
 clause_bytes c = spelled w64 c.id ++ counted (spelled w32) c.lits
 
 -- the index, the variables, the serial, and the conflicts since the last restart
 abbrev pub head_bytes : Node → List ℕ
-head_bytes n = spelled w32 n.index ++ (spelled w32 n.variables ++ (spelled w64 n.serial ++ spelled w32 n.since))
+head_bytes n = spelled w32 n.index ++ (spelled w32 n.variables ++ (spelled w64 n.serial ++ spelled w32 n.conflicts_since_restart))
 
 -- the number of the restart, the batches handled, and the waiting conflict
 abbrev pub search_bytes : Node → List ℕ
-search_bytes n = spelled w32 n.round ++ (spelled w32 n.processed ++ spelled w64 (number_or_0 n.conflict))
+search_bytes n = spelled w32 n.restart_number ++ (spelled w32 n.processed ++ spelled w64 (number_or_0 n.conflict))
 
 -- the verdict and its goal
 abbrev pub verdict_bytes : Option Verdict → List ℕ

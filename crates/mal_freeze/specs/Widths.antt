@@ -1,7 +1,7 @@
 -- Numbers that fit the fields of an image.
 use Rattle.std.specs.Prelude.{ℕ, ◌<◌, ◌≤◌, ◌^◌, length, Option, Some, None}
 use Rattle.std.specs.List.{AllByRecursion}
-use Rattle.mal_base.specs.Held.{Held}
+use Rattle.mal_base.specs.NumberedClause.{NumberedClause}
 use Rattle.mal_base.specs.declared.trail_entry.TrailEntry.{TrailEntry}
 use Rattle.mal_base.specs.declared.verdict.Verdict.{Verdict}
 use Rattle.mal_base.specs.declared.verdict.Verdict.TheVariants.{Satisfiable, Unsatisfiable}
@@ -23,12 +23,12 @@ abbrev pub FitsEntry : TrailEntry → Type 0
 FitsEntry e = FitsNumber e.reason × (e.level < 2 ^ 32)
 
 -- the number of a clause fits
-abbrev pub FitsClause : Held → Type 0
+abbrev pub FitsClause : NumberedClause → Type 0
 FitsClause c = c.id < 2 ^ 64
 
 -- the number of the restart, the batches handled and the waiting conflict fit
 pub record FitsCounts (n : Node) : Type 0 where
-  pub round : n.round < 2 ^ 32
+  pub restart_number : n.restart_number < 2 ^ 32
   pub processed : n.processed < 2 ^ 32
   pub conflict : FitsNumber n.conflict
 
@@ -40,7 +40,7 @@ pub record FitsLists (n : Node) : Type 0 where
 
 -- the numbers of a node that have no narrower range in an image fit their fields
 pub record Fits (n : Node) : Type 0 where
-  pub since : n.since < 2 ^ 32
+  pub conflicts_since_restart : n.conflicts_since_restart < 2 ^ 32
   pub counts : FitsCounts n
   pub goal : FitsGoal n.verdict
   pub lists : FitsLists n

@@ -13,8 +13,8 @@ fn fresh_parts(alloc: Global) -> Parts {
         index: 0,
         variables: 0,
         serial: 0,
-        since: 0,
-        round: 1,
+        conflicts_since_restart: 0,
+        restart_number: 1,
         processed: 0,
         conflict: None,
         verdict: None,
@@ -66,7 +66,7 @@ fn a_fresh_node_is_65_bytes(rt: HostRuntime) -> Result<(), Fail> {
         );
     }
     let image = thaw(alloc, bytes.as_slice()).ok().ok_or("an image")?;
-    assert_eq!(rt; image.parts().round, 1);
+    assert_eq!(rt; image.parts().restart_number, 1);
     let other = changed(alloc, bytes.as_slice(), 0, b'm')?;
     assert_eq!(rt;
         fault_of(alloc, other.as_slice()),

@@ -10,13 +10,13 @@ pub struct Head {
     pub index: u32,
     pub variables: u32,
     pub serial: u64,
-    pub since: u32,
+    pub conflicts_since_restart: u32,
 }
 
 /// The number of the restart (at least 1), the batches handled, and the waiting conflict.
 #[derive(Clone, Copy)]
 pub struct Search {
-    pub round: u32,
+    pub restart_number: u32,
     pub processed: u32,
     pub conflict: Option<ClauseId>,
 }

@@ -14,9 +14,9 @@ pub struct HeldClause {
 }
 
 impl Model for HeldClause {
-    ghost use Rattle.mal_base.specs.Held.{Held};
+    ghost use Rattle.mal_base.specs.NumberedClause.{NumberedClause};
 
-    ghost Value = { Held };
+    ghost Value = { NumberedClause };
 
     ghost view = { λ h. record { id = h.id; lits = h.clause } };
 }

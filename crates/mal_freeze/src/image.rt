@@ -114,7 +114,7 @@ fn has_ranges(parts: &Parts) -> bool
     if 1 << 57 <= parts.serial {
         return false;
     }
-    if parts.round < 1 {
+    if parts.restart_number < 1 {
         return false;
     }
     if parts.trail.len() + 1 < parts.processed as usize {

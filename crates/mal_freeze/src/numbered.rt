@@ -18,9 +18,9 @@ pub struct Numbered {
 }
 
 impl Model for Numbered {
-    ghost use Rattle.mal_base.specs.Held.{Held};
+    ghost use Rattle.mal_base.specs.NumberedClause.{NumberedClause};
 
-    ghost Value = { Held };
+    ghost Value = { NumberedClause };
 
     ghost view = { λ c. record { id = c.number; lits = c.lits.items } };
 }

@@ -342,13 +342,13 @@ fn head(total: usize, bytes: &[u8]) -> Result<(Head, &[u8]), ThawFault>
     let (index, rest) = u32_within(total, 0, 63, bytes)?;
     let (variables, rest) = u32_within(total, 0, 65_536, rest)?;
     let (serial, rest) = u64_within(total, 0, (1 << 57) - 1, rest)?;
-    let (since, rest) = u32_at(rest)?;
+    let (conflicts_since_restart, rest) = u32_at(rest)?;
     Ok((
         Head {
             index,
             variables,
             serial,
-            since,
+            conflicts_since_restart,
         },
         rest,
     ))
@@ -359,12 +359,12 @@ fn head(total: usize, bytes: &[u8]) -> Result<(Head, &[u8]), ThawFault>
 fn search(total: usize, bytes: &[u8]) -> Result<(Search, &[u8]), ThawFault>
     ensures { Gives (λ x. (x.0, x.1.now)) result (search_at total bytes.now) }
 {
-    let (round, rest) = u32_within(total, 1, u32::MAX, bytes)?;
+    let (restart_number, rest) = u32_within(total, 1, u32::MAX, bytes)?;
     let (processed, rest) = u32_at(rest)?;
     let (conflict, rest) = u64_at(rest)?;
     Ok((
         Search {
-            round,
+            restart_number,
             processed,
             conflict: number_of(conflict),
         },

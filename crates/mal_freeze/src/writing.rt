@@ -81,12 +81,12 @@ fn number_or_0(id: Option<ClauseId>) -> u64
 /// Puts the index, the variables, the serial, and the conflicts since the last restart behind the others.
 fn put_head(out: &mut Vec<u8>, parts: &Parts) -> Result<(), AllocError>
     ensures spelled { OnOk result (out.new.items ≡ out.old.items ++ head_bytes (node_of parts.now)) }
-    ensures fits { OnOk result (parts.now.since < 2 ^ 32) }
+    ensures fits { OnOk result (parts.now.conflicts_since_restart < 2 ^ 32) }
 {
     put_u32(out, parts.index)?;
     put_u32(out, parts.variables)?;
     put_u64(out, parts.serial)?;
-    put_u32(out, parts.since)
+    put_u32(out, parts.conflicts_since_restart)
 }
 
 /// Puts the number of the restart, the batches handled, and the waiting conflict behind the others.
@@ -94,7 +94,7 @@ fn put_search(out: &mut Vec<u8>, parts: &Parts) -> Result<(), AllocError>
     ensures spelled { OnOk result (out.new.items ≡ out.old.items ++ search_bytes (node_of parts.now)) }
     ensures fits { OnOk result (FitsCounts (node_of parts.now)) }
 {
-    put_u32(out, parts.round)?;
+    put_u32(out, parts.restart_number)?;
     put_u32(out, parts.processed)?;
     put_u64(out, number_or_0(parts.conflict))
 }

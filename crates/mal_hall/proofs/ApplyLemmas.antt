@@ -11,7 +11,7 @@ use Rattle.mal_base.specs.declared.verdict.Outcome.{Outcome}
 use Rattle.mal_base.specs.declared.verdict.Outcome.TheVariants.{Ran, Starved, Lost}
 use Rattle.mal_hall.specs.Applied.{ComesOf, HasApplied, HasEntered, IsBackOf, IsInside, IsRefused, StartsAt, listed_in, listed_last}
 use Rattle.mal_hall.specs.Offered.{HasBalanced, HasEnded, HasExchanged, HasStarted, IsFirst, MayEnd, MayStartAt, handed_of}
-use Rattle.mal_hall.specs.Seen.{Inside, IsHall, Seen, events_in, next_number, out_in}
+use Rattle.mal_hall.specs.HallView.{Inside, IsHall, HallView, events_in, next_number, out_in}
 use Rattle.mal_history.specs.declared.event.Event as written
 use Rattle.mal_history.specs.declared.event.Event.TheVariants as of
 use Rattle.mal_history.specs.declared.event.Share.{Share}
@@ -20,14 +20,14 @@ use Rattle.mal_revision.specs.Posted.{Posted}
 use Rattle.spec_job.specs.Journal.{JournalEntry}
 use Rattle.spec_job.specs.Journaled.{Journaled}
 use Rattle.spec_job.specs.Leased.{Becomes, Finished, Leased}
-use Rattle.spec_job.specs.Titled.{Key, Titled}
+use Rattle.spec_job.specs.KeyedJob.{Key, KeyedJob}
 use Rattle.spec_job.specs.Viewed.{IsGrownBy}
 use Rattle.spec_hall.specs.Calls.{AnswerTo, Call, Closes, Handed, HasCalled, IsCall, Opens, Revises, handed, wanted}
 use Rattle.spec_hall.specs.Events.{Event, Open, Revise, Close, Balance, Start, Finish, Exchange, bare}
 use Rattle.spec_hall.specs.Given.{given}
 use Rattle.spec_hall.specs.Legal.{Allowed, IsBalanceDue, MayExchange, MayRevise, job_of}
 use Rattle.spec_hall.specs.Leases.{lease_adds, lease_journal}
-use Rattle.spec_hall.specs.States.{Candidate, Held, balanced, exchange_due, keys_of, lease_of, leases, live_of, live_ones, lives, picked, states, titled}
+use Rattle.spec_hall.specs.States.{Candidate, LeaseOut, balanced, exchange_due, keys_of, lease_of, leases, live_of, live_ones, lives, picked, states, titled}
 use Rattle.spec_hall.specs.declared.fault.CloseFault.{CloseFault}
 use Rattle.spec_hall.specs.declared.fault.OpenFault.{OpenFault}
 use Rattle.spec_hall.specs.declared.fault.ReviseFault.{ReviseFault}
@@ -71,22 +71,22 @@ pub open-entered : (w : ℕ) (past now : List Event) (k : Key) (ask : Terms) →
 open-entered w past now k ask has = record { allowed = has.call.0; grown = has.grown ∙ ap (λ (es : List Event). past ++ es) has.call.1 }
 
 -- the number of a revision that may be posted is the next one
-revise-next : (past : List Event) (k : Key) (number : ℕ) (r : Posted) (t : Titled) → MayRevise past k number r t → number ≡ next_number k past
-revise-next past k number r t may = may.next ∙ sym (ap (λ (o : Option Titled). option_map_or (λ (u : Titled). length u.state.revisions + 1) o 1) may.job)
+revise-next : (past : List Event) (k : Key) (number : ℕ) (r : Posted) (t : KeyedJob) → MayRevise past k number r t → number ≡ next_number k past
+revise-next past k number r t may = may.next ∙ sym (ap (λ (o : Option KeyedJob). option_map_or (λ (u : KeyedJob). length u.state.revisions + 1) o 1) may.job)
 
 pub revise-number : (w : ℕ) (past : List Event) (k : Key) (number next : ℕ) (r : Posted) → next ≡ next_number k past → (next ≡ number → ⊥) → Allowed w past (Revise k number r) → ⊥
 revise-number w past k number next r is other may = other (is ∙ sym (revise-next past k number r may.0 may.1))
 
 pub revise-refused : (w : ℕ) (past now : List Event) (k : Key) (number : ℕ) (r : Posted) (fault : ReviseFault) → HasCalled w past (Revises k r) (Err fault) now → wanted (Revises k r) (Err fault) ≡ false → Allowed w past (Revise k number r) → ⊥
 revise-refused w past now k number r fault has refused may =
-    let t : Titled = may.0 in
+    let t : KeyedJob = may.0 in
     let here : MayRevise past k (length t.state.revisions + 1) r t = subst (λ (n : ℕ). MayRevise past k n r t) may.1.next may.1 in
     let same : Ok tt ≡ Err fault = otherwise w past now (Revises k r) (Err fault) (Ok tt) (Revise k (length t.state.revisions + 1) r ∷ []) has (t, here, refl) refl refused in
     absurd (cc)
 
 pub revise-entered : (w : ℕ) (past now : List Event) (k : Key) (number next : ℕ) (r : Posted) → HasCalled w past (Revises k r) (Ok tt) now → next ≡ next_number k past → next ≡ number → HasEntered w past (Revise k number r) now
 revise-entered w past now k number next r has is same =
-    let t : Titled = has.call.0 in
+    let t : KeyedJob = has.call.0 in
     let may : MayRevise past k (length t.state.revisions + 1) r t = has.call.1 in
     let number_is : length t.state.revisions + 1 ≡ number = revise-next past k (length t.state.revisions + 1) r t may ∙ (sym is ∙ same) in
     record {
@@ -131,7 +131,7 @@ pub due-refused : (w : ℕ) (past : List Event) (volumes : List Share) → lives
 due-refused w past volumes calm may = may.due calm
 
 -- the key of a job at a place
-key-at : (past : List Event) (at : ℕ) (t : Titled) → slice_get (states past) at ≡ Some t → slice_get (keys_of past) at ≡ Some t.key
+key-at : (past : List Event) (at : ℕ) (t : KeyedJob) → slice_get (states past) at ≡ Some t → slice_get (keys_of past) at ≡ Some t.key
 key-at past at t e = by_key (slice_get (keys_of past) at) refl
   where
     by_key : (o : Option Key) → slice_get (keys_of past) at ≡ o → o ≡ Some t.key
@@ -139,24 +139,24 @@ key-at past at t e = by_key (slice_get (keys_of past) at) refl
     by_key (Some k) q =
         let both : Some (titled past k) ≡ Some t = sym (slice_get-map (titled past) (keys_of past) at ∙ ap (option_map (titled past)) q) ∙ e in
         let same : titled past k ≡ t = cc in
-        ap (λ (u : Titled). Some u.key) same
+        ap (λ (u : KeyedJob). Some u.key) same
 
 first-key : (past : List Event) (at : ℕ) (k : Key) (first : IsFirst past at) → slice_get (keys_of past) at ≡ Some k → first.job.key ≡ k
 first-key past at k first named = let both : Some first.job.key ≡ Some k = sym (key-at past at first.job first.place) ∙ named in cc
 
-first-job : (past : List Event) (at : ℕ) (k : Key) (t : Titled) (first : IsFirst past at) → MayExchange past k t → first.job ≡ t
+first-job : (past : List Event) (at : ℕ) (k : Key) (t : KeyedJob) (first : IsFirst past at) → MayExchange past k t → first.job ≡ t
 first-job past at k t first may = let both : Some first.job ≡ Some t = sym first.first ∙ may.first in cc
 
 pub exchange-entered : (w : ℕ) (past now : List Event) (at : ℕ) (k : Key) → IsFirst past at → slice_get (keys_of past) at ≡ Some k → HasExchanged w past now → HasEntered w past (Exchange k) now
 exchange-entered w past now at k first named has =
     let job : first.job ≡ has.allowed.0 = first-job past at has.key has.allowed.0 first has.allowed.1 in
-    let same : has.key ≡ k = sym has.allowed.1.key ∙ (ap (λ (t : Titled). t.key) (sym job) ∙ first-key past at k first named) in
+    let same : has.key ≡ k = sym has.allowed.1.key ∙ (ap (λ (t : KeyedJob). t.key) (sym job) ∙ first-key past at k first named) in
     record { allowed = subst (λ (j : Key). Allowed w past (Exchange j)) same has.allowed; grown = has.grown ∙ ap (λ (j : Key). past ++ Exchange j ∷ []) same }
 
 pub exchange-refused : (w : ℕ) (past : List Event) (at : ℕ) (k : Key) → IsFirst past at → (slice_get (keys_of past) at ≡ Some k → ⊥) → Allowed w past (Exchange k) → ⊥
 exchange-refused w past at k first other may =
     let job : first.job ≡ may.0 = first-job past at k may.0 first may.1 in
-    other (key-at past at first.job first.place ∙ ap Some (ap (λ (t : Titled). t.key) job ∙ may.1.key))
+    other (key-at past at first.job first.place ∙ ap Some (ap (λ (t : KeyedJob). t.key) job ∙ may.1.key))
 
 pub exchange-due : (w : ℕ) (past : List Event) (k : Key) → IsBalanceDue past → Allowed w past (Exchange k) → ⊥
 exchange-due w past k due may = due may.1.balance
@@ -170,7 +170,7 @@ start-worker w v past k index worker same other may = other may.1.some_worker (o
 
 pub start-busy : (w : ℕ) (past : List Event) (k : Key) (index worker : ℕ) (b : Bool) → b ≡ is_some (lease_of worker (leases past)) → b ≡ true → Allowed w past (Start k index worker) → ⊥
 start-busy w past k index worker b scan busy may =
-    let both : false ≡ true = sym (ap (λ (o : Option Held). is_some o) may.1.idle) ∙ (sym scan ∙ busy) in
+    let both : false ≡ true = sym (ap (λ (o : Option LeaseOut). is_some o) may.1.idle) ∙ (sym scan ∙ busy) in
     absurd (cc)
 
 pub start-due : (w : ℕ) (past : List Event) (k : Key) (index worker : ℕ) → IsBalanceDue past → Allowed w past (Start k index worker) → ⊥
@@ -210,7 +210,7 @@ start-may w v past k index worker b o c same low high busy free calm exchange sc
   );
 }
   where
-    none : (l : Option Held) → is_some l ≡ false → l ≡ None
+    none : (l : Option LeaseOut) → is_some l ≡ false → l ≡ None
     none None e = refl
     none (Some l) e = absurd (cc)
 
@@ -225,10 +225,10 @@ pub start-entered : (w : ℕ) (past now : List Event) (k : Key) (index worker at
 start-entered w past now k index worker at lease is has = record { allowed = is.allowed; grown = has.grown ∙ ap (λ (j : Key). past ++ Start j index worker ∷ []) (started-key w past now k index worker at lease is has) }
 
 pub start-handed : (w : ℕ) (past now : List Event) (k : Key) (index worker at : ℕ) (lease : Leased) → StartsAt w past k index worker at → HasStarted w past now index worker lease → handed_of lease ≡ handed now (record { worker = worker; key = k; index = index })
-start-handed w past now k index worker at lease is has = has.lease_is ∙ ap (λ (j : Key). let h : Held = record { worker = worker; key = j; index = index } in handed now h) (started-key w past now k index worker at lease is has)
+start-handed w past now k index worker at lease is has = has.lease_is ∙ ap (λ (j : Key). let h : LeaseOut = record { worker = worker; key = j; index = index } in handed now h) (started-key w past now k index worker at lease is has)
 
 -- the lease of a worker that is out is inside
-pub lease-inside : (x : Seen) (k : Key) (index worker : ℕ) (o : Option Leased) → Stands x → 1 ≤ worker → worker ≤ x.workers → lease_of worker (leases x.events) ≡ Some (record { worker = worker; key = k; index = index }) → option_map handed_of o ≡ get_or x.inside (worker - 1) None → option_map handed_of o ≡ Some (handed x.events (record { worker = worker; key = k; index = index }))
+pub lease-inside : (x : HallView) (k : Key) (index worker : ℕ) (o : Option Leased) → Stands x → 1 ≤ worker → worker ≤ x.workers → lease_of worker (leases x.events) ≡ Some (record { worker = worker; key = k; index = index }) → option_map handed_of o ≡ get_or x.inside (worker - 1) None → option_map handed_of o ≡ Some (handed x.events (record { worker = worker; key = k; index = index }))
 lease-inside x k index worker o is low high out taken =
     let next : suc (worker - 1) ≡ worker = omega (arith, low) in
     taken
@@ -247,7 +247,7 @@ grown-as Ran l d is = is
 grown-as Starved l d is = is.0
 grown-as Lost l d is = is
 
-pub finish-may : (past : List Event) (held : Held) (l : Leased) (outcome : Outcome) (back : Option Finished) → lease_of held.worker (leases past) ≡ Some held → handed_of l ≡ handed past held → IsBackOf l outcome back → MayEnd past held.worker back
+pub finish-may : (past : List Event) (held : LeaseOut) (l : Leased) (outcome : Outcome) (back : Option Finished) → lease_of held.worker (leases past) ≡ Some held → handed_of l ≡ handed past held → IsBackOf l outcome back → MayEnd past held.worker back
 finish-may past held l outcome None out is came = record { lease = held; worker_is = refl; belongs = out }
 finish-may past held l outcome (Some d) out is came =
     let worker : d.worker ≡ held.worker = came.comes.0 ∙ ap (λ (h : Handed). h.worker) is in
@@ -267,12 +267,12 @@ finish-may past held l outcome (Some d) out is came =
 
 pub finish-entered : (w : ℕ) (past now : List Event) (k : Key) (index worker : ℕ) (l : Leased) (outcome : Outcome) (back : Option Finished) → lease_of worker (leases past) ≡ Some (record { worker = worker; key = k; index = index }) → IsBackOf l outcome back → HasEnded past now worker (outcome_of back) → HasEntered w past (Finish k index worker outcome) now
 finish-entered w past now k index worker l outcome back out came ended =
-    let held : Held = record { worker = worker; key = k; index = index } in
+    let held : LeaseOut = record { worker = worker; key = k; index = index } in
     let both : Some ended.lease ≡ Some held = sym ended.out ∙ out in
     let same : ended.lease ≡ held = cc in
     record {
       allowed = out;
-      grown = ended.grown ∙ (ap (λ (h : Held). past ++ Finish h.key h.index worker (outcome_of back) ∷ []) same ∙ ap (λ (o : Outcome). past ++ Finish k index worker o ∷ []) came.outcome_is);
+      grown = ended.grown ∙ (ap (λ (h : LeaseOut). past ++ Finish h.key h.index worker (outcome_of back) ∷ []) same ∙ ap (λ (o : Outcome). past ++ Finish k index worker o ∷ []) came.outcome_is);
     }
 
 -- a test that fails says that there is no such lease or place
@@ -330,11 +330,11 @@ held-other x worker index k spot hall is apart = no-test (λ e. other e)
   where
     other : lease_of worker (leases (events_in x)) ≡ Some (record { worker = worker; key = k; index = index }) → ⊥
     other e =
-        let one : Held = record { worker = worker; key = is.tag.key; index = spot.index } in
-        let two : Held = record { worker = worker; key = k; index = index } in
+        let one : LeaseOut = record { worker = worker; key = is.tag.key; index = spot.index } in
+        let two : LeaseOut = record { worker = worker; key = k; index = index } in
         let both : Some one ≡ Some two = sym is.out ∙ e in
         let same : one ≡ two = cc in
-        apart (ap (λ (h : Held). h.index) same)
+        apart (ap (λ (h : LeaseOut). h.index) same)
 
 -- the key of the job at a spot
 spot-key : (x : Inside) (worker : ℕ) (spot : Spot) → IsHall x → (is : IsAt (events_in x) (tags_of x.seats) worker spot) → slice_get (keys_of (events_in x)) spot.job ≡ Some is.tag.key
@@ -356,19 +356,19 @@ held-test x worker index k spot b hall is same test = (λ t. yes (test.0 t), λ 
     yes e =
         let both : Some is.tag.key ≡ Some k = sym here ∙ e in
         let key : is.tag.key ≡ k = cc in
-        is.out ∙ (ap (λ (j : Key). let o : Option Held = Some (record { worker = worker; key = j; index = spot.index }) in o) key ∙ ap (λ (n : ℕ). let o : Option Held = Some (record { worker = worker; key = k; index = n }) in o) same)
+        is.out ∙ (ap (λ (j : Key). let o : Option LeaseOut = Some (record { worker = worker; key = j; index = spot.index }) in o) key ∙ ap (λ (n : ℕ). let o : Option LeaseOut = Some (record { worker = worker; key = k; index = n }) in o) same)
 
     no : lease_of worker (leases (events_in x)) ≡ Some (record { worker = worker; key = k; index = index }) → slice_get (keys_of (events_in x)) spot.job ≡ Some k
     no e =
-        let one : Held = record { worker = worker; key = is.tag.key; index = spot.index } in
-        let two : Held = record { worker = worker; key = k; index = index } in
+        let one : LeaseOut = record { worker = worker; key = is.tag.key; index = spot.index } in
+        let two : LeaseOut = record { worker = worker; key = k; index = index } in
         let both : Some one ≡ Some two = sym is.out ∙ e in
         let equal : one ≡ two = cc in
-        here ∙ ap Some (ap (λ (h : Held). h.key) equal)
+        here ∙ ap Some (ap (λ (h : LeaseOut). h.key) equal)
 
 -- a job that is not there has the first revision next
 pub next-none : (past : List Event) (k : Key) → job_of k (states past) ≡ None → 1 ≡ next_number k past
-next-none past k none = sym (ap (λ (o : Option Titled). option_map_or (λ (u : Titled). length u.state.revisions + 1) o 1) none)
+next-none past k none = sym (ap (λ (o : Option KeyedJob). option_map_or (λ (u : KeyedJob). length u.state.revisions + 1) o 1) none)
 
 -- a slot that is set
 pub set-slot : (os : List (Option Leased)) (n : ℕ) (o : Option Leased) → map (option_map handed_of) (slice_set os n o) ≡ slice_set (map (option_map handed_of) os) n (option_map handed_of o)
@@ -388,34 +388,34 @@ pub fault-is : {A : Type 0} (f g : ApplyFault) → ◌≡◌ {A = Result A Apply
 fault-is f g e = cc
 
 -- a lease that was handed out and is kept inside
-pub lodged-inside : (x m y : Seen) (k : Key) (index worker at : ℕ) (lease : Leased) → Stands x → StartsAt x.workers x.events k index worker at → HasStarted x.workers x.events m.events index worker lease → m.workers ≡ x.workers → m.inside ≡ x.inside → y.workers ≡ m.workers → y.events ≡ m.events → y.inside ≡ slice_set m.inside (worker - 1) (Some (handed_of lease)) → IsInside y
+pub lodged-inside : (x m y : HallView) (k : Key) (index worker at : ℕ) (lease : Leased) → Stands x → StartsAt x.workers x.events k index worker at → HasStarted x.workers x.events m.events index worker lease → m.workers ≡ x.workers → m.inside ≡ x.inside → y.workers ≡ m.workers → y.events ≡ m.events → y.inside ≡ slice_set m.inside (worker - 1) (Some (handed_of lease)) → IsInside y
 lodged-inside x m y k index worker at lease is starts has workers inside later events set =
     let entered : HasEntered x.workers x.events (Start k index worker) y.events = subst (HasEntered x.workers x.events (Start k index worker)) (sym events) (start-entered x.workers x.events m.events k index worker at lease starts has) in
     let handed_is : handed_of lease ≡ handed y.events (record { worker = worker; key = k; index = index }) = subst (λ (h : List Event). handed_of lease ≡ handed h (record { worker = worker; key = k; index = index })) (sym events) (start-handed x.workers x.events m.events k index worker at lease starts has) in
     inside-start x y k index worker lease is (later ∙ workers) (set ∙ ap (λ (os : List (Option Handed)). slice_set os (worker - 1) (Some (handed_of lease))) inside) entered handed_is
 
 -- a worker with a lease is one of the hall
-pub held-worker : (x : Seen) (k : Key) (index worker : ℕ) → Stands x → lease_of worker (leases x.events) ≡ Some (record { worker = worker; key = k; index = index }) → IsWorker x.workers worker
+pub held-worker : (x : HallView) (k : Key) (index worker : ℕ) → Stands x → lease_of worker (leases x.events) ≡ Some (record { worker = worker; key = k; index = index }) → IsWorker x.workers worker
 held-worker x k index worker is out = (lease-worker x.workers x.events worker (record { worker = worker; key = k; index = index }) is.some is.bound is.legal out).1
 
-pub held-slot : (x : Seen) (k : Key) (index worker : ℕ) → Stands x → lease_of worker (leases x.events) ≡ Some (record { worker = worker; key = k; index = index }) → worker ≤ length x.inside
+pub held-slot : (x : HallView) (k : Key) (index worker : ℕ) → Stands x → lease_of worker (leases x.events) ≡ Some (record { worker = worker; key = k; index = index }) → worker ≤ length x.inside
 held-slot x k index worker is out = omega (arith, (held-worker x k index worker is out).high, is.inside.count)
 
 -- its lease is inside
-pub never-none : (x : Seen) (k : Key) (index worker : ℕ) (o : Option Leased) → Stands x → lease_of worker (leases x.events) ≡ Some (record { worker = worker; key = k; index = index }) → option_map handed_of o ≡ get_or x.inside (worker - 1) None → o ≡ None → ⊥
+pub never-none : (x : HallView) (k : Key) (index worker : ℕ) (o : Option Leased) → Stands x → lease_of worker (leases x.events) ≡ Some (record { worker = worker; key = k; index = index }) → option_map handed_of o ≡ get_or x.inside (worker - 1) None → o ≡ None → ⊥
 never-none x k index worker o is out taken none =
     let mine = held-worker x k index worker is out in
     some-inside o _ (lease-inside x k index worker o is mine.low mine.high out taken) none
 
 -- and what came of it may end it
-pub back-may : (x m : Seen) (k : Key) (index worker : ℕ) (o : Option Leased) (l : Leased) (outcome : Outcome) (back : Option Finished) → Stands x → lease_of worker (leases x.events) ≡ Some (record { worker = worker; key = k; index = index }) → option_map handed_of o ≡ get_or x.inside (worker - 1) None → o ≡ Some l → IsBackOf l outcome back → m.events ≡ x.events → MayEnd m.events worker back
+pub back-may : (x m : HallView) (k : Key) (index worker : ℕ) (o : Option Leased) (l : Leased) (outcome : Outcome) (back : Option Finished) → Stands x → lease_of worker (leases x.events) ≡ Some (record { worker = worker; key = k; index = index }) → option_map handed_of o ≡ get_or x.inside (worker - 1) None → o ≡ Some l → IsBackOf l outcome back → m.events ≡ x.events → MayEnd m.events worker back
 back-may x m k index worker o l outcome back is out taken found came events =
     let mine = held-worker x k index worker is out in
-    let held : Held = record { worker = worker; key = k; index = index } in
+    let held : LeaseOut = record { worker = worker; key = k; index = index } in
     let handed_is : handed_of l ≡ handed x.events held = handed-inside o l (handed x.events held) (lease-inside x k index worker o is mine.low mine.high out taken) found in
     subst (λ (h : List Event). MayEnd h worker back) (sym events) (finish-may x.events held l outcome back out handed_is came)
 
-pub ended-inside : (x m y : Seen) (k : Key) (index worker : ℕ) (l : Leased) (outcome : Outcome) (back : Option Finished) → Stands x → lease_of worker (leases x.events) ≡ Some (record { worker = worker; key = k; index = index }) → IsBackOf l outcome back → m.workers ≡ x.workers → m.events ≡ x.events → m.inside ≡ slice_set x.inside (worker - 1) None → y.workers ≡ m.workers → y.inside ≡ m.inside → HasEnded m.events y.events worker (outcome_of back) → IsInside y
+pub ended-inside : (x m y : HallView) (k : Key) (index worker : ℕ) (l : Leased) (outcome : Outcome) (back : Option Finished) → Stands x → lease_of worker (leases x.events) ≡ Some (record { worker = worker; key = k; index = index }) → IsBackOf l outcome back → m.workers ≡ x.workers → m.events ≡ x.events → m.inside ≡ slice_set x.inside (worker - 1) None → y.workers ≡ m.workers → y.inside ≡ m.inside → HasEnded m.events y.events worker (outcome_of back) → IsInside y
 ended-inside x m y k index worker l outcome back is out came workers events inside later same ended =
     let mine = held-worker x k index worker is out in
     let here : HasEnded x.events y.events worker (outcome_of back) = subst (λ (h : List Event). HasEnded h y.events worker (outcome_of back)) events ended in
@@ -449,13 +449,13 @@ answered-test x ss b hall same scan = (
 
 -- no lease is out
 pub home-test : (x : Inside) (sp : List (Option Spot)) (n : ℕ) → IsHall x → sp ≡ x.spots → n ≡ out_in sp → IsTrue (nat_eq n 0) ↔ (leases (events_in x) ≡ [])
-home-test x sp n hall same scan = (λ t. none (leases (events_in x)) (sym is ∙ t), λ e. is ∙ ap (λ (ls : List Held). length ls == 0) e)
+home-test x sp n hall same scan = (λ t. none (leases (events_in x)) (sym is ∙ t), λ e. is ∙ ap (λ (ls : List LeaseOut). length ls == 0) e)
   where
     is : nat_eq n 0 ≡ (length (leases (events_in x)) == 0)
     is =
         ap (λ (m : ℕ). m == 0) (scan ∙ ap out_in same)
         ∙ spots-home x.history.workers (events_in x) (tags_of x.seats) x.spots (hall-seated x hall).some_worker hall.bound (hall-seated x hall).legal (hall-spots x hall)
 
-    none : (ls : List Held) → (length ls == 0) ≡ true → ls ≡ []
+    none : (ls : List LeaseOut) → (length ls == 0) ≡ true → ls ≡ []
     none [] e = refl
     none (l ∷ ls) e = let z : length (l ∷ ls) ≡ 0 = (Decides-eqb (length (l ∷ ls)) 0).0 e in absurd (omega (arith, z))

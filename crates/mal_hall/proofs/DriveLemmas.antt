@@ -16,7 +16,7 @@ use Rattle.spec_hall.specs.Events.{Event, Start, Finish}
 use Rattle.spec_hall.specs.Leases.{lease_adds, lease_journal}
 use Rattle.spec_hall.specs.Legal.{Legal}
 use Rattle.spec_hall.specs.Measure.{left_in}
-use Rattle.spec_hall.specs.States.{Held, lease_of, leases, lives, states}
+use Rattle.spec_hall.specs.States.{LeaseOut, lease_of, leases, lives, states}
 use Rattle.spec_hall.proofs.GoesOnLemmas.{end-answered}
 use Rattle.spec_hall.proofs.PushLemmas.{leases-push}
 use Rattle.spec_hall.proofs.TurnLemmas.{HasTurned, HasWorked, due-leases, due-legal, due-turns, turn-worked, turns-more, turns-none}
@@ -34,7 +34,7 @@ pub record HasStopped (w : ℕ) (past now : List Event) : Type 0 where
 
 -- something is left where nothing is out and it is not over
 left-over : (past : List Event) → leases past ≡ [] → is_over past ≡ false → is_done (states past) ≡ false
-left-over past home over = by_done (is_done (states past)) (sym (ap (λ (ls : List Held). is_done (states past) && length ls == 0) home) ∙ over)
+left-over past home over = by_done (is_done (states past)) (sym (ap (λ (ls : List LeaseOut). is_done (states past) && length ls == 0) home) ∙ over)
   where
     by_done : (b : Bool) → (b && true) ≡ false → b ≡ false
     by_done false e = refl
@@ -83,14 +83,14 @@ turn-done v w past middle now lease d answer same some bound legal home called w
     is : IsStarting w past 1 (handed_of lease) called.events
     is = called.call
 
-    held : Held
+    held : LeaseOut
     held = record { worker = 1; key = is.key; index = is.index }
 
     whole : middle ≡ (past ++ is.due) ++ Start is.key is.index 1 ∷ []
     whole = called.grown ∙ (ap (λ (es : List Event). past ++ es) is.events ∙ sym (append_assoc past is.due (Start is.key is.index 1 ∷ [])))
 
     out : leases middle ≡ held ∷ []
-    out = ap leases whole ∙ (leases-push (past ++ is.due) (Start is.key is.index 1) ∙ ap (λ (ls : List Held). ls ++ held ∷ []) (due-leases past is.due is.first.kinds ∙ home))
+    out = ap leases whole ∙ (leases-push (past ++ is.due) (Start is.key is.index 1) ∙ ap (λ (ls : List LeaseOut). ls ++ held ∷ []) (due-leases past is.due is.first.kinds ∙ home))
 
     first : d.worker ≡ 1
     first = worker ∙ ap (λ (h : Handed). h.worker) is.lease_is
@@ -112,10 +112,10 @@ turn-done v w past middle now lease d answer same some bound legal home called w
 
     by_answer : (r : Return) → HasCalled v middle (Finishes d) r now → HasWorked w past now
     by_answer Back back =
-        let l : Held = back.call.0 in
+        let l : LeaseOut = back.call.0 in
         let both : Some l ≡ Some held = sym back.call.1.out ∙ mine in
         let equal : l ≡ held = cc in
-        let ends : now ≡ middle ++ Finish is.key is.index 1 d.outcome ∷ [] = back.grown ∙ (ap (λ (es : List Event). middle ++ es) back.call.2 ∙ (ap (λ (h : Held). middle ++ Finish h.key h.index d.worker d.outcome ∷ []) equal ∙ ap (λ (n : ℕ). middle ++ Finish is.key is.index n d.outcome ∷ []) first)) in
+        let ends : now ≡ middle ++ Finish is.key is.index 1 d.outcome ∷ [] = back.grown ∙ (ap (λ (es : List Event). middle ++ es) back.call.2 ∙ (ap (λ (h : LeaseOut). middle ++ Finish h.key h.index d.worker d.outcome ∷ []) equal ∙ ap (λ (n : ℕ). middle ++ Finish is.key is.index n d.outcome ∷ []) first)) in
         let all : now ≡ ((past ++ is.due) ++ Start is.key is.index 1 ∷ []) ++ Finish is.key is.index 1 d.outcome ∷ [] = ends ∙ ap (λ (h : List Event). h ++ Finish is.key is.index 1 d.outcome ∷ []) whole in
         subst (HasWorked w past) (sym all) (turn-worked w past is.due is.key is.index d.outcome some bound legal home (left-over past home is.may.more) (not-lost d.outcome lease d becomes) is.first is.start)
     by_answer (Strange kept) strange = absurd (strange.call.0 held of_lease)

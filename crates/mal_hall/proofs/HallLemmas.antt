@@ -15,8 +15,8 @@ use Rattle.spec_balance.specs.Fair.{IsFair}
 use Rattle.spec_job.specs.Models.{AnswersSolve}
 use Rattle.spec_job.specs.Proofs.{AnswersRefute}
 use Rattle.spec_job.specs.Provenance.{ClausesAreOwn}
-use Rattle.spec_job.specs.Solo.{Own, Solo, Revised, Closed, Started, Finished, Exchanged, solo, solo_step}
-use Rattle.spec_job.specs.Titled.{Key, Titled, stepped}
+use Rattle.spec_job.specs.SoloMachine.{Own, SoloMachine, Revised, Closed, Started, Finished, Exchanged, solo, solo_step}
+use Rattle.spec_job.specs.KeyedJob.{Key, KeyedJob, stepped}
 use Rattle.spec_job.specs.Viewed.{JobView, and_own, and_start}
 use Rattle.spec_job.proofs.StepLemmas.{finish-keeps, start-keeps}
 use Rattle.spec_hall.specs.Events.{Event, Open, Revise, Close, Balance, Start, Finish, Exchange, bare}
@@ -24,7 +24,7 @@ use Rattle.spec_hall.specs.Calls.{AnswerTo, Call, HasCalled, IsCall}
 use Rattle.spec_hall.specs.Dressed.{dressed}
 use Rattle.spec_hall.specs.Leases.{start_number, starts_in}
 use Rattle.spec_hall.specs.Own.{own, is_key}
-use Rattle.spec_hall.specs.States.{Candidate, Held, keys_of, states, live_asks, titled, leases, lease_of}
+use Rattle.spec_hall.specs.States.{Candidate, LeaseOut, keys_of, states, live_asks, titled, leases, lease_of}
 use Rattle.spec_hall.specs.Legal.{Allowed, MayOpen, MayRevise, MayClose, job_of, jobs_of, tenant_count}
 use Rattle.spec_hall.specs.Room.{HasRoomFor}
 use Rattle.spec_hall.specs.Seats.{Seat, IsSeated, jobs_in, place_of, first_exchange, is_due, opened_seat, shares_by, balanced_seat, balanced_from, balanced_by, is_live_seat}
@@ -38,7 +38,7 @@ use Rattle.spec_hall.proofs.RunnableLemmas.{find-titled, legal-answers_solve, le
 use Rattle.spec_hall.proofs.SeatLemmas.{reseated, seats-touch, seated-none, seated-open, seated-revise, seated-close, seated-start, seated-finish}
 use Rattle.spec_hall.proofs.SpotLemmas.{and_started, numbered-push, starts-push, spots-stay, spots-open, spots-start, spots-finish, spots-none}
 use Rattle.spec_hall.proofs.VolumeLemmas.{revise-keeps}
-use Rattle.mal_hall.specs.Seen.{Inside, IsHall, events_in, events_of, out_in, unclosed_in, next_number}
+use Rattle.mal_hall.specs.HallView.{Inside, IsHall, events_in, events_of, out_in, unclosed_in, next_number}
 use Rattle.mal_hall.proofs.KeptLemmas.{first_of, tenants-push, tenants-set, tenants-balanced, unclosed-open, unclosed-same, unclosed-closed, unclosed-balanced}
 
 -- the events of a hall are its past
@@ -193,7 +193,7 @@ pub same-seat : (ss : List Seat) (k : Key) (at : ℕ) (s t : Seat) → Sits ss k
 same-seat ss k at s t one other = let both : Some s ≡ Some t = sym one.seat ∙ other.seat in cc
 
 -- a job that is found
-pub record Found (x : Inside) (k : Key) (t : Titled) : Type 0 where
+pub record Found (x : Inside) (k : Key) (t : KeyedJob) : Type 0 where
   pub key : t.key ≡ k
   pub job : job_of k (states (events_in x)) ≡ Some t
 
@@ -203,11 +203,11 @@ hall-found x k at s hall sits =
     record { key = both.0; job = both.1 }
 
 -- what holds of a job that is found holds of its machine run alone on the job's own events, in whatever history has these
-pub found-alone : (x : Inside) (k : Key) (t : Titled) (P : Key → Solo → Type 0) → Found x k t → P t.key t.state → (other : List Event) → own k other ≡ own k (events_in x) → P k (solo (own k other))
+pub found-alone : (x : Inside) (k : Key) (t : KeyedJob) (P : Key → SoloMachine → Type 0) → Found x k t → P t.key t.state → (other : List Event) → own k other ≡ own k (events_in x) → P k (solo (own k other))
 found-alone x k t P found holds other same =
     let past : List Event = events_in x in
     let is : titled past k ≡ t = find-titled past k (keys_of past) t found.job in
-    let state : t.state ≡ solo (own k other) = sym (ap (λ (u : Titled). u.state) is) ∙ ap solo (sym same) in
+    let state : t.state ≡ solo (own k other) = sym (ap (λ (u : KeyedJob). u.state) is) ∙ ap solo (sym same) in
     subst (P k) state (subst (λ (j : Key). P j t.state) found.key holds)
 
 pub hall-absent : (x : Inside) (k : Key) → IsHall x → place_of k x.seats ≡ None → job_of k (states (events_in x)) ≡ None
@@ -227,7 +227,7 @@ place-some k (s ∷ ss) = by_test (is_key k s.job.titled.key) (same_some (place_
     by_test false rest = rest
 
 pub hall-some_job : (x : Inside) (xs : List Seat) (k : Key) (r : Option ℕ) → IsHall x → xs ≡ x.seats → r ≡ place_of k xs → is_some (job_of k (states (events_in x))) ≡ is_some r
-hall-some_job x xs k r hall same scan = ap (λ (ts : List Titled). is_some (job_of k ts)) (hall-seated x hall).jobs ∙ (sym (place-some k x.seats) ∙ ap is_some (ap (place_of k) (sym same) ∙ sym scan))
+hall-some_job x xs k r hall same scan = ap (λ (ts : List KeyedJob). is_some (job_of k ts)) (hall-seated x hall).jobs ∙ (sym (place-some k x.seats) ∙ ap is_some (ap (place_of k) (sym same) ∙ sym scan))
 
 -- the jobs of a tenant that a scan of the seats counted
 pub hall-jobs : (x : Inside) (xs : List Seat) (tenant : List ℕ) (count : ℕ) → IsHall x → xs ≡ x.seats → count ≡ jobs_of tenant (jobs_in xs) → count ≡ jobs_of tenant (states (events_in x))
@@ -238,8 +238,8 @@ pub hall-tenants : (x : Inside) → IsHall x → x.tenants ≡ tenant_count (sta
 hall-tenants x hall = hall.tenants_is ∙ ap tenant_count (sym (hall-seated x hall).jobs)
 
 -- the number of a job's next revision
-pub hall-next : (x : Inside) (k : Key) (t : Titled) (number : ℕ) → Found x k t → number ≡ length t.state.revisions + 1 → number ≡ next_number k (events_in x)
-hall-next x k t number found next = next ∙ ap (λ (o : Option Titled). option_map_or (λ (u : Titled). length u.state.revisions + 1) o 1) (sym found.job)
+pub hall-next : (x : Inside) (k : Key) (t : KeyedJob) (number : ℕ) → Found x k t → number ≡ length t.state.revisions + 1 → number ≡ next_number k (events_in x)
+hall-next x k t number found next = next ∙ ap (λ (o : Option KeyedJob). option_map_or (λ (u : KeyedJob). length u.state.revisions + 1) o 1) (sym found.job)
 
 -- a test that is not passed
 pub none-from : (o : Option ℕ) (b : Bool) → b ≡ is_some o → b ≡ false → o ≡ None
@@ -300,25 +300,25 @@ hall-exchange x y at s hall may sits workers events seats spots starts unclosed 
     own-grown x y at s e Exchanged hall sits workers events seats spots starts tenants seated (leases-push past e) (λ v. ap (λ n. n.last) (numbered-push v past e)) (starts-push past e) (unclosed ∙ (hall.unclosed_is ∙ unclosed-same x.seats at s now sits refl)) (omega (arith, room, unclosed))
 
 -- the answers of a job of a hall carry models
-pub hall-solves : (x : Inside) → IsHall x → (k : Key) (t : Titled) → job_of k (states (events_in x)) ≡ Some t → AnswersSolve t.state
+pub hall-solves : (x : Inside) → IsHall x → (k : Key) (t : KeyedJob) → job_of k (states (events_in x)) ≡ Some t → AnswersSolve t.state
 hall-solves x hall k t found =
     let past : List Event = events_in x in
     let same : titled past k ≡ t = find-titled past k (keys_of past) t found in
-    subst (λ (u : Titled). AnswersSolve u.state) same (legal-answers_solve x.history.workers past (hall-seated x hall).legal k)
+    subst (λ (u : KeyedJob). AnswersSolve u.state) same (legal-answers_solve x.history.workers past (hall-seated x hall).legal k)
 
 -- and proofs
-pub hall-refutes : (x : Inside) → IsHall x → (k : Key) (t : Titled) → job_of k (states (events_in x)) ≡ Some t → AnswersRefute t.state
+pub hall-refutes : (x : Inside) → IsHall x → (k : Key) (t : KeyedJob) → job_of k (states (events_in x)) ≡ Some t → AnswersRefute t.state
 hall-refutes x hall k t found =
     let past : List Event = events_in x in
     let same : titled past k ≡ t = find-titled past k (keys_of past) t found in
-    subst (λ (u : Titled). AnswersRefute u.state) same (legal-answers_refute x.history.workers past (hall-seated x hall).legal k)
+    subst (λ (u : KeyedJob). AnswersRefute u.state) same (legal-answers_refute x.history.workers past (hall-seated x hall).legal k)
 
 -- and its clauses are its own
-pub hall-owns : (x : Inside) → IsHall x → (k : Key) (t : Titled) → job_of k (states (events_in x)) ≡ Some t → ClausesAreOwn t.state
+pub hall-owns : (x : Inside) → IsHall x → (k : Key) (t : KeyedJob) → job_of k (states (events_in x)) ≡ Some t → ClausesAreOwn t.state
 hall-owns x hall k t found =
     let past : List Event = events_in x in
     let same : titled past k ≡ t = find-titled past k (keys_of past) t found in
-    subst (λ (u : Titled). ClausesAreOwn u.state) same (legal-clauses_own x.history.workers past (hall-seated x hall).legal k)
+    subst (λ (u : KeyedJob). ClausesAreOwn u.state) same (legal-clauses_own x.history.workers past (hall-seated x hall).legal k)
 
 -- a call that enters nothing
 pub called-none : (w : ℕ) (past : List Event) (c : Call) (answer : AnswerTo c) → IsCall w past c answer [] → HasCalled w past c answer past

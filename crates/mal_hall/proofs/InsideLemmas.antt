@@ -6,50 +6,50 @@ use Rattle.std.proofs.lemmas.Bool.Decides.{Decides-eqb}
 use Rattle.mal_base.specs.declared.verdict.Outcome.{Outcome}
 use Rattle.mal_hall.specs.Applied.{HasEntered, IsInside}
 use Rattle.mal_hall.specs.Offered.{handed_of}
-use Rattle.mal_hall.specs.Seen.{Seen}
+use Rattle.mal_hall.specs.HallView.{HallView}
 use Rattle.spec_job.specs.Leased.{Leased}
-use Rattle.spec_job.specs.Titled.{Key}
+use Rattle.spec_job.specs.KeyedJob.{Key}
 use Rattle.spec_hall.specs.Calls.{Handed, handed}
 use Rattle.spec_hall.specs.Events.{Event, Start, Finish}
 use Rattle.spec_hall.specs.Legal.{Legal}
-use Rattle.spec_hall.specs.States.{Held, lease_of, leases, leases_step}
+use Rattle.spec_hall.specs.States.{LeaseOut, lease_of, leases, leases_step}
 use Rattle.spec_hall.proofs.HandedLemmas.{lease-stays}
 use Rattle.spec_hall.proofs.LeasesLemmas.{without}
 use Rattle.spec_hall.proofs.PushLemmas.{leases-push}
 use Rattle.spec_hall.proofs.SpotLemmas.{push-mine, push-other, set-count, set-here, set-there, without-mine, without-other}
 
 -- what is needed of a hall before an event
-pub record Stands (x : Seen) : Type 0 where
+pub record Stands (x : HallView) : Type 0 where
   pub some : 1 ≤ x.workers
   pub bound : x.workers ≤ 64
   pub legal : Legal x.workers x.events
   pub inside : IsInside x
 
-pub stands : (x : Seen) (w : ℕ) → w ≡ x.workers → 1 ≤ w → w ≤ 64 → Legal x.workers x.events → IsInside x → Stands x
+pub stands : (x : HallView) (w : ℕ) → w ≡ x.workers → 1 ≤ w → w ≤ 64 → Legal x.workers x.events → IsInside x → Stands x
 stands x w same some bound legal inside = record { some = omega (arith, same, some); bound = omega (arith, same, bound); legal = legal; inside = inside }
 
 -- a worker's lease that is the same after an event
-slot-stays : (x : Seen) (e : Event) (events : List Event) (n : ℕ) → Stands x → HasEntered x.workers x.events e events → n < x.workers → lease_of (suc n) (leases (x.events ++ e ∷ [])) ≡ lease_of (suc n) (leases x.events) → get_or x.inside n None ≡ option_map (handed events) (lease_of (suc n) (leases events))
+slot-stays : (x : HallView) (e : Event) (events : List Event) (n : ℕ) → Stands x → HasEntered x.workers x.events e events → n < x.workers → lease_of (suc n) (leases (x.events ++ e ∷ [])) ≡ lease_of (suc n) (leases x.events) → get_or x.inside n None ≡ option_map (handed events) (lease_of (suc n) (leases events))
 slot-stays x e events n is entered low same =
     is.inside.each n low
     ∙ (sym (lease-stays x.workers x.events e (suc n) is.some is.bound is.legal entered.allowed same)
     ∙ ap (λ (h : List Event). option_map (handed h) (lease_of (suc n) (leases h))) (sym entered.grown))
 
 -- an event that neither starts nor ends a start
-pub inside-same : (x y : Seen) (e : Event) → Stands x → y.workers ≡ x.workers → y.inside ≡ x.inside → HasEntered x.workers x.events e y.events → leases_step (leases x.events) e ≡ leases x.events → IsInside y
+pub inside-same : (x y : HallView) (e : Event) → Stands x → y.workers ≡ x.workers → y.inside ≡ x.inside → HasEntered x.workers x.events e y.events → leases_step (leases x.events) e ≡ leases x.events → IsInside y
 inside-same x y e is workers inside entered same = record {
   count = ap (λ (os : List (Option Handed)). length os) inside ∙ (is.inside.count ∙ sym workers);
   each = λ n low. ap (λ (os : List (Option Handed)). get_or os n None) inside ∙ slot-stays x e y.events n is entered (omega (arith, low, workers)) (ap (lease_of (suc n)) (leases-push x.events e ∙ same));
 }
 
 -- a start
-pub inside-start : (x y : Seen) (k : Key) (index worker : ℕ) (lease : Leased) → Stands x → y.workers ≡ x.workers → y.inside ≡ slice_set x.inside (worker - 1) (Some (handed_of lease)) → HasEntered x.workers x.events (Start k index worker) y.events → handed_of lease ≡ handed y.events (record { worker = worker; key = k; index = index }) → IsInside y
+pub inside-start : (x y : HallView) (k : Key) (index worker : ℕ) (lease : Leased) → Stands x → y.workers ≡ x.workers → y.inside ≡ slice_set x.inside (worker - 1) (Some (handed_of lease)) → HasEntered x.workers x.events (Start k index worker) y.events → handed_of lease ≡ handed y.events (record { worker = worker; key = k; index = index }) → IsInside y
 inside-start x y k index worker lease is workers inside entered handed_is = record {
   count = ap (λ (os : List (Option Handed)). length os) inside ∙ (set-count x.inside (worker - 1) (Some (handed_of lease)) ∙ (is.inside.count ∙ sym workers));
   each = λ n low. ap (λ (os : List (Option Handed)). get_or os n None) inside ∙ by_worker n (omega (arith, low, workers)) (worker - 1 == n) refl;
 }
   where
-    mine : Held
+    mine : LeaseOut
     mine = record { worker = worker; key = k; index = index }
 
     some : 1 ≤ worker
@@ -76,7 +76,7 @@ inside-start x y k index worker lease is workers inside entered handed_is = reco
         ∙ slot-stays x (Start k index worker) y.events n is entered low (ap (lease_of (suc n)) out ∙ push-other (leases x.events) mine (suc n) apart)
 
 -- a finish
-pub inside-finish : (x y : Seen) (k : Key) (index worker : ℕ) (outcome : Outcome) → Stands x → 1 ≤ worker → y.workers ≡ x.workers → y.inside ≡ slice_set x.inside (worker - 1) None → HasEntered x.workers x.events (Finish k index worker outcome) y.events → IsInside y
+pub inside-finish : (x y : HallView) (k : Key) (index worker : ℕ) (outcome : Outcome) → Stands x → 1 ≤ worker → y.workers ≡ x.workers → y.inside ≡ slice_set x.inside (worker - 1) None → HasEntered x.workers x.events (Finish k index worker outcome) y.events → IsInside y
 inside-finish x y k index worker outcome is some workers inside entered = record {
   count = ap (λ (os : List (Option Handed)). length os) inside ∙ (set-count x.inside (worker - 1) None ∙ (is.inside.count ∙ sym workers));
   each = λ n low. ap (λ (os : List (Option Handed)). get_or os n None) inside ∙ by_worker n (omega (arith, low, workers)) (worker - 1 == n) refl;
@@ -117,7 +117,7 @@ none-long w lodged e = ap (λ (os : List (Option Leased)). length (map (option_m
     long zero = refl
     long (suc m) = ap suc (long m)
 
-pub inside-none : (x : Seen) (w : ℕ) (lodged : List (Option Leased)) → x.workers ≡ w → x.events ≡ [] → x.inside ≡ map (option_map handed_of) lodged → lodged ≡ replicate w None → IsInside x
+pub inside-none : (x : HallView) (w : ℕ) (lodged : List (Option Leased)) → x.workers ≡ w → x.events ≡ [] → x.inside ≡ map (option_map handed_of) lodged → lodged ≡ replicate w None → IsInside x
 inside-none x w lodged workers events inside none = record {
   count = ap (λ (os : List (Option Handed)). length os) inside ∙ (none-long w lodged none ∙ sym workers);
   each = λ n low. ap (λ (os : List (Option Handed)). get_or os n None) inside ∙ (none-at w n lodged none ∙ sym (ap (λ (h : List Event). option_map (handed h) (lease_of (suc n) (leases h))) events));

@@ -5,15 +5,15 @@ use Rattle.std.proofs.lemmas.List.Sums.{sum_by-cons, sum_by-append, sum_by-set}
 use Rattle.std.proofs.lemmas.Option.{slice_get_within, get_or_from_slice_get}
 use Rattle.mal_base.specs.Asks.{Terms}
 use Rattle.spec_balance.specs.Fair.{volume_at}
-use Rattle.spec_job.specs.Titled.{Key, Titled}
+use Rattle.spec_job.specs.KeyedJob.{Key, KeyedJob}
 use Rattle.spec_hall.specs.Legal.{jobs_of, tenant_count}
 use Rattle.spec_hall.specs.Own.{is_text}
 use Rattle.spec_hall.specs.Seats.{Seat, jobs_in, is_live_seat, opened_seat, balanced_seat, balanced_from, balanced_by}
 use Rattle.spec_hall.proofs.KeyLemmas.{is_text-Decides}
-use Rattle.mal_hall.specs.Seen.{unclosed_in}
+use Rattle.mal_hall.specs.HallView.{unclosed_in}
 
 -- what a job counts among those of a tenant
-abbrev pub of_tenant : List ℕ → Titled → ℕ
+abbrev pub of_tenant : List ℕ → KeyedJob → ℕ
 of_tenant tenant t = if is_text tenant t.key.tenant then 1 else 0
 
 -- what a tenant counts that has so many later jobs
@@ -28,11 +28,11 @@ first_of-some n some = by_test (0 == n) refl
     by_test false e = rw e refl
 
 -- the keys of jobs
-abbrev pub keys : List Titled → List Key
+abbrev pub keys : List KeyedJob → List Key
 keys jobs = map (λ t. t.key) jobs
 
 -- the jobs of a tenant are counted by their keys
-jobs_of-keys : (tenant : List ℕ) (xs ys : List Titled) → keys xs ≡ keys ys → jobs_of tenant xs ≡ jobs_of tenant ys
+jobs_of-keys : (tenant : List ℕ) (xs ys : List KeyedJob) → keys xs ≡ keys ys → jobs_of tenant xs ≡ jobs_of tenant ys
 jobs_of-keys tenant [] [] e = refl
 jobs_of-keys tenant [] (y ∷ ys) e = absurd (cc)
 jobs_of-keys tenant (x ∷ xs) [] e = absurd (cc)
@@ -43,7 +43,7 @@ jobs_of-keys tenant (x ∷ xs) (y ∷ ys) e =
     omega (arith, sum_by-cons (of_tenant tenant) x xs, sum_by-cons (of_tenant tenant) y ys, jobs_of-keys tenant xs ys tail)
 
 -- and so are the tenants
-pub tenants-keys : (xs ys : List Titled) → keys xs ≡ keys ys → tenant_count xs ≡ tenant_count ys
+pub tenants-keys : (xs ys : List KeyedJob) → keys xs ≡ keys ys → tenant_count xs ≡ tenant_count ys
 tenants-keys [] [] e = refl
 tenants-keys [] (y ∷ ys) e = absurd (cc)
 tenants-keys (x ∷ xs) (y ∷ ys) e =
@@ -54,11 +54,11 @@ tenants-keys (x ∷ xs) (y ∷ ys) e =
 tenants-keys (x ∷ xs) [] e = absurd (cc)
 
 -- a further job is one more of its tenant
-jobs_of-push : (tenant : List ℕ) (ts : List Titled) (u : Titled) → jobs_of tenant (ts ++ u ∷ []) ≡ jobs_of tenant ts + of_tenant tenant u
+jobs_of-push : (tenant : List ℕ) (ts : List KeyedJob) (u : KeyedJob) → jobs_of tenant (ts ++ u ∷ []) ≡ jobs_of tenant ts + of_tenant tenant u
 jobs_of-push tenant ts u = omega (arith, sum_by-append (of_tenant tenant) ts (u ∷ []), sum_by-cons (of_tenant tenant) u [])
 
 -- a further job is of a further tenant where its tenant has no jobs
-pub tenants-push : (ts : List Titled) (u : Titled) → tenant_count (ts ++ u ∷ []) ≡ tenant_count ts + first_of (jobs_of u.key.tenant ts)
+pub tenants-push : (ts : List KeyedJob) (u : KeyedJob) → tenant_count (ts ++ u ∷ []) ≡ tenant_count ts + first_of (jobs_of u.key.tenant ts)
 tenants-push [] u = refl
 tenants-push (t ∷ ts) u = by_test (tenants-push ts u) (is_text t.key.tenant u.key.tenant) (is_text u.key.tenant t.key.tenant) refl refl
   where

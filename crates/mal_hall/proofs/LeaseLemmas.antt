@@ -6,8 +6,8 @@ use Rattle.std.proofs.lemmas.Option.{slice_get-map}
 use Rattle.std.specs.Option.{option_map}
 use Rattle.mal_base.specs.declared.verdict.Outcome.{Outcome}
 use Rattle.mal_history.specs.declared.event.Event.TheVariants as of
-use Rattle.spec_job.specs.Solo.{Started, Finished, solo_step}
-use Rattle.spec_job.specs.Titled.{Key, Titled}
+use Rattle.spec_job.specs.SoloMachine.{Started, Finished, solo_step}
+use Rattle.spec_job.specs.KeyedJob.{Key, KeyedJob}
 use Rattle.spec_job.specs.Viewed.{and_own, and_start}
 use Rattle.spec_job.proofs.StepLemmas.{finish-keeps, start-keeps}
 use Rattle.spec_hall.specs.Events.{Event, Start, Finish}
@@ -19,7 +19,7 @@ use Rattle.spec_hall.specs.States.{leases, lease_of}
 use Rattle.spec_hall.proofs.LeasesLemmas.{IsFree, start-free}
 use Rattle.spec_hall.proofs.SeatLemmas.{reseated, seated-start, seated-finish}
 use Rattle.spec_hall.proofs.SpotLemmas.{and_started, starts-push, spots-start, spots-finish}
-use Rattle.mal_hall.specs.Seen.{Inside, IsHall, events_in, out_in, unclosed_in}
+use Rattle.mal_hall.specs.HallView.{Inside, IsHall, events_in, out_in, unclosed_in}
 use Rattle.mal_hall.proofs.HallLemmas.{Grown, grown, hall-seated, hall-spots, hall-starts}
 use Rattle.mal_hall.proofs.KeptLemmas.{tenants-set, unclosed-same}
 

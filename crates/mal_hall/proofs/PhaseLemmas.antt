@@ -13,9 +13,9 @@ use Rattle.mal_job.specs.Finishing.{MayFinish, outcome_of}
 use Rattle.spec_job.specs.Journaled.{Journaled}
 use Rattle.spec_job.specs.Journal.{JournalEntry}
 use Rattle.spec_job.specs.Leased.{Finished, Leased}
-use Rattle.spec_job.specs.Solo.{Own, Exchanged, Lease, Solo, Place, place_at, solo_step, start_entries, startable, Started, vacant, current}
-use Rattle.spec_job.specs.Solo.Own.{Finished as Done}
-use Rattle.spec_job.specs.Titled.{Key, Titled}
+use Rattle.spec_job.specs.SoloMachine.{Own, Exchanged, Lease, SoloMachine, NodeSlot, place_at, solo_step, start_entries, startable, Started, vacant, current}
+use Rattle.spec_job.specs.SoloMachine.Own.{Finished as Done}
+use Rattle.spec_job.specs.KeyedJob.{Key, KeyedJob}
 use Rattle.spec_job.specs.Viewed.{IsBack, IsLeaseOf, and_own, and_start, journal_at}
 use Rattle.spec_job.proofs.PlacesLemmas as places
 use Rattle.spec_hall.specs.Calls.{Handed, IsOfLease, handed, is_over}
@@ -25,7 +25,7 @@ use Rattle.spec_hall.specs.Leases.{lease_adds, lease_journal, start_number}
 use Rattle.spec_hall.specs.Legal.{Allowed, IsBalanceDue}
 use Rattle.spec_hall.specs.Seats.{Seat, IsSeated, balanced_by, balanced_from, first_exchange, is_due, is_live_seat, jobs_in, pick, shares_by}
 use Rattle.spec_hall.specs.Spots.{Spot, IsAt, IsSpot, AreSpots, tags_of}
-use Rattle.spec_hall.specs.States.{Candidate, Held, candidates_from, titled, balanced, exchange_due, keys_of, lease_of, leases, lives, picked, states}
+use Rattle.spec_hall.specs.States.{Candidate, LeaseOut, candidates_from, titled, balanced, exchange_due, keys_of, lease_of, leases, lives, picked, states}
 use Rattle.spec_hall.proofs.BalanceLemmas.{balance-allowed}
 use Rattle.spec_hall.proofs.DueLemmas.{seated-calm, seated-due}
 use Rattle.spec_hall.proofs.ExchangeLemmas.{first-found, seated-no_exchange}
@@ -50,7 +50,7 @@ use Rattle.spec_hall.specs.Measure.{left_in}
 use Rattle.spec_hall.proofs.ArrangeLemmas.{balance-calm, due-more, exchange-calm}
 use Rattle.spec_hall.proofs.TurnLemmas.{arranged-left, due-leases, due-none}
 use Rattle.mal_hall.specs.Offered.{HasArranged, Belongs, HasBalanced, HasEnded, HasExchanged, HasStarted, IsFirst, MayEnd, MayStartAt, handed_of}
-use Rattle.mal_hall.specs.Seen.{Inside, IsHall, events_in, events_of, out_in}
+use Rattle.mal_hall.specs.HallView.{Inside, IsHall, events_in, events_of, out_in}
 use Rattle.mal_hall.specs.Turned.{IsBalancing}
 use Rattle.mal_hall.proofs.HallLemmas.{Grown, hall-balance, hall-exchange, hall-seated, hall-spots}
 use Rattle.mal_hall.proofs.LeaseLemmas.{hall-finish, hall-start, out-left}
@@ -69,7 +69,7 @@ seat-there (s ∷ ss) zero low = (s, refl)
 seat-there (s ∷ ss) (suc n) low = seat-there ss n (omega (arith, low))
 
 job-there : (x : Inside) (n : ℕ) (s : Seat) → IsHall x → slice_get x.seats n ≡ Some s → slice_get (states (events_in x)) n ≡ Some s.job.titled
-job-there x n s hall at = ap (λ (ts : List Titled). slice_get ts n) (hall-seated x hall).jobs ∙ (slice_get-map (λ (t : Seat). t.job.titled) x.seats n ∙ ap (option_map (λ (t : Seat). t.job.titled)) at)
+job-there x n s hall at = ap (λ (ts : List KeyedJob). slice_get ts n) (hall-seated x hall).jobs ∙ (slice_get-map (λ (t : Seat). t.job.titled) x.seats n ∙ ap (option_map (λ (t : Seat). t.job.titled)) at)
 
 -- the first job of which an exchange is due
 pub phase-first : (x : Inside) (ss : List Seat) (o : Option ℕ) → IsHall x → ss ≡ x.seats → o ≡ first_exchange ss → MatchOption o (exchange_due (states (events_in x)) ≡ None) (λ at. IsFirst (events_in x) at)
@@ -138,8 +138,8 @@ phase-balance x y now len hall due whole workers b seats spots starts unclosed t
     record { hall = grown.hall; has = record { shares = shares_by vs x.seats; grown = grown.events; allowed = balance-allowed x.history.workers (events_in x) x.seats vs (hall-seated x hall) b.fair is } }
 
 -- a job's place is one of the seats
-pub within-first : (x : Inside) (at : ℕ) (t : Titled) → IsHall x → slice_get (states (events_in x)) at ≡ Some t → at < length x.seats
-within-first x at t hall e = below x.seats at (sym (slice_get-map (λ (s : Seat). s.job.titled) x.seats at) ∙ (ap (λ (ts : List Titled). slice_get ts at) (sym (hall-seated x hall).jobs) ∙ e))
+pub within-first : (x : Inside) (at : ℕ) (t : KeyedJob) → IsHall x → slice_get (states (events_in x)) at ≡ Some t → at < length x.seats
+within-first x at t hall e = below x.seats at (sym (slice_get-map (λ (s : Seat). s.job.titled) x.seats at) ∙ (ap (λ (ts : List KeyedJob). slice_get ts at) (sym (hall-seated x hall).jobs) ∙ e))
   where
     below : (ss : List Seat) (n : ℕ) → option_map (λ (s : Seat). s.job.titled) (slice_get ss n) ≡ Some t → n < length ss
     below [] n f = absurd (cc)
@@ -147,7 +147,7 @@ within-first x at t hall e = below x.seats at (sym (slice_get-map (λ (s : Seat)
     below (s ∷ ss) (suc n) f = omega (arith, below ss n f)
 
 -- the seat of a job at a place
-pub job-seat : (x : Inside) (at : ℕ) (t : Titled) (s : Seat) → IsHall x → slice_get (states (events_in x)) at ≡ Some t → slice_get x.seats at ≡ Some s → s.job.titled ≡ t
+pub job-seat : (x : Inside) (at : ℕ) (t : KeyedJob) (s : Seat) → IsHall x → slice_get (states (events_in x)) at ≡ Some t → slice_get x.seats at ≡ Some s → s.job.titled ≡ t
 job-seat x at t s hall e f = let both : Some s.job.titled ≡ Some t = sym (job-there x at s hall f) ∙ e in cc
 
 pub read-seat : (x : Inside) (at : ℕ) (s : Seat) → at < length x.seats → s ≡ get_or x.seats at s → slice_get x.seats at ≡ Some s
@@ -161,7 +161,7 @@ pub phase-exchange : (x y : Inside) (at : ℕ) (s now : Seat) → IsHall x → l
 phase-exchange x y at s now hall calm first read is workers events seats spots starts unclosed tenants room =
     let sits : slice_get x.seats at ≡ Some s = read-seat x at s (within-first x at first.job hall first.place) read in
     let same : s.job.titled ≡ first.job = job-seat x at first.job s hall first.place sits in
-    let may : Allowed x.history.workers (events_in x) (Exchange s.job.titled.key) = (first.job, record { balance = calm; first = first.first; key = ap (λ (t : Titled). t.key) (sym same) }) in
+    let may : Allowed x.history.workers (events_in x) (Exchange s.job.titled.key) = (first.job, record { balance = calm; first = first.first; key = ap (λ (t : KeyedJob). t.key) (sym same) }) in
     let grown = hall-exchange x y at s hall may sits workers events (seats ∙ ap (slice_set x.seats at) is) spots starts unclosed tenants room in
     record { hall = grown.hall; has = record { key = s.job.titled.key; grown = grown.events; allowed = may } }
 
@@ -198,7 +198,7 @@ can-start x at index worker s hall may read =
     record {
       seat = sits;
       allowed = mine;
-      startable = subst (λ (t : Titled). startable t.state index ≡ true) here.machine (picked-may x.history.workers (events_in x) s.job.titled.key index worker mine.0 mine.1);
+      startable = subst (λ (t : KeyedJob). startable t.state index ≡ true) here.machine (picked-may x.history.workers (events_in x) s.job.titled.key index worker mine.0 mine.1);
       low = (start-free x.history.workers (events_in x) s.job.titled.key index worker seated.some_worker hall.bound seated.legal mine).low;
     }
 
@@ -256,17 +256,17 @@ phase-start x y at index worker start s now lease hall can mine is next workers 
     here : IsAt (events_in y) (tags_of y.seats) worker spot
     here = subst (λ (v : ℕ). IsAt (events_in y) (tags_of y.seats) v spot) (sym some) (spot-at y w spot grown.hall (omega (arith, low, workers)) taken)
 
-    held : Held
+    held : LeaseOut
     held = record { worker = worker; key = s.job.titled.key; index = index }
 
     journal : lease.journal ≡ lease_journal (events_in y) held
     journal = mine.journal ∙ journal-of y.history.workers (events_in y) y.seats y.spots after worker spot (hall-seated y grown.hall) (hall-spots y grown.hall) seat here
 
     out : (place_at after.job.titled.state index).out ≡ Some (record { revision = current s.job.titled.state; adds = start_entries s.job.titled.state (place_at s.job.titled.state index) })
-    out = ap (λ (p : Place). p.out) (places.set-here s.job.titled.state.places index _ (within (sits-at (events_in x) x.seats at s (hall-seated x hall).jobs can.seat)))
+    out = ap (λ (p : NodeSlot). p.out) (places.set-here s.job.titled.state.places index _ (within (sits-at (events_in x) x.seats at s (hall-seated x hall).jobs can.seat)))
       where
         within : SitsAt (events_in x) at s.job.titled → index < length s.job.titled.state.places
-        within sits = omega (arith, can.low, ap (λ (t : Titled). length t.state.places) sits.machine, (solo-tidy (own s.job.titled.key (events_in x))).places.count)
+        within sits = omega (arith, can.low, ap (λ (t : KeyedJob). length t.state.places) sits.machine, (solo-tidy (own s.job.titled.key (events_in x))).places.count)
 
     adds : lease.adds ≡ lease_adds (events_in y) held
     adds = mine.adds ∙ sym (adds-of y.history.workers (events_in y) y.seats after at worker index _ (hall-seated y grown.hall) seat out)
@@ -312,24 +312,24 @@ spot-seat x sp worker o spot s hall same low scan found read =
     record { seat = read-seat x spot.job s (spot-within x worker spot hall is) read; is = is; taken = taken; worker_is = record { low = low; high = omega (arith, within, low) } }
 
 -- what came back is of the lease at a spot, or is strange
-pub back-is : (x : Inside) (spot : Spot) (s : Seat) (d : Finished) → IsHall x → SpotSeat x d.worker spot s → IsBack s.job spot.index d → (l : Held) × IsOfLease (events_in x) d l
+pub back-is : (x : Inside) (spot : Spot) (s : Seat) (d : Finished) → IsHall x → SpotSeat x d.worker spot s → IsBack s.job spot.index d → (l : LeaseOut) × IsOfLease (events_in x) d l
 back-is x spot s d hall at back = (held_at s d.worker spot.index, back-lease x.history.workers (events_in x) x.seats x.spots s spot d (hall-seated x hall) (hall-spots x hall) at.seat at.is back)
 
-pub back-not : (x : Inside) (spot : Spot) (s : Seat) (d : Finished) → IsHall x → SpotSeat x d.worker spot s → (IsBack s.job spot.index d → ⊥) → (l : Held) → IsOfLease (events_in x) d l → ⊥
+pub back-not : (x : Inside) (spot : Spot) (s : Seat) (d : Finished) → IsHall x → SpotSeat x d.worker spot s → (IsBack s.job spot.index d → ⊥) → (l : LeaseOut) → IsOfLease (events_in x) d l → ⊥
 back-not x spot s d hall at other l of = other (lease-back x.history.workers (events_in x) x.seats x.spots s spot d l (hall-seated x hall).some_worker hall.bound (hall-seated x hall) (hall-spots x hall) at.seat at.is of)
 
-pub kept-is : (x : Inside) (spot : Spot) (s : Seat) (worker : ℕ) → IsHall x → SpotSeat x worker spot s → Some spot.start ≡ option_map (λ (l : Held). start_number l.worker (events_in x)) (lease_of worker (leases (events_in x)))
-kept-is x spot s worker hall at = ap (λ (n : ℕ). let o : Option ℕ = Some n in o) at.is.number ∙ sym (ap (option_map (λ (l : Held). start_number l.worker (events_in x))) at.is.out)
+pub kept-is : (x : Inside) (spot : Spot) (s : Seat) (worker : ℕ) → IsHall x → SpotSeat x worker spot s → Some spot.start ≡ option_map (λ (l : LeaseOut). start_number l.worker (events_in x)) (lease_of worker (leases (events_in x)))
+kept-is x spot s worker hall at = ap (λ (n : ℕ). let o : Option ℕ = Some n in o) at.is.number ∙ sym (ap (option_map (λ (l : LeaseOut). start_number l.worker (events_in x))) at.is.out)
 
 -- a worker without a spot has no lease
 pub none-out : (x : Inside) (sp : List (Option Spot)) (worker : ℕ) (o : Option Spot) → IsHall x → sp ≡ x.spots → 1 ≤ worker → o ≡ get_or sp (worker - 1) None → o ≡ None → lease_of worker (leases (events_in x)) ≡ None
 none-out x sp worker o hall same low scan none = by_lease (lease_of worker (leases (events_in x))) (sym (phase-lease x sp worker o hall same low scan) ∙ ap (λ (p : Option Spot). is_some p) none)
   where
-    by_lease : (l : Option Held) → is_some l ≡ false → l ≡ None
+    by_lease : (l : Option LeaseOut) → is_some l ≡ false → l ≡ None
     by_lease None e = refl
     by_lease (Some l) e = absurd (cc)
 
-pub strange-none : (past : List Event) (d : Finished) → lease_of d.worker (leases past) ≡ None → (l : Held) → IsOfLease past d l → ⊥
+pub strange-none : (past : List Event) (d : Finished) → lease_of d.worker (leases past) ≡ None → (l : LeaseOut) → IsOfLease past d l → ⊥
 strange-none past d none l of = let both : None ≡ Some l = sym none ∙ of.out in absurd (cc)
 
 pub zero-out : (x : Inside) → IsHall x → lease_of 0 (leases (events_in x)) ≡ None
@@ -359,19 +359,19 @@ pub end-room : (x : Inside) (worker : ℕ) (spot : Spot) (s : Seat) → IsHall x
 end-room x worker spot s hall at = omega (arith, hall.room, out-left x.spots (worker - 1) spot at.taken)
 
 -- the worker of a lease that is found
-found-worker : (worker : ℕ) (ls : List Held) (l : Held) → lease_of worker ls ≡ Some l → l.worker ≡ worker
+found-worker : (worker : ℕ) (ls : List LeaseOut) (l : LeaseOut) → lease_of worker ls ≡ Some l → l.worker ≡ worker
 found-worker worker [] l e = absurd (cc)
 found-worker worker (y ∷ ys) l e = by_test (y.worker == worker) refl e (found-worker worker ys l)
   where
     by_test : (b : Bool) → (y.worker == worker) ≡ b → cond b (Some y) (lease_of worker ys) ≡ Some l → (lease_of worker ys ≡ Some l → l.worker ≡ worker) → l.worker ≡ worker
-    by_test true p q rest = let same : y ≡ l = cc in ap (λ (h : Held). h.worker) (sym same) ∙ (Decides-eqb y.worker worker).0 p
+    by_test true p q rest = let same : y ≡ l = cc in ap (λ (h : LeaseOut). h.worker) (sym same) ∙ (Decides-eqb y.worker worker).0 p
     by_test false p q rest = rest q
 
 -- a lease that is out may be lost
 pub may-lose : (past : List Event) (worker : ℕ) → is_some (lease_of worker (leases past)) ≡ true → MayEnd past worker None
 may-lose past worker some = by_lease (lease_of worker (leases past)) refl some
   where
-    by_lease : (o : Option Held) → lease_of worker (leases past) ≡ o → is_some o ≡ true → MayEnd past worker None
+    by_lease : (o : Option LeaseOut) → lease_of worker (leases past) ≡ o → is_some o ≡ true → MayEnd past worker None
     by_lease None e q = absurd (cc)
     by_lease (Some l) e q =
         let same : l.worker ≡ worker = found-worker worker (leases past) l e in
@@ -399,8 +399,8 @@ end-spot x sp worker o back hall same low scan none may =
 pub zero-none : (x : Inside) (worker v : ℕ) → IsHall x → v ≡ worker → v ≡ 0 → lease_of worker (leases (events_in x)) ≡ None
 zero-none x worker v hall same zero_is = ap (λ (n : ℕ). lease_of n (leases (events_in x))) (sym same ∙ zero_is) ∙ zero-out x hall
 
-pub kept-none : (past : List Event) (worker : ℕ) → lease_of worker (leases past) ≡ None → None ≡ option_map (λ (l : Held). start_number l.worker past) (lease_of worker (leases past))
-kept-none past worker none = sym (ap (option_map (λ (l : Held). start_number l.worker past)) none)
+pub kept-none : (past : List Event) (worker : ℕ) → lease_of worker (leases past) ≡ None → None ≡ option_map (λ (l : LeaseOut). start_number l.worker past) (lease_of worker (leases past))
+kept-none past worker none = sym (ap (option_map (λ (l : LeaseOut). start_number l.worker past)) none)
 
 -- a spot of these numbers
 pub spot-same : (s : Spot) (job index start : ℕ) → s.job ≡ job → s.index ≡ index → s.start ≡ start → ◌≡◌ {A = Spot} s (record { job = job; index = index; start = start })
@@ -450,7 +450,7 @@ arranged-more v w a b c same one two =
 pub may-pick : (past : List Event) (worker : ℕ) (busy over : Bool) → busy ≡ is_some (lease_of worker (leases past)) → busy ≡ false → over ≡ is_over past → over ≡ false → MayPick past worker
 may-pick past worker busy over scan free test left = record { free = none (lease_of worker (leases past)) (sym scan ∙ free); more = sym test ∙ left }
   where
-    none : (o : Option Held) → is_some o ≡ false → o ≡ None
+    none : (o : Option LeaseOut) → is_some o ≡ false → o ≡ None
     none None e = refl
     none (Some l) e = absurd (cc)
 
@@ -532,10 +532,10 @@ pub arranged-same : (w : ℕ) (past middle now : List Event) → now ≡ middle 
 arranged-same w past middle now same has = record { events = has.events; grown = same ∙ has.grown; due = has.due }
 
 -- a job that is not there has no revisions
-pub among-none : (jobs : List Titled) (k : Key) (r : ℕ) → job_of k jobs ≡ None → None ≡ among r (revisions_of k jobs)
+pub among-none : (jobs : List KeyedJob) (k : Key) (r : ℕ) → job_of k jobs ≡ None → None ≡ among r (revisions_of k jobs)
 among-none jobs k zero none = refl
-among-none jobs k (suc n) none = sym (ap (λ (o : Option Titled). slice_get (option_map_or (λ (t : Titled). t.state.revisions) o []) n) none)
+among-none jobs k (suc n) none = sym (ap (λ (o : Option KeyedJob). slice_get (option_map_or (λ (t : KeyedJob). t.state.revisions) o []) n) none)
 
 -- one that is found has those of its machine
-pub among-found : (jobs : List Titled) (k : Key) (r : ℕ) (t : Titled) → job_of k jobs ≡ Some t → among r t.state.revisions ≡ among r (revisions_of k jobs)
-among-found jobs k r t found = sym (ap (λ (o : Option Titled). among r (option_map_or (λ (u : Titled). u.state.revisions) o [])) found)
+pub among-found : (jobs : List KeyedJob) (k : Key) (r : ℕ) (t : KeyedJob) → job_of k jobs ≡ Some t → among r t.state.revisions ≡ among r (revisions_of k jobs)
+among-found jobs k r t found = sym (ap (λ (o : Option KeyedJob). among r (option_map_or (λ (u : KeyedJob). u.state.revisions) o [])) found)

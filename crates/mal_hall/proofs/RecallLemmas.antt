@@ -10,7 +10,7 @@ use Rattle.spec_hall.specs.Calls.{HasCalled, Recalls, lost_of, recalled}
 use Rattle.spec_hall.specs.Events.{Event, Finish}
 use Rattle.spec_hall.specs.Legal.{Legal}
 use Rattle.spec_hall.specs.Leases.{IsWorker}
-use Rattle.spec_hall.specs.States.{Held, lease_of, leases}
+use Rattle.spec_hall.specs.States.{LeaseOut, lease_of, leases}
 use Rattle.std.proofs.lemmas.Bool.Decides.{Decides-eqb}
 use Rattle.spec_hall.proofs.CallLemmas.{call-is_legal}
 use Rattle.spec_hall.proofs.LeasesLemmas.{legal-leases, without}
@@ -22,22 +22,22 @@ use Rattle.mal_hall.specs.Offered.{HasEnded}
 abbrev pub left_to_lose : ℕ → ℕ → List Event → List Event
 left_to_lose workers first past = flat_map (lost_of (leases past)) (counted first (workers + 1 - first))
 
-next-lost : (workers first : ℕ) (out : List Held) → first ≤ workers → flat_map (lost_of out) (counted first (workers + 1 - first)) ≡ lost_of out first ++ flat_map (lost_of out) (counted (first + 1) (workers + 1 - (first + 1)))
+next-lost : (workers first : ℕ) (out : List LeaseOut) → first ≤ workers → flat_map (lost_of out) (counted first (workers + 1 - first)) ≡ lost_of out first ++ flat_map (lost_of out) (counted (first + 1) (workers + 1 - (first + 1)))
 next-lost workers first out low =
     let more : workers + 1 - first ≡ suc (workers + 1 - (first + 1)) = omega (arith, low) in
     ap (λ (n : ℕ). flat_map (lost_of out) (counted first n)) more
 
-same-lost : (one other : List Held) (first n : ℕ) → ((v : ℕ) → first ≤ v → lease_of v one ≡ lease_of v other) → flat_map (lost_of one) (counted first n) ≡ flat_map (lost_of other) (counted first n)
+same-lost : (one other : List LeaseOut) (first n : ℕ) → ((v : ℕ) → first ≤ v → lease_of v one ≡ lease_of v other) → flat_map (lost_of one) (counted first n) ≡ flat_map (lost_of other) (counted first n)
 same-lost one other first zero same = refl
 same-lost one other first (suc n) same =
-    ap (λ (o : Option Held). option_map_or (λ l. Finish l.key l.index first Lost ∷ []) o [] ++ flat_map (lost_of one) (counted (first + 1) n)) (same first (omega arith))
+    ap (λ (o : Option LeaseOut). option_map_or (λ l. Finish l.key l.index first Lost ∷ []) o [] ++ flat_map (lost_of one) (counted (first + 1) n)) (same first (omega arith))
     ∙ ap (λ (es : List Event). lost_of other first ++ es) (same-lost one other (first + 1) n (λ v low. same v (omega (arith, low))))
 
 -- a worker without a lease loses none
 pub lose-none : (workers first : ℕ) (past : List Event) → first ≤ workers → is_some (lease_of first (leases past)) ≡ false → past ++ left_to_lose workers (first + 1) past ≡ past ++ left_to_lose workers first past
 lose-none workers first past low none = ap (λ (es : List Event). past ++ es) (sym (next-lost workers first (leases past) low ∙ ap (λ (es : List Event). es ++ left_to_lose workers (first + 1) past) (nothing (lease_of first (leases past)) refl none)))
   where
-    nothing : (o : Option Held) → lease_of first (leases past) ≡ o → is_some o ≡ false → option_map_or (λ l. Finish l.key l.index first Lost ∷ []) o [] ≡ []
+    nothing : (o : Option LeaseOut) → lease_of first (leases past) ≡ o → is_some o ≡ false → option_map_or (λ l. Finish l.key l.index first Lost ∷ []) o [] ≡ []
     nothing None e q = refl
     nothing (Some l) e q = absurd (cc)
 
@@ -46,7 +46,7 @@ pub lose-one : (workers first : ℕ) (past now : List Event) → first ≤ worke
 lose-one workers first past now low ended =
     let e : Event = Finish ended.lease.key ended.lease.index first Lost in
     let rest : List Event = left_to_lose workers (first + 1) past in
-    let mine : lost_of (leases past) first ≡ e ∷ [] = ap (λ (o : Option Held). option_map_or (λ l. Finish l.key l.index first Lost ∷ []) o []) ended.out in
+    let mine : lost_of (leases past) first ≡ e ∷ [] = ap (λ (o : Option LeaseOut). option_map_or (λ l. Finish l.key l.index first Lost ∷ []) o []) ended.out in
     let out : leases now ≡ without first (leases past) = ap leases ended.grown ∙ leases-push past e in
     let same : left_to_lose workers (first + 1) now ≡ rest = same-lost (leases now) (leases past) (first + 1) (workers + 1 - (first + 1)) (λ v more. ap (lease_of v) out ∙ without-other first v (leases past) (λ q. absurd (omega (arith, q, more)))) in
     ap (λ (es : List Event). now ++ es) same
@@ -58,7 +58,7 @@ lose-one workers first past now low ended =
 abbrev pub AreHome : ℕ → List Event → Type 0
 AreHome first past = (v : ℕ) → 1 ≤ v → v < first → lease_of v (leases past) ≡ None
 
-none-of : (o : Option Held) → is_some o ≡ false → o ≡ None
+none-of : (o : Option LeaseOut) → is_some o ≡ false → o ≡ None
 none-of None e = refl
 none-of (Some l) e = absurd (cc)
 
@@ -106,10 +106,10 @@ recall-done workers first past now some bound legal more grown home = record { c
     whole_legal : Legal workers now
     whole_legal = subst (Legal workers) (sym whole) (call-is_legal workers past Recalls tt (recalled workers past) some bound legal refl)
 
-    empty : (ls : List Held) → leases now ≡ ls → ls ≡ []
+    empty : (ls : List LeaseOut) → leases now ≡ ls → ls ≡ []
     empty [] e = refl
     empty (l ∷ ls) e =
-        let worker : IsWorker workers l.worker = All-head (λ (h : Held). IsWorker workers h.worker) l ls (subst (All (λ (h : Held). IsWorker workers h.worker)) e (legal-leases workers now some bound whole_legal).of_workers) in
+        let worker : IsWorker workers l.worker = All-head (λ (h : LeaseOut). IsWorker workers h.worker) l ls (subst (All (λ (h : LeaseOut). IsWorker workers h.worker)) e (legal-leases workers now some bound whole_legal).of_workers) in
         let none : lease_of l.worker (leases now) ≡ None = home l.worker worker.low (omega (arith, worker.high, more)) in
         let found : lease_of l.worker (leases now) ≡ Some l = ap (lease_of l.worker) e ∙ ap (λ (b : Bool). cond b (Some l) (lease_of l.worker ls)) ((Decides-eqb l.worker l.worker).1 refl) in
         let both : None ≡ Some l = sym none ∙ found in

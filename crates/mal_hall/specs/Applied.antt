@@ -3,7 +3,7 @@ use Rattle.std.specs.Prelude.{◌≡◌, ℕ, suc, ◌-◌, ◌<◌, List, [], �
 use Rattle.std.specs.Option.{option_map, option_map_or}
 use Rattle.mal_base.specs.declared.verdict.Outcome.{Outcome}
 use Rattle.mal_hall.specs.Offered.{handed_of}
-use Rattle.mal_hall.specs.Seen.{Seen}
+use Rattle.mal_hall.specs.HallView.{HallView}
 use Rattle.mal_history.specs.declared.event.Event as written
 use Rattle.mal_history.specs.declared.event.Event.TheVariants as of
 use Rattle.mal_history.specs.declared.event.Share.{Share}
@@ -15,10 +15,10 @@ use Rattle.spec_hall.specs.Given.{given}
 use Rattle.spec_hall.specs.Legal.{Allowed}
 use Rattle.spec_hall.specs.States.{keys_of, lease_of, leases}
 use Rattle.spec_job.specs.Leased.{Becomes, Finished, Leased}
-use Rattle.spec_job.specs.Titled.{Key}
+use Rattle.spec_job.specs.KeyedJob.{Key}
 
 -- the leases that are out are those that are kept inside the hall, each as it was handed out: no worker has one
-pub record IsInside (h : Seen) : Type 0 where
+pub record IsInside (h : HallView) : Type 0 where
   pub count : length h.inside ≡ h.workers
   pub each : (n : ℕ) → n < h.workers → get_or h.inside n None ≡ option_map (handed h.events) (lease_of (suc n) (leases h.events))
 

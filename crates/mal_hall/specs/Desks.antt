@@ -3,7 +3,7 @@ use Rattle.mal_hall.specs.declared.desk.Post.{Post}
 use Rattle.mal_hall.specs.declared.desk.Post.TheVariants as posts
 use Rattle.mal_hall.specs.declared.desk.PostFault.{PostFault}
 use Rattle.mal_hall.specs.declared.desk.PostFault.TheVariants as faults
-use Rattle.mal_hall.specs.Seen.{next_number}
+use Rattle.mal_hall.specs.HallView.{next_number}
 use Rattle.spec_job.specs.Leased.{Finished, Tells}
 use Rattle.spec_job.specs.Viewed.{IsGrownBy}
 use Rattle.spec_hall.specs.declared.fault.PickFault.{PickFault}
@@ -13,10 +13,10 @@ use Rattle.spec_hall.specs.Events as entered
 use Rattle.spec_hall.specs.Events.{Event}
 
 -- a call of a desk with its answer: a worker picked, what came of a lease was given back, or a tenant posted
-pub data Told : Type 0 where
-  Picked : ℕ → Result Offer PickFault → Told
-  Gave : Finished → Return → Told
-  Posted : Post → Result (Unit {0}) PostFault → Told
+pub data DeskCall : Type 0 where
+  Picked : ℕ → Result Offer PickFault → DeskCall
+  Gave : Finished → Return → DeskCall
+  Posted : Post → Result (Unit {0}) PostFault → DeskCall
 
 -- a lease that is handed out to a worker is its own
 abbrev pub IsOwn : ℕ → Result Offer PickFault → Type 0

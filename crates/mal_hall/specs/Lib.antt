@@ -1,4 +1,4 @@
-pub mod Seen
+pub mod HallView
 pub mod Offered
 pub mod Turned
 pub mod Applied

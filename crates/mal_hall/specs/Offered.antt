@@ -6,13 +6,13 @@ use Rattle.mal_hall.specs.declared.offer.Pick.TheVariants as pick
 use Rattle.mal_hall.specs.declared.offer.Back.{Back}
 use Rattle.mal_hall.specs.declared.offer.Strange.{Strange}
 use Rattle.spec_job.specs.Leased.{Leased, Finished}
-use Rattle.spec_job.specs.Titled.{Key, Titled}
+use Rattle.spec_job.specs.KeyedJob.{Key, KeyedJob}
 use Rattle.spec_hall.specs.declared.fault.PickFault.{PickFault}
 use Rattle.spec_hall.specs.declared.fault.ReplyFault.{ReplyFault}
 use Rattle.spec_hall.specs.Calls as calls
 use Rattle.spec_hall.specs.Events.{Event, Balance, Start, Finish, Exchange}
 use Rattle.spec_hall.specs.Legal.{Allowed}
-use Rattle.spec_hall.specs.States.{Held, keys_of, states, leases, lease_of, exchange_due}
+use Rattle.spec_hall.specs.States.{LeaseOut, keys_of, states, leases, lease_of, exchange_due}
 use Rattle.spec_job.specs.Viewed.{IsGrownBy}
 use Rattle.mal_base.specs.declared.verdict.Outcome.{Outcome}
 use Rattle.mal_job.specs.Finishing.{outcome_of}
@@ -47,7 +47,7 @@ pub record HasBalanced (workers : ℕ) (past now : List Event) : Type 0 where
 
 -- the first job of which an exchange is due has this place
 pub record IsFirst (past : List Event) (at : ℕ) : Type 0 where
-  pub job : Titled
+  pub job : KeyedJob
   pub first : exchange_due (states past) ≡ Some job
   pub place : slice_get (states past) at ≡ Some job
 
@@ -71,19 +71,19 @@ pub record HasStarted (workers : ℕ) (past now : List Event) (index worker : �
   pub lease_is : handed_of lease ≡ calls.handed now (record { worker = worker; key = key; index = index })
 
 -- what came back, if anything did, is that of a lease
-abbrev pub Belongs : List Event → Held → Option Finished → Type 0
+abbrev pub Belongs : List Event → LeaseOut → Option Finished → Type 0
 Belongs past l None = lease_of l.worker (leases past) ≡ Some l
 Belongs past l (Some d) = (d.worker ≡ l.worker) × calls.IsOfLease past d l
 
 -- the lease of a worker may end so
 pub record MayEnd (past : List Event) (worker : ℕ) (back : Option Finished) : Type 0 where
-  pub lease : Held
+  pub lease : LeaseOut
   pub worker_is : lease.worker ≡ worker
   pub belongs : Belongs past lease back
 
 -- the lease of a worker has ended
 pub record HasEnded (past now : List Event) (worker : ℕ) (outcome : Outcome) : Type 0 where
-  pub lease : Held
+  pub lease : LeaseOut
   pub out : lease_of worker (leases past) ≡ Some lease
   pub grown : now ≡ past ++ Finish lease.key lease.index worker outcome ∷ []
 

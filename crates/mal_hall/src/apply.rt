@@ -8,7 +8,7 @@ ghost use Rattle.spec_hall.specs.Calls.{Opens, Revises, wanted};
 ghost use Rattle.spec_hall.specs.Dressed.{keyed};
 ghost use Rattle.spec_hall.specs.Events.{Open, Revise, Close, Balance, Start, Finish, Exchange};
 ghost use Rattle.spec_hall.specs.Legal.{Allowed};
-ghost use Rattle.spec_job.specs.Titled.{Key};
+ghost use Rattle.spec_job.specs.KeyedJob.{Key};
 
 use crate::hall::Hall;
 use crate::lodging::back_of;

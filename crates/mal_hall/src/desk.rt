@@ -71,7 +71,7 @@ impl Hall {
 /// it tells the caller's own calls with their answers, in their order. A desk says nothing of the calls of others.
 pub trait Desk: Sync {
     ghost use Rattle.std.specs.Prelude.{◌≡◌, ℕ, ◌≤◌, List, [], ◌∷◌, ◌++◌};
-    ghost use Rattle.mal_hall.specs.Desks.{Told, Picked, Gave, IsOwn};
+    ghost use Rattle.mal_hall.specs.Desks.{DeskCall, Picked, Gave, IsOwn};
     ghost use Rattle.mal_hall.specs.Offered.{offered, returned};
 
     type Pass: Send + Drop;
@@ -83,7 +83,7 @@ pub trait Desk: Sync {
     ghost is_of: { Self → Self.Pass → Type 0 };
 
     /// The calls that were made with a pass.
-    ghost calls: { Self.Pass → List Told };
+    ghost calls: { Self.Pass → List DeskCall };
 
     /// Picks as a worker, 1 to the number of workers. A lease is the worker's own.
     fn pick<R: Wait>(

@@ -2,7 +2,7 @@
 
 ghost use Rattle.std.specs.Prelude.{◌≡◌, ◌+◌, ◌<◌, ◌≤◌, ◌^◌, [], ◌∷◌, ◌++◌, OnOk, OnErr};
 ghost use Rattle.mal_hall.specs.Turned.{IsBalancing};
-ghost use Rattle.spec_job.specs.Solo.{Exchanged};
+ghost use Rattle.spec_job.specs.SoloMachine.{Exchanged};
 ghost use Rattle.spec_job.specs.Viewed.{and_own};
 
 use crate::seats::Seat;

@@ -6,7 +6,7 @@ ghost use Rattle.mal_base.specs.Asks.{IsAsk};
 ghost use Rattle.mal_base.specs.Names.{is_name};
 ghost use Rattle.mal_hall.specs.Applied.{IsInside, listed_last};
 ghost use Rattle.mal_hall.specs.Offered.{HasArranged, HasBalanced, HasEnded, HasExchanged, HasStarted, IsFirst, MayEnd, MayStartAt, handed_of, offered, replied, returned};
-ghost use Rattle.mal_hall.specs.Seen.{next_number};
+ghost use Rattle.mal_hall.specs.HallView.{next_number};
 ghost use Rattle.mal_job.specs.Among.{among};
 ghost use Rattle.mal_job.specs.Finishing.{outcome_of};
 ghost use Rattle.spec_hall.specs.Calls.{HasCalled, IsOfLease, Opens, Revises, Closes, Picks, Finishes, Recalls, Asks, is_over};
@@ -20,18 +20,18 @@ ghost use Rattle.spec_job.specs.Models.{AnswersSolve};
 ghost use Rattle.spec_job.specs.Proofs.{AnswersRefute};
 ghost use Rattle.spec_job.specs.Provenance.{ClausesAreOwn};
 ghost use Rattle.spec_job.specs.Replies.{reply};
-ghost use Rattle.spec_job.specs.Solo.{solo};
-ghost use Rattle.spec_job.specs.Titled.{Titled};
+ghost use Rattle.spec_job.specs.SoloMachine.{solo};
+ghost use Rattle.spec_job.specs.KeyedJob.{KeyedJob};
 ghost use Rattle.spec_hall.specs.States as states_of;
-ghost use Rattle.spec_hall.specs.States.{Held, keys_of, states, lives, leases, lease_of, balanced, exchange_due};
+ghost use Rattle.spec_hall.specs.States.{LeaseOut, keys_of, states, lives, leases, lease_of, balanced, exchange_due};
 ghost use Rattle.spec_hall.specs.Legal.{IsBalanceDue, Legal, job_of};
 ghost use Rattle.spec_hall.specs.Measure.{left_in};
 
 use crate::enter::{enter_balance, enter_exchange};
 use crate::lodging::{lists, none_lodged};
 use crate::offer::{Back, Pick, Strange};
-use crate::pick::{Candidate, pick};
 use crate::room::{next_number, tenants_after};
+use crate::scheduler::{Candidate, pick};
 use crate::seats::{Seat, first_exchange, is_answered, is_done, is_due, jobs_of, place_of};
 use crate::spots::{Spot, count_out, no_spots, owed, spot_of};
 use mal_base::{Ask, Name, Outcome};
@@ -61,9 +61,9 @@ pub struct Hall {
 impl Model for Hall {
     ghost use Rattle.std.specs.Prelude.{map, option_map};
     ghost use Rattle.mal_hall.specs.Offered.{handed_of};
-    ghost use Rattle.mal_hall.specs.Seen.{Seen, IsHall, events_of};
+    ghost use Rattle.mal_hall.specs.HallView.{HallView, IsHall, events_of};
 
-    ghost Value = { Seen };
+    ghost Value = { HallView };
 
     ghost view = { λ h. record { workers = h.history.workers; events = events_of h.history.events h.seats.items; inside = map (option_map handed_of) h.lodged.items } };
 
@@ -190,13 +190,13 @@ impl Hall {
     /// model of the revision, an unsatisfiable one a proof from the job's clauses alone; each clause that the job's nodes hold
     /// or tell one another is the job's own. A job that is not there is `NoJob`, however much memory there is.
     pub fn reply(&self, tenant: &Name, job: &Name, r: u32) -> Result<Option<Vec<u8>>, ReplyFault>
-        ensures reply { IfOk result (λ o. (t : Titled) × (job_of (keyed tenant.now job.now) (states self.now.events) ≡ Some t) × (MatchOption o (reply (keyed tenant.now job.now) r t.state ≡ None) (λ text. reply (keyed tenant.now job.now) r t.state ≡ Some text.items))) }
+        ensures reply { IfOk result (λ o. (t : KeyedJob) × (job_of (keyed tenant.now job.now) (states self.now.events) ≡ Some t) × (MatchOption o (reply (keyed tenant.now job.now) r t.state ≡ None) (λ text. reply (keyed tenant.now job.now) r t.state ≡ Some text.items))) }
         ensures alone { IfOk result (λ o. (other : List entered.Event) → own (keyed tenant.now job.now) other ≡ own (keyed tenant.now job.now) self.now.events → MatchOption o (reply (keyed tenant.now job.now) r (solo (own (keyed tenant.now job.now) other)) ≡ None) (λ text. reply (keyed tenant.now job.now) r (solo (own (keyed tenant.now job.now) other)) ≡ Some text.items)) }
         ensures no_job { IsErrOf result ReplyFault.NoJob → job_of (keyed tenant.now job.now) (states self.now.events) ≡ None }
-        ensures out_of_memory { IsErrOf result ReplyFault.OutOfMemory → (t : Titled) × (job_of (keyed tenant.now job.now) (states self.now.events) ≡ Some t) }
-        ensures models { (t : Titled) → job_of (keyed tenant.now job.now) (states self.now.events) ≡ Some t → AnswersSolve t.state }
-        ensures proofs { (t : Titled) → job_of (keyed tenant.now job.now) (states self.now.events) ≡ Some t → AnswersRefute t.state }
-        ensures own { (t : Titled) → job_of (keyed tenant.now job.now) (states self.now.events) ≡ Some t → ClausesAreOwn t.state }
+        ensures out_of_memory { IsErrOf result ReplyFault.OutOfMemory → (t : KeyedJob) × (job_of (keyed tenant.now job.now) (states self.now.events) ≡ Some t) }
+        ensures models { (t : KeyedJob) → job_of (keyed tenant.now job.now) (states self.now.events) ≡ Some t → AnswersSolve t.state }
+        ensures proofs { (t : KeyedJob) → job_of (keyed tenant.now job.now) (states self.now.events) ≡ Some t → AnswersRefute t.state }
+        ensures own { (t : KeyedJob) → job_of (keyed tenant.now job.now) (states self.now.events) ≡ Some t → ClausesAreOwn t.state }
         ensures call { HasCalled self.now.workers self.now.events (Asks (keyed tenant.now job.now) r) (replied result) self.now.events }
     {
         let Some(at) = place_of(&self.seats, *tenant, *job) else {
@@ -421,7 +421,7 @@ impl Hall {
     fn compare(&self, back: &Done) -> Result<(), Option<u64>>
         ensures ok { OnOk result (MayEnd self.now.events back.now.worker (Some back.now)) }
         ensures worker { OnOk result (1 ≤ back.now.worker) }
-        ensures strange { OnErr result ((l : Held) → IsOfLease self.now.events back.now l → ⊥) }
+        ensures strange { OnErr result ((l : LeaseOut) → IsOfLease self.now.events back.now l → ⊥) }
         ensures kept { IfErr result (λ kept. kept ≡ option_map (λ l. start_number l.worker self.now.events) (lease_of back.now.worker (leases self.now.events))) }
     {
         let _starts = self.starts;

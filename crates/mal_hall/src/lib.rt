@@ -7,8 +7,8 @@ mod enter;
 mod hall;
 mod lodging;
 mod offer;
-mod pick;
 mod room;
+mod scheduler;
 mod seats;
 mod spots;
 #[cfg(test)]

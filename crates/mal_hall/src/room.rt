@@ -2,7 +2,7 @@
 
 ghost use Rattle.std.specs.Prelude.{◌≡◌, ◌+◌, ◌<◌, ◌≤◌, ◌^◌, true, false, ◌==◌, if◌then◌else◌, List, [], length, Some, None, Err, MatchOption, IfOk, IfErr};
 ghost use Rattle.mal_revision.specs.Posted.{is_posted};
-ghost use Rattle.spec_job.specs.Solo.{clauses_in};
+ghost use Rattle.spec_job.specs.SoloMachine.{clauses_in};
 ghost use Rattle.spec_hall.specs.Legal.{literals_in};
 ghost use Rattle.spec_hall.specs.Calls.{IsOpening, IsRevising};
 ghost use Rattle.spec_hall.specs.Events.{Event};
@@ -11,9 +11,9 @@ ghost use Rattle.spec_hall.specs.States.{states};
 ghost use Rattle.mal_job.specs.Viewed.{shared};
 ghost use Rattle.mal_base.specs.Asks.{Terms};
 ghost use Rattle.spec_hall.specs.Legal.{job_of, jobs_of, tenant_count};
-ghost use Rattle.spec_job.specs.Titled.{Key};
+ghost use Rattle.spec_job.specs.KeyedJob.{Key};
 
-use mal_base::Which;
+use mal_base::LimitKind;
 use mal_job::Job;
 use mal_revision::Revision;
 use spec_hall::{OpenFault, ReviseFault};
@@ -65,7 +65,7 @@ pub fn next_number(job: &Job, revision: &Revision) -> Result<u32, ReviseFault>
 
 /// Which limit of a job a further revision would pass: 2^20 clauses, then 2^24 literals, over all revisions. It goes over the
 /// revisions, of which there are 256 at most, and not over their clauses.
-fn limit_passed(revisions: &[Arc<Revision>], revision: &Revision) -> Option<Which>
+fn limit_passed(revisions: &[Arc<Revision>], revision: &Revision) -> Option<LimitKind>
     requires few { length (shared revisions.now) ≤ 256 }
     requires clauses { clauses_in (shared revisions.now) ≤ 2 ^ 20 }
     ensures limit { MatchOption result (HasRoomFor (shared revisions.now) revision.now) (λ which. IsOver which (shared revisions.now) revision.now) }
@@ -73,11 +73,11 @@ fn limit_passed(revisions: &[Arc<Revision>], revision: &Revision) -> Option<Whic
 {
     let clauses = count_clauses(revisions) + revision.clauses().len() as u64;
     if clauses > 1_048_576 {
-        return Some(Which::Clauses);
+        return Some(LimitKind::Clauses);
     }
     let literals = count_literals(revisions) + revision.literals() as u64;
     if literals > 16_777_216 {
-        return Some(Which::Literals);
+        return Some(LimitKind::Literals);
     }
     None
 }

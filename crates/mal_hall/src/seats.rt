@@ -4,7 +4,7 @@ ghost use Rattle.std.specs.Prelude.{◌≡◌, ◌↔◌, ◌+◌, ◌<◌, ◌�
 ghost use Rattle.std.specs.List.{list_all};
 ghost use Rattle.mal_base.specs.Asks.{IsAsk};
 ghost use Rattle.mal_job.specs.Finishing.{outcome_of, MayFinish};
-ghost use Rattle.spec_job.specs.Solo.{Revised, Closed, Finished, Exchanged, is_exchange_due, place_at, startable, clauses_in};
+ghost use Rattle.spec_job.specs.SoloMachine.{Revised, Closed, Finished, Exchanged, is_exchange_due, place_at, startable, clauses_in};
 ghost use Rattle.spec_job.specs.Viewed.{and_own, and_start, IsLeaseOf, IsBack};
 ghost use Rattle.spec_hall.specs.Dressed.{keyed};
 ghost use Rattle.spec_hall.specs.Driven as driven;

@@ -2,7 +2,7 @@
 
 ghost use Rattle.std.specs.Prelude.{◌≡◌, ◌+◌, ◌-◌, ◌<◌, ◌≤◌, ◌^◌, get_or, length, replicate, IfOk, None};
 ghost use Rattle.spec_hall.specs.Spots as spec;
-ghost use Rattle.mal_hall.specs.Seen.{out_in};
+ghost use Rattle.mal_hall.specs.HallView.{out_in};
 
 use std::alloc::{AllocError, Global};
 use std::marker::Model;

@@ -3,7 +3,7 @@
 ghost use Rattle.std.specs.Prelude.{◌≤◌};
 
 use crate::{CloseFault, Hall, OpenFault, Pick, PickFault, ReplyFault, ReviseFault};
-use mal_base::{Ask, Clause, Lit, Name, Which};
+use mal_base::{Ask, Clause, LimitKind, Lit, Name};
 use mal_learn::Scratch;
 use mal_revision::Revision;
 use mal_suspend::{Done, Lease};
@@ -281,7 +281,7 @@ fn a_job_has_room_for_its_clauses(rt: HostRuntime) -> Result<(), Fail> {
     assert_eq!(rt; trial.revise(b"a", b"p", trivial(alloc, 1_048_575)?)?, None);
     let refused = trial.revise(b"a", b"p", trivial(alloc, 2)?)?;
     let full = ReviseFault::JobFull {
-        which: Which::Clauses,
+        which: LimitKind::Clauses,
     };
     assert_eq!(rt; refused, Some(full));
     assert_eq!(rt; trial.revise(b"a", b"p", trivial(alloc, 1)?)?, None);

@@ -11,7 +11,7 @@ use Rattle.mal_history.specs.Reading.{Read, Fault, read_text}
 use Rattle.mal_history.specs.Grammar.{Spells}
 use Rattle.mal_history.specs.Formed.{IsHistory, written_read}
 use Rattle.mal_history.specs.Laws.{IsFormed}
-use Rattle.mal_history.specs.Given.{FailsAt, GivesAt, seen}
+use Rattle.mal_history.specs.ReadResult.{FailsAt, GivesAt, seen}
 use Rattle.mal_history.proofs.Words.{ok-is}
 use Rattle.mal_history.proofs.Rows.{spelled-rows, spelled-formed}
 use Rattle.mal_history.proofs.Again.{written-read}

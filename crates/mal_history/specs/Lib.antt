@@ -7,4 +7,4 @@ pub mod Formed
 pub mod Laws
 pub mod Examples
 pub mod Own
-pub mod Given
+pub mod ReadResult

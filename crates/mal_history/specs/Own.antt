@@ -14,25 +14,25 @@ abbrev pub volume_in : List ℕ → List ℕ → List Share → ℕ
 volume_in tenant job volumes = option_map_or (λ s. s.volume) (find (λ s. is_of tenant job s.tenant s.job) volumes) 0
 
 -- what is told of a job so far: its own events, and its volume
-pub record Told : Type 0 where
+pub record OwnSoFar : Type 0 where
   pub own : List Event
   pub volume : ℕ
 
-abbrev pub told_of : List Event → ℕ → Told
+abbrev pub told_of : List Event → ℕ → OwnSoFar
 told_of own volume = record { own = own; volume = volume }
 
 -- an event of the job is told
-abbrev pub tells : Bool → Event → Told → Told
+abbrev pub tells : Bool → Event → OwnSoFar → OwnSoFar
 tells true e told = told_of (told.own ++ e ∷ []) told.volume
 tells false e told = told
 
 -- of a balancing the job's volume is told, where it differs from the one before
-abbrev pub tells_volume : List ℕ → List ℕ → ℕ → Told → Told
+abbrev pub tells_volume : List ℕ → List ℕ → ℕ → OwnSoFar → OwnSoFar
 tells_volume tenant job volume told =
     if volume == told.volume then told else told_of (told.own ++ Balance (record { tenant = tenant; job = job; volume = volume } ∷ []) ∷ []) volume
 
 -- after one more event; a start and a finish are told without their worker, as of worker 1
-abbrev pub own_step : List ℕ → List ℕ → Told → Event → Told
+abbrev pub own_step : List ℕ → List ℕ → OwnSoFar → Event → OwnSoFar
 own_step tenant job told (Open t j ask) = tells (is_of tenant job t j) (Open tenant job ask) told
 own_step tenant job told (Revise t j number) = tells (is_of tenant job t j) (Revise tenant job number) told
 own_step tenant job told (Close t j) = tells (is_of tenant job t j) (Close tenant job) told

@@ -3,7 +3,7 @@
 ghost use Rattle.std.specs.Prelude.{◌≡◌, ◌≤◌, Ok, Err, IfSome, MatchOption};
 ghost use Rattle.mal_history.specs.Reading.{in_range, ask_of};
 ghost use Rattle.mal_history.specs.Reading.Fault.{BadNumber};
-ghost use Rattle.mal_history.specs.Given.{Gives};
+ghost use Rattle.mal_history.specs.ReadResult.{Gives};
 
 use crate::fault::EventFault;
 use mal_base::Ask;

@@ -3,26 +3,26 @@ use Rattle.std.proofs.Common.{◌≡◌, ℕ, zero, suc, ◌+◌, ◌-◌, ◌<�
 use Rattle.std.specs.Prelude.{is_none}
 use Rattle.std.proofs.lemmas.Bool.{lt-ltb, le-ltb}
 use Rattle.std.proofs.lemmas.List.{length-take, length-map}
-use Rattle.mal_base.specs.Held.{Held, Line}
+use Rattle.mal_base.specs.NumberedClause.{NumberedClause, Line}
 use Rattle.spec_exchange.specs.Exchange.{union, broadcast, entries_of, front, most_literals}
 use Rattle.spec_exchange.proofs.UnionLemmas.{order-free, of-unions}
-use Rattle.spec_job.specs.Solo.{Place, vacant, exports_of, takes_part, exports_from, marked_from}
+use Rattle.spec_job.specs.SoloMachine.{NodeSlot, vacant, exports_of, takes_part, exports_from, marked_from}
 use Rattle.spec_job.specs.Journaled.{Journaled}
 use Rattle.mal_job.specs.Viewed.{PlaceView, place_of, places_of, starts_of}
 use Rattle.mal_job.specs.Placing.{AreOwn}
 use Rattle.mal_job.specs.Exports.{exports_at, unions_from, marked_at, marked}
 
 -- no place from the volume on takes part
-beyond-part : (v k : ℕ) (p : Place) → v ≤ k → takes_part v k p ≡ false
+beyond-part : (v k : ℕ) (p : NodeSlot) → v ≤ k → takes_part v k p ≡ false
 beyond-part v k p low = ap (λ (b : Bool). b && is_none p.out) (le-ltb k v low)
 
-pub beyond-marked : (v mark k : ℕ) (ps : List Place) → v ≤ k → marked_from v mark k ps ≡ ps
+pub beyond-marked : (v mark k : ℕ) (ps : List NodeSlot) → v ≤ k → marked_from v mark k ps ≡ ps
 beyond-marked v mark k [] low = refl
 beyond-marked v mark k (p ∷ ps) low =
     ap (λ (b : Bool). cond b (record p { mark = mark }) p ∷ marked_from v mark (k + 1) ps) (beyond-part v k p low)
-    ∙ ap (λ (qs : List Place). p ∷ qs) (beyond-marked v mark (k + 1) ps (omega arith))
+    ∙ ap (λ (qs : List NodeSlot). p ∷ qs) (beyond-marked v mark (k + 1) ps (omega arith))
 
-beyond-exports : (v : ℕ) (log : List Line) (k : ℕ) (ps : List Place) → v ≤ k → exports_from v log k ps ≡ []
+beyond-exports : (v : ℕ) (log : List Line) (k : ℕ) (ps : List NodeSlot) → v ≤ k → exports_from v log k ps ≡ []
 beyond-exports v log k [] low = refl
 beyond-exports v log k (p ∷ ps) low =
     ap (λ (b : Bool). cond b (exports_of log k p) [] ++ exports_from v log (k + 1) ps) (beyond-part v k p low)
@@ -39,13 +39,13 @@ marked-place mark p = by_test (is_none p.out)
     by_test true = refl
     by_test false = refl
 
-front-marked : (v left mark k : ℕ) (ps : List PlaceView) (rest : List Place) → k + left ≡ v → left ≤ length ps → marked_from v mark k (map place_of ps ++ rest) ≡ map place_of (marked left mark ps) ++ rest
+front-marked : (v left mark k : ℕ) (ps : List PlaceView) (rest : List NodeSlot) → k + left ≡ v → left ≤ length ps → marked_from v mark k (map place_of ps ++ rest) ≡ map place_of (marked left mark ps) ++ rest
 front-marked v zero mark k ps rest e low = beyond-marked v mark k (map place_of ps ++ rest) (omega arith)
 front-marked v (suc left) mark k [] rest e low = absurd (omega arith)
 front-marked v (suc left) mark k (p ∷ ps) rest e low =
     ap (λ (b : Bool). cond b (record (place_of p) { mark = mark }) (place_of p) ∷ marked_from v mark (k + 1) (map place_of ps ++ rest)) (below-part v k p (omega arith))
-    ∙ (ap (λ (x : Place). x ∷ marked_from v mark (k + 1) (map place_of ps ++ rest)) (marked-place mark p)
-    ∙ ap (λ (xs : List Place). place_of (marked_at mark p) ∷ xs) (front-marked v left mark (k + 1) ps rest (omega arith) (omega arith)))
+    ∙ (ap (λ (x : NodeSlot). x ∷ marked_from v mark (k + 1) (map place_of ps ++ rest)) (marked-place mark p)
+    ∙ ap (λ (xs : List NodeSlot). place_of (marked_at mark p) ∷ xs) (front-marked v left mark (k + 1) ps rest (omega arith) (omega arith)))
 
 pub length-marked : (n mark : ℕ) (ps : List PlaceView) → length (marked n mark ps) ≡ length ps
 length-marked zero mark ps = refl
@@ -86,15 +86,15 @@ own-marked number k (suc n) mark (p ∷ ps) all =
     (ap (λ (j : Journaled). j.job) same ∙ all.0, ap (λ (j : Journaled). j.index) same ∙ all.1, own-marked number (k + 1) n mark ps all.2)
 
 -- unions of what is exported
-front-exports : (v left k : ℕ) (log : List Line) (ps : List PlaceView) (rest : List Place) → k + left ≡ v → left ≤ length ps → union (entries_of (unions_from log k (take left ps))) ≡ union (exports_from v log k (map place_of ps ++ rest))
+front-exports : (v left k : ℕ) (log : List Line) (ps : List PlaceView) (rest : List NodeSlot) → k + left ≡ v → left ≤ length ps → union (entries_of (unions_from log k (take left ps))) ≡ union (exports_from v log k (map place_of ps ++ rest))
 front-exports v zero k log ps rest e low = ap union (sym (beyond-exports v log k (map place_of ps ++ rest) (omega arith)))
 front-exports v (suc left) k log [] rest e low = absurd (omega arith)
 front-exports v (suc left) k log (p ∷ ps) rest e low =
     joined (exports_at log k p) (entries_of (unions_from log (k + 1) (take left ps))) (exports_from v log (k + 1) (map place_of ps ++ rest)) (front-exports v left (k + 1) log ps rest (omega arith) (omega arith))
     ∙ ap (λ (b : Bool). union (cond b (exports_of log k (place_of p)) [] ++ exports_from v log (k + 1) (map place_of ps ++ rest))) (sym (below-part v k p (omega arith)))
   where
-    joined : (xs ys zs : List Held) → union ys ≡ union zs → union (union xs ++ ys) ≡ union (xs ++ zs)
-    joined xs ys zs same = of-unions xs ys ∙ (order-free xs ys ∙ (sym (of-unions ys xs) ∙ (ap (λ (us : List Held). union (us ++ xs)) same ∙ (of-unions zs xs ∙ order-free zs xs))))
+    joined : (xs ys zs : List NumberedClause) → union ys ≡ union zs → union (union xs ++ ys) ≡ union (xs ++ zs)
+    joined xs ys zs same = of-unions xs ys ∙ (order-free xs ys ∙ (sym (of-unions ys xs) ∙ (ap (λ (us : List NumberedClause). union (us ++ xs)) same ∙ (of-unions zs xs ∙ order-free zs xs))))
 
 -- what is told
 pub told-is : (v : ℕ) (log : List Line) (ps : List PlaceView) → v ≤ length ps → broadcast (entries_of (unions_from log 0 (take v ps))) ≡ broadcast (exports_from v log 0 (places_of ps))
@@ -105,8 +105,8 @@ unions-length : (log : List Line) (k : ℕ) (hs : List PlaceView) → length (un
 unions-length log k [] = refl
 unions-length log k (h ∷ hs) = ap (λ (n : ℕ). suc n) (unions-length log (k + 1) hs)
 
-pub unions-few : (log : List Line) (v : ℕ) (hs : List PlaceView) (us : List (List Held)) → us ≡ unions_from log 0 (take v hs) → v ≤ 64 → length us ≤ 64
+pub unions-few : (log : List Line) (v : ℕ) (hs : List PlaceView) (us : List (List NumberedClause)) → us ≡ unions_from log 0 (take v hs) → v ≤ 64 → length us ≤ 64
 unions-few log v hs us e low =
-    let same : length us ≡ length (take v hs) = ap (λ (xs : List (List Held)). length xs) e ∙ unions-length log 0 (take v hs) in
+    let same : length us ≡ length (take v hs) = ap (λ (xs : List (List NumberedClause)). length xs) e ∙ unions-length log 0 (take v hs) in
     let short : length (take v hs) ≡ min v (length hs) = length-take v hs in
     omega arith

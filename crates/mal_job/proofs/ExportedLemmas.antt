@@ -3,10 +3,10 @@ use Rattle.std.proofs.Common.{◌≡◌, ℕ, zero, suc, ◌+◌, ◌-◌, ◌<�
 use Rattle.std.specs.Prelude.{All, filter, slice_set}
 use Rattle.std.proofs.lemmas.List.Elements.{All-head, All-tail}
 use Rattle.mal_base.specs.Clauses.{rises}
-use Rattle.mal_base.specs.Held.{Held, Line}
+use Rattle.mal_base.specs.NumberedClause.{NumberedClause, Line}
 use Rattle.spec_exchange.specs.Exchange.{union}
 use Rattle.spec_exchange.proofs.UnionLemmas.{order-free, of-unions}
-use Rattle.spec_job.specs.Solo.{is_exported}
+use Rattle.spec_job.specs.SoloMachine.{is_exported}
 use Rattle.mal_job.specs.Viewed.{PlaceView}
 use Rattle.mal_job.specs.Exports.{exported_by, marked_at, marked}
 
@@ -15,11 +15,11 @@ exported-append : (i : ℕ) (xs ys : List Line) → exported_by i (xs ++ ys) ≡
 exported-append i [] ys = refl
 exported-append i (x ∷ xs) ys = by_test (is_exported i x) (exported-append i xs ys)
   where
-    by_test : (b : Bool) → map (λ (l : Line). let c : Held = record { id = l.id; lits = l.lits } in c) (filter (is_exported i) (xs ++ ys)) ≡ exported_by i xs ++ exported_by i ys → map (λ (l : Line). let c : Held = record { id = l.id; lits = l.lits } in c) (cond b (x ∷ filter (is_exported i) (xs ++ ys)) (filter (is_exported i) (xs ++ ys))) ≡ map (λ (l : Line). let c : Held = record { id = l.id; lits = l.lits } in c) (cond b (x ∷ filter (is_exported i) xs) (filter (is_exported i) xs)) ++ exported_by i ys
-    by_test true e = ap (λ (cs : List Held). record { id = x.id; lits = x.lits } ∷ cs) e
+    by_test : (b : Bool) → map (λ (l : Line). let c : NumberedClause = record { id = l.id; lits = l.lits } in c) (filter (is_exported i) (xs ++ ys)) ≡ exported_by i xs ++ exported_by i ys → map (λ (l : Line). let c : NumberedClause = record { id = l.id; lits = l.lits } in c) (cond b (x ∷ filter (is_exported i) (xs ++ ys)) (filter (is_exported i) (xs ++ ys))) ≡ map (λ (l : Line). let c : NumberedClause = record { id = l.id; lits = l.lits } in c) (cond b (x ∷ filter (is_exported i) xs) (filter (is_exported i) xs)) ++ exported_by i ys
+    by_test true e = ap (λ (cs : List NumberedClause). record { id = x.id; lits = x.lits } ∷ cs) e
     by_test false e = e
 
-union-both : (xs ys : List Held) → union (union xs ++ union ys) ≡ union (xs ++ ys)
+union-both : (xs ys : List NumberedClause) → union (union xs ++ union ys) ≡ union (xs ++ ys)
 union-both xs ys = of-unions xs (union ys) ∙ (order-free xs (union ys) ∙ (of-unions ys xs ∙ order-free ys xs))
 
 drop-both : (n m : ℕ) (xs : List Line) → drop m (drop n xs) ≡ drop (n + m) xs
@@ -28,7 +28,7 @@ drop-both (suc n) zero [] = let same : suc n ≡ suc n + 0 = omega arith in ap (
 drop-both (suc n) (suc m) [] = let same : suc (n + suc m) ≡ suc n + suc m = omega arith in ap (λ (k : ℕ). drop k []) same
 drop-both (suc n) m (x ∷ xs) = let same : suc (n + m) ≡ suc n + m = omega arith in drop-both n m xs ∙ ap (λ (k : ℕ). drop k (x ∷ xs)) same
 
-pub exported-halves : (i from middle to : ℕ) (log : List Line) (front back : List Held) → from ≤ middle → middle ≤ to → front ≡ union (exported_by i (take (middle - from) (drop from log))) → back ≡ union (exported_by i (take (to - middle) (drop middle log))) → union (front ++ back) ≡ union (exported_by i (take (to - from) (drop from log)))
+pub exported-halves : (i from middle to : ℕ) (log : List Line) (front back : List NumberedClause) → from ≤ middle → middle ≤ to → front ≡ union (exported_by i (take (middle - from) (drop from log))) → back ≡ union (exported_by i (take (to - middle) (drop middle log))) → union (front ++ back) ≡ union (exported_by i (take (to - from) (drop from log)))
 exported-halves i from middle to log front back low high e f =
     let n : ℕ = middle - from in
     let m : ℕ = to - middle in
@@ -36,8 +36,8 @@ exported-halves i from middle to log front back low high e f =
     let here : from + n ≡ middle = omega arith in
     let rest : drop n (drop from log) ≡ drop middle log = drop-both from n log ∙ ap (λ (k : ℕ). drop k log) here in
     let split : take (to - from) (drop from log) ≡ take n (drop from log) ++ take m (drop middle log) = ap (λ (k : ℕ). take k (drop from log)) (sym sum) ∙ (take-add n m (drop from log) ∙ ap (λ (xs : List Line). take n (drop from log) ++ take m xs) rest) in
-    ap (λ (xs : List Held). union (xs ++ back)) e
-    ∙ (ap (λ (xs : List Held). union (union (exported_by i (take n (drop from log))) ++ xs)) f
+    ap (λ (xs : List NumberedClause). union (xs ++ back)) e
+    ∙ (ap (λ (xs : List NumberedClause). union (union (exported_by i (take n (drop from log))) ++ xs)) f
     ∙ (union-both (exported_by i (take n (drop from log))) (exported_by i (take m (drop middle log)))
     ∙ ap union (sym (ap (exported_by i) split ∙ exported-append i (take n (drop from log)) (take m (drop middle log))))))
 
@@ -45,7 +45,7 @@ exported-halves i from middle to log front back low high e f =
 one-exported : (i : ℕ) (x : Line) (b : Bool) → is_exported i (record { id = x.id; lits = x.lits; hints = [] }) ≡ b → union (exported_by i (x ∷ [])) ≡ cond b (record { id = x.id; lits = x.lits } ∷ []) []
 one-exported i x b e = by_test (is_exported i x) b e
   where
-    by_test : (c d : Bool) → c ≡ d → union (map (λ (l : Line). let h : Held = record { id = l.id; lits = l.lits } in h) (cond c (x ∷ []) [])) ≡ cond d (record { id = x.id; lits = x.lits } ∷ []) []
+    by_test : (c d : Bool) → c ≡ d → union (map (λ (l : Line). let h : NumberedClause = record { id = l.id; lits = l.lits } in h) (cond c (x ∷ []) [])) ≡ cond d (record { id = x.id; lits = x.lits } ∷ []) []
     by_test true true f = refl
     by_test false false f = refl
     by_test true false f = absurd (cc)

@@ -1,7 +1,7 @@
 -- A start that is out ends.
 use Rattle.std.proofs.Common.{◌≡◌, ℕ, ◌+◌, ◌*◌, ◌<◌, ◌≤◌, ◌^◌, true, false, List, [], ◌∷◌, ◌++◌, length, get_or, Option, Some, None, Bool, cond, nat_lt, refl, sym, ◌∙◌, ap, subst, arith, length-append}
 use Rattle.std.specs.Prelude.{is_some, slice_set}
-use Rattle.mal_base.specs.Held.{Line}
+use Rattle.mal_base.specs.NumberedClause.{Line}
 use Rattle.mal_base.specs.declared.verdict.Outcome.{Outcome}
 use Rattle.mal_base.specs.declared.verdict.Outcome.TheVariants.{Ran, Starved, Lost}
 use Rattle.mal_base.specs.declared.verdict.Verdict.{Verdict}
@@ -15,8 +15,8 @@ use Rattle.spec_job.specs.Journal.{JournalEntry, Run, replay}
 use Rattle.spec_job.specs.Journaled.{Journaled, replayed, node_of, and_entries}
 use Rattle.spec_job.specs.Leased.{Finished, HasRun, model_with}
 use Rattle.spec_job.specs.Models.{clauses_of}
-use Rattle.spec_job.specs.Solo.{Own, Opened, Place, Lease, Solo, solo, solo_step, place_at, vacant, first_empty, settled_by}
-use Rattle.spec_job.specs.Solo as own
+use Rattle.spec_job.specs.SoloMachine.{Own, Opened, NodeSlot, Lease, SoloMachine, solo, solo_step, place_at, vacant, first_empty, settled_by}
+use Rattle.spec_job.specs.SoloMachine as own
 use Rattle.spec_job.specs.Viewed.{JobView, IsBack, IsGrownBy, and_own, journal_at}
 use Rattle.spec_job.proofs.CountLemmas.{runs_in-append, runs-set, runs-same}
 use Rattle.spec_job.proofs.DerivingLemmas.{IsRunning}
@@ -24,7 +24,7 @@ use Rattle.spec_job.proofs.RefutingLemmas.{runnable-logs_derived}
 use Rattle.spec_job.proofs.SolvingLemmas.{IsLeased, out-leased}
 use Rattle.mal_job.specs.Asking.{IsAsked, concluded_by, starved_by, settled_with}
 use Rattle.mal_job.specs.Finishing.{MayFinish}
-use Rattle.mal_job.specs.Kept.{IsOwn, IsKept}
+use Rattle.mal_job.specs.JobInvariant.{IsOwn, JobInvariant}
 use Rattle.mal_job.specs.Placing.{IsBackAt, IsTree, placed, with_placed, ran_home, came_home, one_more_ran, fresh_place, revision_of, adds_of}
 use Rattle.mal_job.specs.Viewed.{PlaceView, TreeView, LogView, QuestionsView, Parts, place_of, places_of, starts_of, state_of, viewed}
 use Rattle.mal_job.proofs.KeptLemmas.{own-next, own-kept, few-runs, outs-less}
@@ -55,15 +55,15 @@ back-ran p d o b = subst (λ (x : Outcome). IsGrownBy x b.lease.adds p.journal d
 pub back-starved : (p : PlaceView) (d : Finished) → d.outcome ≡ Starved → IsBackAt p d → d.journal ≡ p.journal
 back-starved p d o b = subst (λ (x : Outcome). IsGrownBy x b.lease.adds p.journal d.journal) o b.journal
 
-settled-log : (o : Option ℕ) (s : Solo) → (settled_by o s).log ≡ s.log
+settled-log : (o : Option ℕ) (s : SoloMachine) → (settled_by o s).log ≡ s.log
 settled-log None s = refl
 settled-log (Some goal) s = refl
 
-module _ (q : Parts) (i : ℕ) (k : IsKept q) (is_out : is_some (placed q.tree i).out ≡ true) where
+module _ (q : Parts) (i : ℕ) (k : JobInvariant q) (is_out : is_some (placed q.tree i).out ≡ true) where
   abbrev p : PlaceView
   p = placed q.tree i
 
-  abbrev s : Solo
+  abbrev s : SoloMachine
   s = state_of q
 
   abbrev l : Lease
@@ -104,7 +104,7 @@ module _ (q : Parts) (i : ℕ) (k : IsKept q) (is_out : is_some (placed q.tree i
       omega (arith, less, k.chunks)
 
   running : IsRunning q.asked.revisions q.log.lines i p.journal.entries l
-  running = subst (λ (x : Place). IsRunning q.asked.revisions q.log.lines i x.entries l) here (((own-kept s k.own).derives.tracked i few).running l machine-out)
+  running = subst (λ (x : NodeSlot). IsRunning q.asked.revisions q.log.lines i x.entries l) here (((own-kept s k.own).derives.tracked i few).running l machine-out)
 
   abbrev pub x : Sliced
   x = replay i (p.journal.entries ++ l.adds)
@@ -141,14 +141,14 @@ module _ (q : Parts) (i : ℕ) (k : IsKept q) (is_out : is_some (placed q.tree i
   orderly d e h =
       let o : IsOwn (state_of (after_run 0)) = run-own 0 in
       let derived : IsLog (clauses_of (solo (Opened o.ask ∷ o.own)).revisions) (solo (Opened o.ask ∷ o.own)).log = runnable-logs_derived (Opened o.ask ∷ o.own) o.once.runnable in
-      let all : IsLog (clauses_of (state_of (after_run 0)).revisions) (q.log.lines ++ x.lines) = subst (λ (y : Solo). IsLog (clauses_of y.revisions) y.log) (sym o.is) derived in
+      let all : IsLog (clauses_of (state_of (after_run 0)).revisions) (q.log.lines ++ x.lines) = subst (λ (y : SoloMachine). IsLog (clauses_of y.revisions) y.log) (sym o.is) derived in
       subst (λ (ls : List Line). IsOrderly (q.log.lines ++ ls)) (sym (lines-is d e h)) (log-orderly (clauses_of (state_of (after_run 0)).revisions) (q.log.lines ++ x.lines) all)
 
   more-runs : runs_of (places_of (slice_set q.tree.places i (ran_home p))) ≡ runs_of (places_of q.tree.places) + runs_in l.adds
   more-runs =
       let entries : p.journal.entries ++ adds_of p.out ≡ p.journal.entries ++ l.adds = ap (λ (o : Option Lease). p.journal.entries ++ adds_of o) out in
-      let sum : runs_in (place_of (ran_home p)).entries ≡ runs_in (place_at s i).entries + runs_in l.adds = ap (λ (es : List JournalEntry). runs_in es) entries ∙ (runs_in-append p.journal.entries l.adds ∙ ap (λ (y : Place). runs_in y.entries + runs_in l.adds) (sym here)) in
-      ap (λ (ps : List Place). runs_of ps) (sym (set-placed q.tree.places i (ran_home p) low)) ∙ runs-set (places_of q.tree.places) i (runs_in l.adds) (place_of (ran_home p)) there sum
+      let sum : runs_in (place_of (ran_home p)).entries ≡ runs_in (place_at s i).entries + runs_in l.adds = ap (λ (es : List JournalEntry). runs_in es) entries ∙ (runs_in-append p.journal.entries l.adds ∙ ap (λ (y : NodeSlot). runs_in y.entries + runs_in l.adds) (sym here)) in
+      ap (λ (ps : List NodeSlot). runs_of ps) (sym (set-placed q.tree.places i (ran_home p) low)) ∙ runs-set (places_of q.tree.places) i (runs_in l.adds) (place_of (ran_home p)) there sum
 
   some-runs : 1 ≤ runs_in l.adds
   some-runs =
@@ -157,7 +157,7 @@ module _ (q : Parts) (i : ℕ) (k : IsKept q) (is_out : is_some (placed q.tree i
 
   -- one start less is out
   outs : (y : PlaceView) → y.out ≡ None → starts_out (places_of (slice_set q.tree.places i y)) + 1 ≡ starts_out (places_of q.tree.places)
-  outs y none = ap (λ (ps : List Place). starts_out ps + 1) (sym (set-placed q.tree.places i y low)) ∙ outs-less (places_of q.tree.places) i (place_of y) there (ap (λ (o : Option Lease). is_some o) machine-out) none
+  outs y none = ap (λ (ps : List NodeSlot). starts_out ps + 1) (sym (set-placed q.tree.places i y low)) ∙ outs-less (places_of q.tree.places) i (place_of y) there (ap (λ (o : Option Lease). is_some o) machine-out) none
 
   -- what is kept after a start that ran
   module _ (d : Finished) (e : d.journal ≡ and_entries p.journal (adds_of p.out)) (h : HasRun d) (asked : QuestionsView) (tree : TreeView) (log : LogView) (a : asked ≡ settled_with (first_empty log.lines) (concluded_by (revision_of p.out) d.verdict d.model q.asked)) (t : tree ≡ one_more_ran (with_placed q.tree i (ran_home p))) (ls : log.lines ≡ q.log.lines ++ d.lines) (room : log.chunk_room + 1 ≡ q.log.chunk_room) where
@@ -190,11 +190,11 @@ module _ (q : Parts) (i : ℕ) (k : IsKept q) (is_out : is_some (placed q.tree i
     pub ran-view : (tenant job : List ℕ) → viewed tenant job r ≡ and_own (viewed tenant job q) (own.Finished i Ran)
     ran-view tenant job = ap (λ (y : Parts). viewed tenant job y) same ∙ view-same tenant job q.tree.number q.tree.number (state_of (after_run log.chunk_room)) (solo_step s (own.Finished i Ran)) (starts_of (slice_set q.tree.places i (ran_home p))) (starts_of q.tree.places) refl (sym (run-step log.chunk_room)) (starts-same q.tree.places i (fresh_place 0 0) (ran_home p) low refl)
 
-    pub ran-kept : IsAsked asked → IsTree tree → IsKept r
+    pub ran-kept : IsAsked asked → IsTree tree → JobInvariant r
     ran-kept ha ht =
         let places : places_of tree.places ≡ places_of (slice_set q.tree.places i (ran_home p)) = ap (λ (y : TreeView). places_of y.places) t in
-        let runs : runs_of (places_of tree.places) ≡ runs_of (places_of q.tree.places) + runs_in l.adds = ap (λ (ps : List Place). runs_of ps) places ∙ more-runs in
-        let less : starts_out (places_of tree.places) + 1 ≡ starts_out (places_of q.tree.places) = ap (λ (ps : List Place). starts_out ps + 1) places ∙ outs (ran_home p) refl in
+        let runs : runs_of (places_of tree.places) ≡ runs_of (places_of q.tree.places) + runs_in l.adds = ap (λ (ps : List NodeSlot). runs_of ps) places ∙ more-runs in
+        let less : starts_out (places_of tree.places) + 1 ≡ starts_out (places_of q.tree.places) = ap (λ (ps : List NodeSlot). starts_out ps + 1) places ∙ outs (ran_home p) refl in
         let long : length log.lines ≡ length q.log.lines + length x.lines = ap (λ (ys : List Line). length ys) lines-all ∙ length-append q.log.lines x.lines in
         let count : tree.ran ≡ q.tree.ran + 1 = ap (λ (y : TreeView). y.ran) t in
         record {
@@ -217,11 +217,11 @@ module _ (q : Parts) (i : ℕ) (k : IsKept q) (is_out : is_some (placed q.tree i
     pub home-view : (tenant job : List ℕ) → viewed tenant job home ≡ and_own (viewed tenant job q) (own.Finished i o)
     home-view tenant job = view-same tenant job tree.number q.tree.number (state_of home) (solo_step s (own.Finished i o)) (starts_of tree.places) (starts_of q.tree.places) (ap (λ (y : TreeView). y.number) t) (sym home-state) (ap (λ (y : TreeView). starts_of y.places) t ∙ starts-same q.tree.places i (fresh_place 0 0) (came_home p) low refl)
 
-    pub home-kept : IsAsked asked → IsTree tree → IsKept home
+    pub home-kept : IsAsked asked → IsTree tree → JobInvariant home
     home-kept ha ht =
         let places : places_of tree.places ≡ places_of (slice_set q.tree.places i (came_home p)) = ap (λ (y : TreeView). places_of y.places) t in
-        let runs : runs_of (places_of tree.places) ≡ runs_of (places_of q.tree.places) = ap (λ (ps : List Place). runs_of ps) (places ∙ sym (set-placed q.tree.places i (came_home p) low)) ∙ runs-same (places_of q.tree.places) i (place_of (came_home p)) (ap (λ (y : Place). y.entries) (sym here)) in
-        let less : starts_out (places_of tree.places) + 1 ≡ starts_out (places_of q.tree.places) = ap (λ (ps : List Place). starts_out ps + 1) places ∙ outs (came_home p) refl in
+        let runs : runs_of (places_of tree.places) ≡ runs_of (places_of q.tree.places) = ap (λ (ps : List NodeSlot). runs_of ps) (places ∙ sym (set-placed q.tree.places i (came_home p) low)) ∙ runs-same (places_of q.tree.places) i (place_of (came_home p)) (ap (λ (y : NodeSlot). y.entries) (sym here)) in
+        let less : starts_out (places_of tree.places) + 1 ≡ starts_out (places_of q.tree.places) = ap (λ (ps : List NodeSlot). starts_out ps + 1) places ∙ outs (came_home p) refl in
         let count : tree.ran ≡ q.tree.ran = ap (λ (y : TreeView). y.ran) t in
         record {
           own = own-next s (state_of home) (own.Finished i o) k.own tt refl home-state;

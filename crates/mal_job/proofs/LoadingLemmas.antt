@@ -1,7 +1,7 @@
 -- What a start loads.
 use Rattle.std.proofs.Common.{◌≡◌, ℕ, ◌+◌, ◌≤◌, List, [], ◌∷◌, ◌++◌, length, take, drop, refl, ap, arith, take-add}
 use Rattle.std.proofs.lemmas.List.Sums.{sum_by-take-le}
-use Rattle.spec_job.specs.Solo.{clauses_in}
+use Rattle.spec_job.specs.SoloMachine.{clauses_in}
 use Rattle.spec_job.proofs.LoadedLemmas.{clauses_in-append}
 use Rattle.mal_revision.specs.Posted.{Posted}
 use Rattle.spec_job.specs.Journal.{JournalEntry, Load, loads_of}

@@ -3,8 +3,8 @@ use Rattle.std.proofs.Common.{true, false, cond, ◌==◌, Bool, ◌≡◌, ℕ,
 use Rattle.std.specs.Option.{option_map, option_or}
 use Rattle.std.proofs.lemmas.Option.{slice_get-get_or}
 use Rattle.std.proofs.lemmas.Bool.{ne_eqb, eq-eqb}
-use Rattle.mal_base.specs.Held.{Line}
-use Rattle.spec_job.specs.Solo.{first_empty}
+use Rattle.mal_base.specs.NumberedClause.{Line}
+use Rattle.spec_job.specs.SoloMachine.{first_empty}
 
 -- a list from a place on
 pub from-place : (xs : List Line) (n : ℕ) (d : Line) → n < length xs → drop n xs ≡ get_or xs n d ∷ drop (suc n) xs

@@ -1,13 +1,13 @@
 -- The parts of a job and its view: the journals of its nodes, and places that are made.
 use Rattle.std.proofs.Common.{◌≡◌, ℕ, zero, suc, ◌+◌, ◌-◌, ◌*◌, ◌<◌, ◌≤◌, true, List, [], ◌∷◌, ◌++◌, length, map, replicate, get_or, Option, Some, None, refl, sym, ◌∙◌, ap, subst, arith}
 use Rattle.std.specs.Prelude.{Result, Ok, Err, OnOk, OnErr, IfOk, slice_set}
-use Rattle.mal_base.specs.Held.{Held, Line}
+use Rattle.mal_base.specs.NumberedClause.{NumberedClause, Line}
 use Rattle.spec_job.specs.Counts.{runs_of, starts_out}
 use Rattle.spec_job.specs.Journal.{JournalEntry}
 use Rattle.spec_job.specs.Journaled.{Journaled}
-use Rattle.spec_job.specs.Solo.{Place, Solo, place_at}
+use Rattle.spec_job.specs.SoloMachine.{NodeSlot, SoloMachine, place_at}
 use Rattle.spec_job.specs.Viewed.{JobView, journal_at}
-use Rattle.mal_job.specs.Kept.{IsOwn, IsKept}
+use Rattle.mal_job.specs.JobInvariant.{IsOwn, JobInvariant}
 use Rattle.mal_job.specs.Placing.{IsGrown, IsTree, placed, fresh_place}
 use Rattle.mal_job.specs.Viewed.{PlaceView, TreeView, LogView, Parts, place_of, places_of, starts_of, state_of, viewed}
 use Rattle.mal_job.proofs.PlaceLemmas.{placed-at, own-at, grown-places, grown-starts}
@@ -69,14 +69,14 @@ journal-parts j job index start entries a b c d = rw (a, b, c, d) refl
 pub journal-same : (tenant job : List ℕ) (q : Parts) (i : ℕ) → i < length q.tree.places → IsTree q.tree → journal_at (viewed tenant job q) i ≡ (placed q.tree i).journal
 journal-same tenant job q i low k =
     let own = own-at q.tree.number q.tree.places 0 i (fresh_place 0 0) low k.own in
-    journal-parts (placed q.tree i).journal q.tree.number i (get_or (starts_of q.tree.places) i 0) (place_at (state_of q) i).entries (sym own.0) (sym (own.1 ∙ omega arith)) (starts-front q.tree.places (replicate (64 - length q.tree.places) 0) i (fresh_place 0 0) low) (ap (λ (p : Place). p.entries) (placed-at q.tree.places i (fresh_place 0 0) low))
+    journal-parts (placed q.tree i).journal q.tree.number i (get_or (starts_of q.tree.places) i 0) (place_at (state_of q) i).entries (sym own.0) (sym (own.1 ∙ omega arith)) (starts-front q.tree.places (replicate (64 - length q.tree.places) 0) i (fresh_place 0 0) low) (ap (λ (p : NodeSlot). p.entries) (placed-at q.tree.places i (fresh_place 0 0) low))
 
 -- a view of parts
-abbrev pub view_of : List ℕ → List ℕ → ℕ → Solo → List ℕ → JobView
+abbrev pub view_of : List ℕ → List ℕ → ℕ → SoloMachine → List ℕ → JobView
 view_of tenant job number s starts = record { number = number; titled = record { key = record { tenant = tenant; job = job }; state = s }; starts = starts }
 
-pub view-same : (tenant job : List ℕ) (number other : ℕ) (s t : Solo) (starts others : List ℕ) → number ≡ other → s ≡ t → starts ≡ others → view_of tenant job number s starts ≡ view_of tenant job other t others
-view-same tenant job number other s t starts others a b c = ap (λ (n : ℕ). view_of tenant job n s starts) a ∙ (ap (λ (x : Solo). view_of tenant job other x starts) b ∙ ap (λ (ns : List ℕ). view_of tenant job other t ns) c)
+pub view-same : (tenant job : List ℕ) (number other : ℕ) (s t : SoloMachine) (starts others : List ℕ) → number ≡ other → s ≡ t → starts ≡ others → view_of tenant job number s starts ≡ view_of tenant job other t others
+view-same tenant job number other s t starts others a b c = ap (λ (n : ℕ). view_of tenant job n s starts) a ∙ (ap (λ (x : SoloMachine). view_of tenant job other x starts) b ∙ ap (λ (ns : List ℕ). view_of tenant job other t ns) c)
 
 -- places that are made, and more room for chunks
 module _ (q : Parts) (t : TreeView) (l : LogView) (g : IsGrown q.tree.number q.tree.places t.places) (rest : (let x : TreeView = record t { places = [] } in x) ≡ record q.tree { places = [] }) (h : IsTree t) (lines : l.lines ≡ q.log.lines) (room : q.log.chunk_room ≤ l.chunk_room) where
@@ -94,21 +94,21 @@ module _ (q : Parts) (t : TreeView) (l : LogView) (g : IsGrown q.tree.number q.t
       parts-same : places_of t.places ≡ places_of q.tree.places → t.volume ≡ q.tree.volume → t.broadcasts ≡ q.tree.broadcasts → t.ran ≡ q.tree.ran → state_of grown ≡ state_of q
       parts-same a b c d = by_parts (places_of t.places) t.volume t.broadcasts t.ran l.lines a b c d lines
         where
-          by_parts : (ps : List Place) (v : ℕ) (ts : List (List Held)) (n : ℕ) (ls : List Line) → ps ≡ places_of q.tree.places → v ≡ q.tree.volume → ts ≡ q.tree.broadcasts → n ≡ q.tree.ran → ls ≡ q.log.lines → (let s : Solo = record (state_of q) { places = ps; volume = v; broadcasts = ts; ran = n; log = ls } in s) ≡ state_of q
+          by_parts : (ps : List NodeSlot) (v : ℕ) (ts : List (List NumberedClause)) (n : ℕ) (ls : List Line) → ps ≡ places_of q.tree.places → v ≡ q.tree.volume → ts ≡ q.tree.broadcasts → n ≡ q.tree.ran → ls ≡ q.log.lines → (let s : SoloMachine = record (state_of q) { places = ps; volume = v; broadcasts = ts; ran = n; log = ls } in s) ≡ state_of q
           by_parts ps v ts n ls a b c d e = rw (a, b, c, d, e) refl
 
   pub grown-view : (tenant job : List ℕ) → viewed tenant job grown ≡ viewed tenant job q
   grown-view tenant job = view-same tenant job t.number q.tree.number (state_of grown) (state_of q) (starts_of t.places) (starts_of q.tree.places) (ap (λ (x : TreeView). x.number) rest) grown-state (grown-starts q.tree.number q.tree.places t.places g h.few)
 
-  pub grown-kept : IsKept q → IsKept grown
+  pub grown-kept : JobInvariant q → JobInvariant grown
   grown-kept k =
       let ran : t.ran ≡ q.tree.ran = ap (λ (x : TreeView). x.ran) rest in
-      let places : places_of t.places ≡ places_of q.tree.places = ap (λ (s : Solo). s.places) grown-state in
+      let places : places_of t.places ≡ places_of q.tree.places = ap (λ (s : SoloMachine). s.places) grown-state in
       record {
         own = subst IsOwn (sym grown-state) k.own;
         asked = k.asked;
         tree = h;
-        ran = subst (λ (ps : List Place). t.ran ≤ runs_of ps) (sym places) (omega (arith, ran, k.ran));
-        few_lines = subst (λ (ps : List Place). length l.lines ≤ runs_of ps * 1000) (sym places) (subst (λ (ls : List Line). length ls ≤ runs_of (places_of q.tree.places) * 1000) (sym lines) k.few_lines);
-        chunks = subst (λ (ps : List Place). starts_out ps ≤ l.chunk_room) (sym places) (omega (arith, k.chunks, room));
+        ran = subst (λ (ps : List NodeSlot). t.ran ≤ runs_of ps) (sym places) (omega (arith, ran, k.ran));
+        few_lines = subst (λ (ps : List NodeSlot). length l.lines ≤ runs_of ps * 1000) (sym places) (subst (λ (ls : List Line). length ls ≤ runs_of (places_of q.tree.places) * 1000) (sym lines) k.few_lines);
+        chunks = subst (λ (ps : List NodeSlot). starts_out ps ≤ l.chunk_room) (sym places) (omega (arith, k.chunks, room));
       }

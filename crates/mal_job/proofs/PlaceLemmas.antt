@@ -7,7 +7,7 @@ use Rattle.std.proofs.lemmas.List.Sums.{sum_by-cons}
 use Rattle.spec_job.proofs.AgreeLemmas.{le-or_lt}
 use Rattle.spec_job.specs.Counts.{runs_in, runs_of, starts_out}
 use Rattle.spec_job.specs.Journaled.{Journaled}
-use Rattle.spec_job.specs.Solo.{Place, Lease, vacant, Solo, place_at, is_live, startable}
+use Rattle.spec_job.specs.SoloMachine.{NodeSlot, Lease, vacant, SoloMachine, place_at, is_live, startable}
 use Rattle.mal_job.specs.Viewed.{PlaceView, place_of, filled, places_of, starts_of}
 use Rattle.mal_job.specs.Placing.{fresh_place, fresh_from, IsGrown, AreOwn}
 
@@ -23,10 +23,10 @@ length-set [] i x = refl
 length-set (y ∷ ys) zero x = refl
 length-set (y ∷ ys) (suc i) x = ap (λ (n : ℕ). suc n) (length-set ys i x)
 
-set-front : (ps : List PlaceView) (rest : List Place) (i : ℕ) (p : PlaceView) → i < length ps → slice_set (map place_of ps ++ rest) i (place_of p) ≡ map place_of (slice_set ps i p) ++ rest
+set-front : (ps : List PlaceView) (rest : List NodeSlot) (i : ℕ) (p : PlaceView) → i < length ps → slice_set (map place_of ps ++ rest) i (place_of p) ≡ map place_of (slice_set ps i p) ++ rest
 set-front [] rest i p low = absurd (omega arith)
 set-front (x ∷ xs) rest zero p low = refl
-set-front (x ∷ xs) rest (suc i) p low = ap (λ (ys : List Place). place_of x ∷ ys) (set-front xs rest i p (omega arith))
+set-front (x ∷ xs) rest (suc i) p low = ap (λ (ys : List NodeSlot). place_of x ∷ ys) (set-front xs rest i p (omega arith))
 
 -- a place that is set
 pub set-placed : (ps : List PlaceView) (i : ℕ) (p : PlaceView) → i < length ps → slice_set (places_of ps) i (place_of p) ≡ places_of (slice_set ps i p)
@@ -37,7 +37,7 @@ set-placed ps i p low =
     set-front ps (replicate (64 - length (map place_of ps)) vacant) i p low ∙ ap (λ (n : ℕ). map place_of (slice_set ps i p) ++ replicate (64 - n) vacant) same
 
 -- the place at an index
-placed-front : (ps : List PlaceView) (rest : List Place) (i : ℕ) (d : PlaceView) → i < length ps → get_or (map place_of ps ++ rest) i vacant ≡ place_of (get_or ps i d)
+placed-front : (ps : List PlaceView) (rest : List NodeSlot) (i : ℕ) (d : PlaceView) → i < length ps → get_or (map place_of ps ++ rest) i vacant ≡ place_of (get_or ps i d)
 placed-front [] rest i d low = absurd (omega arith)
 placed-front (x ∷ xs) rest zero d low = refl
 placed-front (x ∷ xs) rest (suc i) d low = placed-front xs rest i d (omega arith)
@@ -94,8 +94,8 @@ pub out-same : (ps : List PlaceView) (i n k : ℕ) → (get_or (places_of ps) i 
 out-same ps i n k = by_test (lt-or_le i (length ps))
   where
     by_test : (i < length ps) ⊎ (length ps ≤ i) → (get_or (places_of ps) i vacant).out ≡ (get_or ps i (fresh_place n k)).out
-    by_test (inl low) = ap (λ (p : Place). p.out) (placed-at ps i (fresh_place n k) low)
-    by_test (inr high) = ap (λ (p : Place). p.out) (placed-behind ps i high) ∙ ap (λ (p : PlaceView). p.out) (sym (get-behind ps i (fresh_place n k) high))
+    by_test (inl low) = ap (λ (p : NodeSlot). p.out) (placed-at ps i (fresh_place n k) low)
+    by_test (inr high) = ap (λ (p : NodeSlot). p.out) (placed-behind ps i high) ∙ ap (λ (p : PlaceView). p.out) (sym (get-behind ps i (fresh_place n k) high))
 
 -- places that are made are vacant
 pub fresh-length : (number k n : ℕ) → length (fresh_from number k n) ≡ n
@@ -104,7 +104,7 @@ fresh-length number k (suc n) = ap (λ (j : ℕ). suc j) (fresh-length number (k
 
 fresh-vacant : (number k n : ℕ) → map place_of (fresh_from number k n) ≡ replicate n vacant
 fresh-vacant number k zero = refl
-fresh-vacant number k (suc n) = ap (λ (ps : List Place). vacant ∷ ps) (fresh-vacant number (k + 1) n)
+fresh-vacant number k (suc n) = ap (λ (ps : List NodeSlot). vacant ∷ ps) (fresh-vacant number (k + 1) n)
 
 fresh-starts : (number k n : ℕ) → map (λ (p : PlaceView). p.journal.start) (fresh_from number k n) ≡ replicate n 0
 fresh-starts number k zero = refl
@@ -115,8 +115,8 @@ repeated x zero m = let same : m ≡ 0 + m = omega arith in ap (λ (n : ℕ). re
 repeated x (suc j) m = let same : suc (j + m) ≡ suc j + m = omega arith in ap (λ (ps : List _). x ∷ ps) (repeated x j m) ∙ ap (λ (n : ℕ). replicate n x) same
 
 grown-front : (number : ℕ) (ps : List PlaceView) (k n m : ℕ) → map place_of (ps ++ fresh_from number k n) ++ replicate m vacant ≡ map place_of ps ++ replicate (n + m) vacant
-grown-front number [] k n m = ap (λ (xs : List Place). xs ++ replicate m vacant) (fresh-vacant number k n) ∙ repeated vacant n m
-grown-front number (x ∷ xs) k n m = ap (λ (ys : List Place). place_of x ∷ ys) (grown-front number xs k n m)
+grown-front number [] k n m = ap (λ (xs : List NodeSlot). xs ++ replicate m vacant) (fresh-vacant number k n) ∙ repeated vacant n m
+grown-front number (x ∷ xs) k n m = ap (λ (ys : List NodeSlot). place_of x ∷ ys) (grown-front number xs k n m)
 
 grown-rear : (number : ℕ) (ps : List PlaceView) (k n m : ℕ) → map (λ (p : PlaceView). p.journal.start) (ps ++ fresh_from number k n) ++ replicate m 0 ≡ map (λ (p : PlaceView). p.journal.start) ps ++ replicate (n + m) 0
 grown-rear number [] k n m = ap (λ (xs : List ℕ). xs ++ replicate m 0) (fresh-starts number k n) ∙ repeated 0 n m
@@ -184,10 +184,10 @@ pub grown-own : (number : ℕ) (ps qs : List PlaceView) → IsGrown number ps qs
 grown-own number ps qs (n, e) all = let same : length ps ≡ 0 + length ps = omega arith in subst (λ (xs : List PlaceView). AreOwn number 0 xs) (sym e) (append-own number ps 0 (length ps) n same all)
 
 -- a place has run no more slices than all
-runs-cons : (p : Place) (ps : List Place) → runs_of (p ∷ ps) ≡ runs_in p.entries + runs_of ps
-runs-cons p ps = sum_by-cons (λ (x : Place). runs_in x.entries) p ps
+runs-cons : (p : NodeSlot) (ps : List NodeSlot) → runs_of (p ∷ ps) ≡ runs_in p.entries + runs_of ps
+runs-cons p ps = sum_by-cons (λ (x : NodeSlot). runs_in x.entries) p ps
 
-pub runs-least : (ps : List Place) (i : ℕ) → i < length ps → runs_in (get_or ps i vacant).entries ≤ runs_of ps
+pub runs-least : (ps : List NodeSlot) (i : ℕ) → i < length ps → runs_in (get_or ps i vacant).entries ≤ runs_of ps
 runs-least [] i low = absurd (omega arith)
 runs-least (p ∷ ps) zero low = let cons : runs_of (p ∷ ps) ≡ runs_in p.entries + runs_of ps = runs-cons p ps in omega arith
 runs-least (p ∷ ps) (suc i) low =

@@ -3,7 +3,7 @@ use Rattle.std.proofs.Common.{◌≡◌, ℕ, ◌+◌, ◌-◌, ◌*◌, ◌<◌
 use Rattle.std.specs.Prelude.{Result, Ok, Err, IfOk, slice_set, is_none, is_some}
 use Rattle.std.proofs.lemmas.Bool.{and_parts}
 use Rattle.std.proofs.lemmas.List.Sums.{fold-append}
-use Rattle.mal_base.specs.Held.{Held}
+use Rattle.mal_base.specs.NumberedClause.{NumberedClause}
 use Rattle.mal_revision.specs.Posted.{Posted}
 use Rattle.spec_node.specs.State.{Node}
 use Rattle.spec_exchange.specs.Exchange.{broadcast}
@@ -13,8 +13,8 @@ use Rattle.spec_job.specs.Following.{MayAllFollow}
 use Rattle.spec_job.specs.Journal.{JournalEntry, Load, Import, Run, after_entry, replay, loads_in, loads_of, imports_in}
 use Rattle.spec_job.specs.Journaled.{Journaled, replayed, started}
 use Rattle.spec_job.specs.Leased.{Leased}
-use Rattle.spec_job.specs.Solo.{Opened, Place, Lease, Solo, solo, solo_step, place_at, vacant, startable, is_live, clauses_in, missing_loads, missing_imports, exports_from, marked_from}
-use Rattle.spec_job.specs.Solo as own
+use Rattle.spec_job.specs.SoloMachine.{Opened, NodeSlot, Lease, SoloMachine, solo, solo_step, place_at, vacant, startable, is_live, clauses_in, missing_loads, missing_imports, exports_from, marked_from}
+use Rattle.spec_job.specs.SoloMachine as own
 use Rattle.spec_job.specs.Viewed.{JobView, IsLeaseOf, and_own, and_start, journal_at}
 use Rattle.spec_job.proofs.CountLemmas.{runs-same, runs-marked}
 use Rattle.spec_job.proofs.CountingLemmas.{replays-count}
@@ -25,7 +25,7 @@ use Rattle.mal_cdcl.specs.Sliced.{HasLowCounts}
 use Rattle.mal_suspend.specs.Replaying.{MayReplay, MayAllReplay}
 use Rattle.mal_suspend.specs.Starting.{load_entries, import_entries, start_entries}
 use Rattle.mal_job.specs.Exports.{marked}
-use Rattle.mal_job.specs.Kept.{IsOwn, IsKept}
+use Rattle.mal_job.specs.JobInvariant.{IsOwn, JobInvariant}
 use Rattle.mal_job.specs.Loads.{paired, lacking}
 use Rattle.mal_job.specs.Placing.{IsTree, placed, with_placed, sent, fresh_place}
 use Rattle.mal_job.specs.Viewed.{PlaceView, TreeView, LogView, QuestionsView, Parts, place_of, places_of, starts_of, state_of, viewed}
@@ -41,16 +41,16 @@ none-is None e = refl
 none-is (Some l) e = absurd (cc)
 
 -- entries that may follow may be replayed where they end with the one slice of a node with low counts
-may-imports : (tolds : List (List Held)) (s : Sliced) → MayAllFollow s (map Import tolds ++ Run ∷ []) → HasLowCounts (fold after_entry s (map Import tolds)).node → MayAllReplay s (map Import tolds ++ Run ∷ [])
+may-imports : (tolds : List (List NumberedClause)) (s : Sliced) → MayAllFollow s (map Import tolds ++ Run ∷ []) → HasLowCounts (fold after_entry s (map Import tolds)).node → MayAllReplay s (map Import tolds ++ Run ∷ [])
 may-imports [] s h low = (record { follows = h.0; low = low }, tt)
 may-imports (t ∷ ts) s h low = (record { follows = h.0; low = tt }, may-imports ts (after_entry s (Import t)) h.1 low)
 
-may-loads : (rs : List Posted) (first : ℕ) (tolds : List (List Held)) (s : Sliced) → MayAllFollow s (loads_of first rs ++ (map Import tolds ++ Run ∷ [])) → HasLowCounts (fold after_entry s (loads_of first rs ++ map Import tolds)).node → MayAllReplay s (loads_of first rs ++ (map Import tolds ++ Run ∷ []))
+may-loads : (rs : List Posted) (first : ℕ) (tolds : List (List NumberedClause)) (s : Sliced) → MayAllFollow s (loads_of first rs ++ (map Import tolds ++ Run ∷ [])) → HasLowCounts (fold after_entry s (loads_of first rs ++ map Import tolds)).node → MayAllReplay s (loads_of first rs ++ (map Import tolds ++ Run ∷ []))
 may-loads [] first tolds s h low = may-imports tolds s h low
 may-loads (r ∷ rs) first tolds s h low = (record { follows = h.0; low = tt }, may-loads rs (first + length r.clauses) tolds (after_entry s (Load r first)) h.1 low)
 
-module _ (q : Parts) (i : ℕ) (k : IsKept q) (may : startable (state_of q) i ≡ true) (low : i < length q.tree.places) where
-  abbrev s : Solo
+module _ (q : Parts) (i : ℕ) (k : JobInvariant q) (may : startable (state_of q) i ≡ true) (low : i < length q.tree.places) where
+  abbrev s : SoloMachine
   s = state_of q
 
   abbrev p : PlaceView
@@ -59,7 +59,7 @@ module _ (q : Parts) (i : ℕ) (k : IsKept q) (may : startable (state_of q) i �
   abbrev n : ℕ
   n = loads_in p.journal.entries
 
-  abbrev tolds : List (List Held)
+  abbrev tolds : List (List NumberedClause)
   tolds = drop (imports_in p.journal.entries) q.tree.broadcasts
 
   there : i < length (places_of q.tree.places)
@@ -81,13 +81,13 @@ module _ (q : Parts) (i : ℕ) (k : IsKept q) (may : startable (state_of q) i �
   home = sym (out-same q.tree.places i 0 0) ∙ machine-home
 
   pub early : n ≤ length q.asked.answers + 1
-  early = subst (λ (y : Place). loads_in y.entries ≤ length q.asked.answers + 1) here ((own-kept s k.own).solving.ready i few).early
+  early = subst (λ (y : NodeSlot). loads_in y.entries ≤ length q.asked.answers + 1) here ((own-kept s k.own).solving.ready i few).early
 
   -- what the start adds
   adds-is : start_entries (lacking n q.asked) tolds ≡ own.start_entries s (place_at s i)
   adds-is =
       ap (λ (es : List JournalEntry). es ++ (import_entries tolds ++ Run ∷ [])) (paired-entries (take (length q.asked.answers + 1 - n) (drop n q.asked.revisions)) (clauses_in (take n q.asked.revisions) + 1))
-      ∙ ap (λ (y : Place). own.start_entries s y) (sym here)
+      ∙ ap (λ (y : NodeSlot). own.start_entries s y) (sym here)
 
   pub adds-by : (ls : List (Posted × ℕ)) → ls ≡ lacking n q.asked → start_entries ls tolds ≡ own.start_entries s (place_at s i)
   adds-by ls e = ap (λ (xs : List (Posted × ℕ)). start_entries xs tolds) e ∙ adds-is
@@ -95,24 +95,24 @@ module _ (q : Parts) (i : ℕ) (k : IsKept q) (may : startable (state_of q) i �
   -- it may be replayed
   counted : HasCounts (runs_of (places_of q.tree.places)) (runs_in p.journal.entries) (replay i (p.journal.entries ++ (missing_loads s (place_of p) ++ missing_imports s (place_of p)))).node
   counted =
-      let all : PlaceCounts s i (place_at s i) = subst (λ (y : Solo). PlaceCounts y i (place_at y i)) (sym k.own.is) (replays-count (Opened k.own.ask ∷ k.own.own) i few) in
-      subst (λ (y : Place). HasCounts (runs_of (places_of q.tree.places)) (runs_in y.entries) (replay i (y.entries ++ (missing_loads s y ++ missing_imports s y))).node) here all.ready
+      let all : PlaceCounts s i (place_at s i) = subst (λ (y : SoloMachine). PlaceCounts y i (place_at y i)) (sym k.own.is) (replays-count (Opened k.own.ask ∷ k.own.own) i few) in
+      subst (λ (y : NodeSlot). HasCounts (runs_of (places_of q.tree.places)) (runs_in y.entries) (replay i (y.entries ++ (missing_loads s y ++ missing_imports s y))).node) here all.ready
 
   low-counts : HasLowCounts (fold after_entry (replay i p.journal.entries) (missing_loads s (place_of p) ++ missing_imports s (place_of p))).node
   low-counts =
       let few-all : runs_of (places_of q.tree.places) + starts_out (places_of q.tree.places) ≤ 1052672 = few-runs q k.own k.asked in
-      let some : runs_in p.journal.entries ≤ runs_of (places_of q.tree.places) = subst (λ (y : Place). runs_in y.entries ≤ runs_of (places_of q.tree.places)) here (runs-least (places_of q.tree.places) i there) in
+      let some : runs_in p.journal.entries ≤ runs_of (places_of q.tree.places) = subst (λ (y : NodeSlot). runs_in y.entries ≤ runs_of (places_of q.tree.places)) here (runs-least (places_of q.tree.places) i there) in
       let h : HasCounts (runs_of (places_of q.tree.places)) (runs_in p.journal.entries) (fold after_entry (replay i p.journal.entries) (missing_loads s (place_of p) ++ missing_imports s (place_of p))).node = subst (λ (y : Sliced). HasCounts (runs_of (places_of q.tree.places)) (runs_in p.journal.entries) y.node) (fold-append after_entry (replay i []) p.journal.entries (missing_loads s (place_of p) ++ missing_imports s (place_of p))) counted in
-      record { since = omega (arith, h.since, few-all, some); round = omega (arith, h.round, few-all, some); serial = omega (arith, h.serial, few-all) }
+      record { conflicts_since_restart = omega (arith, h.conflicts_since_restart, few-all, some); restart_number = omega (arith, h.restart_number, few-all, some); serial = omega (arith, h.serial, few-all) }
 
   follows : MayAllFollow (replay i p.journal.entries) (missing_loads s (place_of p) ++ (map Import tolds ++ Run ∷ []))
-  follows = subst (λ (y : Place). MayAllFollow (replay i y.entries) (own.start_entries s y)) here (start-follows s i few live (own-kept s k.own).solving (own-kept s k.own).calm (own-kept s k.own).derives)
+  follows = subst (λ (y : NodeSlot). MayAllFollow (replay i y.entries) (own.start_entries s y)) here (start-follows s i few live (own-kept s k.own).solving (own-kept s k.own).calm (own-kept s k.own).derives)
 
   pub replays : (ls : List (Posted × ℕ)) → ls ≡ lacking n q.asked → MayAllReplay (replayed p.journal) (start_entries ls tolds)
   replays ls e =
       let own-index : p.journal.index ≡ i = (own-at q.tree.number q.tree.places 0 i (fresh_place 0 0) low k.tree.own).1 ∙ omega arith in
       let all : MayAllReplay (replay i p.journal.entries) (own.start_entries s (place_of p)) = may-loads (take (length q.asked.answers + 1 - n) (drop n q.asked.revisions)) (clauses_in (take n q.asked.revisions) + 1) tolds (replay i p.journal.entries) follows low-counts in
-      let same : own.start_entries s (place_of p) ≡ start_entries ls tolds = ap (λ (y : Place). own.start_entries s y) (sym here) ∙ sym (adds-by ls e) in
+      let same : own.start_entries s (place_of p) ≡ start_entries ls tolds = ap (λ (y : NodeSlot). own.start_entries s y) (sym here) ∙ sym (adds-by ls e) in
       subst (λ (m : ℕ). MayAllReplay (replay m p.journal.entries) (start_entries ls tolds)) (sym own-index) (subst (λ (es : List JournalEntry). MayAllReplay (replay i p.journal.entries) es) same all)
 
   -- the job after the start
@@ -129,11 +129,11 @@ module _ (q : Parts) (i : ℕ) (k : IsKept q) (may : startable (state_of q) i �
     pub start-view : (tenant job : List ℕ) → viewed tenant job next ≡ and_start (viewed tenant job q) i start
     start-view tenant job = view-same tenant job q.tree.number q.tree.number (state_of next) (solo_step s (own.Started i)) (starts_of gone.places) (slice_set (starts_of q.tree.places) i start) refl (sym step) (starts-set q.tree.places i (sent (length q.asked.answers) (start_entries ls tolds) start p) low)
 
-    pub start-kept : IsTree gone → starts_out (places_of q.tree.places) + 1 ≤ q.log.chunk_room → IsKept next
+    pub start-kept : IsTree gone → starts_out (places_of q.tree.places) + 1 ≤ q.log.chunk_room → JobInvariant next
     start-kept ht room =
         let new : PlaceView = sent (length q.asked.answers) (start_entries ls tolds) start p in
-        let runs : runs_of (places_of gone.places) ≡ runs_of (places_of q.tree.places) = ap (λ (ps : List Place). runs_of ps) (sym (set-placed q.tree.places i new low)) ∙ runs-same (places_of q.tree.places) i (place_of new) (ap (λ (y : Place). y.entries) (sym here)) in
-        let more : starts_out (places_of gone.places) ≡ starts_out (places_of q.tree.places) + 1 = ap (λ (ps : List Place). starts_out ps) (sym (set-placed q.tree.places i new low)) ∙ outs-more (places_of q.tree.places) i (place_of new) there machine-home refl in
+        let runs : runs_of (places_of gone.places) ≡ runs_of (places_of q.tree.places) = ap (λ (ps : List NodeSlot). runs_of ps) (sym (set-placed q.tree.places i new low)) ∙ runs-same (places_of q.tree.places) i (place_of new) (ap (λ (y : NodeSlot). y.entries) (sym here)) in
+        let more : starts_out (places_of gone.places) ≡ starts_out (places_of q.tree.places) + 1 = ap (λ (ps : List NodeSlot). starts_out ps) (sym (set-placed q.tree.places i new low)) ∙ outs-more (places_of q.tree.places) i (place_of new) there machine-home refl in
         record {
           own = own-next s (state_of next) (own.Started i) k.own may refl step;
           asked = k.asked;
@@ -155,7 +155,7 @@ module _ (q : Parts) (i : ℕ) (k : IsKept q) (may : startable (state_of q) i �
     lease-is tenant job worker (Err x) ht a b c = tt
 
 -- an exchange
-module _ (q : Parts) (k : IsKept q) (wide : q.tree.volume ≤ length q.tree.places) where
+module _ (q : Parts) (k : JobInvariant q) (wide : q.tree.volume ≤ length q.tree.places) where
   abbrev pub told : TreeView
   told = record q.tree { broadcasts = q.tree.broadcasts ++ broadcast (exports_from q.tree.volume q.log.lines 0 (places_of q.tree.places)) ∷ []; places = marked q.tree.volume (length q.log.lines) q.tree.places; ran = 0 }
 
@@ -163,15 +163,15 @@ module _ (q : Parts) (k : IsKept q) (wide : q.tree.volume ≤ length q.tree.plac
   exchange-places = places-marked q.tree.volume (length q.log.lines) q.tree.places wide
 
   exchange-step : solo_step (state_of q) own.Exchanged ≡ state_of (record q { tree = told })
-  exchange-step = ap (λ (ps : List Place). let t : Solo = record (state_of q) { broadcasts = told.broadcasts; places = ps; ran = 0 } in t) exchange-places
+  exchange-step = ap (λ (ps : List NodeSlot). let t : SoloMachine = record (state_of q) { broadcasts = told.broadcasts; places = ps; ran = 0 } in t) exchange-places
 
   pub exchange-view : (tenant job : List ℕ) → viewed tenant job (record q { tree = told }) ≡ and_own (viewed tenant job q) own.Exchanged
   exchange-view tenant job = view-same tenant job q.tree.number q.tree.number (state_of (record q { tree = told })) (solo_step (state_of q) own.Exchanged) (starts_of told.places) (starts_of q.tree.places) refl (sym exchange-step) (starts-marked q.tree.volume (length q.log.lines) q.tree.places)
 
-  pub exchange-kept : IsTree told → IsKept (record q { tree = told })
+  pub exchange-kept : IsTree told → JobInvariant (record q { tree = told })
   exchange-kept ht =
-      let runs : runs_of (places_of told.places) ≡ runs_of (places_of q.tree.places) = ap (λ (ps : List Place). runs_of ps) (sym exchange-places) ∙ runs-marked q.tree.volume (length q.log.lines) 0 (places_of q.tree.places) in
-      let outs : starts_out (places_of told.places) ≡ starts_out (places_of q.tree.places) = ap (λ (ps : List Place). starts_out ps) (sym exchange-places) ∙ outs-marked q.tree.volume (length q.log.lines) 0 (places_of q.tree.places) in
+      let runs : runs_of (places_of told.places) ≡ runs_of (places_of q.tree.places) = ap (λ (ps : List NodeSlot). runs_of ps) (sym exchange-places) ∙ runs-marked q.tree.volume (length q.log.lines) 0 (places_of q.tree.places) in
+      let outs : starts_out (places_of told.places) ≡ starts_out (places_of q.tree.places) = ap (λ (ps : List NodeSlot). starts_out ps) (sym exchange-places) ∙ outs-marked q.tree.volume (length q.log.lines) 0 (places_of q.tree.places) in
       record {
         own = own-next (state_of q) (state_of (record q { tree = told })) own.Exchanged k.own tt refl exchange-step;
         asked = k.asked;

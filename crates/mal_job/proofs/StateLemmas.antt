@@ -1,6 +1,6 @@
 -- A job's machine after each event of its own, by its parts.
 use Rattle.std.proofs.Common.{◌≡◌, ℕ, ◌+◌, ◌<◌, Bool, true, false, cond, ◌==◌, nat_lt, List, ◌++◌, length, Option, Some, None, refl, sym, ◌∙◌, ap}
-use Rattle.mal_base.specs.Held.{Line}
+use Rattle.mal_base.specs.NumberedClause.{Line}
 use Rattle.mal_base.specs.declared.answer.Answer.TheVariants.{Spent, OutOfStarts}
 use Rattle.mal_base.specs.declared.verdict.Outcome.{Outcome}
 use Rattle.mal_base.specs.declared.verdict.Outcome.TheVariants.{Ran, Starved, Lost}
@@ -10,7 +10,7 @@ use Rattle.spec_node.specs.State.{Node}
 use Rattle.spec_search.specs.Slice.{Sliced}
 use Rattle.spec_job.specs.Journal.{replay}
 use Rattle.spec_job.specs.Leased.{model_with}
-use Rattle.spec_job.specs.Solo.{Started, Finished, Place, Lease, Solo, solo_step, place_at, started, start_entries, with_place, finished, first_empty, settled_by, settled, conclude, spend, starve, answered}
+use Rattle.spec_job.specs.SoloMachine.{Started, Finished, NodeSlot, Lease, SoloMachine, solo_step, place_at, started, start_entries, with_place, finished, first_empty, settled_by, settled, conclude, spend, starve, answered}
 use Rattle.mal_job.specs.Asking.{replied, concluded, concluded_by, starved_once, starved_by, settled_with}
 use Rattle.mal_job.specs.Placing.{placed, with_placed, sent, ran_home, came_home, one_more_ran, fresh_place, adds_of}
 use Rattle.mal_job.specs.Viewed.{PlaceView, TreeView, QuestionsView, LogView, Parts, place_of, places_of, state_of}
@@ -44,12 +44,12 @@ starve-state q = by_test (q.asked.starved + 1 == 3)
 
 -- a place that is set
 pub with-state : (q : Parts) (i : ℕ) (p : PlaceView) → i < length q.tree.places → with_place (state_of q) i (place_of p) ≡ state_of (record q { tree = with_placed q.tree i p })
-with-state q i p low = ap (λ (ps : List Place). let s : Solo = record (state_of q) { places = ps } in s) (set-placed q.tree.places i p low)
+with-state q i p low = ap (λ (ps : List NodeSlot). let s : SoloMachine = record (state_of q) { places = ps } in s) (set-placed q.tree.places i p low)
 
 -- a start
 pub started-state : (q : Parts) (i start : ℕ) → i < length q.tree.places → solo_step (state_of q) (Started i) ≡ state_of (record q { tree = with_placed q.tree i (sent (length q.asked.answers) (start_entries (state_of q) (place_at (state_of q) i)) start (placed q.tree i)) })
 started-state q i start low =
-    ap (λ (p : Place). with_place (state_of q) i (record p { out = Some (record { revision = length q.asked.answers; adds = start_entries (state_of q) (place_at (state_of q) i) }); starts = p.starts + 1 })) (placed-at q.tree.places i (fresh_place 0 0) low)
+    ap (λ (p : NodeSlot). with_place (state_of q) i (record p { out = Some (record { revision = length q.asked.answers; adds = start_entries (state_of q) (place_at (state_of q) i) }); starts = p.starts + 1 })) (placed-at q.tree.places i (fresh_place 0 0) low)
     ∙ with-state q i (sent (length q.asked.answers) (start_entries (state_of q) (place_at (state_of q) i)) start (placed q.tree i)) low
 
 -- the parts of a job whose start ran, with these lines and this verdict, and so much room for chunks
@@ -66,30 +66,30 @@ module _ (q : Parts) (i : ℕ) (l : Lease) (low : i < length q.tree.places) (out
 
   finished-is : (o : Outcome) → finished (state_of q) i (place_at (state_of q) i) (place_at (state_of q) i).out o ≡ finished (state_of q) i (place_of p) (Some l) o
   finished-is o =
-      ap (λ (x : Place). finished (state_of q) i x x.out o) (placed-at q.tree.places i (fresh_place 0 0) low)
+      ap (λ (x : NodeSlot). finished (state_of q) i x x.out o) (placed-at q.tree.places i (fresh_place 0 0) low)
       ∙ ap (λ (x : Option Lease). finished (state_of q) i (place_of p) x o) out
 
   -- the place after a start that ran
   ran-place : (room : ℕ) (x : Sliced) → record (with_place (state_of q) i (record (place_of p) { entries = p.journal.entries ++ l.adds; out = None })) { log = q.log.lines ++ x.lines; ran = q.tree.ran + 1 } ≡ state_of (record { asked = q.asked; tree = one_more_ran (with_placed q.tree i (ran_home p)); log = record { lines = q.log.lines ++ x.lines; chunk_room = room } })
   ran-place room x =
       ap (λ (o : Option Lease). record (with_place (state_of q) i (record (place_of p) { entries = p.journal.entries ++ adds_of o; out = None })) { log = q.log.lines ++ x.lines; ran = q.tree.ran + 1 }) (sym out)
-      ∙ ap (λ (s : Solo). let t : Solo = record s { log = q.log.lines ++ x.lines; ran = q.tree.ran + 1 } in t) (with-state q i (ran_home p) low)
+      ∙ ap (λ (s : SoloMachine). let t : SoloMachine = record s { log = q.log.lines ++ x.lines; ran = q.tree.ran + 1 } in t) (with-state q i (ran_home p) low)
 
   pub ran-state : (room : ℕ) → solo_step (state_of q) (Finished i Ran) ≡ settled (state_of (with_run q i l (replay i (p.journal.entries ++ l.adds)) room))
   ran-state room = finished-is Ran ∙ ap settled (by_test (replay i (p.journal.entries ++ l.adds)) (nat_lt l.revision (length q.asked.answers)))
     where
-      home : Sliced → Solo
+      home : Sliced → SoloMachine
       home x = record (with_place (state_of q) i (record (place_of p) { entries = p.journal.entries ++ l.adds; out = None })) { log = q.log.lines ++ x.lines; ran = q.tree.ran + 1 }
 
       by_test : (x : Sliced) (b : Bool) → cond b (home x) (conclude x.node.verdict x.node (home x)) ≡ state_of (record { asked = cond b q.asked (concluded x.node.verdict (model_with x.node.verdict x.node) q.asked); tree = one_more_ran (with_placed q.tree i (ran_home p)); log = record { lines = q.log.lines ++ x.lines; chunk_room = room } })
       by_test x true = ran-place room x
-      by_test x false = ap (λ (s : Solo). conclude x.node.verdict x.node s) (ran-place room x) ∙ conclude-state x.node.verdict x.node (record { asked = q.asked; tree = one_more_ran (with_placed q.tree i (ran_home p)); log = record { lines = q.log.lines ++ x.lines; chunk_room = room } })
+      by_test x false = ap (λ (s : SoloMachine). conclude x.node.verdict x.node s) (ran-place room x) ∙ conclude-state x.node.verdict x.node (record { asked = q.asked; tree = one_more_ran (with_placed q.tree i (ran_home p)); log = record { lines = q.log.lines ++ x.lines; chunk_room = room } })
 
   -- a start that wanted for memory
   pub starved-state : solo_step (state_of q) (Finished i Starved) ≡ settled (state_of (record q { asked = starved_by l.revision q.asked; tree = with_placed q.tree i (came_home p) }))
   starved-state = finished-is Starved ∙ ap settled (by_test (nat_lt l.revision (length q.asked.answers)))
     where
-      home : Solo
+      home : SoloMachine
       home = with_place (state_of q) i (record (place_of p) { out = None })
 
       by_test : (b : Bool) → cond b home (starve home) ≡ state_of (record q { asked = cond b q.asked (starved_once q.asked); tree = with_placed q.tree i (came_home p) })

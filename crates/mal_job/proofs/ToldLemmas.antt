@@ -4,13 +4,13 @@ use Rattle.std.proofs.lemmas.Option.{slice_get-get_or}
 use Rattle.std.proofs.lemmas.List.{drop_all}
 use Rattle.std.proofs.lemmas.Bool.{ne_eqb}
 use Rattle.std.proofs.lemmas.Bool.Decides.{Decides-eqb}
-use Rattle.mal_base.specs.Held.{Line}
+use Rattle.mal_base.specs.NumberedClause.{Line}
 use Rattle.mal_base.specs.Literals.{negated}
 use Rattle.mal_revision.specs.Posted.{Posted}
 use Rattle.spec_proof.specs.Trimmed.{reached, renumbered}
 use Rattle.spec_report.specs.Replies.{Proof}
 use Rattle.spec_job.specs.Models.{clauses_of}
-use Rattle.spec_job.specs.Solo.{clauses_in}
+use Rattle.spec_job.specs.SoloMachine.{clauses_in}
 use Rattle.spec_job.proofs.LoadedLemmas.{clauses-length}
 use Rattle.spec_job.specs.Proofs.{lits_at, failed, proof_lines}
 use Rattle.mal_job.proofs.LogLemmas.{from-place}

@@ -4,14 +4,14 @@ use Rattle.std.specs.Prelude.{slice_get, slice_set, IsTrue}
 use Rattle.std.specs.Arc.{arc_value}
 use Rattle.std.specs.declared.sync.Arc.{Arc}
 use Rattle.std.proofs.lemmas.List.{map-append, take_all, length-drop}
-use Rattle.mal_base.specs.Held.{Held, Line}
+use Rattle.mal_base.specs.NumberedClause.{NumberedClause, Line}
 use Rattle.mal_base.specs.declared.verdict.Outcome.{Outcome}
 use Rattle.mal_base.specs.declared.verdict.Outcome.TheVariants.{Ran, Starved}
 use Rattle.spec_exchange.specs.Exchange.{broadcast, entries_of}
 use Rattle.spec_job.specs.Journal.{JournalEntry}
 use Rattle.spec_job.specs.Journaled.{Journaled, and_entries}
 use Rattle.spec_job.specs.Leased.{Finished}
-use Rattle.spec_job.specs.Solo.{Lease, exports_from}
+use Rattle.spec_job.specs.SoloMachine.{Lease, exports_from}
 use Rattle.spec_job.specs.Viewed.{IsGrownBy}
 use Rattle.mal_job.specs.Among.{among}
 use Rattle.mal_job.specs.Exports.{unions_from, marked}
@@ -35,14 +35,14 @@ pub tree-grown : (t : TreeView) (ps : List PlaceView) → IsGrown t.number t.pla
 tree-grown t ps g low k = record { few = low; volume = k.volume; own = grown-own t.number t.places ps g k.own }
 
 -- marks that are moved, and what is told
-pub tree-exchanged : (t : TreeView) (n mark : ℕ) (tolds : List (List Held)) (ps : List PlaceView) → ps ≡ marked n mark t.places → IsTree t → IsTree (record { number = t.number; volume = t.volume; places = ps; broadcasts = tolds; ran = 0 })
+pub tree-exchanged : (t : TreeView) (n mark : ℕ) (tolds : List (List NumberedClause)) (ps : List PlaceView) → ps ≡ marked n mark t.places → IsTree t → IsTree (record { number = t.number; volume = t.volume; places = ps; broadcasts = tolds; ran = 0 })
 tree-exchanged t n mark tolds ps e k = subst (λ (xs : List PlaceView). IsTree (record { number = t.number; volume = t.volume; places = xs; broadcasts = tolds; ran = 0 })) (sym e) (record {
   few = subst (λ (j : ℕ). j ≤ 64) (sym (length-marked n mark t.places)) k.few;
   volume = k.volume;
   own = own-marked t.number 0 n mark t.places k.own;
 })
 
-pub exchanged-is : (t : TreeView) (log : List Line) (ps : List PlaceView) (tolds us : List (List Held)) (told : List Held) (mark : ℕ) → ps ≡ marked t.volume mark t.places → mark ≡ length log → tolds ≡ t.broadcasts ++ told ∷ [] → told ≡ broadcast (entries_of us) → us ≡ unions_from log 0 (take t.volume t.places) → t.volume ≤ length t.places → record { number = t.number; volume = t.volume; places = ps; broadcasts = tolds; ran = 0 } ≡ record t { broadcasts = t.broadcasts ++ broadcast (exports_from t.volume log 0 (places_of t.places)) ∷ []; places = marked t.volume (length log) t.places; ran = 0 }
+pub exchanged-is : (t : TreeView) (log : List Line) (ps : List PlaceView) (tolds us : List (List NumberedClause)) (told : List NumberedClause) (mark : ℕ) → ps ≡ marked t.volume mark t.places → mark ≡ length log → tolds ≡ t.broadcasts ++ told ∷ [] → told ≡ broadcast (entries_of us) → us ≡ unions_from log 0 (take t.volume t.places) → t.volume ≤ length t.places → record { number = t.number; volume = t.volume; places = ps; broadcasts = tolds; ran = 0 } ≡ record t { broadcasts = t.broadcasts ++ broadcast (exports_from t.volume log 0 (places_of t.places)) ∷ []; places = marked t.volume (length log) t.places; ran = 0 }
 exchanged-is t log ps tolds us told mark a b c d e low = rw (a, b, c, d, e, told-is t.volume log t.places low) refl
 
 module _ {X Z : Type 0} where

@@ -4,7 +4,7 @@ use Rattle.mal_base.specs.declared.answer.Answer.TheVariants.{Satisfied, Refuted
 use Rattle.mal_base.specs.declared.verdict.Verdict.{Verdict}
 use Rattle.mal_base.specs.declared.verdict.Verdict.TheVariants.{Satisfiable, Unsatisfiable}
 use Rattle.mal_revision.specs.Posted.{Posted}
-use Rattle.spec_job.specs.Solo.{clauses_in}
+use Rattle.spec_job.specs.SoloMachine.{clauses_in}
 use Rattle.mal_job.specs.Viewed.{QuestionsView}
 
 -- one revision more

@@ -1,19 +1,19 @@
 use Rattle.std.specs.Prelude.{ℕ, zero, suc, ◌+◌, List, [], ◌∷◌, map, filter, drop, is_none, if◌then◌else◌}
-use Rattle.mal_base.specs.Held.{Held, Line}
+use Rattle.mal_base.specs.NumberedClause.{NumberedClause, Line}
 use Rattle.spec_exchange.specs.Exchange.{union}
-use Rattle.spec_job.specs.Solo.{is_exported}
+use Rattle.spec_job.specs.SoloMachine.{is_exported}
 use Rattle.mal_job.specs.Viewed.{PlaceView}
 
 -- what a node exports of these lines
-abbrev pub exported_by : ℕ → List Line → List Held
+abbrev pub exported_by : ℕ → List Line → List NumberedClause
 exported_by i lines = map (λ l. record { id = l.id; lits = l.lits }) (filter (is_exported i) lines)
 
 -- what a place of this index exports of the lines behind its mark, nothing where it is out
-abbrev pub exports_at : List Line → ℕ → PlaceView → List Held
+abbrev pub exports_at : List Line → ℕ → PlaceView → List NumberedClause
 exports_at log i p = if is_none p.out then exported_by i (drop p.mark log) else []
 
 -- what each of these places exports, united; the first has this index
-abbrev pub unions_from : List Line → ℕ → List PlaceView → List (List Held)
+abbrev pub unions_from : List Line → ℕ → List PlaceView → List (List NumberedClause)
 unions_from log i [] = []
 unions_from log i (p ∷ ps) = union (exports_at log i p) ∷ unions_from log (i + 1) ps
 

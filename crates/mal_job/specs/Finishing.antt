@@ -2,7 +2,7 @@ use Rattle.std.specs.Prelude.{◌≡◌, ℕ, true, is_some, Option, Some, None}
 use Rattle.mal_base.specs.declared.verdict.Outcome.{Outcome}
 use Rattle.mal_base.specs.declared.verdict.Outcome.TheVariants.{Lost}
 use Rattle.spec_job.specs.Leased.{Finished}
-use Rattle.spec_job.specs.Solo.{place_at}
+use Rattle.spec_job.specs.SoloMachine.{place_at}
 use Rattle.spec_job.specs.Viewed.{JobView, IsBack}
 
 -- how a start ended of which this came back: it is lost where nothing came

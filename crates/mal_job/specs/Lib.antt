@@ -1,7 +1,7 @@
 pub mod Viewed
 pub mod Asking
 pub mod Placing
-pub mod Kept
+pub mod JobInvariant
 pub mod Loads
 pub mod Exports
 pub mod Among

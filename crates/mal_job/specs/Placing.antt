@@ -2,10 +2,10 @@ use Rattle.std.specs.Prelude.{◌≡◌, ℕ, zero, suc, ◌+◌, ◌≤◌, Lis
 use Rattle.spec_job.specs.Journal.{JournalEntry}
 use Rattle.spec_job.specs.Journaled.{Journaled, and_entries, started}
 use Rattle.spec_job.specs.Leased.{Finished}
-use Rattle.spec_job.specs.Solo.{Lease}
+use Rattle.spec_job.specs.SoloMachine.{Lease}
 use Rattle.spec_job.specs.Viewed.{IsGrownBy}
-use Rattle.mal_job.specs.declared.place.Seat.{Seat}
-use Rattle.mal_job.specs.declared.place.Seat.TheVariants.{Home, Cold, Gone, Out}
+use Rattle.mal_job.specs.declared.node_slot.Seat.{Seat}
+use Rattle.mal_job.specs.declared.node_slot.Seat.TheVariants.{Home, Cold, Gone, Out}
 use Rattle.mal_job.specs.Viewed.{PlaceView, TreeView}
 
 -- the start that is out of a place with these entries

@@ -2,12 +2,12 @@ use Rattle.std.specs.Prelude.{ℕ, ◌-◌, Bool, List, ◌++◌, length, map, r
 use Rattle.std.specs.Arc.{arc_value}
 use Rattle.std.specs.declared.sync.Arc.{Arc}
 use Rattle.mal_base.specs.Asks.{Terms}
-use Rattle.mal_base.specs.Held.{Held, Line}
+use Rattle.mal_base.specs.NumberedClause.{NumberedClause, Line}
 use Rattle.mal_base.specs.declared.answer.Answer.{Answer}
 use Rattle.mal_revision.specs.Posted.{Posted}
 use Rattle.spec_job.specs.Journaled.{Journaled}
-use Rattle.spec_job.specs.Solo.{Solo, Place, Lease, vacant}
-use Rattle.spec_job.specs.Titled.{Key}
+use Rattle.spec_job.specs.SoloMachine.{SoloMachine, NodeSlot, Lease, vacant}
+use Rattle.spec_job.specs.KeyedJob.{Key}
 use Rattle.spec_job.specs.Viewed.{JobView}
 
 -- what is shared
@@ -38,7 +38,7 @@ pub record TreeView : Type 0 where
   pub number : ℕ
   pub volume : ℕ
   pub places : List PlaceView
-  pub broadcasts : List (List Held)
+  pub broadcasts : List (List NumberedClause)
   pub ran : ℕ
 
 -- the log of a job: its lines, and for how many more chunks of them there is room
@@ -53,15 +53,15 @@ pub record Parts : Type 0 where
   pub log : LogView
 
 -- a place of the machine
-abbrev pub place_of : PlaceView → Place
+abbrev pub place_of : PlaceView → NodeSlot
 place_of p = record { entries = p.journal.entries; out = p.out; starts = p.starts; mark = p.mark }
 
 -- 64 places: these, and vacant ones behind them
-abbrev pub filled : List Place → List Place
+abbrev pub filled : List NodeSlot → List NodeSlot
 filled places = places ++ replicate (64 - length places) vacant
 
 -- the places of the machine, of which the first ones were ever used
-abbrev pub places_of : List PlaceView → List Place
+abbrev pub places_of : List PlaceView → List NodeSlot
 places_of ps = filled (map place_of ps)
 
 -- the number of the last start of each of the 64 places
@@ -69,7 +69,7 @@ abbrev pub starts_of : List PlaceView → List ℕ
 starts_of ps = map (λ p. p.journal.start) ps ++ replicate (64 - length ps) 0
 
 -- the machine of a job
-abbrev pub state_of : Parts → Solo
+abbrev pub state_of : Parts → SoloMachine
 state_of q = record {
   ask = q.asked.ask;
   closed = q.asked.closed;

@@ -2,7 +2,7 @@
 
 ghost use Rattle.std.specs.Prelude.{◌≡◌, ◌+◌, ◌<◌, ◌≤◌, ◌^◌, [], ◌++◌, length, OnOk};
 ghost use Rattle.spec_proof.specs.Log.{IsOrderly};
-ghost use Rattle.spec_job.specs.Solo.{first_empty};
+ghost use Rattle.spec_job.specs.SoloMachine.{first_empty};
 
 use mal_base::{ClauseId, Lines};
 use mal_proof::Log;
@@ -18,7 +18,7 @@ pub struct Derivation {
 
 impl Model for Derivation {
     ghost use Rattle.std.specs.Prelude.{◌≡◌};
-    ghost use Rattle.spec_job.specs.Solo.{first_empty};
+    ghost use Rattle.spec_job.specs.SoloMachine.{first_empty};
     ghost use Rattle.mal_job.specs.Viewed.{LogView};
 
     ghost Value = { LogView };

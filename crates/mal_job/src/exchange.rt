@@ -3,10 +3,10 @@
 ghost use Rattle.std.specs.Prelude.{◌≡◌, ◌-◌, ◌<◌, ◌≤◌, true, All, [], length, take, drop, IfOk};
 ghost use Rattle.mal_base.specs.Clauses.{rises};
 ghost use Rattle.spec_exchange.specs.Exchange.{union};
-ghost use Rattle.spec_job.specs.Solo.{is_exported};
+ghost use Rattle.spec_job.specs.SoloMachine.{is_exported};
 ghost use Rattle.mal_job.specs.Exports.{exported_by, exports_at, unions_from, marked, marked_at};
 
-use crate::place::Place;
+use crate::node_slot::NodeSlot;
 use mal_base::{Clause, ClauseId, Lit};
 use mal_buffer::Buffer;
 use mal_proof::Log;
@@ -20,7 +20,7 @@ const PLACES: u64 = 64;
 
 /// What these places, the first ones of a job, export of the lines behind their marks, and nothing of those that are out; the
 /// literals of each line rise by variable.
-pub fn exports(alloc: Global, places: &[Place], log: &Log) -> Result<Vec<Buffer>, AllocError>
+pub fn exports(alloc: Global, places: &[NodeSlot], log: &Log) -> Result<Vec<Buffer>, AllocError>
     requires { All (λ line. rises line.lits ≡ true) log.now.lines }
     ensures { IfOk result (λ v. v.items ≡ unions_from log.now.lines 0 places.now) }
 {
@@ -35,7 +35,7 @@ pub fn exports(alloc: Global, places: &[Place], log: &Log) -> Result<Vec<Buffer>
 /// What a place of this index exports of a log of so many lines.
 fn exported_of(
     alloc: Global,
-    place: &Place,
+    place: &NodeSlot,
     log: &Log,
     index: u64,
     count: usize,
@@ -113,7 +113,7 @@ fn clause_of(alloc: Global, lits: &[Lit]) -> Result<Clause, AllocError>
 }
 
 /// Moves the marks of those of the first places, so many, that are at home, to a length of the log.
-pub fn move_marks(places: &mut Vec<Place>, count: usize, mark: usize)
+pub fn move_marks(places: &mut Vec<NodeSlot>, count: usize, mark: usize)
     requires { count ≤ length places.old.items }
     ensures { places.new.items ≡ marked count mark places.old.items }
 {
@@ -123,7 +123,7 @@ pub fn move_marks(places: &mut Vec<Place>, count: usize, mark: usize)
 }
 
 /// Moves the mark of a place that is at home.
-fn move_mark(place: &mut Place, mark: usize)
+fn move_mark(place: &mut NodeSlot, mark: usize)
     ensures { place.new ≡ marked_at mark place.old }
 {
     if !place.is_out() {

@@ -4,7 +4,7 @@ ghost use Rattle.std.specs.Prelude.{◌≡◌, ◌+◌, ◌<◌, ◌≤◌, ◌^
 ghost use Rattle.mal_base.specs.declared.verdict.Outcome.TheVariants.{Ran};
 ghost use Rattle.spec_proof.specs.Log.{IsOrderly};
 ghost use Rattle.spec_job.specs.Journaled.{and_entries};
-ghost use Rattle.spec_job.specs.Solo.{first_empty};
+ghost use Rattle.spec_job.specs.SoloMachine.{first_empty};
 ghost use Rattle.mal_job.specs.Asking.{IsAsked, concluded_by, starved_by, settled_with};
 ghost use Rattle.mal_job.specs.Placing.{IsTree, placed, with_placed, ran_home, came_home, one_more_ran, revision_of, adds_of};
 

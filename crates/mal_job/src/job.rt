@@ -3,7 +3,7 @@
 ghost use Rattle.std.specs.Prelude.{◌≡◌, ◌↔◌, ◌+◌, ◌-◌, ◌<◌, ◌≤◌, ◌^◌, true, length, is_some, IsTrue, Some, None, MatchOption, OnOk, OnErr, IfOk};
 ghost use Rattle.std.specs.Option.{option_copied};
 ghost use Rattle.mal_base.specs.declared.verdict.Outcome.TheVariants.{Ran, Starved, Lost};
-ghost use Rattle.spec_job.specs.Solo.{Opened, Revised, Closed, Volume, Finished, Exchanged, unopened, solo_step, is_live, startable, is_exchange_due, place_at, clauses_in};
+ghost use Rattle.spec_job.specs.SoloMachine.{Opened, Revised, Closed, Volume, Finished, Exchanged, unopened, solo_step, is_live, startable, is_exchange_due, place_at, clauses_in};
 ghost use Rattle.spec_job.specs.Viewed.{unstarted, and_own, and_start, IsLeaseOf, IsBack};
 ghost use Rattle.spec_job.specs.Proofs.{failed, proof_lines};
 ghost use Rattle.spec_job.specs.Replies.{told_by, reply};
@@ -42,13 +42,13 @@ pub struct Job {
 impl Model for Job {
     ghost use Rattle.spec_job.specs.Viewed.{JobView};
     ghost use Rattle.mal_job.specs.Viewed.{viewed};
-    ghost use Rattle.mal_job.specs.Kept.{IsKept};
+    ghost use Rattle.mal_job.specs.JobInvariant.{JobInvariant};
 
     ghost Value = { JobView };
 
     ghost view = { λ j. viewed j.tenant j.name (record { asked = j.questions; tree = j.tree; log = j.log }) };
 
-    ghost invariant = { λ j. IsKept (record { asked = j.questions; tree = j.tree; log = j.log }) };
+    ghost invariant = { λ j. JobInvariant (record { asked = j.questions; tree = j.tree; log = j.log }) };
 }
 
 impl Job {

@@ -6,7 +6,7 @@ mod exchange;
 mod finishing;
 mod job;
 mod loading;
-mod place;
+mod node_slot;
 mod questions;
 mod told;
 mod tree;

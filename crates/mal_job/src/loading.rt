@@ -1,7 +1,7 @@
 //! What a start of a node loads.
 
 ghost use Rattle.std.specs.Prelude.{◌≡◌, ◌+◌, ◌<◌, ◌≤◌, ◌^◌, length, IfOk};
-ghost use Rattle.spec_job.specs.Solo.{clauses_in};
+ghost use Rattle.spec_job.specs.SoloMachine.{clauses_in};
 ghost use Rattle.mal_suspend.specs.Starting.{shared_loads, shared_tolds};
 ghost use Rattle.mal_job.specs.Loads.{paired, lacking};
 ghost use Rattle.mal_job.specs.Viewed.{shared};

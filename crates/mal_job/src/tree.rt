@@ -6,7 +6,7 @@ ghost use Rattle.spec_exchange.specs.Exchange.{broadcast};
 ghost use Rattle.spec_job.specs.Counts.{starts_out};
 ghost use Rattle.spec_job.specs.Journal.{loads_in, imports_in};
 ghost use Rattle.spec_job.specs.Journaled.{replayed, started, and_entries};
-ghost use Rattle.spec_job.specs.Solo.{vacant, is_for, exports_from};
+ghost use Rattle.spec_job.specs.SoloMachine.{vacant, is_for, exports_from};
 ghost use Rattle.mal_suspend.specs.Kept.{journal_of};
 ghost use Rattle.mal_suspend.specs.Replaying.{MayAllReplay};
 ghost use Rattle.mal_suspend.specs.Starting.{shared_loads, shared_tolds, start_entries};
@@ -16,7 +16,7 @@ ghost use Rattle.mal_job.specs.Viewed.{places_of, starts_of};
 
 use crate::exchange::{exports, move_marks};
 use crate::loading::tolds_of;
-use crate::place::Place;
+use crate::node_slot::NodeSlot;
 use mal_buffer::Buffer;
 use mal_exchange::up;
 use mal_proof::Log;
@@ -32,7 +32,7 @@ use std::sync::Arc;
 pub struct Tree {
     number: u64,
     volume: u32,
-    places: Vec<Place>,
+    places: Vec<NodeSlot>,
     broadcasts: Vec<Arc<Buffer>>,
     ran: u32,
 }
@@ -289,7 +289,12 @@ fn missing(
 
 /// Makes the first so many places of a job of this number, where they are not there yet. After want of memory some of them may be
 /// there.
-fn grow(alloc: Global, number: u64, places: &mut Vec<Place>, count: usize) -> Result<(), AllocError>
+fn grow(
+    alloc: Global,
+    number: u64,
+    places: &mut Vec<NodeSlot>,
+    count: usize,
+) -> Result<(), AllocError>
     requires count { count ≤ 64 }
     requires few { length places.old.items ≤ 64 }
     ensures grown { IsGrown number places.old.items places.new.items }
@@ -297,7 +302,7 @@ fn grow(alloc: Global, number: u64, places: &mut Vec<Place>, count: usize) -> Re
     ensures ok { OnOk result (count ≤ length places.new.items) }
 {
     for index in places.len()..count {
-        places.push(Place::fresh(alloc, number, index as u32))?;
+        places.push(NodeSlot::fresh(alloc, number, index as u32))?;
     }
     Ok(())
 }

@@ -8,7 +8,7 @@ use Rattle.std.proofs.lemmas.List.Elements.{All-nil, All-cons}
 use Rattle.std.proofs.lemmas.List.Sorted.{list_any-IsPermutation, IsPermutation-reverse}
 use Rattle.std.proofs.lemmas.Bool.{eqb-true, eqb-false}
 use Rattle.mal_base.specs.Literals.{var_of}
-use Rattle.mal_base.specs.Held.{Held, lits_under}
+use Rattle.mal_base.specs.NumberedClause.{NumberedClause, lits_under}
 use Rattle.mal_base.specs.declared.trail_entry.TrailEntry.{TrailEntry}
 use Rattle.spec_node.specs.Sound.{EachAfter, IsPlaced}
 use Rattle.spec_learn.specs.Analysis.{Walk, has_var, vars_in, vars_under, begun, walk_of, analysed, top}
@@ -76,7 +76,7 @@ begin-seen n a b level id es p q =
     or-false true = refl
     or-false false = refl
 
-begin-shows : (n a b level id : ℕ) (clauses : List Held) (es : List TrailEntry) → n ≤ a → n ≤ b → AreBelow n clauses → IsApart n (reverse es) → length (reverse es) < 2 ^ 64 → Shows n level id (reverse es) (begun (vars_under clauses id)) (see_all (lits_of clauses id) (start a b level id es))
+begin-shows : (n a b level id : ℕ) (clauses : List NumberedClause) (es : List TrailEntry) → n ≤ a → n ≤ b → AreBelow n clauses → IsApart n (reverse es) → length (reverse es) < 2 ^ 64 → Shows n level id (reverse es) (begun (vars_under clauses id)) (see_all (lits_of clauses id) (start a b level id es))
 begin-shows n a b level id clauses es p q below apart long =
     let s : State = start a b level id es in
     let leaves : Leaves s (see_all (lits_of clauses id) s) = see_all-leaves (lits_of clauses id) s in
@@ -95,7 +95,7 @@ pub entries-within : (n : ℕ) (es before : List TrailEntry) → 1 ≤ n → Eac
 entries-within n [] before l h = All-nil (λ e. var_of e.lit < n)
 entries-within n (e ∷ es) before l h = All-cons (λ x. var_of x.lit < n) e es (let u : var_of e.lit ≤ n - 1 = h.0.high in omega arith) (entries-within n es (before ++ e ∷ []) l h.1)
 
-pub clauses-below : (n : ℕ) (clauses : List Held) → ClausesWithin n clauses → AreBelow n clauses
+pub clauses-below : (n : ℕ) (clauses : List NumberedClause) → ClausesWithin n clauses → AreBelow n clauses
 clauses-below n clauses h r = by_found (lits_under r clauses) refl
   where
     by_found : (o : Option (List ℕ)) → lits_under r clauses ≡ o → All (λ (l : ℕ). var_of l < n) (option_map_or (λ (l : List ℕ). l) o [])
@@ -103,12 +103,12 @@ clauses-below n clauses h r = by_found (lits_under r clauses) refl
     by_found (Some lits) q = lits-within n r clauses lits h q
 
 -- what is found, put in order, is what the definition gives
-pub record IsAnalysed (clauses : List Held) (past : List TrailEntry) (id : ℕ) (lits hints : List ℕ) (level : ℕ) : Type 0 where
+pub record IsAnalysed (clauses : List NumberedClause) (past : List TrailEntry) (id : ℕ) (lits hints : List ℕ) (level : ℕ) : Type 0 where
   pub clause : lits ≡ (analysed clauses past id).lits
   pub hints_are : hints ≡ (analysed clauses past id).hints
   pub target : level ≡ (analysed clauses past id).level
 
-pub analysis-done : (n a b id : ℕ) (clauses : List Held) (es : List TrailEntry) (s : State) (lits hints : List ℕ) → 1 ≤ n → n ≤ 65537 → n ≤ a → n ≤ b → ClausesWithin n clauses → EachAfter (IsPlaced (n - 1)) [] es → s ≡ visited_all clauses (top (reverse es)) (reverse es) (see_all (lits_of clauses id) (start a b (top (reverse es)) id es)) → IsPermutation s.lits lits → IsSorted nat_cmp lits → hints ≡ reverse s.hints → IsAnalysed clauses (reverse es) id lits hints s.level
+pub analysis-done : (n a b id : ℕ) (clauses : List NumberedClause) (es : List TrailEntry) (s : State) (lits hints : List ℕ) → 1 ≤ n → n ≤ 65537 → n ≤ a → n ≤ b → ClausesWithin n clauses → EachAfter (IsPlaced (n - 1)) [] es → s ≡ visited_all clauses (top (reverse es)) (reverse es) (see_all (lits_of clauses id) (start a b (top (reverse es)) id es)) → IsPermutation s.lits lits → IsSorted nat_cmp lits → hints ≡ reverse s.hints → IsAnalysed clauses (reverse es) id lits hints s.level
 analysis-done n a b id clauses es s lits hints l small p q within placed is moved sorted turns =
     let past : List TrailEntry = reverse es in
     let apart : IsApart n past = apart-reverse n es l placed in

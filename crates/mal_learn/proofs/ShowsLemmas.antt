@@ -6,7 +6,7 @@ use Rattle.std.proofs.lemmas.List.Elements.{All-head, All-tail}
 use Rattle.std.proofs.lemmas.List.Folds.{list_any-append}
 use Rattle.std.proofs.lemmas.Bool.{eqb-true, eqb-false}
 use Rattle.mal_base.specs.Literals.{var_of, negated}
-use Rattle.mal_base.specs.Held.{Held, lits_under}
+use Rattle.mal_base.specs.NumberedClause.{NumberedClause, lits_under}
 use Rattle.mal_base.specs.declared.trail_entry.TrailEntry.{TrailEntry}
 use Rattle.spec_learn.specs.Analysis.{Walk, has_var, vars_in, vars_under, keeping, resolving, is_left, is_resolved, after_seen, after_entry, walked, jump}
 use Rattle.spec_learn.specs.Analysis.Aim.{Learned}
@@ -78,7 +78,7 @@ see_all-shows n level past (l ∷ ls) f s w a long h =
     turn false true z = refl
     turn false false z = refl
 
-pub vars-of : (clauses : List Held) (r : ℕ) → vars_in (lits_of clauses r) ≡ vars_under clauses r
+pub vars-of : (clauses : List NumberedClause) (r : ℕ) → vars_in (lits_of clauses r) ≡ vars_under clauses r
 vars-of clauses r = by_found (lits_under r clauses)
   where
     by_found : (o : Option (List ℕ)) → vars_in (option_map_or (λ (l : List ℕ). l) o []) ≡ option_map_or vars_in o []
@@ -92,7 +92,7 @@ pub record Shows (n level id : ℕ) (past : List TrailEntry) (w : Walk) (s : Sta
   pub hints : s.hints ≡ turned id w.hints
   pub target : s.level ≡ jump level w.kept
 
-abbrev pub AreBelow : ℕ → List Held → Type 0
+abbrev pub AreBelow : ℕ → List NumberedClause → Type 0
 AreBelow n clauses = (r : ℕ) → All (λ l. var_of l < n) (lits_of clauses r)
 
 kept-shows : (n level id : ℕ) (e : TrailEntry) (past : List TrailEntry) (w : Walk) (s : State) → Shows n level id past w s → Shows n level id past (keeping e w) (kept level e s)
@@ -105,7 +105,7 @@ kept-shows n level id e past w s h =
       target = ap (λ (x : ℕ). max (cond (e.level == level) 0 e.level) x) h.target;
     }
 
-resolved-shows : (n level id r : ℕ) (clauses : List Held) (past : List TrailEntry) (w : Walk) (s : State) → AreBelow n clauses → IsApart n past → length past < 2 ^ 64 → Shows n level id past w s → Shows n level id past (resolving clauses r w) (resolved clauses r s)
+resolved-shows : (n level id r : ℕ) (clauses : List NumberedClause) (past : List TrailEntry) (w : Walk) (s : State) → AreBelow n clauses → IsApart n past → length past < 2 ^ 64 → Shows n level id past w s → Shows n level id past (resolving clauses r w) (resolved clauses r s)
 resolved-shows n level id r clauses past w s below a long h =
     let k = h.is_seen in
     let t : State = record s { hints = s.hints ++ r ∷ [] } in
@@ -118,7 +118,7 @@ resolved-shows n level id r clauses past w s below a long h =
       target = leaves.level ∙ h.target;
     }
 
-handled-shows : (n level id : ℕ) (clauses : List Held) (e : TrailEntry) (past : List TrailEntry) (w : Walk) (s : State) (o : Option ℕ) → AreBelow n clauses → IsApart n past → length past < 2 ^ 64 → Shows n level id past w s → Shows n level id past (option_map_or (λ r. cond (is_resolved (Learned level) e w.seen past) (resolving clauses r w) (keeping e w)) o (keeping e w)) (by_reason clauses level e s o)
+handled-shows : (n level id : ℕ) (clauses : List NumberedClause) (e : TrailEntry) (past : List TrailEntry) (w : Walk) (s : State) (o : Option ℕ) → AreBelow n clauses → IsApart n past → length past < 2 ^ 64 → Shows n level id past w s → Shows n level id past (option_map_or (λ r. cond (is_resolved (Learned level) e w.seen past) (resolving clauses r w) (keeping e w)) o (keeping e w)) (by_reason clauses level e s o)
 handled-shows n level id clauses e past w s None below a long h = kept-shows n level id e past w s h
 handled-shows n level id clauses e past w s (Some r) below a long h =
     let same : is_left level w.seen past ≡ nat_lt 0 s.left = sym (ap (nat_lt 0) h.is_seen.left ∙ left-some level (has_var w.seen) past) in
@@ -182,7 +182,7 @@ uncounted-shows n level id e past w s a seen h =
     one true q = omega arith
     one false q = omega arith
 
-visited-shows : (n level id : ℕ) (clauses : List Held) (e : TrailEntry) (past : List TrailEntry) (w : Walk) (s : State) → AreBelow n clauses → IsApart n (e ∷ past) → length past < 2 ^ 64 → Shows n level id (e ∷ past) w s → Shows n level id past (after_entry (Learned level) clauses e past w) (visited clauses level e s)
+visited-shows : (n level id : ℕ) (clauses : List NumberedClause) (e : TrailEntry) (past : List TrailEntry) (w : Walk) (s : State) → AreBelow n clauses → IsApart n (e ∷ past) → length past < 2 ^ 64 → Shows n level id (e ∷ past) w s → Shows n level id past (after_entry (Learned level) clauses e past w) (visited clauses level e s)
 visited-shows n level id clauses e past w s below a long h =
     let same : has_var w.seen (var_of e.lit) ≡ get_or s.seen (var_of e.lit) false = sym (h.is_seen.seen (var_of e.lit) a.2) in
     subst (λ (x : Bool). Shows n level id past (after_entry (Learned level) clauses e past w) (cond x (by_reason clauses level e (uncounted level e (passed e s)) e.reason) (passed e s))) same (by_seen (has_var w.seen (var_of e.lit)) refl)
@@ -191,6 +191,6 @@ visited-shows n level id clauses e past w s below a long h =
     by_seen true q = handled-shows n level id clauses e past w (uncounted level e (passed e s)) e.reason below a.3 long (uncounted-shows n level id e past w s a q h)
     by_seen false q = passed-shows n level id e past w s a q h
 
-pub walked-shows : (n level id : ℕ) (clauses : List Held) (past : List TrailEntry) (w : Walk) (s : State) → AreBelow n clauses → IsApart n past → length past < 2 ^ 64 → Shows n level id past w s → Shows n level id [] (walked (Learned level) clauses past w) (visited_all clauses level past s)
+pub walked-shows : (n level id : ℕ) (clauses : List NumberedClause) (past : List TrailEntry) (w : Walk) (s : State) → AreBelow n clauses → IsApart n past → length past < 2 ^ 64 → Shows n level id past w s → Shows n level id [] (walked (Learned level) clauses past w) (visited_all clauses level past s)
 walked-shows n level id clauses [] w s below a long h = h
 walked-shows n level id clauses (e ∷ past) w s below a long h = walked-shows n level id clauses past (after_entry (Learned level) clauses e past w) (visited clauses level e s) below a.3 (omega arith) (visited-shows n level id clauses e past w s below a (omega arith) h)

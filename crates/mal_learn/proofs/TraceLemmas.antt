@@ -7,7 +7,7 @@ use Rattle.std.proofs.lemmas.List.{length_push, length-replicate, get_or-replica
 use Rattle.std.proofs.lemmas.List.Elements.{All-nil, All-cons, All-head, All-tail}
 use Rattle.std.proofs.lemmas.List.Folds.{list_any-append}
 use Rattle.mal_base.specs.Literals.{var_of, negated}
-use Rattle.mal_base.specs.Held.{Held}
+use Rattle.mal_base.specs.NumberedClause.{NumberedClause}
 use Rattle.mal_base.specs.declared.trail_entry.TrailEntry.{TrailEntry}
 use Rattle.spec_learn.specs.Analysis.{Walk, Analysed, has_var, vars_in, vars_under, begun, keeping, resolving, is_resolved, after_seen, after_entry, walked, clause_of, reached, core, core_at}
 use Rattle.spec_learn.specs.Analysis.Aim.{Final}
@@ -21,7 +21,7 @@ use Rattle.mal_learn.proofs.AnalysedLemmas.{clauses-below}
 use Rattle.mal_learn.proofs.WalkLemmas.{Leaves, see_all-leaves, reverse-got, AddsOne, resolved-adds}
 
 -- each entry adds a literal or a hint at most
-pub traced-adds : (clauses : List Held) (e : TrailEntry) (s : State) → AddsOne s (traced clauses e s)
+pub traced-adds : (clauses : List NumberedClause) (e : TrailEntry) (s : State) → AddsOne s (traced clauses e s)
 traced-adds clauses e s = by_seen (get_or s.seen (var_of e.lit) false)
   where
     by_reason : (o : Option ℕ) → AddsOne s (by_cause clauses e s o)
@@ -33,14 +33,14 @@ traced-adds clauses e s = by_seen (get_or s.seen (var_of e.lit) false)
     by_seen false = record { lits = omega arith; hints = omega arith }
 
 -- how far a walk has come
-pub trace-step : (clauses : List Held) (made n : ℕ) (es : List TrailEntry) (e : TrailEntry) (s : State) → n ≤ length es → made < n → slice_get es (n - 1 - made) ≡ Some e → traced_all clauses (reverse (take (n - made) es)) s ≡ traced_all clauses (reverse (take (n - (made + 1)) es)) (traced clauses e s)
+pub trace-step : (clauses : List NumberedClause) (made n : ℕ) (es : List TrailEntry) (e : TrailEntry) (s : State) → n ≤ length es → made < n → slice_get es (n - 1 - made) ≡ Some e → traced_all clauses (reverse (take (n - made) es)) s ≡ traced_all clauses (reverse (take (n - (made + 1)) es)) (traced clauses e s)
 trace-step clauses made n es e s m l q =
     let one : n - made ≡ n - 1 - made + 1 = omega arith in
     let two : n - (made + 1) ≡ n - 1 - made = omega arith in
     rw (one, two) (ap (λ (xs : List TrailEntry). traced_all clauses xs s) (reverse-got es (n - 1 - made) e (omega arith) q))
 
 -- from the last of the first entries on
-pub from-last : (clauses : List Held) (n : ℕ) (es : List TrailEntry) (e : TrailEntry) (s : State) → 0 < n → n ≤ length es → slice_get es (n - 1) ≡ Some e → traced_from clauses (reverse (take n es)) s ≡ traced_behind clauses (reverse (take (n - 1) es)) s e.reason
+pub from-last : (clauses : List NumberedClause) (n : ℕ) (es : List TrailEntry) (e : TrailEntry) (s : State) → 0 < n → n ≤ length es → slice_get es (n - 1) ≡ Some e → traced_from clauses (reverse (take n es)) s ≡ traced_behind clauses (reverse (take (n - 1) es)) s e.reason
 from-last clauses n es e s l m q =
     let one : n ≡ n - 1 + 1 = omega arith in
     ap (λ (k : ℕ). traced_from clauses (reverse (take k es)) s) one ∙ ap (λ (xs : List TrailEntry). traced_from clauses xs s) (reverse-got es (n - 1) e (omega arith) q)
@@ -77,13 +77,13 @@ kept-traces n id e w s h =
     }
 
 -- the variables of a reason are seen too
-reason-seen : (n r : ℕ) (clauses : List Held) (seen : List ℕ) (s : State) → AreBelow n clauses → IsSeen n 0 [] (has_var seen) s → IsSeen n 0 [] (has_var (vars_under clauses r ++ seen)) (resolved clauses r s)
+reason-seen : (n r : ℕ) (clauses : List NumberedClause) (seen : List ℕ) (s : State) → AreBelow n clauses → IsSeen n 0 [] (has_var seen) s → IsSeen n 0 [] (has_var (vars_under clauses r ++ seen)) (resolved clauses r s)
 reason-seen n r clauses seen s below k =
     let t : State = record s { hints = s.hints ++ r ∷ [] } in
     let begins : IsSeen n 0 [] (has_var seen) t = record { seen_len = k.seen_len; here_len = k.here_len; seen = k.seen; here = k.here; left = k.left } in
     same-seen n 0 [] (λ u. has_var (vars_in (lits_of clauses r)) u || has_var seen u) (has_var (vars_under clauses r ++ seen)) (see_all (lits_of clauses r) t) (λ u. ap (λ (vs : List ℕ). has_var vs u || has_var seen u) (vars-of clauses r) ∙ sym (list_any-append (λ x. u == x) (vars_under clauses r) seen)) (see_all-shows n 0 [] (lits_of clauses r) (has_var seen) t (below r) tt (omega arith) begins)
 
-resolved-traces : (n id r : ℕ) (clauses : List Held) (w : Walk) (s : State) → AreBelow n clauses → Traces n id w s → Traces n id (resolving clauses r w) (resolved clauses r s)
+resolved-traces : (n id r : ℕ) (clauses : List NumberedClause) (w : Walk) (s : State) → AreBelow n clauses → Traces n id w s → Traces n id (resolving clauses r w) (resolved clauses r s)
 resolved-traces n id r clauses w s below h =
     let t : State = record s { hints = s.hints ++ r ∷ [] } in
     let leaves : Leaves t (see_all (lits_of clauses r) t) = see_all-leaves (lits_of clauses r) t in
@@ -94,7 +94,7 @@ resolved-traces n id r clauses w s below h =
       level = leaves.level ∙ h.level;
     }
 
-traced-traces : (n id : ℕ) (clauses : List Held) (e : TrailEntry) (past : List TrailEntry) (w : Walk) (s : State) → AreBelow n clauses → var_of e.lit < n → Traces n id w s → Traces n id (after_entry Final clauses e past w) (traced clauses e s)
+traced-traces : (n id : ℕ) (clauses : List NumberedClause) (e : TrailEntry) (past : List TrailEntry) (w : Walk) (s : State) → AreBelow n clauses → var_of e.lit < n → Traces n id w s → Traces n id (after_entry Final clauses e past w) (traced clauses e s)
 traced-traces n id clauses e past w s below l h =
     let same : has_var w.seen (var_of e.lit) ≡ get_or s.seen (var_of e.lit) false = sym (h.is_seen.seen (var_of e.lit) l) in
     subst (λ (x : Bool). Traces n id (after_entry Final clauses e past w) (cond x (by_cause clauses e s e.reason) s)) same (by_seen (has_var w.seen (var_of e.lit)))
@@ -112,7 +112,7 @@ abbrev pub AreSmall : ℕ → List TrailEntry → Type 0
 AreSmall n [] = Unit {0}
 AreSmall n (e ∷ es) = (var_of e.lit < n) × AreSmall n es
 
-walked-traces : (n id : ℕ) (clauses : List Held) (past : List TrailEntry) (w : Walk) (s : State) → AreBelow n clauses → AreSmall n past → Traces n id w s → Traces n id (walked Final clauses past w) (traced_all clauses past s)
+walked-traces : (n id : ℕ) (clauses : List NumberedClause) (past : List TrailEntry) (w : Walk) (s : State) → AreBelow n clauses → AreSmall n past → Traces n id w s → Traces n id (walked Final clauses past w) (traced_all clauses past s)
 walked-traces n id clauses [] w s below l h = h
 walked-traces n id clauses (e ∷ past) w s below l h = walked-traces n id clauses past (after_entry Final clauses e past w) (traced clauses e s) below l.1 (traced-traces n id clauses e past w s below l.0 h)
 
@@ -130,19 +130,19 @@ begun-seen n a b l p q =
     }
 
 -- what is found, put in order, is what the definition gives
-pub record IsCored (clauses : List Held) (past : List TrailEntry) (x : ℕ) (lits hints : List ℕ) (level : ℕ) : Type 0 where
+pub record IsCored (clauses : List NumberedClause) (past : List TrailEntry) (x : ℕ) (lits hints : List ℕ) (level : ℕ) : Type 0 where
   pub clause : lits ≡ (core clauses past x).lits
   pub hints_are : hints ≡ (core clauses past x).hints
   pub target : level ≡ (core clauses past x).level
 
-record HasFound (clauses : List Held) (x : ℕ) (past : List TrailEntry) (s : State) : Type 0 where
+record HasFound (clauses : List NumberedClause) (x : ℕ) (past : List TrailEntry) (s : State) : Type 0 where
   pub es : List TrailEntry
   pub lits : s.lits ≡ negations es
   pub clause : clause_of es ≡ (core_at clauses x past).lits
   pub hints : reverse s.hints ≡ (core_at clauses x past).hints
   pub level : s.level ≡ (core_at clauses x past).level
 
-found : (n a b x : ℕ) (clauses : List Held) (past : List TrailEntry) → n ≤ a → n ≤ b → AreBelow n clauses → AreSmall n past → HasFound clauses x past (traced_from clauses past (begun_with a b (negated x)))
+found : (n a b x : ℕ) (clauses : List NumberedClause) (past : List TrailEntry) → n ≤ a → n ≤ b → AreBelow n clauses → AreSmall n past → HasFound clauses x past (traced_from clauses past (begun_with a b (negated x)))
 found n a b x clauses [] p q below small = record { es = assumed x ∷ []; lits = refl; clause = refl; hints = refl; level = refl }
 found n a b x clauses (e ∷ past) p q below small = by_reason e.reason
   where
@@ -177,7 +177,7 @@ small-front n (suc k) (e ∷ es) h = All-cons (λ x. var_of x.lit < n) e (take k
 small-take : (n k : ℕ) (es : List TrailEntry) → EntriesWithin n es → AreSmall n (reverse (take k es))
 small-take n k es h = subst (AreSmall n) (append-nil (reverse (take k es))) (small-behind n (take k es) [] (small-front n k es h) tt)
 
-pub core-done : (n a b x k : ℕ) (clauses : List Held) (es : List TrailEntry) (s : State) (lits hints : List ℕ) → n ≤ a → n ≤ b → ClausesWithin n clauses → EntriesWithin n es → reached (negated x) (reverse es) ≡ reverse (take k es) → s ≡ traced_from clauses (reverse (take k es)) (begun_with a b (negated x)) → IsPermutation s.lits lits → IsSorted nat_cmp lits → hints ≡ reverse s.hints → IsCored clauses (reverse es) x lits hints s.level
+pub core-done : (n a b x k : ℕ) (clauses : List NumberedClause) (es : List TrailEntry) (s : State) (lits hints : List ℕ) → n ≤ a → n ≤ b → ClausesWithin n clauses → EntriesWithin n es → reached (negated x) (reverse es) ≡ reverse (take k es) → s ≡ traced_from clauses (reverse (take k es)) (begun_with a b (negated x)) → IsPermutation s.lits lits → IsSorted nat_cmp lits → hints ≡ reverse s.hints → IsCored clauses (reverse es) x lits hints s.level
 core-done n a b x k clauses es s lits hints p q within small at is moved sorted turns =
     let past : List TrailEntry = reverse (take k es) in
     let f : HasFound clauses x past s = subst (HasFound clauses x past) (sym is) (found n a b x clauses past p q (clauses-below n clauses within) (small-take n k es small)) in
@@ -188,5 +188,5 @@ core-done n a b x k clauses es s lits hints p q within small at is moved sorted 
       target = f.level ∙ ap (λ (y : Analysed). y.level) same;
     }
 
-pub resolved-lits : (clauses : List Held) (r : ℕ) (s : State) → length (resolved clauses r s).lits ≡ length s.lits
+pub resolved-lits : (clauses : List NumberedClause) (r : ℕ) (s : State) → length (resolved clauses r s).lits ≡ length s.lits
 resolved-lits clauses r s = ap (λ (xs : List ℕ). length xs) (see_all-leaves (lits_of clauses r) (record s { hints = s.hints ++ r ∷ [] })).lits

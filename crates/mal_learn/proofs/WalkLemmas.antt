@@ -2,19 +2,19 @@ use Rattle.std.proofs.Common.{◌≡◌, ℕ, zero, suc, ◌+◌, ◌-◌, ◌<�
 use Rattle.std.specs.Prelude.{slice_get, find, ◌==◌, option_map, nat_lt, ◌&&◌, ◌||◌}
 use Rattle.std.proofs.lemmas.List.{take_more, length_push, reverse-append}
 use Rattle.std.proofs.lemmas.Bool.{eq-eqb, ne_eqb}
-use Rattle.mal_base.specs.Held.{Held, lits_under}
+use Rattle.mal_base.specs.NumberedClause.{NumberedClause, lits_under}
 use Rattle.mal_base.specs.Literals.{var_of, negated}
 use Rattle.mal_base.specs.declared.trail_entry.TrailEntry.{TrailEntry}
 use Rattle.spec_node.proofs.FindLemmas.{find-All}
 use Rattle.mal_learn.specs.Working.{State, counted_more, see, see_all, lits_of, kept, resolved, by_reason, visited, visited_all, uncounted, passed, here_all}
 use Rattle.mal_learn.specs.Shown.{AreWithin, ClausesWithin}
 
-pub lits-within : (room id : ℕ) (clauses : List Held) (lits : List ℕ) → ClausesWithin room clauses → lits_under id clauses ≡ Some lits → AreWithin room lits
+pub lits-within : (room id : ℕ) (clauses : List NumberedClause) (lits : List ℕ) → ClausesWithin room clauses → lits_under id clauses ≡ Some lits → AreWithin room lits
 lits-within room id clauses lits h e = by_found (find (λ c. c.id == id) clauses) refl e
   where
-    by_found : (o : Option Held) → find (λ (c : Held). c.id == id) clauses ≡ o → option_map (λ (c : Held). c.lits) o ≡ Some lits → AreWithin room lits
+    by_found : (o : Option NumberedClause) → find (λ (c : NumberedClause). c.id == id) clauses ≡ o → option_map (λ (c : NumberedClause). c.lits) o ≡ Some lits → AreWithin room lits
     by_found None q k = absurd (cc)
-    by_found (Some c) q k = let same : c.lits ≡ lits = cc in subst (AreWithin room) same (find-All (λ (c : Held). AreWithin room c.lits) (λ c. c.id == id) clauses c h q)
+    by_found (Some c) q k = let same : c.lits ≡ lits = cc in subst (AreWithin room) same (find-All (λ (c : NumberedClause). AreWithin room c.lits) (λ c. c.id == id) clauses c h q)
 
 -- an entry read and the entries from there on
 pub drop-got : {X : Type 0} (xs : List X) (p : ℕ) (x : X) → slice_get xs p ≡ Some x → drop p xs ≡ x ∷ drop (p + 1) xs
@@ -68,12 +68,12 @@ pub record AddsOne (s t : State) : Type 0 where
 kept-adds : (level : ℕ) (e : TrailEntry) (s : State) → AddsOne s (kept level e s)
 kept-adds level e s = record { lits = omega (arith, length_push s.lits (negated e.lit)); hints = omega arith }
 
-pub resolved-adds : (clauses : List Held) (r : ℕ) (s : State) → AddsOne s (resolved clauses r s)
+pub resolved-adds : (clauses : List NumberedClause) (r : ℕ) (s : State) → AddsOne s (resolved clauses r s)
 resolved-adds clauses r s =
     let l : Leaves (record s { hints = s.hints ++ r ∷ [] }) (resolved clauses r s) = see_all-leaves (lits_of clauses r) (record s { hints = s.hints ++ r ∷ [] }) in
     record { lits = rw l.lits (omega arith); hints = rw l.hints (omega (arith, length_push s.hints r)) }
 
-by_reason-adds : (clauses : List Held) (level : ℕ) (e : TrailEntry) (s : State) (o : Option ℕ) → AddsOne s (by_reason clauses level e s o)
+by_reason-adds : (clauses : List NumberedClause) (level : ℕ) (e : TrailEntry) (s : State) (o : Option ℕ) → AddsOne s (by_reason clauses level e s o)
 by_reason-adds clauses level e s None = kept-adds level e s
 by_reason-adds clauses level e s (Some r) = by_test ((e.level == 0) || ((e.level == level) && nat_lt 0 s.left))
   where
@@ -81,7 +81,7 @@ by_reason-adds clauses level e s (Some r) = by_test ((e.level == 0) || ((e.level
     by_test true = resolved-adds clauses r s
     by_test false = kept-adds level e s
 
-pub visited-adds : (clauses : List Held) (level : ℕ) (e : TrailEntry) (s : State) → AddsOne s (visited clauses level e s)
+pub visited-adds : (clauses : List NumberedClause) (level : ℕ) (e : TrailEntry) (s : State) → AddsOne s (visited clauses level e s)
 visited-adds clauses level e s = by_seen (get_or s.seen (var_of e.lit) false)
   where
     by_seen : (b : Bool) → AddsOne s (cond b (by_reason clauses level e (uncounted level e (passed e s)) e.reason) (passed e s))
@@ -89,7 +89,7 @@ visited-adds clauses level e s = by_seen (get_or s.seen (var_of e.lit) false)
     by_seen false = record { lits = omega arith; hints = omega arith }
 
 -- how far a walk has come
-pub walk-step : (clauses : List Held) (level made n : ℕ) (es : List TrailEntry) (e : TrailEntry) (s : State) → n ≡ length es → made < n → slice_get es (n - 1 - made) ≡ Some e → visited_all clauses level (reverse (take (length es - made) es)) s ≡ visited_all clauses level (reverse (take (length es - (made + 1)) es)) (visited clauses level e s)
+pub walk-step : (clauses : List NumberedClause) (level made n : ℕ) (es : List TrailEntry) (e : TrailEntry) (s : State) → n ≡ length es → made < n → slice_get es (n - 1 - made) ≡ Some e → visited_all clauses level (reverse (take (length es - made) es)) s ≡ visited_all clauses level (reverse (take (length es - (made + 1)) es)) (visited clauses level e s)
 walk-step clauses level made n es e s m l q =
     let one : length es - made ≡ n - 1 - made + 1 = omega arith in
     let two : length es - (made + 1) ≡ n - 1 - made = omega arith in

@@ -1,5 +1,5 @@
 use Rattle.std.specs.Prelude.{ℕ, ◌+◌, ◌≤◌, ◌<◌, List, All}
-use Rattle.mal_base.specs.Held.{Held}
+use Rattle.mal_base.specs.NumberedClause.{NumberedClause}
 use Rattle.mal_base.specs.Literals.{var_of}
 use Rattle.mal_base.specs.declared.trail_entry.TrailEntry.{TrailEntry}
 use Rattle.mal_learn.specs.Working.{State}
@@ -29,7 +29,7 @@ pub record IsFitted (room seen here lits hints : ℕ) : Type 0 where
 abbrev pub AreWithin : ℕ → List ℕ → Type 0
 AreWithin room lits = All (λ l. var_of l < room) lits
 
-abbrev pub ClausesWithin : ℕ → List Held → Type 0
+abbrev pub ClausesWithin : ℕ → List NumberedClause → Type 0
 ClausesWithin room clauses = All (λ c. AreWithin room c.lits) clauses
 
 abbrev pub EntriesWithin : ℕ → List TrailEntry → Type 0

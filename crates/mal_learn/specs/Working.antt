@@ -1,7 +1,7 @@
 use Rattle.std.specs.Prelude.{ℕ, ◌+◌, ◌-◌, ◌^◌, max, min, Bool, true, false, ◌==◌, nat_lt, ◌&&◌, ◌||◌, List, [], ◌∷◌, ◌++◌, slice_index_or, slice_set, Option, Some, None, if◌then◌else◌}
 use Rattle.std.specs.Option.{option_map_or}
 use Rattle.mal_base.specs.Literals.{var_of, negated}
-use Rattle.mal_base.specs.Held.{Held, lits_under}
+use Rattle.mal_base.specs.NumberedClause.{NumberedClause, lits_under}
 use Rattle.mal_base.specs.declared.trail_entry.TrailEntry.{TrailEntry}
 
 -- an analysis at work: by variable whether it was seen and whether an entry of the current level with it is still to
@@ -26,17 +26,17 @@ see_all [] s = s
 see_all (l ∷ ls) s = see_all ls (see (var_of l) s)
 
 -- the literals of the clause of a number, none where it is not held
-abbrev pub lits_of : List Held → ℕ → List ℕ
+abbrev pub lits_of : List NumberedClause → ℕ → List ℕ
 lits_of clauses id = option_map_or (λ (l : List ℕ). l) (lits_under id clauses) []
 
 -- an entry stays, or its reason's variables are seen
 abbrev pub kept : ℕ → TrailEntry → State → State
 kept level e s = record s { lits = s.lits ++ negated e.lit ∷ []; level = max (if e.level == level then 0 else e.level) s.level }
 
-abbrev pub resolved : List Held → ℕ → State → State
+abbrev pub resolved : List NumberedClause → ℕ → State → State
 resolved clauses r s = see_all (lits_of clauses r) (record s { hints = s.hints ++ r ∷ [] })
 
-abbrev pub by_reason : List Held → ℕ → TrailEntry → State → Option ℕ → State
+abbrev pub by_reason : List NumberedClause → ℕ → TrailEntry → State → Option ℕ → State
 by_reason clauses level e s None = kept level e s
 by_reason clauses level e s (Some r) = if (e.level == 0) || ((e.level == level) && nat_lt 0 s.left) then resolved clauses r s else kept level e s
 
@@ -48,11 +48,11 @@ abbrev pub uncounted : ℕ → TrailEntry → State → State
 uncounted level e s = record s { left = if e.level == level then s.left - 1 else s.left }
 
 -- an entry, handled
-abbrev pub visited : List Held → ℕ → TrailEntry → State → State
+abbrev pub visited : List NumberedClause → ℕ → TrailEntry → State → State
 visited clauses level e s = let t = passed e s in if slice_index_or s.seen (var_of e.lit) false then by_reason clauses level e (uncounted level e t) e.reason else t
 
 -- entries, latest first
-abbrev pub visited_all : List Held → ℕ → List TrailEntry → State → State
+abbrev pub visited_all : List NumberedClause → ℕ → List TrailEntry → State → State
 visited_all clauses level [] s = s
 visited_all clauses level (e ∷ past) s = visited_all clauses level past (visited clauses level e s)
 

@@ -6,7 +6,7 @@ use Rattle.spec_lrat.specs.Grammar.{Spells}
 use Rattle.spec_lrat.proofs.SpelledLemmas.{spells-read}
 use Rattle.mal_lrat.specs.declared.line.Line.{Line}
 use Rattle.mal_lrat.specs.declared.fault.LineFault.{LineFault}
-use Rattle.mal_lrat.specs.Seen.{seen}
+use Rattle.mal_lrat.specs.LineView.{seen}
 use Rattle.mal_lrat.specs.Answers.{Gives}
 use Rattle.spec_dimacs.specs.Merged.{clause_of}
 use Rattle.spec_lrat.proofs.MergedLemmas.{one_clause}

@@ -1,3 +1,3 @@
-pub mod Seen
+pub mod LineView
 pub mod Answers
 pub mod Spaced

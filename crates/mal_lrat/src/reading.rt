@@ -7,7 +7,7 @@ ghost use Rattle.spec_text.specs.Numbers.{number_in};
 ghost use Rattle.spec_dimacs.specs.Merged.{clause_of};
 ghost use Rattle.spec_lrat.specs.Reading.{greatest_id, is_end, behind_l, before_end, behind_end, numbers_of, literal_said, literals_of, id_said, is_negative, are_closed, ids_of, deleting, adding, added, behind_id, with_id, reading_of, reading};
 ghost use Rattle.spec_lrat.specs.Grammar.{Spells};
-ghost use Rattle.mal_lrat.specs.Seen.{seen};
+ghost use Rattle.mal_lrat.specs.LineView.{seen};
 ghost use Rattle.mal_lrat.specs.Answers.{Gives, GivesWords};
 
 use crate::fault::LineFault;

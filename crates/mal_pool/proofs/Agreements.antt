@@ -13,7 +13,7 @@ use Rattle.mal_pool.specs.Posts.{AreKnown}
 use Rattle.mal_pool.specs.Testing as testing
 use Rattle.mal_pool.specs.Testing.{is_by, is_among, AgreeOn, HasContents, HaveContents, HasPosts}
 use Rattle.mal_revision.specs.Posted.{Posted}
-use Rattle.spec_job.specs.Titled.{Key, Titled}
+use Rattle.spec_job.specs.KeyedJob.{Key, KeyedJob}
 use Rattle.spec_hall.specs.Dressed.{dressed, no_revision, revisions_of}
 use Rattle.spec_hall.specs.Events.{Event, Open, Revise, Close, Balance, Start, Finish, Exchange, bare}
 use Rattle.spec_hall.specs.Legal.{Legal}
@@ -147,7 +147,7 @@ agreed t names a b x y agree = by_test (list_any (λ name. is_text name t) names
     by_test false is = none-posted t names a is x ∙ sym (none-posted t names b is y)
 
 -- what is written down, with the revisions of the jobs
-dressed-by : (ts : List Titled) (t : List ℕ) (e : written.Event) → is_post_of t (dressed ts e) ≡ is_by t e
+dressed-by : (ts : List KeyedJob) (t : List ℕ) (e : written.Event) → is_post_of t (dressed ts e) ≡ is_by t e
 dressed-by ts t (of.Open tenant job ask) = refl
 dressed-by ts t (of.Revise tenant job number) = refl
 dressed-by ts t (of.Close tenant job) = refl
@@ -156,7 +156,7 @@ dressed-by ts t (of.Start tenant job index worker) = refl
 dressed-by ts t (of.Finish tenant job index worker outcome) = refl
 dressed-by ts t (of.Exchange tenant job) = refl
 
-filter-dressed : (ts : List Titled) (t : List ℕ) (es : List written.Event) → filter (is_post_of t) (map (dressed ts) es) ≡ map (dressed ts) (filter (is_by t) es)
+filter-dressed : (ts : List KeyedJob) (t : List ℕ) (es : List written.Event) → filter (is_post_of t) (map (dressed ts) es) ≡ map (dressed ts) (filter (is_by t) es)
 filter-dressed ts t [] = refl
 filter-dressed ts t (e ∷ es) =
     ap (λ (b : Bool). cond b (dressed ts e ∷ filter (is_post_of t) (map (dressed ts) es)) (filter (is_post_of t) (map (dressed ts) es))) (dressed-by ts t e)
@@ -167,11 +167,11 @@ filter-dressed ts t (e ∷ es) =
     by_test false h = h
 
 -- what a script posts, written down and with the revisions of jobs that have its contents
-opened-dressed : (ts : List Titled) (js : List ScriptedJob) → map (dressed ts) (map bare (open_events js)) ≡ open_events js
+opened-dressed : (ts : List KeyedJob) (js : List ScriptedJob) → map (dressed ts) (map bare (open_events js)) ≡ open_events js
 opened-dressed ts [] = refl
 opened-dressed ts (j ∷ js) = ap (λ (x : List Event). Open (key_of_job j) j.ask ∷ x) (opened-dressed ts js)
 
-revised-dressed : (ts : List Titled) (k : Key) (all front rs : List Posted) (n : ℕ) → all ≡ front ++ rs → n ≡ length front + 1 → ((i : ℕ) → i < length all → get_or (revisions_of k ts) i no_revision ≡ get_or all i no_revision) → map (dressed ts) (map bare (revise_events k n rs)) ≡ revise_events k n rs
+revised-dressed : (ts : List KeyedJob) (k : Key) (all front rs : List Posted) (n : ℕ) → all ≡ front ++ rs → n ≡ length front + 1 → ((i : ℕ) → i < length all → get_or (revisions_of k ts) i no_revision ≡ get_or all i no_revision) → map (dressed ts) (map bare (revise_events k n rs)) ≡ revise_events k n rs
 revised-dressed ts k all front [] n is count has = refl
 revised-dressed ts k all front (r ∷ rs) n is count has =
     let place : n - 1 ≡ length front = omega (arith, count) in
@@ -192,7 +192,7 @@ revised-dressed ts k all front (r ∷ rs) n is count has =
 
 job-dressed : (h : List Event) (j : ScriptedJob) → HasContents h j → map (dressed (states h)) (map bare (job_events j)) ≡ job_events j
 job-dressed h j has =
-    let ts : List Titled = states h in
+    let ts : List KeyedJob = states h in
     let k : Key = key_of_job j in
     let revised : List Event = revise_events k 1 j.revisions in
     ap (map (dressed ts)) (map-append bare revised (Close k ∷ []))
@@ -202,7 +202,7 @@ job-dressed h j has =
 jobs-dressed : (h : List Event) (js : List ScriptedJob) → HaveContents h js → map (dressed (states h)) (map bare (flat_map job_events js)) ≡ flat_map job_events js
 jobs-dressed h [] have = refl
 jobs-dressed h (j ∷ js) have =
-    let ts : List Titled = states h in
+    let ts : List KeyedJob = states h in
     ap (map (dressed ts)) (map-append bare (job_events j) (flat_map job_events js))
     ∙ (map-append (dressed ts) (map bare (job_events j)) (map bare (flat_map job_events js))
     ∙ (ap (λ (x : List Event). x ++ map (dressed ts) (map bare (flat_map job_events js))) (job-dressed h j have.0)
@@ -210,7 +210,7 @@ jobs-dressed h (j ∷ js) have =
 
 script-dressed : (h : List Event) (s : Scripted) → HaveContents h s.jobs → map (dressed (states h)) (map bare (script_events s)) ≡ script_events s
 script-dressed h s have =
-    let ts : List Titled = states h in
+    let ts : List KeyedJob = states h in
     let opens : List Event = open_events s.jobs in
     let rest : List Event = flat_map job_events s.jobs in
     ap (map (dressed ts)) (map-append bare opens rest)
@@ -221,7 +221,7 @@ script-dressed h s have =
 -- a legal history whose written posts are the script's, of jobs with its contents, has its posts
 pub have-posts : (w : ℕ) (s : Scripted) (h : List Event) (names : List (List ℕ)) → Legal w h → list_all (is_among names) (map bare h) ≡ true → list_all (is_among names) (map bare (script_events s)) ≡ true → AgreeOn names (map bare h) (map bare (script_events s)) → HaveContents h s.jobs → HasPosts s h
 have-posts w s h names legal x y agree have = λ t.
-    let ts : List Titled = states h in
+    let ts : List KeyedJob = states h in
     ap (filter (is_post_of t)) (sym (legal-is_dressed w h legal))
     ∙ (filter-dressed ts t (map bare h)
     ∙ (ap (map (dressed ts)) (agreed t names (map bare h) (map bare (script_events s)) x y agree)

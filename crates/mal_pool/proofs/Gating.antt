@@ -2,7 +2,7 @@
 use Rattle.std.proofs.Common.{◌≡◌, ℕ, Bool, true, false, if◌then◌else◌, List, [], ◌∷◌, ◌++◌, inl, inr, refl, sym, ◌∙◌, ap, subst, append-nil, append_assoc, Option, Some, None, Result, Ok, Err}
 use Rattle.mal_base.specs.declared.verdict.Outcome.{Outcome}
 use Rattle.mal_base.specs.declared.verdict.Outcome.TheVariants.{Ran, Starved, Lost}
-use Rattle.mal_hall.specs.Desks.{Told, Picked, Gave, IsWorked}
+use Rattle.mal_hall.specs.Desks.{DeskCall, Picked, Gave, IsWorked}
 use Rattle.mal_hall.specs.Offered.{handed_of}
 use Rattle.mal_pool.specs.declared.gate.Point.TheVariants.{Before, After}
 use Rattle.mal_pool.specs.declared.gate.Step.{Step}
@@ -37,14 +37,14 @@ worked : (l : job.Leased) (d : Finished) → d.worker ≡ l.worker → Becomes d
 worked l d who is tells = record { worker = who; journal = grown-from d.outcome l d is; tells = tells }
 
 -- the gate stops the worker before the slice, or after it
-pub stopped-before : (stops : Stops) (w start : ℕ) (l : job.Leased) (old : List Told) (s : Step) → start ≡ l.journal.start → s ≡ (if stops Before start w then Stop else Go) → s ≡ Stop → (mine : List Told) × (old ≡ old ++ mine) × IsTurn stops w (Picked w (Ok (Leased (handed_of l))) ∷ mine) (turned.Ended ends.Stopped)
+pub stopped-before : (stops : Stops) (w start : ℕ) (l : job.Leased) (old : List DeskCall) (s : Step) → start ≡ l.journal.start → s ≡ (if stops Before start w then Stop else Go) → s ≡ Stop → (mine : List DeskCall) × (old ≡ old ++ mine) × IsTurn stops w (Picked w (Ok (Leased (handed_of l))) ∷ mine) (turned.Ended ends.Stopped)
 stopped-before stops w start l old s is told stop = (
   [],
   sym (append-nil old),
   (handed_of l, inl (subst (λ (n : ℕ). stops Before n w ≡ true) is (stop-is (stops Before start w) s told stop)), refl),
 )
 
-pub stopped-after : (stops : Stops) (w start : ℕ) (l : job.Leased) (old : List Told) (s t : Step) → start ≡ l.journal.start → s ≡ (if stops Before start w then Stop else Go) → s ≡ Go → t ≡ (if stops After start w then Stop else Go) → t ≡ Stop → (mine : List Told) × (old ≡ old ++ mine) × IsTurn stops w (Picked w (Ok (Leased (handed_of l))) ∷ mine) (turned.Ended ends.Stopped)
+pub stopped-after : (stops : Stops) (w start : ℕ) (l : job.Leased) (old : List DeskCall) (s t : Step) → start ≡ l.journal.start → s ≡ (if stops Before start w then Stop else Go) → s ≡ Go → t ≡ (if stops After start w then Stop else Go) → t ≡ Stop → (mine : List DeskCall) × (old ≡ old ++ mine) × IsTurn stops w (Picked w (Ok (Leased (handed_of l))) ∷ mine) (turned.Ended ends.Stopped)
 stopped-after stops w start l old s t is first go told stop = (
   [],
   sym (append-nil old),
@@ -56,7 +56,7 @@ given : (stops : Stops) (w : ℕ) (l : Handed) (d : Finished) (answer : Return) 
 given stops w l d calls.Back pass done = (l, d, pass, done, refl)
 given stops w l d (calls.Strange kept) pass done = (l, d, kept, pass, done, refl)
 
-pub worked-off : (stops : Stops) (w start : ℕ) (l : job.Leased) (d : Finished) (old now : List Told) (s t : Step) (r : Turned) → start ≡ l.journal.start → s ≡ (if stops Before start w then Stop else Go) → s ≡ Go → t ≡ (if stops After start w then Stop else Go) → t ≡ Go → d.worker ≡ l.worker → Becomes d.outcome l d → Tells d.outcome d → ((answer : Return) × (now ≡ old ++ Gave d answer ∷ []) × (r ≡ turned_by answer)) → (mine : List Told) × (now ≡ old ++ mine) × IsTurn stops w (Picked w (Ok (Leased (handed_of l))) ∷ mine) r
+pub worked-off : (stops : Stops) (w start : ℕ) (l : job.Leased) (d : Finished) (old now : List DeskCall) (s t : Step) (r : Turned) → start ≡ l.journal.start → s ≡ (if stops Before start w then Stop else Go) → s ≡ Go → t ≡ (if stops After start w then Stop else Go) → t ≡ Go → d.worker ≡ l.worker → Becomes d.outcome l d → Tells d.outcome d → ((answer : Return) × (now ≡ old ++ Gave d answer ∷ []) × (r ≡ turned_by answer)) → (mine : List DeskCall) × (now ≡ old ++ mine) × IsTurn stops w (Picked w (Ok (Leased (handed_of l))) ∷ mine) r
 worked-off stops w start l d old now s t r is first go second pass who becomes tells (answer, e, came) = (
   Gave d answer ∷ [],
   e,
@@ -65,10 +65,10 @@ worked-off stops w start l d old now s t r is first go second pass who becomes t
 )
 
 -- a turn that leased
-pub turn-leased : (stops : Stops) (w : ℕ) (l : job.Leased) (old middle now : List Told) (answer : Result Offer PickFault) (r : Turned) → middle ≡ old ++ Picked w answer ∷ [] → answer ≡ Ok (Leased (handed_of l)) → ((mine : List Told) × (now ≡ middle ++ mine) × IsTurn stops w (Picked w (Ok (Leased (handed_of l))) ∷ mine) r) → (mine : List Told) × (now ≡ old ++ mine) × IsTurn stops w mine r
+pub turn-leased : (stops : Stops) (w : ℕ) (l : job.Leased) (old middle now : List DeskCall) (answer : Result Offer PickFault) (r : Turned) → middle ≡ old ++ Picked w answer ∷ [] → answer ≡ Ok (Leased (handed_of l)) → ((mine : List DeskCall) × (now ≡ middle ++ mine) × IsTurn stops w (Picked w (Ok (Leased (handed_of l))) ∷ mine) r) → (mine : List DeskCall) × (now ≡ old ++ mine) × IsTurn stops w mine r
 turn-leased stops w l old middle now answer r picked is (mine, e, turn) = (
   Picked w (Ok (Leased (handed_of l))) ∷ mine,
-  e ∙ (ap (λ (cs : List Told). cs ++ mine) (picked ∙ ap (λ (a : Result Offer PickFault). old ++ Picked w a ∷ []) is) ∙ append_assoc old (Picked w (Ok (Leased (handed_of l))) ∷ []) mine),
+  e ∙ (ap (λ (cs : List DeskCall). cs ++ mine) (picked ∙ ap (λ (a : Result Offer PickFault). old ++ Picked w a ∷ []) is) ∙ append_assoc old (Picked w (Ok (Leased (handed_of l))) ∷ []) mine),
   turn,
 )
 
@@ -77,7 +77,7 @@ halts-somewhere : (stops : Stops) (w : ℕ) (l : Handed) → Halts stops w l →
 halts-somewhere stops w l (inl is) = (Before, l.journal.start, w, is)
 halts-somewhere stops w l (inr is) = (After, l.journal.start, w, is.1)
 
-pub turn-stops : (stops : Stops) (w : ℕ) (mine : List Told) (r : Turned) → IsTurn stops w mine r → r ≡ turned.Ended ends.Stopped → StopsSomewhere stops
+pub turn-stops : (stops : Stops) (w : ℕ) (mine : List DeskCall) (r : Turned) → IsTurn stops w mine r → r ≡ turned.Ended ends.Stopped → StopsSomewhere stops
 turn-stops stops w mine r turn is = by (subst (IsTurn stops w mine) is turn)
   where
     by : IsTurn stops w mine (turned.Ended ends.Stopped) → StopsSomewhere stops

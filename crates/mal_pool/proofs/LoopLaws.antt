@@ -5,7 +5,7 @@ use Rattle.spec_job.specs.Leased.{Finished}
 use Rattle.spec_hall.specs.declared.fault.PickFault.TheVariants as faults
 use Rattle.spec_hall.specs.Calls as calls
 use Rattle.spec_hall.specs.Calls.{Handed, Leased}
-use Rattle.mal_hall.specs.Desks.{Told, Picked, Gave, Posted}
+use Rattle.mal_hall.specs.Desks.{DeskCall, Picked, Gave, Posted}
 use Rattle.mal_pool.specs.Gates.{Stops, Halts}
 use Rattle.mal_pool.specs.declared.working.End.{End}
 use Rattle.mal_pool.specs.declared.working.End.TheVariants as ends
@@ -18,27 +18,27 @@ Owes None idles = Unit {0}
 Owes (Some l) idles = idles ≡ 0
 
 -- the calls end with this many Idle: 1,000, or they are all of these and with those before 1,000
-abbrev Tail : ℕ → ℕ → Option Handed → List Told → Type 0
-Tail w idles o mine = (front : List Told) × (n : ℕ) × (mine ≡ front ++ replicate n (Picked w (Ok calls.Idle))) × ((n ≡ 1000) ⊎ ((o ≡ None) × (front ≡ []) × (n + idles ≡ 1000)))
+abbrev Tail : ℕ → ℕ → Option Handed → List DeskCall → Type 0
+Tail w idles o mine = (front : List DeskCall) × (n : ℕ) × (mine ≡ front ++ replicate n (Picked w (Ok calls.Idle))) × ((n ≡ 1000) ⊎ ((o ≡ None) × (front ≡ []) × (n + idles ≡ 1000)))
 
-further : (w idles before : ℕ) (o : Option Handed) (c : Told) (l : Handed) (more : List Told) → Tail w before (Some l) more → Tail w idles o (c ∷ more)
-further w idles before o c l more (front, n, e, inl q) = (c ∷ front, n, ap (λ (cs : List Told). c ∷ cs) e, inl q)
+further : (w idles before : ℕ) (o : Option Handed) (c : DeskCall) (l : Handed) (more : List DeskCall) → Tail w before (Some l) more → Tail w idles o (c ∷ more)
+further w idles before o c l more (front, n, e, inl q) = (c ∷ front, n, ap (λ (cs : List DeskCall). c ∷ cs) e, inl q)
 further w idles before o c l more (front, n, e, inr q) = absurd (let no : Some l ≡ None = q.0 in cc)
 
-given : (w : ℕ) (l : Handed) (c : Told) (idles : ℕ) (more : List Told) → idles ≡ 0 → Tail w idles None more → Tail w idles (Some l) (c ∷ more)
-given w l c idles more z (front, n, e, inl q) = (c ∷ front, n, ap (λ (cs : List Told). c ∷ cs) e, inl q)
-given w l c idles more z (front, n, e, inr q) = (c ∷ front, n, ap (λ (cs : List Told). c ∷ cs) e, inl (omega (arith, q.2, z)))
+given : (w : ℕ) (l : Handed) (c : DeskCall) (idles : ℕ) (more : List DeskCall) → idles ≡ 0 → Tail w idles None more → Tail w idles (Some l) (c ∷ more)
+given w l c idles more z (front, n, e, inl q) = (c ∷ front, n, ap (λ (cs : List DeskCall). c ∷ cs) e, inl q)
+given w l c idles more z (front, n, e, inr q) = (c ∷ front, n, ap (λ (cs : List DeskCall). c ∷ cs) e, inl (omega (arith, q.2, z)))
 
-idled : (w v idles : ℕ) (more : List Told) → v ≡ w → Tail w (idles + 1) None more → Tail w idles None (Picked v (Ok calls.Idle) ∷ more)
-idled w v idles more s (front, n, e, inl q) = (Picked v (Ok calls.Idle) ∷ front, n, ap (λ (cs : List Told). Picked v (Ok calls.Idle) ∷ cs) e, inl q)
+idled : (w v idles : ℕ) (more : List DeskCall) → v ≡ w → Tail w (idles + 1) None more → Tail w idles None (Picked v (Ok calls.Idle) ∷ more)
+idled w v idles more s (front, n, e, inl q) = (Picked v (Ok calls.Idle) ∷ front, n, ap (λ (cs : List DeskCall). Picked v (Ok calls.Idle) ∷ cs) e, inl q)
 idled w v idles more s (front, n, e, inr q) = (
   [],
   suc n,
-  ap (λ (x : ℕ). Picked x (Ok calls.Idle) ∷ more) s ∙ ap (λ (cs : List Told). Picked w (Ok calls.Idle) ∷ cs) (e ∙ ap (λ (cs : List Told). cs ++ replicate n (Picked w (Ok calls.Idle))) q.1),
+  ap (λ (x : ℕ). Picked x (Ok calls.Idle) ∷ more) s ∙ ap (λ (cs : List DeskCall). Picked w (Ok calls.Idle) ∷ cs) (e ∙ ap (λ (cs : List DeskCall). cs ++ replicate n (Picked w (Ok calls.Idle))) q.1),
   inr (refl, refl, omega (arith, q.2)),
 )
 
-tail : (stops : Stops) (w left idles : ℕ) (o : Option Handed) (mine : List Told) → Owes o idles → Works stops w left idles o mine ends.Idle → Tail w idles o mine
+tail : (stops : Stops) (w left idles : ℕ) (o : Option Handed) (mine : List DeskCall) → Owes o idles → Works stops w left idles o mine ends.Idle → Tail w idles o mine
 tail stops w left idles None [] h r = ([], 0, refl, inr (refl, refl, omega (arith, r)))
 tail stops w left idles None (Picked v (Ok (Leased l)) ∷ more) h r = further w idles 0 None (Picked v (Ok (Leased l))) l more (tail stops w (left - 1) 0 (Some l) more refl r.2)
 tail stops w left idles None (Picked v (Ok calls.Idle) ∷ more) h r = idled w v idles more r.0 (tail stops w (left - 1) (idles + 1) None more tt r.2)
@@ -53,7 +53,7 @@ tail stops w left idles (Some l) (Gave d calls.Back ∷ more) h r = given w l (G
 tail stops w left idles (Some l) (Gave d (calls.Strange kept) ∷ more) h r = absurd (let no : ends.Idle ≡ ends.Strange = r.3 in cc)
 tail stops w left idles (Some l) (Posted p a ∷ more) h r = absurd r
 
-pub idle_says : (stops : Stops) (w turns : ℕ) (mine : List Told) → Works stops w turns 0 None mine ends.Idle → EndSays stops w turns mine ends.Idle
+pub idle_says : (stops : Stops) (w turns : ℕ) (mine : List DeskCall) → Works stops w turns 0 None mine ends.Idle → EndSays stops w turns mine ends.Idle
 idle_says stops w turns mine r = by (tail stops w turns 0 None mine tt r)
   where
     by : Tail w 0 None mine → EndSays stops w turns mine ends.Idle
@@ -61,7 +61,7 @@ idle_says stops w turns mine r = by (tail stops w turns 0 None mine tt r)
     by (front, n, e, inr q) = let is : n ≡ 1000 = omega (arith, q.2) in (front, subst (λ (k : ℕ). mine ≡ front ++ replicate k (Picked w (Ok calls.Idle))) is e)
 
 -- no loop picks more often than it has turns
-pub bounded : (stops : Stops) (w left idles : ℕ) (o : Option Handed) (mine : List Told) (end : End) → Works stops w left idles o mine end → picks mine ≤ left
+pub bounded : (stops : Stops) (w left idles : ℕ) (o : Option Handed) (mine : List DeskCall) (end : End) → Works stops w left idles o mine end → picks mine ≤ left
 bounded stops w left idles None [] end r = omega arith
 bounded stops w left idles None (Picked v (Ok (Leased l)) ∷ more) end r = let b = bounded stops w (left - 1) 0 (Some l) more end r.2 in let m = r.1.0 in omega (arith, b, m)
 bounded stops w left idles None (Picked v (Ok calls.Idle) ∷ more) end r = let b = bounded stops w (left - 1) (idles + 1) None more end r.2 in let m = r.1.0 in omega (arith, b, m)
@@ -77,7 +77,7 @@ bounded stops w left idles (Some l) (Gave d (calls.Strange kept) ∷ more) end r
 bounded stops w left idles (Some l) (Posted p a ∷ more) end r = absurd r
 
 -- a loop that is spent picked as often as it had turns
-spent : (stops : Stops) (w left idles : ℕ) (o : Option Handed) (mine : List Told) → Works stops w left idles o mine ends.Spent → picks mine ≡ left
+spent : (stops : Stops) (w left idles : ℕ) (o : Option Handed) (mine : List DeskCall) → Works stops w left idles o mine ends.Spent → picks mine ≡ left
 spent stops w left idles None [] r = sym r.0
 spent stops w left idles None (Picked v (Ok (Leased l)) ∷ more) r = let b = spent stops w (left - 1) 0 (Some l) more r.2 in let m = r.1.0 in omega (arith, b, m)
 spent stops w left idles None (Picked v (Ok calls.Idle) ∷ more) r = let b = spent stops w (left - 1) (idles + 1) None more r.2 in let m = r.1.0 in omega (arith, b, m)
@@ -93,7 +93,7 @@ spent stops w left idles (Some l) (Gave d (calls.Strange kept) ∷ more) r = abs
 spent stops w left idles (Some l) (Posted p a ∷ more) r = absurd r
 
 -- the last answer
-abbrev Last : Stops → ℕ → List Told → End → Type 0
+abbrev Last : Stops → ℕ → List DeskCall → End → Type 0
 Last stops w mine ends.Idle = Unit {0}
 Last stops w mine ends.Spent = Unit {0}
 Last stops w mine ends.Stopped = Unit {0}
@@ -102,10 +102,10 @@ Last stops w mine ends.Busy = EndsWith mine (Picked w (Err faults.Busy))
 Last stops w mine ends.OutOfMemory = EndsWith mine (Picked w (Err faults.OutOfMemory))
 Last stops w mine ends.Strange = (d : Finished) × (kept : Option ℕ) × EndsWith mine (Gave d (calls.Strange kept))
 
-sooner : (x c : Told) (more : List Told) → EndsWith more c → EndsWith (x ∷ more) c
-sooner x c more (front, e) = (x ∷ front, ap (λ (cs : List Told). x ∷ cs) e)
+sooner : (x c : DeskCall) (more : List DeskCall) → EndsWith more c → EndsWith (x ∷ more) c
+sooner x c more (front, e) = (x ∷ front, ap (λ (cs : List DeskCall). x ∷ cs) e)
 
-before : (stops : Stops) (w : ℕ) (x : Told) (more : List Told) (end : End) → Last stops w more end → Last stops w (x ∷ more) end
+before : (stops : Stops) (w : ℕ) (x : DeskCall) (more : List DeskCall) (end : End) → Last stops w more end → Last stops w (x ∷ more) end
 before stops w x more ends.Idle h = tt
 before stops w x more ends.Spent h = tt
 before stops w x more ends.Stopped h = tt
@@ -124,7 +124,7 @@ rests stops w left idles ends.Busy r = absurd r
 rests stops w left idles ends.OutOfMemory r = absurd r
 rests stops w left idles ends.Strange r = absurd r
 
-last : (stops : Stops) (w left idles : ℕ) (o : Option Handed) (mine : List Told) (end : End) → Works stops w left idles o mine end → Last stops w mine end
+last : (stops : Stops) (w left idles : ℕ) (o : Option Handed) (mine : List DeskCall) (end : End) → Works stops w left idles o mine end → Last stops w mine end
 last stops w left idles None [] end r = rests stops w left idles end r
 last stops w left idles None (Picked v (Ok (Leased l)) ∷ more) end r = before stops w _ more end (last stops w (left - 1) 0 (Some l) more end r.2)
 last stops w left idles None (Picked v (Ok calls.Idle) ∷ more) end r = before stops w _ more end (last stops w (left - 1) (idles + 1) None more end r.2)
@@ -140,22 +140,22 @@ last stops w left idles (Some l) (Gave d (calls.Strange kept) ∷ more) end r = 
 last stops w left idles (Some l) (Posted p a ∷ more) end r = absurd r
 
 -- a loop that the gate stopped made one pick more, and the gate stops the worker with that lease
-abbrev Stopping : Stops → ℕ → List Told → Type 0
+abbrev Stopping : Stops → ℕ → List DeskCall → Type 0
 Stopping stops w mine = (l : Handed) × Halts stops w l × EndsWith mine (Picked w (Ok (Leased l)))
 
 -- with a lease owed, it may be stopped at once
-abbrev StoppingAt : Stops → ℕ → Option Handed → List Told → Type 0
+abbrev StoppingAt : Stops → ℕ → Option Handed → List DeskCall → Type 0
 StoppingAt stops w None mine = Stopping stops w mine
 StoppingAt stops w (Some l) mine = ((mine ≡ []) × Halts stops w l) ⊎ Stopping stops w mine
 
-stopping-later : (stops : Stops) (w : ℕ) (x : Told) (more : List Told) → Stopping stops w more → Stopping stops w (x ∷ more)
+stopping-later : (stops : Stops) (w : ℕ) (x : DeskCall) (more : List DeskCall) → Stopping stops w more → Stopping stops w (x ∷ more)
 stopping-later stops w x more (l, halts, ends) = (l, halts, sooner x (Picked w (Ok (Leased l))) more ends)
 
-stopping-owed : (stops : Stops) (w v : ℕ) (l : Handed) (more : List Told) → v ≡ w → StoppingAt stops w (Some l) more → Stopping stops w (Picked v (Ok (Leased l)) ∷ more)
+stopping-owed : (stops : Stops) (w v : ℕ) (l : Handed) (more : List DeskCall) → v ≡ w → StoppingAt stops w (Some l) more → Stopping stops w (Picked v (Ok (Leased l)) ∷ more)
 stopping-owed stops w v l more is (inl (none, halts)) = (l, halts, ([], λ i. Picked (is i) (Ok (Leased l)) ∷ none i))
 stopping-owed stops w v l more is (inr later) = stopping-later stops w (Picked v (Ok (Leased l))) more later
 
-stopped : (stops : Stops) (w left idles : ℕ) (o : Option Handed) (mine : List Told) → Works stops w left idles o mine ends.Stopped → StoppingAt stops w o mine
+stopped : (stops : Stops) (w left idles : ℕ) (o : Option Handed) (mine : List DeskCall) → Works stops w left idles o mine ends.Stopped → StoppingAt stops w o mine
 stopped stops w left idles None [] r = absurd r
 stopped stops w left idles None (Picked v (Ok (Leased l)) ∷ more) r = stopping-owed stops w v l more r.0 (stopped stops w (left - 1) 0 (Some l) more r.2)
 stopped stops w left idles None (Picked v (Ok calls.Idle) ∷ more) r = stopping-later stops w (Picked v (Ok calls.Idle)) more (stopped stops w (left - 1) (idles + 1) None more r.2)
@@ -170,7 +170,7 @@ stopped stops w left idles (Some l) (Gave d calls.Back ∷ more) r = inr (stoppi
 stopped stops w left idles (Some l) (Gave d (calls.Strange kept) ∷ more) r = absurd (let no : ends.Stopped ≡ ends.Strange = r.3 in cc)
 stopped stops w left idles (Some l) (Posted p a ∷ more) r = absurd r
 
-pub says : (stops : Stops) (w turns : ℕ) (mine : List Told) (end : End) → Works stops w turns 0 None mine end → EndSays stops w turns mine end
+pub says : (stops : Stops) (w turns : ℕ) (mine : List DeskCall) (end : End) → Works stops w turns 0 None mine end → EndSays stops w turns mine end
 says stops w turns mine ends.Idle r = idle_says stops w turns mine r
 says stops w turns mine ends.Spent r = spent stops w turns 0 None mine r
 says stops w turns mine ends.AllDone r = last stops w turns 0 None mine ends.AllDone r

@@ -3,12 +3,12 @@ use Rattle.std.proofs.Common.{◌≡◌, ℕ, zero, suc, ◌+◌, ◌<◌, ◌�
 use Rattle.std.specs.List.{list_any}
 use Rattle.std.specs.Option.{option_map_or}
 use Rattle.std.proofs.lemmas.List.{take_all, take_more, length-take-le, flat_map_more}
-use Rattle.mal_hall.specs.Seen.{Seen, next_number}
+use Rattle.mal_hall.specs.HallView.{HallView, next_number}
 use Rattle.mal_pool.specs.Posts.{IsKnown, AreKnown, HasRun}
 use Rattle.mal_revision.specs.Posted.{Posted}
 use Rattle.spec_job.specs.Replies.{reply}
-use Rattle.spec_job.specs.Solo.{Solo, solo}
-use Rattle.spec_job.specs.Titled.{Key, Titled}
+use Rattle.spec_job.specs.SoloMachine.{SoloMachine, solo}
+use Rattle.spec_job.specs.KeyedJob.{Key, KeyedJob}
 use Rattle.spec_hall.specs.Events.{Event, Revise}
 use Rattle.spec_hall.specs.Driven.{GrowsByTurns}
 use Rattle.spec_hall.specs.Own.{own, is_key}
@@ -27,7 +27,7 @@ use Rattle.spec_script.specs.Script.{ScriptedJob, Scripted}
 -- the number of the next revision of a job that is open
 pub next-number : (k : Key) (rs : List Posted) (h : List Event) → IsOpen k rs h → next_number k h ≡ length rs + 1
 next-number k rs h is =
-    ap (λ (o : Option Titled). option_map_or (λ t. length t.state.revisions + 1) o 1) (open-found k rs h is)
+    ap (λ (o : Option KeyedJob). option_map_or (λ t. length t.state.revisions + 1) o 1) (open-found k rs h is)
     ∙ ap (λ (x : List Posted). length x + 1) is.posted
 
 pub next-place : (k : Key) (rs : List Posted) (i : ℕ) (h : List Event) → IsOpen k (take i rs) h → i < length rs → next_number k h ≡ i + 1
@@ -37,12 +37,12 @@ next-place k rs i h is low = next-number k (take i rs) h is ∙ ap (λ (n : ℕ)
 pub open-not_missing : (k : Key) (rs : List Posted) (h : List Event) → IsOpen k rs h → job_of k (states h) ≡ None → ⊥
 open-not_missing k rs h is none = some-not-none (titled h k) (sym (open-found k rs h is) ∙ none)
   where
-    some-not-none : (t : Titled) → Some t ≡ None → ⊥
+    some-not-none : (t : KeyedJob) → Some t ≡ None → ⊥
     some-not-none t e = cc
 
-pub open-not_closed : (k : Key) (rs : List Posted) (h : List Event) → IsOpen k rs h → (t : Titled) → job_of k (states h) ≡ Some t → t.state.closed ≡ true → ⊥
+pub open-not_closed : (k : Key) (rs : List Posted) (h : List Event) → IsOpen k rs h → (t : KeyedJob) → job_of k (states h) ≡ Some t → t.state.closed ≡ true → ⊥
 open-not_closed k rs h is t found closed =
-    true-not-false (sym closed ∙ (ap (λ (x : Titled). x.state.closed) (sym (find-titled h k (keys_of h) t found)) ∙ is.unclosed))
+    true-not-false (sym closed ∙ (ap (λ (x : KeyedJob). x.state.closed) (sym (find-titled h k (keys_of h) t found)) ∙ is.unclosed))
   where
     true-not-false : true ≡ false → ⊥
     true-not-false e = cc
@@ -61,7 +61,7 @@ known-all h before (j ∷ js) keys = (
 )
 
 -- a hall in which a script was posted and that went on by turns until no job was live has run it
-pub has-run : (workers : ℕ) (s : Scripted) (h : Seen) → h.workers ≡ workers → Legal h.workers h.events → GrowsByTurns workers (script_events s) h.events → lives (states h.events) ≡ [] → leases h.events ≡ [] → HasRun workers s h
+pub has-run : (workers : ℕ) (s : Scripted) (h : HallView) → h.workers ≡ workers → Legal h.workers h.events → GrowsByTurns workers (script_events s) h.events → lives (states h.events) ≡ [] → leases h.events ≡ [] → HasRun workers s h
 has-run workers s h are legal grows answered home = record {
   workers_are = are;
   legal = legal;
@@ -76,12 +76,12 @@ known-at h (k ∷ ks) zero j are low is = subst (λ (x : ScriptedJob). IsKnown h
 known-at h (k ∷ ks) (suc i) j are low is = known-at h ks i j are.1 (omega arith) is
 
 -- the reply of a job that is found
-pub reply-is : (k : Key) (n : ℕ) (h : List Event) (t : Titled) (v : Option (List ℕ)) → job_of k (states h) ≡ Some t → reply k n t.state ≡ v → text_or_none (reply k n (solo (own k h))) ≡ text_or_none v
+pub reply-is : (k : Key) (n : ℕ) (h : List Event) (t : KeyedJob) (v : Option (List ℕ)) → job_of k (states h) ≡ Some t → reply k n t.state ≡ v → text_or_none (reply k n (solo (own k h))) ≡ text_or_none v
 reply-is k n h t v found e =
-    ap (λ (x : Titled). text_or_none (reply k n x.state)) (find-titled h k (keys_of h) t found) ∙ ap text_or_none e
+    ap (λ (x : KeyedJob). text_or_none (reply k n x.state)) (find-titled h k (keys_of h) t found) ∙ ap text_or_none e
 
 -- the replies to one revision more
-replies-more : (k : Key) (n : ℕ) (s : Solo) (ps : List Posted) (p : Posted) → replies_from k n s (ps ++ p ∷ []) ≡ replies_from k n s ps ++ text_or_none (reply k (n + length ps) s)
+replies-more : (k : Key) (n : ℕ) (s : SoloMachine) (ps : List Posted) (p : Posted) → replies_from k n s (ps ++ p ∷ []) ≡ replies_from k n s ps ++ text_or_none (reply k (n + length ps) s)
 replies-more k n s [] p = append-nil (text_or_none (reply k n s)) ∙ ap (λ (m : ℕ). text_or_none (reply k m s)) (plus-zero n)
   where
     plus-zero : (m : ℕ) → m ≡ m + 0
@@ -93,7 +93,7 @@ replies-more k n s (q ∷ qs) p =
     plus-one : (m l : ℕ) → (m + 1) + l ≡ m + suc l
     plus-one m l = omega arith
 
-pub put-more : (k : Key) (s : Solo) (rs : List Posted) (i n : ℕ) (old text after : List ℕ) → text ≡ old ++ replies_from k 1 s (take i rs) → after ≡ text ++ text_or_none (reply k n s) → n ≡ i + 1 → i < length rs → after ≡ old ++ replies_from k 1 s (take (i + 1) rs)
+pub put-more : (k : Key) (s : SoloMachine) (rs : List Posted) (i n : ℕ) (old text after : List ℕ) → text ≡ old ++ replies_from k 1 s (take i rs) → after ≡ text ++ text_or_none (reply k n s) → n ≡ i + 1 → i < length rs → after ≡ old ++ replies_from k 1 s (take (i + 1) rs)
 put-more k s rs i n old text after e step number low =
     let r : Posted = get_or rs i (record { variables = 0; clauses = []; assumptions = [] }) in
     let count : length (take i rs) ≡ i = length-take-le i rs (omega arith) in
@@ -103,7 +103,7 @@ put-more k s rs i n old text after e step number low =
     ∙ ap (λ (x : List ℕ). old ++ x) (ap (λ (m : ℕ). replies_from k 1 s (take i rs) ++ text_or_none (reply k m s)) place
     ∙ (sym (replies-more k 1 s (take i rs) r) ∙ ap (replies_from k 1 s) (sym (take_more rs i (record { variables = 0; clauses = []; assumptions = [] }) low))))))
 
-pub put-all : (k : Key) (s : Solo) (rs : List Posted) (i : ℕ) (old text : List ℕ) → text ≡ old ++ replies_from k 1 s (take i rs) → length rs ≤ i → text ≡ old ++ replies_from k 1 s rs
+pub put-all : (k : Key) (s : SoloMachine) (rs : List Posted) (i : ℕ) (old text : List ℕ) → text ≡ old ++ replies_from k 1 s (take i rs) → length rs ≤ i → text ≡ old ++ replies_from k 1 s rs
 put-all k s rs i old text e all = e ∙ ap (λ (x : List Posted). old ++ replies_from k 1 s x) (take_all i rs all)
 
 -- the replies to one job more

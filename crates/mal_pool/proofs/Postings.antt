@@ -8,7 +8,7 @@ use Rattle.mal_hall.specs.declared.desk.Post.{Post}
 use Rattle.mal_hall.specs.declared.desk.Post.TheVariants as posts
 use Rattle.mal_hall.specs.declared.desk.PostFault.{PostFault}
 use Rattle.mal_hall.specs.Desks as desks
-use Rattle.mal_hall.specs.Desks.{Told}
+use Rattle.mal_hall.specs.Desks.{DeskCall}
 use Rattle.mal_pool.specs.declared.posting.Left.{Left}
 use Rattle.mal_pool.specs.Runs.{open_post, revise_posts, job_posts, of_tenant, taken, IsRefusal, HasPostedOf, HasPostedFor, HasPosted}
 use Rattle.mal_revision.specs.Posted.{Posted}
@@ -25,28 +25,28 @@ no-refusal (Ok done) e = refl
 no-refusal (Err fault) e = absurd (let no : true ≡ false = e in cc)
 
 -- calls behind calls
-further : (old before after x y : List Told) → before ≡ old ++ x → after ≡ before ++ y → after ≡ old ++ (x ++ y)
-further old before after x y b a = a ∙ (ap (λ (cs : List Told). cs ++ y) b ∙ append_assoc old x y)
+further : (old before after x y : List DeskCall) → before ≡ old ++ x → after ≡ before ++ y → after ≡ old ++ (x ++ y)
+further old before after x y b a = a ∙ (ap (λ (cs : List DeskCall). cs ++ y) b ∙ append_assoc old x y)
 
 -- one more job is opened
-pub opened-more : (js : List ScriptedJob) (i : ℕ) (j : ScriptedJob) (old before after : List Told) → before ≡ old ++ taken (map open_post (take i js)) → after ≡ before ++ desks.Posted (open_post j) (Ok tt) ∷ [] → i < length js → j ≡ get_or js i j → after ≡ old ++ taken (map open_post (take (i + 1) js))
+pub opened-more : (js : List ScriptedJob) (i : ℕ) (j : ScriptedJob) (old before after : List DeskCall) → before ≡ old ++ taken (map open_post (take i js)) → after ≡ before ++ desks.Posted (open_post j) (Ok tt) ∷ [] → i < length js → j ≡ get_or js i j → after ≡ old ++ taken (map open_post (take (i + 1) js))
 opened-more js i j old before after b a low is =
     further old before after (taken (map open_post (take i js))) (taken (open_post j ∷ [])) b a
-    ∙ ap (λ (cs : List Told). old ++ cs) (sym (taken-parts (map open_post (take i js)) (open_post j ∷ []))
+    ∙ ap (λ (cs : List DeskCall). old ++ cs) (sym (taken-parts (map open_post (take i js)) (open_post j ∷ []))
     ∙ ap taken (sym (map-append open_post (take i js) (j ∷ [])) ∙ ap (map open_post) (sym (take-one js i j low is))))
 
-pub opened-all : (js : List ScriptedJob) (i : ℕ) (old now : List Told) → now ≡ old ++ taken (map open_post (take i js)) → length js ≤ i → now ≡ old ++ taken (map open_post js)
+pub opened-all : (js : List ScriptedJob) (i : ℕ) (old now : List DeskCall) → now ≡ old ++ taken (map open_post (take i js)) → length js ≤ i → now ≡ old ++ taken (map open_post js)
 opened-all js i old now e all = e ∙ ap (λ (xs : List ScriptedJob). old ++ taken (map open_post xs)) (take_all i js all)
 
 -- one more revision is posted
-pub revised-more : (j : ScriptedJob) (rs : List Posted) (i : ℕ) (r : Posted) (old before after : List Told) → before ≡ old ++ taken (revise_posts j (take i rs)) → after ≡ before ++ taken (posts.Revise j.tenant j.name r ∷ []) → i < length rs → r ≡ get_or rs i r → after ≡ old ++ taken (revise_posts j (take (i + 1) rs))
+pub revised-more : (j : ScriptedJob) (rs : List Posted) (i : ℕ) (r : Posted) (old before after : List DeskCall) → before ≡ old ++ taken (revise_posts j (take i rs)) → after ≡ before ++ taken (posts.Revise j.tenant j.name r ∷ []) → i < length rs → r ≡ get_or rs i r → after ≡ old ++ taken (revise_posts j (take (i + 1) rs))
 revised-more j rs i r old before after b a low is =
     further old before after (taken (revise_posts j (take i rs))) (taken (posts.Revise j.tenant j.name r ∷ [])) b a
-    ∙ ap (λ (cs : List Told). old ++ cs) (sym (taken-parts (revise_posts j (take i rs)) (posts.Revise j.tenant j.name r ∷ []))
+    ∙ ap (λ (cs : List DeskCall). old ++ cs) (sym (taken-parts (revise_posts j (take i rs)) (posts.Revise j.tenant j.name r ∷ []))
     ∙ ap taken (sym (map-append (λ (q : Posted). posts.Revise j.tenant j.name q) (take i rs) (r ∷ [])) ∙ ap (revise_posts j) (sym (take-one rs i r low is))))
 
 -- a refusal behind so many revisions
-pub refused-of : (j : ScriptedJob) (n i : ℕ) (old before after last : List Told) → before ≡ old ++ taken (revise_posts j (take i j.revisions)) → after ≡ before ++ last → IsRefusal last → n ≡ i → i ≤ length j.revisions → (mine : List Told) × (after ≡ old ++ mine) × HasPostedOf j (Some n) mine
+pub refused-of : (j : ScriptedJob) (n i : ℕ) (old before after last : List DeskCall) → before ≡ old ++ taken (revise_posts j (take i j.revisions)) → after ≡ before ++ last → IsRefusal last → n ≡ i → i ≤ length j.revisions → (mine : List DeskCall) × (after ≡ old ++ mine) × HasPostedOf j (Some n) mine
 refused-of j n i old before after last b a is same low = (
   taken (revise_posts j (take i j.revisions)) ++ last,
   further old before after (taken (revise_posts j (take i j.revisions))) last b a,
@@ -54,43 +54,43 @@ refused-of j n i old before after last b a is same low = (
 )
 
 -- all of a job is posted
-pub posted-of : (j : ScriptedJob) (i : ℕ) (old before after : List Told) → before ≡ old ++ taken (revise_posts j (take i j.revisions)) → after ≡ before ++ taken (posts.Close j.tenant j.name ∷ []) → length j.revisions ≤ i → (mine : List Told) × (after ≡ old ++ mine) × HasPostedOf j None mine
+pub posted-of : (j : ScriptedJob) (i : ℕ) (old before after : List DeskCall) → before ≡ old ++ taken (revise_posts j (take i j.revisions)) → after ≡ before ++ taken (posts.Close j.tenant j.name ∷ []) → length j.revisions ≤ i → (mine : List DeskCall) × (after ≡ old ++ mine) × HasPostedOf j None mine
 posted-of j i old before after b a all = (
   taken (job_posts j),
   further old before after (taken (revise_posts j (take i j.revisions))) (taken (posts.Close j.tenant j.name ∷ [])) b a
-      ∙ ap (λ (cs : List Told). old ++ cs) (sym (taken-parts (revise_posts j (take i j.revisions)) (posts.Close j.tenant j.name ∷ []))
+      ∙ ap (λ (cs : List DeskCall). old ++ cs) (sym (taken-parts (revise_posts j (take i j.revisions)) (posts.Close j.tenant j.name ∷ []))
       ∙ ap (λ (rs : List Posted). taken (revise_posts j rs ++ posts.Close j.tenant j.name ∷ [])) (take_all i j.revisions all)),
   refl,
 )
 
 -- a job that is the tenant's, or another's
-pub posted-other : (tenant : List ℕ) (j : ScriptedJob) (calls : List Told) → is_text tenant j.tenant ≡ false → (mine : List Told) × (calls ≡ calls ++ mine) × HasPostedFor tenant j None mine
+pub posted-other : (tenant : List ℕ) (j : ScriptedJob) (calls : List DeskCall) → is_text tenant j.tenant ≡ false → (mine : List DeskCall) × (calls ≡ calls ++ mine) × HasPostedFor tenant j None mine
 posted-other tenant j calls other = ([], sym (append-nil calls), ap (λ (b : Bool). taken (flat_map job_posts (cond b (j ∷ []) []))) (sym other))
 
-pub posted-mine : (tenant : List ℕ) (j : ScriptedJob) (o : Option ℕ) (old now : List Told) → is_text tenant j.tenant ≡ true → ((mine : List Told) × (now ≡ old ++ mine) × HasPostedOf j o mine) → (mine : List Told) × (now ≡ old ++ mine) × HasPostedFor tenant j o mine
+pub posted-mine : (tenant : List ℕ) (j : ScriptedJob) (o : Option ℕ) (old now : List DeskCall) → is_text tenant j.tenant ≡ true → ((mine : List DeskCall) × (now ≡ old ++ mine) × HasPostedOf j o mine) → (mine : List DeskCall) × (now ≡ old ++ mine) × HasPostedFor tenant j o mine
 posted-mine tenant j None old now own (mine, e, all) = (mine, e, all ∙ (ap taken (sym (append-nil (job_posts j))) ∙ ap (λ (b : Bool). taken (flat_map job_posts (cond b (j ∷ []) []))) (sym own)))
 posted-mine tenant j (Some n) old now own (mine, e, part) = (mine, e, (own, part))
 
 -- a tenant's jobs so far are posted
-abbrev pub Posts : List ℕ → List ScriptedJob → List Told
+abbrev pub Posts : List ℕ → List ScriptedJob → List DeskCall
 Posts tenant js = taken (flat_map job_posts (of_tenant tenant js))
 
-pub job-more : (tenant : List ℕ) (js : List ScriptedJob) (i : ℕ) (j : ScriptedJob) (o : Option ℕ) (old before after : List Told) → before ≡ old ++ Posts tenant (take i js) → ((mine : List Told) × (after ≡ before ++ mine) × HasPostedFor tenant j o mine) → o ≡ None → i < length js → j ≡ get_or js i j → after ≡ old ++ Posts tenant (take (i + 1) js)
+pub job-more : (tenant : List ℕ) (js : List ScriptedJob) (i : ℕ) (j : ScriptedJob) (o : Option ℕ) (old before after : List DeskCall) → before ≡ old ++ Posts tenant (take i js) → ((mine : List DeskCall) × (after ≡ before ++ mine) × HasPostedFor tenant j o mine) → o ≡ None → i < length js → j ≡ get_or js i j → after ≡ old ++ Posts tenant (take (i + 1) js)
 job-more tenant js i j None old before after b (mine, a, all) none low is =
     further old before after (Posts tenant (take i js)) mine b a
-    ∙ ap (λ (cs : List Told). old ++ cs) (ap (λ (cs : List Told). Posts tenant (take i js) ++ cs) all
+    ∙ ap (λ (cs : List DeskCall). old ++ cs) (ap (λ (cs : List DeskCall). Posts tenant (take i js) ++ cs) all
     ∙ (sym (taken-parts (flat_map job_posts (of_tenant tenant (take i js))) (flat_map job_posts (of_tenant tenant (j ∷ []))))
     ∙ ap taken (sym (flat_map-append job_posts (of_tenant tenant (take i js)) (of_tenant tenant (j ∷ [])))
     ∙ ap (flat_map job_posts) (sym (filter-append (λ (x : ScriptedJob). is_text tenant x.tenant) (take i js) (j ∷ [])) ∙ ap (of_tenant tenant) (sym (take-one js i j low is))))))
 job-more tenant js i j (Some n) old before after b (mine, a, part) none low is = absurd (let no : Some n ≡ None = none in cc)
 
-pub jobs-all : (tenant : List ℕ) (js : List ScriptedJob) (i : ℕ) (old now : List Told) → now ≡ old ++ Posts tenant (take i js) → length js ≤ i → (mine : List Told) × (now ≡ old ++ mine) × HasPosted tenant js None mine
+pub jobs-all : (tenant : List ℕ) (js : List ScriptedJob) (i : ℕ) (old now : List DeskCall) → now ≡ old ++ Posts tenant (take i js) → length js ≤ i → (mine : List DeskCall) × (now ≡ old ++ mine) × HasPosted tenant js None mine
 jobs-all tenant js i old now e all = (Posts tenant (take i js), e, ap (λ (xs : List ScriptedJob). Posts tenant xs) (take_all i js all))
 
-pub jobs-stop : (tenant : List ℕ) (js : List ScriptedJob) (l : Left) (i n : ℕ) (j : ScriptedJob) (old before after : List Told) (o : Option ℕ) → before ≡ old ++ Posts tenant (take i js) → ((mine : List Told) × (after ≡ before ++ mine) × HasPostedFor tenant j o mine) → o ≡ Some n → slice_get js i ≡ Some j → l ≡ record { job = i; posted = n } → (all : List Told) × (after ≡ old ++ all) × HasPosted tenant js (Some l) all
+pub jobs-stop : (tenant : List ℕ) (js : List ScriptedJob) (l : Left) (i n : ℕ) (j : ScriptedJob) (old before after : List DeskCall) (o : Option ℕ) → before ≡ old ++ Posts tenant (take i js) → ((mine : List DeskCall) × (after ≡ before ++ mine) × HasPostedFor tenant j o mine) → o ≡ Some n → slice_get js i ≡ Some j → l ≡ record { job = i; posted = n } → (all : List DeskCall) × (after ≡ old ++ all) × HasPosted tenant js (Some l) all
 jobs-stop tenant js l i n j old before after o b done is at place =
-    subst (λ (x : Left). (all : List Told) × (after ≡ old ++ all) × HasPosted tenant js (Some x) all) (sym place)
-    (stop (subst (λ (x : Option ℕ). (mine : List Told) × (after ≡ before ++ mine) × HasPostedFor tenant j x mine) is done))
+    subst (λ (x : Left). (all : List DeskCall) × (after ≡ old ++ all) × HasPosted tenant js (Some x) all) (sym place)
+    (stop (subst (λ (x : Option ℕ). (mine : List DeskCall) × (after ≡ before ++ mine) × HasPostedFor tenant j x mine) is done))
   where
-    stop : ((mine : List Told) × (after ≡ before ++ mine) × HasPostedFor tenant j (Some n) mine) → (all : List Told) × (after ≡ old ++ all) × HasPosted tenant js (Some (record { job = i; posted = n })) all
+    stop : ((mine : List DeskCall) × (after ≡ before ++ mine) × HasPostedFor tenant j (Some n) mine) → (all : List DeskCall) × (after ≡ old ++ all) × HasPosted tenant js (Some (record { job = i; posted = n })) all
     stop (mine, a, part) = (Posts tenant (take i js) ++ mine, further old before after (Posts tenant (take i js)) mine b a, (j, mine, at, part.0, part.1, refl))

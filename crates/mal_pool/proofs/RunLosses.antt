@@ -2,7 +2,7 @@
 use Rattle.std.proofs.Common.{◌≡◌, ℕ, Bool, true, false, ◌||◌, ◌&&◌, not, List, [], ◌∷◌, ◌++◌, flat_map, map, Result, Ok, Err, IfOk, refl, sym, ◌∙◌, ap, subst}
 use Rattle.std.specs.List.{All, list_any}
 use Rattle.std.proofs.lemmas.List.Elements.{All-head, All-tail}
-use Rattle.mal_hall.specs.Seen.{Seen}
+use Rattle.mal_hall.specs.HallView.{HallView}
 use Rattle.mal_history.specs.declared.event.Event as written
 use Rattle.mal_pool.specs.declared.posting.Left.{Left}
 use Rattle.mal_pool.specs.Gates.{Stops, StopsSomewhere, LosesByStops}
@@ -24,7 +24,7 @@ use Rattle.spec_script.specs.Script.{ScriptedJob, Scripted}
 pub none_by_stops : (stops : Stops) (h : List Event) → NoneIsLost h → LosesByStops stops h
 none_by_stops stops h none = record { stopped = λ some. absurd (let no : false ≡ true = sym none ∙ some in cc); late = none-late h none }
 
-pub alone_by_stops : {E : Type 0} (stops : Stops) (r : Result Seen E) → IfOk r (λ h. NoneIsLost h.events) → IfOk r (λ h. LosesByStops stops h.events)
+pub alone_by_stops : {E : Type 0} (stops : Stops) (r : Result HallView E) → IfOk r (λ h. NoneIsLost h.events) → IfOk r (λ h. LosesByStops stops h.events)
 alone_by_stops stops (Ok h) none = none_by_stops stops h.events none
 alone_by_stops stops (Err e) none = tt
 
@@ -57,7 +57,7 @@ run-loses stops A f xs ys stopped unasked h es all same tells bares is none late
 }
 
 -- a hall that was brought to its end with a script's posts has run it
-pub settled-run : (w : ℕ) (s : Scripted) (h : Seen) → h.workers ≡ w → Legal h.workers h.events → HasPosts s h.events → lives (states h.events) ≡ [] → leases h.events ≡ [] → HasRun w s h
+pub settled-run : (w : ℕ) (s : Scripted) (h : HallView) → h.workers ≡ w → Legal h.workers h.events → HasPosts s h.events → lives (states h.events) ≡ [] → leases h.events ≡ [] → HasRun w s h
 settled-run w s h are legal posts answered home = record {
   workers_are = are;
   legal = legal;

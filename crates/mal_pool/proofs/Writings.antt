@@ -4,7 +4,7 @@ use Rattle.std.proofs.lemmas.List.{map-append, take_all, take_more}
 use Rattle.mal_history.specs.declared.event.Event as written
 use Rattle.mal_history.specs.declared.event.Event.TheVariants as of
 use Rattle.mal_revision.specs.Posted.{Posted}
-use Rattle.spec_job.specs.Titled.{Key}
+use Rattle.spec_job.specs.KeyedJob.{Key}
 use Rattle.spec_hall.specs.Dressed.{no_revision}
 use Rattle.spec_hall.specs.Events.{Event, Open, Revise, Close, bare}
 use Rattle.spec_run.specs.Complete.{job_events, key_of_job, open_events, revise_events}

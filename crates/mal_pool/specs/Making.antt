@@ -1,11 +1,11 @@
 use Rattle.std.specs.Prelude.{◌≡◌, ℕ, List, ◌++◌, None}
-use Rattle.mal_hall.specs.Desks.{Told}
+use Rattle.mal_hall.specs.Desks.{DeskCall}
 use Rattle.mal_pool.specs.Gates.{Stops}
 use Rattle.mal_pool.specs.Works.{Works}
 use Rattle.mal_pool.specs.declared.working.End.{End}
 
 -- what a loop made so far: whatever is a worker's loop from here on is one from the start
-pub record HasMade (stops : Stops) (w turns left idles : ℕ) (before now : List Told) : Type 0 where
-  pub mine : List Told
+pub record HasMade (stops : Stops) (w turns left idles : ℕ) (before now : List DeskCall) : Type 0 where
+  pub mine : List DeskCall
   pub calls : now ≡ before ++ mine
-  pub goes : (rest : List Told) (end : End) → Works stops w left idles None rest end → Works stops w turns 0 None (mine ++ rest) end
+  pub goes : (rest : List DeskCall) (end : End) → Works stops w left idles None rest end → Works stops w turns 0 None (mine ++ rest) end

@@ -1,8 +1,8 @@
 use Rattle.std.specs.Prelude.{◌≡◌, ℕ, List, [], ◌∷◌, Some}
-use Rattle.mal_hall.specs.Seen.{Seen}
+use Rattle.mal_hall.specs.HallView.{HallView}
 use Rattle.spec_job.specs.Replies.{reply}
-use Rattle.spec_job.specs.Solo.{solo}
-use Rattle.spec_job.specs.Titled.{Titled}
+use Rattle.spec_job.specs.SoloMachine.{solo}
+use Rattle.spec_job.specs.KeyedJob.{KeyedJob}
 use Rattle.spec_hall.specs.Events.{Event}
 use Rattle.spec_hall.specs.Legal.{Legal, job_of}
 use Rattle.spec_hall.specs.Own.{own}
@@ -13,7 +13,7 @@ use Rattle.spec_script.specs.Script.{ScriptedJob, Scripted}
 
 -- a job of a script is known to a hall
 abbrev pub IsKnown : List Event → ScriptedJob → Type 0
-IsKnown history j = (t : Titled) × (job_of (key_of_job j) (states history) ≡ Some t)
+IsKnown history j = (t : KeyedJob) × (job_of (key_of_job j) (states history) ≡ Some t)
 
 -- each job of a script is known to a hall
 abbrev pub AreKnown : List Event → List ScriptedJob → Type 0
@@ -21,7 +21,7 @@ AreKnown history [] = Unit {0}
 AreKnown history (j ∷ js) = IsKnown history j × AreKnown history js
 
 -- a hall of so many workers has run a script: its history is legal and complete for the script, and it knows the jobs
-pub record HasRun (workers : ℕ) (s : Scripted) (h : Seen) : Type 0 where
+pub record HasRun (workers : ℕ) (s : Scripted) (h : HallView) : Type 0 where
   pub workers_are : h.workers ≡ workers
   pub legal : Legal h.workers h.events
   pub complete : IsComplete s h.events

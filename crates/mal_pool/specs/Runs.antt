@@ -12,7 +12,7 @@ use Rattle.mal_hall.specs.declared.desk.Post.{Post}
 use Rattle.mal_hall.specs.declared.desk.Post.TheVariants as posts
 use Rattle.mal_hall.specs.declared.desk.PostFault.{PostFault}
 use Rattle.mal_hall.specs.Desks as desks
-use Rattle.mal_hall.specs.Desks.{Told, event_of}
+use Rattle.mal_hall.specs.Desks.{DeskCall, event_of}
 use Rattle.mal_pool.specs.declared.posting.Left.{Left}
 use Rattle.mal_pool.specs.declared.role.Part.{Part}
 use Rattle.mal_pool.specs.declared.role.Part.TheVariants as parts
@@ -38,28 +38,28 @@ abbrev pub of_tenant : List ℕ → List ScriptedJob → List ScriptedJob
 of_tenant tenant jobs = filter (λ j. is_text tenant j.tenant) jobs
 
 -- calls that post, each taken
-abbrev pub taken : List Post → List Told
+abbrev pub taken : List Post → List DeskCall
 taken ps = map (λ p. desks.Posted p (Ok tt)) ps
 
 -- the last call of a poster that stopped, if it made one more: its post was refused
-abbrev pub IsRefusal : List Told → Type 0
+abbrev pub IsRefusal : List DeskCall → Type 0
 IsRefusal calls = (calls ≡ []) ⊎ ((p : Post) × (fault : PostFault) × (calls ≡ desks.Posted p (Err fault) ∷ []))
 
 -- what was posted of a job: all of it, or so many revisions, and then no more
-abbrev pub HasPostedOf : ScriptedJob → Option ℕ → List Told → Type 0
+abbrev pub HasPostedOf : ScriptedJob → Option ℕ → List DeskCall → Type 0
 HasPostedOf j None mine = mine ≡ taken (job_posts j)
-HasPostedOf j (Some n) mine = (n ≤ length j.revisions) × (last : List Told) × IsRefusal last × (mine ≡ taken (revise_posts j (take n j.revisions)) ++ last)
+HasPostedOf j (Some n) mine = (n ≤ length j.revisions) × (last : List DeskCall) × IsRefusal last × (mine ≡ taken (revise_posts j (take n j.revisions)) ++ last)
 
 -- what the poster of a tenant posted of a job: nothing where it is another tenant's
-abbrev pub HasPostedFor : List ℕ → ScriptedJob → Option ℕ → List Told → Type 0
+abbrev pub HasPostedFor : List ℕ → ScriptedJob → Option ℕ → List DeskCall → Type 0
 HasPostedFor tenant j None mine = mine ≡ taken (flat_map job_posts (of_tenant tenant (j ∷ [])))
 HasPostedFor tenant j (Some n) mine = (is_text tenant j.tenant ≡ true) × HasPostedOf j (Some n) mine
 
 -- the poster of a tenant has posted all of the tenant's jobs, or those before a place, and of the job there so much
-abbrev pub HasPosted : List ℕ → List ScriptedJob → Option Left → List Told → Type 0
+abbrev pub HasPosted : List ℕ → List ScriptedJob → Option Left → List DeskCall → Type 0
 HasPosted tenant jobs None mine = mine ≡ taken (flat_map job_posts (of_tenant tenant jobs))
 HasPosted tenant jobs (Some l) mine =
-    (j : ScriptedJob) × (last : List Told) × (slice_get jobs l.job ≡ Some j) × (is_text tenant j.tenant ≡ true) × HasPostedOf j (Some l.posted) last
+    (j : ScriptedJob) × (last : List DeskCall) × (slice_get jobs l.job ≡ Some j) × (is_text tenant j.tenant ≡ true) × HasPostedOf j (Some l.posted) last
     × (mine ≡ taken (flat_map job_posts (of_tenant tenant (take l.job jobs))) ++ last)
 
 -- what a poster left: the rest of the job at a place, and the later jobs of its tenant
@@ -80,7 +80,7 @@ Fits workers jobs (parts.Poster place) = place < length jobs
 Fits workers jobs (parts.Worker number) = (1 ≤ number) × (number ≤ workers)
 
 -- what a part did: a poster posted the jobs of its tenant up to the place that it hands back, and a worker hands none back
-abbrev pub HasPlayed : List ScriptedJob → Part → Option Left → List Told → Type 0
+abbrev pub HasPlayed : List ScriptedJob → Part → Option Left → List DeskCall → Type 0
 HasPlayed jobs (parts.Poster place) left mine = (j : ScriptedJob) × (slice_get jobs place ≡ Some j) × HasPosted j.tenant jobs left mine
 HasPlayed jobs (parts.Worker number) left mine = left ≡ None
 

@@ -3,7 +3,7 @@ use Rattle.spec_job.specs.Leased.{Finished}
 use Rattle.spec_hall.specs.declared.fault.PickFault.TheVariants as faults
 use Rattle.spec_hall.specs.Calls as calls
 use Rattle.spec_hall.specs.Calls.{Handed, Leased, Return}
-use Rattle.mal_hall.specs.Desks.{Told, Picked, Gave, Posted, IsWorked}
+use Rattle.mal_hall.specs.Desks.{DeskCall, Picked, Gave, Posted, IsWorked}
 use Rattle.mal_pool.specs.Gates.{Stops, Passes, Halts}
 use Rattle.mal_pool.specs.declared.working.End.{End}
 use Rattle.mal_pool.specs.declared.working.End.TheVariants as ends
@@ -11,7 +11,7 @@ use Rattle.mal_pool.specs.declared.working.Turned.{Turned}
 use Rattle.mal_pool.specs.declared.working.Turned.TheVariants as turned
 
 -- one turn of a worker's loop: a pick, and where it leased and the gate let the worker pass the giving back of that lease, worked
-abbrev pub IsTurn : Stops → ℕ → List Told → Turned → Type 0
+abbrev pub IsTurn : Stops → ℕ → List DeskCall → Turned → Type 0
 IsTurn stops w mine turned.Worked = (l : Handed) × (d : Finished) × Passes stops w l × IsWorked l d × (mine ≡ Picked w (Ok (Leased l)) ∷ Gave d calls.Back ∷ [])
 IsTurn stops w mine turned.Idle = mine ≡ Picked w (Ok calls.Idle) ∷ []
 IsTurn stops w mine (turned.Ended ends.AllDone) = mine ≡ Picked w (Ok calls.AllDone) ∷ []
@@ -43,7 +43,7 @@ Rests left idles ends.OutOfMemory = ⊥
 
 -- the calls of a worker's loop from here on and its end: so many turns are left, so many answers in a row were idle, and this
 -- lease is owed
-abbrev pub Works : Stops → ℕ → ℕ → ℕ → Option Handed → List Told → End → Type 0
+abbrev pub Works : Stops → ℕ → ℕ → ℕ → Option Handed → List DeskCall → End → Type 0
 Works stops w left idles None [] end = Rests left idles end
 Works stops w left idles None (Picked v (Ok (Leased l)) ∷ more) end = (v ≡ w) × MayPick left idles × Works stops w (left - 1) 0 (Some l) more end
 Works stops w left idles None (Picked v (Ok calls.Idle) ∷ more) end = (v ≡ w) × MayPick left idles × Works stops w (left - 1) (idles + 1) None more end

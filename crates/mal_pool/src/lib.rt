@@ -25,5 +25,5 @@ pub use laws::loops_end_so;
 pub use mutex::{Noted, OwnCalls, Shared};
 pub use run::{run_all, run_with};
 pub use running::run_alone;
-pub use shared::{Kept, Size};
+pub use shared::{HallBox, Size};
 pub use working::{End, work_loop};

@@ -4,7 +4,7 @@ ghost use Rattle.std.specs.Prelude.{◌≡◌, []};
 ghost use Rattle.mal_pool.specs.Traces.{traced};
 
 use crate::board::{Board, InUse};
-use crate::shared::{Kept, Size};
+use crate::shared::{HallBox, Size};
 use crate::trace::Trace;
 use mal_hall::{Back, Desk, Hall, Pick, Post, PostFault, Strange};
 use mal_suspend::Done;
@@ -38,12 +38,12 @@ impl OwnCalls {
 /// A hall that workers and tenants share by a lock. A caller holds it for one call of the hall alone.
 #[derive(Drop)]
 pub struct Shared<S: Size> {
-    kept: Mutex<Kept<S>>,
+    kept: Mutex<HallBox<S>>,
 }
 
 impl<S: Size> Shared<S> {
     /// Shares a hall. Takes no memory.
-    pub fn new(kept: Kept<S>) -> Shared<S> {
+    pub fn new(kept: HallBox<S>) -> Shared<S> {
         Shared {
             kept: Mutex::new(kept),
         }

@@ -1,7 +1,7 @@
 //! The parts of threads in a run.
 
 ghost use Rattle.std.specs.Prelude.{◌≡◌, ℕ, ◌≤◌, List, [], ◌∷◌, ◌++◌, true};
-ghost use Rattle.mal_hall.specs.Desks.{Told};
+ghost use Rattle.mal_hall.specs.Desks.{DeskCall};
 ghost use Rattle.mal_pool.specs.Gates.{StopsSomewhere};
 ghost use Rattle.mal_pool.specs.Runs.{Fits, HasPlayed};
 
@@ -54,7 +54,7 @@ pub fn play<R: Wait, B: Board, G: Gate>(
     requires of { B.is_of board.now role.pass }
     requires fits { Fits (B.workers board.now) jobs.now role.part }
     ensures of { B.is_of board.now result.pass }
-    ensures played { (mine : List Told) × (B.calls result.pass ≡ B.calls role.pass ++ mine) × HasPlayed jobs.now role.part result.left mine }
+    ensures played { (mine : List DeskCall) × (B.calls result.pass ≡ B.calls role.pass ++ mine) × HasPlayed jobs.now role.part result.left mine }
     ensures stopped { result.stopped ≡ true → StopsSomewhere (G.stops gate.now) }
 {
     match role.part {
@@ -91,7 +91,7 @@ fn work<R: Wait, B: Board, G: Gate>(
     requires low { 1 ≤ number }
     requires high { number ≤ B.workers board.now }
     ensures of { B.is_of board.now result.0 }
-    ensures calls { (mine : List Told) × (B.calls result.0 ≡ B.calls pass ++ mine) }
+    ensures calls { (mine : List DeskCall) × (B.calls result.0 ≡ B.calls pass ++ mine) }
     ensures stopped { result.1 ≡ true → StopsSomewhere (G.stops gate.now) }
 {
     let mut scratch = Scratch::new(alloc);

@@ -20,7 +20,7 @@ use crate::mutex::{OwnCalls, Shared};
 use crate::posting::{Left, open_all};
 use crate::role::{Part, Played, Role, play};
 use crate::running::run_alone;
-use crate::shared::{Kept, Size};
+use crate::shared::{HallBox, Size};
 use crate::testing::{has_lost_unasked, has_name, has_posts};
 use mal_hall::Hall;
 use mal_learn::Scratch;
@@ -69,7 +69,7 @@ fn run_locked<S: Size + Send + Sync, R: Threads + Wait + Sync, G: Gate>(
     ensures run { IfOk result (λ h. HasRun workers script.now h) }
     ensures lost { IfOk result (λ h. LosesByStops (G.stops gate.now) h.events) }
 {
-    let board: Shared<S> = Shared::new(Kept::new(Hall::new(alloc, workers)?));
+    let board: Shared<S> = Shared::new(HallBox::new(Hall::new(alloc, workers)?));
     run_with(rt, alloc, board, OwnCalls::new(), script, workers, gate)
 }
 

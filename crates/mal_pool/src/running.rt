@@ -1,13 +1,13 @@
 //! Running a script on one thread.
 
 ghost use Rattle.std.specs.Prelude.{◌≡◌, ◌≤◌, List, ◌++◌, [], ◌∷◌, flat_map, IfOk, OnOk};
-ghost use Rattle.mal_hall.specs.Seen.{next_number};
+ghost use Rattle.mal_hall.specs.HallView.{next_number};
 ghost use Rattle.mal_pool.specs.Posts.{HasRun};
 ghost use Rattle.mal_revision.specs.Posted.{Posted};
 ghost use Rattle.spec_hall.specs.Driven.{IsDriven};
 ghost use Rattle.spec_hall.specs.Events.{Open, Revise, Close};
 ghost use Rattle.spec_hall.specs.Legal.{MayOpen, MayRevise};
-ghost use Rattle.spec_job.specs.Titled.{Titled};
+ghost use Rattle.spec_job.specs.KeyedJob.{KeyedJob};
 ghost use Rattle.spec_run.specs.Complete.{key_of_job, job_events, open_events, revise_events, script_events};
 ghost use Rattle.spec_run.specs.Losses.{NoneIsLost};
 ghost use Rattle.spec_run.specs.Posting.{IsOpen};
@@ -109,7 +109,7 @@ fn revise_all(hall: &mut Hall, job: &ScriptJob) -> Result<(), AllocError>
 
 /// Posts the next revision of a job.
 fn revise(hall: &mut Hall, job: &ScriptJob, revision: &Revision) -> Result<(), AllocError>
-    requires { (t : Titled) × MayRevise hall.old.events (key_of_job job.now) (next_number (key_of_job job.now) hall.old.events) revision.now t }
+    requires { (t : KeyedJob) × MayRevise hall.old.events (key_of_job job.now) (next_number (key_of_job job.now) hall.old.events) revision.now t }
     ensures workers { hall.new.workers ≡ hall.old.workers }
     ensures events { OnOk result (hall.new.events ≡ hall.old.events ++ Revise (key_of_job job.now) (next_number (key_of_job job.now) hall.old.events) revision.now ∷ []) }
 {

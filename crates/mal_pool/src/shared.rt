@@ -24,21 +24,21 @@ impl Size for Brand {
 
 /// A hall of so many workers of which no lease was lost.
 #[derive(Drop)]
-pub struct Kept<S: Size> {
+pub struct HallBox<S: Size> {
     hall: Hall,
     of: PhantomData<S>,
     ghost workers: { hall.workers ≡ S.workers },
     ghost none_lost: { NoneIsLost hall.events },
 }
 
-impl<S: Size> Kept<S> {
+impl<S: Size> HallBox<S> {
     /// Keeps a hall of which no lease was lost.
-    pub fn new(hall: Hall) -> Kept<S>
+    pub fn new(hall: Hall) -> HallBox<S>
         requires workers { hall.workers ≡ S.workers }
         requires none_lost { NoneIsLost hall.events }
         ensures { result.hall ≡ hall }
     {
-        Kept {
+        HallBox {
             hall,
             of: PhantomData,
         }

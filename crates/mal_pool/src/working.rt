@@ -1,7 +1,7 @@
 //! What a worker does at a desk.
 
 ghost use Rattle.std.specs.Prelude.{◌≡◌, ◌≤◌, List, [], ◌∷◌, ◌++◌, None, Ok};
-ghost use Rattle.mal_hall.specs.Desks.{Told, Picked, Gave};
+ghost use Rattle.mal_hall.specs.Desks.{DeskCall, Picked, Gave};
 ghost use Rattle.mal_hall.specs.Offered.{handed_of};
 ghost use Rattle.mal_pool.specs.Gates.{StopsSomewhere};
 ghost use Rattle.mal_pool.specs.Works.{IsTurn, Works, turned_by};
@@ -61,7 +61,7 @@ pub fn work_loop<R: Wait, D: Desk, G: Gate>(
     requires low { 1 ≤ worker }
     requires high { worker ≤ D.workers desk.now }
     ensures of { D.is_of desk.now result.0 }
-    ensures calls { (mine : List Told) × (D.calls result.0 ≡ D.calls pass ++ mine) × Works (G.stops gate.now) worker turns 0 None mine result.1 }
+    ensures calls { (mine : List DeskCall) × (D.calls result.0 ≡ D.calls pass ++ mine) × Works (G.stops gate.now) worker turns 0 None mine result.1 }
     ensures stopped { result.1 ≡ Stopped → StopsSomewhere (G.stops gate.now) }
 {
     let mut pass = pass;
@@ -97,7 +97,7 @@ fn turn<R: Wait, D: Desk, G: Gate>(
     requires low { 1 ≤ worker }
     requires high { worker ≤ D.workers desk.now }
     ensures of { D.is_of desk.now result.0 }
-    ensures calls { (mine : List Told) × (D.calls result.0 ≡ D.calls pass ++ mine) × IsTurn (G.stops gate.now) worker mine result.1 }
+    ensures calls { (mine : List DeskCall) × (D.calls result.0 ≡ D.calls pass ++ mine) × IsTurn (G.stops gate.now) worker mine result.1 }
 {
     let (pass, answer) = desk.pick(rt, pass, worker);
     match answer {
@@ -122,7 +122,7 @@ fn work_off<R: Wait, D: Desk, G: Gate>(
 ) -> (D::Pass, Turned)
     requires of { D.is_of desk.now pass }
     ensures of { D.is_of desk.now result.0 }
-    ensures calls { (mine : List Told) × (D.calls result.0 ≡ D.calls pass ++ mine) × IsTurn (G.stops gate.now) worker (Picked worker (Ok (Leased (handed_of lease))) ∷ mine) result.1 }
+    ensures calls { (mine : List DeskCall) × (D.calls result.0 ≡ D.calls pass ++ mine) × IsTurn (G.stops gate.now) worker (Picked worker (Ok (Leased (handed_of lease))) ∷ mine) result.1 }
 {
     let start = lease.start();
     match gate.at(Point::Before, start, worker) {

@@ -5,7 +5,7 @@ use Rattle.std.specs.List.{list_any}
 use Rattle.std.proofs.lemmas.Bool.{false_from_ne_true}
 use Rattle.std.proofs.lemmas.List.Elements.{filter_more, All-contains}
 use Rattle.std.proofs.Math.ListN.{drop_of_length-le}
-use Rattle.mal_base.specs.Held.{Line}
+use Rattle.mal_base.specs.NumberedClause.{Line}
 use Rattle.mal_base.specs.Lined.{Lined}
 use Rattle.spec_proof.specs.Log.{IsAbove, IsOrderly}
 use Rattle.spec_proof.specs.Trimmed.{by_id, AreRising, IsTrimmed, is_needed, with_needed, reached_in, reached, ids_of}

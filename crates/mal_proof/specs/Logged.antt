@@ -1,5 +1,5 @@
 use Rattle.std.specs.Prelude.{◌≡◌, ℕ, ◌+◌, ◌<◌, ◌≤◌, ◌^◌, List, ◌++◌, length, flat_map}
-use Rattle.mal_base.specs.Held.{Line}
+use Rattle.mal_base.specs.NumberedClause.{Line}
 use Rattle.mal_base.specs.Lined.{Lined}
 use Rattle.spec_proof.specs.Log.{IsOrderly}
 
@@ -15,7 +15,7 @@ abbrev pub lines_in : List Lined → Lined → List Line
 lines_in full last = flat_map (λ chunk. chunk.lines) full ++ last.lines
 
 -- the lines are orderly and counted, and the last chunk has the room
-pub record IsKept (full : List Lined) (last : Lined) (count room number_room : ℕ) : Type 0 where
+pub record LogInvariant (full : List Lined) (last : Lined) (count room number_room : ℕ) : Type 0 where
   pub orderly : IsOrderly (lines_in full last)
   pub counted : count ≡ length (lines_in full last)
   pub countable : count + room < 2 ^ 64

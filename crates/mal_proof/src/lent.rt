@@ -17,7 +17,7 @@ pub struct LentLine<'a> {
 }
 
 impl<'a> Model for LentLine<'a> {
-    ghost use Rattle.mal_base.specs.Held.{Line};
+    ghost use Rattle.mal_base.specs.NumberedClause.{Line};
 
     ghost Value = { Line };
 

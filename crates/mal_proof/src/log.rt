@@ -1,7 +1,7 @@
 //! The log.
 
 ghost use Rattle.std.specs.Prelude.{◌≡◌, ◌≢◌, ◌+◌, ◌<◌, ◌≤◌, ◌^◌, [], ◌∷◌, ◌++◌, length, slice_get, Some, All, IfOk, OnOk, OnErr};
-ghost use Rattle.mal_base.specs.Held.{Line};
+ghost use Rattle.mal_base.specs.NumberedClause.{Line};
 ghost use Rattle.spec_proof.specs.Log.{IsAbove, IsOrderly};
 ghost use Rattle.spec_proof.specs.Trimmed.{IsTrimmed, reached};
 
@@ -32,7 +32,7 @@ pub struct Log {
 
 impl Model for Log {
     ghost use Rattle.std.specs.Prelude.{◌-◌, vec_len, vec_capacity};
-    ghost use Rattle.mal_proof.specs.Logged.{Logged, lines_in, IsKept};
+    ghost use Rattle.mal_proof.specs.Logged.{Logged, lines_in, LogInvariant};
 
     ghost Value = { Logged };
 
@@ -43,7 +43,7 @@ impl Model for Log {
       chunk_room = vec_capacity l.full - vec_len l.full;
     } };
 
-    ghost invariant = { λ l. IsKept l.full.items l.last l.count l.room l.number_room };
+    ghost invariant = { λ l. LogInvariant l.full.items l.last l.count l.room l.number_room };
 }
 
 impl Log {

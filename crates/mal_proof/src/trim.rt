@@ -1,7 +1,7 @@
 //! The lines that a goal needs.
 
 ghost use Rattle.std.specs.Prelude.{◌≡◌, Bool, false, length, map, filter, replicate, IfOk};
-ghost use Rattle.mal_base.specs.Held.{Line};
+ghost use Rattle.mal_base.specs.NumberedClause.{Line};
 ghost use Rattle.spec_proof.specs.Trimmed.{AreRising, IsTrimmed, is_needed, reached_in, ids_of};
 ghost use Rattle.mal_proof.specs.Marks.{AreMarks};
 

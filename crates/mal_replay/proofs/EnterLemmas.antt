@@ -3,7 +3,7 @@ use Rattle.std.proofs.Common.{◌≡◌, ℕ, ◌+◌, ◌<◌, ◌≤◌, List,
 use Rattle.std.proofs.lemmas.List.{map-append, take_all}
 use Rattle.std.proofs.lemmas.Option.{slice_get_read}
 use Rattle.mal_hall.specs.Applied.{HasApplied, IsInside, IsRefused}
-use Rattle.mal_hall.specs.Seen.{Seen}
+use Rattle.mal_hall.specs.HallView.{HallView}
 use Rattle.mal_history.specs.Written.{Written}
 use Rattle.mal_history.specs.declared.event.Event as written
 use Rattle.mal_pool.specs.Posts.{HasRun}
@@ -24,11 +24,11 @@ use Rattle.spec_script.specs.Limits.{served}
 use Rattle.spec_script.specs.Script.{Scripted}
 
 -- nothing was entered yet
-pub replayed-none : (s : Scripted) (h : Written) (hall : Seen) (w : ℕ) → w ≡ h.workers → hall.workers ≡ w → hall.events ≡ [] → IsInside hall → HasReplayed s h 0 hall
+pub replayed-none : (s : Scripted) (h : Written) (hall : HallView) (w : ℕ) → w ≡ h.workers → hall.workers ≡ w → hall.events ≡ [] → IsInside hall → HasReplayed s h 0 hall
 replayed-none s h hall w same workers events inside = record { workers = workers ∙ same; events = sym (ap (map Some) events); inside = inside }
 
 -- one event more was entered
-pub replayed-more : (s : Scripted) (h : Written) (n : ℕ) (old now : Seen) (event : written.Event) → HasReplayed s h n old → n < length h.events → event ≡ get_or h.events n event → now.workers ≡ old.workers → HasApplied old.workers old.events (posted_in s event) event now.events → IsInside now → HasReplayed s h (n + 1) now
+pub replayed-more : (s : Scripted) (h : Written) (n : ℕ) (old now : HallView) (event : written.Event) → HasReplayed s h n old → n < length h.events → event ≡ get_or h.events n event → now.workers ≡ old.workers → HasApplied old.workers old.events (posted_in s event) event now.events → IsInside now → HasReplayed s h (n + 1) now
 replayed-more s h n old now event is low read workers applied inside = record { workers = workers ∙ is.workers; events = grown; inside = inside }
   where
     grown : AreWritten s (take (n + 1) h.events) now.events
@@ -40,7 +40,7 @@ replayed-more s h n old now event is low read workers applied inside = record { 
         ∙ sym (ap (map Some) applied.entered.grown ∙ map-append Some old.events (applied.event ∷ [])))))
 
 -- the first one is refused
-pub refused-at : (s : Scripted) (h : Written) (n line : ℕ) (line_of : ℕ → ℕ) (old : Seen) (event : written.Event) → HasReplayed s h n old → Legal old.workers old.events → n < length h.events → event ≡ get_or h.events n event → IsRefused old.workers old.events (posted_in s event) event → line ≡ line_of n → IsRefusedAt h.workers s h.events line_of line
+pub refused-at : (s : Scripted) (h : Written) (n line : ℕ) (line_of : ℕ → ℕ) (old : HallView) (event : written.Event) → HasReplayed s h n old → Legal old.workers old.events → n < length h.events → event ≡ get_or h.events n event → IsRefused old.workers old.events (posted_in s event) event → line ≡ line_of n → IsRefusedAt h.workers s h.events line_of line
 refused-at s h n line line_of old event is legal low read refused line_is = record { place = n; first = first; line_is = line_is }
   where
     first : IsFirstRefused h.workers s h.events n
@@ -53,28 +53,28 @@ refused-at s h n line line_of old event is legal low read refused line_is = reco
     }
 
 -- all were entered
-pub all-legal : (s : Scripted) (h : Written) (hall : Seen) → HasReplayed s h (length h.events) hall → Legal hall.workers hall.events → IsLegal h.workers s h.events hall.events
+pub all-legal : (s : Scripted) (h : Written) (hall : HallView) → HasReplayed s h (length h.events) hall → Legal hall.workers hall.events → IsLegal h.workers s h.events hall.events
 all-legal s h hall is legal = record {
   written = subst (λ (es : List written.Event). AreWritten s es hall.events) (take_all (length h.events) h.events (omega arith)) is.events;
   legal = subst (λ (w : ℕ). Legal w hall.events) is.workers legal;
 }
 
-pub lacks-answers : (s : Scripted) (h : Written) (hall : Seen) → HasReplayed s h (length h.events) hall → Legal hall.workers hall.events → (lives (states hall.events) ≡ [] → ⊥) → IsLacking h.workers s h.events
+pub lacks-answers : (s : Scripted) (h : Written) (hall : HallView) → HasReplayed s h (length h.events) hall → Legal hall.workers hall.events → (lives (states hall.events) ≡ [] → ⊥) → IsLacking h.workers s h.events
 lacks-answers s h hall is legal other = record { events = hall.events; legal = all-legal s h hall is legal; lacking = λ complete. other complete.answered }
 
-pub lacks-leases : (s : Scripted) (h : Written) (hall : Seen) → HasReplayed s h (length h.events) hall → Legal hall.workers hall.events → (leases hall.events ≡ [] → ⊥) → IsLacking h.workers s h.events
+pub lacks-leases : (s : Scripted) (h : Written) (hall : HallView) → HasReplayed s h (length h.events) hall → Legal hall.workers hall.events → (leases hall.events ≡ [] → ⊥) → IsLacking h.workers s h.events
 lacks-leases s h hall is legal other = record { events = hall.events; legal = all-legal s h hall is legal; lacking = λ complete. other complete.home }
 
-pub lacks-posts : (s : Scripted) (h : Written) (hall : Seen) → HasReplayed s h (length h.events) hall → Legal hall.workers hall.events → (HavePosts s h.events → ⊥) → IsLacking h.workers s h.events
+pub lacks-posts : (s : Scripted) (h : Written) (hall : HallView) → HasReplayed s h (length h.events) hall → Legal hall.workers hall.events → (HavePosts s h.events → ⊥) → IsLacking h.workers s h.events
 lacks-posts s h hall is legal other =
     let all = all-legal s h hall is legal in
     record { events = hall.events; legal = all; lacking = λ complete. other (posted-lines s h.events hall.events all.written complete.posts) }
 
-pub is-complete : (s : Scripted) (h : Written) (hall : Seen) → IsScript served s → HasReplayed s h (length h.events) hall → Legal hall.workers hall.events → lives (states hall.events) ≡ [] → leases hall.events ≡ [] → HavePosts s h.events → IsComplete s hall.events
+pub is-complete : (s : Scripted) (h : Written) (hall : HallView) → IsScript served s → HasReplayed s h (length h.events) hall → Legal hall.workers hall.events → lives (states hall.events) ≡ [] → leases hall.events ≡ [] → HavePosts s h.events → IsComplete s hall.events
 is-complete s h hall formed is legal answered home have = record { posts = lines-posted s h.events hall.events formed (all-legal s h hall is legal).written have; answered = answered; home = home }
 
-pub has-run : (s : Scripted) (hall : Seen) → Legal hall.workers hall.events → IsComplete s hall.events → (w : ℕ) × HasRun w s hall
+pub has-run : (s : Scripted) (hall : HallView) → Legal hall.workers hall.events → IsComplete s hall.events → (w : ℕ) × HasRun w s hall
 has-run s hall legal complete = (hall.workers, record { workers_are = refl; legal = legal; complete = complete; known = complete-known s hall.events complete })
 
-pub replied : (s : Scripted) (h : Written) (hall : Seen) (text : List ℕ) → HasReplayed s h (length h.events) hall → Legal hall.workers hall.events → IsComplete s hall.events → text ≡ replies s hall.events → IsReplied h.workers s h.events text
+pub replied : (s : Scripted) (h : Written) (hall : HallView) (text : List ℕ) → HasReplayed s h (length h.events) hall → Legal hall.workers hall.events → IsComplete s hall.events → text ≡ replies s hall.events → IsReplied h.workers s h.events text
 replied s h hall text is legal complete told = record { events = hall.events; legal = all-legal s h hall is legal; complete = complete; text_is = told }

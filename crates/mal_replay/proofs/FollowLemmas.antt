@@ -10,7 +10,7 @@ use Rattle.mal_history.specs.declared.event.Event.TheVariants as of
 use Rattle.mal_replay.specs.Replaying.{AreFew, GoesOn, Leaves, job_lines, line_of, lines_of, opening_lines}
 use Rattle.mal_replay.specs.declared.expected.Post.{Post}
 use Rattle.mal_revision.specs.Posted.{Posted}
-use Rattle.spec_job.specs.Titled.{Key}
+use Rattle.spec_job.specs.KeyedJob.{Key}
 use Rattle.spec_hall.specs.Events.{Event, Revise, bare}
 use Rattle.spec_hall.specs.Own.{is_text}
 use Rattle.spec_replay.specs.Posts.{is_post_line, post_lines}

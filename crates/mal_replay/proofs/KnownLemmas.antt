@@ -5,7 +5,7 @@ use Rattle.std.proofs.lemmas.Bool.{or_left}
 use Rattle.std.proofs.lemmas.List.Elements.{filter-append}
 use Rattle.std.proofs.lemmas.List.Folds.{list_any-append}
 use Rattle.mal_pool.specs.Posts.{AreKnown}
-use Rattle.spec_job.specs.Titled.{Key}
+use Rattle.spec_job.specs.KeyedJob.{Key}
 use Rattle.spec_hall.specs.Events.{Event, Open, Revise, Close, Balance, Start, Finish, Exchange}
 use Rattle.spec_hall.specs.Own.{is_key, is_text}
 use Rattle.spec_hall.specs.States.{keys_of, keys_step, titled}

@@ -2,7 +2,7 @@
 use Rattle.std.specs.Prelude.{◌≡◌, ◌↔◌, ℕ, ◌≤◌, Bool, true, All, List, ◌∷◌, bytes_eq, length, take, drop, map, filter, flat_map}
 use Rattle.std.specs.List.{list_any}
 use Rattle.mal_hall.specs.Applied.{IsInside}
-use Rattle.mal_hall.specs.Seen.{Seen}
+use Rattle.mal_hall.specs.HallView.{HallView}
 use Rattle.mal_history.specs.Written.{Written}
 use Rattle.mal_history.specs.declared.event.Event as written
 use Rattle.mal_history.specs.declared.event.Event.TheVariants as of
@@ -16,7 +16,7 @@ use Rattle.spec_run.specs.Complete.{job_events, open_events}
 use Rattle.spec_script.specs.Script.{ScriptedJob, Scripted}
 
 -- a hall has entered the first events of a history, each Revise with the script's revision, and has each lease inside
-pub record HasReplayed (s : Scripted) (h : Written) (n : ℕ) (hall : Seen) : Type 0 where
+pub record HasReplayed (s : Scripted) (h : Written) (n : ℕ) (hall : HallView) : Type 0 where
   pub workers : hall.workers ≡ h.workers
   pub events : AreWritten s (take n h.events) hall.events
   pub inside : IsInside hall

@@ -1,7 +1,7 @@
 //! Writing replies.
 
 ghost use Rattle.std.specs.Prelude.{◌≡◌, ◌<◌, ◌≤◌, [], ◌∷◌, ◌++◌, codes, length, map, slice_get, Some, IfOk, OnOk};
-ghost use Rattle.mal_base.specs.Held.{Line};
+ghost use Rattle.mal_base.specs.NumberedClause.{Line};
 ghost use Rattle.mal_base.specs.Literals.{literal};
 ghost use Rattle.spec_text.specs.Lines.{line_of, text_of};
 ghost use Rattle.spec_text.specs.Numbers.{decimal_word, literal_word};

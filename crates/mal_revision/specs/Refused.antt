@@ -1,7 +1,7 @@
 use Rattle.std.specs.Prelude.{◌≡◌, ℕ, ◌/◌, true, nat_lt, List, [], ◌∷◌, length, Option, Some, None, if◌then◌else◌, ⊤}
 use Rattle.mal_base.specs.Clauses.{rises, HaveSame, IsTautology, IsLeastOpposite}
-use Rattle.mal_base.specs.declared.which.Which.{Which}
-use Rattle.mal_base.specs.declared.which.Which.TheVariants.{Variables, Clauses, Literals}
+use Rattle.mal_base.specs.declared.limit_kind.LimitKind.{LimitKind}
+use Rattle.mal_base.specs.declared.limit_kind.LimitKind.TheVariants.{Variables, Clauses, Literals}
 use Rattle.mal_base.specs.Formulas.{literals_of}
 use Rattle.mal_revision.specs.Posted.{Posted}
 use Rattle.mal_revision.specs.declared.fault.RevisionFault.{RevisionFault}
@@ -28,7 +28,7 @@ first_above variables [] = None
 first_above variables (c ∷ cs) = or_else (above_in variables c) (first_above variables cs)
 
 -- the first limit that is passed: 65,536 variables, 2^20 clauses, 2^24 literals
-abbrev pub limit_passed : ℕ → List (Option (List ℕ)) → Option Which
+abbrev pub limit_passed : ℕ → List (Option (List ℕ)) → Option LimitKind
 limit_passed variables clauses =
     if nat_lt 65536 variables then Some Variables else
     if nat_lt 1048576 (length clauses) then Some Clauses else
@@ -54,7 +54,7 @@ pub record IsTooLarge (variables : ℕ) (clauses : List (Option (List ℕ))) (as
   pub first : or_else (first_above variables clauses) (above variables assumptions) ≡ Some var
 
 -- this is the first limit that is passed, and no earlier cause holds
-pub record IsOverLimit (variables : ℕ) (clauses : List (Option (List ℕ))) (assumptions : List ℕ) (which : Which) : Type 0 where
+pub record IsOverLimit (variables : ℕ) (clauses : List (Option (List ℕ))) (assumptions : List ℕ) (which : LimitKind) : Type 0 where
   pub consistent : AreConsistent assumptions
   pub within : or_else (first_above variables clauses) (above variables assumptions) ≡ None
   pub first : limit_passed variables clauses ≡ Some which

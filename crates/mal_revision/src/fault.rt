@@ -1,6 +1,6 @@
 //! Why a revision is refused.
 
-use mal_base::{Var, Which};
+use mal_base::{LimitKind, Var};
 use thiserror::Error;
 
 /// Why there is no revision of some variables, clauses and assumptions. The causes are tested in the order in which they
@@ -15,7 +15,7 @@ pub enum RevisionFault {
     VarTooLarge { var: Var },
     /// There are too many of these.
     #[error("more {which:?} than a revision may have")]
-    Limit { which: Which },
+    Limit { which: LimitKind },
     /// Memory ran out.
     #[error("out of memory")]
     OutOfMemory,

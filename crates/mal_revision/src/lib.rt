@@ -12,7 +12,7 @@ pub use scan::opposite;
 #[cfg(test)]
 mod tests {
     use super::*;
-    use mal_base::{Clause, Lit, Which};
+    use mal_base::{Clause, LimitKind, Lit};
     use std::alloc::Global;
     use std::test::Fail;
 
@@ -63,7 +63,7 @@ mod tests {
         assert!(rt;
             fault
                 == Some(RevisionFault::Limit {
-                    which: Which::Variables
+                    which: LimitKind::Variables
                 })
         );
         Ok(())

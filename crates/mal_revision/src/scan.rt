@@ -6,7 +6,7 @@ ghost use Rattle.mal_base.specs.Clauses.{clash};
 ghost use Rattle.mal_base.specs.Formulas.{is_within, is_clause_of, size_of, literals_of};
 ghost use Rattle.mal_revision.specs.Refused.{above, above_in, first_above, or_else, limit_passed};
 
-use mal_base::{Clause, Lit, Var, Which};
+use mal_base::{Clause, LimitKind, Lit, Var};
 
 /// The first variable that two literals in a row have.
 pub fn opposite(lits: &[Lit]) -> Option<Var>
@@ -105,19 +105,19 @@ fn literals_among(clauses: &[Option<Clause>]) -> Option<u32>
 }
 
 /// The number of the literals of the clauses, or the first limit that these variables and clauses pass.
-pub fn literals_within(variables: u32, clauses: &[Option<Clause>]) -> Result<u32, Which>
+pub fn literals_within(variables: u32, clauses: &[Option<Clause>]) -> Result<u32, LimitKind>
     ensures within { IfOk result (λ n. limit_passed variables clauses.now ≡ None) }
     ensures number { IfOk result (λ n. n ≡ literals_of clauses.now) }
     ensures passed { IfErr result (λ which. limit_passed variables clauses.now ≡ Some which) }
 {
     if variables > Var::MAX {
-        return Err(Which::Variables);
+        return Err(LimitKind::Variables);
     }
     if clauses.len() > 1 << 20 {
-        return Err(Which::Clauses);
+        return Err(LimitKind::Clauses);
     }
     match literals_among(clauses) {
-        None => Err(Which::Literals),
+        None => Err(LimitKind::Literals),
         Some(literals) => Ok(literals),
     }
 }

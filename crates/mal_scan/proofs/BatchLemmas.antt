@@ -7,7 +7,7 @@ use Rattle.std.proofs.lemmas.List.{length-take-le, take-take}
 use Rattle.mal_base.specs.Formulas.{is_within}
 use Rattle.mal_trail.specs.Rooms.{are_within}
 use Rattle.mal_base.specs.declared.trail_entry.TrailEntry.{TrailEntry}
-use Rattle.mal_base.specs.Held.{Held}
+use Rattle.mal_base.specs.NumberedClause.{NumberedClause}
 use Rattle.spec_node.specs.Batch.{Progress, after_all, after_clause, batch, is_in_batch}
 
 pub and_true : (a b : Bool) → (a && b) ≡ true → (a ≡ true) × (b ≡ true)
@@ -34,7 +34,7 @@ abbrev pub calm : List TrailEntry → Progress
 calm trail = record { trail = trail; conflict = None }
 
 -- what is left from a place on begins with what stands there
-drop-get : (clauses : List Held) (i : ℕ) (c : Held) → slice_get clauses i ≡ Some c → drop i clauses ≡ c ∷ drop (i + 1) clauses
+drop-get : (clauses : List NumberedClause) (i : ℕ) (c : NumberedClause) → slice_get clauses i ≡ Some c → drop i clauses ≡ c ∷ drop (i + 1) clauses
 drop-get [] i c e = absurd (none_some c e)
 drop-get (d ∷ ds) zero c e = rw (some_one d c e) refl
 drop-get (d ∷ ds) (suc i) c e =
@@ -42,21 +42,21 @@ drop-get (d ∷ ds) (suc i) c e =
     rw more (drop-get ds i c e)
 
 -- a clause of the batch is handled next
-pub after_all-in : (prefix trail : List TrailEntry) (clauses : List Held) (i : ℕ) (c : Held) → slice_get clauses i ≡ Some c → is_in_batch prefix c ≡ true → after_all prefix (calm trail) (batch prefix (drop i clauses)) ≡ after_all prefix (after_clause prefix trail c) (batch prefix (drop (i + 1) clauses))
+pub after_all-in : (prefix trail : List TrailEntry) (clauses : List NumberedClause) (i : ℕ) (c : NumberedClause) → slice_get clauses i ≡ Some c → is_in_batch prefix c ≡ true → after_all prefix (calm trail) (batch prefix (drop i clauses)) ≡ after_all prefix (after_clause prefix trail c) (batch prefix (drop (i + 1) clauses))
 after_all-in prefix trail clauses i c e t = rw (drop-get clauses i c e, t) refl
 
 -- a clause outside the batch is passed over
-pub after_all-out : (prefix : List TrailEntry) (p : Progress) (clauses : List Held) (i : ℕ) (c : Held) → slice_get clauses i ≡ Some c → is_in_batch prefix c ≡ false → after_all prefix p (batch prefix (drop i clauses)) ≡ after_all prefix p (batch prefix (drop (i + 1) clauses))
+pub after_all-out : (prefix : List TrailEntry) (p : Progress) (clauses : List NumberedClause) (i : ℕ) (c : NumberedClause) → slice_get clauses i ≡ Some c → is_in_batch prefix c ≡ false → after_all prefix p (batch prefix (drop i clauses)) ≡ after_all prefix p (batch prefix (drop (i + 1) clauses))
 after_all-out prefix p clauses i c e t = rw (drop-get clauses i c e, t) refl
 
 -- where all clauses are of some variables, the one at a place is
-pub within-at : (room : ℕ) (clauses : List Held) (i : ℕ) (c : Held) → are_within room clauses ≡ true → slice_get clauses i ≡ Some c → is_within room c.lits ≡ true
+pub within-at : (room : ℕ) (clauses : List NumberedClause) (i : ℕ) (c : NumberedClause) → are_within room clauses ≡ true → slice_get clauses i ≡ Some c → is_within room c.lits ≡ true
 within-at room [] i c w e = absurd (none_some c e)
 within-at room (d ∷ ds) zero c w e = rw (← some_one d c e) ((and_true (is_within room d.lits) (are_within room ds) w).0)
 within-at room (d ∷ ds) (suc i) c w e = within-at room ds i c ((and_true (is_within room d.lits) (are_within room ds) w).1) e
 
 -- a conflict ends the batch
-pub after_all-ended : (prefix trail : List TrailEntry) (id : ℕ) (clauses : List Held) → after_all prefix (record { trail = trail; conflict = Some id }) clauses ≡ record { trail = trail; conflict = Some id }
+pub after_all-ended : (prefix trail : List TrailEntry) (id : ℕ) (clauses : List NumberedClause) → after_all prefix (record { trail = trail; conflict = Some id }) clauses ≡ record { trail = trail; conflict = Some id }
 after_all-ended prefix trail id [] = refl
 after_all-ended prefix trail id (c ∷ cs) = after_all-ended prefix trail id cs
 
@@ -64,7 +64,7 @@ not_zero : (n : ℕ) → (n ≡ 0 → ⊥) → eqb n 0 ≡ false
 not_zero n = grind (arith, nat_tests)
 
 -- a clause with one literal left is in the batch where it had more before the last entry
-pub in_batch : (trail : List TrailEntry) (n : ℕ) (c : Held) → n ≤ length trail → (n ≡ 0 → ⊥) → open_count (take n trail) c.lits ≡ 1 → ltb 1 (open_count (take (n - 1) trail) c.lits) ≡ is_in_batch (take n trail) c
+pub in_batch : (trail : List TrailEntry) (n : ℕ) (c : NumberedClause) → n ≤ length trail → (n ≡ 0 → ⊥) → open_count (take n trail) c.lits ≡ 1 → ltb 1 (open_count (take (n - 1) trail) c.lits) ≡ is_in_batch (take n trail) c
 in_batch trail n c l z o =
     let fits : n - 1 ≤ n = omega arith in
     rw (length-take-le n trail l, not_zero n z, o, take-take (n - 1) n trail fits) refl

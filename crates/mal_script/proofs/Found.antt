@@ -13,7 +13,7 @@ use Rattle.spec_script.proofs.Again.{written-spelled}
 use Rattle.spec_script.proofs.Formed.{spelled-script}
 use Rattle.mal_script.specs.declared.fault.ScriptFault.{ScriptFault}
 use Rattle.mal_script.specs.declared.fault.ScriptFault.TheVariants as script
-use Rattle.mal_script.specs.Given.{FailsAt, GivesAt}
+use Rattle.mal_script.specs.ReadResult.{FailsAt, GivesAt}
 
 pub found-spelled : (limits : Limits) (text : List ℕ) (result : Result Scripted ScriptFault) → GivesAt (λ s. s) result (read_text limits text) → IfOk result (λ s. Spells limits text s)
 found-spelled limits text (Ok s) e = read-spelled limits text s e

@@ -9,7 +9,7 @@ use Rattle.spec_text.specs.Numbers.{number_in}
 use Rattle.spec_text.specs.Numbers.NumberWord.{Number}
 use Rattle.mal_script.specs.declared.fault.LineRefusal.{LineRefusal}
 use Rattle.mal_script.specs.declared.fault.LineRefusal.TheVariants as refusal
-use Rattle.mal_script.specs.Given.{Fails, Gives}
+use Rattle.mal_script.specs.ReadResult.{Fails, Gives}
 
 -- a refusal of the first step is one of both
 pub fails-first : {A B : Type 0} (e : LineRefusal) (read : Result A LineFault) (f : A → Result B LineFault) → Fails e read → Fails e (read >>= f)

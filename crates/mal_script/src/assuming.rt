@@ -7,7 +7,7 @@ ghost use Rattle.spec_text.specs.Inputs.{words_of};
 ghost use Rattle.spec_text.specs.Numbers.{number_in};
 ghost use Rattle.spec_dimacs.specs.Reading.{code_of};
 ghost use Rattle.spec_script.specs.Assumptions.{assumptions_in, assumptions_of, consistent, literals_from, closed};
-ghost use Rattle.mal_script.specs.Given.{GivesAssumed};
+ghost use Rattle.mal_script.specs.ReadResult.{GivesAssumed};
 
 use crate::fault::AssumptionFault;
 use mal_base::{Lit, Var};

@@ -3,7 +3,7 @@
 ghost use Rattle.spec_text.specs.Inputs.{words_of};
 ghost use Rattle.spec_dimacs.specs.Reading as dimacs;
 ghost use Rattle.spec_script.specs.Reading.{in_block};
-ghost use Rattle.mal_script.specs.Given.{Gives};
+ghost use Rattle.mal_script.specs.ReadResult.{Gives};
 
 use crate::fault::LineRefusal;
 use mal_base::Formula;

@@ -3,9 +3,9 @@
 ghost use Rattle.std.specs.Prelude.{◌≡◌};
 ghost use Rattle.mal_script.specs.declared.fault.LineRefusal.TheVariants.{OutOfMemory};
 ghost use Rattle.mal_script.specs.declared.fault.AssumptionFault.TheVariants as assumption;
-ghost use Rattle.mal_script.specs.Given.{OfAssumptions};
+ghost use Rattle.mal_script.specs.ReadResult.{OfAssumptions};
 
-use mal_base::{Name, Var, Which};
+use mal_base::{LimitKind, Name, Var};
 use spec_dimacs::BlockFault;
 use spec_script::LineFault;
 use std::alloc::{AllocError, AllocFailed};
@@ -31,7 +31,7 @@ pub enum ScriptFault {
     Range { line: u64 },
     /// With the line there are more of these than may be.
     #[error("line {line}: too many {which:?}")]
-    Limit { line: u64, which: Which },
+    Limit { line: u64, which: LimitKind },
     /// Memory ran out.
     #[error("out of memory")]
     OutOfMemory,

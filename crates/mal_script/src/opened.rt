@@ -6,14 +6,14 @@ ghost use Rattle.mal_base.specs.Formulas.{is_formula, is_within, literals_of, si
 ghost use Rattle.spec_text.specs.Inputs.{words_of};
 ghost use Rattle.spec_script.specs.Assumptions.{assumptions_in};
 ghost use Rattle.spec_script.specs.Reading.{begun, with_block, after_header, revised, after_assumptions, inside_block, with_revision, ended_job, unended, without_block};
-ghost use Rattle.mal_script.specs.Given.{Fails, Gives};
+ghost use Rattle.mal_script.specs.ReadResult.{Fails, Gives};
 
 use crate::assuming::assumptions_in;
 use crate::blocks;
 use crate::fault::LineRefusal;
 use crate::limits::Limits;
 use crate::script::ScriptJob;
-use mal_base::{Ask, Clause, Formula, Lit, Name, Which};
+use mal_base::{Ask, Clause, Formula, LimitKind, Lit, Name};
 use mal_dimacs::BlockReader;
 use mal_revision::Revision;
 use mal_text::first_word;
@@ -66,7 +66,7 @@ impl OpenJob {
     {
         if self.job.revisions().len() >= limits.revisions() {
             return Err(LineRefusal::Fault(LineFault::Limit {
-                which: Which::Revisions,
+                which: LimitKind::Revisions,
             }));
         }
         let block = blocks::opened(alloc, line)?;
@@ -149,12 +149,12 @@ impl OpenJob {
         let literals = literals_of(formula.clauses());
         if self.clauses + formula.clauses().len() > 1 << 20 {
             return Err(LineRefusal::Fault(LineFault::Limit {
-                which: Which::Clauses,
+                which: LimitKind::Clauses,
             }));
         }
         if self.literals + literals > 1 << 24 {
             return Err(LineRefusal::Fault(LineFault::Limit {
-                which: Which::Literals,
+                which: LimitKind::Literals,
             }));
         }
         self.with_revision(alloc, formula, literals, assumptions)

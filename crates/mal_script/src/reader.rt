@@ -6,14 +6,14 @@ ghost use Rattle.std.specs.Str.{bytes_eq};
 ghost use Rattle.spec_text.specs.Inputs.{words_of};
 ghost use Rattle.spec_dimacs.specs.Rows.{is_comment};
 ghost use Rattle.spec_script.specs.Reading.{unread, named, after_tenant, is_of, is_job, has_room, admitted, of_tenant, after_job, outside, inside_job, inside, after_counted, after_row, at_end, after_end, going_on};
-ghost use Rattle.mal_script.specs.Given.{Gives};
+ghost use Rattle.mal_script.specs.ReadResult.{Gives};
 
 use crate::asks::asked;
 use crate::fault::LineRefusal;
 use crate::limits::Limits;
 use crate::opened::OpenJob;
 use crate::script::{Script, ScriptJob};
-use mal_base::{Ask, Name, Which};
+use mal_base::{Ask, LimitKind, Name};
 use mal_text::first_word;
 use spec_script::LineFault;
 use std::alloc::Global;
@@ -60,7 +60,7 @@ impl Reader {
         }
         if self.tenants.len() >= limits.tenants() {
             return Err(LineRefusal::Fault(LineFault::Limit {
-                which: Which::Tenants,
+                which: LimitKind::Tenants,
             }));
         }
         self.tenants.push(name)?;
@@ -101,7 +101,9 @@ impl Reader {
             return Err(LineRefusal::Fault(LineFault::Duplicate { tenant, job: name }));
         }
         if !has_room(self.jobs.as_slice(), limits, tenant) {
-            return Err(LineRefusal::Fault(LineFault::Limit { which: Which::Jobs }));
+            return Err(LineRefusal::Fault(LineFault::Limit {
+                which: LimitKind::Jobs,
+            }));
         }
         self.opened = Some(OpenJob::begin(alloc, tenant, name, ask));
         Ok(self)

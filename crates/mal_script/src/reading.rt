@@ -8,7 +8,7 @@ ghost use Rattle.spec_script.specs.Formed.{IsScript};
 ghost use Rattle.spec_script.specs.Script.{Scripted, spelling};
 ghost use Rattle.spec_script.specs.Within.{IsWithin};
 ghost use Rattle.mal_script.specs.declared.fault.ScriptFault.TheVariants.{OutOfMemory};
-ghost use Rattle.mal_script.specs.Given.{FailsAt, GivesAt, RefusedAt};
+ghost use Rattle.mal_script.specs.ReadResult.{FailsAt, GivesAt, RefusedAt};
 
 use crate::fault::{LineRefusal, ScriptFault};
 use crate::limits::Limits;

@@ -4,12 +4,12 @@ ghost use Rattle.std.specs.Prelude.{◌≡◌, ◌∷◌, [], map, codes, IfOk, 
 ghost use Rattle.spec_text.specs.Lines.{line_of};
 ghost use Rattle.spec_text.specs.Numbers.{decimal_word};
 ghost use Rattle.spec_script.specs.FaultLines.{block_words, fault_line, which_word};
-ghost use Rattle.mal_script.specs.Given.{Tells};
+ghost use Rattle.mal_script.specs.ReadResult.{Tells};
 ghost use Rattle.mal_script.specs.declared.fault.ScriptFault.TheVariants.{OutOfMemory};
 
 use crate::fault::ScriptFault;
 use itoa::Buffer;
-use mal_base::{Name, Which};
+use mal_base::{LimitKind, Name};
 use mal_text::put_line;
 use spec_dimacs::BlockFault;
 use std::alloc::{AllocError, Global};
@@ -50,7 +50,7 @@ fn duplicate_line(alloc: Global, line: u64, tenant: Name, job: Name) -> Result<V
 }
 
 /// The line that tells that there are too many of these.
-fn limit_line(alloc: Global, line: u64, which: Which) -> Result<Vec<u8>, AllocError>
+fn limit_line(alloc: Global, line: u64, which: LimitKind) -> Result<Vec<u8>, AllocError>
     ensures { IfOk result (λ text. text.items ≡ line_of (codes "fault:" ∷ codes "script" ∷ codes "line" ∷ decimal_word line ∷ codes "Limit" ∷ which_word which ∷ [])) }
 {
     told(alloc, line, &[b"Limit", which_word(which)])
@@ -90,15 +90,15 @@ fn block_line(alloc: Global, line: u64, fault: BlockFault) -> Result<Vec<u8>, Al
 }
 
 /// The word of a limit.
-fn which_word(which: Which) -> &'static [u8]
+fn which_word(which: LimitKind) -> &'static [u8]
     ensures { result.now ≡ which_word which }
 {
     match which {
-        Which::Variables => b"Variables",
-        Which::Clauses => b"Clauses",
-        Which::Literals => b"Literals",
-        Which::Tenants => b"Tenants",
-        Which::Jobs => b"Jobs",
-        Which::Revisions => b"Revisions",
+        LimitKind::Variables => b"Variables",
+        LimitKind::Clauses => b"Clauses",
+        LimitKind::Literals => b"Literals",
+        LimitKind::Tenants => b"Tenants",
+        LimitKind::Jobs => b"Jobs",
+        LimitKind::Revisions => b"Revisions",
     }
 }

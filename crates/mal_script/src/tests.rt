@@ -1,5 +1,5 @@
 use super::*;
-use mal_base::{Lit, Name, Which};
+use mal_base::{LimitKind, Lit, Name};
 use mal_dimacs::BlockFault;
 use std::alloc::Global;
 use std::test::Fail;
@@ -154,7 +154,7 @@ fn faults_of_a_block_are_told_with_their_line(rt: HostRuntime) -> Result<(), Fai
 fn limits_of_a_block_are_named(rt: HostRuntime) -> Result<(), Fail> {
     let alloc = rt.alloc();
     let variables = BlockFault::Limit {
-        which: Which::Variables,
+        which: LimitKind::Variables,
     };
     let wide = b"t a\nj p 1 1 4\np cnf 65537 0\na 0\ne\n";
     assert!(rt;
@@ -165,7 +165,7 @@ fn limits_of_a_block_are_named(rt: HostRuntime) -> Result<(), Fail> {
             })
     );
     let clauses = BlockFault::Limit {
-        which: Which::Clauses,
+        which: LimitKind::Clauses,
     };
     let long = b"t a\nj p 1 1 4\np cnf 65536 1048577\na 0\ne\n";
     assert!(rt;
@@ -224,7 +224,7 @@ fn faults_are_told_in_words(rt: HostRuntime) -> Result<(), Fail> {
     );
     let limit = ScriptFault::Limit {
         line: 66,
-        which: Which::Tenants,
+        which: LimitKind::Tenants,
     };
     let limit = fault_line(alloc, limit)?;
     assert_eq!(rt;
@@ -288,7 +288,7 @@ fn one_tenant_too_many_is_refused(rt: HostRuntime) -> Result<(), Fail> {
     }
     assert!(rt; fault(alloc, text.as_slice()).is_none());
     text.extend_from_slice(b"t t0\nt t64\n")?;
-    let which = Which::Tenants;
+    let which = LimitKind::Tenants;
     assert!(rt; fault(alloc, text.as_slice()) == Some(ScriptFault::Limit { line: 66, which }));
     Ok(())
 }
@@ -303,7 +303,7 @@ fn one_job_of_a_tenant_too_many_is_refused(rt: HostRuntime) -> Result<(), Fail> 
     }
     assert!(rt; fault(alloc, text.as_slice()).is_none());
     text.extend_from_slice(b"t b\nj p 1 1 1\ne\nt a\nj p 1 1 1\ne\n")?;
-    let which = Which::Jobs;
+    let which = LimitKind::Jobs;
     assert!(rt; fault(alloc, text.as_slice()) == Some(ScriptFault::Limit { line: 134, which }));
     Ok(())
 }
@@ -341,7 +341,7 @@ fn one_revision_too_many_is_refused(rt: HostRuntime) -> Result<(), Fail> {
     ended.extend_from_slice(b"e\n")?;
     assert!(rt; fault(alloc, ended.as_slice()).is_none());
     text.extend_from_slice(b"p cnf 0 0\na 0\ne\n")?;
-    let which = Which::Revisions;
+    let which = LimitKind::Revisions;
     assert!(rt; fault(alloc, text.as_slice()) == Some(ScriptFault::Limit { line: 515, which }));
     Ok(())
 }
@@ -355,7 +355,7 @@ fn too_many_clauses_of_a_job_are_refused(rt: HostRuntime) -> Result<(), Fail> {
         text.extend_from_slice(b"0 0 0 0 0 0 0 0 0 0 0 0 0 0 0 0\n")?;
     }
     text.extend_from_slice(b"a 0\ne\n")?;
-    let which = Which::Clauses;
+    let which = LimitKind::Clauses;
     assert!(rt;
         fault(alloc, text.as_slice())
             == Some(ScriptFault::Limit {

@@ -8,7 +8,7 @@ use Rattle.spec_service.proofs.RecordLemmas.{noted-enters}
 use Rattle.spec_turn.specs.declared.view.View.{View}
 use Rattle.spec_turn.specs.declared.view.Numbers.{Numbers}
 use Rattle.spec_turn.specs.Rule.{Begins, Has}
-use Rattle.mal_hall.specs.Seen.{Seen}
+use Rattle.mal_hall.specs.HallView.{HallView}
 
 module _ (w : ℕ) (some : 1 ≤ w) (bound : w ≤ 64) (v h after : View Entry) (past now : List Event) (c : Answered) (e : Entry) where
   -- a pass took the turn, its call was noted, and it put the hall back

@@ -1,6 +1,6 @@
 use Rattle.std.specs.Prelude.{List, [], Option, Some, None, Ok}
-use Rattle.mal_service.specs.declared.told.Told.{Told}
-use Rattle.mal_service.specs.declared.told.Told.TheVariants as told
+use Rattle.mal_service.specs.declared.hall_call.HallCall.{HallCall}
+use Rattle.mal_service.specs.declared.hall_call.HallCall.TheVariants as told
 use Rattle.mal_hall.specs.Offered.{offered, replied, returned}
 use Rattle.spec_hall.specs.Calls.{Idle}
 use Rattle.spec_hall.specs.Dressed.{keyed}
@@ -8,7 +8,7 @@ use Rattle.spec_hall.specs.Events.{Event}
 use Rattle.spec_service.specs.Record.{Answered, Opened, Revised, Closed, Asked, Picked, Gave, Entry, entry}
 
 -- a call with its arguments and its answer
-abbrev pub answered : Told → Answered
+abbrev pub answered : HallCall → Answered
 answered (told.Opened tenant job ask answer) = Opened (keyed tenant.value job.value) ask.value answer.value
 answered (told.Revised tenant job revision answer) = Revised (keyed tenant.value job.value) revision.value answer.value
 answered (told.Closed tenant job answer) = Closed (keyed tenant.value job.value) answer.value

@@ -3,7 +3,7 @@ ghost use Rattle.std.specs.Prelude.{◌≡◌, drop, length};
 ghost use Rattle.mal_service.specs.Entries.{answered};
 ghost use Rattle.spec_service.specs.Record.{entry};
 
-use crate::told::Told;
+use crate::hall_call::HallCall;
 use mal_hall::Hall;
 use std::marker::Model;
 use std::snapshot::Snapshot;
@@ -12,7 +12,7 @@ use std::snapshot::Snapshot;
 /// entered: those that the hall after the call has beyond the hall before it.
 #[derive(Drop)]
 pub struct Entry {
-    told: Told,
+    told: HallCall,
     before: Snapshot<Hall>,
     after: Snapshot<Hall>,
 }
@@ -29,7 +29,7 @@ impl Model for Entry {
 
 impl Entry {
     /// The entry of a call, of the hall before it, and of the hall now.
-    pub(crate) fn of(told: Told, before: Snapshot<Hall>, hall: &Hall) -> Entry
+    pub(crate) fn of(told: HallCall, before: Snapshot<Hall>, hall: &Hall) -> Entry
         ensures { result ≡ entry (answered told) (drop (length before.value.events) hall.now.events) }
     {
         Entry {

@@ -2,11 +2,11 @@
 #![tactic(auto)]
 
 mod entry;
+mod hall_call;
 mod noted;
 mod service;
 #[cfg(test)]
 mod tests;
-mod told;
 
 pub use entry::Entry;
 pub use mal_turn::InUse;

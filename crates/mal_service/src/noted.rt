@@ -8,7 +8,7 @@ ghost use Rattle.mal_service.specs.Entries.{noted_in};
 ghost use Rattle.mal_service.specs.Posts.{HoldsOfPost};
 
 use crate::entry::Entry;
-use crate::told::Told;
+use crate::hall_call::HallCall;
 use mal_base::{Ask, Name};
 use mal_hall::{
     Back, CloseFault, Hall, OpenFault, Pick, PickFault, Post, PostFault, ReplyFault, ReviseFault,
@@ -83,7 +83,7 @@ impl<S: Size> NotedHall<S> {
     {
         let before = Snapshot::of(&self.hall);
         let answer = self.hall.open_job(tenant, job, ask);
-        let told = Told::Opened {
+        let told = HallCall::Opened {
             tenant: Snapshot::of(&tenant),
             job: Snapshot::of(&job),
             ask: Snapshot::of(&ask),
@@ -105,7 +105,7 @@ impl<S: Size> NotedHall<S> {
         let before = Snapshot::of(&self.hall);
         let posted = Snapshot::of(&revision);
         let answer = self.hall.revise_job(tenant, job, revision);
-        let told = Told::Revised {
+        let told = HallCall::Revised {
             tenant: Snapshot::of(tenant),
             job: Snapshot::of(job),
             revision: posted,
@@ -121,7 +121,7 @@ impl<S: Size> NotedHall<S> {
     {
         let before = Snapshot::of(&self.hall);
         let answer = self.hall.close_job(tenant, job);
-        let told = Told::Closed {
+        let told = HallCall::Closed {
             tenant: Snapshot::of(tenant),
             job: Snapshot::of(job),
             answer: Snapshot::of(&answer),
@@ -165,7 +165,7 @@ impl<S: Size> NotedHall<S> {
     {
         let before = Snapshot::of(&self.hall);
         let answer = self.hall.reply(tenant, job, r);
-        let told = Told::Asked {
+        let told = HallCall::Asked {
             tenant: Snapshot::of(tenant),
             job: Snapshot::of(job),
             r: Snapshot::of(&r),
@@ -183,7 +183,7 @@ impl<S: Size> NotedHall<S> {
     {
         let before = Snapshot::of(&self.hall);
         let answer = self.hall.pick(worker);
-        let told = Told::Picked {
+        let told = HallCall::Picked {
             worker: Snapshot::of(&worker),
             answer: Snapshot::of(&answer),
         };
@@ -199,7 +199,7 @@ impl<S: Size> NotedHall<S> {
         let before = Snapshot::of(&self.hall);
         let given = Snapshot::of(&back);
         let answer = self.hall.finish(back);
-        let told = Told::Gave {
+        let told = HallCall::Gave {
             back: given,
             answer: Snapshot::of(&answer),
         };

@@ -5,7 +5,7 @@ use Rattle.std.specs.Result.{IsOk, is_ok}
 use Rattle.std.proofs.Common.{Result}
 use Rattle.std.proofs.lemmas.List.{length-map, length-append}
 use Rattle.std.proofs.lemmas.Bool.Decides.{nat_tests}
-use Rattle.mal_base.specs.Held.{Held, lits_under}
+use Rattle.mal_base.specs.NumberedClause.{NumberedClause, lits_under}
 use Rattle.spec_node.specs.Adding.{with_clause}
 use Rattle.mal_store.specs.declared.slot.Slot.{Slot}
 use Rattle.mal_store.specs.Stored.{clause_in, held_in, SlotsRise, AreWithin}
@@ -63,7 +63,7 @@ with-at literals s (x ∷ xs) zero l b a =
     rw less refl
 with-at literals s (x ∷ xs) (suc k) l b a =
     let more : nat_lt s.id x.id ≡ false = not_test s.id x.id (omega (arith, b 0 s (omega arith))) in
-    rw more (ap (λ (cs : List Held). clause_in literals x ∷ cs) (with-at literals s xs k (omega arith) (λ i d h. b (suc i) d (omega arith)) (λ i d h m. a (suc i) d (omega arith) (omega arith))))
+    rw more (ap (λ (cs : List NumberedClause). clause_in literals x ∷ cs) (with-at literals s xs k (omega arith) (λ i d h. b (suc i) d (omega arith)) (λ i d h m. a (suc i) d (omega arith) (omega arith))))
 
 -- numbers rise also with this slot among them
 pub rise-insert : (low : ℕ) (s : Slot) (ss : List Slot) (place : ℕ) → low ≤ s.id → SlotsRise low ss → place ≤ length ss → ((k : ℕ) (d : Slot) → k < place → (get_or ss k d).id < s.id) → ((k : ℕ) (d : Slot) → place ≤ k → k < length ss → s.id < (get_or ss k d).id) → SlotsRise low (insert ss place s)
@@ -164,11 +164,11 @@ is_same a b = grind (arith, nat_tests)
 pub get-end : (literals : List ℕ) (ss : List Slot) (id place : ℕ) → length ss ≤ place → ((k : ℕ) (d : Slot) → k < place → (get_or ss k d).id < id) → lits_under id (held_in literals ss) ≡ None
 get-end literals ss id place l b = lits-none literals ss id (λ k d h e. omega (arith, b k d (omega arith)))
 
-some_one : {x y : Held} → Some x ≡ Some y → x ≡ y
+some_one : {x y : NumberedClause} → Some x ≡ Some y → x ≡ y
 some_one e = cc
 
 -- where the first number that is not below one is another, that one is not held
-pub get-other : (literals : List ℕ) (ss : List Slot) (id place : ℕ) (c : Held) → SlotsRise 1 ss → place < length ss → ((k : ℕ) (d : Slot) → k < place → (get_or ss k d).id < id) → ((k : ℕ) (d : Slot) → place ≤ k → k < length ss → id ≤ (get_or ss k d).id) → slice_get (held_in literals ss) place ≡ Some c → c.id ≢ id → lits_under id (held_in literals ss) ≡ None
+pub get-other : (literals : List ℕ) (ss : List Slot) (id place : ℕ) (c : NumberedClause) → SlotsRise 1 ss → place < length ss → ((k : ℕ) (d : Slot) → k < place → (get_or ss k d).id < id) → ((k : ℕ) (d : Slot) → place ≤ k → k < length ss → id ≤ (get_or ss k d).id) → slice_get (held_in literals ss) place ≡ Some c → c.id ≢ id → lits_under id (held_in literals ss) ≡ None
 get-other literals ss id place c r l b a g other = lits-none literals ss id (λ k d h e. by_order k d h e (nat_lt k place) refl (nat_lt place k) refl)
   where
     by_order : (k : ℕ) (d : Slot) → k < length ss → (get_or ss k d).id ≡ id → (x : Bool) → nat_lt k place ≡ x → (y : Bool) → nat_lt place k ≡ y → ⊥
@@ -177,13 +177,13 @@ get-other literals ss id place c r l b a g other = lits-none literals ss id (λ 
     by_order k d h e false t false u =
         let same : k ≡ place = omega (arith, test_not k place t, test_not place k u) in
         let found : clause_in literals (get_or ss place d) ≡ c = some_one (sym (get-held literals ss place d l) ∙ g) in
-        other (sym (ap (λ (x : Held). x.id) found) ∙ rw same at e)
+        other (sym (ap (λ (x : NumberedClause). x.id) found) ∙ rw same at e)
 
 -- where it is the one sought, it is held, and its clause is found
-pub get-same : (literals : List ℕ) (ss : List Slot) (id place : ℕ) (d : Slot) (c : Held) → place < length ss → ((k : ℕ) (d : Slot) → k < place → (get_or ss k d).id < id) → slice_get (held_in literals ss) place ≡ Some c → c.id ≡ id → lits_under id (held_in literals ss) ≡ Some c.lits
+pub get-same : (literals : List ℕ) (ss : List Slot) (id place : ℕ) (d : Slot) (c : NumberedClause) → place < length ss → ((k : ℕ) (d : Slot) → k < place → (get_or ss k d).id < id) → slice_get (held_in literals ss) place ≡ Some c → c.id ≡ id → lits_under id (held_in literals ss) ≡ Some c.lits
 get-same literals ss id place d c l b g same =
     let found : clause_in literals (get_or ss place d) ≡ c = some_one (sym (get-held literals ss place d l) ∙ g) in
-    lits-at literals ss id place d l (ap (λ (x : Held). x.id) found ∙ same) (λ i m e. omega (arith, b i d m)) ∙ ap (λ (x : Held). Some x.lits) found
+    lits-at literals ss id place d l (ap (λ (x : NumberedClause). x.id) found ∙ same) (λ i m e. omega (arith, b i d m)) ∙ ap (λ (x : NumberedClause). Some x.lits) found
 
 -- what was inserted with room stands there
 pub insert_items : {A B : Type 0} (r : Result A B) (xs ys : List Slot) → IsOk r → cond (is_ok r) xs ys ≡ xs
@@ -204,7 +204,7 @@ add-slot literals lits id start len ss place w r some e f n l b a =
     record {
       within = within-insert (length (literals ++ lits)) slot ss place l (omega arith) (within-more (length literals) (length (literals ++ lits)) ss (omega arith) w);
       rising = rise-insert 1 slot ss place some r l b strictly;
-      clauses = sym (with-at (literals ++ lits) slot ss place l b strictly) ∙ (ap (λ (cs : List Held). with_clause (clause_in (literals ++ lits) slot) cs) (held-more literals lits ss w) ∙ ap (λ (ls : List ℕ). let c : Held = record { id = id; lits = ls } in with_clause c (held_in literals ss)) lits_are);
+      clauses = sym (with-at (literals ++ lits) slot ss place l b strictly) ∙ (ap (λ (cs : List NumberedClause). with_clause (clause_in (literals ++ lits) slot) cs) (held-more literals lits ss w) ∙ ap (λ (ls : List ℕ). let c : NumberedClause = record { id = id; lits = ls } in with_clause c (held_in literals ss)) lits_are);
     }
   where
     strict : (x y : ℕ) → x ≤ y → y ≢ x → x < y

@@ -1,7 +1,7 @@
 //! A map from numbers to clauses.
 
 ghost use Rattle.std.specs.Prelude.{◌≡◌, ℕ, ◌+◌, ◌≤◌, ◌<◌, true, List, [], ◌∷◌, ◌++◌, length, take, drop, slice_get, slice_index_or, Some, None, OnOk, MatchOption, vec_len, vec_capacity};
-ghost use Rattle.mal_base.specs.Held.{lits_under};
+ghost use Rattle.mal_base.specs.NumberedClause.{lits_under};
 ghost use Rattle.spec_node.specs.Adding.{with_clause};
 ghost use Rattle.mal_store.specs.declared.slot.Slot.{Slot};
 ghost use Rattle.mal_store.specs.Stored.{SlotsRise};

@@ -2,7 +2,7 @@
 use Rattle.std.proofs.Common.{◌≡◌, ℕ, zero, suc, ◌+◌, ◌<◌, Bool, true, false, List, [], ◌∷◌, ◌++◌, length, take, drop, get_or, fold, refl, sym, ◌∙◌, ap, subst, append_assoc, arith}
 use Rattle.std.proofs.lemmas.List.{map-append, length-map}
 use Rattle.std.proofs.lemmas.List.Sums.{fold-append}
-use Rattle.mal_base.specs.Held.{Held}
+use Rattle.mal_base.specs.NumberedClause.{NumberedClause}
 use Rattle.mal_revision.specs.Posted.{Posted}
 use Rattle.spec_search.specs.Slice.{Sliced}
 use Rattle.spec_job.specs.Journal.{JournalEntry, Run, after_entry}
@@ -49,7 +49,7 @@ pub entries-pushed : (es after : List Entry) (last : Entry) → after ≡ es ++ 
 entries-pushed es after last e = rw e (map-append (λ (y : Entry). entry_of y) es (last ∷ []))
 
 -- the entries with those of a start behind them
-pub grown-entries : (loads : List (Posted × ℕ)) (tolds : List (List Held)) (before : List JournalEntry) (es fs gs after : List Entry) → entries_of es ≡ before → entries_of fs ≡ entries_of es ++ load_entries loads → entries_of gs ≡ entries_of fs ++ import_entries tolds → after ≡ gs ++ code.Run ∷ [] → entries_of after ≡ before ++ start_entries loads tolds
+pub grown-entries : (loads : List (Posted × ℕ)) (tolds : List (List NumberedClause)) (before : List JournalEntry) (es fs gs after : List Entry) → entries_of es ≡ before → entries_of fs ≡ entries_of es ++ load_entries loads → entries_of gs ≡ entries_of fs ++ import_entries tolds → after ≡ gs ++ code.Run ∷ [] → entries_of after ≡ before ++ start_entries loads tolds
 grown-entries loads tolds before es fs gs after p q r s =
     let last : entries_of after ≡ entries_of gs ++ Run ∷ [] = entries-pushed gs after code.Run s in
     let third : entries_of gs ≡ (before ++ load_entries loads) ++ import_entries tolds = r ∙ ap (λ (xs : List JournalEntry). xs ++ import_entries tolds) (q ∙ ap (λ (xs : List JournalEntry). xs ++ load_entries loads) p) in

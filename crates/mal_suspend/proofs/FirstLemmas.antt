@@ -1,7 +1,7 @@
 -- The first starts of a node of one revision.
 use Rattle.std.proofs.Common.{◌≡◌, ℕ, ◌+◌, ◌<◌, ◌≤◌, ◌^◌, true, List, [], ◌∷◌, length, None, refl, sym, ◌∙◌, ap, subst, arith}
 use Rattle.std.proofs.lemmas.List.Elements.{All-nil}
-use Rattle.mal_base.specs.Held.{Held}
+use Rattle.mal_base.specs.NumberedClause.{NumberedClause}
 use Rattle.mal_revision.specs.Posted.{Posted, is_posted}
 use Rattle.spec_node.specs.State.{Node, fresh}
 use Rattle.spec_node.specs.Load.{loaded}
@@ -20,7 +20,7 @@ use Rattle.spec_job.specs.Leased.{Leased, Finished, Tells, Becomes}
 use Rattle.mal_suspend.specs.Replaying.{MayAllReplay}
 
 new-numbers : (i : ℕ) (r : Posted) → 1 + length r.clauses ≤ 2 ^ 32 → AreNewNumbers r 1 (fresh i)
-new-numbers i r b = record { some = omega arith; above = All-nil (λ (c : Held). c.id < 2 ^ 32 → c.id < 1); below = b }
+new-numbers i r b = record { some = omega arith; above = All-nil (λ (c : NumberedClause). c.id < 2 ^ 32 → c.id < 1); below = b }
 
 pub sound-first : (i : ℕ) (r : Posted) → i ≤ 63 → is_posted r ≡ true → 1 + length r.clauses ≤ 2 ^ 32 → IsSound (loaded r 1 (fresh i))
 sound-first i r l p b = loaded-sound r 1 (fresh i) p (posted-literals r p) (new-numbers i r b) (fresh-sound i l)
@@ -29,20 +29,20 @@ sound-first i r l p b = loaded-sound r 1 (fresh i) p (posted-literals r p) (new-
 pub first-may : (i : ℕ) (r : Posted) → i ≤ 63 → is_posted r ≡ true → 1 + length r.clauses ≤ 2 ^ 32 → MayAllReplay (replay i []) (Load r 1 ∷ Run ∷ [])
 first-may i r l p b =
     let n : Node = loaded r 1 (fresh i) in
-    let since : n.since ≡ 0 = refl in
-    let round : n.round ≡ 1 = refl in
+    let conflicts_since_restart : n.conflicts_since_restart ≡ 0 = refl in
+    let restart_number : n.restart_number ≡ 1 = refl in
     let serial : n.serial ≡ 0 = refl in
-    (record { follows = (p, new-numbers i r b); low = tt }, (record { follows = (sound-first i r l p b, refl); low = record { since = omega (arith, since); round = omega (arith, round); serial = omega (arith, serial) } }, tt))
+    (record { follows = (p, new-numbers i r b); low = tt }, (record { follows = (sound-first i r l p b, refl); low = record { conflicts_since_restart = omega (arith, conflicts_since_restart); restart_number = omega (arith, restart_number); serial = omega (arith, serial) } }, tt))
 
 -- and then one more, where the slice gave no verdict
 pub again-may : (i : ℕ) (r : Posted) → i ≤ 63 → is_posted r ≡ true → 1 + length r.clauses ≤ 2 ^ 32 → (replay i (Load r 1 ∷ Run ∷ [])).node.verdict ≡ None → MayAllReplay (replay i (Load r 1 ∷ Run ∷ [])) (Run ∷ [])
 again-may i r l p b v =
     let n : Node = loaded r 1 (fresh i) in
-    let since : n.since ≡ 0 = refl in
-    let round : n.round ≡ 1 = refl in
+    let conflicts_since_restart : n.conflicts_since_restart ≡ 0 = refl in
+    let restart_number : n.restart_number ≡ 1 = refl in
     let serial : n.serial ≡ 0 = refl in
     let rise : CountsRise n = slice-counts n in
-    (record { follows = (slice-sound n (sound-first i r l p b), v); low = record { since = omega (arith, rise.since, since); round = omega (arith, rise.round, round); serial = omega (arith, rise.serial, serial) } }, tt)
+    (record { follows = (slice-sound n (sound-first i r l p b), v); low = record { conflicts_since_restart = omega (arith, rise.conflicts_since_restart, conflicts_since_restart); restart_number = omega (arith, rise.restart_number, restart_number); serial = omega (arith, rise.serial, serial) } }, tt)
 
 -- the journal of a start that ran
 ran-journal : (l : Leased) (d w : Finished) → d ≡ w → d.outcome ≡ Ran → Becomes w.outcome l w → d.journal ≡ and_entries l.journal l.adds

@@ -20,13 +20,13 @@ run-image k n few h = sound-image n h.sound (omega (arith, h.serial, few))
 pub run-more : (k : ℕ) (n : Node) → HasRun k n → HasRun (k + 1) (slice n).node
 run-more k n h =
     let rise : CountsRise n = slice-counts n in
-    record { sound = slice-sound n h.sound; since = omega (arith, rise.since, h.since); round = omega (arith, rise.round, h.round); serial = omega (arith, rise.serial, h.serial) }
+    record { sound = slice-sound n h.sound; conflicts_since_restart = omega (arith, rise.conflicts_since_restart, h.conflicts_since_restart); restart_number = omega (arith, rise.restart_number, h.restart_number); serial = omega (arith, rise.serial, h.serial) }
 
 -- the first node that has loaded a revision
 pub run-first : (r : Posted) → is_posted r ≡ true → 1 + length r.clauses ≤ 2 ^ 32 → HasRun 0 (loaded r 1 (fresh 0))
 run-first r p b =
     let n : Node = loaded r 1 (fresh 0) in
-    let since : n.since ≡ 0 = refl in
-    let round : n.round ≡ 1 = refl in
+    let conflicts_since_restart : n.conflicts_since_restart ≡ 0 = refl in
+    let restart_number : n.restart_number ≡ 1 = refl in
     let serial : n.serial ≡ 0 = refl in
-    record { sound = sound-first 0 r (omega arith) p b; since = omega (arith, since); round = omega (arith, round); serial = omega (arith, serial) }
+    record { sound = sound-first 0 r (omega arith) p b; conflicts_since_restart = omega (arith, conflicts_since_restart); restart_number = omega (arith, restart_number); serial = omega (arith, serial) }

@@ -4,7 +4,7 @@ use Rattle.std.proofs.lemmas.List.Sums.{fold-append}
 use Rattle.spec_search.specs.Slice.{Sliced}
 use Rattle.spec_search.proofs.ModelLemmas.{slice-leaves}
 use Rattle.spec_job.specs.Journal.{JournalEntry, Load, Import, Run, after_entry, replay}
-use Rattle.mal_base.specs.Held.{Held}
+use Rattle.mal_base.specs.NumberedClause.{NumberedClause}
 use Rattle.mal_revision.specs.Posted.{Posted}
 use Rattle.mal_suspend.specs.Replaying.{alone, after_entries, MayAllReplay, AreAtRest, IsJournal, variables_with, variables_after}
 use Rattle.mal_suspend.specs.Starting.{load_entries, import_entries, start_entries}
@@ -43,7 +43,7 @@ pub journal-grows : (i : ℕ) (es fs : List JournalEntry) → IsJournal i es →
 journal-grows i es fs h k r = record { place = h.place; replays = may-append (replay i []) es fs h.replays k; rest = r }
 
 -- a journal is at rest after what a start adds
-pub start-rests : (es : List JournalEntry) (loads : List (Posted × ℕ)) (tolds : List (List Held)) → AreAtRest (es ++ start_entries loads tolds)
+pub start-rests : (es : List JournalEntry) (loads : List (Posted × ℕ)) (tolds : List (List NumberedClause)) → AreAtRest (es ++ start_entries loads tolds)
 start-rests es loads tolds =
     let inner : load_entries loads ++ (import_entries tolds ++ Run ∷ []) ≡ (load_entries loads ++ import_entries tolds) ++ Run ∷ [] = sym (append_assoc (load_entries loads) (import_entries tolds) (Run ∷ [])) in
     let outer : es ++ ((load_entries loads ++ import_entries tolds) ++ Run ∷ []) ≡ (es ++ (load_entries loads ++ import_entries tolds)) ++ Run ∷ [] = sym (append_assoc es (load_entries loads ++ import_entries tolds) (Run ∷ [])) in

@@ -1,7 +1,7 @@
 use Rattle.std.specs.Prelude.{ℕ, List, [], ◌∷◌, ◌++◌, map}
 use Rattle.std.specs.Arc.{arc_value}
 use Rattle.std.specs.declared.sync.Arc.{Arc}
-use Rattle.mal_base.specs.Held.{Held}
+use Rattle.mal_base.specs.NumberedClause.{NumberedClause}
 use Rattle.mal_revision.specs.Posted.{Posted}
 use Rattle.spec_job.specs.Journal.{JournalEntry, Load, Import, Run}
 
@@ -11,7 +11,7 @@ module _ {Z : Type 0} where
   shared_loads loads = map (λ l. (arc_value l.0, l.1)) loads
 
   -- shared lists of what is told
-  abbrev pub shared_tolds : List (Arc (List Held) Z) → List (List Held)
+  abbrev pub shared_tolds : List (Arc (List NumberedClause) Z) → List (List NumberedClause)
   shared_tolds imports = map (λ t. arc_value t) imports
 
 -- the loads of revisions, each with the number of its first clause
@@ -19,9 +19,9 @@ abbrev pub load_entries : List (Posted × ℕ) → List JournalEntry
 load_entries loads = map (λ l. Load l.0 l.1) loads
 
 -- the imports of what is told
-abbrev pub import_entries : List (List Held) → List JournalEntry
+abbrev pub import_entries : List (List NumberedClause) → List JournalEntry
 import_entries tolds = map (λ t. Import t) tolds
 
 -- what a start adds to a journal: loads, then imports, then a slice
-abbrev pub start_entries : List (Posted × ℕ) → List (List Held) → List JournalEntry
+abbrev pub start_entries : List (Posted × ℕ) → List (List NumberedClause) → List JournalEntry
 start_entries loads tolds = load_entries loads ++ (import_entries tolds ++ Run ∷ [])

@@ -1,7 +1,7 @@
 use Rattle.std.specs.Prelude.{◌≡◌, ℕ, ◌+◌, ◌≤◌, Bool, true, List, length}
 use Rattle.std.specs.List.{list_all}
 use Rattle.mal_base.specs.Formulas.{is_within}
-use Rattle.mal_base.specs.Held.{Held}
+use Rattle.mal_base.specs.NumberedClause.{NumberedClause}
 
 -- what an engine has room for: variables up to this one, and so many clauses and literals more
 pub record Room : Type 0 where
@@ -28,5 +28,5 @@ pub record IsLeft (used_clauses used_literals : ℕ) (before after : Room) : Typ
   pub literals : before.literals ≤ after.literals + used_literals
 
 -- each literal of each clause is of a variable from 1 to this one
-abbrev pub are_within : ℕ → List Held → Bool
+abbrev pub are_within : ℕ → List NumberedClause → Bool
 are_within variables clauses = list_all (λ c. is_within variables c.lits) clauses

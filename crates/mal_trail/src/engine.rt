@@ -2,7 +2,7 @@
 
 ghost use Rattle.std.specs.Prelude.{◌≡◌, ℕ, ◌+◌, ◌≤◌, true, List, [], ◌∷◌, ◌++◌, length, min, None, OnOk};
 ghost use Rattle.mal_base.specs.Clauses.{rises};
-ghost use Rattle.mal_base.specs.Held.{lits_under};
+ghost use Rattle.mal_base.specs.NumberedClause.{lits_under};
 ghost use Rattle.mal_base.specs.declared.trail_entry.TrailEntry.{TrailEntry};
 ghost use Rattle.spec_node.specs.Adding.{with_clause};
 ghost use Rattle.spec_node.specs.Batch.{after_batch};

@@ -1,6 +1,6 @@
 -- Lines with their numbers, without where they lie in memory.
 use Rattle.std.specs.Prelude.{List, map}
-use Rattle.mal_lrat.specs.Seen.{seen}
+use Rattle.mal_lrat.specs.LineView.{seen}
 use Rattle.spec_check.specs.Proofs.{Numbered}
 use Rattle.mal_verify.specs.declared.reading.NumberedLine.{NumberedLine}
 

@@ -4,7 +4,7 @@ ghost use Rattle.std.specs.Prelude.{◌≡◌, ◌<◌, ◌+◌, ◌^◌, [], �
 ghost use Rattle.spec_text.specs.Inputs.{lines_of, words_of};
 ghost use Rattle.spec_dimacs.specs.Rows.{is_comment, is_passed};
 ghost use Rattle.spec_check.specs.Proofs.{last_after, with_number, row_at, lines_from};
-ghost use Rattle.mal_lrat.specs.Seen.{seen};
+ghost use Rattle.mal_lrat.specs.LineView.{seen};
 ghost use Rattle.spec_lrat.specs.Reading.{reading};
 ghost use Rattle.mal_verify.specs.Views.{views};
 ghost use Rattle.mal_verify.specs.Answers.{Gives, GivesRow};

@@ -9,7 +9,7 @@ use Rattle.mal_base.specs.Literals.{var_of}
 use Rattle.mal_base.specs.Formulas.{is_within}
 use Rattle.mal_trail.specs.Rooms.{are_within}
 use Rattle.mal_base.specs.declared.trail_entry.TrailEntry.{TrailEntry}
-use Rattle.mal_base.specs.Held.{Held}
+use Rattle.mal_base.specs.NumberedClause.{NumberedClause}
 use Rattle.spec_node.specs.Batch.{Progress, after_all, after_clause, after_left, after_literal, before_last, batch, is_in_batch}
 use Rattle.spec_node.specs.Sound.{left_is_true}
 use Rattle.spec_node.specs.Value.{is_true, is_false, level_of, open_count, left_literal}
@@ -40,7 +40,7 @@ abbrev pub calm : List TrailEntry → Progress
 calm trail = record { trail = trail; conflict = None }
 
 -- what is left from a place on begins with what stands there
-drop-get : (clauses : List Held) (i : ℕ) (c : Held) → slice_get clauses i ≡ Some c → drop i clauses ≡ c ∷ drop (i + 1) clauses
+drop-get : (clauses : List NumberedClause) (i : ℕ) (c : NumberedClause) → slice_get clauses i ≡ Some c → drop i clauses ≡ c ∷ drop (i + 1) clauses
 drop-get [] i c e = absurd (none_some c e)
 drop-get (d ∷ ds) zero c e = rw (some_one d c e) refl
 drop-get (d ∷ ds) (suc i) c e =
@@ -48,21 +48,21 @@ drop-get (d ∷ ds) (suc i) c e =
     rw more (drop-get ds i c e)
 
 -- a clause of the batch is handled next
-pub after_all-in : (prefix trail : List TrailEntry) (clauses : List Held) (i : ℕ) (c : Held) → slice_get clauses i ≡ Some c → is_in_batch prefix c ≡ true → after_all prefix (calm trail) (batch prefix (drop i clauses)) ≡ after_all prefix (after_clause prefix trail c) (batch prefix (drop (i + 1) clauses))
+pub after_all-in : (prefix trail : List TrailEntry) (clauses : List NumberedClause) (i : ℕ) (c : NumberedClause) → slice_get clauses i ≡ Some c → is_in_batch prefix c ≡ true → after_all prefix (calm trail) (batch prefix (drop i clauses)) ≡ after_all prefix (after_clause prefix trail c) (batch prefix (drop (i + 1) clauses))
 after_all-in prefix trail clauses i c e t = rw (drop-get clauses i c e, t) refl
 
 -- a clause outside the batch is passed over
-pub after_all-out : (prefix : List TrailEntry) (p : Progress) (clauses : List Held) (i : ℕ) (c : Held) → slice_get clauses i ≡ Some c → is_in_batch prefix c ≡ false → after_all prefix p (batch prefix (drop i clauses)) ≡ after_all prefix p (batch prefix (drop (i + 1) clauses))
+pub after_all-out : (prefix : List TrailEntry) (p : Progress) (clauses : List NumberedClause) (i : ℕ) (c : NumberedClause) → slice_get clauses i ≡ Some c → is_in_batch prefix c ≡ false → after_all prefix p (batch prefix (drop i clauses)) ≡ after_all prefix p (batch prefix (drop (i + 1) clauses))
 after_all-out prefix p clauses i c e t = rw (drop-get clauses i c e, t) refl
 
 -- where all clauses are of some variables, the one at a place is
-pub within-at : (room : ℕ) (clauses : List Held) (i : ℕ) (c : Held) → are_within room clauses ≡ true → slice_get clauses i ≡ Some c → is_within room c.lits ≡ true
+pub within-at : (room : ℕ) (clauses : List NumberedClause) (i : ℕ) (c : NumberedClause) → are_within room clauses ≡ true → slice_get clauses i ≡ Some c → is_within room c.lits ≡ true
 within-at room [] i c w e = absurd (none_some c e)
 within-at room (d ∷ ds) zero c w e = rw (← some_one d c e) ((and_true (is_within room d.lits) (are_within room ds) w).0)
 within-at room (d ∷ ds) (suc i) c w e = within-at room ds i c ((and_true (is_within room d.lits) (are_within room ds) w).1) e
 
 -- a conflict ends the batch
-pub after_all-ended : (prefix trail : List TrailEntry) (id : ℕ) (clauses : List Held) → after_all prefix (record { trail = trail; conflict = Some id }) clauses ≡ record { trail = trail; conflict = Some id }
+pub after_all-ended : (prefix trail : List TrailEntry) (id : ℕ) (clauses : List NumberedClause) → after_all prefix (record { trail = trail; conflict = Some id }) clauses ≡ record { trail = trail; conflict = Some id }
 after_all-ended prefix trail id [] = refl
 after_all-ended prefix trail id (c ∷ cs) = after_all-ended prefix trail id cs
 
@@ -73,10 +73,10 @@ lt-nat_le : (a b : ℕ) → b < a → nat_le a b ≡ false
 lt-nat_le a b = grind (arith, nat_tests)
 
 -- the clauses of at most one literal are in the batch of no entry
-pub short : (c : Held) → length c.lits ≤ 1 → is_in_batch [] c ≡ true
+pub short : (c : NumberedClause) → length c.lits ≤ 1 → is_in_batch [] c ≡ true
 short c h = le-nat_le (length c.lits) 1 h
 
-pub long : (c : Held) → 1 < length c.lits → is_in_batch [] c ≡ false
+pub long : (c : NumberedClause) → 1 < length c.lits → is_in_batch [] c ≡ false
 long c h = lt-nat_le (length c.lits) 1 h
 
 is_one : (n : ℕ) → eqb n 1 ≡ true → n ≡ 1
@@ -100,7 +100,7 @@ some-left prefix (l ∷ ls) h = by_test (is_false prefix l) refl (some-left pref
         omega arith
     by_test false e rest q = absurd (none_some l (sym q))
 
-in-batch-left : (prefix : List TrailEntry) (c : Held) → 1 ≤ length prefix → is_in_batch prefix c ≡ true → left_literal prefix c.lits ≡ None → ⊥
+in-batch-left : (prefix : List TrailEntry) (c : NumberedClause) → 1 ≤ length prefix → is_in_batch prefix c ≡ true → left_literal prefix c.lits ≡ None → ⊥
 in-batch-left prefix c some t n =
     let parts = and_true (eqb (open_count prefix c.lits) 1) (nat_lt 1 (open_count (before_last prefix) c.lits)) (rw (not_none (length prefix) some) at t) in
     let one : open_count prefix c.lits ≡ 1 = is_one (open_count prefix c.lits) parts.0 in
@@ -125,7 +125,7 @@ after_found-ended trail id [] = refl
 after_found-ended trail id (f ∷ fs) = after_found-ended trail id fs
 
 -- handling a clause goes on alike with the rest of its batch and of what is pending
-handled-alike : (prefix was t : List TrailEntry) (cs : List Held) (fs : List Found) (id l : ℕ) → Keeps was t → ((now : List TrailEntry) → Keeps was now → after_all prefix (calm now) cs ≡ after_found (calm now) fs) → after_all prefix (after_literal t id l) cs ≡ after_found (after_literal t id l) fs
+handled-alike : (prefix was t : List TrailEntry) (cs : List NumberedClause) (fs : List Found) (id l : ℕ) → Keeps was t → ((now : List TrailEntry) → Keeps was now → after_all prefix (calm now) cs ≡ after_found (calm now) fs) → after_all prefix (after_literal t id l) cs ≡ after_found (after_literal t id l) fs
 handled-alike prefix was t cs fs id l k rest = by_true (is_true t l) (is_false t l)
   where
     e : TrailEntry
@@ -137,7 +137,7 @@ handled-alike prefix was t cs fs id l k rest = by_true (is_true t l) (is_false t
     by_true false false = rest (t ++ e ∷ []) (λ x h. true-push t e x (k x h))
 
 -- handling a batch is handling what is pending of it
-pub pending-handled : (prefix was t : List TrailEntry) (cs : List Held) → 1 ≤ length prefix → Keeps was t → after_all prefix (calm t) (batch prefix cs) ≡ after_found (calm t) (pending prefix was cs)
+pub pending-handled : (prefix was t : List TrailEntry) (cs : List NumberedClause) → 1 ≤ length prefix → Keeps was t → after_all prefix (calm t) (batch prefix cs) ≡ after_found (calm t) (pending prefix was cs)
 pending-handled prefix was t [] some k = refl
 pending-handled prefix was t (c ∷ cs) some k = by_batch (is_in_batch prefix c) refl (λ now h. pending-handled prefix was now cs some h)
   where
@@ -154,7 +154,7 @@ pending-handled prefix was t (c ∷ cs) some k = by_batch (is_in_batch prefix c)
     by_batch false b rest = rest t k
 
 -- the literals left of clauses that there is room for are of variables that there is room for
-pub pending-within : (room : ℕ) (prefix was : List TrailEntry) (cs : List Held) → are_within room cs ≡ true → AllByRecursion (λ (f : Found). var_of f.lit ≤ room) (pending prefix was cs)
+pub pending-within : (room : ℕ) (prefix was : List TrailEntry) (cs : List NumberedClause) → are_within room cs ≡ true → AllByRecursion (λ (f : Found). var_of f.lit ≤ room) (pending prefix was cs)
 pending-within room prefix was [] w = tt
 pending-within room prefix was (c ∷ cs) w = by_test (is_pending prefix was c) (pending-within room prefix was cs parts.1)
   where

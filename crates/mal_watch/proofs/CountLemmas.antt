@@ -4,11 +4,11 @@ use Rattle.std.proofs.lemmas.Bool.{cases_eq}
 use Rattle.std.proofs.lemmas.Bool.Decides.{nat_tests}
 use Rattle.std.proofs.lemmas.List.{length-take-le, take-take}
 use Rattle.std.proofs.lemmas.List.Sums.{sum_by-cons}
-use Rattle.mal_base.specs.Held.{Held}
+use Rattle.mal_base.specs.NumberedClause.{NumberedClause}
 use Rattle.mal_base.specs.declared.trail_entry.TrailEntry.{TrailEntry}
 use Rattle.spec_node.specs.Value.{open_count}
 use Rattle.spec_node.specs.Batch.{is_in_batch}
-use Rattle.mal_watch.specs.Chains.{Has, AreOnce}
+use Rattle.mal_watch.specs.WatchLists.{Has, AreOnce}
 use Rattle.mal_watch.proofs.HasLemmas.{has-none, has-head, has-tail, has-cases}
 
 count-cons : (p : ℕ → Bool) (x : ℕ) (xs : List ℕ) → count_by p (x ∷ xs) ≡ cond (p x) 1 0 + count_by p xs
@@ -90,16 +90,16 @@ and-false true = refl
 and-false false = refl
 
 -- whether a clause is in the batch of the first entries
-pub batch-test : (es : List TrailEntry) (q : ℕ) (c : Held) → 1 ≤ q → q ≤ length es → is_in_batch (take q es) c ≡ (eqb (open_count (take q es) c.lits) 1 && ltb 1 (open_count (take (q - 1) es) c.lits))
+pub batch-test : (es : List TrailEntry) (q : ℕ) (c : NumberedClause) → 1 ≤ q → q ≤ length es → is_in_batch (take q es) c ≡ (eqb (open_count (take q es) c.lits) 1 && ltb 1 (open_count (take (q - 1) es) c.lits))
 batch-test es q c s l =
     let fits : q - 1 ≤ q = omega arith in
     rw (length-take-le q es l, not_zero q s, take-take (q - 1) q es fits) refl
 
-pub batch-yes : (es : List TrailEntry) (q : ℕ) (c : Held) → 1 ≤ q → q ≤ length es → open_count (take q es) c.lits ≡ 1 → 2 ≤ open_count (take (q - 1) es) c.lits → is_in_batch (take q es) c ≡ true
+pub batch-yes : (es : List TrailEntry) (q : ℕ) (c : NumberedClause) → 1 ≤ q → q ≤ length es → open_count (take q es) c.lits ≡ 1 → 2 ≤ open_count (take (q - 1) es) c.lits → is_in_batch (take q es) c ≡ true
 batch-yes es q c s l o m = batch-test es q c s l ∙ rw (is_one (open_count (take q es) c.lits) o, more_one (open_count (take (q - 1) es) c.lits) m) refl
 
-pub batch-no : (es : List TrailEntry) (q : ℕ) (c : Held) → 1 ≤ q → q ≤ length es → (open_count (take q es) c.lits ≡ 1 → ⊥) → is_in_batch (take q es) c ≡ false
+pub batch-no : (es : List TrailEntry) (q : ℕ) (c : NumberedClause) → 1 ≤ q → q ≤ length es → (open_count (take q es) c.lits ≡ 1 → ⊥) → is_in_batch (take q es) c ≡ false
 batch-no es q c s l o = batch-test es q c s l ∙ rw (not_one (open_count (take q es) c.lits) o) refl
 
-pub batch-before : (es : List TrailEntry) (q : ℕ) (c : Held) → 1 ≤ q → q ≤ length es → open_count (take (q - 1) es) c.lits ≤ 1 → is_in_batch (take q es) c ≡ false
+pub batch-before : (es : List TrailEntry) (q : ℕ) (c : NumberedClause) → 1 ≤ q → q ≤ length es → open_count (take (q - 1) es) c.lits ≤ 1 → is_in_batch (take q es) c ≡ false
 batch-before es q c s l m = batch-test es q c s l ∙ rw (most_one (open_count (take (q - 1) es) c.lits) m) (and-false (eqb (open_count (take q es) c.lits) 1))

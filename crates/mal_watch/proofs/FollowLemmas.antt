@@ -6,15 +6,15 @@ use Rattle.std.proofs.lemmas.Bool.Decides.{nat_tests}
 use Rattle.std.proofs.lemmas.List.{length_push, get_or_append_left, get_or_at, get_or_past}
 use Rattle.std.proofs.lemmas.List.Sums.{count_by-le-length}
 use Rattle.mal_base.specs.Formulas.{is_within}
-use Rattle.mal_base.specs.Held.{Held, lits_under}
+use Rattle.mal_base.specs.NumberedClause.{NumberedClause, lits_under}
 use Rattle.mal_base.specs.Literals.{negated}
 use Rattle.mal_base.specs.declared.trail_entry.TrailEntry.{TrailEntry}
 use Rattle.spec_node.specs.Adding.{with_clause}
 use Rattle.spec_node.specs.Batch.{is_in_batch}
 use Rattle.spec_node.specs.Value.{is_true, is_false, open_count}
-use Rattle.mal_watch.specs.Chains.{Has, AreOnce, IsAt}
+use Rattle.mal_watch.specs.WatchLists.{Has, AreOnce, IsAt}
 use Rattle.mal_watch.specs.Pairs.{ArePicked}
-use Rattle.mal_watch.specs.Watching.{no_row, row_at, partner, other_key, AreOthersFalse, IsKept}
+use Rattle.mal_watch.specs.Watching.{no_row, row_at, partner, other_key, AreOthersFalse, IsWatchKept}
 use Rattle.mal_watch.specs.Going.{Turns, Goes}
 use Rattle.mal_watch.specs.Finding.{is_pending, found_of, pending, found_in}
 use Rattle.mal_watch.specs.declared.found.Found.{Found}
@@ -28,7 +28,7 @@ use Rattle.mal_watch.proofs.WalkLemmas.{partner-below}
 use Rattle.mal_watch.proofs.CountLemmas.{count-same, batch-before, batch-no}
 
 -- what follows a trail follows it with more room for the numbers found and more lists
-pub follows-more : (clauses rows : List Held) (keys out : List ℕ) (lists more capacity wider : ℕ) (entries : List TrailEntry) (processed : ℕ) → lists ≤ more → length rows ≤ wider → Follows clauses rows keys out lists capacity entries processed → Follows clauses rows keys out more wider entries processed
+pub follows-more : (clauses rows : List NumberedClause) (keys out : List ℕ) (lists more capacity wider : ℕ) (entries : List TrailEntry) (processed : ℕ) → lists ≤ more → length rows ≤ wider → Follows clauses rows keys out lists capacity entries processed → Follows clauses rows keys out more wider entries processed
 follows-more clauses rows keys out lists more capacity wider entries processed l c f =
     record {
       numbers = f.numbers;
@@ -44,7 +44,7 @@ follows-more clauses rows keys out lists more capacity wider entries processed l
     }
 
 -- with no clause everything follows
-pub follows-none : (clauses rows : List Held) (keys out : List ℕ) (lists capacity : ℕ) (entries : List TrailEntry) (processed : ℕ) → clauses ≡ [] → rows ≡ [] → keys ≡ [] → out ≡ [] → Follows clauses rows keys out lists capacity entries processed
+pub follows-none : (clauses rows : List NumberedClause) (keys out : List ℕ) (lists capacity : ℕ) (entries : List TrailEntry) (processed : ℕ) → clauses ≡ [] → rows ≡ [] → keys ≡ [] → out ≡ [] → Follows clauses rows keys out lists capacity entries processed
 follows-none clauses rows keys out lists capacity entries processed c r k o =
     rw (c, r, k, o)
     (record {
@@ -61,7 +61,7 @@ follows-none clauses rows keys out lists capacity entries processed c r k o =
     })
 
 -- a clause of at most one literal more
-pub follows-short : (clauses rows : List Held) (keys out : List ℕ) (lists capacity : ℕ) (entries : List TrailEntry) (processed : ℕ) (c : Held) → lits_under c.id clauses ≡ None → length c.lits ≤ 1 → Follows clauses rows keys out lists capacity entries processed → Follows (with_clause c clauses) rows keys out lists capacity entries processed
+pub follows-short : (clauses rows : List NumberedClause) (keys out : List ℕ) (lists capacity : ℕ) (entries : List TrailEntry) (processed : ℕ) (c : NumberedClause) → lits_under c.id clauses ≡ None → length c.lits ≤ 1 → Follows clauses rows keys out lists capacity entries processed → Follows (with_clause c clauses) rows keys out lists capacity entries processed
 follows-short clauses rows keys out lists capacity entries processed c n s f =
     record {
       numbers = rise-with 0 c clauses (omega arith) (λ d h. under-none c.id clauses d n h) f.numbers;
@@ -79,7 +79,7 @@ follows-short clauses rows keys out lists capacity entries processed c n s f =
       kept = f.kept;
     }
 
-among-push : (c d : Held) (cs : List Held) → Among c (cs ++ d ∷ []) → Among c cs ⊎ (c ≡ d)
+among-push : (c d : NumberedClause) (cs : List NumberedClause) → Among c (cs ++ d ∷ []) → Among c cs ⊎ (c ≡ d)
 among-push c d [] (inl e) = inr e
 among-push c d [] (inr h) = absurd h
 among-push c d (x ∷ xs) (inl e) = inl (inl e)
@@ -88,30 +88,30 @@ among-push c d (x ∷ xs) (inr h) = elim (among-push c d xs h) [
   | inr e ↦ inr e
 ]
 
-push-among : (c d : Held) (cs : List Held) → Among c cs → Among c (cs ++ d ∷ [])
+push-among : (c d : NumberedClause) (cs : List NumberedClause) → Among c cs → Among c (cs ++ d ∷ [])
 push-among c d [] h = absurd h
 push-among c d (x ∷ xs) (inl e) = inl e
 push-among c d (x ∷ xs) (inr h) = inr (push-among c d xs h)
 
-push-last : (d : Held) (cs : List Held) → Among d (cs ++ d ∷ [])
+push-last : (d : NumberedClause) (cs : List NumberedClause) → Among d (cs ++ d ∷ [])
 push-last d [] = inl refl
 push-last d (x ∷ xs) = inr (push-last d xs)
 
 -- the rows with one more
-row-old : (rows : List Held) (c : Held) (i : ℕ) → i < length rows → get_or (rows ++ c ∷ []) i no_row ≡ get_or rows i no_row
+row-old : (rows : List NumberedClause) (c : NumberedClause) (i : ℕ) → i < length rows → get_or (rows ++ c ∷ []) i no_row ≡ get_or rows i no_row
 row-old rows c i l = get_or_append_left rows (c ∷ []) no_row i l
 
-row-new : (rows : List Held) (c : Held) (i : ℕ) → length rows ≡ i → get_or (rows ++ c ∷ []) i no_row ≡ c
+row-new : (rows : List NumberedClause) (c : NumberedClause) (i : ℕ) → length rows ≡ i → get_or (rows ++ c ∷ []) i no_row ≡ c
 row-new rows c i e = get_or_at rows c [] no_row i e
 
-single-push : (rows : List Held) (c : Held) → ((d : Held) → Among d rows → d.id ≢ c.id) → AreSingle rows → AreSingle (rows ++ c ∷ [])
+single-push : (rows : List NumberedClause) (c : NumberedClause) → ((d : NumberedClause) → Among d rows → d.id ≢ c.id) → AreSingle rows → AreSingle (rows ++ c ∷ [])
 single-push rows c n s i j a b e = by_places (cases_eq i (length rows)) (cases_eq j (length rows))
   where
     long : length (rows ++ c ∷ []) ≡ length rows + 1
     long = length_push rows c
 
-    same : (x y : Held) → get_or (rows ++ c ∷ []) i no_row ≡ x → get_or (rows ++ c ∷ []) j no_row ≡ y → x.id ≡ y.id
-    same x y p q = ap (λ (h : Held). h.id) (sym p) ∙ (e ∙ ap (λ (h : Held). h.id) q)
+    same : (x y : NumberedClause) → get_or (rows ++ c ∷ []) i no_row ≡ x → get_or (rows ++ c ∷ []) j no_row ≡ y → x.id ≡ y.id
+    same x y p q = ap (λ (h : NumberedClause). h.id) (sym p) ∙ (e ∙ ap (λ (h : NumberedClause). h.id) q)
 
     by_places : (i ≡ length rows) ⊎ (i ≡ length rows → ⊥) → (j ≡ length rows) ⊎ (j ≡ length rows → ⊥) → i ≡ j
     by_places (inl p) (inl q) = p ∙ sym q
@@ -145,7 +145,7 @@ pair-push keys first second =
     }
 
 -- what holds of a node, by what it and its partner watch and by its clause
-kept-as : (prefix : List TrailEntry) (rows : List Held) (keys : List ℕ) (k a b : ℕ) (c : Held) → get_or keys k 0 ≡ a → other_key keys k ≡ b → row_at rows k ≡ c → (is_false prefix a ≡ true → AreOthersFalse prefix b c.lits ⊎ (is_true prefix b ≡ true)) → IsKept prefix rows keys k
+kept-as : (prefix : List TrailEntry) (rows : List NumberedClause) (keys : List ℕ) (k a b : ℕ) (c : NumberedClause) → get_or keys k 0 ≡ a → other_key keys k ≡ b → row_at rows k ≡ c → (is_false prefix a ≡ true → AreOthersFalse prefix b c.lits ⊎ (is_true prefix b ≡ true)) → IsWatchKept prefix rows keys k
 kept-as prefix rows keys k a b c e f g h = rw (e, f, g) h
 
 -- a node is an old one, or one of the two new ones
@@ -158,7 +158,7 @@ split n k l = by_case (cases_eq k n) (cases_eq k (n + 1))
     by_case (inr d) (inr c) = inl (omega arith)
 
 -- each literal of a clause that there is room for has a list
-below-push : (lists : ℕ) (rows : List Held) (c : Held) → ((k l : ℕ) → Has (row_at rows k).lits l → l < lists) → ((l : ℕ) → Has c.lits l → l < lists) → (k l : ℕ) → Has (row_at (rows ++ c ∷ []) k).lits l → l < lists
+below-push : (lists : ℕ) (rows : List NumberedClause) (c : NumberedClause) → ((k l : ℕ) → Has (row_at rows k).lits l → l < lists) → ((l : ℕ) → Has c.lits l → l < lists) → (k l : ℕ) → Has (row_at (rows ++ c ∷ []) k).lits l → l < lists
 below-push lists rows c old new k l h = by_place (cases_eq (k / 2) (length rows)) (nat_lt (k / 2) (length rows)) refl
   where
     by_place : (k / 2 ≡ length rows) ⊎ (k / 2 ≡ length rows → ⊥) → (b : Bool) → nat_lt (k / 2) (length rows) ≡ b → l < lists
@@ -169,7 +169,7 @@ below-push lists rows c old new k l h = by_place (cases_eq (k / 2) (length rows)
         absurd (has-none l (rw (get_or_past (rows ++ c ∷ []) (k / 2) no_row beyond) at h))
 
 -- a clause of two or more literals more, which watches the two that were picked
-pub follows-long : (clauses rows : List Held) (keys out : List ℕ) (lists capacity : ℕ) (entries : List TrailEntry) (processed : ℕ) (c : Held) (first second : ℕ) → lits_under c.id clauses ≡ None → AreOnce c.lits → ArePicked entries (processed - 1) c.lits first second → ((l : ℕ) → Has c.lits l → l < lists) → length rows + 1 ≤ capacity → Follows clauses rows keys out lists capacity entries processed → Follows (with_clause c clauses) (rows ++ c ∷ []) ((keys ++ first ∷ []) ++ second ∷ []) out lists capacity entries processed
+pub follows-long : (clauses rows : List NumberedClause) (keys out : List ℕ) (lists capacity : ℕ) (entries : List TrailEntry) (processed : ℕ) (c : NumberedClause) (first second : ℕ) → lits_under c.id clauses ≡ None → AreOnce c.lits → ArePicked entries (processed - 1) c.lits first second → ((l : ℕ) → Has c.lits l → l < lists) → length rows + 1 ≤ capacity → Follows clauses rows keys out lists capacity entries processed → Follows (with_clause c clauses) (rows ++ c ∷ []) ((keys ++ first ∷ []) ++ second ∷ []) out lists capacity entries processed
 follows-long clauses rows keys out lists capacity entries processed c first second fresh once p below room f =
     let n = length keys in
     let now = (keys ++ first ∷ []) ++ second ∷ [] in
@@ -252,7 +252,7 @@ lists-within lists (x ∷ xs) w l h =
     ]
 
 -- the rows' literals stand once each
-pub rows-once : (rows : List Held) → ((c : Held) → Among c rows → AreOnce c.lits) → (k : ℕ) → AreOnce (row_at rows k).lits
+pub rows-once : (rows : List NumberedClause) → ((c : NumberedClause) → Among c rows → AreOnce c.lits) → (k : ℕ) → AreOnce (row_at rows k).lits
 rows-once rows form k = by_place (nat_lt (k / 2) (length rows)) refl
   where
     by_place : (b : Bool) → nat_lt (k / 2) (length rows) ≡ b → AreOnce (row_at rows k).lits
@@ -260,7 +260,7 @@ rows-once rows form k = by_place (nat_lt (k / 2) (length rows)) refl
     by_place false t = rw (get_or_past rows (k / 2) no_row (ltb-false (k / 2) (length rows) t)) tt
 
 -- the batch is of rows alone
-pub batch-rows : (clauses rows : List Held) (entries : List TrailEntry) (q : ℕ) → 1 ≤ q → q ≤ length entries → ((c : Held) → Among c clauses → (length c.lits ≤ 1) ⊎ Among c rows) → (c : Held) → Among c clauses → is_in_batch (take q entries) c ≡ true → Among c rows
+pub batch-rows : (clauses rows : List NumberedClause) (entries : List TrailEntry) (q : ℕ) → 1 ≤ q → q ≤ length entries → ((c : NumberedClause) → Among c clauses → (length c.lits ≤ 1) ⊎ Among c rows) → (c : NumberedClause) → Among c clauses → is_in_batch (take q entries) c ≡ true → Among c rows
 batch-rows clauses rows entries q s l each c h t = elim (each c h) [
   | inl short ↦
       let few : open_count (take (q - 1) entries) c.lits ≤ 1 = omega (arith, short, count_by-le-length (λ x. not (is_false (take (q - 1) entries) x)) c.lits) in
@@ -269,15 +269,15 @@ batch-rows clauses rows entries q s l each c h t = elim (each c h) [
 ]
 
 -- before the walk the nodes that watch the literal are left
-pub before-walk : (clauses rows : List Held) (keys out idle : List ℕ) (lists capacity : ℕ) (entries : List TrailEntry) (count f : ℕ) → Follows clauses rows keys idle lists capacity entries count → Turns entries count f → ((k : ℕ) → Has out k ↔ IsAt keys k f) → AreOnce out → Goes entries count f lists rows keys out
+pub before-walk : (clauses rows : List NumberedClause) (keys out idle : List ℕ) (lists capacity : ℕ) (entries : List TrailEntry) (count f : ℕ) → Follows clauses rows keys idle lists capacity entries count → Turns entries count f → ((k : ℕ) → Has out k ↔ IsAt keys k f) → AreOnce out → Goes entries count f lists rows keys out
 before-walk clauses rows keys out idle lists capacity entries count f w t nodes once = goes-start entries count f lists rows keys out t w.watching w.apart (rows-once rows w.form) w.kept nodes once
 
 -- after the walk: what the nodes watch follows the trail with one batch more, and what was found is what is pending
-pub record IsFound (clauses rows : List Held) (keys : List ℕ) (found : List Found) (lists capacity : ℕ) (entries : List TrailEntry) (count : ℕ) : Type 0 where
+pub record IsFound (clauses rows : List NumberedClause) (keys : List ℕ) (found : List Found) (lists capacity : ℕ) (entries : List TrailEntry) (count : ℕ) : Type 0 where
   pub follows : Follows clauses rows keys [] lists capacity entries (count + 1)
   pub found_is : found ≡ pending (take count entries) entries clauses
 
-pub after-walk : (clauses rows : List Held) (keys out idle now : List ℕ) (found : List Found) (lists capacity : ℕ) (entries : List TrailEntry) (count : ℕ) (f : ℕ) → Follows clauses rows keys idle lists capacity entries count → Turns entries count f → ((k : ℕ) → Has out k ↔ IsAt keys k f) → AreOnce out → Goes entries count f lists rows now [] → IsPermutation (found_in (take count entries) entries rows out) found → IsNonDecreasingBy (λ (x : Found). x.id) found → IsFound clauses rows now found lists capacity entries count
+pub after-walk : (clauses rows : List NumberedClause) (keys out idle now : List ℕ) (found : List Found) (lists capacity : ℕ) (entries : List TrailEntry) (count : ℕ) (f : ℕ) → Follows clauses rows keys idle lists capacity entries count → Turns entries count f → ((k : ℕ) → Has out k ↔ IsAt keys k f) → AreOnce out → Goes entries count f lists rows now [] → IsPermutation (found_in (take count entries) entries rows out) found → IsNonDecreasingBy (λ (x : Found). x.id) found → IsFound clauses rows now found lists capacity entries count
 after-walk clauses rows keys out idle now found lists capacity entries count f w t nodes once goes moved s =
     record {
       follows = record {
@@ -295,12 +295,12 @@ after-walk clauses rows keys out idle now found lists capacity entries count f w
       found_is = found-is (take count entries) entries f lists clauses rows keys out found w.numbers w.held w.single w.watching w.apart nodes once (batch-rows clauses rows entries count t.some t.within w.each) (λ k l d e. goes-apart entries count f lists rows keys k t w.watching w.apart (rows-once rows w.form) w.kept l d e) moved s;
     }
 
-passed-none : (p : Held → Bool) → ((c : Held) → p c ≡ false) → (cs : List Held) → filter p cs ≡ []
+passed-none : (p : NumberedClause → Bool) → ((c : NumberedClause) → p c ≡ false) → (cs : List NumberedClause) → filter p cs ≡ []
 passed-none p h [] = refl
 passed-none p h (c ∷ cs) = rw (h c) (passed-none p h cs)
 
 -- an entry whose literal was true before makes no batch
-pub no-walk : (clauses rows : List Held) (keys : List ℕ) (lists capacity : ℕ) (entries : List TrailEntry) (count : ℕ) (e : TrailEntry) (idle : List ℕ) → 1 ≤ count → count ≤ length entries → e ≡ get_or entries (count - 1) e → is_false (take (count - 1) entries) (negated e.lit) ≡ true → Follows clauses rows keys idle lists capacity entries count → Follows clauses rows keys idle lists capacity entries (count + 1) × ([] ≡ pending (take count entries) entries clauses)
+pub no-walk : (clauses rows : List NumberedClause) (keys : List ℕ) (lists capacity : ℕ) (entries : List TrailEntry) (count : ℕ) (e : TrailEntry) (idle : List ℕ) → 1 ≤ count → count ≤ length entries → e ≡ get_or entries (count - 1) e → is_false (take (count - 1) entries) (negated e.lit) ≡ true → Follows clauses rows keys idle lists capacity entries count → Follows clauses rows keys idle lists capacity entries (count + 1) × ([] ≡ pending (take count entries) entries clauses)
 no-walk clauses rows keys lists capacity entries count e idle s l is was f = (
   record {
     numbers = f.numbers;
@@ -320,7 +320,7 @@ no-walk clauses rows keys lists capacity entries count e idle s l is was f = (
       | inr d ↦ f.kept n k (omega (arith, h, d)) m
     ];
   },
-  ap (λ (cs : List Held). map (found_of (take count entries)) cs) (sym (passed-none (is_pending (take count entries) entries) (λ c. rw (never c) refl) clauses)),
+  ap (λ (cs : List NumberedClause). map (found_of (take count entries)) cs) (sym (passed-none (is_pending (take count entries) entries) (λ c. rw (never c) refl) clauses)),
 )
   where
     back : (x : ℕ) → is_false (take count entries) x ≡ true → is_false (take (count - 1) entries) x ≡ true
@@ -336,7 +336,7 @@ no-walk clauses rows keys lists capacity entries count e idle s l is was f = (
         by_value true z = z ∙ sym (back x z)
         by_value false z = z ∙ sym (open-less (count - 1) count entries x (omega arith) z)
 
-    never : (c : Held) → is_in_batch (take count entries) c ≡ false
+    never : (c : NumberedClause) → is_in_batch (take count entries) c ≡ false
     never c = by_many (nat_lt 1 (open_count (take (count - 1) entries) c.lits)) refl
       where
         alike : open_count (take count entries) c.lits ≡ open_count (take (count - 1) entries) c.lits

@@ -7,11 +7,11 @@ use Rattle.std.proofs.lemmas.List.Sorted.{All-permutation, Contains-permutation,
 use Rattle.std.proofs.lemmas.List.Elements.{All-from_recursion, recursion_from_All}
 use Rattle.std.proofs.lemmas.List.{length-map}
 use Rattle.std.proofs.lemmas.Map.Keys.{IsStrictlyIncreasing-from_distinct, IsDistinct-IsPermutation}
-use Rattle.mal_base.specs.Held.{Held, lits_under}
+use Rattle.mal_base.specs.NumberedClause.{NumberedClause, lits_under}
 use Rattle.mal_base.specs.declared.trail_entry.TrailEntry.{TrailEntry}
 use Rattle.spec_node.specs.Batch.{is_in_batch}
 use Rattle.spec_node.specs.Sound.{NumbersRise, left_is_true}
-use Rattle.mal_watch.specs.Chains.{Has, AreOnce, IsAt}
+use Rattle.mal_watch.specs.WatchLists.{Has, AreOnce, IsAt}
 use Rattle.mal_watch.specs.Following.{Among, AreSingle}
 use Rattle.mal_watch.specs.Watching.{no_row, row_at, partner, other_key, IsWatching}
 use Rattle.mal_watch.specs.declared.found.Found.{Found}
@@ -71,46 +71,46 @@ rises-from low (x ∷ xs) h s = (h (omega arith), rises-from (x + 1) xs (λ l. l
         let f = s (suc k) (omega arith) in
         rw e at f
 
-rises-ids : (low : ℕ) (cs : List Held) → NumbersRise low cs → RisesFrom low (map (λ (c : Held). c.id) cs)
+rises-ids : (low : ℕ) (cs : List NumberedClause) → NumbersRise low cs → RisesFrom low (map (λ (c : NumberedClause). c.id) cs)
 rises-ids low [] r = tt
 rises-ids low (c ∷ cs) r = (r.0, rises-ids (c.id + 1) cs r.1)
 
 -- a clause of a number
-pub record IsNumbered (x : ℕ) (cs : List Held) : Type 0 where
-  pub clause : Held
+pub record IsNumbered (x : ℕ) (cs : List NumberedClause) : Type 0 where
+  pub clause : NumberedClause
   pub among : Among clause cs
   pub is : clause.id ≡ x
 
-has-numbered : (x : ℕ) (cs : List Held) → Has (map (λ (c : Held). c.id) cs) x → IsNumbered x cs
+has-numbered : (x : ℕ) (cs : List NumberedClause) → Has (map (λ (c : NumberedClause). c.id) cs) x → IsNumbered x cs
 has-numbered x [] h = absurd (has-none x h)
-has-numbered x (c ∷ cs) h = by_side (has-numbered x cs) (has-cases x c.id (map (λ (d : Held). d.id) cs) h)
+has-numbered x (c ∷ cs) h = by_side (has-numbered x cs) (has-cases x c.id (map (λ (d : NumberedClause). d.id) cs) h)
   where
-    by_side : (Has (map (λ (d : Held). d.id) cs) x → IsNumbered x cs) → (x ≡ c.id) ⊎ Has (map (λ (d : Held). d.id) cs) x → IsNumbered x (c ∷ cs)
+    by_side : (Has (map (λ (d : NumberedClause). d.id) cs) x → IsNumbered x cs) → (x ≡ c.id) ⊎ Has (map (λ (d : NumberedClause). d.id) cs) x → IsNumbered x (c ∷ cs)
     by_side rest (inl e) = record { clause = c; among = inl refl; is = sym e }
     by_side rest (inr m) = let n = rest m in record { clause = n.clause; among = inr n.among; is = n.is }
 
-numbered-has : (c : Held) (cs : List Held) → Among c cs → Has (map (λ (d : Held). d.id) cs) c.id
+numbered-has : (c : NumberedClause) (cs : List NumberedClause) → Among c cs → Has (map (λ (d : NumberedClause). d.id) cs) c.id
 numbered-has c [] h = absurd h
-numbered-has c (d ∷ ds) (inl e) = has-head c.id d.id (map (λ (x : Held). x.id) ds) (ap (λ (x : Held). x.id) e)
-numbered-has c (d ∷ ds) (inr h) = has-tail c.id d.id (map (λ (x : Held). x.id) ds) (numbered-has c ds h)
+numbered-has c (d ∷ ds) (inl e) = has-head c.id d.id (map (λ (x : NumberedClause). x.id) ds) (ap (λ (x : NumberedClause). x.id) e)
+numbered-has c (d ∷ ds) (inr h) = has-tail c.id d.id (map (λ (x : NumberedClause). x.id) ds) (numbered-has c ds h)
 
 -- the number of a node's clause, where it passes a test
-abbrev pub id_at : (Held → Bool) → List Held → ℕ → List ℕ
+abbrev pub id_at : (NumberedClause → Bool) → List NumberedClause → ℕ → List ℕ
 id_at p rows k = cond (p (row_at rows k)) ((row_at rows k).id ∷ []) []
 
 -- the numbers of the clauses of nodes that pass a test
-abbrev pub ids_in : (Held → Bool) → List Held → List ℕ → List ℕ
+abbrev pub ids_in : (NumberedClause → Bool) → List NumberedClause → List ℕ → List ℕ
 ids_in p rows [] = []
 ids_in p rows (k ∷ ks) = id_at p rows k ++ ids_in p rows ks
 
 -- a node whose clause passes a test
-pub record IsFrom (p : Held → Bool) (rows : List Held) (ks : List ℕ) (x : ℕ) : Type 0 where
+pub record IsFrom (p : NumberedClause → Bool) (rows : List NumberedClause) (ks : List ℕ) (x : ℕ) : Type 0 where
   pub node : ℕ
   pub there : Has ks node
   pub inside : p (row_at rows node) ≡ true
   pub is : (row_at rows node).id ≡ x
 
-ids-from : (p : Held → Bool) (rows : List Held) (ks : List ℕ) (x : ℕ) → Has (ids_in p rows ks) x → IsFrom p rows ks x
+ids-from : (p : NumberedClause → Bool) (rows : List NumberedClause) (ks : List ℕ) (x : ℕ) → Has (ids_in p rows ks) x → IsFrom p rows ks x
 ids-from p rows [] x h = absurd (has-none x h)
 ids-from p rows (k ∷ ks) x h = by_test (p (row_at rows k)) refl (λ m. let f = ids-from p rows ks x m in record { node = f.node; there = has-tail f.node k ks f.there; inside = f.inside; is = f.is }) h
   where
@@ -122,7 +122,7 @@ ids-from p rows (k ∷ ks) x h = by_test (p (row_at rows k)) refl (λ m. let f =
     by_test true e rest m = by_side e rest (has-cases x (row_at rows k).id (ids_in p rows ks) m)
     by_test false e rest m = rest m
 
-has-ids : (p : Held → Bool) (rows : List Held) (ks : List ℕ) (k : ℕ) → Has ks k → p (row_at rows k) ≡ true → Has (ids_in p rows ks) (row_at rows k).id
+has-ids : (p : NumberedClause → Bool) (rows : List NumberedClause) (ks : List ℕ) (k : ℕ) → Has ks k → p (row_at rows k) ≡ true → Has (ids_in p rows ks) (row_at rows k).id
 has-ids p rows [] k h t = absurd (has-none k h)
 has-ids p rows (j ∷ ks) k h t = by_test (p (row_at rows j)) refl (λ m. has-ids p rows ks k m t) (has-cases k j ks h)
   where
@@ -133,7 +133,7 @@ has-ids p rows (j ∷ ks) k h t = by_test (p (row_at rows j)) refl (λ m. has-id
     by_test false e rest (inr m) = rest m
 
 -- numbers of clauses of different nodes stand once, where nodes of the same number are the same
-ids-once : (p : Held → Bool) (rows : List Held) (ks : List ℕ) → AreOnce ks → ((i j : ℕ) → Has ks i → Has ks j → (row_at rows i).id ≡ (row_at rows j).id → i ≡ j) → AreOnce (ids_in p rows ks)
+ids-once : (p : NumberedClause → Bool) (rows : List NumberedClause) (ks : List ℕ) → AreOnce ks → ((i j : ℕ) → Has ks i → Has ks j → (row_at rows i).id ≡ (row_at rows j).id → i ≡ j) → AreOnce (ids_in p rows ks)
 ids-once p rows [] o h = tt
 ids-once p rows (k ∷ ks) o h = by_test (p (row_at rows k)) (ids-once p rows ks o.1 (λ i j m n. h i j (has-tail i k ks m) (has-tail j k ks n)))
   where
@@ -156,7 +156,7 @@ halves i j e = by_case (cases_eq i j)
     by_case (inr d) = inr (let h = partner-half j in let n = partner-other j in omega arith)
 
 -- nodes that watch one literal are of different clauses
-pub node-half : (f lists : ℕ) (rows : List Held) (keys out : List ℕ) → ((k : ℕ) → k < length keys → get_or keys k 0 ≢ other_key keys k) → ((k : ℕ) → Has out k ↔ IsAt keys k f) → (i j : ℕ) → Has out i → Has out j → i / 2 ≡ j / 2 → i ≡ j
+pub node-half : (f lists : ℕ) (rows : List NumberedClause) (keys out : List ℕ) → ((k : ℕ) → k < length keys → get_or keys k 0 ≢ other_key keys k) → ((k : ℕ) → Has out k ↔ IsAt keys k f) → (i j : ℕ) → Has out i → Has out j → i / 2 ≡ j / 2 → i ≡ j
 node-half f lists rows keys out a nodes i j m n e = elim (halves i j e) [
   | inl s ↦ s
   | inr p ↦
@@ -189,23 +189,23 @@ map-length [] = refl
 map-length (k ∷ ks) = ap suc (map-length ks)
 
 -- there are at most as many nodes of a literal as clauses
-pub out-length : (f lists : ℕ) (rows : List Held) (keys out : List ℕ) → IsWatching lists rows keys → ((k : ℕ) → k < length keys → get_or keys k 0 ≢ other_key keys k) → ((k : ℕ) → Has out k ↔ IsAt keys k f) → AreOnce out → length out ≤ length rows
+pub out-length : (f lists : ℕ) (rows : List NumberedClause) (keys out : List ℕ) → IsWatching lists rows keys → ((k : ℕ) → k < length keys → get_or keys k 0 ≢ other_key keys k) → ((k : ℕ) → Has out k ↔ IsAt keys k f) → AreOnce out → length out ≤ length rows
 out-length f lists rows keys out w a nodes o =
     let most = long-below (length rows) (map (λ (k : ℕ). k / 2) out) (map-once out o (node-half f lists rows keys out a nodes)) (λ x m. map-below (length rows) x out (λ k n. row-below lists rows keys k w ((nodes k).0 n).0) m) in
     rw (map-length out) at most
 
 -- numbers found, in order, are those of all clauses that pass a test
-ids-are : (p : Held → Bool) (f lists : ℕ) (clauses rows : List Held) (keys out found : List ℕ) → NumbersRise 0 clauses → ((c : Held) → Among c rows → Among c clauses) → AreSingle rows → IsWatching lists rows keys → ((k : ℕ) → k < length keys → get_or keys k 0 ≢ other_key keys k) → ((k : ℕ) → Has out k ↔ IsAt keys k f) → AreOnce out → ((c : Held) → Among c clauses → p c ≡ true → Among c rows) → ((k : ℕ) → k < length keys → get_or keys k 0 ≢ f → other_key keys k ≢ f → p (row_at rows k) ≡ false) → IsPermutation (ids_in p rows out) found → IsNonDecreasing found → found ≡ map (λ (c : Held). c.id) (filter p clauses)
+ids-are : (p : NumberedClause → Bool) (f lists : ℕ) (clauses rows : List NumberedClause) (keys out found : List ℕ) → NumbersRise 0 clauses → ((c : NumberedClause) → Among c rows → Among c clauses) → AreSingle rows → IsWatching lists rows keys → ((k : ℕ) → k < length keys → get_or keys k 0 ≢ other_key keys k) → ((k : ℕ) → Has out k ↔ IsAt keys k f) → AreOnce out → ((c : NumberedClause) → Among c clauses → p c ≡ true → Among c rows) → ((k : ℕ) → k < length keys → get_or keys k 0 ≢ f → other_key keys k ≢ f → p (row_at rows k) ≡ false) → IsPermutation (ids_in p rows out) found → IsNonDecreasing found → found ≡ map (λ (c : NumberedClause). c.id) (filter p clauses)
 ids-are p f lists clauses rows keys out found r held single w a nodes once rowed apart moved s =
     let ids = ids_in p rows out in
     let below : (k : ℕ) → Has out k → k / 2 < length rows = λ k h. row-below lists rows keys k w ((nodes k).0 h).0 in
     let ids_once : AreOnce ids = ids-once p rows out once (λ i j m n e. node-half f lists rows keys out a nodes i j m n (single (i / 2) (j / 2) (below i m) (below j n) e)) in
     let rising : RisesFrom 0 found = rises-from 0 found (λ l. omega arith) (IsStrictlyIncreasing-from_distinct found s (IsDistinct-IsPermutation eqb eqb_flips ids found moved (distinct-from ids ids_once))) in
-    let there : (x : ℕ) → Has found x → Has (map (λ (c : Held). c.id) (filter p clauses)) x = λ x m.
+    let there : (x : ℕ) → Has found x → Has (map (λ (c : NumberedClause). c.id) (filter p clauses)) x = λ x m.
     let from = ids-from p rows out x (contains-has ids x (Contains-permutation found ids x (IsPermutation-sym ids found moved) (has-contains found x m))) in
     let among : Among (row_at rows from.node) clauses = held (row_at rows from.node) (among-at rows (from.node / 2) no_row (below from.node from.there)) in
     rw from.is at (numbered-has (row_at rows from.node) (filter p clauses) (among-passes p (row_at rows from.node) clauses among from.inside)) in
-    let back : (x : ℕ) → Has (map (λ (c : Held). c.id) (filter p clauses)) x → Has found x = λ x m.
+    let back : (x : ℕ) → Has (map (λ (c : NumberedClause). c.id) (filter p clauses)) x → Has found x = λ x m.
     let numbered = has-numbered x (filter p clauses) m in
     let passed = among-passed p numbered.clause clauses numbered.among in
     let place = among-place numbered.clause rows no_row (rowed numbered.clause passed.0 passed.1) in
@@ -216,7 +216,7 @@ ids-are p f lists clauses rows keys out found r held single w a nodes once rowed
     let here : node < length keys = omega (arith, w.paired, place.inside) in
     let has : Has ids x = rw (← numbered.is, ← row) (watching-has node here inside) in
     contains-has found x (Contains-permutation ids found x moved (has-contains ids x has)) in
-    rises-same 0 0 found (map (λ (c : Held). c.id) (filter p clauses)) rising (rises-ids 0 (filter p clauses) (rise-passed p 0 clauses r)) there back
+    rises-same 0 0 found (map (λ (c : NumberedClause). c.id) (filter p clauses)) rising (rises-ids 0 (filter p clauses) (rise-passed p 0 clauses r)) there back
   where
     watching-has : (k : ℕ) → k < length keys → p (row_at rows k) ≡ true → Has (ids_in p rows out) (row_at rows k).id
     watching-has k l t = elim (cases_eq (get_or keys k 0) f) [
@@ -230,7 +230,7 @@ ids-are p f lists clauses rows keys out found r held single w a nodes once rowed
       ]
     ]
 
-held-same : (low : ℕ) (cs : List Held) (c d : Held) → NumbersRise low cs → Among c cs → Among d cs → c.id ≡ d.id → c ≡ d
+held-same : (low : ℕ) (cs : List NumberedClause) (c d : NumberedClause) → NumbersRise low cs → Among c cs → Among d cs → c.id ≡ d.id → c ≡ d
 held-same low cs c d r a b e =
     let lits : c.lits ≡ d.lits = some_lits c.lits d.lits (sym (rise-under low cs c r a) ∙ (ap (λ (i : ℕ). lits_under i cs) e ∙ rise-under low cs d r b)) in
     same c.id d.id c.lits d.lits e lits
@@ -238,12 +238,12 @@ held-same low cs c d r a b e =
     some_lits : (x y : List ℕ) → Some x ≡ Some y → x ≡ y
     some_lits x y q = cc
 
-    same : (i j : ℕ) (x y : List ℕ) → i ≡ j → x ≡ y → (let c : Held = record { id = i; lits = x } in let d : Held = record { id = j; lits = y } in c ≡ d)
+    same : (i j : ℕ) (x y : List ℕ) → i ≡ j → x ≡ y → (let c : NumberedClause = record { id = i; lits = x } in let d : NumberedClause = record { id = j; lits = y } in c ≡ d)
     same i j x y p q = rw (p, q) refl
 
 -- what is found of a clause
-pub record IsFoundOf (prefix : List TrailEntry) (clauses : List Held) (f : Found) : Type 0 where
-  pub clause : Held
+pub record IsFoundOf (prefix : List TrailEntry) (clauses : List NumberedClause) (f : Found) : Type 0 where
+  pub clause : NumberedClause
   pub among : Among clause clauses
   pub is : f ≡ found_of prefix clause
 
@@ -251,9 +251,9 @@ ids-head : (x y : ℕ) (xs ys : List ℕ) → x ∷ xs ≡ y ∷ ys → (x ≡ y
 ids-head x y xs ys e = (cc, cc)
 
 -- what is found of clauses, by their numbers
-found-same : (prefix : List TrailEntry) (clauses cs : List Held) (fs : List Found) → NumbersRise 0 clauses → ((c : Held) → Among c cs → Among c clauses) → AllByRecursion (IsFoundOf prefix clauses) fs → map (λ (f : Found). f.id) fs ≡ map (λ (c : Held). c.id) cs → fs ≡ map (found_of prefix) cs
+found-same : (prefix : List TrailEntry) (clauses cs : List NumberedClause) (fs : List Found) → NumbersRise 0 clauses → ((c : NumberedClause) → Among c cs → Among c clauses) → AllByRecursion (IsFoundOf prefix clauses) fs → map (λ (f : Found). f.id) fs ≡ map (λ (c : NumberedClause). c.id) cs → fs ≡ map (found_of prefix) cs
 found-same prefix clauses [] [] r a o e = refl
-found-same prefix clauses (c ∷ cs) [] r a o e = absurd (nil_cons c.id (map (λ (x : Held). x.id) cs) e)
+found-same prefix clauses (c ∷ cs) [] r a o e = absurd (nil_cons c.id (map (λ (x : NumberedClause). x.id) cs) e)
   where
     nil_cons : (x : ℕ) (xs : List ℕ) → ◌≡◌ {A = List ℕ} [] (x ∷ xs) → ⊥
     nil_cons x xs q = cc
@@ -262,13 +262,13 @@ found-same prefix clauses [] (f ∷ fs) r a o e = absurd (cons_nil f.id (map (λ
     cons_nil : (x : ℕ) (xs : List ℕ) → ◌≡◌ {A = List ℕ} (x ∷ xs) [] → ⊥
     cons_nil x xs q = cc
 found-same prefix clauses (c ∷ cs) (f ∷ fs) r a o e =
-    let heads = ids-head f.id c.id (map (λ (x : Found). x.id) fs) (map (λ (x : Held). x.id) cs) e in
+    let heads = ids-head f.id c.id (map (λ (x : Found). x.id) fs) (map (λ (x : NumberedClause). x.id) cs) e in
     let same : o.0.clause ≡ c = held-same 0 clauses o.0.clause c r o.0.among (a c (inl refl)) (ap (λ (x : Found). x.id) (sym o.0.is) ∙ heads.0) in
     let first : f ≡ found_of prefix c = o.0.is ∙ ap (found_of prefix) same in
     rw (first, found-same prefix clauses cs fs r (λ d h. a d (inr h)) o.1 heads.1) refl
 
 -- what is found of nodes is found of their clauses
-each-found : (prefix trail : List TrailEntry) (clauses rows : List Held) (ks : List ℕ) → ((k : ℕ) → Has ks k → Among (row_at rows k) clauses) → AllByRecursion (IsFoundOf prefix clauses) (found_in prefix trail rows ks)
+each-found : (prefix trail : List TrailEntry) (clauses rows : List NumberedClause) (ks : List ℕ) → ((k : ℕ) → Has ks k → Among (row_at rows k) clauses) → AllByRecursion (IsFoundOf prefix clauses) (found_in prefix trail rows ks)
 each-found prefix trail clauses rows [] h = tt
 each-found prefix trail clauses rows (k ∷ ks) h = by_test (is_pending prefix trail (row_at rows k)) (each-found prefix trail clauses rows ks (λ j m. h j (has-tail j k ks m)))
   where
@@ -277,7 +277,7 @@ each-found prefix trail clauses rows (k ∷ ks) h = by_test (is_pending prefix t
     by_test false rest = rest
 
 -- and their numbers are those of the pending ones
-found-ids : (prefix trail : List TrailEntry) (rows : List Held) (ks : List ℕ) → map (λ (f : Found). f.id) (found_in prefix trail rows ks) ≡ ids_in (is_pending prefix trail) rows ks
+found-ids : (prefix trail : List TrailEntry) (rows : List NumberedClause) (ks : List ℕ) → map (λ (f : Found). f.id) (found_in prefix trail rows ks) ≡ ids_in (is_pending prefix trail) rows ks
 found-ids prefix trail rows [] = refl
 found-ids prefix trail rows (k ∷ ks) = by_test (is_pending prefix trail (row_at rows k)) (found-ids prefix trail rows ks)
   where
@@ -296,7 +296,7 @@ ids-order fs h i j d a l =
     get-id (x ∷ xs) zero n = refl
     get-id (x ∷ xs) (suc k) n = get-id xs k n
 
-pending-batch : (prefix trail : List TrailEntry) (c : Held) → is_pending prefix trail c ≡ true → is_in_batch prefix c ≡ true
+pending-batch : (prefix trail : List TrailEntry) (c : NumberedClause) → is_pending prefix trail c ≡ true → is_in_batch prefix c ≡ true
 pending-batch prefix trail c h = by_test (is_in_batch prefix c) (left_is_true prefix trail c) h
   where
     by_test : (a b : Bool) → (a && not b) ≡ true → a ≡ true
@@ -304,9 +304,9 @@ pending-batch prefix trail c h = by_test (is_in_batch prefix c) (left_is_true pr
     by_test false b q = q
 
 -- what was found, in order, is what is pending
-pub found-is : (prefix trail : List TrailEntry) (f lists : ℕ) (clauses rows : List Held) (keys out : List ℕ) (found : List Found) → NumbersRise 0 clauses → ((c : Held) → Among c rows → Among c clauses) → AreSingle rows → IsWatching lists rows keys → ((k : ℕ) → k < length keys → get_or keys k 0 ≢ other_key keys k) → ((k : ℕ) → Has out k ↔ IsAt keys k f) → AreOnce out → ((c : Held) → Among c clauses → is_in_batch prefix c ≡ true → Among c rows) → ((k : ℕ) → k < length keys → get_or keys k 0 ≢ f → other_key keys k ≢ f → is_pending prefix trail (row_at rows k) ≡ false) → IsPermutation (found_in prefix trail rows out) found → IsNonDecreasingBy (λ (x : Found). x.id) found → found ≡ pending prefix trail clauses
+pub found-is : (prefix trail : List TrailEntry) (f lists : ℕ) (clauses rows : List NumberedClause) (keys out : List ℕ) (found : List Found) → NumbersRise 0 clauses → ((c : NumberedClause) → Among c rows → Among c clauses) → AreSingle rows → IsWatching lists rows keys → ((k : ℕ) → k < length keys → get_or keys k 0 ≢ other_key keys k) → ((k : ℕ) → Has out k ↔ IsAt keys k f) → AreOnce out → ((c : NumberedClause) → Among c clauses → is_in_batch prefix c ≡ true → Among c rows) → ((k : ℕ) → k < length keys → get_or keys k 0 ≢ f → other_key keys k ≢ f → is_pending prefix trail (row_at rows k) ≡ false) → IsPermutation (found_in prefix trail rows out) found → IsNonDecreasingBy (λ (x : Found). x.id) found → found ≡ pending prefix trail clauses
 found-is prefix trail f lists clauses rows keys out found r held single w a nodes once rowed apart moved s =
-    let p : Held → Bool = is_pending prefix trail in
+    let p : NumberedClause → Bool = is_pending prefix trail in
     let number : Found → ℕ = λ x. x.id in
     let below : (k : ℕ) → Has out k → k / 2 < length rows = λ k h. row-below lists rows keys k w ((nodes k).0 h).0 in
     let each = each-found prefix trail clauses rows out (λ k h. held (row_at rows k) (among-at rows (k / 2) no_row (below k h))) in

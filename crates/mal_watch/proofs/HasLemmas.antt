@@ -5,7 +5,7 @@ use Rattle.std.proofs.lemmas.Bool.{false≢true, eqb-true, eq-eqb}
 use Rattle.std.proofs.lemmas.Map.Steps.{length-le_from_distinct_below}
 use Rattle.mal_base.specs.Clauses.{rises}
 use Rattle.mal_base.proofs.Sorting.{over-first, rises-tail}
-use Rattle.mal_watch.specs.Chains.{Has, AreOnce}
+use Rattle.mal_watch.specs.WatchLists.{Has, AreOnce}
 
 or-cases : (a b : Bool) → (a || b) ≡ true → (a ≡ true) ⊎ (b ≡ true)
 or-cases true b h = inl refl

@@ -1,7 +1,7 @@
 use Rattle.std.proofs.Common.{◌≡◌, ℕ, zero, suc, ◌<◌, List, [], ◌∷◌, ◌++◌, length, map, set, get_or, Option, None, refl, ap, arith}
 use Rattle.std.proofs.lemmas.List.{length-map, map-append}
-use Rattle.mal_watch.specs.declared.chains.Node.{Node}
-use Rattle.mal_watch.specs.Chains.{link_at}
+use Rattle.mal_watch.specs.declared.watch_lists.Node.{Node}
+use Rattle.mal_watch.specs.WatchLists.{link_at}
 use Rattle.mal_watch.specs.Nodes.{links_of, keys_of}
 
 pub links-length : (nodes : List Node) → length (links_of nodes) ≡ length nodes

@@ -1,8 +1,8 @@
 use Rattle.std.proofs.Common.{◌≡◌, ℕ, zero, suc, ◌+◌, ◌<◌, ◌≤◌, List, [], ◌∷◌, ◌++◌, length, take, drop, set, get_or, Some, refl, ap, ◌∙◌, arith}
 use Rattle.std.specs.List.{slice_get}
 use Rattle.std.proofs.lemmas.List.{length-append, length-map, take-append-le, take_all, drop_at, map-append}
-use Rattle.mal_base.specs.Held.{Held}
-use Rattle.mal_watch.specs.declared.rows.Row.{Row}
+use Rattle.mal_base.specs.NumberedClause.{NumberedClause}
+use Rattle.mal_watch.specs.declared.clause_arena.Row.{Row}
 use Rattle.mal_watch.specs.Rowed.{clause_in, clauses_in, AreRows}
 
 pub rows-at : (count : ℕ) (rs : List Row) (k : ℕ) (d : Row) → AreRows count rs → k < length rs → (get_or rs k d).start + (get_or rs k d).len ≤ count
@@ -49,14 +49,14 @@ one-more literals lits id start len hint rs w s l =
     let lits_are : take len (drop start (literals ++ lits)) ≡ lits = rw (s, l) (part-behind literals lits) in
     record {
       within = rows-push (length literals) (length (literals ++ lits)) rs row (omega arith) (omega arith) w;
-      clauses = map-append (clause_in (literals ++ lits)) rs (row ∷ []) ∙ (ap (λ (cs : List Held). cs ++ clause_in (literals ++ lits) row ∷ []) (rows-more literals lits rs w) ∙ ap (λ (ls : List ℕ). let c : Held = record { id = id; lits = ls } in clauses_in literals rs ++ c ∷ []) lits_are);
+      clauses = map-append (clause_in (literals ++ lits)) rs (row ∷ []) ∙ (ap (λ (cs : List NumberedClause). cs ++ clause_in (literals ++ lits) row ∷ []) (rows-more literals lits rs w) ∙ ap (λ (ls : List ℕ). let c : NumberedClause = record { id = id; lits = ls } in clauses_in literals rs ++ c ∷ []) lits_are);
     }
 
 -- the rows' clauses stay where a search begins elsewhere
 pub rows-hint : (literals : List ℕ) (rs : List Row) (k hint : ℕ) (r : Row) → k < length rs → r ≡ get_or rs k r → clauses_in literals (set rs k (record r { hint = hint })) ≡ clauses_in literals rs
 rows-hint literals [] k hint r l e = absurd (omega arith)
 rows-hint literals (x ∷ xs) zero hint r l e = rw e refl
-rows-hint literals (x ∷ xs) (suc k) hint r l e = ap (λ (cs : List Held). clause_in literals x ∷ cs) (rows-hint literals xs k hint r (omega arith) e)
+rows-hint literals (x ∷ xs) (suc k) hint r l e = ap (λ (cs : List NumberedClause). clause_in literals x ∷ cs) (rows-hint literals xs k hint r (omega arith) e)
 
 pub within-hint : (count : ℕ) (rs : List Row) (k hint : ℕ) (r : Row) → k < length rs → r ≡ get_or rs k r → AreRows count rs → AreRows count (set rs k (record r { hint = hint }))
 within-hint count [] k hint r l e w = absurd (omega arith)

@@ -4,12 +4,12 @@ use Rattle.std.proofs.lemmas.Bool.{false≢true, cases_eq}
 use Rattle.std.proofs.lemmas.Bool.Decides.{nat_tests}
 use Rattle.std.proofs.lemmas.List.{length-set, get_or-set_same, get_or-set_other, set-get_or, take_more, take_all}
 use Rattle.mal_base.specs.Literals.{negated}
-use Rattle.mal_base.specs.Held.{Held}
+use Rattle.mal_base.specs.NumberedClause.{NumberedClause}
 use Rattle.mal_base.specs.declared.trail_entry.TrailEntry.{TrailEntry}
 use Rattle.spec_node.specs.Value.{is_true, is_false, open_count, left_literal}
 use Rattle.spec_node.specs.Batch.{is_in_batch}
-use Rattle.mal_watch.specs.Chains.{Has, AreOnce, IsAt}
-use Rattle.mal_watch.specs.Watching.{no_row, row_at, partner, IsOther, AreOthersFalse, other_key, IsWatching, IsKept}
+use Rattle.mal_watch.specs.WatchLists.{Has, AreOnce, IsAt}
+use Rattle.mal_watch.specs.Watching.{no_row, row_at, partner, IsOther, AreOthersFalse, other_key, IsWatching, IsWatchKept}
 use Rattle.mal_watch.specs.Going.{Turns, Goes}
 use Rattle.mal_watch.specs.Finding.{is_pending, found_at}
 use Rattle.mal_watch.specs.declared.found.Found.{Found}
@@ -79,7 +79,7 @@ partner-back k = by_side (parity k)
 pub negated-back : (l : ℕ) → negated (negated l) ≡ l
 negated-back l = partner-back l
 
-pub same-row : (rows : List Held) (k : ℕ) → row_at rows (partner k) ≡ row_at rows k
+pub same-row : (rows : List NumberedClause) (k : ℕ) → row_at rows (partner k) ≡ row_at rows k
 same-row rows k = ap (λ (i : ℕ). get_or rows i no_row) (partner-half k)
 
 -- what is true under one entry more is its literal or was true before
@@ -152,30 +152,30 @@ not-true true h = refl
 not-true false h = absurd (false≢true h)
 
 -- a node keeps what holds of it where it and its partner watch what they did
-kept-same : (prefix : List TrailEntry) (rows : List Held) (keys now : List ℕ) (k : ℕ) → get_or now k 0 ≡ get_or keys k 0 → other_key now k ≡ other_key keys k → IsKept prefix rows keys k → IsKept prefix rows now k
+kept-same : (prefix : List TrailEntry) (rows : List NumberedClause) (keys now : List ℕ) (k : ℕ) → get_or now k 0 ≡ get_or keys k 0 → other_key now k ≡ other_key keys k → IsWatchKept prefix rows keys k → IsWatchKept prefix rows now k
 kept-same prefix rows keys now k a b h = rw (a, b) h
 
 -- a node whose literal is not false keeps it
-kept-open : (prefix : List TrailEntry) (rows : List Held) (keys : List ℕ) (k : ℕ) → is_false prefix (get_or keys k 0) ≡ false → IsKept prefix rows keys k
+kept-open : (prefix : List TrailEntry) (rows : List NumberedClause) (keys : List ℕ) (k : ℕ) → is_false prefix (get_or keys k 0) ≡ false → IsWatchKept prefix rows keys k
 kept-open prefix rows keys k o = λ f. absurd (false≢true (sym o ∙ f))
 
 -- what is left of the nodes once the first is done
-pub record Goes-next (es : List TrailEntry) (q f lists : ℕ) (rows : List Held) (keys now rest : List ℕ) (k : ℕ) (found : Bool) : Type 0 where
+pub record Goes-next (es : List TrailEntry) (q f lists : ℕ) (rows : List NumberedClause) (keys now rest : List ℕ) (k : ℕ) (found : Bool) : Type 0 where
   pub goes : Goes es q f lists rows now rest
   pub batch : is_in_batch (take q es) (row_at rows k) ≡ found
 
-other-has : (lists : ℕ) (rows : List Held) (keys : List ℕ) (k : ℕ) → IsWatching lists rows keys → k < length keys → Has (row_at rows k).lits (other_key keys k)
-other-has lists rows keys k w l = subst (λ (c : Held). Has c.lits (other_key keys k)) (same-row rows k) (w.own (partner k) (partner-below lists rows keys k w l))
+other-has : (lists : ℕ) (rows : List NumberedClause) (keys : List ℕ) (k : ℕ) → IsWatching lists rows keys → k < length keys → Has (row_at rows k).lits (other_key keys k)
+other-has lists rows keys k w l = subst (λ (c : NumberedClause). Has c.lits (other_key keys k)) (same-row rows k) (w.own (partner k) (partner-below lists rows keys k w l))
 
 -- the partner of the first node that is left is not left
-partner-done : (es : List TrailEntry) (q f lists : ℕ) (rows : List Held) (keys rest : List ℕ) (k : ℕ) → Goes es q f lists rows keys (k ∷ rest) → Has (k ∷ rest) (partner k) → ⊥
+partner-done : (es : List TrailEntry) (q f lists : ℕ) (rows : List NumberedClause) (keys rest : List ℕ) (k : ℕ) → Goes es q f lists rows keys (k ∷ rest) → Has (k ∷ rest) (partner k) → ⊥
 partner-done es q f lists rows keys rest k g h =
     let here = g.left_is k (has-head k k rest refl) in
     let there = g.left_is (partner k) h in
     g.apart k here.0 (here.1 ∙ sym there.1)
 
 -- a clause that another literal of is open
-pub goes-moved : (es : List TrailEntry) (q f lists : ℕ) (rows : List Held) (keys rest : List ℕ) (k r : ℕ) → Turns es q f → Goes es q f lists rows keys (k ∷ rest) → IsOther (take q es) (other_key keys k) (row_at rows k).lits r → Goes-next es q f lists rows keys (set keys k r) rest k false
+pub goes-moved : (es : List TrailEntry) (q f lists : ℕ) (rows : List NumberedClause) (keys rest : List ℕ) (k r : ℕ) → Turns es q f → Goes es q f lists rows keys (k ∷ rest) → IsOther (take q es) (other_key keys k) (row_at rows k).lits r → Goes-next es q f lists rows keys (set keys k r) rest k false
 goes-moved es q f lists rows keys rest k r t g found =
     let j = partner k in
     let lits = (row_at rows k).lits in
@@ -185,9 +185,9 @@ goes-moved es q f lists rows keys rest k r t g found =
     let below : j < length keys = partner-below lists rows keys k g.watching here.0 in
     let back : other_key keys j ≡ f = ap (λ (i : ℕ). get_or keys i 0) (partner-back k) ∙ here.1 in
     let r_other : r ≢ f = λ s. false≢true (sym found.free ∙ rw (sym s) at t.now) in
-    let kept_o : IsKept (take q es) rows keys j = g.done j below (partner-done es q f lists rows keys rest k g) in
+    let kept_o : IsWatchKept (take q es) rows keys j = g.done j below (partner-done es q f lists rows keys rest k g) in
     let free_o : is_false (take q es) o ≡ false = none-of (is_false (take q es) o) (λ h. elim (kept_o h) [
-      | inl closed ↦ false≢true (sym found.free ∙ closed r (subst (λ (c : Held). Has c.lits r) (sym (same-row rows k)) found.there) (λ s. r_other (s ∙ back)))
+      | inl closed ↦ false≢true (sym found.free ∙ closed r (subst (λ (c : NumberedClause). Has c.lits r) (sym (same-row rows k)) found.there) (λ s. r_other (s ∙ back)))
       | inr true_f ↦ false≢true (sym (t.clear f (rw back at true_f)) ∙ t.now)
     ]) in
     let long : length now ≡ length keys = length-set keys k r in
@@ -236,7 +236,7 @@ goes-moved es q f lists rows keys rest k r t g found =
     }
 
 -- a clause whose other literals are false but for the other watched one
-pub goes-stays : (es : List TrailEntry) (q f lists : ℕ) (rows : List Held) (keys rest : List ℕ) (k : ℕ) → Turns es q f → Goes es q f lists rows keys (k ∷ rest) → AreOthersFalse (take q es) (other_key keys k) (row_at rows k).lits → Goes-next es q f lists rows keys keys rest k (not (is_false (take q es) (other_key keys k)))
+pub goes-stays : (es : List TrailEntry) (q f lists : ℕ) (rows : List NumberedClause) (keys rest : List ℕ) (k : ℕ) → Turns es q f → Goes es q f lists rows keys (k ∷ rest) → AreOthersFalse (take q es) (other_key keys k) (row_at rows k).lits → Goes-next es q f lists rows keys keys rest k (not (is_false (take q es) (other_key keys k)))
 goes-stays es q f lists rows keys rest k t g others =
     let lits = (row_at rows k).lits in
     let o = other_key keys k in
@@ -282,7 +282,7 @@ left-only prefix o (l ∷ ls) others h e = elim (cases_eq l o) [
 ]
 
 -- a clause with a literal that is true under the first entries is not pending
-pub true-not-pending : (es : List TrailEntry) (q : ℕ) (c : Held) (o : ℕ) → 1 ≤ q → q ≤ length es → Has c.lits o → is_true (take q es) o ≡ true → is_false (take q es) o ≡ false → is_pending (take q es) es c ≡ false
+pub true-not-pending : (es : List TrailEntry) (q : ℕ) (c : NumberedClause) (o : ℕ) → 1 ≤ q → q ≤ length es → Has c.lits o → is_true (take q es) o ≡ true → is_false (take q es) o ≡ false → is_pending (take q es) es c ≡ false
 true-not-pending es q c o s l h u e = by_batch (is_in_batch (take q es) c) refl
   where
     closed : is_in_batch (take q es) c ≡ true → AreOthersFalse (take q es) o c.lits
@@ -302,20 +302,20 @@ true-not-pending es q c o s l h u e = by_batch (is_in_batch (take q es) c) refl
     by_batch false b = rw b refl
 
 -- a visit to the first node that is left: what is left then, and what is found
-pub record Visited (es : List TrailEntry) (q f lists : ℕ) (rows : List Held) (now rest : List ℕ) (k : ℕ) (found : List Found) : Type 0 where
+pub record Visited (es : List TrailEntry) (q f lists : ℕ) (rows : List NumberedClause) (now rest : List ℕ) (k : ℕ) (found : List Found) : Type 0 where
   pub goes : Goes es q f lists rows now rest
   pub finds : found_at (take q es) es rows k ≡ found
 
-pub visit-moved : (es : List TrailEntry) (q f lists : ℕ) (rows : List Held) (keys rest : List ℕ) (k r : ℕ) → Turns es q f → Goes es q f lists rows keys (k ∷ rest) → IsOther (take q es) (other_key keys k) (row_at rows k).lits r → Visited es q f lists rows (set keys k r) rest k []
+pub visit-moved : (es : List TrailEntry) (q f lists : ℕ) (rows : List NumberedClause) (keys rest : List ℕ) (k r : ℕ) → Turns es q f → Goes es q f lists rows keys (k ∷ rest) → IsOther (take q es) (other_key keys k) (row_at rows k).lits r → Visited es q f lists rows (set keys k r) rest k []
 visit-moved es q f lists rows keys rest k r t g o =
     let next = goes-moved es q f lists rows keys rest k r t g o in
     record { goes = next.goes; finds = rw next.batch refl }
 
-stays : (es : List TrailEntry) (q f lists : ℕ) (rows : List Held) (keys rest : List ℕ) (k : ℕ) → Goes es q f lists rows keys (k ∷ rest) → set keys k f ≡ keys
+stays : (es : List TrailEntry) (q f lists : ℕ) (rows : List NumberedClause) (keys rest : List ℕ) (k : ℕ) → Goes es q f lists rows keys (k ∷ rest) → set keys k f ≡ keys
 stays es q f lists rows keys rest k g = let here = g.left_is k (has-head k k rest refl) in ap (λ (x : ℕ). set keys k x) (sym here.1) ∙ set-get_or keys k 0
 
 -- the other watched literal is true
-pub visit-spared : (es : List TrailEntry) (q f lists : ℕ) (rows : List Held) (keys rest : List ℕ) (k : ℕ) → Turns es q f → Goes es q f lists rows keys (k ∷ rest) → is_true (take q es) (other_key keys k) ≡ true → Visited es q f lists rows (set keys k f) rest k []
+pub visit-spared : (es : List TrailEntry) (q f lists : ℕ) (rows : List NumberedClause) (keys rest : List ℕ) (k : ℕ) → Turns es q f → Goes es q f lists rows keys (k ∷ rest) → is_true (take q es) (other_key keys k) ≡ true → Visited es q f lists rows (set keys k f) rest k []
 visit-spared es q f lists rows keys rest k t g u =
     let here = g.left_is k (has-head k k rest refl) in
     let has_o : Has (row_at rows k).lits (other_key keys k) = other-has lists rows keys k g.watching here.0 in
@@ -336,13 +336,13 @@ visit-spared es q f lists rows keys rest k t g u =
       finds = rw no refl;
     }
 
-pub visit-false : (es : List TrailEntry) (q f lists : ℕ) (rows : List Held) (keys rest : List ℕ) (k : ℕ) → Turns es q f → Goes es q f lists rows keys (k ∷ rest) → AreOthersFalse (take q es) (other_key keys k) (row_at rows k).lits → is_false (take q es) (other_key keys k) ≡ true → Visited es q f lists rows (set keys k f) rest k []
+pub visit-false : (es : List TrailEntry) (q f lists : ℕ) (rows : List NumberedClause) (keys rest : List ℕ) (k : ℕ) → Turns es q f → Goes es q f lists rows keys (k ∷ rest) → AreOthersFalse (take q es) (other_key keys k) (row_at rows k).lits → is_false (take q es) (other_key keys k) ≡ true → Visited es q f lists rows (set keys k f) rest k []
 visit-false es q f lists rows keys rest k t g o e =
     let next = goes-stays es q f lists rows keys rest k t g o in
     let no : is_in_batch (take q es) (row_at rows k) ≡ false = next.batch ∙ ap not e in
     record { goes = rw (stays es q f lists rows keys rest k g) next.goes; finds = rw no refl }
 
-pub visit-true : (es : List TrailEntry) (q f lists : ℕ) (rows : List Held) (keys rest : List ℕ) (k : ℕ) → Turns es q f → Goes es q f lists rows keys (k ∷ rest) → AreOthersFalse (take q es) (other_key keys k) (row_at rows k).lits → is_false (take q es) (other_key keys k) ≡ false → is_true es (other_key keys k) ≡ true → Visited es q f lists rows (set keys k f) rest k []
+pub visit-true : (es : List TrailEntry) (q f lists : ℕ) (rows : List NumberedClause) (keys rest : List ℕ) (k : ℕ) → Turns es q f → Goes es q f lists rows keys (k ∷ rest) → AreOthersFalse (take q es) (other_key keys k) (row_at rows k).lits → is_false (take q es) (other_key keys k) ≡ false → is_true es (other_key keys k) ≡ true → Visited es q f lists rows (set keys k f) rest k []
 visit-true es q f lists rows keys rest k t g o e u =
     let next = goes-stays es q f lists rows keys rest k t g o in
     let yes : is_in_batch (take q es) (row_at rows k) ≡ true = next.batch ∙ ap not e in
@@ -350,7 +350,7 @@ visit-true es q f lists rows keys rest k t g o e u =
     let left = left-only (take q es) (other_key keys k) (row_at rows k).lits o (other-has lists rows keys k g.watching here.0) e in
     record { goes = rw (stays es q f lists rows keys rest k g) next.goes; finds = rw (yes, left, u) refl }
 
-pub visit-found : (es : List TrailEntry) (q f lists : ℕ) (rows : List Held) (keys rest : List ℕ) (k : ℕ) → Turns es q f → Goes es q f lists rows keys (k ∷ rest) → AreOthersFalse (take q es) (other_key keys k) (row_at rows k).lits → is_false (take q es) (other_key keys k) ≡ false → is_true es (other_key keys k) ≡ false → Visited es q f lists rows (set keys k f) rest k (record { id = (row_at rows k).id; lit = other_key keys k } ∷ [])
+pub visit-found : (es : List TrailEntry) (q f lists : ℕ) (rows : List NumberedClause) (keys rest : List ℕ) (k : ℕ) → Turns es q f → Goes es q f lists rows keys (k ∷ rest) → AreOthersFalse (take q es) (other_key keys k) (row_at rows k).lits → is_false (take q es) (other_key keys k) ≡ false → is_true es (other_key keys k) ≡ false → Visited es q f lists rows (set keys k f) rest k (record { id = (row_at rows k).id; lit = other_key keys k } ∷ [])
 visit-found es q f lists rows keys rest k t g o e u =
     let next = goes-stays es q f lists rows keys rest k t g o in
     let yes : is_in_batch (take q es) (row_at rows k) ≡ true = next.batch ∙ ap not e in
@@ -359,7 +359,7 @@ visit-found es q f lists rows keys rest k t g o e u =
     record { goes = rw (stays es q f lists rows keys rest k g) next.goes; finds = rw (yes, left, u) refl }
 
 -- the nodes of the literal are left at the start
-pub goes-start : (es : List TrailEntry) (q f lists : ℕ) (rows : List Held) (keys out : List ℕ) → Turns es q f → IsWatching lists rows keys → ((k : ℕ) → k < length keys → get_or keys k 0 ≢ other_key keys k) → ((k : ℕ) → AreOnce (row_at rows k).lits) → ((n k : ℕ) → n ≤ q - 1 → k < length keys → IsKept (take n es) rows keys k) → ((k : ℕ) → Has out k ↔ IsAt keys k f) → AreOnce out → Goes es q f lists rows keys out
+pub goes-start : (es : List TrailEntry) (q f lists : ℕ) (rows : List NumberedClause) (keys out : List ℕ) → Turns es q f → IsWatching lists rows keys → ((k : ℕ) → k < length keys → get_or keys k 0 ≢ other_key keys k) → ((k : ℕ) → AreOnce (row_at rows k).lits) → ((n k : ℕ) → n ≤ q - 1 → k < length keys → IsWatchKept (take n es) rows keys k) → ((k : ℕ) → Has out k ↔ IsAt keys k f) → AreOnce out → Goes es q f lists rows keys out
 goes-start es q f lists rows keys out t w a form kept nodes once =
     record {
       watching = w;
@@ -377,10 +377,10 @@ goes-start es q f lists rows keys out t w a form kept nodes once =
     }
 
 -- at the end each node keeps under one entry more
-pub goes-end : (es : List TrailEntry) (q f lists : ℕ) (rows : List Held) (keys : List ℕ) → Goes es q f lists rows keys [] → (n k : ℕ) → n ≤ q + 1 - 1 → k < length keys → IsKept (take n es) rows keys k
+pub goes-end : (es : List TrailEntry) (q f lists : ℕ) (rows : List NumberedClause) (keys : List ℕ) → Goes es q f lists rows keys [] → (n k : ℕ) → n ≤ q + 1 - 1 → k < length keys → IsWatchKept (take n es) rows keys k
 goes-end es q f lists rows keys g n k h l = by_place (cases_eq n q)
   where
-    by_place : (n ≡ q) ⊎ (n ≡ q → ⊥) → IsKept (take n es) rows keys k
+    by_place : (n ≡ q) ⊎ (n ≡ q → ⊥) → IsWatchKept (take n es) rows keys k
     by_place (inl e) = rw e (g.done k l (has-none k))
     by_place (inr d) = g.kept n k (omega arith) l
 
@@ -388,11 +388,11 @@ goes-end es q f lists rows keys g n k h l = by_place (cases_eq n q)
 abbrev IsApart : List TrailEntry → ℕ → List ℕ → ℕ → Type 0
 IsApart es q lits o = AreOthersFalse (take (q - 1) es) o lits ⊎ (is_true (take (q - 1) es) o ≡ true)
 
-not-pending : (prefix trail : List TrailEntry) (c : Held) → is_in_batch prefix c ≡ false → is_pending prefix trail c ≡ false
+not-pending : (prefix trail : List TrailEntry) (c : NumberedClause) → is_in_batch prefix c ≡ false → is_pending prefix trail c ≡ false
 not-pending prefix trail c h = rw h refl
 
 -- a clause that does not watch the literal is not pending
-pub goes-apart : (es : List TrailEntry) (q f lists : ℕ) (rows : List Held) (keys : List ℕ) (k : ℕ) → Turns es q f → IsWatching lists rows keys → ((k : ℕ) → k < length keys → get_or keys k 0 ≢ other_key keys k) → ((k : ℕ) → AreOnce (row_at rows k).lits) → ((n k : ℕ) → n ≤ q - 1 → k < length keys → IsKept (take n es) rows keys k) → k < length keys → get_or keys k 0 ≢ f → other_key keys k ≢ f → is_pending (take q es) es (row_at rows k) ≡ false
+pub goes-apart : (es : List TrailEntry) (q f lists : ℕ) (rows : List NumberedClause) (keys : List ℕ) (k : ℕ) → Turns es q f → IsWatching lists rows keys → ((k : ℕ) → k < length keys → get_or keys k 0 ≢ other_key keys k) → ((k : ℕ) → AreOnce (row_at rows k).lits) → ((n k : ℕ) → n ≤ q - 1 → k < length keys → IsWatchKept (take n es) rows keys k) → k < length keys → get_or keys k 0 ≢ f → other_key keys k ≢ f → is_pending (take q es) es (row_at rows k) ≡ false
 goes-apart es q f lists rows keys k t w a form kept l d e =
     let j = partner k in
     let below : j < length keys = partner-below lists rows keys k w l in
@@ -401,7 +401,7 @@ goes-apart es q f lists rows keys k t w a form kept l d e =
     let back : other_key keys j ≡ get_or keys k 0 = ap (λ (i : ℕ). get_or keys i 0) (partner-back k) in
     let by_own : is_false (take (q - 1) es) (get_or keys k 0) ≡ true → IsApart es q (row_at rows k).lits (other_key keys k) = kept (q - 1) k (omega arith) l in
     let by_other : is_false (take (q - 1) es) (other_key keys k) ≡ true → IsApart es q (row_at rows k).lits (get_or keys k 0) = λ z. elim (kept (q - 1) j (omega arith) below z) [
-      | inl closed ↦ inl (λ x m n. closed x (subst (λ (c : Held). Has c.lits x) (sym (same-row rows k)) m) (λ s. n (s ∙ back)))
+      | inl closed ↦ inl (λ x m n. closed x (subst (λ (c : NumberedClause). Has c.lits x) (sym (same-row rows k)) m) (λ s. n (s ∙ back)))
       | inr holds ↦ inr (rw back at holds)
     ] in
     by_values own other by_own by_other (is_false (take q es) (get_or keys k 0)) refl (is_false (take q es) (other_key keys k)) refl
@@ -446,7 +446,7 @@ two-only (p ∷ (q ∷ [])) a b x l h g d m = both-places p q a b x (has-two p q
 two-only (p ∷ (q ∷ (r ∷ rs))) a b x l h g d m = absurd (omega arith)
 
 -- so where a watched one has become false, each is but the other
-pub two-watched : (es : List TrailEntry) (q f lists : ℕ) (rows : List Held) (keys rest : List ℕ) (k : ℕ) → Turns es q f → Goes es q f lists rows keys (k ∷ rest) → length (row_at rows k).lits ≡ 2 → AreOthersFalse (take q es) (other_key keys k) (row_at rows k).lits
+pub two-watched : (es : List TrailEntry) (q f lists : ℕ) (rows : List NumberedClause) (keys rest : List ℕ) (k : ℕ) → Turns es q f → Goes es q f lists rows keys (k ∷ rest) → length (row_at rows k).lits ≡ 2 → AreOthersFalse (take q es) (other_key keys k) (row_at rows k).lits
 two-watched es q f lists rows keys rest k t g l =
     let here = g.left_is k (has-head k k rest refl) in
     let has_f : Has (row_at rows k).lits f = rw here.1 at (g.watching.own k here.0) in

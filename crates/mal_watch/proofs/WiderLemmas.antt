@@ -1,5 +1,5 @@
 use Rattle.std.proofs.Common.{◌≡◌, ℕ, zero, suc, List, [], ◌∷◌, ◌++◌, replicate, Option, None, refl}
-use Rattle.mal_watch.specs.Chains.{link_at, IsChained}
+use Rattle.mal_watch.specs.WatchLists.{link_at, IsChained}
 
 none-more : (m k : ℕ) → ◌≡◌ {A = Option ℕ} (link_at (replicate m None) k) None
 none-more zero k = refl

@@ -1,6 +1,6 @@
 use Rattle.std.specs.Prelude.{ℕ, Bool, not, ◌&&◌, if◌then◌else◌, List, [], ◌∷◌, ◌++◌, filter, map, is_some}
 use Rattle.std.specs.Option.{unwrap_or}
-use Rattle.mal_base.specs.Held.{Held}
+use Rattle.mal_base.specs.NumberedClause.{NumberedClause}
 use Rattle.mal_base.specs.declared.trail_entry.TrailEntry.{TrailEntry}
 use Rattle.spec_node.specs.Value.{left_literal}
 use Rattle.spec_node.specs.Batch.{Progress, is_in_batch, after_literal}
@@ -9,23 +9,23 @@ use Rattle.mal_watch.specs.declared.found.Found.{Found}
 use Rattle.mal_watch.specs.Watching.{row_at}
 
 -- a clause of the batch of a prefix is pending where the literal left of it is not true on the trail
-abbrev pub is_pending : List TrailEntry → List TrailEntry → Held → Bool
+abbrev pub is_pending : List TrailEntry → List TrailEntry → NumberedClause → Bool
 is_pending prefix trail c = is_in_batch prefix c && not (left_is_true prefix trail c)
 
 -- what is found of a clause: its number, and the literal left of it
-abbrev pub found_of : List TrailEntry → Held → Found
+abbrev pub found_of : List TrailEntry → NumberedClause → Found
 found_of prefix c = record { id = c.id; lit = unwrap_or (left_literal prefix c.lits) 0 }
 
 -- what is found of the pending clauses, by rising number
-abbrev pub pending : List TrailEntry → List TrailEntry → List Held → List Found
+abbrev pub pending : List TrailEntry → List TrailEntry → List NumberedClause → List Found
 pending prefix trail clauses = map (found_of prefix) (filter (is_pending prefix trail) clauses)
 
 -- what is found of the clause that a node watches a literal of
-abbrev pub found_at : List TrailEntry → List TrailEntry → List Held → ℕ → List Found
+abbrev pub found_at : List TrailEntry → List TrailEntry → List NumberedClause → ℕ → List Found
 found_at prefix trail rows node = if is_pending prefix trail (row_at rows node) then found_of prefix (row_at rows node) ∷ [] else []
 
 -- and of the clauses of nodes, one after another
-abbrev pub found_in : List TrailEntry → List TrailEntry → List Held → List ℕ → List Found
+abbrev pub found_in : List TrailEntry → List TrailEntry → List NumberedClause → List ℕ → List Found
 found_in prefix trail rows [] = []
 found_in prefix trail rows (k ∷ ks) = found_at prefix trail rows k ++ found_in prefix trail rows ks
 

@@ -1,14 +1,14 @@
 use Rattle.std.specs.Prelude.{◌≡◌, ℕ, ◌+◌, ◌-◌, ◌≤◌, min, List, [], ◌∷◌, ◌++◌, length, take}
 use Rattle.std.proofs.Common.{refl, sym, ap, ◌∙◌, arith}
 use Rattle.std.proofs.lemmas.List.{take-append-le, take-take}
-use Rattle.mal_base.specs.Held.{Held}
+use Rattle.mal_base.specs.NumberedClause.{NumberedClause}
 use Rattle.mal_base.specs.declared.trail_entry.TrailEntry.{TrailEntry}
 use Rattle.mal_trail.proofs.CutLemmas.{kept-take}
 use Rattle.spec_node.specs.Cut.{kept}
 use Rattle.mal_watch.specs.Following.{Follows}
 
 -- what follows a trail follows each of the same handled entries
-pub follows-same : (clauses rows : List Held) (keys out : List ℕ) (lists capacity : ℕ) (entries now : List TrailEntry) (processed less : ℕ) → less - 1 ≤ processed - 1 → ((n : ℕ) → n ≤ less - 1 → take n now ≡ take n entries) → Follows clauses rows keys out lists capacity entries processed → Follows clauses rows keys out lists capacity now less
+pub follows-same : (clauses rows : List NumberedClause) (keys out : List ℕ) (lists capacity : ℕ) (entries now : List TrailEntry) (processed less : ℕ) → less - 1 ≤ processed - 1 → ((n : ℕ) → n ≤ less - 1 → take n now ≡ take n entries) → Follows clauses rows keys out lists capacity entries processed → Follows clauses rows keys out lists capacity now less
 follows-same clauses rows keys out lists capacity entries now processed less l e f =
     record {
       numbers = f.numbers;
@@ -23,13 +23,13 @@ follows-same clauses rows keys out lists capacity entries now processed less l e
       kept = λ n k h m. rw (e n h) (f.kept n k (omega (arith, h, l)) m);
     }
 
-pub follows-push : (clauses rows : List Held) (keys out : List ℕ) (lists capacity : ℕ) (entries : List TrailEntry) (entry : TrailEntry) (processed : ℕ) → processed ≤ length entries + 1 → Follows clauses rows keys out lists capacity entries processed → Follows clauses rows keys out lists capacity (entries ++ entry ∷ []) processed
+pub follows-push : (clauses rows : List NumberedClause) (keys out : List ℕ) (lists capacity : ℕ) (entries : List TrailEntry) (entry : TrailEntry) (processed : ℕ) → processed ≤ length entries + 1 → Follows clauses rows keys out lists capacity entries processed → Follows clauses rows keys out lists capacity (entries ++ entry ∷ []) processed
 follows-push clauses rows keys out lists capacity entries entry processed b f = follows-same clauses rows keys out lists capacity entries (entries ++ entry ∷ []) processed processed (omega arith) (λ n h. take-append-le n entries (entry ∷ []) (omega arith)) f
 
-pub follows-less : (clauses rows : List Held) (keys out : List ℕ) (lists capacity : ℕ) (entries : List TrailEntry) (processed less : ℕ) → less ≤ processed → Follows clauses rows keys out lists capacity entries processed → Follows clauses rows keys out lists capacity entries less
+pub follows-less : (clauses rows : List NumberedClause) (keys out : List ℕ) (lists capacity : ℕ) (entries : List TrailEntry) (processed less : ℕ) → less ≤ processed → Follows clauses rows keys out lists capacity entries processed → Follows clauses rows keys out lists capacity entries less
 follows-less clauses rows keys out lists capacity entries processed less l f = follows-same clauses rows keys out lists capacity entries entries processed less (omega arith) (λ n h. refl) f
 
-pub follows-cut : (clauses rows : List Held) (keys out : List ℕ) (lists capacity : ℕ) (entries : List TrailEntry) (processed level : ℕ) → Follows clauses rows keys out lists capacity entries processed → Follows clauses rows keys out lists capacity (kept level entries) (min processed (length (kept level entries) + 1))
+pub follows-cut : (clauses rows : List NumberedClause) (keys out : List ℕ) (lists capacity : ℕ) (entries : List TrailEntry) (processed level : ℕ) → Follows clauses rows keys out lists capacity entries processed → Follows clauses rows keys out lists capacity (kept level entries) (min processed (length (kept level entries) + 1))
 follows-cut clauses rows keys out lists capacity entries processed level f =
     follows-same clauses rows keys out lists capacity entries (kept level entries) processed (min processed (length (kept level entries) + 1)) (omega arith) (λ n h.
     let within : n ≤ length (kept level entries) = omega arith in

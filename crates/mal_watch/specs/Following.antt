@@ -1,31 +1,31 @@
 use Rattle.std.specs.Prelude.{◌≡◌, ◌≢◌, ℕ, ◌-◌, ◌<◌, ◌≤◌, ◌⊎◌, List, [], ◌∷◌, length, take, slice_index, slice_index_or}
-use Rattle.mal_base.specs.Held.{Held}
+use Rattle.mal_base.specs.NumberedClause.{NumberedClause}
 use Rattle.mal_base.specs.declared.trail_entry.TrailEntry.{TrailEntry}
 use Rattle.spec_node.specs.Sound.{NumbersRise}
-use Rattle.mal_watch.specs.Chains.{AreOnce}
-use Rattle.mal_watch.specs.Watching.{no_row, other_key, IsWatching, IsKept}
+use Rattle.mal_watch.specs.WatchLists.{AreOnce}
+use Rattle.mal_watch.specs.Watching.{no_row, other_key, IsWatching, IsWatchKept}
 
 -- a clause stands among others
-abbrev pub Among : Held → List Held → Type 0
+abbrev pub Among : NumberedClause → List NumberedClause → Type 0
 Among c [] = ⊥
 Among c (d ∷ ds) = (c ≡ d) ⊎ Among c ds
 
 -- clauses have different numbers
-abbrev pub AreSingle : List Held → Type 0
+abbrev pub AreSingle : List NumberedClause → Type 0
 AreSingle rows = (i j : ℕ) → i < length rows → j < length rows → (slice_index_or rows i no_row).id ≡ (slice_index_or rows j no_row).id → i ≡ j
 
 -- the clauses are by rising number, and the rows are those of two or more literals; each watches two different ones of its
 -- literals, and no node is out of its list; there is room for the numbers of all rows; and under each front of the
 -- handled entries, those before the last batch that counts as handled, a watched literal is false only where the other
 -- watched one of its clause is true, or all others are false but that one
-pub record Follows (clauses rows : List Held) (keys out : List ℕ) (lists capacity : ℕ) (entries : List TrailEntry) (processed : ℕ) : Type 0 where
+pub record Follows (clauses rows : List NumberedClause) (keys out : List ℕ) (lists capacity : ℕ) (entries : List TrailEntry) (processed : ℕ) : Type 0 where
   pub numbers : NumbersRise 0 clauses
-  pub held : (c : Held) → Among c rows → Among c clauses
-  pub each : (c : Held) → Among c clauses → (length c.lits ≤ 1) ⊎ Among c rows
+  pub held : (c : NumberedClause) → Among c rows → Among c clauses
+  pub each : (c : NumberedClause) → Among c clauses → (length c.lits ≤ 1) ⊎ Among c rows
   pub single : AreSingle rows
-  pub form : (c : Held) → Among c rows → AreOnce c.lits
+  pub form : (c : NumberedClause) → Among c rows → AreOnce c.lits
   pub watching : IsWatching lists rows keys
   pub apart : (k : ℕ) → k < length keys → slice_index keys k ≢ other_key keys k
   pub idle : out ≡ []
   pub room : length rows ≤ capacity
-  pub kept : (n k : ℕ) → n ≤ processed - 1 → k < length keys → IsKept (take n entries) rows keys k
+  pub kept : (n k : ℕ) → n ≤ processed - 1 → k < length keys → IsWatchKept (take n entries) rows keys k

@@ -1,9 +1,9 @@
 use Rattle.std.specs.Prelude.{◌≡◌, ◌≢◌, ℕ, ◌-◌, ◌≤◌, ◌<◌, true, false, List, length, take, slice_index}
-use Rattle.mal_base.specs.Held.{Held}
+use Rattle.mal_base.specs.NumberedClause.{NumberedClause}
 use Rattle.mal_base.specs.declared.trail_entry.TrailEntry.{TrailEntry}
 use Rattle.spec_node.specs.Value.{is_true, is_false}
-use Rattle.mal_watch.specs.Chains.{Has, AreOnce}
-use Rattle.mal_watch.specs.Watching.{row_at, other_key, IsWatching, IsKept}
+use Rattle.mal_watch.specs.WatchLists.{Has, AreOnce}
+use Rattle.mal_watch.specs.Watching.{row_at, other_key, IsWatching, IsWatchKept}
 
 -- a literal becomes false by the last of the first entries, and no other does; none is true and false
 pub record Turns (entries : List TrailEntry) (count lit : ℕ) : Type 0 where
@@ -16,11 +16,11 @@ pub record Turns (entries : List TrailEntry) (count lit : ℕ) : Type 0 where
 
 -- how far the nodes that watch a literal that has become false were gone over: these are left, which still watch it, and
 -- all others are where they may be under one entry more
-pub record Goes (entries : List TrailEntry) (count lit lists : ℕ) (rows : List Held) (keys left : List ℕ) : Type 0 where
+pub record Goes (entries : List TrailEntry) (count lit lists : ℕ) (rows : List NumberedClause) (keys left : List ℕ) : Type 0 where
   pub watching : IsWatching lists rows keys
   pub apart : (k : ℕ) → k < length keys → slice_index keys k ≢ other_key keys k
   pub form : (k : ℕ) → AreOnce (row_at rows k).lits
   pub left_is : (k : ℕ) → Has left k → (k < length keys) × (slice_index keys k ≡ lit)
   pub once : AreOnce left
-  pub kept : (n k : ℕ) → n ≤ count - 1 → k < length keys → IsKept (take n entries) rows keys k
-  pub done : (k : ℕ) → k < length keys → (Has left k → ⊥) → IsKept (take count entries) rows keys k
+  pub kept : (n k : ℕ) → n ≤ count - 1 → k < length keys → IsWatchKept (take n entries) rows keys k
+  pub done : (k : ℕ) → k < length keys → (Has left k → ⊥) → IsWatchKept (take count entries) rows keys k

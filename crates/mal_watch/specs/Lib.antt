@@ -1,6 +1,6 @@
 pub mod Links
 pub mod LinkLaws
-pub mod Chains
+pub mod WatchLists
 pub mod Nodes
 pub mod Rowed
 pub mod Pairs

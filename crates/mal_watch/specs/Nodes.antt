@@ -1,5 +1,5 @@
 use Rattle.std.specs.Prelude.{ℕ, List, map, Option}
-use Rattle.mal_watch.specs.declared.chains.Node.{Node}
+use Rattle.mal_watch.specs.declared.watch_lists.Node.{Node}
 
 -- the links of nodes, and their literals
 abbrev pub links_of : List Node → List (Option ℕ)

@@ -2,7 +2,7 @@ use Rattle.std.specs.Prelude.{◌≡◌, ◌≢◌, ℕ, ◌≤◌, true, nat_lt
 use Rattle.mal_base.specs.declared.trail_entry.TrailEntry.{TrailEntry}
 use Rattle.spec_node.specs.Value.{is_false}
 use Rattle.mal_watch.specs.declared.pair.Pair.{Pair}
-use Rattle.mal_watch.specs.Chains.{Has}
+use Rattle.mal_watch.specs.WatchLists.{Has}
 
 -- under the first entries, so many at most, a literal is false exactly where there are more of them than this number
 pub record IsOpenUntil (entries : List TrailEntry) (count lit until : ℕ) : Type 0 where

@@ -1,19 +1,19 @@
 use Rattle.std.specs.Prelude.{ℕ, ◌+◌, ◌≤◌, List, [], ◌∷◌, take, drop, map}
-use Rattle.mal_base.specs.Held.{Held}
-use Rattle.mal_watch.specs.declared.rows.Row.{Row}
+use Rattle.mal_base.specs.NumberedClause.{NumberedClause}
+use Rattle.mal_watch.specs.declared.clause_arena.Row.{Row}
 
 -- clauses in the order in which they came, and how many clauses and literals there is room for
 pub record Rowed : Type 0 where
-  pub clauses : List Held
+  pub clauses : List NumberedClause
   pub clause_room : ℕ
   pub literal_room : ℕ
 
 -- the clause of a row
-abbrev pub clause_in : List ℕ → Row → Held
+abbrev pub clause_in : List ℕ → Row → NumberedClause
 clause_in literals r = record { id = r.id; lits = take r.len (drop r.start literals) }
 
 -- the clauses of the rows
-abbrev pub clauses_in : List ℕ → List Row → List Held
+abbrev pub clauses_in : List ℕ → List Row → List NumberedClause
 clauses_in literals rows = map (clause_in literals) rows
 
 -- so many literals have those of each row among them

@@ -1,15 +1,15 @@
 use Rattle.std.specs.Prelude.{◌≡◌, ◌≢◌, ℕ, ◌+◌, ◌-◌, ◌/◌, ◌%◌, ◌<◌, ◌⊎◌, true, false, ◌==◌, if◌then◌else◌, List, [], length, slice_index, slice_index_or}
-use Rattle.mal_base.specs.Held.{Held}
+use Rattle.mal_base.specs.NumberedClause.{NumberedClause}
 use Rattle.mal_base.specs.declared.trail_entry.TrailEntry.{TrailEntry}
 use Rattle.spec_node.specs.Value.{is_true, is_false}
-use Rattle.mal_watch.specs.Chains.{Has}
+use Rattle.mal_watch.specs.WatchLists.{Has}
 
 -- no clause
-abbrev pub no_row : Held
+abbrev pub no_row : NumberedClause
 no_row = record { id = 0; lits = [] }
 
 -- the clause that a node watches a literal of: clauses have two nodes each, in order
-abbrev pub row_at : List Held → ℕ → Held
+abbrev pub row_at : List NumberedClause → ℕ → NumberedClause
 row_at rows node = slice_index_or rows (node / 2) no_row
 
 -- the other node of a clause
@@ -17,7 +17,7 @@ abbrev pub partner : ℕ → ℕ
 partner node = if node % 2 == 0 then node + 1 else node - 1
 
 -- each clause has two nodes, each node watches a literal of its clause, and there is a list for each literal
-pub record IsWatching (lists : ℕ) (rows : List Held) (keys : List ℕ) : Type 0 where
+pub record IsWatching (lists : ℕ) (rows : List NumberedClause) (keys : List ℕ) : Type 0 where
   pub paired : length keys ≡ length rows + length rows
   pub own : (k : ℕ) → k < length keys → Has (row_at rows k).lits (slice_index keys k)
   pub below : (k l : ℕ) → Has (row_at rows k).lits l → l < lists
@@ -38,5 +38,5 @@ other_key keys node = slice_index keys (partner node)
 
 -- where the literal that a node watches is false, the other watched one is true, or each other literal of its clause is
 -- false but that one
-abbrev pub IsKept : List TrailEntry → List Held → List ℕ → ℕ → Type 0
-IsKept prefix rows keys k = is_false prefix (slice_index keys k) ≡ true → AreOthersFalse prefix (other_key keys k) (row_at rows k).lits ⊎ (is_true prefix (other_key keys k) ≡ true)
+abbrev pub IsWatchKept : List TrailEntry → List NumberedClause → List ℕ → ℕ → Type 0
+IsWatchKept prefix rows keys k = is_false prefix (slice_index keys k) ≡ true → AreOthersFalse prefix (other_key keys k) (row_at rows k).lits ⊎ (is_true prefix (other_key keys k) ≡ true)

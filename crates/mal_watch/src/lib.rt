@@ -2,13 +2,13 @@
 #![tactic(auto)]
 
 mod batch;
-mod chains;
+mod clause_arena;
 mod found;
 mod link;
 mod pair;
-mod rows;
 mod walk;
 mod watch;
+mod watch_lists;
 
 pub use watch::Watch;
 

@@ -3,7 +3,7 @@
 ghost use Rattle.std.specs.Prelude.{◌≡◌, ◌≢◌, ℕ, ◌≤◌, ◌<◌, true, List, [], ◌∷◌, ◌++◌, length, take};
 ghost use Rattle.mal_base.specs.Clauses.{rises};
 ghost use Rattle.mal_base.specs.declared.trail_entry.TrailEntry.{TrailEntry};
-ghost use Rattle.mal_watch.specs.Chains.{Has};
+ghost use Rattle.mal_watch.specs.WatchLists.{Has};
 ghost use Rattle.mal_watch.specs.Pairs.{IsOpenUntil, IsBest, ArePicked};
 
 use mal_base::Lit;

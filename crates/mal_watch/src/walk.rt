@@ -5,9 +5,9 @@ ghost use Rattle.mal_watch.specs.Watching.{partner, IsOther, AreOthersFalse};
 ghost use Rattle.mal_watch.specs.Going.{Turns, Goes};
 ghost use Rattle.mal_watch.specs.Finding.{found_at, found_in};
 
-use crate::chains::Chains;
+use crate::clause_arena::ClauseArena;
 use crate::found::Found;
-use crate::rows::Rows;
+use crate::watch_lists::WatchLists;
 use mal_base::Lit;
 use mal_trail::Trail;
 
@@ -63,9 +63,9 @@ fn to_watch(trail: &Trail, count: usize, lits: &[Lit], other: Lit, from: usize) 
 /// first entries, so many: the node goes to another literal that is not false, or back. Where the other watched literal
 /// alone is left, and not true, the clause is found.
 fn seek(
-    chains: &mut Chains,
+    chains: &mut WatchLists,
     found: &mut Vec<Found>,
-    rows: &mut Rows,
+    rows: &mut ClauseArena,
     trail: &Trail,
     count: usize,
     lit: Lit,
@@ -104,9 +104,9 @@ fn seek(
 /// Visits the first node that is out, as `seek` does. Where the other watched literal is true under the first entries
 /// already the node goes back, and its clause is not looked at.
 fn visit(
-    chains: &mut Chains,
+    chains: &mut WatchLists,
     found: &mut Vec<Found>,
-    rows: &mut Rows,
+    rows: &mut ClauseArena,
     trail: &Trail,
     count: usize,
     lit: Lit,
@@ -136,9 +136,9 @@ fn visit(
 /// Visits the clauses of all nodes that are out, which watch the literal that became false by the last of the first
 /// entries, so many. What is found of them is put behind the rest.
 pub fn walk(
-    chains: &mut Chains,
+    chains: &mut WatchLists,
     found: &mut Vec<Found>,
-    rows: &mut Rows,
+    rows: &mut ClauseArena,
     trail: &Trail,
     count: usize,
     lit: Lit,

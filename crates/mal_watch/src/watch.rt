@@ -2,7 +2,7 @@
 
 ghost use Rattle.std.specs.Prelude.{◌≡◌, ℕ, ◌+◌, ◌≤◌, true, length, take, None, vec_capacity};
 ghost use Rattle.mal_base.specs.Clauses.{rises};
-ghost use Rattle.mal_base.specs.Held.{lits_under};
+ghost use Rattle.mal_base.specs.NumberedClause.{lits_under};
 ghost use Rattle.spec_node.specs.Adding.{with_clause};
 ghost use Rattle.spec_node.specs.Batch.{after_batch};
 ghost use Rattle.mal_trail.specs.Rooms.{IsRoomFor, IsLeft, are_within};
@@ -10,9 +10,9 @@ ghost use Rattle.mal_watch.specs.Finding.{pending};
 ghost use Rattle.mal_watch.specs.Fitting.{room_in, Fits};
 ghost use Rattle.mal_watch.specs.FollowLaws.{follows-push, follows-cut, follows-less};
 
-use crate::chains::Chains;
+use crate::clause_arena::ClauseArena;
 use crate::found::Found;
-use crate::rows::Rows;
+use crate::watch_lists::WatchLists;
 use crate::{batch, found, pair, walk};
 use mal_base::{Clause, ClauseId, ClauseView, Lit};
 use mal_store::Store;
@@ -25,8 +25,8 @@ use std::alloc::{AllocError, Global};
 #[derive(Drop)]
 pub struct Watch {
     store: Store,
-    rows: Rows,
-    chains: Chains,
+    rows: ClauseArena,
+    chains: WatchLists,
     found: Vec<Found>,
 }
 
@@ -126,8 +126,8 @@ impl Engine for Watch {
     fn new(alloc: Global) -> Watch {
         Watch {
             store: Store::new(alloc),
-            rows: Rows::new(alloc),
-            chains: Chains::new(alloc),
+            rows: ClauseArena::new(alloc),
+            chains: WatchLists::new(alloc),
             found: Vec::new(alloc),
         }
     }

@@ -4,7 +4,7 @@ use Rattle.std.specs.List.{AllByRecursion}
 use Rattle.std.specs.Str.{bytes_eq}
 use Rattle.std.proofs.lemmas.Slice.Eq.{bytes_eq-Decides}
 use Rattle.mal_base.specs.Formulas.{Formulated, size_of}
-use Rattle.mal_base.specs.declared.which.Which.TheVariants.{Literals}
+use Rattle.mal_base.specs.declared.limit_kind.LimitKind.TheVariants.{Literals}
 use Rattle.spec_text.specs.Numbers.{NumberWord, number_in}
 use Rattle.spec_text.specs.Numbers.NumberWord.{NotANumber, TooLarge, Number}
 use Rattle.spec_dimacs.specs.declared.fault.BlockFault.{BlockFault}

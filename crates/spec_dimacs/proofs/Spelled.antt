@@ -7,7 +7,7 @@ use Rattle.std.proofs.lemmas.Bool.Decides.{nat_tests}
 use Rattle.std.proofs.lemmas.List.{length-map}
 use Rattle.std.proofs.lemmas.Slice.Eq.{bytes_eq-Decides}
 use Rattle.mal_base.specs.Formulas.{Formulated, literals_of, is_within}
-use Rattle.mal_base.specs.declared.which.Which.TheVariants.{Variables, Clauses}
+use Rattle.mal_base.specs.declared.limit_kind.LimitKind.TheVariants.{Variables, Clauses}
 use Rattle.mal_base.proofs.Sorting.{and-left, and-right, and-both}
 use Rattle.spec_text.specs.Numbers.{is_numeral, value_of}
 use Rattle.spec_text.specs.Numbers.NumberWord.{Number}

@@ -9,7 +9,7 @@ use Rattle.std.proofs.lemmas.List.Folds.{list_all-append}
 use Rattle.std.proofs.lemmas.List.Sums.{sum_by-append, sum_by-cons}
 use Rattle.mal_base.specs.Literals.{literal}
 use Rattle.mal_base.specs.Formulas.{size_of, literals_of, is_within}
-use Rattle.mal_base.specs.declared.which.Which.TheVariants.{Literals}
+use Rattle.mal_base.specs.declared.limit_kind.LimitKind.TheVariants.{Literals}
 use Rattle.mal_base.proofs.Sorting.{and-left, and-right, and-both}
 use Rattle.spec_text.specs.Numbers.{NumberWord, number_in, number_of}
 use Rattle.spec_text.specs.Numbers.NumberWord.{NotANumber, TooLarge, Number}

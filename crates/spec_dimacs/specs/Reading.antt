@@ -2,7 +2,7 @@
 use Rattle.std.specs.Prelude.{ℕ, zero, suc, ◌+◌, ◌^◌, ◌-◌, min, max, true, false, ◌&&◌, List, [], ◌∷◌, ◌++◌, length, codes, bytes_eq, nat_lt, ◌==◌, if◌then◌else◌, ℤ, pos, negsuc, Option, Some, None, Result, Ok, Err}
 use Rattle.mal_base.specs.Literals.{literal}
 use Rattle.mal_base.specs.Formulas.{Formulated, size_of}
-use Rattle.mal_base.specs.declared.which.Which.TheVariants.{Variables, Clauses, Literals}
+use Rattle.mal_base.specs.declared.limit_kind.LimitKind.TheVariants.{Variables, Clauses, Literals}
 use Rattle.spec_text.specs.Numbers.{NumberWord, is_numeral, value_of, number_in}
 use Rattle.spec_text.specs.Numbers.NumberWord.{NotANumber, TooLarge, Number}
 use Rattle.spec_dimacs.specs.declared.fault.BlockFault.{BlockFault}

@@ -1,6 +1,6 @@
 //! Why a text or a block of lines is no DIMACS CNF formula.
 
-use mal_base::Which;
+use mal_base::LimitKind;
 use thiserror::Error;
 
 /// What is wrong with a line of DIMACS CNF, or with the end of one.
@@ -20,7 +20,7 @@ pub enum BlockFault {
     ClauseCount { declared: u32, found: u64 },
     /// There are more of these than may be.
     #[error("too many {which:?}")]
-    Limit { which: Which },
+    Limit { which: LimitKind },
     /// Behind the last clause stands what may not stand there: literals without a closing 0, or a line behind `%`.
     #[error("trailing words")]
     Trailing,

@@ -3,7 +3,7 @@ use Rattle.std.proofs.lemmas.Bool.{leb-true, leb-false, le-leb, lt-leb}
 use Rattle.std.proofs.lemmas.List.Sums.{sum_by-cons}
 use Rattle.std.specs.declared.cmp.Ordering.{Ordering}
 use Rattle.std.specs.declared.cmp.Ordering.TheVariants.{Less, Equal, Greater}
-use Rattle.mal_base.specs.Held.{Held}
+use Rattle.mal_base.specs.NumberedClause.{NumberedClause}
 use Rattle.spec_exchange.specs.Exchange.{lits_cmp, lesser, union, merge_by, merged_from, merged, front}
 use Rattle.spec_exchange.specs.Order.{IsBefore, IsSorted}
 use Rattle.spec_exchange.specs.Laws.{literals_in, IsLongestFront}
@@ -11,21 +11,21 @@ use Rattle.spec_exchange.proofs.OrderLemmas.{cmp_same, less-length, lesser-lits}
 use Rattle.spec_exchange.proofs.UnionLemmas.{union-sorted, union-front, of-unions}
 
 -- an entry that fits is the first of the front, and one that does not fit ends it
-front-fits : (room : ℕ) (e : Held) (es : List Held) → length e.lits ≤ room → front room (e ∷ es) ≡ e ∷ front (room - length e.lits) es
+front-fits : (room : ℕ) (e : NumberedClause) (es : List NumberedClause) → length e.lits ≤ room → front room (e ∷ es) ≡ e ∷ front (room - length e.lits) es
 front-fits room e es h = rw (le-leb (length e.lits) room h) refl
 
-front-ends : (room : ℕ) (e : Held) (es : List Held) → room < length e.lits → front room (e ∷ es) ≡ []
+front-ends : (room : ℕ) (e : NumberedClause) (es : List NumberedClause) → room < length e.lits → front room (e ∷ es) ≡ []
 front-ends room e es h = rw (lt-leb (length e.lits) room h) refl
 
 -- the front of a front
-pub front-front : (k m : ℕ) (es : List Held) → k ≤ m → front k (front m es) ≡ front k es
+pub front-front : (k m : ℕ) (es : List NumberedClause) → k ≤ m → front k (front m es) ≡ front k es
 front-front k m [] h = refl
 front-front k m (e ∷ es) h = by_fit (nat_le (length e.lits) m) refl (λ fits. front-front (k - length e.lits) (m - length e.lits) es (omega arith))
   where
     by_least : (c : Bool) → nat_le (length e.lits) k ≡ c → (length e.lits ≤ k → front (k - length e.lits) (front (m - length e.lits) es) ≡ front (k - length e.lits) es) → front k (e ∷ front (m - length e.lits) es) ≡ front k (e ∷ es)
     by_least true q rest =
         let fits : length e.lits ≤ k = leb-true (length e.lits) k q in
-        front-fits k e (front (m - length e.lits) es) fits ∙ (ap (λ (r : List Held). e ∷ r) (rest fits) ∙ sym (front-fits k e es fits))
+        front-fits k e (front (m - length e.lits) es) fits ∙ (ap (λ (r : List NumberedClause). e ∷ r) (rest fits) ∙ sym (front-fits k e es fits))
     by_least false q rest =
         let over : k < length e.lits = leb-false (length e.lits) k q in
         front-ends k e (front (m - length e.lits) es) over ∙ sym (front-ends k e es over)
@@ -35,7 +35,7 @@ front-front k m (e ∷ es) h = by_fit (nat_le (length e.lits) m) refl (λ fits. 
     by_fit false q rest = let over : m < length e.lits = leb-false (length e.lits) m q in sym (front-ends k e es (omega arith))
 
 -- an entry that does not fit, and what stands behind it, changes nothing
-front-without : (k : ℕ) (x : Held) (rest : List Held → List Held) (ys : List Held) → k < length x.lits → front k (merged_from x rest ys) ≡ front k ys
+front-without : (k : ℕ) (x : NumberedClause) (rest : List NumberedClause → List NumberedClause) (ys : List NumberedClause) → k < length x.lits → front k (merged_from x rest ys) ≡ front k ys
 front-without k x rest [] over = front-ends k x (rest []) over
 front-without k x rest (y ∷ ys) over =
     by_order (lits_cmp x.lits y.lits) refl (λ fits. front-without (k - length y.lits) x rest ys (omega arith))
@@ -43,7 +43,7 @@ front-without k x rest (y ∷ ys) over =
     by_fit : (b : Bool) → nat_le (length y.lits) k ≡ b → (length y.lits ≤ k → front (k - length y.lits) (merged_from x rest ys) ≡ front (k - length y.lits) ys) → front k (y ∷ merged_from x rest ys) ≡ front k (y ∷ ys)
     by_fit true q later =
         let fits : length y.lits ≤ k = leb-true (length y.lits) k q in
-        front-fits k y (merged_from x rest ys) fits ∙ (ap (λ (r : List Held). y ∷ r) (later fits) ∙ sym (front-fits k y ys fits))
+        front-fits k y (merged_from x rest ys) fits ∙ (ap (λ (r : List NumberedClause). y ∷ r) (later fits) ∙ sym (front-fits k y ys fits))
     by_fit false q later =
         let above : k < length y.lits = leb-false (length y.lits) k q in
         front-ends k y (merged_from x rest ys) above ∙ sym (front-ends k y ys above)
@@ -60,15 +60,15 @@ front-without k x rest (y ∷ ys) over =
     by_order Greater h later = by_fit (nat_le (length y.lits) k) refl later
 
 -- cutting the first list early changes nothing
-early_into : (k m : ℕ) (x : Held) (xs : List Held) → length x.lits ≤ m
-    → ((j l : ℕ) (zs : List Held) → j ≤ l → front j (merged (front l xs) zs) ≡ front j (merged xs zs))
-    → (ys : List Held) → k ≤ m → front k (merged_from x (merged (front (m - length x.lits) xs)) ys) ≡ front k (merged_from x (merged xs) ys)
+early_into : (k m : ℕ) (x : NumberedClause) (xs : List NumberedClause) → length x.lits ≤ m
+    → ((j l : ℕ) (zs : List NumberedClause) → j ≤ l → front j (merged (front l xs) zs) ≡ front j (merged xs zs))
+    → (ys : List NumberedClause) → k ≤ m → front k (merged_from x (merged (front (m - length x.lits) xs)) ys) ≡ front k (merged_from x (merged xs) ys)
 early_into k m x xs fits rest [] h = by_fit (nat_le (length x.lits) k) refl
   where
     by_fit : (b : Bool) → nat_le (length x.lits) k ≡ b → front k (x ∷ merged (front (m - length x.lits) xs) []) ≡ front k (x ∷ merged xs [])
     by_fit true q =
         let small : length x.lits ≤ k = leb-true (length x.lits) k q in
-        front-fits k x (merged (front (m - length x.lits) xs) []) small ∙ (ap (λ (r : List Held). x ∷ r) (rest (k - length x.lits) (m - length x.lits) [] (omega arith)) ∙ sym (front-fits k x (merged xs []) small))
+        front-fits k x (merged (front (m - length x.lits) xs) []) small ∙ (ap (λ (r : List NumberedClause). x ∷ r) (rest (k - length x.lits) (m - length x.lits) [] (omega arith)) ∙ sym (front-fits k x (merged xs []) small))
     by_fit false q =
         let over : k < length x.lits = leb-false (length x.lits) k q in
         front-ends k x (merged (front (m - length x.lits) xs) []) over ∙ sym (front-ends k x (merged xs []) over)
@@ -76,10 +76,10 @@ early_into k m x xs fits rest (y ∷ ys) h =
     by_order (lits_cmp x.lits y.lits) refl (early_into (k - length y.lits) m x xs fits rest ys (omega arith))
   where
     -- one entry before two lists
-    ahead : (e : Held) (us vs : List Held) → (length e.lits ≤ k → front (k - length e.lits) us ≡ front (k - length e.lits) vs) → (b : Bool) → nat_le (length e.lits) k ≡ b → front k (e ∷ us) ≡ front k (e ∷ vs)
+    ahead : (e : NumberedClause) (us vs : List NumberedClause) → (length e.lits ≤ k → front (k - length e.lits) us ≡ front (k - length e.lits) vs) → (b : Bool) → nat_le (length e.lits) k ≡ b → front k (e ∷ us) ≡ front k (e ∷ vs)
     ahead e us vs later true q =
         let small : length e.lits ≤ k = leb-true (length e.lits) k q in
-        front-fits k e us small ∙ (ap (λ (r : List Held). e ∷ r) (later small) ∙ sym (front-fits k e vs small))
+        front-fits k e us small ∙ (ap (λ (r : List NumberedClause). e ∷ r) (later small) ∙ sym (front-fits k e vs small))
     ahead e us vs later false q =
         let over : k < length e.lits = leb-false (length e.lits) k q in
         front-ends k e us over ∙ sym (front-ends k e vs over)
@@ -95,16 +95,16 @@ early_into k m x xs fits rest (y ∷ ys) h =
         ahead (lesser x y) _ _ (λ small. rest (k - length (lesser x y).lits) (m - length x.lits) ys (omega arith)) (nat_le (length (lesser x y).lits) k) refl
     by_order Greater q later = ahead y _ _ (λ small. later) (nat_le (length y.lits) k) refl
 
-pub early : (k m : ℕ) (xs ys : List Held) → k ≤ m → front k (merged (front m xs) ys) ≡ front k (merged xs ys)
+pub early : (k m : ℕ) (xs ys : List NumberedClause) → k ≤ m → front k (merged (front m xs) ys) ≡ front k (merged xs ys)
 early k m [] ys h = refl
 early k m (x ∷ xs) ys h = by_fit (nat_le (length x.lits) m) refl (λ j l zs. early j l xs zs)
   where
-    by_fit : (b : Bool) → nat_le (length x.lits) m ≡ b → ((j l : ℕ) (zs : List Held) → j ≤ l → front j (merged (front l xs) zs) ≡ front j (merged xs zs))
+    by_fit : (b : Bool) → nat_le (length x.lits) m ≡ b → ((j l : ℕ) (zs : List NumberedClause) → j ≤ l → front j (merged (front l xs) zs) ≡ front j (merged xs zs))
         → front k (merged (if b then x ∷ front (m - length x.lits) xs else []) ys) ≡ front k (merged_from x (merged xs) ys)
     by_fit true q rest = early_into k m x xs (leb-true (length x.lits) m q) rest ys h
     by_fit false q rest = let over : m < length x.lits = leb-false (length x.lits) m q in sym (front-without k x (merged xs) ys (omega arith))
 
-front-before : (a : List ℕ) (room : ℕ) (es : List Held) → IsBefore a es → IsBefore a (front room es)
+front-before : (a : List ℕ) (room : ℕ) (es : List NumberedClause) → IsBefore a es → IsBefore a (front room es)
 front-before a room [] b = b
 front-before a room (e ∷ es) b = by_fit (nat_le (length e.lits) room)
   where
@@ -112,7 +112,7 @@ front-before a room (e ∷ es) b = by_fit (nat_le (length e.lits) room)
     by_fit true = b
     by_fit false = tt
 
-pub front-sorted : (room : ℕ) (es : List Held) → IsSorted es → IsSorted (front room es)
+pub front-sorted : (room : ℕ) (es : List NumberedClause) → IsSorted es → IsSorted (front room es)
 front-sorted room [] s = s
 front-sorted room (e ∷ es) (b, s) = by_fit (nat_le (length e.lits) room) (front-sorted (room - length e.lits) es s)
   where
@@ -120,19 +120,19 @@ front-sorted room (e ∷ es) (b, s) = by_fit (nat_le (length e.lits) room) (fron
     by_fit true rest = (front-before e.lits (room - length e.lits) es b, rest)
     by_fit false rest = tt
 
-pub cuts-early : (room : ℕ) (xs ys : List Held) → front room (union (front room (union xs) ++ ys)) ≡ front room (union (xs ++ ys))
+pub cuts-early : (room : ℕ) (xs ys : List NumberedClause) → front room (union (front room (union xs) ++ ys)) ≡ front room (union (xs ++ ys))
 cuts-early room xs ys =
     let s : IsSorted (union xs) = union-sorted xs in
     let a : union (front room (union xs) ++ ys) ≡ merged (front room (union xs)) (union ys) = union-front (front room (union xs)) ys (front-sorted room (union xs) s) in
     let b : union (union xs ++ ys) ≡ merged (union xs) (union ys) = union-front (union xs) ys s in
     ap (front room) a ∙ (early room room (union xs) (union ys) (omega arith) ∙ (ap (front room) (sym b) ∙ ap (front room) (of-unions xs ys)))
 
-pub longest : (room : ℕ) (es : List Held) → IsLongestFront room es
+pub longest : (room : ℕ) (es : List NumberedClause) → IsLongestFront room es
 longest room [] = record { fits = omega arith; is_front = ([], refl, λ e others h. absurd (cc)) }
 longest room (e ∷ es) = by_fit (nat_le (length e.lits) room) refl (longest (room - length e.lits) es)
   where
-    sum : (xs : List Held) → literals_in (e ∷ xs) ≡ length e.lits + literals_in xs
-    sum xs = sum_by-cons (λ (x : Held). length x.lits) e xs
+    sum : (xs : List NumberedClause) → literals_in (e ∷ xs) ≡ length e.lits + literals_in xs
+    sum xs = sum_by-cons (λ (x : NumberedClause). length x.lits) e xs
 
     by_fit : (b : Bool) → nat_le (length e.lits) room ≡ b → IsLongestFront (room - length e.lits) es → IsLongestFront room (e ∷ es)
     by_fit true q rest =
@@ -141,7 +141,7 @@ longest room (e ∷ es) = by_fit (nat_le (length e.lits) room) refl (longest (ro
         let within : literals_in (front (room - length e.lits) es) ≤ room - length e.lits = rest.fits in
         record {
           fits = rw is (omega (arith, sum (front (room - length e.lits) es)));
-          is_front = (rest.is_front.0, rw is (ap (λ (r : List Held). e ∷ r) rest.is_front.1), λ x others h. rw is (let over = rest.is_front.2 x others h in omega (arith, sum (front (room - length e.lits) es), over)));
+          is_front = (rest.is_front.0, rw is (ap (λ (r : List NumberedClause). e ∷ r) rest.is_front.1), λ x others h. rw is (let over = rest.is_front.2 x others h in omega (arith, sum (front (room - length e.lits) es), over)));
         }
     by_fit false q rest =
         let over : room < length e.lits = leb-false (length e.lits) room q in

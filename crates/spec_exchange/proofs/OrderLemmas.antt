@@ -6,7 +6,7 @@ use Rattle.std.specs.Ordering.{is_eq, nat_cmp, ordering_reverse, ordering_then, 
 use Rattle.std.specs.Cmp.{IsTotalOrder, ranks, tied_itself}
 use Rattle.std.specs.Cmp.Lexicographic.{slice_cmp, on_texts}
 use Rattle.std.specs.FinMap.{slice_cmp-IsAntisymmetric, nat_cmp-IsAntisymmetric}
-use Rattle.mal_base.specs.Held.{Held}
+use Rattle.mal_base.specs.NumberedClause.{NumberedClause}
 use Rattle.spec_exchange.specs.Exchange.{sized, lits_cmp, lesser}
 use Rattle.spec_exchange.specs.Order.{IsBefore, IsSorted, least_of, own_id, least_id}
 
@@ -53,7 +53,7 @@ pub least-shuffle : (a b c d : Option ℕ) → least_of (least_of a b) (least_of
 least-shuffle a b c d = least-assoc a b (least_of c d) ∙ (ap (least_of a) (least-swap b c d) ∙ sym (least-assoc a c (least_of b d)))
 
 -- the literals of the lesser of two entries with the same literals
-pub lesser-lits : (e x : Held) → e.lits ≡ x.lits → (lesser e x).lits ≡ x.lits
+pub lesser-lits : (e x : NumberedClause) → e.lits ≡ x.lits → (lesser e x).lits ≡ x.lits
 lesser-lits e x same = by_test (nat_le e.id x.id)
   where
     by_test : (b : Bool) → (if b then e else x).lits ≡ x.lits
@@ -61,14 +61,14 @@ lesser-lits e x same = by_test (nat_le e.id x.id)
     by_test false = refl
 
 -- and its number
-pub lesser-id : (e x : Held) → (lesser e x).id ≡ min e.id x.id
+pub lesser-id : (e x : NumberedClause) → (lesser e x).id ≡ min e.id x.id
 lesser-id e x = by_test (nat_le e.id x.id) refl
   where
     by_test : (b : Bool) → nat_le e.id x.id ≡ b → (if b then e else x).id ≡ min e.id x.id
     by_test true h = let l : e.id ≤ x.id = leb-true e.id x.id h in omega arith
     by_test false h = let l : x.id < e.id = leb-false e.id x.id h in omega arith
 
-pub own-lesser : (lits : List ℕ) (e x : Held) → e.lits ≡ x.lits → own_id lits (lesser e x) ≡ least_of (own_id lits e) (own_id lits x)
+pub own-lesser : (lits : List ℕ) (e x : NumberedClause) → e.lits ≡ x.lits → own_id lits (lesser e x) ≡ least_of (own_id lits e) (own_id lits x)
 own-lesser lits e x same =
     let l : (lesser e x).lits ≡ x.lits = lesser-lits e x same in
     let i : (lesser e x).id ≡ min e.id x.id = lesser-id e x in
@@ -78,11 +78,11 @@ own-lesser lits e x same =
     by_test true = refl
     by_test false = refl
 
-pub before-trans : (a : List ℕ) (x : Held) (xs : List Held) → lits_cmp a x.lits ≡ Less → IsBefore x.lits xs → IsBefore a xs
+pub before-trans : (a : List ℕ) (x : NumberedClause) (xs : List NumberedClause) → lits_cmp a x.lits ≡ Less → IsBefore x.lits xs → IsBefore a xs
 before-trans a x [] h b = b
 before-trans a x (y ∷ ys) h b = cmp_total.trans a x.lits y.lits h b
 
 -- what comes before a sorted list is not in it
-pub absent : (a : List ℕ) (xs : List Held) → IsSorted xs → IsBefore a xs → least_id a xs ≡ None
+pub absent : (a : List ℕ) (xs : List NumberedClause) → IsSorted xs → IsBefore a xs → least_id a xs ≡ None
 absent a [] s b = refl
 absent a (x ∷ xs) (c, s) b = rw (b, absent a xs s (before-trans a x xs b c)) refl

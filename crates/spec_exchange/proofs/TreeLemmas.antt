@@ -1,6 +1,6 @@
 use Rattle.std.proofs.Common.{◌≡◌, ℕ, zero, suc, ◌<◌, List, [], ◌∷◌, ◌++◌, length, get_or, Option, sym, ap, ◌∙◌, arith}
 use Rattle.std.specs.Prelude.{slice_set}
-use Rattle.mal_base.specs.Held.{Held}
+use Rattle.mal_base.specs.NumberedClause.{NumberedClause}
 use Rattle.spec_exchange.specs.Exchange.{union, merged, front, most_literals, broadcast, entries_of}
 use Rattle.spec_exchange.specs.Order.{IsSorted, least_of, least_id}
 use Rattle.spec_exchange.proofs.OrderLemmas.{least-comm, least-assoc, least-swap}
@@ -8,7 +8,7 @@ use Rattle.spec_exchange.proofs.UnionLemmas.{union-sorted, union-least, append-l
 use Rattle.spec_exchange.proofs.FrontLemmas.{early, front-sorted}
 
 -- where the buffer at a place is another one, only its own entries change
-set-least : (a : List ℕ) (ts : List (List Held)) (p : ℕ) (t : List Held) → p < length ts → least_id a (entries_of (slice_set ts p t)) ≡ least_of (least_id a t) (least_id a (entries_of (slice_set ts p [])))
+set-least : (a : List ℕ) (ts : List (List NumberedClause)) (p : ℕ) (t : List NumberedClause) → p < length ts → least_id a (entries_of (slice_set ts p t)) ≡ least_of (least_id a t) (least_id a (entries_of (slice_set ts p [])))
 set-least a [] p t h = absurd (omega arith)
 set-least a (x ∷ xs) zero t h = append-least t (entries_of xs) a
 set-least a (x ∷ xs) (suc p) t h =
@@ -18,7 +18,7 @@ set-least a (x ∷ xs) (suc p) t h =
     ∙ ap (least_of (least_id a t)) (sym (append-least x (entries_of (slice_set xs p [])) a))))
 
 -- the entries of a list of buffers are those at a place and the others
-at-least : (a : List ℕ) (ts : List (List Held)) (p : ℕ) → p < length ts → least_id a (entries_of ts) ≡ least_of (least_id a (get_or ts p [])) (least_id a (entries_of (slice_set ts p [])))
+at-least : (a : List ℕ) (ts : List (List NumberedClause)) (p : ℕ) → p < length ts → least_id a (entries_of ts) ≡ least_of (least_id a (get_or ts p [])) (least_id a (entries_of (slice_set ts p [])))
 at-least a [] p h = absurd (omega arith)
 at-least a (x ∷ xs) zero h = append-least x (entries_of xs) a
 at-least a (x ∷ xs) (suc p) h =
@@ -27,7 +27,7 @@ at-least a (x ∷ xs) (suc p) h =
     ∙ (least-swap (least_id a x) (least_id a (get_or xs p [])) (least_id a (entries_of (slice_set xs p [])))
     ∙ ap (least_of (least_id a (get_or xs p []))) (sym (append-least x (entries_of (slice_set xs p [])) a))))
 
-push-least : (a : List ℕ) (ts : List (List Held)) (t : List Held) → least_id a (entries_of (ts ++ t ∷ [])) ≡ least_of (least_id a (entries_of ts)) (least_id a t)
+push-least : (a : List ℕ) (ts : List (List NumberedClause)) (t : List NumberedClause) → least_id a (entries_of (ts ++ t ∷ [])) ≡ least_of (least_id a (entries_of ts)) (least_id a t)
 push-least a [] t = append-least t [] a ∙ least-comm (least_id a t) (least_id a [])
 push-least a (x ∷ xs) t =
     append-least x (entries_of (xs ++ t ∷ [])) a
@@ -36,12 +36,12 @@ push-least a (x ∷ xs) t =
     ∙ ap (λ (o : Option ℕ). least_of o (least_id a t)) (sym (append-least x (entries_of xs) a))))
 
 -- the last buffer merged into that at a place and cut there: what is told to all stays
-pub climb : (ts : List (List Held)) (p : ℕ) (last : List Held) → p < length ts
+pub climb : (ts : List (List NumberedClause)) (p : ℕ) (last : List NumberedClause) → p < length ts
     → broadcast (entries_of (slice_set ts p (front most_literals (union (get_or ts p [] ++ last))))) ≡ broadcast (entries_of (ts ++ last ∷ []))
 climb ts p last h =
-    let m : List Held = union (get_or ts p [] ++ last) in
-    let c : List Held = front most_literals m in
-    let r : List Held = entries_of (slice_set ts p []) in
+    let m : List NumberedClause = union (get_or ts p [] ++ last) in
+    let c : List NumberedClause = front most_literals m in
+    let r : List NumberedClause = entries_of (slice_set ts p []) in
     let sm : IsSorted m = union-sorted (get_or ts p [] ++ last) in
     let sc : IsSorted c = front-sorted most_literals m sm in
     let su : IsSorted (union r) = union-sorted r in
@@ -63,7 +63,7 @@ climb ts p last h =
     ap (front most_literals) one ∙ (early most_literals most_literals m (union r) (omega arith) ∙ ap (front most_literals) two)
 
 -- what the one buffer that is left tells
-pub top : (t : List Held) → IsSorted t → front most_literals t ≡ broadcast (entries_of (t ∷ []))
+pub top : (t : List NumberedClause) → IsSorted t → front most_literals t ≡ broadcast (entries_of (t ∷ []))
 top t s =
     let same : union (t ++ []) ≡ t =
     decided (union (t ++ [])) t (union-sorted (t ++ [])) s (λ a. union-least (t ++ []) a ∙ (append-least t [] a ∙ least-comm (least_id a t) (least_id a []))) in

@@ -1,9 +1,9 @@
 use Rattle.std.specs.Prelude.{◌≡◌, ℕ, List, [], ◌∷◌}
-use Rattle.mal_base.specs.Held.{Held}
+use Rattle.mal_base.specs.NumberedClause.{NumberedClause}
 use Rattle.spec_exchange.specs.Exchange.{union, front}
 
 -- an entry
-abbrev pub entry : ℕ → List ℕ → Held
+abbrev pub entry : ℕ → List ℕ → NumberedClause
 entry id lits = record { id = id; lits = lits }
 
 -- worked examples: a clause that two nodes export stands once with the lesser number, shorter clauses come first, clauses

@@ -4,7 +4,7 @@ use Rattle.std.specs.declared.cmp.Ordering.{Ordering}
 use Rattle.std.specs.declared.cmp.Ordering.TheVariants.{Less, Equal, Greater}
 use Rattle.std.specs.Ordering.{nat_cmp}
 use Rattle.std.specs.Cmp.Lexicographic.{slice_cmp}
-use Rattle.mal_base.specs.Held.{Held}
+use Rattle.mal_base.specs.NumberedClause.{NumberedClause}
 
 -- a list of literals with its length before it
 abbrev pub sized : List ℕ → List ℕ
@@ -15,41 +15,41 @@ abbrev pub lits_cmp : List ℕ → List ℕ → Ordering
 lits_cmp a b = slice_cmp nat_cmp (sized a) (sized b)
 
 -- of two entries the one with the lesser number, the first where they are equal
-abbrev pub lesser : Held → Held → Held
+abbrev pub lesser : NumberedClause → NumberedClause → NumberedClause
 lesser e x = if nat_le e.id x.id then e else x
 
 -- an entry in its place before, at or behind the first of some entries; behind it, the others have it in its place
-abbrev pub put_by : Ordering → Held → Held → List Held → List Held → List Held
+abbrev pub put_by : Ordering → NumberedClause → NumberedClause → List NumberedClause → List NumberedClause → List NumberedClause
 put_by Less e x xs others = e ∷ x ∷ xs
 put_by Equal e x xs others = lesser e x ∷ xs
 put_by Greater e x xs others = x ∷ others
 
 -- an entry put in its place among sorted entries; of two with the same literals the one with the lesser number stays
-abbrev pub put : Held → List Held → List Held
+abbrev pub put : NumberedClause → List NumberedClause → List NumberedClause
 put e [] = e ∷ []
 put e (x ∷ xs) = put_by (lits_cmp e.lits x.lits) e x xs (put e xs)
 
 -- the union of entries: sorted, each list of literals once, with the least of its numbers
-abbrev pub union : List Held → List Held
+abbrev pub union : List NumberedClause → List NumberedClause
 union [] = []
 union (e ∷ es) = put e (union es)
 
 -- two sorted lists merged: the lesser first entry first, of two with the same literals the one with the lesser number
-abbrev pub merge_by : Ordering → Held → Held → List Held → List Held → List Held → List Held
+abbrev pub merge_by : Ordering → NumberedClause → NumberedClause → List NumberedClause → List NumberedClause → List NumberedClause → List NumberedClause
 merge_by Less x y below same above = x ∷ below
 merge_by Equal x y below same above = lesser x y ∷ same
 merge_by Greater x y below same above = y ∷ above
 
-abbrev pub merged_from : Held → (List Held → List Held) → List Held → List Held
+abbrev pub merged_from : NumberedClause → (List NumberedClause → List NumberedClause) → List NumberedClause → List NumberedClause
 merged_from x rest [] = x ∷ rest []
 merged_from x rest (y ∷ ys) = merge_by (lits_cmp x.lits y.lits) x y (rest (y ∷ ys)) (rest ys) (merged_from x rest ys)
 
-abbrev pub merged : List Held → List Held → List Held
+abbrev pub merged : List NumberedClause → List NumberedClause → List NumberedClause
 merged [] ys = ys
 merged (x ∷ xs) ys = merged_from x (merged xs) ys
 
 -- the longest front of entries that has at most so many literals
-abbrev pub front : ℕ → List Held → List Held
+abbrev pub front : ℕ → List NumberedClause → List NumberedClause
 front room [] = []
 front room (e ∷ es) = if nat_le (length e.lits) room then e ∷ front (room - length e.lits) es else []
 
@@ -58,9 +58,9 @@ abbrev pub most_literals : ℕ
 most_literals = 1500
 
 -- what is told to all solvers of a job when these entries are exported
-abbrev pub broadcast : List Held → List Held
+abbrev pub broadcast : List NumberedClause → List NumberedClause
 broadcast exports = front most_literals (union exports)
 
 -- all entries of the buffers of a tree's nodes, by index
-abbrev pub entries_of : List (List Held) → List Held
+abbrev pub entries_of : List (List NumberedClause) → List NumberedClause
 entries_of buffers = flat_map (λ b. b) buffers

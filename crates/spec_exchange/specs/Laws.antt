@@ -1,48 +1,48 @@
 -- What holds of unions and fronts, in the form in which the law functions state it.
 use Rattle.std.specs.Prelude.{◌≡◌, ℕ, ◌+◌, ◌<◌, ◌≤◌, List, [], ◌∷◌, ◌++◌, length, sum_by, get_or}
 use Rattle.std.specs.Prelude.{slice_set}
-use Rattle.mal_base.specs.Held.{Held}
+use Rattle.mal_base.specs.NumberedClause.{NumberedClause}
 use Rattle.spec_exchange.specs.Exchange.{union, front, most_literals, broadcast, entries_of}
 use Rattle.spec_exchange.specs.Order.{IsSorted, least_id}
 
 -- the literals of entries, counted
-abbrev pub literals_in : List Held → ℕ
+abbrev pub literals_in : List NumberedClause → ℕ
 literals_in es = sum_by (λ e. length e.lits) es
 
 -- a union is sorted, and each list of literals has the number that is its least among the entries
 abbrev pub UnionIsSorted : Type 0
-UnionIsSorted = (es : List Held) → IsSorted (union es)
+UnionIsSorted = (es : List NumberedClause) → IsSorted (union es)
 
 abbrev pub UnionKeepsTheLeast : Type 0
-UnionKeepsTheLeast = (es : List Held) (lits : List ℕ) → least_id lits (union es) ≡ least_id lits es
+UnionKeepsTheLeast = (es : List NumberedClause) (lits : List ℕ) → least_id lits (union es) ≡ least_id lits es
 
 -- two sorted lists are equal where each list of literals has the same number in both, or in none
 abbrev pub SortedAreDecided : Type 0
 SortedAreDecided =
-    (xs ys : List Held) → IsSorted xs → IsSorted ys
+    (xs ys : List NumberedClause) → IsSorted xs → IsSorted ys
     → ((lits : List ℕ) → least_id lits xs ≡ least_id lits ys) → xs ≡ ys
 
 -- it does not matter which entries come first, nor whether some were united before
 abbrev pub OrderDoesNotMatter : Type 0
-OrderDoesNotMatter = (xs ys : List Held) → union (xs ++ ys) ≡ union (ys ++ xs)
+OrderDoesNotMatter = (xs ys : List NumberedClause) → union (xs ++ ys) ≡ union (ys ++ xs)
 
 abbrev pub UnionOfUnions : Type 0
-UnionOfUnions = (xs ys : List Held) → union (union xs ++ ys) ≡ union (xs ++ ys)
+UnionOfUnions = (xs ys : List NumberedClause) → union (union xs ++ ys) ≡ union (xs ++ ys)
 
 -- what is cut off early would be cut off at the end
 abbrev pub CutsEarly : Type 0
-CutsEarly = (room : ℕ) (xs ys : List Held) → front room (union (front room (union xs) ++ ys)) ≡ front room (union (xs ++ ys))
+CutsEarly = (room : ℕ) (xs ys : List NumberedClause) → front room (union (front room (union xs) ++ ys)) ≡ front room (union (xs ++ ys))
 
 -- what is told to all stays where the last of several buffers is merged into any other one and cut there
 abbrev pub MergesUp : Type 0
 MergesUp =
-    (buffers : List (List Held)) (place : ℕ) (last : List Held) → place < length buffers
+    (buffers : List (List NumberedClause)) (place : ℕ) (last : List NumberedClause) → place < length buffers
     → broadcast (entries_of (slice_set buffers place (front most_literals (union (get_or buffers place [] ++ last))))) ≡ broadcast (entries_of (buffers ++ last ∷ []))
 
 -- a front is a front that fits, and the entry behind it does not fit any more
-pub record IsLongestFront (room : ℕ) (es : List Held) : Type 0 where
+pub record IsLongestFront (room : ℕ) (es : List NumberedClause) : Type 0 where
   pub fits : literals_in (front room es) ≤ room
-  pub is_front : (rest : List Held) × (es ≡ front room es ++ rest) × ((e : Held) (others : List Held) → rest ≡ e ∷ others → room < literals_in (front room es) + length e.lits)
+  pub is_front : (rest : List NumberedClause) × (es ≡ front room es ++ rest) × ((e : NumberedClause) (others : List NumberedClause) → rest ≡ e ∷ others → room < literals_in (front room es) + length e.lits)
 
 abbrev pub FrontIsLongest : Type 0
-FrontIsLongest = (room : ℕ) (es : List Held) → IsLongestFront room es
+FrontIsLongest = (room : ℕ) (es : List NumberedClause) → IsLongestFront room es

@@ -2,16 +2,16 @@
 use Rattle.std.specs.Prelude.{◌≡◌, ℕ, min, List, [], ◌∷◌, Option, Some, None, if◌then◌else◌}
 use Rattle.std.specs.declared.cmp.Ordering.TheVariants.{Less}
 use Rattle.std.specs.Ordering.{is_eq}
-use Rattle.mal_base.specs.Held.{Held}
+use Rattle.mal_base.specs.NumberedClause.{NumberedClause}
 use Rattle.spec_exchange.specs.Exchange.{lits_cmp}
 
 -- these literals come before those of the first entry, if there is one
-abbrev pub IsBefore : List ℕ → List Held → Type 0
+abbrev pub IsBefore : List ℕ → List NumberedClause → Type 0
 IsBefore lits [] = Unit {0}
 IsBefore lits (x ∷ xs) = lits_cmp lits x.lits ≡ Less
 
 -- entries stand in order, no list of literals twice
-abbrev pub IsSorted : List Held → Type 0
+abbrev pub IsSorted : List NumberedClause → Type 0
 IsSorted [] = Unit {0}
 IsSorted (x ∷ xs) = IsBefore x.lits xs × IsSorted xs
 
@@ -22,10 +22,10 @@ least_of (Some a) None = Some a
 least_of (Some a) (Some b) = Some (min a b)
 
 -- the number of an entry, where it has these literals
-abbrev pub own_id : List ℕ → Held → Option ℕ
+abbrev pub own_id : List ℕ → NumberedClause → Option ℕ
 own_id lits e = if is_eq (lits_cmp lits e.lits) then Some e.id else None
 
 -- the least number of the entries with these literals, none where there is no such entry
-abbrev pub least_id : List ℕ → List Held → Option ℕ
+abbrev pub least_id : List ℕ → List NumberedClause → Option ℕ
 least_id lits [] = None
 least_id lits (e ∷ es) = least_of (own_id lits e) (least_id lits es)

@@ -3,11 +3,11 @@ use Rattle.std.proofs.Common.{◌≡◌, ℕ, ◌<◌, ◌≤◌, Bool, true, fa
 use Rattle.std.specs.List.{list_all}
 use Rattle.std.proofs.lemmas.Bool.{and_from, and_parts}
 use Rattle.mal_history.specs.declared.event.Share.{Share}
-use Rattle.spec_job.specs.Solo.{Exchanged}
+use Rattle.spec_job.specs.SoloMachine.{Exchanged}
 use Rattle.spec_hall.specs.Calls.{AreDue, arranges}
 use Rattle.spec_hall.proofs.BalanceLemmas.{seated-balance}
 use Rattle.spec_hall.proofs.MeasureLemmas.{calm-balanced}
-use Rattle.spec_job.specs.Titled.{Key}
+use Rattle.spec_job.specs.KeyedJob.{Key}
 use Rattle.spec_job.specs.Viewed.{and_own}
 use Rattle.spec_hall.specs.Events.{Event, Balance, Exchange}
 use Rattle.spec_hall.specs.Legal.{Allowed, Legal}

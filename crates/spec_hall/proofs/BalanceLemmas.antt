@@ -8,8 +8,8 @@ use Rattle.std.proofs.lemmas.List.Elements.{All-nil, All-cons}
 use Rattle.mal_base.specs.Asks.{Terms}
 use Rattle.mal_history.specs.declared.event.Share.{Share}
 use Rattle.spec_balance.specs.Fair.{IsFair, volume_at}
-use Rattle.spec_job.specs.Solo.{Volume}
-use Rattle.spec_job.specs.Titled.{Key, Titled, stepped}
+use Rattle.spec_job.specs.SoloMachine.{Volume}
+use Rattle.spec_job.specs.KeyedJob.{Key, KeyedJob, stepped}
 use Rattle.spec_job.specs.Viewed.{and_own}
 use Rattle.spec_hall.specs.Events.{Event, Balance, key_of}
 use Rattle.spec_hall.specs.Own.{is_key, volume_in}
@@ -43,7 +43,7 @@ shares-volumes n vs [] long = sym (drop-all n vs (omega (arith, long)))
     drop-all (suc m) (y ∷ ys) e = drop-all m ys (omega (arith, e))
 shares-volumes n vs (x ∷ xs) long = by_test (is_live_seat x) long (shares-volumes (n + 1) vs xs) (shares-volumes n vs xs)
   where
-    by_test : (a : Bool) → length vs ≡ n + length (map (λ (t : Titled). t.state.ask) (cond a (x.job.titled ∷ live_ones (jobs_in xs)) (live_ones (jobs_in xs)))) → (length vs ≡ (n + 1) + length (live_asks (jobs_in xs)) → map (λ (s : Share). s.volume) (shares_from (n + 1) vs xs) ≡ drop (n + 1) vs) → (length vs ≡ n + length (live_asks (jobs_in xs)) → map (λ (s : Share). s.volume) (shares_from n vs xs) ≡ drop n vs) → map (λ (s : Share). s.volume) (cond a (share_of (volume_at vs n) x ∷ shares_from (n + 1) vs xs) (shares_from n vs xs)) ≡ drop n vs
+    by_test : (a : Bool) → length vs ≡ n + length (map (λ (t : KeyedJob). t.state.ask) (cond a (x.job.titled ∷ live_ones (jobs_in xs)) (live_ones (jobs_in xs)))) → (length vs ≡ (n + 1) + length (live_asks (jobs_in xs)) → map (λ (s : Share). s.volume) (shares_from (n + 1) vs xs) ≡ drop (n + 1) vs) → (length vs ≡ n + length (live_asks (jobs_in xs)) → map (λ (s : Share). s.volume) (shares_from n vs xs) ≡ drop n vs) → map (λ (s : Share). s.volume) (cond a (share_of (volume_at vs n) x ∷ shares_from (n + 1) vs xs) (shares_from n vs xs)) ≡ drop n vs
     by_test true e later rest =
         let within : n < length vs = omega (arith, e) in
         let long : length vs ≡ (n + 1) + length (live_asks (jobs_in xs)) = omega (arith, e) in
@@ -84,13 +84,13 @@ balanced-jobs n vs (x ∷ xs) shares apart same =
     let m : ℕ = cond (is_live_seat x) (n + 1) n in
     let mine : volume_in x.job.titled.key shares ≡ cond (is_live_seat x) (volume_at vs n) 0 = same x.job.titled.key (or_left (is_key x.job.titled.key x.job.titled.key) (list_any (is_key x.job.titled.key) (seat_keys xs)) (is_key-same x.job.titled.key)) ∙ head-volume n vs x xs apart.0 in
     ap (λ (v : ℕ). stepped x.job.titled (Volume v) ∷ jobs_in (balanced_from m vs xs)) (sym mine)
-    ∙ ap (λ (ts : List Titled). given shares x.job.titled ∷ ts) (balanced-jobs m vs xs shares apart.1 behind)
+    ∙ ap (λ (ts : List KeyedJob). given shares x.job.titled ∷ ts) (balanced-jobs m vs xs shares apart.1 behind)
   where
     behind : (j : Key) → list_any (is_key j) (seat_keys xs) ≡ true → volume_in j shares ≡ volume_in j (shares_from (cond (is_live_seat x) (n + 1) n) vs xs)
     behind j stands = same j (or_right (is_key j x.job.titled.key) (list_any (is_key j) (seat_keys xs)) stands) ∙ tail-volume n vs x xs j (is_key-back x.job.titled.key j (key-differs (seat_keys xs) x.job.titled.key j apart.0 stands))
 
 -- what a balancing notes of a job is read of the live jobs
-balanced-read : {X : Type 0} (f : Seat → X) (g : Titled → X) (keeps : (x : Seat) (v : ℕ) → f (balanced_seat v x) ≡ g x.job.titled) (n : ℕ) (vs : List ℕ) (ss : List Seat) → map f (listed_seats (balanced_from n vs ss)) ≡ map g (live_ones (jobs_in ss))
+balanced-read : {X : Type 0} (f : Seat → X) (g : KeyedJob → X) (keeps : (x : Seat) (v : ℕ) → f (balanced_seat v x) ≡ g x.job.titled) (n : ℕ) (vs : List ℕ) (ss : List Seat) → map f (listed_seats (balanced_from n vs ss)) ≡ map g (live_ones (jobs_in ss))
 balanced-read f g keeps n vs [] = refl
 balanced-read {X} f g keeps n vs (x ∷ xs) = by_test (is_live_seat x) (balanced_seat (volume_at vs n) x) (keeps x (volume_at vs n)) (balanced-read f g keeps (cond (is_live_seat x) (n + 1) n) vs xs)
   where
@@ -125,7 +125,7 @@ balanced-others n vs (x ∷ xs) = All-cons HasNoneUnlisted (balanced_seat (volum
 
 balanced-fair : (w : ℕ) (vs : List ℕ) (ss : List Seat) → IsFair w (live_asks (jobs_in ss)) vs → HaveVolumes w (balanced_by vs ss)
 balanced-fair w vs ss fair =
-    let asks : listed_asks (balanced_by vs ss) ≡ live_asks (jobs_in ss) = balanced-read (λ (s : Seat). s.noted) (λ (t : Titled). t.state.ask) (λ x v. refl) 0 vs ss in
+    let asks : listed_asks (balanced_by vs ss) ≡ live_asks (jobs_in ss) = balanced-read (λ (s : Seat). s.noted) (λ (t : KeyedJob). t.state.ask) (λ x v. refl) 0 vs ss in
     let volumes : listed_volumes (balanced_by vs ss) ≡ vs = balanced-volumes 0 vs ss ∙ shares-fair w vs ss fair in
     record {
       fair = subst (λ (asks : List Terms). IsFair w asks (listed_volumes (balanced_by vs ss))) (sym asks) (subst (IsFair w (live_asks (jobs_in ss))) (sym volumes) fair);
@@ -136,8 +136,8 @@ balanced-fair w vs ss fair =
 pub balance-allowed : (w : ℕ) (h : List Event) (ss : List Seat) (vs : List ℕ) → IsSeated w h ss → IsFair w (live_asks (jobs_in ss)) vs → is_due ss ≡ true → Allowed w h (Balance (shares_by vs ss))
 balance-allowed w h ss vs seated fair due = record {
   due = seated-due w h ss seated due;
-  keys = shares-keys 0 vs ss ∙ ap (λ (ts : List Titled). live_keys (lives ts)) (sym seated.jobs);
-  fair = subst (λ (ts : List Titled). IsFair w (live_asks ts) (map (λ (s : Share). s.volume) (shares_by vs ss))) (sym seated.jobs) (subst (IsFair w (live_asks (jobs_in ss))) (sym (shares-fair w vs ss fair)) fair);
+  keys = shares-keys 0 vs ss ∙ ap (λ (ts : List KeyedJob). live_keys (lives ts)) (sym seated.jobs);
+  fair = subst (λ (ts : List KeyedJob). IsFair w (live_asks ts) (map (λ (s : Share). s.volume) (shares_by vs ss))) (sym seated.jobs) (subst (IsFair w (live_asks (jobs_in ss))) (sym (shares-fair w vs ss fair)) fair);
 }
 
 -- and the jobs stay in their seats

@@ -6,7 +6,7 @@ use Rattle.mal_base.specs.Asks.{Terms}
 use Rattle.mal_revision.specs.Posted.{Posted}
 use Rattle.spec_node.specs.Load.{counted}
 use Rattle.spec_job.specs.Leased.{Finished}
-use Rattle.spec_job.specs.Titled.{Key}
+use Rattle.spec_job.specs.KeyedJob.{Key}
 use Rattle.spec_hall.specs.declared.fault.OpenFault.{OpenFault}
 use Rattle.spec_hall.specs.declared.fault.OpenFault.TheVariants as opening
 use Rattle.spec_hall.specs.declared.fault.ReviseFault.{ReviseFault}
@@ -20,7 +20,7 @@ use Rattle.spec_hall.specs.declared.fault.ReplyFault.TheVariants as asking
 use Rattle.spec_hall.specs.Calls.{AnswerTo, Back, Call, CallIsLegal, Closes, Finishes, Idle, AllDone, Leased, Opens, Asks, Picks, Recalls, Revises, IsCall, Offer, Return, Strange, lost_of, recalled, IsOfLease, IsOpening, IsRevising, IsClosing, IsPicking, IsReturning, IsAsking}
 use Rattle.spec_hall.specs.Events.{Event, Open, Revise, Close, Start, Finish}
 use Rattle.spec_hall.specs.Legal.{Allowed, Legal}
-use Rattle.spec_hall.specs.States.{Held, leases, lease_of}
+use Rattle.spec_hall.specs.States.{LeaseOut, leases, lease_of}
 use Rattle.spec_hall.proofs.PushLemmas.{Legal-push, leases-push}
 use Rattle.spec_hall.proofs.LeasesLemmas.{lease-worker, without}
 use Rattle.spec_hall.proofs.SpotLemmas.{without-other}
@@ -61,28 +61,28 @@ pick-legal w past worker (Err picking.Busy) es legal is = none-legal w past es l
 pick-legal w past worker (Err picking.OutOfMemory) es legal is = due-legal w past es legal is.due
 
 -- a lease that is found is of the worker
-held-is : (w : ℕ) (past : List Event) (worker : ℕ) (l : Held) → 1 ≤ w → w ≤ 64 → Legal w past → lease_of worker (leases past) ≡ Some l → lease_of worker (leases past) ≡ Some (record { worker = worker; key = l.key; index = l.index })
-held-is w past worker l some bound legal e = e ∙ ap (λ (v : ℕ). let o : Option Held = Some (record { worker = v; key = l.key; index = l.index }) in o) (lease-worker w past worker l some bound legal e).0
+held-is : (w : ℕ) (past : List Event) (worker : ℕ) (l : LeaseOut) → 1 ≤ w → w ≤ 64 → Legal w past → lease_of worker (leases past) ≡ Some l → lease_of worker (leases past) ≡ Some (record { worker = worker; key = l.key; index = l.index })
+held-is w past worker l some bound legal e = e ∙ ap (λ (v : ℕ). let o : Option LeaseOut = Some (record { worker = v; key = l.key; index = l.index }) in o) (lease-worker w past worker l some bound legal e).0
 
 return-legal : (w : ℕ) (past : List Event) (d : Finished) (r : Return) (es : List Event) → 1 ≤ w → w ≤ 64 → Legal w past → IsReturning past d r es → Legal w (past ++ es)
 return-legal w past d Back es some bound legal (l, of, is) = one-legal w past es (Finish l.key l.index d.worker d.outcome) legal (held-is w past d.worker l some bound legal of.out) is
 return-legal w past d (Strange kept) es some bound legal is = none-legal w past es legal is.2
 
 -- all leases of the workers from one on are lost
-lost-legal : (w : ℕ) (past : List Event) (out : List Held) (first n : ℕ) → 1 ≤ w → w ≤ 64 → Legal w past → ((v : ℕ) → first ≤ v → lease_of v out ≡ lease_of v (leases past)) → Legal w (past ++ flat_map (lost_of out) (counted first n))
+lost-legal : (w : ℕ) (past : List Event) (out : List LeaseOut) (first n : ℕ) → 1 ≤ w → w ≤ 64 → Legal w past → ((v : ℕ) → first ≤ v → lease_of v out ≡ lease_of v (leases past)) → Legal w (past ++ flat_map (lost_of out) (counted first n))
 lost-legal w past out first zero some bound legal same = subst (Legal w) (sym (append-nil past)) legal
 lost-legal w past out first (suc n) some bound legal same = by_lease (λ h l q. lost-legal w h out (first + 1) n some bound l q) (lease_of first out) refl
   where
     rest : List Event
     rest = flat_map (lost_of out) (counted (first + 1) n)
 
-    lost_by : Option Held → List Event
+    lost_by : Option LeaseOut → List Event
     lost_by o = option_map_or (λ l. Finish l.key l.index first Lost ∷ []) o []
 
     Rest : Type 0
     Rest = (h : List Event) → Legal w h → ((v : ℕ) → first + 1 ≤ v → lease_of v out ≡ lease_of v (leases h)) → Legal w (h ++ rest)
 
-    by_lease : Rest → (o : Option Held) → lease_of first out ≡ o → Legal w (past ++ (lost_by o ++ rest))
+    by_lease : Rest → (o : Option LeaseOut) → lease_of first out ≡ o → Legal w (past ++ (lost_by o ++ rest))
     by_lease later None e = later past legal (λ v low. same v (omega (arith, low)))
     by_lease later (Some l) e =
         let mine : lease_of first (leases past) ≡ Some l = sym (same first (omega arith)) ∙ e in

@@ -4,12 +4,12 @@ use Rattle.std.specs.Prelude.{Result, Ok, Err}
 use Rattle.std.specs.List.{list_all}
 use Rattle.std.proofs.lemmas.Bool.{and_parts, both_ways, eqb-true}
 use Rattle.mal_base.specs.Asks.{Terms}
-use Rattle.mal_base.specs.declared.which.Which.{Which}
-use Rattle.mal_base.specs.declared.which.Which.TheVariants.{Variables, Clauses, Literals, Tenants, Jobs, Revisions}
+use Rattle.mal_base.specs.declared.limit_kind.LimitKind.{LimitKind}
+use Rattle.mal_base.specs.declared.limit_kind.LimitKind.TheVariants.{Variables, Clauses, Literals, Tenants, Jobs, Revisions}
 use Rattle.mal_revision.specs.Posted.{Posted}
 use Rattle.spec_job.specs.Leased.{Finished}
 use Rattle.spec_job.specs.Replies.{reply}
-use Rattle.spec_job.specs.Titled.{Key, Titled}
+use Rattle.spec_job.specs.KeyedJob.{Key, KeyedJob}
 use Rattle.spec_hall.specs.declared.fault.OpenFault.{OpenFault}
 use Rattle.spec_hall.specs.declared.fault.OpenFault.TheVariants as opening
 use Rattle.spec_hall.specs.declared.fault.ReviseFault.{ReviseFault}
@@ -25,7 +25,7 @@ use Rattle.spec_hall.specs.Driven.{IsCalm, is_done}
 use Rattle.spec_hall.specs.Events.{Event, Open, Revise, Close, Balance, Start, Finish, Exchange}
 use Rattle.spec_hall.specs.Legal.{Allowed, LegalFrom, MayRevise, job_of}
 use Rattle.spec_hall.specs.Room.{IsOver}
-use Rattle.spec_hall.specs.States.{Held, leases, lease_of, picked, states}
+use Rattle.spec_hall.specs.States.{LeaseOut, leases, lease_of, picked, states}
 use Rattle.spec_hall.proofs.DrivenLemmas.{balances-decided, exchanges-decided, nodes-decided}
 
 -- what is there is not absent
@@ -129,7 +129,7 @@ starting-waits w past worker lease es fs a b =
 over-none : (past : List Event) (worker : ℕ) → is_over past ≡ true → is_some (lease_of worker (leases past)) ≡ true → ⊥
 over-none past worker over there = by_leases (leases past) refl there
   where
-    by_leases : (ls : List Held) → leases past ≡ ls → is_some (lease_of worker ls) ≡ true → ⊥
+    by_leases : (ls : List LeaseOut) → leases past ≡ ls → is_some (lease_of worker ls) ≡ true → ⊥
     by_leases [] e t = absurd (cc)
     by_leases (l ∷ ls) e t = let none : length (l ∷ ls) ≡ 0 = eqb-true (length (l ∷ ls)) 0 (and_parts (is_done (states past)) (length (l ∷ ls) == 0) (rw e at over)).1 in absurd (omega (arith, none))
 
@@ -170,7 +170,7 @@ picks-decided w past worker (Err picking.OutOfMemory) (Err picking.OutOfMemory) 
 returns-decided : (w : ℕ) (past : List Event) (d : Finished) (one other : Return) (es fs : List Event) → IsReturning past d one es → IsReturning past d other fs → Decided (Finishes d) one other es fs
 returns-decided w past d Back Back es fs a b =
     let same : a.0 ≡ b.0 = found-same (lease_of d.worker (leases past)) a.0 b.0 a.1.out b.1.out in
-    (refl, λ m. a.2 ∙ (ap (λ (l : Held). Finish l.key l.index d.worker d.outcome ∷ []) same ∙ sym b.2))
+    (refl, λ m. a.2 ∙ (ap (λ (l : LeaseOut). Finish l.key l.index d.worker d.outcome ∷ []) same ∙ sym b.2))
 returns-decided w past d Back (Strange kept) es fs a b = absurd (b.0 a.0 a.1)
 returns-decided w past d (Strange kept) Back es fs a b = absurd (a.0 b.0 b.1)
 returns-decided w past d (Strange kept) (Strange left) es fs a b = (ap Strange (a.1 ∙ sym b.1), λ m. no-events es fs a.2 b.2)
@@ -179,7 +179,7 @@ returns-decided w past d (Strange kept) (Strange left) es fs a b = (ap Strange (
 asks-decided : (w : ℕ) (past : List Event) (k : Key) (r : ℕ) (one other : Result (Option (List ℕ)) ReplyFault) (es fs : List Event) → IsAsking past k r one es → IsAsking past k r other fs → wanted (Asks k r) one ≡ wanted (Asks k r) other → Decided (Asks k r) one other es fs
 asks-decided w past k r (Ok one) (Ok other) es fs a b same =
     let job : a.0 ≡ b.0 = found-same (job_of k (states past)) a.0 b.0 a.1 b.1 in
-    (ap Ok (a.2 ∙ (ap (λ (t : Titled). reply k r t.state) job ∙ sym b.2)), λ m. no-events es fs a.3 b.3)
+    (ap Ok (a.2 ∙ (ap (λ (t : KeyedJob). reply k r t.state) job ∙ sym b.2)), λ m. no-events es fs a.3 b.3)
 asks-decided w past k r (Ok one) (Err asking.NoJob) es fs a b same = absurd (found-not (job_of k (states past)) a.0 a.1 b.0)
 asks-decided w past k r (Ok one) (Err asking.OutOfMemory) es fs a b same = absurd (cc)
 asks-decided w past k r (Err asking.NoJob) (Ok other) es fs a b same = absurd (found-not (job_of k (states past)) b.0 b.1 a.0)
@@ -190,8 +190,8 @@ asks-decided w past k r (Err asking.OutOfMemory) (Err asking.NoJob) es fs a b sa
 asks-decided w past k r (Err asking.OutOfMemory) (Err asking.OutOfMemory) es fs a b same = (refl, λ m. absurd (cc))
 
 -- a job is not both closed and open
-closed-open : (t u : Titled) → t ≡ u → t.state.closed ≡ true → u.state.closed ≡ false → ⊥
-closed-open t u same closed open_still = both_ways u.state.closed open_still (ap (λ (x : Titled). x.state.closed) (sym same) ∙ closed)
+closed-open : (t u : KeyedJob) → t ≡ u → t.state.closed ≡ true → u.state.closed ≡ false → ⊥
+closed-open t u same closed open_still = both_ways u.state.closed open_still (ap (λ (x : KeyedJob). x.state.closed) (sym same) ∙ closed)
 
 -- so is a close
 closes-decided : (w : ℕ) (past : List Event) (k : Key) (one other : Result (Unit {0}) CloseFault) (es fs : List Event) → IsClosing past k one es → IsClosing past k other fs → Decided (Closes k) one other es fs
@@ -236,7 +236,7 @@ opens-decided w past k ask (Err opening.OutOfMemory) (Err opening.HallFull) es f
 opens-decided w past k ask (Err opening.OutOfMemory) (Err opening.OutOfMemory) es fs a b same = (refl, λ m. absurd (cc))
 
 -- a job has more of one thing than it may have
-over-decided : (which other : Which) (rs : List Posted) (r : Posted) → IsOver which rs r → IsOver other rs r → which ≡ other
+over-decided : (which other : LimitKind) (rs : List Posted) (r : Posted) → IsOver which rs r → IsOver other rs r → which ≡ other
 over-decided Variables other rs r a b = absurd a
 over-decided Tenants other rs r a b = absurd a
 over-decided Jobs other rs r a b = absurd a
@@ -255,7 +255,7 @@ over-decided Literals Jobs rs r a b = absurd b
 over-decided Literals Revisions rs r a b = absurd b
 
 -- where a revision may come a job has no more than it may have
-over-room : (which : Which) (past : List Event) (k : Key) (number : ℕ) (r : Posted) (t : Titled) → MayRevise past k number r t → IsOver which t.state.revisions r → ⊥
+over-room : (which : LimitKind) (past : List Event) (k : Key) (number : ℕ) (r : Posted) (t : KeyedJob) → MayRevise past k number r t → IsOver which t.state.revisions r → ⊥
 over-room Variables past k number r t may over = over
 over-room Clauses past k number r t may over = omega (arith, may.clause_room, over)
 over-room Literals past k number r t may over = omega (arith, may.literal_room, over.1)
@@ -264,27 +264,27 @@ over-room Jobs past k number r t may over = over
 over-room Revisions past k number r t may over = over
 
 -- of the other causes of a refusal none holds where a revision may come, and no two hold
-few-full : (t u : Titled) → t ≡ u → length t.state.revisions < 256 → 256 ≤ length u.state.revisions → ⊥
-few-full t u same few full = let equal : length t.state.revisions ≡ length u.state.revisions = ap (λ (x : Titled). length x.state.revisions) same in omega (arith, few, full, equal)
+few-full : (t u : KeyedJob) → t ≡ u → length t.state.revisions < 256 → 256 ≤ length u.state.revisions → ⊥
+few-full t u same few full = let equal : length t.state.revisions ≡ length u.state.revisions = ap (λ (x : KeyedJob). length x.state.revisions) same in omega (arith, few, full, equal)
 
-may-over : (which : Which) (past : List Event) (k : Key) (number : ℕ) (r : Posted) (t u : Titled) → t ≡ u → MayRevise past k number r t → IsOver which u.state.revisions r → ⊥
-may-over which past k number r t u same may over = over-room which past k number r t may (subst (λ (x : Titled). IsOver which x.state.revisions r) (sym same) over)
+may-over : (which : LimitKind) (past : List Event) (k : Key) (number : ℕ) (r : Posted) (t u : KeyedJob) → t ≡ u → MayRevise past k number r t → IsOver which u.state.revisions r → ⊥
+may-over which past k number r t u same may over = over-room which past k number r t may (subst (λ (x : KeyedJob). IsOver which x.state.revisions r) (sym same) over)
 
-may-few : (past : List Event) (k : Key) (r : Posted) (t : Titled) → MayRevise past k (length t.state.revisions + 1) r t → length t.state.revisions < 256
+may-few : (past : List Event) (k : Key) (r : Posted) (t : KeyedJob) → MayRevise past k (length t.state.revisions + 1) r t → length t.state.revisions < 256
 may-few past k r t may = omega (arith, may.room)
 
 -- so is a revision
 revises-decided : (w : ℕ) (past : List Event) (k : Key) (r : Posted) (one other : Result (Unit {0}) ReviseFault) (es fs : List Event) → IsRevising past k r one es → IsRevising past k r other fs → wanted (Revises k r) one ≡ wanted (Revises k r) other → Decided (Revises k r) one other es fs
 revises-decided w past k r one other es fs a b same = by_answers one other a b same
   where
-    one-job : (t u : Titled) → job_of k (states past) ≡ Some t → job_of k (states past) ≡ Some u → t ≡ u
+    one-job : (t u : KeyedJob) → job_of k (states past) ≡ Some t → job_of k (states past) ≡ Some u → t ≡ u
     one-job t u p q = found-same (job_of k (states past)) t u p q
 
-    no-job : (t : Titled) → job_of k (states past) ≡ Some t → job_of k (states past) ≡ None → ⊥
+    no-job : (t : KeyedJob) → job_of k (states past) ≡ Some t → job_of k (states past) ≡ None → ⊥
     no-job t p q = found-not (job_of k (states past)) t p q
 
     by_answers : (x y : Result (Unit {0}) ReviseFault) → IsRevising past k r x es → IsRevising past k r y fs → wanted (Revises k r) x ≡ wanted (Revises k r) y → Decided (Revises k r) x y es fs
-    by_answers (Ok done) (Ok made) p q m = (refl, λ n. p.2 ∙ (ap (λ (t : Titled). Revise k (length t.state.revisions + 1) r ∷ []) (one-job p.0 q.0 p.1.job q.1.job) ∙ sym q.2))
+    by_answers (Ok done) (Ok made) p q m = (refl, λ n. p.2 ∙ (ap (λ (t : KeyedJob). Revise k (length t.state.revisions + 1) r ∷ []) (one-job p.0 q.0 p.1.job q.1.job) ∙ sym q.2))
     by_answers (Ok done) (Err revising.NoJob) p q m = absurd (no-job p.0 p.1.job q.0)
     by_answers (Ok done) (Err revising.Closed) p q m = absurd (closed-open q.0 p.0 (one-job q.0 p.0 q.1 p.1.job) q.2 p.1.open_still)
     by_answers (Ok done) (Err revising.RevisionsFull) p q m = absurd (few-full p.0 q.0 (one-job p.0 q.0 p.1.job q.1) (may-few past k r p.0 p.1) q.3)
@@ -312,7 +312,7 @@ revises-decided w past k r one other es fs a b same = by_answers one other a b s
     by_answers (Err (revising.JobFull which)) (Err revising.NoJob) p q m = absurd (no-job p.0 p.1 q.0)
     by_answers (Err (revising.JobFull which)) (Err revising.Closed) p q m = absurd (closed-open q.0 p.0 (one-job q.0 p.0 q.1 p.1) q.2 p.2)
     by_answers (Err (revising.JobFull which)) (Err revising.RevisionsFull) p q m = absurd (few-full p.0 q.0 (one-job p.0 q.0 p.1 q.1) p.3 q.3)
-    by_answers (Err (revising.JobFull which)) (Err (revising.JobFull other)) p q m = (ap (λ (x : Which). Err (revising.JobFull x)) (over-decided which other p.0.state.revisions r p.4 (subst (λ (t : Titled). IsOver other t.state.revisions r) (one-job q.0 p.0 q.1 p.1) q.4)), λ n. no-events es fs p.5 q.5)
+    by_answers (Err (revising.JobFull which)) (Err (revising.JobFull other)) p q m = (ap (λ (x : LimitKind). Err (revising.JobFull x)) (over-decided which other p.0.state.revisions r p.4 (subst (λ (t : KeyedJob). IsOver other t.state.revisions r) (one-job q.0 p.0 q.1 p.1) q.4)), λ n. no-events es fs p.5 q.5)
     by_answers (Err (revising.JobFull which)) (Err revising.OutOfMemory) p q m = absurd (cc)
     by_answers (Err revising.OutOfMemory) (Ok made) p q m = absurd (cc)
     by_answers (Err revising.OutOfMemory) (Err revising.NoJob) p q m = absurd (cc)

@@ -5,8 +5,8 @@ use Rattle.std.specs.Option.{option_map_or}
 use Rattle.std.proofs.lemmas.List.Elements.{All-nil, All-head, All-tail, All-weaker, All-push}
 use Rattle.std.proofs.lemmas.Option.{get_or_from_slice_get}
 use Rattle.mal_revision.specs.Posted.{Posted}
-use Rattle.spec_job.specs.Solo.{Own, Opened, Revised, Closed, Volume, Started, Finished, Exchanged, Solo, solo, solo_step}
-use Rattle.spec_job.specs.Titled.{Key, Titled}
+use Rattle.spec_job.specs.SoloMachine.{Own, Opened, Revised, Closed, Volume, Started, Finished, Exchanged, SoloMachine, solo, solo_step}
+use Rattle.spec_job.specs.KeyedJob.{Key, KeyedJob}
 use Rattle.spec_job.proofs.StepLemmas.{start-keeps, finish-keeps}
 use Rattle.spec_hall.specs.Events.{Event, Open, Revise, Close, Balance, Start, Finish, Exchange, bare}
 use Rattle.spec_hall.specs.Own.{own, own_step, adds, adds_volume, is_key, volume_in, volume_after}
@@ -28,7 +28,7 @@ grows-same : (xs ys : List Posted) → ys ≡ xs → Grows xs ys
 grows-same xs ys e = record { more = []; is = e ∙ sym (append-nil xs) }
 
 -- an own event leaves the revisions or adds one
-step-grows : (s : Solo) (o : Own) → Grows s.revisions (solo_step s o).revisions
+step-grows : (s : SoloMachine) (o : Own) → Grows s.revisions (solo_step s o).revisions
 step-grows s (Opened ask) = grows-same s.revisions s.revisions refl
 step-grows s (Revised r) = record { more = r ∷ []; is = (revise-keeps s r).revisions }
 step-grows s Closed = grows-same s.revisions s.revisions refl
@@ -38,7 +38,7 @@ step-grows s (Finished i o) = grows-same s.revisions (solo_step s (Finished i o)
 step-grows s Exchanged = grows-same s.revisions s.revisions refl
 
 push-grows : (es : List Own) (o : Own) → Grows (solo es).revisions (solo (es ++ o ∷ [])).revisions
-push-grows es o = subst (λ (s : Solo). Grows (solo es).revisions s.revisions) (sym (solo-push es o)) (step-grows (solo es) o)
+push-grows es o = subst (λ (s : SoloMachine). Grows (solo es).revisions s.revisions) (sym (solo-push es o)) (step-grows (solo es) o)
 
 adds-grows : (mine : Bool) (es : List Own) (o : Own) → Grows (solo es).revisions (solo (adds mine es o)).revisions
 adds-grows true es o = push-grows es o
@@ -62,9 +62,9 @@ event-grows j es (Exchange k) = adds-grows (is_key j k) es Exchanged
 
 -- the revisions under a key are those of its machine, where it was opened
 revisions-states : (past : List Event) (k : Key) → revisions_of k (states past) ≡ (if list_any (is_key k) (keys_of past) then (solo (own k past)).revisions else [])
-revisions-states past k = ap (λ (o : Option Titled). option_map_or (λ (t : Titled). t.state.revisions) o []) (job_of-states past k) ∙ by_test (list_any (is_key k) (keys_of past))
+revisions-states past k = ap (λ (o : Option KeyedJob). option_map_or (λ (t : KeyedJob). t.state.revisions) o []) (job_of-states past k) ∙ by_test (list_any (is_key k) (keys_of past))
   where
-    by_test : (b : Bool) → option_map_or (λ (t : Titled). t.state.revisions) (cond b (Some (titled past k)) None) [] ≡ cond b (solo (own k past)).revisions []
+    by_test : (b : Bool) → option_map_or (λ (t : KeyedJob). t.state.revisions) (cond b (Some (titled past k)) None) [] ≡ cond b (solo (own k past)).revisions []
     by_test true = refl
     by_test false = refl
 
@@ -112,14 +112,14 @@ held-stays past e (Finish k index worker outcome) h = tt
 held-stays past e (Exchange k) h = tt
 
 -- a revision that comes is held
-revise-held : (past : List Event) (k : Key) (number : ℕ) (r : Posted) (t : Titled) → MayRevise past k number r t → IsHeld (past ++ Revise k number r ∷ []) (Revise k number r)
+revise-held : (past : List Event) (k : Key) (number : ℕ) (r : Posted) (t : KeyedJob) → MayRevise past k number r t → IsHeld (past ++ Revise k number r ∷ []) (Revise k number r)
 revise-held past k number r t may =
     let found : IsFound past k t = job_of-found past k t may.job in
-    let s : Solo = solo (own k past) in
-    let same : length t.state.revisions ≡ length s.revisions = ap (λ (x : Titled). length x.state.revisions) (sym found.machine) in
+    let s : SoloMachine = solo (own k past) in
+    let same : length t.state.revisions ≡ length s.revisions = ap (λ (x : KeyedJob). length x.state.revisions) (sym found.machine) in
     let place : number - 1 ≡ length s.revisions = omega (arith, may.next, same) in
     let mine : own k (past ++ Revise k number r ∷ []) ≡ own k past ++ Revised r ∷ [] = own-push k past (Revise k number r) ∙ ap (λ (b : Bool). adds b (own k past) (Revised r)) (is_key-same k) in
-    let machine : (solo (own k (past ++ Revise k number r ∷ []))).revisions ≡ s.revisions ++ r ∷ [] = ap (λ (es : List Own). (solo es).revisions) mine ∙ (ap (λ (x : Solo). x.revisions) (solo-push (own k past) (Revised r)) ∙ (revise-keeps s r).revisions) in
+    let machine : (solo (own k (past ++ Revise k number r ∷ []))).revisions ≡ s.revisions ++ r ∷ [] = ap (λ (es : List Own). (solo es).revisions) mine ∙ (ap (λ (x : SoloMachine). x.revisions) (solo-push (own k past) (Revised r)) ∙ (revise-keeps s r).revisions) in
     let opened : list_any (is_key k) (keys_of (past ++ Revise k number r ∷ [])) ≡ true = ap (list_any (is_key k)) (keys-push past (Revise k number r)) ∙ found.opened in
     let all : revisions_of k (states (past ++ Revise k number r ∷ [])) ≡ s.revisions ++ r ∷ [] = revisions-states (past ++ Revise k number r ∷ []) k ∙ (ap (λ (b : Bool). cond b (solo (own k (past ++ Revise k number r ∷ []))).revisions []) opened ∙ machine) in
     ap (λ (xs : List Posted). slice_get xs (number - 1)) all ∙ (ap (slice_get (s.revisions ++ r ∷ [])) place ∙ slice_get-end s.revisions r)
@@ -158,4 +158,4 @@ legal-is_dressed w h legal = events-dressed h h (legal_from-keeps w (λ (past : 
 
 -- so is that of a hall whose jobs are in their seats
 pub seated-dressed : (w : ℕ) (h : List Event) (ss : List Seat) → IsSeated w h ss → map (dressed (jobs_in ss)) (map bare h) ≡ h
-seated-dressed w h ss seated = ap (λ (jobs : List Titled). map (dressed jobs) (map bare h)) (sym seated.jobs) ∙ legal-is_dressed w h seated.legal
+seated-dressed w h ss seated = ap (λ (jobs : List KeyedJob). map (dressed jobs) (map bare h)) (sym seated.jobs) ∙ legal-is_dressed w h seated.legal

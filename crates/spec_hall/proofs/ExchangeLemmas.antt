@@ -1,6 +1,6 @@
 use Rattle.std.proofs.Common.{◌≡◌, ℕ, suc, Bool, true, false, cond, List, [], ◌∷◌, ◌++◌, slice_get, slice_set, Option, Some, None, refl, ◌∙◌, ap, subst}
 use Rattle.std.specs.Option.{option_map}
-use Rattle.spec_job.specs.Solo.{Exchanged, is_exchange_due}
+use Rattle.spec_job.specs.SoloMachine.{Exchanged, is_exchange_due}
 use Rattle.spec_job.specs.Viewed.{and_own}
 use Rattle.spec_hall.specs.Events.{Event, Exchange}
 use Rattle.spec_hall.specs.States.{states, exchange_due}

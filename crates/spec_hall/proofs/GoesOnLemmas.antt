@@ -16,8 +16,8 @@ use Rattle.mal_base.specs.declared.verdict.Outcome.TheVariants.{Ran, Starved, Lo
 use Rattle.spec_node.specs.State.{Node}
 use Rattle.spec_node.specs.Model.{model_of}
 use Rattle.spec_job.specs.Journal.{replay}
-use Rattle.spec_job.specs.Solo.{Own, Opened, Revised, Closed, Volume, Started, Finished, Exchanged, Solo, Place, Lease, vacant, current, is_live, is_for, out_count, place_at, with_place, solo, solo_step, startable, answered, spend, starve, conclude, first_empty, settled_by, is_late, finished_home, finished_lease, finished}
-use Rattle.spec_job.specs.Titled.{Key, Titled}
+use Rattle.spec_job.specs.SoloMachine.{Own, Opened, Revised, Closed, Volume, Started, Finished, Exchanged, SoloMachine, NodeSlot, Lease, vacant, current, is_live, is_for, out_count, place_at, with_place, solo, solo_step, startable, answered, spend, starve, conclude, first_empty, settled_by, is_late, finished_home, finished_lease, finished}
+use Rattle.spec_job.specs.KeyedJob.{Key, KeyedJob}
 use Rattle.spec_hall.specs.Driven.{IsIdle, IsAtEnd, is_done}
 use Rattle.spec_hall.specs.Events.{Event, Open, Revise, Close, Balance, Start, Finish, Exchange}
 use Rattle.spec_hall.specs.Own.{own, own_step, adds, adds_volume, is_key, volume_in, volume_after}
@@ -38,13 +38,13 @@ use Rattle.spec_hall.proofs.OutLemmas.{is_out}
 use Rattle.spec_hall.proofs.LeasesLemmas.{legal-leases}
 
 -- a job has slices left for its current revision
-abbrev HasBudget : Solo → Type 0
+abbrev HasBudget : SoloMachine → Type 0
 HasBudget s = s.spent < s.ask.slices
 
-answered-budget : (s : Solo) (a : Answer) → HasBudget s → HasBudget (answered s a)
+answered-budget : (s : SoloMachine) (a : Answer) → HasBudget s → HasBudget (answered s a)
 answered-budget s a h = omega (arith, h)
 
-spend-budget : (s : Solo) → HasBudget s → HasBudget (spend s)
+spend-budget : (s : SoloMachine) → HasBudget s → HasBudget (spend s)
 spend-budget s h = by_test (s.spent + 1 == s.ask.slices) refl
   where
     short : (a b : ℕ) → (a + 1 ≡ b → ⊥) → a < b → a + 1 < b
@@ -54,29 +54,29 @@ spend-budget s h = by_test (s.spent + 1 == s.ask.slices) refl
     by_test true e = answered-budget s (Spent s.ask.slices) h
     by_test false e = short s.spent s.ask.slices (eqb-false (s.spent + 1) s.ask.slices e) h
 
-starve-budget : (s : Solo) → HasBudget s → HasBudget (starve s)
+starve-budget : (s : SoloMachine) → HasBudget s → HasBudget (starve s)
 starve-budget s h = by_test (s.starved + 1 == 3)
   where
     by_test : (b : Bool) → HasBudget (cond b (answered s OutOfStarts) (record s { starved = s.starved + 1 }))
     by_test true = answered-budget s OutOfStarts h
     by_test false = h
 
-conclude-budget : (v : Option Verdict) (n : Node) (s : Solo) → HasBudget s → HasBudget (conclude v n s)
+conclude-budget : (v : Option Verdict) (n : Node) (s : SoloMachine) → HasBudget s → HasBudget (conclude v n s)
 conclude-budget None n s h = spend-budget s h
 conclude-budget (Some Satisfiable) n s h = answered-budget s (Satisfied (model_of n)) h
 conclude-budget (Some (Unsatisfiable goal)) n s h = answered-budget s (Refuted goal) h
 
-settled-budget : (o : Option ℕ) (s : Solo) → HasBudget s → HasBudget (settled_by o s)
+settled-budget : (o : Option ℕ) (s : SoloMachine) → HasBudget s → HasBudget (settled_by o s)
 settled-budget None s h = h
 settled-budget (Some goal) s h = omega (arith, h)
 
-lease-budget : (s : Solo) (i : ℕ) (p : Place) (l : Lease) (o : Outcome) → HasBudget s → HasBudget (finished_lease s i p l o)
+lease-budget : (s : SoloMachine) (i : ℕ) (p : NodeSlot) (l : Lease) (o : Outcome) → HasBudget s → HasBudget (finished_lease s i p l o)
 lease-budget s i p l Ran h = by_late (is_late s l)
   where
     n : Node
     n = (replay i (p.entries ++ l.adds)).node
 
-    back : Solo
+    back : SoloMachine
     back = record (with_place s i (record p { entries = p.entries ++ l.adds; out = None })) { log = s.log ++ (replay i (p.entries ++ l.adds)).lines; ran = s.ran + 1 }
 
     by_late : (b : Bool) → HasBudget (cond b back (conclude n.verdict n back))
@@ -89,12 +89,12 @@ lease-budget s i p l Starved h = by_late (is_late s l)
     by_late false = starve-budget (finished_home s i p) h
 lease-budget s i p l Lost h = h
 
-finished-budget : (s : Solo) (i : ℕ) (p : Place) (out : Option Lease) (o : Outcome) → HasBudget s → HasBudget (finished s i p out o)
+finished-budget : (s : SoloMachine) (i : ℕ) (p : NodeSlot) (out : Option Lease) (o : Outcome) → HasBudget s → HasBudget (finished s i p out o)
 finished-budget s i p None o h = h
 finished-budget s i p (Some l) o h = settled-budget (first_empty (finished_lease s i p l o).log) (finished_lease s i p l o) (lease-budget s i p l o h)
 
 -- an event of a job that was opened leaves it some
-adds-budget : (mine : Bool) (es : List Own) (o : Own) → ((s : Solo) → HasBudget s → HasBudget (solo_step s o)) → HasBudget (solo es) → HasBudget (solo (adds mine es o))
+adds-budget : (mine : Bool) (es : List Own) (o : Own) → ((s : SoloMachine) → HasBudget s → HasBudget (solo_step s o)) → HasBudget (solo es) → HasBudget (solo (adds mine es o))
 adds-budget true es o keeps h = subst HasBudget (sym (solo-push es o)) (keeps (solo es) h)
 adds-budget false es o keeps h = h
 
@@ -143,9 +143,9 @@ legal-left : (w : ℕ) (h : List Event) → 1 ≤ w → Legal w h → HasLeft w 
 legal-left w h some legal = legal_from-keeps w (HasLeft w) (λ past e may left. record { seats = event-seats w past e may left.seats; budgets = event-budget w past e may left }) [] h legal (record { seats = record { seats = []; are = seated-none w some }; budgets = λ k e. absurd (cc) })
 
 -- where no place is out none is counted
-none-out : (r : ℕ) (ps : List Place) → ((i : ℕ) → is_some (get_or ps i vacant).out ≡ false) → count_by (λ p. is_for r p.out) ps ≡ 0
+none-out : (r : ℕ) (ps : List NodeSlot) → ((i : ℕ) → is_some (get_or ps i vacant).out ≡ false) → count_by (λ p. is_for r p.out) ps ≡ 0
 none-out r [] home = refl
-none-out r (p ∷ ps) home = omega (arith, sum_by-cons (λ (q : Place). cond (is_for r q.out) 1 0) p ps, none-out r ps (λ i. home (suc i)), here p.out (home 0))
+none-out r (p ∷ ps) home = omega (arith, sum_by-cons (λ (q : NodeSlot). cond (is_for r q.out) 1 0) p ps, none-out r ps (λ i. home (suc i)), here p.out (home 0))
   where
     one : Option Lease → ℕ
     one o = cond (is_for r o) 1 0
@@ -159,7 +159,7 @@ none-some None e = refl
 none-some (Some l) e = absurd (cc)
 
 -- the first node of a live job with a volume may start where nothing is out
-home-startable : (s : Solo) → ((i : ℕ) → is_out s i ≡ false) → HasBudget s → is_live s ≡ true → 1 ≤ s.volume → startable s 0 ≡ true
+home-startable : (s : SoloMachine) → ((i : ℕ) → is_out s i ≡ false) → HasBudget s → is_live s ≡ true → 1 ≤ s.volume → startable s 0 ≡ true
 home-startable s home budget live some =
     let none : out_count s ≡ 0 = none-out (current s) s.places home in
     let fits : s.spent + out_count s < s.ask.slices = omega (arith, none, budget) in
@@ -195,8 +195,8 @@ idle-answered w h some bound legal home calm none =
         let k : Key = s.job.titled.key in
         let out : (i : ℕ) → is_out (solo (own k h)) i ≡ false = λ i. (legal-leases w h some bound legal).nodes k i ∙ ap (λ ls. is_some (lease_at k i ls)) home in
         let budget : HasBudget (solo (own k h)) = left.budgets k (key-stands (keys_of h) n k sits.place) in
-        let machine : solo (own k h) ≡ s.job.titled.state = ap (λ (t : Titled). t.state) sits.machine in
-        subst (λ (x : Solo). startable x 0 ≡ true) machine (home-startable (solo (own k h)) out budget (ap is_live machine ∙ live) (subst (λ (x : Solo). 1 ≤ x.volume) (sym machine) volume))
+        let machine : solo (own k h) ≡ s.job.titled.state = ap (λ (t : KeyedJob). t.state) sits.machine in
+        subst (λ (x : SoloMachine). startable x 0 ≡ true) machine (home-startable (solo (own k h)) out budget (ap is_live machine ∙ live) (subst (λ (x : SoloMachine). 1 ≤ x.volume) (sym machine) volume))
 
 pub legal-goes_on : LegalGoesOn
 legal-goes_on w h some bound legal home live calm = by_picked (picked (states h)) refl
@@ -206,7 +206,7 @@ legal-goes_on w h some bound legal home live calm = by_picked (picked (states h)
     by_picked (Some c) e = (c, refl)
 
 -- where every job is closed and answered none is live
-done-lives : (jobs : List Titled) → is_done jobs ≡ true → lives jobs ≡ []
+done-lives : (jobs : List KeyedJob) → is_done jobs ≡ true → lives jobs ≡ []
 done-lives [] done = refl
 done-lives (t ∷ ts) done = let parts = and_parts (t.state.closed && not (is_live t.state)) (is_done ts) done in by_test t.state.closed (is_live t.state) parts.0 (done-lives ts parts.1)
   where

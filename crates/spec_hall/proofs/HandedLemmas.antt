@@ -8,15 +8,15 @@ use Rattle.mal_base.specs.declared.verdict.Outcome.{Outcome}
 use Rattle.mal_revision.specs.Posted.{Posted}
 use Rattle.spec_job.specs.Journal.{JournalEntry}
 use Rattle.spec_job.specs.Journaled.{Journaled}
-use Rattle.spec_job.specs.Solo.{Own, Opened, Revised, Closed, Volume, Started, Finished, Exchanged, Solo, Place, Lease, vacant, place_at, solo, solo_step, start_entries, current, first_empty, finished_lease, finished, exchanged}
-use Rattle.spec_job.specs.Titled.{Key}
+use Rattle.spec_job.specs.SoloMachine.{Own, Opened, Revised, Closed, Volume, Started, Finished, Exchanged, SoloMachine, NodeSlot, Lease, vacant, place_at, solo, solo_step, start_entries, current, first_empty, finished_lease, finished, exchanged}
+use Rattle.spec_job.specs.KeyedJob.{Key}
 use Rattle.spec_job.proofs.PlacesLemmas.{marked-place, set-place}
 use Rattle.spec_hall.specs.Calls.{Handed, handed}
 use Rattle.spec_hall.specs.Events.{Event, Open, Revise, Close, Balance, Start, Finish, Exchange}
 use Rattle.spec_hall.specs.Leases.{Numbered, job_number, numbered, place_among, start_number}
 use Rattle.spec_hall.specs.Legal.{Allowed, Legal}
 use Rattle.spec_hall.specs.Own.{own, own_step, adds, adds_volume, is_key, volume_in, volume_after}
-use Rattle.spec_hall.specs.States.{Held, keys_of, leases, lease_of}
+use Rattle.spec_hall.specs.States.{LeaseOut, keys_of, leases, lease_of}
 use Rattle.spec_hall.proofs.KeyLemmas.{is_key-Decides}
 use Rattle.spec_hall.proofs.LeasesLemmas.{lease-out, lease-worker, start-free}
 use Rattle.spec_hall.proofs.OrderlyLemmas.{lease-opened, legal-orderly}
@@ -29,36 +29,36 @@ record Left : Type 0 where
   entries : List JournalEntry
   out : Option Lease
 
-abbrev left_of : Place → Left
+abbrev left_of : NodeSlot → Left
 left_of p = record { entries = p.entries; out = p.out }
 
-abbrev left_at : Solo → ℕ → Left
+abbrev left_at : SoloMachine → ℕ → Left
 left_at s i = left_of (place_at s i)
 
-places-left : (s t : Solo) (i : ℕ) → t.places ≡ s.places → left_at t i ≡ left_at s i
-places-left s t i same = ap (λ (ps : List Place). left_of (get_or ps i vacant)) same
+places-left : (s t : SoloMachine) (i : ℕ) → t.places ≡ s.places → left_at t i ≡ left_at s i
+places-left s t i same = ap (λ (ps : List NodeSlot). left_of (get_or ps i vacant)) same
 
 -- an event of the machine leaves it at each place of which it is not
-revised-left : (s : Solo) (r : Posted) (i : ℕ) → left_at (solo_step s (Revised r)) i ≡ left_at s i
+revised-left : (s : SoloMachine) (r : Posted) (i : ℕ) → left_at (solo_step s (Revised r)) i ≡ left_at s i
 revised-left s r i = places-left s (solo_step s (Revised r)) i (settled-same (first_empty s.log) _)
 
-exchanged-left : (s : Solo) (i : ℕ) → left_at (solo_step s Exchanged) i ≡ left_at s i
+exchanged-left : (s : SoloMachine) (i : ℕ) → left_at (solo_step s Exchanged) i ≡ left_at s i
 exchanged-left s i = by_mark (marked-place s.volume (length s.log) 0 s.places i)
   where
     by_mark : (m : ℕ) × (get_or (exchanged s).places i vacant ≡ record (get_or s.places i vacant) { mark = m }) → left_at (solo_step s Exchanged) i ≡ left_at s i
     by_mark (m, e) = ap left_of e
 
-set-other : (ps : List Place) (i j : ℕ) (p : Place) → (j ≡ i → ⊥) → get_or (slice_set ps i p) j vacant ≡ get_or ps j vacant
+set-other : (ps : List NodeSlot) (i j : ℕ) (p : NodeSlot) → (j ≡ i → ⊥) → get_or (slice_set ps i p) j vacant ≡ get_or ps j vacant
 set-other ps i j p other = by_place (set-place ps i j p)
   where
     by_place : ((j ≡ i) × (get_or (slice_set ps i p) j vacant ≡ p)) ⊎ (get_or (slice_set ps i p) j vacant ≡ get_or ps j vacant) → get_or (slice_set ps i p) j vacant ≡ get_or ps j vacant
     by_place (inl k) = absurd (other k.0)
     by_place (inr e) = e
 
-started-left : (s : Solo) (i j : ℕ) → (j ≡ i → ⊥) → left_at (solo_step s (Started i)) j ≡ left_at s j
+started-left : (s : SoloMachine) (i j : ℕ) → (j ≡ i → ⊥) → left_at (solo_step s (Started i)) j ≡ left_at s j
 started-left s i j other = ap left_of (set-other s.places i j (record (place_at s i) { out = Some (record { revision = current s; adds = start_entries s (place_at s i) }); starts = (place_at s i).starts + 1 }) other)
 
-finished-left : (s : Solo) (i j : ℕ) (o : Outcome) → (j ≡ i → ⊥) → left_at (solo_step s (Finished i o)) j ≡ left_at s j
+finished-left : (s : SoloMachine) (i j : ℕ) (o : Outcome) → (j ≡ i → ⊥) → left_at (solo_step s (Finished i o)) j ≡ left_at s j
 finished-left s i j o other = by_lease (place_at s i).out refl
   where
     by_lease : (q : Option Lease) → (place_at s i).out ≡ q → left_at (solo_step s (Finished i o)) j ≡ left_at s j
@@ -67,15 +67,15 @@ finished-left s i j o other = by_lease (place_at s i).out refl
         let ends : EndsAt s (finished_lease s i (place_at s i) l o) i = lease-ends s i (place_at s i) l o in
         let whole : (solo_step s (Finished i o)).places ≡ slice_set s.places i ends.place =
         ap (λ (x : Option Lease). (finished s i (place_at s i) x o).places) e ∙ (settled-same (first_empty (finished_lease s i (place_at s i) l o).log) (finished_lease s i (place_at s i) l o) ∙ ends.is) in
-        ap (λ (ps : List Place). left_of (get_or ps j vacant)) whole ∙ ap left_of (set-other s.places i j ends.place other)
+        ap (λ (ps : List NodeSlot). left_of (get_or ps j vacant)) whole ∙ ap left_of (set-other s.places i j ends.place other)
 
 -- an own event that leaves it for each machine, whether it joins or not
-adds-left : (mine : Bool) (es : List Own) (o : Own) (i : ℕ) → ((s : Solo) → left_at (solo_step s o) i ≡ left_at s i) → left_at (solo (adds mine es o)) i ≡ left_at (solo es) i
-adds-left true es o i same = ap (λ (s : Solo). left_at s i) (solo-push es o) ∙ same (solo es)
+adds-left : (mine : Bool) (es : List Own) (o : Own) (i : ℕ) → ((s : SoloMachine) → left_at (solo_step s o) i ≡ left_at s i) → left_at (solo (adds mine es o)) i ≡ left_at (solo es) i
+adds-left true es o i same = ap (λ (s : SoloMachine). left_at s i) (solo-push es o) ∙ same (solo es)
 adds-left false es o i same = refl
 
 -- or of another node, where it joins
-other-left : (mine : Bool) (es : List Own) (o : Own) (i : ℕ) → (mine ≡ true → (s : Solo) → left_at (solo_step s o) i ≡ left_at s i) → left_at (solo (adds mine es o)) i ≡ left_at (solo es) i
+other-left : (mine : Bool) (es : List Own) (o : Own) (i : ℕ) → (mine ≡ true → (s : SoloMachine) → left_at (solo_step s o) i ≡ left_at s i) → left_at (solo (adds mine es o)) i ≡ left_at (solo es) i
 other-left true es o i same = adds-left true es o i (same refl)
 other-left false es o i same = refl
 
@@ -84,10 +84,10 @@ volume-left v es i = by_test (v == volume_after es)
   where
     by_test : (b : Bool) → left_at (solo (cond b es (es ++ Volume v ∷ []))) i ≡ left_at (solo es) i
     by_test true = refl
-    by_test false = ap (λ (s : Solo). left_at s i) (solo-push es (Volume v))
+    by_test false = ap (λ (s : SoloMachine). left_at s i) (solo-push es (Volume v))
 
 -- a lease that is out before an event and after it
-record IsOutStill (w : ℕ) (past : List Event) (e : Event) (worker : ℕ) (l : Held) : Type 0 where
+record IsOutStill (w : ℕ) (past : List Event) (e : Event) (worker : ℕ) (l : LeaseOut) : Type 0 where
   some : 1 ≤ w
   bound : w ≤ 64
   legal : Legal w past
@@ -96,21 +96,21 @@ record IsOutStill (w : ℕ) (past : List Event) (e : Event) (worker : ℕ) (l : 
   still : lease_of worker (leases (past ++ e ∷ [])) ≡ Some l
 
 -- it is of that worker
-mine-is : (w : ℕ) (past : List Event) (e : Event) (worker : ℕ) (l : Held) → IsOutStill w past e worker l → l.worker ≡ worker
+mine-is : (w : ℕ) (past : List Event) (e : Event) (worker : ℕ) (l : LeaseOut) → IsOutStill w past e worker l → l.worker ≡ worker
 mine-is w past e worker l is = (lease-worker w past worker l is.some is.bound is.legal is.out).0
 
-held-as : (h : List Event) (worker : ℕ) (l : Held) → l.worker ≡ worker → lease_of worker (leases h) ≡ Some l → lease_of worker (leases h) ≡ Some (record { worker = worker; key = l.key; index = l.index })
-held-as h worker l same e = e ∙ ap (λ (v : ℕ). let o : Option Held = Some (record { worker = v; key = l.key; index = l.index }) in o) same
+held-as : (h : List Event) (worker : ℕ) (l : LeaseOut) → l.worker ≡ worker → lease_of worker (leases h) ≡ Some l → lease_of worker (leases h) ≡ Some (record { worker = worker; key = l.key; index = l.index })
+held-as h worker l same e = e ∙ ap (λ (v : ℕ). let o : Option LeaseOut = Some (record { worker = v; key = l.key; index = l.index }) in o) same
 
 -- its node is not the one that starts
-start-other : (w : ℕ) (past : List Event) (k : Key) (index v worker : ℕ) (l : Held) → IsOutStill w past (Start k index v) worker l → is_key l.key k ≡ true → l.index ≡ index → ⊥
+start-other : (w : ℕ) (past : List Event) (k : Key) (index v worker : ℕ) (l : LeaseOut) → IsOutStill w past (Start k index v) worker l → is_key l.key k ≡ true → l.index ≡ index → ⊥
 start-other w past k index v worker l is mine same =
     let key : l.key ≡ k = (is_key-Decides l.key k).0 mine in
     let held : lease_of worker (leases past) ≡ Some (record { worker = worker; key = k; index = l.index }) = subst (λ (j : Key). lease_of worker (leases past) ≡ Some (record { worker = worker; key = j; index = l.index })) key (held-as past worker l (mine-is w past (Start k index v) worker l is) is.out) in
     (start-free w past k index v is.some is.bound is.legal is.allowed).home worker l.index held same
 
 -- nor the one that comes back
-finish-other : (w : ℕ) (past : List Event) (k : Key) (index v : ℕ) (o : Outcome) (worker : ℕ) (l : Held) → IsOutStill w past (Finish k index v o) worker l → is_key l.key k ≡ true → l.index ≡ index → ⊥
+finish-other : (w : ℕ) (past : List Event) (k : Key) (index v : ℕ) (o : Outcome) (worker : ℕ) (l : LeaseOut) → IsOutStill w past (Finish k index v o) worker l → is_key l.key k ≡ true → l.index ≡ index → ⊥
 finish-other w past k index v o worker l is mine same = both_ways (is_out (solo (own k now)) index) home out
   where
     now : List Event
@@ -128,7 +128,7 @@ finish-other w past k index v o worker l is mine same = both_ways (is_out (solo 
     there : is_out (solo (own k past)) index ≡ true
     there = lease-out w past k index v is.some is.bound is.legal is.allowed
 
-    within : (ps : List Place) (i : ℕ) → is_some (get_or ps i vacant).out ≡ true → i < length ps
+    within : (ps : List NodeSlot) (i : ℕ) → is_some (get_or ps i vacant).out ≡ true → i < length ps
     within [] i e = absurd (cc)
     within (p ∷ ps) zero e = omega arith
     within (p ∷ ps) (suc i) e = let u : i < length ps = within ps i e in omega arith
@@ -144,11 +144,11 @@ finish-other w past k index v o worker l is mine same = both_ways (is_out (solo 
     home : is_out (solo (own k now)) index ≡ false
     home =
         ap (λ (es : List Own). is_out (solo es) index) (own-push k past (Finish k index v o) ∙ ap (λ (b : Bool). adds b (own k past) (Finished index o)) same_key)
-        ∙ (ap (λ (s : Solo). is_out s index) (solo-push (own k past) (Finished index o))
+        ∙ (ap (λ (s : SoloMachine). is_out s index) (solo-push (own k past) (Finished index o))
         ∙ (finished-out (solo (own k past)) index index o there (within (solo (own k past)).places index there)
         ∙ and-false (is_out (solo (own k past)) index) (index == index) ((Decides-eqb index index).1 refl)))
 
-event-left : (w : ℕ) (past : List Event) (e : Event) (worker : ℕ) (l : Held) → IsOutStill w past e worker l → left_at (solo (own_step l.key (own l.key past) e)) l.index ≡ left_at (solo (own l.key past)) l.index
+event-left : (w : ℕ) (past : List Event) (e : Event) (worker : ℕ) (l : LeaseOut) → IsOutStill w past e worker l → left_at (solo (own_step l.key (own l.key past) e)) l.index ≡ left_at (solo (own l.key past)) l.index
 event-left w past (Open k ask) worker l is = adds-left (is_key l.key k) (own l.key past) (Opened ask) l.index (λ s. refl)
 event-left w past (Revise k number r) worker l is = adds-left (is_key l.key k) (own l.key past) (Revised r) l.index (λ s. revised-left s r l.index)
 event-left w past (Close k) worker l is = adds-left (is_key l.key k) (own l.key past) Closed l.index (λ s. refl)
@@ -166,7 +166,7 @@ among-push k j (x ∷ xs) e = by_test (is_key k x) e (among-push k j xs)
     by_test true f rest = refl
     by_test false f rest = ap suc (rest f)
 
-number-stays : (w : ℕ) (past : List Event) (e : Event) (worker : ℕ) (l : Held) → IsOutStill w past e worker l → job_number l.key (past ++ e ∷ []) ≡ job_number l.key past
+number-stays : (w : ℕ) (past : List Event) (e : Event) (worker : ℕ) (l : LeaseOut) → IsOutStill w past e worker l → job_number l.key (past ++ e ∷ []) ≡ job_number l.key past
 number-stays w past (Open k ask) worker l is =
     ap (place_among l.key) (keys-push past (Open k ask))
     ∙ among-push l.key k (keys_of past) (lease-opened past worker l.index l.key (legal-orderly w past is.legal) (held-as past worker l (mine-is w past (Open k ask) worker l is) is.out))
@@ -178,7 +178,7 @@ number-stays w past (Finish k index v o) worker l is = ap (place_among l.key) (k
 number-stays w past (Exchange k) worker l is = ap (place_among l.key) (keys-push past (Exchange k))
 
 -- its worker has no later start
-starts-stay : (w : ℕ) (past : List Event) (e : Event) (worker : ℕ) (l : Held) → IsOutStill w past e worker l → start_number worker (past ++ e ∷ []) ≡ start_number worker past
+starts-stay : (w : ℕ) (past : List Event) (e : Event) (worker : ℕ) (l : LeaseOut) → IsOutStill w past e worker l → start_number worker (past ++ e ∷ []) ≡ start_number worker past
 starts-stay w past (Open k ask) worker l is = ap (λ (n : Numbered). n.last) (numbered-push worker past (Open k ask))
 starts-stay w past (Revise k number r) worker l is = ap (λ (n : Numbered). n.last) (numbered-push worker past (Revise k number r))
 starts-stay w past (Close k) worker l is = ap (λ (n : Numbered). n.last) (numbered-push worker past (Close k))
@@ -196,11 +196,11 @@ starts-stay w past (Finish k index v o) worker l is = ap (λ (n : Numbered). n.l
 starts-stay w past (Exchange k) worker l is = ap (λ (n : Numbered). n.last) (numbered-push worker past (Exchange k))
 
 -- a lease from these parts
-abbrev handed_by : Held → ℕ → ℕ → Left → Handed
+abbrev handed_by : LeaseOut → ℕ → ℕ → Left → Handed
 handed_by l job start p = record { journal = record { job = job; index = l.index; start = start; entries = p.entries }; adds = option_map_or (λ o. o.adds) p.out []; worker = l.worker }
 
 -- a lease that stays out is as it was handed out
-handed-stays : (w : ℕ) (past : List Event) (e : Event) (worker : ℕ) (l : Held) → IsOutStill w past e worker l → handed (past ++ e ∷ []) l ≡ handed past l
+handed-stays : (w : ℕ) (past : List Event) (e : Event) (worker : ℕ) (l : LeaseOut) → IsOutStill w past e worker l → handed (past ++ e ∷ []) l ≡ handed past l
 handed-stays w past e worker l is =
     let now : List Event = past ++ e ∷ [] in
     let same : l.worker ≡ worker = mine-is w past e worker l is in
@@ -217,7 +217,7 @@ lease-stays w past e worker some bound legal allowed same = by_lease (lease_of w
     now : List Event
     now = past ++ e ∷ []
 
-    by_lease : (o : Option Held) → lease_of worker (leases past) ≡ o → option_map (handed now) (lease_of worker (leases now)) ≡ option_map (handed past) (lease_of worker (leases past))
+    by_lease : (o : Option LeaseOut) → lease_of worker (leases past) ≡ o → option_map (handed now) (lease_of worker (leases now)) ≡ option_map (handed past) (lease_of worker (leases past))
     by_lease None q = ap (option_map (handed now)) (same ∙ q) ∙ sym (ap (option_map (handed past)) q)
     by_lease (Some l) q =
         let is : IsOutStill w past e worker l = record { some = some; bound = bound; legal = legal; allowed = allowed; out = q; still = same ∙ q } in

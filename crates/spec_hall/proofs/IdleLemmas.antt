@@ -5,7 +5,7 @@ use Rattle.std.proofs.lemmas.List.Elements.{All-nil, All-cons, All-head, All-tai
 use Rattle.std.proofs.lemmas.List.Sums.{sum_by-cons}
 use Rattle.spec_node.specs.Load.{counted}
 use Rattle.spec_balance.specs.Fair.{volume_at}
-use Rattle.spec_job.specs.Solo.{Solo, startable, place_at}
+use Rattle.spec_job.specs.SoloMachine.{SoloMachine, startable, place_at}
 use Rattle.spec_hall.specs.Events.{Event}
 use Rattle.spec_hall.specs.States.{Candidate, states, lives, live_of, live_ones, candidates_of, candidates_from, fewer}
 use Rattle.spec_hall.specs.Seats.{Seat, HasNoneUnlisted, asks_alike, IsSeated, jobs_in, is_live_seat, has_changed, is_due, listed_seats, listed_asks, listed_volumes, pick}
@@ -45,7 +45,7 @@ none-behind [] ys e = e
 none-behind (x ∷ xs) ys e = absurd (cc)
 
 -- a job with a volume whose first node may start has a candidate
-some-candidate : (job : ℕ) (s : Solo) (v : ℕ) → startable s 0 ≡ true → map (λ (i : ℕ). let c : Candidate = record { job = job; index = i; starts = (place_at s i).starts } in c) (filter (startable s) (counted 0 (suc v))) ≡ [] → ⊥
+some-candidate : (job : ℕ) (s : SoloMachine) (v : ℕ) → startable s 0 ≡ true → map (λ (i : ℕ). let c : Candidate = record { job = job; index = i; starts = (place_at s i).starts } in c) (filter (startable s) (counted 0 (suc v))) ≡ [] → ⊥
 some-candidate job s v may e = by_test (startable s 0) may e
   where
     rest : List ℕ
@@ -55,7 +55,7 @@ some-candidate job s v may e = by_test (startable s 0) may e
     by_test true q r = absurd (cc)
     by_test false q r = absurd (cc)
 
-candidate-here : (job : ℕ) (s : Solo) → 1 ≤ s.volume → startable s 0 ≡ true → candidates_of job s ≡ [] → ⊥
+candidate-here : (job : ℕ) (s : SoloMachine) → 1 ≤ s.volume → startable s 0 ≡ true → candidates_of job s ≡ [] → ⊥
 candidate-here job s some may e = by_volume s.volume refl some
   where
     by_volume : (v : ℕ) → s.volume ≡ v → 1 ≤ v → ⊥

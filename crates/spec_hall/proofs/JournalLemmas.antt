@@ -11,8 +11,8 @@ use Rattle.mal_base.specs.declared.verdict.Outcome.{Outcome}
 use Rattle.spec_job.specs.Journal.{JournalEntry}
 use Rattle.spec_job.specs.Journaled.{Journaled}
 use Rattle.spec_job.specs.Leased.{Finished}
-use Rattle.spec_job.specs.Solo.{Solo, Lease, place_at, solo}
-use Rattle.spec_job.specs.Titled.{Key, Titled}
+use Rattle.spec_job.specs.SoloMachine.{SoloMachine, Lease, place_at, solo}
+use Rattle.spec_job.specs.KeyedJob.{Key, KeyedJob}
 use Rattle.spec_job.specs.Viewed.{JobView, IsBack, IsGrownBy, journal_at}
 use Rattle.spec_hall.specs.Calls.{IsOfLease}
 use Rattle.spec_hall.specs.Events.{Event}
@@ -21,7 +21,7 @@ use Rattle.spec_hall.specs.Legal.{Legal}
 use Rattle.spec_hall.specs.Own.{own, is_key}
 use Rattle.spec_hall.specs.Seats.{Seat, IsSeated}
 use Rattle.spec_hall.specs.Spots.{Spot, Tag, IsAt, IsSpot, IsTagged, AreSpots, tag_of, tags_of}
-use Rattle.spec_hall.specs.States.{Held, keys_of, titled, leases, lease_of}
+use Rattle.spec_hall.specs.States.{LeaseOut, keys_of, titled, leases, lease_of}
 use Rattle.spec_hall.proofs.KeyLemmas.{AreApart, is_key-same, key-differs, key-stands, is_key-back}
 use Rattle.spec_hall.proofs.OrderlyLemmas.{legal-orderly}
 use Rattle.spec_hall.proofs.SeatLemmas.{SitsAt, sits-at}
@@ -37,7 +37,7 @@ place-at (x ∷ xs) (suc n) k apart e =
     ap (λ (b : Bool). cond b 0 (suc (place_among k xs))) other ∙ ap suc (place-at xs n k apart.1 e)
 
 -- the lease of a seat's node
-abbrev pub held_at : Seat → ℕ → ℕ → Held
+abbrev pub held_at : Seat → ℕ → ℕ → LeaseOut
 held_at s worker index = record { worker = worker; key = s.job.titled.key; index = index }
 
 tag-same : (ss : List Seat) (n : ℕ) (s : Seat) (t : Tag) → slice_get ss n ≡ Some s → slice_get (tags_of ss) n ≡ Some t → tag_of s ≡ t
@@ -51,7 +51,7 @@ journal-of w past ss spots s worker spot seated are at is =
     let tagged : IsTagged spot.job is.tag = are.tagged spot.job is.tag is.at in
     let number : s.job.number ≡ job_number s.job.titled.key past = ap (λ (t : Tag). t.number) same ∙ (tagged.number ∙ sym (place-at (keys_of past) spot.job s.job.titled.key (legal-orderly w past seated.legal).apart sits.place)) in
     let start : get_or s.job.starts spot.index 0 ≡ start_number worker past = ap (λ (t : Tag). get_or t.starts spot.index 0) same ∙ (is.started ∙ is.number) in
-    let entries : (place_at s.job.titled.state spot.index).entries ≡ (place_at (solo (own s.job.titled.key past)) spot.index).entries = ap (λ (t : Titled). (place_at t.state spot.index).entries) (sym sits.machine) in
+    let entries : (place_at s.job.titled.state spot.index).entries ≡ (place_at (solo (own s.job.titled.key past)) spot.index).entries = ap (λ (t : KeyedJob). (place_at t.state spot.index).entries) (sym sits.machine) in
     ap (λ (n : ℕ). let j : Journaled = record { job = n; index = spot.index; start = get_or s.job.starts spot.index 0; entries = (place_at s.job.titled.state spot.index).entries } in j) number
     ∙ (ap (λ (n : ℕ). let j : Journaled = record { job = job_number s.job.titled.key past; index = spot.index; start = n; entries = (place_at s.job.titled.state spot.index).entries } in j) start
     ∙ ap (λ (es : List JournalEntry). let j : Journaled = record { job = job_number s.job.titled.key past; index = spot.index; start = start_number worker past; entries = es } in j) entries)
@@ -60,13 +60,13 @@ journal-of w past ss spots s worker spot seated are at is =
 pub adds-of : (w : ℕ) (past : List Event) (ss : List Seat) (s : Seat) (n worker index : ℕ) (l : Lease) → IsSeated w past ss → slice_get ss n ≡ Some s → (place_at s.job.titled.state index).out ≡ Some l → lease_adds past (held_at s worker index) ≡ l.adds
 adds-of w past ss s n worker index l seated at out =
     let sits : SitsAt past n s.job.titled = sits-at past ss n s seated.jobs at in
-    ap (λ (t : Titled). option_map_or (λ (o : Lease). o.adds) (place_at t.state index).out []) sits.machine ∙ ap (λ (o : Option Lease). option_map_or (λ (x : Lease). x.adds) o []) out
+    ap (λ (t : KeyedJob). option_map_or (λ (o : Lease). o.adds) (place_at t.state index).out []) sits.machine ∙ ap (λ (o : Option Lease). option_map_or (λ (x : Lease). x.adds) o []) out
 
 -- the lease at a spot
 pub spot-held : (past : List Event) (ss : List Seat) (s : Seat) (worker : ℕ) (spot : Spot) → slice_get ss spot.job ≡ Some s → IsAt past (tags_of ss) worker spot → lease_of worker (leases past) ≡ Some (held_at s worker spot.index)
 spot-held past ss s worker spot at is =
     let same : tag_of s ≡ is.tag = tag-same ss spot.job s is.tag at is.at in
-    is.out ∙ ap (λ (t : Tag). let o : Option Held = Some (record { worker = worker; key = t.key; index = spot.index }) in o) (sym same)
+    is.out ∙ ap (λ (t : Tag). let o : Option LeaseOut = Some (record { worker = worker; key = t.key; index = spot.index }) in o) (sym same)
 
 -- what came back of the lease at a spot is of the lease that is out
 pub back-lease : (w : ℕ) (past : List Event) (ss : List Seat) (spots : List (Option Spot)) (s : Seat) (spot : Spot) (d : Finished) → IsSeated w past ss → AreSpots w past (tags_of ss) spots → slice_get ss spot.job ≡ Some s → IsAt past (tags_of ss) d.worker spot → IsBack s.job spot.index d → IsOfLease past d (held_at s d.worker spot.index)
@@ -76,7 +76,7 @@ back-lease w past ss spots s spot d seated are at is back = record {
 }
 
 -- and the other way round
-pub lease-back : (w : ℕ) (past : List Event) (ss : List Seat) (spots : List (Option Spot)) (s : Seat) (spot : Spot) (d : Finished) (l : Held) → 1 ≤ w → w ≤ 64 → IsSeated w past ss → AreSpots w past (tags_of ss) spots → slice_get ss spot.job ≡ Some s → IsAt past (tags_of ss) d.worker spot → IsOfLease past d l → IsBack s.job spot.index d
+pub lease-back : (w : ℕ) (past : List Event) (ss : List Seat) (spots : List (Option Spot)) (s : Seat) (spot : Spot) (d : Finished) (l : LeaseOut) → 1 ≤ w → w ≤ 64 → IsSeated w past ss → AreSpots w past (tags_of ss) spots → slice_get ss spot.job ≡ Some s → IsAt past (tags_of ss) d.worker spot → IsOfLease past d l → IsBack s.job spot.index d
 lease-back w past ss spots s spot d l some bound seated are at is of = by_out (place_at s.job.titled.state spot.index).out refl
   where
     held : lease_of d.worker (leases past) ≡ Some (held_at s d.worker spot.index)
@@ -86,10 +86,10 @@ lease-back w past ss spots s spot d l some bound seated are at is of = by_out (p
     same = let both : Some l ≡ Some (held_at s d.worker spot.index) = sym of.out ∙ held in cc
 
     journal : IsGrownBy d.outcome (lease_adds past (held_at s d.worker spot.index)) (lease_journal past (held_at s d.worker spot.index)) d.journal
-    journal = subst (λ (x : Held). IsGrownBy d.outcome (lease_adds past x) (lease_journal past x) d.journal) same of.journal
+    journal = subst (λ (x : LeaseOut). IsGrownBy d.outcome (lease_adds past x) (lease_journal past x) d.journal) same of.journal
 
     out : is_some (place_at s.job.titled.state spot.index).out ≡ true
-    out = ap (λ (t : Titled). is_out t.state spot.index) (sym (sits-at past ss spot.job s seated.jobs at).machine) ∙ lease-out w past s.job.titled.key spot.index d.worker some bound seated.legal held
+    out = ap (λ (t : KeyedJob). is_out t.state spot.index) (sym (sits-at past ss spot.job s seated.jobs at).machine) ∙ lease-out w past s.job.titled.key spot.index d.worker some bound seated.legal held
 
     by_out : (o : Option Lease) → (place_at s.job.titled.state spot.index).out ≡ o → IsBack s.job spot.index d
     by_out None e = absurd (both_ways (is_some (place_at s.job.titled.state spot.index).out) (ap (λ (x : Option Lease). is_some x) e) out)
@@ -102,7 +102,7 @@ lease-back w past ss spots s spot d l some bound seated are at is of = by_out (p
 -- the node of a lease that is out is out
 pub spot-out : (w : ℕ) (past : List Event) (ss : List Seat) (s : Seat) (worker : ℕ) (spot : Spot) → 1 ≤ w → w ≤ 64 → IsSeated w past ss → slice_get ss spot.job ≡ Some s → IsAt past (tags_of ss) worker spot → is_some (place_at s.job.titled.state spot.index).out ≡ true
 spot-out w past ss s worker spot some bound seated at is =
-    ap (λ (t : Titled). is_out t.state spot.index) (sym (sits-at past ss spot.job s seated.jobs at).machine) ∙ lease-out w past s.job.titled.key spot.index worker some bound seated.legal (spot-held past ss s worker spot at is)
+    ap (λ (t : KeyedJob). is_out t.state spot.index) (sym (sits-at past ss spot.job s seated.jobs at).machine) ∙ lease-out w past s.job.titled.key spot.index worker some bound seated.legal (spot-held past ss s worker spot at is)
 
 get-past : {X : Type 0} (xs : List X) (n : ℕ) (d : X) → length xs ≤ n → get_or xs n d ≡ d
 get-past [] n d h = refl
@@ -117,10 +117,10 @@ spot-lease w past tags spots n some bound legal are = by_order (n_or w)
     n_or m = cases_lt n m
 
     here : (o : Option Spot) → IsSpot past tags (suc n) o → is_some o ≡ is_some (lease_of (suc n) (leases past))
-    here None h = sym (ap (λ (o : Option Held). is_some o) h)
-    here (Some spot) h = sym (ap (λ (o : Option Held). is_some o) h.out)
+    here None h = sym (ap (λ (o : Option LeaseOut). is_some o) h)
+    here (Some spot) h = sym (ap (λ (o : Option LeaseOut). is_some o) h.out)
 
-    none : (o : Option Held) → lease_of (suc n) (leases past) ≡ o → w ≤ n → false ≡ is_some o
+    none : (o : Option LeaseOut) → lease_of (suc n) (leases past) ≡ o → w ≤ n → false ≡ is_some o
     none None e high = refl
     none (Some l) e high = absurd (omega (arith, high, (lease-worker w past (suc n) l some bound legal e).1.high))
 
@@ -132,7 +132,7 @@ spot-lease w past tags spots n some bound legal are = by_order (n_or w)
 pub zero-lease : (w : ℕ) (past : List Event) → 1 ≤ w → w ≤ 64 → Legal w past → lease_of 0 (leases past) ≡ None
 zero-lease w past some bound legal = by_lease (lease_of 0 (leases past)) refl
   where
-    by_lease : (o : Option Held) → lease_of 0 (leases past) ≡ o → o ≡ None
+    by_lease : (o : Option LeaseOut) → lease_of 0 (leases past) ≡ o → o ≡ None
     by_lease None e = refl
     by_lease (Some l) e = absurd (omega (arith, (lease-worker w past 0 l some bound legal e).1.low))
 
@@ -160,10 +160,10 @@ taken-none (o ∷ os) h =
 pub spots-home : (w : ℕ) (past : List Event) (tags : List Tag) (spots : List (Option Spot)) → 1 ≤ w → w ≤ 64 → Legal w past → AreSpots w past tags spots → (taken_in spots == 0) ≡ (length (leases past) == 0)
 spots-home w past tags spots some bound legal are = by_taken (taken_in spots == 0) refl (length (leases past) == 0) refl
   where
-    no_lease : (ls : List Held) → leases past ≡ ls → ((n : ℕ) → get_or spots n None ≡ None) → length ls ≡ 0
+    no_lease : (ls : List LeaseOut) → leases past ≡ ls → ((n : ℕ) → get_or spots n None ≡ None) → length ls ≡ 0
     no_lease [] e h = refl
     no_lease (l ∷ ls) e h =
-        let worker : IsWorker w l.worker = All-head (λ (x : Held). IsWorker w x.worker) l ls (subst (All (λ (x : Held). IsWorker w x.worker)) e (legal-leases w past some bound legal).of_workers) in
+        let worker : IsWorker w l.worker = All-head (λ (x : LeaseOut). IsWorker w x.worker) l ls (subst (All (λ (x : LeaseOut). IsWorker w x.worker)) e (legal-leases w past some bound legal).of_workers) in
         absurd (there l.worker refl worker.low)
       where
         found : lease_of l.worker (leases past) ≡ Some l
@@ -171,12 +171,12 @@ spots-home w past tags spots some bound legal are = by_taken (taken_in spots == 
 
         there : (v : ℕ) → l.worker ≡ v → 1 ≤ v → ⊥
         there zero q low = omega (arith, low)
-        there (suc n) q low = both_ways (is_some (get_or spots n None)) (ap (λ (o : Option Spot). is_some o) (h n)) (spot-lease w past tags spots n some bound legal are ∙ (ap (λ (v : ℕ). is_some (lease_of v (leases past))) (sym q) ∙ ap (λ (o : Option Held). is_some o) found))
+        there (suc n) q low = both_ways (is_some (get_or spots n None)) (ap (λ (o : Option Spot). is_some o) (h n)) (spot-lease w past tags spots n some bound legal are ∙ (ap (λ (v : ℕ). is_some (lease_of v (leases past))) (sym q) ∙ ap (λ (o : Option LeaseOut). is_some o) found))
 
     no_spot : length (leases past) ≡ 0 → (n : ℕ) → n < length spots → get_or spots n None ≡ None
-    no_spot e n low = by_spot (get_or spots n None) (spot-lease w past tags spots n some bound legal are ∙ ap (λ (ls : List Held). is_some (lease_of (suc n) ls)) (empty (leases past) e))
+    no_spot e n low = by_spot (get_or spots n None) (spot-lease w past tags spots n some bound legal are ∙ ap (λ (ls : List LeaseOut). is_some (lease_of (suc n) ls)) (empty (leases past) e))
       where
-        empty : (ls : List Held) → length ls ≡ 0 → ls ≡ []
+        empty : (ls : List LeaseOut) → length ls ≡ 0 → ls ≡ []
         empty [] q = refl
         empty (l ∷ ls) q = absurd (omega (arith, q))
 

@@ -8,13 +8,13 @@ use Rattle.std.proofs.lemmas.Bool.Decides.{Decides-eqb, Decides-ltb}
 use Rattle.std.proofs.lemmas.List.Elements.{All-nil, All-filter, All-head, All-push, All-tail}
 use Rattle.std.proofs.lemmas.List.Folds.{find-append}
 use Rattle.mal_base.specs.declared.verdict.Outcome.{Outcome}
-use Rattle.spec_job.specs.Solo.{Own, Opened, Revised, Closed, Volume, Started, Finished, Exchanged, Solo, Place, Lease, vacant, is_live, out_count, place_at, solo, solo_step, startable}
-use Rattle.spec_job.specs.Titled.{Key, Titled}
+use Rattle.spec_job.specs.SoloMachine.{Own, Opened, Revised, Closed, Volume, Started, Finished, Exchanged, SoloMachine, NodeSlot, Lease, vacant, is_live, out_count, place_at, solo, solo_step, startable}
+use Rattle.spec_job.specs.KeyedJob.{Key, KeyedJob}
 use Rattle.spec_job.proofs.LeftLemmas.{solo-tidy}
 use Rattle.spec_job.proofs.PlacesLemmas.{get-vacant}
 use Rattle.spec_hall.specs.Events.{Event, Open, Revise, Close, Balance, Start, Finish, Exchange}
 use Rattle.spec_hall.specs.Own.{own, own_step, adds, adds_volume, is_key, volume_in, volume_after}
-use Rattle.spec_hall.specs.States.{Candidate, Held, keys_of, titled, leases, leases_step, lease_of}
+use Rattle.spec_hall.specs.States.{Candidate, LeaseOut, keys_of, titled, leases, leases_step, lease_of}
 use Rattle.spec_hall.specs.Legal.{Allowed, Legal, MayStart}
 use Rattle.spec_hall.specs.Leases.{AreApart, AreLeases, IsWorker, LegalLeases, is_of, lease_at}
 use Rattle.spec_hall.specs.Seats.{Seat}
@@ -66,25 +66,25 @@ others a b = by_test (a == b) refl (nat_lt a b) refl (nat_lt b a) refl
         both x y z = absurd (omega (arith, x, y, z))
 
 -- the leases without that of a worker
-abbrev pub without : ℕ → List Held → List Held
-without worker ls = filter (λ (l : Held). nat_lt l.worker worker || nat_lt worker l.worker) ls
+abbrev pub without : ℕ → List LeaseOut → List LeaseOut
+without worker ls = filter (λ (l : LeaseOut). nat_lt l.worker worker || nat_lt worker l.worker) ls
 
 -- where a worker has none they all stay
-pub without-none : (worker : ℕ) (ls : List Held) → lease_of worker ls ≡ None → without worker ls ≡ ls
+pub without-none : (worker : ℕ) (ls : List LeaseOut) → lease_of worker ls ≡ None → without worker ls ≡ ls
 without-none worker [] e = refl
 without-none worker (l ∷ ls) e = by_test (l.worker == worker) (nat_lt l.worker worker || nat_lt worker l.worker) (others l.worker worker) e (without-none worker ls)
   where
     by_test : (b c : Bool) → c ≡ not b → cond b (Some l) (lease_of worker ls) ≡ None → (lease_of worker ls ≡ None → without worker ls ≡ ls) → cond c (l ∷ without worker ls) (without worker ls) ≡ l ∷ ls
     by_test true c e q rest = absurd (cc)
-    by_test false true e q rest = ap (λ (xs : List Held). l ∷ xs) (rest q)
+    by_test false true e q rest = ap (λ (xs : List LeaseOut). l ∷ xs) (rest q)
     by_test false false e q rest = absurd (cc)
 
 -- a lease that is found is there
-found-there : (test : Held → Bool) (worker : ℕ) (ls : List Held) (l : Held) → lease_of worker ls ≡ Some l → test l ≡ true → is_some (find test ls) ≡ true
+found-there : (test : LeaseOut → Bool) (worker : ℕ) (ls : List LeaseOut) (l : LeaseOut) → lease_of worker ls ≡ Some l → test l ≡ true → is_some (find test ls) ≡ true
 found-there test worker [] l e t = absurd (cc)
 found-there test worker (x ∷ xs) l e t = by_test (x.worker == worker) e (found-there test worker xs l)
   where
-    some : (b : Bool) (o : Option Held) → is_some o ≡ true → is_some (cond b (Some x) o) ≡ true
+    some : (b : Bool) (o : Option LeaseOut) → is_some o ≡ true → is_some (cond b (Some x) o) ≡ true
     some true o q = refl
     some false o q = q
 
@@ -93,7 +93,7 @@ found-there test worker (x ∷ xs) l e t = by_test (x.worker == worker) e (found
     by_test false q rest = some (test x) (find test xs) (rest q t)
 
 -- two leases of one node
-same-node : (j : Key) (n : ℕ) (a b : Held) → is_of j n a ≡ true → is_of j n b ≡ true → is_of a.key a.index b ≡ true
+same-node : (j : Key) (n : ℕ) (a b : LeaseOut) → is_of j n a ≡ true → is_of j n b ≡ true → is_of a.key a.index b ≡ true
 same-node j n a b one other =
     let first = and_parts (is_key j a.key) (n == a.index) one in
     let key : j ≡ a.key = (is_key-Decides j a.key).0 first.0 in
@@ -101,7 +101,7 @@ same-node j n a b one other =
     subst (λ (m : ℕ). is_of a.key m b ≡ true) index (subst (λ (k : Key). is_of k n b ≡ true) key other)
 
 -- a lease of one node is a lease of the same node
-node-again : (j : Key) (n : ℕ) (x : Held) (ys : List Held) → is_of j n x ≡ true → is_some (lease_at j n ys) ≡ true → is_some (lease_at x.key x.index ys) ≡ true
+node-again : (j : Key) (n : ℕ) (x : LeaseOut) (ys : List LeaseOut) → is_of j n x ≡ true → is_some (lease_at j n ys) ≡ true → is_some (lease_at x.key x.index ys) ≡ true
 node-again j n x [] p r = absurd (cc)
 node-again j n x (y ∷ ys) p r = by_node (is_of j n y) refl (is_of x.key x.index y) refl r (node-again j n x ys p)
   where
@@ -110,12 +110,12 @@ node-again j n x (y ∷ ys) p r = by_node (is_of j n y) refl (is_of x.key x.inde
     by_node true s false t u rest = absurd (both_ways (is_of x.key x.index y) t (same-node j n x y p s))
     by_node false s false t u rest = rest u
 
-none-there : (o : Option Held) → (is_some o ≡ true → ⊥) → is_some o ≡ false
+none-there : (o : Option LeaseOut) → (is_some o ≡ true → ⊥) → is_some o ≡ false
 none-there None f = refl
 none-there (Some l) f = absurd (f refl)
 
 -- of which node there is a lease when one comes back
-without-found : (worker : ℕ) (ls : List Held) (l : Held) (j : Key) (n : ℕ) → AreApart ls → lease_of worker ls ≡ Some l → is_some (lease_at j n (without worker ls)) ≡ (is_some (lease_at j n ls) && not (is_of j n l))
+without-found : (worker : ℕ) (ls : List LeaseOut) (l : LeaseOut) (j : Key) (n : ℕ) → AreApart ls → lease_of worker ls ≡ Some l → is_some (lease_at j n (without worker ls)) ≡ (is_some (lease_at j n ls) && not (is_of j n l))
 without-found worker [] l j n apart e = absurd (cc)
 without-found worker (x ∷ xs) l j n apart e = by_test (x.worker == worker) refl (nat_lt x.worker worker || nat_lt worker x.worker) (others x.worker worker) e (without-found worker xs l j n apart.2)
   where
@@ -124,13 +124,13 @@ without-found worker (x ∷ xs) l j n apart e = by_test (x.worker == worker) ref
     and-true false = refl
 
     gone : (c d : Bool) → is_of j n x ≡ c → is_of j n l ≡ d → x ≡ l → is_some (lease_at j n xs) ≡ (is_some (cond c (Some x) (lease_at j n xs)) && not d)
-    gone true true p q same = none-there (lease_at j n xs) (λ r. both_ways (is_some (lease_at x.key x.index xs)) (ap (λ (o : Option Held). is_some o) apart.1) (node-again j n x xs p r))
+    gone true true p q same = none-there (lease_at j n xs) (λ r. both_ways (is_some (lease_at x.key x.index xs)) (ap (λ (o : Option LeaseOut). is_some o) apart.1) (node-again j n x xs p r))
     gone true false p q same = absurd (both_ways (is_of j n l) q (ap (is_of j n) (sym same) ∙ p))
     gone false true p q same = absurd (both_ways (is_of j n x) p (ap (is_of j n) same ∙ q))
     gone false false p q same = and-true (is_some (lease_at j n xs))
 
     kept : (c d : Bool) → is_of j n x ≡ c → is_of j n l ≡ d → lease_of worker xs ≡ Some l → is_some (lease_at j n (without worker xs)) ≡ (is_some (lease_at j n xs) && not (is_of j n l)) → is_some (cond c (Some x) (lease_at j n (without worker xs))) ≡ (is_some (cond c (Some x) (lease_at j n xs)) && not d)
-    kept true true p q found rest = absurd (both_ways (is_some (lease_at x.key x.index xs)) (ap (λ (o : Option Held). is_some o) apart.1) (found-there (is_of x.key x.index) worker xs l found (same-node j n x l p q)))
+    kept true true p q found rest = absurd (both_ways (is_some (lease_at x.key x.index xs)) (ap (λ (o : Option LeaseOut). is_some o) apart.1) (found-there (is_of x.key x.index) worker xs l found (same-node j n x l p q)))
     kept true false p q found rest = refl
     kept false d p q found rest = rest ∙ ap (λ (b : Bool). is_some (lease_at j n xs) && not b) q
 
@@ -140,12 +140,12 @@ without-found worker (x ∷ xs) l j n apart e = by_test (x.worker == worker) ref
         let same : x ≡ l = cc in
         let worker_is : x.worker ≡ worker = (Decides-eqb x.worker worker).0 p in
         let none : lease_of worker xs ≡ None = subst (λ (m : ℕ). lease_of m xs ≡ None) worker_is apart.0 in
-        ap (λ (ys : List Held). is_some (lease_at j n ys)) (without-none worker xs none) ∙ gone (is_of j n x) (is_of j n l) refl refl same
+        ap (λ (ys : List LeaseOut). is_some (lease_at j n ys)) (without-none worker xs none) ∙ gone (is_of j n x) (is_of j n l) refl refl same
     by_test false p true q f rest = kept (is_of j n x) (is_of j n l) refl refl f (rest f)
     by_test false p false q f rest = absurd (cc)
 
 -- fewer leases are apart too
-filter-none : (test keep : Held → Bool) (ls : List Held) → find test ls ≡ None → find test (filter keep ls) ≡ None
+filter-none : (test keep : LeaseOut → Bool) (ls : List LeaseOut) → find test ls ≡ None → find test (filter keep ls) ≡ None
 filter-none test keep [] e = refl
 filter-none test keep (x ∷ xs) e = by_test (test x) refl (keep x) e (filter-none test keep xs)
   where
@@ -154,12 +154,12 @@ filter-none test keep (x ∷ xs) e = by_test (test x) refl (keep x) e (filter-no
     by_test false p true q rest = ap (λ (b : Bool). cond b (Some x) (find test (filter keep xs))) p ∙ rest q
     by_test false p false q rest = rest q
 
-filter-apart : (keep : Held → Bool) (ls : List Held) → AreApart ls → AreApart (filter keep ls)
+filter-apart : (keep : LeaseOut → Bool) (ls : List LeaseOut) → AreApart ls → AreApart (filter keep ls)
 filter-apart keep [] apart = tt
 filter-apart keep (x ∷ xs) apart = by_test (keep x) (filter-apart keep xs apart.2)
   where
     by_test : (c : Bool) → AreApart (filter keep xs) → AreApart (cond c (x ∷ filter keep xs) (filter keep xs))
-    by_test true rest = (filter-none (λ (l : Held). l.worker == x.worker) keep xs apart.0, filter-none (is_of x.key x.index) keep xs apart.1, rest)
+    by_test true rest = (filter-none (λ (l : LeaseOut). l.worker == x.worker) keep xs apart.0, filter-none (is_of x.key x.index) keep xs apart.1, rest)
     by_test false rest = rest
 
 -- and so is one more of another worker and another node
@@ -170,10 +170,10 @@ eqb-back a b e = by_test (b == a) refl
     by_test true q = absurd (both_ways (a == b) e ((Decides-eqb a b).1 (sym ((Decides-eqb b a).0 q))))
     by_test false q = refl
 
-push-none : (test : Held → Bool) (ls : List Held) (l : Held) → find test ls ≡ None → test l ≡ false → find test (ls ++ l ∷ []) ≡ None
-push-none test ls l e f = none-some (find test (ls ++ l ∷ [])) (push-found test ls l ∙ (ap (λ (o : Option Held). is_some o || test l) e ∙ f))
+push-none : (test : LeaseOut → Bool) (ls : List LeaseOut) (l : LeaseOut) → find test ls ≡ None → test l ≡ false → find test (ls ++ l ∷ []) ≡ None
+push-none test ls l e f = none-some (find test (ls ++ l ∷ [])) (push-found test ls l ∙ (ap (λ (o : Option LeaseOut). is_some o || test l) e ∙ f))
 
-push-apart : (ls : List Held) (l : Held) → AreApart ls → lease_of l.worker ls ≡ None → lease_at l.key l.index ls ≡ None → AreApart (ls ++ l ∷ [])
+push-apart : (ls : List LeaseOut) (l : LeaseOut) → AreApart ls → lease_of l.worker ls ≡ None → lease_at l.key l.index ls ≡ None → AreApart (ls ++ l ∷ [])
 push-apart [] l apart worker node = (refl, refl, tt)
 push-apart (x ∷ xs) l apart worker node = by_worker (x.worker == l.worker) refl worker (is_of l.key l.index x) refl node (push-apart xs l apart.2)
   where
@@ -191,14 +191,14 @@ push-apart (x ∷ xs) l apart worker node = by_worker (x.worker == l.worker) ref
     by_worker true p q c r s rest = absurd (cc)
     by_worker false p q true r s rest = absurd (cc)
     by_worker false p q false r s rest = (
-      push-none (λ (y : Held). y.worker == x.worker) xs l apart.0 (eqb-back x.worker l.worker p),
+      push-none (λ (y : LeaseOut). y.worker == x.worker) xs l apart.0 (eqb-back x.worker l.worker p),
       push-none (is_of x.key x.index) xs l apart.1 (by_back (is_of x.key x.index l) refl r),
       rest q s,
     )
 
 -- an event that leaves each job's places leaves the leases
-adds-out : (mine : Bool) (es : List Own) (o : Own) (i : ℕ) → ((s : Solo) → is_out (solo_step s o) i ≡ is_out s i) → is_out (solo (adds mine es o)) i ≡ is_out (solo es) i
-adds-out true es o i same = ap (λ (s : Solo). is_out s i) (solo-push es o) ∙ same (solo es)
+adds-out : (mine : Bool) (es : List Own) (o : Own) (i : ℕ) → ((s : SoloMachine) → is_out (solo_step s o) i ≡ is_out s i) → is_out (solo (adds mine es o)) i ≡ is_out (solo es) i
+adds-out true es o i same = ap (λ (s : SoloMachine). is_out s i) (solo-push es o) ∙ same (solo es)
 adds-out false es o i same = refl
 
 adds_volume-out : (v : ℕ) (es : List Own) (i : ℕ) → is_out (solo (adds_volume v es)) i ≡ is_out (solo es) i
@@ -206,18 +206,18 @@ adds_volume-out v es i = by_test (v == volume_after es)
   where
     by_test : (b : Bool) → is_out (solo (cond b es (es ++ Volume v ∷ []))) i ≡ is_out (solo es) i
     by_test true = refl
-    by_test false = ap (λ (s : Solo). is_out s i) (solo-push es (Volume v))
+    by_test false = ap (λ (s : SoloMachine). is_out s i) (solo-push es (Volume v))
 
 same-leases : (w : ℕ) (past : List Event) (e : Event) → leases_step (leases past) e ≡ leases past → ((k : Key) (i : ℕ) → is_out (solo (own_step k (own k past) e)) i ≡ is_out (solo (own k past)) i) → AreLeases w past → AreLeases w (past ++ e ∷ [])
 same-leases w past e same outs are =
     let now : leases (past ++ e ∷ []) ≡ leases past = leases-push past e ∙ same in
     record {
-      of_workers = subst (All (λ (l : Held). IsWorker w l.worker)) (sym now) are.of_workers;
+      of_workers = subst (All (λ (l : LeaseOut). IsWorker w l.worker)) (sym now) are.of_workers;
       apart = subst AreApart (sym now) are.apart;
-      nodes = λ k i. ap (λ (es : List Own). is_out (solo es) i) (own-push k past e) ∙ (outs k i ∙ (are.nodes k i ∙ ap (λ (ls : List Held). is_some (lease_at k i ls)) (sym now)));
+      nodes = λ k i. ap (λ (es : List Own). is_out (solo es) i) (own-push k past e) ∙ (outs k i ∙ (are.nodes k i ∙ ap (λ (ls : List LeaseOut). is_some (lease_at k i ls)) (sym now)));
     }
 
-within-out : (ps : List Place) (i : ℕ) → is_some (get_or ps i vacant).out ≡ true → i < length ps
+within-out : (ps : List NodeSlot) (i : ℕ) → is_some (get_or ps i vacant).out ≡ true → i < length ps
 within-out [] i e = absurd (cc)
 within-out (p ∷ ps) zero e = omega arith
 within-out (p ∷ ps) (suc i) e = let u : i < length ps = within-out ps i e in omega arith
@@ -229,14 +229,14 @@ All-at P (y ∷ ys) zero x h e = let same : y ≡ x = cc in subst P same (All-he
 All-at P (y ∷ ys) (suc n) x h e = All-at P ys n x (All-tail P y ys h) e
 
 -- a node that starts is below the number of places, and at home
-record MayLeave (s : Solo) (i : ℕ) : Type 0 where
+record MayLeave (s : SoloMachine) (i : ℕ) : Type 0 where
   low : i < length s.places
   home : is_out s i ≡ false
 
 start-leaves : (w : ℕ) (past : List Event) (k : Key) (i worker : ℕ) (choice : Candidate) → w ≤ 64 → HasSeats w past → MayStart w past k i worker choice → MayLeave (solo (own k past)) i
 start-leaves w past k i worker choice bound has may = record { low = omega (arith, below, most, count); home = at_home (place_at s i).out parts.1 }
   where
-    s : Solo
+    s : SoloMachine
     s = solo (own k past)
 
     opened : list_any (is_key k) (keys_of past) ≡ true
@@ -258,7 +258,7 @@ start-leaves w past k i worker choice bound has may = record { low = omega (arit
     below = (Decides-ltb i s.volume).0 (and_parts (is_live s) (nat_lt i s.volume) parts.0).1
 
     most : s.volume ≤ w
-    most = subst (λ (t : Titled). t.state.volume ≤ w) (sym machine) (All-at (λ (x : Seat). x.job.titled.state.volume ≤ w) has.seats found.at found.seat (seated-volumes w past has.seats has.are) found.is)
+    most = subst (λ (t : KeyedJob). t.state.volume ≤ w) (sym machine) (All-at (λ (x : Seat). x.job.titled.state.volume ≤ w) has.seats found.at found.seat (seated-volumes w past has.seats has.are) found.is)
 
     count : length s.places ≡ 64
     count = (solo-tidy (own k past)).places.count
@@ -270,12 +270,12 @@ start-leaves w past k i worker choice bound has may = record { low = omega (arit
 -- a start
 start-leases : (w : ℕ) (past : List Event) (k : Key) (i worker : ℕ) (choice : Candidate) → w ≤ 64 → HasSeats w past → MayStart w past k i worker choice → AreLeases w past → AreLeases w (past ++ Start k i worker ∷ [])
 start-leases w past k i worker choice bound has may are = record {
-  of_workers = subst (All (λ (l : Held). IsWorker w l.worker)) (sym now) (All-push (λ (l : Held). IsWorker w l.worker) (leases past) l are.of_workers (record { low = may.some_worker; high = may.worker_bound }));
+  of_workers = subst (All (λ (l : LeaseOut). IsWorker w l.worker)) (sym now) (All-push (λ (l : LeaseOut). IsWorker w l.worker) (leases past) l are.of_workers (record { low = may.some_worker; high = may.worker_bound }));
   apart = subst AreApart (sym now) (push-apart (leases past) l are.apart may.idle node);
-  nodes = λ j n. ap (λ (es : List Own). is_out (solo es) n) (own-push j past (Start k i worker)) ∙ (outs j n (is_key j k) refl ∙ (ap (λ (b : Bool). b || (is_key j k && n == i)) (are.nodes j n) ∙ (sym (push-found (is_of j n) (leases past) l) ∙ ap (λ (ls : List Held). is_some (lease_at j n ls)) (sym now))));
+  nodes = λ j n. ap (λ (es : List Own). is_out (solo es) n) (own-push j past (Start k i worker)) ∙ (outs j n (is_key j k) refl ∙ (ap (λ (b : Bool). b || (is_key j k && n == i)) (are.nodes j n) ∙ (sym (push-found (is_of j n) (leases past) l) ∙ ap (λ (ls : List LeaseOut). is_some (lease_at j n ls)) (sym now))));
 }
   where
-    l : Held
+    l : LeaseOut
     l = record { worker = worker; key = k; index = i }
 
     leave : MayLeave (solo (own k past)) i
@@ -294,18 +294,18 @@ start-leases w past k i worker choice bound has may are = record {
     outs : (j : Key) (n : ℕ) (b : Bool) → is_key j k ≡ b → is_out (solo (adds b (own j past) (Started i))) n ≡ (is_out (solo (own j past)) n || (b && n == i))
     outs j n true e =
         let low : i < length (solo (own j past)).places = subst (λ (x : Key). i < length (solo (own x past)).places) (sym ((is_key-Decides j k).0 e)) leave.low in
-        ap (λ (s : Solo). is_out s n) (solo-push (own j past) (Started i)) ∙ started-out (solo (own j past)) i n low
+        ap (λ (s : SoloMachine). is_out s n) (solo-push (own j past) (Started i)) ∙ started-out (solo (own j past)) i n low
     outs j n false e = or-false (is_out (solo (own j past)) n)
 
 -- a finish
 finish-leases : (w : ℕ) (past : List Event) (k : Key) (i worker : ℕ) (outcome : Outcome) → lease_of worker (leases past) ≡ Some (record { worker = worker; key = k; index = i }) → AreLeases w past → AreLeases w (past ++ Finish k i worker outcome ∷ [])
 finish-leases w past k i worker outcome may are = record {
-  of_workers = subst (All (λ (x : Held). IsWorker w x.worker)) (sym now) (All-filter (λ (x : Held). nat_lt x.worker worker || nat_lt worker x.worker) (λ (x : Held). IsWorker w x.worker) (leases past) are.of_workers);
-  apart = subst AreApart (sym now) (filter-apart (λ (x : Held). nat_lt x.worker worker || nat_lt worker x.worker) (leases past) are.apart);
-  nodes = λ j n. ap (λ (es : List Own). is_out (solo es) n) (own-push j past (Finish k i worker outcome)) ∙ (outs j n (is_key j k) refl ∙ (ap (λ (b : Bool). b && not (is_key j k && n == i)) (are.nodes j n) ∙ (sym (without-found worker (leases past) l j n are.apart may) ∙ ap (λ (ls : List Held). is_some (lease_at j n ls)) (sym now))));
+  of_workers = subst (All (λ (x : LeaseOut). IsWorker w x.worker)) (sym now) (All-filter (λ (x : LeaseOut). nat_lt x.worker worker || nat_lt worker x.worker) (λ (x : LeaseOut). IsWorker w x.worker) (leases past) are.of_workers);
+  apart = subst AreApart (sym now) (filter-apart (λ (x : LeaseOut). nat_lt x.worker worker || nat_lt worker x.worker) (leases past) are.apart);
+  nodes = λ j n. ap (λ (es : List Own). is_out (solo es) n) (own-push j past (Finish k i worker outcome)) ∙ (outs j n (is_key j k) refl ∙ (ap (λ (b : Bool). b && not (is_key j k && n == i)) (are.nodes j n) ∙ (sym (without-found worker (leases past) l j n are.apart may) ∙ ap (λ (ls : List LeaseOut). is_some (lease_at j n ls)) (sym now))));
 }
   where
-    l : Held
+    l : LeaseOut
     l = record { worker = worker; key = k; index = i }
 
     now : leases (past ++ Finish k i worker outcome ∷ []) ≡ without worker (leases past)
@@ -324,7 +324,7 @@ finish-leases w past k i worker outcome may are = record {
     outs : (j : Key) (n : ℕ) (b : Bool) → is_key j k ≡ b → is_out (solo (adds b (own j past) (Finished i outcome))) n ≡ (is_out (solo (own j past)) n && not (b && n == i))
     outs j n true e =
         let there : is_out (solo (own j past)) i ≡ true = subst (λ (x : Key). is_out (solo (own x past)) i ≡ true) (sym ((is_key-Decides j k).0 e)) out in
-        ap (λ (s : Solo). is_out s n) (solo-push (own j past) (Finished i outcome)) ∙ finished-out (solo (own j past)) i n outcome there (within-out (solo (own j past)).places i there)
+        ap (λ (s : SoloMachine). is_out s n) (solo-push (own j past) (Finished i outcome)) ∙ finished-out (solo (own j past)) i n outcome there (within-out (solo (own j past)).places i there)
     outs j n false e = and-true (is_out (solo (own j past)) n)
 
 event-leases : (w : ℕ) (past : List Event) (e : Event) → w ≤ 64 → Allowed w past e → HasSeats w past → AreLeases w past → AreLeases w (past ++ e ∷ [])
@@ -342,7 +342,7 @@ record IsOrdered (w : ℕ) (past : List Event) : Type 0 where
   are : AreLeases w past
 
 no-leases : (w : ℕ) → AreLeases w []
-no-leases w = record { of_workers = All-nil (λ (l : Held). IsWorker w l.worker); apart = tt; nodes = λ k i. ap (λ (p : Place). is_some p.out) (get-vacant 64 i) }
+no-leases w = record { of_workers = All-nil (λ (l : LeaseOut). IsWorker w l.worker); apart = tt; nodes = λ k i. ap (λ (p : NodeSlot). is_some p.out) (get-vacant 64 i) }
 
 some-leases : (w : ℕ) (h : List Event) → 1 ≤ w → w ≤ 64 → Legal w h → AreLeases w h
 some-leases w h some bound legal =
@@ -374,16 +374,16 @@ lease-out w past k i worker some bound legal e =
     (some-leases w past some bound legal).nodes k i ∙ found-there (is_of k i) worker (leases past) (record { worker = worker; key = k; index = i }) e mine
 
 -- a worker that has a lease is one of the hall
-pub lease-worker : (w : ℕ) (past : List Event) (worker : ℕ) (l : Held) → 1 ≤ w → w ≤ 64 → Legal w past → lease_of worker (leases past) ≡ Some l → (l.worker ≡ worker) × IsWorker w worker
+pub lease-worker : (w : ℕ) (past : List Event) (worker : ℕ) (l : LeaseOut) → 1 ≤ w → w ≤ 64 → Legal w past → lease_of worker (leases past) ≡ Some l → (l.worker ≡ worker) × IsWorker w worker
 lease-worker w past worker l some bound legal e = found (leases past) (some-leases w past some bound legal).of_workers e
   where
-    found : (ls : List Held) → All (λ (x : Held). IsWorker w x.worker) ls → lease_of worker ls ≡ Some l → (l.worker ≡ worker) × IsWorker w worker
+    found : (ls : List LeaseOut) → All (λ (x : LeaseOut). IsWorker w x.worker) ls → lease_of worker ls ≡ Some l → (l.worker ≡ worker) × IsWorker w worker
     found [] all f = absurd (cc)
-    found (x ∷ xs) all f = by_test (x.worker == worker) refl f (found xs (All-tail (λ (y : Held). IsWorker w y.worker) x xs all))
+    found (x ∷ xs) all f = by_test (x.worker == worker) refl f (found xs (All-tail (λ (y : LeaseOut). IsWorker w y.worker) x xs all))
       where
         by_test : (b : Bool) → (x.worker == worker) ≡ b → cond b (Some x) (lease_of worker xs) ≡ Some l → (lease_of worker xs ≡ Some l → (l.worker ≡ worker) × IsWorker w worker) → (l.worker ≡ worker) × IsWorker w worker
         by_test true p g rest =
             let same : x ≡ l = cc in
             let worker_is : x.worker ≡ worker = (Decides-eqb x.worker worker).0 p in
-            (ap (λ (y : Held). y.worker) (sym same) ∙ worker_is, subst (IsWorker w) worker_is (All-head (λ (y : Held). IsWorker w y.worker) x xs all))
+            (ap (λ (y : LeaseOut). y.worker) (sym same) ∙ worker_is, subst (IsWorker w) worker_is (All-head (λ (y : LeaseOut). IsWorker w y.worker) x xs all))
         by_test false p g rest = rest g

@@ -7,8 +7,8 @@ use Rattle.spec_hall.specs.Legal.{Allowed}
 use Rattle.spec_job.specs.Viewed.{and_own, and_start}
 use Rattle.spec_balance.specs.Fair.{IsFair}
 use Rattle.spec_job.specs.Left.{after_start, left_of}
-use Rattle.spec_job.specs.Solo.{Finished, Exchanged}
-use Rattle.spec_job.specs.Titled.{Key}
+use Rattle.spec_job.specs.SoloMachine.{Finished, Exchanged}
+use Rattle.spec_job.specs.KeyedJob.{Key}
 use Rattle.spec_hall.specs.Events.{Event, Balance, Start, Finish, Exchange}
 use Rattle.spec_hall.specs.Measure.{is_same_live, is_balanced, left_by, left_in}
 use Rattle.spec_hall.specs.Seats.{Seat, IsSeated, jobs_in, has_changed, is_due, first_exchange, shares_by, balanced_by}

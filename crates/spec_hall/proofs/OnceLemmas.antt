@@ -9,8 +9,8 @@ use Rattle.std.proofs.lemmas.List.Folds.{list_all-append}
 use Rattle.mal_base.specs.Asks.{Terms}
 use Rattle.mal_history.specs.declared.event.Share.{Share}
 use Rattle.spec_balance.specs.Fair.{IsFair, demand_at, volume_at}
-use Rattle.spec_job.specs.Solo.{Own, Opened, Revised, Closed, Volume, Started, Finished, Exchanged, Solo, solo, solo_step, is_live, is_exchange_due}
-use Rattle.spec_job.specs.Titled.{Key, Titled}
+use Rattle.spec_job.specs.SoloMachine.{Own, Opened, Revised, Closed, Volume, Started, Finished, Exchanged, SoloMachine, solo, solo_step, is_live, is_exchange_due}
+use Rattle.spec_job.specs.KeyedJob.{Key, KeyedJob}
 use Rattle.spec_job.specs.DemandOne.{is_single}
 use Rattle.spec_hall.specs.Events.{Event, key_of}
 use Rattle.spec_hall.specs.Own.{own, adds, adds_volume, is_key, volume_in, volume_step, volume_after}
@@ -55,7 +55,7 @@ once-more es o once keeps suits = record {
   ask = once.ask;
   rest = once.rest ++ o ∷ [];
   is = ap (λ (xs : List Own). xs ++ o ∷ []) once.is;
-  same = ap (λ (s : Solo). s.ask) (solo-push es o) ∙ (keeps ∙ once.same);
+  same = ap (λ (s : SoloMachine). s.ask) (solo-push es o) ∙ (keeps ∙ once.same);
   single = λ one fed. single one (and_parts (list_all is_fed once.rest) (list_all is_fed (o ∷ [])) (sym (list_all-append is_fed once.rest (o ∷ [])) ∙ fed));
 }
   where
@@ -78,18 +78,18 @@ adds_volume-once v es once suits = by_test (v == volume_after es)
     by_test false = once-more es (Volume v) once refl suits
 
 -- a job of demand 1 is given one worker at most
-shares-low : (k : Key) (shares : List Share) (ts : List Titled) → map key_of shares ≡ map (λ (t : Titled). t.key) ts → All (λ (t : Titled). is_key k t.key ≡ true → t.state.ask.demand ≡ 1) ts → ((i : ℕ) → i < length ts → volume_at (map (λ (s : Share). s.volume) shares) i ≤ demand_at (map (λ (t : Titled). t.state.ask) ts) i) → volume_in k shares ≤ 1
+shares-low : (k : Key) (shares : List Share) (ts : List KeyedJob) → map key_of shares ≡ map (λ (t : KeyedJob). t.key) ts → All (λ (t : KeyedJob). is_key k t.key ≡ true → t.state.ask.demand ≡ 1) ts → ((i : ℕ) → i < length ts → volume_at (map (λ (s : Share). s.volume) shares) i ≤ demand_at (map (λ (t : KeyedJob). t.state.ask) ts) i) → volume_in k shares ≤ 1
 shares-low k [] ts keys ones low = omega arith
 shares-low k (s ∷ shares) [] keys ones low = absurd (cc)
 shares-low k (s ∷ shares) (t ∷ ts) keys ones low = by_test (is_key k (key_of s)) refl (shares-low k shares ts later (All-tail One t ts ones) (λ i h. low (suc i) (omega (arith, h))))
   where
-    One : Titled → Type 0
+    One : KeyedJob → Type 0
     One x = is_key k x.key ≡ true → x.state.ask.demand ≡ 1
 
     first : key_of s ≡ t.key
     first = cc
 
-    later : map key_of shares ≡ map (λ (x : Titled). x.key) ts
+    later : map key_of shares ≡ map (λ (x : KeyedJob). x.key) ts
     later = cc
 
     here : is_key k (key_of s) ≡ true → s.volume ≤ 1
@@ -103,15 +103,15 @@ shares-low k (s ∷ shares) (t ∷ ts) keys ones low = by_test (is_key k (key_of
     by_test false e rest = rest
 
 -- each job under this key has the demand of its machine
-states-one : (past : List Event) (k : Key) (ks : List Key) → (solo (own k past)).ask.demand ≡ 1 → All (λ (t : Titled). is_key k t.key ≡ true → t.state.ask.demand ≡ 1) (map (titled past) ks)
-states-one past k [] one = All-nil (λ (t : Titled). is_key k t.key ≡ true → t.state.ask.demand ≡ 1)
-states-one past k (x ∷ xs) one = All-cons (λ (t : Titled). is_key k t.key ≡ true → t.state.ask.demand ≡ 1) (titled past x) (map (titled past) xs) (λ e. subst (λ (j : Key). (solo (own j past)).ask.demand ≡ 1) ((is_key-Decides k x).0 e) one) (states-one past k xs one)
+states-one : (past : List Event) (k : Key) (ks : List Key) → (solo (own k past)).ask.demand ≡ 1 → All (λ (t : KeyedJob). is_key k t.key ≡ true → t.state.ask.demand ≡ 1) (map (titled past) ks)
+states-one past k [] one = All-nil (λ (t : KeyedJob). is_key k t.key ≡ true → t.state.ask.demand ≡ 1)
+states-one past k (x ∷ xs) one = All-cons (λ (t : KeyedJob). is_key k t.key ≡ true → t.state.ask.demand ≡ 1) (titled past x) (map (titled past) xs) (λ e. subst (λ (j : Key). (solo (own j past)).ask.demand ≡ 1) ((is_key-Decides k x).0 e) one) (states-one past k xs one)
 
-keys-live : (ts : List Titled) → map (λ (t : Titled). t.key) ts ≡ map (λ l. l.key) (map live_of ts)
+keys-live : (ts : List KeyedJob) → map (λ (t : KeyedJob). t.key) ts ≡ map (λ l. l.key) (map live_of ts)
 keys-live [] = refl
 keys-live (t ∷ ts) = ap (λ (ks : List Key). t.key ∷ ks) (keys-live ts)
 
-asks-length : (ts : List Titled) → length (map (λ (t : Titled). t.state.ask) ts) ≡ length ts
+asks-length : (ts : List KeyedJob) → length (map (λ (t : KeyedJob). t.state.ask) ts) ≡ length ts
 asks-length [] = refl
 asks-length (t ∷ ts) = ap suc (asks-length ts)
 
@@ -133,25 +133,25 @@ fair-low w asks vs fair i within = by_workers (lt-or_le i w)
 
 pub balance-suits : (w : ℕ) (past : List Event) (k : Key) (shares : List Share) → MayBalance w past shares → Suits (own k past) (Volume (volume_in k shares))
 balance-suits w past k shares may once one single fed =
-    let lives : List Titled = live_ones (states past) in
-    let ones = All-filter (λ (t : Titled). is_live t.state) (λ (t : Titled). is_key k t.key ≡ true → t.state.ask.demand ≡ 1) (states past) (states-one past k (keys_of past) one) in
+    let lives : List KeyedJob = live_ones (states past) in
+    let ones = All-filter (λ (t : KeyedJob). is_live t.state) (λ (t : KeyedJob). is_key k t.key ≡ true → t.state.ask.demand ≡ 1) (states past) (states-one past k (keys_of past) one) in
     let low : (i : ℕ) → i < length lives → volume_at (map (λ (s : Share). s.volume) shares) i ≤ demand_at (live_asks (states past)) i = λ i h. fair-low w (live_asks (states past)) (map (λ (s : Share). s.volume) shares) may.fair i (omega (arith, h, asks-length lives)) in
     le-leb (volume_in k shares) 1 (shares-low k shares lives (may.keys ∙ sym (keys-live lives)) ones low)
 
 -- a job that an exchange is due of is its machine
-exchange-titled : (past : List Event) (ks : List Key) (t : Titled) → find (λ (x : Titled). is_exchange_due x.state) (map (titled past) ks) ≡ Some t → is_exchange_due (solo (own t.key past)) ≡ true
+exchange-titled : (past : List Event) (ks : List Key) (t : KeyedJob) → find (λ (x : KeyedJob). is_exchange_due x.state) (map (titled past) ks) ≡ Some t → is_exchange_due (solo (own t.key past)) ≡ true
 exchange-titled past [] t e = absurd (cc)
 exchange-titled past (x ∷ xs) t e = by_test (is_exchange_due (solo (own x past))) refl e (exchange-titled past xs t)
   where
-    by_test : (b : Bool) → is_exchange_due (solo (own x past)) ≡ b → cond b (Some (titled past x)) (find (λ (y : Titled). is_exchange_due y.state) (map (titled past) xs)) ≡ Some t → (find (λ (y : Titled). is_exchange_due y.state) (map (titled past) xs) ≡ Some t → is_exchange_due (solo (own t.key past)) ≡ true) → is_exchange_due (solo (own t.key past)) ≡ true
-    by_test true q f rest = let same : titled past x ≡ t = cc in subst (λ (y : Titled). is_exchange_due (solo (own y.key past)) ≡ true) same q
+    by_test : (b : Bool) → is_exchange_due (solo (own x past)) ≡ b → cond b (Some (titled past x)) (find (λ (y : KeyedJob). is_exchange_due y.state) (map (titled past) xs)) ≡ Some t → (find (λ (y : KeyedJob). is_exchange_due y.state) (map (titled past) xs) ≡ Some t → is_exchange_due (solo (own t.key past)) ≡ true) → is_exchange_due (solo (own t.key past)) ≡ true
+    by_test true q f rest = let same : titled past x ≡ t = cc in subst (λ (y : KeyedJob). is_exchange_due (solo (own y.key past)) ≡ true) same q
     by_test false q f rest = rest f
 
 -- of one node no exchange is due
-low-calm : (s : Solo) → s.volume ≤ 1 → is_exchange_due s ≡ true → ⊥
+low-calm : (s : SoloMachine) → s.volume ≤ 1 → is_exchange_due s ≡ true → ⊥
 low-calm s h e = absurd (omega (arith, h, leb-true 2 s.volume (and_parts (nat_le 2 s.volume) (nat_le (2 * s.volume) s.ran) e).0))
 
-pub exchange-suits : (past : List Event) (k j : Key) (t : Titled) → MayExchange past j t → is_key k j ≡ true → Suits (own k past) Exchanged
+pub exchange-suits : (past : List Event) (k j : Key) (t : KeyedJob) → MayExchange past j t → is_key k j ≡ true → Suits (own k past) Exchanged
 exchange-suits past k j t may mine once one single fed =
     let key : t.key ≡ k = may.key ∙ sym ((is_key-Decides k j).0 mine) in
     let due : is_exchange_due (solo (own k past)) ≡ true = subst (λ (i : Key). is_exchange_due (solo (own i past)) ≡ true) key (exchange-titled past (keys_of past) t may.first) in

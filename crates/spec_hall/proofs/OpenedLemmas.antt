@@ -5,8 +5,8 @@ use Rattle.std.proofs.lemmas.Bool.{both_ways}
 use Rattle.std.proofs.lemmas.List.Folds.{list_any-append}
 use Rattle.mal_base.specs.Asks.{Terms}
 use Rattle.spec_job.specs.Counts.{is_opening}
-use Rattle.spec_job.specs.Solo.{Own, Opened, Revised, Closed, Volume, Started, Finished, Exchanged}
-use Rattle.spec_job.specs.Titled.{Key}
+use Rattle.spec_job.specs.SoloMachine.{Own, Opened, Revised, Closed, Volume, Started, Finished, Exchanged}
+use Rattle.spec_job.specs.KeyedJob.{Key}
 use Rattle.spec_job.specs.Runnable.{IsRunnable}
 use Rattle.spec_job.specs.Unknown.{AnswersAccountedFor}
 use Rattle.spec_job.proofs.UnknownLemmas.{answers-accounted_for, accounted-decides}

@@ -6,11 +6,11 @@ use Rattle.std.proofs.lemmas.Bool.{or_parts, or_from}
 use Rattle.std.proofs.lemmas.List.Folds.{list_any-append}
 use Rattle.std.proofs.lemmas.List.Elements.{All-nil, All-head, All-tail, All-weaker, All-push, All-filter}
 use Rattle.mal_history.specs.declared.event.Share.{Share}
-use Rattle.spec_job.specs.Solo.{Own, Opened, Revised, Closed, Started, Finished, Exchanged, solo, is_live, is_exchange_due}
-use Rattle.spec_job.specs.Titled.{Key, Titled}
+use Rattle.spec_job.specs.SoloMachine.{Own, Opened, Revised, Closed, Started, Finished, Exchanged, solo, is_live, is_exchange_due}
+use Rattle.spec_job.specs.KeyedJob.{Key, KeyedJob}
 use Rattle.spec_hall.specs.Events.{Event, Open, Revise, Close, Balance, Start, Finish, Exchange, key_of}
 use Rattle.spec_hall.specs.Own.{own, own_step, adds, adds_volume, is_key, volume_in}
-use Rattle.spec_hall.specs.States.{Held, Live, keys_of, keys_step, titled, lives, live_of, leases, leases_step, lease_of}
+use Rattle.spec_hall.specs.States.{LeaseOut, Live, keys_of, keys_step, titled, lives, live_of, leases, leases_step, lease_of}
 use Rattle.spec_hall.specs.Legal.{Allowed, Legal}
 use Rattle.spec_hall.proofs.KeyLemmas.{AreApart, apart-push, is_key-Decides, key-differs, key-stands}
 use Rattle.spec_hall.proofs.PushLemmas.{own-push, keys-push, leases-push}
@@ -21,7 +21,7 @@ abbrev pub was_opened : List Event → Key → Bool
 was_opened past k = list_any (is_key k) (keys_of past)
 
 -- the job of a start that is out was opened
-abbrev pub HasOpened : List Event → Held → Type 0
+abbrev pub HasOpened : List Event → LeaseOut → Type 0
 HasOpened past l = was_opened past l.key ≡ true
 
 -- the keys of the jobs differ, one that was not opened has no own events, and no start of it is out
@@ -54,22 +54,22 @@ lives-absent past k (x ∷ xs) h = by_test (lives-absent past k xs parts.1) (is_
     parts : (is_key k x ≡ false) × (list_any (is_key k) xs ≡ false)
     parts = or_parts (is_key k x) (list_any (is_key k) xs) h
 
-    keys : List Titled → List Key
+    keys : List KeyedJob → List Key
     keys ts = map (λ (l : Live). l.key) (map live_of ts)
 
-    by_test : list_any (is_key k) (map (λ (l : Live). l.key) (lives (map (titled past) xs))) ≡ false → (b : Bool) → list_any (is_key k) (map (λ (l : Live). l.key) (map live_of (cond b (titled past x ∷ filter (λ (t : Titled). is_live t.state) (map (titled past) xs)) (filter (λ (t : Titled). is_live t.state) (map (titled past) xs))))) ≡ false
+    by_test : list_any (is_key k) (map (λ (l : Live). l.key) (lives (map (titled past) xs))) ≡ false → (b : Bool) → list_any (is_key k) (map (λ (l : Live). l.key) (map live_of (cond b (titled past x ∷ filter (λ (t : KeyedJob). is_live t.state) (map (titled past) xs)) (filter (λ (t : KeyedJob). is_live t.state) (map (titled past) xs))))) ≡ false
     by_test rest true = or_from (is_key k x) _ parts.0 rest
     by_test rest false = rest
 
 -- the jobs of a history were opened
-pub titled-opened : (past : List Event) (k : Key) (ks : List Key) (test : Titled → Bool) (t : Titled) → find test (map (titled past) ks) ≡ Some t → list_any (is_key t.key) ks ≡ true
+pub titled-opened : (past : List Event) (k : Key) (ks : List Key) (test : KeyedJob → Bool) (t : KeyedJob) → find test (map (titled past) ks) ≡ Some t → list_any (is_key t.key) ks ≡ true
 titled-opened past k [] test t e = absurd (cc)
 titled-opened past k (x ∷ xs) test t e = by_test (titled-opened past k xs test t) (test (titled past x)) e
   where
     by_test : (find test (map (titled past) xs) ≡ Some t → list_any (is_key t.key) xs ≡ true) → (b : Bool) → cond b (Some (titled past x)) (find test (map (titled past) xs)) ≡ Some t → list_any (is_key t.key) (x ∷ xs) ≡ true
     by_test rest true q =
         let same : titled past x ≡ t = cc in
-        let key : t.key ≡ x = ap (λ (u : Titled). u.key) (sym same) in
+        let key : t.key ≡ x = ap (λ (u : KeyedJob). u.key) (sym same) in
         ap (λ (b : Bool). b || list_any (is_key t.key) xs) ((is_key-Decides t.key x).1 key)
     by_test rest false q = by_rest (is_key t.key x) (rest q)
       where
@@ -83,7 +83,7 @@ other-absent past j k o orderly opened absent = ap (λ (b : Bool). adds b (own j
 
 -- the lease of a worker is of a job that was opened
 pub lease-opened : (past : List Event) (worker index : ℕ) (k : Key) → IsOrderly past → lease_of worker (leases past) ≡ Some (record { worker = worker; key = k; index = index }) → was_opened past k ≡ true
-lease-opened past worker index k orderly e = find-holds (HasOpened past) (λ (l : Held). l.worker == worker) (leases past) (record { worker = worker; key = k; index = index }) orderly.leased e
+lease-opened past worker index k orderly e = find-holds (HasOpened past) (λ (l : LeaseOut). l.worker == worker) (leases past) (record { worker = worker; key = k; index = index }) orderly.leased e
 
 -- an event that is allowed gives no own event to a job that is not opened then
 event-absent : (w : ℕ) (past : List Event) (e : Event) → Allowed w past e → IsOrderly past → (j : Key) → list_any (is_key j) (keys_step (keys_of past) e) ≡ false → own_step j (own j past) e ≡ []
@@ -99,17 +99,17 @@ event-absent w past (Balance shares) may orderly j absent =
 event-absent w past (Start k index worker) may orderly j absent = other-absent past j k (Started index) orderly (key-stands (keys_of past) may.0.job k may.1.key) absent
 event-absent w past (Finish k index worker outcome) may orderly j absent = other-absent past j k (Finished index outcome) orderly (lease-opened past worker index k orderly may) absent
 event-absent w past (Exchange k) may orderly j absent =
-    let opened : was_opened past may.0.key ≡ true = titled-opened past k (keys_of past) (λ (t : Titled). is_exchange_due t.state) may.0 may.1.first in
+    let opened : was_opened past may.0.key ≡ true = titled-opened past k (keys_of past) (λ (t : KeyedJob). is_exchange_due t.state) may.0 may.1.first in
     other-absent past j k Exchanged orderly (subst (λ (x : Key). was_opened past x ≡ true) may.1.key opened) absent
 
 -- the jobs of the starts that are out were opened
-event-leased : (w : ℕ) (past : List Event) (e : Event) → Allowed w past e → (P : Held → Type 0) → All P (leases past) → ((k : Key) (index worker : ℕ) → was_opened past k ≡ true → P (record { worker = worker; key = k; index = index })) → All P (leases_step (leases past) e)
+event-leased : (w : ℕ) (past : List Event) (e : Event) → Allowed w past e → (P : LeaseOut → Type 0) → All P (leases past) → ((k : Key) (index worker : ℕ) → was_opened past k ≡ true → P (record { worker = worker; key = k; index = index })) → All P (leases_step (leases past) e)
 event-leased w past (Open k ask) may P h new = h
 event-leased w past (Revise k number r) may P h new = h
 event-leased w past (Close k) may P h new = h
 event-leased w past (Balance shares) may P h new = h
 event-leased w past (Start k index worker) may P h new = All-push P (leases past) (record { worker = worker; key = k; index = index }) h (new k index worker (key-stands (keys_of past) may.0.job k may.1.key))
-event-leased w past (Finish k index worker outcome) may P h new = All-filter (λ (l : Held). nat_lt l.worker worker || nat_lt worker l.worker) P (leases past) h
+event-leased w past (Finish k index worker outcome) may P h new = All-filter (λ (l : LeaseOut). nat_lt l.worker worker || nat_lt worker l.worker) P (leases past) h
 event-leased w past (Exchange k) may P h new = h
 
 event-apart : (w : ℕ) (past : List Event) (e : Event) → Allowed w past e → AreApart (keys_of past) → AreApart (keys_step (keys_of past) e)

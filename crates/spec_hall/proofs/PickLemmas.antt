@@ -3,18 +3,18 @@ use Rattle.std.specs.Option.{option_map}
 use Rattle.std.proofs.lemmas.List.Sums.{fold-append}
 use Rattle.std.proofs.lemmas.Option.{slice_get-map}
 use Rattle.spec_node.specs.Load.{counted}
-use Rattle.spec_job.specs.Solo.{Solo, startable, place_at}
+use Rattle.spec_job.specs.SoloMachine.{SoloMachine, startable, place_at}
 use Rattle.spec_hall.specs.Events.{Event}
 use Rattle.spec_hall.specs.States.{Candidate, states, candidates_of, candidates_from, fewer, picked}
 use Rattle.spec_hall.specs.Seats.{Seat, IsSeated, jobs_in, pick_node, pick_job, pick_from, pick}
 use Rattle.spec_hall.proofs.RunnableLemmas.{IsCandidate, candidates-may, fewest-All}
 
 -- a node of the job at a place
-abbrev node_of : ℕ → Solo → ℕ → Candidate
+abbrev node_of : ℕ → SoloMachine → ℕ → Candidate
 node_of job s i = record { job = job; index = i; starts = (place_at s i).starts }
 
 -- the best of a job's nodes that may start is found node by node
-nodes-picked : (job : ℕ) (s : Solo) (best : Option Candidate) (is : List ℕ) → fold fewer best (map (node_of job s) (filter (startable s) is)) ≡ fold (pick_node job s) best is
+nodes-picked : (job : ℕ) (s : SoloMachine) (best : Option Candidate) (is : List ℕ) → fold fewer best (map (node_of job s) (filter (startable s) is)) ≡ fold (pick_node job s) best is
 nodes-picked job s best [] = refl
 nodes-picked job s best (i ∷ is) = by_test (startable s i) (λ o. nodes-picked job s o is)
   where
@@ -58,5 +58,5 @@ pick-startable ss c s e at =
 pub counted-more : (first last : ℕ) → first < last → counted first (last - first) ≡ first ∷ counted (first + 1) (last - (first + 1))
 counted-more first last h = let next : last - first ≡ suc (last - (first + 1)) = omega (arith, h) in ap (counted first) next
 
-pub pick-more : (job : ℕ) (s : Solo) (best : Option Candidate) (first last : ℕ) → first < last → fold (pick_node job s) best (counted first (last - first)) ≡ fold (pick_node job s) (pick_node job s best first) (counted (first + 1) (last - (first + 1)))
+pub pick-more : (job : ℕ) (s : SoloMachine) (best : Option Candidate) (first last : ℕ) → first < last → fold (pick_node job s) best (counted first (last - first)) ≡ fold (pick_node job s) (pick_node job s best first) (counted (first + 1) (last - (first + 1)))
 pick-more job s best first last h = ap (fold (pick_node job s) best) (counted-more first last h)

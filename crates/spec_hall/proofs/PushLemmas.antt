@@ -1,7 +1,7 @@
 use Rattle.std.proofs.Common.{◌≡◌, ℕ, List, [], ◌∷◌, ◌++◌, if◌then◌else◌, sym, ◌∙◌, ap, append_assoc, append-nil}
 use Rattle.std.proofs.lemmas.List.Sums.{fold_push}
-use Rattle.spec_job.specs.Titled.{Key}
-use Rattle.spec_job.specs.Solo.{Own, solo, solo_step, unopened}
+use Rattle.spec_job.specs.KeyedJob.{Key}
+use Rattle.spec_job.specs.SoloMachine.{Own, solo, solo_step, unopened}
 use Rattle.spec_hall.specs.Events.{Event}
 use Rattle.spec_hall.specs.Own.{own, own_step}
 use Rattle.spec_hall.specs.States.{Live, keys_of, keys_step, states, lives, is_balance, balanced, balanced_from, leases, leases_step}

@@ -6,8 +6,8 @@ use Rattle.std.proofs.lemmas.List.Elements.{All-nil, All-head, All-tail, All-wea
 use Rattle.mal_revision.specs.Posted.{Posted}
 use Rattle.spec_node.specs.Load.{counted}
 use Rattle.spec_node.proofs.BatchLemmas.{All-filtered, all-of}
-use Rattle.spec_job.specs.Solo.{Own, Opened, Revised, Closed, Volume, Started, Finished, Exchanged, solo, startable, place_at, clauses_in}
-use Rattle.spec_job.specs.Titled.{Key, Titled}
+use Rattle.spec_job.specs.SoloMachine.{Own, Opened, Revised, Closed, Volume, Started, Finished, Exchanged, solo, startable, place_at, clauses_in}
+use Rattle.spec_job.specs.KeyedJob.{Key, KeyedJob}
 use Rattle.spec_job.specs.Runnable.{MayCome, MayHappen, IsRunnable}
 use Rattle.spec_job.proofs.OwnLemmas.{runnable-clauses_own}
 use Rattle.spec_job.proofs.RefutingLemmas.{runnable-answers_follow, runnable-answers_refute, runnable-answers_solve, runnable-logs_derived}
@@ -20,36 +20,36 @@ use Rattle.spec_hall.proofs.KeyLemmas.{is_key-Decides}
 use Rattle.spec_hall.proofs.PushLemmas.{own-push}
 
 -- the job that is found under a key is its machine run alone
-pub find-titled : (past : List Event) (k : Key) (ks : List Key) (t : Titled) → find (λ (x : Titled). is_key k x.key) (map (titled past) ks) ≡ Some t → titled past k ≡ t
+pub find-titled : (past : List Event) (k : Key) (ks : List Key) (t : KeyedJob) → find (λ (x : KeyedJob). is_key k x.key) (map (titled past) ks) ≡ Some t → titled past k ≡ t
 find-titled past k [] t e = absurd (cc)
 find-titled past k (x ∷ xs) t e = by_test (find-titled past k xs t) (is_key k x) refl e
   where
-    by_test : (find (λ (y : Titled). is_key k y.key) (map (titled past) xs) ≡ Some t → titled past k ≡ t) → (b : Bool) → is_key k x ≡ b → cond b (Some (titled past x)) (find (λ (y : Titled). is_key k y.key) (map (titled past) xs)) ≡ Some t → titled past k ≡ t
+    by_test : (find (λ (y : KeyedJob). is_key k y.key) (map (titled past) xs) ≡ Some t → titled past k ≡ t) → (b : Bool) → is_key k x ≡ b → cond b (Some (titled past x)) (find (λ (y : KeyedJob). is_key k y.key) (map (titled past) xs)) ≡ Some t → titled past k ≡ t
     by_test rest true q f = let same : titled past x ≡ t = cc in ap (titled past) ((is_key-Decides k x).0 q) ∙ same
     by_test rest false q f = rest f
 
 -- a candidate of these jobs, of which the first has this place, is a node that may start
-pub record IsCandidate (first : ℕ) (jobs : List Titled) (c : Candidate) : Type 0 where
+pub record IsCandidate (first : ℕ) (jobs : List KeyedJob) (c : Candidate) : Type 0 where
   pub behind : first ≤ c.job
   pub within : c.job < first + length jobs
-  pub may : (t : Titled) → slice_get jobs (c.job - first) ≡ Some t → startable t.state c.index ≡ true
+  pub may : (t : KeyedJob) → slice_get jobs (c.job - first) ≡ Some t → startable t.state c.index ≡ true
 
-candidate-first : (first : ℕ) (t : Titled) (ts : List Titled) (i starts : ℕ) → startable t.state i ≡ true → IsCandidate first (t ∷ ts) (record { job = first; index = i; starts = starts })
+candidate-first : (first : ℕ) (t : KeyedJob) (ts : List KeyedJob) (i starts : ℕ) → startable t.state i ≡ true → IsCandidate first (t ∷ ts) (record { job = first; index = i; starts = starts })
 candidate-first first t ts i starts h = record { behind = omega arith; within = omega arith; may = λ u e. at_first u (subst (λ (n : ℕ). slice_get (t ∷ ts) n ≡ Some u) zero_is e) }
   where
     zero_is : first - first ≡ 0
     zero_is = omega arith
 
-    at_first : (u : Titled) → slice_get (t ∷ ts) 0 ≡ Some u → startable u.state i ≡ true
-    at_first u e = let same : t ≡ u = cc in subst (λ (x : Titled). startable x.state i ≡ true) same h
+    at_first : (u : KeyedJob) → slice_get (t ∷ ts) 0 ≡ Some u → startable u.state i ≡ true
+    at_first u e = let same : t ≡ u = cc in subst (λ (x : KeyedJob). startable x.state i ≡ true) same h
 
-candidate-later : (first : ℕ) (t : Titled) (ts : List Titled) (c : Candidate) → IsCandidate (first + 1) ts c → IsCandidate first (t ∷ ts) c
+candidate-later : (first : ℕ) (t : KeyedJob) (ts : List KeyedJob) (c : Candidate) → IsCandidate (first + 1) ts c → IsCandidate first (t ∷ ts) c
 candidate-later first t ts c h =
     let behind : first + 1 ≤ c.job = h.behind in
     let next : c.job - first ≡ suc (c.job - (first + 1)) = omega arith in
     record { behind = omega arith; within = omega (arith, h.within); may = λ u e. h.may u (subst (λ (n : ℕ). slice_get (t ∷ ts) n ≡ Some u) next e) }
 
-pub candidates-may : (first : ℕ) (jobs : List Titled) → All (IsCandidate first jobs) (candidates_from first jobs)
+pub candidates-may : (first : ℕ) (jobs : List KeyedJob) → All (IsCandidate first jobs) (candidates_from first jobs)
 candidates-may first [] = All-nil (IsCandidate first [])
 candidates-may first (t ∷ ts) = All-append (IsCandidate first (t ∷ ts)) (candidates_of first t.state) (candidates_from (first + 1) ts) here (All-weaker (IsCandidate (first + 1) ts) (IsCandidate first (t ∷ ts)) (candidate-later first t ts) (candidates_from (first + 1) ts) (candidates-may (first + 1) ts))
   where
@@ -87,11 +87,11 @@ picked-may w past k i worker choice may =
     subst (λ (n : ℕ). startable (solo (own k past)) n ≡ true) may.place (chosen.may (titled past k) (subst (λ (n : ℕ). slice_get (states past) n ≡ Some (titled past k)) same at))
 
 -- a revision that a job may get may come to its machine
-revised-may : (past : List Event) (k : Key) (number : ℕ) (r : Posted) (t : Titled) → MayRevise past k number r t → MayCome (solo (own k past)) r
+revised-may : (past : List Event) (k : Key) (number : ℕ) (r : Posted) (t : KeyedJob) → MayRevise past k number r t → MayCome (solo (own k past)) r
 revised-may past k number r t may =
     let same : t ≡ titled past k = sym (find-titled past k (keys_of past) t may.job) in
     let room : clauses_in t.state.revisions + length r.clauses ≤ 1048576 = may.clause_room in
-    let own_room : clauses_in (solo (own k past)).revisions + length r.clauses ≤ 1048576 = subst (λ (x : Titled). clauses_in x.state.revisions + length r.clauses ≤ 1048576) same room in
+    let own_room : clauses_in (solo (own k past)).revisions + length r.clauses ≤ 1048576 = subst (λ (x : KeyedJob). clauses_in x.state.revisions + length r.clauses ≤ 1048576) same room in
     record { posted = may.posted; room = omega arith }
 
 -- one more own event that may happen

@@ -9,8 +9,8 @@ use Rattle.mal_revision.specs.Posted.{Posted}
 use Rattle.spec_balance.specs.Fair.{IsFair}
 use Rattle.spec_job.specs.Keeps.{KeepsTerms}
 use Rattle.mal_base.specs.declared.verdict.Outcome.{Outcome}
-use Rattle.spec_job.specs.Solo.{Own, Revised, Closed, Started, Finished, solo_step}
-use Rattle.spec_job.specs.Titled.{Key, Titled, stepped}
+use Rattle.spec_job.specs.SoloMachine.{Own, Revised, Closed, Started, Finished, solo_step}
+use Rattle.spec_job.specs.KeyedJob.{Key, KeyedJob, stepped}
 use Rattle.spec_job.specs.Viewed.{JobView, and_own, and_start}
 use Rattle.spec_job.proofs.StepLemmas.{finish-keeps}
 use Rattle.spec_hall.specs.Events.{Event, Open, Revise, Close, Start, Finish}
@@ -38,20 +38,20 @@ seated-none w some = record { some_worker = some; legal = tt; jobs = refl; last 
 abbrev pub seat_keys : List Seat → List Key
 seat_keys ss = map (λ s. s.job.titled.key) ss
 
-states-keys : (h : List Event) (ks : List Key) → map (λ (t : Titled). t.key) (map (titled h) ks) ≡ ks
+states-keys : (h : List Event) (ks : List Key) → map (λ (t : KeyedJob). t.key) (map (titled h) ks) ≡ ks
 states-keys h [] = refl
 states-keys h (k ∷ ks) = ap (λ (xs : List Key). k ∷ xs) (states-keys h ks)
 
-jobs-keys : (ss : List Seat) → map (λ (t : Titled). t.key) (jobs_in ss) ≡ seat_keys ss
+jobs-keys : (ss : List Seat) → map (λ (t : KeyedJob). t.key) (jobs_in ss) ≡ seat_keys ss
 jobs-keys [] = refl
 jobs-keys (s ∷ ss) = ap (λ (xs : List Key). s.job.titled.key ∷ xs) (jobs-keys ss)
 
 -- the keys of the history's jobs are those of the seats
 pub seated-keys : (h : List Event) (ss : List Seat) → states h ≡ jobs_in ss → keys_of h ≡ seat_keys ss
-seated-keys h ss jobs = sym (states-keys h (keys_of h)) ∙ (ap (map (λ (t : Titled). t.key)) jobs ∙ jobs-keys ss)
+seated-keys h ss jobs = sym (states-keys h (keys_of h)) ∙ (ap (map (λ (t : KeyedJob). t.key)) jobs ∙ jobs-keys ss)
 
 -- the job in a seat is its machine, and its key stands at that place
-pub record SitsAt (h : List Event) (n : ℕ) (t : Titled) : Type 0 where
+pub record SitsAt (h : List Event) (n : ℕ) (t : KeyedJob) : Type 0 where
   pub place : slice_get (keys_of h) n ≡ Some t.key
   pub machine : titled h t.key ≡ t
 
@@ -59,13 +59,13 @@ pub sits-at : (h : List Event) (ss : List Seat) (n : ℕ) (s : Seat) → states 
 sits-at h ss n s jobs at = by_key (slice_get (keys_of h) n) refl found
   where
     found : option_map (titled h) (slice_get (keys_of h) n) ≡ Some s.job.titled
-    found = sym (slice_get-map (titled h) (keys_of h) n) ∙ (ap (λ (ts : List Titled). slice_get ts n) jobs ∙ (slice_get-map (λ (x : Seat). x.job.titled) ss n ∙ ap (option_map (λ (x : Seat). x.job.titled)) at))
+    found = sym (slice_get-map (titled h) (keys_of h) n) ∙ (ap (λ (ts : List KeyedJob). slice_get ts n) jobs ∙ (slice_get-map (λ (x : Seat). x.job.titled) ss n ∙ ap (option_map (λ (x : Seat). x.job.titled)) at))
 
     by_key : (o : Option Key) → slice_get (keys_of h) n ≡ o → option_map (titled h) o ≡ Some s.job.titled → SitsAt h n s.job.titled
     by_key None e f = absurd (cc)
     by_key (Some k) e f =
         let same : titled h k ≡ s.job.titled = cc in
-        let key : k ≡ s.job.titled.key = ap (λ (t : Titled). t.key) same in
+        let key : k ≡ s.job.titled.key = ap (λ (t : KeyedJob). t.key) same in
         record { place = e ∙ ap (λ (x : Key). Some x) key; machine = subst (λ (x : Key). titled h x ≡ s.job.titled) key same }
 
 -- another job in a seat
@@ -109,13 +109,13 @@ seats-touch w h ss n s e o v seated at may touches step volume =
     let sits : SitsAt h n s.job.titled = sits-at h ss n s seated.jobs at in
     let orderly : IsOrderly h = legal-orderly w h seated.legal in
     let moved : states (h ++ e ∷ []) ≡ slice_set (states h) n (stepped (titled h s.job.titled.key) o) = states-touch h e s.job.titled.key o n touches orderly.apart sits.place in
-    let key : v.titled.key ≡ s.job.titled.key = ap (λ (t : Titled). t.key) step in
+    let key : v.titled.key ≡ s.job.titled.key = ap (λ (t : KeyedJob). t.key) step in
     record {
       some_worker = seated.some_worker;
       legal = Legal-push w h e seated.legal may;
-      jobs = moved ∙ (ap (λ (ts : List Titled). slice_set ts n (stepped (titled h s.job.titled.key) o)) seated.jobs ∙ (ap (λ (t : Titled). slice_set (jobs_in ss) n (stepped t o)) sits.machine ∙ (ap (slice_set (jobs_in ss) n) (sym step) ∙ sym (map-set (λ (x : Seat). x.job.titled) ss n (reseated s v)))));
+      jobs = moved ∙ (ap (λ (ts : List KeyedJob). slice_set ts n (stepped (titled h s.job.titled.key) o)) seated.jobs ∙ (ap (λ (t : KeyedJob). slice_set (jobs_in ss) n (stepped t o)) sits.machine ∙ (ap (slice_set (jobs_in ss) n) (sym step) ∙ sym (map-set (λ (x : Seat). x.job.titled) ss n (reseated s v)))));
       last = balanced-push h e ∙ (ap (λ (b : Bool). cond b (lives (states h)) (balanced h)) touches.other_kind ∙ (seated.last ∙ sym (listed-set noted_of ss n s v at (ap (λ (k : Key). let l : Live = record { key = k; priority = s.noted.priority; demand = s.noted.demand } in l) key))));
-      volumes = volumes-set w ss n s v at (ap (λ (t : Titled). t.state.volume) step ∙ volume) seated.volumes;
+      volumes = volumes-set w ss n s v at (ap (λ (t : KeyedJob). t.state.volume) step ∙ volume) seated.volumes;
     }
 
 -- a job gets a revision
@@ -159,7 +159,7 @@ seated-open w h ss number k ask seated may =
     record {
       some_worker = seated.some_worker;
       legal = Legal-push w h (Open k ask) seated.legal may;
-      jobs = states-open h k ask fresh (orderly.absent k fresh) ∙ (ap (λ (ts : List Titled). ts ++ seat.job.titled ∷ []) seated.jobs ∙ sym (map-append (λ (s : Seat). s.job.titled) ss (seat ∷ [])));
+      jobs = states-open h k ask fresh (orderly.absent k fresh) ∙ (ap (λ (ts : List KeyedJob). ts ++ seat.job.titled ∷ []) seated.jobs ∙ sym (map-append (λ (s : Seat). s.job.titled) ss (seat ∷ [])));
       last = balanced-push h (Open k ask) ∙ (seated.last ∙ sym (ap (map noted_of) (listed-push ss seat refl)));
       volumes = volumes-push w ss seat refl refl seated.volumes;
     }

@@ -1,8 +1,8 @@
 use Rattle.std.proofs.Common.{◌≡◌, ℕ, suc, ◌≤◌, Bool, true, false, ◌||◌, List, [], ◌∷◌, ◌++◌, map, slice_get, slice_set, Some, refl, sym, ◌∙◌, ap, subst}
 use Rattle.std.specs.List.{list_any}
 use Rattle.mal_history.specs.declared.event.Share.{Share}
-use Rattle.spec_job.specs.Solo.{Own, Revised, Closed, Started, Finished, Exchanged, Solo, is_exchange_due, solo_step}
-use Rattle.spec_job.specs.Titled.{Key, Titled}
+use Rattle.spec_job.specs.SoloMachine.{Own, Revised, Closed, Started, Finished, Exchanged, SoloMachine, is_exchange_due, solo_step}
+use Rattle.spec_job.specs.KeyedJob.{Key, KeyedJob}
 use Rattle.spec_job.specs.Viewed.{and_own}
 use Rattle.spec_job.proofs.StepLemmas.{finish-keeps}
 use Rattle.spec_hall.specs.Events.{Event, Open, Revise, Close, Balance, Start, Finish, Exchange}
@@ -45,7 +45,7 @@ pub record HasSeats (w : ℕ) (h : List Event) : Type 0 where
   pub are : IsSeated w h seats
 
 -- they have after an event of one job that was opened
-touch-seats : (w : ℕ) (h : List Event) (k : Key) (e : Event) (o : Own) → list_any (is_key k) (keys_of h) ≡ true → Allowed w h e → Touches e k o → ((s : Solo) → (solo_step s o).volume ≡ s.volume) → HasSeats w h → HasSeats w (h ++ e ∷ [])
+touch-seats : (w : ℕ) (h : List Event) (k : Key) (e : Event) (o : Own) → list_any (is_key k) (keys_of h) ≡ true → Allowed w h e → Touches e k o → ((s : SoloMachine) → (solo_step s o).volume ≡ s.volume) → HasSeats w h → HasSeats w (h ++ e ∷ [])
 touch-seats w h k e o opened may touches keeps has =
     let found : SeatOf has.seats k = opened-seat w h has.seats k has.are opened in
     let s : Seat = found.seat in
@@ -68,10 +68,10 @@ balance-facts w h shares may has = record { fair = fair; same = same; due = due 
     vs = map (λ (s : Share). s.volume) shares
 
     fair : IsFair w (live_asks (jobs_in ss)) vs
-    fair = subst (λ (ts : List Titled). IsFair w (live_asks ts) vs) has.are.jobs may.fair
+    fair = subst (λ (ts : List KeyedJob). IsFair w (live_asks ts) vs) has.are.jobs may.fair
 
     same : shares ≡ shares_by vs ss
-    same = shares-same shares (shares_by vs ss) (may.keys ∙ (ap (λ (ts : List Titled). live_keys (lives ts)) has.are.jobs ∙ sym (shares-keys 0 vs ss))) (sym (shares-fair w vs ss fair))
+    same = shares-same shares (shares_by vs ss) (may.keys ∙ (ap (λ (ts : List KeyedJob). live_keys (lives ts)) has.are.jobs ∙ sym (shares-keys 0 vs ss))) (sym (shares-fair w vs ss fair))
 
     due : is_due ss ≡ true
     due = by_test (is_due ss) refl
@@ -95,7 +95,7 @@ event-seats w h (Balance shares) may has = balance-seats w h shares may has
 event-seats w h (Start k index worker) may has = touch-seats w h k (Start k index worker) (Started index) (key-stands (keys_of h) may.0.job k may.1.key) may (start-touches k index worker) (λ s. refl) has
 event-seats w h (Finish k index worker outcome) may has = touch-seats w h k (Finish k index worker outcome) (Finished index outcome) (lease-opened h worker index k (legal-orderly w h has.are.legal) may) may (finish-touches k index worker outcome) (λ s. (finish-keeps s index outcome).volume) has
 event-seats w h (Exchange k) may has =
-    let opened : list_any (is_key may.0.key) (keys_of h) ≡ true = titled-opened h may.0.key (keys_of h) (λ (t : Titled). is_exchange_due t.state) may.0 may.1.first in
+    let opened : list_any (is_key may.0.key) (keys_of h) ≡ true = titled-opened h may.0.key (keys_of h) (λ (t : KeyedJob). is_exchange_due t.state) may.0 may.1.first in
     touch-seats w h k (Exchange k) Exchanged (subst (λ (x : Key). list_any (is_key x) (keys_of h) ≡ true) may.1.key opened) may (exchange-touches k) (λ s. refl) has
 
 -- the jobs of a legal history have seats

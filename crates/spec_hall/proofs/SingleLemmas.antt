@@ -2,8 +2,8 @@
 use Rattle.std.proofs.Common.{◌≡◌, ℕ, Bool, true, false, List, [], ◌∷◌, ◌++◌, refl, sym, ◌∙◌, ap, subst, arith}
 use Rattle.std.specs.List.{list_all, list_any}
 use Rattle.mal_base.specs.Asks.{Terms}
-use Rattle.spec_job.specs.Solo.{Own, Opened, Revised, Closed, Started, Finished, Exchanged, solo}
-use Rattle.spec_job.specs.Titled.{Key}
+use Rattle.spec_job.specs.SoloMachine.{Own, Opened, Revised, Closed, Started, Finished, Exchanged, solo}
+use Rattle.spec_job.specs.KeyedJob.{Key}
 use Rattle.spec_job.specs.DemandOne.{IsSingle, AgreeAll}
 use Rattle.spec_job.specs.Runnable.{IsRunnable}
 use Rattle.spec_job.proofs.SingleLemmas.{singles-agree}

@@ -7,11 +7,11 @@ use Rattle.std.proofs.lemmas.List.{length-replicate}
 use Rattle.std.proofs.lemmas.List.Folds.{find-append}
 use Rattle.std.proofs.lemmas.List.Sums.{fold_push}
 use Rattle.mal_base.specs.declared.verdict.Outcome.{Outcome}
-use Rattle.spec_job.specs.Titled.{Key}
+use Rattle.spec_job.specs.KeyedJob.{Key}
 use Rattle.spec_hall.specs.Events.{Event, Open, Revise, Close, Balance, Start, Finish, Exchange}
 use Rattle.spec_hall.specs.Leases.{start_number, numbered, numbered_step, starts_in, starts_step}
 use Rattle.spec_hall.specs.Spots.{Spot, Tag, IsAt, IsSpot, IsTagged, AreSpots}
-use Rattle.spec_hall.specs.States.{Held, leases, leases_step, lease_of}
+use Rattle.spec_hall.specs.States.{LeaseOut, leases, leases_step, lease_of}
 use Rattle.spec_hall.proofs.PushLemmas.{leases-push}
 use Rattle.spec_hall.proofs.LeasesLemmas.{others}
 
@@ -95,8 +95,8 @@ get-there (y ∷ ys) (suc n) zero x other = refl
 get-there (y ∷ ys) (suc n) (suc m) x other = get-there ys n m x (λ e. other (ap suc e))
 
 -- the lease of a worker who starts, and of others
-pub push-mine : (ls : List Held) (l : Held) → lease_of l.worker ls ≡ None → lease_of l.worker (ls ++ l ∷ []) ≡ Some l
-push-mine ls l none = find-append (λ (x : Held). x.worker == l.worker) ls (l ∷ []) ∙ (ap (λ (o : Option Held). option_or o (lease_of l.worker (l ∷ []))) none ∙ ap (λ (b : Bool). cond b (Some l) None) ((Decides-eqb l.worker l.worker).1 refl))
+pub push-mine : (ls : List LeaseOut) (l : LeaseOut) → lease_of l.worker ls ≡ None → lease_of l.worker (ls ++ l ∷ []) ≡ Some l
+push-mine ls l none = find-append (λ (x : LeaseOut). x.worker == l.worker) ls (l ∷ []) ∙ (ap (λ (o : Option LeaseOut). option_or o (lease_of l.worker (l ∷ []))) none ∙ ap (λ (b : Bool). cond b (Some l) None) ((Decides-eqb l.worker l.worker).1 refl))
 
 or-none : {X : Type 0} (o : Option X) → option_or o None ≡ o
 or-none None = refl
@@ -109,14 +109,14 @@ differs a b other = by_test (a == b) refl
     by_test true e = absurd (other ((Decides-eqb a b).0 e))
     by_test false e = refl
 
-pub push-other : (ls : List Held) (l : Held) (worker : ℕ) → (l.worker ≡ worker → ⊥) → lease_of worker (ls ++ l ∷ []) ≡ lease_of worker ls
-push-other ls l worker other = find-append (λ (x : Held). x.worker == worker) ls (l ∷ []) ∙ (ap (λ (b : Bool). option_or (lease_of worker ls) (cond b (Some l) None)) (differs l.worker worker other) ∙ or-none (lease_of worker ls))
+pub push-other : (ls : List LeaseOut) (l : LeaseOut) (worker : ℕ) → (l.worker ≡ worker → ⊥) → lease_of worker (ls ++ l ∷ []) ≡ lease_of worker ls
+push-other ls l worker other = find-append (λ (x : LeaseOut). x.worker == worker) ls (l ∷ []) ∙ (ap (λ (b : Bool). option_or (lease_of worker ls) (cond b (Some l) None)) (differs l.worker worker other) ∙ or-none (lease_of worker ls))
 
 -- the lease of a worker whose lease came back, and of others
-abbrev without : ℕ → List Held → List Held
-without worker ls = filter (λ (l : Held). nat_lt l.worker worker || nat_lt worker l.worker) ls
+abbrev without : ℕ → List LeaseOut → List LeaseOut
+without worker ls = filter (λ (l : LeaseOut). nat_lt l.worker worker || nat_lt worker l.worker) ls
 
-pub without-mine : (worker : ℕ) (ls : List Held) → lease_of worker (without worker ls) ≡ None
+pub without-mine : (worker : ℕ) (ls : List LeaseOut) → lease_of worker (without worker ls) ≡ None
 without-mine worker [] = refl
 without-mine worker (x ∷ xs) = by_test (x.worker == worker) refl (nat_lt x.worker worker || nat_lt worker x.worker) (others x.worker worker) (without-mine worker xs)
   where
@@ -126,7 +126,7 @@ without-mine worker (x ∷ xs) = by_test (x.worker == worker) refl (nat_lt x.wor
     by_test false p true q rest = ap (λ (b : Bool). cond b (Some x) (lease_of worker (without worker xs))) p ∙ rest
     by_test false p false q rest = absurd (cc)
 
-pub without-other : (worker v : ℕ) (ls : List Held) → (v ≡ worker → ⊥) → lease_of v (without worker ls) ≡ lease_of v ls
+pub without-other : (worker v : ℕ) (ls : List LeaseOut) → (v ≡ worker → ⊥) → lease_of v (without worker ls) ≡ lease_of v ls
 without-other worker v [] other = refl
 without-other worker v (x ∷ xs) other = by_test (x.worker == worker) refl (nat_lt x.worker worker || nat_lt worker x.worker) (others x.worker worker) (x.worker == v) refl (without-other worker v xs other)
   where
@@ -134,7 +134,7 @@ without-other worker v (x ∷ xs) other = by_test (x.worker == worker) refl (nat
     by_test true p true q d r rest = absurd (cc)
     by_test true p false q true r rest = absurd (other (sym ((Decides-eqb x.worker v).0 r) ∙ (Decides-eqb x.worker worker).0 p))
     by_test true p false q false r rest = rest
-    by_test false p true q d r rest = ap (λ (b : Bool). cond b (Some x) (lease_of v (without worker xs))) r ∙ ap (λ (o : Option Held). cond d (Some x) o) rest
+    by_test false p true q d r rest = ap (λ (b : Bool). cond b (Some x) (lease_of v (without worker xs))) r ∙ ap (λ (o : Option LeaseOut). cond d (Some x) o) rest
     by_test false p false q d r rest = absurd (cc)
 
 -- the tag of a job that was started
@@ -155,7 +155,7 @@ spots-start workers past tags spots w job index start tag at low bound idle next
     mine : Spot
     mine = record { job = job; index = index; start = start }
 
-    held : Held
+    held : LeaseOut
     held = record { worker = suc w; key = tag.key; index = index }
 
     out : leases now ≡ leases past ++ held ∷ []
@@ -188,11 +188,11 @@ spots-start workers past tags spots w job index start tag at low bound idle next
         let same : job ≡ spot.job = (Decides-eqb job spot.job).0 e in
         let both : Some tag ≡ Some h.tag = sym at ∙ (ap (slice_get tags) same ∙ h.at) in
         let equal : tag ≡ h.tag = cc in
-        let apart : index ≡ spot.index → ⊥ = λ q. home (suc n) spot.index (ap (lease_of (suc n)) refl ∙ (h.out ∙ ap (λ (t : Tag). let o : Option Held = Some (record { worker = suc n; key = t.key; index = spot.index }) in o) (sym equal))) (sym q) in
+        let apart : index ≡ spot.index → ⊥ = λ q. home (suc n) spot.index (ap (lease_of (suc n)) refl ∙ (h.out ∙ ap (λ (t : Tag). let o : Option LeaseOut = Some (record { worker = suc n; key = t.key; index = spot.index }) in o) (sym equal))) (sym q) in
         record {
           tag = and_started tag index start;
           at = ap (slice_get (slice_set tags job (and_started tag index start))) (sym same) ∙ get-here tags job (and_started tag index start) tag at;
-          out = ap (lease_of (suc n)) out ∙ (push-other (leases past) held (suc n) other ∙ (h.out ∙ ap (λ (t : Tag). let o : Option Held = Some (record { worker = suc n; key = t.key; index = spot.index }) in o) (sym equal)));
+          out = ap (lease_of (suc n)) out ∙ (push-other (leases past) held (suc n) other ∙ (h.out ∙ ap (λ (t : Tag). let o : Option LeaseOut = Some (record { worker = suc n; key = t.key; index = spot.index }) in o) (sym equal)));
           number = h.number ∙ sym (number_other (suc n) other);
           started = set-there tag.starts index spot.index start 0 apart ∙ (ap (λ (t : Tag). get_or t.starts spot.index 0) equal ∙ h.started);
           low = h.low;

@@ -2,7 +2,7 @@ use Rattle.std.proofs.Common.{◌≡◌, ℕ, Bool, true, false, cond, ◌||◌,
 use Rattle.std.specs.List.{list_any}
 use Rattle.std.proofs.lemmas.Bool.{or_left}
 use Rattle.std.proofs.lemmas.List.Folds.{list_any-append}
-use Rattle.spec_job.specs.Titled.{Key, Titled}
+use Rattle.spec_job.specs.KeyedJob.{Key, KeyedJob}
 use Rattle.spec_hall.specs.Events.{Event, Open, Revise, Close, Balance, Start, Finish, Exchange}
 use Rattle.spec_hall.specs.Own.{is_key}
 use Rattle.spec_hall.specs.States.{keys_of, keys_step, states, titled}
@@ -25,11 +25,11 @@ keys-stay k ks (Finish i index worker outcome) h = h
 keys-stay k ks (Exchange i) h = h
 
 -- the job of a key is its machine run alone, where the key was opened
-job_of-keys : (past : List Event) (k : Key) (ks : List Key) → find (λ (t : Titled). is_key k t.key) (map (titled past) ks) ≡ (if list_any (is_key k) ks then Some (titled past k) else None)
+job_of-keys : (past : List Event) (k : Key) (ks : List Key) → find (λ (t : KeyedJob). is_key k t.key) (map (titled past) ks) ≡ (if list_any (is_key k) ks then Some (titled past k) else None)
 job_of-keys past k [] = refl
 job_of-keys past k (x ∷ xs) = by_test (job_of-keys past k xs) (is_key k x) refl
   where
-    by_test : find (λ (t : Titled). is_key k t.key) (map (titled past) xs) ≡ (if list_any (is_key k) xs then Some (titled past k) else None) → (b : Bool) → is_key k x ≡ b → cond b (Some (titled past x)) (find (λ (t : Titled). is_key k t.key) (map (titled past) xs)) ≡ (if b || list_any (is_key k) xs then Some (titled past k) else None)
+    by_test : find (λ (t : KeyedJob). is_key k t.key) (map (titled past) xs) ≡ (if list_any (is_key k) xs then Some (titled past k) else None) → (b : Bool) → is_key k x ≡ b → cond b (Some (titled past x)) (find (λ (t : KeyedJob). is_key k t.key) (map (titled past) xs)) ≡ (if b || list_any (is_key k) xs then Some (titled past k) else None)
     by_test rest true q = ap (λ (y : Key). Some (titled past y)) (sym ((is_key-Decides k x).0 q))
     by_test rest false q = rest
 
@@ -37,11 +37,11 @@ pub job_of-states : (past : List Event) (k : Key) → job_of k (states past) ≡
 job_of-states past k = job_of-keys past k (keys_of past)
 
 -- a job that is found was opened, and is its machine
-pub record IsFound (past : List Event) (k : Key) (t : Titled) : Type 0 where
+pub record IsFound (past : List Event) (k : Key) (t : KeyedJob) : Type 0 where
   pub opened : list_any (is_key k) (keys_of past) ≡ true
   pub machine : titled past k ≡ t
 
-pub job_of-found : (past : List Event) (k : Key) (t : Titled) → job_of k (states past) ≡ Some t → IsFound past k t
+pub job_of-found : (past : List Event) (k : Key) (t : KeyedJob) → job_of k (states past) ≡ Some t → IsFound past k t
 job_of-found past k t e = by_test (list_any (is_key k) (keys_of past)) refl (sym (job_of-states past k) ∙ e)
   where
     by_test : (b : Bool) → list_any (is_key k) (keys_of past) ≡ b → cond b (Some (titled past k)) None ≡ Some t → IsFound past k t

@@ -7,8 +7,8 @@ use Rattle.mal_base.specs.Asks.{Terms}
 use Rattle.mal_base.specs.declared.verdict.Outcome.{Outcome}
 use Rattle.mal_history.specs.declared.event.Share.{Share}
 use Rattle.mal_revision.specs.Posted.{Posted}
-use Rattle.spec_job.specs.Solo.{Own, Opened, Revised, Closed, Volume, Started, Finished, Exchanged, Solo, solo, solo_step, unopened}
-use Rattle.spec_job.specs.Titled.{Key, Titled, stepped}
+use Rattle.spec_job.specs.SoloMachine.{Own, Opened, Revised, Closed, Volume, Started, Finished, Exchanged, SoloMachine, solo, solo_step, unopened}
+use Rattle.spec_job.specs.KeyedJob.{Key, KeyedJob, stepped}
 use Rattle.spec_hall.specs.Events.{Event, Open, Revise, Close, Balance, Start, Finish, Exchange}
 use Rattle.spec_hall.specs.Own.{own, own_step, adds, is_key, volume_in, volume_after}
 use Rattle.spec_hall.specs.States.{keys_of, keys_step, states, titled, is_balance}
@@ -41,31 +41,31 @@ exchange-touches k = record { owns = λ j es. refl; keys = λ ks. refl; other_ki
 titled-mine : (h : List Event) (e : Event) (k : Key) (o : Own) → Touches e k o → titled (h ++ e ∷ []) k ≡ stepped (titled h k) o
 titled-mine h e k o touches =
     let mine : own k (h ++ e ∷ []) ≡ own k h ++ o ∷ [] = own-push k h e ∙ (touches.owns k (own k h) ∙ ap (λ (b : Bool). adds b (own k h) o) (is_key-same k)) in
-    ap (λ (s : Solo). let t : Titled = record { key = k; state = s } in t) (ap solo mine ∙ solo-push (own k h) o)
+    ap (λ (s : SoloMachine). let t : KeyedJob = record { key = k; state = s } in t) (ap solo mine ∙ solo-push (own k h) o)
 
 -- all others stay
 titled-other : (h : List Event) (e : Event) (k : Key) (o : Own) → Touches e k o → (j : Key) → is_key j k ≡ false → titled (h ++ e ∷ []) j ≡ titled h j
 titled-other h e k o touches j other =
     let same : own j (h ++ e ∷ []) ≡ own j h = own-push j h e ∙ (touches.owns j (own j h) ∙ ap (λ (b : Bool). adds b (own j h) o) other) in
-    ap (λ (es : List Own). let t : Titled = record { key = j; state = solo es } in t) same
+    ap (λ (es : List Own). let t : KeyedJob = record { key = j; state = solo es } in t) same
 
 -- two functions that agree but at one key, over keys among which that is not
-map-absent : (f g : Key → Titled) (k : Key) (ks : List Key) → list_any (is_key k) ks ≡ false → ((j : Key) → is_key j k ≡ false → g j ≡ f j) → map g ks ≡ map f ks
+map-absent : (f g : Key → KeyedJob) (k : Key) (ks : List Key) → list_any (is_key k) ks ≡ false → ((j : Key) → is_key j k ≡ false → g j ≡ f j) → map g ks ≡ map f ks
 map-absent f g k [] absent same = refl
 map-absent f g k (x ∷ xs) absent same =
     let parts = or_parts (is_key k x) (list_any (is_key k) xs) absent in
-    ap (λ (t : Titled). t ∷ map g xs) (same x (is_key-back k x parts.0)) ∙ ap (λ (ts : List Titled). f x ∷ ts) (map-absent f g k xs parts.1 same)
+    ap (λ (t : KeyedJob). t ∷ map g xs) (same x (is_key-back k x parts.0)) ∙ ap (λ (ts : List KeyedJob). f x ∷ ts) (map-absent f g k xs parts.1 same)
 
 -- and over keys among which it stands once
-map-touch : (f g : Key → Titled) (k : Key) (ks : List Key) (n : ℕ) → AreApart ks → slice_get ks n ≡ Some k → ((j : Key) → is_key j k ≡ false → g j ≡ f j) → map g ks ≡ slice_set (map f ks) n (g k)
+map-touch : (f g : Key → KeyedJob) (k : Key) (ks : List Key) (n : ℕ) → AreApart ks → slice_get ks n ≡ Some k → ((j : Key) → is_key j k ≡ false → g j ≡ f j) → map g ks ≡ slice_set (map f ks) n (g k)
 map-touch f g k [] n apart at same = absurd (cc)
 map-touch f g k (x ∷ xs) zero apart at same =
     let here : x ≡ k = cc in
     let absent : list_any (is_key k) xs ≡ false = subst (λ (y : Key). list_any (is_key y) xs ≡ false) here apart.0 in
-    ap (λ (y : Key). g y ∷ map g xs) here ∙ ap (λ (ts : List Titled). g k ∷ ts) (map-absent f g k xs absent same)
+    ap (λ (y : Key). g y ∷ map g xs) here ∙ ap (λ (ts : List KeyedJob). g k ∷ ts) (map-absent f g k xs absent same)
 map-touch f g k (x ∷ xs) (suc n) apart at same =
     let other : is_key x k ≡ false = key-differs xs x k apart.0 (key-stands xs n k at) in
-    ap (λ (t : Titled). t ∷ map g xs) (same x other) ∙ ap (λ (ts : List Titled). f x ∷ ts) (map-touch f g k xs n apart.1 at same)
+    ap (λ (t : KeyedJob). t ∷ map g xs) (same x other) ∙ ap (λ (ts : List KeyedJob). f x ∷ ts) (map-touch f g k xs n apart.1 at same)
 
 -- an event of one job moves that job alone
 pub states-touch : (h : List Event) (e : Event) (k : Key) (o : Own) (n : ℕ) → Touches e k o → AreApart (keys_of h) → slice_get (keys_of h) n ≡ Some k → states (h ++ e ∷ []) ≡ slice_set (states h) n (stepped (titled h k) o)
@@ -78,23 +78,23 @@ states-touch h e k o n touches apart at =
 pub states-open : (h : List Event) (k : Key) (ask : Terms) → list_any (is_key k) (keys_of h) ≡ false → own k h ≡ [] → states (h ++ Open k ask ∷ []) ≡ states h ++ record { key = k; state = solo_step unopened (Opened ask) } ∷ []
 states-open h k ask fresh none =
     let first : own k (h ++ Open k ask ∷ []) ≡ Opened ask ∷ [] = own-push k h (Open k ask) ∙ (ap (λ (b : Bool). adds b (own k h) (Opened ask)) (is_key-same k) ∙ ap (λ (es : List Own). es ++ Opened ask ∷ []) none) in
-    let new : titled (h ++ Open k ask ∷ []) k ≡ record { key = k; state = solo_step unopened (Opened ask) } = ap (λ (es : List Own). let t : Titled = record { key = k; state = solo es } in t) first in
+    let new : titled (h ++ Open k ask ∷ []) k ≡ record { key = k; state = solo_step unopened (Opened ask) } = ap (λ (es : List Own). let t : KeyedJob = record { key = k; state = solo es } in t) first in
     ap (map (titled (h ++ Open k ask ∷ []))) (keys-push h (Open k ask))
     ∙ (map-append (titled (h ++ Open k ask ∷ [])) (keys_of h) (k ∷ [])
-    ∙ (ap (λ (ts : List Titled). ts ++ titled (h ++ Open k ask ∷ []) k ∷ []) (map-absent (titled h) (titled (h ++ Open k ask ∷ [])) k (keys_of h) fresh others)
-    ∙ ap (λ (t : Titled). states h ++ t ∷ []) new))
+    ∙ (ap (λ (ts : List KeyedJob). ts ++ titled (h ++ Open k ask ∷ []) k ∷ []) (map-absent (titled h) (titled (h ++ Open k ask ∷ [])) k (keys_of h) fresh others)
+    ∙ ap (λ (t : KeyedJob). states h ++ t ∷ []) new))
   where
     others : (j : Key) → is_key j k ≡ false → titled (h ++ Open k ask ∷ []) j ≡ titled h j
     others j other =
         let same : own j (h ++ Open k ask ∷ []) ≡ own j h = own-push j h (Open k ask) ∙ ap (λ (b : Bool). adds b (own j h) (Opened ask)) other in
-        ap (λ (es : List Own). let t : Titled = record { key = j; state = solo es } in t) same
+        ap (λ (es : List Own). let t : KeyedJob = record { key = j; state = solo es } in t) same
 
 -- a job with the volume that a balancing gives it
-abbrev pub given : List Share → Titled → Titled
+abbrev pub given : List Share → KeyedJob → KeyedJob
 given shares t = stepped t (Volume (volume_in t.key shares))
 
 titled-given : (h : List Event) (shares : List Share) (k : Key) → titled (h ++ Balance shares ∷ []) k ≡ given shares (titled h k)
-titled-given h shares k = ap (λ (s : Solo). let t : Titled = record { key = k; state = s } in t) (ap solo (own-push k h (Balance shares)) ∙ by_test (v == volume_after es) refl)
+titled-given h shares k = ap (λ (s : SoloMachine). let t : KeyedJob = record { key = k; state = s } in t) (ap solo (own-push k h (Balance shares)) ∙ by_test (v == volume_after es) refl)
   where
     es : List Own
     es = own k h
@@ -114,4 +114,4 @@ states-balance h shares = ap (map (titled (h ++ Balance shares ∷ []))) (keys-p
   where
     over : (ks : List Key) → map (titled (h ++ Balance shares ∷ [])) ks ≡ map (given shares) (map (titled h) ks)
     over [] = refl
-    over (k ∷ ks) = ap (λ (t : Titled). t ∷ map (titled (h ++ Balance shares ∷ [])) ks) (titled-given h shares k) ∙ ap (λ (ts : List Titled). given shares (titled h k) ∷ ts) (over ks)
+    over (k ∷ ks) = ap (λ (t : KeyedJob). t ∷ map (titled (h ++ Balance shares ∷ [])) ks) (titled-given h shares k) ∙ ap (λ (ts : List KeyedJob). given shares (titled h k) ∷ ts) (over ks)

@@ -8,8 +8,8 @@ use Rattle.mal_base.specs.declared.verdict.Outcome.TheVariants.{Ran, Starved, Lo
 use Rattle.mal_history.specs.declared.event.Share.{Share}
 use Rattle.spec_balance.specs.Fair.{IsFair}
 use Rattle.spec_job.specs.Left.{StartsLeaveLess, after_start, left_of}
-use Rattle.spec_job.specs.Solo.{Exchanged, Solo, is_live, solo, startable}
-use Rattle.spec_job.specs.Titled.{Key, Titled, stepped}
+use Rattle.spec_job.specs.SoloMachine.{Exchanged, SoloMachine, is_live, solo, startable}
+use Rattle.spec_job.specs.KeyedJob.{Key, KeyedJob, stepped}
 use Rattle.spec_job.specs.Viewed.{JobView, and_own}
 use Rattle.spec_job.proofs.LeftLemmas.{left-falls}
 use Rattle.spec_hall.specs.Calls.{AreDue, IsStarting, Handed, arranges}
@@ -19,7 +19,7 @@ use Rattle.spec_hall.specs.Legal.{Allowed, Legal, LegalFrom, MayBalance}
 use Rattle.spec_hall.specs.Measure.{left_in}
 use Rattle.spec_hall.specs.Own.{own}
 use Rattle.spec_hall.specs.Seats.{Seat, IsSeated, jobs_in, is_due, first_exchange, shares_by}
-use Rattle.spec_hall.specs.States.{Held, keys_of, states, titled, leases, lease_of, exchange_due, live_asks}
+use Rattle.spec_hall.specs.States.{LeaseOut, keys_of, states, titled, leases, lease_of, exchange_due, live_asks}
 use Rattle.spec_hall.proofs.PushLemmas.{LegalFrom-push, Legal-push, leases-push}
 use Rattle.spec_hall.proofs.StatesLemmas.{legal_from-keeps}
 use Rattle.spec_hall.proofs.TouchLemmas.{given, states-balance, exchange-touches}
@@ -61,7 +61,7 @@ due-leases past (e ∷ es) h =
     ap leases (sym (append_assoc past (e ∷ []) es)) ∙ (due-leases (past ++ e ∷ []) es parts.1 ∙ arranged-leases past e parts.0)
 
 -- whether all is done stays as it was
-given-done : (shares : List Share) (ts : List Titled) → is_done (map (given shares) ts) ≡ is_done ts
+given-done : (shares : List Share) (ts : List KeyedJob) → is_done (map (given shares) ts) ≡ is_done ts
 given-done shares [] = refl
 given-done shares (t ∷ ts) = ap (λ (b : Bool). (t.state.closed && not (is_live t.state)) && b) (given-done shares ts)
 
@@ -100,7 +100,7 @@ exchange-seat w h ss k seated may = by_first (first_exchange ss) refl
         let found = there ss n (first-within ss n e) in
         let job : Some found.0.job.titled ≡ Some may.0 = sym (ap exchange_due seated.jobs ∙ first-found ss n found.0 e found.1) ∙ may.1.first in
         let same : found.0.job.titled ≡ may.0 = cc in
-        record { at = n; seat = found.0; first = e; is = found.1; key = ap (λ (t : Titled). t.key) same ∙ may.1.key; calm = due }
+        record { at = n; seat = found.0; first = e; is = found.1; key = ap (λ (t : KeyedJob). t.key) same ∙ may.1.key; calm = due }
 
 arranged-done : (w : ℕ) (h : List Event) (e : Event) → 1 ≤ w → Legal w h → arranges e ≡ true → Allowed w h e → is_done (states (h ++ e ∷ [])) ≡ is_done (states h)
 arranged-done w h (Open k ask) some legal a may = absurd (cc)
@@ -189,7 +189,7 @@ due-turns w past (e ∷ es) some legal left due =
     subst (HasTurned w past) (append_assoc past (e ∷ []) es) (record { turns = turns-more w past (past ++ e ∷ []) ((past ++ e ∷ []) ++ es) one rest.turns; left = rest.left })
 
 -- a node that starts leaves less, unless it is lost
-start-less : (s : Solo) (i : ℕ) (o : Outcome) → was_lost o ≡ false → StartsLeaveLess s i → left_of (after_start s i o) < left_of s
+start-less : (s : SoloMachine) (i : ℕ) (o : Outcome) → was_lost o ≡ false → StartsLeaveLess s i → left_of (after_start s i o) < left_of s
 start-less s i Ran e h = h.ran
 start-less s i Starved e h = h.starved
 start-less s i Lost e h = absurd (cc)
@@ -203,11 +203,11 @@ pub record HasWorked (w : ℕ) (past history : List Event) : Type 0 where
 pub slice-worked : (w : ℕ) (h : List Event) (k : Key) (i : ℕ) (o : Outcome) → 1 ≤ w → w ≤ 64 → Legal w h → leases h ≡ [] → is_done (states h) ≡ false → was_lost o ≡ false → Allowed w h (Start k i 1) → HasWorked w h ((h ++ Start k i 1 ∷ []) ++ Finish k i 1 o ∷ [])
 slice-worked w h k i o some bound legal home left kept may = record { turns = turned; less = less; home = now }
   where
-    l : Held
+    l : LeaseOut
     l = record { worker = 1; key = k; index = i }
 
     out : leases (h ++ Start k i 1 ∷ []) ≡ l ∷ []
-    out = leases-push h (Start k i 1) ∙ ap (λ (ls : List Held). ls ++ l ∷ []) home
+    out = leases-push h (Start k i 1) ∙ ap (λ (ls : List LeaseOut). ls ++ l ∷ []) home
 
     ends : Allowed w (h ++ Start k i 1 ∷ []) (Finish k i 1 o)
     ends = ap (lease_of 1) out
@@ -232,10 +232,10 @@ slice-worked w h k i o some bound legal home left kept may = record { turns = tu
         by_test true e = absurd (seated-due w h has.seats has.are e may.1.balance)
 
     machine : solo (own k h) ≡ found.seat.job.titled.state
-    machine = ap (λ (t : Titled). t.state) (subst (λ (x : Key). titled h x ≡ found.seat.job.titled) found.key (sits-at h has.seats found.at found.seat has.are.jobs found.is).machine)
+    machine = ap (λ (t : KeyedJob). t.state) (subst (λ (x : Key). titled h x ≡ found.seat.job.titled) found.key (sits-at h has.seats found.at found.seat has.are.jobs found.is).machine)
 
     fewer : left_of (after_start found.seat.job.titled.state i o) < left_of found.seat.job.titled.state
-    fewer = subst (λ (s : Solo). left_of (after_start s i o) < left_of s) machine (start-less (solo (own k h)) i o kept (left-falls (own k h) i (start-free w h k i 1 some bound legal may).low (picked-may w h k i 1 may.0 may.1)))
+    fewer = subst (λ (s : SoloMachine). left_of (after_start s i o) < left_of s) machine (start-less (solo (own k h)) i o kept (left-falls (own k h) i (start-free w h k i 1 some bound legal may).low (picked-may w h k i 1 may.0 may.1)))
 
     less : left_in ((h ++ Start k i 1 ∷ []) ++ Finish k i 1 o ∷ []) < left_in h
     less =

@@ -2,7 +2,7 @@
 use Rattle.std.proofs.Common.{◌≡◌, ℕ, ◌+◌, List, ◌∷◌, take, sym, ◌∙◌, ap, subst}
 use Rattle.mal_base.specs.Asks.{Terms}
 use Rattle.spec_job.specs.DemandOneUpTo.{AgreeOn}
-use Rattle.spec_job.specs.Solo.{Own, Opened, solo}
+use Rattle.spec_job.specs.SoloMachine.{Own, Opened, solo}
 use Rattle.spec_job.proofs.UpToLemmas.{singles-agree_up_to}
 use Rattle.spec_hall.specs.Own.{own}
 use Rattle.spec_hall.specs.SinglesUpTo.{LegalSinglesAgreeUpTo}

@@ -9,7 +9,7 @@ use Rattle.spec_job.specs.Journal.{JournalEntry}
 use Rattle.spec_job.specs.Journaled.{Journaled}
 use Rattle.spec_job.specs.Leased.{Finished}
 use Rattle.spec_job.specs.Replies.{reply}
-use Rattle.spec_job.specs.Titled.{Key, Titled}
+use Rattle.spec_job.specs.KeyedJob.{Key, KeyedJob}
 use Rattle.spec_job.specs.Viewed.{IsGrownBy}
 use Rattle.spec_hall.specs.declared.fault.OpenFault.{OpenFault}
 use Rattle.spec_hall.specs.declared.fault.OpenFault.TheVariants as opening
@@ -26,7 +26,7 @@ use Rattle.spec_hall.specs.Events.{Event, Open, Revise, Close, Balance, Start, F
 use Rattle.spec_hall.specs.Leases.{lease_journal, lease_adds, start_number}
 use Rattle.spec_hall.specs.Legal.{Allowed, Legal, LegalFrom, MayOpen, MayRevise, MayClose, job_of, jobs_of, tenant_count}
 use Rattle.spec_hall.specs.Room.{IsOver}
-use Rattle.spec_hall.specs.States.{Held, leases, lease_of, states}
+use Rattle.spec_hall.specs.States.{LeaseOut, leases, lease_of, states}
 
 -- a call of a hall: a job is opened, revised or closed, a worker picks, what came of a lease is given back, all leases are
 -- recalled, or the reply to a revision is asked for
@@ -78,18 +78,18 @@ IsOpening past k ask (Err opening.OutOfMemory) es = MayOpen past k ask × (es �
 -- the next revision of a job is posted where it may be, or is refused: there is no such job, it is closed, it has 256
 -- revisions, or it has no room for the clauses or the literals
 abbrev pub IsRevising : List Event → Key → Posted → Result (Unit {0}) ReviseFault → List Event → Type 0
-IsRevising past k r (Ok done) es = (t : Titled) × MayRevise past k (length t.state.revisions + 1) r t × (es ≡ Revise k (length t.state.revisions + 1) r ∷ [])
+IsRevising past k r (Ok done) es = (t : KeyedJob) × MayRevise past k (length t.state.revisions + 1) r t × (es ≡ Revise k (length t.state.revisions + 1) r ∷ [])
 IsRevising past k r (Err revising.NoJob) es = (job_of k (states past) ≡ None) × (es ≡ [])
-IsRevising past k r (Err revising.Closed) es = (t : Titled) × (job_of k (states past) ≡ Some t) × (t.state.closed ≡ true) × (es ≡ [])
-IsRevising past k r (Err revising.RevisionsFull) es = (t : Titled) × (job_of k (states past) ≡ Some t) × (t.state.closed ≡ false) × (256 ≤ length t.state.revisions) × (es ≡ [])
-IsRevising past k r (Err (revising.JobFull which)) es = (t : Titled) × (job_of k (states past) ≡ Some t) × (t.state.closed ≡ false) × (length t.state.revisions < 256) × IsOver which t.state.revisions r × (es ≡ [])
-IsRevising past k r (Err revising.OutOfMemory) es = (t : Titled) × MayRevise past k (length t.state.revisions + 1) r t × (es ≡ [])
+IsRevising past k r (Err revising.Closed) es = (t : KeyedJob) × (job_of k (states past) ≡ Some t) × (t.state.closed ≡ true) × (es ≡ [])
+IsRevising past k r (Err revising.RevisionsFull) es = (t : KeyedJob) × (job_of k (states past) ≡ Some t) × (t.state.closed ≡ false) × (256 ≤ length t.state.revisions) × (es ≡ [])
+IsRevising past k r (Err (revising.JobFull which)) es = (t : KeyedJob) × (job_of k (states past) ≡ Some t) × (t.state.closed ≡ false) × (length t.state.revisions < 256) × IsOver which t.state.revisions r × (es ≡ [])
+IsRevising past k r (Err revising.OutOfMemory) es = (t : KeyedJob) × MayRevise past k (length t.state.revisions + 1) r t × (es ≡ [])
 
 -- a job is closed where it may be, or is refused: there is no such job, or it is closed
 abbrev pub IsClosing : List Event → Key → Result (Unit {0}) CloseFault → List Event → Type 0
-IsClosing past k (Ok done) es = (t : Titled) × MayClose past k t × (es ≡ Close k ∷ [])
+IsClosing past k (Ok done) es = (t : KeyedJob) × MayClose past k t × (es ≡ Close k ∷ [])
 IsClosing past k (Err closing.NoJob) es = (job_of k (states past) ≡ None) × (es ≡ [])
-IsClosing past k (Err closing.Closed) es = (t : Titled) × (job_of k (states past) ≡ Some t) × (t.state.closed ≡ true) × (es ≡ [])
+IsClosing past k (Err closing.Closed) es = (t : KeyedJob) × (job_of k (states past) ≡ Some t) × (t.state.closed ≡ true) × (es ≡ [])
 
 -- whether an event arranges the jobs: a balancing or an exchange
 abbrev pub arranges : Event → Bool
@@ -116,7 +116,7 @@ pub record MayPick (past : List Event) (worker : ℕ) : Type 0 where
   pub more : is_over past ≡ false
 
 -- the lease of a worker as it is handed out
-abbrev pub handed : List Event → Held → Handed
+abbrev pub handed : List Event → LeaseOut → Handed
 handed history l = record { journal = lease_journal history l; adds = lease_adds history l; worker = l.worker }
 
 -- a worker starts a node: what is due comes first, and then the start of the node that is picked
@@ -151,18 +151,18 @@ IsPicking workers past worker (Err picking.Busy) es = (is_some (lease_of worker 
 IsPicking workers past worker (Err picking.OutOfMemory) es = IsWanting workers past worker es
 
 -- what comes back is of this lease, which its worker has out
-pub record IsOfLease (past : List Event) (d : Finished) (l : Held) : Type 0 where
+pub record IsOfLease (past : List Event) (d : Finished) (l : LeaseOut) : Type 0 where
   pub out : lease_of d.worker (leases past) ≡ Some l
   pub journal : IsGrownBy d.outcome (lease_adds past l) (lease_journal past l) d.journal
 
 -- what came of a lease is taken back where its journal is that of the lease which its worker has out, after it ran with the
 -- entries of the start; else it is strange
 abbrev pub IsReturning : List Event → Finished → Return → List Event → Type 0
-IsReturning past d Back es = (l : Held) × IsOfLease past d l × (es ≡ Finish l.key l.index d.worker d.outcome ∷ [])
-IsReturning past d (Strange kept) es = ((l : Held) → IsOfLease past d l → ⊥) × (kept ≡ option_map (λ l. start_number l.worker past) (lease_of d.worker (leases past))) × (es ≡ [])
+IsReturning past d Back es = (l : LeaseOut) × IsOfLease past d l × (es ≡ Finish l.key l.index d.worker d.outcome ∷ [])
+IsReturning past d (Strange kept) es = ((l : LeaseOut) → IsOfLease past d l → ⊥) × (kept ≡ option_map (λ l. start_number l.worker past) (lease_of d.worker (leases past))) × (es ≡ [])
 
 -- the loss of the lease that a worker has out
-abbrev pub lost_of : List Held → ℕ → List Event
+abbrev pub lost_of : List LeaseOut → ℕ → List Event
 lost_of out worker = option_map_or (λ l. Finish l.key l.index worker Lost ∷ []) (lease_of worker out) []
 
 -- every lease that is out is lost, by rising worker
@@ -171,9 +171,9 @@ recalled workers past = flat_map (lost_of (leases past)) (counted 1 workers)
 
 -- the reply to a revision is that of the job's machine; there may be no such job, or no memory for the text
 abbrev pub IsAsking : List Event → Key → ℕ → Result (Option (List ℕ)) ReplyFault → List Event → Type 0
-IsAsking past k r (Ok text) es = (t : Titled) × (job_of k (states past) ≡ Some t) × (text ≡ reply k r t.state) × (es ≡ [])
+IsAsking past k r (Ok text) es = (t : KeyedJob) × (job_of k (states past) ≡ Some t) × (text ≡ reply k r t.state) × (es ≡ [])
 IsAsking past k r (Err asking.NoJob) es = (job_of k (states past) ≡ None) × (es ≡ [])
-IsAsking past k r (Err asking.OutOfMemory) es = (t : Titled) × (job_of k (states past) ≡ Some t) × (es ≡ [])
+IsAsking past k r (Err asking.OutOfMemory) es = (t : KeyedJob) × (job_of k (states past) ≡ Some t) × (es ≡ [])
 
 -- a call of a hall of so many workers after a past is answered so and enters these events
 abbrev pub IsCall : ℕ → List Event → (c : Call) → AnswerTo c → List Event → Type 0

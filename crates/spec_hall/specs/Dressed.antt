@@ -3,7 +3,7 @@ use Rattle.std.specs.Option.{option_map_or}
 use Rattle.mal_revision.specs.Posted.{Posted}
 use Rattle.mal_history.specs.declared.event.Event as written
 use Rattle.mal_history.specs.declared.event.Event.TheVariants as of
-use Rattle.spec_job.specs.Titled.{Key, Titled}
+use Rattle.spec_job.specs.KeyedJob.{Key, KeyedJob}
 use Rattle.spec_hall.specs.Events.{Event, Open, Revise, Close, Balance, Start, Finish, Exchange, bare}
 use Rattle.spec_hall.specs.States.{states}
 use Rattle.spec_hall.specs.Legal.{Legal, job_of}
@@ -17,11 +17,11 @@ abbrev pub no_revision : Posted
 no_revision = record { variables = 0; clauses = []; assumptions = [] }
 
 -- the revisions of the job of a key, none where there is no such job
-abbrev pub revisions_of : Key → List Titled → List Posted
+abbrev pub revisions_of : Key → List KeyedJob → List Posted
 revisions_of k jobs = option_map_or (λ t. t.state.revisions) (job_of k jobs) []
 
 -- an event as it is written down, a Revise with the job's revision of that number
-abbrev pub dressed : List Titled → written.Event → Event
+abbrev pub dressed : List KeyedJob → written.Event → Event
 dressed jobs (of.Open tenant job ask) = Open (keyed tenant job) ask
 dressed jobs (of.Revise tenant job number) = Revise (keyed tenant job) number (get_or (revisions_of (keyed tenant job) jobs) (number - 1) no_revision)
 dressed jobs (of.Close tenant job) = Close (keyed tenant job)

@@ -3,8 +3,8 @@ use Rattle.std.specs.List.{list_all}
 use Rattle.mal_base.specs.declared.verdict.Outcome.{Outcome}
 use Rattle.mal_base.specs.declared.verdict.Outcome.TheVariants.{Ran, Starved, Lost}
 use Rattle.mal_history.specs.declared.event.Share.{Share}
-use Rattle.spec_job.specs.Solo.{is_live}
-use Rattle.spec_job.specs.Titled.{Key, Titled}
+use Rattle.spec_job.specs.SoloMachine.{is_live}
+use Rattle.spec_job.specs.KeyedJob.{Key, KeyedJob}
 use Rattle.spec_hall.specs.Events.{Event, Balance, Start, Finish, Exchange}
 use Rattle.spec_hall.specs.States.{lives, states, balanced, exchange_due, picked}
 use Rattle.spec_hall.specs.Legal.{LegalFrom}
@@ -46,7 +46,7 @@ has_run (Exchanges k) = true
 has_run (Slices k index outcome) = did_run outcome
 
 -- whether every job is closed and answered
-abbrev pub is_done : List Titled → Bool
+abbrev pub is_done : List KeyedJob → Bool
 is_done jobs = list_all (λ t. t.state.closed && not (is_live t.state)) jobs
 
 -- turns that a hall of so many workers takes after a past, each allowed and where something is left to do; none loses a start

@@ -2,8 +2,8 @@ use Rattle.std.specs.Prelude.{◌≡◌, ◌≢◌, ℕ, true, List, [], ◌∷�
 use Rattle.std.specs.List.{list_all}
 use Rattle.mal_revision.specs.Posted.{Posted}
 use Rattle.mal_history.specs.declared.event.Share.{Share}
-use Rattle.spec_job.specs.Solo.{solo}
-use Rattle.spec_job.specs.Titled.{Key}
+use Rattle.spec_job.specs.SoloMachine.{solo}
+use Rattle.spec_job.specs.KeyedJob.{Key}
 use Rattle.spec_job.specs.Models.{AnswersFollow, AnswersSolve, KeepsAnswers}
 use Rattle.spec_job.specs.Proofs.{AnswersRefute, LogIsDerived}
 use Rattle.spec_job.specs.DemandOne.{AgreeAll}

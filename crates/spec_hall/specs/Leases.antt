@@ -2,11 +2,11 @@ use Rattle.std.specs.Prelude.{◌≡◌, ◌≢◌, ℕ, suc, ◌+◌, ◌≤◌
 use Rattle.std.specs.Option.{option_map_or}
 use Rattle.spec_job.specs.Journal.{JournalEntry}
 use Rattle.spec_job.specs.Journaled.{Journaled}
-use Rattle.spec_job.specs.Solo.{solo, place_at}
-use Rattle.spec_job.specs.Titled.{Key}
+use Rattle.spec_job.specs.SoloMachine.{solo, place_at}
+use Rattle.spec_job.specs.KeyedJob.{Key}
 use Rattle.spec_hall.specs.Events.{Event, Open, Revise, Close, Balance, Start, Finish, Exchange}
 use Rattle.spec_hall.specs.Own.{own, is_key}
-use Rattle.spec_hall.specs.States.{Held, Candidate, keys_of, states, lives, balanced, leases, lease_of, picked}
+use Rattle.spec_hall.specs.States.{LeaseOut, Candidate, keys_of, states, lives, balanced, leases, lease_of, picked}
 use Rattle.spec_hall.specs.Legal.{Legal}
 
 -- how many starts there were, and the number of the last one of a worker, 0 before it
@@ -56,19 +56,19 @@ abbrev pub job_number : Key → List Event → ℕ
 job_number k history = place_among k (keys_of history)
 
 -- the journal of a lease that is out: that of its node, under the number of its job and the number of its start
-abbrev pub lease_journal : List Event → Held → Journaled
+abbrev pub lease_journal : List Event → LeaseOut → Journaled
 lease_journal history l = record { job = job_number l.key history; index = l.index; start = start_number l.worker history; entries = (place_at (solo (own l.key history)) l.index).entries }
 
 -- what the start of a lease that is out adds to that journal
-abbrev pub lease_adds : List Event → Held → List JournalEntry
+abbrev pub lease_adds : List Event → LeaseOut → List JournalEntry
 lease_adds history l = option_map_or (λ o. o.adds) (place_at (solo (own l.key history)) l.index).out []
 
 -- whether a lease is of this node
-abbrev pub is_of : Key → ℕ → Held → Bool
+abbrev pub is_of : Key → ℕ → LeaseOut → Bool
 is_of k index l = is_key k l.key && index == l.index
 
 -- the lease of a node
-abbrev pub lease_at : Key → ℕ → List Held → Option Held
+abbrev pub lease_at : Key → ℕ → List LeaseOut → Option LeaseOut
 lease_at k index out = find (is_of k index) out
 
 -- a worker of a hall: they are numbered from 1
@@ -77,7 +77,7 @@ pub record IsWorker (workers worker : ℕ) : Type 0 where
   pub high : worker ≤ workers
 
 -- no two of these leases are of one worker, or of one node
-abbrev pub AreApart : List Held → Type 0
+abbrev pub AreApart : List LeaseOut → Type 0
 AreApart [] = Unit {0}
 AreApart (l ∷ ls) = (lease_of l.worker ls ≡ None) × (lease_at l.key l.index ls ≡ None) × AreApart ls
 

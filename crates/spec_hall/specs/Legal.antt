@@ -5,22 +5,22 @@ use Rattle.mal_history.specs.declared.event.Share.{Share}
 use Rattle.mal_base.specs.Formulas.{literals_of}
 use Rattle.mal_revision.specs.Posted.{Posted, is_posted}
 use Rattle.spec_balance.specs.Fair.{IsFair}
-use Rattle.spec_job.specs.Solo.{clauses_in}
-use Rattle.spec_job.specs.Titled.{Key, Titled}
+use Rattle.spec_job.specs.SoloMachine.{clauses_in}
+use Rattle.spec_job.specs.KeyedJob.{Key, KeyedJob}
 use Rattle.spec_hall.specs.Events.{Event, Open, Revise, Close, Balance, Start, Finish, Exchange, key_of}
 use Rattle.spec_hall.specs.Own.{is_text, is_key}
 use Rattle.spec_hall.specs.States.{Candidate, keys_of, states, lives, live_asks, balanced, leases, lease_of, exchange_due, picked}
 
 -- the job of a key
-abbrev pub job_of : Key → List Titled → Option Titled
+abbrev pub job_of : Key → List KeyedJob → Option KeyedJob
 job_of k jobs = find (λ t. is_key k t.key) jobs
 
 -- how many jobs a tenant has
-abbrev pub jobs_of : List ℕ → List Titled → ℕ
+abbrev pub jobs_of : List ℕ → List KeyedJob → ℕ
 jobs_of tenant jobs = count_by (λ t. is_text tenant t.key.tenant) jobs
 
 -- how many tenants there are: a job counts where no later job has its tenant
-abbrev pub tenant_count : List Titled → ℕ
+abbrev pub tenant_count : List KeyedJob → ℕ
 tenant_count [] = 0
 tenant_count (t ∷ ts) = (if 0 == jobs_of t.key.tenant ts then 1 else 0) + tenant_count ts
 
@@ -39,7 +39,7 @@ pub record MayOpen (past : List Event) (k : Key) (ask : Terms) : Type 0 where
   pub hall_room : (jobs_of k.tenant (states past) ≡ 0) → tenant_count (states past) < 64
 
 -- a job that is open may get its next revision, of which there are 256 at most with 2^20 clauses and 2^24 literals
-pub record MayRevise (past : List Event) (k : Key) (number : ℕ) (r : Posted) (t : Titled) : Type 0 where
+pub record MayRevise (past : List Event) (k : Key) (number : ℕ) (r : Posted) (t : KeyedJob) : Type 0 where
   pub job : job_of k (states past) ≡ Some t
   pub open_still : t.state.closed ≡ false
   pub posted : is_posted r ≡ true
@@ -49,7 +49,7 @@ pub record MayRevise (past : List Event) (k : Key) (number : ℕ) (r : Posted) (
   pub literal_room : literals_in t.state.revisions + literals_of r.clauses ≤ 16777216
 
 -- a job that is open may be closed
-pub record MayClose (past : List Event) (k : Key) (t : Titled) : Type 0 where
+pub record MayClose (past : List Event) (k : Key) (t : KeyedJob) : Type 0 where
   pub job : job_of k (states past) ≡ Some t
   pub open_still : t.state.closed ≡ false
 
@@ -75,7 +75,7 @@ pub record MayStart (workers : ℕ) (past : List Event) (k : Key) (index worker 
   pub idle : lease_of worker (leases past) ≡ None
 
 -- an exchange comes of the first job of which it is due, where no balancing is due
-pub record MayExchange (past : List Event) (k : Key) (t : Titled) : Type 0 where
+pub record MayExchange (past : List Event) (k : Key) (t : KeyedJob) : Type 0 where
   pub balance : lives (states past) ≡ balanced past
   pub first : exchange_due (states past) ≡ Some t
   pub key : t.key ≡ k
@@ -83,12 +83,12 @@ pub record MayExchange (past : List Event) (k : Key) (t : Titled) : Type 0 where
 -- an event is allowed after a past
 abbrev pub Allowed : ℕ → List Event → Event → Type 0
 Allowed workers past (Open k ask) = MayOpen past k ask
-Allowed workers past (Revise k number r) = (t : Titled) × MayRevise past k number r t
-Allowed workers past (Close k) = (t : Titled) × MayClose past k t
+Allowed workers past (Revise k number r) = (t : KeyedJob) × MayRevise past k number r t
+Allowed workers past (Close k) = (t : KeyedJob) × MayClose past k t
 Allowed workers past (Balance shares) = MayBalance workers past shares
 Allowed workers past (Start k index worker) = (choice : Candidate) × MayStart workers past k index worker choice
 Allowed workers past (Finish k index worker outcome) = lease_of worker (leases past) ≡ Some (record { worker = worker; key = k; index = index })
-Allowed workers past (Exchange k) = (t : Titled) × MayExchange past k t
+Allowed workers past (Exchange k) = (t : KeyedJob) × MayExchange past k t
 
 -- each event is allowed after the past and those before it
 abbrev pub LegalFrom : ℕ → List Event → List Event → Type 0

@@ -5,8 +5,8 @@ use Rattle.mal_base.specs.Asks.{Terms}
 use Rattle.mal_history.specs.declared.event.Share.{Share}
 use Rattle.spec_node.specs.Load.{counted}
 use Rattle.spec_balance.specs.Fair.{IsFair, volume_at}
-use Rattle.spec_job.specs.Solo.{Solo, Volume, Opened, is_live, is_exchange_due, place_at, startable, solo_step, unopened}
-use Rattle.spec_job.specs.Titled.{Key, Titled}
+use Rattle.spec_job.specs.SoloMachine.{SoloMachine, Volume, Opened, is_live, is_exchange_due, place_at, startable, solo_step, unopened}
+use Rattle.spec_job.specs.KeyedJob.{Key, KeyedJob}
 use Rattle.spec_job.specs.Viewed.{JobView, unstarted, and_own}
 use Rattle.spec_hall.specs.Events.{Event}
 use Rattle.spec_hall.specs.Own.{is_key}
@@ -20,7 +20,7 @@ pub record Seat : Type 0 where
   pub noted : Terms
 
 -- the jobs in their seats, by opening
-abbrev pub jobs_in : List Seat → List Titled
+abbrev pub jobs_in : List Seat → List KeyedJob
 jobs_in seats = map (λ s. s.job.titled) seats
 
 -- whether a job is live
@@ -50,11 +50,11 @@ first_exchange [] = None
 first_exchange (s ∷ seats) = if is_exchange_due s.job.titled.state then Some 0 else option_map suc (first_exchange seats)
 
 -- what was picked so far, or a job's node where it may start and was started less often; the job has this place
-abbrev pub pick_node : ℕ → Solo → Option Candidate → ℕ → Option Candidate
+abbrev pub pick_node : ℕ → SoloMachine → Option Candidate → ℕ → Option Candidate
 pick_node job s best i = if startable s i then fewer best (record { job = job; index = i; starts = (place_at s i).starts }) else best
 
 -- what was picked so far, or a node of a job
-abbrev pub pick_job : ℕ → Solo → Option Candidate → Option Candidate
+abbrev pub pick_job : ℕ → SoloMachine → Option Candidate → Option Candidate
 pick_job job s best = fold (pick_node job s) best (counted 0 s.volume)
 
 -- what was picked so far, or a node of these jobs, of which the first has this place

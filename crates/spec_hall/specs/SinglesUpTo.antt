@@ -1,6 +1,6 @@
 use Rattle.std.specs.Prelude.{◌≡◌, ℕ, ◌+◌, List, take}
-use Rattle.spec_job.specs.Solo.{solo}
-use Rattle.spec_job.specs.Titled.{Key}
+use Rattle.spec_job.specs.SoloMachine.{solo}
+use Rattle.spec_job.specs.KeyedJob.{Key}
 use Rattle.spec_job.specs.DemandOneUpTo.{AgreeOn}
 use Rattle.spec_hall.specs.Events.{Event}
 use Rattle.spec_hall.specs.Own.{own}

@@ -1,5 +1,5 @@
 use Rattle.std.specs.Prelude.{◌≡◌, ℕ, suc, ◌<◌, ◌≤◌, List, length, map, get_or, slice_get, Option, Some, None}
-use Rattle.spec_job.specs.Titled.{Key}
+use Rattle.spec_job.specs.KeyedJob.{Key}
 use Rattle.spec_hall.specs.Events.{Event}
 use Rattle.spec_hall.specs.Leases.{start_number}
 use Rattle.spec_hall.specs.Seats.{Seat}

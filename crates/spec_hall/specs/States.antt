@@ -1,7 +1,7 @@
 use Rattle.std.specs.Prelude.{ℕ, ◌+◌, Bool, true, false, ◌||◌, ◌==◌, nat_lt, List, [], ◌∷◌, ◌++◌, map, filter, fold, find, Option, Some, None, if◌then◌else◌}
 use Rattle.mal_base.specs.Asks.{Terms}
-use Rattle.spec_job.specs.Solo.{Solo, solo, is_live, is_exchange_due, startable, place_at}
-use Rattle.spec_job.specs.Titled.{Key, Titled}
+use Rattle.spec_job.specs.SoloMachine.{SoloMachine, solo, is_live, is_exchange_due, startable, place_at}
+use Rattle.spec_job.specs.KeyedJob.{Key, KeyedJob}
 use Rattle.spec_node.specs.Load.{counted}
 use Rattle.spec_hall.specs.Events.{Event, Open, Revise, Close, Balance, Start, Finish, Exchange}
 use Rattle.spec_hall.specs.Own.{own}
@@ -27,27 +27,27 @@ abbrev pub keys_of : List Event → List Key
 keys_of history = fold keys_step [] history
 
 -- a job of a history with its machine, run alone on its own events
-abbrev pub titled : List Event → Key → Titled
+abbrev pub titled : List Event → Key → KeyedJob
 titled history k = record { key = k; state = solo (own k history) }
 
 -- each job of a history as its machine run alone leaves it, by opening
-abbrev pub states : List Event → List Titled
+abbrev pub states : List Event → List KeyedJob
 states history = map (titled history) (keys_of history)
 
 -- the jobs that are live
-abbrev pub live_ones : List Titled → List Titled
+abbrev pub live_ones : List KeyedJob → List KeyedJob
 live_ones jobs = filter (λ t. is_live t.state) jobs
 
 -- what the balancing reads of a job
-abbrev pub live_of : Titled → Live
+abbrev pub live_of : KeyedJob → Live
 live_of t = record { key = t.key; priority = t.state.ask.priority; demand = t.state.ask.demand }
 
 -- the live jobs with priority and demand, by opening
-abbrev pub lives : List Titled → List Live
+abbrev pub lives : List KeyedJob → List Live
 lives jobs = map live_of (live_ones jobs)
 
 -- the asks of the live jobs, by opening
-abbrev pub live_asks : List Titled → List Terms
+abbrev pub live_asks : List KeyedJob → List Terms
 live_asks jobs = map (λ t. t.state.ask) (live_ones jobs)
 
 -- whether an event is a balancing
@@ -70,13 +70,13 @@ abbrev pub balanced : List Event → List Live
 balanced history = balanced_from [] [] history
 
 -- a start that has not ended: its worker, its job and its node
-pub record Held : Type 0 where
+pub record LeaseOut : Type 0 where
   pub worker : ℕ
   pub key : Key
   pub index : ℕ
 
 -- the starts that are out after one more event
-abbrev pub leases_step : List Held → Event → List Held
+abbrev pub leases_step : List LeaseOut → Event → List LeaseOut
 leases_step out (Open k ask) = out
 leases_step out (Revise k number r) = out
 leases_step out (Close k) = out
@@ -86,15 +86,15 @@ leases_step out (Finish k index worker outcome) = filter (λ l. nat_lt l.worker 
 leases_step out (Exchange k) = out
 
 -- the starts that are out, oldest first
-abbrev pub leases : List Event → List Held
+abbrev pub leases : List Event → List LeaseOut
 leases history = fold leases_step [] history
 
 -- the start that a worker has out
-abbrev pub lease_of : ℕ → List Held → Option Held
+abbrev pub lease_of : ℕ → List LeaseOut → Option LeaseOut
 lease_of worker out = find (λ l. l.worker == worker) out
 
 -- the first job of which an exchange is due
-abbrev pub exchange_due : List Titled → Option Titled
+abbrev pub exchange_due : List KeyedJob → Option KeyedJob
 exchange_due jobs = find (λ t. is_exchange_due t.state) jobs
 
 -- a node that may start: its job's place by opening, its index, and how often it was started
@@ -104,11 +104,11 @@ pub record Candidate : Type 0 where
   pub starts : ℕ
 
 -- a job's nodes that may start, by index
-abbrev pub candidates_of : ℕ → Solo → List Candidate
+abbrev pub candidates_of : ℕ → SoloMachine → List Candidate
 candidates_of job s = map (λ i. record { job = job; index = i; starts = (place_at s i).starts }) (filter (startable s) (counted 0 s.volume))
 
 -- the nodes that may start, by opening of their jobs and by index; the first job has this place
-abbrev pub candidates_from : ℕ → List Titled → List Candidate
+abbrev pub candidates_from : ℕ → List KeyedJob → List Candidate
 candidates_from job [] = []
 candidates_from job (t ∷ ts) = candidates_of job t.state ++ candidates_from (job + 1) ts
 
@@ -118,5 +118,5 @@ fewer None c = Some c
 fewer (Some b) c = if nat_lt c.starts b.starts then Some c else Some b
 
 -- the node that starts next: that with the fewest starts, then by its job's opening, then by index
-abbrev pub picked : List Titled → Option Candidate
+abbrev pub picked : List KeyedJob → Option Candidate
 picked jobs = fold fewer None (candidates_from 0 jobs)

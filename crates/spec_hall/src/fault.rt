@@ -1,6 +1,6 @@
 //! Why a hall refuses a call.
 
-use mal_base::Which;
+use mal_base::LimitKind;
 use thiserror::Error;
 
 /// Why a job is not opened.
@@ -26,7 +26,7 @@ pub enum ReviseFault {
     #[error("the job has 256 revisions")]
     RevisionsFull,
     #[error("more {which:?} than a job may have")]
-    JobFull { which: Which },
+    JobFull { which: LimitKind },
     #[error("out of memory")]
     OutOfMemory,
 }

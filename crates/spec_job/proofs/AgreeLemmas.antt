@@ -2,11 +2,11 @@
 use Rattle.std.proofs.Common.{◌≡◌, ℕ, zero, suc, ◌-◌, ◌<◌, ◌≤◌, List, ◌++◌, Some, None, inl, inr, ◌⊎◌, sym, ◌∙◌, ap, subst, arith}
 use Rattle.std.specs.Prelude.{slice_get}
 use Rattle.std.proofs.lemmas.Bool.{cases_lt}
-use Rattle.mal_base.specs.Held.{Line}
+use Rattle.mal_base.specs.NumberedClause.{Line}
 use Rattle.mal_base.specs.declared.answer.Answer.{Answer}
 use Rattle.mal_base.specs.declared.answer.Answer.TheVariants.{Refuted}
 use Rattle.mal_revision.specs.Posted.{Posted}
-use Rattle.spec_job.specs.Solo.{first_empty}
+use Rattle.spec_job.specs.SoloMachine.{first_empty}
 use Rattle.spec_job.specs.DemandOne.{Agree}
 use Rattle.spec_job.proofs.CourseLemmas.{Course, course, GoesOn, WentOn, beyond, beyond-gap, went-before, course-answers, course-log}
 

@@ -4,10 +4,10 @@ use Rattle.std.specs.Prelude.{slice_get, slice_set}
 use Rattle.std.proofs.lemmas.List.{length-replicate, length-set}
 use Rattle.mal_base.specs.declared.answer.Answer.{Answer}
 use Rattle.mal_base.specs.declared.answer.Answer.TheVariants.{Refuted}
-use Rattle.mal_base.specs.Held.{Held}
+use Rattle.mal_base.specs.NumberedClause.{NumberedClause}
 use Rattle.mal_revision.specs.Posted.{Posted}
 use Rattle.spec_job.specs.Journal.{JournalEntry, Import, Run, imports_in}
-use Rattle.spec_job.specs.Solo.{Started, Lease, Place, vacant, Solo, solo_step, place_at, missing_loads, first_empty, settled_by}
+use Rattle.spec_job.specs.SoloMachine.{Started, Lease, NodeSlot, vacant, SoloMachine, solo_step, place_at, missing_loads, first_empty, settled_by}
 use Rattle.spec_job.proofs.ElementLemmas.{get-repeated, get-front}
 use Rattle.spec_job.proofs.PlacesLemmas.{set-here}
 use Rattle.spec_job.proofs.SolvingLemmas.{lease_of}
@@ -15,7 +15,7 @@ use Rattle.spec_job.proofs.CourseLemmas.{Course, next_adds, course, WentOn}
 use Rattle.spec_job.proofs.AgreeLemmas.{ComeFrom}
 
 -- where a machine stands
-abbrev pub course_of : Solo → Course
+abbrev pub course_of : SoloMachine → Course
 course_of s = record { entries = (place_at s 0).entries; log = s.log; answers = s.answers; spent = s.spent }
 
 -- a start of the one node
@@ -23,13 +23,13 @@ abbrev pub lease_from : List Posted → Course → Lease
 lease_from revisions c = record { revision = length c.answers; adds = next_adds revisions c }
 
 -- the one node may still run: it stands at its course, and a start that is out goes on with it
-pub record IsOpen (s : Solo) (c : Course) : Type 0 where
+pub record IsOpen (s : SoloMachine) (c : Course) : Type 0 where
   pub none : first_empty c.log ≡ None
   pub same : course_of s ≡ c
   pub leased : (l : Lease) → (place_at s 0).out ≡ Some l → (length c.answers < length s.revisions) × (l ≡ lease_from s.revisions c)
 
 -- an empty clause has answered every revision
-pub record IsSettled (s : Solo) (c : Course) (goal : ℕ) : Type 0 where
+pub record IsSettled (s : SoloMachine) (c : Course) (goal : ℕ) : Type 0 where
   pub found : first_empty c.log ≡ Some goal
   pub log : s.log ≡ c.log
   pub idle : (place_at s 0).out ≡ None
@@ -37,7 +37,7 @@ pub record IsSettled (s : Solo) (c : Course) (goal : ℕ) : Type 0 where
   pub come : ComeFrom c s.answers
 
 -- a machine whose one node has run so many slices of its course
-pub record IsAlong (slices : ℕ) (s : Solo) (n : ℕ) : Type 0 where
+pub record IsAlong (slices : ℕ) (s : SoloMachine) (n : ℕ) : Type 0 where
   pub budget : s.ask.slices ≡ slices
   pub low : s.volume ≤ 1
   pub untold : s.broadcasts ≡ []
@@ -60,21 +60,21 @@ come-more c answers k goal found h = record {
     by_place r a (inl p) = inr (goal, found, sym p.1)
     by_place r a (inr p) = h.given r a p
 
-no-imports : (k : ℕ) (tolds : List (List Held)) → tolds ≡ [] → map Import (drop k tolds) ≡ []
+no-imports : (k : ℕ) (tolds : List (List NumberedClause)) → tolds ≡ [] → map Import (drop k tolds) ≡ []
 no-imports zero [] e = refl
 no-imports (suc k) [] e = refl
 no-imports zero (t ∷ ts) e = absurd (cc)
 no-imports (suc k) (t ∷ ts) e = absurd (cc)
 
-lease-with : Solo → List JournalEntry → Lease
+lease-with : SoloMachine → List JournalEntry → Lease
 lease-with s es = record { revision = length s.answers; adds = missing_loads s (place_at s 0) ++ (es ++ Run ∷ []) }
 
-start-next : (s : Solo) (c : Course) → s.broadcasts ≡ [] → course_of s ≡ c → lease_of s 0 ≡ lease_from s.revisions c
+start-next : (s : SoloMachine) (c : Course) → s.broadcasts ≡ [] → course_of s ≡ c → lease_of s 0 ≡ lease_from s.revisions c
 unfolding lease-with
 start-next s c untold same = ap (lease-with s) (no-imports (imports_in (place_at s 0).entries) s.broadcasts untold) ∙ ap (lease_from s.revisions) same
 
 -- the machine stands at the end of a slice, before what an empty clause answers
-pub record IsThere (slices : ℕ) (t : Solo) (n : ℕ) : Type 0 where
+pub record IsThere (slices : ℕ) (t : SoloMachine) (n : ℕ) : Type 0 where
   pub budget : t.ask.slices ≡ slices
   pub low : t.volume ≤ 1
   pub untold : t.broadcasts ≡ []
@@ -84,7 +84,7 @@ pub record IsThere (slices : ℕ) (t : Solo) (n : ℕ) : Type 0 where
   pub same : course_of t ≡ course slices t.revisions n
   pub idle : (place_at t 0).out ≡ None
 
-pub there-settled : (slices n : ℕ) (t : Solo) (o : Option ℕ) → first_empty t.log ≡ o → length (settled_by o t).answers ≤ length t.revisions → IsThere slices t n → IsAlong slices (settled_by o t) n
+pub there-settled : (slices n : ℕ) (t : SoloMachine) (o : Option ℕ) → first_empty t.log ≡ o → length (settled_by o t).answers ≤ length t.revisions → IsThere slices t n → IsAlong slices (settled_by o t) n
 there-settled slices n t None e order h = record {
   budget = h.budget;
   low = h.low;
@@ -118,21 +118,21 @@ there-settled slices n t (Some goal) e order h = record {
         omega arith
 
 -- the place of the one node is set, and the others stay
-set-others : (ps : List Place) (q : Place) (i : ℕ) → get_or (slice_set ps 0 q) (suc i) vacant ≡ get_or ps (suc i) vacant
+set-others : (ps : List NodeSlot) (q : NodeSlot) (i : ℕ) → get_or (slice_set ps 0 q) (suc i) vacant ≡ get_or ps (suc i) vacant
 set-others [] q i = refl
 set-others (p ∷ ps) q i = refl
 
-pub others-stay : (ps : List Place) (q : Place) → ((i : ℕ) → (get_or ps (suc i) vacant).out ≡ None) → (i : ℕ) → (get_or (slice_set ps 0 q) (suc i) vacant).out ≡ None
-others-stay ps q h i = ap (λ (p : Place). p.out) (set-others ps q i) ∙ h i
+pub others-stay : (ps : List NodeSlot) (q : NodeSlot) → ((i : ℕ) → (get_or ps (suc i) vacant).out ≡ None) → (i : ℕ) → (get_or (slice_set ps 0 q) (suc i) vacant).out ≡ None
+others-stay ps q h i = ap (λ (p : NodeSlot). p.out) (set-others ps q i) ∙ h i
 
-pub some-stay : (ps : List Place) (q : Place) → 1 ≤ length ps → 1 ≤ length (slice_set ps 0 q)
+pub some-stay : (ps : List NodeSlot) (q : NodeSlot) → 1 ≤ length ps → 1 ≤ length (slice_set ps 0 q)
 some-stay ps q h = subst (λ (n : ℕ). 1 ≤ n) (sym (length-set ps 0 q)) h
 
-pub set-first : (ps : List Place) (q : Place) → 1 ≤ length ps → get_or (slice_set ps 0 q) 0 vacant ≡ q
+pub set-first : (ps : List NodeSlot) (q : NodeSlot) → 1 ≤ length ps → get_or (slice_set ps 0 q) 0 vacant ≡ q
 set-first ps q h = set-here ps 0 q (omega arith)
 
 -- a start of the one node
-pub started-along : (slices n : ℕ) (s : Solo) → length s.answers < length s.revisions → IsAlong slices s n → IsAlong slices (solo_step s (Started 0)) n
+pub started-along : (slices n : ℕ) (s : SoloMachine) → length s.answers < length s.revisions → IsAlong slices s n → IsAlong slices (solo_step s (Started 0)) n
 started-along slices n s live h = record {
   budget = h.budget;
   low = h.low;
@@ -146,7 +146,7 @@ started-along slices n s live h = record {
     c : Course
     c = course slices s.revisions n
 
-    q : Place
+    q : NodeSlot
     q = record (place_at s 0) { out = Some (lease_of s 0); starts = (place_at s 0).starts + 1 }
 
     here : get_or (slice_set s.places 0 q) 0 vacant ≡ q
@@ -155,9 +155,9 @@ started-along slices n s live h = record {
     open-started : IsOpen s c → IsOpen (solo_step s (Started 0)) c
     open-started k = record {
       none = k.none;
-      same = ap (λ (p : Place). record { entries = p.entries; log = s.log; answers = s.answers; spent = s.spent }) here ∙ k.same;
+      same = ap (λ (p : NodeSlot). record { entries = p.entries; log = s.log; answers = s.answers; spent = s.spent }) here ∙ k.same;
       leased = λ l e.
-          let out : Some (lease_of s 0) ≡ Some l = sym (ap (λ (p : Place). p.out) here) ∙ e in
+          let out : Some (lease_of s 0) ≡ Some l = sym (ap (λ (p : NodeSlot). p.out) here) ∙ e in
           let same : lease_of s 0 ≡ l = cc in
           (subst (λ (x : Course). length x.answers < length s.revisions) k.same live, sym same ∙ start-next s c h.untold k.same);
     }

@@ -12,7 +12,7 @@ use Rattle.mal_revision.specs.Posted.{Posted}
 use Rattle.spec_node.specs.State.{Node}
 use Rattle.spec_node.specs.Model.{model_of}
 use Rattle.spec_job.specs.Journal.{replay, loads_in}
-use Rattle.spec_job.specs.Solo.{Own, Opened, Revised, Closed, Volume, Started, Finished, Exchanged, Lease, Place, vacant, Solo, solo_step, place_at, with_place, start_entries, answered, spend, starve, conclude, first_empty, settled_by, is_late, finished_ran, finished_home, finished_lease, finished}
+use Rattle.spec_job.specs.SoloMachine.{Own, Opened, Revised, Closed, Volume, Started, Finished, Exchanged, Lease, NodeSlot, vacant, SoloMachine, solo_step, place_at, with_place, start_entries, answered, spend, starve, conclude, first_empty, settled_by, is_late, finished_ran, finished_home, finished_lease, finished}
 use Rattle.spec_job.specs.Runnable.{MayHappen}
 use Rattle.spec_job.proofs.PlacesLemmas.{all-marked, set-place}
 use Rattle.spec_job.proofs.SolvingLemmas.{IsLeased, IsSolving, IsSolvingSolo, placed-solving, out-leased}
@@ -20,64 +20,64 @@ use Rattle.spec_job.proofs.SolvedLemmas.{home-ready, idle-solving, lease-solving
 use Rattle.spec_job.proofs.DerivingLemmas.{AreCalm, AreEarly}
 
 -- nodes stay calm: while the current revision is the same, and where it is another one
-early-of : (revisions : List Posted) (answers : List Answer) (places : List Place) → IsSolving revisions answers places → AreEarly (length answers) places
+early-of : (revisions : List Posted) (answers : List Answer) (places : List NodeSlot) → IsSolving revisions answers places → AreEarly (length answers) places
 early-of revisions answers places h i low = (h.ready i low).early
 
-calm-later : (c d : ℕ) (places : List Place) → c ≤ d → AreEarly c places → AreCalm c places → AreCalm d places
+calm-later : (c d : ℕ) (places : List NodeSlot) → c ≤ d → AreEarly c places → AreCalm c places → AreCalm d places
 calm-later c d places up early h i low e = let a : loads_in (get_or places i vacant).entries ≤ c + 1 = early i low in h i low (omega arith)
 
-calm-next : (c d : ℕ) (places : List Place) → c < d → AreEarly c places → AreCalm d places
+calm-next : (c d : ℕ) (places : List NodeSlot) → c < d → AreEarly c places → AreCalm d places
 calm-next c d places up early i low e = let a : loads_in (get_or places i vacant).entries ≤ c + 1 = early i low in absurd (omega arith)
 
-calm-placed : (c i : ℕ) (places : List Place) (p : Place) → (i ≤ 63 → loads_in p.entries ≡ c + 1 → (replay i p.entries).node.verdict ≡ None) → AreCalm c places → AreCalm c (slice_set places i p)
+calm-placed : (c i : ℕ) (places : List NodeSlot) (p : NodeSlot) → (i ≤ 63 → loads_in p.entries ≡ c + 1 → (replay i p.entries).node.verdict ≡ None) → AreCalm c places → AreCalm c (slice_set places i p)
 calm-placed c i places p k h j low = by_place (set-place places i j p)
   where
     by_place : ((j ≡ i) × (get_or (slice_set places i p) j vacant ≡ p)) ⊎ (get_or (slice_set places i p) j vacant ≡ get_or places j vacant) → loads_in (get_or (slice_set places i p) j vacant).entries ≡ c + 1 → (replay j (get_or (slice_set places i p) j vacant).entries).node.verdict ≡ None
-    by_place (inl e) = subst (λ (q : Place). loads_in q.entries ≡ c + 1 → (replay j q.entries).node.verdict ≡ None) (sym e.1) (subst (λ (x : ℕ). loads_in p.entries ≡ c + 1 → (replay x p.entries).node.verdict ≡ None) (sym e.0) (k (subst (λ (x : ℕ). x ≤ 63) e.0 low)))
-    by_place (inr e) = subst (λ (q : Place). loads_in q.entries ≡ c + 1 → (replay j q.entries).node.verdict ≡ None) (sym e) (h j low)
+    by_place (inl e) = subst (λ (q : NodeSlot). loads_in q.entries ≡ c + 1 → (replay j q.entries).node.verdict ≡ None) (sym e.1) (subst (λ (x : ℕ). loads_in p.entries ≡ c + 1 → (replay x p.entries).node.verdict ≡ None) (sym e.0) (k (subst (λ (x : ℕ). x ≤ 63) e.0 low)))
+    by_place (inr e) = subst (λ (q : NodeSlot). loads_in q.entries ≡ c + 1 → (replay j q.entries).node.verdict ≡ None) (sym e) (h j low)
 
-abbrev pub AreCalmIn : Solo → Type 0
+abbrev pub AreCalmIn : SoloMachine → Type 0
 AreCalmIn s = AreCalm (length s.answers) s.places
 
-answered-calm : (s : Solo) (a : Answer) → AreEarly (length s.answers) s.places → AreCalmIn (answered s a)
+answered-calm : (s : SoloMachine) (a : Answer) → AreEarly (length s.answers) s.places → AreCalmIn (answered s a)
 answered-calm s a early = let long : length (s.answers ++ a ∷ []) ≡ length s.answers + 1 = length-append s.answers (a ∷ []) in calm-next (length s.answers) (length (s.answers ++ a ∷ [])) s.places (omega arith) early
 
-settled-calm : (o : Option ℕ) (s : Solo) → AreEarly (length s.answers) s.places → AreCalmIn s → AreCalmIn (settled_by o s)
+settled-calm : (o : Option ℕ) (s : SoloMachine) → AreEarly (length s.answers) s.places → AreCalmIn s → AreCalmIn (settled_by o s)
 settled-calm None s early h = h
 settled-calm (Some goal) s early h =
     let more : List Answer = replicate (length s.revisions - length s.answers) (Refuted goal) in
     let long : length (s.answers ++ more) ≡ length s.answers + length more = length-append s.answers more in
     calm-later (length s.answers) (length (s.answers ++ more)) s.places (omega arith) early h
 
-spend-calm : (s : Solo) → AreEarly (length s.answers) s.places → AreCalmIn s → AreCalmIn (spend s)
+spend-calm : (s : SoloMachine) → AreEarly (length s.answers) s.places → AreCalmIn s → AreCalmIn (spend s)
 spend-calm s early h = by_test (s.spent + 1 == s.ask.slices)
   where
     by_test : (b : Bool) → AreCalmIn (cond b (answered s (Spent s.ask.slices)) (record s { spent = s.spent + 1 }))
     by_test true = answered-calm s (Spent s.ask.slices) early
     by_test false = h
 
-starve-calm : (s : Solo) → AreEarly (length s.answers) s.places → AreCalmIn s → AreCalmIn (starve s)
+starve-calm : (s : SoloMachine) → AreEarly (length s.answers) s.places → AreCalmIn s → AreCalmIn (starve s)
 starve-calm s early h = by_test (s.starved + 1 == 3)
   where
     by_test : (b : Bool) → AreCalmIn (cond b (answered s OutOfStarts) (record s { starved = s.starved + 1 }))
     by_test true = answered-calm s OutOfStarts early
     by_test false = h
 
-conclude-calm : (v : Option Verdict) (n : Node) (s : Solo) → AreEarly (length s.answers) s.places → (v ≡ None → AreCalmIn s) → AreCalmIn (conclude v n s)
+conclude-calm : (v : Option Verdict) (n : Node) (s : SoloMachine) → AreEarly (length s.answers) s.places → (v ≡ None → AreCalmIn s) → AreCalmIn (conclude v n s)
 conclude-calm None n s early h = spend-calm s early (h refl)
 conclude-calm (Some Satisfiable) n s early h = answered-calm s (Satisfied (model_of n)) early
 conclude-calm (Some (Unsatisfiable goal)) n s early h = answered-calm s (Refuted goal) early
 
-ran-calm : (s : Solo) (i : ℕ) (l : Lease) → (place_at s i).out ≡ Some l → IsSolvingSolo s → AreCalmIn s → AreCalmIn (finished_ran s i (place_at s i) l)
+ran-calm : (s : SoloMachine) (i : ℕ) (l : Lease) → (place_at s i).out ≡ Some l → IsSolvingSolo s → AreCalmIn s → AreCalmIn (finished_ran s i (place_at s i) l)
 ran-calm s i l out k h = by_late (is_late s l) refl
   where
-    q : Place
+    q : NodeSlot
     q = record (place_at s i) { entries = (place_at s i).entries ++ l.adds; out = None }
 
     node : Node
     node = (replay i q.entries).node
 
-    home : Solo
+    home : SoloMachine
     home = record (with_place s i q) { log = s.log ++ (replay i q.entries).lines; ran = s.ran + 1 }
 
     leased : IsLeased s.revisions (length s.answers) i (place_at s i).entries l
@@ -93,10 +93,10 @@ ran-calm s i l out k h = by_late (is_late s l) refl
         calm-placed (length s.answers) i s.places q (λ low same. absurd (omega arith)) h
     by_late false e = conclude-calm node.verdict node home early (λ none. calm-placed (length s.answers) i s.places q (λ low same. none) h)
 
-idle-calm : (s : Solo) (i : ℕ) → AreCalmIn s → AreCalmIn (finished_home s i (place_at s i))
+idle-calm : (s : SoloMachine) (i : ℕ) → AreCalmIn s → AreCalmIn (finished_home s i (place_at s i))
 idle-calm s i h = calm-placed (length s.answers) i s.places (record (place_at s i) { out = None }) (h i) h
 
-starved-calm : (s : Solo) (i : ℕ) (l : Lease) → IsSolvingSolo s → AreCalmIn s → AreCalmIn (finished_lease s i (place_at s i) l Starved)
+starved-calm : (s : SoloMachine) (i : ℕ) (l : Lease) → IsSolvingSolo s → AreCalmIn s → AreCalmIn (finished_lease s i (place_at s i) l Starved)
 starved-calm s i l k h = by_late (is_late s l)
   where
     early : AreEarly (length s.answers) (finished_home s i (place_at s i)).places
@@ -106,22 +106,22 @@ starved-calm s i l k h = by_late (is_late s l)
     by_late true = idle-calm s i h
     by_late false = starve-calm (finished_home s i (place_at s i)) early (idle-calm s i h)
 
-lease-calm : (s : Solo) (i : ℕ) (l : Lease) (o : Outcome) → (place_at s i).out ≡ Some l → IsSolvingSolo s → AreCalmIn s → AreCalmIn (finished_lease s i (place_at s i) l o)
+lease-calm : (s : SoloMachine) (i : ℕ) (l : Lease) (o : Outcome) → (place_at s i).out ≡ Some l → IsSolvingSolo s → AreCalmIn s → AreCalmIn (finished_lease s i (place_at s i) l o)
 lease-calm s i l Ran e k h = ran-calm s i l e k h
 lease-calm s i l Starved e k h = starved-calm s i l k h
 lease-calm s i l Lost e k h = idle-calm s i h
 
-finished-calm : (s : Solo) (i : ℕ) (out : Option Lease) (o : Outcome) → (place_at s i).out ≡ out → IsSolvingSolo s → AreCalmIn s → AreCalmIn (finished s i (place_at s i) out o)
+finished-calm : (s : SoloMachine) (i : ℕ) (out : Option Lease) (o : Outcome) → (place_at s i).out ≡ out → IsSolvingSolo s → AreCalmIn s → AreCalmIn (finished s i (place_at s i) out o)
 finished-calm s i None o e k h = h
 finished-calm s i (Some l) o e k h =
-    let ended : Solo = finished_lease s i (place_at s i) l o in
+    let ended : SoloMachine = finished_lease s i (place_at s i) l o in
     settled-calm (first_empty ended.log) ended (early-of ended.revisions ended.answers ended.places (lease-solving s i l o e k)) (lease-calm s i l o e k h)
 
-pub step-calm : (s : Solo) (o : Own) → MayHappen s o → IsSolvingSolo s → AreCalmIn s → AreCalmIn (solo_step s o)
+pub step-calm : (s : SoloMachine) (o : Own) → MayHappen s o → IsSolvingSolo s → AreCalmIn s → AreCalmIn (solo_step s o)
 step-calm s (Opened ask) may k h = h
 step-calm s (Revised r) may k h = settled-calm (first_empty s.log) (record s { revisions = s.revisions ++ r ∷ [] }) (early-of s.revisions s.answers s.places k) h
 step-calm s Closed may k h = h
 step-calm s (Volume v) may k h = h
 step-calm s (Started i) may k h = calm-placed (length s.answers) i s.places (record (place_at s i) { out = Some (record { revision = length s.answers; adds = start_entries s (place_at s i) }); starts = (place_at s i).starts + 1 }) (h i) h
 step-calm s (Finished i o) may k h = finished-calm s i (place_at s i).out o refl k h
-step-calm s Exchanged may k h = all-marked (λ (i : ℕ) (p : Place). loads_in p.entries ≡ length s.answers + 1 → (replay i p.entries).node.verdict ≡ None) (λ i m p calm. calm) s.volume (length s.log) s.places h
+step-calm s Exchanged may k h = all-marked (λ (i : ℕ) (p : NodeSlot). loads_in p.entries ≡ length s.answers + 1 → (replay i p.entries).node.verdict ≡ None) (λ i m p calm. calm) s.volume (length s.log) s.places h

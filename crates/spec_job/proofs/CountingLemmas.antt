@@ -3,7 +3,7 @@ use Rattle.std.proofs.Common.{◌≡◌, ℕ, suc, ◌+◌, ◌-◌, ◌*◌, �
 use Rattle.std.specs.Prelude.{All, slice_set}
 use Rattle.std.proofs.lemmas.List.Elements.{All-nil, All-cons, All-append, All-weaker}
 use Rattle.std.proofs.lemmas.List.Sums.{fold_push}
-use Rattle.mal_base.specs.Held.{Held, Line}
+use Rattle.mal_base.specs.NumberedClause.{NumberedClause, Line}
 use Rattle.mal_base.specs.declared.answer.Answer.TheVariants.{Spent, OutOfStarts}
 use Rattle.mal_base.specs.declared.verdict.Verdict.{Verdict}
 use Rattle.mal_base.specs.declared.verdict.Verdict.TheVariants.{Satisfiable, Unsatisfiable}
@@ -16,7 +16,7 @@ use Rattle.spec_search.specs.Laws.{IsCounted, AreNumbered}
 use Rattle.spec_search.proofs.LineLemmas.{lines-counted}
 use Rattle.spec_proof.proofs.Among.{Among, among-append}
 use Rattle.spec_job.specs.Journal.{JournalEntry, replay}
-use Rattle.spec_job.specs.Solo.{Own, Opened, Revised, Closed, Volume, Started, Finished, Exchanged, Lease, Place, Solo, unopened, solo, solo_step, place_at, with_place, answered, spend, starve, conclude, first_empty, settled_by, is_late, finished_home, finished_lease, finished, exports_from, exchanged}
+use Rattle.spec_job.specs.SoloMachine.{Own, Opened, Revised, Closed, Volume, Started, Finished, Exchanged, Lease, NodeSlot, SoloMachine, unopened, solo, solo_step, place_at, with_place, answered, spend, starve, conclude, first_empty, settled_by, is_late, finished_home, finished_lease, finished, exports_from, exchanged}
 use Rattle.spec_job.specs.Counts.{runs_in, runs_of, HasCounts, PlaceCounts, ReplaysCount}
 use Rattle.spec_job.proofs.PlacesLemmas.{marked-length, all-marked, get-vacant, out-within}
 use Rattle.spec_job.proofs.CountLemmas.{IsLow, slice-counted, replay-index, replay-runs, runs-set, runs-marked}
@@ -26,13 +26,13 @@ use Rattle.spec_job.proofs.ExportLemmas.{All-broadcast, all-exports}
 use Rattle.spec_job.proofs.LowLemmas.{adds-run, IsOutLow, IsPlaceLow, AreLow, IsLowSolo, set-low, numbered-low, start-ready, started-low, idle-low}
 
 -- a slice that was run
-home-low : (s : Solo) (i : ℕ) (l : Lease) → (place_at s i).out ≡ Some l → IsLowSolo s → AreLow (runs_of (slice_set s.places i (record (place_at s i) { entries = (place_at s i).entries ++ l.adds; out = None }))) (slice_set s.places i (record (place_at s i) { entries = (place_at s i).entries ++ l.adds; out = None })) (s.log ++ (replay i ((place_at s i).entries ++ l.adds)).lines) s.broadcasts
+home-low : (s : SoloMachine) (i : ℕ) (l : Lease) → (place_at s i).out ≡ Some l → IsLowSolo s → AreLow (runs_of (slice_set s.places i (record (place_at s i) { entries = (place_at s i).entries ++ l.adds; out = None }))) (slice_set s.places i (record (place_at s i) { entries = (place_at s i).entries ++ l.adds; out = None })) (s.log ++ (replay i ((place_at s i).entries ++ l.adds)).lines) s.broadcasts
 home-low s i l out h = subst (λ (n : ℕ). AreLow n (slice_set s.places i q) (s.log ++ ran.lines) s.broadcasts) (sym total) (record { count = set.count; places_low = set.places_low; lines = λ line m. by_side line (among-append s.log ran.lines line m); told = set.told })
   where
-    p : Place
+    p : NodeSlot
     p = place_at s i
 
-    q : Place
+    q : NodeSlot
     q = record p { entries = p.entries ++ l.adds; out = None }
 
     all : ℕ
@@ -85,36 +85,36 @@ home-low s i l out h = subst (λ (n : ℕ). AreLow n (slice_set s.places i q) (s
     by_side line (inr m) = new line (subst (λ (x : Sliced). Among line x.lines) runs m)
 
 -- answers change none of it
-settled-low : (o : Option ℕ) (s : Solo) → IsLowSolo s → IsLowSolo (settled_by o s)
+settled-low : (o : Option ℕ) (s : SoloMachine) → IsLowSolo s → IsLowSolo (settled_by o s)
 settled-low None s h = h
 settled-low (Some goal) s h = h
 
-spend-low : (s : Solo) → IsLowSolo s → IsLowSolo (spend s)
+spend-low : (s : SoloMachine) → IsLowSolo s → IsLowSolo (spend s)
 spend-low s h = by_test (s.spent + 1 == s.ask.slices)
   where
     by_test : (b : Bool) → IsLowSolo (cond b (answered s (Spent s.ask.slices)) (record s { spent = s.spent + 1 }))
     by_test true = h
     by_test false = h
 
-starve-low : (s : Solo) → IsLowSolo s → IsLowSolo (starve s)
+starve-low : (s : SoloMachine) → IsLowSolo s → IsLowSolo (starve s)
 starve-low s h = by_test (s.starved + 1 == 3)
   where
     by_test : (b : Bool) → IsLowSolo (cond b (answered s OutOfStarts) (record s { starved = s.starved + 1 }))
     by_test true = h
     by_test false = h
 
-conclude-low : (v : Option Verdict) (n : Node) (s : Solo) → IsLowSolo s → IsLowSolo (conclude v n s)
+conclude-low : (v : Option Verdict) (n : Node) (s : SoloMachine) → IsLowSolo s → IsLowSolo (conclude v n s)
 conclude-low None n s h = spend-low s h
 conclude-low (Some Satisfiable) n s h = h
 conclude-low (Some (Unsatisfiable goal)) n s h = h
 
-lease-low : (s : Solo) (i : ℕ) (l : Lease) (o : Outcome) → (place_at s i).out ≡ Some l → IsLowSolo s → IsLowSolo (finished_lease s i (place_at s i) l o)
+lease-low : (s : SoloMachine) (i : ℕ) (l : Lease) (o : Outcome) → (place_at s i).out ≡ Some l → IsLowSolo s → IsLowSolo (finished_lease s i (place_at s i) l o)
 lease-low s i l Ran e h = by_late (is_late s l)
   where
     ran : Sliced
     ran = replay i ((place_at s i).entries ++ l.adds)
 
-    home : Solo
+    home : SoloMachine
     home = record (with_place s i (record (place_at s i) { entries = (place_at s i).entries ++ l.adds; out = None })) { log = s.log ++ ran.lines; ran = s.ran + 1 }
 
     by_late : (b : Bool) → IsLowSolo (cond b home (conclude ran.node.verdict ran.node home))
@@ -127,27 +127,27 @@ lease-low s i l Starved e h = by_late (is_late s l)
     by_late false = starve-low (finished_home s i (place_at s i)) (idle-low s i h)
 lease-low s i l Lost e h = idle-low s i h
 
-finished-low : (s : Solo) (i : ℕ) (out : Option Lease) (o : Outcome) → (place_at s i).out ≡ out → IsLowSolo s → IsLowSolo (finished s i (place_at s i) out o)
+finished-low : (s : SoloMachine) (i : ℕ) (out : Option Lease) (o : Outcome) → (place_at s i).out ≡ out → IsLowSolo s → IsLowSolo (finished s i (place_at s i) out o)
 finished-low s i None o e h = h
-finished-low s i (Some l) o e h = let ended : Solo = finished_lease s i (place_at s i) l o in settled-low (first_empty ended.log) ended (lease-low s i l o e h)
+finished-low s i (Some l) o e h = let ended : SoloMachine = finished_lease s i (place_at s i) l o in settled-low (first_empty ended.log) ended (lease-low s i l o e h)
 
 -- an exchange
-of-line-low : (all : ℕ) (log : List Line) → ((line : Line) → Among line log → IsLow all (clause_of line)) → (c : Held) → IsOfLine log c → IsLow all c
+of-line-low : (all : ℕ) (log : List Line) → ((line : Line) → Among line log → IsLow all (clause_of line)) → (c : NumberedClause) → IsOfLine log c → IsLow all c
 of-line-low all log h c (line, m, i, l) = subst (λ (n : ℕ). (n - 2 ^ 32) / 64 < all * 1000) i (h line m)
 
-exchanged-low : (s : Solo) → IsLowSolo s → IsLowSolo (exchanged s)
+exchanged-low : (s : SoloMachine) → IsLowSolo s → IsLowSolo (exchanged s)
 exchanged-low s h =
     let all : ℕ = runs_of s.places in
-    let exports : List Held = exports_from s.volume s.log 0 s.places in
+    let exports : List NumberedClause = exports_from s.volume s.log 0 s.places in
     let low : All (IsLow all) (broadcast exports) = All-broadcast (IsLow all) exports (All-weaker (IsOfLine s.log) (IsLow all) (of-line-low all s.log h.lines) exports (all-exports s.volume s.log 0 s.places)) in
     subst (λ (n : ℕ). AreLow n (exchanged s).places s.log (s.broadcasts ++ broadcast exports ∷ [])) (sym (runs-marked s.volume (length s.log) 0 s.places)) (record {
       count = subst (λ (n : ℕ). n ≤ 64) (sym (marked-length s.volume (length s.log) 0 s.places)) h.count;
-      places_low = all-marked (λ (i : ℕ) (p : Place). IsPlaceLow all i p) (λ i m p k. record { home = k.home; out = k.out }) s.volume (length s.log) s.places h.places_low;
+      places_low = all-marked (λ (i : ℕ) (p : NodeSlot). IsPlaceLow all i p) (λ i m p k. record { home = k.home; out = k.out }) s.volume (length s.log) s.places h.places_low;
       lines = h.lines;
       told = All-append (All (IsLow all)) s.broadcasts (broadcast exports ∷ []) h.told (All-cons (All (IsLow all)) (broadcast exports) [] low (All-nil (All (IsLow all))));
     })
 
-pub step-low : (s : Solo) (o : Own) → IsLowSolo s → IsLowSolo (solo_step s o)
+pub step-low : (s : SoloMachine) (o : Own) → IsLowSolo s → IsLowSolo (solo_step s o)
 step-low s (Opened ask) h = h
 step-low s (Revised r) h = settled-low (first_empty s.log) (record s { revisions = s.revisions ++ r ∷ [] }) h
 step-low s Closed h = h
@@ -159,7 +159,7 @@ step-low s Exchanged h = exchanged-low s h
 pub unopened-low : IsLowSolo unopened
 unopened-low = record {
   count = omega arith;
-  places_low = λ i few. subst (λ (p : Place). IsPlaceLow 0 i p) (sym (get-vacant 64 i)) (record { home = record { serial = omega arith; since = omega arith; round = omega arith }; out = λ l e. absurd (cc) });
+  places_low = λ i few. subst (λ (p : NodeSlot). IsPlaceLow 0 i p) (sym (get-vacant 64 i)) (record { home = record { serial = omega arith; conflicts_since_restart = omega arith; restart_number = omega arith }; out = λ l e. absurd (cc) });
   lines = λ line m. absurd m;
   told = All-nil (All (IsLow 0));
 }
@@ -167,10 +167,10 @@ unopened-low = record {
 events-low : (past events : List Own) → IsLowSolo (solo past) → IsLowSolo (solo (past ++ events))
 events-low past [] h = subst (λ (es : List Own). IsLowSolo (solo es)) (sym (append-nil past)) h
 events-low past (o ∷ os) h =
-    let next : IsLowSolo (solo (past ++ o ∷ [])) = subst (λ (s : Solo). IsLowSolo s) (sym (fold_push solo_step unopened past o)) (step-low (solo past) o h) in
+    let next : IsLowSolo (solo (past ++ o ∷ [])) = subst (λ (s : SoloMachine). IsLowSolo s) (sym (fold_push solo_step unopened past o)) (step-low (solo past) o h) in
     subst (λ (es : List Own). IsLowSolo (solo es)) (append_assoc past (o ∷ []) os) (events-low (past ++ o ∷ []) os next)
 
-place-counts : (s : Solo) (i : ℕ) → i ≤ 63 → IsLowSolo s → PlaceCounts s i (place_at s i)
+place-counts : (s : SoloMachine) (i : ℕ) → i ≤ 63 → IsLowSolo s → PlaceCounts s i (place_at s i)
 place-counts s i few h = record { home = (h.places_low i few).home; ready = start-ready s i few h }
 
 pub replays-count : ReplaysCount

@@ -3,7 +3,7 @@ use Rattle.std.proofs.Common.{◌≡◌, ℕ, ◌+◌, ◌-◌, ◌<◌, ◌≤�
 use Rattle.std.specs.Prelude.{All, slice_get, slice_set}
 use Rattle.std.proofs.lemmas.List.{take-append-le}
 use Rattle.std.proofs.lemmas.Option.{slice_get_within}
-use Rattle.mal_base.specs.Held.{Held, Line}
+use Rattle.mal_base.specs.NumberedClause.{NumberedClause, Line}
 use Rattle.mal_base.specs.declared.answer.Answer.{Answer}
 use Rattle.mal_base.specs.declared.answer.Answer.TheVariants.{Satisfied, Refuted, Spent, OutOfStarts}
 use Rattle.mal_base.specs.declared.verdict.Verdict.{Verdict}
@@ -16,7 +16,7 @@ use Rattle.spec_search.specs.Slice.{slice}
 use Rattle.spec_proof.specs.Log.{IsLog}
 use Rattle.spec_proof.proofs.Among.{Among}
 use Rattle.spec_job.specs.Journal.{JournalEntry, Run, replay, loads_in}
-use Rattle.spec_job.specs.Solo.{Lease, Place, vacant, Solo, place_at, clauses_in, answered, spend, starve, conclude, first_empty, settled_by}
+use Rattle.spec_job.specs.SoloMachine.{Lease, NodeSlot, vacant, SoloMachine, place_at, clauses_in, answered, spend, starve, conclude, first_empty, settled_by}
 use Rattle.spec_job.specs.Models.{clauses_of, variables_of}
 use Rattle.spec_job.specs.Runnable.{MayCome}
 use Rattle.spec_job.proofs.LoadedLemmas.{last_assumed, HasLoaded, clauses_in-push}
@@ -52,13 +52,13 @@ pub record IsRunning (revisions : List Posted) (log : List Line) (i : ℕ) (entr
   pub calm : node.verdict ≡ None
 
 -- a place of a job: the log knows its node, and the node of its start
-pub record IsTracked (revisions : List Posted) (log : List Line) (i : ℕ) (p : Place) : Type 0 where
+pub record IsTracked (revisions : List Posted) (log : List Line) (i : ℕ) (p : NodeSlot) : Type 0 where
   pub logged : IsLogged log i (replay i p.entries).node
   pub running : (l : Lease) → p.out ≡ Some l → IsRunning revisions log i p.entries l
 
 -- a machine whose log is derived from the revisions up to the current one and of their variables, and whose broadcasts have
 -- clauses of its lines
-pub record IsDeriving (revisions : List Posted) (answers : List Answer) (places : List Place) (log : List Line) (broadcasts : List (List Held)) : Type 0 where
+pub record IsDeriving (revisions : List Posted) (answers : List Answer) (places : List NodeSlot) (log : List Line) (broadcasts : List (List NumberedClause)) : Type 0 where
   pub derived : IsLog (clauses_of (take (length answers + 1) revisions)) log
   pub closed : IsClosed log
   pub tracked : (i : ℕ) → i ≤ 63 → IsTracked revisions log i (get_or places i vacant)
@@ -66,15 +66,15 @@ pub record IsDeriving (revisions : List Posted) (answers : List Answer) (places 
   pub within : AreWithin (variables_of (take (length answers + 1) revisions)) log
   pub said : All (IsSaid log) broadcasts
 
-abbrev pub IsDerivingSolo : Solo → Type 0
+abbrev pub IsDerivingSolo : SoloMachine → Type 0
 IsDerivingSolo s = IsDeriving s.revisions s.answers s.places s.log s.broadcasts
 
 -- the nodes that have loaded the current revision have no verdict
-abbrev pub AreCalm : ℕ → List Place → Type 0
+abbrev pub AreCalm : ℕ → List NodeSlot → Type 0
 AreCalm current places = (i : ℕ) → i ≤ 63 → loads_in (get_or places i vacant).entries ≡ current + 1 → (replay i (get_or places i vacant).entries).node.verdict ≡ None
 
 -- the nodes have loaded no more than the current revision
-abbrev pub AreEarly : ℕ → List Place → Type 0
+abbrev pub AreEarly : ℕ → List NodeSlot → Type 0
 AreEarly current places = (i : ℕ) → i ≤ 63 → loads_in (get_or places i vacant).entries ≤ current + 1
 
 pub refuted-later : (revisions : List Posted) (log more : List Line) (goal : ℕ) → IsRefuted revisions log goal → IsRefuted revisions (log ++ more) goal
@@ -91,12 +91,12 @@ refuted-later revisions log more goal h = record {
 }
 
 -- further answers, where those that refute have lines
-answers-deriving : (revisions : List Posted) (answers more : List Answer) (places : List Place) (log : List Line) (told : List (List Held)) → clauses_in revisions < 2 ^ 32 → ((r goal : ℕ) → slice_get (answers ++ more) r ≡ Some (Refuted goal) → IsRefuted (take (r + 1) revisions) log goal) → IsDeriving revisions answers places log told → IsDeriving revisions (answers ++ more) places log told
+answers-deriving : (revisions : List Posted) (answers more : List Answer) (places : List NodeSlot) (log : List Line) (told : List (List NumberedClause)) → clauses_in revisions < 2 ^ 32 → ((r goal : ℕ) → slice_get (answers ++ more) r ≡ Some (Refuted goal) → IsRefuted (take (r + 1) revisions) log goal) → IsDeriving revisions answers places log told → IsDeriving revisions (answers ++ more) places log told
 answers-deriving revisions answers more places log told room good h =
     let long : length (answers ++ more) ≡ length answers + length more = length-append answers more in
     record { derived = log-later revisions (length answers + 1) (length (answers ++ more) + 1) log (omega arith) room h.derived; closed = h.closed; tracked = h.tracked; refuted = good; within = within-later (length answers + 1) (length (answers ++ more) + 1) revisions log (omega arith) h.within; said = h.said }
 
-answered-deriving : (revisions : List Posted) (answers : List Answer) (places : List Place) (log : List Line) (told : List (List Held)) (a : Answer) → clauses_in revisions < 2 ^ 32 → ((goal : ℕ) → a ≡ Refuted goal → IsRefuted (take (length answers + 1) revisions) log goal) → IsDeriving revisions answers places log told → IsDeriving revisions (answers ++ a ∷ []) places log told
+answered-deriving : (revisions : List Posted) (answers : List Answer) (places : List NodeSlot) (log : List Line) (told : List (List NumberedClause)) (a : Answer) → clauses_in revisions < 2 ^ 32 → ((goal : ℕ) → a ≡ Refuted goal → IsRefuted (take (length answers + 1) revisions) log goal) → IsDeriving revisions answers places log told → IsDeriving revisions (answers ++ a ∷ []) places log told
 answered-deriving revisions answers places log told a room good h = answers-deriving revisions answers (a ∷ []) places log told room (λ r goal e. by_place r goal (get-push answers a (Refuted goal) r e)) h
   where
     by_place : (r goal : ℕ) → ((r ≡ length answers) × (a ≡ Refuted goal)) ⊎ (slice_get answers r ≡ Some (Refuted goal)) → IsRefuted (take (r + 1) revisions) log goal
@@ -117,7 +117,7 @@ empty-refutes revisions c r goal log line low room is closed k = record {
   contradicted = ap (λ (lits : List ℕ). contradicts (last_assumed (take (r + 1) revisions)) (Some lits)) k.2;
 }
 
-pub settled-deriving : (o : Option ℕ) (s : Solo) → first_empty s.log ≡ o → clauses_in s.revisions < 2 ^ 32 → IsDerivingSolo s → IsDerivingSolo (settled_by o s)
+pub settled-deriving : (o : Option ℕ) (s : SoloMachine) → first_empty s.log ≡ o → clauses_in s.revisions < 2 ^ 32 → IsDerivingSolo s → IsDerivingSolo (settled_by o s)
 settled-deriving None s e room h = h
 settled-deriving (Some goal) s e room h = answers-deriving s.revisions s.answers (replicate (length s.revisions - length s.answers) (Refuted goal)) s.places s.log s.broadcasts room (λ r other q. by_place r other (get-repeated s.answers (length s.revisions - length s.answers) (Refuted goal) (Refuted other) r q)) h
   where
@@ -128,35 +128,35 @@ settled-deriving (Some goal) s e room h = answers-deriving s.revisions s.answers
         subst (λ (g : ℕ). IsRefuted (take (r + 1) s.revisions) s.log g) same (empty-refutes s.revisions (length s.answers) r goal s.log found.0 low room h.derived h.closed found.1)
     by_place r other (inr k) = h.refuted r other k
 
-spend-deriving : (s : Solo) → clauses_in s.revisions < 2 ^ 32 → IsDerivingSolo s → IsDerivingSolo (spend s)
+spend-deriving : (s : SoloMachine) → clauses_in s.revisions < 2 ^ 32 → IsDerivingSolo s → IsDerivingSolo (spend s)
 spend-deriving s room h = by_test (s.spent + 1 == s.ask.slices)
   where
     by_test : (b : Bool) → IsDerivingSolo (cond b (answered s (Spent s.ask.slices)) (record s { spent = s.spent + 1 }))
     by_test true = answered-deriving s.revisions s.answers s.places s.log s.broadcasts (Spent s.ask.slices) room (λ goal e. absurd (cc)) h
     by_test false = h
 
-pub starve-deriving : (s : Solo) → clauses_in s.revisions < 2 ^ 32 → IsDerivingSolo s → IsDerivingSolo (starve s)
+pub starve-deriving : (s : SoloMachine) → clauses_in s.revisions < 2 ^ 32 → IsDerivingSolo s → IsDerivingSolo (starve s)
 starve-deriving s room h = by_test (s.starved + 1 == 3)
   where
     by_test : (b : Bool) → IsDerivingSolo (cond b (answered s OutOfStarts) (record s { starved = s.starved + 1 }))
     by_test true = answered-deriving s.revisions s.answers s.places s.log s.broadcasts OutOfStarts room (λ goal e. absurd (cc)) h
     by_test false = h
 
-pub conclude-deriving : (v : Option Verdict) (n : Node) (s : Solo) → clauses_in s.revisions < 2 ^ 32 → ((goal : ℕ) → v ≡ Some (Unsatisfiable goal) → IsRefuted (take (length s.answers + 1) s.revisions) s.log goal) → IsDerivingSolo s → IsDerivingSolo (conclude v n s)
+pub conclude-deriving : (v : Option Verdict) (n : Node) (s : SoloMachine) → clauses_in s.revisions < 2 ^ 32 → ((goal : ℕ) → v ≡ Some (Unsatisfiable goal) → IsRefuted (take (length s.answers + 1) s.revisions) s.log goal) → IsDerivingSolo s → IsDerivingSolo (conclude v n s)
 conclude-deriving None n s room good h = spend-deriving s room h
 conclude-deriving (Some Satisfiable) n s room good h = answered-deriving s.revisions s.answers s.places s.log s.broadcasts (Satisfied (model_of n)) room (λ goal e. absurd (cc)) h
 conclude-deriving (Some (Unsatisfiable goal)) n s room good h = answered-deriving s.revisions s.answers s.places s.log s.broadcasts (Refuted goal) room (λ other e. let same : goal ≡ other = cc in good other (ap (λ (g : ℕ). Some (Unsatisfiable g)) same)) h
 
 -- a place that is tracked is put at its index
-pub placed-deriving : (revisions : List Posted) (answers : List Answer) (places : List Place) (log : List Line) (told : List (List Held)) (i : ℕ) (p : Place) → (i ≤ 63 → IsTracked revisions log i p) → IsDeriving revisions answers places log told → IsDeriving revisions answers (slice_set places i p) log told
+pub placed-deriving : (revisions : List Posted) (answers : List Answer) (places : List NodeSlot) (log : List Line) (told : List (List NumberedClause)) (i : ℕ) (p : NodeSlot) → (i ≤ 63 → IsTracked revisions log i p) → IsDeriving revisions answers places log told → IsDeriving revisions answers (slice_set places i p) log told
 placed-deriving revisions answers places log told i p k h = record { derived = h.derived; closed = h.closed; tracked = λ j low. by_place j low (set-place places i j p); refuted = h.refuted; within = h.within; said = h.said }
   where
     by_place : (j : ℕ) → j ≤ 63 → ((j ≡ i) × (get_or (slice_set places i p) j vacant ≡ p)) ⊎ (get_or (slice_set places i p) j vacant ≡ get_or places j vacant) → IsTracked revisions log j (get_or (slice_set places i p) j vacant)
-    by_place j low (inl e) = subst (λ (q : Place). IsTracked revisions log j q) (sym e.1) (subst (λ (x : ℕ). IsTracked revisions log x p) (sym e.0) (k (subst (λ (x : ℕ). x ≤ 63) e.0 low)))
-    by_place j low (inr e) = subst (λ (q : Place). IsTracked revisions log j q) (sym e) (h.tracked j low)
+    by_place j low (inl e) = subst (λ (q : NodeSlot). IsTracked revisions log j q) (sym e.1) (subst (λ (x : ℕ). IsTracked revisions log x p) (sym e.0) (k (subst (λ (x : ℕ). x ≤ 63) e.0 low)))
+    by_place j low (inr e) = subst (λ (q : NodeSlot). IsTracked revisions log j q) (sym e) (h.tracked j low)
 
 -- a further revision that may come
-pub posted-deriving : (s : Solo) (r : Posted) → MayCome s r → IsSolvingSolo s → IsDerivingSolo s → IsDerivingSolo (record s { revisions = s.revisions ++ r ∷ [] })
+pub posted-deriving : (s : SoloMachine) (r : Posted) → MayCome s r → IsSolvingSolo s → IsDerivingSolo s → IsDerivingSolo (record s { revisions = s.revisions ++ r ∷ [] })
 posted-deriving s r may k h =
     let push : clauses_in (s.revisions ++ r ∷ []) ≡ clauses_in s.revisions + length r.clauses = clauses_in-push s.revisions r in
     let room : clauses_in s.revisions + length r.clauses < 2 ^ 32 = may.room in

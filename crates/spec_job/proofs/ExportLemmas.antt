@@ -4,7 +4,7 @@ use Rattle.std.specs.Prelude.{All, filter}
 use Rattle.std.specs.declared.cmp.Ordering.{Ordering}
 use Rattle.std.specs.declared.cmp.Ordering.TheVariants.{Less, Equal, Greater}
 use Rattle.std.proofs.lemmas.List.Elements.{All-nil, All-cons, All-head, All-tail, All-append}
-use Rattle.mal_base.specs.Held.{Held, Line}
+use Rattle.mal_base.specs.NumberedClause.{NumberedClause, Line}
 use Rattle.spec_node.specs.Laws.{HaveOwnNumbers}
 use Rattle.spec_exchange.specs.Exchange.{lits_cmp, lesser, put_by, put, union, front, most_literals, broadcast}
 use Rattle.spec_exchange.specs.Order.{IsBefore, IsSorted}
@@ -12,12 +12,12 @@ use Rattle.spec_exchange.proofs.OrderLemmas.{cmp_itself, before-trans}
 use Rattle.spec_exchange.proofs.UnionLemmas.{union-sorted}
 use Rattle.spec_proof.specs.Log.{AreApart}
 use Rattle.spec_proof.proofs.Among.{Among}
-use Rattle.spec_job.specs.Solo.{Place, is_exported, exports_of, takes_part, exports_from}
+use Rattle.spec_job.specs.SoloMachine.{NodeSlot, is_exported, exports_of, takes_part, exports_from}
 use Rattle.spec_job.proofs.LinesLemmas.{IsOfLine}
 use Rattle.spec_job.proofs.ImportingLemmas.{IsSaid, told-same, clause_of}
 
 -- what holds of one entry and of others holds of their union
-All-put : (P : Held → Type 0) (e : Held) (xs : List Held) → P e → All P xs → All P (put e xs)
+All-put : (P : NumberedClause → Type 0) (e : NumberedClause) (xs : List NumberedClause) → P e → All P xs → All P (put e xs)
 All-put P e [] h k = All-cons P e [] h k
 All-put P e (x ∷ xs) h k = by_order (lits_cmp e.lits x.lits) (All-put P e xs h (All-tail P x xs k))
   where
@@ -30,12 +30,12 @@ All-put P e (x ∷ xs) h k = by_order (lits_cmp e.lits x.lits) (All-put P e xs h
     by_order Equal rest = All-cons P (lesser e x) xs (by_least (nat_le e.id x.id)) (All-tail P x xs k)
     by_order Greater rest = All-cons P x (put e xs) (All-head P x xs k) rest
 
-All-union : (P : Held → Type 0) (es : List Held) → All P es → All P (union es)
+All-union : (P : NumberedClause → Type 0) (es : List NumberedClause) → All P es → All P (union es)
 All-union P [] h = h
 All-union P (e ∷ es) h = All-put P e (union es) (All-head P e es h) (All-union P es (All-tail P e es h))
 
 -- what holds of all entries holds of those of a front
-All-front : (P : Held → Type 0) (room : ℕ) (es : List Held) → All P es → All P (front room es)
+All-front : (P : NumberedClause → Type 0) (room : ℕ) (es : List NumberedClause) → All P es → All P (front room es)
 All-front P room [] h = h
 All-front P room (e ∷ es) h = by_fit (nat_le (length e.lits) room) (All-front P (room - length e.lits) es (All-tail P e es h))
   where
@@ -44,10 +44,10 @@ All-front P room (e ∷ es) h = by_fit (nat_le (length e.lits) room) (All-front 
     by_fit false rest = All-nil P
 
 -- what holds of all exports holds of what is told to all
-pub All-broadcast : (P : Held → Type 0) (exports : List Held) → All P exports → All P (broadcast exports)
+pub All-broadcast : (P : NumberedClause → Type 0) (exports : List NumberedClause) → All P exports → All P (broadcast exports)
 All-broadcast P exports h = All-front P most_literals (union exports) (All-union P exports h)
 
-own-front : (room : ℕ) (es : List Held) → HaveOwnNumbers es → HaveOwnNumbers (front room es)
+own-front : (room : ℕ) (es : List NumberedClause) → HaveOwnNumbers es → HaveOwnNumbers (front room es)
 own-front room [] h = h
 own-front room (e ∷ es) h = by_fit (nat_le (length e.lits) room) (own-front (room - length e.lits) es h.1)
   where
@@ -56,28 +56,28 @@ own-front room (e ∷ es) h = by_fit (nat_le (length e.lits) room) (own-front (r
     by_fit false rest = tt
 
 -- the first of sorted entries comes before each other
-before-all : (a : List ℕ) (xs : List Held) → IsSorted xs → IsBefore a xs → All (λ d. lits_cmp a d.lits ≡ Less) xs
+before-all : (a : List ℕ) (xs : List NumberedClause) → IsSorted xs → IsBefore a xs → All (λ d. lits_cmp a d.lits ≡ Less) xs
 before-all a [] s b = All-nil (λ d. lits_cmp a d.lits ≡ Less)
 before-all a (x ∷ xs) (c, s) b = All-cons (λ d. lits_cmp a d.lits ≡ Less) x xs b (before-all a xs s (before-trans a x xs b c))
 
 -- sorted clauses of lines have numbers of their own
-own-sorted : (log : List Line) (xs : List Held) → AreApart log → All (IsOfLine log) xs → IsSorted xs → HaveOwnNumbers xs
+own-sorted : (log : List Line) (xs : List NumberedClause) → AreApart log → All (IsOfLine log) xs → IsSorted xs → HaveOwnNumbers xs
 own-sorted log [] apart h s = tt
 own-sorted log (x ∷ xs) apart h (b, s) = (others xs (All-tail (IsOfLine log) x xs h) (before-all x.lits xs s b), own-sorted log xs apart (All-tail (IsOfLine log) x xs h) s)
   where
-    differ : (d : Held) → IsOfLine log d → lits_cmp x.lits d.lits ≡ Less → x.id ≢ d.id
+    differ : (d : NumberedClause) → IsOfLine log d → lits_cmp x.lits d.lits ≡ Less → x.id ≢ d.id
     differ d k less e =
         let same : x.lits ≡ d.lits = told-same log apart x d (All-head (IsOfLine log) x xs h) k e in
         let equal : lits_cmp x.lits d.lits ≡ Equal = subst (λ (l : List ℕ). lits_cmp x.lits l ≡ Equal) same (cmp_itself x.lits) in
         let bad : Less ≡ Equal = sym less ∙ equal in
         absurd (cc)
 
-    others : (ds : List Held) → All (IsOfLine log) ds → All (λ d. lits_cmp x.lits d.lits ≡ Less) ds → All (λ d. x.id ≢ d.id) ds
+    others : (ds : List NumberedClause) → All (IsOfLine log) ds → All (λ d. lits_cmp x.lits d.lits ≡ Less) ds → All (λ d. x.id ≢ d.id) ds
     others [] k l = All-nil (λ d. x.id ≢ d.id)
     others (d ∷ ds) k l = All-cons (λ y. x.id ≢ y.id) d ds (differ d (All-head (IsOfLine log) d ds k) (All-head (λ y. lits_cmp x.lits y.lits ≡ Less) d ds l)) (others ds (All-tail (IsOfLine log) d ds k) (All-tail (λ y. lits_cmp x.lits y.lits ≡ Less) d ds l))
 
 -- a broadcast of clauses of lines may be told
-pub broadcast-said : (log : List Line) (exports : List Held) → AreApart log → All (IsOfLine log) exports → IsSaid log (broadcast exports)
+pub broadcast-said : (log : List Line) (exports : List NumberedClause) → AreApart log → All (IsOfLine log) exports → IsSaid log (broadcast exports)
 broadcast-said log exports apart h =
     let all : All (IsOfLine log) (union exports) = All-union (IsOfLine log) exports h in
     record { lines = All-front (IsOfLine log) most_literals (union exports) all; apart = own-front most_literals (union exports) (own-sorted log (union exports) apart all (union-sorted exports)) }
@@ -96,11 +96,11 @@ exported-lines log test (l ∷ ls) h = by_test (test l) (exported-lines log test
     by_test false rest = rest
 
 -- the exports of a place
-pub exports-lines : (log : List Line) (i : ℕ) (p : Place) → All (IsOfLine log) (exports_of log i p)
+pub exports-lines : (log : List Line) (i : ℕ) (p : NodeSlot) → All (IsOfLine log) (exports_of log i p)
 exports-lines log i p = exported-lines log (is_exported i) (drop p.mark log) (λ line m. among-dropped p.mark log line m)
 
 -- the exports of all that take part
-pub all-exports : (volume : ℕ) (log : List Line) (i : ℕ) (ps : List Place) → All (IsOfLine log) (exports_from volume log i ps)
+pub all-exports : (volume : ℕ) (log : List Line) (i : ℕ) (ps : List NodeSlot) → All (IsOfLine log) (exports_from volume log i ps)
 all-exports volume log i [] = All-nil (IsOfLine log)
 all-exports volume log i (p ∷ ps) = All-append (IsOfLine log) (cond (takes_part volume i p) (exports_of log i p) []) (exports_from volume log (i + 1) ps) (by_part (takes_part volume i p)) (all-exports volume log (i + 1) ps)
   where

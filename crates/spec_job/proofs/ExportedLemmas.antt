@@ -8,7 +8,7 @@ use Rattle.std.proofs.lemmas.List.Concat.{flat_map-cons}
 use Rattle.std.proofs.lemmas.List.Elements.{filter-append}
 use Rattle.std.proofs.lemmas.List.Sums.{fold_push, fold-append}
 use Rattle.std.proofs.lemmas.Nat.{mod-mul-add}
-use Rattle.mal_base.specs.Held.{Held, Line}
+use Rattle.mal_base.specs.NumberedClause.{NumberedClause, Line}
 use Rattle.mal_base.specs.declared.answer.Answer.TheVariants.{Spent, OutOfStarts}
 use Rattle.mal_base.specs.declared.verdict.Verdict.{Verdict}
 use Rattle.mal_base.specs.declared.verdict.Verdict.TheVariants.{Satisfiable, Unsatisfiable}
@@ -23,7 +23,7 @@ use Rattle.spec_search.proofs.LineLemmas.{lines-counted}
 use Rattle.spec_job.specs.Counts.{runs_in, runs_of}
 use Rattle.spec_job.specs.Exported.{derived_from, told_step, told_from, journal_told, is_short, exported_by, ExportsAreDerived, ExchangesTellDerived}
 use Rattle.spec_job.specs.Journal.{JournalEntry, Load, Import, Run, after_entry, replay}
-use Rattle.spec_job.specs.Solo.{Own, Opened, Revised, Closed, Volume, Started, Finished, Exchanged, Lease, Place, vacant, Solo, unopened, solo, solo_step, place_at, with_place, answered, spend, starve, conclude, first_empty, settled_by, is_late, finished_home, finished_lease, finished, exports_of, takes_part, exports_from, marked_from, exchanged}
+use Rattle.spec_job.specs.SoloMachine.{Own, Opened, Revised, Closed, Volume, Started, Finished, Exchanged, Lease, NodeSlot, vacant, SoloMachine, unopened, solo, solo_step, place_at, with_place, answered, spend, starve, conclude, first_empty, settled_by, is_late, finished_home, finished_lease, finished, exports_of, takes_part, exports_from, marked_from, exchanged}
 use Rattle.spec_job.proofs.CountLemmas.{runs_in-cons, replay-index, replay-runs}
 use Rattle.spec_job.proofs.CountingLemmas.{step-low, unopened-low}
 use Rattle.spec_job.proofs.LeftLemmas.{IsTidy, step-tidy, solo-tidy}
@@ -100,42 +100,42 @@ module _ (all i : ℕ) (entries : List JournalEntry) (l : Lease) (is : IsOutLow 
 
 -- a node's journal has grown from the one with which it last took part in an exchange, and what it derived since then stands in the
 -- log behind its mark
-record IsKnown (i : ℕ) (last : List JournalEntry) (log : List Line) (p : Place) : Type 0 where
+record IsKnown (i : ℕ) (last : List JournalEntry) (log : List Line) (p : NodeSlot) : Type 0 where
   pub more : List JournalEntry
   pub grown : p.entries ≡ last ++ more
   pub mark : p.mark ≤ length log
   pub own : filter (is_of i) (drop p.mark log) ≡ derived_from (replay i last) more
 
 -- the place of a machine
-abbrev IsKnownIn : ℕ → List JournalEntry → Solo → Type 0
+abbrev IsKnownIn : ℕ → List JournalEntry → SoloMachine → Type 0
 IsKnownIn i last s = IsKnown i last s.log (place_at s i)
 
 -- answers change none of it
-settled-known : (i : ℕ) (last : List JournalEntry) (o : Option ℕ) (s : Solo) → IsKnownIn i last s → IsKnownIn i last (settled_by o s)
+settled-known : (i : ℕ) (last : List JournalEntry) (o : Option ℕ) (s : SoloMachine) → IsKnownIn i last s → IsKnownIn i last (settled_by o s)
 settled-known i last None s h = h
 settled-known i last (Some goal) s h = h
 
-spend-known : (i : ℕ) (last : List JournalEntry) (s : Solo) → IsKnownIn i last s → IsKnownIn i last (spend s)
+spend-known : (i : ℕ) (last : List JournalEntry) (s : SoloMachine) → IsKnownIn i last s → IsKnownIn i last (spend s)
 spend-known i last s h = by_test (s.spent + 1 == s.ask.slices)
   where
     by_test : (b : Bool) → IsKnownIn i last (cond b (answered s (Spent s.ask.slices)) (record s { spent = s.spent + 1 }))
     by_test true = h
     by_test false = h
 
-starve-known : (i : ℕ) (last : List JournalEntry) (s : Solo) → IsKnownIn i last s → IsKnownIn i last (starve s)
+starve-known : (i : ℕ) (last : List JournalEntry) (s : SoloMachine) → IsKnownIn i last s → IsKnownIn i last (starve s)
 starve-known i last s h = by_test (s.starved + 1 == 3)
   where
     by_test : (b : Bool) → IsKnownIn i last (cond b (answered s OutOfStarts) (record s { starved = s.starved + 1 }))
     by_test true = h
     by_test false = h
 
-conclude-known : (i : ℕ) (last : List JournalEntry) (v : Option Verdict) (n : Node) (s : Solo) → IsKnownIn i last s → IsKnownIn i last (conclude v n s)
+conclude-known : (i : ℕ) (last : List JournalEntry) (v : Option Verdict) (n : Node) (s : SoloMachine) → IsKnownIn i last s → IsKnownIn i last (conclude v n s)
 conclude-known i last None n s h = spend-known i last s h
 conclude-known i last (Some Satisfiable) n s h = h
 conclude-known i last (Some (Unsatisfiable goal)) n s h = h
 
 -- a place that is set with the journal and the mark as they were
-same-known : (i j : ℕ) (last : List JournalEntry) (s : Solo) (q : Place) → q.entries ≡ (place_at s j).entries → q.mark ≡ (place_at s j).mark → IsKnownIn i last s → IsKnown i last s.log (get_or (slice_set s.places j q) i vacant)
+same-known : (i j : ℕ) (last : List JournalEntry) (s : SoloMachine) (q : NodeSlot) → q.entries ≡ (place_at s j).entries → q.mark ≡ (place_at s j).mark → IsKnownIn i last s → IsKnown i last s.log (get_or (slice_set s.places j q) i vacant)
 same-known i j last s q entries mark h = by_place (set-place s.places j i q)
   where
     here : i ≡ j → IsKnown i last s.log q
@@ -155,13 +155,13 @@ behind : (i mark : ℕ) (log lines : List Line) → mark ≤ length log → filt
 behind i mark log lines low = ap (filter (is_of i)) (drop-append-le mark log lines low) ∙ filter-append (is_of i) (drop mark log) lines
 
 -- a slice that was run
-ran-known : (i j : ℕ) (last : List JournalEntry) (s : Solo) (l : Lease) → i ≤ 63 → (place_at s j).out ≡ Some l → IsLowSolo s → IsKnownIn i last s → IsKnown i last (s.log ++ (replay j ((place_at s j).entries ++ l.adds)).lines) (get_or (slice_set s.places j (record (place_at s j) { entries = (place_at s j).entries ++ l.adds; out = None })) i vacant)
+ran-known : (i j : ℕ) (last : List JournalEntry) (s : SoloMachine) (l : Lease) → i ≤ 63 → (place_at s j).out ≡ Some l → IsLowSolo s → IsKnownIn i last s → IsKnown i last (s.log ++ (replay j ((place_at s j).entries ++ l.adds)).lines) (get_or (slice_set s.places j (record (place_at s j) { entries = (place_at s j).entries ++ l.adds; out = None })) i vacant)
 ran-known i j last s l few out low h = by_place (set-place s.places j i q) (cases_Bool (eqb i j))
   where
-    p : Place
+    p : NodeSlot
     p = place_at s j
 
-    q : Place
+    q : NodeSlot
     q = record p { entries = p.entries ++ l.adds; out = None }
 
     lines : List Line
@@ -213,13 +213,13 @@ ran-known i j last s l few out low h = by_place (set-place s.places j i q) (case
     by_place (inr k) (inl e) = subst (λ (n : ℕ). IsKnown n last (s.log ++ lines) (get_or (slice_set s.places j q) n vacant)) (sym (eqb-true i j e)) (subst (IsKnown j last (s.log ++ lines)) (sym (set-here s.places j q within)) (grown-own (subst (λ (n : ℕ). IsKnownIn n last s) (eqb-true i j e) h)))
     by_place (inr k) (inr e) = other (eqb-false i j e) k
 
-lease-known : (i j : ℕ) (last : List JournalEntry) (s : Solo) (l : Lease) (o : Outcome) → i ≤ 63 → (place_at s j).out ≡ Some l → IsLowSolo s → IsKnownIn i last s → IsKnownIn i last (finished_lease s j (place_at s j) l o)
+lease-known : (i j : ℕ) (last : List JournalEntry) (s : SoloMachine) (l : Lease) (o : Outcome) → i ≤ 63 → (place_at s j).out ≡ Some l → IsLowSolo s → IsKnownIn i last s → IsKnownIn i last (finished_lease s j (place_at s j) l o)
 lease-known i j last s l Ran few out low h = by_late (is_late s l)
   where
     ran : Sliced
     ran = replay j ((place_at s j).entries ++ l.adds)
 
-    home : Solo
+    home : SoloMachine
     home = record (with_place s j (record (place_at s j) { entries = (place_at s j).entries ++ l.adds; out = None })) { log = s.log ++ ran.lines; ran = s.ran + 1 }
 
     by_late : (b : Bool) → IsKnownIn i last (cond b home (conclude ran.node.verdict ran.node home))
@@ -235,27 +235,27 @@ lease-known i j last s l Starved few out low h = by_late (is_late s l)
     by_late false = starve-known i last (finished_home s j (place_at s j)) home
 lease-known i j last s l Lost few out low h = same-known i j last s (record (place_at s j) { out = None }) refl refl h
 
-finished-known : (i j : ℕ) (last : List JournalEntry) (s : Solo) (out : Option Lease) (o : Outcome) → i ≤ 63 → (place_at s j).out ≡ out → IsLowSolo s → IsKnownIn i last s → IsKnownIn i last (finished s j (place_at s j) out o)
+finished-known : (i j : ℕ) (last : List JournalEntry) (s : SoloMachine) (out : Option Lease) (o : Outcome) → i ≤ 63 → (place_at s j).out ≡ out → IsLowSolo s → IsKnownIn i last s → IsKnownIn i last (finished s j (place_at s j) out o)
 finished-known i j last s None o few e low h = h
-finished-known i j last s (Some l) o few e low h = let ended : Solo = finished_lease s j (place_at s j) l o in settled-known i last (first_empty ended.log) ended (lease-known i j last s l o few e low h)
+finished-known i j last s (Some l) o few e low h = let ended : SoloMachine = finished_lease s j (place_at s j) l o in settled-known i last (first_empty ended.log) ended (lease-known i j last s l o few e low h)
 
 -- an exchange
-pub marked-at : (volume mark k : ℕ) (ps : List Place) (i : ℕ) → i < length ps → get_or (marked_from volume mark k ps) i vacant ≡ cond (takes_part volume (k + i) (get_or ps i vacant)) (record (get_or ps i vacant) { mark = mark }) (get_or ps i vacant)
+pub marked-at : (volume mark k : ℕ) (ps : List NodeSlot) (i : ℕ) → i < length ps → get_or (marked_from volume mark k ps) i vacant ≡ cond (takes_part volume (k + i) (get_or ps i vacant)) (record (get_or ps i vacant) { mark = mark }) (get_or ps i vacant)
 marked-at volume mark k [] i low = absurd (omega arith)
 marked-at volume mark k (p ∷ ps) zero low = let same : k ≡ k + 0 = omega arith in ap (λ (n : ℕ). cond (takes_part volume n p) (record p { mark = mark }) p) same
 marked-at volume mark k (p ∷ ps) (suc i) low =
     let same : (k + 1) + i ≡ k + suc i = omega arith in
-    let p-at : Place = get_or ps i vacant in
+    let p-at : NodeSlot = get_or ps i vacant in
     marked-at volume mark (k + 1) ps i (omega (arith, low)) ∙ ap (λ (n : ℕ). cond (takes_part volume n p-at) (record p-at { mark = mark }) p-at) same
 
 drop-all : (ls : List Line) → drop (length ls) ls ≡ []
 drop-all [] = refl
 drop-all (l ∷ ls) = drop-all ls
 
-exchanged-known : (i : ℕ) (last : List JournalEntry) (s : Solo) → i < length s.places → IsKnownIn i last s → IsKnownIn i (told_step i s last Exchanged) (exchanged s)
+exchanged-known : (i : ℕ) (last : List JournalEntry) (s : SoloMachine) → i < length s.places → IsKnownIn i last s → IsKnownIn i (told_step i s last Exchanged) (exchanged s)
 exchanged-known i last s within h = subst (IsKnown i (told_step i s last Exchanged) s.log) (sym (marked-at s.volume (length s.log) 0 s.places i within ∙ ap (λ (n : ℕ). cond (takes_part s.volume n p) (record p { mark = length s.log }) p) zero_is)) (by_part (takes_part s.volume i p))
   where
-    p : Place
+    p : NodeSlot
     p = place_at s i
 
     zero_is : 0 + i ≡ i
@@ -265,7 +265,7 @@ exchanged-known i last s within h = subst (IsKnown i (told_step i s last Exchang
     by_part true = record { more = []; grown = sym (append-nil p.entries); mark = omega arith; own = ap (filter (is_of i)) (drop-all s.log) }
     by_part false = h
 
-step-known : (i : ℕ) (last : List JournalEntry) (s : Solo) (o : Own) → i ≤ 63 → IsTidy s → IsLowSolo s → IsKnownIn i last s → IsKnownIn i (told_step i s last o) (solo_step s o)
+step-known : (i : ℕ) (last : List JournalEntry) (s : SoloMachine) (o : Own) → i ≤ 63 → IsTidy s → IsLowSolo s → IsKnownIn i last s → IsKnownIn i (told_step i s last o) (solo_step s o)
 step-known i last s (Opened ask) few tidy low h = h
 step-known i last s (Revised r) few tidy low h = settled-known i last (first_empty s.log) (record s { revisions = s.revisions ++ r ∷ [] }) h
 step-known i last s Closed few tidy low h = h
@@ -274,7 +274,7 @@ step-known i last s (Started j) few tidy low h = same-known i j last s (record (
 step-known i last s (Finished j o) few tidy low h = finished-known i j last s (place_at s j).out o few refl low h
 step-known i last s Exchanged few tidy low h = exchanged-known i last s (omega (arith, few, tidy.places.count)) h
 
-events-known : (i : ℕ) (last : List JournalEntry) (s : Solo) (os : List Own) → i ≤ 63 → IsTidy s → IsLowSolo s → IsKnownIn i last s → IsKnownIn i (told_from i s last os) (fold solo_step s os)
+events-known : (i : ℕ) (last : List JournalEntry) (s : SoloMachine) (os : List Own) → i ≤ 63 → IsTidy s → IsLowSolo s → IsKnownIn i last s → IsKnownIn i (told_from i s last os) (fold solo_step s os)
 events-known i last s [] few tidy low h = h
 events-known i last s (o ∷ os) few tidy low h = events-known i (told_step i s last o) (solo_step s o) os few (step-tidy s o tidy) (step-low s o low) (step-known i last s o few tidy low h)
 
@@ -284,26 +284,26 @@ unopened-known i = subst (IsKnown i [] []) (sym (get-vacant 64 i)) (record { mor
 pub exports-are_derived : ExportsAreDerived
 exports-are_derived events i few =
     let k : IsKnownIn i (journal_told i events) (solo events) = events-known i [] unopened events few (solo-tidy []) unopened-low (unopened-known i) in
-    let p : Place = place_at (solo events) i in
+    let p : NodeSlot = place_at (solo events) i in
     let last : List JournalEntry = journal_told i events in
     let later : k.more ≡ drop (length last) p.entries = sym (ap (drop (length last)) k.grown ∙ drop-append_seam last k.more) in
     ap (map (λ (l : Line). held l)) (filter-both (is_of i) is_short (drop p.mark (solo events).log) ∙ ap (filter is_short) (k.own ∙ ap (derived_from (replay i last)) later))
   where
-    held : Line → Held
+    held : Line → NumberedClause
     held l = record { id = l.id; lits = l.lits }
 
 -- the exports of all places, index by index
-exports-mapped : (volume k : ℕ) (log : List Line) (ps : List Place) (f : ℕ → List Held) → ((j : ℕ) → j < length ps → cond (takes_part volume (k + j) (get_or ps j vacant)) (exports_of log (k + j) (get_or ps j vacant)) [] ≡ f (k + j)) → exports_from volume log k ps ≡ flat_map f (counted k (length ps))
+exports-mapped : (volume k : ℕ) (log : List Line) (ps : List NodeSlot) (f : ℕ → List NumberedClause) → ((j : ℕ) → j < length ps → cond (takes_part volume (k + j) (get_or ps j vacant)) (exports_of log (k + j) (get_or ps j vacant)) [] ≡ f (k + j)) → exports_from volume log k ps ≡ flat_map f (counted k (length ps))
 exports-mapped volume k log [] f h = refl
 exports-mapped volume k log (p ∷ ps) f h =
     let zero_is : k + 0 ≡ k = omega arith in
     let first : cond (takes_part volume k p) (exports_of log k p) [] ≡ f k = subst (λ (n : ℕ). cond (takes_part volume n p) (exports_of log n p) [] ≡ f n) zero_is (h 0 (omega arith)) in
     let rest : exports_from volume log (k + 1) ps ≡ flat_map f (counted (k + 1) (length ps)) = exports-mapped volume (k + 1) log ps f (λ j low. let next : k + suc j ≡ (k + 1) + j = omega arith in subst (λ (n : ℕ). cond (takes_part volume n (get_or ps j vacant)) (exports_of log n (get_or ps j vacant)) [] ≡ f n) next (h (suc j) (omega (arith, low)))) in
-    ap (λ (xs : List Held). xs ++ exports_from volume log (k + 1) ps) first ∙ (ap (λ (xs : List Held). f k ++ xs) rest ∙ sym (flat_map-cons f k (counted (k + 1) (length ps))))
+    ap (λ (xs : List NumberedClause). xs ++ exports_from volume log (k + 1) ps) first ∙ (ap (λ (xs : List NumberedClause). f k ++ xs) rest ∙ sym (flat_map-cons f k (counted (k + 1) (length ps))))
 
 pub exchanges-tell_derived : ExchangesTellDerived
 exchanges-tell_derived events =
-    let s : Solo = solo events in
+    let s : SoloMachine = solo events in
     let count : length s.places ≡ 64 = (solo-tidy events).places.count in
-    let all : exports_from s.volume s.log 0 s.places ≡ flat_map (exported_by events) (counted 0 (length s.places)) = exports-mapped s.volume 0 s.log s.places (exported_by events) (λ j low. let same : 0 + j ≡ j = omega arith in ap (λ (n : ℕ). cond (takes_part s.volume n (get_or s.places j vacant)) (exports_of s.log n (get_or s.places j vacant)) []) same ∙ (ap (λ (xs : List Held). cond (takes_part s.volume j (place_at s j)) xs []) (exports-are_derived events j (omega (arith, low, count))) ∙ ap (exported_by events) (sym same))) in
-    ap (λ (x : Solo). x.broadcasts) (fold_push solo_step unopened events Exchanged) ∙ ap (λ (xs : List Held). s.broadcasts ++ broadcast xs ∷ []) (all ∙ ap (λ (n : ℕ). flat_map (exported_by events) (counted 0 n)) count)
+    let all : exports_from s.volume s.log 0 s.places ≡ flat_map (exported_by events) (counted 0 (length s.places)) = exports-mapped s.volume 0 s.log s.places (exported_by events) (λ j low. let same : 0 + j ≡ j = omega arith in ap (λ (n : ℕ). cond (takes_part s.volume n (get_or s.places j vacant)) (exports_of s.log n (get_or s.places j vacant)) []) same ∙ (ap (λ (xs : List NumberedClause). cond (takes_part s.volume j (place_at s j)) xs []) (exports-are_derived events j (omega (arith, low, count))) ∙ ap (exported_by events) (sym same))) in
+    ap (λ (x : SoloMachine). x.broadcasts) (fold_push solo_step unopened events Exchanged) ∙ ap (λ (xs : List NumberedClause). s.broadcasts ++ broadcast xs ∷ []) (all ∙ ap (λ (n : ℕ). flat_map (exported_by events) (counted 0 n)) count)

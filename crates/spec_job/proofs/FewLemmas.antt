@@ -3,7 +3,7 @@ use Rattle.std.proofs.Common.{◌≡◌, ◌≢◌, ℕ, ◌+◌, ◌*◌, ◌<�
 use Rattle.std.specs.Prelude.{sum_by, is_some}
 use Rattle.std.proofs.lemmas.Bool.{ne_eqb}
 use Rattle.std.proofs.lemmas.Nat.{mul-le}
-use Rattle.spec_job.specs.Solo.{Lease, Place, Solo, place_at, is_for}
+use Rattle.spec_job.specs.SoloMachine.{Lease, NodeSlot, SoloMachine, place_at, is_for}
 use Rattle.spec_job.proofs.SolvingLemmas.{IsSolvingSolo}
 use Rattle.spec_job.proofs.SumLemmas.{sum-none}
 
@@ -11,14 +11,14 @@ use Rattle.spec_job.proofs.SumLemmas.{sum-none}
 abbrev pub one_if : Bool → ℕ
 one_if b = cond b 1 0
 
-abbrev pub out_for : ℕ → Place → ℕ
+abbrev pub out_for : ℕ → NodeSlot → ℕ
 out_for revision p = one_if (is_for revision p.out)
 
-abbrev pub one_out : Place → ℕ
+abbrev pub one_out : NodeSlot → ℕ
 one_out p = one_if (is_some p.out)
 
 -- how many starts are out for a revision
-abbrev pub outs_for : ℕ → List Place → ℕ
+abbrev pub outs_for : ℕ → List NodeSlot → ℕ
 outs_for revision places = sum_by (out_for revision) places
 
 -- budgets with one more
@@ -36,7 +36,7 @@ none-for : (revision : ℕ) (o : Option Lease) → ((l : Lease) → o ≡ Some l
 none-for revision None h = refl
 none-for revision (Some l) h = ap one_if (ne_eqb l.revision revision (h l refl))
 
-pub none-ahead : (s : Solo) (revision : ℕ) → IsSolvingSolo s → (length s.answers < revision) ⊎ (length s.revisions ≤ revision) → outs_for revision s.places ≡ 0
+pub none-ahead : (s : SoloMachine) (revision : ℕ) → IsSolvingSolo s → (length s.answers < revision) ⊎ (length s.revisions ≤ revision) → outs_for revision s.places ≡ 0
 none-ahead s revision k side = sum-none (out_for revision) s.places (λ i low. none-for revision (place_at s i).out (λ l e. by_side i l low e side))
   where
     by_side : (i : ℕ) (l : Lease) → i < length s.places → (place_at s i).out ≡ Some l → (length s.answers < revision) ⊎ (length s.revisions ≤ revision) → l.revision ≢ revision

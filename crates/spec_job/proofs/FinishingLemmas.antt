@@ -1,7 +1,7 @@
 -- Finishes of a machine whose log is derived, and each of its events.
 use Rattle.std.proofs.Common.{◌≡◌, ℕ, ◌+◌, ◌<◌, ◌≤◌, Bool, true, false, cond, List, [], ◌∷◌, ◌++◌, length, take, Option, Some, None, inl, refl, sym, ◌∙◌, ap, subst, arith, append-nil}
 use Rattle.std.specs.Prelude.{slice_set}
-use Rattle.mal_base.specs.Held.{Line}
+use Rattle.mal_base.specs.NumberedClause.{Line}
 use Rattle.mal_base.specs.declared.verdict.Verdict.TheVariants.{Unsatisfiable}
 use Rattle.mal_base.specs.declared.verdict.Outcome.{Outcome}
 use Rattle.mal_base.specs.declared.verdict.Outcome.TheVariants.{Ran, Starved, Lost}
@@ -12,7 +12,7 @@ use Rattle.spec_search.specs.Laws.{IsRefutedBy}
 use Rattle.spec_search.proofs.LineLemmas.{slice-refutes}
 use Rattle.spec_proof.proofs.Among.{Among}
 use Rattle.spec_job.specs.Journal.{replay}
-use Rattle.spec_job.specs.Solo.{Own, Opened, Revised, Closed, Volume, Started, Finished, Exchanged, Lease, Place, Solo, solo_step, place_at, with_place, starve, conclude, first_empty, is_late, finished_ran, finished_home, finished_lease, finished}
+use Rattle.spec_job.specs.SoloMachine.{Own, Opened, Revised, Closed, Volume, Started, Finished, Exchanged, Lease, NodeSlot, SoloMachine, solo_step, place_at, with_place, starve, conclude, first_empty, is_late, finished_ran, finished_home, finished_lease, finished}
 use Rattle.spec_job.specs.Runnable.{MayHappen}
 use Rattle.spec_job.proofs.LoadedLemmas.{last_assumed}
 use Rattle.spec_job.proofs.PlacesLemmas.{out-within}
@@ -24,7 +24,7 @@ use Rattle.spec_job.proofs.DerivingLemmas.{IsRefuted, IsRunning, IsDeriving, IsD
 use Rattle.spec_job.proofs.RunningLemmas.{started-deriving, exchanged-deriving, idle-deriving, home-deriving}
 
 -- where a slice refutes the clauses, its last line is the goal's
-ran-refuted : (s : Solo) (i : ℕ) (l : Lease) (goal : ℕ) → (out : (place_at s i).out ≡ Some l) → IsSolvingSolo s → IsDerivingSolo s → i ≤ 63 → l.revision ≡ length s.answers → (replay i ((place_at s i).entries ++ l.adds)).node.verdict ≡ Some (Unsatisfiable goal) → IsRefuted (take (length s.answers + 1) s.revisions) (s.log ++ (replay i ((place_at s i).entries ++ l.adds)).lines) goal
+ran-refuted : (s : SoloMachine) (i : ℕ) (l : Lease) (goal : ℕ) → (out : (place_at s i).out ≡ Some l) → IsSolvingSolo s → IsDerivingSolo s → i ≤ 63 → l.revision ≡ length s.answers → (replay i ((place_at s i).entries ++ l.adds)).node.verdict ≡ Some (Unsatisfiable goal) → IsRefuted (take (length s.answers + 1) s.revisions) (s.log ++ (replay i ((place_at s i).entries ++ l.adds)).lines) goal
 ran-refuted s i l goal out k h low now v = record {
   front = log;
   more = [];
@@ -55,20 +55,20 @@ ran-refuted s i l goal out k h low now v = record {
     lines : ran.lines ≡ by.before ++ by.line ∷ []
     lines = ap (λ (x : Sliced). x.lines) run.runs ∙ by.last
 
-pub out-low : (s : Solo) (i : ℕ) (l : Lease) → (place_at s i).out ≡ Some l → IsSolvingSolo s → i ≤ 63
+pub out-low : (s : SoloMachine) (i : ℕ) (l : Lease) → (place_at s i).out ≡ Some l → IsSolvingSolo s → i ≤ 63
 out-low s i l out k = let inside : i < length s.places = out-within s.places i l out in let few : length s.places ≤ 64 = k.count in omega arith
 
 -- a slice that was run
-ran-deriving : (s : Solo) (i : ℕ) (l : Lease) → (place_at s i).out ≡ Some l → IsSolvingSolo s → IsDerivingSolo s → IsDerivingSolo (finished_ran s i (place_at s i) l)
+ran-deriving : (s : SoloMachine) (i : ℕ) (l : Lease) → (place_at s i).out ≡ Some l → IsSolvingSolo s → IsDerivingSolo s → IsDerivingSolo (finished_ran s i (place_at s i) l)
 ran-deriving s i l out k h = by_late (is_late s l) refl
   where
-    p : Place
+    p : NodeSlot
     p = place_at s i
 
     node : Node
     node = (replay i (p.entries ++ l.adds)).node
 
-    home : Solo
+    home : SoloMachine
     home = record (with_place s i (record p { entries = p.entries ++ l.adds; out = None })) { log = s.log ++ (replay i (p.entries ++ l.adds)).lines; ran = s.ran + 1 }
 
     at_home : IsDerivingSolo home
@@ -78,26 +78,26 @@ ran-deriving s i l out k h = by_late (is_late s l) refl
     by_late true e = at_home
     by_late false e = conclude-deriving node.verdict node home k.room (λ goal v. ran-refuted s i l goal out k h (out-low s i l out k) (in-time s l (out-leased s i l out k).reached e) v) at_home
 
-starved-deriving : (s : Solo) (i : ℕ) (l : Lease) → IsSolvingSolo s → IsDerivingSolo s → IsDerivingSolo (finished_lease s i (place_at s i) l Starved)
+starved-deriving : (s : SoloMachine) (i : ℕ) (l : Lease) → IsSolvingSolo s → IsDerivingSolo s → IsDerivingSolo (finished_lease s i (place_at s i) l Starved)
 starved-deriving s i l k h = by_late (is_late s l)
   where
     by_late : (b : Bool) → IsDerivingSolo (cond b (finished_home s i (place_at s i)) (starve (finished_home s i (place_at s i))))
     by_late true = idle-deriving s i h
     by_late false = starve-deriving (finished_home s i (place_at s i)) k.room (idle-deriving s i h)
 
-lease-deriving : (s : Solo) (i : ℕ) (l : Lease) (o : Outcome) → (place_at s i).out ≡ Some l → IsSolvingSolo s → IsDerivingSolo s → IsDerivingSolo (finished_lease s i (place_at s i) l o)
+lease-deriving : (s : SoloMachine) (i : ℕ) (l : Lease) (o : Outcome) → (place_at s i).out ≡ Some l → IsSolvingSolo s → IsDerivingSolo s → IsDerivingSolo (finished_lease s i (place_at s i) l o)
 lease-deriving s i l Ran e k h = ran-deriving s i l e k h
 lease-deriving s i l Starved e k h = starved-deriving s i l k h
 lease-deriving s i l Lost e k h = idle-deriving s i h
 
-finished-deriving : (s : Solo) (i : ℕ) (out : Option Lease) (o : Outcome) → (place_at s i).out ≡ out → IsSolvingSolo s → IsDerivingSolo s → IsDerivingSolo (finished s i (place_at s i) out o)
+finished-deriving : (s : SoloMachine) (i : ℕ) (out : Option Lease) (o : Outcome) → (place_at s i).out ≡ out → IsSolvingSolo s → IsDerivingSolo s → IsDerivingSolo (finished s i (place_at s i) out o)
 finished-deriving s i None o e k h = h
 finished-deriving s i (Some l) o e k h =
-    let ended : Solo = finished_lease s i (place_at s i) l o in
+    let ended : SoloMachine = finished_lease s i (place_at s i) l o in
     settled-deriving (first_empty ended.log) ended refl (lease-solving s i l o e k).room (lease-deriving s i l o e k h)
 
 -- each event that may happen
-pub step-deriving : (s : Solo) (o : Own) → MayHappen s o → IsSolvingSolo s → AreCalm (length s.answers) s.places → IsDerivingSolo s → IsDerivingSolo (solo_step s o)
+pub step-deriving : (s : SoloMachine) (o : Own) → MayHappen s o → IsSolvingSolo s → AreCalm (length s.answers) s.places → IsDerivingSolo s → IsDerivingSolo (solo_step s o)
 step-deriving s (Opened ask) may k calm h = h
 step-deriving s (Revised r) may k calm h = settled-deriving (first_empty s.log) (record s { revisions = s.revisions ++ r ∷ [] }) refl (posted-solving s r may k).room (posted-deriving s r may k h)
 step-deriving s Closed may k calm h = h

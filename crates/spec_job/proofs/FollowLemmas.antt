@@ -3,14 +3,14 @@ use Rattle.std.proofs.Common.{◌≡◌, ℕ, ◌+◌, ◌-◌, ◌<◌, ◌≤�
 use Rattle.std.specs.Prelude.{All}
 use Rattle.std.proofs.lemmas.List.Elements.{All-head, All-tail, All-take, All-drop}
 use Rattle.std.proofs.lemmas.List.Sums.{sum_by-take-le}
-use Rattle.mal_base.specs.Held.{Held, Line}
+use Rattle.mal_base.specs.NumberedClause.{NumberedClause, Line}
 use Rattle.mal_revision.specs.Posted.{Posted}
 use Rattle.spec_node.specs.State.{Node}
 use Rattle.spec_node.specs.Laws.{HoldsAll, AreNewNumbers}
 use Rattle.spec_node.proofs.ChainLemmas.{loads-hold_all}
 use Rattle.spec_search.specs.Slice.{Sliced}
 use Rattle.spec_job.specs.Journal.{JournalEntry, Load, Import, Run, after_entry, replay, loads_in, loads_of, imports_in}
-use Rattle.spec_job.specs.Solo.{Solo, place_at, clauses_in, missing_loads, start_entries}
+use Rattle.spec_job.specs.SoloMachine.{SoloMachine, place_at, clauses_in, missing_loads, start_entries}
 use Rattle.spec_job.specs.Models.{clauses_of, variables_of}
 use Rattle.spec_job.specs.Following.{MayAllFollow}
 use Rattle.spec_job.proofs.LoadedLemmas.{IsLoadable, HasLoaded, clauses-length, clauses_in-append, clauses_in-cons, clauses_in-push, load-loaded}
@@ -42,7 +42,7 @@ loads-follow (r ∷ rs) ps first s may room e h =
     let one : HasLoaded (ps ++ r ∷ []) (after_entry s (Load r first)).node = subst (λ (k : ℕ). HasLoaded (ps ++ r ∷ []) (after_entry s (Load r k)).node) same (load-loaded ps r s.node (All-head IsLoadable r rs may) (omega arith) h) in
     ((All-head IsLoadable r rs may, new), loads-follow rs (ps ++ r ∷ []) (first + length r.clauses) (after_entry s (Load r first)) (All-tail IsLoadable r rs may) (omega arith) (omega arith) one)
 
-imports-follow : (tolds : List (List Held)) (revisions : List Posted) (log : List Line) (i : ℕ) (s : Sliced) → IsTellable (variables_of revisions) log → All (IsSaid log) tolds → IsPrepared revisions log i s.node → MayAllFollow s (map Import tolds)
+imports-follow : (tolds : List (List NumberedClause)) (revisions : List Posted) (log : List Line) (i : ℕ) (s : Sliced) → IsTellable (variables_of revisions) log → All (IsSaid log) tolds → IsPrepared revisions log i s.node → MayAllFollow s (map Import tolds)
 imports-follow [] revisions log i s may said h = tt
 imports-follow (t ∷ ts) revisions log i s may said h =
     let here : IsSaid log t = All-head (IsSaid log) t ts said in
@@ -61,7 +61,7 @@ missing-follow revisions c i entries may room early h =
     loads-follow more (take n revisions) (clauses_in (take n revisions) + 1) (replay i entries) (All-take IsLoadable m (drop n revisions) (All-drop IsLoadable n revisions may)) (omega arith) (omega arith) h
 
 -- all that a start adds
-pub start-follows : (s : Solo) (i : ℕ) → i ≤ 63 → length s.answers < length s.revisions → IsSolvingSolo s → AreCalm (length s.answers) s.places → IsDerivingSolo s → MayAllFollow (replay i (place_at s i).entries) (start_entries s (place_at s i))
+pub start-follows : (s : SoloMachine) (i : ℕ) → i ≤ 63 → length s.answers < length s.revisions → IsSolvingSolo s → AreCalm (length s.answers) s.places → IsDerivingSolo s → MayAllFollow (replay i (place_at s i).entries) (start_entries s (place_at s i))
 start-follows s i low live k calm h = follow-append loads (map Import tolds ++ Run ∷ []) (replay i entries) (missing-follow s.revisions (length s.answers) i entries k.loadable k.room (k.ready i low).early (k.ready i low).node) (follow-append (map Import tolds) (Run ∷ []) with-loads (imports-follow tolds revisions s.log i with-loads (tellable s h) said prepared) ((ready.loaded.sound, ready.calm), tt))
   where
     entries : List JournalEntry
@@ -70,7 +70,7 @@ start-follows s i low live k calm h = follow-append loads (map Import tolds ++ R
     loads : List JournalEntry
     loads = missing_loads s (place_at s i)
 
-    tolds : List (List Held)
+    tolds : List (List NumberedClause)
     tolds = drop (imports_in entries) s.broadcasts
 
     revisions : List Posted

@@ -4,7 +4,7 @@ use Rattle.std.proofs.Common.{◌≡◌, ℕ, ◌<◌, ◌≤◌, ◌^◌, Bool,
 use Rattle.std.specs.Prelude.{All}
 use Rattle.std.proofs.lemmas.Bool.{le-leb}
 use Rattle.std.proofs.lemmas.List.Elements.{All-nil, All-cons, All-head, All-tail, All-weaker, All-contains}
-use Rattle.mal_base.specs.Held.{Held, Line}
+use Rattle.mal_base.specs.NumberedClause.{NumberedClause, Line}
 use Rattle.mal_base.specs.declared.verdict.Verdict.TheVariants.{Satisfiable}
 use Rattle.mal_revision.specs.Posted.{Posted}
 use Rattle.spec_node.specs.State.{Node}
@@ -26,7 +26,7 @@ use Rattle.spec_job.proofs.LinesLemmas.{IsOfLine}
 use Rattle.spec_job.proofs.TrackedLemmas.{IsLogged}
 
 -- clauses that are told: each is the clause of a line of the log, and no two have one number
-pub record IsSaid (log : List Line) (told : List Held) : Type 0 where
+pub record IsSaid (log : List Line) (told : List NumberedClause) : Type 0 where
   pub lines : All (IsOfLine log) told
   pub apart : HaveOwnNumbers told
 
@@ -41,16 +41,16 @@ pub record IsTellable (variables : ℕ) (log : List Line) : Type 0 where
   pub within : AreWithin variables log
 
 -- one number names one line
-pub told-same : (log : List Line) → AreApart log → (c d : Held) → IsOfLine log c → IsOfLine log d → c.id ≡ d.id → c.lits ≡ d.lits
+pub told-same : (log : List Line) → AreApart log → (c d : NumberedClause) → IsOfLine log c → IsOfLine log d → c.id ≡ d.id → c.lits ≡ d.lits
 told-same log apart c d (x, a, i, l) (y, b, j, m) e = sym l ∙ (sym (lits-found log apart d.id x a (i ∙ e)) ∙ (lits-found log apart d.id y b j ∙ m))
 
-of-derived : (log : List Line) → All IsAbove log → (c : Held) → IsOfLine log c → 2 ^ 32 ≤ c.id
+of-derived : (log : List Line) → All IsAbove log → (c : NumberedClause) → IsOfLine log c → 2 ^ 32 ≤ c.id
 of-derived log above c (line, m, i, l) = let high : 2 ^ 32 ≤ line.id = (of-all IsAbove log line above m).derived in omega arith
 
-of-within : (variables : ℕ) (log : List Line) → AreWithin variables log → (c : Held) → IsOfLine log c → AreLiteralsOf variables c.lits
+of-within : (variables : ℕ) (log : List Line) → AreWithin variables log → (c : NumberedClause) → IsOfLine log c → AreLiteralsOf variables c.lits
 of-within variables log within c (line, m, i, l) = subst (λ (lits : List ℕ). AreLiteralsOf variables lits) l (within line m)
 
-pub may-import : (log : List Line) (i : ℕ) (told : List Held) (n : Node) → IsTellable n.variables log → IsLogged log i n → IsSaid log told → MayImport told n
+pub may-import : (log : List Line) (i : ℕ) (told : List NumberedClause) (n : Node) → IsTellable n.variables log → IsLogged log i n → IsSaid log told → MayImport told n
 may-import log i told n may logged said = record {
   derived = All-weaker (IsOfLine log) (λ c. is_derived c ≡ true) (λ c k. le-leb (2 ^ 32) c.id (of-derived log may.above c k)) told said.lines;
   within = All-weaker (IsOfLine log) (λ c. AreLiteralsOf n.variables c.lits) (of-within n.variables log may.within) told said.lines;
@@ -67,7 +67,7 @@ pub record IsPrepared (revisions : List Posted) (log : List Line) (i : ℕ) (n :
   pub logged : IsLogged log i n
   pub calm : n.verdict ≡ None
 
-imported-loaded : (revisions : List Posted) (told : List Held) (n : Node) → n.verdict ≡ None → MayImport told n → HasLoaded revisions n → HasLoaded revisions (imported told n)
+imported-loaded : (revisions : List Posted) (told : List NumberedClause) (n : Node) → n.verdict ≡ None → MayImport told n → HasLoaded revisions n → HasLoaded revisions (imported told n)
 imported-loaded revisions told n calm may h = record {
   sound = import-keeps_sound told n may h.sound;
   variables = h.variables;
@@ -76,7 +76,7 @@ imported-loaded revisions told n calm may h = record {
   assumed = h.assumed;
 }
 
-imported-logged : (log : List Line) (i : ℕ) (told : List Held) (n : Node) → IsSaid log told → IsLogged log i n → IsLogged log i (imported told n)
+imported-logged : (log : List Line) (i : ℕ) (told : List NumberedClause) (n : Node) → IsSaid log told → IsLogged log i n → IsLogged log i (imported told n)
 imported-logged log i told n said h = record {
   index = h.index;
   held = All-with_clauses (λ c. 2 ^ 32 ≤ c.id → IsOfLine log c) (taken told n.clauses) n.clauses (All-passed (λ c. 2 ^ 32 ≤ c.id → IsOfLine log c) (λ c. not (has_lits c.lits n.clauses)) told (All-weaker (IsOfLine log) (λ c. 2 ^ 32 ≤ c.id → IsOfLine log c) (λ c k high. k) told said.lines)) h.held;
@@ -86,7 +86,7 @@ imported-logged log i told n said h = record {
       omega arith;
 }
 
-pub import-prepared : (revisions : List Posted) (log : List Line) (i : ℕ) (told : List Held) (n : Node) → IsTellable (variables_of revisions) log → IsSaid log told → IsPrepared revisions log i n → IsPrepared revisions log i (imported told n)
+pub import-prepared : (revisions : List Posted) (log : List Line) (i : ℕ) (told : List NumberedClause) (n : Node) → IsTellable (variables_of revisions) log → IsSaid log told → IsPrepared revisions log i n → IsPrepared revisions log i (imported told n)
 import-prepared revisions log i told n may said h = record {
   loaded = imported-loaded revisions told n h.calm (may-import log i told n (subst (λ (v : ℕ). IsTellable v log) (sym h.loaded.variables) may) h.logged said) h.loaded;
   logged = imported-logged log i told n said h.logged;
@@ -94,12 +94,12 @@ import-prepared revisions log i told n may said h = record {
 }
 
 -- imports of all that is told, one after another
-pub imports-prepared : (tolds : List (List Held)) (revisions : List Posted) (log : List Line) (i : ℕ) (s : Sliced) → IsTellable (variables_of revisions) log → All (IsSaid log) tolds → IsPrepared revisions log i s.node → IsPrepared revisions log i (fold after_entry s (map Import tolds)).node
+pub imports-prepared : (tolds : List (List NumberedClause)) (revisions : List Posted) (log : List Line) (i : ℕ) (s : Sliced) → IsTellable (variables_of revisions) log → All (IsSaid log) tolds → IsPrepared revisions log i s.node → IsPrepared revisions log i (fold after_entry s (map Import tolds)).node
 imports-prepared [] revisions log i s may said h = h
 imports-prepared (t ∷ ts) revisions log i s may said h = imports-prepared ts revisions log i (after_entry s (Import t)) may (All-tail (IsSaid log) t ts said) (import-prepared revisions log i t s.node may (All-head (IsSaid log) t ts said) h)
 
 -- what holds of all clauses held with one more holds of it and of the others
-parts-with : (P : Held → Type 0) (c : Held) (cs : List Held) → All P (with_clause c cs) → P c × All P cs
+parts-with : (P : NumberedClause → Type 0) (c : NumberedClause) (cs : List NumberedClause) → All P (with_clause c cs) → P c × All P cs
 parts-with P c [] h = (All-head P c [] h, All-nil P)
 parts-with P c (d ∷ ds) h = by_order (parts-with P c ds) (nat_lt c.id d.id) h
   where
@@ -111,11 +111,11 @@ parts-with P c (d ∷ ds) h = by_order (parts-with P c ds) (nat_lt c.id d.id) h
     by_order f false k = behind (All-head P d (with_clause c ds) k) (f (All-tail P d (with_clause c ds) k))
 
 -- the clause of a line
-abbrev pub clause_of : Line → Held
+abbrev pub clause_of : Line → NumberedClause
 clause_of l = record { id = l.id; lits = l.lits }
 
 -- what holds of all clauses held with those of lines holds of these
-pub parts-with_lines : (P : Held → Type 0) (lines : List Line) (cs : List Held) → All P (with_lines cs lines) → ((line : Line) → Among line lines → P (clause_of line)) × All P cs
+pub parts-with_lines : (P : NumberedClause → Type 0) (lines : List Line) (cs : List NumberedClause) → All P (with_lines cs lines) → ((line : Line) → Among line lines → P (clause_of line)) × All P cs
 parts-with_lines P [] cs h = (λ line m. absurd m, h)
 parts-with_lines P (l ∷ ls) cs h = by_rest (parts-with_lines P ls (with_line cs l) h)
   where

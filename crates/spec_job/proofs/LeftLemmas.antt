@@ -14,38 +14,38 @@ use Rattle.spec_node.specs.Model.{model_of}
 use Rattle.spec_search.specs.Slice.{Sliced}
 use Rattle.spec_job.specs.Journal.{replay}
 use Rattle.spec_job.specs.Left.{left_of, after_start, StartsLeaveLess, LeftFalls}
-use Rattle.spec_job.specs.Solo.{Own, Opened, Revised, Closed, Volume, Started, Finished, Exchanged, Lease, Place, Solo, unopened, solo, solo_step, place_at, with_place, answered, spend, starve, conclude, first_empty, settled_by, settled, is_late, finished_home, finished_lease, finished, startable, vacant, out_count, is_live}
+use Rattle.spec_job.specs.SoloMachine.{Own, Opened, Revised, Closed, Volume, Started, Finished, Exchanged, Lease, NodeSlot, SoloMachine, unopened, solo, solo_step, place_at, with_place, answered, spend, starve, conclude, first_empty, settled_by, settled, is_late, finished_home, finished_lease, finished, startable, vacant, out_count, is_live}
 use Rattle.spec_job.proofs.FewLemmas.{next-budget}
 use Rattle.spec_job.proofs.PlacesLemmas.{marked-length, set-here}
 use Rattle.spec_job.proofs.SolvingLemmas.{live-parts, lease_of}
 
 -- a machine has its 64 places, and fewer than three starts of the current revision wanted for memory
-pub record HasPlaces (s : Solo) : Type 0 where
+pub record HasPlaces (s : SoloMachine) : Type 0 where
   pub count : length s.places ≡ 64
   pub starved : s.starved < 3
 
 -- and where its log has an empty clause, each revision has an answer
-pub record IsTidy (s : Solo) : Type 0 where
+pub record IsTidy (s : SoloMachine) : Type 0 where
   pub places : HasPlaces s
   pub settled : (goal : ℕ) → first_empty s.log ≡ Some goal → length s.revisions ≤ length s.answers
 
-all-answered : (s : Solo) (goal : ℕ) → length s.revisions ≤ length (s.answers ++ replicate (length s.revisions - length s.answers) (Refuted goal))
+all-answered : (s : SoloMachine) (goal : ℕ) → length s.revisions ≤ length (s.answers ++ replicate (length s.revisions - length s.answers) (Refuted goal))
 all-answered s goal =
     let long : length (s.answers ++ replicate (length s.revisions - length s.answers) (Refuted goal)) ≡ length s.answers + length (replicate (length s.revisions - length s.answers) (Refuted goal)) = length-append s.answers (replicate (length s.revisions - length s.answers) (Refuted goal)) in
     let count : length (replicate (length s.revisions - length s.answers) (Refuted goal)) ≡ length s.revisions - length s.answers = length-replicate (length s.revisions - length s.answers) (Refuted goal) in
     omega arith
 
-settled-tidy : (s : Solo) → HasPlaces s → IsTidy (settled s)
+settled-tidy : (s : SoloMachine) → HasPlaces s → IsTidy (settled s)
 settled-tidy s h = by_first (first_empty s.log) refl
   where
     by_first : (o : Option ℕ) → first_empty s.log ≡ o → IsTidy (settled_by o s)
     by_first None e = record { places = h; settled = λ goal f. absurd (cc) }
     by_first (Some found) e = record { places = record { count = h.count; starved = omega arith }; settled = λ goal f. all-answered s found }
 
-answered-places : (s : Solo) (a : Answer) → HasPlaces s → HasPlaces (answered s a)
+answered-places : (s : SoloMachine) (a : Answer) → HasPlaces s → HasPlaces (answered s a)
 answered-places s a h = record { count = h.count; starved = omega arith }
 
-spend-places : (s : Solo) → HasPlaces s → HasPlaces (spend s)
+spend-places : (s : SoloMachine) → HasPlaces s → HasPlaces (spend s)
 spend-places s h = by_test (s.spent + 1 == s.ask.slices)
   where
     by_test : (b : Bool) → HasPlaces (cond b (answered s (Spent s.ask.slices)) (record s { spent = s.spent + 1 }))
@@ -55,28 +55,28 @@ spend-places s h = by_test (s.spent + 1 == s.ask.slices)
 third-out : (n : ℕ) → n < 3 → (n + 1 == 3) ≡ false → n + 1 < 3
 third-out n low e = let other : n + 1 ≢ 3 = eqb-false (n + 1) 3 e in omega arith
 
-starve-places : (s : Solo) → HasPlaces s → HasPlaces (starve s)
+starve-places : (s : SoloMachine) → HasPlaces s → HasPlaces (starve s)
 starve-places s h = by_test (s.starved + 1 == 3) refl
   where
     by_test : (b : Bool) → (s.starved + 1 == 3) ≡ b → HasPlaces (cond b (answered s OutOfStarts) (record s { starved = s.starved + 1 }))
     by_test true e = answered-places s OutOfStarts h
     by_test false e = record { count = h.count; starved = third-out s.starved h.starved e }
 
-conclude-places : (v : Option Verdict) (n : Node) (s : Solo) → HasPlaces s → HasPlaces (conclude v n s)
+conclude-places : (v : Option Verdict) (n : Node) (s : SoloMachine) → HasPlaces s → HasPlaces (conclude v n s)
 conclude-places None n s h = spend-places s h
 conclude-places (Some Satisfiable) n s h = answered-places s (Satisfied (model_of n)) h
 conclude-places (Some (Unsatisfiable goal)) n s h = answered-places s (Refuted goal) h
 
-placed : (s : Solo) (i : ℕ) (p : Place) → HasPlaces s → HasPlaces (with_place s i p)
+placed : (s : SoloMachine) (i : ℕ) (p : NodeSlot) → HasPlaces s → HasPlaces (with_place s i p)
 placed s i p h = record { count = length-set s.places i p ∙ h.count; starved = h.starved }
 
-lease-places : (s : Solo) (i : ℕ) (p : Place) (l : Lease) (o : Outcome) → HasPlaces s → HasPlaces (finished_lease s i p l o)
+lease-places : (s : SoloMachine) (i : ℕ) (p : NodeSlot) (l : Lease) (o : Outcome) → HasPlaces s → HasPlaces (finished_lease s i p l o)
 lease-places s i p l Ran h = by_late (is_late s l)
   where
     slice : Sliced
     slice = replay i (p.entries ++ l.adds)
 
-    home : Solo
+    home : SoloMachine
     home = record (with_place s i (record p { entries = p.entries ++ l.adds; out = None })) { log = s.log ++ slice.lines; ran = s.ran + 1 }
 
     same : HasPlaces home
@@ -87,7 +87,7 @@ lease-places s i p l Ran h = by_late (is_late s l)
     by_late false = conclude-places slice.node.verdict slice.node home same
 lease-places s i p l Starved h = by_late (is_late s l)
   where
-    home : Solo
+    home : SoloMachine
     home = finished_home s i p
 
     same : HasPlaces home
@@ -98,11 +98,11 @@ lease-places s i p l Starved h = by_late (is_late s l)
     by_late false = starve-places home same
 lease-places s i p l Lost h = placed s i (record p { out = None }) h
 
-finished-tidy : (s : Solo) (i : ℕ) (p : Place) (out : Option Lease) (o : Outcome) → IsTidy s → IsTidy (finished s i p out o)
+finished-tidy : (s : SoloMachine) (i : ℕ) (p : NodeSlot) (out : Option Lease) (o : Outcome) → IsTidy s → IsTidy (finished s i p out o)
 finished-tidy s i p None o h = h
 finished-tidy s i p (Some l) o h = settled-tidy (finished_lease s i p l o) (lease-places s i p l o h.places)
 
-pub step-tidy : (s : Solo) (o : Own) → IsTidy s → IsTidy (solo_step s o)
+pub step-tidy : (s : SoloMachine) (o : Own) → IsTidy s → IsTidy (solo_step s o)
 step-tidy s (Opened ask) h = record { places = record { count = h.places.count; starved = h.places.starved }; settled = h.settled }
 step-tidy s (Revised r) h = settled-tidy (record s { revisions = s.revisions ++ r ∷ [] }) (record { count = h.places.count; starved = h.places.starved })
 step-tidy s Closed h = record { places = record { count = h.places.count; starved = h.places.starved }; settled = h.settled }
@@ -114,7 +114,7 @@ step-tidy s Exchanged h = record { places = record { count = marked-length s.vol
 events-tidy : (past events : List Own) → IsTidy (solo past) → IsTidy (solo (past ++ events))
 events-tidy past [] h = subst (λ (es : List Own). IsTidy (solo es)) (sym (append-nil past)) h
 events-tidy past (o ∷ os) h =
-    let next : IsTidy (solo (past ++ o ∷ [])) = subst (λ (s : Solo). IsTidy s) (sym (fold_push solo_step unopened past o)) (step-tidy (solo past) o h) in
+    let next : IsTidy (solo (past ++ o ∷ [])) = subst (λ (s : SoloMachine). IsTidy s) (sym (fold_push solo_step unopened past o)) (step-tidy (solo past) o h) in
     subst (λ (es : List Own). IsTidy (solo es)) (append_assoc past (o ∷ []) os) (events-tidy (past ++ o ∷ []) os next)
 
 -- so it is of every machine
@@ -130,40 +130,40 @@ room-more r a slices spent starved low less few =
     omega (arith, product, same, less, few)
 
 -- a machine that may start a node
-record MayEnd (s : Solo) : Type 0 where
+record MayEnd (s : SoloMachine) : Type 0 where
   pub live : length s.answers < length s.revisions
   pub spent : s.spent < s.ask.slices
   pub starved : s.starved < 3
 
-room-of : (s : Solo) → MayEnd s → (length s.revisions - (length s.answers + 1)) * (s.ask.slices + 3) + s.spent + s.starved + 1 ≤ (length s.revisions - length s.answers) * (s.ask.slices + 3)
+room-of : (s : SoloMachine) → MayEnd s → (length s.revisions - (length s.answers + 1)) * (s.ask.slices + 3) + s.spent + s.starved + 1 ≤ (length s.revisions - length s.answers) * (s.ask.slices + 3)
 room-of s h = room-more (length s.revisions) (length s.answers) s.ask.slices s.spent s.starved h.live h.spent h.starved
 
-answered-less : (s : Solo) (a : Answer) → MayEnd s → left_of (answered s a) < left_of s
+answered-less : (s : SoloMachine) (a : Answer) → MayEnd s → left_of (answered s a) < left_of s
 answered-less s a h =
     let long : length (s.answers ++ a ∷ []) ≡ length s.answers + 1 = length-append s.answers (a ∷ []) in
     let product : (length s.revisions - length (s.answers ++ a ∷ [])) * (s.ask.slices + 3) ≡ (length s.revisions - (length s.answers + 1)) * (s.ask.slices + 3) = ap (λ (n : ℕ). (length s.revisions - n) * (s.ask.slices + 3)) long in
     omega (arith, product, room-of s h)
 
-spend-less : (s : Solo) → MayEnd s → left_of (spend s) < left_of s
+spend-less : (s : SoloMachine) → MayEnd s → left_of (spend s) < left_of s
 spend-less s h = by_test (s.spent + 1 == s.ask.slices)
   where
     by_test : (b : Bool) → left_of (cond b (answered s (Spent s.ask.slices)) (record s { spent = s.spent + 1 })) < left_of s
     by_test true = answered-less s (Spent s.ask.slices) h
     by_test false = omega (arith, room-of s h)
 
-starve-less : (s : Solo) → MayEnd s → left_of (starve s) < left_of s
+starve-less : (s : SoloMachine) → MayEnd s → left_of (starve s) < left_of s
 starve-less s h = by_test (s.starved + 1 == 3)
   where
     by_test : (b : Bool) → left_of (cond b (answered s OutOfStarts) (record s { starved = s.starved + 1 })) < left_of s
     by_test true = answered-less s OutOfStarts h
     by_test false = omega (arith, room-of s h)
 
-conclude-less : (v : Option Verdict) (n : Node) (s : Solo) → MayEnd s → left_of (conclude v n s) < left_of s
+conclude-less : (v : Option Verdict) (n : Node) (s : SoloMachine) → MayEnd s → left_of (conclude v n s) < left_of s
 conclude-less None n s h = spend-less s h
 conclude-less (Some Satisfiable) n s h = answered-less s (Satisfied (model_of n)) h
 conclude-less (Some (Unsatisfiable goal)) n s h = answered-less s (Refuted goal) h
 
-settled-left : (o : Option ℕ) (s : Solo) → left_of (settled_by o s) ≤ left_of s
+settled-left : (o : Option ℕ) (s : SoloMachine) → left_of (settled_by o s) ≤ left_of s
 settled-left None s = omega arith
 settled-left (Some goal) s =
     let none : length s.revisions - length (s.answers ++ replicate (length s.revisions - length s.answers) (Refuted goal)) ≡ 0 = omega (arith, all-answered s goal) in
@@ -171,22 +171,22 @@ settled-left (Some goal) s =
     omega (arith, product)
 
 -- a finish of a start of the current revision
-not-late : (b : Bool) (x y : Solo) → b ≡ false → cond b x y ≡ y
+not-late : (b : Bool) (x y : SoloMachine) → b ≡ false → cond b x y ≡ y
 not-late true x y e = absurd (cc)
 not-late false x y e = refl
 
-module _ (s : Solo) (i : ℕ) (h : IsTidy s) (low : i ≤ 63) (may : startable s i ≡ true) where
-  abbrev q : Place
+module _ (s : SoloMachine) (i : ℕ) (h : IsTidy s) (low : i ≤ 63) (may : startable s i ≡ true) where
+  abbrev q : NodeSlot
   q = record (place_at s i) { out = Some (lease_of s i); starts = (place_at s i).starts + 1 }
 
-  abbrev begun : Solo
+  abbrev begun : SoloMachine
   begun = with_place s i q
 
   here : place_at begun i ≡ q
   here = let inside : i < length s.places = omega (arith, h.places.count, low) in set-here s.places i q inside
 
   ends : (o : Outcome) → after_start s i o ≡ settled (finished_lease begun i q (lease_of s i) o)
-  ends o = ap (λ (p : Place). finished begun i p p.out o) here
+  ends o = ap (λ (p : NodeSlot). finished begun i p p.out o) here
 
   in-time : is_late begun (lease_of s i) ≡ false
   in-time = le-ltb (length s.answers) (length s.answers) (omega arith)
@@ -197,31 +197,31 @@ module _ (s : Solo) (i : ℕ) (h : IsTidy s) (low : i ≤ 63) (may : startable s
       record { live = live-parts s i may; spent = omega (arith, less); starved = h.places.starved }
 
   ran : left_of (after_start s i Ran) < left_of s
-  ran = subst (λ (t : Solo). left_of t < left_of s) (sym (ends Ran)) (let most : left_of (settled_by (first_empty ended.log) ended) ≤ left_of ended = settled-left (first_empty ended.log) ended in omega (arith, most, less))
+  ran = subst (λ (t : SoloMachine). left_of t < left_of s) (sym (ends Ran)) (let most : left_of (settled_by (first_empty ended.log) ended) ≤ left_of ended = settled-left (first_empty ended.log) ended in omega (arith, most, less))
     where
       slice : Sliced
       slice = replay i (q.entries ++ (lease_of s i).adds)
 
-      home : Solo
+      home : SoloMachine
       home = record (with_place begun i (record q { entries = q.entries ++ (lease_of s i).adds; out = None })) { log = s.log ++ slice.lines; ran = s.ran + 1 }
 
-      ended : Solo
+      ended : SoloMachine
       ended = finished_lease begun i q (lease_of s i) Ran
 
       less : left_of ended < left_of s
-      less = subst (λ (t : Solo). left_of t < left_of s) (sym (not-late (is_late begun (lease_of s i)) home (conclude slice.node.verdict slice.node home) in-time)) (conclude-less slice.node.verdict slice.node home (record { live = ending.live; spent = ending.spent; starved = ending.starved }))
+      less = subst (λ (t : SoloMachine). left_of t < left_of s) (sym (not-late (is_late begun (lease_of s i)) home (conclude slice.node.verdict slice.node home) in-time)) (conclude-less slice.node.verdict slice.node home (record { live = ending.live; spent = ending.spent; starved = ending.starved }))
 
   starved : left_of (after_start s i Starved) < left_of s
-  starved = subst (λ (t : Solo). left_of t < left_of s) (sym (ends Starved)) (let most : left_of (settled_by (first_empty ended.log) ended) ≤ left_of ended = settled-left (first_empty ended.log) ended in omega (arith, most, less))
+  starved = subst (λ (t : SoloMachine). left_of t < left_of s) (sym (ends Starved)) (let most : left_of (settled_by (first_empty ended.log) ended) ≤ left_of ended = settled-left (first_empty ended.log) ended in omega (arith, most, less))
     where
-      home : Solo
+      home : SoloMachine
       home = finished_home begun i q
 
-      ended : Solo
+      ended : SoloMachine
       ended = finished_lease begun i q (lease_of s i) Starved
 
       less : left_of ended < left_of s
-      less = subst (λ (t : Solo). left_of t < left_of s) (sym (not-late (is_late begun (lease_of s i)) home (starve home) in-time)) (starve-less home (record { live = ending.live; spent = ending.spent; starved = ending.starved }))
+      less = subst (λ (t : SoloMachine). left_of t < left_of s) (sym (not-late (is_late begun (lease_of s i)) home (starve home) in-time)) (starve-less home (record { live = ending.live; spent = ending.spent; starved = ending.starved }))
 
   lost : left_of (after_start s i Lost) ≡ left_of s
   lost = ap left_of (ends Lost) ∙ by_first (first_empty s.log) refl

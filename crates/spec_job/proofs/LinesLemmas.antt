@@ -4,7 +4,7 @@ use Rattle.std.specs.Prelude.{All, find, slice_get}
 use Rattle.std.specs.Option.{option_map}
 use Rattle.std.proofs.lemmas.Bool.{eqb-true, ne_eqb, cases_lt}
 use Rattle.std.proofs.lemmas.List.Elements.{All-nil, All-cons, All-head, All-tail, All-weaker, All-contains}
-use Rattle.mal_base.specs.Held.{Held, Line}
+use Rattle.mal_base.specs.NumberedClause.{NumberedClause, Line}
 use Rattle.spec_logic.specs.Derivation.{Holding, derivation}
 use Rattle.spec_logic.specs.Derivation.Derivation.{Derived}
 use Rattle.spec_logic.specs.Refutation.{numbered}
@@ -22,47 +22,47 @@ use Rattle.spec_proof.proofs.Growing.{log-grows, numbered-within}
 use Rattle.spec_job.proofs.ReachedLemmas.{HasNumber, IsClosed, among-left, among-right}
 
 -- a clause is the clause of a line of a log
-abbrev pub IsOfLine : List Line → Held → Type 0
+abbrev pub IsOfLine : List Line → NumberedClause → Type 0
 IsOfLine log c = (line : Line) × Among line log × (line.id ≡ c.id) × (line.lits ≡ c.lits)
 
 -- a clause is an original, or the clause of a line of a log
-abbrev pub IsKnown : List (Option (List ℕ)) → List Line → Held → Type 0
+abbrev pub IsKnown : List (Option (List ℕ)) → List Line → NumberedClause → Type 0
 IsKnown clauses log c = (numbered clauses c.id ≡ Some (Some c.lits)) ⊎ IsOfLine log c
 
-pub of-line-later : (log more : List Line) (c : Held) → IsOfLine log c → IsOfLine (log ++ more) c
+pub of-line-later : (log more : List Line) (c : NumberedClause) → IsOfLine log c → IsOfLine (log ++ more) c
 of-line-later log more c (line, h, e, f) = (line, among-left log more line h, e, f)
 
-pub known-later : (clauses : List (Option (List ℕ))) (log more : List Line) (c : Held) → IsKnown clauses log c → IsKnown clauses (log ++ more) c
+pub known-later : (clauses : List (Option (List ℕ))) (log more : List Line) (c : NumberedClause) → IsKnown clauses log c → IsKnown clauses (log ++ more) c
 known-later clauses log more c (inl e) = inl e
 known-later clauses log more c (inr k) = inr (of-line-later log more c k)
 
 -- what is held of clauses under their numbers is held of all that they hold
-held-there : (clauses : List Held) (more : Holding) → All (λ c. more c.id ≡ Some (Some c.lits)) clauses → (id : ℕ) (c : Option (List ℕ)) → holding_of clauses id ≡ Some c → more id ≡ Some c
+held-there : (clauses : List NumberedClause) (more : Holding) → All (λ c. more c.id ≡ Some (Some c.lits)) clauses → (id : ℕ) (c : Option (List ℕ)) → holding_of clauses id ≡ Some c → more id ≡ Some c
 held-there [] more h id c e = absurd (cc)
-held-there (x ∷ xs) more h id c e = by_first (held-there xs more (All-tail (λ (d : Held). more d.id ≡ Some (Some d.lits)) x xs h) id c) (x.id == id) refl e
+held-there (x ∷ xs) more h id c e = by_first (held-there xs more (All-tail (λ (d : NumberedClause). more d.id ≡ Some (Some d.lits)) x xs h) id c) (x.id == id) refl e
   where
-    by_first : (holding_of xs id ≡ Some c → more id ≡ Some c) → (b : Bool) → (x.id == id) ≡ b → option_map (λ (lits : List ℕ). Some lits) (option_map (λ (d : Held). d.lits) (cond b (Some x) (find (λ (d : Held). d.id == id) xs))) ≡ Some c → more id ≡ Some c
+    by_first : (holding_of xs id ≡ Some c → more id ≡ Some c) → (b : Bool) → (x.id == id) ≡ b → option_map (λ (lits : List ℕ). Some lits) (option_map (λ (d : NumberedClause). d.lits) (cond b (Some x) (find (λ (d : NumberedClause). d.id == id) xs))) ≡ Some c → more id ≡ Some c
     by_first rest true q f =
-        let here : more x.id ≡ Some (Some x.lits) = All-head (λ (d : Held). more d.id ≡ Some (Some d.lits)) x xs h in
+        let here : more x.id ≡ Some (Some x.lits) = All-head (λ (d : NumberedClause). more d.id ≡ Some (Some d.lits)) x xs h in
         subst (λ (n : ℕ). more n ≡ Some c) (eqb-true x.id id q) (here ∙ f)
     by_first rest false q f = rest f
 
 -- a log holds what it knows
-known-held : (clauses : List (Option (List ℕ))) (log : List Line) → IsLog clauses log → (c : Held) → IsKnown clauses log c → holding clauses log c.id ≡ Some (Some c.lits)
+known-held : (clauses : List (Option (List ℕ))) (log : List Line) → IsLog clauses log → (c : NumberedClause) → IsKnown clauses log c → holding clauses log c.id ≡ Some (Some c.lits)
 known-held clauses log is c (inl e) = (log-holds clauses log is).originals_held c.id (Some c.lits) e
 known-held clauses log is c (inr (line, h, e, f)) =
     let there : holding clauses log line.id ≡ Some (Some line.lits) = (log-holds clauses log is).lines_held line (contains-from_among log line h) in
     subst (λ (n : ℕ). holding clauses log n ≡ Some (Some c.lits)) e (there ∙ ap (λ (lits : List ℕ). Some (Some lits)) f)
 
 -- a log with the clauses that a node holds: it knows them, and its lines of the node's index have lesser serials
-pub record Covers (clauses : List (Option (List ℕ))) (log : List Line) (index serial : ℕ) (held : List Held) : Type 0 where
+pub record Covers (clauses : List (Option (List ℕ))) (log : List Line) (index serial : ℕ) (held : List NumberedClause) : Type 0 where
   pub derived : IsLog clauses log
   pub closed : IsClosed log
   pub known : All (IsKnown clauses log) held
   pub before : (line : Line) (k : ℕ) → Among line log → line.id ≡ 2 ^ 32 + k * 64 + index → k < serial
 
 -- a known clause has the number of an original or of a line
-known-number : (clauses : List (Option (List ℕ))) (log : List Line) (c : Held) → length clauses < 2 ^ 32 → IsKnown clauses log c → (c.id < 2 ^ 32) ⊎ HasNumber log c.id
+known-number : (clauses : List (Option (List ℕ))) (log : List Line) (c : NumberedClause) → length clauses < 2 ^ 32 → IsKnown clauses log c → (c.id < 2 ^ 32) ⊎ HasNumber log c.id
 known-number clauses log c low (inl e) = by_size (cases_lt (length clauses) c.id)
   where
     by_size : (length clauses < c.id) ⊎ (c.id ≤ length clauses) → (c.id < 2 ^ 32) ⊎ HasNumber log c.id
@@ -71,7 +71,7 @@ known-number clauses log c low (inl e) = by_size (cases_lt (length clauses) c.id
 known-number clauses log c low (inr (line, h, e, f)) = inr (line, h, e)
 
 -- one line
-take-line : (clauses : List (Option (List ℕ))) (log : List Line) (index serial : ℕ) (held : List Held) (l : Line) → index ≤ 63 → Covers clauses log index serial held → IsDerivedFrom held l → l.id ≡ 2 ^ 32 + serial * 64 + index → Covers clauses (log ++ l ∷ []) index (serial + 1) (with_line held l)
+take-line : (clauses : List (Option (List ℕ))) (log : List Line) (index serial : ℕ) (held : List NumberedClause) (l : Line) → index ≤ 63 → Covers clauses log index serial held → IsDerivedFrom held l → l.id ≡ 2 ^ 32 + serial * 64 + index → Covers clauses (log ++ l ∷ []) index (serial + 1) (with_line held l)
 take-line clauses log index serial held l low h d e = record {
   derived = log-grows clauses log l h.derived (all-from_among (λ other. other.id ≢ l.id) log others) above derived;
   closed = closed;
@@ -82,7 +82,7 @@ take-line clauses log index serial held l low h d e = record {
     others : (other : Line) → Among other log → other.id ≢ l.id
     others other m q = let small : serial < serial = h.before other serial m (q ∙ e) in omega arith
 
-    hint-held : (hint : ℕ) → Contains l.hints hint → (c : Held) × IsKnown clauses log c × (c.id ≡ hint) × (c.id < l.id)
+    hint-held : (hint : ℕ) → Contains l.hints hint → (c : NumberedClause) × IsKnown clauses log c × (c.id ≡ hint) × (c.id < l.id)
     hint-held hint m =
         let there : IsHeld held hint = All-contains (IsHeld held) l.hints hint d.hints m in
         (there.0, All-contains (IsKnown clauses log) held there.0 h.known there.1, there.2, All-contains (λ c. c.id < l.id) held there.0 d.above there.1)
@@ -119,7 +119,7 @@ take-line clauses log index serial held l low h d e = record {
     by_side line k q (inr (inr m)) = absurd m
 
 -- all the lines of a slice
-pub take-lines : (clauses : List (Option (List ℕ))) (log : List Line) (index serial : ℕ) (held : List Held) (lines : List Line) → index ≤ 63 → Covers clauses log index serial held → AreDerivedFrom held lines → AreNumbered serial index lines → Covers clauses (log ++ lines) index (serial + length lines) (with_lines held lines)
+pub take-lines : (clauses : List (Option (List ℕ))) (log : List Line) (index serial : ℕ) (held : List NumberedClause) (lines : List Line) → index ≤ 63 → Covers clauses log index serial held → AreDerivedFrom held lines → AreNumbered serial index lines → Covers clauses (log ++ lines) index (serial + length lines) (with_lines held lines)
 take-lines clauses log index serial held [] low h d e = subst (λ (ls : List Line). Covers clauses ls index (serial + 0) held) (sym (append-nil log)) (subst (λ (n : ℕ). Covers clauses log index n held) (let same : serial ≡ serial + 0 = omega arith in same) h)
 take-lines clauses log index serial held (l ∷ ls) low h d e =
     let one : Covers clauses (log ++ l ∷ []) index (serial + 1) (with_line held l) = take-line clauses log index serial held l low h d.0 e.0 in
@@ -138,7 +138,7 @@ numbered-at : (first : ℕ) (cs : List (Option (List ℕ))) → All (λ c. (firs
 numbered-at first [] = All-nil (λ c. (first ≤ c.id) × (slice_get [] (c.id - first) ≡ Some (Some c.lits)))
 numbered-at first (x ∷ cs) = by_clause x (numbered-at (first + 1) cs)
   where
-    later : (y : Option (List ℕ)) (c : Held) → (first + 1 ≤ c.id) × (slice_get cs (c.id - (first + 1)) ≡ Some (Some c.lits)) → (first ≤ c.id) × (slice_get (y ∷ cs) (c.id - first) ≡ Some (Some c.lits))
+    later : (y : Option (List ℕ)) (c : NumberedClause) → (first + 1 ≤ c.id) × (slice_get cs (c.id - (first + 1)) ≡ Some (Some c.lits)) → (first ≤ c.id) × (slice_get (y ∷ cs) (c.id - first) ≡ Some (Some c.lits))
     later y c (low, e) =
         let next : c.id - first ≡ suc (c.id - (first + 1)) = omega arith in
         (omega arith, ap (λ (n : ℕ). slice_get (y ∷ cs) n) next ∙ e)
@@ -160,13 +160,13 @@ get-longer (x ∷ xs) ys (suc i) c q = get-longer xs ys i c q
 pub numbered-known : (cs more : List (Option (List ℕ))) → All (λ c. numbered (cs ++ more) c.id ≡ Some (Some c.lits)) (numbered_from 1 cs)
 numbered-known cs more = All-weaker (λ c. (1 ≤ c.id) × (slice_get cs (c.id - 1) ≡ Some (Some c.lits))) (λ c. numbered (cs ++ more) c.id ≡ Some (Some c.lits)) there (numbered_from 1 cs) (numbered-at 1 cs)
   where
-    there : (c : Held) → (1 ≤ c.id) × (slice_get cs (c.id - 1) ≡ Some (Some c.lits)) → numbered (cs ++ more) c.id ≡ Some (Some c.lits)
+    there : (c : NumberedClause) → (1 ≤ c.id) × (slice_get cs (c.id - 1) ≡ Some (Some c.lits)) → numbered (cs ++ more) c.id ≡ Some (Some c.lits)
     there c (low, e) =
         let some : (c.id == 0) ≡ false = ne_eqb c.id 0 (λ q. omega arith) in
         rw some (get-longer cs more (c.id - 1) (Some c.lits) e)
 
 -- what holds of the originals of a node holds of each of its clauses below 2^32
-pub of-originals : (P : Held → Type 0) (xs : List Held) → All P (originals xs) → All (λ c. nat_lt c.id (2 ^ 32) ≡ true → P c) xs
+pub of-originals : (P : NumberedClause → Type 0) (xs : List NumberedClause) → All P (originals xs) → All (λ c. nat_lt c.id (2 ^ 32) ≡ true → P c) xs
 of-originals P [] h = All-nil (λ c. nat_lt c.id (2 ^ 32) ≡ true → P c)
 of-originals P (x ∷ xs) h = by_test (of-originals P xs) (nat_lt x.id (2 ^ 32)) refl h
   where

@@ -9,7 +9,7 @@ use Rattle.std.proofs.lemmas.List.Sums.{fold_push, fold-append, sum_by-append, s
 use Rattle.mal_base.specs.declared.verdict.Verdict.TheVariants.{Satisfiable}
 use Rattle.mal_revision.specs.Posted.{Posted, is_posted}
 use Rattle.spec_logic.specs.Logic.{satisfies, satisfies_clause, satisfies_with, is_true_in}
-use Rattle.mal_base.specs.Held.{Held}
+use Rattle.mal_base.specs.NumberedClause.{NumberedClause}
 use Rattle.mal_base.specs.Literals.{literal}
 use Rattle.spec_node.specs.State.{Node, fresh}
 use Rattle.spec_node.specs.Load.{counted, loaded, numbered}
@@ -26,7 +26,7 @@ use Rattle.spec_search.specs.Laws.{Leaves}
 use Rattle.spec_search.proofs.SoundLemmas.{slice-sound}
 use Rattle.spec_search.proofs.ModelLemmas.{slice-keeps_model, slice-leaves}
 use Rattle.spec_job.specs.Journal.{JournalEntry, Load, Import, after_entry, is_load, loads_in, loads_of}
-use Rattle.spec_job.specs.Solo.{clauses_in}
+use Rattle.spec_job.specs.SoloMachine.{clauses_in}
 use Rattle.spec_job.specs.Models.{clauses_of}
 pub use Rattle.spec_job.specs.Models.{variables_of}
 
@@ -100,7 +100,7 @@ slice-loaded ps n h =
     record { sound = slice-sound n h.sound; variables = k.variables ∙ h.variables; model = slice-keeps_model n h.sound h.model; held = k.originals ∙ h.held; assumed = k.assumptions ∙ h.assumed }
 
 -- what satisfies the clauses held satisfies the originals among them
-originals-satisfied : (a : List Bool) (cs : List Held) → satisfies a (formula_of cs) ≡ true → satisfies a (formula_of (originals cs)) ≡ true
+originals-satisfied : (a : List Bool) (cs : List NumberedClause) → satisfies a (formula_of cs) ≡ true → satisfies a (formula_of (originals cs)) ≡ true
 originals-satisfied a [] e = refl
 originals-satisfied a (c ∷ cs) e =
     let parts = and_parts (satisfies_clause a (Some c.lits)) (satisfies a (formula_of cs)) e in
@@ -118,7 +118,7 @@ counted-length first (suc n) = ap suc (counted-length (first + 1) n)
 pub loaded-solves : (ps : List Posted) (n : Node) → HasLoaded ps n → n.verdict ≡ Some Satisfiable → Solves ps (model_of n)
 loaded-solves ps n h v =
     let model : IsModel (model_of n) n.clauses n.assumptions = h.model v in
-    let held : satisfies (model_of n) (formula_of (numbered 1 (clauses_of ps))) ≡ true = subst (λ (cs : List Held). satisfies (model_of n) (formula_of cs) ≡ true) h.held (originals-satisfied (model_of n) n.clauses model.satisfied) in
+    let held : satisfies (model_of n) (formula_of (numbered 1 (clauses_of ps))) ≡ true = subst (λ (cs : List NumberedClause). satisfies (model_of n) (formula_of cs) ≡ true) h.held (originals-satisfied (model_of n) n.clauses model.satisfied) in
     record {
       solves = and_from _ _ (sym (numbers-mean_same.by_number (model_of n) 1 (clauses_of ps)) ∙ held) (subst (λ (xs : List ℕ). list_all (is_true_in (model_of n)) xs ≡ true) h.assumed model.assumed);
       whole = length-map (counted 1 n.variables) (λ v. is_true n.trail (literal v true)) ∙ (counted-length 1 n.variables ∙ h.variables);
@@ -147,7 +147,7 @@ loads_in-loads first (r ∷ rs) =
     omega arith
 
 -- imports load nothing
-pub loads_in-imports : (tolds : List (List Held)) → loads_in (map Import tolds) ≡ 0
+pub loads_in-imports : (tolds : List (List NumberedClause)) → loads_in (map Import tolds) ≡ 0
 loads_in-imports [] = refl
 loads_in-imports (t ∷ ts) =
     let here : loads_in (Import t ∷ map Import ts) ≡ 0 + loads_in (map Import ts) = sum_by-cons (λ (e : JournalEntry). cond (is_load e) 1 0) (Import t) (map Import ts) in

@@ -4,7 +4,7 @@ use Rattle.std.specs.Prelude.{All}
 use Rattle.std.proofs.lemmas.List.{take-append-drop}
 use Rattle.std.proofs.lemmas.List.Elements.{All-weaker}
 use Rattle.mal_base.specs.Clauses.{rises}
-use Rattle.mal_base.specs.Held.{Held, Line}
+use Rattle.mal_base.specs.NumberedClause.{NumberedClause, Line}
 use Rattle.mal_revision.specs.Posted.{Posted}
 use Rattle.spec_node.specs.State.{Node}
 use Rattle.spec_node.proofs.ImportLemmas.{All-with_clause}
@@ -13,7 +13,7 @@ use Rattle.spec_search.specs.Derived.{with_line, with_lines}
 use Rattle.spec_search.proofs.LineLemmas.{lines-held}
 use Rattle.spec_proof.proofs.Among.{Among, contains-from_among, all-from_among}
 use Rattle.spec_job.specs.Journal.{JournalEntry, replay, loads_in}
-use Rattle.spec_job.specs.Solo.{Lease, Solo, place_at, exports_of}
+use Rattle.spec_job.specs.SoloMachine.{Lease, SoloMachine, place_at, exports_of}
 use Rattle.spec_job.specs.Models.{clauses_of}
 use Rattle.spec_job.specs.Provenance.{IsLineOf, IsOwn, IsOutOwn, ClausesAreOwn, RunnableClausesOwn}
 use Rattle.spec_job.proofs.LoadedLemmas.{HasLoaded}
@@ -23,43 +23,43 @@ use Rattle.spec_job.proofs.ImportingLemmas.{IsSaid, clause_of}
 use Rattle.spec_job.proofs.ExportLemmas.{exports-lines}
 use Rattle.spec_job.proofs.DerivingLemmas.{IsRunning}
 use Rattle.spec_job.proofs.FinishingLemmas.{out-low}
-use Rattle.spec_job.proofs.KeptLemmas.{IsKept, runnable-kept, kept-log}
+use Rattle.spec_job.proofs.KeptLemmas.{MachineInvariant, runnable-kept, kept-log}
 
-line-of : (log : List Line) (c : Held) → IsOfLine log c → IsLineOf log c
+line-of : (log : List Line) (c : NumberedClause) → IsOfLine log c → IsLineOf log c
 line-of log c (line, m, i, l) = (line, contains-from_among log line m, i, l)
 
-known-own : (s : Solo) (c : Held) → IsKnown (clauses_of s.revisions) s.log c → IsOwn s c
+known-own : (s : SoloMachine) (c : NumberedClause) → IsKnown (clauses_of s.revisions) s.log c → IsOwn s c
 known-own s c (inl e) = inl e
 known-own s c (inr k) = inr (line-of s.log c k)
 
 -- a node that has loaded the first revisions, of which the log knows, holds the job's own clauses
-node-own : (s : Solo) (i k : ℕ) (n : Node) → HasLoaded (take k s.revisions) n → IsLogged s.log i n → All (IsOwn s) n.clauses
+node-own : (s : SoloMachine) (i k : ℕ) (n : Node) → HasLoaded (take k s.revisions) n → IsLogged s.log i n → All (IsOwn s) n.clauses
 node-own s i k n loaded logged =
     let known : All (IsKnown (clauses_of (take k s.revisions ++ drop k s.revisions)) s.log) n.clauses = node-known (take k s.revisions) (drop k s.revisions) s.log i n loaded.held logged in
     All-weaker (IsKnown (clauses_of s.revisions) s.log) (IsOwn s) (known-own s) n.clauses (subst (λ (ps : List Posted). All (IsKnown (clauses_of ps) s.log) n.clauses) (take-append-drop k s.revisions) known)
 
 -- what holds of all clauses held and of those of lines holds of them together
-All-with_lines : (P : Held → Type 0) (lines : List Line) (cs : List Held) → ((line : Line) → Among line lines → P (clause_of line)) → All P cs → All P (with_lines cs lines)
+All-with_lines : (P : NumberedClause → Type 0) (lines : List Line) (cs : List NumberedClause) → ((line : Line) → Among line lines → P (clause_of line)) → All P cs → All P (with_lines cs lines)
 All-with_lines P [] cs f h = h
 All-with_lines P (l ∷ ls) cs f h = All-with_lines P ls (with_line cs l) (λ line m. f line (inr m)) (All-with_clause P (clause_of l) cs (f l (inl refl)) h)
 
 -- after a slice the new lines are held besides
-sliced-own : (s : Solo) (n : Node) → All (IsOwn s) n.clauses → All (λ c. IsOwn s c ⊎ IsLineOf (slice n).lines c) (slice n).node.clauses
+sliced-own : (s : SoloMachine) (n : Node) → All (IsOwn s) n.clauses → All (λ c. IsOwn s c ⊎ IsLineOf (slice n).lines c) (slice n).node.clauses
 sliced-own s n h =
     let all : All (λ c. IsOwn s c ⊎ IsLineOf (slice n).lines c) (with_lines n.clauses (slice n).lines) = All-with_lines (λ c. IsOwn s c ⊎ IsLineOf (slice n).lines c) (slice n).lines n.clauses (λ line m. inr (line, contains-from_among (slice n).lines line m, refl, refl)) (All-weaker (IsOwn s) (λ c. IsOwn s c ⊎ IsLineOf (slice n).lines c) (λ c k. inl k) n.clauses h) in
-    subst (λ (cs : List Held). All (λ (c : Held). IsOwn s c ⊎ IsLineOf (slice n).lines c) cs) (sym (lines-held n)) all
+    subst (λ (cs : List NumberedClause). All (λ (c : NumberedClause). IsOwn s c ⊎ IsLineOf (slice n).lines c) cs) (sym (lines-held n)) all
 
-running-own : (s : Solo) (i : ℕ) (entries : List JournalEntry) (l : Lease) → IsRunning s.revisions s.log i entries l → IsOutOwn s i entries l
+running-own : (s : SoloMachine) (i : ℕ) (entries : List JournalEntry) (l : Lease) → IsRunning s.revisions s.log i entries l → IsOutOwn s i entries l
 running-own s i entries l r =
     let own : All (IsOwn s) r.node.clauses = node-own s i (l.revision + 1) r.node r.ready r.logged in
     record {
       before = r.before;
       adds = r.adds;
       handed = subst (λ (n : Node). All (IsOwn s) n.clauses) r.is own;
-      ran = subst (λ (x : Sliced). All (λ (c : Held). IsOwn s c ⊎ IsLineOf x.lines c) x.node.clauses) (sym r.runs) (sliced-own s r.node own);
+      ran = subst (λ (x : Sliced). All (λ (c : NumberedClause). IsOwn s c ⊎ IsLineOf x.lines c) x.node.clauses) (sym r.runs) (sliced-own s r.node own);
     }
 
-kept-own : (s : Solo) → IsKept s → ClausesAreOwn s
+kept-own : (s : SoloMachine) → MachineInvariant s → ClausesAreOwn s
 kept-own s h = record {
   home = λ i few. node-own s i (loads_in (place_at s i).entries) (replay i (place_at s i).entries).node (h.solving.ready i few).node (h.derives.tracked i few).logged;
   out = λ i l e. running-own s i (place_at s i).entries l ((h.derives.tracked i (out-low s i l e h.solving)).running l e);

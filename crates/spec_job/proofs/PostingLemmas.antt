@@ -7,7 +7,7 @@ use Rattle.std.proofs.lemmas.Option.{slice_get_within}
 use Rattle.mal_base.specs.declared.answer.Answer.{Answer}
 use Rattle.mal_base.specs.declared.answer.Answer.TheVariants.{Satisfied, Refuted}
 use Rattle.mal_revision.specs.Posted.{Posted}
-use Rattle.spec_job.specs.Solo.{Revised, Started, Lease, Place, vacant, Solo, solo_step, place_at, clauses_in, startable, first_empty, settled_by, exchanged}
+use Rattle.spec_job.specs.SoloMachine.{Revised, Started, Lease, NodeSlot, vacant, SoloMachine, solo_step, place_at, clauses_in, startable, first_empty, settled_by, exchanged}
 use Rattle.spec_job.specs.Runnable.{MayCome}
 use Rattle.spec_job.proofs.LoadedLemmas.{IsLoadable, Solves, clauses_in-push}
 use Rattle.spec_job.proofs.ElementLemmas.{get-push, get-repeated}
@@ -15,7 +15,7 @@ use Rattle.spec_job.proofs.PlacesLemmas.{marked-length, all-marked}
 use Rattle.spec_job.proofs.SolvingLemmas.{IsLeased, IsReady, IsSolving, IsSolvingSolo, ready-later, ready-revised, placed-solving, lease_of, MayLease}
 
 -- the current revision is answered, where a satisfiable answer carries a model of it
-pub answered-solving : (revisions : List Posted) (answers : List Answer) (places : List Place) (a : Answer) → length answers < length revisions → ((model : List Bool) → a ≡ Satisfied model → Solves (take (length answers + 1) revisions) model) → IsSolving revisions answers places → IsSolving revisions (answers ++ a ∷ []) places
+pub answered-solving : (revisions : List Posted) (answers : List Answer) (places : List NodeSlot) (a : Answer) → length answers < length revisions → ((model : List Bool) → a ≡ Satisfied model → Solves (take (length answers + 1) revisions) model) → IsSolving revisions answers places → IsSolving revisions (answers ++ a ∷ []) places
 answered-solving revisions answers places a live good h =
     let more : length (answers ++ a ∷ []) ≡ length answers + 1 = length-append answers (a ∷ []) in
     record {
@@ -32,7 +32,7 @@ answered-solving revisions answers places a live good h =
     by_place r model (inr k) = h.solved r model k
 
 -- an empty clause answers each revision that has no answer
-pub settled-solving : (o : Option ℕ) (s : Solo) → IsSolvingSolo s → IsSolvingSolo (settled_by o s)
+pub settled-solving : (o : Option ℕ) (s : SoloMachine) → IsSolvingSolo s → IsSolvingSolo (settled_by o s)
 settled-solving None s h = h
 settled-solving (Some goal) s h =
     let more : ℕ = length s.revisions - length s.answers in
@@ -53,7 +53,7 @@ settled-solving (Some goal) s h =
     by_place r model (inr k) = h.solved r model k
 
 -- a further revision that may come
-pub posted-solving : (s : Solo) (r : Posted) → MayCome s r → IsSolvingSolo s → IsSolvingSolo (record s { revisions = s.revisions ++ r ∷ [] })
+pub posted-solving : (s : SoloMachine) (r : Posted) → MayCome s r → IsSolvingSolo s → IsSolvingSolo (record s { revisions = s.revisions ++ r ∷ [] })
 posted-solving s r may h =
     let push : clauses_in (s.revisions ++ r ∷ []) ≡ clauses_in s.revisions + length r.clauses = clauses_in-push s.revisions r in
     let more : length (s.revisions ++ r ∷ []) ≡ length s.revisions + 1 = length-append s.revisions (r ∷ []) in
@@ -71,12 +71,12 @@ posted-solving s r may h =
     }
 
 -- and what an empty clause answers then
-pub revised-solving : (s : Solo) (r : Posted) → MayCome s r → IsSolvingSolo s → IsSolvingSolo (solo_step s (Revised r))
+pub revised-solving : (s : SoloMachine) (r : Posted) → MayCome s r → IsSolvingSolo s → IsSolvingSolo (solo_step s (Revised r))
 revised-solving s r may h = settled-solving (first_empty s.log) (record s { revisions = s.revisions ++ r ∷ [] }) (posted-solving s r may h)
 
-pub started-solving : (s : Solo) (i : ℕ) → startable s i ≡ true → MayLease s → IsSolvingSolo s → IsSolvingSolo (solo_step s (Started i))
+pub started-solving : (s : SoloMachine) (i : ℕ) → startable s i ≡ true → MayLease s → IsSolvingSolo s → IsSolvingSolo (solo_step s (Started i))
 started-solving s i may leases h =
-    let p : Place = place_at s i in
+    let p : NodeSlot = place_at s i in
     placed-solving s.revisions s.answers s.places i (record p { out = Some (lease_of s i); starts = p.starts + 1 }) (λ low.
     let ready : IsReady s.revisions (length s.answers) i p = h.ready i low in
     record {
@@ -87,15 +87,15 @@ started-solving s i may leases h =
     }) h
 
 -- an exchange moves marks alone
-ready-marked : (revisions : List Posted) (c i m : ℕ) (p : Place) → IsReady revisions c i p → IsReady revisions c i (record p { mark = m })
+ready-marked : (revisions : List Posted) (c i m : ℕ) (p : NodeSlot) → IsReady revisions c i p → IsReady revisions c i (record p { mark = m })
 ready-marked revisions c i m p h = record { early = h.early; posted = h.posted; node = h.node; leased = h.leased }
 
-pub exchanged-solving : (s : Solo) → IsSolvingSolo s → IsSolvingSolo (exchanged s)
+pub exchanged-solving : (s : SoloMachine) → IsSolvingSolo s → IsSolvingSolo (exchanged s)
 exchanged-solving s h = record {
   loadable = h.loadable;
   room = h.room;
   order = h.order;
   count = subst (λ (n : ℕ). n ≤ 64) (sym (marked-length s.volume (length s.log) 0 s.places)) h.count;
-  ready = all-marked (λ (i : ℕ) (p : Place). IsReady s.revisions (length s.answers) i p) (ready-marked s.revisions (length s.answers)) s.volume (length s.log) s.places h.ready;
+  ready = all-marked (λ (i : ℕ) (p : NodeSlot). IsReady s.revisions (length s.answers) i p) (ready-marked s.revisions (length s.answers)) s.volume (length s.log) s.places h.ready;
   solved = h.solved;
 }

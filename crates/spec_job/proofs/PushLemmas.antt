@@ -1,7 +1,7 @@
 -- One more event of a job's own.
 use Rattle.std.proofs.Common.{◌≡◌, List, [], ◌∷◌, ◌++◌, sym, subst, append_assoc, append-nil}
 use Rattle.std.proofs.lemmas.List.Sums.{fold_push}
-use Rattle.spec_job.specs.Solo.{Own, unopened, solo, solo_step}
+use Rattle.spec_job.specs.SoloMachine.{Own, unopened, solo, solo_step}
 use Rattle.spec_job.specs.Runnable.{MayHappen, IsRunnable}
 use Rattle.spec_job.proofs.CourseLemmas.{next}
 

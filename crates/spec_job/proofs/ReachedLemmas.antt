@@ -6,7 +6,7 @@ use Rattle.std.specs.Option.{option_map, option_map_or}
 use Rattle.std.proofs.lemmas.Bool.{eqb-true, eq-eqb, ne_eqb, and_parts, and_from, or_cases, or_left, or_right}
 use Rattle.std.proofs.lemmas.List.Elements.{All-nil, All-cons}
 use Rattle.std.proofs.lemmas.List.Sorted.{IsPermutation-append_comm}
-use Rattle.mal_base.specs.Held.{Line}
+use Rattle.mal_base.specs.NumberedClause.{Line}
 use Rattle.mal_base.specs.Literals.{negated}
 use Rattle.mal_base.proofs.Sorting.{Contains-head, Contains-later, Contains-cases}
 use Rattle.spec_logic.specs.Refutation.{contradicts}
@@ -16,7 +16,7 @@ use Rattle.spec_proof.proofs.Among.{Among, among-append, of-all}
 use Rattle.spec_proof.proofs.Reaching.{sorted-among, among-sorted, sorted-rising, reached-among}
 use Rattle.spec_proof.proofs.OrderLemmas.{apart-permuted, rising-same}
 use Rattle.spec_job.specs.Proofs.{lits_at}
-use Rattle.spec_job.specs.Solo.{first_empty}
+use Rattle.spec_job.specs.SoloMachine.{first_empty}
 
 -- one of the lines has this number
 abbrev pub HasNumber : List Line → ℕ → Type 0

@@ -3,7 +3,7 @@ use Rattle.std.proofs.Common.{◌≡◌, ℕ, suc, ◌+◌, ◌<◌, ◌≤◌, 
 use Rattle.std.specs.Prelude.{All, slice_get}
 use Rattle.std.proofs.lemmas.List.{map-append}
 use Rattle.std.proofs.lemmas.Option.{slice_get_within}
-use Rattle.mal_base.specs.Held.{Line}
+use Rattle.mal_base.specs.NumberedClause.{Line}
 use Rattle.mal_base.specs.Literals.{negated}
 use Rattle.mal_base.specs.declared.answer.Answer.TheVariants.{Refuted}
 use Rattle.mal_revision.specs.Posted.{Posted}
@@ -15,7 +15,7 @@ use Rattle.spec_proof.proofs.LogLemmas.{log-orderly}
 use Rattle.spec_proof.proofs.Reaching.{goal-is-last}
 use Rattle.spec_proof.proofs.Refuting.{trimmed-refutes}
 use Rattle.spec_proof.specs.Log.{IsAbove}
-use Rattle.spec_job.specs.Solo.{Solo, solo}
+use Rattle.spec_job.specs.SoloMachine.{SoloMachine, solo}
 use Rattle.spec_job.specs.Models.{clauses_of, clauses_through}
 use Rattle.spec_job.specs.Proofs.{lits_at, failed, proof_lines, RefutesRevision}
 use Rattle.spec_job.specs.Runnable.{RunnableAnswersFollow, RunnableAnswersRefute, RunnableAnswersSolve, RunnableLogsDerived}
@@ -23,7 +23,7 @@ use Rattle.spec_job.proofs.LoadedLemmas.{last_assumed, last-at}
 use Rattle.spec_job.proofs.SolvedLemmas.{solving-answers}
 use Rattle.spec_job.proofs.ReachedLemmas.{among-left, among-right, reached-stays, lits-found, contradicts-own, contradicts-members}
 use Rattle.spec_job.proofs.DerivingLemmas.{IsRefuted}
-use Rattle.spec_job.proofs.KeptLemmas.{IsKept, runnable-kept, kept-log, runnable-solving}
+use Rattle.spec_job.proofs.KeptLemmas.{MachineInvariant, runnable-kept, kept-log, runnable-solving}
 
 pub runnable-logs_derived : RunnableLogsDerived
 runnable-logs_derived events may = kept-log (solo events) (runnable-kept events may)
@@ -35,7 +35,7 @@ renumbered-last m lines front line lits e f =
     (map (renamed name) front, renamed name line, ap (λ (ls : List Line). map (renamed name) ls) e ∙ map-append (renamed name) front (line ∷ []), f)
 
 -- an answer that refutes a revision has a proof
-module _ (s : Solo) (h : IsKept s) (r goal : ℕ) (e : slice_get s.answers r ≡ Some (Refuted goal)) where
+module _ (s : SoloMachine) (h : MachineInvariant s) (r goal : ℕ) (e : slice_get s.answers r ≡ Some (Refuted goal)) where
   found : IsRefuted (take (r + 1) s.revisions) s.log goal
   found = h.derives.refuted r goal e
 

@@ -4,7 +4,7 @@ use Rattle.std.specs.Prelude.{All, slice_get}
 use Rattle.std.specs.Option.{option_map}
 use Rattle.std.proofs.lemmas.List.{take-append-le}
 use Rattle.std.proofs.lemmas.Option.{slice_get_within}
-use Rattle.mal_base.specs.Held.{Line}
+use Rattle.mal_base.specs.NumberedClause.{Line}
 use Rattle.mal_base.specs.Literals.{negated}
 use Rattle.mal_base.specs.declared.answer.Answer.{Answer}
 use Rattle.mal_base.specs.declared.answer.Answer.TheVariants.{Satisfied, Refuted, Spent, OutOfStarts}
@@ -14,15 +14,15 @@ use Rattle.spec_proof.specs.Trimmed.{reached, renumbered}
 use Rattle.spec_proof.proofs.Among.{Among, of-all, all-from_among}
 use Rattle.spec_proof.proofs.LogLemmas.{log-orderly}
 use Rattle.spec_report.specs.Replies.{Proof, reply_text}
-use Rattle.spec_job.specs.Solo.{Solo}
+use Rattle.spec_job.specs.SoloMachine.{SoloMachine}
 use Rattle.spec_job.specs.Models.{clauses_of}
 use Rattle.spec_job.specs.Proofs.{lits_at}
-use Rattle.spec_job.specs.Titled.{Key}
+use Rattle.spec_job.specs.KeyedJob.{Key}
 use Rattle.spec_job.specs.Replies.{told_by, reply}
 use Rattle.spec_job.specs.DemandOne.{Agree}
 use Rattle.spec_job.proofs.ReachedLemmas.{among-left, among-right, reached-stays, lits-found}
 use Rattle.spec_job.proofs.DerivingLemmas.{IsRefuted}
-use Rattle.spec_job.proofs.KeptLemmas.{IsKept, kept-log}
+use Rattle.spec_job.proofs.KeptLemmas.{MachineInvariant, kept-log}
 use Rattle.spec_job.proofs.AgreeLemmas.{IsFront}
 
 -- a goal has the same literals in two logs, and needs the same lines
@@ -34,7 +34,7 @@ same-back : (goal : ℕ) (xs ys : List Line) → MeansSame goal xs ys → MeansS
 same-back goal xs ys h = record { lits = sym h.lits; lines = sym h.lines }
 
 -- a goal of an answer means the same in a longer log
-goal-stays : (s : Solo) (r goal : ℕ) (lines : List Line) → IsKept s → IsOrderly (s.log ++ lines) → slice_get s.answers r ≡ Some (Refuted goal) → MeansSame goal s.log (s.log ++ lines)
+goal-stays : (s : SoloMachine) (r goal : ℕ) (lines : List Line) → MachineInvariant s → IsOrderly (s.log ++ lines) → slice_get s.answers r ≡ Some (Refuted goal) → MeansSame goal s.log (s.log ++ lines)
 goal-stays s r goal lines h orderly e = record {
   lits = lits-found s.log before.apart goal found.line in-log found.number ∙ sym (lits-found (s.log ++ lines) orderly.apart goal found.line (among-left s.log lines found.line in-log) found.number);
   lines = sym (reached-stays goal s.log lines orderly.apart above h.derives.closed found.line in-log found.number);
@@ -52,13 +52,13 @@ goal-stays s r goal lines h orderly e = record {
     above : All IsAbove lines
     above = all-from_among IsAbove lines (λ l m. of-all IsAbove (s.log ++ lines) l orderly.above (among-right s.log lines l m))
 
-orderly-kept : (s : Solo) → IsKept s → IsOrderly s.log
+orderly-kept : (s : SoloMachine) → MachineInvariant s → IsOrderly s.log
 orderly-kept s h = log-orderly (clauses_of s.revisions) s.log (kept-log s h)
 
-goal-front : (s t : Solo) (r goal : ℕ) → IsKept s → IsKept t → IsFront s.log t.log → slice_get s.answers r ≡ Some (Refuted goal) → MeansSame goal s.log t.log
+goal-front : (s t : SoloMachine) (r goal : ℕ) → MachineInvariant s → MachineInvariant t → IsFront s.log t.log → slice_get s.answers r ≡ Some (Refuted goal) → MeansSame goal s.log t.log
 goal-front s t r goal h k (lines, is) e = subst (λ (ls : List Line). MeansSame goal s.log ls) (sym is) (goal-stays s r goal lines h (subst (λ (ls : List Line). IsOrderly ls) is (orderly-kept t k)) e)
 
-goal-same : (s t : Solo) (r goal : ℕ) → IsKept s → IsKept t → IsFront s.log t.log ⊎ IsFront t.log s.log → slice_get s.answers r ≡ Some (Refuted goal) → slice_get t.answers r ≡ Some (Refuted goal) → MeansSame goal s.log t.log
+goal-same : (s t : SoloMachine) (r goal : ℕ) → MachineInvariant s → MachineInvariant t → IsFront s.log t.log ⊎ IsFront t.log s.log → slice_get s.answers r ≡ Some (Refuted goal) → slice_get t.answers r ≡ Some (Refuted goal) → MeansSame goal s.log t.log
 goal-same s t r goal h k (inl front) e f = goal-front s t r goal h k front e
 goal-same s t r goal h k (inr front) e f = same-back goal t.log s.log (goal-front t s r goal k h front f)
 
@@ -66,7 +66,7 @@ proof-same : (xs ys : List ℕ) (ps rs : List Posted) (ls ms : List Line) → xs
 proof-same xs ys ps rs ls ms a b c = rw (a, b, c) refl
 
 -- what is told of one answer
-pub told-same : (s t : Solo) (r : ℕ) (x : Answer) → IsKept s → IsKept t → IsFront s.log t.log ⊎ IsFront t.log s.log → take (r + 1) s.revisions ≡ take (r + 1) t.revisions → slice_get s.answers r ≡ Some x → slice_get t.answers r ≡ Some x → told_by s r x ≡ told_by t r x
+pub told-same : (s t : SoloMachine) (r : ℕ) (x : Answer) → MachineInvariant s → MachineInvariant t → IsFront s.log t.log ⊎ IsFront t.log s.log → take (r + 1) s.revisions ≡ take (r + 1) t.revisions → slice_get s.answers r ≡ Some x → slice_get t.answers r ≡ Some x → told_by s r x ≡ told_by t r x
 told-same s t r (Satisfied model) h k logs front e f = refl
 told-same s t r (Refuted goal) h k logs front e f =
     let same : MeansSame goal s.log t.log = goal-same s t r goal h k logs e f in
@@ -75,17 +75,17 @@ told-same s t r (Spent n) h k logs front e f = refl
 told-same s t r OutOfStarts h k logs front e f = refl
 
 -- a reply tells of an answer
-pub reply-at : (k : Key) (s : Solo) (r : ℕ) (a : List ℕ) → reply k (suc r) s ≡ Some a → (x : Answer) × (slice_get s.answers r ≡ Some x) × (reply_text k.tenant k.job (suc r) (told_by s r x) ≡ a)
+pub reply-at : (k : Key) (s : SoloMachine) (r : ℕ) (a : List ℕ) → reply k (suc r) s ≡ Some a → (x : Answer) × (slice_get s.answers r ≡ Some x) × (reply_text k.tenant k.job (suc r) (told_by s r x) ≡ a)
 reply-at k s r a e = by_answer (slice_get s.answers r) refl e
   where
     by_answer : (o : Option Answer) → slice_get s.answers r ≡ o → option_map (reply_text k.tenant k.job (suc r)) (option_map (told_by s r) o) ≡ Some a → (x : Answer) × (slice_get s.answers r ≡ Some x) × (reply_text k.tenant k.job (suc r) (told_by s r x) ≡ a)
     by_answer None q f = absurd (cc)
     by_answer (Some x) q f = (x, q, cc)
 
-front-same : (s t : Solo) (r : ℕ) (more : List Posted) → t.revisions ≡ s.revisions ++ more → r < length s.revisions → take (r + 1) s.revisions ≡ take (r + 1) t.revisions
+front-same : (s t : SoloMachine) (r : ℕ) (more : List Posted) → t.revisions ≡ s.revisions ++ more → r < length s.revisions → take (r + 1) s.revisions ≡ take (r + 1) t.revisions
 front-same s t r more e low = sym (ap (λ (rs : List Posted). take (r + 1) rs) e ∙ take-append-le (r + 1) s.revisions more (omega arith))
 
-pub replies-agree : (s t : Solo) (more : List Posted) → t.revisions ≡ s.revisions ++ more → IsKept s → IsKept t → IsFront s.log t.log ⊎ IsFront t.log s.log → Agree s.answers t.answers → (k : Key) (r : ℕ) (a b : List ℕ) → reply k r s ≡ Some a → reply k r t ≡ Some b → a ≡ b
+pub replies-agree : (s t : SoloMachine) (more : List Posted) → t.revisions ≡ s.revisions ++ more → MachineInvariant s → MachineInvariant t → IsFront s.log t.log ⊎ IsFront t.log s.log → Agree s.answers t.answers → (k : Key) (r : ℕ) (a b : List ℕ) → reply k r s ≡ Some a → reply k r t ≡ Some b → a ≡ b
 replies-agree s t more front h k logs agree key zero a b e f = absurd (cc)
 replies-agree s t more front h k logs agree key (suc r) a b e f = by_answers (reply-at key s r a e) (reply-at key t r b f)
   where

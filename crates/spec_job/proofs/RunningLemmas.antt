@@ -5,7 +5,7 @@ use Rattle.std.proofs.lemmas.Bool.{cases_Bool, eqb-true, eqb-false}
 use Rattle.std.proofs.lemmas.List.{length-take, length-drop}
 use Rattle.std.proofs.lemmas.List.Elements.{All-nil, All-cons, All-append, All-weaker, All-take, All-drop}
 use Rattle.std.proofs.lemmas.List.Sums.{fold_push, fold-append, sum_by-take-le}
-use Rattle.mal_base.specs.Held.{Held, Line}
+use Rattle.mal_base.specs.NumberedClause.{NumberedClause, Line}
 use Rattle.mal_revision.specs.Posted.{Posted}
 use Rattle.spec_node.specs.State.{Node, fresh}
 use Rattle.spec_search.specs.Slice.{Sliced, slice}
@@ -17,7 +17,7 @@ use Rattle.spec_proof.specs.Log.{IsOrderly}
 use Rattle.spec_proof.proofs.Among.{Among}
 use Rattle.spec_proof.proofs.LogLemmas.{log-orderly}
 use Rattle.spec_job.specs.Journal.{JournalEntry, Import, Run, after_entry, replay, loads_in, loads_of, imports_in}
-use Rattle.spec_job.specs.Solo.{Started, Lease, Place, vacant, Solo, solo_step, place_at, clauses_in, startable, finished_home, missing_loads, exports_from, exchanged}
+use Rattle.spec_job.specs.SoloMachine.{Started, Lease, NodeSlot, vacant, SoloMachine, solo_step, place_at, clauses_in, startable, finished_home, missing_loads, exports_from, exchanged}
 use Rattle.spec_job.specs.Models.{clauses_of, variables_of}
 use Rattle.spec_job.proofs.LoadedLemmas.{IsLoadable, HasLoaded, clauses_in-append, slice-loaded, loads-loaded}
 use Rattle.spec_job.proofs.PlacesLemmas.{all-marked, set-place, out-within, set-here}
@@ -30,13 +30,13 @@ use Rattle.spec_job.proofs.WithinLemmas.{within-slice, said-later}
 use Rattle.spec_job.proofs.DerivingLemmas.{IsRunning, IsTracked, IsDeriving, IsDerivingSolo, AreCalm, refuted-later, placed-deriving}
 
 -- what a machine's log has that may be told to a node that has loaded the current revision
-pub tellable : (s : Solo) → IsDerivingSolo s → IsTellable (variables_of (take (length s.answers + 1) s.revisions)) s.log
+pub tellable : (s : SoloMachine) → IsDerivingSolo s → IsTellable (variables_of (take (length s.answers + 1) s.revisions)) s.log
 tellable s h =
     let orderly : IsOrderly s.log = log-orderly (clauses_of (take (length s.answers + 1) s.revisions)) s.log h.derived in
     record { apart = orderly.apart; above = orderly.above; within = h.within }
 
 -- the missing loads prepare a node for the current revision
-pub loads-prepared : (revisions : List Posted) (log : List Line) (c i : ℕ) (p : Place) → All IsLoadable revisions → clauses_in revisions < 2 ^ 32 → IsReady revisions c i p → IsLogged log i (replay i p.entries).node → (loads_in p.entries ≡ c + 1 → (replay i p.entries).node.verdict ≡ None) → c < length revisions → IsPrepared (take (c + 1) revisions) log i (fold after_entry (replay i p.entries) (loads_of (clauses_in (take (loads_in p.entries) revisions) + 1) (take (c + 1 - loads_in p.entries) (drop (loads_in p.entries) revisions)))).node
+pub loads-prepared : (revisions : List Posted) (log : List Line) (c i : ℕ) (p : NodeSlot) → All IsLoadable revisions → clauses_in revisions < 2 ^ 32 → IsReady revisions c i p → IsLogged log i (replay i p.entries).node → (loads_in p.entries ≡ c + 1 → (replay i p.entries).node.verdict ≡ None) → c < length revisions → IsPrepared (take (c + 1) revisions) log i (fold after_entry (replay i p.entries) (loads_of (clauses_in (take (loads_in p.entries) revisions) + 1) (take (c + 1 - loads_in p.entries) (drop (loads_in p.entries) revisions)))).node
 loads-prepared revisions log c i p may room h logged calm live =
     let n : ℕ = loads_in p.entries in
     let m : ℕ = c + 1 - n in
@@ -57,7 +57,7 @@ loads-prepared revisions log c i p may room h logged calm live =
     }
 
 -- a start runs a slice of the node that has loaded the current revision and imported what it lacks
-pub start-running : (s : Solo) (i : ℕ) → i ≤ 63 → length s.answers < length s.revisions → IsSolvingSolo s → AreCalm (length s.answers) s.places → IsDerivingSolo s → IsRunning s.revisions s.log i (place_at s i).entries (lease_of s i)
+pub start-running : (s : SoloMachine) (i : ℕ) → i ≤ 63 → length s.answers < length s.revisions → IsSolvingSolo s → AreCalm (length s.answers) s.places → IsDerivingSolo s → IsRunning s.revisions s.log i (place_at s i).entries (lease_of s i)
 start-running s i low live k calm h = record {
   node = prepared;
   runs = fold-append after_entry start p.entries (loads ++ (map Import tolds ++ Run ∷ [])) ∙ (fold-append after_entry (replay i p.entries) loads (map Import tolds ++ Run ∷ []) ∙ fold_push after_entry (fold after_entry (replay i p.entries) loads) (map Import tolds) Run);
@@ -69,7 +69,7 @@ start-running s i low live k calm h = record {
   calm = is.calm;
 }
   where
-    p : Place
+    p : NodeSlot
     p = place_at s i
 
     start : Sliced
@@ -78,7 +78,7 @@ start-running s i low live k calm h = record {
     loads : List JournalEntry
     loads = missing_loads s p
 
-    tolds : List (List Held)
+    tolds : List (List NumberedClause)
     tolds = drop (imports_in p.entries) s.broadcasts
 
     prepared : Node
@@ -88,7 +88,7 @@ start-running s i low live k calm h = record {
     is = imports-prepared tolds (take (length s.answers + 1) s.revisions) s.log i (fold after_entry (replay i p.entries) loads) (tellable s h) (All-drop (IsSaid s.log) (imports_in p.entries) s.broadcasts h.said) (loads-prepared s.revisions s.log (length s.answers) i p k.loadable k.room (k.ready i low) (h.tracked i low).logged (calm i low) live)
 
 -- so it brings its node to the current revision
-pub may-lease : (s : Solo) → IsSolvingSolo s → AreCalm (length s.answers) s.places → IsDerivingSolo s → MayLease s
+pub may-lease : (s : SoloMachine) → IsSolvingSolo s → AreCalm (length s.answers) s.places → IsDerivingSolo s → MayLease s
 may-lease s k calm h i may low =
     let live : length s.answers < length s.revisions = live-parts s i may in
     let run : IsRunning s.revisions s.log i (place_at s i).entries (lease_of s i) = start-running s i low live k calm h in
@@ -99,36 +99,36 @@ may-lease s k calm h i may low =
       node = subst (λ (x : Sliced). HasLoaded (take (length s.answers + 1) s.revisions) x.node) (sym run.runs) (slice-loaded (take (length s.answers + 1) s.revisions) run.node run.ready);
     }
 
-pub started-deriving : (s : Solo) (i : ℕ) → startable s i ≡ true → IsSolvingSolo s → AreCalm (length s.answers) s.places → IsDerivingSolo s → IsDerivingSolo (solo_step s (Started i))
+pub started-deriving : (s : SoloMachine) (i : ℕ) → startable s i ≡ true → IsSolvingSolo s → AreCalm (length s.answers) s.places → IsDerivingSolo s → IsDerivingSolo (solo_step s (Started i))
 started-deriving s i may k calm h =
-    let p : Place = place_at s i in
+    let p : NodeSlot = place_at s i in
     placed-deriving s.revisions s.answers s.places s.log s.broadcasts i (record p { out = Some (lease_of s i); starts = p.starts + 1 }) (λ low. record {
       logged = (h.tracked i low).logged;
       running = λ l e. let same : lease_of s i ≡ l = cc in subst (λ (x : Lease). IsRunning s.revisions s.log i p.entries x) same (start-running s i low (live-parts s i may) k calm h);
     }) h
 
 -- an exchange tells clauses of lines
-tracked-marked : (revisions : List Posted) (log : List Line) (i m : ℕ) (p : Place) → IsTracked revisions log i p → IsTracked revisions log i (record p { mark = m })
+tracked-marked : (revisions : List Posted) (log : List Line) (i m : ℕ) (p : NodeSlot) → IsTracked revisions log i p → IsTracked revisions log i (record p { mark = m })
 tracked-marked revisions log i m p h = record { logged = h.logged; running = h.running }
 
-pub exchanged-deriving : (s : Solo) → IsDerivingSolo s → IsDerivingSolo (exchanged s)
+pub exchanged-deriving : (s : SoloMachine) → IsDerivingSolo s → IsDerivingSolo (exchanged s)
 exchanged-deriving s h = record {
   derived = h.derived;
   closed = h.closed;
-  tracked = all-marked (λ (i : ℕ) (p : Place). IsTracked s.revisions s.log i p) (tracked-marked s.revisions s.log) s.volume (length s.log) s.places h.tracked;
+  tracked = all-marked (λ (i : ℕ) (p : NodeSlot). IsTracked s.revisions s.log i p) (tracked-marked s.revisions s.log) s.volume (length s.log) s.places h.tracked;
   refuted = h.refuted;
   within = h.within;
   said = All-append (IsSaid s.log) s.broadcasts (broadcast (exports_from s.volume s.log 0 s.places) ∷ []) h.said (All-cons (IsSaid s.log) (broadcast (exports_from s.volume s.log 0 s.places)) [] (broadcast-said s.log (exports_from s.volume s.log 0 s.places) (tellable s h).apart (all-exports s.volume s.log 0 s.places)) (All-nil (IsSaid s.log)));
 }
 
 -- a start that comes to nothing
-pub idle-deriving : (s : Solo) (i : ℕ) → IsDerivingSolo s → IsDerivingSolo (finished_home s i (place_at s i))
+pub idle-deriving : (s : SoloMachine) (i : ℕ) → IsDerivingSolo s → IsDerivingSolo (finished_home s i (place_at s i))
 idle-deriving s i h =
-    let p : Place = place_at s i in
+    let p : NodeSlot = place_at s i in
     placed-deriving s.revisions s.answers s.places s.log s.broadcasts i (record p { out = None }) (λ low. record { logged = (h.tracked i low).logged; running = λ l e. absurd (cc) }) h
 
 -- a slice that was run adds its lines
-pub home-deriving : (s : Solo) (i : ℕ) (l : Lease) → (place_at s i).out ≡ Some l → IsSolvingSolo s → IsDerivingSolo s → IsDeriving s.revisions s.answers (slice_set s.places i (record (place_at s i) { entries = (place_at s i).entries ++ l.adds; out = None })) (s.log ++ (replay i ((place_at s i).entries ++ l.adds)).lines) s.broadcasts
+pub home-deriving : (s : SoloMachine) (i : ℕ) (l : Lease) → (place_at s i).out ≡ Some l → IsSolvingSolo s → IsDerivingSolo s → IsDeriving s.revisions s.answers (slice_set s.places i (record (place_at s i) { entries = (place_at s i).entries ++ l.adds; out = None })) (s.log ++ (replay i ((place_at s i).entries ++ l.adds)).lines) s.broadcasts
 home-deriving s i l out k h = subst (λ (x : Sliced). IsDeriving s.revisions s.answers (slice_set s.places i q) (s.log ++ x.lines) s.broadcasts) (sym run.runs) (record {
   derived = covers.derived;
   closed = covers.closed;
@@ -138,10 +138,10 @@ home-deriving s i l out k h = subst (λ (x : Sliced). IsDeriving s.revisions s.a
   said = All-weaker (IsSaid s.log) (IsSaid (s.log ++ (slice run.node).lines)) (said-later s.log (slice run.node).lines) s.broadcasts h.said;
 })
   where
-    p : Place
+    p : NodeSlot
     p = place_at s i
 
-    q : Place
+    q : NodeSlot
     q = record p { entries = p.entries ++ l.adds; out = None }
 
     within : i < length s.places
@@ -177,8 +177,8 @@ home-deriving s i l out k h = subst (λ (x : Sliced). IsDeriving s.revisions s.a
 
     by_other : (j : ℕ) → j ≤ 63 → j ≢ i → ((j ≡ i) × (get_or (slice_set s.places i q) j vacant ≡ q)) ⊎ (get_or (slice_set s.places i q) j vacant ≡ place_at s j) → IsTracked s.revisions (s.log ++ (slice run.node).lines) j (get_or (slice_set s.places i q) j vacant)
     by_other j few other (inl e) = absurd (other e.0)
-    by_other j few other (inr e) = subst (λ (x : Place). IsTracked s.revisions (s.log ++ (slice run.node).lines) j x) (sym e) (later j few other)
+    by_other j few other (inr e) = subst (λ (x : NodeSlot). IsTracked s.revisions (s.log ++ (slice run.node).lines) j x) (sym e) (later j few other)
 
     by_index : (j : ℕ) → j ≤ 63 → (eqb j i ≡ true) ⊎ (eqb j i ≡ false) → IsTracked s.revisions (s.log ++ (slice run.node).lines) j (get_or (slice_set s.places i q) j vacant)
-    by_index j few (inl e) = subst (λ (x : ℕ). IsTracked s.revisions (s.log ++ (slice run.node).lines) x (get_or (slice_set s.places i q) x vacant)) (sym (eqb-true j i e)) (subst (λ (x : Place). IsTracked s.revisions (s.log ++ (slice run.node).lines) i x) (sym (set-here s.places i q within)) own)
+    by_index j few (inl e) = subst (λ (x : ℕ). IsTracked s.revisions (s.log ++ (slice run.node).lines) x (get_or (slice_set s.places i q) x vacant)) (sym (eqb-true j i e)) (subst (λ (x : NodeSlot). IsTracked s.revisions (s.log ++ (slice run.node).lines) i x) (sym (set-here s.places i q within)) own)
     by_index j few (inr e) = by_other j few (eqb-false j i e) (set-place s.places i j q)

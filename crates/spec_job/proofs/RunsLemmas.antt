@@ -8,7 +8,7 @@ use Rattle.mal_base.specs.declared.verdict.Outcome.{Outcome}
 use Rattle.mal_base.specs.declared.verdict.Outcome.TheVariants.{Ran, Starved, Lost}
 use Rattle.spec_search.specs.Slice.{Sliced}
 use Rattle.spec_job.specs.Journal.{replay}
-use Rattle.spec_job.specs.Solo.{Own, Opened, Revised, Closed, Volume, Started, Finished, Exchanged, Lease, Place, Solo, unopened, solo, solo_step, place_at, with_place, starve, conclude, first_empty, is_late, finished_home, finished_lease, finished, exchanged, marked_from}
+use Rattle.spec_job.specs.SoloMachine.{Own, Opened, Revised, Closed, Volume, Started, Finished, Exchanged, Lease, NodeSlot, SoloMachine, unopened, solo, solo_step, place_at, with_place, starve, conclude, first_empty, is_late, finished_home, finished_lease, finished, exchanged, marked_from}
 use Rattle.spec_job.specs.Runnable.{MayHappen, IsRunnable}
 use Rattle.spec_job.specs.Counts.{runs_in, runs_of, starts_out, is_opening, RunsAreFew}
 use Rattle.spec_job.proofs.PlacesLemmas.{out-within}
@@ -16,7 +16,7 @@ use Rattle.spec_job.proofs.SolvingLemmas.{IsSolvingSolo, out-leased}
 use Rattle.spec_job.proofs.SolvedLemmas.{lease-solving, in-time}
 use Rattle.spec_job.proofs.PostingLemmas.{posted-solving}
 use Rattle.mal_revision.specs.Posted.{Posted}
-use Rattle.spec_job.proofs.KeptLemmas.{IsKept, step-kept, unopened-kept}
+use Rattle.spec_job.proofs.KeptLemmas.{MachineInvariant, step-kept, unopened-kept}
 use Rattle.spec_job.proofs.LowLemmas.{IsLowSolo}
 use Rattle.spec_job.proofs.CountLemmas.{runs-marked}
 use Rattle.spec_job.proofs.CountingLemmas.{step-low, unopened-low}
@@ -24,14 +24,14 @@ use Rattle.spec_job.proofs.SumLemmas.{sum-marked}
 use Rattle.spec_job.proofs.FewLemmas.{out_for, one_out, outs_for, next-budget}
 use Rattle.spec_job.proofs.LowLemmas.{adds-run}
 use Rattle.spec_job.proofs.BudgetLemmas.{IsFew, conclude-few, starve-few, settled-few}
-use Rattle.mal_base.specs.Held.{Line}
+use Rattle.mal_base.specs.NumberedClause.{Line}
 use Rattle.spec_job.proofs.TurnLemmas.{started-few, late-few, now-back, now-few}
 
-late-now : (s : Solo) (l : Lease) → is_late s l ≡ true → l.revision < length s.answers
+late-now : (s : SoloMachine) (l : Lease) → is_late s l ≡ true → l.revision < length s.answers
 late-now s l e = ltb-true l.revision (length s.answers) e
 
 -- a start that ended, by its outcome
-module _ (slices i : ℕ) (s : Solo) (l : Lease) (out : (place_at s i).out ≡ Some l) (k : IsSolvingSolo s) (h : IsFew slices s) where
+module _ (slices i : ℕ) (s : SoloMachine) (l : Lease) (out : (place_at s i).out ≡ Some l) (k : IsSolvingSolo s) (h : IsFew slices s) where
   live : length s.answers < length s.revisions ⊎ (l.revision < length s.answers)
   live = by_order (cases_lt l.revision (length s.answers))
     where
@@ -48,7 +48,7 @@ module _ (slices i : ℕ) (s : Solo) (l : Lease) (out : (place_at s i).out ≡ S
   home-few : IsFew slices (finished_home s i (place_at s i))
   home-few = by_late (is_late s l) refl
     where
-      q : Place
+      q : NodeSlot
       q = record (place_at s i) { out = None }
 
       same : runs_in q.entries ≡ runs_in (place_at s i).entries + 0
@@ -61,7 +61,7 @@ module _ (slices i : ℕ) (s : Solo) (l : Lease) (out : (place_at s i).out ≡ S
   starved-few : IsFew slices (finished_lease s i (place_at s i) l Starved)
   starved-few = by_late (is_late s l) refl
     where
-      home : Solo
+      home : SoloMachine
       home = finished_home s i (place_at s i)
 
       same : runs_in (place_at s i).entries ≡ runs_in (place_at s i).entries + 0
@@ -74,7 +74,7 @@ module _ (slices i : ℕ) (s : Solo) (l : Lease) (out : (place_at s i).out ≡ S
   ran-few : runs_in ((place_at s i).entries ++ l.adds) ≡ runs_in (place_at s i).entries + 1 → IsFew slices (finished_lease s i (place_at s i) l Ran)
   ran-few more = by_late (is_late s l) refl
     where
-      q : Place
+      q : NodeSlot
       q = record (place_at s i) { entries = (place_at s i).entries ++ l.adds; out = None }
 
       slice : Sliced
@@ -83,14 +83,14 @@ module _ (slices i : ℕ) (s : Solo) (l : Lease) (out : (place_at s i).out ≡ S
       log : List Line
       log = s.log ++ slice.lines
 
-      home : Solo
+      home : SoloMachine
       home = record (with_place s i q) { log = log; ran = s.ran + 1 }
 
       by_late : (b : Bool) → is_late s l ≡ b → IsFew slices (cond b home (conclude slice.node.verdict slice.node home))
       by_late true e = late-few slices 1 i s l q log (s.ran + 1) out refl more h (omega arith) (late-now s l e)
       by_late false e = conclude-few slices slice.node.verdict slice.node home (now-back slices 1 i s l q log (s.ran + 1) out refl more h (omega arith) (current e) (open_now e) k)
 
-lease-few : (slices i : ℕ) (s : Solo) (l : Lease) (o : Outcome) → (place_at s i).out ≡ Some l → IsSolvingSolo s → IsLowSolo s → IsFew slices s → IsFew slices (finished_lease s i (place_at s i) l o)
+lease-few : (slices i : ℕ) (s : SoloMachine) (l : Lease) (o : Outcome) → (place_at s i).out ≡ Some l → IsSolvingSolo s → IsLowSolo s → IsFew slices s → IsFew slices (finished_lease s i (place_at s i) l o)
 lease-few slices i s l Ran out k low h =
     let within : i < length s.places = out-within s.places i l out in
     let most : length s.places ≤ 64 = low.count in
@@ -98,24 +98,24 @@ lease-few slices i s l Ran out k low h =
 lease-few slices i s l Starved out k low h = starved-few slices i s l out k h
 lease-few slices i s l Lost out k low h = home-few slices i s l out k h
 
-finished-few : (slices i : ℕ) (s : Solo) (out : Option Lease) (o : Outcome) → (place_at s i).out ≡ out → IsSolvingSolo s → IsLowSolo s → IsFew slices s → IsFew slices (finished s i (place_at s i) out o)
+finished-few : (slices i : ℕ) (s : SoloMachine) (out : Option Lease) (o : Outcome) → (place_at s i).out ≡ out → IsSolvingSolo s → IsLowSolo s → IsFew slices s → IsFew slices (finished s i (place_at s i) out o)
 finished-few slices i s None o e k low h = h
-finished-few slices i s (Some l) o e k low h = let ended : Solo = finished_lease s i (place_at s i) l o in settled-few slices (first_empty ended.log) ended (lease-solving s i l o e k) (lease-few slices i s l o e k low h)
+finished-few slices i s (Some l) o e k low h = let ended : SoloMachine = finished_lease s i (place_at s i) l o in settled-few slices (first_empty ended.log) ended (lease-solving s i l o e k) (lease-few slices i s l o e k low h)
 
-exchanged-few : (slices : ℕ) (s : Solo) → IsFew slices s → IsFew slices (exchanged s)
+exchanged-few : (slices : ℕ) (s : SoloMachine) → IsFew slices s → IsFew slices (exchanged s)
 exchanged-few slices s h =
     let outs : outs_for (length s.answers) (marked_from s.volume (length s.log) 0 s.places) ≡ outs_for (length s.answers) s.places = sum-marked (out_for (length s.answers)) (λ m p. refl) s.volume (length s.log) 0 s.places in
     let starts : starts_out (marked_from s.volume (length s.log) 0 s.places) ≡ starts_out s.places = sum-marked one_out (λ m p. refl) s.volume (length s.log) 0 s.places in
     let runs : runs_of (marked_from s.volume (length s.log) 0 s.places) ≡ runs_of s.places = runs-marked s.volume (length s.log) 0 s.places in
     record { budget = h.budget; shared = omega (arith, outs, h.shared); few = omega (arith, outs, starts, runs, h.few); idle = h.idle }
 
-posted-few : (slices : ℕ) (s : Solo) (r : Posted) → IsSolvingSolo s → IsFew slices s → IsFew slices (record s { revisions = s.revisions ++ r ∷ [] })
+posted-few : (slices : ℕ) (s : SoloMachine) (r : Posted) → IsSolvingSolo s → IsFew slices s → IsFew slices (record s { revisions = s.revisions ++ r ∷ [] })
 posted-few slices s r k h =
     let long : length (s.revisions ++ r ∷ []) ≡ length s.revisions + 1 = length-append s.revisions (r ∷ []) in
     let order : length s.answers ≤ length s.revisions = k.order in
     record { budget = h.budget; shared = h.shared; few = h.few; idle = λ e. absurd (omega (arith, e, long, order)) }
 
-step-few : (slices : ℕ) (s : Solo) (o : Own) → MayHappen s o → is_opening o ≡ false → IsKept s → IsLowSolo s → IsFew slices s → IsFew slices (solo_step s o)
+step-few : (slices : ℕ) (s : SoloMachine) (o : Own) → MayHappen s o → is_opening o ≡ false → MachineInvariant s → IsLowSolo s → IsFew slices s → IsFew slices (solo_step s o)
 step-few slices s (Opened ask) may once k low h = absurd (cc)
 step-few slices s (Revised r) may once k low h = settled-few slices (first_empty s.log) (record s { revisions = s.revisions ++ r ∷ [] }) (posted-solving s r may k.solving) (posted-few slices s r k.solving h)
 step-few slices s Closed may once k low h = record { budget = h.budget; shared = h.shared; few = h.few; idle = h.idle }
@@ -125,12 +125,12 @@ step-few slices s (Finished i o) may once k low h = finished-few slices i s (pla
 step-few slices s Exchanged may once k low h = exchanged-few slices s h
 
 -- a machine within its budgets, and what is kept of any
-pub record IsWithin (slices : ℕ) (s : Solo) : Type 0 where
-  pub kept : IsKept s
+pub record IsWithin (slices : ℕ) (s : SoloMachine) : Type 0 where
+  pub kept : MachineInvariant s
   pub low : IsLowSolo s
   pub few : IsFew slices s
 
-pub step-within : (slices : ℕ) (s : Solo) (o : Own) → MayHappen s o → is_opening o ≡ false → IsWithin slices s → IsWithin slices (solo_step s o)
+pub step-within : (slices : ℕ) (s : SoloMachine) (o : Own) → MayHappen s o → is_opening o ≡ false → IsWithin slices s → IsWithin slices (solo_step s o)
 step-within slices s o may once h = record { kept = step-kept s o may h.kept; low = step-low s o h.low; few = step-few slices s o may once h.kept h.low h.few }
 
 pub events-within : (slices : ℕ) (past events : List Own) → IsRunnable past events → list_any is_opening events ≡ false → IsWithin slices (solo past) → IsWithin slices (solo (past ++ events))
@@ -138,7 +138,7 @@ events-within slices past [] may once h = subst (λ (es : List Own). IsWithin sl
 events-within slices past (o ∷ os) may once h =
     let parts = or_parts (is_opening o) (list_any is_opening os) once in
     let here : IsWithin slices (solo_step (solo past) o) = step-within slices (solo past) o may.0 parts.0 h in
-    let next : IsWithin slices (solo (past ++ o ∷ [])) = subst (λ (s : Solo). IsWithin slices s) (sym (fold_push solo_step unopened past o)) here in
+    let next : IsWithin slices (solo (past ++ o ∷ [])) = subst (λ (s : SoloMachine). IsWithin slices s) (sym (fold_push solo_step unopened past o)) here in
     subst (λ (es : List Own). IsWithin slices (solo es)) (append_assoc past (o ∷ []) os) (events-within slices (past ++ o ∷ []) os may.1 parts.1 next)
 
 pub opened-within : (ask : Terms) → IsWithin ask.slices (solo (Opened ask ∷ []))
@@ -148,7 +148,7 @@ opened-within ask = record {
   few = record { budget = refl; shared = omega arith; few = omega arith; idle = λ e. refl };
 }
 
-within-few : (slices : ℕ) (s : Solo) → IsFew slices s → runs_of s.places + starts_out s.places ≤ (length s.answers + 1) * slices
+within-few : (slices : ℕ) (s : SoloMachine) → IsFew slices s → runs_of s.places + starts_out s.places ≤ (length s.answers + 1) * slices
 within-few slices s h =
     let next : (length s.answers + 1) * slices ≡ length s.answers * slices + slices = next-budget (length s.answers) slices in
     omega (arith, next, h.few, h.shared)

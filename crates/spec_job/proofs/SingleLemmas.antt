@@ -9,13 +9,13 @@ use Rattle.mal_base.specs.declared.answer.Answer.TheVariants.{Refuted}
 use Rattle.mal_base.specs.declared.verdict.Outcome.{Outcome}
 use Rattle.mal_base.specs.declared.verdict.Outcome.TheVariants.{Ran, Starved, Lost}
 use Rattle.mal_revision.specs.Posted.{Posted}
-use Rattle.spec_job.specs.Solo.{Own, Opened, Revised, Closed, Volume, Started, Finished, Exchanged, Lease, Place, Solo, unopened, solo, solo_step, place_at, is_live, startable, first_empty, settled_by, settled, finished_lease, finished}
+use Rattle.spec_job.specs.SoloMachine.{Own, Opened, Revised, Closed, Volume, Started, Finished, Exchanged, Lease, NodeSlot, SoloMachine, unopened, solo, solo_step, place_at, is_live, startable, first_empty, settled_by, settled, finished_lease, finished}
 use Rattle.spec_job.specs.Journal.{JournalEntry, loads_in}
 use Rattle.spec_job.specs.Runnable.{MayHappen, IsRunnable}
 use Rattle.spec_job.specs.DemandOne.{is_single, had_memory, IsSingle, Agree, AgreeAll, NoneIsDue, SinglesAgree}
 use Rattle.spec_job.proofs.PlacesLemmas.{get-vacant}
 use Rattle.spec_job.proofs.SolvingLemmas.{IsSolvingSolo, live-parts}
-use Rattle.spec_job.proofs.KeptLemmas.{IsKept, step-kept, unopened-kept}
+use Rattle.spec_job.proofs.KeptLemmas.{MachineInvariant, step-kept, unopened-kept}
 use Rattle.spec_job.proofs.CourseLemmas.{Course, course, WentOn, adds-more, course-more, went-more}
 use Rattle.spec_job.proofs.AgreeLemmas.{ComeFrom, courses-agree, le-or_lt, IsFront, courses-logs}
 use Rattle.spec_job.proofs.AlongLemmas.{course_of, lease_from, IsOpen, IsSettled, IsAlong, come-itself, come-more, IsThere, there-settled, started-along}
@@ -23,15 +23,15 @@ use Rattle.spec_job.proofs.SliceLemmas.{lease-there, home-there}
 use Rattle.spec_job.proofs.ReplyLemmas.{replies-agree}
 
 -- a machine has run some slices of its course
-abbrev pub IsOnCourse : ℕ → Solo → Type 0
+abbrev pub IsOnCourse : ℕ → SoloMachine → Type 0
 IsOnCourse slices s = (n : ℕ) × IsAlong slices s n
 
 -- a machine has run no more than one slice more of its course than so many
-abbrev pub GoesOneOn : ℕ → ℕ → Solo → Type 0
+abbrev pub GoesOneOn : ℕ → ℕ → SoloMachine → Type 0
 GoesOneOn slices n s = (m : ℕ) × (m ≤ suc n) × IsAlong slices s m
 
 -- a further revision
-open-revised : (s : Solo) (c : Course) (r : Posted) → IsSolvingSolo s → IsOpen s c → IsOpen (record s { revisions = s.revisions ++ r ∷ [] }) c
+open-revised : (s : SoloMachine) (c : Course) (r : Posted) → IsSolvingSolo s → IsOpen s c → IsOpen (record s { revisions = s.revisions ++ r ∷ [] }) c
 open-revised s c r k h = record { none = h.none; same = h.same; leased = λ l e. later l (h.leased l e) }
   where
     long : length (s.revisions ++ r ∷ []) ≡ length s.revisions + 1
@@ -42,7 +42,7 @@ open-revised s c r k h = record { none = h.none; same = h.same; leased = λ l e.
         let loaded = subst (λ (x : Course). loads_in x.entries ≤ length s.revisions) h.same (k.ready 0 (omega arith)).posted in
         (omega (arith, live, long), is ∙ sym (ap (λ (es : List JournalEntry). record { revision = length c.answers; adds = es }) (adds-more s.revisions (r ∷ []) c live loaded)))
 
-settled-revised : (s : Solo) (c : Course) (goal : ℕ) (r : Posted) → IsSettled s c goal → IsSettled (settled_by (Some goal) (record s { revisions = s.revisions ++ r ∷ [] })) c goal
+settled-revised : (s : SoloMachine) (c : Course) (goal : ℕ) (r : Posted) → IsSettled s c goal → IsSettled (settled_by (Some goal) (record s { revisions = s.revisions ++ r ∷ [] })) c goal
 settled-revised s c goal r h = record { found = h.found; log = h.log; idle = h.idle; all = all; come = come-more c s.answers (length (s.revisions ++ r ∷ []) - length s.answers) goal h.found h.come }
   where
     more : ℕ
@@ -56,10 +56,10 @@ settled-revised s c goal r h = record { found = h.found; log = h.log; idle = h.i
         let before : length s.answers ≡ length s.revisions = h.all in
         omega arith
 
-revised-along : (slices n : ℕ) (s : Solo) (r : Posted) → IsSolvingSolo s → IsAlong slices s n → IsAlong slices (solo_step s (Revised r)) n
+revised-along : (slices n : ℕ) (s : SoloMachine) (r : Posted) → IsSolvingSolo s → IsAlong slices s n → IsAlong slices (solo_step s (Revised r)) n
 revised-along slices n s r k h = by_stand h.stands
   where
-    t : Solo
+    t : SoloMachine
     t = record s { revisions = s.revisions ++ r ∷ [] }
 
     c : Course
@@ -81,7 +81,7 @@ revised-along slices n s r k h = by_stand h.stands
         subst (λ (o : Option ℕ). IsAlong slices (settled_by o t) n) (sym found) (with-stand (Some goal) (inr (goal, settled-revised s c goal r x)))
 
 -- a start is one of the first place
-started-on : (slices n i : ℕ) (s : Solo) → startable s i ≡ true → IsAlong slices s n → IsAlong slices (solo_step s (Started i)) n
+started-on : (slices n i : ℕ) (s : SoloMachine) → startable s i ≡ true → IsAlong slices s n → IsAlong slices (solo_step s (Started i)) n
 started-on slices n zero s may h = started-along slices n s (live-parts s 0 may) h
 started-on slices n (suc i) s may h =
     let low : suc i < s.volume = ltb-true (suc i) s.volume (and_parts (is_live s) (nat_lt (suc i) s.volume) (and_parts (is_live s && nat_lt (suc i) s.volume) _ may).0).1 in
@@ -89,25 +89,25 @@ started-on slices n (suc i) s may h =
     absurd (omega arith)
 
 -- a finish of the start that is out
-finished-open : (slices n : ℕ) (s : Solo) (l : Lease) (o : Outcome) → had_memory o ≡ true → (place_at s 0).out ≡ Some l → IsSolvingSolo s → IsAlong slices s n → IsOpen s (course slices s.revisions n) → (m : ℕ) × (m ≤ suc n) × IsThere slices (finished_lease s 0 (place_at s 0) l o) m
+finished-open : (slices n : ℕ) (s : SoloMachine) (l : Lease) (o : Outcome) → had_memory o ≡ true → (place_at s 0).out ≡ Some l → IsSolvingSolo s → IsAlong slices s n → IsOpen s (course slices s.revisions n) → (m : ℕ) × (m ≤ suc n) × IsThere slices (finished_lease s 0 (place_at s 0) l o) m
 finished-open slices n s l Ran m out k h x = (suc n, omega arith, lease-there slices n s l out k h x)
 finished-open slices n s l Starved m out k h x = absurd (false≢true m)
 finished-open slices n s l Lost m out k h x = (n, omega arith, home-there slices n s h x)
 
-there-on : (slices n : ℕ) (t : Solo) → length (settled t).answers ≤ length t.revisions → (m : ℕ) × (m ≤ suc n) × IsThere slices t m → GoesOneOn slices n (settled t)
+there-on : (slices n : ℕ) (t : SoloMachine) → length (settled t).answers ≤ length t.revisions → (m : ℕ) × (m ≤ suc n) × IsThere slices t m → GoesOneOn slices n (settled t)
 there-on slices n t order (m, low, x) = (m, low, there-settled slices m t (first_empty t.log) refl order x)
 
-finished-on : (slices n : ℕ) (s : Solo) (out : Option Lease) (o : Outcome) → had_memory o ≡ true → (place_at s 0).out ≡ out → IsSolvingSolo s → IsSolvingSolo (finished s 0 (place_at s 0) out o) → IsAlong slices s n → GoesOneOn slices n (finished s 0 (place_at s 0) out o)
+finished-on : (slices n : ℕ) (s : SoloMachine) (out : Option Lease) (o : Outcome) → had_memory o ≡ true → (place_at s 0).out ≡ out → IsSolvingSolo s → IsSolvingSolo (finished s 0 (place_at s 0) out o) → IsAlong slices s n → GoesOneOn slices n (finished s 0 (place_at s 0) out o)
 finished-on slices n s None o m e k after h = (n, omega arith, h)
 finished-on slices n s (Some l) o m e k after h = by_stand h.stands
   where
     c : Course
     c = course slices s.revisions n
 
-    t : Solo
+    t : SoloMachine
     t = finished_lease s 0 (place_at s 0) l o
 
-    settled-order : (g : Option ℕ) (u : Solo) → length (settled_by g u).answers ≤ length (settled_by g u).revisions → length (settled_by g u).answers ≤ length u.revisions
+    settled-order : (g : Option ℕ) (u : SoloMachine) → length (settled_by g u).answers ≤ length (settled_by g u).revisions → length (settled_by g u).answers ≤ length u.revisions
     settled-order None u q = q
     settled-order (Some goal) u q = q
 
@@ -115,12 +115,12 @@ finished-on slices n s (Some l) o m e k after h = by_stand h.stands
     by_stand (inl x) = there-on slices n t (settled-order (first_empty t.log) t after.order) (finished-open slices n s l o m e k h x)
     by_stand (inr (goal, x)) = absurd (let bad : None ≡ Some l = sym x.idle ∙ e in cc)
 
-finish-on : (slices n i : ℕ) (s : Solo) (o : Outcome) → had_memory o ≡ true → IsSolvingSolo s → IsSolvingSolo (solo_step s (Finished i o)) → IsAlong slices s n → GoesOneOn slices n (solo_step s (Finished i o))
+finish-on : (slices n i : ℕ) (s : SoloMachine) (o : Outcome) → had_memory o ≡ true → IsSolvingSolo s → IsSolvingSolo (solo_step s (Finished i o)) → IsAlong slices s n → GoesOneOn slices n (solo_step s (Finished i o))
 finish-on slices n zero s o m k after h = finished-on slices n s (place_at s 0).out o m refl k after h
 finish-on slices n (suc i) s o m k after h = subst (λ (out : Option Lease). GoesOneOn slices n (finished s (suc i) (place_at s (suc i)) out o)) (sym (h.others i)) (n, omega arith, h)
 
 -- each event of a job that one node runs
-pub step-on : (slices n : ℕ) (s : Solo) (o : Own) → MayHappen s o → is_single o ≡ true → IsKept s → IsKept (solo_step s o) → IsAlong slices s n → GoesOneOn slices n (solo_step s o)
+pub step-on : (slices n : ℕ) (s : SoloMachine) (o : Own) → MayHappen s o → is_single o ≡ true → MachineInvariant s → MachineInvariant (solo_step s o) → IsAlong slices s n → GoesOneOn slices n (solo_step s o)
 step-on slices n s (Opened ask) may single k after h = absurd (false≢true single)
 step-on slices n s (Revised r) may single k after h = (n, omega arith, revised-along slices n s r k.solving h)
 step-on slices n s Closed may single k after h = (n, omega arith, record { budget = h.budget; low = h.low; untold = h.untold; some = h.some; others = h.others; went = h.went; stands = same-stand h.stands })
@@ -138,17 +138,17 @@ step-on slices n s (Finished i o) may single k after h = finish-on slices n i s 
 step-on slices n s Exchanged may single k after h = absurd (false≢true single)
 
 -- a machine on its course, and what is kept of any machine
-pub record IsFollowing (slices : ℕ) (s : Solo) : Type 0 where
-  pub kept : IsKept s
+pub record IsFollowing (slices : ℕ) (s : SoloMachine) : Type 0 where
+  pub kept : MachineInvariant s
   pub on : IsOnCourse slices s
 
 events-follow : (slices : ℕ) (past events : List Own) → IsRunnable past events → list_all is_single events ≡ true → IsFollowing slices (solo past) → IsFollowing slices (solo (past ++ events))
 events-follow slices past [] may single h = subst (λ (es : List Own). IsFollowing slices (solo es)) (sym (append-nil past)) h
 events-follow slices past (o ∷ os) may single h =
     let parts = and_parts (is_single o) (list_all is_single os) single in
-    let after : IsKept (solo_step (solo past) o) = step-kept (solo past) o may.0 h.kept in
+    let after : MachineInvariant (solo_step (solo past) o) = step-kept (solo past) o may.0 h.kept in
     let here : IsFollowing slices (solo_step (solo past) o) = record { kept = after; on = let on : GoesOneOn slices h.on.0 (solo_step (solo past) o) = step-on slices h.on.0 (solo past) o may.0 parts.0 h.kept after h.on.1 in (on.0, on.2) } in
-    let next : IsFollowing slices (solo (past ++ o ∷ [])) = subst (λ (s : Solo). IsFollowing slices s) (sym (fold_push solo_step unopened past o)) here in
+    let next : IsFollowing slices (solo (past ++ o ∷ [])) = subst (λ (s : SoloMachine). IsFollowing slices s) (sym (fold_push solo_step unopened past o)) here in
     subst (λ (es : List Own). IsFollowing slices (solo es)) (append_assoc past (o ∷ []) os) (events-follow slices (past ++ o ∷ []) os may.1 parts.1 next)
 
 pub opened-follows : (ask : Terms) → IsFollowing ask.slices (solo (Opened ask ∷ []))
@@ -161,7 +161,7 @@ opened-follows ask = record {
       low = omega arith;
       untold = refl;
       some = omega arith;
-      others = λ i. ap (λ (p : Place). p.out) (get-vacant 64 (suc i));
+      others = λ i. ap (λ (p : NodeSlot). p.out) (get-vacant 64 (suc i));
       went = tt;
       stands = inl (record { none = refl; same = refl; leased = λ l e. absurd (cc) });
     },
@@ -171,7 +171,7 @@ opened-follows ask = record {
 single-follows : (ask : Terms) (own : List Own) → IsSingle ask own → IsFollowing ask.slices (solo (Opened ask ∷ own))
 single-follows ask own h = events-follow ask.slices (Opened ask ∷ []) own h.runnable.1 h.single (opened-follows ask)
 
-pub come-along : (slices n : ℕ) (s : Solo) → IsAlong slices s n → ComeFrom (course slices s.revisions n) s.answers
+pub come-along : (slices n : ℕ) (s : SoloMachine) → IsAlong slices s n → ComeFrom (course slices s.revisions n) s.answers
 come-along slices n s h = by_stand h.stands
   where
     by_stand : IsOpen s (course slices s.revisions n) ⊎ ((goal : ℕ) × IsSettled s (course slices s.revisions n) goal) → ComeFrom (course slices s.revisions n) s.answers
@@ -179,21 +179,21 @@ come-along slices n s h = by_stand h.stands
     by_stand (inr (goal, x)) = x.come
 
 -- two machines on their courses with one budget, where the revisions of one begin with those of the other
-on-agree : (slices : ℕ) (s t : Solo) (more : List Posted) → t.revisions ≡ s.revisions ++ more → IsOnCourse slices s → IsOnCourse slices t → Agree s.answers t.answers
+on-agree : (slices : ℕ) (s t : SoloMachine) (more : List Posted) → t.revisions ≡ s.revisions ++ more → IsOnCourse slices s → IsOnCourse slices t → Agree s.answers t.answers
 on-agree slices s t more e (n, h) (m, k) = courses-agree slices (s.revisions ++ more) n m s.answers t.answers (went-more slices s.revisions more n h.went) (subst (λ (rs : List Posted). WentOn slices rs m) e k.went) (subst (λ (c : Course). ComeFrom c s.answers) (sym (course-more slices s.revisions more n h.went)) (come-along slices n s h)) (subst (λ (rs : List Posted). ComeFrom (course slices rs m) t.answers) e (come-along slices m t k)) (le-or_lt n m)
 
 -- the log of one begins with that of the other
-pub log-along : (slices n : ℕ) (s : Solo) → IsAlong slices s n → s.log ≡ (course slices s.revisions n).log
+pub log-along : (slices n : ℕ) (s : SoloMachine) → IsAlong slices s n → s.log ≡ (course slices s.revisions n).log
 log-along slices n s h = by_stand h.stands
   where
     by_stand : IsOpen s (course slices s.revisions n) ⊎ ((goal : ℕ) × IsSettled s (course slices s.revisions n) goal) → s.log ≡ (course slices s.revisions n).log
     by_stand (inl x) = ap (λ (c : Course). c.log) x.same
     by_stand (inr (goal, x)) = x.log
 
-on-logs : (slices : ℕ) (s t : Solo) (more : List Posted) → t.revisions ≡ s.revisions ++ more → IsOnCourse slices s → IsOnCourse slices t → IsFront s.log t.log ⊎ IsFront t.log s.log
+on-logs : (slices : ℕ) (s t : SoloMachine) (more : List Posted) → t.revisions ≡ s.revisions ++ more → IsOnCourse slices s → IsOnCourse slices t → IsFront s.log t.log ⊎ IsFront t.log s.log
 on-logs slices s t more e (n, h) (m, k) = courses-logs slices (s.revisions ++ more) n m s.log t.log (log-along slices n s h ∙ ap (λ (c : Course). c.log) (sym (course-more slices s.revisions more n h.went))) (log-along slices m t k ∙ ap (λ (rs : List Posted). (course slices rs m).log) e) (le-or_lt n m)
 
-following-agree : (slices : ℕ) (s t : Solo) (more : List Posted) → t.revisions ≡ s.revisions ++ more → IsFollowing slices s → IsFollowing slices t → AgreeAll s t
+following-agree : (slices : ℕ) (s t : SoloMachine) (more : List Posted) → t.revisions ≡ s.revisions ++ more → IsFollowing slices s → IsFollowing slices t → AgreeAll s t
 following-agree slices s t more e h k =
     let agree : Agree s.answers t.answers = on-agree slices s t more e h.on k.on in
     record { answers = agree; replies = replies-agree s t more e h.kept k.kept (on-logs slices s t more e h.on k.on) agree }

@@ -10,33 +10,33 @@ use Rattle.mal_revision.specs.Posted.{Posted}
 use Rattle.spec_node.specs.State.{Node}
 use Rattle.spec_search.specs.Slice.{Sliced}
 use Rattle.spec_job.specs.Journal.{JournalEntry, replay, loads_in}
-use Rattle.spec_job.specs.Solo.{Lease, Place, vacant, Solo, place_at, with_place, answered, spend, conclude, is_late, finished_ran, finished_home}
+use Rattle.spec_job.specs.SoloMachine.{Lease, NodeSlot, vacant, SoloMachine, place_at, with_place, answered, spend, conclude, is_late, finished_ran, finished_home}
 use Rattle.spec_job.proofs.SolvingLemmas.{IsSolvingSolo}
 use Rattle.spec_job.proofs.CourseLemmas.{Course, concluded, next_adds, ran_on, course, GoesOn, WentOn}
 use Rattle.spec_job.proofs.AlongLemmas.{course_of, lease_from, IsOpen, IsAlong, IsThere, others-stay, some-stay, set-first}
 
 -- what an answer leaves of a machine
-pub record KeepsRest (s t : Solo) : Type 0 where
+pub record KeepsRest (s t : SoloMachine) : Type 0 where
   pub ask : t.ask ≡ s.ask
   pub volume : t.volume ≡ s.volume
   pub revisions : t.revisions ≡ s.revisions
   pub places : t.places ≡ s.places
   pub broadcasts : t.broadcasts ≡ s.broadcasts
 
-spend-rest : (s : Solo) → KeepsRest s (spend s)
+spend-rest : (s : SoloMachine) → KeepsRest s (spend s)
 spend-rest s = by_test (s.spent + 1 == s.ask.slices)
   where
     by_test : (b : Bool) → KeepsRest s (cond b (answered s (Spent s.ask.slices)) (record s { spent = s.spent + 1 }))
     by_test true = record { ask = refl; volume = refl; revisions = refl; places = refl; broadcasts = refl }
     by_test false = record { ask = refl; volume = refl; revisions = refl; places = refl; broadcasts = refl }
 
-pub conclude-rest : (v : Option Verdict) (n : Node) (s : Solo) → KeepsRest s (conclude v n s)
+pub conclude-rest : (v : Option Verdict) (n : Node) (s : SoloMachine) → KeepsRest s (conclude v n s)
 conclude-rest None n s = spend-rest s
 conclude-rest (Some Satisfiable) n s = record { ask = refl; volume = refl; revisions = refl; places = refl; broadcasts = refl }
 conclude-rest (Some (Unsatisfiable goal)) n s = record { ask = refl; volume = refl; revisions = refl; places = refl; broadcasts = refl }
 
 -- what a verdict makes of the machine it makes of the course
-conclude-course : (v : Option Verdict) (n : Node) (s : Solo) → course_of (conclude v n s) ≡ concluded v n s.ask.slices (course_of s)
+conclude-course : (v : Option Verdict) (n : Node) (s : SoloMachine) → course_of (conclude v n s) ≡ concluded v n s.ask.slices (course_of s)
 conclude-course None n s = by_test (s.spent + 1 == s.ask.slices)
   where
     c : Course
@@ -49,11 +49,11 @@ conclude-course (Some Satisfiable) n s = refl
 conclude-course (Some (Unsatisfiable goal)) n s = refl
 
 -- a slice of the one node that goes on with its course
-module _ (slices n : ℕ) (s : Solo) (k : IsSolvingSolo s) (h : IsAlong slices s n) (stand : IsOpen s (course slices s.revisions n)) (live : length (course slices s.revisions n).answers < length s.revisions) where
+module _ (slices n : ℕ) (s : SoloMachine) (k : IsSolvingSolo s) (h : IsAlong slices s n) (stand : IsOpen s (course slices s.revisions n)) (live : length (course slices s.revisions n).answers < length s.revisions) where
   abbrev c : Course
   c = course slices s.revisions n
 
-  abbrev p : Place
+  abbrev p : NodeSlot
   p = place_at s 0
 
   abbrev adds : List JournalEntry
@@ -62,16 +62,16 @@ module _ (slices n : ℕ) (s : Solo) (k : IsSolvingSolo s) (h : IsAlong slices s
   abbrev lease : Lease
   lease = lease_from s.revisions c
 
-  abbrev q : Place
+  abbrev q : NodeSlot
   q = record p { entries = p.entries ++ adds; out = None }
 
   abbrev ran : Sliced
   ran = replay 0 (p.entries ++ adds)
 
-  abbrev home : Solo
+  abbrev home : SoloMachine
   home = record (with_place s 0 q) { log = s.log ++ ran.lines; ran = s.ran + 1 }
 
-  abbrev t : Solo
+  abbrev t : SoloMachine
   t = conclude ran.node.verdict ran.node home
 
   rest : KeepsRest home t
@@ -88,7 +88,7 @@ module _ (slices n : ℕ) (s : Solo) (k : IsSolvingSolo s) (h : IsAlong slices s
   here = set-first s.places q h.some
 
   at-home : course_of home ≡ record { entries = p.entries ++ adds; log = s.log ++ ran.lines; answers = s.answers; spent = s.spent }
-  at-home = ap (λ (x : Place). record { entries = x.entries; log = s.log ++ ran.lines; answers = s.answers; spent = s.spent }) here
+  at-home = ap (λ (x : NodeSlot). record { entries = x.entries; log = s.log ++ ran.lines; answers = s.answers; spent = s.spent }) here
 
   same : course_of t ≡ course slices s.revisions (suc n)
   same = conclude-course ran.node.verdict ran.node home ∙ (ap (λ (x : ℕ). concluded ran.node.verdict ran.node x (course_of home)) h.budget ∙ (ap (concluded ran.node.verdict ran.node slices) at-home ∙ ap (ran_on slices adds) stand.same))
@@ -98,11 +98,11 @@ module _ (slices n : ℕ) (s : Solo) (k : IsSolvingSolo s) (h : IsAlong slices s
     budget = ap (λ (a : Terms). a.slices) rest.ask ∙ h.budget;
     low = subst (λ (v : ℕ). v ≤ 1) (sym rest.volume) h.low;
     untold = rest.broadcasts ∙ h.untold;
-    some = subst (λ (ps : List Place). 1 ≤ length ps) (sym rest.places) (some-stay s.places q h.some);
-    others = λ i. subst (λ (ps : List Place). (get_or ps (suc i) vacant).out ≡ None) (sym rest.places) (others-stay s.places q h.others i);
+    some = subst (λ (ps : List NodeSlot). 1 ≤ length ps) (sym rest.places) (some-stay s.places q h.some);
+    others = λ i. subst (λ (ps : List NodeSlot). (get_or ps (suc i) vacant).out ≡ None) (sym rest.places) (others-stay s.places q h.others i);
     went = subst (λ (rs : List Posted). WentOn slices rs (suc n)) (sym rest.revisions) (h.went, on);
     same = subst (λ (rs : List Posted). course_of t ≡ course slices rs (suc n)) (sym rest.revisions) same;
-    idle = subst (λ (ps : List Place). (get_or ps 0 vacant).out ≡ None) (sym rest.places) (ap (λ (x : Place). x.out) here);
+    idle = subst (λ (ps : List NodeSlot). (get_or ps 0 vacant).out ≡ None) (sym rest.places) (ap (λ (x : NodeSlot). x.out) here);
   }
 
   in-time : is_late s lease ≡ false
@@ -114,15 +114,15 @@ module _ (slices n : ℕ) (s : Solo) (k : IsSolvingSolo s) (h : IsAlong slices s
   ran-there = subst (λ (b : Bool). IsThere slices (cond b home t) (suc n)) (sym in-time) there
 
 -- so does a slice of its start that is out
-pub lease-there : (slices n : ℕ) (s : Solo) (l : Lease) → (place_at s 0).out ≡ Some l → IsSolvingSolo s → IsAlong slices s n → IsOpen s (course slices s.revisions n) → IsThere slices (finished_ran s 0 (place_at s 0) l) (suc n)
+pub lease-there : (slices n : ℕ) (s : SoloMachine) (l : Lease) → (place_at s 0).out ≡ Some l → IsSolvingSolo s → IsAlong slices s n → IsOpen s (course slices s.revisions n) → IsThere slices (finished_ran s 0 (place_at s 0) l) (suc n)
 lease-there slices n s l out k h stand =
     let goes = stand.leased l out in
     subst (λ (x : Lease). IsThere slices (finished_ran s 0 (place_at s 0) x) (suc n)) (sym goes.1) (ran-there slices n s k h stand goes.0)
 
 -- a start that comes to nothing leaves the course
-pub home-there : (slices n : ℕ) (s : Solo) → IsAlong slices s n → IsOpen s (course slices s.revisions n) → IsThere slices (finished_home s 0 (place_at s 0)) n
+pub home-there : (slices n : ℕ) (s : SoloMachine) → IsAlong slices s n → IsOpen s (course slices s.revisions n) → IsThere slices (finished_home s 0 (place_at s 0)) n
 home-there slices n s h stand =
-    let q : Place = record (place_at s 0) { out = None } in
+    let q : NodeSlot = record (place_at s 0) { out = None } in
     let here : get_or (slice_set s.places 0 q) 0 vacant ≡ q = set-first s.places q h.some in
     record {
       budget = h.budget;
@@ -131,6 +131,6 @@ home-there slices n s h stand =
       some = some-stay s.places q h.some;
       others = others-stay s.places q h.others;
       went = h.went;
-      same = ap (λ (x : Place). record { entries = x.entries; log = s.log; answers = s.answers; spent = s.spent }) here ∙ stand.same;
-      idle = ap (λ (x : Place). x.out) here;
+      same = ap (λ (x : NodeSlot). record { entries = x.entries; log = s.log; answers = s.answers; spent = s.spent }) here ∙ stand.same;
+      idle = ap (λ (x : NodeSlot). x.out) here;
     }

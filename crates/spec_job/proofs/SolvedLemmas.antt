@@ -14,7 +14,7 @@ use Rattle.spec_logic.specs.Logic.{satisfies, is_true_in}
 use Rattle.spec_node.specs.State.{Node}
 use Rattle.spec_node.specs.Model.{model_of}
 use Rattle.spec_job.specs.Journal.{replay, loads_in}
-use Rattle.spec_job.specs.Solo.{Own, Opened, Revised, Closed, Volume, Started, Finished, Exchanged, Lease, Place, Solo, unopened, solo_step, place_at, with_place, answered, spend, starve, conclude, first_empty, is_late, finished_ran, finished_home, finished_lease, finished}
+use Rattle.spec_job.specs.SoloMachine.{Own, Opened, Revised, Closed, Volume, Started, Finished, Exchanged, Lease, NodeSlot, SoloMachine, unopened, solo_step, place_at, with_place, answered, spend, starve, conclude, first_empty, is_late, finished_ran, finished_home, finished_lease, finished}
 use Rattle.spec_job.specs.Models.{clauses_of, AnswersSolve}
 use Rattle.spec_job.specs.Runnable.{MayHappen}
 use Rattle.spec_job.proofs.LoadedLemmas.{IsLoadable, last_assumed, Solves, HasLoaded, fresh-loaded, loaded-solves, last-at}
@@ -23,7 +23,7 @@ use Rattle.spec_job.proofs.SolvingLemmas.{IsLeased, IsReady, IsSolvingSolo, plac
 use Rattle.spec_job.proofs.PostingLemmas.{answered-solving, settled-solving, revised-solving, started-solving, exchanged-solving}
 
 -- the last slice of a budget answers unknown
-spend-solving : (s : Solo) → length s.answers < length s.revisions → IsSolvingSolo s → IsSolvingSolo (spend s)
+spend-solving : (s : SoloMachine) → length s.answers < length s.revisions → IsSolvingSolo s → IsSolvingSolo (spend s)
 spend-solving s live h = by_test (s.spent + 1 == s.ask.slices)
   where
     by_test : (b : Bool) → IsSolvingSolo (cond b (answered s (Spent s.ask.slices)) (record s { spent = s.spent + 1 }))
@@ -31,7 +31,7 @@ spend-solving s live h = by_test (s.spent + 1 == s.ask.slices)
     by_test false = h
 
 -- so does the third start that reported want of memory
-starve-solving : (s : Solo) → length s.answers < length s.revisions → IsSolvingSolo s → IsSolvingSolo (starve s)
+starve-solving : (s : SoloMachine) → length s.answers < length s.revisions → IsSolvingSolo s → IsSolvingSolo (starve s)
 starve-solving s live h = by_test (s.starved + 1 == 3)
   where
     by_test : (b : Bool) → IsSolvingSolo (cond b (answered s OutOfStarts) (record s { starved = s.starved + 1 }))
@@ -39,13 +39,13 @@ starve-solving s live h = by_test (s.starved + 1 == 3)
     by_test false = h
 
 -- a verdict answers the current revision, a satisfiable one with the node's model
-conclude-solving : (v : Option Verdict) (n : Node) (s : Solo) → length s.answers < length s.revisions → (v ≡ Some Satisfiable → Solves (take (length s.answers + 1) s.revisions) (model_of n)) → IsSolvingSolo s → IsSolvingSolo (conclude v n s)
+conclude-solving : (v : Option Verdict) (n : Node) (s : SoloMachine) → length s.answers < length s.revisions → (v ≡ Some Satisfiable → Solves (take (length s.answers + 1) s.revisions) (model_of n)) → IsSolvingSolo s → IsSolvingSolo (conclude v n s)
 conclude-solving None n s live good h = spend-solving s live h
 conclude-solving (Some Satisfiable) n s live good h = answered-solving s.revisions s.answers s.places (Satisfied (model_of n)) live (λ model e. let same : model_of n ≡ model = cc in subst (λ (m : List Bool). Solves (take (length s.answers + 1) s.revisions) m) same (good refl)) h
 conclude-solving (Some (Unsatisfiable goal)) n s live good h = answered-solving s.revisions s.answers s.places (Refuted goal) live (λ model e. absurd (cc)) h
 
 -- a place at home with the entries that its start added
-pub home-ready : (revisions : List Posted) (c i : ℕ) (p : Place) (l : Lease) → IsLeased revisions c i p.entries l → IsReady revisions c i (record p { entries = p.entries ++ l.adds; out = None })
+pub home-ready : (revisions : List Posted) (c i : ℕ) (p : NodeSlot) (l : Lease) → IsLeased revisions c i p.entries l → IsReady revisions c i (record p { entries = p.entries ++ l.adds; out = None })
 home-ready revisions c i p l k =
     let reached : l.revision ≤ c = k.reached in
     let posted : l.revision < length revisions = k.posted in
@@ -58,14 +58,14 @@ home-ready revisions c i p l k =
     }
 
 -- a start that is not late is for the current revision
-pub in-time : (s : Solo) (l : Lease) → l.revision ≤ length s.answers → is_late s l ≡ false → l.revision ≡ length s.answers
+pub in-time : (s : SoloMachine) (l : Lease) → l.revision ≤ length s.answers → is_late s l ≡ false → l.revision ≡ length s.answers
 in-time s l reached e = let b : length s.answers ≤ l.revision = ltb-false l.revision (length s.answers) e in omega arith
 
 -- a slice that was run
-ran-solving : (s : Solo) (i : ℕ) (l : Lease) → (place_at s i).out ≡ Some l → IsSolvingSolo s → IsSolvingSolo (finished_ran s i (place_at s i) l)
+ran-solving : (s : SoloMachine) (i : ℕ) (l : Lease) → (place_at s i).out ≡ Some l → IsSolvingSolo s → IsSolvingSolo (finished_ran s i (place_at s i) l)
 ran-solving s i l out h = by_late (is_late s l) refl
   where
-    p : Place
+    p : NodeSlot
     p = place_at s i
 
     leased : IsLeased s.revisions (length s.answers) i p.entries l
@@ -74,7 +74,7 @@ ran-solving s i l out h = by_late (is_late s l) refl
     node : Node
     node = (replay i (p.entries ++ l.adds)).node
 
-    home : Solo
+    home : SoloMachine
     home = record (with_place s i (record p { entries = p.entries ++ l.adds; out = None })) { log = s.log ++ (replay i (p.entries ++ l.adds)).lines; ran = s.ran + 1 }
 
     at_home : IsSolvingSolo home
@@ -88,14 +88,14 @@ ran-solving s i l out h = by_late (is_late s l) refl
         conclude-solving node.verdict node home (omega arith) (λ v. subst (λ (r : ℕ). Solves (take (r + 1) s.revisions) (model_of node)) now (loaded-solves (take (l.revision + 1) s.revisions) node leased.node v)) at_home
 
 -- a start that comes to nothing
-pub idle-solving : (s : Solo) (i : ℕ) → IsSolvingSolo s → IsSolvingSolo (finished_home s i (place_at s i))
+pub idle-solving : (s : SoloMachine) (i : ℕ) → IsSolvingSolo s → IsSolvingSolo (finished_home s i (place_at s i))
 idle-solving s i h =
-    let p : Place = place_at s i in
+    let p : NodeSlot = place_at s i in
     placed-solving s.revisions s.answers s.places i (record p { out = None }) (λ low.
     let ready : IsReady s.revisions (length s.answers) i p = h.ready i low in
     record { early = ready.early; posted = ready.posted; node = ready.node; leased = λ l e. absurd (cc) }) h
 
-starved-solving : (s : Solo) (i : ℕ) (l : Lease) → (place_at s i).out ≡ Some l → IsSolvingSolo s → IsSolvingSolo (finished_lease s i (place_at s i) l Starved)
+starved-solving : (s : SoloMachine) (i : ℕ) (l : Lease) → (place_at s i).out ≡ Some l → IsSolvingSolo s → IsSolvingSolo (finished_lease s i (place_at s i) l Starved)
 starved-solving s i l out h = by_late (is_late s l) refl
   where
     leased : IsLeased s.revisions (length s.answers) i (place_at s i).entries l
@@ -109,18 +109,18 @@ starved-solving s i l out h = by_late (is_late s l) refl
         starve-solving (finished_home s i (place_at s i)) (omega arith) (idle-solving s i h)
 
 -- a start that ended, by its outcome
-pub lease-solving : (s : Solo) (i : ℕ) (l : Lease) (o : Outcome) → (place_at s i).out ≡ Some l → IsSolvingSolo s → IsSolvingSolo (finished_lease s i (place_at s i) l o)
+pub lease-solving : (s : SoloMachine) (i : ℕ) (l : Lease) (o : Outcome) → (place_at s i).out ≡ Some l → IsSolvingSolo s → IsSolvingSolo (finished_lease s i (place_at s i) l o)
 lease-solving s i l Ran e h = ran-solving s i l e h
 lease-solving s i l Starved e h = starved-solving s i l e h
 lease-solving s i l Lost e h = idle-solving s i h
 
 -- a finish, whether a start was out or not
-finished-solving : (s : Solo) (i : ℕ) (out : Option Lease) (o : Outcome) → (place_at s i).out ≡ out → IsSolvingSolo s → IsSolvingSolo (finished s i (place_at s i) out o)
+finished-solving : (s : SoloMachine) (i : ℕ) (out : Option Lease) (o : Outcome) → (place_at s i).out ≡ out → IsSolvingSolo s → IsSolvingSolo (finished s i (place_at s i) out o)
 finished-solving s i None o e h = h
-finished-solving s i (Some l) o e h = let ended : Solo = finished_lease s i (place_at s i) l o in settled-solving (first_empty ended.log) ended (lease-solving s i l o e h)
+finished-solving s i (Some l) o e h = let ended : SoloMachine = finished_lease s i (place_at s i) l o in settled-solving (first_empty ended.log) ended (lease-solving s i l o e h)
 
 -- each event that may happen
-pub step-solving : (s : Solo) (o : Own) → MayHappen s o → MayLease s → IsSolvingSolo s → IsSolvingSolo (solo_step s o)
+pub step-solving : (s : SoloMachine) (o : Own) → MayHappen s o → MayLease s → IsSolvingSolo s → IsSolvingSolo (solo_step s o)
 step-solving s (Opened ask) may leases h = h
 step-solving s (Revised r) may leases h = revised-solving s r may h
 step-solving s Closed may leases h = h
@@ -136,12 +136,12 @@ unopened-solving = record {
   room = omega arith;
   order = omega arith;
   count = omega arith;
-  ready = λ i low. subst (λ (p : Place). IsReady [] 0 i p) (sym (get-vacant 64 i)) (record { early = omega arith; posted = omega arith; node = fresh-loaded i low; leased = λ l e. absurd (cc) });
+  ready = λ i low. subst (λ (p : NodeSlot). IsReady [] 0 i p) (sym (get-vacant 64 i)) (record { early = omega arith; posted = omega arith; node = fresh-loaded i low; leased = λ l e. absurd (cc) });
   solved = λ r model e. absurd (cc);
 }
 
 -- the satisfiable answers of a machine that solves carry models of their revisions
-pub solving-answers : (s : Solo) → IsSolvingSolo s → AnswersSolve s
+pub solving-answers : (s : SoloMachine) → IsSolvingSolo s → AnswersSolve s
 solving-answers s h r model e =
     let parts = and_parts (satisfies model (clauses_of (take (r + 1) s.revisions))) (list_all (is_true_in model) (last_assumed (take (r + 1) s.revisions))) (h.solved r model e).solves in
     let next : r + 1 ≡ suc r = omega arith in

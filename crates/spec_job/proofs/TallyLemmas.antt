@@ -6,7 +6,7 @@ use Rattle.std.proofs.lemmas.List.{length-replicate}
 use Rattle.std.proofs.lemmas.List.Elements.{All-nil, All-head, All-tail, All-weaker, filter-append}
 use Rattle.mal_base.specs.declared.answer.Answer.{Answer}
 use Rattle.mal_base.specs.declared.answer.Answer.TheVariants.{Refuted, Spent}
-use Rattle.spec_job.specs.Solo.{Solo, answered, settled_by}
+use Rattle.spec_job.specs.SoloMachine.{SoloMachine, answered, settled_by}
 use Rattle.spec_job.specs.DemandOne.{had_memory}
 use Rattle.spec_job.specs.Unknown.{Ending, has_run, is_slice_of, slices_of, is_starved_of, starved_of, IsAccountedFor}
 use Rattle.spec_job.proofs.ElementLemmas.{get-push, get-repeated}
@@ -42,14 +42,14 @@ starved-none r es h = filter-none (is_starved_of r) es (All-weaker (λ (e : Endi
 
 -- what has ended was of revisions that were posted, up to the current one; each answer is accounted for; and no start is out
 -- for a revision whose budget was spent
-pub record IsTallied (slices : ℕ) (es : List Ending) (s : Solo) : Type 0 where
+pub record IsTallied (slices : ℕ) (es : List Ending) (s : SoloMachine) : Type 0 where
   pub reached : All (λ e. e.revision ≤ length s.answers) es
   pub posted : All (λ e. e.revision < length s.revisions) es
   pub accounted : (r : ℕ) (a : Answer) → slice_get s.answers r ≡ Some a → IsAccountedFor slices es r a
   pub none_out : (r n : ℕ) → slice_get s.answers r ≡ Some (Spent n) → outs_for r s.places ≡ 0
 
 -- and the machine counts the slices and the starved starts of the current revision
-pub record HasTally (slices : ℕ) (es : List Ending) (s : Solo) : Type 0 where
+pub record HasTally (slices : ℕ) (es : List Ending) (s : SoloMachine) : Type 0 where
   pub tallied : IsTallied slices es s
   pub spent : length (slices_of (length s.answers) es) ≡ s.spent
   pub no_verdict : All (λ e. e.node.verdict ≡ None) (slices_of (length s.answers) es)
@@ -59,7 +59,7 @@ none-counted : (es : List Ending) → es ≡ [] → length es ≡ 0
 none-counted es e = ap (λ (xs : List Ending). length xs) e
 
 -- a machine that counts from nothing for its current revision
-pub fresh-tally : (slices : ℕ) (es : List Ending) (s : Solo) → IsTallied slices es s → All (λ e. e.revision < length s.answers) es → s.spent ≡ 0 → s.starved ≡ 0 → HasTally slices es s
+pub fresh-tally : (slices : ℕ) (es : List Ending) (s : SoloMachine) → IsTallied slices es s → All (λ e. e.revision < length s.answers) es → s.spent ≡ 0 → s.starved ≡ 0 → HasTally slices es s
 fresh-tally slices es s h early spent starved = record {
   tallied = h;
   spent = none-counted (slices_of (length s.answers) es) (slices-none (length s.answers) es early) ∙ sym spent;
@@ -68,7 +68,7 @@ fresh-tally slices es s h early spent starved = record {
 }
 
 -- the current revision gets an answer that is accounted for
-pub answered-tally : (slices : ℕ) (es : List Ending) (s : Solo) (a : Answer) → IsTallied slices es s → IsAccountedFor slices es (length s.answers) a → ((n : ℕ) → a ≡ Spent n → outs_for (length s.answers) s.places ≡ 0) → HasTally slices es (answered s a)
+pub answered-tally : (slices : ℕ) (es : List Ending) (s : SoloMachine) (a : Answer) → IsTallied slices es s → IsAccountedFor slices es (length s.answers) a → ((n : ℕ) → a ≡ Spent n → outs_for (length s.answers) s.places ≡ 0) → HasTally slices es (answered s a)
 answered-tally slices es s a h good none = fresh-tally slices es (answered s a) (record {
   reached = All-weaker (λ (e : Ending). e.revision ≤ length s.answers) (λ (e : Ending). e.revision ≤ length (s.answers ++ a ∷ [])) (λ e low. omega (arith, low, long)) es h.reached;
   posted = h.posted;
@@ -88,7 +88,7 @@ answered-tally slices es s a h good none = fresh-tally slices es (answered s a) 
     out_place r n (inr k) = h.none_out r n k
 
 -- an empty clause answers all that is left
-pub settled-tally : (slices : ℕ) (es : List Ending) (o : Option ℕ) (s : Solo) → length s.answers ≤ length s.revisions → HasTally slices es s → HasTally slices es (settled_by o s)
+pub settled-tally : (slices : ℕ) (es : List Ending) (o : Option ℕ) (s : SoloMachine) → length s.answers ≤ length s.revisions → HasTally slices es s → HasTally slices es (settled_by o s)
 settled-tally slices es None s order h = h
 settled-tally slices es (Some goal) s order h = fresh-tally slices es (settled_by (Some goal) s) (record {
   reached = All-weaker (λ (e : Ending). e.revision < length s.revisions) (λ (e : Ending). e.revision ≤ length (s.answers ++ more)) (λ e low. omega (arith, low, all)) es h.tallied.posted;

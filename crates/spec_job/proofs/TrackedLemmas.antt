@@ -6,7 +6,7 @@ use Rattle.std.proofs.lemmas.List.{take-append-drop}
 use Rattle.std.proofs.lemmas.List.Concat.{flat_map-append}
 use Rattle.std.proofs.lemmas.List.Elements.{All-weaker}
 use Rattle.std.proofs.lemmas.List.Sums.{sum_by-take-le}
-use Rattle.mal_base.specs.Held.{Held, Line}
+use Rattle.mal_base.specs.NumberedClause.{NumberedClause, Line}
 use Rattle.mal_revision.specs.Posted.{Posted}
 use Rattle.spec_logic.specs.Refutation.{numbered}
 use Rattle.spec_node.specs.State.{Node, fresh}
@@ -22,7 +22,7 @@ use Rattle.spec_proof.specs.Log.{IsLog}
 use Rattle.spec_proof.proofs.Among.{Among, among-append}
 use Rattle.spec_proof.proofs.Growing.{log-takes-originals, numbered-within}
 use Rattle.spec_job.specs.Journal.{Load, after_entry, loads_of}
-use Rattle.spec_job.specs.Solo.{clauses_in}
+use Rattle.spec_job.specs.SoloMachine.{clauses_in}
 use Rattle.spec_job.specs.Models.{clauses_of}
 use Rattle.spec_job.proofs.LoadedLemmas.{clauses-length, clauses_in-cons}
 use Rattle.spec_job.proofs.ReachedLemmas.{IsClosed}
@@ -96,7 +96,7 @@ loaded-logged log i r first n room h = record {
   before = h.before;
 }
   where
-    low : (c : Held) → c.id < 2 ^ 32 → 2 ^ 32 ≤ c.id → IsOfLine log c
+    low : (c : NumberedClause) → c.id < 2 ^ 32 → 2 ^ 32 ≤ c.id → IsOfLine log c
     low c less more = absurd (omega arith)
 
 pub loads-logged : (log : List Line) (i : ℕ) (rs : List Posted) (first : ℕ) (s : Sliced) → first + clauses_in rs ≤ 2 ^ 32 → IsLogged log i s.node → IsLogged log i (fold after_entry s (loads_of first rs)).node
@@ -118,12 +118,12 @@ node-known front more log i n held h = λ j d b. by_size _ (below j d b) (h.held
     split = flat_map-append (λ (p : Posted). p.clauses) front more
 
     known-originals : All (λ c. numbered (clauses_of (front ++ more)) c.id ≡ Some (Some c.lits)) (originals n.clauses)
-    known-originals = subst (λ (cs : List (Option (List ℕ))). All (λ (c : Held). numbered cs c.id ≡ Some (Some c.lits)) (originals n.clauses)) (sym split) (subst (λ (hs : List Held). All (λ (c : Held). numbered (clauses_of front ++ clauses_of more) c.id ≡ Some (Some c.lits)) hs) (sym held) (numbered-known (clauses_of front) (clauses_of more)))
+    known-originals = subst (λ (cs : List (Option (List ℕ))). All (λ (c : NumberedClause). numbered cs c.id ≡ Some (Some c.lits)) (originals n.clauses)) (sym split) (subst (λ (hs : List NumberedClause). All (λ (c : NumberedClause). numbered (clauses_of front ++ clauses_of more) c.id ≡ Some (Some c.lits)) hs) (sym held) (numbered-known (clauses_of front) (clauses_of more)))
 
     below : All (λ c. nat_lt c.id (2 ^ 32) ≡ true → numbered (clauses_of (front ++ more)) c.id ≡ Some (Some c.lits)) n.clauses
     below = of-originals (λ c. numbered (clauses_of (front ++ more)) c.id ≡ Some (Some c.lits)) n.clauses known-originals
 
-    by_size : (c : Held) → (nat_lt c.id (2 ^ 32) ≡ true → numbered (clauses_of (front ++ more)) c.id ≡ Some (Some c.lits)) → (2 ^ 32 ≤ c.id → IsOfLine log c) → (c.id < 2 ^ 32) ⊎ (2 ^ 32 ≤ c.id) → IsKnown (clauses_of (front ++ more)) log c
+    by_size : (c : NumberedClause) → (nat_lt c.id (2 ^ 32) ≡ true → numbered (clauses_of (front ++ more)) c.id ≡ Some (Some c.lits)) → (2 ^ 32 ≤ c.id → IsOfLine log c) → (c.id < 2 ^ 32) ⊎ (2 ^ 32 ≤ c.id) → IsKnown (clauses_of (front ++ more)) log c
     by_size c f g (inl less) = inl (f (lt-ltb c.id (2 ^ 32) less))
     by_size c f g (inr high) = inr (g high)
 
@@ -142,7 +142,7 @@ slice-covers revisions log m k i n few low is closed sound held h =
     let counted : IsCounted n = lines-counted n in
     let all : Covers (clauses_of (take k revisions)) (log ++ (slice n).lines) i (n.serial + length (slice n).lines) (with_lines n.clauses (slice n).lines) =
     take-lines (clauses_of (take k revisions)) log i n.serial n.clauses (slice n).lines few (covers-node revisions log m k i n low is closed held h) (lines-derived n sound) (subst (λ (j : ℕ). AreNumbered n.serial j (slice n).lines) h.index counted.numbered) in
-    subst (λ (hs : List Held). Covers (clauses_of (take k revisions)) (log ++ (slice n).lines) i (slice n).node.serial hs) (sym (lines-held n)) (subst (λ (x : ℕ). Covers (clauses_of (take k revisions)) (log ++ (slice n).lines) i x (with_lines n.clauses (slice n).lines)) (sym counted.serial) all)
+    subst (λ (hs : List NumberedClause). Covers (clauses_of (take k revisions)) (log ++ (slice n).lines) i (slice n).node.serial hs) (sym (lines-held n)) (subst (λ (x : ℕ). Covers (clauses_of (take k revisions)) (log ++ (slice n).lines) i x (with_lines n.clauses (slice n).lines)) (sym counted.serial) all)
 
 pub covers-logged : (clauses : List (Option (List ℕ))) (log : List Line) (i : ℕ) (n : Node) → n.index ≡ i → Covers clauses log i n.serial n.clauses → IsLogged log i n
 covers-logged clauses log i n e h = record {
@@ -151,6 +151,6 @@ covers-logged clauses log i n e h = record {
   before = h.before;
 }
   where
-    by_source : (c : Held) → IsKnown clauses log c → 2 ^ 32 ≤ c.id → IsOfLine log c
+    by_source : (c : NumberedClause) → IsKnown clauses log c → 2 ^ 32 ≤ c.id → IsOfLine log c
     by_source c (inl q) high = absurd (let low : length clauses < 2 ^ 32 = h.derived.originals_below in numbered-within clauses c.id (Some c.lits) q (omega arith))
     by_source c (inr k) high = k

@@ -2,7 +2,7 @@
 use Rattle.std.proofs.Common.{◌≡◌, ℕ, ◌+◌, ◌<◌, ◌≤◌, true, ◌&&◌, ◌==◌, nat_lt, List, length, Option, Some, None, inl, inr, ◌⊎◌, refl, sym, ap, subst, arith}
 use Rattle.std.specs.Prelude.{slice_set, is_some, is_none}
 use Rattle.std.proofs.lemmas.Bool.{and_parts, ltb-true, cases_lt, eq-eqb, ne_eqb}
-use Rattle.spec_job.specs.Solo.{Started, Lease, Place, Solo, solo_step, place_at, is_for, out_count, is_live, startable}
+use Rattle.spec_job.specs.SoloMachine.{Started, Lease, NodeSlot, SoloMachine, solo_step, place_at, is_for, out_count, is_live, startable}
 use Rattle.spec_job.specs.Counts.{runs_in, runs_of, starts_out}
 use Rattle.spec_job.proofs.PlacesLemmas.{out-within}
 use Rattle.spec_job.proofs.SolvingLemmas.{IsSolvingSolo, lease_of, live-parts}
@@ -10,17 +10,17 @@ use Rattle.spec_job.proofs.CountLemmas.{runs-same, runs-set}
 use Rattle.spec_job.proofs.SumLemmas.{sum-set, set-beyond}
 use Rattle.spec_job.proofs.FewLemmas.{one_if, out_for, one_out, outs_for, none-ahead}
 use Rattle.spec_job.proofs.BudgetLemmas.{IsFew, IsBack}
-use Rattle.mal_base.specs.Held.{Line}
+use Rattle.mal_base.specs.NumberedClause.{Line}
 
 none-of : (o : Option Lease) → is_none o ≡ true → o ≡ None
 none-of None e = refl
 none-of (Some l) e = absurd (cc)
 
 -- a start
-started-there : (slices : ℕ) (s : Solo) (i : ℕ) → i < length s.places → startable s i ≡ true → IsFew slices s → IsFew slices (solo_step s (Started i))
+started-there : (slices : ℕ) (s : SoloMachine) (i : ℕ) → i < length s.places → startable s i ≡ true → IsFew slices s → IsFew slices (solo_step s (Started i))
 started-there slices s i low may h =
-    let p : Place = place_at s i in
-    let q : Place = record p { out = Some (lease_of s i); starts = p.starts + 1 } in
+    let p : NodeSlot = place_at s i in
+    let q : NodeSlot = record p { out = Some (lease_of s i); starts = p.starts + 1 } in
     let c : ℕ = length s.answers in
     let parts = and_parts (is_none p.out) (nat_lt (s.spent + out_count s) s.ask.slices) (and_parts (is_live s && nat_lt i s.volume) (is_none p.out && nat_lt (s.spent + out_count s) s.ask.slices) may).1 in
     let free : p.out ≡ None = none-of p.out parts.0 in
@@ -39,19 +39,19 @@ started-there slices s i low may h =
       idle = λ e. absurd (omega (arith, e, live));
     }
 
-pub started-few : (slices : ℕ) (s : Solo) (i : ℕ) → startable s i ≡ true → IsFew slices s → IsFew slices (solo_step s (Started i))
+pub started-few : (slices : ℕ) (s : SoloMachine) (i : ℕ) → startable s i ≡ true → IsFew slices s → IsFew slices (solo_step s (Started i))
 started-few slices s i may h = by_place (cases_lt i (length s.places))
   where
-    q : Place
+    q : NodeSlot
     q = record (place_at s i) { out = Some (lease_of s i); starts = (place_at s i).starts + 1 }
 
     by_place : (i < length s.places) ⊎ (length s.places ≤ i) → IsFew slices (solo_step s (Started i))
     by_place (inl low) = started-there slices s i low may h
-    by_place (inr high) = subst (λ (ps : List Place). IsFew slices (record s { places = ps })) (sym (set-beyond s.places i q high)) h
+    by_place (inr high) = subst (λ (ps : List NodeSlot). IsFew slices (record s { places = ps })) (sym (set-beyond s.places i q high)) h
 
 -- a start that has come back, with so many slices run
-module _ (slices n i : ℕ) (s : Solo) (l : Lease) (q : Place) (log : List Line) (ran : ℕ) (out : (place_at s i).out ≡ Some l) (none : q.out ≡ None) (more : runs_in q.entries ≡ runs_in (place_at s i).entries + n) (h : IsFew slices s) where
-  abbrev pub t : Solo
+module _ (slices n i : ℕ) (s : SoloMachine) (l : Lease) (q : NodeSlot) (log : List Line) (ran : ℕ) (out : (place_at s i).out ≡ Some l) (none : q.out ≡ None) (more : runs_in q.entries ≡ runs_in (place_at s i).entries + n) (h : IsFew slices s) where
+  abbrev pub t : SoloMachine
   t = record s { places = slice_set s.places i q; log = log; ran = ran }
 
   within : i < length s.places

@@ -8,7 +8,7 @@ use Rattle.std.proofs.lemmas.List.Elements.{All-nil, All-cons, All-append, All-w
 use Rattle.std.proofs.lemmas.List.Sums.{fold_push}
 use Rattle.std.proofs.lemmas.Option.{slice_get_within}
 use Rattle.mal_base.specs.Asks.{Terms}
-use Rattle.mal_base.specs.Held.{Line}
+use Rattle.mal_base.specs.NumberedClause.{Line}
 use Rattle.mal_base.specs.declared.answer.Answer.{Answer}
 use Rattle.mal_base.specs.declared.answer.Answer.TheVariants.{Satisfied, Refuted, Spent, OutOfStarts}
 use Rattle.mal_base.specs.declared.verdict.Verdict.{Verdict}
@@ -18,7 +18,7 @@ use Rattle.mal_base.specs.declared.verdict.Outcome.TheVariants.{Ran, Starved, Lo
 use Rattle.spec_node.specs.Model.{model_of}
 use Rattle.spec_search.specs.Slice.{Sliced}
 use Rattle.spec_job.specs.Journal.{replay}
-use Rattle.spec_job.specs.Solo.{Own, Opened, Revised, Closed, Volume, Started, Finished, Exchanged, Lease, Place, Solo, unopened, solo, solo_step, place_at, with_place, answered, spend, starve, conclude, first_empty, settled, is_for, is_late, finished_home, finished_lease, finished}
+use Rattle.spec_job.specs.SoloMachine.{Own, Opened, Revised, Closed, Volume, Started, Finished, Exchanged, Lease, NodeSlot, SoloMachine, unopened, solo, solo_step, place_at, with_place, answered, spend, starve, conclude, first_empty, settled, is_for, is_late, finished_home, finished_lease, finished}
 use Rattle.spec_job.specs.Counts.{is_opening}
 use Rattle.spec_job.specs.DemandOne.{had_memory}
 use Rattle.spec_job.specs.Runnable.{MayHappen, IsRunnable}
@@ -33,7 +33,7 @@ use Rattle.spec_job.proofs.SumLemmas.{sum-set, sum-marked, set-beyond}
 use Rattle.spec_job.proofs.TallyLemmas.{filter-more, filter-same, no-slice, no-starved, IsTallied, HasTally, answered-tally, settled-tally}
 
 -- an event that ends no start, and leaves answers, counts and the starts that are out
-kept-tally : (slices : ℕ) (es : List Ending) (s t : Solo) → t.answers ≡ s.answers → length s.revisions ≤ length t.revisions → t.spent ≡ s.spent → t.starved ≡ s.starved → ((r n : ℕ) → slice_get s.answers r ≡ Some (Spent n) → outs_for r s.places ≡ 0 → outs_for r t.places ≡ 0) → HasTally slices es s → HasTally slices es t
+kept-tally : (slices : ℕ) (es : List Ending) (s t : SoloMachine) → t.answers ≡ s.answers → length s.revisions ≤ length t.revisions → t.spent ≡ s.spent → t.starved ≡ s.starved → ((r n : ℕ) → slice_get s.answers r ≡ Some (Spent n) → outs_for r s.places ≡ 0 → outs_for r t.places ≡ 0) → HasTally slices es s → HasTally slices es t
 kept-tally slices es s t a more spent starved outs h = record {
   tallied = record {
     reached = subst (λ (xs : List Answer). All (λ e. e.revision ≤ length xs) es) (sym a) h.tallied.reached;
@@ -47,10 +47,10 @@ kept-tally slices es s t a more spent starved outs h = record {
 }
 
 -- a start is for the current revision, which has no answer
-started-tally : (slices : ℕ) (es : List Ending) (s : Solo) (i : ℕ) → HasTally slices es s → HasTally slices es (solo_step s (Started i))
+started-tally : (slices : ℕ) (es : List Ending) (s : SoloMachine) (i : ℕ) → HasTally slices es s → HasTally slices es (solo_step s (Started i))
 started-tally slices es s i h = kept-tally slices es s (solo_step s (Started i)) refl (omega arith) refl refl (λ r n e none. by_place r (slice_get_within s.answers r (Spent n) e) none (cases_lt i (length s.places))) h
   where
-    q : Place
+    q : NodeSlot
     q = record (place_at s i) { out = Some (lease_of s i); starts = (place_at s i).starts + 1 }
 
     by_place : (r : ℕ) → r < length s.answers → outs_for r s.places ≡ 0 → (i < length s.places) ⊎ (length s.places ≤ i) → outs_for r (slice_set s.places i q) ≡ 0
@@ -58,16 +58,16 @@ started-tally slices es s i h = kept-tally slices es s (solo_step s (Started i))
         let set : outs_for r (slice_set s.places i q) + out_for r (place_at s i) ≡ outs_for r s.places + out_for r q = sum-set (out_for r) s.places i q within in
         let other : out_for r q ≡ 0 = ap one_if (ne_eqb (length s.answers) r (λ e. absurd (omega (arith, e, low)))) in
         omega (arith, set, other, none)
-    by_place r low none (inr past) = ap (λ (ps : List Place). outs_for r ps) (set-beyond s.places i q past) ∙ none
+    by_place r low none (inr past) = ap (λ (ps : List NodeSlot). outs_for r ps) (set-beyond s.places i q past) ∙ none
 
-marked-tally : (slices : ℕ) (es : List Ending) (s : Solo) → HasTally slices es s → HasTally slices es (solo_step s Exchanged)
+marked-tally : (slices : ℕ) (es : List Ending) (s : SoloMachine) → HasTally slices es s → HasTally slices es (solo_step s Exchanged)
 marked-tally slices es s h = kept-tally slices es s (solo_step s Exchanged) refl (omega arith) refl refl (λ r n e none. sum-marked (out_for r) (λ m p. refl) s.volume (length s.log) 0 s.places ∙ none) h
 
-revised-tally : (slices : ℕ) (es : List Ending) (s t : Solo) → t.answers ≡ s.answers → t.places ≡ s.places → length s.revisions ≤ length t.revisions → t.spent ≡ s.spent → t.starved ≡ s.starved → HasTally slices es s → HasTally slices es t
-revised-tally slices es s t a places more spent starved h = kept-tally slices es s t a more spent starved (λ r n e none. ap (λ (ps : List Place). outs_for r ps) places ∙ none) h
+revised-tally : (slices : ℕ) (es : List Ending) (s t : SoloMachine) → t.answers ≡ s.answers → t.places ≡ s.places → length s.revisions ≤ length t.revisions → t.spent ≡ s.spent → t.starved ≡ s.starved → HasTally slices es s → HasTally slices es t
+revised-tally slices es s t a places more spent starved h = kept-tally slices es s t a more spent starved (λ r n e none. ap (λ (ps : List NodeSlot). outs_for r ps) places ∙ none) h
 
 -- a start that has ended, with its place at home
-module _ (slices i : ℕ) (es : List Ending) (s : Solo) (l : Lease) (o : Outcome) (out : (place_at s i).out ≡ Some l) (k : IsSolvingSolo s) (few : IsFew slices s) (h : HasTally slices es s) where
+module _ (slices i : ℕ) (es : List Ending) (s : SoloMachine) (l : Lease) (o : Outcome) (out : (place_at s i).out ≡ Some l) (k : IsSolvingSolo s) (few : IsFew slices s) (h : HasTally slices es s) where
   abbrev e : Ending
   e = ending_of s i o l
 
@@ -84,7 +84,7 @@ module _ (slices i : ℕ) (es : List Ending) (s : Solo) (l : Lease) (o : Outcome
   posted = (out-leased s i l out k).posted
 
   -- one start less is out
-  outs : (q : Place) → q.out ≡ None → (r : ℕ) → outs_for r (slice_set s.places i q) + one_if (l.revision == r) ≡ outs_for r s.places
+  outs : (q : NodeSlot) → q.out ≡ None → (r : ℕ) → outs_for r (slice_set s.places i q) + one_if (l.revision == r) ≡ outs_for r s.places
   outs q none r =
       let set : outs_for r (slice_set s.places i q) + out_for r (place_at s i) ≡ outs_for r s.places + out_for r q = sum-set (out_for r) s.places i q within in
       let old : out_for r (place_at s i) ≡ one_if (l.revision == r) = ap (λ (x : Option Lease). one_if (is_for r x)) out in
@@ -119,7 +119,7 @@ module _ (slices i : ℕ) (es : List Ending) (s : Solo) (l : Lease) (o : Outcome
       same = filter-same (is_slice_of r) es e (no-slice r e (other-spent r n a))
   still r OutOfStarts a good = ap (λ (xs : List Ending). length xs) (filter-same (is_starved_of r) es e (not-starved r (slice_get_within s.answers r OutOfStarts a))) ∙ good
 
-  home-tallied : (q : Place) (log : List Line) (ran : ℕ) → q.out ≡ None → IsTallied slices all (record s { places = slice_set s.places i q; log = log; ran = ran })
+  home-tallied : (q : NodeSlot) (log : List Line) (ran : ℕ) → q.out ≡ None → IsTallied slices all (record s { places = slice_set s.places i q; log = log; ran = ran })
   home-tallied q log ran none = record {
     reached = All-append (λ x. x.revision ≤ length s.answers) es (e ∷ []) h.tallied.reached (All-cons (λ x. x.revision ≤ length s.answers) e [] reached (All-nil (λ x. x.revision ≤ length s.answers)));
     posted = All-append (λ x. x.revision < length s.revisions) es (e ∷ []) h.tallied.posted (All-cons (λ x. x.revision < length s.revisions) e [] posted (All-nil (λ x. x.revision < length s.revisions)));
@@ -128,7 +128,7 @@ module _ (slices i : ℕ) (es : List Ending) (s : Solo) (l : Lease) (o : Outcome
   }
 
   -- it counts for nothing
-  home-tally : (q : Place) (log : List Line) (ran : ℕ) → q.out ≡ None → is_slice_of (length s.answers) e ≡ false → is_starved_of (length s.answers) e ≡ false → HasTally slices all (record s { places = slice_set s.places i q; log = log; ran = ran })
+  home-tally : (q : NodeSlot) (log : List Line) (ran : ℕ) → q.out ≡ None → is_slice_of (length s.answers) e ≡ false → is_starved_of (length s.answers) e ≡ false → HasTally slices all (record s { places = slice_set s.places i q; log = log; ran = ran })
   home-tally q log ran none slice starved = record {
     tallied = home-tallied q log ran none;
     spent = ap (λ (xs : List Ending). length xs) (filter-same (is_slice_of (length s.answers)) es e slice) ∙ h.spent;
@@ -139,7 +139,7 @@ module _ (slices i : ℕ) (es : List Ending) (s : Solo) (l : Lease) (o : Outcome
   late-other : is_late s l ≡ true → l.revision ≢ length s.answers
   late-other late same = let low : l.revision < length s.answers = ltb-true l.revision (length s.answers) late in absurd (omega (arith, low, same))
 
-  late-tally : (q : Place) (log : List Line) (ran : ℕ) → q.out ≡ None → is_late s l ≡ true → HasTally slices all (record s { places = slice_set s.places i q; log = log; ran = ran })
+  late-tally : (q : NodeSlot) (log : List Line) (ran : ℕ) → q.out ≡ None → is_late s l ≡ true → HasTally slices all (record s { places = slice_set s.places i q; log = log; ran = ran })
   late-tally q log ran none late = home-tally q log ran none (no-slice (length s.answers) e (late-other late)) (no-starved (length s.answers) e (late-other late))
 
   current : is_late s l ≡ false → l.revision ≡ length s.answers
@@ -162,8 +162,8 @@ module _ (slices i : ℕ) (es : List Ending) (s : Solo) (l : Lease) (o : Outcome
   none-yet ran now none = subst (λ (xs : List Ending). All (λ x. x.node.verdict ≡ None) xs) (sym (sliced ran now)) (All-append (λ x. x.node.verdict ≡ None) (slices_of (length s.answers) es) (e ∷ []) h.no_verdict (All-cons (λ x. x.node.verdict ≡ None) e [] none (All-nil (λ x. x.node.verdict ≡ None))))
 
   -- the place at home
-  module _ (q : Place) (log : List Line) (count : ℕ) (none : q.out ≡ None) (now : is_late s l ≡ false) where
-    abbrev t : Solo
+  module _ (q : NodeSlot) (log : List Line) (count : ℕ) (none : q.out ≡ None) (now : is_late s l ≡ false) where
+    abbrev t : SoloMachine
     t = record s { places = slice_set s.places i q; log = log; ran = count }
 
     tallied : IsTallied slices all t
@@ -224,7 +224,7 @@ module _ (slices i : ℕ) (es : List Ending) (s : Solo) (l : Lease) (o : Outcome
   pub lease-tally : (x : Outcome) → o ≡ x → HasTally slices all (finished_lease s i (place_at s i) l x)
   lease-tally Ran ran = by_late (is_late s l) refl
     where
-      q : Place
+      q : NodeSlot
       q = record (place_at s i) { entries = (place_at s i).entries ++ l.adds; out = None }
 
       slice : Sliced
@@ -233,7 +233,7 @@ module _ (slices i : ℕ) (es : List Ending) (s : Solo) (l : Lease) (o : Outcome
       log : List Line
       log = s.log ++ slice.lines
 
-      home : Solo
+      home : SoloMachine
       home = record (with_place s i q) { log = log; ran = s.ran + 1 }
 
       by_late : (b : Bool) → is_late s l ≡ b → HasTally slices all (cond b home (conclude slice.node.verdict slice.node home))
@@ -241,7 +241,7 @@ module _ (slices i : ℕ) (es : List Ending) (s : Solo) (l : Lease) (o : Outcome
       by_late false now = conclude-tally q log (s.ran + 1) refl now ran slice.node.verdict refl
   lease-tally Starved starved = by_late (is_late s l) refl
     where
-      home : Solo
+      home : SoloMachine
       home = finished_home s i (place_at s i)
 
       by_late : (b : Bool) → is_late s l ≡ b → HasTally slices all (cond b home (starve home))
@@ -253,16 +253,16 @@ module _ (slices i : ℕ) (es : List Ending) (s : Solo) (l : Lease) (o : Outcome
 abbrev pub and_ending : List Ending → Option Ending → List Ending
 and_ending es x = es ++ with_ending x []
 
-finished-tally : (slices i : ℕ) (es : List Ending) (s : Solo) (out : Option Lease) (o : Outcome) → (place_at s i).out ≡ out → IsSolvingSolo s → IsFew slices s → HasTally slices es s → HasTally slices (and_ending es (option_map (ending_of s i o) out)) (finished s i (place_at s i) out o)
+finished-tally : (slices i : ℕ) (es : List Ending) (s : SoloMachine) (out : Option Lease) (o : Outcome) → (place_at s i).out ≡ out → IsSolvingSolo s → IsFew slices s → HasTally slices es s → HasTally slices (and_ending es (option_map (ending_of s i o) out)) (finished s i (place_at s i) out o)
 finished-tally slices i es s None o e k few h = subst (λ (xs : List Ending). HasTally slices xs s) (sym (append-nil es)) h
 finished-tally slices i es s (Some l) o e k few h =
-    let ended : Solo = finished_lease s i (place_at s i) l o in
+    let ended : SoloMachine = finished_lease s i (place_at s i) l o in
     settled-tally slices (es ++ ending_of s i o l ∷ []) (first_empty ended.log) ended (lease-solving s i l o e k).order (lease-tally slices i es s l o e k few h o refl)
 
-step-tally : (slices : ℕ) (es : List Ending) (s : Solo) (o : Own) → is_opening o ≡ false → MayHappen s o → IsWithin slices s → HasTally slices es s → HasTally slices (and_ending es (ended_by s o)) (solo_step s o)
+step-tally : (slices : ℕ) (es : List Ending) (s : SoloMachine) (o : Own) → is_opening o ≡ false → MayHappen s o → IsWithin slices s → HasTally slices es s → HasTally slices (and_ending es (ended_by s o)) (solo_step s o)
 step-tally slices es s (Opened ask) once may w h = absurd (cc)
 step-tally slices es s (Revised r) once may w h =
-    let longer : Solo = record s { revisions = s.revisions ++ r ∷ [] } in
+    let longer : SoloMachine = record s { revisions = s.revisions ++ r ∷ [] } in
     let long : length (s.revisions ++ r ∷ []) ≡ length s.revisions + 1 = length-append s.revisions (r ∷ []) in
     subst (λ (xs : List Ending). HasTally slices xs (settled longer)) (sym (append-nil es)) (settled-tally slices es (first_empty s.log) longer (omega (arith, long, w.kept.solving.order)) (revised-tally slices es s longer refl refl (omega (arith, long)) refl refl h))
 step-tally slices es s Closed once may w h = subst (λ (xs : List Ending). HasTally slices xs (solo_step s Closed)) (sym (append-nil es)) (revised-tally slices es s (solo_step s Closed) refl refl (omega arith) refl refl h)
@@ -281,10 +281,10 @@ events-tally slices es past [] may once w h = subst (λ (xs : List Ending). HasT
 events-tally slices es past (o ∷ os) may once w h =
     let parts = or_parts (is_opening o) (list_any is_opening os) once in
     let push : solo (past ++ o ∷ []) ≡ solo_step (solo past) o = fold_push solo_step unopened past o in
-    let within : IsWithin slices (solo (past ++ o ∷ [])) = subst (λ (s : Solo). IsWithin slices s) (sym push) (step-within slices (solo past) o may.0 parts.0 w) in
-    let here : HasTally slices (and_ending es (ended_by (solo past) o)) (solo (past ++ o ∷ [])) = subst (λ (s : Solo). HasTally slices (and_ending es (ended_by (solo past) o)) s) (sym push) (step-tally slices es (solo past) o parts.0 may.0 w h) in
+    let within : IsWithin slices (solo (past ++ o ∷ [])) = subst (λ (s : SoloMachine). IsWithin slices s) (sym push) (step-within slices (solo past) o may.0 parts.0 w) in
+    let here : HasTally slices (and_ending es (ended_by (solo past) o)) (solo (past ++ o ∷ [])) = subst (λ (s : SoloMachine). HasTally slices (and_ending es (ended_by (solo past) o)) s) (sym push) (step-tally slices es (solo past) o parts.0 may.0 w h) in
     let rest : HasTally slices (and_ending es (ended_by (solo past) o) ++ endings_from (solo (past ++ o ∷ [])) os) (solo ((past ++ o ∷ []) ++ os)) = events-tally slices (and_ending es (ended_by (solo past) o)) (past ++ o ∷ []) os may.1 parts.1 within here in
-    let same : and_ending es (ended_by (solo past) o) ++ endings_from (solo (past ++ o ∷ [])) os ≡ es ++ endings_from (solo past) (o ∷ os) = ap (λ (s : Solo). and_ending es (ended_by (solo past) o) ++ endings_from s os) push ∙ ending-first es (ended_by (solo past) o) (endings_from (solo_step (solo past) o) os) in
+    let same : and_ending es (ended_by (solo past) o) ++ endings_from (solo (past ++ o ∷ [])) os ≡ es ++ endings_from (solo past) (o ∷ os) = ap (λ (s : SoloMachine). and_ending es (ended_by (solo past) o) ++ endings_from s os) push ∙ ending-first es (ended_by (solo past) o) (endings_from (solo_step (solo past) o) os) in
     subst (λ (xs : List Own). HasTally slices (es ++ endings_from (solo past) (o ∷ os)) (solo xs)) (append_assoc past (o ∷ []) os) (subst (λ (xs : List Ending). HasTally slices xs (solo ((past ++ o ∷ []) ++ os))) same rest)
 
 opened-tally : (ask : Terms) → HasTally ask.slices [] (solo (Opened ask ∷ []))
@@ -303,7 +303,7 @@ answers-accounted_for ask own h r a e =
     subst (λ (n : ℕ). IsAccountedFor n (endings (Opened ask ∷ own)) r a) (sym asked.few.budget) (tally.tallied.accounted r a e)
 
 -- where none wanted for memory
-none-starved : (s : Solo) (r : ℕ) (events : List Own) → list_all is_fed events ≡ true → starved_of r (endings_from s events) ≡ []
+none-starved : (s : SoloMachine) (r : ℕ) (events : List Own) → list_all is_fed events ≡ true → starved_of r (endings_from s events) ≡ []
 none-starved s r [] h = refl
 none-starved s r (o ∷ os) h =
     let parts = and_parts (is_fed o) (list_all is_fed os) h in

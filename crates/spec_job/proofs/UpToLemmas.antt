@@ -7,7 +7,7 @@ use Rattle.std.proofs.lemmas.List.{length-take, take-append-drop, take-append-le
 use Rattle.std.proofs.lemmas.List.Sums.{fold_push}
 use Rattle.std.proofs.lemmas.Option.{slice_get_within, slice_get-get_or}
 use Rattle.mal_base.specs.Asks.{Terms}
-use Rattle.mal_base.specs.Held.{Line}
+use Rattle.mal_base.specs.NumberedClause.{Line}
 use Rattle.mal_base.specs.declared.answer.Answer.{Answer}
 use Rattle.mal_base.specs.declared.answer.Answer.TheVariants.{Satisfied, Refuted, Spent, OutOfStarts}
 use Rattle.mal_base.specs.declared.verdict.Verdict.{Verdict}
@@ -25,61 +25,61 @@ use Rattle.spec_job.specs.Journal.{Run, replay, loads_in, loads_of}
 use Rattle.spec_job.specs.Models.{KeepsAnswers}
 use Rattle.spec_job.specs.Replies.{told_by, reply}
 use Rattle.spec_job.specs.Runnable.{MayHappen, IsRunnable}
-use Rattle.spec_job.specs.Solo.{Own, Opened, Revised, Closed, Volume, Started, Finished, Exchanged, Lease, Place, Solo, unopened, solo, solo_step, place_at, with_place, answered, spend, starve, conclude, first_empty, settled_by, clauses_in, is_late, finished_home, finished_lease, finished}
-use Rattle.spec_job.specs.Titled.{Key}
+use Rattle.spec_job.specs.SoloMachine.{Own, Opened, Revised, Closed, Volume, Started, Finished, Exchanged, Lease, NodeSlot, SoloMachine, unopened, solo, solo_step, place_at, with_place, answered, spend, starve, conclude, first_empty, settled_by, clauses_in, is_late, finished_home, finished_lease, finished}
+use Rattle.spec_job.specs.KeyedJob.{Key}
 use Rattle.spec_job.proofs.AgreeLemmas.{ComeFrom, courses-agree, le-or_lt, IsFront, courses-logs}
 use Rattle.spec_job.proofs.AlongLemmas.{IsAlong}
 use Rattle.spec_job.proofs.CourseLemmas.{Course, course, concluded, with_answer, next_adds, GoesOn, WentOn, course-more}
 use Rattle.spec_job.proofs.ElementLemmas.{get-front}
-use Rattle.spec_job.proofs.KeptLemmas.{IsKept, step-kept}
+use Rattle.spec_job.proofs.KeptLemmas.{MachineInvariant, step-kept}
 use Rattle.spec_job.proofs.LoadedLemmas.{loads_in-append, loads_in-loads}
 use Rattle.spec_job.proofs.ReplyLemmas.{told-same, reply-at}
 use Rattle.spec_job.proofs.SingleLemmas.{IsOnCourse, GoesOneOn, IsFollowing, step-on, opened-follows, come-along, log-along}
 use Rattle.spec_job.proofs.StayLemmas.{stays-self, stays-on, step-stays}
 
 -- a machine grows: lines and revisions come behind those that there are
-record HasGrown (s t : Solo) : Type 0 where
+record HasGrown (s t : SoloMachine) : Type 0 where
   pub lines : List Line
   pub log : t.log ≡ s.log ++ lines
   pub more : List Posted
   pub revisions : t.revisions ≡ s.revisions ++ more
 
-unchanged : (s t : Solo) → t.log ≡ s.log → t.revisions ≡ s.revisions → HasGrown s t
+unchanged : (s t : SoloMachine) → t.log ≡ s.log → t.revisions ≡ s.revisions → HasGrown s t
 unchanged s t l r = record { lines = []; log = l ∙ sym (append-nil s.log); more = []; revisions = r ∙ sym (append-nil s.revisions) }
 
-settled-grown : (s h : Solo) (o : Option ℕ) → HasGrown s h → HasGrown s (settled_by o h)
+settled-grown : (s h : SoloMachine) (o : Option ℕ) → HasGrown s h → HasGrown s (settled_by o h)
 settled-grown s h None k = k
 settled-grown s h (Some goal) k = record { lines = k.lines; log = k.log; more = k.more; revisions = k.revisions }
 
-either-grown : (b : Bool) (s x y : Solo) → HasGrown s x → HasGrown s y → HasGrown s (cond b x y)
+either-grown : (b : Bool) (s x y : SoloMachine) → HasGrown s x → HasGrown s y → HasGrown s (cond b x y)
 either-grown true s x y p q = p
 either-grown false s x y p q = q
 
-spend-grown : (s h : Solo) → HasGrown s h → HasGrown s (spend h)
+spend-grown : (s h : SoloMachine) → HasGrown s h → HasGrown s (spend h)
 spend-grown s h k = either-grown (h.spent + 1 == h.ask.slices) s (answered h (Spent h.ask.slices)) (record h { spent = h.spent + 1 }) (record { lines = k.lines; log = k.log; more = k.more; revisions = k.revisions }) (record { lines = k.lines; log = k.log; more = k.more; revisions = k.revisions })
 
-starve-grown : (s h : Solo) → HasGrown s h → HasGrown s (starve h)
+starve-grown : (s h : SoloMachine) → HasGrown s h → HasGrown s (starve h)
 starve-grown s h k = either-grown (h.starved + 1 == 3) s (answered h OutOfStarts) (record h { starved = h.starved + 1 }) (record { lines = k.lines; log = k.log; more = k.more; revisions = k.revisions }) (record { lines = k.lines; log = k.log; more = k.more; revisions = k.revisions })
 
-conclude-grown : (v : Option Verdict) (n : Node) (s h : Solo) → HasGrown s h → HasGrown s (conclude v n h)
+conclude-grown : (v : Option Verdict) (n : Node) (s h : SoloMachine) → HasGrown s h → HasGrown s (conclude v n h)
 conclude-grown None n s h k = spend-grown s h k
 conclude-grown (Some Satisfiable) n s h k = record { lines = k.lines; log = k.log; more = k.more; revisions = k.revisions }
 conclude-grown (Some (Unsatisfiable goal)) n s h k = record { lines = k.lines; log = k.log; more = k.more; revisions = k.revisions }
 
-lease-grown : (s : Solo) (i : ℕ) (p : Place) (l : Lease) (o : Outcome) → HasGrown s (finished_lease s i p l o)
+lease-grown : (s : SoloMachine) (i : ℕ) (p : NodeSlot) (l : Lease) (o : Outcome) → HasGrown s (finished_lease s i p l o)
 lease-grown s i p l Ran =
     let slice : Sliced = replay i (p.entries ++ l.adds) in
-    let home : Solo = record (with_place s i (record p { entries = p.entries ++ l.adds; out = None })) { log = s.log ++ slice.lines; ran = s.ran + 1 } in
+    let home : SoloMachine = record (with_place s i (record p { entries = p.entries ++ l.adds; out = None })) { log = s.log ++ slice.lines; ran = s.ran + 1 } in
     let grown : HasGrown s home = record { lines = slice.lines; log = refl; more = []; revisions = sym (append-nil s.revisions) } in
     either-grown (is_late s l) s home (conclude slice.node.verdict slice.node home) grown (conclude-grown slice.node.verdict slice.node s home grown)
-lease-grown s i p l Starved = let home : Solo = finished_home s i p in either-grown (is_late s l) s home (starve home) (unchanged s home refl refl) (starve-grown s home (unchanged s home refl refl))
+lease-grown s i p l Starved = let home : SoloMachine = finished_home s i p in either-grown (is_late s l) s home (starve home) (unchanged s home refl refl) (starve-grown s home (unchanged s home refl refl))
 lease-grown s i p l Lost = unchanged s (finished_home s i p) refl refl
 
-finished-grown : (s : Solo) (i : ℕ) (p : Place) (out : Option Lease) (o : Outcome) → HasGrown s (finished s i p out o)
+finished-grown : (s : SoloMachine) (i : ℕ) (p : NodeSlot) (out : Option Lease) (o : Outcome) → HasGrown s (finished s i p out o)
 finished-grown s i p None o = unchanged s s refl refl
-finished-grown s i p (Some l) o = let ended : Solo = finished_lease s i p l o in settled-grown s ended (first_empty ended.log) (lease-grown s i p l o)
+finished-grown s i p (Some l) o = let ended : SoloMachine = finished_lease s i p l o in settled-grown s ended (first_empty ended.log) (lease-grown s i p l o)
 
-step-grown : (s : Solo) (o : Own) → HasGrown s (solo_step s o)
+step-grown : (s : SoloMachine) (o : Own) → HasGrown s (solo_step s o)
 step-grown s (Opened ask) = unchanged s (solo_step s (Opened ask)) refl refl
 step-grown s (Revised r) = settled-grown s (record s { revisions = s.revisions ++ r ∷ [] }) (first_empty s.log) (record { lines = []; log = sym (append-nil s.log); more = r ∷ []; revisions = refl })
 step-grown s Closed = unchanged s (solo_step s Closed) refl refl
@@ -177,10 +177,10 @@ went-front slices front rest r (suc n) size w left =
     (went, front-on slices front rest r n size left w.1 went)
 
 -- a machine as it was just after it answered a revision
-pub record WasAnswered (slices r : ℕ) (s : Solo) : Type 0 where
-  pub was : Solo
+pub record WasAnswered (slices r : ℕ) (s : SoloMachine) : Type 0 where
+  pub was : SoloMachine
   pub ran : ℕ
-  pub kept : IsKept was
+  pub kept : MachineInvariant was
   pub along : IsAlong slices was ran
   pub went : WentOn slices (take (r + 1) was.revisions) ran
   pub answered_then : r < length was.answers
@@ -190,7 +190,7 @@ pub record WasAnswered (slices r : ℕ) (s : Solo) : Type 0 where
   pub same : take (r + 1) s.revisions ≡ take (r + 1) was.revisions
 
 -- a revision has no answer yet, or it was answered so
-abbrev Stands : ℕ → ℕ → Solo → Type 0
+abbrev Stands : ℕ → ℕ → SoloMachine → Type 0
 Stands slices r s = (length s.answers ≤ r) ⊎ WasAnswered slices r s
 
 come-short : (c : Course) (answers : List Answer) → ComeFrom c answers → length c.answers ≤ length answers
@@ -204,7 +204,7 @@ come-short c answers h = by_order (cases_lt (length answers) (length c.answers))
         absurd (omega (arith, there))
 
 -- the course before the last slice has answered no more than the machine before the event
-left-after : (slices r n m : ℕ) (s t : Solo) → (more : List Posted) → t.revisions ≡ s.revisions ++ more → m ≤ suc n → IsAlong slices s n → length s.answers ≤ r → HasLeft slices t.revisions r m
+left-after : (slices r n m : ℕ) (s t : SoloMachine) → (more : List Posted) → t.revisions ≡ s.revisions ++ more → m ≤ suc n → IsAlong slices s n → length s.answers ≤ r → HasLeft slices t.revisions r m
 left-after slices r n zero s t more e low along few = tt
 left-after slices r n (suc j) s t more e low along few =
     let went : WentOn slices s.revisions j = went-down slices s.revisions j n (omega (arith, low)) along.went in
@@ -216,7 +216,7 @@ left-after slices r n (suc j) s t more e low along few =
 front-size : (r : ℕ) (ps : List Posted) → r < length ps → length (take (r + 1) ps) ≡ r + 1
 front-size r ps low = let taken : length (take (r + 1) ps) ≡ min (r + 1) (length ps) = length-take (r + 1) ps in omega (arith, taken, low)
 
-step-stands : (slices r n : ℕ) (s : Solo) (o : Own) → MayHappen s o → is_single o ≡ true → IsKept s → IsAlong slices s n → Stands slices r s → Stands slices r (solo_step s o)
+step-stands : (slices r n : ℕ) (s : SoloMachine) (o : Own) → MayHappen s o → is_single o ≡ true → MachineInvariant s → IsAlong slices s n → Stands slices r s → Stands slices r (solo_step s o)
 step-stands slices r n s o may single kept along (inr w) =
     let grown : HasGrown s (solo_step s o) = step-grown s o in
     let stayed : length w.was.answers ≤ length s.answers = omega (arith, ap (λ (xs : List Answer). length xs) w.stay.kept, length-append w.was.answers w.stay.more) in
@@ -235,10 +235,10 @@ step-stands slices r n s o may single kept along (inr w) =
     })
 step-stands slices r n s o may single kept along (inl few) = by_order (cases_lt r (length t.answers))
   where
-    t : Solo
+    t : SoloMachine
     t = solo_step s o
 
-    after : IsKept t
+    after : MachineInvariant t
     after = step-kept s o may kept
 
     on : GoesOneOn slices n t
@@ -270,8 +270,8 @@ step-stands slices r n s o may single kept along (inl few) = by_order (cases_lt 
     by_order (inr low) = inl low
 
 -- of a whole run
-record IsTraced (slices r : ℕ) (s : Solo) : Type 0 where
-  pub kept : IsKept s
+record IsTraced (slices r : ℕ) (s : SoloMachine) : Type 0 where
+  pub kept : MachineInvariant s
   pub on : IsOnCourse slices s
   pub stands : Stands slices r s
 
@@ -279,10 +279,10 @@ events-traced : (slices r : ℕ) (past events : List Own) → IsRunnable past ev
 events-traced slices r past [] may single h = subst (λ (es : List Own). IsTraced slices r (solo es)) (sym (append-nil past)) h
 events-traced slices r past (o ∷ os) may single h =
     let parts = and_parts (is_single o) (list_all is_single os) single in
-    let after : IsKept (solo_step (solo past) o) = step-kept (solo past) o may.0 h.kept in
+    let after : MachineInvariant (solo_step (solo past) o) = step-kept (solo past) o may.0 h.kept in
     let on : GoesOneOn slices h.on.0 (solo_step (solo past) o) = step-on slices h.on.0 (solo past) o may.0 parts.0 h.kept after h.on.1 in
     let here : IsTraced slices r (solo_step (solo past) o) = record { kept = after; on = (on.0, on.2); stands = step-stands slices r h.on.0 (solo past) o may.0 parts.0 h.kept h.on.1 h.stands } in
-    let next : IsTraced slices r (solo (past ++ o ∷ [])) = subst (λ (s : Solo). IsTraced slices r s) (sym (fold_push solo_step unopened past o)) here in
+    let next : IsTraced slices r (solo (past ++ o ∷ [])) = subst (λ (s : SoloMachine). IsTraced slices r s) (sym (fold_push solo_step unopened past o)) here in
     subst (λ (es : List Own). IsTraced slices r (solo es)) (append_assoc past (o ∷ []) os) (events-traced slices r (past ++ o ∷ []) os may.1 parts.1 next)
 
 single-traced : (ask : Terms) (own : List Own) (r : ℕ) → IsSingle ask own → IsTraced ask.slices r (solo (Opened ask ∷ own))
@@ -291,7 +291,7 @@ single-traced ask own r h =
     events-traced ask.slices r (Opened ask ∷ []) own h.runnable.1 h.single (record { kept = opened.kept; on = opened.on; stands = inl (omega arith) })
 
 -- two machines just after they answered a revision, where the revisions up to it are the same
-module _ (slices r : ℕ) (s t : Solo) (v : WasAnswered slices r s) (w : WasAnswered slices r t) (alike : take (r + 1) s.revisions ≡ take (r + 1) t.revisions) where
+module _ (slices r : ℕ) (s t : SoloMachine) (v : WasAnswered slices r s) (w : WasAnswered slices r t) (alike : take (r + 1) s.revisions ≡ take (r + 1) t.revisions) where
   abbrev front : List Posted
   front = take (r + 1) v.was.revisions
 
@@ -311,7 +311,7 @@ module _ (slices r : ℕ) (s t : Solo) (v : WasAnswered slices r s) (w : WasAnsw
   were-fronts = courses-logs slices front v.ran w.ran v.was.log w.was.log (log-along slices v.ran v.was v.along ∙ ap (λ (c : Course). c.log) course-v) (log-along slices w.ran w.was w.along ∙ ap (λ (c : Course). c.log) course-w) (le-or_lt v.ran w.ran)
 
 -- the answer that it gave then is the one that it has
-answer-then : (slices r : ℕ) (s : Solo) (v : WasAnswered slices r s) (a : Answer) → slice_get s.answers r ≡ Some a → slice_get v.was.answers r ≡ Some a
+answer-then : (slices r : ℕ) (s : SoloMachine) (v : WasAnswered slices r s) (a : Answer) → slice_get s.answers r ≡ Some a → slice_get v.was.answers r ≡ Some a
 answer-then slices r s v a e =
     let x : Answer = get_or v.was.answers r OutOfStarts in
     let at : slice_get v.was.answers r ≡ Some x = slice_get-get_or v.was.answers r OutOfStarts v.answered_then in
@@ -319,15 +319,15 @@ answer-then slices r s v a e =
     let same : x ≡ a = cc in
     subst (λ (y : Answer). slice_get v.was.answers r ≡ Some y) same at
 
-was-answered : (slices r : ℕ) (s : Solo) (a : Answer) → Stands slices r s → slice_get s.answers r ≡ Some a → WasAnswered slices r s
+was-answered : (slices r : ℕ) (s : SoloMachine) (a : Answer) → Stands slices r s → slice_get s.answers r ≡ Some a → WasAnswered slices r s
 was-answered slices r s a (inl few) e = let within : r < length s.answers = slice_get_within s.answers r a e in absurd (omega (arith, few, within))
 was-answered slices r s a (inr w) e = w
 
 -- what was told then is what is told now
-told-then : (slices r : ℕ) (s : Solo) (v : WasAnswered slices r s) (a : Answer) → IsKept s → slice_get s.answers r ≡ Some a → told_by s r a ≡ told_by v.was r a
+told-then : (slices r : ℕ) (s : SoloMachine) (v : WasAnswered slices r s) (a : Answer) → MachineInvariant s → slice_get s.answers r ≡ Some a → told_by s r a ≡ told_by v.was r a
 told-then slices r s v a kept e = sym (told-same v.was s r a v.kept kept (inl (v.lines, v.log)) (sym v.same) (answer-then slices r s v a e) e)
 
-traced-agree : (slices r : ℕ) (s t : Solo) → IsTraced slices r s → IsTraced slices r t → take (r + 1) s.revisions ≡ take (r + 1) t.revisions → AgreeOn r s t
+traced-agree : (slices r : ℕ) (s t : SoloMachine) → IsTraced slices r s → IsTraced slices r t → take (r + 1) s.revisions ≡ take (r + 1) t.revisions → AgreeOn r s t
 traced-agree slices r s t h k alike = record { answers = answers; replies = λ key a b e f. replies key a b (subst (λ (n : ℕ). reply key n s ≡ Some a) next e) (subst (λ (n : ℕ). reply key n t ≡ Some b) next f) }
   where
     next : r + 1 ≡ suc r

@@ -2,7 +2,7 @@
 use Rattle.std.proofs.Common.{ℕ, ◌-◌, ◌≤◌, List, ◌++◌, length, take, drop, sym, subst, arith, inl, inr, ◌⊎◌}
 use Rattle.std.specs.Prelude.{All}
 use Rattle.std.proofs.lemmas.List.Elements.{All-weaker}
-use Rattle.mal_base.specs.Held.{Held, Line}
+use Rattle.mal_base.specs.NumberedClause.{NumberedClause, Line}
 use Rattle.mal_revision.specs.Posted.{Posted}
 use Rattle.spec_node.specs.State.{Node}
 use Rattle.spec_node.specs.Sound.{IsLiteralOf, AreLiteralsOf}
@@ -39,8 +39,8 @@ slice-within : (revisions : List Posted) (n : Node) → HasLoaded revisions n �
 slice-within revisions n h =
     let after : HasLoaded revisions (slice n).node = slice-loaded revisions n h in
     let all : All (λ c. AreLiteralsOf (slice n).node.variables c.lits) (slice n).node.clauses = after.sound.consistent.clauses in
-    let here : All (λ c. AreLiteralsOf (variables_of revisions) c.lits) (slice n).node.clauses = subst (λ (v : ℕ). All (λ (c : Held). AreLiteralsOf v c.lits) (slice n).node.clauses) after.variables all in
-    (parts-with_lines (λ c. AreLiteralsOf (variables_of revisions) c.lits) (slice n).lines n.clauses (subst (λ (cs : List Held). All (λ (c : Held). AreLiteralsOf (variables_of revisions) c.lits) cs) (lines-held n) here)).0
+    let here : All (λ c. AreLiteralsOf (variables_of revisions) c.lits) (slice n).node.clauses = subst (λ (v : ℕ). All (λ (c : NumberedClause). AreLiteralsOf v c.lits) (slice n).node.clauses) after.variables all in
+    (parts-with_lines (λ c. AreLiteralsOf (variables_of revisions) c.lits) (slice n).lines n.clauses (subst (λ (cs : List NumberedClause). All (λ (c : NumberedClause). AreLiteralsOf (variables_of revisions) c.lits) cs) (lines-held n) here)).0
 
 -- so a log takes the lines of a slice of a node that has loaded no more than the current revision
 pub within-slice : (revisions : List Posted) (log : List Line) (k m : ℕ) (n : Node) → k ≤ m → HasLoaded (take k revisions) n → AreWithin (variables_of (take m revisions)) log → AreWithin (variables_of (take m revisions)) (log ++ (slice n).lines)
@@ -51,5 +51,5 @@ within-slice revisions log k m n low loaded h line a = by_side (among-append log
     by_side (inr b) = within-later k m revisions (slice n).lines low (slice-within (take k revisions) n loaded) line b
 
 -- what is told stays said where lines come behind
-pub said-later : (log more : List Line) (told : List Held) → IsSaid log told → IsSaid (log ++ more) told
+pub said-later : (log more : List Line) (told : List NumberedClause) → IsSaid log told → IsSaid (log ++ more) told
 said-later log more told h = record { lines = All-weaker (IsOfLine log) (IsOfLine (log ++ more)) (of-line-later log more) told h.lines; apart = h.apart }

@@ -3,7 +3,7 @@ use Rattle.std.specs.List.{list_any}
 use Rattle.mal_base.specs.Asks.{Terms}
 use Rattle.spec_node.specs.State.{Node}
 use Rattle.spec_job.specs.Journal.{JournalEntry, Load, Import, Run, replay}
-use Rattle.spec_job.specs.Solo.{Own, Opened, Revised, Closed, Volume, Started, Finished, Exchanged, Place, Solo, solo, place_at, missing_loads, missing_imports}
+use Rattle.spec_job.specs.SoloMachine.{Own, Opened, Revised, Closed, Volume, Started, Finished, Exchanged, NodeSlot, SoloMachine, solo, place_at, missing_loads, missing_imports}
 use Rattle.spec_job.specs.Runnable.{IsRunnable}
 
 -- whether an entry runs a slice
@@ -17,18 +17,18 @@ abbrev pub runs_in : List JournalEntry → ℕ
 runs_in entries = count_by is_run entries
 
 -- how many slices the journals of all places have run
-abbrev pub runs_of : List Place → ℕ
+abbrev pub runs_of : List NodeSlot → ℕ
 runs_of places = sum_by (λ p. runs_in p.entries) places
 
 -- the counts of a node that ran so many slices, of all those of its job: each slice raises a count by 1,000 at most, and
 -- an import raises the serial to that of another node
 pub record HasCounts (all runs : ℕ) (n : Node) : Type 0 where
   pub serial : n.serial ≤ all * 1000
-  pub since : n.since ≤ runs * 1000
-  pub round : n.round ≤ 1 + runs * 1000
+  pub conflicts_since_restart : n.conflicts_since_restart ≤ runs * 1000
+  pub restart_number : n.restart_number ≤ 1 + runs * 1000
 
 -- the counts of a place's node at home, and as its next start finds it, with what it lacks loaded and imported
-pub record PlaceCounts (s : Solo) (i : ℕ) (p : Place) : Type 0 where
+pub record PlaceCounts (s : SoloMachine) (i : ℕ) (p : NodeSlot) : Type 0 where
   pub home : HasCounts (runs_of s.places) (runs_in p.entries) (replay i p.entries).node
   pub ready : HasCounts (runs_of s.places) (runs_in p.entries) (replay i (p.entries ++ (missing_loads s p ++ missing_imports s p))).node
 
@@ -37,7 +37,7 @@ abbrev pub ReplaysCount : Type 0
 ReplaysCount = (events : List Own) (i : ℕ) → i ≤ 63 → PlaceCounts (solo events) i (place_at (solo events) i)
 
 -- how many starts are out
-abbrev pub starts_out : List Place → ℕ
+abbrev pub starts_out : List NodeSlot → ℕ
 starts_out places = count_by (λ p. is_some p.out) places
 
 -- whether an own event opens a job

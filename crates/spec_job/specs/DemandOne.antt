@@ -5,14 +5,14 @@ use Rattle.mal_base.specs.declared.answer.Answer.{Answer}
 use Rattle.mal_base.specs.declared.verdict.Outcome.{Outcome}
 use Rattle.mal_base.specs.declared.verdict.Outcome.TheVariants.{Ran, Starved, Lost}
 use Rattle.mal_revision.specs.Posted.{Posted}
-use Rattle.spec_job.specs.Solo.{Own, Opened, Revised, Closed, Volume, Started, Finished, Exchanged, Solo, solo, is_exchange_due}
-use Rattle.spec_job.specs.Titled.{Key}
+use Rattle.spec_job.specs.SoloMachine.{Own, Opened, Revised, Closed, Volume, Started, Finished, Exchanged, SoloMachine, solo, is_exchange_due}
+use Rattle.spec_job.specs.KeyedJob.{Key}
 use Rattle.spec_job.specs.Replies.{reply}
 use Rattle.spec_job.specs.Runnable.{IsRunnable}
 
 -- no exchange is due where the volume is not above 1
 abbrev pub NoneIsDue : Type 0
-NoneIsDue = (s : Solo) → s.volume ≤ 1 → is_exchange_due s ≡ false
+NoneIsDue = (s : SoloMachine) → s.volume ≤ 1 → is_exchange_due s ≡ false
 
 -- a start did not want for memory
 abbrev pub had_memory : Outcome → Bool
@@ -41,7 +41,7 @@ abbrev pub Agree : List Answer → List Answer → Type 0
 Agree xs ys = (r : ℕ) (a b : Answer) → slice_get xs r ≡ Some a → slice_get ys r ≡ Some b → a ≡ b
 
 -- the answers and the replies of two machines agree as far as both go
-pub record AgreeAll (s t : Solo) : Type 0 where
+pub record AgreeAll (s t : SoloMachine) : Type 0 where
   pub answers : Agree s.answers t.answers
   pub replies : (k : Key) (r : ℕ) (a b : List ℕ) → reply k r s ≡ Some a → reply k r t ≡ Some b → a ≡ b
 

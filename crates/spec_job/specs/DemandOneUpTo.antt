@@ -5,14 +5,14 @@ use Rattle.mal_base.specs.declared.answer.Answer.{Answer}
 use Rattle.mal_base.specs.declared.answer.Answer.TheVariants.{Satisfied, Refuted}
 use Rattle.mal_base.specs.declared.verdict.Outcome.TheVariants.{Ran}
 use Rattle.mal_revision.specs.Posted.{Posted}
-use Rattle.spec_job.specs.Solo.{Own, Opened, Revised, Closed, Volume, Started, Finished, Solo, solo}
-use Rattle.spec_job.specs.Titled.{Key}
+use Rattle.spec_job.specs.SoloMachine.{Own, Opened, Revised, Closed, Volume, Started, Finished, SoloMachine, solo}
+use Rattle.spec_job.specs.KeyedJob.{Key}
 use Rattle.spec_job.specs.Replies.{reply}
 use Rattle.spec_job.specs.DemandOne.{IsSingle}
 use Rattle.spec_job.specs.Examples.{ask, at_odds, one_of_two, third_true}
 
 -- two machines agree on a revision, counted from 0: on its answer and on its reply, where both have them
-pub record AgreeOn (r : ℕ) (s t : Solo) : Type 0 where
+pub record AgreeOn (r : ℕ) (s t : SoloMachine) : Type 0 where
   pub answers : (a b : Answer) → slice_get s.answers r ≡ Some a → slice_get t.answers r ≡ Some b → a ≡ b
   pub replies : (k : Key) (a b : List ℕ) → reply k (r + 1) s ≡ Some a → reply k (r + 1) t ≡ Some b → a ≡ b
 

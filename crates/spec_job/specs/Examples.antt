@@ -1,12 +1,12 @@
 use Rattle.std.specs.Prelude.{◌≡◌, ℕ, true, false, List, [], ◌∷◌, Some, None}
 use Rattle.mal_base.specs.Asks.{Terms}
-use Rattle.mal_base.specs.Held.{Held, Line}
+use Rattle.mal_base.specs.NumberedClause.{NumberedClause, Line}
 use Rattle.mal_base.specs.declared.answer.Answer.TheVariants.{Satisfied, Refuted, Spent, OutOfStarts}
 use Rattle.mal_base.specs.declared.verdict.Outcome.TheVariants.{Ran, Starved, Lost}
 use Rattle.mal_revision.specs.Posted.{Posted}
 use Rattle.spec_node.specs.State.{fresh}
 use Rattle.spec_job.specs.Journal.{Load, Import, Run, replay}
-use Rattle.spec_job.specs.Solo.{Own, Opened, Revised, Closed, Volume, Started, Finished, Exchanged, Solo, unopened, solo, startable, start_entries, is_exchange_due, place_at, conclude}
+use Rattle.spec_job.specs.SoloMachine.{Own, Opened, Revised, Closed, Volume, Started, Finished, Exchanged, SoloMachine, unopened, solo, startable, start_entries, is_exchange_due, place_at, conclude}
 use Rattle.spec_job.specs.Proofs.{failed, proof_lines}
 use Rattle.spec_job.specs.Runnable.{IsRunnable}
 use Rattle.spec_job.specs.Counts.{IsOpenedOnce}
@@ -41,22 +41,22 @@ abbrev pub ready : Posted → ℕ → List Own
 ready r slices = Opened (ask 1 slices) ∷ Revised r ∷ Closed ∷ Volume 1 ∷ []
 
 -- a job whose revision one node ran a slice of
-abbrev pub ran_once : Posted → Solo
+abbrev pub ran_once : Posted → SoloMachine
 ran_once r = solo (Opened (ask 1 4) ∷ Revised r ∷ Closed ∷ Volume 1 ∷ Started 0 ∷ Finished 0 Ran ∷ [])
 
 -- a job whose first revision one node ran a slice of, and then another one was posted
-abbrev pub ran_before : Posted → Posted → Solo
+abbrev pub ran_before : Posted → Posted → SoloMachine
 ran_before r later = solo (Opened (ask 1 4) ∷ Revised r ∷ Volume 1 ∷ Started 0 ∷ Finished 0 Ran ∷ Revised later ∷ [])
 
 -- a job with a budget of two slices, of which so many are spent
-abbrev pub with_spent : ℕ → Solo
+abbrev pub with_spent : ℕ → SoloMachine
 with_spent n = record unopened { ask = ask 1 2; revisions = one_of_two ∷ []; spent = n }
 
 abbrev pub line : ℕ → List ℕ → List ℕ → Line
 line id lits hints = record { id = id; lits = lits; hints = hints }
 
 -- the lines of a job's proof for a revision and a goal
-abbrev pub proof_for : Solo → ℕ → ℕ → List Line
+abbrev pub proof_for : SoloMachine → ℕ → ℕ → List Line
 proof_for s r goal = proof_lines s.revisions s.log r goal
 
 -- worked examples of a job's machine: answers, models of as many values as there are variables by then, budgets, starved and
@@ -92,15 +92,15 @@ pub record HasRefutations : Type 0 where
   pub core : proof_for (ran_once both_assumed) 0 4294967296 ≡ line 2 (3 ∷ 5 ∷ []) (1 ∷ []) ∷ []
   pub not_settled : (ran_before both_assumed one_of_two).answers ≡ Refuted 4294967296 ∷ []
 
-abbrev pub told : ℕ → List ℕ → Held
+abbrev pub told : ℕ → List ℕ → NumberedClause
 told id lits = record { id = id; lits = lits }
 
 -- a job with a volume of two, of which the first node has derived a clause, and then another revision was posted
-abbrev pub derived_before : Posted → List Own → Solo
+abbrev pub derived_before : Posted → List Own → SoloMachine
 derived_before later own = solo (Opened (ask 2 4) ∷ Revised both_assumed ∷ Volume 2 ∷ Started 0 ∷ Finished 0 Ran ∷ Revised later ∷ own)
 
 -- the same job after an exchange
-abbrev pub exchanged_once : Solo
+abbrev pub exchanged_once : SoloMachine
 exchanged_once = derived_before one_of_two (Exchanged ∷ [])
 
 -- worked examples of exchanges: what is told, which marks move, what is told once alone, what the next starts import, and

@@ -1,13 +1,13 @@
 -- What nodes export, in the words of their journals: the short lines that a node's own slices derived since the last exchange in
 -- which it took part.
 use Rattle.std.specs.Prelude.{◌≡◌, ℕ, ◌≤◌, Bool, ◌&&◌, nat_le, List, [], ◌∷◌, ◌++◌, length, map, filter, drop, flat_map, if◌then◌else◌}
-use Rattle.mal_base.specs.Held.{Held, Line}
+use Rattle.mal_base.specs.NumberedClause.{NumberedClause, Line}
 use Rattle.mal_base.specs.declared.verdict.Outcome.TheVariants.{Ran}
 use Rattle.spec_node.specs.Load.{counted}
 use Rattle.spec_search.specs.Slice.{Sliced}
 use Rattle.spec_exchange.specs.Exchange.{broadcast}
 use Rattle.spec_job.specs.Journal.{JournalEntry, after_entry, replay}
-use Rattle.spec_job.specs.Solo.{Own, Opened, Revised, Closed, Volume, Started, Finished, Exchanged, Solo, unopened, solo, solo_step, place_at, takes_part, exports_of}
+use Rattle.spec_job.specs.SoloMachine.{Own, Opened, Revised, Closed, Volume, Started, Finished, Exchanged, SoloMachine, unopened, solo, solo_step, place_at, takes_part, exports_of}
 use Rattle.spec_job.specs.Examples.{ask, both_assumed, one_of_two, told}
 
 -- the lines that these entries of a journal derive, from a replay on
@@ -20,7 +20,7 @@ abbrev pub derived_behind : ℕ → List JournalEntry → List JournalEntry → 
 derived_behind i first entries = derived_from (replay i first) (drop (length first) entries)
 
 -- the journal with which a node last took part in an exchange, after one more event
-abbrev pub told_step : ℕ → Solo → List JournalEntry → Own → List JournalEntry
+abbrev pub told_step : ℕ → SoloMachine → List JournalEntry → Own → List JournalEntry
 told_step i s last (Opened ask) = last
 told_step i s last (Revised r) = last
 told_step i s last Closed = last
@@ -30,7 +30,7 @@ told_step i s last (Finished j outcome) = last
 told_step i s last Exchanged = if takes_part s.volume i (place_at s i) then (place_at s i).entries else last
 
 -- the same after the events that follow
-abbrev pub told_from : ℕ → Solo → List JournalEntry → List Own → List JournalEntry
+abbrev pub told_from : ℕ → SoloMachine → List JournalEntry → List Own → List JournalEntry
 told_from i s last [] = last
 told_from i s last (o ∷ os) = told_from i (solo_step s o) (told_step i s last o) os
 
@@ -43,7 +43,7 @@ abbrev pub is_short : Line → Bool
 is_short l = nat_le 1 (length l.lits) && nat_le (length l.lits) 16
 
 -- what a node has derived since then, as it is exported: the short lines, without their hints
-abbrev pub untold : ℕ → List Own → List Held
+abbrev pub untold : ℕ → List Own → List NumberedClause
 untold i events = map (λ l. record { id = l.id; lits = l.lits }) (filter is_short (derived_behind i (journal_told i events) (place_at (solo events) i).entries))
 
 -- this is what a node exports
@@ -51,7 +51,7 @@ abbrev pub ExportsAreDerived : Type 0
 ExportsAreDerived = (events : List Own) (i : ℕ) → i ≤ 63 → exports_of (solo events).log i (place_at (solo events) i) ≡ untold i events
 
 -- what the nodes export that take part
-abbrev pub exported_by : List Own → ℕ → List Held
+abbrev pub exported_by : List Own → ℕ → List NumberedClause
 exported_by events i = if takes_part (solo events).volume i (place_at (solo events) i) then untold i events else []
 
 -- an exchange tells all of it to all

@@ -5,7 +5,7 @@ use Rattle.spec_node.specs.Sound.{IsSound}
 use Rattle.spec_node.specs.Laws.{AreNewNumbers, MayImport}
 use Rattle.spec_search.specs.Slice.{Sliced}
 use Rattle.spec_job.specs.Journal.{JournalEntry, Load, Import, Run, after_entry, replay}
-use Rattle.spec_job.specs.Solo.{Own, Lease, Solo, solo, place_at}
+use Rattle.spec_job.specs.SoloMachine.{Own, Lease, SoloMachine, solo, place_at}
 use Rattle.spec_job.specs.Runnable.{IsRunnable}
 
 -- an entry may follow where its node stands: a posted revision of which the numbers are new, clauses that may be told to the
@@ -21,7 +21,7 @@ MayAllFollow s [] = Unit {0}
 MayAllFollow s (e ∷ es) = MayFollow e s.node × MayAllFollow (after_entry s e) es
 
 -- the journals of a job can be replayed: each entry may follow those before it, and so may those of each start that is out
-pub record JournalsFollow (s : Solo) : Type 0 where
+pub record JournalsFollow (s : SoloMachine) : Type 0 where
   pub home : (i : ℕ) → i ≤ 63 → MayAllFollow (replay i []) (place_at s i).entries
   pub out : (i : ℕ) (l : Lease) → i ≤ 63 → (place_at s i).out ≡ Some l → MayAllFollow (replay i (place_at s i).entries) l.adds
 

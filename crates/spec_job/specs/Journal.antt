@@ -4,13 +4,13 @@ use Rattle.spec_node.specs.State.{fresh}
 use Rattle.spec_search.specs.Slice.{Sliced, slice}
 use Rattle.spec_node.specs.Load.{loaded}
 use Rattle.spec_node.specs.Import.{imported}
-use Rattle.mal_base.specs.Held.{Held}
+use Rattle.mal_base.specs.NumberedClause.{NumberedClause}
 
 -- an entry of a node's journal: a revision is loaded under the number of its first clause, what was told is imported, or a
 -- slice is run
 pub data JournalEntry : Type 0 where
   Load : Posted → ℕ → JournalEntry
-  Import : List Held → JournalEntry
+  Import : List NumberedClause → JournalEntry
   Run : JournalEntry
 
 -- a node after one more entry, with the lines of its last slice

@@ -1,8 +1,8 @@
 use Rattle.std.specs.Prelude.{◌≡◌}
-use Rattle.spec_job.specs.Solo.{Solo}
+use Rattle.spec_job.specs.SoloMachine.{SoloMachine}
 
 -- a later state has the ask, the volume, the revisions and the closing of an earlier one
-pub record KeepsTerms (before after : Solo) : Type 0 where
+pub record KeepsTerms (before after : SoloMachine) : Type 0 where
   pub ask : after.ask ≡ before.ask
   pub volume : after.volume ≡ before.volume
   pub revisions : after.revisions ≡ before.revisions

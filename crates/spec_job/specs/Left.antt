@@ -1,19 +1,19 @@
 use Rattle.std.specs.Prelude.{◌≡◌, ℕ, ◌+◌, ◌-◌, ◌*◌, ◌<◌, ◌≤◌, true, List, length}
 use Rattle.mal_base.specs.declared.verdict.Outcome.{Outcome}
 use Rattle.mal_base.specs.declared.verdict.Outcome.TheVariants.{Ran, Starved, Lost}
-use Rattle.spec_job.specs.Solo.{Own, Started, Finished, Solo, solo, solo_step, startable}
+use Rattle.spec_job.specs.SoloMachine.{Own, Started, Finished, SoloMachine, solo, solo_step, startable}
 
 -- what a job may still run, at the most: for each revision without an answer the slices of its budget and three starts that
 -- want for memory, without those of the current revision that were
-abbrev pub left_of : Solo → ℕ
+abbrev pub left_of : SoloMachine → ℕ
 left_of s = (length s.revisions - length s.answers) * (s.ask.slices + 3) - s.spent - s.starved
 
 -- the machine after a start of the node at an index and its finish
-abbrev pub after_start : Solo → ℕ → Outcome → Solo
+abbrev pub after_start : SoloMachine → ℕ → Outcome → SoloMachine
 after_start s i outcome = solo_step (solo_step s (Started i)) (Finished i outcome)
 
 -- a start that ran or wanted for memory leaves less to run, and one that was lost as much as before
-pub record StartsLeaveLess (s : Solo) (i : ℕ) : Type 0 where
+pub record StartsLeaveLess (s : SoloMachine) (i : ℕ) : Type 0 where
   pub begun : left_of (solo_step s (Started i)) ≡ left_of s
   pub ran : left_of (after_start s i Ran) < left_of s
   pub starved : left_of (after_start s i Starved) < left_of s

@@ -1,8 +1,8 @@
 pub mod Journal
 pub mod Journaled
 pub mod Leased
-pub mod Solo
-pub mod Titled
+pub mod SoloMachine
+pub mod KeyedJob
 pub mod Viewed
 pub mod Left
 pub mod Keeps

@@ -4,7 +4,7 @@ use Rattle.mal_base.specs.declared.answer.Answer.{Answer}
 use Rattle.mal_base.specs.declared.answer.Answer.TheVariants.{Satisfied}
 use Rattle.mal_revision.specs.Posted.{Posted}
 use Rattle.spec_logic.specs.Logic.{satisfies, is_true_in}
-use Rattle.spec_job.specs.Solo.{Solo}
+use Rattle.spec_job.specs.SoloMachine.{SoloMachine}
 
 -- the clauses of these revisions
 abbrev pub clauses_of : List Posted → List (Option (List ℕ))
@@ -31,14 +31,14 @@ pub record SolvesRevision (revisions : List Posted) (r : ℕ) (model : List Bool
   pub whole : length model ≡ variables_through revisions r
 
 -- each satisfiable answer carries a model of its revision
-abbrev pub AnswersSolve : Solo → Type 0
+abbrev pub AnswersSolve : SoloMachine → Type 0
 AnswersSolve s = (r : ℕ) (model : List Bool) → slice_get s.answers r ≡ Some (Satisfied model) → SolvesRevision s.revisions r model
 
 -- no revision is answered before it is posted
-abbrev pub AnswersFollow : Solo → Type 0
+abbrev pub AnswersFollow : SoloMachine → Type 0
 AnswersFollow s = length s.answers ≤ length s.revisions
 
 -- the answers of a later state begin with those of an earlier one
-pub record KeepsAnswers (before after : Solo) : Type 0 where
+pub record KeepsAnswers (before after : SoloMachine) : Type 0 where
   pub more : List Answer
   pub kept : after.answers ≡ before.answers ++ more

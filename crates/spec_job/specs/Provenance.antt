@@ -1,24 +1,24 @@
 use Rattle.std.specs.Prelude.{◌≡◌, ◌⊎◌, ℕ, ◌≤◌, true, All, Contains, List, [], ◌∷◌, ◌++◌, Some}
 use Rattle.mal_base.specs.Clauses.{rises}
-use Rattle.mal_base.specs.Held.{Held, Line}
+use Rattle.mal_base.specs.NumberedClause.{NumberedClause, Line}
 use Rattle.spec_logic.specs.Refutation.{numbered}
 use Rattle.spec_job.specs.Journal.{JournalEntry, Run, replay}
-use Rattle.spec_job.specs.Solo.{Own, Lease, Solo, solo, place_at, exports_of}
+use Rattle.spec_job.specs.SoloMachine.{Own, Lease, SoloMachine, solo, place_at, exports_of}
 use Rattle.spec_job.specs.Models.{clauses_of}
 use Rattle.spec_job.specs.Proofs.{LogIsDerived}
 use Rattle.spec_job.specs.Runnable.{IsRunnable}
 
 -- a clause has the number and the literals of one of these lines
-abbrev pub IsLineOf : List Line → Held → Type 0
+abbrev pub IsLineOf : List Line → NumberedClause → Type 0
 IsLineOf lines c = (line : Line) × Contains lines line × (line.id ≡ c.id) × (line.lits ≡ c.lits)
 
 -- a clause is a job's own: an original of its revisions under its number, which counts from 1, or a line of its log
-abbrev pub IsOwn : Solo → Held → Type 0
+abbrev pub IsOwn : SoloMachine → NumberedClause → Type 0
 IsOwn s c = (numbered (clauses_of s.revisions) c.id ≡ Some (Some c.lits)) ⊎ IsLineOf s.log c
 
 -- a start that is out: the node that runs its slice, with what it lacked loaded and imported, holds clauses of the job's
 -- own alone, and behind its slice the slice's new lines besides
-pub record IsOutOwn (s : Solo) (index : ℕ) (entries : List JournalEntry) (l : Lease) : Type 0 where
+pub record IsOutOwn (s : SoloMachine) (index : ℕ) (entries : List JournalEntry) (l : Lease) : Type 0 where
   pub before : List JournalEntry
   pub adds : l.adds ≡ before ++ Run ∷ []
   pub handed : All (IsOwn s) (replay index (entries ++ before)).node.clauses
@@ -27,7 +27,7 @@ pub record IsOutOwn (s : Solo) (index : ℕ) (entries : List JournalEntry) (l : 
 -- where a job's clauses come from: each node at home, and each that is out but for the new lines of its slice, holds
 -- clauses of the job's own alone, what is exported and what was told to all are lines of the log, the log is derived from
 -- the job's clauses, and the literals of each line rise by variable
-pub record ClausesAreOwn (s : Solo) : Type 0 where
+pub record ClausesAreOwn (s : SoloMachine) : Type 0 where
   pub home : (i : ℕ) → i ≤ 63 → All (IsOwn s) (replay i (place_at s i).entries).node.clauses
   pub out : (i : ℕ) (l : Lease) → (place_at s i).out ≡ Some l → IsOutOwn s i (place_at s i).entries l
   pub exports : (i : ℕ) → All (IsLineOf s.log) (exports_of s.log i (place_at s i))

@@ -1,16 +1,16 @@
 use Rattle.std.specs.Prelude.{◌≡◌, ◌+◌, ◌<◌, ◌^◌, true, List, [], ◌∷◌, ◌++◌, length}
 use Rattle.mal_revision.specs.Posted.{Posted, is_posted}
-use Rattle.spec_job.specs.Solo.{Own, Opened, Revised, Closed, Volume, Started, Finished, Exchanged, Solo, solo, startable, clauses_in}
+use Rattle.spec_job.specs.SoloMachine.{Own, Opened, Revised, Closed, Volume, Started, Finished, Exchanged, SoloMachine, solo, startable, clauses_in}
 use Rattle.spec_job.specs.Models.{AnswersFollow, AnswersSolve, KeepsAnswers}
 use Rattle.spec_job.specs.Proofs.{AnswersRefute, LogIsDerived}
 
 -- a revision may come that was posted and whose clauses leave the numbers of originals below 2^32
-pub record MayCome (s : Solo) (r : Posted) : Type 0 where
+pub record MayCome (s : SoloMachine) (r : Posted) : Type 0 where
   pub posted : is_posted r ≡ true
   pub room : clauses_in s.revisions + length r.clauses < 2 ^ 32
 
 -- a job's machine may take an event: a revision that may come, a start of a node that may start, and any other
-abbrev pub MayHappen : Solo → Own → Type 0
+abbrev pub MayHappen : SoloMachine → Own → Type 0
 MayHappen s (Opened ask) = Unit {0}
 MayHappen s (Revised r) = MayCome s r
 MayHappen s Closed = Unit {0}

@@ -8,7 +8,7 @@ use Rattle.mal_base.specs.declared.verdict.Outcome.{Outcome}
 use Rattle.mal_base.specs.declared.verdict.Outcome.TheVariants.{Ran, Starved, Lost}
 use Rattle.spec_node.specs.State.{Node}
 use Rattle.spec_job.specs.Journal.{replay}
-use Rattle.spec_job.specs.Solo.{Own, Opened, Revised, Closed, Volume, Started, Finished, Exchanged, Lease, Solo, unopened, solo, solo_step, place_at, is_late}
+use Rattle.spec_job.specs.SoloMachine.{Own, Opened, Revised, Closed, Volume, Started, Finished, Exchanged, Lease, SoloMachine, unopened, solo, solo_step, place_at, is_late}
 use Rattle.spec_job.specs.Counts.{IsOpenedOnce}
 use Rattle.spec_job.specs.DemandOne.{had_memory}
 
@@ -21,11 +21,11 @@ pub record Ending : Type 0 where
   pub node : Node
 
 -- how the start that is out at an index ends
-abbrev pub ending_of : Solo → ℕ → Outcome → Lease → Ending
+abbrev pub ending_of : SoloMachine → ℕ → Outcome → Lease → Ending
 ending_of s i outcome l = record { revision = l.revision; late = is_late s l; outcome = outcome; node = (replay i ((place_at s i).entries ++ l.adds)).node }
 
 -- the start that an own event ends: that of its node, where the event is a finish and the node is out
-abbrev pub ended_by : Solo → Own → Option Ending
+abbrev pub ended_by : SoloMachine → Own → Option Ending
 ended_by s (Opened ask) = None
 ended_by s (Revised r) = None
 ended_by s Closed = None
@@ -40,7 +40,7 @@ with_ending None rest = rest
 with_ending (Some e) rest = e ∷ rest
 
 -- the starts that have ended, in order, from a machine on
-abbrev pub endings_from : Solo → List Own → List Ending
+abbrev pub endings_from : SoloMachine → List Own → List Ending
 endings_from s [] = []
 endings_from s (o ∷ os) = with_ending (ended_by s o) (endings_from (solo_step s o) os)
 

@@ -2,7 +2,7 @@ use Rattle.std.specs.Prelude.{◌≡◌, ℕ, false, List, [], ◌∷◌, ◌++�
 use Rattle.mal_base.specs.declared.answer.Answer.TheVariants.{OutOfStarts}
 use Rattle.mal_base.specs.declared.verdict.Outcome.TheVariants.{Ran, Starved, Lost}
 use Rattle.spec_node.specs.State.{fresh}
-use Rattle.spec_job.specs.Solo.{Own, Opened, Revised, Volume, Started, Finished, solo}
+use Rattle.spec_job.specs.SoloMachine.{Own, Opened, Revised, Volume, Started, Finished, solo}
 use Rattle.spec_job.specs.Unknown.{Ending, endings, slices_of, starved_of, HasSpent}
 use Rattle.spec_job.specs.Examples.{ask, one_of_two, ready}
 

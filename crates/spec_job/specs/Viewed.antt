@@ -4,18 +4,18 @@ use Rattle.mal_base.specs.declared.verdict.Outcome.TheVariants.{Ran, Starved, Lo
 use Rattle.spec_job.specs.Journal.{JournalEntry}
 use Rattle.spec_job.specs.Journaled.{Journaled, and_entries}
 use Rattle.spec_job.specs.Leased.{Leased, Finished}
-use Rattle.spec_job.specs.Solo.{Own, Started, Lease, place_at, start_entries}
-use Rattle.spec_job.specs.Titled.{Titled, stepped}
+use Rattle.spec_job.specs.SoloMachine.{Own, Started, Lease, place_at, start_entries}
+use Rattle.spec_job.specs.KeyedJob.{KeyedJob, stepped}
 
 -- a job of a hall: its number there, its key with its machine, and for each of the 64 places the number of its last start, 0
 -- before the first
 pub record JobView : Type 0 where
   pub number : ℕ
-  pub titled : Titled
+  pub titled : KeyedJob
   pub starts : List ℕ
 
 -- a job of this number that was never started
-abbrev pub unstarted : ℕ → Titled → JobView
+abbrev pub unstarted : ℕ → KeyedJob → JobView
 unstarted number t = record { number = number; titled = t; starts = replicate 64 0 }
 
 -- a job after one more event of its own

@@ -6,7 +6,7 @@ use Rattle.std.proofs.lemmas.List.Elements.{All-contains}
 use Rattle.std.proofs.lemmas.List.Sorted.{list_any-IsPermutation, IsPermutation-reverse}
 use Rattle.std.proofs.lemmas.Bool.{or_left, or_right, eq-eqb, eqb-false, ne_eqb}
 use Rattle.mal_base.specs.Literals.{negated}
-use Rattle.mal_base.specs.Held.{Held, lits_under}
+use Rattle.mal_base.specs.NumberedClause.{NumberedClause, lits_under}
 use Rattle.mal_base.specs.declared.trail_entry.TrailEntry.{TrailEntry}
 use Rattle.spec_node.specs.State.{Node}
 use Rattle.spec_node.specs.Value.{is_true, level_of}
@@ -44,26 +44,26 @@ level-turned [] = refl
 level-turned (e ∷ past) = ap level_of (reverse-append (e ∷ []) past) ∙ level_of-push (reverse past) e
 
 -- a held clause is found under its number
-contains-cases : (d : Held) (ds : List Held) (c : Held) → Contains (d ∷ ds) c → (d ≡ c) ⊎ Contains ds c
+contains-cases : (d : NumberedClause) (ds : List NumberedClause) (c : NumberedClause) → Contains (d ∷ ds) c → (d ≡ c) ⊎ Contains ds c
 contains-cases d ds c (zero, h, e) = inl e
 contains-cases d ds c (suc k, h, e) = inr (k, omega arith, e)
 
-numbers-low : (low : ℕ) (ds : List Held) (c : Held) → NumbersRise low ds → Contains ds c → low ≤ c.id
+numbers-low : (low : ℕ) (ds : List NumberedClause) (c : NumberedClause) → NumbersRise low ds → Contains ds c → low ≤ c.id
 numbers-low low [] c h (k, l, e) = absurd (omega arith)
 numbers-low low (d ∷ ds) c h k = by_place (numbers-low (d.id + 1) ds c h.1) (contains-cases d ds c k)
   where
     by_place : (Contains ds c → d.id + 1 ≤ c.id) → (d ≡ c) ⊎ Contains ds c → low ≤ c.id
-    by_place f (inl q) = let same : d.id ≡ c.id = ap (λ (x : Held). x.id) q in let u : low ≤ d.id = h.0 in omega arith
+    by_place f (inl q) = let same : d.id ≡ c.id = ap (λ (x : NumberedClause). x.id) q in let u : low ≤ d.id = h.0 in omega arith
     by_place f (inr q) = let u : low ≤ d.id = h.0 in let w : d.id + 1 ≤ c.id = f q in omega arith
 
-pub held-under : (low : ℕ) (ds : List Held) (c : Held) → NumbersRise low ds → Contains ds c → lits_under c.id ds ≡ Some c.lits
+pub held-under : (low : ℕ) (ds : List NumberedClause) (c : NumberedClause) → NumbersRise low ds → Contains ds c → lits_under c.id ds ≡ Some c.lits
 held-under low [] c h (k, l, e) = absurd (omega arith)
 held-under low (d ∷ ds) c h k = by_place (held-under (d.id + 1) ds c h.1) (contains-cases d ds c k)
   where
-    by_place : (Contains ds c → lits_under c.id ds ≡ Some c.lits) → (d ≡ c) ⊎ Contains ds c → option_map (λ (x : Held). x.lits) (cond (d.id == c.id) (Some d) (find (λ (x : Held). x.id == c.id) ds)) ≡ Some c.lits
+    by_place : (Contains ds c → lits_under c.id ds ≡ Some c.lits) → (d ≡ c) ⊎ Contains ds c → option_map (λ (x : NumberedClause). x.lits) (cond (d.id == c.id) (Some d) (find (λ (x : NumberedClause). x.id == c.id) ds)) ≡ Some c.lits
     by_place f (inl q) =
-        let same : (d.id == c.id) ≡ true = eq-eqb d.id c.id (ap (λ (x : Held). x.id) q) in
-        rw same (ap (λ (x : Held). Some x.lits) q)
+        let same : (d.id == c.id) ≡ true = eq-eqb d.id c.id (ap (λ (x : NumberedClause). x.id) q) in
+        rw same (ap (λ (x : NumberedClause). Some x.lits) q)
     by_place f (inr q) =
         let low : d.id + 1 ≤ c.id = numbers-low (d.id + 1) ds c h.1 q in
         let other : (d.id == c.id) ≡ false = ne_eqb d.id c.id (λ r. absurd (omega arith)) in
@@ -74,11 +74,11 @@ pub true-on : (trail es : List TrailEntry) → ((l : ℕ) → is_true es l ≡ t
 true-on trail [] f = tt
 true-on trail (e ∷ es) f = (f e.lit (or_left _ _ (eq-eqb e.lit e.lit refl)), true-on trail es (λ l q. f l (or_right _ _ q)))
 
-pub good-behind : (variables : ℕ) (clauses : List Held) (trail past : List TrailEntry) → NumbersRise 1 clauses → All (λ c. AreLiteralsOf variables c.lits) clauses → EachBehind (IsForced clauses) past → AreTrueOn trail past → AreGood clauses trail past
+pub good-behind : (variables : ℕ) (clauses : List NumberedClause) (trail past : List TrailEntry) → NumbersRise 1 clauses → All (λ c. AreLiteralsOf variables c.lits) clauses → EachBehind (IsForced clauses) past → AreTrueOn trail past → AreGood clauses trail past
 good-behind variables clauses trail [] n a h t = tt
 good-behind variables clauses trail (e ∷ past) n a h t = (record { true_lit = t.0; by = λ r q. made r (h.0 r q) }, good-behind variables clauses trail past n a h.1 t.1)
   where
-    made : (r : ℕ) → (c : Held) × Contains clauses c × (c.id ≡ r) × IsReason (reverse past) e c → IsBy clauses past e r
+    made : (r : ℕ) → (c : NumberedClause) × Contains clauses c × (c.id ≡ r) × IsReason (reverse past) e c → IsBy clauses past e r
     made r k = record {
       lits = k.0.lits;
       held = subst (λ (x : ℕ). lits_under x clauses ≡ Some k.0.lits) k.2 (held-under 1 clauses k.0 n k.1);

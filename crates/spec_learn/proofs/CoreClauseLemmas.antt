@@ -5,7 +5,7 @@ use Rattle.std.specs.Option.{option_map_or}
 use Rattle.std.proofs.lemmas.List.{length_push}
 use Rattle.std.proofs.lemmas.Bool.{or_cases, or_left, or_right, eq-eqb, lt-ltb}
 use Rattle.mal_base.specs.Literals.{var_of, negated}
-use Rattle.mal_base.specs.Held.{Held}
+use Rattle.mal_base.specs.NumberedClause.{NumberedClause}
 use Rattle.mal_base.specs.declared.trail_entry.TrailEntry.{TrailEntry}
 use Rattle.spec_node.specs.State.{Node}
 use Rattle.spec_node.specs.Value.{is_true}
@@ -38,7 +38,7 @@ reached-short l (e ∷ es) = by_here (reached-short l es) (e.lit == l)
     by_here u true = omega arith
     by_here u false = omega arith
 
-by-small : (clauses : List Held) (a : ℕ) (past : List TrailEntry) (o : Option ℕ) → length (core_by clauses a past o).lits + length (core_by clauses a past o).hints ≤ length past + 2
+by-small : (clauses : List NumberedClause) (a : ℕ) (past : List TrailEntry) (o : Option ℕ) → length (core_by clauses a past o).lits + length (core_by clauses a past o).hints ≤ length past + 2
 by-small clauses a past None = omega arith
 by-small clauses a past (Some r) =
     let w : Walk = core_walk clauses a past r in
@@ -62,7 +62,7 @@ core-small n a h = by_reached (reached (negated a) (reverse n.trail)) (reached-s
     by_reached (e ∷ past) l = let u : length (core_by n.clauses a past e.reason).lits + length (core_by n.clauses a past e.reason).hints ≤ length past + 2 = by-small n.clauses a past e.reason in omega (arith, short, u, l)
 
 -- only decisions are kept
-pub final-kept : (Q : TrailEntry → Type 0) (clauses : List Held) (past : List TrailEntry) (w : Walk) → AllOf (λ e. e.reason ≡ None → Q e) past → AllOf Q w.kept → AllOf Q (walked Final clauses past w).kept
+pub final-kept : (Q : TrailEntry → Type 0) (clauses : List NumberedClause) (past : List TrailEntry) (w : Walk) → AllOf (λ e. e.reason ≡ None → Q e) past → AllOf Q w.kept → AllOf Q (walked Final clauses past w).kept
 final-kept Q clauses [] w g h = h
 final-kept Q clauses (e ∷ past) w g h = final-kept Q clauses past (after_entry Final clauses e past w) g.1 (by_seen (has_var w.seen (var_of e.lit)))
   where

@@ -8,7 +8,7 @@ use Rattle.std.proofs.lemmas.List.Sorted.{list_any-IsPermutation, IsPermutation-
 use Rattle.std.proofs.lemmas.Bool.{and_parts, and_from, or_cases, or_left, or_right, eq-eqb, eqb-true, both_ways, ltb-true, ltb-false}
 use Rattle.mal_base.specs.Literals.{var_of, negated}
 use Rattle.mal_base.specs.Clauses.{rises}
-use Rattle.mal_base.specs.Held.{Held, lits_under}
+use Rattle.mal_base.specs.NumberedClause.{NumberedClause, lits_under}
 use Rattle.mal_base.specs.declared.trail_entry.TrailEntry.{TrailEntry}
 use Rattle.spec_node.specs.State.{Node}
 use Rattle.spec_node.specs.Value.{is_true, is_false, has_value}
@@ -140,7 +140,7 @@ assumed a = record { lit = a; reason = None; level = 0 }
 abbrev pub with_base : List TrailEntry → Walk → Walk
 with_base base w = record { seen = w.seen; kept = w.kept ++ base; hints = w.hints }
 
-pub base-walked : (base : List TrailEntry) (aim : Aim) (clauses : List Held) (past : List TrailEntry) (w : Walk) → walked aim clauses past (with_base base w) ≡ with_base base (walked aim clauses past w)
+pub base-walked : (base : List TrailEntry) (aim : Aim) (clauses : List NumberedClause) (past : List TrailEntry) (w : Walk) → walked aim clauses past (with_base base w) ≡ with_base base (walked aim clauses past w)
 base-walked base aim clauses [] w = refl
 base-walked base aim clauses (e ∷ past) w = ap (walked aim clauses past) (by_seen (has_var w.seen (var_of e.lit))) ∙ base-walked base aim clauses past (after_entry aim clauses e past w)
   where
@@ -183,10 +183,10 @@ clause-turned [] x = refl
 clause-turned (e ∷ es) x = ap (put (negated e.lit)) (clause-turned es x) ∙ put-turned (negated e.lit) (negated x.lit) (clause_of es)
 
 -- the walk of a core clause
-abbrev pub core_walk : List Held → ℕ → List TrailEntry → ℕ → Walk
+abbrev pub core_walk : List NumberedClause → ℕ → List TrailEntry → ℕ → Walk
 core_walk clauses a past id = walked Final clauses past (begun (vars_under clauses id))
 
-abbrev pub finished : List Held → ℕ → List TrailEntry → ℕ → Analysed
+abbrev pub finished : List NumberedClause → ℕ → List TrailEntry → ℕ → Analysed
 finished clauses a past id = let w = core_walk clauses a past id in record { lits = clause_of (w.kept ++ assumed a ∷ []); hints = w.hints ++ id ∷ []; level = 0 }
 
 pub core-is : (n : Node) (a : ℕ) (k : IsFallenAt n a) → core_analysis a n ≡ finished n.clauses a k.past k.id
@@ -254,7 +254,7 @@ core-derived n a h f = subst (λ (x : Analysed). derivation (holding n.clauses) 
     on : AreTrueOn trail w.kept
     on = kept-true Final n.clauses trail k.past (keeping (assumed a) (begun vars)) good (or_left _ _ (eq-eqb a a refl), tt)
 
-    by_clause : (c : Held) × Contains n.clauses c × (c.id ≡ k.id) × IsReason (reverse k.past) k.entry c → derivation (holding n.clauses) (Some (finished n.clauses a k.past k.id).lits) (finished n.clauses a k.past k.id).hints ≡ Derived
+    by_clause : (c : NumberedClause) × Contains n.clauses c × (c.id ≡ k.id) × IsReason (reverse k.past) k.entry c → derivation (holding n.clauses) (Some (finished n.clauses a k.past k.id).lits) (finished n.clauses a k.past k.id).hints ≡ Derived
     by_clause c =
         let held : lits_under k.id n.clauses ≡ Some c.0.lits = subst (λ (x : ℕ). lits_under x n.clauses ≡ Some c.0.lits) c.2 (held-under 1 n.clauses c.0 h.ranged.numbers c.1) in
         let consistent : IsConsistentTrail trail = consistent-assumed n a k h in

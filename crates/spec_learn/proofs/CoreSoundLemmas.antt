@@ -6,7 +6,7 @@ use Rattle.std.proofs.lemmas.List.Folds.{list_any-append}
 use Rattle.std.proofs.lemmas.List.Sorted.{list_any-IsPermutation, IsPermutation-reverse}
 use Rattle.std.proofs.lemmas.Bool.{and_parts, and_from, or_cases, or_left, or_right, eq-eqb, eqb-true, eqb-false, both_ways, cases_lt, le-leb, lt-leb, false_from_ne_true}
 use Rattle.mal_base.specs.Literals.{var_of, negated}
-use Rattle.mal_base.specs.Held.{Held, lits_under}
+use Rattle.mal_base.specs.NumberedClause.{NumberedClause, lits_under}
 use Rattle.mal_base.specs.declared.trail_entry.TrailEntry.{TrailEntry}
 use Rattle.spec_node.specs.State.{Node}
 use Rattle.spec_node.specs.Value.{is_true, is_false, level_of, open_count, left_literal}
@@ -52,21 +52,21 @@ left-front k new seen (e ∷ past) h = by_place (left-front k new seen past) (or
     by_place f (inr q) = or_right _ _ (f q)
 
 -- a reason above level 0 has another literal of the level of its entry
-abbrev AreReaching : List Held → List TrailEntry → Type 0
+abbrev AreReaching : List NumberedClause → List TrailEntry → Type 0
 AreReaching clauses [] = Unit {0}
 AreReaching clauses (e ∷ past) = ((r : ℕ) → e.reason ≡ Some r → 0 < e.level → is_left e.level (vars_under clauses r) past ≡ true) × AreReaching clauses past
 
-reaching-behind : (clauses : List Held) (past : List TrailEntry) → NumbersRise 1 clauses → EachBehind (IsForced clauses) past → AreReaching clauses past
+reaching-behind : (clauses : List NumberedClause) (past : List TrailEntry) → NumbersRise 1 clauses → EachBehind (IsForced clauses) past → AreReaching clauses past
 reaching-behind clauses [] n h = tt
 reaching-behind clauses (e ∷ past) n h = ((λ r q. made r (h.0 r q)), reaching-behind clauses past n h.1)
   where
-    made : (r : ℕ) → (c : Held) × Contains clauses c × (c.id ≡ r) × IsReason (reverse past) e c → 0 < e.level → is_left e.level (vars_under clauses r) past ≡ true
+    made : (r : ℕ) → (c : NumberedClause) × Contains clauses c × (c.id ≡ r) × IsReason (reverse past) e c → 0 < e.level → is_left e.level (vars_under clauses r) past ≡ true
     made r k some =
         let held : lits_under r clauses ≡ Some k.0.lits = subst (λ (x : ℕ). lits_under x clauses ≡ Some k.0.lits) k.2 (held-under 1 clauses k.0 n k.1) in
         list_any-IsPermutation (λ x. (x.level == e.level) && has_var (vars_under clauses r) (var_of x.lit)) past (reverse past) (IsPermutation-reverse past) ∙ greatest-left (reverse past) (vars_under clauses r) k.0.lits e.level some (λ v m. ap (λ (vs : List ℕ). has_var vs v) (under-is clauses r k.0.lits held) ∙ m) k.3.level
 
 -- so the decision of a level is kept where a literal of the level is left
-kept-grows : (p : TrailEntry → Bool) (clauses : List Held) (past : List TrailEntry) (w : Walk) → list_any p w.kept ≡ true → list_any p (walked Final clauses past w).kept ≡ true
+kept-grows : (p : TrailEntry → Bool) (clauses : List NumberedClause) (past : List TrailEntry) (w : Walk) → list_any p w.kept ≡ true → list_any p (walked Final clauses past w).kept ≡ true
 kept-grows p clauses [] w h = h
 kept-grows p clauses (e ∷ past) w h = kept-grows p clauses past (after_entry Final clauses e past w) (by_seen (has_var w.seen (var_of e.lit)))
   where
@@ -78,7 +78,7 @@ kept-grows p clauses (e ∷ past) w h = kept-grows p clauses past (after_entry F
     by_seen true = by_reason e.reason
     by_seen false = h
 
-level-kept : (level : ℕ) (clauses : List Held) (past : List TrailEntry) (w : Walk) → 0 < level → AreReaching clauses past → is_left level w.seen past ≡ true → list_any (λ e. e.level == level) (walked Final clauses past w).kept ≡ true
+level-kept : (level : ℕ) (clauses : List NumberedClause) (past : List TrailEntry) (w : Walk) → 0 < level → AreReaching clauses past → is_left level w.seen past ≡ true → list_any (λ e. e.level == level) (walked Final clauses past w).kept ≡ true
 level-kept level clauses [] w some g h = absurd (cc)
 level-kept level clauses (e ∷ past) w some g h = by_seen (λ v k. level-kept level clauses past v some g.1 k) (has_var w.seen (var_of e.lit)) refl (or_cases ((e.level == level) && has_var w.seen (var_of e.lit)) (is_left level w.seen past) h)
   where
@@ -135,14 +135,14 @@ record IsCoreOn (variables : ℕ) (trail : List TrailEntry) (a : ℕ) (x : Trail
   pub dead : is_true trail a ≡ false
 
 -- where the negation is true, the clause is settled
-there : (a : ℕ) (t : List TrailEntry) (q : ℕ) (es : List TrailEntry) (new : Held) → new.lits ≡ clause_of (es ++ assumed a ∷ []) → is_true t (negated a) ≡ true → is_true t a ≡ false → is_in_batch (take q t) new ≡ true → left_is_true (take q t) t new ≡ true
+there : (a : ℕ) (t : List TrailEntry) (q : ℕ) (es : List TrailEntry) (new : NumberedClause) → new.lits ≡ clause_of (es ++ assumed a ∷ []) → is_true t (negated a) ≡ true → is_true t a ≡ false → is_in_batch (take q t) new ≡ true → left_is_true (take q t) t new ≡ true
 there a t q es new is own dead m =
     let few : count_by (λ y. not (is_false (take q t) y)) (clause_of (es ++ assumed a ∷ [])) ≤ 1 = subst (λ (ls : List ℕ). count_by (λ y. not (is_false (take q t) y)) ls ≤ 1) is (batch-open (take q t) new m) in
     let alive : not (is_false (take q t) (negated a)) ≡ true = open-test (take q t) (assumed a) (not-in-take q t a dead) in
     let left : left_literal (take q t) (clause_of (es ++ assumed a ∷ [])) ≡ Some (negated a) = find-alone (λ y. not (is_false (take q t) y)) (negated a) (clause_of (es ++ assumed a ∷ [])) alive (clause-own es (assumed a)) few in
     ap (λ (o : Option ℕ). option_map_or (is_true t) o false) (ap (left_literal (take q t)) is ∙ left) ∙ own
 
-core-closed : (variables : ℕ) (trail : List TrailEntry) (a : ℕ) (x : TrailEntry) (es : List TrailEntry) (clauses : List Held) (new : Held) → new.lits ≡ clause_of (es ++ assumed a ∷ []) → IsCoreOn variables trail a x es → (xs before : List TrailEntry) → before ++ xs ≡ trail → EachAfter IsLevelled [] before → EachAfter IsLevelled before xs → EachAfter (IsClosed clauses) before xs → EachAfter (IsClosed (clauses ++ new ∷ [])) before xs
+core-closed : (variables : ℕ) (trail : List TrailEntry) (a : ℕ) (x : TrailEntry) (es : List TrailEntry) (clauses : List NumberedClause) (new : NumberedClause) → new.lits ≡ clause_of (es ++ assumed a ∷ []) → IsCoreOn variables trail a x es → (xs before : List TrailEntry) → before ++ xs ≡ trail → EachAfter IsLevelled [] before → EachAfter IsLevelled before xs → EachAfter (IsClosed clauses) before xs → EachAfter (IsClosed (clauses ++ new ∷ [])) before xs
 core-closed variables trail a x es clauses new is k [] before whole hb h c = tt
 core-closed variables trail a x es clauses new is k (e ∷ xs) before whole hb h c =
     (here, core-closed variables trail a x es clauses new is k xs (before ++ e ∷ []) (append_assoc before (e ∷ []) xs ∙ whole) (each-push IsLevelled before [] e hb h.0) h.1 c.1)
@@ -175,7 +175,7 @@ cored-sound n a h f = refuted-sound n (core_analysis a n).lits h (core-clause n 
     kept : List TrailEntry
     kept = (core_walk n.clauses a k.past k.id).kept
 
-    new : Held
+    new : NumberedClause
     new = record { id = derived_id n; lits = (core_analysis a n).lits }
 
     is : new.lits ≡ clause_of (kept ++ assumed a ∷ [])

@@ -5,14 +5,14 @@ use Rattle.std.specs.Option.{option_map_or}
 use Rattle.std.proofs.lemmas.Bool.{and_parts, eq-eqb, ne_eqb}
 use Rattle.std.proofs.lemmas.List.Sums.{sum_by-append, sum_by-cons}
 use Rattle.mal_base.specs.Literals.{var_of}
-use Rattle.mal_base.specs.Held.{Held}
+use Rattle.mal_base.specs.NumberedClause.{NumberedClause}
 use Rattle.mal_base.specs.declared.trail_entry.TrailEntry.{TrailEntry}
 use Rattle.spec_learn.specs.Analysis.{Walk, Aim, has_var, top, begun, vars_under, keeping, resolving, is_left, is_resolved, after_seen, after_entry, walked}
 use Rattle.spec_learn.specs.Analysis.Aim.{Learned}
 use Rattle.spec_learn.specs.FirstPoint.{walked_over, on_way, count_at, way_to, ResolvesAboveOne, WayEnds, HasFirstPoints}
 
 -- the walk goes on behind the entries that it is over
-walk-on : (aim : Aim) (clauses : List Held) (front rest : List TrailEntry) (w : Walk) → walked aim clauses (front ++ rest) w ≡ walked aim clauses rest (walked_over aim clauses front rest w)
+walk-on : (aim : Aim) (clauses : List NumberedClause) (front rest : List TrailEntry) (w : Walk) → walked aim clauses (front ++ rest) w ≡ walked aim clauses rest (walked_over aim clauses front rest w)
 walk-on aim clauses [] rest w = refl
 walk-on aim clauses (e ∷ front) rest w = walk-on aim clauses front rest (after_entry aim clauses e (front ++ rest) w)
 
@@ -58,7 +58,7 @@ two-on_way level w e rest same seen left =
     let all : count_at level (w.kept ++ e ∷ behind) ≡ count_at level w.kept + count_at level (e ∷ behind) = sum_by-append (λ (x : TrailEntry). one_if (x.level == level)) w.kept (e ∷ behind) in
     subst (λ (b : Bool). 2 ≤ count_at level (w.kept ++ cond b (e ∷ behind) behind)) (sym seen) (omega (arith, one, this, both, all))
 
-resolves-two : (level : ℕ) (clauses : List Held) (w : Walk) (e : TrailEntry) (rest : List TrailEntry) (r : ℕ) → level ≢ 0 → e.level ≡ level → (after_entry (Learned level) clauses e rest w).hints ≡ r ∷ w.hints → 2 ≤ count_at level (on_way w (e ∷ rest))
+resolves-two : (level : ℕ) (clauses : List NumberedClause) (w : Walk) (e : TrailEntry) (rest : List TrailEntry) (r : ℕ) → level ≢ 0 → e.level ≡ level → (after_entry (Learned level) clauses e rest w).hints ≡ r ∷ w.hints → 2 ≤ count_at level (on_way w (e ∷ rest))
 resolves-two level clauses w e rest r above same = by_seen (has_var w.seen (var_of e.lit)) refl
   where
     by_resolved : (q : ℕ) (b : Bool) → is_resolved (Learned level) e w.seen rest ≡ b → has_var w.seen (var_of e.lit) ≡ true → (cond b (resolving clauses q w) (keeping e w)).hints ≡ r ∷ w.hints → 2 ≤ count_at level (on_way w (e ∷ rest))

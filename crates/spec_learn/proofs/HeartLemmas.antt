@@ -6,7 +6,7 @@ use Rattle.std.proofs.lemmas.List.Folds.{list_any-append}
 use Rattle.std.proofs.lemmas.Bool.{and_parts, and_from, or_cases, or_left, or_right, eq-eqb, eqb-true, false_from_ne_true}
 use Rattle.mal_base.specs.Literals.{var_of, negated}
 use Rattle.mal_base.specs.Clauses.{rises}
-use Rattle.mal_base.specs.Held.{Held, lits_under}
+use Rattle.mal_base.specs.NumberedClause.{NumberedClause, lits_under}
 use Rattle.mal_base.specs.declared.trail_entry.TrailEntry.{TrailEntry}
 use Rattle.spec_node.specs.Value.{is_true, is_false}
 use Rattle.spec_node.proofs.SettledLemmas.{var_of-negated}
@@ -19,7 +19,7 @@ use Rattle.spec_learn.specs.Learning.{holding}
 use Rattle.spec_learn.proofs.LogicLemmas.{negated-negated, AreOthersFalse, IsConsistentList, reason-effect, conflict-effect}
 
 -- a held clause forces an entry: its other literals are false before
-pub record IsBy (clauses : List Held) (past : List TrailEntry) (e : TrailEntry) (r : ℕ) : Type 0 where
+pub record IsBy (clauses : List NumberedClause) (past : List TrailEntry) (e : TrailEntry) (r : ℕ) : Type 0 where
   pub lits : List ℕ
   pub held : lits_under r clauses ≡ Some lits
   pub rising : rises lits ≡ true
@@ -27,11 +27,11 @@ pub record IsBy (clauses : List Held) (past : List TrailEntry) (e : TrailEntry) 
   pub others : list_all (λ l. (l == e.lit) || is_false past l) lits ≡ true
 
 -- an entry is true on the trail, and its reason forces it
-pub record IsGood (clauses : List Held) (trail past : List TrailEntry) (e : TrailEntry) : Type 0 where
+pub record IsGood (clauses : List NumberedClause) (trail past : List TrailEntry) (e : TrailEntry) : Type 0 where
   pub true_lit : is_true trail e.lit ≡ true
   pub by : (r : ℕ) → e.reason ≡ Some r → IsBy clauses past e r
 
-abbrev pub AreGood : List Held → List TrailEntry → List TrailEntry → Type 0
+abbrev pub AreGood : List NumberedClause → List TrailEntry → List TrailEntry → Type 0
 AreGood clauses trail [] = Unit {0}
 AreGood clauses trail (e ∷ past) = IsGood clauses trail past e × AreGood clauses trail past
 
@@ -54,7 +54,7 @@ pub record Knows (trail past : List TrailEntry) (w : Walk) (trues : List ℕ) : 
   pub kept : AreHad trues w.kept
 
 -- from true literals that a walk knows its hints derive the line
-abbrev pub IsReady : List Held → List TrailEntry → ℕ → List TrailEntry → Walk → Type 0
+abbrev pub IsReady : List NumberedClause → List TrailEntry → ℕ → List TrailEntry → Walk → Type 0
 IsReady clauses trail id past w = (trues : List ℕ) → Knows trail past w trues → propagation (holding clauses) trues (w.hints ++ id ∷ []) ≡ Derived
 
 known-fewer : (seen more trues : List ℕ) (past : List TrailEntry) → ((v : ℕ) → has_var seen v ≡ true → has_var more v ≡ true) → AreKnown more trues past → AreKnown seen trues past
@@ -107,27 +107,27 @@ seen-all (l ∷ ls) seen f = and_from _ _ (f (var_of l) (or_left _ _ (eq-eqb (va
 consistent-list : (trail past : List TrailEntry) (w : Walk) (trues : List ℕ) → IsConsistentTrail trail → Knows trail past w trues → IsConsistentList trues
 consistent-list trail past w trues c k l a b = c l (k.within l a) (k.within (negated l) b)
 
-pub under-is : (clauses : List Held) (r : ℕ) (lits : List ℕ) → lits_under r clauses ≡ Some lits → vars_under clauses r ≡ vars_in lits
+pub under-is : (clauses : List NumberedClause) (r : ℕ) (lits : List ℕ) → lits_under r clauses ≡ Some lits → vars_under clauses r ≡ vars_in lits
 under-is clauses r lits q = ap (λ (o : Option (List ℕ)). option_map_or vars_in o []) q
 
 -- one hint, where its effect is known
-hint-makes : (clauses : List Held) (trues : List ℕ) (r x : ℕ) (rest : List ℕ) (lits : List ℕ) → lits_under r clauses ≡ Some lits → effect_of_lits trues lits ≡ Makes x → propagation (holding clauses) (x ∷ trues) rest ≡ Derived → propagation (holding clauses) trues (r ∷ rest) ≡ Derived
+hint-makes : (clauses : List NumberedClause) (trues : List ℕ) (r x : ℕ) (rest : List ℕ) (lits : List ℕ) → lits_under r clauses ≡ Some lits → effect_of_lits trues lits ≡ Makes x → propagation (holding clauses) (x ∷ trues) rest ≡ Derived → propagation (holding clauses) trues (r ∷ rest) ≡ Derived
 hint-makes clauses trues r x rest lits q e k = rw (q, e) k
 
-hint-passes : (clauses : List Held) (trues : List ℕ) (r : ℕ) (rest : List ℕ) (lits : List ℕ) → lits_under r clauses ≡ Some lits → effect_of_lits trues lits ≡ Passes → propagation (holding clauses) trues rest ≡ Derived → propagation (holding clauses) trues (r ∷ rest) ≡ Derived
+hint-passes : (clauses : List NumberedClause) (trues : List ℕ) (r : ℕ) (rest : List ℕ) (lits : List ℕ) → lits_under r clauses ≡ Some lits → effect_of_lits trues lits ≡ Passes → propagation (holding clauses) trues rest ≡ Derived → propagation (holding clauses) trues (r ∷ rest) ≡ Derived
 hint-passes clauses trues r rest lits q e k = rw (q, e) k
 
-hint-ends : (clauses : List Held) (trues : List ℕ) (r : ℕ) (lits : List ℕ) → lits_under r clauses ≡ Some lits → effect_of_lits trues lits ≡ Conflicts → propagation (holding clauses) trues (r ∷ []) ≡ Derived
+hint-ends : (clauses : List NumberedClause) (trues : List ℕ) (r : ℕ) (lits : List ℕ) → lits_under r clauses ≡ Some lits → effect_of_lits trues lits ≡ Conflicts → propagation (holding clauses) trues (r ∷ []) ≡ Derived
 hint-ends clauses trues r lits q e = rw (q, e) refl
 
 -- an entry that is passed over, kept, or resolved away
-passed-ready : (clauses : List Held) (trail : List TrailEntry) (id : ℕ) (e : TrailEntry) (past : List TrailEntry) (w : Walk) → has_var w.seen (var_of e.lit) ≡ false → IsReady clauses trail id (e ∷ past) w → IsReady clauses trail id past w
+passed-ready : (clauses : List NumberedClause) (trail : List TrailEntry) (id : ℕ) (e : TrailEntry) (past : List TrailEntry) (w : Walk) → has_var w.seen (var_of e.lit) ≡ false → IsReady clauses trail id (e ∷ past) w → IsReady clauses trail id past w
 passed-ready clauses trail id e past w unseen h trues k = h trues (record { within = k.within; seen = ((λ q. absurd (cc)), k.seen); kept = k.kept })
 
-pub kept-ready : (clauses : List Held) (trail : List TrailEntry) (id : ℕ) (e : TrailEntry) (past : List TrailEntry) (w : Walk) → IsReady clauses trail id (e ∷ past) w → IsReady clauses trail id past (keeping e w)
+pub kept-ready : (clauses : List NumberedClause) (trail : List TrailEntry) (id : ℕ) (e : TrailEntry) (past : List TrailEntry) (w : Walk) → IsReady clauses trail id (e ∷ past) w → IsReady clauses trail id past (keeping e w)
 kept-ready clauses trail id e past w h trues k = h trues (record { within = k.within; seen = ((λ q. k.kept.0), k.seen); kept = k.kept.1 })
 
-resolved-ready : (clauses : List Held) (trail : List TrailEntry) (id r : ℕ) (e : TrailEntry) (past : List TrailEntry) (w : Walk) → IsConsistentTrail trail → is_true trail e.lit ≡ true → IsBy clauses past e r → IsReady clauses trail id (e ∷ past) w → IsReady clauses trail id past (resolving clauses r w)
+resolved-ready : (clauses : List NumberedClause) (trail : List TrailEntry) (id r : ℕ) (e : TrailEntry) (past : List TrailEntry) (w : Walk) → IsConsistentTrail trail → is_true trail e.lit ≡ true → IsBy clauses past e r → IsReady clauses trail id (e ∷ past) w → IsReady clauses trail id past (resolving clauses r w)
 resolved-ready clauses trail id r e past w c own b h trues k = by_effect (reason-effect trues e.lit b.lits cs b.rising others alive b.own)
   where
     cs : IsConsistentList trues
@@ -159,7 +159,7 @@ resolved-ready clauses trail id r e past w c own b h trues k = by_effect (reason
     by_effect (inl q) = hint-makes clauses trues r e.lit (w.hints ++ id ∷ []) b.lits b.held q (h (e.lit ∷ trues) (record { within = within; seen = ((λ s. or_left _ _ (eq-eqb e.lit e.lit refl)), known-one w.seen trues e.lit past seen); kept = had-more trues (e.lit ∷ trues) w.kept (λ l m. or_right _ _ m) k.kept }))
     by_effect (inr q) = hint-passes clauses trues r (w.hints ++ id ∷ []) b.lits b.held q.0 (h trues (record { within = k.within; seen = ((λ s. q.1), seen); kept = k.kept }))
 
-ready-after : (aim : Aim) (clauses : List Held) (trail : List TrailEntry) (id : ℕ) (e : TrailEntry) (past : List TrailEntry) (w : Walk) → IsConsistentTrail trail → IsGood clauses trail past e → IsReady clauses trail id (e ∷ past) w → IsReady clauses trail id past (after_entry aim clauses e past w)
+ready-after : (aim : Aim) (clauses : List NumberedClause) (trail : List TrailEntry) (id : ℕ) (e : TrailEntry) (past : List TrailEntry) (w : Walk) → IsConsistentTrail trail → IsGood clauses trail past e → IsReady clauses trail id (e ∷ past) w → IsReady clauses trail id past (after_entry aim clauses e past w)
 ready-after aim clauses trail id e past w c g h = by_seen (has_var w.seen (var_of e.lit)) refl
   where
     by_resolved : (r : ℕ) → e.reason ≡ Some r → (b : Bool) → IsReady clauses trail id past (cond b (resolving clauses r w) (keeping e w))
@@ -174,12 +174,12 @@ ready-after aim clauses trail id e past w c g h = by_seen (has_var w.seen (var_o
     by_seen true q = by_reason e.reason refl
     by_seen false q = passed-ready clauses trail id e past w q h
 
-pub ready-walk : (aim : Aim) (clauses : List Held) (trail : List TrailEntry) (id : ℕ) (past : List TrailEntry) (w : Walk) → IsConsistentTrail trail → AreGood clauses trail past → IsReady clauses trail id past w → IsReady clauses trail id [] (walked aim clauses past w)
+pub ready-walk : (aim : Aim) (clauses : List NumberedClause) (trail : List TrailEntry) (id : ℕ) (past : List TrailEntry) (w : Walk) → IsConsistentTrail trail → AreGood clauses trail past → IsReady clauses trail id past w → IsReady clauses trail id [] (walked aim clauses past w)
 ready-walk aim clauses trail id [] w c g h = h
 ready-walk aim clauses trail id (e ∷ past) w c g h = ready-walk aim clauses trail id past (after_entry aim clauses e past w) c g.1 (ready-after aim clauses trail id e past w c g.0 h)
 
 -- before the first resolution
-pub ready-begun : (clauses : List Held) (trail past : List TrailEntry) (id : ℕ) (lits : List ℕ) → IsConsistentTrail trail → lits_under id clauses ≡ Some lits → list_all (is_false past) lits ≡ true → IsReady clauses trail id past (begun (vars_under clauses id))
+pub ready-begun : (clauses : List NumberedClause) (trail past : List TrailEntry) (id : ℕ) (lits : List ℕ) → IsConsistentTrail trail → lits_under id clauses ≡ Some lits → list_all (is_false past) lits ≡ true → IsReady clauses trail id past (begun (vars_under clauses id))
 ready-begun clauses trail past id lits c q f trues k =
     let sees : list_all (λ m. has_var (vars_under clauses id) (var_of m)) lits ≡ true = seen-all lits (vars_under clauses id) (λ v m. ap (λ (vs : List ℕ). has_var vs v) (under-is clauses id lits q) ∙ m) in
     hint-ends clauses trues id lits q (conflict-effect trues lits (consistent-list trail past (begun (vars_under clauses id)) trues c k) (all-known (vars_under clauses id) trues past lits k.seen sees f))
@@ -189,7 +189,7 @@ abbrev pub AreTrueOn : List TrailEntry → List TrailEntry → Type 0
 AreTrueOn trail [] = Unit {0}
 AreTrueOn trail (e ∷ es) = (is_true trail e.lit ≡ true) × AreTrueOn trail es
 
-pub kept-true : (aim : Aim) (clauses : List Held) (trail past : List TrailEntry) (w : Walk) → AreGood clauses trail past → AreTrueOn trail w.kept → AreTrueOn trail (walked aim clauses past w).kept
+pub kept-true : (aim : Aim) (clauses : List NumberedClause) (trail past : List TrailEntry) (w : Walk) → AreGood clauses trail past → AreTrueOn trail w.kept → AreTrueOn trail (walked aim clauses past w).kept
 kept-true aim clauses trail [] w g h = h
 kept-true aim clauses trail (e ∷ past) w g h = kept-true aim clauses trail past (after_entry aim clauses e past w) g.1 (by_seen (has_var w.seen (var_of e.lit)))
   where
@@ -233,7 +233,7 @@ clause-has [] = tt
 clause-has (e ∷ es) = (put-has (negated e.lit) e.lit (clause_of es) ∙ or_left _ _ (eq-eqb (negated (negated e.lit)) e.lit (negated-negated e.lit)), had-more (map negated (clause_of es)) (map negated (put (negated e.lit) (clause_of es))) es (λ l q. put-has (negated e.lit) l (clause_of es) ∙ or_right _ _ q) (clause-has es))
 
 -- the line of an analysis is derived along its hints
-pub analysed-derived : (clauses : List Held) (trail past : List TrailEntry) (id : ℕ) (lits : List ℕ) → IsConsistentTrail trail → AreGood clauses trail past → lits_under id clauses ≡ Some lits → list_all (is_false past) lits ≡ true → derivation (holding clauses) (Some (analysed clauses past id).lits) (analysed clauses past id).hints ≡ Derived
+pub analysed-derived : (clauses : List NumberedClause) (trail past : List TrailEntry) (id : ℕ) (lits : List ℕ) → IsConsistentTrail trail → AreGood clauses trail past → lits_under id clauses ≡ Some lits → list_all (is_false past) lits ≡ true → derivation (holding clauses) (Some (analysed clauses past id).lits) (analysed clauses past id).hints ≡ Derived
 analysed-derived clauses trail past id lits c g q f =
     let w : Walk = walk_of clauses past id in
     ready-walk (Learned (top past)) clauses trail id past (begun (vars_under clauses id)) c g (ready-begun clauses trail past id lits c q f) (map negated (clause_of w.kept))

@@ -9,7 +9,7 @@ use Rattle.std.proofs.lemmas.List.Folds.{list_any-append}
 use Rattle.std.proofs.lemmas.List.Sorted.{IsPermutation-trans, list_any-IsPermutation}
 use Rattle.std.proofs.lemmas.Bool.{and_from, or_left, or_right, or_parts, eq-eqb, ne_eqb, both_ways, leb-true, le-leb, lt-leb, false_from_ne_true}
 use Rattle.mal_base.specs.Literals.{var_of, negated}
-use Rattle.mal_base.specs.Held.{Held}
+use Rattle.mal_base.specs.NumberedClause.{NumberedClause}
 use Rattle.mal_base.specs.declared.trail_entry.TrailEntry.{TrailEntry}
 use Rattle.spec_node.specs.State.{Node}
 use Rattle.spec_node.specs.Value.{is_true, is_false, has_value, level_of, left_literal}
@@ -36,7 +36,7 @@ use Rattle.spec_learn.proofs.LawLemmas.{top-trail, kept-on, sound-point}
 use Rattle.spec_learn.proofs.SoundParts.{moves-permute, counted-has, with-last, numbers-last, below-derived, derived-serial, AreDifferent, AreApartFrom, clause-rises, clause-All, kept-different, find-alone}
 use Rattle.spec_learn.proofs.SettleLemmas.{IsLearnedOn, closed-more, batch-more, batch-open, not-in-take, open-test, clause-own, clause-list_all}
 
-all-last : (P : Held → Type 0) (xs : List Held) (y : Held) → All P xs → P y → All P (xs ++ y ∷ [])
+all-last : (P : NumberedClause → Type 0) (xs : List NumberedClause) (y : NumberedClause) → All P xs → P y → All P (xs ++ y ∷ [])
 all-last P [] y h p = All-cons P y [] p h
 all-last P (x ∷ xs) y h p = All-cons P x (xs ++ y ∷ []) (All-head P x xs h) (all-last P xs y (All-tail P x xs h) p)
 
@@ -133,7 +133,7 @@ learned-reason variables trail level es point id c own k =
     }
 
 -- all batches of the cut trail are settled with the new clause
-learned-settled : (variables : ℕ) (trail : List TrailEntry) (level : ℕ) (es : List TrailEntry) (point : TrailEntry) (clauses : List Held) (id : ℕ) → EachAfter (IsClosed clauses) [] trail → IsLearnedOn variables trail level es point → AreSettled (length (kept (jump level (es ++ point ∷ [])) trail) + 1) (kept (jump level (es ++ point ∷ [])) trail ++ pushed id (kept (jump level (es ++ point ∷ [])) trail) point ∷ []) (clauses ++ record { id = id; lits = clause_of (es ++ point ∷ []) } ∷ [])
+learned-settled : (variables : ℕ) (trail : List TrailEntry) (level : ℕ) (es : List TrailEntry) (point : TrailEntry) (clauses : List NumberedClause) (id : ℕ) → EachAfter (IsClosed clauses) [] trail → IsLearnedOn variables trail level es point → AreSettled (length (kept (jump level (es ++ point ∷ [])) trail) + 1) (kept (jump level (es ++ point ∷ [])) trail ++ pushed id (kept (jump level (es ++ point ∷ [])) trail) point ∷ []) (clauses ++ record { id = id; lits = clause_of (es ++ point ∷ []) } ∷ [])
 learned-settled variables trail level es point clauses id closed k q l = batch-more (left_is_true (take q t') t') (take q t') clauses new (old (kept-settled j clauses trail [] (omega arith) k.levels closed) q l) fresh
   where
     j : ℕ
@@ -148,7 +148,7 @@ learned-settled variables trail level es point clauses id closed k q l = batch-m
     t' : List TrailEntry
     t' = t ++ x ∷ []
 
-    new : Held
+    new : NumberedClause
     new = record { id = id; lits = clause_of (es ++ point ∷ []) }
 
     old : (kept j trail ≡ trail) ⊎ AreSettled (length t + 1) t clauses → AreSettled (length t + 1) t' clauses
@@ -169,7 +169,7 @@ learned-settled variables trail level es point clauses id closed k q l = batch-m
         ap (λ (o : Option ℕ). option_map_or (is_true t') o false) left ∙ (list_any-append (λ e. e.lit == negated point.lit) t (x ∷ []) ∙ or_right _ _ (or_left _ _ (eq-eqb (negated point.lit) (negated point.lit) refl)))
 
 -- a node after learning from kept entries, with its trail and clauses
-abbrev shaped : Node → ℕ → List TrailEntry → List TrailEntry → List Held → Node
+abbrev shaped : Node → ℕ → List TrailEntry → List TrailEntry → List NumberedClause → Node
 shaped n level es trail clauses =
     let c = cut (jump level es) n in
     record c {
@@ -178,7 +178,7 @@ shaped n level es trail clauses =
       processed = length c.trail + 1;
       order = moved_all (vars_in (clause_of es)) n.order;
       serial = n.serial + 1;
-      since = n.since + 1;
+      conflicts_since_restart = n.conflicts_since_restart + 1;
       conflict = None;
     }
 
@@ -199,7 +199,7 @@ shaped-sound n level es point h own d k =
       ranged = record {
         index = r.index;
         variables = r.variables;
-        round = r.round;
+        restart_number = r.restart_number;
         phases = saved-long n.phases (removed j n.trail) ∙ r.phases;
         numbers = numbers-last 1 new n.clauses (omega arith) r.numbers below;
         serial = all-last (λ c. is_derived c ≡ true → serial_of c < n.serial + 1) n.clauses new (All-weaker (λ c. is_derived c ≡ true → serial_of c < n.serial) (λ c. is_derived c ≡ true → serial_of c < n.serial + 1) (λ c f q. let u : serial_of c < n.serial = f q in omega arith) n.clauses r.serial) (λ q. let s : (2 ^ 32 + n.serial * 64 + n.index - 2 ^ 32) / 64 ≡ n.serial = derived-serial n.serial n.index r.index in omega arith);
@@ -239,16 +239,16 @@ shaped-sound n level es point h own d k =
     lits : List ℕ
     lits = clause_of (es ++ point ∷ [])
 
-    new : Held
+    new : NumberedClause
     new = record { id = derived_id n; lits = lits }
 
-    clauses' : List Held
+    clauses' : List NumberedClause
     clauses' = n.clauses ++ new ∷ []
 
     consistent : IsConsistentTrail n.trail
     consistent = sound-consistent n h
 
-    below : All (λ (y : Held). y.id < derived_id n) n.clauses
+    below : All (λ (y : NumberedClause). y.id < derived_id n) n.clauses
     below = below-derived n.serial n.index n.clauses r.serial
 
     within : All (IsLiteralOf n.variables) lits
@@ -273,7 +273,7 @@ apart-none (e ∷ past) = (refl, apart-none past)
 pub learned-sound : (n : Node) (id : ℕ) → IsSound n → n.conflict ≡ Some id → 0 < level_of n.trail → IsSound (learned id n)
 learned-sound n id h q some =
     subst (λ (es : List TrailEntry). IsSound (shaped n level es (forced_by (derived_id n) (kept (jump level es) n.trail) (left_literal (kept (jump level es) n.trail) (clause_of es))) (with_clause (record { id = derived_id n; lits = clause_of es }) n.clauses))) (sym p.is)
-    (subst (λ (cs : List Held). IsSound (shaped n level es (forced_by (derived_id n) t (left_literal t (clause_of es))) cs)) (sym (with-last new n.clauses (below-derived n.serial n.index n.clauses h.ranged.serial)))
+    (subst (λ (cs : List NumberedClause). IsSound (shaped n level es (forced_by (derived_id n) t (left_literal t (clause_of es))) cs)) (sym (with-last new n.clauses (below-derived n.serial n.index n.clauses h.ranged.serial)))
     (subst (λ (o : Option ℕ). IsSound (shaped n level es (forced_by (derived_id n) t o) (n.clauses ++ new ∷ []))) (sym left)
     (shaped-sound n level p.low p.point h own different k)))
   where
@@ -289,7 +289,7 @@ learned-sound n id h q some =
     t : List TrailEntry
     t = kept (jump level es) n.trail
 
-    new : Held
+    new : NumberedClause
     new = record { id = derived_id n; lits = clause_of es }
 
     same : top (reverse n.trail) ≡ level_of n.trail

@@ -7,7 +7,7 @@ use Rattle.std.proofs.lemmas.List.Folds.{list_any-append}
 use Rattle.std.proofs.lemmas.List.Sums.{sum_by-cons}
 use Rattle.std.proofs.lemmas.Bool.{and_from, or_left, or_right, eq-eqb, eqb-true, ne_eqb, both_ways, le-leb, lt-leb, leb-true, false_from_ne_true}
 use Rattle.mal_base.specs.Literals.{var_of, negated}
-use Rattle.mal_base.specs.Held.{Held}
+use Rattle.mal_base.specs.NumberedClause.{NumberedClause}
 use Rattle.mal_base.specs.declared.trail_entry.TrailEntry.{TrailEntry}
 use Rattle.spec_node.specs.Value.{is_true, is_false, has_value, level_of}
 use Rattle.spec_node.specs.Cut.{kept, removed}
@@ -47,7 +47,7 @@ allof-split Q front [] f = tt
 allof-split Q front (e ∷ es) f = (f front e es refl, allof-split Q (front ++ e ∷ []) es (λ xs x ys q. f xs x ys (sym (append_assoc front (e ∷ []) es) ∙ q)))
 
 -- what holds of the entries of a trail holds of those that a walk keeps
-pub allof-kept : (Q : TrailEntry → Type 0) (aim : Aim) (clauses : List Held) (past : List TrailEntry) (w : Walk) → AllOf Q past → AllOf Q w.kept → AllOf Q (walked aim clauses past w).kept
+pub allof-kept : (Q : TrailEntry → Type 0) (aim : Aim) (clauses : List NumberedClause) (past : List TrailEntry) (w : Walk) → AllOf Q past → AllOf Q w.kept → AllOf Q (walked aim clauses past w).kept
 allof-kept Q aim clauses [] w g h = h
 allof-kept Q aim clauses (e ∷ past) w g h = allof-kept Q aim clauses past (after_entry aim clauses e past w) g.1 (by_seen (has_var w.seen (var_of e.lit)))
   where

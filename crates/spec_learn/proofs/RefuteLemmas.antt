@@ -1,7 +1,7 @@
 use Rattle.std.proofs.Common.{◌≡◌, ℕ, ◌+◌, ◌-◌, ◌*◌, ◌/◌, ◌^◌, ◌<◌, ◌≤◌, true, List, [], ◌∷◌, ◌++◌, Some, None, refl, sym, ap, ◌∙◌, subst, append_assoc, arith}
 use Rattle.std.specs.Prelude.{All}
 use Rattle.std.proofs.lemmas.List.Elements.{All-nil, All-cons, All-head, All-tail, All-weaker, Contains-append_left}
-use Rattle.mal_base.specs.Held.{Held}
+use Rattle.mal_base.specs.NumberedClause.{NumberedClause}
 use Rattle.mal_base.specs.declared.trail_entry.TrailEntry.{TrailEntry}
 use Rattle.mal_base.specs.declared.verdict.Verdict.TheVariants.{Unsatisfiable}
 use Rattle.spec_node.specs.State.{Node}
@@ -16,22 +16,22 @@ use Rattle.spec_learn.specs.Refuting.{refuted, emptied}
 use Rattle.spec_learn.proofs.LawLemmas.{sound-empty}
 use Rattle.spec_learn.proofs.SoundParts.{with-last, numbers-last, below-derived, derived-serial}
 
-all-last : (P : Held → Type 0) (xs : List Held) (y : Held) → All P xs → P y → All P (xs ++ y ∷ [])
+all-last : (P : NumberedClause → Type 0) (xs : List NumberedClause) (y : NumberedClause) → All P xs → P y → All P (xs ++ y ∷ [])
 all-last P [] y h p = All-cons P y [] p h
 all-last P (x ∷ xs) y h p = All-cons P x (xs ++ y ∷ []) (All-head P x xs h) (all-last P xs y (All-tail P x xs h) p)
 
 -- a node with a derived clause behind the others
-abbrev shaped : Node → List ℕ → List Held → Node
+abbrev shaped : Node → List ℕ → List NumberedClause → Node
 shaped n lits clauses = record n { clauses = clauses; serial = n.serial + 1; verdict = Some (Unsatisfiable (derived_id n)) }
 
 -- a clause of the node's literals, with which decisions and handled batches are as they are to be, keeps it sound
 pub refuted-sound : (n : Node) (lits : List ℕ) → IsSound n → AreLiteralsOf n.variables lits → EachAfter (IsClosed (n.clauses ++ record { id = derived_id n; lits = lits } ∷ [])) [] n.trail → (n.conflict ≡ None → AreSettled n.processed n.trail (n.clauses ++ record { id = derived_id n; lits = lits } ∷ [])) → IsSound (refuted lits n)
 refuted-sound n lits h own closed settled =
-    subst (λ (cs : List Held). IsSound (shaped n lits cs)) (sym (with-last new n.clauses below)) (record {
+    subst (λ (cs : List NumberedClause). IsSound (shaped n lits cs)) (sym (with-last new n.clauses below)) (record {
       ranged = record {
         index = r.index;
         variables = r.variables;
-        round = r.round;
+        restart_number = r.restart_number;
         phases = r.phases;
         numbers = numbers-last 1 new n.clauses (omega arith) r.numbers below;
         serial = all-last (λ c. is_derived c ≡ true → serial_of c < n.serial + 1) n.clauses new (All-weaker (λ c. is_derived c ≡ true → serial_of c < n.serial) (λ c. is_derived c ≡ true → serial_of c < n.serial + 1) (λ c f q. let u : serial_of c < n.serial = f q in omega arith) n.clauses r.serial) (λ q. let s : (2 ^ 32 + n.serial * 64 + n.index - 2 ^ 32) / 64 ≡ n.serial = derived-serial n.serial n.index r.index in omega arith);
@@ -59,14 +59,14 @@ refuted-sound n lits h own closed settled =
     c : IsConsistent n
     c = h.consistent
 
-    new : Held
+    new : NumberedClause
     new = record { id = derived_id n; lits = lits }
 
-    below : All (λ (y : Held). y.id < derived_id n) n.clauses
+    below : All (λ (y : NumberedClause). y.id < derived_id n) n.clauses
     below = below-derived n.serial n.index n.clauses r.serial
 
 -- a trail of level 0 has no decision
-closed-zero : (clauses : List Held) (es before : List TrailEntry) → EachAfter IsLevelled before es → level_of (before ++ es) ≡ 0 → EachAfter (IsClosed clauses) before es
+closed-zero : (clauses : List NumberedClause) (es before : List TrailEntry) → EachAfter IsLevelled before es → level_of (before ++ es) ≡ 0 → EachAfter (IsClosed clauses) before es
 closed-zero clauses [] before h z = tt
 closed-zero clauses (e ∷ es) before h z =
     let whole : level_of ((before ++ e ∷ []) ++ es) ≡ 0 = subst (λ (t : List TrailEntry). level_of t ≡ 0) (sym (append_assoc before (e ∷ []) es)) z in

@@ -5,7 +5,7 @@ use Rattle.std.proofs.lemmas.List.{take-append-drop}
 use Rattle.std.proofs.lemmas.List.Folds.{list_all-append}
 use Rattle.std.proofs.lemmas.Bool.{and_parts, and_from, or_left, or_right, eq-eqb, both_ways, false_from_ne_true, cases_lt}
 use Rattle.mal_base.specs.Literals.{var_of, negated}
-use Rattle.mal_base.specs.Held.{Held}
+use Rattle.mal_base.specs.NumberedClause.{NumberedClause}
 use Rattle.mal_base.specs.declared.trail_entry.TrailEntry.{TrailEntry}
 use Rattle.spec_node.specs.Value.{is_true, is_false, has_value, level_of, open_count}
 use Rattle.spec_node.specs.Batch.{batch, is_in_batch}
@@ -95,7 +95,7 @@ pub open-test : (p : List TrailEntry) (e : TrailEntry) → is_true p e.lit ≡ f
 open-test p e h = ap not (ap (is_true p) (negated-negated e.lit) ∙ h)
 
 -- a clause with two open literals is in no batch
-pub no-batch : (p : List TrailEntry) (c : Held) → 2 ≤ open_count p c.lits → is_in_batch p c ≡ false
+pub no-batch : (p : List TrailEntry) (c : NumberedClause) → 2 ≤ open_count p c.lits → is_in_batch p c ≡ false
 no-batch p c h = by_case (is_in_batch p c) refl
   where
     by_cases : IsStart p c ⊎ IsFallen p c → ⊥
@@ -106,7 +106,7 @@ no-batch p c h = by_case (is_in_batch p c) refl
     by_case true q = absurd (by_cases (batch-cases p c q))
     by_case false q = refl
 
-pub batch-open : (p : List TrailEntry) (c : Held) → is_in_batch p c ≡ true → open_count p c.lits ≤ 1
+pub batch-open : (p : List TrailEntry) (c : NumberedClause) → is_in_batch p c ≡ true → open_count p c.lits ≤ 1
 batch-open p c h = by_case (batch-cases p c h)
   where
     by_case : IsStart p c ⊎ IsFallen p c → open_count p c.lits ≤ 1
@@ -114,7 +114,7 @@ batch-open p c h = by_case (batch-cases p c h)
     by_case (inr f) = let one : open_count p c.lits ≡ 1 = f.one in omega arith
 
 -- one clause more
-filter-more : (p : Held → Bool) (xs : List Held) (c : Held) → filter p (xs ++ c ∷ []) ≡ filter p xs ++ cond (p c) (c ∷ []) []
+filter-more : (p : NumberedClause → Bool) (xs : List NumberedClause) (c : NumberedClause) → filter p (xs ++ c ∷ []) ≡ filter p xs ++ cond (p c) (c ∷ []) []
 filter-more p [] c = by_test (p c)
   where
     by_test : (b : Bool) → cond b (c ∷ []) [] ≡ cond b (c ∷ []) []
@@ -122,10 +122,10 @@ filter-more p [] c = by_test (p c)
 filter-more p (x ∷ xs) c = by_test (filter-more p xs c) (p x)
   where
     by_test : filter p (xs ++ c ∷ []) ≡ filter p xs ++ cond (p c) (c ∷ []) [] → (b : Bool) → cond b (x ∷ filter p (xs ++ c ∷ [])) (filter p (xs ++ c ∷ [])) ≡ cond b (x ∷ filter p xs) (filter p xs) ++ cond (p c) (c ∷ []) []
-    by_test f true = ap (λ (ys : List Held). x ∷ ys) f
+    by_test f true = ap (λ (ys : List NumberedClause). x ∷ ys) f
     by_test f false = f
 
-pub batch-more : (f : Held → Bool) (prefix : List TrailEntry) (clauses : List Held) (c : Held) → list_all f (batch prefix clauses) ≡ true → (is_in_batch prefix c ≡ true → f c ≡ true) → list_all f (batch prefix (clauses ++ c ∷ [])) ≡ true
+pub batch-more : (f : NumberedClause → Bool) (prefix : List TrailEntry) (clauses : List NumberedClause) (c : NumberedClause) → list_all f (batch prefix clauses) ≡ true → (is_in_batch prefix c ≡ true → f c ≡ true) → list_all f (batch prefix (clauses ++ c ∷ [])) ≡ true
 batch-more f prefix clauses c h g =
     ap (list_all f) (filter-more (is_in_batch prefix) clauses c) ∙ (list_all-append f (batch prefix clauses) (cond (is_in_batch prefix c) (c ∷ []) []) ∙ and_from _ _ h (by_test (is_in_batch prefix c) refl))
   where
@@ -145,12 +145,12 @@ pub record IsLearnedOn (variables : ℕ) (trail : List TrailEntry) (level : ℕ)
   pub levels : EachAfter IsLevelled [] trail
 
 -- decisions that stay are closed with the new clause too
-pub closed-more : (variables : ℕ) (trail : List TrailEntry) (level : ℕ) (es : List TrailEntry) (point : TrailEntry) (clauses : List Held) (id : ℕ) → IsLearnedOn variables trail level es point → (xs before rest : List TrailEntry) → (before ++ xs) ++ rest ≡ trail → EachAfter IsLevelled [] before → EachAfter IsLevelled before xs → AllOf (λ e. e.level ≤ jump level (es ++ point ∷ [])) xs → EachAfter (IsClosed clauses) before xs → EachAfter (IsClosed (clauses ++ record { id = id; lits = clause_of (es ++ point ∷ []) } ∷ [])) before xs
+pub closed-more : (variables : ℕ) (trail : List TrailEntry) (level : ℕ) (es : List TrailEntry) (point : TrailEntry) (clauses : List NumberedClause) (id : ℕ) → IsLearnedOn variables trail level es point → (xs before rest : List TrailEntry) → (before ++ xs) ++ rest ≡ trail → EachAfter IsLevelled [] before → EachAfter IsLevelled before xs → AllOf (λ e. e.level ≤ jump level (es ++ point ∷ [])) xs → EachAfter (IsClosed clauses) before xs → EachAfter (IsClosed (clauses ++ record { id = id; lits = clause_of (es ++ point ∷ []) } ∷ [])) before xs
 closed-more variables trail level es point clauses id k [] before rest whole hb h low c = tt
 closed-more variables trail level es point clauses id k (x ∷ xs) before rest whole hb h low c =
     (here, closed-more variables trail level es point clauses id k xs (before ++ x ∷ []) rest (ap (λ (t : List TrailEntry). t ++ rest) (append_assoc before (x ∷ []) xs) ∙ whole) (each-push IsLevelled before [] x hb h.0) h.1 low.1 c.1)
   where
-    new : Held
+    new : NumberedClause
     new = record { id = id; lits = clause_of (es ++ point ∷ []) }
 
     front : before ++ ((x ∷ xs) ++ rest) ≡ trail

@@ -10,7 +10,7 @@ use Rattle.std.proofs.lemmas.List.Sorted.{IsPermutation-refl, IsPermutation-cons
 use Rattle.std.proofs.lemmas.Bool.{and_parts, and_from, or_cases, or_parts, eqb-true, eqb-false, ne_eqb, both_ways, lt-ltb, ltb-true, ltb-false, leb-false}
 use Rattle.mal_base.specs.Literals.{var_of, negated}
 use Rattle.mal_base.specs.Clauses.{rises, is_below}
-use Rattle.mal_base.specs.Held.{Held}
+use Rattle.mal_base.specs.NumberedClause.{NumberedClause}
 use Rattle.mal_base.specs.declared.trail_entry.TrailEntry.{TrailEntry}
 use Rattle.spec_node.specs.Value.{has_value}
 use Rattle.spec_node.specs.Load.{counted, is_derived}
@@ -50,21 +50,21 @@ counted-has first (suc n) v l m = by_here (λ k. counted-has (first + 1) n v k (
     by_here f false q = let other = eqb-false first v q in f (omega arith)
 
 -- a clause with the greatest number goes behind the others
-pub with-last : (c : Held) (ds : List Held) → All (λ d. d.id < c.id) ds → with_clause c ds ≡ ds ++ c ∷ []
+pub with-last : (c : NumberedClause) (ds : List NumberedClause) → All (λ d. d.id < c.id) ds → with_clause c ds ≡ ds ++ c ∷ []
 with-last c [] h = refl
 with-last c (d ∷ ds) h =
     let low : d.id < c.id = All-head (λ x. x.id < c.id) d ds h in
     let test : nat_lt c.id d.id ≡ false = not-lt c.id d.id (omega arith) in
-    rw test (ap (λ (xs : List Held). d ∷ xs) (with-last c ds (All-tail (λ x. x.id < c.id) d ds h)))
+    rw test (ap (λ (xs : List NumberedClause). d ∷ xs) (with-last c ds (All-tail (λ x. x.id < c.id) d ds h)))
   where
     not-lt : (a b : ℕ) → b < a → nat_lt a b ≡ false
     not-lt a b l = grind (arith, nat_tests)
 
-pub numbers-last : (low : ℕ) (c : Held) (ds : List Held) → low ≤ c.id → NumbersRise low ds → All (λ d. d.id < c.id) ds → NumbersRise low (ds ++ c ∷ [])
+pub numbers-last : (low : ℕ) (c : NumberedClause) (ds : List NumberedClause) → low ≤ c.id → NumbersRise low ds → All (λ d. d.id < c.id) ds → NumbersRise low (ds ++ c ∷ [])
 numbers-last low c [] l n h = (l, tt)
 numbers-last low c (d ∷ ds) l n h = let u : d.id < c.id = All-head (λ x. x.id < c.id) d ds h in (n.0, numbers-last (d.id + 1) c ds (omega arith) n.1 (All-tail (λ x. x.id < c.id) d ds h))
 
-pub below-derived : (serial index : ℕ) (ds : List Held) → All (λ c. is_derived c ≡ true → serial_of c < serial) ds → All (λ d. d.id < 2 ^ 32 + serial * 64 + index) ds
+pub below-derived : (serial index : ℕ) (ds : List NumberedClause) → All (λ c. is_derived c ≡ true → serial_of c < serial) ds → All (λ d. d.id < 2 ^ 32 + serial * 64 + index) ds
 below-derived serial index [] h = All-nil (λ d. d.id < 2 ^ 32 + serial * 64 + index)
 below-derived serial index (d ∷ ds) h = All-cons (λ x. x.id < 2 ^ 32 + serial * 64 + index) d ds (by_kind (nat_le (2 ^ 32) d.id) refl (All-head (λ c. is_derived c ≡ true → serial_of c < serial) d ds h)) (below-derived serial index ds (All-tail (λ c. is_derived c ≡ true → serial_of c < serial) d ds h))
   where
@@ -149,7 +149,7 @@ apart-more e es (x ∷ past) h a =
     let other : (var_of x.lit == var_of e.lit) ≡ false = ne_eqb (var_of x.lit) (var_of e.lit) (λ q. eqb-false (var_of e.lit) (var_of x.lit) parts.0 (sym q)) in
     (rw (other, a.0) refl, apart-more e es past parts.1 a.1)
 
-pub kept-different : (aim : Aim) (clauses : List Held) (past : List TrailEntry) (w : Walk) → AreDifferent past → AreDifferent w.kept → AreApartFrom w.kept past → AreDifferent (walked aim clauses past w).kept
+pub kept-different : (aim : Aim) (clauses : List NumberedClause) (past : List TrailEntry) (w : Walk) → AreDifferent past → AreDifferent w.kept → AreApartFrom w.kept past → AreDifferent (walked aim clauses past w).kept
 kept-different aim clauses [] w p d a = d
 kept-different aim clauses (e ∷ past) w p d a = by_next (after_entry aim clauses e past w) (by_seen (has_var w.seen (var_of e.lit))) (λ v x y. kept-different aim clauses past v p.1 x y)
   where

@@ -4,7 +4,7 @@ use Rattle.std.specs.Option.{option_map_or}
 use Rattle.std.proofs.lemmas.List.Folds.{list_any-append}
 use Rattle.std.proofs.lemmas.Bool.{and_parts, and_from, or_cases, or_parts, or_left, or_right, eq-eqb, eqb-true, eqb-false, ne_eqb, both_ways, cases_lt}
 use Rattle.mal_base.specs.Literals.{var_of, negated}
-use Rattle.mal_base.specs.Held.{Held}
+use Rattle.mal_base.specs.NumberedClause.{NumberedClause}
 use Rattle.mal_base.specs.declared.trail_entry.TrailEntry.{TrailEntry}
 use Rattle.spec_node.specs.Sound.{IsLevelled, own_level}
 use Rattle.spec_learn.specs.Analysis.{Walk, Aim, has_var, vars_under, keeping, resolving, is_left, is_resolved, after_seen, after_entry, walked, put, clause_of, jump, top}
@@ -60,7 +60,7 @@ pub record HasPoint (level : ℕ) (kept : List TrailEntry) : Type 0 where
   pub between : AreBetween level low
 
 -- once none is left, only entries of lower levels come in
-rest-lower : (level : ℕ) (clauses : List Held) (past : List TrailEntry) (w : Walk) → 0 < level → AreLevelled past → top past ≤ level → is_left level w.seen past ≡ false → HasPoint level w.kept → HasPoint level (walked (Learned level) clauses past w).kept
+rest-lower : (level : ℕ) (clauses : List NumberedClause) (past : List TrailEntry) (w : Walk) → 0 < level → AreLevelled past → top past ≤ level → is_left level w.seen past ≡ false → HasPoint level w.kept → HasPoint level (walked (Learned level) clauses past w).kept
 rest-lower level clauses [] w some h t none p = p
 rest-lower level clauses (e ∷ past) w some h t none p =
     let parts = or_parts ((e.level == level) && has_var w.seen (var_of e.lit)) (is_left level w.seen past) none in
@@ -96,7 +96,7 @@ rest-lower level clauses (e ∷ past) w some h t none p =
     by_seen false q m k = (k, p)
 
 -- while one is left, all of the current level are resolved away; the last stays
-one-left : (level : ℕ) (clauses : List Held) (past : List TrailEntry) (w : Walk) → 0 < level → AreLevelled past → top past ≤ level → is_left level w.seen past ≡ true → w.kept ≡ [] → HasPoint level (walked (Learned level) clauses past w).kept
+one-left : (level : ℕ) (clauses : List NumberedClause) (past : List TrailEntry) (w : Walk) → 0 < level → AreLevelled past → top past ≤ level → is_left level w.seen past ≡ true → w.kept ≡ [] → HasPoint level (walked (Learned level) clauses past w).kept
 one-left level clauses [] w some h t some_left none = absurd (cc)
 one-left level clauses (e ∷ past) w some h t some_left none =
     let low : top past ≤ e.level = falls e past h in
@@ -145,11 +145,11 @@ one-left level clauses (e ∷ past) w some h t some_left none =
     by_seen f g false q k = f w (sym (ap (λ (b : Bool). b || is_left level w.seen past) (ap (λ (b : Bool). (e.level == level) && b) q ∙ and-false (e.level == level))) ∙ k) none
 
 -- the clause of a conflict that has a literal of the current level
-pub has-point : (level : ℕ) (clauses : List Held) (past : List TrailEntry) (w : Walk) → 0 < level → AreLevelled past → top past ≤ level → is_left level w.seen past ≡ true → w.kept ≡ [] → HasPoint level (walked (Learned level) clauses past w).kept
+pub has-point : (level : ℕ) (clauses : List NumberedClause) (past : List TrailEntry) (w : Walk) → 0 < level → AreLevelled past → top past ≤ level → is_left level w.seen past ≡ true → w.kept ≡ [] → HasPoint level (walked (Learned level) clauses past w).kept
 has-point level clauses past w some h t k none = one-left level clauses past w some h t k none
 
 -- at level 0 nothing stays
-pub none-kept : (clauses : List Held) (past : List TrailEntry) (w : Walk) → AreLevelled past → top past ≡ 0 → w.kept ≡ [] → (walked (Learned 0) clauses past w).kept ≡ []
+pub none-kept : (clauses : List NumberedClause) (past : List TrailEntry) (w : Walk) → AreLevelled past → top past ≡ 0 → w.kept ≡ [] → (walked (Learned 0) clauses past w).kept ≡ []
 none-kept clauses [] w h t k = k
 none-kept clauses (e ∷ past) w h t k =
     let low : top past ≤ e.level = falls e past h in
@@ -178,7 +178,7 @@ pub jump-below : (level : ℕ) (kept : List TrailEntry) → 0 < level → HasPoi
 jump-below level kept some p = subst (λ (xs : List TrailEntry). jump level xs < level) (sym p.is) (jump-between level p.low p.point some p.own p.between)
 
 -- each entry adds a literal or a hint at most
-pub walk-small : (aim : Aim) (clauses : List Held) (past : List TrailEntry) (w : Walk) → length (walked aim clauses past w).kept + length (walked aim clauses past w).hints ≤ length past + (length w.kept + length w.hints)
+pub walk-small : (aim : Aim) (clauses : List NumberedClause) (past : List TrailEntry) (w : Walk) → length (walked aim clauses past w).kept + length (walked aim clauses past w).hints ≤ length past + (length w.kept + length w.hints)
 walk-small aim clauses [] w = omega arith
 walk-small aim clauses (e ∷ past) w =
     let v : Walk = after_entry aim clauses e past w in

@@ -4,7 +4,7 @@ use Rattle.std.specs.Prelude.{ℕ, max, Bool, true, ◌==◌, nat_lt, ◌&&◌, 
 use Rattle.std.specs.List.{list_any}
 use Rattle.std.specs.Option.{option_map_or}
 use Rattle.mal_base.specs.Literals.{var_of, negated}
-use Rattle.mal_base.specs.Held.{Held, lits_under}
+use Rattle.mal_base.specs.NumberedClause.{NumberedClause, lits_under}
 use Rattle.mal_base.specs.declared.trail_entry.TrailEntry.{TrailEntry}
 
 -- the level that is reached
@@ -19,7 +19,7 @@ has_var vars v = list_any (λ w. v == w) vars
 abbrev pub vars_in : List ℕ → List ℕ
 vars_in lits = map var_of lits
 
-abbrev pub vars_under : List Held → ℕ → List ℕ
+abbrev pub vars_under : List NumberedClause → ℕ → List ℕ
 vars_under clauses id = option_map_or vars_in (lits_under id clauses) []
 
 -- how far an analysis has come: the variables of the clauses resolved so far, the entries whose negations stay in the
@@ -37,7 +37,7 @@ begun vars = record { seen = vars; kept = []; hints = [] }
 abbrev pub keeping : TrailEntry → Walk → Walk
 keeping e w = record { seen = w.seen; kept = e ∷ w.kept; hints = w.hints }
 
-abbrev pub resolving : List Held → ℕ → Walk → Walk
+abbrev pub resolving : List NumberedClause → ℕ → Walk → Walk
 resolving clauses r w = record { seen = vars_under clauses r ++ w.seen; kept = w.kept; hints = r ∷ w.hints }
 
 -- what is resolved away: all but decisions, or what a clause learned at a level does without
@@ -56,15 +56,15 @@ is_resolved Final e seen past = true
 is_resolved (Learned level) e seen past = (e.level == 0) || ((e.level == level) && is_left level seen past)
 
 -- an entry of the clause is resolved away where it is to be and has a reason; else it stays
-abbrev pub after_seen : Aim → List Held → TrailEntry → List TrailEntry → Walk → Walk
+abbrev pub after_seen : Aim → List NumberedClause → TrailEntry → List TrailEntry → Walk → Walk
 after_seen aim clauses e past w = option_map_or (λ r. if is_resolved aim e w.seen past then resolving clauses r w else keeping e w) e.reason (keeping e w)
 
 -- an entry whose variable is not seen is passed over
-abbrev pub after_entry : Aim → List Held → TrailEntry → List TrailEntry → Walk → Walk
+abbrev pub after_entry : Aim → List NumberedClause → TrailEntry → List TrailEntry → Walk → Walk
 after_entry aim clauses e past w = if has_var w.seen (var_of e.lit) then after_seen aim clauses e past w else w
 
 -- the walk over the trail, latest first
-abbrev pub walked : Aim → List Held → List TrailEntry → Walk → Walk
+abbrev pub walked : Aim → List NumberedClause → List TrailEntry → Walk → Walk
 walked aim clauses [] w = w
 walked aim clauses (e ∷ past) w = walked aim clauses past (after_entry aim clauses e past w)
 
@@ -90,11 +90,11 @@ pub record Analysed : Type 0 where
   pub level : ℕ
 
 -- the walk from the clause of a conflict
-abbrev pub walk_of : List Held → List TrailEntry → ℕ → Walk
+abbrev pub walk_of : List NumberedClause → List TrailEntry → ℕ → Walk
 walk_of clauses past id = walked (Learned (top past)) clauses past (begun (vars_under clauses id))
 
 -- the clause that is learned from a conflict; at level 0 all is resolved away, and it is the empty clause
-abbrev pub analysed : List Held → List TrailEntry → ℕ → Analysed
+abbrev pub analysed : List NumberedClause → List TrailEntry → ℕ → Analysed
 analysed clauses past id = let w = walk_of clauses past id in record { lits = clause_of w.kept; hints = w.hints ++ id ∷ []; level = jump (top past) w.kept }
 
 -- the past from the entry of a literal on
@@ -104,13 +104,13 @@ reached l (e ∷ past) = if e.lit == l then e ∷ past else reached l past
 
 -- the core clause of a false assumption, from the reason of its negation: its negation stays, and of the others negated
 -- decisions
-abbrev pub core_by : List Held → ℕ → List TrailEntry → Option ℕ → Analysed
+abbrev pub core_by : List NumberedClause → ℕ → List TrailEntry → Option ℕ → Analysed
 core_by clauses a past None = record { lits = negated a ∷ []; hints = []; level = 0 }
 core_by clauses a past (Some r) = let w = walked Final clauses past (begun (vars_under clauses r)) in record { lits = put (negated a) (clause_of w.kept); hints = w.hints ++ r ∷ []; level = 0 }
 
-abbrev pub core_at : List Held → ℕ → List TrailEntry → Analysed
+abbrev pub core_at : List NumberedClause → ℕ → List TrailEntry → Analysed
 core_at clauses a [] = core_by clauses a [] None
 core_at clauses a (e ∷ past) = core_by clauses a past e.reason
 
-abbrev pub core : List Held → List TrailEntry → ℕ → Analysed
+abbrev pub core : List NumberedClause → List TrailEntry → ℕ → Analysed
 core clauses past a = core_at clauses a (reached (negated a) past)

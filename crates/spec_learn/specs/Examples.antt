@@ -1,5 +1,5 @@
 use Rattle.std.specs.Prelude.{◌≡◌, List, [], ◌∷◌, Some, None}
-use Rattle.mal_base.specs.Held.{Held}
+use Rattle.mal_base.specs.NumberedClause.{NumberedClause}
 use Rattle.mal_base.specs.declared.trail_entry.TrailEntry.{TrailEntry}
 use Rattle.spec_learn.specs.Analysis.{analysed, core}
 use Rattle.spec_learn.specs.Order.{moved_all}
@@ -8,7 +8,7 @@ use Rattle.spec_learn.specs.Order.{moved_all}
 abbrev pub two_levels : List TrailEntry
 two_levels = record { lit = 5; reason = Some 3; level = 2 } ∷ record { lit = 3; reason = Some 2; level = 2 } ∷ record { lit = 7; reason = None; level = 2 } ∷ record { lit = 9; reason = None; level = 1 } ∷ []
 
-abbrev pub two_level_clauses : List Held
+abbrev pub two_level_clauses : List NumberedClause
 two_level_clauses = record { id = 1; lits = 2 ∷ 4 ∷ 8 ∷ [] } ∷ record { id = 2; lits = 2 ∷ 6 ∷ [] } ∷ record { id = 3; lits = 4 ∷ 6 ∷ [] } ∷ []
 
 -- worked examples: a clause of two levels, a core, and the order after moves

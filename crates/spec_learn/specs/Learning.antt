@@ -1,5 +1,5 @@
 use Rattle.std.specs.Prelude.{ℕ, ◌+◌, ◌*◌, ◌^◌, List, [], ◌∷◌, ◌++◌, length, reverse, Option, Some, None, option_map}
-use Rattle.mal_base.specs.Held.{Held, Line, lits_under}
+use Rattle.mal_base.specs.NumberedClause.{NumberedClause, Line, lits_under}
 use Rattle.mal_base.specs.declared.trail_entry.TrailEntry.{TrailEntry}
 use Rattle.spec_logic.specs.Derivation.{Holding}
 use Rattle.spec_node.specs.State.{Node}
@@ -10,7 +10,7 @@ use Rattle.spec_learn.specs.Analysis.{Analysed, analysed, vars_in}
 use Rattle.spec_learn.specs.Order.{moved_all}
 
 -- the clauses held, as derived lines are checked against them; none of them is a tautology
-abbrev pub holding : List Held → Holding
+abbrev pub holding : List NumberedClause → Holding
 holding clauses id = option_map (λ (lits : List ℕ). Some lits) (lits_under id clauses)
 
 -- the number of the next clause that a node derives
@@ -42,6 +42,6 @@ learned id n =
       processed = length c.trail + 1;
       order = moved_all (vars_in a.lits) n.order;
       serial = n.serial + 1;
-      since = n.since + 1;
+      conflicts_since_restart = n.conflicts_since_restart + 1;
       conflict = None;
     }

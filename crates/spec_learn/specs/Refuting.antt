@@ -1,6 +1,6 @@
 -- What a node derives at the end of its search: the empty clause, and the core clause of a false assumption.
 use Rattle.std.specs.Prelude.{ℕ, ◌+◌, List, reverse, Some}
-use Rattle.mal_base.specs.Held.{Line}
+use Rattle.mal_base.specs.NumberedClause.{Line}
 use Rattle.mal_base.specs.declared.verdict.Verdict.TheVariants.{Unsatisfiable}
 use Rattle.spec_node.specs.State.{Node}
 use Rattle.spec_node.specs.Adding.{with_clause}

@@ -1,12 +1,12 @@
 use Rattle.std.specs.Prelude.{◌≡◌, ◌^◌, List, [], ◌∷◌, Some, None}
-use Rattle.mal_base.specs.Held.{Held}
+use Rattle.mal_base.specs.NumberedClause.{NumberedClause}
 use Rattle.mal_base.specs.declared.trail_entry.TrailEntry.{TrailEntry}
 use Rattle.mal_base.specs.declared.verdict.Verdict.TheVariants.{Unsatisfiable}
 use Rattle.spec_node.specs.State.{Node, fresh}
 use Rattle.spec_learn.specs.Refuting.{core_line, cored}
 
 -- a node of three variables that assumes 1 and 2, with a trail and clauses
-abbrev pub assuming : List TrailEntry → List Held → Node
+abbrev pub assuming : List TrailEntry → List NumberedClause → Node
 assuming trail clauses = record (fresh 0) { variables = 3; assumptions = 2 ∷ 4 ∷ []; trail = trail; clauses = clauses }
 
 -- the decision 1 forced -2 by -1 -2

@@ -1,5 +1,5 @@
 use Rattle.std.specs.Prelude.{◌≡◌, ℕ, List, Some, None}
-use Rattle.mal_base.specs.Held.{lits_under}
+use Rattle.mal_base.specs.NumberedClause.{lits_under}
 use Rattle.spec_node.specs.State.{Node}
 use Rattle.spec_node.specs.Value.{level_of}
 use Rattle.spec_node.specs.Sound.{IsSound}

@@ -6,7 +6,7 @@ use Rattle.std.proofs.lemmas.List.Elements.{All-nil, All-cons, All-head, All-tai
 use Rattle.std.proofs.lemmas.Bool.{and_from, or_left, or_right, eq-eqb}
 use Rattle.std.proofs.lemmas.List.Folds.{list_any-append}
 use Rattle.mal_base.specs.declared.trail_entry.TrailEntry.{TrailEntry}
-use Rattle.mal_base.specs.Held.{Held}
+use Rattle.mal_base.specs.NumberedClause.{NumberedClause}
 use Rattle.spec_node.specs.Value.{is_true, is_false, level_of, left_literal}
 use Rattle.spec_node.specs.Batch.{Progress, after_left, after_clause, after_all}
 use Rattle.spec_node.specs.Sound.{left_is_true}
@@ -26,10 +26,10 @@ abbrev pub forced : ℕ → ℕ → List TrailEntry → TrailEntry
 forced l id trail = record { lit = l; reason = Some id; level = level_of trail }
 
 -- pushing a clause's left literal, where it has no value, keeps a property of the trail
-abbrev pub PushKeeps : (List TrailEntry → Type 0) → List TrailEntry → Held → Type 0
+abbrev pub PushKeeps : (List TrailEntry → Type 0) → List TrailEntry → NumberedClause → Type 0
 PushKeeps P prefix c = (trail : List TrailEntry) (l : ℕ) → left_literal prefix c.lits ≡ Some l → is_true trail l ≡ false → is_false trail l ≡ false → P trail → P (trail ++ forced l c.id trail ∷ [])
 
-pub after_clause-keeps : (P : List TrailEntry → Type 0) (prefix trail : List TrailEntry) (c : Held) → PushKeeps P prefix c → P trail → P (after_clause prefix trail c).trail
+pub after_clause-keeps : (P : List TrailEntry → Type 0) (prefix trail : List TrailEntry) (c : NumberedClause) → PushKeeps P prefix c → P trail → P (after_clause prefix trail c).trail
 after_clause-keeps P prefix trail c h k = by_left (left_literal prefix c.lits) refl
   where
     by_value : (l : ℕ) → left_literal prefix c.lits ≡ Some l → (a b : Bool) → is_true trail l ≡ a → is_false trail l ≡ b → P (cond {A = Progress} a (record { trail = trail; conflict = None }) (cond {A = Progress} b (record { trail = trail; conflict = Some c.id }) (record { trail = trail ++ forced l c.id trail ∷ []; conflict = None }))).trail
@@ -41,7 +41,7 @@ after_clause-keeps P prefix trail c h k = by_left (left_literal prefix c.lits) r
     by_left None e = k
     by_left (Some l) e = by_value l e (is_true trail l) (is_false trail l) refl refl
 
-pub after_all-keeps : (P : List TrailEntry → Type 0) (prefix : List TrailEntry) (cs : List Held) (p : Progress) → All (PushKeeps P prefix) cs → P p.trail → P (after_all prefix p cs).trail
+pub after_all-keeps : (P : List TrailEntry → Type 0) (prefix : List TrailEntry) (cs : List NumberedClause) (p : Progress) → All (PushKeeps P prefix) cs → P p.trail → P (after_all prefix p cs).trail
 after_all-keeps P prefix [] p h k = k
 after_all-keeps P prefix (c ∷ cs) p h k = after_all-keeps P prefix cs (cond (is_some p.conflict) p (after_clause prefix p.trail c)) (All-tail (PushKeeps P prefix) c cs h) (by_conflict (is_some p.conflict))
   where
@@ -64,11 +64,11 @@ pub all-of : {X : Type 0} (P : X → Type 0) → ((x : X) → P x) → (xs : Lis
 all-of P f [] = All-nil P
 all-of P f (x ∷ xs) = All-cons P x xs (f x) (all-of P f xs)
 
-pub after_all-extends : (prefix : List TrailEntry) (cs : List Held) (p : Progress) → Extends p.trail (after_all prefix p cs).trail
+pub after_all-extends : (prefix : List TrailEntry) (cs : List NumberedClause) (p : Progress) → Extends p.trail (after_all prefix p cs).trail
 after_all-extends prefix cs p = after_all-keeps (Extends p.trail) prefix cs p (all-of (PushKeeps (Extends p.trail) prefix) (λ c trail l e t f k. extends-push p.trail trail (forced l c.id trail) k) cs) (extends-self p.trail)
 
 -- a conflict stays
-pub after_all-stopped : (prefix : List TrailEntry) (cs : List Held) (p : Progress) (id : ℕ) → p.conflict ≡ Some id → (after_all prefix p cs).conflict ≡ None → ⊥
+pub after_all-stopped : (prefix : List TrailEntry) (cs : List NumberedClause) (p : Progress) (id : ℕ) → p.conflict ≡ Some id → (after_all prefix p cs).conflict ≡ None → ⊥
 after_all-stopped prefix [] p id e h = absurd (cc)
 after_all-stopped prefix (c ∷ cs) p id e h = after_all-stopped prefix cs (cond (is_some p.conflict) p (after_clause prefix p.trail c)) id (by_conflict (is_some p.conflict) (ap is_some e)) h
   where
@@ -77,7 +77,7 @@ after_all-stopped prefix (c ∷ cs) p id e h = after_all-stopped prefix cs (cond
     by_conflict false q = absurd (cc)
 
 -- a clause handled without a conflict has its left literal true
-pub after_clause-settles : (prefix trail : List TrailEntry) (c : Held) → (after_clause prefix trail c).conflict ≡ None → left_is_true prefix (after_clause prefix trail c).trail c ≡ true
+pub after_clause-settles : (prefix trail : List TrailEntry) (c : NumberedClause) → (after_clause prefix trail c).conflict ≡ None → left_is_true prefix (after_clause prefix trail c).trail c ≡ true
 after_clause-settles prefix trail c h = by_left (left_literal prefix c.lits) h
   where
     by_value : (l : ℕ) (a b : Bool) → is_true trail l ≡ a → (cond {A = Progress} a (record { trail = trail; conflict = None }) (cond {A = Progress} b (record { trail = trail; conflict = Some c.id }) (record { trail = trail ++ forced l c.id trail ∷ []; conflict = None }))).conflict ≡ None → is_true (cond {A = Progress} a (record { trail = trail; conflict = None }) (cond {A = Progress} b (record { trail = trail; conflict = Some c.id }) (record { trail = trail ++ forced l c.id trail ∷ []; conflict = None }))).trail l ≡ true
@@ -89,7 +89,7 @@ after_clause-settles prefix trail c h = by_left (left_literal prefix c.lits) h
     by_left None k = absurd (cc)
     by_left (Some l) k = by_value l (is_true trail l) (is_false trail l) refl k
 
-pub after_all-settles : (prefix : List TrailEntry) (cs : List Held) (p : Progress) → (after_all prefix p cs).conflict ≡ None → list_all (left_is_true prefix (after_all prefix p cs).trail) cs ≡ true
+pub after_all-settles : (prefix : List TrailEntry) (cs : List NumberedClause) (p : Progress) → (after_all prefix p cs).conflict ≡ None → list_all (left_is_true prefix (after_all prefix p cs).trail) cs ≡ true
 after_all-settles prefix [] p h = refl
 after_all-settles prefix (c ∷ cs) p h =
     let q : Progress = cond (is_some p.conflict) p (after_clause prefix p.trail c) in

@@ -4,7 +4,7 @@ use Rattle.std.proofs.lemmas.List.{length_push}
 use Rattle.std.proofs.lemmas.List.Sums.{take_while-cons}
 use Rattle.std.proofs.lemmas.Bool.{leb-true, leb-false}
 use Rattle.mal_base.specs.declared.trail_entry.TrailEntry.{TrailEntry}
-use Rattle.mal_base.specs.Held.{Held}
+use Rattle.mal_base.specs.NumberedClause.{NumberedClause}
 use Rattle.spec_node.specs.Value.{level_of}
 use Rattle.spec_node.specs.Cut.{kept, removed}
 use Rattle.spec_node.specs.Sound.{EachAfter, own_level, IsLevelled, AreSettled, IsClosed}
@@ -32,7 +32,7 @@ kept-front level (e ∷ es) = subst (λ (t : List TrailEntry). t ++ drop (length
     by_level h false = refl
 
 -- a cut that takes something away has a decision at its end, below which the batches are settled
-pub kept-settled : (level : ℕ) (clauses : List Held) (es before : List TrailEntry) → level_of before ≤ level → EachAfter IsLevelled before es → EachAfter (IsClosed clauses) before es → (kept level es ≡ es) ⊎ AreSettled (length (before ++ kept level es) + 1) (before ++ kept level es) clauses
+pub kept-settled : (level : ℕ) (clauses : List NumberedClause) (es before : List TrailEntry) → level_of before ≤ level → EachAfter IsLevelled before es → EachAfter (IsClosed clauses) before es → (kept level es ≡ es) ⊎ AreSettled (length (before ++ kept level es) + 1) (before ++ kept level es) clauses
 kept-settled level clauses [] before b h k = inl refl
 kept-settled level clauses (e ∷ es) before b h k = subst (λ (t : List TrailEntry). (t ≡ e ∷ es) ⊎ AreSettled (length (before ++ t) + 1) (before ++ t) clauses) (sym (kept-cons level e es)) (by_level (λ q. kept-settled level clauses es (before ++ e ∷ []) (omega (arith, level_of-push before e)) h.1 k.1) (nat_le e.level level) refl)
   where

@@ -4,7 +4,7 @@ use Rattle.std.proofs.lemmas.List.Elements.{All-nil, All-cons, All-head, All-tai
 use Rattle.std.proofs.lemmas.Bool.{leb-true, ltb-true, ltb-false, le-ltb, or_parts, not-true, false≢true}
 use Rattle.std.proofs.lemmas.Slice.Eq.{bytes_eq-Decides}
 use Rattle.mal_base.specs.declared.trail_entry.TrailEntry.{TrailEntry}
-use Rattle.mal_base.specs.Held.{Held}
+use Rattle.mal_base.specs.NumberedClause.{NumberedClause}
 use Rattle.spec_node.specs.State.{Node}
 use Rattle.spec_node.specs.Value.{level_of}
 use Rattle.spec_node.specs.Cut.{kept, removed}
@@ -20,7 +20,7 @@ use Rattle.spec_node.proofs.LoadLemmas.{kept-forced}
 use Rattle.spec_node.proofs.SoundLemmas.{length-saved, kept-level}
 
 -- what holds of a clause and of others holds of all of them
-pub All-with_clause : (P : Held → Type 0) (c : Held) (cs : List Held) → P c → All P cs → All P (with_clause c cs)
+pub All-with_clause : (P : NumberedClause → Type 0) (c : NumberedClause) (cs : List NumberedClause) → P c → All P cs → All P (with_clause c cs)
 All-with_clause P c [] h k = All-cons P c [] h (All-nil P)
 All-with_clause P c (d ∷ ds) h k = by_order (All-with_clause P c ds h (All-tail P d ds k)) (nat_lt c.id d.id)
   where
@@ -28,12 +28,12 @@ All-with_clause P c (d ∷ ds) h k = by_order (All-with_clause P c ds h (All-tai
     by_order rest true = All-cons P c (d ∷ ds) h k
     by_order rest false = All-cons P d (with_clause c ds) (All-head P d ds k) rest
 
-pub All-with_clauses : (P : Held → Type 0) (new cs : List Held) → All P new → All P cs → All P (with_clauses new cs)
+pub All-with_clauses : (P : NumberedClause → Type 0) (new cs : List NumberedClause) → All P new → All P cs → All P (with_clauses new cs)
 All-with_clauses P [] cs h k = k
 All-with_clauses P (c ∷ new) cs h k = All-with_clauses P new (with_clause c cs) (All-tail P c new h) (All-with_clause P c cs (All-head P c new h) k)
 
 -- what holds of all of them holds of the others
-All-without : (P : Held → Type 0) (c : Held) (cs : List Held) → All P (with_clause c cs) → All P cs
+All-without : (P : NumberedClause → Type 0) (c : NumberedClause) (cs : List NumberedClause) → All P (with_clause c cs) → All P cs
 All-without P c [] h = All-nil P
 All-without P c (d ∷ ds) h = by_order (All-without P c ds) (nat_lt c.id d.id) h
   where
@@ -41,19 +41,19 @@ All-without P c (d ∷ ds) h = by_order (All-without P c ds) (nat_lt c.id d.id) 
     by_order f true k = All-tail P c (d ∷ ds) k
     by_order f false k = All-cons P d ds (All-head P d (with_clause c ds) k) (f (All-tail P d (with_clause c ds) k))
 
-All-without_clauses : (P : Held → Type 0) (new cs : List Held) → All P (with_clauses new cs) → All P cs
+All-without_clauses : (P : NumberedClause → Type 0) (new cs : List NumberedClause) → All P (with_clauses new cs) → All P cs
 All-without_clauses P [] cs h = h
 All-without_clauses P (c ∷ new) cs h = All-without P c cs (All-without_clauses P new (with_clause c cs) h)
 
 -- what was held is held also with more clauses
-pub contains-with_clauses : (new cs : List Held) (c : Held) → Contains cs c → Contains (with_clauses new cs) c
+pub contains-with_clauses : (new cs : List NumberedClause) (c : NumberedClause) → Contains cs c → Contains (with_clauses new cs) c
 contains-with_clauses new cs c h = All-contains (Contains (with_clauses new cs)) cs c (All-without_clauses (Contains (with_clauses new cs)) new cs (All-contains_itself (with_clauses new cs))) h
 
 -- what holds of all holds of those that pass a test
-pub All-passed : (P : Held → Type 0) (test : Held → Bool) (cs : List Held) → All P cs → All P (filter test cs)
+pub All-passed : (P : NumberedClause → Type 0) (test : NumberedClause → Bool) (cs : List NumberedClause) → All P cs → All P (filter test cs)
 All-passed P test cs h = All-weaker (λ c. P c × (test c ≡ true)) P (λ c k. k.0) (filter test cs) (All-filtered P test cs h)
 
-pub own-passed : (test : Held → Bool) (cs : List Held) → HaveOwnNumbers cs → HaveOwnNumbers (filter test cs)
+pub own-passed : (test : NumberedClause → Bool) (cs : List NumberedClause) → HaveOwnNumbers cs → HaveOwnNumbers (filter test cs)
 own-passed test [] h = tt
 own-passed test (c ∷ cs) h = by_test (own-passed test cs h.1) (test c)
   where
@@ -65,7 +65,7 @@ above : (a b : ℕ) → nat_lt a b ≡ false → a ≢ b → b + 1 ≤ a
 above a b h k = let low : b ≤ a = ltb-false a b h in omega arith
 
 -- numbers rise also with a clause of another number among them
-numbers-with : (low : ℕ) (c : Held) (cs : List Held) → low ≤ c.id → All (λ d. c.id ≢ d.id) cs → NumbersRise low cs → NumbersRise low (with_clause c cs)
+numbers-with : (low : ℕ) (c : NumberedClause) (cs : List NumberedClause) → low ≤ c.id → All (λ d. c.id ≢ d.id) cs → NumbersRise low cs → NumbersRise low (with_clause c cs)
 numbers-with low c [] b h k = (b, tt)
 numbers-with low c (d ∷ ds) b h k = by_order (λ more. numbers-with (d.id + 1) c ds more (All-tail (λ x. c.id ≢ x.id) d ds h) k.1) (nat_lt c.id d.id) refl
   where
@@ -74,21 +74,21 @@ numbers-with low c (d ∷ ds) b h k = by_order (λ more. numbers-with (d.id + 1)
     by_order f false e = (k.0, f (above c.id d.id e (All-head (λ x. c.id ≢ x.id) d ds h)))
 
 -- clauses have other numbers than those of a list
-abbrev pub AreApart : List Held → List Held → Type 0
+abbrev pub AreApart : List NumberedClause → List NumberedClause → Type 0
 AreApart new cs = All (λ c. All (λ d. c.id ≢ d.id) cs) new
 
-pub apart-with : (c : Held) (cs new : List Held) → All (λ e. c.id ≢ e.id) new → AreApart new cs → AreApart new (with_clause c cs)
+pub apart-with : (c : NumberedClause) (cs new : List NumberedClause) → All (λ e. c.id ≢ e.id) new → AreApart new cs → AreApart new (with_clause c cs)
 apart-with c cs [] h k = All-nil (λ e. All (λ d. e.id ≢ d.id) (with_clause c cs))
 apart-with c cs (e ∷ es) h k =
     let other : c.id ≢ e.id = All-head (λ x. c.id ≢ x.id) e es h in
     All-cons (λ x. All (λ d. x.id ≢ d.id) (with_clause c cs)) e es (All-with_clause (λ d. e.id ≢ d.id) c cs (λ same. other (sym same)) (All-head (λ x. All (λ d. x.id ≢ d.id) cs) e es k)) (apart-with c cs es (All-tail (λ x. c.id ≢ x.id) e es h) (All-tail (λ x. All (λ d. x.id ≢ d.id) cs) e es k))
 
-pub numbers-with_clauses : (low : ℕ) (new cs : List Held) → All (λ c. low ≤ c.id) new → HaveOwnNumbers new → AreApart new cs → NumbersRise low cs → NumbersRise low (with_clauses new cs)
+pub numbers-with_clauses : (low : ℕ) (new cs : List NumberedClause) → All (λ c. low ≤ c.id) new → HaveOwnNumbers new → AreApart new cs → NumbersRise low cs → NumbersRise low (with_clauses new cs)
 numbers-with_clauses low [] cs b own h k = k
 numbers-with_clauses low (c ∷ new) cs b own h k = numbers-with_clauses low new (with_clause c cs) (All-tail (λ x. low ≤ x.id) c new b) own.1 (apart-with c cs new own.0 (All-tail (λ x. All (λ d. x.id ≢ d.id) cs) c new h)) (numbers-with low c cs (All-head (λ x. low ≤ x.id) c new b) (All-head (λ x. All (λ d. x.id ≢ d.id) cs) c new h) k)
 
 -- a number whose literals are not held is not held
-not-held : (lits : List ℕ) (id : ℕ) (ds : List Held) → All (λ d. id ≡ d.id → lits ≡ d.lits) ds → has_lits lits ds ≡ false → All (λ d. id ≢ d.id) ds
+not-held : (lits : List ℕ) (id : ℕ) (ds : List NumberedClause) → All (λ d. id ≡ d.id → lits ≡ d.lits) ds → has_lits lits ds ≡ false → All (λ d. id ≢ d.id) ds
 not-held lits id [] h k = All-nil (λ d. id ≢ d.id)
 not-held lits id (d ∷ ds) h k =
     let p = or_parts (bytes_eq lits d.lits) (has_lits lits ds) k in
@@ -97,17 +97,17 @@ not-held lits id (d ∷ ds) h k =
     differ : bytes_eq lits d.lits ≡ false → lits ≡ d.lits → false ≡ true
     differ f same = sym f ∙ (bytes_eq-Decides lits d.lits).1 same
 
-pub taken-apart : (told cs : List Held) → ((c d : Held) → Contains told c → Contains cs d → c.id ≡ d.id → c.lits ≡ d.lits) → AreApart (taken told cs) cs
+pub taken-apart : (told cs : List NumberedClause) → ((c d : NumberedClause) → Contains told c → Contains cs d → c.id ≡ d.id → c.lits ≡ d.lits) → AreApart (taken told cs) cs
 taken-apart told cs agree = All-weaker (λ c. Contains told c × (not (has_lits c.lits cs) ≡ true)) (λ c. All (λ d. c.id ≢ d.id) cs) (λ c k. not-held c.lits c.id cs (All-weaker (Contains cs) (λ d. c.id ≡ d.id → c.lits ≡ d.lits) (λ d m same. agree c d k.0 m same) cs (All-contains_itself cs)) (not-true (has_lits c.lits cs) k.1)) (taken told cs) (All-filtered (Contains told) (λ c. not (has_lits c.lits cs)) told (All-contains_itself told))
 
 -- the serial above clauses is at least the one before, and above that of each
-pub serial-least : (serial : ℕ) (new : List Held) → serial ≤ serial_above serial new
+pub serial-least : (serial : ℕ) (new : List NumberedClause) → serial ≤ serial_above serial new
 serial-least serial [] = omega arith
 serial-least serial (c ∷ new) =
     let more : max serial (serial_of c + 1) ≤ serial_above (max serial (serial_of c + 1)) new = serial-least (max serial (serial_of c + 1)) new in
     omega arith
 
-pub serial-over : (serial : ℕ) (new : List Held) → All (λ c. serial_of c < serial_above serial new) new
+pub serial-over : (serial : ℕ) (new : List NumberedClause) → All (λ c. serial_of c < serial_above serial new) new
 serial-over serial [] = All-nil (λ c. serial_of c < serial)
 serial-over serial (c ∷ new) =
     let next : ℕ = max serial (serial_of c + 1) in
@@ -115,7 +115,7 @@ serial-over serial (c ∷ new) =
     All-cons (λ x. serial_of x < serial_above next new) c new (omega arith) (serial-over next new)
 
 -- derived clauses leave the originals
-originals-with : (c : Held) (cs : List Held) → is_derived c ≡ true → originals (with_clause c cs) ≡ originals cs
+originals-with : (c : NumberedClause) (cs : List NumberedClause) → is_derived c ≡ true → originals (with_clause c cs) ≡ originals cs
 originals-with c [] h =
     let no : nat_lt c.id (2 ^ 32) ≡ false = le-ltb c.id (2 ^ 32) (leb-true (2 ^ 32) c.id h) in
     rw no refl
@@ -126,19 +126,19 @@ originals-with c (d ∷ ds) h = by_order (originals-with c ds h) (nat_lt c.id d.
 
     by_order : originals (with_clause c ds) ≡ originals ds → (b : Bool) → originals (cond b (c ∷ (d ∷ ds)) (d ∷ with_clause c ds)) ≡ originals (d ∷ ds)
     by_order k true = ap (λ (b : Bool). cond b (c ∷ originals (d ∷ ds)) (originals (d ∷ ds))) no
-    by_order k false = ap (λ (xs : List Held). cond (nat_lt d.id (2 ^ 32)) (d ∷ xs) xs) k
+    by_order k false = ap (λ (xs : List NumberedClause). cond (nat_lt d.id (2 ^ 32)) (d ∷ xs) xs) k
 
-originals-with_clauses : (new cs : List Held) → All (λ c. is_derived c ≡ true) new → originals (with_clauses new cs) ≡ originals cs
+originals-with_clauses : (new cs : List NumberedClause) → All (λ c. is_derived c ≡ true) new → originals (with_clauses new cs) ≡ originals cs
 originals-with_clauses [] cs h = refl
 originals-with_clauses (c ∷ new) cs h = originals-with_clauses new (with_clause c cs) (All-tail (λ x. is_derived x ≡ true) c new h) ∙ originals-with c cs (All-head (λ x. is_derived x ≡ true) c new h)
 
 -- importing keeps the search consistent
-imported-consistent : (told : List Held) (n : Node) → All (λ c. AreLiteralsOf n.variables c.lits) told → IsConsistent n → IsConsistent (imported told n)
+imported-consistent : (told : List NumberedClause) (n : Node) → All (λ c. AreLiteralsOf n.variables c.lits) told → IsConsistent n → IsConsistent (imported told n)
 imported-consistent told n within h =
     let t : List TrailEntry = kept 0 n.trail in
     let front : t ++ removed 0 n.trail ≡ n.trail = kept-front 0 n.trail in
     let levels : EachAfter IsLevelled [] t = each-front IsLevelled t (removed 0 n.trail) [] (rw front h.levels) in
-    let new : List Held = taken told n.clauses in
+    let new : List NumberedClause = taken told n.clauses in
     record {
       order = h.order;
       clauses = All-with_clauses (λ c. AreLiteralsOf n.variables c.lits) new n.clauses (All-passed (λ c. AreLiteralsOf n.variables c.lits) (λ c. not (has_lits c.lits n.clauses)) told within) h.clauses;
@@ -151,23 +151,23 @@ imported-consistent told n within h =
     }
 
 -- importing clauses that may be told keeps a node sound
-pub import-keeps_sound : (told : List Held) (n : Node) → MayImport told n → IsSound n → IsSound (imported told n)
+pub import-keeps_sound : (told : List NumberedClause) (n : Node) → MayImport told n → IsSound n → IsSound (imported told n)
 import-keeps_sound told n may h =
     let q : IsRanged n = h.ranged in
     let c : IsConsistent (imported told n) = imported-consistent told n may.within h.consistent in
     let t : List TrailEntry = kept 0 n.trail in
     let front : t ++ removed 0 n.trail ≡ n.trail = kept-front 0 n.trail in
     let low : level_of t ≤ 0 = kept-level 0 n.trail [] (omega arith) in
-    let test : Held → Bool = λ x. not (has_lits x.lits n.clauses) in
-    let new : List Held = taken told n.clauses in
-    let clauses : List Held = with_clauses new n.clauses in
+    let test : NumberedClause → Bool = λ x. not (has_lits x.lits n.clauses) in
+    let new : List NumberedClause = taken told n.clauses in
+    let clauses : List NumberedClause = with_clauses new n.clauses in
     let serial : ℕ = serial_above n.serial new in
     let least : n.serial ≤ serial = serial-least n.serial new in
     record {
       ranged = record {
         index = q.index;
         variables = q.variables;
-        round = q.round;
+        restart_number = q.restart_number;
         phases = length-saved n.phases (removed 0 n.trail) ∙ q.phases;
         numbers = numbers-with_clauses 1 new n.clauses (All-passed (λ x. 1 ≤ x.id) test told (All-weaker (λ x. is_derived x ≡ true) (λ x. 1 ≤ x.id) (λ x k. let high : 2 ^ 32 ≤ x.id = leb-true (2 ^ 32) x.id k in omega arith) told may.derived)) (own-passed test told may.apart) (taken-apart told n.clauses may.agree) q.numbers;
         serial = All-with_clauses (λ x. is_derived x ≡ true → serial_of x < serial) new n.clauses (All-weaker (λ x. serial_of x < serial) (λ x. is_derived x ≡ true → serial_of x < serial) (λ x k m. k) new (serial-over n.serial new)) (All-weaker (λ x. is_derived x ≡ true → serial_of x < n.serial) (λ x. is_derived x ≡ true → serial_of x < serial) (λ x k m. let below : serial_of x < n.serial = k m in omega arith) n.clauses q.serial);
@@ -180,9 +180,9 @@ import-keeps_sound told n may h =
       waiting = λ id m. absurd (cc);
     }
 
-held-or_told : (told : List Held) (n : Node) (c : Held) → Contains (imported told n).clauses c → Contains (n.clauses ++ told) c
+held-or_told : (told : List NumberedClause) (n : Node) (c : NumberedClause) → Contains (imported told n).clauses c → Contains (n.clauses ++ told) c
 held-or_told told n c h =
-    let all : List Held = n.clauses ++ told in
+    let all : List NumberedClause = n.clauses ++ told in
     let itself : All (Contains all) all = All-contains_itself all in
     let behind : All (Contains all) told = All-weaker (Contains told) (Contains all) (λ x k. Contains-append_right n.clauses told x k) told (All-contains_itself told) in
     let before : All (Contains all) n.clauses = All-weaker (Contains n.clauses) (Contains all) (λ x k. Contains-append_left n.clauses told x k) n.clauses (All-contains_itself n.clauses) in

@@ -14,7 +14,7 @@ use Rattle.mal_base.specs.declared.trail_entry.TrailEntry.{TrailEntry}
 use Rattle.mal_base.specs.Formulas.{is_within, is_clause_of, is_within_limits}
 use Rattle.mal_revision.specs.Posted.{Posted, is_posted}
 use Rattle.spec_logic.specs.Logic.{satisfies, satisfies_clause}
-use Rattle.mal_base.specs.Held.{Held}
+use Rattle.mal_base.specs.NumberedClause.{NumberedClause}
 use Rattle.spec_node.specs.State.{Node, fresh}
 use Rattle.spec_node.specs.Cut.{kept, removed}
 use Rattle.spec_node.specs.Load.{counted, rotated, new_order, numbered, is_derived, with_originals, added, loaded}
@@ -69,7 +69,7 @@ numbered-literals v first (Some lits ∷ cs) p h =
     All-cons (λ x. AreLiteralsOf v x.lits) (record { id = first; lits = lits }) (numbered (first + 1) cs) (record { rising = c.0; within = literals-from_tests v lits c.1 b.0 }) (numbered-literals v (first + 1) cs a.1 b.1)
 
 -- what holds of the clauses held and of the new ones holds of all
-pub All-with_originals : (P : Held → Type 0) (held new : List Held) → All P held → All P new → All P (with_originals held new)
+pub All-with_originals : (P : NumberedClause → Type 0) (held new : List NumberedClause) → All P held → All P new → All P (with_originals held new)
 All-with_originals P held new h k = All-append P (filter (λ c. nat_lt c.id (2 ^ 32)) held) (new ++ filter is_derived held) (All-weaker (λ c. P c × (nat_lt c.id (2 ^ 32) ≡ true)) P (λ c x. x.0) (filter (λ c. nat_lt c.id (2 ^ 32)) held) (All-filtered P (λ c. nat_lt c.id (2 ^ 32)) held h)) (All-append P new (filter is_derived held) k (All-weaker (λ c. P c × (is_derived c ≡ true)) P (λ c x. x.0) (filter is_derived held) (All-filtered P is_derived held h)))
 
 -- on level 0 each entry is forced
@@ -110,7 +110,7 @@ loaded-consistent r first n p l h =
     let front : kept 0 n.trail ++ removed 0 n.trail ≡ n.trail = kept-front 0 n.trail in
     let levels : EachAfter IsLevelled [] (kept 0 n.trail) = each-front IsLevelled (kept 0 n.trail) (removed 0 n.trail) [] (rw front h.levels) in
     let more : ℕ = max n.variables r.variables in
-    let clauses : List Held = with_originals n.clauses (numbered first r.clauses) in
+    let clauses : List NumberedClause = with_originals n.clauses (numbered first r.clauses) in
     record {
       order = loaded-order r n h.order;
       clauses = All-with_originals (λ c. AreLiteralsOf more c.lits) n.clauses (numbered first r.clauses) (All-weaker (λ c. AreLiteralsOf n.variables c.lits) (λ c. AreLiteralsOf more c.lits) (λ c k. literals-wider n.variables more c.lits (omega arith) k) n.clauses h.clauses) (All-weaker (λ c. AreLiteralsOf r.variables c.lits) (λ c. AreLiteralsOf more c.lits) (λ c k. literals-wider r.variables more c.lits (omega arith) k) (numbered first r.clauses) (numbered-literals r.variables first r.clauses parts.clauses parts.literals));
@@ -144,13 +144,13 @@ numbered-below bound first [] b = All-nil (λ c. c.id < bound)
 numbered-below bound first (None ∷ cs) b = numbered-below bound (first + 1) cs (omega arith)
 numbered-below bound first (Some lits ∷ cs) b = All-cons (λ c. c.id < bound) (record { id = first; lits = lits }) (numbered (first + 1) cs) (omega arith) (numbered-below bound (first + 1) cs (omega arith))
 
-abbrev is-original : Held → Bool
+abbrev is-original : NumberedClause → Bool
 is-original c = nat_lt c.id (2 ^ 32)
 
-derived-apart : (cs : List Held) → All (λ c. is-original c ≡ false) (filter is_derived cs)
+derived-apart : (cs : List NumberedClause) → All (λ c. is-original c ≡ false) (filter is_derived cs)
 derived-apart cs = All-weaker (λ c. (1 ≤ 1) × (is_derived c ≡ true)) (λ c. is-original c ≡ false) (λ c k. le-ltb c.id (2 ^ 32) (leb-true (2 ^ 32) c.id k.1)) (filter is_derived cs) (All-filtered (λ c. 1 ≤ 1) is_derived cs (all-of (λ c. 1 ≤ 1) (λ c. omega arith) cs))
 
-originals-again : (cs : List Held) → originals (originals cs) ≡ originals cs
+originals-again : (cs : List NumberedClause) → originals (originals cs) ≡ originals cs
 originals-again cs = filter-again is-original (originals cs) (All-weaker (λ c. (1 ≤ 1) × (is-original c ≡ true)) (λ c. is-original c ≡ true) (λ c k. k.1) (originals cs) (All-filtered (λ c. 1 ≤ 1) is-original cs (all-of (λ c. 1 ≤ 1) (λ c. omega arith) cs)))
 
 originals-numbered : (first : ℕ) (cs : List (Option (List ℕ))) → first + length cs ≤ 2 ^ 32 → originals (numbered first cs) ≡ numbered first cs
@@ -158,12 +158,12 @@ originals-numbered first cs b = filter-again is-original (numbered first cs) (Al
 
 originals-loaded : (r : Posted) (first : ℕ) (n : Node) → first + length r.clauses ≤ 2 ^ 32 → originals (loaded r first n).clauses ≡ originals n.clauses ++ numbered first r.clauses
 originals-loaded r first n b =
-    let new : List Held = numbered first r.clauses in
-    let derived : List Held = filter is_derived n.clauses in
+    let new : List NumberedClause = numbered first r.clauses in
+    let derived : List NumberedClause = filter is_derived n.clauses in
     filter-append is-original (originals n.clauses) (new ++ derived)
-    ∙ (ap (λ (xs : List Held). xs ++ originals (new ++ derived)) (originals-again n.clauses)
-    ∙ ap (λ (xs : List Held). originals n.clauses ++ xs) (filter-append is-original new derived
-    ∙ (ap (λ (xs : List Held). originals new ++ xs) (filter-none is-original derived (derived-apart n.clauses))
+    ∙ (ap (λ (xs : List NumberedClause). xs ++ originals (new ++ derived)) (originals-again n.clauses)
+    ∙ ap (λ (xs : List NumberedClause). originals n.clauses ++ xs) (filter-append is-original new derived
+    ∙ (ap (λ (xs : List NumberedClause). originals new ++ xs) (filter-none is-original derived (derived-apart n.clauses))
     ∙ (append-nil (originals new) ∙ originals-numbered first r.clauses b))))
 
 pub load-holds : LoadHolds
@@ -182,5 +182,5 @@ satisfies-numbered a first (Some lits ∷ cs) = ap (λ (b : Bool). satisfies_cla
 pub numbers-mean_same : NumbersMeanSame
 numbers-mean_same = record {
   by_number = satisfies-numbered;
-  joined = λ a xs ys. ap (λ (cs : List (Option (List ℕ))). satisfies a cs) (map-append (λ (c : Held). Some c.lits) xs ys) ∙ list_all-append (satisfies_clause a) (formula_of xs) (formula_of ys);
+  joined = λ a xs ys. ap (λ (cs : List (Option (List ℕ))). satisfies a cs) (map-append (λ (c : NumberedClause). Some c.lits) xs ys) ∙ list_all-append (satisfies_clause a) (formula_of xs) (formula_of ys);
 }

@@ -7,7 +7,7 @@ use Rattle.std.proofs.lemmas.List.Folds.{list_any-append}
 use Rattle.std.proofs.lemmas.Bool.{and_parts, and_from, or_parts, or_left, or_right, eq-eqb, eqb-true, ltb-true, leb-true, both_ways, ne_eqb, true_from_ne_false, not-true, not-false, false_from_ne_true}
 use Rattle.mal_base.specs.Literals.{var_of, negated}
 use Rattle.mal_base.specs.declared.trail_entry.TrailEntry.{TrailEntry}
-use Rattle.mal_base.specs.Held.{Held}
+use Rattle.mal_base.specs.NumberedClause.{NumberedClause}
 use Rattle.spec_node.specs.Value.{is_true, is_false, has_value, level_of, open_count, left_literal}
 use Rattle.spec_node.specs.Batch.{Progress, is_in_batch, before_last, after_left, after_clause, after_all}
 use Rattle.spec_node.specs.Sound.{EachAfter, IsPlaced, IsLevelled, IsForced, IsReason, IsConflict, IsWaiting, AreLiteralsOf, level_in, greatest_level, current_count}
@@ -30,12 +30,12 @@ open-unhit t e (l ∷ ls) h =
     omega arith
 
 -- a clause in the batch of the empty prefix
-pub record IsStart (prefix : List TrailEntry) (c : Held) : Type 0 where
+pub record IsStart (prefix : List TrailEntry) (c : NumberedClause) : Type 0 where
   pub empty : prefix ≡ []
   pub short : length c.lits ≤ 1
 
 -- a clause in the batch of a prefix whose last entry makes one of its literals false
-pub record IsFallen (prefix : List TrailEntry) (c : Held) : Type 0 where
+pub record IsFallen (prefix : List TrailEntry) (c : NumberedClause) : Type 0 where
   pub front : List TrailEntry
   pub last : TrailEntry
   pub is : prefix ≡ front ++ last ∷ []
@@ -43,10 +43,10 @@ pub record IsFallen (prefix : List TrailEntry) (c : Held) : Type 0 where
   pub hit : list_any (λ m. last.lit == negated m) c.lits ≡ true
 
 -- the test of a prefix that is not empty
-full-test : (x : TrailEntry) (xs : List TrailEntry) (c : Held) → is_in_batch (x ∷ xs) c ≡ true → ((open_count (x ∷ xs) c.lits == 1) && nat_lt 1 (open_count (before_last (x ∷ xs)) c.lits)) ≡ true
+full-test : (x : TrailEntry) (xs : List TrailEntry) (c : NumberedClause) → is_in_batch (x ∷ xs) c ≡ true → ((open_count (x ∷ xs) c.lits == 1) && nat_lt 1 (open_count (before_last (x ∷ xs)) c.lits)) ≡ true
 full-test x xs c h = let some : (length (x ∷ xs) == 0) ≡ false = ne_eqb (length (x ∷ xs)) 0 (λ q. absurd (omega arith)) in rw some at h
 
-fallen-from : (prefix : List TrailEntry) (c : Held) → 0 < length prefix → ((open_count prefix c.lits == 1) ≡ true) × (nat_lt 1 (open_count (before_last prefix) c.lits) ≡ true) → IsFallen prefix c
+fallen-from : (prefix : List TrailEntry) (c : NumberedClause) → 0 < length prefix → ((open_count prefix c.lits == 1) ≡ true) × (nat_lt 1 (open_count (before_last prefix) c.lits) ≡ true) → IsFallen prefix c
 fallen-from prefix c some h =
     let front : List TrailEntry = before_last prefix in
     let last : TrailEntry = get_or prefix (length prefix - 1) no-entry in
@@ -57,12 +57,12 @@ fallen-from prefix c some h =
     let fell : open_count (front ++ last ∷ []) c.lits ≡ 1 = subst (λ (t : List TrailEntry). open_count t c.lits ≡ 1) is one in
     record { front = front; last = last; is = is; one = one; hit = true_from_ne_false (list_any (λ m. last.lit == negated m) c.lits) (λ q. let same : open_count (front ++ last ∷ []) c.lits ≡ open_count front c.lits = open-unhit front last c.lits q in absurd (omega arith)) }
 
-pub batch-cases : (prefix : List TrailEntry) (c : Held) → is_in_batch prefix c ≡ true → IsStart prefix c ⊎ IsFallen prefix c
+pub batch-cases : (prefix : List TrailEntry) (c : NumberedClause) → is_in_batch prefix c ≡ true → IsStart prefix c ⊎ IsFallen prefix c
 batch-cases [] c h = inl (record { empty = refl; short = leb-true (length c.lits) 1 h })
 batch-cases (x ∷ xs) c h = inr (fallen-from (x ∷ xs) c (omega arith) (and_parts (open_count (x ∷ xs) c.lits == 1) (nat_lt 1 (open_count (before_last (x ∷ xs)) c.lits)) (full-test x xs c h)))
 
 -- what a batch keeps while its clauses are handled
-pub record IsGoing (variables : ℕ) (clauses : List Held) (prefix t : List TrailEntry) : Type 0 where
+pub record IsGoing (variables : ℕ) (clauses : List NumberedClause) (prefix t : List TrailEntry) : Type 0 where
   pub extends : Extends prefix t
   pub placed : EachAfter (IsPlaced variables) [] t
   pub levels : EachAfter IsLevelled [] t
@@ -70,13 +70,13 @@ pub record IsGoing (variables : ℕ) (clauses : List Held) (prefix t : List Trai
   pub reasons : EachAfter (IsForced clauses) [] t
 
 -- a clause held, of the batch of a prefix
-pub record IsOfBatch (variables : ℕ) (clauses : List Held) (prefix : List TrailEntry) (c : Held) : Type 0 where
+pub record IsOfBatch (variables : ℕ) (clauses : List NumberedClause) (prefix : List TrailEntry) (c : NumberedClause) : Type 0 where
   pub held : Contains clauses c
   pub literals : AreLiteralsOf variables c.lits
   pub batch : is_in_batch prefix c ≡ true
 
 -- a clause of a batch has at most one literal that is not false
-batch-open : (prefix : List TrailEntry) (c : Held) → is_in_batch prefix c ≡ true → open_count prefix c.lits ≤ 1
+batch-open : (prefix : List TrailEntry) (c : NumberedClause) → is_in_batch prefix c ≡ true → open_count prefix c.lits ≤ 1
 batch-open prefix c h = by_case (batch-cases prefix c h)
   where
     by_case : IsStart prefix c ⊎ IsFallen prefix c → open_count prefix c.lits ≤ 1
@@ -90,7 +90,7 @@ hit-level variables front rest last v h q =
     let here : (v == var_of last.lit) ≡ true = eq-eqb v (var_of last.lit) q in
     level_in-behind front (last ∷ rest) v (subst (λ (x : ℕ). has_value front x ≡ false) (sym q) free) ∙ rw here refl
 
-pub fallen-level : (variables : ℕ) (clauses : List Held) (prefix t : List TrailEntry) (c : Held) (g : IsGoing variables clauses prefix t) (f : IsFallen prefix c) → (m : ℕ) → (f.last.lit == negated m) ≡ true → level_in t (var_of m) ≡ level_of t
+pub fallen-level : (variables : ℕ) (clauses : List NumberedClause) (prefix t : List TrailEntry) (c : NumberedClause) (g : IsGoing variables clauses prefix t) (f : IsFallen prefix c) → (m : ℕ) → (f.last.lit == negated m) ≡ true → level_in t (var_of m) ≡ level_of t
 fallen-level variables clauses prefix t c g f m h =
     let whole : t ≡ f.front ++ f.last ∷ g.extends.rest = g.extends.is ∙ (ap (λ (p : List TrailEntry). p ++ g.extends.rest) f.is ∙ append_assoc f.front (f.last ∷ []) g.extends.rest) in
     let var : var_of m ≡ var_of f.last.lit = sym (ap var_of (eqb-true f.last.lit (negated m) h) ∙ var_of-negated m) in
@@ -98,7 +98,7 @@ fallen-level variables clauses prefix t c g f m h =
     level ∙ (sym (level_of-push f.front f.last) ∙ (ap level_of (sym f.is) ∙ g.reached))
 
 -- the greatest level of a clause of the batch is the one reached
-batch-level : (variables : ℕ) (clauses : List Held) (prefix t : List TrailEntry) (c : Held) → IsGoing variables clauses prefix t → is_in_batch prefix c ≡ true → greatest_level t c.lits ≡ level_of t
+batch-level : (variables : ℕ) (clauses : List NumberedClause) (prefix t : List TrailEntry) (c : NumberedClause) → IsGoing variables clauses prefix t → is_in_batch prefix c ≡ true → greatest_level t c.lits ≡ level_of t
 batch-level variables clauses prefix t c g h = by_case (batch-cases prefix c h)
   where
     top : greatest_level t c.lits ≤ level_of t
@@ -120,7 +120,7 @@ others-false prefix t l (m ∷ ms) x h = and_from _ _ (by_case (All-head (λ y. 
     by_case (inr q) = or_right _ _ (false-more prefix t m x (not-false (is_false prefix m) q))
 
 -- the clause of a push is its reason
-push-reason : (variables : ℕ) (clauses : List Held) (prefix t : List TrailEntry) (c : Held) (l : ℕ) → IsGoing variables clauses prefix t → is_in_batch prefix c ≡ true → left_literal prefix c.lits ≡ Some l → IsReason t (forced l c.id t) c
+push-reason : (variables : ℕ) (clauses : List NumberedClause) (prefix t : List TrailEntry) (c : NumberedClause) (l : ℕ) → IsGoing variables clauses prefix t → is_in_batch prefix c ≡ true → left_literal prefix c.lits ≡ Some l → IsReason t (forced l c.id t) c
 push-reason variables clauses prefix t c l g b e = record {
   own = found-in (λ x. not (is_false prefix x)) c.lits l e;
   others = others-false prefix t l c.lits g.extends (found-alone (λ x. not (is_false prefix x)) c.lits l e (batch-open prefix c b));
@@ -128,7 +128,7 @@ push-reason variables clauses prefix t c l g b e = record {
 }
 
 -- a push keeps what a batch keeps
-pub push-going : (variables : ℕ) (clauses : List Held) (prefix : List TrailEntry) (c : Held) → IsOfBatch variables clauses prefix c → PushKeeps (EachAfter (IsPlaced variables) []) prefix c → PushKeeps (IsGoing variables clauses prefix) prefix c
+pub push-going : (variables : ℕ) (clauses : List NumberedClause) (prefix : List TrailEntry) (c : NumberedClause) → IsOfBatch variables clauses prefix c → PushKeeps (EachAfter (IsPlaced variables) []) prefix c → PushKeeps (IsGoing variables clauses prefix) prefix c
 push-going variables clauses prefix c h placed t l e a b g =
     let x : TrailEntry = forced l c.id t in
     record {
@@ -154,7 +154,7 @@ all-false t l (m ∷ ms) f h =
     by_case false q k = k
 
 -- a literal that fell behind the prefix has the level reached
-behind-level : (variables : ℕ) (clauses : List Held) (prefix t : List TrailEntry) (l : ℕ) → IsGoing variables clauses prefix t → is_false prefix l ≡ false → is_true t l ≡ false → is_false t l ≡ true → level_in t (var_of l) ≡ level_of t
+behind-level : (variables : ℕ) (clauses : List NumberedClause) (prefix t : List TrailEntry) (l : ℕ) → IsGoing variables clauses prefix t → is_false prefix l ≡ false → is_true t l ≡ false → is_false t l ≡ true → level_in t (var_of l) ≡ level_of t
 behind-level variables clauses prefix t l g here no_true fell =
     let rest : List TrailEntry = g.extends.rest in
     let untrue : is_true prefix l ≡ false = false_from_ne_true (is_true prefix l) (λ q. both_ways (is_true t l) no_true (subst (λ (u : List TrailEntry). is_true u l ≡ true) (sym g.extends.is) (is_true-more prefix rest l q))) in
@@ -170,7 +170,7 @@ behind-level variables clauses prefix t l g here no_true fell =
     omega arith
 
 -- a clause whose left literal is false is a conflict
-stops-false : (variables : ℕ) (clauses : List Held) (prefix t : List TrailEntry) (c : Held) (l : ℕ) → IsGoing variables clauses prefix t → is_in_batch prefix c ≡ true → left_literal prefix c.lits ≡ Some l → is_true t l ≡ false → is_false t l ≡ true → IsConflict t c
+stops-false : (variables : ℕ) (clauses : List NumberedClause) (prefix t : List TrailEntry) (c : NumberedClause) (l : ℕ) → IsGoing variables clauses prefix t → is_in_batch prefix c ≡ true → left_literal prefix c.lits ≡ Some l → is_true t l ≡ false → is_false t l ≡ true → IsConflict t c
 stops-false variables clauses prefix t c l g b e no_true fell = record {
   false_lits = all-false t l c.lits fell (push-reason variables clauses prefix t c l g b e).others;
   current = λ deep. by_case deep (batch-cases prefix c b);
@@ -195,7 +195,7 @@ each-false prefix t [] x h = refl
 each-false prefix t (m ∷ ms) x h = and_from _ _ (false-more prefix t m x (not-false (is_false prefix m) (All-head (λ y. not (is_false prefix y) ≡ false) m ms h))) (each-false prefix t ms x (All-tail (λ y. not (is_false prefix y) ≡ false) m ms h))
 
 -- a clause without a literal left is a conflict: it has none at all
-stops-none : (variables : ℕ) (clauses : List Held) (prefix t : List TrailEntry) (c : Held) → IsGoing variables clauses prefix t → is_in_batch prefix c ≡ true → left_literal prefix c.lits ≡ None → IsConflict t c
+stops-none : (variables : ℕ) (clauses : List NumberedClause) (prefix t : List TrailEntry) (c : NumberedClause) → IsGoing variables clauses prefix t → is_in_batch prefix c ≡ true → left_literal prefix c.lits ≡ None → IsConflict t c
 stops-none variables clauses prefix t c g b e = record {
   false_lits = each-false prefix t c.lits g.extends (find-none (λ x. not (is_false prefix x)) c.lits e);
   current = λ deep. by_case deep (batch-cases prefix c b);
@@ -206,12 +206,12 @@ stops-none variables clauses prefix t c g b e = record {
     by_case deep (inr f) = let none : open_count prefix c.lits ≡ 0 = count-none (λ x. not (is_false prefix x)) c.lits (find-none (λ x. not (is_false prefix x)) c.lits e) in let one : open_count prefix c.lits ≡ 1 = f.one in absurd (omega arith)
 
 -- a clause of a batch, and what its handling keeps and where it stops
-pub record Handles (P : List TrailEntry → Type 0) (Q : ℕ → List TrailEntry → Type 0) (prefix : List TrailEntry) (c : Held) : Type 0 where
+pub record Handles (P : List TrailEntry → Type 0) (Q : ℕ → List TrailEntry → Type 0) (prefix : List TrailEntry) (c : NumberedClause) : Type 0 where
   pub keeps : PushKeeps P prefix c
   pub stops_none : (t : List TrailEntry) → left_literal prefix c.lits ≡ None → P t → Q c.id t
   pub stops_false : (t : List TrailEntry) (l : ℕ) → left_literal prefix c.lits ≡ Some l → is_true t l ≡ false → is_false t l ≡ true → P t → Q c.id t
 
-after_clause-conflict : (P : List TrailEntry → Type 0) (Q : ℕ → List TrailEntry → Type 0) (prefix t : List TrailEntry) (c : Held) → Handles P Q prefix c → P t → (id : ℕ) → (after_clause prefix t c).conflict ≡ Some id → Q id (after_clause prefix t c).trail
+after_clause-conflict : (P : List TrailEntry → Type 0) (Q : ℕ → List TrailEntry → Type 0) (prefix t : List TrailEntry) (c : NumberedClause) → Handles P Q prefix c → P t → (id : ℕ) → (after_clause prefix t c).conflict ≡ Some id → Q id (after_clause prefix t c).trail
 after_clause-conflict P Q prefix t c h k id q = by_left (left_literal prefix c.lits) refl q
   where
     same : Q c.id t → Some c.id ≡ Some id → Q id t
@@ -227,7 +227,7 @@ after_clause-conflict P Q prefix t c h k id q = by_left (left_literal prefix c.l
     by_left (Some l) e m = by_value l e (is_true t l) (is_false t l) refl refl m
 
 -- the conflict of a batch
-pub after_all-conflict : (P : List TrailEntry → Type 0) (Q : ℕ → List TrailEntry → Type 0) (prefix : List TrailEntry) (cs : List Held) (p : Progress) → All (Handles P Q prefix) cs → P p.trail → ((id : ℕ) → p.conflict ≡ Some id → Q id p.trail) → (id : ℕ) → (after_all prefix p cs).conflict ≡ Some id → Q id (after_all prefix p cs).trail
+pub after_all-conflict : (P : List TrailEntry → Type 0) (Q : ℕ → List TrailEntry → Type 0) (prefix : List TrailEntry) (cs : List NumberedClause) (p : Progress) → All (Handles P Q prefix) cs → P p.trail → ((id : ℕ) → p.conflict ≡ Some id → Q id p.trail) → (id : ℕ) → (after_all prefix p cs).conflict ≡ Some id → Q id (after_all prefix p cs).trail
 after_all-conflict P Q prefix [] p h k m = m
 after_all-conflict P Q prefix (c ∷ cs) p h k m = after_all-conflict P Q prefix cs (cond (is_some p.conflict) p (after_clause prefix p.trail c)) (All-tail (Handles P Q prefix) c cs h) (next (is_some p.conflict)) (stop (is_some p.conflict))
   where
@@ -240,7 +240,7 @@ after_all-conflict P Q prefix (c ∷ cs) p h k m = after_all-conflict P Q prefix
     stop false = after_clause-conflict P Q prefix p.trail c (All-head (Handles P Q prefix) c cs h) k
 
 -- a clause of the batch of a sound node's prefix is handled so
-pub handles-going : (variables : ℕ) (clauses : List Held) (prefix : List TrailEntry) (c : Held) → IsOfBatch variables clauses prefix c → PushKeeps (EachAfter (IsPlaced variables) []) prefix c → Handles (IsGoing variables clauses prefix) (λ id t. IsWaiting clauses t id) prefix c
+pub handles-going : (variables : ℕ) (clauses : List NumberedClause) (prefix : List TrailEntry) (c : NumberedClause) → IsOfBatch variables clauses prefix c → PushKeeps (EachAfter (IsPlaced variables) []) prefix c → Handles (IsGoing variables clauses prefix) (λ id t. IsWaiting clauses t id) prefix c
 handles-going variables clauses prefix c h placed = record {
   keeps = push-going variables clauses prefix c h placed;
   stops_none = λ t e g. (c, h.held, refl, stops-none variables clauses prefix t c g h.batch e);

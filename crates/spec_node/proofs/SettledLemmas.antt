@@ -10,7 +10,7 @@ use Rattle.std.proofs.lemmas.Bool.{and_parts, and_from, or_left, or_right, ltb-t
 use Rattle.mal_base.specs.Literals.{var_of, negated}
 use Rattle.mal_base.specs.Clauses.{rises, is_below}
 use Rattle.mal_base.specs.declared.trail_entry.TrailEntry.{TrailEntry}
-use Rattle.mal_base.specs.Held.{Held}
+use Rattle.mal_base.specs.NumberedClause.{NumberedClause}
 use Rattle.spec_node.specs.Value.{is_true, is_false, open_count}
 use Rattle.spec_node.specs.Batch.{is_in_batch, before_last}
 use Rattle.spec_node.specs.Sound.{left_is_true}
@@ -109,20 +109,20 @@ any-from_find test p (x ∷ xs) h = by_test (any-from_find test p xs) (test x) h
     by_test f true k = or_left _ _ k
     by_test f false k = or_right _ _ (f k)
 
-pub true-from_left : (prefix trail : List TrailEntry) (c : Held) → left_is_true prefix trail c ≡ true → list_any (is_true trail) c.lits ≡ true
+pub true-from_left : (prefix trail : List TrailEntry) (c : NumberedClause) → left_is_true prefix trail c ≡ true → list_any (is_true trail) c.lits ≡ true
 true-from_left prefix trail c h = any-from_find (λ l. not (is_false prefix l)) (is_true trail) c.lits h
 
 pub no-entry : TrailEntry
 no-entry = record { lit = 0; reason = None; level = 0 }
 
 -- a clause whose last open literals but one fell with the last entry is in the batch
-falls-in_batch : (prefix longer : List TrailEntry) (c : Held) → 0 < length longer → before_last longer ≡ prefix → open_count longer c.lits ≡ 1 → 1 < open_count prefix c.lits → is_in_batch longer c ≡ true
+falls-in_batch : (prefix longer : List TrailEntry) (c : NumberedClause) → 0 < length longer → before_last longer ≡ prefix → open_count longer c.lits ≡ 1 → 1 < open_count prefix c.lits → is_in_batch longer c ≡ true
 falls-in_batch prefix longer c some last one more =
     let first : (length longer == 0) ≡ false = ne_eqb (length longer) 0 (λ q. absurd (omega arith)) in
     rw first (and_from _ _ (eq-eqb (open_count longer c.lits) 1 one) (subst (λ (t : List TrailEntry). nat_lt 1 (open_count t c.lits) ≡ true) (sym last) (lt-ltb 1 (open_count prefix c.lits) more)))
 
 -- where its batches are settled, a clause with at most one literal open under some prefix has a true literal
-pub settled-true : (trail : List TrailEntry) (c : Held) → rises c.lits ≡ true → (below : ℕ) → below ≤ length trail + 1 → ((q : ℕ) → q < below → is_in_batch (take q trail) c ≡ true → left_is_true (take q trail) trail c ≡ true) → (q : ℕ) → q < below → open_count (take q trail) c.lits ≤ 1 → list_any (is_true trail) c.lits ≡ true
+pub settled-true : (trail : List TrailEntry) (c : NumberedClause) → rises c.lits ≡ true → (below : ℕ) → below ≤ length trail + 1 → ((q : ℕ) → q < below → is_in_batch (take q trail) c ≡ true → left_is_true (take q trail) trail c ≡ true) → (q : ℕ) → q < below → open_count (take q trail) c.lits ≤ 1 → list_any (is_true trail) c.lits ≡ true
 settled-true trail c r below b h zero k o = true-from_left [] trail c (h zero k (le-leb (length c.lits) 1 (let u = open-none c.lits in omega arith)))
 settled-true trail c r below b h (suc q) k o = by_before (settled-true trail c r below b h q (omega arith)) (cases_lt 1 (open_count (take q trail) c.lits))
   where

@@ -7,7 +7,7 @@ use Rattle.std.proofs.lemmas.Bool.{or_left, or_right, or_cases, and_parts, and_f
 use Rattle.std.proofs.lemmas.List.{take-append-le}
 use Rattle.mal_base.specs.Literals.{var_of, negated}
 use Rattle.mal_base.specs.declared.trail_entry.TrailEntry.{TrailEntry}
-use Rattle.mal_base.specs.Held.{Held}
+use Rattle.mal_base.specs.NumberedClause.{NumberedClause}
 use Rattle.spec_node.specs.Value.{is_true, is_false, has_value, left_literal}
 use Rattle.spec_node.specs.Batch.{batch}
 use Rattle.spec_node.specs.Sound.{EachAfter, IsPlaced, left_is_true, AreSettled, IsLiteralOf}
@@ -33,21 +33,21 @@ each-weaker P Q f (e ∷ es) before h = (f before e h.0, each-weaker P Q f es (b
 pub is_true-more : (trail rest : List TrailEntry) (l : ℕ) → is_true trail l ≡ true → is_true (trail ++ rest) l ≡ true
 is_true-more trail rest l h = list_any-append (λ e. e.lit == l) trail rest ∙ or_left _ _ h
 
-pub left_is_true-more : (prefix trail rest : List TrailEntry) (c : Held) → left_is_true prefix trail c ≡ true → left_is_true prefix (trail ++ rest) c ≡ true
+pub left_is_true-more : (prefix trail rest : List TrailEntry) (c : NumberedClause) → left_is_true prefix trail c ≡ true → left_is_true prefix (trail ++ rest) c ≡ true
 left_is_true-more prefix trail rest c h = by_left (left_literal prefix c.lits) h
   where
     by_left : (o : Option ℕ) → option_map_or (is_true trail) o false ≡ true → option_map_or (is_true (trail ++ rest)) o false ≡ true
     by_left None k = k
     by_left (Some l) k = is_true-more trail rest l k
 
-pub all_left-more : (prefix trail rest : List TrailEntry) (cs : List Held) → list_all (left_is_true prefix trail) cs ≡ true → list_all (left_is_true prefix (trail ++ rest)) cs ≡ true
+pub all_left-more : (prefix trail rest : List TrailEntry) (cs : List NumberedClause) → list_all (left_is_true prefix trail) cs ≡ true → list_all (left_is_true prefix (trail ++ rest)) cs ≡ true
 all_left-more prefix trail rest [] h = refl
 all_left-more prefix trail rest (c ∷ cs) h =
     let parts = and_parts (left_is_true prefix trail c) (list_all (left_is_true prefix trail) cs) h in
     and_from _ _ (left_is_true-more prefix trail rest c parts.0) (all_left-more prefix trail rest cs parts.1)
 
 -- batches up to the trail's end that are settled stay so on a longer trail
-pub settled-more : (below : ℕ) (trail rest : List TrailEntry) (clauses : List Held) → below ≤ length trail + 1 → AreSettled below trail clauses → AreSettled below (trail ++ rest) clauses
+pub settled-more : (below : ℕ) (trail rest : List TrailEntry) (clauses : List NumberedClause) → below ≤ length trail + 1 → AreSettled below trail clauses → AreSettled below (trail ++ rest) clauses
 settled-more below trail rest clauses b h q k =
     let same : take q (trail ++ rest) ≡ take q trail = take-append-le q trail rest (omega arith) in
     subst (λ (p : List TrailEntry). list_all (left_is_true p (trail ++ rest)) (batch p clauses) ≡ true) (sym same) (all_left-more (take q trail) trail rest (batch (take q trail) clauses) (h q k))

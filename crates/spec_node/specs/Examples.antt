@@ -1,9 +1,9 @@
 use Rattle.std.specs.Prelude.{◌≡◌, ℕ, ◌+◌, ◌*◌, ◌^◌, [], ◌∷◌}
-use Rattle.mal_base.specs.Held.{Held}
+use Rattle.mal_base.specs.NumberedClause.{NumberedClause}
 use Rattle.spec_node.specs.Import.{serial_above}
 
 -- the derived clause of this serial of the node of this index
-abbrev derived : ℕ → ℕ → Held
+abbrev derived : ℕ → ℕ → NumberedClause
 derived serial index = record { id = 2 ^ 32 + 64 * serial + index; lits = [] }
 
 -- worked examples of imports: node 0 that has derived nothing and imports the second clause of node 3 derives its own

@@ -1,29 +1,29 @@
 use Rattle.std.specs.Prelude.{ℕ, ◌+◌, max, Bool, not, bytes_eq, List, filter, fold, None}
 use Rattle.std.specs.List.{list_any}
-use Rattle.mal_base.specs.Held.{Held}
+use Rattle.mal_base.specs.NumberedClause.{NumberedClause}
 use Rattle.spec_node.specs.State.{Node}
 use Rattle.spec_node.specs.Cut.{cut}
 use Rattle.spec_node.specs.Adding.{with_clause}
 use Rattle.spec_node.specs.Sound.{serial_of}
 
 -- whether a clause with these literals is held
-abbrev pub has_lits : List ℕ → List Held → Bool
+abbrev pub has_lits : List ℕ → List NumberedClause → Bool
 has_lits lits clauses = list_any (λ c. bytes_eq lits c.lits) clauses
 
 -- of what is told, the clauses whose literals no clause held has
-abbrev pub taken : List Held → List Held → List Held
+abbrev pub taken : List NumberedClause → List NumberedClause → List NumberedClause
 taken told clauses = filter (λ c. not (has_lits c.lits clauses)) told
 
 -- clauses with these among them, each at its place
-abbrev pub with_clauses : List Held → List Held → List Held
+abbrev pub with_clauses : List NumberedClause → List NumberedClause → List NumberedClause
 with_clauses new clauses = fold (λ cs c. with_clause c cs) clauses new
 
 -- the least serial above these and that of each of the clauses
-abbrev pub serial_above : ℕ → List Held → ℕ
+abbrev pub serial_above : ℕ → List NumberedClause → ℕ
 serial_above serial new = fold (λ s c. max s (serial_of c + 1)) serial new
 
 -- a node cut to level 0 that gets these clauses under their numbers, the serial above theirs, and nothing handled
-abbrev pub with_new : List Held → Node → Node
+abbrev pub with_new : List NumberedClause → Node → Node
 with_new new n =
     let c = cut 0 n in
     record c {
@@ -34,5 +34,5 @@ with_new new n =
     }
 
 -- a node after importing what is told: with the clauses that are taken
-abbrev pub imported : List Held → Node → Node
+abbrev pub imported : List NumberedClause → Node → Node
 imported told n = with_new (taken told n.clauses) n

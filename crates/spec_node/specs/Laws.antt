@@ -5,7 +5,7 @@ use Rattle.mal_base.specs.Literals.{var_of}
 use Rattle.mal_base.specs.declared.verdict.Verdict.TheVariants.{Satisfiable}
 use Rattle.mal_revision.specs.Posted.{Posted, is_posted}
 use Rattle.spec_logic.specs.Logic.{satisfies, is_true_in}
-use Rattle.mal_base.specs.Held.{Held}
+use Rattle.mal_base.specs.NumberedClause.{NumberedClause}
 use Rattle.spec_node.specs.State.{Node, fresh}
 use Rattle.spec_node.specs.Value.{is_true}
 use Rattle.spec_node.specs.Batch.{batch}
@@ -15,15 +15,15 @@ use Rattle.spec_node.specs.Model.{model_of}
 use Rattle.spec_node.specs.Sound.{AreLiteralsOf, IsConsistent, IsSound}
 
 -- the clauses that a node holds, as a formula
-abbrev pub formula_of : List Held → List (Option (List ℕ))
+abbrev pub formula_of : List NumberedClause → List (Option (List ℕ))
 formula_of clauses = map (λ c. Some c.lits) clauses
 
 -- the original clauses among those held
-abbrev pub originals : List Held → List Held
+abbrev pub originals : List NumberedClause → List NumberedClause
 originals clauses = filter (λ c. nat_lt c.id (2 ^ 32)) clauses
 
 -- an assignment satisfies the clauses and every assumption is true in it
-pub record IsModel (assignment : List Bool) (clauses : List Held) (assumptions : List ℕ) : Type 0 where
+pub record IsModel (assignment : List Bool) (clauses : List NumberedClause) (assumptions : List ℕ) : Type 0 where
   pub satisfied : satisfies assignment (formula_of clauses) ≡ true
   pub assumed : list_all (is_true_in assignment) assumptions ≡ true
 
@@ -72,7 +72,7 @@ pub record LoadHolds : Type 0 where
 -- numbered clauses mean what the clauses mean, and clauses behind others mean both
 pub record NumbersMeanSame : Type 0 where
   pub by_number : (a : List Bool) (first : ℕ) (cs : List (Option (List ℕ))) → satisfies a (formula_of (numbered first cs)) ≡ satisfies a cs
-  pub joined : (a : List Bool) (xs ys : List Held) → satisfies a (formula_of (xs ++ ys)) ≡ (satisfies a (formula_of xs) && satisfies a (formula_of ys))
+  pub joined : (a : List Bool) (xs ys : List NumberedClause) → satisfies a (formula_of (xs ++ ys)) ≡ (satisfies a (formula_of xs) && satisfies a (formula_of ys))
 
 -- where the originals of a node are the clauses of the revisions so far, numbered from 1, the next revision's numbers are
 -- new, and after its load the originals are the clauses of all
@@ -85,32 +85,32 @@ abbrev pub LoadsHoldAll : Type 0
 LoadsHoldAll = (r : Posted) (clauses : List (Option (List ℕ))) (n : Node) → originals n.clauses ≡ numbered 1 clauses → 1 + length (clauses ++ r.clauses) ≤ 2 ^ 32 → HoldsAll r clauses n
 
 -- no two of the clauses have one number
-abbrev pub HaveOwnNumbers : List Held → Type 0
+abbrev pub HaveOwnNumbers : List NumberedClause → Type 0
 HaveOwnNumbers [] = Unit {0}
 HaveOwnNumbers (c ∷ cs) = All (λ d. c.id ≢ d.id) cs × HaveOwnNumbers cs
 
 -- clauses may be told to a node: they are derived ones of its variables, no two have one number, and one whose number is
 -- held has the literals that are held under it
-pub record MayImport (told : List Held) (n : Node) : Type 0 where
+pub record MayImport (told : List NumberedClause) (n : Node) : Type 0 where
   pub derived : All (λ c. is_derived c ≡ true) told
   pub within : All (λ c. AreLiteralsOf n.variables c.lits) told
   pub apart : HaveOwnNumbers told
-  pub agree : (c d : Held) → Contains told c → Contains n.clauses d → c.id ≡ d.id → c.lits ≡ d.lits
+  pub agree : (c d : NumberedClause) → Contains told c → Contains n.clauses d → c.id ≡ d.id → c.lits ≡ d.lits
 
 -- importing clauses that may be told to it keeps a node sound
 abbrev pub ImportKeepsSound : Type 0
-ImportKeepsSound = (told : List Held) (n : Node) → MayImport told n → IsSound n → IsSound (imported told n)
+ImportKeepsSound = (told : List NumberedClause) (n : Node) → MayImport told n → IsSound n → IsSound (imported told n)
 
 -- what importing leaves in a node: its originals, its assumptions, its variables, its verdict and its index; and what it
 -- holds, it held before or was told
 pub record ImportHolds : Type 0 where
-  pub originals : (told : List Held) (n : Node) → All (λ c. is_derived c ≡ true) told → originals (imported told n).clauses ≡ originals n.clauses
-  pub assumptions : (told : List Held) (n : Node) → (imported told n).assumptions ≡ n.assumptions
-  pub variables : (told : List Held) (n : Node) → (imported told n).variables ≡ n.variables
-  pub verdict : (told : List Held) (n : Node) → (imported told n).verdict ≡ n.verdict
-  pub index : (told : List Held) (n : Node) → (imported told n).index ≡ n.index
-  pub held : (told : List Held) (n : Node) (c : Held) → Contains (imported told n).clauses c → Contains (n.clauses ++ told) c
-  pub kept : (told : List Held) (n : Node) (c : Held) → Contains n.clauses c → Contains (imported told n).clauses c
+  pub originals : (told : List NumberedClause) (n : Node) → All (λ c. is_derived c ≡ true) told → originals (imported told n).clauses ≡ originals n.clauses
+  pub assumptions : (told : List NumberedClause) (n : Node) → (imported told n).assumptions ≡ n.assumptions
+  pub variables : (told : List NumberedClause) (n : Node) → (imported told n).variables ≡ n.variables
+  pub verdict : (told : List NumberedClause) (n : Node) → (imported told n).verdict ≡ n.verdict
+  pub index : (told : List NumberedClause) (n : Node) → (imported told n).index ≡ n.index
+  pub held : (told : List NumberedClause) (n : Node) (c : NumberedClause) → Contains (imported told n).clauses c → Contains (n.clauses ++ told) c
+  pub kept : (told : List NumberedClause) (n : Node) (c : NumberedClause) → Contains n.clauses c → Contains (imported told n).clauses c
 
 -- in a sound node without a waiting conflict each clause of a batch that was handled has a true literal
 abbrev pub HandledAreTrue : Type 0

@@ -1,11 +1,11 @@
 use Rattle.std.specs.Prelude.{ℕ, zero, suc, ◌+◌, ◌-◌, ◌*◌, ◌/◌, ◌%◌, ◌^◌, max, Bool, ◌==◌, nat_lt, nat_le, List, [], ◌∷◌, ◌++◌, take, drop, filter, replicate, Option, Some, None}
 use Rattle.mal_revision.specs.Posted.{Posted}
-use Rattle.mal_base.specs.Held.{Held}
+use Rattle.mal_base.specs.NumberedClause.{NumberedClause}
 use Rattle.spec_node.specs.State.{Node}
 use Rattle.spec_node.specs.Cut.{cut}
 
 -- clauses under rising numbers from the first on; a tautology keeps its number and is not held
-abbrev pub numbered : ℕ → List (Option (List ℕ)) → List Held
+abbrev pub numbered : ℕ → List (Option (List ℕ)) → List NumberedClause
 numbered first [] = []
 numbered first (None ∷ cs) = numbered (first + 1) cs
 numbered first (Some lits ∷ cs) = record { id = first; lits = lits } ∷ numbered (first + 1) cs
@@ -28,11 +28,11 @@ abbrev pub first_phase : ℕ → Bool
 first_phase index = index % 2 == 1
 
 -- original clauses are numbered below 2^32, derived ones from there on
-abbrev pub is_derived : Held → Bool
+abbrev pub is_derived : NumberedClause → Bool
 is_derived c = nat_le (2 ^ 32) c.id
 
 -- new original clauses stand behind the originals held and before the derived clauses
-abbrev pub with_originals : List Held → List Held → List Held
+abbrev pub with_originals : List NumberedClause → List NumberedClause → List NumberedClause
 with_originals held new = filter (λ c. nat_lt c.id (2 ^ 32)) held ++ (new ++ filter is_derived held)
 
 -- how many variables a revision adds

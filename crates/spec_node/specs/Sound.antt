@@ -5,7 +5,7 @@ use Rattle.std.specs.Option.{option_map_or}
 use Rattle.mal_base.specs.Literals.{var_of}
 use Rattle.mal_base.specs.Clauses.{rises}
 use Rattle.mal_base.specs.declared.trail_entry.TrailEntry.{TrailEntry}
-use Rattle.mal_base.specs.Held.{Held}
+use Rattle.mal_base.specs.NumberedClause.{NumberedClause}
 use Rattle.spec_node.specs.State.{Node}
 use Rattle.spec_node.specs.Value.{is_true, is_false, has_value, level_of, left_literal}
 use Rattle.spec_node.specs.Batch.{batch}
@@ -33,15 +33,15 @@ abbrev pub IsLevelled : List TrailEntry → TrailEntry → Type 0
 IsLevelled before e = e.level ≡ own_level before e.reason
 
 -- the literal left of a clause under a prefix is true on the trail
-abbrev pub left_is_true : List TrailEntry → List TrailEntry → Held → Bool
+abbrev pub left_is_true : List TrailEntry → List TrailEntry → NumberedClause → Bool
 left_is_true prefix trail c = option_map_or (is_true trail) (left_literal prefix c.lits) false
 
 -- each clause of a batch below this one has its left literal true on the trail
-abbrev pub AreSettled : ℕ → List TrailEntry → List Held → Type 0
+abbrev pub AreSettled : ℕ → List TrailEntry → List NumberedClause → Type 0
 AreSettled below trail clauses = (q : ℕ) → q < below → list_all (left_is_true (take q trail) trail) (batch (take q trail) clauses) ≡ true
 
 -- before a decision each clause of the batches up to there has its left literal true
-abbrev pub IsClosed : List Held → List TrailEntry → TrailEntry → Type 0
+abbrev pub IsClosed : List NumberedClause → List TrailEntry → TrailEntry → Type 0
 IsClosed clauses before e = e.reason ≡ None → AreSettled (length before + 1) before clauses
 
 -- a literal of the variables 1 to this one
@@ -75,19 +75,19 @@ pub record IsConsistent (n : Node) : Type 0 where
   pub settled : n.conflict ≡ None → AreSettled n.processed n.trail n.clauses
 
 -- clauses in rising order of their numbers, from this one on
-abbrev pub NumbersRise : ℕ → List Held → Type 0
+abbrev pub NumbersRise : ℕ → List NumberedClause → Type 0
 NumbersRise low [] = Unit {0}
 NumbersRise low (c ∷ cs) = (low ≤ c.id) × NumbersRise (c.id + 1) cs
 
 -- the serial in the number of a derived clause
-abbrev pub serial_of : Held → ℕ
+abbrev pub serial_of : NumberedClause → ℕ
 serial_of c = (c.id - 2 ^ 32) / 64
 
 -- the sizes and numbers of a node
 pub record IsRanged (n : Node) : Type 0 where
   pub index : n.index ≤ 63
   pub variables : n.variables ≤ 65536
-  pub round : 1 ≤ n.round
+  pub restart_number : 1 ≤ n.restart_number
   -- one phase a variable
   pub phases : length n.phases ≡ n.variables
   -- the numbers of the clauses held rise strictly, from at least 1
@@ -106,14 +106,14 @@ greatest_level trail (l ∷ ls) = max (level_in trail (var_of l)) (greatest_leve
 
 -- a clause forces an entry: the entry's literal stands in it, its others are false by earlier entries, and the
 -- greatest of their levels is the entry's own (its own literal has no level before)
-pub record IsReason (before : List TrailEntry) (e : TrailEntry) (c : Held) : Type 0 where
+pub record IsReason (before : List TrailEntry) (e : TrailEntry) (c : NumberedClause) : Type 0 where
   pub own : list_any (λ l. l == e.lit) c.lits ≡ true
   pub others : list_all (λ l. (l == e.lit) || is_false before l) c.lits ≡ true
   pub level : greatest_level before c.lits ≡ e.level
 
 -- the reason of a forced entry is a clause held that forces it
-abbrev pub IsForced : List Held → List TrailEntry → TrailEntry → Type 0
-IsForced clauses before e = (id : ℕ) → e.reason ≡ Some id → (c : Held) × Contains clauses c × (c.id ≡ id) × IsReason before e c
+abbrev pub IsForced : List NumberedClause → List TrailEntry → TrailEntry → Type 0
+IsForced clauses before e = (id : ℕ) → e.reason ≡ Some id → (c : NumberedClause) × Contains clauses c × (c.id ≡ id) × IsReason before e c
 
 -- a decision is an assumption, unless all assumptions were true before it
 abbrev pub IsChosen : List ℕ → List TrailEntry → TrailEntry → Type 0
@@ -128,13 +128,13 @@ abbrev pub current_count : List TrailEntry → List ℕ → ℕ
 current_count trail lits = count_by (λ l. level_in trail (var_of l) == level_of trail) lits
 
 -- a conflict is a clause that is false, with two literals or more of the current level where that is above 0
-pub record IsConflict (trail : List TrailEntry) (c : Held) : Type 0 where
+pub record IsConflict (trail : List TrailEntry) (c : NumberedClause) : Type 0 where
   pub false_lits : list_all (is_false trail) c.lits ≡ true
   pub current : 0 < level_of trail → 2 ≤ current_count trail c.lits
 
 -- a waiting conflict is the number of such a clause
-abbrev pub IsWaiting : List Held → List TrailEntry → ℕ → Type 0
-IsWaiting clauses trail id = (c : Held) × Contains clauses c × (c.id ≡ id) × IsConflict trail c
+abbrev pub IsWaiting : List NumberedClause → List TrailEntry → ℕ → Type 0
+IsWaiting clauses trail id = (c : NumberedClause) × Contains clauses c × (c.id ≡ id) × IsConflict trail c
 
 -- a sound node: what holds of it from its first start on
 pub record IsSound (n : Node) : Type 0 where

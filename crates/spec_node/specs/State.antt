@@ -1,5 +1,5 @@
 use Rattle.std.specs.Prelude.{ℕ, Bool, List, [], Option, None}
-use Rattle.mal_base.specs.Held.{Held}
+use Rattle.mal_base.specs.NumberedClause.{NumberedClause}
 use Rattle.mal_base.specs.declared.trail_entry.TrailEntry.{TrailEntry}
 use Rattle.mal_base.specs.declared.verdict.Verdict.{Verdict}
 
@@ -10,8 +10,8 @@ pub record Node : Type 0 where
   pub index : ℕ
   pub variables : ℕ
   pub serial : ℕ
-  pub since : ℕ
-  pub round : ℕ
+  pub conflicts_since_restart : ℕ
+  pub restart_number : ℕ
   pub processed : ℕ
   pub conflict : Option ℕ
   pub verdict : Option Verdict
@@ -19,8 +19,8 @@ pub record Node : Type 0 where
   pub order : List ℕ
   pub phases : List Bool
   pub trail : List TrailEntry
-  pub clauses : List Held
+  pub clauses : List NumberedClause
 
 -- the node of this index at its first start
 abbrev pub fresh : ℕ → Node
-fresh i = record { index = i; variables = 0; serial = 0; since = 0; round = 1; processed = 0; conflict = None; verdict = None; assumptions = []; order = []; phases = []; trail = []; clauses = [] }
+fresh i = record { index = i; variables = 0; serial = 0; conflicts_since_restart = 0; restart_number = 1; processed = 0; conflict = None; verdict = None; assumptions = []; order = []; phases = []; trail = []; clauses = [] }

@@ -4,7 +4,7 @@ use Rattle.std.specs.Prelude.{All}
 use Rattle.std.proofs.lemmas.Bool.{ne_eqb}
 use Rattle.std.proofs.lemmas.List.Elements.{All-push, All-append}
 use Rattle.std.proofs.lemmas.Option.{slice_get_past}
-use Rattle.mal_base.specs.Held.{Line}
+use Rattle.mal_base.specs.NumberedClause.{Line}
 use Rattle.spec_logic.specs.Derivation.{Holding, derivation}
 use Rattle.spec_logic.specs.Derivation.Derivation.{Derived}
 use Rattle.spec_logic.specs.Refutation.{numbered, with_clause, after_lines, refusal, IsProof}

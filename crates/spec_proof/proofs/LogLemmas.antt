@@ -2,7 +2,7 @@
 use Rattle.std.proofs.Common.{◌≡◌, ◌≢◌, ℕ, Bool, true, false, cond, List, [], ◌∷◌, ◌==◌, Contains, Option, Some, None, refl, sym, ◌∙◌, subst, ap, inl, inr, ◌⊎◌}
 use Rattle.std.proofs.lemmas.Bool.{eqb-true, eq-eqb, ne_eqb}
 use Rattle.std.proofs.lemmas.List.Elements.{All-nil}
-use Rattle.mal_base.specs.Held.{Line}
+use Rattle.mal_base.specs.NumberedClause.{Line}
 use Rattle.spec_logic.specs.Derivation.{Holding, derivation}
 use Rattle.spec_logic.specs.Derivation.Derivation.{Derived}
 use Rattle.spec_logic.specs.Refutation.{numbered, with_clause, after_lines, IsProof}

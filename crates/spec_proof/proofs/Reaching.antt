@@ -4,7 +4,7 @@ use Rattle.std.specs.Prelude.{nat_lt}
 use Rattle.std.specs.List.{list_any}
 use Rattle.std.proofs.lemmas.Bool.{eqb-true, eq-eqb, ne_eqb, ltb-true, ltb-false, or_cases, or_left, or_right}
 use Rattle.std.proofs.lemmas.List.Elements.{All-cons, All-nil, All-contains}
-use Rattle.mal_base.specs.Held.{Line}
+use Rattle.mal_base.specs.NumberedClause.{Line}
 use Rattle.mal_base.proofs.Sorting.{Contains-head, Contains-later, Contains-cases}
 use Rattle.spec_proof.specs.Log.{IsAbove, AreApart, IsOrderly}
 use Rattle.spec_proof.specs.Trimmed.{put, by_id, AreRising, IsTrimmed, is_needed, with_needed, reached_in, reached}

@@ -3,7 +3,7 @@ use Rattle.std.proofs.Common.{◌≡◌, ◌≢◌, ℕ, ◌<◌, ◌≤◌, ◌
 use Rattle.std.specs.List.{list_any}
 use Rattle.std.proofs.lemmas.Bool.{or_left, or_right, cases_lt}
 use Rattle.std.proofs.lemmas.List.Elements.{All-contains}
-use Rattle.mal_base.specs.Held.{Line}
+use Rattle.mal_base.specs.NumberedClause.{Line}
 use Rattle.spec_logic.specs.Derivation.{Holding, derivation}
 use Rattle.spec_logic.specs.Derivation.Derivation.{Derived}
 use Rattle.spec_logic.specs.Refutation.{numbered, with_clause, IsProof, added_by, contradicts}

@@ -1,7 +1,7 @@
 -- New numbers.
 use Rattle.std.proofs.Common.{◌≡◌, ◌≢◌, ℕ, ◌+◌, ◌<◌, Bool, true, false, cond, List, [], ◌∷◌, ◌==◌, map, refl, sym, ◌∙◌, ap, inl, inr, arith}
 use Rattle.std.proofs.lemmas.Bool.{eqb-true, eqb-false, eq-eqb, ne_eqb}
-use Rattle.mal_base.specs.Held.{Line}
+use Rattle.mal_base.specs.NumberedClause.{Line}
 use Rattle.spec_proof.specs.Log.{AreApart}
 use Rattle.spec_proof.specs.Trimmed.{ids_of, new_id, renamed, counted}
 use Rattle.spec_proof.specs.Laws.{NumbersFollow, OthersStay}

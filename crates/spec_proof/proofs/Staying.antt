@@ -3,7 +3,7 @@ use Rattle.std.proofs.Common.{◌≡◌, ◌≢◌, ℕ, true, ◌<◌, ◌≤�
 use Rattle.std.specs.Prelude.{All, Any}
 use Rattle.std.proofs.lemmas.List.Elements.{All-contains, All-map, All-append, All-cons, All-nil, All-weaker, Contains-append_left}
 use Rattle.std.proofs.lemmas.List.{map-append}
-use Rattle.mal_base.specs.Held.{Line}
+use Rattle.mal_base.specs.NumberedClause.{Line}
 use Rattle.spec_proof.specs.Log.{IsAbove, AreApart, IsOrderly, AreClosed}
 use Rattle.spec_proof.specs.Trimmed.{by_id, AreRising, reached, ids_of, new_id, renamed, renumbered}
 use Rattle.spec_proof.specs.Laws.{GoalStaysLast, LaterLinesDoNotMatter, ClosedLinesGrow, LitsStay}

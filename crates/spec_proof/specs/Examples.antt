@@ -1,5 +1,5 @@
 use Rattle.std.specs.Prelude.{◌≡◌, ℕ, List, [], ◌∷◌, length, Option, Some}
-use Rattle.mal_base.specs.Held.{Line}
+use Rattle.mal_base.specs.NumberedClause.{Line}
 use Rattle.spec_logic.specs.Refutation.{IsProof, IsRefutation, numbered}
 use Rattle.spec_proof.specs.Log.{proof_of}
 use Rattle.spec_proof.specs.Trimmed.{reached, renumbered}

@@ -1,6 +1,6 @@
 -- What holds of logs and of what is trimmed of them, in the form in which the law functions state it.
 use Rattle.std.specs.Prelude.{◌≡◌, ◌≢◌, ℕ, ◌^◌, ◌<◌, ◌≤◌, ◌⊎◌, Bool, true, List, [], ◌∷◌, ◌++◌, length, Option, Some, All, Any, Contains}
-use Rattle.mal_base.specs.Held.{Line}
+use Rattle.mal_base.specs.NumberedClause.{Line}
 use Rattle.spec_logic.specs.Derivation.{Holding, derivation}
 use Rattle.spec_logic.specs.Derivation.Derivation.{Derived}
 use Rattle.spec_logic.specs.Refutation.{numbered, IsProof, contradicts, IsRefutation}

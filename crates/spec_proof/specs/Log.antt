@@ -1,6 +1,6 @@
 -- Logs of derived lines, in the order in which they were entered.
 use Rattle.std.specs.Prelude.{◌≡◌, ◌≢◌, ℕ, ◌^◌, ◌<◌, ◌≤◌, List, [], ◌∷◌, length, map, Option, Some, All, Any}
-use Rattle.mal_base.specs.Held.{Line}
+use Rattle.mal_base.specs.NumberedClause.{Line}
 use Rattle.spec_logic.specs.Derivation.{Holding}
 use Rattle.spec_logic.specs.Refutation.{ProofLine, numbered, after_lines, IsProof}
 use Rattle.spec_logic.specs.Refutation.ProofLine.{Add}

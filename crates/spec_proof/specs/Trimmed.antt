@@ -1,7 +1,7 @@
 -- The lines that a goal needs, by rising number, and their new numbers.
 use Rattle.std.specs.Prelude.{ℕ, ◌+◌, ◌<◌, Bool, ◌||◌, ◌==◌, nat_lt, List, [], ◌∷◌, map, All, if◌then◌else◌}
 use Rattle.std.specs.List.{list_any}
-use Rattle.mal_base.specs.Held.{Line}
+use Rattle.mal_base.specs.NumberedClause.{Line}
 use Rattle.spec_proof.specs.Log.{IsAbove}
 
 -- a line put in its place among lines by rising number

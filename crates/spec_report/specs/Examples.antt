@@ -1,9 +1,9 @@
 -- What small answers are written as.
 use Rattle.std.specs.Prelude.{◌≡◌, ℕ, false, true, List, [], ◌∷◌, codes}
-use Rattle.spec_report.specs.Replies.{Told, Model, Proof, AllSpent, AllStarved, reply_text}
+use Rattle.spec_report.specs.Replies.{ReplyBody, Model, Proof, AllSpent, AllStarved, reply_text}
 
 -- the text of a reply to a revision of the job p of the tenant a
-abbrev pub reply_to : ℕ → Told → List ℕ
+abbrev pub reply_to : ℕ → ReplyBody → List ℕ
 reply_to r told = reply_text (codes "a") (codes "p") r told
 
 -- small replies

@@ -1,5 +1,5 @@
 use Rattle.std.specs.Prelude.{ℕ, ◌+◌, Bool, List, [], ◌∷◌, ◌++◌, map, codes}
-use Rattle.mal_base.specs.Held.{Line}
+use Rattle.mal_base.specs.NumberedClause.{Line}
 use Rattle.mal_base.specs.Literals.{literal}
 use Rattle.spec_text.specs.Lines.{text_of}
 use Rattle.spec_text.specs.Numbers.{decimal_word, literal_word}
@@ -8,11 +8,11 @@ use Rattle.spec_proof.specs.Log.{added}
 
 -- what a reply tells: a model; the failed assumptions and the lines of a proof; that so many slices are spent; or that
 -- three starts reported want of memory
-pub data Told : Type 0 where
-  Model : List Bool → Told
-  Proof : List ℕ → List Line → Told
-  AllSpent : ℕ → Told
-  AllStarved : Told
+pub data ReplyBody : Type 0 where
+  Model : List Bool → ReplyBody
+  Proof : List ℕ → List Line → ReplyBody
+  AllSpent : ℕ → ReplyBody
+  AllStarved : ReplyBody
 
 -- the words of a model's literals, of the variables from this one on
 abbrev pub model_words : ℕ → List Bool → List (List ℕ)
@@ -24,12 +24,12 @@ abbrev pub proof_row : Line → List (List ℕ)
 proof_row line = codes "l" ∷ row_of (added line)
 
 -- the words of the lines of what is told
-abbrev pub told_rows : Told → List (List (List ℕ))
+abbrev pub told_rows : ReplyBody → List (List (List ℕ))
 told_rows (Model model) = (codes "s" ∷ codes "SATISFIABLE" ∷ []) ∷ (codes "v" ∷ (model_words 1 model ++ codes "0" ∷ [])) ∷ []
 told_rows (Proof failed lines) = (codes "s" ∷ codes "UNSATISFIABLE" ∷ []) ∷ (codes "k" ∷ (map literal_word failed ++ codes "0" ∷ [])) ∷ map proof_row lines
 told_rows (AllSpent n) = (codes "s" ∷ codes "UNKNOWN" ∷ []) ∷ (codes "u" ∷ codes "spent" ∷ decimal_word n ∷ []) ∷ []
 told_rows AllStarved = (codes "s" ∷ codes "UNKNOWN" ∷ []) ∷ (codes "u" ∷ codes "starved" ∷ codes "3" ∷ []) ∷ []
 
 -- the text of the reply to a revision of a tenant's job, which is numbered from 1
-unfoldable pub reply_text : List ℕ → List ℕ → ℕ → Told → List ℕ
+unfoldable pub reply_text : List ℕ → List ℕ → ℕ → ReplyBody → List ℕ
 reply_text tenant job r told = text_of ((codes "r" ∷ tenant ∷ job ∷ decimal_word r ∷ []) ∷ told_rows told)

@@ -5,8 +5,8 @@ use Rattle.std.proofs.lemmas.Bool.{and_parts}
 use Rattle.std.proofs.lemmas.List.Sums.{fold-append}
 use Rattle.std.proofs.lemmas.List.Elements.{filter-append}
 use Rattle.mal_revision.specs.Posted.{Posted}
-use Rattle.spec_job.specs.Solo.{Own, Opened, Revised, Closed, Volume, Started, Finished, Exchanged, Solo, solo, solo_step, is_live}
-use Rattle.spec_job.specs.Titled.{Key, Titled}
+use Rattle.spec_job.specs.SoloMachine.{Own, Opened, Revised, Closed, Volume, Started, Finished, Exchanged, SoloMachine, solo, solo_step, is_live}
+use Rattle.spec_job.specs.KeyedJob.{Key, KeyedJob}
 use Rattle.spec_job.proofs.StepLemmas.{start-keeps, finish-keeps}
 use Rattle.spec_hall.specs.Events.{Event, Open, Revise, Close, Balance, Start, Finish, Exchange}
 use Rattle.spec_hall.specs.Driven.{Turn, Balances, Exchanges, Slices, events_in, is_done, GrowsByTurns, IsDriven}
@@ -19,7 +19,7 @@ use Rattle.spec_run.proofs.KeyLemmas.{adds-mine, begun-keys, posted-keys, turned
 use Rattle.spec_script.specs.Script.{ScriptedJob, Scripted}
 
 -- a job that is closed stays closed
-step-closed : (s : Solo) (o : Own) → s.closed ≡ true → (solo_step s o).closed ≡ true
+step-closed : (s : SoloMachine) (o : Own) → s.closed ≡ true → (solo_step s o).closed ≡ true
 step-closed s (Opened ask) e = e
 step-closed s (Revised r) e = (revise-keeps s r).closed ∙ e
 step-closed s Closed e = refl
@@ -29,7 +29,7 @@ step-closed s (Finished i o) e = (finish-keeps s i o).closed ∙ e
 step-closed s Exchanged e = e
 
 push-closed : (os : List Own) (o : Own) → (solo os).closed ≡ true → (solo (os ++ o ∷ [])).closed ≡ true
-push-closed os o e = ap (λ (s : Solo). s.closed) (solo-push os o) ∙ step-closed (solo os) o e
+push-closed os o e = ap (λ (s : SoloMachine). s.closed) (solo-push os o) ∙ step-closed (solo os) o e
 
 adds-closed : (mine : Bool) (os : List Own) (o : Own) → (solo os).closed ≡ true → (solo (adds mine os o)).closed ≡ true
 adds-closed true os o e = push-closed os o e
@@ -54,7 +54,7 @@ events-closed k (e ∷ es) os h = events-closed k es (own_step k os e) (event-cl
 
 -- a closing closes the job
 closing-closed : (k : Key) (os : List Own) → (solo (own_step k os (Close k))).closed ≡ true
-closing-closed k os = ap (λ (x : List Own). (solo x).closed) (adds-mine k os Closed) ∙ ap (λ (s : Solo). s.closed) (solo-push os Closed)
+closing-closed k os = ap (λ (x : List Own). (solo x).closed) (adds-mine k os Closed) ∙ ap (λ (s : SoloMachine). s.closed) (solo-push os Closed)
 
 -- after all postings of a job it is closed
 posted-closed : (j : ScriptedJob) (os : List Own) → (solo (fold (own_step (key_of_job j)) os (job_events j))).closed ≡ true
@@ -89,12 +89,12 @@ all-closed (j ∷ js) past later h e = both (titled h (key_of_job j)).state.clos
         ∙ events-closed (key_of_job j) later (fold (own_step (key_of_job j)) (fold (own_step (key_of_job j)) (own (key_of_job j) past) (job_events j)) (flat_map job_events js)) (events-closed (key_of_job j) (flat_map job_events js) (fold (own_step (key_of_job j)) (own (key_of_job j) past) (job_events j)) (posted-closed j (own (key_of_job j) past)))
 
 -- where every job is closed and none is live, nothing is left to do
-pub closed-done : (ts : List Titled) → list_all (λ t. t.state.closed) ts ≡ true → lives ts ≡ [] → is_done ts ≡ true
+pub closed-done : (ts : List KeyedJob) → list_all (λ t. t.state.closed) ts ≡ true → lives ts ≡ [] → is_done ts ≡ true
 closed-done [] closed none = refl
 closed-done (t ∷ ts) closed none = by_test (is_live t.state) (closed-done ts parts.1) none
   where
-    parts : (t.state.closed ≡ true) × (list_all (λ (u : Titled). u.state.closed) ts ≡ true)
-    parts = and_parts t.state.closed (list_all (λ (u : Titled). u.state.closed) ts) closed
+    parts : (t.state.closed ≡ true) × (list_all (λ (u : KeyedJob). u.state.closed) ts ≡ true)
+    parts = and_parts t.state.closed (list_all (λ (u : KeyedJob). u.state.closed) ts) closed
 
     by_test : (b : Bool) → (lives ts ≡ [] → is_done ts ≡ true) → map live_of (cond b (t ∷ live_ones ts) (live_ones ts)) ≡ [] → ((t.state.closed && not b) && is_done ts) ≡ true
     by_test true rest e = absurd (cc)

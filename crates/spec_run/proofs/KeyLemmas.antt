@@ -3,8 +3,8 @@ use Rattle.std.proofs.Common.{◌≡◌, ℕ, ◌+◌, Bool, true, false, ◌||�
 use Rattle.std.specs.List.{list_any}
 use Rattle.std.proofs.lemmas.List.Sums.{fold-append}
 use Rattle.mal_revision.specs.Posted.{Posted}
-use Rattle.spec_job.specs.Solo.{Own}
-use Rattle.spec_job.specs.Titled.{Key}
+use Rattle.spec_job.specs.SoloMachine.{Own}
+use Rattle.spec_job.specs.KeyedJob.{Key}
 use Rattle.spec_hall.specs.Events.{Event, Close}
 use Rattle.spec_hall.specs.Driven.{Turn, Balances, Exchanges, Slices, events_in}
 use Rattle.spec_hall.specs.Own.{adds, is_key}

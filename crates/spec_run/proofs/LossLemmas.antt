@@ -8,12 +8,12 @@ use Rattle.mal_revision.specs.Posted.{Posted}
 use Rattle.spec_job.specs.Leased.{Finished}
 use Rattle.spec_job.specs.Journal.{JournalEntry}
 use Rattle.spec_job.specs.Journaled.{Journaled}
-use Rattle.spec_job.specs.Titled.{Key}
+use Rattle.spec_job.specs.KeyedJob.{Key}
 use Rattle.spec_job.specs.Viewed.{IsGrownBy}
 use Rattle.spec_hall.specs.Calls.{lost_of, recalled}
 use Rattle.spec_hall.specs.Driven.{Turn, Balances, Exchanges, Slices, events_in, was_lost, AreTurns, GrowsByTurns}
 use Rattle.spec_hall.specs.Events.{Event, Open, Revise, Close, Balance, Start, Finish, Exchange}
-use Rattle.spec_hall.specs.States.{Held, leases, lease_of}
+use Rattle.spec_hall.specs.States.{LeaseOut, leases, lease_of}
 use Rattle.spec_node.specs.Load.{counted}
 use Rattle.spec_run.specs.Complete.{key_of_job, job_events, open_events, revise_events, script_events}
 use Rattle.spec_run.specs.Losses.{is_loss, NoneIsLost, is_not_by_others, LosesLate}
@@ -77,11 +77,11 @@ all-parts (e ∷ es) b x y = by_test (is_not_by_others e) x (all-parts es b)
     by_test true h rest = rest h y
     by_test false h rest = h
 
-lost-by-first : (worker : ℕ) (o : Option Held) → list_all is_not_by_others (option_map_or (λ l. Finish l.key l.index worker Lost ∷ []) o []) ≡ true
+lost-by-first : (worker : ℕ) (o : Option LeaseOut) → list_all is_not_by_others (option_map_or (λ l. Finish l.key l.index worker Lost ∷ []) o []) ≡ true
 lost-by-first worker None = refl
 lost-by-first worker (Some l) = refl
 
-recalled-by-first : (out : List Held) (ws : List ℕ) → list_all is_not_by_others (flat_map (lost_of out) ws) ≡ true
+recalled-by-first : (out : List LeaseOut) (ws : List ℕ) → list_all is_not_by_others (flat_map (lost_of out) ws) ≡ true
 recalled-by-first out [] = refl
 recalled-by-first out (w ∷ ws) = all-parts (lost_of out w) (flat_map (lost_of out) ws) (lost-by-first w (lease_of w out)) (recalled-by-first out ws)
 

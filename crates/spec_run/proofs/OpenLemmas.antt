@@ -7,8 +7,8 @@ use Rattle.std.proofs.lemmas.List.Sums.{fold-append}
 use Rattle.std.proofs.lemmas.List.Folds.{list_any-append}
 use Rattle.mal_base.specs.Formulas.{literals_of}
 use Rattle.mal_revision.specs.Posted.{Posted, is_posted}
-use Rattle.spec_job.specs.Solo.{Own, Opened, Revised, Closed, Solo, solo, solo_step, clauses_in}
-use Rattle.spec_job.specs.Titled.{Key}
+use Rattle.spec_job.specs.SoloMachine.{Own, Opened, Revised, Closed, SoloMachine, solo, solo_step, clauses_in}
+use Rattle.spec_job.specs.KeyedJob.{Key}
 use Rattle.spec_hall.specs.Events.{Event, Open, Revise, Close}
 use Rattle.spec_hall.specs.Own.{own, own_step, is_key}
 use Rattle.spec_hall.specs.States.{keys_of, states, titled}
@@ -130,8 +130,8 @@ revised-is_open k rs h n r is =
     let keeps = revise-keeps (solo (own k h)) r in
     record {
       known = ap (list_any (is_key k)) (keys-push h (Revise k n r)) ∙ is.known;
-      unclosed = ap (λ (s : Solo). s.closed) step ∙ (keeps.closed ∙ is.unclosed);
-      posted = ap (λ (s : Solo). s.revisions) step ∙ (keeps.revisions ∙ ap (λ (x : List Posted). x ++ r ∷ []) is.posted);
+      unclosed = ap (λ (s : SoloMachine). s.closed) step ∙ (keeps.closed ∙ is.unclosed);
+      posted = ap (λ (s : SoloMachine). s.revisions) step ∙ (keeps.revisions ∙ ap (λ (x : List Posted). x ++ r ∷ []) is.posted);
     }
 
 -- the job that is open is found

@@ -6,7 +6,7 @@ use Rattle.std.proofs.lemmas.Bool.{false_from_ne_true, or_cases}
 use Rattle.std.specs.List.{list_any}
 use Rattle.std.proofs.lemmas.List.Sums.{fold_push, sum_by-cons, sum_by_push}
 use Rattle.std.proofs.lemmas.List.Folds.{list_any-append}
-use Rattle.spec_job.specs.Titled.{Titled}
+use Rattle.spec_job.specs.KeyedJob.{KeyedJob}
 use Rattle.spec_hall.specs.Events.{Event}
 use Rattle.spec_hall.specs.Own.{is_text}
 use Rattle.spec_hall.specs.States.{titled}
@@ -18,20 +18,20 @@ use Rattle.spec_script.specs.Reading.{is_of}
 use Rattle.spec_script.specs.Script.{ScriptedJob}
 
 -- the machines of a script's jobs
-abbrev pub titles : List Event → List ScriptedJob → List Titled
+abbrev pub titles : List Event → List ScriptedJob → List KeyedJob
 titles h js = map (titled h) (map key_of_job js)
 
 -- a tenant has as many jobs as it has in the script
 pub jobs-counted : (h : List Event) (tenant : List ℕ) (js : List ScriptedJob) → jobs_of tenant (titles h js) ≡ count_by (is_of tenant) js
 jobs-counted h tenant [] = refl
 jobs-counted h tenant (j ∷ js) =
-    sum_by-cons (λ (t : Titled). cond (is_text tenant t.key.tenant) 1 0) (titled h (key_of_job j)) (titles h js)
+    sum_by-cons (λ (t : KeyedJob). cond (is_text tenant t.key.tenant) 1 0) (titled h (key_of_job j)) (titles h js)
     ∙ (ap (λ (n : ℕ). cond (is_of tenant j) 1 0 + n) (jobs-counted h tenant js)
     ∙ sym (sum_by-cons (λ (i : ScriptedJob). cond (is_of tenant i) 1 0) j js))
 
 -- of a job that joins the tenant counts at most once more, and not where an earlier job has it
-more-of : (tenant : List ℕ) (ts : List Titled) (t : Titled) → jobs_of tenant (ts ++ t ∷ []) ≡ jobs_of tenant ts + cond (is_text tenant t.key.tenant) 1 0
-more-of tenant ts t = sum_by_push (λ (u : Titled). cond (is_text tenant u.key.tenant) 1 0) ts t
+more-of : (tenant : List ℕ) (ts : List KeyedJob) (t : KeyedJob) → jobs_of tenant (ts ++ t ∷ []) ≡ jobs_of tenant ts + cond (is_text tenant t.key.tenant) 1 0
+more-of tenant ts t = sum_by_push (λ (u : KeyedJob). cond (is_text tenant u.key.tenant) 1 0) ts t
 
 -- one where a count is zero
 abbrev one_if_zero : ℕ → ℕ
@@ -60,9 +60,9 @@ one-behind : (n : ℕ) → 0 < n + 1
 one-behind n = omega arith
 
 -- with one more job behind these there is one more tenant at most, and none where one of them has its tenant
-tenants-grow : (ts : List Titled) (t : Titled) → tenant_count (ts ++ t ∷ []) ≤ tenant_count ts + one_if_zero (jobs_of t.key.tenant ts)
+tenants-grow : (ts : List KeyedJob) (t : KeyedJob) → tenant_count (ts ++ t ∷ []) ≤ tenant_count ts + one_if_zero (jobs_of t.key.tenant ts)
 tenants-grow [] t = omega arith
-tenants-grow (u ∷ us) t = by_test (is_text u.key.tenant t.key.tenant) refl (more-of u.key.tenant us t) (sum_by-cons (λ (x : Titled). cond (is_text t.key.tenant x.key.tenant) 1 0) u us) (tenants-grow us t)
+tenants-grow (u ∷ us) t = by_test (is_text u.key.tenant t.key.tenant) refl (more-of u.key.tenant us t) (sum_by-cons (λ (x : KeyedJob). cond (is_text t.key.tenant x.key.tenant) 1 0) u us) (tenants-grow us t)
   where
     by_test : (b : Bool) → is_text u.key.tenant t.key.tenant ≡ b → jobs_of u.key.tenant (us ++ t ∷ []) ≡ jobs_of u.key.tenant us + cond (is_text u.key.tenant t.key.tenant) 1 0 → jobs_of t.key.tenant (u ∷ us) ≡ cond (is_text t.key.tenant u.key.tenant) 1 0 + jobs_of t.key.tenant us → tenant_count (us ++ t ∷ []) ≤ tenant_count us + one_if_zero (jobs_of t.key.tenant us) → one_if_zero (jobs_of u.key.tenant (us ++ t ∷ [])) + tenant_count (us ++ t ∷ []) ≤ (one_if_zero (jobs_of u.key.tenant us) + tenant_count us) + one_if_zero (jobs_of t.key.tenant (u ∷ us))
     by_test true e more first rest =
@@ -113,7 +113,7 @@ names-more h js j names is = by_test (list_any (bytes_eq j.tenant) names) refl
     here = jobs_of j.tenant (titles h js)
 
     grown : tenant_count (titles h (js ++ j ∷ [])) ≤ tenant_count (titles h js) + one_if_zero here
-    grown = subst (λ (ts : List Titled). tenant_count ts ≤ tenant_count (titles h js) + one_if_zero here) (sym (titles-more h js j)) (tenants-grow (titles h js) (titled h (key_of_job j)))
+    grown = subst (λ (ts : List KeyedJob). tenant_count ts ≤ tenant_count (titles h js) + one_if_zero here) (sym (titles-more h js j)) (tenants-grow (titles h js) (titled h (key_of_job j)))
 
     used-still : (n : List ℕ) → list_any (bytes_eq n) names ≡ true → 0 < count_by (is_of n) (js ++ j ∷ [])
     used-still n e = not-fewer (count_by (is_of n) (js ++ j ∷ [])) (count_by (is_of n) js) (cond (is_of n j) 1 0) (count-more n js j) (is.used n e)

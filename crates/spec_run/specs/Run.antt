@@ -2,8 +2,8 @@ use Rattle.std.specs.Prelude.{◌≡◌, ℕ, ◌+◌, Bool, true, List, [], ◌
 use Rattle.std.specs.List.{list_all}
 use Rattle.mal_history.specs.Text.{history_text}
 use Rattle.mal_revision.specs.Posted.{Posted}
-use Rattle.spec_job.specs.Solo.{Own, Solo, solo}
-use Rattle.spec_job.specs.Titled.{Key}
+use Rattle.spec_job.specs.SoloMachine.{Own, SoloMachine, solo}
+use Rattle.spec_job.specs.KeyedJob.{Key}
 use Rattle.spec_hall.specs.Events.{Event, Open, Revise, Close, Balance, Start, Finish, Exchange, bare}
 use Rattle.spec_hall.specs.Own.{own}
 use Rattle.spec_hall.specs.Legal.{Legal}
@@ -22,7 +22,7 @@ text_or_none None = []
 text_or_none (Some text) = text
 
 -- the replies of a machine to its revisions, from this one on
-abbrev pub replies_from : Key → ℕ → Solo → List Posted → List ℕ
+abbrev pub replies_from : Key → ℕ → SoloMachine → List Posted → List ℕ
 replies_from k r s [] = []
 replies_from k r s (p ∷ ps) = text_or_none (reply k r s) ++ replies_from k (r + 1) s ps
 

@@ -4,7 +4,7 @@ use Rattle.std.specs.Str.{bytes_eq}
 use Rattle.std.specs.List.{AllByRecursion, list_any}
 use Rattle.std.proofs.lemmas.Bool.{ltb-true}
 use Rattle.mal_base.specs.Asks.{Terms}
-use Rattle.mal_base.specs.declared.which.Which.TheVariants.{Tenants, Jobs}
+use Rattle.mal_base.specs.declared.limit_kind.LimitKind.TheVariants.{Tenants, Jobs}
 use Rattle.mal_base.proofs.Sorting.{and-right}
 use Rattle.mal_revision.specs.Posted.{Posted}
 use Rattle.spec_script.specs.declared.fault.LineFault.TheVariants.{Limit, Duplicate}

@@ -9,7 +9,7 @@ use Rattle.mal_base.specs.Asks.{Terms, IsAsk}
 use Rattle.mal_base.specs.Formulas.{Formulated, is_formula, is_within, literals_of}
 use Rattle.mal_base.specs.Clauses.{rises}
 use Rattle.mal_base.specs.Names.{is_name}
-use Rattle.mal_base.specs.declared.which.Which.TheVariants.{Clauses, Literals, Tenants, Jobs}
+use Rattle.mal_base.specs.declared.limit_kind.LimitKind.TheVariants.{Clauses, Literals, Tenants, Jobs}
 use Rattle.mal_base.proofs.Sorting.{and-left, and-right, and-both}
 use Rattle.mal_revision.specs.Posted.{Posted, is_posted}
 use Rattle.spec_text.specs.Numbers.{NumberWord, number_in}

@@ -8,7 +8,7 @@ use Rattle.spec_dimacs.specs.declared.fault.BlockFault.{BlockFault}
 use Rattle.spec_dimacs.specs.Reading.{◌>>=◌}
 use Rattle.spec_script.specs.declared.fault.LineFault.{LineFault}
 use Rattle.spec_script.specs.declared.fault.LineFault.TheVariants.{Limit, Duplicate}
-use Rattle.mal_base.specs.declared.which.Which.TheVariants.{Clauses, Literals, Tenants, Jobs}
+use Rattle.mal_base.specs.declared.limit_kind.LimitKind.TheVariants.{Clauses, Literals, Tenants, Jobs}
 use Rattle.mal_base.specs.Formulas.{Formulated, literals_of}
 use Rattle.spec_script.specs.Limits.{Limits}
 use Rattle.spec_script.specs.Reading.{Reading, OpenJob, in_block, named, admitted, going_on, begun, is_job, has_room, on_line, revised, with_revision}

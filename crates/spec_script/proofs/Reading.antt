@@ -6,7 +6,7 @@ use Rattle.std.proofs.lemmas.Bool.{lt-ltb}
 use Rattle.mal_base.specs.Asks.{Terms}
 use Rattle.mal_base.specs.Formulas.{Formulated}
 use Rattle.mal_base.specs.Names.{is_name}
-use Rattle.mal_base.specs.declared.which.Which.TheVariants.{Revisions}
+use Rattle.mal_base.specs.declared.limit_kind.LimitKind.TheVariants.{Revisions}
 use Rattle.mal_base.proofs.Sorting.{and-both, and-left, and-right}
 use Rattle.spec_text.specs.Numbers.{number_in}
 use Rattle.spec_dimacs.specs.declared.fault.BlockFault.{BlockFault}

@@ -1,5 +1,5 @@
 use Rattle.std.specs.Prelude.{◌≡◌, ℕ, List, [], ◌∷◌, ◌++◌, codes, Some, None, Ok, Err}
-use Rattle.mal_base.specs.declared.which.Which.TheVariants.{Tenants, Jobs, Revisions}
+use Rattle.mal_base.specs.declared.limit_kind.LimitKind.TheVariants.{Tenants, Jobs, Revisions}
 use Rattle.mal_revision.specs.Posted.{Posted}
 use Rattle.spec_dimacs.specs.declared.fault.BlockFault.TheVariants.{VarTooLarge, ClauseCount}
 use Rattle.spec_script.specs.declared.fault.LineFault.TheVariants.{BadLine, Dimacs, Opposite, Duplicate, Range, Limit}

@@ -1,7 +1,7 @@
 -- The lines that tell a fault of a script.
 use Rattle.std.specs.Prelude.{ℕ, List, [], ◌∷◌, codes}
-use Rattle.mal_base.specs.declared.which.Which.{Which}
-use Rattle.mal_base.specs.declared.which.Which.TheVariants.{Variables, Clauses, Literals, Tenants, Jobs, Revisions}
+use Rattle.mal_base.specs.declared.limit_kind.LimitKind.{LimitKind}
+use Rattle.mal_base.specs.declared.limit_kind.LimitKind.TheVariants.{Variables, Clauses, Literals, Tenants, Jobs, Revisions}
 use Rattle.spec_text.specs.Lines.{line_of}
 use Rattle.spec_text.specs.Numbers.{decimal_word}
 use Rattle.spec_dimacs.specs.declared.fault.BlockFault.{BlockFault}
@@ -10,7 +10,7 @@ use Rattle.spec_script.specs.declared.fault.LineFault.{LineFault}
 use Rattle.spec_script.specs.declared.fault.LineFault.TheVariants as line
 
 -- the word of a limit
-abbrev pub which_word : Which → List ℕ
+abbrev pub which_word : LimitKind → List ℕ
 which_word Variables = codes "Variables"
 which_word Clauses = codes "Clauses"
 which_word Literals = codes "Literals"

@@ -4,7 +4,7 @@ use Rattle.std.specs.List.{list_any}
 use Rattle.mal_base.specs.Asks.{Terms}
 use Rattle.mal_base.specs.Formulas.{Formulated, literals_of}
 use Rattle.mal_base.specs.Names.{is_name}
-use Rattle.mal_base.specs.declared.which.Which.TheVariants.{Clauses, Literals, Tenants, Jobs, Revisions}
+use Rattle.mal_base.specs.declared.limit_kind.LimitKind.TheVariants.{Clauses, Literals, Tenants, Jobs, Revisions}
 use Rattle.spec_text.specs.Numbers.{NumberWord, number_in}
 use Rattle.spec_text.specs.Numbers.NumberWord.{NotANumber, TooLarge, Number}
 use Rattle.spec_dimacs.specs.declared.fault.BlockFault.{BlockFault}

@@ -1,6 +1,6 @@
 //! Why a text is no script.
 
-use mal_base::{Name, Var, Which};
+use mal_base::{LimitKind, Name, Var};
 use spec_dimacs::BlockFault;
 use thiserror::Error;
 
@@ -24,5 +24,5 @@ pub enum LineFault {
     Range,
     /// There are more of these than may be.
     #[error("too many {which:?}")]
-    Limit { which: Which },
+    Limit { which: LimitKind },
 }

@@ -7,7 +7,7 @@ use Rattle.std.proofs.lemmas.List.Sorted.{All-permutation}
 use Rattle.std.proofs.lemmas.Bool.{not-true, cases_lt}
 use Rattle.mal_base.specs.Literals.{var_of}
 use Rattle.mal_base.specs.declared.trail_entry.TrailEntry.{TrailEntry}
-use Rattle.mal_base.specs.Held.{Held}
+use Rattle.mal_base.specs.NumberedClause.{NumberedClause}
 use Rattle.spec_node.specs.State.{Node}
 use Rattle.spec_node.specs.Value.{is_true, is_false, has_value, level_of, first_open, first_free}
 use Rattle.spec_node.specs.Batch.{Progress, batch, is_in_batch, after_batch, propagated}
@@ -26,10 +26,10 @@ abbrev pub next_batch : Node → Progress
 next_batch n = after_batch n.processed n.trail n.clauses
 
 -- what holds of all clauses holds of those of a batch, which are in it
-pub All-batch : (P : Held → Type 0) (prefix : List TrailEntry) (clauses : List Held) → All P clauses → All (λ c. P c × (is_in_batch prefix c ≡ true)) (batch prefix clauses)
+pub All-batch : (P : NumberedClause → Type 0) (prefix : List TrailEntry) (clauses : List NumberedClause) → All P clauses → All (λ c. P c × (is_in_batch prefix c ≡ true)) (batch prefix clauses)
 All-batch P prefix clauses h = All-filtered P (is_in_batch prefix) clauses h
 
-pub push-placed : (variables : ℕ) (prefix : List TrailEntry) (c : Held) → AreLiteralsOf variables c.lits → PushKeeps (EachAfter (IsPlaced variables) []) prefix c
+pub push-placed : (variables : ℕ) (prefix : List TrailEntry) (c : NumberedClause) → AreLiteralsOf variables c.lits → PushKeeps (EachAfter (IsPlaced variables) []) prefix c
 push-placed variables prefix c h trail l e t f k =
     let range : IsLiteralOf variables l = find-All (IsLiteralOf variables) (λ x. not (is_false prefix x)) c.lits l h.within e in
     each-push (IsPlaced variables) trail [] (forced l c.id trail) k (record { low = range.low; high = range.high; free = free_from_open trail l t f })
@@ -48,7 +48,7 @@ batch-levels n h =
     (all-of (PushKeeps (EachAfter IsLevelled []) prefix) (λ c trail l e t f k. each-push IsLevelled trail [] (forced l c.id trail) k refl) (batch prefix n.clauses))
     h.levels
 
-forced-closed : (clauses : List Held) (l id : ℕ) (trail : List TrailEntry) → IsClosed clauses trail (forced l id trail)
+forced-closed : (clauses : List NumberedClause) (l id : ℕ) (trail : List TrailEntry) → IsClosed clauses trail (forced l id trail)
 forced-closed clauses l id trail e = absurd (cc)
 
 pub batch-closed : (n : Node) → IsConsistent n → EachAfter (IsClosed n.clauses) [] (next_batch n).trail

@@ -3,7 +3,7 @@ use Rattle.std.specs.Prelude.{sum_by, nat_lt, is_some, ◌||◌}
 use Rattle.std.specs.Option.{option_map_or}
 use Rattle.std.proofs.lemmas.List.Sums.{sum_by-cons}
 use Rattle.std.proofs.lemmas.Bool.{le-ltb}
-use Rattle.mal_base.specs.Held.{Line}
+use Rattle.mal_base.specs.NumberedClause.{Line}
 use Rattle.mal_base.specs.declared.verdict.Verdict.{Verdict}
 use Rattle.spec_node.specs.State.{Node}
 use Rattle.spec_learn.specs.Learning.{line_of}
@@ -19,25 +19,25 @@ use Rattle.spec_search.proofs.ModelLemmas.{step-leaves}
 -- the counts of a node rise by so much at the most
 record Rise (k : ℕ) (before after : Node) : Type 0 where
   pub serial : after.serial ≤ before.serial + k
-  pub since : after.since ≤ before.since + k
-  pub round : after.round ≤ before.round + k
+  pub conflicts_since_restart : after.conflicts_since_restart ≤ before.conflicts_since_restart + k
+  pub restart_number : after.restart_number ≤ before.restart_number + k
 
 case-rise : (c : Case) (n : Node) → Rise 1 n (after_case c n)
-case-rise (Learns id) n = record { serial = omega arith; since = omega arith; round = omega arith }
-case-rise (Refutes id) n = record { serial = omega arith; since = omega arith; round = omega arith }
-case-rise Propagates n = record { serial = omega arith; since = omega arith; round = omega arith }
-case-rise Restarts n = record { serial = omega arith; since = omega arith; round = omega arith }
-case-rise (Contradicts a) n = record { serial = omega arith; since = omega arith; round = omega arith }
-case-rise (Assumes a) n = record { serial = omega arith; since = omega arith; round = omega arith }
-case-rise (Decides v) n = record { serial = omega arith; since = omega arith; round = omega arith }
-case-rise Ends n = record { serial = omega arith; since = omega arith; round = omega arith }
+case-rise (Learns id) n = record { serial = omega arith; conflicts_since_restart = omega arith; restart_number = omega arith }
+case-rise (Refutes id) n = record { serial = omega arith; conflicts_since_restart = omega arith; restart_number = omega arith }
+case-rise Propagates n = record { serial = omega arith; conflicts_since_restart = omega arith; restart_number = omega arith }
+case-rise Restarts n = record { serial = omega arith; conflicts_since_restart = omega arith; restart_number = omega arith }
+case-rise (Contradicts a) n = record { serial = omega arith; conflicts_since_restart = omega arith; restart_number = omega arith }
+case-rise (Assumes a) n = record { serial = omega arith; conflicts_since_restart = omega arith; restart_number = omega arith }
+case-rise (Decides v) n = record { serial = omega arith; conflicts_since_restart = omega arith; restart_number = omega arith }
+case-rise Ends n = record { serial = omega arith; conflicts_since_restart = omega arith; restart_number = omega arith }
 
 rise-more : (k : ℕ) (n m o : Node) → Rise 1 n m → Rise k m o → Rise (suc k) n o
-rise-more k n m o a b = record { serial = omega (arith, a.serial, b.serial); since = omega (arith, a.since, b.since); round = omega (arith, a.round, b.round) }
+rise-more k n m o a b = record { serial = omega (arith, a.serial, b.serial); conflicts_since_restart = omega (arith, a.conflicts_since_restart, b.conflicts_since_restart); restart_number = omega (arith, a.restart_number, b.restart_number) }
 
 steps-rise : (k : ℕ) (over : Bool) (used : ℕ) (n : Node) → Rise k n (steps_unless k over used n).node
-steps-rise zero over used n = record { serial = omega arith; since = omega arith; round = omega arith }
-steps-rise (suc k) true used n = record { serial = omega arith; since = omega arith; round = omega arith }
+steps-rise zero over used n = record { serial = omega arith; conflicts_since_restart = omega arith; restart_number = omega arith }
+steps-rise (suc k) true used n = record { serial = omega arith; conflicts_since_restart = omega arith; restart_number = omega arith }
 steps-rise (suc k) false used n =
     let u : ℕ = used_after used (next_line n) in
     let m : Node = step n in
@@ -46,7 +46,7 @@ steps-rise (suc k) false used n =
 -- a slice raises each count by 1,000 at the most
 pub slice-counts : (n : Node) → CountsRise n
 unfolding slice
-slice-counts n = let r : Rise 1000 n (steps_unless 1000 (is_over 0 n) 0 n).node = steps-rise 1000 (is_over 0 n) 0 n in record { serial = r.serial; since = r.since; round = r.round }
+slice-counts n = let r : Rise 1000 n (steps_unless 1000 (is_over 0 n) 0 n).node = steps-rise 1000 (is_over 0 n) 0 n in record { serial = r.serial; conflicts_since_restart = r.conflicts_since_restart; restart_number = r.restart_number }
 
 -- a line with so many lines
 behind-few : (k : ℕ) (o : Option Line) (s : Sliced) → length s.lines ≤ k → length (behind o s).lines ≤ suc k

@@ -3,7 +3,7 @@ use Rattle.std.specs.Prelude.{All, reverse}
 use Rattle.std.specs.Option.{option_map_or}
 use Rattle.std.proofs.lemmas.List.Elements.{All-nil, All-cons, All-append}
 use Rattle.mal_base.specs.Literals.{var_of}
-use Rattle.mal_base.specs.Held.{Held}
+use Rattle.mal_base.specs.NumberedClause.{NumberedClause}
 use Rattle.mal_base.specs.declared.trail_entry.TrailEntry.{TrailEntry}
 use Rattle.spec_node.specs.State.{Node}
 use Rattle.spec_node.specs.Sound.{IsForced, IsWaiting, IsSound}
@@ -17,7 +17,7 @@ use Rattle.spec_learn.proofs.CoreLemmas.{IsFallenAt, behind-back, sound-fallen, 
 use Rattle.spec_search.specs.Derived.{IsHeld}
 
 -- the hints of a walk over forced entries are held
-walked-hints : (aim : Aim) (clauses : List Held) (past : List TrailEntry) (w : Walk) → EachBehind (IsForced clauses) past → All (IsHeld clauses) w.hints → All (IsHeld clauses) (walked aim clauses past w).hints
+walked-hints : (aim : Aim) (clauses : List NumberedClause) (past : List TrailEntry) (w : Walk) → EachBehind (IsForced clauses) past → All (IsHeld clauses) w.hints → All (IsHeld clauses) (walked aim clauses past w).hints
 walked-hints aim clauses [] w g h = h
 walked-hints aim clauses (e ∷ past) w g h = walked-hints aim clauses past (after_entry aim clauses e past w) g.1 (by_seen (has_var w.seen (var_of e.lit)))
   where

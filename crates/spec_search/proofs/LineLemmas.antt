@@ -1,6 +1,6 @@
 use Rattle.std.proofs.Common.{◌≡◌, ℕ, zero, suc, ◌+◌, ◌*◌, ◌^◌, Bool, true, false, List, [], ◌∷◌, length, Option, Some, None, is_some, refl, sym, ap, ◌∙◌, subst, arith}
 use Rattle.std.specs.Prelude.{◌||◌}
-use Rattle.mal_base.specs.Held.{Held, Line}
+use Rattle.mal_base.specs.NumberedClause.{NumberedClause, Line}
 use Rattle.mal_base.specs.declared.verdict.Verdict.{Verdict}
 use Rattle.mal_base.specs.declared.verdict.Verdict.TheVariants.{Unsatisfiable}
 use Rattle.spec_node.specs.State.{Node}
@@ -56,7 +56,7 @@ next-derived n h = by_cases (λ c. OfLine n (line_by c n)) n (record {
   ends = λ idle o f. none-of n;
 })
 
-behind-derived : (clauses : List Held) (o : Option Line) (s : Sliced) → ((l : Line) → o ≡ Some l → IsDerivedFrom clauses l) → AreDerivedFrom (with_next o clauses) s.lines → AreDerivedFrom clauses (behind o s).lines
+behind-derived : (clauses : List NumberedClause) (o : Option Line) (s : Sliced) → ((l : Line) → o ≡ Some l → IsDerivedFrom clauses l) → AreDerivedFrom (with_next o clauses) s.lines → AreDerivedFrom clauses (behind o s).lines
 behind-derived clauses None s f h = h
 behind-derived clauses (Some l) s f h = (f l refl, h)
 
@@ -67,13 +67,13 @@ steps-derived (suc k) false used n h =
     let u : ℕ = used_after used (next_line n) in
     let m : Node = step n in
     behind-derived n.clauses (next_line n) (steps_unless k (is_over u m) u m) (next-derived n h)
-    (subst (λ (cs : List Held). AreDerivedFrom cs (steps_unless k (is_over u m) u m).lines) (step-held n) (steps-derived k (is_over u m) u m (step-sound n h)))
+    (subst (λ (cs : List NumberedClause). AreDerivedFrom cs (steps_unless k (is_over u m) u m).lines) (step-held n) (steps-derived k (is_over u m) u m (step-sound n h)))
 
 pub lines-derived : LinesAreDerived
 unfolding slice
 lines-derived n h = steps-derived 1000 (is_over 0 n) 0 n h
 
-behind-held : (clauses : List Held) (o : Option Line) (s : Sliced) → s.node.clauses ≡ with_lines (with_next o clauses) s.lines → (behind o s).node.clauses ≡ with_lines clauses (behind o s).lines
+behind-held : (clauses : List NumberedClause) (o : Option Line) (s : Sliced) → s.node.clauses ≡ with_lines (with_next o clauses) s.lines → (behind o s).node.clauses ≡ with_lines clauses (behind o s).lines
 behind-held clauses None s h = h
 behind-held clauses (Some l) s h = h
 
@@ -84,7 +84,7 @@ steps-held (suc k) false used n =
     let u : ℕ = used_after used (next_line n) in
     let m : Node = step n in
     behind-held n.clauses (next_line n) (steps_unless k (is_over u m) u m)
-    (subst (λ (cs : List Held). (steps_unless k (is_over u m) u m).node.clauses ≡ with_lines cs (steps_unless k (is_over u m) u m).lines) (step-held n) (steps-held k (is_over u m) u m))
+    (subst (λ (cs : List NumberedClause). (steps_unless k (is_over u m) u m).node.clauses ≡ with_lines cs (steps_unless k (is_over u m) u m).lines) (step-held n) (steps-held k (is_over u m) u m))
 
 pub lines-held : LinesAreHeld
 unfolding slice

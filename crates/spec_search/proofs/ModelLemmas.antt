@@ -7,7 +7,7 @@ use Rattle.std.proofs.lemmas.List.Sorted.{All-permutation, IsPermutation-sym}
 use Rattle.std.proofs.lemmas.Bool.{and_parts, le-ltb, and_from, or_left, or_right, or_cases, eqb-true, eqb-false, not-false, not_from_false, false_from_ne_true}
 use Rattle.mal_base.specs.Literals.{var_of, literal, has_plus}
 use Rattle.spec_logic.specs.Logic.{satisfies, satisfies_clause, is_true_in, value_of}
-use Rattle.mal_base.specs.Held.{Held}
+use Rattle.mal_base.specs.NumberedClause.{NumberedClause}
 use Rattle.spec_node.specs.State.{Node}
 use Rattle.spec_node.specs.Value.{is_true, is_false, has_value, open_count, first_open, first_free}
 use Rattle.spec_node.specs.Batch.{is_in_batch}
@@ -78,7 +78,7 @@ all-valued n h e l k =
     true_or_false n.trail l (var_of l) refl (counted-at (λ v. has_value n.trail v ≡ true) 1 n.variables (var_of l) all k.low (let high : var_of l ≤ n.variables = k.high in omega arith))
 
 -- where the search ends each clause has a true literal
-clause-true : (n : Node) → IsConsistent n → IsIdle n → first_free n.trail n.order ≡ None → (c : Held) → AreLiteralsOf n.variables c.lits → ((q : ℕ) → q < n.processed → is_in_batch (take q n.trail) c ≡ true → left_is_true (take q n.trail) n.trail c ≡ true) → list_any (is_true n.trail) c.lits ≡ true
+clause-true : (n : Node) → IsConsistent n → IsIdle n → first_free n.trail n.order ≡ None → (c : NumberedClause) → AreLiteralsOf n.variables c.lits → ((q : ℕ) → q < n.processed → is_in_batch (take q n.trail) c ≡ true → left_is_true (take q n.trail) n.trail c ≡ true) → list_any (is_true n.trail) c.lits ≡ true
 clause-true n h idle e c k s = by_case (valued-cases n.trail c.lits (All-weaker (IsLiteralOf n.variables) (λ l. (is_true n.trail l ≡ true) ⊎ (is_false n.trail l ≡ true)) (all-valued n h e) c.lits k.within))
   where
     by_case : (list_any (is_true n.trail) c.lits ≡ true) ⊎ (open_count n.trail c.lits ≡ 0) → list_any (is_true n.trail) c.lits ≡ true
@@ -88,7 +88,7 @@ clause-true n h idle e c k s = by_case (valued-cases n.trail c.lits (All-weaker 
 clauses-true : (n : Node) → IsConsistent n → IsIdle n → first_free n.trail n.order ≡ None → All (λ c. list_any (is_true n.trail) c.lits ≡ true) n.clauses
 clauses-true n h idle e k d l = clause-true n h idle e (get_or n.clauses k d) (h.clauses k d l) (λ q m. All-unfiltered (is_in_batch (take q n.trail)) (left_is_true (take q n.trail) n.trail) n.clauses (h.settled idle.calm q m) k d l)
 
-pub satisfied-from_all : (a : List Bool) (cs : List Held) → All (λ c. list_any (is_true_in a) c.lits ≡ true) cs → satisfies a (formula_of cs) ≡ true
+pub satisfied-from_all : (a : List Bool) (cs : List NumberedClause) → All (λ c. list_any (is_true_in a) c.lits ≡ true) cs → satisfies a (formula_of cs) ≡ true
 satisfied-from_all a [] h = refl
 satisfied-from_all a (c ∷ cs) h = and_from _ _ (All-head (λ x. list_any (is_true_in a) x.lits ≡ true) c cs h) (satisfied-from_all a cs (All-tail (λ x. list_any (is_true_in a) x.lits ≡ true) c cs h))
 
@@ -126,7 +126,7 @@ unfolding slice
 slice-keeps_model n h m = (steps-keep IsModelled (λ x e g. record { sound = step-sound x g.sound; model = step-model x e g.sound }) 1000 (is_over 0 n) 0 n refl (record { sound = h; model = m })).model
 
 -- a derived clause is none of the originals
-originals-with : (c : Held) (cs : List Held) → 2 ^ 32 ≤ c.id → originals (with_clause c cs) ≡ originals cs
+originals-with : (c : NumberedClause) (cs : List NumberedClause) → 2 ^ 32 ≤ c.id → originals (with_clause c cs) ≡ originals cs
 originals-with c [] h =
     let no : nat_lt c.id (2 ^ 32) ≡ false = le-ltb c.id (2 ^ 32) h in
     rw no refl
@@ -140,7 +140,7 @@ originals-with c (d ∷ ds) h = by_place (originals-with c ds h) (nat_lt c.id d.
     by_place k false = by_test (nat_lt d.id (2 ^ 32))
       where
         by_test : (b : Bool) → cond b (d ∷ originals (with_clause c ds)) (originals (with_clause c ds)) ≡ cond b (d ∷ originals ds) (originals ds)
-        by_test true = ap (λ (xs : List Held). d ∷ xs) k
+        by_test true = ap (λ (xs : List NumberedClause). d ∷ xs) k
         by_test false = k
 
 case-leaves : (c : Case) (n : Node) → Leaves n (after_case c n)
@@ -167,7 +167,7 @@ unfolding slice
 slice-leaves n = steps-leave 1000 0 n
 
 -- what satisfies clauses satisfies those of them that pass a test
-satisfies-filter : (a : List Bool) (test : Held → Bool) (cs : List Held) → satisfies a (formula_of cs) ≡ true → satisfies a (formula_of (filter test cs)) ≡ true
+satisfies-filter : (a : List Bool) (test : NumberedClause → Bool) (cs : List NumberedClause) → satisfies a (formula_of cs) ≡ true → satisfies a (formula_of (filter test cs)) ≡ true
 satisfies-filter a test [] h = refl
 satisfies-filter a test (c ∷ cs) h = by_test (satisfies-filter a test cs) (test c) (and_parts (satisfies_clause a (Some c.lits)) (satisfies a (formula_of cs)) h)
   where
@@ -180,5 +180,5 @@ slice-solves n clauses h m same v =
     let k : Leaves n (slice n).node = slice-leaves n in
     let model : IsModel (model_of (slice n).node) (slice n).node.clauses (slice n).node.assumptions = slice-keeps_model n h m v in
     let front : satisfies (model_of (slice n).node) (formula_of (originals (slice n).node.clauses)) ≡ true = satisfies-filter (model_of (slice n).node) (λ c. nat_lt c.id (2 ^ 32)) (slice n).node.clauses model.satisfied in
-    let held : satisfies (model_of (slice n).node) (formula_of (numbered 1 clauses)) ≡ true = subst (λ (cs : List Held). satisfies (model_of (slice n).node) (formula_of cs) ≡ true) (k.originals ∙ same) front in
+    let held : satisfies (model_of (slice n).node) (formula_of (numbered 1 clauses)) ≡ true = subst (λ (cs : List NumberedClause). satisfies (model_of (slice n).node) (formula_of cs) ≡ true) (k.originals ∙ same) front in
     and_from _ _ (sym (numbers-mean_same.by_number (model_of (slice n).node) 1 clauses) ∙ held) (subst (λ (xs : List ℕ). list_all (is_true_in (model_of (slice n).node)) xs ≡ true) k.assumptions model.assumed)

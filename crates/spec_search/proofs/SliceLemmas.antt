@@ -2,7 +2,7 @@ use Rattle.std.proofs.Common.{◌≡◌, ℕ, zero, suc, ◌+◌, ◌≤◌, Boo
 use Rattle.std.specs.Prelude.{nat_lt}
 use Rattle.std.specs.Option.{option_map_or}
 use Rattle.std.proofs.lemmas.Bool.{ltb-false}
-use Rattle.mal_base.specs.Held.{Held, Line}
+use Rattle.mal_base.specs.NumberedClause.{NumberedClause, Line}
 use Rattle.mal_base.specs.declared.verdict.Verdict.{Verdict}
 use Rattle.spec_node.specs.State.{Node}
 use Rattle.spec_search.specs.Step.{Case, Learns, Refutes, Propagates, Restarts, Contradicts, Assumes, Decides, Ends, case_of, line_by, next_line, step, after_case}
@@ -42,7 +42,7 @@ steps-keep P f (suc k) false used n e h =
     subst P (sym (behind-node (next_line n) (steps_unless k (is_over u m) u m))) (steps-keep P f k (is_over u m) u m refl (f n (going used n e).none h))
 
 -- the clauses held with that of a line, if there is one
-abbrev pub with_next : Option Line → List Held → List Held
+abbrev pub with_next : Option Line → List NumberedClause → List NumberedClause
 with_next None clauses = clauses
 with_next (Some l) clauses = with_line clauses l
 

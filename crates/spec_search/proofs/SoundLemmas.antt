@@ -91,7 +91,7 @@ pub propagated-sound : (n : Node) → IsSound n → n.conflict ≡ None → n.pr
 propagated-sound n h calm low =
     let r : IsRanged n = h.ranged in
     record {
-      ranged = record { index = r.index; variables = r.variables; round = r.round; phases = r.phases; numbers = r.numbers; serial = r.serial };
+      ranged = record { index = r.index; variables = r.variables; restart_number = r.restart_number; phases = r.phases; numbers = r.numbers; serial = r.serial };
       consistent = propagated-consistent n h.consistent calm low;
       reasons = (batch-going n h).reasons;
       chosen = batch-chosen n h;
@@ -107,7 +107,7 @@ decided-sound n h idle l c chosen =
     let len : length (n.trail ++ e ∷ []) ≡ length n.trail + 1 = length_push n.trail e in
     let past : length n.trail < n.processed = idle.handled in
     record {
-      ranged = record { index = r.index; variables = r.variables; round = r.round; phases = r.phases; numbers = r.numbers; serial = r.serial };
+      ranged = record { index = r.index; variables = r.variables; restart_number = r.restart_number; phases = r.phases; numbers = r.numbers; serial = r.serial };
       consistent = c;
       reasons = each-push (IsForced n.clauses) n.trail [] e h.reasons (λ id q. absurd (cc));
       chosen = each-push (IsChosen n.assumptions) n.trail [] e h.chosen (λ q. chosen);
@@ -126,7 +126,7 @@ restarted-sound n h idle =
     let past : length n.trail < n.processed = idle.handled in
     let phases : length n.phases ≡ n.variables = r.phases in
     record {
-      ranged = record { index = r.index; variables = r.variables; round = omega arith; phases = length-saved n.phases (removed 0 n.trail) ∙ phases; numbers = r.numbers; serial = r.serial };
+      ranged = record { index = r.index; variables = r.variables; restart_number = omega arith; phases = length-saved n.phases (removed 0 n.trail) ∙ phases; numbers = r.numbers; serial = r.serial };
       consistent = c;
       reasons = each-front (IsForced n.clauses) t (removed 0 n.trail) [] (rw front h.reasons);
       chosen = kept-forced (IsChosen n.assumptions) (λ b e id q k. absurd (cc)) n.trail [] c.levels;
@@ -140,7 +140,7 @@ ended-sound n h =
     let r : IsRanged n = h.ranged in
     let c : IsConsistent n = h.consistent in
     record {
-      ranged = record { index = r.index; variables = r.variables; round = r.round; phases = r.phases; numbers = r.numbers; serial = r.serial };
+      ranged = record { index = r.index; variables = r.variables; restart_number = r.restart_number; phases = r.phases; numbers = r.numbers; serial = r.serial };
       consistent = record { order = c.order; clauses = c.clauses; assumptions = c.assumptions; placed = c.placed; levels = c.levels; closed = c.closed; handled = c.handled; settled = c.settled };
       reasons = h.reasons;
       chosen = h.chosen;

@@ -16,7 +16,7 @@ pub record IsIdle (n : Node) : Type 0 where
 
 -- a node that restarts
 abbrev pub restarted : Node → Node
-restarted n = record (cut 0 n) { since = 0; round = n.round + 1 }
+restarted n = record (cut 0 n) { conflicts_since_restart = 0; restart_number = n.restart_number + 1 }
 
 -- a node that ends with a model
 abbrev pub ended : Node → Node
@@ -56,9 +56,9 @@ by_cases P n h = by_conflict n.conflict refl
     by_restart idle true = h.restarts idle
     by_restart idle false = by_open idle (first_open n.trail n.assumptions) refl
 
-    by_batch : n.conflict ≡ None → (b : Bool) → nat_le n.processed (length n.trail) ≡ b → P (cond {A = Case} b Propagates (cond {A = Case} (nat_le (64 * luby n.round) n.since) Restarts (branching n)))
+    by_batch : n.conflict ≡ None → (b : Bool) → nat_le n.processed (length n.trail) ≡ b → P (cond {A = Case} b Propagates (cond {A = Case} (nat_le (64 * luby n.restart_number) n.conflicts_since_restart) Restarts (branching n)))
     by_batch calm true e = h.propagates calm (leb-true n.processed (length n.trail) e)
-    by_batch calm false e = by_restart (record { calm = calm; handled = leb-false n.processed (length n.trail) e }) (nat_le (64 * luby n.round) n.since)
+    by_batch calm false e = by_restart (record { calm = calm; handled = leb-false n.processed (length n.trail) e }) (nat_le (64 * luby n.restart_number) n.conflicts_since_restart)
 
     by_level : (id : ℕ) → n.conflict ≡ Some id → (b : Bool) → (level_of n.trail == 0) ≡ b → P (cond {A = Case} b (Refutes id) (Learns id))
     by_level id q true e = h.refutes id q (eqb-true (level_of n.trail) 0 e)

@@ -1,5 +1,5 @@
 use Rattle.std.specs.Prelude.{◌≡◌, ℕ, ◌+◌, ◌*◌, ◌^◌, ◌≤◌, true, false, List, length, [], ◌∷◌, ◌++◌, sum_by, All, Option, Some, None}
-use Rattle.mal_base.specs.Held.{Line}
+use Rattle.mal_base.specs.NumberedClause.{Line}
 use Rattle.mal_base.specs.declared.verdict.Verdict.TheVariants.{Satisfiable, Unsatisfiable}
 use Rattle.spec_logic.specs.Logic.{satisfies_with}
 use Rattle.spec_logic.specs.Refutation.{contradicts}
@@ -100,8 +100,8 @@ LinesAreCounted = (n : Node) → IsCounted n
 -- what counts rises by 1,000 in a slice at the most
 pub record CountsRise (n : Node) : Type 0 where
   pub serial : (slice n).node.serial ≤ n.serial + 1000
-  pub since : (slice n).node.since ≤ n.since + 1000
-  pub round : (slice n).node.round ≤ n.round + 1000
+  pub conflicts_since_restart : (slice n).node.conflicts_since_restart ≤ n.conflicts_since_restart + 1000
+  pub restart_number : (slice n).node.restart_number ≤ n.restart_number + 1000
 
 abbrev pub SliceCounts : Type 0
 SliceCounts = (n : Node) → CountsRise n

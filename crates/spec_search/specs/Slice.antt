@@ -1,6 +1,6 @@
 use Rattle.std.specs.Prelude.{ℕ, zero, suc, ◌+◌, ◌*◌, Bool, true, false, ◌||◌, nat_lt, List, [], ◌∷◌, length, Option, Some, None, is_some}
 use Rattle.std.specs.Option.{option_map_or}
-use Rattle.mal_base.specs.Held.{Line}
+use Rattle.mal_base.specs.NumberedClause.{Line}
 use Rattle.spec_node.specs.State.{Node}
 use Rattle.spec_search.specs.Step.{step, next_line}
 

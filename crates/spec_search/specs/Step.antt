@@ -1,6 +1,6 @@
 use Rattle.std.specs.Prelude.{ℕ, ◌+◌, ◌-◌, ◌*◌, Bool, true, false, ◌==◌, nat_le, List, [], ◌∷◌, ◌++◌, length, get_or, Option, Some, None, if◌then◌else◌}
 use Rattle.mal_base.specs.Literals.{literal}
-use Rattle.mal_base.specs.Held.{Line}
+use Rattle.mal_base.specs.NumberedClause.{Line}
 use Rattle.mal_base.specs.declared.trail_entry.TrailEntry.{TrailEntry}
 use Rattle.mal_base.specs.declared.verdict.Verdict.TheVariants.{Satisfiable}
 use Rattle.spec_seq.specs.Luby.{luby}
@@ -50,7 +50,7 @@ branching n = let a = first_open n.trail n.assumptions in assuming a (is_false_s
 -- variable is free, or the search ends
 abbrev pub case_by : Option ℕ → Node → Case
 case_by (Some id) n = conflicting n id
-case_by None n = if nat_le n.processed (length n.trail) then Propagates else (if nat_le (64 * luby n.round) n.since then Restarts else branching n)
+case_by None n = if nat_le n.processed (length n.trail) then Propagates else (if nat_le (64 * luby n.restart_number) n.conflicts_since_restart then Restarts else branching n)
 
 abbrev pub case_of : Node → Case
 case_of n = case_by n.conflict n
@@ -64,7 +64,7 @@ abbrev pub after_case : Case → Node → Node
 after_case (Learns id) n = learned id n
 after_case (Refutes id) n = emptied id n
 after_case Propagates n = propagated n
-after_case Restarts n = record (cut 0 n) { since = 0; round = n.round + 1 }
+after_case Restarts n = record (cut 0 n) { conflicts_since_restart = 0; restart_number = n.restart_number + 1 }
 after_case (Contradicts a) n = cored a n
 after_case (Assumes a) n = decided n a
 after_case (Decides v) n = decided n (literal v (get_or n.phases (v - 1) false))

@@ -8,8 +8,8 @@ use Rattle.spec_turn.specs.declared.view.View.{View}
 use Rattle.spec_turn.specs.Rule.{At}
 use Rattle.mal_base.specs.Asks.{Terms}
 use Rattle.spec_job.specs.Replies.{reply}
-use Rattle.spec_job.specs.Solo.{solo}
-use Rattle.spec_job.specs.Titled.{Key, Titled}
+use Rattle.spec_job.specs.SoloMachine.{solo}
+use Rattle.spec_job.specs.KeyedJob.{Key, KeyedJob}
 use Rattle.spec_hall.specs.declared.fault.ReviseFault.TheVariants as revising
 use Rattle.spec_hall.specs.declared.fault.CloseFault.TheVariants as closing
 use Rattle.spec_hall.specs.declared.fault.ReplyFault.TheVariants as asking
@@ -101,7 +101,7 @@ told-machine w before after k r text h =
     let call : IsAsking (events_of h.extends.earlier) k r (Ok text) h.events = (entered-calls w before after (Asked k r (Ok text)) h).1 in
     let found = job_of-found (events_of h.extends.earlier) k call.0 call.1 in
     let same : events_of after.seen ≡ events_of h.extends.earlier = ap events_of h.extends.seen ∙ (events-push h.extends.earlier before.of.first (entry (Asked k r (Ok text)) h.events) ∙ (ap (λ (es : List Event). events_of h.extends.earlier ++ es) call.3 ∙ append-nil (events_of h.extends.earlier))) in
-    call.2 ∙ (ap (λ (t : Titled). reply k r t.state) (sym found.machine) ∙ ap (λ (past : List Event). reply k r (solo (own k past))) (sym same))
+    call.2 ∙ (ap (λ (t : KeyedJob). reply k r t.state) (sym found.machine) ∙ ap (λ (past : List Event). reply k r (solo (own k past))) (sym same))
 
 pub replies-are_solo : RepliesAreSolo
 replies-are_solo w before after k r text h = record {

@@ -7,8 +7,8 @@ use Rattle.spec_job.specs.Models.{AnswersSolve}
 use Rattle.spec_job.specs.Proofs.{AnswersRefute}
 use Rattle.spec_job.specs.Provenance.{ClausesAreOwn}
 use Rattle.spec_job.specs.Replies.{reply}
-use Rattle.spec_job.specs.Solo.{Solo, solo}
-use Rattle.spec_job.specs.Titled.{Key}
+use Rattle.spec_job.specs.SoloMachine.{SoloMachine, solo}
+use Rattle.spec_job.specs.KeyedJob.{Key}
 use Rattle.spec_hall.specs.declared.fault.ReviseFault.TheVariants as revising
 use Rattle.spec_hall.specs.declared.fault.CloseFault.TheVariants as closing
 use Rattle.spec_hall.specs.declared.fault.ReplyFault.TheVariants as asking
@@ -37,7 +37,7 @@ OpenedIsFound =
     → At before.seen i (n, entry (Opened k ask (Ok done)) es) → Enters workers before c after → TellsNoJob k c → ⊥
 
 -- the machine of a job, run alone on its own events of a record
-abbrev pub machine : Key → Record → Solo
+abbrev pub machine : Key → Record → SoloMachine
 machine k log = solo (own k (events_of log))
 
 -- a reply that a pass was told is that of the job's machine, run alone on the job's own events of the record that the pass has then

@@ -4,7 +4,7 @@ use Rattle.spec_turn.specs.Rule.{Log}
 use Rattle.mal_base.specs.Asks.{Terms}
 use Rattle.mal_revision.specs.Posted.{Posted}
 use Rattle.spec_job.specs.Leased.{Finished}
-use Rattle.spec_job.specs.Titled.{Key}
+use Rattle.spec_job.specs.KeyedJob.{Key}
 use Rattle.spec_hall.specs.declared.fault.OpenFault.{OpenFault}
 use Rattle.spec_hall.specs.declared.fault.ReviseFault.{ReviseFault}
 use Rattle.spec_hall.specs.declared.fault.CloseFault.{CloseFault}

@@ -10,7 +10,7 @@ use std::thread::Threads;
 
 /// What came of a run: its status, the bytes of its output, and those of its log.
 #[derive(Drop)]
-pub struct Ran {
+pub struct RunTexts {
     pub status: u8,
     pub out: Vec<u8>,
     pub log: Vec<u8>,
@@ -36,7 +36,7 @@ pub fn run<R: Threads + Wait + Sync, G: Gate>(
     workers: u32,
     text: &[u8],
     gate: &G,
-) -> Result<Ran, Fail> {
+) -> Result<RunTexts, Fail> {
     let words = words(alloc, workers)?;
     let mut source = MemSource::new(text, 4_096, &[]);
     let mut out = MemSink::new(alloc, ROOM, 4_096, &[])?;
@@ -50,7 +50,7 @@ pub fn run<R: Threads + Wait + Sync, G: Gate>(
         &mut log,
         gate,
     );
-    Ok(Ran {
+    Ok(RunTexts {
         status,
         out: Vec::from_slice(alloc, out.bytes())?,
         log: Vec::from_slice(alloc, log.bytes())?,

@@ -8,7 +8,7 @@ ghost use Rattle.spec_script.specs.Limits.{served};
 use super::gates::losses;
 use super::scripts::{FOUR_REPLIES, FOUR_TENANTS};
 use mal_hall::{Back, Desk, Hall, Pick, Post, PostFault, Strange};
-use mal_pool::{Board, InUse, Kept, OwnCalls, PlainGate, Shared, Size, replies, run_with};
+use mal_pool::{Board, HallBox, InUse, OwnCalls, PlainGate, Shared, Size, replies, run_with};
 use mal_script::Script;
 use mal_suspend::Done;
 use spec_hall::PickFault;
@@ -92,7 +92,7 @@ fn run_slowly<S: Size + Send + Sync, R: Threads + Wait + Sync>(
     requires size { workers ≡ S.workers }
     ensures { IfOk result (λ h. HasRun workers script.now h) }
 {
-    let board: Shared<S> = Shared::new(Kept::new(Hall::new(alloc, workers)?));
+    let board: Shared<S> = Shared::new(HallBox::new(Hall::new(alloc, workers)?));
     let slow = Slow { board, turns };
     run_with(
         rt,

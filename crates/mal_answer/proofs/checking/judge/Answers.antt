@@ -1,4 +1,4 @@
-use Rattle.mal_claim.specs.Given.{seen}
+use Rattle.mal_claim.specs.ReadResult.{seen}
 use Rattle.mal_answer.proofs.Denials.{proved-claim, denied-claim}
 use Rattle.mal_answer.proofs.checking.judge.Goals as goal
 

@@ -1,5 +1,5 @@
 use Rattle.std.proofs.Common.{◌≡◌, ◌+◌, ◌≤◌, length, take, drop}
-use Rattle.mal_cdcl.specs.Told.{lits_in}
+use Rattle.mal_cdcl.specs.ImportSizes.{lits_in}
 use Rattle.mal_cdcl.proofs.copies.engine_of.Given as goal
 
 abbrev pub invariant-loop-held : goal.invariant-loop-held

@@ -1,6 +1,6 @@
 use Rattle.std.proofs.Common.{◌≡◌, ℕ, ◌<◌, ◌^◌, List, Option, length, ap, arith}
 use Rattle.std.proofs.lemmas.List.Elements.{All-nil}
-use Rattle.mal_base.specs.Held.{Held}
+use Rattle.mal_base.specs.NumberedClause.{NumberedClause}
 use Rattle.spec_node.specs.State.{fresh}
 use Rattle.spec_node.proofs.PostedLemmas.{posted-literals}
 use Rattle.spec_node.proofs.SoundLemmas.{fresh-sound, loaded-sound}
@@ -11,4 +11,4 @@ run-requires-clause-sound g c =
     let r = c.in_ok-revision.revision in
     let posted = c.clauses.ensures.form in
     let same = ap (λ (xs : List (Option (List ℕ))). length xs) c.clauses.ensures.value in
-    rw (c.in_ok-ready.ensures.loaded, c.fresh-node.ensures) (loaded-sound r 1 (fresh 0) posted (posted-literals r posted) (record { some = omega arith; above = All-nil (λ (h : Held). h.id < 2 ^ 32 → h.id < 1); below = omega (arith, same) }) (fresh-sound 0 (omega arith)))
+    rw (c.in_ok-ready.ensures.loaded, c.fresh-node.ensures) (loaded-sound r 1 (fresh 0) posted (posted-literals r posted) (record { some = omega arith; above = All-nil (λ (h : NumberedClause). h.id < 2 ^ 32 → h.id < 1); below = omega (arith, same) }) (fresh-sound 0 (omega arith)))

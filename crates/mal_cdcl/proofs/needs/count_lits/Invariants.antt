@@ -1,5 +1,5 @@
 use Rattle.std.proofs.Common.{◌≡◌, ◌+◌, drop}
-use Rattle.mal_cdcl.specs.Told.{lits_in}
+use Rattle.mal_cdcl.specs.ImportSizes.{lits_in}
 use Rattle.mal_cdcl.proofs.needs.count_lits.Given as goal
 
 abbrev pub invariant-loop-entry : goal.invariant-loop-entry

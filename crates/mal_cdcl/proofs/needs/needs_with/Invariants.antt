@@ -1,6 +1,6 @@
 use Rattle.std.proofs.Common.{◌≡◌, ◌+◌, ◌≤◌, drop}
 use Rattle.mal_cdcl.specs.Ready.{posted, greatest, clauses_in, literals_in, most_assumptions}
-use Rattle.mal_cdcl.specs.Told.{told_clauses, told_literals}
+use Rattle.mal_cdcl.specs.ImportSizes.{told_clauses, told_literals}
 use Rattle.mal_cdcl.proofs.needs.needs_with.Given as goal
 
 abbrev pub invariant-loop-pick : goal.invariant-loop-pick

@@ -15,7 +15,7 @@ pub returns-clause-counts : goal.returns-clause-counts
 returns-clause-counts c =
     let n = c.args.node.now.state in
     let rise : CountsRise n = slice-counts n in
-    rw (c.take_lines.ensures.state, c.run.ensures.node) (record { since = omega (arith, rise.since, c.requires.new.since); round = omega (arith, rise.round, c.requires.new.round); serial = omega (arith, rise.serial, c.requires.new.serial) })
+    rw (c.take_lines.ensures.state, c.run.ensures.node) (record { conflicts_since_restart = omega (arith, rise.conflicts_since_restart, c.requires.new.conflicts_since_restart); restart_number = omega (arith, rise.restart_number, c.requires.new.restart_number); serial = omega (arith, rise.serial, c.requires.new.serial) })
 
 pub returns-clause-form : goal.returns-clause-form
 returns-clause-form c =

@@ -1,5 +1,5 @@
 use Rattle.std.proofs.Common.{◌≡◌, ◌+◌, drop}
-use Rattle.spec_job.specs.Solo.{clauses_in}
+use Rattle.spec_job.specs.SoloMachine.{clauses_in}
 use Rattle.mal_job.specs.Viewed.{shared}
 use Rattle.mal_hall.proofs.room.count_clauses.Given as goal
 

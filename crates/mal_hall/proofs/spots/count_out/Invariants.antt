@@ -1,5 +1,5 @@
 use Rattle.std.proofs.Common.{◌≡◌, ◌+◌, ◌≤◌, drop}
-use Rattle.mal_hall.specs.Seen.{out_in}
+use Rattle.mal_hall.specs.HallView.{out_in}
 use Rattle.mal_hall.proofs.spots.count_out.Given as goal
 
 abbrev pub invariant-loop-spot : goal.invariant-loop-spot

@@ -1,5 +1,5 @@
 use Rattle.std.proofs.Common.{◌≡◌, drop}
-use Rattle.spec_job.specs.Solo.{first_empty}
+use Rattle.spec_job.specs.SoloMachine.{first_empty}
 use Rattle.mal_job.proofs.derivation.empty_among.Given as goal
 
 abbrev pub invariant-loop-n : goal.invariant-loop-n

@@ -1,5 +1,5 @@
 use Rattle.std.proofs.Common.{◌≡◌, ◌+◌, ◌++◌, drop}
-use Rattle.spec_job.specs.Solo.{clauses_in}
+use Rattle.spec_job.specs.SoloMachine.{clauses_in}
 use Rattle.mal_suspend.specs.Starting.{shared_loads}
 use Rattle.mal_job.specs.Loads.{paired}
 use Rattle.mal_job.specs.Viewed.{shared}

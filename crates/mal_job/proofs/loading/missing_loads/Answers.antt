@@ -1,6 +1,6 @@
 use Rattle.std.proofs.Common.{◌≡◌, ◌+◌, ◌-◌, ◌≤◌, ◌^◌, ℕ, List, length, take, drop, IfOk, sym, ◌∙◌, ap, subst, arith}
 use Rattle.mal_revision.specs.Posted.{Posted}
-use Rattle.spec_job.specs.Solo.{clauses_in}
+use Rattle.spec_job.specs.SoloMachine.{clauses_in}
 use Rattle.mal_suspend.specs.Starting.{shared_loads}
 use Rattle.mal_job.specs.Loads.{paired, lacking}
 use Rattle.mal_job.specs.Viewed.{shared}

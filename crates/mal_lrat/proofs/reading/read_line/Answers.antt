@@ -1,7 +1,7 @@
 use Rattle.std.proofs.Common.{subst, List, ℕ}
 use Rattle.spec_text.specs.Inputs.{words_of}
 use Rattle.spec_lrat.specs.Reading.{reading_of}
-use Rattle.mal_lrat.specs.Seen.{seen}
+use Rattle.mal_lrat.specs.LineView.{seen}
 use Rattle.mal_lrat.specs.Answers.{Gives}
 use Rattle.mal_lrat.proofs.Fronts.{read-spelled}
 use Rattle.mal_lrat.proofs.reading.read_line.Goals as goal

@@ -1,5 +1,5 @@
 use Rattle.std.proofs.Common.{◌≡◌, ◌++◌, take}
-use Rattle.spec_job.specs.Solo.{solo}
+use Rattle.spec_job.specs.SoloMachine.{solo}
 use Rattle.spec_hall.specs.Own.{own}
 use Rattle.spec_run.specs.Complete.{key_of_job}
 use Rattle.spec_run.specs.Run.{replies_from}

@@ -1,7 +1,7 @@
 use Rattle.std.proofs.Common.{ℕ, ◌<◌, List, length, take, arith, ◌∙◌}
-use Rattle.mal_hall.specs.Seen.{next_number}
+use Rattle.mal_hall.specs.HallView.{next_number}
 use Rattle.mal_revision.specs.Posted.{Posted}
-use Rattle.spec_job.specs.Titled.{Key}
+use Rattle.spec_job.specs.KeyedJob.{Key}
 use Rattle.spec_hall.specs.Events.{Event}
 use Rattle.spec_hall.specs.States.{titled}
 use Rattle.spec_run.specs.Complete.{key_of_job}

@@ -1,6 +1,6 @@
 use Rattle.std.proofs.Common.{rules}
 use Rattle.std.proofs.lemmas.List.Sorted.{IsNonDecreasingBy-from_sort_by_key}
-use Rattle.mal_base.specs.Held.{Line}
+use Rattle.mal_base.specs.NumberedClause.{Line}
 use Rattle.spec_proof.proofs.OrderLemmas.{sorted-is}
 use Rattle.mal_proof.proofs.lent.sort.Goals as goal
 

@@ -2,7 +2,7 @@ use Rattle.std.proofs.Common.{arith, ◌≢◌, ◌∙◌, [], get_or, sym}
 use Rattle.std.proofs.lemmas.Bool.{eqb-false}
 use Rattle.std.proofs.lemmas.Option.{slice_get-get_or}
 use Rattle.std.proofs.lemmas.List.Elements.{All-more}
-use Rattle.mal_base.specs.Held.{Line}
+use Rattle.mal_base.specs.NumberedClause.{Line}
 use Rattle.mal_proof.proofs.tests.is_fresh.Goals as goal
 
 pub loop-n-preserved : goal.loop-n-preserved

@@ -1,6 +1,6 @@
 use Rattle.std.proofs.Common.{◌≢◌, take}
 use Rattle.std.specs.Prelude.{All}
-use Rattle.mal_base.specs.Held.{Line}
+use Rattle.mal_base.specs.NumberedClause.{Line}
 use Rattle.mal_proof.proofs.tests.is_fresh.Given as goal
 
 abbrev pub invariant-loop-n : goal.invariant-loop-n

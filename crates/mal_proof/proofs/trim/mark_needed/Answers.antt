@@ -1,5 +1,5 @@
 use Rattle.std.proofs.Common.{arith, ap}
-use Rattle.mal_base.specs.Held.{Line}
+use Rattle.mal_base.specs.NumberedClause.{Line}
 use Rattle.spec_proof.proofs.OrderLemmas.{ids-increase}
 use Rattle.mal_proof.proofs.Trimming.{marks-start, back-with, back-without}
 use Rattle.mal_proof.proofs.trim.mark_needed.Goals as goal

@@ -1,5 +1,5 @@
 use Rattle.std.proofs.Common.{arith, ap, ◌∙◌, ◌∷◌, [], ◌++◌, sym}
-use Rattle.mal_base.specs.Held.{Line}
+use Rattle.mal_base.specs.NumberedClause.{Line}
 use Rattle.mal_proof.proofs.Trimming.{test-at, marked-with, marked-without}
 use Rattle.mal_proof.proofs.trim.marked.Goals as goal
 use Rattle.mal_proof.proofs.trim.marked.Goals.{then-marks-place+in_ok-push, else-marks-place}

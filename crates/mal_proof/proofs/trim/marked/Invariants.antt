@@ -1,6 +1,6 @@
 use Rattle.std.proofs.Common.{◌≡◌, Bool, map, take}
 use Rattle.std.specs.Prelude.{filter}
-use Rattle.mal_base.specs.Held.{Line}
+use Rattle.mal_base.specs.NumberedClause.{Line}
 use Rattle.mal_proof.proofs.trim.marked.Given as goal
 
 abbrev pub invariant-loop-place : goal.invariant-loop-place

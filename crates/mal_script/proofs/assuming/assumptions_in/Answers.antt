@@ -5,7 +5,7 @@ use Rattle.mal_base.proofs.Tautologies.{rises-from_sorted}
 use Rattle.mal_revision.proofs.Refusals.{within-same}
 use Rattle.spec_script.specs.Assumptions.{consistent}
 use Rattle.spec_script.proofs.Sorted.{sorted-unique}
-use Rattle.mal_script.specs.Given.{GivesAssumed}
+use Rattle.mal_script.specs.ReadResult.{GivesAssumed}
 use Rattle.mal_script.proofs.assuming.assumptions_in.Goals as goal
 
 pub returns-clause-value : goal.returns-clause-value

@@ -2,7 +2,7 @@ use Rattle.std.proofs.Common.{◌≡◌, ◌∙◌, sym, subst, List, ℕ, Resul
 use Rattle.std.proofs.lemmas.Int.{ints}
 use Rattle.spec_text.specs.Inputs.{words_of}
 use Rattle.spec_script.specs.declared.fault.LineFault.{LineFault}
-use Rattle.mal_script.specs.Given.{GivesAssumed}
+use Rattle.mal_script.specs.ReadResult.{GivesAssumed}
 use Rattle.mal_script.proofs.Steps.{closed-at}
 use Rattle.mal_script.proofs.assuming.literals.Goals as goal
 

@@ -1,6 +1,6 @@
 use Rattle.std.proofs.Common.{◌≡◌, ◌+◌, ◌++◌, [], ◌∷◌, take, sym, ap, ◌∙◌, ℕ, arith}
 use Rattle.std.proofs.lemmas.List.{take_more}
-use Rattle.mal_watch.specs.Chains.{Has}
+use Rattle.mal_watch.specs.WatchLists.{Has}
 use Rattle.mal_watch.proofs.HasLemmas.{has-at}
 use Rattle.mal_watch.proofs.pair.pick.Goals as goal
 

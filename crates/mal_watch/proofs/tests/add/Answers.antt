@@ -3,7 +3,7 @@ use Rattle.std.specs.Prelude.{nat_le, nat_lt}
 use Rattle.std.proofs.lemmas.Bool.{false≢true}
 use Rattle.std.proofs.lemmas.Bool.Decides.{nat_tests}
 use Rattle.mal_base.specs.Formulas.{is_within}
-use Rattle.mal_base.specs.Held.{Held}
+use Rattle.mal_base.specs.NumberedClause.{NumberedClause}
 use Rattle.mal_trail.specs.Rooms.{are_within}
 use Rattle.spec_node.specs.Adding.{with_clause}
 use Rattle.mal_watch.proofs.tests.add.Goals as goal
@@ -28,7 +28,7 @@ within-more a b (x ∷ xs) l w =
     true_and (nat_le 1 (x / 2) && nat_le (x / 2) b) (is_within b xs) (true_and (nat_le 1 (x / 2)) (nat_le (x / 2) b) here.0 (le-more (x / 2) a b here.1 l)) (within-more a b xs l parts.1)
 
 -- clauses of some variables are so with one more
-within-with : (room : ℕ) (c : Held) (cs : List Held) → is_within room c.lits ≡ true → are_within room cs ≡ true → are_within room (with_clause c cs) ≡ true
+within-with : (room : ℕ) (c : NumberedClause) (cs : List NumberedClause) → is_within room c.lits ≡ true → are_within room cs ≡ true → are_within room (with_clause c cs) ≡ true
 within-with room c [] h w = true_and (is_within room c.lits) true h refl
 within-with room c (d ∷ ds) h w = by_order (nat_lt c.id d.id) (within-with room c ds h (and_true (is_within room d.lits) (are_within room ds) w).1)
   where

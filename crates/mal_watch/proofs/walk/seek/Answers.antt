@@ -1,8 +1,8 @@
 use Rattle.std.proofs.Common.{◌≡◌, true, false, take, drop, refl, sym, ap, ◌∙◌, append-nil}
 use Rattle.std.proofs.lemmas.List.{get_or_read}
-use Rattle.mal_base.specs.Held.{Held}
+use Rattle.mal_base.specs.NumberedClause.{NumberedClause}
 use Rattle.spec_node.specs.Value.{is_true, is_false}
-use Rattle.mal_watch.specs.Chains.{Has}
+use Rattle.mal_watch.specs.WatchLists.{Has}
 use Rattle.mal_watch.specs.Watching.{no_row, row_at, other_key, IsOther, AreOthersFalse}
 use Rattle.mal_watch.proofs.HasLemmas.{has-head}
 use Rattle.mal_watch.proofs.WalkLemmas.{get-is, partner-below}
@@ -79,7 +79,7 @@ returns-then-not-is_true-clause-found c =
     let others : AreOthersFalse prefix (other_key s.keys c.args.node) (row_at rows c.args.node).lits = rw (row, ← other) c.in-None.ensures in
     let free : is_false prefix (other_key s.keys c.args.node) ≡ false = rw (← other) (sym c.is_false_before.ensures ∙ c.if-not-is_false_before.true) in
     let fresh : is_true c.args.trail.now.entries (other_key s.keys c.args.node) ≡ false = rw (← other) (sym c.is_true.ensures ∙ c.if-not-is_true.true) in
-    let number : (row_at rows c.args.node).id ≡ c.at-id.result.0 = ap (λ (h : Held). h.id) row in
+    let number : (row_at rows c.args.node).id ≡ c.at-id.result.0 = ap (λ (h : NumberedClause). h.id) row in
     rw (c.push_reserved.ensures.items, (visit-found c.args.trail.now.entries c.args.count c.args.lit s.lists rows s.keys (drop 1 s.out) c.args.node c.requires.turns c.requires.goes others free fresh).finds, number, ← other) refl
 
 pub returns-else-not-is_false_before-clause-goes : goal.returns-else-not-is_false_before-clause-goes

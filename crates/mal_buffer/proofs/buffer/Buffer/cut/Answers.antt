@@ -1,5 +1,5 @@
 use Rattle.std.proofs.Common.{rules, ◌≡◌, List, sym, subst}
-use Rattle.mal_base.specs.Held.{Held}
+use Rattle.mal_base.specs.NumberedClause.{NumberedClause}
 use Rattle.spec_exchange.specs.Exchange.{front}
 use Rattle.spec_exchange.specs.Order.{IsSorted}
 use Rattle.spec_exchange.proofs.FrontLemmas.{front-sorted}
@@ -8,4 +8,4 @@ use Rattle.mal_buffer.proofs.buffer.Buffer.cut.Goals as goal
 pub invariant_of-self : goal.invariant_of-self
 invariant_of-self c =
     let same : c.truncate.new.self.items ≡ front c.args.literals c.self.inside.entries.items = search rules in
-    subst (λ (es : List Held). IsSorted es) (sym same) (front-sorted c.args.literals c.self.inside.entries.items c.self.invariant)
+    subst (λ (es : List NumberedClause). IsSorted es) (sym same) (front-sorted c.args.literals c.self.inside.entries.items c.self.invariant)

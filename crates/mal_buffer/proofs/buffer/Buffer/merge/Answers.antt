@@ -1,5 +1,5 @@
 use Rattle.std.proofs.Common.{rules, ◌≡◌, ◌++◌, List, sym, subst, ◌∙◌}
-use Rattle.mal_base.specs.Held.{Held}
+use Rattle.mal_base.specs.NumberedClause.{NumberedClause}
 use Rattle.spec_exchange.specs.Exchange.{union, merged}
 use Rattle.spec_exchange.specs.Order.{IsSorted}
 use Rattle.spec_exchange.proofs.UnionLemmas.{merged-sorted, merged-union}
@@ -8,7 +8,7 @@ use Rattle.mal_buffer.proofs.buffer.Buffer.merge.Goals as goal
 pub invariant_of-result : goal.invariant_of-result
 invariant_of-result c =
     let same : c.in_ok-entries.entries.items ≡ merged c.one.inside.entries.items c.other.inside.entries.items = search rules in
-    subst (λ (es : List Held). IsSorted es) (sym same) (merged-sorted c.one.inside.entries.items c.other.inside.entries.items c.one.invariant c.other.invariant)
+    subst (λ (es : List NumberedClause). IsSorted es) (sym same) (merged-sorted c.one.inside.entries.items c.other.inside.entries.items c.one.invariant c.other.invariant)
 
 pub returns : goal.returns
 returns c =

@@ -2,7 +2,7 @@ use Rattle.std.proofs.Common.{◌≡◌, ◌-◌, [], length, ap, arith}
 use Rattle.spec_node.specs.State.{Node}
 use Rattle.spec_learn.specs.Learning.{analysis}
 use Rattle.spec_learn.proofs.LawLemmas.{sound-small}
-use Rattle.mal_cdcl.specs.Within.{Stocked}
+use Rattle.mal_cdcl.specs.Within.{NodeWithRoom}
 use Rattle.mal_cdcl.proofs.DeriveLemmas.{placed-wider}
 use Rattle.mal_cdcl.proofs.node.Node.analyse.Goals as goal
 
@@ -15,7 +15,7 @@ analyse-requires-clause-placed g c =
 pub returns-clause-few : goal.returns-clause-few
 returns-clause-few g c =
     let n = c.args.self.now.state in
-    let same = ap (λ (s : Stocked). s.state) c.self.view_is in
+    let same = ap (λ (s : NodeWithRoom). s.state) c.self.view_is in
     let lits : length c.clause.result.now ≡ length (analysis c.args.id n).lits = rw (c.clause.ensures, c.analyse.ensures.clause) (ap (λ (m : Node). length (analysis c.args.id m).lits) same) in
     let hints : length c.hints.result.now ≡ length (analysis c.args.id n).hints = rw (c.hints.ensures, c.analyse.ensures.hints) (ap (λ (m : Node). length (analysis c.args.id m).hints) same) in
     omega (arith, lits, hints, sound-small n c.args.id c.requires.sound)

@@ -2,7 +2,7 @@ use Rattle.std.proofs.Common.{◌≡◌, ◌-◌, [], length, ap, arith}
 use Rattle.spec_node.specs.State.{Node}
 use Rattle.spec_learn.specs.Refuting.{core_analysis}
 use Rattle.spec_learn.proofs.CoreClauseLemmas.{core-small}
-use Rattle.mal_cdcl.specs.Within.{Stocked}
+use Rattle.mal_cdcl.specs.Within.{NodeWithRoom}
 use Rattle.mal_cdcl.proofs.DeriveLemmas.{placed-wider, failed-some}
 use Rattle.mal_cdcl.proofs.node.Node.analyse_core.Goals as goal
 
@@ -19,7 +19,7 @@ final_core-requires-clause-placed g c =
 pub returns-clause-few : goal.returns-clause-few
 returns-clause-few g c =
     let n = c.args.self.now.state in
-    let same = ap (λ (s : Stocked). s.state) c.self.view_is in
+    let same = ap (λ (s : NodeWithRoom). s.state) c.self.view_is in
     let lits : length c.clause.result.now ≡ length (core_analysis c.args.assumption n).lits = rw (c.clause.ensures, c.final_core.ensures.clause) (ap (λ (m : Node). length (core_analysis c.args.assumption m).lits) same) in
     let hints : length c.hints.result.now ≡ length (core_analysis c.args.assumption n).hints = rw (c.hints.ensures, c.final_core.ensures.hints) (ap (λ (m : Node). length (core_analysis c.args.assumption m).hints) same) in
     omega (arith, lits, hints, core-small n c.args.assumption c.requires.sound)

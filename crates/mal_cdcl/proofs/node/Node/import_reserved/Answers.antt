@@ -1,7 +1,7 @@
 use Rattle.std.proofs.Common.{◌≡◌, List, ap, ◌∙◌, arith}
-use Rattle.mal_base.specs.Held.{Held}
+use Rattle.mal_base.specs.NumberedClause.{NumberedClause}
 use Rattle.spec_node.specs.State.{Node}
-use Rattle.mal_cdcl.specs.Within.{Stocked}
+use Rattle.mal_cdcl.specs.Within.{NodeWithRoom}
 use Rattle.mal_cdcl.specs.Importing.{AreNewTo}
 use Rattle.mal_cdcl.proofs.ImportingLemmas.{within-new, rising-new}
 use Rattle.mal_cdcl.proofs.node.Node.import_reserved.Goals as goal
@@ -10,9 +10,9 @@ pub invariant_of-self : goal.invariant_of-self
 invariant_of-self g c =
     let n = c.self.inside in
     let inv = c.self.invariant.0 in
-    let held : List Held = g.E.ClauseView.clauses n.engine in
-    let same : held ≡ c.args.self.now.state.clauses = ap (λ (s : Stocked). s.state.clauses) c.self.view_is ∙ ap (λ (m : Node). m.clauses) c.cut.ensures.state in
-    let variables : n.variables ≡ c.args.self.now.state.variables = ap (λ (s : Stocked). s.state.variables) c.self.view_is ∙ ap (λ (m : Node). m.variables) c.cut.ensures.state in
+    let held : List NumberedClause = g.E.ClauseView.clauses n.engine in
+    let same : held ≡ c.args.self.now.state.clauses = ap (λ (s : NodeWithRoom). s.state.clauses) c.self.view_is ∙ ap (λ (m : Node). m.clauses) c.cut.ensures.state in
+    let variables : n.variables ≡ c.args.self.now.state.variables = ap (λ (s : NodeWithRoom). s.state.variables) c.self.view_is ∙ ap (λ (m : Node). m.variables) c.cut.ensures.state in
     let new : AreNewTo held n.variables c.args.told.now = rw (same, variables) c.requires.new in (
       record {
         place = inv.place;

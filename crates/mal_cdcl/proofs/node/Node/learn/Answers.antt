@@ -7,7 +7,7 @@ use Rattle.spec_node.specs.Adding.{with_clause}
 use Rattle.spec_learn.specs.Analysis.{vars_in}
 use Rattle.spec_learn.specs.Learning.{analysis, derived_id, forced_by, learned}
 use Rattle.spec_learn.specs.Order.{moved_all}
-use Rattle.mal_cdcl.specs.Within.{Stocked, IsNode, IsPast}
+use Rattle.mal_cdcl.specs.Within.{NodeWithRoom, IsNode, IsPast}
 use Rattle.mal_cdcl.proofs.ImageLemmas.{image-node}
 use Rattle.mal_cdcl.proofs.PastLemmas.{past-more}
 use Rattle.mal_cdcl.proofs.BumpLemmas.{are_in}
@@ -17,7 +17,7 @@ use Rattle.mal_cdcl.proofs.node.Node.learn.Goals as goal
 pub learn-requires-clause-new : goal.learn-requires-clause-new
 learn-requires-clause-new g c =
     let n = c.args.self.now.state in
-    let held : g.E.ClauseView.clauses c.self.inside.engine ≡ n.clauses = ap (λ (s : Stocked). s.state.clauses) c.self.view_is ∙ ap (λ (m : Node). m.clauses) c.cut.ensures.state in
+    let held : g.E.ClauseView.clauses c.self.inside.engine ≡ n.clauses = ap (λ (s : NodeWithRoom). s.state.clauses) c.self.view_is ∙ ap (λ (m : Node). m.clauses) c.cut.ensures.state in
     rw (held, c.requires.number) (new-number n c.requires.sound)
 
 pub learn-requires-clause-form : goal.learn-requires-clause-form
@@ -29,7 +29,7 @@ pub force-requires : goal.force-requires
 force-requires g c l q =
     let n = c.args.self.now.state in
     let level : c.level.result ≡ (analysis c.args.id n).level = c.level.ensures ∙ c.requires.shown.level in
-    let same = ap (λ (s : Stocked). s.state) c.self.view_is ∙ c.cut.ensures.state in
+    let same = ap (λ (s : NodeWithRoom). s.state) c.self.view_is ∙ c.cut.ensures.state in
     let trail : c.self.inside.trail.entries ≡ kept (analysis c.args.id n).level n.trail = ap (λ (m : Node). m.trail) same ∙ ap (λ (j : ℕ). kept j n.trail) level in
     let variables : c.self.inside.variables ≡ n.variables = ap (λ (m : Node). m.variables) same in
     let lits : c.clause-2.result.now ≡ (analysis c.args.id n).lits = c.clause-2.ensures ∙ c.requires.shown.lits in
@@ -39,7 +39,7 @@ force-requires g c l q =
 pub bump_all-requires : goal.bump_all-requires
 bump_all-requires g c =
     let n = c.args.self.now.state in
-    let same = ap (λ (s : Stocked). s.state) c.self.view_is ∙ c.cut.ensures.state in
+    let same = ap (λ (s : NodeWithRoom). s.state) c.self.view_is ∙ c.cut.ensures.state in
     let order : c.self.inside.order.list ≡ n.order = ap (λ (m : Node). m.order) same in
     let lits : c.clause-3.result.now ≡ (analysis c.args.id n).lits = c.clause-3.ensures ∙ c.requires.shown.lits in
     let has : are_in n.order (vars_in c.clause-3.result.now) ≡ true = rw lits (has-learned n c.args.id c.requires.sound c.requires.conflict c.requires.level) in
@@ -51,7 +51,7 @@ invariant_of-self g c =
     let a = analysis c.args.id n in
     let v = c.self.inside in
     let level : c.level.result ≡ a.level = c.level.ensures ∙ c.requires.shown.level in
-    let same = ap (λ (s : Stocked). s.state) c.self.view_is ∙ (c.cut.ensures.state ∙ ap (λ (j : ℕ). cut j n) level) in
+    let same = ap (λ (s : NodeWithRoom). s.state) c.self.view_is ∙ (c.cut.ensures.state ∙ ap (λ (j : ℕ). cut j n) level) in
     let lits : c.clause.result.now ≡ a.lits = c.clause.ensures ∙ c.requires.shown.lits in
     let held : g.E.ClauseView.clauses v.engine ≡ n.clauses = ap (λ (m : Node). m.clauses) same in
     let whole : g.E.ClauseView.clauses c.learn.new.self ≡ with_clause (record { id = derived_id n; lits = a.lits }) n.clauses = rw (c.learn.ensures.clauses, lits, c.requires.number, held) refl in
@@ -74,7 +74,7 @@ returns-clause-state g c =
     let a = analysis c.args.id n in
     let v = c.self.inside in
     let level : c.level.result ≡ a.level = c.level.ensures ∙ c.requires.shown.level in
-    let same = ap (λ (s : Stocked). s.state) c.self.view_is ∙ (c.cut.ensures.state ∙ ap (λ (j : ℕ). cut j n) level) in
+    let same = ap (λ (s : NodeWithRoom). s.state) c.self.view_is ∙ (c.cut.ensures.state ∙ ap (λ (j : ℕ). cut j n) level) in
     let lits : c.clause.result.now ≡ a.lits = c.clause.ensures ∙ c.requires.shown.lits in
     let lits2 : c.clause-2.result.now ≡ a.lits = c.clause-2.ensures ∙ c.requires.shown.lits in
     let lits3 : c.clause-3.result.now ≡ a.lits = c.clause-3.ensures ∙ c.requires.shown.lits in
@@ -82,7 +82,7 @@ returns-clause-state g c =
     rw (c.bump_all.ensures.list, c.force.ensures.entries, c.force.ensures.processed, c.learn.ensures.clauses, handled, lits, lits2, lits3, c.requires.number)
     (ap (λ (m : Node). record m {
       serial = m.serial + 1;
-      since = m.since + 1;
+      conflicts_since_restart = m.conflicts_since_restart + 1;
       processed = length m.trail + 1;
       conflict = None;
       order = moved_all (vars_in a.lits) m.order;

@@ -1,5 +1,5 @@
 use Rattle.std.proofs.Common.{◌≡◌, List, [], drop, refl, sym, ap, arith}
-use Rattle.mal_cdcl.specs.Within.{Stocked}
+use Rattle.mal_cdcl.specs.Within.{NodeWithRoom}
 use Rattle.mal_cdcl.specs.Ready.{posted, readied}
 use Rattle.mal_cdcl.specs.Importing.{lent, picked, all_imported}
 use Rattle.mal_cdcl.proofs.ImportingLemmas.{importing-begins, importing-here, importing-room, importing-next, importing-ends}
@@ -36,7 +36,7 @@ pub loop-pick-init : goal.loop-pick-init
 loop-pick-init g c =
     let none : posted (drop c.loop-load.load-index c.args.loads.now) ≡ [] = posted-end c.args.loads.now c.loop-load.load-index (omega arith) in
     let ready = rw none at c.loop-load.invariant in
-    let is : c.in_ok-picks.picks.items ≡ picked (lent c.args.imports.now) (readied (posted c.args.loads.now) c.args.self.now.state).clauses = c.in_ok-picks.ensures c.args.self.now.state (sym (ap (λ (s : Stocked). s.state.clauses) c.self.view_is)) in
+    let is : c.in_ok-picks.picks.items ≡ picked (lent c.args.imports.now) (readied (posted c.args.loads.now) c.args.self.now.state).clauses = c.in_ok-picks.ensures c.args.self.now.state (sym (ap (λ (s : NodeWithRoom). s.state.clauses) c.self.view_is)) in
     rw c.as_slice-pick-items.ensures.value (importing-begins (posted c.args.loads.now) (lent c.args.imports.now) c.in_ok-picks.picks.items c.args.self.now.state _ c.loop-load.self is c.requires.told ready)
 
 pub import_reserved-requires-clause-new : goal.import_reserved-requires-clause-new

@@ -1,6 +1,6 @@
 use Rattle.std.proofs.Common.{◌≡◌, suc, ◌+◌, ◌-◌, ap, ◌∙◌, arith}
 use Rattle.spec_search.specs.Slice.{slice}
-use Rattle.mal_cdcl.specs.Within.{Stocked}
+use Rattle.mal_cdcl.specs.Within.{NodeWithRoom}
 use Rattle.mal_cdcl.proofs.SliceLemmas.{IsSlicing, slicing-next, slicing-over, slicing-ends}
 use Rattle.mal_cdcl.proofs.node.Node.run.Goals as goal
 
@@ -8,13 +8,13 @@ pub returns-in-None-clause-node : goal.returns-in-None-clause-node
 unfolding slice
 returns-in-None-clause-node g c =
     let ended = c.in-None.ensures.step in
-    ap (λ (s : Stocked). s.state) ended.same ∙ (slicing-over (1000 - c.loop-made._made) c.loop-made.used c.args.self.now c.loop-made.self ended.over c.loop-made.invariant.slicing).node
+    ap (λ (s : NodeWithRoom). s.state) ended.same ∙ (slicing-over (1000 - c.loop-made._made) c.loop-made.used c.args.self.now c.loop-made.self ended.over c.loop-made.invariant.slicing).node
 
 pub returns-in-None-clause-lines : goal.returns-in-None-clause-lines
 unfolding slice
 returns-in-None-clause-lines g c =
     let ended = c.in-None.ensures.step in
-    ap (λ (s : Stocked). s.lines) ended.same ∙ (slicing-over (1000 - c.loop-made._made) c.loop-made.used c.args.self.now c.loop-made.self ended.over c.loop-made.invariant.slicing).lines
+    ap (λ (s : NodeWithRoom). s.lines) ended.same ∙ (slicing-over (1000 - c.loop-made._made) c.loop-made.used c.args.self.now c.loop-made.self ended.over c.loop-made.invariant.slicing).lines
 
 pub loop-made-preserved : goal.loop-made-preserved
 loop-made-preserved g c =

@@ -1,6 +1,6 @@
 use Rattle.std.proofs.Common.{◌≡◌, ℕ, ◌≤◌, refl, sym, ◌∙◌, arith}
 use Rattle.mal_hall.proofs.PhaseLemmas.{back-not, kept-is, kept-none, may-return, none-out, spot-is, spot-seat, spot-within, strange-none, test-not, test-yes, zero-none}
-use Rattle.mal_hall.specs.Seen.{events_of}
+use Rattle.mal_hall.specs.HallView.{events_of}
 use Rattle.mal_hall.proofs.hall.Hall.compare.Goals as goal
 
 pub returns-then-worker-eq0-clause-strange : goal.returns-then-worker-eq0-clause-strange

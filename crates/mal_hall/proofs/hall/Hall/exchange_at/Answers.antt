@@ -1,6 +1,6 @@
 use Rattle.std.proofs.Common.{List, ap, refl, sym, arith}
 use Rattle.spec_hall.specs.Seats.{Seat}
-use Rattle.mal_hall.specs.Seen.{events_of}
+use Rattle.mal_hall.specs.HallView.{events_of}
 use Rattle.mal_hall.proofs.HallLemmas.{hall-waits}
 use Rattle.mal_hall.proofs.KeptLemmas.{set-same}
 use Rattle.mal_hall.proofs.PhaseLemmas.{phase-exchange, read-seat, within-first}

@@ -1,6 +1,6 @@
 use Rattle.std.proofs.Common.{◌≤◌, arith, refl, sym, ◌∙◌}
 use Rattle.spec_hall.specs.Dressed.{keyed}
-use Rattle.mal_hall.specs.Seen.{events_of}
+use Rattle.mal_hall.specs.HallView.{events_of}
 use Rattle.mal_hall.proofs.ApplyLemmas.{held-none, held-other, held-test}
 use Rattle.mal_hall.proofs.PhaseLemmas.{none-out, spot-is, zero-none}
 use Rattle.mal_hall.proofs.hall.Hall.holds.Goals as goal

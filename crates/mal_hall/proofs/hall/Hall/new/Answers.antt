@@ -1,6 +1,6 @@
 use Rattle.std.proofs.Common.{List, ap, refl}
 use Rattle.mal_history.specs.declared.event.Event.{Event}
-use Rattle.mal_hall.specs.Seen.{events_of}
+use Rattle.mal_hall.specs.HallView.{events_of}
 use Rattle.mal_hall.proofs.HallLemmas.{hall-none}
 use Rattle.mal_hall.proofs.InsideLemmas.{inside-none}
 use Rattle.mal_hall.proofs.hall.Hall.new.Goals as goal

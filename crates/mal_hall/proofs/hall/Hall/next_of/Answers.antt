@@ -1,7 +1,7 @@
 use Rattle.std.proofs.Common.{ap, length, sym, ◌+◌, ◌∙◌, arith}
 use Rattle.std.proofs.lemmas.List.{length-map}
 use Rattle.spec_hall.specs.Dressed.{keyed}
-use Rattle.mal_hall.specs.Seen.{events_of}
+use Rattle.mal_hall.specs.HallView.{events_of}
 use Rattle.mal_hall.proofs.ApplyLemmas.{next-none}
 use Rattle.mal_hall.proofs.HallLemmas.{hall-absent, hall-found, hall-next, placed, placed-below, sits}
 use Rattle.mal_hall.proofs.hall.Hall.next_of.Goals as goal

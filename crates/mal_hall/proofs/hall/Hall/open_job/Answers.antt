@@ -4,7 +4,7 @@ use Rattle.spec_hall.specs.Calls.{Opens}
 use Rattle.spec_hall.specs.declared.fault.OpenFault.TheVariants.{Duplicate, OutOfMemory}
 use Rattle.spec_hall.specs.Dressed.{keyed}
 use Rattle.spec_hall.specs.Seats.{Seat}
-use Rattle.mal_hall.specs.Seen.{events_of}
+use Rattle.mal_hall.specs.HallView.{events_of}
 use Rattle.mal_hall.proofs.HallLemmas.{placed, none-from, hall-absent, hall-some_job, hall-jobs, hall-tenants, hall-open, may-open, called-none, called-one}
 use Rattle.mal_hall.proofs.hall.Hall.open_job.Goals as goal
 

@@ -1,5 +1,5 @@
 use Rattle.std.proofs.Common.{◌≡◌, ℕ, ◌≤◌, ◌<◌, ◌∙◌, ap, sym, arith}
-use Rattle.mal_hall.specs.Seen.{Seen}
+use Rattle.mal_hall.specs.HallView.{HallView}
 use Rattle.mal_hall.proofs.PhaseLemmas.{may-lose}
 use Rattle.mal_hall.proofs.RecallLemmas.{home-none, home-one, lose-none, lose-one, recall-done}
 use Rattle.mal_hall.proofs.hall.Hall.recall.Goals as goal
@@ -10,7 +10,7 @@ end-requires-clause-may c = may-lose _ c.loop-worker.worker (sym c.has_lease.ens
 
 pub loop-worker-preserved : goal.loop-worker-preserved
 loop-worker-preserved c =
-    let low : c.loop-worker.worker ≤ c.args.self.now.workers = omega (arith, c.loop-worker-test.true, c.workers-worker-end.ensures.value, ap (λ (s : Seen). s.workers) c.self.view_is) in
+    let low : c.loop-worker.worker ≤ c.args.self.now.workers = omega (arith, c.loop-worker-test.true, c.workers-worker-end.ensures.value, ap (λ (s : HallView). s.workers) c.self.view_is) in
     elim c.if-has_lease.branch [
       | then-has_lease w ↦ rw w.self-is (record {
         workers = w.end.ensures.workers ∙ c.loop-worker.invariant.workers;
@@ -26,10 +26,10 @@ loop-worker-preserved c =
 
 pub returns-clause-call : goal.returns-clause-call
 returns-clause-call c =
-    let same : c.workers-worker-end.result ≡ c.args.self.now.workers = c.workers-worker-end.ensures.value ∙ ap (λ (s : Seen). s.workers) c.self.view_is in
+    let same : c.workers-worker-end.result ≡ c.args.self.now.workers = c.workers-worker-end.ensures.value ∙ ap (λ (s : HallView). s.workers) c.self.view_is in
     (recall-done c.args.self.now.workers c.loop-worker.worker _ _ c.is_due.ensures.some c.is_due.ensures.bound c.is_due.ensures.legal (omega (arith, c.loop-worker-test.false, same)) c.loop-worker.invariant.grown c.loop-worker.invariant.home).call
 
 pub returns-clause-home : goal.returns-clause-home
 returns-clause-home c =
-    let same : c.workers-worker-end.result ≡ c.args.self.now.workers = c.workers-worker-end.ensures.value ∙ ap (λ (s : Seen). s.workers) c.self.view_is in
+    let same : c.workers-worker-end.result ≡ c.args.self.now.workers = c.workers-worker-end.ensures.value ∙ ap (λ (s : HallView). s.workers) c.self.view_is in
     (recall-done c.args.self.now.workers c.loop-worker.worker _ _ c.is_due.ensures.some c.is_due.ensures.bound c.is_due.ensures.legal (omega (arith, c.loop-worker-test.false, same)) c.loop-worker.invariant.grown c.loop-worker.invariant.home).home

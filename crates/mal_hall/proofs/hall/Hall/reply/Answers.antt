@@ -1,10 +1,10 @@
 use Rattle.std.proofs.Common.{◌≡◌, ℕ, List, [], Option, subst, sym, refl, arith, append-nil, Some, None, Ok, Err, MatchOption}
-use Rattle.spec_job.specs.Solo.{Solo}
-use Rattle.spec_job.specs.Titled.{Key}
+use Rattle.spec_job.specs.SoloMachine.{SoloMachine}
+use Rattle.spec_job.specs.KeyedJob.{Key}
 use Rattle.spec_job.specs.Replies.{reply}
 use Rattle.std.specs.declared.alloc.Global.{Global}
 use Rattle.std.specs.declared.vec.Vec.{Vec}
-use Rattle.spec_job.specs.Titled.{Titled}
+use Rattle.spec_job.specs.KeyedJob.{KeyedJob}
 use Rattle.spec_hall.specs.declared.fault.ReplyFault.TheVariants.{NoJob, OutOfMemory}
 use Rattle.spec_hall.specs.Calls.{IsAsking}
 use Rattle.spec_hall.specs.Dressed.{keyed}
@@ -16,7 +16,7 @@ use Rattle.mal_hall.proofs.HallLemmas.{placed, placed-below, sits, hall-absent, 
 use Rattle.mal_hall.proofs.hall.Hall.reply.Goals as goal
 
 -- a text that is the reply of the job's machine
-asked : (past : List Event) (k : Key) (r : ℕ) (o : Option (Vec ℕ Global)) (t : Titled) → job_of k (states past) ≡ Some t → MatchOption o (reply k r t.state ≡ None) (λ text. reply k r t.state ≡ Some text.items) → IsAsking past k r (replied (Ok o)) []
+asked : (past : List Event) (k : Key) (r : ℕ) (o : Option (Vec ℕ Global)) (t : KeyedJob) → job_of k (states past) ≡ Some t → MatchOption o (reply k r t.state ≡ None) (λ text. reply k r t.state ≡ Some text.items) → IsAsking past k r (replied (Ok o)) []
 asked past k r (Some text) t job told = (t, job, sym told, refl)
 asked past k r None t job told = (t, job, sym told, refl)
 
@@ -74,7 +74,7 @@ pub returns-in-Ok-clause-alone : goal.returns-in-Ok-clause-alone
 returns-in-Ok-clause-alone c = λ other same.
     let here = sits _ _ _ _ _ _ c.deref.ensures.value c.place_of.ensures c.in-Some.is c.index.ensures in
     let found = hall-found _ _ _ _ c.self.invariant here in
-    found-alone _ _ _ (λ (k : Key) (state : Solo). MatchOption c.in-Ok.text (reply k c.args.r state ≡ None) (λ text. reply k c.args.r state ≡ Some text.items)) found (rw c.job.ensures at c.in-Ok.ensures) other (rw (← c.self.view_is) at same)
+    found-alone _ _ _ (λ (k : Key) (state : SoloMachine). MatchOption c.in-Ok.text (reply k c.args.r state ≡ None) (λ text. reply k c.args.r state ≡ Some text.items)) found (rw c.job.ensures at c.in-Ok.ensures) other (rw (← c.self.view_is) at same)
 
 pub returns-in_default-clause-call : goal.returns-in_default-clause-call
 returns-in_default-clause-call c = record {

@@ -1,7 +1,7 @@
 use Rattle.std.proofs.Common.{ap, sym, ◌∙◌, arith}
 use Rattle.spec_hall.specs.Dressed.{keyed}
 use Rattle.spec_hall.specs.States.{states}
-use Rattle.mal_hall.specs.Seen.{events_of}
+use Rattle.mal_hall.specs.HallView.{events_of}
 use Rattle.mal_hall.proofs.HallLemmas.{hall-absent, hall-found, placed, placed-below, sits}
 use Rattle.mal_hall.proofs.PhaseLemmas.{among-found, among-none}
 use Rattle.mal_hall.proofs.hall.Hall.revision.Goals as goal

@@ -1,7 +1,7 @@
 use Rattle.std.proofs.Common.{List, ◌+◌, ◌-◌, slice_set, Some, ap, refl, sym, ◌∙◌, arith}
 use Rattle.spec_hall.specs.Seats.{Seat}
 use Rattle.spec_hall.specs.Spots.{Spot}
-use Rattle.mal_hall.specs.Seen.{events_of}
+use Rattle.mal_hall.specs.HallView.{events_of}
 use Rattle.mal_hall.proofs.KeptLemmas.{set-same}
 use Rattle.mal_hall.proofs.PhaseLemmas.{can-start, phase-start, spot-same, within-key}
 use Rattle.mal_hall.proofs.hall.Hall.start_at.Goals as goal

@@ -1,7 +1,7 @@
 use Rattle.std.proofs.Common.{List, Option, ℕ, sym, ◌∙◌, ap}
 use Rattle.std.specs.Option.{option_or}
-use Rattle.mal_base.specs.Held.{Line}
-use Rattle.spec_job.specs.Solo.{first_empty}
+use Rattle.mal_base.specs.NumberedClause.{Line}
+use Rattle.spec_job.specs.SoloMachine.{first_empty}
 use Rattle.mal_job.proofs.LogLemmas.{first-append}
 use Rattle.mal_job.proofs.derivation.Derivation.append.Goals as goal
 

@@ -4,7 +4,7 @@ use Rattle.mal_base.specs.declared.verdict.Outcome.{Outcome}
 use Rattle.mal_base.specs.declared.verdict.Outcome.TheVariants.{Ran}
 use Rattle.spec_job.specs.Journaled.{and_entries}
 use Rattle.spec_job.specs.Leased.{HasRun, Tells}
-use Rattle.spec_job.specs.Solo.{Lease, Finished}
+use Rattle.spec_job.specs.SoloMachine.{Lease, Finished}
 use Rattle.spec_job.specs.Viewed.{JobView, and_own}
 use Rattle.mal_job.specs.Placing.{IsBackAt, placed, adds_of}
 use Rattle.mal_job.specs.Viewed.{Parts}

@@ -1,7 +1,7 @@
 use Rattle.std.proofs.Common.{◌≡◌, true, sym, ◌∙◌, ap}
 use Rattle.std.specs.Prelude.{is_some, Option}
 use Rattle.mal_base.specs.declared.verdict.Outcome.TheVariants.{Starved}
-use Rattle.spec_job.specs.Solo.{Lease, Finished}
+use Rattle.spec_job.specs.SoloMachine.{Lease, Finished}
 use Rattle.spec_job.specs.Viewed.{JobView, and_own}
 use Rattle.mal_job.specs.Placing.{IsBackAt, placed}
 use Rattle.mal_job.specs.Viewed.{Parts}

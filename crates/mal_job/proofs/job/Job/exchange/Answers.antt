@@ -2,11 +2,11 @@ use Rattle.std.proofs.Common.{◌≡◌, ◌≤◌, true, List, [], ◌∷◌, �
 use Rattle.std.specs.Prelude.{All, OnOk}
 use Rattle.spec_exchange.specs.Exchange.{broadcast}
 use Rattle.mal_base.specs.Clauses.{rises}
-use Rattle.mal_base.specs.Held.{Line}
-use Rattle.spec_job.specs.Solo.{Exchanged, exports_from}
+use Rattle.mal_base.specs.NumberedClause.{Line}
+use Rattle.spec_job.specs.SoloMachine.{Exchanged, exports_from}
 use Rattle.spec_job.specs.Viewed.{JobView, and_own}
 use Rattle.mal_job.specs.Exports.{marked}
-use Rattle.mal_job.specs.Kept.{IsKept}
+use Rattle.mal_job.specs.JobInvariant.{JobInvariant}
 use Rattle.mal_job.specs.Placing.{IsTree}
 use Rattle.mal_job.specs.Viewed.{TreeView, Parts, places_of, viewed}
 use Rattle.mal_job.proofs.KeptLemmas.{own-rising}
@@ -31,16 +31,16 @@ pub invariant_of-self-2 : goal.invariant_of-self-2
 invariant_of-self-2 c =
     let q : Parts = record { asked = c.self.inside.questions; tree = c.self.inside.tree; log = c.self.inside.log } in
     let g : Parts = record { asked = c.self.inside.questions; tree = c.grow.new.self; log = c.self.inside.log } in
-    let k : IsKept g = grown-kept q c.grow.new.self c.self.inside.log c.in_ok-grow.ensures.places c.in_ok-grow.ensures.rest c.in_ok-grow.ensures.kept refl (omega arith) c.self.invariant in
+    let k : JobInvariant g = grown-kept q c.grow.new.self c.self.inside.log c.in_ok-grow.ensures.places c.in_ok-grow.ensures.rest c.in_ok-grow.ensures.kept refl (omega arith) c.self.invariant in
     let wide : g.tree.volume ≤ length g.tree.places = omega (arith, ap (λ (t : TreeView). t.volume) c.in_ok-grow.ensures.rest, c.in_ok-grow.ensures.enough, c.volume-volume.ensures.value) in
     let ok : OnOk c.exchange.result (c.exchange.new.self ≡ told g k wide) = then-ok c.exchange.result c.exchange.ensures.ok (λ e. e ∙ ap (λ (ls : List Line). let t : TreeView = record g.tree { broadcasts = g.tree.broadcasts ++ broadcast (exports_from g.tree.volume ls 0 (places_of g.tree.places)) ∷ []; places = marked g.tree.volume (length ls) g.tree.places; ran = 0 } in t) c.log.ensures) in
-    on-both c.exchange.result (λ (t : TreeView). IsTree t → IsKept (record g { tree = t })) c.exchange.new.self (told g k wide) c.grow.new.self ok c.exchange.ensures.err (exchange-kept g k wide) (λ h. k) c.exchange.ensures.kept
+    on-both c.exchange.result (λ (t : TreeView). IsTree t → JobInvariant (record g { tree = t })) c.exchange.new.self (told g k wide) c.grow.new.self ok c.exchange.ensures.err (exchange-kept g k wide) (λ h. k) c.exchange.ensures.kept
 
 pub returns-clause-ok : goal.returns-clause-ok
 returns-clause-ok c =
     let q : Parts = record { asked = c.self.inside.questions; tree = c.self.inside.tree; log = c.self.inside.log } in
     let g : Parts = record { asked = c.self.inside.questions; tree = c.grow.new.self; log = c.self.inside.log } in
-    let k : IsKept g = grown-kept q c.grow.new.self c.self.inside.log c.in_ok-grow.ensures.places c.in_ok-grow.ensures.rest c.in_ok-grow.ensures.kept refl (omega arith) c.self.invariant in
+    let k : JobInvariant g = grown-kept q c.grow.new.self c.self.inside.log c.in_ok-grow.ensures.places c.in_ok-grow.ensures.rest c.in_ok-grow.ensures.kept refl (omega arith) c.self.invariant in
     let wide : g.tree.volume ≤ length g.tree.places = omega (arith, ap (λ (t : TreeView). t.volume) c.in_ok-grow.ensures.rest, c.in_ok-grow.ensures.enough, c.volume-volume.ensures.value) in
     let same : viewed c.self.inside.tenant c.self.inside.name g ≡ c.args.self.now = grown-view q c.grow.new.self c.self.inside.log c.in_ok-grow.ensures.places c.in_ok-grow.ensures.rest c.in_ok-grow.ensures.kept refl (omega arith) c.self.inside.tenant c.self.inside.name ∙ c.self.view_is in
     let ok : OnOk c.exchange.result (c.exchange.new.self ≡ told g k wide) = then-ok c.exchange.result c.exchange.ensures.ok (λ e. e ∙ ap (λ (ls : List Line). let t : TreeView = record g.tree { broadcasts = g.tree.broadcasts ++ broadcast (exports_from g.tree.volume ls 0 (places_of g.tree.places)) ∷ []; places = marked g.tree.volume (length ls) g.tree.places; ran = 0 } in t) c.log.ensures) in

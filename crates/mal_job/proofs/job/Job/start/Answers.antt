@@ -3,10 +3,10 @@ use Rattle.std.specs.Prelude.{OnOk, IfOk}
 use Rattle.mal_base.specs.declared.answer.Answer.{Answer}
 use Rattle.spec_job.specs.Counts.{starts_out}
 use Rattle.spec_job.specs.Journal.{loads_in, imports_in}
-use Rattle.spec_job.specs.Solo.{Solo, startable}
+use Rattle.spec_job.specs.SoloMachine.{SoloMachine, startable}
 use Rattle.spec_job.specs.Viewed.{JobView, IsLeaseOf, and_start}
 use Rattle.mal_suspend.specs.Starting.{shared_loads, start_entries}
-use Rattle.mal_job.specs.Kept.{IsKept}
+use Rattle.mal_job.specs.JobInvariant.{JobInvariant}
 use Rattle.mal_job.specs.Loads.{lacking}
 use Rattle.mal_job.specs.Placing.{IsTree, placed, with_placed, sent}
 use Rattle.mal_job.specs.Viewed.{TreeView, Parts, places_of, state_of, viewed}
@@ -38,8 +38,8 @@ pub missing_loads-requires-clause-early : goal.missing_loads-requires-clause-ear
 missing_loads-requires-clause-early c =
     let q : Parts = record { asked = c.self.inside.questions; tree = c.self.inside.tree; log = c.self.inside.log } in
     let g : Parts = record { asked = c.self.inside.questions; tree = c.grow.new.self; log = c.reserve.new.self } in
-    let k : IsKept g = grown-kept q c.grow.new.self c.reserve.new.self c.in_ok-grow.ensures.places c.in_ok-grow.ensures.rest c.in_ok-grow.ensures.kept c.in_ok-reserve.ensures.lines c.in_ok-reserve.ensures.more c.self.invariant in
-    let may : startable (state_of g) c.args.index ≡ true = subst (λ (s : Solo). startable s c.args.index ≡ true) (sym (grown-state q c.grow.new.self c.reserve.new.self c.in_ok-grow.ensures.places c.in_ok-grow.ensures.rest c.in_ok-grow.ensures.kept c.in_ok-reserve.ensures.lines c.in_ok-reserve.ensures.more)) (rw (← c.self.view_is) at c.requires) in
+    let k : JobInvariant g = grown-kept q c.grow.new.self c.reserve.new.self c.in_ok-grow.ensures.places c.in_ok-grow.ensures.rest c.in_ok-grow.ensures.kept c.in_ok-reserve.ensures.lines c.in_ok-reserve.ensures.more c.self.invariant in
+    let may : startable (state_of g) c.args.index ≡ true = subst (λ (s : SoloMachine). startable s c.args.index ≡ true) (sym (grown-state q c.grow.new.self c.reserve.new.self c.in_ok-grow.ensures.places c.in_ok-grow.ensures.rest c.in_ok-grow.ensures.kept c.in_ok-reserve.ensures.lines c.in_ok-reserve.ensures.more)) (rw (← c.self.view_is) at c.requires) in
     let low : c.args.index < length c.grow.new.self.places = omega (arith, c.in_ok-grow.ensures.enough) in
     omega (arith, c.loads.ensures, early g c.args.index k may low)
 
@@ -57,8 +57,8 @@ pub start-requires-clause-home : goal.start-requires-clause-home
 start-requires-clause-home c =
     let q : Parts = record { asked = c.self.inside.questions; tree = c.self.inside.tree; log = c.self.inside.log } in
     let g : Parts = record { asked = c.self.inside.questions; tree = c.grow.new.self; log = c.reserve.new.self } in
-    let k : IsKept g = grown-kept q c.grow.new.self c.reserve.new.self c.in_ok-grow.ensures.places c.in_ok-grow.ensures.rest c.in_ok-grow.ensures.kept c.in_ok-reserve.ensures.lines c.in_ok-reserve.ensures.more c.self.invariant in
-    let may : startable (state_of g) c.args.index ≡ true = subst (λ (s : Solo). startable s c.args.index ≡ true) (sym (grown-state q c.grow.new.self c.reserve.new.self c.in_ok-grow.ensures.places c.in_ok-grow.ensures.rest c.in_ok-grow.ensures.kept c.in_ok-reserve.ensures.lines c.in_ok-reserve.ensures.more)) (rw (← c.self.view_is) at c.requires) in
+    let k : JobInvariant g = grown-kept q c.grow.new.self c.reserve.new.self c.in_ok-grow.ensures.places c.in_ok-grow.ensures.rest c.in_ok-grow.ensures.kept c.in_ok-reserve.ensures.lines c.in_ok-reserve.ensures.more c.self.invariant in
+    let may : startable (state_of g) c.args.index ≡ true = subst (λ (s : SoloMachine). startable s c.args.index ≡ true) (sym (grown-state q c.grow.new.self c.reserve.new.self c.in_ok-grow.ensures.places c.in_ok-grow.ensures.rest c.in_ok-grow.ensures.kept c.in_ok-reserve.ensures.lines c.in_ok-reserve.ensures.more)) (rw (← c.self.view_is) at c.requires) in
     let low : c.args.index < length c.grow.new.self.places = omega (arith, c.in_ok-grow.ensures.enough) in
     home g c.args.index k may low
 
@@ -66,8 +66,8 @@ pub start-requires-clause-replays : goal.start-requires-clause-replays
 start-requires-clause-replays c =
     let q : Parts = record { asked = c.self.inside.questions; tree = c.self.inside.tree; log = c.self.inside.log } in
     let g : Parts = record { asked = c.self.inside.questions; tree = c.grow.new.self; log = c.reserve.new.self } in
-    let k : IsKept g = grown-kept q c.grow.new.self c.reserve.new.self c.in_ok-grow.ensures.places c.in_ok-grow.ensures.rest c.in_ok-grow.ensures.kept c.in_ok-reserve.ensures.lines c.in_ok-reserve.ensures.more c.self.invariant in
-    let may : startable (state_of g) c.args.index ≡ true = subst (λ (s : Solo). startable s c.args.index ≡ true) (sym (grown-state q c.grow.new.self c.reserve.new.self c.in_ok-grow.ensures.places c.in_ok-grow.ensures.rest c.in_ok-grow.ensures.kept c.in_ok-reserve.ensures.lines c.in_ok-reserve.ensures.more)) (rw (← c.self.view_is) at c.requires) in
+    let k : JobInvariant g = grown-kept q c.grow.new.self c.reserve.new.self c.in_ok-grow.ensures.places c.in_ok-grow.ensures.rest c.in_ok-grow.ensures.kept c.in_ok-reserve.ensures.lines c.in_ok-reserve.ensures.more c.self.invariant in
+    let may : startable (state_of g) c.args.index ≡ true = subst (λ (s : SoloMachine). startable s c.args.index ≡ true) (sym (grown-state q c.grow.new.self c.reserve.new.self c.in_ok-grow.ensures.places c.in_ok-grow.ensures.rest c.in_ok-grow.ensures.kept c.in_ok-reserve.ensures.lines c.in_ok-reserve.ensures.more)) (rw (← c.self.view_is) at c.requires) in
     let low : c.args.index < length c.grow.new.self.places = omega (arith, c.in_ok-grow.ensures.enough) in
     let loads : shared_loads c.in_ok-loads.loads.items ≡ lacking (loads_in (placed g.tree c.args.index).journal.entries) g.asked = c.in_ok-loads.ensures ∙ ap (λ (n : ℕ). lacking n g.asked) c.loads.ensures in
     replays g c.args.index k may low (shared_loads c.in_ok-loads.loads.items) loads
@@ -76,22 +76,22 @@ pub invariant_of-self-2 : goal.invariant_of-self-2
 invariant_of-self-2 c =
     let q : Parts = record { asked = c.self.inside.questions; tree = c.self.inside.tree; log = c.self.inside.log } in
     let g : Parts = record { asked = c.self.inside.questions; tree = c.grow.new.self; log = c.reserve.new.self } in
-    let k : IsKept g = grown-kept q c.grow.new.self c.reserve.new.self c.in_ok-grow.ensures.places c.in_ok-grow.ensures.rest c.in_ok-grow.ensures.kept c.in_ok-reserve.ensures.lines c.in_ok-reserve.ensures.more c.self.invariant in
-    let may : startable (state_of g) c.args.index ≡ true = subst (λ (s : Solo). startable s c.args.index ≡ true) (sym (grown-state q c.grow.new.self c.reserve.new.self c.in_ok-grow.ensures.places c.in_ok-grow.ensures.rest c.in_ok-grow.ensures.kept c.in_ok-reserve.ensures.lines c.in_ok-reserve.ensures.more)) (rw (← c.self.view_is) at c.requires) in
+    let k : JobInvariant g = grown-kept q c.grow.new.self c.reserve.new.self c.in_ok-grow.ensures.places c.in_ok-grow.ensures.rest c.in_ok-grow.ensures.kept c.in_ok-reserve.ensures.lines c.in_ok-reserve.ensures.more c.self.invariant in
+    let may : startable (state_of g) c.args.index ≡ true = subst (λ (s : SoloMachine). startable s c.args.index ≡ true) (sym (grown-state q c.grow.new.self c.reserve.new.self c.in_ok-grow.ensures.places c.in_ok-grow.ensures.rest c.in_ok-grow.ensures.kept c.in_ok-reserve.ensures.lines c.in_ok-reserve.ensures.more)) (rw (← c.self.view_is) at c.requires) in
     let low : c.args.index < length c.grow.new.self.places = omega (arith, c.in_ok-grow.ensures.enough) in
     let loads : shared_loads c.in_ok-loads.loads.items ≡ lacking (loads_in (placed g.tree c.args.index).journal.entries) g.asked = c.in_ok-loads.ensures ∙ ap (λ (n : ℕ). lacking n g.asked) c.loads.ensures in
     let current : length c.answers-current.result.now ≡ length c.self.inside.questions.answers = ap (λ (xs : List Answer). length xs) c.answers-current.ensures.value in
     let gone_tree : TreeView = gone g c.args.index k may low c.args.start (shared_loads c.in_ok-loads.loads.items) loads in
     let ok : OnOk c.start.result (c.start.new.self ≡ gone_tree) = then-ok c.start.result c.start.ensures.ok (λ e. e ∙ ap (λ (n : ℕ). with_placed g.tree c.args.index (sent n (start_entries (shared_loads c.in_ok-loads.loads.items) (drop (imports_in (placed g.tree c.args.index).journal.entries) g.tree.broadcasts)) c.args.start (placed g.tree c.args.index))) current) in
     let room : starts_out (places_of g.tree.places) + 1 ≤ g.log.chunk_room = omega (arith, c.starts_out.ensures.value, c.in_ok-reserve.ensures.room) in
-    on-both c.start.result (λ (t : TreeView). IsTree t → IsKept (record g { tree = t })) c.start.new.self gone_tree c.grow.new.self ok c.start.ensures.err (λ h. start-kept g c.args.index k may low c.args.start (shared_loads c.in_ok-loads.loads.items) loads h room) (λ h. k) c.start.ensures.kept
+    on-both c.start.result (λ (t : TreeView). IsTree t → JobInvariant (record g { tree = t })) c.start.new.self gone_tree c.grow.new.self ok c.start.ensures.err (λ h. start-kept g c.args.index k may low c.args.start (shared_loads c.in_ok-loads.loads.items) loads h room) (λ h. k) c.start.ensures.kept
 
 pub returns-clause-ok : goal.returns-clause-ok
 returns-clause-ok c =
     let q : Parts = record { asked = c.self.inside.questions; tree = c.self.inside.tree; log = c.self.inside.log } in
     let g : Parts = record { asked = c.self.inside.questions; tree = c.grow.new.self; log = c.reserve.new.self } in
-    let k : IsKept g = grown-kept q c.grow.new.self c.reserve.new.self c.in_ok-grow.ensures.places c.in_ok-grow.ensures.rest c.in_ok-grow.ensures.kept c.in_ok-reserve.ensures.lines c.in_ok-reserve.ensures.more c.self.invariant in
-    let may : startable (state_of g) c.args.index ≡ true = subst (λ (s : Solo). startable s c.args.index ≡ true) (sym (grown-state q c.grow.new.self c.reserve.new.self c.in_ok-grow.ensures.places c.in_ok-grow.ensures.rest c.in_ok-grow.ensures.kept c.in_ok-reserve.ensures.lines c.in_ok-reserve.ensures.more)) (rw (← c.self.view_is) at c.requires) in
+    let k : JobInvariant g = grown-kept q c.grow.new.self c.reserve.new.self c.in_ok-grow.ensures.places c.in_ok-grow.ensures.rest c.in_ok-grow.ensures.kept c.in_ok-reserve.ensures.lines c.in_ok-reserve.ensures.more c.self.invariant in
+    let may : startable (state_of g) c.args.index ≡ true = subst (λ (s : SoloMachine). startable s c.args.index ≡ true) (sym (grown-state q c.grow.new.self c.reserve.new.self c.in_ok-grow.ensures.places c.in_ok-grow.ensures.rest c.in_ok-grow.ensures.kept c.in_ok-reserve.ensures.lines c.in_ok-reserve.ensures.more)) (rw (← c.self.view_is) at c.requires) in
     let low : c.args.index < length c.grow.new.self.places = omega (arith, c.in_ok-grow.ensures.enough) in
     let loads : shared_loads c.in_ok-loads.loads.items ≡ lacking (loads_in (placed g.tree c.args.index).journal.entries) g.asked = c.in_ok-loads.ensures ∙ ap (λ (n : ℕ). lacking n g.asked) c.loads.ensures in
     let current : length c.answers-current.result.now ≡ length c.self.inside.questions.answers = ap (λ (xs : List Answer). length xs) c.answers-current.ensures.value in
@@ -104,8 +104,8 @@ pub returns-clause-lease : goal.returns-clause-lease
 returns-clause-lease c =
     let q : Parts = record { asked = c.self.inside.questions; tree = c.self.inside.tree; log = c.self.inside.log } in
     let g : Parts = record { asked = c.self.inside.questions; tree = c.grow.new.self; log = c.reserve.new.self } in
-    let k : IsKept g = grown-kept q c.grow.new.self c.reserve.new.self c.in_ok-grow.ensures.places c.in_ok-grow.ensures.rest c.in_ok-grow.ensures.kept c.in_ok-reserve.ensures.lines c.in_ok-reserve.ensures.more c.self.invariant in
-    let may : startable (state_of g) c.args.index ≡ true = subst (λ (s : Solo). startable s c.args.index ≡ true) (sym (grown-state q c.grow.new.self c.reserve.new.self c.in_ok-grow.ensures.places c.in_ok-grow.ensures.rest c.in_ok-grow.ensures.kept c.in_ok-reserve.ensures.lines c.in_ok-reserve.ensures.more)) (rw (← c.self.view_is) at c.requires) in
+    let k : JobInvariant g = grown-kept q c.grow.new.self c.reserve.new.self c.in_ok-grow.ensures.places c.in_ok-grow.ensures.rest c.in_ok-grow.ensures.kept c.in_ok-reserve.ensures.lines c.in_ok-reserve.ensures.more c.self.invariant in
+    let may : startable (state_of g) c.args.index ≡ true = subst (λ (s : SoloMachine). startable s c.args.index ≡ true) (sym (grown-state q c.grow.new.self c.reserve.new.self c.in_ok-grow.ensures.places c.in_ok-grow.ensures.rest c.in_ok-grow.ensures.kept c.in_ok-reserve.ensures.lines c.in_ok-reserve.ensures.more)) (rw (← c.self.view_is) at c.requires) in
     let low : c.args.index < length c.grow.new.self.places = omega (arith, c.in_ok-grow.ensures.enough) in
     let loads : shared_loads c.in_ok-loads.loads.items ≡ lacking (loads_in (placed g.tree c.args.index).journal.entries) g.asked = c.in_ok-loads.ensures ∙ ap (λ (n : ℕ). lacking n g.asked) c.loads.ensures in
     let current : length c.answers-current.result.now ≡ length c.self.inside.questions.answers = ap (λ (xs : List Answer). length xs) c.answers-current.ensures.value in
@@ -119,6 +119,6 @@ pub returns-clause-err : goal.returns-clause-err
 returns-clause-err c =
     let q : Parts = record { asked = c.self.inside.questions; tree = c.self.inside.tree; log = c.self.inside.log } in
     let g : Parts = record { asked = c.self.inside.questions; tree = c.grow.new.self; log = c.reserve.new.self } in
-    let k : IsKept g = grown-kept q c.grow.new.self c.reserve.new.self c.in_ok-grow.ensures.places c.in_ok-grow.ensures.rest c.in_ok-grow.ensures.kept c.in_ok-reserve.ensures.lines c.in_ok-reserve.ensures.more c.self.invariant in
+    let k : JobInvariant g = grown-kept q c.grow.new.self c.reserve.new.self c.in_ok-grow.ensures.places c.in_ok-grow.ensures.rest c.in_ok-grow.ensures.kept c.in_ok-reserve.ensures.lines c.in_ok-reserve.ensures.more c.self.invariant in
     let same : viewed c.self.inside.tenant c.self.inside.name g ≡ c.args.self.now = grown-view q c.grow.new.self c.reserve.new.self c.in_ok-grow.ensures.places c.in_ok-grow.ensures.rest c.in_ok-grow.ensures.kept c.in_ok-reserve.ensures.lines c.in_ok-reserve.ensures.more c.self.inside.tenant c.self.inside.name ∙ c.self.view_is in
     then-err c.start.result c.start.ensures.err (λ e. ap (λ (t : TreeView). viewed c.self.inside.tenant c.self.inside.name (record g { tree = t })) e ∙ same)

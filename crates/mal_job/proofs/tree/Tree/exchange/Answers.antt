@@ -1,6 +1,6 @@
 use Rattle.std.proofs.Common.{◌≡◌, ◌≤◌, List, take, [], ◌∷◌, ◌++◌, length, sym, ◌∙◌, ap, arith}
 use Rattle.std.specs.Arc.{arc_value}
-use Rattle.mal_base.specs.Held.{Held}
+use Rattle.mal_base.specs.NumberedClause.{NumberedClause}
 use Rattle.spec_exchange.specs.Exchange.{broadcast, entries_of}
 use Rattle.mal_job.specs.Exports.{unions_from}
 use Rattle.mal_job.specs.Viewed.{PlaceView, TreeView, shared}

@@ -1,5 +1,5 @@
 use Rattle.std.proofs.Common.{◌≡◌, ◌≤◌, count_by, take}
-use Rattle.spec_job.specs.Solo.{is_for}
+use Rattle.spec_job.specs.SoloMachine.{is_for}
 use Rattle.mal_job.proofs.tree.Tree.out_count.Given as goal
 
 abbrev pub invariant-loop-place : goal.invariant-loop-place

@@ -2,7 +2,7 @@ use Rattle.std.proofs.Common.{◌≡◌, ◌≤◌, ◌-◌, ◌↔◌, ℕ, [],
 use Rattle.std.specs.List.Sorted.{IsPermutation}
 use Rattle.mal_base.specs.Literals.{negated}
 use Rattle.spec_node.specs.Value.{is_false}
-use Rattle.mal_watch.specs.Chains.{Has, IsAt}
+use Rattle.mal_watch.specs.WatchLists.{Has, IsAt}
 use Rattle.mal_watch.specs.Going.{Goes}
 use Rattle.mal_watch.specs.Finding.{found_in}
 use Rattle.mal_watch.proofs.TurnLemmas.{turns-is}

@@ -1,0 +1,133 @@
+//! What a node takes of the clauses that it is told: those whose literals no clause held has.
+
+ghost use Rattle.std.specs.Prelude.{◌≡◌, ℕ, ◌||◌, not, List, filter, IfOk, OnOk};
+ghost use Rattle.mal_base.specs.NumberedClause.{NumberedClause};
+ghost use Rattle.mal_filter.specs.Noted.{is_noted};
+ghost use Rattle.spec_node.specs.Import.{has_lits};
+ghost use Rattle.spec_node.specs.State.{Node};
+ghost use Rattle.mal_cdcl.specs.Ready.{posted, readied};
+ghost use Rattle.mal_cdcl.specs.Importing.{Sees, lent, picked, is_posted_in, is_loaded_in};
+
+use mal_base::Clause;
+use mal_buffer::{Buffer, Entry};
+use mal_filter::ClauseSet;
+use mal_revision::Revision;
+use mal_trail::Listed;
+use std::alloc::{AllocError, Global};
+use std::marker::Model;
+
+/// The clauses that are taken of one import. Contracts see the list of them.
+#[derive(Drop)]
+pub struct Pick {
+    entries: Vec<Entry>,
+}
+
+impl Model for Pick {
+    ghost use Rattle.std.specs.Prelude.{List};
+    ghost use Rattle.mal_base.specs.NumberedClause.{NumberedClause};
+
+    ghost Value = { List NumberedClause };
+
+    ghost view = { λ p. p.entries.items };
+}
+
+impl Pick {
+    /// The clauses that are taken.
+    pub fn entries(&self) -> &[Entry]
+        ensures { result.now ≡ self.now }
+    {
+        self.entries.as_slice()
+    }
+
+    /// Those of the entries that a filter lets pass.
+    fn of(alloc: Global, seen: &ClauseSet, entries: &[Entry]) -> Result<Pick, AllocError>
+        ensures { IfOk result (λ p. p ≡ filter (λ c. not (is_noted c.lits seen.now)) entries.now) }
+    {
+        let mut taken = Vec::new(alloc);
+        for entry in entries {
+            if seen.passes_lits(entry.lits()) {
+                taken.push(entry.copy(alloc)?)?;
+            }
+        }
+        Ok(Pick { entries: taken })
+    }
+}
+
+/// What a node with this engine takes of each import, after these loads.
+pub fn picks_of<E: Listed>(
+    alloc: Global,
+    engine: &E,
+    loads: &[(&Revision, u32)],
+    imports: &[&Buffer],
+) -> Result<Vec<Pick>, AllocError>
+    ensures { IfOk result (λ v. (n : Node) → n.clauses ≡ E.clauses engine.now → v.items ≡ picked (lent imports.now) (readied (posted loads.now) n).clauses) }
+{
+    if imports.is_empty() {
+        return Ok(Vec::new(alloc));
+    }
+    let mut seen = ClauseSet::new(alloc);
+    note_held(&mut seen, engine)?;
+    note_loads(&mut seen, loads)?;
+    picks_past(alloc, &mut seen, imports)
+}
+
+/// What is taken of each import by a node whose clauses a filter has seen.
+fn picks_past(
+    alloc: Global,
+    seen: &mut ClauseSet,
+    imports: &[&Buffer],
+) -> Result<Vec<Pick>, AllocError>
+    ensures { IfOk result (λ v. (clauses : List NumberedClause) → Sees seen.old clauses → v.items ≡ picked (lent imports.now) clauses) }
+{
+    let mut picks = Vec::new(alloc);
+    for told in imports {
+        picks.push(Pick::of(alloc, seen, told.entries())?)?;
+        note_entries(seen, told.entries())?;
+    }
+    Ok(picks)
+}
+
+/// Notes entries.
+fn note_entries(seen: &mut ClauseSet, entries: &[Entry]) -> Result<(), AllocError>
+    ensures { OnOk result ((lits : List ℕ) → is_noted lits seen.new ≡ (has_lits lits entries.now || is_noted lits seen.old)) }
+{
+    for entry in entries {
+        seen.note_lits(entry.lits())?;
+    }
+    Ok(())
+}
+
+/// Notes the clauses of an engine.
+fn note_held<E: Listed>(seen: &mut ClauseSet, engine: &E) -> Result<(), AllocError>
+    ensures { OnOk result ((lits : List ℕ) → is_noted lits seen.new ≡ (has_lits lits (E.clauses engine.now) || is_noted lits seen.old)) }
+{
+    for place in 0..engine.count() {
+        let (_id, lits) = engine.clause_at(place);
+        seen.note_lits(lits)?;
+    }
+    Ok(())
+}
+
+/// Notes the clauses of loads.
+fn note_loads(seen: &mut ClauseSet, loads: &[(&Revision, u32)]) -> Result<(), AllocError>
+    ensures { OnOk result ((lits : List ℕ) → is_noted lits seen.new ≡ (is_loaded_in lits (posted loads.now) || is_noted lits seen.old)) }
+{
+    for load in loads {
+        let (revision, _first) = load;
+        note_posted(seen, revision.clauses())?;
+    }
+    Ok(())
+}
+
+/// Notes the clauses of a revision.
+fn note_posted(seen: &mut ClauseSet, clauses: &[Option<Clause>]) -> Result<(), AllocError>
+    ensures { OnOk result ((lits : List ℕ) → is_noted lits seen.new ≡ (is_posted_in lits clauses.now || is_noted lits seen.old)) }
+{
+    for clause in clauses {
+        match clause {
+            None => {}
+            Some(clause) => seen.note(clause)?,
+        }
+    }
+    Ok(())
+}

@@ -1,0 +1,233 @@
+//! A place of a job's tree: a node at home, gone, or out.
+
+ghost use Rattle.std.specs.Prelude.{◌≡◌, ◌↔◌, ◌≤◌, IsTrue, is_some, true, None, IfOk, OnOk, OnErr};
+ghost use Rattle.std.specs.Option.{option_map};
+ghost use Rattle.spec_job.specs.Journaled.{replayed, started, and_entries};
+ghost use Rattle.mal_suspend.specs.Kept.{journal_of};
+ghost use Rattle.mal_suspend.specs.Replaying.{MayAllReplay};
+ghost use Rattle.mal_suspend.specs.Starting.{shared_loads, shared_tolds, start_entries};
+ghost use Rattle.mal_job.specs.Placing.{fresh_place, sent, ran_home, came_home, IsBackAt, IsSeatOf, adds_of};
+
+use mal_base::Outcome;
+use mal_buffer::Buffer;
+use mal_revision::Revision;
+use mal_suspend::{Done, Frozen, Journal, Kept, Lease, Suspended};
+use std::alloc::{AllocError, Global};
+use std::marker::Model;
+use std::mem;
+use std::sync::Arc;
+
+/// What stands at a place: the node with its journal; its bytes with its journal; nothing, where the node is gone, or was never started; or, where the node
+/// is out, the revision that it was started for and the journal that it has once its slice ran.
+#[derive(Drop)]
+pub enum Seat {
+    Home(Suspended),
+    Cold(Frozen),
+    Gone,
+    Out(usize, Journal),
+}
+
+/// A place of a job's tree. It keeps a journal of its node, wherever that is.
+#[derive(Drop)]
+pub struct NodeSlot {
+    journal: Journal,
+    seat: Seat,
+    starts: u64,
+    mark: usize,
+}
+
+impl Model for NodeSlot {
+    ghost use Rattle.mal_job.specs.Viewed.{PlaceView};
+    ghost use Rattle.mal_job.specs.Placing.{out_of, IsSeated};
+
+    ghost Value = { PlaceView };
+
+    ghost view = { λ p. record {
+      journal = p.journal;
+      out = out_of p.journal.entries p.seat;
+      starts = p.starts;
+      mark = p.mark;
+    } };
+
+    ghost invariant = { λ p. IsSeated p.journal p.seat };
+}
+
+impl NodeSlot {
+    /// The place of this index (0 to 63) of a job before its first start. Takes no memory.
+    pub fn fresh(alloc: Global, job: u64, index: u32) -> NodeSlot
+        requires { index ≤ 63 }
+        ensures { result ≡ fresh_place job index }
+    {
+        NodeSlot {
+            journal: Journal::new(alloc, job, index),
+            seat: Seat::Gone,
+            starts: 0,
+            mark: 0,
+        }
+    }
+
+    /// The journal of the node.
+    pub fn journal(&self) -> &Journal
+        ensures { result.now ≡ self.now.journal }
+    {
+        &self.journal
+    }
+
+    /// Whether a start is out.
+    pub fn is_out(&self) -> bool
+        ensures { result ≡ is_some self.now.out }
+    {
+        match &self.seat {
+            Seat::Home(_) => false,
+            Seat::Cold(_) => false,
+            Seat::Gone => false,
+            Seat::Out(_, _) => true,
+        }
+    }
+
+    /// The revision that the start that is out is for, counted from 0.
+    pub fn revision(&self) -> Option<usize>
+        ensures { result ≡ option_map (λ l. l.revision) self.now.out }
+    {
+        match &self.seat {
+            Seat::Home(_) => None,
+            Seat::Cold(_) => None,
+            Seat::Gone => None,
+            Seat::Out(revision, _) => Some(*revision),
+        }
+    }
+
+    /// How often the node was started.
+    pub fn starts(&self) -> u64
+        ensures { result ≡ self.now.starts }
+    {
+        self.starts
+    }
+
+    /// How long the log was at the last exchange in which the node took part.
+    pub fn mark(&self) -> usize
+        ensures { result ≡ self.now.mark }
+    {
+        self.mark
+    }
+
+    /// Moves the mark.
+    pub fn set_mark(&mut self, mark: usize)
+        ensures { self.new ≡ record self.old { mark = mark } }
+    {
+        self.mark = mark;
+    }
+
+    /// Hands the node, which is at home, out to a worker for the start of this number and for a revision: it loads these revisions,
+    /// each with the number of its first clause, then imports what was told, then runs a slice. After want of memory, and
+    /// where the count of starts would pass its end, the place is as before.
+    pub fn start(
+        &mut self,
+        revision: usize,
+        loads: Vec<(Arc<Revision>, u32)>,
+        imports: Vec<Arc<Buffer>>,
+        start: u64,
+        worker: u32,
+    ) -> Result<Lease, AllocError>
+        requires home { self.old.out ≡ None }
+        requires replays { MayAllReplay (replayed self.old.journal) (start_entries (shared_loads loads.items) (shared_tolds imports.items)) }
+        ensures ok { OnOk result (self.new ≡ sent revision (start_entries (shared_loads loads.items) (shared_tolds imports.items)) start self.old) }
+        ensures journal { IfOk result (λ l. l.journal ≡ started start self.old.journal) }
+        ensures adds { IfOk result (λ l. l.adds ≡ start_entries (shared_loads loads.items) (shared_tolds imports.items)) }
+        ensures worker { IfOk result (λ l. l.worker ≡ worker) }
+        ensures err { OnErr result (self.new ≡ self.old) }
+        ensures own_job { self.new.journal.job ≡ self.old.journal.job }
+        ensures own_index { self.new.journal.index ≡ self.old.journal.index }
+    {
+        let starts = match self.starts.checked_add(1) {
+            Some(starts) => starts,
+            None => return Err(AllocError),
+        };
+        let grown = self
+            .journal
+            .grown(start, loads.as_slice(), imports.as_slice())?;
+        let kept = self.hand_out()?;
+        match Lease::new(kept, loads, imports, start, worker) {
+            Err((kept, error)) => {
+                self.seat = seat_of(kept);
+                Err(error)
+            }
+            Ok(lease) => {
+                self.seat = Seat::Out(revision, grown);
+                self.journal.set_start(start);
+                self.starts = starts;
+                Ok(lease)
+            }
+        }
+    }
+
+    /// Takes the node out of its seat, or a copy of the journal where it is gone.
+    fn hand_out(&mut self) -> Result<Kept, AllocError>
+        requires home { self.old.out ≡ None }
+        ensures kept { IfOk result (λ k. journal_of k ≡ self.old.journal) }
+        ensures same { self.new ≡ self.old }
+    {
+        match mem::replace(&mut self.seat, Seat::Gone) {
+            Seat::Home(suspended) => Ok(Kept::Live(suspended)),
+            Seat::Cold(frozen) => Ok(Kept::Cold(frozen)),
+            Seat::Gone => Ok(Kept::Gone(self.journal.copy()?)),
+            Seat::Out(_, _) => unreachable!(),
+        }
+    }
+
+    /// Whether what came back is that of the start that is out.
+    pub fn is_back(&self, back: &Done) -> bool
+        ensures { IsTrue result ↔ IsBackAt self.now back.now }
+    {
+        match &self.seat {
+            Seat::Home(_) => false,
+            Seat::Cold(_) => false,
+            Seat::Gone => false,
+            Seat::Out(_, grown) => match back.outcome() {
+                Outcome::Ran => grown.same(back.journal()),
+                Outcome::Starved => self.journal.same(back.journal()),
+                Outcome::Lost => false,
+            },
+        }
+    }
+
+    /// The node comes back from a start that ran. Takes no memory.
+    pub fn come_back(&mut self, kept: Kept)
+        requires out { is_some self.old.out ≡ true }
+        requires back { journal_of kept ≡ and_entries self.old.journal (adds_of self.old.out) }
+        ensures { self.new ≡ ran_home self.old }
+    {
+        match mem::replace(&mut self.seat, seat_of(kept)) {
+            Seat::Home(_) => {}
+            Seat::Cold(_) => {}
+            Seat::Gone => {}
+            Seat::Out(_, grown) => self.journal = grown,
+        }
+    }
+
+    /// The node comes back from a start that came to nothing. Takes no memory.
+    pub fn come_home(&mut self, kept: Kept)
+        requires { journal_of kept ≡ self.old.journal }
+        ensures { self.new ≡ came_home self.old }
+    {
+        self.seat = seat_of(kept);
+    }
+
+    /// The node is gone: its start is lost. Takes no memory.
+    pub fn lose(&mut self)
+        ensures { self.new ≡ came_home self.old }
+    {
+        self.seat = Seat::Gone;
+    }
+}
+
+/// The seat of what is kept of a node.
+fn seat_of(kept: Kept) -> Seat
+    ensures { IsSeatOf (journal_of kept) result }
+{
+    match kept {
+        Kept::Live(suspended) => Seat::Home(suspended),
+        Kept::Cold(frozen) => Seat::Cold(frozen),
+        Kept::Gone(_) => Seat::Gone,
+    }
+}

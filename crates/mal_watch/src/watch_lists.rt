@@ -1,0 +1,146 @@
+//! Lists of nodes, linked in place: a node moves from one list to another without memory.
+
+ghost use Rattle.std.specs.Prelude.{◌≡◌, ℕ, ◌+◌, ◌≤◌, ◌<◌, List, [], ◌∷◌, ◌++◌, length, drop, slice_index, slice_set, OnOk, IfSome, MatchOption, ◌↔◌};
+ghost use Rattle.mal_watch.specs.WatchLists.{Has, AreOnce, IsAt};
+
+use crate::link::Link;
+use mal_base::Lit;
+use std::alloc::{AllocError, Global};
+use std::marker::Model;
+
+/// So many nodes there may be.
+const MOST: usize = 4_294_967_295;
+
+/// The node behind this one in its list, and the literal whose list it is.
+#[derive(Clone, Copy)]
+struct Node {
+    link: Link,
+    key: Lit,
+}
+
+/// Nodes, each in the list of its literal, but for those that were taken out of a list and not put back yet. Contracts see
+/// each node's literal, the nodes taken out, in the order in which they go back, how many lists there are (one for each
+/// code of a literal below this number), and how many nodes more there is room for.
+#[derive(Drop)]
+pub struct WatchLists {
+    heads: Vec<Link>,
+    nodes: Vec<Node>,
+    taken: Link,
+}
+
+impl Model for WatchLists {
+    ghost use Rattle.std.specs.Prelude.{◌-◌, length, min};
+    ghost use Rattle.std.specs.Vec.{vec_len, vec_capacity};
+    ghost use Rattle.mal_watch.specs.WatchLists.{Chained, IsChained, chain};
+    ghost use Rattle.mal_watch.specs.Links.{nowhere};
+    ghost use Rattle.mal_watch.specs.Nodes.{links_of, keys_of};
+
+    ghost Value = { Chained };
+
+    ghost view = { λ c. record {
+      keys = keys_of c.nodes.items;
+      out = chain (links_of c.nodes.items) (length (links_of c.nodes.items)) c.taken;
+      lists = length c.heads.items;
+      room = min (vec_capacity c.nodes - vec_len c.nodes) (nowhere - vec_len c.nodes);
+    } };
+
+    ghost invariant = { λ c. IsChained c.heads.items (links_of c.nodes.items) (keys_of c.nodes.items) c.taken };
+}
+
+impl WatchLists {
+    /// No node and no list. Takes no memory.
+    pub fn new(alloc: Global) -> WatchLists
+        ensures keys { result.keys ≡ [] }
+        ensures out { result.out ≡ [] }
+    {
+        WatchLists {
+            heads: Vec::new(alloc),
+            nodes: Vec::new(alloc),
+            taken: Link::none(),
+        }
+    }
+
+    /// Makes so many lists, if there are fewer, and room for so many nodes more. There are fewer than 2^32 - 1 nodes.
+    pub fn reserve(&mut self, lists: usize, nodes: usize) -> Result<(), AllocError>
+        ensures lists { OnOk result (lists ≤ self.new.lists) }
+        ensures room { OnOk result (nodes ≤ self.new.room) }
+        ensures more_lists { self.old.lists ≤ self.new.lists }
+        ensures more_room { self.old.room ≤ self.new.room }
+        ensures keys { self.new.keys ≡ self.old.keys }
+        ensures out { self.new.out ≡ self.old.out }
+    {
+        if MOST - self.nodes.len().min(MOST) < nodes {
+            return Err(AllocError);
+        }
+        self.nodes.reserve(nodes)?;
+        if self.heads.len() < lists {
+            self.heads.resize(lists, Link::none())?;
+        }
+        Ok(())
+    }
+
+    /// The literal of a node.
+    pub fn key(&self, node: usize) -> Lit
+        requires { node < length self.now.keys }
+        ensures { result ≡ slice_index self.now.keys node }
+    {
+        self.nodes[node].key
+    }
+
+    /// Adds a node to the list of a literal. Takes no memory.
+    pub fn add(&mut self, key: Lit)
+        requires list { key < self.old.lists }
+        requires room { 1 ≤ self.old.room }
+        ensures keys { self.new.keys ≡ self.old.keys ++ key ∷ [] }
+        ensures out { self.new.out ≡ self.old.out }
+        ensures lists { self.new.lists ≡ self.old.lists }
+        ensures room { self.old.room ≤ self.new.room + 1 }
+    {
+        let list = key.code() as usize;
+        let node = self.nodes.len();
+        let link = self.heads[list];
+        self.nodes.push_reserved(Node { link, key });
+        self.heads[list] = Link::to(node);
+    }
+
+    /// Takes all nodes of a literal out of its list, where none is out.
+    pub fn take(&mut self, key: Lit)
+        requires { self.old.out ≡ [] }
+        ensures nodes { (k : ℕ) → Has self.new.out k ↔ IsAt self.new.keys k key }
+        ensures once { AreOnce self.new.out }
+        ensures keys { self.new.keys ≡ self.old.keys }
+        ensures lists { self.new.lists ≡ self.old.lists }
+        ensures room { self.new.room ≡ self.old.room }
+    {
+        let list = key.code() as usize;
+        if list < self.heads.len() {
+            self.taken = self.heads[list];
+            self.heads[list] = Link::none();
+        }
+    }
+
+    /// The first of the nodes taken out. None exactly where none is out.
+    pub fn first(&self) -> Option<usize>
+        ensures { MatchOption result (self.now.out ≡ []) (λ k. (self.now.out ≡ k ∷ drop 1 self.now.out) × (k < length self.now.keys)) }
+    {
+        self.taken.node()
+    }
+
+    /// Puts the first of the nodes taken out into the list of a literal.
+    pub fn put(&mut self, node: usize, key: Lit)
+        requires first { self.old.out ≡ node ∷ drop 1 self.old.out }
+        requires list { key < self.old.lists }
+        ensures keys { self.new.keys ≡ slice_set self.old.keys node key }
+        ensures out { self.new.out ≡ drop 1 self.old.out }
+        ensures lists { self.new.lists ≡ self.old.lists }
+        ensures room { self.new.room ≡ self.old.room }
+    {
+        let list = key.code() as usize;
+        let first = self.taken;
+        let next = self.nodes[node].link;
+        let link = self.heads[list];
+        self.taken = next;
+        self.nodes[node] = Node { link, key };
+        self.heads[list] = first;
+    }
+}

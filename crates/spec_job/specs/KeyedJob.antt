@@ -1,0 +1,16 @@
+use Rattle.std.specs.Prelude.{ℕ, List}
+use Rattle.spec_job.specs.SoloMachine.{SoloMachine, Own, solo_step}
+
+-- a job is known by its tenant and its name
+pub record Key : Type 0 where
+  pub tenant : List ℕ
+  pub job : List ℕ
+
+-- a job with its machine
+pub record KeyedJob : Type 0 where
+  pub key : Key
+  pub state : SoloMachine
+
+-- a job after one more event of its own
+abbrev pub stepped : KeyedJob → Own → KeyedJob
+stepped t o = record { key = t.key; state = solo_step t.state o }
