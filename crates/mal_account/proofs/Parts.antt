@@ -7,7 +7,7 @@ use Rattle.std.proofs.lemmas.List.Folds.{list_any-append}
 use Rattle.std.proofs.lemmas.Bool.{or_from}
 use Rattle.spec_text.specs.Inputs.{lines_of, words_of}
 use Rattle.spec_dimacs.specs.Rows.{rows_of}
-use Rattle.spec_script.specs.declared.fault.LineFault.{LineFault}
+use Rattle.mal_base.specs.declared.line_fault.LineFault.{LineFault}
 use Rattle.spec_script.specs.Limits.{served}
 use Rattle.spec_script.specs.Formed.{IsScript}
 use Rattle.spec_script.specs.Script.{Scripted, spelling}

@@ -3,7 +3,7 @@ use Rattle.std.specs.Prelude.{◌≡◌, ℕ, true, false, List, Option, Some, N
 use Rattle.std.specs.Borrow.{Bor}
 use Rattle.std.specs.List.{list_any}
 use Rattle.spec_dimacs.specs.Rows.{rows_of}
-use Rattle.spec_script.specs.declared.fault.LineFault.TheVariants as line
+use Rattle.mal_base.specs.declared.line_fault.LineFault.TheVariants as line
 use Rattle.mal_script.specs.declared.fault.ScriptFault.{ScriptFault}
 use Rattle.mal_script.specs.declared.fault.ScriptFault.TheVariants as script
 use Rattle.mal_history.specs.Reading as reading

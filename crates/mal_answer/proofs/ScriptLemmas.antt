@@ -1,6 +1,6 @@
 -- What is refused of a script is told.
 use Rattle.std.proofs.Common.{◌≡◌, ℕ, List, ◌∙◌, sym, Ok, Err, Result}
-use Rattle.spec_script.specs.declared.fault.LineFault.{LineFault}
+use Rattle.mal_base.specs.declared.line_fault.LineFault.{LineFault}
 use Rattle.spec_script.specs.FaultLines.{fault_line}
 use Rattle.spec_script.specs.Limits.{served}
 use Rattle.spec_script.specs.Reading.{read_text}

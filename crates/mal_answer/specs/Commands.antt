@@ -21,7 +21,7 @@ use Rattle.spec_logic.specs.Refutation.{IsRefutation}
 use Rattle.spec_replay.specs.Replayed.{IsLegal, IsLacking, IsRefusedAt, IsReplied}
 use Rattle.spec_run.specs.Complete.{IsComplete, script_events}
 use Rattle.spec_run.specs.Run.{IsRun}
-use Rattle.spec_script.specs.declared.fault.LineFault.{LineFault}
+use Rattle.mal_base.specs.declared.line_fault.LineFault.{LineFault}
 use Rattle.spec_script.specs.FaultLines.{fault_line}
 use Rattle.spec_script.specs.Grammar.{Spells}
 use Rattle.spec_script.specs.Limits.{served}

@@ -3,27 +3,37 @@
 
 mod answer;
 mod ask;
+mod block_fault;
 mod clause;
 mod clause_id;
 mod formula;
+mod hall_fault;
 mod limit_kind;
+mod line_fault;
 mod line_head;
 mod lines;
 mod literal;
 mod name;
+mod replay_fault;
+mod stage;
 mod trail_entry;
 mod verdict;
 mod views;
 
 pub use answer::{Answer, Values};
 pub use ask::Ask;
+pub use block_fault::BlockFault;
 pub use clause::Clause;
 pub use clause_id::ClauseId;
 pub use formula::Formula;
+pub use hall_fault::{ApplyFault, CloseFault, OpenFault, PickFault, ReplyFault, ReviseFault};
 pub use limit_kind::LimitKind;
+pub use line_fault::LineFault;
 pub use lines::Lines;
 pub use literal::{Lit, Var};
 pub use name::Name;
+pub use replay_fault::ReplayFault;
+pub use stage::Stage;
 pub use trail_entry::TrailEntry;
 pub use verdict::{Outcome, Verdict};
 pub use views::{ClauseView, TrailView};

@@ -7,7 +7,7 @@ use Rattle.spec_turn.specs.declared.view.Numbers.{Numbers}
 use Rattle.spec_turn.specs.Numbers.{part}
 use Rattle.spec_turn.specs.Rule.{splitting}
 use Rattle.spec_job.specs.Leased.{Finished}
-use Rattle.spec_hall.specs.declared.fault.PickFault.{PickFault}
+use Rattle.mal_base.specs.declared.hall_fault.PickFault.{PickFault}
 use Rattle.spec_hall.specs.Calls.{Offer, Return}
 use Rattle.spec_hall.specs.Dressed.{keyed}
 use Rattle.spec_service.specs.Passes.{Enters}

@@ -1,7 +1,7 @@
 -- No call of a service loses a lease.
 use Rattle.std.proofs.Common.{◌≡◌, ℕ, List, [], ◌∷◌, ◌++◌, Result, Ok, Err, IfOk, refl, sym, ap, ◌∙◌, subst, append_assoc, append-nil}
 use Rattle.spec_turn.specs.declared.view.View.{View}
-use Rattle.spec_hall.specs.declared.fault.ReplyFault.TheVariants as asking
+use Rattle.mal_base.specs.declared.hall_fault.ReplyFault.TheVariants as asking
 use Rattle.spec_hall.specs.Events.{Event}
 use Rattle.spec_run.specs.Losses.{NoneIsLost}
 use Rattle.spec_service.specs.Passes.{LeavesHall}

@@ -25,7 +25,7 @@ ghost use Rattle.mal_cdcl.specs.Sliced.{HasSliceRoom, HasStepRoom, HasLowCounts,
 ghost use Rattle.mal_freeze.specs.Imaged.{IsImage};
 
 use crate::import_filter::{self, Pick};
-use crate::{copies, fill, learning, needs, open, restart};
+use crate::{copies, learning, needs, node_load, open, restart};
 use mal_base::{ClauseId, Lines, Lit, Var, Verdict};
 use mal_buffer::{Buffer, Entry};
 use mal_freeze::{Image, Parts};
@@ -261,10 +261,10 @@ impl<E: Engine> Node<E> {
         self.trail.set_processed(0);
         self.order.rewind();
         self.order.append_reserved(added);
-        fill::push_phases(&mut self.phases, self.index % 2 == 1, added);
-        fill::replace(&mut self.assumptions, revision.assumptions());
+        node_load::push_phases(&mut self.phases, self.index % 2 == 1, added);
+        node_load::replace(&mut self.assumptions, revision.assumptions());
         self.passed = 0;
-        fill::add_clauses(&mut self.engine, &self.trail, first, revision.clauses());
+        node_load::add_clauses(&mut self.engine, &self.trail, first, revision.clauses());
         self.variables = self.variables.max(variables);
         self.conflict = None;
         self.verdict = None;
@@ -279,8 +279,8 @@ impl<E: Engine> Node<E> {
     {
         self.cut(0);
         self.trail.set_processed(0);
-        fill::add_told(&mut self.engine, &self.trail, told);
-        self.serial = fill::serial_above(self.serial, told);
+        node_load::add_told(&mut self.engine, &self.trail, told);
+        self.serial = node_load::serial_above(self.serial, told);
         self.conflict = None;
     }
 
@@ -290,7 +290,7 @@ impl<E: Engine> Node<E> {
         ensures spare { self.new.spare ≡ self.old.spare }
         ensures lines { self.new.lines ≡ self.old.lines }
     {
-        fill::save(self.phases.as_mut_slice(), self.trail.above(level));
+        node_load::save(self.phases.as_mut_slice(), self.trail.above(level));
         self.order.rewind();
         self.passed = 0;
         self.trail.back_to(level);
@@ -595,7 +595,7 @@ impl<E: Listed> Node<E> {
         ensures more { scratch.old.room ≤ scratch.new.room }
     {
         let alloc = *self.phases.allocator();
-        let picks = pick::picks_of(alloc, &self.engine, loads, imports)?;
+        let picks = import_filter::picks_of(alloc, &self.engine, loads, imports)?;
         self.make_room(loads, picks.as_slice(), scratch)?;
         for load in loads {
             let (revision, first) = load;

@@ -1,7 +1,7 @@
 -- What the answers of reading and judging claims say.
 use Rattle.std.specs.Prelude.{◌≡◌, ℕ, List, Option, Some, None, Result, Ok, Err}
 use Rattle.spec_logic.specs.Refutation.{Refusal}
-use Rattle.spec_script.specs.declared.fault.LineFault.TheVariants.{BadLine, Dimacs, Opposite, Range}
+use Rattle.mal_base.specs.declared.line_fault.LineFault.TheVariants.{BadLine, Dimacs, Opposite, Range}
 use Rattle.spec_dimacs.specs.Rows.{rows_of}
 use Rattle.mal_dimacs.specs.declared.fault.DimacsError.{DimacsError}
 use Rattle.mal_dimacs.specs.declared.fault.DimacsError.TheVariants as error

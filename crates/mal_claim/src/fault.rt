@@ -3,8 +3,8 @@
 ghost use Rattle.std.specs.Prelude.{◌≡◌};
 ghost use Rattle.mal_claim.specs.declared.fault.ClaimFault.TheVariants.{OutOfMemory};
 
+use mal_base::LineFault;
 use mal_verify::ProofFault;
-use spec_script::LineFault;
 use std::alloc::{AllocError, AllocFailed};
 
 /// Why a text is no claim: its first fault, or want of memory.

@@ -10,10 +10,9 @@ ghost use Rattle.mal_claim.specs.ReadResult.{Gives, IsOnLine};
 
 use crate::fault::ClaimFault;
 use crate::words::{is_formula_line, is_passed};
-use mal_base::Formula;
+use mal_base::{Formula, LineFault};
 use mal_dimacs::{BlockFault, BlockReader, DimacsError};
 use mal_text::first_line;
-use spec_script::LineFault;
 use std::alloc::Global;
 
 /// The formula of the lines before the first one that begins with the word `a` or `proof`, how many lines these are, and

@@ -13,11 +13,10 @@ use crate::claim::Claim;
 use crate::fault::ClaimFault;
 use crate::formula::read_formula;
 use crate::words::{is_passed, is_proof_line};
-use mal_base::Lit;
+use mal_base::{LineFault, Lit};
 use mal_script::{AssumptionFault, assumptions};
 use mal_text::first_line;
 use mal_verify::{NumberedLine, read_proof};
-use spec_script::LineFault;
 use std::alloc::Global;
 
 /// The claim that a text spells: a formula by DIMACS CNF, maybe a line `a`, literals and 0, then the line `proof`, and the

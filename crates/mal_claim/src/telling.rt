@@ -10,12 +10,10 @@ ghost use Rattle.mal_verify.specs.Verdicts.{refusal_of};
 
 use crate::fault::ClaimFault;
 use itoa::Buffer;
-use mal_base::{LimitKind, Name};
+use mal_base::{BlockFault, LimitKind, LineFault, Name};
 use mal_check::CheckFault;
 use mal_text::put_line;
 use mal_verify::VerifyFault;
-use spec_dimacs::BlockFault;
-use spec_script::LineFault;
 use std::alloc::{AllocError, Global};
 
 /// The line that tells a fault of a text, as `fault: no proof`, `fault: formula line 3 Range` or

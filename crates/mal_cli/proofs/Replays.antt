@@ -13,8 +13,8 @@ use Rattle.mal_words.specs.declared.request.Request.TheVariants.{Replay}
 use Rattle.spec_account.specs.Accounts.{Account, Fault, read_text}
 use Rattle.spec_account.specs.Grammar.{Spells}
 use Rattle.spec_account.proofs.ReadLemmas.{spelled-is-read}
-use Rattle.spec_replay.specs.declared.fault.ReplayFault.{ReplayFault}
-use Rattle.spec_replay.specs.declared.fault.ReplayFault.TheVariants.{NotLegal, NotComplete, OutOfMemory}
+use Rattle.mal_base.specs.declared.replay_fault.ReplayFault.{ReplayFault}
+use Rattle.mal_base.specs.declared.replay_fault.ReplayFault.TheVariants.{NotLegal, NotComplete, OutOfMemory}
 use Rattle.spec_replay.specs.Replayed.{IsReplay, IsReplied}
 use Rattle.spec_replay.proofs.ReplayLemmas.{replay-is_decided}
 use Rattle.spec_run.specs.Run.{replies}

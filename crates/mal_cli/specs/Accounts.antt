@@ -7,8 +7,8 @@ use Rattle.mal_answer.specs.declared.answer.Complaint.{Complaint}
 use Rattle.mal_answer.specs.declared.answer.Complaint.TheVariants as complaint
 use Rattle.spec_account.specs.Accounts.{Account}
 use Rattle.spec_account.specs.FaultLines.{history_line}
-use Rattle.spec_replay.specs.declared.fault.ReplayFault.{ReplayFault}
-use Rattle.spec_replay.specs.declared.fault.ReplayFault.TheVariants.{NotLegal, NotComplete, OutOfMemory}
+use Rattle.mal_base.specs.declared.replay_fault.ReplayFault.{ReplayFault}
+use Rattle.mal_base.specs.declared.replay_fault.ReplayFault.TheVariants.{NotLegal, NotComplete, OutOfMemory}
 use Rattle.spec_text.specs.Lines.{line_of}
 
 -- the complaint tells the fault of a text, or memory ran out

@@ -8,7 +8,7 @@ ghost use Rattle.mal_answer.specs.Commands.{AreReplies};
 ghost use Rattle.mal_answer.specs.Devices.{device};
 ghost use Rattle.mal_words.specs.declared.request.Request.TheVariants.{Replay};
 ghost use Rattle.spec_account.specs.FaultLines.{history_line};
-ghost use Rattle.spec_replay.specs.declared.fault.ReplayFault.TheVariants.{OutOfMemory};
+ghost use Rattle.mal_base.specs.declared.replay_fault.ReplayFault.TheVariants.{OutOfMemory};
 ghost use Rattle.spec_script.specs.Formed.{IsScript};
 ghost use Rattle.spec_script.specs.Limits.{served};
 ghost use Rattle.spec_text.specs.Lines.{line_of};

@@ -1,7 +1,7 @@
 -- What an answer of reading says of the grammar.
 use Rattle.std.proofs.Common.{◌≡◌, ℕ, true, Result, Ok, Err, IfOk, MatchResult, List, sym, ◌∙◌, subst, ap, refl}
 use Rattle.mal_base.specs.Formulas.{Formulated, is_formula}
-use Rattle.spec_dimacs.specs.declared.fault.BlockFault.{BlockFault}
+use Rattle.mal_base.specs.declared.block_fault.BlockFault.{BlockFault}
 use Rattle.spec_dimacs.specs.Grammar.{Spells}
 use Rattle.spec_dimacs.specs.Reading.{read_text}
 use Rattle.spec_dimacs.specs.Written.{spelling}

@@ -1,6 +1,6 @@
 -- The two numbers of a header, as the block that they open.
 use Rattle.std.specs.Prelude.{ℕ, Result, Ok, Err}
-use Rattle.spec_dimacs.specs.declared.fault.BlockFault.{BlockFault}
+use Rattle.mal_base.specs.declared.block_fault.BlockFault.{BlockFault}
 use Rattle.spec_dimacs.specs.Reading.{Block, block_of}
 
 -- the block that such numbers open

@@ -1,6 +1,6 @@
 -- What an answer is to the definitions of reading: it is theirs, unless memory ran out.
 use Rattle.std.specs.Prelude.{◌≡◌, ℕ, Result, Ok, Err}
-use Rattle.spec_dimacs.specs.declared.fault.BlockFault.{BlockFault}
+use Rattle.mal_base.specs.declared.block_fault.BlockFault.{BlockFault}
 use Rattle.mal_dimacs.specs.declared.fault.DimacsError.{DimacsError}
 use Rattle.mal_dimacs.specs.declared.fault.DimacsError.TheVariants as error
 use Rattle.mal_dimacs.specs.declared.fault.DimacsFault.{DimacsFault}

@@ -9,14 +9,13 @@ ghost use Rattle.spec_dimacs.specs.Merged.{clause_of};
 ghost use Rattle.spec_dimacs.specs.Blocks.{IsBlock};
 ghost use Rattle.spec_dimacs.specs.Reading.{Block, after_counted, after_number, after_percent, after_row, after_words, after_zero, block_of, closed, code_of, ended, opened};
 ghost use Rattle.mal_dimacs.specs.Reads.{Gives, Leaves};
-ghost use Rattle.spec_dimacs.specs.declared.stage.Stage.TheVariants as stage;
+ghost use Rattle.mal_base.specs.declared.stage.Stage.TheVariants as stage;
 
 use crate::fault::DimacsError;
 use crate::header::counts;
 use crate::words::{clause_of, is_comment, is_p, is_percent, is_zero, literal, size};
-use mal_base::{Clause, Formula, LimitKind, Lit};
+use mal_base::{BlockFault, Clause, Formula, LimitKind, Lit, Stage};
 use mal_text::{NumberFault, first_word, number};
-use spec_dimacs::{BlockFault, Stage};
 use std::alloc::Global;
 use std::marker::Model;
 

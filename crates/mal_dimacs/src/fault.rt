@@ -5,7 +5,7 @@ ghost use Rattle.mal_dimacs.specs.declared.fault.DimacsError.TheVariants as erro
 ghost use Rattle.mal_dimacs.specs.declared.fault.DimacsFault.TheVariants as located;
 ghost use Rattle.mal_dimacs.specs.Reads.{on_line_of};
 
-use spec_dimacs::BlockFault;
+use mal_base::BlockFault;
 use std::alloc::{AllocError, AllocFailed};
 use thiserror::Error;
 

@@ -6,12 +6,11 @@ ghost use Rattle.spec_text.specs.Numbers.{magnitude_in};
 ghost use Rattle.mal_text.specs.Numbers.{magnitude_word_of};
 ghost use Rattle.spec_dimacs.specs.Reading.{opened, opened_with, within_limits};
 ghost use Rattle.mal_dimacs.specs.Counts.{opens_with};
-ghost use Rattle.spec_dimacs.specs.declared.fault.BlockFault.TheVariants.{BadHeader};
+ghost use Rattle.mal_base.specs.declared.block_fault.BlockFault.TheVariants.{BadHeader};
 
 use crate::words::{is_cnf, is_p};
-use mal_base::LimitKind;
+use mal_base::{BlockFault, LimitKind};
 use mal_text::{NumberFault, first_word, magnitude};
-use spec_dimacs::BlockFault;
 
 /// The number of variables and the number of clauses that a header line declares, at most 65,536 and 2^20.
 pub fn counts(line: &[u8]) -> Result<(u32, u32), BlockFault>

@@ -11,8 +11,8 @@ mod writing;
 
 pub use block::BlockReader;
 pub use fault::{DimacsError, DimacsFault};
+pub use mal_base::BlockFault;
 pub use reading::read;
-pub use spec_dimacs::BlockFault;
 pub use writing::{put_block, put_closed, write};
 
 #[cfg(test)]

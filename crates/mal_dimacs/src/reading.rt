@@ -12,9 +12,8 @@ ghost use Rattle.mal_dimacs.specs.Reads.{Gives, GivesAt};
 use crate::block::BlockReader;
 use crate::fault::{DimacsError, DimacsFault};
 use crate::words::is_passed;
-use mal_base::Formula;
+use mal_base::{BlockFault, Formula};
 use mal_text::first_line;
-use spec_dimacs::BlockFault;
 use std::alloc::Global;
 
 /// The formula of a text of DIMACS CNF: comments and empty lines, a header `p cnf V C`, numbers that are C clauses, each

@@ -28,9 +28,9 @@ use Rattle.spec_hall.specs.Given.{given}
 use Rattle.spec_hall.specs.Legal.{Allowed, IsBalanceDue, MayExchange, MayRevise, job_of}
 use Rattle.spec_hall.specs.Leases.{lease_adds, lease_journal}
 use Rattle.spec_hall.specs.States.{Candidate, LeaseOut, balanced, exchange_due, keys_of, lease_of, leases, live_of, live_ones, lives, picked, states, titled}
-use Rattle.spec_hall.specs.declared.fault.CloseFault.{CloseFault}
-use Rattle.spec_hall.specs.declared.fault.OpenFault.{OpenFault}
-use Rattle.spec_hall.specs.declared.fault.ReviseFault.{ReviseFault}
+use Rattle.mal_base.specs.declared.hall_fault.CloseFault.{CloseFault}
+use Rattle.mal_base.specs.declared.hall_fault.OpenFault.{OpenFault}
+use Rattle.mal_base.specs.declared.hall_fault.ReviseFault.{ReviseFault}
 use Rattle.spec_hall.proofs.DecidedCallLemmas.{call-is_decided}
 use Rattle.spec_hall.proofs.DrivenLemmas.{balances-decided, nodes-decided}
 use Rattle.mal_hall.proofs.HallLemmas.{hall-bare, hall-seated, hall-spots}
@@ -43,7 +43,7 @@ use Rattle.spec_hall.specs.Own.{is_key}
 use Rattle.spec_hall.specs.Seats.{Seat, is_live_seat, jobs_in}
 use Rattle.spec_hall.proofs.JournalLemmas.{spots-home}
 use Rattle.spec_hall.specs.Spots.{IsAt, Spot, Tag, tags_of}
-use Rattle.spec_hall.specs.declared.fault.ApplyFault.{ApplyFault}
+use Rattle.mal_base.specs.declared.hall_fault.ApplyFault.{ApplyFault}
 
 -- an event that is written down as this one
 pub applied-as : (w : ℕ) (past now : List Event) (posted : Option Posted) (line : written.Event) (e : Event) → given posted line ≡ Some e → HasEntered w past e now → HasApplied w past posted line now

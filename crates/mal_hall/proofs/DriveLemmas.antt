@@ -7,8 +7,8 @@ use Rattle.spec_job.specs.Journal.{JournalEntry}
 use Rattle.spec_job.specs.Journaled.{Journaled, and_entries}
 use Rattle.spec_job.specs.Leased.{Becomes, Finished, Leased}
 use Rattle.spec_job.specs.Viewed.{IsGrownBy}
-use Rattle.spec_hall.specs.declared.fault.PickFault.{PickFault}
-use Rattle.spec_hall.specs.declared.fault.PickFault.TheVariants.{Busy, OutOfMemory}
+use Rattle.mal_base.specs.declared.hall_fault.PickFault.{PickFault}
+use Rattle.mal_base.specs.declared.hall_fault.PickFault.TheVariants.{Busy, OutOfMemory}
 use Rattle.spec_hall.specs.Calls as calls
 use Rattle.spec_hall.specs.Calls.{HasCalled, Handed, IsOfLease, IsStarting, Picks, Finishes, Return, Back, Strange, is_over}
 use Rattle.spec_hall.specs.Driven.{GrowsByTurns, IsAtEnd, IsIdle, is_done, was_lost}

@@ -38,7 +38,7 @@ use Rattle.spec_hall.specs.Own.{own}
 use Rattle.spec_hall.specs.Leases.{IsWorker}
 use Rattle.spec_hall.proofs.PlaceLemmas.{first-within}
 use Rattle.spec_hall.proofs.SeatLemmas.{SitsAt, reseated, seat_keys, seated-keys, sits-at}
-use Rattle.spec_hall.specs.declared.fault.PickFault.TheVariants.{Busy, OutOfMemory}
+use Rattle.mal_base.specs.declared.hall_fault.PickFault.TheVariants.{Busy, OutOfMemory}
 use Rattle.spec_hall.specs.Calls.{AllDone, AreDue, HasCalled, Idle, MayPick, Picks}
 use Rattle.spec_hall.specs.Calls.{Leased as Offered}
 use Rattle.mal_job.specs.Among.{among}

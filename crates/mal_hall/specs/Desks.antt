@@ -6,7 +6,7 @@ use Rattle.mal_hall.specs.declared.desk.PostFault.TheVariants as faults
 use Rattle.mal_hall.specs.HallView.{next_number}
 use Rattle.spec_job.specs.Leased.{Finished, Tells}
 use Rattle.spec_job.specs.Viewed.{IsGrownBy}
-use Rattle.spec_hall.specs.declared.fault.PickFault.{PickFault}
+use Rattle.mal_base.specs.declared.hall_fault.PickFault.{PickFault}
 use Rattle.spec_hall.specs.Calls.{HasCalled, Opens, Revises, Closes, Offer, Leased, Idle, AllDone, Handed, Return}
 use Rattle.spec_hall.specs.Dressed.{keyed}
 use Rattle.spec_hall.specs.Events as entered

@@ -7,8 +7,8 @@ use Rattle.mal_hall.specs.declared.offer.Back.{Back}
 use Rattle.mal_hall.specs.declared.offer.Strange.{Strange}
 use Rattle.spec_job.specs.Leased.{Leased, Finished}
 use Rattle.spec_job.specs.KeyedJob.{Key, KeyedJob}
-use Rattle.spec_hall.specs.declared.fault.PickFault.{PickFault}
-use Rattle.spec_hall.specs.declared.fault.ReplyFault.{ReplyFault}
+use Rattle.mal_base.specs.declared.hall_fault.PickFault.{PickFault}
+use Rattle.mal_base.specs.declared.hall_fault.ReplyFault.{ReplyFault}
 use Rattle.spec_hall.specs.Calls as calls
 use Rattle.spec_hall.specs.Events.{Event, Balance, Start, Finish, Exchange}
 use Rattle.spec_hall.specs.Legal.{Allowed}

@@ -12,11 +12,10 @@ ghost use Rattle.spec_job.specs.KeyedJob.{Key};
 
 use crate::hall::Hall;
 use crate::lodging::back_of;
-use mal_base::{Ask, Name, Outcome};
+use mal_base::{ApplyFault, Ask, Name, OpenFault, Outcome, ReviseFault};
 use mal_history::{Event, Share};
 use mal_learn::Scratch;
 use mal_revision::Revision;
-use spec_hall::{ApplyFault, OpenFault, ReviseFault};
 
 impl Hall {
     /// Enters this one event, a Revise with the revision that is given. It is not allowed exactly where it may not come after

@@ -5,10 +5,9 @@ ghost use Rattle.mal_hall.specs.Desks.{HasPosted, event_of};
 
 use crate::hall::Hall;
 use crate::offer::{Back, Pick, Strange};
-use mal_base::{Ask, Name};
+use mal_base::{Ask, CloseFault, Name, OpenFault, PickFault, ReviseFault};
 use mal_revision::Revision;
 use mal_suspend::Done;
-use spec_hall::{CloseFault, OpenFault, PickFault, ReviseFault};
 use std::sync::Wait;
 
 /// What a tenant posts: it opens a job, posts the next revision of one, or closes one.

@@ -17,5 +17,5 @@ mod volumes;
 
 pub use desk::{Desk, Post, PostFault};
 pub use hall::Hall;
+pub use mal_base::{ApplyFault, CloseFault, OpenFault, PickFault, ReplyFault, ReviseFault};
 pub use offer::{Back, Pick, Strange};
-pub use spec_hall::{ApplyFault, CloseFault, OpenFault, PickFault, ReplyFault, ReviseFault};

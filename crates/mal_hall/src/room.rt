@@ -13,10 +13,9 @@ ghost use Rattle.mal_base.specs.Asks.{Terms};
 ghost use Rattle.spec_hall.specs.Legal.{job_of, jobs_of, tenant_count};
 ghost use Rattle.spec_job.specs.KeyedJob.{Key};
 
-use mal_base::LimitKind;
+use mal_base::{LimitKind, OpenFault, ReviseFault};
 use mal_job::Job;
 use mal_revision::Revision;
-use spec_hall::{OpenFault, ReviseFault};
 use std::sync::Arc;
 
 /// How many tenants a hall with so many tenants has after a further job of a tenant with so many jobs, or why it does not

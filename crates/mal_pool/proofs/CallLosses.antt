@@ -12,14 +12,14 @@ use Rattle.spec_job.specs.Journal.{JournalEntry}
 use Rattle.spec_job.specs.Journaled.{Journaled}
 use Rattle.spec_job.specs.Leased.{Finished}
 use Rattle.spec_job.specs.Viewed.{IsGrownBy}
-use Rattle.spec_hall.specs.declared.fault.OpenFault.{OpenFault}
-use Rattle.spec_hall.specs.declared.fault.OpenFault.TheVariants as opening
-use Rattle.spec_hall.specs.declared.fault.ReviseFault.{ReviseFault}
-use Rattle.spec_hall.specs.declared.fault.ReviseFault.TheVariants as revising
-use Rattle.spec_hall.specs.declared.fault.CloseFault.{CloseFault}
-use Rattle.spec_hall.specs.declared.fault.CloseFault.TheVariants as closing
-use Rattle.spec_hall.specs.declared.fault.PickFault.{PickFault}
-use Rattle.spec_hall.specs.declared.fault.PickFault.TheVariants as picking
+use Rattle.mal_base.specs.declared.hall_fault.OpenFault.{OpenFault}
+use Rattle.mal_base.specs.declared.hall_fault.OpenFault.TheVariants as opening
+use Rattle.mal_base.specs.declared.hall_fault.ReviseFault.{ReviseFault}
+use Rattle.mal_base.specs.declared.hall_fault.ReviseFault.TheVariants as revising
+use Rattle.mal_base.specs.declared.hall_fault.CloseFault.{CloseFault}
+use Rattle.mal_base.specs.declared.hall_fault.CloseFault.TheVariants as closing
+use Rattle.mal_base.specs.declared.hall_fault.PickFault.{PickFault}
+use Rattle.mal_base.specs.declared.hall_fault.PickFault.TheVariants as picking
 use Rattle.spec_hall.specs.Calls as calls
 use Rattle.spec_hall.specs.Calls.{HasCalled, Opens, Revises, Closes, Picks, Finishes, Offer, Leased, Idle, AllDone, Return, IsOpening, IsRevising, IsClosing, IsPicking, IsReturning, AreDue, arranges}
 use Rattle.spec_hall.specs.Driven.{was_lost}

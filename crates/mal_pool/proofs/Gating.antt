@@ -17,7 +17,7 @@ use Rattle.spec_job.specs.Leased.{Finished, Becomes, Tells}
 use Rattle.spec_job.specs.Viewed.{IsGrownBy}
 use Rattle.spec_hall.specs.Calls as calls
 use Rattle.spec_hall.specs.Calls.{Leased, Handed, Return, Offer}
-use Rattle.spec_hall.specs.declared.fault.PickFault.{PickFault}
+use Rattle.mal_base.specs.declared.hall_fault.PickFault.{PickFault}
 
 stop-is : (b : Bool) (s : Step) → s ≡ (if b then Stop else Go) → s ≡ Stop → b ≡ true
 stop-is true s e is = refl

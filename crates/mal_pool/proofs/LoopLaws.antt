@@ -2,7 +2,7 @@
 use Rattle.std.proofs.Common.{◌≡◌, ℕ, ◌+◌, ◌-◌, ◌<◌, ◌≤◌, List, [], ◌∷◌, ◌++◌, ◌⊎◌, inl, inr, refl, sym, ap, ◌∙◌, arith, subst, suc, Option, Some, None, Result, Ok, Err}
 use Rattle.std.specs.Prelude.{replicate}
 use Rattle.spec_job.specs.Leased.{Finished}
-use Rattle.spec_hall.specs.declared.fault.PickFault.TheVariants as faults
+use Rattle.mal_base.specs.declared.hall_fault.PickFault.TheVariants as faults
 use Rattle.spec_hall.specs.Calls as calls
 use Rattle.spec_hall.specs.Calls.{Handed, Leased}
 use Rattle.mal_hall.specs.Desks.{DeskCall, Picked, Gave, Posted}

@@ -1,6 +1,6 @@
 use Rattle.std.specs.Prelude.{◌≡◌, ℕ, ◌+◌, ◌-◌, ◌<◌, List, [], ◌∷◌, ◌++◌, Option, Some, None, Result, Ok, Err}
 use Rattle.spec_job.specs.Leased.{Finished}
-use Rattle.spec_hall.specs.declared.fault.PickFault.TheVariants as faults
+use Rattle.mal_base.specs.declared.hall_fault.PickFault.TheVariants as faults
 use Rattle.spec_hall.specs.Calls as calls
 use Rattle.spec_hall.specs.Calls.{Handed, Leased, Return}
 use Rattle.mal_hall.specs.Desks.{DeskCall, Picked, Gave, Posted, IsWorked}

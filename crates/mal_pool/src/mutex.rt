@@ -6,9 +6,9 @@ ghost use Rattle.mal_pool.specs.Traces.{traced};
 use crate::board::{Board, InUse};
 use crate::shared::{HallBox, Size};
 use crate::trace::Trace;
+use mal_base::PickFault;
 use mal_hall::{Back, Desk, Hall, Pick, Post, PostFault, Strange};
 use mal_suspend::Done;
-use spec_hall::PickFault;
 use std::snapshot::Snapshot;
 use std::sync::{Mutex, Wait};
 

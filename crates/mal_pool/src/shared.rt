@@ -6,9 +6,9 @@ ghost use Rattle.mal_hall.specs.Offered.{offered, returned};
 ghost use Rattle.spec_hall.specs.Calls.{HasCalled, Picks, Finishes};
 ghost use Rattle.spec_run.specs.Losses.{NoneIsLost};
 
+use mal_base::PickFault;
 use mal_hall::{Back, Hall, Pick, Post, PostFault, Strange};
 use mal_suspend::Done;
-use spec_hall::PickFault;
 use std::marker::{Brand, PhantomData};
 
 /// How many workers a hall has that lies under a lock: of what is locked, contracts know the type alone.

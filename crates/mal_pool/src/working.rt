@@ -9,10 +9,10 @@ ghost use Rattle.mal_pool.specs.declared.working.End.TheVariants.{Stopped};
 ghost use Rattle.spec_hall.specs.Calls.{Leased, Return};
 
 use crate::gate::{Gate, Point, Step};
+use mal_base::PickFault;
 use mal_hall::{Desk, Pick};
 use mal_learn::Scratch;
 use mal_suspend::{Done, Lease};
-use spec_hall::PickFault;
 use std::sync::Wait;
 use std::thread;
 

@@ -8,5 +8,5 @@ mod replaying;
 #[cfg(test)]
 mod tests;
 
+pub use mal_base::ReplayFault;
 pub use replaying::replay;
-pub use spec_replay::ReplayFault;

@@ -9,12 +9,12 @@ ghost use Rattle.spec_script.specs.Limits.{served};
 
 use crate::contents::posted_in;
 use crate::posts::have_posts;
+use mal_base::ReplayFault;
 use mal_hall::{ApplyFault, Hall};
 use mal_history::History;
 use mal_learn::Scratch;
 use mal_pool::replies;
 use mal_script::Script;
-use spec_replay::ReplayFault;
 use std::alloc::Global;
 
 /// The replies to a script of which this is the history: exactly where it is legal and complete for the script. `NotLegal`

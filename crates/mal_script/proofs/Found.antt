@@ -1,6 +1,6 @@
 -- What is read is spelled, and what is spelled is read.
 use Rattle.std.proofs.Common.{◌≡◌, ℕ, List, Result, Ok, Err, IfOk, MatchResult, refl, sym, ◌∙◌, subst}
-use Rattle.spec_script.specs.declared.fault.LineFault.{LineFault}
+use Rattle.mal_base.specs.declared.line_fault.LineFault.{LineFault}
 use Rattle.spec_script.specs.Limits.{Limits}
 use Rattle.spec_script.specs.Script.{Scripted, spelling}
 use Rattle.spec_script.specs.Reading.{read_text}

@@ -1,7 +1,7 @@
 -- What is taken out of a job or of a script before a line is read changes nothing of what the line makes of it.
 use Rattle.std.proofs.Common.{◌≡◌, ℕ, List, Option, Some, None, Result, Ok, Bool, ◌∷◌, map, ℤ, pos, refl, sym, ap, subst, ◌∙◌}
 use Rattle.spec_dimacs.specs.Reading.{Block, ◌>>=◌}
-use Rattle.spec_script.specs.declared.fault.LineFault.{LineFault}
+use Rattle.mal_base.specs.declared.line_fault.LineFault.{LineFault}
 use Rattle.spec_script.specs.Limits.{Limits}
 use Rattle.spec_script.specs.Reading.{OpenJob, Reading, going_on, without_block, inside_block, inside, after_counted}
 use Rattle.spec_script.specs.Assumptions.{closed, literals_from}

@@ -1,8 +1,8 @@
 -- What the answers of the readers of a script's parts say.
 use Rattle.std.specs.Prelude.{◌≡◌, ℕ, List, Result, Ok, Err}
 use Rattle.spec_script.specs.FaultLines.{fault_line}
-use Rattle.spec_script.specs.declared.fault.LineFault.{LineFault}
-use Rattle.spec_script.specs.declared.fault.LineFault.TheVariants as line
+use Rattle.mal_base.specs.declared.line_fault.LineFault.{LineFault}
+use Rattle.mal_base.specs.declared.line_fault.LineFault.TheVariants as line
 use Rattle.mal_script.specs.declared.fault.LineRefusal.{LineRefusal}
 use Rattle.mal_script.specs.declared.fault.LineRefusal.TheVariants as refusal
 use Rattle.mal_script.specs.declared.fault.ScriptFault.{ScriptFault}

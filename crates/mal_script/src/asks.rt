@@ -5,9 +5,8 @@ ghost use Rattle.spec_text.specs.Numbers.{number_in};
 ghost use Rattle.mal_text.specs.Numbers.{word_of};
 ghost use Rattle.spec_script.specs.Reading.{is_number, ranged, in_range, asked};
 
-use mal_base::Ask;
+use mal_base::{Ask, LineFault};
 use mal_text::{NumberFault, number};
-use spec_script::LineFault;
 
 /// Whether a word that was read as this says a number.
 fn is_number(word: Result<i64, NumberFault>) -> bool

@@ -6,9 +6,8 @@ ghost use Rattle.spec_script.specs.Reading.{in_block};
 ghost use Rattle.mal_script.specs.ReadResult.{Gives};
 
 use crate::fault::LineRefusal;
-use mal_base::Formula;
+use mal_base::{Formula, LineFault};
 use mal_dimacs::{BlockReader, DimacsError};
-use spec_script::LineFault;
 use std::alloc::Global;
 
 /// The block behind the words of a header.

@@ -5,9 +5,7 @@ ghost use Rattle.mal_script.specs.declared.fault.LineRefusal.TheVariants.{OutOfM
 ghost use Rattle.mal_script.specs.declared.fault.AssumptionFault.TheVariants as assumption;
 ghost use Rattle.mal_script.specs.ReadResult.{OfAssumptions};
 
-use mal_base::{LimitKind, Name, Var};
-use spec_dimacs::BlockFault;
-use spec_script::LineFault;
+use mal_base::{BlockFault, LimitKind, LineFault, Name, Var};
 use std::alloc::{AllocError, AllocFailed};
 use thiserror::Error;
 

@@ -13,11 +13,10 @@ use crate::blocks;
 use crate::fault::LineRefusal;
 use crate::limits::Limits;
 use crate::script::ScriptJob;
-use mal_base::{Ask, Clause, Formula, LimitKind, Lit, Name};
+use mal_base::{Ask, Clause, Formula, LimitKind, LineFault, Lit, Name};
 use mal_dimacs::BlockReader;
 use mal_revision::Revision;
 use mal_text::first_word;
-use spec_script::LineFault;
 use std::alloc::Global;
 use std::marker::Model;
 

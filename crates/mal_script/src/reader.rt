@@ -13,9 +13,8 @@ use crate::fault::LineRefusal;
 use crate::limits::Limits;
 use crate::opened::OpenJob;
 use crate::script::{Script, ScriptJob};
-use mal_base::{Ask, LimitKind, Name};
+use mal_base::{Ask, LimitKind, LineFault, Name};
 use mal_text::first_word;
-use spec_script::LineFault;
 use std::alloc::Global;
 use std::marker::Model;
 

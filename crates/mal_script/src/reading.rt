@@ -14,8 +14,8 @@ use crate::fault::{LineRefusal, ScriptFault};
 use crate::limits::Limits;
 use crate::reader::Reader;
 use crate::script::Script;
+use mal_base::LineFault;
 use mal_text::first_line;
-use spec_script::LineFault;
 use std::alloc::Global;
 
 /// The script that a text spells within the limits that are served, or the first fault of the text, with its line from 1

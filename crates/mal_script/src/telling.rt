@@ -9,9 +9,8 @@ ghost use Rattle.mal_script.specs.declared.fault.ScriptFault.TheVariants.{OutOfM
 
 use crate::fault::ScriptFault;
 use itoa::Buffer;
-use mal_base::{LimitKind, Name};
+use mal_base::{BlockFault, LimitKind, Name};
 use mal_text::put_line;
-use spec_dimacs::BlockFault;
 use std::alloc::{AllocError, Global};
 
 /// The line `fault: script line L` and the fault's words, as `BadLine` or `Limit Jobs`, with its line end. None exactly

@@ -2,7 +2,7 @@
 use Rattle.std.specs.Prelude.{◌≡◌, ℕ, List, [], ◌++◌, ◌∷◌, codes, Ok, Err}
 use Rattle.mal_history.specs.declared.event.Event.TheVariants.{Close}
 use Rattle.mal_history.specs.Reading as history
-use Rattle.spec_script.specs.declared.fault.LineFault.TheVariants.{BadLine, Range}
+use Rattle.mal_base.specs.declared.line_fault.LineFault.TheVariants.{BadLine, Range}
 use Rattle.spec_script.specs.Examples.{job_with}
 use Rattle.spec_account.specs.Accounts.{read_text}
 use Rattle.spec_account.specs.Accounts.Fault.{NoHistory, InScript, InHistory}

@@ -2,12 +2,12 @@
 use Rattle.std.proofs.Common.{◌≡◌, ℕ, suc, Bool, true, false, cond, ◌&&◌, List, [], ◌∷◌, ◌++◌, append_assoc, length, take, codes, None, Result, Ok, Err, inl, inr, refl, sym, ap, ap₂, subst, ◌∙◌}
 use Rattle.std.specs.List.{list_any, list_all}
 use Rattle.mal_base.specs.Formulas.{Formulated}
-use Rattle.spec_dimacs.specs.declared.fault.BlockFault.{BlockFault}
+use Rattle.mal_base.specs.declared.block_fault.BlockFault.{BlockFault}
 use Rattle.spec_dimacs.specs.Rows.{is_passed, rows_of}
 use Rattle.spec_dimacs.specs.Reading.{◌>>=◌, read_rows}
 use Rattle.spec_dimacs.proofs.Spelled.{read_is_spelled, spelled_is_read}
-use Rattle.spec_script.specs.declared.fault.LineFault.{LineFault}
-use Rattle.spec_script.specs.declared.fault.LineFault.TheVariants.{BadLine}
+use Rattle.mal_base.specs.declared.line_fault.LineFault.{LineFault}
+use Rattle.mal_base.specs.declared.line_fault.LineFault.TheVariants.{BadLine}
 use Rattle.spec_script.specs.Assumptions.{assumptions_of}
 use Rattle.spec_script.proofs.Inversions.{bind_ok, chosen, passed}
 use Rattle.spec_lrat.specs.Reading as proof

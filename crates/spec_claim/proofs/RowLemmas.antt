@@ -4,7 +4,7 @@ use Rattle.std.specs.Str.{bytes_eq}
 use Rattle.std.specs.List.{list_any}
 use Rattle.std.proofs.lemmas.Slice.Eq.{bytes_eq-Decides}
 use Rattle.spec_dimacs.specs.Rows.{is_comment, is_passed}
-use Rattle.spec_script.specs.declared.fault.LineFault.TheVariants.{BadLine}
+use Rattle.mal_base.specs.declared.line_fault.LineFault.TheVariants.{BadLine}
 use Rattle.spec_script.specs.Assumptions.{assumptions_in, assumptions_of}
 use Rattle.spec_claim.specs.Claims.{is_proof_line, is_formula_line}
 

@@ -2,11 +2,11 @@
 use Rattle.std.specs.Prelude.{ℕ, suc, Bool, true, false, not, ◌||◌, List, [], ◌∷◌, length, codes, bytes_eq, if◌then◌else◌, None, Result, Ok, Err}
 use Rattle.std.specs.List.{list_any}
 use Rattle.mal_base.specs.Formulas.{Formulated}
-use Rattle.spec_dimacs.specs.declared.fault.BlockFault.{BlockFault}
+use Rattle.mal_base.specs.declared.block_fault.BlockFault.{BlockFault}
 use Rattle.spec_dimacs.specs.Rows.{is_passed, rows_of}
 use Rattle.spec_dimacs.specs.Reading.{◌>>=◌, read_rows}
-use Rattle.spec_script.specs.declared.fault.LineFault.{LineFault}
-use Rattle.spec_script.specs.declared.fault.LineFault.TheVariants.{BadLine, Dimacs}
+use Rattle.mal_base.specs.declared.line_fault.LineFault.{LineFault}
+use Rattle.mal_base.specs.declared.line_fault.LineFault.TheVariants.{BadLine, Dimacs}
 use Rattle.spec_script.specs.Assumptions.{assumptions_of}
 use Rattle.spec_lrat.specs.Reading as proof
 use Rattle.spec_check.specs.Proofs.{Numbered, lines_from}

@@ -1,8 +1,8 @@
 -- What small texts say.
 use Rattle.std.specs.Prelude.{◌≡◌, ℕ, List, ◌++◌, codes, Result, Ok, Err}
-use Rattle.spec_dimacs.specs.declared.fault.BlockFault.TheVariants as block
+use Rattle.mal_base.specs.declared.block_fault.BlockFault.TheVariants as block
 use Rattle.spec_logic.specs.Refutation.Refusal.{UnknownHint, HintNotUnit, NoContradiction}
-use Rattle.spec_script.specs.declared.fault.LineFault.TheVariants as line
+use Rattle.mal_base.specs.declared.line_fault.LineFault.TheVariants as line
 use Rattle.spec_lrat.specs.Reading as proof
 use Rattle.spec_check.specs.Proofs.{Verdict, verdict_of}
 use Rattle.spec_check.specs.Proofs.Verdict.{Verified, Refused, NoGoal}

@@ -7,10 +7,10 @@ use Rattle.mal_base.specs.Formulas.{Formulated, size_of}
 use Rattle.mal_base.specs.declared.limit_kind.LimitKind.TheVariants.{Literals}
 use Rattle.spec_text.specs.Numbers.{NumberWord, number_in}
 use Rattle.spec_text.specs.Numbers.NumberWord.{NotANumber, TooLarge, Number}
-use Rattle.spec_dimacs.specs.declared.fault.BlockFault.{BlockFault}
-use Rattle.spec_dimacs.specs.declared.fault.BlockFault.TheVariants.{BadHeader, Trailing, Limit, ClauseCount}
-use Rattle.spec_dimacs.specs.declared.stage.Stage.{Stage}
-use Rattle.spec_dimacs.specs.declared.stage.Stage.TheVariants as stage
+use Rattle.mal_base.specs.declared.block_fault.BlockFault.{BlockFault}
+use Rattle.mal_base.specs.declared.block_fault.BlockFault.TheVariants.{BadHeader, Trailing, Limit, ClauseCount}
+use Rattle.mal_base.specs.declared.stage.Stage.{Stage}
+use Rattle.mal_base.specs.declared.stage.Stage.TheVariants as stage
 use Rattle.spec_dimacs.specs.Rows.{is_comment, is_passed}
 use Rattle.spec_dimacs.specs.Merged.{clause_of}
 use Rattle.spec_dimacs.specs.Grammar.{words_in, IsTail}

@@ -1,7 +1,7 @@
 -- A text that a formula is written as is read as that formula.
 use Rattle.std.proofs.Common.{◌≡◌, ℕ, List, [], ◌∷◌, Option, Some, None, refl, sym, ap, ◌∙◌, arith, Ok, Result}
 use Rattle.mal_base.specs.Formulas.{Formulated}
-use Rattle.spec_dimacs.specs.declared.fault.BlockFault.{BlockFault}
+use Rattle.mal_base.specs.declared.block_fault.BlockFault.{BlockFault}
 use Rattle.spec_dimacs.specs.Reading.{read_text}
 use Rattle.spec_dimacs.specs.Differ.{FormulasDiffer, of_two, HaveOtherTexts}
 use Rattle.spec_dimacs.proofs.Laws.{written_is_read}

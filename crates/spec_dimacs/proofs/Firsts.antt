@@ -3,7 +3,7 @@ use Rattle.std.proofs.Common.{◌≡◌, ℕ, zero, suc, ◌+◌, ◌<◌, ◌�
 use Rattle.std.proofs.lemmas.List.{length-map}
 use Rattle.mal_base.specs.Formulas.{Formulated}
 use Rattle.spec_text.specs.Inputs.{lines_of, words_of}
-use Rattle.spec_dimacs.specs.declared.fault.BlockFault.{BlockFault}
+use Rattle.mal_base.specs.declared.block_fault.BlockFault.{BlockFault}
 use Rattle.spec_dimacs.specs.Rows.{rows_of}
 use Rattle.spec_dimacs.specs.Reading.{Block, ◌>>=◌, after_line, at_end, on_line, read_rows, read_text}
 use Rattle.spec_dimacs.specs.Laws.{FaultIsFirst}

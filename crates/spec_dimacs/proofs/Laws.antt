@@ -3,7 +3,7 @@ use Rattle.std.proofs.Common.{◌≡◌, ℕ, true, List, [], ◌∷◌, Option,
 use Rattle.std.specs.List.{list_all}
 use Rattle.mal_base.specs.Formulas.{Formulated, is_within, is_clause_of}
 use Rattle.mal_base.proofs.Sorting.{and-left, and-right, and-both}
-use Rattle.spec_dimacs.specs.declared.fault.BlockFault.{BlockFault}
+use Rattle.mal_base.specs.declared.block_fault.BlockFault.{BlockFault}
 use Rattle.spec_dimacs.specs.Merged.{IsClauseOf, AreClausesOf}
 use Rattle.spec_dimacs.specs.Written.{spelling}
 use Rattle.spec_dimacs.specs.Laws.{SpellingIsRead, SpellsOne, SpelledIsFormula, WrittenIsSpelled, WrittenIsRead, LiteralsMakeOne}

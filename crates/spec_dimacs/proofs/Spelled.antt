@@ -11,9 +11,9 @@ use Rattle.mal_base.specs.declared.limit_kind.LimitKind.TheVariants.{Variables, 
 use Rattle.mal_base.proofs.Sorting.{and-left, and-right, and-both}
 use Rattle.spec_text.specs.Numbers.{is_numeral, value_of}
 use Rattle.spec_text.specs.Numbers.NumberWord.{Number}
-use Rattle.spec_dimacs.specs.declared.fault.BlockFault.{BlockFault}
-use Rattle.spec_dimacs.specs.declared.fault.BlockFault.TheVariants.{BadHeader, ClauseCount, Limit}
-use Rattle.spec_dimacs.specs.declared.stage.Stage.TheVariants as stage
+use Rattle.mal_base.specs.declared.block_fault.BlockFault.{BlockFault}
+use Rattle.mal_base.specs.declared.block_fault.BlockFault.TheVariants.{BadHeader, ClauseCount, Limit}
+use Rattle.mal_base.specs.declared.stage.Stage.TheVariants as stage
 use Rattle.spec_dimacs.specs.Rows.{is_passed, rows_of, counted_rows}
 use Rattle.spec_dimacs.specs.Merged.{clause_of, AreClausesOf}
 use Rattle.spec_dimacs.specs.Grammar.{IsHeader, closed_numbers, words_in, AreClosed, IsTail, Spells}

@@ -13,9 +13,9 @@ use Rattle.mal_base.specs.declared.limit_kind.LimitKind.TheVariants.{Literals}
 use Rattle.mal_base.proofs.Sorting.{and-left, and-right, and-both}
 use Rattle.spec_text.specs.Numbers.{NumberWord, number_in, number_of}
 use Rattle.spec_text.specs.Numbers.NumberWord.{NotANumber, TooLarge, Number}
-use Rattle.spec_dimacs.specs.declared.fault.BlockFault.{BlockFault}
-use Rattle.spec_dimacs.specs.declared.fault.BlockFault.TheVariants.{Limit}
-use Rattle.spec_dimacs.specs.declared.stage.Stage.TheVariants as stage
+use Rattle.mal_base.specs.declared.block_fault.BlockFault.{BlockFault}
+use Rattle.mal_base.specs.declared.block_fault.BlockFault.TheVariants.{Limit}
+use Rattle.mal_base.specs.declared.stage.Stage.TheVariants as stage
 use Rattle.spec_dimacs.specs.Merged.{clause_of}
 use Rattle.spec_dimacs.specs.Grammar.{closed_numbers}
 use Rattle.spec_dimacs.specs.Reading.{Block, ◌>>=◌, code_of, with_clause, closed, after_number, after_words}

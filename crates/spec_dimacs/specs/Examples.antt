@@ -2,7 +2,7 @@
 use Rattle.std.specs.Prelude.{◌≡◌, ℕ, List, [], ◌∷◌, codes, Option, Some, None, Ok, Err}
 use Rattle.mal_base.specs.Formulas.{Formulated}
 use Rattle.mal_base.specs.declared.limit_kind.LimitKind.TheVariants.{Variables, Clauses}
-use Rattle.spec_dimacs.specs.declared.fault.BlockFault.TheVariants.{BadHeader, BadNumber, VarTooLarge, ClauseCount, Limit, Trailing}
+use Rattle.mal_base.specs.declared.block_fault.BlockFault.TheVariants.{BadHeader, BadNumber, VarTooLarge, ClauseCount, Limit, Trailing}
 use Rattle.spec_dimacs.specs.Reading.{read_text}
 use Rattle.spec_dimacs.specs.Written.{spelling}
 

@@ -1,7 +1,7 @@
 -- What holds of the grammar and of reading, in the form in which the law functions state it.
 use Rattle.std.specs.Prelude.{◌≡◌, ◌↔◌, ℕ, ◌<◌, true, List, length, take, Option, Ok, Err}
 use Rattle.spec_text.specs.Inputs.{lines_of}
-use Rattle.spec_dimacs.specs.declared.fault.BlockFault.{BlockFault}
+use Rattle.mal_base.specs.declared.block_fault.BlockFault.{BlockFault}
 use Rattle.mal_base.specs.Formulas.{Formulated, is_formula}
 use Rattle.spec_dimacs.specs.Merged.{clause_of, IsClauseOf}
 use Rattle.spec_dimacs.specs.Grammar.{Spells}

@@ -6,12 +6,6 @@ ghost use Rattle.spec_dimacs.specs.Differ.{FormulasDiffer, HaveOtherTexts};
 ghost use Rattle.spec_dimacs.specs.Examples.{SpelledExamples, HeaderExamples, FaultExamples};
 ghost use Rattle.spec_dimacs.specs.Laws.{SpellingIsRead, SpellsOne, SpelledIsFormula, WrittenIsSpelled, WrittenIsRead, LiteralsMakeOne, FaultIsFirst};
 
-mod fault;
-mod stage;
-
-pub use fault::BlockFault;
-pub use stage::Stage;
-
 /// A text spells a formula exactly where reading it gives this formula. Reading a text gives a formula or a fault, so
 /// each text spells one formula or has a first fault, and never both.
 pub fn spelling_is_read()

@@ -7,16 +7,16 @@ use Rattle.mal_revision.specs.Posted.{Posted}
 use Rattle.spec_node.specs.Load.{counted}
 use Rattle.spec_job.specs.Leased.{Finished}
 use Rattle.spec_job.specs.KeyedJob.{Key}
-use Rattle.spec_hall.specs.declared.fault.OpenFault.{OpenFault}
-use Rattle.spec_hall.specs.declared.fault.OpenFault.TheVariants as opening
-use Rattle.spec_hall.specs.declared.fault.ReviseFault.{ReviseFault}
-use Rattle.spec_hall.specs.declared.fault.ReviseFault.TheVariants as revising
-use Rattle.spec_hall.specs.declared.fault.CloseFault.{CloseFault}
-use Rattle.spec_hall.specs.declared.fault.CloseFault.TheVariants as closing
-use Rattle.spec_hall.specs.declared.fault.PickFault.{PickFault}
-use Rattle.spec_hall.specs.declared.fault.PickFault.TheVariants as picking
-use Rattle.spec_hall.specs.declared.fault.ReplyFault.{ReplyFault}
-use Rattle.spec_hall.specs.declared.fault.ReplyFault.TheVariants as asking
+use Rattle.mal_base.specs.declared.hall_fault.OpenFault.{OpenFault}
+use Rattle.mal_base.specs.declared.hall_fault.OpenFault.TheVariants as opening
+use Rattle.mal_base.specs.declared.hall_fault.ReviseFault.{ReviseFault}
+use Rattle.mal_base.specs.declared.hall_fault.ReviseFault.TheVariants as revising
+use Rattle.mal_base.specs.declared.hall_fault.CloseFault.{CloseFault}
+use Rattle.mal_base.specs.declared.hall_fault.CloseFault.TheVariants as closing
+use Rattle.mal_base.specs.declared.hall_fault.PickFault.{PickFault}
+use Rattle.mal_base.specs.declared.hall_fault.PickFault.TheVariants as picking
+use Rattle.mal_base.specs.declared.hall_fault.ReplyFault.{ReplyFault}
+use Rattle.mal_base.specs.declared.hall_fault.ReplyFault.TheVariants as asking
 use Rattle.spec_hall.specs.Calls.{AnswerTo, Back, Call, CallIsLegal, Closes, Finishes, Idle, AllDone, Leased, Opens, Asks, Picks, Recalls, Revises, IsCall, Offer, Return, Strange, lost_of, recalled, IsOfLease, IsOpening, IsRevising, IsClosing, IsPicking, IsReturning, IsAsking}
 use Rattle.spec_hall.specs.Events.{Event, Open, Revise, Close, Start, Finish}
 use Rattle.spec_hall.specs.Legal.{Allowed, Legal}

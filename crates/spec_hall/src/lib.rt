@@ -2,8 +2,6 @@
 //! functions without a body.
 #![tactic(auto)]
 
-mod fault;
-
 ghost use Rattle.spec_hall.specs.Laws.{JobAnswersStay, LegalAnswersFollow, LegalAnswersRefute, LegalAnswersSolve, LegalClausesOwn, LegalIsRunnable, LegalLogsDerived, LegalSinglesAgree, OwnEventsAnswer, OwnEventsReply, OthersLeaveOwn, SameVolumeLeavesOwn};
 ghost use Rattle.spec_hall.specs.Dressed.{LegalIsDressed};
 ghost use Rattle.spec_hall.specs.Driven.{DrivenIsDecided};
@@ -12,8 +10,6 @@ ghost use Rattle.spec_hall.specs.SinglesUpTo.{LegalSinglesAgreeUpTo};
 ghost use Rattle.spec_hall.specs.Unknowns.{LegalAnswersAccountedFor, LegalFedAnswersDecide};
 ghost use Rattle.spec_hall.specs.Leases.{LegalLeases, LegalGoesOn};
 ghost use Rattle.spec_hall.specs.Calls.{CallIsDecided, CallIsLegal};
-
-pub use fault::{ApplyFault, CloseFault, OpenFault, PickFault, ReplyFault, ReviseFault};
 
 /// A job's answers and replies come from its own events alone, and events of other jobs are none of these.
 pub fn jobs_are_isolated()

@@ -2,7 +2,7 @@
 use Rattle.std.proofs.Common.{◌≡◌, ℕ, Bool, true, false, cond, List, [], ◌∷◌, map, filter, Option, Some, Ok, Err, refl, sym, ◌∙◌, ap, subst}
 use Rattle.spec_hall.specs.Events.{Event, Open, Revise, Close, Balance, Start, Finish, Exchange, bare}
 use Rattle.spec_hall.proofs.KeyLemmas.{is_text-Decides}
-use Rattle.spec_replay.specs.declared.fault.ReplayFault.TheVariants.{OutOfMemory}
+use Rattle.mal_base.specs.declared.replay_fault.ReplayFault.TheVariants.{OutOfMemory}
 use Rattle.spec_replay.specs.Laws.{RunIsReplied, RunIsReplayed}
 use Rattle.spec_replay.specs.Replayed.{IsReplay}
 use Rattle.spec_replay.specs.Scripted.{event_by}

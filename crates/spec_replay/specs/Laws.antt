@@ -1,8 +1,8 @@
 use Rattle.std.specs.Prelude.{◌≡◌, ◌≢◌, ℕ, List, map, Result, Ok, Err}
 use Rattle.mal_history.specs.declared.event.Event as written
 use Rattle.spec_hall.specs.Events.{Event, bare}
-use Rattle.spec_replay.specs.declared.fault.ReplayFault.{ReplayFault}
-use Rattle.spec_replay.specs.declared.fault.ReplayFault.TheVariants.{OutOfMemory}
+use Rattle.mal_base.specs.declared.replay_fault.ReplayFault.{ReplayFault}
+use Rattle.mal_base.specs.declared.replay_fault.ReplayFault.TheVariants.{OutOfMemory}
 use Rattle.spec_replay.specs.Replayed.{IsReplay, IsReplied}
 use Rattle.spec_run.specs.Run.{IsRun}
 use Rattle.spec_script.specs.Formed.{IsScript}

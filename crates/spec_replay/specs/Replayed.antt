@@ -3,8 +3,8 @@ use Rattle.std.specs.Prelude.{◌≡◌, ℕ, List, slice_get, take, Some, Resul
 use Rattle.mal_history.specs.declared.event.Event as written
 use Rattle.spec_hall.specs.Events.{Event}
 use Rattle.spec_hall.specs.Legal.{Allowed, Legal}
-use Rattle.spec_replay.specs.declared.fault.ReplayFault.{ReplayFault}
-use Rattle.spec_replay.specs.declared.fault.ReplayFault.TheVariants.{NotLegal, NotComplete, OutOfMemory}
+use Rattle.mal_base.specs.declared.replay_fault.ReplayFault.{ReplayFault}
+use Rattle.mal_base.specs.declared.replay_fault.ReplayFault.TheVariants.{NotLegal, NotComplete, OutOfMemory}
 use Rattle.spec_replay.specs.Scripted.{AreWritten, event_by}
 use Rattle.spec_run.specs.Complete.{IsComplete}
 use Rattle.spec_run.specs.Run.{replies}

@@ -13,8 +13,8 @@ use Rattle.mal_revision.specs.Posted.{Posted, is_posted}
 use Rattle.spec_text.specs.Numbers.{NumberWord, number_in, decimal_word}
 use Rattle.spec_text.specs.Numbers.NumberWord.{Number}
 use Rattle.spec_text.proofs.Numerals.{numbers_read_again}
-use Rattle.spec_dimacs.specs.declared.fault.BlockFault.{BlockFault}
-use Rattle.spec_dimacs.specs.declared.fault.BlockFault.TheVariants.{BadHeader}
+use Rattle.mal_base.specs.declared.block_fault.BlockFault.{BlockFault}
+use Rattle.mal_base.specs.declared.block_fault.BlockFault.TheVariants.{BadHeader}
 use Rattle.spec_dimacs.specs.Rows as rows
 use Rattle.spec_dimacs.specs.Reading.{Block, ◌>>=◌, opened, after_rows, ended}
 use Rattle.spec_dimacs.specs.Written as formula
@@ -22,8 +22,8 @@ use Rattle.spec_dimacs.specs.Written.{clause_words, header_words, formula_rows}
 use Rattle.spec_dimacs.proofs.Behind.{Leads, whole_leads}
 use Rattle.spec_dimacs.proofs.Again.{written_rows}
 use Rattle.spec_dimacs.proofs.Laws.{written_is_read}
-use Rattle.spec_script.specs.declared.fault.LineFault.{LineFault}
-use Rattle.spec_script.specs.declared.fault.LineFault.TheVariants.{Range, Duplicate, Limit}
+use Rattle.mal_base.specs.declared.line_fault.LineFault.{LineFault}
+use Rattle.mal_base.specs.declared.line_fault.LineFault.TheVariants.{Range, Duplicate, Limit}
 use Rattle.spec_script.specs.Limits.{Limits}
 use Rattle.spec_script.specs.Script.{ScriptedJob, rows_of, spelling}
 use Rattle.spec_script.specs.Reading.{OpenJob, Reading, named, ranged, asked, is_job, has_room, begun, going_on, admitted, with_revision, revised}

@@ -13,7 +13,7 @@ use Rattle.spec_dimacs.specs.Reading.{◌>>=◌, code_of}
 use Rattle.spec_dimacs.specs.Written.{closed_words}
 use Rattle.spec_dimacs.proofs.Numbers.{code_of-number_of}
 use Rattle.spec_dimacs.proofs.Again.{clause_again}
-use Rattle.spec_script.specs.declared.fault.LineFault.{LineFault}
+use Rattle.mal_base.specs.declared.line_fault.LineFault.{LineFault}
 use Rattle.spec_script.specs.Assumptions.{literals_from, consistent, assumptions_in}
 use Rattle.spec_script.proofs.Sorted.{sorted-unique}
 

@@ -7,7 +7,7 @@ use Rattle.mal_base.specs.Asks.{Terms}
 use Rattle.mal_base.specs.declared.limit_kind.LimitKind.TheVariants.{Tenants, Jobs}
 use Rattle.mal_base.proofs.Sorting.{and-right}
 use Rattle.mal_revision.specs.Posted.{Posted}
-use Rattle.spec_script.specs.declared.fault.LineFault.TheVariants.{Limit, Duplicate}
+use Rattle.mal_base.specs.declared.line_fault.LineFault.TheVariants.{Limit, Duplicate}
 use Rattle.spec_script.specs.Limits.{Limits}
 use Rattle.spec_script.specs.Script.{ScriptedJob, Scripted}
 use Rattle.spec_script.specs.Reading.{Reading, OpenJob, unread, named, admitted, is_job, has_room, going_on, begun, with_job}

@@ -1,7 +1,7 @@
 -- A text that a script is written as is read as that script.
 use Rattle.std.proofs.Common.{◌≡◌, ℕ, List, [], ◌∷◌, length, codes, refl, sym, ap, ◌∙◌, arith, Ok, Result}
 use Rattle.mal_base.specs.Asks.{IsAsk}
-use Rattle.spec_script.specs.declared.fault.LineFault.{LineFault}
+use Rattle.mal_base.specs.declared.line_fault.LineFault.{LineFault}
 use Rattle.spec_script.specs.Examples.{job_named, job_with}
 use Rattle.spec_script.specs.Formed.{IsJob}
 use Rattle.spec_script.specs.Limits.{served}

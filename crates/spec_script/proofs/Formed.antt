@@ -17,7 +17,7 @@ use Rattle.spec_text.specs.Numbers.NumberWord.{NotANumber, TooLarge, Number}
 use Rattle.spec_dimacs.specs.Rows.{is_passed}
 use Rattle.spec_dimacs.specs.Reading.{◌>>=◌, opened, after_rows, ended}
 use Rattle.spec_dimacs.proofs.Led.{led_formula}
-use Rattle.spec_script.specs.declared.fault.LineFault.TheVariants.{BadLine, Range, Duplicate, Limit}
+use Rattle.mal_base.specs.declared.line_fault.LineFault.TheVariants.{BadLine, Range, Duplicate, Limit}
 use Rattle.spec_script.specs.Limits.{Limits}
 use Rattle.spec_script.specs.Script.{ScriptedJob}
 use Rattle.spec_script.specs.Reading.{OpenJob, Reading, unread, named, is_number, ranged, in_range, asked, is_job, has_room, begun, going_on, with_revision, revised}

@@ -4,10 +4,10 @@ use Rattle.std.specs.List.{list_any}
 use Rattle.std.specs.Str.{bytes_eq}
 use Rattle.std.specs.Cmp.Lexicographic.{same_text}
 use Rattle.mal_base.specs.Asks.{Terms}
-use Rattle.spec_dimacs.specs.declared.fault.BlockFault.{BlockFault}
+use Rattle.mal_base.specs.declared.block_fault.BlockFault.{BlockFault}
 use Rattle.spec_dimacs.specs.Reading.{◌>>=◌}
-use Rattle.spec_script.specs.declared.fault.LineFault.{LineFault}
-use Rattle.spec_script.specs.declared.fault.LineFault.TheVariants.{Limit, Duplicate}
+use Rattle.mal_base.specs.declared.line_fault.LineFault.{LineFault}
+use Rattle.mal_base.specs.declared.line_fault.LineFault.TheVariants.{Limit, Duplicate}
 use Rattle.mal_base.specs.declared.limit_kind.LimitKind.TheVariants.{Clauses, Literals, Tenants, Jobs}
 use Rattle.mal_base.specs.Formulas.{Formulated, literals_of}
 use Rattle.spec_script.specs.Limits.{Limits}

@@ -9,12 +9,12 @@ use Rattle.mal_base.specs.Names.{is_name}
 use Rattle.mal_base.specs.declared.limit_kind.LimitKind.TheVariants.{Revisions}
 use Rattle.mal_base.proofs.Sorting.{and-both, and-left, and-right}
 use Rattle.spec_text.specs.Numbers.{number_in}
-use Rattle.spec_dimacs.specs.declared.fault.BlockFault.{BlockFault}
+use Rattle.mal_base.specs.declared.block_fault.BlockFault.{BlockFault}
 use Rattle.spec_dimacs.specs.Rows.{is_passed, rows_of, counted_rows}
 use Rattle.spec_dimacs.specs.Reading as block
 use Rattle.spec_dimacs.specs.Reading.{Block, ◌>>=◌, after_rows}
-use Rattle.spec_script.specs.declared.fault.LineFault.{LineFault}
-use Rattle.spec_script.specs.declared.fault.LineFault.TheVariants.{BadLine, Limit}
+use Rattle.mal_base.specs.declared.line_fault.LineFault.{LineFault}
+use Rattle.mal_base.specs.declared.line_fault.LineFault.TheVariants.{BadLine, Limit}
 use Rattle.spec_script.specs.Limits.{Limits}
 use Rattle.spec_script.specs.Assumptions.{assumptions_in}
 use Rattle.spec_script.specs.Script.{ScriptedJob, Scripted}

@@ -5,8 +5,8 @@ use Rattle.spec_text.specs.Numbers.{NumberWord, number_in}
 use Rattle.spec_text.specs.Numbers.NumberWord.{NotANumber, TooLarge, Number}
 use Rattle.spec_dimacs.specs.Merged.{sorted}
 use Rattle.spec_dimacs.specs.Reading.{◌>>=◌, code_of}
-use Rattle.spec_script.specs.declared.fault.LineFault.{LineFault}
-use Rattle.spec_script.specs.declared.fault.LineFault.TheVariants.{BadLine, Opposite, Range}
+use Rattle.mal_base.specs.declared.line_fault.LineFault.{LineFault}
+use Rattle.mal_base.specs.declared.line_fault.LineFault.TheVariants.{BadLine, Opposite, Range}
 
 -- behind the 0 that closes the literals stands nothing; a literal above the variables was met, or none
 abbrev pub closed : List ℕ → Bool → List NumberWord → Result (List ℕ) LineFault

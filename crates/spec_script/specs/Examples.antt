@@ -1,8 +1,8 @@
 use Rattle.std.specs.Prelude.{◌≡◌, ℕ, List, [], ◌∷◌, ◌++◌, codes, Some, None, Ok, Err}
 use Rattle.mal_base.specs.declared.limit_kind.LimitKind.TheVariants.{Tenants, Jobs, Revisions}
 use Rattle.mal_revision.specs.Posted.{Posted}
-use Rattle.spec_dimacs.specs.declared.fault.BlockFault.TheVariants.{VarTooLarge, ClauseCount}
-use Rattle.spec_script.specs.declared.fault.LineFault.TheVariants.{BadLine, Dimacs, Opposite, Duplicate, Range, Limit}
+use Rattle.mal_base.specs.declared.block_fault.BlockFault.TheVariants.{VarTooLarge, ClauseCount}
+use Rattle.mal_base.specs.declared.line_fault.LineFault.TheVariants.{BadLine, Dimacs, Opposite, Duplicate, Range, Limit}
 use Rattle.spec_script.specs.Limits.{Limits, served}
 use Rattle.spec_script.specs.Reading.{read_text}
 use Rattle.spec_script.specs.Script.{ScriptedJob, Scripted, spelling}

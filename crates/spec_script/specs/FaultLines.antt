@@ -4,10 +4,10 @@ use Rattle.mal_base.specs.declared.limit_kind.LimitKind.{LimitKind}
 use Rattle.mal_base.specs.declared.limit_kind.LimitKind.TheVariants.{Variables, Clauses, Literals, Tenants, Jobs, Revisions}
 use Rattle.spec_text.specs.Lines.{line_of}
 use Rattle.spec_text.specs.Numbers.{decimal_word}
-use Rattle.spec_dimacs.specs.declared.fault.BlockFault.{BlockFault}
-use Rattle.spec_dimacs.specs.declared.fault.BlockFault.TheVariants as block
-use Rattle.spec_script.specs.declared.fault.LineFault.{LineFault}
-use Rattle.spec_script.specs.declared.fault.LineFault.TheVariants as line
+use Rattle.mal_base.specs.declared.block_fault.BlockFault.{BlockFault}
+use Rattle.mal_base.specs.declared.block_fault.BlockFault.TheVariants as block
+use Rattle.mal_base.specs.declared.line_fault.LineFault.{LineFault}
+use Rattle.mal_base.specs.declared.line_fault.LineFault.TheVariants as line
 
 -- the word of a limit
 abbrev pub which_word : LimitKind → List ℕ

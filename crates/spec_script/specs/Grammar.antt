@@ -5,7 +5,7 @@ use Rattle.mal_base.specs.Asks.{Terms}
 use Rattle.mal_base.specs.Formulas.{Formulated}
 use Rattle.mal_base.specs.Names.{is_name}
 use Rattle.spec_text.specs.Numbers.{number_in}
-use Rattle.spec_dimacs.specs.declared.fault.BlockFault.{BlockFault}
+use Rattle.mal_base.specs.declared.block_fault.BlockFault.{BlockFault}
 use Rattle.spec_dimacs.specs.Rows.{is_passed, counted_rows}
 use Rattle.spec_dimacs.specs.Reading as block
 use Rattle.spec_dimacs.specs.Reading.{◌>>=◌}

@@ -7,12 +7,12 @@ use Rattle.mal_base.specs.Names.{is_name}
 use Rattle.mal_base.specs.declared.limit_kind.LimitKind.TheVariants.{Clauses, Literals, Tenants, Jobs, Revisions}
 use Rattle.spec_text.specs.Numbers.{NumberWord, number_in}
 use Rattle.spec_text.specs.Numbers.NumberWord.{NotANumber, TooLarge, Number}
-use Rattle.spec_dimacs.specs.declared.fault.BlockFault.{BlockFault}
+use Rattle.mal_base.specs.declared.block_fault.BlockFault.{BlockFault}
 use Rattle.spec_dimacs.specs.Rows.{is_passed, rows_of}
 use Rattle.spec_dimacs.specs.Reading as block
 use Rattle.spec_dimacs.specs.Reading.{Block, ◌>>=◌}
-use Rattle.spec_script.specs.declared.fault.LineFault.{LineFault}
-use Rattle.spec_script.specs.declared.fault.LineFault.TheVariants.{BadLine, Dimacs, Duplicate, Range, Limit}
+use Rattle.mal_base.specs.declared.line_fault.LineFault.{LineFault}
+use Rattle.mal_base.specs.declared.line_fault.LineFault.TheVariants.{BadLine, Dimacs, Duplicate, Range, Limit}
 use Rattle.spec_script.specs.Limits.{Limits}
 use Rattle.spec_script.specs.Script.{ScriptedJob, Scripted}
 use Rattle.spec_script.specs.Assumptions.{assumptions_in}

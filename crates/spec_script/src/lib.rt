@@ -2,13 +2,9 @@
 //! text is the first one. Definitions, and the laws about them as the contracts of functions without a body.
 #![tactic(auto)]
 
-mod fault;
-
 ghost use Rattle.spec_script.specs.Differ.{HaveOtherTexts, ScriptsDiffer};
 ghost use Rattle.spec_script.specs.Examples.{HasExamples, ReadingExamples, FaultExamples, LimitExamples};
 ghost use Rattle.spec_script.specs.Laws.{SpelledIsRead, SpelledIsWithin, WrittenIsSpelled, WrittenIsRead, SpelledIsScript, SpelledAgain};
-
-pub use fault::LineFault;
 
 /// The worked examples of a script's text compute to the texts that are known.
 pub fn script_examples()

@@ -10,12 +10,12 @@ use Rattle.mal_base.specs.Asks.{Terms}
 use Rattle.spec_job.specs.Replies.{reply}
 use Rattle.spec_job.specs.SoloMachine.{solo}
 use Rattle.spec_job.specs.KeyedJob.{Key, KeyedJob}
-use Rattle.spec_hall.specs.declared.fault.ReviseFault.TheVariants as revising
-use Rattle.spec_hall.specs.declared.fault.CloseFault.TheVariants as closing
-use Rattle.spec_hall.specs.declared.fault.ReplyFault.TheVariants as asking
-use Rattle.spec_hall.specs.declared.fault.ReviseFault.{ReviseFault}
-use Rattle.spec_hall.specs.declared.fault.CloseFault.{CloseFault}
-use Rattle.spec_hall.specs.declared.fault.ReplyFault.{ReplyFault}
+use Rattle.mal_base.specs.declared.hall_fault.ReviseFault.TheVariants as revising
+use Rattle.mal_base.specs.declared.hall_fault.CloseFault.TheVariants as closing
+use Rattle.mal_base.specs.declared.hall_fault.ReplyFault.TheVariants as asking
+use Rattle.mal_base.specs.declared.hall_fault.ReviseFault.{ReviseFault}
+use Rattle.mal_base.specs.declared.hall_fault.CloseFault.{CloseFault}
+use Rattle.mal_base.specs.declared.hall_fault.ReplyFault.{ReplyFault}
 use Rattle.spec_hall.specs.Calls.{IsAsking, IsClosing, IsOpening, IsRevising}
 use Rattle.spec_hall.specs.Events.{Event, Open}
 use Rattle.spec_hall.specs.Own.{own, is_key}

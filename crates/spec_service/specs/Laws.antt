@@ -9,9 +9,9 @@ use Rattle.spec_job.specs.Provenance.{ClausesAreOwn}
 use Rattle.spec_job.specs.Replies.{reply}
 use Rattle.spec_job.specs.SoloMachine.{SoloMachine, solo}
 use Rattle.spec_job.specs.KeyedJob.{Key}
-use Rattle.spec_hall.specs.declared.fault.ReviseFault.TheVariants as revising
-use Rattle.spec_hall.specs.declared.fault.CloseFault.TheVariants as closing
-use Rattle.spec_hall.specs.declared.fault.ReplyFault.TheVariants as asking
+use Rattle.mal_base.specs.declared.hall_fault.ReviseFault.TheVariants as revising
+use Rattle.mal_base.specs.declared.hall_fault.CloseFault.TheVariants as closing
+use Rattle.mal_base.specs.declared.hall_fault.ReplyFault.TheVariants as asking
 use Rattle.spec_hall.specs.Events.{Event}
 use Rattle.spec_hall.specs.Own.{own}
 use Rattle.spec_service.specs.Record.{Answered, Opened, Revised, Closed, Asked, Picked, Gave, AreAnsweredFrom, Entry, IsLegal, Record, entry, events_of}

@@ -5,11 +5,11 @@ use Rattle.mal_base.specs.Asks.{Terms}
 use Rattle.mal_revision.specs.Posted.{Posted}
 use Rattle.spec_job.specs.Leased.{Finished}
 use Rattle.spec_job.specs.KeyedJob.{Key}
-use Rattle.spec_hall.specs.declared.fault.OpenFault.{OpenFault}
-use Rattle.spec_hall.specs.declared.fault.ReviseFault.{ReviseFault}
-use Rattle.spec_hall.specs.declared.fault.CloseFault.{CloseFault}
-use Rattle.spec_hall.specs.declared.fault.PickFault.{PickFault}
-use Rattle.spec_hall.specs.declared.fault.ReplyFault.{ReplyFault}
+use Rattle.mal_base.specs.declared.hall_fault.OpenFault.{OpenFault}
+use Rattle.mal_base.specs.declared.hall_fault.ReviseFault.{ReviseFault}
+use Rattle.mal_base.specs.declared.hall_fault.CloseFault.{CloseFault}
+use Rattle.mal_base.specs.declared.hall_fault.PickFault.{PickFault}
+use Rattle.mal_base.specs.declared.hall_fault.ReplyFault.{ReplyFault}
 use Rattle.spec_hall.specs.Calls.{IsCall, Offer, Return, Opens, Revises, Closes, Asks, Picks, Finishes}
 use Rattle.spec_hall.specs.Events.{Event}
 use Rattle.spec_hall.specs.Legal.{Legal}

@@ -7,11 +7,11 @@ ghost use Rattle.spec_script.specs.Limits.{served};
 
 use super::gates::losses;
 use super::scripts::{FOUR_REPLIES, FOUR_TENANTS};
+use mal_base::PickFault;
 use mal_hall::{Back, Desk, Hall, Pick, Post, PostFault, Strange};
 use mal_pool::{Board, HallBox, InUse, OwnCalls, PlainGate, Shared, Size, replies, run_with};
 use mal_script::Script;
 use mal_suspend::Done;
-use spec_hall::PickFault;
 use std::alloc::{AllocError, Global};
 use std::marker::Brand;
 use std::process::Abort;

@@ -1,7 +1,7 @@
 use Rattle.std.proofs.Common.{◌≡◌, ◌∙◌, sym, subst, List, ℕ, Result, pos, arith, rules, FitsSigned, w64}
 use Rattle.std.proofs.lemmas.Int.{ints}
 use Rattle.spec_text.specs.Inputs.{words_of}
-use Rattle.spec_script.specs.declared.fault.LineFault.{LineFault}
+use Rattle.mal_base.specs.declared.line_fault.LineFault.{LineFault}
 use Rattle.mal_script.specs.ReadResult.{GivesAssumed}
 use Rattle.mal_script.proofs.Steps.{closed-at}
 use Rattle.mal_script.proofs.assuming.literals.Goals as goal

@@ -1,7 +1,7 @@
 use Rattle.std.proofs.Common.{◌≡◌, ◌+◌, List, length, ap, [], ◌∙◌, refl, sym, subst, arith, Err}
 use Rattle.std.proofs.lemmas.Result.{err_from_is_err_and}
 use Rattle.spec_hall.specs.Calls.{Opens}
-use Rattle.spec_hall.specs.declared.fault.OpenFault.TheVariants.{Duplicate, OutOfMemory}
+use Rattle.mal_base.specs.declared.hall_fault.OpenFault.TheVariants.{Duplicate, OutOfMemory}
 use Rattle.spec_hall.specs.Dressed.{keyed}
 use Rattle.spec_hall.specs.Seats.{Seat}
 use Rattle.mal_hall.specs.HallView.{events_of}

@@ -5,7 +5,7 @@ use Rattle.spec_job.specs.Replies.{reply}
 use Rattle.std.specs.declared.alloc.Global.{Global}
 use Rattle.std.specs.declared.vec.Vec.{Vec}
 use Rattle.spec_job.specs.KeyedJob.{KeyedJob}
-use Rattle.spec_hall.specs.declared.fault.ReplyFault.TheVariants.{NoJob, OutOfMemory}
+use Rattle.mal_base.specs.declared.hall_fault.ReplyFault.TheVariants.{NoJob, OutOfMemory}
 use Rattle.spec_hall.specs.Calls.{IsAsking}
 use Rattle.spec_hall.specs.Dressed.{keyed}
 use Rattle.spec_hall.specs.Events.{Event}

@@ -4,7 +4,7 @@ use Rattle.spec_hall.specs.Dressed.{keyed}
 use Rattle.spec_hall.specs.Seats.{Seat}
 use Rattle.spec_hall.specs.States.{states}
 use Rattle.spec_hall.specs.Calls.{IsRevising, Revises}
-use Rattle.spec_hall.specs.declared.fault.ReviseFault.TheVariants.{OutOfMemory}
+use Rattle.mal_base.specs.declared.hall_fault.ReviseFault.TheVariants.{OutOfMemory}
 use Rattle.mal_hall.specs.HallView.{HallView, events_of}
 use Rattle.mal_hall.proofs.KeptLemmas.{set-same}
 use Rattle.mal_hall.proofs.HallLemmas.{placed, placed-below, sits, same-seat, hall-absent, hall-found, hall-next, hall-revise, may-revise, called-none, called-one}

@@ -1,7 +1,6 @@
 //! Why a text is no script.
 
-use mal_base::{LimitKind, Name, Var};
-use spec_dimacs::BlockFault;
+use crate::{BlockFault, LimitKind, Name, Var};
 use thiserror::Error;
 
 /// What is wrong with a line of a script, or with the end of one.

@@ -1,6 +1,6 @@
 //! Why a text or a block of lines is no DIMACS CNF formula.
 
-use mal_base::LimitKind;
+use crate::LimitKind;
 use thiserror::Error;
 
 /// What is wrong with a line of DIMACS CNF, or with the end of one.

@@ -1,6 +1,6 @@
 //! Why a hall refuses a call.
 
-use mal_base::LimitKind;
+use crate::LimitKind;
 use thiserror::Error;
 
 /// Why a job is not opened.
