@@ -9,9 +9,9 @@ use Rattle.spec_claim.specs.Claims.{Claim, Fault, read_text}
 use Rattle.spec_claim.specs.FaultLines.{verdict_line}
 use Rattle.spec_claim.specs.Grammar.{Spells}
 use Rattle.spec_claim.proofs.ReadLemmas.{spelled-is-read}
-use Rattle.mal_verify.specs.declared.checking.VerifyFault.{VerifyFault}
-use Rattle.mal_verify.specs.declared.checking.VerifyFault.TheVariants as verify
-use Rattle.mal_verify.specs.Verdicts as verdicts
+use Rattle.mal_claim.specs.declared.checking.VerifyFault.{VerifyFault}
+use Rattle.mal_claim.specs.declared.checking.VerifyFault.TheVariants as verify
+use Rattle.mal_claim.specs.Verdicts as verdicts
 use Rattle.mal_claim.specs.declared.fault.ClaimFault.{ClaimFault}
 use Rattle.mal_claim.specs.ReadResult.{Fails, Tells, TellsVerdict, fault_of, refused, verdict_in}
 use Rattle.mal_answer.specs.Answers.{IsAnswerTo}

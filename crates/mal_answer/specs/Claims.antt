@@ -5,7 +5,7 @@ use Rattle.mal_claim.specs.declared.fault.ClaimFault.{ClaimFault}
 use Rattle.mal_answer.specs.Commands.{IsProved}
 use Rattle.mal_answer.specs.declared.answer.Complaint.{Complaint}
 use Rattle.mal_answer.specs.declared.answer.Complaint.TheVariants as complaint
-use Rattle.mal_verify.specs.declared.checking.VerifyFault.{VerifyFault}
+use Rattle.mal_claim.specs.declared.checking.VerifyFault.{VerifyFault}
 use Rattle.spec_check.specs.Proofs.{verdict_of}
 use Rattle.spec_claim.specs.Claims.{Claim}
 use Rattle.spec_claim.specs.FaultLines.{verdict_line}

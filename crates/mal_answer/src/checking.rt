@@ -12,9 +12,8 @@ ghost use Rattle.spec_logic.specs.Logic.{IsUnsatisfiable};
 
 use crate::answer::{Complaint, Texts};
 use crate::reading::input;
-use mal_claim::{ClaimFault, fault_line, read, verdict_line};
+use mal_claim::{ClaimFault, VerifyFault, fault_line, read, verdict_line, verify};
 use mal_io::Source;
-use mal_verify::{VerifyFault, verify};
 use std::alloc::{AllocError, Global};
 
 /// Checks the proof of the claim that `source` gives.

@@ -7,7 +7,7 @@ use Rattle.spec_claim.specs.Grammar.{Spells}
 use Rattle.spec_claim.proofs.ReadLemmas.{spelled-is-read}
 use Rattle.mal_lrat.specs.declared.fault.LineFault.{LineFault}
 use Rattle.mal_lrat.specs.declared.fault.LineFault.TheVariants as lrat
-use Rattle.mal_verify.specs.Answers as verify
+use Rattle.mal_claim.specs.Answers as verify
 use Rattle.mal_claim.specs.declared.claim.Claim.{Claim}
 use Rattle.mal_claim.specs.declared.fault.ClaimFault.{ClaimFault}
 use Rattle.mal_claim.specs.ReadResult.{seen, in_line, Fails, Gives}

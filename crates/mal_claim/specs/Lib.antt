@@ -1,1 +1,4 @@
+pub mod Views
+pub mod Answers
+pub mod Verdicts
 pub mod ReadResult

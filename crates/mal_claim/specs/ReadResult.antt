@@ -15,10 +15,10 @@ use Rattle.spec_claim.specs.Claims.Fault.{NoProof, InFormula, InProof}
 use Rattle.spec_claim.specs.FaultLines.{fault_line, verdict_line}
 use Rattle.mal_lrat.specs.declared.fault.LineFault.TheVariants as lrat
 use Rattle.mal_lrat.specs.declared.fault.LineFault as declared
-use Rattle.mal_verify.specs.declared.checking.VerifyFault.{VerifyFault}
-use Rattle.mal_verify.specs.declared.checking.VerifyFault.TheVariants as verify
-use Rattle.mal_verify.specs.Verdicts.{refusal_of}
-use Rattle.mal_verify.specs.Views.{views}
+use Rattle.mal_claim.specs.declared.checking.VerifyFault.{VerifyFault}
+use Rattle.mal_claim.specs.declared.checking.VerifyFault.TheVariants as verify
+use Rattle.mal_claim.specs.Verdicts.{refusal_of}
+use Rattle.mal_claim.specs.Views.{views}
 use Rattle.mal_claim.specs.declared.claim.Claim.{Claim}
 use Rattle.mal_claim.specs.declared.fault.ClaimFault.{ClaimFault}
 use Rattle.mal_claim.specs.declared.fault.ClaimFault.TheVariants as claimed

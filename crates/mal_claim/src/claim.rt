@@ -1,7 +1,7 @@
 //! A claim with its proof.
 
+use crate::NumberedLine;
 use mal_base::{Formula, Lit};
-use mal_verify::NumberedLine;
 
 /// The claim that nothing satisfies a formula and assumptions (by rising variable, each once, of the formula's variables),
 /// and the lines of its proof, numbered from 1 on behind the line `proof`.

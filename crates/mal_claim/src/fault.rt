@@ -3,8 +3,8 @@
 ghost use Rattle.std.specs.Prelude.{◌≡◌};
 ghost use Rattle.mal_claim.specs.declared.fault.ClaimFault.TheVariants.{OutOfMemory};
 
+use crate::ProofFault;
 use mal_base::LineFault;
-use mal_verify::ProofFault;
 use std::alloc::{AllocError, AllocFailed};
 
 /// Why a text is no claim: its first fault, or want of memory.

@@ -6,17 +6,17 @@ ghost use Rattle.spec_dimacs.specs.Rows.{rows_of};
 ghost use Rattle.spec_check.specs.Proofs.{lines_from};
 ghost use Rattle.spec_claim.specs.Claims.{is_proof_line, assumed, to_proof, in_proof, read_lines, read_text};
 ghost use Rattle.spec_claim.specs.Grammar.{Spells};
-ghost use Rattle.mal_verify.specs.Views.{views};
+ghost use Rattle.mal_claim.specs.Views.{views};
 ghost use Rattle.mal_claim.specs.ReadResult.{Gives, IsAssumed, seen, seen_assumed};
 
 use crate::claim::Claim;
 use crate::fault::ClaimFault;
 use crate::formula::read_formula;
 use crate::words::{is_passed, is_proof_line};
+use crate::{NumberedLine, read_proof};
 use mal_base::{LineFault, Lit};
 use mal_script::{AssumptionFault, assumptions};
 use mal_text::first_line;
-use mal_verify::{NumberedLine, read_proof};
 use std::alloc::Global;
 
 /// The claim that a text spells: a formula by DIMACS CNF, maybe a line `a`, literals and 0, then the line `proof`, and the

@@ -6,14 +6,14 @@ ghost use Rattle.spec_text.specs.Numbers.{decimal_word};
 ghost use Rattle.spec_script.specs.FaultLines.{block_words, fault_words, which_word};
 ghost use Rattle.spec_claim.specs.FaultLines.{proof_line};
 ghost use Rattle.mal_claim.specs.ReadResult.{Tells, TellsVerdict, fault_of, in_line, refused, verdict_in};
-ghost use Rattle.mal_verify.specs.Verdicts.{refusal_of};
+ghost use Rattle.mal_claim.specs.Verdicts.{refusal_of};
 
+use crate::VerifyFault;
 use crate::fault::ClaimFault;
 use itoa::Buffer;
 use mal_base::{BlockFault, LimitKind, LineFault, Name};
 use mal_check::CheckFault;
 use mal_text::put_line;
-use mal_verify::VerifyFault;
 use std::alloc::{AllocError, Global};
 
 /// The line that tells a fault of a text, as `fault: no proof`, `fault: formula line 3 Range` or

@@ -1,6 +1,6 @@
 use super::*;
+use crate::verify;
 use mal_base::Lit;
-use mal_verify::verify;
 use std::alloc::Global;
 use std::test::Fail;
 

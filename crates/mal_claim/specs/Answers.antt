@@ -9,7 +9,7 @@ use Rattle.spec_logic.specs.Refutation.Refusal.{IdUsed, UnknownHint, HintNotUnit
 use Rattle.spec_lrat.specs.Reading.{Fault}
 use Rattle.spec_lrat.specs.Reading.Fault.{BadNumber, MissingZero, IdNotRising, NegativeHint}
 use Rattle.spec_check.specs.Proofs.{Numbered, Read}
-use Rattle.mal_verify.specs.declared.reading.ProofFault.{ProofFault}
+use Rattle.mal_claim.specs.declared.proof_reading.ProofFault.{ProofFault}
 
 -- an answer other than want of memory is this fault of this line
 abbrev pub FailsAt : {Y : Type 0} → ℕ → LineFault → Result Y (ℕ × Fault) → Type 0

@@ -6,8 +6,8 @@ ghost use Rattle.spec_dimacs.specs.Rows.{is_comment, is_passed};
 ghost use Rattle.spec_check.specs.Proofs.{last_after, with_number, row_at, lines_from};
 ghost use Rattle.mal_lrat.specs.LineView.{seen};
 ghost use Rattle.spec_lrat.specs.Reading.{reading};
-ghost use Rattle.mal_verify.specs.Views.{views};
-ghost use Rattle.mal_verify.specs.Answers.{Gives, GivesRow};
+ghost use Rattle.mal_claim.specs.Views.{views};
+ghost use Rattle.mal_claim.specs.Answers.{Gives, GivesRow};
 
 use mal_lrat::{Line, LineFault, read_line};
 use mal_text::{first_line, first_word};

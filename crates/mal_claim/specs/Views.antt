@@ -2,7 +2,7 @@
 use Rattle.std.specs.Prelude.{List, map}
 use Rattle.mal_lrat.specs.LineView.{seen}
 use Rattle.spec_check.specs.Proofs.{Numbered}
-use Rattle.mal_verify.specs.declared.reading.NumberedLine.{NumberedLine}
+use Rattle.mal_claim.specs.declared.proof_reading.NumberedLine.{NumberedLine}
 
 abbrev pub view : NumberedLine → Numbered
 view l = record { number = l.number; line = seen l.line }

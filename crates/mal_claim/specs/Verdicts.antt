@@ -6,8 +6,8 @@ use Rattle.spec_logic.specs.Refutation.{Refusal}
 use Rattle.spec_logic.specs.Refutation.Refusal.{IdUsed, UnknownHint, HintNotUnit, NoContradiction}
 use Rattle.spec_check.specs.Proofs.{Verdict}
 use Rattle.spec_check.specs.Proofs.Verdict.{Verified, Refused, NoGoal}
-use Rattle.mal_verify.specs.declared.checking.VerifyFault.{VerifyFault}
-use Rattle.mal_verify.specs.declared.checking.VerifyFault.TheVariants as answer
+use Rattle.mal_claim.specs.declared.checking.VerifyFault.{VerifyFault}
+use Rattle.mal_claim.specs.declared.checking.VerifyFault.TheVariants as answer
 
 -- the refusal that a fault of the checker is, none for want of memory
 abbrev pub refusal_of : CheckFault → Option Refusal

@@ -1,9 +1,9 @@
 use Rattle.std.proofs.Common.{◌≡◌, ◌≤◌, ◌+◌, ℕ, map, length}
 use Rattle.spec_text.specs.Inputs.{lines_of, words_of}
 use Rattle.spec_check.specs.Proofs.{lines_from}
-use Rattle.mal_verify.specs.Views.{views}
-use Rattle.mal_verify.proofs.Behind.{behind}
-use Rattle.mal_verify.proofs.reading.read_proof.Given as goal
+use Rattle.mal_claim.specs.Views.{views}
+use Rattle.mal_claim.proofs.Behind.{behind}
+use Rattle.mal_claim.proofs.proof_reading.read_proof.Given as goal
 
 abbrev pub invariant-loop-line : goal.invariant-loop-line
 invariant-loop-line l =
