@@ -3,7 +3,6 @@
 ghost use Rattle.std.specs.Prelude.{◌≡◌, ◌∷◌, [], None, map, codes, IfOk, MatchOption};
 ghost use Rattle.spec_text.specs.Lines.{line_of};
 ghost use Rattle.spec_text.specs.Numbers.{decimal_word};
-ghost use Rattle.spec_script.specs.FaultLines.{block_words, fault_words, which_word};
 ghost use Rattle.spec_claim.specs.FaultLines.{proof_line};
 ghost use Rattle.mal_claim.specs.ReadResult.{Tells, TellsVerdict, fault_of, in_line, refused, verdict_in};
 ghost use Rattle.mal_claim.specs.Verdicts.{refusal_of};
@@ -11,8 +10,8 @@ ghost use Rattle.mal_claim.specs.Verdicts.{refusal_of};
 use crate::VerifyFault;
 use crate::fault::ClaimFault;
 use itoa::Buffer;
-use mal_base::{BlockFault, LimitKind, LineFault, Name};
 use mal_check::CheckFault;
+use mal_script::line_fault_line;
 use mal_text::put_line;
 use std::alloc::{AllocError, Global};
 
@@ -23,7 +22,9 @@ pub fn fault_line(alloc: Global, fault: ClaimFault) -> Result<Option<Vec<u8>>, A
 {
     match fault {
         ClaimFault::NoProof => Ok(Some(no_proof(alloc)?)),
-        ClaimFault::Formula { line, fault } => Ok(Some(formula_line(alloc, line, fault)?)),
+        ClaimFault::Formula { line, fault } => {
+            Ok(Some(line_fault_line(alloc, b"formula", line, fault)?))
+        }
         ClaimFault::Proof { fault } => proof_line(alloc, fault.line, fault.fault),
         ClaimFault::OutOfMemory => Ok(None),
     }
@@ -126,89 +127,4 @@ fn in_proof(alloc: Global, line: u64, words: &[&[u8]]) -> Result<Vec<u8>, AllocE
     text.extend_from_slice(b"fault: proof line ")?;
     put_line(&mut text, Buffer::new().format(line).as_bytes(), words)?;
     Ok(text)
-}
-
-/// The line that tells these words of a line before the proof.
-fn in_formula(alloc: Global, line: u64, words: &[&[u8]]) -> Result<Vec<u8>, AllocError>
-    ensures { IfOk result (λ text. text.items ≡ line_of (codes "fault:" ∷ codes "formula" ∷ codes "line" ∷ decimal_word line ∷ map (λ w. w.now) words.now)) }
-{
-    let mut text = Vec::new(alloc);
-    text.extend_from_slice(b"fault: formula line ")?;
-    put_line(&mut text, Buffer::new().format(line).as_bytes(), words)?;
-    Ok(text)
-}
-
-/// The line that tells a fault of a line before the proof.
-fn formula_line(alloc: Global, line: u64, fault: LineFault) -> Result<Vec<u8>, AllocError>
-    ensures { IfOk result (λ text. text.items ≡ line_of (codes "fault:" ∷ codes "formula" ∷ codes "line" ∷ decimal_word line ∷ fault_words fault)) }
-{
-    match fault {
-        LineFault::BadLine => in_formula(alloc, line, &[b"BadLine"]),
-        LineFault::Dimacs { fault } => block_line(alloc, line, fault),
-        LineFault::Opposite { var } => opposite_line(alloc, line, var.number()),
-        LineFault::Duplicate { tenant, job } => duplicate_line(alloc, line, tenant, job),
-        LineFault::Range => in_formula(alloc, line, &[b"Range"]),
-        LineFault::Limit { which } => limit_line(alloc, line, which),
-    }
-}
-
-/// The line that tells that a variable is assumed with both signs.
-fn opposite_line(alloc: Global, line: u64, var: u32) -> Result<Vec<u8>, AllocError>
-    ensures { IfOk result (λ text. text.items ≡ line_of (codes "fault:" ∷ codes "formula" ∷ codes "line" ∷ decimal_word line ∷ codes "Opposite" ∷ decimal_word var ∷ [])) }
-{
-    let mut number = Buffer::new();
-    let words = [b"Opposite".as_slice(), number.format(var).as_bytes()];
-    in_formula(alloc, line, &words)
-}
-
-/// The line that tells that a tenant has a job of this name.
-fn duplicate_line(alloc: Global, line: u64, tenant: Name, job: Name) -> Result<Vec<u8>, AllocError>
-    ensures { IfOk result (λ text. text.items ≡ line_of (codes "fault:" ∷ codes "formula" ∷ codes "line" ∷ decimal_word line ∷ codes "Duplicate" ∷ tenant ∷ job ∷ [])) }
-{
-    let words = [b"Duplicate".as_slice(), tenant.as_bytes(), job.as_bytes()];
-    in_formula(alloc, line, &words)
-}
-
-/// The line that tells that there are too many of these.
-fn limit_line(alloc: Global, line: u64, which: LimitKind) -> Result<Vec<u8>, AllocError>
-    ensures { IfOk result (λ text. text.items ≡ line_of (codes "fault:" ∷ codes "formula" ∷ codes "line" ∷ decimal_word line ∷ codes "Limit" ∷ which_word which ∷ [])) }
-{
-    in_formula(alloc, line, &[b"Limit", which_word(which)])
-}
-
-/// The line that tells a fault of the formula.
-fn block_line(alloc: Global, line: u64, fault: BlockFault) -> Result<Vec<u8>, AllocError>
-    ensures { IfOk result (λ text. text.items ≡ line_of (codes "fault:" ∷ codes "formula" ∷ codes "line" ∷ decimal_word line ∷ block_words fault)) }
-{
-    match fault {
-        BlockFault::BadHeader => in_formula(alloc, line, &[b"BadHeader"]),
-        BlockFault::BadNumber => in_formula(alloc, line, &[b"BadNumber"]),
-        BlockFault::VarTooLarge => in_formula(alloc, line, &[b"VarTooLarge"]),
-        BlockFault::ClauseCount { declared, found } => {
-            let mut one = Buffer::new();
-            let mut other = Buffer::new();
-            let words = [
-                b"ClauseCount".as_slice(),
-                one.format(declared).as_bytes(),
-                other.format(found).as_bytes(),
-            ];
-            in_formula(alloc, line, &words)
-        }
-        BlockFault::Limit { which } => limit_line(alloc, line, which),
-        BlockFault::Trailing => in_formula(alloc, line, &[b"Trailing"]),
-    }
-}
-
-/// The word of a limit.
-fn which_word(which: LimitKind) -> &'static [u8]
-    ensures { result.now ≡ which_word which }
-{
-    match which {
-        LimitKind::Variables => b"Variables",
-        LimitKind::Clauses => b"Clauses",
-        LimitKind::Literals => b"Literals",
-        LimitKind::Tenants => b"Tenants",
-        LimitKind::Jobs => b"Jobs",
-        LimitKind::Revisions => b"Revisions",
-    }
 }

@@ -20,7 +20,7 @@ pub use generating::generate;
 pub use limits::Limits;
 pub use reading::{read, read_within};
 pub use script::{Script, ScriptJob};
-pub use telling::fault_line;
+pub use telling::{fault_line, line_fault_line};
 pub use writing::write;
 
 #[cfg(test)]

@@ -1,15 +1,14 @@
-//! The lines that tell the faults of scripts.
+//! The lines that tell what is wrong with a line of a text.
 
 ghost use Rattle.std.specs.Prelude.{◌≡◌, ◌∷◌, [], map, codes, IfOk, MatchOption};
-ghost use Rattle.spec_text.specs.Lines.{line_of};
 ghost use Rattle.spec_text.specs.Numbers.{decimal_word};
-ghost use Rattle.spec_script.specs.FaultLines.{block_words, fault_line, which_word};
+ghost use Rattle.spec_script.specs.FaultLines.{block_words, fault_line, fault_words, part_line, which_word};
 ghost use Rattle.mal_script.specs.ReadResult.{Tells};
 ghost use Rattle.mal_script.specs.declared.fault.ScriptFault.TheVariants.{OutOfMemory};
 
 use crate::fault::ScriptFault;
 use itoa::Buffer;
-use mal_base::{BlockFault, LimitKind, Name};
+use mal_base::{BlockFault, LimitKind, LineFault, Name};
 use mal_text::put_line;
 use std::alloc::{AllocError, Global};
 
@@ -19,60 +18,104 @@ pub fn fault_line(alloc: Global, fault: ScriptFault) -> Result<Option<Vec<u8>>, 
     ensures { IfOk result (λ o. MatchOption o (fault ≡ OutOfMemory) (λ text. Tells fault text.items)) }
 {
     match fault {
-        ScriptFault::BadLine { line } => Ok(Some(told(alloc, line, &[b"BadLine"])?)),
-        ScriptFault::Dimacs { line, fault } => Ok(Some(block_line(alloc, line, fault)?)),
-        ScriptFault::Opposite { line, var } => Ok(Some(opposite_line(alloc, line, var.number())?)),
+        ScriptFault::BadLine { line } => in_script(alloc, line, LineFault::BadLine),
+        ScriptFault::Dimacs { line, fault } => in_script(alloc, line, LineFault::Dimacs { fault }),
+        ScriptFault::Opposite { line, var } => in_script(alloc, line, LineFault::Opposite { var }),
         ScriptFault::Duplicate { line, tenant, job } => {
-            Ok(Some(duplicate_line(alloc, line, tenant, job)?))
+            in_script(alloc, line, LineFault::Duplicate { tenant, job })
         }
-        ScriptFault::Range { line } => Ok(Some(told(alloc, line, &[b"Range"])?)),
-        ScriptFault::Limit { line, which } => Ok(Some(limit_line(alloc, line, which)?)),
+        ScriptFault::Range { line } => in_script(alloc, line, LineFault::Range),
+        ScriptFault::Limit { line, which } => in_script(alloc, line, LineFault::Limit { which }),
         ScriptFault::OutOfMemory => Ok(None),
     }
 }
 
+/// The line that tells a fault of a line of a script.
+fn in_script(alloc: Global, line: u64, fault: LineFault) -> Result<Option<Vec<u8>>, AllocError>
+    ensures { IfOk result (λ o. MatchOption o ⊥ (λ text. text.items ≡ fault_line line fault)) }
+{
+    Ok(Some(line_fault_line(alloc, b"script", line, fault)?))
+}
+
+/// The line that tells what is wrong with a line of this part of a text, as `fault: formula line 3 Range`, with its line end.
+pub fn line_fault_line(
+    alloc: Global,
+    part: &[u8],
+    line: u64,
+    fault: LineFault,
+) -> Result<Vec<u8>, AllocError>
+    ensures { IfOk result (λ text. text.items ≡ part_line part.now line (fault_words fault)) }
+{
+    match fault {
+        LineFault::BadLine => told(alloc, part, line, &[b"BadLine"]),
+        LineFault::Dimacs { fault } => block_line(alloc, part, line, fault),
+        LineFault::Opposite { var } => opposite_line(alloc, part, line, var.number()),
+        LineFault::Duplicate { tenant, job } => duplicate_line(alloc, part, line, tenant, job),
+        LineFault::Range => told(alloc, part, line, &[b"Range"]),
+        LineFault::Limit { which } => limit_line(alloc, part, line, which),
+    }
+}
+
 /// The line that tells that a variable is assumed with both signs.
-fn opposite_line(alloc: Global, line: u64, var: u32) -> Result<Vec<u8>, AllocError>
-    ensures { IfOk result (λ text. text.items ≡ line_of (codes "fault:" ∷ codes "script" ∷ codes "line" ∷ decimal_word line ∷ codes "Opposite" ∷ decimal_word var ∷ [])) }
+fn opposite_line(alloc: Global, part: &[u8], line: u64, var: u32) -> Result<Vec<u8>, AllocError>
+    ensures { IfOk result (λ text. text.items ≡ part_line part.now line (codes "Opposite" ∷ decimal_word var ∷ [])) }
 {
     let mut number = Buffer::new();
     let words = [b"Opposite".as_slice(), number.format(var).as_bytes()];
-    told(alloc, line, &words)
+    told(alloc, part, line, &words)
 }
 
 /// The line that tells that a tenant has a job of this name.
-fn duplicate_line(alloc: Global, line: u64, tenant: Name, job: Name) -> Result<Vec<u8>, AllocError>
-    ensures { IfOk result (λ text. text.items ≡ line_of (codes "fault:" ∷ codes "script" ∷ codes "line" ∷ decimal_word line ∷ codes "Duplicate" ∷ tenant ∷ job ∷ [])) }
+fn duplicate_line(
+    alloc: Global,
+    part: &[u8],
+    line: u64,
+    tenant: Name,
+    job: Name,
+) -> Result<Vec<u8>, AllocError>
+    ensures { IfOk result (λ text. text.items ≡ part_line part.now line (codes "Duplicate" ∷ tenant ∷ job ∷ [])) }
 {
     let words = [b"Duplicate".as_slice(), tenant.as_bytes(), job.as_bytes()];
-    told(alloc, line, &words)
+    told(alloc, part, line, &words)
 }
 
 /// The line that tells that there are too many of these.
-fn limit_line(alloc: Global, line: u64, which: LimitKind) -> Result<Vec<u8>, AllocError>
-    ensures { IfOk result (λ text. text.items ≡ line_of (codes "fault:" ∷ codes "script" ∷ codes "line" ∷ decimal_word line ∷ codes "Limit" ∷ which_word which ∷ [])) }
+fn limit_line(
+    alloc: Global,
+    part: &[u8],
+    line: u64,
+    which: LimitKind,
+) -> Result<Vec<u8>, AllocError>
+    ensures { IfOk result (λ text. text.items ≡ part_line part.now line (codes "Limit" ∷ which_word which ∷ [])) }
 {
-    told(alloc, line, &[b"Limit", which_word(which)])
+    told(alloc, part, line, &[b"Limit", which_word(which)])
 }
 
-/// The line that tells these words of a line of a script.
-fn told(alloc: Global, line: u64, words: &[&[u8]]) -> Result<Vec<u8>, AllocError>
-    ensures { IfOk result (λ text. text.items ≡ line_of (codes "fault:" ∷ codes "script" ∷ codes "line" ∷ decimal_word line ∷ map (λ w. w.now) words.now)) }
+/// The line that tells these words of a line of a part.
+fn told(alloc: Global, part: &[u8], line: u64, words: &[&[u8]]) -> Result<Vec<u8>, AllocError>
+    ensures { IfOk result (λ text. text.items ≡ part_line part.now line (map (λ w. w.now) words.now)) }
 {
     let mut text = Vec::new(alloc);
-    text.extend_from_slice(b"fault: script line ")?;
+    text.extend_from_slice(b"fault: ")?;
+    text.extend_from_slice(part)?;
+    text.extend_from_slice(b" line ")?;
     put_line(&mut text, Buffer::new().format(line).as_bytes(), words)?;
     Ok(text)
 }
 
 /// The line that tells a fault of a block.
-fn block_line(alloc: Global, line: u64, fault: BlockFault) -> Result<Vec<u8>, AllocError>
-    ensures { IfOk result (λ text. text.items ≡ line_of (codes "fault:" ∷ codes "script" ∷ codes "line" ∷ decimal_word line ∷ block_words fault)) }
+fn block_line(
+    alloc: Global,
+    part: &[u8],
+    line: u64,
+    fault: BlockFault,
+) -> Result<Vec<u8>, AllocError>
+    ensures { IfOk result (λ text. text.items ≡ part_line part.now line (block_words fault)) }
 {
     match fault {
-        BlockFault::BadHeader => told(alloc, line, &[b"BadHeader"]),
-        BlockFault::BadNumber => told(alloc, line, &[b"BadNumber"]),
-        BlockFault::VarTooLarge => told(alloc, line, &[b"VarTooLarge"]),
+        BlockFault::BadHeader => told(alloc, part, line, &[b"BadHeader"]),
+        BlockFault::BadNumber => told(alloc, part, line, &[b"BadNumber"]),
+        BlockFault::VarTooLarge => told(alloc, part, line, &[b"VarTooLarge"]),
         BlockFault::ClauseCount { declared, found } => {
             let mut one = Buffer::new();
             let mut other = Buffer::new();
@@ -81,10 +124,10 @@ fn block_line(alloc: Global, line: u64, fault: BlockFault) -> Result<Vec<u8>, Al
                 one.format(declared).as_bytes(),
                 other.format(found).as_bytes(),
             ];
-            told(alloc, line, &words)
+            told(alloc, part, line, &words)
         }
-        BlockFault::Limit { which } => limit_line(alloc, line, which),
-        BlockFault::Trailing => told(alloc, line, &[b"Trailing"]),
+        BlockFault::Limit { which } => limit_line(alloc, part, line, which),
+        BlockFault::Trailing => told(alloc, part, line, &[b"Trailing"]),
     }
 }
 

@@ -36,6 +36,10 @@ fault_words (line.Duplicate tenant job) = codes "Duplicate" ∷ tenant ∷ job �
 fault_words line.Range = codes "Range" ∷ []
 fault_words (line.Limit which) = codes "Limit" ∷ which_word which ∷ []
 
--- the line that tells a fault of this line
+-- the line that tells these words of a line of this part of a text
+abbrev pub part_line : List ℕ → ℕ → List (List ℕ) → List ℕ
+part_line part n words = line_of (codes "fault:" ∷ part ∷ codes "line" ∷ decimal_word n ∷ words)
+
+-- the line that tells a fault of this line of a script
 abbrev pub fault_line : ℕ → LineFault → List ℕ
-fault_line n fault = line_of (codes "fault:" ∷ codes "script" ∷ codes "line" ∷ decimal_word n ∷ fault_words fault)
+fault_line n fault = part_line (codes "script") n (fault_words fault)
