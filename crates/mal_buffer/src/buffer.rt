@@ -4,8 +4,8 @@ ghost use Rattle.std.specs.Prelude.{◌≡◌, ℕ, ◌+◌, ◌-◌, ◌<◌, �
 ghost use Rattle.spec_exchange.specs.Exchange.{union, front, lesser, merged};
 ghost use Rattle.spec_exchange.specs.Order.{IsSorted};
 
-use crate::entry::Entry;
-use mal_base::{Clause, ClauseId};
+use crate::order::clause_order;
+use mal_base::{Clause, ClauseId, NumberedClause};
 use std::alloc::{AllocError, Global};
 use std::cmp::Ordering;
 use std::marker::Model;
@@ -14,7 +14,7 @@ use std::marker::Model;
 /// list of literals stands twice. Contracts see the list of entries.
 #[derive(Drop)]
 pub struct Buffer {
-    entries: Vec<Entry>,
+    entries: Vec<NumberedClause>,
 }
 
 impl Model for Buffer {
@@ -43,12 +43,12 @@ impl Buffer {
     pub fn single(alloc: Global, clause: Clause, id: ClauseId) -> Result<Buffer, AllocError>
         ensures { IfOk result (λ b. b ≡ record { id = id; lits = clause } ∷ []) }
     {
-        let entries = vec![in alloc; Entry::new(clause, id)]?;
+        let entries = vec![in alloc; NumberedClause::new(id, clause)]?;
         Ok(Buffer { entries })
     }
 
     /// The entries, in their order.
-    pub fn entries(&self) -> &[Entry]
+    pub fn entries(&self) -> &[NumberedClause]
         ensures value { result.now ≡ self.now }
         ensures sorted { IsSorted self.now }
     {
@@ -83,7 +83,11 @@ impl Buffer {
 }
 
 /// Copies of entries, put behind others.
-fn push_copies(alloc: Global, all: &mut Vec<Entry>, more: &[Entry]) -> Result<(), AllocError>
+fn push_copies(
+    alloc: Global,
+    all: &mut Vec<NumberedClause>,
+    more: &[NumberedClause],
+) -> Result<(), AllocError>
     ensures { OnOk result (all.new.items ≡ all.old.items ++ more.now) }
 {
     for entry in more {
@@ -93,14 +97,18 @@ fn push_copies(alloc: Global, all: &mut Vec<Entry>, more: &[Entry]) -> Result<()
 }
 
 /// Two sorted lists merged: the lesser first entry first, and of two with the same literals the one with the lesser number.
-fn merged(alloc: Global, xs: &[Entry], ys: &[Entry]) -> Result<Vec<Entry>, AllocError>
+fn merged(
+    alloc: Global,
+    xs: &[NumberedClause],
+    ys: &[NumberedClause],
+) -> Result<Vec<NumberedClause>, AllocError>
     ensures { IfOk result (λ v. v.items ≡ merged xs.now ys.now) }
 {
     let mut all = Vec::with_capacity(alloc, xs.len() + ys.len())?;
     let (mut i, mut j) = (0, 0);
     while i < xs.len() && j < ys.len() {
         let (x, y) = (&xs[i], &ys[j]);
-        match x.order(y) {
+        match clause_order(x, y) {
             Ordering::Less => {
                 all.push(x.copy(alloc)?)?;
                 i += 1;
@@ -122,7 +130,7 @@ fn merged(alloc: Global, xs: &[Entry], ys: &[Entry]) -> Result<Vec<Entry>, Alloc
 }
 
 /// Of two entries the one with the lesser number.
-fn lesser<'a>(x: &'a Entry, y: &'a Entry) -> &'a Entry
+fn lesser<'a>(x: &'a NumberedClause, y: &'a NumberedClause) -> &'a NumberedClause
     ensures { result.now ≡ lesser x.now y.now }
 {
     if x.id().number() <= y.id().number() {
@@ -133,7 +141,7 @@ fn lesser<'a>(x: &'a Entry, y: &'a Entry) -> &'a Entry
 }
 
 /// How many entries the longest front of at most so many literals has.
-fn front_len(entries: &[Entry], literals: usize) -> usize
+fn front_len(entries: &[NumberedClause], literals: usize) -> usize
     ensures within { result ≤ length entries.now }
     ensures front { take result entries.now ≡ front literals entries.now }
 {

@@ -2,9 +2,8 @@
 #![tactic(auto)]
 
 mod buffer;
-mod entry;
+mod order;
 #[cfg(test)]
 mod tests;
 
 pub use buffer::Buffer;
-pub use entry::Entry;

@@ -7,24 +7,23 @@ ghost use Rattle.mal_cdcl.specs.Rising.{all_rise};
 ghost use Rattle.mal_cdcl.specs.ImportSizes.{lits_in};
 
 use crate::needs::added;
-use mal_base::{Clause, ClauseId, Lit};
-use mal_freeze::HeldClause;
+use mal_base::{Clause, ClauseId, Lit, NumberedClause};
 use mal_trail::{Engine, Listed, Trail};
 use std::alloc::{AllocError, Global};
 
 /// The clause of these literals, which rise by variable, under this number.
-fn copied(alloc: Global, id: ClauseId, lits: &[Lit]) -> Result<HeldClause, AllocError>
+fn copied(alloc: Global, id: ClauseId, lits: &[Lit]) -> Result<NumberedClause, AllocError>
     requires { rises lits.now ≡ true }
     ensures { IfOk result (λ h. h ≡ record { id = id; lits = lits.now }) }
 {
     match Clause::of_rising(alloc, lits)? {
         None => unreachable!(),
-        Some(clause) => Ok(HeldClause::new(id, clause)),
+        Some(clause) => Ok(NumberedClause::new(id, clause)),
     }
 }
 
 /// Copies of the clauses of an engine, whose literals rise by variable.
-pub fn clauses_of<E: Listed>(alloc: Global, engine: &E) -> Result<Vec<HeldClause>, AllocError>
+pub fn clauses_of<E: Listed>(alloc: Global, engine: &E) -> Result<Vec<NumberedClause>, AllocError>
     requires { all_rise (E.clauses engine.now) ≡ true }
     ensures { IfOk result (λ v. v.items ≡ E.clauses engine.now) }
 {
@@ -37,7 +36,7 @@ pub fn clauses_of<E: Listed>(alloc: Global, engine: &E) -> Result<Vec<HeldClause
 }
 
 /// How many literals these clauses have. A size that no memory holds is want of memory.
-fn count_held(clauses: &[HeldClause]) -> Result<usize, AllocError>
+fn count_held(clauses: &[NumberedClause]) -> Result<usize, AllocError>
     ensures { IfOk result (λ n. n ≡ lits_in clauses.now) }
 {
     let mut count = 0;
@@ -51,7 +50,7 @@ fn count_held(clauses: &[HeldClause]) -> Result<usize, AllocError>
 pub fn engine_of<E: Engine>(
     alloc: Global,
     variables: u32,
-    clauses: &[HeldClause],
+    clauses: &[NumberedClause],
     trail: &Trail,
 ) -> Result<E, AllocError>
     requires bound { variables ≤ 65536 }

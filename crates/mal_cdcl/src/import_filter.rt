@@ -8,8 +8,8 @@ ghost use Rattle.spec_node.specs.State.{Node};
 ghost use Rattle.mal_cdcl.specs.Ready.{posted, readied};
 ghost use Rattle.mal_cdcl.specs.Importing.{Sees, lent, picked, is_posted_in, is_loaded_in};
 
-use mal_base::Clause;
-use mal_buffer::{Buffer, Entry};
+use mal_base::{Clause, NumberedClause};
+use mal_buffer::Buffer;
 use mal_filter::ClauseSet;
 use mal_revision::Revision;
 use mal_trail::Listed;
@@ -19,7 +19,7 @@ use std::marker::Model;
 /// The clauses that are taken of one import. Contracts see the list of them.
 #[derive(Drop)]
 pub struct Pick {
-    entries: Vec<Entry>,
+    entries: Vec<NumberedClause>,
 }
 
 impl Model for Pick {
@@ -33,14 +33,14 @@ impl Model for Pick {
 
 impl Pick {
     /// The clauses that are taken.
-    pub fn entries(&self) -> &[Entry]
+    pub fn entries(&self) -> &[NumberedClause]
         ensures { result.now ≡ self.now }
     {
         self.entries.as_slice()
     }
 
     /// Those of the entries that a filter lets pass.
-    fn of(alloc: Global, seen: &ClauseSet, entries: &[Entry]) -> Result<Pick, AllocError>
+    fn of(alloc: Global, seen: &ClauseSet, entries: &[NumberedClause]) -> Result<Pick, AllocError>
         ensures { IfOk result (λ p. p ≡ filter (λ c. not (is_noted c.lits seen.now)) entries.now) }
     {
         let mut taken = Vec::new(alloc);
@@ -88,7 +88,7 @@ fn picks_past(
 }
 
 /// Notes entries.
-fn note_entries(seen: &mut ClauseSet, entries: &[Entry]) -> Result<(), AllocError>
+fn note_entries(seen: &mut ClauseSet, entries: &[NumberedClause]) -> Result<(), AllocError>
     ensures { OnOk result ((lits : List ℕ) → is_noted lits seen.new ≡ (has_lits lits entries.now || is_noted lits seen.old)) }
 {
     for entry in entries {

@@ -7,8 +7,7 @@ ghost use Rattle.mal_cdcl.specs.ImportSizes.{lits_in, told_clauses, told_literal
 ghost use Rattle.mal_cdcl.specs.Ready.{posted, greatest, clauses_in, literals_in, most_assumptions};
 
 use crate::import_filter::Pick;
-use mal_base::Clause;
-use mal_buffer::Entry;
+use mal_base::{Clause, NumberedClause};
 use mal_revision::Revision;
 use std::alloc::AllocError;
 
@@ -72,7 +71,7 @@ pub fn needs_with(
 }
 
 /// How many literals clauses have. A size that no memory holds is want of memory.
-fn count_lits(entries: &[Entry]) -> Result<usize, AllocError>
+fn count_lits(entries: &[NumberedClause]) -> Result<usize, AllocError>
     ensures { IfOk result (λ n. n ≡ lits_in entries.now) }
 {
     let mut count = 0;

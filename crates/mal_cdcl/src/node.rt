@@ -26,8 +26,8 @@ ghost use Rattle.mal_freeze.specs.Imaged.{IsImage};
 
 use crate::import_filter::{self, Pick};
 use crate::{copies, learning, needs, node_load, open, restart};
-use mal_base::{ClauseId, Lines, Lit, Var, Verdict};
-use mal_buffer::{Buffer, Entry};
+use mal_base::{ClauseId, Lines, Lit, NumberedClause, Var, Verdict};
+use mal_buffer::Buffer;
 use mal_freeze::{Image, Parts};
 use mal_learn::Scratch;
 use mal_order::Order;
@@ -271,7 +271,7 @@ impl<E: Engine> Node<E> {
     }
 
     /// Imports clauses under their numbers, where there is room for them. Takes no memory.
-    fn import_reserved(&mut self, told: &[Entry])
+    fn import_reserved(&mut self, told: &[NumberedClause])
         requires new { AreNewTo self.old.state.clauses self.old.state.variables told.now }
         requires room { HasRoom self.old.state.variables (length told.now) (lits_in told.now) self.old.spare.engine }
         ensures state { self.new.state ≡ with_new told.now self.old.state }

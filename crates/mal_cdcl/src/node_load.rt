@@ -13,8 +13,7 @@ ghost use Rattle.mal_cdcl.specs.ImportSizes.{lits_in};
 ghost use Rattle.mal_cdcl.specs.Importing.{AreNewTo};
 ghost use Rattle.mal_trail.specs.Rooms.{HasRoom, IsLeft};
 
-use mal_base::{Clause, ClauseId, Lit, TrailEntry, Var};
-use mal_buffer::Entry;
+use mal_base::{Clause, ClauseId, Lit, NumberedClause, TrailEntry, Var};
 use mal_trail::{Engine, Trail};
 
 /// Appends the phases of so many new variables.
@@ -90,7 +89,7 @@ pub fn add_clauses<E: Engine>(engine: &mut E, trail: &Trail, first: u32, clauses
 }
 
 /// Adds clauses of the variables that there is room for, under numbers that differ and are not held.
-pub fn add_told<E: Engine>(engine: &mut E, trail: &Trail, told: &[Entry])
+pub fn add_told<E: Engine>(engine: &mut E, trail: &Trail, told: &[NumberedClause])
     requires new { AreNewTo (E.clauses engine.old) (E.room engine.old).variables told.now }
     requires clause_room { length told.now ≤ (E.room engine.old).clauses }
     requires literal_room { lits_in told.now ≤ (E.room engine.old).literals }
@@ -105,7 +104,7 @@ pub fn add_told<E: Engine>(engine: &mut E, trail: &Trail, told: &[Entry])
 }
 
 /// The least serial from this one on that is above those of derived clauses.
-pub fn serial_above(serial: u64, told: &[Entry]) -> u64
+pub fn serial_above(serial: u64, told: &[NumberedClause]) -> u64
     ensures { result ≡ serial_above serial told.now }
 {
     let mut above = serial;

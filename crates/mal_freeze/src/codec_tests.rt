@@ -2,8 +2,8 @@
 
 ghost use Rattle.std.specs.Prelude.{◌≤◌};
 
-use crate::{HeldClause, Image, Parts, ThawFault, freeze, thaw};
-use mal_base::{Clause, ClauseId, Lit, TrailEntry, Var};
+use crate::{Image, Parts, ThawFault, freeze, thaw};
+use mal_base::{Clause, ClauseId, Lit, NumberedClause, TrailEntry, Var};
 use std::alloc::Global;
 use std::test::Fail;
 
@@ -87,12 +87,12 @@ fn a_fresh_node_is_65_bytes(rt: HostRuntime) -> Result<(), Fail> {
 }
 
 /// The clause of 1 and 2 with these signs, under a number.
-fn clause(alloc: Global, number: u32, first: bool, second: bool) -> Result<HeldClause, Fail>
+fn clause(alloc: Global, number: u32, first: bool, second: bool) -> Result<NumberedClause, Fail>
     requires { 1 ≤ number }
 {
     let lits = [Var::of(1).literal(first), Var::of(2).literal(second)];
     let clause = Clause::of_rising(alloc, &lits)?.ok_or("no clause")?;
-    Ok(HeldClause::new(ClauseId::original(number), clause))
+    Ok(NumberedClause::new(ClauseId::original(number), clause))
 }
 
 /// The bytes of a node of two variables that has two assumptions, two entries on its trail, and two clauses.

@@ -3,7 +3,6 @@
 
 mod fault;
 mod fields;
-mod held_clause;
 mod image;
 mod laws;
 mod numbered;
@@ -14,7 +13,6 @@ mod thawing;
 mod writing;
 
 pub use fault::ThawFault;
-pub use held_clause::HeldClause;
 pub use image::Image;
 pub use laws::{fresh_bytes, read_is_spelled, sound_has_image, spelled_is_read};
 pub use parts::Parts;

@@ -4,8 +4,7 @@ ghost use Rattle.std.specs.Prelude.{◌≡◌, true, false, IfOk, MatchOption};
 ghost use Rattle.std.specs.List.{list_all};
 ghost use Rattle.mal_freeze.specs.Holding.{can_hold};
 
-use crate::held_clause::HeldClause;
-use mal_base::{Clause, ClauseId, Lit};
+use mal_base::{Clause, ClauseId, Lit, NumberedClause};
 use smallvec::SmallVec;
 use std::alloc::{AllocError, Global};
 use std::marker::Model;
@@ -34,7 +33,7 @@ impl Numbered {
     }
 
     /// The clause that is held so. None exactly where the number is 0 or the literals do not rise by variable.
-    fn held(&self, alloc: Global) -> Result<Option<HeldClause>, AllocError>
+    fn held(&self, alloc: Global) -> Result<Option<NumberedClause>, AllocError>
         ensures { IfOk result (λ o. MatchOption o (can_hold self.now ≡ false) (λ h. (h ≡ self.now) × (can_hold self.now ≡ true))) }
     {
         let id = match ClauseId::of(self.number) {
@@ -43,13 +42,16 @@ impl Numbered {
         };
         match Clause::of_rising(alloc, self.lits.as_slice())? {
             None => Ok(None),
-            Some(clause) => Ok(Some(HeldClause::new(id, clause))),
+            Some(clause) => Ok(Some(NumberedClause::new(id, clause))),
         }
     }
 }
 
 /// The clauses that are held so. None exactly where one of them cannot be held.
-pub fn held_of(alloc: Global, clauses: &[Numbered]) -> Result<Option<Vec<HeldClause>>, AllocError>
+pub fn held_of(
+    alloc: Global,
+    clauses: &[Numbered],
+) -> Result<Option<Vec<NumberedClause>>, AllocError>
     ensures { IfOk result (λ o. MatchOption o (list_all can_hold clauses.now ≡ false) (λ v. (v.items ≡ clauses.now) × (list_all can_hold clauses.now ≡ true))) }
 {
     let mut all = Vec::new(alloc);

@@ -1,7 +1,6 @@
 //! What an image is made of.
 
-use crate::held_clause::HeldClause;
-use mal_base::{ClauseId, Lit, TrailEntry, Var, Verdict};
+use mal_base::{ClauseId, Lit, NumberedClause, TrailEntry, Var, Verdict};
 
 /// The parts of an image, in form or not: a node's index, its variables 1 to this one, how many clauses it has derived,
 /// the conflicts since the last restart, the number of the restart, how many batches count as handled, the clause of a
@@ -21,5 +20,5 @@ pub struct Parts {
     pub order: Vec<Var>,
     pub phases: Vec<bool>,
     pub trail: Vec<TrailEntry>,
-    pub clauses: Vec<HeldClause>,
+    pub clauses: Vec<NumberedClause>,
 }

@@ -5,8 +5,7 @@ ghost use Rattle.mal_base.specs.Formulas.{is_within};
 ghost use Rattle.mal_freeze.specs.Imaged.{are_new, is_order, may_follow, all_follow, are_literals, are_clauses, numbers_rise};
 ghost use Rattle.mal_freeze.specs.Trailing.{IsTrailOf};
 
-use crate::held_clause::HeldClause;
-use mal_base::{Clause, Lit, TrailEntry, Var};
+use mal_base::{Clause, Lit, NumberedClause, TrailEntry, Var};
 use mal_trail::Trail;
 use std::alloc::{AllocError, Global};
 
@@ -33,7 +32,7 @@ pub fn are_literals(alloc: Global, greatest: u32, lits: &[Lit]) -> Result<bool, 
 }
 
 /// Whether the literals of each clause are of the variables up to the greatest.
-pub fn are_clauses(greatest: u32, clauses: &[HeldClause]) -> bool
+pub fn are_clauses(greatest: u32, clauses: &[NumberedClause]) -> bool
     ensures { result ≡ are_clauses greatest clauses.now }
 {
     for held in clauses {
@@ -52,7 +51,7 @@ fn is_clause(greatest: u32, clause: &Clause) -> bool
 }
 
 /// Whether the numbers of the clauses rise strictly.
-pub fn numbers_rise(clauses: &[HeldClause]) -> bool
+pub fn numbers_rise(clauses: &[NumberedClause]) -> bool
     ensures { result ≡ numbers_rise 0 clauses.now }
 {
     let mut last: u64 = 0;

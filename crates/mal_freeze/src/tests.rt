@@ -1,7 +1,7 @@
 //! Parts in form and out of it.
 
-use crate::{HeldClause, Image, Parts};
-use mal_base::{Clause, ClauseId, Lit, TrailEntry, Var};
+use crate::{Image, Parts};
+use mal_base::{Clause, ClauseId, Lit, NumberedClause, TrailEntry, Var};
 use std::alloc::Global;
 use std::test::Fail;
 
@@ -28,7 +28,7 @@ fn parts(alloc: Global) -> Result<Parts, Fail> {
         order: vec![in alloc; Var::of(2), Var::of(1)]?,
         phases: vec![in alloc; false, false]?,
         trail: vec![in alloc; decided]?,
-        clauses: vec![in alloc; HeldClause::new(ClauseId::original(1), clause)]?,
+        clauses: vec![in alloc; NumberedClause::new(ClauseId::original(1), clause)]?,
     })
 }
 

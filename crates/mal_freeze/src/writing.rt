@@ -8,11 +8,10 @@ ghost use Rattle.mal_freeze.specs.Reading.{image_in};
 ghost use Rattle.mal_freeze.specs.Spelling.{spelled, number_or_0, code_of, goal_of, counted, phase_bytes, entry_bytes, clause_bytes, head_bytes, search_bytes, verdict_bytes, list_bytes, image_bytes};
 ghost use Rattle.mal_freeze.specs.Widths.{FitsNumber, FitsGoal, FitsEntry, FitsClause, FitsCounts, FitsLists, Fits};
 
-use crate::held_clause::HeldClause;
 use crate::image::Image;
 use crate::parts::Parts;
 use crate::reading::MAGIC;
-use mal_base::{ClauseId, Lit, TrailEntry, Var, Verdict};
+use mal_base::{ClauseId, Lit, NumberedClause, TrailEntry, Var, Verdict};
 use std::alloc::{AllocError, Global};
 
 /// The one spelling of an image, which `thaw` reads again. More clauses than 32 bits count are want of memory too.
@@ -228,7 +227,7 @@ fn put_entry(out: &mut Vec<u8>, entry: TrailEntry) -> Result<(), AllocError>
 }
 
 /// Puts a count and so many clauses behind the others.
-fn put_clauses(out: &mut Vec<u8>, clauses: &[HeldClause]) -> Result<(), AllocError>
+fn put_clauses(out: &mut Vec<u8>, clauses: &[NumberedClause]) -> Result<(), AllocError>
     ensures spelled { OnOk result (out.new.items ≡ out.old.items ++ counted clause_bytes clauses.now) }
     ensures fits { OnOk result (AllByRecursion FitsClause clauses.now) }
     ensures count { OnOk result (length clauses.now < 2 ^ 32) }
@@ -238,7 +237,7 @@ fn put_clauses(out: &mut Vec<u8>, clauses: &[HeldClause]) -> Result<(), AllocErr
 }
 
 /// Puts clauses behind the others.
-fn put_each_clause(out: &mut Vec<u8>, clauses: &[HeldClause]) -> Result<(), AllocError>
+fn put_each_clause(out: &mut Vec<u8>, clauses: &[NumberedClause]) -> Result<(), AllocError>
     ensures spelled { OnOk result (out.new.items ≡ out.old.items ++ flat_map clause_bytes clauses.now) }
     ensures fits { OnOk result (AllByRecursion FitsClause clauses.now) }
 {
@@ -249,7 +248,7 @@ fn put_each_clause(out: &mut Vec<u8>, clauses: &[HeldClause]) -> Result<(), Allo
 }
 
 /// Puts a clause behind the others.
-fn put_clause(out: &mut Vec<u8>, held: &HeldClause) -> Result<(), AllocError>
+fn put_clause(out: &mut Vec<u8>, held: &NumberedClause) -> Result<(), AllocError>
     ensures spelled { OnOk result (out.new.items ≡ out.old.items ++ clause_bytes held.now) }
     ensures fits { OnOk result (FitsClause held.now) }
 {

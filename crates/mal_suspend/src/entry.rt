@@ -5,7 +5,7 @@ ghost use Rattle.spec_job.specs.Journal.{is_load, is_import};
 ghost use Rattle.mal_suspend.specs.Entries.{entry_of};
 ghost use Rattle.mal_suspend.specs.Replaying.{variables_with};
 
-use mal_base::Lit;
+use mal_base::{Lit, NumberedClause};
 use mal_buffer::Buffer;
 use mal_revision::Revision;
 use std::alloc::AllocError;
@@ -108,7 +108,7 @@ fn is_same_told(told: &Buffer, other: &Buffer) -> bool
 }
 
 /// Whether these are the same literals under the same number.
-fn is_same_clause(entry: &mal_buffer::Entry, other: &mal_buffer::Entry) -> bool
+fn is_same_clause(entry: &NumberedClause, other: &NumberedClause) -> bool
     ensures { IsTrue result ↔ (entry.now ≡ other.now) }
 {
     if entry.id() != other.id() {
