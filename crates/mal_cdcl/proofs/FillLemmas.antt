@@ -13,27 +13,10 @@ use Rattle.mal_base.specs.Formulas.{is_within_limits, is_clause_of, is_within, l
 use Rattle.mal_revision.specs.Posted.{Posted, is_posted}
 use Rattle.mal_base.specs.NumberedClause.{NumberedClause}
 use Rattle.spec_node.specs.Load.{counted, numbered, new_order, with_originals, is_derived}
+use Rattle.mal_order.proofs.CountedLemmas.{turn-le, new_order-runs}
+use Rattle.mal_trail.proofs.FoundLemmas.{and_true, some_one, none_some, found_passes}
 use Rattle.mal_trail.specs.Rooms.{are_within}
 use Rattle.mal_cdcl.specs.Within.{is_order_of}
-
-pub and_true : (a b : Bool) → (a && b) ≡ true → (a ≡ true) × (b ≡ true)
-and_true true b h = (refl, h)
-and_true false b h = absurd (false≢true h)
-
-some_one : {X : Type 0} (x y : X) → Some x ≡ Some y → x ≡ y
-some_one x y e = cc
-
-none_some : {X : Type 0} (x : X) → ◌≡◌ {A = Option X} None (Some x) → ⊥
-none_some x e = cc
-
--- what holds of each element holds of the one found
-pub found_passes : {X : Type 0} (p q : X → Bool) (xs : List X) (x : X) → list_all q xs ≡ true → find p xs ≡ Some x → q x ≡ true
-found_passes {X} p q [] x h e = absurd (none_some x e)
-found_passes {X} p q (y ∷ ys) x h e = by_test (p y) (λ f. found_passes p q ys x (and_true (q y) (list_all q ys) h).1 f) e
-  where
-    by_test : (b : Bool) → (find p ys ≡ Some x → q x ≡ true) → cond b (Some y) (find p ys) ≡ Some x → q x ≡ true
-    by_test true rest f = rw (← some_one y x f) ((and_true (q y) (list_all q ys) h).0)
-    by_test false rest f = rest f
 
 -- the one found passes
 pub found_holds : {X : Type 0} (p : X → Bool) (xs : List X) (x : X) → find p xs ≡ Some x → p x ≡ true
@@ -43,38 +26,6 @@ found_holds {X} p (y ∷ ys) x e = by_test (p y) refl (λ f. found_holds p ys x 
     by_test : (b : Bool) → p y ≡ b → (find p ys ≡ Some x → p x ≡ true) → cond b (Some y) (find p ys) ≡ Some x → p x ≡ true
     by_test true t rest f = rw (← some_one y x f) t
     by_test false t rest f = rest f
-
--- one number more, and the numbers behind it
-pub counted_next : (items : List ℕ) (a n p : ℕ) → p < n → (items ++ (a + p) ∷ []) ++ counted (a + (p + 1)) (n - (p + 1)) ≡ items ++ counted (a + p) (n - p)
-counted_next items a n p h =
-    let k : n - p ≡ suc (n - (p + 1)) = omega arith in
-    let e : a + (p + 1) ≡ a + p + 1 = omega arith in
-    rw (append_assoc, k, e) refl
-
-pub turn-le : (i n : ℕ) → i ≤ 63 → i * n / 64 ≤ n
-turn-le i n h = grind arith
-
-pub drop-counted : (k n a : ℕ) → k ≤ n → drop k (counted a n) ≡ counted (a + k) (n - k)
-drop-counted zero n a h =
-    let e : a + 0 ≡ a = omega arith in
-    let f : n - 0 ≡ n = omega arith in
-    rw (e, f) refl
-drop-counted (suc k) zero a h = absurd (omega arith)
-drop-counted (suc k) (suc n) a h =
-    let e : a + suc k ≡ a + 1 + k = omega arith in
-    let f : suc n - suc k ≡ n - k = omega arith in
-    rw (e, f) (drop-counted k n (a + 1) (omega arith))
-
-pub take-counted : (k n a : ℕ) → k ≤ n → take k (counted a n) ≡ counted a k
-take-counted zero n a h = refl
-take-counted (suc k) zero a h = absurd (omega arith)
-take-counted (suc k) (suc n) a h = ap (λ (xs : List ℕ). a ∷ xs) (take-counted k n (a + 1) (omega arith))
-
--- new variables of the decision order in two runs of rising numbers
-pub new_order-runs : (index variables n : ℕ) → index ≤ 63 → new_order index variables n ≡ counted (variables + 1 + index * n / 64) (n - index * n / 64) ++ counted (variables + 1) (index * n / 64)
-new_order-runs index variables n h =
-    let t : index * n / 64 ≤ n = turn-le index n h in
-    rw (drop-counted (index * n / 64) n (variables + 1) t, take-counted (index * n / 64) n (variables + 1) t) refl
 
 le_test : (a b : ℕ) → a ≤ b → nat_le a b ≡ true
 le_test a b = grind (arith, nat_tests)

@@ -5,7 +5,8 @@ use Rattle.std.proofs.lemmas.List.Sums.{sum_by-cons}
 use Rattle.mal_base.specs.Clauses.{rises}
 use Rattle.mal_base.specs.Formulas.{is_clause_of, is_within, literals_of, size_of}
 use Rattle.mal_trail.specs.Rooms.{Room, IsLeft, IsRoomFor}
-use Rattle.mal_cdcl.proofs.FillLemmas.{and_true, lits_more}
+use Rattle.mal_trail.proofs.FoundLemmas.{and_true}
+use Rattle.mal_cdcl.proofs.FillLemmas.{lits_more}
 use Rattle.std.proofs.lemmas.List.Elements.{All-head, All-tail, All-cons, All-weaker, All-nil}
 use Rattle.std.proofs.lemmas.Bool.Decides.{nat_tests}
 use Rattle.mal_base.specs.NumberedClause.{NumberedClause, lits_under}

@@ -6,7 +6,8 @@ use Rattle.mal_base.specs.Formulas.{is_within}
 use Rattle.mal_base.specs.declared.trail_entry.TrailEntry.{TrailEntry}
 use Rattle.spec_node.specs.Value.{is_true, has_value, first_open, first_free}
 use Rattle.mal_cdcl.specs.Within.{is_order_of}
-use Rattle.mal_cdcl.proofs.FillLemmas.{and_true, found_passes, found_holds}
+use Rattle.mal_trail.proofs.FoundLemmas.{and_true, found_passes}
+use Rattle.mal_cdcl.proofs.FillLemmas.{found_holds}
 
 not_true : (b : Bool) → not b ≡ true → b ≡ false
 not_true true h = absurd (false≢true h)

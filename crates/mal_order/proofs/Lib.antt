@@ -1,3 +1,3 @@
-mod CountedLemmas
+pub mod CountedLemmas
 mod FreeLemmas
 mod RingLemmas

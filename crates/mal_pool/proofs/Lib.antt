@@ -9,4 +9,3 @@ pub mod Agreements
 pub mod Writings
 pub mod Knowing
 pub mod Gating
-pub mod Demands

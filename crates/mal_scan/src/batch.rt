@@ -1,15 +1,13 @@
 //! Propagation: the batch of a prefix of the trail, found by going over all clauses.
 
 ghost use Rattle.std.specs.Prelude.{◌≡◌, ℕ, ◌≤◌, true, List, length, take, None};
-ghost use Rattle.mal_base.specs.Literals.{var_of};
-ghost use Rattle.mal_base.specs.Formulas.{is_within};
-ghost use Rattle.spec_node.specs.Value.{open_count, left_literal};
-ghost use Rattle.spec_node.specs.Batch.{is_in_batch, after_clause, after_batch, after_left, after_literal};
+ghost use Rattle.spec_node.specs.Value.{open_count};
+ghost use Rattle.spec_node.specs.Batch.{is_in_batch, after_batch};
 ghost use Rattle.mal_trail.specs.Rooms.{are_within};
 
 use mal_base::{ClauseId, Lit};
 use mal_store::Store;
-use mal_trail::Trail;
+use mal_trail::{Trail, handle_clause};
 
 /// How many literals are not false under the first entries of the trail, so many.
 fn open_count(trail: &Trail, count: usize, lits: &[Lit]) -> usize
@@ -19,16 +17,6 @@ fn open_count(trail: &Trail, count: usize, lits: &[Lit]) -> usize
     lits.iter()
         .filter(|l| !trail.is_false_before(count, **l))
         .count()
-}
-
-/// The first literal that is not false under the first entries of the trail, so many.
-fn left_literal(trail: &Trail, count: usize, lits: &[Lit]) -> Option<Lit>
-    requires { count ≤ length trail.now.entries }
-    ensures { result ≡ left_literal (take count trail.now.entries) lits.now }
-{
-    lits.iter()
-        .copied()
-        .find(|l| !trail.is_false_before(count, *l))
 }
 
 /// Whether a clause of these literals is in the batch of the first entries of the trail, so many.
@@ -43,42 +31,6 @@ fn is_in_batch(trail: &Trail, count: usize, lits: &[Lit]) -> bool
         return false;
     }
     1 < open_count(trail, count - 1, lits)
-}
-
-/// Pushes the literal left of this clause, unless it is true. The conflict is the clause where it is false.
-fn handle_literal(trail: &mut Trail, id: ClauseId, lit: Lit) -> Option<ClauseId>
-    requires { var_of lit ≤ trail.old.room }
-    ensures progress { after_literal trail.old.entries id lit ≡ record { trail = trail.new.entries; conflict = result } }
-    ensures longer { length trail.old.entries ≤ length trail.new.entries }
-    ensures prefix { (n : ℕ) → n ≤ length trail.old.entries → take n trail.new.entries ≡ take n trail.old.entries }
-    ensures processed { trail.new.processed ≡ trail.old.processed }
-    ensures room { trail.new.room ≡ trail.old.room }
-{
-    if trail.is_true(lit) {
-        return None;
-    }
-    if trail.is_false(lit) {
-        return Some(id);
-    }
-    let level = trail.level();
-    trail.push(lit, Some(id), level);
-    None
-}
-
-/// Handles a clause of the batch of the first entries of the trail, so many. The result is the conflict.
-fn handle_clause(trail: &mut Trail, count: usize, id: ClauseId, lits: &[Lit]) -> Option<ClauseId>
-    requires count { count ≤ length trail.old.entries }
-    requires within { is_within trail.old.room lits.now ≡ true }
-    ensures progress { after_clause (take count trail.old.entries) trail.old.entries (record { id = id; lits = lits.now }) ≡ record { trail = trail.new.entries; conflict = result } }
-    ensures longer { length trail.old.entries ≤ length trail.new.entries }
-    ensures prefix { take count trail.new.entries ≡ take count trail.old.entries }
-    ensures processed { trail.new.processed ≡ trail.old.processed }
-    ensures room { trail.new.room ≡ trail.old.room }
-{
-    match left_literal(trail, count, lits) {
-        None => Some(id),
-        Some(lit) => handle_literal(trail, id, lit),
-    }
 }
 
 /// Handles the batch of the first entries of the trail, so many. The result is the conflict.

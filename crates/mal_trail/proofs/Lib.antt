@@ -4,3 +4,4 @@ pub mod PlaceLemmas
 pub mod CutLemmas
 pub mod ValueLemmas
 pub mod SignLemmas
+pub mod FoundLemmas

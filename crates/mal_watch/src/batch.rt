@@ -2,62 +2,14 @@
 
 ghost use Rattle.std.specs.Prelude.{◌≡◌, ℕ, ◌≤◌, true, List, length, take, None, All};
 ghost use Rattle.mal_base.specs.Literals.{var_of};
-ghost use Rattle.mal_base.specs.Formulas.{is_within};
-ghost use Rattle.spec_node.specs.Value.{left_literal};
-ghost use Rattle.spec_node.specs.Batch.{after_clause, after_batch, after_literal};
+ghost use Rattle.spec_node.specs.Batch.{after_batch};
 ghost use Rattle.mal_trail.specs.Rooms.{are_within};
 ghost use Rattle.mal_watch.specs.Finding.{after_found};
 
 use crate::found::Found;
-use mal_base::{ClauseId, Lit};
+use mal_base::ClauseId;
 use mal_store::Store;
-use mal_trail::Trail;
-
-/// The first literal that is not false under the first entries of the trail, so many.
-fn left_literal(trail: &Trail, count: usize, lits: &[Lit]) -> Option<Lit>
-    requires { count ≤ length trail.now.entries }
-    ensures { result ≡ left_literal (take count trail.now.entries) lits.now }
-{
-    lits.iter()
-        .copied()
-        .find(|l| !trail.is_false_before(count, *l))
-}
-
-/// Pushes the literal left of this clause, unless it is true. The conflict is the clause where it is false.
-fn handle_literal(trail: &mut Trail, id: ClauseId, lit: Lit) -> Option<ClauseId>
-    requires { var_of lit ≤ trail.old.room }
-    ensures progress { after_literal trail.old.entries id lit ≡ record { trail = trail.new.entries; conflict = result } }
-    ensures longer { length trail.old.entries ≤ length trail.new.entries }
-    ensures prefix { (n : ℕ) → n ≤ length trail.old.entries → take n trail.new.entries ≡ take n trail.old.entries }
-    ensures processed { trail.new.processed ≡ trail.old.processed }
-    ensures room { trail.new.room ≡ trail.old.room }
-{
-    if trail.is_true(lit) {
-        return None;
-    }
-    if trail.is_false(lit) {
-        return Some(id);
-    }
-    let level = trail.level();
-    trail.push(lit, Some(id), level);
-    None
-}
-
-/// Handles a clause of the batch of the first entries of the trail, so many. The result is the conflict.
-fn handle_clause(trail: &mut Trail, count: usize, id: ClauseId, lits: &[Lit]) -> Option<ClauseId>
-    requires count { count ≤ length trail.old.entries }
-    requires within { is_within trail.old.room lits.now ≡ true }
-    ensures progress { after_clause (take count trail.old.entries) trail.old.entries (record { id = id; lits = lits.now }) ≡ record { trail = trail.new.entries; conflict = result } }
-    ensures longer { length trail.old.entries ≤ length trail.new.entries }
-    ensures prefix { (n : ℕ) → n ≤ length trail.old.entries → take n trail.new.entries ≡ take n trail.old.entries }
-    ensures processed { trail.new.processed ≡ trail.old.processed }
-    ensures room { trail.new.room ≡ trail.old.room }
-{
-    match left_literal(trail, count, lits) {
-        None => Some(id),
-        Some(lit) => handle_literal(trail, id, lit),
-    }
-}
+use mal_trail::{Trail, handle_clause, handle_literal};
 
 /// Handles the clauses of at most one literal: the batch of no entry. The result is the conflict.
 pub fn handle_short(trail: &mut Trail, store: &Store) -> Option<ClauseId>

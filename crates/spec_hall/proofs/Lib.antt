@@ -16,7 +16,6 @@ pub mod LastingLemmas
 pub mod SingleLemmas
 pub mod PickLemmas
 pub mod ExchangeLemmas
-pub mod SliceLemmas
 pub mod IdleLemmas
 pub mod MeasureLemmas
 pub mod LeftLemmas

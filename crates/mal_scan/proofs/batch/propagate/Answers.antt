@@ -1,7 +1,7 @@
 use Rattle.std.proofs.Common.{◌≡◌, ◌+◌, true, false, take, drop, sym, ap, ◌∙◌, arith}
 use Rattle.mal_base.specs.NumberedClause.{NumberedClause}
 use Rattle.spec_node.specs.Batch.{Progress, after_all, batch, is_in_batch}
-use Rattle.mal_scan.proofs.BatchLemmas.{after_all-in, after_all-out, after_all-ended, calm, within-at}
+use Rattle.mal_trail.proofs.FoundLemmas.{after_all-in, after_all-out, after_all-ended, calm, within-at}
 use Rattle.mal_scan.proofs.batch.propagate.Goals as goal
 use Rattle.mal_scan.proofs.batch.propagate.Goals.{then-is_in_batch+in-None, else-is_in_batch}
 
@@ -32,7 +32,7 @@ loop-place-preserved c =
           let handled = rw inv.prefix at w.in-None.ensures.progress in
           rw w.trail-is (record {
             progress = sym (after_all-in prefix c.loop-place.trail.entries c.args.store.now.clauses c.loop-place.place found c.at-id.ensures test ∙ ap (λ (p : Progress). after_all prefix p rest) handled) ∙ inv.progress;
-            prefix = w.in-None.ensures.prefix ∙ inv.prefix;
+            prefix = w.in-None.ensures.prefix c.args.count (omega (arith, c.requires.count, inv.longer)) ∙ inv.prefix;
             longer = omega (arith, w.in-None.ensures.longer, inv.longer);
             processed = w.in-None.ensures.processed ∙ inv.processed;
             room = w.in-None.ensures.room ∙ inv.room;

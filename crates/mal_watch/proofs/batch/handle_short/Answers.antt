@@ -1,7 +1,8 @@
 use Rattle.std.proofs.Common.{◌≡◌, ◌+◌, true, false, [], drop, sym, ap, ◌∙◌, arith}
 use Rattle.mal_base.specs.NumberedClause.{NumberedClause}
 use Rattle.spec_node.specs.Batch.{Progress, after_all, batch, is_in_batch}
-use Rattle.mal_watch.proofs.BatchLemmas.{after_all-in, after_all-out, after_all-ended, calm, within-at, short, long}
+use Rattle.mal_trail.proofs.FoundLemmas.{after_all-in, after_all-out, after_all-ended, calm, within-at}
+use Rattle.mal_watch.proofs.BatchLemmas.{short, long}
 use Rattle.mal_watch.proofs.batch.handle_short.Goals as goal
 use Rattle.mal_watch.proofs.batch.handle_short.Goals.{then-lits-le1+in-None, else-lits-le1}
 

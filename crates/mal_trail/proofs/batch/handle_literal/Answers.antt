@@ -1,6 +1,6 @@
 use Rattle.std.proofs.Common.{sym, ◌∙◌}
 use Rattle.mal_trail.proofs.TrailLemmas.{free_from_open}
-use Rattle.mal_watch.proofs.batch.handle_literal.Goals as goal
+use Rattle.mal_trail.proofs.batch.handle_literal.Goals as goal
 
 pub push-requires-clause-free : goal.push-requires-clause-free
 push-requires-clause-free c =

@@ -1,8 +1,8 @@
 use Rattle.std.proofs.Common.{◌≡◌, ℕ, ◌≤◌, ◌/◌, nat_le, not, ◌&&◌, true, take, arith, sym}
 use Rattle.std.proofs.lemmas.Bool.Decides.{nat_tests}
-use Rattle.mal_scan.proofs.BatchLemmas.{and_true, found_passes}
+use Rattle.mal_trail.proofs.FoundLemmas.{and_true, found_passes}
 use Rattle.spec_node.specs.Value.{is_false}
-use Rattle.mal_scan.proofs.batch.handle_clause.Goals as goal
+use Rattle.mal_trail.proofs.batch.handle_clause.Goals as goal
 
 le_from : (a b : ℕ) → nat_le a b ≡ true → a ≤ b
 le_from a b = grind (arith, nat_tests)
