@@ -39,32 +39,6 @@ closed-more : (asks : List Terms) (vs : List ℕ) (k i : ℕ) → IsClosed asks 
 closed-more asks vs k i all has (inl h) = all i h
 closed-more asks vs k i all has (inr e) = rw e has
 
-next-more : (asks : List Terms) (vs : List ℕ) (k b i : ℕ) → IsNext asks vs k b → demand_at asks k ≤ volume_at vs k → volume_at vs i < demand_at asks i → (i < k) ⊎ (i ≡ k) → Precedes asks vs b i
-next-more asks vs k b i n has low (inl h) = n.before i h low
-next-more asks vs k b i n has low (inr e) = let low' : volume_at vs k < demand_at asks k = rw (← e) low in absurd (omega arith)
-
-pub best-closed : (asks : List Terms) (vs : List ℕ) (k : ℕ) (best : Option ℕ) → IsBest asks vs k best → demand_at asks k ≤ volume_at vs k → IsBest asks vs (k + 1) best
-best-closed asks vs k None all has = λ i h. closed-more asks vs k i all has (last i k h)
-best-closed asks vs k (Some b) n has =
-    let here : b < k = n.here in
-    record {
-      here = omega arith;
-      open_still = n.open_still;
-      before = λ i h low. next-more asks vs k b i n has low (last i k h);
-    }
-
--- the first job that is below its demand
-first-more : (asks : List Terms) (vs : List ℕ) (k i : ℕ) → IsClosed asks vs k → volume_at vs i < demand_at asks i → (i < k) ⊎ (i ≡ k) → Precedes asks vs k i
-first-more asks vs k i all low (inl h) = let has = all i h in absurd (omega (arith, has))
-first-more asks vs k i all low (inr e) = inr (rw e (refl, omega arith))
-
-pub best-first : (asks : List Terms) (vs : List ℕ) (k : ℕ) → IsClosed asks vs k → volume_at vs k < demand_at asks k → IsNext asks vs (k + 1) k
-best-first asks vs k all low = record {
-  here = omega arith;
-  open_still = low;
-  before = λ i h low'. first-more asks vs k i all low' (last i k h);
-}
-
 -- a job with a better claim takes the place
 new-more : (asks : List Terms) (vs : List ℕ) (k b i : ℕ) → IsNext asks vs k b → ((j : ℕ) → j ≤ k → 1 ≤ volume_at vs j) → priority_at asks b * volume_at vs k < priority_at asks k * volume_at vs b → volume_at vs i < demand_at asks i → (i < k) ⊎ (i ≡ k) → Precedes asks vs k i
 new-more asks vs k b i n some claim low (inl h) =
@@ -82,17 +56,3 @@ best-new asks vs k b n some claim low = record {
 tie : (asks : List Terms) (vs : List ℕ) (k b : ℕ) → b < k → (x y : ℕ) → priority_at asks k * volume_at vs b ≡ x → priority_at asks b * volume_at vs k ≡ y → (x < y) ⊎ (x ≡ y) → Precedes asks vs b k
 tie asks vs k b low x y p q (inl h) = inl (omega arith)
 tie asks vs k b low x y p q (inr e) = inr (omega arith, omega arith)
-
-old-more : (asks : List Terms) (vs : List ℕ) (k b i : ℕ) → IsNext asks vs k b → Precedes asks vs b k → volume_at vs i < demand_at asks i → (i < k) ⊎ (i ≡ k) → Precedes asks vs b i
-old-more asks vs k b i n first low (inl h) = n.before i h low
-old-more asks vs k b i n first low (inr e) = rw e first
-
-pub best-old : (asks : List Terms) (vs : List ℕ) (k b : ℕ) → IsNext asks vs k b → priority_at asks k * volume_at vs b ≤ priority_at asks b * volume_at vs k → IsNext asks vs (k + 1) b
-best-old asks vs k b n claim =
-    let here : b < k = n.here in
-    let first : Precedes asks vs b k = tie asks vs k b here _ _ refl refl (last _ _ (omega arith)) in
-    record {
-      here = omega arith;
-      open_still = n.open_still;
-      before = λ i h low. old-more asks vs k b i n first low (last i k h);
-    }

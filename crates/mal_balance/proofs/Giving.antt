@@ -103,20 +103,6 @@ greedy-more asks first made vs b g n =
       even = λ i j il jl lo hi. even-more asks first made vs b i j g n il jl (same_or i b) (same_or j b) lo hi;
     }
 
--- the start: one worker each
-pub started-none : (asks : List Terms) (vs : List ℕ) (n : ℕ) → vs ≡ replicate n 0 → length asks ≡ n → IsStarted asks 0 vs
-started-none asks vs n e long =
-    let size : length vs ≡ n = rw e (length-replicate {A = ℕ} n 0) in
-    let zeros : sum (replicate n 0) ≡ n * 0 = sum_by-replicate (λ (x : ℕ). x) n 0 in
-    let total : sum (replicate n 0) ≡ 0 = omega arith in
-    record {
-      same_length = size ∙ sym long;
-      ones = λ i h. absurd (omega arith);
-      asked = λ i h. absurd (omega arith);
-      zeros = λ i h. rw e (zero_at n i);
-      total = rw e total;
-    }
-
 ones-more : (asks : List Terms) (k : ℕ) (vs : List ℕ) (i : ℕ) → IsStarted asks k vs → k < length vs → i < k + 1 → (i ≡ k) ⊎ (i ≢ k) → volume_at (set vs k 1) i ≡ 1
 ones-more asks k vs i s here h (inl e) = get_or-set_at vs k i 1 0 e here
 ones-more asks k vs i s here h (inr ne) = get_or-set_other vs k i 1 0 ne ∙ s.ones i (omega arith)
@@ -139,17 +125,6 @@ started-more asks k vs x s low some one =
       zeros = λ i h. let ne : i ≢ k = omega arith in get_or-set_other vs k i 1 0 ne ∙ s.zeros i (omega arith);
       total = omega arith;
     })
-
-pub started-greedy : (asks : List Terms) (first : ℕ) (vs : List ℕ) → IsStarted asks first vs → first ≤ length asks → IsGreedy asks first first vs
-started-greedy asks first vs s within = record {
-  same_length = s.same_length;
-  within = within;
-  some = λ i h. rw (s.ones i h) (omega arith);
-  wanted = λ i h. rw (s.ones i h) (s.asked i h);
-  others = s.zeros;
-  total = s.total;
-  even = λ i j il jl low high. let one = s.ones j jl in absurd (omega (arith, one, high));
-}
 
 -- sums, place by place
 pub sum-le : (vs : List ℕ) (asks : List Terms) → length vs ≡ length asks → ((i : ℕ) → i < length asks → volume_at vs i ≤ demand_at asks i) → sum vs ≤ sum_by (λ a. a.demand) asks

@@ -170,10 +170,6 @@ image-turned n i =
     let same : length n.order ≡ n.variables = eqb-true (length n.order) n.variables parts.0 in
     record { once = once-new n.variables [] n.order parts.1; placed = rw same (placed-new n.variables [] n.order parts.1) }
 
--- there are no more variables than the order of an image has
-pub image-order : (n : Node) → IsImage n → length n.order ≤ 65536
-image-order n i = let same : length n.order ≡ n.variables = eqb-true (length n.order) n.variables (and_parts (length n.order == n.variables) (are_new n.variables [] n.order) i.order).0 in omega (arith, i.ranges.variables)
-
 -- the literals of the clauses from one on are its own and those of the clauses behind it
 pub lits-next : (cs : List NumberedClause) (i : ℕ) (c d : NumberedClause) → i < length cs → c ≡ get_or cs i d → lits_in (drop i cs) ≡ length c.lits + lits_in (drop (suc i) cs)
 lits-next [] i c d l e = absurd (omega arith)

@@ -22,10 +22,6 @@ use Rattle.mal_cdcl.specs.Importing.{all_imported, MayImportAll, picked, with_pi
 use Rattle.mal_cdcl.proofs.NeedLemmas.{IsReadying}
 use Rattle.mal_cdcl.proofs.TellingLemmas.{within-literals}
 
--- what is new to some variables is new to more
-pub new-wider : (v w : ℕ) (held new : List NumberedClause) → v ≤ w → AreNewTo held v new → AreNewTo held w new
-new-wider v w held new b h = record { some = h.some; within = All-weaker (λ c. AreLiteralsOf v c.lits) (λ c. AreLiteralsOf w c.lits) (λ c k. literals-wider v w c.lits b k) new h.within; own = h.own; apart = h.apart }
-
 all-within : (v : ℕ) (cs : List NumberedClause) → All (λ c. is_within v c.lits ≡ true) cs → are_within v cs ≡ true
 all-within v [] h = refl
 all-within v (c ∷ cs) h = rw (All-head (λ x. is_within v x.lits ≡ true) c cs h) (all-within v cs (All-tail (λ x. is_within v x.lits ≡ true) c cs h))

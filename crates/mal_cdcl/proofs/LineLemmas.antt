@@ -89,29 +89,3 @@ derived-step used now line before after v next e low s l r =
         hints = omega (arith, variables, h.hints, r.hints);
       };
     }
-
--- a step without a line
-pub searched-step : (used : ℕ) (before after : NodeWithRoom) → before.state.verdict ≡ None → IsSearched (case_of before.state) before after → IsStepped used before used after
-searched-step used before after v h =
-    let next : next_line before.state ≡ None = h.none in
-    let s : after.state ≡ step before.state = h.state in
-    let r : Keeps 0 0 before after = h.keeps in
-    let variables : after.state.variables ≡ before.state.variables = ap (λ (n : Node). n.variables) s ∙ (step-leaves before.state).variables in
-    let lines : after.spare.lines ≡ before.spare.lines = ap (λ (x : NodeRoom). x.lines) r.spare in
-    let lits : after.spare.line_literals ≡ before.spare.line_literals = ap (λ (x : NodeRoom). x.line_literals) r.spare in
-    let hints : after.spare.hints ≡ before.spare.hints = ap (λ (x : NodeRoom). x.hints) r.spare in
-    record {
-      on = not-over before.state.verdict (next_line before.state) None (λ l. nat_lt (most_numbers before.state.variables) (used + numbers_of l)) (ap is_some v) next refl;
-      state = s;
-      lines = rw next r.lines;
-      numbers = rw next (omega arith);
-      room = λ k h. record {
-        few = omega (arith, variables, h.few);
-        variables = omega (arith, variables, h.variables, r.room.variables);
-        clauses = omega (arith, h.clauses, r.room.clauses);
-        literals = omega (arith, variables, h.literals, r.room.literals);
-        lines = omega (arith, h.lines, lines);
-        line_literals = omega (arith, variables, h.line_literals, lits);
-        hints = omega (arith, variables, h.hints, hints);
-      };
-    }

@@ -29,14 +29,6 @@ or-moved false false c = refl
 pub noted-next : {X : Type 0} (test : X → Bool) (xs : List X) (i : ℕ) (x d : X) → i < length xs → x ≡ get_or xs i d → (before now next : Bool) → now ≡ (list_any test (take i xs) || before) → next ≡ (test x || now) → next ≡ (list_any test (take (i + 1) xs) || before)
 noted-next test xs i x d l e before now next h k = rw (take-at xs i x d l e, list_any-append) (k ∙ (ap (λ (b : Bool). test x || b) h ∙ or-moved (list_any test (take i xs)) (test x) before))
 
--- the same for loads as they are lent
-pub noted-next_load : (lits : List ℕ) (loads : List (Bor Posted × ℕ)) (i : ℕ) (x d : Bor Posted × ℕ) → i < length loads → x ≡ get_or loads i d → (before now next : Bool) → now ≡ (is_loaded_in lits (posted (take i loads)) || before) → next ≡ (is_posted_in lits x.0.now.clauses || now) → next ≡ (is_loaded_in lits (posted (take (i + 1) loads)) || before)
-noted-next_load lits loads i x d l e before now next h k = rw (take-at loads i x d l e, map-append, list_any-append) (k ∙ (ap (λ (b : Bool). is_posted_in lits x.0.now.clauses || b) h ∙ or-moved (is_loaded_in lits (posted (take i loads))) (is_posted_in lits x.0.now.clauses) before))
-
--- what passes a test after one element more
-pub filter-next : {X : Type 0} (test : X → Bool) (xs : List X) (i : ℕ) (x d : X) → i < length xs → x ≡ get_or xs i d → filter test (take (i + 1) xs) ≡ filter test (take i xs) ++ filter test (x ∷ [])
-filter-next test xs i x d l e = rw (take-at xs i x d l e) (filter-append test (take i xs) (x ∷ []))
-
 -- whether literals are held does not depend on where clauses stand
 lits-with_clause : (lits : List ℕ) (c : NumberedClause) (cs : List NumberedClause) → has_lits lits (with_clause c cs) ≡ (bytes_eq lits c.lits || has_lits lits cs)
 lits-with_clause lits c [] = refl

@@ -48,19 +48,6 @@ pub record IsSlicing (left used : ℕ) (start now : NodeWithRoom) : Type 0 where
   pub conflicts_since_restart : now.state.conflicts_since_restart + left ≤ start.state.conflicts_since_restart + 1000
   pub restart_number : now.state.restart_number + left ≤ start.state.restart_number + 1000
 
-pub slicing-begins : (n : NodeWithRoom) → IsSound n.state → HasSliceRoom n → IsSlicing 1000 0 n n
-slicing-begins n h r =
-    record {
-      node = refl;
-      lines = rw r.none refl;
-      sound = h;
-      room = r.room;
-      variables = refl;
-      serial = omega arith;
-      conflicts_since_restart = omega arith;
-      restart_number = omega arith;
-    }
-
 pub slicing-next : (k used u : ℕ) (start now next : NodeWithRoom) → IsSlicing (suc k) used start now → IsStepped used now u next → IsSlicing k u start next
 slicing-next k used u start now next h s =
     let line : Option Line = next_line now.state in
@@ -94,11 +81,3 @@ slicing-over k used start now o h =
 
 pub slicing-ends : (used : ℕ) (start now : NodeWithRoom) → IsSlicing 0 used start now → HasRun start now
 slicing-ends used start now h = record { node = h.node; lines = sym (append-nil now.lines) ∙ h.lines }
-
--- the counts stay low enough for a step
-pub may-count : (k used : ℕ) (start now : NodeWithRoom) → HasLowCounts start.state → IsSlicing (suc k) used start now → MayCount now.state
-may-count k used start now c h = record { first = h.sound.ranged.restart_number; conflicts_since_restart = omega (arith, c.conflicts_since_restart, h.conflicts_since_restart); restart_number = omega (arith, c.restart_number, h.restart_number); serial = omega (arith, c.serial, h.serial) }
-
--- there is room for a step
-pub room-step : (k used : ℕ) (n : NodeWithRoom) → HasStepRoom (suc k) used n → HasStepRoom 1 used n
-room-step k used n h = record { few = h.few; variables = h.variables; clauses = omega (arith, h.clauses); literals = h.literals; lines = omega (arith, h.lines); line_literals = h.line_literals; hints = h.hints }

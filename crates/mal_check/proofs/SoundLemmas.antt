@@ -31,7 +31,3 @@ held-entailed c h id clause e a s = by_place (place_of c.ids id) e
 -- so is a derived clause, beside those added before
 pub derived-sound : (c : Checked) (clause : Option (List ℕ)) (hints : List ℕ) → IsSound c → derivation (held c) clause hints ≡ Derived → All (Entails c.originals) (c.added ++ clause ∷ [])
 derived-sound c clause hints h e = All-push (Entails c.originals) c.added clause h (derived-entailed c.originals (held c) clause hints (held-entailed c h) e)
-
--- more originals entail what fewer do
-pub original-sound : (originals added : List (Option (List ℕ))) (c : Option (List ℕ)) → All (Entails originals) added → All (Entails (originals ++ c ∷ [])) added
-original-sound originals added c h = All-weaker (Entails originals) (Entails (originals ++ c ∷ [])) (λ d k a s. k a (and_parts (satisfies a originals) (satisfies a (c ∷ [])) (sym (list_all-append (satisfies_clause a) originals (c ∷ [])) ∙ s)).0) added h

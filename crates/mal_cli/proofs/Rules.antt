@@ -17,13 +17,6 @@ pub ruleset serving_lemmas = (served, generated-made, run-made, unserved)
 
 pub ruleset script_lemmas = (run-refused)
 
--- a sink that got nothing is as before
-pub nothing-gained : (known : Option (List ℕ)) → Appends known known []
-nothing-gained = Appends-nil
-
 -- what is done for the one request of the words is done for each that they mean
 pub done-for : (words : List (List ℕ)) (q r : Request) (source log out : Device) (status : ℕ) → Means words q → Means words r → HasDone q source log out status → HasDone r source log out status
 done-for words q r source log out status m n done = subst (λ (x : Request). HasDone x source log out status) (one_meaning words q r m n) done
-
-pub reads-for : (words : List (List ℕ)) (q r : Request) → Means words q → Means words r → ReadsNothing r → ReadsNothing q
-reads-for words q r m n reads = subst ReadsNothing (sym (one_meaning words q r m n)) reads

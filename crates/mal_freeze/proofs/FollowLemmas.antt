@@ -30,11 +30,3 @@ follow_parts greatest before e h =
     let c = and_parts (not (has_value before v)) (nat_le (level_of before) e.level && nat_le e.level (level_of before + 1)) a.1 in
     let d = and_parts (nat_le (level_of before) e.level) (nat_le e.level (level_of before + 1)) c.1 in
     record { low = test_le 1 v b.0; high = test_le v greatest b.1; free = not_true (has_value before v) c.0; last = test_le (level_of before) e.level d.0; next = test_le e.level (level_of before + 1) d.1 }
-
-pub follow-next : (greatest : ℕ) (es : List TrailEntry) (i : ℕ) (e d : TrailEntry) → i < length es → e ≡ get_or es i d → may_follow greatest (take i es) e ≡ true → all_follow greatest (take (i + 1) es) (drop (i + 1) es) ≡ all_follow greatest (take i es) (drop i es)
-follow-next greatest es i e d l is h =
-    rw (take-at es i e d l is, drop-at es i e d l is) (by_true (may_follow greatest (take i es) e) (all_follow greatest (take i es ++ e ∷ []) (drop (i + 1) es)) h)
-
-pub follow-end : (greatest : ℕ) (es : List TrailEntry) (i : ℕ) (e d : TrailEntry) → i < length es → e ≡ get_or es i d → may_follow greatest (take i es) e ≡ false → all_follow greatest (take i es) (drop i es) ≡ false
-follow-end greatest es i e d l is h =
-    rw (drop-at es i e d l is) (by_false (may_follow greatest (take i es) e) (all_follow greatest (take i es ++ e ∷ []) (drop (i + 1) es)) h)

@@ -21,9 +21,6 @@ length_replicate : (n : ℕ) → length (replicate n false) ≡ n
 length_replicate zero = refl
 length_replicate (suc n) = omega (arith, length_replicate n)
 
-pub marked-begins : (greatest : ℕ) (marks : List Bool) → marks ≡ replicate (greatest + 1) false → Marked greatest marks []
-marked-begins greatest marks e = rw e (record { places = length_replicate (greatest + 1); marked = λ w l. unmarked (greatest + 1) w })
-
 or_none : (a b : Bool) → b ≡ false → a ≡ (a || (b || false))
 or_none true b h = refl
 or_none false b h = rw h refl
@@ -31,9 +28,6 @@ or_none false b h = rw h refl
 or_some : (a b : Bool) → b ≡ true → (a || (b || false)) ≡ true
 or_some true b h = refl
 or_some false b h = rw h refl
-
-eqb_other : (a b : ℕ) → (a ≡ b → ⊥) → eqb a b ≡ false
-eqb_other a b = grind (arith, nat_tests)
 
 eqb_same : (a b : ℕ) → a ≡ b → eqb a b ≡ true
 eqb_same a b = grind (arith, nat_tests)
@@ -61,19 +55,6 @@ marked-next greatest v marks before l m =
         let other : w ≢ v = (λ e. false≢true (sym t ∙ eqb_same w v e)) in
         rw (list_any-append (eqb w) before (v ∷ []), ← or_none (list_any (eqb w) before) (eqb w v) t, get_or-set_other marks v w true false other) (m.marked w k)
 
--- a number up to the greatest without a mark is new
-pub new_unmarked : (greatest v : ℕ) (marks : List Bool) (before : List ℕ) → 1 ≤ v → v ≤ greatest → get_or marks v false ≡ false → Marked greatest marks before → is_new greatest before v ≡ true
-new_unmarked greatest v marks before low high free m =
-    rw (le_test 1 v low, le_test v greatest high, ← m.marked v high, free) refl
-
--- one with a mark is not
-pub old_marked : (greatest v : ℕ) (marks : List Bool) (before : List ℕ) → v ≤ greatest → get_or marks v false ≡ true → Marked greatest marks before → is_new greatest before v ≡ false
-old_marked greatest v marks before high old m = last_false (nat_le 1 v && nat_le v greatest) (list_any (eqb v) before) (sym (m.marked v high) ∙ old)
-  where
-    last_false : (a b : Bool) → b ≡ true → (a && not b) ≡ false
-    last_false true b h = rw h refl
-    last_false false b h = refl
-
 -- nor is one above the greatest
 pub beyond : (greatest v : ℕ) (before : List ℕ) → greatest < v → is_new greatest before v ≡ false
 beyond greatest v before h = by_false (nat_le 1 v && nat_le v greatest) (not (list_any (eqb v) before)) (last_false (nat_le 1 v) (nat_le v greatest) (not_le v greatest h))
@@ -81,11 +62,3 @@ beyond greatest v before h = by_false (nat_le 1 v && nat_le v greatest) (not (li
     last_false : (a b : Bool) → b ≡ false → (a && b) ≡ false
     last_false true b k = k
     last_false false b k = refl
-
-pub news-next : (greatest : ℕ) (vs : List ℕ) (i v d : ℕ) → i < length vs → v ≡ get_or vs i d → is_new greatest (take i vs) v ≡ true → are_new greatest (take (i + 1) vs) (drop (i + 1) vs) ≡ are_new greatest (take i vs) (drop i vs)
-news-next greatest vs i v d l e h =
-    rw (take-at vs i v d l e, drop-at vs i v d l e) (by_true (is_new greatest (take i vs) v) (are_new greatest (take i vs ++ v ∷ []) (drop (i + 1) vs)) h)
-
-pub news-end : (greatest : ℕ) (vs : List ℕ) (i v d : ℕ) → i < length vs → v ≡ get_or vs i d → is_new greatest (take i vs) v ≡ false → are_new greatest (take i vs) (drop i vs) ≡ false
-news-end greatest vs i v d l e h =
-    rw (drop-at vs i v d l e) (by_false (is_new greatest (take i vs) v) (are_new greatest (take i vs ++ v ∷ []) (drop (i + 1) vs)) h)

@@ -45,19 +45,6 @@ use Rattle.spec_hall.proofs.JournalLemmas.{spots-home}
 use Rattle.spec_hall.specs.Spots.{IsAt, Spot, Tag, tags_of}
 use Rattle.mal_base.specs.declared.hall_fault.ApplyFault.{ApplyFault}
 
--- an event that is written down as this one
-pub applied-as : (w : ℕ) (past now : List Event) (posted : Option Posted) (line : written.Event) (e : Event) → given posted line ≡ Some e → HasEntered w past e now → HasApplied w past posted line now
-applied-as w past now posted line e is entered = record { event = e; given_is = is; entered = entered }
-
-pub refused-as : (w : ℕ) (past : List Event) (posted : Option Posted) (line : written.Event) (e : Event) → given posted line ≡ Some e → (Allowed w past e → ⊥) → IsRefused w past posted line
-refused-as w past posted line e is refused f same may =
-    let both : Some e ≡ Some f = sym is ∙ same in
-    let equal : f ≡ e = cc in
-    refused (subst (Allowed w past) equal may)
-
-pub refused-none : (w : ℕ) (past : List Event) (posted : Option Posted) (line : written.Event) → given posted line ≡ None → IsRefused w past posted line
-refused-none w past posted line none e same may = let both : None ≡ Some e = sym none ∙ same in absurd (cc)
-
 -- a call that was refused is not one that might have been answered
 otherwise : (w : ℕ) (past now : List Event) (c : Call) (answer one : AnswerTo c) (es : List Event) → HasCalled w past c answer now → IsCall w past c one es → wanted c one ≡ false → wanted c answer ≡ false → one ≡ answer
 otherwise w past now c answer one es has is first second = (call-is_decided w past c one answer es has.events is has.call (first ∙ sym second)).0
@@ -70,37 +57,12 @@ open-refused w past now k ask fault has refused may =
 pub open-entered : (w : ℕ) (past now : List Event) (k : Key) (ask : Terms) → HasCalled w past (Opens k ask) (Ok tt) now → HasEntered w past (Open k ask) now
 open-entered w past now k ask has = record { allowed = has.call.0; grown = has.grown ∙ ap (λ (es : List Event). past ++ es) has.call.1 }
 
--- the number of a revision that may be posted is the next one
-revise-next : (past : List Event) (k : Key) (number : ℕ) (r : Posted) (t : KeyedJob) → MayRevise past k number r t → number ≡ next_number k past
-revise-next past k number r t may = may.next ∙ sym (ap (λ (o : Option KeyedJob). option_map_or (λ (u : KeyedJob). length u.state.revisions + 1) o 1) may.job)
-
-pub revise-number : (w : ℕ) (past : List Event) (k : Key) (number next : ℕ) (r : Posted) → next ≡ next_number k past → (next ≡ number → ⊥) → Allowed w past (Revise k number r) → ⊥
-revise-number w past k number next r is other may = other (is ∙ sym (revise-next past k number r may.0 may.1))
-
 pub revise-refused : (w : ℕ) (past now : List Event) (k : Key) (number : ℕ) (r : Posted) (fault : ReviseFault) → HasCalled w past (Revises k r) (Err fault) now → wanted (Revises k r) (Err fault) ≡ false → Allowed w past (Revise k number r) → ⊥
 revise-refused w past now k number r fault has refused may =
     let t : KeyedJob = may.0 in
     let here : MayRevise past k (length t.state.revisions + 1) r t = subst (λ (n : ℕ). MayRevise past k n r t) may.1.next may.1 in
     let same : Ok tt ≡ Err fault = otherwise w past now (Revises k r) (Err fault) (Ok tt) (Revise k (length t.state.revisions + 1) r ∷ []) has (t, here, refl) refl refused in
     absurd (cc)
-
-pub revise-entered : (w : ℕ) (past now : List Event) (k : Key) (number next : ℕ) (r : Posted) → HasCalled w past (Revises k r) (Ok tt) now → next ≡ next_number k past → next ≡ number → HasEntered w past (Revise k number r) now
-revise-entered w past now k number next r has is same =
-    let t : KeyedJob = has.call.0 in
-    let may : MayRevise past k (length t.state.revisions + 1) r t = has.call.1 in
-    let number_is : length t.state.revisions + 1 ≡ number = revise-next past k (length t.state.revisions + 1) r t may ∙ (sym is ∙ same) in
-    record {
-      allowed = (t, subst (λ (n : ℕ). MayRevise past k n r t) number_is may);
-      grown = has.grown ∙ (ap (λ (es : List Event). past ++ es) has.call.2 ∙ ap (λ (n : ℕ). past ++ Revise k n r ∷ []) number_is);
-    }
-
-pub close-refused : (w : ℕ) (past now : List Event) (k : Key) (fault : CloseFault) → HasCalled w past (Closes k) (Err fault) now → Allowed w past (Close k) → ⊥
-close-refused w past now k fault has may =
-    let same : Ok tt ≡ Err fault = otherwise w past now (Closes k) (Err fault) (Ok tt) (Close k ∷ []) has (may.0, may.1, refl) refl refl in
-    absurd (cc)
-
-pub close-entered : (w : ℕ) (past now : List Event) (k : Key) → HasCalled w past (Closes k) (Ok tt) now → HasEntered w past (Close k) now
-close-entered w past now k has = record { allowed = (has.call.0, has.call.1); grown = has.grown ∙ ap (λ (es : List Event). past ++ es) has.call.2 }
 
 -- the last event of a hall in which a balancing was entered lists its volumes
 last-get : (es : List written.Event) (e : written.Event) → slice_get (es ++ e ∷ []) (length (es ++ e ∷ []) - 1) ≡ Some e
@@ -127,9 +89,6 @@ balance-entered w past now volumes has is =
 pub balance-refused : (w : ℕ) (past now : List Event) (volumes : List Share) → HasBalanced w past now → (listed_last (map bare now) ≡ Some volumes → ⊥) → Allowed w past (Balance volumes) → ⊥
 balance-refused w past now volumes has other may = other (balanced-last w past now has ∙ ap Some (balances-decided w past has.shares volumes has.allowed may))
 
-pub due-refused : (w : ℕ) (past : List Event) (volumes : List Share) → lives (states past) ≡ balanced past → Allowed w past (Balance volumes) → ⊥
-due-refused w past volumes calm may = may.due calm
-
 -- the key of a job at a place
 key-at : (past : List Event) (at : ℕ) (t : KeyedJob) → slice_get (states past) at ≡ Some t → slice_get (keys_of past) at ≡ Some t.key
 key-at past at t e = by_key (slice_get (keys_of past) at) refl
@@ -153,44 +112,6 @@ exchange-entered w past now at k first named has =
     let same : has.key ≡ k = sym has.allowed.1.key ∙ (ap (λ (t : KeyedJob). t.key) (sym job) ∙ first-key past at k first named) in
     record { allowed = subst (λ (j : Key). Allowed w past (Exchange j)) same has.allowed; grown = has.grown ∙ ap (λ (j : Key). past ++ Exchange j ∷ []) same }
 
-pub exchange-refused : (w : ℕ) (past : List Event) (at : ℕ) (k : Key) → IsFirst past at → (slice_get (keys_of past) at ≡ Some k → ⊥) → Allowed w past (Exchange k) → ⊥
-exchange-refused w past at k first other may =
-    let job : first.job ≡ may.0 = first-job past at k may.0 first may.1 in
-    other (key-at past at first.job first.place ∙ ap Some (ap (λ (t : KeyedJob). t.key) job ∙ may.1.key))
-
-pub exchange-due : (w : ℕ) (past : List Event) (k : Key) → IsBalanceDue past → Allowed w past (Exchange k) → ⊥
-exchange-due w past k due may = due may.1.balance
-
-pub exchange-none : (w : ℕ) (past : List Event) (k : Key) → exchange_due (states past) ≡ None → Allowed w past (Exchange k) → ⊥
-exchange-none w past k none may = let both : None ≡ Some may.0 = sym none ∙ may.1.first in absurd (cc)
-
--- a start that may not be
-pub start-worker : (w v : ℕ) (past : List Event) (k : Key) (index worker : ℕ) → v ≡ w → (1 ≤ worker → worker ≤ v → ⊥) → Allowed w past (Start k index worker) → ⊥
-start-worker w v past k index worker same other may = other may.1.some_worker (omega (arith, same, may.1.worker_bound))
-
-pub start-busy : (w : ℕ) (past : List Event) (k : Key) (index worker : ℕ) (b : Bool) → b ≡ is_some (lease_of worker (leases past)) → b ≡ true → Allowed w past (Start k index worker) → ⊥
-start-busy w past k index worker b scan busy may =
-    let both : false ≡ true = sym (ap (λ (o : Option LeaseOut). is_some o) may.1.idle) ∙ (sym scan ∙ busy) in
-    absurd (cc)
-
-pub start-due : (w : ℕ) (past : List Event) (k : Key) (index worker : ℕ) → IsBalanceDue past → Allowed w past (Start k index worker) → ⊥
-start-due w past k index worker due may = due may.1.balance
-
-pub start-exchange : (w : ℕ) (past : List Event) (k : Key) (index worker at : ℕ) → IsFirst past at → Allowed w past (Start k index worker) → ⊥
-start-exchange w past k index worker at first may = let both : None ≡ Some first.job = sym may.1.exchange ∙ first.first in absurd (cc)
-
-pub start-none : (w : ℕ) (past : List Event) (k : Key) (index worker : ℕ) (o : Option Candidate) → o ≡ picked (states past) → o ≡ None → Allowed w past (Start k index worker) → ⊥
-start-none w past k index worker o scan none may = let both : None ≡ Some may.0 = sym none ∙ (scan ∙ may.1.first) in absurd (cc)
-
-start-choice : (w : ℕ) (past : List Event) (k : Key) (index worker : ℕ) (o : Option Candidate) (c : Candidate) → o ≡ picked (states past) → o ≡ Some c → (may : Allowed w past (Start k index worker)) → c ≡ may.0
-start-choice w past k index worker o c scan is may = let both : Some c ≡ Some may.0 = sym is ∙ (scan ∙ may.1.first) in cc
-
-pub start-index : (w : ℕ) (past : List Event) (k : Key) (index worker : ℕ) (o : Option Candidate) (c : Candidate) → o ≡ picked (states past) → o ≡ Some c → (c.index ≡ index → ⊥) → Allowed w past (Start k index worker) → ⊥
-start-index w past k index worker o c scan is other may = other (ap (λ (x : Candidate). x.index) (start-choice w past k index worker o c scan is may) ∙ may.1.place)
-
-pub start-key : (w : ℕ) (past : List Event) (k : Key) (index worker : ℕ) (o : Option Candidate) (c : Candidate) → o ≡ picked (states past) → o ≡ Some c → (slice_get (keys_of past) c.job ≡ Some k → ⊥) → Allowed w past (Start k index worker) → ⊥
-start-key w past k index worker o c scan is other may = other (ap (λ (x : Candidate). slice_get (keys_of past) x.job) (start-choice w past k index worker o c scan is may) ∙ may.1.key)
-
 -- one that may be
 pub start-may : (w v : ℕ) (past : List Event) (k : Key) (index worker : ℕ) (b : Bool) (o : Option Candidate) (c : Candidate) → v ≡ w → 1 ≤ worker → worker ≤ v → b ≡ is_some (lease_of worker (leases past)) → b ≡ false → lives (states past) ≡ balanced past → exchange_due (states past) ≡ None → o ≡ picked (states past) → o ≡ Some c → c.index ≡ index → slice_get (keys_of past) c.job ≡ Some k → StartsAt w past k index worker c.job
 start-may w v past k index worker b o c same low high busy free calm exchange scan is place named = record {
@@ -213,9 +134,6 @@ start-may w v past k index worker b o c same low high busy free calm exchange sc
     none : (l : Option LeaseOut) → is_some l ≡ false → l ≡ None
     none None e = refl
     none (Some l) e = absurd (cc)
-
-pub starts-at : (w : ℕ) (past : List Event) (k : Key) (index worker at : ℕ) → StartsAt w past k index worker at → MayStartAt w past at index worker
-starts-at w past k index worker at is = record { key = k; place = is.place; allowed = is.allowed }
 
 -- a lease that is handed out is that of the node
 started-key : (w : ℕ) (past now : List Event) (k : Key) (index worker at : ℕ) (lease : Leased) → StartsAt w past k index worker at → (has : HasStarted w past now index worker lease) → has.key ≡ k

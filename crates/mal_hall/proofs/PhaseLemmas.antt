@@ -119,13 +119,6 @@ due-is x hall due = by_test (is_due x.seats) refl
     by_test true e = refl
     by_test false e = absurd (due (seated-calm x.history.workers (events_in x) x.seats (hall-seated x hall) e))
 
-calm-is : (x : Inside) → IsHall x → lives (states (events_in x)) ≡ balanced (events_in x) → is_due x.seats ≡ false
-calm-is x hall calm = by_test (is_due x.seats) refl
-  where
-    by_test : (b : Bool) → is_due x.seats ≡ b → b ≡ false
-    by_test false e = refl
-    by_test true e = absurd (seated-due x.history.workers (events_in x) x.seats (hall-seated x hall) e calm)
-
 pub record Balanced (x y : Inside) : Type 0 where
   pub hall : IsHall y
   pub has : HasBalanced x.history.workers (events_in x) (events_in y)

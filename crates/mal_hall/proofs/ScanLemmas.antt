@@ -20,13 +20,6 @@ jobs_of-from tenant ss i s within at =
     ap (λ (xs : List Seat). jobs_of tenant (jobs_in xs)) (seats-from ss i s within at)
     ∙ sum_by-cons (λ (t : KeyedJob). if is_text tenant t.key.tenant then 1 else 0) s.job.titled (jobs_in (drop (i + 1) ss))
 
--- what holds of the seats up to a place, and of the seat there
-pub seats-more : (P : Seat → Type 0) (ss : List Seat) (i : ℕ) (s : Seat) → i < length ss → s ≡ get_or ss i s → ((k : ℕ) (d : Seat) → k < i → P (get_or ss k d)) → P s → (k : ℕ) (d : Seat) → k < i + 1 → P (get_or ss k d)
-seats-more P ss i s within at below holds k d lt =
-    let Q : ℕ → Type 0 = λ n. (x : Seat) → P (get_or ss n x) in
-    let here : Q i = λ x. subst P (at ∙ get_or_default ss i s x within) holds in
-    below_more Q i (λ n l x. below n x l) here k lt d
-
 -- what is picked from a place on
 pub picks-from : (job : ℕ) (best now all : Option Candidate) (ss : List Seat) (i : ℕ) (s : Seat) → i < length ss → s ≡ get_or ss i s → now ≡ pick_job job s.job.titled.state best → pick_from job best (drop i ss) ≡ all → pick_from (job + 1) now (drop (i + 1) ss) ≡ all
 picks-from job best now all ss i s within at is whole =

@@ -10,13 +10,6 @@ use Rattle.mal_history.specs.Text.{share_words}
 abbrev pub spaced : List Share → List ℕ
 spaced shares = flat_map (λ w. 32 ∷ w) (flat_map share_words shares)
 
--- the words of one more volume stand behind those of the others
-pub spaced-more : (old items out : List ℕ) (shares more : List Share) (share : Share) → items ≡ old ++ 98 ∷ spaced shares → out ≡ items ++ flat_map (λ w. 32 ∷ w) (share_words share) → more ≡ shares ++ share ∷ [] → out ≡ old ++ 98 ∷ spaced more
-spaced-more old items out shares more share e f g =
-    f ∙ ap (λ (bytes : List ℕ). bytes ++ flat_map (λ w. 32 ∷ w) (share_words share)) e
-    ∙ append_assoc old (98 ∷ spaced shares) (flat_map (λ w. 32 ∷ w) (share_words share))
-    ∙ ap (λ (bytes : List ℕ). old ++ 98 ∷ bytes) (sym (flat_map-append (λ w. 32 ∷ w) (flat_map share_words shares) (share_words share)) ∙ ap (flat_map (λ w. 32 ∷ w)) (sym (flat_map-append share_words shares (share ∷ []))) ∙ ap spaced (sym g))
-
 -- the volumes so far, all volumes, and then a line end make the line
 pub written_balance : (old items out : List ℕ) (shares : List Share) (i : ℕ) → length shares ≤ i → items ≡ old ++ 98 ∷ spaced (take i shares) → out ≡ items ++ 10 ∷ [] → out ≡ old ++ line_of (codes "b" ∷ flat_map share_words shares)
 written_balance old items out shares i all e f =

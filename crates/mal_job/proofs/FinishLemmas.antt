@@ -55,10 +55,6 @@ back-ran p d o b = subst (λ (x : Outcome). IsGrownBy x b.lease.adds p.journal d
 pub back-starved : (p : PlaceView) (d : Finished) → d.outcome ≡ Starved → IsBackAt p d → d.journal ≡ p.journal
 back-starved p d o b = subst (λ (x : Outcome). IsGrownBy x b.lease.adds p.journal d.journal) o b.journal
 
-settled-log : (o : Option ℕ) (s : SoloMachine) → (settled_by o s).log ≡ s.log
-settled-log None s = refl
-settled-log (Some goal) s = refl
-
 module _ (q : Parts) (i : ℕ) (k : JobInvariant q) (is_out : is_some (placed q.tree i).out ≡ true) where
   abbrev p : PlaceView
   p = placed q.tree i

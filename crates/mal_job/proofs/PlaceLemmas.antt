@@ -158,9 +158,6 @@ grown-push number ps qs index (n, e) f =
     let same : index ≡ length ps + n = sym f ∙ all in
     (suc n, ap (λ (xs : List PlaceView). xs ++ fresh_place number index ∷ []) e ∙ (ap (λ (j : ℕ). (ps ++ fresh_from number (length ps) n) ++ fresh_place number j ∷ []) same ∙ grown-append number ps (length ps) n))
 
-pub grown-none : (number : ℕ) (ps : List PlaceView) → IsGrown number ps ps
-grown-none number ps = (0, sym (append-nil ps))
-
 -- each place has the journal of its own node
 pub own-at : (number : ℕ) (ps : List PlaceView) (k i : ℕ) (d : PlaceView) → i < length ps → AreOwn number k ps → ((get_or ps i d).journal.job ≡ number) × ((get_or ps i d).journal.index ≡ k + i)
 own-at number [] k i d low all = absurd (omega arith)

@@ -15,17 +15,6 @@ abbrev pub behind : {A : Type 0} → List A → Option (List A) → Option (List
 behind front None = None
 behind front (Some xs) = Some (front ++ xs)
 
-pub behind-none : {A : Type 0} (o : Option (List A)) → behind [] o ≡ o
-behind-none None = refl
-behind-none (Some xs) = refl
-
-pub behind-push : {A : Type 0} (front : List A) (x : A) (o : Option (List A)) → behind front (before_all (Some x) o) ≡ behind (front ++ x ∷ []) o
-behind-push front x None = refl
-behind-push front x (Some xs) = ap Some (sym (append_assoc front (x ∷ []) xs))
-
-pub behind-all : {A : Type 0} (front : List A) → behind front (Some []) ≡ Some front
-behind-all front = ap Some (append-nil front)
-
 -- the clause of literals is the one that they make
 pub clause-made : {E : Type 0} (r : Result (Option (List ℕ)) E) (lits : List ℕ) → IfOk r (λ o. MatchOption o (IsTautology lits) (λ c. IsTautology lits → ⊥)) → IfOk r (λ o. MatchOption o (IsTautology lits) (λ c. rises c ≡ true)) → IfOk r (λ o. MatchOption o (IsTautology lits) (λ c. HaveSame lits c)) → IfOk r (λ o. o ≡ clause_of lits)
 clause-made (Err e) lits n u s = tt

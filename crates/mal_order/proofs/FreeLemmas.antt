@@ -23,11 +23,6 @@ free-here trail list place v l q k =
     let free : has_value trail v ≡ false = sym (value-shown trail v) ∙ ap is_some k in
     rw (drop_more list place 0 l, ← q, free) refl
 
-pub free-later : (trail : List TrailEntry) (list : List ℕ) (place v : ℕ) (b : Bool) → place < length list → v ≡ get_or list place 0 → value_on trail v ≡ Some b → first_free trail (drop place list) ≡ first_free trail (drop (place + 1) list)
-free-later trail list place v b l q k =
-    let valued : has_value trail v ≡ true = sym (value-shown trail v) ∙ ap is_some k in
-    rw (drop_more list place 0 l, ← q, valued) refl
-
 pub free-ends : (trail : List TrailEntry) (list : List ℕ) (place : ℕ) → length list ≤ place → first_free trail (drop place list) ≡ None
 free-ends trail list place l = rw (drop_all place list l) refl
 

@@ -39,40 +39,6 @@ bare-losses (Start k index worker ∷ es) = bare-losses es
 bare-losses (Finish k index worker outcome ∷ es) = ap (λ (b : Bool). losses.is_loss (Finish k index worker outcome) || b) (bare-losses es)
 bare-losses (Exchange k ∷ es) = bare-losses es
 
--- one more event of a list: a tenant's post, or none of it
-by-mine : (t : List ℕ) (es : List written.Event) (i : ℕ) (e : written.Event) → i < length es → e ≡ get_or es i e → is_by t e ≡ true → filter (is_by t) (take (i + 1) es) ≡ filter (is_by t) (take i es) ++ e ∷ []
-by-mine t es i e low is mine =
-    ap (filter (is_by t)) (take-one es i e low is)
-    ∙ (filter-append (is_by t) (take i es) (e ∷ []) ∙ ap (λ (b : Bool). filter (is_by t) (take i es) ++ cond b (e ∷ []) []) mine)
-
-pub by-other : (t : List ℕ) (es : List written.Event) (i : ℕ) (e : written.Event) → i < length es → e ≡ get_or es i e → is_by t e ≡ false → filter (is_by t) (take (i + 1) es) ≡ filter (is_by t) (take i es)
-by-other t es i e low is other =
-    ap (filter (is_by t)) (take-one es i e low is)
-    ∙ (filter-append (is_by t) (take i es) (e ∷ [])
-    ∙ (ap (λ (b : Bool). filter (is_by t) (take i es) ++ cond b (e ∷ []) []) other ∙ append-nil (filter (is_by t) (take i es))))
-
--- passing over an event that is no post of the tenant's, or over the next post of the tenant's
-pub stay-at : (t : List ℕ) (b : List written.Event) (at : ℕ) (e : written.Event) → is_by t e ≡ false → filter (is_by t) (take at b) ≡ filter (is_by t) (take at b) ++ filter (is_by t) (e ∷ [])
-stay-at t b at e other = sym (ap (λ (x : Bool). filter (is_by t) (take at b) ++ cond x (e ∷ []) []) other ∙ append-nil (filter (is_by t) (take at b)))
-
-pub step-to : (t : List ℕ) (b : List written.Event) (at next : ℕ) (x y : written.Event) → filter (is_by t) (take next b) ≡ filter (is_by t) (take at b) → next < length b → y ≡ get_or b next y → is_by t x ≡ true → x ≡ y → filter (is_by t) (take (next + 1) b) ≡ filter (is_by t) (take at b) ++ filter (is_by t) (x ∷ [])
-step-to t b at next x y none below here mine same =
-    by-mine t b next y below here (ap (is_by t) (sym same) ∙ mine)
-    ∙ (ap (λ (es : List written.Event). es ++ y ∷ []) none
-    ∙ (ap (λ (e : written.Event). filter (is_by t) (take at b) ++ e ∷ []) (sym same)
-    ∙ sym (ap (λ (z : Bool). filter (is_by t) (take at b) ++ cond z (x ∷ []) []) mine)))
-
--- two lists that agree so far, one event further
-pub same-more : (t : List ℕ) (a b : List written.Event) (i at next : ℕ) (x : written.Event) → filter (is_by t) (take i a) ≡ filter (is_by t) (take at b) → i < length a → x ≡ get_or a i x → filter (is_by t) (take next b) ≡ filter (is_by t) (take at b) ++ filter (is_by t) (x ∷ []) → filter (is_by t) (take (i + 1) a) ≡ filter (is_by t) (take next b)
-same-more t a b i at next x agree low is step =
-    ap (filter (is_by t)) (take-one a i x low is)
-    ∙ (filter-append (is_by t) (take i a) (x ∷ [])
-    ∙ (ap (λ (es : List written.Event). es ++ filter (is_by t) (x ∷ [])) agree ∙ sym step))
-
-pub same-all : (t : List ℕ) (a b : List written.Event) (i at next : ℕ) → filter (is_by t) (take i a) ≡ filter (is_by t) (take at b) → filter (is_by t) (take next b) ≡ filter (is_by t) (take at b) → length a ≤ i → next ≡ length b → filter (is_by t) a ≡ filter (is_by t) b
-same-all t a b i at next agree none all end =
-    ap (filter (is_by t)) (sym (take_all i a all)) ∙ (agree ∙ (sym none ∙ ap (filter (is_by t)) (take_all next b (omega (arith, end)))))
-
 -- lists that agree on one more tenant
 agree-behind : (names : List (List ℕ)) (name : List ℕ) (a b : List written.Event) → AgreeOn names a b → filter (is_by name) a ≡ filter (is_by name) b → AgreeOn (names ++ name ∷ []) a b
 agree-behind [] name a b agree here = (here, tt)

@@ -55,30 +55,3 @@ stopped-after stops w start l old s t is first go told stop = (
 given : (stops : Stops) (w : ℕ) (l : Handed) (d : Finished) (answer : Return) → Passes stops w l → IsWorked l d → IsTurn stops w (Picked w (Ok (Leased l)) ∷ Gave d answer ∷ []) (turned_by answer)
 given stops w l d calls.Back pass done = (l, d, pass, done, refl)
 given stops w l d (calls.Strange kept) pass done = (l, d, kept, pass, done, refl)
-
-pub worked-off : (stops : Stops) (w start : ℕ) (l : job.Leased) (d : Finished) (old now : List DeskCall) (s t : Step) (r : Turned) → start ≡ l.journal.start → s ≡ (if stops Before start w then Stop else Go) → s ≡ Go → t ≡ (if stops After start w then Stop else Go) → t ≡ Go → d.worker ≡ l.worker → Becomes d.outcome l d → Tells d.outcome d → ((answer : Return) × (now ≡ old ++ Gave d answer ∷ []) × (r ≡ turned_by answer)) → (mine : List DeskCall) × (now ≡ old ++ mine) × IsTurn stops w (Picked w (Ok (Leased (handed_of l))) ∷ mine) r
-worked-off stops w start l d old now s t r is first go second pass who becomes tells (answer, e, came) = (
-  Gave d answer ∷ [],
-  e,
-  subst (λ (x : Turned). IsTurn stops w (Picked w (Ok (Leased (handed_of l))) ∷ Gave d answer ∷ []) x) (sym came)
-      (given stops w (handed_of l) d answer (subst (λ (n : ℕ). stops Before n w ≡ false) is (go-is (stops Before start w) s first go), subst (λ (n : ℕ). stops After n w ≡ false) is (go-is (stops After start w) t second pass)) (worked l d who becomes tells)),
-)
-
--- a turn that leased
-pub turn-leased : (stops : Stops) (w : ℕ) (l : job.Leased) (old middle now : List DeskCall) (answer : Result Offer PickFault) (r : Turned) → middle ≡ old ++ Picked w answer ∷ [] → answer ≡ Ok (Leased (handed_of l)) → ((mine : List DeskCall) × (now ≡ middle ++ mine) × IsTurn stops w (Picked w (Ok (Leased (handed_of l))) ∷ mine) r) → (mine : List DeskCall) × (now ≡ old ++ mine) × IsTurn stops w mine r
-turn-leased stops w l old middle now answer r picked is (mine, e, turn) = (
-  Picked w (Ok (Leased (handed_of l))) ∷ mine,
-  e ∙ (ap (λ (cs : List DeskCall). cs ++ mine) (picked ∙ ap (λ (a : Result Offer PickFault). old ++ Picked w a ∷ []) is) ∙ append_assoc old (Picked w (Ok (Leased (handed_of l))) ∷ []) mine),
-  turn,
-)
-
--- a turn that ended by a stop
-halts-somewhere : (stops : Stops) (w : ℕ) (l : Handed) → Halts stops w l → StopsSomewhere stops
-halts-somewhere stops w l (inl is) = (Before, l.journal.start, w, is)
-halts-somewhere stops w l (inr is) = (After, l.journal.start, w, is.1)
-
-pub turn-stops : (stops : Stops) (w : ℕ) (mine : List DeskCall) (r : Turned) → IsTurn stops w mine r → r ≡ turned.Ended ends.Stopped → StopsSomewhere stops
-turn-stops stops w mine r turn is = by (subst (IsTurn stops w mine) is turn)
-  where
-    by : IsTurn stops w mine (turned.Ended ends.Stopped) → StopsSomewhere stops
-    by (l, halts, e) = halts-somewhere stops w l halts

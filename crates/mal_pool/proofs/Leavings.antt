@@ -26,21 +26,6 @@ drop-one xs i x low is = drop_more xs i x low ∙ ap (λ y. y ∷ drop (i + 1) x
 pub posted_on-parts : (h : List Event) (a b : List Post) → posted_on h (a ++ b) ≡ posted_on (posted_on h a) b
 posted_on-parts h a b = fold-append (λ (now : List Event) (p : Post). now ++ event_of now p ∷ []) h a b
 
--- a post is one of those that were left to do
-pub revision-next : (j : ScriptedJob) (rs : List Posted) (i : ℕ) (r : Posted) (h now goal : List Event) → posted_on h (revise_posts j (drop i rs)) ≡ goal → now ≡ h ++ event_of h (posts.Revise j.tenant j.name r) ∷ [] → i < length rs → r ≡ get_or rs i r → posted_on now (revise_posts j (drop (i + 1) rs)) ≡ goal
-revision-next j rs i r h now goal e step low is =
-    ap (λ (x : List Event). posted_on x (revise_posts j (drop (i + 1) rs))) step
-    ∙ (ap (λ (xs : List Posted). posted_on h (revise_posts j xs)) (sym (drop-one rs i r low is)) ∙ e)
-
-pub revisions-done : (j : ScriptedJob) (rs : List Posted) (i : ℕ) (h goal : List Event) → posted_on h (revise_posts j (drop i rs)) ≡ goal → length rs ≤ i → h ≡ goal
-revisions-done j rs i h goal e all = ap (λ (xs : List Posted). posted_on h (revise_posts j xs)) (sym (drop_all i rs all)) ∙ e
-
--- the closing of a job behind its revisions
-pub rest-posted : (j : ScriptedJob) (n : ℕ) (h middle now : List Event) → middle ≡ posted_on h (revise_posts j (drop n j.revisions)) → now ≡ middle ++ event_of middle (posts.Close j.tenant j.name) ∷ [] → now ≡ posted_on h (posts_behind n j)
-rest-posted j n h middle now m step =
-    step ∙ (ap (λ (x : List Event). posted_on x (posts.Close j.tenant j.name ∷ [])) m
-    ∙ sym (posted_on-parts h (revise_posts j (drop n j.revisions)) (posts.Close j.tenant j.name ∷ [])))
-
 -- a job that is the tenant's, or another's
 pub posted-mine : (tenant : List ℕ) (j : ScriptedJob) (h now : List Event) → now ≡ posted_on h (posts_behind 0 j) → is_text tenant j.tenant ≡ true → now ≡ posted_on h (flat_map job_posts (of_tenant tenant (j ∷ [])))
 posted-mine tenant j h now step mine =
@@ -60,9 +45,6 @@ later-more tenant js i j h now goal e step low is =
     ∙ (ap (λ (xs : List ScriptedJob). posted_on h (flat_map job_posts xs)) (sym (filter-append (λ (x : ScriptedJob). is_text tenant x.tenant) (j ∷ []) (drop (i + 1) js)))
     ∙ (ap (λ (xs : List ScriptedJob). posted_on h (flat_map job_posts (of_tenant tenant xs))) (sym (drop-one js i j low is)) ∙ e))))
 
-pub later-done : (tenant : List ℕ) (js : List ScriptedJob) (i : ℕ) (h goal : List Event) → posted_on h (flat_map job_posts (of_tenant tenant (drop i js))) ≡ goal → length js ≤ i → h ≡ goal
-later-done tenant js i h goal e all = ap (λ (xs : List ScriptedJob). posted_on h (flat_map job_posts (of_tenant tenant xs))) (sym (drop_all i js all)) ∙ e
-
 -- what one poster left: the rest of a job, and its tenant's later jobs
 pub left-posted : (js : List ScriptedJob) (l : Left) (j : ScriptedJob) (h middle now : List Event) → slice_get js l.job ≡ Some j → middle ≡ posted_on h (posts_behind l.posted j) → now ≡ posted_on middle (flat_map job_posts (of_tenant j.tenant (drop (l.job + 1) js))) → now ≡ posted_on h (left_by js l)
 left-posted js l j h middle now at m step =
@@ -70,19 +52,6 @@ left-posted js l j h middle now at m step =
     step ∙ (ap (λ (x : List Event). posted_on x later) m
     ∙ (sym (posted_on-parts h (posts_behind l.posted j) later)
     ∙ ap (λ (o : Option ScriptedJob). posted_on h (option_map_or (λ i. posts_behind l.posted i ++ flat_map job_posts (of_tenant i.tenant (drop (l.job + 1) js))) o [])) (sym at)))
-
-pub left-none : (js : List ScriptedJob) (l : Left) (h : List Event) → slice_get js l.job ≡ None → h ≡ posted_on h (left_by js l)
-left-none js l h at = ap (λ (o : Option ScriptedJob). posted_on h (option_map_or (λ i. posts_behind l.posted i ++ flat_map job_posts (of_tenant i.tenant (drop (l.job + 1) js))) o [])) (sym at)
-
-pub left-next : (js : List ScriptedJob) (ls : List Left) (i : ℕ) (l : Left) (h now goal : List Event) → posted_on h (flat_map (left_by js) (drop i ls)) ≡ goal → now ≡ posted_on h (left_by js l) → i < length ls → l ≡ get_or ls i l → posted_on now (flat_map (left_by js) (drop (i + 1) ls)) ≡ goal
-left-next js ls i l h now goal e step low is =
-    let rest : List Post = flat_map (left_by js) (drop (i + 1) ls) in
-    ap (λ (x : List Event). posted_on x rest) step
-    ∙ (sym (posted_on-parts h (left_by js l) rest)
-    ∙ (ap (λ (xs : List Left). posted_on h (flat_map (left_by js) xs)) (sym (drop-one ls i l low is)) ∙ e))
-
-pub left-done : (js : List ScriptedJob) (ls : List Left) (i : ℕ) (h goal : List Event) → posted_on h (flat_map (left_by js) (drop i ls)) ≡ goal → length ls ≤ i → h ≡ goal
-left-done js ls i h goal e all = ap (λ (xs : List Left). posted_on h (flat_map (left_by js) xs)) (sym (drop_all i ls all)) ∙ e
 
 -- posts lose no lease
 event-loses : (h : List Event) (p : Post) → is_loss (event_of h p) ≡ false

@@ -106,12 +106,6 @@ put-more k s rs i n old text after e step number low =
 pub put-all : (k : Key) (s : SoloMachine) (rs : List Posted) (i : ℕ) (old text : List ℕ) → text ≡ old ++ replies_from k 1 s (take i rs) → length rs ≤ i → text ≡ old ++ replies_from k 1 s rs
 put-all k s rs i old text e all = e ∙ ap (λ (x : List Posted). old ++ replies_from k 1 s x) (take_all i rs all)
 
--- the replies to one job more
-pub replied-more : (h : List Event) (js : List ScriptedJob) (i : ℕ) (j : ScriptedJob) (text after : List ℕ) → text ≡ flat_map (job_replies h) (take i js) → after ≡ text ++ job_replies h j → i < length js → j ≡ get_or js i j → after ≡ flat_map (job_replies h) (take (i + 1) js)
-replied-more h js i j text after e step low is =
-    step ∙ (ap (λ (x : List ℕ). x ++ job_replies h j) e
-    ∙ (flat_map_more (job_replies h) [] (take i js) j ∙ ap (flat_map (job_replies h)) (sym (take-one js i j low is))))
-
 pub replied-all : (s : Scripted) (h : List Event) (js : List ScriptedJob) (i : ℕ) (text : List ℕ) → js ≡ s.jobs → text ≡ flat_map (job_replies h) (take i js) → length js ≤ i → text ≡ replies s h
 unfolding replies
 replied-all s h js i text is e all = e ∙ ap (flat_map (job_replies h)) (take_all i js all ∙ is)

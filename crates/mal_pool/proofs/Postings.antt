@@ -53,16 +53,6 @@ refused-of j n i old before after last b a is same low = (
   (omega (arith, same, low), last, is, ap (λ (m : ℕ). taken (revise_posts j (take m j.revisions)) ++ last) (sym same)),
 )
 
--- all of a job is posted
-pub posted-of : (j : ScriptedJob) (i : ℕ) (old before after : List DeskCall) → before ≡ old ++ taken (revise_posts j (take i j.revisions)) → after ≡ before ++ taken (posts.Close j.tenant j.name ∷ []) → length j.revisions ≤ i → (mine : List DeskCall) × (after ≡ old ++ mine) × HasPostedOf j None mine
-posted-of j i old before after b a all = (
-  taken (job_posts j),
-  further old before after (taken (revise_posts j (take i j.revisions))) (taken (posts.Close j.tenant j.name ∷ [])) b a
-      ∙ ap (λ (cs : List DeskCall). old ++ cs) (sym (taken-parts (revise_posts j (take i j.revisions)) (posts.Close j.tenant j.name ∷ []))
-      ∙ ap (λ (rs : List Posted). taken (revise_posts j rs ++ posts.Close j.tenant j.name ∷ [])) (take_all i j.revisions all)),
-  refl,
-)
-
 -- a job that is the tenant's, or another's
 pub posted-other : (tenant : List ℕ) (j : ScriptedJob) (calls : List DeskCall) → is_text tenant j.tenant ≡ false → (mine : List DeskCall) × (calls ≡ calls ++ mine) × HasPostedFor tenant j None mine
 posted-other tenant j calls other = ([], sym (append-nil calls), ap (λ (b : Bool). taken (flat_map job_posts (cond b (j ∷ []) []))) (sym other))

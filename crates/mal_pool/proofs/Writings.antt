@@ -17,15 +17,6 @@ bare-behind old before after x y b a =
     a ∙ (ap (λ (es : List written.Event). es ++ map bare y) b
     ∙ (append_assoc old (map bare x) (map bare y) ∙ ap (λ (es : List written.Event). old ++ es) (sym (map-append bare x y))))
 
--- one more opening
-pub openings-more : (js : List ScriptedJob) (i : ℕ) (j : ScriptedJob) (old before after : List written.Event) → before ≡ old ++ map bare (open_events (take i js)) → after ≡ before ++ of.Open j.tenant j.name j.ask ∷ [] → i < length js → j ≡ get_or js i j → after ≡ old ++ map bare (open_events (take (i + 1) js))
-openings-more js i j old before after b a low is =
-    bare-behind old before after (open_events (take i js)) (Open (key_of_job j) j.ask ∷ []) b a
-    ∙ ap (λ (es : List Event). old ++ map bare es) (opened-more (open_events (take i js)) (open_events (take i js) ++ Open (key_of_job j) j.ask ∷ []) js i j refl refl low is)
-
-pub openings-all : (js : List ScriptedJob) (i : ℕ) (old now : List written.Event) → now ≡ old ++ map bare (open_events (take i js)) → length js ≤ i → now ≡ old ++ map bare (open_events js)
-openings-all js i old now e all = e ∙ ap (λ (xs : List ScriptedJob). old ++ map bare (open_events xs)) (take_all i js all)
-
 -- one more revision
 pub revisions-more : (j : ScriptedJob) (i n : ℕ) (old before after : List written.Event) → before ≡ old ++ map bare (revise_events (key_of_job j) 1 (take i j.revisions)) → after ≡ before ++ of.Revise j.tenant j.name n ∷ [] → n ≡ i + 1 → i < length j.revisions → after ≡ old ++ map bare (revise_events (key_of_job j) 1 (take (i + 1) j.revisions))
 revisions-more j i n old before after b a number low =
@@ -38,13 +29,6 @@ revisions-more j i n old before after b a number low =
   where
     counted : (rs : List Posted) (at m : ℕ) → m ≡ at + 1 → at < length rs → 1 + length (take at rs) ≡ m
     counted rs at m e l = let is : length (take at rs) ≡ at = length-take-le at rs (omega (arith, l)) in omega (arith, is, e)
-
-pub revisions-all : (j : ScriptedJob) (i : ℕ) (old now : List written.Event) → now ≡ old ++ map bare (revise_events (key_of_job j) 1 (take i j.revisions)) → length j.revisions ≤ i → now ≡ old ++ map bare (revise_events (key_of_job j) 1 j.revisions)
-revisions-all j i old now e all = e ∙ ap (λ (rs : List Posted). old ++ map bare (revise_events (key_of_job j) 1 rs)) (take_all i j.revisions all)
-
--- the closing behind a job's revisions
-pub job-written : (j : ScriptedJob) (old before after : List written.Event) → before ≡ old ++ map bare (revise_events (key_of_job j) 1 j.revisions) → after ≡ before ++ of.Close j.tenant j.name ∷ [] → after ≡ old ++ map bare (job_events j)
-job-written j old before after b a = bare-behind old before after (revise_events (key_of_job j) 1 j.revisions) (Close (key_of_job j) ∷ []) b a
 
 -- one more job behind the openings
 pub jobs-more : (os : List Event) (js : List ScriptedJob) (i : ℕ) (j : ScriptedJob) (before after : List written.Event) → before ≡ map bare (os ++ flat_map job_events (take i js)) → after ≡ before ++ map bare (job_events j) → i < length js → j ≡ get_or js i j → after ≡ map bare (os ++ flat_map job_events (take (i + 1) js))

@@ -171,6 +171,3 @@ pub marks-start : (goal : ℕ) (lines : List Line) (marks now : List Bool) → m
     → ((test : ℕ → Bool) → AreMarks test (ids_of lines) marks → AreMarks (λ i. test i || (goal == i)) (ids_of lines) now)
     → AreMarks (is_needed goal (reached_in goal (drop (length lines) lines))) (ids_of lines) now
 marks-start goal lines marks now e step = marks-goal goal lines (drop (length lines) lines) now (drop_of_length-le lines (omega arith)) (step (λ i. false) (e ∙ marks-empty lines))
-
-pub marks-end : (goal : ℕ) (lines : List Line) (marks : List Bool) → AreMarks (is_needed goal (reached_in goal (drop 0 lines))) (ids_of lines) marks → AreMarks (is_needed goal (reached_in goal lines)) (ids_of lines) marks
-marks-end goal lines marks e = e

@@ -23,10 +23,6 @@ use Rattle.spec_script.specs.Formed.{IsScript}
 use Rattle.spec_script.specs.Limits.{served}
 use Rattle.spec_script.specs.Script.{Scripted}
 
--- nothing was entered yet
-pub replayed-none : (s : Scripted) (h : Written) (hall : HallView) (w : ℕ) → w ≡ h.workers → hall.workers ≡ w → hall.events ≡ [] → IsInside hall → HasReplayed s h 0 hall
-replayed-none s h hall w same workers events inside = record { workers = workers ∙ same; events = sym (ap (map Some) events); inside = inside }
-
 -- one event more was entered
 pub replayed-more : (s : Scripted) (h : Written) (n : ℕ) (old now : HallView) (event : written.Event) → HasReplayed s h n old → n < length h.events → event ≡ get_or h.events n event → now.workers ≡ old.workers → HasApplied old.workers old.events (posted_in s event) event now.events → IsInside now → HasReplayed s h (n + 1) now
 replayed-more s h n old now event is low read workers applied inside = record { workers = workers ∙ is.workers; events = grown; inside = inside }
@@ -58,12 +54,6 @@ all-legal s h hall is legal = record {
   written = subst (λ (es : List written.Event). AreWritten s es hall.events) (take_all (length h.events) h.events (omega arith)) is.events;
   legal = subst (λ (w : ℕ). Legal w hall.events) is.workers legal;
 }
-
-pub lacks-answers : (s : Scripted) (h : Written) (hall : HallView) → HasReplayed s h (length h.events) hall → Legal hall.workers hall.events → (lives (states hall.events) ≡ [] → ⊥) → IsLacking h.workers s h.events
-lacks-answers s h hall is legal other = record { events = hall.events; legal = all-legal s h hall is legal; lacking = λ complete. other complete.answered }
-
-pub lacks-leases : (s : Scripted) (h : Written) (hall : HallView) → HasReplayed s h (length h.events) hall → Legal hall.workers hall.events → (leases hall.events ≡ [] → ⊥) → IsLacking h.workers s h.events
-lacks-leases s h hall is legal other = record { events = hall.events; legal = all-legal s h hall is legal; lacking = λ complete. other complete.home }
 
 pub lacks-posts : (s : Scripted) (h : Written) (hall : HallView) → HasReplayed s h (length h.events) hall → Legal hall.workers hall.events → (HavePosts s h.events → ⊥) → IsLacking h.workers s h.events
 lacks-posts s h hall is legal other =

@@ -21,50 +21,15 @@ use Rattle.spec_script.specs.Formed.{IsScript, MayAllFollow}
 use Rattle.spec_script.specs.Limits.{served}
 use Rattle.spec_script.specs.Script.{ScriptedJob, Scripted}
 
--- what is left of posts at a place
-drop-some : (posts : List Post) (n : ℕ) (p : Post) → slice_get posts n ≡ Some p → drop n posts ≡ p ∷ drop (n + 1) posts
-drop-some posts n p e = drop_more posts n p (slice_get_within posts n p e) ∙ ap (λ (q : Post). q ∷ drop (n + 1) posts) (get_or_from_slice_get posts n p p e)
-
 drop-none : (posts : List Post) (n : ℕ) → slice_get posts n ≡ None → drop n posts ≡ []
 drop-none [] zero e = refl
 drop-none [] (suc n) e = refl
 drop-none (x ∷ xs) zero e = absurd (cc)
 drop-none (x ∷ xs) (suc n) e = drop-none xs n e
 
--- an event that the tenant did not post
-pub goes-over : (tenant : List ℕ) (event : written.Event) (posts : List Post) (n : ℕ) → is_post_line tenant event ≡ false → GoesOn tenant event posts n n
-goes-over tenant event posts n other lines =
-    let same : post_lines tenant (event ∷ lines) ≡ post_lines tenant lines = ap (λ (b : Bool). cond b (event ∷ post_lines tenant lines) (post_lines tenant lines)) other in
-    (λ e. sym same ∙ e, λ e. same ∙ e)
-
 -- one that it did
 mine : (tenant : List ℕ) (event : written.Event) (lines : List written.Event) → is_post_line tenant event ≡ true → post_lines tenant (event ∷ lines) ≡ event ∷ post_lines tenant lines
 mine tenant event lines posted = ap (λ (b : Bool). cond b (event ∷ post_lines tenant lines) (post_lines tenant lines)) posted
-
-pub leaves-end : (tenant : List ℕ) (event : written.Event) (posts : List Post) (n : ℕ) → is_post_line tenant event ≡ true → slice_get posts n ≡ None → Leaves tenant event posts n
-leaves-end tenant event posts n posted none lines e =
-    let both : event ∷ post_lines tenant lines ≡ [] = sym (mine tenant event lines posted) ∙ (e ∙ ap lines_of (drop-none posts n none)) in
-    absurd (cc)
-
-pub leaves-other : (tenant : List ℕ) (event : written.Event) (posts : List Post) (n : ℕ) (p : Post) → is_post_line tenant event ≡ true → slice_get posts n ≡ Some p → (event ≡ line_of p → ⊥) → Leaves tenant event posts n
-leaves-other tenant event posts n p posted found other lines e =
-    let both : event ∷ post_lines tenant lines ≡ line_of p ∷ lines_of (drop (n + 1) posts) = sym (mine tenant event lines posted) ∙ (e ∙ ap lines_of (drop-some posts n p found)) in
-    let same : event ≡ line_of p = cc in
-    other same
-
-pub goes-on : (tenant : List ℕ) (event : written.Event) (posts : List Post) (n : ℕ) (p : Post) → is_post_line tenant event ≡ true → slice_get posts n ≡ Some p → event ≡ line_of p → GoesOn tenant event posts n (n + 1)
-goes-on tenant event posts n p posted found same lines = (λ e. forth e, λ e. back e)
-  where
-    ahead : lines_of (drop n posts) ≡ line_of p ∷ lines_of (drop (n + 1) posts)
-    ahead = ap lines_of (drop-some posts n p found)
-
-    forth : post_lines tenant (event ∷ lines) ≡ lines_of (drop n posts) → post_lines tenant lines ≡ lines_of (drop (n + 1) posts)
-    forth e =
-        let both : event ∷ post_lines tenant lines ≡ line_of p ∷ lines_of (drop (n + 1) posts) = sym (mine tenant event lines posted) ∙ (e ∙ ahead) in
-        cc
-
-    back : post_lines tenant lines ≡ lines_of (drop (n + 1) posts) → post_lines tenant (event ∷ lines) ≡ lines_of (drop n posts)
-    back e = mine tenant event lines posted ∙ (ap (λ (x : written.Event). x ∷ post_lines tenant lines) same ∙ (ap (λ (xs : List written.Event). line_of p ∷ xs) e ∙ sym ahead))
 
 -- all events up to a place
 abbrev pub IsLeft : List ℕ → List written.Event → List Post → ℕ → ℕ → Type 0
@@ -102,13 +67,6 @@ left-end tenant events posts i n left all end = (λ t. left.1 (ap (post_lines te
 pub left-short : (tenant : List ℕ) (events : List written.Event) (posts : List Post) (i n : ℕ) → IsLeft tenant events posts i n → length events ≤ i → n < length posts → IsTrue false ↔ (post_lines tenant events ≡ lines_of posts)
 left-short tenant events posts i n left all low = (λ t. absurd (cc), λ e. absurd (drop-left posts n low (sym (ap (post_lines tenant) (drop-all events i all)) ∙ left.0 e)))
 
--- the lines of what a script posts, job by job
-opening-append : (tenant : List ℕ) (xs ys : List ScriptedJob) → opening_lines tenant (xs ++ ys) ≡ opening_lines tenant xs ++ opening_lines tenant ys
-opening-append tenant xs ys =
-    let test : ScriptedJob → Bool = λ j. is_text tenant j.tenant in
-    ap (λ (js : List ScriptedJob). map bare (open_events js)) (filter-append test xs ys)
-    ∙ (ap (map bare) (map-append _ (filter test xs) (filter test ys)) ∙ map-append bare (open_events (filter test xs)) (open_events (filter test ys)))
-
 job-append : (tenant : List ℕ) (xs ys : List ScriptedJob) → job_lines tenant (xs ++ ys) ≡ job_lines tenant xs ++ job_lines tenant ys
 job-append tenant xs ys =
     let test : ScriptedJob → Bool = λ j. is_text tenant j.tenant in
@@ -124,9 +82,6 @@ more f append js i j old text after is step low read =
     step ∙ (ap (λ (x : List written.Event). x ++ f (j ∷ [])) is
     ∙ (append_assoc old (f (take i js)) (f (j ∷ []))
     ∙ ap (λ (x : List written.Event). old ++ x) (sym (append (take i js) (j ∷ [])) ∙ ap f (sym (take-one js i j low read)))))
-
-pub opening-more : (tenant : List ℕ) (js : List ScriptedJob) (i : ℕ) (j : ScriptedJob) (old text after : List written.Event) → text ≡ old ++ opening_lines tenant (take i js) → after ≡ text ++ opening_lines tenant (j ∷ []) → i < length js → j ≡ get_or js i j → after ≡ old ++ opening_lines tenant (take (i + 1) js)
-opening-more tenant js i j old text after is step low read = more (opening_lines tenant) (opening-append tenant) js i j old text after is step low read
 
 pub job-more : (tenant : List ℕ) (js : List ScriptedJob) (i : ℕ) (j : ScriptedJob) (old text after : List written.Event) → text ≡ old ++ job_lines tenant (take i js) → after ≡ text ++ job_lines tenant (j ∷ []) → i < length js → j ≡ get_or js i j → after ≡ old ++ job_lines tenant (take (i + 1) js)
 job-more tenant js i j old text after is step low read = more (job_lines tenant) (job-append tenant) js i j old text after is step low read
@@ -157,17 +112,6 @@ opening-one tenant j old after p mine_is step line_is =
     ∙ (map-append line_of old (p ∷ [])
     ∙ (ap (λ (x : written.Event). lines_of old ++ x ∷ []) line_is
     ∙ ap (λ (b : Bool). lines_of old ++ map bare (open_events (cond b (j ∷ []) []))) (sym mine_is)))
-
-pub opening-none : (tenant : List ℕ) (j : ScriptedJob) (old : List Post) → is_text tenant j.tenant ≡ false → lines_of old ≡ lines_of old ++ opening_lines tenant (j ∷ [])
-opening-none tenant j old other = sym (append-nil (lines_of old)) ∙ ap (λ (b : Bool). lines_of old ++ map bare (open_events (cond b (j ∷ []) []))) (sym other)
-
-pub job-one : (tenant : List ℕ) (j : ScriptedJob) (old after : List Post) → is_text tenant j.tenant ≡ true → lines_of after ≡ lines_of old ++ map bare (job_events j) → lines_of after ≡ lines_of old ++ job_lines tenant (j ∷ [])
-job-one tenant j old after mine_is step =
-    step ∙ (ap (λ (es : List Event). lines_of old ++ map bare es) (sym (append-nil (job_events j)))
-    ∙ ap (λ (b : Bool). lines_of old ++ map bare (flat_map job_events (cond b (j ∷ []) []))) (sym mine_is))
-
-pub job-none : (tenant : List ℕ) (j : ScriptedJob) (old : List Post) → is_text tenant j.tenant ≡ false → lines_of old ≡ lines_of old ++ job_lines tenant (j ∷ [])
-job-none tenant j old other = sym (append-nil (lines_of old)) ∙ ap (λ (b : Bool). lines_of old ++ map bare (flat_map job_events (cond b (j ∷ []) []))) (sym other)
 
 pub lines-more : (old after : List Post) (p : Post) → after ≡ old ++ p ∷ [] → lines_of after ≡ lines_of old ++ line_of p ∷ []
 lines-more old after p step = ap lines_of step ∙ map-append line_of old (p ∷ [])

@@ -24,9 +24,6 @@ tenants-more js i j names is low read =
     ap (λ (ns : List (List ℕ)). with_name ns j.tenant) is
     ∙ (sym (fold_push (λ (ns : List (List ℕ)) (k : ScriptedJob). with_name ns k.tenant) [] (take i js) j) ∙ ap tenants_of (sym (take-one js i j low read)))
 
-pub tenants-all : (js : List ScriptedJob) (i : ℕ) (names : List (List ℕ)) → names ≡ tenants_of (take i js) → length js ≤ i → names ≡ tenants_of js
-tenants-all js i names is all = is ∙ ap tenants_of (take_all i js all)
-
 -- a name that is there stays
 with-stays : (n : List ℕ) (names : List (List ℕ)) (name : List ℕ) → list_any (bytes_eq n) names ≡ true → list_any (bytes_eq n) (with_name names name) ≡ true
 with-stays n names name e = by_test (list_any (bytes_eq name) names)

@@ -47,10 +47,3 @@ left-upper k rest size place h e l =
       small = let s : rest < 2 ^ suc k = h.small in let n : (rest + 1 ≡ 2 * 2 ^ k → ⊥) = rw is at other in omega (arith, is, twice);
       half = λ p. halved k size is p;
     }
-
-pub left-found : (k rest size place : ℕ) → IsLeft (suc k) rest size place → rest ≡ size - 1 + size → size ≡ luby place
-left-found k rest size place h e =
-    let is : size ≡ 2 ^ k = size-is k rest size place h in
-    let some : 1 ≤ size = size-some k rest size place h in
-    let up : rest + 1 ≡ 2 * size = omega arith in
-    is ∙ (sym (found k rest (rw is at up)) ∙ h.value)

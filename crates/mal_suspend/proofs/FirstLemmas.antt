@@ -33,34 +33,3 @@ first-may i r l p b =
     let restart_number : n.restart_number ≡ 1 = refl in
     let serial : n.serial ≡ 0 = refl in
     (record { follows = (p, new-numbers i r b); low = tt }, (record { follows = (sound-first i r l p b, refl); low = record { conflicts_since_restart = omega (arith, conflicts_since_restart); restart_number = omega (arith, restart_number); serial = omega (arith, serial) } }, tt))
-
--- and then one more, where the slice gave no verdict
-pub again-may : (i : ℕ) (r : Posted) → i ≤ 63 → is_posted r ≡ true → 1 + length r.clauses ≤ 2 ^ 32 → (replay i (Load r 1 ∷ Run ∷ [])).node.verdict ≡ None → MayAllReplay (replay i (Load r 1 ∷ Run ∷ [])) (Run ∷ [])
-again-may i r l p b v =
-    let n : Node = loaded r 1 (fresh i) in
-    let conflicts_since_restart : n.conflicts_since_restart ≡ 0 = refl in
-    let restart_number : n.restart_number ≡ 1 = refl in
-    let serial : n.serial ≡ 0 = refl in
-    let rise : CountsRise n = slice-counts n in
-    (record { follows = (slice-sound n (sound-first i r l p b), v); low = record { conflicts_since_restart = omega (arith, rise.conflicts_since_restart, conflicts_since_restart); restart_number = omega (arith, rise.restart_number, restart_number); serial = omega (arith, rise.serial, serial) } }, tt)
-
--- the journal of a start that ran
-ran-journal : (l : Leased) (d w : Finished) → d ≡ w → d.outcome ≡ Ran → Becomes w.outcome l w → d.journal ≡ and_entries l.journal l.adds
-ran-journal l d w e r b =
-    let o : w.outcome ≡ Ran = ap (λ (x : Finished). x.outcome) (sym e) ∙ r in
-    ap (λ (x : Finished). x.journal) e ∙ subst (λ (x : Outcome). Becomes x l w) o b
-
--- and its verdict
-ran-verdict : (d w : Finished) → d ≡ w → d.outcome ≡ Ran → Tells w.outcome w → d.verdict ≡ (node_of d.journal).verdict
-ran-verdict d w e r t =
-    let o : w.outcome ≡ Ran = ap (λ (x : Finished). x.outcome) (sym e) ∙ r in
-    subst (λ (x : Finished). x.verdict ≡ (node_of x.journal).verdict) (sym e) (subst (λ (x : Outcome). Tells x w) o t).verdict
-
--- after a first start without a verdict a slice may be run again
-pub first-again : (l : Leased) (d w : Finished) (r : Posted) → d ≡ w → d.outcome ≡ Ran → Becomes w.outcome l w → Tells w.outcome w → l.journal ≡ record { job = 7; index = 0; start = 3; entries = [] } → l.adds ≡ Load r 1 ∷ Run ∷ [] → is_posted r ≡ true → 1 + length r.clauses ≤ 2 ^ 32 → d.verdict ≡ None → MayAllReplay (replayed d.journal) (Run ∷ [])
-first-again l d w r e ran b t lj la p few v =
-    let first : Journaled = record { job = 7; index = 0; start = 3; entries = [] } in
-    let last : Journaled = record { job = 7; index = 0; start = 3; entries = Load r 1 ∷ Run ∷ [] } in
-    let j : d.journal ≡ last = ran-journal l d w e ran b ∙ (ap (λ (x : Journaled). and_entries x l.adds) lj ∙ ap (λ (es : List JournalEntry). and_entries first es) la) in
-    let none : (node_of last).verdict ≡ None = ap (λ (x : Journaled). (node_of x).verdict) (sym j) ∙ (sym (ran-verdict d w e ran t) ∙ v) in
-    subst (λ (x : Journaled). MayAllReplay (replayed x) (Run ∷ [])) (sym j) (again-may 0 r (omega arith) p few none)

@@ -4,14 +4,6 @@ use Rattle.std.proofs.lemmas.List.{take_rest}
 use Rattle.spec_text.specs.Inputs.{is_blank, words_of}
 use Rattle.spec_text.proofs.Read.{words_behind_blank, first_word_at}
 
--- a blank more in front
-pub next_blank : (line : List ℕ) (i : ℕ) → i < length line → is_blank (get_or line i 0) ≡ true → words_of (drop i line) ≡ words_of line → words_of (drop (i + 1) line) ≡ words_of line
-next_blank line i low blank so_far =
-    ap (λ (n : ℕ). words_of (drop n line)) (add-one i)
-    ∙ sym (words_behind_blank (get_or line i 0) (drop (suc i) line) blank)
-    ∙ sym (ap words_of (drop-cons line i 0 low))
-    ∙ so_far
-
 -- what is left from a place on
 pub words_from : (line : List ℕ) (i : ℕ) → words_of (drop i line) ≡ words_of line → words_of (take (length line - i) (drop i line)) ≡ words_of line
 words_from line i so_far = ap words_of (take_rest line i) ∙ so_far

@@ -24,9 +24,6 @@ kept_count level es n d l p =
 pub kept-take : (level : ℕ) (es : List TrailEntry) → take (length (kept level es)) es ≡ kept level es
 kept-take level es = ap (λ (n : ℕ). take n es) (length-prefix_len (λ (e : TrailEntry). nat_le e.level level) es)
 
-pub kept-length : (level : ℕ) (es : List TrailEntry) → length (kept level es) ≤ length es
-kept-length level es = omega (arith, length-prefix_len (λ (e : TrailEntry). nat_le e.level level) es, prefix_len-le-length (λ (e : TrailEntry). nat_le e.level level) es)
-
 vars_of-take : (k : ℕ) (es : List TrailEntry) → vars_of (take k es) ≡ take k (vars_of es)
 vars_of-take zero es = refl
 vars_of-take (suc k) [] = refl

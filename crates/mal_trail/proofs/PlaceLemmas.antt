@@ -165,9 +165,6 @@ stand-pop places n entries e s long is room = record {
     other : (l : ℕ) (d : TrailEntry) → (l ≡ negated e.lit → ⊥) → (false_place (set places (negated e.lit) nowhere) l ≡ nowhere) ⊎ ((false_place (set places (negated e.lit) nowhere) l < length (take n entries)) × ((get_or (take n entries) (false_place (set places (negated e.lit) nowhere) l) d).lit ≡ negated l))
     other l d q = rw (get_or-set_other places (negated e.lit) l nowhere nowhere q) (⊎_elim (λ x. inl x) (λ t. let b = before l d q t in inr (let m = length-take-le n entries (omega arith) in omega arith, rw (get_or-take n entries (false_place places l) d b) t.1)) (s.there l d))
 
-plus-var : (l : ℕ) → l % 2 ≡ 0 → 2 * (l / 2) ≡ l
-plus-var l e = omega arith
-
 -- an entry is of a variable where it is one of its two literals
 lit-cases : (v l : ℕ) → nat_eq v (var_of l) ≡ (nat_eq l (literal v true) || nat_eq l (literal v false))
 lit-cases v l = grind (arith, nat_tests)

@@ -38,9 +38,6 @@ has_value-vars (e ∷ es) v = ap (λ (b : Bool). nat_eq v (var_of e.lit) || b) (
 eqb_at : (a b : ℕ) → eqb a b ≡ true → a ≡ b
 eqb_at a b = grind (arith, nat_tests)
 
-eqb_apart : (a b : ℕ) → b < a → eqb a b ≡ false
-eqb_apart a b = grind (arith, nat_tests)
-
 pub or_cases : (a b : Bool) → (a || b) ≡ true → (a ≡ true) ⊎ (b ≡ true)
 or_cases true b h = inl refl
 or_cases false b h = inr h

@@ -43,23 +43,6 @@ follows-more clauses rows keys out lists more capacity wider entries processed l
       kept = f.kept;
     }
 
--- with no clause everything follows
-pub follows-none : (clauses rows : List NumberedClause) (keys out : List ℕ) (lists capacity : ℕ) (entries : List TrailEntry) (processed : ℕ) → clauses ≡ [] → rows ≡ [] → keys ≡ [] → out ≡ [] → Follows clauses rows keys out lists capacity entries processed
-follows-none clauses rows keys out lists capacity entries processed c r k o =
-    rw (c, r, k, o)
-    (record {
-      numbers = tt;
-      held = λ d h. h;
-      each = λ d h. absurd h;
-      single = λ i j h. absurd (omega arith);
-      form = λ d h. absurd h;
-      watching = record { paired = refl; own = λ i h. absurd (omega arith); below = λ i l h. absurd (has-none l h) };
-      apart = λ i h. absurd (omega arith);
-      idle = refl;
-      room = omega arith;
-      kept = λ n i h l. absurd (omega arith);
-    })
-
 -- a clause of at most one literal more
 pub follows-short : (clauses rows : List NumberedClause) (keys out : List ℕ) (lists capacity : ℕ) (entries : List TrailEntry) (processed : ℕ) (c : NumberedClause) → lits_under c.id clauses ≡ None → length c.lits ≤ 1 → Follows clauses rows keys out lists capacity entries processed → Follows (with_clause c clauses) rows keys out lists capacity entries processed
 follows-short clauses rows keys out lists capacity entries processed c n s f =

@@ -94,6 +94,3 @@ has-place (y ∷ ys) x h = by_side (has-place ys x) (has-cases x y ys h)
     by_side : (Has ys x → IsPlaced ys x) → (x ≡ y) ⊎ Has ys x → IsPlaced (y ∷ ys) x
     by_side rest (inl e) = record { place = 0; inside = omega arith; is = sym e }
     by_side rest (inr m) = let p = rest m in record { place = suc p.place; inside = omega (arith, p.inside); is = p.is }
-
-pub place-has : (xs : List ℕ) (i : ℕ) → i < length xs → Has xs (get_or xs i 0)
-place-has xs i l = has-at xs i (get_or xs i 0) 0 l refl

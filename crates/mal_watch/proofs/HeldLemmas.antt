@@ -103,9 +103,6 @@ nat_eq_not a b = grind (arith, nat_tests)
 nat_eq_yes : (a b : ℕ) → a ≡ b → nat_eq a b ≡ true
 nat_eq_yes a b = grind (arith, nat_tests)
 
-nat_eq_true : (a b : ℕ) → nat_eq a b ≡ true → a ≡ b
-nat_eq_true a b = grind (arith, nat_tests)
-
 -- numbers that rise from one on are at least that one
 pub rise-least : (low : ℕ) (cs : List NumberedClause) (c : NumberedClause) → NumbersRise low cs → Among c cs → low ≤ c.id
 rise-least low [] c r h = absurd h
@@ -176,10 +173,3 @@ get-at : (cs : List NumberedClause) (i d : ℕ) → i < length (map (λ (c : Num
 get-at [] i d l = absurd (omega arith)
 get-at (c ∷ cs) zero d l = (c, refl, refl)
 get-at (c ∷ cs) (suc i) d l = get-at cs i d (omega arith)
-
-pub next-is : (p : NumberedClause → Bool) (cs : List NumberedClause) (ids : List ℕ) (i id d : ℕ) → NumbersRise 0 cs → ids ≡ map (λ (c : NumberedClause). c.id) (filter p cs) → i < length ids → id ≡ get_or ids i d → IsNext p cs i id
-next-is p cs ids i id d r s l e =
-    let found = get-at (filter p cs) i d (rw s at l) in
-    let same : found.0.id ≡ id = found.2 ∙ (rw (← s) (sym e)) in
-    let among : Among found.0 cs = (among-passed p found.0 cs (among-get (filter p cs) i found.0 found.1)).0 in
-    subst (λ (n : ℕ). IsNext p cs i n) same (record { lits = found.0.lits; there = found.1; held = rise-under 0 cs found.0 r among; among = among })

@@ -7,9 +7,6 @@ use Rattle.mal_watch.specs.Nodes.{links_of, keys_of}
 pub links-length : (nodes : List Node) → length (links_of nodes) ≡ length nodes
 links-length nodes = length-map nodes (λ (n : Node). n.link)
 
-pub keys-length : (nodes : List Node) → length (keys_of nodes) ≡ length nodes
-keys-length nodes = length-map nodes (λ (n : Node). n.key)
-
 -- one node more
 pub links-push : (nodes : List Node) (n : Node) → links_of (nodes ++ n ∷ []) ≡ links_of nodes ++ n.link ∷ []
 links-push nodes n = map-append (λ (m : Node). m.link) nodes (n ∷ [])

@@ -228,10 +228,6 @@ keeps-words (w ∷ ws) b d e =
     let two = keeps-words ws step.0 d step.2 in
     record { variables = two.variables ∙ one.variables; place = two.place ∙ one.place }
 
-bind_again : (r : Result Block BlockFault) (f g : Block → Result Block BlockFault) → ((r >>= f) >>= g) ≡ (r >>= (λ x. f x >>= g))
-bind_again (Ok x) f g = refl
-bind_again (Err x) f g = refl
-
 -- words and then more words
 words-append : (xs ys : List (List ℕ)) (b : Block) → after_words (xs ++ ys) b ≡ (after_words xs b >>= after_words ys)
 words-append [] ys b = refl

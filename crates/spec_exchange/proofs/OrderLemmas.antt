@@ -19,9 +19,6 @@ cmp_same a b e = let s : sized a ≡ sized b = slice_cmp-IsAntisymmetric nat_cmp
 pub cmp_itself : (a : List ℕ) → lits_cmp a a ≡ Equal
 cmp_itself a = tied_itself cmp_total a
 
-pub cmp_flip : (a b : List ℕ) → lits_cmp a b ≡ Less → lits_cmp b a ≡ Greater
-cmp_flip a b e = cmp_total.antisymm b a ∙ ap ordering_reverse e
-
 pub cmp_back : (a b : List ℕ) → lits_cmp a b ≡ Greater → lits_cmp b a ≡ Less
 cmp_back a b e = cmp_total.antisymm b a ∙ ap ordering_reverse e
 

@@ -106,10 +106,6 @@ pub of-unions : (xs ys : List NumberedClause) → union (union xs ++ ys) ≡ uni
 of-unions xs ys = decided (union (union xs ++ ys)) (union (xs ++ ys)) (union-sorted (union xs ++ ys)) (union-sorted (xs ++ ys)) (λ a.
     union-least (union xs ++ ys) a ∙ (append-least (union xs) ys a ∙ (ap (λ (o : Option ℕ). least_of o (least_id a ys)) (union-least xs a) ∙ (sym (append-least xs ys a) ∙ sym (union-least (xs ++ ys) a)))))
 
--- a sorted list is its own union
-pub union-itself : (xs : List NumberedClause) → IsSorted xs → union xs ≡ xs
-union-itself xs s = decided (union xs) xs (union-sorted xs) s (union-least xs)
-
 -- merging
 into-least : (x : NumberedClause) (xs : List NumberedClause) (a : List ℕ) → ((ys : List NumberedClause) → least_id a (merged xs ys) ≡ least_of (least_id a xs) (least_id a ys))
     → (ys : List NumberedClause) → least_id a (merged_from x (merged xs) ys) ≡ least_of (least_of (own_id a x) (least_id a xs)) (least_id a ys)

@@ -55,29 +55,3 @@ module _ (w : ℕ) (k : Key) (P : List Own → Type 0) (begins : Begins P) (last
   legal-opened h legal opened =
       let is : IsOpened P k h = legal_from-keeps w (IsOpened P k) opened-push [] h legal (record { orderly = legal-orderly w [] tt; has = λ none. absurd (cc) }) in
       is.has opened
-
--- what stays with each own event that opens no job
-abbrev pub Stays : (List Own → Type 0) → Type 0
-Stays P = (es : List Own) (o : Own) → is_opening o ≡ false → P es → P (es ++ o ∷ [])
-
--- stays with each event
-module _ (w : ℕ) (k : Key) (P : List Own → Type 0) (stays : Stays P) where
-  adds-stay : (mine : Bool) (es : List Own) (o : Own) → is_opening o ≡ false → P es → P (adds mine es o)
-  adds-stay true es o other h = stays es o other h
-  adds-stay false es o other h = h
-
-  adds_volume-stay : (v : ℕ) (es : List Own) → P es → P (adds_volume v es)
-  adds_volume-stay v es h = by_test (v == volume_after es)
-    where
-      by_test : (b : Bool) → P (cond b es (es ++ Volume v ∷ []))
-      by_test true = h
-      by_test false = stays es (Volume v) refl h
-
-  pub stays-lasts : Lasts w k P
-  stays-lasts past (Open j ask) may opened h = subst (λ (b : Bool). P (adds b (own k past) (Opened ask))) (sym (open-other past j k opened (job_of-absent past j may.fresh))) h
-  stays-lasts past (Revise j number r) may opened h = adds-stay (is_key k j) (own k past) (Revised r) refl h
-  stays-lasts past (Close j) may opened h = adds-stay (is_key k j) (own k past) Closed refl h
-  stays-lasts past (Balance shares) may opened h = adds_volume-stay (volume_in k shares) (own k past) h
-  stays-lasts past (Start j index worker) may opened h = adds-stay (is_key k j) (own k past) (Started index) refl h
-  stays-lasts past (Finish j index worker outcome) may opened h = adds-stay (is_key k j) (own k past) (Finished index outcome) refl h
-  stays-lasts past (Exchange j) may opened h = adds-stay (is_key k j) (own k past) Exchanged refl h

@@ -81,16 +81,6 @@ left-exchange w h ss n s seated calm first at =
     let was : left_in h ≡ left_by false (jobs_in ss) = left-when w h ss false seated calm in
     subst (λ (m : ℕ). m < left_in h) (sym now) (subst (λ (m : ℕ). left_by false (jobs_in (slice_set ss n seat)) < m) (sym was) (exchange-less ss n s first at))
 
--- as much is left behind a start
-pub left-start : (w : ℕ) (h : List Event) (ss : List Seat) (n : ℕ) (s : Seat) (index worker : ℕ) → IsSeated w h ss → slice_get ss n ≡ Some s → Allowed w h (Start s.job.titled.key index worker) → left_in (h ++ Start s.job.titled.key index worker ∷ []) ≡ left_in h
-left-start w h ss n s index worker seated at may =
-    let later : List Event = h ++ Start s.job.titled.key index worker ∷ [] in
-    let seat : Seat = record s { job = and_start s.job index 0 } in
-    let seats : List Seat = slice_set ss n seat in
-    let now : left_in later ≡ left_by (is_due seats) (jobs_in seats) = seated-left w later seats (seated-start w h ss n s index worker 0 seated at may) in
-    let was : left_in h ≡ left_by (is_due ss) (jobs_in ss) = seated-left w h ss seated in
-    now ∙ (ap (λ (b : Bool). left_by b (jobs_in seats)) (due-set ss n s seat at refl) ∙ (start-same (is_due ss) ss n s seat at refl refl ∙ sym was))
-
 -- less is left behind a start with its end that leaves less to its job
 pub left-slice : (w : ℕ) (h : List Event) (ss : List Seat) (n : ℕ) (s : Seat) (index worker : ℕ) (outcome : Outcome) → IsSeated w h ss → slice_get ss n ≡ Some s → is_due ss ≡ false → Allowed w h (Start s.job.titled.key index worker) → Allowed w (h ++ Start s.job.titled.key index worker ∷ []) (Finish s.job.titled.key index worker outcome) → left_of (after_start s.job.titled.state index outcome) < left_of s.job.titled.state → left_in ((h ++ Start s.job.titled.key index worker ∷ []) ++ Finish s.job.titled.key index worker outcome ∷ []) < left_in h
 left-slice w h ss n s index worker outcome seated at calm may ends less =

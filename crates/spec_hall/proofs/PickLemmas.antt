@@ -36,23 +36,9 @@ seats-picked ss = jobs-picked 0 None ss
 pub seated-picked : (w : ℕ) (h : List Event) (ss : List Seat) → IsSeated w h ss → picked (states h) ≡ pick ss
 seated-picked w h ss seated = ap picked seated.jobs ∙ seats-picked ss
 
--- a node that is picked is one of a seat
-pick-candidate : (ss : List Seat) (c : Candidate) → pick ss ≡ Some c → IsCandidate 0 (jobs_in ss) c
-pick-candidate ss c e = fewest-All (IsCandidate 0 (jobs_in ss)) (candidates_from 0 (jobs_in ss)) None (λ b q. absurd (cc)) (candidates-may 0 (jobs_in ss)) c (seats-picked ss ∙ e)
-
 length-jobs : (ss : List Seat) → length (jobs_in ss) ≡ length ss
 length-jobs [] = refl
 length-jobs (x ∷ xs) = ap suc (length-jobs xs)
-
-pub pick-within : (ss : List Seat) (c : Candidate) → pick ss ≡ Some c → c.job < length ss
-pick-within ss c e = omega (arith, (pick-candidate ss c e).within, length-jobs ss)
-
--- and may start
-pub pick-startable : (ss : List Seat) (c : Candidate) (s : Seat) → pick ss ≡ Some c → slice_get ss c.job ≡ Some s → startable s.job.titled.state c.index ≡ true
-pick-startable ss c s e at =
-    let same : c.job ≡ c.job - 0 = omega arith in
-    let found : slice_get (jobs_in ss) c.job ≡ Some s.job.titled = slice_get-map (λ (x : Seat). x.job.titled) ss c.job ∙ ap (option_map (λ (x : Seat). x.job.titled)) at in
-    (pick-candidate ss c e).may s.job.titled (subst (λ (n : ℕ). slice_get (jobs_in ss) n ≡ Some s.job.titled) same found)
 
 -- the nodes from a place on, one by one
 pub counted-more : (first last : ℕ) → first < last → counted first (last - first) ≡ first ∷ counted (first + 1) (last - (first + 1))

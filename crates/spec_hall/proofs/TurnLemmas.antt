@@ -41,9 +41,6 @@ all-push test (x ∷ xs) e h t = let parts = and_parts (test x) (list_all test x
 pub due-none : (w : ℕ) (past : List Event) → AreDue w past []
 due-none w past = record { kinds = refl; legal = tt }
 
-pub due-push : (w : ℕ) (past es : List Event) (e : Event) → AreDue w past es → arranges e ≡ true → Allowed w (past ++ es) e → AreDue w past (es ++ e ∷ [])
-due-push w past es e due kind may = record { kinds = all-push arranges es e due.kinds kind; legal = LegalFrom-push w past es e due.legal may }
-
 -- what arranges the jobs leaves the leases
 arranged-leases : (ls : List Event) (e : Event) → arranges e ≡ true → leases (ls ++ e ∷ []) ≡ leases ls
 arranged-leases h (Open k ask) e = absurd (cc)

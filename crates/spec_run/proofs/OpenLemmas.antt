@@ -150,10 +150,6 @@ open-may_revise k rs h n r is formed number few clauses literals = record {
   literal_room = subst (λ (x : List Posted). literals_in x + literals_of r.clauses ≤ 16777216) (sym is.posted) literals;
 }
 
--- it may be closed
-pub open-may_close : (k : Key) (rs : List Posted) (h : List Event) → IsOpen k rs h → MayClose h k (titled h k)
-open-may_close k rs h is = record { job = open-found k rs h is; open_still = is.unclosed }
-
 -- revisions that are posted one by one
 pub revise-more : (k : Key) (n : ℕ) (rs : List Posted) (r : Posted) → revise_events k n (rs ++ r ∷ []) ≡ revise_events k n rs ++ Revise k (n + length rs) r ∷ []
 revise-more k n [] r = ap (λ (m : ℕ). Revise k m r ∷ []) (plus-zero n)

@@ -26,9 +26,6 @@ use Rattle.spec_script.proofs.Parsing.{run, counted, parsed, Outside, not_true}
 
 -- ---- lines and their numbers
 
-is_counted : List (List ℕ) → Bool
-is_counted row = not (is_passed row)
-
 passed-row : (limits : Limits) (row : List (List ℕ)) (s : Reading) → is_passed row ≡ true → after_row limits row s ≡ Ok s
 passed-row limits [] s e = refl
 passed-row limits (first ∷ others) s e = ap (λ (b : Bool). cond b (Ok s) (after_counted limits first others s.opened s)) e

@@ -54,9 +54,6 @@ batch-waiting n h =
     let prefix = take n.processed n.trail in
     after_all-conflict (IsGoing n.variables n.clauses prefix) (λ id t. IsWaiting n.clauses t id) prefix (batch prefix n.clauses) (record { trail = n.trail; conflict = None }) (handled-members n h.consistent prefix) (start-going n h) (λ id e. no-conflict (λ i. IsWaiting n.clauses n.trail i) id e)
 
-forced-vacuous : (A : Type 0) (l id : ℕ) (t : List TrailEntry) → (forced l id t).reason ≡ None → A
-forced-vacuous A l id t e = absurd (cc)
-
 batch-chosen : (n : Node) → IsSound n → EachAfter (IsChosen n.assumptions) [] (next_batch n).trail
 batch-chosen n h =
     let prefix = take n.processed n.trail in

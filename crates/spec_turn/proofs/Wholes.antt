@@ -118,12 +118,6 @@ many_whole k ms p = joined_whole (split_times k opening) ms
     let w = among_waiter x (children k opening) o.0 there.0 there.1 there.2 o.2 in let q = subst (λ (z : List (List ℕ)). among x z ≡ true) (children_await_none k opening) w in absurd (cc))
     (has_either x (split_times k opening).awaited (awaited_of ms) a))
 
-pub back_again : (n : Numbers) → IsBack n n
-back_again n = record { kept = λ x h. h; awaited = λ x h. h }
-
-pub back_later : (n m k : Numbers) → IsBack n m → IsBack m k → IsBack n k
-back_later n m k a b = record { kept = λ x h. b.kept x (a.kept x h); awaited = λ x h. a.awaited x (b.awaited x h) }
-
 -- both parts of a seat that was split are back and joined
 pub back_joined : (n a b : Numbers) → IsBack (splitting n) a → IsBack (child n) b → IsBack n (joined a b)
 back_joined n a b one two = record {
