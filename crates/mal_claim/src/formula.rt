@@ -9,9 +9,9 @@ ghost use Rattle.spec_claim.specs.Claims.{formula_rows, behind_formula, in_formu
 ghost use Rattle.mal_claim.specs.ReadResult.{Gives, IsOnLine};
 
 use crate::fault::ClaimFault;
-use crate::words::{is_formula_line, is_passed};
+use crate::words::is_formula_line;
 use mal_base::{Formula, LineFault};
-use mal_dimacs::{BlockFault, BlockReader, DimacsError};
+use mal_dimacs::{BlockFault, BlockReader, DimacsError, is_passed};
 use mal_text::first_line;
 use std::alloc::Global;
 

@@ -2,15 +2,15 @@
 
 ghost use Rattle.std.specs.Prelude.{◌≡◌, ◌<◌, ◌+◌, ◌^◌, [], ◌∷◌, length, map, IfOk, IfSome, MatchOption};
 ghost use Rattle.spec_text.specs.Inputs.{lines_of, words_of};
-ghost use Rattle.spec_dimacs.specs.Rows.{is_comment, is_passed};
 ghost use Rattle.spec_check.specs.Proofs.{last_after, with_number, row_at, lines_from};
 ghost use Rattle.mal_lrat.specs.LineView.{seen};
 ghost use Rattle.spec_lrat.specs.Reading.{reading};
 ghost use Rattle.mal_claim.specs.Views.{views};
 ghost use Rattle.mal_claim.specs.Answers.{Gives, GivesRow};
 
+use mal_dimacs::is_passed;
 use mal_lrat::{Line, LineFault, read_line};
-use mal_text::{first_line, first_word};
+use mal_text::first_line;
 use std::alloc::Global;
 
 /// A line of a proof with the number of its line in the text, from 1 on.
@@ -96,25 +96,5 @@ fn last_after(last: u64, line: &Line) -> u64
     match line {
         Line::Add { id, .. } => id.number(),
         Line::Delete { .. } => last,
-    }
-}
-
-/// Whether a line of a text is passed over: it is empty, or a comment.
-fn is_passed(line: &[u8]) -> bool
-    ensures { result ≡ is_passed (words_of line.now) }
-{
-    match first_word(line) {
-        None => true,
-        Some((first, _behind)) => is_comment(first),
-    }
-}
-
-/// Whether a word begins with the letter c.
-fn is_comment(word: &[u8]) -> bool
-    ensures { result ≡ is_comment word.now }
-{
-    match word {
-        [] => false,
-        [byte, ..] => *byte == b'c',
     }
 }

@@ -12,9 +12,10 @@ ghost use Rattle.mal_claim.specs.ReadResult.{Gives, IsAssumed, seen, seen_assume
 use crate::claim::Claim;
 use crate::fault::ClaimFault;
 use crate::formula::read_formula;
-use crate::words::{is_passed, is_proof_line};
+use crate::words::is_proof_line;
 use crate::{NumberedLine, read_proof};
 use mal_base::{LineFault, Lit};
+use mal_dimacs::is_passed;
 use mal_script::{AssumptionFault, assumptions};
 use mal_text::first_line;
 use std::alloc::Global;

@@ -2,7 +2,6 @@
 
 ghost use Rattle.std.specs.Prelude.{◌≡◌};
 ghost use Rattle.spec_text.specs.Inputs.{words_of};
-ghost use Rattle.spec_dimacs.specs.Rows.{is_passed};
 ghost use Rattle.spec_claim.specs.Claims.{is_formula_line, is_proof_line};
 
 use mal_text::first_word;
@@ -27,15 +26,5 @@ pub fn is_formula_line(line: &[u8]) -> bool
     match first_word(line) {
         None => true,
         Some((first, _)) => !(first == b"a".as_slice() || first == b"proof".as_slice()),
-    }
-}
-
-/// Whether a line is passed over: it is empty, or a comment.
-pub fn is_passed(line: &[u8]) -> bool
-    ensures { result ≡ is_passed (words_of line.now) }
-{
-    match first_word(line) {
-        None => true,
-        Some((first, _)) => first.starts_with(b"c"),
     }
 }

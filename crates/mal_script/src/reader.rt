@@ -4,7 +4,6 @@ ghost use Rattle.std.specs.Prelude.{◌≡◌, ◌≢◌, ◌∷◌, [], ℕ, Li
 ghost use Rattle.std.specs.List.{list_any};
 ghost use Rattle.std.specs.Str.{bytes_eq};
 ghost use Rattle.spec_text.specs.Inputs.{words_of};
-ghost use Rattle.spec_dimacs.specs.Rows.{is_comment};
 ghost use Rattle.spec_script.specs.Reading.{unread, named, after_tenant, is_of, is_job, has_room, admitted, of_tenant, after_job, outside, inside_job, inside, after_counted, after_row, at_end, after_end, going_on};
 ghost use Rattle.mal_script.specs.ReadResult.{Gives};
 
@@ -14,6 +13,7 @@ use crate::limits::Limits;
 use crate::opened::OpenJob;
 use crate::script::{Script, ScriptJob};
 use mal_base::{Ask, LimitKind, LineFault, Name};
+use mal_dimacs::is_comment;
 use mal_text::first_word;
 use std::alloc::Global;
 use std::marker::Model;
@@ -272,16 +272,6 @@ impl Reader {
             None => Ok(Script::new(jobs)),
             Some(job) => Err(job.unended()),
         }
-    }
-}
-
-/// Whether a word begins with the letter c.
-fn is_comment(word: &[u8]) -> bool
-    ensures { result ≡ is_comment word.now }
-{
-    match word {
-        [] => false,
-        [byte, ..] => *byte == b'c',
     }
 }
 
