@@ -22,17 +22,18 @@ use Rattle.spec_node.proofs.TrailLemmas.{each-push, each-front, each-weaker, is_
 use Rattle.spec_node.proofs.LevelLemmas.{greatest-le}
 use Rattle.spec_node.proofs.CutLemmas.{kept-cons, kept-front, kept-settled}
 use Rattle.spec_node.proofs.SettledLemmas.{var_of-negated}
-use Rattle.spec_learn.specs.Analysis.{put, clause_of, jump, vars_in, top, walk_of, begun, vars_under}
+use Rattle.spec_learn.specs.Analysis.{Aim, Analysed, put, clause_of, jump, vars_in, vars_under, top, begun, walked}
 use Rattle.spec_learn.specs.Analysis.Aim.{Learned}
 use Rattle.spec_learn.specs.Order.{moved_all}
-use Rattle.spec_learn.specs.Learning.{derived_id, forced_by, learned}
+use Rattle.spec_learn.specs.Learning.{derived_id, forced_by, analysis, learned}
+use Rattle.spec_learn.specs.Lesson.{taught}
 use Rattle.spec_learn.proofs.LogicLemmas.{negated-negated}
 use Rattle.spec_learn.proofs.HeartLemmas.{IsConsistentTrail}
 use Rattle.spec_learn.proofs.BehindLemmas.{sound-consistent}
 use Rattle.spec_learn.proofs.UipLemmas.{HasPoint, AreBetween, jump-below}
-use Rattle.spec_learn.proofs.PointLemmas.{AllOf, allof-append, allof-front, allof-back, IsOn, kept-low, level-front, jump-reaches, unit-after}
+use Rattle.spec_learn.proofs.PointLemmas.{AllOf, allof-append, allof-front, allof-back, allof-kept, IsOn, all-on, kept-low, level-front, jump-reaches, unit-after}
 use Rattle.spec_learn.proofs.ApartLemmas.{IsApart, apart-reverse}
-use Rattle.spec_learn.proofs.LawLemmas.{top-trail, kept-on, sound-point}
+use Rattle.spec_learn.proofs.LawLemmas.{top-trail, sound-point}
 use Rattle.spec_learn.proofs.SoundParts.{moves-permute, counted-has, with-last, numbers-last, below-derived, derived-serial, AreDifferent, AreApartFrom, clause-rises, clause-All, kept-different, find-alone}
 use Rattle.spec_learn.proofs.SettleLemmas.{IsLearnedOn, closed-more, batch-more, batch-open, not-in-take, open-test, clause-own, clause-list_all}
 
@@ -53,7 +54,7 @@ passed-all : (n : ℕ) (es before : List TrailEntry) → length before + length 
 passed-all n [] before l = tt
 passed-all n (e ∷ es) before l = ((λ q. omega arith), passed-all n es (before ++ e ∷ []) (omega (arith, length_push before e)))
 
-level-none : (t : List TrailEntry) (v : ℕ) → has_value t v ≡ false → level_in t v ≡ 0
+pub level-none : (t : List TrailEntry) (v : ℕ) → has_value t v ≡ false → level_in t v ≡ 0
 level-none [] v h = refl
 level-none (e ∷ es) v h = let parts = or_parts (v == var_of e.lit) (has_value es v) h in rw parts.0 (level-none es v parts.1)
 
@@ -269,19 +270,49 @@ pub apart-none : (past : List TrailEntry) → AreApartFrom [] past
 apart-none [] = tt
 apart-none (e ∷ past) = (refl, apart-none past)
 
--- learning keeps a node sound
-pub learned-sound : (n : Node) (id : ℕ) → IsSound n → n.conflict ≡ Some id → 0 < level_of n.trail → IsSound (learned id n)
-learned-sound n id h q some =
-    subst (λ (es : List TrailEntry). IsSound (shaped n level es (forced_by (derived_id n) (kept (jump level es) n.trail) (left_literal (kept (jump level es) n.trail) (clause_of es))) (with_clause (record { id = derived_id n; lits = clause_of es }) n.clauses))) (sym p.is)
+-- a clause of the negations of different entries of a node's trail, one of the current level and others of levels from 1 on below, and
+-- the greatest level of those others
+pub record IsOfEntries (n : Node) (a : Analysed) : Type 0 where
+  pub entries : List TrailEntry
+  pub lits : a.lits ≡ clause_of entries
+  pub level : a.level ≡ jump (top (reverse n.trail)) entries
+  pub point : HasPoint (top (reverse n.trail)) entries
+  pub on : AllOf (IsOn n.variables n.trail) entries
+  pub different : AreDifferent entries
+
+-- the entries of a sound node's trail, latest first, are different
+pub sound-different : (n : Node) → IsSound n → AreDifferent (reverse n.trail)
+sound-different n h =
+    let less : n.variables + 1 - 1 ≡ n.variables = omega arith in
+    let placed : EachAfter (IsPlaced (n.variables + 1 - 1)) [] n.trail = subst (λ (m : ℕ). EachAfter (IsPlaced m) [] n.trail) (sym less) h.consistent.placed in
+    different-reverse (n.variables + 1) (reverse n.trail) (apart-reverse (n.variables + 1) n.trail (omega arith) placed)
+
+-- what a walk of any aim keeps makes such a clause, where one of the entries has the current level
+pub walk-entries : (n : Node) (id : ℕ) (aim : Aim) (hints : List ℕ) → IsSound n → HasPoint (top (reverse n.trail)) (walked aim n.clauses (reverse n.trail) (begun (vars_under n.clauses id))).kept → IsOfEntries n (record { lits = clause_of (walked aim n.clauses (reverse n.trail) (begun (vars_under n.clauses id))).kept; hints = hints; level = jump (top (reverse n.trail)) (walked aim n.clauses (reverse n.trail) (begun (vars_under n.clauses id))).kept })
+walk-entries n id aim hints h p = record {
+  entries = (walked aim n.clauses (reverse n.trail) (begun (vars_under n.clauses id))).kept;
+  lits = refl;
+  level = refl;
+  point = p;
+  on = allof-kept (IsOn n.variables n.trail) aim n.clauses (reverse n.trail) (begun (vars_under n.clauses id)) (all-on n.variables n.trail h.consistent.placed h.consistent.levels) tt;
+  different = kept-different aim n.clauses (reverse n.trail) (begun (vars_under n.clauses id)) (sound-different n h) tt (apart-none (reverse n.trail));
+}
+
+-- learning a clause of such entries keeps a node sound
+pub entries-sound : (n : Node) (a : Analysed) → IsSound n → 0 < level_of n.trail → IsOfEntries n a → IsSound (taught a n)
+entries-sound n a h some k =
+    subst (λ (ls : List ℕ). IsSound (taught (record { lits = ls; hints = a.hints; level = a.level }) n)) (sym k.lits)
+    (subst (λ (j : ℕ). IsSound (taught (record { lits = clause_of k.entries; hints = a.hints; level = j }) n)) (sym k.level)
+    (subst (λ (es : List TrailEntry). IsSound (shaped n level es (forced_by (derived_id n) (kept (jump level es) n.trail) (left_literal (kept (jump level es) n.trail) (clause_of es))) (with_clause (record { id = derived_id n; lits = clause_of es }) n.clauses))) (sym p.is)
     (subst (λ (cs : List NumberedClause). IsSound (shaped n level es (forced_by (derived_id n) t (left_literal t (clause_of es))) cs)) (sym (with-last new n.clauses (below-derived n.serial n.index n.clauses h.ranged.serial)))
     (subst (λ (o : Option ℕ). IsSound (shaped n level es (forced_by (derived_id n) t o) (n.clauses ++ new ∷ []))) (sym left)
-    (shaped-sound n level p.low p.point h own different k)))
+    (shaped-sound n level p.low p.point h own different l)))))
   where
     level : ℕ
     level = top (reverse n.trail)
 
-    p : HasPoint (top (reverse n.trail)) (walk_of n.clauses (reverse n.trail) id).kept
-    p = sound-point n id h q some
+    p : HasPoint (top (reverse n.trail)) k.entries
+    p = k.point
 
     es : List TrailEntry
     es = p.low ++ p.point ∷ []
@@ -296,13 +327,13 @@ learned-sound n id h q some =
     same = top-trail n.trail
 
     on : AllOf (IsOn n.variables n.trail) es
-    on = subst (AllOf (IsOn n.variables n.trail)) p.is (kept-on n id h)
+    on = subst (AllOf (IsOn n.variables n.trail)) p.is k.on
 
     lower : jump level es < level
-    lower = subst (λ (xs : List TrailEntry). jump level xs < level) p.is (jump-below level (walk_of n.clauses (reverse n.trail) id).kept (let s : top (reverse n.trail) ≡ level_of n.trail = same in omega arith) p)
+    lower = subst (λ (xs : List TrailEntry). jump level xs < level) p.is (jump-below level k.entries (let s : top (reverse n.trail) ≡ level_of n.trail = same in omega arith) p)
 
-    k : IsLearnedOn n.variables n.trail level p.low p.point
-    k = record {
+    l : IsLearnedOn n.variables n.trail level p.low p.point
+    l = record {
       between = p.between;
       own = p.own;
       below = lower;
@@ -313,17 +344,17 @@ learned-sound n id h q some =
       levels = h.consistent.levels;
     }
 
-    -- an entry on the trail is true: it stands in the cut to its own level
     own : is_true n.trail p.point.lit ≡ true
-    own = cut-true p.point.level n.trail p.point.lit (k.on.cut p.point.level ∙ le-leb p.point.level p.point.level (omega arith))
+    own = cut-true p.point.level n.trail p.point.lit (l.on.cut p.point.level ∙ le-leb p.point.level p.point.level (omega arith))
 
     different : AreDifferent es
-    different =
-        let less : n.variables + 1 - 1 ≡ n.variables = omega arith in
-        let placed : EachAfter (IsPlaced (n.variables + 1 - 1)) [] n.trail = subst (λ (m : ℕ). EachAfter (IsPlaced m) [] n.trail) (sym less) h.consistent.placed in
-        subst AreDifferent p.is (kept-different (Learned level) n.clauses (reverse n.trail) (begun (vars_under n.clauses id)) (different-reverse (n.variables + 1) (reverse n.trail) (apart-reverse (n.variables + 1) n.trail (omega arith) placed)) tt (apart-none (reverse n.trail)))
+    different = subst AreDifferent p.is k.different
 
     left : left_literal t (clause_of es) ≡ Some (negated p.point.lit)
     left =
-        let one : count_by (λ y. not (is_false t y)) (clause_of es) ≡ 1 = unit-after n.variables n.trail p.low p.point level p.between p.own lower k.lows k.on in
-        find-alone (λ y. not (is_false t y)) (negated p.point.lit) (clause_of es) (open-test t p.point (point-out n.variables n.trail level p.low p.point k)) (clause-own p.low p.point) (omega arith)
+        let one : count_by (λ y. not (is_false t y)) (clause_of es) ≡ 1 = unit-after n.variables n.trail p.low p.point level p.between p.own lower l.lows l.on in
+        find-alone (λ y. not (is_false t y)) (negated p.point.lit) (clause_of es) (open-test t p.point (point-out n.variables n.trail level p.low p.point l)) (clause-own p.low p.point) (omega arith)
+
+-- learning keeps a node sound
+pub learned-sound : (n : Node) (id : ℕ) → IsSound n → n.conflict ≡ Some id → 0 < level_of n.trail → IsSound (learned id n)
+learned-sound n id h q some = entries-sound n (analysis id n) h some (walk-entries n id (Learned (top (reverse n.trail))) (analysis id n).hints h (sound-point n id h q some))

@@ -53,7 +53,7 @@ pub record Asserts (trail : List TrailEntry) (level : ℕ) (es : List TrailEntry
   pub below : jump level es < level_of trail
   pub unit : open_count (kept (jump level es) trail) (clause_of es) ≡ 1
 
-asserts-from : (variables : ℕ) (trail : List TrailEntry) (level : ℕ) (es : List TrailEntry) → 0 < level → level ≡ level_of trail → HasPoint level es → AllOf (IsOn variables trail) es → Asserts trail level es
+pub asserts-from : (variables : ℕ) (trail : List TrailEntry) (level : ℕ) (es : List TrailEntry) → 0 < level → level ≡ level_of trail → HasPoint level es → AllOf (IsOn variables trail) es → Asserts trail level es
 asserts-from variables trail level es some e p on =
     let whole : AllOf (IsOn variables trail) (p.low ++ p.point ∷ []) = subst (AllOf (IsOn variables trail)) p.is on in
     let lows : AllOf (IsOn variables trail) p.low = allof-front (IsOn variables trail) p.low (p.point ∷ []) whole in

@@ -14,3 +14,11 @@ pub mod CoreClauseLemmas
 pub mod CoreSoundLemmas
 pub mod GoalLemmas
 pub mod FirstPointLemmas
+pub mod CaseLemmas
+pub mod TurnLemmas
+pub mod LevelLemmas
+pub mod LessonLemmas
+pub mod ShorterLemmas
+pub mod StayLemmas
+pub mod WithinLemmas
+pub mod HintLemmas

@@ -37,7 +37,7 @@ pub allof-back : (Q : TrailEntry → Type 0) (xs ys : List TrailEntry) → AllOf
 allof-back Q [] ys h = h
 allof-back Q (x ∷ xs) ys h = allof-back Q xs ys h.1
 
-allof-reverse : (Q : TrailEntry → Type 0) (xs : List TrailEntry) → AllOf Q xs → AllOf Q (reverse xs)
+pub allof-reverse : (Q : TrailEntry → Type 0) (xs : List TrailEntry) → AllOf Q xs → AllOf Q (reverse xs)
 allof-reverse Q [] h = tt
 allof-reverse Q (x ∷ xs) h = subst (AllOf Q) (sym (reverse-append (x ∷ []) xs)) (allof-append Q (reverse xs) (x ∷ []) (allof-reverse Q xs h.1) (h.0, tt))
 

@@ -34,7 +34,7 @@ pub clause-list_all : (f : ℕ → Bool) (es : List TrailEntry) → AllOf (λ e.
 clause-list_all f [] h = refl
 clause-list_all f (e ∷ es) h = put-list_all f (negated e.lit) (clause_of es) h.0 (clause-list_all f es h.1)
 
-put-own : (x y : ℕ) (ls : List ℕ) → list_any (λ m. m == x) (put y ls) ≡ ((y == x) || list_any (λ m. m == x) ls)
+pub put-own : (x y : ℕ) (ls : List ℕ) → list_any (λ m. m == x) (put y ls) ≡ ((y == x) || list_any (λ m. m == x) ls)
 put-own x y [] = refl
 put-own x y (m ∷ ms) = by_less (put-own x y ms) (nat_lt y m)
   where

@@ -22,7 +22,7 @@ levelled-behind (e ∷ past) h =
     ((λ q. h.0 ∙ (ap (own_level (reverse past)) q ∙ ap (λ (k : ℕ). k + 1) (level-turned past))), (λ r q. h.0 ∙ (ap (own_level (reverse past)) q ∙ level-turned past)), levelled-behind past h.1)
 
 -- levels fall towards the past
-falls : (e : TrailEntry) (past : List TrailEntry) → AreLevelled (e ∷ past) → top past ≤ e.level
+pub falls : (e : TrailEntry) (past : List TrailEntry) → AreLevelled (e ∷ past) → top past ≤ e.level
 falls e past h = by_reason e.reason refl
   where
     by_reason : (o : Option ℕ) → e.reason ≡ o → top past ≤ e.level
@@ -30,7 +30,7 @@ falls e past h = by_reason e.reason refl
     by_reason (Some r) q = let u : e.level ≡ top past = h.1 r q in omega arith
 
 -- above the level reached none is left
-lower : (k : ℕ) (seen : List ℕ) (past : List TrailEntry) → AreLevelled past → top past < k → is_left k seen past ≡ false
+pub lower : (k : ℕ) (seen : List ℕ) (past : List TrailEntry) → AreLevelled past → top past < k → is_left k seen past ≡ false
 lower k seen [] h l = refl
 lower k seen (e ∷ past) h l =
     let other : (e.level == k) ≡ false = ne_eqb e.level k (λ q. absurd (omega arith)) in

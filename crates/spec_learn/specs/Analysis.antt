@@ -1,7 +1,7 @@
 -- Conflict analysis (first unique implication point) and the final conflict. The trail stands latest first: a `past` has
 -- its latest entry in front, and behind an entry stands what came before it.
-use Rattle.std.specs.Prelude.{ℕ, max, Bool, true, ◌==◌, nat_lt, ◌&&◌, ◌||◌, List, [], ◌∷◌, ◌++◌, map, Option, Some, None, if◌then◌else◌}
-use Rattle.std.specs.List.{list_any}
+use Rattle.std.specs.Prelude.{ℕ, max, Bool, true, false, ◌==◌, nat_lt, ◌&&◌, ◌||◌, List, [], ◌∷◌, ◌++◌, map, Option, Some, None, if◌then◌else◌}
+use Rattle.std.specs.List.{list_all, list_any}
 use Rattle.std.specs.Option.{option_map_or}
 use Rattle.mal_base.specs.Literals.{var_of, negated}
 use Rattle.mal_base.specs.NumberedClause.{NumberedClause, lits_under}
@@ -40,20 +40,34 @@ keeping e w = record { seen = w.seen; kept = e ∷ w.kept; hints = w.hints }
 abbrev pub resolving : List NumberedClause → ℕ → Walk → Walk
 resolving clauses r w = record { seen = vars_under clauses r ++ w.seen; kept = w.kept; hints = r ∷ w.hints }
 
--- what is resolved away: all but decisions, or what a clause learned at a level does without
+-- what is resolved away: all but decisions, what a clause learned at a level does without, or what its shorter form does without
 pub data Aim : Type 0 where
   Final : Aim
   Learned : (level : ℕ) → Aim
+  Shortened : (level : ℕ) → (clauses : List NumberedClause) → Aim
 
 -- another literal of the level is left in the clause
 abbrev pub is_left : ℕ → List ℕ → List TrailEntry → Bool
 is_left level seen past = list_any (λ e. (e.level == level) && has_var seen (var_of e.lit)) past
 
+-- an entry of level 0 has this variable
+abbrev pub is_base : List TrailEntry → ℕ → Bool
+is_base past v = list_any (λ e. (e.level == 0) && (v == var_of e.lit)) past
+
+-- each of these variables is in the clause as it stands, or has level 0: of the entries not yet passed those in the clause are those seen
+abbrev pub are_covered : List ℕ → List TrailEntry → List ℕ → Bool
+are_covered seen past vars = list_all (λ v. has_var seen v || is_base past v) vars
+
+-- an entry has a reason, and each literal of it is in the clause or has level 0 (the entry itself is seen)
+abbrev pub is_covered : List NumberedClause → TrailEntry → List ℕ → List TrailEntry → Bool
+is_covered clauses e seen past = option_map_or (λ r. are_covered seen past (vars_under clauses r)) e.reason false
+
 -- an entry is resolved away where it has level 0, and where it has the current level and is not the last of that level
--- left
+-- left; for the shorter clause also where it has a level between and its reason brings no further literal in
 abbrev pub is_resolved : Aim → TrailEntry → List ℕ → List TrailEntry → Bool
 is_resolved Final e seen past = true
 is_resolved (Learned level) e seen past = (e.level == 0) || ((e.level == level) && is_left level seen past)
+is_resolved (Shortened level clauses) e seen past = (e.level == 0) || (if e.level == level then is_left level seen past else is_covered clauses e seen past)
 
 -- an entry of the clause is resolved away where it is to be and has a reason; else it stays
 abbrev pub after_seen : Aim → List NumberedClause → TrailEntry → List TrailEntry → Walk → Walk

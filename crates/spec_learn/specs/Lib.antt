@@ -8,3 +8,7 @@ pub mod RefutingLaws
 pub mod Examples
 pub mod RefutingExamples
 pub mod FirstPoint
+pub mod Lesson
+pub mod Shorter
+pub mod ShorterLaws
+pub mod ShorterExamples

@@ -1,6 +1,6 @@
 //! Conflict analysis and learning: the learned, empty and core clause of a solver node, the decision order with moves to
-//! the front, and what learning does to a node. Definitions, and the laws about them as the contracts of functions
-//! without a body.
+//! the front, and what learning does to a node; and the shorter form of a learned clause. Definitions, and the laws about
+//! them as the contracts of functions without a body.
 #![tactic(auto)]
 
 ghost use Rattle.spec_learn.specs.Examples.{HasExamples};
@@ -9,6 +9,11 @@ ghost use Rattle.spec_learn.specs.FirstPoint.{HasFirstPoints, ResolvesAboveOne, 
 ghost use Rattle.spec_learn.specs.Laws.{AnalysisIsSmall, EmptyAtZero, LearnedAsserts, LearnKeepsSound, LineIsDerived};
 ghost use Rattle.spec_learn.specs.RefutingExamples.{HasRefutingExamples};
 ghost use Rattle.spec_learn.specs.RefutingLaws.{CoreKeepsSound, EmptyKeepsSound, GoalIsHeld, NumberIsNew, OthersStayHeld};
+ghost use Rattle.spec_learn.specs.ShorterExamples.{HasShorterExamples};
+ghost use Rattle.spec_learn.specs.ShorterLaws.{LearnedIsLesson, LearnedIsTaught, LessonAsserts, LessonKeepsSound};
+ghost use Rattle.spec_learn.specs.ShorterLaws.{ShorterHintsDiffer, ShorterIsDerived, ShorterIsEmptyAtZero};
+ghost use Rattle.spec_learn.specs.ShorterLaws.{ShorterIsGoneThrough, ShorterIsLesson, ShorterIsSmall, ShorterIsWithin};
+ghost use Rattle.spec_learn.specs.ShorterLaws.{ShorterJumpsAlike};
 
 /// The worked examples of conflict analysis compute to the answers that are known.
 pub fn learning_examples()
@@ -81,4 +86,40 @@ pub fn goal_is_held()
     ensures new { NumberIsNew }
     ensures goal { GoalIsHeld }
     ensures others { OthersStayHeld }
+{}
+
+/// Whatever clause is a lesson for a sound node asserts, and learning it keeps the node sound; the clause of the first
+/// implication point is one, and learning from a conflict is to be taught it.
+pub fn lesson_keeps_sound()
+    ensures asserts { LessonAsserts }
+    ensures sound { LessonKeepsSound }
+    ensures learned { LearnedIsLesson }
+    ensures taught { LearnedIsTaught }
+{}
+
+/// The worked examples of shorter clauses compute to the answers that are known.
+pub fn shorter_examples()
+    ensures { HasShorterExamples }
+{}
+
+/// The shorter clause is a lesson, and so it asserts and keeps a node sound; it is derived from the clauses held along
+/// its hints, which differ, and jumps to the level of the longer clause; at level 0 it is empty.
+pub fn shorter_is_derived()
+    ensures derived { ShorterIsDerived }
+    ensures lesson { ShorterIsLesson }
+    ensures jumps { ShorterJumpsAlike }
+    ensures empty { ShorterIsEmptyAtZero }
+    ensures differ { ShorterHintsDiffer }
+{}
+
+/// The shorter clause has the literals of the longer one that stay where they are gone through from the latest to the
+/// earliest, and no others.
+pub fn shorter_is_within()
+    ensures stay { ShorterIsGoneThrough }
+    ensures within { ShorterIsWithin }
+{}
+
+/// The analysis for the shorter clause gives no more literals and hints than there are variables, and one more.
+pub fn shorter_is_small()
+    ensures { ShorterIsSmall }
 {}
