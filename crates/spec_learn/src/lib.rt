@@ -1,6 +1,6 @@
-//! Conflict analysis and learning: the learned, empty and core clause of a solver node, the decision order with moves to
-//! the front, and what learning does to a node; and the shorter form of a learned clause. Definitions, and the laws about
-//! them as the contracts of functions without a body.
+//! Conflict analysis and learning: the learned, empty and core clause of a solver node, the decision order with moves
+//! to the front, what learning does to a node, and the shorter form of a learned clause. Definitions, and the laws
+//! about them as the contracts of functions without a body.
 #![tactic(auto)]
 
 ghost use Rattle.spec_learn.specs.Examples.{HasExamples};
@@ -31,9 +31,9 @@ pub fn learned_asserts()
     ensures empty { EmptyAtZero }
 {}
 
-/// The clause that is learned is that of the first implication point: each time that a reason is resolved with at the current level,
-/// above level 0, the clause on its way has two literals of that level or more, and the way ends with the clause that is learned, which
-/// has one.
+/// The clause that is learned is that of the first implication point: each time that a reason is resolved with at the
+/// current level, above level 0, the clause on its way has two literals of that level or more, and the way ends with
+/// the clause that is learned, which has one.
 pub fn first_implication_point()
     ensures above_one { ResolvesAboveOne }
     ensures ends { WayEnds }

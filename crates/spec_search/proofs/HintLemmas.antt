@@ -1,4 +1,4 @@
-use Rattle.std.proofs.Common.{◌≡◌, ℕ, Bool, true, false, cond, List, [], ◌∷◌, Option, Some, None, refl, sym, subst}
+use Rattle.std.proofs.Common.{◌≡◌, ℕ, Bool, true, false, cond, List, [], ◌∷◌, ◌++◌, Option, Some, None, refl, sym, subst}
 use Rattle.std.specs.Prelude.{All, reverse}
 use Rattle.std.specs.Option.{option_map_or}
 use Rattle.std.proofs.lemmas.List.Elements.{All-nil, All-cons, All-append}
@@ -7,7 +7,7 @@ use Rattle.mal_base.specs.NumberedClause.{NumberedClause}
 use Rattle.mal_base.specs.declared.trail_entry.TrailEntry.{TrailEntry}
 use Rattle.spec_node.specs.State.{Node}
 use Rattle.spec_node.specs.Sound.{IsForced, IsWaiting, IsSound}
-use Rattle.spec_learn.specs.Analysis.{Walk, Aim, Analysed, has_var, vars_under, begun, top, walked, after_seen, after_entry, keeping, resolving, is_resolved, walk_of}
+use Rattle.spec_learn.specs.Analysis.{Walk, Aim, Analysed, has_var, vars_under, begun, top, walked, after_seen, after_entry, keeping, resolving, is_resolved}
 use Rattle.spec_learn.specs.Analysis.Aim.{Final, Learned}
 use Rattle.spec_learn.specs.Learning.{analysis}
 use Rattle.spec_learn.specs.Refuting.{core_analysis}
@@ -33,14 +33,17 @@ walked-hints aim clauses (e ∷ past) w g h = walked-hints aim clauses past (aft
     by_seen true = by_reason e.reason refl
     by_seen false = h
 
+-- the hints of a walk from a waiting conflict are held
+pub conflict-hints : (aim : Aim) (n : Node) (id : ℕ) → IsSound n → n.conflict ≡ Some id → All (IsHeld n.clauses) ((walked aim n.clauses (reverse n.trail) (begun (vars_under n.clauses id))).hints ++ id ∷ [])
+conflict-hints aim n id h q =
+    let k : IsWaiting n.clauses n.trail id = h.waiting id q in
+    All-append (IsHeld n.clauses) (walked aim n.clauses (reverse n.trail) (begun (vars_under n.clauses id))).hints (id ∷ [])
+    (walked-hints aim n.clauses (reverse n.trail) (begun (vars_under n.clauses id)) (each-reverse (IsForced n.clauses) n.trail h.reasons) (All-nil (IsHeld n.clauses)))
+    (All-cons (IsHeld n.clauses) id [] (k.0, k.1, k.2) (All-nil (IsHeld n.clauses)))
+
 -- the hints of the line of a waiting conflict are held
 pub sound-hints : (n : Node) (id : ℕ) → IsSound n → n.conflict ≡ Some id → All (IsHeld n.clauses) (analysis id n).hints
-sound-hints n id h q =
-    let past : List TrailEntry = reverse n.trail in
-    let k : IsWaiting n.clauses n.trail id = h.waiting id q in
-    All-append (IsHeld n.clauses) (walk_of n.clauses past id).hints (id ∷ [])
-    (walked-hints (Learned (top past)) n.clauses past (begun (vars_under n.clauses id)) (each-reverse (IsForced n.clauses) n.trail h.reasons) (All-nil (IsHeld n.clauses)))
-    (All-cons (IsHeld n.clauses) id [] (k.0, k.1, k.2) (All-nil (IsHeld n.clauses)))
+sound-hints n id h q = conflict-hints (Learned (top (reverse n.trail))) n id h q
 
 -- the hints of a core clause are held
 pub core-hints : (n : Node) (a : ℕ) → IsSound n → HasFailed n a → All (IsHeld n.clauses) (core_analysis a n).hints

@@ -8,3 +8,7 @@ pub mod CountLemmas
 pub mod HintLemmas
 pub mod LineLemmas
 pub mod EmptyLemmas
+pub mod DropLemmas
+pub mod FewerLemmas
+pub mod OverLemmas
+pub mod ActionLemmas

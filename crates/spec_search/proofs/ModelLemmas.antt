@@ -126,7 +126,7 @@ unfolding slice
 slice-keeps_model n h m = (steps-keep IsModelled (λ x e g. record { sound = step-sound x g.sound; model = step-model x e g.sound }) 1000 (is_over 0 n) 0 n refl (record { sound = h; model = m })).model
 
 -- a derived clause is none of the originals
-originals-with : (c : NumberedClause) (cs : List NumberedClause) → 2 ^ 32 ≤ c.id → originals (with_clause c cs) ≡ originals cs
+pub originals-with : (c : NumberedClause) (cs : List NumberedClause) → 2 ^ 32 ≤ c.id → originals (with_clause c cs) ≡ originals cs
 originals-with c [] h =
     let no : nat_lt c.id (2 ^ 32) ≡ false = le-ltb c.id (2 ^ 32) h in
     rw no refl
@@ -143,7 +143,7 @@ originals-with c (d ∷ ds) h = by_place (originals-with c ds h) (nat_lt c.id d.
         by_test true = ap (λ (xs : List NumberedClause). d ∷ xs) k
         by_test false = k
 
-case-leaves : (c : Case) (n : Node) → Leaves n (after_case c n)
+pub case-leaves : (c : Case) (n : Node) → Leaves n (after_case c n)
 case-leaves (Learns id) n = record { index = refl; variables = refl; assumptions = refl; originals = originals-with (record { id = derived_id n; lits = (analysis id n).lits }) n.clauses (omega arith) }
 case-leaves (Refutes id) n = record { index = refl; variables = refl; assumptions = refl; originals = originals-with (record { id = derived_id n; lits = (analysis id n).lits }) n.clauses (omega arith) }
 case-leaves Propagates n = record { index = refl; variables = refl; assumptions = refl; originals = refl }

@@ -3,3 +3,6 @@ pub mod Slice
 pub mod Derived
 pub mod Laws
 pub mod Examples
+pub mod Dropping
+pub mod Actions
+pub mod DroppingLaws

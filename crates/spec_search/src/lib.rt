@@ -3,6 +3,8 @@
 #![tactic(auto)]
 
 ghost use Rattle.spec_search.specs.Examples.{HasExamples};
+ghost use Rattle.spec_search.specs.DroppingLaws.{ActionsDerive, ActionsHold, ActionsKeepSound, ActionsLeave};
+ghost use Rattle.spec_search.specs.DroppingLaws.{DropKeepsSound, DropsHold, HasDrops, LinesStayWithin};
 ghost use Rattle.spec_search.specs.Laws.{EmptyRefutes, LinesAreCounted, LinesAreDerived, LinesAreHeld, LinesHaveRoom, SliceCounts, SliceGoesOn, SliceKeepsModel, SliceKeepsSound, SliceLeaves, SliceRefutes, SliceSolves, StepKeepsSound, StepLeaves, StepsLeave};
 
 /// The worked examples of steps and slices compute to the answers that are known.
@@ -46,4 +48,27 @@ pub fn slice_is_bounded()
     ensures goes_on { SliceGoesOn }
     ensures room { LinesHaveRoom }
     ensures counts { SliceCounts }
+{}
+
+/// The worked examples of dropping, and of the shorter clause of a node's first conflict, compute to the answers that are
+/// known.
+pub fn drop_examples()
+    ensures { HasDrops }
+{}
+
+/// Dropping keeps a node sound, its originals and the reasons on its trail; half of what may go goes.
+pub fn drops_keep_sound()
+    ensures sound { DropKeepsSound }
+    ensures hold { DropsHold }
+{}
+
+/// Whatever a search does of steps, of steps that learn the shorter clause and of droppings: its node stays sound; its
+/// lines are derived one after another from the clauses held at first and those of the lines before, dropped since or not;
+/// what it holds in the end was held at first or is of a line; and the literals of each line are the node's.
+pub fn actions_derive()
+    ensures sound { ActionsKeepSound }
+    ensures leave { ActionsLeave }
+    ensures derived { ActionsDerive }
+    ensures held { ActionsHold }
+    ensures within { LinesStayWithin }
 {}

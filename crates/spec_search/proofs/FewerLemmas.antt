@@ -1,0 +1,94 @@
+use Rattle.std.proofs.Common.{◌≡◌, ℕ, ◌+◌, ◌<◌, Bool, true, false, cond, not, List, [], ◌∷◌, ◌++◌, length, take, Option, Some, None, refl, sym, ap, ◌∙◌, subst, append_assoc}
+use Rattle.std.specs.Prelude.{All, Contains, filter, ◌==◌}
+use Rattle.std.specs.List.{list_any, list_all}
+use Rattle.std.specs.Option.{option_map_or}
+use Rattle.std.proofs.lemmas.List.Elements.{All-filter, All-contains, All-weaker}
+use Rattle.std.proofs.lemmas.Bool.{and_parts, and_from, or_left, or_right, eq-eqb}
+use Rattle.mal_base.specs.NumberedClause.{NumberedClause}
+use Rattle.mal_base.specs.declared.trail_entry.TrailEntry.{TrailEntry}
+use Rattle.spec_node.specs.State.{Node}
+use Rattle.spec_node.specs.Batch.{is_in_batch}
+use Rattle.spec_node.specs.Cut.{kept, cut}
+use Rattle.spec_node.specs.Load.{is_derived}
+use Rattle.spec_node.specs.Sound.{EachAfter, IsClosed, IsForced, IsReason, AreSettled, AreLiteralsOf, left_is_true, serial_of, IsRanged, IsConsistent, IsSound}
+use Rattle.spec_node.proofs.TrailLemmas.{each-weaker}
+use Rattle.spec_node.proofs.SoundLemmas.{numbers-filter}
+use Rattle.spec_search.proofs.StepLemmas.{IsIdle, restarted}
+use Rattle.spec_search.proofs.SoundLemmas.{restarted-sound}
+use Rattle.spec_search.specs.Dropping.{is_reason, to_drop, forgetting}
+use Rattle.spec_search.specs.DroppingLaws.{DropKeepsSound}
+use Rattle.spec_search.proofs.DropLemmas.{reason-spared, contains-filter}
+
+-- fewer clauses are settled where all are
+all-fewer : (f q p : NumberedClause → Bool) (cs : List NumberedClause) → list_all f (filter q cs) ≡ true → list_all f (filter q (filter p cs)) ≡ true
+all-fewer f q p [] h = refl
+all-fewer f q p (c ∷ cs) h = by_test (all-fewer f q p cs) (p c) (q c) refl h
+  where
+    by_test : (list_all f (filter q cs) ≡ true → list_all f (filter q (filter p cs)) ≡ true) → (b a : Bool) → q c ≡ a → list_all f (cond a (c ∷ filter q cs) (filter q cs)) ≡ true → list_all f (filter q (cond b (c ∷ filter p cs) (filter p cs))) ≡ true
+    by_test g true true k m = let parts = and_parts (f c) (list_all f (filter q cs)) m in ap (λ (x : Bool). list_all f (cond x (c ∷ filter q (filter p cs)) (filter q (filter p cs)))) k ∙ and_from _ _ parts.0 (g parts.1)
+    by_test g true false k m = ap (λ (x : Bool). list_all f (cond x (c ∷ filter q (filter p cs)) (filter q (filter p cs)))) k ∙ g m
+    by_test g false true k m = g (and_parts (f c) (list_all f (filter q cs)) m).1
+    by_test g false false k m = g m
+
+settled-fewer : (p : NumberedClause → Bool) (below : ℕ) (trail : List TrailEntry) (cs : List NumberedClause) → AreSettled below trail cs → AreSettled below trail (filter p cs)
+settled-fewer p below trail cs h q l = all-fewer (left_is_true (take q trail) trail) (is_in_batch (take q trail)) p cs (h q l)
+
+-- an entry's reason is one of a trail that it stands on
+reason-on : (trail : List TrailEntry) (c : NumberedClause) (xs : List TrailEntry) (e : TrailEntry) (ys : List TrailEntry) → xs ++ e ∷ ys ≡ trail → e.reason ≡ Some c.id → is_reason trail c ≡ true
+reason-on trail c xs e ys whole q = subst (λ (t : List TrailEntry). is_reason t c ≡ true) whole (at xs)
+  where
+    at : (zs : List TrailEntry) → is_reason (zs ++ e ∷ ys) c ≡ true
+    at [] = or_left _ _ (ap (λ (o : Option ℕ). option_map_or (λ r. r == c.id) o false) q ∙ eq-eqb c.id c.id refl)
+    at (z ∷ zs) = or_right _ _ (at zs)
+
+forced-fewer : (p : NumberedClause → Bool) (clauses : List NumberedClause) (trail : List TrailEntry) → All (λ c. is_reason trail c ≡ true → Contains (filter p clauses) c) clauses → (es before : List TrailEntry) → before ++ es ≡ trail → EachAfter (IsForced clauses) before es → EachAfter (IsForced (filter p clauses)) before es
+forced-fewer p clauses trail stay [] before whole h = tt
+forced-fewer p clauses trail stay (e ∷ es) before whole h = ((λ id q. kept_reason id q (h.0 id q)), forced-fewer p clauses trail stay es (before ++ e ∷ []) (append_assoc before (e ∷ []) es ∙ whole) h.1)
+  where
+    kept_reason : (id : ℕ) → e.reason ≡ Some id → (c : NumberedClause) × Contains clauses c × (c.id ≡ id) × IsReason before e c → (c : NumberedClause) × Contains (filter p clauses) c × (c.id ≡ id) × IsReason before e c
+    kept_reason id q k = (k.0, All-contains (λ c. is_reason trail c ≡ true → Contains (filter p clauses) c) clauses k.0 stay k.1 (reason-on trail k.0 before e es whole (q ∙ ap (λ (x : ℕ). Some x) (sym k.2))), k.2, k.3)
+
+-- a sound node without some clauses that are no reasons is sound
+pub fewer-sound : (p : NumberedClause → Bool) (n : Node) → IsSound n → n.conflict ≡ None → All (λ c. is_reason n.trail c ≡ true → Contains (filter p n.clauses) c) n.clauses → IsSound (record n { clauses = filter p n.clauses })
+fewer-sound p n h calm stay =
+    let r : IsRanged n = h.ranged in
+    let c : IsConsistent n = h.consistent in
+    record {
+      ranged = record { index = r.index; variables = r.variables; restart_number = r.restart_number; phases = r.phases; numbers = numbers-filter p 1 n.clauses r.numbers; serial = All-filter p (λ d. is_derived d ≡ true → serial_of d < n.serial) n.clauses r.serial };
+      consistent = record {
+        order = c.order;
+        clauses = All-filter p (λ d. AreLiteralsOf n.variables d.lits) n.clauses c.clauses;
+        assumptions = c.assumptions;
+        placed = c.placed;
+        levels = c.levels;
+        closed = each-weaker (IsClosed n.clauses) (IsClosed (filter p n.clauses)) (λ b e f q. settled-fewer p (length b + 1) b n.clauses (f q)) n.trail [] c.closed;
+        handled = c.handled;
+        settled = λ q. settled-fewer p n.processed n.trail n.clauses (c.settled q);
+      };
+      reasons = forced-fewer p n.clauses n.trail stay n.trail [] refl h.reasons;
+      chosen = h.chosen;
+      passed = h.passed;
+      reached = h.reached;
+      waiting = λ id q. absurd (cc);
+    }
+
+-- a cut to level 0 keeps an idle node sound
+pub cut-sound : (n : Node) → IsSound n → IsIdle n → IsSound (cut 0 n)
+cut-sound n h idle =
+    let k : IsSound (restarted n) = restarted-sound n h idle in
+    let r : IsRanged (restarted n) = k.ranged in
+    let c : IsConsistent (restarted n) = k.consistent in
+    record {
+      ranged = record { index = r.index; variables = r.variables; restart_number = h.ranged.restart_number; phases = r.phases; numbers = r.numbers; serial = r.serial };
+      consistent = record { order = c.order; clauses = c.clauses; assumptions = c.assumptions; placed = c.placed; levels = c.levels; closed = c.closed; handled = c.handled; settled = c.settled };
+      reasons = k.reasons;
+      chosen = k.chosen;
+      passed = k.passed;
+      reached = k.reached;
+      waiting = k.waiting;
+    }
+
+pub dropped-sound : DropKeepsSound
+dropped-sound n h calm past =
+    fewer-sound (λ c. not (list_any (λ i. i == c.id) (to_drop (kept 0 n.trail) n.clauses))) (cut 0 n) (cut-sound n h (record { calm = calm; handled = past })) calm
+    (All-weaker (λ c. not (list_any (λ i. i == c.id) (to_drop (kept 0 n.trail) n.clauses)) ≡ true → Contains (forgetting (to_drop (kept 0 n.trail) n.clauses) n.clauses) c) (λ c. is_reason (kept 0 n.trail) c ≡ true → Contains (forgetting (to_drop (kept 0 n.trail) n.clauses) n.clauses) c) (λ c f q. f (reason-spared (kept 0 n.trail) n.clauses c q)) n.clauses (contains-filter (λ c. not (list_any (λ i. i == c.id) (to_drop (kept 0 n.trail) n.clauses))) n.clauses))
