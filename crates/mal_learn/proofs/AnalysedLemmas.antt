@@ -21,7 +21,7 @@ use Rattle.mal_learn.proofs.WalkLemmas.{Leaves, see_all-leaves, lits-within, rev
 use Rattle.mal_learn.proofs.ShowsLemmas.{IsSeen, Shows, same-seen, see_all-shows, vars-of, walked-shows, AreBelow}
 
 -- the marks of a level
-here-is : (level v : ℕ) (es : List TrailEntry) (flags : List Bool) → v < length flags → get_or (here_all level es flags) v false ≡ (is_here level es v || get_or flags v false)
+pub here-is : (level v : ℕ) (es : List TrailEntry) (flags : List Bool) → v < length flags → get_or (here_all level es flags) v false ≡ (is_here level es v || get_or flags v false)
 here-is level v [] flags l = refl
 here-is level v (e ∷ es) flags l = by_level (λ xs k. here-is level v es xs k) (e.level == level)
   where
@@ -39,7 +39,7 @@ here-is level v (e ∷ es) flags l = by_level (λ xs k. here-is level v es xs k)
     by_level f true = f (set flags (var_of e.lit) true) (let k = length-set flags (var_of e.lit) true in omega arith) ∙ (ap (λ (b : Bool). is_here level es v || b) (own (v == var_of e.lit) refl) ∙ turn (is_here level es v) (v == var_of e.lit) (get_or flags v false))
     by_level f false = f flags l
 
-here-long : (level : ℕ) (es : List TrailEntry) (flags : List Bool) → length (here_all level es flags) ≡ length flags
+pub here-long : (level : ℕ) (es : List TrailEntry) (flags : List Bool) → length (here_all level es flags) ≡ length flags
 here-long level [] flags = refl
 here-long level (e ∷ es) flags = by_level (λ xs. here-long level es xs) (e.level == level)
   where
@@ -76,7 +76,7 @@ begin-seen n a b level id es p q =
     or-false true = refl
     or-false false = refl
 
-begin-shows : (n a b level id : ℕ) (clauses : List NumberedClause) (es : List TrailEntry) → n ≤ a → n ≤ b → AreBelow n clauses → IsApart n (reverse es) → length (reverse es) < 2 ^ 64 → Shows n level id (reverse es) (begun (vars_under clauses id)) (see_all (lits_of clauses id) (start a b level id es))
+pub begin-shows : (n a b level id : ℕ) (clauses : List NumberedClause) (es : List TrailEntry) → n ≤ a → n ≤ b → AreBelow n clauses → IsApart n (reverse es) → length (reverse es) < 2 ^ 64 → Shows n level id (reverse es) (begun (vars_under clauses id)) (see_all (lits_of clauses id) (start a b level id es))
 begin-shows n a b level id clauses es p q below apart long =
     let s : State = start a b level id es in
     let leaves : Leaves s (see_all (lits_of clauses id) s) = see_all-leaves (lits_of clauses id) s in

@@ -5,3 +5,4 @@ mod ShowsLemmas
 mod SortLemmas
 mod AnalysedLemmas
 mod TraceLemmas
+mod ShortenLemmas

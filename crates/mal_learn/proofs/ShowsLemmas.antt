@@ -95,7 +95,7 @@ pub record Shows (n level id : ℕ) (past : List TrailEntry) (w : Walk) (s : Sta
 abbrev pub AreBelow : ℕ → List NumberedClause → Type 0
 AreBelow n clauses = (r : ℕ) → All (λ l. var_of l < n) (lits_of clauses r)
 
-kept-shows : (n level id : ℕ) (e : TrailEntry) (past : List TrailEntry) (w : Walk) (s : State) → Shows n level id past w s → Shows n level id past (keeping e w) (kept level e s)
+pub kept-shows : (n level id : ℕ) (e : TrailEntry) (past : List TrailEntry) (w : Walk) (s : State) → Shows n level id past w s → Shows n level id past (keeping e w) (kept level e s)
 kept-shows n level id e past w s h =
     let k = h.is_seen in
     record {
@@ -105,7 +105,7 @@ kept-shows n level id e past w s h =
       target = ap (λ (x : ℕ). max (cond (e.level == level) 0 e.level) x) h.target;
     }
 
-resolved-shows : (n level id r : ℕ) (clauses : List NumberedClause) (past : List TrailEntry) (w : Walk) (s : State) → AreBelow n clauses → IsApart n past → length past < 2 ^ 64 → Shows n level id past w s → Shows n level id past (resolving clauses r w) (resolved clauses r s)
+pub resolved-shows : (n level id r : ℕ) (clauses : List NumberedClause) (past : List TrailEntry) (w : Walk) (s : State) → AreBelow n clauses → IsApart n past → length past < 2 ^ 64 → Shows n level id past w s → Shows n level id past (resolving clauses r w) (resolved clauses r s)
 resolved-shows n level id r clauses past w s below a long h =
     let k = h.is_seen in
     let t : State = record s { hints = s.hints ++ r ∷ [] } in
@@ -129,7 +129,7 @@ handled-shows n level id clauses e past w s (Some r) below a long h =
     by_test false = kept-shows n level id e past w s h
 
 -- an entry is no longer to come
-passed-here : (n level : ℕ) (e : TrailEntry) (past : List TrailEntry) (s : State) → has_value past (var_of e.lit) ≡ false → n ≤ length s.here → ((v : ℕ) → v < n → get_or s.here v false ≡ is_here level (e ∷ past) v) → (v : ℕ) → v < n → get_or (set s.here (var_of e.lit) false) v false ≡ is_here level past v
+pub passed-here : (n level : ℕ) (e : TrailEntry) (past : List TrailEntry) (s : State) → has_value past (var_of e.lit) ≡ false → n ≤ length s.here → ((v : ℕ) → v < n → get_or s.here v false ≡ is_here level (e ∷ past) v) → (v : ℕ) → v < n → get_or (set s.here (var_of e.lit) false) v false ≡ is_here level past v
 passed-here n level e past s free fits h v l = by_same (v == var_of e.lit) refl
   where
     and-false : (b : Bool) → (b && false) ≡ false
@@ -142,7 +142,7 @@ passed-here n level e past s free fits h v l = by_same (v == var_of e.lit) refl
         rw same (get_or-set_same s.here (var_of e.lit) false false (let u : var_of e.lit < n = subst (λ (x : ℕ). x < n) same l in omega arith) ∙ sym (not-here level past (var_of e.lit) free))
     by_same false q = get_or-set_other s.here (var_of e.lit) v false false (eqb-false v (var_of e.lit) q) ∙ (h v l ∙ ap (λ (b : Bool). b || is_here level past v) (ap (λ (b : Bool). (e.level == level) && b) q ∙ and-false (e.level == level)))
 
-passed-shows : (n level id : ℕ) (e : TrailEntry) (past : List TrailEntry) (w : Walk) (s : State) → IsApart n (e ∷ past) → has_var w.seen (var_of e.lit) ≡ false → Shows n level id (e ∷ past) w s → Shows n level id past w (passed e s)
+pub passed-shows : (n level id : ℕ) (e : TrailEntry) (past : List TrailEntry) (w : Walk) (s : State) → IsApart n (e ∷ past) → has_var w.seen (var_of e.lit) ≡ false → Shows n level id (e ∷ past) w s → Shows n level id past w (passed e s)
 passed-shows n level id e past w s a unseen h =
     let k = h.is_seen in
     record {
@@ -162,7 +162,7 @@ passed-shows n level id e past w s a unseen h =
     none true = omega arith
     none false = omega arith
 
-uncounted-shows : (n level id : ℕ) (e : TrailEntry) (past : List TrailEntry) (w : Walk) (s : State) → IsApart n (e ∷ past) → has_var w.seen (var_of e.lit) ≡ true → Shows n level id (e ∷ past) w s → Shows n level id past w (uncounted level e (passed e s))
+pub uncounted-shows : (n level id : ℕ) (e : TrailEntry) (past : List TrailEntry) (w : Walk) (s : State) → IsApart n (e ∷ past) → has_var w.seen (var_of e.lit) ≡ true → Shows n level id (e ∷ past) w s → Shows n level id past w (uncounted level e (passed e s))
 uncounted-shows n level id e past w s a seen h =
     let k = h.is_seen in
     record {

@@ -65,7 +65,7 @@ pub record AddsOne (s t : State) : Type 0 where
   pub lits : length t.lits ≤ length s.lits + 1
   pub hints : length t.hints ≤ length s.hints + 1
 
-kept-adds : (level : ℕ) (e : TrailEntry) (s : State) → AddsOne s (kept level e s)
+pub kept-adds : (level : ℕ) (e : TrailEntry) (s : State) → AddsOne s (kept level e s)
 kept-adds level e s = record { lits = omega (arith, length_push s.lits (negated e.lit)); hints = omega arith }
 
 pub resolved-adds : (clauses : List NumberedClause) (r : ℕ) (s : State) → AddsOne s (resolved clauses r s)

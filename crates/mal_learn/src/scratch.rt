@@ -1,11 +1,13 @@
 //! The scratch of an analysis, and the analysis.
 
-ghost use Rattle.std.specs.Prelude.{◌≡◌, ◌-◌, ◌<◌, ◌≤◌, [], length, reverse, take, OnOk};
+ghost use Rattle.std.specs.Prelude.{◌≡◌, ◌-◌, ◌<◌, ◌≤◌, [], length, reverse, take, slice_index_or, OnOk};
 ghost use Rattle.spec_node.specs.Sound.{EachAfter, IsPlaced};
 ghost use Rattle.spec_learn.specs.Analysis.{analysed, core, reached, top};
+ghost use Rattle.spec_learn.specs.Shorter.{shortened};
 ghost use Rattle.mal_learn.specs.Shown.{ClausesWithin};
 
-use crate::work::Work;
+use crate::flags::Flags;
+use crate::work::{Work, mark_level};
 use mal_base::{ClauseId, ClauseView, Lit, TrailView};
 use std::alloc::{AllocError, Global};
 use std::marker::Model;
@@ -16,14 +18,18 @@ use std::marker::Model;
 #[derive(Drop)]
 pub struct Scratch {
     work: Work,
+    base: Flags,
 }
 
 impl Model for Scratch {
+    ghost use Rattle.std.specs.Prelude.{◌≤◌, length};
     ghost use Rattle.mal_learn.specs.Shown.{Shown};
 
     ghost Value = { Shown };
 
     ghost view = { λ s. record { clause = s.work.state.lits; hints = s.work.state.hints; level = s.work.state.level; room = s.work.room } };
+
+    ghost invariant = { λ s. s.work.room ≤ length s.base };
 }
 
 impl Scratch {
@@ -33,6 +39,7 @@ impl Scratch {
     {
         Scratch {
             work: Work::new(alloc),
+            base: Flags::new(alloc),
         }
     }
 
@@ -45,6 +52,7 @@ impl Scratch {
         ensures hints { self.new.hints ≡ self.old.hints }
         ensures level { self.new.level ≡ self.old.level }
     {
+        self.base.fit(variables as usize + 1)?;
         self.work.fit(variables + 1)
     }
 
@@ -90,6 +98,30 @@ pub fn analyse<T: TrailView, C: ClauseView>(
     let level = current_level(trail);
     scratch.work.begin(trail, clauses, conflict, level);
     scratch.work.walk(trail, clauses, level);
+    scratch.work.finish();
+}
+
+/// Shortens the clause that was learned from a conflict, which is the last hint: leaves in the scratch the shorter clause
+/// with its hints in trail order and the same level. Takes no memory. The time is linear in the trail and twice the
+/// literals of the reasons looked at.
+pub fn shorten<T: TrailView, C: ClauseView>(trail: &T, clauses: &C, scratch: &mut Scratch)
+    requires fitted { 1 ≤ scratch.old.room }
+    requires placed { EachAfter (IsPlaced (scratch.old.room - 1)) [] (T.entries trail.now) }
+    requires within { ClausesWithin scratch.old.room (C.clauses clauses.now) }
+    requires analysed { 1 ≤ length scratch.old.hints }
+    ensures clause { scratch.new.clause ≡ (shortened (C.clauses clauses.now) (reverse (T.entries trail.now)) (slice_index_or scratch.old.hints (length scratch.old.hints - 1) 0)).lits }
+    ensures hints { scratch.new.hints ≡ (shortened (C.clauses clauses.now) (reverse (T.entries trail.now)) (slice_index_or scratch.old.hints (length scratch.old.hints - 1) 0)).hints }
+    ensures level { scratch.new.level ≡ (shortened (C.clauses clauses.now) (reverse (T.entries trail.now)) (slice_index_or scratch.old.hints (length scratch.old.hints - 1) 0)).level }
+    ensures room { scratch.new.room ≡ scratch.old.room }
+{
+    let conflict = scratch.work.last_hint();
+    let level = current_level(trail);
+    scratch.work.begin(trail, clauses, conflict, level);
+    scratch.base.clear();
+    mark_level(&mut scratch.base, trail, 0);
+    scratch
+        .work
+        .walk_shorter(trail, clauses, &mut scratch.base, level);
     scratch.work.finish();
 }
 

@@ -1,11 +1,13 @@
 //! An analysis at work.
 
-ghost use Rattle.std.specs.Prelude.{◌≡◌, ◌+◌, ◌≤◌, ◌<◌, All, length, replicate, reverse, take, false, true, [], ◌∷◌, slice_index_or, OnOk};
+ghost use Rattle.std.specs.Prelude.{◌≡◌, ◌+◌, ◌-◌, ◌≤◌, ◌<◌, max, All, length, replicate, reverse, take, false, true};
+ghost use Rattle.std.specs.Prelude.{[], ◌∷◌, slice_index_or, slice_set, OnOk};
 ghost use Rattle.std.specs.List.Sorted.{IsPermutation, IsSorted};
 ghost use Rattle.std.specs.Ordering.{nat_cmp};
 ghost use Rattle.mal_base.specs.Literals.{var_of};
 ghost use Rattle.mal_learn.specs.Working.{see, see_all, lits_of, kept, resolved, by_reason, visited, visited_all, here_all};
 ghost use Rattle.mal_learn.specs.Tracing.{begun_with, traced, traced_all, traced_from};
+ghost use Rattle.mal_learn.specs.Shortening.{Shortening, covers, is_left_out, by_shorter_reason, shorter_state, shorter_visited_all};
 ghost use Rattle.mal_learn.specs.Shown.{IsFitted, AreWithin, ClausesWithin, EntriesWithin};
 
 use crate::flags::Flags;
@@ -62,6 +64,7 @@ impl Work {
         requires { bound ≤ 65537 }
         ensures room { OnOk result (bound ≤ self.new.room) }
         ensures more { self.old.room ≤ self.new.room }
+        ensures most { self.new.room ≤ max self.old.room bound }
         ensures lits { self.new.state.lits ≡ self.old.state.lits }
         ensures hints { self.new.state.hints ≡ self.old.state.hints }
         ensures level { self.new.state.level ≡ self.old.state.level }
@@ -88,6 +91,14 @@ impl Work {
     {
         self.lits.sort_unstable();
         self.hints.as_mut_slice().reverse();
+    }
+
+    /// The last hint.
+    pub fn last_hint(&self) -> ClauseId
+        requires { 1 ≤ length self.now.state.hints }
+        ensures { result ≡ slice_index_or self.now.state.hints (length self.now.state.hints - 1) 0 }
+    {
+        self.hints[self.hints.len() - 1]
     }
 
     /// Sees a variable.
@@ -208,6 +219,121 @@ impl Work {
         }
     }
 
+    /// Whether each variable of a clause is seen or one of these.
+    fn covers<C: ClauseView>(&self, clauses: &C, base: &Flags, id: ClauseId) -> bool
+        requires within { ClausesWithin self.now.room (C.clauses clauses.now) }
+        requires fits { self.now.room ≤ length base.now }
+        ensures { result ≡ covers self.now.state.seen base.now (lits_of (C.clauses clauses.now) id) }
+    {
+        match clauses.get(id) {
+            None => true,
+            Some(lits) => are_marked(&self.seen, base, lits),
+        }
+    }
+
+    /// Resolves a seen entry away, or keeps it where the shorter clause has it.
+    fn handle_shorter<C: ClauseView>(
+        &mut self,
+        clauses: &C,
+        base: &Flags,
+        entry: TrailEntry,
+        level: u32,
+    )
+        requires within { ClausesWithin self.old.room (C.clauses clauses.now) }
+        requires fits { self.old.room ≤ length base.now }
+        requires lit_room { length self.old.state.lits + 1 < self.old.room }
+        requires hint_room { length self.old.state.hints < self.old.room }
+        ensures state { self.new.state ≡ by_shorter_reason (C.clauses clauses.now) level base.now entry self.old.state entry.reason }
+        ensures room { self.new.room ≡ self.old.room }
+    {
+        match entry.reason {
+            None => self.keep(entry, level),
+            Some(reason) => {
+                if self.is_left_out(clauses, base, entry.level, level, reason) {
+                    self.resolve(clauses, reason);
+                } else {
+                    self.keep(entry, level);
+                }
+            }
+        }
+    }
+
+    /// Whether the shorter clause does without a seen entry of this level and reason.
+    fn is_left_out<C: ClauseView>(
+        &self,
+        clauses: &C,
+        base: &Flags,
+        own: u32,
+        level: u32,
+        reason: ClauseId,
+    ) -> bool
+        requires within { ClausesWithin self.now.room (C.clauses clauses.now) }
+        requires fits { self.now.room ≤ length base.now }
+        ensures { result ≡ is_left_out (C.clauses clauses.now) level base.now own self.now.state reason }
+    {
+        if own == 0 {
+            return true;
+        }
+        if own == level {
+            return 0 < self.left;
+        }
+        self.covers(clauses, base, reason)
+    }
+
+    /// Passes an entry.
+    fn visit_shorter<C: ClauseView>(
+        &mut self,
+        clauses: &C,
+        base: &mut Flags,
+        entry: TrailEntry,
+        level: u32,
+    )
+        requires within { ClausesWithin self.old.room (C.clauses clauses.now) }
+        requires fits { self.old.room ≤ length base.old }
+        requires var { var_of entry.lit < self.old.room }
+        requires lit_room { length self.old.state.lits + 1 < self.old.room }
+        requires hint_room { length self.old.state.hints < self.old.room }
+        ensures state { self.new.state ≡ shorter_state (C.clauses clauses.now) level entry (slice_set base.old (var_of entry.lit) false) self.old.state }
+        ensures base { base.new ≡ slice_set base.old (var_of entry.lit) false }
+        ensures room { self.new.room ≡ self.old.room }
+    {
+        let place = entry.lit.var().number() as usize;
+        let seen = self.seen.has(place);
+        self.here.remove(place);
+        base.remove(place);
+        if !seen {
+            return;
+        }
+        if entry.level == level {
+            self.left = self.left.saturating_sub(1);
+        }
+        self.handle_shorter(clauses, base, entry, level);
+    }
+
+    /// Passes the entries of a trail, the latest first, for the shorter clause.
+    pub fn walk_shorter<T: TrailView, C: ClauseView>(
+        &mut self,
+        trail: &T,
+        clauses: &C,
+        base: &mut Flags,
+        level: u32,
+    )
+        requires entries { EntriesWithin self.old.room (T.entries trail.now) }
+        requires within { ClausesWithin self.old.room (C.clauses clauses.now) }
+        requires fits { self.old.room ≤ length base.old }
+        requires lit_room { length (T.entries trail.now) + length self.old.state.lits < self.old.room }
+        requires hint_room { length (T.entries trail.now) + length self.old.state.hints ≤ self.old.room }
+        ensures walk { record { state = self.new.state; base = base.new } ≡ shorter_visited_all (C.clauses clauses.now) level (reverse (T.entries trail.now)) (record { state = self.old.state; base = base.old }) }
+        ensures len { length base.new ≡ length base.old }
+        ensures room { self.new.room ≡ self.old.room }
+    {
+        let count = trail.len();
+        for made in 0..count {
+            let entry = trail.at(count - 1 - made);
+            self.visit_shorter(clauses, base, entry, level);
+        }
+    }
+
     /// Forgets all.
     fn forget(&mut self)
         ensures state { self.new.state ≡ (record { seen = replicate (length self.old.state.seen) false; here = replicate (length self.old.state.here) false; left = 0; lits = []; hints = []; level = 0 }) }
@@ -315,8 +441,23 @@ impl Work {
     }
 }
 
+/// Whether the variable of each literal has one of two flags.
+fn are_marked(seen: &Flags, base: &Flags, lits: &[Lit]) -> bool
+    requires seen { AreWithin (length seen.now) lits.now }
+    requires base { AreWithin (length base.now) lits.now }
+    ensures { result ≡ covers seen.now base.now lits.now }
+{
+    for lit in lits {
+        let place = lit.var().number() as usize;
+        if !seen.has(place) && !base.has(place) {
+            return false;
+        }
+    }
+    true
+}
+
 /// Marks the entries of a level.
-fn mark_level<T: TrailView>(here: &mut Flags, trail: &T, level: u32)
+pub fn mark_level<T: TrailView>(here: &mut Flags, trail: &T, level: u32)
     requires { All (λ e. var_of e.lit < length here.old) (T.entries trail.now) }
     ensures marks { here.new ≡ here_all level (T.entries trail.now) here.old }
     ensures len { length here.new ≡ length here.old }
