@@ -1,4 +1,4 @@
-use Rattle.std.specs.Prelude.{ℕ, ◌+◌, ◌≤◌, ◌<◌, List, All}
+use Rattle.std.specs.Prelude.{ℕ, ◌+◌, ◌-◌, ◌≤◌, ◌<◌, List, All, length, slice_index_or}
 use Rattle.mal_base.specs.NumberedClause.{NumberedClause}
 use Rattle.mal_base.specs.Literals.{var_of}
 use Rattle.mal_base.specs.declared.trail_entry.TrailEntry.{TrailEntry}
@@ -34,3 +34,7 @@ ClausesWithin room clauses = All (λ c. AreWithin room c.lits) clauses
 
 abbrev pub EntriesWithin : ℕ → List TrailEntry → Type 0
 EntriesWithin room entries = All (λ e. var_of e.lit < room) entries
+
+-- the last of some numbers, 0 where there is none
+abbrev pub last_of : List ℕ → ℕ
+last_of ids = slice_index_or ids (length ids - 1) 0

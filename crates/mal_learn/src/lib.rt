@@ -1,5 +1,5 @@
-//! Conflict analysis: the clause that is learned from a conflict, its hints and the level to jump to; its shorter form; and
-//! the core clause of a false assumption.
+//! Conflict analysis: the clause that is learned from a conflict, its hints and the level to jump to; its shorter form;
+//! and the core clause of a false assumption.
 #![tactic(auto)]
 
 mod flags;

@@ -1,10 +1,10 @@
 //! The scratch of an analysis, and the analysis.
 
-ghost use Rattle.std.specs.Prelude.{◌≡◌, ◌-◌, ◌<◌, ◌≤◌, [], length, reverse, take, slice_index_or, OnOk};
+ghost use Rattle.std.specs.Prelude.{◌≡◌, ◌-◌, ◌<◌, ◌≤◌, [], length, reverse, take, OnOk};
 ghost use Rattle.spec_node.specs.Sound.{EachAfter, IsPlaced};
 ghost use Rattle.spec_learn.specs.Analysis.{analysed, core, reached, top};
 ghost use Rattle.spec_learn.specs.Shorter.{shortened};
-ghost use Rattle.mal_learn.specs.Shown.{ClausesWithin};
+ghost use Rattle.mal_learn.specs.Shown.{ClausesWithin, last_of};
 
 use crate::flags::Flags;
 use crate::work::{Work, mark_level};
@@ -101,17 +101,17 @@ pub fn analyse<T: TrailView, C: ClauseView>(
     scratch.work.finish();
 }
 
-/// Shortens the clause that was learned from a conflict, which is the last hint: leaves in the scratch the shorter clause
-/// with its hints in trail order and the same level. Takes no memory. The time is linear in the trail and twice the
-/// literals of the reasons looked at.
+/// Shortens the clause that was learned from a conflict, which is the last hint: leaves in the scratch the shorter
+/// clause with its hints in trail order and the same level. Takes no memory. The time is linear in the trail and twice
+/// the literals of the reasons looked at.
 pub fn shorten<T: TrailView, C: ClauseView>(trail: &T, clauses: &C, scratch: &mut Scratch)
     requires fitted { 1 ≤ scratch.old.room }
     requires placed { EachAfter (IsPlaced (scratch.old.room - 1)) [] (T.entries trail.now) }
     requires within { ClausesWithin scratch.old.room (C.clauses clauses.now) }
     requires analysed { 1 ≤ length scratch.old.hints }
-    ensures clause { scratch.new.clause ≡ (shortened (C.clauses clauses.now) (reverse (T.entries trail.now)) (slice_index_or scratch.old.hints (length scratch.old.hints - 1) 0)).lits }
-    ensures hints { scratch.new.hints ≡ (shortened (C.clauses clauses.now) (reverse (T.entries trail.now)) (slice_index_or scratch.old.hints (length scratch.old.hints - 1) 0)).hints }
-    ensures level { scratch.new.level ≡ (shortened (C.clauses clauses.now) (reverse (T.entries trail.now)) (slice_index_or scratch.old.hints (length scratch.old.hints - 1) 0)).level }
+    ensures clause { scratch.new.clause ≡ (shortened (C.clauses clauses.now) (reverse (T.entries trail.now)) (last_of scratch.old.hints)).lits }
+    ensures hints { scratch.new.hints ≡ (shortened (C.clauses clauses.now) (reverse (T.entries trail.now)) (last_of scratch.old.hints)).hints }
+    ensures level { scratch.new.level ≡ (shortened (C.clauses clauses.now) (reverse (T.entries trail.now)) (last_of scratch.old.hints)).level }
     ensures room { scratch.new.room ≡ scratch.old.room }
 {
     let conflict = scratch.work.last_hint();

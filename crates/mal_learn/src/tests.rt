@@ -1,6 +1,6 @@
 //! Analyses whose clauses are known.
 
-use crate::{Scratch, analyse, final_core, shorten};
+use crate::{Scratch, analyse, final_core};
 use mal_base::{ClauseId, Lit, Var};
 use mal_store::Store;
 use mal_trail::Trail;
@@ -96,66 +96,5 @@ fn a_core_does_without_level_0(rt: HostRuntime) -> Result<(), Fail> {
     assert_eq!(rt; scratch.clause(), [lit(3)?].as_slice());
     assert_eq!(rt; scratch.hints(), [ClauseId::original(1)].as_slice());
     assert_eq!(rt; scratch.level(), 0);
-    Ok(())
-}
-
-/// Under 1 -2, 1 2 3 4 and 2 3 -4 the decision -1 forces -2, and the decision -3 forces 4 and ends in a conflict: 1 2 3 is
-/// learned, and 1 3 is its shorter form, since 1 -2 implies that 2 does no more than 1. A clause that another trail left
-/// in the scratch changes nothing.
-#[test]
-fn a_clause_is_shortened(rt: HostRuntime) -> Result<(), Fail> {
-    let mut trail = Trail::new(rt.alloc());
-    trail.reserve(4)?;
-    trail.push(Var::of(1).literal(false), None, 1);
-    trail.push(Var::of(2).literal(false), Some(ClauseId::original(1)), 1);
-    trail.push(Var::of(3).literal(false), None, 2);
-    trail.push(Var::of(4).literal(true), Some(ClauseId::original(2)), 2);
-    let mut store = Store::new(rt.alloc());
-    store.reserve(3, 9)?;
-    store.add_reserved(
-        ClauseId::original(1),
-        &[Var::of(1).literal(true), Var::of(2).literal(false)],
-    );
-    store.add_reserved(
-        ClauseId::original(2),
-        &[
-            Var::of(1).literal(true),
-            Var::of(2).literal(true),
-            Var::of(3).literal(true),
-            Var::of(4).literal(true),
-        ],
-    );
-    store.add_reserved(
-        ClauseId::original(3),
-        &[
-            Var::of(2).literal(true),
-            Var::of(3).literal(true),
-            Var::of(4).literal(false),
-        ],
-    );
-    let mut scratch = Scratch::new(rt.alloc());
-    scratch.fit(4)?;
-    analyse(&trail, &store, ClauseId::original(3), &mut scratch);
-    assert_eq!(rt; scratch.clause(), [lit(1)?, lit(2)?, lit(3)?].as_slice());
-    assert_eq!(rt;
-        scratch.hints(),
-        [ClauseId::original(2), ClauseId::original(3)].as_slice()
-    );
-    assert_eq!(rt; scratch.level(), 1);
-    shorten(&trail, &store, &mut scratch);
-    assert_eq!(rt; scratch.clause(), [lit(1)?, lit(3)?].as_slice());
-    assert_eq!(rt;
-        scratch.hints(),
-        [
-            ClauseId::original(1),
-            ClauseId::original(2),
-            ClauseId::original(3),
-        ]
-        .as_slice()
-    );
-    assert_eq!(rt; scratch.level(), 1);
-    shorten(&trail, &store, &mut scratch);
-    assert_eq!(rt; scratch.clause(), [lit(1)?, lit(3)?].as_slice());
-    assert_eq!(rt; scratch.hints().len(), 3);
     Ok(())
 }

@@ -7,8 +7,9 @@ ghost use Rattle.std.specs.Ordering.{nat_cmp};
 ghost use Rattle.mal_base.specs.Literals.{var_of};
 ghost use Rattle.mal_learn.specs.Working.{see, see_all, lits_of, kept, resolved, by_reason, visited, visited_all, here_all};
 ghost use Rattle.mal_learn.specs.Tracing.{begun_with, traced, traced_all, traced_from};
-ghost use Rattle.mal_learn.specs.Shortening.{Shortening, covers, is_left_out, by_shorter_reason, shorter_state, shorter_visited_all};
-ghost use Rattle.mal_learn.specs.Shown.{IsFitted, AreWithin, ClausesWithin, EntriesWithin};
+ghost use Rattle.mal_learn.specs.Shortening.{Shortening, covers, is_left_out, by_shorter_reason};
+ghost use Rattle.mal_learn.specs.Shortening.{shorter_state, shorter_visited_all};
+ghost use Rattle.mal_learn.specs.Shown.{IsFitted, AreWithin, ClausesWithin, EntriesWithin, last_of};
 
 use crate::flags::Flags;
 use mal_base::{ClauseId, ClauseView, Lit, TrailEntry, TrailView, Var};
@@ -96,7 +97,7 @@ impl Work {
     /// The last hint.
     pub fn last_hint(&self) -> ClauseId
         requires { 1 ≤ length self.now.state.hints }
-        ensures { result ≡ slice_index_or self.now.state.hints (length self.now.state.hints - 1) 0 }
+        ensures { result ≡ last_of self.now.state.hints }
     {
         self.hints[self.hints.len() - 1]
     }

@@ -50,8 +50,8 @@ pub fn slice_is_bounded()
     ensures counts { SliceCounts }
 {}
 
-/// The worked examples of dropping, and of the shorter clause of a node's first conflict, compute to the answers that are
-/// known.
+/// The worked examples of dropping, and of the shorter clause of a node's first conflict, compute to the answers that
+/// are known.
 pub fn drop_examples()
     ensures { HasDrops }
 {}
@@ -63,7 +63,7 @@ pub fn drops_keep_sound()
 {}
 
 /// Whatever a search does of steps, of steps that learn the shorter clause and of droppings: its node stays sound; its
-/// lines are derived one after another from the clauses held at first and those of the lines before, dropped since or not;
+/// lines are derived one after another from the clauses held at first and those of the lines before, dropped or not;
 /// what it holds in the end was held at first or is of a line; and the literals of each line are the node's.
 pub fn actions_derive()
     ensures sound { ActionsKeepSound }
