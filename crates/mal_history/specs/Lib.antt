@@ -1,3 +1,4 @@
+pub mod Shared
 pub mod Written
 pub mod Text
 pub mod Differ

@@ -1,9 +1,13 @@
 //! The events that a hall enters.
 
-ghost use Rattle.std.specs.Prelude.{◌≡◌};
+ghost use Rattle.std.specs.Prelude.{◌≡◌, ◌↔◌, [], ◌∷◌, ◌++◌, IsTrue, OnOk, OnErr};
+ghost use Rattle.std.specs.Arc.{arc_value};
+ghost use Rattle.mal_history.specs.Shared.{shared};
 
 use mal_base::{Ask, Name, Outcome};
+use std::alloc::{AllocError, Global};
 use std::marker::Model;
+use std::sync::Arc;
 
 /// The volume of one job in a balancing: how many of its solvers may run at a time, 0 to 64.
 #[derive(Clone, Copy, Debug, PartialEq, Eq)]
@@ -13,32 +17,73 @@ pub struct Share {
     pub volume: u32,
 }
 
-/// The volumes of a balancing, of each live job by opening. Contracts see the list.
+impl Share {
+    /// Whether these are the same volumes of the same job.
+    pub fn is_same(&self, other: &Share) -> bool
+        ensures { IsTrue result ↔ (self.now ≡ other.now) }
+    {
+        self == other
+    }
+}
+
+/// The volumes of a balancing, of each live job by opening. A volume may be shared with other balancings. Contracts see the
+/// list.
 #[derive(Debug, Drop)]
 pub struct Shares {
-    items: Vec<Share>,
+    items: Vec<Arc<Share>>,
 }
 
 impl Model for Shares {
     ghost use Rattle.std.specs.Prelude.{List};
     ghost use Rattle.mal_history.specs.declared.event.Share.{Share};
+    ghost use Rattle.mal_history.specs.Shared.{shared};
 
     ghost Value = { List Share };
 
-    ghost view = { λ s. s.items.items };
+    ghost view = { λ s. shared s.items.items };
 }
 
 impl Shares {
-    /// The volumes of this list. Takes no memory.
-    pub fn of(items: Vec<Share>) -> Shares
-        ensures { result ≡ items.items }
+    /// No volumes. Takes no memory.
+    pub fn new(alloc: Global) -> Shares
+        ensures { result ≡ [] }
     {
-        Shares { items }
+        Shares {
+            items: Vec::new(alloc),
+        }
+    }
+
+    /// Makes room for so many more volumes, and for no others.
+    pub fn reserve(&mut self, count: usize) -> Result<(), AllocError>
+        ensures { self.new ≡ self.old }
+    {
+        self.items.reserve_exact(count)
+    }
+
+    /// Puts a volume behind the others. After want of memory they are as before.
+    pub fn push(&mut self, share: Share) -> Result<(), AllocError>
+        ensures ok { OnOk result (self.new ≡ self.old ++ share ∷ []) }
+        ensures err { OnErr result (self.new ≡ self.old) }
+    {
+        let alloc = *self.items.allocator();
+        let share = Arc::new(alloc, share)?;
+        self.items.push(share)?;
+        Ok(())
+    }
+
+    /// Puts a volume behind the others that is shared with other balancings. After want of memory they are as before.
+    pub fn push_shared(&mut self, share: &Arc<Share>) -> Result<(), AllocError>
+        ensures ok { OnOk result (self.new ≡ self.old ++ arc_value share.now ∷ []) }
+        ensures err { OnErr result (self.new ≡ self.old) }
+    {
+        let share = Arc::try_clone(share)?;
+        self.items.push(share)?;
+        Ok(())
     }
 
     /// The volumes, by opening.
-    pub fn as_slice(&self) -> &[Share]
-        ensures { result.now ≡ self.now }
+    pub fn as_slice(&self) -> &[Arc<Share>]
+        ensures { shared result.now ≡ self.now }
     {
         self.items.as_slice()
     }

@@ -1,6 +1,7 @@
 //! Reading the line of an event, or of the header.
 
-ghost use Rattle.std.specs.Prelude.{◌≡◌, ◌≤◌, ◌<◌, ◌∷◌, length, IfOk, IfSome};
+ghost use Rattle.std.specs.Prelude.{◌≡◌, ◌≤◌, ◌<◌, [], ◌∷◌, ◌++◌, length, IfOk, IfSome, OnOk};
+ghost use Rattle.std.specs.Arc.{arc_value};
 ghost use Rattle.spec_text.specs.Inputs.{words_of};
 ghost use Rattle.mal_history.specs.Reading.{header_of, outcome_of, opened, revised, closed, started, finished, exchanged, event_of_job, named_event, balanced, event_of, next_event};
 ghost use Rattle.mal_history.specs.ReadResult.{AreNamed, AreTwo, Gives, IsOnly};
@@ -10,7 +11,8 @@ use crate::fault::EventFault;
 use crate::numbers::{ask_in, in_range};
 use mal_base::{Name, Outcome};
 use mal_text::first_word;
-use std::alloc::Global;
+use std::alloc::{AllocError, Global};
+use std::sync::Arc;
 
 /// The number of workers that a header says, from 1 to 64: its first word, and the line behind it.
 pub fn read_header(first: &[u8], line: &[u8]) -> Result<u32, EventFault>
@@ -49,31 +51,37 @@ fn only_word(line: &[u8]) -> Option<&[u8]>
     }
 }
 
-/// The event of a line behind so many events, of which there may be `max`: its first word, and the line behind it.
+/// The event of a line behind these events, of which there may be `max`: its first word, and the line behind it.
 pub fn next_event(
     alloc: Global,
     first: &[u8],
     line: &[u8],
     workers: u32,
-    count: usize,
+    events: &[Event],
     max: usize,
 ) -> Result<Event, EventFault>
-    ensures { Gives result (next_event max workers count (first.now ∷ words_of line.now)) }
+    ensures { Gives result (next_event max workers (length events.now) (first.now ∷ words_of line.now)) }
 {
-    let event = read_event(alloc, first, line, workers)?;
-    if count < max {
+    let event = read_event(alloc, first, line, workers, events)?;
+    if events.len() < max {
         Ok(event)
     } else {
         Err(EventFault::TooLong)
     }
 }
 
-/// The event of a line: its first word, and the line behind it.
-fn read_event(alloc: Global, first: &[u8], line: &[u8], workers: u32) -> Result<Event, EventFault>
+/// The event of a line behind these events: its first word, and the line behind it.
+fn read_event(
+    alloc: Global,
+    first: &[u8],
+    line: &[u8],
+    workers: u32,
+    events: &[Event],
+) -> Result<Event, EventFault>
     ensures { Gives result (event_of workers (first.now ∷ words_of line.now)) }
 {
     if first == b"b".as_slice() {
-        read_balance(alloc, line)
+        read_balance(alloc, line, last_shares(events))
     } else {
         read_named(alloc, first, line, workers)
     }
@@ -229,11 +237,23 @@ fn read_exchange(tenant: Name, job: Name, line: &[u8]) -> Result<Event, EventFau
     }
 }
 
-/// A balancing, of the names and the volumes of jobs. Volumes out of range count where all names are names.
-fn read_balance(alloc: Global, line: &[u8]) -> Result<Event, EventFault>
+/// What the last balancing among these events lists, nothing where there is none.
+fn last_shares(events: &[Event]) -> &[Arc<Share>] {
+    for event in events.iter().rev() {
+        if let Event::Balance { volumes } = event {
+            return volumes.as_slice();
+        }
+    }
+    &[]
+}
+
+/// A balancing, of the names and the volumes of jobs. Volumes out of range count where all names are names. What an earlier
+/// balancing lists alike is shared with it.
+fn read_balance(alloc: Global, line: &[u8], earlier: &[Arc<Share>]) -> Result<Event, EventFault>
     ensures { Gives result (balanced (words_of line.now)) }
 {
-    let mut shares = Vec::new(alloc);
+    let mut shares = Shares::new(alloc);
+    let mut at = 0;
     let mut are_ranged = true;
     let mut rest = line;
     while let Some((tenant, behind)) = first_word(rest) {
@@ -242,22 +262,58 @@ fn read_balance(alloc: Global, line: &[u8]) -> Result<Event, EventFault>
         };
         let (tenant, job) = names_in(alloc, tenant, job)?;
         match in_range(volume, 0, 64) {
-            Some(volume) => shares.push(Share {
-                tenant,
-                job,
-                volume,
-            })?,
+            Some(volume) => {
+                let share = Share {
+                    tenant,
+                    job,
+                    volume,
+                };
+                at = put_share(&mut shares, &share, earlier, at)?;
+            }
             None => are_ranged = false,
         }
         rest = behind;
     }
     if are_ranged {
-        Ok(Event::Balance {
-            volumes: Shares::of(shares),
-        })
+        Ok(Event::Balance { volumes: shares })
     } else {
         Err(EventFault::BadNumber)
     }
+}
+
+/// Puts a volume behind the others, shared with an earlier one where one that is alike stands at this place or near behind it.
+/// Answers the place from which on the next one is looked for.
+fn put_share(
+    shares: &mut Shares,
+    share: &Share,
+    earlier: &[Arc<Share>],
+    at: usize,
+) -> Result<usize, AllocError>
+    ensures { OnOk result (shares.new ≡ shares.old ++ share.now ∷ []) }
+{
+    match alike(share, earlier, at) {
+        Some((other, next)) => {
+            shares.push_shared(other)?;
+            Ok(next)
+        }
+        None => {
+            shares.push(*share)?;
+            Ok(at)
+        }
+    }
+}
+
+/// An equal volume among the 16 from this place on, with the place behind it.
+fn alike<'a>(share: &Share, earlier: &'a [Arc<Share>], at: usize) -> Option<(&'a Arc<Share>, usize)>
+    ensures { IfSome result (λ p. arc_value p.0.now ≡ share.now) }
+{
+    for n in at..earlier.len().min(at.saturating_add(16)) {
+        let other = &earlier[n];
+        if other.is_same(share) {
+            return Some((other, n + 1));
+        }
+    }
+    None
 }
 
 /// The first two words of a line, and the line behind them. None where it has fewer.

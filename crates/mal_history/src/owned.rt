@@ -2,11 +2,13 @@
 
 ghost use Rattle.std.specs.Prelude.{◌≡◌, ℕ, IfOk, OnOk};
 ghost use Rattle.mal_history.specs.Own.{is_of, own, own_step, told_of, tells, tells_volume, volume_in};
+ghost use Rattle.mal_history.specs.Shared.{shared};
 
 use crate::event::{Event, Share, Shares};
 use crate::history::History;
 use mal_base::Name;
 use std::alloc::{AllocError, Global};
+use std::sync::Arc;
 
 /// What a history tells of one job: its events without those of other jobs, each start and finish as of worker 1, and of each
 /// balancing the job's volume (0 where it is not listed), only where it differs from the one before, which is 0 at first.
@@ -138,21 +140,19 @@ fn tell_volume(
     if volume == before {
         return Ok(before);
     }
-    let mut shares = Vec::new(alloc);
+    let mut shares = Shares::new(alloc);
     shares.push(Share {
         tenant,
         job,
         volume,
     })?;
-    own.push(Event::Balance {
-        volumes: Shares::of(shares),
-    })?;
+    own.push(Event::Balance { volumes: shares })?;
     Ok(volume)
 }
 
 /// The volume that a balancing gives the job, 0 where it is not listed.
-fn volume_in(tenant: Name, job: Name, volumes: &[Share]) -> u32
-    ensures { result ≡ volume_in tenant job volumes.now }
+fn volume_in(tenant: Name, job: Name, volumes: &[Arc<Share>]) -> u32
+    ensures { result ≡ volume_in tenant job (shared volumes.now) }
 {
     for share in volumes {
         if is_of(tenant, job, share.tenant, share.job) {

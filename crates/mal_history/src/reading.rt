@@ -95,8 +95,7 @@ fn put_event(
     ensures { Puts history.old history.new line result (on_line line (next_event max history.old.workers (length history.old.events) (first.now ∷ words_of others.now))) }
 {
     let workers = history.workers();
-    let count = history.events().len();
-    match next_event(alloc, first, others, workers, count, max) {
+    match next_event(alloc, first, others, workers, history.events(), max) {
         Ok(event) => {
             history.push_read(event, line)?;
             Ok(())

@@ -3,6 +3,7 @@
 ghost use Rattle.std.specs.Prelude.{◌≡◌, [], ◌∷◌, ◌++◌, map, flat_map, codes, IfOk, OnOk};
 ghost use Rattle.spec_text.specs.Lines.{line_of};
 ghost use Rattle.spec_text.specs.Numbers.{decimal_word};
+ghost use Rattle.mal_history.specs.Shared.{shared};
 ghost use Rattle.mal_history.specs.Text.{outcome_word, share_words, event_words, header_words, history_text};
 ghost use Rattle.mal_history.specs.declared.event.Event.TheVariants.{Open, Revise, Start, Finish};
 
@@ -12,6 +13,7 @@ use itoa::Buffer;
 use mal_base::{Ask, Name, Outcome};
 use mal_text::{end_line, put_line, put_word};
 use std::alloc::{AllocError, Global};
+use std::sync::Arc;
 
 /// The text of a history.
 #[tactic(auto, unfolding(crate::specs::Text::history_text))]
@@ -112,8 +114,8 @@ fn put_revise(out: &mut Vec<u8>, tenant: &Name, job: &Name, number: u32) -> Resu
 }
 
 /// Writes the line of a balancing.
-fn put_balance(out: &mut Vec<u8>, shares: &[Share]) -> Result<(), AllocError>
-    ensures { OnOk result (out.new.items ≡ out.old.items ++ line_of (codes "b" ∷ flat_map share_words shares.now)) }
+fn put_balance(out: &mut Vec<u8>, shares: &[Arc<Share>]) -> Result<(), AllocError>
+    ensures { OnOk result (out.new.items ≡ out.old.items ++ line_of (codes "b" ∷ flat_map share_words (shared shares.now))) }
 {
     out.push(b'b')?;
     for share in shares {
@@ -214,7 +216,7 @@ mod tests {
         let tenant = Name::of(rt.alloc(), b"a")?.ok_or("no name")?;
         let job = Name::of(rt.alloc(), b"p")?.ok_or("no name")?;
         let ask = Ask::of(1, 1, 4).ok_or("no ask")?;
-        let mut shares = Vec::new(rt.alloc());
+        let mut shares = Shares::new(rt.alloc());
         shares.push(Share {
             tenant,
             job,
@@ -229,9 +231,7 @@ mod tests {
             number: 1,
         });
         history.push_reserved(Event::Close { tenant, job });
-        history.push_reserved(Event::Balance {
-            volumes: Shares::of(shares),
-        });
+        history.push_reserved(Event::Balance { volumes: shares });
         history.push_reserved(Event::Start {
             tenant,
             job,
@@ -260,7 +260,7 @@ mod tests {
         let mut history = History::new(rt.alloc(), 64);
         history.reserve(4)?;
         history.push_reserved(Event::Balance {
-            volumes: Shares::of(Vec::new(rt.alloc())),
+            volumes: Shares::new(rt.alloc()),
         });
         history.push_reserved(Event::Finish {
             tenant,
