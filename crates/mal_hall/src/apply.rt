@@ -13,7 +13,7 @@ ghost use Rattle.spec_job.specs.KeyedJob.{Key};
 use crate::hall::Hall;
 use crate::lodging::back_of;
 use mal_base::{ApplyFault, Ask, Name, OpenFault, Outcome, ReviseFault};
-use mal_history::{Event, Share};
+use mal_history::{Event, Shares};
 use mal_learn::Scratch;
 use mal_revision::Revision;
 
@@ -66,7 +66,7 @@ impl Hall {
                 Some(revision) => self.enter_revise(tenant, job, *number, revision),
             },
             Event::Close { tenant, job } => self.enter_close(tenant, job),
-            Event::Balance { volumes } => self.enter_balance(volumes.as_slice()),
+            Event::Balance { volumes } => self.enter_balance(volumes),
             Event::Start {
                 tenant,
                 job,
@@ -139,7 +139,7 @@ impl Hall {
     }
 
     /// Enters a balancing that lists these volumes.
-    fn enter_balance(&mut self, volumes: &[Share]) -> Result<(), ApplyFault>
+    fn enter_balance(&mut self, volumes: &Shares) -> Result<(), ApplyFault>
         requires { IsInside self.old }
         ensures workers { self.new.workers ≡ self.old.workers }
         ensures entered { OnOk result (HasEntered self.old.workers self.old.events (Balance volumes.now) self.new.events) }

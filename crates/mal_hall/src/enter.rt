@@ -7,7 +7,7 @@ ghost use Rattle.spec_job.specs.Viewed.{and_own};
 
 use crate::seats::Seat;
 use crate::volumes::{balance, shares, volumes};
-use mal_history::{Event, History, Shares};
+use mal_history::{Event, History};
 use std::alloc::{AllocError, Global};
 
 /// Enters a balancing with fair volumes, and leaves room for as many events as are owed.
@@ -28,9 +28,7 @@ pub fn enter_balance(
     let volumes = volumes(alloc, seats, history.workers())?;
     let shares = shares(alloc, seats, volumes.as_slice())?;
     history.reserve(owed + 1)?;
-    history.push_reserved(Event::Balance {
-        volumes: Shares::of(shares),
-    });
+    history.push_reserved(Event::Balance { volumes: shares });
     balance(seats, volumes.as_slice());
     Ok(())
 }

@@ -35,7 +35,7 @@ use crate::scheduler::{Candidate, pick};
 use crate::seats::{Seat, first_exchange, is_answered, is_done, is_due, jobs_of, place_of};
 use crate::spots::{Spot, count_out, no_spots, owed, spot_of};
 use mal_base::{Ask, CloseFault, Name, OpenFault, Outcome, PickFault, ReplyFault, ReviseFault};
-use mal_history::{Event, History, Share};
+use mal_history::{Event, History, Shares};
 use mal_learn::Scratch;
 use mal_revision::Revision;
 use mal_suspend::{Done, Lease};
@@ -582,7 +582,7 @@ impl Hall {
     }
 
     /// Whether the last event is a balancing that lists these volumes.
-    pub(crate) fn has_listed(&self, volumes: &[Share]) -> bool
+    pub(crate) fn has_listed(&self, volumes: &Shares) -> bool
         ensures { IsTrue result ↔ (listed_last (map bare self.now.events) ≡ Some volumes.now) }
     {
         match self.history.events().last() {

@@ -3,13 +3,15 @@
 ghost use Rattle.std.specs.Prelude.{◌≡◌, ◌↔◌, IfOk, IsTrue, None, Some, replicate};
 ghost use Rattle.mal_hall.specs.Applied.{IsBackOf, listed_in};
 ghost use Rattle.mal_base.specs.declared.verdict.Outcome.TheVariants.{Ran};
+ghost use Rattle.mal_history.specs.Shared.{shared};
 ghost use Rattle.spec_job.specs.Leased.{Becomes};
 
 use mal_base::Outcome;
-use mal_history::{Event, Share};
+use mal_history::{Event, Share, Shares};
 use mal_learn::Scratch;
 use mal_suspend::{Done, Lease};
 use std::alloc::{AllocError, Global};
+use std::sync::Arc;
 
 /// Room for the leases of so many workers, without a lease.
 pub fn none_lodged(alloc: Global, workers: u32) -> Result<Vec<Option<Lease>>, AllocError>
@@ -54,14 +56,14 @@ fn ran(lease: Lease, scratch: &mut Scratch) -> Result<Done, AllocError>
 }
 
 /// Whether an event is a balancing that lists these volumes.
-pub fn lists(event: &Event, volumes: &[Share]) -> bool
+pub fn lists(event: &Event, volumes: &Shares) -> bool
     ensures { IsTrue result ↔ (listed_in event.now ≡ Some volumes.now) }
 {
     match event {
         Event::Open { .. } => false,
         Event::Revise { .. } => false,
         Event::Close { .. } => false,
-        Event::Balance { volumes: listed } => are_same(listed.as_slice(), volumes),
+        Event::Balance { volumes: listed } => are_same(listed.as_slice(), volumes.as_slice()),
         Event::Start { .. } => false,
         Event::Finish { .. } => false,
         Event::Exchange { .. } => false,
@@ -69,8 +71,16 @@ pub fn lists(event: &Event, volumes: &[Share]) -> bool
 }
 
 /// Whether these are the same volumes of the same jobs in the same order.
-fn are_same(one: &[Share], other: &[Share]) -> bool
-    ensures { IsTrue result ↔ (one.now ≡ other.now) }
+fn are_same(shares: &[Arc<Share>], others: &[Arc<Share>]) -> bool
+    ensures { IsTrue result ↔ (shared shares.now ≡ shared others.now) }
 {
-    one == other
+    if shares.len() != others.len() {
+        return false;
+    }
+    for i in 0..shares.len() {
+        if !shares[i].is_same(&others[i]) {
+            return false;
+        }
+    }
+    true
 }

@@ -1,6 +1,6 @@
 //! The jobs of a hall in their seats, by opening.
 
-ghost use Rattle.std.specs.Prelude.{◌≡◌, ◌↔◌, ◌+◌, ◌<◌, ◌≤◌, true, not, IfOk, IsTrue, OnOk, OnErr, length};
+ghost use Rattle.std.specs.Prelude.{◌≡◌, ◌↔◌, ◌+◌, ◌<◌, ◌≤◌, [], ◌∷◌, ◌++◌, true, not, IfOk, IsTrue, OnOk, OnErr, length};
 ghost use Rattle.std.specs.List.{list_all};
 ghost use Rattle.mal_base.specs.Asks.{IsAsk};
 ghost use Rattle.mal_job.specs.Finishing.{outcome_of, MayFinish};
@@ -13,27 +13,34 @@ ghost use Rattle.spec_hall.specs.Own.{is_key};
 ghost use Rattle.spec_hall.specs.Seats as spec;
 
 use mal_base::{Ask, Name};
-use mal_history::Share;
+use mal_history::{Share, Shares};
 use mal_job::Job;
 use mal_revision::Revision;
 use mal_suspend::{Done, Lease};
 use std::alloc::{AllocError, Global};
 use std::marker::Model;
+use std::sync::Arc;
 
-/// A job of a hall, with whether the last balancing listed it and the ask that it had then.
+/// A job of a hall, with whether the last balancing listed it and the ask that it had then. The share without a volume, which
+/// most balancings list of it, is made once.
 #[derive(Drop)]
 pub struct Seat {
     job: Job,
     listed: bool,
     noted: Ask,
+    none: Arc<Share>,
 }
 
 impl Model for Seat {
-    ghost use Rattle.spec_hall.specs.Seats.{Seat};
+    ghost use Rattle.std.specs.Prelude.{◌≡◌};
+    ghost use Rattle.std.specs.Arc.{arc_value};
+    ghost use Rattle.spec_hall.specs.Seats.{Seat, share_of};
 
     ghost Value = { Seat };
 
     ghost view = { λ s. record { job = s.job; listed = s.listed; noted = s.noted } };
+
+    ghost invariant = { λ s. arc_value s.none ≡ share_of 0 (record { job = s.job; listed = s.listed; noted = s.noted }) };
 }
 
 impl Seat {
@@ -47,10 +54,16 @@ impl Seat {
     ) -> Result<Seat, AllocError>
         ensures { IfOk result (λ s. s ≡ spec.opened_seat number (keyed tenant name) ask) }
     {
+        let none = Share {
+            tenant,
+            job: name,
+            volume: 0,
+        };
         Ok(Seat {
             job: Job::fresh(alloc, number, tenant, name, ask)?,
             listed: false,
             noted: ask,
+            none: Arc::new(alloc, none)?,
         })
     }
 
@@ -94,15 +107,18 @@ impl Seat {
         !(self.listed && are_alike(self.job.ask(), self.noted))
     }
 
-    /// What a balancing notes of the job that gives it this volume.
-    pub fn share(&self, volume: u32) -> Share
-        ensures { result ≡ spec.share_of volume self.now }
+    /// Puts what a balancing notes of the job that gives it this volume behind the shares of others.
+    pub fn note_share(&self, volume: u32, shares: &mut Shares) -> Result<(), AllocError>
+        ensures { OnOk result (shares.new ≡ shares.old ++ spec.share_of volume self.now ∷ []) }
     {
-        Share {
+        if volume == 0 {
+            return shares.push_shared(&self.none);
+        }
+        shares.push(Share {
             tenant: self.job.tenant(),
             job: self.job.name(),
             volume,
-        }
+        })
     }
 
     /// Posts the job's next revision. After want of memory the job is as before.

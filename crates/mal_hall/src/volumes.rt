@@ -9,7 +9,7 @@ ghost use Rattle.spec_hall.specs.States.{live_asks};
 use crate::seats::Seat;
 use mal_balance::fair;
 use mal_base::Ask;
-use mal_history::Share;
+use mal_history::Shares;
 use std::alloc::{AllocError, Global};
 
 /// What the live jobs ask for, by opening.
@@ -17,6 +17,7 @@ fn asks_of_live(alloc: Global, seats: &[Seat]) -> Result<Vec<Ask>, AllocError>
     ensures { IfOk result (λ v. v.items ≡ live_asks (jobs_in seats.now)) }
 {
     let mut asks = Vec::new(alloc);
+    asks.reserve(seats.len())?;
     for seat in seats {
         if seat.is_live() {
             asks.push(seat.ask())?;
@@ -48,14 +49,15 @@ fn volume_of(volumes: &[u32], n: usize) -> u32
 }
 
 /// What a balancing notes of the live jobs that gives them these volumes, by opening.
-pub fn shares(alloc: Global, seats: &[Seat], volumes: &[u32]) -> Result<Vec<Share>, AllocError>
-    ensures { IfOk result (λ v. v.items ≡ shares_by volumes.now seats.now) }
+pub fn shares(alloc: Global, seats: &[Seat], volumes: &[u32]) -> Result<Shares, AllocError>
+    ensures { IfOk result (λ v. v ≡ shares_by volumes.now seats.now) }
 {
-    let mut shares = Vec::new(alloc);
+    let mut shares = Shares::new(alloc);
+    shares.reserve(volumes.len())?;
     let mut live = 0;
     for seat in seats {
         if seat.is_live() {
-            shares.push(seat.share(volume_of(volumes, live)))?;
+            seat.note_share(volume_of(volumes, live), &mut shares)?;
             live += 1;
         }
     }

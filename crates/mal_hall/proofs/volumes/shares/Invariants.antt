@@ -4,6 +4,6 @@ use Rattle.mal_hall.proofs.volumes.shares.Given as goal
 
 abbrev pub invariant-loop-seat : goal.invariant-loop-seat
 invariant-loop-seat l = record {
-  shares : l.shares.items ++ shares_from l.live l.volumes (drop l.seat-index l.seats) ≡ shares_by l.volumes l.seats;
+  shares : l.shares ++ shares_from l.live l.volumes (drop l.seat-index l.seats) ≡ shares_by l.volumes l.seats;
   bound : l.live ≤ l.seat-index;
 }
