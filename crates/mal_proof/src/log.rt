@@ -114,7 +114,7 @@ impl Log {
 
     /// Puts lines behind the others as a chunk of their own, for which there is room: they are moved. With those before them
     /// they have numbers of derived clauses, each once and above all its hints, so that proofs can be trimmed of them. No room
-    /// is left for further single lines. Takes no memory.
+    /// is left for further single lines. A chunk without lines keeps no room. Takes no memory.
     pub fn append_chunk(&mut self, lines: Lines)
         requires room { 1 ≤ self.old.chunk_room }
         requires countable { length self.old.lines + length lines.lines < 2 ^ 64 }
@@ -123,6 +123,7 @@ impl Log {
         ensures less { self.new.chunk_room + 1 ≡ self.old.chunk_room }
     {
         self.count += lines.count();
+        let lines = kept(*self.full.allocator(), lines);
         self.full.push_reserved(mem::replace(&mut self.last, lines));
         self.room = 0;
         self.number_room = 0;
@@ -203,4 +204,14 @@ impl Log {
         lend_all(&mut lines, &self.last)?;
         Ok(lines)
     }
+}
+
+/// These lines; where there is none, without the room that they have. Takes no memory.
+fn kept(alloc: Global, lines: Lines) -> Lines
+    ensures { result.lines ≡ lines.lines }
+{
+    if lines.count() == 0 {
+        return Lines::new(alloc);
+    }
+    lines
 }
