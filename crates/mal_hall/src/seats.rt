@@ -143,9 +143,30 @@ impl Seat {
         requires { volume ≤ 64 }
         ensures { self.new ≡ spec.balanced_seat volume self.old }
     {
-        self.listed = self.job.is_live();
+        let is_live = self.job.is_live();
+        let volume = if is_live { volume } else { 0 };
+        if self.is_noted(is_live, volume) {
+            return;
+        }
+        self.listed = is_live;
         self.noted = self.job.ask();
-        self.job.set_volume(if self.listed { volume } else { 0 });
+        self.job.set_volume(volume);
+    }
+
+    /// Whether the last balancing listed the job so, with what it asks for now, and its volume is this one: nothing of it has to
+    /// be written again.
+    fn is_noted(&self, listed: bool, volume: u32) -> bool
+        ensures listed { IsTrue result → self.now.listed ≡ listed }
+        ensures noted { IsTrue result → self.now.noted ≡ self.now.job.titled.state.ask }
+        ensures volume { IsTrue result → self.now.job.titled.state.volume ≡ volume }
+    {
+        if self.listed != listed {
+            return false;
+        }
+        if self.job.volume() != volume {
+            return false;
+        }
+        are_same(self.noted, self.job.ask())
     }
 
     /// How many of the job's nodes may run at a time.
@@ -221,6 +242,13 @@ fn are_alike(one: Ask, other: Ask) -> bool
     ensures { result ≡ spec.asks_alike one other }
 {
     one.priority() == other.priority() && one.demand() == other.demand()
+}
+
+/// Whether two asks are the same.
+fn are_same(one: Ask, other: Ask) -> bool
+    ensures { IsTrue result → one ≡ other }
+{
+    are_alike(one, other) && one.slices() == other.slices()
 }
 
 /// The place of the job with this key.
