@@ -29,6 +29,20 @@ fn a_history_is_read_and_written_again(rt: HostRuntime) -> Result<(), Fail> {
 }
 
 #[test]
+fn balancings_that_share_volumes_are_read(rt: HostRuntime) -> Result<(), Fail> {
+    let alloc = rt.alloc();
+    let text =
+        b"h mal 1 2\nb a p 1 a q 1 b p 0 b q 0\nb a q 1 b p 1 b q 0\nc a p\nb b p 1 c p 1 b q 0\nb\nb b p 1\n";
+    match read(alloc, text) {
+        Err(_) => Err("no history".into()),
+        Ok(history) => {
+            assert_eq!(rt; write(alloc, &history)?.as_slice(), text.as_slice());
+            Ok(())
+        }
+    }
+}
+
+#[test]
 fn first_faults_are_told_with_their_lines(rt: HostRuntime) -> Result<(), Fail> {
     let alloc = rt.alloc();
     let cases: [(&[u8], HistoryFault); 6] = [
