@@ -21,8 +21,8 @@ use std::alloc::{AllocError, Global};
 use std::marker::Model;
 use std::sync::Arc;
 
-/// A job of a hall, with whether the last balancing listed it and the ask that it had then. The share without a volume, which
-/// most balancings list of it, is made once.
+/// A job of a hall, with whether the last balancing listed it and the ask that it had then. The share without a volume,
+/// which most balancings list of it, is made once.
 #[derive(Drop)]
 pub struct Seat {
     job: Job,
@@ -153,8 +153,8 @@ impl Seat {
         self.job.set_volume(volume);
     }
 
-    /// Whether the last balancing listed the job so, with what it asks for now, and its volume is this one: nothing of it has to
-    /// be written again.
+    /// Whether the last balancing listed the job so, with what it asks for now, and its volume is this one: nothing of it
+    /// has to be written again.
     fn is_noted(&self, listed: bool, volume: u32) -> bool
         ensures listed { IsTrue result → self.now.listed ≡ listed }
         ensures noted { IsTrue result → self.now.noted ≡ self.now.job.titled.state.ask }

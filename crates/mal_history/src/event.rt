@@ -26,8 +26,8 @@ impl Share {
     }
 }
 
-/// The volumes of a balancing, of each live job by opening. A volume may be shared with other balancings. Contracts see the
-/// list.
+/// The volumes of a balancing, of each live job by opening. A volume may be shared with other balancings. Contracts see
+/// the list.
 #[derive(Debug, Drop)]
 pub struct Shares {
     items: Vec<Arc<Share>>,

@@ -247,8 +247,8 @@ fn last_shares(events: &[Event]) -> &[Arc<Share>] {
     &[]
 }
 
-/// A balancing, of the names and the volumes of jobs. Volumes out of range count where all names are names. What an earlier
-/// balancing lists alike is shared with it.
+/// A balancing, of the names and the volumes of jobs. Volumes out of range count where all names are names. What an
+/// earlier balancing lists alike is shared with it.
 fn read_balance(alloc: Global, line: &[u8], earlier: &[Arc<Share>]) -> Result<Event, EventFault>
     ensures { Gives result (balanced (words_of line.now)) }
 {
@@ -281,8 +281,8 @@ fn read_balance(alloc: Global, line: &[u8], earlier: &[Arc<Share>]) -> Result<Ev
     }
 }
 
-/// Puts a volume behind the others, shared with an earlier one where one that is alike stands at this place or near behind it.
-/// Answers the place from which on the next one is looked for.
+/// Puts a volume behind the others, shared with an earlier one where one that is alike stands at this place or near
+/// behind it. Answers the place from which on the next one is looked for.
 fn put_share(
     shares: &mut Shares,
     share: &Share,
