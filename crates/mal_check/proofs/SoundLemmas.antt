@@ -12,7 +12,7 @@ use Rattle.spec_logic.proofs.DerivationLemmas.{derived-entailed}
 use Rattle.spec_logic.proofs.RefutationLemmas.{satisfied-at}
 use Rattle.mal_check.specs.declared.held.Place.{Place}
 use Rattle.mal_check.specs.declared.held.Place.TheVariants.{Original, Added}
-use Rattle.mal_check.specs.Places.{clause_at, place_of}
+use Rattle.mal_check.specs.Places.{clause_at, place_in}
 use Rattle.mal_check.specs.Checked.{Checked, held, IsSound}
 
 all-satisfied : (a : List Bool) (originals added : List (Option (List ℕ))) → All (Entails originals) added → satisfies a originals ≡ true → satisfies a added ≡ true
@@ -21,7 +21,7 @@ all-satisfied a originals (c ∷ cs) h s = and_from (satisfies_clause a c) (sati
 
 -- each clause held is entailed by the originals
 pub held-entailed : (c : Checked) → IsSound c → IsEntailed c.originals (held c)
-held-entailed c h id clause e a s = by_place (place_of c.ids id) e
+held-entailed c h id clause e a s = by_place (place_in c.ids id) e
   where
     by_place : (o : Option Place) → option_and_then (clause_at c.originals c.added) o ≡ Some clause → satisfies_clause a clause ≡ true
     by_place None k = absurd (cc)

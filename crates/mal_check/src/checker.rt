@@ -9,6 +9,7 @@ ghost use Rattle.spec_logic.specs.Derivation.{propagation, derivation};
 ghost use Rattle.spec_logic.specs.Refutation.{ProofLine, numbered, with_clause, without, after_line, added_in, refusal, contradicts};
 ghost use Rattle.spec_logic.specs.Refutation.ProofLine.{Add, Delete};
 ghost use Rattle.mal_check.specs.Checked.{held, IsSound};
+ghost use Rattle.mal_check.specs.Places.{no_places};
 ghost use Rattle.mal_check.specs.CheckAnswers.{Ends, Answers};
 
 use crate::assumed::has_contradiction;
@@ -44,7 +45,7 @@ impl Model for Checker {
 impl Checker {
     /// A checker without clauses. Takes no memory.
     pub fn new(alloc: Global) -> Checker
-        ensures { result ≡ record { originals = []; added = []; ids = [] } }
+        ensures { result ≡ record { originals = []; added = []; ids = no_places } }
     {
         Checker {
             clauses: Clauses::new(alloc),

@@ -4,12 +4,12 @@ ghost use Rattle.std.specs.Prelude.{◌≡◌, ℕ, ◌∷◌, ◌++◌, ◌==�
 ghost use Rattle.std.specs.List.{list_any};
 ghost use Rattle.std.specs.Option.{option_map};
 ghost use Rattle.spec_logic.specs.Refutation.{with_clause, without};
-ghost use Rattle.mal_check.specs.Places.{clause_at, place_of};
+ghost use Rattle.mal_check.specs.Places.{clause_at, place_in, no_places};
 ghost use Rattle.mal_check.specs.Checked.{held};
 
+use crate::places::PlaceTable;
 use mal_base::{Clause, ClauseId};
 use std::alloc::{AllocError, Global};
-use std::collections::BTreeMap;
 use std::marker::Model;
 
 /// Where a clause lies: among the originals, or among the added ones, by its place from 0 on.
@@ -24,7 +24,7 @@ pub enum Place {
 pub struct Clauses {
     originals: Vec<Option<Clause>>,
     added: Vec<Option<Clause>>,
-    ids: BTreeMap<u64, Place>,
+    ids: PlaceTable,
 }
 
 impl Model for Clauses {
@@ -33,20 +33,20 @@ impl Model for Clauses {
 
     ghost Value = { Checked };
 
-    ghost view = { λ c. record { originals = c.originals.items; added = c.added.items; ids = c.ids.entries } };
+    ghost view = { λ c. record { originals = c.originals.items; added = c.added.items; ids = c.ids } };
 
-    ghost invariant = { λ c. HavePlaces c.originals.items c.added.items c.ids.entries };
+    ghost invariant = { λ c. HavePlaces c.originals.items c.added.items c.ids };
 }
 
 impl Clauses {
     /// No clauses. Takes no memory.
     pub fn new(alloc: Global) -> Clauses
-        ensures { result ≡ record { originals = []; added = []; ids = [] } }
+        ensures { result ≡ record { originals = []; added = []; ids = no_places } }
     {
         Clauses {
             originals: Vec::new(alloc),
             added: Vec::new(alloc),
-            ids: BTreeMap::new(alloc),
+            ids: PlaceTable::new(alloc),
         }
     }
 
@@ -54,9 +54,9 @@ impl Clauses {
     pub fn get(&self, id: ClauseId) -> Option<&Option<Clause>>
         ensures { option_map (λ c. c.now) result ≡ held self.now id }
     {
-        match self.ids.get(&id.number()) {
+        match self.ids.get(id) {
             None => None,
-            Some(place) => clause_at(self.originals.as_slice(), self.added.as_slice(), *place),
+            Some(place) => clause_at(self.originals.as_slice(), self.added.as_slice(), place),
         }
     }
 
@@ -68,9 +68,10 @@ impl Clauses {
         ensures held { OnOk result (held self.new ≡ with_clause (held self.old) id clause) }
         ensures err { OnErr result (self.new ≡ self.old) }
     {
+        let bound = self.bound();
         self.originals.reserve(1)?;
         let place = Place::Original(self.originals.len());
-        self.ids.insert(id.number(), place)?;
+        self.ids.put(id, place, bound)?;
         self.originals.push_reserved(clause);
         Ok(())
     }
@@ -83,9 +84,10 @@ impl Clauses {
         ensures held { OnOk result (held self.new ≡ with_clause (held self.old) id clause) }
         ensures err { OnErr result (self.new ≡ self.old) }
     {
+        let bound = self.bound();
         self.added.reserve(1)?;
         let place = Place::Added(self.added.len());
-        self.ids.insert(id.number(), place)?;
+        self.ids.put(id, place, bound)?;
         self.added.push_reserved(clause);
         Ok(())
     }
@@ -97,6 +99,12 @@ impl Clauses {
         ensures held { held self.new ≡ without (held self.old) ids.now }
     {
         forget(&mut self.ids, ids);
+    }
+
+    /// Twice as many as there are clauses, and a few. The places of numbers below it take no more room than the clauses.
+    fn bound(&self) -> usize {
+        let count = self.originals.len().saturating_add(self.added.len());
+        count.saturating_mul(2).saturating_add(64)
     }
 
     /// The added clauses, in the order of their lines; None stands for a tautology.
@@ -122,10 +130,10 @@ fn clause_at<'a>(
 }
 
 /// Takes these ids away.
-fn forget(places: &mut BTreeMap<u64, Place>, ids: &[ClauseId])
-    ensures { (id : ℕ) → place_of places.new.entries id ≡ (if list_any (λ i. i == id) ids.now then None else place_of places.old.entries id) }
+fn forget(places: &mut PlaceTable, ids: &[ClauseId])
+    ensures { (id : ℕ) → place_in places.new id ≡ (if list_any (λ i. i == id) ids.now then None else place_in places.old id) }
 {
     for id in ids {
-        places.remove(&id.number());
+        places.remove(*id);
     }
 }

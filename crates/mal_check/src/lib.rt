@@ -6,6 +6,7 @@ mod checker;
 mod effect;
 mod fault;
 mod held;
+mod places;
 mod trues;
 
 pub use checker::Checker;

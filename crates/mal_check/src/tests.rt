@@ -126,3 +126,22 @@ fn the_clauses_of_a_formula_carry_1_2_and_so_on(rt: HostRuntime) -> Result<(), F
     assert!(rt; checker.goal(&[]));
     Ok(())
 }
+
+#[test]
+fn numbers_far_apart_are_held(rt: HostRuntime) -> Result<(), Fail> {
+    let alloc = rt.alloc();
+    let mut checker = four(alloc)?;
+    assert_eq!(rt; answer(alloc, &mut checker, b"5000000000 1 0 1 2 0")?, None);
+    assert_eq!(rt; answer(alloc, &mut checker, b"70 -1 0 3 4 0")?, None);
+    let used = CheckFault::IdUsed {
+        id: id(5_000_000_000)?,
+    };
+    let again = answer(alloc, &mut checker, b"5000000000 2 0 1 2 0")?;
+    assert_eq!(rt; again, Some(used));
+    assert_eq!(rt; answer(alloc, &mut checker, b"75 0 5000000000 70 0")?, None);
+    assert!(rt; checker.goal(&[]));
+    assert_eq!(rt; answer(alloc, &mut checker, b"1 d 5000000000 70 0")?, None);
+    let unknown = CheckFault::UnknownHint { id: id(70)? };
+    assert_eq!(rt; answer(alloc, &mut checker, b"76 0 70 0")?, Some(unknown));
+    Ok(())
+}
