@@ -1,9 +1,10 @@
-use Rattle.std.proofs.Common.{◌≡◌, ℕ, zero, suc, ◌+◌, ◌<◌, ◌≤◌, List, [], ◌∷◌, ◌++◌, length, take, drop, set, get_or, Some, refl, ap, ◌∙◌, arith}
+use Rattle.std.proofs.Common.{◌≡◌, ℕ, true, zero, suc, ◌+◌, ◌<◌, ◌≤◌, List, [], ◌∷◌, ◌++◌, length, take, drop, set, get_or, Some, refl, ap, ◌∙◌, arith}
 use Rattle.std.specs.List.{slice_get}
 use Rattle.std.proofs.lemmas.List.{length-append, length-map, take-append-le, take_all, drop_at, map-append}
 use Rattle.mal_base.specs.NumberedClause.{NumberedClause}
 use Rattle.mal_watch.specs.declared.clause_arena.Row.{Row}
-use Rattle.mal_watch.specs.Rowed.{clause_in, clauses_in, AreRows}
+use Rattle.mal_watch.specs.declared.clause_arena.Three.{Three}
+use Rattle.mal_watch.specs.Rowed.{clause_in, clauses_in, AreRows, AreThrees}
 
 pub rows-at : (count : ℕ) (rs : List Row) (k : ℕ) (d : Row) → AreRows count rs → k < length rs → (get_or rs k d).start + (get_or rs k d).len ≤ count
 rows-at count [] k d w l = absurd (omega arith)
@@ -62,3 +63,23 @@ pub within-hint : (count : ℕ) (rs : List Row) (k hint : ℕ) (r : Row) → k <
 within-hint count [] k hint r l e w = absurd (omega arith)
 within-hint count (x ∷ xs) zero hint r l e w = rw e w
 within-hint count (x ∷ xs) (suc k) hint r l e w = (w.0, within-hint count xs k hint r (omega arith) e w.1)
+
+-- what is kept of clauses of three
+pub threes-length : (ts : List Three) (cs : List NumberedClause) → AreThrees ts cs → length ts ≡ length cs
+threes-length [] [] w = refl
+threes-length [] (c ∷ cs) w = absurd w
+threes-length (t ∷ ts) [] w = absurd w
+threes-length (t ∷ ts) (c ∷ cs) w = ap suc (threes-length ts cs w.1)
+
+pub threes-at : (ts : List Three) (cs : List NumberedClause) (k : ℕ) (t : Three) (c : NumberedClause) → AreThrees ts cs → k < length cs → (get_or ts k t).is_whole ≡ true → (get_or cs k c).lits ≡ (get_or ts k t).lits
+threes-at [] [] k t c w l e = absurd (omega arith)
+threes-at [] (d ∷ ds) k t c w l e = absurd w
+threes-at (u ∷ us) [] k t c w l e = absurd w
+threes-at (u ∷ us) (d ∷ ds) zero t c w l e = w.0 e
+threes-at (u ∷ us) (d ∷ ds) (suc k) t c w l e = threes-at us ds k t c w.1 (omega arith) e
+
+pub threes-push : (ts : List Three) (cs : List NumberedClause) (t : Three) (c : NumberedClause) → AreThrees ts cs → (t.is_whole ≡ true → c.lits ≡ t.lits) → AreThrees (ts ++ t ∷ []) (cs ++ c ∷ [])
+threes-push [] [] t c w e = (e, tt)
+threes-push [] (d ∷ ds) t c w e = absurd w
+threes-push (u ∷ us) [] t c w e = absurd w
+threes-push (u ∷ us) (d ∷ ds) t c w e = (w.0, threes-push us ds t c w.1 e)

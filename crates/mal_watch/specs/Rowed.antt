@@ -1,6 +1,7 @@
-use Rattle.std.specs.Prelude.{ℕ, ◌+◌, ◌≤◌, List, [], ◌∷◌, take, drop, map}
+use Rattle.std.specs.Prelude.{◌≡◌, ℕ, ◌+◌, ◌≤◌, true, List, [], ◌∷◌, take, drop, map}
 use Rattle.mal_base.specs.NumberedClause.{NumberedClause}
 use Rattle.mal_watch.specs.declared.clause_arena.Row.{Row}
+use Rattle.mal_watch.specs.declared.clause_arena.Three.{Three}
 
 -- clauses in the order in which they came, and how many clauses and literals there is room for
 pub record Rowed : Type 0 where
@@ -20,3 +21,10 @@ clauses_in literals rows = map (clause_in literals) rows
 abbrev pub AreRows : ℕ → List Row → Type 0
 AreRows count [] = Unit {0}
 AreRows count (r ∷ rs) = (r.start + r.len ≤ count) × AreRows count rs
+
+-- the three literals that are kept of each clause are all of it, where they are whole
+abbrev pub AreThrees : List Three → List NumberedClause → Type 0
+AreThrees [] [] = Unit {0}
+AreThrees [] (c ∷ cs) = ⊥
+AreThrees (t ∷ ts) [] = ⊥
+AreThrees (t ∷ ts) (c ∷ cs) = (t.is_whole ≡ true → c.lits ≡ t.lits) × AreThrees ts cs

@@ -1,6 +1,7 @@
 //! The watched clauses, in the order in which they came.
 
-ghost use Rattle.std.specs.Prelude.{◌≡◌, ◌+◌, ◌≤◌, ◌<◌, [], ◌∷◌, ◌++◌, length, take, drop, slice_get, Some, OnOk, vec_len, vec_capacity};
+ghost use Rattle.std.specs.Prelude.{◌≡◌, ◌+◌, ◌≤◌, ◌<◌, true, [], ◌∷◌, ◌++◌, length, take, drop, slice_index_or, OnOk, vec_len, vec_capacity};
+ghost use Rattle.mal_watch.specs.Watching.{no_row};
 
 use mal_base::{ClauseId, Lit};
 use std::alloc::{AllocError, Global};
@@ -16,28 +17,37 @@ struct Row {
     hint: usize,
 }
 
-/// Clauses in the order in which they came, their literals side by side. Contracts see them, and how many clauses and
-/// literals there is room for. Where a search in a clause begins is kept beside it, and no contract speaks of it.
+/// Three literals: those of a clause, where it is one of three. Then its row and the list of all literals are not read.
+#[derive(Clone, Copy)]
+struct Three {
+    lits: [Lit; 3],
+    is_whole: bool,
+}
+
+/// Clauses in the order in which they came, their literals side by side, and those of clauses of three once more apart from
+/// the others. Contracts see them, and how many clauses and literals there is room for. Where a search in a clause begins is
+/// kept beside it, and no contract speaks of it.
 #[derive(Drop)]
 pub struct ClauseArena {
     rows: Vec<Row>,
+    threes: Vec<Three>,
     literals: Vec<Lit>,
 }
 
 impl Model for ClauseArena {
-    ghost use Rattle.std.specs.Prelude.{◌-◌, length};
+    ghost use Rattle.std.specs.Prelude.{◌-◌, length, min};
     ghost use Rattle.std.specs.Vec.{vec_len, vec_capacity};
-    ghost use Rattle.mal_watch.specs.Rowed.{Rowed, AreRows, clauses_in};
+    ghost use Rattle.mal_watch.specs.Rowed.{Rowed, AreRows, AreThrees, clauses_in};
 
     ghost Value = { Rowed };
 
     ghost view = { λ s. record {
       clauses = clauses_in s.literals.items s.rows.items;
-      clause_room = vec_capacity s.rows - vec_len s.rows;
+      clause_room = min (vec_capacity s.rows - vec_len s.rows) (vec_capacity s.threes - vec_len s.threes);
       literal_room = vec_capacity s.literals - vec_len s.literals;
     } };
 
-    ghost invariant = { λ s. AreRows (length s.literals.items) s.rows.items };
+    ghost invariant = { λ s. AreRows (length s.literals.items) s.rows.items × AreThrees s.threes.items (clauses_in s.literals.items s.rows.items) };
 }
 
 impl ClauseArena {
@@ -47,6 +57,7 @@ impl ClauseArena {
     {
         ClauseArena {
             rows: Vec::new(alloc),
+            threes: Vec::new(alloc),
             literals: Vec::new(alloc),
         }
     }
@@ -60,6 +71,7 @@ impl ClauseArena {
         ensures more_literals { self.old.literal_room ≤ self.new.literal_room }
     {
         self.rows.reserve(clauses)?;
+        self.threes.reserve(clauses)?;
         self.literals.reserve(literals)?;
         Ok(())
     }
@@ -86,30 +98,65 @@ impl ClauseArena {
             hint: 0,
         });
         append_reserved(&mut self.literals, lits);
+        self.threes.push_reserved(three_of(lits));
     }
 
-    /// The clause at a place, counted from 0: its number and its literals.
-    pub fn at(&self, place: usize) -> (ClauseId, &[Lit])
+    /// The number of the clause at a place, counted from 0.
+    pub fn id(&self, place: usize) -> ClauseId
         requires { place < length self.now.clauses }
-        ensures { slice_get self.now.clauses place ≡ Some (record { id = result.0; lits = result.1.now }) }
+        ensures { result ≡ (slice_index_or self.now.clauses place no_row).id }
     {
-        let row = self.rows[place];
-        (row.id, part(self.literals.as_slice(), row.start, row.len))
+        self.rows[place].id
     }
 
-    /// At which of its literals a search in the clause at a place begins, as it was kept last.
+    /// The literals of the clause at a place, counted from 0.
+    pub fn lits(&self, place: usize) -> &[Lit]
+        requires { place < length self.now.clauses }
+        ensures { result.now ≡ (slice_index_or self.now.clauses place no_row).lits }
+    {
+        let three = &self.threes[place];
+        if three.is_whole {
+            return &three.lits;
+        }
+        let row = self.rows[place];
+        part(self.literals.as_slice(), row.start, row.len)
+    }
+
+    /// At which of its literals a search in the clause at a place begins, as it was kept last; the first of a clause of three.
     pub fn hint(&self, place: usize) -> usize
         requires { place < length self.now.clauses }
     {
+        if self.threes[place].is_whole {
+            return 0;
+        }
         self.rows[place].hint
     }
 
-    /// Keeps at which of its literals the next search in the clause at a place begins.
+    /// Keeps at which of its literals the next search in the clause at a place begins. Nothing is kept of a clause of three.
     pub fn keep_hint(&mut self, place: usize, hint: usize)
         requires { place < length self.old.clauses }
         ensures { self.new ≡ self.old }
     {
+        if self.threes[place].is_whole {
+            return;
+        }
         self.rows[place].hint = hint;
+    }
+}
+
+/// The literals of a clause, where they are three.
+fn three_of(lits: &[Lit]) -> Three
+    ensures { result.is_whole ≡ true → lits.now ≡ result.lits }
+{
+    match lits {
+        [first, second, third] => Three {
+            lits: [*first, *second, *third],
+            is_whole: true,
+        },
+        _ => Three {
+            lits: [Lit::default(); 3],
+            is_whole: false,
+        },
     }
 }
 

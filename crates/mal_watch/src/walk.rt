@@ -85,7 +85,7 @@ fn seek(
     ensures capacity { vec_capacity found.new ≡ vec_capacity found.old }
 {
     let row = node / 2;
-    let (id, lits) = rows.at(row);
+    let lits = rows.lits(row);
     let other = chains.key(partner(node));
     match to_watch(trail, count, lits, other, rows.hint(row)) {
         Some(place) => {
@@ -95,7 +95,10 @@ fn seek(
         None => {
             chains.put(node, lit);
             if !trail.is_false_before(count, other) && !trail.is_true(other) {
-                found.push_reserved(Found { id, lit: other });
+                found.push_reserved(Found {
+                    id: rows.id(row),
+                    lit: other,
+                });
             }
         }
     }
