@@ -1,7 +1,8 @@
-use Rattle.std.specs.Prelude.{◌≡◌, ℕ, ◌+◌, ◌≤◌, true, List, [], ◌∷◌, take, drop, map}
+use Rattle.std.specs.Prelude.{ℕ, ◌+◌, ◌≤◌, List, [], ◌∷◌, take, drop, map}
 use Rattle.mal_base.specs.NumberedClause.{NumberedClause}
 use Rattle.mal_watch.specs.declared.clause_arena.Row.{Row}
-use Rattle.mal_watch.specs.declared.clause_arena.Three.{Three}
+use Rattle.mal_watch.specs.declared.clause_arena.Body.{Body}
+use Rattle.mal_watch.specs.declared.clause_arena.Body.TheVariants.{Three, Listed}
 
 -- clauses in the order in which they came, and how many clauses and literals there is room for
 pub record Rowed : Type 0 where
@@ -9,22 +10,25 @@ pub record Rowed : Type 0 where
   pub clause_room : ℕ
   pub literal_room : ℕ
 
+-- the literals of a clause: its three, or so many from a place on
+abbrev pub lits_in : List ℕ → Body → List ℕ
+lits_in literals (Three lits) = lits
+lits_in literals (Listed start len hint) = take len (drop start literals)
+
 -- the clause of a row
 abbrev pub clause_in : List ℕ → Row → NumberedClause
-clause_in literals r = record { id = r.id; lits = take r.len (drop r.start literals) }
+clause_in literals r = record { id = r.id; lits = lits_in literals r.body }
 
 -- the clauses of the rows
 abbrev pub clauses_in : List ℕ → List Row → List NumberedClause
 clauses_in literals rows = map (clause_in literals) rows
 
--- so many literals have those of each row among them
+-- so many literals have those of a clause among them
+abbrev pub IsBody : ℕ → Body → Type 0
+IsBody count (Three lits) = Unit {0}
+IsBody count (Listed start len hint) = start + len ≤ count
+
+-- and those of each row
 abbrev pub AreRows : ℕ → List Row → Type 0
 AreRows count [] = Unit {0}
-AreRows count (r ∷ rs) = (r.start + r.len ≤ count) × AreRows count rs
-
--- the three literals that are kept of each clause are all of it, where they are whole
-abbrev pub AreThrees : List Three → List NumberedClause → Type 0
-AreThrees [] [] = Unit {0}
-AreThrees [] (c ∷ cs) = ⊥
-AreThrees (t ∷ ts) [] = ⊥
-AreThrees (t ∷ ts) (c ∷ cs) = (t.is_whole ≡ true → c.lits ≡ t.lits) × AreThrees ts cs
+AreRows count (r ∷ rs) = IsBody count r.body × AreRows count rs

@@ -1,53 +1,55 @@
 //! The watched clauses, in the order in which they came.
 
-ghost use Rattle.std.specs.Prelude.{◌≡◌, ◌+◌, ◌≤◌, ◌<◌, true, [], ◌∷◌, ◌++◌, length, take, drop, slice_index_or, OnOk, vec_len, vec_capacity};
+ghost use Rattle.std.specs.Prelude.{◌≡◌, ℕ, ◌+◌, ◌≤◌, ◌<◌, List, [], ◌∷◌, ◌++◌, length, take, drop, slice_index_or, OnOk, vec_len, vec_capacity};
 ghost use Rattle.mal_watch.specs.Watching.{no_row};
+ghost use Rattle.mal_watch.specs.Rowed.{lits_in, IsBody, AreRows, clauses_in};
+ghost use Rattle.mal_watch.specs.declared.clause_arena.Row.{Row};
 
 use mal_base::{ClauseId, Lit};
 use std::alloc::{AllocError, Global};
 use std::marker::Model;
 
-/// A clause's number, where its literals stand: the place of the first, and how many there are, and at which of them a
-/// search begins.
+/// So many literals there may be in the list of all.
+const MOST: usize = 4_294_967_295;
+
+/// Where the literals of a clause stand: here, where they are three; else in the list of all, from a place on, so many, and
+/// at which of them a search begins.
+#[derive(Clone, Copy)]
+enum Body {
+    Three([Lit; 3]),
+    Listed { start: u32, len: u32, hint: u32 },
+}
+
+/// A clause: its number, and where its literals stand.
 #[derive(Clone, Copy)]
 struct Row {
     id: ClauseId,
-    start: usize,
-    len: usize,
-    hint: usize,
+    body: Body,
 }
 
-/// Three literals: those of a clause, where it is one of three. Then its row and the list of all literals are not read.
-#[derive(Clone, Copy)]
-struct Three {
-    lits: [Lit; 3],
-    is_whole: bool,
-}
-
-/// Clauses in the order in which they came, their literals side by side, and those of clauses of three once more apart from
-/// the others. Contracts see them, and how many clauses and literals there is room for. Where a search in a clause begins is
-/// kept beside it, and no contract speaks of it.
+/// Clauses in the order in which they came, the literals of those that have not three side by side. Contracts see them, and
+/// how many clauses and literals there is room for. Where a search in a clause begins is kept beside it, and no contract
+/// speaks of it.
 #[derive(Drop)]
 pub struct ClauseArena {
     rows: Vec<Row>,
-    threes: Vec<Three>,
     literals: Vec<Lit>,
 }
 
 impl Model for ClauseArena {
-    ghost use Rattle.std.specs.Prelude.{◌-◌, length, min};
+    ghost use Rattle.std.specs.Prelude.{◌-◌, ◌≤◌, length, min};
     ghost use Rattle.std.specs.Vec.{vec_len, vec_capacity};
-    ghost use Rattle.mal_watch.specs.Rowed.{Rowed, AreRows, AreThrees, clauses_in};
+    ghost use Rattle.mal_watch.specs.Rowed.{Rowed, AreRows, clauses_in};
 
     ghost Value = { Rowed };
 
     ghost view = { λ s. record {
       clauses = clauses_in s.literals.items s.rows.items;
-      clause_room = min (vec_capacity s.rows - vec_len s.rows) (vec_capacity s.threes - vec_len s.threes);
-      literal_room = vec_capacity s.literals - vec_len s.literals;
+      clause_room = vec_capacity s.rows - vec_len s.rows;
+      literal_room = min (vec_capacity s.literals - vec_len s.literals) (4294967295 - vec_len s.literals);
     } };
 
-    ghost invariant = { λ s. AreRows (length s.literals.items) s.rows.items × AreThrees s.threes.items (clauses_in s.literals.items s.rows.items) };
+    ghost invariant = { λ s. AreRows (length s.literals.items) s.rows.items × (length s.literals.items ≤ 4294967295) };
 }
 
 impl ClauseArena {
@@ -57,12 +59,11 @@ impl ClauseArena {
     {
         ClauseArena {
             rows: Vec::new(alloc),
-            threes: Vec::new(alloc),
             literals: Vec::new(alloc),
         }
     }
 
-    /// Makes room for so many clauses and literals more.
+    /// Makes room for so many clauses and literals more. There are fewer than 2^32 literals.
     pub fn reserve(&mut self, clauses: usize, literals: usize) -> Result<(), AllocError>
         ensures clauses { self.new.clauses ≡ self.old.clauses }
         ensures for_clauses { OnOk result (clauses ≤ self.new.clause_room) }
@@ -70,8 +71,10 @@ impl ClauseArena {
         ensures more_clauses { self.old.clause_room ≤ self.new.clause_room }
         ensures more_literals { self.old.literal_room ≤ self.new.literal_room }
     {
+        if MOST - self.literals.len().min(MOST) < literals {
+            return Err(AllocError);
+        }
         self.rows.reserve(clauses)?;
-        self.threes.reserve(clauses)?;
         self.literals.reserve(literals)?;
         Ok(())
     }
@@ -91,14 +94,8 @@ impl ClauseArena {
         ensures clause_room { self.old.clause_room ≤ self.new.clause_room + 1 }
         ensures literal_room { self.old.literal_room ≤ self.new.literal_room + length lits.now }
     {
-        self.rows.push_reserved(Row {
-            id,
-            start: self.literals.len(),
-            len: lits.len(),
-            hint: 0,
-        });
-        append_reserved(&mut self.literals, lits);
-        self.threes.push_reserved(three_of(lits));
+        let body = body_of(&mut self.literals, lits);
+        self.rows.push_reserved(Row { id, body });
     }
 
     /// The number of the clause at a place, counted from 0.
@@ -114,22 +111,17 @@ impl ClauseArena {
         requires { place < length self.now.clauses }
         ensures { result.now ≡ (slice_index_or self.now.clauses place no_row).lits }
     {
-        let three = &self.threes[place];
-        if three.is_whole {
-            return &three.lits;
-        }
-        let row = self.rows[place];
-        part(self.literals.as_slice(), row.start, row.len)
+        lits_of(self.literals.as_slice(), &self.rows[place].body)
     }
 
     /// At which of its literals a search in the clause at a place begins, as it was kept last; the first of a clause of three.
     pub fn hint(&self, place: usize) -> usize
         requires { place < length self.now.clauses }
     {
-        if self.threes[place].is_whole {
-            return 0;
+        match self.rows[place].body {
+            Body::Three(_) => 0,
+            Body::Listed { hint, .. } => hint as usize,
         }
-        self.rows[place].hint
     }
 
     /// Keeps at which of its literals the next search in the clause at a place begins. Nothing is kept of a clause of three.
@@ -137,25 +129,71 @@ impl ClauseArena {
         requires { place < length self.old.clauses }
         ensures { self.new ≡ self.old }
     {
-        if self.threes[place].is_whole {
-            return;
-        }
-        self.rows[place].hint = hint;
+        let row = self.rows[place];
+        self.rows[place] = with_hint(row, hint);
     }
 }
 
-/// The literals of a clause, where they are three.
-fn three_of(lits: &[Lit]) -> Three
-    ensures { result.is_whole ≡ true → lits.now ≡ result.lits }
+/// Puts the literals of a clause behind the others, unless they are three. Tells where they stand. Takes no memory.
+fn body_of(literals: &mut Vec<Lit>, lits: &[Lit]) -> Body
+    requires room { vec_len literals.old + length lits.now ≤ vec_capacity literals.old }
+    requires few { vec_len literals.old + length lits.now ≤ 4294967295 }
+    ensures lits { lits_in literals.new.items result ≡ lits.now }
+    ensures within { IsBody (length literals.new.items) result }
+    ensures rows { (rs : List Row) → AreRows (length literals.old.items) rs → AreRows (length literals.new.items) rs × (clauses_in literals.new.items rs ≡ clauses_in literals.old.items rs) }
+    ensures len { vec_len literals.new ≤ vec_len literals.old + length lits.now }
+    ensures capacity { vec_capacity literals.new ≡ vec_capacity literals.old }
 {
     match lits {
-        [first, second, third] => Three {
-            lits: [*first, *second, *third],
-            is_whole: true,
-        },
-        _ => Three {
-            lits: [Lit::default(); 3],
-            is_whole: false,
+        [first, second, third] => Body::Three([*first, *second, *third]),
+        _ => list(literals, lits),
+    }
+}
+
+/// Puts the literals of a clause behind the others. Takes no memory.
+fn list(literals: &mut Vec<Lit>, lits: &[Lit]) -> Body
+    requires room { vec_len literals.old + length lits.now ≤ vec_capacity literals.old }
+    requires few { vec_len literals.old + length lits.now ≤ 4294967295 }
+    ensures lits { lits_in literals.new.items result ≡ lits.now }
+    ensures within { IsBody (length literals.new.items) result }
+    ensures items { literals.new.items ≡ literals.old.items ++ lits.now }
+    ensures capacity { vec_capacity literals.new ≡ vec_capacity literals.old }
+{
+    let start = literals.len() as u32;
+    append_reserved(literals, lits);
+    Body::Listed {
+        start,
+        len: lits.len() as u32,
+        hint: 0,
+    }
+}
+
+/// The literals that stand there.
+fn lits_of<'a>(literals: &'a [Lit], body: &'a Body) -> &'a [Lit]
+    requires { IsBody (length literals.now) body.now }
+    ensures { result.now ≡ lits_in literals.now body.now }
+{
+    match body {
+        Body::Three(lits) => lits,
+        Body::Listed { start, len, .. } => part(literals, *start as usize, *len as usize),
+    }
+}
+
+/// The same clause, in which a search begins at this literal, unless it has three.
+fn with_hint(row: Row, hint: usize) -> Row
+    ensures id { result.id ≡ row.id }
+    ensures lits { (literals : List ℕ) → lits_in literals result.body ≡ lits_in literals row.body }
+    ensures within { (count : ℕ) → IsBody count row.body → IsBody count result.body }
+{
+    match row.body {
+        Body::Three(_) => row,
+        Body::Listed { start, len, .. } => Row {
+            id: row.id,
+            body: Body::Listed {
+                start,
+                len,
+                hint: hint.min(MOST) as u32,
+            },
         },
     }
 }
