@@ -23,6 +23,12 @@ length-set [] i x = refl
 length-set (y ∷ ys) zero x = refl
 length-set (y ∷ ys) (suc i) x = ap (λ (n : ℕ). suc n) (length-set ys i x)
 
+-- a place that is set as it was
+pub set-same : (ps : List PlaceView) (i : ℕ) (old new : PlaceView) → old ≡ get_or ps i old → new ≡ old → slice_set ps i new ≡ ps
+set-same [] i old new e f = refl
+set-same (p ∷ ps) zero old new e f = ap (λ (x : PlaceView). x ∷ ps) (f ∙ e)
+set-same (p ∷ ps) (suc i) old new e f = ap (λ (xs : List PlaceView). p ∷ xs) (set-same ps i old new e f)
+
 set-front : (ps : List PlaceView) (rest : List NodeSlot) (i : ℕ) (p : PlaceView) → i < length ps → slice_set (map place_of ps ++ rest) i (place_of p) ≡ map place_of (slice_set ps i p) ++ rest
 set-front [] rest i p low = absurd (omega arith)
 set-front (x ∷ xs) rest zero p low = refl

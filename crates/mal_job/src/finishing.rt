@@ -1,4 +1,4 @@
-//! How a start ends that came back.
+//! How a start ends that came back, and when the nodes of a job are given up.
 
 ghost use Rattle.std.specs.Prelude.{◌≡◌, ◌+◌, ◌<◌, ◌≤◌, ◌^◌, true, ◌++◌, length, is_some};
 ghost use Rattle.mal_base.specs.declared.verdict.Outcome.TheVariants.{Ran};
@@ -45,6 +45,7 @@ pub fn finish_run(
         questions.conclude(verdict, model);
     }
     questions.settle(log.empty());
+    give_up(questions, tree);
 }
 
 /// Ends a start that wanted for memory: the node comes home as it was, and unless the revision of the start has its answer, the
@@ -69,6 +70,7 @@ pub fn finish_starved(
         questions.starve();
     }
     questions.settle(log.empty());
+    give_up(questions, tree);
 }
 
 /// Ends a start that is lost: the node is gone. Takes no memory.
@@ -81,4 +83,16 @@ pub fn finish_lost(questions: &mut Questions, tree: &mut Tree, log: &Derivation,
 {
     tree.lose(index);
     questions.settle(log.empty());
+    give_up(questions, tree);
+}
+
+/// Gives the nodes of a tree up, where its job is closed and each revision has its answer, so that none of them starts again.
+/// Takes no memory.
+pub fn give_up(questions: &Questions, tree: &mut Tree)
+    ensures { tree.new ≡ tree.old }
+{
+    if !questions.is_closed() || questions.answers().len() < questions.revisions().len() {
+        return;
+    }
+    tree.give_up();
 }

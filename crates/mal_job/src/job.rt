@@ -13,7 +13,7 @@ ghost use Rattle.mal_job.specs.Finishing.{outcome_of, MayFinish};
 ghost use Rattle.mal_job.specs.Viewed.{shared};
 
 use crate::derivation::Derivation;
-use crate::finishing::{finish_lost, finish_run, finish_starved};
+use crate::finishing::{finish_lost, finish_run, finish_starved, give_up};
 use crate::loading::{count_clauses, missing_loads};
 use crate::questions::Questions;
 use crate::told::{answer_at, lits_of, negations, revision_at};
@@ -214,11 +214,12 @@ impl Job {
         self.questions.revise(revision, self.log.empty())
     }
 
-    /// Closes the job: no revision follows.
+    /// Closes the job: no revision follows. Once each has its answer the job keeps its nodes' journals alone.
     pub fn close(&mut self)
         ensures { self.new ≡ and_own self.old Closed }
     {
         self.questions.close();
+        give_up(&self.questions, &mut self.tree);
     }
 
     /// Sets how many of the job's nodes may run at a time, 64 at most.

@@ -213,6 +213,19 @@ impl NodeSlot {
         self.seat = seat_of(kept);
     }
 
+    /// Gives the node up, live or as bytes, where it is at home: from now on its journal alone is kept. A node that is out stays
+    /// out. Takes no memory.
+    pub fn give_up(&mut self)
+        ensures { self.new ≡ self.old }
+    {
+        match mem::replace(&mut self.seat, Seat::Gone) {
+            Seat::Home(_) => {}
+            Seat::Cold(_) => {}
+            Seat::Gone => {}
+            Seat::Out(revision, grown) => self.seat = Seat::Out(revision, grown),
+        }
+    }
+
     /// The node is gone: its start is lost. Takes no memory.
     pub fn lose(&mut self)
         ensures { self.new ≡ came_home self.old }

@@ -238,6 +238,13 @@ impl Tree {
         self.places[index as usize].lose();
     }
 
+    /// Gives the nodes up that are at home: from now on their journals alone are kept. Takes no memory.
+    pub fn give_up(&mut self)
+        ensures { self.new ≡ self.old }
+    {
+        give_up(&mut self.places);
+    }
+
     /// The revision of the start that is out at this index, counted from 0.
     fn revision(&self, index: u32) -> usize
         requires out { is_some (placed self.now index).out ≡ true }
@@ -270,6 +277,15 @@ impl Tree {
         move_marks(&mut self.places, count, log.count());
         self.ran = 0;
         Ok(())
+    }
+}
+
+/// Gives the nodes of these places up that are at home. Takes no memory.
+fn give_up(places: &mut Vec<NodeSlot>)
+    ensures { places.new.items ≡ places.old.items }
+{
+    for index in 0..places.len() {
+        places[index].give_up();
     }
 }
 
