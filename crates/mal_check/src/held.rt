@@ -101,7 +101,8 @@ impl Clauses {
         forget(&mut self.ids, ids);
     }
 
-    /// Twice as many as there are clauses, and a few. The places of numbers below it take no more room than the clauses.
+    /// Twice as many as there are clauses, and a few. The places of numbers below it take no more room than the
+    /// clauses.
     fn bound(&self) -> usize {
         let count = self.originals.len().saturating_add(self.added.len());
         count.saturating_mul(2).saturating_add(64)
