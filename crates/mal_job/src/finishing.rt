@@ -86,8 +86,8 @@ pub fn finish_lost(questions: &mut Questions, tree: &mut Tree, log: &Derivation,
     give_up(questions, tree);
 }
 
-/// Gives the nodes of a tree up, where its job is closed and each revision has its answer, so that none of them starts again.
-/// Takes no memory.
+/// Gives the nodes of a tree up, where its job is closed and each revision has its answer, so that none of them starts
+/// again. Takes no memory.
 pub fn give_up(questions: &Questions, tree: &mut Tree)
     ensures { tree.new ≡ tree.old }
 {

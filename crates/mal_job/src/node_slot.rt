@@ -213,8 +213,8 @@ impl NodeSlot {
         self.seat = seat_of(kept);
     }
 
-    /// Gives the node up, live or as bytes, where it is at home: from now on its journal alone is kept. A node that is out stays
-    /// out. Takes no memory.
+    /// Gives the node up, live or as bytes, where it is at home: from now on its journal alone is kept. A node that is out
+    /// stays out. Takes no memory.
     pub fn give_up(&mut self)
         ensures { self.new ≡ self.old }
     {

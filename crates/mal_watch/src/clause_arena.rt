@@ -12,8 +12,8 @@ use std::marker::Model;
 /// So many literals there may be in the list of all.
 const MOST: usize = 4_294_967_295;
 
-/// Where the literals of a clause stand: here, where they are three; else in the list of all, from a place on, so many, and
-/// at which of them a search begins.
+/// Where the literals of a clause stand: here, where they are three; else in the list of all, from a place on, so many,
+/// and at which of them a search begins.
 #[derive(Clone, Copy)]
 enum Body {
     Three([Lit; 3]),
@@ -27,9 +27,9 @@ struct Row {
     body: Body,
 }
 
-/// Clauses in the order in which they came, the literals of those that have not three side by side. Contracts see them, and
-/// how many clauses and literals there is room for. Where a search in a clause begins is kept beside it, and no contract
-/// speaks of it.
+/// Clauses in the order in which they came, the literals of those that have not three side by side. Contracts see them,
+/// and how many clauses and literals there is room for. Where a search in a clause begins is kept beside it, and no
+/// contract speaks of it.
 #[derive(Drop)]
 pub struct ClauseArena {
     rows: Vec<Row>,
@@ -114,7 +114,8 @@ impl ClauseArena {
         lits_of(self.literals.as_slice(), &self.rows[place].body)
     }
 
-    /// At which of its literals a search in the clause at a place begins, as it was kept last; the first of a clause of three.
+    /// At which of its literals a search in the clause at a place begins, as it was kept last; the first of a clause of
+    /// three.
     pub fn hint(&self, place: usize) -> usize
         requires { place < length self.now.clauses }
     {
@@ -124,7 +125,8 @@ impl ClauseArena {
         }
     }
 
-    /// Keeps at which of its literals the next search in the clause at a place begins. Nothing is kept of a clause of three.
+    /// Keeps at which of its literals the next search in the clause at a place begins. Nothing is kept of a clause of
+    /// three.
     pub fn keep_hint(&mut self, place: usize, hint: usize)
         requires { place < length self.old.clauses }
         ensures { self.new ≡ self.old }
