@@ -1,18 +1,15 @@
 -- A script in form is spelled by the text that it is written as.
-use Rattle.std.proofs.Common.{◌≡◌, ℕ, ◌+◌, ◌<◌, ◌≤◌, ◌^◌, Bool, true, false, cond, ◌&&◌, nat_lt, List, [], ◌∷◌, ◌++◌, map, length, pos, Option, Some, None, Result, Ok, Err, refl, sym, ap, ap₂, ◌∙◌, subst, arith, append_assoc, append-nil, length-append}
+use Rattle.std.proofs.Common.{◌≡◌, ℕ, ◌+◌, ◌<◌, ◌≤◌, ◌^◌, Bool, true, false, cond, ◌&&◌, List, [], ◌∷◌, ◌++◌, map, length, Option, Some, None, Result, Ok, Err, refl, sym, ap, ap₂, ◌∙◌, ◌⊎◌, inl, inr, subst, arith, append_assoc, append-nil, length-append}
 use Rattle.std.specs.List.{list_all, list_any}
 use Rattle.std.specs.Str.{bytes_eq}
-use Rattle.std.proofs.lemmas.Bool.{lt-ltb, le-ltb, le-leb}
 use Rattle.std.proofs.lemmas.List.Sums.{sum_by-cons, fold-append}
 use Rattle.mal_base.specs.Asks.{Terms, IsAsk}
 use Rattle.mal_base.specs.Formulas.{Formulated, is_within, is_clause_of, is_within_limits, is_formula, literals_of}
 use Rattle.mal_base.specs.Clauses.{rises}
-use Rattle.mal_base.specs.declared.limit_kind.LimitKind.TheVariants.{Clauses, Literals, Tenants, Jobs}
-use Rattle.mal_base.proofs.Sorting.{and-left, and-right, and-both}
+use Rattle.mal_base.proofs.Sorting.{and-left, and-right}
 use Rattle.mal_revision.specs.Posted.{Posted, is_posted}
-use Rattle.spec_text.specs.Numbers.{NumberWord, number_in, decimal_word}
-use Rattle.spec_text.specs.Numbers.NumberWord.{Number}
-use Rattle.spec_text.proofs.Numerals.{numbers_read_again}
+use Rattle.spec_text.specs.Numbers.{decimal_word}
+use Rattle.spec_text.proofs.Numerals.{is_numeral-decimal, value_of-decimal}
 use Rattle.mal_base.specs.declared.block_fault.BlockFault.{BlockFault}
 use Rattle.mal_base.specs.declared.block_fault.BlockFault.TheVariants.{BadHeader}
 use Rattle.spec_dimacs.specs.Rows as rows
@@ -22,15 +19,14 @@ use Rattle.spec_dimacs.specs.Written.{clause_words, header_words, formula_rows}
 use Rattle.spec_dimacs.proofs.Behind.{Leads, whole_leads}
 use Rattle.spec_dimacs.proofs.Again.{written_rows}
 use Rattle.spec_dimacs.proofs.Laws.{written_is_read}
-use Rattle.mal_base.specs.declared.line_fault.LineFault.{LineFault}
-use Rattle.mal_base.specs.declared.line_fault.LineFault.TheVariants.{Range, Duplicate, Limit}
 use Rattle.spec_script.specs.Limits.{Limits}
 use Rattle.spec_script.specs.Script.{ScriptedJob, rows_of, spelling}
-use Rattle.spec_script.specs.Reading.{OpenJob, Reading, named, ranged, asked, is_job, has_room, begun, going_on, admitted, with_revision, revised}
+use Rattle.spec_script.specs.Reading.{OpenJob, Reading, begun, with_revision}
 use Rattle.spec_script.specs.Formed.{with_name, tenants_of, clauses_of, clause_literals, IsJob, MayFollow, MayAllFollow}
-use Rattle.spec_script.specs.Grammar.{formula_of, Revises, ReviseAll, Runs, MakeAll}
+use Rattle.spec_script.specs.Grammar.{Asks, SaysUpTo, formula_of, Revises, ReviseAll, Runs, MakeAll}
 use Rattle.spec_script.specs.Laws.{WrittenIsSpelled, WrittenIsRead}
 use Rattle.spec_script.proofs.Assumed.{assumptions-again}
+use Rattle.spec_script.proofs.Words.{room-admits}
 use Rattle.spec_script.proofs.Reading.{spelled-read}
 use Rattle.spec_script.proofs.Written.{text-rows, jobs-stand, revision-formula, few-variables, lines_of, job_lines_of, parts_of, parts-lines, clauses-inside}
 
@@ -67,11 +63,6 @@ block-again r h = leads-read (formula_rows (formula_in r)) (formula_in r) (writt
 
 -- ---- the revisions of a job
 
-revised-again : (o : OpenJob) (f : Formulated) (assumptions : List ℕ) → o.clauses + length f.clauses ≤ 1048576 → o.literals + literals_of f.clauses ≤ 16777216 → revised o f assumptions ≡ Ok (with_revision o f assumptions)
-revised-again o f assumptions few little =
-    ap (λ (b : Bool). cond b (Err (Limit Clauses)) (cond (nat_lt 16777216 (o.literals + literals_of f.clauses)) (Err (Limit Literals)) (Ok (with_revision o f assumptions)))) (le-ltb 1048576 (o.clauses + length f.clauses) few)
-    ∙ ap (λ (b : Bool). cond b (Err (Limit Literals)) (Ok (with_revision o f assumptions))) (le-ltb 16777216 (o.literals + literals_of f.clauses) little)
-
 revises : (limits : Limits) (o : OpenJob) (r : Posted) → is_posted r ≡ true → length o.job.revisions < limits.revisions → o.clauses + length r.clauses ≤ 1048576 → o.literals + literals_of r.clauses ≤ 16777216 → Revises limits o (lines_of r) (with_revision o (formula_in r) r.assumptions)
 revises limits o r h room few little =
     let form : is_formula (formula_in r) ≡ true = revision-formula r h in
@@ -85,7 +76,8 @@ revises limits o r h room few little =
       inside = clauses-inside r.variables r.clauses low forms;
       spelled = block-again r form;
       assumed = assumptions-again r.variables r.assumptions low (and-left _ _ assumptions) (and-right (rises r.assumptions) _ assumptions);
-      revised = revised-again o (formula_in r) r.assumptions few little;
+      fits = record { clauses = few; literals = little };
+      revised = refl;
     }
 
 -- a job with revisions behind its own
@@ -117,38 +109,25 @@ revise-all limits (r ∷ rs) o h room few little =
 abbrev reading : List ScriptedJob → List (List ℕ) → Option (List ℕ) → Reading
 reading jobs tenants tenant = record { jobs = jobs; tenants = tenants; tenant = tenant; opened = None }
 
-named-again : (limits : Limits) (jobs : List ScriptedJob) (names : List (List ℕ)) (tenant : Option (List ℕ)) (name : List ℕ) → length (with_name names name) ≤ limits.tenants → named limits name (reading jobs names tenant) ≡ Ok (reading jobs (with_name names name) (Some name))
-named-again limits jobs names tenant name few = by_test (list_any (bytes_eq name) names) few
+-- a name is one of these, or there may be one more
+named-room : (limits : Limits) (names : List (List ℕ)) (name : List ℕ) → length (with_name names name) ≤ limits.tenants → (list_any (bytes_eq name) names ≡ true) ⊎ (length names < limits.tenants)
+named-room limits names name few = by_test (list_any (bytes_eq name) names) refl few
   where
-    by_test : (b : Bool) → length (cond b names (names ++ name ∷ [])) ≤ limits.tenants
-        → cond b (Ok (reading jobs names (Some name))) (cond (nat_lt (length names) limits.tenants) (Ok (reading jobs (names ++ name ∷ []) (Some name))) (Err (Limit Tenants))) ≡ Ok (reading jobs (cond b names (names ++ name ∷ [])) (Some name))
-    by_test true few = refl
-    by_test false few =
-        let one : length (names ++ name ∷ []) ≡ length names + 1 = length-append names (name ∷ []) in
-        ap (λ (b : Bool). cond b (Ok (reading jobs (names ++ name ∷ []) (Some name))) (Err (Limit Tenants))) (lt-ltb (length names) limits.tenants (omega arith))
+    by_test : (b : Bool) → list_any (bytes_eq name) names ≡ b → length (cond b names (names ++ name ∷ [])) ≤ limits.tenants → (list_any (bytes_eq name) names ≡ true) ⊎ (length names < limits.tenants)
+    by_test true q few = inl q
+    by_test false q few = let one : length (names ++ name ∷ []) ≡ length names + 1 = length-append names (name ∷ []) in inr (omega arith)
 
-number-again : (n max : ℕ) → n ≤ max → max < 2 ^ 63 → number_in (decimal_word n) max ≡ Number (pos n)
-number-again n max low bound = numbers_read_again (pos n) max low bound
+number-again : (n max : ℕ) → 1 ≤ n → n ≤ max → max < 2 ^ 63 → SaysUpTo max (decimal_word n) n
+number-again n max some low bound =
+    let short : n < 2 ^ 64 = omega arith in
+    ((is_numeral-decimal n short, value_of-decimal n short), some, low)
 
-ranged-again : (n max : ℕ) → 1 ≤ n → n ≤ max → ranged max (Number (pos n)) ≡ Ok n
-ranged-again n max some low = ap (λ (b : Bool). cond b (Ok n) (Err Range)) (and-both _ _ (le-leb 1 n some) (le-leb n max low))
-
-abbrev terms : ℕ → ℕ → ℕ → Terms
-terms p d s = record { priority = p; demand = d; slices = s }
-
-asked-again : (ask : Terms) → IsAsk ask → asked (number_in (decimal_word ask.priority) 1000) (number_in (decimal_word ask.demand) 64) (number_in (decimal_word ask.slices) 4096) ≡ Ok ask
-asked-again ask is =
-    ap (λ (x : NumberWord). asked x (number_in (decimal_word ask.demand) 64) (number_in (decimal_word ask.slices) 4096)) (number-again ask.priority 1000 is.priority_bound (omega arith))
-    ∙ ap (λ (x : NumberWord). asked (Number (pos ask.priority)) x (number_in (decimal_word ask.slices) 4096)) (number-again ask.demand 64 is.demand_bound (omega arith))
-    ∙ ap (λ (x : NumberWord). asked (Number (pos ask.priority)) (Number (pos ask.demand)) x) (number-again ask.slices 4096 is.slices_bound (omega arith))
-    ∙ ap (λ (r : Result ℕ LineFault). r >>= λ priority. ranged 64 (Number (pos ask.demand)) >>= λ demand. ranged 4096 (Number (pos ask.slices)) >>= λ slices. Ok (terms priority demand slices)) (ranged-again ask.priority 1000 is.some_priority is.priority_bound)
-    ∙ ap (λ (r : Result ℕ LineFault). r >>= λ demand. ranged 4096 (Number (pos ask.slices)) >>= λ slices. Ok (terms ask.priority demand slices)) (ranged-again ask.demand 64 is.some_demand is.demand_bound)
-    ∙ ap (λ (r : Result ℕ LineFault). r >>= λ slices. Ok (terms ask.priority ask.demand slices)) (ranged-again ask.slices 4096 is.some_slices is.slices_bound)
-
-admitted-again : (limits : Limits) (tenant name : List ℕ) (s : Reading) (ask : Terms) → list_any (is_job tenant name) s.jobs ≡ false → has_room limits tenant s.jobs ≡ true → admitted limits tenant name s ask ≡ Ok (going_on s (begun tenant name ask))
-admitted-again limits tenant name s ask new room =
-    ap (λ (b : Bool). cond b (Err (Duplicate tenant name)) (cond (has_room limits tenant s.jobs) (Ok (going_on s (begun tenant name ask))) (Err (Limit Jobs)))) new
-    ∙ ap (λ (b : Bool). cond b (Ok (going_on s (begun tenant name ask))) (Err (Limit Jobs))) room
+asked-again : (ask : Terms) → IsAsk ask → Asks (decimal_word ask.priority) (decimal_word ask.demand) (decimal_word ask.slices) ask
+asked-again ask is = record {
+  priority_says = number-again ask.priority 1000 is.some_priority is.priority_bound (omega arith);
+  demand_says = number-again ask.demand 64 is.some_demand is.demand_bound (omega arith);
+  slices_says = number-again ask.slices 4096 is.some_slices is.slices_bound (omega arith);
+}
 
 -- ---- the jobs of a script
 
@@ -172,7 +151,7 @@ runs limits jobs j is =
       owned = refl;
       name = form.name;
       asks = asked-again j.ask form.ask;
-      admitted = admitted-again limits j.tenant j.name (reading jobs (with_name (tenants_of jobs) j.tenant) (Some j.tenant)) j.ask is.new is.room;
+      admitted = room-admits limits j.tenant j.name jobs is.new is.room;
       revised = e.revised;
       left = ap₂ (λ (names : List (List ℕ)) (x : ScriptedJob). reading (jobs ++ x ∷ []) names (Some j.tenant)) (tenants-more jobs j) (sym e.job);
     }
@@ -190,7 +169,7 @@ make-all limits (j ∷ js) jobs tenant (first, others) =
     let few : length (with_name (tenants_of jobs) j.tenant) ≤ limits.tenants = subst (λ (names : List (List ℕ)). length names ≤ limits.tenants) (tenants-more jobs j) first.tenants in
     record {
       after = rest.after;
-      made = (reading jobs (with_name (tenants_of jobs) j.tenant) (Some j.tenant), (first.formed.tenant, named-again limits jobs (tenants_of jobs) tenant j.tenant few), (reading (jobs ++ j ∷ []) (tenants_of (jobs ++ j ∷ [])) (Some j.tenant), runs limits jobs j first, rest.made));
+      made = (reading jobs (with_name (tenants_of jobs) j.tenant) (Some j.tenant), record { formed = first.formed.tenant; room = named-room limits (tenants_of jobs) j.tenant few; left = refl }, (reading (jobs ++ j ∷ []) (tenants_of (jobs ++ j ∷ [])) (Some j.tenant), runs limits jobs j first, rest.made));
       all = sym (append_assoc jobs (j ∷ []) js) ∙ rest.all;
     }
 

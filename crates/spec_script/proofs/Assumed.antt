@@ -1,4 +1,4 @@
--- The assumptions of a written line are read again.
+-- The assumptions that words say are read, and those of a written line are said by its words.
 use Rattle.std.proofs.Common.{◌≡◌, ℕ, zero, suc, ◌/◌, ◌≤◌, ◌<◌, Bool, true, false, cond, ◌==◌, ◌&&◌, nat_lt, nat_le, List, [], ◌∷◌, ◌++◌, map, ℤ, pos, negsuc, Some, None, Result, Ok, refl, sym, ap, ◌∙◌, arith, append_assoc, append-nil}
 use Rattle.std.proofs.lemmas.Bool.{leb-true, ltb-true}
 use Rattle.std.proofs.lemmas.Bool.Decides.{nat_tests}
@@ -15,6 +15,9 @@ use Rattle.spec_dimacs.proofs.Numbers.{code_of-number_of}
 use Rattle.spec_dimacs.proofs.Again.{clause_again}
 use Rattle.mal_base.specs.declared.line_fault.LineFault.{LineFault}
 use Rattle.spec_script.specs.Assumptions.{literals_from, consistent, assumptions_in}
+use Rattle.spec_script.specs.Grammar.{Assumes}
+use Rattle.spec_script.specs.Laws.{AssumptionsAreRead}
+use Rattle.spec_script.proofs.AssumedForms.{read-assumes}
 use Rattle.spec_script.proofs.Sorted.{sorted-unique}
 
 abbrev lits_read : List ℕ → Result (List ℕ) LineFault
@@ -50,9 +53,17 @@ no-clash : (lits : List ℕ) → rises lits ≡ true → clash lits ≡ None
 no-clash [] h = refl
 no-clash (l ∷ ls) h = rises-clash l ls h
 
-pub assumptions-again : (v : ℕ) (lits : List ℕ) → v ≤ 65536 → rises lits ≡ true → is_within v lits ≡ true → assumptions_in v (closed_words lits) ≡ Ok lits
-assumptions-again v lits low up h =
-    ap (λ (ws : List NumberWord). literals_from [] false ws >>= λ ls. consistent (sorted ls) (clash (sorted ls))) (clause_again v lits low h)
-    ∙ ap (λ (r : Result (List ℕ) LineFault). r >>= λ ls. consistent (sorted ls) (clash (sorted ls))) (literals-behind lits [] v h)
-    ∙ ap (λ (ls : List ℕ). consistent ls (clash ls)) (sym (sorted-unique lits lits (climbs-from_rises lits up) (record { there = λ x k. k; back = λ x k. k })))
-    ∙ ap (consistent lits) (no-clash lits up)
+-- assumptions that words say are read
+pub assumes-read : (v : ℕ) (words : List (List ℕ)) (lits : List ℕ) → Assumes v words lits → assumptions_in v words ≡ Ok lits
+assumes-read v words lits is =
+    ap (λ (ws : List NumberWord). literals_from [] false ws >>= λ ls. consistent (sorted ls) (clash (sorted ls))) is.closed
+    ∙ ap (λ (r : Result (List ℕ) LineFault). r >>= λ ls. consistent (sorted ls) (clash (sorted ls))) (literals-behind is.lits [] v is.within)
+    ∙ ap (λ (ls : List ℕ). consistent ls (clash ls)) (sym (sorted-unique is.lits lits (climbs-from_rises lits is.once.0) is.once.1))
+    ∙ ap (consistent lits) (no-clash lits is.once.0)
+
+pub assumptions_are_read : AssumptionsAreRead
+assumptions_are_read v words lits = (assumes-read v words lits, read-assumes v words lits)
+
+-- assumptions in form are said by the words that they are written as
+pub assumptions-again : (v : ℕ) (lits : List ℕ) → v ≤ 65536 → rises lits ≡ true → is_within v lits ≡ true → Assumes v (closed_words lits) lits
+assumptions-again v lits low up h = record { lits = lits; closed = clause_again v lits low h; within = h; once = (up, record { there = λ x k. k; back = λ x k. k }) }

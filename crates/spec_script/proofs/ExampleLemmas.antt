@@ -1,7 +1,12 @@
-use Rattle.std.proofs.Common.{refl}
+use Rattle.std.proofs.Common.{◌≡◌, [], ◌∷◌, codes, Result, Ok, Err, refl}
+use Rattle.mal_base.specs.declared.line_fault.LineFault.{LineFault}
 use Rattle.std.specs.Fmt.{digits}
 use Rattle.spec_script.specs.Script.{spelling}
 use Rattle.spec_script.specs.Examples.{HasExamples, ReadingExamples, FaultExamples, LimitExamples}
+use Rattle.spec_script.specs.WordExamples.{WordExamples}
+use Rattle.spec_script.proofs.Words.{asks-read, read-asks}
+use Rattle.spec_script.proofs.Assumed.{assumes-read}
+use Rattle.spec_script.proofs.AssumedForms.{read-assumes}
 
 pub examples : HasExamples
 unfolding spelling digits
@@ -15,3 +20,21 @@ fault_examples = record { end_alone = refl; compressed = refl; no_tenant = refl;
 
 pub limit_examples : LimitExamples
 limit_examples = record { third_tenant = refl; second_job_of_tenant = refl; second_job = refl; second_revision = refl }
+
+no_fault : {A : Type 0} (r : Result A LineFault) (fault : LineFault) (x : A) → r ≡ Err fault → r ≡ Ok x → ⊥
+no_fault (Ok y) fault x e f = absurd (cc)
+no_fault (Err y) fault x e f = absurd (cc)
+
+pub word_examples : WordExamples
+word_examples = record {
+  greatest = read-asks (codes "1000") (codes "64") (codes "4096") _ refl;
+  leading_zeros = read-asks (codes "01") (codes "1") (codes "004") _ refl;
+  no_sign = λ ask is. no_fault _ _ ask refl (asks-read (codes "+1") (codes "1") (codes "4") ask is);
+  no_zero = λ ask is. no_fault _ _ ask refl (asks-read (codes "0") (codes "1") (codes "4") ask is);
+  above_the_greatest = λ ask is. no_fault _ _ ask refl (asks-read (codes "1") (codes "65") (codes "4") ask is);
+  in_order = read-assumes 2 (codes "2" ∷ codes "-1" ∷ codes "2" ∷ codes "0" ∷ []) (3 ∷ 4 ∷ []) refl;
+  not_closed = λ lits is. no_fault _ _ lits refl (assumes-read 2 (codes "2" ∷ []) lits is);
+  both_signs = λ lits is. no_fault _ _ lits refl (assumes-read 2 (codes "2" ∷ codes "-2" ∷ codes "0" ∷ []) lits is);
+  above_the_variables = λ lits is. no_fault _ _ lits refl (assumes-read 1 (codes "2" ∷ codes "0" ∷ []) lits is);
+  whatever_is_behind = refl;
+}

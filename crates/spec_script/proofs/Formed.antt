@@ -1,30 +1,26 @@
 -- What a text spells is a script in form.
-use Rattle.std.proofs.Common.{◌≡◌, ℕ, ◌+◌, ◌<◌, ◌≤◌, Bool, true, false, cond, ◌&&◌, nat_lt, nat_le, List, [], ◌∷◌, ◌++◌, length, codes, pos, negsuc, Option, Some, None, Ok, Err, refl, sym, ap, ap₂, ◌∙◌, subst, arith, length-append, append-nil, append_assoc}
+use Rattle.std.proofs.Common.{◌≡◌, ℕ, ◌+◌, ◌<◌, ◌≤◌, Bool, true, false, cond, ◌&&◌, List, [], ◌∷◌, ◌++◌, length, codes, Option, Some, None, Ok, refl, sym, ap, ap₂, ◌∙◌, ◌⊎◌, inl, inr, subst, arith, length-append, append-nil, append_assoc}
 use Rattle.std.specs.List.{AllByRecursion, list_all, list_any}
 use Rattle.std.specs.Str.{bytes_eq}
-use Rattle.std.proofs.lemmas.Bool.{leb-true, ltb-true, ltb-false}
 use Rattle.std.proofs.lemmas.List.Folds.{list_all-append}
 use Rattle.std.proofs.lemmas.List.Sums.{sum_by_push}
 use Rattle.mal_base.specs.Asks.{Terms, IsAsk}
 use Rattle.mal_base.specs.Formulas.{Formulated, is_formula, is_within, literals_of}
 use Rattle.mal_base.specs.Clauses.{rises}
 use Rattle.mal_base.specs.Names.{is_name}
-use Rattle.mal_base.specs.declared.limit_kind.LimitKind.TheVariants.{Clauses, Literals, Tenants, Jobs}
 use Rattle.mal_base.proofs.Sorting.{and-left, and-right, and-both}
 use Rattle.mal_revision.specs.Posted.{Posted, is_posted}
-use Rattle.spec_text.specs.Numbers.{NumberWord, number_in}
-use Rattle.spec_text.specs.Numbers.NumberWord.{NotANumber, TooLarge, Number}
 use Rattle.spec_dimacs.specs.Rows.{is_passed}
 use Rattle.spec_dimacs.specs.Reading.{◌>>=◌, opened, after_rows, ended}
 use Rattle.spec_dimacs.proofs.Led.{led_formula}
-use Rattle.mal_base.specs.declared.line_fault.LineFault.TheVariants.{BadLine, Range, Duplicate, Limit}
 use Rattle.spec_script.specs.Limits.{Limits}
 use Rattle.spec_script.specs.Script.{ScriptedJob}
-use Rattle.spec_script.specs.Reading.{OpenJob, Reading, unread, named, is_number, ranged, in_range, asked, is_job, has_room, begun, going_on, with_revision, revised}
-use Rattle.spec_script.specs.Formed.{tenants_of, clauses_of, clause_literals, IsJob, MayFollow, MayAllFollow}
-use Rattle.spec_script.specs.Grammar.{RevisionLines, JobLines, Part, Tenant, Job, is_inside, formula_of, ReviseAll, Runs, MakeAll}
+use Rattle.spec_script.specs.Reading.{OpenJob, Reading, unread, named, is_job, has_room, begun, with_revision}
+use Rattle.spec_script.specs.Formed.{with_name, tenants_of, clauses_of, clause_literals, IsJob, MayFollow, MayAllFollow}
+use Rattle.spec_script.specs.Grammar.{RevisionLines, JobLines, Part, Tenant, Job, Asks, HasRoomFor, Names, is_inside, formula_of, ReviseAll, Runs, MakeAll}
 use Rattle.spec_script.specs.Laws.{SpelledIsScript, SpelledAgain}
-use Rattle.spec_script.proofs.Inversions.{bind_ok, passed, not_refused, ok_is, revised_is}
+use Rattle.spec_script.proofs.Inversions.{bind_ok}
+use Rattle.spec_script.proofs.Words.{admits-room}
 use Rattle.spec_script.proofs.Parsing.{not_true}
 use Rattle.spec_script.proofs.AssumedForms.{assumed-formed}
 use Rattle.spec_script.proofs.Named.{AreNamed, tenants-few, named-last, named-more, all-named}
@@ -63,13 +59,7 @@ record Fits (limits : Limits) (tenant name : List ℕ) (ask : Terms) (o : OpenJo
   few_clauses : o.clauses ≤ 1048576
   few_literals : o.literals ≤ 16777216
 
-within-job : (o : OpenJob) (f : Formulated) (lits : List ℕ) (next : OpenJob) → revised o f lits ≡ Ok next → (o.clauses + length f.clauses ≤ 1048576) × (o.literals + literals_of f.clauses ≤ 16777216)
-within-job o f lits next e =
-    let h = not_refused (nat_lt 1048576 (o.clauses + length f.clauses)) (cond (nat_lt 16777216 (o.literals + literals_of f.clauses)) (Err (Limit Literals)) (Ok (with_revision o f lits))) (Limit Clauses) next e in
-    let k = not_refused (nat_lt 16777216 (o.literals + literals_of f.clauses)) (Ok (with_revision o f lits)) (Limit Literals) next h.1 in
-    (ltb-false 1048576 (o.clauses + length f.clauses) h.0, ltb-false 16777216 (o.literals + literals_of f.clauses) k.0)
-
-fits-more : (limits : Limits) (tenant name : List ℕ) (ask : Terms) (o : OpenJob) (f : Formulated) (lits : List ℕ) → Fits limits tenant name ask o → length o.job.revisions < limits.revisions → is_posted (posted f lits) ≡ true → (o.clauses + length f.clauses ≤ 1048576) × (o.literals + literals_of f.clauses ≤ 16777216) → Fits limits tenant name ask (with_revision o f lits)
+fits-more : (limits : Limits) (tenant name : List ℕ) (ask : Terms) (o : OpenJob) (f : Formulated) (lits : List ℕ) → Fits limits tenant name ask o → length o.job.revisions < limits.revisions → is_posted (posted f lits) ≡ true → HasRoomFor o f → Fits limits tenant name ask (with_revision o f lits)
 fits-more limits tenant name ask o f lits is room form low = record {
   tenant_is = is.tenant_is;
   name_is = is.name_is;
@@ -78,8 +68,8 @@ fits-more limits tenant name ask o f lits is room form low = record {
   formed = list_all-append is_posted o.job.revisions (posted f lits ∷ []) ∙ and-both _ _ is.formed (and-both _ _ form refl);
   clauses = ap (λ (n : ℕ). n + length f.clauses) is.clauses ∙ sym (sum_by_push (λ (r : Posted). length r.clauses) o.job.revisions (posted f lits));
   literals = ap (λ (n : ℕ). n + literals_of f.clauses) is.literals ∙ sym (sum_by_push (λ (r : Posted). literals_of r.clauses) o.job.revisions (posted f lits));
-  few_clauses = low.0;
-  few_literals = low.1;
+  few_clauses = low.clauses;
+  few_literals = low.literals;
 }
 
 all-fit : (limits : Limits) (tenant name : List ℕ) (ask : Terms) (rs : List RevisionLines) (o after : OpenJob) → Fits limits tenant name ask o → ReviseAll limits o rs after → Fits limits tenant name ask after
@@ -87,33 +77,20 @@ all-fit limits tenant name ask [] o after is same = subst (Fits limits tenant na
 all-fit limits tenant name ask (r ∷ rs) o after is (next, one, others) =
     let form : is_formula one.formula ≡ true = block-formed r.header r.body one.formula one.inside one.spelled in
     let revision : is_posted (posted one.formula one.assumptions) ≡ true = revision-formed one.formula one.assumptions form (assumed-formed one.formula.variables r.assumed one.assumptions one.assumed) in
-    let more : Fits limits tenant name ask (with_revision o one.formula one.assumptions) = fits-more limits tenant name ask o one.formula one.assumptions is one.room revision (within-job o one.formula one.assumptions next one.revised) in
-    all-fit limits tenant name ask rs next after (subst (Fits limits tenant name ask) (revised_is o one.formula one.assumptions next one.revised) more) others
+    let more : Fits limits tenant name ask (with_revision o one.formula one.assumptions) = fits-more limits tenant name ask o one.formula one.assumptions is one.room revision one.fits in
+    all-fit limits tenant name ask rs next after (subst (Fits limits tenant name ask) (sym one.revised) more) others
 
 -- ---- the ask of a job
 
-ranged-ok : (max : ℕ) (x : NumberWord) (n : ℕ) → ranged max x ≡ Ok n → (1 ≤ n) × (n ≤ max)
-ranged-ok max NotANumber n e = absurd (cc)
-ranged-ok max TooLarge n e = absurd (cc)
-ranged-ok max (Number (negsuc m)) n e = absurd (cc)
-ranged-ok max (Number (pos m)) n e =
-    let h = passed (nat_le 1 m && nat_le m max) (Ok m) Range n e in
-    let same : m ≡ n = ok_is m n h.1 in
-    (subst (λ (k : ℕ). 1 ≤ k) same (leb-true 1 m (and-left _ _ h.0)), subst (λ (k : ℕ). k ≤ max) same (leb-true m max (and-right (nat_le 1 m) _ h.0)))
-
-abbrev terms : ℕ → ℕ → ℕ → Terms
-terms p d s = record { priority = p; demand = d; slices = s }
-
-asked-formed : (p d s : NumberWord) (ask : Terms) → asked p d s ≡ Ok ask → IsAsk ask
-asked-formed p d s ask e =
-    let h = passed (is_number p && is_number d && is_number s) (in_range p d s) BadLine ask e in
-    let a = bind_ok (ranged 1000 p) (λ priority. ranged 64 d >>= λ demand. ranged 4096 s >>= λ slices. Ok (terms priority demand slices)) ask h.1 in
-    let b = bind_ok (ranged 64 d) (λ demand. ranged 4096 s >>= λ slices. Ok (terms a.0 demand slices)) ask a.2 in
-    let c = bind_ok (ranged 4096 s) (λ slices. Ok (terms a.0 b.0 slices)) ask b.2 in
-    let x = ranged-ok 1000 p a.0 a.1 in
-    let y = ranged-ok 64 d b.0 b.1 in
-    let z = ranged-ok 4096 s c.0 c.1 in
-    subst IsAsk (ok_is (terms a.0 b.0 c.0) ask c.2) (record { some_priority = x.0; priority_bound = x.1; some_demand = y.0; demand_bound = y.1; some_slices = z.0; slices_bound = z.1 })
+asked-formed : (p d k : List ℕ) (ask : Terms) → Asks p d k ask → IsAsk ask
+asked-formed p d k ask is = record {
+  some_priority = is.priority_says.1;
+  priority_bound = is.priority_says.2;
+  some_demand = is.demand_says.1;
+  demand_bound = is.demand_says.2;
+  some_slices = is.slices_says.1;
+  slices_bound = is.slices_says.2;
+}
 
 -- ---- the jobs of a script
 
@@ -129,18 +106,32 @@ record Stood (limits : Limits) (s : Reading) : Type 0 where
   owners : AreNamed s.tenants s.jobs
   last : Owned s.tenant s.tenants
 
-named-stands : (limits : Limits) (name : List ℕ) (s next : Reading) → Stood limits s → is_name name ≡ true → named limits name s ≡ Ok next → Stood limits next
-named-stands limits name s next is form e = by_tests (list_any (bytes_eq name) s.tenants) refl (nat_lt (length s.tenants) limits.tenants) refl e
+-- a name is among those with it
+among-with : (names : List (List ℕ)) (name : List ℕ) → list_any (bytes_eq name) (with_name names name) ≡ true
+among-with names name = by_test (list_any (bytes_eq name) names) refl
   where
-    by_tests : (a : Bool) → list_any (bytes_eq name) s.tenants ≡ a → (b : Bool) → nat_lt (length s.tenants) limits.tenants ≡ b → cond a (Ok (record s { tenant = Some name })) (cond b (Ok (record s { tenants = s.tenants ++ name ∷ []; tenant = Some name })) (Err (Limit Tenants))) ≡ Ok next → Stood limits next
-    by_tests true q b r h = subst (Stood limits) (ok_is (record s { tenant = Some name }) next h) (record { formed = is.formed; few = is.few; owners = is.owners; last = (form, q) })
-    by_tests false q true r h = subst (Stood limits) (ok_is (record s { tenants = s.tenants ++ name ∷ []; tenant = Some name }) next h) (record {
-      formed = is.formed;
-      few = let room : length s.tenants < limits.tenants = ltb-true (length s.tenants) limits.tenants r in let one : length (s.tenants ++ name ∷ []) ≡ length s.tenants + 1 = length-append s.tenants (name ∷ []) in omega arith;
-      owners = named-more s.tenants name s.jobs is.owners;
-      last = (form, named-last s.tenants name);
-    })
-    by_tests false q false r h = absurd (cc)
+    by_test : (a : Bool) → list_any (bytes_eq name) names ≡ a → list_any (bytes_eq name) (cond a names (names ++ name ∷ [])) ≡ true
+    by_test true q = q
+    by_test false q = named-last names name
+
+owners-with : (names : List (List ℕ)) (name : List ℕ) (jobs : List ScriptedJob) → AreNamed names jobs → AreNamed (with_name names name) jobs
+owners-with names name jobs is = by_test (list_any (bytes_eq name) names)
+  where
+    by_test : (a : Bool) → AreNamed (cond a names (names ++ name ∷ [])) jobs
+    by_test true = is
+    by_test false = named-more names name jobs is
+
+few-with : (limits : Limits) (names : List (List ℕ)) (name : List ℕ) → length names ≤ limits.tenants → (list_any (bytes_eq name) names ≡ true) ⊎ (length names < limits.tenants) → length (with_name names name) ≤ limits.tenants
+few-with limits names name few room = by_test (list_any (bytes_eq name) names) refl room
+  where
+    by_test : (a : Bool) → list_any (bytes_eq name) names ≡ a → (list_any (bytes_eq name) names ≡ true) ⊎ (length names < limits.tenants) → length (cond a names (names ++ name ∷ [])) ≤ limits.tenants
+    by_test true q room = few
+    by_test false q (inl h) = absurd (cc)
+    by_test false q (inr low) = let one : length (names ++ name ∷ []) ≡ length names + 1 = length-append names (name ∷ []) in omega arith
+
+named-stands : (limits : Limits) (name : List ℕ) (s next : Reading) → Stood limits s → Names limits s name next → Stood limits next
+named-stands limits name s next is named =
+    subst (Stood limits) (sym named.left) (record { formed = is.formed; few = few-with limits s.tenants name is.few named.room; owners = owners-with s.tenants name s.jobs is.owners; last = (named.formed, among-with s.tenants name) })
 
 follows-last : (limits : Limits) (jobs js : List ScriptedJob) (j : ScriptedJob) → MayAllFollow limits jobs js → MayFollow limits (jobs ++ js) j → MayAllFollow limits jobs (js ++ j ∷ [])
 follows-last limits jobs [] j h k = (subst (λ (xs : List ScriptedJob). MayFollow limits xs j) (append-nil jobs) k, tt)
@@ -151,8 +142,6 @@ job-stands limits s j next is run =
     let start : Fits limits run.tenant j.name run.ask (begun run.tenant j.name run.ask) = record { tenant_is = refl; name_is = refl; ask_is = refl; few = omega arith; formed = refl; clauses = refl; literals = refl; few_clauses = omega arith; few_literals = omega arith } in
     let fits : Fits limits run.tenant j.name run.ask run.ended = all-fit limits run.tenant j.name run.ask j.revisions (begun run.tenant j.name run.ask) run.ended start run.revised in
     let owner : (is_name run.tenant ≡ true) × (list_any (bytes_eq run.tenant) s.tenants ≡ true) = subst (λ (t : Option (List ℕ)). Owned t s.tenants) run.owned is.last in
-    let h = not_refused (list_any (is_job run.tenant j.name) s.jobs) (cond (has_room limits run.tenant s.jobs) (Ok (going_on s (begun run.tenant j.name run.ask))) (Err (Limit Jobs))) (Duplicate run.tenant j.name) _ run.admitted in
-    let k = passed (has_room limits run.tenant s.jobs) (Ok (going_on s (begun run.tenant j.name run.ask))) (Limit Jobs) _ h.1 in
     let own : list_any (bytes_eq run.ended.job.tenant) s.tenants ≡ true = ap (λ (t : List ℕ). list_any (bytes_eq t) s.tenants) fits.tenant_is ∙ owner.1 in
     let owners : AreNamed s.tenants (s.jobs ++ run.ended.job ∷ []) = all-named s.tenants s.jobs run.ended.job is.owners own in
     let all : length (tenants_of (s.jobs ++ run.ended.job ∷ [])) ≤ length s.tenants = tenants-few (s.jobs ++ run.ended.job ∷ []) s.tenants owners in
@@ -160,7 +149,7 @@ job-stands limits s j next is run =
     let form : IsJob limits run.ended.job = record {
       tenant = ap is_name fits.tenant_is ∙ owner.0;
       name = ap is_name fits.name_is ∙ run.name;
-      ask = subst IsAsk (sym fits.ask_is) (asked-formed (number_in j.priority 1000) (number_in j.demand 64) (number_in j.slices 4096) run.ask run.asks);
+      ask = subst IsAsk (sym fits.ask_is) (asked-formed j.priority j.demand j.slices run.ask run.asks);
       few = fits.few;
       formed = fits.formed;
       clauses = subst (λ (n : ℕ). n ≤ 1048576) fits.clauses fits.few_clauses;
@@ -168,15 +157,15 @@ job-stands limits s j next is run =
     } in
     let follows : MayFollow limits s.jobs run.ended.job = record {
       formed = form;
-      new = ap₂ (λ (t n : List ℕ). list_any (is_job t n) s.jobs) fits.tenant_is fits.name_is ∙ h.0;
-      room = ap (λ (t : List ℕ). has_room limits t s.jobs) fits.tenant_is ∙ k.0;
+      new = ap₂ (λ (t n : List ℕ). list_any (is_job t n) s.jobs) fits.tenant_is fits.name_is ∙ run.admitted.new;
+      room = ap (λ (t : List ℕ). has_room limits t s.jobs) fits.tenant_is ∙ admits-room limits run.tenant j.name s.jobs run.admitted;
       tenants = omega arith;
     } in
     subst (Stood limits) (sym run.left) (record { formed = follows-last limits [] s.jobs run.ended.job is.formed follows; few = is.few; owners = owners; last = is.last })
 
 all-stand : (limits : Limits) (parts : List Part) (s after : Reading) → Stood limits s → MakeAll limits s parts after → Stood limits after
 all-stand limits [] s after is same = subst (Stood limits) same is
-all-stand limits (Tenant name ∷ parts) s after is (next, h, others) = all-stand limits parts next after (named-stands limits name s next is h.0 h.1) others
+all-stand limits (Tenant name ∷ parts) s after is (next, h, others) = all-stand limits parts next after (named-stands limits name s next is h) others
 all-stand limits (Job j ∷ parts) s after is (next, run, others) = all-stand limits parts next after (job-stands limits s j next is run) others
 
 pub spelled-script : SpelledIsScript

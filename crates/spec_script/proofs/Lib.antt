@@ -1,6 +1,8 @@
 pub mod ExampleLemmas
 pub mod Sorted
 pub mod Inversions
+pub mod Words
+pub mod Firsts
 pub mod Parsing
 pub mod Reading
 pub mod Bounds

@@ -20,6 +20,8 @@ use Rattle.spec_script.specs.Script.{Scripted}
 use Rattle.spec_script.specs.Reading.{Reading, OpenJob, in_block, named, asked, admitted, going_on, begun, with_block, with_job, with_revision, revised, after_header, after_assumptions, inside_block, inside_job, inside, outside, after_tenant, of_tenant, after_job, after_end, after_counted, after_row, unended, at_end}
 use Rattle.spec_script.specs.Grammar.{RevisionLines, Part, Tenant, Job, revision_lines, job_lines, part_lines, is_inside, ReviseAll, MakeAll}
 use Rattle.spec_script.proofs.Inversions.{bind_ok, in_block_ok, chosen, passed, same_bytes, ok_is, named_opened, admitted_is, revised_is}
+use Rattle.spec_script.proofs.AssumedForms.{read-assumes}
+use Rattle.spec_script.proofs.Words.{read-admits, read-asks, read-names, read-room}
 
 -- the lines that are left are those of parts, which make these jobs
 pub record Outside (limits : Limits) (rows : List (List (List ℕ))) (s : Reading) (r : Scripted) : Type 0 where
@@ -85,7 +87,7 @@ tenant-parsed limits (name ∷ []) rows s t r none e rest =
     let h = passed (is_name name) (named limits name s) BadLine t e in
     let closed : t.opened ≡ None = named_opened limits name s t h.1 ∙ none in
     let out : Outside limits rows t r = subst (λ (o : Option OpenJob). Parsed limits rows t o r) closed rest in
-    record { parts = Tenant name ∷ out.parts; after = out.after; lines = ap (λ (x : List (List (List ℕ))). (codes "t" ∷ name ∷ []) ∷ x) out.lines; made = (t, (h.0, h.1), out.made); jobs = out.jobs }
+    record { parts = Tenant name ∷ out.parts; after = out.after; lines = ap (λ (x : List (List (List ℕ))). (codes "t" ∷ name ∷ []) ∷ x) out.lines; made = (t, read-names limits name s t h.0 h.1, out.made); jobs = out.jobs }
 
 owned-parsed : (limits : Limits) (tenant : Option (List ℕ)) (name p d k : List ℕ) (rows : List (List (List ℕ))) (s t : Reading) (r : Scripted) → s.tenant ≡ tenant → of_tenant limits tenant name p d k s ≡ Ok t → Parsed limits rows t t.opened r → Outside limits ((codes "j" ∷ name ∷ p ∷ d ∷ k ∷ []) ∷ rows) s r
 owned-parsed limits None name p d k rows s t r own e rest = absurd (cc)
@@ -98,7 +100,7 @@ owned-parsed limits (Some tenant) name p d k rows s t r own e rest =
       parts = Job (record { name = name; priority = p; demand = d; slices = k; revisions = job.revisions }) ∷ job.outside.parts;
       after = job.outside.after;
       lines = ap (λ (x : List (List (List ℕ))). (codes "j" ∷ name ∷ p ∷ d ∷ k ∷ []) ∷ x) (job.lines ∙ ap (λ (x : List (List (List ℕ))). job_lines job.revisions ++ x) job.outside.lines);
-      made = (with_job s job.ended.job, record { tenant = tenant; ask = a.0; ended = job.ended; owned = own; name = h.0; asks = a.1; admitted = a.2 ∙ ap (λ (x : Reading). Ok x) (sym is); revised = job.revised; left = refl }, job.outside.made);
+      made = (with_job s job.ended.job, record { tenant = tenant; ask = a.0; ended = job.ended; owned = own; name = h.0; asks = read-asks p d k a.0 a.1; admitted = read-admits limits tenant name s a.0 t a.2; revised = job.revised; left = refl }, job.outside.made);
       jobs = job.outside.jobs;
     }
 
@@ -135,7 +137,7 @@ header-parsed limits others rows s t o r e rest =
       ended = left.job.ended;
       rest = left.job.rest;
       lines = ap (λ (x : List (List (List ℕ))). (codes "p" ∷ others) ∷ x) (left.lines ∙ ap (λ (x : List (List (List ℕ))). left.body ++ (codes "a" ∷ left.words) ∷ x) left.job.lines ∙ sym (regroup left.body (codes "a" ∷ left.words) (flat_map revision_lines left.job.revisions) ((codes "e" ∷ []) ∷ []) left.job.rest));
-      revised = (left.next, record { formula = left.formula; assumptions = left.assumptions; room = ltb-true (length o.job.revisions) limits.revisions c.0; inside = left.inside; spelled = ap (λ (x : Result Block BlockFault). x >>= λ b. after_rows left.body b >>= block.ended) opened ∙ left.spelled; assumed = left.assumed; revised = left.revised }, left.job.revised);
+      revised = (left.next, record { formula = left.formula; assumptions = left.assumptions; room = ltb-true (length o.job.revisions) limits.revisions c.0; inside = left.inside; spelled = ap (λ (x : Result Block BlockFault). x >>= λ b. after_rows left.body b >>= block.ended) opened ∙ left.spelled; assumed = read-assumes left.formula.variables left.words left.assumptions left.assumed; fits = read-room o left.formula left.assumptions left.next left.revised; revised = sym (revised_is o left.formula left.assumptions left.next left.revised) }, left.job.revised);
       outside = left.job.outside;
     }
 

@@ -21,7 +21,9 @@ use Rattle.spec_script.specs.Script.{ScriptedJob, Scripted}
 use Rattle.spec_script.specs.Reading.{Reading, OpenJob, unread, in_block, named, asked, admitted, going_on, begun, with_block, with_job, revised, after_assumptions, inside_block, inside, of_tenant, after_counted, after_row, at_end, on_line, read_rows, read_text}
 use Rattle.spec_script.specs.Grammar.{RevisionLines, JobLines, Part, Tenant, Job, revision_lines, job_lines, part_lines, is_inside, Revises, ReviseAll, Runs, MakeAll, Spells}
 use Rattle.spec_script.specs.Laws.{SpelledIsRead}
-use Rattle.spec_script.proofs.Inversions.{bind_ok, on_line_ok, ok_is, named_opened, revised_is}
+use Rattle.spec_script.proofs.Inversions.{bind_ok, on_line_ok, ok_is}
+use Rattle.spec_script.proofs.Assumed.{assumes-read}
+use Rattle.spec_script.proofs.Words.{admits-read, asks-read, names-read, room-read}
 use Rattle.spec_script.proofs.Parsing.{run, counted, parsed, Outside, not_true}
 
 -- ---- lines and their numbers
@@ -109,10 +111,7 @@ run-revision limits r rest s o next none is =
     ap (λ (x : Result Reading LineFault). x >>= run limits ((r.body ++ (codes "a" ∷ r.assumed) ∷ []) ++ rest)) (run-header limits r.header s o a.0 none is.room a.1)
     ∙ ap (λ (x : List (List (List ℕ))). run limits x (going_on s (with_block o a.0))) (append_assoc r.body ((codes "a" ∷ r.assumed) ∷ []) rest)
     ∙ run-body limits r.body ((codes "a" ∷ r.assumed) ∷ rest) s o a.0 c.0 is.inside c.1
-    ∙ ap (λ (x : Result Reading LineFault). x >>= run limits rest) (run-assumed limits r.assumed s o next c.0 is.formula is.assumptions c.2 is.assumed is.revised)
-
-revised-closed : (o : OpenJob) (f : Formulated) (assumptions : List ℕ) (next : OpenJob) → revised o f assumptions ≡ Ok next → next.block ≡ None
-revised-closed o f assumptions next h = sym (ap (λ (x : OpenJob). x.block) (revised_is o f assumptions next h))
+    ∙ ap (λ (x : Result Reading LineFault). x >>= run limits rest) (run-assumed limits r.assumed s o next c.0 is.formula is.assumptions c.2 (assumes-read is.formula.variables r.assumed is.assumptions is.assumed) (room-read o is.formula is.assumptions is.fits ∙ ap (λ (x : OpenJob). Ok x) (sym is.revised)))
 
 run-revisions : (limits : Limits) (rs : List RevisionLines) (rest : List (List (List ℕ))) (s : Reading) (o ended : OpenJob) → o.block ≡ None → ReviseAll limits o rs ended
     → run limits (job_lines rs ++ rest) (going_on s o) ≡ run limits rest (with_job s ended.job)
@@ -122,7 +121,7 @@ run-revisions limits [] rest s o ended none is =
 run-revisions limits (r ∷ rs) rest s o ended none (next, first, others) =
     ap (λ (x : List (List (List ℕ))). run limits x (going_on s o)) (shape (revision_lines r) (flat_map revision_lines rs) ((codes "e" ∷ []) ∷ []) rest)
     ∙ run-revision limits r (job_lines rs ++ rest) s o next none first
-    ∙ run-revisions limits rs rest s next ended (revised-closed o first.formula first.assumptions next first.revised) others
+    ∙ run-revisions limits rs rest s next ended (ap (λ (x : OpenJob). x.block) first.revised) others
   where
     shape : (a b c d : List (List (List ℕ))) → ((a ++ b) ++ c) ++ d ≡ a ++ ((b ++ c) ++ d)
     shape a b c d = simp append_assoc
@@ -133,8 +132,8 @@ run-job limits s j after none is =
     ap (λ (x : Option OpenJob). after_counted limits (codes "j") (j.name ∷ j.priority ∷ j.demand ∷ j.slices ∷ []) x s) none
     ∙ ap (λ (x : Option (List ℕ)). of_tenant limits x j.name j.priority j.demand j.slices s) is.owned
     ∙ ap (λ (x : Bool). cond x (asked (number_in j.priority 1000) (number_in j.demand 64) (number_in j.slices 4096) >>= admitted limits is.tenant j.name s) (Err BadLine)) is.name
-    ∙ ap (λ (x : Result Terms LineFault). x >>= admitted limits is.tenant j.name s) is.asks
-    ∙ is.admitted
+    ∙ ap (λ (x : Result Terms LineFault). x >>= admitted limits is.tenant j.name s) (asks-read j.priority j.demand j.slices is.ask is.asks)
+    ∙ admits-read limits is.tenant j.name s is.ask is.admitted
 
 run-tenant : (limits : Limits) (s : Reading) (name : List ℕ) (after : Reading) → s.opened ≡ None → is_name name ≡ true → named limits name s ≡ Ok after → after_row limits (codes "t" ∷ name ∷ []) s ≡ Ok after
 run-tenant limits s name after none h k =
@@ -148,9 +147,9 @@ run-parts limits [] s after r none is jobs =
   where
     script : List ScriptedJob → Scripted
     script x = record { jobs = x }
-run-parts limits (Tenant name ∷ parts) s after r none (next, (h, k), others) jobs =
-    ap (λ (x : Result Reading LineFault). x >>= run limits (flat_map part_lines parts)) (run-tenant limits s name next none h k)
-    ∙ run-parts limits parts next after r (named_opened limits name s next k ∙ none) others jobs
+run-parts limits (Tenant name ∷ parts) s after r none (next, h, others) jobs =
+    ap (λ (x : Result Reading LineFault). x >>= run limits (flat_map part_lines parts)) (run-tenant limits s name next none h.formed (names-read limits name s next h))
+    ∙ run-parts limits parts next after r (ap (λ (x : Reading). x.opened) h.left ∙ none) others jobs
 run-parts limits (Job j ∷ parts) s after r none (next, is, others) jobs =
     ap (λ (x : Result Reading LineFault). x >>= run limits (job_lines j.revisions ++ flat_map part_lines parts)) (run-job limits s j next none is)
     ∙ run-revisions limits j.revisions (flat_map part_lines parts) s (begun is.tenant j.name is.ask) is.ended refl is.revised

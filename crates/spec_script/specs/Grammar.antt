@@ -1,18 +1,21 @@
 -- The grammar of scripts: which script a text spells.
-use Rattle.std.specs.Prelude.{◌≡◌, ℕ, ◌<◌, Bool, true, false, not, ◌&&◌, List, [], ◌∷◌, ◌++◌, length, flat_map, codes, bytes_eq, Some, Result, Ok}
-use Rattle.std.specs.List.{list_all}
+use Rattle.std.specs.Prelude.{◌≡◌, ℕ, ◌+◌, ◌<◌, ◌≤◌, Bool, true, false, not, ◌&&◌, ◌⊎◌, List, [], ◌∷◌, ◌++◌, length, map, flat_map, count_by, codes, bytes_eq, Some, Result, Ok}
+use Rattle.std.specs.List.{list_all, list_any}
 use Rattle.mal_base.specs.Asks.{Terms}
-use Rattle.mal_base.specs.Formulas.{Formulated}
+use Rattle.mal_base.specs.Formulas.{Formulated, is_within, literals_of}
 use Rattle.mal_base.specs.Names.{is_name}
 use Rattle.spec_text.specs.Numbers.{number_in}
+use Rattle.spec_text.specs.Numbers.NumberWord.{Number}
 use Rattle.mal_base.specs.declared.block_fault.BlockFault.{BlockFault}
+use Rattle.spec_dimacs.specs.Grammar.{Says, closed_numbers}
+use Rattle.spec_dimacs.specs.Merged.{IsClauseOf}
 use Rattle.spec_dimacs.specs.Rows.{is_passed, counted_rows}
 use Rattle.spec_dimacs.specs.Reading as block
 use Rattle.spec_dimacs.specs.Reading.{◌>>=◌}
 use Rattle.spec_script.specs.Limits.{Limits}
-use Rattle.spec_script.specs.Script.{Scripted}
-use Rattle.spec_script.specs.Assumptions.{assumptions_in}
-use Rattle.spec_script.specs.Reading.{OpenJob, Reading, unread, named, asked, admitted, begun, going_on, revised, with_job}
+use Rattle.spec_script.specs.Script.{ScriptedJob, Scripted}
+use Rattle.spec_script.specs.Formed.{with_name}
+use Rattle.spec_script.specs.Reading.{OpenJob, Reading, unread, is_of, is_job, begun, with_revision, with_job}
 
 -- the lines of a revision: those of its block, and the line of its assumptions, of which the words behind the `a`
 pub record RevisionLines : Type 0 where
@@ -59,6 +62,41 @@ is_inside row = not (is_passed row) && not (is_assumed row)
 abbrev pub formula_of : List (List ℕ) → List (List (List ℕ)) → Result Formulated BlockFault
 formula_of header body = block.opened (codes "p" ∷ header) >>= λ b. block.after_rows body b >>= block.ended
 
+-- a word of digits says a number from 1 to the greatest, leading zeros allowed
+abbrev pub SaysUpTo : ℕ → List ℕ → ℕ → Type 0
+SaysUpTo max word n = Says word n × (1 ≤ n) × (n ≤ max)
+
+-- three words say an ask: a priority up to 1,000, a demand up to 64 and slices up to 4,096
+pub record Asks (priority demand slices : List ℕ) (ask : Terms) : Type 0 where
+  pub priority_says : SaysUpTo 1000 priority ask.priority
+  pub demand_says : SaysUpTo 64 demand ask.demand
+  pub slices_says : SaysUpTo 4096 slices ask.slices
+
+-- a tenant is named: its word is a name, which was named before or is one more than may have been named
+pub record Names (limits : Limits) (s : Reading) (name : List ℕ) (after : Reading) : Type 0 where
+  pub formed : is_name name ≡ true
+  pub room : (list_any (bytes_eq name) s.tenants ≡ true) ⊎ (length s.tenants < limits.tenants)
+  pub left : after ≡ record s { tenants = with_name s.tenants name; tenant = Some name }
+
+-- a tenant may begin a job behind these: it has none of this name, and there may be one more of it and in all
+pub record Admits (limits : Limits) (tenant name : List ℕ) (jobs : List ScriptedJob) : Type 0 where
+  pub new : list_any (is_job tenant name) jobs ≡ false
+  pub few_of_tenant : count_by (is_of tenant) jobs < limits.jobs_of_tenant
+  pub few : length jobs < limits.jobs
+
+-- words say assumptions: they are the numbers of literals of variables up to this one, and then a 0. The assumptions are
+-- those literals once each, by rising variable, so no variable has both signs
+pub record Assumes (variables : ℕ) (words : List (List ℕ)) (assumptions : List ℕ) : Type 0 where
+  pub lits : List ℕ
+  pub closed : map (λ word. number_in word variables) words ≡ map (λ z. Number z) (closed_numbers lits)
+  pub within : is_within variables lits ≡ true
+  pub once : IsClauseOf lits (Some assumptions)
+
+-- a job may have one more revision of this formula: 2^20 clauses and 2^24 literals at most in all
+pub record HasRoomFor (o : OpenJob) (formula : Formulated) : Type 0 where
+  pub clauses : o.clauses + length formula.clauses ≤ 1048576
+  pub literals : o.literals + literals_of formula.clauses ≤ 16777216
+
 -- the lines of a revision make one more revision of a job: there may be one more, its block spells a formula, and its
 -- assumptions are literals of the formula's variables
 pub record Revises (limits : Limits) (o : OpenJob) (r : RevisionLines) (after : OpenJob) : Type 0 where
@@ -67,8 +105,9 @@ pub record Revises (limits : Limits) (o : OpenJob) (r : RevisionLines) (after : 
   pub room : length o.job.revisions < limits.revisions
   pub inside : list_all is_inside r.body ≡ true
   pub spelled : formula_of r.header r.body ≡ Ok formula
-  pub assumed : assumptions_in formula.variables r.assumed ≡ Ok assumptions
-  pub revised : revised o formula assumptions ≡ Ok after
+  pub assumed : Assumes formula.variables r.assumed assumptions
+  pub fits : HasRoomFor o formula
+  pub revised : after ≡ with_revision o formula assumptions
 
 -- lines of several revisions, one behind another
 abbrev pub ReviseAll : Limits → OpenJob → List RevisionLines → OpenJob → Type 0
@@ -82,14 +121,14 @@ pub record Runs (limits : Limits) (s : Reading) (j : JobLines) (after : Reading)
   pub ended : OpenJob
   pub owned : s.tenant ≡ Some tenant
   pub name : is_name j.name ≡ true
-  pub asks : asked (number_in j.priority 1000) (number_in j.demand 64) (number_in j.slices 4096) ≡ Ok ask
-  pub admitted : admitted limits tenant j.name s ask ≡ Ok (going_on s (begun tenant j.name ask))
+  pub asks : Asks j.priority j.demand j.slices ask
+  pub admitted : Admits limits tenant j.name s.jobs
   pub revised : ReviseAll limits (begun tenant j.name ask) j.revisions ended
   pub left : after ≡ with_job s ended.job
 
 -- what the lines of a part make of a script
 abbrev pub Makes : Limits → Reading → Part → Reading → Type 0
-Makes limits s (Tenant name) after = (is_name name ≡ true) × (named limits name s ≡ Ok after)
+Makes limits s (Tenant name) after = Names limits s name after
 Makes limits s (Job j) after = Runs limits s j after
 
 -- what the lines of several parts make of a script, one behind another

@@ -1,15 +1,48 @@
 -- What holds of every text, in the form in which the law functions state it.
-use Rattle.std.specs.Prelude.{◌≡◌, ℕ, ◌↔◌, List, Ok}
+use Rattle.std.specs.Prelude.{◌≡◌, ℕ, ◌<◌, ◌↔◌, List, [], ◌∷◌, length, take, Ok, Err}
+use Rattle.mal_base.specs.Asks.{Terms}
+use Rattle.mal_base.specs.Formulas.{Formulated}
+use Rattle.mal_base.specs.declared.line_fault.LineFault.{LineFault}
+use Rattle.spec_text.specs.Inputs.{lines_of}
+use Rattle.spec_text.specs.Numbers.{number_in}
 use Rattle.spec_script.specs.Limits.{Limits}
 use Rattle.spec_script.specs.Script.{Scripted, spelling}
-use Rattle.spec_script.specs.Reading.{read_text}
-use Rattle.spec_script.specs.Grammar.{Spells}
+use Rattle.spec_script.specs.Assumptions.{assumptions_in}
+use Rattle.spec_script.specs.Reading.{OpenJob, Reading, admitted, after_tenant, asked, begun, going_on, read_text, revised, with_revision}
+use Rattle.spec_script.specs.Grammar.{Admits, Asks, Assumes, HasRoomFor, Names, Spells}
 use Rattle.spec_script.specs.Within.{IsWithin}
 use Rattle.spec_script.specs.Formed.{IsScript}
 
 -- a text spells a script exactly where reading gives it: no text spells two scripts, or has a first fault and spells one
 abbrev pub SpelledIsRead : Type 0
 SpelledIsRead = (limits : Limits) (text : List ℕ) (s : Scripted) → Spells limits text s ↔ (read_text limits text ≡ Ok s)
+
+-- reading three words gives just the ask that they say
+abbrev pub AskIsRead : Type 0
+AskIsRead = (p d k : List ℕ) (ask : Terms) → Asks p d k ask ↔ (asked (number_in p 1000) (number_in d 64) (number_in k 4096) ≡ Ok ask)
+
+-- a tenant's line is read exactly where its word names a tenant
+abbrev pub TenantIsRead : Type 0
+TenantIsRead = (limits : Limits) (name : List ℕ) (s after : Reading) → Names limits s name after ↔ (after_tenant limits (name ∷ []) s ≡ Ok after)
+
+-- a job begins exactly where its tenant may begin it
+abbrev pub JobIsAdmitted : Type 0
+JobIsAdmitted = (limits : Limits) (tenant name : List ℕ) (s : Reading) (ask : Terms) (after : Reading)
+    → (Admits limits tenant name s.jobs × (after ≡ going_on s (begun tenant name ask))) ↔ (admitted limits tenant name s ask ≡ Ok after)
+
+-- reading the words of a line of assumptions gives just those that they say
+abbrev pub AssumptionsAreRead : Type 0
+AssumptionsAreRead = (variables : ℕ) (words : List (List ℕ)) (assumptions : List ℕ) → Assumes variables words assumptions ↔ (assumptions_in variables words ≡ Ok assumptions)
+
+-- a job has one revision more exactly where it has room for its formula
+abbrev pub RevisionIsRead : Type 0
+RevisionIsRead = (o : OpenJob) (formula : Formulated) (assumptions : List ℕ) (after : OpenJob)
+    → (HasRoomFor o formula × (after ≡ with_revision o formula assumptions)) ↔ (revised o formula assumptions ≡ Ok after)
+
+-- nothing behind a faulty line counts: where the first fault is on a line before the last, each text that begins with the
+-- same lines, up to this one, has the same first fault
+abbrev pub FaultIsFirst : Type 0
+FaultIsFirst = (limits : Limits) (text other : List ℕ) (line : ℕ) (fault : LineFault) → read_text limits text ≡ Err (line, fault) → line < length (lines_of text) → take line (lines_of other) ≡ take line (lines_of text) → read_text limits other ≡ Err (line, fault)
 
 -- what a text spells is within the limits
 abbrev pub SpelledIsWithin : Type 0

@@ -8,4 +8,5 @@ pub mod Formed
 pub mod FaultLines
 pub mod Laws
 pub mod Examples
+pub mod WordExamples
 pub mod Differ

@@ -4,7 +4,9 @@
 
 ghost use Rattle.spec_script.specs.Differ.{HaveOtherTexts, ScriptsDiffer};
 ghost use Rattle.spec_script.specs.Examples.{HasExamples, ReadingExamples, FaultExamples, LimitExamples};
+ghost use Rattle.spec_script.specs.WordExamples.{WordExamples};
 ghost use Rattle.spec_script.specs.Laws.{SpelledIsRead, SpelledIsWithin, WrittenIsSpelled, WrittenIsRead, SpelledIsScript, SpelledAgain};
+ghost use Rattle.spec_script.specs.Laws.{AskIsRead, AssumptionsAreRead, FaultIsFirst, JobIsAdmitted, RevisionIsRead, TenantIsRead};
 
 /// The worked examples of a script's text compute to the texts that are known.
 pub fn script_examples()
@@ -27,6 +29,29 @@ pub fn fault_examples()
 #[tactic(auto, using(crate::proofs::ExampleLemmas::limit_examples))]
 pub fn limit_examples()
     ensures { LimitExamples }
+{}
+
+/// What the words of a line say, and what they do not.
+#[tactic(auto, using(crate::proofs::ExampleLemmas::word_examples))]
+pub fn word_examples()
+    ensures { WordExamples }
+{}
+
+/// The words of the grammar say what reading takes of them: an ask, the name of a tenant, a job that may begin, assumptions,
+/// and a revision for which there is room.
+pub fn words_are_read()
+    ensures ask { AskIsRead }
+    ensures tenant { TenantIsRead }
+    ensures job { JobIsAdmitted }
+    ensures assumptions { AssumptionsAreRead }
+    ensures revision { RevisionIsRead }
+{}
+
+/// Where the first fault of a text is on a line before the last, each text that begins with the same lines, up to this
+/// one, has the same first fault.
+#[tactic(auto, using(crate::proofs::Firsts::fault_is_first))]
+pub fn fault_is_first()
+    ensures { FaultIsFirst }
 {}
 
 /// A text spells a script exactly where reading gives the script. So no text spells two, and none that has a first fault
