@@ -1,2 +1,3 @@
 pub mod ExampleLemmas
 pub mod VerdictLemmas
+pub mod LineLemmas

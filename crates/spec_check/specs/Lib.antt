@@ -1,3 +1,4 @@
 pub mod Proofs
+pub mod Grammar
 pub mod Laws
 pub mod Examples

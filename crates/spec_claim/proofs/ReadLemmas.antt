@@ -9,7 +9,10 @@ use Rattle.spec_dimacs.proofs.Spelled.{read_is_spelled, spelled_is_read}
 use Rattle.mal_base.specs.declared.line_fault.LineFault.{LineFault}
 use Rattle.mal_base.specs.declared.line_fault.LineFault.TheVariants.{BadLine}
 use Rattle.spec_script.specs.Assumptions.{assumptions_of}
+use Rattle.spec_script.specs.Grammar.{Assumes}
+use Rattle.spec_script.proofs.Assumed.{assumes-read}
 use Rattle.spec_script.proofs.Inversions.{bind_ok, chosen, passed}
+use Rattle.spec_check.proofs.LineLemmas.{lines_are_read}
 use Rattle.spec_lrat.specs.Reading as proof
 use Rattle.spec_check.specs.Proofs.{Numbered, lines_from}
 use Rattle.spec_claim.specs.Claims.{Claim, Assumed, Fault, is_proof_line, is_formula_line, formula_rows, behind_formula, in_formula, in_line, in_proof, to_proof, assumed, claim_of, read_lines, read_text}
@@ -17,7 +20,7 @@ use Rattle.spec_claim.specs.Claims.Fault.{NoProof, InFormula}
 use Rattle.spec_claim.specs.Grammar.{AreAssumed, Spells}
 use Rattle.spec_claim.specs.Laws.{SpelledIsRead}
 use Rattle.spec_claim.proofs.FrontLemmas.{front-rows}
-use Rattle.spec_claim.proofs.RowLemmas.{proof-line, assumed-no-proof, assumed-behind, passed-no-proof, and-left, some-proof}
+use Rattle.spec_claim.proofs.RowLemmas.{proof-line, assumed-no-proof, assumed-behind, passed-no-proof, and-left, some-proof, assumed-says}
 
 -- where the lines of the formula end
 pub formula-front : (front rows : List (List (List ℕ))) → list_all is_formula_line front ≡ true → formula_rows rows ≡ [] → formula_rows (front ++ rows) ≡ front
@@ -57,11 +60,11 @@ record Between (variables line : ℕ) (between behind : List (List (List ℕ))) 
 between-read : (variables line : ℕ) (between behind : List (List (List ℕ))) (lits : List ℕ) → AreAssumed variables between lits → Between variables line between behind lits
 between-read variables line between behind lits (inl h) = rw (h.0, h.1) (record { none = refl; all = refl; read = refl })
 between-read variables line between behind lits (inr h) =
-    let row : List (List ℕ) = h.0 in
+    let row : List (List ℕ) = codes "a" ∷ h.0 in
     let others : List (List (List ℕ)) = h.1 in
     let left : List (List (List ℕ)) = others ++ (codes "proof" ∷ []) ∷ behind in
     let same : between ≡ row ∷ others = h.2 in
-    let lits_of : assumptions_of variables row ≡ Ok lits = h.3 in
+    let lits_of : assumptions_of variables row ≡ Ok lits = assumes-read variables h.0 lits h.3 in
     rw same (record {
       none = none-front row left (assumed-behind variables row lits lits_of);
       all = all-behind row left (assumed-behind variables row lits lits_of);
@@ -81,7 +84,7 @@ spelled-read text c s =
     ∙ ap₂ (λ (fs bs : List (List (List ℕ))). in_formula (read_rows fs 0 None) >>= λ f. assumed f.variables (length fs) bs >>= claim_of f) (formula-front front rest s.inside b.none) (formula-behind front rest s.inside b.all)
     ∙ ap (λ (r : Result Formulated (ℕ × BlockFault)). in_formula r >>= λ f. assumed f.variables (length front) rest >>= claim_of f) (spelled_is_read s.front c.formula s.formula)
     ∙ ap (λ (r : Result Assumed Fault). r >>= claim_of c.formula) b.read
-    ∙ ap (λ (r : Result (List Numbered) (ℕ × proof.Fault)). in_proof r >>= λ lines. Ok (record { formula = c.formula; assumptions = c.assumptions; lines = lines })) s.lines
+    ∙ ap (λ (r : Result (List Numbered) (ℕ × proof.Fault)). in_proof r >>= λ lines. Ok (record { formula = c.formula; assumptions = c.assumptions; lines = lines })) ((lines_are_read 1 (length c.formula.clauses) s.behind c.lines).0 s.lines)
   where
     found : (front between behind : List (List (List ℕ))) → list_any is_proof_line (front ++ (between ++ (codes "proof" ∷ []) ∷ behind)) ≡ true
     found front between behind =
@@ -139,7 +142,8 @@ assumed-read variables line (row ∷ rows) a e =
     later k =
         let lits_of : assumptions_of variables row ≡ Ok k.0 = in_line_ok (suc line) (assumptions_of variables row) k.0 k.1 in
         let p = to-proof-read k.0 (suc line) rows a k.2 in
-        (row ∷ p.0, ap (λ (xs : List (List (List ℕ))). row ∷ xs) p.1, inr (row, p.0, refl, lits_of ∙ ap (λ (x : List ℕ). Ok x) (sym p.3), p.2))
+        let w = assumed-says variables row k.0 lits_of in
+        (row ∷ p.0, ap (λ (xs : List (List (List ℕ))). row ∷ xs) p.1, inr (w.0, p.0, ap (λ (x : List (List ℕ)). x ∷ p.0) w.1, subst (λ (lits : List ℕ). Assumes variables w.0 lits) (sym p.3) w.2, p.2))
 
 -- the lines of the formula are the first lines
 formula-first : (rows : List (List (List ℕ))) → formula_rows rows ≡ take (length (formula_rows rows)) rows
@@ -190,7 +194,7 @@ read-spelled text c e =
           inside = ap (list_all is_formula_line) fronts ∙ formula-all rows;
           formula = read_is_spelled first.0 f (ap (λ (xs : List (List (List ℕ))). read_rows xs 0 None) fronts ∙ p);
           assumed = back.2;
-          lines = r;
+          lines = (lines_are_read 1 (length f.clauses) a.rows ls).1 r;
         })
 
 pub spelled-is-read : SpelledIsRead

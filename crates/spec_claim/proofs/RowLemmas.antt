@@ -1,11 +1,13 @@
 -- What the words of a line are and are not.
-use Rattle.std.proofs.Common.{◌≡◌, ℕ, Bool, true, false, cond, ◌||◌, ◌&&◌, List, [], ◌∷◌, ◌++◌, codes, Ok, Err, refl, ap, ◌∙◌}
+use Rattle.std.proofs.Common.{◌≡◌, ℕ, Bool, true, false, cond, ◌||◌, ◌&&◌, List, [], ◌∷◌, ◌++◌, codes, Ok, Err, refl, sym, ap, ◌∙◌}
 use Rattle.std.specs.Str.{bytes_eq}
 use Rattle.std.specs.List.{list_any}
 use Rattle.std.proofs.lemmas.Slice.Eq.{bytes_eq-Decides}
 use Rattle.spec_dimacs.specs.Rows.{is_comment, is_passed}
 use Rattle.mal_base.specs.declared.line_fault.LineFault.TheVariants.{BadLine}
 use Rattle.spec_script.specs.Assumptions.{assumptions_in, assumptions_of}
+use Rattle.spec_script.specs.Grammar.{Assumes}
+use Rattle.spec_script.proofs.AssumedForms.{read-assumes}
 use Rattle.spec_claim.specs.Claims.{is_proof_line, is_formula_line}
 
 -- the line `proof` is that word
@@ -22,6 +24,12 @@ assumed-first variables (first ∷ others) lits e = by_word (bytes_eq first (cod
     by_word : (b : Bool) → bytes_eq first (codes "a") ≡ b → cond b (assumptions_in variables others) (Err BadLine) ≡ Ok lits → (rest : List (List ℕ)) × (first ∷ others ≡ codes "a" ∷ rest)
     by_word true q e = (others, ap (λ (w : List ℕ). w ∷ others) ((bytes_eq-Decides first (codes "a")).0 q))
     by_word false q e = absurd (cc)
+
+-- what is read of a line of assumptions, the words behind its first say
+pub assumed-says : (variables : ℕ) (row : List (List ℕ)) (lits : List ℕ) → assumptions_of variables row ≡ Ok lits → (words : List (List ℕ)) × (row ≡ codes "a" ∷ words) × Assumes variables words lits
+assumed-says variables row lits e =
+    let first = assumed-first variables row lits e in
+    (first.0, first.1, read-assumes variables first.0 lits (sym (ap (assumptions_of variables) first.1) ∙ e))
 
 a-no-proof : (others : List (List ℕ)) → is_proof_line (codes "a" ∷ others) ≡ false
 a-no-proof [] = refl
