@@ -1,11 +1,12 @@
 //! Thin adapters over the readers and writers of the standard library.
-ghost use Rattle.std.specs.Prelude.{◌≡◌};
+ghost use Rattle.std.specs.Prelude.{◌≡◌, ◌≤◌};
 ghost use Rattle.mal_io.specs.Held.{reader, read_faults, writer, write_faults};
+ghost use Rattle.mal_io.specs.Moves.{PutsAs, TakesAs};
 
 use crate::device::{Failed, Sink, Source};
-use std::io::{Read, Write};
+use std::io::{self, Read, Write};
 
-/// A source over a reader. Each error of the reader is a fault.
+/// A source over a reader. Each error of the reader is a fault, and nothing else is one.
 #[derive(Drop)]
 pub struct StdSource<R: Read> {
     inner: R,
@@ -28,18 +29,13 @@ impl<R: Read> Source for StdSource<R> {
     ghost faults = { read_faults };
 
     fn take(&mut self, into: &mut [u8]) -> Result<usize, Failed> {
-        match self.inner.read(into) {
-            Ok(count) => Ok(count),
-            Err(_) => {
-                self.faults = self.faults.saturating_add(1);
-                Err(Failed)
-            }
-        }
+        let answer = self.inner.read(into);
+        as_reader(answer, &mut self.faults)
     }
 }
 
 /// A sink over a writer. Each error of the writer is a fault, and so is a call that takes nothing of
-/// a piece that is not empty.
+/// a piece that is not empty. Nothing else is one.
 #[derive(Drop)]
 pub struct StdSink<W: Write> {
     inner: W,
@@ -62,12 +58,37 @@ impl<W: Write> Sink for StdSink<W> {
     ghost faults = { write_faults };
 
     fn put(&mut self, bytes: &[u8]) -> Result<usize, Failed> {
-        match self.inner.write(bytes) {
-            Ok(count) if count > 0 || bytes.is_empty() => Ok(count),
-            _ => {
-                self.faults = self.faults.saturating_add(1);
-                Err(Failed)
-            }
+        let answer = self.inner.write(bytes);
+        as_writer(answer, bytes, &mut self.faults)
+    }
+}
+
+/// What a source answers whose reader answered so: as many bytes, or a fault exactly where the reader failed, which is
+/// counted once.
+fn as_reader(answer: io::Result<usize>, faults: &mut u64) -> Result<usize, Failed>
+    ensures answer { TakesAs answer result faults.old faults.new }
+    ensures later { faults.old ≤ faults.new }
+{
+    match answer {
+        Ok(count) => Ok(count),
+        Err(_) => {
+            *faults = faults.saturating_add(1);
+            Err(Failed)
+        }
+    }
+}
+
+/// What a sink answers whose writer answered so with a piece: as many bytes, or a fault exactly where the writer failed or
+/// took nothing of a piece that is not empty, which is counted once.
+fn as_writer(answer: io::Result<usize>, piece: &[u8], faults: &mut u64) -> Result<usize, Failed>
+    ensures answer { PutsAs answer result piece.now faults.old faults.new }
+    ensures later { faults.old ≤ faults.new }
+{
+    match answer {
+        Ok(count) if count > 0 || piece.is_empty() => Ok(count),
+        _ => {
+            *faults = faults.saturating_add(1);
+            Err(Failed)
         }
     }
 }

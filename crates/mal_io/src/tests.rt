@@ -1,5 +1,8 @@
+ghost use Rattle.std.specs.Prelude.{◌≤◌, IfOk};
+
 use super::*;
 use std::alloc::Global;
+use std::io::{self, Read, Write};
 
 #[test]
 fn a_fault_in_mid_stream_is_a_read_fault(rt: HostRuntime) {
@@ -47,4 +50,62 @@ fn readers_and_writers_of_std_are_devices(rt: HostRuntime) {
     let mut sink = StdSink::new(&mut written);
     assert_eq!(rt; write_all(&mut sink, read.as_slice()), Ok(()));
     assert_eq!(rt; written.as_slice(), b"from a slice".as_slice());
+}
+
+/// A reader and a writer of a byte a call that fails in every second call, and counts its calls.
+#[derive(Drop)]
+struct Fickle {
+    calls: u32,
+}
+
+impl Fickle {
+    /// What the next call moves of so many bytes.
+    fn moved(&mut self, length: usize) -> io::Result<usize>
+        ensures { IfOk result (λ n. n ≤ length) }
+    {
+        self.calls = self.calls.saturating_add(1);
+        if self.calls % 2 == 0 {
+            return Err(io::Error::from(io::ErrorKind::TimedOut));
+        }
+        Ok(length.min(1))
+    }
+}
+
+impl Read for Fickle {
+    fn read(&mut self, buf: &mut [u8]) -> io::Result<usize> {
+        self.moved(buf.len())
+    }
+}
+
+impl Write for Fickle {
+    fn write(&mut self, buf: &[u8]) -> io::Result<usize> {
+        self.moved(buf.len())
+    }
+
+    fn flush(&mut self) -> io::Result<()> {
+        Ok(())
+    }
+}
+
+#[test]
+fn a_source_asks_its_reader_once_in_each_call(rt: HostRuntime) {
+    let mut reader = Fickle { calls: 0 };
+    let mut source = StdSource::new(&mut reader);
+    let mut into = [0; 4];
+    assert_eq!(rt; source.take(&mut into), Ok(1));
+    assert_eq!(rt; source.take(&mut into), Err(Failed));
+    assert_eq!(rt; source.take(&mut into[..0]), Ok(0));
+    assert_eq!(rt; source.take(&mut into[..0]), Err(Failed));
+    assert_eq!(rt; reader.calls, 4);
+}
+
+#[test]
+fn a_sink_asks_its_writer_once_in_each_call(rt: HostRuntime) {
+    let mut writer = Fickle { calls: 0 };
+    let mut sink = StdSink::new(&mut writer);
+    assert_eq!(rt; sink.put(b"abc"), Ok(1));
+    assert_eq!(rt; sink.put(b"abc"), Err(Failed));
+    assert_eq!(rt; sink.put(b""), Ok(0));
+    assert_eq!(rt; sink.put(b""), Err(Failed));
+    assert_eq!(rt; writer.calls, 4);
 }
