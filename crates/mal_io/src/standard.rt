@@ -78,8 +78,8 @@ fn as_reader(answer: io::Result<usize>, faults: &mut u64) -> Result<usize, Faile
     }
 }
 
-/// What a sink answers whose writer answered so with a piece: as many bytes, or a fault exactly where the writer failed or
-/// took nothing of a piece that is not empty, which is counted once.
+/// What a sink answers whose writer answered so with a piece: as many bytes, or a fault exactly where the writer failed
+/// or took nothing of a piece that is not empty, which is counted once.
 fn as_writer(answer: io::Result<usize>, piece: &[u8], faults: &mut u64) -> Result<usize, Failed>
     ensures answer { PutsAs answer result piece.now faults.old faults.new }
     ensures later { faults.old ≤ faults.new }

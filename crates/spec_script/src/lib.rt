@@ -37,8 +37,8 @@ pub fn word_examples()
     ensures { WordExamples }
 {}
 
-/// The words of the grammar say what reading takes of them: an ask, the name of a tenant, a job that may begin, assumptions,
-/// and a revision for which there is room.
+/// The words of the grammar say what reading takes of them: an ask, the name of a tenant, a job that may begin,
+/// assumptions, and a revision for which there is room.
 pub fn words_are_read()
     ensures ask { AskIsRead }
     ensures tenant { TenantIsRead }
