@@ -5,8 +5,6 @@ ghost use Rattle.mal_pool.specs.Gates.{LosesByStops};
 ghost use Rattle.mal_pool.specs.Posts.{HasRun};
 ghost use Rattle.spec_hall.specs.Driven.{IsDriven};
 ghost use Rattle.spec_run.specs.Complete.{script_events};
-ghost use Rattle.spec_script.specs.Formed.{IsScript};
-ghost use Rattle.spec_script.specs.Limits.{served};
 
 use crate::served::Served;
 use mal_hall::Hall;
@@ -29,7 +27,6 @@ pub fn run_served<R: Threads + Wait + Sync, G: Gate>(
     workers: u32,
     gate: &G,
 ) -> Result<Hall, AllocError>
-    requires formed { IsScript served script.now }
     requires some { 1 ≤ workers }
     requires bound { workers ≤ 64 }
     ensures run { IfOk result (λ h. HasRun workers script.now h) }
@@ -50,7 +47,6 @@ fn run_shared<S: Size + Send + Sync, R: Threads + Wait + Sync, G: Gate>(
     workers: u32,
     gate: &G,
 ) -> Result<Hall, AllocError>
-    requires formed { IsScript served script.now }
     requires some { 1 ≤ workers }
     requires bound { workers ≤ 64 }
     requires size { workers ≡ S.workers }

@@ -9,8 +9,6 @@ ghost use Rattle.mal_answer.specs.Devices.{device};
 ghost use Rattle.mal_words.specs.declared.request.Request.TheVariants.{Replay};
 ghost use Rattle.spec_account.specs.FaultLines.{history_line};
 ghost use Rattle.mal_base.specs.declared.replay_fault.ReplayFault.TheVariants.{OutOfMemory};
-ghost use Rattle.spec_script.specs.Formed.{IsScript};
-ghost use Rattle.spec_script.specs.Limits.{served};
 ghost use Rattle.spec_text.specs.Lines.{line_of};
 
 use itoa::Buffer;
@@ -46,7 +44,6 @@ fn replay_text(alloc: Global, text: &[u8]) -> Result<Texts, Complaint>
 /// Replays the history of an account.
 #[tactic(auto, using(crate::proofs::Replays::judge_lemmas))]
 fn judge(alloc: Global, account: &Account) -> Result<Texts, Complaint>
-    requires { IsScript served account.now.script }
     ensures replies { IfOk result (λ t. AreReplies (seen account.now) t.out.items) }
     ensures silent { IfOk result (λ t. t.log.items ≡ []) }
     ensures denied { IfErr result (λ e. IsUnsound (seen account.now) e) }

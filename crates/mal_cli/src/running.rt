@@ -7,8 +7,6 @@ ghost use Rattle.mal_answer.specs.Devices.{device};
 ghost use Rattle.mal_pool.specs.Posts.{HasRun};
 ghost use Rattle.mal_words.specs.declared.request.Request.TheVariants.{Run};
 ghost use Rattle.spec_run.specs.Run.{IsRun};
-ghost use Rattle.spec_script.specs.Formed.{IsScript};
-ghost use Rattle.spec_script.specs.Limits.{served};
 
 use mal_answer::{Complaint, Texts, input, script_of};
 use mal_board::run_served;
@@ -84,7 +82,6 @@ fn run_text<R: Threads + Wait + Sync, G: Gate>(
 
 /// Runs a script with one worker, and makes the texts of its history and its replies.
 pub fn run_script_alone(alloc: Global, script: &Script) -> Result<Texts, AllocError>
-    requires { IsScript served script.now }
     ensures { IfOk result (λ t. IsRunOf 1 script.now t.log.items t.out.items) }
 {
     let hall = run_alone(alloc, script, 1)?;
@@ -99,7 +96,6 @@ pub fn run_script<R: Threads + Wait + Sync, G: Gate>(
     workers: u32,
     gate: &G,
 ) -> Result<Texts, AllocError>
-    requires formed { IsScript served script.now }
     requires some { 1 ≤ workers }
     requires bound { workers ≤ 64 }
     ensures { IfOk result (λ t. IsRunOf workers script.now t.log.items t.out.items) }
@@ -110,7 +106,6 @@ pub fn run_script<R: Threads + Wait + Sync, G: Gate>(
 
 /// The texts of the history and of the replies of a hall that has run a script.
 fn texts_of(alloc: Global, script: &Script, hall: &Hall) -> Result<Texts, AllocError>
-    requires formed { IsScript served script.now }
     requires run { (workers : ℕ) × HasRun workers script.now hall.now }
     ensures { (workers : ℕ) → HasRun workers script.now hall.now → IfOk result (λ t. IsRun workers script.now hall.now.events t.log.items t.out.items) }
 {

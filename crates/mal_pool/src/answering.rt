@@ -3,8 +3,6 @@
 ghost use Rattle.std.specs.Prelude.{◌≡◌, ℕ, ◌++◌, ◌≤◌, length, IfOk, OnOk};
 ghost use Rattle.mal_pool.specs.Posts.{HasRun, IsKnown, reply_to};
 ghost use Rattle.spec_run.specs.Run.{replies, job_replies};
-ghost use Rattle.spec_script.specs.Formed.{IsScript};
-ghost use Rattle.spec_script.specs.Limits.{served};
 
 use mal_hall::{Hall, ReplyFault};
 use mal_script::{Script, ScriptJob};
@@ -12,8 +10,7 @@ use std::alloc::{AllocError, Global};
 
 /// The replies to a script that a hall has run, job by job and revision by revision.
 pub fn replies(alloc: Global, hall: &Hall, script: &Script) -> Result<Vec<u8>, AllocError>
-    requires formed { IsScript served script.now }
-    requires run { (workers : ℕ) × HasRun workers script.now hall.now }
+    requires { (workers : ℕ) × HasRun workers script.now hall.now }
     ensures { IfOk result (λ v. v.items ≡ replies script.now hall.now.events) }
 {
     let mut text = Vec::new(alloc);

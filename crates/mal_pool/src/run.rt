@@ -10,8 +10,6 @@ ghost use Rattle.spec_hall.specs.Events.{Event};
 ghost use Rattle.spec_hall.specs.States.{leases, lives, states};
 ghost use Rattle.spec_run.specs.Complete.{script_events};
 ghost use Rattle.spec_run.specs.Losses.{NoneIsLost};
-ghost use Rattle.spec_script.specs.Formed.{IsScript};
-ghost use Rattle.spec_script.specs.Limits.{served};
 
 use crate::board::Board;
 use crate::gate::Gate;
@@ -41,7 +39,6 @@ pub fn run_all<R: Threads + Wait + Sync, G: Gate>(
     workers: u32,
     gate: &G,
 ) -> Result<Hall, AllocError>
-    requires formed { IsScript served script.now }
     requires some { 1 ≤ workers }
     requires bound { workers ≤ 64 }
     ensures run { IfOk result (λ h. HasRun workers script.now h) }
@@ -62,7 +59,6 @@ fn run_locked<S: Size + Send + Sync, R: Threads + Wait + Sync, G: Gate>(
     workers: u32,
     gate: &G,
 ) -> Result<Hall, AllocError>
-    requires formed { IsScript served script.now }
     requires some { 1 ≤ workers }
     requires bound { workers ≤ 64 }
     requires size { workers ≡ S.workers }
@@ -87,7 +83,6 @@ pub fn run_with<R: Threads + Wait + Sync, B: Board, G: Gate>(
     gate: &G,
 ) -> Result<Hall, AllocError>
     requires of { B.is_of board pass }
-    requires formed { IsScript served script.now }
     requires some { 1 ≤ workers }
     requires bound { workers ≤ 64 }
     requires size { B.workers board ≡ workers }

@@ -11,7 +11,7 @@ ghost use Rattle.spec_job.specs.KeyedJob.{KeyedJob};
 ghost use Rattle.spec_run.specs.Complete.{key_of_job, job_events, open_events, revise_events, script_events};
 ghost use Rattle.spec_run.specs.Losses.{NoneIsLost};
 ghost use Rattle.spec_run.specs.Posting.{IsOpen};
-ghost use Rattle.spec_script.specs.Formed.{IsJob, IsScript, MayAllFollow};
+ghost use Rattle.spec_script.specs.Formed.{IsJob, MayAllFollow};
 ghost use Rattle.spec_script.specs.Limits.{served};
 
 use mal_hall::{CloseFault, Hall, OpenFault, ReviseFault};
@@ -24,7 +24,6 @@ use std::alloc::{AllocError, Global};
 /// posted, in the order of the script. The hall is driven as its first worker until every revision is answered, so its history
 /// comes by turns, and no lease is lost.
 pub fn run_alone(alloc: Global, script: &Script, workers: u32) -> Result<Hall, AllocError>
-    requires formed { IsScript served script.now }
     requires some { 1 ≤ workers }
     requires bound { workers ≤ 64 }
     ensures run { IfOk result (λ h. HasRun workers script.now h) }

@@ -11,7 +11,7 @@ ghost use Rattle.spec_hall.specs.States.{states};
 ghost use Rattle.mal_history.specs.declared.event.Event as written;
 ghost use Rattle.mal_history.specs.declared.event.Event.TheVariants as of;
 ghost use Rattle.spec_run.specs.Complete.{job_events, key_of_job, open_events, revise_events, script_events};
-ghost use Rattle.spec_script.specs.Formed.{IsScript, MayAllFollow};
+ghost use Rattle.spec_script.specs.Formed.{MayAllFollow};
 ghost use Rattle.spec_script.specs.Limits.{served};
 
 use mal_base::{Ask, Name, Outcome};
@@ -57,7 +57,6 @@ fn was_lost(outcome: Outcome) -> bool
 
 /// Whether each tenant posted in a hall just what a script says, in its order, and no other tenant anything.
 pub fn has_posts(alloc: Global, hall: &Hall, script: &Script) -> Result<bool, AllocError>
-    requires { IsScript served script.now }
     ensures { IfOk result (λ b. b ≡ true → HasPosts script.now hall.now.events) }
 {
     let names = tenants_of(alloc, script.jobs())?;
@@ -67,8 +66,7 @@ pub fn has_posts(alloc: Global, hall: &Hall, script: &Script) -> Result<bool, Al
 
 /// Whether what was posted in a hall are these posts of a script, all by these tenants.
 fn are_posts(hall: &Hall, script: &Script, names: &[Name], posts: &[Event]) -> bool
-    requires formed { IsScript served script.now }
-    requires posts { posts.now ≡ map bare (script_events script.now) }
+    requires { posts.now ≡ map bare (script_events script.now) }
     ensures { result ≡ true → HasPosts script.now hall.now.events }
 {
     let events = hall.history().events();

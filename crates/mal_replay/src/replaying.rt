@@ -4,8 +4,6 @@ ghost use Rattle.std.specs.Prelude.{◌≡◌, ◌+◌, ◌<◌, Ok, Err, length
 ghost use Rattle.mal_history.specs.Written.{line_at};
 ghost use Rattle.mal_replay.specs.Replaying.{HasReplayed};
 ghost use Rattle.spec_replay.specs.Replayed.{IsReplay};
-ghost use Rattle.spec_script.specs.Formed.{IsScript};
-ghost use Rattle.spec_script.specs.Limits.{served};
 
 use crate::contents::posted_in;
 use crate::posts::have_posts;
@@ -22,7 +20,6 @@ use std::alloc::Global;
 /// history does not post what the script says, or that a revision is not answered or a lease is out. Each revision is the
 /// script's. The slices that the history says were run are run again.
 pub fn replay(alloc: Global, script: &Script, history: &History) -> Result<Vec<u8>, ReplayFault>
-    requires { IsScript served script.now }
     ensures ok { IfOk result (λ text. IsReplay history.now.workers script.now history.now.events (line_at history.now.lines) (Ok text.items)) }
     ensures err { IfErr result (λ fault. IsReplay history.now.workers script.now history.now.events (line_at history.now.lines) (Err fault)) }
 {
@@ -39,12 +36,12 @@ fn answer(
     history: &History,
     hall: &Hall,
 ) -> Result<Vec<u8>, ReplayFault>
-    requires formed { IsScript served script.now }
-    requires replayed { HasReplayed script.now history.now (length history.now.events) hall.now }
+    requires { HasReplayed script.now history.now (length history.now.events) hall.now }
     ensures ok { IfOk result (λ text. IsReplay history.now.workers script.now history.now.events (line_at history.now.lines) (Ok text.items)) }
     ensures err { IfErr result (λ fault. IsReplay history.now.workers script.now history.now.events (line_at history.now.lines) (Err fault)) }
 {
     let _ = hall.history();
+    let _ = script.jobs();
     if !hall.is_answered() {
         return Err(ReplayFault::NotComplete);
     }

@@ -2,7 +2,7 @@
 use Rattle.std.proofs.Common.{◌≡◌, ℕ, List, Result, Ok, Err, IfOk, MatchResult, refl, sym, ◌∙◌, subst}
 use Rattle.mal_base.specs.declared.line_fault.LineFault.{LineFault}
 use Rattle.spec_script.specs.Limits.{Limits}
-use Rattle.spec_script.specs.Script.{Scripted, spelling}
+use Rattle.spec_script.specs.Script.{ScriptedJob, Scripted, spelling}
 use Rattle.spec_script.specs.Reading.{read_text}
 use Rattle.spec_script.specs.Grammar.{Spells}
 use Rattle.spec_script.specs.Within.{IsWithin}
@@ -13,7 +13,7 @@ use Rattle.spec_script.proofs.Again.{written-spelled}
 use Rattle.spec_script.proofs.Formed.{spelled-script}
 use Rattle.mal_script.specs.declared.fault.ScriptFault.{ScriptFault}
 use Rattle.mal_script.specs.declared.fault.ScriptFault.TheVariants as script
-use Rattle.mal_script.specs.ReadResult.{FailsAt, GivesAt}
+use Rattle.mal_script.specs.ReadResult.{FailsAt, GivesAt, of_jobs}
 
 pub found-spelled : (limits : Limits) (text : List ℕ) (result : Result Scripted ScriptFault) → GivesAt (λ s. s) result (read_text limits text) → IfOk result (λ s. Spells limits text s)
 found-spelled limits text (Ok s) e = read-spelled limits text s e
@@ -26,6 +26,11 @@ found-within limits text (Err e) h = tt
 pub found-formed : (limits : Limits) (text : List ℕ) (result : Result Scripted ScriptFault) → GivesAt (λ s. s) result (read_text limits text) → IfOk result (λ s. IsScript limits s)
 found-formed limits text (Ok s) e = spelled-script limits text s (read-spelled limits text s e)
 found-formed limits text (Err e) h = tt
+
+-- the jobs that are read are in form
+pub jobs-formed : {A : Type 0} (view : A → List ScriptedJob) (limits : Limits) (text : List ℕ) (result : Result A ScriptFault) → GivesAt (λ v. of_jobs (view v)) result (read_text limits text) → IfOk result (λ v. IsScript limits (of_jobs (view v)))
+jobs-formed view limits text (Ok v) e = spelled-script limits text (of_jobs (view v)) (read-spelled limits text (of_jobs (view v)) e)
+jobs-formed view limits text (Err e) h = tt
 
 -- a fault is not told where a script is read
 no-fault : (e : ScriptFault) (read : Result Scripted (ℕ × LineFault)) (s : Scripted) → read ≡ Ok s → FailsAt e read → e ≡ script.OutOfMemory

@@ -1,6 +1,7 @@
 -- What the answers of the readers of a script's parts say.
 use Rattle.std.specs.Prelude.{◌≡◌, ℕ, List, Result, Ok, Err}
 use Rattle.spec_script.specs.FaultLines.{fault_line}
+use Rattle.spec_script.specs.Script.{ScriptedJob, Scripted}
 use Rattle.mal_base.specs.declared.line_fault.LineFault.{LineFault}
 use Rattle.mal_base.specs.declared.line_fault.LineFault.TheVariants as line
 use Rattle.mal_script.specs.declared.fault.LineRefusal.{LineRefusal}
@@ -9,6 +10,10 @@ use Rattle.mal_script.specs.declared.fault.ScriptFault.{ScriptFault}
 use Rattle.mal_script.specs.declared.fault.ScriptFault.TheVariants as script
 use Rattle.mal_script.specs.declared.fault.AssumptionFault.{AssumptionFault}
 use Rattle.mal_script.specs.declared.fault.AssumptionFault.TheVariants as assumption
+
+-- the script of these jobs
+abbrev pub of_jobs : List ScriptedJob → Scripted
+of_jobs jobs = record { jobs = jobs }
 
 -- reading gives the fault of the refusal, of which want of memory claims nothing
 abbrev pub Fails : {Y : Type 0} → LineRefusal → Result Y LineFault → Type 0

@@ -36,7 +36,7 @@ pub fn generate(alloc: Global, seed: u32, jobs: u32) -> Result<Script, AllocErro
     for number in 1..jobs + 1 {
         made.push(job(alloc, number, &mut draws)?)?;
     }
-    Ok(Script::new(made))
+    Ok(Script::of_form(made))
 }
 
 /// The job of this number.

@@ -5,13 +5,13 @@ ghost use Rattle.std.specs.List.{list_any};
 ghost use Rattle.std.specs.Str.{bytes_eq};
 ghost use Rattle.spec_text.specs.Inputs.{words_of};
 ghost use Rattle.spec_script.specs.Reading.{unread, named, after_tenant, is_of, is_job, has_room, admitted, of_tenant, after_job, outside, inside_job, inside, after_counted, after_row, at_end, after_end, going_on};
-ghost use Rattle.mal_script.specs.ReadResult.{Gives};
+ghost use Rattle.mal_script.specs.ReadResult.{Gives, of_jobs};
 
 use crate::asks::asked;
 use crate::fault::LineRefusal;
 use crate::limits::Limits;
 use crate::opened::OpenJob;
-use crate::script::{Script, ScriptJob};
+use crate::script::ScriptJob;
 use mal_base::{Ask, LimitKind, LineFault, Name};
 use mal_dimacs::is_comment;
 use mal_text::first_word;
@@ -263,13 +263,13 @@ impl Reader {
         self.after_counted(alloc, limits, line, first, others)
     }
 
-    /// The script, where no job has begun that has not ended.
-    pub fn finish(self) -> Result<Script, LineRefusal>
-        ensures { Gives (λ s. s) result (at_end self.opened self.jobs) }
+    /// The jobs of the script, where no job has begun that has not ended.
+    pub fn finish(self) -> Result<Vec<ScriptJob>, LineRefusal>
+        ensures { Gives (λ v. of_jobs v.items) result (at_end self.opened self.jobs) }
     {
         let Reader { jobs, opened, .. } = self;
         match opened {
-            None => Ok(Script::new(jobs)),
+            None => Ok(jobs),
             Some(job) => Err(job.unended()),
         }
     }

@@ -8,12 +8,12 @@ ghost use Rattle.spec_script.specs.Formed.{IsScript};
 ghost use Rattle.spec_script.specs.Script.{Scripted, spelling};
 ghost use Rattle.spec_script.specs.Within.{IsWithin};
 ghost use Rattle.mal_script.specs.declared.fault.ScriptFault.TheVariants.{OutOfMemory};
-ghost use Rattle.mal_script.specs.ReadResult.{FailsAt, GivesAt, RefusedAt};
+ghost use Rattle.mal_script.specs.ReadResult.{FailsAt, GivesAt, RefusedAt, of_jobs};
 
 use crate::fault::{LineRefusal, ScriptFault};
 use crate::limits::Limits;
 use crate::reader::Reader;
-use crate::script::Script;
+use crate::script::{Script, ScriptJob};
 use mal_base::LineFault;
 use mal_text::first_line;
 use std::alloc::Global;
@@ -32,24 +32,30 @@ pub fn read(alloc: Global, text: &[u8]) -> Result<Script, ScriptFault>
     ensures within { IfOk result (λ s. IsWithin served s) }
     ensures formed { IfOk result (λ s. IsScript served s) }
 {
-    read_within(alloc, text, Limits::served())
+    first(alloc, text)
 }
 
-/// The script that a text spells within these limits, or the first fault of the text.
-pub fn read_within(alloc: Global, text: &[u8], limits: Limits) -> Result<Script, ScriptFault>
-    ensures found { IfOk result (λ s. Spells limits text.now s) }
-    ensures only { (s : Scripted) → Spells limits text.now s → MatchResult result (λ x. x ≡ s) (λ e. e ≡ OutOfMemory) }
-    ensures exact { GivesAt (λ s. s) result (read_text limits text.now) }
-    ensures again { (s : Scripted) → IsScript limits s → text.now ≡ spelling s → MatchResult result (λ x. x ≡ s) (λ e. e ≡ OutOfMemory) }
-    ensures within { IfOk result (λ s. IsWithin limits s) }
-    ensures formed { IfOk result (λ s. IsScript limits s) }
+/// The script of a text, or its first fault.
+fn first(alloc: Global, text: &[u8]) -> Result<Script, ScriptFault>
+    ensures { GivesAt (λ s. s) result (read_text served text.now) }
+{
+    match read_jobs(alloc, text, Limits::served()) {
+        Ok(jobs) => Ok(Script::of_form(jobs)),
+        Err(fault) => Err(fault),
+    }
+}
+
+/// The jobs of the script that a text spells within these limits, or the first fault of the text.
+fn read_jobs(alloc: Global, text: &[u8], limits: Limits) -> Result<Vec<ScriptJob>, ScriptFault>
+    ensures exact { GivesAt (λ v. of_jobs v.items) result (read_text limits text.now) }
+    ensures formed { IfOk result (λ v. IsScript limits (of_jobs v.items)) }
 {
     read_rows(alloc, text, limits)
 }
 
-/// The script that the lines of a text give, one behind another.
-fn read_rows(alloc: Global, text: &[u8], limits: Limits) -> Result<Script, ScriptFault>
-    ensures { GivesAt (λ s. s) result (read_text limits text.now) }
+/// The jobs of the script that the lines of a text give, one behind another.
+fn read_rows(alloc: Global, text: &[u8], limits: Limits) -> Result<Vec<ScriptJob>, ScriptFault>
+    ensures { GivesAt (λ v. of_jobs v.items) result (read_text limits text.now) }
 {
     let mut reader = Reader::new(alloc);
     let mut rest = text;
@@ -63,7 +69,7 @@ fn read_rows(alloc: Global, text: &[u8], limits: Limits) -> Result<Script, Scrip
         rest = behind;
     }
     match reader.finish() {
-        Ok(script) => Ok(script),
+        Ok(jobs) => Ok(jobs),
         Err(refusal) => Err(refused(line.max(1), refusal)),
     }
 }

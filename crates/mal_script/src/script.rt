@@ -1,6 +1,9 @@
 //! A script and its jobs.
 
 ghost use Rattle.std.specs.Prelude.{◌≡◌, ◌++◌, ◌∷◌, [], IfOk};
+ghost use Rattle.mal_script.specs.ReadResult.{of_jobs};
+ghost use Rattle.spec_script.specs.Formed.{IsScript};
+ghost use Rattle.spec_script.specs.Limits.{served};
 
 use mal_base::{Ask, Name};
 use mal_revision::Revision;
@@ -80,31 +83,38 @@ impl ScriptJob {
     }
 }
 
-/// A script: its jobs. Contracts see the list.
+/// A script: its jobs, which are in form and within the limits that are served. Contracts see the list.
 #[derive(Drop)]
 pub struct Script {
     jobs: Vec<ScriptJob>,
 }
 
 impl Model for Script {
+    ghost use Rattle.mal_script.specs.ReadResult.{of_jobs};
+    ghost use Rattle.spec_script.specs.Formed.{IsScript};
+    ghost use Rattle.spec_script.specs.Limits.{served};
     ghost use Rattle.spec_script.specs.Script.{Scripted};
 
     ghost Value = { Scripted };
 
     ghost view = { λ s. record { jobs = s.jobs.items } };
+
+    ghost invariant = { λ s. IsScript served (of_jobs s.jobs.items) };
 }
 
 impl Script {
-    /// The script of these jobs. Takes no memory.
-    pub fn new(jobs: Vec<ScriptJob>) -> Script
-        ensures { result ≡ record { jobs = jobs.items } }
+    /// The script of these jobs, which are in form and within the limits that are served. Takes no memory.
+    pub fn of_form(jobs: Vec<ScriptJob>) -> Script
+        requires { IsScript served (of_jobs jobs.items) }
+        ensures { result ≡ of_jobs jobs.items }
     {
         Script { jobs }
     }
 
-    /// The jobs, in the order of the text.
+    /// The jobs, in the order of the text. They are in form and within the limits that are served.
     pub fn jobs(&self) -> &[ScriptJob]
-        ensures { result.now ≡ self.now.jobs }
+        ensures jobs { result.now ≡ self.now.jobs }
+        ensures formed { IsScript served self.now }
     {
         self.jobs.as_slice()
     }

@@ -2,8 +2,6 @@
 
 ghost use Rattle.std.specs.Prelude.{◌≡◌, ◌≤◌, IfOk};
 ghost use Rattle.mal_pool.specs.Posts.{HasRun};
-ghost use Rattle.spec_script.specs.Formed.{IsScript};
-ghost use Rattle.spec_script.specs.Limits.{served};
 
 use super::gates::losses;
 use super::scripts::{FOUR_REPLIES, FOUR_TENANTS};
@@ -86,7 +84,6 @@ fn run_slowly<S: Size + Send + Sync, R: Threads + Wait + Sync>(
     workers: u32,
     turns: u32,
 ) -> Result<Hall, AllocError>
-    requires formed { IsScript served script.now }
     requires some { 1 ≤ workers }
     requires bound { workers ≤ 64 }
     requires size { workers ≡ S.workers }

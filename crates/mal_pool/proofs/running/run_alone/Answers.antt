@@ -13,19 +13,19 @@ use Rattle.mal_pool.proofs.running.run_alone.Goals as goal
 pub drive-requires : goal.drive-requires
 drive-requires c =
     let s : Scripted = c.args.script.now in
-    let opened : c.open_all.new.hall.events ≡ open_events s.jobs = c.in_ok-open_all.ensures.events ∙ ap open_events c.jobs.ensures in
+    let opened : c.open_all.new.hall.events ≡ open_events s.jobs = c.in_ok-open_all.ensures.events ∙ ap open_events c.jobs.ensures.jobs in
     let posted : c.post_all.new.hall.events ≡ script_events s =
     c.in_ok-post_all.ensures.events
-    ∙ (ap (λ (js : List ScriptedJob). c.open_all.new.hall.events ++ flat_map job_events js) c.jobs-2.ensures ∙ ap (λ (es : List Event). es ++ flat_map job_events s.jobs) opened) in
+    ∙ (ap (λ (js : List ScriptedJob). c.open_all.new.hall.events ++ flat_map job_events js) c.jobs-2.ensures.jobs ∙ ap (λ (es : List Event). es ++ flat_map job_events s.jobs) opened) in
     record { home = ap (λ (h : List Event). leases h) posted ∙ script-home s }
 
 pub returns : goal.returns
 returns c =
     let s : Scripted = c.args.script.now in
-    let opened : c.open_all.new.hall.events ≡ open_events s.jobs = c.in_ok-open_all.ensures.events ∙ ap open_events c.jobs.ensures in
+    let opened : c.open_all.new.hall.events ≡ open_events s.jobs = c.in_ok-open_all.ensures.events ∙ ap open_events c.jobs.ensures.jobs in
     let posted : c.post_all.new.hall.events ≡ script_events s =
     c.in_ok-post_all.ensures.events
-    ∙ (ap (λ (js : List ScriptedJob). c.open_all.new.hall.events ++ flat_map job_events js) c.jobs-2.ensures ∙ ap (λ (es : List Event). es ++ flat_map job_events s.jobs) opened) in
+    ∙ (ap (λ (js : List ScriptedJob). c.open_all.new.hall.events ++ flat_map job_events js) c.jobs-2.ensures.jobs ∙ ap (λ (es : List Event). es ++ flat_map job_events s.jobs) opened) in
     let before : c.post_all.new.hall.workers ≡ c.args.workers = c.in_ok-post_all.ensures.workers ∙ (c.in_ok-open_all.ensures.workers ∙ c.in_ok-hall.ensures.workers) in
     let workers = c.in_ok-drive.ensures.workers ∙ before in
     let counted : GrowsByTurns c.args.workers c.post_all.new.hall.events c.drive.new.self.events = subst (λ (w : ℕ). GrowsByTurns w c.post_all.new.hall.events c.drive.new.self.events) before c.in_ok-drive.ensures.turns in

@@ -11,9 +11,9 @@ pub returns : goal.returns
 returns c = λ e.
     let bares : c.events-events.result.now ≡ map bare c.args.hall.now.events = c.events-events.ensures ∙ c.history.ensures.events in
     let told : List written.Event = map bare (script_events c.args.script.now) in
-    let read : AgreeOn c.args.names.now c.events-events.result.now told = subst (λ (es : List written.Event). AgreeOn c.args.names.now c.events-events.result.now es) c.requires.posts (c.agree_on.ensures c.if-not-agree_on.false) in
+    let read : AgreeOn c.args.names.now c.events-events.result.now told = subst (λ (es : List written.Event). AgreeOn c.args.names.now c.events-events.result.now es) c.requires (c.agree_on.ensures c.if-not-agree_on.false) in
     have-posts c.args.hall.now.workers c.args.script.now c.args.hall.now.events c.args.names.now c.history.ensures.legal
     (ap (list_all (is_among c.args.names.now)) (sym bares) ∙ (sym c.are_among.ensures ∙ c.if-not-are_among.false))
-    (ap (list_all (is_among c.args.names.now)) (sym c.requires.posts) ∙ (sym c.are_among-2.ensures ∙ c.if-not-are_among-2.false))
+    (ap (list_all (is_among c.args.names.now)) (sym c.requires) ∙ (sym c.are_among-2.ensures ∙ c.if-not-are_among-2.false))
     (subst (λ (es : List written.Event). AgreeOn c.args.names.now es told) bares read)
-    (subst (HaveContents c.args.hall.now.events) c.jobs.ensures (c.have_contents.ensures e))
+    (subst (HaveContents c.args.hall.now.events) c.jobs.ensures.jobs (c.have_contents.ensures e))

@@ -5,21 +5,21 @@ use Rattle.mal_replay.proofs.TenantLemmas.{not-passed}
 use Rattle.mal_replay.proofs.replaying.answer.Goals as goal
 
 pub have_posts-requires : goal.have_posts-requires
-have_posts-requires c = few-jobs c.args.script.now c.requires.formed
+have_posts-requires c = few-jobs c.args.script.now c.jobs.ensures.formed
 
-pub replies-requires-clause-run : goal.replies-requires-clause-run
-replies-requires-clause-run c =
+pub replies-requires : goal.replies-requires
+replies-requires c =
     let have = (rw c.events.ensures at c.in-Ok-true.ensures).0 c.in-Ok-true.field-0-test in
-    let complete = is-complete c.args.script.now c.args.history.now c.args.hall.now c.requires.formed c.requires.replayed c.history.ensures.legal (c.is_answered.ensures.0 c.if-not-is_answered.false) (c.is_home.ensures.0 c.if-not-is_home.false) have in
+    let complete = is-complete c.args.script.now c.args.history.now c.args.hall.now c.jobs.ensures.formed c.requires c.history.ensures.legal (c.is_answered.ensures.0 c.if-not-is_answered.false) (c.is_home.ensures.0 c.if-not-is_home.false) have in
     has-run c.args.script.now c.args.hall.now c.history.ensures.legal complete
 
 pub returns-in-Ok-clause-ok : goal.returns-in-Ok-clause-ok
 returns-in-Ok-clause-ok c =
     let have = (rw c.events.ensures at c.in-Ok-true.ensures).0 c.in-Ok-true.field-0-test in
-    let complete = is-complete c.args.script.now c.args.history.now c.args.hall.now c.requires.formed c.requires.replayed c.history.ensures.legal (c.is_answered.ensures.0 c.if-not-is_answered.false) (c.is_home.ensures.0 c.if-not-is_home.false) have in
-    replied c.args.script.now c.args.history.now c.args.hall.now c.in-Ok.text.items c.requires.replayed c.history.ensures.legal complete c.in-Ok.ensures
+    let complete = is-complete c.args.script.now c.args.history.now c.args.hall.now c.jobs.ensures.formed c.requires c.history.ensures.legal (c.is_answered.ensures.0 c.if-not-is_answered.false) (c.is_home.ensures.0 c.if-not-is_home.false) have in
+    replied c.args.script.now c.args.history.now c.args.hall.now c.in-Ok.text.items c.requires c.history.ensures.legal complete c.in-Ok.ensures
 
 pub returns-in-Ok-false-clause-err : goal.returns-in-Ok-false-clause-err
 returns-in-Ok-false-clause-err c =
     let posts = rw c.events.ensures at c.in-Ok-false.ensures in
-    lacks-posts c.args.script.now c.args.history.now c.args.hall.now c.requires.replayed c.history.ensures.legal (not-passed c.in-Ok-false.field-0 posts c.in-Ok-false.field-0-test)
+    lacks-posts c.args.script.now c.args.history.now c.args.hall.now c.requires c.history.ensures.legal (not-passed c.in-Ok-false.field-0 posts c.in-Ok-false.field-0-test)

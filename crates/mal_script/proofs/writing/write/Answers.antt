@@ -5,4 +5,4 @@ use Rattle.mal_script.proofs.writing.write.Goals as goal
 
 pub returns : goal.returns
 unfolding spelling
-returns c = script_written c.loop-job.out.items c.args.script.now c.jobs-jobs.result.now c.loop-job.job-index c.jobs-jobs.ensures (omega arith) c.loop-job.invariant
+returns c = script_written c.loop-job.out.items c.args.script.now c.jobs-jobs.result.now c.loop-job.job-index c.jobs-jobs.ensures.jobs (omega arith) c.loop-job.invariant
