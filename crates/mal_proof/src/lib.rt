@@ -5,8 +5,6 @@ mod ids;
 mod lent;
 mod log;
 mod numbering;
-#[cfg(test)]
-mod tests;
 mod trim;
 
 pub use log::Log;

@@ -3,7 +3,7 @@ use Rattle.std.proofs.lemmas.Bool.{eqb-false}
 use Rattle.std.proofs.lemmas.Option.{slice_get-get_or}
 use Rattle.std.proofs.lemmas.List.Elements.{All-more}
 use Rattle.mal_base.specs.NumberedClause.{Line}
-use Rattle.mal_proof.proofs.tests.is_fresh.Goals as goal
+use Rattle.mal_solver_tests.proofs.tests.logs.is_fresh.Goals as goal
 
 pub loop-n-preserved : goal.loop-n-preserved
 loop-n-preserved c =

@@ -3,8 +3,8 @@
 ghost use Rattle.std.specs.Prelude.{◌≢◌, ◌<◌, ◌^◌, IsTrue, All};
 ghost use Rattle.spec_proof.specs.Log.{IsAbove};
 
-use crate::{Log, renumber};
 use mal_base::{ClauseId, Lines, Lit};
+use mal_proof::{Log, renumber};
 use std::alloc::Global;
 use std::test::Fail;
 

@@ -1,0 +1,3 @@
+//! Solvers, logs and checkers whose answers are known.
+
+mod logs;
