@@ -1,5 +1,7 @@
+-- what crates above cite
 pub mod Serving
-pub mod Denials
 pub mod ScriptLemmas
+-- what this crate alone cites
+pub mod Denials
 pub mod Counting
-pub mod Replaying
+mod Replaying

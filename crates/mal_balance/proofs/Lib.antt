@@ -1,2 +1,3 @@
-pub mod Claims
-pub mod Giving
+-- what this crate alone cites
+mod Claims
+mod Giving

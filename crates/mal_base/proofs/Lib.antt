@@ -1,4 +1,6 @@
-pub mod Padding
+-- what crates above cite
 pub mod Sorting
 pub mod Tautologies
-pub mod LinesLemmas
+-- what this crate alone cites
+mod Padding
+mod LinesLemmas

@@ -1,3 +1,4 @@
+-- what this crate alone cites
 pub mod CallLemmas
-pub mod Crossings
+mod Crossings
 pub mod LossLemmas

@@ -1,1 +1,2 @@
-pub mod Merging
+-- what this crate alone cites
+mod Merging

@@ -1,14 +1,15 @@
-pub mod OriginalLemmas
-pub mod FillLemmas
-pub mod NeedLemmas
-pub mod PickLemmas
-pub mod TellingLemmas
-pub mod ImportingLemmas
-pub mod SingleLemmas
-pub mod StepLemmas
-pub mod ImageLemmas
-pub mod DeriveLemmas
-pub mod BumpLemmas
-pub mod SliceLemmas
-pub mod LineLemmas
-pub mod PastLemmas
+-- what this crate alone cites
+mod OriginalLemmas
+mod FillLemmas
+mod NeedLemmas
+mod PickLemmas
+mod TellingLemmas
+mod ImportingLemmas
+mod SingleLemmas
+mod StepLemmas
+mod ImageLemmas
+mod DeriveLemmas
+mod BumpLemmas
+mod SliceLemmas
+mod LineLemmas
+mod PastLemmas

@@ -1,6 +1,7 @@
-pub mod Lefts
-pub mod TrueLemmas
-pub mod PlaceLemmas
-pub mod SoundLemmas
-pub mod NumberLemmas
-pub mod AssumedLemmas
+-- what this crate alone cites
+mod Lefts
+mod TrueLemmas
+mod PlaceLemmas
+mod SoundLemmas
+mod NumberLemmas
+mod AssumedLemmas

@@ -1,2 +1,3 @@
-pub mod Behind
+-- what this crate alone cites
+mod Behind
 pub mod Answered

@@ -1,2 +1,3 @@
+-- what this crate alone cites
 pub mod Replays
 pub mod Rules

@@ -1,3 +1,4 @@
-pub mod Made
-pub mod Texts
-pub mod Answered
+-- what this crate alone cites
+mod Made
+mod Texts
+mod Answered

@@ -1,1 +1,2 @@
-pub mod LastLemmas
+-- what this crate alone cites
+mod LastLemmas

@@ -1,1 +1,2 @@
-pub mod Noting
+-- what this crate alone cites
+mod Noting

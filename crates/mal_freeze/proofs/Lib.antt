@@ -1,10 +1,12 @@
+-- what crates above cite
 pub mod ListLemmas
-pub mod OrderLemmas
-pub mod FollowLemmas
 pub mod SoundLemmas
-pub mod ManyLemmas
-pub mod TestLemmas
-pub mod FieldLemmas
-pub mod BeginsLemmas
-pub mod AgainLemmas
-pub mod CanonicalLemmas
+-- what this crate alone cites
+mod OrderLemmas
+mod FollowLemmas
+mod ManyLemmas
+mod TestLemmas
+mod FieldLemmas
+mod BeginsLemmas
+mod AgainLemmas
+mod CanonicalLemmas

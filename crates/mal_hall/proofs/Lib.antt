@@ -1,9 +1,11 @@
-pub mod ScanLemmas
-pub mod KeptLemmas
-pub mod HallLemmas
-pub mod LeaseLemmas
-pub mod PhaseLemmas
+-- what crates above cite
 pub mod DriveLemmas
-pub mod RecallLemmas
-pub mod InsideLemmas
-pub mod ApplyLemmas
+-- what this crate alone cites
+mod ScanLemmas
+mod KeptLemmas
+mod HallLemmas
+mod LeaseLemmas
+mod PhaseLemmas
+mod RecallLemmas
+mod InsideLemmas
+mod ApplyLemmas

@@ -1,10 +1,12 @@
-pub mod Balance
-pub mod Events
-pub mod Differ
-pub mod ExampleLemmas
-pub mod Behind
-pub mod Words
-pub mod Spelled
+-- what crates above cite
 pub mod Rows
 pub mod Again
-pub mod Found
+-- what this crate alone cites
+mod Balance
+mod Events
+mod Differ
+pub mod ExampleLemmas
+mod Behind
+mod Words
+mod Spelled
+mod Found

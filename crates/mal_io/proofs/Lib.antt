@@ -1,1 +1,2 @@
-pub mod Gains
+-- what this crate alone cites
+mod Gains

@@ -1,3 +1,4 @@
+-- what this crate alone cites
 mod LogLemmas
 mod ToldLemmas
 mod ExportedLemmas

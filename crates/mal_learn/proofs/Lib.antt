@@ -1,3 +1,4 @@
+-- what this crate alone cites
 mod FlagLemmas
 mod WalkLemmas
 mod CountLemmas

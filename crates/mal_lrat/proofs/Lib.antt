@@ -1,2 +1,3 @@
-pub mod Fronts
-pub mod Texts
+-- what this crate alone cites
+mod Fronts
+mod Texts

@@ -1,11 +1,13 @@
-pub mod PoolLemmas
+-- what crates above cite
 pub mod RunLosses
 pub mod CallLosses
-pub mod Loops
-pub mod LoopLaws
-pub mod Postings
-pub mod Leavings
-pub mod Agreements
-pub mod Writings
-pub mod Knowing
-pub mod Gating
+-- what this crate alone cites
+mod PoolLemmas
+mod Loops
+mod LoopLaws
+mod Postings
+mod Leavings
+mod Agreements
+mod Writings
+mod Knowing
+mod Gating

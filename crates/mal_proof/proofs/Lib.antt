@@ -1,5 +1,6 @@
-pub mod Keeping
-pub mod Lending
-pub mod Marking
-pub mod Trimming
-pub mod Placing
+-- what this crate alone cites
+mod Keeping
+mod Lending
+mod Marking
+mod Trimming
+mod Placing

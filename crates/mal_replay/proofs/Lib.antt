@@ -1,4 +1,5 @@
-pub mod EnterLemmas
-pub mod FollowLemmas
-pub mod KnownLemmas
-pub mod TenantLemmas
+-- what this crate alone cites
+mod EnterLemmas
+mod FollowLemmas
+mod KnownLemmas
+mod TenantLemmas

@@ -1,2 +1,3 @@
-pub mod Models
-pub mod Refutations
+-- what this crate alone cites
+mod Models
+mod Refutations

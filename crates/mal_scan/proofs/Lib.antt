@@ -1,1 +1,2 @@
-pub mod BatchLemmas
+-- what this crate alone cites
+mod BatchLemmas

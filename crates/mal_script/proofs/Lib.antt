@@ -1,4 +1,5 @@
-pub mod Texts
-pub mod Steps
-pub mod Found
+-- what this crate alone cites
+mod Texts
+mod Steps
+mod Found
 pub mod GenerateSteps

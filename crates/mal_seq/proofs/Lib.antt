@@ -1,1 +1,2 @@
+-- what this crate alone cites
 mod RoundLemmas

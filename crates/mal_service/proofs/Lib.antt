@@ -1,2 +1,3 @@
-pub mod NotedLemmas
-pub mod PostLemmas
+-- what this crate alone cites
+mod NotedLemmas
+mod PostLemmas

@@ -1,1 +1,2 @@
-pub mod SlotLemmas
+-- what this crate alone cites
+mod SlotLemmas

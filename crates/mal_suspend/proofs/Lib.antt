@@ -1,6 +1,7 @@
-pub mod ReplayLemmas
-pub mod StartLemmas
+-- what this crate alone cites
+mod ReplayLemmas
+mod StartLemmas
 mod EntryLemmas
 mod FirstLemmas
-pub mod FormLemmas
-pub mod GoingLemmas
+mod FormLemmas
+mod GoingLemmas

@@ -1,3 +1,4 @@
-pub mod Written
-pub mod Values
-pub mod Cuts
+-- what this crate alone cites
+mod Written
+mod Values
+mod Cuts

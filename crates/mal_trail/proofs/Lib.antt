@@ -1,7 +1,9 @@
-pub mod LevelLemmas
+-- what crates above cite
 pub mod TrailLemmas
-pub mod PlaceLemmas
 pub mod CutLemmas
-pub mod ValueLemmas
-pub mod SignLemmas
 pub mod FoundLemmas
+-- what this crate alone cites
+mod LevelLemmas
+mod PlaceLemmas
+mod ValueLemmas
+mod SignLemmas

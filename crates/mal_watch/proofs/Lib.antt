@@ -1,13 +1,14 @@
-pub mod HasLemmas
-pub mod ChainLemmas
-pub mod RowLemmas
-pub mod FalseLemmas
-pub mod HeldLemmas
-pub mod BatchLemmas
-pub mod WalkLemmas
-pub mod CountLemmas
-pub mod TurnLemmas
-pub mod FoundLemmas
-pub mod FollowLemmas
-pub mod WiderLemmas
-pub mod NodeLemmas
+-- what this crate alone cites
+mod HasLemmas
+mod ChainLemmas
+mod RowLemmas
+mod FalseLemmas
+mod HeldLemmas
+mod BatchLemmas
+mod WalkLemmas
+mod CountLemmas
+mod TurnLemmas
+mod FoundLemmas
+mod FollowLemmas
+mod WiderLemmas
+mod NodeLemmas

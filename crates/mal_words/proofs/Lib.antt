@@ -1,2 +1,4 @@
-pub mod Decimals
+-- what crates above cite
 pub mod Meanings
+-- what this crate alone cites
+pub mod Decimals

@@ -1,3 +1,5 @@
+-- what crates above cite
 pub mod Unique
 pub mod Single
-pub mod Front
+-- what this crate alone cites
+mod Front

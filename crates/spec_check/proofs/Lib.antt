@@ -1,3 +1,5 @@
-pub mod ExampleLemmas
+-- what crates above cite
 pub mod VerdictLemmas
 pub mod LineLemmas
+-- what this crate alone cites
+mod ExampleLemmas

@@ -1,4 +1,6 @@
-pub mod ExampleLemmas
-pub mod FrontLemmas
-pub mod RowLemmas
+-- what crates above cite
 pub mod ReadLemmas
+-- what this crate alone cites
+mod ExampleLemmas
+mod FrontLemmas
+mod RowLemmas

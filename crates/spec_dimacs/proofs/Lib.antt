@@ -1,12 +1,14 @@
+-- what crates above cite
 pub mod Merging
 pub mod Numbers
-pub mod Steps
 pub mod Behind
 pub mod Spelled
 pub mod Again
-pub mod Firsts
 pub mod Laws
-pub mod Examples
 pub mod Led
 pub mod Texts
-pub mod Differ
+-- what this crate alone cites
+mod Steps
+mod Firsts
+pub mod Examples
+mod Differ

@@ -1,5 +1,7 @@
+-- what crates above cite
 pub mod OrderLemmas
 pub mod UnionLemmas
 pub mod FrontLemmas
 pub mod TreeLemmas
-pub mod Examples
+-- what this crate alone cites
+mod Examples

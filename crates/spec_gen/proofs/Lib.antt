@@ -1,3 +1,4 @@
+-- what crates above cite
 pub mod StepLemmas
 pub mod FormedLemmas
 pub mod ScriptLemmas

@@ -1,8 +1,8 @@
+-- what crates above cite
 pub mod KeyLemmas
 pub mod PushLemmas
 pub mod VolumeLemmas
 pub mod StatesLemmas
-pub mod OrderlyLemmas
 pub mod TouchLemmas
 pub mod SeatLemmas
 pub mod DueLemmas
@@ -11,16 +11,8 @@ pub mod PlaceLemmas
 pub mod DressedLemmas
 pub mod DrivenLemmas
 pub mod RunnableLemmas
-pub mod OnceLemmas
-pub mod LastingLemmas
-pub mod SingleLemmas
 pub mod PickLemmas
 pub mod ExchangeLemmas
-pub mod IdleLemmas
-pub mod MeasureLemmas
-pub mod LeftLemmas
-pub mod SeatedLemmas
-pub mod OutLemmas
 pub mod LeasesLemmas
 pub mod SpotLemmas
 pub mod GoesOnLemmas
@@ -30,7 +22,17 @@ pub mod TurnLemmas
 pub mod ArrangeLemmas
 pub mod CallLemmas
 pub mod DecidedCallLemmas
-pub mod IsolationLemmas
 pub mod OpenedLemmas
-pub mod PickedLemmas
-pub mod UpToLemmas
+-- what this crate alone cites
+mod OrderlyLemmas
+mod OnceLemmas
+mod LastingLemmas
+mod SingleLemmas
+mod IdleLemmas
+mod MeasureLemmas
+mod LeftLemmas
+mod SeatedLemmas
+mod OutLemmas
+mod IsolationLemmas
+mod PickedLemmas
+mod UpToLemmas

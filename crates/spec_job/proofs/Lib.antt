@@ -1,47 +1,49 @@
-pub mod ExampleLemmas
+-- what crates above cite
 pub mod StepLemmas
 pub mod LoadedLemmas
-pub mod ElementLemmas
 pub mod PlacesLemmas
 pub mod SolvingLemmas
-pub mod PostingLemmas
-pub mod SolvedLemmas
 pub mod StayLemmas
 pub mod CountLemmas
 pub mod PushLemmas
-pub mod ReachedLemmas
-pub mod LinesLemmas
-pub mod TrackedLemmas
-pub mod ImportingLemmas
-pub mod ExportLemmas
-pub mod WithinLemmas
 pub mod DerivingLemmas
-pub mod RunningLemmas
-pub mod FinishingLemmas
-pub mod CalmLemmas
 pub mod KeptLemmas
 pub mod RefutingLemmas
-pub mod LowLemmas
 pub mod CountingLemmas
 pub mod SumLemmas
-pub mod FewLemmas
-pub mod BudgetLemmas
-pub mod TurnLemmas
 pub mod RunsLemmas
 pub mod OwnLemmas
-pub mod CourseLemmas
 pub mod AgreeLemmas
-pub mod AlongLemmas
-pub mod SliceLemmas
-pub mod ReplyLemmas
 pub mod SingleLemmas
 pub mod FollowLemmas
-pub mod FollowingLemmas
 pub mod LeftLemmas
-pub mod TallyLemmas
 pub mod UnknownLemmas
-pub mod UnknownExampleLemmas
-pub mod ExportedLemmas
-pub mod ExportedExampleLemmas
 pub mod UpToLemmas
-pub mod UpToExampleLemmas
+-- what this crate alone cites
+mod ExampleLemmas
+mod ElementLemmas
+mod PostingLemmas
+mod SolvedLemmas
+mod ReachedLemmas
+mod LinesLemmas
+mod TrackedLemmas
+mod ImportingLemmas
+mod ExportLemmas
+mod WithinLemmas
+mod RunningLemmas
+mod FinishingLemmas
+mod CalmLemmas
+mod LowLemmas
+mod FewLemmas
+mod BudgetLemmas
+mod TurnLemmas
+mod CourseLemmas
+mod AlongLemmas
+mod SliceLemmas
+mod ReplyLemmas
+mod FollowingLemmas
+mod TallyLemmas
+mod UnknownExampleLemmas
+mod ExportedLemmas
+mod ExportedExampleLemmas
+mod UpToExampleLemmas

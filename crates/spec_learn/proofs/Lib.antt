@@ -1,24 +1,26 @@
-pub mod LogicLemmas
-pub mod HeartLemmas
+-- what crates above cite
 pub mod BehindLemmas
-pub mod UipLemmas
 pub mod ApartLemmas
-pub mod PointLemmas
 pub mod LawLemmas
 pub mod SoundParts
-pub mod SettleLemmas
 pub mod KeepLemmas
 pub mod RefuteLemmas
 pub mod CoreLemmas
 pub mod CoreClauseLemmas
 pub mod CoreSoundLemmas
-pub mod GoalLemmas
-pub mod FirstPointLemmas
-pub mod CaseLemmas
-pub mod TurnLemmas
-pub mod LevelLemmas
 pub mod LessonLemmas
 pub mod ShorterLemmas
-pub mod StayLemmas
-pub mod WithinLemmas
-pub mod HintLemmas
+-- what this crate alone cites
+mod LogicLemmas
+mod HeartLemmas
+mod UipLemmas
+mod PointLemmas
+mod SettleLemmas
+mod GoalLemmas
+mod FirstPointLemmas
+mod CaseLemmas
+mod TurnLemmas
+mod LevelLemmas
+mod StayLemmas
+mod WithinLemmas
+mod HintLemmas

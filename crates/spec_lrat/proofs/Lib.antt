@@ -1,6 +1,8 @@
-pub mod ExampleLemmas
+-- what crates above cite
 pub mod MergedLemmas
-pub mod WordLemmas
 pub mod SpelledLemmas
-pub mod NumeralLemmas
-pub mod WrittenLemmas
+-- what this crate alone cites
+pub mod ExampleLemmas
+mod WordLemmas
+mod NumeralLemmas
+mod WrittenLemmas

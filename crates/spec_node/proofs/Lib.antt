@@ -1,3 +1,4 @@
+-- what crates above cite
 pub mod TrailLemmas
 pub mod BatchLemmas
 pub mod CutLemmas

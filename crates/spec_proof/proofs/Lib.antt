@@ -1,10 +1,12 @@
+-- what crates above cite
 pub mod Among
 pub mod Deriving
 pub mod LogLemmas
 pub mod Growing
 pub mod Reaching
 pub mod OrderLemmas
-pub mod Staying
-pub mod Renumbering
 pub mod Refuting
-pub mod Examples
+-- what this crate alone cites
+mod Staying
+mod Renumbering
+mod Examples

@@ -1,1 +1,2 @@
+-- what this crate alone cites
 pub mod Examples

@@ -1,9 +1,11 @@
+-- what crates above cite
 pub mod Evidence
 pub mod KeyLemmas
-pub mod TenantLemmas
 pub mod OpenLemmas
 pub mod PostingLemmas
 pub mod CompleteLemmas
 pub mod HomeLemmas
-pub mod DecidedLemmas
 pub mod LossLemmas
+-- what this crate alone cites
+mod TenantLemmas
+mod DecidedLemmas

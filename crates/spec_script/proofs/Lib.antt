@@ -1,15 +1,17 @@
-pub mod ExampleLemmas
+-- what crates above cite
 pub mod Sorted
 pub mod Inversions
-pub mod Words
-pub mod Firsts
-pub mod Parsing
 pub mod Reading
 pub mod Bounds
 pub mod Assumed
 pub mod Written
 pub mod Again
-pub mod Named
 pub mod AssumedForms
 pub mod Formed
-pub mod Differ
+-- what this crate alone cites
+pub mod ExampleLemmas
+mod Words
+pub mod Firsts
+mod Parsing
+mod Named
+mod Differ

@@ -1,14 +1,16 @@
-pub mod ExampleLemmas
+-- what crates above cite
 pub mod StepLemmas
 pub mod SliceLemmas
-pub mod ConsistentLemmas
 pub mod SoundLemmas
 pub mod ModelLemmas
 pub mod CountLemmas
-pub mod HintLemmas
 pub mod LineLemmas
-pub mod EmptyLemmas
-pub mod DropLemmas
-pub mod FewerLemmas
-pub mod OverLemmas
-pub mod ActionLemmas
+-- what this crate alone cites
+mod ExampleLemmas
+mod ConsistentLemmas
+mod HintLemmas
+mod EmptyLemmas
+mod DropLemmas
+mod FewerLemmas
+mod OverLemmas
+mod ActionLemmas

@@ -1,1 +1,2 @@
+-- what crates above cite
 pub mod LubyLemmas

@@ -1,2 +1,3 @@
+-- what crates above cite
 pub mod RecordLemmas
 pub mod OpenedLemmas

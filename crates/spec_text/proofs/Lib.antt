@@ -1,5 +1,7 @@
+-- what crates above cite
 pub mod Clean
 pub mod Again
 pub mod Read
 pub mod Numerals
+-- what this crate alone cites
 pub mod Examples

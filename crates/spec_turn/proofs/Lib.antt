@@ -1,5 +1,7 @@
-pub mod Lists
+-- what crates above cite
 pub mod Paths
 pub mod Keeps
-pub mod Records
 pub mod Wholes
+-- what this crate alone cites
+mod Lists
+mod Records
