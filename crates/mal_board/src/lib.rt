@@ -5,8 +5,6 @@
 mod laws;
 mod run;
 mod served;
-#[cfg(test)]
-mod tests;
 
 pub use laws::records_lose_none;
 pub use run::run_served;

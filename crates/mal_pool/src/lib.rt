@@ -13,8 +13,6 @@ mod run;
 mod running;
 mod shared;
 mod testing;
-#[cfg(test)]
-mod tests;
 mod trace;
 mod working;
 

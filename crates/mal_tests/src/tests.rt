@@ -1,9 +1,12 @@
 //! Runs of the program in real threads.
 
+mod alone;
+mod boards;
 mod gates;
 mod programs;
 mod scripts;
 mod slow;
+mod stops;
 
 use gates::{Together, last_worker, losses, starts_at_once};
 use mal_pool::{PlainGate, replies, run_alone};

@@ -2,6 +2,14 @@
 
 use std::alloc::{AllocError, Global};
 
+/// Three revisions of one job: one that is satisfiable, one whose assumption fails, and one that is satisfiable again.
+pub const THREE_REVISIONS: &[u8] =
+    b"t a\nj p 1 1 4\np cnf 2 1\n1 2 0\na 0\np cnf 2 1\n-1 0\na -2 0\np cnf 2 0\na 0\ne\n";
+
+/// The replies to them.
+pub const THREE_REPLIES: &[u8] =
+    b"r a p 1\ns SATISFIABLE\nv -1 2 0\nr a p 2\ns UNSATISFIABLE\nk -2 0\nl 3 2 0 2 1 0\nr a p 3\ns SATISFIABLE\nv -1 2 0\n";
+
 /// Three revisions of a job of one tenant, beside jobs of three others.
 pub const FOUR_TENANTS: &[u8] =
     b"t a\nj p 1 1 4\np cnf 2 1\n1 2 0\na 0\np cnf 2 1\n-1 0\na -2 0\np cnf 2 0\na 0\ne\nt b\nj p 1 2 4\np cnf 0 0\na 0\ne\nt c\nj p 1 1 4\np cnf 0 0\na 0\ne\nt d\nj p 1 3 4\np cnf 0 0\na 0\ne\n";

@@ -1,14 +1,12 @@
-//! Scripts whose replies and whose history are known.
+//! Scripts that one thread runs, whose replies and whose history are known.
 
 ghost use Rattle.std.specs.Prelude.{◌≤◌};
 
-use crate::{replies, run_alone};
+use super::scripts::{THREE_REPLIES, THREE_REVISIONS};
+use mal_pool::{replies, run_alone};
 use mal_script::read;
 use std::alloc::Global;
 use std::test::Fail;
-
-mod stops;
-mod threads;
 
 /// The replies to the script of a text.
 fn replies_of(alloc: Global, text: &[u8]) -> Result<Vec<u8>, Fail> {
@@ -26,10 +24,6 @@ fn history_of(alloc: Global, text: &[u8], workers: u32) -> Result<Vec<u8>, Fail>
     let hall = run_alone(alloc, &script, workers)?;
     Ok(mal_history::write(alloc, hall.history())?)
 }
-
-/// Three revisions of one job: one that is satisfiable, one whose assumption fails, and one that is satisfiable again.
-const THREE_REVISIONS: &[u8] =
-    b"t a\nj p 1 1 4\np cnf 2 1\n1 2 0\na 0\np cnf 2 1\n-1 0\na -2 0\np cnf 2 0\na 0\ne\n";
 
 /// Two jobs of two tenants.
 const TWO_TENANTS: &[u8] =
@@ -81,9 +75,7 @@ fn nothing_is_replied_where_nothing_is_asked(rt: HostRuntime) -> Result<(), Fail
 #[test]
 fn each_revision_is_replied_to(rt: HostRuntime) -> Result<(), Fail> {
     let text = replies_of(rt.alloc(), THREE_REVISIONS)?;
-    let known =
-        b"r a p 1\ns SATISFIABLE\nv -1 2 0\nr a p 2\ns UNSATISFIABLE\nk -2 0\nl 3 2 0 2 1 0\nr a p 3\ns SATISFIABLE\nv -1 2 0\n";
-    assert_eq!(rt; text.as_slice(), known.as_slice());
+    assert_eq!(rt; text.as_slice(), THREE_REPLIES);
     Ok(())
 }
 

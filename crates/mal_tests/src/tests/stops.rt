@@ -1,8 +1,9 @@
 //! Runs whose gate stops workers: what they held is lost, and the replies are the same.
 
-use crate::{Gate, PlainGate, Point, Step, replies, run_all};
+use super::scripts::{THREE_REPLIES, THREE_REVISIONS};
 use mal_base::Outcome;
 use mal_history::{Event, History};
+use mal_pool::{Gate, PlainGate, Point, Step, replies, run_all};
 use mal_script::read;
 use std::alloc::Global;
 use std::process::Abort;
@@ -109,14 +110,6 @@ fn started_and_lost(history: &History) -> (usize, usize) {
     (started, lost)
 }
 
-/// Three revisions of one job: one that is satisfiable, one whose assumption fails, and one that is satisfiable again.
-const THREE_REVISIONS: &[u8] =
-    b"t a\nj p 1 1 4\np cnf 2 1\n1 2 0\na 0\np cnf 2 1\n-1 0\na -2 0\np cnf 2 0\na 0\ne\n";
-
-/// The replies to them.
-const THREE_REPLIES: &[u8] =
-    b"r a p 1\ns SATISFIABLE\nv -1 2 0\nr a p 2\ns UNSATISFIABLE\nk -2 0\nl 3 2 0 2 1 0\nr a p 3\ns SATISFIABLE\nv -1 2 0\n";
-
 /// The replies of four workers to a script, and how many starts stand before the recall and how many leases were lost.
 fn stopped<R: Threads + Wait + Sync, G: Gate>(
     rt: &R,
@@ -158,23 +151,45 @@ const EIGHT_JOBS: &[u8] =
 const EIGHT_REPLIES: &[u8] =
     b"r a p 1\ns SATISFIABLE\nv -1 2 0\nr a q 1\ns UNSATISFIABLE\nk 0\nl 5 1 0 1 2 0\nl 6 0 5 3 4 0\nr a r 1\ns UNSATISFIABLE\nk 1 2 0\nl 2 -1 -2 0 1 0\nr a s 1\ns SATISFIABLE\nv 0\nr b p 1\ns SATISFIABLE\nv -1 2 0\nr b q 1\ns UNSATISFIABLE\nk 0\nl 5 1 0 1 2 0\nl 6 0 5 3 4 0\nr b r 1\ns UNSATISFIABLE\nk 1 2 0\nl 2 -1 -2 0 1 0\nr b s 1\ns SATISFIABLE\nv 0\n";
 
-/// Runs eight jobs with a gate and compares the replies.
+/// Runs eight jobs with a gate that stops one point at most, and compares the replies. How many leases were lost.
 fn eight_reply_alike<R: Threads + Wait + Sync + Abort, G: Gate>(
     rt: &R,
     alloc: Global,
     gate: &G,
-) -> Result<(), Fail> {
-    let (text, _) = stopped(rt, alloc, EIGHT_JOBS, gate)?;
+) -> Result<usize, Fail> {
+    let (text, (_, lost)) = stopped(rt, alloc, EIGHT_JOBS, gate)?;
     assert_eq!(rt; text.as_slice(), EIGHT_REPLIES);
-    Ok(())
+    assert!(rt; lost <= 1);
+    Ok(lost)
 }
 
 #[test]
-fn one_stop_changes_no_reply(rt: HostRuntime) -> Result<(), Fail> {
-    eight_reply_alike(&rt, rt.alloc(), &PlainGate)?;
-    eight_reply_alike(&rt, rt.alloc(), &OneBefore { start: 1 })?;
-    eight_reply_alike(&rt, rt.alloc(), &OneAfter { start: 1 })?;
-    eight_reply_alike(&rt, rt.alloc(), &OneBefore { start: 8 })?;
-    eight_reply_alike(&rt, rt.alloc(), &OneAfter { start: 8 })?;
+fn no_stop_loses_no_lease(rt: HostRuntime) -> Result<(), Fail> {
+    let lost = eight_reply_alike(&rt, rt.alloc(), &PlainGate)?;
+    assert_eq!(rt; lost, 0);
+    Ok(())
+}
+
+/// Each of eight starts is stopped before its slice in a run of its own.
+#[test]
+fn a_stop_before_any_one_slice_changes_no_reply(rt: HostRuntime) -> Result<(), Fail> {
+    let mut lost: usize = 0;
+    for start in 1..9 {
+        let one = eight_reply_alike(&rt, rt.alloc(), &OneBefore { start })?;
+        lost = lost.saturating_add(one);
+    }
+    assert!(rt; lost > 0);
+    Ok(())
+}
+
+/// Each of eight starts is stopped after its slice in a run of its own.
+#[test]
+fn a_stop_after_any_one_slice_changes_no_reply(rt: HostRuntime) -> Result<(), Fail> {
+    let mut lost: usize = 0;
+    for start in 1..9 {
+        let one = eight_reply_alike(&rt, rt.alloc(), &OneAfter { start })?;
+        lost = lost.saturating_add(one);
+    }
+    assert!(rt; lost > 0);
     Ok(())
 }
