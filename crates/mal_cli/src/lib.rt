@@ -5,7 +5,5 @@ mod generating;
 mod program;
 mod replaying;
 mod running;
-#[cfg(test)]
-mod tests;
 
 pub use program::top;
