@@ -5,8 +5,9 @@ pub record Terms : Type 0 where
   pub priority : ℕ
   pub demand : ℕ
   pub slices : ℕ
+  pub profile : ℕ
 
--- the priority is 1 to 1,000, the demand 1 to 64, the slices of a revision 1 to 4,096
+-- the priority is 1 to 1,000, the demand 1 to 64, the slices of a revision 1 to 4,096, the solver profile 1 or 2
 pub record IsAsk (t : Terms) : Type 0 where
   pub some_priority : 1 ≤ t.priority
   pub priority_bound : t.priority ≤ 1000
@@ -14,8 +15,10 @@ pub record IsAsk (t : Terms) : Type 0 where
   pub demand_bound : t.demand ≤ 64
   pub some_slices : 1 ≤ t.slices
   pub slices_bound : t.slices ≤ 4096
+  pub some_profile : 1 ≤ t.profile
+  pub profile_bound : t.profile ≤ 2
 
--- the three numbers are in those ranges
+-- the first three numbers are in those ranges
 pub record InRange (priority demand slices : ℤ) : Type 0 where
   pub some_priority : pos 1 ≤ℤ priority
   pub priority_bound : priority ≤ℤ pos 1000
@@ -23,3 +26,7 @@ pub record InRange (priority demand slices : ℤ) : Type 0 where
   pub demand_bound : demand ≤ℤ pos 64
   pub some_slices : pos 1 ≤ℤ slices
   pub slices_bound : slices ≤ℤ pos 4096
+
+-- a number is that of a solver profile
+abbrev pub IsProfile : ℤ → Type 0
+IsProfile p = (pos 1 ≤ℤ p) × (p ≤ℤ pos 2)

@@ -107,6 +107,24 @@ mod tests {
     }
 
     #[test]
+    fn an_ask_names_the_profile_of_its_solvers(rt: HostRuntime) -> Result<(), Fail> {
+        assert!(rt; Ask::of(0, 1, 4).is_none());
+        assert!(rt; Ask::of(1, 65, 4).is_none());
+        assert!(rt; Ask::of(1, 1, 4097).is_none());
+        let ask = Ask::of(1000, 64, 4096).ok_or("no ask")?;
+        assert_eq!(rt; ask.profile(), 1);
+        assert_eq!(rt; ask.with_profile(1), Some(ask));
+        let second = ask.with_profile(2).ok_or("no ask")?;
+        assert_eq!(rt; second.profile(), 2);
+        assert_eq!(rt; second.priority(), 1000);
+        assert_eq!(rt; second.demand(), 64);
+        assert_eq!(rt; second.slices(), 4096);
+        assert!(rt; ask.with_profile(0).is_none());
+        assert!(rt; ask.with_profile(3).is_none());
+        Ok(())
+    }
+
+    #[test]
     fn lines_stand_one_behind_another(rt: HostRuntime) -> Result<(), Fail> {
         let mut lines = Lines::new(rt.alloc());
         lines.reserve(2, 3, 3)?;
