@@ -10,15 +10,12 @@ use Rattle.mal_base.specs.NumberedClause.{NumberedClause, lits_under}
 use Rattle.mal_base.specs.declared.trail_entry.TrailEntry.{TrailEntry}
 use Rattle.spec_node.specs.State.{Node}
 use Rattle.spec_node.specs.Value.{is_true, level_of}
-use Rattle.spec_node.specs.Sound.{EachAfter, IsForced, IsReason, NumbersRise, AreLiteralsOf, IsWaiting, IsSound}
+use Rattle.spec_node.specs.Sound.{EachAfter, IsForced, IsReason, NumbersRise, AreLiteralsOf, IsSound}
 use Rattle.spec_node.proofs.CutLemmas.{level_of-push}
 use Rattle.spec_node.proofs.TrailLemmas.{true-same}
 use Rattle.spec_node.proofs.SettledLemmas.{var_of-negated}
-use Rattle.spec_logic.specs.Derivation.{derivation}
-use Rattle.spec_logic.specs.Derivation.Derivation.{Derived}
 use Rattle.spec_learn.specs.Analysis.{top}
-use Rattle.spec_learn.specs.Learning.{holding, analysis}
-use Rattle.spec_learn.proofs.HeartLemmas.{IsBy, AreGood, IsConsistentTrail, AreTrueOn, analysed-derived}
+use Rattle.spec_learn.proofs.HeartLemmas.{IsBy, AreGood, IsConsistentTrail, AreTrueOn}
 use mathlib.Core.Path.{fun_ext}
 
 -- what holds of each entry of a trail, latest first
@@ -99,12 +96,3 @@ negated-apart l q = by_sign (l % 2 == 0) refl q
 
 pub sound-consistent : (n : Node) → IsSound n → IsConsistentTrail n.trail
 sound-consistent n h l a b = negated-apart l (true-same n.variables n.trail [] l (negated l) h.consistent.placed (sym (var_of-negated l)) a b)
-
--- the line of a waiting conflict is derived
-pub sound-derived : (n : Node) (id : ℕ) → IsSound n → n.conflict ≡ Some id → derivation (holding n.clauses) (Some (analysis id n).lits) (analysis id n).hints ≡ Derived
-sound-derived n id h q = by_clause (h.waiting id q)
-  where
-    by_clause : IsWaiting n.clauses n.trail id → derivation (holding n.clauses) (Some (analysis id n).lits) (analysis id n).hints ≡ Derived
-    by_clause k = analysed-derived n.clauses n.trail (reverse n.trail) id k.0.lits (sound-consistent n h) (sound-good n h)
-        (subst (λ (x : ℕ). lits_under x n.clauses ≡ Some k.0.lits) k.2 (held-under 1 n.clauses k.0 h.ranged.numbers k.1))
-        (subst (λ (f : ℕ → Bool). list_all f k.0.lits ≡ true) (fun_ext (λ l. sym (true-turned n.trail (negated l)))) k.3.false_lits)

@@ -92,7 +92,7 @@ decided-high : (past : List TrailEntry) → AreLevelled past → AllOf (λ e. e.
 decided-high [] h = tt
 decided-high (e ∷ past) h = ((λ q. let u : e.level ≡ top past + 1 = h.0 q in omega arith), decided-high past h.2)
 
-different-back : (xs ys : List TrailEntry) → AreDifferent (xs ++ ys) → AreDifferent ys
+pub different-back : (xs ys : List TrailEntry) → AreDifferent (xs ++ ys) → AreDifferent ys
 different-back [] ys h = h
 different-back (x ∷ xs) ys h = different-back xs ys h.1
 

@@ -10,11 +10,10 @@ use Rattle.mal_base.specs.NumberedClause.{NumberedClause, lits_under}
 use Rattle.mal_base.specs.declared.trail_entry.TrailEntry.{TrailEntry}
 use Rattle.spec_node.specs.Value.{is_true, is_false}
 use Rattle.spec_node.proofs.SettledLemmas.{var_of-negated}
-use Rattle.spec_logic.specs.Derivation.{is_true as has_true, is_false as has_false, propagation, derivation, effect_of_lits}
+use Rattle.spec_logic.specs.Derivation.{is_true as has_true, is_false as has_false, propagation, effect_of_lits}
 use Rattle.spec_logic.specs.Derivation.Effect.{Passes, Makes, Conflicts}
 use Rattle.spec_logic.specs.Derivation.Derivation.{Derived}
-use Rattle.spec_learn.specs.Analysis.{Walk, Aim, has_var, vars_in, vars_under, begun, keeping, resolving, is_resolved, after_seen, after_entry, walked, walk_of, put, clause_of, analysed, top}
-use Rattle.spec_learn.specs.Analysis.Aim.{Learned}
+use Rattle.spec_learn.specs.Analysis.{Walk, Aim, has_var, vars_in, vars_under, begun, keeping, resolving, is_resolved, after_seen, after_entry, walked, put, clause_of}
 use Rattle.spec_learn.specs.Learning.{holding}
 use Rattle.spec_learn.proofs.LogicLemmas.{negated-negated, AreOthersFalse, IsConsistentList, reason-effect, conflict-effect}
 
@@ -231,10 +230,3 @@ clause-within trail (e ∷ es) h l q = by_place (clause-within trail es h.1 l) (
 pub clause-has : (es : List TrailEntry) → AreHad (map negated (clause_of es)) es
 clause-has [] = tt
 clause-has (e ∷ es) = (put-has (negated e.lit) e.lit (clause_of es) ∙ or_left _ _ (eq-eqb (negated (negated e.lit)) e.lit (negated-negated e.lit)), had-more (map negated (clause_of es)) (map negated (put (negated e.lit) (clause_of es))) es (λ l q. put-has (negated e.lit) l (clause_of es) ∙ or_right _ _ q) (clause-has es))
-
--- the line of an analysis is derived along its hints
-pub analysed-derived : (clauses : List NumberedClause) (trail past : List TrailEntry) (id : ℕ) (lits : List ℕ) → IsConsistentTrail trail → AreGood clauses trail past → lits_under id clauses ≡ Some lits → list_all (is_false past) lits ≡ true → derivation (holding clauses) (Some (analysed clauses past id).lits) (analysed clauses past id).hints ≡ Derived
-analysed-derived clauses trail past id lits c g q f =
-    let w : Walk = walk_of clauses past id in
-    ready-walk (Learned (top past)) clauses trail id past (begun (vars_under clauses id)) c g (ready-begun clauses trail past id lits c q f) (map negated (clause_of w.kept))
-    (record { within = clause-within trail w.kept (kept-true (Learned (top past)) clauses trail past (begun (vars_under clauses id)) g tt); seen = tt; kept = clause-has w.kept })

@@ -17,7 +17,7 @@ use Rattle.spec_learn.specs.Shorter.{shorter_walk}
 use Rattle.spec_learn.specs.ShorterLaws.{AreDistinct, ShorterHintsDiffer}
 use Rattle.spec_learn.proofs.CaseLemmas.{after-by}
 use Rattle.spec_learn.proofs.KeepLemmas.{sound-different}
-use Rattle.spec_learn.proofs.ShorterLemmas.{IsOfConflict, sound-conflict}
+use Rattle.spec_learn.proofs.WalkLemmas.{IsOfConflict, sound-conflict}
 use Rattle.spec_learn.proofs.StayLemmas.{others-at}
 
 -- no reason of these entries is among these numbers

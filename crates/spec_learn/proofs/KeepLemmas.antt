@@ -22,19 +22,18 @@ use Rattle.spec_node.proofs.TrailLemmas.{each-push, each-front, each-weaker, is_
 use Rattle.spec_node.proofs.LevelLemmas.{greatest-le}
 use Rattle.spec_node.proofs.CutLemmas.{kept-cons, kept-front, kept-settled}
 use Rattle.spec_node.proofs.SettledLemmas.{var_of-negated}
-use Rattle.spec_learn.specs.Analysis.{Aim, Analysed, put, clause_of, jump, vars_in, vars_under, top, begun, walked}
-use Rattle.spec_learn.specs.Analysis.Aim.{Learned}
+use Rattle.spec_learn.specs.Analysis.{Analysed, put, clause_of, jump, vars_in, top}
 use Rattle.spec_learn.specs.Order.{moved_all}
-use Rattle.spec_learn.specs.Learning.{derived_id, forced_by, analysis, learned}
+use Rattle.spec_learn.specs.Learning.{derived_id, forced_by, counted_in}
 use Rattle.spec_learn.specs.Lesson.{taught}
 use Rattle.spec_learn.proofs.LogicLemmas.{negated-negated}
 use Rattle.spec_learn.proofs.HeartLemmas.{IsConsistentTrail}
 use Rattle.spec_learn.proofs.BehindLemmas.{sound-consistent}
 use Rattle.spec_learn.proofs.UipLemmas.{HasPoint, AreBetween, jump-below}
-use Rattle.spec_learn.proofs.PointLemmas.{AllOf, allof-append, allof-front, allof-back, allof-kept, IsOn, all-on, kept-low, level-front, jump-reaches, unit-after}
+use Rattle.spec_learn.proofs.PointLemmas.{AllOf, allof-append, allof-front, allof-back, IsOn, kept-low, level-front, jump-reaches, unit-after}
 use Rattle.spec_learn.proofs.ApartLemmas.{IsApart, apart-reverse}
-use Rattle.spec_learn.proofs.LawLemmas.{top-trail, sound-point}
-use Rattle.spec_learn.proofs.SoundParts.{moves-permute, counted-has, with-last, numbers-last, below-derived, derived-serial, AreDifferent, AreApartFrom, clause-rises, clause-All, kept-different, find-alone}
+use Rattle.spec_learn.proofs.LawLemmas.{top-trail}
+use Rattle.spec_learn.proofs.SoundParts.{moves-permute, counted-has, with-last, numbers-last, below-derived, derived-serial, AreDifferent, AreApartFrom, clause-rises, clause-All, find-alone}
 use Rattle.spec_learn.proofs.SettleLemmas.{IsLearnedOn, closed-more, batch-more, batch-open, not-in-take, open-test, clause-own, clause-list_all}
 
 all-last : (P : NumberedClause → Type 0) (xs : List NumberedClause) (y : NumberedClause) → All P xs → P y → All P (xs ++ y ∷ [])
@@ -180,6 +179,7 @@ shaped n level es trail clauses =
       order = moved_all (vars_in (clause_of es)) n.order;
       serial = n.serial + 1;
       conflicts_since_restart = n.conflicts_since_restart + 1;
+      conflicts_since_dropping = counted_in n.profile n.conflicts_since_dropping;
       conflict = None;
     }
 
@@ -287,17 +287,6 @@ sound-different n h =
     let placed : EachAfter (IsPlaced (n.variables + 1 - 1)) [] n.trail = subst (λ (m : ℕ). EachAfter (IsPlaced m) [] n.trail) (sym less) h.consistent.placed in
     different-reverse (n.variables + 1) (reverse n.trail) (apart-reverse (n.variables + 1) n.trail (omega arith) placed)
 
--- what a walk of any aim keeps makes such a clause, where one of the entries has the current level
-pub walk-entries : (n : Node) (id : ℕ) (aim : Aim) (hints : List ℕ) → IsSound n → HasPoint (top (reverse n.trail)) (walked aim n.clauses (reverse n.trail) (begun (vars_under n.clauses id))).kept → IsOfEntries n (record { lits = clause_of (walked aim n.clauses (reverse n.trail) (begun (vars_under n.clauses id))).kept; hints = hints; level = jump (top (reverse n.trail)) (walked aim n.clauses (reverse n.trail) (begun (vars_under n.clauses id))).kept })
-walk-entries n id aim hints h p = record {
-  entries = (walked aim n.clauses (reverse n.trail) (begun (vars_under n.clauses id))).kept;
-  lits = refl;
-  level = refl;
-  point = p;
-  on = allof-kept (IsOn n.variables n.trail) aim n.clauses (reverse n.trail) (begun (vars_under n.clauses id)) (all-on n.variables n.trail h.consistent.placed h.consistent.levels) tt;
-  different = kept-different aim n.clauses (reverse n.trail) (begun (vars_under n.clauses id)) (sound-different n h) tt (apart-none (reverse n.trail));
-}
-
 -- learning a clause of such entries keeps a node sound
 pub entries-sound : (n : Node) (a : Analysed) → IsSound n → 0 < level_of n.trail → IsOfEntries n a → IsSound (taught a n)
 entries-sound n a h some k =
@@ -354,7 +343,3 @@ entries-sound n a h some k =
     left =
         let one : count_by (λ y. not (is_false t y)) (clause_of es) ≡ 1 = unit-after n.variables n.trail p.low p.point level p.between p.own lower l.lows l.on in
         find-alone (λ y. not (is_false t y)) (negated p.point.lit) (clause_of es) (open-test t p.point (point-out n.variables n.trail level p.low p.point l)) (clause-own p.low p.point) (omega arith)
-
--- learning keeps a node sound
-pub learned-sound : (n : Node) (id : ℕ) → IsSound n → n.conflict ≡ Some id → 0 < level_of n.trail → IsSound (learned id n)
-learned-sound n id h q some = entries-sound n (analysis id n) h some (walk-entries n id (Learned (top (reverse n.trail))) (analysis id n).hints h (sound-point n id h q some))

@@ -7,14 +7,12 @@ use Rattle.spec_node.specs.State.{Node}
 use Rattle.spec_node.specs.Value.{level_of}
 use Rattle.spec_node.specs.Sound.{IsSound}
 use Rattle.spec_learn.specs.Analysis.{Aim, Analysed, begun, vars_under, walked, clause_of, jump, top}
-use Rattle.spec_learn.specs.Analysis.Aim.{Learned}
-use Rattle.spec_learn.specs.Learning.{analysis}
 use Rattle.spec_learn.specs.Laws.{IsAsserting}
 use Rattle.spec_learn.specs.Lesson.{HaveOwnVariables, IsBetween, IsLesson}
-use Rattle.spec_learn.specs.ShorterLaws.{LessonAsserts, LessonKeepsSound, LearnedIsLesson, LearnedIsTaught}
+use Rattle.spec_learn.specs.ShorterLaws.{LessonAsserts, LessonKeepsSound}
 use Rattle.spec_learn.proofs.UipLemmas.{HasPoint, AreBetween}
 use Rattle.spec_learn.proofs.PointLemmas.{AllOf, allof-reverse, allof-kept, IsOn, all-on}
-use Rattle.spec_learn.proofs.LawLemmas.{top-trail, sound-point, Asserts, asserts-from}
+use Rattle.spec_learn.proofs.LawLemmas.{top-trail, Asserts, asserts-from}
 use Rattle.spec_learn.proofs.SoundParts.{AreDifferent, kept-different}
 use Rattle.spec_learn.proofs.KeepLemmas.{IsOfEntries, entries-sound, sound-different, apart-none}
 
@@ -94,9 +92,3 @@ walk-lesson n id aim hints h p =
       entries = subst (All (Contains n.trail)) p.is on;
       different = own-variables (p.low ++ p.point ∷ []) (subst AreDifferent p.is different);
     }
-
-pub learned-lesson : LearnedIsLesson
-learned-lesson n id h q some = walk-lesson n id (Learned (top (reverse n.trail))) (analysis id n).hints h (sound-point n id h q some)
-
-pub learned-taught : LearnedIsTaught
-learned-taught n id = refl

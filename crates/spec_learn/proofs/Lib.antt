@@ -1,21 +1,20 @@
 -- what crates above cite
 pub mod BehindLemmas
 pub mod ApartLemmas
-pub mod LawLemmas
 pub mod SoundParts
 pub mod KeepLemmas
 pub mod RefuteLemmas
 pub mod CoreLemmas
 pub mod CoreClauseLemmas
 pub mod CoreSoundLemmas
-pub mod LessonLemmas
-pub mod ShorterLemmas
+pub mod ProfileLemmas
 -- what this crate alone cites
 mod LogicLemmas
 mod HeartLemmas
 mod UipLemmas
 mod PointLemmas
 mod SettleLemmas
+mod LawLemmas
 mod GoalLemmas
 mod FirstPointLemmas
 mod CaseLemmas
@@ -24,3 +23,6 @@ mod LevelLemmas
 mod StayLemmas
 mod WithinLemmas
 mod HintLemmas
+mod LessonLemmas
+mod WalkLemmas
+mod ShorterLemmas

@@ -13,7 +13,7 @@ use Rattle.spec_node.proofs.CutLemmas.{level_of-push}
 use Rattle.spec_node.proofs.LevelLemmas.{levels-rise}
 use Rattle.spec_learn.specs.Learning.{derived_id, analysis}
 use Rattle.spec_learn.specs.Refuting.{refuted, emptied}
-use Rattle.spec_learn.proofs.LawLemmas.{sound-empty}
+use Rattle.spec_learn.proofs.ProfileLemmas.{sound-empty}
 use Rattle.spec_learn.proofs.SoundParts.{with-last, numbers-last, below-derived, derived-serial}
 
 all-last : (P : NumberedClause → Type 0) (xs : List NumberedClause) (y : NumberedClause) → All P xs → P y → All P (xs ++ y ∷ [])

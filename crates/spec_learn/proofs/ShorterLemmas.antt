@@ -1,101 +1,24 @@
-use Rattle.std.proofs.Common.{◌≡◌, ℕ, ◌+◌, ◌-◌, ◌<◌, ◌≤◌, ◌⊎◌, inl, inr, Bool, true, List, [], ◌∷◌, ◌++◌, length, map, reverse, count_by, Some, refl, sym, ap, ◌∙◌, subst, arith}
-use Rattle.std.specs.Prelude.{◌==◌, ◌&&◌, max, None, false}
-use Rattle.std.specs.List.{list_all}
-use Rattle.std.proofs.lemmas.List.{length_push}
-use Rattle.std.proofs.lemmas.Bool.{both_ways, eq-eqb}
-use Rattle.std.proofs.lemmas.List.Sorted.{list_any-IsPermutation, IsPermutation-reverse}
-use Rattle.mal_base.specs.Literals.{var_of, negated}
-use Rattle.mal_base.specs.NumberedClause.{NumberedClause, lits_under}
-use Rattle.mal_base.specs.declared.trail_entry.TrailEntry.{TrailEntry}
-use Rattle.spec_logic.specs.Derivation.{derivation}
-use Rattle.spec_logic.specs.Derivation.Derivation.{Derived}
-use Rattle.spec_node.specs.State.{Node}
-use Rattle.spec_node.specs.Value.{is_false, level_of}
-use Rattle.spec_node.specs.Sound.{EachAfter, IsPlaced, IsForced, level_in, current_count, IsWaiting, IsSound}
-use Rattle.spec_learn.specs.Analysis.{Aim, Walk, has_var, begun, vars_under, resolving, is_left, is_resolved, walked, clause_of, jump, top}
-use Rattle.spec_learn.specs.Shorter.{shorter_walk, shorter_analysis}
+use Rattle.std.proofs.Common.{◌≡◌, ℕ, reverse, sym, ap, ◌∙◌, subst}
+use Rattle.std.specs.Prelude.{max}
+use Rattle.spec_node.specs.Sound.{IsForced}
+use Rattle.spec_learn.specs.Analysis.{Walk, begun, vars_under, walked, jump, top}
+use Rattle.spec_learn.specs.Shorter.{shorter_analysis}
 use Rattle.spec_learn.specs.Analysis.Aim.{Learned, Shortened}
-use Rattle.spec_learn.specs.Learning.{holding}
 use Rattle.spec_learn.specs.ShorterLaws.{ShorterIsLesson, ShorterIsDerived, ShorterIsEmptyAtZero, ShorterJumpsAlike, ShorterIsSmall}
-use Rattle.spec_learn.proofs.HeartLemmas.{AreGood, IsConsistentTrail, under-is, ready-walk, ready-begun, clause-within, kept-true, clause-has}
-use Rattle.spec_learn.proofs.BehindLemmas.{each-reverse, held-under, true-turned, sound-good, sound-consistent}
-use Rattle.spec_learn.proofs.UipLemmas.{AreLevelled, falls, HasPoint, walk-small, length-clause}
-use Rattle.spec_learn.proofs.ApartLemmas.{apart-reverse, apart-short}
-use Rattle.spec_learn.proofs.PointLemmas.{left-counted}
-use Rattle.spec_learn.proofs.LawLemmas.{top-trail, sound-levelled}
+use Rattle.spec_learn.proofs.BehindLemmas.{each-reverse}
+use Rattle.spec_learn.proofs.UipLemmas.{AreLevelled}
+use Rattle.spec_learn.proofs.LawLemmas.{sound-levelled}
 use Rattle.spec_learn.proofs.SoundParts.{AreDifferent}
-use Rattle.spec_learn.proofs.CaseLemmas.{after-by, mild-learned, mild-shortened}
-use Rattle.spec_learn.proofs.TurnLemmas.{Turn, turns, rest-point}
+use Rattle.spec_learn.proofs.CaseLemmas.{mild-learned, mild-shortened}
+use Rattle.spec_learn.proofs.TurnLemmas.{Turn}
 use Rattle.spec_learn.proofs.LevelLemmas.{AreReached, reached-behind, greatest_seen, rest-jump}
 use Rattle.spec_learn.proofs.KeepLemmas.{sound-different}
 use Rattle.spec_learn.proofs.LessonLemmas.{walk-lesson}
-use mathlib.Core.Path.{fun_ext}
-
--- the clause of a waiting conflict
-pub record IsOfConflict (n : Node) (id : ℕ) : Type 0 where
-  pub lits : List ℕ
-  pub held : lits_under id n.clauses ≡ Some lits
-  pub false_lits : list_all (is_false (reverse n.trail)) lits ≡ true
-  pub left : 0 < level_of n.trail → is_left (top (reverse n.trail)) (vars_under n.clauses id) (reverse n.trail) ≡ true
-
-pub sound-conflict : (n : Node) (id : ℕ) → IsSound n → n.conflict ≡ Some id → IsOfConflict n id
-sound-conflict n id h q = by_clause (h.waiting id q)
-  where
-    by_clause : IsWaiting n.clauses n.trail id → IsOfConflict n id
-    by_clause k =
-        let held : lits_under id n.clauses ≡ Some k.0.lits = subst (λ (x : ℕ). lits_under x n.clauses ≡ Some k.0.lits) k.2 (held-under 1 n.clauses k.0 h.ranged.numbers k.1) in
-        record {
-          lits = k.0.lits;
-          held = held;
-          false_lits = subst (λ (f : ℕ → Bool). list_all f k.0.lits ≡ true) (fun_ext (λ l. sym (true-turned n.trail (negated l)))) k.3.false_lits;
-          left = λ some.
-              let level : top (reverse n.trail) ≡ level_of n.trail = top-trail n.trail in
-              let two : 2 ≤ current_count n.trail k.0.lits = k.3.current some in
-              let counted : 1 ≤ count_by (λ l. level_in n.trail (var_of l) == top (reverse n.trail)) k.0.lits = subst (λ (m : ℕ). 1 ≤ count_by (λ l. level_in n.trail (var_of l) == m) k.0.lits) (sym level) (omega arith) in
-              let some_top : 0 < top (reverse n.trail) = omega arith in
-              let front : is_left (top (reverse n.trail)) (vars_under n.clauses id) n.trail ≡ true = left-counted n.trail (top (reverse n.trail)) (vars_under n.clauses id) k.0.lits some_top (λ v m. ap (λ (vs : List ℕ). has_var vs v) (under-is n.clauses id k.0.lits held) ∙ m) counted in
-              sym (list_any-IsPermutation (λ e. (e.level == top (reverse n.trail)) && has_var (vars_under n.clauses id) (var_of e.lit)) n.trail (reverse n.trail) (IsPermutation-reverse n.trail)) ∙ front;
-        }
-
--- the line of any aim is derived
-pub walk-derived : (aim : Aim) (clauses : List NumberedClause) (trail past : List TrailEntry) (id : ℕ) (lits : List ℕ) → IsConsistentTrail trail → AreGood clauses trail past → lits_under id clauses ≡ Some lits → list_all (is_false past) lits ≡ true → derivation (holding clauses) (Some (clause_of (walked aim clauses past (begun (vars_under clauses id))).kept)) ((walked aim clauses past (begun (vars_under clauses id))).hints ++ id ∷ []) ≡ Derived
-walk-derived aim clauses trail past id lits c g q f =
-    let w : Walk = walked aim clauses past (begun (vars_under clauses id)) in
-    ready-walk aim clauses trail id past (begun (vars_under clauses id)) c g (ready-begun clauses trail past id lits c q f) (map negated (clause_of w.kept))
-    (record { within = clause-within trail w.kept (kept-true aim clauses trail past (begun (vars_under clauses id)) g tt); seen = tt; kept = clause-has w.kept })
+use Rattle.spec_learn.proofs.CoreClauseLemmas.{levelled-back, different-back}
+use Rattle.spec_learn.proofs.WalkLemmas.{conflict-derived, sound-turn, reached-back, shorter-point, walk-fits, walk-empty}
 
 pub shorter-derived : ShorterIsDerived
-shorter-derived n id h q =
-    let k : IsOfConflict n id = sound-conflict n id h q in
-    walk-derived (Shortened (top (reverse n.trail)) n.clauses) n.clauses n.trail (reverse n.trail) id k.lits (sound-consistent n h) (sound-good n h) k.held k.false_lits
-
--- where both walks of a sound node have passed the current level
-pub sound-turn : (n : Node) (id : ℕ) → IsSound n → n.conflict ≡ Some id → 0 < level_of n.trail → Turn (top (reverse n.trail)) n.clauses (reverse n.trail) (begun (vars_under n.clauses id))
-sound-turn n id h q some =
-    let level : top (reverse n.trail) ≡ level_of n.trail = top-trail n.trail in
-    turns (top (reverse n.trail)) n.clauses (reverse n.trail) (begun (vars_under n.clauses id)) (omega arith) (sound-levelled n h) (sound-different n h) (omega arith) ((sound-conflict n id h q).left some) refl
-
-pub levelled-back : (xs ys : List TrailEntry) → AreLevelled (xs ++ ys) → AreLevelled ys
-levelled-back [] ys h = h
-levelled-back (x ∷ xs) ys h = levelled-back xs ys h.2
-
-pub different-back : (xs ys : List TrailEntry) → AreDifferent (xs ++ ys) → AreDifferent ys
-different-back [] ys h = h
-different-back (x ∷ xs) ys h = different-back xs ys h.1
-
-pub reached-back : (clauses : List NumberedClause) (xs ys : List TrailEntry) → AreReached clauses (xs ++ ys) → AreReached clauses ys
-reached-back clauses [] ys h = h
-reached-back clauses (x ∷ xs) ys h = reached-back clauses xs ys h.1
-
-pub turn-point : (level : ℕ) (clauses : List NumberedClause) (past : List TrailEntry) (w : Walk) (t : Turn level clauses past w) → HasPoint level t.at.kept
-turn-point level clauses past w t = record { low = []; point = t.point; is = t.is; own = t.own; between = tt }
-
-pub shorter-point : (n : Node) (id : ℕ) → IsSound n → n.conflict ≡ Some id → 0 < level_of n.trail → HasPoint (top (reverse n.trail)) (shorter_walk n.clauses (reverse n.trail) id).kept
-shorter-point n id h q some =
-    let level : top (reverse n.trail) ≡ level_of n.trail = top-trail n.trail in
-    let t : Turn (top (reverse n.trail)) n.clauses (reverse n.trail) (begun (vars_under n.clauses id)) = sound-turn n id h q some in
-    subst (λ (v : Walk). HasPoint (top (reverse n.trail)) v.kept) (sym t.shortened)
-    (rest-point (Shortened (top (reverse n.trail)) n.clauses) (top (reverse n.trail)) n.clauses t.rest t.at (mild-shortened (top (reverse n.trail)) n.clauses) (omega arith) (levelled-back t.front t.rest (subst AreLevelled t.whole (sound-levelled n h))) t.low t.none (turn-point (top (reverse n.trail)) n.clauses (reverse n.trail) (begun (vars_under n.clauses id)) t))
+shorter-derived n id h q = conflict-derived (Shortened (top (reverse n.trail)) n.clauses) n id h q
 
 pub shorter-lesson : ShorterIsLesson
 shorter-lesson n id h q some = walk-lesson n id (Shortened (top (reverse n.trail)) n.clauses) (shorter_analysis id n).hints h (shorter-point n id h q some)
@@ -112,35 +35,8 @@ shorter-jumps n id h q some =
     let b : jump level (walked (Learned level) n.clauses t.rest t.at).kept ≡ max (jump level t.at.kept) (greatest_seen t.at.seen t.rest) = rest-jump (Learned level) level n.clauses t.rest t.at (mild-learned level n.clauses) levelled different reached t.low t.none in
     ap (λ (v : Walk). jump (top (reverse n.trail)) v.kept) t.shortened ∙ (a ∙ (sym b ∙ sym (ap (λ (v : Walk). jump (top (reverse n.trail)) v.kept) t.learned)))
 
--- each entry gives a literal or a hint at most
 pub shorter-small : ShorterIsSmall
-shorter-small n id h =
-    let w : Walk = shorter_walk n.clauses (reverse n.trail) id in
-    let lits : length (clause_of w.kept) ≡ length w.kept = length-clause w.kept in
-    let hints : length (w.hints ++ id ∷ []) ≡ length w.hints + 1 = length_push w.hints id in
-    let walk : length w.kept + length w.hints ≤ length (reverse n.trail) + (0 + 0) = walk-small (Shortened (top (reverse n.trail)) n.clauses) n.clauses (reverse n.trail) (begun (vars_under n.clauses id)) in
-    let less : n.variables + 1 - 1 ≡ n.variables = omega arith in
-    let placed : EachAfter (IsPlaced (n.variables + 1 - 1)) [] n.trail = subst (λ (k : ℕ). EachAfter (IsPlaced k) [] n.trail) (sym less) h.consistent.placed in
-    let short : length (reverse n.trail) + 1 ≤ n.variables + 1 = apart-short (n.variables + 1) (reverse n.trail) (omega arith) (apart-reverse (n.variables + 1) n.trail (omega arith) placed) in
-    omega (arith, lits, hints, walk, short)
-
--- at level 0 nothing stays
-none-kept : (clauses : List NumberedClause) (past : List TrailEntry) (w : Walk) → AreLevelled past → top past ≡ 0 → w.kept ≡ [] → (walked (Shortened 0 clauses) clauses past w).kept ≡ []
-none-kept clauses [] w h t k = k
-none-kept clauses (e ∷ past) w h t k =
-    let low : top past ≤ e.level = falls e past h in
-    after-by (λ v. (walked (Shortened 0 clauses) clauses past v).kept ≡ []) (Shortened 0 clauses) clauses e past w (record {
-      unseen = λ s. none-kept clauses past w h.2 (omega arith) k;
-      stays = λ s o. absurd (stuck o);
-      goes = λ s r q i. none-kept clauses past (resolving clauses r w) h.2 (omega arith) k;
-    })
-  where
-    stuck : (e.reason ≡ None) ⊎ (is_resolved (Shortened 0 clauses) e w.seen past ≡ false) → ⊥
-    stuck (inl o) = let u : e.level ≡ top past + 1 = h.0 o in absurd (omega arith)
-    stuck (inr o) = both_ways (is_resolved (Shortened 0 clauses) e w.seen past) o ((mild-shortened 0 clauses).base e w.seen past (eq-eqb e.level 0 t))
+shorter-small n id h = walk-fits (Shortened (top (reverse n.trail)) n.clauses) n id h
 
 pub shorter-empty : ShorterIsEmptyAtZero
-shorter-empty n id h q z =
-    let none : top (reverse n.trail) ≡ 0 = top-trail n.trail ∙ z in
-    let start : Walk = begun (vars_under n.clauses id) in
-    ap clause_of (subst (λ (k : ℕ). (walked (Shortened k n.clauses) n.clauses (reverse n.trail) start).kept ≡ []) (sym none) (none-kept n.clauses (reverse n.trail) start (sound-levelled n h) none refl))
+shorter-empty n id h q z = walk-empty (λ level. Shortened level n.clauses) n id (λ level. mild-shortened level n.clauses) h z

@@ -26,7 +26,8 @@ use Rattle.spec_learn.specs.ShorterLaws.{ShorterIsGoneThrough}
 use Rattle.spec_learn.proofs.CaseLemmas.{after-by}
 use Rattle.spec_learn.proofs.TurnLemmas.{Turn}
 use Rattle.spec_learn.proofs.LevelLemmas.{level-cons, other-var, own-levels, base-is, covered-var}
-use Rattle.spec_learn.proofs.ShorterLemmas.{sound-turn, levelled-back, different-back}
+use Rattle.spec_learn.proofs.CoreClauseLemmas.{levelled-back, different-back}
+use Rattle.spec_learn.proofs.WalkLemmas.{sound-turn}
 
 -- the seen entries above level 0, the latest first
 abbrev pub picks : List ℕ → List TrailEntry → List TrailEntry

@@ -107,7 +107,7 @@ pub record Analysed : Type 0 where
 abbrev pub walk_of : List NumberedClause → List TrailEntry → ℕ → Walk
 walk_of clauses past id = walked (Learned (top past)) clauses past (begun (vars_under clauses id))
 
--- the clause that is learned from a conflict; at level 0 all is resolved away, and it is the empty clause
+-- the clause of the first implication point of a conflict; at level 0 all is resolved away, and it is the empty clause
 abbrev pub analysed : List NumberedClause → List TrailEntry → ℕ → Analysed
 analysed clauses past id = let w = walk_of clauses past id in record { lits = clause_of w.kept; hints = w.hints ++ id ∷ []; level = jump (top past) w.kept }
 

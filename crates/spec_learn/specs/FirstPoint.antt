@@ -1,5 +1,5 @@
--- The clause that is learned is that of the first implication point: on its way from the conflict the clause has two literals of
--- the current level or more, each time that another reason is resolved with.
+-- The clause that is learned, of which profile 2 learns the shorter form, is that of the first implication point: on its way from
+-- the conflict the clause has two literals of the current level or more, each time that another reason is resolved with.
 use Rattle.std.specs.Prelude.{◌≡◌, ◌≢◌, ℕ, ◌≤◌, ◌==◌, List, [], ◌∷◌, ◌++◌, map, filter, count_by, Some, None}
 use Rattle.mal_base.specs.Literals.{var_of, negated}
 use Rattle.mal_base.specs.NumberedClause.{NumberedClause}

@@ -1,4 +1,4 @@
-use Rattle.std.specs.Prelude.{ℕ, ◌+◌, ◌*◌, ◌^◌, List, [], ◌∷◌, ◌++◌, length, reverse, Option, Some, None, option_map}
+use Rattle.std.specs.Prelude.{ℕ, ◌+◌, ◌*◌, ◌^◌, ◌==◌, if◌then◌else◌, List, [], ◌∷◌, ◌++◌, length, reverse, Option, Some, None, option_map}
 use Rattle.mal_base.specs.NumberedClause.{NumberedClause, Line, lits_under}
 use Rattle.mal_base.specs.declared.trail_entry.TrailEntry.{TrailEntry}
 use Rattle.spec_logic.specs.Derivation.{Holding}
@@ -7,6 +7,7 @@ use Rattle.spec_node.specs.Value.{left_literal, level_of}
 use Rattle.spec_node.specs.Cut.{cut}
 use Rattle.spec_node.specs.Adding.{with_clause}
 use Rattle.spec_learn.specs.Analysis.{Analysed, analysed, vars_in}
+use Rattle.spec_learn.specs.Shorter.{shortened}
 use Rattle.spec_learn.specs.Order.{moved_all}
 
 -- the clauses held, as derived lines are checked against them; none of them is a tautology
@@ -17,9 +18,17 @@ holding clauses id = option_map (λ (lits : List ℕ). Some lits) (lits_under id
 abbrev pub derived_id : Node → ℕ
 derived_id n = 2 ^ 32 + n.serial * 64 + n.index
 
+-- the clause that a profile learns from a conflict: the first implication point's, and under profile 2 its shorter form
+unfoldable pub analysed_in : ℕ → List NumberedClause → List TrailEntry → ℕ → Analysed
+analysed_in profile clauses past id = if profile == 2 then shortened clauses past id else analysed clauses past id
+
 -- the analysis of a conflict of a node
 abbrev pub analysis : ℕ → Node → Analysed
-analysis id n = analysed n.clauses (reverse n.trail) id
+analysis id n = analysed_in n.profile n.clauses (reverse n.trail) id
+
+-- the conflicts learned since the last dropping, after one more: profile 1 drops nothing, and counts none
+abbrev pub counted_in : ℕ → ℕ → ℕ
+counted_in profile count = if profile == 2 then count + 1 else count
 
 -- the line that a node derives from a conflict
 abbrev pub line_of : ℕ → Node → Line
@@ -43,5 +52,6 @@ learned id n =
       order = moved_all (vars_in a.lits) n.order;
       serial = n.serial + 1;
       conflicts_since_restart = n.conflicts_since_restart + 1;
+      conflicts_since_dropping = counted_in n.profile n.conflicts_since_dropping;
       conflict = None;
     }

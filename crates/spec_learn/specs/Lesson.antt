@@ -8,7 +8,7 @@ use Rattle.spec_node.specs.Cut.{cut}
 use Rattle.spec_node.specs.Adding.{with_clause}
 use Rattle.spec_learn.specs.Analysis.{Analysed, clause_of, jump, vars_in}
 use Rattle.spec_learn.specs.Order.{moved_all}
-use Rattle.spec_learn.specs.Learning.{derived_id, forced_by}
+use Rattle.spec_learn.specs.Learning.{derived_id, forced_by, counted_in}
 
 -- a node after learning a clause: it goes back to the greatest level of the clause's other literals, holds the clause and pushes its
 -- remaining literal, and moves the clause's variables to the front by rising variable
@@ -22,6 +22,7 @@ taught a n =
       order = moved_all (vars_in a.lits) n.order;
       serial = n.serial + 1;
       conflicts_since_restart = n.conflicts_since_restart + 1;
+      conflicts_since_dropping = counted_in n.profile n.conflicts_since_dropping;
       conflict = None;
     }
 

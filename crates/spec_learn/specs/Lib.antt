@@ -12,3 +12,4 @@ pub mod Lesson
 pub mod Shorter
 pub mod ShorterLaws
 pub mod ShorterExamples
+pub mod Dropping

@@ -10,7 +10,7 @@ use Rattle.mal_base.specs.declared.trail_entry.TrailEntry.{TrailEntry}
 use Rattle.spec_node.specs.State.{Node}
 use Rattle.spec_node.specs.Value.{has_value}
 use Rattle.spec_node.specs.Sound.{level_in}
-use Rattle.spec_learn.specs.Analysis.{Walk, Analysed, begun, vars_under, walked, clause_of, jump, top}
+use Rattle.spec_learn.specs.Analysis.{Walk, Analysed, begun, vars_under, walked, clause_of, jump, top, analysed}
 use Rattle.spec_learn.specs.Analysis.Aim.{Shortened}
 
 -- the walk from the clause of a conflict to the shorter clause
@@ -21,7 +21,10 @@ shorter_walk clauses past id = walked (Shortened (top past) clauses) clauses pas
 abbrev pub shortened : List NumberedClause → List TrailEntry → ℕ → Analysed
 shortened clauses past id = let w = shorter_walk clauses past id in record { lits = clause_of w.kept; hints = w.hints ++ id ∷ []; level = jump (top past) w.kept }
 
--- the shorter clause of a conflict of a node
+-- the clause of the first implication point of a conflict of a node, under either profile, and its shorter form
+abbrev pub longer_analysis : ℕ → Node → Analysed
+longer_analysis id n = analysed n.clauses (reverse n.trail) id
+
 abbrev pub shorter_analysis : ℕ → Node → Analysed
 shorter_analysis id n = shortened n.clauses (reverse n.trail) id
 

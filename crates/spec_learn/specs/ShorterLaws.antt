@@ -1,4 +1,4 @@
-use Rattle.std.specs.Prelude.{◌≡◌, ℕ, ◌+◌, ◌<◌, ◌≤◌, true, false, ◌==◌, List, [], ◌∷◌, length, reverse, Some}
+use Rattle.std.specs.Prelude.{◌≡◌, ◌≢◌, ℕ, ◌+◌, ◌<◌, ◌≤◌, true, false, ◌==◌, List, [], ◌∷◌, length, reverse, Some}
 use Rattle.std.specs.List.{list_any}
 use Rattle.spec_logic.specs.Derivation.{derivation}
 use Rattle.spec_logic.specs.Derivation.Derivation.{Derived}
@@ -9,7 +9,7 @@ use Rattle.spec_learn.specs.Analysis.{Analysed, walk_of}
 use Rattle.spec_learn.specs.Learning.{holding, analysis, learned}
 use Rattle.spec_learn.specs.Laws.{IsAsserting}
 use Rattle.spec_learn.specs.Lesson.{taught, IsLesson}
-use Rattle.spec_learn.specs.Shorter.{shorter_walk, shorter_analysis, gone_through}
+use Rattle.spec_learn.specs.Shorter.{shorter_walk, longer_analysis, shorter_analysis, gone_through}
 
 -- a lesson has one literal of the current level, jumps below it, and has one literal left after the jump
 abbrev pub LessonAsserts : Type 0
@@ -19,12 +19,17 @@ LessonAsserts = (n : Node) (a : Analysed) → IsSound n → 0 < level_of n.trail
 abbrev pub LessonKeepsSound : Type 0
 LessonKeepsSound = (n : Node) (a : Analysed) → IsSound n → 0 < level_of n.trail → IsLesson n a → IsSound (taught a n)
 
--- the clause of the first implication point is a lesson, and learning from a conflict is to be taught it
+-- the clause that is learned from a conflict is a lesson, under either profile, and learning from a conflict is to be taught it
 abbrev pub LearnedIsLesson : Type 0
 LearnedIsLesson = (n : Node) (id : ℕ) → IsSound n → n.conflict ≡ Some id → 0 < level_of n.trail → IsLesson n (analysis id n)
 
 abbrev pub LearnedIsTaught : Type 0
 LearnedIsTaught = (n : Node) (id : ℕ) → learned id n ≡ taught (analysis id n) n
+
+-- under profile 2 the shorter clause is learned, under any other the one of the first implication point
+pub record LearnsByProfile : Type 0 where
+  pub shorter : (n : Node) (id : ℕ) → n.profile ≡ 2 → analysis id n ≡ shorter_analysis id n
+  pub longer : (n : Node) (id : ℕ) → n.profile ≢ 2 → analysis id n ≡ longer_analysis id n
 
 -- the shorter clause is a lesson
 abbrev pub ShorterIsLesson : Type 0
@@ -40,7 +45,7 @@ ShorterIsEmptyAtZero = (n : Node) (id : ℕ) → IsSound n → n.conflict ≡ So
 
 -- it jumps to the level of the longer clause
 abbrev pub ShorterJumpsAlike : Type 0
-ShorterJumpsAlike = (n : Node) (id : ℕ) → IsSound n → n.conflict ≡ Some id → 0 < level_of n.trail → (shorter_analysis id n).level ≡ (analysis id n).level
+ShorterJumpsAlike = (n : Node) (id : ℕ) → IsSound n → n.conflict ≡ Some id → 0 < level_of n.trail → (shorter_analysis id n).level ≡ (longer_analysis id n).level
 
 -- its entries are those of the longer clause that stay where they are gone through from the latest to the earliest
 abbrev pub ShorterIsGoneThrough : Type 0
@@ -48,7 +53,7 @@ ShorterIsGoneThrough = (n : Node) (id : ℕ) → IsSound n → n.conflict ≡ So
 
 -- its literals are among those of the longer clause
 abbrev pub ShorterIsWithin : Type 0
-ShorterIsWithin = (n : Node) (id : ℕ) → IsSound n → n.conflict ≡ Some id → 0 < level_of n.trail → (l : ℕ) → list_any (λ m. m == l) (shorter_analysis id n).lits ≡ true → list_any (λ m. m == l) (analysis id n).lits ≡ true
+ShorterIsWithin = (n : Node) (id : ℕ) → IsSound n → n.conflict ≡ Some id → 0 < level_of n.trail → (l : ℕ) → list_any (λ m. m == l) (shorter_analysis id n).lits ≡ true → list_any (λ m. m == l) (longer_analysis id n).lits ≡ true
 
 -- it gives no more literals and hints than there are variables, and one more
 abbrev pub ShorterIsSmall : Type 0

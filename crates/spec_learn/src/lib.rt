@@ -10,7 +10,8 @@ ghost use Rattle.spec_learn.specs.Laws.{AnalysisIsSmall, EmptyAtZero, LearnedAss
 ghost use Rattle.spec_learn.specs.RefutingExamples.{HasRefutingExamples};
 ghost use Rattle.spec_learn.specs.RefutingLaws.{CoreKeepsSound, EmptyKeepsSound, GoalIsHeld, NumberIsNew, OthersStayHeld};
 ghost use Rattle.spec_learn.specs.ShorterExamples.{HasShorterExamples};
-ghost use Rattle.spec_learn.specs.ShorterLaws.{LearnedIsLesson, LearnedIsTaught, LessonAsserts, LessonKeepsSound};
+ghost use Rattle.spec_learn.specs.ShorterLaws.{LearnedIsLesson, LearnedIsTaught, LearnsByProfile};
+ghost use Rattle.spec_learn.specs.ShorterLaws.{LessonAsserts, LessonKeepsSound};
 ghost use Rattle.spec_learn.specs.ShorterLaws.{ShorterHintsDiffer, ShorterIsDerived, ShorterIsEmptyAtZero};
 ghost use Rattle.spec_learn.specs.ShorterLaws.{ShorterIsGoneThrough, ShorterIsLesson, ShorterIsSmall, ShorterIsWithin};
 ghost use Rattle.spec_learn.specs.ShorterLaws.{ShorterJumpsAlike};
@@ -88,13 +89,14 @@ pub fn goal_is_held()
     ensures others { OthersStayHeld }
 {}
 
-/// Whatever clause is a lesson for a sound node asserts, and learning it keeps the node sound; the clause of the first
-/// implication point is one, and learning from a conflict is to be taught it.
+/// Whatever clause is a lesson for a sound node asserts, and learning it keeps the node sound; what either profile
+/// learns is one, and learning from a conflict is to be taught it. Profile 2 learns the shorter form.
 pub fn lesson_keeps_sound()
     ensures asserts { LessonAsserts }
     ensures sound { LessonKeepsSound }
     ensures learned { LearnedIsLesson }
     ensures taught { LearnedIsTaught }
+    ensures by_profile { LearnsByProfile }
 {}
 
 /// The worked examples of shorter clauses compute to the answers that are known.

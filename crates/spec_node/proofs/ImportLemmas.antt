@@ -1,7 +1,7 @@
-use Rattle.std.proofs.Common.{◌≡◌, ◌≢◌, ℕ, ◌+◌, ◌^◌, ◌<◌, ◌≤◌, max, Bool, true, false, cond, not, List, [], ◌∷◌, ◌++◌, bytes_eq, refl, sym, ap, ◌∙◌, arith}
+use Rattle.std.proofs.Common.{◌≡◌, ◌≢◌, ℕ, ◌+◌, ◌^◌, ◌<◌, ◌≤◌, max, Bool, true, false, cond, not, ◌&&◌, ◌==◌, List, [], ◌∷◌, ◌++◌, length, bytes_eq, refl, sym, ap, ◌∙◌, arith}
 use Rattle.std.specs.Prelude.{All, Contains, filter, nat_lt}
 use Rattle.std.proofs.lemmas.List.Elements.{All-nil, All-cons, All-head, All-tail, All-weaker, All-contains, All-contains_itself, Contains-append_left, Contains-append_right}
-use Rattle.std.proofs.lemmas.Bool.{leb-true, ltb-true, ltb-false, le-ltb, or_parts, not-true, false≢true}
+use Rattle.std.proofs.lemmas.Bool.{leb-true, ltb-true, ltb-false, le-ltb, or_parts, and_right, ne_eqb, not-true, false≢true}
 use Rattle.std.proofs.lemmas.Slice.Eq.{bytes_eq-Decides}
 use Rattle.mal_base.specs.declared.trail_entry.TrailEntry.{TrailEntry}
 use Rattle.mal_base.specs.NumberedClause.{NumberedClause}
@@ -10,9 +10,9 @@ use Rattle.spec_node.specs.Value.{level_of}
 use Rattle.spec_node.specs.Cut.{kept, removed}
 use Rattle.spec_node.specs.Adding.{with_clause}
 use Rattle.spec_node.specs.Load.{is_derived}
-use Rattle.spec_node.specs.Import.{has_lits, taken, with_clauses, serial_above, imported}
+use Rattle.spec_node.specs.Import.{has_lits, taken, with_clauses, serial_above, with_new, is_left_off, imported}
 use Rattle.spec_node.specs.Sound.{EachAfter, AreLiteralsOf, IsPlaced, IsLevelled, IsClosed, IsForced, IsChosen, IsPassed, NumbersRise, serial_of, IsRanged, IsConsistent, IsSound}
-use Rattle.spec_node.specs.Laws.{originals, HaveOwnNumbers, MayImport, ImportHolds}
+use Rattle.spec_node.specs.Laws.{originals, HaveOwnNumbers, MayImport, ImportHolds, ImportMayLeave}
 use Rattle.spec_node.proofs.TrailLemmas.{each-front, each-weaker}
 use Rattle.spec_node.proofs.BatchLemmas.{All-filtered}
 use Rattle.spec_node.proofs.CutLemmas.{kept-front}
@@ -132,9 +132,17 @@ originals-with_clauses : (new cs : List NumberedClause) → All (λ c. is_derive
 originals-with_clauses [] cs h = refl
 originals-with_clauses (c ∷ new) cs h = originals-with_clauses new (with_clause c cs) (All-tail (λ x. is_derived x ≡ true) c new h) ∙ originals-with c cs (All-head (λ x. is_derived x ≡ true) c new h)
 
--- importing keeps the search consistent
-imported-consistent : (told : List NumberedClause) (n : Node) → All (λ c. AreLiteralsOf n.variables c.lits) told → IsConsistent n → IsConsistent (imported told n)
-imported-consistent told n within h =
+-- what holds of a node, and of the node with the clauses that are taken, holds after an import
+pub by-taking : (P : Node → Type 0) (told : List NumberedClause) (n : Node) → P n → P (with_new (taken told n.clauses) n) → P (imported told n)
+by-taking P told n h k = by_test (is_left_off n.profile (taken told n.clauses))
+  where
+    by_test : (b : Bool) → P (cond b n (with_new (taken told n.clauses) n))
+    by_test true = h
+    by_test false = k
+
+-- taking clauses keeps the search consistent
+taken-consistent : (told : List NumberedClause) (n : Node) → All (λ c. AreLiteralsOf n.variables c.lits) told → IsConsistent n → IsConsistent (with_new (taken told n.clauses) n)
+taken-consistent told n within h =
     let t : List TrailEntry = kept 0 n.trail in
     let front : t ++ removed 0 n.trail ≡ n.trail = kept-front 0 n.trail in
     let levels : EachAfter IsLevelled [] t = each-front IsLevelled t (removed 0 n.trail) [] (rw front h.levels) in
@@ -150,11 +158,11 @@ imported-consistent told n within h =
       settled = λ e q k. absurd (omega arith);
     }
 
--- importing clauses that may be told keeps a node sound
-pub import-keeps_sound : (told : List NumberedClause) (n : Node) → MayImport told n → IsSound n → IsSound (imported told n)
-import-keeps_sound told n may h =
+-- taking clauses that may be told keeps a node sound
+taken-sound : (told : List NumberedClause) (n : Node) → MayImport told n → IsSound n → IsSound (with_new (taken told n.clauses) n)
+taken-sound told n may h =
     let q : IsRanged n = h.ranged in
-    let c : IsConsistent (imported told n) = imported-consistent told n may.within h.consistent in
+    let c : IsConsistent (with_new (taken told n.clauses) n) = taken-consistent told n may.within h.consistent in
     let t : List TrailEntry = kept 0 n.trail in
     let front : t ++ removed 0 n.trail ≡ n.trail = kept-front 0 n.trail in
     let low : level_of t ≤ 0 = kept-level 0 n.trail [] (omega arith) in
@@ -180,21 +188,45 @@ import-keeps_sound told n may h =
       waiting = λ id m. absurd (cc);
     }
 
+-- importing clauses that may be told keeps a node sound
+pub import-keeps_sound : (told : List NumberedClause) (n : Node) → MayImport told n → IsSound n → IsSound (imported told n)
+import-keeps_sound told n may h = by-taking IsSound told n h (taken-sound told n may h)
+
 held-or_told : (told : List NumberedClause) (n : Node) (c : NumberedClause) → Contains (imported told n).clauses c → Contains (n.clauses ++ told) c
 held-or_told told n c h =
     let all : List NumberedClause = n.clauses ++ told in
     let itself : All (Contains all) all = All-contains_itself all in
     let behind : All (Contains all) told = All-weaker (Contains told) (Contains all) (λ x k. Contains-append_right n.clauses told x k) told (All-contains_itself told) in
     let before : All (Contains all) n.clauses = All-weaker (Contains n.clauses) (Contains all) (λ x k. Contains-append_left n.clauses told x k) n.clauses (All-contains_itself n.clauses) in
-    All-contains (Contains all) (imported told n).clauses c (All-with_clauses (Contains all) (taken told n.clauses) n.clauses (All-passed (Contains all) (λ x. not (has_lits x.lits n.clauses)) told behind) before) h
+    let with_taken : All (Contains all) (with_clauses (taken told n.clauses) n.clauses) = All-with_clauses (Contains all) (taken told n.clauses) n.clauses (All-passed (Contains all) (λ x. not (has_lits x.lits n.clauses)) told behind) before in
+    All-contains (Contains all) (imported told n).clauses c (by-taking (λ m. All (Contains all) m.clauses) told n before with_taken) h
 
 pub import-holds : ImportHolds
 import-holds = record {
-  originals = λ told n h. originals-with_clauses (taken told n.clauses) n.clauses (All-passed (λ c. is_derived c ≡ true) (λ c. not (has_lits c.lits n.clauses)) told h);
-  assumptions = λ told n. refl;
-  variables = λ told n. refl;
-  verdict = λ told n. refl;
-  index = λ told n. refl;
+  originals = λ told n h. by-taking (λ m. originals m.clauses ≡ originals n.clauses) told n refl (originals-with_clauses (taken told n.clauses) n.clauses (All-passed (λ c. is_derived c ≡ true) (λ c. not (has_lits c.lits n.clauses)) told h));
+  assumptions = λ told n. by-taking (λ m. m.assumptions ≡ n.assumptions) told n refl refl;
+  variables = λ told n. by-taking (λ m. m.variables ≡ n.variables) told n refl refl;
+  verdict = λ told n. by-taking (λ m. m.verdict ≡ n.verdict) told n refl refl;
+  index = λ told n. by-taking (λ m. m.index ≡ n.index) told n refl refl;
+  profile = λ told n. by-taking (λ m. m.profile ≡ n.profile) told n refl refl;
   held = held-or_told;
-  kept = λ told n c h. contains-with_clauses (taken told n.clauses) n.clauses c h;
+  kept = λ told n c h. by-taking (λ m. Contains m.clauses c) told n h (contains-with_clauses (taken told n.clauses) n.clauses c h);
+}
+
+-- an import is left off exactly under profile 2 where no clause is taken
+left-off : (profile : ℕ) (new : List NumberedClause) → profile ≡ 2 → new ≡ [] → is_left_off profile new ≡ true
+left-off profile new p e = rw (p, e) refl
+
+takes-some : (profile : ℕ) (new : List NumberedClause) → new ≢ [] → is_left_off profile new ≡ false
+takes-some profile [] h = absurd (h refl)
+takes-some profile (c ∷ new) h = and_right (profile == 2) (length (c ∷ new) == 0) (ne_eqb (length (c ∷ new)) 0 (λ q. absurd (omega arith)))
+
+other-profile : (profile : ℕ) (new : List NumberedClause) → profile ≢ 2 → is_left_off profile new ≡ false
+other-profile profile new h = ap (λ (b : Bool). b && (length new == 0)) (ne_eqb profile 2 h)
+
+pub import-may_leave : ImportMayLeave
+import-may_leave = record {
+  left = λ told n p e. ap (λ (b : Bool). cond b n (with_new (taken told n.clauses) n)) (left-off n.profile (taken told n.clauses) p e);
+  takes = λ told n h. ap (λ (b : Bool). cond b n (with_new (taken told n.clauses) n)) (takes-some n.profile (taken told n.clauses) h);
+  other = λ told n h. ap (λ (b : Bool). cond b n (with_new (taken told n.clauses) n)) (other-profile n.profile (taken told n.clauses) h);
 }

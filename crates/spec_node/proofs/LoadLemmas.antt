@@ -15,7 +15,7 @@ use Rattle.mal_base.specs.Formulas.{is_within, is_clause_of, is_within_limits}
 use Rattle.mal_revision.specs.Posted.{Posted, is_posted}
 use Rattle.spec_logic.specs.Logic.{satisfies, satisfies_clause}
 use Rattle.mal_base.specs.NumberedClause.{NumberedClause}
-use Rattle.spec_node.specs.State.{Node, fresh}
+use Rattle.spec_node.specs.State.{Node, fresh_with}
 use Rattle.spec_node.specs.Cut.{kept, removed}
 use Rattle.spec_node.specs.Load.{counted, rotated, new_order, numbered, is_derived, with_originals, added, loaded}
 use Rattle.spec_node.specs.Sound.{EachAfter, IsPlaced, IsLevelled, IsClosed, own_level, IsLiteralOf, AreLiteralsOf, IsConsistent}
@@ -122,8 +122,8 @@ loaded-consistent r first n p l h =
       settled = λ e q k. absurd (omega arith);
     }
 
-pub fresh-consistent : (i : ℕ) → IsConsistent (fresh i)
-fresh-consistent i = record { order = IsPermutation-refl []; clauses = All-nil (λ c. AreLiteralsOf 0 c.lits); assumptions = record { rising = refl; within = All-nil (IsLiteralOf 0) }; placed = tt; levels = tt; closed = tt; handled = omega arith; settled = λ e q k. absurd (omega arith) }
+pub fresh-consistent : (i profile : ℕ) → IsConsistent (fresh_with i profile)
+fresh-consistent i profile = record { order = IsPermutation-refl []; clauses = All-nil (λ c. AreLiteralsOf 0 c.lits); assumptions = record { rising = refl; within = All-nil (IsLiteralOf 0) }; placed = tt; levels = tt; closed = tt; handled = omega arith; settled = λ e q k. absurd (omega arith) }
 
 -- what passes a test passes it again
 pub filter-again : {X : Type 0} (test : X → Bool) (xs : List X) → All (λ x. test x ≡ true) xs → filter test xs ≡ xs
@@ -172,6 +172,7 @@ load-holds = record {
   assumptions = λ r first n. refl;
   verdict = λ r first n. refl;
   index = λ r first n. refl;
+  profile = λ r first n. refl;
 }
 
 satisfies-numbered : (a : List Bool) (first : ℕ) (cs : List (Option (List ℕ))) → satisfies a (formula_of (numbered first cs)) ≡ satisfies a cs

@@ -6,7 +6,7 @@ use Rattle.std.proofs.lemmas.Bool.{leb-true, ltb-true, lt-ltb, le-leb, lt-leb, b
 use Rattle.mal_base.specs.declared.trail_entry.TrailEntry.{TrailEntry}
 use Rattle.mal_revision.specs.Posted.{Posted, is_posted}
 use Rattle.mal_base.specs.NumberedClause.{NumberedClause}
-use Rattle.spec_node.specs.State.{Node, fresh}
+use Rattle.spec_node.specs.State.{Node, fresh_with, fresh}
 use Rattle.spec_node.specs.Value.{level_of}
 use Rattle.spec_node.specs.Cut.{kept, removed, saved}
 use Rattle.spec_node.specs.Load.{numbered, is_derived, with_originals, added, loaded, first_phase}
@@ -34,8 +34,11 @@ kept-level level (e ∷ es) before h = subst (λ (t : List TrailEntry). level_of
 pub kept-short : (level : ℕ) (trail : List TrailEntry) → length (kept level trail) ≤ length trail
 kept-short level trail = let whole : length (kept level trail ++ removed level trail) ≡ length trail = ap length (kept-front level trail) in let sum = length-append (kept level trail) (removed level trail) in omega arith
 
+pub fresh-with_sound : (i profile : ℕ) → i ≤ 63 → IsSound (fresh_with i profile)
+fresh-with_sound i profile b = record { ranged = record { index = b; variables = omega arith; restart_number = omega arith; phases = refl; numbers = tt; serial = All-nil (λ c. is_derived c ≡ true → serial_of c < 0) }; consistent = fresh-consistent i profile; reasons = tt; chosen = tt; passed = tt; reached = refl; waiting = λ id e. absurd (cc) }
+
 pub fresh-sound : (i : ℕ) → i ≤ 63 → IsSound (fresh i)
-fresh-sound i b = record { ranged = record { index = b; variables = omega arith; restart_number = omega arith; phases = refl; numbers = tt; serial = All-nil (λ c. is_derived c ≡ true → serial_of c < 0) }; consistent = fresh-consistent i; reasons = tt; chosen = tt; passed = tt; reached = refl; waiting = λ id e. absurd (cc) }
+fresh-sound i b = fresh-with_sound i 1 b
 
 numbers-lower : (low high : ℕ) (cs : List NumberedClause) → low ≤ high → NumbersRise high cs → NumbersRise low cs
 numbers-lower low high [] b h = tt

@@ -1,4 +1,4 @@
-use Rattle.std.specs.Prelude.{ℕ, ◌+◌, max, Bool, not, bytes_eq, List, filter, fold, None}
+use Rattle.std.specs.Prelude.{ℕ, ◌+◌, max, Bool, not, ◌&&◌, ◌==◌, bytes_eq, List, length, filter, fold, None, if◌then◌else◌}
 use Rattle.std.specs.List.{list_any}
 use Rattle.mal_base.specs.NumberedClause.{NumberedClause}
 use Rattle.spec_node.specs.State.{Node}
@@ -33,6 +33,10 @@ with_new new n =
       conflict = None;
     }
 
+-- whether a node leaves off an import that takes no clause: under profile 2 it does, under profile 1 it is cut all the same
+abbrev pub is_left_off : ℕ → List NumberedClause → Bool
+is_left_off profile new = (profile == 2) && (length new == 0)
+
 -- a node after importing what is told: with the clauses that are taken
 abbrev pub imported : List NumberedClause → Node → Node
-imported told n = with_new (taken told n.clauses) n
+imported told n = let new = taken told n.clauses in if is_left_off n.profile new then n else with_new new n

@@ -6,11 +6,11 @@ use Rattle.mal_base.specs.declared.verdict.Verdict.TheVariants.{Satisfiable}
 use Rattle.mal_revision.specs.Posted.{Posted, is_posted}
 use Rattle.spec_logic.specs.Logic.{satisfies, is_true_in}
 use Rattle.mal_base.specs.NumberedClause.{NumberedClause}
-use Rattle.spec_node.specs.State.{Node, fresh}
+use Rattle.spec_node.specs.State.{Node, fresh_with}
 use Rattle.spec_node.specs.Value.{is_true}
 use Rattle.spec_node.specs.Batch.{batch}
 use Rattle.spec_node.specs.Load.{loaded, numbered, is_derived}
-use Rattle.spec_node.specs.Import.{imported}
+use Rattle.spec_node.specs.Import.{taken, with_new, imported}
 use Rattle.spec_node.specs.Model.{model_of}
 use Rattle.spec_node.specs.Sound.{AreLiteralsOf, IsConsistent, IsSound}
 
@@ -45,9 +45,9 @@ pub record AreNewNumbers (r : Posted) (first : ℕ) (n : Node) : Type 0 where
   pub above : All (λ c. c.id < 2 ^ 32 → c.id < first) n.clauses
   pub below : first + length r.clauses ≤ 2 ^ 32
 
--- a node is sound at its first start
+-- a node is sound at its first start, under either profile
 abbrev pub FreshIsSound : Type 0
-FreshIsSound = (i : ℕ) → i ≤ 63 → IsSound (fresh i)
+FreshIsSound = (i profile : ℕ) → i ≤ 63 → IsSound (fresh_with i profile)
 
 -- loading a posted revision under new numbers keeps a node sound
 abbrev pub LoadKeepsSound : Type 0
@@ -55,19 +55,20 @@ LoadKeepsSound = (r : Posted) (first : ℕ) (n : Node) → is_posted r ≡ true 
 
 -- the search of a node is consistent from its first start on
 abbrev pub FreshIsConsistent : Type 0
-FreshIsConsistent = (i : ℕ) → IsConsistent (fresh i)
+FreshIsConsistent = (i profile : ℕ) → IsConsistent (fresh_with i profile)
 
 -- loading a posted revision keeps the search consistent
 abbrev pub LoadKeepsConsistent : Type 0
 LoadKeepsConsistent = (r : Posted) (first : ℕ) (n : Node) → is_posted r ≡ true → has_literals r ≡ true → IsConsistent n → IsConsistent (loaded r first n)
 
--- what loading a revision leaves in a node: its clauses behind the originals held, and its assumptions, no verdict, and
--- the index
+-- what loading a revision leaves in a node: its clauses behind the originals held, and its assumptions, no verdict, the index
+-- and the profile
 pub record LoadHolds : Type 0 where
   pub originals : (r : Posted) (first : ℕ) (n : Node) → first + length r.clauses ≤ 2 ^ 32 → originals (loaded r first n).clauses ≡ originals n.clauses ++ numbered first r.clauses
   pub assumptions : (r : Posted) (first : ℕ) (n : Node) → (loaded r first n).assumptions ≡ r.assumptions
   pub verdict : (r : Posted) (first : ℕ) (n : Node) → (loaded r first n).verdict ≡ None
   pub index : (r : Posted) (first : ℕ) (n : Node) → (loaded r first n).index ≡ n.index
+  pub profile : (r : Posted) (first : ℕ) (n : Node) → (loaded r first n).profile ≡ n.profile
 
 -- numbered clauses mean what the clauses mean, and clauses behind others mean both
 pub record NumbersMeanSame : Type 0 where
@@ -101,16 +102,23 @@ pub record MayImport (told : List NumberedClause) (n : Node) : Type 0 where
 abbrev pub ImportKeepsSound : Type 0
 ImportKeepsSound = (told : List NumberedClause) (n : Node) → MayImport told n → IsSound n → IsSound (imported told n)
 
--- what importing leaves in a node: its originals, its assumptions, its variables, its verdict and its index; and what it
--- holds, it held before or was told
+-- what importing leaves in a node: its originals, its assumptions, its variables, its verdict, its index and its profile; and
+-- what it holds, it held before or was told
 pub record ImportHolds : Type 0 where
   pub originals : (told : List NumberedClause) (n : Node) → All (λ c. is_derived c ≡ true) told → originals (imported told n).clauses ≡ originals n.clauses
   pub assumptions : (told : List NumberedClause) (n : Node) → (imported told n).assumptions ≡ n.assumptions
   pub variables : (told : List NumberedClause) (n : Node) → (imported told n).variables ≡ n.variables
   pub verdict : (told : List NumberedClause) (n : Node) → (imported told n).verdict ≡ n.verdict
   pub index : (told : List NumberedClause) (n : Node) → (imported told n).index ≡ n.index
+  pub profile : (told : List NumberedClause) (n : Node) → (imported told n).profile ≡ n.profile
   pub held : (told : List NumberedClause) (n : Node) (c : NumberedClause) → Contains (imported told n).clauses c → Contains (n.clauses ++ told) c
   pub kept : (told : List NumberedClause) (n : Node) (c : NumberedClause) → Contains n.clauses c → Contains (imported told n).clauses c
+
+-- under profile 2 an import that takes no clause leaves a node as it is; any other import cuts it, whether it takes clauses or not
+pub record ImportMayLeave : Type 0 where
+  pub left : (told : List NumberedClause) (n : Node) → n.profile ≡ 2 → taken told n.clauses ≡ [] → imported told n ≡ n
+  pub takes : (told : List NumberedClause) (n : Node) → taken told n.clauses ≢ [] → imported told n ≡ with_new (taken told n.clauses) n
+  pub other : (told : List NumberedClause) (n : Node) → n.profile ≢ 2 → imported told n ≡ with_new (taken told n.clauses) n
 
 -- in a sound node without a waiting conflict each clause of a batch that was handled has a true literal
 abbrev pub HandledAreTrue : Type 0

@@ -1,9 +1,11 @@
-//! A solver node: its state, propagation batches, cuts, loading and soundness. Definitions, and the laws about them as the
-//! contracts of functions without a body.
+//! A solver node: its state, propagation batches, cuts, loading and soundness. Definitions, and the laws about them as
+//! the contracts of functions without a body.
 #![tactic(auto)]
 
 ghost use Rattle.spec_node.specs.Examples.{HasExamples};
-ghost use Rattle.spec_node.specs.Laws.{FreshIsConsistent, FreshIsSound, HandledAreTrue, ImportHolds, ImportKeepsSound, LoadsHoldAll, LoadKeepsSound, LoadHolds, LoadKeepsConsistent, NumbersMeanSame};
+ghost use Rattle.spec_node.specs.Laws.{FreshIsConsistent, FreshIsSound, HandledAreTrue, ImportHolds, ImportKeepsSound};
+ghost use Rattle.spec_node.specs.Laws.{ImportMayLeave, LoadHolds, LoadKeepsConsistent, LoadKeepsSound, LoadsHoldAll};
+ghost use Rattle.spec_node.specs.Laws.{NumbersMeanSame};
 
 /// The search of a node is consistent at its first start, and loads keep it so.
 pub fn search_is_consistent()
@@ -34,9 +36,10 @@ pub fn imports_keep_sound()
     ensures { ImportKeepsSound }
 {}
 
-/// What importing clauses leaves in a node.
+/// What importing clauses leaves in a node, and where it leaves the whole node as it is.
 pub fn import_holds()
-    ensures { ImportHolds }
+    ensures holds { ImportHolds }
+    ensures may_leave { ImportMayLeave }
 {}
 
 /// The worked examples of imports compute to the numbers that are known.

@@ -19,7 +19,7 @@ use Rattle.spec_node.proofs.TrailLemmas.{each-push, each-front, settled-more, fr
 use Rattle.spec_node.proofs.BatchLemmas.{PushKeeps, forced, after_all-keeps, after_all-extends, after_all-settles, Extends, All-filtered, all-of}
 use Rattle.spec_node.proofs.CutLemmas.{kept-front, kept-settled}
 use Rattle.spec_node.proofs.FindLemmas.{find-passes, find-All, IsBetween, counted-All, var_of-literal}
-use Rattle.spec_search.proofs.StepLemmas.{IsIdle, restarted, phased}
+use Rattle.spec_search.proofs.StepLemmas.{IsIdle, phased}
 
 -- the trail and the conflict after the next batch
 abbrev pub next_batch : Node → Progress
@@ -143,6 +143,3 @@ cut-consistent level n calm h =
     by_cut : (kept level n.trail ≡ n.trail) ⊎ AreSettled (length (kept level n.trail) + 1) (kept level n.trail) n.clauses → AreSettled (min n.processed (length (kept level n.trail) + 1)) (kept level n.trail) n.clauses
     by_cut (inl q) = λ k m. subst (λ (t : List TrailEntry). list_all (left_is_true (take k t) t) (batch (take k t) n.clauses) ≡ true) (sym q) (h.settled calm k (omega arith))
     by_cut (inr s) = λ k m. s k (omega arith)
-
-pub restarted-consistent : (n : Node) → n.conflict ≡ None → IsConsistent n → IsConsistent (restarted n)
-restarted-consistent n calm h = let c = cut-consistent 0 n calm h in record { order = c.order; clauses = c.clauses; assumptions = c.assumptions; placed = c.placed; levels = c.levels; closed = c.closed; handled = c.handled; settled = c.settled }

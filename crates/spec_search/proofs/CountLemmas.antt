@@ -1,19 +1,19 @@
-use Rattle.std.proofs.Common.{◌≡◌, ℕ, zero, suc, ◌+◌, ◌≤◌, Bool, true, false, length, Option, Some, None, refl, sym, subst, arith}
-use Rattle.std.specs.Prelude.{sum_by, nat_lt, is_some, ◌||◌}
+use Rattle.std.proofs.Common.{◌≡◌, ℕ, zero, suc, ◌+◌, ◌≤◌, Bool, true, false, cond, length, Option, Some, None, refl, sym, subst, arith}
+use Rattle.std.specs.Prelude.{sum_by, nat_lt, is_some, ◌==◌, ◌&&◌, ◌||◌}
 use Rattle.std.specs.Option.{option_map_or}
 use Rattle.std.proofs.lemmas.List.Sums.{sum_by-cons}
-use Rattle.std.proofs.lemmas.Bool.{le-ltb}
+use Rattle.std.proofs.lemmas.Bool.{and_from, and_parts, le-ltb}
 use Rattle.mal_base.specs.NumberedClause.{Line}
 use Rattle.mal_base.specs.declared.verdict.Verdict.{Verdict}
-use Rattle.spec_node.specs.State.{Node}
-use Rattle.spec_learn.specs.Learning.{line_of}
+use Rattle.spec_node.specs.State.{Node, has_profile}
+use Rattle.spec_learn.specs.Learning.{counted_in, line_of}
 use Rattle.spec_learn.specs.Refuting.{core_line}
-use Rattle.spec_learn.proofs.LawLemmas.{sound-small}
+use Rattle.spec_learn.proofs.ProfileLemmas.{sound-small}
 use Rattle.spec_learn.proofs.CoreClauseLemmas.{core-small}
-use Rattle.spec_search.specs.Step.{Case, Learns, Refutes, Propagates, Restarts, Contradicts, Assumes, Decides, Ends, case_of, line_by, next_line, after_case, step}
+use Rattle.spec_search.specs.Step.{Case, Learns, Refutes, Propagates, Drops, Restarts, Contradicts, Assumes, Decides, Ends, case_of, line_by, next_line, after_case, step}
 use Rattle.spec_search.specs.Slice.{Sliced, slice, steps_unless, is_over, behind, used_after, numbers_of, most_numbers}
-use Rattle.spec_search.specs.Laws.{CountsRise, LinesFit, SliceGoesOn}
-use Rattle.spec_search.proofs.SliceLemmas.{behind-node, going}
+use Rattle.spec_search.specs.Laws.{CountsRise, LinesFit, SliceGoesOn, StepKeepsProfile, SliceKeepsProfile}
+use Rattle.spec_search.proofs.SliceLemmas.{behind-node, going, steps-keep}
 use Rattle.spec_search.proofs.ModelLemmas.{step-leaves}
 
 -- the counts of a node rise by so much at the most
@@ -21,23 +21,32 @@ record Rise (k : ℕ) (before after : Node) : Type 0 where
   pub serial : after.serial ≤ before.serial + k
   pub conflicts_since_restart : after.conflicts_since_restart ≤ before.conflicts_since_restart + k
   pub restart_number : after.restart_number ≤ before.restart_number + k
+  pub conflicts_since_dropping : after.conflicts_since_dropping ≤ before.conflicts_since_dropping + k
+
+counted-more : (profile count : ℕ) → counted_in profile count ≤ count + 1
+counted-more profile count = by_profile (profile == 2)
+  where
+    by_profile : (b : Bool) → cond b (count + 1) count ≤ count + 1
+    by_profile true = omega arith
+    by_profile false = omega arith
 
 case-rise : (c : Case) (n : Node) → Rise 1 n (after_case c n)
-case-rise (Learns id) n = record { serial = omega arith; conflicts_since_restart = omega arith; restart_number = omega arith }
-case-rise (Refutes id) n = record { serial = omega arith; conflicts_since_restart = omega arith; restart_number = omega arith }
-case-rise Propagates n = record { serial = omega arith; conflicts_since_restart = omega arith; restart_number = omega arith }
-case-rise Restarts n = record { serial = omega arith; conflicts_since_restart = omega arith; restart_number = omega arith }
-case-rise (Contradicts a) n = record { serial = omega arith; conflicts_since_restart = omega arith; restart_number = omega arith }
-case-rise (Assumes a) n = record { serial = omega arith; conflicts_since_restart = omega arith; restart_number = omega arith }
-case-rise (Decides v) n = record { serial = omega arith; conflicts_since_restart = omega arith; restart_number = omega arith }
-case-rise Ends n = record { serial = omega arith; conflicts_since_restart = omega arith; restart_number = omega arith }
+case-rise (Learns id) n = record { serial = omega arith; conflicts_since_restart = omega arith; restart_number = omega arith; conflicts_since_dropping = counted-more n.profile n.conflicts_since_dropping }
+case-rise (Refutes id) n = record { serial = omega arith; conflicts_since_restart = omega arith; restart_number = omega arith; conflicts_since_dropping = omega arith }
+case-rise Propagates n = record { serial = omega arith; conflicts_since_restart = omega arith; restart_number = omega arith; conflicts_since_dropping = omega arith }
+case-rise Drops n = record { serial = omega arith; conflicts_since_restart = omega arith; restart_number = omega arith; conflicts_since_dropping = omega arith }
+case-rise Restarts n = record { serial = omega arith; conflicts_since_restart = omega arith; restart_number = omega arith; conflicts_since_dropping = omega arith }
+case-rise (Contradicts a) n = record { serial = omega arith; conflicts_since_restart = omega arith; restart_number = omega arith; conflicts_since_dropping = omega arith }
+case-rise (Assumes a) n = record { serial = omega arith; conflicts_since_restart = omega arith; restart_number = omega arith; conflicts_since_dropping = omega arith }
+case-rise (Decides v) n = record { serial = omega arith; conflicts_since_restart = omega arith; restart_number = omega arith; conflicts_since_dropping = omega arith }
+case-rise Ends n = record { serial = omega arith; conflicts_since_restart = omega arith; restart_number = omega arith; conflicts_since_dropping = omega arith }
 
 rise-more : (k : ℕ) (n m o : Node) → Rise 1 n m → Rise k m o → Rise (suc k) n o
-rise-more k n m o a b = record { serial = omega (arith, a.serial, b.serial); conflicts_since_restart = omega (arith, a.conflicts_since_restart, b.conflicts_since_restart); restart_number = omega (arith, a.restart_number, b.restart_number) }
+rise-more k n m o a b = record { serial = omega (arith, a.serial, b.serial); conflicts_since_restart = omega (arith, a.conflicts_since_restart, b.conflicts_since_restart); restart_number = omega (arith, a.restart_number, b.restart_number); conflicts_since_dropping = omega (arith, a.conflicts_since_dropping, b.conflicts_since_dropping) }
 
 steps-rise : (k : ℕ) (over : Bool) (used : ℕ) (n : Node) → Rise k n (steps_unless k over used n).node
-steps-rise zero over used n = record { serial = omega arith; conflicts_since_restart = omega arith; restart_number = omega arith }
-steps-rise (suc k) true used n = record { serial = omega arith; conflicts_since_restart = omega arith; restart_number = omega arith }
+steps-rise zero over used n = record { serial = omega arith; conflicts_since_restart = omega arith; restart_number = omega arith; conflicts_since_dropping = omega arith }
+steps-rise (suc k) true used n = record { serial = omega arith; conflicts_since_restart = omega arith; restart_number = omega arith; conflicts_since_dropping = omega arith }
 steps-rise (suc k) false used n =
     let u : ℕ = used_after used (next_line n) in
     let m : Node = step n in
@@ -46,7 +55,37 @@ steps-rise (suc k) false used n =
 -- a slice raises each count by 1,000 at the most
 pub slice-counts : (n : Node) → CountsRise n
 unfolding slice
-slice-counts n = let r : Rise 1000 n (steps_unless 1000 (is_over 0 n) 0 n).node = steps-rise 1000 (is_over 0 n) 0 n in record { serial = r.serial; conflicts_since_restart = r.conflicts_since_restart; restart_number = r.restart_number }
+slice-counts n = let r : Rise 1000 n (steps_unless 1000 (is_over 0 n) 0 n).node = steps-rise 1000 (is_over 0 n) 0 n in record { serial = r.serial; conflicts_since_restart = r.conflicts_since_restart; restart_number = r.restart_number; conflicts_since_dropping = r.conflicts_since_dropping }
+
+-- a node that follows a profile follows it after a step
+counted-has_profile : (p count : ℕ) → ((p == 2) || ((p == 1) && (count == 0))) ≡ true → ((p == 2) || ((p == 1) && (counted_in p count == 0))) ≡ true
+counted-has_profile p count h = by_two (p == 2) h
+  where
+    by_two : (b : Bool) → (b || ((p == 1) && (count == 0))) ≡ true → (b || ((p == 1) && (cond b (count + 1) count == 0))) ≡ true
+    by_two true k = refl
+    by_two false k = k
+
+anew-has_profile : (two one count : Bool) → (two || (one && count)) ≡ true → (two || (one && true)) ≡ true
+anew-has_profile true one count h = refl
+anew-has_profile false one count h = and_from one true (and_parts one count h).0 refl
+
+case-has_profile : (c : Case) (n : Node) → has_profile n ≡ true → has_profile (after_case c n) ≡ true
+case-has_profile (Learns id) n h = counted-has_profile n.profile n.conflicts_since_dropping h
+case-has_profile (Refutes id) n h = h
+case-has_profile Propagates n h = h
+case-has_profile Drops n h = anew-has_profile (n.profile == 2) (n.profile == 1) (n.conflicts_since_dropping == 0) h
+case-has_profile Restarts n h = h
+case-has_profile (Contradicts a) n h = h
+case-has_profile (Assumes a) n h = h
+case-has_profile (Decides v) n h = h
+case-has_profile Ends n h = h
+
+pub step-has_profile : StepKeepsProfile
+step-has_profile n h = case-has_profile (case_of n) n h
+
+pub slice-has_profile : SliceKeepsProfile
+unfolding slice
+slice-has_profile n h = steps-keep (λ m. has_profile m ≡ true) (λ m none k. step-has_profile m k) 1000 (is_over 0 n) 0 n refl h
 
 -- a line with so many lines
 behind-few : (k : ℕ) (o : Option Line) (s : Sliced) → length s.lines ≤ k → length (behind o s).lines ≤ suc k
@@ -101,6 +140,7 @@ slice-goes_on n h none = over-none n.verdict (option_map_or (λ l. nat_lt (most_
     by_case (Learns id) = small id
     by_case (Refutes id) = small id
     by_case Propagates = refl
+    by_case Drops = refl
     by_case Restarts = refl
     by_case (Contradicts a) = small-core a
     by_case (Assumes a) = refl

@@ -1,15 +1,17 @@
-use Rattle.std.proofs.Common.{◌≡◌, ℕ, ◌+◌, ◌/◌, ◌^◌, ◌<◌, ◌≤◌, Bool, true, false, cond, not, List, [], ◌∷◌, length, map, refl, sym, ap, ◌∙◌, subst, arith}
+use Rattle.std.proofs.Common.{◌≡◌, ℕ, ◌+◌, ◌/◌, ◌^◌, ◌<◌, ◌≤◌, Bool, true, false, cond, not, List, [], ◌∷◌, length, map, Option, refl, sym, ap, ◌∙◌, subst, arith}
 use Rattle.std.specs.Prelude.{All, Contains, filter, ◌==◌, ◌&&◌, nat_lt, nat_le}
 use Rattle.std.specs.List.{list_any}
 use Rattle.std.proofs.lemmas.List.{length-take-le}
 use Rattle.std.proofs.lemmas.List.Elements.{All-nil, All-cons, All-head, All-tail, All-take, All-weaker, All-filter, filter_passes, All-contains_itself, Contains-append_left, Contains-append_right, Contains-push}
-use Rattle.std.proofs.lemmas.Bool.{and_parts, both_ways, ne_eqb, leb-true, ltb-true, not-true}
+use Rattle.std.proofs.lemmas.Bool.{and_parts, and_from, both_ways, eq-eqb, ne_eqb, le-leb, lt-leb, leb-true, ltb-true, not-true}
 use Rattle.mal_base.specs.NumberedClause.{NumberedClause}
 use Rattle.mal_base.specs.declared.trail_entry.TrailEntry.{TrailEntry}
 use Rattle.spec_node.specs.Cut.{kept}
 use Rattle.spec_node.specs.Load.{is_derived}
-use Rattle.spec_search.specs.Dropping.{is_reason, may_go, goes_before, put_by_length, by_length, longer_half, to_drop, dropped}
-use Rattle.spec_search.specs.DroppingLaws.{DropsHold}
+use Rattle.spec_learn.specs.Dropping.{is_reason, may_go, goes_before, put_by_length, by_length, longer_half, to_drop}
+use Rattle.spec_search.specs.Step.{Case, Propagates, Drops, restarting, case_by}
+use Rattle.spec_search.specs.Dropping.{is_dropping_due, dropped}
+use Rattle.spec_search.specs.DroppingLaws.{DropsHold, DropsWhenDue}
 
 put-All : (P : NumberedClause → Type 0) (c : NumberedClause) (ds : List NumberedClause) → P c → All P ds → All P (put_by_length c ds)
 put-All P c [] p h = All-cons P c [] p h
@@ -95,5 +97,16 @@ drops-hold n =
       originals = filter-again (λ c. nat_lt c.id (2 ^ 32)) (λ c. not (list_any (λ i. i == c.id) (to_drop trail n.clauses))) n.clauses (original-spared trail n.clauses);
       was = All-filter (λ c. not (list_any (λ i. i == c.id) (to_drop trail n.clauses))) (Contains n.clauses) n.clauses (All-contains_itself n.clauses);
       reasons = All-weaker (λ c. not (list_any (λ i. i == c.id) (to_drop trail n.clauses)) ≡ true → Contains (dropped n).clauses c) (λ c. is_reason trail c ≡ true → Contains (dropped n).clauses c) (λ c f q. f (reason-spared trail n.clauses c q)) n.clauses (contains-filter (λ c. not (list_any (λ i. i == c.id) (to_drop trail n.clauses))) n.clauses);
+      count = refl;
       half = half-goes (filter (may_go trail) n.clauses);
     }
+
+-- a dropping that is due comes where the node is idle
+pub drops-when_due : DropsWhenDue
+drops-when_due = record {
+  due = λ n calm handled two many.
+      let batch : nat_le n.processed (length n.trail) ≡ false = lt-leb n.processed (length n.trail) handled in
+      let is : is_dropping_due n ≡ true = and_from (n.profile == 2) (nat_le 2000 n.conflicts_since_dropping) (eq-eqb n.profile 2 two) (le-leb 2000 n.conflicts_since_dropping many) in
+      ap (λ (o : Option ℕ). case_by o n) calm ∙ (ap (λ (b : Bool). cond {A = Case} b Propagates (cond {A = Case} (is_dropping_due n) Drops (restarting n))) batch ∙ ap (λ (b : Bool). cond {A = Case} b Drops (restarting n)) is);
+  never = λ n other. ap (λ (b : Bool). b && nat_le 2000 n.conflicts_since_dropping) (ne_eqb n.profile 2 other);
+}

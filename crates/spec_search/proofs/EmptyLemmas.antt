@@ -8,7 +8,7 @@ use Rattle.spec_node.specs.State.{Node}
 use Rattle.spec_node.specs.Value.{level_of}
 use Rattle.spec_node.specs.Sound.{level_in, IsSound}
 use Rattle.spec_learn.specs.Learning.{derived_id, analysis, line_of}
-use Rattle.spec_learn.proofs.LawLemmas.{sound-asserts}
+use Rattle.spec_learn.proofs.ProfileLemmas.{sound-asserts}
 use Rattle.spec_search.specs.Step.{Case, case_of, line_by, next_line, after_case, step}
 use Rattle.spec_search.specs.Slice.{Sliced, slice, steps_unless, is_over, behind, used_after}
 use Rattle.spec_search.specs.Laws.{EmptyRefutes}
@@ -47,6 +47,7 @@ step-full n h = by_cases (StepIsFull n) n (record {
   learns = λ id q some f. learned-full n id h q some;
   refutes = λ id q zero f. absurd (f (derived_id n) refl);
   propagates = λ calm low f. none-full;
+  drops = λ idle f. none-full;
   restarts = λ idle f. none-full;
   contradicts = λ idle a o fell f. absurd (f (derived_id n) refl);
   assumes = λ idle a o fell f. none-full;

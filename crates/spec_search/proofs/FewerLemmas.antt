@@ -1,21 +1,26 @@
-use Rattle.std.proofs.Common.{◌≡◌, ℕ, ◌+◌, ◌<◌, Bool, true, false, cond, not, List, [], ◌∷◌, ◌++◌, length, take, Option, Some, None, refl, sym, ap, ◌∙◌, subst, append_assoc}
+use Rattle.std.proofs.Common.{◌≡◌, ℕ, ◌+◌, ◌<◌, ◌≤◌, min, Bool, true, false, cond, not, List, [], ◌∷◌, ◌++◌, length, take, Option, Some, None, refl, sym, ap, ◌∙◌, subst, append_assoc, arith}
 use Rattle.std.specs.Prelude.{All, Contains, filter, ◌==◌}
 use Rattle.std.specs.List.{list_any, list_all}
 use Rattle.std.specs.Option.{option_map_or}
+use Rattle.std.proofs.lemmas.List.{take_all}
 use Rattle.std.proofs.lemmas.List.Elements.{All-filter, All-contains, All-weaker}
 use Rattle.std.proofs.lemmas.Bool.{and_parts, and_from, or_left, or_right, eq-eqb}
 use Rattle.mal_base.specs.NumberedClause.{NumberedClause}
 use Rattle.mal_base.specs.declared.trail_entry.TrailEntry.{TrailEntry}
 use Rattle.spec_node.specs.State.{Node}
+use Rattle.spec_node.specs.Value.{level_of}
 use Rattle.spec_node.specs.Batch.{is_in_batch}
-use Rattle.spec_node.specs.Cut.{kept, cut}
+use Rattle.spec_node.specs.Cut.{kept, removed, cut}
 use Rattle.spec_node.specs.Load.{is_derived}
-use Rattle.spec_node.specs.Sound.{EachAfter, IsClosed, IsForced, IsReason, AreSettled, AreLiteralsOf, left_is_true, serial_of, IsRanged, IsConsistent, IsSound}
-use Rattle.spec_node.proofs.TrailLemmas.{each-weaker}
-use Rattle.spec_node.proofs.SoundLemmas.{numbers-filter}
-use Rattle.spec_search.proofs.StepLemmas.{IsIdle, restarted}
-use Rattle.spec_search.proofs.SoundLemmas.{restarted-sound}
-use Rattle.spec_search.specs.Dropping.{is_reason, to_drop, forgetting}
+use Rattle.spec_node.specs.Sound.{EachAfter, IsClosed, IsForced, IsChosen, IsPassed, IsReason, AreSettled, AreLiteralsOf, left_is_true, serial_of, IsRanged, IsConsistent, IsSound}
+use Rattle.spec_node.proofs.TrailLemmas.{each-front, each-weaker}
+use Rattle.spec_node.proofs.SoundLemmas.{numbers-filter, length-saved, kept-short}
+use Rattle.spec_node.proofs.CutLemmas.{kept-front}
+use Rattle.spec_node.proofs.LoadLemmas.{kept-forced}
+use Rattle.spec_search.proofs.StepLemmas.{IsIdle}
+use Rattle.spec_search.proofs.ConsistentLemmas.{cut-consistent}
+use Rattle.spec_node.specs.Adding.{forgetting}
+use Rattle.spec_learn.specs.Dropping.{is_reason, to_drop}
 use Rattle.spec_search.specs.DroppingLaws.{DropKeepsSound}
 use Rattle.spec_search.proofs.DropLemmas.{reason-spared, contains-filter}
 
@@ -48,9 +53,9 @@ forced-fewer p clauses trail stay (e ∷ es) before whole h = ((λ id q. kept_re
     kept_reason : (id : ℕ) → e.reason ≡ Some id → (c : NumberedClause) × Contains clauses c × (c.id ≡ id) × IsReason before e c → (c : NumberedClause) × Contains (filter p clauses) c × (c.id ≡ id) × IsReason before e c
     kept_reason id q k = (k.0, All-contains (λ c. is_reason trail c ≡ true → Contains (filter p clauses) c) clauses k.0 stay k.1 (reason-on trail k.0 before e es whole (q ∙ ap (λ (x : ℕ). Some x) (sym k.2))), k.2, k.3)
 
--- a sound node without some clauses that are no reasons is sound
-pub fewer-sound : (p : NumberedClause → Bool) (n : Node) → IsSound n → n.conflict ≡ None → All (λ c. is_reason n.trail c ≡ true → Contains (filter p n.clauses) c) n.clauses → IsSound (record n { clauses = filter p n.clauses })
-fewer-sound p n h calm stay =
+-- a sound node without some clauses that are no reasons is sound, whatever it counts
+fewer-sound : (p : NumberedClause → Bool) (count : ℕ) (n : Node) → IsSound n → n.conflict ≡ None → All (λ c. is_reason n.trail c ≡ true → Contains (filter p n.clauses) c) n.clauses → IsSound (record n { clauses = filter p n.clauses; conflicts_since_dropping = count })
+fewer-sound p count n h calm stay =
     let r : IsRanged n = h.ranged in
     let c : IsConsistent n = h.consistent in
     record {
@@ -75,20 +80,24 @@ fewer-sound p n h calm stay =
 -- a cut to level 0 keeps an idle node sound
 pub cut-sound : (n : Node) → IsSound n → IsIdle n → IsSound (cut 0 n)
 cut-sound n h idle =
-    let k : IsSound (restarted n) = restarted-sound n h idle in
-    let r : IsRanged (restarted n) = k.ranged in
-    let c : IsConsistent (restarted n) = k.consistent in
+    let r : IsRanged n = h.ranged in
+    let t : List TrailEntry = kept 0 n.trail in
+    let c : IsConsistent (cut 0 n) = cut-consistent 0 n idle.calm h.consistent in
+    let front : t ++ removed 0 n.trail ≡ n.trail = kept-front 0 n.trail in
+    let short : length t ≤ length n.trail = kept-short 0 n.trail in
+    let past : length n.trail < n.processed = idle.handled in
+    let phases : length n.phases ≡ n.variables = r.phases in
     record {
-      ranged = record { index = r.index; variables = r.variables; restart_number = h.ranged.restart_number; phases = r.phases; numbers = r.numbers; serial = r.serial };
-      consistent = record { order = c.order; clauses = c.clauses; assumptions = c.assumptions; placed = c.placed; levels = c.levels; closed = c.closed; handled = c.handled; settled = c.settled };
-      reasons = k.reasons;
-      chosen = k.chosen;
-      passed = k.passed;
-      reached = k.reached;
-      waiting = k.waiting;
+      ranged = record { index = r.index; variables = r.variables; restart_number = r.restart_number; phases = length-saved n.phases (removed 0 n.trail) ∙ phases; numbers = r.numbers; serial = r.serial };
+      consistent = c;
+      reasons = each-front (IsForced n.clauses) t (removed 0 n.trail) [] (rw front h.reasons);
+      chosen = kept-forced (IsChosen n.assumptions) (λ b e id q k. absurd (cc)) n.trail [] c.levels;
+      passed = kept-forced (IsPassed (min n.processed (length t + 1))) (λ b e id q k. absurd (cc)) n.trail [] c.levels;
+      reached = ap level_of (take_all (min n.processed (length t + 1)) t (omega arith));
+      waiting = λ id q. let none : n.conflict ≡ None = idle.calm in absurd (cc);
     }
 
 pub dropped-sound : DropKeepsSound
 dropped-sound n h calm past =
-    fewer-sound (λ c. not (list_any (λ i. i == c.id) (to_drop (kept 0 n.trail) n.clauses))) (cut 0 n) (cut-sound n h (record { calm = calm; handled = past })) calm
+    fewer-sound (λ c. not (list_any (λ i. i == c.id) (to_drop (kept 0 n.trail) n.clauses))) 0 (cut 0 n) (cut-sound n h (record { calm = calm; handled = past })) calm
     (All-weaker (λ c. not (list_any (λ i. i == c.id) (to_drop (kept 0 n.trail) n.clauses)) ≡ true → Contains (forgetting (to_drop (kept 0 n.trail) n.clauses) n.clauses) c) (λ c. is_reason (kept 0 n.trail) c ≡ true → Contains (forgetting (to_drop (kept 0 n.trail) n.clauses) n.clauses) c) (λ c f q. f (reason-spared (kept 0 n.trail) n.clauses c q)) n.clauses (contains-filter (λ c. not (list_any (λ i. i == c.id) (to_drop (kept 0 n.trail) n.clauses))) n.clauses))

@@ -8,11 +8,12 @@ use Rattle.mal_base.specs.declared.trail_entry.TrailEntry.{TrailEntry}
 use Rattle.spec_node.specs.State.{Node}
 use Rattle.spec_node.specs.Sound.{IsForced, IsWaiting, IsSound}
 use Rattle.spec_learn.specs.Analysis.{Walk, Aim, Analysed, has_var, vars_under, begun, top, walked, after_seen, after_entry, keeping, resolving, is_resolved}
-use Rattle.spec_learn.specs.Analysis.Aim.{Final, Learned}
+use Rattle.spec_learn.specs.Analysis.Aim.{Final, Learned, Shortened}
 use Rattle.spec_learn.specs.Learning.{analysis}
 use Rattle.spec_learn.specs.Refuting.{core_analysis}
 use Rattle.spec_learn.specs.CoreLaws.{HasFailed}
 use Rattle.spec_learn.proofs.BehindLemmas.{EachBehind, each-reverse}
+use Rattle.spec_learn.proofs.ProfileLemmas.{by-profile}
 use Rattle.spec_learn.proofs.CoreLemmas.{IsFallenAt, behind-back, sound-fallen, core_walk, core-is}
 use Rattle.spec_search.specs.Derived.{IsHeld}
 
@@ -34,7 +35,7 @@ walked-hints aim clauses (e ∷ past) w g h = walked-hints aim clauses past (aft
     by_seen false = h
 
 -- the hints of a walk from a waiting conflict are held
-pub conflict-hints : (aim : Aim) (n : Node) (id : ℕ) → IsSound n → n.conflict ≡ Some id → All (IsHeld n.clauses) ((walked aim n.clauses (reverse n.trail) (begun (vars_under n.clauses id))).hints ++ id ∷ [])
+conflict-hints : (aim : Aim) (n : Node) (id : ℕ) → IsSound n → n.conflict ≡ Some id → All (IsHeld n.clauses) ((walked aim n.clauses (reverse n.trail) (begun (vars_under n.clauses id))).hints ++ id ∷ [])
 conflict-hints aim n id h q =
     let k : IsWaiting n.clauses n.trail id = h.waiting id q in
     All-append (IsHeld n.clauses) (walked aim n.clauses (reverse n.trail) (begun (vars_under n.clauses id))).hints (id ∷ [])
@@ -43,7 +44,7 @@ conflict-hints aim n id h q =
 
 -- the hints of the line of a waiting conflict are held
 pub sound-hints : (n : Node) (id : ℕ) → IsSound n → n.conflict ≡ Some id → All (IsHeld n.clauses) (analysis id n).hints
-sound-hints n id h q = conflict-hints (Learned (top (reverse n.trail))) n id h q
+sound-hints n id h q = by-profile (λ a. All (IsHeld n.clauses) a.hints) n.profile n.clauses (reverse n.trail) id (conflict-hints (Learned (top (reverse n.trail))) n id h q) (conflict-hints (Shortened (top (reverse n.trail)) n.clauses) n id h q)
 
 -- the hints of a core clause are held
 pub core-hints : (n : Node) (a : ℕ) → IsSound n → HasFailed n a → All (IsHeld n.clauses) (core_analysis a n).hints

@@ -13,4 +13,3 @@ mod EmptyLemmas
 mod DropLemmas
 mod FewerLemmas
 mod OverLemmas
-mod ActionLemmas

@@ -1,23 +1,25 @@
-use Rattle.std.proofs.Common.{◌≡◌, ℕ, zero, suc, ◌+◌, ◌*◌, ◌^◌, Bool, true, false, List, [], ◌∷◌, length, Option, Some, None, is_some, refl, sym, ap, ◌∙◌, subst, arith}
-use Rattle.std.specs.Prelude.{◌||◌}
+use Rattle.std.proofs.Common.{◌≡◌, ℕ, zero, suc, ◌+◌, ◌*◌, ◌^◌, ◌<◌, Bool, true, false, List, [], ◌∷◌, ◌++◌, length, Option, Some, None, is_some, refl, sym, ap, ◌∙◌, subst, arith}
+use Rattle.std.specs.Prelude.{All, Contains, ◌||◌}
+use Rattle.std.proofs.lemmas.List.Elements.{All-nil, All-cons, All-weaker, All-contains, All-contains_itself, Contains-push}
 use Rattle.mal_base.specs.NumberedClause.{NumberedClause, Line}
 use Rattle.mal_base.specs.declared.verdict.Verdict.{Verdict}
 use Rattle.mal_base.specs.declared.verdict.Verdict.TheVariants.{Unsatisfiable}
 use Rattle.spec_node.specs.State.{Node}
-use Rattle.spec_node.specs.Sound.{IsSound}
+use Rattle.spec_node.specs.Sound.{AreLiteralsOf, IsSound}
 use Rattle.spec_learn.specs.Learning.{derived_id, line_of}
-use Rattle.spec_learn.proofs.LawLemmas.{sound-empty}
-use Rattle.spec_learn.proofs.SoundParts.{below-derived}
-use Rattle.spec_learn.proofs.BehindLemmas.{sound-derived}
-use Rattle.spec_search.specs.Step.{Case, Learns, Refutes, Propagates, Restarts, Contradicts, Assumes, Decides, Ends, case_of, line_by, next_line, after_case, step}
+use Rattle.spec_learn.proofs.ProfileLemmas.{sound-derived, sound-empty}
+use Rattle.spec_learn.proofs.SoundParts.{with-last, below-derived}
+use Rattle.spec_search.specs.Step.{Case, Learns, Refutes, Propagates, Drops, Restarts, Contradicts, Assumes, Decides, Ends, case_of, line_by, next_line, after_case, step}
 use Rattle.spec_search.specs.Slice.{Sliced, slice, steps_unless, is_over, behind, used_after}
-use Rattle.spec_search.specs.Derived.{with_lines, IsDerivedFrom, AreDerivedFrom}
-use Rattle.spec_search.specs.Laws.{LinesAreDerived, LinesAreHeld, IsRefutedBy, SliceRefutes, AreNumbered, LinesAreCounted}
+use Rattle.spec_search.specs.Derived.{with_line, with_lines, IsDerivedFrom, AreDerivedFrom}
+use Rattle.spec_search.specs.Laws.{LinesAreDerived, HeldAreOfLines, LinesStayWithin, IsRefutedBy, SliceRefutes, AreNumbered, LinesAreCounted}
 use Rattle.spec_search.proofs.StepLemmas.{by_cases}
-use Rattle.spec_search.proofs.SliceLemmas.{behind-node, with_next, step-held}
+use Rattle.spec_search.proofs.SliceLemmas.{behind-node}
 use Rattle.spec_search.proofs.SoundLemmas.{step-sound}
 use Rattle.spec_search.proofs.HintLemmas.{sound-hints, core-hints}
 use Rattle.spec_search.proofs.ModelLemmas.{step-leaves}
+use Rattle.spec_search.proofs.DropLemmas.{drops-hold}
+use Rattle.spec_search.proofs.OverLemmas.{IsOver, Stepped, derived-more, over-without_line, over-with_line, own-over}
 use Rattle.spec_logic.specs.Refutation.{contradicts}
 use Rattle.spec_learn.specs.Refuting.{core_line}
 use Rattle.spec_learn.specs.CoreLaws.{HasFailed}
@@ -33,62 +35,75 @@ line-derived n id h q = record { derived = sound-derived n id h q; hints = sound
 core-line : (n : Node) (a : ℕ) → IsSound n → HasFailed n a → IsDerivedFrom n.clauses (core_line a n)
 core-line n a h f = record { derived = core-derived n a h f; hints = core-hints n a h f; above = below-derived n.serial n.index n.clauses h.ranged.serial }
 
--- what holds of the line of a step
-abbrev OfLine : Node → Option Line → Type 0
-OfLine n o = (l : Line) → o ≡ Some l → IsDerivedFrom n.clauses l
-
-none-of : (n : Node) → OfLine n None
-none-of n l e = absurd (cc)
-
-some-of : (n : Node) (m : Line) → IsDerivedFrom n.clauses m → OfLine n (Some m)
-some-of n m h l e = subst (IsDerivedFrom n.clauses) (let same : m ≡ l = cc in same) h
-
--- the next line of a sound node is derived from the clauses held
-pub next-derived : (n : Node) → IsSound n → (l : Line) → next_line n ≡ Some l → IsDerivedFrom n.clauses l
-next-derived n h = by_cases (λ c. OfLine n (line_by c n)) n (record {
-  learns = λ id q some. some-of n (line_of id n) (line-derived n id h q);
-  refutes = λ id q zero. some-of n (line_of id n) (line-derived n id h q);
-  propagates = λ calm low. none-of n;
-  restarts = λ idle. none-of n;
-  contradicts = λ idle a o f. some-of n (core_line a n) (core-line n a h (record { first = o; fell = f }));
-  assumes = λ idle a o f. none-of n;
-  decides = λ idle v o f. none-of n;
-  ends = λ idle o f. none-of n;
+-- what a step derives, and what it leaves of the clauses held
+step-derives : (n : Node) → IsSound n → Stepped n (step n) (next_line n)
+step-derives n h = by_cases (λ c. Stepped n (after_case c n) (line_by c n)) n (record {
+  learns = λ id q some. (line-derived n id h q, refl, refl, omega arith);
+  refutes = λ id q zero. (line-derived n id h q, refl, refl, omega arith);
+  propagates = λ calm low. (All-contains_itself n.clauses, refl);
+  drops = λ idle. ((drops-hold n).was, refl);
+  restarts = λ idle. (All-contains_itself n.clauses, refl);
+  contradicts = λ idle a o f. (core-line n a h (record { first = o; fell = f }), refl, refl, omega arith);
+  assumes = λ idle a o f. (All-contains_itself n.clauses, refl);
+  decides = λ idle v o f. (All-contains_itself n.clauses, refl);
+  ends = λ idle o f. (All-contains_itself n.clauses, refl);
 })
 
-behind-derived : (clauses : List NumberedClause) (o : Option Line) (s : Sliced) → ((l : Line) → o ≡ Some l → IsDerivedFrom clauses l) → AreDerivedFrom (with_next o clauses) s.lines → AreDerivedFrom clauses (behind o s).lines
-behind-derived clauses None s f h = h
-behind-derived clauses (Some l) s f h = (f l refl, h)
+behind-derived : (held : List NumberedClause) (n m : Node) (o : Option Line) (s : Sliced) → IsSound n → IsOver held n → Stepped n m o → ((cs : List NumberedClause) → IsOver cs m → AreDerivedFrom cs s.lines) → AreDerivedFrom held (behind o s).lines
+behind-derived held n m None s h v k f = f held (over-without_line held n m v k)
+behind-derived held n m (Some l) s h v k f = (derived-more held n l v k.1 k.0, f (with_line held l) (over-with_line held n m l h v k))
 
-steps-derived : (k : ℕ) (over : Bool) (used : ℕ) (n : Node) → IsSound n → AreDerivedFrom n.clauses (steps_unless k over used n).lines
-steps-derived zero over used n h = tt
-steps-derived (suc k) true used n h = tt
-steps-derived (suc k) false used n h =
+steps-derived : (k : ℕ) (over : Bool) (used : ℕ) (n : Node) (held : List NumberedClause) → IsSound n → IsOver held n → AreDerivedFrom held (steps_unless k over used n).lines
+steps-derived zero over used n held h v = tt
+steps-derived (suc k) true used n held h v = tt
+steps-derived (suc k) false used n held h v =
     let u : ℕ = used_after used (next_line n) in
     let m : Node = step n in
-    behind-derived n.clauses (next_line n) (steps_unless k (is_over u m) u m) (next-derived n h)
-    (subst (λ (cs : List NumberedClause). AreDerivedFrom cs (steps_unless k (is_over u m) u m).lines) (step-held n) (steps-derived k (is_over u m) u m (step-sound n h)))
+    behind-derived held n m (next_line n) (steps_unless k (is_over u m) u m) h v (step-derives n h) (λ cs w. steps-derived k (is_over u m) u m cs (step-sound n h) w)
 
 pub lines-derived : LinesAreDerived
 unfolding slice
-lines-derived n h = steps-derived 1000 (is_over 0 n) 0 n h
+lines-derived n h = steps-derived 1000 (is_over 0 n) 0 n n.clauses h (own-over n h)
 
-behind-held : (clauses : List NumberedClause) (o : Option Line) (s : Sliced) → s.node.clauses ≡ with_lines (with_next o clauses) s.lines → (behind o s).node.clauses ≡ with_lines clauses (behind o s).lines
-behind-held clauses None s h = h
-behind-held clauses (Some l) s h = h
+behind-held : (held : List NumberedClause) (n m : Node) (o : Option Line) (s : Sliced) → IsSound n → IsOver held n → Stepped n m o → ((cs : List NumberedClause) → IsOver cs m → All (Contains (with_lines cs s.lines)) s.node.clauses) → All (Contains (with_lines held (behind o s).lines)) (behind o s).node.clauses
+behind-held held n m None s h v k f = f held (over-without_line held n m v k)
+behind-held held n m (Some l) s h v k f = f (with_line held l) (over-with_line held n m l h v k)
 
-steps-held : (k : ℕ) (over : Bool) (used : ℕ) (n : Node) → (steps_unless k over used n).node.clauses ≡ with_lines n.clauses (steps_unless k over used n).lines
-steps-held zero over used n = refl
-steps-held (suc k) true used n = refl
-steps-held (suc k) false used n =
+steps-held : (k : ℕ) (over : Bool) (used : ℕ) (n : Node) (held : List NumberedClause) → IsSound n → IsOver held n → All (Contains (with_lines held (steps_unless k over used n).lines)) (steps_unless k over used n).node.clauses
+steps-held zero over used n held h v = v.within
+steps-held (suc k) true used n held h v = v.within
+steps-held (suc k) false used n held h v =
     let u : ℕ = used_after used (next_line n) in
     let m : Node = step n in
-    behind-held n.clauses (next_line n) (steps_unless k (is_over u m) u m)
-    (subst (λ (cs : List NumberedClause). (steps_unless k (is_over u m) u m).node.clauses ≡ with_lines cs (steps_unless k (is_over u m) u m).lines) (step-held n) (steps-held k (is_over u m) u m))
+    behind-held held n m (next_line n) (steps_unless k (is_over u m) u m) h v (step-derives n h) (λ cs w. steps-held k (is_over u m) u m cs (step-sound n h) w)
 
-pub lines-held : LinesAreHeld
+pub held-of_lines : HeldAreOfLines
 unfolding slice
-lines-held n = steps-held 1000 (is_over 0 n) 0 n
+held-of_lines n h = steps-held 1000 (is_over 0 n) 0 n n.clauses h (own-over n h)
+
+-- the clause of a line is held right after its step, by a sound node
+line-within : (n m : Node) (l : Line) → IsSound n → IsSound m → m.variables ≡ n.variables → Stepped n m (Some l) → AreLiteralsOf n.variables l.lits
+line-within n m l h k v s =
+    let same : l.id ≡ derived_id n = s.1 in
+    let new : NumberedClause = record { id = l.id; lits = l.lits } in
+    let is : m.clauses ≡ n.clauses ++ new ∷ [] = s.2 ∙ with-last new n.clauses (All-weaker (λ c. c.id < derived_id n) (λ c. c.id < l.id) (λ c q. omega arith) n.clauses (below-derived n.serial n.index n.clauses h.ranged.serial)) in
+    subst (λ (x : ℕ). AreLiteralsOf x l.lits) v (All-contains (λ c. AreLiteralsOf m.variables c.lits) m.clauses new k.consistent.clauses (subst (λ (cs : List NumberedClause). Contains cs new) (sym is) (Contains-push n.clauses new)))
+
+behind-within : (n m : Node) (o : Option Line) (s : Sliced) → IsSound n → IsSound m → m.variables ≡ n.variables → Stepped n m o → All (λ l. AreLiteralsOf m.variables l.lits) s.lines → All (λ l. AreLiteralsOf n.variables l.lits) (behind o s).lines
+behind-within n m None s h k v d a = subst (λ (x : ℕ). All (λ (l : Line). AreLiteralsOf x l.lits) s.lines) v a
+behind-within n m (Some l) s h k v d a = All-cons (λ x. AreLiteralsOf n.variables x.lits) l s.lines (line-within n m l h k v d) (subst (λ (x : ℕ). All (λ (y : Line). AreLiteralsOf x y.lits) s.lines) v a)
+
+steps-within : (k : ℕ) (over : Bool) (used : ℕ) (n : Node) → IsSound n → All (λ l. AreLiteralsOf n.variables l.lits) (steps_unless k over used n).lines
+steps-within zero over used n h = All-nil (λ l. AreLiteralsOf n.variables l.lits)
+steps-within (suc k) true used n h = All-nil (λ l. AreLiteralsOf n.variables l.lits)
+steps-within (suc k) false used n h =
+    let u : ℕ = used_after used (next_line n) in
+    let m : Node = step n in
+    behind-within n m (next_line n) (steps_unless k (is_over u m) u m) h (step-sound n h) (step-leaves n).variables (step-derives n h) (steps-within k (is_over u m) u m (step-sound n h))
+
+pub lines-stay_within : LinesStayWithin
+unfolding slice
+lines-stay_within n h = steps-within 1000 (is_over 0 n) 0 n h
 
 -- a line contradicts assumptions under the number of a goal
 record IsGoal (assumptions : List ℕ) (goal : ℕ) (l : Line) : Type 0 where
@@ -107,6 +122,7 @@ step-refutes n goal h none = by_cases (Refuting goal n) n (record {
   learns = λ id q some v. absurd (cc);
   refutes = λ id q zero v. (line_of id n, refl, record { number = same-goal (derived_id n) goal v; contradicted = ap (λ (lits : List ℕ). contradicts n.assumptions (Some lits)) (sound-empty n id h q zero) });
   propagates = λ calm low v. absurd (cc);
+  drops = λ idle v. absurd (cc);
   restarts = λ idle v. absurd (cc);
   contradicts = λ idle a o f v. (core_line a n, refl, record { number = same-goal (derived_id n) goal v; contradicted = (core-clause n a h (record { first = o; fell = f })).assumed });
   assumes = λ idle a o f v. absurd (cc);
@@ -178,6 +194,7 @@ case-numbered : (c : Case) (n : Node) → IsNumbered n (after_case c n) (line_by
 case-numbered (Learns id) n = record { index = refl; number = λ l e. some-number n (line_of id n) l refl e; serial = refl }
 case-numbered (Refutes id) n = record { index = refl; number = λ l e. some-number n (line_of id n) l refl e; serial = refl }
 case-numbered Propagates n = record { index = refl; number = λ l e. absurd (cc); serial = omega arith }
+case-numbered Drops n = record { index = refl; number = λ l e. absurd (cc); serial = omega arith }
 case-numbered Restarts n = record { index = refl; number = λ l e. absurd (cc); serial = omega arith }
 case-numbered (Contradicts a) n = record { index = refl; number = λ l e. some-number n (core_line a n) l refl e; serial = refl }
 case-numbered (Assumes a) n = record { index = refl; number = λ l e. absurd (cc); serial = omega arith }

@@ -16,7 +16,7 @@ use Rattle.spec_node.specs.Load.{numbered}
 use Rattle.spec_node.specs.Adding.{with_clause}
 use Rattle.spec_learn.specs.Learning.{derived_id, analysis}
 use Rattle.spec_learn.specs.Refuting.{core_analysis}
-use Rattle.spec_search.specs.Step.{Case, Learns, Refutes, Propagates, Restarts, Contradicts, Assumes, Decides, Ends, case_of, after_case, step}
+use Rattle.spec_search.specs.Step.{Case, Learns, Refutes, Propagates, Drops, Restarts, Contradicts, Assumes, Decides, Ends, case_of, after_case, step}
 use Rattle.spec_search.specs.Slice.{steps_from, is_over, slice}
 use Rattle.spec_node.specs.Model.{model_of}
 use Rattle.spec_node.specs.Sound.{EachAfter, IsPlaced, IsLiteralOf, AreLiteralsOf, left_is_true, IsConsistent, IsSound}
@@ -29,6 +29,7 @@ use Rattle.spec_node.proofs.SettledLemmas.{All-unfiltered, settled-true, valued-
 use Rattle.spec_search.proofs.StepLemmas.{IsIdle, by_cases}
 use Rattle.spec_search.proofs.SliceLemmas.{steps-keep}
 use Rattle.spec_search.proofs.SoundLemmas.{step-sound}
+use Rattle.spec_search.proofs.DropLemmas.{drops-hold}
 
 length-counted : (first n : ℕ) → length (counted first n) ≡ n
 length-counted first zero = refl
@@ -109,6 +110,7 @@ step-model n e h = by_cases (λ c. HasModel (after_case c n)) n (record {
   learns = λ id q some v. absurd (cc);
   refutes = λ id q zero v. absurd (cc);
   propagates = λ calm low v. absurd (cc);
+  drops = λ idle v. absurd (cc);
   restarts = λ idle v. absurd (cc);
   contradicts = λ idle a o f v. absurd (cc);
   assumes = λ idle a o f v. absurd (cc);
@@ -144,23 +146,24 @@ originals-with c (d ∷ ds) h = by_place (originals-with c ds h) (nat_lt c.id d.
         by_test false = k
 
 pub case-leaves : (c : Case) (n : Node) → Leaves n (after_case c n)
-case-leaves (Learns id) n = record { index = refl; variables = refl; assumptions = refl; originals = originals-with (record { id = derived_id n; lits = (analysis id n).lits }) n.clauses (omega arith) }
-case-leaves (Refutes id) n = record { index = refl; variables = refl; assumptions = refl; originals = originals-with (record { id = derived_id n; lits = (analysis id n).lits }) n.clauses (omega arith) }
-case-leaves Propagates n = record { index = refl; variables = refl; assumptions = refl; originals = refl }
-case-leaves Restarts n = record { index = refl; variables = refl; assumptions = refl; originals = refl }
-case-leaves (Contradicts a) n = record { index = refl; variables = refl; assumptions = refl; originals = originals-with (record { id = derived_id n; lits = (core_analysis a n).lits }) n.clauses (omega arith) }
-case-leaves (Assumes a) n = record { index = refl; variables = refl; assumptions = refl; originals = refl }
-case-leaves (Decides v) n = record { index = refl; variables = refl; assumptions = refl; originals = refl }
-case-leaves Ends n = record { index = refl; variables = refl; assumptions = refl; originals = refl }
+case-leaves (Learns id) n = record { index = refl; profile = refl; variables = refl; assumptions = refl; originals = originals-with (record { id = derived_id n; lits = (analysis id n).lits }) n.clauses (omega arith) }
+case-leaves (Refutes id) n = record { index = refl; profile = refl; variables = refl; assumptions = refl; originals = originals-with (record { id = derived_id n; lits = (analysis id n).lits }) n.clauses (omega arith) }
+case-leaves Propagates n = record { index = refl; profile = refl; variables = refl; assumptions = refl; originals = refl }
+case-leaves Drops n = record { index = refl; profile = refl; variables = refl; assumptions = refl; originals = (drops-hold n).originals }
+case-leaves Restarts n = record { index = refl; profile = refl; variables = refl; assumptions = refl; originals = refl }
+case-leaves (Contradicts a) n = record { index = refl; profile = refl; variables = refl; assumptions = refl; originals = originals-with (record { id = derived_id n; lits = (core_analysis a n).lits }) n.clauses (omega arith) }
+case-leaves (Assumes a) n = record { index = refl; profile = refl; variables = refl; assumptions = refl; originals = refl }
+case-leaves (Decides v) n = record { index = refl; profile = refl; variables = refl; assumptions = refl; originals = refl }
+case-leaves Ends n = record { index = refl; profile = refl; variables = refl; assumptions = refl; originals = refl }
 
 pub step-leaves : (n : Node) → Leaves n (step n)
 step-leaves n = case-leaves (case_of n) n
 
 leaves-step : (n m : Node) → m.verdict ≡ None → Leaves n m → Leaves n (step m)
-leaves-step n m none h = let s = step-leaves m in record { index = s.index ∙ h.index; variables = s.variables ∙ h.variables; assumptions = s.assumptions ∙ h.assumptions; originals = s.originals ∙ h.originals }
+leaves-step n m none h = let s = step-leaves m in record { index = s.index ∙ h.index; profile = s.profile ∙ h.profile; variables = s.variables ∙ h.variables; assumptions = s.assumptions ∙ h.assumptions; originals = s.originals ∙ h.originals }
 
 pub steps-leave : (k used : ℕ) (n : Node) → Leaves n (steps_from k used n).node
-steps-leave k used n = steps-keep (Leaves n) (leaves-step n) k (is_over used n) used n refl (record { index = refl; variables = refl; assumptions = refl; originals = refl })
+steps-leave k used n = steps-keep (Leaves n) (leaves-step n) k (is_over used n) used n refl (record { index = refl; profile = refl; variables = refl; assumptions = refl; originals = refl })
 
 pub slice-leaves : (n : Node) → Leaves n (slice n).node
 unfolding slice

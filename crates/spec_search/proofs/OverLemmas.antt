@@ -63,15 +63,15 @@ abbrev pub Stepped : Node → Node → Option Line → Type 0
 Stepped n m None = All (Contains n.clauses) m.clauses × (derived_id m ≡ derived_id n)
 Stepped n m (Some l) = IsDerivedFrom n.clauses l × (l.id ≡ derived_id n) × (m.clauses ≡ with_line n.clauses l) × (derived_id n < derived_id m)
 
-pub over-none : (held : List NumberedClause) (n m : Node) → IsOver held n → Stepped n m None → IsOver held m
-over-none held n m o k = let same : derived_id m ≡ derived_id n = k.1 in record {
+pub over-without_line : (held : List NumberedClause) (n m : Node) → IsOver held n → Stepped n m None → IsOver held m
+over-without_line held n m o k = let same : derived_id m ≡ derived_id n = k.1 in record {
   within = All-weaker (Contains n.clauses) (Contains held) (λ c q. All-contains (Contains held) n.clauses c o.within q) m.clauses k.0;
   numbers = o.numbers;
   below = All-weaker (λ c. c.id < derived_id n) (λ c. c.id < derived_id m) (λ c q. omega arith) held o.below;
 }
 
-pub over-some : (held : List NumberedClause) (n m : Node) (l : Line) → IsSound n → IsOver held n → Stepped n m (Some l) → IsOver (with_line held l) m
-over-some held n m l h o k =
+pub over-with_line : (held : List NumberedClause) (n m : Node) (l : Line) → IsSound n → IsOver held n → Stepped n m (Some l) → IsOver (with_line held l) m
+over-with_line held n m l h o k =
     subst (λ (cs : List NumberedClause). IsOver cs m) (sym (with-last new held (All-weaker (λ c. c.id < derived_id n) (λ c. c.id < l.id) (λ c q. let same : l.id ≡ derived_id n = k.1 in omega arith) held o.below)))
     (record {
       within = subst (All (Contains (held ++ new ∷ []))) (sym (k.2 ∙ with-last new n.clauses (All-weaker (λ c. c.id < derived_id n) (λ c. c.id < l.id) (λ c q. let same : l.id ≡ derived_id n = k.1 in omega arith) n.clauses (below-derived n.serial n.index n.clauses h.ranged.serial))))

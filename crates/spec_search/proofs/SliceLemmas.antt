@@ -1,13 +1,12 @@
-use Rattle.std.proofs.Common.{◌≡◌, ℕ, zero, suc, ◌+◌, ◌≤◌, Bool, true, false, ◌||◌, List, Option, Some, None, is_some, refl, sym, subst}
+use Rattle.std.proofs.Common.{◌≡◌, ℕ, zero, suc, ◌+◌, ◌≤◌, Bool, true, false, ◌||◌, Option, Some, None, is_some, refl, sym, subst}
 use Rattle.std.specs.Prelude.{nat_lt}
 use Rattle.std.specs.Option.{option_map_or}
 use Rattle.std.proofs.lemmas.Bool.{ltb-false}
-use Rattle.mal_base.specs.NumberedClause.{NumberedClause, Line}
+use Rattle.mal_base.specs.NumberedClause.{Line}
 use Rattle.mal_base.specs.declared.verdict.Verdict.{Verdict}
 use Rattle.spec_node.specs.State.{Node}
-use Rattle.spec_search.specs.Step.{Case, Learns, Refutes, Propagates, Restarts, Contradicts, Assumes, Decides, Ends, case_of, line_by, next_line, step, after_case}
+use Rattle.spec_search.specs.Step.{next_line, step}
 use Rattle.spec_search.specs.Slice.{Sliced, steps_unless, is_over, behind, used_after, numbers_of, most_numbers}
-use Rattle.spec_search.specs.Derived.{with_line}
 
 -- the node that comes with a line is the node
 pub behind-node : (o : Option Line) (s : Sliced) → (behind o s).node ≡ s.node
@@ -40,22 +39,3 @@ steps-keep P f (suc k) false used n e h =
     let u : ℕ = used_after used (next_line n) in
     let m : Node = step n in
     subst P (sym (behind-node (next_line n) (steps_unless k (is_over u m) u m))) (steps-keep P f k (is_over u m) u m refl (f n (going used n e).none h))
-
--- the clauses held with that of a line, if there is one
-abbrev pub with_next : Option Line → List NumberedClause → List NumberedClause
-with_next None clauses = clauses
-with_next (Some l) clauses = with_line clauses l
-
-case-held : (c : Case) (n : Node) → (after_case c n).clauses ≡ with_next (line_by c n) n.clauses
-case-held (Learns id) n = refl
-case-held (Refutes id) n = refl
-case-held Propagates n = refl
-case-held Restarts n = refl
-case-held (Contradicts a) n = refl
-case-held (Assumes a) n = refl
-case-held (Decides v) n = refl
-case-held Ends n = refl
-
--- after a step the clause of its line is held beside the others
-pub step-held : (n : Node) → (step n).clauses ≡ with_next (next_line n) n.clauses
-step-held n = case-held (case_of n) n

@@ -1,4 +1,4 @@
-use Rattle.std.proofs.Common.{◌≡◌, ℕ, ◌+◌, ◌<◌, ◌≤◌, min, true, false, not, ◌||◌, List, [], ◌∷◌, ◌++◌, length, take, drop, Some, None, refl, sym, ap, ◌∙◌, subst, arith}
+use Rattle.std.proofs.Common.{◌≡◌, ℕ, ◌+◌, ◌<◌, ◌≤◌, true, false, not, ◌||◌, List, [], ◌∷◌, ◌++◌, length, take, drop, Some, None, refl, sym, ap, ◌∙◌, subst, arith}
 use Rattle.std.specs.Prelude.{All, Contains, ◌==◌}
 use Rattle.std.specs.List.{list_all, list_any}
 use Rattle.std.proofs.lemmas.List.{take-append-drop, take_at, take_all, length-take-le, length_push}
@@ -8,24 +8,22 @@ use Rattle.mal_base.specs.declared.trail_entry.TrailEntry.{TrailEntry}
 use Rattle.spec_node.specs.State.{Node}
 use Rattle.spec_node.specs.Value.{is_true, level_of}
 use Rattle.spec_node.specs.Batch.{batch, is_in_batch, propagated}
-use Rattle.spec_node.specs.Cut.{kept, removed}
+use Rattle.spec_node.specs.Cut.{cut}
 use Rattle.spec_search.specs.Step.{decided, step, after_case}
 use Rattle.spec_search.specs.Slice.{slice, is_over}
 use Rattle.spec_node.specs.Sound.{EachAfter, IsLevelled, IsForced, IsChosen, IsPassed, IsWaiting, AreLiteralsOf, IsRanged, IsConsistent, IsSound}
 use Rattle.spec_node.proofs.TrailLemmas.{each-push, each-front, each-weaker}
 use Rattle.spec_node.proofs.BatchLemmas.{PushKeeps, forced, after_all-keeps, all-of}
-use Rattle.spec_node.proofs.CutLemmas.{kept-front}
 use Rattle.spec_node.proofs.FindLemmas.{find-none}
 use Rattle.spec_search.proofs.StepLemmas.{IsIdle, restarted, ended, phased, by_cases}
 use Rattle.spec_search.proofs.SliceLemmas.{steps-keep}
-use Rattle.spec_learn.proofs.KeepLemmas.{learned-sound}
+use Rattle.spec_search.proofs.FewerLemmas.{cut-sound, dropped-sound}
+use Rattle.spec_learn.proofs.ProfileLemmas.{learned-sound}
 use Rattle.spec_learn.proofs.RefuteLemmas.{emptied-sound}
 use Rattle.spec_learn.proofs.CoreSoundLemmas.{cored-sound}
-use Rattle.spec_search.proofs.ConsistentLemmas.{next_batch, All-batch, push-placed, propagated-consistent, decided-consistent, restarted-consistent, open-free, phased-free}
-use Rattle.spec_node.proofs.LoadLemmas.{kept-forced}
+use Rattle.spec_search.proofs.ConsistentLemmas.{next_batch, All-batch, push-placed, propagated-consistent, decided-consistent, open-free, phased-free}
 use Rattle.spec_node.proofs.LevelLemmas.{levels-rise, level-take, each-behind, found-in}
 use Rattle.spec_node.proofs.ReasonLemmas.{IsGoing, IsOfBatch, Handles, handles-going, after_all-conflict}
-use Rattle.spec_node.proofs.SoundLemmas.{length-saved, kept-short}
 
 -- the clauses of a batch, with what is known of each
 members : (n : Node) → IsConsistent n → (prefix : List TrailEntry) → All (IsOfBatch n.variables n.clauses prefix) (batch prefix n.clauses)
@@ -113,23 +111,20 @@ decided-sound n h idle l c chosen =
       waiting = λ id q. let none : n.conflict ≡ None = idle.calm in absurd (cc);
     }
 
-pub restarted-sound : (n : Node) → IsSound n → IsIdle n → IsSound (restarted n)
+-- a restart keeps a node sound
+restarted-sound : (n : Node) → IsSound n → IsIdle n → IsSound (restarted n)
 restarted-sound n h idle =
-    let r : IsRanged n = h.ranged in
-    let t : List TrailEntry = kept 0 n.trail in
-    let c : IsConsistent (restarted n) = restarted-consistent n idle.calm h.consistent in
-    let front : t ++ removed 0 n.trail ≡ n.trail = kept-front 0 n.trail in
-    let short : length t ≤ length n.trail = kept-short 0 n.trail in
-    let past : length n.trail < n.processed = idle.handled in
-    let phases : length n.phases ≡ n.variables = r.phases in
+    let k : IsSound (cut 0 n) = cut-sound n h idle in
+    let r : IsRanged (cut 0 n) = k.ranged in
+    let c : IsConsistent (cut 0 n) = k.consistent in
     record {
-      ranged = record { index = r.index; variables = r.variables; restart_number = omega arith; phases = length-saved n.phases (removed 0 n.trail) ∙ phases; numbers = r.numbers; serial = r.serial };
-      consistent = c;
-      reasons = each-front (IsForced n.clauses) t (removed 0 n.trail) [] (rw front h.reasons);
-      chosen = kept-forced (IsChosen n.assumptions) (λ b e id q k. absurd (cc)) n.trail [] c.levels;
-      passed = kept-forced (IsPassed (min n.processed (length t + 1))) (λ b e id q k. absurd (cc)) n.trail [] c.levels;
-      reached = ap level_of (take_all (min n.processed (length t + 1)) t (omega arith));
-      waiting = λ id q. let none : n.conflict ≡ None = idle.calm in absurd (cc);
+      ranged = record { index = r.index; variables = r.variables; restart_number = omega arith; phases = r.phases; numbers = r.numbers; serial = r.serial };
+      consistent = record { order = c.order; clauses = c.clauses; assumptions = c.assumptions; placed = c.placed; levels = c.levels; closed = c.closed; handled = c.handled; settled = c.settled };
+      reasons = k.reasons;
+      chosen = k.chosen;
+      passed = k.passed;
+      reached = k.reached;
+      waiting = k.waiting;
     }
 
 ended-sound : (n : Node) → IsSound n → IsSound (ended n)
@@ -156,6 +151,7 @@ step-sound n h = by_cases (λ c. IsSound (after_case c n)) n (record {
   learns = λ id q some. learned-sound n id h q some;
   refutes = λ id q zero. emptied-sound n id h q zero;
   propagates = propagated-sound n h;
+  drops = λ idle. dropped-sound n h idle.calm idle.handled;
   restarts = restarted-sound n h;
   contradicts = λ idle a e f. cored-sound n a h (record { first = e; fell = f });
   assumes = λ idle a e f. decided-sound n h idle a (decided-consistent n h.consistent idle a (open-free n h.consistent a e f)) (or_left _ _ (found-in (λ x. not (is_true n.trail x)) n.assumptions a e));

@@ -7,7 +7,8 @@ use Rattle.spec_node.specs.State.{Node}
 use Rattle.spec_node.specs.Value.{is_false, level_of, first_open, first_free}
 use Rattle.spec_node.specs.Cut.{cut}
 use Rattle.spec_seq.specs.Luby.{luby}
-use Rattle.spec_search.specs.Step.{Case, Learns, Refutes, Propagates, Restarts, Contradicts, Assumes, Decides, Ends, deciding, assuming, is_false_some, branching, case_by, case_of}
+use Rattle.spec_search.specs.Step.{Case, Learns, Refutes, Propagates, Drops, Restarts, Contradicts, Assumes, Decides, Ends, deciding, assuming, is_false_some, branching, restarting, case_by, case_of}
+use Rattle.spec_search.specs.Dropping.{is_dropping_due}
 
 -- a node where no conflict waits and no batch is left
 pub record IsIdle (n : Node) : Type 0 where
@@ -31,6 +32,7 @@ pub record HasCases (P : Case → Type 0) (n : Node) : Type 0 where
   pub learns : (id : ℕ) → n.conflict ≡ Some id → 0 < level_of n.trail → P (Learns id)
   pub refutes : (id : ℕ) → n.conflict ≡ Some id → level_of n.trail ≡ 0 → P (Refutes id)
   pub propagates : n.conflict ≡ None → n.processed ≤ length n.trail → P Propagates
+  pub drops : IsIdle n → P Drops
   pub restarts : IsIdle n → P Restarts
   pub contradicts : IsIdle n → (a : ℕ) → first_open n.trail n.assumptions ≡ Some a → is_false n.trail a ≡ true → P (Contradicts a)
   pub assumes : IsIdle n → (a : ℕ) → first_open n.trail n.assumptions ≡ Some a → is_false n.trail a ≡ false → P (Assumes a)
@@ -56,9 +58,13 @@ by_cases P n h = by_conflict n.conflict refl
     by_restart idle true = h.restarts idle
     by_restart idle false = by_open idle (first_open n.trail n.assumptions) refl
 
-    by_batch : n.conflict ≡ None → (b : Bool) → nat_le n.processed (length n.trail) ≡ b → P (cond {A = Case} b Propagates (cond {A = Case} (nat_le (64 * luby n.restart_number) n.conflicts_since_restart) Restarts (branching n)))
+    by_due : IsIdle n → (b : Bool) → P (cond {A = Case} b Drops (restarting n))
+    by_due idle true = h.drops idle
+    by_due idle false = by_restart idle (nat_le (64 * luby n.restart_number) n.conflicts_since_restart)
+
+    by_batch : n.conflict ≡ None → (b : Bool) → nat_le n.processed (length n.trail) ≡ b → P (cond {A = Case} b Propagates (cond {A = Case} (is_dropping_due n) Drops (restarting n)))
     by_batch calm true e = h.propagates calm (leb-true n.processed (length n.trail) e)
-    by_batch calm false e = by_restart (record { calm = calm; handled = leb-false n.processed (length n.trail) e }) (nat_le (64 * luby n.restart_number) n.conflicts_since_restart)
+    by_batch calm false e = by_due (record { calm = calm; handled = leb-false n.processed (length n.trail) e }) (is_dropping_due n)
 
     by_level : (id : ℕ) → n.conflict ≡ Some id → (b : Bool) → (level_of n.trail == 0) ≡ b → P (cond {A = Case} b (Refutes id) (Learns id))
     by_level id q true e = h.refutes id q (eqb-true (level_of n.trail) 0 e)

@@ -1,16 +1,14 @@
-use Rattle.std.specs.Prelude.{◌≡◌, ℕ, ◌/◌, ◌<◌, true, List, [], ◌∷◌, length, map, filter, All, Contains, None, Some}
+use Rattle.std.specs.Prelude.{◌≡◌, ◌≢◌, ℕ, ◌/◌, ◌<◌, ◌≤◌, true, false, List, [], ◌∷◌, length, take, map, filter, replicate, All, Contains, None, Some}
 use Rattle.mal_base.specs.NumberedClause.{NumberedClause}
 use Rattle.mal_revision.specs.Posted.{Posted}
-use Rattle.spec_node.specs.State.{Node, fresh}
-use Rattle.spec_node.specs.Load.{loaded}
-use Rattle.spec_node.specs.Sound.{AreLiteralsOf, IsSound}
+use Rattle.spec_node.specs.State.{Node, fresh_with}
+use Rattle.spec_node.specs.Load.{loaded, counted}
+use Rattle.spec_node.specs.Sound.{IsSound}
 use Rattle.spec_node.specs.Laws.{originals}
-use Rattle.spec_learn.specs.Learning.{line_of}
-use Rattle.spec_search.specs.Slice.{steps}
-use Rattle.spec_search.specs.Derived.{with_lines, AreDerivedFrom}
-use Rattle.spec_search.specs.Laws.{Leaves}
-use Rattle.spec_search.specs.Dropping.{is_reason, may_go, longer_half, to_drop, dropped}
-use Rattle.spec_search.specs.Actions.{Action, StepsShorter, after_action, acted, shorter_line}
+use Rattle.spec_learn.specs.Dropping.{is_reason, may_go, longer_half, to_drop}
+use Rattle.spec_search.specs.Step.{Drops, Restarts, case_of, step}
+use Rattle.spec_search.specs.Slice.{Sliced, steps}
+use Rattle.spec_search.specs.Dropping.{is_dropping_due, dropped}
 
 -- a clause by its number and literals
 abbrev pub clause : ℕ → List ℕ → NumberedClause
@@ -24,51 +22,55 @@ five_clauses = clause 4294967296 (2 ∷ 4 ∷ []) ∷ clause 4294967360 (2 ∷ 4
 abbrev pub covered : Posted
 covered = record { variables = 4; clauses = Some (2 ∷ 5 ∷ []) ∷ Some (2 ∷ 4 ∷ 6 ∷ 8 ∷ []) ∷ Some (4 ∷ 6 ∷ 9 ∷ []) ∷ []; assumptions = [] }
 
--- node 0 at its first conflict
-abbrev pub at_conflict : Node
-at_conflict = (steps 6 (loaded covered 1 (fresh 0))).node
+-- node 0 of this profile after so many steps
+abbrev pub first_steps : ℕ → ℕ → Sliced
+first_steps k profile = steps k (loaded covered 1 (fresh_with 0 profile))
 
--- worked examples: of clauses of 2, 3, 3, 5 and 7 literals those of 5 and 7 go; of two of equal length the later one; an original and a
--- reason stay, how long they may be; and both lines of the first conflict of a node, and the trail after the shorter one
+-- a node of this profile on whose empty trail all is handled and a restart is due, with so many conflicts learned since the last
+-- dropping and those five clauses
+abbrev pub idle : ℕ → ℕ → Node
+idle profile count = record (fresh_with 0 profile) { variables = 7; serial = 5; processed = 1; conflicts_since_restart = 64; conflicts_since_dropping = count; order = counted 1 7; phases = replicate 7 false; clauses = five_clauses }
+
+-- worked examples of what goes: of clauses of 2, 3, 3, 5 and 7 literals those of 5 and 7; of two of equal length the later one; an
+-- original and a reason stay, how long they may be
 pub record HasDrops : Type 0 where
   pub five_and_seven : to_drop [] five_clauses ≡ 4294967552 ∷ 4294967488 ∷ []
   pub later : to_drop [] (clause 4294967296 (2 ∷ 4 ∷ 6 ∷ []) ∷ clause 4294967360 (2 ∷ 4 ∷ 8 ∷ []) ∷ []) ≡ 4294967360 ∷ []
   pub spared : to_drop (record { lit = 14; reason = Some 4294967552; level = 0 } ∷ []) (clause 7 (2 ∷ 4 ∷ 6 ∷ 8 ∷ 10 ∷ 12 ∷ []) ∷ five_clauses) ≡ 4294967488 ∷ []
-  pub waits : at_conflict.conflict ≡ Some 3
-  pub longer : line_of 3 at_conflict ≡ record { id = 4294967296; lits = 2 ∷ 4 ∷ 6 ∷ []; hints = 2 ∷ 3 ∷ [] }
-  pub shorter : shorter_line 3 at_conflict ≡ record { id = 4294967296; lits = 2 ∷ 6 ∷ []; hints = 1 ∷ 2 ∷ 3 ∷ [] }
-  pub learns : map (λ e. e.lit) (after_action StepsShorter at_conflict).trail ≡ 3 ∷ 5 ∷ 6 ∷ []
+
+-- worked examples of steps under either profile: the first clause that node 0 learns, the longer and the shorter one, and its trail
+-- after the shorter one; and a dropping, which comes before a restart that is due as well, is due after 2,000 conflicts, and under profile 1 never
+pub record HasProfiles : Type 0 where
+  pub waits : (first_steps 6 2).node.conflict ≡ Some 3
+  pub longer : (first_steps 7 1).lines ≡ record { id = 4294967296; lits = 2 ∷ 4 ∷ 6 ∷ []; hints = 2 ∷ 3 ∷ [] } ∷ []
+  pub shorter : (first_steps 7 2).lines ≡ record { id = 4294967296; lits = 2 ∷ 6 ∷ []; hints = 1 ∷ 2 ∷ 3 ∷ [] } ∷ []
+  pub learns : map (λ e. e.lit) (first_steps 7 2).node.trail ≡ 3 ∷ 5 ∷ 6 ∷ []
+  pub none_counted : (first_steps 7 1).node.conflicts_since_dropping ≡ 0
+  pub one_counted : (first_steps 7 2).node.conflicts_since_dropping ≡ 1
+  pub due : case_of (idle 2 2000) ≡ Drops
+  pub not_yet : case_of (idle 2 1999) ≡ Restarts
+  pub never : case_of (idle 1 1000000) ≡ Restarts
+  pub drops : step (idle 2 2000) ≡ record (idle 2 0) { clauses = take 3 five_clauses }
+  pub then_restarts : case_of (step (idle 2 2000)) ≡ Restarts
 
 -- dropping keeps a node sound
 abbrev pub DropKeepsSound : Type 0
 DropKeepsSound = (n : Node) → IsSound n → n.conflict ≡ None → length n.trail < n.processed → IsSound (dropped n)
 
--- what dropping leaves: originals and reasons stay, and what is held was held; half of what may go goes
+-- what dropping leaves: originals and reasons stay, and what is held was held; half of what may go goes, and the count begins
+-- anew
 pub record DropHolds (n : Node) : Type 0 where
   pub originals : originals (dropped n).clauses ≡ originals n.clauses
   pub was : All (Contains n.clauses) (dropped n).clauses
   pub reasons : All (λ c. is_reason (dropped n).trail c ≡ true → Contains (dropped n).clauses c) n.clauses
+  pub count : (dropped n).conflicts_since_dropping ≡ 0
   pub half : length (longer_half (filter (may_go (dropped n).trail) n.clauses)) ≡ length (filter (may_go (dropped n).trail) n.clauses) / 2
 
 abbrev pub DropsHold : Type 0
 DropsHold = (n : Node) → DropHolds n
 
--- whatever a search does, its node stays sound
-abbrev pub ActionsKeepSound : Type 0
-ActionsKeepSound = (actions : List Action) (n : Node) → IsSound n → IsSound (acted actions n).node
-
--- and has its index, its variables, its assumptions and its original clauses
-abbrev pub ActionsLeave : Type 0
-ActionsLeave = (actions : List Action) (n : Node) → Leaves n (acted actions n).node
-
--- its lines are derived one after another from the clauses held at first and those of the lines before, whatever was dropped since
-abbrev pub ActionsDerive : Type 0
-ActionsDerive = (actions : List Action) (n : Node) → IsSound n → AreDerivedFrom n.clauses (acted actions n).lines
-
--- what is held in the end was held at first or is of a line
-abbrev pub ActionsHold : Type 0
-ActionsHold = (actions : List Action) (n : Node) → IsSound n → All (Contains (with_lines n.clauses (acted actions n).lines)) (acted actions n).node.clauses
-
--- the literals of each line are the node's, also where its clause was dropped since
-abbrev pub LinesStayWithin : Type 0
-LinesStayWithin = (actions : List Action) (n : Node) → IsSound n → All (λ l. AreLiteralsOf n.variables l.lits) (acted actions n).lines
+-- when a step drops clauses: under profile 2 where no conflict waits, no batch is left and 2,000 conflicts were learned since the last
+-- dropping, and under no other profile
+pub record DropsWhenDue : Type 0 where
+  pub due : (n : Node) → n.conflict ≡ None → length n.trail < n.processed → n.profile ≡ 2 → 2000 ≤ n.conflicts_since_dropping → case_of n ≡ Drops
+  pub never : (n : Node) → n.profile ≢ 2 → is_dropping_due n ≡ false

@@ -1,12 +1,12 @@
-use Rattle.std.specs.Prelude.{◌≡◌, ℕ, ◌+◌, ◌*◌, ◌^◌, ◌≤◌, true, false, List, length, [], ◌∷◌, ◌++◌, sum_by, All, Option, Some, None}
+use Rattle.std.specs.Prelude.{◌≡◌, ℕ, ◌+◌, ◌*◌, ◌^◌, ◌≤◌, true, false, List, length, [], ◌∷◌, ◌++◌, sum_by, All, Contains, Option, Some, None}
 use Rattle.mal_base.specs.NumberedClause.{Line}
 use Rattle.mal_base.specs.declared.verdict.Verdict.TheVariants.{Satisfiable, Unsatisfiable}
 use Rattle.spec_logic.specs.Logic.{satisfies_with}
 use Rattle.spec_logic.specs.Refutation.{contradicts}
-use Rattle.spec_node.specs.State.{Node}
+use Rattle.spec_node.specs.State.{Node, has_profile}
 use Rattle.spec_node.specs.Load.{numbered}
 use Rattle.spec_node.specs.Model.{model_of}
-use Rattle.spec_node.specs.Sound.{IsSound}
+use Rattle.spec_node.specs.Sound.{AreLiteralsOf, IsSound}
 use Rattle.spec_node.specs.Laws.{originals, HasModel}
 use Rattle.spec_search.specs.Step.{step}
 use Rattle.spec_search.specs.Slice.{slice, steps_from, is_over, numbers_of, most_numbers}
@@ -20,9 +20,10 @@ StepKeepsSound = (n : Node) → IsSound n → IsSound (step n)
 abbrev pub SliceKeepsSound : Type 0
 SliceKeepsSound = (n : Node) → IsSound n → IsSound (slice n).node
 
--- what a step and a slice leave as it was: the index, the variables, the assumptions and the original clauses
+-- what a step and a slice leave as it was: the index, the profile, the variables, the assumptions and the original clauses
 pub record Leaves (before after : Node) : Type 0 where
   pub index : after.index ≡ before.index
+  pub profile : after.profile ≡ before.profile
   pub variables : after.variables ≡ before.variables
   pub assumptions : after.assumptions ≡ before.assumptions
   pub originals : originals after.clauses ≡ originals before.clauses
@@ -39,6 +40,13 @@ StepsLeave = (k used : ℕ) (n : Node) → Leaves n (steps_from k used n).node
 abbrev pub SliceLeaves : Type 0
 SliceLeaves = (n : Node) → Leaves n (slice n).node
 
+-- a node that follows a profile follows it after a step and after a slice: only under profile 2 conflicts are counted for droppings
+abbrev pub StepKeepsProfile : Type 0
+StepKeepsProfile = (n : Node) → has_profile n ≡ true → has_profile (step n) ≡ true
+
+abbrev pub SliceKeepsProfile : Type 0
+SliceKeepsProfile = (n : Node) → has_profile n ≡ true → has_profile (slice n).node ≡ true
+
 -- a slice keeps that a satisfiable node has a model, whether a verdict stood before or not
 abbrev pub SliceKeepsModel : Type 0
 SliceKeepsModel = (n : Node) → IsSound n → HasModel n → HasModel (slice n).node
@@ -52,9 +60,13 @@ SliceSolves = (n : Node) (clauses : List (Option (List ℕ))) → IsSound n → 
 abbrev pub LinesAreDerived : Type 0
 LinesAreDerived = (n : Node) → IsSound n → AreDerivedFrom n.clauses (slice n).lines
 
--- after a slice the clauses of its lines are held beside those held before
-abbrev pub LinesAreHeld : Type 0
-LinesAreHeld = (n : Node) → (slice n).node.clauses ≡ with_lines n.clauses (slice n).lines
+-- what is held after a slice was held before it, or is of one of its lines
+abbrev pub HeldAreOfLines : Type 0
+HeldAreOfLines = (n : Node) → IsSound n → All (Contains (with_lines n.clauses (slice n).lines)) (slice n).node.clauses
+
+-- the literals of each line are the node's, also where its clause was dropped since
+abbrev pub LinesStayWithin : Type 0
+LinesStayWithin = (n : Node) → IsSound n → All (λ l. AreLiteralsOf n.variables l.lits) (slice n).lines
 
 -- the lines of a slice are 1,000 at the most, and so many numbers that they have room
 pub record LinesFit (n : Node) : Type 0 where
@@ -102,6 +114,7 @@ pub record CountsRise (n : Node) : Type 0 where
   pub serial : (slice n).node.serial ≤ n.serial + 1000
   pub conflicts_since_restart : (slice n).node.conflicts_since_restart ≤ n.conflicts_since_restart + 1000
   pub restart_number : (slice n).node.restart_number ≤ n.restart_number + 1000
+  pub conflicts_since_dropping : (slice n).node.conflicts_since_dropping ≤ n.conflicts_since_dropping + 1000
 
 abbrev pub SliceCounts : Type 0
 SliceCounts = (n : Node) → CountsRise n

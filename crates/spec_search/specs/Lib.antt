@@ -4,5 +4,4 @@ pub mod Derived
 pub mod Laws
 pub mod Examples
 pub mod Dropping
-pub mod Actions
 pub mod DroppingLaws

@@ -10,12 +10,14 @@ use Rattle.spec_node.specs.Batch.{propagated}
 use Rattle.spec_node.specs.Cut.{cut}
 use Rattle.spec_learn.specs.Learning.{line_of, learned}
 use Rattle.spec_learn.specs.Refuting.{emptied, core_line, cored}
+use Rattle.spec_search.specs.Dropping.{is_dropping_due, dropped}
 
 -- what the next step does
 pub data Case : Type 0 where
   Learns : ℕ → Case
   Refutes : ℕ → Case
   Propagates : Case
+  Drops : Case
   Restarts : Case
   Contradicts : ℕ → Case
   Assumes : ℕ → Case
@@ -42,15 +44,19 @@ abbrev pub is_false_some : List TrailEntry → Option ℕ → Bool
 is_false_some trail None = false
 is_false_some trail (Some a) = is_false trail a
 
--- the case where no batch is left and no restart is due
+-- the case where no batch is left and neither a dropping nor a restart is due
 abbrev pub branching : Node → Case
 branching n = let a = first_open n.trail n.assumptions in assuming a (is_false_some n.trail a) (deciding (first_free n.trail n.order))
 
--- the first case that applies: a conflict waits, a batch is left, a restart is due, an assumption is not true, a
--- variable is free, or the search ends
+-- the case where no batch is left and no dropping is due
+abbrev pub restarting : Node → Case
+restarting n = if nat_le (64 * luby n.restart_number) n.conflicts_since_restart then Restarts else branching n
+
+-- the first case that applies: a conflict waits, a batch is left, a dropping is due, a restart is due, an assumption is not
+-- true, a variable is free, or the search ends
 abbrev pub case_by : Option ℕ → Node → Case
 case_by (Some id) n = conflicting n id
-case_by None n = if nat_le n.processed (length n.trail) then Propagates else (if nat_le (64 * luby n.restart_number) n.conflicts_since_restart then Restarts else branching n)
+case_by None n = if nat_le n.processed (length n.trail) then Propagates else (if is_dropping_due n then Drops else restarting n)
 
 abbrev pub case_of : Node → Case
 case_of n = case_by n.conflict n
@@ -64,6 +70,7 @@ abbrev pub after_case : Case → Node → Node
 after_case (Learns id) n = learned id n
 after_case (Refutes id) n = emptied id n
 after_case Propagates n = propagated n
+after_case Drops n = dropped n
 after_case Restarts n = record (cut 0 n) { conflicts_since_restart = 0; restart_number = n.restart_number + 1 }
 after_case (Contradicts a) n = cored a n
 after_case (Assumes a) n = decided n a
@@ -79,6 +86,7 @@ abbrev pub line_by : Case → Node → Option Line
 line_by (Learns id) n = Some (line_of id n)
 line_by (Refutes id) n = Some (line_of id n)
 line_by Propagates n = None
+line_by Drops n = None
 line_by Restarts n = None
 line_by (Contradicts a) n = Some (core_line a n)
 line_by (Assumes a) n = None

@@ -1,11 +1,13 @@
-//! Steps and slices of a solver node's search. Definitions, and the laws about them as the contracts of functions without
-//! a body.
+//! Steps and slices of a solver node's search. Definitions, and the laws about them as the contracts of functions
+//! without a body.
 #![tactic(auto)]
 
 ghost use Rattle.spec_search.specs.Examples.{HasExamples};
-ghost use Rattle.spec_search.specs.DroppingLaws.{ActionsDerive, ActionsHold, ActionsKeepSound, ActionsLeave};
-ghost use Rattle.spec_search.specs.DroppingLaws.{DropKeepsSound, DropsHold, HasDrops, LinesStayWithin};
-ghost use Rattle.spec_search.specs.Laws.{EmptyRefutes, LinesAreCounted, LinesAreDerived, LinesAreHeld, LinesHaveRoom, SliceCounts, SliceGoesOn, SliceKeepsModel, SliceKeepsSound, SliceLeaves, SliceRefutes, SliceSolves, StepKeepsSound, StepLeaves, StepsLeave};
+ghost use Rattle.spec_search.specs.DroppingLaws.{DropKeepsSound, DropsHold, DropsWhenDue, HasDrops, HasProfiles};
+ghost use Rattle.spec_search.specs.Laws.{EmptyRefutes, HeldAreOfLines, LinesAreCounted, LinesAreDerived};
+ghost use Rattle.spec_search.specs.Laws.{LinesHaveRoom, LinesStayWithin, SliceCounts, SliceGoesOn, SliceKeepsModel};
+ghost use Rattle.spec_search.specs.Laws.{SliceKeepsProfile, SliceKeepsSound, SliceLeaves, SliceRefutes, SliceSolves};
+ghost use Rattle.spec_search.specs.Laws.{StepKeepsProfile, StepKeepsSound, StepLeaves, StepsLeave};
 
 /// The worked examples of steps and slices compute to the answers that are known.
 pub fn search_examples()
@@ -18,11 +20,14 @@ pub fn search_is_sound()
     ensures slice { SliceKeepsSound }
 {}
 
-/// Steps and slices leave the index, the variables, the assumptions and the original clauses.
+/// Steps and slices leave the index, the profile, the variables, the assumptions and the original clauses, and count
+/// for droppings only under the profile that drops.
 pub fn slices_leave()
     ensures step { StepLeaves }
     ensures steps { StepsLeave }
     ensures slice { SliceLeaves }
+    ensures step_profile { StepKeepsProfile }
+    ensures slice_profile { SliceKeepsProfile }
 {}
 
 /// Where a slice of a sound node ends satisfiable, its trail is a model of the clauses and assumptions.
@@ -31,44 +36,37 @@ pub fn slice_has_model()
     ensures solves { SliceSolves }
 {}
 
-/// The lines of a slice of a sound node are derived one after another from the clauses held, have the node's next numbers,
-/// and are held after it; where it refutes the clauses under the assumptions, its last line has negations of these alone, and
-/// only then it derives an empty clause.
+/// The lines of a slice of a sound node are derived one after another from the clauses held at first and those of the
+/// lines before, dropped or not, and have the node's next numbers; what is held after it was held before or is of a
+/// line, and the literals of each line are the node's. Where it refutes the clauses under the assumptions, its last
+/// line has negations of these alone, and only then it derives an empty clause.
 pub fn slice_derives()
     ensures derived { LinesAreDerived }
-    ensures held { LinesAreHeld }
+    ensures held { HeldAreOfLines }
+    ensures within { LinesStayWithin }
     ensures counted { LinesAreCounted }
     ensures refutes { SliceRefutes }
     ensures empty { EmptyRefutes }
 {}
 
-/// A slice of a sound node without a verdict makes a step; it derives 1,000 lines at the most, for which there is room, and
-/// raises each count by 1,000 at the most.
+/// A slice of a sound node without a verdict makes a step; it derives 1,000 lines at the most, for which there is room,
+/// and raises each count by 1,000 at the most.
 pub fn slice_is_bounded()
     ensures goes_on { SliceGoesOn }
     ensures room { LinesHaveRoom }
     ensures counts { SliceCounts }
 {}
 
-/// The worked examples of dropping, and of the shorter clause of a node's first conflict, compute to the answers that
-/// are known.
+/// The worked examples of dropping, and of steps under both profiles, compute to the answers that are known.
 pub fn drop_examples()
-    ensures { HasDrops }
+    ensures drops { HasDrops }
+    ensures profiles { HasProfiles }
 {}
 
-/// Dropping keeps a node sound, its originals and the reasons on its trail; half of what may go goes.
+/// Dropping keeps a node sound, its originals and the reasons on its trail; half of what may go goes. It comes under
+/// profile 2 alone, where it is due.
 pub fn drops_keep_sound()
     ensures sound { DropKeepsSound }
     ensures hold { DropsHold }
-{}
-
-/// Whatever a search does of steps, of steps that learn the shorter clause and of droppings: its node stays sound; its
-/// lines are derived one after another from the clauses held at first and those of the lines before, dropped or not;
-/// what it holds in the end was held at first or is of a line; and the literals of each line are the node's.
-pub fn actions_derive()
-    ensures sound { ActionsKeepSound }
-    ensures leave { ActionsLeave }
-    ensures derived { ActionsDerive }
-    ensures held { ActionsHold }
-    ensures within { LinesStayWithin }
+    ensures due { DropsWhenDue }
 {}

@@ -1,4 +1,4 @@
-use Rattle.spec_learn.proofs.LawLemmas.{sound-asserts, sound-empty}
+use Rattle.spec_learn.proofs.ProfileLemmas.{sound-asserts, sound-empty}
 use Rattle.spec_learn.proofs.learned_asserts.Goals as goal
 
 pub returns : goal.returns

@@ -1,4 +1,4 @@
-use Rattle.spec_learn.proofs.KeepLemmas.{learned-sound}
+use Rattle.spec_learn.proofs.ProfileLemmas.{learned-sound}
 use Rattle.spec_learn.proofs.learning_keeps_sound.Goals as goal
 
 pub returns : goal.returns
