@@ -50,6 +50,10 @@ impl Engine for Scan {
         self.store.add_reserved(id, lits);
     }
 
+    fn forget(&mut self, ids: &mut [ClauseId]) {
+        self.store.forget(ids);
+    }
+
     fn propagate_one(&mut self, trail: &mut Trail) -> Option<ClauseId> {
         let processed = trail.processed();
         let conflict = batch::propagate(trail, processed as usize, &self.store);

@@ -1,11 +1,15 @@
 //! A map from numbers to clauses.
 
 ghost use Rattle.std.specs.Prelude.{◌≡◌, ℕ, ◌+◌, ◌≤◌, ◌<◌, true, List, [], ◌∷◌, ◌++◌, length, take, drop, slice_get, slice_index_or, Some, None, OnOk, MatchOption, vec_len, vec_capacity};
+ghost use Rattle.std.specs.Prelude.{filter, not, ◌==◌, sum_by};
+ghost use Rattle.std.specs.List.{list_any};
+ghost use Rattle.std.specs.List.Sorted.{IsNonDecreasing, IsNonDecreasingBy, IsPermutation};
 ghost use Rattle.mal_base.specs.NumberedClause.{lits_under};
-ghost use Rattle.spec_node.specs.Adding.{with_clause};
+ghost use Rattle.spec_node.specs.Adding.{with_clause, forgetting};
 ghost use Rattle.mal_store.specs.declared.slot.Slot.{Slot};
-ghost use Rattle.mal_store.specs.Stored.{SlotsRise};
+ghost use Rattle.mal_store.specs.Stored.{SlotsRise, IsStore, AreLaid, held_in, literal_count};
 
+use crate::ids;
 use crate::slot::Slot;
 use mal_base::{ClauseId, ClauseView, Lit};
 use std::alloc::{AllocError, Global};
@@ -75,6 +79,21 @@ impl Store {
         let place = place_of(self.slots.as_slice(), id);
         append_reserved(&mut self.literals, lits);
         let _ = self.slots.insert(place, slot);
+    }
+
+    /// Forgets the clauses of these numbers, which it puts in rising order. The room of their literals is room again.
+    /// Takes no memory.
+    pub fn forget(&mut self, ids: &mut [ClauseId])
+        ensures clauses { self.new.clauses ≡ forgetting ids.old self.old.clauses }
+        ensures clause_room { self.old.clause_room ≤ self.new.clause_room }
+        ensures literal_room { self.old.literal_room ≤ self.new.literal_room }
+        ensures won { literal_count self.old.clauses + self.old.literal_room ≤ literal_count self.new.clauses + self.new.literal_room }
+        ensures same { IsPermutation ids.old ids.new }
+        ensures rising { IsNonDecreasing ids.new }
+    {
+        ids::sort(ids);
+        take_away(&mut self.slots, ids);
+        close_up(&mut self.slots, &mut self.literals);
     }
 
     /// The number of clauses.
@@ -181,6 +200,78 @@ fn is_above(slots: &[Slot], number: u64, place: usize) -> bool
     }
     let slot = slots[place - 1];
     slot.id.number() < number
+}
+
+/// Takes the slots of these numbers, which rise, away. Takes no memory.
+fn take_away(slots: &mut Vec<Slot>, ids: &[ClauseId])
+    requires { IsNonDecreasing ids.now }
+    ensures items { slots.new.items ≡ filter (λ s. not (list_any (λ i. i == s.id) ids.now)) slots.old.items }
+    ensures capacity { vec_capacity slots.new ≡ vec_capacity slots.old }
+    ensures len { vec_len slots.new ≤ vec_len slots.old }
+{
+    slots.retain(|slot| !ids::is_among(ids, slot.id));
+}
+
+/// Moves the literals of slots down, until there is no gap between them. Takes no memory.
+fn close_up(slots: &mut Vec<Slot>, literals: &mut Vec<Lit>)
+    requires { IsStore literals.old.items slots.old.items }
+    ensures clauses { held_in literals.new.items slots.new.items ≡ held_in literals.old.items slots.old.items }
+    ensures store { IsStore literals.new.items slots.new.items }
+    ensures total { vec_len literals.new ≡ sum_by (λ s. s.len) slots.new.items }
+    ensures slots { vec_len slots.new ≡ vec_len slots.old }
+    ensures slot_room { vec_capacity slots.new ≡ vec_capacity slots.old }
+    ensures literals { vec_len literals.new ≤ vec_len literals.old }
+    ensures literal_room { vec_capacity literals.new ≡ vec_capacity literals.old }
+{
+    sort_by_start(slots);
+    move_down(slots, literals);
+    sort_by_number(slots);
+}
+
+/// Sorts slots by where their literals begin. Takes no memory.
+fn sort_by_start(slots: &mut Vec<Slot>)
+    ensures same { IsPermutation slots.old.items slots.new.items }
+    ensures order { IsNonDecreasingBy (λ s. s.start) slots.new.items }
+    ensures len { vec_len slots.new ≡ vec_len slots.old }
+    ensures capacity { vec_capacity slots.new ≡ vec_capacity slots.old }
+{
+    slots.sort_unstable_by_key(|slot| slot.start);
+}
+
+/// Sorts slots by number. Takes no memory.
+fn sort_by_number(slots: &mut Vec<Slot>)
+    ensures same { IsPermutation slots.old.items slots.new.items }
+    ensures order { IsNonDecreasingBy (λ s. s.id) slots.new.items }
+    ensures len { vec_len slots.new ≡ vec_len slots.old }
+    ensures capacity { vec_capacity slots.new ≡ vec_capacity slots.old }
+{
+    slots.sort_unstable_by_key(|slot| slot.id.number());
+}
+
+/// Moves the literals of slots, which stand in the order of these, down, until there is no gap between them. Takes no
+/// memory.
+fn move_down(slots: &mut Vec<Slot>, literals: &mut Vec<Lit>)
+    requires { AreLaid 0 (length literals.old.items) slots.old.items }
+    ensures clauses { held_in literals.new.items slots.new.items ≡ held_in literals.old.items slots.old.items }
+    ensures laid { AreLaid 0 (length literals.new.items) slots.new.items }
+    ensures total { vec_len literals.new ≡ sum_by (λ s. s.len) slots.new.items }
+    ensures slots { vec_len slots.new ≡ vec_len slots.old }
+    ensures slot_room { vec_capacity slots.new ≡ vec_capacity slots.old }
+    ensures literals { vec_len literals.new ≤ vec_len literals.old }
+    ensures literal_room { vec_capacity literals.new ≡ vec_capacity literals.old }
+{
+    let mut end = 0;
+    for place in 0..slots.len() {
+        let slot = slots[place];
+        literals.copy_within(slot.start..slot.start + slot.len, end);
+        slots[place] = Slot {
+            id: slot.id,
+            start: end,
+            len: slot.len,
+        };
+        end += slot.len;
+    }
+    literals.truncate(end);
 }
 
 /// So many literals from a place on.

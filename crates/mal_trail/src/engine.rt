@@ -4,7 +4,7 @@ ghost use Rattle.std.specs.Prelude.{◌≡◌, ℕ, ◌+◌, ◌≤◌, true, Li
 ghost use Rattle.mal_base.specs.Clauses.{rises};
 ghost use Rattle.mal_base.specs.NumberedClause.{lits_under};
 ghost use Rattle.mal_base.specs.declared.trail_entry.TrailEntry.{TrailEntry};
-ghost use Rattle.spec_node.specs.Adding.{with_clause};
+ghost use Rattle.spec_node.specs.Adding.{with_clause, forgetting};
 ghost use Rattle.spec_node.specs.Batch.{after_batch};
 ghost use Rattle.spec_node.specs.Cut.{kept};
 ghost use Rattle.mal_trail.specs.Rooms.{Room, HasRoom, IsRoomFor, IsLeft, are_within};
@@ -54,6 +54,12 @@ pub trait Engine: ClauseView + Drop {
         ensures clauses { Self.clauses self.new ≡ with_clause (record { id = id; lits = lits.now }) (Self.clauses self.old) }
         ensures room { IsLeft 1 (length lits.now) (room self.old) (room self.new) }
         ensures fits { fits self.new trail.now.entries trail.now.processed };
+
+    /// Gives up the clauses of these numbers, which it puts in rising order. Takes no memory.
+    fn forget(&mut self, ids: &mut [ClauseId])
+        ensures clauses { Self.clauses self.new ≡ forgetting ids.old (Self.clauses self.old) }
+        ensures room { IsLeft 0 0 (room self.old) (room self.new) }
+        ensures fits { (entries : List TrailEntry) (processed : ℕ) → fits self.old entries processed → fits self.new entries processed };
 
     /// Handles the next batch, which then counts as handled. The result is the conflict, None exactly where there is
     /// none. Takes no memory.

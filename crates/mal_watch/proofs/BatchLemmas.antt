@@ -1,6 +1,6 @@
 use Rattle.std.proofs.Common.{◌≡◌, ℕ, ◌+◌, ◌<◌, ◌≤◌, Bool, true, false, not, ◌&&◌, ◌||◌, cond, eqb, List, [], ◌∷◌, ◌++◌, length, map, drop, get_or, zero, suc, Option, Some, None, refl, sym, ap, ◌∙◌, arith}
 use Rattle.std.specs.Prelude.{nat_le, nat_lt, nat_eq, filter}
-use Rattle.std.specs.List.{list_all, find, slice_get, AllByRecursion}
+use Rattle.std.specs.List.{AllByRecursion}
 use Rattle.std.specs.Option.{unwrap_or, option_map_or}
 use Rattle.std.proofs.lemmas.List.Sums.{sum_by-cons}
 use Rattle.std.proofs.lemmas.Bool.{false≢true}
@@ -10,7 +10,7 @@ use Rattle.mal_base.specs.Formulas.{is_within}
 use Rattle.mal_trail.specs.Rooms.{are_within}
 use Rattle.mal_base.specs.declared.trail_entry.TrailEntry.{TrailEntry}
 use Rattle.mal_base.specs.NumberedClause.{NumberedClause}
-use Rattle.spec_node.specs.Batch.{Progress, after_all, after_clause, after_left, after_literal, before_last, batch, is_in_batch}
+use Rattle.spec_node.specs.Batch.{after_all, after_left, after_literal, before_last, batch, is_in_batch}
 use Rattle.spec_node.specs.Sound.{left_is_true}
 use Rattle.spec_node.specs.Value.{is_true, is_false, level_of, open_count, left_literal}
 use Rattle.mal_trail.proofs.FoundLemmas.{and_true, none_some, found_passes, calm, after_all-ended}

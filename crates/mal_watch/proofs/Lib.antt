@@ -12,3 +12,6 @@ mod FoundLemmas
 mod FollowLemmas
 mod WiderLemmas
 mod NodeLemmas
+mod LaidLemmas
+mod ListedLemmas
+mod FewerLemmas

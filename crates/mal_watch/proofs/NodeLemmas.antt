@@ -1,4 +1,4 @@
-use Rattle.std.proofs.Common.{◌≡◌, ℕ, zero, suc, ◌<◌, List, [], ◌∷◌, ◌++◌, length, map, set, get_or, Option, None, refl, ap, arith}
+use Rattle.std.proofs.Common.{◌≡◌, ℕ, zero, suc, ◌<◌, List, [], ◌∷◌, ◌++◌, length, set, get_or, Option, refl, ap, arith}
 use Rattle.std.proofs.lemmas.List.{length-map, map-append}
 use Rattle.mal_watch.specs.declared.watch_lists.Node.{Node}
 use Rattle.mal_watch.specs.WatchLists.{link_at}
@@ -6,6 +6,9 @@ use Rattle.mal_watch.specs.Nodes.{links_of, keys_of}
 
 pub links-length : (nodes : List Node) → length (links_of nodes) ≡ length nodes
 links-length nodes = length-map nodes (λ (n : Node). n.link)
+
+pub keys-length : (nodes : List Node) → length (keys_of nodes) ≡ length nodes
+keys-length nodes = length-map nodes (λ (n : Node). n.key)
 
 -- one node more
 pub links-push : (nodes : List Node) (n : Node) → links_of (nodes ++ n ∷ []) ≡ links_of nodes ++ n.link ∷ []

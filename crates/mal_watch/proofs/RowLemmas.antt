@@ -1,6 +1,6 @@
-use Rattle.std.proofs.Common.{◌≡◌, ℕ, zero, suc, ◌+◌, ◌<◌, ◌≤◌, List, [], ◌∷◌, ◌++◌, length, take, drop, set, get_or, Some, refl, sym, ap, ◌∙◌, subst, arith}
+use Rattle.std.proofs.Common.{◌≡◌, ℕ, zero, suc, ◌+◌, ◌<◌, ◌≤◌, List, [], ◌∷◌, ◌++◌, length, take, drop, set, get_or, Some, refl, ap, ◌∙◌, arith}
 use Rattle.std.specs.List.{slice_get}
-use Rattle.std.proofs.lemmas.List.{length-append, length-map, take-append-le, take_all, drop_at, map-append}
+use Rattle.std.proofs.lemmas.List.{length-map, take-append-le, take_all, drop_at, map-append}
 use Rattle.mal_base.specs.NumberedClause.{NumberedClause}
 use Rattle.mal_watch.specs.declared.clause_arena.Row.{Row}
 use Rattle.mal_watch.specs.declared.clause_arena.Body.{Body}
@@ -19,10 +19,6 @@ get-row literals (r ∷ rs) (suc k) d l = get-row literals rs k d (omega arith)
 
 pub rows-length : (literals : List ℕ) (rs : List Row) → length (clauses_in literals rs) ≡ length rs
 rows-length literals rs = length-map rs (clause_in literals)
-
-pub rows-push : (count : ℕ) (rs : List Row) (r : Row) → IsBody count r.body → AreRows count rs → AreRows count (rs ++ r ∷ [])
-rows-push count [] r h w = (h, tt)
-rows-push count (x ∷ xs) r h w = (w.0, rows-push count xs r h w.1)
 
 body-wider : (count more : ℕ) (b : Body) → count ≤ more → IsBody count b → IsBody more b
 body-wider count more (Three lits) l w = tt
@@ -62,8 +58,3 @@ rows-same literals (x ∷ xs) zero r s l e i h =
     let same : clause_in literals s ≡ clause_in literals r = rw (i, h) refl in
     ap (λ (c : NumberedClause). c ∷ clauses_in literals xs) (same ∙ ap (clause_in literals) e)
 rows-same literals (x ∷ xs) (suc k) r s l e i h = ap (λ (cs : List NumberedClause). clause_in literals x ∷ cs) (rows-same literals xs k r s (omega arith) e i h)
-
-pub within-same : (count : ℕ) (rs : List Row) (k : ℕ) (r s : Row) → k < length rs → r ≡ get_or rs k r → (IsBody count r.body → IsBody count s.body) → AreRows count rs → AreRows count (set rs k s)
-within-same count [] k r s l e h w = absurd (omega arith)
-within-same count (x ∷ xs) zero r s l e h w = (h (subst (λ (y : Row). IsBody count y.body) (sym e) w.0), w.1)
-within-same count (x ∷ xs) (suc k) r s l e h w = (w.0, within-same count xs k r s (omega arith) e h w.1)

@@ -10,3 +10,4 @@ pub mod Going
 pub mod Following
 pub mod FollowLaws
 pub mod Fitting
+pub mod Leaving

@@ -32,3 +32,17 @@ IsBody count (Listed start len hint) = start + len ≤ count
 abbrev pub AreRows : ℕ → List Row → Type 0
 AreRows count [] = Unit {0}
 AreRows count (r ∷ rs) = IsBody count r.body × AreRows count rs
+
+-- the literals of a clause stand from a place on, and what is behind them begins there
+abbrev pub IsFrom : ℕ → Body → Type 0
+IsFrom low (Three lits) = Unit {0}
+IsFrom low (Listed start len hint) = low ≤ start
+
+abbrev pub end_of : ℕ → Body → ℕ
+end_of low (Three lits) = low
+end_of low (Listed start len hint) = start + len
+
+-- the literals of rows stand from one place to another, those of each behind those of the ones before
+abbrev pub AreLaid : ℕ → ℕ → List Row → Type 0
+AreLaid low high [] = low ≤ high
+AreLaid low high (r ∷ rs) = IsFrom low r.body × AreLaid (end_of low r.body) high rs

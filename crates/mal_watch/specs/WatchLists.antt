@@ -1,5 +1,6 @@
-use Rattle.std.specs.Prelude.{◌≡◌, ℕ, zero, suc, ◌<◌, ◌⊎◌, true, eqb, List, [], ◌∷◌, length, slice_index, slice_index_or, Option, Some, None}
+use Rattle.std.specs.Prelude.{◌≡◌, ℕ, zero, suc, ◌<◌, ◌≤◌, ◌⊎◌, All, true, eqb, List, [], ◌∷◌, length, slice_index, slice_index_or, Option, Some, None}
 use Rattle.std.specs.List.{list_any}
+use Rattle.mal_watch.specs.Links.{nowhere}
 
 -- nodes in lists: each node's literal, the nodes that are out of the lists, how many lists there are, and how many nodes
 -- more there is room for
@@ -49,3 +50,8 @@ pub record IsChained (heads links : List (Option ℕ)) (keys : List ℕ) (taken 
   pub once : (key : ℕ) → AreOnce (lists key)
   pub out_once : AreOnce (chain links (length links) taken)
   pub long : length keys ≡ length links
+
+-- there are no more nodes than numbers for them, and a list for the literal of each
+pub record AreListed (lists : ℕ) (keys : List ℕ) : Type 0 where
+  pub few : length keys ≤ nowhere
+  pub below : All (λ key. key < lists) keys

@@ -1,11 +1,16 @@
 //! The watched clauses, in the order in which they came.
 
-ghost use Rattle.std.specs.Prelude.{◌≡◌, ℕ, ◌+◌, ◌≤◌, ◌<◌, List, [], ◌∷◌, ◌++◌, length, take, drop, slice_index_or, OnOk, vec_len, vec_capacity};
+ghost use Rattle.std.specs.Prelude.{◌≡◌, ℕ, ◌+◌, ◌≤◌, ◌<◌, List, [], ◌∷◌, ◌++◌, length, take, drop, filter, slice_index_or, OnOk, vec_len, vec_capacity};
+ghost use Rattle.std.specs.List.{SameBelow, SameFrom};
+ghost use Rattle.std.specs.List.Sorted.{IsNonDecreasing};
+ghost use Rattle.spec_node.specs.Adding.{forgetting};
+ghost use Rattle.mal_watch.specs.Leaving.{is_left};
 ghost use Rattle.mal_watch.specs.Watching.{no_row};
-ghost use Rattle.mal_watch.specs.Rowed.{lits_in, IsBody, AreRows, clauses_in};
+ghost use Rattle.mal_watch.specs.Rowed.{lits_in, clause_in, IsBody, AreRows, clauses_in, IsFrom, end_of, AreLaid};
 ghost use Rattle.mal_watch.specs.declared.clause_arena.Row.{Row};
 
 use mal_base::{ClauseId, Lit};
+use mal_store::is_among;
 use std::alloc::{AllocError, Global};
 use std::marker::Model;
 
@@ -39,7 +44,7 @@ pub struct ClauseArena {
 impl Model for ClauseArena {
     ghost use Rattle.std.specs.Prelude.{◌-◌, ◌≤◌, length, min};
     ghost use Rattle.std.specs.Vec.{vec_len, vec_capacity};
-    ghost use Rattle.mal_watch.specs.Rowed.{Rowed, AreRows, clauses_in};
+    ghost use Rattle.mal_watch.specs.Rowed.{Rowed, AreLaid, clauses_in};
 
     ghost Value = { Rowed };
 
@@ -49,7 +54,7 @@ impl Model for ClauseArena {
       literal_room = min (vec_capacity s.literals - vec_len s.literals) (4294967295 - vec_len s.literals);
     } };
 
-    ghost invariant = { λ s. AreRows (length s.literals.items) s.rows.items × (length s.literals.items ≤ 4294967295) };
+    ghost invariant = { λ s. AreLaid 0 (length s.literals.items) s.rows.items × (length s.literals.items ≤ 4294967295) };
 }
 
 impl ClauseArena {
@@ -98,6 +103,17 @@ impl ClauseArena {
         self.rows.push_reserved(Row { id, body });
     }
 
+    /// Gives up the clauses of these numbers, which rise, and closes the gaps. Takes no memory.
+    pub fn forget(&mut self, ids: &[ClauseId])
+        requires { IsNonDecreasing ids.now }
+        ensures clauses { self.new.clauses ≡ forgetting ids.now self.old.clauses }
+        ensures clause_room { self.old.clause_room ≤ self.new.clause_room }
+        ensures literal_room { self.old.literal_room ≤ self.new.literal_room }
+    {
+        take_away(&mut self.rows, ids);
+        close_up(&mut self.rows, &mut self.literals);
+    }
+
     /// The number of the clause at a place, counted from 0.
     pub fn id(&self, place: usize) -> ClauseId
         requires { place < length self.now.clauses }
@@ -136,12 +152,75 @@ impl ClauseArena {
     }
 }
 
+/// Takes the rows of these numbers, which rise, away. Takes no memory.
+fn take_away(rows: &mut Vec<Row>, ids: &[ClauseId])
+    requires { IsNonDecreasing ids.now }
+    ensures items { (literals : List ℕ) → rows.new.items ≡ filter (λ r. is_left ids.now (clause_in literals r)) rows.old.items }
+    ensures capacity { vec_capacity rows.new ≡ vec_capacity rows.old }
+    ensures len { vec_len rows.new ≤ vec_len rows.old }
+{
+    rows.retain(|row| !is_among(ids, row.id));
+}
+
+/// Moves the literals of rows down, until there is no gap between them. Takes no memory.
+fn close_up(rows: &mut Vec<Row>, literals: &mut Vec<Lit>)
+    requires laid { AreLaid 0 (length literals.old.items) rows.old.items }
+    requires few { length literals.old.items ≤ 4294967295 }
+    ensures clauses { clauses_in literals.new.items rows.new.items ≡ clauses_in literals.old.items rows.old.items }
+    ensures laid { AreLaid 0 (length literals.new.items) rows.new.items }
+    ensures rows { vec_len rows.new ≡ vec_len rows.old }
+    ensures row_room { vec_capacity rows.new ≡ vec_capacity rows.old }
+    ensures literals { vec_len literals.new ≤ vec_len literals.old }
+    ensures room { vec_capacity literals.new ≡ vec_capacity literals.old }
+{
+    let mut end = 0;
+    for place in 0..rows.len() {
+        let row = rows[place];
+        let (body, behind) = move_down(literals, row.body, end);
+        rows[place] = Row { id: row.id, body };
+        end = behind;
+    }
+    literals.truncate(end);
+}
+
+/// Moves the literals of a clause down to a place. Tells where they stand then, and where the place behind them is.
+/// Takes no memory.
+fn move_down(literals: &mut Vec<Lit>, body: Body, place: usize) -> (Body, usize)
+    requires from { IsFrom place body }
+    requires within { IsBody (length literals.old.items) body }
+    requires few { length literals.old.items ≤ 4294967295 }
+    ensures lits { lits_in literals.new.items result.0 ≡ lits_in literals.old.items body }
+    ensures from { IsFrom place result.0 }
+    ensures end { result.1 ≡ end_of place result.0 }
+    ensures lower { result.1 ≤ end_of place body }
+    ensures below { SameBelow literals.old.items literals.new.items place }
+    ensures above { SameFrom literals.old.items literals.new.items (end_of place body) }
+    ensures len { vec_len literals.new ≡ vec_len literals.old }
+    ensures capacity { vec_capacity literals.new ≡ vec_capacity literals.old }
+{
+    match body {
+        Body::Three(_) => (body, place),
+        Body::Listed { start, len, hint } => {
+            let first = start as usize;
+            let count = len as usize;
+            literals.copy_within(first..first + count, place);
+            let moved = Body::Listed {
+                start: place as u32,
+                len,
+                hint,
+            };
+            (moved, place + count)
+        }
+    }
+}
+
 /// Puts the literals of a clause behind the others, unless they are three. Tells where they stand. Takes no memory.
 fn body_of(literals: &mut Vec<Lit>, lits: &[Lit]) -> Body
     requires room { vec_len literals.old + length lits.now ≤ vec_capacity literals.old }
     requires few { vec_len literals.old + length lits.now ≤ 4294967295 }
     ensures lits { lits_in literals.new.items result ≡ lits.now }
-    ensures within { IsBody (length literals.new.items) result }
+    ensures from { IsFrom (length literals.old.items) result }
+    ensures end { end_of (length literals.old.items) result ≡ length literals.new.items }
     ensures rows { (rs : List Row) → AreRows (length literals.old.items) rs → AreRows (length literals.new.items) rs × (clauses_in literals.new.items rs ≡ clauses_in literals.old.items rs) }
     ensures len { vec_len literals.new ≤ vec_len literals.old + length lits.now }
     ensures capacity { vec_capacity literals.new ≡ vec_capacity literals.old }
@@ -157,7 +236,8 @@ fn list(literals: &mut Vec<Lit>, lits: &[Lit]) -> Body
     requires room { vec_len literals.old + length lits.now ≤ vec_capacity literals.old }
     requires few { vec_len literals.old + length lits.now ≤ 4294967295 }
     ensures lits { lits_in literals.new.items result ≡ lits.now }
-    ensures within { IsBody (length literals.new.items) result }
+    ensures from { IsFrom (length literals.old.items) result }
+    ensures end { end_of (length literals.old.items) result ≡ length literals.new.items }
     ensures items { literals.new.items ≡ literals.old.items ++ lits.now }
     ensures capacity { vec_capacity literals.new ≡ vec_capacity literals.old }
 {
@@ -185,7 +265,8 @@ fn lits_of<'a>(literals: &'a [Lit], body: &'a Body) -> &'a [Lit]
 fn with_hint(row: Row, hint: usize) -> Row
     ensures id { result.id ≡ row.id }
     ensures lits { (literals : List ℕ) → lits_in literals result.body ≡ lits_in literals row.body }
-    ensures within { (count : ℕ) → IsBody count row.body → IsBody count result.body }
+    ensures from { (low : ℕ) → IsFrom low row.body → IsFrom low result.body }
+    ensures end { (low : ℕ) → end_of low result.body ≡ end_of low row.body }
 {
     match row.body {
         Body::Three(_) => row,

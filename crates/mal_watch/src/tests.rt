@@ -69,6 +69,18 @@ fn add<E: Engine>(run: &mut Run<E>, id: ClauseId, clause: &Clause) -> Result<(),
     Ok(())
 }
 
+/// Gives up the clauses of these numbers.
+fn give_up<E: Engine>(run: &mut Run<E>, ids: &mut [ClauseId])
+    requires fits { E.fits run.old.engine run.old.trail.entries run.old.trail.processed }
+    requires within { are_within run.old.trail.room (E.clauses run.old.engine) ≡ true }
+    requires room { 16 ≤ run.old.trail.room }
+    ensures fits { E.fits run.new.engine run.new.trail.entries run.new.trail.processed }
+    ensures within { are_within run.new.trail.room (E.clauses run.new.engine) ≡ true }
+    ensures room { 16 ≤ run.new.trail.room }
+{
+    run.engine.forget(ids);
+}
+
 /// Decides a literal of the variables 1 to 16 that has no value.
 fn decide<E: Engine>(run: &mut Run<E>, lit: Lit) -> Result<(), Fail>
     requires fits { E.fits run.old.engine run.old.trail.entries run.old.trail.processed }
@@ -214,6 +226,55 @@ fn a_clause_behind_a_trail_is_found_after_a_cut(rt: HostRuntime) -> Result<(), F
     Ok(())
 }
 
+/// The trail after decision 1 over `-1 2`, `-1 3 -4` and `-1 4` under the numbers 1, 2 and 3, of which these were given
+/// up.
+fn without<E: Engine>(alloc: Global, ids: &mut [ClauseId]) -> Result<Vec<TrailEntry>, Fail> {
+    let mut run: Run<E> = begin(alloc)?;
+    let to_second = clause(alloc, &[-1, 2])?.ok_or("no clause")?;
+    let to_third = clause(alloc, &[-1, 3, -4])?.ok_or("no clause")?;
+    let to_fourth = clause(alloc, &[-1, 4])?.ok_or("no clause")?;
+    add(&mut run, ClauseId::original(1), &to_second)?;
+    add(&mut run, ClauseId::original(2), &to_third)?;
+    add(&mut run, ClauseId::original(3), &to_fourth)?;
+    give_up(&mut run, ids);
+    decide(&mut run, Var::of(1).literal(true))?;
+    let mut log = Vec::new(alloc);
+    propagate(&mut run, &mut log)?;
+    Ok(Vec::from_slice(alloc, run.trail.entries())?)
+}
+
+#[test]
+fn a_clause_given_up_forces_nothing(rt: HostRuntime) -> Result<(), Fail> {
+    let alloc = rt.alloc();
+    let decision = TrailEntry {
+        lit: Var::of(1).literal(true),
+        reason: None,
+        level: 1,
+    };
+    let first = ClauseId::original(1);
+    let second = ClauseId::original(2);
+    let fourth = ClauseId::original(4);
+    let last_two = [decision, forced(4, 3), forced(3, 2)];
+    let last = [decision, forced(4, 3)];
+    assert_eq!(rt;
+        without::<Watch>(alloc, &mut [fourth, first])?.as_slice(),
+        last_two.as_slice()
+    );
+    assert_eq!(rt;
+        without::<Scan>(alloc, &mut [fourth, first])?.as_slice(),
+        last_two.as_slice()
+    );
+    assert_eq!(rt;
+        without::<Watch>(alloc, &mut [second, first])?.as_slice(),
+        last.as_slice()
+    );
+    assert_eq!(rt;
+        without::<Scan>(alloc, &mut [second, first])?.as_slice(),
+        last.as_slice()
+    );
+    Ok(())
+}
+
 /// The next of a row of numbers that look random.
 fn next(state: u64) -> u64 {
     state
@@ -275,6 +336,29 @@ fn turn<E: Engine>(run: &mut Run<E>, state: u64) -> Result<(), Fail>
     decide(run, var.literal((state >> 30) % 2 == 0))
 }
 
+/// Gives up three clauses of numbers up to this one, as they come.
+fn forget_some<E: Engine>(run: &mut Run<E>, id: u32, state: u64)
+    requires number { 1 ≤ id }
+    requires fits { E.fits run.old.engine run.old.trail.entries run.old.trail.processed }
+    requires within { are_within run.old.trail.room (E.clauses run.old.engine) ≡ true }
+    requires room { 16 ≤ run.old.trail.room }
+    ensures fits { E.fits run.new.engine run.new.trail.entries run.new.trail.processed }
+    ensures within { are_within run.new.trail.room (E.clauses run.new.engine) ≡ true }
+    ensures room { 16 ≤ run.new.trail.room }
+{
+    if id % 6 != 0 {
+        return;
+    }
+    let some = ((state >> 25) % u64::from(id)) as u32;
+    let other = ((state >> 45) % u64::from(id)) as u32;
+    let mut ids = [
+        ClauseId::original(some + 1),
+        ClauseId::original(id / 2),
+        ClauseId::original(other + 1),
+    ];
+    give_up(run, &mut ids);
+}
+
 /// Propagates, and goes back to level 0 where there is a conflict.
 fn settle<E: Engine>(run: &mut Run<E>, log: &mut Vec<TrailEntry>) -> Result<(), Fail>
     requires fits { E.fits run.old.engine run.old.trail.entries run.old.trail.processed }
@@ -291,7 +375,8 @@ fn settle<E: Engine>(run: &mut Run<E>, log: &mut Vec<TrailEntry>) -> Result<(), 
     Ok(())
 }
 
-/// The trails after each batch of a run over random clauses, with random decisions, cuts, and clauses added behind.
+/// The trails after each batch of a run over random clauses, with random decisions, cuts, clauses added behind, and
+/// clauses given up.
 fn random_run<E: Engine>(alloc: Global, seed: u64) -> Result<Vec<TrailEntry>, Fail> {
     let mut run: Run<E> = begin(alloc)?;
     let mut log = Vec::new(alloc);
@@ -301,6 +386,7 @@ fn random_run<E: Engine>(alloc: Global, seed: u64) -> Result<Vec<TrailEntry>, Fa
         add_random(&mut run, alloc, ClauseId::original(id), state)?;
         turn(&mut run, state)?;
         settle(&mut run, &mut log)?;
+        forget_some(&mut run, id, state);
     }
     Ok(log)
 }

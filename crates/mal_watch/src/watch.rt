@@ -159,6 +159,12 @@ impl Engine for Watch {
         self.add(id, lits, trail);
     }
 
+    fn forget(&mut self, ids: &mut [ClauseId]) {
+        self.store.forget(ids);
+        self.chains.forget(&self.rows, ids);
+        self.rows.forget(ids);
+    }
+
     fn propagate_one(&mut self, trail: &mut Trail) -> Option<ClauseId> {
         let conflict = self.handle_next(trail);
         let processed = trail.processed();

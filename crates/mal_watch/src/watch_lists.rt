@@ -1,10 +1,15 @@
 //! Lists of nodes, linked in place: a node moves from one list to another without memory.
 
-ghost use Rattle.std.specs.Prelude.{◌≡◌, ℕ, ◌+◌, ◌≤◌, ◌<◌, List, [], ◌∷◌, ◌++◌, length, drop, slice_index, slice_set, OnOk, IfSome, MatchOption, ◌↔◌};
-ghost use Rattle.mal_watch.specs.WatchLists.{Has, AreOnce, IsAt};
+ghost use Rattle.std.specs.Prelude.{◌≡◌, ℕ, ◌+◌, ◌≤◌, ◌<◌, List, [], ◌∷◌, ◌++◌, length, drop, replicate, slice_index, slice_set, None, OnOk, IfSome, MatchOption, ◌↔◌, vec_len, vec_capacity};
+ghost use Rattle.std.specs.List.Sorted.{IsNonDecreasing};
+ghost use Rattle.mal_watch.specs.Leaving.{pairs_left};
+ghost use Rattle.mal_watch.specs.Nodes.{links_of, keys_of};
+ghost use Rattle.mal_watch.specs.WatchLists.{Has, AreOnce, IsAt, IsChained, AreListed};
 
+use crate::clause_arena::ClauseArena;
 use crate::link::Link;
-use mal_base::Lit;
+use mal_base::{ClauseId, Lit};
+use mal_store::is_among;
 use std::alloc::{AllocError, Global};
 use std::marker::Model;
 
@@ -31,7 +36,7 @@ pub struct WatchLists {
 impl Model for WatchLists {
     ghost use Rattle.std.specs.Prelude.{◌-◌, length, min};
     ghost use Rattle.std.specs.Vec.{vec_len, vec_capacity};
-    ghost use Rattle.mal_watch.specs.WatchLists.{Chained, IsChained, chain};
+    ghost use Rattle.mal_watch.specs.WatchLists.{Chained, IsChained, AreListed, chain};
     ghost use Rattle.mal_watch.specs.Links.{nowhere};
     ghost use Rattle.mal_watch.specs.Nodes.{links_of, keys_of};
 
@@ -44,7 +49,7 @@ impl Model for WatchLists {
       room = min (vec_capacity c.nodes - vec_len c.nodes) (nowhere - vec_len c.nodes);
     } };
 
-    ghost invariant = { λ c. IsChained c.heads.items (links_of c.nodes.items) (keys_of c.nodes.items) c.taken };
+    ghost invariant = { λ c. IsChained c.heads.items (links_of c.nodes.items) (keys_of c.nodes.items) c.taken × AreListed (length c.heads.items) (keys_of c.nodes.items) };
 }
 
 impl WatchLists {
@@ -142,5 +147,58 @@ impl WatchLists {
         self.taken = next;
         self.nodes[node] = Node { link, key };
         self.heads[list] = first;
+    }
+
+    /// Gives up the nodes of the clauses of these numbers, which rise, where each clause has two nodes, in order. The
+    /// others are in the lists of their literals afterwards, and none is out. Takes no memory.
+    pub fn forget(&mut self, rows: &ClauseArena, ids: &[ClauseId])
+        requires { IsNonDecreasing ids.now }
+        ensures keys { self.new.keys ≡ pairs_left ids.now rows.now.clauses self.old.keys }
+        ensures out { self.new.out ≡ [] }
+        ensures lists { self.new.lists ≡ self.old.lists }
+        ensures room { self.old.room ≤ self.new.room }
+    {
+        keep_pairs(&mut self.nodes, rows, ids);
+        self.heads.fill(Link::none());
+        self.taken = Link::none();
+        link_all(&mut self.heads, &mut self.nodes);
+    }
+}
+
+/// Keeps of nodes, two for each clause, those of the clauses without these numbers, which rise. Takes no memory.
+fn keep_pairs(nodes: &mut Vec<Node>, rows: &ClauseArena, ids: &[ClauseId])
+    requires { IsNonDecreasing ids.now }
+    ensures items { nodes.new.items ≡ pairs_left ids.now rows.now.clauses nodes.old.items }
+    ensures len { vec_len nodes.new ≤ vec_len nodes.old }
+    ensures capacity { vec_capacity nodes.new ≡ vec_capacity nodes.old }
+{
+    let mut kept = 0;
+    for place in 0..rows.len().min(nodes.len() / 2) {
+        if !is_among(ids, rows.id(place)) {
+            let first = nodes[2 * place];
+            let second = nodes[2 * place + 1];
+            nodes[kept] = first;
+            nodes[kept + 1] = second;
+            kept += 2;
+        }
+    }
+    nodes.truncate(kept);
+}
+
+/// Links nodes into the lists of their literals, which are empty.
+fn link_all(heads: &mut Vec<Link>, nodes: &mut Vec<Node>)
+    requires empty { heads.old.items ≡ replicate (vec_len heads.old) None }
+    requires listed { AreListed (vec_len heads.old) (keys_of nodes.old.items) }
+    ensures chained { IsChained heads.new.items (links_of nodes.new.items) (keys_of nodes.new.items) None }
+    ensures keys { keys_of nodes.new.items ≡ keys_of nodes.old.items }
+    ensures lists { vec_len heads.new ≡ vec_len heads.old }
+    ensures capacity { vec_capacity nodes.new ≡ vec_capacity nodes.old }
+{
+    for place in 0..nodes.len() {
+        let key = nodes[place].key;
+        let list = key.code() as usize;
+        let link = heads[list];
+        nodes[place] = Node { link, key };
+        heads[list] = Link::to(place);
     }
 }

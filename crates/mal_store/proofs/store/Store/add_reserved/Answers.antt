@@ -1,6 +1,7 @@
 use Rattle.std.proofs.Common.{ℕ, ◌<◌, ◌≤◌, ◌-◌, length, get_or, arith, vec_len, vec_capacity, ◌∙◌}
 use Rattle.mal_store.specs.declared.slot.Slot.{Slot}
 use Rattle.mal_store.proofs.SlotLemmas.{add-slot, insert_items}
+use Rattle.mal_store.proofs.ApartLemmas.{apart-insert, fits-insert}
 use Rattle.mal_store.proofs.store.Store.add_reserved.Goals as goal
 
 pub invariant_of-self : goal.invariant_of-self
@@ -12,7 +13,7 @@ invariant_of-self c =
     let new = rw (← c.self.view_is) at c.requires.new in
     let room : 1 ≤ vec_capacity s.slots - vec_len s.slots = rw (← c.self.view_is) at c.requires.clause_room in
     let more = add-slot s.literals.items c.args.lits.now c.args.id c.len.result _ s.slots.items c.place_of-place.result c.self.invariant.within c.self.invariant.rising c.place_of-place.ensures.some (omega (arith, c.len.ensures)) (omega arith) new bound below above in
-    rw (c.append_reserved.ensures.items, c.insert.ensures.items ∙ insert_items c.insert.result _ _ (c.insert.ensures.succeeds (omega arith))) (record { within = more.within; rising = more.rising })
+    rw (c.append_reserved.ensures.items, c.insert.ensures.items ∙ insert_items c.insert.result _ _ (c.insert.ensures.succeeds (omega arith))) (record { within = more.within; fits = fits-insert s.literals.items c.args.lits.now c.place_of-place.result _ s.slots.items (omega arith) c.self.invariant.fits; apart = apart-insert (length s.literals.items) c.place_of-place.result _ s.slots.items c.self.invariant.within (omega (arith, c.len.ensures)) c.self.invariant.apart; rising = more.rising })
 
 pub returns-clause-clauses : goal.returns-clause-clauses
 returns-clause-clauses c =

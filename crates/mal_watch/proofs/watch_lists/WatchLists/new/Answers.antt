@@ -1,18 +1,8 @@
-use Rattle.std.proofs.Common.{refl, [], arith}
-use Rattle.mal_watch.proofs.HasLemmas.{has-none}
+use Rattle.std.proofs.Common.{arith}
+use Rattle.std.specs.Prelude.{ℕ, ◌<◌}
+use Rattle.std.proofs.lemmas.List.Elements.{All-nil}
+use Rattle.mal_watch.proofs.ListedLemmas.{none-chained}
 use Rattle.mal_watch.proofs.watch_lists.WatchLists.new.Goals as goal
 
 pub invariant_of-result : goal.invariant_of-result
-invariant_of-result c =
-    rw (c.new.ensures.items, c.new-2.ensures.items, c.none.ensures)
-    (record {
-      lists = λ key. [];
-      linked = λ key. refl;
-      out = refl;
-      home = λ key k h. absurd (has-none k h);
-      apart = λ key k h o. has-none k h;
-      each = λ k h. absurd (omega arith);
-      once = λ key. tt;
-      out_once = tt;
-      long = refl;
-    })
+invariant_of-result c = rw (c.new.ensures.items, c.new-2.ensures.items, c.none.ensures) (none-chained 0, record { few = omega arith; below = All-nil (λ (k : ℕ). k < 0) })

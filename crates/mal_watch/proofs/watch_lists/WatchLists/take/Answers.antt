@@ -1,5 +1,5 @@
 use Rattle.std.proofs.Common.{◌≡◌, ◌<◌, length, [], None, arith}
-use Rattle.std.proofs.lemmas.List.{get_or_read}
+use Rattle.std.proofs.lemmas.List.{get_or_read, length-set}
 use Rattle.mal_watch.specs.WatchLists.{link_at, chain}
 use Rattle.mal_watch.specs.Nodes.{links_of, keys_of}
 use Rattle.mal_watch.proofs.ChainLemmas.{took, took-none}
@@ -11,7 +11,7 @@ invariant_of-self c =
     let none : chain (links_of s.nodes.items) (length (links_of s.nodes.items)) s.taken ≡ [] = rw (← c.self.view_is) at c.requires in
     let inside : c.code-list.result < length s.heads.items = omega (arith, c.if-list-len.true, c.len.ensures) in
     let head : c.index.result.now ≡ link_at s.heads.items c.code-list.result = get_or_read s.heads.items c.code-list.result c.index.result.now inside c.index.ensures None in
-    rw c.none.ensures (took s.heads.items (links_of s.nodes.items) (keys_of s.nodes.items) s.taken c.args.key c.code-list.result c.index.result.now c.self.invariant none c.code-list.ensures.value inside head).0
+    (rw c.none.ensures (took s.heads.items (links_of s.nodes.items) (keys_of s.nodes.items) s.taken c.args.key c.code-list.result c.index.result.now c.self.invariant.0 none c.code-list.ensures.value inside head).0, rw (length-set s.heads.items c.code-list.result c.none.result) c.self.invariant.1)
 
 pub returns-then-list-len-clause-nodes : goal.returns-then-list-len-clause-nodes
 returns-then-list-len-clause-nodes c =
@@ -19,7 +19,7 @@ returns-then-list-len-clause-nodes c =
     let none : chain (links_of s.nodes.items) (length (links_of s.nodes.items)) s.taken ≡ [] = rw (← c.self.view_is) at c.requires in
     let inside : c.code-list.result < length s.heads.items = omega (arith, c.if-list-len.true, c.len.ensures) in
     let head : c.index.result.now ≡ link_at s.heads.items c.code-list.result = get_or_read s.heads.items c.code-list.result c.index.result.now inside c.index.ensures None in
-    (took s.heads.items (links_of s.nodes.items) (keys_of s.nodes.items) s.taken c.args.key c.code-list.result c.index.result.now c.self.invariant none c.code-list.ensures.value inside head).1
+    (took s.heads.items (links_of s.nodes.items) (keys_of s.nodes.items) s.taken c.args.key c.code-list.result c.index.result.now c.self.invariant.0 none c.code-list.ensures.value inside head).1
 
 pub returns-then-list-len-clause-once : goal.returns-then-list-len-clause-once
 returns-then-list-len-clause-once c =
@@ -27,10 +27,10 @@ returns-then-list-len-clause-once c =
     let none : chain (links_of s.nodes.items) (length (links_of s.nodes.items)) s.taken ≡ [] = rw (← c.self.view_is) at c.requires in
     let inside : c.code-list.result < length s.heads.items = omega (arith, c.if-list-len.true, c.len.ensures) in
     let head : c.index.result.now ≡ link_at s.heads.items c.code-list.result = get_or_read s.heads.items c.code-list.result c.index.result.now inside c.index.ensures None in
-    (took s.heads.items (links_of s.nodes.items) (keys_of s.nodes.items) s.taken c.args.key c.code-list.result c.index.result.now c.self.invariant none c.code-list.ensures.value inside head).2
+    (took s.heads.items (links_of s.nodes.items) (keys_of s.nodes.items) s.taken c.args.key c.code-list.result c.index.result.now c.self.invariant.0 none c.code-list.ensures.value inside head).2
 
 pub returns-else-list-len-clause-nodes : goal.returns-else-list-len-clause-nodes
 returns-else-list-len-clause-nodes c =
     let s = c.self.inside in
     let none : chain (links_of s.nodes.items) (length (links_of s.nodes.items)) s.taken ≡ [] = rw (← c.self.view_is) at c.requires in
-    rw (← c.self.view_is) (took-none s.heads.items (links_of s.nodes.items) (keys_of s.nodes.items) s.taken c.args.key _ c.self.invariant none (omega (arith, c.if-list-len.false, c.len.ensures, c.code-list.ensures.value)) none)
+    rw (← c.self.view_is) (took-none s.heads.items (links_of s.nodes.items) (keys_of s.nodes.items) s.taken c.args.key _ c.self.invariant.0 none (omega (arith, c.if-list-len.false, c.len.ensures, c.code-list.ensures.value)) none)

@@ -1,0 +1,11 @@
+use Rattle.std.proofs.Common.{◌≡◌, vec_len, vec_capacity}
+use Rattle.mal_watch.proofs.ListedLemmas.{IsKeeping}
+use Rattle.mal_watch.proofs.watch_lists.keep_pairs.Given as goal
+
+abbrev pub invariant-loop-place : goal.invariant-loop-place
+invariant-loop-place l =
+    record {
+      keeping : IsKeeping l.ids l.rows.clauses l.fn.nodes.items l.nodes.items l.kept l.place;
+      len : vec_len l.nodes ≡ vec_len l.fn.nodes;
+      capacity : vec_capacity l.nodes ≡ vec_capacity l.fn.nodes;
+    }
