@@ -7,3 +7,6 @@ mod SortLemmas
 mod AnalysedLemmas
 mod TraceLemmas
 mod ShortenLemmas
+mod ReasonLemmas
+mod ChoiceLemmas
+mod ProfileLemmas

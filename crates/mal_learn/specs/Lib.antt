@@ -3,3 +3,5 @@ pub mod Working
 pub mod Shown
 pub mod Tracing
 pub mod Shortening
+pub mod Choosing
+pub mod Lending

@@ -10,12 +10,14 @@ pub record Work : Type 0 where
   pub room : ℕ
 
 -- what an analysis leaves: the clause, its hints, the level to jump to, and the bound below which there is room for each
--- variable, 0 before there is any
+-- variable, 0 before there is any; and for the numbers of how many clauses there is room, and which were chosen last
 pub record Shown : Type 0 where
   pub clause : List ℕ
   pub hints : List ℕ
   pub level : ℕ
   pub room : ℕ
+  pub ids : ℕ
+  pub chosen : List ℕ
 
 -- there is a flag of each kind for each variable, and room for literals and hints
 pub record IsFitted (room seen here lits hints : ℕ) : Type 0 where
@@ -24,6 +26,11 @@ pub record IsFitted (room seen here lits hints : ℕ) : Type 0 where
   pub here_fits : room ≤ here
   pub lits_fit : room ≤ lits + 1
   pub hints_fit : room ≤ hints
+
+-- among how many clauses there is room to choose, and the numbers of those that were chosen last
+pub record Choice : Type 0 where
+  pub ids : ℕ
+  pub chosen : List ℕ
 
 -- literals and entries of the variables below a bound
 abbrev pub AreWithin : ℕ → List ℕ → Type 0

@@ -6,6 +6,7 @@ ghost use Rattle.spec_learn.specs.Analysis.{analysed, core, reached, top};
 ghost use Rattle.spec_learn.specs.Shorter.{shortened};
 ghost use Rattle.mal_learn.specs.Shown.{ClausesWithin, last_of};
 
+use crate::dropping::Choice;
 use crate::flags::Flags;
 use crate::work::{Work, mark_level};
 use mal_base::{ClauseId, ClauseView, Lit, TrailView};
@@ -13,12 +14,14 @@ use std::alloc::{AllocError, Global};
 use std::marker::Model;
 
 /// What an analysis works in, and what the last one left: a derived clause, its hints and the level to jump to. Contracts
-/// see these and the bound below which there is room for each variable, 0 before the first `fit`. What else a scratch
-/// holds never changes an analysis.
+/// see these and the bound below which there is room for each variable, 0 before the first `fit`; then for how many
+/// clauses there is room to choose among them, 0 before the first `fit_ids`, and those that were chosen last. What else a
+/// scratch holds never changes an analysis.
 #[derive(Drop)]
 pub struct Scratch {
     work: Work,
     base: Flags,
+    pub choice: Choice,
 }
 
 impl Model for Scratch {
@@ -27,12 +30,22 @@ impl Model for Scratch {
 
     ghost Value = { Shown };
 
-    ghost view = { λ s. record { clause = s.work.state.lits; hints = s.work.state.hints; level = s.work.state.level; room = s.work.room } };
+    ghost view = { λ s. record {
+      clause = s.work.state.lits;
+      hints = s.work.state.hints;
+      level = s.work.state.level;
+      room = s.work.room;
+      ids = s.choice.ids;
+      chosen = s.choice.chosen;
+    } };
 
     ghost invariant = { λ s. s.work.room ≤ length s.base };
 }
 
 impl Scratch {
+    ghost use Rattle.std.specs.Borrow.{sem};
+    ghost use Rattle.mal_learn.specs.Lending.{ScratchLends};
+
     /// A scratch without room. Takes no memory.
     pub fn new(alloc: Global) -> Scratch
         ensures { result.room ≡ 0 }
@@ -40,6 +53,7 @@ impl Scratch {
         Scratch {
             work: Work::new(alloc),
             base: Flags::new(alloc),
+            choice: Choice::new(alloc),
         }
     }
 
@@ -51,9 +65,31 @@ impl Scratch {
         ensures clause { self.new.clause ≡ self.old.clause }
         ensures hints { self.new.hints ≡ self.old.hints }
         ensures level { self.new.level ≡ self.old.level }
+        ensures id_room { self.new.ids ≡ self.old.ids }
     {
         self.base.fit(variables as usize + 1)?;
         self.work.fit(variables + 1)
+    }
+
+    /// Makes room to choose among so many clauses. What the last analysis left stays; what was chosen is forgotten.
+    pub fn fit_ids(&mut self, ids: usize) -> Result<(), AllocError>
+        ensures ids { OnOk result (ids ≤ self.new.ids) }
+        ensures more { self.old.ids ≤ self.new.ids }
+        ensures chosen { self.new.chosen ≡ [] }
+        ensures room { self.new.room ≡ self.old.room }
+        ensures clause { self.new.clause ≡ self.old.clause }
+        ensures hints { self.new.hints ≡ self.old.hints }
+        ensures level { self.new.level ≡ self.old.level }
+    {
+        self.choice.fit(ids)
+    }
+
+    /// The numbers of the clauses that were chosen last, to be put in another order. All else stays.
+    pub fn chosen_mut(&mut self) -> &mut [ClauseId]
+        ensures* writes_back { sem 𝓛 (ScratchLends self.entry result) }
+        ensures value { result.now ≡ self.old.chosen }
+    {
+        self.choice.chosen_mut()
     }
 
     /// The literals of the clause, in order.
@@ -94,6 +130,7 @@ pub fn analyse<T: TrailView, C: ClauseView>(
     ensures hints { scratch.new.hints ≡ (analysed (C.clauses clauses.now) (reverse (T.entries trail.now)) conflict).hints }
     ensures level { scratch.new.level ≡ (analysed (C.clauses clauses.now) (reverse (T.entries trail.now)) conflict).level }
     ensures room { scratch.new.room ≡ scratch.old.room }
+    ensures id_room { scratch.new.ids ≡ scratch.old.ids }
 {
     let level = current_level(trail);
     scratch.work.begin(trail, clauses, conflict, level);
@@ -113,6 +150,7 @@ pub fn shorten<T: TrailView, C: ClauseView>(trail: &T, clauses: &C, scratch: &mu
     ensures hints { scratch.new.hints ≡ (shortened (C.clauses clauses.now) (reverse (T.entries trail.now)) (last_of scratch.old.hints)).hints }
     ensures level { scratch.new.level ≡ (shortened (C.clauses clauses.now) (reverse (T.entries trail.now)) (last_of scratch.old.hints)).level }
     ensures room { scratch.new.room ≡ scratch.old.room }
+    ensures id_room { scratch.new.ids ≡ scratch.old.ids }
 {
     let conflict = scratch.work.last_hint();
     let level = current_level(trail);
@@ -141,6 +179,7 @@ pub fn final_core<T: TrailView, C: ClauseView>(
     ensures hints { scratch.new.hints ≡ (core (C.clauses clauses.now) (reverse (T.entries trail.now)) assumption).hints }
     ensures level { scratch.new.level ≡ (core (C.clauses clauses.now) (reverse (T.entries trail.now)) assumption).level }
     ensures room { scratch.new.room ≡ scratch.old.room }
+    ensures id_room { scratch.new.ids ≡ scratch.old.ids }
 {
     let negation = assumption.negate();
     let count = count_to(trail, negation);

@@ -1,4 +1,4 @@
-use Rattle.std.proofs.Common.{◌≡◌, ℕ, ◌+◌, ◌-◌, ◌≤◌, ◌∙◌, [], length, reverse, ap, subst, arith}
+use Rattle.std.proofs.Common.{◌≡◌, refl, ℕ, ◌+◌, ◌-◌, ◌≤◌, ◌∙◌, [], length, reverse, ap, subst, arith}
 use Rattle.std.proofs.lemmas.List.{length-reverse}
 use Rattle.spec_node.specs.Sound.{EachAfter, IsPlaced}
 use Rattle.spec_learn.specs.Analysis.{top}
@@ -56,4 +56,4 @@ returns g c =
     let is : s ≡ visited_all cs (top (reverse es)) (reverse es) (see_all (lits_of cs id) (start a b (top (reverse es)) id es)) = subst (λ (k : ℕ). s ≡ visited_all cs k (reverse es) (see_all (lits_of cs id) (start a b k id es))) c.current_level-level.ensures worked in
     let fits = c.begin.ensures.fits in
     let done : IsAnalysed cs (reverse es) id c.finish.new.self.state.lits c.finish.new.self.state.hints s.level = analysis-done n a b id cs es s c.finish.new.self.state.lits c.finish.new.self.state.hints some fits.small fits.seen_fits fits.here_fits within placed is c.finish.ensures.permutation c.finish.ensures.sorted c.finish.ensures.hints in
-    record { clause = done.clause; hints = done.hints_are; level = c.finish.ensures.level ∙ done.target; room = rw (← c.scratch.view_is) (c.finish.ensures.room ∙ (c.walk.ensures.room ∙ c.begin.ensures.room)) }
+    record { clause = done.clause; hints = done.hints_are; level = c.finish.ensures.level ∙ done.target; room = rw (← c.scratch.view_is) (c.finish.ensures.room ∙ (c.walk.ensures.room ∙ c.begin.ensures.room)); id_room = rw (← c.scratch.view_is) refl }

@@ -1,4 +1,4 @@
-use Rattle.std.proofs.Common.{◌≡◌, ℕ, ◌+◌, ◌-◌, ◌≤◌, ◌∙◌, [], length, reverse, take, ap, subst, arith}
+use Rattle.std.proofs.Common.{◌≡◌, refl, ℕ, ◌+◌, ◌-◌, ◌≤◌, ◌∙◌, [], length, reverse, take, ap, subst, arith}
 use Rattle.std.proofs.lemmas.List.{length-reverse}
 use Rattle.spec_node.specs.Sound.{EachAfter, IsPlaced}
 use Rattle.mal_base.specs.Literals.{negated}
@@ -54,4 +54,4 @@ returns g c =
     let at : reached (negated x) (reverse es) ≡ reverse (take k es) = subst (λ (l : ℕ). reached l (reverse es) ≡ reverse (take k es)) c.negate-negation.ensures c.count_to-count.ensures.is in
     let fits = c.begin_with.ensures.fits in
     let done : IsCored cs (reverse es) x c.finish.new.self.state.lits c.finish.new.self.state.hints s.level = core-done n a b x k cs es s c.finish.new.self.state.lits c.finish.new.self.state.hints fits.seen_fits fits.here_fits within small at is c.finish.ensures.permutation c.finish.ensures.sorted c.finish.ensures.hints in
-    record { clause = done.clause; hints = done.hints_are; level = c.finish.ensures.level ∙ done.target; room = rw (← c.scratch.view_is) (c.finish.ensures.room ∙ (c.trace_from.ensures.room ∙ c.begin_with.ensures.room)) }
+    record { clause = done.clause; hints = done.hints_are; level = c.finish.ensures.level ∙ done.target; room = rw (← c.scratch.view_is) (c.finish.ensures.room ∙ (c.trace_from.ensures.room ∙ c.begin_with.ensures.room)); id_room = rw (← c.scratch.view_is) refl }

@@ -1,4 +1,4 @@
-use Rattle.std.proofs.Common.{◌≡◌, ℕ, List, Bool, ◌+◌, ◌-◌, ◌<◌, ◌≤◌, ◌∙◌, [], false, length, reverse, replicate, get_or, ap, subst, arith}
+use Rattle.std.proofs.Common.{◌≡◌, refl, ℕ, List, Bool, ◌+◌, ◌-◌, ◌<◌, ◌≤◌, ◌∙◌, [], false, length, reverse, replicate, get_or, ap, subst, arith}
 use Rattle.std.proofs.lemmas.List.{length-reverse, length-replicate}
 use Rattle.std.proofs.lemmas.List.Elements.{All-weaker}
 use Rattle.mal_base.specs.Literals.{var_of}
@@ -82,4 +82,5 @@ returns g c =
       hints = done.hints_are ∙ ap (λ (i : ℕ). (shortened cs (reverse es) i).hints) last;
       level = c.finish.ensures.level ∙ (done.target ∙ ap (λ (i : ℕ). (shortened cs (reverse es) i).level) last);
       room = rw (← c.scratch.view_is) (c.finish.ensures.room ∙ (c.walk_shorter.ensures.room ∙ c.begin.ensures.room));
+      id_room = rw (← c.scratch.view_is) refl;
     }
