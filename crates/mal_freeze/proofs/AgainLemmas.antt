@@ -1,5 +1,5 @@
 -- What is spelled of an image is read again.
-use Rattle.std.proofs.Common.{◌≡◌, ℕ, zero, suc, ◌+◌, ◌-◌, ◌*◌, ◌/◌, ◌^◌, ◌<◌, ◌≤◌, Bool, true, false, ◌&&◌, eqb, nat_lt, nat_le, List, [], ◌∷◌, ◌++◌, length, Option, Some, None, Result, Ok, Err, refl, sym, ap, subst, ◌∙◌, append_assoc, arith, rules}
+use Rattle.std.proofs.Common.{◌≡◌, ℕ, zero, suc, ◌+◌, ◌-◌, ◌*◌, ◌/◌, ◌^◌, ◌<◌, ◌≤◌, Bool, true, false, ◌&&◌, ◌||◌, ◌==◌, eqb, nat_lt, nat_le, List, [], ◌∷◌, ◌++◌, length, Option, Some, None, Result, Ok, Err, refl, sym, ap, subst, ◌∙◌, append_assoc, arith, rules}
 use Rattle.std.specs.List.{flat_map, list_any, AllByRecursion, IsDistinct}
 use Rattle.std.specs.Int.{w32, w64}
 use Rattle.std.proofs.lemmas.Bool.{false≢true, and_parts, and_from}
@@ -21,12 +21,12 @@ use Rattle.mal_freeze.specs.declared.fields.Ended.{Ended}
 use Rattle.mal_freeze.specs.declared.fields.Fields.{Fields}
 use Rattle.mal_freeze.specs.Fields.{Listing}
 use Rattle.mal_freeze.specs.Imaged.{IsImage, is_image, is_new, are_new, may_follow, all_follow, are_literals, are_clauses}
-use Rattle.mal_freeze.specs.Spelling.{spelled, magic, number_or_0, code_of, goal_of, phase_code, phase_bytes, counted, entry_bytes, clause_bytes, image_bytes}
+use Rattle.mal_freeze.specs.Spelling.{spelled, magic, dropping_bytes, number_or_0, code_of, goal_of, phase_code, phase_bytes, counted, entry_bytes, clause_bytes, image_bytes}
 use Rattle.mal_freeze.specs.Widths.{FitsNumber, FitsGoal, FitsEntry, FitsClause, Fits}
-use Rattle.mal_freeze.specs.Reading.{◌>>=◌, number_at, ranged_at, byte_at, many_at, counted_at, number_in, literal_at, variable_at, phase_at, entry_at, clause_at, magic_at, head_at, search_at, ended_at, lists_at, fields_at, fits_goal, verdict_in, node_in, is_canonical, image_in}
+use Rattle.mal_freeze.specs.Reading.{◌>>=◌, number_at, ranged_at, byte_at, many_at, counted_at, number_in, literal_at, variable_at, phase_at, entry_at, clause_at, profile_at, dropping_at, head_at, search_at, ended_at, lists_at, fields_at, fits_goal, verdict_in, node_in, is_canonical, image_in}
 use Rattle.mal_freeze.proofs.FieldLemmas.{four, eight, number_again, ranged_again, byte_again, many_again, counted_again}
 use Rattle.mal_freeze.proofs.FollowLemmas.{follow_parts}
-use Rattle.mal_freeze.proofs.TestLemmas.{le_is, lt_is, eqb_is, is_lt, is-image}
+use Rattle.mal_freeze.proofs.TestLemmas.{le_is, lt_is, eqb_is, is_lt, is-image, by-profile}
 use Rattle.mal_freeze.proofs.BeginsLemmas.{head_spelled, search_spelled, ended_spelled, lists_spelled, fields_spelled}
 
 -- ---- what the elements of lists in form are
@@ -164,9 +164,13 @@ clause_again total greatest h c rest w =
 
 -- ---- the parts of an image
 
-magic_again : (rest : List ℕ) → magic_at (spelled w64 magic ++ rest) ≡ Ok rest
-unfolding magic_at
-magic_again rest = rw (number_again w64 (2 ^ 64) eight magic rest (omega arith)) refl
+profile_again : (profile count : ℕ) (rest : List ℕ) → ((profile == 2) || ((profile == 1) && (count == 0))) ≡ true → profile_at (spelled w64 (magic profile) ++ rest) ≡ Ok (profile, rest)
+unfolding profile_at
+profile_again profile count rest h = by-profile (λ p c. profile_at (spelled w64 (magic p) ++ rest) ≡ Ok (p, rest)) profile count h (rw (number_again w64 (2 ^ 64) eight (magic 1) rest (omega arith)) refl) (λ c. rw (number_again w64 (2 ^ 64) eight (magic 2) rest (omega arith)) refl)
+
+dropping_again : (profile count : ℕ) (rest : List ℕ) → ((profile == 2) || ((profile == 1) && (count == 0))) ≡ true → count < 2 ^ 32 → dropping_at profile (dropping_bytes profile count ++ rest) ≡ Ok (count, rest)
+unfolding dropping_at
+dropping_again profile count rest h = by-profile (λ p c. c < 2 ^ 32 → dropping_at p (dropping_bytes p c ++ rest) ≡ Ok (c, rest)) profile count h (λ low. refl) (λ c low. number_again w32 (2 ^ 32) four c rest low)
 
 head_again : (total : ℕ) (h : Head) (rest : List ℕ) → h.index ≤ 63 → h.variables ≤ 65536 → h.serial < 2 ^ 57 → h.conflicts_since_restart < 2 ^ 32 → head_at total (head_spelled h ++ rest) ≡ Ok (h, rest)
 unfolding head_at
@@ -174,12 +178,12 @@ head_again total h rest a b c d =
     ap (head_at total) (assoc_4 (spelled w32 h.index) (spelled w32 h.variables) (spelled w64 h.serial) (spelled w32 h.conflicts_since_restart) rest)
     ∙ rw (ranged_again w32 (2 ^ 32) four total 0 63 h.index (spelled w32 h.variables ++ (spelled w64 h.serial ++ (spelled w32 h.conflicts_since_restart ++ rest))) (omega arith) (omega arith) a, ranged_again w32 (2 ^ 32) four total 0 65536 h.variables (spelled w64 h.serial ++ (spelled w32 h.conflicts_since_restart ++ rest)) (omega arith) (omega arith) b, ranged_again w64 (2 ^ 64) eight total 0 (2 ^ 57 - 1) h.serial (spelled w32 h.conflicts_since_restart ++ rest) (omega arith) (omega arith) (omega arith), number_again w32 (2 ^ 32) four h.conflicts_since_restart rest d) refl
 
-search_again : (total restart_number processed : ℕ) (conflict : Option ℕ) (rest : List ℕ) → 1 ≤ restart_number → restart_number < 2 ^ 32 → processed < 2 ^ 32 → FitsNumber conflict
-    → search_at total ((spelled w32 restart_number ++ (spelled w32 processed ++ spelled w64 (number_or_0 conflict))) ++ rest) ≡ Ok (record { restart_number = restart_number; processed = processed; conflict = conflict }, rest)
+search_again : (total profile : ℕ) (s : Search) (rest : List ℕ) → ((profile == 2) || ((profile == 1) && (s.conflicts_since_dropping == 0))) ≡ true → 1 ≤ s.restart_number → s.restart_number < 2 ^ 32 → s.conflicts_since_dropping < 2 ^ 32 → s.processed < 2 ^ 32 → FitsNumber s.conflict
+    → search_at total profile (search_spelled profile s ++ rest) ≡ Ok (s, rest)
 unfolding search_at
-search_again total restart_number processed conflict rest a b c d =
-    ap (search_at total) (assoc_3 (spelled w32 restart_number) (spelled w32 processed) (spelled w64 (number_or_0 conflict)) rest)
-    ∙ rw (ranged_again w32 (2 ^ 32) four total 1 (2 ^ 32 - 1) restart_number (spelled w32 processed ++ (spelled w64 (number_or_0 conflict) ++ rest)) b a (omega arith), number_again w32 (2 ^ 32) four processed (spelled w64 (number_or_0 conflict) ++ rest) c, number_again w64 (2 ^ 64) eight (number_or_0 conflict) rest (number_fits conflict d), number_in_again conflict d) refl
+search_again total profile s rest h a b e c d =
+    ap (search_at total profile) (assoc_4 (spelled w32 s.restart_number) (dropping_bytes profile s.conflicts_since_dropping) (spelled w32 s.processed) (spelled w64 (number_or_0 s.conflict)) rest)
+    ∙ rw (ranged_again w32 (2 ^ 32) four total 1 (2 ^ 32 - 1) s.restart_number (dropping_bytes profile s.conflicts_since_dropping ++ (spelled w32 s.processed ++ (spelled w64 (number_or_0 s.conflict) ++ rest))) b a (omega arith), dropping_again profile s.conflicts_since_dropping (spelled w32 s.processed ++ (spelled w64 (number_or_0 s.conflict) ++ rest)) h e, number_again w32 (2 ^ 32) four s.processed (spelled w64 (number_or_0 s.conflict) ++ rest) c, number_again w64 (2 ^ 64) eight (number_or_0 s.conflict) rest (number_fits s.conflict d), number_in_again s.conflict d) refl
 
 ended_again : (total : ℕ) (e : Ended) (rest : List ℕ) → e.code ≤ 2 → e.goal < 2 ^ 64 → ended_at total (ended_spelled e ++ rest) ≡ Ok (e, rest)
 unfolding ended_at
@@ -217,18 +221,18 @@ lists_again total greatest l rest a =
 
 lists_are : (n : Node) → IsImage n → Fits n → AreLists n.variables (record { assumptions = n.assumptions; order = n.order; phases = n.phases; trail = n.trail; clauses = n.clauses })
 lists_are n i f =
-    let a = and_parts (rises n.assumptions) (is_within n.variables n.assumptions) i.assumptions in
-    let o = and_parts (eqb (length n.order) n.variables) (are_new n.variables [] n.order) i.order in
+    let a = and_parts (rises n.assumptions) (is_within n.variables n.assumptions) i.form.assumptions in
+    let o = and_parts (eqb (length n.order) n.variables) (are_new n.variables [] n.order) i.form.order in
     record {
-      bound = i.ranges.variables;
+      bound = i.form.ranges.variables;
       assumptions = lits_within n.variables n.assumptions a.1;
-      few = lits_few n.variables n.assumptions i.assumptions;
+      few = lits_few n.variables n.assumptions i.form.assumptions;
       order = order_within n.variables [] n.order o.1;
       all = eqb_is (length n.order) n.variables o.0;
-      phases = i.ranges.phases;
-      trail = trail_within n.variables [] n.trail i.trail f.lists.trail;
-      short = trail_few n.variables n.trail i.ranges.variables i.trail;
-      clauses = clauses_within n.variables n.clauses i.clauses f.lists.clauses;
+      phases = i.form.ranges.phases;
+      trail = trail_within n.variables [] n.trail i.form.trail f.lists.trail;
+      short = trail_few n.variables n.trail i.form.ranges.variables i.form.trail;
+      clauses = clauses_within n.variables n.clauses i.form.clauses f.lists.clauses;
       count = f.lists.count;
     }
 
@@ -258,8 +262,9 @@ verdict_again (Some (Unsatisfiable goal)) = refl
 -- the fields of a node's image
 abbrev pub fields_of : Node → Fields
 fields_of n = record {
+  profile = n.profile;
   head = record { index = n.index; variables = n.variables; serial = n.serial; conflicts_since_restart = n.conflicts_since_restart };
-  search = record { restart_number = n.restart_number; processed = n.processed; conflict = n.conflict };
+  search = record { restart_number = n.restart_number; conflicts_since_dropping = n.conflicts_since_dropping; processed = n.processed; conflict = n.conflict };
   ended = ended_of n.verdict;
   lists = record { assumptions = n.assumptions; order = n.order; phases = n.phases; trail = n.trail; clauses = n.clauses };
   left = 0;
@@ -270,12 +275,13 @@ unfolding fields_at
 fields_again total n i f =
     let h : Head = record { index = n.index; variables = n.variables; serial = n.serial; conflicts_since_restart = n.conflicts_since_restart } in
     let l : Listing = record { assumptions = n.assumptions; order = n.order; phases = n.phases; trail = n.trail; clauses = n.clauses } in
-    let search = spelled w32 n.restart_number ++ (spelled w32 n.processed ++ spelled w64 (number_or_0 n.conflict)) in
+    let found : Search = record { restart_number = n.restart_number; conflicts_since_dropping = n.conflicts_since_dropping; processed = n.processed; conflict = n.conflict } in
+    let search = search_spelled n.profile found in
     let lists : lists_at total n.variables (lists_spelled l) ≡ Ok (l, []) = ap (lists_at total n.variables) (sym (append-nil (lists_spelled l))) ∙ lists_again total n.variables l [] (lists_are n i f) in
     rw (
-      magic_again (head_spelled h ++ (search ++ (ended_spelled (ended_of n.verdict) ++ lists_spelled l))),
-      head_again total h (search ++ (ended_spelled (ended_of n.verdict) ++ lists_spelled l)) i.ranges.index i.ranges.variables i.ranges.serial f.conflicts_since_restart,
-      search_again total n.restart_number n.processed n.conflict (ended_spelled (ended_of n.verdict) ++ lists_spelled l) i.ranges.restart_number f.counts.restart_number f.counts.processed f.counts.conflict,
+      profile_again n.profile n.conflicts_since_dropping (head_spelled h ++ (search ++ (ended_spelled (ended_of n.verdict) ++ lists_spelled l))) i.profile,
+      head_again total h (search ++ (ended_spelled (ended_of n.verdict) ++ lists_spelled l)) i.form.ranges.index i.form.ranges.variables i.form.ranges.serial f.conflicts_since_restart,
+      search_again total n.profile found (ended_spelled (ended_of n.verdict) ++ lists_spelled l) i.profile i.form.ranges.restart_number f.counts.restart_number f.counts.conflicts_since_dropping f.counts.processed f.counts.conflict,
       ended_again total (ended_of n.verdict) (lists_spelled l) (code_fits n.verdict) (goal_fits n.verdict f.goal),
       lists,
     ) refl

@@ -15,9 +15,9 @@ use Rattle.mal_freeze.specs.declared.fields.Ended.{Ended}
 use Rattle.mal_freeze.specs.declared.fields.Fields.{Fields}
 use Rattle.mal_freeze.specs.Fields.{Listing}
 use Rattle.mal_freeze.specs.Imaged.{is_image}
-use Rattle.mal_freeze.specs.Spelling.{spelled, magic, number_or_0, phase_code, phase_bytes, counted, entry_bytes, clause_bytes, verdict_bytes, image_bytes}
-use Rattle.mal_freeze.specs.Reading.{◌>>=◌, number_at, ranged_at, byte_at, many_at, counted_at, number_in, literal_at, variable_at, phase_at, entry_at, clause_at, magic_at, head_at, search_at, ended_at, lists_at, fields_at, fits_goal, verdict_in, node_in, is_canonical, image_in}
-use Rattle.mal_freeze.proofs.FieldLemmas.{IsBytes, Begins, begins-more, step_ok, let_when, ok_same, four, eight, number_begins, ranged_begins, byte_begins, many_begins, counted_begins}
+use Rattle.mal_freeze.specs.Spelling.{spelled, magic, dropping_bytes, number_or_0, phase_code, phase_bytes, counted, entry_bytes, clause_bytes, verdict_bytes, image_bytes}
+use Rattle.mal_freeze.specs.Reading.{◌>>=◌, number_at, ranged_at, byte_at, many_at, counted_at, number_in, literal_at, variable_at, phase_at, entry_at, clause_at, profile_at, dropping_at, head_at, search_at, ended_at, lists_at, fields_at, fits_goal, verdict_in, node_in, is_canonical, image_in}
+use Rattle.mal_freeze.proofs.FieldLemmas.{IsBytes, Begins, begins-more, step_ok, let_when, good, ok_same, four, eight, number_begins, ranged_begins, byte_begins, many_begins, counted_begins}
 
 -- ---- the elements of lists
 
@@ -70,14 +70,34 @@ clause_begins total greatest bytes x are e =
 
 -- ---- the parts of an image
 
-magic_begins : (bytes rest : List ℕ) → IsBytes bytes → magic_at bytes ≡ Ok rest → Begins bytes (spelled w64 magic) rest
-unfolding magic_at
-magic_begins bytes rest are e =
-    let a = step_ok (number_at w64 bytes) (λ n. cond (eqb n.0 magic) (Ok n.1) (Err BadMagic)) rest e in
-    let g = let_when (eqb a.0.0 magic) BadMagic a.0.1 rest a.2 in
+-- a number that names a profile is that of its images
+second_magic : (n : ℕ) (rest : List ℕ) (x : ℕ × List ℕ) → cond (eqb n (magic 2)) (good (2, rest)) (Err BadMagic) ≡ Ok x → (n ≡ magic x.0) × (rest ≡ x.1)
+second_magic n rest x e =
+    let g = let_when (eqb n (magic 2)) BadMagic (2, rest) x e in
+    (eqb-true n (magic 2) g.0 ∙ ap (λ (y : ℕ × List ℕ). magic y.0) g.1, ap (λ (y : ℕ × List ℕ). y.1) g.1)
+
+either_magic : (n : ℕ) (rest : List ℕ) (x : ℕ × List ℕ) → cond (eqb n (magic 1)) (good (1, rest)) (cond (eqb n (magic 2)) (good (2, rest)) (Err BadMagic)) ≡ Ok x → (n ≡ magic x.0) × (rest ≡ x.1)
+either_magic n rest x = by_first (eqb n (magic 1)) refl
+  where
+    by_first : (b : Bool) → eqb n (magic 1) ≡ b → cond b (good (1, rest)) (cond (eqb n (magic 2)) (good (2, rest)) (Err BadMagic)) ≡ Ok x → (n ≡ magic x.0) × (rest ≡ x.1)
+    by_first true t e = let same : (1, rest) ≡ x = ok_same (1, rest) x e in (eqb-true n (magic 1) t ∙ ap (λ (y : ℕ × List ℕ). magic y.0) same, ap (λ (y : ℕ × List ℕ). y.1) same)
+    by_first false t e = second_magic n rest x e
+
+profile_begins : (bytes : List ℕ) (x : ℕ × List ℕ) → IsBytes bytes → profile_at bytes ≡ Ok x → Begins bytes (spelled w64 (magic x.0)) x.1
+unfolding profile_at
+profile_begins bytes x are e =
+    let a = step_ok (number_at w64 bytes) (λ n. cond (eqb n.0 (magic 1)) (Ok (1, n.1)) (cond (eqb n.0 (magic 2)) (Ok (2, n.1)) (Err BadMagic))) x e in
     let p = number_begins w64 (2 ^ 64) eight bytes a.0 are a.1 in
-    let same : a.0.0 ≡ magic = eqb-true a.0.0 magic g.0 in
-    subst (λ (k : ℕ). Begins bytes (spelled w64 k) rest) same (subst (λ (r : List ℕ). Begins bytes (spelled w64 a.0.0) r) g.1 p)
+    let m = either_magic a.0.0 a.0.1 x a.2 in
+    subst (λ (k : ℕ). Begins bytes (spelled w64 k) x.1) m.0 (subst (λ (r : List ℕ). Begins bytes (spelled w64 a.0.0) r) m.1 p)
+
+dropping_begins : (profile : ℕ) (bytes : List ℕ) (x : ℕ × List ℕ) → IsBytes bytes → dropping_at profile bytes ≡ Ok x → Begins bytes (dropping_bytes profile x.0) x.1
+unfolding dropping_at
+dropping_begins profile bytes x are = by_test (eqb profile 2)
+  where
+    by_test : (b : Bool) → cond b (number_at w32 bytes) (good (0, bytes)) ≡ Ok x → Begins bytes (cond b (spelled w32 x.0) []) x.1
+    by_test true e = number_begins w32 (2 ^ 32) four bytes x are e
+    by_test false e = subst (λ (y : ℕ × List ℕ). Begins bytes [] y.1) (ok_same (0, bytes) x e) (record { parts = refl; are_bytes = are })
 
 abbrev pub head_spelled : Head → List ℕ
 head_spelled h = spelled w32 h.index ++ (spelled w32 h.variables ++ (spelled w64 h.serial ++ spelled w32 h.conflicts_since_restart))
@@ -99,22 +119,25 @@ head_begins total bytes x are e =
     let made : Head × List ℕ = (record { index = a.0.0; variables = b.0.0; serial = d.0.0; conflicts_since_restart = f.0.0 }, f.0.1) in
     subst (λ (y : Head × List ℕ). Begins bytes (head_spelled y.0) y.1) (ok_same made x f.2) all
 
-abbrev pub search_spelled : Search → List ℕ
-search_spelled s = spelled w32 s.restart_number ++ (spelled w32 s.processed ++ spelled w64 (number_or_0 s.conflict))
+abbrev pub search_spelled : ℕ → Search → List ℕ
+search_spelled profile s = spelled w32 s.restart_number ++ (dropping_bytes profile s.conflicts_since_dropping ++ (spelled w32 s.processed ++ spelled w64 (number_or_0 s.conflict)))
 
-search_begins : (total : ℕ) (bytes : List ℕ) (x : Search × List ℕ) → IsBytes bytes → search_at total bytes ≡ Ok x → Begins bytes (search_spelled x.0) x.1
+search_begins : (total profile : ℕ) (bytes : List ℕ) (x : Search × List ℕ) → IsBytes bytes → search_at total profile bytes ≡ Ok x → Begins bytes (search_spelled profile x.0) x.1
 unfolding search_at
-search_begins total bytes x are e =
-    let a = step_ok (ranged_at total w32 1 (2 ^ 32 - 1) bytes) (λ restart_number. number_at w32 restart_number.1 >>= λ processed. number_at w64 processed.1 >>= λ conflict. Ok (record { restart_number = restart_number.0; processed = processed.0; conflict = number_in conflict.0 }, conflict.1)) x e in
-    let b = step_ok (number_at w32 a.0.1) (λ processed. number_at w64 processed.1 >>= λ conflict. Ok (record { restart_number = a.0.0; processed = processed.0; conflict = number_in conflict.0 }, conflict.1)) x a.2 in
-    let d = step_ok (number_at w64 b.0.1) (λ conflict. Ok (record { restart_number = a.0.0; processed = b.0.0; conflict = number_in conflict.0 }, conflict.1)) x b.2 in
+search_begins total profile bytes x are e =
+    let a = step_ok (ranged_at total w32 1 (2 ^ 32 - 1) bytes) (λ restart_number. dropping_at profile restart_number.1 >>= λ conflicts_since_dropping. number_at w32 conflicts_since_dropping.1 >>= λ processed. number_at w64 processed.1 >>= λ conflict. Ok (record { restart_number = restart_number.0; conflicts_since_dropping = conflicts_since_dropping.0; processed = processed.0; conflict = number_in conflict.0 }, conflict.1)) x e in
+    let f = step_ok (dropping_at profile a.0.1) (λ conflicts_since_dropping. number_at w32 conflicts_since_dropping.1 >>= λ processed. number_at w64 processed.1 >>= λ conflict. Ok (record { restart_number = a.0.0; conflicts_since_dropping = conflicts_since_dropping.0; processed = processed.0; conflict = number_in conflict.0 }, conflict.1)) x a.2 in
+    let b = step_ok (number_at w32 f.0.1) (λ processed. number_at w64 processed.1 >>= λ conflict. Ok (record { restart_number = a.0.0; conflicts_since_dropping = f.0.0; processed = processed.0; conflict = number_in conflict.0 }, conflict.1)) x f.2 in
+    let d = step_ok (number_at w64 b.0.1) (λ conflict. Ok (record { restart_number = a.0.0; conflicts_since_dropping = f.0.0; processed = b.0.0; conflict = number_in conflict.0 }, conflict.1)) x b.2 in
     let p = ranged_begins w32 (2 ^ 32) four total 1 (2 ^ 32 - 1) bytes a.0 are a.1 in
-    let q = number_begins w32 (2 ^ 32) four a.0.1 b.0 p.are_bytes b.1 in
+    let o = dropping_begins profile a.0.1 f.0 p.are_bytes f.1 in
+    let q = number_begins w32 (2 ^ 32) four f.0.1 b.0 o.are_bytes b.1 in
     let r = number_begins w64 (2 ^ 64) eight b.0.1 d.0 q.are_bytes d.1 in
-    let qr = begins-more a.0.1 (spelled w32 b.0.0) b.0.1 (spelled w64 d.0.0) d.0.1 q r in
-    let all = begins-more bytes (spelled w32 a.0.0) a.0.1 (spelled w32 b.0.0 ++ spelled w64 d.0.0) d.0.1 p qr in
-    let made : Search × List ℕ = (record { restart_number = a.0.0; processed = b.0.0; conflict = number_in d.0.0 }, d.0.1) in
-    subst (λ (y : Search × List ℕ). Begins bytes (search_spelled y.0) y.1) (ok_same made x d.2) (subst (λ (k : ℕ). Begins bytes (spelled w32 a.0.0 ++ (spelled w32 b.0.0 ++ spelled w64 k)) d.0.1) (sym (number_back d.0.0)) all)
+    let qr = begins-more f.0.1 (spelled w32 b.0.0) b.0.1 (spelled w64 d.0.0) d.0.1 q r in
+    let or = begins-more a.0.1 (dropping_bytes profile f.0.0) f.0.1 (spelled w32 b.0.0 ++ spelled w64 d.0.0) d.0.1 o qr in
+    let all = begins-more bytes (spelled w32 a.0.0) a.0.1 (dropping_bytes profile f.0.0 ++ (spelled w32 b.0.0 ++ spelled w64 d.0.0)) d.0.1 p or in
+    let made : Search × List ℕ = (record { restart_number = a.0.0; conflicts_since_dropping = f.0.0; processed = b.0.0; conflict = number_in d.0.0 }, d.0.1) in
+    subst (λ (y : Search × List ℕ). Begins bytes (search_spelled profile y.0) y.1) (ok_same made x d.2) (subst (λ (k : ℕ). Begins bytes (spelled w32 a.0.0 ++ (dropping_bytes profile f.0.0 ++ (spelled w32 b.0.0 ++ spelled w64 k))) d.0.1) (sym (number_back d.0.0)) all)
 
 abbrev pub ended_spelled : Ended → List ℕ
 ended_spelled e = e.code ∷ spelled w64 e.goal
@@ -154,7 +177,7 @@ lists_begins total greatest bytes x are e =
     subst (λ (y : Listing × List ℕ). Begins bytes (lists_spelled y.0) y.1) (ok_same made x g.2) all
 
 abbrev pub fields_spelled : Fields → List ℕ
-fields_spelled f = spelled w64 magic ++ (head_spelled f.head ++ (search_spelled f.search ++ (ended_spelled f.ended ++ lists_spelled f.lists)))
+fields_spelled f = spelled w64 (magic f.profile) ++ (head_spelled f.head ++ (search_spelled f.profile f.search ++ (ended_spelled f.ended ++ lists_spelled f.lists)))
 
 -- the bytes are those of the fields and those left over
 pub record AreFields (bytes : List ℕ) (f : Fields) : Type 0 where
@@ -166,21 +189,21 @@ pub record AreFields (bytes : List ℕ) (f : Fields) : Type 0 where
 pub fields_begin : (total : ℕ) (bytes : List ℕ) (x : Fields) → IsBytes bytes → fields_at total bytes ≡ Ok x → AreFields bytes x
 unfolding fields_at
 fields_begin total bytes x are e =
-    let a = step_ok (magic_at bytes) (λ rest. head_at total rest >>= λ head. search_at total head.1 >>= λ search. ended_at total search.1 >>= λ ended. lists_at total head.0.variables ended.1 >>= λ lists. Ok (record { head = head.0; search = search.0; ended = ended.0; lists = lists.0; left = length lists.1 })) x e in
-    let b = step_ok (head_at total a.0) (λ head. search_at total head.1 >>= λ search. ended_at total search.1 >>= λ ended. lists_at total head.0.variables ended.1 >>= λ lists. Ok (record { head = head.0; search = search.0; ended = ended.0; lists = lists.0; left = length lists.1 })) x a.2 in
-    let d = step_ok (search_at total b.0.1) (λ search. ended_at total search.1 >>= λ ended. lists_at total b.0.0.variables ended.1 >>= λ lists. Ok (record { head = b.0.0; search = search.0; ended = ended.0; lists = lists.0; left = length lists.1 })) x b.2 in
-    let f = step_ok (ended_at total d.0.1) (λ ended. lists_at total b.0.0.variables ended.1 >>= λ lists. Ok (record { head = b.0.0; search = d.0.0; ended = ended.0; lists = lists.0; left = length lists.1 })) x d.2 in
-    let g = step_ok (lists_at total b.0.0.variables f.0.1) (λ lists. Ok (record { head = b.0.0; search = d.0.0; ended = f.0.0; lists = lists.0; left = length lists.1 })) x f.2 in
-    let p = magic_begins bytes a.0 are a.1 in
-    let q = head_begins total a.0 b.0 p.are_bytes b.1 in
-    let r = search_begins total b.0.1 d.0 q.are_bytes d.1 in
+    let a = step_ok (profile_at bytes) (λ profile. head_at total profile.1 >>= λ head. search_at total profile.0 head.1 >>= λ search. ended_at total search.1 >>= λ ended. lists_at total head.0.variables ended.1 >>= λ lists. Ok (record { profile = profile.0; head = head.0; search = search.0; ended = ended.0; lists = lists.0; left = length lists.1 })) x e in
+    let b = step_ok (head_at total a.0.1) (λ head. search_at total a.0.0 head.1 >>= λ search. ended_at total search.1 >>= λ ended. lists_at total head.0.variables ended.1 >>= λ lists. Ok (record { profile = a.0.0; head = head.0; search = search.0; ended = ended.0; lists = lists.0; left = length lists.1 })) x a.2 in
+    let d = step_ok (search_at total a.0.0 b.0.1) (λ search. ended_at total search.1 >>= λ ended. lists_at total b.0.0.variables ended.1 >>= λ lists. Ok (record { profile = a.0.0; head = b.0.0; search = search.0; ended = ended.0; lists = lists.0; left = length lists.1 })) x b.2 in
+    let f = step_ok (ended_at total d.0.1) (λ ended. lists_at total b.0.0.variables ended.1 >>= λ lists. Ok (record { profile = a.0.0; head = b.0.0; search = d.0.0; ended = ended.0; lists = lists.0; left = length lists.1 })) x d.2 in
+    let g = step_ok (lists_at total b.0.0.variables f.0.1) (λ lists. Ok (record { profile = a.0.0; head = b.0.0; search = d.0.0; ended = f.0.0; lists = lists.0; left = length lists.1 })) x f.2 in
+    let p = profile_begins bytes a.0 are a.1 in
+    let q = head_begins total a.0.1 b.0 p.are_bytes b.1 in
+    let r = search_begins total a.0.0 b.0.1 d.0 q.are_bytes d.1 in
     let s = ended_begins total d.0.1 f.0 r.are_bytes f.1 in
     let t = lists_begins total b.0.0.variables f.0.1 g.0 s.0.are_bytes g.1 in
     let st = begins-more d.0.1 (ended_spelled f.0.0) f.0.1 (lists_spelled g.0.0) g.0.1 s.0 t in
-    let rt = begins-more b.0.1 (search_spelled d.0.0) d.0.1 (ended_spelled f.0.0 ++ lists_spelled g.0.0) g.0.1 r st in
-    let qt = begins-more a.0 (head_spelled b.0.0) b.0.1 (search_spelled d.0.0 ++ (ended_spelled f.0.0 ++ lists_spelled g.0.0)) g.0.1 q rt in
-    let all = begins-more bytes (spelled w64 magic) a.0 (head_spelled b.0.0 ++ (search_spelled d.0.0 ++ (ended_spelled f.0.0 ++ lists_spelled g.0.0))) g.0.1 p qt in
-    let made : Fields = record { head = b.0.0; search = d.0.0; ended = f.0.0; lists = g.0.0; left = length g.0.1 } in
+    let rt = begins-more b.0.1 (search_spelled a.0.0 d.0.0) d.0.1 (ended_spelled f.0.0 ++ lists_spelled g.0.0) g.0.1 r st in
+    let qt = begins-more a.0.1 (head_spelled b.0.0) b.0.1 (search_spelled a.0.0 d.0.0 ++ (ended_spelled f.0.0 ++ lists_spelled g.0.0)) g.0.1 q rt in
+    let all = begins-more bytes (spelled w64 (magic a.0.0)) a.0.1 (head_spelled b.0.0 ++ (search_spelled a.0.0 d.0.0 ++ (ended_spelled f.0.0 ++ lists_spelled g.0.0))) g.0.1 p qt in
+    let made : Fields = record { profile = a.0.0; head = b.0.0; search = d.0.0; ended = f.0.0; lists = g.0.0; left = length g.0.1 } in
     subst (λ (y : Fields). AreFields bytes y) (ok_same made x g.2) (record { left = g.0.1; begins = all.parts; count = refl; code = s.1 })
 
 -- ---- the whole
@@ -209,5 +232,5 @@ image_spelled bytes n are e =
     let nothing : b.left ≡ [] = nil_from_length b.left (b.count ∙ none) in
     let whole : bytes ≡ fields_spelled f = b.begins ∙ ap (λ (r : List ℕ). fields_spelled f ++ r) nothing ∙ append-nil (fields_spelled f) in
     let told = verdict_coded f.ended f.ended.code refl b.code h.0 in
-    let same : fields_spelled f ≡ image_bytes (node_in f) = ap (λ (v : List ℕ). spelled w64 magic ++ (head_spelled f.head ++ (search_spelled f.search ++ (v ++ lists_spelled f.lists)))) (sym told) in
+    let same : fields_spelled f ≡ image_bytes (node_in f) = ap (λ (v : List ℕ). spelled w64 (magic f.profile) ++ (head_spelled f.head ++ (search_spelled f.profile f.search ++ (v ++ lists_spelled f.lists)))) (sym told) in
     whole ∙ same ∙ ap (λ (m : Node). image_bytes m) g.1

@@ -19,7 +19,7 @@ use Rattle.spec_node.specs.Value.{has_value, level_of}
 use Rattle.spec_node.specs.Sound.{IsSound, EachAfter, IsPlaced, IsLevelled, own_level, IsLiteralOf, AreLiteralsOf, NumbersRise}
 use Rattle.spec_node.proofs.FindLemmas.{IsBetween, counted-All}
 use Rattle.mal_freeze.specs.Imaged.{IsImage, are_new, is_new, is_order, may_follow, all_follow, are_literals, are_clauses, numbers_rise}
-use Rattle.mal_freeze.specs.Laws.{SoundHasImage}
+use Rattle.mal_freeze.specs.Laws.{SoundIsFormed, SoundHasImage}
 
 le_test : (a b : ℕ) → a ≤ b → nat_le a b ≡ true
 le_test a b = grind (arith, nat_tests)
@@ -126,8 +126,8 @@ follow-from n before (e ∷ es) p l =
     let here = and_from (nat_le 1 v && nat_le v n) (not (has_value before v) && (nat_le (level_of before) e.level && nat_le e.level (level_of before + 1))) range (and_from (not (has_value before v)) (nat_le (level_of before) e.level && nat_le e.level (level_of before + 1)) (not_one (has_value before v) p.0.free) level) in
     and_from (may_follow n before e) (all_follow n (before ++ e ∷ []) es) here (follow-from n (before ++ e ∷ []) es p.1 l.1)
 
-pub sound-image : SoundHasImage
-sound-image n s h = record {
+pub sound-formed : SoundIsFormed
+sound-formed n s h = record {
   ranges = record { index = s.ranged.index; variables = s.ranged.variables; serial = h; restart_number = s.ranged.restart_number; processed = s.consistent.handled; phases = s.ranged.phases };
   assumptions = literals-from n.variables n.assumptions s.consistent.assumptions;
   order = order-from n.variables n.order s.consistent.order;
@@ -135,3 +135,6 @@ sound-image n s h = record {
   clauses = clauses-from n.variables n.clauses s.consistent.clauses;
   numbers = numbers-from 0 n.clauses s.ranged.numbers;
 }
+
+pub sound-image : SoundHasImage
+sound-image n s h p = record { form = sound-formed n s h; profile = p }

@@ -1,13 +1,13 @@
 -- The form of an image, as a test and as what it says.
-use Rattle.std.proofs.Common.{◌≡◌, ℕ, ◌+◌, ◌<◌, ◌≤◌, ◌^◌, Bool, true, false, ◌&&◌, eqb, nat_lt, nat_le, List, [], ◌∷◌, length, refl, sym, ◌∙◌, arith}
+use Rattle.std.proofs.Common.{◌≡◌, ℕ, ◌+◌, ◌<◌, ◌≤◌, ◌^◌, Bool, true, false, ◌&&◌, ◌||◌, ◌==◌, eqb, nat_lt, nat_le, List, [], ◌∷◌, length, refl, sym, subst, ◌∙◌, arith}
 use Rattle.std.specs.List.{list_all}
 use Rattle.std.proofs.lemmas.Bool.{false≢true, and_parts, and_from, false_from_ne_true}
 use Rattle.std.proofs.lemmas.Bool.Decides.{nat_tests}
 use Rattle.mal_base.specs.Clauses.{rises}
 use Rattle.mal_base.specs.Formulas.{is_within}
 use Rattle.mal_base.specs.NumberedClause.{NumberedClause}
-use Rattle.spec_node.specs.State.{Node}
-use Rattle.mal_freeze.specs.Imaged.{IsImage, HasRanges, is_image, has_ranges, has_order, are_literals, is_order, all_follow, are_clauses, numbers_rise}
+use Rattle.spec_node.specs.State.{Node, has_profile}
+use Rattle.mal_freeze.specs.Imaged.{IsFormed, IsImage, HasRanges, is_image, has_ranges, has_order, are_literals, is_order, all_follow, are_clauses, numbers_rise}
 use Rattle.mal_freeze.specs.Holding.{can_hold}
 
 pub le_is : (a b : ℕ) → nat_le a b ≡ true → a ≤ b
@@ -27,6 +27,17 @@ is_lt a b = grind (arith, nat_tests)
 
 pub is_eqb : (a b : ℕ) → a ≡ b → eqb a b ≡ true
 is_eqb a b = grind (arith, nat_tests)
+
+-- a profile that passes the test is 1, where nothing is counted, or 2
+pub by-profile : (P : ℕ → ℕ → Type 0) (profile count : ℕ) → ((profile == 2) || ((profile == 1) && (count == 0))) ≡ true → P 1 0 → ((c : ℕ) → P 2 c) → P profile count
+by-profile P profile count h one two = by_test (eqb profile 2) refl
+  where
+    by_test : (b : Bool) → eqb profile 2 ≡ b → P profile count
+    by_test true t = subst (λ (p : ℕ). P p count) (sym (eqb_is profile 2 t)) (two count)
+    by_test false t =
+        let left : (eqb profile 1 && eqb count 0) ≡ true = subst (λ (b : Bool). (b || (eqb profile 1 && eqb count 0)) ≡ true) t h in
+        let a = and_parts (eqb profile 1) (eqb count 0) left in
+        subst (λ (p : ℕ). P p count) (sym (eqb_is profile 1 a.0)) (subst (λ (c : ℕ). P 1 c) (sym (eqb_is count 0 a.1)) one)
 
 ranges-are : (n : Node) → has_ranges n ≡ true → HasRanges n
 ranges-are n h =
@@ -48,24 +59,30 @@ has-ranges : (n : Node) → HasRanges n → has_ranges n ≡ true
 has-ranges n r =
     rw (is_le n.index 63 r.index, is_le n.variables 65536 r.variables, is_lt n.serial (2 ^ 57) r.serial, is_le 1 n.restart_number r.restart_number, is_le n.processed (length n.trail + 1) r.processed, is_eqb (length n.phases) n.variables r.phases) refl
 
--- a node that passes the test is in form
+-- a node that passes the test is an image
 pub image-is : (n : Node) → is_image n ≡ true → IsImage n
 image-is n h =
-    let a = and_parts (has_ranges n) (has_order n) h in
+    let p = and_parts (has_profile n) (has_ranges n && has_order n) h in
+    let a = and_parts (has_ranges n) (has_order n) p.1 in
     let b = and_parts (are_literals n.variables n.assumptions && is_order n.variables n.order) (all_follow n.variables [] n.trail && (are_clauses n.variables n.clauses && numbers_rise 0 n.clauses)) a.1 in
     let d = and_parts (are_literals n.variables n.assumptions) (is_order n.variables n.order) b.0 in
     let e = and_parts (all_follow n.variables [] n.trail) (are_clauses n.variables n.clauses && numbers_rise 0 n.clauses) b.1 in
     let f = and_parts (are_clauses n.variables n.clauses) (numbers_rise 0 n.clauses) e.1 in
-    record { ranges = ranges-are n a.0; assumptions = d.0; order = d.1; trail = e.0; clauses = f.0; numbers = f.1 }
+    record { form = record { ranges = ranges-are n a.0; assumptions = d.0; order = d.1; trail = e.0; clauses = f.0; numbers = f.1 }; profile = p.0 }
 
--- a node in form passes the test
-pub is-image : (n : Node) → IsImage n → is_image n ≡ true
-is-image n i =
+-- a node in form passes the tests of its ranges and lists
+is-formed : (n : Node) → IsFormed n → (has_ranges n && has_order n) ≡ true
+is-formed n i =
     and_from (has_ranges n) (has_order n) (has-ranges n i.ranges)
     (and_from (are_literals n.variables n.assumptions && is_order n.variables n.order) (all_follow n.variables [] n.trail && (are_clauses n.variables n.clauses && numbers_rise 0 n.clauses))
     (and_from (are_literals n.variables n.assumptions) (is_order n.variables n.order) i.assumptions i.order)
     (and_from (all_follow n.variables [] n.trail) (are_clauses n.variables n.clauses && numbers_rise 0 n.clauses) i.trail
     (and_from (are_clauses n.variables n.clauses) (numbers_rise 0 n.clauses) i.clauses i.numbers)))
+
+-- an image passes the test
+pub is-image : (n : Node) → IsImage n → is_image n ≡ true
+is-image n i =
+    and_from (has_profile n) (has_ranges n && has_order n) i.profile (is-formed n i.form)
 
 -- clauses in form can be held
 all-hold : (greatest last : ℕ) (cs : List NumberedClause) → are_clauses greatest cs ≡ true → numbers_rise last cs ≡ true → list_all can_hold cs ≡ true
@@ -78,7 +95,7 @@ all-hold greatest last (c ∷ cs) h k =
     and_from (can_hold c) (list_all can_hold cs) (and_from (nat_lt 0 c.id) (rises c.lits) (is_lt 0 c.id (omega arith)) b.0) (all-hold greatest c.id cs a.1 d.1)
 
 pub not-held : (n : Node) → list_all can_hold n.clauses ≡ false → is_image n ≡ false
-not-held n h = false_from_ne_true (is_image n) (λ k. let i = image-is n k in false≢true (sym h ∙ all-hold n.variables 0 n.clauses i.clauses i.numbers))
+not-held n h = false_from_ne_true (is_image n) (λ k. let i = image-is n k in false≢true (sym h ∙ all-hold n.variables 0 n.clauses i.form.clauses i.form.numbers))
 
 pub not-image : (n : Node) → (IsImage n → ⊥) → is_image n ≡ false
 not-image n h = false_from_ne_true (is_image n) (λ k. h (image-is n k))

@@ -5,7 +5,7 @@ use Rattle.mal_base.specs.Formulas.{is_within}
 use Rattle.mal_base.specs.NumberedClause.{NumberedClause}
 use Rattle.mal_base.specs.Literals.{var_of}
 use Rattle.mal_base.specs.declared.trail_entry.TrailEntry.{TrailEntry}
-use Rattle.spec_node.specs.State.{Node}
+use Rattle.spec_node.specs.State.{Node, has_profile}
 use Rattle.spec_node.specs.Value.{has_value, level_of}
 
 -- a number from 1 to the greatest that is not among those before
@@ -55,8 +55,8 @@ pub record HasRanges (n : Node) : Type 0 where
   -- one phase a variable
   pub phases : length n.phases ≡ n.variables
 
--- an image is in form
-pub record IsImage (n : Node) : Type 0 where
+-- the lists of a node are in order, and its numbers in their ranges
+pub record IsFormed (n : Node) : Type 0 where
   pub ranges : HasRanges n
   pub assumptions : are_literals n.variables n.assumptions ≡ true
   -- a permutation of the variables
@@ -66,6 +66,11 @@ pub record IsImage (n : Node) : Type 0 where
   pub clauses : are_clauses n.variables n.clauses ≡ true
   -- from at least 1
   pub numbers : numbers_rise 0 n.clauses ≡ true
+
+-- an image is in form: of profile 1, under which no conflicts are counted for droppings, or of profile 2
+pub record IsImage (n : Node) : Type 0 where
+  pub form : IsFormed n
+  pub profile : has_profile n ≡ true
 
 -- the same ranges and lengths, as a test
 abbrev pub has_ranges : Node → Bool
@@ -77,4 +82,4 @@ has_order n = (are_literals n.variables n.assumptions && is_order n.variables n.
 
 -- an image is in form, as a test
 abbrev pub is_image : Node → Bool
-is_image n = has_ranges n && has_order n
+is_image n = has_profile n && (has_ranges n && has_order n)

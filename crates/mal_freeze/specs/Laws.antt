@@ -1,14 +1,18 @@
-use Rattle.std.specs.Prelude.{◌≡◌, ℕ, ◌<◌, ◌^◌, List, ◌∷◌, ◌++◌, get_or, replicate, codes, Ok}
-use Rattle.spec_node.specs.State.{Node, fresh}
+use Rattle.std.specs.Prelude.{◌≡◌, ℕ, true, ◌<◌, ◌^◌, List, ◌∷◌, ◌++◌, get_or, replicate, codes, Ok}
+use Rattle.spec_node.specs.State.{Node, fresh_with, has_profile}
 use Rattle.spec_node.specs.Sound.{IsSound}
-use Rattle.mal_freeze.specs.Imaged.{IsImage}
+use Rattle.mal_freeze.specs.Imaged.{IsFormed, IsImage}
 use Rattle.mal_freeze.specs.Reading.{image_in}
 use Rattle.mal_freeze.specs.Spelling.{image_bytes}
 use Rattle.mal_freeze.specs.Widths.{Fits}
 
--- a sound node whose serial is in its range is in the form of an image
+-- a sound node whose serial is in its range is in form
+abbrev pub SoundIsFormed : Type 0
+SoundIsFormed = (n : Node) → IsSound n → n.serial < 2 ^ 57 → IsFormed n
+
+-- so it is in the form of an image, where it has a profile
 abbrev pub SoundHasImage : Type 0
-SoundHasImage = (n : Node) → IsSound n → n.serial < 2 ^ 57 → IsImage n
+SoundHasImage = (n : Node) → IsSound n → n.serial < 2 ^ 57 → has_profile n ≡ true → IsImage n
 
 -- what is read of bytes was spelled so: the bytes are those of the node's image
 abbrev pub ReadIsSpelled : Type 0
@@ -18,6 +22,8 @@ ReadIsSpelled = (bytes : List ℕ) (n : Node) → ((i : ℕ) → get_or bytes i 
 abbrev pub SpelledIsRead : Type 0
 SpelledIsRead = (n : Node) → IsImage n → Fits n → image_in (image_bytes n) ≡ Ok n
 
--- the bytes of the node of index 0 at its first start: all fields are 0 but for the number of the restart
-abbrev pub FreshBytes : Type 0
-FreshBytes = image_bytes (fresh 0) ≡ codes "MALNODE1" ++ (replicate 20 0 ++ (0 ∷ 0 ∷ 0 ∷ 1 ∷ replicate 33 0))
+-- the 65 bytes of the node of index 0 and profile 1 at its first start, and the 69 of that of profile 2: all fields are 0 but for the
+-- number of the restart
+pub record FreshBytes : Type 0 where
+  pub first : image_bytes (fresh_with 0 1) ≡ codes "MALNODE1" ++ (replicate 20 0 ++ (0 ∷ 0 ∷ 0 ∷ 1 ∷ replicate 33 0))
+  pub second : image_bytes (fresh_with 0 2) ≡ codes "MALNODE2" ++ (replicate 20 0 ++ (0 ∷ 0 ∷ 0 ∷ 1 ∷ replicate 37 0))

@@ -5,10 +5,12 @@ use Rattle.spec_node.specs.State.{Node}
 abbrev pub node_of : Parts → Node
 node_of p = record {
   index = p.index;
+  profile = p.profile;
   variables = p.variables;
   serial = p.serial;
   conflicts_since_restart = p.conflicts_since_restart;
   restart_number = p.restart_number;
+  conflicts_since_dropping = p.conflicts_since_dropping;
   processed = p.processed;
   conflict = p.conflict;
   verdict = p.verdict;

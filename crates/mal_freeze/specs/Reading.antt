@@ -102,11 +102,11 @@ clause_at total greatest bytes = do
   lits ← counted_at total greatest (literal_at total greatest) id.1
   Ok (record { id = id.0; lits = lits.0 }, lits.1)
 
--- the first 8 bytes
-unfoldable pub magic_at : List ℕ → Result (List ℕ) ThawFault
-magic_at bytes = do
+-- the profile that the first 8 bytes name
+unfoldable pub profile_at : List ℕ → Result (ℕ × List ℕ) ThawFault
+profile_at bytes = do
   n ← number_at w64 bytes
-  if n.0 == magic then Ok n.1 else Err BadMagic
+  if n.0 == magic 1 then Ok (1, n.1) else if n.0 == magic 2 then Ok (2, n.1) else Err BadMagic
 
 -- the index, the variables, the serial, and the conflicts since the last restart
 unfoldable pub head_at : ℕ → List ℕ → Result (Head × List ℕ) ThawFault
@@ -117,13 +117,18 @@ head_at total bytes = do
   conflicts_since_restart ← number_at w32 serial.1
   Ok (record { index = index.0; variables = variables.0; serial = serial.0; conflicts_since_restart = conflicts_since_restart.0 }, conflicts_since_restart.1)
 
--- the number of the restart, the batches handled, and the waiting conflict
-unfoldable pub search_at : ℕ → List ℕ → Result (Search × List ℕ) ThawFault
-search_at total bytes = do
+-- the conflicts since the last dropping, which stand where the profile counts them
+unfoldable pub dropping_at : ℕ → List ℕ → Result (ℕ × List ℕ) ThawFault
+dropping_at profile bytes = if profile == 2 then number_at w32 bytes else Ok (0, bytes)
+
+-- the number of the restart, the conflicts since the last dropping, the batches handled, and the waiting conflict
+unfoldable pub search_at : ℕ → ℕ → List ℕ → Result (Search × List ℕ) ThawFault
+search_at total profile bytes = do
   restart_number ← ranged_at total w32 1 (2 ^ 32 - 1) bytes
-  processed ← number_at w32 restart_number.1
+  conflicts_since_dropping ← dropping_at profile restart_number.1
+  processed ← number_at w32 conflicts_since_dropping.1
   conflict ← number_at w64 processed.1
-  Ok (record { restart_number = restart_number.0; processed = processed.0; conflict = number_in conflict.0 }, conflict.1)
+  Ok (record { restart_number = restart_number.0; conflicts_since_dropping = conflicts_since_dropping.0; processed = processed.0; conflict = number_in conflict.0 }, conflict.1)
 
 -- the verdict and the goal
 unfoldable pub ended_at : ℕ → List ℕ → Result (Ended × List ℕ) ThawFault
@@ -145,12 +150,12 @@ lists_at total greatest bytes = do
 -- all fields, and how many bytes are left over
 unfoldable pub fields_at : ℕ → List ℕ → Result Fields ThawFault
 fields_at total bytes = do
-  rest ← magic_at bytes
-  head ← head_at total rest
-  search ← search_at total head.1
+  profile ← profile_at bytes
+  head ← head_at total profile.1
+  search ← search_at total profile.0 head.1
   ended ← ended_at total search.1
   lists ← lists_at total head.0.variables ended.1
-  Ok (record { head = head.0; search = search.0; ended = ended.0; lists = lists.0; left = length lists.1 })
+  Ok (record { profile = profile.0; head = head.0; search = search.0; ended = ended.0; lists = lists.0; left = length lists.1 })
 
 -- a goal stands with the code of unsatisfiable, and with no other
 abbrev pub fits_goal : Ended → Bool
@@ -164,10 +169,12 @@ verdict_in e = if e.code == 2 then Some (Unsatisfiable e.goal) else if e.code ==
 abbrev pub node_in : Fields → Node
 node_in f = record {
   index = f.head.index;
+  profile = f.profile;
   variables = f.head.variables;
   serial = f.head.serial;
   conflicts_since_restart = f.head.conflicts_since_restart;
   restart_number = f.search.restart_number;
+  conflicts_since_dropping = f.search.conflicts_since_dropping;
   processed = f.search.processed;
   conflict = f.search.conflict;
   verdict = verdict_in f.ended;

@@ -26,9 +26,10 @@ FitsEntry e = FitsNumber e.reason × (e.level < 2 ^ 32)
 abbrev pub FitsClause : NumberedClause → Type 0
 FitsClause c = c.id < 2 ^ 64
 
--- the number of the restart, the batches handled and the waiting conflict fit
+-- the number of the restart, the conflicts since the last dropping, the batches handled and the waiting conflict fit
 pub record FitsCounts (n : Node) : Type 0 where
   pub restart_number : n.restart_number < 2 ^ 32
+  pub conflicts_since_dropping : n.conflicts_since_dropping < 2 ^ 32
   pub processed : n.processed < 2 ^ 32
   pub conflict : FitsNumber n.conflict
 

@@ -7,14 +7,16 @@ use mal_base::{Clause, ClauseId, Lit, NumberedClause, TrailEntry, Var};
 use std::alloc::Global;
 use std::test::Fail;
 
-/// The parts of the node of index 0 at its first start.
-fn fresh_parts(alloc: Global) -> Parts {
+/// The parts of the node of index 0 and of this profile at its first start.
+fn fresh_parts(alloc: Global, profile: u32) -> Parts {
     Parts {
         index: 0,
+        profile,
         variables: 0,
         serial: 0,
         conflicts_since_restart: 0,
         restart_number: 1,
+        conflicts_since_dropping: 0,
         processed: 0,
         conflict: None,
         verdict: None,
@@ -50,37 +52,111 @@ fn changed(alloc: Global, bytes: &[u8], place: usize, byte: u8) -> Result<Vec<u8
     Ok(other)
 }
 
+/// The bytes of the node of index 0 and profile 1 at its first start.
+fn fresh_bytes(alloc: Global) -> Result<Vec<u8>, Fail> {
+    bytes_of(alloc, fresh_parts(alloc, 1))
+}
+
+/// The fault of these bytes with another one at a place, none where they are an image.
+fn fault_of_changed(
+    alloc: Global,
+    bytes: &[u8],
+    place: usize,
+    byte: u8,
+) -> Result<Option<ThawFault>, Fail> {
+    let other = changed(alloc, bytes, place, byte)?;
+    Ok(fault_of(alloc, other.as_slice()))
+}
+
+/// The bytes of the image that these bytes are.
+fn again(alloc: Global, bytes: &[u8]) -> Result<Vec<u8>, Fail> {
+    let image = thaw(alloc, bytes).ok().ok_or("no image")?;
+    Ok(freeze(alloc, &image)?)
+}
+
 #[test]
 fn a_fresh_node_is_65_bytes(rt: HostRuntime) -> Result<(), Fail> {
-    let alloc = rt.alloc();
-    let bytes = bytes_of(alloc, fresh_parts(alloc))?;
-    let mut expected = Vec::from_slice(alloc, b"MALNODE1")?;
+    let bytes = fresh_bytes(rt.alloc())?;
+    let mut expected = Vec::from_slice(rt.alloc(), b"MALNODE1")?;
     expected.resize(65, 0)?;
-    let expected = changed(alloc, expected.as_slice(), 31, 1)?;
+    let expected = changed(rt.alloc(), expected.as_slice(), 31, 1)?;
     assert_eq!(rt; bytes.as_slice(), expected.as_slice());
-    for len in 0..65 {
-        let front = Vec::from_slice(alloc, bytes.get(..len).ok_or("no front")?)?;
-        assert_eq!(rt;
-            fault_of(alloc, front.as_slice()),
-            Some(ThawFault::Truncated)
-        );
-    }
-    let image = thaw(alloc, bytes.as_slice()).ok().ok_or("an image")?;
+    Ok(())
+}
+
+#[test]
+fn a_fresh_node_of_profile_2_is_69_bytes(rt: HostRuntime) -> Result<(), Fail> {
+    let bytes = bytes_of(rt.alloc(), fresh_parts(rt.alloc(), 2))?;
+    let mut expected = Vec::from_slice(rt.alloc(), b"MALNODE2")?;
+    expected.resize(69, 0)?;
+    let expected = changed(rt.alloc(), expected.as_slice(), 31, 1)?;
+    assert_eq!(rt; bytes.as_slice(), expected.as_slice());
+    Ok(())
+}
+
+#[test]
+fn conflicts_since_the_last_dropping_come_back(rt: HostRuntime) -> Result<(), Fail> {
+    let bytes = bytes_of(rt.alloc(), fresh_parts(rt.alloc(), 2))?;
+    let counted = changed(rt.alloc(), bytes.as_slice(), 34, 7)?;
+    let image = thaw(rt.alloc(), counted.as_slice()).ok().ok_or("no image")?;
+    assert_eq!(rt; image.parts().profile, 2);
+    assert_eq!(rt; image.parts().conflicts_since_dropping, 1792);
+    assert_eq!(rt;
+        again(rt.alloc(), counted.as_slice())?.as_slice(),
+        counted.as_slice()
+    );
+    Ok(())
+}
+
+#[test]
+fn a_node_of_profile_1_counts_for_no_dropping(rt: HostRuntime) -> Result<(), Fail> {
+    let mut counted = fresh_parts(rt.alloc(), 1);
+    counted.conflicts_since_dropping = 1;
+    assert!(rt; Image::new(rt.alloc(), counted)?.is_none());
+    Ok(())
+}
+
+#[test]
+fn there_is_no_third_profile(rt: HostRuntime) -> Result<(), Fail> {
+    let image = Image::new(rt.alloc(), fresh_parts(rt.alloc(), 3))?;
+    assert!(rt; image.is_none());
+    Ok(())
+}
+
+#[test]
+fn a_fresh_node_comes_back_from_its_bytes(rt: HostRuntime) -> Result<(), Fail> {
+    let bytes = fresh_bytes(rt.alloc())?;
+    let image = thaw(rt.alloc(), bytes.as_slice()).ok().ok_or("no image")?;
     assert_eq!(rt; image.parts().restart_number, 1);
-    let other = changed(alloc, bytes.as_slice(), 0, b'm')?;
-    assert_eq!(rt;
-        fault_of(alloc, other.as_slice()),
-        Some(ThawFault::BadMagic)
-    );
-    let other = changed(alloc, bytes.as_slice(), 11, 64)?;
-    assert_eq!(rt;
-        fault_of(alloc, other.as_slice()),
-        Some(ThawFault::BadField { place: 8 })
-    );
-    let mut longer = bytes;
+    Ok(())
+}
+
+#[test]
+fn bytes_that_are_cut_short_are_refused(rt: HostRuntime) -> Result<(), Fail> {
+    let bytes = fresh_bytes(rt.alloc())?;
+    for len in 0..65 {
+        let front = bytes.get(..len).ok_or("no front")?;
+        assert_eq!(rt; fault_of(rt.alloc(), front), Some(ThawFault::Truncated));
+    }
+    Ok(())
+}
+
+#[test]
+fn other_bytes_are_refused(rt: HostRuntime) -> Result<(), Fail> {
+    let bytes = fresh_bytes(rt.alloc())?;
+    let magic = fault_of_changed(rt.alloc(), bytes.as_slice(), 0, b'm')?;
+    assert_eq!(rt; magic, Some(ThawFault::BadMagic));
+    let index = fault_of_changed(rt.alloc(), bytes.as_slice(), 11, 64)?;
+    assert_eq!(rt; index, Some(ThawFault::BadField { place: 8 }));
+    Ok(())
+}
+
+#[test]
+fn a_byte_too_many_is_refused(rt: HostRuntime) -> Result<(), Fail> {
+    let mut longer = fresh_bytes(rt.alloc())?;
     longer.push(0)?;
     assert_eq!(rt;
-        fault_of(alloc, longer.as_slice()),
+        fault_of(rt.alloc(), longer.as_slice()),
         Some(ThawFault::NotCanonical)
     );
     Ok(())
@@ -112,7 +188,7 @@ fn node_bytes(alloc: Global) -> Result<Vec<u8>, Fail> {
     ];
     let first = clause(alloc, 1, true, true)?;
     let second = clause(alloc, 2, false, true)?;
-    let mut parts = fresh_parts(alloc);
+    let mut parts = fresh_parts(alloc, 1);
     parts.variables = 2;
     parts.processed = 3;
     parts.assumptions = Vec::from_slice(alloc, &lits)?;
@@ -123,19 +199,28 @@ fn node_bytes(alloc: Global) -> Result<Vec<u8>, Fail> {
     bytes_of(alloc, parts)
 }
 
+/// Whether parts are those of that node, as far as they are counted.
+fn are_counted(parts: &Parts) -> bool {
+    parts.variables == 2
+        && parts.processed == 3
+        && parts.phases.as_slice() == [false, true].as_slice()
+        && parts.trail.len() == 2
+        && parts.clauses.len() == 2
+}
+
 #[test]
 fn a_node_comes_back_from_its_bytes(rt: HostRuntime) -> Result<(), Fail> {
-    let alloc = rt.alloc();
-    let bytes = node_bytes(alloc)?;
+    let bytes = node_bytes(rt.alloc())?;
     assert_eq!(rt; bytes.len(), 155);
-    let image = thaw(alloc, bytes.as_slice()).ok().ok_or("an image")?;
-    let parts = image.parts();
-    assert_eq!(rt; parts.variables, 2);
-    assert_eq!(rt; parts.processed, 3);
-    assert_eq!(rt; parts.phases.as_slice(), [false, true].as_slice());
-    assert_eq!(rt; parts.trail.len(), 2);
-    assert_eq!(rt; parts.clauses.len(), 2);
-    let again = freeze(alloc, &image)?;
+    let image = thaw(rt.alloc(), bytes.as_slice()).ok().ok_or("no image")?;
+    assert!(rt; are_counted(image.parts()));
+    Ok(())
+}
+
+#[test]
+fn a_node_that_comes_back_has_the_same_bytes(rt: HostRuntime) -> Result<(), Fail> {
+    let bytes = node_bytes(rt.alloc())?;
+    let again = again(rt.alloc(), bytes.as_slice())?;
     assert_eq!(rt; again.as_slice(), bytes.as_slice());
     Ok(())
 }
@@ -177,21 +262,20 @@ const OUT_OF_RANGE: [(usize, u8, usize); 10] = [
 
 #[test]
 fn what_is_in_no_form_is_refused(rt: HostRuntime) -> Result<(), Fail> {
-    let alloc = rt.alloc();
-    let bytes = node_bytes(alloc)?;
+    let bytes = node_bytes(rt.alloc())?;
     for (place, byte) in UNORDERED {
-        let other = changed(alloc, bytes.as_slice(), place, byte)?;
-        assert_eq!(rt;
-            fault_of(alloc, other.as_slice()),
-            Some(ThawFault::NotCanonical)
-        );
+        let fault = fault_of_changed(rt.alloc(), bytes.as_slice(), place, byte)?;
+        assert_eq!(rt; fault, Some(ThawFault::NotCanonical));
     }
+    Ok(())
+}
+
+#[test]
+fn a_number_out_of_its_range_is_told_by_its_place(rt: HostRuntime) -> Result<(), Fail> {
+    let bytes = node_bytes(rt.alloc())?;
     for (at, byte, place) in OUT_OF_RANGE {
-        let other = changed(alloc, bytes.as_slice(), at, byte)?;
-        assert_eq!(rt;
-            fault_of(alloc, other.as_slice()),
-            Some(ThawFault::BadField { place })
-        );
+        let fault = fault_of_changed(rt.alloc(), bytes.as_slice(), at, byte)?;
+        assert_eq!(rt; fault, Some(ThawFault::BadField { place }));
     }
     Ok(())
 }

@@ -13,10 +13,11 @@ pub struct Head {
     pub conflicts_since_restart: u32,
 }
 
-/// The number of the restart (at least 1), the batches handled, and the waiting conflict.
+/// The number of the restart (at least 1), the conflicts since the last dropping, the batches handled, and the waiting conflict.
 #[derive(Clone, Copy)]
 pub struct Search {
     pub restart_number: u32,
+    pub conflicts_since_dropping: u32,
     pub processed: u32,
     pub conflict: Option<ClauseId>,
 }
@@ -52,9 +53,10 @@ impl Model for Lists {
     } };
 }
 
-/// All fields, and how many bytes are left over behind them.
+/// All fields of an image of this profile, and how many bytes are left over behind them.
 #[derive(Drop)]
 pub struct Fields {
+    pub profile: u32,
     pub head: Head,
     pub search: Search,
     pub ended: Ended,

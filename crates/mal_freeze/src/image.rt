@@ -1,6 +1,6 @@
 //! The image of a node.
 
-ghost use Rattle.std.specs.Prelude.{◌≡◌, ◌≤◌, ◌↔◌, IsTrue, IfOk, MatchOption};
+ghost use Rattle.std.specs.Prelude.{◌≡◌, ◌==◌, ◌||◌, ◌&&◌, ◌≤◌, ◌↔◌, IsTrue, IfOk, MatchOption};
 ghost use Rattle.mal_freeze.specs.Imaged.{IsImage, HasRanges};
 ghost use Rattle.mal_freeze.specs.Parted.{node_of};
 
@@ -11,7 +11,8 @@ use std::alloc::{AllocError, Global};
 use std::marker::Model;
 
 /// The plain form of a node, whose numbers are in their ranges and whose lists are in order: the index is at most 63, the
-/// variables at most 65,536, the serial below 2^57, the round at least 1; no more batches count as handled than the trail
+/// profile 1 or 2, the variables at most 65,536, the serial below 2^57, the number of the restart at least 1; under profile 1
+/// no conflicts count for a dropping; no more batches count as handled than the trail
 /// has prefixes; the assumptions and the literals of a clause rise by variable; the order has each variable once; each
 /// variable has a phase; no variable stands twice on the trail, whose levels rise by one at most; the numbers of the
 /// clauses rise. Contracts see the node.
@@ -82,6 +83,9 @@ impl Image {
 fn is_image(alloc: Global, parts: &Parts) -> Result<bool, AllocError>
     ensures { IfOk result (λ b. IsTrue b ↔ IsImage (node_of parts.now)) }
 {
+    if !has_profile(parts.profile, parts.conflicts_since_dropping) {
+        return Ok(false);
+    }
     if !has_ranges(parts) {
         return Ok(false);
     }
@@ -121,4 +125,11 @@ fn has_ranges(parts: &Parts) -> bool
         return false;
     }
     parts.phases.len() == parts.variables as usize
+}
+
+/// Whether so many conflicts may count for a dropping under a profile.
+fn has_profile(profile: u32, conflicts_since_dropping: u32) -> bool
+    ensures { result ≡ ((profile == 2) || ((profile == 1) && (conflicts_since_dropping == 0))) }
+{
+    profile == 2 || (profile == 1 && conflicts_since_dropping == 0)
 }

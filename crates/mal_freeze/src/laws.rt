@@ -1,10 +1,11 @@
 //! What is known of images, as the contract of a function without a body.
 
-ghost use Rattle.mal_freeze.specs.Laws.{SoundHasImage, ReadIsSpelled, SpelledIsRead, FreshBytes};
+ghost use Rattle.mal_freeze.specs.Laws.{SoundIsFormed, SoundHasImage, ReadIsSpelled, SpelledIsRead, FreshBytes};
 
-/// A sound node of a serial below 2^57 is in the form of an image.
+/// A sound node of a serial below 2^57 is in form, and so, with profile 1 or 2, in the form of an image.
 pub fn sound_has_image()
-    ensures { SoundHasImage }
+    ensures form { SoundIsFormed }
+    ensures image { SoundHasImage }
 {}
 
 /// What is read of bytes was spelled so.
@@ -17,7 +18,7 @@ pub fn spelled_is_read()
     ensures { SpelledIsRead }
 {}
 
-/// The 65 bytes of the node of index 0 at its first start.
+/// The 65 bytes of the node of index 0 and profile 1 at its first start, and the 69 of that of profile 2.
 pub fn fresh_bytes()
     ensures { FreshBytes }
 {}

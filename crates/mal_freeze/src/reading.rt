@@ -3,7 +3,7 @@
 ghost use Rattle.std.specs.Prelude.{◌≡◌, ◌≤◌, ◌+◌, ◌-◌, ◌*◌, ◌<◌, ◌^◌, length, IfOk};
 ghost use Rattle.std.specs.Int.{w32, w64};
 ghost use Rattle.mal_freeze.specs.declared.fault.ThawFault.TheVariants.{BadField};
-ghost use Rattle.mal_freeze.specs.Reading.{Gives, place_of, number_at, ranged_at, byte_at, many_at, counted_at, literal_at, variable_at, number_in, phase_at, entry_at, clause_at, magic_at, head_at, search_at, ended_at, lists_at, fields_at};
+ghost use Rattle.mal_freeze.specs.Reading.{Gives, place_of, number_at, ranged_at, byte_at, many_at, counted_at, literal_at, variable_at, number_in, phase_at, entry_at, clause_at, profile_at, dropping_at, head_at, search_at, ended_at, lists_at, fields_at};
 
 use crate::fault::ThawFault;
 use crate::fields::{Ended, Fields, Head, Lists, Search};
@@ -12,8 +12,11 @@ use mal_base::{ClauseId, Lit, TrailEntry, Var};
 use smallvec::SmallVec;
 use std::alloc::Global;
 
-/// The first 8 bytes of each image, `MALNODE1`, as one number.
-pub const MAGIC: u64 = 0x4d41_4c4e_4f44_4531;
+/// The first 8 bytes of each image of profile 1, `MALNODE1`, as one number.
+pub const MAGIC_1: u64 = 0x4d41_4c4e_4f44_4531;
+
+/// Those of each image of profile 2, `MALNODE2`.
+pub const MAGIC_2: u64 = 0x4d41_4c4e_4f44_4532;
 
 /// The fault of a field that begins where these bytes do.
 fn bad_field(total: usize, bytes: &[u8]) -> ThawFault
@@ -321,16 +324,31 @@ fn clauses(
     many_clauses(alloc, total, greatest, count, rest)
 }
 
-/// What stands behind the first 8 bytes, which are those of an image.
-#[tactic(auto, unfolding(crate::specs::Reading::magic_at))]
-fn behind_magic(bytes: &[u8]) -> Result<&[u8], ThawFault>
-    ensures { Gives (λ x. x.now) result (magic_at bytes.now) }
+/// The profile that the first 8 bytes name, and what stands behind them.
+#[tactic(auto, unfolding(crate::specs::Reading::profile_at))]
+fn profile(bytes: &[u8]) -> Result<(u32, &[u8]), ThawFault>
+    ensures { Gives (λ x. (x.0, x.1.now)) result (profile_at bytes.now) }
 {
     let (number, rest) = u64_at(bytes)?;
-    if number != MAGIC {
-        return Err(ThawFault::BadMagic);
+    if number == MAGIC_1 {
+        return Ok((1, rest));
     }
-    Ok(rest)
+    if number == MAGIC_2 {
+        return Ok((2, rest));
+    }
+    Err(ThawFault::BadMagic)
+}
+
+/// The conflicts since the last dropping, which stand where the profile counts them.
+#[tactic(auto, unfolding(crate::specs::Reading::dropping_at))]
+fn dropping(profile: u32, bytes: &[u8]) -> Result<(u32, &[u8]), ThawFault>
+    ensures { Gives (λ x. (x.0, x.1.now)) result (dropping_at profile bytes.now) }
+{
+    if profile == 2 {
+        u32_at(bytes)
+    } else {
+        Ok((0, bytes))
+    }
 }
 
 /// The index, the variables, the serial, and the conflicts since the last restart.
@@ -354,17 +372,19 @@ fn head(total: usize, bytes: &[u8]) -> Result<(Head, &[u8]), ThawFault>
     ))
 }
 
-/// The number of the restart, the batches handled, and the waiting conflict.
+/// The number of the restart, the conflicts since the last dropping, the batches handled, and the waiting conflict.
 #[tactic(auto, unfolding(crate::specs::Reading::search_at))]
-fn search(total: usize, bytes: &[u8]) -> Result<(Search, &[u8]), ThawFault>
-    ensures { Gives (λ x. (x.0, x.1.now)) result (search_at total bytes.now) }
+fn search(total: usize, profile: u32, bytes: &[u8]) -> Result<(Search, &[u8]), ThawFault>
+    ensures { Gives (λ x. (x.0, x.1.now)) result (search_at total profile bytes.now) }
 {
     let (restart_number, rest) = u32_within(total, 1, u32::MAX, bytes)?;
+    let (conflicts_since_dropping, rest) = dropping(profile, rest)?;
     let (processed, rest) = u32_at(rest)?;
     let (conflict, rest) = u64_at(rest)?;
     Ok((
         Search {
             restart_number,
+            conflicts_since_dropping,
             processed,
             conflict: number_of(conflict),
         },
@@ -416,9 +436,9 @@ pub fn fields(alloc: Global, bytes: &[u8]) -> Result<Fields, ThawFault>
     ensures { Gives (λ x. x) result (fields_at (length bytes.now) bytes.now) }
 {
     let total = bytes.len();
-    let rest = behind_magic(bytes)?;
+    let (profile, rest) = profile(bytes)?;
     let (head, rest) = head(total, rest)?;
-    let (search, rest) = match search(total, rest) {
+    let (search, rest) = match search(total, profile, rest) {
         Ok(read) => read,
         Err(fault) => return Err(fault),
     };
@@ -428,6 +448,7 @@ pub fn fields(alloc: Global, bytes: &[u8]) -> Result<Fields, ThawFault>
         Err(fault) => return Err(fault),
     };
     Ok(Fields {
+        profile,
         head,
         search,
         ended,

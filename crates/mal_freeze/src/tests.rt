@@ -17,10 +17,12 @@ fn parts(alloc: Global) -> Result<Parts, Fail> {
     let assumptions: Vec<Lit> = Vec::new(alloc);
     Ok(Parts {
         index: 0,
+        profile: 1,
         variables: 2,
         serial: 0,
         conflicts_since_restart: 0,
         restart_number: 1,
+        conflicts_since_dropping: 0,
         processed: 2,
         conflict: None,
         verdict: None,

@@ -83,10 +83,12 @@ fn parts_of(alloc: Global, fields: Fields) -> Result<Option<Parts>, AllocError>
     };
     Ok(Some(Parts {
         index: fields.head.index,
+        profile: fields.profile,
         variables: fields.head.variables,
         serial: fields.head.serial,
         conflicts_since_restart: fields.head.conflicts_since_restart,
         restart_number: fields.search.restart_number,
+        conflicts_since_dropping: fields.search.conflicts_since_dropping,
         processed: fields.search.processed,
         conflict: fields.search.conflict,
         verdict,

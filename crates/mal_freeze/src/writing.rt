@@ -5,12 +5,12 @@ ghost use Rattle.std.specs.Int.{w32, w64};
 ghost use Rattle.std.specs.List.{AllByRecursion};
 ghost use Rattle.mal_freeze.specs.Parted.{node_of};
 ghost use Rattle.mal_freeze.specs.Reading.{image_in};
-ghost use Rattle.mal_freeze.specs.Spelling.{spelled, number_or_0, code_of, goal_of, counted, phase_bytes, entry_bytes, clause_bytes, head_bytes, search_bytes, verdict_bytes, list_bytes, image_bytes};
+ghost use Rattle.mal_freeze.specs.Spelling.{spelled, magic, dropping_bytes, number_or_0, code_of, goal_of, counted, phase_bytes, entry_bytes, clause_bytes, head_bytes, search_bytes, verdict_bytes, list_bytes, image_bytes};
 ghost use Rattle.mal_freeze.specs.Widths.{FitsNumber, FitsGoal, FitsEntry, FitsClause, FitsCounts, FitsLists, Fits};
 
 use crate::image::Image;
 use crate::parts::Parts;
-use crate::reading::MAGIC;
+use crate::reading::{MAGIC_1, MAGIC_2};
 use mal_base::{ClauseId, Lit, NumberedClause, TrailEntry, Var, Verdict};
 use std::alloc::{AllocError, Global};
 
@@ -29,12 +29,19 @@ fn bytes_of(alloc: Global, parts: &Parts) -> Result<Vec<u8>, AllocError>
     ensures fits { IfOk result (λ _. Fits (node_of parts.now)) }
 {
     let mut out = Vec::new(alloc);
-    put_u64(&mut out, MAGIC)?;
+    put_u64(&mut out, magic(parts.profile))?;
     put_head(&mut out, parts)?;
     put_search(&mut out, parts)?;
     put_verdict(&mut out, &parts.verdict)?;
     put_lists(&mut out, parts)?;
     Ok(out)
+}
+
+/// The first 8 bytes of the images of a profile, as one number.
+fn magic(profile: u32) -> u64
+    ensures { result ≡ magic profile }
+{
+    if profile == 2 { MAGIC_2 } else { MAGIC_1 }
 }
 
 /// Puts a number of 4 bytes behind the others.
@@ -88,14 +95,28 @@ fn put_head(out: &mut Vec<u8>, parts: &Parts) -> Result<(), AllocError>
     put_u32(out, parts.conflicts_since_restart)
 }
 
-/// Puts the number of the restart, the batches handled, and the waiting conflict behind the others.
+/// Puts the number of the restart, the conflicts since the last dropping where the profile counts them, the batches handled, and
+/// the waiting conflict behind the others.
 fn put_search(out: &mut Vec<u8>, parts: &Parts) -> Result<(), AllocError>
     ensures spelled { OnOk result (out.new.items ≡ out.old.items ++ search_bytes (node_of parts.now)) }
     ensures fits { OnOk result (FitsCounts (node_of parts.now)) }
 {
     put_u32(out, parts.restart_number)?;
+    put_dropping(out, parts.profile, parts.conflicts_since_dropping)?;
     put_u32(out, parts.processed)?;
     put_u64(out, number_or_0(parts.conflict))
+}
+
+/// Puts the conflicts since the last dropping behind the others, where the profile counts them.
+fn put_dropping(out: &mut Vec<u8>, profile: u32, count: u32) -> Result<(), AllocError>
+    ensures spelled { OnOk result (out.new.items ≡ out.old.items ++ dropping_bytes profile count) }
+    ensures fits { count < 2 ^ 32 }
+{
+    if profile == 2 {
+        put_u32(out, count)
+    } else {
+        Ok(())
+    }
 }
 
 /// Puts a verdict behind the others, and its goal.

@@ -4,4 +4,4 @@ use Rattle.mal_freeze.proofs.laws.fresh_bytes.Goals as goal
 
 pub returns : goal.returns
 unfolding spelled
-returns c = refl
+returns c = record { first = refl; second = refl }
