@@ -22,14 +22,14 @@ use Rattle.spec_learn.specs.Learning.{analysis, derived_id, learned, forced_by}
 use Rattle.spec_learn.specs.Refuting.{refuted, core_analysis}
 use Rattle.spec_learn.specs.CoreLaws.{HasFailed}
 use Rattle.spec_learn.proofs.SoundParts.{below-derived}
-use Rattle.spec_learn.proofs.KeepLemmas.{learned-sound, order-has}
-use Rattle.spec_learn.proofs.LawLemmas.{sound-asserts}
+use Rattle.spec_learn.proofs.KeepLemmas.{order-has}
+use Rattle.spec_learn.proofs.ProfileLemmas.{learned-sound, sound-asserts}
 use Rattle.spec_learn.proofs.RefuteLemmas.{emptied-sound}
 use Rattle.spec_learn.proofs.CoreLemmas.{member-All, failed-member}
 use Rattle.spec_learn.proofs.CoreClauseLemmas.{core-clause}
 use Rattle.spec_learn.proofs.CoreSoundLemmas.{cored-sound}
-use Rattle.mal_freeze.specs.Imaged.{IsImage}
-use Rattle.mal_freeze.proofs.SoundLemmas.{sound-image}
+use Rattle.mal_freeze.specs.Imaged.{IsFormed}
+use Rattle.mal_freeze.proofs.SoundLemmas.{sound-formed}
 
 -- entries of some variables are of more
 pub placed-wider : (v w : ℕ) (es before : List TrailEntry) → v ≤ w → EachAfter (IsPlaced v) before es → EachAfter (IsPlaced w) before es
@@ -80,15 +80,15 @@ literals-learned n id h q some = all-new (λ c. AreLiteralsOf n.variables c.lits
 pub fit-learned : (n : Node) (id : ℕ) → IsSound n → n.conflict ≡ Some id → 0 < level_of n.trail → IsFit n.variables (analysis id n).lits
 fit-learned n id h q some = fit-of n.variables (analysis id n).lits (literals-learned n id h q some)
 
-pub image-learned : (n : Node) (id : ℕ) → IsSound n → n.conflict ≡ Some id → 0 < level_of n.trail → n.serial + 1 < 2 ^ 57 → IsImage (learned id n)
-image-learned n id h q some low = sound-image (learned id n) (learned-sound n id h q some) low
+pub formed-learned : (n : Node) (id : ℕ) → IsSound n → n.conflict ≡ Some id → 0 < level_of n.trail → n.serial + 1 < 2 ^ 57 → IsFormed (learned id n)
+formed-learned n id h q some low = sound-formed (learned id n) (learned-sound n id h q some) low
 
 -- the literals of a goal
 pub fit-refuted : (n : Node) (lits : List ℕ) → IsSound (refuted lits n) → IsFit n.variables lits
 fit-refuted n lits h = fit-of n.variables lits (all-new (λ c. AreLiteralsOf n.variables c.lits) (record { id = derived_id n; lits = lits }) n.clauses h.consistent.clauses)
 
-pub image-refuted : (n : Node) (lits : List ℕ) → IsSound (refuted lits n) → n.serial + 1 < 2 ^ 57 → IsImage (refuted lits n)
-image-refuted n lits h low = sound-image (refuted lits n) h low
+pub formed-refuted : (n : Node) (lits : List ℕ) → IsSound (refuted lits n) → n.serial + 1 < 2 ^ 57 → IsFormed (refuted lits n)
+formed-refuted n lits h low = sound-formed (refuted lits n) h low
 
 -- the variables of a learned clause are in the order
 pub has-learned : (n : Node) (id : ℕ) → IsSound n → n.conflict ≡ Some id → 0 < level_of n.trail → list_all (λ v. list_any (λ w. w == v) n.order) (vars_in (analysis id n).lits) ≡ true

@@ -1,8 +1,7 @@
-use Rattle.std.proofs.Common.{◌≡◌, ℕ, zero, suc, ◌+◌, ◌-◌, ◌*◌, ◌/◌, ◌<◌, ◌≤◌, Bool, true, false, ◌&&◌, cond, nat_le, List, [], ◌∷◌, ◌++◌, length, take, drop, replicate, get_or, Option, Some, None, refl, sym, ap, ◌∙◌, arith, append_assoc}
+use Rattle.std.proofs.Common.{◌≡◌, ℕ, zero, suc, ◌+◌, ◌-◌, ◌*◌, ◌/◌, ◌<◌, ◌≤◌, Bool, true, false, ◌&&◌, cond, nat_le, List, [], ◌∷◌, ◌++◌, length, take, replicate, get_or, Option, Some, None, refl, sym, ap, ◌∙◌, arith, append_assoc}
 use Rattle.std.specs.List.{list_all, find}
 use Rattle.std.proofs.lemmas.List.{length-append}
 use Rattle.std.specs.Prelude.{filter, nat_lt, slice_set, ◌^◌}
-use Rattle.std.proofs.lemmas.Bool.{false≢true}
 use Rattle.std.proofs.lemmas.Bool.Decides.{nat_tests}
 use Rattle.std.proofs.lemmas.List.Folds.{list_all-append}
 use Rattle.mal_base.specs.Clauses.{rises}
@@ -14,7 +13,7 @@ use Rattle.mal_revision.specs.Posted.{Posted, is_posted}
 use Rattle.mal_base.specs.NumberedClause.{NumberedClause}
 use Rattle.spec_node.specs.Load.{counted, numbered, new_order, with_originals, is_derived}
 use Rattle.mal_order.proofs.CountedLemmas.{turn-le, new_order-runs}
-use Rattle.mal_trail.proofs.FoundLemmas.{and_true, some_one, none_some, found_passes}
+use Rattle.mal_trail.proofs.FoundLemmas.{and_true, some_one, none_some}
 use Rattle.mal_trail.specs.Rooms.{are_within}
 use Rattle.mal_cdcl.specs.Within.{is_order_of}
 

@@ -13,7 +13,7 @@ use Rattle.spec_node.specs.Sound.{NumbersRise}
 use Rattle.mal_order.specs.Ordered.{Ordered}
 use Rattle.mal_order.specs.Rings.{IsApart, AreOnce, ArePlaced, IsTurned}
 use Rattle.mal_trail.specs.Rooms.{are_within}
-use Rattle.mal_freeze.specs.Imaged.{IsImage, are_new, is_new, are_clauses, are_literals, numbers_rise}
+use Rattle.mal_freeze.specs.Imaged.{IsFormed, are_new, is_new, are_clauses, are_literals, numbers_rise}
 use Rattle.mal_freeze.proofs.ListLemmas.{take-at}
 use Rattle.mal_cdcl.specs.Within.{IsNode, is_order_of}
 use Rattle.mal_cdcl.specs.Rising.{all_rise}
@@ -116,9 +116,9 @@ rise-from last (c ∷ cs) h =
     let b = test_lt last c.id a.0 in
     (omega arith, rise-from c.id cs a.1)
 
--- what an image keeps is what a node keeps
-pub image-node : (n : Node) (most : ℕ) (o : Ordered) → n.variables ≤ most → o.index ≡ n.index → o.list ≡ n.order → IsImage n → IsNode n.index n.variables most n.assumptions o n.phases n.clauses
-image-node n most o room turned listed i =
+-- what is in form keeps what a node keeps
+pub formed-node : (n : Node) (most : ℕ) (o : Ordered) → n.variables ≤ most → o.index ≡ n.index → o.list ≡ n.order → IsFormed n → IsNode n.index n.variables most n.assumptions o n.phases n.clauses
+formed-node n most o room turned listed i =
     let parts = and_parts (length n.order == n.variables) (are_new n.variables [] n.order) i.order in
     record {
       place = i.ranges.index;
@@ -163,9 +163,9 @@ placed-new g before (v ∷ vs) w =
     let low : v ≤ g = test_le v g c.1 in
     (test_le 1 v c.0, omega (arith, low), placed-new g (before ++ v ∷ []) vs a.1)
 
--- the order of an image has the variables 1 to their number, each once
-pub image-turned : (n : Node) → IsImage n → IsTurned n.order
-image-turned n i =
+-- the order of a node in form has the variables 1 to their number, each once
+pub formed-turned : (n : Node) → IsFormed n → IsTurned n.order
+formed-turned n i =
     let parts = and_parts (length n.order == n.variables) (are_new n.variables [] n.order) i.order in
     let same : length n.order ≡ n.variables = eqb-true (length n.order) n.variables parts.0 in
     record { once = once-new n.variables [] n.order parts.1; placed = rw same (placed-new n.variables [] n.order parts.1) }

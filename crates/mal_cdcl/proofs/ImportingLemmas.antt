@@ -1,6 +1,5 @@
-use Rattle.std.proofs.Common.{◌≡◌, ◌≢◌, ℕ, zero, suc, ◌+◌, ◌^◌, ◌<◌, ◌≤◌, Bool, true, not, List, [], ◌∷◌, length, drop, get_or, refl, sym, ap, ◌∙◌, subst, arith}
+use Rattle.std.proofs.Common.{◌≡◌, ℕ, zero, suc, ◌+◌, ◌^◌, ◌<◌, ◌≤◌, Bool, true, not, List, [], ◌∷◌, length, drop, get_or, refl, sym, ap, ◌∙◌, subst, arith}
 use Rattle.std.specs.Prelude.{All}
-use Rattle.std.specs.List.{list_all}
 use Rattle.std.proofs.lemmas.Bool.{leb-true, and_parts}
 use Rattle.std.proofs.lemmas.List.Elements.{All-head, All-tail, All-cons, All-nil, All-weaker}
 use Rattle.mal_base.specs.Formulas.{is_within}
@@ -9,16 +8,16 @@ use Rattle.mal_revision.specs.Posted.{Posted}
 use Rattle.mal_trail.specs.Rooms.{HasRoom, are_within}
 use Rattle.spec_node.specs.State.{Node}
 use Rattle.spec_node.specs.Load.{is_derived}
-use Rattle.spec_node.specs.Import.{has_lits, taken, with_clauses, with_new, imported}
+use Rattle.spec_node.specs.Import.{has_lits, taken, with_clauses, imported}
 use Rattle.spec_node.specs.Sound.{AreLiteralsOf, NumbersRise}
 use Rattle.spec_node.specs.Laws.{MayImport}
-use Rattle.spec_node.proofs.LoadLemmas.{literals-wider}
 use Rattle.spec_node.proofs.ImportLemmas.{All-passed, All-with_clauses, own-passed, taken-apart, numbers-with_clauses}
 use Rattle.mal_cdcl.specs.Within.{NodeWithRoom, NodeRoom}
-use Rattle.mal_cdcl.specs.ImportSizes.{lits_in}
-use Rattle.mal_cdcl.specs.Ready.{readied, HasRoomFor}
+use Rattle.mal_cdcl.specs.ImportSizes.{lits_in, told_clauses}
+use Rattle.mal_cdcl.specs.Ready.{readied, clauses_in, HasRoomFor}
 use Rattle.mal_cdcl.specs.Sliced.{HasSliceRoom, Keeps}
-use Rattle.mal_cdcl.specs.Importing.{all_imported, MayImportAll, picked, with_picks, AreNewTo, AreAllNew}
+use Rattle.mal_cdcl.specs.Importing.{all_imported, MayImportAll, picked, with_pick, with_picks, AreNewTo, AreAllNew}
+use Rattle.mal_cdcl.proofs.HeldCountLemmas.{pick-clauses, pick-leaves, ready-ids}
 use Rattle.mal_cdcl.proofs.NeedLemmas.{IsReadying}
 use Rattle.mal_cdcl.proofs.TellingLemmas.{within-literals}
 
@@ -53,11 +52,11 @@ taken-new told n h =
 
 picked-new : (imports : List (List NumberedClause)) (n : Node) → MayImportAll imports n → AreAllNew (picked imports n.clauses) n
 picked-new [] n h = tt
-picked-new (told ∷ more) n h = (taken-new told n h.0, picked-new more (imported told n) h.1)
+picked-new (told ∷ more) n h = (taken-new told n h.0, subst (λ (cs : List NumberedClause). AreAllNew (picked more cs) (imported told n)) (pick-clauses (taken told n.clauses) n) (picked-new more (imported told n) h.1))
 
 picked-done : (imports : List (List NumberedClause)) (n : Node) → with_picks (picked imports n.clauses) n ≡ all_imported imports n
 picked-done [] n = refl
-picked-done (told ∷ more) n = picked-done more (imported told n)
+picked-done (told ∷ more) n = ap (λ (cs : List NumberedClause). with_picks (picked more cs) (imported told n)) (sym (pick-clauses (taken told n.clauses) n)) ∙ picked-done more (imported told n)
 
 -- what is left to import of some picks: this node is reached with them, they are new, and there is room for them, in a
 -- scratch of this bound too
@@ -78,9 +77,9 @@ importing-begins loads imports picks start bound now is may h =
       fitted = h.fitted;
     }
 
-importing-first : (new : List NumberedClause) (more : List (List NumberedClause)) (target : Node) (bound : ℕ) (now next : NodeWithRoom) → next.state ≡ with_new new now.state → Keeps (length new) (lits_in new) now next → IsImporting (new ∷ more) target bound now → IsImporting more target bound next
+importing-first : (new : List NumberedClause) (more : List (List NumberedClause)) (target : Node) (bound : ℕ) (now next : NodeWithRoom) → next.state ≡ with_pick new now.state → Keeps (length new) (lits_in new) now next → IsImporting (new ∷ more) target bound now → IsImporting more target bound next
 importing-first new more target bound now next is k h =
-    let v : next.state.variables ≡ now.state.variables = ap (λ (n : Node). n.variables) is in
+    let v : next.state.variables ≡ now.state.variables = ap (λ (n : Node). n.variables) is ∙ (pick-leaves new now.state).variables in
     let trail : next.spare.trail ≡ now.spare.trail = ap (λ (s : NodeRoom). s.trail) k.spare in
     let order : next.spare.order ≡ now.spare.order = ap (λ (s : NodeRoom). s.order) k.spare in
     let phases : next.spare.phases ≡ now.spare.phases = ap (λ (s : NodeRoom). s.phases) k.spare in
@@ -121,7 +120,7 @@ importing-here picks i x d target bound now l e h = rw (drop-at picks i x d l e)
 pub importing-room : (x : List NumberedClause) (more : List (List NumberedClause)) (now : NodeWithRoom) → HasRoomFor [] (x ∷ more) now → HasRoom now.state.variables (length x) (lits_in x) now.spare.engine
 importing-room x more now h = record { variables = h.variables; clauses = omega (arith, h.clauses); literals = omega (arith, h.literals) }
 
-pub importing-next : (picks : List (List NumberedClause)) (i : ℕ) (x d : List NumberedClause) (target : Node) (bound : ℕ) (now next : NodeWithRoom) → i < length picks → x ≡ get_or picks i d → next.state ≡ with_new x now.state → Keeps (length x) (lits_in x) now next → IsImporting (drop i picks) target bound now → IsImporting (drop (i + 1) picks) target bound next
+pub importing-next : (picks : List (List NumberedClause)) (i : ℕ) (x d : List NumberedClause) (target : Node) (bound : ℕ) (now next : NodeWithRoom) → i < length picks → x ≡ get_or picks i d → next.state ≡ with_pick x now.state → Keeps (length x) (lits_in x) now next → IsImporting (drop i picks) target bound now → IsImporting (drop (i + 1) picks) target bound next
 importing-next picks i x d target bound now next l e is k h = importing-first x (drop (i + 1) picks) target bound now next is k (importing-here picks i x d target bound now l e h)
 
 -- where nothing is left the node is reached, with room for a slice
@@ -156,3 +155,9 @@ importing-ends picks i target bound now l h =
       };
       fitted = end.fitted;
     }
+
+-- the scratch has room for the numbers of all clauses that are held then
+pub importing-ids : (loads : List (Posted × ℕ)) (imports picks : List (List NumberedClause)) (start end : Node) (ids : ℕ) → picks ≡ picked imports (readied loads start).clauses → end ≡ all_imported imports (readied loads start) → (start.profile ≡ 2 → length start.clauses + (clauses_in loads + told_clauses picks + 1000) ≤ ids) → end.profile ≡ 2 → length end.clauses + 1000 ≤ ids
+importing-ids loads imports picks start end ids is done room =
+    let same : end ≡ with_picks picks (readied loads start) = done ∙ (sym (picked-done imports (readied loads start)) ∙ ap (λ (ps : List (List NumberedClause)). with_picks ps (readied loads start)) (sym is)) in
+    ready-ids loads picks start end ids same room

@@ -1,5 +1,6 @@
 -- what this crate alone cites
 mod OriginalLemmas
+mod HeldCountLemmas
 mod FillLemmas
 mod NeedLemmas
 mod PickLemmas

@@ -14,8 +14,8 @@ use Rattle.spec_search.specs.Step.{Case, Learns, Refutes, Contradicts, case_by, 
 use Rattle.spec_search.specs.Slice.{numbers_of, most_numbers}
 use Rattle.spec_search.proofs.StepLemmas.{by_cases}
 use Rattle.spec_search.proofs.ModelLemmas.{step-leaves}
-use Rattle.mal_cdcl.specs.Within.{NodeRoom, NodeWithRoom}
-use Rattle.mal_cdcl.specs.Sliced.{HasStepRoom, HasLineRoom, IsLineLess, Keeps, IsStepped, IsSearched}
+use Rattle.mal_cdcl.specs.Within.{NodeWithRoom}
+use Rattle.mal_cdcl.specs.Sliced.{HasStepRoom, HasLineRoom, IsLineLess, IsStepped}
 use Rattle.mal_cdcl.proofs.FillLemmas.{lits_more}
 
 -- above level 0 a conflict is learned
@@ -38,6 +38,7 @@ failed-case n a = by_cases (λ c. c ≡ Contradicts a → HasFailed n a) n (reco
   learns = λ id q some e. absurd (cc);
   refutes = λ id q zeroth e. absurd (cc);
   propagates = λ q l e. absurd (cc);
+  drops = λ idle e. absurd (cc);
   restarts = λ idle e. absurd (cc);
   contradicts = λ idle b e f q. let same : b ≡ a = cc in subst (λ (x : ℕ). HasFailed n x) same (record { first = e; fell = f });
   assumes = λ idle b e f q. absurd (cc);

@@ -1,5 +1,5 @@
-use Rattle.std.proofs.Common.{◌≡◌, ℕ, zero, suc, ◌+◌, ◌<◌, ◌≤◌, Bool, true, false, not, cond, List, [], ◌∷◌, ◌++◌, length, take, drop, get_or, Some, None, Option, refl, sym, ap, ◌∙◌, subst, arith}
-use Rattle.std.specs.Prelude.{◌&&◌, ◌==◌, find}
+use Rattle.std.proofs.Common.{◌≡◌, ℕ, zero, suc, ◌+◌, ◌<◌, ◌≤◌, Bool, true, false, not, cond, List, [], ◌∷◌, ◌++◌, length, take, drop, get_or, Some, None, Option, refl, sym, ap, ◌∙◌, subst}
+use Rattle.std.specs.Prelude.{◌&&◌, ◌==◌}
 use Rattle.std.specs.List.{list_all}
 use Rattle.std.proofs.lemmas.List.{take_more, drop_more, drop_all}
 use Rattle.std.proofs.lemmas.List.Folds.{list_all-append, list_any-append}
@@ -7,8 +7,8 @@ use Rattle.mal_base.specs.Literals.{var_of}
 use Rattle.mal_base.specs.NumberedClause.{NumberedClause}
 use Rattle.mal_base.specs.declared.trail_entry.TrailEntry.{TrailEntry}
 use Rattle.spec_node.specs.Value.{is_true, has_value, first_open}
-use Rattle.spec_node.specs.Batch.{Progress, after_batch, after_all, batch}
-use Rattle.spec_node.proofs.BatchLemmas.{Extends, after_all-extends}
+use Rattle.spec_node.specs.Batch.{Progress, after_batch, batch}
+use Rattle.spec_node.proofs.BatchLemmas.{after_all-extends}
 use Rattle.spec_node.proofs.TrailLemmas.{is_true-more}
 use Rattle.mal_order.specs.Ordered.{Ordered}
 use Rattle.mal_cdcl.specs.Within.{IsPast}

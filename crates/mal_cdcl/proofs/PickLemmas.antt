@@ -1,10 +1,7 @@
-use Rattle.std.proofs.Common.{◌≡◌, ℕ, zero, suc, ◌+◌, ◌<◌, ◌^◌, Bool, true, false, cond, not, ◌||◌, List, [], ◌∷◌, ◌++◌, length, take, drop, get_or, map, filter, bytes_eq, Option, Some, None, refl, sym, ap, ◌∙◌, subst, append_assoc, append-nil, arith, Bor, ◌≤◌, ◌⊎◌, inl, inr}
-use Rattle.std.specs.Prelude.{nat_lt, nat_le}
+use Rattle.std.proofs.Common.{◌≡◌, ℕ, zero, suc, ◌+◌, ◌<◌, ◌^◌, Bool, true, false, cond, not, ◌||◌, List, [], ◌∷◌, ◌++◌, length, take, drop, get_or, filter, bytes_eq, Option, Some, None, refl, sym, ap, ◌∙◌, append_assoc, append-nil, arith, Bor, ◌≤◌, ◌⊎◌, inl, inr}
+use Rattle.std.specs.Prelude.{nat_lt}
 use Rattle.std.specs.List.{list_any}
-use Rattle.std.specs.Option.{option_map_or}
-use Rattle.std.proofs.lemmas.List.{map-append}
 use Rattle.std.proofs.lemmas.List.Folds.{list_any-append}
-use Rattle.std.proofs.lemmas.List.Elements.{filter-append}
 use Rattle.std.proofs.lemmas.Bool.{cases_lt, lt-ltb, le-ltb, le-leb, lt-leb}
 use Rattle.std.proofs.lemmas.Slice.Eq.{bytes_eq-Decides}
 use Rattle.mal_base.specs.NumberedClause.{NumberedClause}
@@ -16,7 +13,7 @@ use Rattle.spec_node.specs.Adding.{with_clause}
 use Rattle.spec_node.specs.Load.{numbered, with_originals, is_derived, loaded}
 use Rattle.spec_node.specs.Import.{has_lits, taken, with_clauses}
 use Rattle.spec_node.specs.Laws.{originals}
-use Rattle.mal_cdcl.specs.Ready.{posted, readied}
+use Rattle.mal_cdcl.specs.Ready.{readied}
 use Rattle.mal_cdcl.specs.Importing.{Sees, lent, picked, is_posted_in, is_loaded_in}
 
 or-moved : (a b c : Bool) → (b || (a || c)) ≡ ((a || (b || false)) || c)

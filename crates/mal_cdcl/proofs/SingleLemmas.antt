@@ -1,8 +1,7 @@
-use Rattle.std.proofs.Common.{◌≡◌, ◌≢◌, ℕ, ◌+◌, ◌-◌, ◌/◌, ◌^◌, max, length, ◌<◌, ◌≤◌, Bool, true, ◌&&◌, nat_le, List, [], ◌∷◌, refl, sym, ap, ◌∙◌, arith}
-use Rattle.std.specs.Prelude.{All, Contains}
+use Rattle.std.proofs.Common.{◌≡◌, ◌≢◌, ℕ, ◌+◌, ◌-◌, ◌/◌, ◌^◌, max, length, ◌<◌, ◌≤◌, true, ◌&&◌, nat_le, List, [], ◌∷◌, refl, sym, subst, ◌∙◌, arith}
+use Rattle.std.specs.Prelude.{All}
 use Rattle.std.proofs.lemmas.Bool.{and_parts, leb-true, le-leb}
 use Rattle.std.proofs.lemmas.List.Elements.{All-nil, All-cons, All-head, All-tail, All-weaker, All-contains}
-use Rattle.mal_base.specs.Literals.{var_of}
 use Rattle.mal_base.specs.Clauses.{rises}
 use Rattle.mal_base.specs.Formulas.{is_within}
 use Rattle.mal_base.specs.NumberedClause.{NumberedClause}
@@ -18,7 +17,8 @@ use Rattle.spec_node.proofs.PostedLemmas.{posted-literals}
 use Rattle.spec_node.proofs.SoundLemmas.{fresh-sound, loaded-sound}
 use Rattle.mal_cdcl.specs.Importing.{MayImportAll, all_imported}
 use Rattle.mal_cdcl.specs.Single.{IsSingle, AreFirstTold}
-use Rattle.mal_cdcl.specs.Sliced.{IsUnrun, HasLowCounts}
+use Rattle.mal_cdcl.proofs.HeldCountLemmas.{by-pick, pick-clauses, pick-leaves}
+use Rattle.mal_cdcl.specs.Sliced.{HasLowCounts}
 
 -- importing lists one after another keeps a node sound
 pub imports-sound : (imports : List (List NumberedClause)) (n : Node) → MayImportAll imports n → IsSound n → IsSound (all_imported imports n)
@@ -56,7 +56,7 @@ pub apart-after : (v id other : ℕ) (told : List NumberedClause) (n : Node) →
 apart-after v id other told n differ apart h =
     let one : NumberedClause = record { id = id; lits = h.0 } in
     let each : All (λ d. other ≢ d.id) told = rw h.1 (All-cons (λ d. other ≢ d.id) one [] differ (All-nil (λ d. other ≢ d.id))) in
-    All-with_clauses (λ d. other ≢ d.id) (taken told n.clauses) n.clauses (All-passed (λ d. other ≢ d.id) _ told each) apart
+    subst (λ (cs : List NumberedClause). All (λ d. other ≢ d.id) cs) (sym (pick-clauses (taken told n.clauses) n)) (All-with_clauses (λ d. other ≢ d.id) (taken told n.clauses) n.clauses (All-passed (λ d. other ≢ d.id) _ told each) apart)
 
 -- the serial stays below a bound that is above the serials of clauses
 serial-within : (bound serial : ℕ) (new : List NumberedClause) → serial ≤ bound → All (λ c. serial_of c < bound) new → serial_above serial new ≤ bound
@@ -70,30 +70,34 @@ serial-after : (bound v id : ℕ) (told : List NumberedClause) (n : Node) → n.
 serial-after bound v id told n b low h =
     let one : NumberedClause = record { id = id; lits = h.0 } in
     let each : All (λ c. serial_of c < bound) told = rw h.1 (All-cons (λ c. serial_of c < bound) one [] low (All-nil (λ c. serial_of c < bound))) in
-    serial-within bound n.serial (taken told n.clauses) b (All-passed (λ c. serial_of c < bound) _ told each)
+    by-pick (λ (m : Node). m.serial ≤ bound) (taken told n.clauses) n b (serial-within bound n.serial (taken told n.clauses) b (All-passed (λ c. serial_of c < bound) _ told each))
 
 -- a list of one derived clause of a low serial may be the first to be told
 pub one-first : (v id : ℕ) (told : List NumberedClause) → 2 ^ 32 ≤ id → (id - 2 ^ 32) / 64 < 2 ^ 40 → IsSingle v id told → AreFirstTold v (told ∷ [])
 one-first v id told high low h n same unrun originals =
+    let leaves = pick-leaves (taken told n.clauses) n in
     let serial : (imported told n).serial ≤ 2 ^ 40 = serial-after (2 ^ 40) v id told n (omega (arith, unrun.serial)) low h in (
       (single-may v id told n high same (originals-apart id n.clauses high originals) h, tt),
-      record { conflicts_since_restart = omega (arith, unrun.conflicts_since_restart); restart_number = omega (arith, unrun.restart_number); serial = omega (arith, serial) },
+      record { conflicts_since_restart = omega (arith, leaves.conflicts_since_restart, unrun.conflicts_since_restart); restart_number = omega (arith, leaves.restart_number, unrun.restart_number); conflicts_since_dropping = omega (arith, leaves.conflicts_since_dropping, unrun.conflicts_since_dropping); serial = omega (arith, serial) },
     )
 
 -- and one under another number after it
 pub two-first : (v id other : ℕ) (told more : List NumberedClause) → 2 ^ 32 ≤ id → 2 ^ 32 ≤ other → (other ≢ id) → (id - 2 ^ 32) / 64 < 2 ^ 40 → (other - 2 ^ 32) / 64 < 2 ^ 40 → IsSingle v id told → IsSingle v other more → AreFirstTold v (told ∷ (more ∷ []))
 two-first v id other told more high high' differ low low' h k n same unrun originals =
     let next : Node = imported told n in
+    let first = pick-leaves (taken told n.clauses) n in
+    let second = pick-leaves (taken more next.clauses) next in
+    let variables : next.variables ≡ v = first.variables ∙ same in
     let once : next.serial ≤ 2 ^ 40 = serial-after (2 ^ 40) v id told n (omega (arith, unrun.serial)) low h in
     let twice : (imported more next).serial ≤ 2 ^ 40 = serial-after (2 ^ 40) v other more next once low' k in
     let apart : All (λ d. other ≢ d.id) next.clauses = apart-after v id other told n differ (originals-apart other n.clauses high' originals) h in (
-      (single-may v id told n high same (originals-apart id n.clauses high originals) h, (single-may v other more next high' same apart k, tt)),
-      record { conflicts_since_restart = omega (arith, unrun.conflicts_since_restart); restart_number = omega (arith, unrun.restart_number); serial = omega (arith, twice) },
+      (single-may v id told n high same (originals-apart id n.clauses high originals) h, (single-may v other more next high' variables apart k, tt)),
+      record { conflicts_since_restart = omega (arith, second.conflicts_since_restart, first.conflicts_since_restart, unrun.conflicts_since_restart); restart_number = omega (arith, second.restart_number, first.restart_number, unrun.restart_number); conflicts_since_dropping = omega (arith, second.conflicts_since_dropping, first.conflicts_since_dropping, unrun.conflicts_since_dropping); serial = omega (arith, twice) },
     )
 
 -- lists that may be the first to be told may be told to node 0 after its first load, which is sound and of low counts then
 pub first-told : (r : Posted) (imports : List (List NumberedClause)) → r.variables ≡ 2 → 1 + length r.clauses ≤ 2 ^ 32 → AreFirstTold 2 imports → MayImportAll imports (loaded r 1 (fresh 0)) × HasLowCounts (all_imported imports (loaded r 1 (fresh 0)))
-first-told r imports v b h = h (loaded r 1 (fresh 0)) (omega (arith, v)) (record { conflicts_since_restart = refl; restart_number = refl; serial = refl }) (All-with_originals (λ c. c.id < 2 ^ 32) [] (numbered 1 r.clauses) (All-nil (λ (c : NumberedClause). c.id < 2 ^ 32)) (numbered-below (2 ^ 32) 1 r.clauses b))
+first-told r imports v b h = h (loaded r 1 (fresh 0)) (omega (arith, v)) (record { conflicts_since_restart = refl; restart_number = refl; conflicts_since_dropping = refl; serial = refl }) (All-with_originals (λ c. c.id < 2 ^ 32) [] (numbered 1 r.clauses) (All-nil (λ (c : NumberedClause). c.id < 2 ^ 32)) (numbered-below (2 ^ 32) 1 r.clauses b))
 
 pub first-sound : (r : Posted) (imports : List (List NumberedClause)) → is_posted r ≡ true → r.variables ≡ 2 → 1 + length r.clauses ≤ 2 ^ 32 → AreFirstTold 2 imports → IsSound (all_imported imports (loaded r 1 (fresh 0)))
 first-sound r imports p v b h = imports-sound imports (loaded r 1 (fresh 0)) (first-told r imports v b h).0 (loaded-sound r 1 (fresh 0) p (posted-literals r p) (record { some = omega arith; above = All-nil (λ (c : NumberedClause). c.id < 2 ^ 32 → c.id < 1); below = b }) (fresh-sound 0 (omega arith)))

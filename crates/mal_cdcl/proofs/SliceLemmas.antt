@@ -1,30 +1,43 @@
-use Rattle.std.proofs.Common.{◌≡◌, ℕ, zero, suc, ◌+◌, ◌≤◌, true, false, List, [], ◌∷◌, ◌++◌, Option, Some, None, refl, sym, ap, ◌∙◌, append_assoc, append-nil, arith}
+use Rattle.std.proofs.Common.{◌≡◌, ℕ, zero, suc, ◌+◌, ◌≤◌, Bool, true, false, cond, List, [], ◌∷◌, ◌++◌, length, Option, Some, None, refl, sym, ap, ◌∙◌, append_assoc, append-nil, arith}
+use Rattle.std.specs.Prelude.{◌==◌}
 use Rattle.mal_base.specs.NumberedClause.{Line}
 use Rattle.spec_node.specs.State.{Node}
 use Rattle.spec_node.specs.Sound.{IsSound}
-use Rattle.spec_search.specs.Step.{Case, Learns, Refutes, Propagates, Restarts, Contradicts, Assumes, Decides, Ends, case_of, after_case, step, next_line}
+use Rattle.spec_search.specs.Step.{Case, Learns, Refutes, Propagates, Drops, Restarts, Contradicts, Assumes, Decides, Ends, case_of, after_case, step, next_line}
 use Rattle.spec_search.specs.Slice.{Sliced, behind, steps_from, is_over, used_after}
 use Rattle.spec_search.proofs.SliceLemmas.{behind-node}
 use Rattle.spec_search.proofs.SoundLemmas.{step-sound}
 use Rattle.spec_search.proofs.ModelLemmas.{step-leaves}
+use Rattle.spec_learn.specs.Learning.{counted_in}
+use Rattle.mal_learn.specs.Shown.{Shown}
 use Rattle.mal_cdcl.specs.Within.{NodeWithRoom}
-use Rattle.mal_cdcl.specs.Sliced.{HasStepRoom, HasSliceRoom, HasLowCounts, MayCount, and_line, IsStepped}
+use Rattle.mal_cdcl.proofs.HeldCountLemmas.{case-held}
+use Rattle.mal_cdcl.specs.Sliced.{HasStepRoom, HasIdRoom, and_line, IsStepped}
 
 -- a step raises each count by 1 at the most
 record Rises (before after : Node) : Type 0 where
   pub serial : after.serial ≤ before.serial + 1
   pub conflicts_since_restart : after.conflicts_since_restart ≤ before.conflicts_since_restart + 1
   pub restart_number : after.restart_number ≤ before.restart_number + 1
+  pub conflicts_since_dropping : after.conflicts_since_dropping ≤ before.conflicts_since_dropping + 1
+
+counted-rises : (profile count : ℕ) → counted_in profile count ≤ count + 1
+counted-rises profile count = by_test (profile == 2)
+  where
+    by_test : (b : Bool) → cond b (count + 1) count ≤ count + 1
+    by_test true = omega arith
+    by_test false = omega arith
 
 case-rises : (c : Case) (n : Node) → Rises n (after_case c n)
-case-rises (Learns id) n = record { serial = omega arith; conflicts_since_restart = omega arith; restart_number = omega arith }
-case-rises (Refutes id) n = record { serial = omega arith; conflicts_since_restart = omega arith; restart_number = omega arith }
-case-rises Propagates n = record { serial = omega arith; conflicts_since_restart = omega arith; restart_number = omega arith }
-case-rises Restarts n = record { serial = omega arith; conflicts_since_restart = omega arith; restart_number = omega arith }
-case-rises (Contradicts a) n = record { serial = omega arith; conflicts_since_restart = omega arith; restart_number = omega arith }
-case-rises (Assumes a) n = record { serial = omega arith; conflicts_since_restart = omega arith; restart_number = omega arith }
-case-rises (Decides v) n = record { serial = omega arith; conflicts_since_restart = omega arith; restart_number = omega arith }
-case-rises Ends n = record { serial = omega arith; conflicts_since_restart = omega arith; restart_number = omega arith }
+case-rises (Learns id) n = record { serial = omega arith; conflicts_since_restart = omega arith; restart_number = omega arith; conflicts_since_dropping = counted-rises n.profile n.conflicts_since_dropping }
+case-rises (Refutes id) n = record { serial = omega arith; conflicts_since_restart = omega arith; restart_number = omega arith; conflicts_since_dropping = omega arith }
+case-rises Propagates n = record { serial = omega arith; conflicts_since_restart = omega arith; restart_number = omega arith; conflicts_since_dropping = omega arith }
+case-rises Drops n = record { serial = omega arith; conflicts_since_restart = omega arith; restart_number = omega arith; conflicts_since_dropping = omega arith }
+case-rises Restarts n = record { serial = omega arith; conflicts_since_restart = omega arith; restart_number = omega arith; conflicts_since_dropping = omega arith }
+case-rises (Contradicts a) n = record { serial = omega arith; conflicts_since_restart = omega arith; restart_number = omega arith; conflicts_since_dropping = omega arith }
+case-rises (Assumes a) n = record { serial = omega arith; conflicts_since_restart = omega arith; restart_number = omega arith; conflicts_since_dropping = omega arith }
+case-rises (Decides v) n = record { serial = omega arith; conflicts_since_restart = omega arith; restart_number = omega arith; conflicts_since_dropping = omega arith }
+case-rises Ends n = record { serial = omega arith; conflicts_since_restart = omega arith; restart_number = omega arith; conflicts_since_dropping = omega arith }
 
 steps-next : (k used : ℕ) (n : Node) → is_over used n ≡ false → steps_from (suc k) used n ≡ behind (next_line n) (steps_from k (used_after used (next_line n)) (step n))
 steps-next k used n h = rw h refl
@@ -47,6 +60,9 @@ pub record IsSlicing (left used : ℕ) (start now : NodeWithRoom) : Type 0 where
   pub serial : now.state.serial + left ≤ start.state.serial + 1000
   pub conflicts_since_restart : now.state.conflicts_since_restart + left ≤ start.state.conflicts_since_restart + 1000
   pub restart_number : now.state.restart_number + left ≤ start.state.restart_number + 1000
+  pub conflicts_since_dropping : now.state.conflicts_since_dropping + left ≤ start.state.conflicts_since_dropping + 1000
+  pub profile : now.state.profile ≡ start.state.profile
+  pub held : length now.state.clauses + left ≤ length start.state.clauses + 1000
 
 pub slicing-next : (k used u : ℕ) (start now next : NodeWithRoom) → IsSlicing (suc k) used start now → IsStepped used now u next → IsSlicing k u start next
 slicing-next k used u start now next h s =
@@ -64,7 +80,14 @@ slicing-next k used u start now next h s =
       serial = rw s.state (omega (arith, rises.serial, h.serial));
       conflicts_since_restart = rw s.state (omega (arith, rises.conflicts_since_restart, h.conflicts_since_restart));
       restart_number = rw s.state (omega (arith, rises.restart_number, h.restart_number));
+      conflicts_since_dropping = rw s.state (omega (arith, rises.conflicts_since_dropping, h.conflicts_since_dropping));
+      profile = ap (λ (n : Node). n.profile) s.state ∙ ((step-leaves now.state).profile ∙ h.profile);
+      held = rw s.state (omega (arith, case-held (case_of now.state) now.state, h.held));
     }
+
+-- the scratch has room for the numbers of all clauses held in it
+pub slicing-ids : (left used : ℕ) (start now : NodeWithRoom) (before after : Shown) → IsSlicing left used start now → after.ids ≡ before.ids → HasIdRoom 1000 start.state before → HasIdRoom 0 now.state after
+slicing-ids left used start now before after h same room two = omega (arith, h.held, same, room (sym h.profile ∙ two))
 
 -- where a slice is over, or no step is left, it was made
 pub record HasRun (start now : NodeWithRoom) : Type 0 where

@@ -1,9 +1,8 @@
-use Rattle.std.proofs.Common.{◌≡◌, ◌≢◌, ℕ, zero, suc, ◌+◌, ◌/◌, ◌<◌, ◌≤◌, Bool, true, false, nat_eq, nat_le, ◌&&◌, List, [], ◌∷◌, length, drop, get_or, Some, None, refl, sym, ap, ◌∙◌, arith}
+use Rattle.std.proofs.Common.{◌≡◌, ◌≢◌, ℕ, zero, suc, ◌+◌, ◌/◌, ◌<◌, ◌≤◌, true, false, nat_eq, nat_le, List, [], ◌∷◌, length, drop, get_or, None, refl, arith}
 use Rattle.std.specs.Prelude.{All}
 use Rattle.std.proofs.lemmas.Bool.{le-leb}
 use Rattle.std.proofs.lemmas.Bool.Decides.{nat_tests}
 use Rattle.std.proofs.lemmas.List.Elements.{All-head, All-tail}
-use Rattle.mal_base.specs.Literals.{var_of}
 use Rattle.mal_base.specs.Clauses.{rises}
 use Rattle.mal_base.specs.Formulas.{is_within}
 use Rattle.mal_base.specs.NumberedClause.{NumberedClause, lits_under}
@@ -11,7 +10,6 @@ use Rattle.mal_trail.specs.Rooms.{Room, IsLeft, IsRoomFor}
 use Rattle.spec_node.specs.Adding.{with_clause}
 use Rattle.spec_node.specs.Import.{with_clauses}
 use Rattle.spec_node.specs.Sound.{IsLiteralOf, AreLiteralsOf}
-use Rattle.spec_node.specs.Laws.{HaveOwnNumbers}
 use Rattle.spec_node.proofs.ImportLemmas.{apart-with}
 use Rattle.mal_cdcl.specs.ImportSizes.{lits_in}
 use Rattle.mal_cdcl.specs.Importing.{AreNewTo}

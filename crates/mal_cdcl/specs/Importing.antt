@@ -1,4 +1,4 @@
-use Rattle.std.specs.Prelude.{◌≡◌, ◌≢◌, ℕ, ◌+◌, ◌≤◌, Bool, true, false, ◌||◌, bytes_eq, All, List, [], ◌∷◌, length, map, Option}
+use Rattle.std.specs.Prelude.{◌≡◌, ◌≢◌, ℕ, ◌≤◌, Bool, false, bytes_eq, All, List, [], ◌∷◌, map, Option, if◌then◌else◌}
 use Rattle.std.specs.Borrow.{Bor}
 use Rattle.std.specs.List.{list_any}
 use Rattle.std.specs.Option.{option_map_or}
@@ -6,7 +6,7 @@ use Rattle.mal_base.specs.NumberedClause.{NumberedClause}
 use Rattle.mal_revision.specs.Posted.{Posted}
 use Rattle.mal_filter.specs.Noted.{is_noted}
 use Rattle.spec_node.specs.State.{Node}
-use Rattle.spec_node.specs.Import.{has_lits, taken, with_clauses, with_new, imported}
+use Rattle.spec_node.specs.Import.{has_lits, taken, with_clauses, with_new, is_left_off, imported}
 use Rattle.spec_node.specs.Sound.{AreLiteralsOf}
 use Rattle.spec_node.specs.Laws.{HaveOwnNumbers, MayImport}
 
@@ -41,10 +41,14 @@ is_posted_in lits clauses = list_any (λ c. option_map_or (bytes_eq lits) c fals
 abbrev pub is_loaded_in : List ℕ → List (Posted × ℕ) → Bool
 is_loaded_in lits loads = list_any (λ l. is_posted_in lits l.0.clauses) loads
 
+-- a node with the clauses that it takes of a list: under profile 2 a list of none changes nothing
+abbrev pub with_pick : List NumberedClause → Node → Node
+with_pick new n = if is_left_off n.profile new then n else with_new new n
+
 -- a node with the clauses that it takes of lists one after another
 abbrev pub with_picks : List (List NumberedClause) → Node → Node
 with_picks [] n = n
-with_picks (new ∷ more) n = with_picks more (with_new new n)
+with_picks (new ∷ more) n = with_picks more (with_pick new n)
 
 -- clauses of some variables under numbers from 1 that differ and that others do not have
 pub record AreNewTo (clauses : List NumberedClause) (variables : ℕ) (new : List NumberedClause) : Type 0 where
@@ -56,4 +60,4 @@ pub record AreNewTo (clauses : List NumberedClause) (variables : ℕ) (new : Lis
 -- list by list the clauses are new to the node
 abbrev pub AreAllNew : List (List NumberedClause) → Node → Type 0
 AreAllNew [] n = Unit {0}
-AreAllNew (new ∷ more) n = AreNewTo n.clauses n.variables new × AreAllNew more (with_new new n)
+AreAllNew (new ∷ more) n = AreNewTo n.clauses n.variables new × AreAllNew more (with_pick new n)

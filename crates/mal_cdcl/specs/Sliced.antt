@@ -31,12 +31,18 @@ pub record HasSliceRoom (n : NodeWithRoom) : Type 0 where
 pub record HasLowCounts (n : Node) : Type 0 where
   pub conflicts_since_restart : n.conflicts_since_restart < 2 ^ 31
   pub restart_number : n.restart_number < 2 ^ 31
+  pub conflicts_since_dropping : n.conflicts_since_dropping < 2 ^ 31
   pub serial : n.serial < 2 ^ 56
+
+-- the number of a profile
+abbrev pub IsProfile : ℕ → Type 0
+IsProfile profile = (1 ≤ profile) × (profile ≤ 2)
 
 -- the counts of a node are those of a node that was never run
 pub record IsUnrun (n : Node) : Type 0 where
   pub conflicts_since_restart : n.conflicts_since_restart ≡ 0
   pub restart_number : n.restart_number ≡ 1
+  pub conflicts_since_dropping : n.conflicts_since_dropping ≡ 0
   pub serial : n.serial ≡ 0
 
 -- the counts of a node are low enough for a step
@@ -44,7 +50,12 @@ pub record MayCount (n : Node) : Type 0 where
   pub first : 1 ≤ n.restart_number
   pub conflicts_since_restart : n.conflicts_since_restart < 2 ^ 32 - 1
   pub restart_number : n.restart_number < 2 ^ 32 - 1
+  pub conflicts_since_dropping : n.conflicts_since_dropping < 2 ^ 32 - 1
   pub serial : n.serial + 1 < 2 ^ 57
+
+-- a scratch has room for the numbers of the clauses that a node holds and derives in so many steps, where its profile drops clauses
+abbrev pub HasIdRoom : ℕ → Node → Shown → Type 0
+HasIdRoom steps n s = n.profile ≡ 2 → length n.clauses + steps ≤ s.ids
 
 -- the lines stay, and no room is lost but for so many clauses and literals
 pub record Keeps (clauses literals : ℕ) (before after : NodeWithRoom) : Type 0 where

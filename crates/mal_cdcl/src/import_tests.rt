@@ -1,11 +1,12 @@
 //! Nodes that import clauses, whose answers are known.
 
-ghost use Rattle.std.specs.Prelude.{◌≡◌, ◌+◌, ◌*◌, ◌^◌, ◌<◌, ◌≤◌, IfOk};
+ghost use Rattle.std.specs.Prelude.{◌≡◌, ◌+◌, ◌*◌, ◌^◌, ◌<◌, ◌≤◌, true, IfOk};
+ghost use Rattle.spec_node.specs.State.{has_profile};
 ghost use Rattle.mal_base.specs.Formulas.{is_within};
 ghost use Rattle.spec_node.specs.Sound.{IsSound};
 ghost use Rattle.mal_cdcl.specs.Importing.{lent};
 ghost use Rattle.mal_cdcl.specs.Single.{IsSingle, AreFirstTold};
-ghost use Rattle.mal_cdcl.specs.Sliced.{HasSliceRoom, HasLowCounts};
+ghost use Rattle.mal_cdcl.specs.Sliced.{HasSliceRoom, HasIdRoom, HasLowCounts};
 ghost use Rattle.mal_freeze.specs.Imaged.{IsImage};
 
 use crate::Node;
@@ -67,7 +68,9 @@ fn imported(
     ensures sound { IfOk result (λ n. IsSound n.state) }
     ensures counts { IfOk result (λ n. HasLowCounts n.state) }
     ensures stocked { IfOk result (λ n. HasSliceRoom n) }
+    ensures profile { IfOk result (λ n. has_profile n.state ≡ true) }
     ensures fitted { IfOk result (λ n. n.state.variables < scratch.new.room) }
+    ensures ids { IfOk result (λ n. HasIdRoom 1000 n.state scratch.new) }
 {
     let revision = Revision::new(alloc, 2, clauses, &[])?;
     assert!(rt; revision.clauses().len() < 9);
@@ -81,7 +84,9 @@ fn run(node: &mut Node<Scan>, scratch: &mut Scratch) -> Lines
     requires sound { IsSound node.old.state }
     requires counts { HasLowCounts node.old.state }
     requires stocked { HasSliceRoom node.old }
+    requires profile { has_profile node.old.state ≡ true }
     requires fitted { node.old.state.variables < scratch.old.room }
+    requires ids { HasIdRoom 1000 node.old.state scratch.old }
     ensures { IsImage node.new.state }
 {
     node.run(scratch);

@@ -2,6 +2,7 @@
 #![tactic(auto)]
 
 mod copies;
+mod dropping;
 mod import_filter;
 mod learning;
 mod needs;

@@ -2,14 +2,14 @@
 
 ghost use Rattle.std.specs.Prelude.{◌≡◌, ◌+◌, ◌-◌, ◌^◌, ◌<◌, ◌≤◌, length, Some, None, [], ◌∷◌, ◌++◌, OnOk, OnErr, IfOk, MatchOption, vec_capacity};
 ghost use Rattle.mal_base.specs.Trails.{value_on};
-ghost use Rattle.spec_node.specs.State.{fresh};
+ghost use Rattle.spec_node.specs.State.{fresh, fresh_with};
 ghost use Rattle.spec_node.specs.Value.{first_open, first_free, level_of};
 ghost use Rattle.spec_node.specs.Batch.{propagated};
 ghost use Rattle.spec_node.specs.Cut.{cut};
 ghost use Rattle.spec_node.specs.Load.{loaded};
 ghost use Rattle.spec_node.specs.Import.{with_new};
-ghost use Rattle.mal_cdcl.specs.ImportSizes.{lits_in};
-ghost use Rattle.mal_cdcl.specs.Importing.{AreNewTo, lent, MayImportAll, all_imported};
+ghost use Rattle.mal_cdcl.specs.ImportSizes.{lits_in, told_clauses};
+ghost use Rattle.mal_cdcl.specs.Importing.{AreNewTo, lent, MayImportAll, all_imported, with_pick};
 ghost use Rattle.mal_trail.specs.Rooms.{HasRoom};
 ghost use Rattle.spec_node.specs.Laws.{AreNewNumbers};
 ghost use Rattle.spec_node.specs.Model.{model_of};
@@ -17,15 +17,16 @@ ghost use Rattle.spec_node.specs.Sound.{IsSound};
 ghost use Rattle.spec_learn.specs.Learning.{analysis, derived_id, line_of, learned};
 ghost use Rattle.spec_learn.specs.Refuting.{refuted, core_analysis, core_line, cored};
 ghost use Rattle.spec_learn.specs.CoreLaws.{HasFailed};
-ghost use Rattle.spec_search.specs.Step.{step, branching, case_of, after_case};
+ghost use Rattle.spec_search.specs.Step.{step, restarting, branching, case_of, after_case};
+ghost use Rattle.spec_search.specs.Dropping.{dropped};
 ghost use Rattle.spec_search.specs.Step.Case.{Contradicts, Decides, Restarts};
 ghost use Rattle.spec_search.specs.Slice.{slice, numbers_of, most_numbers};
-ghost use Rattle.mal_cdcl.specs.Ready.{posted, readied, greatest, AreNew, HasRoomFor, IsSpared};
-ghost use Rattle.mal_cdcl.specs.Sliced.{HasSliceRoom, HasStepRoom, HasLowCounts, MayCount, Keeps, IsShown, IsEnded, IsStepped, IsSearched, IsFailing, HasClauseRoom, HasLineRoom, IsLineLess};
+ghost use Rattle.mal_cdcl.specs.Ready.{posted, readied, greatest, clauses_in, AreNew, HasRoomFor, IsSpared};
+ghost use Rattle.mal_cdcl.specs.Sliced.{HasSliceRoom, HasStepRoom, HasIdRoom, HasLowCounts, MayCount, Keeps, IsShown, IsEnded, IsStepped, IsSearched, IsFailing, HasClauseRoom, HasLineRoom, IsLineLess};
 ghost use Rattle.mal_freeze.specs.Imaged.{IsImage};
 
 use crate::import_filter::{self, Pick};
-use crate::{copies, learning, needs, node_load, open, restart};
+use crate::{copies, dropping, learning, needs, node_load, open, restart};
 use mal_base::{ClauseId, Lines, Lit, NumberedClause, Var, Verdict};
 use mal_buffer::Buffer;
 use mal_freeze::{Image, Parts};
@@ -46,10 +47,12 @@ const SLICE_STEPS: u32 = 1000;
 #[derive(Drop)]
 pub struct Node<E: Engine> {
     index: u32,
+    profile: u32,
     variables: u32,
     serial: u64,
     conflicts_since_restart: u32,
     restart_number: u32,
+    conflicts_since_dropping: u32,
     conflict: Option<ClauseId>,
     verdict: Option<Verdict>,
     assumptions: Vec<Lit>,
@@ -71,10 +74,12 @@ impl<E: Engine> Model for Node<E> {
     ghost view = { λ n. record {
       state = record {
         index = n.index;
+        profile = n.profile;
         variables = n.variables;
         serial = n.serial;
         conflicts_since_restart = n.conflicts_since_restart;
         restart_number = n.restart_number;
+        conflicts_since_dropping = n.conflicts_since_dropping;
         processed = n.trail.processed;
         conflict = n.conflict;
         verdict = n.verdict;
@@ -100,18 +105,30 @@ impl<E: Engine> Model for Node<E> {
     ghost invariant = { λ n. (IsNode n.index n.variables n.trail.room n.assumptions.items n.order n.phases.items (E.clauses n.engine)) × (E.fits n.engine n.trail.entries n.trail.processed) × (IsPast n.trail.entries n.order n.assumptions.items n.passed) };
 }
 
-impl<E: Engine> Node<E> {
-    /// The node of this index (0 to 63) at its first start. Takes no memory.
+impl<E: Listed> Node<E> {
+    /// The node of this index (0 to 63) and of profile 1 at its first start. Takes no memory.
     pub fn fresh(alloc: Global, index: u32) -> Node<E>
         requires { index ≤ 63 }
         ensures { result.state ≡ fresh index }
     {
+        Node::fresh_with(alloc, index, 1)
+    }
+
+    /// The node of this index (0 to 63) and of this profile (1 or 2) at its first start. Takes no memory.
+    pub fn fresh_with(alloc: Global, index: u32, profile: u32) -> Node<E>
+        requires index { index ≤ 63 }
+        requires some { 1 ≤ profile }
+        requires bound { profile ≤ 2 }
+        ensures { result.state ≡ fresh_with index profile }
+    {
         Node {
             index,
+            profile,
             variables: 0,
             serial: 0,
             conflicts_since_restart: 0,
             restart_number: 1,
+            conflicts_since_dropping: 0,
             conflict: None,
             verdict: None,
             assumptions: Vec::new(alloc),
@@ -129,10 +146,12 @@ impl<E: Engine> Node<E> {
         requires sound { IsSound self.old.state }
         requires stocked { HasSliceRoom self.old }
         requires fitted { self.old.state.variables < scratch.old.room }
+        requires ids { HasIdRoom 1000 self.old.state scratch.old }
         requires counts { HasLowCounts self.old.state }
         ensures node { self.new.state ≡ (slice self.old.state).node }
         ensures lines { self.new.lines ≡ (slice self.old.state).lines }
         ensures room { scratch.new.room ≡ scratch.old.room }
+        ensures id_room { scratch.new.ids ≡ scratch.old.ids }
     {
         let mut used = 0;
         for _made in 0..SLICE_STEPS {
@@ -202,10 +221,12 @@ impl<E: Engine> Node<E> {
         let engine = copies::engine_of(alloc, parts.variables, parts.clauses.as_slice(), &trail)?;
         Ok(Node {
             index: parts.index,
+            profile: parts.profile,
             variables: parts.variables,
             serial: parts.serial,
             conflicts_since_restart: parts.conflicts_since_restart,
             restart_number: parts.restart_number,
+            conflicts_since_dropping: parts.conflicts_since_dropping,
             conflict: parts.conflict,
             verdict: parts.verdict,
             assumptions: Vec::from_slice(alloc, parts.assumptions.as_slice())?,
@@ -228,7 +249,9 @@ impl<E: Engine> Node<E> {
     ) -> Result<(), AllocError>
         ensures room { OnOk result (HasRoomFor (posted loads.now) picks.now self.new) }
         ensures fitted { OnOk result (greatest (posted loads.now) self.old.state.variables < scratch.new.room) }
+        ensures ids { OnOk result (self.old.state.profile ≡ 2 → length self.old.state.clauses + (clauses_in (posted loads.now) + told_clauses picks.now + 1000) ≤ scratch.new.ids) }
         ensures more { scratch.old.room ≤ scratch.new.room }
+        ensures more_ids { scratch.old.ids ≤ scratch.new.ids }
         ensures state { self.new.state ≡ self.old.state }
         ensures kept { OnErr result (self.new.lines ≡ self.old.lines) }
     {
@@ -244,8 +267,22 @@ impl<E: Engine> Node<E> {
         self.engine.reserve(needs.variables, clauses, literals)?;
         self.lines.reserve(SLICE_STEPS as usize, numbers, numbers)?;
         scratch.fit(needs.variables)?;
+        self.fit_ids(clauses, scratch)?;
         self.lines.clear();
         Ok(())
+    }
+
+    /// Makes room in a scratch for the numbers of the clauses held and of so many more, where the profile drops clauses.
+    fn fit_ids(&self, more: usize, scratch: &mut Scratch) -> Result<(), AllocError>
+        ensures ids { OnOk result (self.now.state.profile ≡ 2 → length self.now.state.clauses + more ≤ scratch.new.ids) }
+        ensures room { scratch.new.room ≡ scratch.old.room }
+        ensures more { scratch.old.ids ≤ scratch.new.ids }
+    {
+        if self.profile != 2 {
+            return Ok(());
+        }
+        let ids = needs::added(self.engine.count(), more)?;
+        scratch.fit_ids(ids)
     }
 
     /// Loads a revision, whose first clause has this number, where there is room for it. Takes no memory.
@@ -284,6 +321,19 @@ impl<E: Engine> Node<E> {
         self.conflict = None;
     }
 
+    /// Imports what was taken of a list, where there is room for it: under profile 2 a list of which nothing was taken changes
+    /// nothing. Takes no memory.
+    fn take_pick(&mut self, told: &[NumberedClause])
+        requires new { AreNewTo self.old.state.clauses self.old.state.variables told.now }
+        requires room { HasRoom self.old.state.variables (length told.now) (lits_in told.now) self.old.spare.engine }
+        ensures state { self.new.state ≡ with_pick told.now self.old.state }
+        ensures keeps { Keeps (length told.now) (lits_in told.now) self.old self.new }
+    {
+        if !dropping::is_left_off(self.profile, told) {
+            self.import_reserved(told);
+        }
+    }
+
     /// Goes back to a level. The sign of each literal that leaves the trail becomes its variable's phase.
     fn cut(&mut self, level: u32)
         ensures state { self.new.state ≡ cut level self.old.state }
@@ -302,9 +352,11 @@ impl<E: Engine> Node<E> {
         requires sound { IsSound self.old.state }
         requires room { HasStepRoom 1 used self.old }
         requires fitted { self.old.state.variables < scratch.old.room }
+        requires ids { HasIdRoom 0 self.old.state scratch.old }
         requires counts { MayCount self.old.state }
         ensures step { MatchOption result (IsEnded used self.old self.new) (λ now. IsStepped used self.old now self.new) }
         ensures room { scratch.new.room ≡ scratch.old.room }
+        ensures id_room { scratch.new.ids ≡ scratch.old.ids }
     {
         if self.verdict.is_some() {
             return None;
@@ -323,26 +375,44 @@ impl<E: Engine> Node<E> {
         requires calm { self.old.state.conflict ≡ None }
         requires room { HasStepRoom 1 used self.old }
         requires fitted { self.old.state.variables < scratch.old.room }
+        requires ids { HasIdRoom 0 self.old.state scratch.old }
         requires counts { MayCount self.old.state }
         ensures step { MatchOption result (IsEnded used self.old self.new) (λ now. IsStepped used self.old now self.new) }
         ensures room { scratch.new.room ≡ scratch.old.room }
+        ensures id_room { scratch.new.ids ≡ scratch.old.ids }
     {
-        match self.search() {
+        match self.search(scratch) {
             None => Some(used),
             Some(assumption) => self.derive_core(assumption, used, scratch),
         }
     }
 
     /// Makes a step where no conflict waits, unless an assumption has failed: then tells which one, and the node stays.
-    fn search(&mut self) -> Option<Lit>
+    fn search(&mut self, scratch: &mut Scratch) -> Option<Lit>
         requires calm { self.old.state.conflict ≡ None }
         requires counts { MayCount self.old.state }
-        ensures { MatchOption result (IsSearched (case_of self.old.state) self.old self.new) (λ a. IsFailing (case_of self.old.state) a self.old self.new) }
+        requires ids { HasIdRoom 0 self.old.state scratch.old }
+        ensures searched { MatchOption result (IsSearched (case_of self.old.state) self.old self.new) (λ a. IsFailing (case_of self.old.state) a self.old self.new) }
+        ensures room { scratch.new.room ≡ scratch.old.room }
+        ensures id_room { scratch.new.ids ≡ scratch.old.ids }
     {
         if self.trail.processed() as usize <= self.trail.len() {
             self.propagate();
             return None;
         }
+        if dropping::is_due(self.profile, self.conflicts_since_dropping) {
+            self.drop_longer_half(scratch);
+            return None;
+        }
+        self.restart_or_branch()
+    }
+
+    /// Restarts where that is due, else branches.
+    fn restart_or_branch(&mut self) -> Option<Lit>
+        requires counts { MayCount self.old.state }
+        requires handled { self.old.state.processed ≤ length self.old.state.trail + 1 }
+        ensures { MatchOption result (IsSearched (restarting self.old.state) self.old self.new) (λ a. IsFailing (restarting self.old.state) a self.old self.new) }
+    {
         if restart::is_due(self.conflicts_since_restart, self.restart_number) {
             self.restart();
             return None;
@@ -357,6 +427,20 @@ impl<E: Engine> Node<E> {
         ensures keeps { Keeps 0 0 self.old self.new }
     {
         self.conflict = self.engine.propagate_one(&mut self.trail);
+    }
+
+    /// Goes back to level 0, and gives up the longer half of the derived clauses that may go.
+    fn drop_longer_half(&mut self, scratch: &mut Scratch)
+        requires { length self.old.state.clauses ≤ scratch.old.ids }
+        ensures state { self.new.state ≡ dropped self.old.state }
+        ensures keeps { Keeps 0 0 self.old self.new }
+        ensures room { scratch.new.room ≡ scratch.old.room }
+        ensures id_room { scratch.new.ids ≡ scratch.old.ids }
+    {
+        self.cut(0);
+        mal_learn::choose_longer_half(&self.trail, &self.engine, scratch);
+        self.engine.forget(scratch.chosen_mut());
+        self.conflicts_since_dropping = 0;
     }
 
     /// Goes back to level 0, and counts the conflicts anew.
@@ -443,6 +527,7 @@ impl<E: Engine> Node<E> {
         requires counts { MayCount self.old.state }
         ensures step { MatchOption result (IsEnded used self.old self.new) (λ now. IsStepped used self.old now self.new) }
         ensures room { scratch.new.room ≡ scratch.old.room }
+        ensures id_room { scratch.new.ids ≡ scratch.old.ids }
     {
         let numbers = self.analyse(id, scratch);
         if most_numbers(self.variables) < used + numbers {
@@ -460,8 +545,9 @@ impl<E: Engine> Node<E> {
         ensures numbers { result ≡ numbers_of (line_of id self.now.state) }
         ensures few { result ≤ self.now.state.variables + 1 }
         ensures room { scratch.new.room ≡ scratch.old.room }
+        ensures id_room { scratch.new.ids ≡ scratch.old.ids }
     {
-        mal_learn::analyse(&self.trail, &self.engine, id, scratch);
+        mal_learn::analyse_in(self.profile, &self.trail, &self.engine, id, scratch);
         scratch.clause().len() + scratch.hints().len()
     }
 
@@ -520,6 +606,8 @@ impl<E: Engine> Node<E> {
         learning::bump_all(&mut self.order, scratch.clause());
         self.serial += 1;
         self.conflicts_since_restart += 1;
+        let count = dropping::counted(self.profile, self.conflicts_since_dropping);
+        self.conflicts_since_dropping = count;
         self.conflict = None;
     }
 
@@ -534,6 +622,7 @@ impl<E: Engine> Node<E> {
         requires counts { MayCount self.old.state }
         ensures step { MatchOption result (IsEnded used self.old self.new) (λ now. IsStepped used self.old now self.new) }
         ensures room { scratch.new.room ≡ scratch.old.room }
+        ensures id_room { scratch.new.ids ≡ scratch.old.ids }
     {
         let numbers = self.analyse_core(assumption, scratch);
         if most_numbers(self.variables) < used + numbers {
@@ -552,6 +641,7 @@ impl<E: Engine> Node<E> {
         ensures numbers { result ≡ numbers_of (core_line assumption self.now.state) }
         ensures few { result ≤ self.now.state.variables + 1 }
         ensures room { scratch.new.room ≡ scratch.old.room }
+        ensures id_room { scratch.new.ids ≡ scratch.old.ids }
     {
         mal_learn::final_core(&self.trail, &self.engine, assumption, scratch);
         scratch.clause().len() + scratch.hints().len()
@@ -592,7 +682,9 @@ impl<E: Listed> Node<E> {
         ensures kept { OnErr result (self.new.lines ≡ self.old.lines) }
         ensures stocked { OnOk result (HasSliceRoom self.new) }
         ensures fitted { OnOk result (self.new.state.variables < scratch.new.room) }
+        ensures ids { OnOk result (HasIdRoom 1000 self.new.state scratch.new) }
         ensures more { scratch.old.room ≤ scratch.new.room }
+        ensures more_ids { scratch.old.ids ≤ scratch.new.ids }
     {
         let alloc = *self.phases.allocator();
         let picks = import_filter::picks_of(alloc, &self.engine, loads, imports)?;
@@ -602,7 +694,7 @@ impl<E: Listed> Node<E> {
             self.load_reserved(revision, *first);
         }
         for pick in picks.as_slice() {
-            self.import_reserved(pick.entries());
+            self.take_pick(pick.entries());
         }
         Ok(())
     }
@@ -622,10 +714,12 @@ impl<E: Listed> Node<E> {
         let alloc = *self.phases.allocator();
         let parts = Parts {
             index: self.index,
+            profile: self.profile,
             variables: self.variables,
             serial: self.serial,
             conflicts_since_restart: self.conflicts_since_restart,
             restart_number: self.restart_number,
+            conflicts_since_dropping: self.conflicts_since_dropping,
             processed: self.trail.processed(),
             conflict: self.conflict,
             verdict: self.verdict,

@@ -1,8 +1,9 @@
 //! Searches whose answers are known, and nodes that come back from their images.
 
-ghost use Rattle.std.specs.Prelude.{◌≡◌, ◌≤◌, ◌<◌, IfOk};
+ghost use Rattle.std.specs.Prelude.{◌≡◌, ◌≤◌, ◌<◌, true, IfOk};
+ghost use Rattle.spec_node.specs.State.{has_profile};
 ghost use Rattle.spec_node.specs.Sound.{IsSound};
-ghost use Rattle.mal_cdcl.specs.Sliced.{HasSliceRoom, HasLowCounts, IsUnrun};
+ghost use Rattle.mal_cdcl.specs.Sliced.{HasSliceRoom, HasIdRoom, HasLowCounts, IsProfile, IsUnrun};
 ghost use Rattle.mal_freeze.specs.Imaged.{IsImage};
 
 use crate::Node;
@@ -34,24 +35,28 @@ fn pairs(alloc: Global, numbers: &[(i32, i32)]) -> Result<Vec<Option<Clause>>, F
     Ok(clauses)
 }
 
-/// A node of this index that has loaded these clauses as a revision without assumptions, and has room for a slice.
+/// A node of this index and profile that has loaded these clauses as a revision without assumptions, and has room for a slice.
 fn loaded(
     rt: &impl Abort,
     alloc: Global,
     index: u32,
+    profile: u32,
     variables: u32,
     clauses: Vec<Option<Clause>>,
     scratch: &mut Scratch,
 ) -> Result<Node<Scan>, Fail>
-    requires { index ≤ 63 }
+    requires index { index ≤ 63 }
+    requires profile { IsProfile profile }
     ensures sound { IfOk result (λ n. IsSound n.state) }
+    ensures profile { IfOk result (λ n. has_profile n.state ≡ true) }
     ensures new { IfOk result (λ n. IsUnrun n.state) }
     ensures stocked { IfOk result (λ n. HasSliceRoom n) }
     ensures fitted { IfOk result (λ n. n.state.variables < scratch.new.room) }
+    ensures ids { IfOk result (λ n. HasIdRoom 1000 n.state scratch.new) }
 {
     let revision = Revision::new(alloc, variables, clauses, &[])?;
     assert!(rt; revision.clauses().len() < 9);
-    let mut node = Node::fresh(alloc, index);
+    let mut node = Node::fresh_with(alloc, index, profile);
     node.ready(&[(&revision, 1)], &[], scratch)?;
     Ok(node)
 }
@@ -59,9 +64,11 @@ fn loaded(
 /// Runs the first slice of a node, and takes its lines.
 fn run_first(node: &mut Node<Scan>, scratch: &mut Scratch) -> Lines
     requires sound { IsSound node.old.state }
+    requires profile { has_profile node.old.state ≡ true }
     requires new { IsUnrun node.old.state }
     requires stocked { HasSliceRoom node.old }
     requires fitted { node.old.state.variables < scratch.old.room }
+    requires ids { HasIdRoom 1000 node.old.state scratch.old }
     ensures sound { IsSound node.new.state }
     ensures counts { HasLowCounts node.new.state }
     ensures form { IsImage node.new.state }
@@ -80,21 +87,23 @@ fn run_again(node: &mut Node<Scan>, scratch: &mut Scratch) -> Result<Lines, Fail
     Ok(node.take_lines())
 }
 
-/// A node of this index that has loaded these clauses and run its first slice, in form, and the lines of that.
+/// A node of this index and profile that has loaded these clauses and run its first slice, in form, and the lines of that.
 fn searched(
     rt: &impl Abort,
     alloc: Global,
     index: u32,
+    profile: u32,
     variables: u32,
     clauses: Vec<Option<Clause>>,
     scratch: &mut Scratch,
 ) -> Result<(Node<Scan>, Lines), Fail>
-    requires { index ≤ 63 }
+    requires index { index ≤ 63 }
+    requires profile { IsProfile profile }
     ensures sound { IfOk result (λ r. IsSound r.0.state) }
     ensures counts { IfOk result (λ r. HasLowCounts r.0.state) }
     ensures form { IfOk result (λ r. IsImage r.0.state) }
 {
-    let mut node = loaded(rt, alloc, index, variables, clauses, scratch)?;
+    let mut node = loaded(rt, alloc, index, profile, variables, clauses, scratch)?;
     let lines = run_first(&mut node, scratch);
     Ok((node, lines))
 }
@@ -118,8 +127,23 @@ fn solve(
 ) -> Result<Solved, Fail>
     requires { index ≤ 63 }
 {
+    solve_with(rt, alloc, index, 1, variables, clauses)
+}
+
+/// What the first slice gives of a node of this index and profile with these clauses.
+fn solve_with(
+    rt: &impl Abort,
+    alloc: Global,
+    index: u32,
+    profile: u32,
+    variables: u32,
+    clauses: Vec<Option<Clause>>,
+) -> Result<Solved, Fail>
+    requires index { index ≤ 63 }
+    requires profile { IsProfile profile }
+{
     let mut scratch = Scratch::new(alloc);
-    let (node, lines) = searched(rt, alloc, index, variables, clauses, &mut scratch)?;
+    let (node, lines) = searched(rt, alloc, index, profile, variables, clauses, &mut scratch)?;
     let mut model = Vec::with_capacity(alloc, node.variables() as usize)?;
     node.model(&mut model);
     Ok(Solved {
@@ -205,6 +229,41 @@ fn four_clauses_are_refuted_by_two_lines(rt: HostRuntime) -> Result<(), Fail> {
     Ok(())
 }
 
+/// The clauses 1 -2, 1 2 3 4 and 2 3 -4.
+fn three_clauses(alloc: Global) -> Result<Vec<Option<Clause>>, Fail> {
+    let first = clause(alloc, &[1, -2])?;
+    let second = clause(alloc, &[1, 2, 3, 4])?;
+    Ok(vec![in alloc; first, second, clause(alloc, &[2, 3, -4])?]?)
+}
+
+#[test]
+fn the_first_profile_learns_the_clause_of_the_first_implication_point(
+    rt: HostRuntime,
+) -> Result<(), Fail> {
+    let solved = solve_with(&rt, rt.alloc(), 0, 1, 4, three_clauses(rt.alloc())?)?;
+    let lits = [
+        Var::of(1).literal(true),
+        Var::of(2).literal(true),
+        Var::of(3).literal(true),
+    ];
+    let hints = [ClauseId::original(2), ClauseId::original(3)];
+    compare(&rt, &solved.lines, 0, 4_294_967_296, &lits, &hints);
+    Ok(())
+}
+
+#[test]
+fn the_second_profile_learns_its_shorter_form(rt: HostRuntime) -> Result<(), Fail> {
+    let solved = solve_with(&rt, rt.alloc(), 0, 2, 4, three_clauses(rt.alloc())?)?;
+    let lits = [Var::of(1).literal(true), Var::of(3).literal(true)];
+    let hints = [
+        ClauseId::original(1),
+        ClauseId::original(2),
+        ClauseId::original(3),
+    ];
+    compare(&rt, &solved.lines, 0, 4_294_967_296, &lits, &hints);
+    Ok(())
+}
+
 #[test]
 fn node_3_numbers_its_clauses(rt: HostRuntime) -> Result<(), Fail> {
     let clauses = pairs(rt.alloc(), &[(1, 2), (1, -2), (-1, 2), (-1, -2)])?;
@@ -236,7 +295,7 @@ fn search_twice(
     requires { index ≤ 63 }
 {
     let mut scratch = Scratch::new(alloc);
-    let (mut node, _) = searched(rt, alloc, index, variables, clauses, &mut scratch)?;
+    let (mut node, _) = searched(rt, alloc, index, 1, variables, clauses, &mut scratch)?;
     let verdict = node.verdict();
     let lines = run_again(&mut node, &mut scratch)?;
     Ok((verdict, node.verdict(), lines.count()))
@@ -268,6 +327,7 @@ fn come_back(
     let second = again.image()?;
     let right = second.parts();
     assert_eq!(rt; left.index, right.index);
+    assert_eq!(rt; left.profile, right.profile);
     assert_eq!(rt; left.variables, right.variables);
     assert_eq!(rt; left.processed, right.processed);
     assert_eq!(rt; left.conflict, right.conflict);
@@ -283,9 +343,11 @@ fn come_back(
 
 #[test]
 fn a_fresh_node_comes_back(rt: HostRuntime) -> Result<(), Fail> {
-    let node: Node<Scan> = Node::fresh(rt.alloc(), 5);
+    let node: Node<Scan> = Node::fresh_with(rt.alloc(), 5, 2);
     let image = node.image()?;
     assert_eq!(rt; image.parts().index, 5);
+    assert_eq!(rt; image.parts().profile, 2);
+    assert_eq!(rt; image.parts().conflicts_since_dropping, 0);
     assert_eq!(rt; image.parts().restart_number, 1);
     let again = come_back(&rt, rt.alloc(), &node, &image)?;
     assert_eq!(rt; again.index(), 5);
@@ -305,7 +367,7 @@ fn return_and_go_on(
     requires { index ≤ 63 }
 {
     let mut scratch = Scratch::new(alloc);
-    let (node, _) = searched(rt, alloc, index, variables, clauses, &mut scratch)?;
+    let (node, _) = searched(rt, alloc, index, 1, variables, clauses, &mut scratch)?;
     let image = node.image()?;
     let mut again = come_back(rt, alloc, &node, &image)?;
     let verdict = again.verdict();

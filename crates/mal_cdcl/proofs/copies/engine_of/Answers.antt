@@ -1,5 +1,4 @@
-use Rattle.std.proofs.Common.{◌≡◌, ◌+◌, length, drop, arith}
-use Rattle.mal_cdcl.specs.ImportSizes.{lits_in}
+use Rattle.std.proofs.Common.{arith}
 use Rattle.mal_cdcl.proofs.FillLemmas.{lits_more}
 use Rattle.mal_cdcl.proofs.ImageLemmas.{not_before, one_more, within-at, lits-after}
 use Rattle.mal_cdcl.proofs.copies.engine_of.Goals as goal

@@ -1,9 +1,5 @@
-use Rattle.std.proofs.Common.{◌≡◌, List}
 use Rattle.std.proofs.lemmas.Result.{IfOk-weaker}
-use Rattle.mal_base.specs.NumberedClause.{NumberedClause}
-use Rattle.spec_node.specs.State.{Node}
 use Rattle.mal_cdcl.specs.Ready.{posted, readied}
-use Rattle.mal_cdcl.specs.Importing.{Sees, picked}
 use Rattle.mal_cdcl.proofs.PickLemmas.{sees-readied}
 use Rattle.mal_cdcl.proofs.import_filter.picks_of.Goals as goal
 

@@ -1,5 +1,4 @@
-use Rattle.std.proofs.Common.{◌≡◌, sym, arith, List, filter, not}
-use Rattle.mal_base.specs.NumberedClause.{NumberedClause}
+use Rattle.std.proofs.Common.{◌≡◌, arith, filter, not}
 use Rattle.mal_filter.specs.Noted.{is_noted}
 use Rattle.mal_cdcl.specs.Importing.{lent}
 use Rattle.mal_cdcl.proofs.PickLemmas.{picking-begins, picking-next, picking-ends}

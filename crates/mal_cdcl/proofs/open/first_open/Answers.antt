@@ -1,7 +1,6 @@
-use Rattle.std.proofs.Common.{◌≡◌, ◌<◌, ◌≤◌, ◌∙◌, false, not, length, get_or, sym, ap, arith}
+use Rattle.std.proofs.Common.{◌<◌, ◌≤◌, ◌∙◌, not, length, sym, ap, arith}
 use Rattle.std.proofs.lemmas.List.{get_or_read}
-use Rattle.spec_node.specs.Value.{is_true}
-use Rattle.mal_cdcl.proofs.PastLemmas.{open-passed, open-here, open-more, open-ends}
+use Rattle.mal_cdcl.proofs.PastLemmas.{open-passed, open-here, open-ends}
 use Rattle.mal_cdcl.proofs.open.first_open.Goals as goal
 
 pub returns-then-not-is_true-clause-value : goal.returns-then-not-is_true-clause-value

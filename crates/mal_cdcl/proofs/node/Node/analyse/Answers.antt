@@ -1,13 +1,13 @@
 use Rattle.std.proofs.Common.{◌≡◌, ◌-◌, [], length, ap, arith}
 use Rattle.spec_node.specs.State.{Node}
 use Rattle.spec_learn.specs.Learning.{analysis}
-use Rattle.spec_learn.proofs.LawLemmas.{sound-small}
+use Rattle.spec_learn.proofs.ProfileLemmas.{sound-small}
 use Rattle.mal_cdcl.specs.Within.{NodeWithRoom}
 use Rattle.mal_cdcl.proofs.DeriveLemmas.{placed-wider}
 use Rattle.mal_cdcl.proofs.node.Node.analyse.Goals as goal
 
-pub analyse-requires-clause-placed : goal.analyse-requires-clause-placed
-analyse-requires-clause-placed g c =
+pub analyse_in-requires-clause-placed : goal.analyse_in-requires-clause-placed
+analyse_in-requires-clause-placed g c =
     let sound = rw (← c.self.view_is) at c.requires.sound in
     let fitted = rw (← c.self.view_is) at c.requires.fitted in
     placed-wider c.self.inside.variables (c.args.scratch.now.room - 1) c.self.inside.trail.entries [] (omega (arith, fitted)) sound.consistent.placed
@@ -16,6 +16,6 @@ pub returns-clause-few : goal.returns-clause-few
 returns-clause-few g c =
     let n = c.args.self.now.state in
     let same = ap (λ (s : NodeWithRoom). s.state) c.self.view_is in
-    let lits : length c.clause.result.now ≡ length (analysis c.args.id n).lits = rw (c.clause.ensures, c.analyse.ensures.clause) (ap (λ (m : Node). length (analysis c.args.id m).lits) same) in
-    let hints : length c.hints.result.now ≡ length (analysis c.args.id n).hints = rw (c.hints.ensures, c.analyse.ensures.hints) (ap (λ (m : Node). length (analysis c.args.id m).hints) same) in
+    let lits : length c.clause.result.now ≡ length (analysis c.args.id n).lits = rw (c.clause.ensures, c.analyse_in.ensures.clause) (ap (λ (m : Node). length (analysis c.args.id m).lits) same) in
+    let hints : length c.hints.result.now ≡ length (analysis c.args.id n).hints = rw (c.hints.ensures, c.analyse_in.ensures.hints) (ap (λ (m : Node). length (analysis c.args.id m).hints) same) in
     omega (arith, lits, hints, sound-small n c.args.id c.requires.sound)

@@ -5,13 +5,13 @@ use Rattle.spec_node.specs.Value.{has_value, left_literal}
 use Rattle.spec_node.specs.Cut.{cut, kept}
 use Rattle.spec_node.specs.Adding.{with_clause}
 use Rattle.spec_learn.specs.Analysis.{vars_in}
-use Rattle.spec_learn.specs.Learning.{analysis, derived_id, forced_by, learned}
+use Rattle.spec_learn.specs.Learning.{analysis, derived_id, forced_by, counted_in, learned}
 use Rattle.spec_learn.specs.Order.{moved_all}
 use Rattle.mal_cdcl.specs.Within.{NodeWithRoom, IsNode, IsPast}
-use Rattle.mal_cdcl.proofs.ImageLemmas.{image-node}
+use Rattle.mal_cdcl.proofs.ImageLemmas.{formed-node}
 use Rattle.mal_cdcl.proofs.PastLemmas.{past-more}
 use Rattle.mal_cdcl.proofs.BumpLemmas.{are_in}
-use Rattle.mal_cdcl.proofs.DeriveLemmas.{new-number, fit-learned, image-learned, has-learned, processed-learned, free-learned, forced-keeps}
+use Rattle.mal_cdcl.proofs.DeriveLemmas.{new-number, fit-learned, formed-learned, has-learned, processed-learned, free-learned, forced-keeps}
 use Rattle.mal_cdcl.proofs.node.Node.learn.Goals as goal
 
 pub learn-requires-clause-new : goal.learn-requires-clause-new
@@ -59,8 +59,8 @@ invariant_of-self g c =
     let listed : c.bump_all.new.order.list ≡ moved_all (vars_in a.lits) n.order = rw (c.bump_all.ensures.list, lits3) (ap (λ (m : Node). moved_all (vars_in a.lits) m.order) same) in
     let variables : v.variables ≡ n.variables = ap (λ (m : Node). m.variables) same in
     let turned : c.bump_all.new.order.index ≡ n.index = c.bump_all.ensures.index ∙ (c.self.invariant.0.turned ∙ ap (λ (m : Node). m.index) same) in
-    let form = image-learned n c.args.id c.requires.sound c.requires.conflict c.requires.level c.requires.counts.serial in
-    let after : IsNode n.index n.variables c.force.new.trail.room n.assumptions c.bump_all.new.order (cut a.level n).phases (g.E.ClauseView.clauses c.learn.new.self) = rw whole (image-node (learned c.args.id n) c.force.new.trail.room c.bump_all.new.order (omega (arith, c.self.invariant.0.room, variables, c.force.ensures.room)) turned listed form) in
+    let form = formed-learned n c.args.id c.requires.sound c.requires.conflict c.requires.level c.requires.counts.serial in
+    let after : IsNode n.index n.variables c.force.new.trail.room n.assumptions c.bump_all.new.order (cut a.level n).phases (g.E.ClauseView.clauses c.learn.new.self) = rw whole (formed-node (learned c.args.id n) c.force.new.trail.room c.bump_all.new.order (omega (arith, c.self.invariant.0.room, variables, c.force.ensures.room)) turned listed form) in
     let handled : v.trail.processed ≡ length v.trail.entries + 1 = ap (λ (m : Node). m.processed) same ∙ (processed-learned n c.args.id c.requires.sound c.requires.conflict c.requires.level ∙ sym (ap (λ (m : Node). length m.trail + 1) same)) in
     let past : IsPast c.force.new.trail.entries v.order v.assumptions.items v.passed = rw c.force.ensures.entries (forced-keeps (λ (es : List TrailEntry). IsPast es v.order v.assumptions.items v.passed) c.args.number v.trail.entries (left_literal v.trail.entries c.clause-2.result.now) c.self.invariant.2 (λ e. past-more v.trail.entries (e ∷ []) v.order v.assumptions.items v.passed c.self.invariant.2)) in (
       subst (λ (m : Node). IsNode m.index m.variables c.force.new.trail.room m.assumptions c.bump_all.new.order m.phases (g.E.ClauseView.clauses c.learn.new.self)) (sym same) after,
@@ -79,10 +79,11 @@ returns-clause-state g c =
     let lits2 : c.clause-2.result.now ≡ a.lits = c.clause-2.ensures ∙ c.requires.shown.lits in
     let lits3 : c.clause-3.result.now ≡ a.lits = c.clause-3.ensures ∙ c.requires.shown.lits in
     let handled : v.trail.processed ≡ length v.trail.entries + 1 = ap (λ (m : Node). m.processed) same ∙ (processed-learned n c.args.id c.requires.sound c.requires.conflict c.requires.level ∙ sym (ap (λ (m : Node). length m.trail + 1) same)) in
-    rw (c.bump_all.ensures.list, c.force.ensures.entries, c.force.ensures.processed, c.learn.ensures.clauses, handled, lits, lits2, lits3, c.requires.number)
+    rw (c.counted-count.ensures, c.bump_all.ensures.list, c.force.ensures.entries, c.force.ensures.processed, c.learn.ensures.clauses, handled, lits, lits2, lits3, c.requires.number)
     (ap (λ (m : Node). record m {
       serial = m.serial + 1;
       conflicts_since_restart = m.conflicts_since_restart + 1;
+      conflicts_since_dropping = counted_in m.profile m.conflicts_since_dropping;
       processed = length m.trail + 1;
       conflict = None;
       order = moved_all (vars_in a.lits) m.order;

@@ -1,8 +1,8 @@
-use Rattle.std.proofs.Common.{◌≡◌, List, [], drop, refl, sym, ap, arith}
+use Rattle.std.proofs.Common.{◌≡◌, [], drop, refl, sym, ap, arith}
 use Rattle.mal_cdcl.specs.Within.{NodeWithRoom}
 use Rattle.mal_cdcl.specs.Ready.{posted, readied}
-use Rattle.mal_cdcl.specs.Importing.{lent, picked, all_imported}
-use Rattle.mal_cdcl.proofs.ImportingLemmas.{importing-begins, importing-here, importing-room, importing-next, importing-ends}
+use Rattle.mal_cdcl.specs.Importing.{lent, picked}
+use Rattle.mal_cdcl.proofs.ImportingLemmas.{importing-begins, importing-here, importing-room, importing-next, importing-ends, importing-ids}
 use Rattle.mal_cdcl.proofs.NeedLemmas.{posted-drop, room-head, readying-next, posted-end}
 use Rattle.mal_cdcl.proofs.node.Node.ready.Goals as goal
 
@@ -39,18 +39,18 @@ loop-pick-init g c =
     let is : c.in_ok-picks.picks.items ≡ picked (lent c.args.imports.now) (readied (posted c.args.loads.now) c.args.self.now.state).clauses = c.in_ok-picks.ensures c.args.self.now.state (sym (ap (λ (s : NodeWithRoom). s.state.clauses) c.self.view_is)) in
     rw c.as_slice-pick-items.ensures.value (importing-begins (posted c.args.loads.now) (lent c.args.imports.now) c.in_ok-picks.picks.items c.args.self.now.state _ c.loop-load.self is c.requires.told ready)
 
-pub import_reserved-requires-clause-new : goal.import_reserved-requires-clause-new
-import_reserved-requires-clause-new g c =
+pub take_pick-requires-clause-new : goal.take_pick-requires-clause-new
+take_pick-requires-clause-new g c =
     let left = importing-here c.as_slice-pick-items.result.now c.loop-pick.pick-index c.pick-item.result c.pick-item.result _ _ c.loop-pick.self (omega arith) c.pick-item.is c.loop-pick.invariant in
     rw c.entries.ensures left.new.0
 
-pub import_reserved-requires-clause-room : goal.import_reserved-requires-clause-room
-import_reserved-requires-clause-room g c =
+pub take_pick-requires-clause-room : goal.take_pick-requires-clause-room
+take_pick-requires-clause-room g c =
     let left = importing-here c.as_slice-pick-items.result.now c.loop-pick.pick-index c.pick-item.result c.pick-item.result _ _ c.loop-pick.self (omega arith) c.pick-item.is c.loop-pick.invariant in
     rw c.entries.ensures (importing-room _ _ c.loop-pick.self left.room)
 
 pub loop-pick-preserved : goal.loop-pick-preserved
-loop-pick-preserved g c = importing-next c.as_slice-pick-items.result.now c.loop-pick.pick-index c.pick-item.result c.pick-item.result _ _ c.loop-pick.self c.import_reserved.new.self (omega arith) c.pick-item.is (rw c.entries.ensures at c.import_reserved.ensures.state) (rw c.entries.ensures at c.import_reserved.ensures.keeps) c.loop-pick.invariant
+loop-pick-preserved g c = importing-next c.as_slice-pick-items.result.now c.loop-pick.pick-index c.pick-item.result c.pick-item.result _ _ c.loop-pick.self c.take_pick.new.self (omega arith) c.pick-item.is (rw c.entries.ensures at c.take_pick.ensures.state) (rw c.entries.ensures at c.take_pick.ensures.keeps) c.loop-pick.invariant
 
 pub returns-clause-loaded : goal.returns-clause-loaded
 returns-clause-loaded g c = (importing-ends c.as_slice-pick-items.result.now c.loop-pick.pick-index _ _ c.loop-pick.self (omega arith) c.loop-pick.invariant).done
@@ -60,3 +60,9 @@ returns-clause-stocked g c = (importing-ends c.as_slice-pick-items.result.now c.
 
 pub returns-clause-fitted : goal.returns-clause-fitted
 returns-clause-fitted g c = (importing-ends c.as_slice-pick-items.result.now c.loop-pick.pick-index _ _ c.loop-pick.self (omega arith) c.loop-pick.invariant).fitted
+
+pub returns-clause-ids : goal.returns-clause-ids
+returns-clause-ids g c =
+    let is : c.in_ok-picks.picks.items ≡ picked (lent c.args.imports.now) (readied (posted c.args.loads.now) c.args.self.now.state).clauses = c.in_ok-picks.ensures c.args.self.now.state (sym (ap (λ (s : NodeWithRoom). s.state.clauses) c.self.view_is)) in
+    let done = (importing-ends c.as_slice-pick-items.result.now c.loop-pick.pick-index _ _ c.loop-pick.self (omega arith) c.loop-pick.invariant).done in
+    importing-ids (posted c.args.loads.now) (lent c.args.imports.now) c.in_ok-picks.picks.items c.args.self.now.state c.loop-pick.self.state c.make_room.new.scratch.ids is done (rw c.as_slice.ensures.value at c.in_ok-make_room.ensures.ids)

@@ -7,5 +7,6 @@ invariant-loop-made g l =
     record {
       slicing : IsSlicing (1000 - l._made) l.used l.fn.self l.self;
       bound : l.scratch.room ≡ l.fn.scratch.room;
+      ids : l.scratch.ids ≡ l.fn.scratch.ids;
       made : l._made ≤ 1000;
     }
