@@ -5,7 +5,7 @@ ghost use Rattle.mal_base.specs.NumberedClause.{Line};
 ghost use Rattle.mal_base.specs.Literals.{literal};
 ghost use Rattle.spec_text.specs.Lines.{line_of, text_of};
 ghost use Rattle.spec_text.specs.Numbers.{decimal_word, literal_word};
-ghost use Rattle.spec_report.specs.Replies.{Model, Proof, model_words, proof_row, reply_text};
+ghost use Rattle.spec_report.specs.Replies.{Model, Proof, head_words, model_words, proof_row, reply_text};
 ghost use Rattle.mal_report.specs.Causes.{told_of, cause_words};
 
 use itoa::Buffer;
@@ -23,75 +23,96 @@ pub enum Cause {
 }
 
 /// The reply to a job's revision, numbered from 1, that has this model: the values of variable 1 and the next ones, at
-/// most 65,536.
+/// most 65,536. The job's solvers have this profile, 1 or 2.
 #[tactic(auto, unfolding(spec_report::specs::Replies::reply_text))]
 pub fn satisfiable(
     alloc: Global,
     tenant: &Name,
     job: &Name,
     r: u32,
+    profile: u32,
     model: &[bool],
 ) -> Result<Vec<u8>, AllocError>
-    requires { length model.now ≤ 65536 }
-    ensures { IfOk result (λ v. v.items ≡ reply_text tenant.now job.now r (Model model.now)) }
+    requires some { 1 ≤ profile }
+    requires bound { profile ≤ 2 }
+    requires length { length model.now ≤ 65536 }
+    ensures { IfOk result (λ v. v.items ≡ reply_text tenant.now job.now r profile (Model model.now)) }
 {
     let mut out = Vec::new(alloc);
-    put_head(&mut out, tenant, job, r)?;
+    put_head(&mut out, tenant, job, r, profile)?;
     put_line(&mut out, b"s", &[b"SATISFIABLE"])?;
     put_model(&mut out, model)?;
     Ok(out)
 }
 
 /// The reply to a job's revision, numbered from 1, whose clauses no assignment satisfies where the assumptions hold: the
-/// assumptions that fail, and the lines of the proof.
+/// assumptions that fail, and the lines of the proof. The job's solvers have this profile, 1 or 2.
 #[tactic(auto, unfolding(spec_report::specs::Replies::reply_text))]
 pub fn unsatisfiable(
     alloc: Global,
     tenant: &Name,
     job: &Name,
     r: u32,
+    profile: u32,
     failed: &[Lit],
     lines: &Lines,
 ) -> Result<Vec<u8>, AllocError>
-    ensures { IfOk result (λ v. v.items ≡ reply_text tenant.now job.now r (Proof failed.now lines.now.lines)) }
+    requires some { 1 ≤ profile }
+    requires bound { profile ≤ 2 }
+    ensures { IfOk result (λ v. v.items ≡ reply_text tenant.now job.now r profile (Proof failed.now lines.now.lines)) }
 {
     let mut out = Vec::new(alloc);
-    put_head(&mut out, tenant, job, r)?;
+    put_head(&mut out, tenant, job, r, profile)?;
     put_line(&mut out, b"s", &[b"UNSATISFIABLE"])?;
     put_failed(&mut out, failed)?;
     put_proof(&mut out, lines)?;
     Ok(out)
 }
 
-/// The reply to a job's revision, numbered from 1, that has neither a model nor a refutation.
+/// The reply to a job's revision, numbered from 1, that has neither a model nor a refutation. The job's solvers have this
+/// profile, 1 or 2.
 #[tactic(auto, unfolding(spec_report::specs::Replies::reply_text))]
 pub fn unknown(
     alloc: Global,
     tenant: &Name,
     job: &Name,
     r: u32,
+    profile: u32,
     cause: Cause,
 ) -> Result<Vec<u8>, AllocError>
-    ensures { IfOk result (λ v. v.items ≡ reply_text tenant.now job.now r (told_of cause)) }
+    requires some { 1 ≤ profile }
+    requires bound { profile ≤ 2 }
+    ensures { IfOk result (λ v. v.items ≡ reply_text tenant.now job.now r profile (told_of cause)) }
 {
     let mut out = Vec::new(alloc);
-    put_head(&mut out, tenant, job, r)?;
+    put_head(&mut out, tenant, job, r, profile)?;
     put_line(&mut out, b"s", &[b"UNKNOWN"])?;
     put_cause(&mut out, cause)?;
     Ok(out)
 }
 
-/// Writes the first line of a reply.
-fn put_head(out: &mut Vec<u8>, tenant: &Name, job: &Name, r: u32) -> Result<(), AllocError>
-    ensures { OnOk result (out.new.items ≡ out.old.items ++ line_of (codes "r" ∷ tenant.now ∷ job.now ∷ decimal_word r ∷ [])) }
+/// Writes the first line of a reply, which names the profile where it is the second.
+#[tactic(auto, unfolding(spec_report::specs::Replies::head_words))]
+fn put_head(
+    out: &mut Vec<u8>,
+    tenant: &Name,
+    job: &Name,
+    r: u32,
+    profile: u32,
+) -> Result<(), AllocError>
+    ensures { OnOk result (out.new.items ≡ out.old.items ++ line_of (codes "r" ∷ head_words tenant.now job.now r profile)) }
 {
-    let mut number = Buffer::new();
-    let words = [
-        tenant.as_bytes(),
-        job.as_bytes(),
-        number.format(r).as_bytes(),
-    ];
-    put_line(out, b"r", &words)
+    let mut buffer = Buffer::new();
+    let number = buffer.format(r).as_bytes();
+    if profile == 2 {
+        put_line(
+            out,
+            b"r",
+            &[tenant.as_bytes(), job.as_bytes(), number, b"2"],
+        )
+    } else {
+        put_line(out, b"r", &[tenant.as_bytes(), job.as_bytes(), number])
+    }
 }
 
 /// Writes the line of a cause.

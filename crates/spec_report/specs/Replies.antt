@@ -1,4 +1,4 @@
-use Rattle.std.specs.Prelude.{ℕ, ◌+◌, Bool, List, [], ◌∷◌, ◌++◌, map, codes}
+use Rattle.std.specs.Prelude.{ℕ, ◌+◌, ◌==◌, Bool, List, [], ◌∷◌, ◌++◌, map, codes, if◌then◌else◌}
 use Rattle.mal_base.specs.NumberedClause.{Line}
 use Rattle.mal_base.specs.Literals.{literal}
 use Rattle.spec_text.specs.Lines.{text_of}
@@ -30,6 +30,14 @@ told_rows (Proof failed lines) = (codes "s" ∷ codes "UNSATISFIABLE" ∷ []) �
 told_rows (AllSpent n) = (codes "s" ∷ codes "UNKNOWN" ∷ []) ∷ (codes "u" ∷ codes "spent" ∷ decimal_word n ∷ []) ∷ []
 told_rows AllStarved = (codes "s" ∷ codes "UNKNOWN" ∷ []) ∷ (codes "u" ∷ codes "starved" ∷ codes "3" ∷ []) ∷ []
 
--- the text of the reply to a revision of a tenant's job, which is numbered from 1
-unfoldable pub reply_text : List ℕ → List ℕ → ℕ → ReplyBody → List ℕ
-reply_text tenant job r told = text_of ((codes "r" ∷ tenant ∷ job ∷ decimal_word r ∷ []) ∷ told_rows told)
+-- the word by which a reply names the profile of the job's solvers: profile 1 goes without one
+abbrev pub profile_words : ℕ → List (List ℕ)
+profile_words profile = if profile == 2 then codes "2" ∷ [] else []
+
+-- the words behind the first of the first line of a reply
+unfoldable pub head_words : List ℕ → List ℕ → ℕ → ℕ → List (List ℕ)
+head_words tenant job r profile = tenant ∷ job ∷ decimal_word r ∷ profile_words profile
+
+-- the text of the reply to a revision, which is numbered from 1, of a tenant's job, whose solvers have this profile
+unfoldable pub reply_text : List ℕ → List ℕ → ℕ → ℕ → ReplyBody → List ℕ
+reply_text tenant job r profile told = text_of ((codes "r" ∷ head_words tenant job r profile) ∷ told_rows told)
