@@ -78,12 +78,12 @@ starts-front (suc n) mark (p ∷ ps) =
 pub starts-marked : (n mark : ℕ) (ps : List PlaceView) → starts_of (marked n mark ps) ≡ starts_of ps
 starts-marked n mark ps = ap (λ (xs : List ℕ). xs ++ replicate (64 - length (marked n mark ps)) 0) (starts-front n mark ps) ∙ ap (λ (k : ℕ). map (λ (p : PlaceView). p.journal.start) ps ++ replicate (64 - k) 0) (length-marked n mark ps)
 
-pub own-marked : (number k n mark : ℕ) (ps : List PlaceView) → AreOwn number k ps → AreOwn number k (marked n mark ps)
-own-marked number k zero mark ps all = all
-own-marked number k (suc n) mark [] all = all
-own-marked number k (suc n) mark (p ∷ ps) all =
+pub own-marked : (number profile k n mark : ℕ) (ps : List PlaceView) → AreOwn number profile k ps → AreOwn number profile k (marked n mark ps)
+own-marked number profile k zero mark ps all = all
+own-marked number profile k (suc n) mark [] all = all
+own-marked number profile k (suc n) mark (p ∷ ps) all =
     let same : (marked_at mark p).journal ≡ p.journal = marked-start mark p in
-    (ap (λ (j : Journaled). j.job) same ∙ all.0, ap (λ (j : Journaled). j.index) same ∙ all.1, own-marked number (k + 1) n mark ps all.2)
+    (ap (λ (j : Journaled). j.job) same ∙ all.0, ap (λ (j : Journaled). j.index) same ∙ all.1, ap (λ (j : Journaled). j.profile) same ∙ all.2, own-marked number profile (k + 1) n mark ps all.3)
 
 -- unions of what is exported
 front-exports : (v left k : ℕ) (log : List Line) (ps : List PlaceView) (rest : List NodeSlot) → k + left ≡ v → left ≤ length ps → union (entries_of (unions_from log k (take left ps))) ≡ union (exports_from v log k (map place_of ps ++ rest))

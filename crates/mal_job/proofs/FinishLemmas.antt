@@ -1,6 +1,7 @@
 -- A start that is out ends.
 use Rattle.std.proofs.Common.{◌≡◌, ℕ, ◌+◌, ◌*◌, ◌<◌, ◌≤◌, ◌^◌, true, false, List, [], ◌∷◌, ◌++◌, length, get_or, Option, Some, None, Bool, cond, nat_lt, refl, sym, ◌∙◌, ap, subst, arith, length-append}
 use Rattle.std.specs.Prelude.{is_some, slice_set}
+use Rattle.mal_base.specs.Asks.{Terms}
 use Rattle.mal_base.specs.NumberedClause.{Line}
 use Rattle.mal_base.specs.declared.verdict.Outcome.{Outcome}
 use Rattle.mal_base.specs.declared.verdict.Outcome.TheVariants.{Ran, Starved, Lost}
@@ -27,7 +28,7 @@ use Rattle.mal_job.specs.Finishing.{MayFinish}
 use Rattle.mal_job.specs.JobInvariant.{IsOwn, JobInvariant}
 use Rattle.mal_job.specs.Placing.{IsBackAt, IsTree, placed, with_placed, ran_home, came_home, one_more_ran, fresh_place, revision_of, adds_of}
 use Rattle.mal_job.specs.Viewed.{PlaceView, TreeView, LogView, QuestionsView, Parts, place_of, places_of, starts_of, state_of, viewed}
-use Rattle.mal_job.proofs.KeptLemmas.{own-next, own-kept, few-runs, outs-less}
+use Rattle.mal_job.proofs.KeptLemmas.{own-next, own-kept, step-ask, few-runs, outs-less}
 use Rattle.mal_job.proofs.PartLemmas.{starts-same, journal-same, view-same}
 use Rattle.mal_job.proofs.PlaceLemmas.{placed-at, out-within, out-same, own-at, set-placed, length-filled}
 use Rattle.mal_job.proofs.StateLemmas.{settled-state, with_run, ran-state, starved-state, lost-state}
@@ -37,16 +38,16 @@ some-is (Some l) e = (l, refl)
 some-is None e = absurd (cc)
 
 -- what came back, seen from the place
-pub back-place : (tenant job : List ℕ) (q : Parts) (i : ℕ) (d : Finished) → IsTree q.tree → IsBack (viewed tenant job q) i d → IsBackAt (placed q.tree i) d
-back-place tenant job q i d k b =
+pub back-place : (tenant job : List ℕ) (q : Parts) (i : ℕ) (d : Finished) → IsTree q.tree → q.tree.profile ≡ q.asked.ask.profile → IsBack (viewed tenant job q) i d → IsBackAt (placed q.tree i) d
+back-place tenant job q i d k solvers b =
     let out : (placed q.tree i).out ≡ Some b.lease = sym (out-same q.tree.places i 0 0) ∙ b.out in
     let low : i < length q.tree.places = out-within q.tree.places i 0 0 (ap (λ (o : Option Lease). is_some o) out) in
-    record { lease = b.lease; out = out; journal = subst (λ (j : Journaled). IsGrownBy d.outcome b.lease.adds j d.journal) (journal-same tenant job q i low k) b.journal }
+    record { lease = b.lease; out = out; journal = subst (λ (j : Journaled). IsGrownBy d.outcome b.lease.adds j d.journal) (journal-same tenant job q i low k solvers) b.journal }
 
-pub place-back : (tenant job : List ℕ) (q : Parts) (i : ℕ) (d : Finished) → IsTree q.tree → IsBackAt (placed q.tree i) d → IsBack (viewed tenant job q) i d
-place-back tenant job q i d k b =
+pub place-back : (tenant job : List ℕ) (q : Parts) (i : ℕ) (d : Finished) → IsTree q.tree → q.tree.profile ≡ q.asked.ask.profile → IsBackAt (placed q.tree i) d → IsBack (viewed tenant job q) i d
+place-back tenant job q i d k solvers b =
     let low : i < length q.tree.places = out-within q.tree.places i 0 0 (ap (λ (o : Option Lease). is_some o) b.out) in
-    record { lease = b.lease; out = out-same q.tree.places i 0 0 ∙ b.out; journal = subst (λ (j : Journaled). IsGrownBy d.outcome b.lease.adds j d.journal) (sym (journal-same tenant job q i low k)) b.journal }
+    record { lease = b.lease; out = out-same q.tree.places i 0 0 ∙ b.out; journal = subst (λ (j : Journaled). IsGrownBy d.outcome b.lease.adds j d.journal) (sym (journal-same tenant job q i low k solvers)) b.journal }
 
 -- how what came back ended
 pub back-ran : (p : PlaceView) (d : Finished) → d.outcome ≡ Ran → IsBackAt p d → d.journal ≡ and_entries p.journal (adds_of p.out)
@@ -81,12 +82,12 @@ module _ (q : Parts) (i : ℕ) (k : JobInvariant q) (is_out : is_some (placed q.
   machine-out = out-same q.tree.places i 0 0 ∙ out
 
   here : place_at s i ≡ place_of p
-  here = placed-at q.tree.places i (fresh_place 0 0) low
+  here = placed-at q.tree.places i (fresh_place 0 1 0) low
 
   -- the revision of the start is posted
   pub live : length q.asked.answers ≤ revision_of p.out → length q.asked.answers < length q.asked.revisions
   live reached =
-      let leased : IsLeased q.asked.revisions (length q.asked.answers) i (place_at s i).entries l = out-leased s i l machine-out (own-kept s k.own).solving in
+      let leased : IsLeased s.ask.profile q.asked.revisions (length q.asked.answers) i (place_at s i).entries l = out-leased s i l machine-out (own-kept s k.own).solving in
       let same : revision_of p.out ≡ l.revision = ap (λ (o : Option Lease). revision_of o) out in
       omega (arith, same, reached, leased.posted)
 
@@ -99,11 +100,11 @@ module _ (q : Parts) (i : ℕ) (k : JobInvariant q) (is_out : is_some (placed q.
       let less : starts_out (slice_set (places_of q.tree.places) i vacant) + 1 ≡ starts_out (places_of q.tree.places) = outs-less (places_of q.tree.places) i vacant there (ap (λ (o : Option Lease). is_some o) machine-out) refl in
       omega (arith, less, k.chunks)
 
-  running : IsRunning q.asked.revisions q.log.lines i p.journal.entries l
-  running = subst (λ (x : NodeSlot). IsRunning q.asked.revisions q.log.lines i x.entries l) here (((own-kept s k.own).derives.tracked i few).running l machine-out)
+  running : IsRunning s.ask.profile q.asked.revisions q.log.lines i p.journal.entries l
+  running = subst (λ (x : NodeSlot). IsRunning s.ask.profile q.asked.revisions q.log.lines i x.entries l) here (((own-kept s k.own).derives.tracked i few).running l machine-out)
 
   abbrev pub x : Sliced
-  x = replay i (p.journal.entries ++ l.adds)
+  x = replay s.ask.profile i (p.journal.entries ++ l.adds)
 
   few-new : length x.lines ≤ 1000
   few-new = subst (λ (y : Sliced). length y.lines ≤ 1000) (sym running.runs) (slice-fits running.node).few
@@ -111,9 +112,11 @@ module _ (q : Parts) (i : ℕ) (k : JobInvariant q) (is_out : is_some (placed q.
   -- what came back is the replay
   pub replay-is : (d : Finished) → d.journal ≡ and_entries p.journal (adds_of p.out) → replayed d.journal ≡ x
   replay-is d e =
-      let own-index : p.journal.index ≡ i = (own-at q.tree.number q.tree.places 0 i (fresh_place 0 0) low k.tree.own).1 ∙ omega arith in
+      let mine = own-at q.tree.number q.tree.profile q.tree.places 0 i (fresh_place 0 1 0) low k.tree.own in
+      let own-index : p.journal.index ≡ i = mine.1 ∙ omega arith in
+      let own-profile : p.journal.profile ≡ s.ask.profile = mine.2 ∙ k.solvers in
       ap (λ (j : Journaled). replayed j) (e ∙ ap (λ (o : Option Lease). and_entries p.journal (adds_of o)) out)
-      ∙ ap (λ (n : ℕ). replay n (p.journal.entries ++ l.adds)) own-index
+      ∙ (ap (λ (m : ℕ). replay m p.journal.index (p.journal.entries ++ l.adds)) own-profile ∙ ap (λ (n : ℕ). replay s.ask.profile n (p.journal.entries ++ l.adds)) own-index)
 
   pub lines-is : (d : Finished) → d.journal ≡ and_entries p.journal (adds_of p.out) → HasRun d → d.lines ≡ x.lines
   lines-is d e h = h.lines ∙ ap (λ (y : Sliced). y.lines) (replay-is d e)
@@ -184,7 +187,7 @@ module _ (q : Parts) (i : ℕ) (k : JobInvariant q) (is_out : is_some (placed q.
     same = ap (λ (y : QuestionsView). let z : Parts = record { asked = y; tree = tree; log = log } in z) asked-is ∙ (ap (λ (y : TreeView). let z : Parts = record { asked = (after_run log.chunk_room).asked; tree = y; log = log } in z) t ∙ ap (λ (y : LogView). let z : Parts = record { asked = (after_run log.chunk_room).asked; tree = one_more_ran (with_placed q.tree i (ran_home p)); log = y } in z) log-is)
 
     pub ran-view : (tenant job : List ℕ) → viewed tenant job r ≡ and_own (viewed tenant job q) (own.Finished i Ran)
-    ran-view tenant job = ap (λ (y : Parts). viewed tenant job y) same ∙ view-same tenant job q.tree.number q.tree.number (state_of (after_run log.chunk_room)) (solo_step s (own.Finished i Ran)) (starts_of (slice_set q.tree.places i (ran_home p))) (starts_of q.tree.places) refl (sym (run-step log.chunk_room)) (starts-same q.tree.places i (fresh_place 0 0) (ran_home p) low refl)
+    ran-view tenant job = ap (λ (y : Parts). viewed tenant job y) same ∙ view-same tenant job q.tree.number q.tree.number (state_of (after_run log.chunk_room)) (solo_step s (own.Finished i Ran)) (starts_of (slice_set q.tree.places i (ran_home p))) (starts_of q.tree.places) refl (sym (run-step log.chunk_room)) (starts-same q.tree.places i (fresh_place 0 1 0) (ran_home p) low refl)
 
     pub ran-kept : IsAsked asked → IsTree tree → JobInvariant r
     ran-kept ha ht =
@@ -197,6 +200,7 @@ module _ (q : Parts) (i : ℕ) (k : JobInvariant q) (is_out : is_some (placed q.
           own = subst (λ (y : Parts). IsOwn (state_of y)) (sym same) (run-own log.chunk_room);
           asked = ha;
           tree = ht;
+          solvers = ap (λ (y : TreeView). y.profile) t ∙ (k.solvers ∙ sym (ap (λ (a : Terms). a.profile) (ap (λ (y : Parts). y.asked.ask) same ∙ (sym (ap (λ (y : SoloMachine). y.ask) (run-step log.chunk_room)) ∙ step-ask s (own.Finished i Ran) refl))));
           ran = omega (arith, count, runs, some-runs, k.ran);
           few_lines = omega (arith, long, runs, some-runs, few-new, k.few_lines);
           chunks = omega (arith, less, room, k.chunks);
@@ -211,7 +215,7 @@ module _ (q : Parts) (i : ℕ) (k : JobInvariant q) (is_out : is_some (placed q.
     home-state = step ∙ ap (λ (y : TreeView). state_of (record { asked = asked; tree = y; log = q.log })) (sym t)
 
     pub home-view : (tenant job : List ℕ) → viewed tenant job home ≡ and_own (viewed tenant job q) (own.Finished i o)
-    home-view tenant job = view-same tenant job tree.number q.tree.number (state_of home) (solo_step s (own.Finished i o)) (starts_of tree.places) (starts_of q.tree.places) (ap (λ (y : TreeView). y.number) t) (sym home-state) (ap (λ (y : TreeView). starts_of y.places) t ∙ starts-same q.tree.places i (fresh_place 0 0) (came_home p) low refl)
+    home-view tenant job = view-same tenant job tree.number q.tree.number (state_of home) (solo_step s (own.Finished i o)) (starts_of tree.places) (starts_of q.tree.places) (ap (λ (y : TreeView). y.number) t) (sym home-state) (ap (λ (y : TreeView). starts_of y.places) t ∙ starts-same q.tree.places i (fresh_place 0 1 0) (came_home p) low refl)
 
     pub home-kept : IsAsked asked → IsTree tree → JobInvariant home
     home-kept ha ht =
@@ -223,6 +227,7 @@ module _ (q : Parts) (i : ℕ) (k : JobInvariant q) (is_out : is_some (placed q.
           own = own-next s (state_of home) (own.Finished i o) k.own tt refl home-state;
           asked = ha;
           tree = ht;
+          solvers = ap (λ (y : TreeView). y.profile) t ∙ (k.solvers ∙ sym (ap (λ (a : Terms). a.profile) (sym (ap (λ (y : SoloMachine). y.ask) home-state) ∙ step-ask s (own.Finished i o) refl)));
           ran = omega (arith, count, runs, k.ran);
           few_lines = omega (arith, runs, k.few_lines);
           chunks = omega (arith, less, k.chunks);

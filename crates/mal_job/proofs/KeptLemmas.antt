@@ -50,7 +50,7 @@ settled-ask : (o : Option ℕ) (s : SoloMachine) → (settled_by o s).ask ≡ s.
 settled-ask None s = refl
 settled-ask (Some goal) s = refl
 
-step-ask : (s : SoloMachine) (o : Own) → is_opening o ≡ false → (solo_step s o).ask ≡ s.ask
+pub step-ask : (s : SoloMachine) (o : Own) → is_opening o ≡ false → (solo_step s o).ask ≡ s.ask
 step-ask s (Opened ask) other = absurd (cc)
 step-ask s (Revised r) other = settled-ask (first_empty s.log) (record s { revisions = s.revisions ++ r ∷ [] })
 step-ask s Closed other = refl
@@ -78,11 +78,12 @@ few-runs q k h =
     omega arith
 
 -- a job that was just opened
-pub kept-fresh : (q : QuestionsView) (t : TreeView) (l : LogView) (number : ℕ) (ask : Terms) → q ≡ record { ask = ask; closed = false; revisions = []; answers = []; spent = 0; starved = 0 } → t ≡ record { number = number; volume = 0; places = []; broadcasts = []; ran = 0 } → l.lines ≡ [] → IsAsked q → IsTree t → JobInvariant (record { asked = q; tree = t; log = l })
+pub kept-fresh : (q : QuestionsView) (t : TreeView) (l : LogView) (number : ℕ) (ask : Terms) → q ≡ record { ask = ask; closed = false; revisions = []; answers = []; spent = 0; starved = 0 } → t ≡ record { number = number; profile = ask.profile; volume = 0; places = []; broadcasts = []; ran = 0 } → l.lines ≡ [] → IsAsked q → IsTree t → JobInvariant (record { asked = q; tree = t; log = l })
 kept-fresh q t l number ask a b c h k = record {
-  own = subst IsOwn same (record { ask = ask; own = []; once = record { runnable = (tt, tt); once = refl }; is = refl });
+  own = subst IsOwn same (record { ask = ask; own = []; once = record { runnable = (refl, tt); once = refl }; is = refl });
   asked = h;
   tree = k;
+  solvers = ap (λ (x : TreeView). x.profile) b ∙ sym (ap (λ (x : QuestionsView). x.ask.profile) a);
   ran = omega (arith, ap (λ (x : TreeView). x.ran) b);
   few_lines = omega (arith, ap (λ (ls : List Line). length ls) c);
   chunks = let none : starts_out (places_of t.places) ≡ 0 = ap (λ (x : TreeView). starts_out (places_of x.places)) b in omega arith;
@@ -97,6 +98,7 @@ kept-answered q asked o may other e h k = record {
   own = own-next (state_of q) (state_of (record q { asked = asked })) o k.own may other e;
   asked = h;
   tree = k.tree;
+  solvers = k.solvers ∙ sym (ap (λ (a : Terms). a.profile) (sym (ap (λ (s : SoloMachine). s.ask) e) ∙ step-ask (state_of q) o (or_parts (is_opening o) false other).0));
   ran = k.ran;
   few_lines = k.few_lines;
   chunks = k.chunks;
@@ -110,6 +112,7 @@ kept-volume q t v e h k = record {
   own = own-next (state_of q) (state_of (record q { tree = t })) (Volume v) k.own tt refl (ap (λ (x : TreeView). state_of (record q { tree = x })) (sym e));
   asked = k.asked;
   tree = h;
+  solvers = rw e k.solvers;
   ran = rw e k.ran;
   few_lines = rw e k.few_lines;
   chunks = rw e k.chunks;

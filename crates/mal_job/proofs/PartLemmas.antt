@@ -63,13 +63,13 @@ pub starts-same : (ps : List PlaceView) (i : ℕ) (d p : PlaceView) → i < leng
 starts-same ps i d p low e = ap (λ (n : ℕ). map (λ (x : PlaceView). x.journal.start) (slice_set ps i p) ++ replicate (64 - n) 0) (set-length ps i p) ∙ same-front ps (replicate (64 - length ps) 0) i d p low e
 
 -- the journal at an index
-journal-parts : (j : Journaled) (job index start : ℕ) (entries : List JournalEntry) → job ≡ j.job → index ≡ j.index → start ≡ j.start → entries ≡ j.entries → record { job = job; index = index; start = start; entries = entries } ≡ j
-journal-parts j job index start entries a b c d = rw (a, b, c, d) refl
+journal-parts : (j : Journaled) (job profile index start : ℕ) (entries : List JournalEntry) → job ≡ j.job → profile ≡ j.profile → index ≡ j.index → start ≡ j.start → entries ≡ j.entries → record { job = job; profile = profile; index = index; start = start; entries = entries } ≡ j
+journal-parts j job profile index start entries a p b c d = rw (a, p, b, c, d) refl
 
-pub journal-same : (tenant job : List ℕ) (q : Parts) (i : ℕ) → i < length q.tree.places → IsTree q.tree → journal_at (viewed tenant job q) i ≡ (placed q.tree i).journal
-journal-same tenant job q i low k =
-    let own = own-at q.tree.number q.tree.places 0 i (fresh_place 0 0) low k.own in
-    journal-parts (placed q.tree i).journal q.tree.number i (get_or (starts_of q.tree.places) i 0) (place_at (state_of q) i).entries (sym own.0) (sym (own.1 ∙ omega arith)) (starts-front q.tree.places (replicate (64 - length q.tree.places) 0) i (fresh_place 0 0) low) (ap (λ (p : NodeSlot). p.entries) (placed-at q.tree.places i (fresh_place 0 0) low))
+pub journal-same : (tenant job : List ℕ) (q : Parts) (i : ℕ) → i < length q.tree.places → IsTree q.tree → q.tree.profile ≡ q.asked.ask.profile → journal_at (viewed tenant job q) i ≡ (placed q.tree i).journal
+journal-same tenant job q i low k solvers =
+    let own = own-at q.tree.number q.tree.profile q.tree.places 0 i (fresh_place 0 1 0) low k.own in
+    journal-parts (placed q.tree i).journal q.tree.number q.asked.ask.profile i (get_or (starts_of q.tree.places) i 0) (place_at (state_of q) i).entries (sym own.0) (sym (own.2 ∙ solvers)) (sym (own.1 ∙ omega arith)) (starts-front q.tree.places (replicate (64 - length q.tree.places) 0) i (fresh_place 0 1 0) low) (ap (λ (p : NodeSlot). p.entries) (placed-at q.tree.places i (fresh_place 0 1 0) low))
 
 -- a view of parts
 abbrev pub view_of : List ℕ → List ℕ → ℕ → SoloMachine → List ℕ → JobView
@@ -79,7 +79,7 @@ pub view-same : (tenant job : List ℕ) (number other : ℕ) (s t : SoloMachine)
 view-same tenant job number other s t starts others a b c = ap (λ (n : ℕ). view_of tenant job n s starts) a ∙ (ap (λ (x : SoloMachine). view_of tenant job other x starts) b ∙ ap (λ (ns : List ℕ). view_of tenant job other t ns) c)
 
 -- places that are made, and more room for chunks
-module _ (q : Parts) (t : TreeView) (l : LogView) (g : IsGrown q.tree.number q.tree.places t.places) (rest : (let x : TreeView = record t { places = [] } in x) ≡ record q.tree { places = [] }) (h : IsTree t) (lines : l.lines ≡ q.log.lines) (room : q.log.chunk_room ≤ l.chunk_room) where
+module _ (q : Parts) (t : TreeView) (l : LogView) (g : IsGrown q.tree.number q.tree.profile q.tree.places t.places) (rest : (let x : TreeView = record t { places = [] } in x) ≡ record q.tree { places = [] }) (h : IsTree t) (lines : l.lines ≡ q.log.lines) (room : q.log.chunk_room ≤ l.chunk_room) where
   abbrev pub grown : Parts
   grown = record { asked = q.asked; tree = t; log = l }
 
@@ -88,7 +88,7 @@ module _ (q : Parts) (t : TreeView) (l : LogView) (g : IsGrown q.tree.number q.t
       let volume : t.volume ≡ q.tree.volume = ap (λ (x : TreeView). x.volume) rest in
       let tolds : t.broadcasts ≡ q.tree.broadcasts = ap (λ (x : TreeView). x.broadcasts) rest in
       let ran : t.ran ≡ q.tree.ran = ap (λ (x : TreeView). x.ran) rest in
-      let places : places_of t.places ≡ places_of q.tree.places = grown-places q.tree.number q.tree.places t.places g h.few in
+      let places : places_of t.places ≡ places_of q.tree.places = grown-places q.tree.number q.tree.profile q.tree.places t.places g h.few in
       parts-same places volume tolds ran
     where
       parts-same : places_of t.places ≡ places_of q.tree.places → t.volume ≡ q.tree.volume → t.broadcasts ≡ q.tree.broadcasts → t.ran ≡ q.tree.ran → state_of grown ≡ state_of q
@@ -98,7 +98,7 @@ module _ (q : Parts) (t : TreeView) (l : LogView) (g : IsGrown q.tree.number q.t
           by_parts ps v ts n ls a b c d e = rw (a, b, c, d, e) refl
 
   pub grown-view : (tenant job : List ℕ) → viewed tenant job grown ≡ viewed tenant job q
-  grown-view tenant job = view-same tenant job t.number q.tree.number (state_of grown) (state_of q) (starts_of t.places) (starts_of q.tree.places) (ap (λ (x : TreeView). x.number) rest) grown-state (grown-starts q.tree.number q.tree.places t.places g h.few)
+  grown-view tenant job = view-same tenant job t.number q.tree.number (state_of grown) (state_of q) (starts_of t.places) (starts_of q.tree.places) (ap (λ (x : TreeView). x.number) rest) grown-state (grown-starts q.tree.number q.tree.profile q.tree.places t.places g h.few)
 
   pub grown-kept : JobInvariant q → JobInvariant grown
   grown-kept k =
@@ -108,6 +108,7 @@ module _ (q : Parts) (t : TreeView) (l : LogView) (g : IsGrown q.tree.number q.t
         own = subst IsOwn (sym grown-state) k.own;
         asked = k.asked;
         tree = h;
+        solvers = ap (λ (x : TreeView). x.profile) rest ∙ k.solvers;
         ran = subst (λ (ps : List NodeSlot). t.ran ≤ runs_of ps) (sym places) (omega (arith, ran, k.ran));
         few_lines = subst (λ (ps : List NodeSlot). length l.lines ≤ runs_of ps * 1000) (sym places) (subst (λ (ls : List Line). length ls ≤ runs_of (places_of q.tree.places) * 1000) (sym lines) k.few_lines);
         chunks = subst (λ (ps : List NodeSlot). starts_out ps ≤ l.chunk_room) (sym places) (omega (arith, k.chunks, room));

@@ -69,7 +69,7 @@ module _ (q : Parts) (i : ℕ) (k : JobInvariant q) (may : startable (state_of q
   few = omega (arith, low, k.tree.few)
 
   here : place_at s i ≡ place_of p
-  here = placed-at q.tree.places i (fresh_place 0 0) low
+  here = placed-at q.tree.places i (fresh_place 0 1 0) low
 
   live : length q.asked.answers < length q.asked.revisions
   live = live-parts s i may
@@ -93,27 +93,29 @@ module _ (q : Parts) (i : ℕ) (k : JobInvariant q) (may : startable (state_of q
   adds-by ls e = ap (λ (xs : List (Posted × ℕ)). start_entries xs tolds) e ∙ adds-is
 
   -- it may be replayed
-  counted : HasCounts (runs_of (places_of q.tree.places)) (runs_in p.journal.entries) (replay i (p.journal.entries ++ (missing_loads s (place_of p) ++ missing_imports s (place_of p)))).node
+  counted : HasCounts (runs_of (places_of q.tree.places)) (runs_in p.journal.entries) (replay s.ask.profile i (p.journal.entries ++ (missing_loads s (place_of p) ++ missing_imports s (place_of p)))).node
   counted =
       let all : PlaceCounts s i (place_at s i) = subst (λ (y : SoloMachine). PlaceCounts y i (place_at y i)) (sym k.own.is) (replays-count (Opened k.own.ask ∷ k.own.own) i few) in
-      subst (λ (y : NodeSlot). HasCounts (runs_of (places_of q.tree.places)) (runs_in y.entries) (replay i (y.entries ++ (missing_loads s y ++ missing_imports s y))).node) here all.ready
+      subst (λ (y : NodeSlot). HasCounts (runs_of (places_of q.tree.places)) (runs_in y.entries) (replay s.ask.profile i (y.entries ++ (missing_loads s y ++ missing_imports s y))).node) here all.ready
 
-  low-counts : HasLowCounts (fold after_entry (replay i p.journal.entries) (missing_loads s (place_of p) ++ missing_imports s (place_of p))).node
+  low-counts : HasLowCounts (fold after_entry (replay s.ask.profile i p.journal.entries) (missing_loads s (place_of p) ++ missing_imports s (place_of p))).node
   low-counts =
       let few-all : runs_of (places_of q.tree.places) + starts_out (places_of q.tree.places) ≤ 1052672 = few-runs q k.own k.asked in
       let some : runs_in p.journal.entries ≤ runs_of (places_of q.tree.places) = subst (λ (y : NodeSlot). runs_in y.entries ≤ runs_of (places_of q.tree.places)) here (runs-least (places_of q.tree.places) i there) in
-      let h : HasCounts (runs_of (places_of q.tree.places)) (runs_in p.journal.entries) (fold after_entry (replay i p.journal.entries) (missing_loads s (place_of p) ++ missing_imports s (place_of p))).node = subst (λ (y : Sliced). HasCounts (runs_of (places_of q.tree.places)) (runs_in p.journal.entries) y.node) (fold-append after_entry (replay i []) p.journal.entries (missing_loads s (place_of p) ++ missing_imports s (place_of p))) counted in
-      record { conflicts_since_restart = omega (arith, h.conflicts_since_restart, few-all, some); restart_number = omega (arith, h.restart_number, few-all, some); serial = omega (arith, h.serial, few-all) }
+      let h : HasCounts (runs_of (places_of q.tree.places)) (runs_in p.journal.entries) (fold after_entry (replay s.ask.profile i p.journal.entries) (missing_loads s (place_of p) ++ missing_imports s (place_of p))).node = subst (λ (y : Sliced). HasCounts (runs_of (places_of q.tree.places)) (runs_in p.journal.entries) y.node) (fold-append after_entry (replay s.ask.profile i []) p.journal.entries (missing_loads s (place_of p) ++ missing_imports s (place_of p))) counted in
+      record { conflicts_since_restart = omega (arith, h.conflicts_since_restart, few-all, some); restart_number = omega (arith, h.restart_number, few-all, some); serial = omega (arith, h.serial, few-all); conflicts_since_dropping = omega (arith, h.conflicts_since_dropping, few-all, some) }
 
-  follows : MayAllFollow (replay i p.journal.entries) (missing_loads s (place_of p) ++ (map Import tolds ++ Run ∷ []))
-  follows = subst (λ (y : NodeSlot). MayAllFollow (replay i y.entries) (own.start_entries s y)) here (start-follows s i few live (own-kept s k.own).solving (own-kept s k.own).calm (own-kept s k.own).derives)
+  follows : MayAllFollow (replay s.ask.profile i p.journal.entries) (missing_loads s (place_of p) ++ (map Import tolds ++ Run ∷ []))
+  follows = subst (λ (y : NodeSlot). MayAllFollow (replay s.ask.profile i y.entries) (own.start_entries s y)) here (start-follows s i few live (own-kept s k.own).solving (own-kept s k.own).calm (own-kept s k.own).derives)
 
   pub replays : (ls : List (Posted × ℕ)) → ls ≡ lacking n q.asked → MayAllReplay (replayed p.journal) (start_entries ls tolds)
   replays ls e =
-      let own-index : p.journal.index ≡ i = (own-at q.tree.number q.tree.places 0 i (fresh_place 0 0) low k.tree.own).1 ∙ omega arith in
-      let all : MayAllReplay (replay i p.journal.entries) (own.start_entries s (place_of p)) = may-loads (take (length q.asked.answers + 1 - n) (drop n q.asked.revisions)) (clauses_in (take n q.asked.revisions) + 1) tolds (replay i p.journal.entries) follows low-counts in
+      let mine = own-at q.tree.number q.tree.profile q.tree.places 0 i (fresh_place 0 1 0) low k.tree.own in
+      let own-index : p.journal.index ≡ i = mine.1 ∙ omega arith in
+      let own-profile : p.journal.profile ≡ s.ask.profile = mine.2 ∙ k.solvers in
+      let all : MayAllReplay (replay s.ask.profile i p.journal.entries) (own.start_entries s (place_of p)) = may-loads (take (length q.asked.answers + 1 - n) (drop n q.asked.revisions)) (clauses_in (take n q.asked.revisions) + 1) tolds (replay s.ask.profile i p.journal.entries) follows low-counts in
       let same : own.start_entries s (place_of p) ≡ start_entries ls tolds = ap (λ (y : NodeSlot). own.start_entries s y) (sym here) ∙ sym (adds-by ls e) in
-      subst (λ (m : ℕ). MayAllReplay (replay m p.journal.entries) (start_entries ls tolds)) (sym own-index) (subst (λ (es : List JournalEntry). MayAllReplay (replay i p.journal.entries) es) same all)
+      subst (λ (x : ℕ). MayAllReplay (replay x p.journal.index p.journal.entries) (start_entries ls tolds)) (sym own-profile) (subst (λ (m : ℕ). MayAllReplay (replay s.ask.profile m p.journal.entries) (start_entries ls tolds)) (sym own-index) (subst (λ (es : List JournalEntry). MayAllReplay (replay s.ask.profile i p.journal.entries) es) same all))
 
   -- the job after the start
   module _ (start : ℕ) (ls : List (Posted × ℕ)) (e : ls ≡ lacking n q.asked) where
@@ -138,6 +140,7 @@ module _ (q : Parts) (i : ℕ) (k : JobInvariant q) (may : startable (state_of q
           own = own-next s (state_of next) (own.Started i) k.own may refl step;
           asked = k.asked;
           tree = ht;
+          solvers = k.solvers;
           ran = omega (arith, runs, k.ran);
           few_lines = omega (arith, runs, k.few_lines);
           chunks = omega (arith, more, room);
@@ -147,8 +150,8 @@ module _ (q : Parts) (i : ℕ) (k : JobInvariant q) (may : startable (state_of q
     lease-journal : (tenant job : List ℕ) → IsTree gone → started start p.journal ≡ journal_at (and_start (viewed tenant job q) i start) i
     lease-journal tenant job ht =
         let inside : i < length gone.places = subst (λ (m : ℕ). i < m) (sym (length-set q.tree.places i (sent (length q.asked.answers) (start_entries ls tolds) start p))) low in
-        let new : placed gone i ≡ sent (length q.asked.answers) (start_entries ls tolds) start p = set-here q.tree.places i (sent (length q.asked.answers) (start_entries ls tolds) start p) (fresh_place 0 0) low in
-        ap (λ (y : PlaceView). y.journal) (sym new) ∙ (sym (journal-same tenant job next i inside ht) ∙ ap (λ (v : JobView). journal_at v i) (start-view tenant job))
+        let new : placed gone i ≡ sent (length q.asked.answers) (start_entries ls tolds) start p = set-here q.tree.places i (sent (length q.asked.answers) (start_entries ls tolds) start p) (fresh_place 0 1 0) low in
+        ap (λ (y : PlaceView). y.journal) (sym new) ∙ (sym (journal-same tenant job next i inside ht k.solvers) ∙ ap (λ (v : JobView). journal_at v i) (start-view tenant job))
 
     pub lease-is : {E : Type 0} (tenant job : List ℕ) (worker : ℕ) (result : Result Leased E) → IsTree gone → IfOk result (λ l. l.journal ≡ started start p.journal) → IfOk result (λ l. l.adds ≡ start_entries ls tolds) → IfOk result (λ l. l.worker ≡ worker) → IfOk result (λ l. IsLeaseOf (viewed tenant job q) i start worker l)
     lease-is tenant job worker (Ok l) ht a b c = record { journal = a ∙ lease-journal tenant job ht; adds = b ∙ adds-by ls e; worker = c }
@@ -176,6 +179,7 @@ module _ (q : Parts) (k : JobInvariant q) (wide : q.tree.volume ≤ length q.tre
         own = own-next (state_of q) (state_of (record q { tree = told })) own.Exchanged k.own tt refl exchange-step;
         asked = k.asked;
         tree = ht;
+        solvers = k.solvers;
         ran = omega arith;
         few_lines = omega (arith, runs, k.few_lines);
         chunks = omega (arith, outs, k.chunks);

@@ -49,7 +49,7 @@ with-state q i p low = ap (λ (ps : List NodeSlot). let s : SoloMachine = record
 -- a start
 pub started-state : (q : Parts) (i start : ℕ) → i < length q.tree.places → solo_step (state_of q) (Started i) ≡ state_of (record q { tree = with_placed q.tree i (sent (length q.asked.answers) (start_entries (state_of q) (place_at (state_of q) i)) start (placed q.tree i)) })
 started-state q i start low =
-    ap (λ (p : NodeSlot). with_place (state_of q) i (record p { out = Some (record { revision = length q.asked.answers; adds = start_entries (state_of q) (place_at (state_of q) i) }); starts = p.starts + 1 })) (placed-at q.tree.places i (fresh_place 0 0) low)
+    ap (λ (p : NodeSlot). with_place (state_of q) i (record p { out = Some (record { revision = length q.asked.answers; adds = start_entries (state_of q) (place_at (state_of q) i) }); starts = p.starts + 1 })) (placed-at q.tree.places i (fresh_place 0 1 0) low)
     ∙ with-state q i (sent (length q.asked.answers) (start_entries (state_of q) (place_at (state_of q) i)) start (placed q.tree i)) low
 
 -- the parts of a job whose start ran, with these lines and this verdict, and so much room for chunks
@@ -66,7 +66,7 @@ module _ (q : Parts) (i : ℕ) (l : Lease) (low : i < length q.tree.places) (out
 
   finished-is : (o : Outcome) → finished (state_of q) i (place_at (state_of q) i) (place_at (state_of q) i).out o ≡ finished (state_of q) i (place_of p) (Some l) o
   finished-is o =
-      ap (λ (x : NodeSlot). finished (state_of q) i x x.out o) (placed-at q.tree.places i (fresh_place 0 0) low)
+      ap (λ (x : NodeSlot). finished (state_of q) i x x.out o) (placed-at q.tree.places i (fresh_place 0 1 0) low)
       ∙ ap (λ (x : Option Lease). finished (state_of q) i (place_of p) x o) out
 
   -- the place after a start that ran
@@ -75,8 +75,8 @@ module _ (q : Parts) (i : ℕ) (l : Lease) (low : i < length q.tree.places) (out
       ap (λ (o : Option Lease). record (with_place (state_of q) i (record (place_of p) { entries = p.journal.entries ++ adds_of o; out = None })) { log = q.log.lines ++ x.lines; ran = q.tree.ran + 1 }) (sym out)
       ∙ ap (λ (s : SoloMachine). let t : SoloMachine = record s { log = q.log.lines ++ x.lines; ran = q.tree.ran + 1 } in t) (with-state q i (ran_home p) low)
 
-  pub ran-state : (room : ℕ) → solo_step (state_of q) (Finished i Ran) ≡ settled (state_of (with_run q i l (replay i (p.journal.entries ++ l.adds)) room))
-  ran-state room = finished-is Ran ∙ ap settled (by_test (replay i (p.journal.entries ++ l.adds)) (nat_lt l.revision (length q.asked.answers)))
+  pub ran-state : (room : ℕ) → solo_step (state_of q) (Finished i Ran) ≡ settled (state_of (with_run q i l (replay q.asked.ask.profile i (p.journal.entries ++ l.adds)) room))
+  ran-state room = finished-is Ran ∙ ap settled (by_test (replay q.asked.ask.profile i (p.journal.entries ++ l.adds)) (nat_lt l.revision (length q.asked.answers)))
     where
       home : Sliced → SoloMachine
       home x = record (with_place (state_of q) i (record (place_of p) { entries = p.journal.entries ++ l.adds; out = None })) { log = q.log.lines ++ x.lines; ran = q.tree.ran + 1 }

@@ -21,28 +21,32 @@ use Rattle.mal_job.proofs.PlaceLemmas.{length-set, get-within, own-at, own-set, 
 use Rattle.mal_job.proofs.ExchangeLemmas.{length-marked, own-marked, told-is}
 
 -- a place that is set has the journal of its node
-pub tree-set : (t : TreeView) (i : ℕ) (old new : PlaceView) → i < length t.places → old ≡ get_or t.places i old → new.journal.job ≡ old.journal.job → new.journal.index ≡ old.journal.index → IsTree t → IsTree (with_placed t i new)
-tree-set t i old new low is same_job same_index k =
-    let own : ((get_or t.places i old).journal.job ≡ t.number) × ((get_or t.places i old).journal.index ≡ 0 + i) = own-at t.number t.places 0 i old low k.own in
+pub tree-set : (t : TreeView) (i : ℕ) (old new : PlaceView) → i < length t.places → old ≡ get_or t.places i old → new.journal.job ≡ old.journal.job → new.journal.index ≡ old.journal.index → new.journal.profile ≡ old.journal.profile → IsTree t → IsTree (with_placed t i new)
+tree-set t i old new low is same_job same_index same_profile k =
+    let own : ((get_or t.places i old).journal.job ≡ t.number) × ((get_or t.places i old).journal.index ≡ 0 + i) × ((get_or t.places i old).journal.profile ≡ t.profile) = own-at t.number t.profile t.places 0 i old low k.own in
     record {
       few = subst (λ (n : ℕ). n ≤ 64) (sym (length-set t.places i new)) k.few;
       volume = k.volume;
-      own = own-set t.number t.places 0 i new (same_job ∙ (ap (λ (p : PlaceView). p.journal.job) is ∙ own.0)) (same_index ∙ (ap (λ (p : PlaceView). p.journal.index) is ∙ own.1)) k.own;
+      some_profile = k.some_profile;
+      profile_bound = k.profile_bound;
+      own = own-set t.number t.profile t.places 0 i new (same_job ∙ (ap (λ (p : PlaceView). p.journal.job) is ∙ own.0)) (same_index ∙ (ap (λ (p : PlaceView). p.journal.index) is ∙ own.1)) (same_profile ∙ (ap (λ (p : PlaceView). p.journal.profile) is ∙ own.2)) k.own;
     }
 
 -- places that are made
-pub tree-grown : (t : TreeView) (ps : List PlaceView) → IsGrown t.number t.places ps → length ps ≤ 64 → IsTree t → IsTree (record t { places = ps })
-tree-grown t ps g low k = record { few = low; volume = k.volume; own = grown-own t.number t.places ps g k.own }
+pub tree-grown : (t : TreeView) (ps : List PlaceView) → IsGrown t.number t.profile t.places ps → length ps ≤ 64 → IsTree t → IsTree (record t { places = ps })
+tree-grown t ps g low k = record { few = low; volume = k.volume; some_profile = k.some_profile; profile_bound = k.profile_bound; own = grown-own t.number t.profile t.places ps g k.own }
 
 -- marks that are moved, and what is told
-pub tree-exchanged : (t : TreeView) (n mark : ℕ) (tolds : List (List NumberedClause)) (ps : List PlaceView) → ps ≡ marked n mark t.places → IsTree t → IsTree (record { number = t.number; volume = t.volume; places = ps; broadcasts = tolds; ran = 0 })
-tree-exchanged t n mark tolds ps e k = subst (λ (xs : List PlaceView). IsTree (record { number = t.number; volume = t.volume; places = xs; broadcasts = tolds; ran = 0 })) (sym e) (record {
+pub tree-exchanged : (t : TreeView) (n mark : ℕ) (tolds : List (List NumberedClause)) (ps : List PlaceView) → ps ≡ marked n mark t.places → IsTree t → IsTree (record { number = t.number; profile = t.profile; volume = t.volume; places = ps; broadcasts = tolds; ran = 0 })
+tree-exchanged t n mark tolds ps e k = subst (λ (xs : List PlaceView). IsTree (record { number = t.number; profile = t.profile; volume = t.volume; places = xs; broadcasts = tolds; ran = 0 })) (sym e) (record {
   few = subst (λ (j : ℕ). j ≤ 64) (sym (length-marked n mark t.places)) k.few;
   volume = k.volume;
-  own = own-marked t.number 0 n mark t.places k.own;
+  some_profile = k.some_profile;
+  profile_bound = k.profile_bound;
+  own = own-marked t.number t.profile 0 n mark t.places k.own;
 })
 
-pub exchanged-is : (t : TreeView) (log : List Line) (ps : List PlaceView) (tolds us : List (List NumberedClause)) (told : List NumberedClause) (mark : ℕ) → ps ≡ marked t.volume mark t.places → mark ≡ length log → tolds ≡ t.broadcasts ++ told ∷ [] → told ≡ broadcast (entries_of us) → us ≡ unions_from log 0 (take t.volume t.places) → t.volume ≤ length t.places → record { number = t.number; volume = t.volume; places = ps; broadcasts = tolds; ran = 0 } ≡ record t { broadcasts = t.broadcasts ++ broadcast (exports_from t.volume log 0 (places_of t.places)) ∷ []; places = marked t.volume (length log) t.places; ran = 0 }
+pub exchanged-is : (t : TreeView) (log : List Line) (ps : List PlaceView) (tolds us : List (List NumberedClause)) (told : List NumberedClause) (mark : ℕ) → ps ≡ marked t.volume mark t.places → mark ≡ length log → tolds ≡ t.broadcasts ++ told ∷ [] → told ≡ broadcast (entries_of us) → us ≡ unions_from log 0 (take t.volume t.places) → t.volume ≤ length t.places → record { number = t.number; profile = t.profile; volume = t.volume; places = ps; broadcasts = tolds; ran = 0 } ≡ record t { broadcasts = t.broadcasts ++ broadcast (exports_from t.volume log 0 (places_of t.places)) ∷ []; places = marked t.volume (length log) t.places; ran = 0 }
 exchanged-is t log ps tolds us told mark a b c d e low = rw (a, b, c, d, e, told-is t.volume log t.places low) refl
 
 module _ {X Z : Type 0} where

@@ -32,10 +32,11 @@ pub record PlaceView : Type 0 where
   pub starts : ℕ
   pub mark : ℕ
 
--- the tree of a job: the job's number, the volume, the first places, as many as were ever used, what was told to all, and how
+-- the tree of a job: the job's number, the profile of its solvers, the volume, the first places, as many as were ever used, what was told to all, and how
 -- many slices were run since the last exchange
 pub record TreeView : Type 0 where
   pub number : ℕ
+  pub profile : ℕ
   pub volume : ℕ
   pub places : List PlaceView
   pub broadcasts : List (List NumberedClause)

@@ -66,7 +66,7 @@ impl Job {
             tenant,
             name: job,
             questions: Questions::fresh(alloc, ask),
-            tree: Tree::fresh(alloc, number),
+            tree: Tree::fresh(alloc, number, ask.profile()),
             log: Derivation::new(alloc),
         })
     }
@@ -166,15 +166,20 @@ impl Job {
     fn tell(&self, r: u32, answer: &Answer) -> Result<Vec<u8>, AllocError>
         requires first { 1 ≤ r }
         requires posted { r ≤ length self.now.titled.state.revisions }
-        ensures { IfOk result (λ text. text.items ≡ reply_text self.now.titled.key.tenant self.now.titled.key.job r (told_by self.now.titled.state (r - 1) answer.now)) }
+        ensures { IfOk result (λ text. text.items ≡ reply_text self.now.titled.key.tenant self.now.titled.key.job r self.now.titled.state.ask.profile (told_by self.now.titled.state (r - 1) answer.now)) }
     {
         let alloc = self.questions.allocator();
+        let profile = self.questions.ask().profile();
         let (tenant, job) = (&self.tenant, &self.name);
         match answer {
-            Answer::Satisfied(model) => satisfiable(alloc, tenant, job, r, model.as_slice()),
+            Answer::Satisfied(model) => {
+                satisfiable(alloc, tenant, job, r, profile, model.as_slice())
+            }
             Answer::Refuted { goal } => self.tell_proof(r, *goal),
-            Answer::Spent(slices) => unknown(alloc, tenant, job, r, Cause::Spent(*slices)),
-            Answer::OutOfStarts => unknown(alloc, tenant, job, r, Cause::Starved),
+            Answer::Spent(slices) => {
+                unknown(alloc, tenant, job, r, profile, Cause::Spent(*slices))
+            }
+            Answer::OutOfStarts => unknown(alloc, tenant, job, r, profile, Cause::Starved),
         }
     }
 
@@ -183,7 +188,7 @@ impl Job {
     fn tell_proof(&self, r: u32, goal: ClauseId) -> Result<Vec<u8>, AllocError>
         requires first { 1 ≤ r }
         requires posted { r ≤ length self.now.titled.state.revisions }
-        ensures { IfOk result (λ text. text.items ≡ reply_text self.now.titled.key.tenant self.now.titled.key.job r (Proof (failed goal self.now.titled.state.log) (proof_lines self.now.titled.state.revisions self.now.titled.state.log (r - 1) goal))) }
+        ensures { IfOk result (λ text. text.items ≡ reply_text self.now.titled.key.tenant self.now.titled.key.job r self.now.titled.state.ask.profile (Proof (failed goal self.now.titled.state.log) (proof_lines self.now.titled.state.revisions self.now.titled.state.log (r - 1) goal))) }
     {
         let alloc = self.questions.allocator();
         let log = self.log.log();
@@ -197,6 +202,7 @@ impl Job {
             &self.tenant,
             &self.name,
             r,
+            self.questions.ask().profile(),
             failed.as_slice(),
             &lines,
         )

@@ -53,13 +53,16 @@ impl Model for NodeSlot {
 }
 
 impl NodeSlot {
-    /// The place of this index (0 to 63) of a job before its first start. Takes no memory.
-    pub fn fresh(alloc: Global, job: u64, index: u32) -> NodeSlot
-        requires { index ≤ 63 }
-        ensures { result ≡ fresh_place job index }
+    /// The place of this index (0 to 63) of a job, whose solvers have this profile, 1 or 2, before its first start. Takes no
+    /// memory.
+    pub fn fresh(alloc: Global, job: u64, profile: u32, index: u32) -> NodeSlot
+        requires index { index ≤ 63 }
+        requires some { 1 ≤ profile }
+        requires bound { profile ≤ 2 }
+        ensures { result ≡ fresh_place job profile index }
     {
         NodeSlot {
-            journal: Journal::new(alloc, job, index),
+            journal: Journal::new(alloc, job, profile, index),
             seat: Seat::Gone,
             starts: 0,
             mark: 0,
@@ -138,6 +141,7 @@ impl NodeSlot {
         ensures err { OnErr result (self.new ≡ self.old) }
         ensures own_job { self.new.journal.job ≡ self.old.journal.job }
         ensures own_index { self.new.journal.index ≡ self.old.journal.index }
+        ensures own_profile { self.new.journal.profile ≡ self.old.journal.profile }
     {
         let starts = match self.starts.checked_add(1) {
             Some(starts) => starts,

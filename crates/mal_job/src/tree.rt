@@ -26,11 +26,12 @@ use std::alloc::{AllocError, Global};
 use std::marker::Model;
 use std::sync::Arc;
 
-/// The first places of a job's tree, as many as were ever used, the job's number and volume, what its nodes were told, and how
-/// many slices were run since the last exchange.
+/// The first places of a job's tree, as many as were ever used, the job's number, the profile of its solvers, its volume, what its
+/// nodes were told, and how many slices were run since the last exchange.
 #[derive(Drop)]
 pub struct Tree {
     number: u64,
+    profile: u32,
     volume: u32,
     places: Vec<NodeSlot>,
     broadcasts: Vec<Arc<Buffer>>,
@@ -43,19 +44,22 @@ impl Model for Tree {
 
     ghost Value = { TreeView };
 
-    ghost view = { λ t. record { number = t.number; volume = t.volume; places = t.places.items; broadcasts = shared t.broadcasts.items; ran = t.ran } };
+    ghost view = { λ t. record { number = t.number; profile = t.profile; volume = t.volume; places = t.places.items; broadcasts = shared t.broadcasts.items; ran = t.ran } };
 
-    ghost invariant = { λ t. IsTree (record { number = t.number; volume = t.volume; places = t.places.items; broadcasts = shared t.broadcasts.items; ran = t.ran }) };
+    ghost invariant = { λ t. IsTree (record { number = t.number; profile = t.profile; volume = t.volume; places = t.places.items; broadcasts = shared t.broadcasts.items; ran = t.ran }) };
 }
 
 impl Tree {
-    /// The tree of a job of this number, of which no node was started. Takes no memory.
-    pub fn fresh(alloc: Global, number: u64) -> Tree
-        ensures value { result ≡ record { number = number; volume = 0; places = []; broadcasts = []; ran = 0 } }
+    /// The tree of a job of this number, whose solvers have this profile, 1 or 2, of which no node was started. Takes no memory.
+    pub fn fresh(alloc: Global, number: u64, profile: u32) -> Tree
+        requires some { 1 ≤ profile }
+        requires bound { profile ≤ 2 }
+        ensures value { result ≡ record { number = number; profile = profile; volume = 0; places = []; broadcasts = []; ran = 0 } }
         ensures kept { IsTree result }
     {
         Tree {
             number,
+            profile,
             volume: 0,
             places: Vec::new(alloc),
             broadcasts: Vec::new(alloc),
@@ -145,13 +149,13 @@ impl Tree {
     /// Makes the first so many places, where they are not there yet. After want of memory some of them may be there.
     pub fn grow(&mut self, count: usize) -> Result<(), AllocError>
         requires { count ≤ 64 }
-        ensures places { IsGrown self.old.number self.old.places self.new.places }
+        ensures places { IsGrown self.old.number self.old.profile self.old.places self.new.places }
         ensures rest { record self.new { places = [] } ≡ record self.old { places = [] } }
         ensures enough { OnOk result (count ≤ length self.new.places) }
         ensures kept { IsTree self.new }
     {
         let alloc = *self.places.allocator();
-        grow(alloc, self.number, &mut self.places, count)
+        grow(alloc, self.number, self.profile, &mut self.places, count)
     }
 
     /// How many revisions the node of this index has loaded.
@@ -303,22 +307,25 @@ fn missing(
     tolds_of(alloc, &told[imported..])
 }
 
-/// Makes the first so many places of a job of this number, where they are not there yet. After want of memory some of them may be
-/// there.
+/// Makes the first so many places of a job of this number, whose solvers have this profile, where they are not there yet. After
+/// want of memory some of them may be there.
 fn grow(
     alloc: Global,
     number: u64,
+    profile: u32,
     places: &mut Vec<NodeSlot>,
     count: usize,
 ) -> Result<(), AllocError>
     requires count { count ≤ 64 }
     requires few { length places.old.items ≤ 64 }
-    ensures grown { IsGrown number places.old.items places.new.items }
+    requires some { 1 ≤ profile }
+    requires bound { profile ≤ 2 }
+    ensures grown { IsGrown number profile places.old.items places.new.items }
     ensures few { length places.new.items ≤ 64 }
     ensures ok { OnOk result (count ≤ length places.new.items) }
 {
     for index in places.len()..count {
-        places.push(NodeSlot::fresh(alloc, number, index as u32))?;
+        places.push(NodeSlot::fresh(alloc, number, profile, index as u32))?;
     }
     Ok(())
 }

@@ -26,10 +26,11 @@ pub sound-first : (i : ℕ) (r : Posted) → i ≤ 63 → is_posted r ≡ true �
 sound-first i r l p b = loaded-sound r 1 (fresh i) p (posted-literals r p) (new-numbers i r b) (fresh-sound i l)
 
 -- a node at its first start may load a revision and run a slice
-pub first-may : (i : ℕ) (r : Posted) → i ≤ 63 → is_posted r ≡ true → 1 + length r.clauses ≤ 2 ^ 32 → MayAllReplay (replay i []) (Load r 1 ∷ Run ∷ [])
+pub first-may : (i : ℕ) (r : Posted) → i ≤ 63 → is_posted r ≡ true → 1 + length r.clauses ≤ 2 ^ 32 → MayAllReplay (replay 1 i []) (Load r 1 ∷ Run ∷ [])
 first-may i r l p b =
     let n : Node = loaded r 1 (fresh i) in
     let conflicts_since_restart : n.conflicts_since_restart ≡ 0 = refl in
     let restart_number : n.restart_number ≡ 1 = refl in
     let serial : n.serial ≡ 0 = refl in
-    (record { follows = (p, new-numbers i r b); low = tt }, (record { follows = (sound-first i r l p b, refl); low = record { conflicts_since_restart = omega (arith, conflicts_since_restart); restart_number = omega (arith, restart_number); serial = omega (arith, serial) } }, tt))
+    let conflicts_since_dropping : n.conflicts_since_dropping ≡ 0 = refl in
+    (record { follows = (p, new-numbers i r b); low = tt }, (record { follows = (sound-first i r l p b, refl); low = record { conflicts_since_restart = omega (arith, conflicts_since_restart); restart_number = omega (arith, restart_number); serial = omega (arith, serial); conflicts_since_dropping = omega (arith, conflicts_since_dropping) } }, tt))

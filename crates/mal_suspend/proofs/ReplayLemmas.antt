@@ -1,6 +1,7 @@
 -- Entries that may be replayed.
 use Rattle.std.proofs.Common.{◌≡◌, ℕ, List, [], ◌∷◌, ◌++◌, fold, refl, sym, ◌∙◌, ap, append_assoc, inl, inr}
 use Rattle.std.proofs.lemmas.List.Sums.{fold-append}
+use Rattle.spec_node.proofs.ImportLemmas.{import-holds}
 use Rattle.spec_search.specs.Slice.{Sliced}
 use Rattle.spec_search.proofs.ModelLemmas.{slice-leaves}
 use Rattle.spec_job.specs.Journal.{JournalEntry, Load, Import, Run, after_entry, replay}
@@ -39,8 +40,8 @@ pub after-more_alone : (s : Sliced) (e : JournalEntry) (es : List JournalEntry) 
 after-more_alone s e es = ap (λ (t : Sliced). fold after_entry t es) (after-alone s e)
 
 -- a journal with entries that may be replayed after it is one
-pub journal-grows : (i : ℕ) (es fs : List JournalEntry) → IsJournal i es → MayAllReplay (replay i es) fs → AreAtRest (es ++ fs) → IsJournal i (es ++ fs)
-journal-grows i es fs h k r = record { place = h.place; replays = may-append (replay i []) es fs h.replays k; rest = r }
+pub journal-grows : (profile i : ℕ) (es fs : List JournalEntry) → IsJournal profile i es → MayAllReplay (replay profile i es) fs → AreAtRest (es ++ fs) → IsJournal profile i (es ++ fs)
+journal-grows profile i es fs h k r = record { some_profile = h.some_profile; profile_bound = h.profile_bound; place = h.place; replays = may-append (replay profile i []) es fs h.replays k; rest = r }
 
 -- a journal is at rest after what a start adds
 pub start-rests : (es : List JournalEntry) (loads : List (Posted × ℕ)) (tolds : List (List NumberedClause)) → AreAtRest (es ++ start_entries loads tolds)
@@ -50,16 +51,16 @@ start-rests es loads tolds =
     inr (es ++ (load_entries loads ++ import_entries tolds), ap (λ (xs : List JournalEntry). es ++ xs) inner ∙ outer)
 
 -- the entries that a journal got may be replayed after it
-pub journal-behind : (i : ℕ) (es fs : List JournalEntry) → IsJournal i (es ++ fs) → MayAllReplay (replay i es) fs
-journal-behind i es fs h = may-behind (replay i []) es fs h.replays
+pub journal-behind : (profile i : ℕ) (es fs : List JournalEntry) → IsJournal profile i (es ++ fs) → MayAllReplay (replay profile i es) fs
+journal-behind profile i es fs h = may-behind (replay profile i []) es fs h.replays
 
 -- the replay of a journal that grew
-pub replay-grows : (i : ℕ) (es fs : List JournalEntry) → replay i (es ++ fs) ≡ fold after_entry (replay i es) fs
-replay-grows i es fs = fold-append after_entry (replay i []) es fs
+pub replay-grows : (profile i : ℕ) (es fs : List JournalEntry) → replay profile i (es ++ fs) ≡ fold after_entry (replay profile i es) fs
+replay-grows profile i es fs = fold-append after_entry (replay profile i []) es fs
 
 variables-entry : (s : Sliced) (e : JournalEntry) → (after_entry s e).node.variables ≡ variables_with s.node.variables e
 variables-entry s (Load r first) = refl
-variables-entry s (Import told) = refl
+variables-entry s (Import told) = import-holds.variables told s.node
 variables-entry s Run = (slice-leaves s.node).variables
 
 -- how many variables the node has after entries
@@ -67,8 +68,8 @@ pub variables-entries : (s : Sliced) (es : List JournalEntry) → (fold after_en
 variables-entries s [] = refl
 variables-entries s (e ∷ es) = variables-entries (after_entry s e) es ∙ ap (λ (v : ℕ). variables_after v es) (variables-entry s e)
 
-pub variables-replay : (i : ℕ) (es : List JournalEntry) → (replay i es).node.variables ≡ variables_after 0 es
-variables-replay i es = variables-entries (replay i []) es
+pub variables-replay : (profile i : ℕ) (es : List JournalEntry) → (replay profile i es).node.variables ≡ variables_after 0 es
+variables-replay profile i es = variables-entries (replay profile i []) es
 
 -- how many variables one entry more brings
 pub variables-push : (most : ℕ) (es : List JournalEntry) (e : JournalEntry) → variables_after most (es ++ e ∷ []) ≡ variables_with (variables_after most es) e

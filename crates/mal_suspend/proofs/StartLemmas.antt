@@ -68,10 +68,10 @@ pub slice-lent : (loads ls : List (Posted × ℕ)) (tolds ts : List (List Number
 slice-lent loads ls tolds ts n m e f g = ap (λ (x : Node). slice x) (g ∙ (ap (λ (xs : List (List NumberedClause)). all_imported xs (readied ls n)) f ∙ ap (λ (xs : List (Posted × ℕ)). all_imported tolds (readied xs n)) e)) ∙ start-slice loads tolds n
 
 -- what a journal grew by may be replayed from the node that it had
-pub start-may : (j g : Journaled) (adds : List JournalEntry) (n : Node) → g ≡ and_entries j adds → IsJournal g.index g.entries → n ≡ node_of j → MayAllReplay (alone n) adds
+pub start-may : (j g : Journaled) (adds : List JournalEntry) (n : Node) → g ≡ and_entries j adds → IsJournal g.profile g.index g.entries → n ≡ node_of j → MayAllReplay (alone n) adds
 start-may j g adds n e h q =
-    let k : IsJournal j.index (j.entries ++ adds) = subst (λ (x : Journaled). IsJournal x.index x.entries) e h in
-    subst (λ (m : Node). MayAllReplay (alone m) adds) (sym q) (may-alone (replayed j) adds (journal-behind j.index j.entries adds k))
+    let k : IsJournal j.profile j.index (j.entries ++ adds) = subst (λ (x : Journaled). IsJournal x.profile x.index x.entries) e h in
+    subst (λ (m : Node). MayAllReplay (alone m) adds) (sym q) (may-alone (replayed j) adds (journal-behind j.profile j.index j.entries adds k))
 
 -- entries that end with a slice do not read the lines
 ends-alone : (s : Sliced) (es fs : List JournalEntry) → after_entries s.node (es ++ (fs ++ Run ∷ [])) ≡ fold after_entry s (es ++ (fs ++ Run ∷ []))
@@ -83,4 +83,4 @@ ends-alone s (e ∷ es) fs = after-more_alone s e (es ++ (fs ++ Run ∷ []))
 pub start-replays : (j g : Journaled) (loads : List (Posted × ℕ)) (tolds : List (List NumberedClause)) (n : Node) → g ≡ and_entries j (start_entries loads tolds) → n ≡ node_of j → after_entries n (start_entries loads tolds) ≡ replayed g
 start-replays j g loads tolds n e q =
     let adds : List JournalEntry = start_entries loads tolds in
-    ap (λ (m : Node). after_entries m adds) q ∙ (ends-alone (replayed j) (load_entries loads) (import_entries tolds) ∙ (sym (replay-grows j.index j.entries adds) ∙ ap (λ (x : Journaled). replayed x) (sym e)))
+    ap (λ (m : Node). after_entries m adds) q ∙ (ends-alone (replayed j) (load_entries loads) (import_entries tolds) ∙ (sym (replay-grows j.profile j.index j.entries adds) ∙ ap (λ (x : Journaled). replayed x) (sym e)))

@@ -14,11 +14,13 @@ use std::alloc::{AllocError, Global};
 use std::marker::Model;
 use std::sync::Arc;
 
-/// The journal of a node: the number of its job, its index in the job's tree, the number of its last start, and what it did,
-/// in order. Contracts see the four; the type keeps that each entry may be replayed behind those before it.
+/// The journal of a node: the number of its job, the profile of the job's solvers, its index in the job's tree, the number of
+/// its last start, and what it did, in order. Contracts see the five; the type keeps that each entry may be replayed behind
+/// those before it.
 #[derive(Drop)]
 pub struct Journal {
     job: u64,
+    profile: u32,
     index: u32,
     start: u64,
     entries: Vec<Entry>,
@@ -31,19 +33,23 @@ impl Model for Journal {
 
     ghost Value = { Journaled };
 
-    ghost view = { λ j. record { job = j.job; index = j.index; start = j.start; entries = entries_of j.entries.items } };
+    ghost view = { λ j. record { job = j.job; profile = j.profile; index = j.index; start = j.start; entries = entries_of j.entries.items } };
 
-    ghost invariant = { λ j. IsJournal j.index (entries_of j.entries.items) };
+    ghost invariant = { λ j. IsJournal j.profile j.index (entries_of j.entries.items) };
 }
 
 impl Journal {
-    /// The journal of the node of this index (0 to 63) of a job, before its first start. Takes no memory.
-    pub fn new(alloc: Global, job: u64, index: u32) -> Journal
-        requires { index ≤ 63 }
-        ensures { result ≡ record { job = job; index = index; start = 0; entries = [] } }
+    /// The journal of the node of this index (0 to 63) of a job whose solvers have this profile (1 or 2), before its first start.
+    /// Takes no memory.
+    pub fn new(alloc: Global, job: u64, profile: u32, index: u32) -> Journal
+        requires index { index ≤ 63 }
+        requires some { 1 ≤ profile }
+        requires bound { profile ≤ 2 }
+        ensures { result ≡ record { job = job; profile = profile; index = index; start = 0; entries = [] } }
     {
         Journal {
             job,
+            profile,
             index,
             start: 0,
             entries: Vec::new(alloc),
@@ -57,10 +63,19 @@ impl Journal {
         self.job
     }
 
+    /// The profile of the job's solvers: 1 or 2.
+    pub fn profile(&self) -> u32
+        ensures value { result ≡ self.now.profile }
+        ensures some { 1 ≤ result }
+        ensures bound { result ≤ 2 }
+    {
+        self.profile
+    }
+
     /// The node's index, from 0 to 63.
     pub fn index(&self) -> u32
         ensures value { result ≡ self.now.index }
-        ensures keeps { IsJournal self.now.index self.now.entries }
+        ensures keeps { IsJournal self.now.profile self.now.index self.now.entries }
     {
         self.index
     }
@@ -75,7 +90,7 @@ impl Journal {
     /// What the node did, in order.
     pub fn entries(&self) -> &[Entry]
         ensures value { entries_of result.now ≡ self.now.entries }
-        ensures keeps { IsJournal self.now.index self.now.entries }
+        ensures keeps { IsJournal self.now.profile self.now.index self.now.entries }
     {
         self.entries.as_slice()
     }
@@ -108,7 +123,7 @@ impl Journal {
 
     /// The allocator that the journal takes memory from.
     pub fn allocator(&self) -> Global
-        ensures { IsJournal self.now.index self.now.entries }
+        ensures { IsJournal self.now.profile self.now.index self.now.entries }
     {
         *self.entries.allocator()
     }
@@ -119,17 +134,21 @@ impl Journal {
     {
         Ok(Journal {
             job: self.job,
+            profile: self.profile,
             index: self.index,
             start: self.start,
             entries: copies(self.allocator(), self.entries.as_slice(), 0)?,
         })
     }
 
-    /// Whether the other journal is equal: job, index, number of the last start, and entries.
+    /// Whether the other journal is equal: job, profile, index, number of the last start, and entries.
     pub fn same(&self, other: &Journal) -> bool
         ensures { IsTrue result ↔ (self.now ≡ other.now) }
     {
-        if self.job != other.job || self.index != other.index || self.start != other.start {
+        if self.job != other.job || self.profile != other.profile {
+            return false;
+        }
+        if self.index != other.index || self.start != other.start {
             return false;
         }
         are_same(self.entries.as_slice(), other.entries.as_slice())
@@ -151,7 +170,7 @@ impl Journal {
     ) -> Result<Journal, AllocError>
         requires { MayAllReplay (replayed self.now) (start_entries (shared_loads loads.now) (shared_tolds imports.now)) }
         ensures value { IfOk result (λ j. j ≡ and_entries (started start self.now) (start_entries (shared_loads loads.now) (shared_tolds imports.now))) }
-        ensures keeps { IfOk result (λ j. IsJournal j.index j.entries) }
+        ensures keeps { IfOk result (λ j. IsJournal j.profile j.index j.entries) }
     {
         let more = loads.len() + imports.len() + 1;
         let mut entries = copies(self.allocator(), self.entries.as_slice(), more)?;
@@ -160,6 +179,7 @@ impl Journal {
         entries.push(Entry::Run)?;
         Ok(Journal {
             job: self.job,
+            profile: self.profile,
             index: self.index,
             start,
             entries,

@@ -13,7 +13,7 @@ use std::test::Fail;
 
 /// The first start of node 0, which loads a shared revision.
 fn first(alloc: Global, kept: Kept, revision: Arc<Revision>) -> Result<Lease, AllocError>
-    requires { journal_of kept ≡ record { job = 7; index = 0; start = 0; entries = [] } }
+    requires { journal_of kept ≡ record { job = 7; profile = 1; index = 0; start = 0; entries = [] } }
 {
     if revision.clauses().len() > 1000 {
         return Err(AllocError);
@@ -42,7 +42,7 @@ fn bytes_after(lease: Lease, scratch: &mut Scratch) -> usize {
 
 /// How many bytes are kept of node 0 after its first start, which loads a shared revision.
 fn first_bytes(alloc: Global, kept: Kept, revision: Arc<Revision>) -> Result<usize, AllocError>
-    requires { journal_of kept ≡ record { job = 7; index = 0; start = 0; entries = [] } }
+    requires { journal_of kept ≡ record { job = 7; profile = 1; index = 0; start = 0; entries = [] } }
 {
     let mut scratch = Scratch::new(alloc);
     let lease = first(alloc, kept, revision)?;
@@ -58,14 +58,14 @@ fn shared(alloc: Global, variables: u32) -> Result<Arc<Revision>, Fail> {
 /// How many bytes are kept of node 0, which was live, after a first start with so many variables.
 fn live_bytes(alloc: Global, variables: u32) -> Result<usize, Fail> {
     let revision = shared(alloc, variables)?;
-    let kept = Kept::Live(Suspended::fresh(alloc, 7, 0));
+    let kept = Kept::Live(Suspended::fresh(alloc, 7, 1, 0));
     Ok(first_bytes(alloc, kept, revision)?)
 }
 
 /// How many bytes are kept of node 0, which was gone, after a first start with so many variables.
 fn rebuilt_bytes(alloc: Global, variables: u32) -> Result<usize, Fail> {
     let revision = shared(alloc, variables)?;
-    let kept = Kept::Gone(Journal::new(alloc, 7, 0));
+    let kept = Kept::Gone(Journal::new(alloc, 7, 1, 0));
     Ok(first_bytes(alloc, kept, revision)?)
 }
 
@@ -102,7 +102,7 @@ fn thaw_and_freeze(frozen: Frozen) -> usize {
 
 #[test]
 fn a_node_that_is_not_thawed_comes_back(rt: HostRuntime) -> Result<(), Fail> {
-    let Ok(frozen) = Suspended::fresh(rt.alloc(), 7, 0).freeze() else {
+    let Ok(frozen) = Suspended::fresh(rt.alloc(), 7, 1, 0).freeze() else {
         return Err(Fail::from("no memory"));
     };
     assert_eq!(rt; thaw_and_freeze(frozen), 65);

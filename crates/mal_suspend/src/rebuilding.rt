@@ -22,11 +22,11 @@ pub fn rebuild(alloc: Global, journal: &Journal) -> Result<Suspended, AllocError
     Ok(Suspended::of(node, journal.copy()?))
 }
 
-/// The node of a journal: the node at its first start, and then each entry in turn.
+/// The node of a journal: the node of its profile at its first start, and then each entry in turn.
 pub fn replay(journal: &Journal, scratch: &mut Scratch) -> Result<Solver, AllocError>
     ensures { IfOk result (λ n. n.state ≡ node_of journal.now) }
 {
-    let mut node = Node::fresh(journal.allocator(), journal.index());
+    let mut node = Node::fresh_with(journal.allocator(), journal.index(), journal.profile());
     for entry in journal.entries() {
         do_again(&mut node, entry, scratch)?;
     }

@@ -3,7 +3,7 @@
 ghost use Rattle.std.specs.Prelude.{◌≡◌, ◌<◌, ◌≤◌, IfOk, OnOk, OnErr};
 ghost use Rattle.spec_node.specs.Sound.{IsSound};
 ghost use Rattle.spec_search.specs.Slice.{slice};
-ghost use Rattle.mal_cdcl.specs.Sliced.{HasLowCounts, HasSliceRoom};
+ghost use Rattle.mal_cdcl.specs.Sliced.{HasIdRoom, HasLowCounts, HasSliceRoom};
 ghost use Rattle.spec_job.specs.Journaled.{replayed, and_entries, started};
 ghost use Rattle.spec_job.specs.Leased.{HasBecome};
 ghost use Rattle.mal_suspend.specs.Replaying.{MayAllReplay, after_entries, alone};
@@ -41,7 +41,7 @@ impl Model for Start {
 
     ghost view = { λ s. record { grown = s.grown; adds = start_entries (shared_loads s.loads.items) (shared_tolds s.imports.items) } };
 
-    ghost invariant = { λ s. IsJournal s.grown.index s.grown.entries × (s.values.items ≡ []) × (variables_after 0 s.grown.entries ≤ vec_capacity s.values) };
+    ghost invariant = { λ s. IsJournal s.grown.profile s.grown.index s.grown.entries × (s.values.items ≡ []) × (variables_after 0 s.grown.entries ≤ vec_capacity s.values) };
 }
 
 impl Start {
@@ -90,6 +90,7 @@ impl Start {
         ensures counts { OnOk result (HasLowCounts node.new.state) }
         ensures stocked { OnOk result (HasSliceRoom node.new) }
         ensures fitted { OnOk result (node.new.state.variables < scratch.new.room) }
+        ensures ids { OnOk result (HasIdRoom 1000 node.new.state scratch.new) }
         ensures unchanged { OnErr result (node.new.state ≡ node.old.state) }
     {
         let alloc = self.grown.allocator();

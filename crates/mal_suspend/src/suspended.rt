@@ -35,14 +35,17 @@ impl Model for Suspended {
 }
 
 impl Suspended {
-    /// The node of this index (0 to 63) of a job, before its first start. Takes no memory.
-    pub fn fresh(alloc: Global, job: u64, index: u32) -> Suspended
-        requires { index ≤ 63 }
-        ensures { result ≡ record { job = job; index = index; start = 0; entries = [] } }
+    /// The node of this index (0 to 63) of a job whose solvers have this profile (1 or 2), before its first start. Takes no
+    /// memory.
+    pub fn fresh(alloc: Global, job: u64, profile: u32, index: u32) -> Suspended
+        requires index { index ≤ 63 }
+        requires some { 1 ≤ profile }
+        requires bound { profile ≤ 2 }
+        ensures { result ≡ record { job = job; profile = profile; index = index; start = 0; entries = [] } }
     {
         Suspended {
-            node: Node::fresh(alloc, index),
-            journal: Journal::new(alloc, job, index),
+            node: Node::fresh_with(alloc, index, profile),
+            journal: Journal::new(alloc, job, profile, index),
         }
     }
 

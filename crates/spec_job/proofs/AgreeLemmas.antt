@@ -25,28 +25,28 @@ agree-same c xs ys h k r a b e f = by_given (h.given r a e) (k.given r b f)
     by_given (inr (goal, p, i)) (inr (other, q, j)) = let same : goal ≡ other = cc in i ∙ (ap (λ (g : ℕ). Refuted g) same ∙ sym j)
 
 -- answers of a course and of a longer one agree
-agree-later : (slices : ℕ) (revisions : List Posted) (n k : ℕ) (xs ys : List Answer) → WentOn slices revisions (beyond (suc k) n) → ComeFrom (course slices revisions n) xs → ComeFrom (course slices revisions (beyond (suc k) n)) ys → Agree xs ys
-agree-later slices revisions n k xs ys w h m r a b e f = by_given (h.given r a e)
+agree-later : (profile slices : ℕ) (revisions : List Posted) (n k : ℕ) (xs ys : List Answer) → WentOn profile slices revisions (beyond (suc k) n) → ComeFrom (course profile slices revisions n) xs → ComeFrom (course profile slices revisions (beyond (suc k) n)) ys → Agree xs ys
+agree-later profile slices revisions n k xs ys w h m r a b e f = by_given (h.given r a e)
   where
-    on : GoesOn revisions (course slices revisions n)
-    on = went-before slices revisions n k w
+    on : GoesOn revisions (course profile slices revisions n)
+    on = went-before profile slices revisions n k w
 
-    by_given : (slice_get (course slices revisions n).answers r ≡ Some a) ⊎ ((goal : ℕ) × (first_empty (course slices revisions n).log ≡ Some goal) × (a ≡ Refuted goal)) → a ≡ b
-    by_given (inl p) = let there : slice_get ys r ≡ Some a = m.kept r a (course-answers slices revisions n (suc k) r a p) in cc
+    by_given : (slice_get (course profile slices revisions n).answers r ≡ Some a) ⊎ ((goal : ℕ) × (first_empty (course profile slices revisions n).log ≡ Some goal) × (a ≡ Refuted goal)) → a ≡ b
+    by_given (inl p) = let there : slice_get ys r ≡ Some a = m.kept r a (course-answers profile slices revisions n (suc k) r a p) in cc
     by_given (inr (goal, p, i)) = absurd (let bad : None ≡ Some goal = sym on.open_yet ∙ p in cc)
 
-agree-by : (slices : ℕ) (revisions : List Posted) (n k : ℕ) (xs ys : List Answer) → WentOn slices revisions (beyond k n) → ComeFrom (course slices revisions n) xs → ComeFrom (course slices revisions (beyond k n)) ys → Agree xs ys
-agree-by slices revisions n zero xs ys w h m = agree-same (course slices revisions n) xs ys h m
-agree-by slices revisions n (suc k) xs ys w h m = agree-later slices revisions n k xs ys w h m
+agree-by : (profile slices : ℕ) (revisions : List Posted) (n k : ℕ) (xs ys : List Answer) → WentOn profile slices revisions (beyond k n) → ComeFrom (course profile slices revisions n) xs → ComeFrom (course profile slices revisions (beyond k n)) ys → Agree xs ys
+agree-by profile slices revisions n zero xs ys w h m = agree-same (course profile slices revisions n) xs ys h m
+agree-by profile slices revisions n (suc k) xs ys w h m = agree-later profile slices revisions n k xs ys w h m
 
 -- whichever course is the longer one
-pub courses-agree : (slices : ℕ) (revisions : List Posted) (n m : ℕ) (xs ys : List Answer) → WentOn slices revisions n → WentOn slices revisions m → ComeFrom (course slices revisions n) xs → ComeFrom (course slices revisions m) ys → (n ≤ m) ⊎ (m < n) → Agree xs ys
-courses-agree slices revisions n m xs ys v w h k (inl low) =
+pub courses-agree : (profile slices : ℕ) (revisions : List Posted) (n m : ℕ) (xs ys : List Answer) → WentOn profile slices revisions n → WentOn profile slices revisions m → ComeFrom (course profile slices revisions n) xs → ComeFrom (course profile slices revisions m) ys → (n ≤ m) ⊎ (m < n) → Agree xs ys
+courses-agree profile slices revisions n m xs ys v w h k (inl low) =
     let sum : m ≡ beyond (m - n) n = beyond-gap n m low in
-    agree-by slices revisions n (m - n) xs ys (subst (λ (x : ℕ). WentOn slices revisions x) sum w) h (subst (λ (x : ℕ). ComeFrom (course slices revisions x) ys) sum k)
-courses-agree slices revisions n m xs ys v w h k (inr low) =
+    agree-by profile slices revisions n (m - n) xs ys (subst (λ (x : ℕ). WentOn profile slices revisions x) sum w) h (subst (λ (x : ℕ). ComeFrom (course profile slices revisions x) ys) sum k)
+courses-agree profile slices revisions n m xs ys v w h k (inr low) =
     let sum : n ≡ beyond (n - m) m = beyond-gap m n (omega arith) in
-    λ r a b e f. sym (agree-by slices revisions m (n - m) ys xs (subst (λ (x : ℕ). WentOn slices revisions x) sum v) k (subst (λ (x : ℕ). ComeFrom (course slices revisions x) xs) sum h) r b a f e)
+    λ r a b e f. sym (agree-by profile slices revisions m (n - m) ys xs (subst (λ (x : ℕ). WentOn profile slices revisions x) sum v) k (subst (λ (x : ℕ). ComeFrom (course profile slices revisions x) xs) sum h) r b a f e)
 
 pub le-or_lt : (n m : ℕ) → (n ≤ m) ⊎ (m < n)
 le-or_lt n m = by_order (cases_lt m n)
@@ -59,12 +59,12 @@ le-or_lt n m = by_order (cases_lt m n)
 abbrev pub IsFront : List Line → List Line → Type 0
 IsFront xs ys = (lines : List Line) × (ys ≡ xs ++ lines)
 
-front-by : (slices : ℕ) (revisions : List Posted) (n m : ℕ) (xs ys : List Line) → xs ≡ (course slices revisions n).log → ys ≡ (course slices revisions m).log → n ≤ m → IsFront xs ys
-front-by slices revisions n m xs ys a b low = by_log (course-log slices revisions n (m - n))
+front-by : (profile slices : ℕ) (revisions : List Posted) (n m : ℕ) (xs ys : List Line) → xs ≡ (course profile slices revisions n).log → ys ≡ (course profile slices revisions m).log → n ≤ m → IsFront xs ys
+front-by profile slices revisions n m xs ys a b low = by_log (course-log profile slices revisions n (m - n))
   where
-    by_log : (lines : List Line) × ((course slices revisions (beyond (m - n) n)).log ≡ (course slices revisions n).log ++ lines) → IsFront xs ys
-    by_log (lines, e) = (lines, b ∙ (ap (λ (k : ℕ). (course slices revisions k).log) (beyond-gap n m low) ∙ (e ∙ ap (λ (ls : List Line). ls ++ lines) (sym a))))
+    by_log : (lines : List Line) × ((course profile slices revisions (beyond (m - n) n)).log ≡ (course profile slices revisions n).log ++ lines) → IsFront xs ys
+    by_log (lines, e) = (lines, b ∙ (ap (λ (k : ℕ). (course profile slices revisions k).log) (beyond-gap n m low) ∙ (e ∙ ap (λ (ls : List Line). ls ++ lines) (sym a))))
 
-pub courses-logs : (slices : ℕ) (revisions : List Posted) (n m : ℕ) (xs ys : List Line) → xs ≡ (course slices revisions n).log → ys ≡ (course slices revisions m).log → (n ≤ m) ⊎ (m < n) → IsFront xs ys ⊎ IsFront ys xs
-courses-logs slices revisions n m xs ys a b (inl low) = inl (front-by slices revisions n m xs ys a b low)
-courses-logs slices revisions n m xs ys a b (inr low) = inr (front-by slices revisions m n ys xs b a (omega arith))
+pub courses-logs : (profile slices : ℕ) (revisions : List Posted) (n m : ℕ) (xs ys : List Line) → xs ≡ (course profile slices revisions n).log → ys ≡ (course profile slices revisions m).log → (n ≤ m) ⊎ (m < n) → IsFront xs ys ⊎ IsFront ys xs
+courses-logs profile slices revisions n m xs ys a b (inl low) = inl (front-by profile slices revisions n m xs ys a b low)
+courses-logs profile slices revisions n m xs ys a b (inr low) = inr (front-by profile slices revisions m n ys xs b a (omega arith))

@@ -37,14 +37,15 @@ pub record IsSettled (s : SoloMachine) (c : Course) (goal : ℕ) : Type 0 where
   pub come : ComeFrom c s.answers
 
 -- a machine whose one node has run so many slices of its course
-pub record IsAlong (slices : ℕ) (s : SoloMachine) (n : ℕ) : Type 0 where
+pub record IsAlong (profile slices : ℕ) (s : SoloMachine) (n : ℕ) : Type 0 where
   pub budget : s.ask.slices ≡ slices
+  pub solvers : s.ask.profile ≡ profile
   pub low : s.volume ≤ 1
   pub untold : s.broadcasts ≡ []
   pub some : 1 ≤ length s.places
   pub others : (i : ℕ) → (place_at s (suc i)).out ≡ None
-  pub went : WentOn slices s.revisions n
-  pub stands : IsOpen s (course slices s.revisions n) ⊎ ((goal : ℕ) × IsSettled s (course slices s.revisions n) goal)
+  pub went : WentOn profile slices s.revisions n
+  pub stands : IsOpen s (course profile slices s.revisions n) ⊎ ((goal : ℕ) × IsSettled s (course profile slices s.revisions n) goal)
 
 -- answers of a course, and those of an empty clause behind them
 pub come-itself : (c : Course) → ComeFrom c c.answers
@@ -74,19 +75,21 @@ unfolding lease-with
 start-next s c untold same = ap (lease-with s) (no-imports (imports_in (place_at s 0).entries) s.broadcasts untold) ∙ ap (lease_from s.revisions) same
 
 -- the machine stands at the end of a slice, before what an empty clause answers
-pub record IsThere (slices : ℕ) (t : SoloMachine) (n : ℕ) : Type 0 where
+pub record IsThere (profile slices : ℕ) (t : SoloMachine) (n : ℕ) : Type 0 where
   pub budget : t.ask.slices ≡ slices
+  pub solvers : t.ask.profile ≡ profile
   pub low : t.volume ≤ 1
   pub untold : t.broadcasts ≡ []
   pub some : 1 ≤ length t.places
   pub others : (i : ℕ) → (place_at t (suc i)).out ≡ None
-  pub went : WentOn slices t.revisions n
-  pub same : course_of t ≡ course slices t.revisions n
+  pub went : WentOn profile slices t.revisions n
+  pub same : course_of t ≡ course profile slices t.revisions n
   pub idle : (place_at t 0).out ≡ None
 
-pub there-settled : (slices n : ℕ) (t : SoloMachine) (o : Option ℕ) → first_empty t.log ≡ o → length (settled_by o t).answers ≤ length t.revisions → IsThere slices t n → IsAlong slices (settled_by o t) n
-there-settled slices n t None e order h = record {
+pub there-settled : (profile slices n : ℕ) (t : SoloMachine) (o : Option ℕ) → first_empty t.log ≡ o → length (settled_by o t).answers ≤ length t.revisions → IsThere profile slices t n → IsAlong profile slices (settled_by o t) n
+there-settled profile slices n t None e order h = record {
   budget = h.budget;
+  solvers = h.solvers;
   low = h.low;
   untold = h.untold;
   some = h.some;
@@ -94,20 +97,21 @@ there-settled slices n t None e order h = record {
   went = h.went;
   stands = inl (record { none = subst (λ (c : Course). first_empty c.log ≡ None) h.same e; same = h.same; leased = λ l out. absurd (let bad : None ≡ Some l = sym h.idle ∙ out in cc) });
 }
-there-settled slices n t (Some goal) e order h = record {
+there-settled profile slices n t (Some goal) e order h = record {
   budget = h.budget;
+  solvers = h.solvers;
   low = h.low;
   untold = h.untold;
   some = h.some;
   others = h.others;
   went = h.went;
-  stands = inr (goal, record { found = found; log = ap (λ (c : Course). c.log) h.same; idle = h.idle; all = all; come = come-more (course slices t.revisions n) t.answers more goal found (subst (λ (c : Course). ComeFrom c t.answers) h.same (come-itself (course_of t))) });
+  stands = inr (goal, record { found = found; log = ap (λ (c : Course). c.log) h.same; idle = h.idle; all = all; come = come-more (course profile slices t.revisions n) t.answers more goal found (subst (λ (c : Course). ComeFrom c t.answers) h.same (come-itself (course_of t))) });
 }
   where
     more : ℕ
     more = length t.revisions - length t.answers
 
-    found : first_empty (course slices t.revisions n).log ≡ Some goal
+    found : first_empty (course profile slices t.revisions n).log ≡ Some goal
     found = subst (λ (c : Course). first_empty c.log ≡ Some goal) h.same e
 
     all : length (t.answers ++ replicate more (Refuted goal)) ≡ length t.revisions
@@ -132,9 +136,10 @@ pub set-first : (ps : List NodeSlot) (q : NodeSlot) → 1 ≤ length ps → get_
 set-first ps q h = set-here ps 0 q (omega arith)
 
 -- a start of the one node
-pub started-along : (slices n : ℕ) (s : SoloMachine) → length s.answers < length s.revisions → IsAlong slices s n → IsAlong slices (solo_step s (Started 0)) n
-started-along slices n s live h = record {
+pub started-along : (profile slices n : ℕ) (s : SoloMachine) → length s.answers < length s.revisions → IsAlong profile slices s n → IsAlong profile slices (solo_step s (Started 0)) n
+started-along profile slices n s live h = record {
   budget = h.budget;
+  solvers = h.solvers;
   low = h.low;
   untold = h.untold;
   some = some-stay s.places q h.some;
@@ -144,7 +149,7 @@ started-along slices n s live h = record {
 }
   where
     c : Course
-    c = course slices s.revisions n
+    c = course profile slices s.revisions n
 
     q : NodeSlot
     q = record (place_at s 0) { out = Some (lease_of s 0); starts = (place_at s 0).starts + 1 }

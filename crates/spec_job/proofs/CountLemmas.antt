@@ -5,10 +5,10 @@ use Rattle.std.proofs.lemmas.List.Elements.{All-head, All-tail}
 use Rattle.std.proofs.lemmas.List.Sums.{fold_push, fold-append, sum_by-append, sum_by-cons}
 use Rattle.mal_base.specs.NumberedClause.{NumberedClause}
 use Rattle.mal_revision.specs.Posted.{Posted}
-use Rattle.spec_node.specs.State.{Node, fresh}
+use Rattle.spec_node.specs.State.{Node, fresh_with}
 use Rattle.spec_node.specs.Import.{has_lits, taken, serial_above, imported}
 use Rattle.spec_node.specs.Sound.{serial_of}
-use Rattle.spec_node.proofs.ImportLemmas.{All-passed}
+use Rattle.spec_node.proofs.ImportLemmas.{All-passed, by-taking, import-holds}
 use Rattle.spec_search.specs.Slice.{Sliced, slice}
 use Rattle.spec_search.specs.Laws.{CountsRise}
 use Rattle.spec_search.proofs.CountLemmas.{slice-counts}
@@ -44,12 +44,12 @@ abbrev pub IsLow : ℕ → NumberedClause → Type 0
 IsLow all c = serial_of c < all * 1000
 
 pub counts-more : (all more runs : ℕ) (n : Node) → all ≤ more → HasCounts all runs n → HasCounts more runs n
-counts-more all more runs n low h = record { serial = omega (arith, h.serial); conflicts_since_restart = h.conflicts_since_restart; restart_number = h.restart_number }
+counts-more all more runs n low h = record { serial = omega (arith, h.serial); conflicts_since_restart = h.conflicts_since_restart; restart_number = h.restart_number; conflicts_since_dropping = h.conflicts_since_dropping }
 
 pub slice-counted : (all runs : ℕ) (n : Node) → HasCounts all runs n → HasCounts (suc all) (suc runs) (slice n).node
 slice-counted all runs n h =
     let rise : CountsRise n = slice-counts n in
-    record { serial = omega (arith, rise.serial, h.serial); conflicts_since_restart = omega (arith, rise.conflicts_since_restart, h.conflicts_since_restart); restart_number = omega (arith, rise.restart_number, h.restart_number) }
+    record { serial = omega (arith, rise.serial, h.serial); conflicts_since_restart = omega (arith, rise.conflicts_since_restart, h.conflicts_since_restart); restart_number = omega (arith, rise.restart_number, h.restart_number); conflicts_since_dropping = omega (arith, rise.conflicts_since_dropping, h.conflicts_since_dropping) }
 
 serial-low : (most serial : ℕ) (new : List NumberedClause) → serial ≤ most → All (λ c. serial_of c < most) new → serial_above serial new ≤ most
 serial-low most serial [] low h = low
@@ -58,11 +58,12 @@ serial-low most serial (c ∷ new) low h =
     serial-low most (max serial (serial_of c + 1)) new (omega arith) (All-tail (λ x. serial_of x < most) c new h)
 
 import-counted : (all runs : ℕ) (told : List NumberedClause) (n : Node) → All (IsLow all) told → HasCounts all runs n → HasCounts all runs (imported told n)
-import-counted all runs told n low h = record {
+import-counted all runs told n low h = by-taking (HasCounts all runs) told n h (record {
   serial = serial-low (all * 1000) n.serial (taken told n.clauses) h.serial (All-passed (IsLow all) (λ c. not (has_lits c.lits n.clauses)) told low);
   conflicts_since_restart = h.conflicts_since_restart;
   restart_number = h.restart_number;
-}
+  conflicts_since_dropping = h.conflicts_since_dropping;
+})
 
 imports-counted : (tolds : List (List NumberedClause)) (all runs : ℕ) (s : Sliced) → All (All (IsLow all)) tolds → HasCounts all runs s.node → HasCounts all runs (fold after_entry s (map Import tolds)).node
 imports-counted [] all runs s low h = h
@@ -70,28 +71,28 @@ imports-counted (t ∷ ts) all runs s low h = imports-counted ts all runs (after
 
 loads-counted : (rs : List Posted) (first all runs : ℕ) (s : Sliced) → HasCounts all runs s.node → HasCounts all runs (fold after_entry s (loads_of first rs)).node
 loads-counted [] first all runs s h = h
-loads-counted (r ∷ rs) first all runs s h = loads-counted rs (first + length r.clauses) all runs (after_entry s (Load r first)) (record { serial = h.serial; conflicts_since_restart = h.conflicts_since_restart; restart_number = h.restart_number })
+loads-counted (r ∷ rs) first all runs s h = loads-counted rs (first + length r.clauses) all runs (after_entry s (Load r first)) (record { serial = h.serial; conflicts_since_restart = h.conflicts_since_restart; restart_number = h.restart_number; conflicts_since_dropping = h.conflicts_since_dropping })
 
 -- a node with what it lacks loaded and imported
-pub ready-counted : (entries : List JournalEntry) (i all runs first : ℕ) (rs : List Posted) (tolds : List (List NumberedClause)) → All (All (IsLow all)) tolds → HasCounts all runs (replay i entries).node → HasCounts all runs (replay i (entries ++ (loads_of first rs ++ map Import tolds))).node
-ready-counted entries i all runs first rs tolds low h =
-    let start : Sliced = record { node = fresh i; lines = [] } in
-    let same : replay i (entries ++ (loads_of first rs ++ map Import tolds)) ≡ fold after_entry (fold after_entry (replay i entries) (loads_of first rs)) (map Import tolds) = fold-append after_entry start entries (loads_of first rs ++ map Import tolds) ∙ fold-append after_entry (replay i entries) (loads_of first rs) (map Import tolds) in
-    subst (λ (x : Sliced). HasCounts all runs x.node) (sym same) (imports-counted tolds all runs (fold after_entry (replay i entries) (loads_of first rs)) low (loads-counted rs first all runs (replay i entries) h))
+pub ready-counted : (profile : ℕ) (entries : List JournalEntry) (i all runs first : ℕ) (rs : List Posted) (tolds : List (List NumberedClause)) → All (All (IsLow all)) tolds → HasCounts all runs (replay profile i entries).node → HasCounts all runs (replay profile i (entries ++ (loads_of first rs ++ map Import tolds))).node
+ready-counted profile entries i all runs first rs tolds low h =
+    let start : Sliced = record { node = fresh_with i profile; lines = [] } in
+    let same : replay profile i (entries ++ (loads_of first rs ++ map Import tolds)) ≡ fold after_entry (fold after_entry (replay profile i entries) (loads_of first rs)) (map Import tolds) = fold-append after_entry start entries (loads_of first rs ++ map Import tolds) ∙ fold-append after_entry (replay profile i entries) (loads_of first rs) (map Import tolds) in
+    subst (λ (x : Sliced). HasCounts all runs x.node) (sym same) (imports-counted tolds all runs (fold after_entry (replay profile i entries) (loads_of first rs)) low (loads-counted rs first all runs (replay profile i entries) h))
 
 -- a replay keeps the index
 index-after : (entries : List JournalEntry) (s : Sliced) → (fold after_entry s entries).node.index ≡ s.node.index
 index-after [] s = refl
 index-after (Load r first ∷ es) s = index-after es (after_entry s (Load r first))
-index-after (Import told ∷ es) s = index-after es (after_entry s (Import told))
+index-after (Import told ∷ es) s = index-after es (after_entry s (Import told)) ∙ import-holds.index told s.node
 index-after (Run ∷ es) s = index-after es (after_entry s Run) ∙ (slice-leaves s.node).index
 
-pub replay-index : (i : ℕ) (entries : List JournalEntry) → (replay i entries).node.index ≡ i
-replay-index i entries = index-after entries (record { node = fresh i; lines = [] })
+pub replay-index : (profile i : ℕ) (entries : List JournalEntry) → (replay profile i entries).node.index ≡ i
+replay-index profile i entries = index-after entries (record { node = fresh_with i profile; lines = [] })
 
 -- the last entry of a journal runs its slice
-pub replay-runs : (i : ℕ) (entries before : List JournalEntry) → replay i (entries ++ (before ++ Run ∷ [])) ≡ slice (replay i (entries ++ before)).node
-replay-runs i entries before = ap (replay i) (sym (append_assoc entries before (Run ∷ []))) ∙ fold_push after_entry (record { node = fresh i; lines = [] }) (entries ++ before) Run
+pub replay-runs : (profile i : ℕ) (entries before : List JournalEntry) → replay profile i (entries ++ (before ++ Run ∷ [])) ≡ slice (replay profile i (entries ++ before)).node
+replay-runs profile i entries before = ap (replay profile i) (sym (append_assoc entries before (Run ∷ []))) ∙ fold_push after_entry (record { node = fresh_with i profile; lines = [] }) (entries ++ before) Run
 
 -- the slices of all places, where one place is set
 runs_of-cons : (p : NodeSlot) (ps : List NodeSlot) → runs_of (p ∷ ps) ≡ runs_in p.entries + runs_of ps

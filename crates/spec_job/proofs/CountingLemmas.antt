@@ -26,7 +26,7 @@ use Rattle.spec_job.proofs.ExportLemmas.{All-broadcast, all-exports}
 use Rattle.spec_job.proofs.LowLemmas.{adds-run, IsOutLow, IsPlaceLow, AreLow, IsLowSolo, set-low, numbered-low, start-ready, started-low, idle-low}
 
 -- a slice that was run
-home-low : (s : SoloMachine) (i : ℕ) (l : Lease) → (place_at s i).out ≡ Some l → IsLowSolo s → AreLow (runs_of (slice_set s.places i (record (place_at s i) { entries = (place_at s i).entries ++ l.adds; out = None }))) (slice_set s.places i (record (place_at s i) { entries = (place_at s i).entries ++ l.adds; out = None })) (s.log ++ (replay i ((place_at s i).entries ++ l.adds)).lines) s.broadcasts
+home-low : (s : SoloMachine) (i : ℕ) (l : Lease) → (place_at s i).out ≡ Some l → IsLowSolo s → AreLow (runs_of (slice_set s.places i (record (place_at s i) { entries = (place_at s i).entries ++ l.adds; out = None }))) (slice_set s.places i (record (place_at s i) { entries = (place_at s i).entries ++ l.adds; out = None })) (s.log ++ (replay s.ask.profile i ((place_at s i).entries ++ l.adds)).lines) s.broadcasts
 home-low s i l out h = subst (λ (n : ℕ). AreLow n (slice_set s.places i q) (s.log ++ ran.lines) s.broadcasts) (sym total) (record { count = set.count; places_low = set.places_low; lines = λ line m. by_side line (among-append s.log ran.lines line m); told = set.told })
   where
     p : NodeSlot
@@ -48,13 +48,13 @@ home-low s i l out h = subst (λ (n : ℕ). AreLow n (slice_set s.places i q) (s
     is = (h.places_low i few).out l out
 
     node : Node
-    node = (replay i (p.entries ++ is.before)).node
+    node = (replay s.ask.profile i (p.entries ++ is.before)).node
 
     ran : Sliced
-    ran = replay i (p.entries ++ l.adds)
+    ran = replay s.ask.profile i (p.entries ++ l.adds)
 
     runs : ran ≡ slice node
-    runs = ap (λ (es : List JournalEntry). replay i (p.entries ++ es)) is.adds ∙ replay-runs i p.entries is.before
+    runs = ap (λ (es : List JournalEntry). replay s.ask.profile i (p.entries ++ es)) is.adds ∙ replay-runs s.ask.profile i p.entries is.before
 
     more : runs_in (p.entries ++ l.adds) ≡ runs_in p.entries + 1
     more = adds-run all i p.entries l is
@@ -62,12 +62,14 @@ home-low s i l out h = subst (λ (n : ℕ). AreLow n (slice_set s.places i q) (s
     total : runs_of (slice_set s.places i q) ≡ all + 1
     total = runs-set s.places i 1 q within more
 
-    counts : HasCounts (all + 1) (runs_in (p.entries ++ l.adds)) ran.node
-    counts =
-        let sliced : HasCounts (suc all) (suc (runs_in p.entries)) (slice node).node = slice-counted all (runs_in p.entries) node is.counts in
+    counts : (profile : ℕ) → HasCounts (all + 1) (runs_in (p.entries ++ l.adds)) (replay profile i (p.entries ++ l.adds)).node
+    counts profile =
+        let before : Node = (replay profile i (p.entries ++ is.before)).node in
+        let sliced : HasCounts (suc all) (suc (runs_in p.entries)) (slice before).node = slice-counted all (runs_in p.entries) before (is.counts profile) in
+        let last : replay profile i (p.entries ++ l.adds) ≡ slice before = ap (λ (es : List JournalEntry). replay profile i (p.entries ++ es)) is.adds ∙ replay-runs profile i p.entries is.before in
         let next : suc all ≡ all + 1 = omega arith in
         let same : suc (runs_in p.entries) ≡ runs_in (p.entries ++ l.adds) = omega (arith, more) in
-        subst (λ (x : Sliced). HasCounts (all + 1) (runs_in (p.entries ++ l.adds)) x.node) (sym runs) (subst (λ (n : ℕ). HasCounts (all + 1) n (slice node).node) same (subst (λ (n : ℕ). HasCounts n (suc (runs_in p.entries)) (slice node).node) next sliced))
+        subst (λ (x : Sliced). HasCounts (all + 1) (runs_in (p.entries ++ l.adds)) x.node) (sym last) (subst (λ (n : ℕ). HasCounts (all + 1) n (slice before).node) same (subst (λ (n : ℕ). HasCounts n (suc (runs_in p.entries)) (slice before).node) next sliced))
 
     set : AreLow (all + 1) (slice_set s.places i q) s.log s.broadcasts
     set = set-low all (all + 1) s.places s.log s.broadcasts i q (omega arith) (λ low. record { home = counts; out = λ x e. absurd (cc) }) h
@@ -76,8 +78,8 @@ home-low s i l out h = subst (λ (n : ℕ). AreLow n (slice_set s.places i q) (s
     new =
         let counted : IsCounted node = lines-counted node in
         let serial : (slice node).node.serial ≡ node.serial + length (slice node).lines = counted.serial in
-        let index : node.index ≡ i = replay-index i (p.entries ++ is.before) in
-        let low : (slice node).node.serial ≤ (all + 1) * 1000 = subst (λ (x : Sliced). x.node.serial ≤ (all + 1) * 1000) runs counts.serial in
+        let index : node.index ≡ i = replay-index s.ask.profile i (p.entries ++ is.before) in
+        let low : (slice node).node.serial ≤ (all + 1) * 1000 = subst (λ (x : Sliced). x.node.serial ≤ (all + 1) * 1000) runs (counts s.ask.profile).serial in
         numbered-low node.serial i (all + 1) (slice node).lines few (subst (λ (n : ℕ). n ≤ (all + 1) * 1000) serial low) (subst (λ (n : ℕ). AreNumbered node.serial n (slice node).lines) index counted.numbered)
 
     by_side : (line : Line) → Among line s.log ⊎ Among line ran.lines → IsLow (all + 1) (clause_of line)
@@ -112,7 +114,7 @@ lease-low : (s : SoloMachine) (i : ℕ) (l : Lease) (o : Outcome) → (place_at 
 lease-low s i l Ran e h = by_late (is_late s l)
   where
     ran : Sliced
-    ran = replay i ((place_at s i).entries ++ l.adds)
+    ran = replay s.ask.profile i ((place_at s i).entries ++ l.adds)
 
     home : SoloMachine
     home = record (with_place s i (record (place_at s i) { entries = (place_at s i).entries ++ l.adds; out = None })) { log = s.log ++ ran.lines; ran = s.ran + 1 }
@@ -159,7 +161,7 @@ step-low s Exchanged h = exchanged-low s h
 pub unopened-low : IsLowSolo unopened
 unopened-low = record {
   count = omega arith;
-  places_low = λ i few. subst (λ (p : NodeSlot). IsPlaceLow 0 i p) (sym (get-vacant 64 i)) (record { home = record { serial = omega arith; conflicts_since_restart = omega arith; restart_number = omega arith }; out = λ l e. absurd (cc) });
+  places_low = λ i few. subst (λ (p : NodeSlot). IsPlaceLow 0 i p) (sym (get-vacant 64 i)) (record { home = λ profile. record { serial = omega arith; conflicts_since_restart = omega arith; restart_number = omega arith; conflicts_since_dropping = omega arith }; out = λ l e. absurd (cc) });
   lines = λ line m. absurd m;
   told = All-nil (All (IsLow 0));
 }
@@ -171,7 +173,7 @@ events-low past (o ∷ os) h =
     subst (λ (es : List Own). IsLowSolo (solo es)) (append_assoc past (o ∷ []) os) (events-low (past ++ o ∷ []) os next)
 
 place-counts : (s : SoloMachine) (i : ℕ) → i ≤ 63 → IsLowSolo s → PlaceCounts s i (place_at s i)
-place-counts s i few h = record { home = (h.places_low i few).home; ready = start-ready s i few h }
+place-counts s i few h = record { home = (h.places_low i few).home s.ask.profile; ready = start-ready s i few h s.ask.profile }
 
 pub replays-count : ReplaysCount
 replays-count events i few = place-counts (solo events) i few (events-low [] events unopened-low)

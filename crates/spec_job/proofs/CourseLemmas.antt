@@ -34,17 +34,17 @@ concluded (Some (Unsatisfiable goal)) n slices c = with_answer c (Refuted goal)
 abbrev pub next_adds : List Posted → Course → List JournalEntry
 next_adds revisions c = let n = loads_in c.entries in loads_of (clauses_in (take n revisions) + 1) (take (length c.answers + 1 - n) (drop n revisions)) ++ Run ∷ []
 
-abbrev pub ran_on : ℕ → List JournalEntry → Course → Course
-ran_on slices adds c = let ran = replay 0 (c.entries ++ adds) in concluded ran.node.verdict ran.node slices (record c { entries = c.entries ++ adds; log = c.log ++ ran.lines })
+abbrev pub ran_on : ℕ → ℕ → List JournalEntry → Course → Course
+ran_on profile slices adds c = let ran = replay profile 0 (c.entries ++ adds) in concluded ran.node.verdict ran.node slices (record c { entries = c.entries ++ adds; log = c.log ++ ran.lines })
 
 -- one more slice
-abbrev pub next : ℕ → List Posted → Course → Course
-next slices revisions c = ran_on slices (next_adds revisions c) c
+abbrev pub next : ℕ → ℕ → List Posted → Course → Course
+next profile slices revisions c = ran_on profile slices (next_adds revisions c) c
 
 -- the course after so many slices
-abbrev pub course : ℕ → List Posted → ℕ → Course
-course slices revisions zero = record { entries = []; log = []; answers = []; spent = 0 }
-course slices revisions (suc n) = next slices revisions (course slices revisions n)
+abbrev pub course : ℕ → ℕ → List Posted → ℕ → Course
+course profile slices revisions zero = record { entries = []; log = []; answers = []; spent = 0 }
+course profile slices revisions (suc n) = next profile slices revisions (course profile slices revisions n)
 
 -- a course goes on: a revision is open, the node has loaded no more than were posted, and no empty clause was derived
 pub record GoesOn (revisions : List Posted) (c : Course) : Type 0 where
@@ -53,9 +53,9 @@ pub record GoesOn (revisions : List Posted) (c : Course) : Type 0 where
   pub open_yet : first_empty c.log ≡ None
 
 -- each of so many slices went on
-abbrev pub WentOn : ℕ → List Posted → ℕ → Type 0
-WentOn slices revisions zero = Unit {0}
-WentOn slices revisions (suc n) = WentOn slices revisions n × GoesOn revisions (course slices revisions n)
+abbrev pub WentOn : ℕ → ℕ → List Posted → ℕ → Type 0
+WentOn profile slices revisions zero = Unit {0}
+WentOn profile slices revisions (suc n) = WentOn profile slices revisions n × GoesOn revisions (course profile slices revisions n)
 
 drop-append : (n : ℕ) (xs ys : List Posted) → n ≤ length xs → drop n (xs ++ ys) ≡ drop n xs ++ ys
 drop-append zero xs ys low = refl
@@ -77,21 +77,21 @@ adds-more revisions more c live loaded =
     let back : take m (drop n (revisions ++ more)) ≡ take m (drop n revisions) = ap (λ (ps : List Posted). take m ps) (drop-append n revisions more loaded) ∙ take-append-le m (drop n revisions) more (omega arith) in
     ap (λ (ps : List Posted). loads_of (clauses_in ps + 1) (take m (drop n (revisions ++ more))) ++ Run ∷ []) front ∙ ap (λ (ps : List Posted). loads_of (clauses_in (take n revisions) + 1) ps ++ Run ∷ []) back
 
-pub course-more : (slices : ℕ) (revisions more : List Posted) (n : ℕ) → WentOn slices revisions n → course slices (revisions ++ more) n ≡ course slices revisions n
-course-more slices revisions more zero w = refl
-course-more slices revisions more (suc n) w =
-    let c : Course = course slices revisions n in
+pub course-more : (profile slices : ℕ) (revisions more : List Posted) (n : ℕ) → WentOn profile slices revisions n → course profile slices (revisions ++ more) n ≡ course profile slices revisions n
+course-more profile slices revisions more zero w = refl
+course-more profile slices revisions more (suc n) w =
+    let c : Course = course profile slices revisions n in
     let on : GoesOn revisions c = w.1 in
-    ap (next slices (revisions ++ more)) (course-more slices revisions more n w.0) ∙ ap (λ (adds : List JournalEntry). ran_on slices adds c) (adds-more revisions more c on.live on.loaded)
+    ap (next profile slices (revisions ++ more)) (course-more profile slices revisions more n w.0) ∙ ap (λ (adds : List JournalEntry). ran_on profile slices adds c) (adds-more revisions more c on.live on.loaded)
 
 on-more : (revisions more : List Posted) (c : Course) → GoesOn revisions c → GoesOn (revisions ++ more) c
 on-more revisions more c h =
     let sum : length (revisions ++ more) ≡ length revisions + length more = length-append revisions more in
     record { live = omega (arith, h.live); loaded = omega (arith, h.loaded); open_yet = h.open_yet }
 
-pub went-more : (slices : ℕ) (revisions more : List Posted) (n : ℕ) → WentOn slices revisions n → WentOn slices (revisions ++ more) n
-went-more slices revisions more zero w = tt
-went-more slices revisions more (suc n) w = (went-more slices revisions more n w.0, subst (λ (c : Course). GoesOn (revisions ++ more) c) (sym (course-more slices revisions more n w.0)) (on-more revisions more (course slices revisions n) w.1))
+pub went-more : (profile slices : ℕ) (revisions more : List Posted) (n : ℕ) → WentOn profile slices revisions n → WentOn profile slices (revisions ++ more) n
+went-more profile slices revisions more zero w = tt
+went-more profile slices revisions more (suc n) w = (went-more profile slices revisions more n w.0, subst (λ (c : Course). GoesOn (revisions ++ more) c) (sym (course-more profile slices revisions more n w.0)) (on-more revisions more (course profile slices revisions n) w.1))
 
 -- so many slices later
 abbrev pub beyond : ℕ → ℕ → ℕ
@@ -106,9 +106,9 @@ pub beyond-gap : (n m : ℕ) → n ≤ m → m ≡ beyond (m - n) n
 beyond-gap n m low = let sum : beyond (m - n) n ≡ (m - n) + n = beyond-sum (m - n) n in omega arith
 
 -- a course goes on before each later slice
-pub went-before : (slices : ℕ) (revisions : List Posted) (n k : ℕ) → WentOn slices revisions (beyond (suc k) n) → GoesOn revisions (course slices revisions n)
-went-before slices revisions n zero w = w.1
-went-before slices revisions n (suc k) w = went-before slices revisions n k w.0
+pub went-before : (profile slices : ℕ) (revisions : List Posted) (n k : ℕ) → WentOn profile slices revisions (beyond (suc k) n) → GoesOn revisions (course profile slices revisions n)
+went-before profile slices revisions n zero w = w.1
+went-before profile slices revisions n (suc k) w = went-before profile slices revisions n k w.0
 
 -- answers and lines stay
 concluded-answers : (v : Option Verdict) (n : Node) (slices : ℕ) (c : Course) (r : ℕ) (a : Answer) → slice_get c.answers r ≡ Some a → slice_get (concluded v n slices c).answers r ≡ Some a
@@ -120,12 +120,12 @@ concluded-answers None n slices c r a e = by_test (c.spent + 1 == slices)
 concluded-answers (Some Satisfiable) n slices c r a e = get-front c.answers (Satisfied (model_of n) ∷ []) r a e
 concluded-answers (Some (Unsatisfiable goal)) n slices c r a e = get-front c.answers (Refuted goal ∷ []) r a e
 
-pub course-answers : (slices : ℕ) (revisions : List Posted) (n k r : ℕ) (a : Answer) → slice_get (course slices revisions n).answers r ≡ Some a → slice_get (course slices revisions (beyond k n)).answers r ≡ Some a
-course-answers slices revisions n zero r a e = e
-course-answers slices revisions n (suc k) r a e =
-    let c : Course = course slices revisions (beyond k n) in
-    let ran : Sliced = replay 0 (c.entries ++ next_adds revisions c) in
-    concluded-answers ran.node.verdict ran.node slices (record c { entries = c.entries ++ next_adds revisions c; log = c.log ++ ran.lines }) r a (course-answers slices revisions n k r a e)
+pub course-answers : (profile slices : ℕ) (revisions : List Posted) (n k r : ℕ) (a : Answer) → slice_get (course profile slices revisions n).answers r ≡ Some a → slice_get (course profile slices revisions (beyond k n)).answers r ≡ Some a
+course-answers profile slices revisions n zero r a e = e
+course-answers profile slices revisions n (suc k) r a e =
+    let c : Course = course profile slices revisions (beyond k n) in
+    let ran : Sliced = replay profile 0 (c.entries ++ next_adds revisions c) in
+    concluded-answers ran.node.verdict ran.node slices (record c { entries = c.entries ++ next_adds revisions c; log = c.log ++ ran.lines }) r a (course-answers profile slices revisions n k r a e)
 
 concluded-log : (v : Option Verdict) (n : Node) (slices : ℕ) (c : Course) → (concluded v n slices c).log ≡ c.log
 concluded-log None n slices c = by_test (c.spent + 1 == slices)
@@ -136,15 +136,15 @@ concluded-log None n slices c = by_test (c.spent + 1 == slices)
 concluded-log (Some Satisfiable) n slices c = refl
 concluded-log (Some (Unsatisfiable goal)) n slices c = refl
 
-pub course-log : (slices : ℕ) (revisions : List Posted) (n k : ℕ) → (lines : List Line) × ((course slices revisions (beyond k n)).log ≡ (course slices revisions n).log ++ lines)
-course-log slices revisions n zero = ([], sym (append-nil (course slices revisions n).log))
-course-log slices revisions n (suc k) = by_rest (course-log slices revisions n k)
+pub course-log : (profile slices : ℕ) (revisions : List Posted) (n k : ℕ) → (lines : List Line) × ((course profile slices revisions (beyond k n)).log ≡ (course profile slices revisions n).log ++ lines)
+course-log profile slices revisions n zero = ([], sym (append-nil (course profile slices revisions n).log))
+course-log profile slices revisions n (suc k) = by_rest (course-log profile slices revisions n k)
   where
     c : Course
-    c = course slices revisions (beyond k n)
+    c = course profile slices revisions (beyond k n)
 
     ran : Sliced
-    ran = replay 0 (c.entries ++ next_adds revisions c)
+    ran = replay profile 0 (c.entries ++ next_adds revisions c)
 
-    by_rest : (lines : List Line) × (c.log ≡ (course slices revisions n).log ++ lines) → (lines : List Line) × ((next slices revisions c).log ≡ (course slices revisions n).log ++ lines)
-    by_rest (lines, e) = (lines ++ ran.lines, concluded-log ran.node.verdict ran.node slices (record c { entries = c.entries ++ next_adds revisions c; log = c.log ++ ran.lines }) ∙ (ap (λ (ls : List Line). ls ++ ran.lines) e ∙ append_assoc (course slices revisions n).log lines ran.lines))
+    by_rest : (lines : List Line) × (c.log ≡ (course profile slices revisions n).log ++ lines) → (lines : List Line) × ((next profile slices revisions c).log ≡ (course profile slices revisions n).log ++ lines)
+    by_rest (lines, e) = (lines ++ ran.lines, concluded-log ran.node.verdict ran.node slices (record c { entries = c.entries ++ next_adds revisions c; log = c.log ++ ran.lines }) ∙ (ap (λ (ls : List Line). ls ++ ran.lines) e ∙ append_assoc (course profile slices revisions n).log lines ran.lines))

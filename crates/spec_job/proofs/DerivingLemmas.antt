@@ -41,37 +41,37 @@ pub record IsRefuted (revisions : List Posted) (log : List Line) (goal : ℕ) : 
   pub contradicted : contradicts (last_assumed revisions) (Some line.lits) ≡ true
 
 -- a start that is out runs a slice of a node without a verdict that has loaded its revision
-pub record IsRunning (revisions : List Posted) (log : List Line) (i : ℕ) (entries : List JournalEntry) (l : Lease) : Type 0 where
+pub record IsRunning (profile : ℕ) (revisions : List Posted) (log : List Line) (i : ℕ) (entries : List JournalEntry) (l : Lease) : Type 0 where
   pub node : Node
-  pub runs : replay i (entries ++ l.adds) ≡ slice node
+  pub runs : replay profile i (entries ++ l.adds) ≡ slice node
   pub before : List JournalEntry
   pub adds : l.adds ≡ before ++ Run ∷ []
-  pub is : node ≡ (replay i (entries ++ before)).node
+  pub is : node ≡ (replay profile i (entries ++ before)).node
   pub ready : HasLoaded (take (l.revision + 1) revisions) node
   pub logged : IsLogged log i node
   pub calm : node.verdict ≡ None
 
 -- a place of a job: the log knows its node, and the node of its start
-pub record IsTracked (revisions : List Posted) (log : List Line) (i : ℕ) (p : NodeSlot) : Type 0 where
-  pub logged : IsLogged log i (replay i p.entries).node
-  pub running : (l : Lease) → p.out ≡ Some l → IsRunning revisions log i p.entries l
+pub record IsTracked (profile : ℕ) (revisions : List Posted) (log : List Line) (i : ℕ) (p : NodeSlot) : Type 0 where
+  pub logged : IsLogged log i (replay profile i p.entries).node
+  pub running : (l : Lease) → p.out ≡ Some l → IsRunning profile revisions log i p.entries l
 
 -- a machine whose log is derived from the revisions up to the current one and of their variables, and whose broadcasts have
 -- clauses of its lines
-pub record IsDeriving (revisions : List Posted) (answers : List Answer) (places : List NodeSlot) (log : List Line) (broadcasts : List (List NumberedClause)) : Type 0 where
+pub record IsDeriving (profile : ℕ) (revisions : List Posted) (answers : List Answer) (places : List NodeSlot) (log : List Line) (broadcasts : List (List NumberedClause)) : Type 0 where
   pub derived : IsLog (clauses_of (take (length answers + 1) revisions)) log
   pub closed : IsClosed log
-  pub tracked : (i : ℕ) → i ≤ 63 → IsTracked revisions log i (get_or places i vacant)
+  pub tracked : (i : ℕ) → i ≤ 63 → IsTracked profile revisions log i (get_or places i vacant)
   pub refuted : (r goal : ℕ) → slice_get answers r ≡ Some (Refuted goal) → IsRefuted (take (r + 1) revisions) log goal
   pub within : AreWithin (variables_of (take (length answers + 1) revisions)) log
   pub said : All (IsSaid log) broadcasts
 
 abbrev pub IsDerivingSolo : SoloMachine → Type 0
-IsDerivingSolo s = IsDeriving s.revisions s.answers s.places s.log s.broadcasts
+IsDerivingSolo s = IsDeriving s.ask.profile s.revisions s.answers s.places s.log s.broadcasts
 
 -- the nodes that have loaded the current revision have no verdict
-abbrev pub AreCalm : ℕ → List NodeSlot → Type 0
-AreCalm current places = (i : ℕ) → i ≤ 63 → loads_in (get_or places i vacant).entries ≡ current + 1 → (replay i (get_or places i vacant).entries).node.verdict ≡ None
+abbrev pub AreCalm : ℕ → ℕ → List NodeSlot → Type 0
+AreCalm profile current places = (i : ℕ) → i ≤ 63 → loads_in (get_or places i vacant).entries ≡ current + 1 → (replay profile i (get_or places i vacant).entries).node.verdict ≡ None
 
 -- the nodes have loaded no more than the current revision
 abbrev pub AreEarly : ℕ → List NodeSlot → Type 0
@@ -91,13 +91,13 @@ refuted-later revisions log more goal h = record {
 }
 
 -- further answers, where those that refute have lines
-answers-deriving : (revisions : List Posted) (answers more : List Answer) (places : List NodeSlot) (log : List Line) (told : List (List NumberedClause)) → clauses_in revisions < 2 ^ 32 → ((r goal : ℕ) → slice_get (answers ++ more) r ≡ Some (Refuted goal) → IsRefuted (take (r + 1) revisions) log goal) → IsDeriving revisions answers places log told → IsDeriving revisions (answers ++ more) places log told
-answers-deriving revisions answers more places log told room good h =
+answers-deriving : (profile : ℕ) (revisions : List Posted) (answers more : List Answer) (places : List NodeSlot) (log : List Line) (told : List (List NumberedClause)) → clauses_in revisions < 2 ^ 32 → ((r goal : ℕ) → slice_get (answers ++ more) r ≡ Some (Refuted goal) → IsRefuted (take (r + 1) revisions) log goal) → IsDeriving profile revisions answers places log told → IsDeriving profile revisions (answers ++ more) places log told
+answers-deriving profile revisions answers more places log told room good h =
     let long : length (answers ++ more) ≡ length answers + length more = length-append answers more in
     record { derived = log-later revisions (length answers + 1) (length (answers ++ more) + 1) log (omega arith) room h.derived; closed = h.closed; tracked = h.tracked; refuted = good; within = within-later (length answers + 1) (length (answers ++ more) + 1) revisions log (omega arith) h.within; said = h.said }
 
-answered-deriving : (revisions : List Posted) (answers : List Answer) (places : List NodeSlot) (log : List Line) (told : List (List NumberedClause)) (a : Answer) → clauses_in revisions < 2 ^ 32 → ((goal : ℕ) → a ≡ Refuted goal → IsRefuted (take (length answers + 1) revisions) log goal) → IsDeriving revisions answers places log told → IsDeriving revisions (answers ++ a ∷ []) places log told
-answered-deriving revisions answers places log told a room good h = answers-deriving revisions answers (a ∷ []) places log told room (λ r goal e. by_place r goal (get-push answers a (Refuted goal) r e)) h
+answered-deriving : (profile : ℕ) (revisions : List Posted) (answers : List Answer) (places : List NodeSlot) (log : List Line) (told : List (List NumberedClause)) (a : Answer) → clauses_in revisions < 2 ^ 32 → ((goal : ℕ) → a ≡ Refuted goal → IsRefuted (take (length answers + 1) revisions) log goal) → IsDeriving profile revisions answers places log told → IsDeriving profile revisions (answers ++ a ∷ []) places log told
+answered-deriving profile revisions answers places log told a room good h = answers-deriving profile revisions answers (a ∷ []) places log told room (λ r goal e. by_place r goal (get-push answers a (Refuted goal) r e)) h
   where
     by_place : (r goal : ℕ) → ((r ≡ length answers) × (a ≡ Refuted goal)) ⊎ (slice_get answers r ≡ Some (Refuted goal)) → IsRefuted (take (r + 1) revisions) log goal
     by_place r goal (inl k) = subst (λ (x : ℕ). IsRefuted (take (x + 1) revisions) log goal) (sym k.0) (good goal k.1)
@@ -119,7 +119,7 @@ empty-refutes revisions c r goal log line low room is closed k = record {
 
 pub settled-deriving : (o : Option ℕ) (s : SoloMachine) → first_empty s.log ≡ o → clauses_in s.revisions < 2 ^ 32 → IsDerivingSolo s → IsDerivingSolo (settled_by o s)
 settled-deriving None s e room h = h
-settled-deriving (Some goal) s e room h = answers-deriving s.revisions s.answers (replicate (length s.revisions - length s.answers) (Refuted goal)) s.places s.log s.broadcasts room (λ r other q. by_place r other (get-repeated s.answers (length s.revisions - length s.answers) (Refuted goal) (Refuted other) r q)) h
+settled-deriving (Some goal) s e room h = answers-deriving s.ask.profile s.revisions s.answers (replicate (length s.revisions - length s.answers) (Refuted goal)) s.places s.log s.broadcasts room (λ r other q. by_place r other (get-repeated s.answers (length s.revisions - length s.answers) (Refuted goal) (Refuted other) r q)) h
   where
     by_place : (r other : ℕ) → ((length s.answers ≤ r) × (Refuted goal ≡ Refuted other)) ⊎ (slice_get s.answers r ≡ Some (Refuted other)) → IsRefuted (take (r + 1) s.revisions) s.log other
     by_place r other (inl (low, q)) =
@@ -132,28 +132,28 @@ spend-deriving : (s : SoloMachine) → clauses_in s.revisions < 2 ^ 32 → IsDer
 spend-deriving s room h = by_test (s.spent + 1 == s.ask.slices)
   where
     by_test : (b : Bool) → IsDerivingSolo (cond b (answered s (Spent s.ask.slices)) (record s { spent = s.spent + 1 }))
-    by_test true = answered-deriving s.revisions s.answers s.places s.log s.broadcasts (Spent s.ask.slices) room (λ goal e. absurd (cc)) h
+    by_test true = answered-deriving s.ask.profile s.revisions s.answers s.places s.log s.broadcasts (Spent s.ask.slices) room (λ goal e. absurd (cc)) h
     by_test false = h
 
 pub starve-deriving : (s : SoloMachine) → clauses_in s.revisions < 2 ^ 32 → IsDerivingSolo s → IsDerivingSolo (starve s)
 starve-deriving s room h = by_test (s.starved + 1 == 3)
   where
     by_test : (b : Bool) → IsDerivingSolo (cond b (answered s OutOfStarts) (record s { starved = s.starved + 1 }))
-    by_test true = answered-deriving s.revisions s.answers s.places s.log s.broadcasts OutOfStarts room (λ goal e. absurd (cc)) h
+    by_test true = answered-deriving s.ask.profile s.revisions s.answers s.places s.log s.broadcasts OutOfStarts room (λ goal e. absurd (cc)) h
     by_test false = h
 
 pub conclude-deriving : (v : Option Verdict) (n : Node) (s : SoloMachine) → clauses_in s.revisions < 2 ^ 32 → ((goal : ℕ) → v ≡ Some (Unsatisfiable goal) → IsRefuted (take (length s.answers + 1) s.revisions) s.log goal) → IsDerivingSolo s → IsDerivingSolo (conclude v n s)
 conclude-deriving None n s room good h = spend-deriving s room h
-conclude-deriving (Some Satisfiable) n s room good h = answered-deriving s.revisions s.answers s.places s.log s.broadcasts (Satisfied (model_of n)) room (λ goal e. absurd (cc)) h
-conclude-deriving (Some (Unsatisfiable goal)) n s room good h = answered-deriving s.revisions s.answers s.places s.log s.broadcasts (Refuted goal) room (λ other e. let same : goal ≡ other = cc in good other (ap (λ (g : ℕ). Some (Unsatisfiable g)) same)) h
+conclude-deriving (Some Satisfiable) n s room good h = answered-deriving s.ask.profile s.revisions s.answers s.places s.log s.broadcasts (Satisfied (model_of n)) room (λ goal e. absurd (cc)) h
+conclude-deriving (Some (Unsatisfiable goal)) n s room good h = answered-deriving s.ask.profile s.revisions s.answers s.places s.log s.broadcasts (Refuted goal) room (λ other e. let same : goal ≡ other = cc in good other (ap (λ (g : ℕ). Some (Unsatisfiable g)) same)) h
 
 -- a place that is tracked is put at its index
-pub placed-deriving : (revisions : List Posted) (answers : List Answer) (places : List NodeSlot) (log : List Line) (told : List (List NumberedClause)) (i : ℕ) (p : NodeSlot) → (i ≤ 63 → IsTracked revisions log i p) → IsDeriving revisions answers places log told → IsDeriving revisions answers (slice_set places i p) log told
-placed-deriving revisions answers places log told i p k h = record { derived = h.derived; closed = h.closed; tracked = λ j low. by_place j low (set-place places i j p); refuted = h.refuted; within = h.within; said = h.said }
+pub placed-deriving : (profile : ℕ) (revisions : List Posted) (answers : List Answer) (places : List NodeSlot) (log : List Line) (told : List (List NumberedClause)) (i : ℕ) (p : NodeSlot) → (i ≤ 63 → IsTracked profile revisions log i p) → IsDeriving profile revisions answers places log told → IsDeriving profile revisions answers (slice_set places i p) log told
+placed-deriving profile revisions answers places log told i p k h = record { derived = h.derived; closed = h.closed; tracked = λ j low. by_place j low (set-place places i j p); refuted = h.refuted; within = h.within; said = h.said }
   where
-    by_place : (j : ℕ) → j ≤ 63 → ((j ≡ i) × (get_or (slice_set places i p) j vacant ≡ p)) ⊎ (get_or (slice_set places i p) j vacant ≡ get_or places j vacant) → IsTracked revisions log j (get_or (slice_set places i p) j vacant)
-    by_place j low (inl e) = subst (λ (q : NodeSlot). IsTracked revisions log j q) (sym e.1) (subst (λ (x : ℕ). IsTracked revisions log x p) (sym e.0) (k (subst (λ (x : ℕ). x ≤ 63) e.0 low)))
-    by_place j low (inr e) = subst (λ (q : NodeSlot). IsTracked revisions log j q) (sym e) (h.tracked j low)
+    by_place : (j : ℕ) → j ≤ 63 → ((j ≡ i) × (get_or (slice_set places i p) j vacant ≡ p)) ⊎ (get_or (slice_set places i p) j vacant ≡ get_or places j vacant) → IsTracked profile revisions log j (get_or (slice_set places i p) j vacant)
+    by_place j low (inl e) = subst (λ (q : NodeSlot). IsTracked profile revisions log j q) (sym e.1) (subst (λ (x : ℕ). IsTracked profile revisions log x p) (sym e.0) (k (subst (λ (x : ℕ). x ≤ 63) e.0 low)))
+    by_place j low (inr e) = subst (λ (q : NodeSlot). IsTracked profile revisions log j q) (sym e) (h.tracked j low)
 
 -- a further revision that may come
 pub posted-deriving : (s : SoloMachine) (r : Posted) → MayCome s r → IsSolvingSolo s → IsDerivingSolo s → IsDerivingSolo (record s { revisions = s.revisions ++ r ∷ [] })
@@ -172,8 +172,8 @@ posted-deriving s r may k h =
       said = h.said;
     }
   where
-    running : (i : ℕ) → i ≤ 63 → (l : Lease) → (place_at s i).out ≡ Some l → IsRunning (s.revisions ++ r ∷ []) s.log i (place_at s i).entries l
+    running : (i : ℕ) → i ≤ 63 → (l : Lease) → (place_at s i).out ≡ Some l → IsRunning s.ask.profile (s.revisions ++ r ∷ []) s.log i (place_at s i).entries l
     running i low l e =
-        let run : IsRunning s.revisions s.log i (place_at s i).entries l = (h.tracked i low).running l e in
+        let run : IsRunning s.ask.profile s.revisions s.log i (place_at s i).entries l = (h.tracked i low).running l e in
         let posted : l.revision < length s.revisions = ((k.ready i low).leased l e).posted in
         record { node = run.node; runs = run.runs; before = run.before; adds = run.adds; is = run.is; ready = subst (λ (ps : List Posted). HasLoaded ps run.node) (sym (take-append-le (l.revision + 1) s.revisions (r ∷ []) (omega arith))) run.ready; logged = run.logged; calm = run.calm }

@@ -1,8 +1,9 @@
 use Rattle.std.proofs.Common.{refl}
 use Rattle.spec_seq.specs.Luby.{luby}
+use Rattle.spec_learn.specs.Learning.{analysed_in}
 use Rattle.spec_search.specs.Slice.{slice}
 use Rattle.spec_job.specs.Exported.{HasUntold}
 
 pub untold-known : HasUntold
-unfolding luby slice
+unfolding luby slice analysed_in
 untold-known = record { first = refl; other = refl; behind = refl; while_out = refl }

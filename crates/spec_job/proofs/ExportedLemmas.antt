@@ -2,12 +2,14 @@
 use Rattle.std.proofs.Common.{◌≡◌, ◌≢◌, eqb, ℕ, zero, suc, ◌+◌, ◌*◌, ◌%◌, ◌<◌, ◌≤◌, ◌^◌, Bool, true, false, cond, ◌==◌, ◌&&◌, List, [], ◌∷◌, ◌++◌, length, map, drop, fold, get_or, Option, Some, None, inl, inr, ◌⊎◌, refl, sym, ◌∙◌, ap, subst, arith, append_assoc, append-nil, length-append}
 use Rattle.std.specs.Prelude.{filter, flat_map, slice_set}
 use Rattle.std.proofs.Math.Seq.{drop-append_seam}
-use Rattle.std.proofs.lemmas.Bool.{cases_Bool, eq-eqb, eqb-true, eqb-false, ne_eqb}
+use Rattle.std.specs.List.{list_any}
+use Rattle.std.proofs.lemmas.Bool.{or_parts, true≢false, cases_Bool, eq-eqb, eqb-true, eqb-false, ne_eqb}
 use Rattle.std.proofs.lemmas.List.{drop-append-le}
 use Rattle.std.proofs.lemmas.List.Concat.{flat_map-cons}
 use Rattle.std.proofs.lemmas.List.Elements.{filter-append}
 use Rattle.std.proofs.lemmas.List.Sums.{fold_push, fold-append}
 use Rattle.std.proofs.lemmas.Nat.{mod-mul-add}
+use Rattle.mal_base.specs.Asks.{Terms}
 use Rattle.mal_base.specs.NumberedClause.{NumberedClause, Line}
 use Rattle.mal_base.specs.declared.answer.Answer.TheVariants.{Spent, OutOfStarts}
 use Rattle.mal_base.specs.declared.verdict.Verdict.{Verdict}
@@ -20,8 +22,8 @@ use Rattle.spec_node.specs.State.{Node}
 use Rattle.spec_search.specs.Slice.{Sliced, slice}
 use Rattle.spec_search.specs.Laws.{AreNumbered}
 use Rattle.spec_search.proofs.LineLemmas.{lines-counted}
-use Rattle.spec_job.specs.Counts.{runs_in, runs_of}
-use Rattle.spec_job.specs.Exported.{derived_from, told_step, told_from, journal_told, is_short, exported_by, ExportsAreDerived, ExchangesTellDerived}
+use Rattle.spec_job.specs.Counts.{runs_in, runs_of, is_opening}
+use Rattle.spec_job.specs.Exported.{derived_from, told_step, told_from, journal_told, is_short, exported_by, IsOpenedFirst, ExportsAreDerived, ExchangesTellDerived}
 use Rattle.spec_job.specs.Journal.{JournalEntry, Load, Import, Run, after_entry, replay}
 use Rattle.spec_job.specs.SoloMachine.{Own, Opened, Revised, Closed, Volume, Started, Finished, Exchanged, Lease, NodeSlot, vacant, SoloMachine, unopened, solo, solo_step, place_at, with_place, answered, spend, starve, conclude, first_empty, settled_by, is_late, finished_home, finished_lease, finished, exports_of, takes_part, exports_from, marked_from, exchanged}
 use Rattle.spec_job.proofs.CountLemmas.{runs_in-cons, replay-index, replay-runs}
@@ -74,20 +76,20 @@ idle-derives s (Import told ∷ es) none = let cons : runs_in (Import told ∷ e
 idle-derives s (Run ∷ es) none = let cons : runs_in (Run ∷ es) ≡ 1 + runs_in es = runs_in-cons Run es in absurd (omega (arith, cons, none))
 
 -- a start that is out derives the lines of its slice
-module _ (all i : ℕ) (entries : List JournalEntry) (l : Lease) (is : IsOutLow all i entries l) where
+module _ (profile all i : ℕ) (entries : List JournalEntry) (l : Lease) (is : IsOutLow all i entries l) where
   abbrev node : Node
-  node = (replay i (entries ++ is.before)).node
+  node = (replay profile i (entries ++ is.before)).node
 
-  runs : replay i (entries ++ l.adds) ≡ slice node
-  runs = ap (λ (es : List JournalEntry). replay i (entries ++ es)) is.adds ∙ replay-runs i entries is.before
+  runs : replay profile i (entries ++ l.adds) ≡ slice node
+  runs = ap (λ (es : List JournalEntry). replay profile i (entries ++ es)) is.adds ∙ replay-runs profile i entries is.before
 
   abbrev start : Sliced
-  start = replay i entries
+  start = replay profile i entries
 
   same-node : (fold after_entry start is.before).node ≡ node
-  same-node = ap (λ (s : Sliced). s.node) (sym (fold-append after_entry (replay i []) entries is.before))
+  same-node = ap (λ (s : Sliced). s.node) (sym (fold-append after_entry (replay profile i []) entries is.before))
 
-  pub out-derives : derived_from (replay i entries) l.adds ≡ (replay i (entries ++ l.adds)).lines
+  pub out-derives : derived_from (replay profile i entries) l.adds ≡ (replay profile i (entries ++ l.adds)).lines
   out-derives =
       ap (derived_from start) is.adds
       ∙ (derived-append start is.before (Run ∷ [])
@@ -95,20 +97,20 @@ module _ (all i : ℕ) (entries : List JournalEntry) (l : Lease) (is : IsOutLow 
       ∙ (append-nil (slice (fold after_entry start is.before).node).lines
       ∙ (ap (λ (n : Node). (slice n).lines) same-node ∙ ap (λ (s : Sliced). s.lines) (sym runs)))))
 
-  pub out-numbered : AreNumbered node.serial i (replay i (entries ++ l.adds)).lines
-  out-numbered = subst (λ (s : Sliced). AreNumbered node.serial i s.lines) (sym runs) (subst (λ (n : ℕ). AreNumbered node.serial n (slice node).lines) (replay-index i (entries ++ is.before)) (lines-counted node).numbered)
+  pub out-numbered : AreNumbered node.serial i (replay profile i (entries ++ l.adds)).lines
+  out-numbered = subst (λ (s : Sliced). AreNumbered node.serial i s.lines) (sym runs) (subst (λ (n : ℕ). AreNumbered node.serial n (slice node).lines) (replay-index profile i (entries ++ is.before)) (lines-counted node).numbered)
 
 -- a node's journal has grown from the one with which it last took part in an exchange, and what it derived since then stands in the
 -- log behind its mark
-record IsKnown (i : ℕ) (last : List JournalEntry) (log : List Line) (p : NodeSlot) : Type 0 where
+record IsKnown (profile i : ℕ) (last : List JournalEntry) (log : List Line) (p : NodeSlot) : Type 0 where
   pub more : List JournalEntry
   pub grown : p.entries ≡ last ++ more
   pub mark : p.mark ≤ length log
-  pub own : filter (is_of i) (drop p.mark log) ≡ derived_from (replay i last) more
+  pub own : filter (is_of i) (drop p.mark log) ≡ derived_from (replay profile i last) more
 
 -- the place of a machine
 abbrev IsKnownIn : ℕ → List JournalEntry → SoloMachine → Type 0
-IsKnownIn i last s = IsKnown i last s.log (place_at s i)
+IsKnownIn i last s = IsKnown s.ask.profile i last s.log (place_at s i)
 
 -- answers change none of it
 settled-known : (i : ℕ) (last : List JournalEntry) (o : Option ℕ) (s : SoloMachine) → IsKnownIn i last s → IsKnownIn i last (settled_by o s)
@@ -135,10 +137,10 @@ conclude-known i last (Some Satisfiable) n s h = h
 conclude-known i last (Some (Unsatisfiable goal)) n s h = h
 
 -- a place that is set with the journal and the mark as they were
-same-known : (i j : ℕ) (last : List JournalEntry) (s : SoloMachine) (q : NodeSlot) → q.entries ≡ (place_at s j).entries → q.mark ≡ (place_at s j).mark → IsKnownIn i last s → IsKnown i last s.log (get_or (slice_set s.places j q) i vacant)
+same-known : (i j : ℕ) (last : List JournalEntry) (s : SoloMachine) (q : NodeSlot) → q.entries ≡ (place_at s j).entries → q.mark ≡ (place_at s j).mark → IsKnownIn i last s → IsKnown s.ask.profile i last s.log (get_or (slice_set s.places j q) i vacant)
 same-known i j last s q entries mark h = by_place (set-place s.places j i q)
   where
-    here : i ≡ j → IsKnown i last s.log q
+    here : i ≡ j → IsKnown s.ask.profile i last s.log q
     here e = record {
       more = h.more;
       grown = entries ∙ (ap (λ (n : ℕ). (place_at s n).entries) (sym e) ∙ h.grown);
@@ -146,16 +148,16 @@ same-known i j last s q entries mark h = by_place (set-place s.places j i q)
       own = ap (λ (n : ℕ). filter (is_of i) (drop n s.log)) (mark ∙ ap (λ (n : ℕ). (place_at s n).mark) (sym e)) ∙ h.own;
     }
 
-    by_place : ((i ≡ j) × (get_or (slice_set s.places j q) i vacant ≡ q)) ⊎ (get_or (slice_set s.places j q) i vacant ≡ place_at s i) → IsKnown i last s.log (get_or (slice_set s.places j q) i vacant)
-    by_place (inl k) = subst (IsKnown i last s.log) (sym k.1) (here k.0)
-    by_place (inr k) = subst (IsKnown i last s.log) (sym k) h
+    by_place : ((i ≡ j) × (get_or (slice_set s.places j q) i vacant ≡ q)) ⊎ (get_or (slice_set s.places j q) i vacant ≡ place_at s i) → IsKnown s.ask.profile i last s.log (get_or (slice_set s.places j q) i vacant)
+    by_place (inl k) = subst (IsKnown s.ask.profile i last s.log) (sym k.1) (here k.0)
+    by_place (inr k) = subst (IsKnown s.ask.profile i last s.log) (sym k) h
 
 -- lines behind a log
 behind : (i mark : ℕ) (log lines : List Line) → mark ≤ length log → filter (is_of i) (drop mark (log ++ lines)) ≡ filter (is_of i) (drop mark log) ++ filter (is_of i) lines
 behind i mark log lines low = ap (filter (is_of i)) (drop-append-le mark log lines low) ∙ filter-append (is_of i) (drop mark log) lines
 
 -- a slice that was run
-ran-known : (i j : ℕ) (last : List JournalEntry) (s : SoloMachine) (l : Lease) → i ≤ 63 → (place_at s j).out ≡ Some l → IsLowSolo s → IsKnownIn i last s → IsKnown i last (s.log ++ (replay j ((place_at s j).entries ++ l.adds)).lines) (get_or (slice_set s.places j (record (place_at s j) { entries = (place_at s j).entries ++ l.adds; out = None })) i vacant)
+ran-known : (i j : ℕ) (last : List JournalEntry) (s : SoloMachine) (l : Lease) → i ≤ 63 → (place_at s j).out ≡ Some l → IsLowSolo s → IsKnownIn i last s → IsKnown s.ask.profile i last (s.log ++ (replay s.ask.profile j ((place_at s j).entries ++ l.adds)).lines) (get_or (slice_set s.places j (record (place_at s j) { entries = (place_at s j).entries ++ l.adds; out = None })) i vacant)
 ran-known i j last s l few out low h = by_place (set-place s.places j i q) (cases_Bool (eqb i j))
   where
     p : NodeSlot
@@ -165,7 +167,7 @@ ran-known i j last s l few out low h = by_place (set-place s.places j i q) (case
     q = record p { entries = p.entries ++ l.adds; out = None }
 
     lines : List Line
-    lines = (replay j (p.entries ++ l.adds)).lines
+    lines = (replay s.ask.profile j (p.entries ++ l.adds)).lines
 
     within : j < length s.places
     within = out-within s.places j l out
@@ -180,14 +182,14 @@ ran-known i j last s l few out low h = by_place (set-place s.places j i q) (case
     longer = length-append s.log lines
 
     node_is : Node
-    node_is = (replay j (p.entries ++ is.before)).node
+    node_is = (replay s.ask.profile j (p.entries ++ is.before)).node
 
     numbered : AreNumbered node_is.serial j lines
-    numbered = out-numbered (runs_of s.places) j p.entries l is
+    numbered = out-numbered s.ask.profile (runs_of s.places) j p.entries l is
 
     -- another node's
-    other : i ≢ j → get_or (slice_set s.places j q) i vacant ≡ place_at s i → IsKnown i last (s.log ++ lines) (get_or (slice_set s.places j q) i vacant)
-    other differ same = subst (IsKnown i last (s.log ++ lines)) (sym same) (record {
+    other : i ≢ j → get_or (slice_set s.places j q) i vacant ≡ place_at s i → IsKnown s.ask.profile i last (s.log ++ lines) (get_or (slice_set s.places j q) i vacant)
+    other differ same = subst (IsKnown s.ask.profile i last (s.log ++ lines)) (sym same) (record {
       more = h.more;
       grown = h.grown;
       mark = omega (arith, h.mark, longer);
@@ -195,7 +197,7 @@ ran-known i j last s l few out low h = by_place (set-place s.places j i q) (case
     })
 
     -- its own
-    grown-own : IsKnownIn j last s → IsKnown j last (s.log ++ lines) q
+    grown-own : IsKnownIn j last s → IsKnown s.ask.profile j last (s.log ++ lines) q
     grown-own k = record {
       more = k.more ++ l.adds;
       grown = ap (λ (es : List JournalEntry). es ++ l.adds) k.grown ∙ append_assoc last k.more l.adds;
@@ -204,20 +206,20 @@ ran-known i j last s l few out low h = by_place (set-place s.places j i q) (case
           behind j p.mark s.log lines k.mark
           ∙ (ap (λ (ls : List Line). filter (is_of j) (drop p.mark s.log) ++ ls) (own-kept node_is.serial j lines small numbered)
           ∙ (ap (λ (ls : List Line). ls ++ lines) k.own
-          ∙ sym (derived-append (replay j last) k.more l.adds
-          ∙ ap (λ (ls : List Line). derived_from (replay j last) k.more ++ ls) (ap (λ (x : Sliced). derived_from x l.adds) (sym (fold-append after_entry (replay j []) last k.more)) ∙ (ap (λ (es : List JournalEntry). derived_from (replay j es) l.adds) (sym k.grown) ∙ out-derives (runs_of s.places) j p.entries l is)))));
+          ∙ sym (derived-append (replay s.ask.profile j last) k.more l.adds
+          ∙ ap (λ (ls : List Line). derived_from (replay s.ask.profile j last) k.more ++ ls) (ap (λ (x : Sliced). derived_from x l.adds) (sym (fold-append after_entry (replay s.ask.profile j []) last k.more)) ∙ (ap (λ (es : List JournalEntry). derived_from (replay s.ask.profile j es) l.adds) (sym k.grown) ∙ out-derives s.ask.profile (runs_of s.places) j p.entries l is)))));
     }
 
-    by_place : ((i ≡ j) × (get_or (slice_set s.places j q) i vacant ≡ q)) ⊎ (get_or (slice_set s.places j q) i vacant ≡ place_at s i) → (eqb i j ≡ true) ⊎ (eqb i j ≡ false) → IsKnown i last (s.log ++ lines) (get_or (slice_set s.places j q) i vacant)
-    by_place (inl k) test = subst (λ (n : ℕ). IsKnown n last (s.log ++ lines) (get_or (slice_set s.places j q) n vacant)) (sym k.0) (subst (IsKnown j last (s.log ++ lines)) (sym (set-here s.places j q within)) (grown-own (subst (λ (n : ℕ). IsKnownIn n last s) k.0 h)))
-    by_place (inr k) (inl e) = subst (λ (n : ℕ). IsKnown n last (s.log ++ lines) (get_or (slice_set s.places j q) n vacant)) (sym (eqb-true i j e)) (subst (IsKnown j last (s.log ++ lines)) (sym (set-here s.places j q within)) (grown-own (subst (λ (n : ℕ). IsKnownIn n last s) (eqb-true i j e) h)))
+    by_place : ((i ≡ j) × (get_or (slice_set s.places j q) i vacant ≡ q)) ⊎ (get_or (slice_set s.places j q) i vacant ≡ place_at s i) → (eqb i j ≡ true) ⊎ (eqb i j ≡ false) → IsKnown s.ask.profile i last (s.log ++ lines) (get_or (slice_set s.places j q) i vacant)
+    by_place (inl k) test = subst (λ (n : ℕ). IsKnown s.ask.profile n last (s.log ++ lines) (get_or (slice_set s.places j q) n vacant)) (sym k.0) (subst (IsKnown s.ask.profile j last (s.log ++ lines)) (sym (set-here s.places j q within)) (grown-own (subst (λ (n : ℕ). IsKnownIn n last s) k.0 h)))
+    by_place (inr k) (inl e) = subst (λ (n : ℕ). IsKnown s.ask.profile n last (s.log ++ lines) (get_or (slice_set s.places j q) n vacant)) (sym (eqb-true i j e)) (subst (IsKnown s.ask.profile j last (s.log ++ lines)) (sym (set-here s.places j q within)) (grown-own (subst (λ (n : ℕ). IsKnownIn n last s) (eqb-true i j e) h)))
     by_place (inr k) (inr e) = other (eqb-false i j e) k
 
 lease-known : (i j : ℕ) (last : List JournalEntry) (s : SoloMachine) (l : Lease) (o : Outcome) → i ≤ 63 → (place_at s j).out ≡ Some l → IsLowSolo s → IsKnownIn i last s → IsKnownIn i last (finished_lease s j (place_at s j) l o)
 lease-known i j last s l Ran few out low h = by_late (is_late s l)
   where
     ran : Sliced
-    ran = replay j ((place_at s j).entries ++ l.adds)
+    ran = replay s.ask.profile j ((place_at s j).entries ++ l.adds)
 
     home : SoloMachine
     home = record (with_place s j (record (place_at s j) { entries = (place_at s j).entries ++ l.adds; out = None })) { log = s.log ++ ran.lines; ran = s.ran + 1 }
@@ -253,7 +255,7 @@ drop-all [] = refl
 drop-all (l ∷ ls) = drop-all ls
 
 exchanged-known : (i : ℕ) (last : List JournalEntry) (s : SoloMachine) → i < length s.places → IsKnownIn i last s → IsKnownIn i (told_step i s last Exchanged) (exchanged s)
-exchanged-known i last s within h = subst (IsKnown i (told_step i s last Exchanged) s.log) (sym (marked-at s.volume (length s.log) 0 s.places i within ∙ ap (λ (n : ℕ). cond (takes_part s.volume n p) (record p { mark = length s.log }) p) zero_is)) (by_part (takes_part s.volume i p))
+exchanged-known i last s within h = subst (IsKnown s.ask.profile i (told_step i s last Exchanged) s.log) (sym (marked-at s.volume (length s.log) 0 s.places i within ∙ ap (λ (n : ℕ). cond (takes_part s.volume n p) (record p { mark = length s.log }) p) zero_is)) (by_part (takes_part s.volume i p))
   where
     p : NodeSlot
     p = place_at s i
@@ -261,33 +263,47 @@ exchanged-known i last s within h = subst (IsKnown i (told_step i s last Exchang
     zero_is : 0 + i ≡ i
     zero_is = omega arith
 
-    by_part : (b : Bool) → IsKnown i (cond b p.entries last) s.log (cond b (record p { mark = length s.log }) p)
+    by_part : (b : Bool) → IsKnown s.ask.profile i (cond b p.entries last) s.log (cond b (record p { mark = length s.log }) p)
     by_part true = record { more = []; grown = sym (append-nil p.entries); mark = omega arith; own = ap (filter (is_of i)) (drop-all s.log) }
     by_part false = h
 
-step-known : (i : ℕ) (last : List JournalEntry) (s : SoloMachine) (o : Own) → i ≤ 63 → IsTidy s → IsLowSolo s → IsKnownIn i last s → IsKnownIn i (told_step i s last o) (solo_step s o)
-step-known i last s (Opened ask) few tidy low h = h
-step-known i last s (Revised r) few tidy low h = settled-known i last (first_empty s.log) (record s { revisions = s.revisions ++ r ∷ [] }) h
-step-known i last s Closed few tidy low h = h
-step-known i last s (Volume v) few tidy low h = h
-step-known i last s (Started j) few tidy low h = same-known i j last s (record (place_at s j) { out = Some (lease_of s j); starts = (place_at s j).starts + 1 }) refl refl h
-step-known i last s (Finished j o) few tidy low h = finished-known i j last s (place_at s j).out o few refl low h
-step-known i last s Exchanged few tidy low h = exchanged-known i last s (omega (arith, few, tidy.places.count)) h
+step-known : (i : ℕ) (last : List JournalEntry) (s : SoloMachine) (o : Own) → is_opening o ≡ false → i ≤ 63 → IsTidy s → IsLowSolo s → IsKnownIn i last s → IsKnownIn i (told_step i s last o) (solo_step s o)
+step-known i last s (Opened ask) none few tidy low h = absurd (true≢false none)
+step-known i last s (Revised r) none few tidy low h = settled-known i last (first_empty s.log) (record s { revisions = s.revisions ++ r ∷ [] }) h
+step-known i last s Closed none few tidy low h = h
+step-known i last s (Volume v) none few tidy low h = h
+step-known i last s (Started j) none few tidy low h = same-known i j last s (record (place_at s j) { out = Some (lease_of s j); starts = (place_at s j).starts + 1 }) refl refl h
+step-known i last s (Finished j o) none few tidy low h = finished-known i j last s (place_at s j).out o few refl low h
+step-known i last s Exchanged none few tidy low h = exchanged-known i last s (omega (arith, few, tidy.places.count)) h
 
-events-known : (i : ℕ) (last : List JournalEntry) (s : SoloMachine) (os : List Own) → i ≤ 63 → IsTidy s → IsLowSolo s → IsKnownIn i last s → IsKnownIn i (told_from i s last os) (fold solo_step s os)
-events-known i last s [] few tidy low h = h
-events-known i last s (o ∷ os) few tidy low h = events-known i (told_step i s last o) (solo_step s o) os few (step-tidy s o tidy) (step-low s o low) (step-known i last s o few tidy low h)
+events-known : (i : ℕ) (last : List JournalEntry) (s : SoloMachine) (os : List Own) → list_any is_opening os ≡ false → i ≤ 63 → IsTidy s → IsLowSolo s → IsKnownIn i last s → IsKnownIn i (told_from i s last os) (fold solo_step s os)
+events-known i last s [] none few tidy low h = h
+events-known i last s (o ∷ os) none few tidy low h =
+    let parts = or_parts (is_opening o) (list_any is_opening os) none in
+    events-known i (told_step i s last o) (solo_step s o) os parts.1 few (step-tidy s o tidy) (step-low s o low) (step-known i last s o parts.0 few tidy low h)
 
-unopened-known : (i : ℕ) → IsKnownIn i [] unopened
-unopened-known i = subst (IsKnown i [] []) (sym (get-vacant 64 i)) (record { more = []; grown = refl; mark = omega arith; own = refl })
+-- nothing has run before the first event, nor behind an opening
+opened-known : (i : ℕ) (ask : Terms) → IsKnownIn i [] (record unopened { ask = ask })
+opened-known i ask = subst (IsKnown ask.profile i [] []) (sym (get-vacant 64 i)) (record { more = []; grown = refl; mark = omega arith; own = refl })
+
+run-known : (i : ℕ) (events : List Own) → IsOpenedFirst events → i ≤ 63 → IsKnownIn i (journal_told i events) (solo events)
+run-known i [] none few = opened-known i unopened.ask
+run-known i (Opened ask ∷ os) none few = events-known i [] (solo_step unopened (Opened ask)) os none few (step-tidy unopened (Opened ask) (solo-tidy [])) (step-low unopened (Opened ask) unopened-low) (opened-known i ask)
+run-known i (Revised r ∷ os) none few = events-known i [] unopened (Revised r ∷ os) none few (solo-tidy []) unopened-low (opened-known i unopened.ask)
+run-known i (Closed ∷ os) none few = events-known i [] unopened (Closed ∷ os) none few (solo-tidy []) unopened-low (opened-known i unopened.ask)
+run-known i (Volume v ∷ os) none few = events-known i [] unopened (Volume v ∷ os) none few (solo-tidy []) unopened-low (opened-known i unopened.ask)
+run-known i (Started j ∷ os) none few = events-known i [] unopened (Started j ∷ os) none few (solo-tidy []) unopened-low (opened-known i unopened.ask)
+run-known i (Finished j o ∷ os) none few = events-known i [] unopened (Finished j o ∷ os) none few (solo-tidy []) unopened-low (opened-known i unopened.ask)
+run-known i (Exchanged ∷ os) none few = events-known i [] unopened (Exchanged ∷ os) none few (solo-tidy []) unopened-low (opened-known i unopened.ask)
 
 pub exports-are_derived : ExportsAreDerived
-exports-are_derived events i few =
-    let k : IsKnownIn i (journal_told i events) (solo events) = events-known i [] unopened events few (solo-tidy []) unopened-low (unopened-known i) in
-    let p : NodeSlot = place_at (solo events) i in
+exports-are_derived events i none few =
+    let s : SoloMachine = solo events in
+    let k : IsKnownIn i (journal_told i events) s = run-known i events none few in
+    let p : NodeSlot = place_at s i in
     let last : List JournalEntry = journal_told i events in
     let later : k.more ≡ drop (length last) p.entries = sym (ap (drop (length last)) k.grown ∙ drop-append_seam last k.more) in
-    ap (map (λ (l : Line). held l)) (filter-both (is_of i) is_short (drop p.mark (solo events).log) ∙ ap (filter is_short) (k.own ∙ ap (derived_from (replay i last)) later))
+    ap (map (λ (l : Line). held l)) (filter-both (is_of i) is_short (drop p.mark s.log) ∙ ap (filter is_short) (k.own ∙ ap (derived_from (replay s.ask.profile i last)) later))
   where
     held : Line → NumberedClause
     held l = record { id = l.id; lits = l.lits }
@@ -302,8 +318,8 @@ exports-mapped volume k log (p ∷ ps) f h =
     ap (λ (xs : List NumberedClause). xs ++ exports_from volume log (k + 1) ps) first ∙ (ap (λ (xs : List NumberedClause). f k ++ xs) rest ∙ sym (flat_map-cons f k (counted (k + 1) (length ps))))
 
 pub exchanges-tell_derived : ExchangesTellDerived
-exchanges-tell_derived events =
+exchanges-tell_derived events none =
     let s : SoloMachine = solo events in
     let count : length s.places ≡ 64 = (solo-tidy events).places.count in
-    let all : exports_from s.volume s.log 0 s.places ≡ flat_map (exported_by events) (counted 0 (length s.places)) = exports-mapped s.volume 0 s.log s.places (exported_by events) (λ j low. let same : 0 + j ≡ j = omega arith in ap (λ (n : ℕ). cond (takes_part s.volume n (get_or s.places j vacant)) (exports_of s.log n (get_or s.places j vacant)) []) same ∙ (ap (λ (xs : List NumberedClause). cond (takes_part s.volume j (place_at s j)) xs []) (exports-are_derived events j (omega (arith, low, count))) ∙ ap (exported_by events) (sym same))) in
+    let all : exports_from s.volume s.log 0 s.places ≡ flat_map (exported_by events) (counted 0 (length s.places)) = exports-mapped s.volume 0 s.log s.places (exported_by events) (λ j low. let same : 0 + j ≡ j = omega arith in ap (λ (n : ℕ). cond (takes_part s.volume n (get_or s.places j vacant)) (exports_of s.log n (get_or s.places j vacant)) []) same ∙ (ap (λ (xs : List NumberedClause). cond (takes_part s.volume j (place_at s j)) xs []) (exports-are_derived events j none (omega (arith, low, count))) ∙ ap (exported_by events) (sym same))) in
     ap (λ (x : SoloMachine). x.broadcasts) (fold_push solo_step unopened events Exchanged) ∙ ap (λ (xs : List NumberedClause). s.broadcasts ++ broadcast xs ∷ []) (all ∙ ap (λ (n : ℕ). flat_map (exported_by events) (counted 0 n)) count)

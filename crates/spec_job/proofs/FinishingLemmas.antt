@@ -1,6 +1,8 @@
 -- Finishes of a machine whose log is derived, and each of its events.
 use Rattle.std.proofs.Common.{◌≡◌, ℕ, ◌+◌, ◌<◌, ◌≤◌, Bool, true, false, cond, List, [], ◌∷◌, ◌++◌, length, take, Option, Some, None, inl, refl, sym, ◌∙◌, ap, subst, arith, append-nil}
 use Rattle.std.specs.Prelude.{slice_set}
+use Rattle.std.proofs.lemmas.List.Elements.{All-nil}
+use Rattle.mal_base.specs.Asks.{Terms}
 use Rattle.mal_base.specs.NumberedClause.{Line}
 use Rattle.mal_base.specs.declared.verdict.Verdict.TheVariants.{Unsatisfiable}
 use Rattle.mal_base.specs.declared.verdict.Outcome.{Outcome}
@@ -11,20 +13,23 @@ use Rattle.spec_search.specs.Slice.{Sliced, slice}
 use Rattle.spec_search.specs.Laws.{IsRefutedBy}
 use Rattle.spec_search.proofs.LineLemmas.{slice-refutes}
 use Rattle.spec_proof.proofs.Among.{Among}
+use Rattle.spec_proof.proofs.LogLemmas.{log-empty}
 use Rattle.spec_job.specs.Journal.{replay}
-use Rattle.spec_job.specs.SoloMachine.{Own, Opened, Revised, Closed, Volume, Started, Finished, Exchanged, Lease, NodeSlot, SoloMachine, solo_step, place_at, with_place, starve, conclude, first_empty, is_late, finished_ran, finished_home, finished_lease, finished}
+use Rattle.spec_job.specs.SoloMachine.{Own, Opened, Revised, Closed, Volume, Started, Finished, Exchanged, Lease, NodeSlot, SoloMachine, unopened, solo_step, place_at, with_place, starve, conclude, first_empty, is_late, finished_ran, finished_home, finished_lease, finished}
 use Rattle.spec_job.specs.Runnable.{MayHappen}
 use Rattle.spec_job.proofs.LoadedLemmas.{last_assumed}
-use Rattle.spec_job.proofs.PlacesLemmas.{out-within}
+use Rattle.spec_job.proofs.PlacesLemmas.{get-vacant, out-within}
 use Rattle.spec_job.proofs.SolvingLemmas.{IsSolvingSolo, out-leased}
 use Rattle.spec_job.proofs.PostingLemmas.{posted-solving}
 use Rattle.spec_job.proofs.SolvedLemmas.{in-time, lease-solving}
 use Rattle.spec_job.proofs.ReachedLemmas.{among-right}
-use Rattle.spec_job.proofs.DerivingLemmas.{IsRefuted, IsRunning, IsDeriving, IsDerivingSolo, AreCalm, starve-deriving, conclude-deriving, posted-deriving, settled-deriving}
+use Rattle.spec_job.proofs.TrackedLemmas.{fresh-logged}
+use Rattle.spec_job.proofs.ImportingLemmas.{IsSaid}
+use Rattle.spec_job.proofs.DerivingLemmas.{IsRefuted, IsRunning, IsTracked, IsDeriving, IsDerivingSolo, AreCalm, starve-deriving, conclude-deriving, posted-deriving, settled-deriving}
 use Rattle.spec_job.proofs.RunningLemmas.{started-deriving, exchanged-deriving, idle-deriving, home-deriving}
 
 -- where a slice refutes the clauses, its last line is the goal's
-ran-refuted : (s : SoloMachine) (i : ℕ) (l : Lease) (goal : ℕ) → (out : (place_at s i).out ≡ Some l) → IsSolvingSolo s → IsDerivingSolo s → i ≤ 63 → l.revision ≡ length s.answers → (replay i ((place_at s i).entries ++ l.adds)).node.verdict ≡ Some (Unsatisfiable goal) → IsRefuted (take (length s.answers + 1) s.revisions) (s.log ++ (replay i ((place_at s i).entries ++ l.adds)).lines) goal
+ran-refuted : (s : SoloMachine) (i : ℕ) (l : Lease) (goal : ℕ) → (out : (place_at s i).out ≡ Some l) → IsSolvingSolo s → IsDerivingSolo s → i ≤ 63 → l.revision ≡ length s.answers → (replay s.ask.profile i ((place_at s i).entries ++ l.adds)).node.verdict ≡ Some (Unsatisfiable goal) → IsRefuted (take (length s.answers + 1) s.revisions) (s.log ++ (replay s.ask.profile i ((place_at s i).entries ++ l.adds)).lines) goal
 ran-refuted s i l goal out k h low now v = record {
   front = log;
   more = [];
@@ -38,15 +43,15 @@ ran-refuted s i l goal out k h low now v = record {
 }
   where
     ran : Sliced
-    ran = replay i ((place_at s i).entries ++ l.adds)
+    ran = replay s.ask.profile i ((place_at s i).entries ++ l.adds)
 
     log : List Line
     log = s.log ++ ran.lines
 
-    run : IsRunning s.revisions s.log i (place_at s i).entries l
+    run : IsRunning s.ask.profile s.revisions s.log i (place_at s i).entries l
     run = (h.tracked i low).running l out
 
-    home : IsDeriving s.revisions s.answers (slice_set s.places i (record (place_at s i) { entries = (place_at s i).entries ++ l.adds; out = None })) log s.broadcasts
+    home : IsDeriving s.ask.profile s.revisions s.answers (slice_set s.places i (record (place_at s i) { entries = (place_at s i).entries ++ l.adds; out = None })) log s.broadcasts
     home = home-deriving s i l out k h
 
     by : IsRefutedBy run.node.assumptions goal (slice run.node).lines
@@ -66,10 +71,10 @@ ran-deriving s i l out k h = by_late (is_late s l) refl
     p = place_at s i
 
     node : Node
-    node = (replay i (p.entries ++ l.adds)).node
+    node = (replay s.ask.profile i (p.entries ++ l.adds)).node
 
     home : SoloMachine
-    home = record (with_place s i (record p { entries = p.entries ++ l.adds; out = None })) { log = s.log ++ (replay i (p.entries ++ l.adds)).lines; ran = s.ran + 1 }
+    home = record (with_place s i (record p { entries = p.entries ++ l.adds; out = None })) { log = s.log ++ (replay s.ask.profile i (p.entries ++ l.adds)).lines; ran = s.ran + 1 }
 
     at_home : IsDerivingSolo home
     at_home = home-deriving s i l out k h
@@ -96,9 +101,20 @@ finished-deriving s i (Some l) o e k h =
     let ended : SoloMachine = finished_lease s i (place_at s i) l o in
     settled-deriving (first_empty ended.log) ended refl (lease-solving s i l o e k).room (lease-deriving s i l o e k h)
 
+-- the machine that is opened
+pub opened-deriving : (ask : Terms) → IsDerivingSolo (record unopened { ask = ask })
+opened-deriving ask = record {
+  derived = log-empty [] (omega arith);
+  closed = λ line hint m k. absurd m;
+  tracked = λ i low. subst (λ (p : NodeSlot). IsTracked ask.profile [] [] i p) (sym (get-vacant 64 i)) (record { logged = fresh-logged ask.profile i; running = λ l e. absurd (cc) });
+  refuted = λ r goal e. absurd (cc);
+  within = λ line m. absurd m;
+  said = All-nil (IsSaid []);
+}
+
 -- each event that may happen
-pub step-deriving : (s : SoloMachine) (o : Own) → MayHappen s o → IsSolvingSolo s → AreCalm (length s.answers) s.places → IsDerivingSolo s → IsDerivingSolo (solo_step s o)
-step-deriving s (Opened ask) may k calm h = h
+pub step-deriving : (s : SoloMachine) (o : Own) → MayHappen s o → IsSolvingSolo s → AreCalm s.ask.profile (length s.answers) s.places → IsDerivingSolo s → IsDerivingSolo (solo_step s o)
+step-deriving s (Opened ask) may k calm h = subst (λ (x : SoloMachine). IsDerivingSolo (record x { ask = ask })) (sym may) (opened-deriving ask)
 step-deriving s (Revised r) may k calm h = settled-deriving (first_empty s.log) (record s { revisions = s.revisions ++ r ∷ [] }) refl (posted-solving s r may k).room (posted-deriving s r may k h)
 step-deriving s Closed may k calm h = h
 step-deriving s (Volume v) may k calm h = h

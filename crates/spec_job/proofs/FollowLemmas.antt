@@ -49,8 +49,8 @@ imports-follow (t ∷ ts) revisions log i s may said h =
     (may-import log i t s.node (subst (λ (v : ℕ). IsTellable v log) (sym h.loaded.variables) may) h.logged here, imports-follow ts revisions log i (after_entry s (Import t)) may (All-tail (IsSaid log) t ts said) (import-prepared revisions log i t s.node may here h))
 
 -- the loads that a journal lacks
-missing-follow : (revisions : List Posted) (c i : ℕ) (entries : List JournalEntry) → All IsLoadable revisions → clauses_in revisions < 2 ^ 32 → loads_in entries ≤ c + 1 → HasLoaded (take (loads_in entries) revisions) (replay i entries).node → MayAllFollow (replay i entries) (loads_of (clauses_in (take (loads_in entries) revisions) + 1) (take (c + 1 - loads_in entries) (drop (loads_in entries) revisions)))
-missing-follow revisions c i entries may room early h =
+missing-follow : (profile : ℕ) (revisions : List Posted) (c i : ℕ) (entries : List JournalEntry) → All IsLoadable revisions → clauses_in revisions < 2 ^ 32 → loads_in entries ≤ c + 1 → HasLoaded (take (loads_in entries) revisions) (replay profile i entries).node → MayAllFollow (replay profile i entries) (loads_of (clauses_in (take (loads_in entries) revisions) + 1) (take (c + 1 - loads_in entries) (drop (loads_in entries) revisions)))
+missing-follow profile revisions c i entries may room early h =
     let n : ℕ = loads_in entries in
     let m : ℕ = c + 1 - n in
     let more : List Posted = take m (drop n revisions) in
@@ -58,11 +58,11 @@ missing-follow revisions c i entries may room early h =
     let joined : take (c + 1) revisions ≡ take n revisions ++ more = ap (λ (k : ℕ). take k revisions) (sym sum) ∙ take-add n m revisions in
     let count : clauses_in (take (c + 1) revisions) ≤ clauses_in revisions = sum_by-take-le (λ (r : Posted). length r.clauses) revisions (c + 1) in
     let parts : clauses_in (take (c + 1) revisions) ≡ clauses_in (take n revisions) + clauses_in more = ap clauses_in joined ∙ clauses_in-append (take n revisions) more in
-    loads-follow more (take n revisions) (clauses_in (take n revisions) + 1) (replay i entries) (All-take IsLoadable m (drop n revisions) (All-drop IsLoadable n revisions may)) (omega arith) (omega arith) h
+    loads-follow more (take n revisions) (clauses_in (take n revisions) + 1) (replay profile i entries) (All-take IsLoadable m (drop n revisions) (All-drop IsLoadable n revisions may)) (omega arith) (omega arith) h
 
 -- all that a start adds
-pub start-follows : (s : SoloMachine) (i : ℕ) → i ≤ 63 → length s.answers < length s.revisions → IsSolvingSolo s → AreCalm (length s.answers) s.places → IsDerivingSolo s → MayAllFollow (replay i (place_at s i).entries) (start_entries s (place_at s i))
-start-follows s i low live k calm h = follow-append loads (map Import tolds ++ Run ∷ []) (replay i entries) (missing-follow s.revisions (length s.answers) i entries k.loadable k.room (k.ready i low).early (k.ready i low).node) (follow-append (map Import tolds) (Run ∷ []) with-loads (imports-follow tolds revisions s.log i with-loads (tellable s h) said prepared) ((ready.loaded.sound, ready.calm), tt))
+pub start-follows : (s : SoloMachine) (i : ℕ) → i ≤ 63 → length s.answers < length s.revisions → IsSolvingSolo s → AreCalm s.ask.profile (length s.answers) s.places → IsDerivingSolo s → MayAllFollow (replay s.ask.profile i (place_at s i).entries) (start_entries s (place_at s i))
+start-follows s i low live k calm h = follow-append loads (map Import tolds ++ Run ∷ []) (replay s.ask.profile i entries) (missing-follow s.ask.profile s.revisions (length s.answers) i entries k.loadable k.room (k.ready i low).early (k.ready i low).node) (follow-append (map Import tolds) (Run ∷ []) with-loads (imports-follow tolds revisions s.log i with-loads (tellable s h) said prepared) ((ready.loaded.sound, ready.calm), tt))
   where
     entries : List JournalEntry
     entries = (place_at s i).entries
@@ -77,13 +77,13 @@ start-follows s i low live k calm h = follow-append loads (map Import tolds ++ R
     revisions = take (length s.answers + 1) s.revisions
 
     with-loads : Sliced
-    with-loads = fold after_entry (replay i entries) loads
+    with-loads = fold after_entry (replay s.ask.profile i entries) loads
 
     said : All (IsSaid s.log) tolds
     said = All-drop (IsSaid s.log) (imports_in entries) s.broadcasts h.said
 
     prepared : IsPrepared revisions s.log i with-loads.node
-    prepared = loads-prepared s.revisions s.log (length s.answers) i (place_at s i) k.loadable k.room (k.ready i low) (h.tracked i low).logged (calm i low) live
+    prepared = loads-prepared s.ask.profile s.revisions s.log (length s.answers) i (place_at s i) k.loadable k.room (k.ready i low) (h.tracked i low).logged (calm i low) live
 
     ready : IsPrepared revisions s.log i (fold after_entry with-loads (map Import tolds)).node
     ready = imports-prepared tolds revisions s.log i with-loads (tellable s h) said prepared

@@ -2,9 +2,13 @@
 use Rattle.std.proofs.Common.{◌≡◌, ℕ, ◌+◌, ◌≤◌, Bool, true, false, cond, ◌==◌, List, [], ◌∷◌, ◌++◌, length, get_or, Option, Some, None, inl, inr, ◌⊎◌, refl, sym, subst, append_assoc, append-nil}
 use Rattle.std.specs.Prelude.{slice_set}
 use Rattle.std.proofs.lemmas.List.Sums.{fold_push}
-use Rattle.mal_base.specs.declared.answer.Answer.TheVariants.{OutOfStarts}
+use Rattle.mal_base.specs.Asks.{Terms}
+use Rattle.mal_base.specs.declared.answer.Answer.TheVariants.{Spent, OutOfStarts}
+use Rattle.mal_base.specs.declared.verdict.Verdict.{Verdict}
+use Rattle.mal_base.specs.declared.verdict.Verdict.TheVariants.{Satisfiable, Unsatisfiable}
 use Rattle.mal_base.specs.declared.verdict.Outcome.{Outcome}
 use Rattle.mal_base.specs.declared.verdict.Outcome.TheVariants.{Ran, Starved, Lost}
+use Rattle.spec_node.specs.State.{Node}
 use Rattle.spec_search.specs.Slice.{Sliced}
 use Rattle.spec_job.specs.Journal.{replay}
 use Rattle.spec_job.specs.SoloMachine.{Own, Opened, Revised, Closed, Volume, Started, Finished, Exchanged, Lease, NodeSlot, vacant, SoloMachine, unopened, solo, solo_step, place_at, with_place, startable, answered, starve, conclude, first_empty, settled_by, is_late, finished_home, finished_lease, finished}
@@ -14,81 +18,97 @@ use Rattle.spec_job.proofs.PlacesLemmas.{get-vacant, set-place, all-marked}
 use Rattle.spec_job.proofs.SolvingLemmas.{lease_of, live-parts}
 use Rattle.spec_job.proofs.KeptLemmas.{MachineInvariant, step-kept, unopened-kept}
 use Rattle.spec_job.proofs.FollowLemmas.{follow-append, start-follows}
-use Rattle.spec_job.proofs.SliceLemmas.{conclude-rest}
 
 -- the journal of a place, and what its start adds
-record IsFollowed (i : ℕ) (p : NodeSlot) : Type 0 where
-  pub home : MayAllFollow (replay i []) p.entries
-  pub out : (l : Lease) → p.out ≡ Some l → MayAllFollow (replay i p.entries) l.adds
+record IsFollowed (profile : ℕ) (i : ℕ) (p : NodeSlot) : Type 0 where
+  pub home : MayAllFollow (replay profile i []) p.entries
+  pub out : (l : Lease) → p.out ≡ Some l → MayAllFollow (replay profile i p.entries) l.adds
 
-abbrev AreFollowed : List NodeSlot → Type 0
-AreFollowed places = (i : ℕ) → i ≤ 63 → IsFollowed i (get_or places i vacant)
+abbrev AreFollowed : ℕ → List NodeSlot → Type 0
+AreFollowed profile places = (i : ℕ) → i ≤ 63 → IsFollowed profile i (get_or places i vacant)
 
-set-followed : (places : List NodeSlot) (i : ℕ) (q : NodeSlot) → (i ≤ 63 → IsFollowed i q) → AreFollowed places → AreFollowed (slice_set places i q)
-set-followed places i q k h j low = by_place (set-place places i j q)
+set-followed : (profile : ℕ) (places : List NodeSlot) (i : ℕ) (q : NodeSlot) → (i ≤ 63 → IsFollowed profile i q) → AreFollowed profile places → AreFollowed profile (slice_set places i q)
+set-followed profile places i q k h j low = by_place (set-place places i j q)
   where
-    by_place : ((j ≡ i) × (get_or (slice_set places i q) j vacant ≡ q)) ⊎ (get_or (slice_set places i q) j vacant ≡ get_or places j vacant) → IsFollowed j (get_or (slice_set places i q) j vacant)
-    by_place (inl e) = subst (λ (x : NodeSlot). IsFollowed j x) (sym e.1) (subst (λ (x : ℕ). IsFollowed x q) (sym e.0) (k (subst (λ (x : ℕ). x ≤ 63) e.0 low)))
-    by_place (inr e) = subst (λ (x : NodeSlot). IsFollowed j x) (sym e) (h j low)
+    by_place : ((j ≡ i) × (get_or (slice_set places i q) j vacant ≡ q)) ⊎ (get_or (slice_set places i q) j vacant ≡ get_or places j vacant) → IsFollowed profile j (get_or (slice_set places i q) j vacant)
+    by_place (inl e) = subst (λ (x : NodeSlot). IsFollowed profile j x) (sym e.1) (subst (λ (x : ℕ). IsFollowed profile x q) (sym e.0) (k (subst (λ (x : ℕ). x ≤ 63) e.0 low)))
+    by_place (inr e) = subst (λ (x : NodeSlot). IsFollowed profile j x) (sym e) (h j low)
 
-settled-followed : (o : Option ℕ) (s : SoloMachine) → AreFollowed s.places → AreFollowed (settled_by o s).places
+-- those of a machine
+abbrev AreFollowedIn : SoloMachine → Type 0
+AreFollowedIn s = AreFollowed s.ask.profile s.places
+
+settled-followed : (o : Option ℕ) (s : SoloMachine) → AreFollowedIn s → AreFollowedIn (settled_by o s)
 settled-followed None s h = h
 settled-followed (Some goal) s h = h
 
-started-followed : (s : SoloMachine) (i : ℕ) → startable s i ≡ true → MachineInvariant s → AreFollowed s.places → AreFollowed (solo_step s (Started i)).places
-started-followed s i may k h = set-followed s.places i (record (place_at s i) { out = Some (lease_of s i); starts = (place_at s i).starts + 1 }) (λ low. record {
+started-followed : (s : SoloMachine) (i : ℕ) → startable s i ≡ true → MachineInvariant s → AreFollowedIn s → AreFollowedIn (solo_step s (Started i))
+started-followed s i may k h = set-followed s.ask.profile s.places i (record (place_at s i) { out = Some (lease_of s i); starts = (place_at s i).starts + 1 }) (λ low. record {
   home = (h i low).home;
-  out = λ l e. let same : lease_of s i ≡ l = cc in subst (λ (x : Lease). MayAllFollow (replay i (place_at s i).entries) x.adds) same (start-follows s i low (live-parts s i may) k.solving k.calm k.derives);
+  out = λ l e. let same : lease_of s i ≡ l = cc in subst (λ (x : Lease). MayAllFollow (replay s.ask.profile i (place_at s i).entries) x.adds) same (start-follows s i low (live-parts s i may) k.solving k.calm k.derives);
 }) h
 
-home-followed : (s : SoloMachine) (i : ℕ) → AreFollowed s.places → AreFollowed (finished_home s i (place_at s i)).places
-home-followed s i h = set-followed s.places i (record (place_at s i) { out = None }) (λ low. record { home = (h i low).home; out = λ l e. absurd (cc) }) h
+home-followed : (s : SoloMachine) (i : ℕ) → AreFollowedIn s → AreFollowedIn (finished_home s i (place_at s i))
+home-followed s i h = set-followed s.ask.profile s.places i (record (place_at s i) { out = None }) (λ low. record { home = (h i low).home; out = λ l e. absurd (cc) }) h
 
-ran-followed : (s : SoloMachine) (i : ℕ) (l : Lease) → (place_at s i).out ≡ Some l → AreFollowed s.places → AreFollowed (slice_set s.places i (record (place_at s i) { entries = (place_at s i).entries ++ l.adds; out = None }))
-ran-followed s i l e h = set-followed s.places i (record (place_at s i) { entries = (place_at s i).entries ++ l.adds; out = None }) (λ low. record { home = follow-append (place_at s i).entries l.adds (replay i []) (h i low).home ((h i low).out l e); out = λ x q. absurd (cc) }) h
+ran-followed : (s : SoloMachine) (i : ℕ) (l : Lease) → (place_at s i).out ≡ Some l → AreFollowedIn s → AreFollowed s.ask.profile (slice_set s.places i (record (place_at s i) { entries = (place_at s i).entries ++ l.adds; out = None }))
+ran-followed s i l e h = set-followed s.ask.profile s.places i (record (place_at s i) { entries = (place_at s i).entries ++ l.adds; out = None }) (λ low. record { home = follow-append (place_at s i).entries l.adds (replay s.ask.profile i []) (h i low).home ((h i low).out l e); out = λ x q. absurd (cc) }) h
 
-lease-followed : (s : SoloMachine) (i : ℕ) (l : Lease) (o : Outcome) → (place_at s i).out ≡ Some l → AreFollowed s.places → AreFollowed (finished_lease s i (place_at s i) l o).places
+conclude-followed : (v : Option Verdict) (n : Node) (s : SoloMachine) → AreFollowedIn s → AreFollowedIn (conclude v n s)
+conclude-followed None n s h = by_test (s.spent + 1 == s.ask.slices)
+  where
+    by_test : (b : Bool) → AreFollowedIn (cond b (answered s (Spent s.ask.slices)) (record s { spent = s.spent + 1 }))
+    by_test true = h
+    by_test false = h
+conclude-followed (Some Satisfiable) n s h = h
+conclude-followed (Some (Unsatisfiable goal)) n s h = h
+
+lease-followed : (s : SoloMachine) (i : ℕ) (l : Lease) (o : Outcome) → (place_at s i).out ≡ Some l → AreFollowedIn s → AreFollowedIn (finished_lease s i (place_at s i) l o)
 lease-followed s i l Ran e h = by_late (is_late s l)
   where
     ran : Sliced
-    ran = replay i ((place_at s i).entries ++ l.adds)
+    ran = replay s.ask.profile i ((place_at s i).entries ++ l.adds)
 
     home : SoloMachine
     home = record (with_place s i (record (place_at s i) { entries = (place_at s i).entries ++ l.adds; out = None })) { log = s.log ++ ran.lines; ran = s.ran + 1 }
 
-    by_late : (b : Bool) → AreFollowed (cond b home (conclude ran.node.verdict ran.node home)).places
+    by_late : (b : Bool) → AreFollowedIn (cond b home (conclude ran.node.verdict ran.node home))
     by_late true = ran-followed s i l e h
-    by_late false = subst (λ (ps : List NodeSlot). AreFollowed ps) (sym (conclude-rest ran.node.verdict ran.node home).places) (ran-followed s i l e h)
+    by_late false = conclude-followed ran.node.verdict ran.node home (ran-followed s i l e h)
 lease-followed s i l Starved e h = by_late (is_late s l)
   where
     home : SoloMachine
     home = finished_home s i (place_at s i)
 
-    by_test : (b : Bool) → AreFollowed (cond b (answered home OutOfStarts) (record home { starved = home.starved + 1 })).places
+    by_test : (b : Bool) → AreFollowedIn (cond b (answered home OutOfStarts) (record home { starved = home.starved + 1 }))
     by_test true = home-followed s i h
     by_test false = home-followed s i h
 
-    by_late : (b : Bool) → AreFollowed (cond b home (starve home)).places
+    by_late : (b : Bool) → AreFollowedIn (cond b home (starve home))
     by_late true = home-followed s i h
     by_late false = by_test (home.starved + 1 == 3)
 lease-followed s i l Lost e h = home-followed s i h
 
-finished-followed : (s : SoloMachine) (i : ℕ) (out : Option Lease) (o : Outcome) → (place_at s i).out ≡ out → AreFollowed s.places → AreFollowed (finished s i (place_at s i) out o).places
+finished-followed : (s : SoloMachine) (i : ℕ) (out : Option Lease) (o : Outcome) → (place_at s i).out ≡ out → AreFollowedIn s → AreFollowedIn (finished s i (place_at s i) out o)
 finished-followed s i None o e h = h
 finished-followed s i (Some l) o e h = let ended : SoloMachine = finished_lease s i (place_at s i) l o in settled-followed (first_empty ended.log) ended (lease-followed s i l o e h)
 
-step-followed : (s : SoloMachine) (o : Own) → MayHappen s o → MachineInvariant s → AreFollowed s.places → AreFollowed (solo_step s o).places
-step-followed s (Opened ask) may k h = h
+-- the machine that is opened
+opened-followed : (ask : Terms) → AreFollowedIn (record unopened { ask = ask })
+opened-followed ask i low = subst (λ (p : NodeSlot). IsFollowed ask.profile i p) (sym (get-vacant 64 i)) (record { home = tt; out = λ l e. absurd (cc) })
+
+step-followed : (s : SoloMachine) (o : Own) → MayHappen s o → MachineInvariant s → AreFollowedIn s → AreFollowedIn (solo_step s o)
+step-followed s (Opened ask) may k h = subst (λ (x : SoloMachine). AreFollowedIn (record x { ask = ask })) (sym may) (opened-followed ask)
 step-followed s (Revised r) may k h = settled-followed (first_empty s.log) (record s { revisions = s.revisions ++ r ∷ [] }) h
 step-followed s Closed may k h = h
 step-followed s (Volume v) may k h = h
 step-followed s (Started i) may k h = started-followed s i may k h
 step-followed s (Finished i o) may k h = finished-followed s i (place_at s i).out o refl h
-step-followed s Exchanged may k h = all-marked (λ (i : ℕ) (p : NodeSlot). IsFollowed i p) (λ i m p q. record { home = q.home; out = q.out }) s.volume (length s.log) s.places h
+step-followed s Exchanged may k h = all-marked (λ (i : ℕ) (p : NodeSlot). IsFollowed s.ask.profile i p) (λ i m p q. record { home = q.home; out = q.out }) s.volume (length s.log) s.places h
 
 record IsPlayed (s : SoloMachine) : Type 0 where
   pub kept : MachineInvariant s
-  pub followed : AreFollowed s.places
+  pub followed : AreFollowedIn s
 
 events-played : (past events : List Own) → IsRunnable past events → IsPlayed (solo past) → IsPlayed (solo (past ++ events))
 events-played past [] may h = subst (λ (es : List Own). IsPlayed (solo es)) (sym (append-nil past)) h
@@ -98,7 +118,7 @@ events-played past (o ∷ os) may h =
     subst (λ (es : List Own). IsPlayed (solo es)) (append_assoc past (o ∷ []) os) (events-played (past ++ o ∷ []) os may.1 next)
 
 unopened-played : IsPlayed unopened
-unopened-played = record { kept = unopened-kept; followed = λ i low. subst (λ (p : NodeSlot). IsFollowed i p) (sym (get-vacant 64 i)) (record { home = tt; out = λ l e. absurd (cc) }) }
+unopened-played = record { kept = unopened-kept; followed = opened-followed unopened.ask }
 
 played-follow : (s : SoloMachine) → IsPlayed s → JournalsFollow s
 played-follow s h = record { home = λ i low. (h.followed i low).home; out = λ i l low e. (h.followed i low).out l e }

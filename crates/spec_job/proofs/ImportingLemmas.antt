@@ -1,21 +1,19 @@
 -- What is told to a node that the log knows: clauses of lines of the log. A node that has loaded its revisions may import
 -- them.
-use Rattle.std.proofs.Common.{◌≡◌, ℕ, ◌<◌, ◌≤◌, ◌^◌, Bool, true, false, cond, not, nat_lt, List, [], ◌∷◌, map, fold, Some, None, inl, inr, sym, ◌∙◌, subst, arith}
+use Rattle.std.proofs.Common.{◌≡◌, ℕ, ◌<◌, ◌≤◌, ◌^◌, true, not, List, [], ◌∷◌, map, fold, Some, None, sym, ◌∙◌, subst, arith}
 use Rattle.std.specs.Prelude.{All}
 use Rattle.std.proofs.lemmas.Bool.{le-leb}
-use Rattle.std.proofs.lemmas.List.Elements.{All-nil, All-cons, All-head, All-tail, All-weaker, All-contains}
+use Rattle.std.proofs.lemmas.List.Elements.{All-head, All-tail, All-weaker, All-contains}
 use Rattle.mal_base.specs.NumberedClause.{NumberedClause, Line}
 use Rattle.mal_base.specs.declared.verdict.Verdict.TheVariants.{Satisfiable}
 use Rattle.mal_revision.specs.Posted.{Posted}
 use Rattle.spec_node.specs.State.{Node}
-use Rattle.spec_node.specs.Adding.{with_clause}
 use Rattle.spec_node.specs.Load.{is_derived}
-use Rattle.spec_node.specs.Import.{has_lits, taken, imported}
+use Rattle.spec_node.specs.Import.{has_lits, taken, serial_above, imported}
 use Rattle.spec_node.specs.Sound.{AreLiteralsOf}
 use Rattle.spec_node.specs.Laws.{HaveOwnNumbers, MayImport}
-use Rattle.spec_node.proofs.ImportLemmas.{All-with_clauses, All-passed, serial-least, import-keeps_sound, import-holds}
+use Rattle.spec_node.proofs.ImportLemmas.{All-with_clauses, All-passed, serial-least, by-taking, import-keeps_sound, import-holds}
 use Rattle.spec_search.specs.Slice.{Sliced}
-use Rattle.spec_search.specs.Derived.{with_line, with_lines}
 use Rattle.spec_proof.specs.Log.{IsAbove, AreApart}
 use Rattle.spec_proof.proofs.Among.{Among, of-all}
 use Rattle.spec_job.specs.Journal.{Import, after_entry}
@@ -70,27 +68,27 @@ pub record IsPrepared (revisions : List Posted) (log : List Line) (i : ℕ) (n :
 imported-loaded : (revisions : List Posted) (told : List NumberedClause) (n : Node) → n.verdict ≡ None → MayImport told n → HasLoaded revisions n → HasLoaded revisions (imported told n)
 imported-loaded revisions told n calm may h = record {
   sound = import-keeps_sound told n may h.sound;
-  variables = h.variables;
-  model = λ v. absurd (let bad : None ≡ Some Satisfiable = sym calm ∙ v in cc);
+  variables = import-holds.variables told n ∙ h.variables;
+  model = λ v. absurd (let bad : None ≡ Some Satisfiable = sym calm ∙ (sym (import-holds.verdict told n) ∙ v) in cc);
   held = import-holds.originals told n may.derived ∙ h.held;
-  assumed = h.assumed;
+  assumed = import-holds.assumptions told n ∙ h.assumed;
 }
 
 imported-logged : (log : List Line) (i : ℕ) (told : List NumberedClause) (n : Node) → IsSaid log told → IsLogged log i n → IsLogged log i (imported told n)
-imported-logged log i told n said h = record {
+imported-logged log i told n said h = by-taking (IsLogged log i) told n h (record {
   index = h.index;
   held = All-with_clauses (λ c. 2 ^ 32 ≤ c.id → IsOfLine log c) (taken told n.clauses) n.clauses (All-passed (λ c. 2 ^ 32 ≤ c.id → IsOfLine log c) (λ c. not (has_lits c.lits n.clauses)) told (All-weaker (IsOfLine log) (λ c. 2 ^ 32 ≤ c.id → IsOfLine log c) (λ c k high. k) told said.lines)) h.held;
   before = λ line k m q.
       let less : k < n.serial = h.before line k m q in
-      let most : n.serial ≤ (imported told n).serial = serial-least n.serial (taken told n.clauses) in
+      let most : n.serial ≤ serial_above n.serial (taken told n.clauses) = serial-least n.serial (taken told n.clauses) in
       omega arith;
-}
+})
 
 pub import-prepared : (revisions : List Posted) (log : List Line) (i : ℕ) (told : List NumberedClause) (n : Node) → IsTellable (variables_of revisions) log → IsSaid log told → IsPrepared revisions log i n → IsPrepared revisions log i (imported told n)
 import-prepared revisions log i told n may said h = record {
   loaded = imported-loaded revisions told n h.calm (may-import log i told n (subst (λ (v : ℕ). IsTellable v log) (sym h.loaded.variables) may) h.logged said) h.loaded;
   logged = imported-logged log i told n said h.logged;
-  calm = h.calm;
+  calm = import-holds.verdict told n ∙ h.calm;
 }
 
 -- imports of all that is told, one after another
@@ -98,30 +96,6 @@ pub imports-prepared : (tolds : List (List NumberedClause)) (revisions : List Po
 imports-prepared [] revisions log i s may said h = h
 imports-prepared (t ∷ ts) revisions log i s may said h = imports-prepared ts revisions log i (after_entry s (Import t)) may (All-tail (IsSaid log) t ts said) (import-prepared revisions log i t s.node may (All-head (IsSaid log) t ts said) h)
 
--- what holds of all clauses held with one more holds of it and of the others
-parts-with : (P : NumberedClause → Type 0) (c : NumberedClause) (cs : List NumberedClause) → All P (with_clause c cs) → P c × All P cs
-parts-with P c [] h = (All-head P c [] h, All-nil P)
-parts-with P c (d ∷ ds) h = by_order (parts-with P c ds) (nat_lt c.id d.id) h
-  where
-    behind : P d → P c × All P ds → P c × All P (d ∷ ds)
-    behind k (here, rest) = (here, All-cons P d ds k rest)
-
-    by_order : (All P (with_clause c ds) → P c × All P ds) → (b : Bool) → All P (cond b (c ∷ (d ∷ ds)) (d ∷ with_clause c ds)) → P c × All P (d ∷ ds)
-    by_order f true k = (All-head P c (d ∷ ds) k, All-tail P c (d ∷ ds) k)
-    by_order f false k = behind (All-head P d (with_clause c ds) k) (f (All-tail P d (with_clause c ds) k))
-
 -- the clause of a line
 abbrev pub clause_of : Line → NumberedClause
 clause_of l = record { id = l.id; lits = l.lits }
-
--- what holds of all clauses held with those of lines holds of these
-pub parts-with_lines : (P : NumberedClause → Type 0) (lines : List Line) (cs : List NumberedClause) → All P (with_lines cs lines) → ((line : Line) → Among line lines → P (clause_of line)) × All P cs
-parts-with_lines P [] cs h = (λ line m. absurd m, h)
-parts-with_lines P (l ∷ ls) cs h = by_rest (parts-with_lines P ls (with_line cs l) h)
-  where
-    by_line : P (clause_of l) → ((line : Line) → Among line ls → P (clause_of line)) → (line : Line) → Among line (l ∷ ls) → P (clause_of line)
-    by_line here rest line (inl e) = subst (λ (x : Line). P (clause_of x)) e here
-    by_line here rest line (inr m) = rest line m
-
-    by_rest : ((line : Line) → Among line ls → P (clause_of line)) × All P (with_line cs l) → ((line : Line) → Among line (l ∷ ls) → P (clause_of line)) × All P cs
-    by_rest (rest, all) = let here = parts-with P (clause_of l) cs all in (by_line here.0 rest, here.1)

@@ -1,21 +1,17 @@
 -- What is kept of a machine that is run on own events that may happen.
-use Rattle.std.proofs.Common.{◌≡◌, ◌+◌, List, [], ◌∷◌, ◌++◌, length, None, refl, sym, subst, arith, append_assoc, append-nil}
-use Rattle.std.proofs.lemmas.List.Elements.{All-nil}
+use Rattle.std.proofs.Common.{◌+◌, List, [], ◌∷◌, ◌++◌, length, sym, subst, append_assoc, append-nil}
 use Rattle.std.proofs.lemmas.List.Sums.{fold_push}
-use Rattle.spec_proof.proofs.LogLemmas.{log-empty}
-use Rattle.spec_job.specs.Journal.{replay}
-use Rattle.spec_job.specs.SoloMachine.{Own, NodeSlot, SoloMachine, unopened, solo, solo_step}
+use Rattle.mal_base.specs.Asks.{Terms}
+use Rattle.spec_job.specs.SoloMachine.{Own, SoloMachine, unopened, solo, solo_step}
 use Rattle.spec_job.specs.Proofs.{LogIsDerived}
 use Rattle.spec_job.specs.Runnable.{MayHappen, IsRunnable}
-use Rattle.spec_job.proofs.PlacesLemmas.{get-vacant}
 use Rattle.spec_job.proofs.SolvingLemmas.{IsSolvingSolo}
-use Rattle.spec_job.proofs.SolvedLemmas.{step-solving, unopened-solving}
-use Rattle.spec_job.proofs.TrackedLemmas.{log-all, fresh-logged}
-use Rattle.spec_job.proofs.ImportingLemmas.{IsSaid}
-use Rattle.spec_job.proofs.DerivingLemmas.{IsTracked, IsDerivingSolo}
+use Rattle.spec_job.proofs.SolvedLemmas.{step-solving, opened-solving}
+use Rattle.spec_job.proofs.TrackedLemmas.{log-all}
+use Rattle.spec_job.proofs.DerivingLemmas.{IsDerivingSolo}
 use Rattle.spec_job.proofs.RunningLemmas.{may-lease}
-use Rattle.spec_job.proofs.FinishingLemmas.{step-deriving}
-use Rattle.spec_job.proofs.CalmLemmas.{AreCalmIn, step-calm}
+use Rattle.spec_job.proofs.FinishingLemmas.{step-deriving, opened-deriving}
+use Rattle.spec_job.proofs.CalmLemmas.{AreCalmIn, step-calm, opened-calm}
 
 -- all that is kept of a machine
 pub record MachineInvariant (s : SoloMachine) : Type 0 where
@@ -26,19 +22,12 @@ pub record MachineInvariant (s : SoloMachine) : Type 0 where
 pub step-kept : (s : SoloMachine) (o : Own) → MayHappen s o → MachineInvariant s → MachineInvariant (solo_step s o)
 step-kept s o may h = record { solving = step-solving s o may (may-lease s h.solving h.calm h.derives) h.solving; derives = step-deriving s o may h.solving h.calm h.derives; calm = step-calm s o may h.solving h.calm }
 
+-- the machine that is opened, and the one before its first event
+pub opened-kept : (ask : Terms) → MachineInvariant (record unopened { ask = ask })
+opened-kept ask = record { solving = opened-solving ask; derives = opened-deriving ask; calm = opened-calm ask }
+
 pub unopened-kept : MachineInvariant unopened
-unopened-kept = record {
-  solving = unopened-solving;
-  derives = record {
-    derived = log-empty [] (omega arith);
-    closed = λ line hint m k. absurd m;
-    tracked = λ i low. subst (λ (p : NodeSlot). IsTracked [] [] i p) (sym (get-vacant 64 i)) (record { logged = fresh-logged i; running = λ l e. absurd (cc) });
-    refuted = λ r goal e. absurd (cc);
-    within = λ line m. absurd m;
-    said = All-nil (IsSaid []);
-  };
-  calm = λ i low e. subst (λ (p : NodeSlot). (replay i p.entries).node.verdict ≡ None) (sym (get-vacant 64 i)) refl;
-}
+unopened-kept = opened-kept unopened.ask
 
 events-kept : (past events : List Own) → IsRunnable past events → MachineInvariant (solo past) → MachineInvariant (solo (past ++ events))
 events-kept past [] may h = subst (λ (es : List Own). MachineInvariant (solo es)) (sym (append-nil past)) h

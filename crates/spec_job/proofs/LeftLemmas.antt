@@ -74,7 +74,7 @@ lease-places : (s : SoloMachine) (i : ℕ) (p : NodeSlot) (l : Lease) (o : Outco
 lease-places s i p l Ran h = by_late (is_late s l)
   where
     slice : Sliced
-    slice = replay i (p.entries ++ l.adds)
+    slice = replay s.ask.profile i (p.entries ++ l.adds)
 
     home : SoloMachine
     home = record (with_place s i (record p { entries = p.entries ++ l.adds; out = None })) { log = s.log ++ slice.lines; ran = s.ran + 1 }
@@ -200,7 +200,7 @@ module _ (s : SoloMachine) (i : ℕ) (h : IsTidy s) (low : i ≤ 63) (may : star
   ran = subst (λ (t : SoloMachine). left_of t < left_of s) (sym (ends Ran)) (let most : left_of (settled_by (first_empty ended.log) ended) ≤ left_of ended = settled-left (first_empty ended.log) ended in omega (arith, most, less))
     where
       slice : Sliced
-      slice = replay i (q.entries ++ (lease_of s i).adds)
+      slice = replay s.ask.profile i (q.entries ++ (lease_of s i).adds)
 
       home : SoloMachine
       home = record (with_place begun i (record q { entries = q.entries ++ (lease_of s i).adds; out = None })) { log = s.log ++ slice.lines; ran = s.ran + 1 }

@@ -21,6 +21,7 @@ pub mod UnknownLemmas
 pub mod UpToLemmas
 -- what this crate alone cites
 mod ExampleLemmas
+mod ProfileExampleLemmas
 mod ElementLemmas
 mod PostingLemmas
 mod SolvedLemmas

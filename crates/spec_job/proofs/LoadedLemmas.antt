@@ -11,14 +11,14 @@ use Rattle.mal_revision.specs.Posted.{Posted, is_posted}
 use Rattle.spec_logic.specs.Logic.{satisfies, satisfies_clause, satisfies_with, is_true_in}
 use Rattle.mal_base.specs.NumberedClause.{NumberedClause}
 use Rattle.mal_base.specs.Literals.{literal}
-use Rattle.spec_node.specs.State.{Node, fresh}
+use Rattle.spec_node.specs.State.{Node, fresh_with}
 use Rattle.spec_node.specs.Load.{counted, loaded, numbered}
 use Rattle.spec_node.specs.Value.{is_true}
 use Rattle.spec_node.specs.Model.{model_of}
 use Rattle.spec_node.specs.Sound.{IsSound}
 use Rattle.spec_node.specs.Laws.{HasModel, IsModel, HoldsAll, formula_of, originals}
 use Rattle.spec_node.proofs.LoadLemmas.{numbers-mean_same}
-use Rattle.spec_node.proofs.SoundLemmas.{fresh-sound, loaded-sound}
+use Rattle.spec_node.proofs.SoundLemmas.{fresh-with_sound, loaded-sound}
 use Rattle.spec_node.proofs.PostedLemmas.{posted-literals}
 use Rattle.spec_node.proofs.ChainLemmas.{loads-hold_all}
 use Rattle.spec_search.specs.Slice.{Sliced, slice}
@@ -76,8 +76,8 @@ pub clauses_in-push : (ps : List Posted) (r : Posted) → clauses_in (ps ++ r �
 clauses_in-push ps r = fold_push (λ (a : ℕ) (p : Posted). a + length p.clauses) 0 ps r
 
 -- a fresh node has loaded nothing
-pub fresh-loaded : (i : ℕ) → i ≤ 63 → HasLoaded [] (fresh i)
-fresh-loaded i low = record { sound = fresh-sound i low; variables = refl; model = λ v. absurd (cc); held = refl; assumed = refl }
+pub fresh-loaded : (profile i : ℕ) → i ≤ 63 → HasLoaded [] (fresh_with i profile)
+fresh-loaded profile i low = record { sound = fresh-with_sound i profile low; variables = refl; model = λ v. absurd (cc); held = refl; assumed = refl }
 
 -- a load adds its revision
 pub load-loaded : (ps : List Posted) (r : Posted) (n : Node) → IsLoadable r → clauses_in ps + length r.clauses < 2 ^ 32 → HasLoaded ps n → HasLoaded (ps ++ r ∷ []) (loaded r (1 + length (clauses_of ps)) n)

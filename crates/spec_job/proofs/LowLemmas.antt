@@ -15,12 +15,12 @@ use Rattle.spec_job.proofs.SolvingLemmas.{lease_of}
 use Rattle.spec_job.proofs.CountLemmas.{runs_in-append, runs_in-loads, runs_in-imports, IsLow, counts-more, ready-counted, runs-same}
 use Rattle.spec_job.proofs.ImportingLemmas.{clause_of}
 
--- a start that is out runs a slice of a node that counts low
+-- a start that is out runs a slice of a node that counts low, whatever profile it is replayed under
 pub record IsOutLow (all i : ℕ) (entries : List JournalEntry) (l : Lease) : Type 0 where
   pub before : List JournalEntry
   pub adds : l.adds ≡ before ++ Run ∷ []
   pub none : runs_in before ≡ 0
-  pub counts : HasCounts all (runs_in entries) (replay i (entries ++ before)).node
+  pub counts : (profile : ℕ) → HasCounts all (runs_in entries) (replay profile i (entries ++ before)).node
 
 -- its entries run one slice
 pub adds-run : (all i : ℕ) (entries : List JournalEntry) (l : Lease) → IsOutLow all i entries l → runs_in (entries ++ l.adds) ≡ runs_in entries + 1
@@ -33,7 +33,7 @@ adds-run all i entries l is =
 
 -- a place whose node counts low, at home and out
 pub record IsPlaceLow (all i : ℕ) (p : NodeSlot) : Type 0 where
-  pub home : HasCounts all (runs_in p.entries) (replay i p.entries).node
+  pub home : (profile : ℕ) → HasCounts all (runs_in p.entries) (replay profile i p.entries).node
   pub out : (l : Lease) → p.out ≡ Some l → IsOutLow all i p.entries l
 
 -- places, a log and broadcasts whose serials are low
@@ -47,10 +47,10 @@ abbrev pub IsLowSolo : SoloMachine → Type 0
 IsLowSolo s = AreLow (runs_of s.places) s.places s.log s.broadcasts
 
 out-more : (all more i : ℕ) (entries : List JournalEntry) (l : Lease) → all ≤ more → IsOutLow all i entries l → IsOutLow more i entries l
-out-more all more i entries l low h = record { before = h.before; adds = h.adds; none = h.none; counts = counts-more all more (runs_in entries) (replay i (entries ++ h.before)).node low h.counts }
+out-more all more i entries l low h = record { before = h.before; adds = h.adds; none = h.none; counts = λ profile. counts-more all more (runs_in entries) (replay profile i (entries ++ h.before)).node low (h.counts profile) }
 
 place-more : (all more i : ℕ) (p : NodeSlot) → all ≤ more → IsPlaceLow all i p → IsPlaceLow more i p
-place-more all more i p low h = record { home = counts-more all more (runs_in p.entries) (replay i p.entries).node low h.home; out = λ l e. out-more all more i p.entries l low (h.out l e) }
+place-more all more i p low h = record { home = λ profile. counts-more all more (runs_in p.entries) (replay profile i p.entries).node low (h.home profile); out = λ l e. out-more all more i p.entries l low (h.out l e) }
 
 low-more : (all more : ℕ) (c : NumberedClause) → all ≤ more → IsLow all c → IsLow more c
 low-more all more c low h = omega (arith, h)
@@ -79,12 +79,12 @@ numbered-low serial i all (l ∷ ls) few low h line (inl e) =
 numbered-low serial i all (l ∷ ls) few low h line (inr m) = numbered-low (serial + 1) i all ls few (omega arith) h.1 line m
 
 -- a node as its next start finds it
-pub start-ready : (s : SoloMachine) (i : ℕ) → i ≤ 63 → IsLowSolo s → HasCounts (runs_of s.places) (runs_in (place_at s i).entries) (replay i ((place_at s i).entries ++ (missing_loads s (place_at s i) ++ missing_imports s (place_at s i)))).node
-start-ready s i few h =
+pub start-ready : (s : SoloMachine) (i : ℕ) → i ≤ 63 → IsLowSolo s → (profile : ℕ) → HasCounts (runs_of s.places) (runs_in (place_at s i).entries) (replay profile i ((place_at s i).entries ++ (missing_loads s (place_at s i) ++ missing_imports s (place_at s i)))).node
+start-ready s i few h profile =
     let p : NodeSlot = place_at s i in
     let n : ℕ = loads_in p.entries in
     let tolds : List (List NumberedClause) = drop (imports_in p.entries) s.broadcasts in
-    ready-counted p.entries i (runs_of s.places) (runs_in p.entries) (clauses_in (take n s.revisions) + 1) (take (length s.answers + 1 - n) (drop n s.revisions)) tolds (All-drop (All (IsLow (runs_of s.places))) (imports_in p.entries) s.broadcasts h.told) (h.places_low i few).home
+    ready-counted profile p.entries i (runs_of s.places) (runs_in p.entries) (clauses_in (take n s.revisions) + 1) (take (length s.answers + 1 - n) (drop n s.revisions)) tolds (All-drop (All (IsLow (runs_of s.places))) (imports_in p.entries) s.broadcasts h.told) ((h.places_low i few).home profile)
 
 start-runs-none : (s : SoloMachine) (p : NodeSlot) → runs_in (missing_loads s p ++ missing_imports s p) ≡ 0
 start-runs-none s p =

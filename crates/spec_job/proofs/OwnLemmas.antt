@@ -1,16 +1,17 @@
 -- The clauses of a machine that was run on own events that may happen are its own.
 use Rattle.std.proofs.Common.{◌≡◌, ℕ, ◌+◌, true, List, [], ◌∷◌, ◌++◌, take, drop, inl, inr, ◌⊎◌, sym, subst, refl}
-use Rattle.std.specs.Prelude.{All}
+use Rattle.std.specs.Prelude.{All, Contains}
 use Rattle.std.proofs.lemmas.List.{take-append-drop}
-use Rattle.std.proofs.lemmas.List.Elements.{All-weaker}
+use Rattle.std.proofs.lemmas.List.Elements.{All-weaker, All-contains}
 use Rattle.mal_base.specs.Clauses.{rises}
 use Rattle.mal_base.specs.NumberedClause.{NumberedClause, Line}
 use Rattle.mal_revision.specs.Posted.{Posted}
 use Rattle.spec_node.specs.State.{Node}
+use Rattle.spec_node.specs.Sound.{IsSound}
 use Rattle.spec_node.proofs.ImportLemmas.{All-with_clause}
 use Rattle.spec_search.specs.Slice.{Sliced, slice}
 use Rattle.spec_search.specs.Derived.{with_line, with_lines}
-use Rattle.spec_search.proofs.LineLemmas.{lines-held}
+use Rattle.spec_search.proofs.LineLemmas.{held-of_lines}
 use Rattle.spec_proof.proofs.Among.{Among, contains-from_among, all-from_among}
 use Rattle.spec_job.specs.Journal.{JournalEntry, replay, loads_in}
 use Rattle.spec_job.specs.SoloMachine.{Lease, SoloMachine, place_at, exports_of}
@@ -43,25 +44,25 @@ All-with_lines : (P : NumberedClause → Type 0) (lines : List Line) (cs : List 
 All-with_lines P [] cs f h = h
 All-with_lines P (l ∷ ls) cs f h = All-with_lines P ls (with_line cs l) (λ line m. f line (inr m)) (All-with_clause P (clause_of l) cs (f l (inl refl)) h)
 
--- after a slice the new lines are held besides
-sliced-own : (s : SoloMachine) (n : Node) → All (IsOwn s) n.clauses → All (λ c. IsOwn s c ⊎ IsLineOf (slice n).lines c) (slice n).node.clauses
-sliced-own s n h =
+-- after a slice of a sound node what it holds is the job's own or of a new line
+sliced-own : (s : SoloMachine) (n : Node) → IsSound n → All (IsOwn s) n.clauses → All (λ c. IsOwn s c ⊎ IsLineOf (slice n).lines c) (slice n).node.clauses
+sliced-own s n sound h =
     let all : All (λ c. IsOwn s c ⊎ IsLineOf (slice n).lines c) (with_lines n.clauses (slice n).lines) = All-with_lines (λ c. IsOwn s c ⊎ IsLineOf (slice n).lines c) (slice n).lines n.clauses (λ line m. inr (line, contains-from_among (slice n).lines line m, refl, refl)) (All-weaker (IsOwn s) (λ c. IsOwn s c ⊎ IsLineOf (slice n).lines c) (λ c k. inl k) n.clauses h) in
-    subst (λ (cs : List NumberedClause). All (λ (c : NumberedClause). IsOwn s c ⊎ IsLineOf (slice n).lines c) cs) (sym (lines-held n)) all
+    All-weaker (Contains (with_lines n.clauses (slice n).lines)) (λ c. IsOwn s c ⊎ IsLineOf (slice n).lines c) (λ c m. All-contains (λ d. IsOwn s d ⊎ IsLineOf (slice n).lines d) (with_lines n.clauses (slice n).lines) c all m) (slice n).node.clauses (held-of_lines n sound)
 
-running-own : (s : SoloMachine) (i : ℕ) (entries : List JournalEntry) (l : Lease) → IsRunning s.revisions s.log i entries l → IsOutOwn s i entries l
+running-own : (s : SoloMachine) (i : ℕ) (entries : List JournalEntry) (l : Lease) → IsRunning s.ask.profile s.revisions s.log i entries l → IsOutOwn s i entries l
 running-own s i entries l r =
     let own : All (IsOwn s) r.node.clauses = node-own s i (l.revision + 1) r.node r.ready r.logged in
     record {
       before = r.before;
       adds = r.adds;
       handed = subst (λ (n : Node). All (IsOwn s) n.clauses) r.is own;
-      ran = subst (λ (x : Sliced). All (λ (c : NumberedClause). IsOwn s c ⊎ IsLineOf x.lines c) x.node.clauses) (sym r.runs) (sliced-own s r.node own);
+      ran = subst (λ (x : Sliced). All (λ (c : NumberedClause). IsOwn s c ⊎ IsLineOf x.lines c) x.node.clauses) (sym r.runs) (sliced-own s r.node r.ready.sound own);
     }
 
 kept-own : (s : SoloMachine) → MachineInvariant s → ClausesAreOwn s
 kept-own s h = record {
-  home = λ i few. node-own s i (loads_in (place_at s i).entries) (replay i (place_at s i).entries).node (h.solving.ready i few).node (h.derives.tracked i few).logged;
+  home = λ i few. node-own s i (loads_in (place_at s i).entries) (replay s.ask.profile i (place_at s i).entries).node (h.solving.ready i few).node (h.derives.tracked i few).logged;
   out = λ i l e. running-own s i (place_at s i).entries l ((h.derives.tracked i (out-low s i l e h.solving)).running l e);
   exports = λ i. All-weaker (IsOfLine s.log) (IsLineOf s.log) (line-of s.log) (exports_of s.log i (place_at s i)) (exports-lines s.log i (place_at s i));
   broadcasts = All-weaker (IsSaid s.log) (All (IsLineOf s.log)) (λ told k. All-weaker (IsOfLine s.log) (IsLineOf s.log) (line-of s.log) told k.lines) s.broadcasts h.derives.said;

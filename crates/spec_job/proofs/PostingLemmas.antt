@@ -15,15 +15,15 @@ use Rattle.spec_job.proofs.PlacesLemmas.{marked-length, all-marked}
 use Rattle.spec_job.proofs.SolvingLemmas.{IsLeased, IsReady, IsSolving, IsSolvingSolo, ready-later, ready-revised, placed-solving, lease_of, MayLease}
 
 -- the current revision is answered, where a satisfiable answer carries a model of it
-pub answered-solving : (revisions : List Posted) (answers : List Answer) (places : List NodeSlot) (a : Answer) → length answers < length revisions → ((model : List Bool) → a ≡ Satisfied model → Solves (take (length answers + 1) revisions) model) → IsSolving revisions answers places → IsSolving revisions (answers ++ a ∷ []) places
-answered-solving revisions answers places a live good h =
+pub answered-solving : (profile : ℕ) (revisions : List Posted) (answers : List Answer) (places : List NodeSlot) (a : Answer) → length answers < length revisions → ((model : List Bool) → a ≡ Satisfied model → Solves (take (length answers + 1) revisions) model) → IsSolving profile revisions answers places → IsSolving profile revisions (answers ++ a ∷ []) places
+answered-solving profile revisions answers places a live good h =
     let more : length (answers ++ a ∷ []) ≡ length answers + 1 = length-append answers (a ∷ []) in
     record {
       loadable = h.loadable;
       room = h.room;
       order = omega arith;
       count = h.count;
-      ready = λ i low. ready-later revisions (length answers) (length (answers ++ a ∷ [])) i (get_or places i vacant) (omega arith) (h.ready i low);
+      ready = λ i low. ready-later profile revisions (length answers) (length (answers ++ a ∷ [])) i (get_or places i vacant) (omega arith) (h.ready i low);
       solved = λ r model e. by_place r model (get-push answers a (Satisfied model) r e);
     }
   where
@@ -44,7 +44,7 @@ settled-solving (Some goal) s h =
       room = h.room;
       order = omega arith;
       count = h.count;
-      ready = λ i low. ready-later s.revisions (length s.answers) (length (s.answers ++ replicate more (Refuted goal))) i (get_or s.places i vacant) (omega arith) (h.ready i low);
+      ready = λ i low. ready-later s.ask.profile s.revisions (length s.answers) (length (s.answers ++ replicate more (Refuted goal))) i (get_or s.places i vacant) (omega arith) (h.ready i low);
       solved = λ r model e. by_place r model (get-repeated s.answers more (Refuted goal) (Satisfied model) r e);
     }
   where
@@ -64,7 +64,7 @@ posted-solving s r may h =
       room = omega arith;
       order = omega arith;
       count = h.count;
-      ready = λ i low. ready-revised s.revisions r (length s.answers) i (place_at s i) (h.ready i low);
+      ready = λ i low. ready-revised s.ask.profile s.revisions r (length s.answers) i (place_at s i) (h.ready i low);
       solved = λ k model e.
           let within : k < length s.answers = slice_get_within s.answers k (Satisfied model) e in
           subst (λ (xs : List Posted). Solves xs model) (sym (take-append-le (k + 1) s.revisions (r ∷ []) (omega arith))) (h.solved k model e);
@@ -77,18 +77,18 @@ revised-solving s r may h = settled-solving (first_empty s.log) (record s { revi
 pub started-solving : (s : SoloMachine) (i : ℕ) → startable s i ≡ true → MayLease s → IsSolvingSolo s → IsSolvingSolo (solo_step s (Started i))
 started-solving s i may leases h =
     let p : NodeSlot = place_at s i in
-    placed-solving s.revisions s.answers s.places i (record p { out = Some (lease_of s i); starts = p.starts + 1 }) (λ low.
-    let ready : IsReady s.revisions (length s.answers) i p = h.ready i low in
+    placed-solving s.ask.profile s.revisions s.answers s.places i (record p { out = Some (lease_of s i); starts = p.starts + 1 }) (λ low.
+    let ready : IsReady s.ask.profile s.revisions (length s.answers) i p = h.ready i low in
     record {
       early = ready.early;
       posted = ready.posted;
       node = ready.node;
-      leased = λ l e. let same : lease_of s i ≡ l = cc in subst (λ (x : Lease). IsLeased s.revisions (length s.answers) i p.entries x) same (leases i may low);
+      leased = λ l e. let same : lease_of s i ≡ l = cc in subst (λ (x : Lease). IsLeased s.ask.profile s.revisions (length s.answers) i p.entries x) same (leases i may low);
     }) h
 
 -- an exchange moves marks alone
-ready-marked : (revisions : List Posted) (c i m : ℕ) (p : NodeSlot) → IsReady revisions c i p → IsReady revisions c i (record p { mark = m })
-ready-marked revisions c i m p h = record { early = h.early; posted = h.posted; node = h.node; leased = h.leased }
+ready-marked : (profile : ℕ) (revisions : List Posted) (c i m : ℕ) (p : NodeSlot) → IsReady profile revisions c i p → IsReady profile revisions c i (record p { mark = m })
+ready-marked profile revisions c i m p h = record { early = h.early; posted = h.posted; node = h.node; leased = h.leased }
 
 pub exchanged-solving : (s : SoloMachine) → IsSolvingSolo s → IsSolvingSolo (exchanged s)
 exchanged-solving s h = record {
@@ -96,6 +96,6 @@ exchanged-solving s h = record {
   room = h.room;
   order = h.order;
   count = subst (λ (n : ℕ). n ≤ 64) (sym (marked-length s.volume (length s.log) 0 s.places)) h.count;
-  ready = all-marked (λ (i : ℕ) (p : NodeSlot). IsReady s.revisions (length s.answers) i p) (ready-marked s.revisions (length s.answers)) s.volume (length s.log) s.places h.ready;
+  ready = all-marked (λ (i : ℕ) (p : NodeSlot). IsReady s.ask.profile s.revisions (length s.answers) i p) (ready-marked s.ask.profile s.revisions (length s.answers)) s.volume (length s.log) s.places h.ready;
   solved = h.solved;
 }

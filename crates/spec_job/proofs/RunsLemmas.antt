@@ -16,7 +16,7 @@ use Rattle.spec_job.proofs.SolvingLemmas.{IsSolvingSolo, out-leased}
 use Rattle.spec_job.proofs.SolvedLemmas.{lease-solving, in-time}
 use Rattle.spec_job.proofs.PostingLemmas.{posted-solving}
 use Rattle.mal_revision.specs.Posted.{Posted}
-use Rattle.spec_job.proofs.KeptLemmas.{MachineInvariant, step-kept, unopened-kept}
+use Rattle.spec_job.proofs.KeptLemmas.{MachineInvariant, step-kept, opened-kept}
 use Rattle.spec_job.proofs.LowLemmas.{IsLowSolo}
 use Rattle.spec_job.proofs.CountLemmas.{runs-marked}
 use Rattle.spec_job.proofs.CountingLemmas.{step-low, unopened-low}
@@ -78,7 +78,7 @@ module _ (slices i : ℕ) (s : SoloMachine) (l : Lease) (out : (place_at s i).ou
       q = record (place_at s i) { entries = (place_at s i).entries ++ l.adds; out = None }
 
       slice : Sliced
-      slice = replay i q.entries
+      slice = replay s.ask.profile i q.entries
 
       log : List Line
       log = s.log ++ slice.lines
@@ -143,7 +143,7 @@ events-within slices past (o ∷ os) may once h =
 
 pub opened-within : (ask : Terms) → IsWithin ask.slices (solo (Opened ask ∷ []))
 opened-within ask = record {
-  kept = step-kept unopened (Opened ask) tt unopened-kept;
+  kept = opened-kept ask;
   low = unopened-low;
   few = record { budget = refl; shared = omega arith; few = omega arith; idle = λ e. refl };
 }

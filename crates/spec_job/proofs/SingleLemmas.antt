@@ -15,7 +15,7 @@ use Rattle.spec_job.specs.Runnable.{MayHappen, IsRunnable}
 use Rattle.spec_job.specs.DemandOne.{is_single, had_memory, IsSingle, Agree, AgreeAll, NoneIsDue, SinglesAgree}
 use Rattle.spec_job.proofs.PlacesLemmas.{get-vacant}
 use Rattle.spec_job.proofs.SolvingLemmas.{IsSolvingSolo, live-parts}
-use Rattle.spec_job.proofs.KeptLemmas.{MachineInvariant, step-kept, unopened-kept}
+use Rattle.spec_job.proofs.KeptLemmas.{MachineInvariant, step-kept, opened-kept}
 use Rattle.spec_job.proofs.CourseLemmas.{Course, course, WentOn, adds-more, course-more, went-more}
 use Rattle.spec_job.proofs.AgreeLemmas.{ComeFrom, courses-agree, le-or_lt, IsFront, courses-logs}
 use Rattle.spec_job.proofs.AlongLemmas.{course_of, lease_from, IsOpen, IsSettled, IsAlong, come-itself, come-more, IsThere, there-settled, started-along}
@@ -23,12 +23,12 @@ use Rattle.spec_job.proofs.SliceLemmas.{lease-there, home-there}
 use Rattle.spec_job.proofs.ReplyLemmas.{replies-agree}
 
 -- a machine has run some slices of its course
-abbrev pub IsOnCourse : ℕ → SoloMachine → Type 0
-IsOnCourse slices s = (n : ℕ) × IsAlong slices s n
+abbrev pub IsOnCourse : ℕ → ℕ → SoloMachine → Type 0
+IsOnCourse profile slices s = (n : ℕ) × IsAlong profile slices s n
 
 -- a machine has run no more than one slice more of its course than so many
-abbrev pub GoesOneOn : ℕ → ℕ → SoloMachine → Type 0
-GoesOneOn slices n s = (m : ℕ) × (m ≤ suc n) × IsAlong slices s m
+abbrev pub GoesOneOn : ℕ → ℕ → ℕ → SoloMachine → Type 0
+GoesOneOn profile slices n s = (m : ℕ) × (m ≤ suc n) × IsAlong profile slices s m
 
 -- a further revision
 open-revised : (s : SoloMachine) (c : Course) (r : Posted) → IsSolvingSolo s → IsOpen s c → IsOpen (record s { revisions = s.revisions ++ r ∷ [] }) c
@@ -56,53 +56,53 @@ settled-revised s c goal r h = record { found = h.found; log = h.log; idle = h.i
         let before : length s.answers ≡ length s.revisions = h.all in
         omega arith
 
-revised-along : (slices n : ℕ) (s : SoloMachine) (r : Posted) → IsSolvingSolo s → IsAlong slices s n → IsAlong slices (solo_step s (Revised r)) n
-revised-along slices n s r k h = by_stand h.stands
+revised-along : (profile slices n : ℕ) (s : SoloMachine) (r : Posted) → IsSolvingSolo s → IsAlong profile slices s n → IsAlong profile slices (solo_step s (Revised r)) n
+revised-along profile slices n s r k h = by_stand h.stands
   where
     t : SoloMachine
     t = record s { revisions = s.revisions ++ r ∷ [] }
 
     c : Course
-    c = course slices s.revisions n
+    c = course profile slices s.revisions n
 
-    same : course slices t.revisions n ≡ c
-    same = course-more slices s.revisions (r ∷ []) n h.went
+    same : course profile slices t.revisions n ≡ c
+    same = course-more profile slices s.revisions (r ∷ []) n h.went
 
-    with-stand : (o : Option ℕ) → IsOpen (settled_by o t) c ⊎ ((goal : ℕ) × IsSettled (settled_by o t) c goal) → IsAlong slices (settled_by o t) n
-    with-stand None x = record { budget = h.budget; low = h.low; untold = h.untold; some = h.some; others = h.others; went = went-more slices s.revisions (r ∷ []) n h.went; stands = subst (λ (d : Course). IsOpen t d ⊎ ((goal : ℕ) × IsSettled t d goal)) (sym same) x }
-    with-stand (Some g) x = record { budget = h.budget; low = h.low; untold = h.untold; some = h.some; others = h.others; went = went-more slices s.revisions (r ∷ []) n h.went; stands = subst (λ (d : Course). IsOpen (settled_by (Some g) t) d ⊎ ((goal : ℕ) × IsSettled (settled_by (Some g) t) d goal)) (sym same) x }
+    with-stand : (o : Option ℕ) → IsOpen (settled_by o t) c ⊎ ((goal : ℕ) × IsSettled (settled_by o t) c goal) → IsAlong profile slices (settled_by o t) n
+    with-stand None x = record { budget = h.budget; solvers = h.solvers; low = h.low; untold = h.untold; some = h.some; others = h.others; went = went-more profile slices s.revisions (r ∷ []) n h.went; stands = subst (λ (d : Course). IsOpen t d ⊎ ((goal : ℕ) × IsSettled t d goal)) (sym same) x }
+    with-stand (Some g) x = record { budget = h.budget; solvers = h.solvers; low = h.low; untold = h.untold; some = h.some; others = h.others; went = went-more profile slices s.revisions (r ∷ []) n h.went; stands = subst (λ (d : Course). IsOpen (settled_by (Some g) t) d ⊎ ((goal : ℕ) × IsSettled (settled_by (Some g) t) d goal)) (sym same) x }
 
-    by_stand : IsOpen s c ⊎ ((goal : ℕ) × IsSettled s c goal) → IsAlong slices (settled_by (first_empty s.log) t) n
+    by_stand : IsOpen s c ⊎ ((goal : ℕ) × IsSettled s c goal) → IsAlong profile slices (settled_by (first_empty s.log) t) n
     by_stand (inl x) =
         let none : first_empty s.log ≡ None = subst (λ (d : Course). first_empty d.log ≡ None) (sym x.same) x.none in
-        subst (λ (o : Option ℕ). IsAlong slices (settled_by o t) n) (sym none) (with-stand None (inl (open-revised s c r k x)))
+        subst (λ (o : Option ℕ). IsAlong profile slices (settled_by o t) n) (sym none) (with-stand None (inl (open-revised s c r k x)))
     by_stand (inr (goal, x)) =
         let found : first_empty s.log ≡ Some goal = ap first_empty x.log ∙ x.found in
-        subst (λ (o : Option ℕ). IsAlong slices (settled_by o t) n) (sym found) (with-stand (Some goal) (inr (goal, settled-revised s c goal r x)))
+        subst (λ (o : Option ℕ). IsAlong profile slices (settled_by o t) n) (sym found) (with-stand (Some goal) (inr (goal, settled-revised s c goal r x)))
 
 -- a start is one of the first place
-started-on : (slices n i : ℕ) (s : SoloMachine) → startable s i ≡ true → IsAlong slices s n → IsAlong slices (solo_step s (Started i)) n
-started-on slices n zero s may h = started-along slices n s (live-parts s 0 may) h
-started-on slices n (suc i) s may h =
+started-on : (profile slices n i : ℕ) (s : SoloMachine) → startable s i ≡ true → IsAlong profile slices s n → IsAlong profile slices (solo_step s (Started i)) n
+started-on profile slices n zero s may h = started-along profile slices n s (live-parts s 0 may) h
+started-on profile slices n (suc i) s may h =
     let low : suc i < s.volume = ltb-true (suc i) s.volume (and_parts (is_live s) (nat_lt (suc i) s.volume) (and_parts (is_live s && nat_lt (suc i) s.volume) _ may).0).1 in
     let one : s.volume ≤ 1 = h.low in
     absurd (omega arith)
 
 -- a finish of the start that is out
-finished-open : (slices n : ℕ) (s : SoloMachine) (l : Lease) (o : Outcome) → had_memory o ≡ true → (place_at s 0).out ≡ Some l → IsSolvingSolo s → IsAlong slices s n → IsOpen s (course slices s.revisions n) → (m : ℕ) × (m ≤ suc n) × IsThere slices (finished_lease s 0 (place_at s 0) l o) m
-finished-open slices n s l Ran m out k h x = (suc n, omega arith, lease-there slices n s l out k h x)
-finished-open slices n s l Starved m out k h x = absurd (false≢true m)
-finished-open slices n s l Lost m out k h x = (n, omega arith, home-there slices n s h x)
+finished-open : (profile slices n : ℕ) (s : SoloMachine) (l : Lease) (o : Outcome) → had_memory o ≡ true → (place_at s 0).out ≡ Some l → IsSolvingSolo s → IsAlong profile slices s n → IsOpen s (course profile slices s.revisions n) → (m : ℕ) × (m ≤ suc n) × IsThere profile slices (finished_lease s 0 (place_at s 0) l o) m
+finished-open profile slices n s l Ran m out k h x = (suc n, omega arith, lease-there profile slices n s l out k h x)
+finished-open profile slices n s l Starved m out k h x = absurd (false≢true m)
+finished-open profile slices n s l Lost m out k h x = (n, omega arith, home-there profile slices n s h x)
 
-there-on : (slices n : ℕ) (t : SoloMachine) → length (settled t).answers ≤ length t.revisions → (m : ℕ) × (m ≤ suc n) × IsThere slices t m → GoesOneOn slices n (settled t)
-there-on slices n t order (m, low, x) = (m, low, there-settled slices m t (first_empty t.log) refl order x)
+there-on : (profile slices n : ℕ) (t : SoloMachine) → length (settled t).answers ≤ length t.revisions → (m : ℕ) × (m ≤ suc n) × IsThere profile slices t m → GoesOneOn profile slices n (settled t)
+there-on profile slices n t order (m, low, x) = (m, low, there-settled profile slices m t (first_empty t.log) refl order x)
 
-finished-on : (slices n : ℕ) (s : SoloMachine) (out : Option Lease) (o : Outcome) → had_memory o ≡ true → (place_at s 0).out ≡ out → IsSolvingSolo s → IsSolvingSolo (finished s 0 (place_at s 0) out o) → IsAlong slices s n → GoesOneOn slices n (finished s 0 (place_at s 0) out o)
-finished-on slices n s None o m e k after h = (n, omega arith, h)
-finished-on slices n s (Some l) o m e k after h = by_stand h.stands
+finished-on : (profile slices n : ℕ) (s : SoloMachine) (out : Option Lease) (o : Outcome) → had_memory o ≡ true → (place_at s 0).out ≡ out → IsSolvingSolo s → IsSolvingSolo (finished s 0 (place_at s 0) out o) → IsAlong profile slices s n → GoesOneOn profile slices n (finished s 0 (place_at s 0) out o)
+finished-on profile slices n s None o m e k after h = (n, omega arith, h)
+finished-on profile slices n s (Some l) o m e k after h = by_stand h.stands
   where
     c : Course
-    c = course slices s.revisions n
+    c = course profile slices s.revisions n
 
     t : SoloMachine
     t = finished_lease s 0 (place_at s 0) l o
@@ -111,53 +111,54 @@ finished-on slices n s (Some l) o m e k after h = by_stand h.stands
     settled-order None u q = q
     settled-order (Some goal) u q = q
 
-    by_stand : IsOpen s c ⊎ ((goal : ℕ) × IsSettled s c goal) → GoesOneOn slices n (settled t)
-    by_stand (inl x) = there-on slices n t (settled-order (first_empty t.log) t after.order) (finished-open slices n s l o m e k h x)
+    by_stand : IsOpen s c ⊎ ((goal : ℕ) × IsSettled s c goal) → GoesOneOn profile slices n (settled t)
+    by_stand (inl x) = there-on profile slices n t (settled-order (first_empty t.log) t after.order) (finished-open profile slices n s l o m e k h x)
     by_stand (inr (goal, x)) = absurd (let bad : None ≡ Some l = sym x.idle ∙ e in cc)
 
-finish-on : (slices n i : ℕ) (s : SoloMachine) (o : Outcome) → had_memory o ≡ true → IsSolvingSolo s → IsSolvingSolo (solo_step s (Finished i o)) → IsAlong slices s n → GoesOneOn slices n (solo_step s (Finished i o))
-finish-on slices n zero s o m k after h = finished-on slices n s (place_at s 0).out o m refl k after h
-finish-on slices n (suc i) s o m k after h = subst (λ (out : Option Lease). GoesOneOn slices n (finished s (suc i) (place_at s (suc i)) out o)) (sym (h.others i)) (n, omega arith, h)
+finish-on : (profile slices n i : ℕ) (s : SoloMachine) (o : Outcome) → had_memory o ≡ true → IsSolvingSolo s → IsSolvingSolo (solo_step s (Finished i o)) → IsAlong profile slices s n → GoesOneOn profile slices n (solo_step s (Finished i o))
+finish-on profile slices n zero s o m k after h = finished-on profile slices n s (place_at s 0).out o m refl k after h
+finish-on profile slices n (suc i) s o m k after h = subst (λ (out : Option Lease). GoesOneOn profile slices n (finished s (suc i) (place_at s (suc i)) out o)) (sym (h.others i)) (n, omega arith, h)
 
 -- each event of a job that one node runs
-pub step-on : (slices n : ℕ) (s : SoloMachine) (o : Own) → MayHappen s o → is_single o ≡ true → MachineInvariant s → MachineInvariant (solo_step s o) → IsAlong slices s n → GoesOneOn slices n (solo_step s o)
-step-on slices n s (Opened ask) may single k after h = absurd (false≢true single)
-step-on slices n s (Revised r) may single k after h = (n, omega arith, revised-along slices n s r k.solving h)
-step-on slices n s Closed may single k after h = (n, omega arith, record { budget = h.budget; low = h.low; untold = h.untold; some = h.some; others = h.others; went = h.went; stands = same-stand h.stands })
+pub step-on : (profile slices n : ℕ) (s : SoloMachine) (o : Own) → MayHappen s o → is_single o ≡ true → MachineInvariant s → MachineInvariant (solo_step s o) → IsAlong profile slices s n → GoesOneOn profile slices n (solo_step s o)
+step-on profile slices n s (Opened ask) may single k after h = absurd (false≢true single)
+step-on profile slices n s (Revised r) may single k after h = (n, omega arith, revised-along profile slices n s r k.solving h)
+step-on profile slices n s Closed may single k after h = (n, omega arith, record { budget = h.budget; solvers = h.solvers; low = h.low; untold = h.untold; some = h.some; others = h.others; went = h.went; stands = same-stand h.stands })
   where
-    same-stand : IsOpen s (course slices s.revisions n) ⊎ ((goal : ℕ) × IsSettled s (course slices s.revisions n) goal) → IsOpen (record s { closed = true }) (course slices s.revisions n) ⊎ ((goal : ℕ) × IsSettled (record s { closed = true }) (course slices s.revisions n) goal)
+    same-stand : IsOpen s (course profile slices s.revisions n) ⊎ ((goal : ℕ) × IsSettled s (course profile slices s.revisions n) goal) → IsOpen (record s { closed = true }) (course profile slices s.revisions n) ⊎ ((goal : ℕ) × IsSettled (record s { closed = true }) (course profile slices s.revisions n) goal)
     same-stand (inl x) = inl (record { none = x.none; same = x.same; leased = x.leased })
     same-stand (inr (goal, x)) = inr (goal, record { found = x.found; log = x.log; idle = x.idle; all = x.all; come = x.come })
-step-on slices n s (Volume v) may single k after h = (n, omega arith, record { budget = h.budget; low = leb-true v 1 single; untold = h.untold; some = h.some; others = h.others; went = h.went; stands = same-stand h.stands })
+step-on profile slices n s (Volume v) may single k after h = (n, omega arith, record { budget = h.budget; solvers = h.solvers; low = leb-true v 1 single; untold = h.untold; some = h.some; others = h.others; went = h.went; stands = same-stand h.stands })
   where
-    same-stand : IsOpen s (course slices s.revisions n) ⊎ ((goal : ℕ) × IsSettled s (course slices s.revisions n) goal) → IsOpen (record s { volume = v }) (course slices s.revisions n) ⊎ ((goal : ℕ) × IsSettled (record s { volume = v }) (course slices s.revisions n) goal)
+    same-stand : IsOpen s (course profile slices s.revisions n) ⊎ ((goal : ℕ) × IsSettled s (course profile slices s.revisions n) goal) → IsOpen (record s { volume = v }) (course profile slices s.revisions n) ⊎ ((goal : ℕ) × IsSettled (record s { volume = v }) (course profile slices s.revisions n) goal)
     same-stand (inl x) = inl (record { none = x.none; same = x.same; leased = x.leased })
     same-stand (inr (goal, x)) = inr (goal, record { found = x.found; log = x.log; idle = x.idle; all = x.all; come = x.come })
-step-on slices n s (Started i) may single k after h = (n, omega arith, started-on slices n i s may h)
-step-on slices n s (Finished i o) may single k after h = finish-on slices n i s o single k.solving after.solving h
-step-on slices n s Exchanged may single k after h = absurd (false≢true single)
+step-on profile slices n s (Started i) may single k after h = (n, omega arith, started-on profile slices n i s may h)
+step-on profile slices n s (Finished i o) may single k after h = finish-on profile slices n i s o single k.solving after.solving h
+step-on profile slices n s Exchanged may single k after h = absurd (false≢true single)
 
 -- a machine on its course, and what is kept of any machine
-pub record IsFollowing (slices : ℕ) (s : SoloMachine) : Type 0 where
+pub record IsFollowing (profile slices : ℕ) (s : SoloMachine) : Type 0 where
   pub kept : MachineInvariant s
-  pub on : IsOnCourse slices s
+  pub on : IsOnCourse profile slices s
 
-events-follow : (slices : ℕ) (past events : List Own) → IsRunnable past events → list_all is_single events ≡ true → IsFollowing slices (solo past) → IsFollowing slices (solo (past ++ events))
-events-follow slices past [] may single h = subst (λ (es : List Own). IsFollowing slices (solo es)) (sym (append-nil past)) h
-events-follow slices past (o ∷ os) may single h =
+events-follow : (profile slices : ℕ) (past events : List Own) → IsRunnable past events → list_all is_single events ≡ true → IsFollowing profile slices (solo past) → IsFollowing profile slices (solo (past ++ events))
+events-follow profile slices past [] may single h = subst (λ (es : List Own). IsFollowing profile slices (solo es)) (sym (append-nil past)) h
+events-follow profile slices past (o ∷ os) may single h =
     let parts = and_parts (is_single o) (list_all is_single os) single in
     let after : MachineInvariant (solo_step (solo past) o) = step-kept (solo past) o may.0 h.kept in
-    let here : IsFollowing slices (solo_step (solo past) o) = record { kept = after; on = let on : GoesOneOn slices h.on.0 (solo_step (solo past) o) = step-on slices h.on.0 (solo past) o may.0 parts.0 h.kept after h.on.1 in (on.0, on.2) } in
-    let next : IsFollowing slices (solo (past ++ o ∷ [])) = subst (λ (s : SoloMachine). IsFollowing slices s) (sym (fold_push solo_step unopened past o)) here in
-    subst (λ (es : List Own). IsFollowing slices (solo es)) (append_assoc past (o ∷ []) os) (events-follow slices (past ++ o ∷ []) os may.1 parts.1 next)
+    let here : IsFollowing profile slices (solo_step (solo past) o) = record { kept = after; on = let on : GoesOneOn profile slices h.on.0 (solo_step (solo past) o) = step-on profile slices h.on.0 (solo past) o may.0 parts.0 h.kept after h.on.1 in (on.0, on.2) } in
+    let next : IsFollowing profile slices (solo (past ++ o ∷ [])) = subst (λ (s : SoloMachine). IsFollowing profile slices s) (sym (fold_push solo_step unopened past o)) here in
+    subst (λ (es : List Own). IsFollowing profile slices (solo es)) (append_assoc past (o ∷ []) os) (events-follow profile slices (past ++ o ∷ []) os may.1 parts.1 next)
 
-pub opened-follows : (ask : Terms) → IsFollowing ask.slices (solo (Opened ask ∷ []))
+pub opened-follows : (ask : Terms) → IsFollowing ask.profile ask.slices (solo (Opened ask ∷ []))
 opened-follows ask = record {
-  kept = step-kept unopened (Opened ask) tt unopened-kept;
+  kept = opened-kept ask;
   on = (
     0,
     record {
       budget = refl;
+      solvers = refl;
       low = omega arith;
       untold = refl;
       some = omega arith;
@@ -168,38 +169,38 @@ opened-follows ask = record {
   );
 }
 
-single-follows : (ask : Terms) (own : List Own) → IsSingle ask own → IsFollowing ask.slices (solo (Opened ask ∷ own))
-single-follows ask own h = events-follow ask.slices (Opened ask ∷ []) own h.runnable.1 h.single (opened-follows ask)
+single-follows : (ask : Terms) (own : List Own) → IsSingle ask own → IsFollowing ask.profile ask.slices (solo (Opened ask ∷ own))
+single-follows ask own h = events-follow ask.profile ask.slices (Opened ask ∷ []) own h.runnable.1 h.single (opened-follows ask)
 
-pub come-along : (slices n : ℕ) (s : SoloMachine) → IsAlong slices s n → ComeFrom (course slices s.revisions n) s.answers
-come-along slices n s h = by_stand h.stands
+pub come-along : (profile slices n : ℕ) (s : SoloMachine) → IsAlong profile slices s n → ComeFrom (course profile slices s.revisions n) s.answers
+come-along profile slices n s h = by_stand h.stands
   where
-    by_stand : IsOpen s (course slices s.revisions n) ⊎ ((goal : ℕ) × IsSettled s (course slices s.revisions n) goal) → ComeFrom (course slices s.revisions n) s.answers
+    by_stand : IsOpen s (course profile slices s.revisions n) ⊎ ((goal : ℕ) × IsSettled s (course profile slices s.revisions n) goal) → ComeFrom (course profile slices s.revisions n) s.answers
     by_stand (inl x) = subst (λ (c : Course). ComeFrom c s.answers) x.same (come-itself (course_of s))
     by_stand (inr (goal, x)) = x.come
 
 -- two machines on their courses with one budget, where the revisions of one begin with those of the other
-on-agree : (slices : ℕ) (s t : SoloMachine) (more : List Posted) → t.revisions ≡ s.revisions ++ more → IsOnCourse slices s → IsOnCourse slices t → Agree s.answers t.answers
-on-agree slices s t more e (n, h) (m, k) = courses-agree slices (s.revisions ++ more) n m s.answers t.answers (went-more slices s.revisions more n h.went) (subst (λ (rs : List Posted). WentOn slices rs m) e k.went) (subst (λ (c : Course). ComeFrom c s.answers) (sym (course-more slices s.revisions more n h.went)) (come-along slices n s h)) (subst (λ (rs : List Posted). ComeFrom (course slices rs m) t.answers) e (come-along slices m t k)) (le-or_lt n m)
+on-agree : (profile slices : ℕ) (s t : SoloMachine) (more : List Posted) → t.revisions ≡ s.revisions ++ more → IsOnCourse profile slices s → IsOnCourse profile slices t → Agree s.answers t.answers
+on-agree profile slices s t more e (n, h) (m, k) = courses-agree profile slices (s.revisions ++ more) n m s.answers t.answers (went-more profile slices s.revisions more n h.went) (subst (λ (rs : List Posted). WentOn profile slices rs m) e k.went) (subst (λ (c : Course). ComeFrom c s.answers) (sym (course-more profile slices s.revisions more n h.went)) (come-along profile slices n s h)) (subst (λ (rs : List Posted). ComeFrom (course profile slices rs m) t.answers) e (come-along profile slices m t k)) (le-or_lt n m)
 
 -- the log of one begins with that of the other
-pub log-along : (slices n : ℕ) (s : SoloMachine) → IsAlong slices s n → s.log ≡ (course slices s.revisions n).log
-log-along slices n s h = by_stand h.stands
+pub log-along : (profile slices n : ℕ) (s : SoloMachine) → IsAlong profile slices s n → s.log ≡ (course profile slices s.revisions n).log
+log-along profile slices n s h = by_stand h.stands
   where
-    by_stand : IsOpen s (course slices s.revisions n) ⊎ ((goal : ℕ) × IsSettled s (course slices s.revisions n) goal) → s.log ≡ (course slices s.revisions n).log
+    by_stand : IsOpen s (course profile slices s.revisions n) ⊎ ((goal : ℕ) × IsSettled s (course profile slices s.revisions n) goal) → s.log ≡ (course profile slices s.revisions n).log
     by_stand (inl x) = ap (λ (c : Course). c.log) x.same
     by_stand (inr (goal, x)) = x.log
 
-on-logs : (slices : ℕ) (s t : SoloMachine) (more : List Posted) → t.revisions ≡ s.revisions ++ more → IsOnCourse slices s → IsOnCourse slices t → IsFront s.log t.log ⊎ IsFront t.log s.log
-on-logs slices s t more e (n, h) (m, k) = courses-logs slices (s.revisions ++ more) n m s.log t.log (log-along slices n s h ∙ ap (λ (c : Course). c.log) (sym (course-more slices s.revisions more n h.went))) (log-along slices m t k ∙ ap (λ (rs : List Posted). (course slices rs m).log) e) (le-or_lt n m)
+on-logs : (profile slices : ℕ) (s t : SoloMachine) (more : List Posted) → t.revisions ≡ s.revisions ++ more → IsOnCourse profile slices s → IsOnCourse profile slices t → IsFront s.log t.log ⊎ IsFront t.log s.log
+on-logs profile slices s t more e (n, h) (m, k) = courses-logs profile slices (s.revisions ++ more) n m s.log t.log (log-along profile slices n s h ∙ ap (λ (c : Course). c.log) (sym (course-more profile slices s.revisions more n h.went))) (log-along profile slices m t k ∙ ap (λ (rs : List Posted). (course profile slices rs m).log) e) (le-or_lt n m)
 
-following-agree : (slices : ℕ) (s t : SoloMachine) (more : List Posted) → t.revisions ≡ s.revisions ++ more → IsFollowing slices s → IsFollowing slices t → AgreeAll s t
-following-agree slices s t more e h k =
-    let agree : Agree s.answers t.answers = on-agree slices s t more e h.on k.on in
-    record { answers = agree; replies = replies-agree s t more e h.kept k.kept (on-logs slices s t more e h.on k.on) agree }
+following-agree : (profile slices : ℕ) (s t : SoloMachine) (more : List Posted) → t.revisions ≡ s.revisions ++ more → IsFollowing profile slices s → IsFollowing profile slices t → AgreeAll s t
+following-agree profile slices s t more e h k =
+    let agree : Agree s.answers t.answers = on-agree profile slices s t more e h.on k.on in
+    record { answers = agree; replies = replies-agree s t more e (h.on.1.solvers ∙ sym k.on.1.solvers) h.kept k.kept (on-logs profile slices s t more e h.on k.on) agree }
 
 pub singles-agree : SinglesAgree
-singles-agree ask asked own others more budget one other front = following-agree ask.slices (solo (Opened ask ∷ own)) (solo (Opened asked ∷ others)) more front (single-follows ask own one) (subst (λ (k : ℕ). IsFollowing k (solo (Opened asked ∷ others))) (sym budget) (single-follows asked others other))
+singles-agree ask asked own others more budget solvers one other front = following-agree ask.profile ask.slices (solo (Opened ask ∷ own)) (solo (Opened asked ∷ others)) more front (single-follows ask own one) (subst (λ (p : ℕ). IsFollowing p ask.slices (solo (Opened asked ∷ others))) (sym solvers) (subst (λ (k : ℕ). IsFollowing asked.profile k (solo (Opened asked ∷ others))) (sym budget) (single-follows asked others other)))
 
 pub none-is_due : NoneIsDue
 none-is_due s low =

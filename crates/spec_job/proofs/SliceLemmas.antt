@@ -49,9 +49,9 @@ conclude-course (Some Satisfiable) n s = refl
 conclude-course (Some (Unsatisfiable goal)) n s = refl
 
 -- a slice of the one node that goes on with its course
-module _ (slices n : ℕ) (s : SoloMachine) (k : IsSolvingSolo s) (h : IsAlong slices s n) (stand : IsOpen s (course slices s.revisions n)) (live : length (course slices s.revisions n).answers < length s.revisions) where
+module _ (profile slices n : ℕ) (s : SoloMachine) (k : IsSolvingSolo s) (h : IsAlong profile slices s n) (stand : IsOpen s (course profile slices s.revisions n)) (live : length (course profile slices s.revisions n).answers < length s.revisions) where
   abbrev c : Course
-  c = course slices s.revisions n
+  c = course profile slices s.revisions n
 
   abbrev p : NodeSlot
   p = place_at s 0
@@ -66,7 +66,7 @@ module _ (slices n : ℕ) (s : SoloMachine) (k : IsSolvingSolo s) (h : IsAlong s
   q = record p { entries = p.entries ++ adds; out = None }
 
   abbrev ran : Sliced
-  ran = replay 0 (p.entries ++ adds)
+  ran = replay s.ask.profile 0 (p.entries ++ adds)
 
   abbrev home : SoloMachine
   home = record (with_place s 0 q) { log = s.log ++ ran.lines; ran = s.ran + 1 }
@@ -90,18 +90,19 @@ module _ (slices n : ℕ) (s : SoloMachine) (k : IsSolvingSolo s) (h : IsAlong s
   at-home : course_of home ≡ record { entries = p.entries ++ adds; log = s.log ++ ran.lines; answers = s.answers; spent = s.spent }
   at-home = ap (λ (x : NodeSlot). record { entries = x.entries; log = s.log ++ ran.lines; answers = s.answers; spent = s.spent }) here
 
-  same : course_of t ≡ course slices s.revisions (suc n)
-  same = conclude-course ran.node.verdict ran.node home ∙ (ap (λ (x : ℕ). concluded ran.node.verdict ran.node x (course_of home)) h.budget ∙ (ap (concluded ran.node.verdict ran.node slices) at-home ∙ ap (ran_on slices adds) stand.same))
+  same : course_of t ≡ course profile slices s.revisions (suc n)
+  same = conclude-course ran.node.verdict ran.node home ∙ (ap (λ (x : ℕ). concluded ran.node.verdict ran.node x (course_of home)) h.budget ∙ (ap (concluded ran.node.verdict ran.node slices) at-home ∙ (ap (λ (x : ℕ). ran_on x slices adds (course_of s)) h.solvers ∙ ap (ran_on profile slices adds) stand.same)))
 
-  there : IsThere slices t (suc n)
+  there : IsThere profile slices t (suc n)
   there = record {
     budget = ap (λ (a : Terms). a.slices) rest.ask ∙ h.budget;
+    solvers = ap (λ (a : Terms). a.profile) rest.ask ∙ h.solvers;
     low = subst (λ (v : ℕ). v ≤ 1) (sym rest.volume) h.low;
     untold = rest.broadcasts ∙ h.untold;
     some = subst (λ (ps : List NodeSlot). 1 ≤ length ps) (sym rest.places) (some-stay s.places q h.some);
     others = λ i. subst (λ (ps : List NodeSlot). (get_or ps (suc i) vacant).out ≡ None) (sym rest.places) (others-stay s.places q h.others i);
-    went = subst (λ (rs : List Posted). WentOn slices rs (suc n)) (sym rest.revisions) (h.went, on);
-    same = subst (λ (rs : List Posted). course_of t ≡ course slices rs (suc n)) (sym rest.revisions) same;
+    went = subst (λ (rs : List Posted). WentOn profile slices rs (suc n)) (sym rest.revisions) (h.went, on);
+    same = subst (λ (rs : List Posted). course_of t ≡ course profile slices rs (suc n)) (sym rest.revisions) same;
     idle = subst (λ (ps : List NodeSlot). (get_or ps 0 vacant).out ≡ None) (sym rest.places) (ap (λ (x : NodeSlot). x.out) here);
   }
 
@@ -110,22 +111,23 @@ module _ (slices n : ℕ) (s : SoloMachine) (k : IsSolvingSolo s) (h : IsAlong s
       let equal : length s.answers ≡ length c.answers = ap (λ (x : Course). length x.answers) stand.same in
       le-ltb (length c.answers) (length s.answers) (omega arith)
 
-  ran-there : IsThere slices (finished_ran s 0 (place_at s 0) lease) (suc n)
-  ran-there = subst (λ (b : Bool). IsThere slices (cond b home t) (suc n)) (sym in-time) there
+  ran-there : IsThere profile slices (finished_ran s 0 (place_at s 0) lease) (suc n)
+  ran-there = subst (λ (b : Bool). IsThere profile slices (cond b home t) (suc n)) (sym in-time) there
 
 -- so does a slice of its start that is out
-pub lease-there : (slices n : ℕ) (s : SoloMachine) (l : Lease) → (place_at s 0).out ≡ Some l → IsSolvingSolo s → IsAlong slices s n → IsOpen s (course slices s.revisions n) → IsThere slices (finished_ran s 0 (place_at s 0) l) (suc n)
-lease-there slices n s l out k h stand =
+pub lease-there : (profile slices n : ℕ) (s : SoloMachine) (l : Lease) → (place_at s 0).out ≡ Some l → IsSolvingSolo s → IsAlong profile slices s n → IsOpen s (course profile slices s.revisions n) → IsThere profile slices (finished_ran s 0 (place_at s 0) l) (suc n)
+lease-there profile slices n s l out k h stand =
     let goes = stand.leased l out in
-    subst (λ (x : Lease). IsThere slices (finished_ran s 0 (place_at s 0) x) (suc n)) (sym goes.1) (ran-there slices n s k h stand goes.0)
+    subst (λ (x : Lease). IsThere profile slices (finished_ran s 0 (place_at s 0) x) (suc n)) (sym goes.1) (ran-there profile slices n s k h stand goes.0)
 
 -- a start that comes to nothing leaves the course
-pub home-there : (slices n : ℕ) (s : SoloMachine) → IsAlong slices s n → IsOpen s (course slices s.revisions n) → IsThere slices (finished_home s 0 (place_at s 0)) n
-home-there slices n s h stand =
+pub home-there : (profile slices n : ℕ) (s : SoloMachine) → IsAlong profile slices s n → IsOpen s (course profile slices s.revisions n) → IsThere profile slices (finished_home s 0 (place_at s 0)) n
+home-there profile slices n s h stand =
     let q : NodeSlot = record (place_at s 0) { out = None } in
     let here : get_or (slice_set s.places 0 q) 0 vacant ≡ q = set-first s.places q h.some in
     record {
       budget = h.budget;
+      solvers = h.solvers;
       low = h.low;
       untold = h.untold;
       some = some-stay s.places q h.some;

@@ -4,6 +4,7 @@ use Rattle.std.specs.List.{list_all}
 use Rattle.std.proofs.lemmas.Bool.{and_parts, ltb-false}
 use Rattle.std.proofs.lemmas.List.Elements.{All-nil}
 use Rattle.std.proofs.lemmas.Option.{slice_get_within}
+use Rattle.mal_base.specs.Asks.{Terms}
 use Rattle.mal_base.specs.declared.answer.Answer.TheVariants.{Satisfied, Refuted, Spent, OutOfStarts}
 use Rattle.mal_base.specs.declared.verdict.Verdict.{Verdict}
 use Rattle.mal_base.specs.declared.verdict.Verdict.TheVariants.{Satisfiable, Unsatisfiable}
@@ -27,7 +28,7 @@ spend-solving : (s : SoloMachine) → length s.answers < length s.revisions → 
 spend-solving s live h = by_test (s.spent + 1 == s.ask.slices)
   where
     by_test : (b : Bool) → IsSolvingSolo (cond b (answered s (Spent s.ask.slices)) (record s { spent = s.spent + 1 }))
-    by_test true = answered-solving s.revisions s.answers s.places (Spent s.ask.slices) live (λ model e. absurd (cc)) h
+    by_test true = answered-solving s.ask.profile s.revisions s.answers s.places (Spent s.ask.slices) live (λ model e. absurd (cc)) h
     by_test false = h
 
 -- so does the third start that reported want of memory
@@ -35,25 +36,25 @@ starve-solving : (s : SoloMachine) → length s.answers < length s.revisions →
 starve-solving s live h = by_test (s.starved + 1 == 3)
   where
     by_test : (b : Bool) → IsSolvingSolo (cond b (answered s OutOfStarts) (record s { starved = s.starved + 1 }))
-    by_test true = answered-solving s.revisions s.answers s.places OutOfStarts live (λ model e. absurd (cc)) h
+    by_test true = answered-solving s.ask.profile s.revisions s.answers s.places OutOfStarts live (λ model e. absurd (cc)) h
     by_test false = h
 
 -- a verdict answers the current revision, a satisfiable one with the node's model
 conclude-solving : (v : Option Verdict) (n : Node) (s : SoloMachine) → length s.answers < length s.revisions → (v ≡ Some Satisfiable → Solves (take (length s.answers + 1) s.revisions) (model_of n)) → IsSolvingSolo s → IsSolvingSolo (conclude v n s)
 conclude-solving None n s live good h = spend-solving s live h
-conclude-solving (Some Satisfiable) n s live good h = answered-solving s.revisions s.answers s.places (Satisfied (model_of n)) live (λ model e. let same : model_of n ≡ model = cc in subst (λ (m : List Bool). Solves (take (length s.answers + 1) s.revisions) m) same (good refl)) h
-conclude-solving (Some (Unsatisfiable goal)) n s live good h = answered-solving s.revisions s.answers s.places (Refuted goal) live (λ model e. absurd (cc)) h
+conclude-solving (Some Satisfiable) n s live good h = answered-solving s.ask.profile s.revisions s.answers s.places (Satisfied (model_of n)) live (λ model e. let same : model_of n ≡ model = cc in subst (λ (m : List Bool). Solves (take (length s.answers + 1) s.revisions) m) same (good refl)) h
+conclude-solving (Some (Unsatisfiable goal)) n s live good h = answered-solving s.ask.profile s.revisions s.answers s.places (Refuted goal) live (λ model e. absurd (cc)) h
 
 -- a place at home with the entries that its start added
-pub home-ready : (revisions : List Posted) (c i : ℕ) (p : NodeSlot) (l : Lease) → IsLeased revisions c i p.entries l → IsReady revisions c i (record p { entries = p.entries ++ l.adds; out = None })
-home-ready revisions c i p l k =
+pub home-ready : (profile : ℕ) (revisions : List Posted) (c i : ℕ) (p : NodeSlot) (l : Lease) → IsLeased profile revisions c i p.entries l → IsReady profile revisions c i (record p { entries = p.entries ++ l.adds; out = None })
+home-ready profile revisions c i p l k =
     let reached : l.revision ≤ c = k.reached in
     let posted : l.revision < length revisions = k.posted in
     let loads : loads_in (p.entries ++ l.adds) ≡ l.revision + 1 = k.loads in
     record {
       early = omega arith;
       posted = omega arith;
-      node = subst (λ (m : ℕ). HasLoaded (take m revisions) (replay i (p.entries ++ l.adds)).node) (sym loads) k.node;
+      node = subst (λ (m : ℕ). HasLoaded (take m revisions) (replay profile i (p.entries ++ l.adds)).node) (sym loads) k.node;
       leased = λ x e. absurd (cc);
     }
 
@@ -68,17 +69,17 @@ ran-solving s i l out h = by_late (is_late s l) refl
     p : NodeSlot
     p = place_at s i
 
-    leased : IsLeased s.revisions (length s.answers) i p.entries l
+    leased : IsLeased s.ask.profile s.revisions (length s.answers) i p.entries l
     leased = out-leased s i l out h
 
     node : Node
-    node = (replay i (p.entries ++ l.adds)).node
+    node = (replay s.ask.profile i (p.entries ++ l.adds)).node
 
     home : SoloMachine
-    home = record (with_place s i (record p { entries = p.entries ++ l.adds; out = None })) { log = s.log ++ (replay i (p.entries ++ l.adds)).lines; ran = s.ran + 1 }
+    home = record (with_place s i (record p { entries = p.entries ++ l.adds; out = None })) { log = s.log ++ (replay s.ask.profile i (p.entries ++ l.adds)).lines; ran = s.ran + 1 }
 
     at_home : IsSolvingSolo home
-    at_home = placed-solving s.revisions s.answers s.places i (record p { entries = p.entries ++ l.adds; out = None }) (λ low. home-ready s.revisions (length s.answers) i p l leased) h
+    at_home = placed-solving s.ask.profile s.revisions s.answers s.places i (record p { entries = p.entries ++ l.adds; out = None }) (λ low. home-ready s.ask.profile s.revisions (length s.answers) i p l leased) h
 
     by_late : (b : Bool) → is_late s l ≡ b → IsSolvingSolo (cond b home (conclude node.verdict node home))
     by_late true e = at_home
@@ -91,14 +92,14 @@ ran-solving s i l out h = by_late (is_late s l) refl
 pub idle-solving : (s : SoloMachine) (i : ℕ) → IsSolvingSolo s → IsSolvingSolo (finished_home s i (place_at s i))
 idle-solving s i h =
     let p : NodeSlot = place_at s i in
-    placed-solving s.revisions s.answers s.places i (record p { out = None }) (λ low.
-    let ready : IsReady s.revisions (length s.answers) i p = h.ready i low in
+    placed-solving s.ask.profile s.revisions s.answers s.places i (record p { out = None }) (λ low.
+    let ready : IsReady s.ask.profile s.revisions (length s.answers) i p = h.ready i low in
     record { early = ready.early; posted = ready.posted; node = ready.node; leased = λ l e. absurd (cc) }) h
 
 starved-solving : (s : SoloMachine) (i : ℕ) (l : Lease) → (place_at s i).out ≡ Some l → IsSolvingSolo s → IsSolvingSolo (finished_lease s i (place_at s i) l Starved)
 starved-solving s i l out h = by_late (is_late s l) refl
   where
-    leased : IsLeased s.revisions (length s.answers) i (place_at s i).entries l
+    leased : IsLeased s.ask.profile s.revisions (length s.answers) i (place_at s i).entries l
     leased = out-leased s i l out h
 
     by_late : (b : Bool) → is_late s l ≡ b → IsSolvingSolo (cond b (finished_home s i (place_at s i)) (starve (finished_home s i (place_at s i))))
@@ -119,26 +120,26 @@ finished-solving : (s : SoloMachine) (i : ℕ) (out : Option Lease) (o : Outcome
 finished-solving s i None o e h = h
 finished-solving s i (Some l) o e h = let ended : SoloMachine = finished_lease s i (place_at s i) l o in settled-solving (first_empty ended.log) ended (lease-solving s i l o e h)
 
+-- the machine that is opened
+pub opened-solving : (ask : Terms) → IsSolvingSolo (record unopened { ask = ask })
+opened-solving ask = record {
+  loadable = All-nil IsLoadable;
+  room = omega arith;
+  order = omega arith;
+  count = omega arith;
+  ready = λ i low. subst (λ (p : NodeSlot). IsReady ask.profile [] 0 i p) (sym (get-vacant 64 i)) (record { early = omega arith; posted = omega arith; node = fresh-loaded ask.profile i low; leased = λ l e. absurd (cc) });
+  solved = λ r model e. absurd (cc);
+}
+
 -- each event that may happen
 pub step-solving : (s : SoloMachine) (o : Own) → MayHappen s o → MayLease s → IsSolvingSolo s → IsSolvingSolo (solo_step s o)
-step-solving s (Opened ask) may leases h = h
+step-solving s (Opened ask) may leases h = subst (λ (x : SoloMachine). IsSolvingSolo (record x { ask = ask })) (sym may) (opened-solving ask)
 step-solving s (Revised r) may leases h = revised-solving s r may h
 step-solving s Closed may leases h = h
 step-solving s (Volume v) may leases h = h
 step-solving s (Started i) may leases h = started-solving s i may leases h
 step-solving s (Finished i o) may leases h = finished-solving s i (place_at s i).out o refl h
 step-solving s Exchanged may leases h = exchanged-solving s h
-
--- the machine before its first event
-pub unopened-solving : IsSolvingSolo unopened
-unopened-solving = record {
-  loadable = All-nil IsLoadable;
-  room = omega arith;
-  order = omega arith;
-  count = omega arith;
-  ready = λ i low. subst (λ (p : NodeSlot). IsReady [] 0 i p) (sym (get-vacant 64 i)) (record { early = omega arith; posted = omega arith; node = fresh-loaded i low; leased = λ l e. absurd (cc) });
-  solved = λ r model e. absurd (cc);
-}
 
 -- the satisfiable answers of a machine that solves carry models of their revisions
 pub solving-answers : (s : SoloMachine) → IsSolvingSolo s → AnswersSolve s

@@ -44,7 +44,7 @@ settled-stays (Some goal) s = record { more = replicate (length s.revisions - le
 
 lease-stays : (s : SoloMachine) (i : ℕ) (p : NodeSlot) (l : Lease) (o : Outcome) → KeepsAnswers s (finished_lease s i p l o)
 lease-stays s i p l Ran =
-    let slice : Sliced = replay i (p.entries ++ l.adds) in
+    let slice : Sliced = replay s.ask.profile i (p.entries ++ l.adds) in
     let node : Node = slice.node in
     let home : SoloMachine = record (with_place s i (record p { entries = p.entries ++ l.adds; out = None })) { log = s.log ++ slice.lines; ran = s.ran + 1 } in
     let same : KeepsAnswers s home = record { more = []; kept = sym (append-nil s.answers) } in

@@ -37,7 +37,7 @@ settled-keeps (Some goal) s h k = record { ask = k.ask; volume = k.volume; revis
 ran-keeps : (s : SoloMachine) (i : ℕ) (p : NodeSlot) (l : Lease) → KeepsTerms s (finished_ran s i p l)
 ran-keeps s i p l =
     let entries = p.entries ++ l.adds in
-    let slice : Sliced = replay i entries in
+    let slice : Sliced = replay s.ask.profile i entries in
     let node : Node = slice.node in
     let home : SoloMachine = record (with_place s i (record p { entries = entries; out = None })) { log = s.log ++ slice.lines; ran = s.ran + 1 } in
     let keeps : KeepsTerms s home = record { ask = refl; volume = refl; revisions = refl; closed = refl } in

@@ -1,15 +1,15 @@
 -- What the log of a job knows of its nodes.
 use Rattle.std.proofs.Common.{◌≡◌, ◌≢◌, ℕ, zero, suc, ◌+◌, ◌-◌, ◌*◌, ◌<◌, ◌≤◌, ◌^◌, true, nat_lt, List, [], ◌∷◌, ◌++◌, length, take, drop, fold, Option, Some, None, refl, sym, ◌∙◌, subst, ap, inl, inr, ◌⊎◌, arith, take-add}
-use Rattle.std.specs.Prelude.{All}
+use Rattle.std.specs.Prelude.{All, Contains}
 use Rattle.std.proofs.lemmas.Bool.{lt-ltb, cases_lt}
 use Rattle.std.proofs.lemmas.List.{take-append-drop}
 use Rattle.std.proofs.lemmas.List.Concat.{flat_map-append}
-use Rattle.std.proofs.lemmas.List.Elements.{All-weaker}
+use Rattle.std.proofs.lemmas.List.Elements.{All-weaker, All-contains}
 use Rattle.std.proofs.lemmas.List.Sums.{sum_by-take-le}
 use Rattle.mal_base.specs.NumberedClause.{NumberedClause, Line}
 use Rattle.mal_revision.specs.Posted.{Posted}
 use Rattle.spec_logic.specs.Refutation.{numbered}
-use Rattle.spec_node.specs.State.{Node, fresh}
+use Rattle.spec_node.specs.State.{Node, fresh_with}
 use Rattle.spec_node.specs.Load.{loaded, numbered as numbered_from}
 use Rattle.spec_node.specs.Sound.{IsSound}
 use Rattle.spec_node.specs.Laws.{originals}
@@ -17,7 +17,7 @@ use Rattle.spec_node.proofs.LoadLemmas.{All-with_originals, numbered-below}
 use Rattle.spec_search.specs.Slice.{Sliced, slice}
 use Rattle.spec_search.specs.Derived.{with_lines}
 use Rattle.spec_search.specs.Laws.{IsCounted, AreNumbered}
-use Rattle.spec_search.proofs.LineLemmas.{lines-derived, lines-held, lines-counted}
+use Rattle.spec_search.proofs.LineLemmas.{lines-derived, held-of_lines, lines-counted}
 use Rattle.spec_proof.specs.Log.{IsLog}
 use Rattle.spec_proof.proofs.Among.{Among, among-append}
 use Rattle.spec_proof.proofs.Growing.{log-takes-originals, numbered-within}
@@ -85,8 +85,8 @@ logged-later log more i n others h = record {
     by_side line k q (inr m) = absurd (others line k m q)
 
 -- the node at its first start
-pub fresh-logged : (i : ℕ) → IsLogged [] i (fresh i)
-fresh-logged i = record { index = refl; held = λ k d h. absurd (omega arith); before = λ line k m q. absurd m }
+pub fresh-logged : (profile i : ℕ) → IsLogged [] i (fresh_with i profile)
+fresh-logged profile i = record { index = refl; held = λ k d h. absurd (omega arith); before = λ line k m q. absurd m }
 
 -- a load changes nothing
 loaded-logged : (log : List Line) (i : ℕ) (r : Posted) (first : ℕ) (n : Node) → first + length r.clauses ≤ 2 ^ 32 → IsLogged log i n → IsLogged log i (loaded r first n)
@@ -142,7 +142,13 @@ slice-covers revisions log m k i n few low is closed sound held h =
     let counted : IsCounted n = lines-counted n in
     let all : Covers (clauses_of (take k revisions)) (log ++ (slice n).lines) i (n.serial + length (slice n).lines) (with_lines n.clauses (slice n).lines) =
     take-lines (clauses_of (take k revisions)) log i n.serial n.clauses (slice n).lines few (covers-node revisions log m k i n low is closed held h) (lines-derived n sound) (subst (λ (j : ℕ). AreNumbered n.serial j (slice n).lines) h.index counted.numbered) in
-    subst (λ (hs : List NumberedClause). Covers (clauses_of (take k revisions)) (log ++ (slice n).lines) i (slice n).node.serial hs) (sym (lines-held n)) (subst (λ (x : ℕ). Covers (clauses_of (take k revisions)) (log ++ (slice n).lines) i x (with_lines n.clauses (slice n).lines)) (sym counted.serial) all)
+    let known : NumberedClause → Type 0 = IsKnown (clauses_of (take k revisions)) (log ++ (slice n).lines) in
+    record {
+      derived = all.derived;
+      closed = all.closed;
+      known = All-weaker (Contains (with_lines n.clauses (slice n).lines)) known (λ c m. All-contains known (with_lines n.clauses (slice n).lines) c all.known m) (slice n).node.clauses (held-of_lines n sound);
+      before = subst (λ (x : ℕ). (line : Line) (m : ℕ) → Among line (log ++ (slice n).lines) → line.id ≡ 2 ^ 32 + m * 64 + i → m < x) (sym counted.serial) all.before;
+    }
 
 pub covers-logged : (clauses : List (Option (List ℕ))) (log : List Line) (i : ℕ) (n : Node) → n.index ≡ i → Covers clauses log i n.serial n.clauses → IsLogged log i n
 covers-logged clauses log i n e h = record {

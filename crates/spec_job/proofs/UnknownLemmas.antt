@@ -228,7 +228,7 @@ module _ (slices i : ℕ) (es : List Ending) (s : SoloMachine) (l : Lease) (o : 
       q = record (place_at s i) { entries = (place_at s i).entries ++ l.adds; out = None }
 
       slice : Sliced
-      slice = replay i q.entries
+      slice = replay s.ask.profile i q.entries
 
       log : List Line
       log = s.log ++ slice.lines

@@ -68,7 +68,7 @@ conclude-grown (Some (Unsatisfiable goal)) n s h k = record { lines = k.lines; l
 
 lease-grown : (s : SoloMachine) (i : ℕ) (p : NodeSlot) (l : Lease) (o : Outcome) → HasGrown s (finished_lease s i p l o)
 lease-grown s i p l Ran =
-    let slice : Sliced = replay i (p.entries ++ l.adds) in
+    let slice : Sliced = replay s.ask.profile i (p.entries ++ l.adds) in
     let home : SoloMachine = record (with_place s i (record p { entries = p.entries ++ l.adds; out = None })) { log = s.log ++ slice.lines; ran = s.ran + 1 } in
     let grown : HasGrown s home = record { lines = slice.lines; log = refl; more = []; revisions = sym (append-nil s.revisions) } in
     either-grown (is_late s l) s home (conclude slice.node.verdict slice.node home) grown (conclude-grown slice.node.verdict slice.node s home grown)
@@ -107,20 +107,20 @@ concluded-entries None n slices c = by_test (c.spent + 1 == slices)
 concluded-entries (Some Satisfiable) n slices c = refl
 concluded-entries (Some (Unsatisfiable goal)) n slices c = refl
 
-module _ (slices : ℕ) (revisions : List Posted) (n : ℕ) where
+module _ (profile slices : ℕ) (revisions : List Posted) (n : ℕ) where
   abbrev c : Course
-  c = course slices revisions n
+  c = course profile slices revisions n
 
   abbrev ran : Sliced
-  ran = replay 0 (c.entries ++ next_adds revisions c)
+  ran = replay profile 0 (c.entries ++ next_adds revisions c)
 
   abbrev before : Course
   before = record c { entries = c.entries ++ next_adds revisions c; log = c.log ++ ran.lines }
 
-  pub more-answers : length (course slices revisions n).answers ≤ length (course slices revisions (suc n)).answers
+  pub more-answers : length (course profile slices revisions n).answers ≤ length (course profile slices revisions (suc n)).answers
   more-answers = concluded-more ran.node.verdict ran.node slices before
 
-  pub next-loads : loads_in (course slices revisions n).entries ≤ length (course slices revisions n).answers + 1 → loads_in (course slices revisions (suc n)).entries ≤ length (course slices revisions (suc n)).answers + 1
+  pub next-loads : loads_in (course profile slices revisions n).entries ≤ length (course profile slices revisions n).answers + 1 → loads_in (course profile slices revisions (suc n)).entries ≤ length (course profile slices revisions (suc n)).answers + 1
   next-loads low =
       let k : ℕ = loads_in c.entries in
       let m : ℕ = length c.answers + 1 - k in
@@ -130,59 +130,59 @@ module _ (slices : ℕ) (revisions : List Posted) (n : ℕ) where
       let adds : loads_in (next_adds revisions c) ≡ loads_in (loads_of first new) + 0 = loads_in-append (loads_of first new) (Run ∷ []) in
       let count : loads_in (loads_of first new) ≡ length new = loads_in-loads first new in
       let taken : length new ≡ min m (length (drop k revisions)) = length-take m (drop k revisions) in
-      let same : loads_in (course slices revisions (suc n)).entries ≡ loads_in (c.entries ++ next_adds revisions c) = ap loads_in (concluded-entries ran.node.verdict ran.node slices before) in
+      let same : loads_in (course profile slices revisions (suc n)).entries ≡ loads_in (c.entries ++ next_adds revisions c) = ap loads_in (concluded-entries ran.node.verdict ran.node slices before) in
       omega (arith, low, all, adds, count, taken, same, more-answers)
 
-course-loads : (slices : ℕ) (revisions : List Posted) (n : ℕ) → loads_in (course slices revisions n).entries ≤ length (course slices revisions n).answers + 1
-course-loads slices revisions zero = omega arith
-course-loads slices revisions (suc n) = next-loads slices revisions n (course-loads slices revisions n)
+course-loads : (profile slices : ℕ) (revisions : List Posted) (n : ℕ) → loads_in (course profile slices revisions n).entries ≤ length (course profile slices revisions n).answers + 1
+course-loads profile slices revisions zero = omega arith
+course-loads profile slices revisions (suc n) = next-loads profile slices revisions n (course-loads profile slices revisions n)
 
-answers-mono : (slices : ℕ) (revisions : List Posted) (j n : ℕ) → j ≤ n → length (course slices revisions j).answers ≤ length (course slices revisions n).answers
-answers-mono slices revisions zero zero low = omega arith
-answers-mono slices revisions (suc j) zero low = absurd (omega (arith, low))
-answers-mono slices revisions j (suc n) low = by_order (cases_lt j (suc n)) (λ less. answers-mono slices revisions j n (omega (arith, less)))
+answers-mono : (profile slices : ℕ) (revisions : List Posted) (j n : ℕ) → j ≤ n → length (course profile slices revisions j).answers ≤ length (course profile slices revisions n).answers
+answers-mono profile slices revisions zero zero low = omega arith
+answers-mono profile slices revisions (suc j) zero low = absurd (omega (arith, low))
+answers-mono profile slices revisions j (suc n) low = by_order (cases_lt j (suc n)) (λ less. answers-mono profile slices revisions j n (omega (arith, less)))
   where
-    by_order : (j < suc n) ⊎ (suc n ≤ j) → (j < suc n → length (course slices revisions j).answers ≤ length (course slices revisions n).answers) → length (course slices revisions j).answers ≤ length (course slices revisions (suc n)).answers
-    by_order (inl less) rest = let more : length (course slices revisions n).answers ≤ length (course slices revisions (suc n)).answers = more-answers slices revisions n in omega (arith, more, rest less)
-    by_order (inr high) rest = let same : j ≡ suc n = omega (arith, high, low) in subst (λ (k : ℕ). length (course slices revisions j).answers ≤ length (course slices revisions k).answers) same (omega arith)
+    by_order : (j < suc n) ⊎ (suc n ≤ j) → (j < suc n → length (course profile slices revisions j).answers ≤ length (course profile slices revisions n).answers) → length (course profile slices revisions j).answers ≤ length (course profile slices revisions (suc n)).answers
+    by_order (inl less) rest = let more : length (course profile slices revisions n).answers ≤ length (course profile slices revisions (suc n)).answers = more-answers profile slices revisions n in omega (arith, more, rest less)
+    by_order (inr high) rest = let same : j ≡ suc n = omega (arith, high, low) in subst (λ (k : ℕ). length (course profile slices revisions j).answers ≤ length (course profile slices revisions k).answers) same (omega arith)
 
-went-down : (slices : ℕ) (revisions : List Posted) (j n : ℕ) → j ≤ n → WentOn slices revisions n → WentOn slices revisions j
-went-down slices revisions zero n low w = tt
-went-down slices revisions (suc j) zero low w = absurd (omega (arith, low))
-went-down slices revisions (suc j) (suc n) low w = by_order (cases_lt (suc j) (suc n)) (λ less. went-down slices revisions (suc j) n (omega (arith, less)) w.0)
+went-down : (profile slices : ℕ) (revisions : List Posted) (j n : ℕ) → j ≤ n → WentOn profile slices revisions n → WentOn profile slices revisions j
+went-down profile slices revisions zero n low w = tt
+went-down profile slices revisions (suc j) zero low w = absurd (omega (arith, low))
+went-down profile slices revisions (suc j) (suc n) low w = by_order (cases_lt (suc j) (suc n)) (λ less. went-down profile slices revisions (suc j) n (omega (arith, less)) w.0)
   where
-    by_order : (suc j < suc n) ⊎ (suc n ≤ suc j) → (suc j < suc n → WentOn slices revisions (suc j)) → WentOn slices revisions (suc j)
+    by_order : (suc j < suc n) ⊎ (suc n ≤ suc j) → (suc j < suc n → WentOn profile slices revisions (suc j)) → WentOn profile slices revisions (suc j)
     by_order (inl less) rest = rest less
-    by_order (inr high) rest = let same : n ≡ j = omega (arith, high, low) in subst (λ (k : ℕ). WentOn slices revisions (suc k)) same w
+    by_order (inr high) rest = let same : n ≡ j = omega (arith, high, low) in subst (λ (k : ℕ). WentOn profile slices revisions (suc k)) same w
 
 -- a course goes on by the revisions up to one that it has not answered before its last slice
-abbrev HasLeft : ℕ → List Posted → ℕ → ℕ → Type 0
-HasLeft slices revisions r zero = Unit {0}
-HasLeft slices revisions r (suc n) = length (course slices revisions n).answers ≤ r
+abbrev HasLeft : ℕ → ℕ → List Posted → ℕ → ℕ → Type 0
+HasLeft profile slices revisions r zero = Unit {0}
+HasLeft profile slices revisions r (suc n) = length (course profile slices revisions n).answers ≤ r
 
-left-before : (slices : ℕ) (revisions : List Posted) (r n : ℕ) → length (course slices revisions n).answers ≤ r → HasLeft slices revisions r n
-left-before slices revisions r zero low = tt
-left-before slices revisions r (suc k) low = let more : length (course slices revisions k).answers ≤ length (course slices revisions (suc k)).answers = more-answers slices revisions k in omega (arith, more, low)
+left-before : (profile slices : ℕ) (revisions : List Posted) (r n : ℕ) → length (course profile slices revisions n).answers ≤ r → HasLeft profile slices revisions r n
+left-before profile slices revisions r zero low = tt
+left-before profile slices revisions r (suc k) low = let more : length (course profile slices revisions k).answers ≤ length (course profile slices revisions (suc k)).answers = more-answers profile slices revisions k in omega (arith, more, low)
 
-front-on : (slices : ℕ) (front rest : List Posted) (r n : ℕ) → length front ≡ r + 1 → length (course slices (front ++ rest) n).answers ≤ r → GoesOn (front ++ rest) (course slices (front ++ rest) n) → WentOn slices front n → GoesOn front (course slices front n)
-front-on slices front rest r n size low on went =
-    let same : course slices (front ++ rest) n ≡ course slices front n = course-more slices front rest n went in
-    let loads : loads_in (course slices (front ++ rest) n).entries ≤ length (course slices (front ++ rest) n).answers + 1 = course-loads slices (front ++ rest) n in
+front-on : (profile slices : ℕ) (front rest : List Posted) (r n : ℕ) → length front ≡ r + 1 → length (course profile slices (front ++ rest) n).answers ≤ r → GoesOn (front ++ rest) (course profile slices (front ++ rest) n) → WentOn profile slices front n → GoesOn front (course profile slices front n)
+front-on profile slices front rest r n size low on went =
+    let same : course profile slices (front ++ rest) n ≡ course profile slices front n = course-more profile slices front rest n went in
+    let loads : loads_in (course profile slices (front ++ rest) n).entries ≤ length (course profile slices (front ++ rest) n).answers + 1 = course-loads profile slices (front ++ rest) n in
     subst (λ (c : Course). GoesOn front c) same (record { live = omega (arith, size, low); loaded = omega (arith, size, low, loads); open_yet = on.open_yet })
 
-went-front : (slices : ℕ) (front rest : List Posted) (r n : ℕ) → length front ≡ r + 1 → WentOn slices (front ++ rest) n → HasLeft slices (front ++ rest) r n → WentOn slices front n
-went-front slices front rest r zero size w left = tt
-went-front slices front rest r (suc n) size w left =
-    let went : WentOn slices front n = went-front slices front rest r n size w.0 (left-before slices (front ++ rest) r n left) in
-    (went, front-on slices front rest r n size left w.1 went)
+went-front : (profile slices : ℕ) (front rest : List Posted) (r n : ℕ) → length front ≡ r + 1 → WentOn profile slices (front ++ rest) n → HasLeft profile slices (front ++ rest) r n → WentOn profile slices front n
+went-front profile slices front rest r zero size w left = tt
+went-front profile slices front rest r (suc n) size w left =
+    let went : WentOn profile slices front n = went-front profile slices front rest r n size w.0 (left-before profile slices (front ++ rest) r n left) in
+    (went, front-on profile slices front rest r n size left w.1 went)
 
 -- a machine as it was just after it answered a revision
-pub record WasAnswered (slices r : ℕ) (s : SoloMachine) : Type 0 where
+pub record WasAnswered (profile slices r : ℕ) (s : SoloMachine) : Type 0 where
   pub was : SoloMachine
   pub ran : ℕ
   pub kept : MachineInvariant was
-  pub along : IsAlong slices was ran
-  pub went : WentOn slices (take (r + 1) was.revisions) ran
+  pub along : IsAlong profile slices was ran
+  pub went : WentOn profile slices (take (r + 1) was.revisions) ran
   pub answered_then : r < length was.answers
   pub stay : KeepsAnswers was s
   pub lines : List Line
@@ -190,8 +190,8 @@ pub record WasAnswered (slices r : ℕ) (s : SoloMachine) : Type 0 where
   pub same : take (r + 1) s.revisions ≡ take (r + 1) was.revisions
 
 -- a revision has no answer yet, or it was answered so
-abbrev Stands : ℕ → ℕ → SoloMachine → Type 0
-Stands slices r s = (length s.answers ≤ r) ⊎ WasAnswered slices r s
+abbrev Stands : ℕ → ℕ → ℕ → SoloMachine → Type 0
+Stands profile slices r s = (length s.answers ≤ r) ⊎ WasAnswered profile slices r s
 
 come-short : (c : Course) (answers : List Answer) → ComeFrom c answers → length c.answers ≤ length answers
 come-short c answers h = by_order (cases_lt (length answers) (length c.answers))
@@ -204,20 +204,20 @@ come-short c answers h = by_order (cases_lt (length answers) (length c.answers))
         absurd (omega (arith, there))
 
 -- the course before the last slice has answered no more than the machine before the event
-left-after : (slices r n m : ℕ) (s t : SoloMachine) → (more : List Posted) → t.revisions ≡ s.revisions ++ more → m ≤ suc n → IsAlong slices s n → length s.answers ≤ r → HasLeft slices t.revisions r m
-left-after slices r n zero s t more e low along few = tt
-left-after slices r n (suc j) s t more e low along few =
-    let went : WentOn slices s.revisions j = went-down slices s.revisions j n (omega (arith, low)) along.went in
-    let same : course slices t.revisions j ≡ course slices s.revisions j = ap (λ (rs : List Posted). course slices rs j) e ∙ course-more slices s.revisions more j went in
-    let mono : length (course slices s.revisions j).answers ≤ length (course slices s.revisions n).answers = answers-mono slices s.revisions j n (omega (arith, low)) in
-    let short : length (course slices s.revisions n).answers ≤ length s.answers = come-short (course slices s.revisions n) s.answers (come-along slices n s along) in
+left-after : (profile slices r n m : ℕ) (s t : SoloMachine) → (more : List Posted) → t.revisions ≡ s.revisions ++ more → m ≤ suc n → IsAlong profile slices s n → length s.answers ≤ r → HasLeft profile slices t.revisions r m
+left-after profile slices r n zero s t more e low along few = tt
+left-after profile slices r n (suc j) s t more e low along few =
+    let went : WentOn profile slices s.revisions j = went-down profile slices s.revisions j n (omega (arith, low)) along.went in
+    let same : course profile slices t.revisions j ≡ course profile slices s.revisions j = ap (λ (rs : List Posted). course profile slices rs j) e ∙ course-more profile slices s.revisions more j went in
+    let mono : length (course profile slices s.revisions j).answers ≤ length (course profile slices s.revisions n).answers = answers-mono profile slices s.revisions j n (omega (arith, low)) in
+    let short : length (course profile slices s.revisions n).answers ≤ length s.answers = come-short (course profile slices s.revisions n) s.answers (come-along profile slices n s along) in
     subst (λ (c : Course). length c.answers ≤ r) (sym same) (omega (arith, mono, short, few))
 
 front-size : (r : ℕ) (ps : List Posted) → r < length ps → length (take (r + 1) ps) ≡ r + 1
 front-size r ps low = let taken : length (take (r + 1) ps) ≡ min (r + 1) (length ps) = length-take (r + 1) ps in omega (arith, taken, low)
 
-step-stands : (slices r n : ℕ) (s : SoloMachine) (o : Own) → MayHappen s o → is_single o ≡ true → MachineInvariant s → IsAlong slices s n → Stands slices r s → Stands slices r (solo_step s o)
-step-stands slices r n s o may single kept along (inr w) =
+step-stands : (profile slices r n : ℕ) (s : SoloMachine) (o : Own) → MayHappen s o → is_single o ≡ true → MachineInvariant s → IsAlong profile slices s n → Stands profile slices r s → Stands profile slices r (solo_step s o)
+step-stands profile slices r n s o may single kept along (inr w) =
     let grown : HasGrown s (solo_step s o) = step-grown s o in
     let stayed : length w.was.answers ≤ length s.answers = omega (arith, ap (λ (xs : List Answer). length xs) w.stay.kept, length-append w.was.answers w.stay.more) in
     let order : length s.answers ≤ length s.revisions = kept.solving.order in
@@ -233,7 +233,7 @@ step-stands slices r n s o may single kept along (inr w) =
       log = grown.log ∙ (ap (λ (ls : List Line). ls ++ grown.lines) w.log ∙ append_assoc w.was.log w.lines grown.lines);
       same = ap (λ (ps : List Posted). take (r + 1) ps) grown.revisions ∙ (take-append-le (r + 1) s.revisions grown.more (omega (arith, stayed, order, w.answered_then)) ∙ w.same);
     })
-step-stands slices r n s o may single kept along (inl few) = by_order (cases_lt r (length t.answers))
+step-stands profile slices r n s o may single kept along (inl few) = by_order (cases_lt r (length t.answers))
   where
     t : SoloMachine
     t = solo_step s o
@@ -241,23 +241,23 @@ step-stands slices r n s o may single kept along (inl few) = by_order (cases_lt 
     after : MachineInvariant t
     after = step-kept s o may kept
 
-    on : GoesOneOn slices n t
-    on = step-on slices n s o may single kept after along
+    on : GoesOneOn profile slices n t
+    on = step-on profile slices n s o may single kept after along
 
     grown : HasGrown s t
     grown = step-grown s o
 
-    answered-now : r < length t.answers → WasAnswered slices r t
+    answered-now : r < length t.answers → WasAnswered profile slices r t
     answered-now high =
         let order : length t.answers ≤ length t.revisions = after.solving.order in
         let all : take (r + 1) t.revisions ++ drop (r + 1) t.revisions ≡ t.revisions = take-append-drop (r + 1) t.revisions in
-        let left : HasLeft slices t.revisions r on.0 = left-after slices r n on.0 s t grown.more grown.revisions on.1 along few in
+        let left : HasLeft profile slices t.revisions r on.0 = left-after profile slices r n on.0 s t grown.more grown.revisions on.1 along few in
         record {
           was = t;
           ran = on.0;
           kept = after;
           along = on.2;
-          went = went-front slices (take (r + 1) t.revisions) (drop (r + 1) t.revisions) r on.0 (front-size r t.revisions (omega (arith, high, order))) (subst (λ (ps : List Posted). WentOn slices ps on.0) (sym all) on.2.went) (subst (λ (ps : List Posted). HasLeft slices ps r on.0) (sym all) left);
+          went = went-front profile slices (take (r + 1) t.revisions) (drop (r + 1) t.revisions) r on.0 (front-size r t.revisions (omega (arith, high, order))) (subst (λ (ps : List Posted). WentOn profile slices ps on.0) (sym all) on.2.went) (subst (λ (ps : List Posted). HasLeft profile slices ps r on.0) (sym all) left);
           answered_then = high;
           stay = stays-self t;
           lines = [];
@@ -265,92 +265,92 @@ step-stands slices r n s o may single kept along (inl few) = by_order (cases_lt 
           same = refl;
         }
 
-    by_order : (r < length t.answers) ⊎ (length t.answers ≤ r) → Stands slices r t
+    by_order : (r < length t.answers) ⊎ (length t.answers ≤ r) → Stands profile slices r t
     by_order (inl high) = inr (answered-now high)
     by_order (inr low) = inl low
 
 -- of a whole run
-record IsTraced (slices r : ℕ) (s : SoloMachine) : Type 0 where
+record IsTraced (profile slices r : ℕ) (s : SoloMachine) : Type 0 where
   pub kept : MachineInvariant s
-  pub on : IsOnCourse slices s
-  pub stands : Stands slices r s
+  pub on : IsOnCourse profile slices s
+  pub stands : Stands profile slices r s
 
-events-traced : (slices r : ℕ) (past events : List Own) → IsRunnable past events → list_all is_single events ≡ true → IsTraced slices r (solo past) → IsTraced slices r (solo (past ++ events))
-events-traced slices r past [] may single h = subst (λ (es : List Own). IsTraced slices r (solo es)) (sym (append-nil past)) h
-events-traced slices r past (o ∷ os) may single h =
+events-traced : (profile slices r : ℕ) (past events : List Own) → IsRunnable past events → list_all is_single events ≡ true → IsTraced profile slices r (solo past) → IsTraced profile slices r (solo (past ++ events))
+events-traced profile slices r past [] may single h = subst (λ (es : List Own). IsTraced profile slices r (solo es)) (sym (append-nil past)) h
+events-traced profile slices r past (o ∷ os) may single h =
     let parts = and_parts (is_single o) (list_all is_single os) single in
     let after : MachineInvariant (solo_step (solo past) o) = step-kept (solo past) o may.0 h.kept in
-    let on : GoesOneOn slices h.on.0 (solo_step (solo past) o) = step-on slices h.on.0 (solo past) o may.0 parts.0 h.kept after h.on.1 in
-    let here : IsTraced slices r (solo_step (solo past) o) = record { kept = after; on = (on.0, on.2); stands = step-stands slices r h.on.0 (solo past) o may.0 parts.0 h.kept h.on.1 h.stands } in
-    let next : IsTraced slices r (solo (past ++ o ∷ [])) = subst (λ (s : SoloMachine). IsTraced slices r s) (sym (fold_push solo_step unopened past o)) here in
-    subst (λ (es : List Own). IsTraced slices r (solo es)) (append_assoc past (o ∷ []) os) (events-traced slices r (past ++ o ∷ []) os may.1 parts.1 next)
+    let on : GoesOneOn profile slices h.on.0 (solo_step (solo past) o) = step-on profile slices h.on.0 (solo past) o may.0 parts.0 h.kept after h.on.1 in
+    let here : IsTraced profile slices r (solo_step (solo past) o) = record { kept = after; on = (on.0, on.2); stands = step-stands profile slices r h.on.0 (solo past) o may.0 parts.0 h.kept h.on.1 h.stands } in
+    let next : IsTraced profile slices r (solo (past ++ o ∷ [])) = subst (λ (s : SoloMachine). IsTraced profile slices r s) (sym (fold_push solo_step unopened past o)) here in
+    subst (λ (es : List Own). IsTraced profile slices r (solo es)) (append_assoc past (o ∷ []) os) (events-traced profile slices r (past ++ o ∷ []) os may.1 parts.1 next)
 
-single-traced : (ask : Terms) (own : List Own) (r : ℕ) → IsSingle ask own → IsTraced ask.slices r (solo (Opened ask ∷ own))
+single-traced : (ask : Terms) (own : List Own) (r : ℕ) → IsSingle ask own → IsTraced ask.profile ask.slices r (solo (Opened ask ∷ own))
 single-traced ask own r h =
-    let opened : IsFollowing ask.slices (solo (Opened ask ∷ [])) = opened-follows ask in
-    events-traced ask.slices r (Opened ask ∷ []) own h.runnable.1 h.single (record { kept = opened.kept; on = opened.on; stands = inl (omega arith) })
+    let opened : IsFollowing ask.profile ask.slices (solo (Opened ask ∷ [])) = opened-follows ask in
+    events-traced ask.profile ask.slices r (Opened ask ∷ []) own h.runnable.1 h.single (record { kept = opened.kept; on = opened.on; stands = inl (omega arith) })
 
 -- two machines just after they answered a revision, where the revisions up to it are the same
-module _ (slices r : ℕ) (s t : SoloMachine) (v : WasAnswered slices r s) (w : WasAnswered slices r t) (alike : take (r + 1) s.revisions ≡ take (r + 1) t.revisions) where
+module _ (profile slices r : ℕ) (s t : SoloMachine) (v : WasAnswered profile slices r s) (w : WasAnswered profile slices r t) (alike : take (r + 1) s.revisions ≡ take (r + 1) t.revisions) where
   abbrev front : List Posted
   front = take (r + 1) v.was.revisions
 
   fronts : take (r + 1) w.was.revisions ≡ front
   fronts = sym w.same ∙ (sym alike ∙ v.same)
 
-  course-v : course slices v.was.revisions v.ran ≡ course slices front v.ran
-  course-v = ap (λ (ps : List Posted). course slices ps v.ran) (sym (take-append-drop (r + 1) v.was.revisions)) ∙ course-more slices front (drop (r + 1) v.was.revisions) v.ran v.went
+  course-v : course profile slices v.was.revisions v.ran ≡ course profile slices front v.ran
+  course-v = ap (λ (ps : List Posted). course profile slices ps v.ran) (sym (take-append-drop (r + 1) v.was.revisions)) ∙ course-more profile slices front (drop (r + 1) v.was.revisions) v.ran v.went
 
-  course-w : course slices w.was.revisions w.ran ≡ course slices front w.ran
-  course-w = ap (λ (ps : List Posted). course slices ps w.ran) (sym (take-append-drop (r + 1) w.was.revisions)) ∙ (course-more slices (take (r + 1) w.was.revisions) (drop (r + 1) w.was.revisions) w.ran w.went ∙ ap (λ (ps : List Posted). course slices ps w.ran) fronts)
+  course-w : course profile slices w.was.revisions w.ran ≡ course profile slices front w.ran
+  course-w = ap (λ (ps : List Posted). course profile slices ps w.ran) (sym (take-append-drop (r + 1) w.was.revisions)) ∙ (course-more profile slices (take (r + 1) w.was.revisions) (drop (r + 1) w.was.revisions) w.ran w.went ∙ ap (λ (ps : List Posted). course profile slices ps w.ran) fronts)
 
   pub were-agreed : Agree v.was.answers w.was.answers
-  were-agreed = courses-agree slices front v.ran w.ran v.was.answers w.was.answers v.went (subst (λ (ps : List Posted). WentOn slices ps w.ran) fronts w.went) (subst (λ (c : Course). ComeFrom c v.was.answers) course-v (come-along slices v.ran v.was v.along)) (subst (λ (c : Course). ComeFrom c w.was.answers) course-w (come-along slices w.ran w.was w.along)) (le-or_lt v.ran w.ran)
+  were-agreed = courses-agree profile slices front v.ran w.ran v.was.answers w.was.answers v.went (subst (λ (ps : List Posted). WentOn profile slices ps w.ran) fronts w.went) (subst (λ (c : Course). ComeFrom c v.was.answers) course-v (come-along profile slices v.ran v.was v.along)) (subst (λ (c : Course). ComeFrom c w.was.answers) course-w (come-along profile slices w.ran w.was w.along)) (le-or_lt v.ran w.ran)
 
   pub were-fronts : IsFront v.was.log w.was.log ⊎ IsFront w.was.log v.was.log
-  were-fronts = courses-logs slices front v.ran w.ran v.was.log w.was.log (log-along slices v.ran v.was v.along ∙ ap (λ (c : Course). c.log) course-v) (log-along slices w.ran w.was w.along ∙ ap (λ (c : Course). c.log) course-w) (le-or_lt v.ran w.ran)
+  were-fronts = courses-logs profile slices front v.ran w.ran v.was.log w.was.log (log-along profile slices v.ran v.was v.along ∙ ap (λ (c : Course). c.log) course-v) (log-along profile slices w.ran w.was w.along ∙ ap (λ (c : Course). c.log) course-w) (le-or_lt v.ran w.ran)
 
 -- the answer that it gave then is the one that it has
-answer-then : (slices r : ℕ) (s : SoloMachine) (v : WasAnswered slices r s) (a : Answer) → slice_get s.answers r ≡ Some a → slice_get v.was.answers r ≡ Some a
-answer-then slices r s v a e =
+answer-then : (profile slices r : ℕ) (s : SoloMachine) (v : WasAnswered profile slices r s) (a : Answer) → slice_get s.answers r ≡ Some a → slice_get v.was.answers r ≡ Some a
+answer-then profile slices r s v a e =
     let x : Answer = get_or v.was.answers r OutOfStarts in
     let at : slice_get v.was.answers r ≡ Some x = slice_get-get_or v.was.answers r OutOfStarts v.answered_then in
     let now : slice_get s.answers r ≡ Some x = ap (λ (xs : List Answer). slice_get xs r) v.stay.kept ∙ get-front v.was.answers v.stay.more r x at in
     let same : x ≡ a = cc in
     subst (λ (y : Answer). slice_get v.was.answers r ≡ Some y) same at
 
-was-answered : (slices r : ℕ) (s : SoloMachine) (a : Answer) → Stands slices r s → slice_get s.answers r ≡ Some a → WasAnswered slices r s
-was-answered slices r s a (inl few) e = let within : r < length s.answers = slice_get_within s.answers r a e in absurd (omega (arith, few, within))
-was-answered slices r s a (inr w) e = w
+was-answered : (profile slices r : ℕ) (s : SoloMachine) (a : Answer) → Stands profile slices r s → slice_get s.answers r ≡ Some a → WasAnswered profile slices r s
+was-answered profile slices r s a (inl few) e = let within : r < length s.answers = slice_get_within s.answers r a e in absurd (omega (arith, few, within))
+was-answered profile slices r s a (inr w) e = w
 
 -- what was told then is what is told now
-told-then : (slices r : ℕ) (s : SoloMachine) (v : WasAnswered slices r s) (a : Answer) → MachineInvariant s → slice_get s.answers r ≡ Some a → told_by s r a ≡ told_by v.was r a
-told-then slices r s v a kept e = sym (told-same v.was s r a v.kept kept (inl (v.lines, v.log)) (sym v.same) (answer-then slices r s v a e) e)
+told-then : (profile slices r : ℕ) (s : SoloMachine) (v : WasAnswered profile slices r s) (a : Answer) → MachineInvariant s → slice_get s.answers r ≡ Some a → told_by s r a ≡ told_by v.was r a
+told-then profile slices r s v a kept e = sym (told-same v.was s r a v.kept kept (inl (v.lines, v.log)) (sym v.same) (answer-then profile slices r s v a e) e)
 
-traced-agree : (slices r : ℕ) (s t : SoloMachine) → IsTraced slices r s → IsTraced slices r t → take (r + 1) s.revisions ≡ take (r + 1) t.revisions → AgreeOn r s t
-traced-agree slices r s t h k alike = record { answers = answers; replies = λ key a b e f. replies key a b (subst (λ (n : ℕ). reply key n s ≡ Some a) next e) (subst (λ (n : ℕ). reply key n t ≡ Some b) next f) }
+traced-agree : (profile slices r : ℕ) (s t : SoloMachine) → IsTraced profile slices r s → IsTraced profile slices r t → take (r + 1) s.revisions ≡ take (r + 1) t.revisions → AgreeOn r s t
+traced-agree profile slices r s t h k alike = record { answers = answers; replies = λ key a b e f. replies key a b (subst (λ (n : ℕ). reply key n s ≡ Some a) next e) (subst (λ (n : ℕ). reply key n t ≡ Some b) next f) }
   where
     next : r + 1 ≡ suc r
     next = omega arith
 
     answers : (a b : Answer) → slice_get s.answers r ≡ Some a → slice_get t.answers r ≡ Some b → a ≡ b
     answers a b e f =
-        let v : WasAnswered slices r s = was-answered slices r s a h.stands e in
-        let w : WasAnswered slices r t = was-answered slices r t b k.stands f in
-        were-agreed slices r s t v w alike r a b (answer-then slices r s v a e) (answer-then slices r t w b f)
+        let v : WasAnswered profile slices r s = was-answered profile slices r s a h.stands e in
+        let w : WasAnswered profile slices r t = was-answered profile slices r t b k.stands f in
+        were-agreed profile slices r s t v w alike r a b (answer-then profile slices r s v a e) (answer-then profile slices r t w b f)
 
-    by_answers : (key : Key) (a b : List ℕ) → (x : Answer) × (slice_get s.answers r ≡ Some x) × (reply_text key.tenant key.job (suc r) (told_by s r x) ≡ a) → (y : Answer) × (slice_get t.answers r ≡ Some y) × (reply_text key.tenant key.job (suc r) (told_by t r y) ≡ b) → a ≡ b
+    by_answers : (key : Key) (a b : List ℕ) → (x : Answer) × (slice_get s.answers r ≡ Some x) × (reply_text key.tenant key.job (suc r) s.ask.profile (told_by s r x) ≡ a) → (y : Answer) × (slice_get t.answers r ≡ Some y) × (reply_text key.tenant key.job (suc r) t.ask.profile (told_by t r y) ≡ b) → a ≡ b
     by_answers key a b (x, p, i) (y, q, j) =
-        let v : WasAnswered slices r s = was-answered slices r s x h.stands p in
-        let w : WasAnswered slices r t = was-answered slices r t y k.stands q in
+        let v : WasAnswered profile slices r s = was-answered profile slices r s x h.stands p in
+        let w : WasAnswered profile slices r t = was-answered profile slices r t y k.stands q in
         let same : x ≡ y = answers x y p q in
-        let theirs : slice_get w.was.answers r ≡ Some x = subst (λ (z : Answer). slice_get w.was.answers r ≡ Some z) (sym same) (answer-then slices r t w y q) in
-        let between : told_by v.was r x ≡ told_by w.was r x = told-same v.was w.was r x v.kept w.kept (were-fronts slices r s t v w alike) (sym v.same ∙ (alike ∙ w.same)) (answer-then slices r s v x p) theirs in
-        let all : told_by s r x ≡ told_by t r y = told-then slices r s v x h.kept p ∙ (between ∙ (ap (told_by w.was r) same ∙ sym (told-then slices r t w y k.kept q))) in
-        sym i ∙ (ap (reply_text key.tenant key.job (suc r)) all ∙ j)
+        let theirs : slice_get w.was.answers r ≡ Some x = subst (λ (z : Answer). slice_get w.was.answers r ≡ Some z) (sym same) (answer-then profile slices r t w y q) in
+        let between : told_by v.was r x ≡ told_by w.was r x = told-same v.was w.was r x v.kept w.kept (were-fronts profile slices r s t v w alike) (sym v.same ∙ (alike ∙ w.same)) (answer-then profile slices r s v x p) theirs in
+        let all : told_by s r x ≡ told_by t r y = told-then profile slices r s v x h.kept p ∙ (between ∙ (ap (told_by w.was r) same ∙ sym (told-then profile slices r t w y k.kept q))) in
+        sym i ∙ (ap (reply_text key.tenant key.job (suc r) s.ask.profile) all ∙ (ap (λ (p : ℕ). reply_text key.tenant key.job (suc r) p (told_by t r y)) (h.on.1.solvers ∙ sym k.on.1.solvers) ∙ j))
 
     replies : (key : Key) (a b : List ℕ) → reply key (suc r) s ≡ Some a → reply key (suc r) t ≡ Some b → a ≡ b
     replies key a b e f = by_answers key a b (reply-at key s r a e) (reply-at key t r b f)
 
 pub singles-agree_up_to : SinglesAgreeUpTo
-singles-agree_up_to ask asked own others r budget one other alike = traced-agree ask.slices r (solo (Opened ask ∷ own)) (solo (Opened asked ∷ others)) (single-traced ask own r one) (subst (λ (k : ℕ). IsTraced k r (solo (Opened asked ∷ others))) (sym budget) (single-traced asked others r other)) alike
+singles-agree_up_to ask asked own others r budget solvers one other alike = traced-agree ask.profile ask.slices r (solo (Opened ask ∷ own)) (solo (Opened asked ∷ others)) (single-traced ask own r one) (subst (λ (p : ℕ). IsTraced p ask.slices r (solo (Opened asked ∷ others))) (sym solvers) (subst (λ (k : ℕ). IsTraced asked.profile k r (solo (Opened asked ∷ others))) (sym budget) (single-traced asked others r other))) alike

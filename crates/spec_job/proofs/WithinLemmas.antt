@@ -7,13 +7,13 @@ use Rattle.mal_revision.specs.Posted.{Posted}
 use Rattle.spec_node.specs.State.{Node}
 use Rattle.spec_node.specs.Sound.{IsLiteralOf, AreLiteralsOf}
 use Rattle.spec_search.specs.Slice.{slice}
-use Rattle.spec_search.proofs.LineLemmas.{lines-held}
-use Rattle.spec_proof.proofs.Among.{Among, among-append}
+use Rattle.spec_search.proofs.LineLemmas.{lines-stay_within}
+use Rattle.spec_proof.proofs.Among.{Among, among-append, of-all}
 use Rattle.spec_job.specs.Models.{variables_of}
-use Rattle.spec_job.proofs.LoadedLemmas.{variables-more, HasLoaded, slice-loaded}
+use Rattle.spec_job.proofs.LoadedLemmas.{variables-more, HasLoaded}
 use Rattle.spec_job.proofs.LinesLemmas.{IsOfLine, of-line-later}
 use Rattle.spec_job.proofs.TrackedLemmas.{take-split, take-more}
-use Rattle.spec_job.proofs.ImportingLemmas.{IsSaid, AreWithin, parts-with_lines}
+use Rattle.spec_job.proofs.ImportingLemmas.{IsSaid, AreWithin}
 
 -- literals of some variables are of more
 wider : (v w : ℕ) (lits : List ℕ) → v ≤ w → AreLiteralsOf v lits → AreLiteralsOf w lits
@@ -36,11 +36,9 @@ within-revised k revisions more log h = subst (λ (ps : List Posted). AreWithin 
 
 -- the lines of a slice of a node that has loaded revisions are of its variables
 slice-within : (revisions : List Posted) (n : Node) → HasLoaded revisions n → AreWithin (variables_of revisions) (slice n).lines
-slice-within revisions n h =
-    let after : HasLoaded revisions (slice n).node = slice-loaded revisions n h in
-    let all : All (λ c. AreLiteralsOf (slice n).node.variables c.lits) (slice n).node.clauses = after.sound.consistent.clauses in
-    let here : All (λ c. AreLiteralsOf (variables_of revisions) c.lits) (slice n).node.clauses = subst (λ (v : ℕ). All (λ (c : NumberedClause). AreLiteralsOf v c.lits) (slice n).node.clauses) after.variables all in
-    (parts-with_lines (λ c. AreLiteralsOf (variables_of revisions) c.lits) (slice n).lines n.clauses (subst (λ (cs : List NumberedClause). All (λ (c : NumberedClause). AreLiteralsOf (variables_of revisions) c.lits) cs) (lines-held n) here)).0
+slice-within revisions n h line m =
+    let all : All (λ l. AreLiteralsOf n.variables l.lits) (slice n).lines = lines-stay_within n h.sound in
+    subst (λ (v : ℕ). AreLiteralsOf v line.lits) h.variables (of-all (λ l. AreLiteralsOf n.variables l.lits) (slice n).lines line all m)
 
 -- so a log takes the lines of a slice of a node that has loaded no more than the current revision
 pub within-slice : (revisions : List Posted) (log : List Line) (k m : ℕ) (n : Node) → k ≤ m → HasLoaded (take k revisions) n → AreWithin (variables_of (take m revisions)) log → AreWithin (variables_of (take m revisions)) (log ++ (slice n).lines)

@@ -26,11 +26,12 @@ pub record HasCounts (all runs : ℕ) (n : Node) : Type 0 where
   pub serial : n.serial ≤ all * 1000
   pub conflicts_since_restart : n.conflicts_since_restart ≤ runs * 1000
   pub restart_number : n.restart_number ≤ 1 + runs * 1000
+  pub conflicts_since_dropping : n.conflicts_since_dropping ≤ runs * 1000
 
 -- the counts of a place's node at home, and as its next start finds it, with what it lacks loaded and imported
 pub record PlaceCounts (s : SoloMachine) (i : ℕ) (p : NodeSlot) : Type 0 where
-  pub home : HasCounts (runs_of s.places) (runs_in p.entries) (replay i p.entries).node
-  pub ready : HasCounts (runs_of s.places) (runs_in p.entries) (replay i (p.entries ++ (missing_loads s p ++ missing_imports s p))).node
+  pub home : HasCounts (runs_of s.places) (runs_in p.entries) (replay s.ask.profile i p.entries).node
+  pub ready : HasCounts (runs_of s.places) (runs_in p.entries) (replay s.ask.profile i (p.entries ++ (missing_loads s p ++ missing_imports s p))).node
 
 -- the nodes of a job count no further than the slices that were run
 abbrev pub ReplaysCount : Type 0

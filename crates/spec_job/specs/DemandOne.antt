@@ -45,9 +45,10 @@ pub record AgreeAll (s t : SoloMachine) : Type 0 where
   pub answers : Agree s.answers t.answers
   pub replies : (k : Key) (r : ℕ) (a b : List ℕ) → reply k r s ≡ Some a → reply k r t ≡ Some b → a ≡ b
 
--- each answer and each reply of a job that one node runs is decided by its name, its budget and its revisions up to that
--- one: where the revisions of one run begin with those of another, with the same budget, they agree
+-- each answer and each reply of a job that one node runs is decided by its name, its budget, its solvers' profile and its
+-- revisions up to that one: where the revisions of one run begin with those of another, with the same budget and the same
+-- profile, they agree
 abbrev pub SinglesAgree : Type 0
 SinglesAgree =
-    (ask asked : Terms) (own others : List Own) (more : List Posted) → ask.slices ≡ asked.slices → IsSingle ask own → IsSingle asked others
+    (ask asked : Terms) (own others : List Own) (more : List Posted) → ask.slices ≡ asked.slices → ask.profile ≡ asked.profile → IsSingle ask own → IsSingle asked others
     → (solo (Opened asked ∷ others)).revisions ≡ (solo (Opened ask ∷ own)).revisions ++ more → AgreeAll (solo (Opened ask ∷ own)) (solo (Opened asked ∷ others))

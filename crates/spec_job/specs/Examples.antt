@@ -12,9 +12,13 @@ use Rattle.spec_job.specs.Runnable.{IsRunnable}
 use Rattle.spec_job.specs.Counts.{IsOpenedOnce}
 use Rattle.spec_job.specs.DemandOne.{IsSingle}
 
--- an ask of this demand with these slices
+-- an ask of this demand with these slices, for solvers of profile 1
 abbrev pub ask : ℕ → ℕ → Terms
-ask demand slices = record { priority = 1; demand = demand; slices = slices }
+ask demand slices = record { priority = 1; demand = demand; slices = slices; profile = 1 }
+
+-- the same for solvers of profile 2
+abbrev pub second_ask : ℕ → ℕ → Terms
+second_ask demand slices = record { priority = 1; demand = demand; slices = slices; profile = 2 }
 
 -- two variables, one of which has to be true
 abbrev pub one_of_two : Posted
@@ -118,9 +122,9 @@ pub record HasExchanges : Type 0 where
   pub once : (derived_before one_of_two (Exchanged ∷ Exchanged ∷ [])).broadcasts ≡ (told 4294967296 (3 ∷ 5 ∷ []) ∷ []) ∷ [] ∷ []
   pub own : start_entries exchanged_once (place_at exchanged_once 0) ≡ Load one_of_two 2 ∷ Import (told 4294967296 (3 ∷ 5 ∷ []) ∷ []) ∷ Run ∷ []
   pub other : start_entries exchanged_once (place_at exchanged_once 1) ≡ Load both_assumed 1 ∷ Load one_of_two 2 ∷ Import (told 4294967296 (3 ∷ 5 ∷ []) ∷ []) ∷ Run ∷ []
-  pub imported : (replay 1 (Load four 1 ∷ Import (told 4294967296 (3 ∷ []) ∷ []) ∷ [])).node.clauses ≡ told 1 (2 ∷ 4 ∷ []) ∷ told 2 (2 ∷ 5 ∷ []) ∷ told 3 (3 ∷ 4 ∷ []) ∷ told 4 (3 ∷ 5 ∷ []) ∷ told 4294967296 (3 ∷ []) ∷ []
-  pub serial : (replay 1 (Load four 1 ∷ Import (told 4294967296 (3 ∷ []) ∷ []) ∷ [])).node.serial ≡ 1
-  pub line_after : (replay 1 (Load four 1 ∷ Import (told 4294967296 (3 ∷ []) ∷ []) ∷ Run ∷ [])).lines ≡ line 4294967361 [] (4294967296 ∷ 1 ∷ 2 ∷ []) ∷ []
+  pub imported : (replay 1 1 (Load four 1 ∷ Import (told 4294967296 (3 ∷ []) ∷ []) ∷ [])).node.clauses ≡ told 1 (2 ∷ 4 ∷ []) ∷ told 2 (2 ∷ 5 ∷ []) ∷ told 3 (3 ∷ 4 ∷ []) ∷ told 4 (3 ∷ 5 ∷ []) ∷ told 4294967296 (3 ∷ []) ∷ []
+  pub serial : (replay 1 1 (Load four 1 ∷ Import (told 4294967296 (3 ∷ []) ∷ []) ∷ [])).node.serial ≡ 1
+  pub line_after : (replay 1 1 (Load four 1 ∷ Import (told 4294967296 (3 ∷ []) ∷ []) ∷ Run ∷ [])).lines ≡ line 4294967361 [] (4294967296 ∷ 1 ∷ 2 ∷ []) ∷ []
 
 -- worked examples of own events that may happen: two nodes with an exchange between their starts, and one node alone
 pub record HasRunnable : Type 0 where

@@ -1,6 +1,7 @@
 -- What nodes export, in the words of their journals: the short lines that a node's own slices derived since the last exchange in
 -- which it took part.
-use Rattle.std.specs.Prelude.{◌≡◌, ℕ, ◌≤◌, Bool, ◌&&◌, nat_le, List, [], ◌∷◌, ◌++◌, length, map, filter, drop, flat_map, if◌then◌else◌}
+use Rattle.std.specs.Prelude.{◌≡◌, ℕ, ◌≤◌, Bool, false, ◌&&◌, nat_le, List, [], ◌∷◌, ◌++◌, length, map, filter, drop, flat_map, if◌then◌else◌}
+use Rattle.std.specs.List.{list_any}
 use Rattle.mal_base.specs.NumberedClause.{NumberedClause, Line}
 use Rattle.mal_base.specs.declared.verdict.Outcome.TheVariants.{Ran}
 use Rattle.spec_node.specs.Load.{counted}
@@ -8,6 +9,7 @@ use Rattle.spec_search.specs.Slice.{Sliced}
 use Rattle.spec_exchange.specs.Exchange.{broadcast}
 use Rattle.spec_job.specs.Journal.{JournalEntry, after_entry, replay}
 use Rattle.spec_job.specs.SoloMachine.{Own, Opened, Revised, Closed, Volume, Started, Finished, Exchanged, SoloMachine, unopened, solo, solo_step, place_at, takes_part, exports_of}
+use Rattle.spec_job.specs.Counts.{is_opening}
 use Rattle.spec_job.specs.Examples.{ask, both_assumed, one_of_two, told}
 
 -- the lines that these entries of a journal derive, from a replay on
@@ -15,9 +17,9 @@ abbrev pub derived_from : Sliced → List JournalEntry → List Line
 derived_from s [] = []
 derived_from s (e ∷ es) = (after_entry s e).lines ++ derived_from (after_entry s e) es
 
--- the lines that a node's journal derives behind its first entries
-abbrev pub derived_behind : ℕ → List JournalEntry → List JournalEntry → List Line
-derived_behind i first entries = derived_from (replay i first) (drop (length first) entries)
+-- the lines that the journal of a node of this profile and index derives behind its first entries
+abbrev pub derived_behind : ℕ → ℕ → List JournalEntry → List JournalEntry → List Line
+derived_behind profile i first entries = derived_from (replay profile i first) (drop (length first) entries)
 
 -- the journal with which a node last took part in an exchange, after one more event
 abbrev pub told_step : ℕ → SoloMachine → List JournalEntry → Own → List JournalEntry
@@ -44,11 +46,15 @@ is_short l = nat_le 1 (length l.lits) && nat_le (length l.lits) 16
 
 -- what a node has derived since then, as it is exported: the short lines, without their hints
 abbrev pub untold : ℕ → List Own → List NumberedClause
-untold i events = map (λ l. record { id = l.id; lits = l.lits }) (filter is_short (derived_behind i (journal_told i events) (place_at (solo events) i).entries))
+untold i events = map (λ l. record { id = l.id; lits = l.lits }) (filter is_short (derived_behind (solo events).ask.profile i (journal_told i events) (place_at (solo events) i).entries))
+
+-- no event behind the first opens the job
+abbrev pub IsOpenedFirst : List Own → Type 0
+IsOpenedFirst events = list_any is_opening (drop 1 events) ≡ false
 
 -- this is what a node exports
 abbrev pub ExportsAreDerived : Type 0
-ExportsAreDerived = (events : List Own) (i : ℕ) → i ≤ 63 → exports_of (solo events).log i (place_at (solo events) i) ≡ untold i events
+ExportsAreDerived = (events : List Own) (i : ℕ) → IsOpenedFirst events → i ≤ 63 → exports_of (solo events).log i (place_at (solo events) i) ≡ untold i events
 
 -- what the nodes export that take part
 abbrev pub exported_by : List Own → ℕ → List NumberedClause
@@ -56,7 +62,7 @@ exported_by events i = if takes_part (solo events).volume i (place_at (solo even
 
 -- an exchange tells all of it to all
 abbrev pub ExchangesTellDerived : Type 0
-ExchangesTellDerived = (events : List Own) → (solo (events ++ Exchanged ∷ [])).broadcasts ≡ (solo events).broadcasts ++ broadcast (flat_map (exported_by events) (counted 0 64)) ∷ []
+ExchangesTellDerived = (events : List Own) → IsOpenedFirst events → (solo (events ++ Exchanged ∷ [])).broadcasts ≡ (solo events).broadcasts ++ broadcast (flat_map (exported_by events) (counted 0 64)) ∷ []
 
 -- a job of two nodes, of which the first has derived a clause
 abbrev pub derived_one : List Own

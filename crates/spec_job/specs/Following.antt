@@ -22,8 +22,8 @@ MayAllFollow s (e ∷ es) = MayFollow e s.node × MayAllFollow (after_entry s e)
 
 -- the journals of a job can be replayed: each entry may follow those before it, and so may those of each start that is out
 pub record JournalsFollow (s : SoloMachine) : Type 0 where
-  pub home : (i : ℕ) → i ≤ 63 → MayAllFollow (replay i []) (place_at s i).entries
-  pub out : (i : ℕ) (l : Lease) → i ≤ 63 → (place_at s i).out ≡ Some l → MayAllFollow (replay i (place_at s i).entries) l.adds
+  pub home : (i : ℕ) → i ≤ 63 → MayAllFollow (replay s.ask.profile i []) (place_at s i).entries
+  pub out : (i : ℕ) (l : Lease) → i ≤ 63 → (place_at s i).out ≡ Some l → MayAllFollow (replay s.ask.profile i (place_at s i).entries) l.adds
 
 -- so it is with a machine that was run on own events that may happen
 abbrev pub RunnableJournalsFollow : Type 0

@@ -1,6 +1,6 @@
 use Rattle.std.specs.Prelude.{ℕ, ◌+◌, Bool, true, false, List, [], ◌∷◌, length, fold, count_by}
 use Rattle.mal_revision.specs.Posted.{Posted}
-use Rattle.spec_node.specs.State.{fresh}
+use Rattle.spec_node.specs.State.{fresh_with}
 use Rattle.spec_search.specs.Slice.{Sliced, slice}
 use Rattle.spec_node.specs.Load.{loaded}
 use Rattle.spec_node.specs.Import.{imported}
@@ -19,9 +19,9 @@ after_entry s (Load r first) = record { node = loaded r first s.node; lines = []
 after_entry s (Import told) = record { node = imported told s.node; lines = [] }
 after_entry s Run = slice s.node
 
--- the replay of a journal: the fresh node of the index, then each entry in turn
-abbrev pub replay : ℕ → List JournalEntry → Sliced
-replay index entries = fold after_entry (record { node = fresh index; lines = [] }) entries
+-- the replay of a journal: the fresh node of the profile and the index, then each entry in turn
+abbrev pub replay : ℕ → ℕ → List JournalEntry → Sliced
+replay profile index entries = fold after_entry (record { node = fresh_with index profile; lines = [] }) entries
 
 -- whether an entry loads a revision
 abbrev pub is_load : JournalEntry → Bool

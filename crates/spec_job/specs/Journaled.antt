@@ -3,17 +3,18 @@ use Rattle.spec_node.specs.State.{Node}
 use Rattle.spec_search.specs.Slice.{Sliced}
 use Rattle.spec_job.specs.Journal.{JournalEntry, replay}
 
--- a journal as contracts see it: the number of the job, the index of the node in its tree, the number of the last start, and
--- the entries in order
+-- a journal as contracts see it: the number of the job, the profile of its solvers, the index of the node in its tree, the number
+-- of the last start, and the entries in order
 pub record Journaled : Type 0 where
   pub job : ℕ
+  pub profile : ℕ
   pub index : ℕ
   pub start : ℕ
   pub entries : List JournalEntry
 
 -- the replay of a journal: its node, with the lines of its last slice
 abbrev pub replayed : Journaled → Sliced
-replayed j = replay j.index j.entries
+replayed j = replay j.profile j.index j.entries
 
 -- the node of a journal
 abbrev pub node_of : Journaled → Node
@@ -21,8 +22,8 @@ node_of j = (replayed j).node
 
 -- a journal with these entries behind the others
 abbrev pub and_entries : Journaled → List JournalEntry → Journaled
-and_entries j adds = record { job = j.job; index = j.index; start = j.start; entries = j.entries ++ adds }
+and_entries j adds = record { job = j.job; profile = j.profile; index = j.index; start = j.start; entries = j.entries ++ adds }
 
 -- a journal whose last start has this number
 abbrev pub started : ℕ → Journaled → Journaled
-started start j = record { job = j.job; index = j.index; start = start; entries = j.entries }
+started start j = record { job = j.job; profile = j.profile; index = j.index; start = start; entries = j.entries }

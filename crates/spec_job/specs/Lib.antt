@@ -17,5 +17,6 @@ pub mod DemandOne
 pub mod Unknown
 pub mod Examples
 pub mod UnknownExamples
+pub mod ProfileExamples
 pub mod Exported
 pub mod DemandOneUpTo

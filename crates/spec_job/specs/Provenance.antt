@@ -21,14 +21,14 @@ IsOwn s c = (numbered (clauses_of s.revisions) c.id ≡ Some (Some c.lits)) ⊎ 
 pub record IsOutOwn (s : SoloMachine) (index : ℕ) (entries : List JournalEntry) (l : Lease) : Type 0 where
   pub before : List JournalEntry
   pub adds : l.adds ≡ before ++ Run ∷ []
-  pub handed : All (IsOwn s) (replay index (entries ++ before)).node.clauses
-  pub ran : All (λ c. IsOwn s c ⊎ IsLineOf (replay index (entries ++ l.adds)).lines c) (replay index (entries ++ l.adds)).node.clauses
+  pub handed : All (IsOwn s) (replay s.ask.profile index (entries ++ before)).node.clauses
+  pub ran : All (λ c. IsOwn s c ⊎ IsLineOf (replay s.ask.profile index (entries ++ l.adds)).lines c) (replay s.ask.profile index (entries ++ l.adds)).node.clauses
 
 -- where a job's clauses come from: each node at home, and each that is out but for the new lines of its slice, holds
 -- clauses of the job's own alone, what is exported and what was told to all are lines of the log, the log is derived from
 -- the job's clauses, and the literals of each line rise by variable
 pub record ClausesAreOwn (s : SoloMachine) : Type 0 where
-  pub home : (i : ℕ) → i ≤ 63 → All (IsOwn s) (replay i (place_at s i).entries).node.clauses
+  pub home : (i : ℕ) → i ≤ 63 → All (IsOwn s) (replay s.ask.profile i (place_at s i).entries).node.clauses
   pub out : (i : ℕ) (l : Lease) → (place_at s i).out ≡ Some l → IsOutOwn s i (place_at s i).entries l
   pub exports : (i : ℕ) → All (IsLineOf s.log) (exports_of s.log i (place_at s i))
   pub broadcasts : All (All (IsLineOf s.log)) s.broadcasts

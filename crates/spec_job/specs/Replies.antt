@@ -19,6 +19,6 @@ abbrev pub told_of : ℕ → SoloMachine → Option ReplyBody
 told_of zero s = None
 told_of (suc k) s = option_map (told_by s k) (slice_get s.answers k)
 
--- the reply to a job's revision, none before it is answered
+-- the reply to a job's revision, which names the profile of the job's solvers; none before it is answered
 abbrev pub reply : Key → ℕ → SoloMachine → Option (List ℕ)
-reply k r s = option_map (reply_text k.tenant k.job r) (told_of r s)
+reply k r s = option_map (reply_text k.tenant k.job r s.ask.profile) (told_of r s)

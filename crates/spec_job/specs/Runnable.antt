@@ -1,6 +1,6 @@
 use Rattle.std.specs.Prelude.{◌≡◌, ◌+◌, ◌<◌, ◌^◌, true, List, [], ◌∷◌, ◌++◌, length}
 use Rattle.mal_revision.specs.Posted.{Posted, is_posted}
-use Rattle.spec_job.specs.SoloMachine.{Own, Opened, Revised, Closed, Volume, Started, Finished, Exchanged, SoloMachine, solo, startable, clauses_in}
+use Rattle.spec_job.specs.SoloMachine.{Own, Opened, Revised, Closed, Volume, Started, Finished, Exchanged, SoloMachine, unopened, solo, startable, clauses_in}
 use Rattle.spec_job.specs.Models.{AnswersFollow, AnswersSolve, KeepsAnswers}
 use Rattle.spec_job.specs.Proofs.{AnswersRefute, LogIsDerived}
 
@@ -9,9 +9,10 @@ pub record MayCome (s : SoloMachine) (r : Posted) : Type 0 where
   pub posted : is_posted r ≡ true
   pub room : clauses_in s.revisions + length r.clauses < 2 ^ 32
 
--- a job's machine may take an event: a revision that may come, a start of a node that may start, and any other
+-- a job's machine may take an event: an opening before all else, a revision that may come, a start of a node that may start,
+-- and any other
 abbrev pub MayHappen : SoloMachine → Own → Type 0
-MayHappen s (Opened ask) = Unit {0}
+MayHappen s (Opened ask) = s ≡ unopened
 MayHappen s (Revised r) = MayCome s r
 MayHappen s Closed = Unit {0}
 MayHappen s (Volume v) = Unit {0}

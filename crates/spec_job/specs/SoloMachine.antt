@@ -56,7 +56,7 @@ pub record SoloMachine : Type 0 where
 
 -- the machine before its first event: 64 vacant places and nothing else
 abbrev pub unopened : SoloMachine
-unopened = record { ask = record { priority = 0; demand = 0; slices = 0 }; closed = false; volume = 0; revisions = []; answers = []; places = replicate 64 vacant; log = []; broadcasts = []; ran = 0; spent = 0; starved = 0 }
+unopened = record { ask = record { priority = 0; demand = 0; slices = 0; profile = 1 }; closed = false; volume = 0; revisions = []; answers = []; places = replicate 64 vacant; log = []; broadcasts = []; ran = 0; spent = 0; starved = 0 }
 
 -- revisions are answered in order: the current one is the first without an answer
 abbrev pub current : SoloMachine → ℕ
@@ -135,7 +135,7 @@ is_late s l = nat_lt l.revision (current s)
 abbrev pub finished_ran : SoloMachine → ℕ → NodeSlot → Lease → SoloMachine
 finished_ran s i p l =
     let entries = p.entries ++ l.adds in
-    let slice = replay i entries in
+    let slice = replay s.ask.profile i entries in
     let home = record (with_place s i (record p { entries = entries; out = None })) { log = s.log ++ slice.lines; ran = s.ran + 1 } in
     if is_late s l then home else conclude slice.node.verdict slice.node home
 

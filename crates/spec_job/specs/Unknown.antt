@@ -22,7 +22,7 @@ pub record Ending : Type 0 where
 
 -- how the start that is out at an index ends
 abbrev pub ending_of : SoloMachine → ℕ → Outcome → Lease → Ending
-ending_of s i outcome l = record { revision = l.revision; late = is_late s l; outcome = outcome; node = (replay i ((place_at s i).entries ++ l.adds)).node }
+ending_of s i outcome l = record { revision = l.revision; late = is_late s l; outcome = outcome; node = (replay s.ask.profile i ((place_at s i).entries ++ l.adds)).node }
 
 -- the start that an own event ends: that of its node, where the event is a finish and the node is out
 abbrev pub ended_by : SoloMachine → Own → Option Ending

@@ -28,7 +28,7 @@ and_start v index start = record { number = v.number; titled = stepped v.titled 
 
 -- the journal of the node at an index, with the number of its last start
 abbrev pub journal_at : JobView → ℕ → Journaled
-journal_at v index = record { job = v.number; index = index; start = get_or v.starts index 0; entries = (place_at v.titled.state index).entries }
+journal_at v index = record { job = v.number; profile = v.titled.state.ask.profile; index = index; start = get_or v.starts index 0; entries = (place_at v.titled.state index).entries }
 
 -- a lease is the one of a start: it has the journal of the job after that start, and what the start adds to it
 pub record IsLeaseOf (v : JobView) (index start by : ℕ) (l : Leased) : Type 0 where

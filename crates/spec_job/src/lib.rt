@@ -9,17 +9,20 @@ ghost use Rattle.spec_job.specs.Examples.{HasExamples, HasExchanges, HasRefutati
 ghost use Rattle.spec_job.specs.Exported.{ExchangesTellDerived, ExportsAreDerived, HasUntold};
 ghost use Rattle.spec_job.specs.Following.{RunnableJournalsFollow};
 ghost use Rattle.spec_job.specs.Left.{LeftFalls};
+ghost use Rattle.spec_job.specs.ProfileExamples.{HasProfiles};
 ghost use Rattle.spec_job.specs.Provenance.{RunnableClausesOwn};
 ghost use Rattle.spec_job.specs.Runnable.{AnswersStay, RunnableAnswersFollow, RunnableAnswersRefute, RunnableAnswersSolve, RunnableLogsDerived};
 ghost use Rattle.spec_job.specs.Unknown.{RunnableAnswersAccountedFor, RunnableFedAnswersDecide};
 ghost use Rattle.spec_job.specs.UnknownExamples.{HasEndings};
 
-/// The worked examples of a job's machine compute to the answers that are known, and own events may happen as they should.
+/// The worked examples of a job's machine compute to the answers that are known, under either profile of its solvers, and own events
+/// may happen as they should.
 pub fn job_examples()
     ensures machines { HasExamples }
     ensures refutations { HasRefutations }
     ensures exchanges { HasExchanges }
     ensures runnable { HasRunnable }
+    ensures profiles { HasProfiles }
 {}
 
 /// Where each own event may happen after those before it, each satisfiable answer carries a model of its revision, which has a
@@ -58,8 +61,8 @@ pub fn clauses_are_own()
     ensures { RunnableClausesOwn }
 {}
 
-/// The answers and the replies of a job that one node runs are decided by its name, its budget and its revisions, whatever own
-/// events lie between them; no exchange is due then.
+/// The answers and the replies of a job that one node runs are decided by its name, its budget, its solvers' profile and its
+/// revisions, whatever own events lie between them; no exchange is due then.
 pub fn singles_agree()
     ensures agree { SinglesAgree }
     ensures alone { NoneIsDue }
@@ -85,16 +88,16 @@ pub fn unknowns_are_accounted_for()
     ensures examples { HasEndings }
 {}
 
-/// What a node exports are the short lines that the slices of its journal derived since it last took part in an exchange; an
-/// exchange tells all that the nodes export that take part.
+/// Where a job is opened before all else, what a node exports are the short lines that the slices of its journal derived since it
+/// last took part in an exchange; an exchange tells all that the nodes export that take part.
 pub fn exports_are_derived()
     ensures exports { ExportsAreDerived }
     ensures exchanges { ExchangesTellDerived }
     ensures examples { HasUntold }
 {}
 
-/// The answer and the reply to a revision of a job that one node runs are decided by its name, its budget and its revisions up to
-/// that one, whatever revisions come behind and whatever own events lie between them.
+/// The answer and the reply to a revision of a job that one node runs are decided by its name, its budget, its solvers' profile and
+/// its revisions up to that one, whatever revisions come behind and whatever own events lie between them.
 pub fn singles_agree_up_to()
     ensures agree { SinglesAgreeUpTo }
     ensures example { HasUpTo }

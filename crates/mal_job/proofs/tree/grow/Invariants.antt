@@ -5,7 +5,7 @@ use Rattle.mal_job.proofs.tree.grow.Given as goal
 abbrev pub invariant-loop-index : goal.invariant-loop-index
 invariant-loop-index l =
     record {
-      grown : IsGrown l.number l.fn.places.items l.places.items;
+      grown : IsGrown l.number l.profile l.fn.places.items l.places.items;
       len : length l.places.items ≡ l.index;
       few : length l.places.items ≤ 64;
     }

@@ -9,4 +9,4 @@ pub new-requires-2 : goal.new-requires-2
 new-requires-2 c =
     let same = ap (λ (xs : List (Option (List ℕ))). length xs) c.clauses.ensures.value in
     let may = first-may 0 c.deref.result.now (omega arith) c.clauses.ensures.form (omega (arith, same, c.if-clauses-gt1000.false)) in
-    rw (c.requires, c.in_ok-loads.ensures.items, c.new.ensures.items) (subst (λ (r : Posted). MayAllReplay (replay 0 []) (Load r 1 ∷ Run ∷ [])) c.deref.ensures may)
+    rw (c.requires, c.in_ok-loads.ensures.items, c.new.ensures.items) (subst (λ (r : Posted). MayAllReplay (replay 1 0 []) (Load r 1 ∷ Run ∷ [])) c.deref.ensures may)

@@ -13,13 +13,13 @@ pub do_again-requires : goal.do_again-requires
 do_again-requires c =
     let items = c.entries-entry-items.result.now in
     let all = rw (← c.entries-entry-items.ensures.value) at c.entries-entry-items.ensures.keeps.replays in
-    rw c.loop-entry.invariant (may-at (replay c.args.journal.now.index []) items c.loop-entry.entry-index c.entry-item.result c.entry-item.result (omega (arith, c.loop-entry-test.true)) c.entry-item.is all)
+    rw c.loop-entry.invariant (may-at (replay c.args.journal.now.profile c.args.journal.now.index []) items c.loop-entry.entry-index c.entry-item.result c.entry-item.result (omega (arith, c.loop-entry-test.true)) c.entry-item.is all)
 
 pub loop-entry-preserved : goal.loop-entry-preserved
 loop-entry-preserved c =
     let items = c.entries-entry-items.result.now in
-    let start : Sliced = replay c.args.journal.now.index [] in
-    let front : Sliced = replay c.args.journal.now.index (entries_of (take c.loop-entry.entry-index items)) in
+    let start : Sliced = replay c.args.journal.now.profile c.args.journal.now.index [] in
+    let front : Sliced = replay c.args.journal.now.profile c.args.journal.now.index (entries_of (take c.loop-entry.entry-index items)) in
     let next = replay-at start items c.loop-entry.entry-index c.entry-item.result c.entry-item.result (omega (arith, c.loop-entry-test.true)) c.entry-item.is in
     c.in_ok-do_again.ensures
     ∙ ap (λ (n : Node). (after_entry (alone n) (entry_of c.entry-item.result)).node) c.loop-entry.invariant

@@ -14,13 +14,13 @@ use Rattle.mal_job.proofs.job.Job.end_run.Goals as goal
 pub finish_run-requires-clause-out : goal.finish_run-requires-clause-out
 finish_run-requires-clause-out c =
     let q : Parts = record { asked = c.self.inside.questions; tree = c.self.inside.tree; log = c.self.inside.log } in
-    let b : IsBackAt (placed q.tree c.args.index) c.args.back = back-place c.self.inside.tenant c.self.inside.name q c.args.index c.args.back c.self.invariant.tree (rw (← c.self.view_is) at c.requires.back) in
+    let b : IsBackAt (placed q.tree c.args.index) c.args.back = back-place c.self.inside.tenant c.self.inside.name q c.args.index c.args.back c.self.invariant.tree c.self.invariant.solvers (rw (← c.self.view_is) at c.requires.back) in
     ap (λ (o : Option Lease). is_some o) b.out
 
 pub finish_run-requires-clause-back : goal.finish_run-requires-clause-back
 finish_run-requires-clause-back c =
     let q : Parts = record { asked = c.self.inside.questions; tree = c.self.inside.tree; log = c.self.inside.log } in
-    let b : IsBackAt (placed q.tree c.args.index) c.args.back = back-place c.self.inside.tenant c.self.inside.name q c.args.index c.args.back c.self.invariant.tree (rw (← c.self.view_is) at c.requires.back) in
+    let b : IsBackAt (placed q.tree c.args.index) c.args.back = back-place c.self.inside.tenant c.self.inside.name q c.args.index c.args.back c.self.invariant.tree c.self.invariant.solvers (rw (← c.self.view_is) at c.requires.back) in
     back-ran (placed q.tree c.args.index) c.args.back c.requires.ran b
 
 pub finish_run-requires-clause-few : goal.finish_run-requires-clause-few
@@ -53,13 +53,13 @@ finish_run-requires-clause-orderly c =
 pub invariant_of-self : goal.invariant_of-self
 invariant_of-self c =
     let q : Parts = record { asked = c.self.inside.questions; tree = c.self.inside.tree; log = c.self.inside.log } in
-    let b : IsBackAt (placed q.tree c.args.index) c.args.back = back-place c.self.inside.tenant c.self.inside.name q c.args.index c.args.back c.self.invariant.tree (rw (← c.self.view_is) at c.requires.back) in
+    let b : IsBackAt (placed q.tree c.args.index) c.args.back = back-place c.self.inside.tenant c.self.inside.name q c.args.index c.args.back c.self.invariant.tree c.self.invariant.solvers (rw (← c.self.view_is) at c.requires.back) in
     let h : HasRun c.args.back = subst (λ (o : Outcome). Tells o c.args.back) c.requires.ran c.lines.ensures.tells in
     ran-kept q c.args.index c.self.invariant (ap (λ (o : Option Lease). is_some o) b.out) c.args.back (back-ran (placed q.tree c.args.index) c.args.back c.requires.ran b) h c.finish_run.new.questions c.finish_run.new.tree c.finish_run.new.log c.finish_run.ensures.questions c.finish_run.ensures.tree c.finish_run.ensures.log c.finish_run.ensures.less c.finish_run.ensures.asked c.finish_run.ensures.kept
 
 pub returns : goal.returns
 returns c =
     let q : Parts = record { asked = c.self.inside.questions; tree = c.self.inside.tree; log = c.self.inside.log } in
-    let b : IsBackAt (placed q.tree c.args.index) c.args.back = back-place c.self.inside.tenant c.self.inside.name q c.args.index c.args.back c.self.invariant.tree (rw (← c.self.view_is) at c.requires.back) in
+    let b : IsBackAt (placed q.tree c.args.index) c.args.back = back-place c.self.inside.tenant c.self.inside.name q c.args.index c.args.back c.self.invariant.tree c.self.invariant.solvers (rw (← c.self.view_is) at c.requires.back) in
     let h : HasRun c.args.back = subst (λ (o : Outcome). Tells o c.args.back) c.requires.ran c.lines.ensures.tells in
     ran-view q c.args.index c.self.invariant (ap (λ (o : Option Lease). is_some o) b.out) c.args.back (back-ran (placed q.tree c.args.index) c.args.back c.requires.ran b) h c.finish_run.new.questions c.finish_run.new.tree c.finish_run.new.log c.finish_run.ensures.questions c.finish_run.ensures.tree c.finish_run.ensures.log c.finish_run.ensures.less c.self.inside.tenant c.self.inside.name ∙ ap (λ (v : JobView). and_own v (Finished c.args.index Ran)) c.self.view_is

@@ -23,4 +23,5 @@ returns c =
     let rs : List Posted = c.self.inside.questions.revisions in
     let front : shared (take c.args.r c.revisions-revisions.result.now) ≡ take c.args.r rs = shared-take c.args.r c.revisions-revisions.result.now ∙ ap (λ (xs : List Posted). take c.args.r xs) c.revisions-revisions.ensures.value in
     let same = proof-told rs c.self.inside.log.lines c.args.r c.args.goal c.count_clauses-count.result c.lits_of.result.now c.as_slice.result.now c.in_ok-needed.needed.lines c.in_ok-lines.lines.lines c.requires.first (c.lits_of.ensures ∙ ap (λ (ls : List Line). lits_at c.args.goal ls) c.log-log.ensures) (c.as_slice.ensures.value ∙ c.in_ok-failed.ensures) (c.in_ok-needed.ensures.reached ∙ ap (λ (ls : List Line). reached c.args.goal ls) c.log-log.ensures) (c.count_clauses-count.ensures ∙ ap clauses_in front) c.in_ok-lines.ensures in
-    rw (← c.self.view_is) (subst (λ (t : ReplyBody). IfOk c.unsatisfiable.result (λ text. text.items ≡ reply_text c.self.inside.tenant c.self.inside.name c.args.r t)) same c.unsatisfiable.ensures)
+    let told = rw (c.profile.ensures.value, c.ask.ensures) at c.unsatisfiable.ensures in
+    rw (← c.self.view_is) (subst (λ (t : ReplyBody). IfOk c.unsatisfiable.result (λ text. text.items ≡ reply_text c.self.inside.tenant c.self.inside.name c.args.r c.self.inside.questions.ask.profile t)) same told)

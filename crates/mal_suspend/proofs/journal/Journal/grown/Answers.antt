@@ -12,7 +12,7 @@ invariant_of-result c =
     let before : List JournalEntry = entries_of c.self.inside.entries.items in
     let adds : List JournalEntry = start_entries (shared_loads c.args.loads.now) (shared_tolds c.args.imports.now) in
     let is : entries_of c.push.new.self.items ≡ before ++ adds = grown-entries (shared_loads c.args.loads.now) (shared_tolds c.args.imports.now) before c.in_ok-entries.entries.items c.push_loads.new.entries.items c.push_imports.new.entries.items c.push.new.self.items (rw c.as_slice.ensures.value at c.in_ok-entries.ensures) c.in_ok-push_loads.ensures c.in_ok-push_imports.ensures c.in_ok-push.ensures.items in
-    subst (λ (es : List JournalEntry). IsJournal c.self.inside.index es) (sym is) (journal-grows c.self.inside.index before adds c.self.invariant (rw (← c.self.view_is) at c.requires) (start-rests before (shared_loads c.args.loads.now) (shared_tolds c.args.imports.now)))
+    subst (λ (es : List JournalEntry). IsJournal c.self.inside.profile c.self.inside.index es) (sym is) (journal-grows c.self.inside.profile c.self.inside.index before adds c.self.invariant (rw (← c.self.view_is) at c.requires) (start-rests before (shared_loads c.args.loads.now) (shared_tolds c.args.imports.now)))
 
 pub returns-clause-keeps : goal.returns-clause-keeps
 returns-clause-keeps c = invariant_of-result c

@@ -29,4 +29,4 @@ ran-requires-clause-lines c =
     c.run.ensures.lines ∙ ap (λ (s : Sliced). s.lines) ends
 
 pub ran-requires-clause-room : goal.ran-requires-clause-room
-ran-requires-clause-room c = rw (variables-replay c.self.inside.grown.index c.self.inside.grown.entries) c.self.invariant.2
+ran-requires-clause-room c = rw (variables-replay c.self.inside.grown.profile c.self.inside.grown.index c.self.inside.grown.entries) c.self.invariant.2
