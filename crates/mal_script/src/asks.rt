@@ -1,12 +1,13 @@
 //! The asks of jobs, as they are read.
 
 ghost use Rattle.std.specs.Prelude.{◌≡◌, ◌≤◌, ◌<◌, IfOk};
+ghost use Rattle.spec_text.specs.Inputs.{words_of};
 ghost use Rattle.spec_text.specs.Numbers.{number_in};
 ghost use Rattle.mal_text.specs.Numbers.{word_of};
-ghost use Rattle.spec_script.specs.Reading.{is_number, ranged, in_range, asked};
+ghost use Rattle.spec_script.specs.Reading.{is_number, ranged, in_range, asked, profile_in};
 
 use mal_base::{Ask, LineFault};
-use mal_text::{NumberFault, number};
+use mal_text::{NumberFault, first_word, number};
 
 /// Whether a word that was read as this says a number.
 fn is_number(word: Result<i64, NumberFault>) -> bool
@@ -39,27 +40,47 @@ fn in_range(
     priority: Result<i64, NumberFault>,
     demand: Result<i64, NumberFault>,
     slices: Result<i64, NumberFault>,
+    profile: Result<i64, NumberFault>,
 ) -> Result<Ask, LineFault>
-    ensures { result ≡ in_range (word_of priority) (word_of demand) (word_of slices) }
+    ensures { result ≡ in_range (word_of priority) (word_of demand) (word_of slices) (word_of profile) }
 {
     let priority = ranged(priority, 1000)?;
     let demand = ranged(demand, 64)?;
     let slices = ranged(slices, 4096)?;
-    match Ask::of(i64::from(priority), i64::from(demand), i64::from(slices)) {
+    let profile = ranged(profile, 2)?;
+    let Some(ask) = Ask::of(i64::from(priority), i64::from(demand), i64::from(slices)) else {
+        unreachable!()
+    };
+    match ask.with_profile(i64::from(profile)) {
         Some(ask) => Ok(ask),
         None => unreachable!(),
     }
 }
 
-/// The ask of the words of a priority, a demand and a number of slices.
-pub fn asked(priority: &[u8], demand: &[u8], slices: &[u8]) -> Result<Ask, LineFault>
-    ensures { result ≡ asked (number_in priority.now 1000) (number_in demand.now 64) (number_in slices.now 4096) }
+/// The number that the words behind the slices say for the profile: 1 where no word stands there, and none where more
+/// than one do.
+fn profile_in(line: &[u8]) -> Result<i64, NumberFault>
+    ensures { word_of result ≡ profile_in (words_of line.now) }
+{
+    let Some((word, behind)) = first_word(line) else {
+        return Ok(1);
+    };
+    match first_word(behind) {
+        None => number(word, 2),
+        Some(_) => Err(NumberFault::NotANumber),
+    }
+}
+
+/// The ask of the words of a priority, a demand and a number of slices, and of the words behind them.
+pub fn asked(priority: &[u8], demand: &[u8], slices: &[u8], behind: &[u8]) -> Result<Ask, LineFault>
+    ensures { result ≡ asked (number_in priority.now 1000) (number_in demand.now 64) (number_in slices.now 4096) (profile_in (words_of behind.now)) }
 {
     let priority = number(priority, 1000);
     let demand = number(demand, 64);
     let slices = number(slices, 4096);
-    if !is_number(priority) || !is_number(demand) || !is_number(slices) {
+    let profile = profile_in(behind);
+    if !is_number(priority) || !is_number(demand) || !is_number(slices) || !is_number(profile) {
         return Err(LineFault::BadLine);
     }
-    in_range(priority, demand, slices)
+    in_range(priority, demand, slices, profile)
 }

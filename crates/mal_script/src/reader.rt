@@ -108,7 +108,7 @@ impl Reader {
         Ok(self)
     }
 
-    /// After the words of a job's first line: its name, and its priority, demand and slices.
+    /// After the words of a job's first line: its name, its priority, demand and slices, and the words behind them.
     fn of_tenant(
         self,
         alloc: Global,
@@ -117,8 +117,9 @@ impl Reader {
         priority: &[u8],
         demand: &[u8],
         slices: &[u8],
+        behind: &[u8],
     ) -> Result<Reader, LineRefusal>
-        ensures { Gives (λ r. r) result (of_tenant limits self.tenant name.now priority.now demand.now slices.now self) }
+        ensures { Gives (λ r. r) result (of_tenant limits self.tenant name.now priority.now demand.now slices.now (words_of behind.now) self) }
     {
         let Some(tenant) = self.tenant else {
             return Err(LineRefusal::Fault(LineFault::BadLine));
@@ -126,7 +127,7 @@ impl Reader {
         let Some(name) = Name::of(alloc, name)? else {
             return Err(LineRefusal::Fault(LineFault::BadLine));
         };
-        match asked(priority, demand, slices) {
+        match asked(priority, demand, slices, behind) {
             Ok(ask) => self.admitted(alloc, limits, tenant, name, ask),
             Err(fault) => Err(LineRefusal::Fault(fault)),
         }
@@ -137,8 +138,8 @@ impl Reader {
         ensures { Gives (λ r. r) result (after_job limits (words_of words.now) self) }
     {
         match four_words(words) {
-            Some((name, priority, demand, slices)) => {
-                self.of_tenant(alloc, limits, name, priority, demand, slices)
+            Some((name, priority, demand, slices, behind)) => {
+                self.of_tenant(alloc, limits, name, priority, demand, slices, behind)
             }
             None => Err(LineRefusal::Fault(LineFault::BadLine)),
         }
@@ -327,13 +328,13 @@ fn only_word(line: &[u8]) -> Option<&[u8]>
     }
 }
 
-/// The four words of a line. None exactly where the line has another number of words.
-fn four_words(line: &[u8]) -> Option<(&[u8], &[u8], &[u8], &[u8])>
-    ensures { MatchOption result ((a b c d : List ℕ) → words_of line.now ≢ a ∷ b ∷ c ∷ d ∷ []) (λ w. words_of line.now ≡ w.0.now ∷ w.1.now ∷ w.2.now ∷ w.3.now ∷ []) }
+/// The first four words of a line, and what is behind them. None exactly where the line has fewer words.
+fn four_words(line: &[u8]) -> Option<(&[u8], &[u8], &[u8], &[u8], &[u8])>
+    ensures { MatchOption result ((a b c d : List ℕ) (behind : List (List ℕ)) → words_of line.now ≢ a ∷ b ∷ c ∷ d ∷ behind) (λ w. words_of line.now ≡ w.0.now ∷ w.1.now ∷ w.2.now ∷ w.3.now ∷ words_of w.4.now) }
 {
     let (first, others) = first_word(line)?;
     let (second, others) = first_word(others)?;
     let (third, others) = first_word(others)?;
-    let fourth = only_word(others)?;
-    Some((first, second, third, fourth))
+    let (fourth, behind) = first_word(others)?;
+    Some((first, second, third, fourth, behind))
 }

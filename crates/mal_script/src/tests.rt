@@ -1,6 +1,7 @@
+//! Scripts that are read and written, and texts that are none.
+
 use super::*;
-use mal_base::{LimitKind, Lit, Name};
-use mal_dimacs::BlockFault;
+use mal_base::{Ask, Lit};
 use std::alloc::Global;
 use std::test::Fail;
 
@@ -8,266 +9,231 @@ fn lit(number: i32) -> Result<Lit, Fail> {
     Ok(Lit::of_dimacs(number).ok_or("no literal")?)
 }
 
-/// The fault of a text.
-fn fault(alloc: Global, text: &[u8]) -> Option<ScriptFault> {
-    read(alloc, text).err()
+/// What comes of a text: its script written again, or the line that tells its fault.
+fn told(alloc: Global, text: &[u8]) -> Result<Vec<u8>, Fail> {
+    match read(alloc, text) {
+        Ok(script) => Ok(write(alloc, &script)?),
+        Err(fault) => Ok(fault_line(alloc, fault)?.ok_or("no memory")?),
+    }
 }
 
-/// The text of the script that is read.
-fn again(alloc: Global, text: &[u8]) -> Result<Vec<u8>, Fail> {
-    let script = read(alloc, text)?;
-    Ok(write(alloc, &script)?)
+/// Whether a text is a script.
+fn is_script(alloc: Global, text: &[u8]) -> bool {
+    read(alloc, text).is_ok()
+}
+
+/// Texts of scripts, with what is written of them: every field of a job, a tautology, what tools write, jobs of several
+/// tenants, several revisions, assumptions, and jobs that name the profile of their solvers.
+const READ: [(&[u8], &[u8]); 11] = [
+    (b"", b""),
+    (
+        b"t a\nj p_1 1000 64 4096\np cnf 3 3\n1 -3 0\n-2 0\n0\na 0\ne\n",
+        b"t a\nj p_1 1000 64 4096\np cnf 3 3\n1 -3 0\n-2 0\n0\na 0\ne\n",
+    ),
+    (b"t a\nj p 1 1 4\ne\n", b"t a\nj p 1 1 4\ne\n"),
+    (
+        b"c made by a tool\r\nt a\r\nj p 1 1 04\r\np cnf 2 2\r\n1\r\n2 0 -1\r\n\r\n-1 0\r\n%\r\n0\r\na 00\r\ne",
+        b"t a\nj p 1 1 4\np cnf 2 2\n1 2 0\n-1 0\na 0\ne\n",
+    ),
+    (
+        b"t a\nj p 1 1 4\np cnf 2 2\n1 -1 0\n2 0\na 0\ne\n",
+        b"t a\nj p 1 1 4\np cnf 2 2\n1 -1 0\n2 0\na 0\ne\n",
+    ),
+    (
+        b"t a\nt b\nt a\nj p 1 1 4\np cnf 2 1\n1 2 0\na 2 -1 2 0\np cnf 1 0\na 1 0\ne\nt b\nj p 2 2 2\ne\n",
+        b"t a\nj p 1 1 4\np cnf 2 1\n1 2 0\na -1 2 0\np cnf 1 0\na 1 0\ne\nt b\nj p 2 2 2\ne\n",
+    ),
+    (
+        b"t a\nj p 1 1 4\ne\nj q 1 1 4\ne\n",
+        b"t a\nj p 1 1 4\ne\nt a\nj q 1 1 4\ne\n",
+    ),
+    (
+        b"t a\nj p 1 1 4\np cnf 0 0\na 0\np cnf 0 0\na 0\ne\n",
+        b"t a\nj p 1 1 4\np cnf 0 0\na 0\np cnf 0 0\na 0\ne\n",
+    ),
+    (
+        b"t a\nj p 1 1 4\np cnf 2 0\na 1 0\ne\n",
+        b"t a\nj p 1 1 4\np cnf 2 0\na 1 0\ne\n",
+    ),
+    (b"t a\nj p 1 1 4 02\ne\n", b"t a\nj p 1 1 4 2\ne\n"),
+    (b"t a\nj p 1 1 4 1\ne\n", b"t a\nj p 1 1 4\ne\n"),
+];
+
+#[test]
+fn scripts_are_read_and_written_again(rt: HostRuntime) -> Result<(), Fail> {
+    for (text, again) in READ {
+        let written = told(rt.alloc(), text)?;
+        assert_eq!(rt; written.as_slice(), again);
+    }
+    Ok(())
+}
+
+/// Whether a job has these names and this ask.
+fn is_job(job: &ScriptJob, tenant: &[u8], name: &[u8], ask: Ask) -> bool {
+    job.tenant().as_bytes() == tenant && job.name().as_bytes() == name && job.ask() == ask
+}
+
+/// How many variables and clauses the first revision of a job has.
+fn first_sizes(job: &ScriptJob) -> Option<(u32, usize)> {
+    let revision = job.revisions().first()?;
+    Some((revision.variables(), revision.clauses().len()))
 }
 
 #[test]
-fn a_script_is_read_and_written_again(rt: HostRuntime) -> Result<(), Fail> {
-    let alloc = rt.alloc();
+fn a_job_has_what_is_read(rt: HostRuntime) -> Result<(), Fail> {
     let text = b"t a\nj p_1 1000 64 4096\np cnf 3 3\n1 -3 0\n-2 0\n0\na 0\ne\n";
-    let script = read(alloc, text)?;
+    let script = read(rt.alloc(), text)?;
     let job = script.jobs().first().ok_or("no job")?;
-    assert_eq!(rt; job.tenant().as_bytes(), b"a".as_slice());
-    assert_eq!(rt; job.name().as_bytes(), b"p_1".as_slice());
-    assert_eq!(rt; job.ask().priority(), 1000);
-    assert_eq!(rt; job.ask().demand(), 64);
-    assert_eq!(rt; job.ask().slices(), 4096);
-    let revision = job.revisions().first().ok_or("no revision")?;
-    assert_eq!(rt; revision.variables(), 3);
-    assert_eq!(rt; revision.clauses().len(), 3);
-    let text_again = write(alloc, &script)?;
-    assert_eq!(rt; text_again.as_slice(), text.as_slice());
+    let ask = Ask::of(1000, 64, 4096).ok_or("no ask")?;
+    assert!(rt; is_job(job, b"a", b"p_1", ask));
+    assert!(rt; first_sizes(job) == Some((3, 3)));
     Ok(())
+}
+
+#[test]
+fn the_sixth_word_of_a_job_names_its_profile(rt: HostRuntime) -> Result<(), Fail> {
+    let script = read(rt.alloc(), b"t a\nj p 1 1 4 2\ne\n")?;
+    let job = script.jobs().first().ok_or("no job")?;
+    assert_eq!(rt; job.ask().profile(), 2);
+    Ok(())
+}
+
+/// How many revisions each job of a script has.
+fn revisions_of(alloc: Global, text: &[u8]) -> Result<Vec<usize>, Fail> {
+    let script = read(alloc, text)?;
+    let mut counts = Vec::new(alloc);
+    for job in script.jobs() {
+        counts.push(job.revisions().len())?;
+    }
+    Ok(counts)
 }
 
 #[test]
 fn an_empty_script_and_a_job_without_a_revision_are_read(rt: HostRuntime) -> Result<(), Fail> {
-    let alloc = rt.alloc();
-    let empty = read(alloc, b"")?;
-    assert_eq!(rt; empty.jobs().len(), 0);
-    let bare = read(alloc, b"t a\nj p 1 1 4\ne\n")?;
-    assert_eq!(rt; bare.jobs().len(), 1);
-    let job = bare.jobs().first().ok_or("no job")?;
-    assert_eq!(rt; job.revisions().len(), 0);
+    assert_eq!(rt; revisions_of(rt.alloc(), b"")?.len(), 0);
+    let bare = revisions_of(rt.alloc(), b"t a\nj p 1 1 4\ne\n")?;
+    assert_eq!(rt; bare.as_slice(), [0].as_slice());
     Ok(())
 }
 
-#[test]
-fn what_tools_write_is_read(rt: HostRuntime) -> Result<(), Fail> {
-    let alloc = rt.alloc();
-    let text =
-        b"c made by a tool\r\nt a\r\nj p 1 1 04\r\np cnf 2 2\r\n1\r\n2 0 -1\r\n\r\n-1 0\r\n%\r\n0\r\na 00\r\ne";
-    let plain = again(alloc, text)?;
-    assert_eq!(rt;
-        plain.as_slice(),
-        b"t a\nj p 1 1 4\np cnf 2 2\n1 2 0\n-1 0\na 0\ne\n".as_slice()
-    );
-    Ok(())
+/// Whether each clause of a job's first revision is a tautology.
+fn tautologies(alloc: Global, job: &ScriptJob) -> Result<Vec<bool>, Fail> {
+    let revision = job.revisions().first().ok_or("no revision")?;
+    let mut found = Vec::new(alloc);
+    for clause in revision.clauses() {
+        found.push(clause.is_none())?;
+    }
+    Ok(found)
 }
 
 #[test]
 fn a_tautology_keeps_its_number(rt: HostRuntime) -> Result<(), Fail> {
-    let alloc = rt.alloc();
     let text = b"t a\nj p 1 1 4\np cnf 2 2\n1 -1 0\n2 0\na 0\ne\n";
-    let script = read(alloc, text)?;
+    let script = read(rt.alloc(), text)?;
     let job = script.jobs().first().ok_or("no job")?;
-    let revision = job.revisions().first().ok_or("no revision")?;
-    assert_eq!(rt; revision.clauses().len(), 2);
-    assert!(rt; revision.clauses()[0].is_none());
-    let plain = again(alloc, text)?;
-    assert_eq!(rt; plain.as_slice(), text.as_slice());
+    let found = tautologies(rt.alloc(), job)?;
+    assert_eq!(rt; found.as_slice(), [true, false].as_slice());
     Ok(())
 }
 
-#[test]
-fn jobs_revisions_and_assumptions_are_read_and_written(rt: HostRuntime) -> Result<(), Fail> {
-    let alloc = rt.alloc();
-    let text =
-        b"t a\nt b\nt a\nj p 1 1 4\np cnf 2 1\n1 2 0\na 2 -1 2 0\np cnf 1 0\na 1 0\ne\nt b\nj p 2 2 2\ne\n";
-    let plain = again(alloc, text)?;
-    assert_eq!(rt;
-        plain.as_slice(),
-        b"t a\nj p 1 1 4\np cnf 2 1\n1 2 0\na -1 2 0\np cnf 1 0\na 1 0\ne\nt b\nj p 2 2 2\ne\n".as_slice()
-    );
-    Ok(())
-}
+/// Texts with the lines that tell their first faults: of jobs and what stands between them, of blocks, of limits, of a name
+/// that stands twice, and of a variable that is assumed with both signs.
+const FAULTS: [(&[u8], &[u8]); 22] = [
+    (b"t a\nj p 0 1 4\ne\n", b"fault: script line 2 Range\n"),
+    (
+        b"t a\nj p 1 1 4 1 1\ne\n",
+        b"fault: script line 2 BadLine\n",
+    ),
+    (b"t a\nj p 1 1 4 0\ne\n", b"fault: script line 2 Range\n"),
+    (b"t a\nj p 1 1 4 3\ne\n", b"fault: script line 2 Range\n"),
+    (b"t a\nj p 1 1 4 x\ne\n", b"fault: script line 2 BadLine\n"),
+    (b"t a\nj p 0 1 4 x\ne\n", b"fault: script line 2 BadLine\n"),
+    (
+        b"t a\nj p 1 1 4 2 2\ne\n",
+        b"fault: script line 2 BadLine\n",
+    ),
+    (b"t a\nj p x 0 4\ne\n", b"fault: script line 2 BadLine\n"),
+    (b"e", b"fault: script line 1 BadLine\n"),
+    (b"\x1f\x8b\x08", b"fault: script line 1 BadLine\n"),
+    (b"j p 1 1 4\n", b"fault: script line 1 BadLine\n"),
+    (b"t A\n", b"fault: script line 1 BadLine\n"),
+    (b"t a\nj p 1 1 4\n\nc x", b"fault: script line 4 BadLine\n"),
+    (
+        b"t a\nj p 1 1 4\np cnf 2 1\n3 0\na 0\ne\n",
+        b"fault: script line 4 VarTooLarge\n",
+    ),
+    (
+        b"t a\nj p 1 1 4\np cnf 2 2\n1 2 0\n-1",
+        b"fault: script line 5 ClauseCount 2 1\n",
+    ),
+    (
+        b"t a\nj p 1 1 4\np cnf 2 1\n1 2 0\n",
+        b"fault: script line 4 BadLine\n",
+    ),
+    (
+        b"t a\nj p 1 1 4\np cnf 2 1\nq 2\na 0\ne\n",
+        b"fault: script line 4 BadNumber\n",
+    ),
+    (
+        b"t a\nj p 1 1 4\np cnf 2 2\n1 2 0\na x\ne\n",
+        b"fault: script line 5 ClauseCount 2 1\n",
+    ),
+    (
+        b"t a\nj p 1 1 4\np cnf 65537 0\na 0\ne\n",
+        b"fault: script line 3 Limit Variables\n",
+    ),
+    (
+        b"t a\nj p 1 1 4\np cnf 65536 1048577\na 0\ne\n",
+        b"fault: script line 3 Limit Clauses\n",
+    ),
+    (
+        b"t a\nj p 1 1 4\ne\nj p 1 1 4\ne\n",
+        b"fault: script line 4 Duplicate a p\n",
+    ),
+    (
+        b"t a\nj p 1 1 4\np cnf 2 0\na 1 -1 0\ne\n",
+        b"fault: script line 4 Opposite 1\n",
+    ),
+];
 
 #[test]
 fn the_first_fault_is_told_with_its_line(rt: HostRuntime) -> Result<(), Fail> {
-    let alloc = rt.alloc();
-    assert!(rt; fault(alloc, b"t a\nj p 0 1 4\ne\n") == Some(ScriptFault::Range { line: 2 }));
-    assert!(rt; fault(alloc, b"t a\nj p 1 1 4 1\ne\n") == Some(ScriptFault::BadLine { line: 2 }));
-    assert!(rt; fault(alloc, b"t a\nj p x 0 4\ne\n") == Some(ScriptFault::BadLine { line: 2 }));
-    assert!(rt; fault(alloc, b"e") == Some(ScriptFault::BadLine { line: 1 }));
-    assert!(rt; fault(alloc, b"\x1f\x8b\x08") == Some(ScriptFault::BadLine { line: 1 }));
-    assert!(rt; fault(alloc, b"j p 1 1 4\n") == Some(ScriptFault::BadLine { line: 1 }));
-    assert!(rt; fault(alloc, b"t A\n") == Some(ScriptFault::BadLine { line: 1 }));
-    assert!(rt; fault(alloc, b"t a\nj p 1 1 4\n\nc x") == Some(ScriptFault::BadLine { line: 4 }));
+    for (text, line) in FAULTS {
+        let fault = told(rt.alloc(), text)?;
+        assert_eq!(rt; fault.as_slice(), line);
+    }
+    assert!(rt; fault_line(rt.alloc(), ScriptFault::OutOfMemory)?.is_none());
     Ok(())
 }
 
-#[test]
-fn faults_of_a_block_are_told_with_their_line(rt: HostRuntime) -> Result<(), Fail> {
-    let alloc = rt.alloc();
-    let text = b"t a\nj p 1 1 4\np cnf 2 1\n3 0\na 0\ne\n";
-    let too_large = BlockFault::VarTooLarge;
-    assert!(rt;
-        fault(alloc, text)
-            == Some(ScriptFault::Dimacs {
-                line: 4,
-                fault: too_large
-            })
-    );
-    let cut = b"t a\nj p 1 1 4\np cnf 2 2\n1 2 0\n-1";
-    let count = BlockFault::ClauseCount {
-        declared: 2,
-        found: 1,
-    };
-    assert!(rt;
-        fault(alloc, cut)
-            == Some(ScriptFault::Dimacs {
-                line: 5,
-                fault: count
-            })
-    );
-    let whole = b"t a\nj p 1 1 4\np cnf 2 1\n1 2 0\n";
-    assert!(rt; fault(alloc, whole) == Some(ScriptFault::BadLine { line: 4 }));
-    let other = b"t a\nj p 1 1 4\np cnf 2 1\nq 2\na 0\ne\n";
-    let number = BlockFault::BadNumber;
-    assert!(rt;
-        fault(alloc, other)
-            == Some(ScriptFault::Dimacs {
-                line: 4,
-                fault: number
-            })
-    );
-    let early = b"t a\nj p 1 1 4\np cnf 2 2\n1 2 0\na x\ne\n";
-    assert!(rt;
-        fault(alloc, early)
-            == Some(ScriptFault::Dimacs {
-                line: 5,
-                fault: count
-            })
-    );
-    Ok(())
+/// Why a line of assumptions over two variables is refused.
+fn refusal(alloc: Global, line: &[u8]) -> Option<AssumptionFault> {
+    assumptions(alloc, line, 2).err()
 }
 
-#[test]
-fn limits_of_a_block_are_named(rt: HostRuntime) -> Result<(), Fail> {
-    let alloc = rt.alloc();
-    let variables = BlockFault::Limit {
-        which: LimitKind::Variables,
-    };
-    let wide = b"t a\nj p 1 1 4\np cnf 65537 0\na 0\ne\n";
-    assert!(rt;
-        fault(alloc, wide)
-            == Some(ScriptFault::Dimacs {
-                line: 3,
-                fault: variables
-            })
-    );
-    let clauses = BlockFault::Limit {
-        which: LimitKind::Clauses,
-    };
-    let long = b"t a\nj p 1 1 4\np cnf 65536 1048577\na 0\ne\n";
-    assert!(rt;
-        fault(alloc, long)
-            == Some(ScriptFault::Dimacs {
-                line: 3,
-                fault: clauses
-            })
-    );
-    Ok(())
-}
-
-#[test]
-fn a_job_of_the_same_name_is_refused(rt: HostRuntime) -> Result<(), Fail> {
-    let alloc = rt.alloc();
-    let text = b"t a\nj p 1 1 4\ne\nj p 1 1 4\ne\n";
-    let tenant = Name::of(alloc, b"a")?.ok_or("no name")?;
-    let job = Name::of(alloc, b"p")?.ok_or("no name")?;
-    let duplicate = ScriptFault::Duplicate {
-        line: 4,
-        tenant,
-        job,
-    };
-    assert!(rt; fault(alloc, text) == Some(duplicate));
-    let line = fault_line(alloc, duplicate)?.ok_or("no line")?;
-    assert_eq!(rt;
-        line.as_slice(),
-        b"fault: script line 4 Duplicate a p\n".as_slice()
-    );
-    Ok(())
-}
-
-#[test]
-fn faults_are_told_in_words(rt: HostRuntime) -> Result<(), Fail> {
-    let alloc = rt.alloc();
-    let count = BlockFault::ClauseCount {
-        declared: 2,
-        found: 1,
-    };
-    let line = fault_line(
-        alloc,
-        ScriptFault::Dimacs {
-            line: 5,
-            fault: count,
-        },
-    )?;
-    assert_eq!(rt;
-        line.ok_or("no line")?.as_slice(),
-        b"fault: script line 5 ClauseCount 2 1\n".as_slice()
-    );
-    let var = lit(1)?.var();
-    let opposite = fault_line(alloc, ScriptFault::Opposite { line: 4, var })?;
-    assert_eq!(rt;
-        opposite.ok_or("no line")?.as_slice(),
-        b"fault: script line 4 Opposite 1\n".as_slice()
-    );
-    let limit = ScriptFault::Limit {
-        line: 66,
-        which: LimitKind::Tenants,
-    };
-    let limit = fault_line(alloc, limit)?;
-    assert_eq!(rt;
-        limit.ok_or("no line")?.as_slice(),
-        b"fault: script line 66 Limit Tenants\n".as_slice()
-    );
-    assert!(rt; fault_line(alloc, ScriptFault::OutOfMemory)?.is_none());
-    Ok(())
-}
-
-#[test]
-fn a_second_job_a_second_revision_and_assumptions_are_read(rt: HostRuntime) -> Result<(), Fail> {
-    let alloc = rt.alloc();
-    let jobs = b"t a\nj p 1 1 4\ne\nj q 1 1 4\ne\n";
-    let plain = again(alloc, jobs)?;
-    assert_eq!(rt;
-        plain.as_slice(),
-        b"t a\nj p 1 1 4\ne\nt a\nj q 1 1 4\ne\n".as_slice()
-    );
-    let revisions = b"t a\nj p 1 1 4\np cnf 0 0\na 0\np cnf 0 0\na 0\ne\n";
-    let plain = again(alloc, revisions)?;
-    assert_eq!(rt; plain.as_slice(), revisions.as_slice());
-    let assumed = b"t a\nj p 1 1 4\np cnf 2 0\na 1 0\ne\n";
-    let plain = again(alloc, assumed)?;
-    assert_eq!(rt; plain.as_slice(), assumed.as_slice());
-    Ok(())
-}
+/// Lines of assumptions over two variables that are refused.
+const REFUSED: [(&[u8], AssumptionFault); 5] = [
+    (b"a 3 x 0", AssumptionFault::BadLine),
+    (b"a 3 1", AssumptionFault::BadLine),
+    (b"a 0 0", AssumptionFault::BadLine),
+    (b"b 0", AssumptionFault::BadLine),
+    (b"a 3 1 -1 0", AssumptionFault::Range),
+];
 
 #[test]
 fn assumptions_stand_once_by_variable(rt: HostRuntime) -> Result<(), Fail> {
-    let alloc = rt.alloc();
-    let assumed = assumptions(alloc, b"a 3 -1 3 00", 3)?;
+    let assumed = assumptions(rt.alloc(), b"a 3 -1 3 00", 3)?;
     assert_eq!(rt; assumed.as_slice(), [lit(-1)?, lit(3)?].as_slice());
-    assert!(rt; assumptions(alloc, b"a 3 x 0", 2).err() == Some(AssumptionFault::BadLine));
-    assert!(rt; assumptions(alloc, b"a 3 1", 2).err() == Some(AssumptionFault::BadLine));
-    assert!(rt; assumptions(alloc, b"a 0 0", 2).err() == Some(AssumptionFault::BadLine));
-    assert!(rt; assumptions(alloc, b"b 0", 2).err() == Some(AssumptionFault::BadLine));
-    assert!(rt; assumptions(alloc, b"a 3 1 -1 0", 2).err() == Some(AssumptionFault::Range));
-    let both = assumptions(alloc, b"a 2 1 -2 -1 0", 2).err();
-    assert!(rt; both == Some(AssumptionFault::Opposite { var: lit(1)?.var() }));
-    let text = b"t a\nj p 1 1 4\np cnf 2 0\na 1 -1 0\ne\n";
-    let var = lit(1)?.var();
-    assert!(rt; fault(alloc, text) == Some(ScriptFault::Opposite { line: 4, var }));
+    Ok(())
+}
+
+#[test]
+fn other_assumptions_are_refused(rt: HostRuntime) -> Result<(), Fail> {
+    for (line, fault) in REFUSED {
+        assert!(rt; refusal(rt.alloc(), line) == Some(fault));
+    }
+    let opposite = AssumptionFault::Opposite { var: lit(1)?.var() };
+    assert!(rt; refusal(rt.alloc(), b"a 2 1 -2 -1 0") == Some(opposite));
     Ok(())
 }
 
@@ -279,32 +245,48 @@ fn put(text: &mut Vec<u8>, word: &[u8], number: usize, rest: &[u8]) -> Result<()
     Ok(())
 }
 
+/// Writes these words, each with a number from 0 on, so often.
+fn put_all(text: &mut Vec<u8>, word: &[u8], times: usize, rest: &[u8]) -> Result<(), Fail> {
+    for number in 0..times {
+        put(text, word, number, rest)?;
+    }
+    Ok(())
+}
+
+/// Writes a part so often.
+fn repeat(text: &mut Vec<u8>, part: &[u8], times: usize) -> Result<(), Fail> {
+    for _ in 0..times {
+        text.extend_from_slice(part)?;
+    }
+    Ok(())
+}
+
 #[test]
 fn one_tenant_too_many_is_refused(rt: HostRuntime) -> Result<(), Fail> {
-    let alloc = rt.alloc();
-    let mut text = Vec::new(alloc);
-    for tenant in 0..64 {
-        put(&mut text, b"t t", tenant, b"\n")?;
-    }
-    assert!(rt; fault(alloc, text.as_slice()).is_none());
+    let mut text = Vec::new(rt.alloc());
+    put_all(&mut text, b"t t", 64, b"\n")?;
+    assert!(rt; is_script(rt.alloc(), text.as_slice()));
     text.extend_from_slice(b"t t0\nt t64\n")?;
-    let which = LimitKind::Tenants;
-    assert!(rt; fault(alloc, text.as_slice()) == Some(ScriptFault::Limit { line: 66, which }));
+    let line = told(rt.alloc(), text.as_slice())?;
+    assert_eq!(rt;
+        line.as_slice(),
+        b"fault: script line 66 Limit Tenants\n".as_slice()
+    );
     Ok(())
 }
 
 #[test]
 fn one_job_of_a_tenant_too_many_is_refused(rt: HostRuntime) -> Result<(), Fail> {
-    let alloc = rt.alloc();
-    let mut text = Vec::new(alloc);
+    let mut text = Vec::new(rt.alloc());
     text.extend_from_slice(b"t a\n")?;
-    for job in 0..64 {
-        put(&mut text, b"j j", job, b" 1 1 1\ne\n")?;
-    }
-    assert!(rt; fault(alloc, text.as_slice()).is_none());
+    put_all(&mut text, b"j j", 64, b" 1 1 1\ne\n")?;
+    assert!(rt; is_script(rt.alloc(), text.as_slice()));
     text.extend_from_slice(b"t b\nj p 1 1 1\ne\nt a\nj p 1 1 1\ne\n")?;
-    let which = LimitKind::Jobs;
-    assert!(rt; fault(alloc, text.as_slice()) == Some(ScriptFault::Limit { line: 134, which }));
+    let line = told(rt.alloc(), text.as_slice())?;
+    assert_eq!(rt;
+        line.as_slice(),
+        b"fault: script line 134 Limit Jobs\n".as_slice()
+    );
     Ok(())
 }
 
@@ -313,67 +295,65 @@ fn full_tenants(alloc: Global, tenants: usize) -> Result<Vec<u8>, Fail> {
     let mut text = Vec::new(alloc);
     for tenant in 0..tenants {
         put(&mut text, b"t t", tenant, b"\n")?;
-        for job in 0..64 {
-            put(&mut text, b"j j", job, b" 1 1 1\ne\n")?;
-        }
+        put_all(&mut text, b"j j", 64, b" 1 1 1\ne\n")?;
     }
     Ok(text)
 }
 
 #[test]
 fn all_jobs_of_all_tenants_are_read(rt: HostRuntime) -> Result<(), Fail> {
-    let alloc = rt.alloc();
-    let text = full_tenants(alloc, 64)?;
-    let script = read(alloc, text.as_slice())?;
-    assert_eq!(rt; script.jobs().len(), 4096);
+    let text = full_tenants(rt.alloc(), 64)?;
+    assert_eq!(rt; revisions_of(rt.alloc(), text.as_slice())?.len(), 4096);
     Ok(())
+}
+
+/// The text of a job with so many revisions.
+fn with_revisions(alloc: Global, revisions: usize) -> Result<Vec<u8>, Fail> {
+    let mut text = Vec::from_slice(alloc, b"t a\nj p 1 1 1\n")?;
+    repeat(&mut text, b"p cnf 0 0\na 0\n", revisions)?;
+    text.extend_from_slice(b"e\n")?;
+    Ok(text)
 }
 
 #[test]
 fn one_revision_too_many_is_refused(rt: HostRuntime) -> Result<(), Fail> {
-    let alloc = rt.alloc();
-    let mut text = Vec::new(alloc);
-    text.extend_from_slice(b"t a\nj p 1 1 1\n")?;
-    for _ in 0..256 {
-        text.extend_from_slice(b"p cnf 0 0\na 0\n")?;
-    }
-    let mut ended = text.clone()?;
-    ended.extend_from_slice(b"e\n")?;
-    assert!(rt; fault(alloc, ended.as_slice()).is_none());
-    text.extend_from_slice(b"p cnf 0 0\na 0\ne\n")?;
-    let which = LimitKind::Revisions;
-    assert!(rt; fault(alloc, text.as_slice()) == Some(ScriptFault::Limit { line: 515, which }));
+    let full = with_revisions(rt.alloc(), 256)?;
+    assert!(rt; is_script(rt.alloc(), full.as_slice()));
+    let text = with_revisions(rt.alloc(), 257)?;
+    let line = told(rt.alloc(), text.as_slice())?;
+    assert_eq!(rt;
+        line.as_slice(),
+        b"fault: script line 515 Limit Revisions\n".as_slice()
+    );
     Ok(())
 }
 
 #[test]
 fn too_many_clauses_of_a_job_are_refused(rt: HostRuntime) -> Result<(), Fail> {
-    let alloc = rt.alloc();
-    let mut text = Vec::new(alloc);
+    let mut text = Vec::new(rt.alloc());
     text.extend_from_slice(b"t a\nj p 1 1 1\np cnf 0 1\n0\na 0\np cnf 0 1048576\n")?;
-    for _ in 0..65_536 {
-        text.extend_from_slice(b"0 0 0 0 0 0 0 0 0 0 0 0 0 0 0 0\n")?;
-    }
+    repeat(&mut text, b"0 0 0 0 0 0 0 0 0 0 0 0 0 0 0 0\n", 65_536)?;
     text.extend_from_slice(b"a 0\ne\n")?;
-    let which = LimitKind::Clauses;
-    assert!(rt;
-        fault(alloc, text.as_slice())
-            == Some(ScriptFault::Limit {
-                line: 65_543,
-                which
-            })
+    let line = told(rt.alloc(), text.as_slice())?;
+    assert_eq!(rt;
+        line.as_slice(),
+        b"fault: script line 65543 Limit Clauses\n".as_slice()
     );
     Ok(())
 }
 
+/// The text of the script of seed 1 with five jobs.
+fn made(alloc: Global) -> Result<Vec<u8>, Fail> {
+    let script = generate(alloc, 1, 5)?;
+    Ok(write(alloc, &script)?)
+}
+
 #[test]
 fn a_seed_decides_a_script(rt: HostRuntime) -> Result<(), Fail> {
-    let alloc = rt.alloc();
-    let script = generate(alloc, 1, 5)?;
-    assert_eq!(rt; script.jobs().len(), 5);
-    let text = write(alloc, &script)?;
+    let text = made(rt.alloc())?;
     assert!(rt;
         text.as_slice().starts_with(b"t t1\nj j1 7 1 64\np cnf 50 213\n-9 13 -24 0\n20 -21 50 0\n")
     );
+    assert_eq!(rt; revisions_of(rt.alloc(), text.as_slice())?.len(), 5);
     Ok(())
 }

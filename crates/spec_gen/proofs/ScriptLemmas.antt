@@ -155,6 +155,8 @@ ask-formed x = let small : pick 8 x < 8 = pick-below 8 x (omega arith) in record
   demand_bound = omega arith;
   some_slices = omega arith;
   slices_bound = omega arith;
+  some_profile = omega arith;
+  profile_bound = omega arith;
 }
 
 job-formed : (i x : ℕ) → i ≤ 256 → IsJob served (job_from i x)

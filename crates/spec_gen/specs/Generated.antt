@@ -69,9 +69,9 @@ tenant_of i = 116 ∷ decimal ((i - 1) % 4 + 1)
 abbrev pub name_of : ℕ → List ℕ
 name_of i = 106 ∷ decimal i
 
--- what a job asks for: a priority of 1 to 8, demand 1 and 64 slices
+-- what a job asks for: a priority of 1 to 8, demand 1, 64 slices and profile 1
 abbrev pub ask_from : ℕ → Terms
-ask_from x = record { priority = 1 + pick 8 x; demand = 1; slices = 64 }
+ask_from x = record { priority = 1 + pick 8 x; demand = 1; slices = 64; profile = 1 }
 
 -- the job of this number
 abbrev pub job_from : ℕ → ℕ → ScriptedJob

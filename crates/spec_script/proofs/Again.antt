@@ -1,7 +1,8 @@
 -- A script in form is spelled by the text that it is written as.
-use Rattle.std.proofs.Common.{◌≡◌, ℕ, ◌+◌, ◌<◌, ◌≤◌, ◌^◌, Bool, true, false, cond, ◌&&◌, List, [], ◌∷◌, ◌++◌, map, length, Option, Some, None, Result, Ok, Err, refl, sym, ap, ap₂, ◌∙◌, ◌⊎◌, inl, inr, subst, arith, append_assoc, append-nil, length-append}
+use Rattle.std.proofs.Common.{◌≡◌, ℕ, ◌+◌, ◌<◌, ◌≤◌, ◌^◌, Bool, true, false, cond, ◌==◌, ◌&&◌, List, [], ◌∷◌, ◌++◌, map, length, Option, Some, None, Result, Ok, Err, refl, sym, ap, ap₂, ◌∙◌, ◌⊎◌, inl, inr, subst, arith, append_assoc, append-nil, length-append}
 use Rattle.std.specs.List.{list_all, list_any}
 use Rattle.std.specs.Str.{bytes_eq}
+use Rattle.std.proofs.lemmas.Bool.Decides.{nat_tests}
 use Rattle.std.proofs.lemmas.List.Sums.{sum_by-cons, fold-append}
 use Rattle.mal_base.specs.Asks.{Terms, IsAsk}
 use Rattle.mal_base.specs.Formulas.{Formulated, is_within, is_clause_of, is_within_limits, is_formula, literals_of}
@@ -20,10 +21,10 @@ use Rattle.spec_dimacs.proofs.Behind.{Leads, whole_leads}
 use Rattle.spec_dimacs.proofs.Again.{written_rows}
 use Rattle.spec_dimacs.proofs.Laws.{written_is_read}
 use Rattle.spec_script.specs.Limits.{Limits}
-use Rattle.spec_script.specs.Script.{ScriptedJob, rows_of, spelling}
+use Rattle.spec_script.specs.Script.{ScriptedJob, profile_words, rows_of, spelling}
 use Rattle.spec_script.specs.Reading.{OpenJob, Reading, begun, with_revision}
 use Rattle.spec_script.specs.Formed.{with_name, tenants_of, clauses_of, clause_literals, IsJob, MayFollow, MayAllFollow}
-use Rattle.spec_script.specs.Grammar.{Asks, SaysUpTo, formula_of, Revises, ReviseAll, Runs, MakeAll}
+use Rattle.spec_script.specs.Grammar.{Asks, SayProfile, SaysUpTo, formula_of, Revises, ReviseAll, Runs, MakeAll}
 use Rattle.spec_script.specs.Laws.{WrittenIsSpelled, WrittenIsRead}
 use Rattle.spec_script.proofs.Assumed.{assumptions-again}
 use Rattle.spec_script.proofs.Words.{room-admits}
@@ -122,11 +123,20 @@ number-again n max some low bound =
     let short : n < 2 ^ 64 = omega arith in
     ((is_numeral-decimal n short, value_of-decimal n short), some, low)
 
-asked-again : (ask : Terms) → IsAsk ask → Asks (decimal_word ask.priority) (decimal_word ask.demand) (decimal_word ask.slices) ask
+-- the words of a profile say it
+profile-again : (n : ℕ) → 1 ≤ n → n ≤ 2 → SayProfile (profile_words n) n
+profile-again n some low = by_test (n == 1) refl
+  where
+    by_test : (b : Bool) → (n == 1) ≡ b → SayProfile (cond b [] (decimal_word n ∷ [])) n
+    by_test true e = grind (arith, nat_tests)
+    by_test false e = number-again n 2 some low (omega arith)
+
+asked-again : (ask : Terms) → IsAsk ask → Asks (decimal_word ask.priority) (decimal_word ask.demand) (decimal_word ask.slices) (profile_words ask.profile) ask
 asked-again ask is = record {
   priority_says = number-again ask.priority 1000 is.some_priority is.priority_bound (omega arith);
   demand_says = number-again ask.demand 64 is.some_demand is.demand_bound (omega arith);
   slices_says = number-again ask.slices 4096 is.some_slices is.slices_bound (omega arith);
+  profile_say = profile-again ask.profile is.some_profile is.profile_bound;
 }
 
 -- ---- the jobs of a script

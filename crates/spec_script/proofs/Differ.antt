@@ -1,8 +1,8 @@
 -- A text that a script is written as is read as that script.
-use Rattle.std.proofs.Common.{◌≡◌, ℕ, List, [], ◌∷◌, length, codes, refl, sym, ap, ◌∙◌, arith, Ok, Result}
+use Rattle.std.proofs.Common.{◌≡◌, ◌≤◌, ℕ, List, [], ◌∷◌, length, codes, refl, sym, ap, ◌∙◌, arith, Ok, Result}
 use Rattle.mal_base.specs.Asks.{IsAsk}
 use Rattle.mal_base.specs.declared.line_fault.LineFault.{LineFault}
-use Rattle.spec_script.specs.Examples.{job_named, job_with}
+use Rattle.spec_script.specs.Examples.{job_named, job_under, job_with, second_profile}
 use Rattle.spec_script.specs.Formed.{IsJob}
 use Rattle.spec_script.specs.Limits.{served}
 use Rattle.spec_script.specs.Reading.{read_text}
@@ -16,14 +16,26 @@ read-same a b e = cc
 pub scripts-differ : ScriptsDiffer
 scripts-differ limits one other h k e = read-same one other (sym (written-read limits one h) ∙ (ap (read_text limits) e ∙ written-read limits other k))
 
-asked : IsAsk (job_named (codes "p") []).ask
-asked = record { some_priority = omega arith; priority_bound = omega arith; some_demand = omega arith; demand_bound = omega arith; some_slices = omega arith; slices_bound = omega arith }
+asked : (profile : ℕ) → 1 ≤ profile → profile ≤ 2 → IsAsk (job_under profile (codes "p") []).ask
+asked profile some bound = record {
+  some_priority = omega arith;
+  priority_bound = omega arith;
+  some_demand = omega arith;
+  demand_bound = omega arith;
+  some_slices = omega arith;
+  slices_bound = omega arith;
+  some_profile = some;
+  profile_bound = bound;
+}
+
+job-of : (profile : ℕ) → 1 ≤ profile → profile ≤ 2 → IsJob served (job_under profile (codes "p") [])
+job-of profile some bound = record { tenant = refl; name = refl; ask = asked profile some bound; few = omega arith; formed = refl; clauses = omega arith; literals = omega arith }
 
 job-p : IsJob served (job_named (codes "p") [])
-job-p = record { tenant = refl; name = refl; ask = asked; few = omega arith; formed = refl; clauses = omega arith; literals = omega arith }
+job-p = job-of 1 (omega arith) (omega arith)
 
 job-q : IsJob served (job_named (codes "q") [])
-job-q = record { tenant = refl; name = refl; ask = asked; few = omega arith; formed = refl; clauses = omega arith; literals = omega arith }
+job-q = record { tenant = refl; name = refl; ask = asked 1 (omega arith) (omega arith); few = omega arith; formed = refl; clauses = omega arith; literals = omega arith }
 
 -- the first letter of the name of the first job
 letter-in : List ℕ → ℕ
@@ -34,6 +46,15 @@ first-letter : List ScriptedJob → ℕ
 first-letter [] = 0
 first-letter (j ∷ js) = letter-in j.name
 
+-- the profile of the first job
+first-profile : List ScriptedJob → ℕ
+first-profile [] = 0
+first-profile (j ∷ js) = j.ask.profile
+
+other-profile : first-profile second_profile.jobs ≡ first-profile (job_with []).jobs → ⊥
+unfolding first-profile
+other-profile e = let same : 2 ≡ 1 = e in absurd (omega (arith, same))
+
 other-order : first-letter first_p.jobs ≡ first-letter first_q.jobs → ⊥
 unfolding first-letter letter-in
 other-order e = let same : 112 ≡ 113 = e in absurd (omega (arith, same))
@@ -42,4 +63,5 @@ pub other-texts : HaveOtherTexts
 other-texts = record {
   order = λ e. other-order (ap (λ (s : Scripted). first-letter s.jobs) (scripts-differ served first_p first_q (record { formed = job-p; new = refl; room = refl; tenants = omega arith }, (record { formed = job-q; new = refl; room = refl; tenants = omega arith }, tt)) (record { formed = job-q; new = refl; room = refl; tenants = omega arith }, (record { formed = job-p; new = refl; room = refl; tenants = omega arith }, tt)) e));
   less = λ e. let same : 2 ≡ 1 = ap (λ (s : Scripted). length s.jobs) (scripts-differ served first_p (job_with []) (record { formed = job-p; new = refl; room = refl; tenants = omega arith }, (record { formed = job-q; new = refl; room = refl; tenants = omega arith }, tt)) (record { formed = job-p; new = refl; room = refl; tenants = omega arith }, tt) e) in absurd (omega (arith, same));
+  profile = λ e. other-profile (ap (λ (s : Scripted). first-profile s.jobs) (scripts-differ served second_profile (job_with []) (record { formed = job-of 2 (omega arith) (omega arith); new = refl; room = refl; tenants = omega arith }, tt) (record { formed = job-p; new = refl; room = refl; tenants = omega arith }, tt) e));
 }

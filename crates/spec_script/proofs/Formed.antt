@@ -20,7 +20,7 @@ use Rattle.spec_script.specs.Formed.{with_name, tenants_of, clauses_of, clause_l
 use Rattle.spec_script.specs.Grammar.{RevisionLines, JobLines, Part, Tenant, Job, Asks, HasRoomFor, Names, is_inside, formula_of, ReviseAll, Runs, MakeAll}
 use Rattle.spec_script.specs.Laws.{SpelledIsScript, SpelledAgain}
 use Rattle.spec_script.proofs.Inversions.{bind_ok}
-use Rattle.spec_script.proofs.Words.{admits-room}
+use Rattle.spec_script.proofs.Words.{admits-room, profile-read}
 use Rattle.spec_script.proofs.Parsing.{not_true}
 use Rattle.spec_script.proofs.AssumedForms.{assumed-formed}
 use Rattle.spec_script.proofs.Named.{AreNamed, tenants-few, named-last, named-more, all-named}
@@ -82,14 +82,16 @@ all-fit limits tenant name ask (r ∷ rs) o after is (next, one, others) =
 
 -- ---- the ask of a job
 
-asked-formed : (p d k : List ℕ) (ask : Terms) → Asks p d k ask → IsAsk ask
-asked-formed p d k ask is = record {
+asked-formed : (p d k : List ℕ) (q : List (List ℕ)) (ask : Terms) → Asks p d k q ask → IsAsk ask
+asked-formed p d k q ask is = record {
   some_priority = is.priority_says.1;
   priority_bound = is.priority_says.2;
   some_demand = is.demand_says.1;
   demand_bound = is.demand_says.2;
   some_slices = is.slices_says.1;
   slices_bound = is.slices_says.2;
+  some_profile = (profile-read q ask.profile is.profile_say).1;
+  profile_bound = (profile-read q ask.profile is.profile_say).2;
 }
 
 -- ---- the jobs of a script
@@ -149,7 +151,7 @@ job-stands limits s j next is run =
     let form : IsJob limits run.ended.job = record {
       tenant = ap is_name fits.tenant_is ∙ owner.0;
       name = ap is_name fits.name_is ∙ run.name;
-      ask = subst IsAsk (sym fits.ask_is) (asked-formed j.priority j.demand j.slices run.ask run.asks);
+      ask = subst IsAsk (sym fits.ask_is) (asked-formed j.priority j.demand j.slices j.profile run.ask run.asks);
       few = fits.few;
       formed = fits.formed;
       clauses = subst (λ (n : ℕ). n ≤ 1048576) fits.clauses fits.few_clauses;

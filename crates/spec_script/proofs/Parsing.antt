@@ -17,7 +17,7 @@ use Rattle.mal_base.specs.declared.line_fault.LineFault.TheVariants.{BadLine, Li
 use Rattle.spec_script.specs.Limits.{Limits}
 use Rattle.spec_script.specs.Assumptions.{assumptions_in}
 use Rattle.spec_script.specs.Script.{Scripted}
-use Rattle.spec_script.specs.Reading.{Reading, OpenJob, in_block, named, asked, admitted, going_on, begun, with_block, with_job, with_revision, revised, after_header, after_assumptions, inside_block, inside_job, inside, outside, after_tenant, of_tenant, after_job, after_end, after_counted, after_row, unended, at_end}
+use Rattle.spec_script.specs.Reading.{Reading, OpenJob, in_block, named, asked, profile_in, admitted, going_on, begun, with_block, with_job, with_revision, revised, after_header, after_assumptions, inside_block, inside_job, inside, outside, after_tenant, of_tenant, after_job, after_end, after_counted, after_row, unended, at_end}
 use Rattle.spec_script.specs.Grammar.{RevisionLines, Part, Tenant, Job, revision_lines, job_lines, part_lines, is_inside, ReviseAll, MakeAll}
 use Rattle.spec_script.proofs.Inversions.{bind_ok, in_block_ok, chosen, passed, same_bytes, ok_is, named_opened, admitted_is, revised_is}
 use Rattle.spec_script.proofs.AssumedForms.{read-assumes}
@@ -89,18 +89,18 @@ tenant-parsed limits (name ∷ []) rows s t r none e rest =
     let out : Outside limits rows t r = subst (λ (o : Option OpenJob). Parsed limits rows t o r) closed rest in
     record { parts = Tenant name ∷ out.parts; after = out.after; lines = ap (λ (x : List (List (List ℕ))). (codes "t" ∷ name ∷ []) ∷ x) out.lines; made = (t, read-names limits name s t h.0 h.1, out.made); jobs = out.jobs }
 
-owned-parsed : (limits : Limits) (tenant : Option (List ℕ)) (name p d k : List ℕ) (rows : List (List (List ℕ))) (s t : Reading) (r : Scripted) → s.tenant ≡ tenant → of_tenant limits tenant name p d k s ≡ Ok t → Parsed limits rows t t.opened r → Outside limits ((codes "j" ∷ name ∷ p ∷ d ∷ k ∷ []) ∷ rows) s r
-owned-parsed limits None name p d k rows s t r own e rest = absurd (cc)
-owned-parsed limits (Some tenant) name p d k rows s t r own e rest =
-    let h = passed (is_name name) (asked (number_in p 1000) (number_in d 64) (number_in k 4096) >>= admitted limits tenant name s) BadLine t e in
-    let a = bind_ok (asked (number_in p 1000) (number_in d 64) (number_in k 4096)) (admitted limits tenant name s) t h.1 in
+owned-parsed : (limits : Limits) (tenant : Option (List ℕ)) (name p d k : List ℕ) (q : List (List ℕ)) (rows : List (List (List ℕ))) (s t : Reading) (r : Scripted) → s.tenant ≡ tenant → of_tenant limits tenant name p d k q s ≡ Ok t → Parsed limits rows t t.opened r → Outside limits ((codes "j" ∷ name ∷ p ∷ d ∷ k ∷ q) ∷ rows) s r
+owned-parsed limits None name p d k q rows s t r own e rest = absurd (cc)
+owned-parsed limits (Some tenant) name p d k q rows s t r own e rest =
+    let h = passed (is_name name) (asked (number_in p 1000) (number_in d 64) (number_in k 4096) (profile_in q) >>= admitted limits tenant name s) BadLine t e in
+    let a = bind_ok (asked (number_in p 1000) (number_in d 64) (number_in k 4096) (profile_in q)) (admitted limits tenant name s) t h.1 in
     let is : going_on s (begun tenant name a.0) ≡ t = admitted_is limits tenant name s a.0 t a.2 in
     let job : InJob limits rows (going_on s (begun tenant name a.0)) (begun tenant name a.0) r = subst (λ (x : Reading). Parsed limits rows x x.opened r) (sym is) rest in
     record {
-      parts = Job (record { name = name; priority = p; demand = d; slices = k; revisions = job.revisions }) ∷ job.outside.parts;
+      parts = Job (record { name = name; priority = p; demand = d; slices = k; profile = q; revisions = job.revisions }) ∷ job.outside.parts;
       after = job.outside.after;
-      lines = ap (λ (x : List (List (List ℕ))). (codes "j" ∷ name ∷ p ∷ d ∷ k ∷ []) ∷ x) (job.lines ∙ ap (λ (x : List (List (List ℕ))). job_lines job.revisions ++ x) job.outside.lines);
-      made = (with_job s job.ended.job, record { tenant = tenant; ask = a.0; ended = job.ended; owned = own; name = h.0; asks = read-asks p d k a.0 a.1; admitted = read-admits limits tenant name s a.0 t a.2; revised = job.revised; left = refl }, job.outside.made);
+      lines = ap (λ (x : List (List (List ℕ))). (codes "j" ∷ name ∷ p ∷ d ∷ k ∷ q) ∷ x) (job.lines ∙ ap (λ (x : List (List (List ℕ))). job_lines job.revisions ++ x) job.outside.lines);
+      made = (with_job s job.ended.job, record { tenant = tenant; ask = a.0; ended = job.ended; owned = own; name = h.0; asks = read-asks p d k q a.0 a.1; admitted = read-admits limits tenant name s a.0 t a.2; revised = job.revised; left = refl }, job.outside.made);
       jobs = job.outside.jobs;
     }
 
@@ -109,8 +109,7 @@ job-parsed limits [] rows s t r e rest = absurd (cc)
 job-parsed limits (a ∷ []) rows s t r e rest = absurd (cc)
 job-parsed limits (a ∷ b ∷ []) rows s t r e rest = absurd (cc)
 job-parsed limits (a ∷ b ∷ c ∷ []) rows s t r e rest = absurd (cc)
-job-parsed limits (a ∷ b ∷ c ∷ d ∷ (x ∷ xs)) rows s t r e rest = absurd (cc)
-job-parsed limits (a ∷ b ∷ c ∷ d ∷ []) rows s t r e rest = owned-parsed limits s.tenant a b c d rows s t r refl e rest
+job-parsed limits (a ∷ b ∷ c ∷ d ∷ q) rows s t r e rest = owned-parsed limits s.tenant a b c d q rows s t r refl e rest
 
 outside-parsed : (limits : Limits) (first : List ℕ) (others : List (List ℕ)) (rows : List (List (List ℕ))) (s t : Reading) (r : Scripted) → s.opened ≡ None → outside limits first others s ≡ Ok t → Parsed limits rows t t.opened r → Outside limits ((first ∷ others) ∷ rows) s r
 outside-parsed limits first others rows s t r none e rest = elim (chosen (bytes_eq first (codes "t")) (after_tenant limits others s) (cond (bytes_eq first (codes "j")) (after_job limits others s) (Err BadLine)) (Ok t) e) [

@@ -18,7 +18,7 @@ use Rattle.mal_base.specs.declared.line_fault.LineFault.TheVariants.{BadLine, Li
 use Rattle.spec_script.specs.Limits.{Limits}
 use Rattle.spec_script.specs.Assumptions.{assumptions_in}
 use Rattle.spec_script.specs.Script.{ScriptedJob, Scripted}
-use Rattle.spec_script.specs.Reading.{Reading, OpenJob, unread, in_block, named, asked, admitted, going_on, begun, with_block, with_job, revised, after_assumptions, inside_block, inside, of_tenant, after_counted, after_row, at_end, on_line, read_rows, read_text}
+use Rattle.spec_script.specs.Reading.{Reading, OpenJob, unread, in_block, named, asked, profile_in, admitted, going_on, begun, with_block, with_job, revised, after_assumptions, inside_block, inside, of_tenant, after_counted, after_row, at_end, on_line, read_rows, read_text}
 use Rattle.spec_script.specs.Grammar.{RevisionLines, JobLines, Part, Tenant, Job, revision_lines, job_lines, part_lines, is_inside, Revises, ReviseAll, Runs, MakeAll, Spells}
 use Rattle.spec_script.specs.Laws.{SpelledIsRead}
 use Rattle.spec_script.proofs.Inversions.{bind_ok, on_line_ok, ok_is}
@@ -127,12 +127,12 @@ run-revisions limits (r ∷ rs) rest s o ended none (next, first, others) =
     shape a b c d = simp append_assoc
 
 -- the first line of a job
-run-job : (limits : Limits) (s : Reading) (j : JobLines) (after : Reading) → s.opened ≡ None → (is : Runs limits s j after) → after_row limits (codes "j" ∷ j.name ∷ j.priority ∷ j.demand ∷ j.slices ∷ []) s ≡ Ok (going_on s (begun is.tenant j.name is.ask))
+run-job : (limits : Limits) (s : Reading) (j : JobLines) (after : Reading) → s.opened ≡ None → (is : Runs limits s j after) → after_row limits (codes "j" ∷ j.name ∷ j.priority ∷ j.demand ∷ j.slices ∷ j.profile) s ≡ Ok (going_on s (begun is.tenant j.name is.ask))
 run-job limits s j after none is =
-    ap (λ (x : Option OpenJob). after_counted limits (codes "j") (j.name ∷ j.priority ∷ j.demand ∷ j.slices ∷ []) x s) none
-    ∙ ap (λ (x : Option (List ℕ)). of_tenant limits x j.name j.priority j.demand j.slices s) is.owned
-    ∙ ap (λ (x : Bool). cond x (asked (number_in j.priority 1000) (number_in j.demand 64) (number_in j.slices 4096) >>= admitted limits is.tenant j.name s) (Err BadLine)) is.name
-    ∙ ap (λ (x : Result Terms LineFault). x >>= admitted limits is.tenant j.name s) (asks-read j.priority j.demand j.slices is.ask is.asks)
+    ap (λ (x : Option OpenJob). after_counted limits (codes "j") (j.name ∷ j.priority ∷ j.demand ∷ j.slices ∷ j.profile) x s) none
+    ∙ ap (λ (x : Option (List ℕ)). of_tenant limits x j.name j.priority j.demand j.slices j.profile s) is.owned
+    ∙ ap (λ (x : Bool). cond x (asked (number_in j.priority 1000) (number_in j.demand 64) (number_in j.slices 4096) (profile_in j.profile) >>= admitted limits is.tenant j.name s) (Err BadLine)) is.name
+    ∙ ap (λ (x : Result Terms LineFault). x >>= admitted limits is.tenant j.name s) (asks-read j.priority j.demand j.slices j.profile is.ask is.asks)
     ∙ admits-read limits is.tenant j.name s is.ask is.admitted
 
 run-tenant : (limits : Limits) (s : Reading) (name : List ℕ) (after : Reading) → s.opened ≡ None → is_name name ≡ true → named limits name s ≡ Ok after → after_row limits (codes "t" ∷ name ∷ []) s ≡ Ok after

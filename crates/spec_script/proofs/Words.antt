@@ -19,8 +19,8 @@ use Rattle.spec_dimacs.specs.Reading.{◌>>=◌}
 use Rattle.spec_dimacs.proofs.Numbers.{same_number}
 use Rattle.spec_script.specs.Limits.{Limits}
 use Rattle.spec_script.specs.Script.{ScriptedJob}
-use Rattle.spec_script.specs.Reading.{OpenJob, Reading, after_tenant, named, is_number, ranged, in_range, asked, is_of, is_job, has_room, begun, going_on, admitted, with_revision, revised}
-use Rattle.spec_script.specs.Grammar.{SaysUpTo, Asks, Names, Admits, HasRoomFor}
+use Rattle.spec_script.specs.Reading.{OpenJob, Reading, after_tenant, named, is_number, ranged, in_range, asked, profile_in, is_of, is_job, has_room, begun, going_on, admitted, with_revision, revised}
+use Rattle.spec_script.specs.Grammar.{SaysUpTo, SayProfile, Asks, Names, Admits, HasRoomFor}
 use Rattle.spec_script.specs.Laws.{AskIsRead, TenantIsRead, JobIsAdmitted, RevisionIsRead}
 use Rattle.spec_script.proofs.Inversions.{bind_ok, passed, not_refused, ok_is, admitted_is, revised_is}
 
@@ -97,31 +97,47 @@ ranged-says word max n e = by_word (number_in word max) refl e
 
 -- ---- an ask
 
-abbrev terms : ℕ → ℕ → ℕ → Terms
-terms p d s = record { priority = p; demand = d; slices = s }
+abbrev terms : ℕ → ℕ → ℕ → ℕ → Terms
+terms p d s q = record { priority = p; demand = d; slices = s; profile = q }
 
-pub asks-read : (p d k : List ℕ) (ask : Terms) → Asks p d k ask → asked (number_in p 1000) (number_in d 64) (number_in k 4096) ≡ Ok ask
-asks-read p d k ask is =
+-- words that say a profile are read as it
+pub profile-read : (q : List (List ℕ)) (n : ℕ) → SayProfile q n → (profile_in q ≡ Number (pos n)) × (1 ≤ n) × (n ≤ 2)
+profile-read [] n is = (ap (λ (k : ℕ). Number (pos k)) (sym is), omega (arith, is), omega (arith, is))
+profile-read (word ∷ []) n is = (says-number word 2 n is.0 is.2, is.1, is.2)
+profile-read (first ∷ second ∷ others) n is = absurd is
+
+read-profile : (q : List (List ℕ)) (n : ℕ) → ranged 2 (profile_in q) ≡ Ok n → SayProfile q n
+read-profile [] n e = sym (ok_is 1 n e)
+read-profile (word ∷ []) n e = ranged-says word 2 n e
+read-profile (first ∷ second ∷ others) n e = absurd (cc)
+
+pub asks-read : (p d k : List ℕ) (q : List (List ℕ)) (ask : Terms) → Asks p d k q ask → asked (number_in p 1000) (number_in d 64) (number_in k 4096) (profile_in q) ≡ Ok ask
+asks-read p d k q ask is =
     let x = is.priority_says in
     let y = is.demand_says in
     let z = is.slices_says in
-    ap (λ (w : NumberWord). asked w (number_in d 64) (number_in k 4096)) (says-number p 1000 ask.priority x.0 x.2)
-    ∙ ap (λ (w : NumberWord). asked (Number (pos ask.priority)) w (number_in k 4096)) (says-number d 64 ask.demand y.0 y.2)
-    ∙ ap (λ (w : NumberWord). asked (Number (pos ask.priority)) (Number (pos ask.demand)) w) (says-number k 4096 ask.slices z.0 z.2)
-    ∙ ap (λ (r : Result ℕ LineFault). r >>= λ priority. ranged 64 (Number (pos ask.demand)) >>= λ demand. ranged 4096 (Number (pos ask.slices)) >>= λ slices. Ok (terms priority demand slices)) (ranged-again ask.priority 1000 x.1 x.2)
-    ∙ ap (λ (r : Result ℕ LineFault). r >>= λ demand. ranged 4096 (Number (pos ask.slices)) >>= λ slices. Ok (terms ask.priority demand slices)) (ranged-again ask.demand 64 y.1 y.2)
-    ∙ ap (λ (r : Result ℕ LineFault). r >>= λ slices. Ok (terms ask.priority ask.demand slices)) (ranged-again ask.slices 4096 z.1 z.2)
+    let w = profile-read q ask.profile is.profile_say in
+    ap (λ (a : NumberWord). asked a (number_in d 64) (number_in k 4096) (profile_in q)) (says-number p 1000 ask.priority x.0 x.2)
+    ∙ ap (λ (a : NumberWord). asked (Number (pos ask.priority)) a (number_in k 4096) (profile_in q)) (says-number d 64 ask.demand y.0 y.2)
+    ∙ ap (λ (a : NumberWord). asked (Number (pos ask.priority)) (Number (pos ask.demand)) a (profile_in q)) (says-number k 4096 ask.slices z.0 z.2)
+    ∙ ap (λ (a : NumberWord). asked (Number (pos ask.priority)) (Number (pos ask.demand)) (Number (pos ask.slices)) a) w.0
+    ∙ ap (λ (r : Result ℕ LineFault). r >>= λ priority. ranged 64 (Number (pos ask.demand)) >>= λ demand. ranged 4096 (Number (pos ask.slices)) >>= λ slices. ranged 2 (Number (pos ask.profile)) >>= λ profile. Ok (terms priority demand slices profile)) (ranged-again ask.priority 1000 x.1 x.2)
+    ∙ ap (λ (r : Result ℕ LineFault). r >>= λ demand. ranged 4096 (Number (pos ask.slices)) >>= λ slices. ranged 2 (Number (pos ask.profile)) >>= λ profile. Ok (terms ask.priority demand slices profile)) (ranged-again ask.demand 64 y.1 y.2)
+    ∙ ap (λ (r : Result ℕ LineFault). r >>= λ slices. ranged 2 (Number (pos ask.profile)) >>= λ profile. Ok (terms ask.priority ask.demand slices profile)) (ranged-again ask.slices 4096 z.1 z.2)
+    ∙ ap (λ (r : Result ℕ LineFault). r >>= λ profile. Ok (terms ask.priority ask.demand ask.slices profile)) (ranged-again ask.profile 2 w.1 w.2)
 
-pub read-asks : (p d k : List ℕ) (ask : Terms) → asked (number_in p 1000) (number_in d 64) (number_in k 4096) ≡ Ok ask → Asks p d k ask
-read-asks p d k ask e =
-    let h = passed (is_number (number_in p 1000) && is_number (number_in d 64) && is_number (number_in k 4096)) (in_range (number_in p 1000) (number_in d 64) (number_in k 4096)) BadLine ask e in
-    let a = bind_ok (ranged 1000 (number_in p 1000)) (λ priority. ranged 64 (number_in d 64) >>= λ demand. ranged 4096 (number_in k 4096) >>= λ slices. Ok (terms priority demand slices)) ask h.1 in
-    let b = bind_ok (ranged 64 (number_in d 64)) (λ demand. ranged 4096 (number_in k 4096) >>= λ slices. Ok (terms a.0 demand slices)) ask a.2 in
-    let c = bind_ok (ranged 4096 (number_in k 4096)) (λ slices. Ok (terms a.0 b.0 slices)) ask b.2 in
-    subst (Asks p d k) (ok_is (terms a.0 b.0 c.0) ask c.2) (record { priority_says = ranged-says p 1000 a.0 a.1; demand_says = ranged-says d 64 b.0 b.1; slices_says = ranged-says k 4096 c.0 c.1 })
+pub read-asks : (p d k : List ℕ) (q : List (List ℕ)) (ask : Terms) → asked (number_in p 1000) (number_in d 64) (number_in k 4096) (profile_in q) ≡ Ok ask → Asks p d k q ask
+read-asks p d k q ask e =
+    let h = passed (is_number (number_in p 1000) && is_number (number_in d 64) && is_number (number_in k 4096) && is_number (profile_in q)) (in_range (number_in p 1000) (number_in d 64) (number_in k 4096) (profile_in q)) BadLine ask e in
+    let a = bind_ok (ranged 1000 (number_in p 1000)) (λ priority. ranged 64 (number_in d 64) >>= λ demand. ranged 4096 (number_in k 4096) >>= λ slices. ranged 2 (profile_in q) >>= λ profile. Ok (terms priority demand slices profile)) ask h.1 in
+    let b = bind_ok (ranged 64 (number_in d 64)) (λ demand. ranged 4096 (number_in k 4096) >>= λ slices. ranged 2 (profile_in q) >>= λ profile. Ok (terms a.0 demand slices profile)) ask a.2 in
+    let c = bind_ok (ranged 4096 (number_in k 4096)) (λ slices. ranged 2 (profile_in q) >>= λ profile. Ok (terms a.0 b.0 slices profile)) ask b.2 in
+    let w = bind_ok (ranged 2 (profile_in q)) (λ profile. Ok (terms a.0 b.0 c.0 profile)) ask c.2 in
+    subst (Asks p d k q) (ok_is (terms a.0 b.0 c.0 w.0) ask w.2)
+    (record { priority_says = ranged-says p 1000 a.0 a.1; demand_says = ranged-says d 64 b.0 b.1; slices_says = ranged-says k 4096 c.0 c.1; profile_say = read-profile q w.0 w.1 })
 
 pub ask_is_read : AskIsRead
-ask_is_read p d k ask = (asks-read p d k ask, read-asks p d k ask)
+ask_is_read p d k q ask = (asks-read p d k q ask, read-asks p d k q ask)
 
 -- ---- the name of a tenant
 

@@ -1,5 +1,5 @@
 -- The lines of the text that a script is written as: they are clean, each of them counts, and they are those of parts.
-use Rattle.std.proofs.Common.{◌≡◌, ℕ, ◌≤◌, Bool, true, false, not, ◌&&◌, ◌||◌, ◌==◌, nat_lt, nat_le, List, [], ◌∷◌, ◌++◌, map, flat_map, length, codes, Option, refl, sym, ap, ap₂, ◌∙◌, subst, arith}
+use Rattle.std.proofs.Common.{◌≡◌, ℕ, ◌≤◌, Bool, true, false, cond, not, ◌&&◌, ◌||◌, ◌==◌, nat_lt, nat_le, List, [], ◌∷◌, ◌++◌, map, flat_map, length, codes, Option, refl, sym, ap, ap₂, ◌∙◌, subst, arith}
 use Rattle.std.specs.List.{list_all, AllByRecursion}
 use Rattle.std.proofs.lemmas.Bool.{ltb-true, leb-true}
 use Rattle.std.proofs.lemmas.Bool.Decides.{nat_tests}
@@ -7,7 +7,7 @@ use Rattle.mal_base.specs.Formulas.{is_within, is_clause_of, is_within_limits, i
 use Rattle.mal_base.specs.Names.{is_name, is_name_byte}
 use Rattle.mal_base.proofs.Sorting.{and-left, and-right, and-both}
 use Rattle.mal_revision.specs.Posted.{Posted, is_posted}
-use Rattle.spec_text.specs.Lines.{text_of, IsClean, IsRow, AreRows}
+use Rattle.spec_text.specs.Lines.{text_of, IsClean, AreClean, IsRow, AreRows}
 use Rattle.spec_text.specs.Numbers.{decimal_word, literal_word, number_of}
 use Rattle.spec_text.proofs.Clean.{decimals_are_clean}
 use Rattle.spec_dimacs.specs.Rows.{is_passed, counted_rows}
@@ -16,7 +16,7 @@ use Rattle.spec_dimacs.proofs.Numbers.{number-not_word}
 use Rattle.spec_dimacs.proofs.Behind.{counted_of, keeps_row}
 use Rattle.spec_dimacs.proofs.Again.{rows_again, clause_lits, words-lits, lits_within, closed_row, header_row, closed_counts, literal_again}
 use Rattle.spec_script.specs.Limits.{Limits}
-use Rattle.spec_script.specs.Script.{ScriptedJob, revision_rows, tenant_words, job_words, job_rows}
+use Rattle.spec_script.specs.Script.{ScriptedJob, revision_rows, tenant_words, profile_words, job_words, job_rows}
 use Rattle.spec_script.specs.Formed.{IsJob, MayAllFollow}
 use Rattle.spec_script.specs.Grammar.{RevisionLines, JobLines, Part, Tenant, Job, revision_lines, part_lines, is_inside}
 
@@ -99,8 +99,15 @@ revisions-stand (r ∷ rs) h = all-both (revision_rows r) (flat_map revision_row
 tenant-stands : (tenant : List ℕ) → is_name tenant ≡ true → Stands (tenant_words tenant)
 tenant-stands tenant h = ((omega arith, ((omega arith, (omega arith, tt)), (name-clean tenant h, tt))), refl)
 
+profile-clean : (profile : ℕ) → AreClean (profile_words profile)
+profile-clean profile = by_test (profile == 1)
+  where
+    by_test : (b : Bool) → AreClean (cond b [] (decimal_word profile ∷ []))
+    by_test true = tt
+    by_test false = (decimals_are_clean profile, tt)
+
 terms-stand : (limits : Limits) (j : ScriptedJob) → is_name j.name ≡ true → Stands (job_words j.name j.ask)
-terms-stand limits j h = ((omega arith, ((omega arith, (omega arith, tt)), (name-clean j.name h, (decimals_are_clean j.ask.priority, (decimals_are_clean j.ask.demand, (decimals_are_clean j.ask.slices, tt)))))), refl)
+terms-stand limits j h = ((omega arith, ((omega arith, (omega arith, tt)), (name-clean j.name h, (decimals_are_clean j.ask.priority, (decimals_are_clean j.ask.demand, (decimals_are_clean j.ask.slices, profile-clean j.ask.profile)))))), refl)
 
 end-stands : Stands (codes "e" ∷ [])
 end-stands = ((omega arith, ((omega arith, (omega arith, tt)), tt)), refl)
@@ -118,7 +125,7 @@ abbrev pub lines_of : Posted → RevisionLines
 lines_of r = record { header = codes "cnf" ∷ decimal_word r.variables ∷ decimal_word (length r.clauses) ∷ []; body = map clause_words r.clauses; assumed = closed_words r.assumptions }
 
 abbrev pub job_lines_of : ScriptedJob → JobLines
-job_lines_of j = record { name = j.name; priority = decimal_word j.ask.priority; demand = decimal_word j.ask.demand; slices = decimal_word j.ask.slices; revisions = map lines_of j.revisions }
+job_lines_of j = record { name = j.name; priority = decimal_word j.ask.priority; demand = decimal_word j.ask.demand; slices = decimal_word j.ask.slices; profile = profile_words j.ask.profile; revisions = map lines_of j.revisions }
 
 abbrev pub parts_of : List ScriptedJob → List Part
 parts_of [] = []

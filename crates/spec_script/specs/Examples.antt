@@ -7,24 +7,37 @@ use Rattle.spec_script.specs.Limits.{Limits, served}
 use Rattle.spec_script.specs.Reading.{read_text}
 use Rattle.spec_script.specs.Script.{ScriptedJob, Scripted, spelling}
 
--- the job of tenant a with this name and these revisions
+-- the job of tenant a with this profile, this name and these revisions
+abbrev pub job_under : ℕ → List ℕ → List Posted → ScriptedJob
+job_under profile name revisions = record { tenant = codes "a"; name = name; ask = record { priority = 1; demand = 1; slices = 4; profile = profile }; revisions = revisions }
+
+-- that of profile 1
 abbrev pub job_named : List ℕ → List Posted → ScriptedJob
-job_named name revisions = record { tenant = codes "a"; name = name; ask = record { priority = 1; demand = 1; slices = 4 }; revisions = revisions }
+job_named name revisions = job_under 1 name revisions
 
 -- the job p of tenant a with these revisions
 abbrev pub job_with : List Posted → Scripted
 job_with revisions = record { jobs = job_named (codes "p") revisions ∷ [] }
 
+-- the job p of tenant a with profile 2 and no revision
+abbrev pub second_profile : Scripted
+second_profile = record { jobs = job_under 2 (codes "p") [] ∷ [] }
+
 -- worked examples of the text of a script
 pub record HasExamples : Type 0 where
   pub no_job : spelling (record { jobs = [] }) ≡ []
   pub one_clause : spelling (job_with (record { variables = 2; clauses = Some (2 ∷ 4 ∷ []) ∷ []; assumptions = [] } ∷ [])) ≡ codes "t a" ++ 10 ∷ (codes "j p 1 1 4" ++ 10 ∷ (codes "p cnf 2 1" ++ 10 ∷ (codes "1 2 0" ++ 10 ∷ (codes "a 0" ++ 10 ∷ (codes "e" ++ 10 ∷ [])))))
+  pub profile : spelling second_profile ≡ codes "t a" ++ 10 ∷ (codes "j p 1 1 4 2" ++ 10 ∷ (codes "e" ++ 10 ∷ []))
   pub assumed : spelling (job_with (record { variables = 2; clauses = None ∷ []; assumptions = 2 ∷ 5 ∷ [] } ∷ [])) ≡ codes "t a" ++ 10 ∷ (codes "j p 1 1 4" ++ 10 ∷ (codes "p cnf 2 1" ++ 10 ∷ (codes "1 -1 0" ++ 10 ∷ (codes "a 1 -2 0" ++ 10 ∷ (codes "e" ++ 10 ∷ [])))))
 
--- small texts that spell scripts; a literal is given by its code: 2 and 3 are 1 and -1
+-- small texts that spell scripts, of profile 1 where no word names another; a literal is given by its code: 2 and 3 are 1
+-- and -1
 pub record ReadingExamples : Type 0 where
   pub empty : read_text served [] ≡ Ok (record { jobs = [] })
   pub no_revision : read_text served (codes "t a\nj p 1 1 4\ne\n") ≡ Ok (job_with [])
+  pub of_profile_2 : read_text served (codes "t a\nj p 1 1 4 2\ne\n") ≡ Ok second_profile
+  pub profile_by_value : read_text served (codes "t a\nj p 1 1 4 02\ne\n") ≡ Ok second_profile
+  pub of_profile_1 : read_text served (codes "t a\nj p 1 1 4 1\ne\n") ≡ Ok (job_with [])
   pub tautology_keeps_its_number : read_text served (codes "t a\nj p 1 1 4\np cnf 2 2\n1 -1 0\n2 0\na 0\ne\n") ≡ Ok (job_with (record { variables = 2; clauses = None ∷ Some (4 ∷ []) ∷ []; assumptions = [] } ∷ []))
   pub from_a_tool : read_text served (codes "c made by a tool\r\nt a\r\nj p 1 1 4\r\np cnf 2 1\r\n-2\r\n1 0\r\n%\r\n0\r\na 0\r\ne\r\n") ≡ Ok (job_with (record { variables = 2; clauses = Some (2 ∷ 5 ∷ []) ∷ []; assumptions = [] } ∷ []))
   pub repeated_literal : read_text served (codes "t a\nj p 1 1 4\np cnf 2 1\n1 2 1 0\na 0\ne") ≡ Ok (job_with (record { variables = 2; clauses = Some (2 ∷ 4 ∷ []) ∷ []; assumptions = [] } ∷ []))
@@ -39,6 +52,11 @@ pub record FaultExamples : Type 0 where
   pub no_tenant : read_text served (codes "j p 1 1 4") ≡ Err (1, BadLine)
   pub priority_zero : read_text served (codes "t a\nj p 0 1 4\ne\n") ≡ Err (2, Range)
   pub word_before_range : read_text served (codes "t a\nj p 0 +1 4\ne\n") ≡ Err (2, BadLine)
+  pub profile_zero : read_text served (codes "t a\nj p 1 1 4 0\ne\n") ≡ Err (2, Range)
+  pub profile_three : read_text served (codes "t a\nj p 1 1 4 3\ne\n") ≡ Err (2, Range)
+  pub profile_is_no_number : read_text served (codes "t a\nj p 1 1 4 x\ne\n") ≡ Err (2, BadLine)
+  pub profile_word_before_range : read_text served (codes "t a\nj p 0 1 4 x\ne\n") ≡ Err (2, BadLine)
+  pub two_profiles : read_text served (codes "t a\nj p 1 1 4 2 2\ne\n") ≡ Err (2, BadLine)
   pub job_not_ended : read_text served (codes "t a\nj p 1 1 4\n\n") ≡ Err (3, BadLine)
   pub variable_too_large : read_text served (codes "t a\nj p 1 1 4\np cnf 2 1\n3 0\na 0\ne\n") ≡ Err (4, Dimacs VarTooLarge)
   pub block_cut_short : read_text served (codes "t a\nj p 1 1 4\np cnf 2 2\n1 2 0\n-1") ≡ Err (5, Dimacs (ClauseCount 2 1))

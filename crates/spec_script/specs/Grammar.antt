@@ -23,12 +23,14 @@ pub record RevisionLines : Type 0 where
   pub body : List (List (List ℕ))
   pub assumed : List (List ℕ)
 
--- the lines of a job: the words of its first line, and the lines of its revisions
+-- the lines of a job: the words of its first line, of which that of the profile may be left out, and the lines of its
+-- revisions
 pub record JobLines : Type 0 where
   pub name : List ℕ
   pub priority : List ℕ
   pub demand : List ℕ
   pub slices : List ℕ
+  pub profile : List (List ℕ)
   pub revisions : List RevisionLines
 
 -- a part of a script: the line of a tenant's name, or the lines of a job
@@ -47,7 +49,7 @@ job_lines rs = flat_map revision_lines rs ++ (codes "e" ∷ []) ∷ []
 -- the words of the lines of a part
 abbrev pub part_lines : Part → List (List (List ℕ))
 part_lines (Tenant name) = (codes "t" ∷ name ∷ []) ∷ []
-part_lines (Job j) = (codes "j" ∷ j.name ∷ j.priority ∷ j.demand ∷ j.slices ∷ []) ∷ job_lines j.revisions
+part_lines (Job j) = (codes "j" ∷ j.name ∷ j.priority ∷ j.demand ∷ j.slices ∷ j.profile) ∷ job_lines j.revisions
 
 -- a line begins with the word `a`
 abbrev pub is_assumed : List (List ℕ) → Bool
@@ -66,11 +68,18 @@ formula_of header body = block.opened (codes "p" ∷ header) >>= λ b. block.aft
 abbrev pub SaysUpTo : ℕ → List ℕ → ℕ → Type 0
 SaysUpTo max word n = Says word n × (1 ≤ n) × (n ≤ max)
 
--- three words say an ask: a priority up to 1,000, a demand up to 64 and slices up to 4,096
-pub record Asks (priority demand slices : List ℕ) (ask : Terms) : Type 0 where
+-- words say a profile: no word says 1, and one word says a number up to 2
+abbrev pub SayProfile : List (List ℕ) → ℕ → Type 0
+SayProfile [] profile = profile ≡ 1
+SayProfile (word ∷ []) profile = SaysUpTo 2 word profile
+SayProfile words profile = ⊥
+
+-- words say an ask: a priority up to 1,000, a demand up to 64, slices up to 4,096 and a profile
+pub record Asks (priority demand slices : List ℕ) (profile : List (List ℕ)) (ask : Terms) : Type 0 where
   pub priority_says : SaysUpTo 1000 priority ask.priority
   pub demand_says : SaysUpTo 64 demand ask.demand
   pub slices_says : SaysUpTo 4096 slices ask.slices
+  pub profile_say : SayProfile profile ask.profile
 
 -- a tenant is named: its word is a name, which was named before or is one more than may have been named
 pub record Names (limits : Limits) (s : Reading) (name : List ℕ) (after : Reading) : Type 0 where
@@ -121,7 +130,7 @@ pub record Runs (limits : Limits) (s : Reading) (j : JobLines) (after : Reading)
   pub ended : OpenJob
   pub owned : s.tenant ≡ Some tenant
   pub name : is_name j.name ≡ true
-  pub asks : Asks j.priority j.demand j.slices ask
+  pub asks : Asks j.priority j.demand j.slices j.profile ask
   pub admitted : Admits limits tenant j.name s.jobs
   pub revised : ReviseAll limits (begun tenant j.name ask) j.revisions ended
   pub left : after ≡ with_job s ended.job

@@ -8,7 +8,7 @@ use Rattle.spec_text.specs.Numbers.{number_in}
 use Rattle.spec_script.specs.Limits.{Limits}
 use Rattle.spec_script.specs.Script.{Scripted, spelling}
 use Rattle.spec_script.specs.Assumptions.{assumptions_in}
-use Rattle.spec_script.specs.Reading.{OpenJob, Reading, admitted, after_tenant, asked, begun, going_on, read_text, revised, with_revision}
+use Rattle.spec_script.specs.Reading.{OpenJob, Reading, admitted, after_tenant, asked, begun, going_on, profile_in, read_text, revised, with_revision}
 use Rattle.spec_script.specs.Grammar.{Admits, Asks, Assumes, HasRoomFor, Names, Spells}
 use Rattle.spec_script.specs.Within.{IsWithin}
 use Rattle.spec_script.specs.Formed.{IsScript}
@@ -17,9 +17,9 @@ use Rattle.spec_script.specs.Formed.{IsScript}
 abbrev pub SpelledIsRead : Type 0
 SpelledIsRead = (limits : Limits) (text : List ℕ) (s : Scripted) → Spells limits text s ↔ (read_text limits text ≡ Ok s)
 
--- reading three words gives just the ask that they say
+-- reading words gives just the ask that they say
 abbrev pub AskIsRead : Type 0
-AskIsRead = (p d k : List ℕ) (ask : Terms) → Asks p d k ask ↔ (asked (number_in p 1000) (number_in d 64) (number_in k 4096) ≡ Ok ask)
+AskIsRead = (p d k : List ℕ) (q : List (List ℕ)) (ask : Terms) → Asks p d k q ask ↔ (asked (number_in p 1000) (number_in d 64) (number_in k 4096) (profile_in q) ≡ Ok ask)
 
 -- a tenant's line is read exactly where its word names a tenant
 abbrev pub TenantIsRead : Type 0

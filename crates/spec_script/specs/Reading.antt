@@ -64,13 +64,21 @@ abbrev pub ranged : ℕ → NumberWord → Result ℕ LineFault
 ranged max (Number (pos n)) = if nat_le 1 n && nat_le n max then Ok n else Err Range
 ranged max word = Err Range
 
--- the ask of three numbers: a priority up to 1,000, a demand up to 64 and slices up to 4,096
-abbrev pub in_range : NumberWord → NumberWord → NumberWord → Result Terms LineFault
-in_range p d s = ranged 1000 p >>= λ priority. ranged 64 d >>= λ demand. ranged 4096 s >>= λ slices. Ok (record { priority = priority; demand = demand; slices = slices })
+-- the ask of four numbers: a priority up to 1,000, a demand up to 64, slices up to 4,096 and a profile up to 2
+abbrev pub in_range : NumberWord → NumberWord → NumberWord → NumberWord → Result Terms LineFault
+in_range p d s q =
+    ranged 1000 p >>= λ priority. ranged 64 d >>= λ demand. ranged 4096 s >>= λ slices. ranged 2 q >>= λ profile.
+    Ok (record { priority = priority; demand = demand; slices = slices; profile = profile })
 
--- the ask of three words that are to be numbers
-abbrev pub asked : NumberWord → NumberWord → NumberWord → Result Terms LineFault
-asked p d s = if is_number p && is_number d && is_number s then in_range p d s else Err BadLine
+-- the ask of four words that are to be numbers
+abbrev pub asked : NumberWord → NumberWord → NumberWord → NumberWord → Result Terms LineFault
+asked p d s q = if is_number p && is_number d && is_number s && is_number q then in_range p d s q else Err BadLine
+
+-- what the words behind the slices say for the profile: no word says 1, and more than one say no number
+abbrev pub profile_in : List (List ℕ) → NumberWord
+profile_in [] = Number (pos 1)
+profile_in (word ∷ []) = number_in word 2
+profile_in words = NotANumber
 
 -- a job is one of this tenant
 abbrev pub is_of : List ℕ → ScriptedJob → Bool
@@ -100,14 +108,14 @@ admitted limits tenant name s ask =
     Err (Limit Jobs)
 
 -- after the words of a job's first line, of the tenant that was named last
-abbrev pub of_tenant : Limits → Option (List ℕ) → List ℕ → List ℕ → List ℕ → List ℕ → Reading → Result Reading LineFault
-of_tenant limits None name p d k s = Err BadLine
-of_tenant limits (Some tenant) name p d k s =
-    if is_name name then asked (number_in p 1000) (number_in d 64) (number_in k 4096) >>= admitted limits tenant name s else Err BadLine
+abbrev pub of_tenant : Limits → Option (List ℕ) → List ℕ → List ℕ → List ℕ → List ℕ → List (List ℕ) → Reading → Result Reading LineFault
+of_tenant limits None name p d k words s = Err BadLine
+of_tenant limits (Some tenant) name p d k words s =
+    if is_name name then asked (number_in p 1000) (number_in d 64) (number_in k 4096) (profile_in words) >>= admitted limits tenant name s else Err BadLine
 
 -- after the words behind the `j` of a job's first line
 abbrev pub after_job : Limits → List (List ℕ) → Reading → Result Reading LineFault
-after_job limits (name ∷ p ∷ d ∷ k ∷ []) s = of_tenant limits s.tenant name p d k s
+after_job limits (name ∷ p ∷ d ∷ k ∷ words) s = of_tenant limits s.tenant name p d k words s
 after_job limits others s = Err BadLine
 
 -- after a line that counts and stands outside a job

@@ -1,4 +1,4 @@
-use Rattle.std.specs.Prelude.{ℕ, List, [], ◌∷◌, ◌++◌, length, map, flat_map, codes}
+use Rattle.std.specs.Prelude.{ℕ, List, [], ◌∷◌, ◌++◌, ◌==◌, if◌then◌else◌, length, map, flat_map, codes}
 use Rattle.mal_base.specs.Asks.{Terms}
 use Rattle.mal_revision.specs.Posted.{Posted}
 use Rattle.spec_text.specs.Lines.{text_of}
@@ -24,9 +24,17 @@ revision_rows r = header_words r.variables (length r.clauses) ∷ (map clause_wo
 abbrev pub tenant_words : List ℕ → List (List ℕ)
 tenant_words tenant = codes "t" ∷ tenant ∷ []
 
+-- the words of a profile: 1 has none
+abbrev pub profile_words : ℕ → List (List ℕ)
+profile_words profile = if profile == 1 then [] else decimal_word profile ∷ []
+
+-- the words of an ask
+abbrev pub ask_words : Terms → List (List ℕ)
+ask_words ask = decimal_word ask.priority ∷ decimal_word ask.demand ∷ decimal_word ask.slices ∷ profile_words ask.profile
+
 -- the words of the line that begins a job
 abbrev pub job_words : List ℕ → Terms → List (List ℕ)
-job_words name ask = codes "j" ∷ name ∷ decimal_word ask.priority ∷ decimal_word ask.demand ∷ decimal_word ask.slices ∷ []
+job_words name ask = codes "j" ∷ name ∷ ask_words ask
 
 -- the words of the lines of a job
 abbrev pub job_rows : ScriptedJob → List (List (List ℕ))

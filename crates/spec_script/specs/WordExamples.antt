@@ -6,14 +6,17 @@ use Rattle.spec_script.specs.Limits.{served}
 use Rattle.spec_script.specs.Reading.{read_text}
 use Rattle.spec_script.specs.Grammar.{Asks, Assumes}
 
--- the words of a priority, a demand and slices, and the words behind the `a` of a line of assumptions; a literal is given
--- by its code: 3 and 4 are -1 and 2
+-- the words of a priority, a demand, slices and a profile, which may be left out, and the words behind the `a` of a line of
+-- assumptions; a literal is given by its code: 3 and 4 are -1 and 2
 pub record WordExamples : Type 0 where
-  pub greatest : Asks (codes "1000") (codes "64") (codes "4096") (record { priority = 1000; demand = 64; slices = 4096 })
-  pub leading_zeros : Asks (codes "01") (codes "1") (codes "004") (record { priority = 1; demand = 1; slices = 4 })
-  pub no_sign : (ask : Terms) → Asks (codes "+1") (codes "1") (codes "4") ask → ⊥
-  pub no_zero : (ask : Terms) → Asks (codes "0") (codes "1") (codes "4") ask → ⊥
-  pub above_the_greatest : (ask : Terms) → Asks (codes "1") (codes "65") (codes "4") ask → ⊥
+  pub greatest : Asks (codes "1000") (codes "64") (codes "4096") (codes "2" ∷ []) (record { priority = 1000; demand = 64; slices = 4096; profile = 2 })
+  pub leading_zeros : Asks (codes "01") (codes "1") (codes "004") (codes "02" ∷ []) (record { priority = 1; demand = 1; slices = 4; profile = 2 })
+  pub no_profile : Asks (codes "1") (codes "1") (codes "4") [] (record { priority = 1; demand = 1; slices = 4; profile = 1 })
+  pub no_sign : (ask : Terms) → Asks (codes "+1") (codes "1") (codes "4") [] ask → ⊥
+  pub no_zero : (ask : Terms) → Asks (codes "0") (codes "1") (codes "4") [] ask → ⊥
+  pub above_the_greatest : (ask : Terms) → Asks (codes "1") (codes "65") (codes "4") [] ask → ⊥
+  pub third_profile : (ask : Terms) → Asks (codes "1") (codes "1") (codes "4") (codes "3" ∷ []) ask → ⊥
+  pub two_profiles : (ask : Terms) → Asks (codes "1") (codes "1") (codes "4") (codes "2" ∷ codes "2" ∷ []) ask → ⊥
   pub in_order : Assumes 2 (codes "2" ∷ codes "-1" ∷ codes "2" ∷ codes "0" ∷ []) (3 ∷ 4 ∷ [])
   pub not_closed : (assumptions : List ℕ) → Assumes 2 (codes "2" ∷ []) assumptions → ⊥
   pub both_signs : (assumptions : List ℕ) → Assumes 2 (codes "2" ∷ codes "-2" ∷ codes "0" ∷ []) assumptions → ⊥
