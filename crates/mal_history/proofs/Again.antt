@@ -1,5 +1,5 @@
 -- A history that is written is read again.
-use Rattle.std.proofs.Common.{◌≡◌, ℕ, suc, ◌+◌, ◌<◌, ◌≤◌, ◌^◌, Bool, true, false, ◌&&◌, ◌||◌, ◌==◌, List, [], ◌∷◌, map, flat_map, length, pos, Result, Ok, refl, ap, ◌∙◌, arith}
+use Rattle.std.proofs.Common.{◌≡◌, ℕ, suc, ◌+◌, ◌<◌, ◌≤◌, ◌^◌, Bool, true, false, cond, ◌&&◌, ◌||◌, ◌==◌, List, [], ◌∷◌, map, flat_map, length, pos, Result, Ok, refl, ap, ◌∙◌, arith}
 use Rattle.std.specs.Prelude.{nat_le, nat_lt}
 use Rattle.std.specs.List.{AllByRecursion, list_all}
 use Rattle.std.proofs.lemmas.Bool.{leb-true, ltb-true, and_parts}
@@ -15,9 +15,9 @@ use Rattle.mal_history.specs.declared.event.Event.{Event}
 use Rattle.mal_history.specs.declared.event.Event.TheVariants.{Open, Revise, Close, Balance, Start, Finish, Exchange}
 use Rattle.mal_history.specs.declared.event.Share.{Share}
 use Rattle.mal_history.specs.Differ.{IsShare, IsWritable}
-use Rattle.mal_history.specs.Text.{share_words, event_words, header_words, history_text}
+use Rattle.mal_history.specs.Text.{profile_words, share_words, event_words, header_words, history_text}
 use Rattle.mal_history.specs.Reading.{Fault, header_of, on_line, events_from, read_rows, most_events}
-use Rattle.mal_history.specs.Grammar.{Says, SayShares, SpellsEvent}
+use Rattle.mal_history.specs.Grammar.{Says, SayProfile, SayShares, SpellsEvent}
 use Rattle.mal_history.specs.Formed.{IsVolume, IsEvent, IsHistory, lines_from}
 use Rattle.mal_history.specs.Laws.{WrittenIsRead}
 use Rattle.mal_history.proofs.Differ.{event-rows, header-row}
@@ -50,7 +50,7 @@ shares-writable (s ∷ ss) h =
     (record { tenant = name-clean s.tenant h.0.names.0; job = name-clean s.job h.0.names.1; volume = omega (arith, h.0.bound) }, shares-writable ss h.1)
 
 writable : (workers : ℕ) (e : Event) → workers ≤ 64 → IsEvent workers e → IsWritable e
-writable workers (Open tenant job ask) low h = (name-clean tenant h.0.0, name-clean job h.0.1, omega (arith, h.1.priority_bound), omega (arith, h.1.demand_bound), omega (arith, h.1.slices_bound))
+writable workers (Open tenant job ask) low h = (name-clean tenant h.0.0, name-clean job h.0.1, omega (arith, h.1.priority_bound), omega (arith, h.1.demand_bound), omega (arith, h.1.slices_bound), omega (arith, h.1.profile_bound))
 writable workers (Revise tenant job number) low h = (name-clean tenant h.0.0, name-clean job h.0.1, omega (arith, h.2))
 writable workers (Close tenant job) low h = (name-clean tenant h.0, name-clean job h.1)
 writable workers (Balance volumes) low h = shares-writable volumes h
@@ -71,16 +71,25 @@ shares-say [] h = refl
 shares-say (s ∷ ss) h =
     (flat_map share_words ss, record { volume = decimal_word s.volume; row = flat_map-cons share_words s ss; names = h.0.names; says_volume = says 0 64 s.volume (omega arith) h.0.bound (omega arith) }, shares-say ss h.1)
 
+profile-says : (n : ℕ) → 1 ≤ n → n ≤ 2 → SayProfile (profile_words n) n
+profile-says n some low = by_test (n == 1) refl
+  where
+    by_test : (b : Bool) → (n == 1) ≡ b → SayProfile (cond b [] (decimal_word n ∷ [])) n
+    by_test true e = grind (arith, nat_tests)
+    by_test false e = says 2 2 n (grind (arith, nat_tests)) low (omega arith)
+
 spelled : (workers : ℕ) (e : Event) → workers ≤ 64 → IsEvent workers e → SpellsEvent workers (event_words e) e
 spelled workers (Open tenant job ask) low h = record {
   priority = decimal_word ask.priority;
   demand = decimal_word ask.demand;
   slices = decimal_word ask.slices;
+  profile = profile_words ask.profile;
   row = refl;
   names = h.0;
   says_priority = says 1 1000 ask.priority h.1.some_priority h.1.priority_bound (omega arith);
   says_demand = says 1 64 ask.demand h.1.some_demand h.1.demand_bound (omega arith);
   says_slices = says 1 4096 ask.slices h.1.some_slices h.1.slices_bound (omega arith);
+  say_profile = profile-says ask.profile h.1.some_profile h.1.profile_bound;
 }
 spelled workers (Revise tenant job number) low h = record { word = decimal_word number; row = refl; names = h.0; says_number = says 1 256 number h.1 h.2 (omega arith) }
 spelled workers (Close tenant job) low h = (refl, h)

@@ -1,6 +1,7 @@
 -- The words of an event tell it, so a text tells its history.
-use Rattle.std.proofs.Common.{◌≡◌, ℕ, List, [], ◌∷◌, ◌++◌, map, flat_map, length, codes, refl, sym, ap, ◌∙◌, subst, arith}
+use Rattle.std.proofs.Common.{◌≡◌, ◌==◌, ℕ, Bool, true, false, cond, List, [], ◌∷◌, ◌++◌, map, flat_map, length, codes, refl, sym, ap, ◌∙◌, subst, arith}
 use Rattle.std.specs.List.{AllByRecursion}
+use Rattle.std.proofs.lemmas.Bool.Decides.{nat_tests}
 use Rattle.std.proofs.lemmas.List.Concat.{flat_map-cons}
 use Rattle.mal_base.specs.Asks.{Terms}
 use Rattle.mal_base.specs.declared.verdict.Outcome.{Outcome}
@@ -12,8 +13,8 @@ use Rattle.spec_text.proofs.Clean.{decimals_are_clean, decimals_differ}
 use Rattle.mal_history.specs.declared.event.Event.{Event}
 use Rattle.mal_history.specs.declared.event.Event.TheVariants.{Open, Revise, Close, Balance, Start, Finish, Exchange}
 use Rattle.mal_history.specs.declared.event.Share.{Share}
-use Rattle.mal_history.specs.Text.{outcome_word, share_words, event_words, header_words, history_text}
-use Rattle.mal_history.specs.Differ.{IsNumber, IsShare, IsWritable, one_start, HistoriesDiffer, HaveOtherTexts}
+use Rattle.mal_history.specs.Text.{outcome_word, profile_words, share_words, event_words, header_words, history_text}
+use Rattle.mal_history.specs.Differ.{IsNumber, IsShare, IsWritable, one_start, one_open, HistoriesDiffer, HaveOtherTexts}
 
 -- the parts of a list
 head-same : {X : Type 0} (x y : X) (xs ys : List X) → x ∷ xs ≡ y ∷ ys → x ≡ y
@@ -39,8 +40,15 @@ outcome-clean Ran = (omega arith, (omega arith, (omega arith, (omega arith, tt))
 outcome-clean Starved = (omega arith, (omega arith, (omega arith, (omega arith, (omega arith, (omega arith, (omega arith, (omega arith, tt))))))))
 outcome-clean Lost = (omega arith, (omega arith, (omega arith, (omega arith, (omega arith, tt)))))
 
+profile-clean : (n : ℕ) → AreClean (profile_words n)
+profile-clean n = by_test (n == 1)
+  where
+    by_test : (b : Bool) → AreClean (cond b [] (decimal_word n ∷ []))
+    by_test true = tt
+    by_test false = (decimals_are_clean n, tt)
+
 event-row : (e : Event) → IsWritable e → IsRow (event_words e)
-event-row (Open t j ask) h = (omega arith, ((omega arith, (omega arith, tt)), (h.0, (h.1, (decimals_are_clean ask.priority, (decimals_are_clean ask.demand, (decimals_are_clean ask.slices, tt)))))))
+event-row (Open t j ask) h = (omega arith, ((omega arith, (omega arith, tt)), (h.0, (h.1, (decimals_are_clean ask.priority, (decimals_are_clean ask.demand, (decimals_are_clean ask.slices, profile-clean ask.profile)))))))
 event-row (Revise t j n) h = (omega arith, ((omega arith, (omega arith, tt)), (h.0, (h.1, (decimals_are_clean n, tt)))))
 event-row (Close t j) h = (omega arith, ((omega arith, (omega arith, tt)), (h.0, (h.1, tt))))
 event-row (Balance ss) h = one-row (codes "b") (flat_map share_words ss) (omega arith, (omega arith, tt)) (shares-clean ss h)
@@ -61,6 +69,16 @@ outcomes-differ Ran Ran e = refl
 outcomes-differ Starved Starved e = refl
 outcomes-differ Lost Lost e = refl
 outcomes-differ a b e = let same : length (outcome_word a) ≡ length (outcome_word b) = ap (λ (xs : List ℕ). length xs) e in absurd (omega (arith, same))
+
+-- a profile is told by its words
+profiles-differ : (m n : ℕ) → IsNumber m → IsNumber n → profile_words m ≡ profile_words n → m ≡ n
+profiles-differ m n x y e = by_tests (m == 1) (n == 1) refl refl e
+  where
+    by_tests : (a b : Bool) → (m == 1) ≡ a → (n == 1) ≡ b → cond a [] (decimal_word m ∷ []) ≡ cond b [] (decimal_word n ∷ []) → m ≡ n
+    by_tests true true p q e = grind (arith, nat_tests)
+    by_tests true false p q e = absurd (cc)
+    by_tests false true p q e = absurd (cc)
+    by_tests false false p q e = decimals_differ m n x y (head-same (decimal_word m) (decimal_word n) [] [] e)
 
 -- volumes are told by their words
 share-same : (s t : Share) → s.tenant ≡ t.tenant → s.job ≡ t.job → s.volume ≡ t.volume → s ≡ t
@@ -109,21 +127,24 @@ letter-first (Start t j i w) = refl
 letter-first (Finish t j i w o) = refl
 letter-first (Exchange t j) = refl
 
-terms-same : (a b : Terms) → a.priority ≡ b.priority → a.demand ≡ b.demand → a.slices ≡ b.slices → a ≡ b
-terms-same a b x y z = ap (λ (n : ℕ). terms n a.demand a.slices) x ∙ (ap (λ (n : ℕ). terms b.priority n a.slices) y ∙ ap (λ (n : ℕ). terms b.priority b.demand n) z)
+terms-same : (a b : Terms) → a.priority ≡ b.priority → a.demand ≡ b.demand → a.slices ≡ b.slices → a.profile ≡ b.profile → a ≡ b
+terms-same a b x y z w =
+    ap (λ (n : ℕ). terms n a.demand a.slices a.profile) x
+    ∙ (ap (λ (n : ℕ). terms b.priority n a.slices a.profile) y ∙ (ap (λ (n : ℕ). terms b.priority b.demand n a.profile) z ∙ ap (λ (n : ℕ). terms b.priority b.demand b.slices n) w))
   where
-    terms : ℕ → ℕ → ℕ → Terms
-    terms priority demand slices = record { priority = priority; demand = demand; slices = slices }
+    terms : ℕ → ℕ → ℕ → ℕ → Terms
+    terms priority demand slices profile = record { priority = priority; demand = demand; slices = slices; profile = profile }
 
 -- two events of one kind
-open-differ : (t u j k : List ℕ) (a b : Terms) → IsNumber a.priority → IsNumber b.priority → IsNumber a.demand → IsNumber b.demand → IsNumber a.slices → IsNumber b.slices → event_words (Open t j a) ≡ event_words (Open u k b) → Open t j a ≡ Open u k b
-open-differ t u j k a b p q d f s g e =
+open-differ : (t u j k : List ℕ) (a b : Terms) → IsNumber a.priority → IsNumber b.priority → IsNumber a.demand → IsNumber b.demand → IsNumber a.slices → IsNumber b.slices → IsNumber a.profile → IsNumber b.profile → event_words (Open t j a) ≡ event_words (Open u k b) → Open t j a ≡ Open u k b
+open-differ t u j k a b p q d f s g m n e =
     let tenant : t ≡ u = cc in
     let job : j ≡ k = cc in
     let priority : decimal_word a.priority ≡ decimal_word b.priority = cc in
     let demand : decimal_word a.demand ≡ decimal_word b.demand = cc in
     let slices : decimal_word a.slices ≡ decimal_word b.slices = cc in
-    let ask : a ≡ b = terms-same a b (decimals_differ a.priority b.priority p q priority) (decimals_differ a.demand b.demand d f demand) (decimals_differ a.slices b.slices s g slices) in
+    let profile : profile_words a.profile ≡ profile_words b.profile = cc in
+    let ask : a ≡ b = terms-same a b (decimals_differ a.priority b.priority p q priority) (decimals_differ a.demand b.demand d f demand) (decimals_differ a.slices b.slices s g slices) (profiles-differ a.profile b.profile m n profile) in
     rw (tenant, job, ask) refl
 
 revise-differ : (t u j k : List ℕ) (m n : ℕ) → IsNumber m → IsNumber n → event_words (Revise t j m) ≡ event_words (Revise u k n) → Revise t j m ≡ Revise u k n
@@ -168,7 +189,7 @@ finish-differ t u j k m n v w o p a b c d e =
 -- an event is told by its words
 events-differ : (e f : Event) → IsWritable e → IsWritable f → letter_of e ≡ letter_of f → event_words e ≡ event_words f → e ≡ f
 unfolding letter_of
-events-differ (Open t j a) (Open u k b) h i same e = open-differ t u j k a b h.2 i.2 h.3 i.3 h.4 i.4 e
+events-differ (Open t j a) (Open u k b) h i same e = open-differ t u j k a b h.2 i.2 h.3 i.3 h.4 i.4 h.5 i.5 e
 events-differ (Revise t j m) (Revise u k n) h i same e = revise-differ t u j k m n h.2 i.2 e
 events-differ (Close t j) (Close u k) h i same e = close-differ t u j k e
 events-differ (Balance ss) (Balance ts) h i same e = balance-differ ss ts h i e
@@ -201,6 +222,18 @@ word-clean = ((omega arith, (omega arith, tt)), (omega arith, (omega arith, tt))
 start-writable : (index worker : ℕ) (o : Outcome) → IsNumber index → IsNumber worker → AllByRecursion IsWritable (one_start index worker o)
 start-writable index worker o i w = ((word-clean.0, word-clean.1, i, w), ((word-clean.0, word-clean.1, i, w), tt))
 
+open-writable : (profile : ℕ) → IsNumber profile → AllByRecursion IsWritable (one_open profile)
+open-writable profile n = ((word-clean.0, word-clean.1, omega arith, omega arith, omega arith, n), tt)
+
+profile-of : List Event → ℕ
+profile-of [] = 0
+profile-of (Open t j ask ∷ es) = ask.profile
+profile-of (e ∷ es) = 0
+
+other-profile : profile-of (one_open 1) ≡ profile-of (one_open 2) → ⊥
+unfolding profile-of
+other-profile e = let same : 1 ≡ 2 = e in absurd (omega (arith, same))
+
 index-of : List Event → ℕ
 index-of [] = 9
 index-of (Open t j ask ∷ es) = 9
@@ -221,4 +254,5 @@ other-texts = record {
   workers = λ e. let same : 2 ≡ 3 = (histories-differ 2 3 (one_start 0 1 Ran) (one_start 0 1 Ran) (omega arith) (omega arith) (start-writable 0 1 Ran (omega arith) (omega arith)) (start-writable 0 1 Ran (omega arith) (omega arith)) e).workers_are in absurd (omega (arith, same));
   exchanged = λ e. other-index (ap index-of (histories-differ 2 2 (one_start 2 1 Ran) (one_start 1 2 Ran) (omega arith) (omega arith) (start-writable 2 1 Ran (omega arith) (omega arith)) (start-writable 1 2 Ran (omega arith) (omega arith)) e).events);
   less = λ e. let same : one_start 0 1 Ran ≡ [] = (histories-differ 2 2 (one_start 0 1 Ran) [] (omega arith) (omega arith) (start-writable 0 1 Ran (omega arith) (omega arith)) tt e).events in absurd (cc);
+  profile = λ e. other-profile (ap profile-of (histories-differ 2 2 (one_open 1) (one_open 2) (omega arith) (omega arith) (open-writable 1 (omega arith)) (open-writable 2 (omega arith)) e).events);
 }

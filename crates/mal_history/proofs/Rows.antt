@@ -153,7 +153,7 @@ shares-formed words [] h = tt
 shares-formed words (s ∷ ss) h = (record { names = h.1.names; bound = h.1.says_volume.2 }, shares-formed h.0 ss h.2)
 
 event-formed : (workers : ℕ) (words : List (List ℕ)) (e : Event) → SpellsEvent workers words e → IsEvent workers e
-event-formed workers words (Open tenant job ask) h = (h.names, asks-formed h.priority h.demand h.slices ask h.says_priority h.says_demand h.says_slices)
+event-formed workers words (Open tenant job ask) h = (h.names, asks-formed h.priority h.demand h.slices h.profile ask h.says_priority h.says_demand h.says_slices h.say_profile)
 event-formed workers words (Revise tenant job number) h = (h.names, h.says_number.1, h.says_number.2)
 event-formed workers words (Close tenant job) h = h.1
 event-formed workers words (Balance volumes) h = shares-formed h.behind volumes h.says_volumes

@@ -11,11 +11,11 @@ use Rattle.mal_history.specs.declared.event.Event.{Event}
 use Rattle.mal_history.specs.declared.event.Event.TheVariants.{Open, Revise, Close, Balance, Start, Finish, Exchange}
 use Rattle.mal_history.specs.declared.event.Share.{Share}
 use Rattle.mal_history.specs.Text.{outcome_word}
-use Rattle.mal_history.specs.Reading.{Fault, in_range, ask_of, outcome_of, opened, revised, closed, started, finished, exchanged, event_of_job, named_event, are_shares, shares_of, balanced, event_of}
+use Rattle.mal_history.specs.Reading.{Fault, in_range, ask_of, profile_of, outcome_of, opened, revised, closed, started, finished, exchanged, event_of_job, named_event, are_shares, shares_of, balanced, event_of}
 use Rattle.mal_history.specs.Reading.Fault.{BadLine}
-use Rattle.mal_history.specs.Grammar.{AreNames, SpellsEvent}
+use Rattle.mal_history.specs.Grammar.{AreNames, SayProfile, SpellsEvent}
 use Rattle.mal_history.specs.Laws.{SpelledEventIsRead}
-use Rattle.mal_history.proofs.Words.{bind-ok, ok-is, says-read, read-says, names-true, asks-read, read-asks, outcome-read, read-outcome, shares-formed, shares-read, read-shares}
+use Rattle.mal_history.proofs.Words.{bind-ok, ok-is, says-read, read-says, names-true, asks-read, read-asks, profile-read, read-profile, outcome-read, read-outcome, shares-formed, shares-read, read-shares}
 
 -- behind the names stand the words of the event
 named : (workers : ℕ) (kind tenant job : List ℕ) (words : List (List ℕ)) → AreNames tenant job → named_event workers kind (tenant ∷ job ∷ words) ≡ event_of_job workers kind tenant job words
@@ -27,7 +27,8 @@ seated i w workers at by f e g =
 
 pub spelled-read : (workers : ℕ) (words : List (List ℕ)) (e : Event) → SpellsEvent workers words e → event_of workers words ≡ Ok e
 spelled-read workers words (Open tenant job ask) h =
-    ap (event_of workers) h.row ∙ named workers (codes "o") tenant job (h.priority ∷ h.demand ∷ h.slices ∷ []) h.names
+    ap (event_of workers) h.row ∙ named workers (codes "o") tenant job (h.priority ∷ h.demand ∷ h.slices ∷ h.profile) h.names
+    ∙ ap (λ (r : Result ℕ Fault). r >>= λ n. ask_of h.priority h.demand h.slices n >>= λ a. Ok (Open tenant job a)) (profile-read h.profile ask.profile h.say_profile)
     ∙ ap (λ (r : Result Terms Fault). r >>= λ a. Ok (Open tenant job a)) (asks-read h.priority h.demand h.slices ask h.says_priority h.says_demand h.says_slices)
 spelled-read workers words (Revise tenant job number) h =
     ap (event_of workers) h.row ∙ named workers (codes "r") tenant job (h.word ∷ []) h.names
@@ -51,12 +52,13 @@ open-spelled : (workers : ℕ) (tenant job : List ℕ) (words : List (List ℕ))
 open-spelled workers tenant job [] e n h = absurd (cc)
 open-spelled workers tenant job (p ∷ []) e n h = absurd (cc)
 open-spelled workers tenant job (p ∷ d ∷ []) e n h = absurd (cc)
-open-spelled workers tenant job (p ∷ d ∷ s ∷ x ∷ xs) e n h = absurd (cc)
-open-spelled workers tenant job (p ∷ d ∷ s ∷ []) e n h =
-    let ask = bind-ok (ask_of p d s) (λ a. Ok (Open tenant job a)) e h in
-    let says = read-asks p d s ask.0 ask.1 in
-    subst (λ (x : Event). SpellsEvent workers (codes "o" ∷ tenant ∷ job ∷ p ∷ d ∷ s ∷ []) x) (ok-is (Open tenant job ask.0) e ask.2)
-    (record { priority = p; demand = d; slices = s; row = refl; names = n; says_priority = says.priority; says_demand = says.demand; says_slices = says.slices })
+open-spelled workers tenant job (p ∷ d ∷ s ∷ q) e n h =
+    let profile = bind-ok (profile_of q) (λ m. ask_of p d s m >>= λ a. Ok (Open tenant job a)) e h in
+    let ask = bind-ok (ask_of p d s profile.0) (λ a. Ok (Open tenant job a)) e profile.2 in
+    let says = read-asks p d s profile.0 ask.0 ask.1 in
+    let said : SayProfile q ask.0.profile = subst (λ (m : ℕ). SayProfile q m) says.profile (read-profile q profile.0 profile.1) in
+    subst (λ (x : Event). SpellsEvent workers (codes "o" ∷ tenant ∷ job ∷ p ∷ d ∷ s ∷ q) x) (ok-is (Open tenant job ask.0) e ask.2)
+    (record { priority = p; demand = d; slices = s; profile = q; row = refl; names = n; says_priority = says.priority; says_demand = says.demand; says_slices = says.slices; say_profile = said })
 
 revise-spelled : (workers : ℕ) (tenant job : List ℕ) (words : List (List ℕ)) (e : Event) → AreNames tenant job → revised tenant job words ≡ Ok e → SpellsEvent workers (codes "r" ∷ tenant ∷ job ∷ words) e
 revise-spelled workers tenant job [] e n h = absurd (cc)

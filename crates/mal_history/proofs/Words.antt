@@ -1,5 +1,5 @@
 -- What words of a history say: numbers, names, asks, outcomes and volumes.
-use Rattle.std.proofs.Common.{◌≡◌, ℕ, Bool, true, false, cond, ◌&&◌, List, [], ◌∷◌, pos, negsuc, codes, Result, Ok, Err, refl, ap, ◌∙◌, subst}
+use Rattle.std.proofs.Common.{◌≡◌, ℕ, ◌≤◌, Bool, true, false, cond, ◌&&◌, List, [], ◌∷◌, pos, negsuc, codes, Result, Ok, Err, refl, sym, ap, ◌∙◌, subst, arith}
 use Rattle.std.specs.Prelude.{bytes_eq, nat_le}
 use Rattle.std.proofs.lemmas.Bool.{le-leb, leb-true, and_parts, and_from}
 use Rattle.std.proofs.lemmas.Slice.Eq.{bytes_eq-Decides}
@@ -12,9 +12,9 @@ use Rattle.spec_text.specs.Numbers.NumberWord.{NotANumber, TooLarge, Number}
 use Rattle.spec_dimacs.specs.Reading.{◌>>=◌}
 use Rattle.mal_history.specs.declared.event.Share.{Share}
 use Rattle.mal_history.specs.Text.{outcome_word}
-use Rattle.mal_history.specs.Reading.{Fault, ranged, in_range, header_of, ask_of, outcome_of, are_shares, shares_of}
+use Rattle.mal_history.specs.Reading.{Fault, ranged, in_range, header_of, ask_of, profile_said, profile_of, outcome_of, are_shares, shares_of}
 use Rattle.mal_history.specs.Reading.Fault.{BadLine, BadNumber}
-use Rattle.mal_history.specs.Grammar.{Says, AreNames, SayShare, SayShares, SpellsHeader}
+use Rattle.mal_history.specs.Grammar.{Says, AreNames, SayProfile, SayShare, SayShares, SpellsHeader}
 
 -- what is known where a step of reading has no fault
 pub bind-ok : {A B E : Type 0} (r : Result A E) (f : A → Result B E) (y : B) → (r >>= f) ≡ Ok y → (x : A) × (r ≡ Ok x) × (f x ≡ Ok y)
@@ -50,28 +50,59 @@ pub names-true : (tenant job : List ℕ) → AreNames tenant job → (is_name te
 names-true tenant job h = and_from (is_name tenant) (is_name job) h.0 h.1
 
 -- asks
-pub asks-read : (p d s : List ℕ) (ask : Terms) → Says 1 1000 p ask.priority → Says 1 64 d ask.demand → Says 1 4096 s ask.slices → ask_of p d s ≡ Ok ask
-asks-read p d s ask h k l =
-    ap (λ (r : Result ℕ Fault). r >>= λ priority. in_range 1 64 d >>= λ demand. in_range 1 4096 s >>= λ slices. Ok (record { priority = priority; demand = demand; slices = slices })) (says-read 1 1000 p ask.priority h)
-    ∙ ap (λ (r : Result ℕ Fault). r >>= λ demand. in_range 1 4096 s >>= λ slices. Ok (record { priority = ask.priority; demand = demand; slices = slices })) (says-read 1 64 d ask.demand k)
-    ∙ ap (λ (r : Result ℕ Fault). r >>= λ slices. Ok (record { priority = ask.priority; demand = ask.demand; slices = slices })) (says-read 1 4096 s ask.slices l)
+abbrev terms : ℕ → ℕ → ℕ → ℕ → Terms
+terms p d s n = record { priority = p; demand = d; slices = s; profile = n }
 
-pub record SayAsk (p d s : List ℕ) (ask : Terms) : Type 0 where
+pub asks-read : (p d s : List ℕ) (ask : Terms) → Says 1 1000 p ask.priority → Says 1 64 d ask.demand → Says 1 4096 s ask.slices → ask_of p d s ask.profile ≡ Ok ask
+asks-read p d s ask h k l =
+    ap (λ (r : Result ℕ Fault). r >>= λ priority. in_range 1 64 d >>= λ demand. in_range 1 4096 s >>= λ slices. Ok (terms priority demand slices ask.profile)) (says-read 1 1000 p ask.priority h)
+    ∙ ap (λ (r : Result ℕ Fault). r >>= λ demand. in_range 1 4096 s >>= λ slices. Ok (terms ask.priority demand slices ask.profile)) (says-read 1 64 d ask.demand k)
+    ∙ ap (λ (r : Result ℕ Fault). r >>= λ slices. Ok (terms ask.priority ask.demand slices ask.profile)) (says-read 1 4096 s ask.slices l)
+
+pub record SayAsk (p d s : List ℕ) (n : ℕ) (ask : Terms) : Type 0 where
   pub priority : Says 1 1000 p ask.priority
   pub demand : Says 1 64 d ask.demand
   pub slices : Says 1 4096 s ask.slices
+  pub profile : n ≡ ask.profile
 
-pub read-asks : (p d s : List ℕ) (ask : Terms) → ask_of p d s ≡ Ok ask → SayAsk p d s ask
-read-asks p d s ask e =
-    let x = bind-ok (in_range 1 1000 p) (λ priority. in_range 1 64 d >>= λ demand. in_range 1 4096 s >>= λ slices. Ok (record { priority = priority; demand = demand; slices = slices })) ask e in
-    let y = bind-ok (in_range 1 64 d) (λ demand. in_range 1 4096 s >>= λ slices. Ok (record { priority = x.0; demand = demand; slices = slices })) ask x.2 in
-    let z = bind-ok (in_range 1 4096 s) (λ slices. Ok (record { priority = x.0; demand = y.0; slices = slices })) ask y.2 in
-    let made : Terms = record { priority = x.0; demand = y.0; slices = z.0 } in
-    let same : made ≡ ask = ok-is made ask z.2 in
-    subst (λ (t : Terms). SayAsk p d s t) same (record { priority = read-says 1 1000 p x.0 x.1; demand = read-says 1 64 d y.0 y.1; slices = read-says 1 4096 s z.0 z.1 })
+pub read-asks : (p d s : List ℕ) (n : ℕ) (ask : Terms) → ask_of p d s n ≡ Ok ask → SayAsk p d s n ask
+read-asks p d s n ask e =
+    let x = bind-ok (in_range 1 1000 p) (λ priority. in_range 1 64 d >>= λ demand. in_range 1 4096 s >>= λ slices. Ok (terms priority demand slices n)) ask e in
+    let y = bind-ok (in_range 1 64 d) (λ demand. in_range 1 4096 s >>= λ slices. Ok (terms x.0 demand slices n)) ask x.2 in
+    let z = bind-ok (in_range 1 4096 s) (λ slices. Ok (terms x.0 y.0 slices n)) ask y.2 in
+    let same : terms x.0 y.0 z.0 n ≡ ask = ok-is (terms x.0 y.0 z.0 n) ask z.2 in
+    subst (λ (t : Terms). SayAsk p d s n t) same (record { priority = read-says 1 1000 p x.0 x.1; demand = read-says 1 64 d y.0 y.1; slices = read-says 1 4096 s z.0 z.1; profile = refl })
 
-pub asks-formed : (p d s : List ℕ) (ask : Terms) → Says 1 1000 p ask.priority → Says 1 64 d ask.demand → Says 1 4096 s ask.slices → IsAsk ask
-asks-formed p d s ask h k l = record { some_priority = h.1; priority_bound = h.2; some_demand = k.1; demand_bound = k.2; some_slices = l.1; slices_bound = l.2 }
+-- profiles
+said-number : (word : NumberWord) (n : ℕ) → ranged 2 2 word ≡ Ok n → profile_said word ≡ Ok n
+said-number NotANumber n e = absurd (cc)
+said-number TooLarge n e = e
+said-number (Number z) n e = e
+
+number-said : (word : NumberWord) (n : ℕ) → profile_said word ≡ Ok n → ranged 2 2 word ≡ Ok n
+number-said NotANumber n e = absurd (cc)
+number-said TooLarge n e = e
+number-said (Number z) n e = e
+
+pub profile-read : (words : List (List ℕ)) (n : ℕ) → SayProfile words n → profile_of words ≡ Ok n
+profile-read [] n h = ap (λ (k : ℕ). Ok k) (sym h)
+profile-read (word ∷ []) n h = said-number (number_in word 2) n (says-read 2 2 word n h)
+profile-read (first ∷ second ∷ others) n h = absurd h
+
+pub read-profile : (words : List (List ℕ)) (n : ℕ) → profile_of words ≡ Ok n → SayProfile words n
+read-profile [] n e = sym (ok-is 1 n e)
+read-profile (word ∷ []) n e = read-says 2 2 word n (number-said (number_in word 2) n e)
+read-profile (first ∷ second ∷ others) n e = absurd (cc)
+
+profile-formed : (words : List (List ℕ)) (n : ℕ) → SayProfile words n → (1 ≤ n) × (n ≤ 2)
+profile-formed [] n h = (omega (arith, h), omega (arith, h))
+profile-formed (word ∷ []) n h = (omega (arith, h.1), h.2)
+profile-formed (first ∷ second ∷ others) n h = absurd h
+
+pub asks-formed : (p d s : List ℕ) (words : List (List ℕ)) (ask : Terms) → Says 1 1000 p ask.priority → Says 1 64 d ask.demand → Says 1 4096 s ask.slices → SayProfile words ask.profile → IsAsk ask
+asks-formed p d s words ask h k l m =
+    let profile = profile-formed words ask.profile m in
+    record { some_priority = h.1; priority_bound = h.2; some_demand = k.1; demand_bound = k.2; some_slices = l.1; slices_bound = l.2; some_profile = profile.0; profile_bound = profile.1 }
 
 -- outcomes
 pub outcome-read : (o : Outcome) → outcome_of (outcome_word o) ≡ Ok o

@@ -21,7 +21,7 @@ pub record IsShare (s : Share) : Type 0 where
 
 -- the names of an event are words, and its numbers are numbers
 abbrev pub IsWritable : Event → Type 0
-IsWritable (Open tenant job ask) = IsClean tenant × IsClean job × IsNumber ask.priority × IsNumber ask.demand × IsNumber ask.slices
+IsWritable (Open tenant job ask) = IsClean tenant × IsClean job × IsNumber ask.priority × IsNumber ask.demand × IsNumber ask.slices × IsNumber ask.profile
 IsWritable (Revise tenant job number) = IsClean tenant × IsClean job × IsNumber number
 IsWritable (Close tenant job) = IsClean tenant × IsClean job
 IsWritable (Balance volumes) = AllByRecursion IsShare volumes
@@ -44,10 +44,15 @@ HistoriesDiffer =
 abbrev pub one_start : ℕ → ℕ → Outcome → List Event
 one_start index worker outcome = Start (codes "a") (codes "p") index worker ∷ Finish (codes "a") (codes "p") index worker outcome ∷ []
 
--- worked examples: another outcome, another number of workers, the node's index and the worker exchanged, and an event less are
--- other texts
+-- an opening of a job of this profile
+abbrev pub one_open : ℕ → List Event
+one_open profile = Open (codes "a") (codes "p") (record { priority = 1; demand = 1; slices = 4; profile = profile }) ∷ []
+
+-- worked examples: another outcome, another number of workers, the node's index and the worker exchanged, an event less, and
+-- another profile are other texts
 pub record HaveOtherTexts : Type 0 where
   pub outcome : history_text 2 (one_start 0 1 Ran) ≢ history_text 2 (one_start 0 1 Lost)
   pub workers : history_text 2 (one_start 0 1 Ran) ≢ history_text 3 (one_start 0 1 Ran)
   pub exchanged : history_text 2 (one_start 2 1 Ran) ≢ history_text 2 (one_start 1 2 Ran)
   pub less : history_text 2 (one_start 0 1 Ran) ≢ history_text 2 []
+  pub profile : history_text 2 (one_open 1) ≢ history_text 2 (one_open 2)

@@ -7,10 +7,14 @@ use Rattle.mal_history.specs.declared.event.Event.TheVariants.{Open, Revise, Clo
 use Rattle.mal_history.specs.Reading.{history_from, read_text}
 use Rattle.mal_history.specs.Reading.Fault.{BadLine, BadNumber, TooLong}
 
+-- the opening of the job p of tenant a, under this profile
+abbrev pub open_under : ℕ → Event
+open_under profile = Open (codes "a") (codes "p") (record { priority = 1; demand = 1; slices = 4; profile = profile })
+
 -- the job p of tenant a, from its opening to a finish
 abbrev pub first_events : List Event
 first_events =
-    Open (codes "a") (codes "p") (record { priority = 1; demand = 1; slices = 4 })
+    open_under 1
     ∷ Revise (codes "a") (codes "p") 1
     ∷ Close (codes "a") (codes "p")
     ∷ Balance (record { tenant = codes "a"; job = codes "p"; volume = 1 } ∷ [])
@@ -24,6 +28,8 @@ first_text = codes "h mal 1 1\no a p 1 1 4\nr a p 1\nc a p\nb a p 1\ns a p 0 1\n
 -- texts that spell histories
 pub record HaveHistories : Type 0 where
   pub first : read_text first_text ≡ Ok (record { workers = 1; events = first_events; lines = 2 ∷ 3 ∷ 4 ∷ 5 ∷ 6 ∷ 7 ∷ [] })
+  pub of_profile_2 : read_text (codes "h mal 1 1\no a p 1 1 4 2") ≡ Ok (record { workers = 1; events = open_under 2 ∷ []; lines = 2 ∷ [] })
+  pub profile_by_value : read_text (codes "h mal 1 1\no a p 1 1 4 02") ≡ Ok (record { workers = 1; events = open_under 2 ∷ []; lines = 2 ∷ [] })
   pub no_event : read_text (codes "h mal 1 64") ≡ Ok (record { workers = 64; events = []; lines = [] })
   pub empty_lines : read_text (codes "\n \t\nh mal 1 002\r\n\n\nb\r\n x  a\tp") ≡ Ok (record { workers = 2; events = Balance [] ∷ Exchange (codes "a") (codes "p") ∷ []; lines = 6 ∷ 7 ∷ [] })
   pub last_worker : read_text (codes "h mal 1 3\nf a p 63 3 starved") ≡ Ok (record { workers = 3; events = Finish (codes "a") (codes "p") 63 3 Starved ∷ []; lines = 2 ∷ [] })
@@ -44,6 +50,12 @@ pub record HaveFaults : Type 0 where
   pub index_above : read_text (codes "h mal 1 1\ns a p 64 1") ≡ Err (2, BadNumber)
   pub line_before_number : read_text (codes "h mal 1 1\nf a p x 1 done") ≡ Err (2, BadLine)
   pub name_before_number : read_text (codes "h mal 1 1\nb a p 65 A p 1") ≡ Err (2, BadLine)
+  pub profile_one_is_not_said : read_text (codes "h mal 1 1\no a p 1 1 4 1") ≡ Err (2, BadNumber)
+  pub profile_above : read_text (codes "h mal 1 1\no a p 1 1 4 3") ≡ Err (2, BadNumber)
+  pub profile_is_no_number : read_text (codes "h mal 1 1\no a p 1 1 4 x") ≡ Err (2, BadLine)
+  pub profile_before_number : read_text (codes "h mal 1 1\no a p 0 1 4 x") ≡ Err (2, BadLine)
+  pub number_before_profile : read_text (codes "h mal 1 1\no a p 0 1 4 2") ≡ Err (2, BadNumber)
+  pub two_profiles : read_text (codes "h mal 1 1\no a p 1 1 4 2 2") ≡ Err (2, BadLine)
   pub volume_above : read_text (codes "h mal 1 1\nb a p 64 a q 65") ≡ Err (2, BadNumber)
   pub third_word_missing : read_text (codes "h mal 1 1\nb a p 1 a q") ≡ Err (2, BadLine)
   pub revision_zero : read_text (codes "h mal 1 1\nr a p 0") ≡ Err (2, BadNumber)

@@ -20,16 +20,24 @@ Says low high word n = (number_in word high ≡ Number (pos n)) × (low ≤ n) �
 abbrev pub AreNames : List ℕ → List ℕ → Type 0
 AreNames tenant job = (is_name tenant ≡ true) × (is_name job ≡ true)
 
--- the line of an opening: `o`, the names, and the job's priority, demand and slices
+-- words say a profile: no word says 1, and one word says 2
+abbrev pub SayProfile : List (List ℕ) → ℕ → Type 0
+SayProfile [] profile = profile ≡ 1
+SayProfile (word ∷ []) profile = Says 2 2 word profile
+SayProfile words profile = ⊥
+
+-- the line of an opening: `o`, the names, and the job's priority, demand, slices and profile
 pub record SpellsOpen (words : List (List ℕ)) (tenant job : List ℕ) (ask : Terms) : Type 0 where
   pub priority : List ℕ
   pub demand : List ℕ
   pub slices : List ℕ
-  pub row : words ≡ codes "o" ∷ tenant ∷ job ∷ priority ∷ demand ∷ slices ∷ []
+  pub profile : List (List ℕ)
+  pub row : words ≡ codes "o" ∷ tenant ∷ job ∷ priority ∷ demand ∷ slices ∷ profile
   pub names : AreNames tenant job
   pub says_priority : Says 1 1000 priority ask.priority
   pub says_demand : Says 1 64 demand ask.demand
   pub says_slices : Says 1 4096 slices ask.slices
+  pub say_profile : SayProfile profile ask.profile
 
 -- of a revision: `r`, the names, and its number
 pub record SpellsRevise (words : List (List ℕ)) (tenant job : List ℕ) (number : ℕ) : Type 0 where

@@ -5,7 +5,7 @@ use Rattle.mal_base.specs.Names.{is_name}
 use Rattle.mal_base.specs.declared.verdict.Outcome.{Outcome}
 use Rattle.mal_base.specs.declared.verdict.Outcome.TheVariants.{Ran, Starved, Lost}
 use Rattle.spec_text.specs.Numbers.{NumberWord, number_in}
-use Rattle.spec_text.specs.Numbers.NumberWord.{Number}
+use Rattle.spec_text.specs.Numbers.NumberWord.{NotANumber, Number}
 use Rattle.spec_dimacs.specs.Rows.{rows_of}
 use Rattle.spec_dimacs.specs.Reading.{◌>>=◌}
 use Rattle.mal_history.specs.declared.event.Event.{Event}
@@ -39,9 +39,23 @@ header_of (h ∷ mal ∷ version ∷ workers ∷ []) =
     if bytes_eq h (codes "h") && bytes_eq mal (codes "mal") && bytes_eq version (codes "1") then in_range 1 64 workers else Err BadLine
 header_of others = Err BadLine
 
--- the ask of three words
-abbrev pub ask_of : List ℕ → List ℕ → List ℕ → Result Terms Fault
-ask_of p d s = in_range 1 1000 p >>= λ priority. in_range 1 64 d >>= λ demand. in_range 1 4096 s >>= λ slices. Ok (record { priority = priority; demand = demand; slices = slices })
+-- the ask of three words and of a profile
+abbrev pub ask_of : List ℕ → List ℕ → List ℕ → ℕ → Result Terms Fault
+ask_of p d s profile =
+    in_range 1 1000 p >>= λ priority. in_range 1 64 d >>= λ demand. in_range 1 4096 s >>= λ slices.
+    Ok (record { priority = priority; demand = demand; slices = slices; profile = profile })
+
+-- the profile that a word says behind an ask, where 2 alone is written: another number is out of range, and a word that is no
+-- number is none that stands there
+abbrev pub profile_said : NumberWord → Result ℕ Fault
+profile_said NotANumber = Err BadLine
+profile_said word = ranged 2 2 word
+
+-- the profile that the words behind an ask say: no word says 1
+abbrev pub profile_of : List (List ℕ) → Result ℕ Fault
+profile_of [] = Ok 1
+profile_of (word ∷ []) = profile_said (number_in word 2)
+profile_of words = Err BadLine
 
 -- the outcome that a word says
 abbrev pub outcome_of : List ℕ → Result Outcome Fault
@@ -53,7 +67,7 @@ outcome_of word =
 
 -- the events of a job of a tenant, each of the words behind their names
 abbrev pub opened : List ℕ → List ℕ → List (List ℕ) → Result Event Fault
-opened tenant job (priority ∷ demand ∷ slices ∷ []) = ask_of priority demand slices >>= λ ask. Ok (Open tenant job ask)
+opened tenant job (priority ∷ demand ∷ slices ∷ words) = profile_of words >>= λ profile. ask_of priority demand slices profile >>= λ ask. Ok (Open tenant job ask)
 opened tenant job words = Err BadLine
 
 abbrev pub revised : List ℕ → List ℕ → List (List ℕ) → Result Event Fault

@@ -1,4 +1,5 @@
-use Rattle.std.specs.Prelude.{ℕ, List, [], ◌∷◌, map, flat_map, codes}
+use Rattle.std.specs.Prelude.{ℕ, List, [], ◌∷◌, ◌==◌, if◌then◌else◌, map, flat_map, codes}
+use Rattle.mal_base.specs.Asks.{Terms}
 use Rattle.mal_base.specs.declared.verdict.Outcome.{Outcome}
 use Rattle.mal_base.specs.declared.verdict.Outcome.TheVariants.{Ran, Starved, Lost}
 use Rattle.mal_history.specs.declared.event.Event.{Event}
@@ -17,9 +18,17 @@ outcome_word Lost = codes "lost"
 abbrev pub share_words : Share → List (List ℕ)
 share_words s = s.tenant ∷ s.job ∷ decimal_word s.volume ∷ []
 
+-- the words of a profile: 1 has none
+abbrev pub profile_words : ℕ → List (List ℕ)
+profile_words profile = if profile == 1 then [] else decimal_word profile ∷ []
+
+-- the words of an ask
+abbrev pub ask_words : Terms → List (List ℕ)
+ask_words ask = decimal_word ask.priority ∷ decimal_word ask.demand ∷ decimal_word ask.slices ∷ profile_words ask.profile
+
 -- the words of an event's line
 abbrev pub event_words : Event → List (List ℕ)
-event_words (Open tenant job ask) = codes "o" ∷ tenant ∷ job ∷ decimal_word ask.priority ∷ decimal_word ask.demand ∷ decimal_word ask.slices ∷ []
+event_words (Open tenant job ask) = codes "o" ∷ tenant ∷ job ∷ ask_words ask
 event_words (Revise tenant job number) = codes "r" ∷ tenant ∷ job ∷ decimal_word number ∷ []
 event_words (Close tenant job) = codes "c" ∷ tenant ∷ job ∷ []
 event_words (Balance volumes) = codes "b" ∷ flat_map share_words volumes

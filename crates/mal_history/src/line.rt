@@ -3,12 +3,12 @@
 ghost use Rattle.std.specs.Prelude.{◌≡◌, ◌≤◌, ◌<◌, [], ◌∷◌, ◌++◌, length, IfOk, IfSome, OnOk};
 ghost use Rattle.std.specs.Arc.{arc_value};
 ghost use Rattle.spec_text.specs.Inputs.{words_of};
-ghost use Rattle.mal_history.specs.Reading.{header_of, outcome_of, opened, revised, closed, started, finished, exchanged, event_of_job, named_event, balanced, event_of, next_event};
+ghost use Rattle.mal_history.specs.Reading.{header_of, outcome_of, profile_of, opened, revised, closed, started, finished, exchanged, event_of_job, named_event, balanced, event_of, next_event};
 ghost use Rattle.mal_history.specs.ReadResult.{AreNamed, AreTwo, Gives, IsOnly};
 
 use crate::event::{Event, Share, Shares};
 use crate::fault::EventFault;
-use crate::numbers::{ask_in, in_range};
+use crate::numbers::{ask_in, in_range, profile_said};
 use mal_base::{Name, Outcome};
 use mal_text::first_word;
 use std::alloc::{AllocError, Global};
@@ -125,7 +125,7 @@ fn read_kind(
     }
 }
 
-/// The opening of a job, of the words of its ask.
+/// The opening of a job, of the words of its ask and of its profile.
 fn read_open(tenant: Name, job: Name, line: &[u8]) -> Result<Event, EventFault>
     ensures { Gives result (opened tenant job (words_of line.now)) }
 {
@@ -135,11 +135,27 @@ fn read_open(tenant: Name, job: Name, line: &[u8]) -> Result<Event, EventFault>
     let Some((demand, line)) = first_word(line) else {
         return Err(EventFault::BadLine);
     };
-    let Some(slices) = only_word(line) else {
+    let Some((slices, line)) = first_word(line) else {
         return Err(EventFault::BadLine);
     };
-    let ask = ask_in(priority, demand, slices)?;
+    let profile = profile_in(line)?;
+    let ask = ask_in(priority, demand, slices, profile)?;
     Ok(Event::Open { tenant, job, ask })
+}
+
+/// The profile that the words behind an ask say: 1 where there is no word, and else 2.
+fn profile_in(line: &[u8]) -> Result<u32, EventFault>
+    ensures value { Gives result (profile_of (words_of line.now)) }
+    ensures some { IfOk result (λ n. 1 ≤ n) }
+    ensures bound { IfOk result (λ n. n ≤ 2) }
+{
+    let Some((word, behind)) = first_word(line) else {
+        return Ok(1);
+    };
+    match first_word(behind) {
+        None => profile_said(word),
+        Some(_) => Err(EventFault::BadLine),
+    }
 }
 
 /// A revision of a job, of the word of its number.

@@ -29,6 +29,21 @@ fn a_history_is_read_and_written_again(rt: HostRuntime) -> Result<(), Fail> {
 }
 
 #[test]
+fn an_opening_says_profile_2(rt: HostRuntime) -> Result<(), Fail> {
+    let alloc = rt.alloc();
+    match read(alloc, b"h mal 1 1\no a p 1 1 4 02\no a q 1 1 4\n") {
+        Err(_) => Err("no history".into()),
+        Ok(history) => {
+            assert_eq!(rt;
+                write(alloc, &history)?.as_slice(),
+                b"h mal 1 1\no a p 1 1 4 2\no a q 1 1 4\n".as_slice()
+            );
+            Ok(())
+        }
+    }
+}
+
+#[test]
 fn balancings_that_share_volumes_are_read(rt: HostRuntime) -> Result<(), Fail> {
     let alloc = rt.alloc();
     let text =
@@ -45,12 +60,20 @@ fn balancings_that_share_volumes_are_read(rt: HostRuntime) -> Result<(), Fail> {
 #[test]
 fn first_faults_are_told_with_their_lines(rt: HostRuntime) -> Result<(), Fail> {
     let alloc = rt.alloc();
-    let cases: [(&[u8], HistoryFault); 6] = [
+    let cases: [(&[u8], HistoryFault); 8] = [
         (b"", HistoryFault::BadLine { line: 1 }),
         (b"h mal 1 0\n", HistoryFault::BadNumber { line: 1 }),
         (b"h mal 9 1\n", HistoryFault::BadLine { line: 1 }),
         (
             b"h mal 1 1\nf a p 0 1 done\n",
+            HistoryFault::BadLine { line: 2 },
+        ),
+        (
+            b"h mal 1 1\no a p 1 1 4 1\n",
+            HistoryFault::BadNumber { line: 2 },
+        ),
+        (
+            b"h mal 1 1\no a p 1 1 4 x\n",
             HistoryFault::BadLine { line: 2 },
         ),
         (

@@ -4,7 +4,7 @@ ghost use Rattle.std.specs.Prelude.{◌≡◌, [], ◌∷◌, ◌++◌, map, fla
 ghost use Rattle.spec_text.specs.Lines.{line_of};
 ghost use Rattle.spec_text.specs.Numbers.{decimal_word};
 ghost use Rattle.mal_history.specs.Shared.{shared};
-ghost use Rattle.mal_history.specs.Text.{outcome_word, share_words, event_words, header_words, history_text};
+ghost use Rattle.mal_history.specs.Text.{ask_words, outcome_word, share_words, event_words, header_words, history_text};
 ghost use Rattle.mal_history.specs.declared.event.Event.TheVariants.{Open, Revise, Start, Finish};
 
 use crate::event::{Event, Share};
@@ -87,17 +87,42 @@ fn put_event(out: &mut Vec<u8>, event: &Event) -> Result<(), AllocError>
 fn put_open(out: &mut Vec<u8>, tenant: &Name, job: &Name, ask: Ask) -> Result<(), AllocError>
     ensures { OnOk result (out.new.items ≡ out.old.items ++ line_of (event_words (Open tenant.now job.now ask))) }
 {
-    let mut priority = Buffer::new();
-    let mut demand = Buffer::new();
-    let mut slices = Buffer::new();
-    let words = [
-        tenant.as_bytes(),
-        job.as_bytes(),
-        priority.format(ask.priority()).as_bytes(),
-        demand.format(ask.demand()).as_bytes(),
-        slices.format(ask.slices()).as_bytes(),
-    ];
-    put_line(out, b"o", &words)
+    out.push(b'o')?;
+    put_names(out, tenant, job)?;
+    put_ask(out, ask)?;
+    end_line(out)?;
+    Ok(())
+}
+
+/// Writes the names of a tenant and of a job, each behind a space.
+fn put_names(out: &mut Vec<u8>, tenant: &Name, job: &Name) -> Result<(), AllocError>
+    ensures { OnOk result (out.new.items ≡ out.old.items ++ flat_map (λ w. 32 ∷ w) (tenant.now ∷ job.now ∷ [])) }
+{
+    put_word(out, tenant.as_bytes())?;
+    put_word(out, job.as_bytes())?;
+    Ok(())
+}
+
+/// Writes the words of an ask, each behind a space. Profile 1 has none.
+fn put_ask(out: &mut Vec<u8>, ask: Ask) -> Result<(), AllocError>
+    ensures { OnOk result (out.new.items ≡ out.old.items ++ flat_map (λ w. 32 ∷ w) (ask_words ask)) }
+{
+    put_number(out, ask.priority())?;
+    put_number(out, ask.demand())?;
+    put_number(out, ask.slices())?;
+    if ask.profile() != 1 {
+        put_number(out, ask.profile())?;
+    }
+    Ok(())
+}
+
+/// Writes a number behind a space.
+fn put_number(out: &mut Vec<u8>, number: u32) -> Result<(), AllocError>
+    ensures { OnOk result (out.new.items ≡ out.old.items ++ 32 ∷ decimal_word number) }
+{
+    let mut buffer = Buffer::new();
+    put_word(out, buffer.format(number).as_bytes())?;
+    Ok(())
 }
 
 /// Writes the line of a revision of a job.
@@ -129,10 +154,9 @@ fn put_balance(out: &mut Vec<u8>, shares: &[Arc<Share>]) -> Result<(), AllocErro
 fn put_share(out: &mut Vec<u8>, share: &Share) -> Result<(), AllocError>
     ensures { OnOk result (out.new.items ≡ out.old.items ++ flat_map (λ w. 32 ∷ w) (share_words share.now)) }
 {
-    let mut buffer = Buffer::new();
     put_word(out, share.tenant.as_bytes())?;
     put_word(out, share.job.as_bytes())?;
-    put_word(out, buffer.format(share.volume).as_bytes())?;
+    put_number(out, share.volume)?;
     Ok(())
 }
 
@@ -185,12 +209,10 @@ fn put_place(
 ) -> Result<(), AllocError>
     ensures { OnOk result (out.new.items ≡ out.old.items ++ flat_map (λ w. 32 ∷ w) (tenant.now ∷ job.now ∷ decimal_word index ∷ decimal_word worker ∷ [])) }
 {
-    let mut at = Buffer::new();
-    let mut by = Buffer::new();
     put_word(out, tenant.as_bytes())?;
     put_word(out, job.as_bytes())?;
-    put_word(out, at.format(index).as_bytes())?;
-    put_word(out, by.format(worker).as_bytes())?;
+    put_number(out, index)?;
+    put_number(out, worker)?;
     Ok(())
 }
 
