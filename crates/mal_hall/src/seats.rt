@@ -248,7 +248,7 @@ fn are_alike(one: Ask, other: Ask) -> bool
 fn are_same(one: Ask, other: Ask) -> bool
     ensures { IsTrue result → one ≡ other }
 {
-    are_alike(one, other) && one.slices() == other.slices()
+    are_alike(one, other) && one.slices() == other.slices() && one.profile() == other.profile()
 }
 
 /// The place of the job with this key.

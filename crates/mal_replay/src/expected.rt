@@ -157,6 +157,7 @@ fn are_same(one: Ask, other: Ask) -> bool
     one.priority() == other.priority()
         && one.demand() == other.demand()
         && one.slices() == other.slices()
+        && one.profile() == other.profile()
 }
 
 /// Whether an event is the revision of this number of this job.

@@ -25,117 +25,90 @@ fn fault_of(alloc: Global, script: &[u8], history: &[u8]) -> Result<ReplayFault,
 const THREE_REVISIONS: &[u8] =
     b"t a\nj p 1 1 4\np cnf 2 1\n1 2 0\na 0\np cnf 2 1\n-1 0\na -2 0\np cnf 2 0\na 0\ne\n";
 
-#[test]
-fn the_log_of_three_revisions_is_replayed(rt: HostRuntime) -> Result<(), Fail> {
-    let alloc = rt.alloc();
-    let text = replies_to(
-        alloc,
-        THREE_REVISIONS,
-        b"h mal 1 1\no a p 1 1 4\nr a p 1\nr a p 2\nr a p 3\nc a p\nb a p 1\ns a p 0 1\nf a p 0 1 ran\ns a p 0 1\nf a p 0 1 ran\ns a p 0 1\nf a p 0 1 ran\n",
-    )?;
-    assert_eq!(rt;
-        text.as_slice(),
-        b"r a p 1\ns SATISFIABLE\nv -1 2 0\nr a p 2\ns UNSATISFIABLE\nk -2 0\nl 3 2 0 2 1 0\nr a p 3\ns SATISFIABLE\nv -1 2 0\n".as_slice()
-    );
-    Ok(())
-}
-
-#[test]
-fn a_changed_log_is_refused(rt: HostRuntime) -> Result<(), Fail> {
-    let alloc = rt.alloc();
-    let other_node = fault_of(
-        alloc,
-        THREE_REVISIONS,
-        b"h mal 1 1\no a p 1 1 4\nr a p 1\nr a p 2\nr a p 3\nc a p\nb a p 1\ns a p 1 1\nf a p 0 1 ran\n",
-    )?;
-    assert_eq!(rt; other_node, ReplayFault::NotLegal { line: 8 });
-    let other_volume = fault_of(
-        alloc,
-        THREE_REVISIONS,
-        b"h mal 1 1\no a p 1 1 4\nr a p 1\nr a p 2\nr a p 3\nc a p\n\nb a p 2\n",
-    )?;
-    assert_eq!(rt; other_volume, ReplayFault::NotLegal { line: 8 });
-    let cut = fault_of(
-        alloc,
-        THREE_REVISIONS,
-        b"h mal 1 1\no a p 1 1 4\nr a p 1\nr a p 2\nr a p 3\nc a p\nb a p 1\ns a p 0 1\nf a p 0 1 ran\n",
-    )?;
-    assert_eq!(rt; cut, ReplayFault::NotComplete);
-    Ok(())
-}
-
 /// One job with a revision of no clauses over no variables.
 const ONE_REVISION: &[u8] = b"t a\nj p 1 1 4\np cnf 0 0\na 0\ne\n";
 
-#[test]
-fn starts_that_came_to_nothing_are_replayed(rt: HostRuntime) -> Result<(), Fail> {
-    let alloc = rt.alloc();
-    let starved = replies_to(
-        alloc,
+/// One job with a revision of two nodes.
+const TWO_NODES: &[u8] = b"t a\nj p 1 2 4\np cnf 2 1\n1 2 0\na 0\ne\n";
+
+/// Scripts with a history each and the replies by it: the one that was run, starts that came to nothing, and two nodes that
+/// finish in either order.
+const REPLIED: [(&[u8], &[u8], &[u8]); 5] = [
+    (
+        THREE_REVISIONS,
+        b"h mal 1 1\no a p 1 1 4\nr a p 1\nr a p 2\nr a p 3\nc a p\nb a p 1\ns a p 0 1\nf a p 0 1 ran\ns a p 0 1\nf a p 0 1 ran\ns a p 0 1\nf a p 0 1 ran\n",
+        b"r a p 1\ns SATISFIABLE\nv -1 2 0\nr a p 2\ns UNSATISFIABLE\nk -2 0\nl 3 2 0 2 1 0\nr a p 3\ns SATISFIABLE\nv -1 2 0\n",
+    ),
+    (
         ONE_REVISION,
         b"h mal 1 1\no a p 1 1 4\nr a p 1\nc a p\nb a p 1\ns a p 0 1\nf a p 0 1 starved\ns a p 0 1\nf a p 0 1 starved\ns a p 0 1\nf a p 0 1 starved\n",
-    )?;
-    assert_eq!(rt;
-        starved.as_slice(),
-        b"r a p 1\ns UNKNOWN\nu starved 3\n".as_slice()
-    );
-    let lost = replies_to(
-        alloc,
+        b"r a p 1\ns UNKNOWN\nu starved 3\n",
+    ),
+    (
         ONE_REVISION,
         b"h mal 1 1\no a p 1 1 4\nr a p 1\nc a p\nb a p 1\ns a p 0 1\nf a p 0 1 lost\ns a p 0 1\nf a p 0 1 ran\nb\n",
-    )?;
-    assert_eq!(rt;
-        lost.as_slice(),
-        b"r a p 1\ns SATISFIABLE\nv 0\n".as_slice()
-    );
-    Ok(())
-}
-
-#[test]
-fn two_nodes_finish_in_either_order(rt: HostRuntime) -> Result<(), Fail> {
-    let alloc = rt.alloc();
-    let script = b"t a\nj p 1 2 4\np cnf 2 1\n1 2 0\na 0\ne\n";
-    let first = replies_to(
-        alloc,
-        script,
+        b"r a p 1\ns SATISFIABLE\nv 0\n",
+    ),
+    (
+        TWO_NODES,
         b"h mal 1 2\no a p 1 2 4\nr a p 1\nc a p\nb a p 2\ns a p 0 1\ns a p 1 2\nf a p 0 1 ran\nf a p 1 2 ran\n",
-    )?;
-    assert_eq!(rt;
-        first.as_slice(),
-        b"r a p 1\ns SATISFIABLE\nv -1 2 0\n".as_slice()
-    );
-    let second = replies_to(
-        alloc,
-        script,
+        b"r a p 1\ns SATISFIABLE\nv -1 2 0\n",
+    ),
+    (
+        TWO_NODES,
         b"h mal 1 2\no a p 1 2 4\nr a p 1\nc a p\nb a p 2\ns a p 0 1\ns a p 1 2\nf a p 1 2 ran\nf a p 0 1 ran\n",
-    )?;
-    assert_eq!(rt;
-        second.as_slice(),
-        b"r a p 1\ns SATISFIABLE\nv 1 2 0\n".as_slice()
-    );
+        b"r a p 1\ns SATISFIABLE\nv 1 2 0\n",
+    ),
+];
+
+#[test]
+fn histories_are_replayed(rt: HostRuntime) -> Result<(), Fail> {
+    for (script, history, replies) in REPLIED {
+        let text = replies_to(rt.alloc(), script, history)?;
+        assert_eq!(rt; text.as_slice(), replies);
+    }
     Ok(())
 }
 
-#[test]
-fn what_the_script_does_not_say_is_refused(rt: HostRuntime) -> Result<(), Fail> {
-    let alloc = rt.alloc();
-    let other_job = fault_of(
-        alloc,
+/// Scripts with a history each that does not answer them: one with another node, another volume, or cut short; one with
+/// another job, another ask, or another revision.
+const REFUSED: [(&[u8], &[u8], ReplayFault); 6] = [
+    (
+        THREE_REVISIONS,
+        b"h mal 1 1\no a p 1 1 4\nr a p 1\nr a p 2\nr a p 3\nc a p\nb a p 1\ns a p 1 1\nf a p 0 1 ran\n",
+        ReplayFault::NotLegal { line: 8 },
+    ),
+    (
+        THREE_REVISIONS,
+        b"h mal 1 1\no a p 1 1 4\nr a p 1\nr a p 2\nr a p 3\nc a p\n\nb a p 2\n",
+        ReplayFault::NotLegal { line: 8 },
+    ),
+    (
+        THREE_REVISIONS,
+        b"h mal 1 1\no a p 1 1 4\nr a p 1\nr a p 2\nr a p 3\nc a p\nb a p 1\ns a p 0 1\nf a p 0 1 ran\n",
+        ReplayFault::NotComplete,
+    ),
+    (
         ONE_REVISION,
         b"h mal 1 1\no a p 1 1 4\no b q 1 1 4\nc b q\nr a p 1\nc a p\nb a p 1\ns a p 0 1\nf a p 0 1 ran\n",
-    )?;
-    assert_eq!(rt; other_job, ReplayFault::NotComplete);
-    let other_ask = fault_of(
-        alloc,
+        ReplayFault::NotComplete,
+    ),
+    (
         ONE_REVISION,
         b"h mal 1 1\no a p 1 1 5\nr a p 1\nc a p\nb a p 1\ns a p 0 1\nf a p 0 1 ran\n",
-    )?;
-    assert_eq!(rt; other_ask, ReplayFault::NotComplete);
-    let revision = fault_of(
-        alloc,
+        ReplayFault::NotComplete,
+    ),
+    (
         ONE_REVISION,
         b"h mal 1 1\no a p 1 1 4\nr a p 1\nr a p 2\nc a p\n",
-    )?;
-    assert_eq!(rt; revision, ReplayFault::NotLegal { line: 4 });
+        ReplayFault::NotLegal { line: 4 },
+    ),
+];
+
+#[test]
+fn histories_of_other_runs_are_refused(rt: HostRuntime) -> Result<(), Fail> {
+    for (script, history, fault) in REFUSED {
+        assert_eq!(rt; fault_of(rt.alloc(), script, history)?, fault);
+    }
     Ok(())
 }

@@ -3,7 +3,7 @@ use Rattle.mal_base.specs.Asks.{Terms}
 
 -- an ask that asks for nothing
 abbrev pub no_ask : Terms
-no_ask = record { priority = 0; demand = 0; slices = 0 }
+no_ask = record { priority = 0; demand = 0; slices = 0; profile = 0 }
 
 -- the priority of the job at a place
 abbrev pub priority_at : List Terms → ℕ → ℕ

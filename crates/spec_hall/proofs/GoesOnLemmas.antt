@@ -74,10 +74,10 @@ lease-budget : (s : SoloMachine) (i : ℕ) (p : NodeSlot) (l : Lease) (o : Outco
 lease-budget s i p l Ran h = by_late (is_late s l)
   where
     n : Node
-    n = (replay i (p.entries ++ l.adds)).node
+    n = (replay s.ask.profile i (p.entries ++ l.adds)).node
 
     back : SoloMachine
-    back = record (with_place s i (record p { entries = p.entries ++ l.adds; out = None })) { log = s.log ++ (replay i (p.entries ++ l.adds)).lines; ran = s.ran + 1 }
+    back = record (with_place s i (record p { entries = p.entries ++ l.adds; out = None })) { log = s.log ++ (replay s.ask.profile i (p.entries ++ l.adds)).lines; ran = s.ran + 1 }
 
     by_late : (b : Bool) → HasBudget (cond b back (conclude n.verdict n back))
     by_late true = h

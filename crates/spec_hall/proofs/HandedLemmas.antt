@@ -4,6 +4,7 @@ use Rattle.std.specs.List.{list_any}
 use Rattle.std.specs.Option.{option_map_or}
 use Rattle.std.proofs.lemmas.Bool.{both_ways, false_from_ne_true}
 use Rattle.std.proofs.lemmas.Bool.Decides.{Decides-eqb}
+use Rattle.mal_base.specs.Asks.{Terms}
 use Rattle.mal_base.specs.declared.verdict.Outcome.{Outcome}
 use Rattle.mal_revision.specs.Posted.{Posted}
 use Rattle.spec_job.specs.Journal.{JournalEntry}
@@ -11,6 +12,7 @@ use Rattle.spec_job.specs.Journaled.{Journaled}
 use Rattle.spec_job.specs.SoloMachine.{Own, Opened, Revised, Closed, Volume, Started, Finished, Exchanged, SoloMachine, NodeSlot, Lease, vacant, place_at, solo, solo_step, start_entries, current, first_empty, finished_lease, finished, exchanged}
 use Rattle.spec_job.specs.KeyedJob.{Key}
 use Rattle.spec_job.proofs.PlacesLemmas.{marked-place, set-place}
+use Rattle.spec_job.proofs.StepLemmas.{finish-keeps}
 use Rattle.spec_hall.specs.Calls.{Handed, handed}
 use Rattle.spec_hall.specs.Events.{Event, Open, Revise, Close, Balance, Start, Finish, Exchange}
 use Rattle.spec_hall.specs.Leases.{Numbered, job_number, numbered, place_among, start_number}
@@ -23,6 +25,9 @@ use Rattle.spec_hall.proofs.OrderlyLemmas.{lease-opened, legal-orderly}
 use Rattle.spec_hall.proofs.OutLemmas.{EndsAt, finished-out, is_out, lease-ends, settled-same}
 use Rattle.spec_hall.proofs.PushLemmas.{Legal-push, keys-push, own-push, solo-push}
 use Rattle.spec_hall.proofs.SpotLemmas.{numbered-push}
+use Rattle.spec_hall.proofs.StatesLemmas.{job_of-absent}
+use Rattle.spec_hall.proofs.OnceLemmas.{open-other}
+use Rattle.spec_hall.proofs.VolumeLemmas.{revise-keeps}
 
 -- what stands at a place as a lease concerns it: the entries of the journal, and the start that is out
 record Left : Type 0 where
@@ -157,6 +162,31 @@ event-left w past (Start k index v) worker l is = other-left (is_key l.key k) (o
 event-left w past (Finish k index v o) worker l is = other-left (is_key l.key k) (own l.key past) (Finished index o) l.index (λ mine s. finished-left s index l.index o (finish-other w past k index v o worker l is mine))
 event-left w past (Exchange k) worker l is = adds-left (is_key l.key k) (own l.key past) Exchanged l.index (λ s. exchanged-left s l.index)
 
+-- what a job asks for is left by an own event that is no opening
+adds-ask : (mine : Bool) (es : List Own) (o : Own) → (solo_step (solo es) o).ask ≡ (solo es).ask → (solo (adds mine es o)).ask ≡ (solo es).ask
+adds-ask true es o same = ap (λ (s : SoloMachine). s.ask) (solo-push es o) ∙ same
+adds-ask false es o same = refl
+
+volume-ask : (v : ℕ) (es : List Own) → (solo (adds_volume v es)).ask ≡ (solo es).ask
+volume-ask v es = by_test (v == volume_after es)
+  where
+    by_test : (b : Bool) → (solo (cond b es (es ++ Volume v ∷ []))).ask ≡ (solo es).ask
+    by_test true = refl
+    by_test false = ap (λ (s : SoloMachine). s.ask) (solo-push es (Volume v))
+
+-- its job asks for what it asked for
+event-ask : (w : ℕ) (past : List Event) (e : Event) (worker : ℕ) (l : LeaseOut) → IsOutStill w past e worker l → (solo (own_step l.key (own l.key past) e)).ask ≡ (solo (own l.key past)).ask
+event-ask w past (Open k ask) worker l is =
+    let held : lease_of worker (leases past) ≡ Some (record { worker = worker; key = l.key; index = l.index }) = held-as past worker l (mine-is w past (Open k ask) worker l is) is.out in
+    let other : is_key l.key k ≡ false = open-other past k l.key (lease-opened past worker l.index l.key (legal-orderly w past is.legal) held) (job_of-absent past k is.allowed.fresh) in
+    ap (λ (b : Bool). (solo (adds b (own l.key past) (Opened ask))).ask) other
+event-ask w past (Revise k number r) worker l is = adds-ask (is_key l.key k) (own l.key past) (Revised r) (revise-keeps (solo (own l.key past)) r).ask
+event-ask w past (Close k) worker l is = adds-ask (is_key l.key k) (own l.key past) Closed refl
+event-ask w past (Balance shares) worker l is = volume-ask (volume_in l.key shares) (own l.key past)
+event-ask w past (Start k index v) worker l is = adds-ask (is_key l.key k) (own l.key past) (Started index) refl
+event-ask w past (Finish k index v o) worker l is = adds-ask (is_key l.key k) (own l.key past) (Finished index o) (finish-keeps (solo (own l.key past)) index o).ask
+event-ask w past (Exchange k) worker l is = adds-ask (is_key l.key k) (own l.key past) Exchanged refl
+
 -- its job keeps its number
 among-push : (k j : Key) (ks : List Key) → list_any (is_key k) ks ≡ true → place_among k (ks ++ j ∷ []) ≡ place_among k ks
 among-push k j [] e = absurd (cc)
@@ -196,8 +226,8 @@ starts-stay w past (Finish k index v o) worker l is = ap (λ (n : Numbered). n.l
 starts-stay w past (Exchange k) worker l is = ap (λ (n : Numbered). n.last) (numbered-push worker past (Exchange k))
 
 -- a lease from these parts
-abbrev handed_by : LeaseOut → ℕ → ℕ → Left → Handed
-handed_by l job start p = record { journal = record { job = job; index = l.index; start = start; entries = p.entries }; adds = option_map_or (λ o. o.adds) p.out []; worker = l.worker }
+abbrev handed_by : LeaseOut → ℕ → ℕ → ℕ → Left → Handed
+handed_by l job profile start p = record { journal = record { job = job; profile = profile; index = l.index; start = start; entries = p.entries }; adds = option_map_or (λ o. o.adds) p.out []; worker = l.worker }
 
 -- a lease that stays out is as it was handed out
 handed-stays : (w : ℕ) (past : List Event) (e : Event) (worker : ℕ) (l : LeaseOut) → IsOutStill w past e worker l → handed (past ++ e ∷ []) l ≡ handed past l
@@ -206,9 +236,11 @@ handed-stays w past e worker l is =
     let same : l.worker ≡ worker = mine-is w past e worker l is in
     let start : start_number l.worker now ≡ start_number l.worker past = subst (λ (v : ℕ). start_number v now ≡ start_number v past) (sym same) (starts-stay w past e worker l is) in
     let left : left_at (solo (own l.key now)) l.index ≡ left_at (solo (own l.key past)) l.index = ap (λ (es : List Own). left_at (solo es) l.index) (own-push l.key past e) ∙ event-left w past e worker l is in
-    ap (λ (n : ℕ). handed_by l n (start_number l.worker now) (left_at (solo (own l.key now)) l.index)) (number-stays w past e worker l is)
-    ∙ (ap (λ (n : ℕ). handed_by l (job_number l.key past) n (left_at (solo (own l.key now)) l.index)) start
-    ∙ ap (λ (p : Left). handed_by l (job_number l.key past) (start_number l.worker past) p) left)
+    let ask : (solo (own l.key now)).ask ≡ (solo (own l.key past)).ask = ap (λ (es : List Own). (solo es).ask) (own-push l.key past e) ∙ event-ask w past e worker l is in
+    ap (λ (n : ℕ). handed_by l n (solo (own l.key now)).ask.profile (start_number l.worker now) (left_at (solo (own l.key now)) l.index)) (number-stays w past e worker l is)
+    ∙ (ap (λ (a : Terms). handed_by l (job_number l.key past) a.profile (start_number l.worker now) (left_at (solo (own l.key now)) l.index)) ask
+    ∙ (ap (λ (n : ℕ). handed_by l (job_number l.key past) (solo (own l.key past)).ask.profile n (left_at (solo (own l.key now)) l.index)) start
+    ∙ ap (λ (p : Left). handed_by l (job_number l.key past) (solo (own l.key past)).ask.profile (start_number l.worker past) p) left))
 
 -- what a worker has stays where its lease does
 pub lease-stays : (w : ℕ) (past : List Event) (e : Event) (worker : ℕ) → 1 ≤ w → w ≤ 64 → Legal w past → Allowed w past e → lease_of worker (leases (past ++ e ∷ [])) ≡ lease_of worker (leases past) → option_map (handed (past ++ e ∷ [])) (lease_of worker (leases (past ++ e ∷ []))) ≡ option_map (handed past) (lease_of worker (leases past))

@@ -43,6 +43,10 @@ held_at s worker index = record { worker = worker; key = s.job.titled.key; index
 tag-same : (ss : List Seat) (n : ℕ) (s : Seat) (t : Tag) → slice_get ss n ≡ Some s → slice_get (tags_of ss) n ≡ Some t → tag_of s ≡ t
 tag-same ss n s t at e = let both : Some (tag_of s) ≡ Some t = sym (slice_get-map tag_of ss n ∙ ap (option_map tag_of) at) ∙ e in cc
 
+-- a journal from these parts
+abbrev journal_from : ℕ → ℕ → ℕ → ℕ → List JournalEntry → Journaled
+journal_from job profile index start entries = record { job = job; profile = profile; index = index; start = start; entries = entries }
+
 -- the journal of a lease is that of the node
 pub journal-of : (w : ℕ) (past : List Event) (ss : List Seat) (spots : List (Option Spot)) (s : Seat) (worker : ℕ) (spot : Spot) → IsSeated w past ss → AreSpots w past (tags_of ss) spots → slice_get ss spot.job ≡ Some s → IsAt past (tags_of ss) worker spot → journal_at s.job spot.index ≡ lease_journal past (held_at s worker spot.index)
 journal-of w past ss spots s worker spot seated are at is =
@@ -52,9 +56,11 @@ journal-of w past ss spots s worker spot seated are at is =
     let number : s.job.number ≡ job_number s.job.titled.key past = ap (λ (t : Tag). t.number) same ∙ (tagged.number ∙ sym (place-at (keys_of past) spot.job s.job.titled.key (legal-orderly w past seated.legal).apart sits.place)) in
     let start : get_or s.job.starts spot.index 0 ≡ start_number worker past = ap (λ (t : Tag). get_or t.starts spot.index 0) same ∙ (is.started ∙ is.number) in
     let entries : (place_at s.job.titled.state spot.index).entries ≡ (place_at (solo (own s.job.titled.key past)) spot.index).entries = ap (λ (t : KeyedJob). (place_at t.state spot.index).entries) (sym sits.machine) in
-    ap (λ (n : ℕ). let j : Journaled = record { job = n; index = spot.index; start = get_or s.job.starts spot.index 0; entries = (place_at s.job.titled.state spot.index).entries } in j) number
-    ∙ (ap (λ (n : ℕ). let j : Journaled = record { job = job_number s.job.titled.key past; index = spot.index; start = n; entries = (place_at s.job.titled.state spot.index).entries } in j) start
-    ∙ ap (λ (es : List JournalEntry). let j : Journaled = record { job = job_number s.job.titled.key past; index = spot.index; start = start_number worker past; entries = es } in j) entries)
+    let profile : s.job.titled.state.ask.profile ≡ (solo (own s.job.titled.key past)).ask.profile = ap (λ (t : KeyedJob). t.state.ask.profile) (sym sits.machine) in
+    ap (λ (n : ℕ). journal_from n s.job.titled.state.ask.profile spot.index (get_or s.job.starts spot.index 0) (place_at s.job.titled.state spot.index).entries) number
+    ∙ (ap (λ (n : ℕ). journal_from (job_number s.job.titled.key past) n spot.index (get_or s.job.starts spot.index 0) (place_at s.job.titled.state spot.index).entries) profile
+    ∙ (ap (λ (n : ℕ). journal_from (job_number s.job.titled.key past) (solo (own s.job.titled.key past)).ask.profile spot.index n (place_at s.job.titled.state spot.index).entries) start
+    ∙ ap (λ (es : List JournalEntry). journal_from (job_number s.job.titled.key past) (solo (own s.job.titled.key past)).ask.profile spot.index (start_number worker past) es) entries))
 
 -- so are the entries of the start
 pub adds-of : (w : ℕ) (past : List Event) (ss : List Seat) (s : Seat) (n worker index : ℕ) (l : Lease) → IsSeated w past ss → slice_get ss n ≡ Some s → (place_at s.job.titled.state index).out ≡ Some l → lease_adds past (held_at s worker index) ≡ l.adds

@@ -131,6 +131,10 @@ orderly-push w past e may orderly = record {
     stays : (k : Key) → was_opened past k ≡ true → was_opened (past ++ e ∷ []) k ≡ true
     stays k h = ap (list_any (is_key k)) (keys-push past e) ∙ keys-stay k (keys_of past) e h
 
+-- the history without events is orderly
+pub empty-orderly : IsOrderly []
+empty-orderly = record { apart = tt; absent = λ k absent. refl; leased = All-nil (HasOpened []) }
+
 -- a legal history is orderly
 pub legal-orderly : (w : ℕ) (h : List Event) → Legal w h → IsOrderly h
-legal-orderly w h legal = legal_from-keeps w IsOrderly (orderly-push w) [] h legal (record { apart = tt; absent = λ k absent. refl; leased = All-nil (HasOpened []) })
+legal-orderly w h legal = legal_from-keeps w IsOrderly (orderly-push w) [] h legal empty-orderly

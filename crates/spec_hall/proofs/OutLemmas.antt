@@ -90,10 +90,10 @@ pub lease-ends : (s : SoloMachine) (i : ℕ) (p : NodeSlot) (l : Lease) (o : Out
 lease-ends s i p l Ran = record { place = record p { entries = p.entries ++ l.adds; out = None }; home = refl; is = by_late (is_late s l) }
   where
     n : Node
-    n = (replay i (p.entries ++ l.adds)).node
+    n = (replay s.ask.profile i (p.entries ++ l.adds)).node
 
     back : SoloMachine
-    back = record (with_place s i (record p { entries = p.entries ++ l.adds; out = None })) { log = s.log ++ (replay i (p.entries ++ l.adds)).lines; ran = s.ran + 1 }
+    back = record (with_place s i (record p { entries = p.entries ++ l.adds; out = None })) { log = s.log ++ (replay s.ask.profile i (p.entries ++ l.adds)).lines; ran = s.ran + 1 }
 
     by_late : (b : Bool) → (cond b back (conclude n.verdict n back)).places ≡ slice_set s.places i (record p { entries = p.entries ++ l.adds; out = None })
     by_late true = refl

@@ -6,7 +6,7 @@ use Rattle.std.proofs.lemmas.List.Elements.{All-nil, All-head, All-tail, All-wea
 use Rattle.mal_revision.specs.Posted.{Posted}
 use Rattle.spec_node.specs.Load.{counted}
 use Rattle.spec_node.proofs.BatchLemmas.{All-filtered, all-of}
-use Rattle.spec_job.specs.SoloMachine.{Own, Opened, Revised, Closed, Volume, Started, Finished, Exchanged, solo, startable, place_at, clauses_in}
+use Rattle.spec_job.specs.SoloMachine.{Own, Opened, Revised, Closed, Volume, Started, Finished, Exchanged, unopened, solo, startable, place_at, clauses_in}
 use Rattle.spec_job.specs.KeyedJob.{Key, KeyedJob}
 use Rattle.spec_job.specs.Runnable.{MayCome, MayHappen, IsRunnable}
 use Rattle.spec_job.proofs.OwnLemmas.{runnable-clauses_own}
@@ -18,6 +18,8 @@ use Rattle.spec_hall.specs.Legal.{LegalFrom, Allowed, MayRevise, MayStart}
 use Rattle.spec_hall.specs.Laws.{LegalAnswersFollow, LegalAnswersRefute, LegalAnswersSolve, LegalClausesOwn, LegalIsRunnable, LegalLogsDerived}
 use Rattle.spec_hall.proofs.KeyLemmas.{is_key-Decides}
 use Rattle.spec_hall.proofs.PushLemmas.{own-push}
+use Rattle.spec_hall.proofs.StatesLemmas.{job_of-absent}
+use Rattle.spec_hall.proofs.OrderlyLemmas.{IsOrderly, empty-orderly, orderly-push}
 
 -- the job that is found under a key is its machine run alone
 pub find-titled : (past : List Event) (k : Key) (ks : List Key) (t : KeyedJob) → find (λ (x : KeyedJob). is_key k x.key) (map (titled past) ks) ≡ Some t → titled past k ≡ t
@@ -111,24 +113,25 @@ adds_volume-runnable v es h = by_test (v == volume_after es)
     by_test false = runnable-push [] es (Volume v) h tt
 
 -- an event that is allowed leaves a job's own events runnable
-event-runnable : (w : ℕ) (past : List Event) (e : Event) (j : Key) → Allowed w past e → IsRunnable [] (own j past) → IsRunnable [] (own_step j (own j past) e)
-event-runnable w past (Open k ask) j may h = adds-runnable (is_key j k) (own j past) (Opened ask) h (λ _. tt)
-event-runnable w past (Revise k number r) j may h = adds-runnable (is_key j k) (own j past) (Revised r) h (λ q. subst (λ (x : Key). MayCome (solo (own x past)) r) (sym ((is_key-Decides j k).0 q)) (revised-may past k number r may.0 may.1))
-event-runnable w past (Close k) j may h = adds-runnable (is_key j k) (own j past) Closed h (λ _. tt)
-event-runnable w past (Balance shares) j may h = adds_volume-runnable (volume_in j shares) (own j past) h
-event-runnable w past (Start k index worker) j may h = adds-runnable (is_key j k) (own j past) (Started index) h (λ q. subst (λ (x : Key). startable (solo (own x past)) index ≡ true) (sym ((is_key-Decides j k).0 q)) (picked-may w past k index worker may.0 may.1))
-event-runnable w past (Finish k index worker outcome) j may h = adds-runnable (is_key j k) (own j past) (Finished index outcome) h (λ _. tt)
-event-runnable w past (Exchange k) j may h = adds-runnable (is_key j k) (own j past) Exchanged h (λ _. tt)
+event-runnable : (w : ℕ) (past : List Event) (e : Event) (j : Key) → Allowed w past e → IsOrderly past → IsRunnable [] (own j past) → IsRunnable [] (own_step j (own j past) e)
+event-runnable w past (Open k ask) j may orderly h =
+    adds-runnable (is_key j k) (own j past) (Opened ask) h (λ q. subst (λ (x : Key). solo (own x past) ≡ unopened) (sym ((is_key-Decides j k).0 q)) (ap solo (orderly.absent k (job_of-absent past k may.fresh))))
+event-runnable w past (Revise k number r) j may orderly h = adds-runnable (is_key j k) (own j past) (Revised r) h (λ q. subst (λ (x : Key). MayCome (solo (own x past)) r) (sym ((is_key-Decides j k).0 q)) (revised-may past k number r may.0 may.1))
+event-runnable w past (Close k) j may orderly h = adds-runnable (is_key j k) (own j past) Closed h (λ _. tt)
+event-runnable w past (Balance shares) j may orderly h = adds_volume-runnable (volume_in j shares) (own j past) h
+event-runnable w past (Start k index worker) j may orderly h = adds-runnable (is_key j k) (own j past) (Started index) h (λ q. subst (λ (x : Key). startable (solo (own x past)) index ≡ true) (sym ((is_key-Decides j k).0 q)) (picked-may w past k index worker may.0 may.1))
+event-runnable w past (Finish k index worker outcome) j may orderly h = adds-runnable (is_key j k) (own j past) (Finished index outcome) h (λ _. tt)
+event-runnable w past (Exchange k) j may orderly h = adds-runnable (is_key j k) (own j past) Exchanged h (λ _. tt)
 
-legal_from-runnable : (w : ℕ) (past es : List Event) (j : Key) → LegalFrom w past es → IsRunnable [] (own j past) → IsRunnable [] (own j (past ++ es))
-legal_from-runnable w past [] j legal h = subst (λ (xs : List Event). IsRunnable [] (own j xs)) (sym (append-nil past)) h
-legal_from-runnable w past (e ∷ es) j legal h =
-    let next : IsRunnable [] (own j (past ++ e ∷ [])) = subst (λ (os : List Own). IsRunnable [] os) (sym (own-push j past e)) (event-runnable w past e j legal.0 h) in
-    subst (λ (xs : List Event). IsRunnable [] (own j xs)) (append_assoc past (e ∷ []) es) (legal_from-runnable w (past ++ e ∷ []) es j legal.1 next)
+legal_from-runnable : (w : ℕ) (past es : List Event) (j : Key) → LegalFrom w past es → IsOrderly past → IsRunnable [] (own j past) → IsRunnable [] (own j (past ++ es))
+legal_from-runnable w past [] j legal orderly h = subst (λ (xs : List Event). IsRunnable [] (own j xs)) (sym (append-nil past)) h
+legal_from-runnable w past (e ∷ es) j legal orderly h =
+    let next : IsRunnable [] (own j (past ++ e ∷ [])) = subst (λ (os : List Own). IsRunnable [] os) (sym (own-push j past e)) (event-runnable w past e j legal.0 orderly h) in
+    subst (λ (xs : List Event). IsRunnable [] (own j xs)) (append_assoc past (e ∷ []) es) (legal_from-runnable w (past ++ e ∷ []) es j legal.1 (orderly-push w past e legal.0 orderly) next)
 
 -- a job's own events in a legal history are runnable
 pub legal-is_runnable : LegalIsRunnable
-legal-is_runnable w h legal k = legal_from-runnable w [] h k legal tt
+legal-is_runnable w h legal k = legal_from-runnable w [] h k legal empty-orderly tt
 
 -- its satisfiable answers carry models
 pub legal-answers_solve : LegalAnswersSolve

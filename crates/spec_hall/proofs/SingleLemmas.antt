@@ -59,9 +59,10 @@ legal-alone w h k legal asks = by_test (list_any (is_key k) (keys_of h)) refl
         absurd (omega (arith, none, asks.demand))
 
 pub legal-singles_agree : LegalSinglesAgree
-legal-singles_agree k workers others one other more legal lawful asks asked budget front =
+legal-singles_agree k workers others one other more legal lawful asks asked budget profile front =
     let a : IsAlone one k = legal-alone workers one k legal asks in
     let b : IsAlone other k = legal-alone others other k lawful asked in
     let slices : a.ask.slices ≡ b.ask.slices = ap (λ (t : Terms). t.slices) (sym a.same) ∙ (budget ∙ ap (λ (t : Terms). t.slices) b.same) in
+    let same : a.ask.profile ≡ b.ask.profile = ap (λ (t : Terms). t.profile) (sym a.same) ∙ (profile ∙ ap (λ (t : Terms). t.profile) b.same) in
     let begins : (solo (Opened b.ask ∷ b.rest)).revisions ≡ (solo (Opened a.ask ∷ a.rest)).revisions ++ more = ap (λ (es : List Own). (solo es).revisions) (sym b.is) ∙ (front ∙ ap (λ (es : List Own). (solo es).revisions ++ more) a.is) in
-    subst (λ (es : List Own). AgreeAll (solo es) (solo (own k other))) (sym a.is) (subst (λ (es : List Own). AgreeAll (solo (Opened a.ask ∷ a.rest)) (solo es)) (sym b.is) (singles-agree a.ask b.ask a.rest b.rest more slices a.single b.single begins))
+    subst (λ (es : List Own). AgreeAll (solo es) (solo (own k other))) (sym a.is) (subst (λ (es : List Own). AgreeAll (solo (Opened a.ask ∷ a.rest)) (solo es)) (sym b.is) (singles-agree a.ask b.ask a.rest b.rest more slices same a.single b.single begins))

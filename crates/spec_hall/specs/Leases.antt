@@ -55,9 +55,16 @@ place_among k (j ∷ ks) = if is_key k j then 0 else suc (place_among k ks)
 abbrev pub job_number : Key → List Event → ℕ
 job_number k history = place_among k (keys_of history)
 
--- the journal of a lease that is out: that of its node, under the number of its job and the number of its start
+-- the journal of a lease that is out: that of its node, under the number of its job, the profile that the job asked for and the
+-- number of its start
 abbrev pub lease_journal : List Event → LeaseOut → Journaled
-lease_journal history l = record { job = job_number l.key history; index = l.index; start = start_number l.worker history; entries = (place_at (solo (own l.key history)) l.index).entries }
+lease_journal history l = record {
+  job = job_number l.key history;
+  profile = (solo (own l.key history)).ask.profile;
+  index = l.index;
+  start = start_number l.worker history;
+  entries = (place_at (solo (own l.key history)) l.index).entries;
+}
 
 -- what the start of a lease that is out adds to that journal
 abbrev pub lease_adds : List Event → LeaseOut → List JournalEntry

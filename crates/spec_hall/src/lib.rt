@@ -41,7 +41,7 @@ pub fn legal_clauses_are_own()
 {}
 
 /// The answers and the replies of a job that asks for one worker and never wanted for memory are decided by its name, its
-/// budget and its revisions, whatever the number of workers and whatever other jobs there are.
+/// budget, the profile of its solvers and its revisions, whatever the number of workers and whatever other jobs there are.
 pub fn legal_singles_agree()
     ensures { LegalSinglesAgree }
 {}
@@ -99,7 +99,7 @@ pub fn call_is_legal()
 {}
 
 /// The answer and the reply to a revision of a job that asks for one worker and never wanted for memory are decided by its name,
-/// its budget and its revisions up to that one.
+/// its budget, the profile of its solvers and its revisions up to that one.
 pub fn legal_singles_agree_up_to()
     ensures { LegalSinglesAgreeUpTo }
 {}

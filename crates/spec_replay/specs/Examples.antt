@@ -13,7 +13,7 @@ free = record { variables = 2; clauses = []; assumptions = [] }
 
 -- a script with the job p of the tenant a, which has that one revision
 abbrev pub one_job : Scripted
-one_job = record { jobs = record { tenant = codes "a"; name = codes "p"; ask = record { priority = 1; demand = 1; slices = 4 }; revisions = free ∷ [] } ∷ [] }
+one_job = record { jobs = record { tenant = codes "a"; name = codes "p"; ask = record { priority = 1; demand = 1; slices = 4; profile = 1 }; revisions = free ∷ [] } ∷ [] }
 
 -- the first revision of that job is the script's; it lacks a second one, and the revisions of other jobs; a closing needs none
 pub record HasEvents : Type 0 where
