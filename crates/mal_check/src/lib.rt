@@ -11,6 +11,3 @@ mod trues;
 
 pub use checker::Checker;
 pub use fault::CheckFault;
-
-#[cfg(test)]
-mod tests;

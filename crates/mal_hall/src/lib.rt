@@ -11,8 +11,6 @@ mod room;
 mod scheduler;
 mod seats;
 mod spots;
-#[cfg(test)]
-mod tests;
 mod volumes;
 
 pub use desk::{Desk, Post, PostFault};

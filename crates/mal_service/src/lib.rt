@@ -5,8 +5,6 @@ mod entry;
 mod hall_call;
 mod noted;
 mod service;
-#[cfg(test)]
-mod tests;
 
 pub use entry::Entry;
 pub use mal_turn::InUse;

@@ -1,3 +1,4 @@
 //! Solvers, logs and checkers whose answers are known.
 
+mod checks;
 mod logs;

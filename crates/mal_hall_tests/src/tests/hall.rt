@@ -2,8 +2,8 @@
 
 ghost use Rattle.std.specs.Prelude.{◌≤◌};
 
-use crate::{CloseFault, Hall, OpenFault, Pick, PickFault, ReplyFault, ReviseFault};
 use mal_base::{Ask, Clause, LimitKind, Lit, Name};
+use mal_hall::{CloseFault, Hall, OpenFault, Pick, PickFault, ReplyFault, ReviseFault};
 use mal_learn::Scratch;
 use mal_revision::Revision;
 use mal_suspend::{Done, Lease};
@@ -41,7 +41,16 @@ impl Trial {
         demand: i64,
         slices: i64,
     ) -> Result<Option<OpenFault>, Fail> {
-        let ask = Ask::of(1, demand, slices).ok_or("no ask")?;
+        self.open_asking(tenant, job, Ask::of(1, demand, slices).ok_or("no ask")?)
+    }
+
+    /// Why a job with this ask is not opened, none where it is.
+    fn open_asking(
+        &mut self,
+        tenant: &[u8],
+        job: &[u8],
+        ask: Ask,
+    ) -> Result<Option<OpenFault>, Fail> {
         let (tenant, job) = (name(self.alloc, tenant)?, name(self.alloc, job)?);
         Ok(self.hall.open_job(tenant, job, ask).err())
     }
@@ -198,11 +207,12 @@ fn post_three(trial: &mut Trial) -> Result<(), Fail> {
 const THREE_REPLIES: &[u8] =
     b"r a p 1\ns SATISFIABLE\nv -1 2 0\nr a p 2\ns UNSATISFIABLE\nk -2 0\nl 3 2 0 2 1 0\nr a p 3\ns SATISFIABLE\nv -1 2 0\n";
 
-/// A driven hall of two workers with one job of demand 2, which has 8 slices for a revision of so many variables and no
-/// clause.
-fn shared_by_two(alloc: Global, variables: u32) -> Result<Trial, Fail> {
+/// A driven hall of two workers with one job of demand 2, whose solvers have this profile and 8 slices for a revision of so many
+/// variables and no clause.
+fn shared_by_two(alloc: Global, profile: i64, variables: u32) -> Result<Trial, Fail> {
     let mut trial = Trial::new(alloc, 2)?;
-    trial.open_for(b"a", b"p", 2, 8)?;
+    let ask = Ask::of(1, 2, 8).ok_or("no ask")?;
+    trial.open_asking(b"a", b"p", ask.with_profile(profile).ok_or("no profile")?)?;
     trial.revise(b"a", b"p", free(alloc, variables)?)?;
     trial.close(b"a", b"p")?;
     trial.drive()?;
@@ -316,7 +326,7 @@ fn three_revisions_are_replied_to(rt: HostRuntime) -> Result<(), Fail> {
 
 #[test]
 fn two_nodes_spend_8_slices_with_an_exchange_between(rt: HostRuntime) -> Result<(), Fail> {
-    let trial = shared_by_two(rt.alloc(), 1_000)?;
+    let trial = shared_by_two(rt.alloc(), 1, 1_000)?;
     let text = trial.history()?;
     let known =
         b"h mal 1 2\no a p 1 2 8\nr a p 1\nc a p\nb a p 2\ns a p 0 1\nf a p 0 1 ran\ns a p 1 1\nf a p 1 1 ran\ns a p 0 1\nf a p 0 1 ran\ns a p 1 1\nf a p 1 1 ran\nx a p\ns a p 0 1\nf a p 0 1 ran\ns a p 1 1\nf a p 1 1 ran\ns a p 0 1\nf a p 0 1 ran\ns a p 1 1\nf a p 1 1 ran\n";
@@ -324,6 +334,27 @@ fn two_nodes_spend_8_slices_with_an_exchange_between(rt: HostRuntime) -> Result<
     let reply = trial.reply(b"a", b"p", 1)?.ok_or("no reply")?;
     let known = b"r a p 1\ns UNKNOWN\nu spent 8\n";
     assert_eq!(rt; reply.as_slice(), known.as_slice());
+    Ok(())
+}
+
+#[test]
+fn an_exchange_of_nothing_leaves_nodes_of_profile_2(rt: HostRuntime) -> Result<(), Fail> {
+    let trial = shared_by_two(rt.alloc(), 2, 1_000)?;
+    let text = trial.history()?;
+    let known =
+        b"h mal 1 2\no a p 1 2 8 2\nr a p 1\nc a p\nb a p 2\ns a p 0 1\nf a p 0 1 ran\ns a p 1 1\nf a p 1 1 ran\ns a p 0 1\nf a p 0 1 ran\ns a p 1 1\nf a p 1 1 ran\nx a p\ns a p 0 1\nf a p 0 1 ran\n";
+    assert_eq!(rt; text.as_slice(), known.as_slice());
+    Ok(())
+}
+
+#[test]
+fn all_literals_of_its_model_are_negative(rt: HostRuntime) -> Result<(), Fail> {
+    let trial = shared_by_two(rt.alloc(), 2, 1_000)?;
+    let reply = trial.reply(b"a", b"p", 1)?.ok_or("no reply")?;
+    let front = b"r a p 1 2\ns SATISFIABLE\nv -1 -2 -3 ";
+    assert_eq!(rt; reply.get(..front.len()), Some(front.as_slice()));
+    assert_eq!(rt; reply.len(), 4_921);
+    assert_eq!(rt; reply.iter().filter(|byte| **byte == b'-').count(), 1_000);
     Ok(())
 }
 

@@ -3,11 +3,11 @@
 ghost use Rattle.std.specs.Prelude.{IfOk};
 ghost use Rattle.mal_turn.specs.Seats.{IsOf};
 
-use crate::{Pass, Service, Size};
 use mal_base::{Ask, Name};
 use mal_hall::{Hall, Pick, PickFault, Post, ReplyFault};
 use mal_learn::Scratch;
 use mal_revision::Revision;
+use mal_service::{Pass, Service, Size};
 use mal_suspend::{Done, Lease};
 use std::alloc::Global;
 use std::process::Abort;

@@ -1,6 +1,6 @@
 use Rattle.std.specs.List.{All}
 use Rattle.mal_turn.specs.Seats.{IsOf}
-use Rattle.mal_service.proofs.tests.many.play_round.Given as goal
+use Rattle.mal_hall_tests.proofs.tests.service.many.play_round.Given as goal
 
 abbrev pub invariant-loop-role : goal.invariant-loop-role
 invariant-loop-role g l = All (λ x. IsOf l.service.turn x.pass) l.played.items

@@ -4,12 +4,12 @@ ghost use Rattle.std.specs.Prelude.{◌≤◌, IfOk};
 ghost use Rattle.std.specs.List.{All};
 ghost use Rattle.mal_turn.specs.Seats.{IsOf};
 
-use crate::tests::{leased, opening, post, worked};
-use crate::{Pass, Service, Size};
+use super::{leased, opening, post, worked};
 use mal_base::{Clause, Lit, Name};
 use mal_hall::{Hall, Post, ReplyFault};
 use mal_learn::Scratch;
 use mal_revision::Revision;
+use mal_service::{Pass, Service, Size};
 use std::alloc::{AllocError, Global};
 use std::process::Abort;
 use std::sync::Wait;

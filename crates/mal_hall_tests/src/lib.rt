@@ -1,0 +1,5 @@
+//! Tests of the hall and of the shared service from outside, which see no more of a type than its contracts say.
+#![tactic(auto)]
+
+#[cfg(test)]
+mod tests;
