@@ -45,19 +45,17 @@ fn is_above(id: ClauseId, lits: &[Lit], hints: &[ClauseId]) -> bool
     id.number() >= 1 << 32 && hints.iter().all(|hint| *hint < id)
 }
 
-/// A line: its number, its literals as DIMACS CNF writes them, and the numbers of its hints.
-#[derive(Clone, Copy)]
-struct Known<'a> {
+/// Enters a line with this number, these literals and these hints.
+fn enter(
+    alloc: Global,
+    log: &mut Log,
     id: u64,
-    lits: &'a [i32],
-    hints: &'a [u64],
-}
-
-/// Enters a line.
-fn enter(alloc: Global, log: &mut Log, line: Known) -> Result<(), Fail> {
-    let id = ClauseId::of(line.id).ok_or("no number")?;
-    let lits = lits(alloc, line.lits)?;
-    let hints = ids(alloc, line.hints)?;
+    numbers: &[i32],
+    hints: &[u64],
+) -> Result<(), Fail> {
+    let id = ClauseId::of(id).ok_or("no number")?;
+    let lits = lits(alloc, numbers)?;
+    let hints = ids(alloc, hints)?;
     if !is_fresh(log, id) || !is_above(id, lits.as_slice(), hints.as_slice()) {
         return Err(Fail::from("no line for this log"));
     }
@@ -66,176 +64,95 @@ fn enter(alloc: Global, log: &mut Log, line: Known) -> Result<(), Fail> {
     Ok(())
 }
 
-/// A log of these lines.
-fn log_of(alloc: Global, lines: &[Known]) -> Result<Log, Fail> {
-    let mut log = Log::new(alloc);
-    for line in lines {
-        enter(alloc, &mut log, *line)?;
-    }
-    Ok(log)
-}
-
-/// Whether a line is this one.
-fn is_line(alloc: Global, lines: &Lines, n: usize, known: Known) -> Result<bool, Fail> {
+/// Whether a line has this number, these literals and these hints.
+fn is_line(
+    alloc: Global,
+    lines: &Lines,
+    n: usize,
+    id: u64,
+    numbers: &[i32],
+    hints: &[u64],
+) -> Result<bool, Fail> {
     if n >= lines.count() {
         return Ok(false);
     }
-    let lits = lits(alloc, known.lits)?;
-    let hints = ids(alloc, known.hints)?;
+    let lits = lits(alloc, numbers)?;
+    let hints = ids(alloc, hints)?;
     Ok(
-        lines.id(n).number() == known.id
+        lines.id(n).number() == id
             && lines.lits(n) == lits.as_slice()
             && lines.hints(n) == hints.as_slice(),
     )
 }
 
-/// Whether lines are these ones.
-fn are_lines(alloc: Global, lines: &Lines, known: &[Known]) -> Result<bool, Fail> {
-    for (n, line) in known.iter().enumerate() {
-        if !is_line(alloc, lines, n, *line)? {
-            return Ok(false);
-        }
-    }
-    Ok(lines.count() == known.len())
-}
-
-/// What is trimmed of a log of these lines for a goal.
-fn trimmed(alloc: Global, lines: &[Known], goal: u64) -> Result<Lines, Fail> {
-    let log = log_of(alloc, lines)?;
-    Ok(log.trim(ClauseId::of(goal).ok_or("no number")?)?)
-}
-
-/// The same, numbered behind so many original clauses.
-fn proof(alloc: Global, lines: &[Known], goal: u64, m: u64) -> Result<Lines, Fail>
+/// What is trimmed of a log for a goal, numbered behind so many original clauses.
+fn proof(alloc: Global, log: &Log, goal: u64, m: u64) -> Result<Lines, Fail>
     requires { m < 2 ^ 32 }
 {
-    let lines = trimmed(alloc, lines, goal)?;
+    let lines = log.trim(ClauseId::of(goal).ok_or("no number")?)?;
     Ok(renumber(alloc, &lines, m)?)
 }
 
 const FIRST: u64 = 1 << 32;
 
-/// The lines that refute the four clauses over two variables, as they are entered and as they are numbered.
-const REFUTATION: &[Known<'static>] = &[
-    Known {
-        id: FIRST,
-        lits: &[1],
-        hints: &[1, 2],
-    },
-    Known {
-        id: FIRST + 64,
-        lits: &[],
-        hints: &[FIRST, 3, 4],
-    },
-];
-
-const NUMBERED: &[Known<'static>] = &[
-    Known {
-        id: 5,
-        lits: &[1],
-        hints: &[1, 2],
-    },
-    Known {
-        id: 6,
-        lits: &[],
-        hints: &[5, 3, 4],
-    },
-];
-
 #[test]
 fn four_clauses_take_two_lines(rt: HostRuntime) -> Result<(), Fail> {
-    let lines = proof(rt.alloc(), REFUTATION, FIRST + 64, 4)?;
-    assert!(rt; are_lines(rt.alloc(), &lines, NUMBERED)?);
+    let alloc = rt.alloc();
+    let mut log = Log::new(alloc);
+    enter(alloc, &mut log, FIRST, &[1], &[1, 2])?;
+    enter(alloc, &mut log, FIRST + 64, &[], &[FIRST, 3, 4])?;
+    let lines = proof(alloc, &log, FIRST + 64, 4)?;
+    assert_eq!(rt; lines.count(), 2);
+    assert!(rt; is_line(alloc, &lines, 0, 5, &[1], &[1, 2])?);
+    assert!(rt; is_line(alloc, &lines, 1, 6, &[], &[5, 3, 4])?);
     Ok(())
-}
-
-/// The line of the empty clause.
-fn empty(id: u64, hints: &[u64]) -> Known {
-    Known {
-        id,
-        lits: &[],
-        hints,
-    }
 }
 
 #[test]
 fn both_signs_of_a_variable_take_one_line(rt: HostRuntime) -> Result<(), Fail> {
-    let lines = proof(rt.alloc(), &[empty(FIRST, &[1, 2])], FIRST, 2)?;
-    assert!(rt; are_lines(rt.alloc(), &lines, &[empty(3, &[1, 2])])?);
+    let alloc = rt.alloc();
+    let mut log = Log::new(alloc);
+    enter(alloc, &mut log, FIRST, &[], &[1, 2])?;
+    let lines = proof(alloc, &log, FIRST, 2)?;
+    assert_eq!(rt; lines.count(), 1);
+    assert!(rt; is_line(alloc, &lines, 0, 3, &[], &[1, 2])?);
     Ok(())
 }
 
 #[test]
 fn an_empty_original_takes_one_line(rt: HostRuntime) -> Result<(), Fail> {
-    let lines = proof(rt.alloc(), &[empty(FIRST, &[1])], FIRST, 1)?;
-    assert!(rt; are_lines(rt.alloc(), &lines, &[empty(2, &[1])])?);
+    let alloc = rt.alloc();
+    let mut log = Log::new(alloc);
+    enter(alloc, &mut log, FIRST, &[], &[1])?;
+    let lines = proof(alloc, &log, FIRST, 1)?;
+    assert_eq!(rt; lines.count(), 1);
+    assert!(rt; is_line(alloc, &lines, 0, 2, &[], &[1])?);
     Ok(())
 }
-
-/// Lines of two solvers, of which the second and the fourth lead to no goal.
-const MIXED: &[Known<'static>] = &[
-    Known {
-        id: FIRST + 65,
-        lits: &[2],
-        hints: &[1, 3],
-    },
-    Known {
-        id: FIRST + 64,
-        lits: &[-2, 3],
-        hints: &[7],
-    },
-    Known {
-        id: FIRST,
-        lits: &[1],
-        hints: &[1, 2],
-    },
-    Known {
-        id: FIRST + 129,
-        lits: &[-1],
-        hints: &[FIRST + 65, 4],
-    },
-    Known {
-        id: FIRST + 128,
-        lits: &[],
-        hints: &[FIRST, FIRST + 65, 4],
-    },
-];
-
-/// Those that lead to the empty clause, by rising number.
-const RISING: &[Known<'static>] = &[
-    Known {
-        id: FIRST,
-        lits: &[1],
-        hints: &[1, 2],
-    },
-    Known {
-        id: FIRST + 65,
-        lits: &[2],
-        hints: &[1, 3],
-    },
-    Known {
-        id: FIRST + 128,
-        lits: &[],
-        hints: &[FIRST, FIRST + 65, 4],
-    },
-];
 
 #[test]
 fn lines_of_two_solvers_rise_and_others_stay_out(rt: HostRuntime) -> Result<(), Fail> {
-    let lines = trimmed(rt.alloc(), MIXED, FIRST + 128)?;
-    assert!(rt; are_lines(rt.alloc(), &lines, RISING)?);
+    let alloc = rt.alloc();
+    let mut log = Log::new(alloc);
+    enter(alloc, &mut log, FIRST + 65, &[2], &[1, 3])?;
+    enter(alloc, &mut log, FIRST + 64, &[-2, 3], &[7])?;
+    enter(alloc, &mut log, FIRST, &[1], &[1, 2])?;
+    enter(alloc, &mut log, FIRST + 129, &[-1], &[FIRST + 65, 4])?;
+    enter(alloc, &mut log, FIRST + 128, &[], &[FIRST, FIRST + 65, 4])?;
+    let goal = ClauseId::of(FIRST + 128).ok_or("no number")?;
+    let lines = log.trim(goal)?;
+    assert_eq!(rt; lines.count(), 3);
+    assert!(rt; is_line(alloc, &lines, 0, FIRST, &[1], &[1, 2])?);
+    assert!(rt; is_line(alloc, &lines, 1, FIRST + 65, &[2], &[1, 3])?);
+    assert!(rt; is_line(alloc, &lines, 2, FIRST + 128, &[], &[FIRST, FIRST + 65, 4])?);
+    let none = log.trim(ClauseId::original(7))?;
+    assert_eq!(rt; none.count(), 0);
     Ok(())
 }
 
 #[test]
-fn an_original_clause_takes_no_line(rt: HostRuntime) -> Result<(), Fail> {
-    let lines = trimmed(rt.alloc(), MIXED, 7)?;
-    assert_eq!(rt; lines.count(), 0);
-    Ok(())
-}
-
-/// A log of 1,000 lines of 500 literals and 500 hints, of which the first is the line before.
-fn long_log(alloc: Global) -> Result<Log, Fail> {
+fn a_log_takes_a_million_numbers(rt: HostRuntime) -> Result<(), Fail> {
+    let alloc = rt.alloc();
     let mut log = Log::new(alloc);
     let numbers: Vec<i32> = (1..501).collect(alloc)?;
     let mut hints = vec![in alloc; 1; 500]?;
@@ -243,38 +160,21 @@ fn long_log(alloc: Global) -> Result<Log, Fail> {
         if n % 100 == 0 {
             log.reserve(100, 100_000)?;
         }
-        let line = Known {
-            id: FIRST + n,
-            lits: numbers.as_slice(),
-            hints: hints.as_slice(),
-        };
-        enter(alloc, &mut log, line)?;
+        enter(
+            alloc,
+            &mut log,
+            FIRST + n,
+            numbers.as_slice(),
+            hints.as_slice(),
+        )?;
         hints[0] = FIRST + n;
     }
-    Ok(log)
-}
-
-#[test]
-fn a_log_takes_a_million_numbers(rt: HostRuntime) -> Result<(), Fail> {
-    let log = long_log(rt.alloc())?;
     assert_eq!(rt; log.count(), 1_000);
     assert_eq!(rt; log.id(0).number(), FIRST);
     assert_eq!(rt; log.id(999).number(), FIRST + 999);
     assert_eq!(rt; log.lits(500).len(), 500);
     assert_eq!(rt; log.hints(500).first().copied(), ClauseId::of(FIRST + 499));
-    Ok(())
-}
-
-/// The proof of the last line of a log of 1,000 lines, behind one clause.
-fn long_proof(alloc: Global) -> Result<Lines, Fail> {
-    let log = long_log(alloc)?;
-    let lines = log.trim(ClauseId::of(FIRST + 999).ok_or("no number")?)?;
-    Ok(renumber(alloc, &lines, 1)?)
-}
-
-#[test]
-fn a_proof_takes_a_million_numbers(rt: HostRuntime) -> Result<(), Fail> {
-    let lines = long_proof(rt.alloc())?;
+    let lines = proof(alloc, &log, FIRST + 999, 1)?;
     assert_eq!(rt; lines.count(), 1_000);
     assert_eq!(rt; lines.id(999).number(), 1_001);
     assert_eq!(rt; lines.hints(999).first().copied(), ClauseId::of(1_000));
