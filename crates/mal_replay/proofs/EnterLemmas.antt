@@ -1,5 +1,7 @@
 -- A history that is entered event by event, and then judged.
-use Rattle.std.proofs.Common.{◌≡◌, ℕ, ◌+◌, ◌<◌, ◌≤◌, List, [], ◌∷◌, ◌++◌, length, map, filter, take, get_or, slice_get, Option, Some, refl, sym, ◌∙◌, ap, subst, arith}
+use Rattle.std.proofs.Common.{◌≡◌, ℕ, ◌+◌, ◌<◌, ◌≤◌, Bool, false, List, [], ◌∷◌, ◌++◌, length, map, filter, take, get_or, slice_get, Option, Some, refl, sym, ◌∙◌, ap, subst, arith}
+use Rattle.std.specs.Prelude.{IsTrue, ◌↔◌}
+use Rattle.std.proofs.lemmas.Bool.{both_ways}
 use Rattle.std.proofs.lemmas.List.{map-append, take_all}
 use Rattle.std.proofs.lemmas.Option.{slice_get_read}
 use Rattle.mal_hall.specs.Applied.{HasApplied, IsInside, IsRefused}
@@ -68,3 +70,7 @@ has-run s hall legal complete = (hall.workers, record { workers_are = refl; lega
 
 pub replied : (s : Scripted) (h : Written) (hall : HallView) (text : List ℕ) → HasReplayed s h (length h.events) hall → Legal hall.workers hall.events → IsComplete s hall.events → text ≡ replies s hall.events → IsReplied h.workers s h.events text
 replied s h hall text is legal complete told = record { events = hall.events; legal = all-legal s h hall is legal; complete = complete; text_is = told }
+
+-- what a test says that failed
+pub not-passed : {P : Type 0} (b : Bool) → IsTrue b ↔ P → b ≡ false → P → ⊥
+not-passed b e q p = both_ways b q (e.1 p)

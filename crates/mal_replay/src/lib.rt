@@ -2,8 +2,6 @@
 #![tactic(auto)]
 
 mod contents;
-mod expected;
-mod posts;
 mod replaying;
 #[cfg(test)]
 mod tests;

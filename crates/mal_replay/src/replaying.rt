@@ -6,12 +6,12 @@ ghost use Rattle.mal_replay.specs.Replaying.{HasReplayed};
 ghost use Rattle.spec_replay.specs.Replayed.{IsReplay};
 
 use crate::contents::posted_in;
-use crate::posts::have_posts;
 use mal_base::ReplayFault;
 use mal_hall::{ApplyFault, Hall};
 use mal_history::History;
 use mal_learn::Scratch;
 use mal_pool::replies;
+use mal_posts::have_posts;
 use mal_script::Script;
 use std::alloc::Global;
 

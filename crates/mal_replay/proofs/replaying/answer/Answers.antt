@@ -1,11 +1,6 @@
 use Rattle.std.proofs.Common.{refl}
-use Rattle.mal_replay.proofs.EnterLemmas.{has-run, is-complete, lacks-posts, replied}
-use Rattle.mal_replay.proofs.FollowLemmas.{few-jobs}
-use Rattle.mal_replay.proofs.TenantLemmas.{not-passed}
+use Rattle.mal_replay.proofs.EnterLemmas.{has-run, is-complete, lacks-posts, not-passed, replied}
 use Rattle.mal_replay.proofs.replaying.answer.Goals as goal
-
-pub have_posts-requires : goal.have_posts-requires
-have_posts-requires c = few-jobs c.args.script.now c.jobs.ensures.formed
 
 pub replies-requires : goal.replies-requires
 replies-requires c =

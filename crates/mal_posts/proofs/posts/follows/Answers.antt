@@ -1,6 +1,6 @@
 use Rattle.std.proofs.Common.{arith}
-use Rattle.mal_replay.proofs.FollowLemmas.{left-end, left-false, left-more, left-short}
-use Rattle.mal_replay.proofs.posts.follows.Goals as goal
+use Rattle.mal_posts.proofs.FollowLemmas.{left-end, left-false, left-more, left-short}
+use Rattle.mal_posts.proofs.posts.follows.Goals as goal
 
 pub returns-in-None : goal.returns-in-None
 returns-in-None c = left-false c.args.tenant c.args.events.now c.args.posts.now c.loop-event.event-index c.loop-event.next c.event-item.result c.loop-event.invariant (omega arith) c.event-item.is c.in-None.ensures

@@ -8,7 +8,7 @@ use Rattle.std.proofs.lemmas.List.Folds.{list_any-append}
 use Rattle.std.proofs.lemmas.List.Sums.{fold_push}
 use Rattle.mal_history.specs.declared.event.Event as written
 use Rattle.mal_history.specs.declared.event.Event.TheVariants as of
-use Rattle.mal_replay.specs.Replaying.{is_known}
+use Rattle.mal_posts.specs.Expected.{is_known}
 use Rattle.spec_hall.specs.Events.{bare}
 use Rattle.spec_hall.specs.Own.{is_text}
 use Rattle.spec_hall.proofs.KeyLemmas.{is_text-Decides}
@@ -161,6 +161,3 @@ test-false other = (λ t. absurd (cc), λ p. absurd (other p))
 
 pub test-true : {P : Type 0} → P → IsTrue true ↔ P
 test-true p = (λ t. p, λ q. refl)
-
-pub not-passed : {P : Type 0} (b : Bool) → IsTrue b ↔ P → b ≡ false → P → ⊥
-not-passed b e q p = both_ways b q (e.1 p)

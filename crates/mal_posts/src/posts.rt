@@ -2,7 +2,7 @@
 
 ghost use Rattle.std.specs.Prelude.{◌≡◌, ◌↔◌, bytes_eq, IsTrue, MatchOption, IfOk};
 ghost use Rattle.std.specs.List.{list_all, list_any};
-ghost use Rattle.mal_replay.specs.Replaying.{AreFew, GoesOn, Leaves, is_known, lines_of};
+ghost use Rattle.mal_posts.specs.Expected.{AreFew, GoesOn, Leaves, is_known, lines_of};
 ghost use Rattle.spec_replay.specs.Posts.{HasPosts, HavePosts, is_post_line, post_lines};
 ghost use Rattle.spec_script.specs.Formed.{tenants_of};
 
@@ -12,9 +12,8 @@ use mal_history::Event;
 use mal_script::{Script, ScriptJob};
 use std::alloc::{AllocError, Global};
 
-/// Whether each tenant posted just what the script says, in its order. A job has 256 revisions at most.
+/// Whether each tenant posted just what the script says, in its order.
 pub fn have_posts(alloc: Global, script: &Script, events: &[Event]) -> Result<bool, AllocError>
-    requires { AreFew script.now.jobs }
     ensures { IfOk result (λ b. IsTrue b ↔ HavePosts script.now events.now) }
 {
     let tenants = tenants_of(alloc, script.jobs())?;

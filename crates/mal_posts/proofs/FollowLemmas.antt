@@ -7,8 +7,8 @@ use Rattle.std.proofs.lemmas.Option.{get_or_from_slice_get, slice_get_within}
 use Rattle.std.proofs.lemmas.List.Elements.{All-cons, All-head, All-nil, All-tail, filter-append}
 use Rattle.mal_history.specs.declared.event.Event as written
 use Rattle.mal_history.specs.declared.event.Event.TheVariants as of
-use Rattle.mal_replay.specs.Replaying.{AreFew, GoesOn, Leaves, job_lines, line_of, lines_of, opening_lines}
-use Rattle.mal_replay.specs.declared.expected.Post.{Post}
+use Rattle.mal_posts.specs.Expected.{AreFew, GoesOn, Leaves, job_lines, line_of, lines_of, opening_lines}
+use Rattle.mal_posts.specs.declared.expected.Post.{Post}
 use Rattle.mal_revision.specs.Posted.{Posted}
 use Rattle.spec_job.specs.KeyedJob.{Key}
 use Rattle.spec_hall.specs.Events.{Event, Revise, bare}

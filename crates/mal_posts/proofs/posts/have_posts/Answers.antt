@@ -1,7 +1,11 @@
 use Rattle.std.proofs.Common.{◌<◌, ◌≤◌, length, arith, sym, ◌∙◌, ap}
 use Rattle.spec_script.specs.Formed.{tenants_of}
-use Rattle.mal_replay.proofs.TenantLemmas.{posted-all, posted-more, test-false, test-true, unknown-not}
-use Rattle.mal_replay.proofs.posts.have_posts.Goals as goal
+use Rattle.mal_posts.proofs.FollowLemmas.{few-jobs}
+use Rattle.mal_posts.proofs.TenantLemmas.{posted-all, posted-more, test-false, test-true, unknown-not}
+use Rattle.mal_posts.proofs.posts.have_posts.Goals as goal
+
+pub has_posts-requires : goal.has_posts-requires
+has_posts-requires c = few-jobs c.args.script.now c.jobs.ensures.formed
 
 pub returns-then-not-are_known : goal.returns-then-not-are_known
 returns-then-not-are_known c =

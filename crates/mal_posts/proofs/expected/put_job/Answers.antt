@@ -1,8 +1,8 @@
 use Rattle.std.proofs.Common.{◌<◌, length, arith, refl}
 use Rattle.spec_run.specs.Complete.{key_of_job}
-use Rattle.mal_replay.specs.Replaying.{lines_of}
-use Rattle.mal_replay.proofs.FollowLemmas.{lines-more, revision-more}
-use Rattle.mal_replay.proofs.expected.put_job.Goals as goal
+use Rattle.mal_posts.specs.Expected.{lines_of}
+use Rattle.mal_posts.proofs.FollowLemmas.{lines-more, revision-more}
+use Rattle.mal_posts.proofs.expected.put_job.Goals as goal
 
 pub loop-posted-preserved : goal.loop-posted-preserved
 loop-posted-preserved c =
