@@ -11,7 +11,7 @@ use Rattle.mal_history.specs.declared.event.Event.TheVariants as of
 use Rattle.mal_job.specs.Among.{among}
 use Rattle.mal_pool.specs.Posts.{AreKnown}
 use Rattle.mal_pool.specs.Testing as testing
-use Rattle.mal_pool.specs.Testing.{is_by, is_among, AgreeOn, HasContents, HaveContents, HasPosts}
+use Rattle.mal_pool.specs.Testing.{HasContents, HaveContents, HasPosts}
 use Rattle.mal_revision.specs.Posted.{Posted}
 use Rattle.spec_job.specs.KeyedJob.{Key, KeyedJob}
 use Rattle.spec_hall.specs.Dressed.{dressed, no_revision, revisions_of}
@@ -22,8 +22,8 @@ use Rattle.spec_hall.specs.States.{states, keys_of, keys_step, titled}
 use Rattle.spec_hall.proofs.DressedLemmas.{legal-is_dressed}
 use Rattle.spec_hall.proofs.KeyLemmas.{is_text-Decides, is_key-same}
 use Rattle.spec_run.specs.Complete.{is_post_of, key_of_job, job_events, open_events, posts_of, revise_events, script_events, jobs_of_tenant}
+use Rattle.spec_replay.specs.Posts.{HavePosts, is_post_line, post_lines}
 use Rattle.spec_run.specs.Losses as losses
-use Rattle.spec_run.proofs.CompleteLemmas.{script-posts}
 use Rattle.spec_run.proofs.KeyLemmas.{job-found}
 use Rattle.spec_run.proofs.PostingLemmas.{take-one}
 use Rattle.spec_script.specs.Script.{ScriptedJob, Scripted}
@@ -38,17 +38,6 @@ bare-losses (Balance shares ∷ es) = bare-losses es
 bare-losses (Start k index worker ∷ es) = bare-losses es
 bare-losses (Finish k index worker outcome ∷ es) = ap (λ (b : Bool). losses.is_loss (Finish k index worker outcome) || b) (bare-losses es)
 bare-losses (Exchange k ∷ es) = bare-losses es
-
--- lists that agree on one more tenant
-agree-behind : (names : List (List ℕ)) (name : List ℕ) (a b : List written.Event) → AgreeOn names a b → filter (is_by name) a ≡ filter (is_by name) b → AgreeOn (names ++ name ∷ []) a b
-agree-behind [] name a b agree here = (here, tt)
-agree-behind (n ∷ ns) name a b agree here = (agree.0, agree-behind ns name a b agree.1 here)
-
-pub agree-more : (names : List (List ℕ)) (i : ℕ) (name : List ℕ) (a b : List written.Event) → AgreeOn (take i names) a b → filter (is_by name) a ≡ filter (is_by name) b → i < length names → name ≡ get_or names i name → AgreeOn (take (i + 1) names) a b
-agree-more names i name a b agree here low is = subst (λ (ns : List (List ℕ)). AgreeOn ns a b) (sym (take-one names i name low is)) (agree-behind (take i names) name a b agree here)
-
-pub agree-all : (names : List (List ℕ)) (i : ℕ) (a b : List written.Event) → AgreeOn (take i names) a b → length names ≤ i → AgreeOn names a b
-agree-all names i a b agree all = subst (λ (ns : List (List ℕ)). AgreeOn ns a b) (take_all i names all) agree
 
 -- one more job with its contents
 contents-behind : (h : List Event) (js : List ScriptedJob) (j : ScriptedJob) → HaveContents h js → HasContents h j → HaveContents h (js ++ j ∷ [])
@@ -69,51 +58,8 @@ among-at (suc k) i rs r is e = get_or_from_slice_get rs i r no_revision (ap (sli
 pub at-default : (rs : List Posted) (i : ℕ) (r : Posted) → i < length rs → r ≡ get_or rs i r → get_or rs i no_revision ≡ r
 at-default rs i r low is = get_or_from_slice_get rs i r no_revision (slice_get_read rs (length rs) i r refl low is)
 
--- lists that agree on all their tenants agree on each text
-true-not-false : true ≡ false → ⊥
-true-not-false e = cc
-
-absent : (t : List ℕ) (names : List (List ℕ)) (tenant : List ℕ) → list_any (λ name. is_text name t) names ≡ false → list_any (λ name. is_text name tenant) names ≡ true → is_text t tenant ≡ false
-absent t names tenant none some = by_test (is_text t tenant) refl
-  where
-    by_test : (b : Bool) → is_text t tenant ≡ b → b ≡ false
-    by_test true is = absurd (true-not-false (sym some ∙ (ap (λ (x : List ℕ). list_any (λ name. is_text name x) names) (sym ((is_text-Decides t tenant).0 is)) ∙ none)))
-    by_test false is = refl
-
-none-by : (t : List ℕ) (names : List (List ℕ)) (e : written.Event) → list_any (λ name. is_text name t) names ≡ false → is_among names e ≡ true → is_by t e ≡ false
-none-by t names (of.Open tenant job ask) none some = absent t names tenant none some
-none-by t names (of.Revise tenant job number) none some = absent t names tenant none some
-none-by t names (of.Close tenant job) none some = absent t names tenant none some
-none-by t names (of.Balance volumes) none some = refl
-none-by t names (of.Start tenant job index worker) none some = refl
-none-by t names (of.Finish tenant job index worker outcome) none some = refl
-none-by t names (of.Exchange tenant job) none some = refl
-
-none-posted : (t : List ℕ) (names : List (List ℕ)) (es : List written.Event) → list_any (λ name. is_text name t) names ≡ false → list_all (is_among names) es ≡ true → filter (is_by t) es ≡ []
-none-posted t names [] none all = refl
-none-posted t names (e ∷ es) none all = by_test (is_among names e) refl all (none-posted t names es none)
-  where
-    by_test : (b : Bool) → is_among names e ≡ b → (b && list_all (is_among names) es) ≡ true → (list_all (is_among names) es ≡ true → filter (is_by t) es ≡ []) → filter (is_by t) (e ∷ es) ≡ []
-    by_test true is h rest = ap (λ (b : Bool). cond b (e ∷ filter (is_by t) es) (filter (is_by t) es)) (none-by t names e none is) ∙ rest h
-    by_test false is h rest = absurd (true-not-false (sym h))
-
-agree-at : (t : List ℕ) (names : List (List ℕ)) (a b : List written.Event) → AgreeOn names a b → list_any (λ name. is_text name t) names ≡ true → filter (is_by t) a ≡ filter (is_by t) b
-agree-at t [] a b agree some = absurd (true-not-false (sym some))
-agree-at t (n ∷ ns) a b agree some = by_test (is_text n t) refl some (λ h. agree-at t ns a b agree.1 h)
-  where
-    by_test : (x : Bool) → is_text n t ≡ x → (x || list_any (λ name. is_text name t) ns) ≡ true → (list_any (λ name. is_text name t) ns ≡ true → filter (is_by t) a ≡ filter (is_by t) b) → filter (is_by t) a ≡ filter (is_by t) b
-    by_test true is h rest = subst (λ (x : List ℕ). filter (is_by x) a ≡ filter (is_by x) b) ((is_text-Decides n t).0 is) agree.0
-    by_test false is h rest = rest h
-
-agreed : (t : List ℕ) (names : List (List ℕ)) (a b : List written.Event) → list_all (is_among names) a ≡ true → list_all (is_among names) b ≡ true → AgreeOn names a b → filter (is_by t) a ≡ filter (is_by t) b
-agreed t names a b x y agree = by_test (list_any (λ name. is_text name t) names) refl
-  where
-    by_test : (s : Bool) → list_any (λ name. is_text name t) names ≡ s → filter (is_by t) a ≡ filter (is_by t) b
-    by_test true is = agree-at t names a b agree is
-    by_test false is = none-posted t names a is x ∙ sym (none-posted t names b is y)
-
 -- what is written down, with the revisions of the jobs
-dressed-by : (ts : List KeyedJob) (t : List ℕ) (e : written.Event) → is_post_of t (dressed ts e) ≡ is_by t e
+dressed-by : (ts : List KeyedJob) (t : List ℕ) (e : written.Event) → is_post_of t (dressed ts e) ≡ is_post_line t e
 dressed-by ts t (of.Open tenant job ask) = refl
 dressed-by ts t (of.Revise tenant job number) = refl
 dressed-by ts t (of.Close tenant job) = refl
@@ -122,13 +68,13 @@ dressed-by ts t (of.Start tenant job index worker) = refl
 dressed-by ts t (of.Finish tenant job index worker outcome) = refl
 dressed-by ts t (of.Exchange tenant job) = refl
 
-filter-dressed : (ts : List KeyedJob) (t : List ℕ) (es : List written.Event) → filter (is_post_of t) (map (dressed ts) es) ≡ map (dressed ts) (filter (is_by t) es)
+filter-dressed : (ts : List KeyedJob) (t : List ℕ) (es : List written.Event) → filter (is_post_of t) (map (dressed ts) es) ≡ map (dressed ts) (post_lines t es)
 filter-dressed ts t [] = refl
 filter-dressed ts t (e ∷ es) =
     ap (λ (b : Bool). cond b (dressed ts e ∷ filter (is_post_of t) (map (dressed ts) es)) (filter (is_post_of t) (map (dressed ts) es))) (dressed-by ts t e)
-    ∙ by_test (is_by t e) (filter-dressed ts t es)
+    ∙ by_test (is_post_line t e) (filter-dressed ts t es)
   where
-    by_test : (b : Bool) → filter (is_post_of t) (map (dressed ts) es) ≡ map (dressed ts) (filter (is_by t) es) → cond b (dressed ts e ∷ filter (is_post_of t) (map (dressed ts) es)) (filter (is_post_of t) (map (dressed ts) es)) ≡ map (dressed ts) (cond b (e ∷ filter (is_by t) es) (filter (is_by t) es))
+    by_test : (b : Bool) → filter (is_post_of t) (map (dressed ts) es) ≡ map (dressed ts) (post_lines t es) → cond b (dressed ts e ∷ filter (is_post_of t) (map (dressed ts) es)) (filter (is_post_of t) (map (dressed ts) es)) ≡ map (dressed ts) (cond b (e ∷ post_lines t es) (post_lines t es))
     by_test true h = ap (λ (x : List Event). dressed ts e ∷ x) h
     by_test false h = h
 
@@ -174,22 +120,30 @@ jobs-dressed h (j ∷ js) have =
     ∙ (ap (λ (x : List Event). x ++ map (dressed ts) (map bare (flat_map job_events js))) (job-dressed h j have.0)
     ∙ ap (λ (x : List Event). job_events j ++ x) (jobs-dressed h js have.1)))
 
-script-dressed : (h : List Event) (s : Scripted) → HaveContents h s.jobs → map (dressed (states h)) (map bare (script_events s)) ≡ script_events s
-script-dressed h s have =
+all-dressed : (h : List Event) (js : List ScriptedJob) → HaveContents h js → map (dressed (states h)) (map bare (open_events js ++ flat_map job_events js)) ≡ open_events js ++ flat_map job_events js
+all-dressed h js have =
     let ts : List KeyedJob = states h in
-    let opens : List Event = open_events s.jobs in
-    let rest : List Event = flat_map job_events s.jobs in
+    let opens : List Event = open_events js in
+    let rest : List Event = flat_map job_events js in
     ap (map (dressed ts)) (map-append bare opens rest)
     ∙ (map-append (dressed ts) (map bare opens) (map bare rest)
-    ∙ (ap (λ (x : List Event). x ++ map (dressed ts) (map bare rest)) (opened-dressed ts s.jobs)
-    ∙ ap (λ (x : List Event). opens ++ x) (jobs-dressed h s.jobs have)))
+    ∙ (ap (λ (x : List Event). x ++ map (dressed ts) (map bare rest)) (opened-dressed ts js)
+    ∙ ap (λ (x : List Event). opens ++ x) (jobs-dressed h js have)))
+
+-- a tenant's jobs among those that have their contents
+tenant-contents : (h : List Event) (t : List ℕ) (js : List ScriptedJob) → HaveContents h js → HaveContents h (filter (λ j. is_text t j.tenant) js)
+tenant-contents h t [] have = tt
+tenant-contents h t (j ∷ js) have = by_test (is_text t j.tenant) (tenant-contents h t js have.1)
+  where
+    by_test : (b : Bool) → HaveContents h (filter (λ k. is_text t k.tenant) js) → HaveContents h (cond b (j ∷ filter (λ k. is_text t k.tenant) js) (filter (λ k. is_text t k.tenant) js))
+    by_test true rest = (have.0, rest)
+    by_test false rest = rest
 
 -- a legal history whose written posts are the script's, of jobs with its contents, has its posts
-pub have-posts : (w : ℕ) (s : Scripted) (h : List Event) (names : List (List ℕ)) → Legal w h → list_all (is_among names) (map bare h) ≡ true → list_all (is_among names) (map bare (script_events s)) ≡ true → AgreeOn names (map bare h) (map bare (script_events s)) → HaveContents h s.jobs → HasPosts s h
-have-posts w s h names legal x y agree have = λ t.
+pub have-posts : (w : ℕ) (s : Scripted) (h : List Event) → Legal w h → HavePosts s (map bare h) → HaveContents h s.jobs → HasPosts s h
+have-posts w s h legal posts have = λ t.
     let ts : List KeyedJob = states h in
     ap (filter (is_post_of t)) (sym (legal-is_dressed w h legal))
     ∙ (filter-dressed ts t (map bare h)
-    ∙ (ap (map (dressed ts)) (agreed t names (map bare h) (map bare (script_events s)) x y agree)
-    ∙ (sym (filter-dressed ts t (map bare (script_events s)))
-    ∙ (ap (filter (is_post_of t)) (script-dressed h s have) ∙ script-posts t s))))
+    ∙ (ap (map (dressed ts)) (posts t)
+    ∙ all-dressed h (jobs_of_tenant t s) (tenant-contents h t s.jobs have)))

@@ -8,6 +8,5 @@ mod LoopLaws
 mod Postings
 mod Leavings
 mod Agreements
-mod Writings
 mod Knowing
 mod Gating
