@@ -1,4 +1,4 @@
-use Rattle.std.specs.Prelude.{ℕ, ◌+◌, ◌-◌, ◌*◌, ◌/◌, ◌%◌, ◌<◌, ◌≤◌, Bool, ◌==◌, if◌then◌else◌}
+use Rattle.std.specs.Prelude.{ℕ, ℤ, pos, neg_ℤ, ◌+◌, ◌-◌, ◌*◌, ◌/◌, ◌%◌, ◌<◌, ◌≤◌, Bool, ◌==◌, if◌then◌else◌}
 
 -- the greatest variable
 abbrev pub greatest_variable : ℕ
@@ -19,6 +19,10 @@ has_plus code = code % 2 == 0
 -- the literal of the same variable with the other sign
 abbrev pub negated : ℕ → ℕ
 negated code = if code % 2 == 0 then code + 1 else code - 1
+
+-- the number that DIMACS CNF writes a literal as: its variable, below 0 where it is negative
+abbrev pub dimacs_of : ℕ → ℤ
+dimacs_of code = if code % 2 == 0 then pos (code / 2) else neg_ℤ (pos (code / 2))
 
 -- a code is that of a literal of the variables 1 to 65,536
 abbrev pub IsLiteral : ℕ → Type 0

@@ -1,6 +1,6 @@
 //! Formulas in conjunctive normal form.
 
-ghost use Rattle.std.specs.Prelude.{◌≡◌, ◌≢◌, true, nat_le, length, MatchOption};
+ghost use Rattle.std.specs.Prelude.{◌≡◌, ◌≢◌, ◌<◌, ◌≤◌, true, nat_le, length, IfSome, MatchOption};
 ghost use Rattle.std.specs.List.{list_all};
 ghost use Rattle.mal_base.specs.Formulas.{is_formula, is_within, is_clause_of, is_within_limits, size_of, literals_of};
 
@@ -57,6 +57,17 @@ impl Formula {
         self.clauses.as_slice()
     }
 
+    /// The number of the literals of the clauses, at most 2^24.
+    pub fn literals(&self) -> u32
+        ensures value { result ≡ literals_of self.now.clauses }
+        ensures bound { result ≤ 16777216 }
+    {
+        match literals_of(self.clauses.as_slice()) {
+            None => 1 << 24,
+            Some(literals) => literals,
+        }
+    }
+
     /// The clauses themselves; the formula is given up. Takes no memory.
     pub fn into_clauses(self) -> Vec<Option<Clause>>
         ensures { result.items ≡ self.clauses }
@@ -90,19 +101,27 @@ fn is_within_limits(variables: u32, clauses: &[Option<Clause>]) -> bool
 fn has_few_literals(clauses: &[Option<Clause>]) -> bool
     ensures { result ≡ nat_le (literals_of clauses.now) 16777216 }
 {
+    literals_of(clauses).is_some()
+}
+
+/// The number of the literals of the clauses. None exactly where they have more than 2^24.
+pub fn literals_of(clauses: &[Option<Clause>]) -> Option<u32>
+    ensures value { MatchOption result (16777216 < literals_of clauses.now) (λ n. n ≡ literals_of clauses.now) }
+    ensures bound { IfSome result (λ n. n ≤ 16777216) }
+{
     let mut left: usize = 1 << 24;
     for clause in clauses {
-        let size = size(clause);
+        let size = size_of(clause);
         if left < size {
-            return false;
+            return None;
         }
         left -= size;
     }
-    true
+    Some((1 << 24) - left as u32)
 }
 
-/// The literals of a clause; a tautology counts none.
-fn size(clause: &Option<Clause>) -> usize
+/// The number of the literals of a clause; a tautology counts none.
+pub fn size_of(clause: &Option<Clause>) -> usize
     ensures { result ≡ size_of clause.now }
 {
     match clause {

@@ -26,7 +26,7 @@ pub use ask::Ask;
 pub use block_fault::BlockFault;
 pub use clause::Clause;
 pub use clause_id::ClauseId;
-pub use formula::Formula;
+pub use formula::{Formula, literals_of, size_of};
 pub use hall_fault::{ApplyFault, CloseFault, OpenFault, PickFault, ReplyFault, ReviseFault};
 pub use limit_kind::LimitKind;
 pub use line_fault::LineFault;
@@ -92,6 +92,7 @@ mod tests {
         let formula = Formula::new(2, vec![in rt.alloc(); clause, None]?).ok_or("no formula")?;
         assert_eq!(rt; formula.variables(), 2);
         assert_eq!(rt; formula.clauses().len(), 2);
+        assert_eq!(rt; formula.literals(), 1);
         let clause = Clause::of_lits(rt.alloc(), &[lit(2)?])?;
         assert!(rt; Formula::new(1, vec![in rt.alloc(); clause]?).is_none());
         assert!(rt; Formula::new(0, vec![in rt.alloc(); None]?).is_none());

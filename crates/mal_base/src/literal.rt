@@ -1,7 +1,7 @@
 //! Variables and literals, as DIMACS CNF numbers them.
 
 ghost use Rattle.std.specs.Prelude.{◌≡◌, ◌≢◌, ℕ, ◌+◌, ◌-◌, ◌*◌, ◌/◌, ◌%◌, ◌<◌, ◌≤◌, ◌↔◌, ◌==◌, true, if◌then◌else◌, IfOk, IsSome, IfSome, pos, int_lt, nat_abs};
-ghost use Rattle.mal_base.specs.Literals.{var_of, negated, literal, has_plus, IsLiteral};
+ghost use Rattle.mal_base.specs.Literals.{var_of, dimacs_of, negated, literal, has_plus, IsLiteral};
 ghost use Rattle.mal_base.specs.Clauses.{climbs, HaveSame};
 
 use std::alloc::{AllocError, Global};
@@ -102,6 +102,14 @@ impl Lit {
         } else {
             Some(Lit { code: 2 * var + 1 })
         }
+    }
+
+    /// The number that DIMACS CNF writes this literal as.
+    pub fn dimacs(self) -> i32
+        ensures { result ≡ dimacs_of self }
+    {
+        let var = self.var().number() as i32;
+        if self.is_positive() { var } else { -var }
     }
 
     /// The literal of the same variable with the other sign.

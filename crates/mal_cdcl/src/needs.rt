@@ -1,13 +1,11 @@
 //! What room loads need.
 
-ghost use Rattle.std.specs.Prelude.{◌≡◌, ℕ, ◌+◌, ◌^◌, ◌≤◌, true, length, IfOk};
-ghost use Rattle.mal_base.specs.Formulas.{literals_of};
-ghost use Rattle.mal_revision.specs.Posted.{is_posted};
+ghost use Rattle.std.specs.Prelude.{◌≡◌, ℕ, ◌+◌, ◌≤◌, length, IfOk};
 ghost use Rattle.mal_cdcl.specs.ImportSizes.{lits_in, told_clauses, told_literals};
 ghost use Rattle.mal_cdcl.specs.Ready.{posted, greatest, clauses_in, literals_in, most_assumptions};
 
 use crate::import_filter::Pick;
-use mal_base::{Clause, NumberedClause};
+use mal_base::NumberedClause;
 use mal_revision::Revision;
 use std::alloc::AllocError;
 
@@ -38,7 +36,7 @@ fn needs_of(loads: &[(&Revision, u32)], variables: u32) -> Result<Needs, AllocEr
     };
     for load in loads {
         let (revision, _first) = load;
-        let literals = count_literals(revision);
+        let literals = revision.literals() as usize;
         needs.variables = needs.variables.max(revision.variables());
         needs.clauses = added(needs.clauses, revision.clauses().len())?;
         needs.literals = added(needs.literals, literals)?;
@@ -89,26 +87,4 @@ pub fn added(one: usize, more: usize) -> Result<usize, AllocError>
         None => Err(AllocError),
         Some(sum) => Ok(sum),
     }
-}
-
-/// How many literals the clauses of a revision have.
-fn count_literals(revision: &Revision) -> usize
-    ensures { result ≡ literals_of revision.now.clauses }
-{
-    count_in(revision.clauses())
-}
-
-/// How many literals the clauses have, at most 2^24.
-fn count_in(clauses: &[Option<Clause>]) -> usize
-    requires { literals_of clauses.now ≤ 2 ^ 24 }
-    ensures { result ≡ literals_of clauses.now }
-{
-    let mut count = 0;
-    for clause in clauses {
-        match clause {
-            None => {}
-            Some(clause) => count += clause.lits().len(),
-        }
-    }
-    count
 }

@@ -1,4 +1,4 @@
-//! What a node makes of a revision: its decision order, phases, clauses and assumptions. Room was made before.
+//! What a node makes of a revision: its phases, clauses and assumptions. Room was made before.
 
 ghost use Rattle.std.specs.Prelude.{◌≡◌, ℕ, ◌+◌, ◌-◌, ◌*◌, ◌/◌, ◌^◌, ◌≤◌, ◌<◌, true, All, Bool, List, [], ◌∷◌, ◌++◌, length, replicate, slice_set, vec_len, vec_capacity};
 ghost use Rattle.std.specs.List.{list_all};

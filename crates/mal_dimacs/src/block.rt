@@ -13,8 +13,8 @@ ghost use Rattle.mal_base.specs.declared.stage.Stage.TheVariants as stage;
 
 use crate::fault::DimacsError;
 use crate::header::counts;
-use crate::words::{clause_of, is_comment, is_p, is_percent, is_zero, literal, size};
-use mal_base::{BlockFault, Clause, Formula, LimitKind, Lit, Stage};
+use crate::words::{clause_of, is_comment, is_p, is_percent, is_zero, literal};
+use mal_base::{BlockFault, Clause, Formula, LimitKind, Lit, Stage, size_of};
 use mal_text::{NumberFault, first_word, number};
 use std::alloc::Global;
 use std::marker::Model;
@@ -195,7 +195,7 @@ impl BlockReader {
         requires { is_clause_of self.old.variables clause ≡ true }
         ensures { Leaves result self.new (closed clause self.old) }
     {
-        let size = size(&clause);
+        let size = size_of(&clause);
         let left = (1 << 24) - self.literals as usize;
         if size > left {
             return Err(DimacsError::Fault(BlockFault::Limit {

@@ -1,7 +1,7 @@
 //! What a word is, and the literal that a number stands for.
 
 ghost use Rattle.std.specs.Prelude.{◌≡◌, ◌≤◌, true, nat_abs, codes, bytes_eq, IfOk};
-ghost use Rattle.mal_base.specs.Formulas.{is_clause_of, is_within, size_of};
+ghost use Rattle.mal_base.specs.Formulas.{is_clause_of, is_within};
 ghost use Rattle.spec_text.specs.Inputs.{words_of};
 ghost use Rattle.spec_dimacs.specs.Merged.{clause_of};
 ghost use Rattle.spec_dimacs.specs.Rows.{is_comment, is_passed};
@@ -80,16 +80,6 @@ pub fn clause_of(alloc: Global, variables: u32, lits: &[Lit]) -> Result<Option<C
     ensures form { IfOk result (λ c. is_clause_of variables c ≡ true) }
 {
     Clause::of_lits(alloc, lits)
-}
-
-/// The literals of a clause; a tautology counts none.
-pub fn size(clause: &Option<Clause>) -> usize
-    ensures { result ≡ size_of clause.now }
-{
-    match clause {
-        None => 0,
-        Some(clause) => clause.lits().len(),
-    }
 }
 
 /// Whether a line is passed over: it has no word, or is a comment.

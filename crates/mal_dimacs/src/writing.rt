@@ -2,7 +2,6 @@
 
 ghost use Rattle.std.specs.Prelude.{◌≡◌, ◌++◌, flat_map, length, codes, IfOk, OnOk};
 ghost use Rattle.spec_text.specs.Lines.{line_of, text_of};
-ghost use Rattle.spec_text.specs.Numbers.{number_of};
 ghost use Rattle.spec_dimacs.specs.Written.{clause_words, closed_words, formula_rows, header_words, spelling};
 ghost use Rattle.mal_dimacs.specs.Spaced.{spaced};
 
@@ -91,15 +90,7 @@ pub fn put_closed(out: &mut Vec<u8>, lits: &[Lit]) -> Result<(), AllocError>
 fn put_literal(out: &mut Vec<u8>, lit: Lit) -> Result<(), AllocError>
     ensures { OnOk result (out.new.items ≡ out.old.items ++ spaced lit) }
 {
-    put_number(out, dimacs(lit))?;
+    put_number(out, i64::from(lit.dimacs()))?;
     out.push(b' ')?;
     Ok(())
-}
-
-/// The number that stands for a literal.
-fn dimacs(lit: Lit) -> i64
-    ensures { result ≡ number_of lit }
-{
-    let var = i64::from(lit.var().number());
-    if lit.is_positive() { var } else { -var }
 }

@@ -17,8 +17,9 @@ use std::marker::Model;
 use std::mem;
 use std::sync::Arc;
 
-/// What stands at a place: the node with its journal; its bytes with its journal; nothing, where the node is gone, or was never started; or, where the node
-/// is out, the revision that it was started for and the journal that it has once its slice ran.
+/// What stands at a place: the node with its journal; its bytes with its journal; nothing, where the node is gone, or was
+/// never started; or, where the node is out, the revision that it was started for and the journal that it has once its slice
+/// ran.
 #[derive(Drop)]
 pub enum Seat {
     Home(Suspended),

@@ -265,7 +265,7 @@ impl Tree {
     }
 
     /// Lets the nodes below the volume that are at home tell all what they derived since their last exchange. After want of
-    /// memory some places may be there that were not.
+    /// memory the tree is as before.
     pub fn exchange(&mut self, log: &Log) -> Result<(), AllocError>
         requires rising { All (λ line. rises line.lits ≡ true) log.now.lines }
         requires volume { self.old.volume ≤ length self.old.places }

@@ -101,13 +101,7 @@ fn put_lit(out: &mut Vec<u8>, lit: Lit) -> Result<(), AllocError>
     ensures { OnOk result (out.new.items ≡ out.old.items ++ 32 ∷ literal_word lit) }
 {
     let mut buffer = Buffer::new();
-    let magnitude = i64::from(lit.var().number());
-    let signed = if lit.is_positive() {
-        magnitude
-    } else {
-        -magnitude
-    };
-    put_word(out, buffer.format(signed).as_bytes())?;
+    put_word(out, buffer.format(lit.dimacs()).as_bytes())?;
     Ok(())
 }
 

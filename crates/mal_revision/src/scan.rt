@@ -3,10 +3,10 @@
 ghost use Rattle.std.specs.Prelude.{◌≡◌, ◌<◌, ◌≤◌, true, Some, None, IfSome, IfOk, IfErr, MatchOption};
 ghost use Rattle.std.specs.List.{list_all};
 ghost use Rattle.mal_base.specs.Clauses.{clash};
-ghost use Rattle.mal_base.specs.Formulas.{is_within, is_clause_of, size_of, literals_of};
+ghost use Rattle.mal_base.specs.Formulas.{is_within, is_clause_of, literals_of};
 ghost use Rattle.mal_revision.specs.Refused.{above, above_in, first_above, or_else, limit_passed};
 
-use mal_base::{Clause, LimitKind, Lit, Var};
+use mal_base::{Clause, LimitKind, Lit, Var, literals_of};
 
 /// The first variable that two literals in a row have.
 pub fn opposite(lits: &[Lit]) -> Option<Var>
@@ -78,32 +78,6 @@ pub fn above_parts(variables: u32, clauses: &[Option<Clause>], assumptions: &[Li
     }
 }
 
-/// The literals of a clause; a tautology counts none.
-fn size(clause: &Option<Clause>) -> usize
-    ensures { result ≡ size_of clause.now }
-{
-    match clause {
-        None => 0,
-        Some(clause) => clause.lits().len(),
-    }
-}
-
-/// The number of the literals of the clauses, none where they have more than 2^24.
-fn literals_among(clauses: &[Option<Clause>]) -> Option<u32>
-    ensures value { MatchOption result (16777216 < literals_of clauses.now) (λ n. n ≡ literals_of clauses.now) }
-    ensures bound { IfSome result (λ n. n ≤ 16777216) }
-{
-    let mut left: usize = 1 << 24;
-    for clause in clauses {
-        let size = size(clause);
-        if left < size {
-            return None;
-        }
-        left -= size;
-    }
-    Some((1 << 24) - left as u32)
-}
-
 /// The number of the literals of the clauses, or the first limit that these variables and clauses pass.
 pub fn literals_within(variables: u32, clauses: &[Option<Clause>]) -> Result<u32, LimitKind>
     ensures within { IfOk result (λ n. limit_passed variables clauses.now ≡ None) }
@@ -116,7 +90,7 @@ pub fn literals_within(variables: u32, clauses: &[Option<Clause>]) -> Result<u32
     if clauses.len() > 1 << 20 {
         return Err(LimitKind::Clauses);
     }
-    match literals_among(clauses) {
+    match literals_of(clauses) {
         None => Err(LimitKind::Literals),
         Some(literals) => Ok(literals),
     }

@@ -2,7 +2,7 @@
 
 ghost use Rattle.std.specs.Prelude.{◌≡◌, ◌+◌, ◌≤◌, ◌∷◌, length, true, Some, Ok, IfOk};
 ghost use Rattle.mal_base.specs.Clauses.{rises};
-ghost use Rattle.mal_base.specs.Formulas.{is_formula, is_within, literals_of, size_of};
+ghost use Rattle.mal_base.specs.Formulas.{is_formula, is_within, literals_of};
 ghost use Rattle.spec_text.specs.Inputs.{words_of};
 ghost use Rattle.spec_script.specs.Assumptions.{assumptions_in};
 ghost use Rattle.spec_script.specs.Reading.{begun, with_block, after_header, revised, after_assumptions, inside_block, with_revision, ended_job, unended, without_block};
@@ -13,7 +13,7 @@ use crate::blocks;
 use crate::fault::LineRefusal;
 use crate::limits::Limits;
 use crate::script::ScriptJob;
-use mal_base::{Ask, Clause, Formula, LimitKind, LineFault, Lit, Name};
+use mal_base::{Ask, Formula, LimitKind, LineFault, Lit, Name};
 use mal_dimacs::BlockReader;
 use mal_revision::Revision;
 use mal_text::first_word;
@@ -145,7 +145,7 @@ impl OpenJob {
         requires within { is_within formula.variables assumptions.now ≡ true }
         ensures { Gives (λ o. o) result (revised self formula assumptions.now) }
     {
-        let literals = literals_of(formula.clauses());
+        let literals = formula.literals() as usize;
         if self.clauses + formula.clauses().len() > 1 << 20 {
             return Err(LineRefusal::Fault(LineFault::Limit {
                 which: LimitKind::Clauses,
@@ -210,28 +210,6 @@ fn unended(block: BlockReader) -> LineRefusal
     match blocks::ended(block) {
         Ok(_formula) => LineRefusal::Fault(LineFault::BadLine),
         Err(refusal) => refusal,
-    }
-}
-
-/// The literals of clauses, 2^24 at most; a tautology has none.
-fn literals_of(clauses: &[Option<Clause>]) -> usize
-    requires { literals_of clauses.now ≤ 16777216 }
-    ensures { result ≡ literals_of clauses.now }
-{
-    let mut literals = 0;
-    for clause in clauses {
-        literals += size_of(clause);
-    }
-    literals
-}
-
-/// The literals of a clause; a tautology has none.
-fn size_of(clause: &Option<Clause>) -> usize
-    ensures { result ≡ size_of clause.now }
-{
-    match clause {
-        None => 0,
-        Some(clause) => clause.lits().len(),
     }
 }
 

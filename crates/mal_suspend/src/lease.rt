@@ -96,8 +96,8 @@ impl Lease {
     }
 
     /// Works the lease off: thaws a node that is frozen and rebuilds one that is gone, loads, imports and runs a slice, and
-    /// freezes the node where that is cheap. It is never refused; where memory is wanting, the journal and the node are as before
-    /// the start.
+    /// freezes the node where that is cheap. It is never refused; where memory is wanting, what comes back has
+    /// the journal as before the start.
     pub fn work(self, scratch: &mut Scratch) -> Done
         ensures worker { result.worker ≡ self.worker }
         ensures becomes { Becomes result.outcome self result }

@@ -65,7 +65,7 @@ impl WatchLists {
         }
     }
 
-    /// Makes so many lists, if there are fewer, and room for so many nodes more. There are fewer than 2^32 - 1 nodes.
+    /// Makes so many lists, if there are fewer, and room for so many nodes more. There are fewer than 2^32 nodes.
     pub fn reserve(&mut self, lists: usize, nodes: usize) -> Result<(), AllocError>
         ensures lists { OnOk result (lists ≤ self.new.lists) }
         ensures room { OnOk result (nodes ≤ self.new.room) }

@@ -1,6 +1,0 @@
-use Rattle.std.proofs.Common.{◌≡◌, ◌+◌, drop}
-use Rattle.mal_base.specs.Formulas.{literals_of}
-use Rattle.mal_script.proofs.opened.literals_of.Given as goal
-
-abbrev pub invariant-loop-clause : goal.invariant-loop-clause
-invariant-loop-clause l = l.literals + literals_of (drop l.clause-index l.clauses) ≡ literals_of l.clauses
