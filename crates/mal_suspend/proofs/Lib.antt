@@ -2,6 +2,7 @@
 mod ReplayLemmas
 mod StartLemmas
 mod EntryLemmas
+mod RebuildLemmas
 mod FirstLemmas
 mod FormLemmas
 mod GoingLemmas

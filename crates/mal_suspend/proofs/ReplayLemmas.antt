@@ -1,5 +1,5 @@
 -- Entries that may be replayed.
-use Rattle.std.proofs.Common.{◌≡◌, ℕ, List, [], ◌∷◌, ◌++◌, fold, refl, sym, ◌∙◌, ap, append_assoc, inl, inr}
+use Rattle.std.proofs.Common.{◌≡◌, ℕ, List, [], ◌∷◌, ◌++◌, fold, refl, sym, ◌∙◌, ap, append_assoc, inr}
 use Rattle.std.proofs.lemmas.List.Sums.{fold-append}
 use Rattle.spec_node.proofs.ImportLemmas.{import-holds}
 use Rattle.spec_search.specs.Slice.{Sliced}
@@ -71,7 +71,7 @@ variables-entries s (e ∷ es) = variables-entries (after_entry s e) es ∙ ap (
 pub variables-replay : (profile i : ℕ) (es : List JournalEntry) → (replay profile i es).node.variables ≡ variables_after 0 es
 variables-replay profile i es = variables-entries (replay profile i []) es
 
--- how many variables one entry more brings
-pub variables-push : (most : ℕ) (es : List JournalEntry) (e : JournalEntry) → variables_after most (es ++ e ∷ []) ≡ variables_with (variables_after most es) e
-variables-push most [] e = refl
-variables-push most (x ∷ xs) e = variables-push (variables_with most x) xs e
+-- how many variables entries bring behind others
+pub variables-append : (most : ℕ) (es fs : List JournalEntry) → variables_after most (es ++ fs) ≡ variables_after (variables_after most es) fs
+variables-append most [] fs = refl
+variables-append most (e ∷ es) fs = variables-append (variables_with most e) es fs

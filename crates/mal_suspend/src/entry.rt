@@ -2,7 +2,7 @@
 
 ghost use Rattle.std.specs.Prelude.{◌≡◌, ◌↔◌, IsTrue, IfOk};
 ghost use Rattle.spec_job.specs.Journal.{is_load, is_import};
-ghost use Rattle.mal_suspend.specs.Entries.{entry_of};
+ghost use Rattle.mal_suspend.specs.Entries.{entry_of, counted_of};
 ghost use Rattle.mal_suspend.specs.Replaying.{variables_with};
 
 use mal_base::{Lit, NumberedClause};
@@ -11,13 +11,12 @@ use mal_revision::Revision;
 use std::alloc::AllocError;
 use std::sync::Arc;
 
-/// What a node did: it loaded a revision, of which the first clause has this number, it imported what was told, or it ran a
-/// slice.
+/// What a node took: it loaded a revision, of which the first clause has this number, or it imported what was told. The slices
+/// that it ran are counted beside these, as `Counted` has them.
 #[derive(Drop)]
 pub enum Entry {
     Load(Arc<Revision>, u32),
     Import(Arc<Buffer>),
-    Run,
 }
 
 impl Entry {
@@ -28,7 +27,6 @@ impl Entry {
         match self {
             Entry::Load(revision, first) => Ok(Entry::Load(Arc::try_clone(revision)?, *first)),
             Entry::Import(told) => Ok(Entry::Import(Arc::try_clone(told)?)),
-            Entry::Run => Ok(Entry::Run),
         }
     }
 
@@ -41,7 +39,6 @@ impl Entry {
                 is_same_load(revision, *first, posted, *number)
             }
             (Entry::Import(told), Entry::Import(others)) => is_same_told(told, others),
-            (Entry::Run, Entry::Run) => true,
             _ => false,
         }
     }
@@ -53,7 +50,6 @@ impl Entry {
         match self {
             Entry::Load(_, _) => true,
             Entry::Import(_) => false,
-            Entry::Run => false,
         }
     }
 
@@ -64,7 +60,6 @@ impl Entry {
         match self {
             Entry::Load(_, _) => false,
             Entry::Import(_) => true,
-            Entry::Run => false,
         }
     }
 
@@ -75,8 +70,37 @@ impl Entry {
         match self {
             Entry::Load(revision, _) => most.max(revision.variables()),
             Entry::Import(_) => most,
-            Entry::Run => most,
         }
+    }
+}
+
+/// An entry with the number of slices that were run in a row right before it. It stands for as many entries of a journal that
+/// each run a slice, and for itself behind them.
+#[derive(Drop)]
+pub struct Counted {
+    pub slices: u64,
+    pub entry: Entry,
+}
+
+impl Counted {
+    /// As many slices before an equal entry. It shares the revision or what was told.
+    pub fn copy(&self) -> Result<Counted, AllocError>
+        ensures { IfOk result (λ c. counted_of c ≡ counted_of self.now) }
+    {
+        Ok(Counted {
+            slices: self.slices,
+            entry: self.entry.copy()?,
+        })
+    }
+
+    /// Whether the other has as many slices before the same entry.
+    pub fn same(&self, other: &Counted) -> bool
+        ensures { IsTrue result ↔ (counted_of self.now ≡ counted_of other.now) }
+    {
+        if self.slices != other.slices {
+            return false;
+        }
+        self.entry.same(&other.entry)
     }
 }
 

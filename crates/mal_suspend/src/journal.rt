@@ -1,12 +1,12 @@
 //! The journal of a node.
 
 ghost use Rattle.std.specs.Prelude.{◌≡◌, ◌↔◌, ◌≤◌, [], ◌++◌, IsTrue, IfOk, OnOk};
-ghost use Rattle.mal_suspend.specs.Entries.{entry_of, entries_of};
 ghost use Rattle.spec_job.specs.Journal.{loads_in, imports_in};
 ghost use Rattle.spec_job.specs.Journaled.{replayed, and_entries, started};
 ghost use Rattle.mal_suspend.specs.Replaying.{IsJournal, MayAllReplay, variables_after};
 ghost use Rattle.mal_suspend.specs.Starting.{shared_loads, shared_tolds, load_entries, import_entries, start_entries};
 
+use crate::entries::Entries;
 use crate::entry::Entry;
 use mal_buffer::Buffer;
 use mal_revision::Revision;
@@ -23,19 +23,18 @@ pub struct Journal {
     profile: u32,
     index: u32,
     start: u64,
-    entries: Vec<Entry>,
+    entries: Entries,
 }
 
 impl Model for Journal {
-    ghost use Rattle.mal_suspend.specs.Entries.{entries_of};
     ghost use Rattle.spec_job.specs.Journaled.{Journaled};
     ghost use Rattle.mal_suspend.specs.Replaying.{IsJournal};
 
     ghost Value = { Journaled };
 
-    ghost view = { λ j. record { job = j.job; profile = j.profile; index = j.index; start = j.start; entries = entries_of j.entries.items } };
+    ghost view = { λ j. record { job = j.job; profile = j.profile; index = j.index; start = j.start; entries = j.entries } };
 
-    ghost invariant = { λ j. IsJournal j.profile j.index (entries_of j.entries.items) };
+    ghost invariant = { λ j. IsJournal j.profile j.index j.entries };
 }
 
 impl Journal {
@@ -52,7 +51,7 @@ impl Journal {
             profile,
             index,
             start: 0,
-            entries: Vec::new(alloc),
+            entries: Entries::new(alloc),
         }
     }
 
@@ -88,44 +87,32 @@ impl Journal {
     }
 
     /// What the node did, in order.
-    pub fn entries(&self) -> &[Entry]
-        ensures value { entries_of result.now ≡ self.now.entries }
+    pub fn entries(&self) -> &Entries
+        ensures value { result.now ≡ self.now.entries }
         ensures keeps { IsJournal self.now.profile self.now.index self.now.entries }
     {
-        self.entries.as_slice()
+        &self.entries
     }
 
     /// How many revisions the node has loaded.
     pub fn loads(&self) -> usize
         ensures { result ≡ loads_in self.now.entries }
     {
-        let mut count = 0;
-        for entry in self.entries.as_slice() {
-            if entry.is_load() {
-                count += 1;
-            }
-        }
-        count
+        self.entries.loads()
     }
 
     /// How much of what was told the node has imported.
     pub fn imports(&self) -> usize
         ensures { result ≡ imports_in self.now.entries }
     {
-        let mut count = 0;
-        for entry in self.entries.as_slice() {
-            if entry.is_import() {
-                count += 1;
-            }
-        }
-        count
+        self.entries.imports()
     }
 
     /// The allocator that the journal takes memory from.
     pub fn allocator(&self) -> Global
         ensures { IsJournal self.now.profile self.now.index self.now.entries }
     {
-        *self.entries.allocator()
+        self.entries.allocator()
     }
 
     /// An equal journal. It shares the revisions and what was told.
@@ -137,7 +124,7 @@ impl Journal {
             profile: self.profile,
             index: self.index,
             start: self.start,
-            entries: copies(self.allocator(), self.entries.as_slice(), 0)?,
+            entries: self.entries.copy_with(0)?,
         })
     }
 
@@ -151,7 +138,7 @@ impl Journal {
         if self.index != other.index || self.start != other.start {
             return false;
         }
-        are_same(self.entries.as_slice(), other.entries.as_slice())
+        self.entries.same(&other.entries)
     }
 
     /// Gives the journal the number of a new start.
@@ -172,11 +159,10 @@ impl Journal {
         ensures value { IfOk result (λ j. j ≡ and_entries (started start self.now) (start_entries (shared_loads loads.now) (shared_tolds imports.now))) }
         ensures keeps { IfOk result (λ j. IsJournal j.profile j.index j.entries) }
     {
-        let more = loads.len() + imports.len() + 1;
-        let mut entries = copies(self.allocator(), self.entries.as_slice(), more)?;
+        let mut entries = self.entries.copy_with(loads.len() + imports.len())?;
         push_loads(&mut entries, loads)?;
         push_imports(&mut entries, imports)?;
-        entries.push(Entry::Run)?;
+        entries.push_slice()?;
         Ok(Journal {
             job: self.job,
             profile: self.profile,
@@ -190,30 +176,13 @@ impl Journal {
     pub fn variables(&self) -> u32
         ensures { result ≡ variables_after 0 self.now.entries }
     {
-        let mut most = 0;
-        for entry in self.entries.as_slice() {
-            most = entry.variables_with(most);
-        }
-        most
+        self.entries.variables()
     }
-}
-
-/// Equal entries, with room for so many more.
-fn copies(alloc: Global, entries: &[Entry], more: usize) -> Result<Vec<Entry>, AllocError>
-    ensures { IfOk result (λ v. entries_of v.items ≡ entries_of entries.now) }
-{
-    let mut all = Vec::new(alloc);
-    all.reserve(entries.len())?;
-    for entry in entries {
-        all.push(entry.copy()?)?;
-    }
-    all.reserve(more)?;
-    Ok(all)
 }
 
 /// Puts loads of these revisions behind the entries.
-fn push_loads(entries: &mut Vec<Entry>, loads: &[(Arc<Revision>, u32)]) -> Result<(), AllocError>
-    ensures { OnOk result (entries_of entries.new.items ≡ entries_of entries.old.items ++ load_entries (shared_loads loads.now)) }
+fn push_loads(entries: &mut Entries, loads: &[(Arc<Revision>, u32)]) -> Result<(), AllocError>
+    ensures { OnOk result (entries.new ≡ entries.old ++ load_entries (shared_loads loads.now)) }
 {
     for load in loads {
         let (revision, first) = load;
@@ -223,26 +192,11 @@ fn push_loads(entries: &mut Vec<Entry>, loads: &[(Arc<Revision>, u32)]) -> Resul
 }
 
 /// Puts imports of what was told behind the entries.
-fn push_imports(entries: &mut Vec<Entry>, imports: &[Arc<Buffer>]) -> Result<(), AllocError>
-    ensures { OnOk result (entries_of entries.new.items ≡ entries_of entries.old.items ++ import_entries (shared_tolds imports.now)) }
+fn push_imports(entries: &mut Entries, imports: &[Arc<Buffer>]) -> Result<(), AllocError>
+    ensures { OnOk result (entries.new ≡ entries.old ++ import_entries (shared_tolds imports.now)) }
 {
     for told in imports {
         entries.push(Entry::Import(Arc::try_clone(told)?))?;
     }
     Ok(())
-}
-
-/// Whether these are the same entries in the same order.
-fn are_same(entries: &[Entry], others: &[Entry]) -> bool
-    ensures { IsTrue result ↔ (entries_of entries.now ≡ entries_of others.now) }
-{
-    if entries.len() != others.len() {
-        return false;
-    }
-    for i in 0..entries.len() {
-        if !entries[i].same(&others[i]) {
-            return false;
-        }
-    }
-    true
 }

@@ -94,7 +94,7 @@ fn thaw_and_freeze(frozen: Frozen) -> usize {
     match frozen.thaw() {
         Err((frozen, _)) => frozen.bytes().len(),
         Ok(suspended) => match suspended.freeze() {
-            Err((suspended, _)) => suspended.journal().entries().len(),
+            Err((suspended, _)) => suspended.journal().loads(),
             Ok(frozen) => frozen.bytes().len(),
         },
     }

@@ -3,6 +3,9 @@
 #![tactic(auto)]
 
 mod done;
+mod entries;
+#[cfg(test)]
+mod entries_tests;
 mod entry;
 mod frozen;
 #[cfg(test)]
@@ -22,7 +25,8 @@ mod suspended;
 mod tests;
 
 pub use done::Done;
-pub use entry::Entry;
+pub use entries::Entries;
+pub use entry::{Counted, Entry};
 pub use frozen::Frozen;
 pub use journal::Journal;
 pub use kept::{FROZEN_BYTES, Kept};

@@ -1,12 +1,13 @@
 //! Nodes rebuilt from their journals.
 
 ghost use Rattle.std.specs.Prelude.{◌≡◌, IfOk, OnOk};
-ghost use Rattle.spec_job.specs.Journal.{after_entry};
-ghost use Rattle.mal_suspend.specs.Entries.{entry_of};
+ghost use Rattle.spec_search.specs.Slice.{slice};
+ghost use Rattle.spec_job.specs.Journal.{Run, after_entry};
+ghost use Rattle.mal_suspend.specs.Entries.{entry_of, slices_of, counted_of};
 ghost use Rattle.spec_job.specs.Journaled.{node_of};
-ghost use Rattle.mal_suspend.specs.Replaying.{MayReplay, alone};
+ghost use Rattle.mal_suspend.specs.Replaying.{MayReplay, MayAllReplay, alone, after_entries};
 
-use crate::entry::Entry;
+use crate::entry::{Counted, Entry};
 use crate::journal::Journal;
 use crate::suspended::{Solver, Suspended};
 use mal_cdcl::Node;
@@ -27,10 +28,42 @@ pub fn replay(journal: &Journal, scratch: &mut Scratch) -> Result<Solver, AllocE
     ensures { IfOk result (λ n. n.state ≡ node_of journal.now) }
 {
     let mut node = Node::fresh_with(journal.allocator(), journal.index(), journal.profile());
-    for entry in journal.entries() {
-        do_again(&mut node, entry, scratch)?;
+    let (counted, slices) = journal.entries().parts();
+    for one in counted {
+        go_again(&mut node, one, scratch)?;
     }
+    run_again(&mut node, slices, scratch)?;
     Ok(node)
+}
+
+/// Takes a node over the slices before an entry, and then over the entry.
+fn go_again(node: &mut Solver, counted: &Counted, scratch: &mut Scratch) -> Result<(), AllocError>
+    requires { MayAllReplay (alone node.old.state) (counted_of counted.now) }
+    ensures { OnOk result (node.new.state ≡ (after_entries node.old.state (counted_of counted.now)).node) }
+{
+    run_again(node, counted.slices, scratch)?;
+    do_again(node, &counted.entry, scratch)
+}
+
+/// Takes a node over so many slices.
+fn run_again(node: &mut Solver, slices: u64, scratch: &mut Scratch) -> Result<(), AllocError>
+    requires { MayAllReplay (alone node.old.state) (slices_of slices) }
+    ensures { OnOk result (node.new.state ≡ (after_entries node.old.state (slices_of slices)).node) }
+{
+    for _ in 0..slices {
+        run_once(node, scratch)?;
+    }
+    Ok(())
+}
+
+/// Takes a node over one slice.
+fn run_once(node: &mut Solver, scratch: &mut Scratch) -> Result<(), AllocError>
+    requires { MayReplay Run node.old.state }
+    ensures { OnOk result (node.new.state ≡ (slice node.old.state).node) }
+{
+    node.ready(&[], &[], scratch)?;
+    node.run(scratch);
+    Ok(())
 }
 
 /// Takes a node over one entry.
@@ -41,10 +74,5 @@ fn do_again(node: &mut Solver, entry: &Entry, scratch: &mut Scratch) -> Result<(
     match entry {
         Entry::Load(revision, first) => node.ready(&[(&**revision, *first)], &[], scratch),
         Entry::Import(told) => node.ready(&[], &[&**told], scratch),
-        Entry::Run => {
-            node.ready(&[], &[], scratch)?;
-            node.run(scratch);
-            Ok(())
-        }
     }
 }
