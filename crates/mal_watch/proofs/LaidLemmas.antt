@@ -1,5 +1,6 @@
 use Rattle.std.proofs.Common.{◌≡◌, ℕ, zero, suc, ◌+◌, ◌-◌, ◌<◌, ◌≤◌, Bool, true, false, cond, List, [], ◌∷◌, ◌++◌, length, take, drop, set, get_or, refl, sym, ap, ◌∙◌, subst, arith}
-use Rattle.std.specs.Prelude.{filter}
+use Rattle.std.specs.Prelude.{filter, sum_by}
+use Rattle.std.proofs.lemmas.List.Sums.{sum_by_push}
 use Rattle.std.proofs.lemmas.List.{take-append-drop, take-set, drop-set, drop-set-lt, drop_more, take_more_set, take_all, map-append}
 use Rattle.mal_base.specs.NumberedClause.{NumberedClause}
 use Rattle.spec_node.specs.Adding.{forgetting}
@@ -7,7 +8,8 @@ use Rattle.mal_watch.specs.declared.clause_arena.Row.{Row}
 use Rattle.mal_watch.specs.declared.clause_arena.Body.{Body}
 use Rattle.mal_watch.specs.declared.clause_arena.Body.TheVariants.{Three, Listed}
 use Rattle.mal_watch.specs.Leaving.{is_left}
-use Rattle.mal_watch.specs.Rowed.{lits_in, clause_in, clauses_in, IsBody, AreRows, IsFrom, end_of, AreLaid}
+use Rattle.mal_watch.specs.Rowed.{lits_in, clause_in, clauses_in, IsBody, AreRows, IsFrom, end_of, AreLaid, IsFit, AreFit, len_of}
+use Rattle.mal_watch.proofs.WonLemmas.{fit-at, fit-same}
 
 -- a place where a clause's literals begin is not behind its end
 body-forward : (low : ℕ) (b : Body) → IsFrom low b → low ≤ end_of low b
@@ -99,10 +101,12 @@ pub record IsClosing (before literals : List ℕ) (first rows : List Row) (place
   pub clauses : clauses_in literals rows ≡ clauses_in before first
   pub done : AreLaid 0 end (take place rows)
   pub rest : AreLaid end (length literals) (drop place rows)
+  pub fit : AreFit rows
+  pub total : sum_by (λ r. len_of r.body) (take place rows) ≡ end
 
 -- one more
-pub close-more : (before old new : List ℕ) (first rs : List Row) (place end behind : ℕ) (r s : Row) → place < length rs → r ≡ get_or rs place r → length new ≡ length old → s.id ≡ r.id → lits_in new s.body ≡ lits_in old r.body → IsFrom end s.body → behind ≡ end_of end s.body → behind ≤ end_of end r.body → Agree old new 0 end → Agree old new (end_of end r.body) (length old) → IsClosing before old first rs place end → IsClosing before new first (set rs place s) (place + 1) behind
-close-more before old new first rs place end behind r s l e n i h f b w below above c =
+pub close-more : (before old new : List ℕ) (first rs : List Row) (place end behind : ℕ) (r s : Row) → place < length rs → r ≡ get_or rs place r → length new ≡ length old → s.id ≡ r.id → lits_in new s.body ≡ lits_in old r.body → IsFrom end s.body → behind ≡ end_of end s.body → behind ≤ end_of end r.body → behind ≡ end + len_of s.body → (IsFit r.body → IsFit s.body) → Agree old new 0 end → Agree old new (end_of end r.body) (length old) → IsClosing before old first rs place end → IsClosing before new first (set rs place s) (place + 1) behind
+close-more before old new first rs place end behind r s l e n i h f b w t u below above c =
     let cut : rs ≡ take place rs ++ r ∷ drop (place + 1) rs = sym (take-append-drop place rs) ∙ ap (λ (xs : List Row). take place rs ++ xs) (drop_more rs place r l ∙ ap (λ (x : Row). x ∷ drop (place + 1) rs) (sym e)) in
     let made : set rs place s ≡ take place rs ++ s ∷ drop (place + 1) rs = sym (take-append-drop place (set rs place s)) ∙ (ap (λ (xs : List Row). xs ++ drop place (set rs place s)) (take-set rs place s) ∙ ap (λ (xs : List Row). take place rs ++ xs) (drop-set rs place s l)) in
     let laid : IsFrom end r.body × AreLaid (end_of end r.body) (length old) (drop (place + 1) rs) = subst (λ (xs : List Row). AreLaid end (length old) xs) (drop_more rs place r l ∙ ap (λ (x : Row). x ∷ drop (place + 1) rs) (sym e)) c.rest in
@@ -113,6 +117,8 @@ close-more before old new first rs place end behind r s l e n i h f b w below ab
     record {
       clauses = ap (clauses_in new) made ∙ (map-append (clause_in new) (take place rs) (s ∷ drop (place + 1) rs) ∙ (rw (front, back, one) refl ∙ (sym (map-append (clause_in old) (take place rs) (r ∷ drop (place + 1) rs)) ∙ (ap (clauses_in old) (sym cut) ∙ c.clauses))));
       done = rw (take_more_set rs place s l) (laid-push 0 end behind (take place rs) s f (sym b) c.done);
+      fit = fit-same rs place s (u (fit-at rs place r l e c.fit)) c.fit;
+      total = rw (take_more_set rs place s l) (omega (arith, sum_by_push (λ (x : Row). len_of x.body) (take place rs) s, t, c.total));
       rest = rw (n, drop-behind) (laid-lower (end_of end r.body) behind (length old) (drop (place + 1) rs) w laid.1);
     }
   where
@@ -128,3 +134,7 @@ pub close-last : (before old new : List ℕ) (first rs : List Row) (place end : 
 close-last before old new first rs place end l w h c =
     let laid : AreLaid 0 end rs = subst (λ (xs : List Row). AreLaid 0 end xs) (take_all place rs l) c.done in
     rows-agree old new 0 end rs (laid-forward end (length old) (drop place rs) c.rest) w (λ k a b. h k 0 b) laid ∙ c.clauses
+
+-- and what is left has as many literals as the rows say
+pub close-total : (before literals : List ℕ) (first rs : List Row) (place end : ℕ) → length rs ≤ place → IsClosing before literals first rs place end → sum_by (λ r. len_of r.body) rs ≡ end
+close-total before literals first rs place end l c = ap (λ (xs : List Row). sum_by (λ (r : Row). len_of r.body) xs) (sym (take_all place rs l)) ∙ c.total

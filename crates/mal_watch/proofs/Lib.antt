@@ -15,3 +15,4 @@ mod NodeLemmas
 mod LaidLemmas
 mod ListedLemmas
 mod FewerLemmas
+mod WonLemmas

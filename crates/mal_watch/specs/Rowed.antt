@@ -1,4 +1,4 @@
-use Rattle.std.specs.Prelude.{ℕ, ◌+◌, ◌≤◌, List, [], ◌∷◌, take, drop, map}
+use Rattle.std.specs.Prelude.{◌≡◌, ◌≢◌, ℕ, ◌+◌, ◌≤◌, ◌==◌, if◌then◌else◌, List, [], ◌∷◌, length, take, drop, map, sum_by}
 use Rattle.mal_base.specs.NumberedClause.{NumberedClause}
 use Rattle.mal_watch.specs.declared.clause_arena.Row.{Row}
 use Rattle.mal_watch.specs.declared.clause_arena.Body.{Body}
@@ -46,3 +46,24 @@ end_of low (Listed start len hint) = start + len
 abbrev pub AreLaid : ℕ → ℕ → List Row → Type 0
 AreLaid low high [] = low ≤ high
 AreLaid low high (r ∷ rs) = IsFrom low r.body × AreLaid (end_of low r.body) high rs
+
+-- how many literals of clauses stand in the list of all: those of each clause, unless they are three
+abbrev pub listed_len : NumberedClause → ℕ
+listed_len c = if length c.lits == 3 then 0 else length c.lits
+
+abbrev pub listed_count : List NumberedClause → ℕ
+listed_count clauses = sum_by listed_len clauses
+
+-- how many literals of a row stand there
+abbrev pub len_of : Body → ℕ
+len_of (Three lits) = 0
+len_of (Listed start len hint) = len
+
+-- a row has three literals exactly where they do not stand there
+abbrev pub IsFit : Body → Type 0
+IsFit (Three lits) = length lits ≡ 3
+IsFit (Listed start len hint) = len ≢ 3
+
+abbrev pub AreFit : List Row → Type 0
+AreFit [] = Unit {0}
+AreFit (r ∷ rs) = IsFit r.body × AreFit rs

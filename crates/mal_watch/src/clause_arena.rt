@@ -1,12 +1,13 @@
 //! The watched clauses, in the order in which they came.
 
-ghost use Rattle.std.specs.Prelude.{◌≡◌, ℕ, ◌+◌, ◌≤◌, ◌<◌, List, [], ◌∷◌, ◌++◌, length, take, drop, filter, slice_index_or, OnOk, vec_len, vec_capacity};
+ghost use Rattle.std.specs.Prelude.{◌≡◌, ◌≢◌, ℕ, ◌+◌, ◌≤◌, ◌<◌, List, [], ◌∷◌, ◌++◌, length, take, drop, filter, slice_index_or, sum_by, OnOk, vec_len, vec_capacity};
 ghost use Rattle.std.specs.List.{SameBelow, SameFrom};
 ghost use Rattle.std.specs.List.Sorted.{IsNonDecreasing};
 ghost use Rattle.spec_node.specs.Adding.{forgetting};
 ghost use Rattle.mal_watch.specs.Leaving.{is_left};
 ghost use Rattle.mal_watch.specs.Watching.{no_row};
 ghost use Rattle.mal_watch.specs.Rowed.{lits_in, clause_in, IsBody, AreRows, clauses_in, IsFrom, end_of, AreLaid};
+ghost use Rattle.mal_watch.specs.Rowed.{IsFit, AreFit, len_of, listed_count};
 ghost use Rattle.mal_watch.specs.declared.clause_arena.Row.{Row};
 
 use mal_base::{ClauseId, Lit};
@@ -44,7 +45,7 @@ pub struct ClauseArena {
 impl Model for ClauseArena {
     ghost use Rattle.std.specs.Prelude.{◌-◌, ◌≤◌, length, min};
     ghost use Rattle.std.specs.Vec.{vec_len, vec_capacity};
-    ghost use Rattle.mal_watch.specs.Rowed.{Rowed, AreLaid, clauses_in};
+    ghost use Rattle.mal_watch.specs.Rowed.{Rowed, AreLaid, AreFit, clauses_in};
 
     ghost Value = { Rowed };
 
@@ -54,7 +55,7 @@ impl Model for ClauseArena {
       literal_room = min (vec_capacity s.literals - vec_len s.literals) (4294967295 - vec_len s.literals);
     } };
 
-    ghost invariant = { λ s. AreLaid 0 (length s.literals.items) s.rows.items × (length s.literals.items ≤ 4294967295) };
+    ghost invariant = { λ s. AreLaid 0 (length s.literals.items) s.rows.items × (length s.literals.items ≤ 4294967295) × AreFit s.rows.items };
 }
 
 impl ClauseArena {
@@ -103,12 +104,14 @@ impl ClauseArena {
         self.rows.push_reserved(Row { id, body });
     }
 
-    /// Gives up the clauses of these numbers, which rise, and closes the gaps. Takes no memory.
+    /// Gives up the clauses of these numbers, which rise, and closes the gaps: the room of those of their literals that stand
+    /// side by side is room again. Takes no memory.
     pub fn forget(&mut self, ids: &[ClauseId])
         requires { IsNonDecreasing ids.now }
         ensures clauses { self.new.clauses ≡ forgetting ids.now self.old.clauses }
         ensures clause_room { self.old.clause_room ≤ self.new.clause_room }
         ensures literal_room { self.old.literal_room ≤ self.new.literal_room }
+        ensures won { listed_count self.old.clauses + self.old.literal_room ≤ listed_count self.new.clauses + self.new.literal_room }
     {
         take_away(&mut self.rows, ids);
         close_up(&mut self.rows, &mut self.literals);
@@ -166,8 +169,11 @@ fn take_away(rows: &mut Vec<Row>, ids: &[ClauseId])
 fn close_up(rows: &mut Vec<Row>, literals: &mut Vec<Lit>)
     requires laid { AreLaid 0 (length literals.old.items) rows.old.items }
     requires few { length literals.old.items ≤ 4294967295 }
+    requires fit { AreFit rows.old.items }
     ensures clauses { clauses_in literals.new.items rows.new.items ≡ clauses_in literals.old.items rows.old.items }
     ensures laid { AreLaid 0 (length literals.new.items) rows.new.items }
+    ensures fit { AreFit rows.new.items }
+    ensures total { vec_len literals.new ≡ sum_by (λ r. len_of r.body) rows.new.items }
     ensures rows { vec_len rows.new ≡ vec_len rows.old }
     ensures row_room { vec_capacity rows.new ≡ vec_capacity rows.old }
     ensures literals { vec_len literals.new ≤ vec_len literals.old }
@@ -192,6 +198,8 @@ fn move_down(literals: &mut Vec<Lit>, body: Body, place: usize) -> (Body, usize)
     ensures lits { lits_in literals.new.items result.0 ≡ lits_in literals.old.items body }
     ensures from { IsFrom place result.0 }
     ensures end { result.1 ≡ end_of place result.0 }
+    ensures total { result.1 ≡ place + len_of result.0 }
+    ensures fit { IsFit body → IsFit result.0 }
     ensures lower { result.1 ≤ end_of place body }
     ensures below { SameBelow literals.old.items literals.new.items place }
     ensures above { SameFrom literals.old.items literals.new.items (end_of place body) }
@@ -222,6 +230,7 @@ fn body_of(literals: &mut Vec<Lit>, lits: &[Lit]) -> Body
     ensures from { IsFrom (length literals.old.items) result }
     ensures end { end_of (length literals.old.items) result ≡ length literals.new.items }
     ensures rows { (rs : List Row) → AreRows (length literals.old.items) rs → AreRows (length literals.new.items) rs × (clauses_in literals.new.items rs ≡ clauses_in literals.old.items rs) }
+    ensures fit { IsFit result }
     ensures len { vec_len literals.new ≤ vec_len literals.old + length lits.now }
     ensures capacity { vec_capacity literals.new ≡ vec_capacity literals.old }
 {
@@ -238,6 +247,7 @@ fn list(literals: &mut Vec<Lit>, lits: &[Lit]) -> Body
     ensures lits { lits_in literals.new.items result ≡ lits.now }
     ensures from { IsFrom (length literals.old.items) result }
     ensures end { end_of (length literals.old.items) result ≡ length literals.new.items }
+    ensures fit { len_of result ≢ 3 → IsFit result }
     ensures items { literals.new.items ≡ literals.old.items ++ lits.now }
     ensures capacity { vec_capacity literals.new ≡ vec_capacity literals.old }
 {
@@ -267,6 +277,7 @@ fn with_hint(row: Row, hint: usize) -> Row
     ensures lits { (literals : List ℕ) → lits_in literals result.body ≡ lits_in literals row.body }
     ensures from { (low : ℕ) → IsFrom low row.body → IsFrom low result.body }
     ensures end { (low : ℕ) → end_of low result.body ≡ end_of low row.body }
+    ensures fit { IsFit row.body → IsFit result.body }
 {
     match row.body {
         Body::Three(_) => row,

@@ -2,6 +2,7 @@ use Rattle.std.proofs.Common.{◌+◌, ◌≤◌, length, refl, ◌∙◌, arith
 use Rattle.mal_watch.specs.declared.clause_arena.Row.{Row}
 use Rattle.mal_watch.proofs.LaidLemmas.{laid-push, laid-within}
 use Rattle.mal_watch.proofs.RowLemmas.{clauses-push}
+use Rattle.mal_watch.proofs.WonLemmas.{fit-push}
 use Rattle.mal_watch.proofs.clause_arena.ClauseArena.add_reserved.Goals as goal
 
 pub body_of-body-requires-clause-few : goal.body_of-body-requires-clause-few
@@ -12,7 +13,7 @@ invariant_of-self c =
     let s = c.self.inside in
     let row : Row = record { id = c.args.id; body = c.body_of-body.result } in
     let few : length s.literals.items + length c.args.lits.now ≤ 4294967295 = omega (arith, rw (← c.self.view_is) at c.requires.literal_room, c.self.invariant.1) in
-    (rw c.push_reserved.ensures.items (laid-push 0 (length s.literals.items) (length c.body_of-body.new.literals.items) s.rows.items row c.body_of-body.ensures.from c.body_of-body.ensures.end c.self.invariant.0), omega (arith, c.body_of-body.ensures.len, few))
+    (rw c.push_reserved.ensures.items (laid-push 0 (length s.literals.items) (length c.body_of-body.new.literals.items) s.rows.items row c.body_of-body.ensures.from c.body_of-body.ensures.end c.self.invariant.0), omega (arith, c.body_of-body.ensures.len, few), rw c.push_reserved.ensures.items (fit-push s.rows.items row c.body_of-body.ensures.fit c.self.invariant.2))
 
 pub returns-clause-clauses : goal.returns-clause-clauses
 returns-clause-clauses c =
