@@ -205,16 +205,16 @@ listed-test x es e b vs hall same got test =
     subst (λ (o : Option (List Share)). IsTrue b ↔ (o ≡ Some vs)) (sym whole) test
 
 -- the key of the job in a seat
-keys-at : (x : Inside) (ss : List Seat) (at : ℕ) → IsHall x → ss ≡ x.seats → slice_get (keys_of (events_in x)) at ≡ option_map (λ (s : Seat). s.job.titled.key) (slice_get ss at)
-keys-at x ss at hall same =
+keys-at : (x : Inside) (at : ℕ) → IsHall x → slice_get (keys_of (events_in x)) at ≡ option_map (λ (s : Seat). s.job.titled.key) (slice_get x.seats at)
+keys-at x at hall =
     ap (λ (ks : List Key). slice_get ks at) (seated-keys (events_in x) x.seats (hall-seated x hall).jobs)
-    ∙ (slice_get-map (λ (s : Seat). s.job.titled.key) x.seats at ∙ ap (λ (xs : List Seat). option_map (λ (s : Seat). s.job.titled.key) (slice_get xs at)) (sym same))
+    ∙ slice_get-map (λ (s : Seat). s.job.titled.key) x.seats at
 
-pub named-none : (x : Inside) (ss : List Seat) (at : ℕ) (k : Key) → IsHall x → ss ≡ x.seats → length ss ≤ at → IsTrue false ↔ (slice_get (keys_of (events_in x)) at ≡ Some k)
-named-none x ss at k hall same past = no-test (λ e. other e)
+pub named-none : (x : Inside) (at : ℕ) (k : Key) → IsHall x → length x.seats ≤ at → IsTrue false ↔ (slice_get (keys_of (events_in x)) at ≡ Some k)
+named-none x at k hall past = no-test (λ e. other e)
   where
     gone : slice_get (keys_of (events_in x)) at ≡ None
-    gone = keys-at x ss at hall same ∙ ap (option_map (λ (s : Seat). s.job.titled.key)) (behind ss at past)
+    gone = keys-at x at hall ∙ ap (option_map (λ (s : Seat). s.job.titled.key)) (behind x.seats at past)
       where
         behind : (xs : List Seat) (n : ℕ) → length xs ≤ n → slice_get xs n ≡ None
         behind [] n long = refl
@@ -224,14 +224,14 @@ named-none x ss at k hall same past = no-test (λ e. other e)
     other : slice_get (keys_of (events_in x)) at ≡ Some k → ⊥
     other e = let both : None ≡ Some k = sym gone ∙ e in absurd (cc)
 
-pub named-some : (x : Inside) (ss : List Seat) (at : ℕ) (k : Key) (s : Seat) (b : Bool) → IsHall x → ss ≡ x.seats → at < length ss → s ≡ get_or ss at s → b ≡ is_key k s.job.titled.key → IsTrue b ↔ (slice_get (keys_of (events_in x)) at ≡ Some k)
-named-some x ss at k s b hall same low read test = (
+pub named-some : (x : Inside) (at : ℕ) (k : Key) (s : Seat) (b : Bool) → IsHall x → at < length x.seats → s ≡ get_or x.seats at s → b ≡ is_key k s.job.titled.key → IsTrue b ↔ (slice_get (keys_of (events_in x)) at ≡ Some k)
+named-some x at k s b hall low read test = (
   λ t. here ∙ ap Some (sym ((is_key-Decides k s.job.titled.key).0 (sym test ∙ t))),
   λ e. test ∙ (is_key-Decides k s.job.titled.key).1 (equal (sym e ∙ here)),
 )
   where
     here : slice_get (keys_of (events_in x)) at ≡ Some s.job.titled.key
-    here = keys-at x ss at hall same ∙ ap (option_map (λ (t : Seat). t.job.titled.key)) (slice_get_read ss (length ss) at s refl low read)
+    here = keys-at x at hall ∙ ap (option_map (λ (t : Seat). t.job.titled.key)) (slice_get_read x.seats (length x.seats) at s refl low read)
 
     equal : Some k ≡ Some s.job.titled.key → k ≡ s.job.titled.key
     equal e = cc
@@ -356,14 +356,14 @@ live-none (s ∷ ss) e = by_test (is_live_seat s) e (live-none ss)
     by_test true f rest = absurd (cc)
     by_test false f rest = rest f
 
-pub answered-test : (x : Inside) (ss : List Seat) (b : Bool) → IsHall x → ss ≡ x.seats → b ≡ list_all (λ (s : Seat). not (is_live_seat s)) ss → IsTrue b ↔ (lives (states (events_in x)) ≡ [])
-answered-test x ss b hall same scan = (
-  λ t. jobs ∙ none-live ss (sym scan ∙ t),
-  λ e. scan ∙ live-none ss (sym jobs ∙ e),
+pub answered-test : (x : Inside) (b : Bool) → IsHall x → b ≡ list_all (λ (s : Seat). not (is_live_seat s)) x.seats → IsTrue b ↔ (lives (states (events_in x)) ≡ [])
+answered-test x b hall scan = (
+  λ t. jobs ∙ none-live x.seats (sym scan ∙ t),
+  λ e. scan ∙ live-none x.seats (sym jobs ∙ e),
 )
   where
-    jobs : lives (states (events_in x)) ≡ lives (jobs_in ss)
-    jobs = ap lives ((hall-seated x hall).jobs ∙ ap jobs_in (sym same))
+    jobs : lives (states (events_in x)) ≡ lives (jobs_in x.seats)
+    jobs = ap lives (hall-seated x hall).jobs
 
 -- no lease is out
 pub home-test : (x : Inside) (sp : List (Option Spot)) (n : ℕ) → IsHall x → sp ≡ x.spots → n ≡ out_in sp → IsTrue (nat_eq n 0) ↔ (leases (events_in x) ≡ [])

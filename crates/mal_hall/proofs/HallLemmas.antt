@@ -38,6 +38,7 @@ use Rattle.spec_hall.proofs.RunnableLemmas.{find-titled, legal-answers_solve, le
 use Rattle.spec_hall.proofs.SeatLemmas.{reseated, seats-touch, seated-none, seated-open, seated-revise, seated-close, seated-start, seated-finish}
 use Rattle.spec_hall.proofs.SpotLemmas.{and_started, numbered-push, starts-push, spots-stay, spots-open, spots-start, spots-finish, spots-none}
 use Rattle.spec_hall.proofs.VolumeLemmas.{revise-keeps}
+use Rattle.mal_seats.specs.Changed.{OfSeat}
 use Rattle.mal_hall.specs.HallView.{Inside, IsHall, events_in, events_of, out_in, unclosed_in, next_number}
 use Rattle.mal_hall.proofs.KeptLemmas.{first_of, tenants-push, tenants-set, tenants-balanced, unclosed-open, unclosed-same, unclosed-closed, unclosed-balanced}
 
@@ -174,23 +175,26 @@ pub record Sits (ss : List Seat) (k : Key) (at : ℕ) (s : Seat) : Type 0 where
   pub place : place_of k ss ≡ Some at
   pub seat : slice_get ss at ≡ Some s
 
--- the place that a scan of the seats found
-pub placed : (ss xs : List Seat) (k : Key) (r o : Option ℕ) → xs ≡ ss → r ≡ place_of k xs → r ≡ o → place_of k ss ≡ o
-placed ss xs k r o same scan is = ap (place_of k) (sym same) ∙ (sym scan ∙ is)
+-- the place that was found
+pub placed : (ss : List Seat) (k : Key) (r o : Option ℕ) → r ≡ place_of k ss → r ≡ o → place_of k ss ≡ o
+placed ss k r o scan is = sym scan ∙ is
 
-pub placed-below : (ss xs : List Seat) (k : Key) (r : Option ℕ) (at : ℕ) → xs ≡ ss → r ≡ place_of k xs → r ≡ Some at → at < length ss
-placed-below ss xs k r at same scan is = placed-within k ss at (placed ss xs k r (Some at) same scan is)
+pub placed-below : (ss : List Seat) (k : Key) (r : Option ℕ) (at : ℕ) → r ≡ place_of k ss → r ≡ Some at → at < length ss
+placed-below ss k r at scan is = placed-within k ss at (placed ss k r (Some at) scan is)
 
 -- a seat that is read at that place
-pub sits : (ss xs : List Seat) (k : Key) (r : Option ℕ) (at : ℕ) (s : Seat) → xs ≡ ss → r ≡ place_of k xs → r ≡ Some at → s ≡ get_or ss at s → Sits ss k at s
-sits ss xs k r at s same scan is read = record {
-  place = placed ss xs k r (Some at) same scan is;
-  seat = slice_get_read ss (length ss) at s refl (placed-below ss xs k r at same scan is) read;
+pub sits : (ss : List Seat) (k : Key) (r : Option ℕ) (at : ℕ) (s : Seat) → r ≡ place_of k ss → r ≡ Some at → s ≡ get_or ss at s → Sits ss k at s
+sits ss k r at s scan is read = record {
+  place = placed ss k r (Some at) scan is;
+  seat = slice_get_read ss (length ss) at s refl (placed-below ss k r at scan is) read;
 }
 
--- two reads of one place give one seat
-pub same-seat : (ss : List Seat) (k : Key) (at : ℕ) (s t : Seat) → Sits ss k at s → Sits ss k at t → s ≡ t
-same-seat ss k at s t one other = let both : Some s ≡ Some t = sym one.seat ∙ other.seat in cc
+-- what holds of a seat that is read at a place
+pub of-seat : (P : Seat → Type 0) (ss : List Seat) (at : ℕ) (s : Seat) → slice_get ss at ≡ Some s → P s → OfSeat ss at P
+of-seat P ss at s there holds t other =
+    let both : Some s ≡ Some t = sym there ∙ other in
+    let same : s ≡ t = cc in
+    subst P same holds
 
 -- a job that is found
 pub record Found (x : Inside) (k : Key) (t : KeyedJob) : Type 0 where
@@ -226,12 +230,12 @@ place-some k (s ∷ ss) = by_test (is_key k s.job.titled.key) (same_some (place_
     by_test true rest = refl
     by_test false rest = rest
 
-pub hall-some_job : (x : Inside) (xs : List Seat) (k : Key) (r : Option ℕ) → IsHall x → xs ≡ x.seats → r ≡ place_of k xs → is_some (job_of k (states (events_in x))) ≡ is_some r
-hall-some_job x xs k r hall same scan = ap (λ (ts : List KeyedJob). is_some (job_of k ts)) (hall-seated x hall).jobs ∙ (sym (place-some k x.seats) ∙ ap is_some (ap (place_of k) (sym same) ∙ sym scan))
+pub hall-some_job : (x : Inside) (k : Key) (r : Option ℕ) → IsHall x → r ≡ place_of k x.seats → is_some (job_of k (states (events_in x))) ≡ is_some r
+hall-some_job x k r hall scan = ap (λ (ts : List KeyedJob). is_some (job_of k ts)) (hall-seated x hall).jobs ∙ (sym (place-some k x.seats) ∙ ap is_some (sym scan))
 
--- the jobs of a tenant that a scan of the seats counted
-pub hall-jobs : (x : Inside) (xs : List Seat) (tenant : List ℕ) (count : ℕ) → IsHall x → xs ≡ x.seats → count ≡ jobs_of tenant (jobs_in xs) → count ≡ jobs_of tenant (states (events_in x))
-hall-jobs x xs tenant count hall same scan = scan ∙ ap (jobs_of tenant) (ap jobs_in same ∙ sym (hall-seated x hall).jobs)
+-- the jobs of a tenant that were counted
+pub hall-jobs : (x : Inside) (tenant : List ℕ) (count : ℕ) → IsHall x → count ≡ jobs_of tenant (jobs_in x.seats) → count ≡ jobs_of tenant (states (events_in x))
+hall-jobs x tenant count hall scan = scan ∙ ap (jobs_of tenant) (sym (hall-seated x hall).jobs)
 
 -- the tenants of a hall
 pub hall-tenants : (x : Inside) → IsHall x → x.tenants ≡ tenant_count (states (events_in x))

@@ -1,7 +1,7 @@
 -- what crates above cite
 pub mod DriveLemmas
 -- what this crate alone cites
-mod ScanLemmas
+mod RoomLemmas
 mod KeptLemmas
 mod HallLemmas
 mod LeaseLemmas

@@ -56,11 +56,11 @@ use Rattle.mal_hall.proofs.HallLemmas.{Grown, hall-balance, hall-exchange, hall-
 use Rattle.mal_hall.proofs.LeaseLemmas.{hall-finish, hall-start, out-left}
 
 -- whether a balancing is due
-pub phase-due : (x : Inside) (ss : List Seat) (b : Bool) → IsHall x → ss ≡ x.seats → b ≡ is_due ss → b ≡ true → IsBalanceDue (events_in x)
-phase-due x ss b hall same scan is = seated-due x.history.workers (events_in x) x.seats (hall-seated x hall) (ap is_due (sym same) ∙ (sym scan ∙ is))
+pub phase-due : (x : Inside) (b : Bool) → IsHall x → b ≡ is_due x.seats → b ≡ true → IsBalanceDue (events_in x)
+phase-due x b hall scan is = seated-due x.history.workers (events_in x) x.seats (hall-seated x hall) (sym scan ∙ is)
 
-pub phase-calm : (x : Inside) (ss : List Seat) (b : Bool) → IsHall x → ss ≡ x.seats → b ≡ is_due ss → b ≡ false → lives (states (events_in x)) ≡ balanced (events_in x)
-phase-calm x ss b hall same scan is = seated-calm x.history.workers (events_in x) x.seats (hall-seated x hall) (ap is_due (sym same) ∙ (sym scan ∙ is))
+pub phase-calm : (x : Inside) (b : Bool) → IsHall x → b ≡ is_due x.seats → b ≡ false → lives (states (events_in x)) ≡ balanced (events_in x)
+phase-calm x b hall scan is = seated-calm x.history.workers (events_in x) x.seats (hall-seated x hall) (sym scan ∙ is)
 
 -- a seat that there is
 pub seat-there : (ss : List Seat) (n : ℕ) → n < length ss → (s : Seat) × (slice_get ss n ≡ Some s)
@@ -72,16 +72,16 @@ job-there : (x : Inside) (n : ℕ) (s : Seat) → IsHall x → slice_get x.seats
 job-there x n s hall at = ap (λ (ts : List KeyedJob). slice_get ts n) (hall-seated x hall).jobs ∙ (slice_get-map (λ (t : Seat). t.job.titled) x.seats n ∙ ap (option_map (λ (t : Seat). t.job.titled)) at)
 
 -- the first job of which an exchange is due
-pub phase-first : (x : Inside) (ss : List Seat) (o : Option ℕ) → IsHall x → ss ≡ x.seats → o ≡ first_exchange ss → MatchOption o (exchange_due (states (events_in x)) ≡ None) (λ at. IsFirst (events_in x) at)
-phase-first x ss None hall same scan = seated-no_exchange x.history.workers (events_in x) x.seats (hall-seated x hall) (ap first_exchange (sym same) ∙ sym scan)
-phase-first x ss (Some n) hall same scan =
-    let first : first_exchange x.seats ≡ Some n = ap first_exchange (sym same) ∙ sym scan in
+pub phase-first : (x : Inside) (o : Option ℕ) → IsHall x → o ≡ first_exchange x.seats → MatchOption o (exchange_due (states (events_in x)) ≡ None) (λ at. IsFirst (events_in x) at)
+phase-first x None hall scan = seated-no_exchange x.history.workers (events_in x) x.seats (hall-seated x hall) (sym scan)
+phase-first x (Some n) hall scan =
+    let first : first_exchange x.seats ≡ Some n = sym scan in
     let there = seat-there x.seats n (first-within x.seats n first) in
     record { job = there.0.job.titled; first = ap exchange_due (hall-seated x hall).jobs ∙ first-found x.seats n there.0 first there.1; place = job-there x n there.0 hall there.1 }
 
 -- the node that starts next
-pub phase-next : (x : Inside) (ss : List Seat) (o : Option Candidate) → IsHall x → ss ≡ x.seats → o ≡ pick ss → o ≡ picked (states (events_in x))
-phase-next x ss o hall same scan = scan ∙ (ap pick same ∙ sym (seated-picked x.history.workers (events_in x) x.seats (hall-seated x hall)))
+pub phase-next : (x : Inside) (o : Option Candidate) → IsHall x → o ≡ pick x.seats → o ≡ picked (states (events_in x))
+phase-next x o hall scan = scan ∙ sym (seated-picked x.history.workers (events_in x) x.seats (hall-seated x hall))
 
 -- whether a worker has a lease
 pub phase-lease : (x : Inside) (sp : List (Option Spot)) (worker : ℕ) (o : Option Spot) → IsHall x → sp ≡ x.spots → 1 ≤ worker → o ≡ get_or sp (worker - 1) None → is_some o ≡ is_some (lease_of worker (leases (events_in x)))
@@ -103,15 +103,6 @@ pub phase-left : (x : Inside) (b : Bool) → IsHall x → b ≡ is_done (jobs_in
 phase-left x b hall scan is = is ∙ sym (ap (λ (c : Bool). c && length (leases (events_in x)) == 0) (ap is_done (hall-seated x hall).jobs ∙ (sym scan ∙ is)))
 
 -- a balancing that is due
-written-back : (ss now : List Seat) (len : ℕ) (vs : List ℕ) → len ≡ length ss → now ≡ balanced_by vs ss → take len (now ++ drop (length now) ss) ≡ balanced_by vs ss
-written-back ss now len vs whole is =
-    let same : length now ≡ len = ap length is ∙ (length-balanced 0 ss ∙ sym whole) in
-    take_at now (drop (length now) ss) len same ∙ is
-  where
-    length-balanced : (n : ℕ) (xs : List Seat) → length (balanced_from n vs xs) ≡ length xs
-    length-balanced n [] = refl
-    length-balanced n (x ∷ xs) = ap suc (length-balanced (cond (is_live_seat x) (n + 1) n) xs)
-
 due-is : (x : Inside) → IsHall x → IsBalanceDue (events_in x) → is_due x.seats ≡ true
 due-is x hall due = by_test (is_due x.seats) refl
   where
@@ -123,11 +114,11 @@ pub record Balanced (x y : Inside) : Type 0 where
   pub hall : IsHall y
   pub has : HasBalanced x.history.workers (events_in x) (events_in y)
 
-pub phase-balance : (x y : Inside) (now : List Seat) (len : ℕ) → IsHall x → IsBalanceDue (events_in x) → len ≡ length x.seats → y.history.workers ≡ x.history.workers → IsBalancing x.history y.history x.seats now → y.seats ≡ take len (now ++ drop (length now) x.seats) → y.spots ≡ x.spots → y.starts ≡ x.starts → y.unclosed ≡ x.unclosed → y.tenants ≡ x.tenants → x.unclosed + out_in x.spots ≤ y.history.room → Balanced x y
-phase-balance x y now len hall due whole workers b seats spots starts unclosed tenants room =
+pub phase-balance : (x y : Inside) → IsHall x → IsBalanceDue (events_in x) → y.history.workers ≡ x.history.workers → IsBalancing x.history y.history x.seats y.seats → y.spots ≡ x.spots → y.starts ≡ x.starts → y.unclosed ≡ x.unclosed → y.tenants ≡ x.tenants → x.unclosed + out_in x.spots ≤ y.history.room → Balanced x y
+phase-balance x y hall due workers b spots starts unclosed tenants room =
     let vs : List ℕ = b.volumes in
     let is : is_due x.seats ≡ true = due-is x hall due in
-    let grown = hall-balance x y vs hall is b.fair workers b.events (seats ∙ written-back x.seats now len vs whole b.seats) spots starts unclosed tenants room in
+    let grown = hall-balance x y vs hall is b.fair workers b.events b.seats spots starts unclosed tenants room in
     record { hall = grown.hall; has = record { shares = shares_by vs x.seats; grown = grown.events; allowed = balance-allowed x.history.workers (events_in x) x.seats vs (hall-seated x hall) b.fair is } }
 
 -- a job's place is one of the seats
@@ -150,12 +141,11 @@ pub record Exchanges (x y : Inside) : Type 0 where
   pub hall : IsHall y
   pub has : HasExchanged x.history.workers (events_in x) (events_in y)
 
-pub phase-exchange : (x y : Inside) (at : ℕ) (s now : Seat) → IsHall x → lives (states (events_in x)) ≡ balanced (events_in x) → IsFirst (events_in x) at → s ≡ get_or x.seats at s → now ≡ record s { job = and_own s.job Exchanged } → y.history.workers ≡ x.history.workers → y.history.events ≡ x.history.events ++ of.Exchange s.job.titled.key.tenant s.job.titled.key.job ∷ [] → y.seats ≡ slice_set x.seats at now → y.spots ≡ x.spots → y.starts ≡ x.starts → y.unclosed ≡ x.unclosed → y.tenants ≡ x.tenants → x.unclosed + out_in x.spots ≤ y.history.room → Exchanges x y
-phase-exchange x y at s now hall calm first read is workers events seats spots starts unclosed tenants room =
-    let sits : slice_get x.seats at ≡ Some s = read-seat x at s (within-first x at first.job hall first.place) read in
+pub phase-exchange : (x y : Inside) (at : ℕ) (s : Seat) → IsHall x → lives (states (events_in x)) ≡ balanced (events_in x) → IsFirst (events_in x) at → slice_get x.seats at ≡ Some s → y.history.workers ≡ x.history.workers → y.history.events ≡ x.history.events ++ of.Exchange s.job.titled.key.tenant s.job.titled.key.job ∷ [] → y.seats ≡ slice_set x.seats at (record s { job = and_own s.job Exchanged }) → y.spots ≡ x.spots → y.starts ≡ x.starts → y.unclosed ≡ x.unclosed → y.tenants ≡ x.tenants → x.unclosed + out_in x.spots ≤ y.history.room → Exchanges x y
+phase-exchange x y at s hall calm first sits workers events seats spots starts unclosed tenants room =
     let same : s.job.titled ≡ first.job = job-seat x at first.job s hall first.place sits in
     let may : Allowed x.history.workers (events_in x) (Exchange s.job.titled.key) = (first.job, record { balance = calm; first = first.first; key = ap (λ (t : KeyedJob). t.key) (sym same) }) in
-    let grown = hall-exchange x y at s hall may sits workers events (seats ∙ ap (slice_set x.seats at) is) spots starts unclosed tenants room in
+    let grown = hall-exchange x y at s hall may sits workers events seats spots starts unclosed tenants room in
     record { hall = grown.hall; has = record { key = s.job.titled.key; grown = grown.events; allowed = may } }
 
 -- the seat of a node that may be started
@@ -212,8 +202,8 @@ set-seat [] n s t e = absurd (cc)
 set-seat (x ∷ xs) zero s t e = refl
 set-seat (x ∷ xs) (suc n) s t e = set-seat xs n s t e
 
-pub phase-start : (x y : Inside) (at index worker start : ℕ) (s now : Seat) (lease : Leased) → IsHall x → CanStart x at index worker s → IsLeaseOf s.job index start worker lease → now ≡ record s { job = and_start s.job index start } → start ≡ x.starts + 1 → y.history.workers ≡ x.history.workers → y.history.events ≡ x.history.events ++ of.Start s.job.titled.key.tenant s.job.titled.key.job index worker ∷ [] → y.seats ≡ slice_set x.seats at now → y.spots ≡ slice_set x.spots (worker - 1) (Some (record { job = at; index = index; start = start })) → y.starts ≡ start → y.unclosed ≡ x.unclosed → y.tenants ≡ x.tenants → x.unclosed + out_in x.spots + 1 ≤ y.history.room → HasBegun x y index worker lease
-phase-start x y at index worker start s now lease hall can mine is next workers events seats spots starts unclosed tenants room =
+pub phase-start : (x y : Inside) (at index worker start : ℕ) (s : Seat) (lease : Leased) → IsHall x → CanStart x at index worker s → IsLeaseOf s.job index start worker lease → start ≡ x.starts + 1 → y.history.workers ≡ x.history.workers → y.history.events ≡ x.history.events ++ of.Start s.job.titled.key.tenant s.job.titled.key.job index worker ∷ [] → y.seats ≡ slice_set x.seats at (record s { job = and_start s.job index start }) → y.spots ≡ slice_set x.spots (worker - 1) (Some (record { job = at; index = index; start = start })) → y.starts ≡ start → y.unclosed ≡ x.unclosed → y.tenants ≡ x.tenants → x.unclosed + out_in x.spots + 1 ≤ y.history.room → HasBegun x y index worker lease
+phase-start x y at index worker start s lease hall can mine next workers events seats spots starts unclosed tenants room =
     record { hall = grown.hall; has = record { key = s.job.titled.key; grown = events_are; allowed = can.allowed; lease_is = lease_is } }
   where
     w : ℕ
@@ -231,17 +221,14 @@ phase-start x y at index worker start s now lease hall can mine is next workers 
     after : Seat
     after = reseated s (and_start s.job index start)
 
-    whole : y.seats ≡ slice_set x.seats at after
-    whole = seats ∙ ap (slice_set x.seats at) is
-
     grown : Grown x y (Start s.job.titled.key index (suc w) ∷ [])
-    grown = hall-start x y at s index w start hall can.seat low (subst (λ (v : ℕ). Allowed x.history.workers (events_in x) (Start s.job.titled.key index v)) some can.allowed) next workers (subst (λ (v : ℕ). y.history.events ≡ x.history.events ++ of.Start s.job.titled.key.tenant s.job.titled.key.job index v ∷ []) some events) whole spots starts unclosed tenants room
+    grown = hall-start x y at s index w start hall can.seat low (subst (λ (v : ℕ). Allowed x.history.workers (events_in x) (Start s.job.titled.key index v)) some can.allowed) next workers (subst (λ (v : ℕ). y.history.events ≡ x.history.events ++ of.Start s.job.titled.key.tenant s.job.titled.key.job index v ∷ []) some events) seats spots starts unclosed tenants room
 
     events_are : events_in y ≡ events_in x ++ Start s.job.titled.key index worker ∷ []
     events_are = subst (λ (v : ℕ). events_in y ≡ events_in x ++ Start s.job.titled.key index v ∷ []) (sym some) grown.events
 
     seat : slice_get y.seats at ≡ Some after
-    seat = ap (λ (ss : List Seat). slice_get ss at) whole ∙ set-seat x.seats at s after can.seat
+    seat = ap (λ (ss : List Seat). slice_get ss at) seats ∙ set-seat x.seats at s after can.seat
 
     taken : get_or y.spots w None ≡ Some spot
     taken = ap (λ (os : List (Option Spot)). get_or os w None) spots ∙ set-spot x.spots w spot (omega (arith, low, (hall-spots x hall).count))
@@ -339,12 +326,12 @@ may-finish x worker spot s (Some d) hall at may =
     let same : d.worker ≡ worker = may.belongs.0 ∙ may.worker_is in
     lease-back x.history.workers (events_in x) x.seats x.spots s spot d may.lease (hall-seated x hall).some_worker hall.bound (hall-seated x hall) (hall-spots x hall) at.seat (subst (λ (v : ℕ). IsAt (events_in x) (tags_of x.seats) v spot) (sym same) at.is) may.belongs.1
 
-pub phase-end : (x y : Inside) (worker : ℕ) (spot : Spot) (s now : Seat) (outcome : Outcome) → IsHall x → SpotSeat x worker spot s → now ≡ record s { job = and_own s.job (Done spot.index outcome) } → y.history.workers ≡ x.history.workers → y.history.events ≡ x.history.events ++ of.Finish s.job.titled.key.tenant s.job.titled.key.job spot.index worker outcome ∷ [] → y.seats ≡ slice_set x.seats spot.job now → y.spots ≡ slice_set x.spots (worker - 1) None → y.starts ≡ x.starts → y.unclosed ≡ x.unclosed → y.tenants ≡ x.tenants → y.history.room + 1 ≡ x.history.room → Ended x y worker outcome
-phase-end x y worker spot s now outcome hall at is workers events seats spots starts unclosed tenants room =
+pub phase-end : (x y : Inside) (worker : ℕ) (spot : Spot) (s : Seat) (outcome : Outcome) → IsHall x → SpotSeat x worker spot s → y.history.workers ≡ x.history.workers → y.history.events ≡ x.history.events ++ of.Finish s.job.titled.key.tenant s.job.titled.key.job spot.index worker outcome ∷ [] → y.seats ≡ slice_set x.seats spot.job (record s { job = and_own s.job (Done spot.index outcome) }) → y.spots ≡ slice_set x.spots (worker - 1) None → y.starts ≡ x.starts → y.unclosed ≡ x.unclosed → y.tenants ≡ x.tenants → y.history.room + 1 ≡ x.history.room → Ended x y worker outcome
+phase-end x y worker spot s outcome hall at workers events seats spots starts unclosed tenants room =
     let w : ℕ = worker - 1 in
     let some : worker ≡ suc w = omega (arith, at.worker_is.low) in
     let held : lease_of worker (leases (events_in x)) ≡ Some (held_at s worker spot.index) = spot-held (events_in x) x.seats s worker spot at.seat at.is in
-    let grown = hall-finish x y spot.job s spot.index w outcome spot hall at.seat (subst (λ (v : ℕ). Allowed x.history.workers (events_in x) (Finish s.job.titled.key spot.index v outcome)) some held) at.taken workers (subst (λ (v : ℕ). y.history.events ≡ x.history.events ++ of.Finish s.job.titled.key.tenant s.job.titled.key.job spot.index v outcome ∷ []) some events) (seats ∙ ap (slice_set x.seats spot.job) is) spots starts unclosed tenants room in
+    let grown = hall-finish x y spot.job s spot.index w outcome spot hall at.seat (subst (λ (v : ℕ). Allowed x.history.workers (events_in x) (Finish s.job.titled.key spot.index v outcome)) some held) at.taken workers (subst (λ (v : ℕ). y.history.events ≡ x.history.events ++ of.Finish s.job.titled.key.tenant s.job.titled.key.job spot.index v outcome ∷ []) some events) seats spots starts unclosed tenants room in
     record { hall = grown.hall; has = record { lease = held_at s worker spot.index; out = held; grown = subst (λ (v : ℕ). events_in y ≡ events_in x ++ Finish s.job.titled.key spot.index v outcome ∷ []) (sym some) grown.events } }
 
 -- there is room for a finish
@@ -407,10 +394,6 @@ test-not b e q p = both_ways b q (e.1 p)
 
 pub test-yes : {P : Type 0} (b : Bool) → IsTrue b ↔ P → b ≡ true → P
 test-yes b e q = e.0 q
-
--- a seat in which a start ended
-abbrev pub finished_seat : Seat → Outcome → ℕ → Seat
-finished_seat s o n = record s { job = and_own s.job (Done n o) }
 
 -- nothing was entered
 pub arranged-none : (w : ℕ) (past now : List Event) → now ≡ past → HasArranged w past now

@@ -31,13 +31,12 @@ use crate::enter::{enter_balance, enter_exchange};
 use crate::lodging::{lists, none_lodged};
 use crate::offer::{Back, Pick, Strange};
 use crate::room::{next_number, tenants_after};
-use crate::scheduler::{Candidate, pick};
-use crate::seats::{Seat, first_exchange, is_answered, is_done, is_due, jobs_of, place_of};
 use crate::spots::{Spot, count_out, no_spots, owed, spot_of};
 use mal_base::{Ask, CloseFault, Name, OpenFault, Outcome, PickFault, ReplyFault, ReviseFault};
 use mal_history::{Event, History, Shares};
 use mal_learn::Scratch;
 use mal_revision::Revision;
+use mal_seats::{Candidate, Seats};
 use mal_suspend::{Done, Lease};
 use std::alloc::{AllocError, Global};
 use std::marker::Model;
@@ -49,7 +48,7 @@ use std::mem;
 #[derive(Drop)]
 pub struct Hall {
     history: History,
-    seats: Vec<Seat>,
+    seats: Seats,
     spots: Vec<Option<Spot>>,
     starts: u64,
     unclosed: usize,
@@ -64,9 +63,9 @@ impl Model for Hall {
 
     ghost Value = { HallView };
 
-    ghost view = { λ h. record { workers = h.history.workers; events = events_of h.history.events h.seats.items; inside = map (option_map handed_of) h.lodged.items } };
+    ghost view = { λ h. record { workers = h.history.workers; events = events_of h.history.events h.seats; inside = map (option_map handed_of) h.lodged.items } };
 
-    ghost invariant = { λ h. IsHall (record { history = h.history; seats = h.seats.items; spots = h.spots.items; starts = h.starts; unclosed = h.unclosed; tenants = h.tenants }) };
+    ghost invariant = { λ h. IsHall (record { history = h.history; seats = h.seats; spots = h.spots.items; starts = h.starts; unclosed = h.unclosed; tenants = h.tenants }) };
 }
 
 impl Hall {
@@ -80,7 +79,7 @@ impl Hall {
     {
         Ok(Hall {
             history: History::new(alloc, workers),
-            seats: Vec::new(alloc),
+            seats: Seats::new(alloc),
             spots: no_spots(alloc, workers)?,
             starts: 0,
             unclosed: 0,
@@ -97,28 +96,22 @@ impl Hall {
         ensures err { OnErr result (self.new.events ≡ self.old.events) }
         ensures call { HasCalled self.old.workers self.old.events (Opens (keyed tenant job) ask) result self.new.events }
     {
-        if place_of(&self.seats, tenant, job).is_some() {
+        if self.seats.place_of(tenant, job).is_some() {
             return Err(OpenFault::Duplicate);
         }
-        let jobs = jobs_of(&self.seats, tenant);
+        let jobs = self.seats.jobs_of(tenant);
         let tenants = tenants_after(self.tenants, jobs)?;
         are_in_form(&tenant, &job, ask);
-        let owed = owed(self.unclosed, &self.spots);
+        let owed = owed(&self.seats, self.unclosed, &self.spots);
         match self.history.reserve(owed + 2) {
             Ok(()) => {}
             Err(_) => return Err(OpenFault::OutOfMemory),
         }
-        match self.seats.reserve(1) {
+        match self.seats.open(tenant, job, ask) {
             Ok(()) => {}
             Err(_) => return Err(OpenFault::OutOfMemory),
         }
-        let alloc = *self.seats.allocator();
-        let seat = match Seat::fresh(alloc, self.seats.len() as u64, tenant, job, ask) {
-            Ok(seat) => seat,
-            Err(_) => return Err(OpenFault::OutOfMemory),
-        };
         self.history.push_reserved(Event::Open { tenant, job, ask });
-        self.seats.push_reserved(seat);
         self.unclosed += 1;
         self.tenants = tenants;
         Ok(())
@@ -138,17 +131,16 @@ impl Hall {
         ensures err { OnErr result (self.new.events ≡ self.old.events) }
         ensures call { HasCalled self.old.workers self.old.events (Revises (keyed tenant.now job.now) revision) result self.new.events }
     {
-        let Some(at) = place_of(&self.seats, *tenant, *job) else {
+        let Some(at) = self.seats.place_of(*tenant, *job) else {
             return Err(ReviseFault::NoJob);
         };
-        let number = next_number(self.seats[at].job(), &revision)?;
-        let owed = owed(self.unclosed, &self.spots);
+        let number = next_number(self.seats.at(at).job(), &revision)?;
+        let owed = owed(&self.seats, self.unclosed, &self.spots);
         match self.history.reserve(owed + 1) {
             Ok(()) => {}
             Err(_) => return Err(ReviseFault::OutOfMemory),
         }
-        let seat = &mut self.seats[at];
-        match seat.revise(revision) {
+        match self.seats.revise(at, revision) {
             Ok(()) => {}
             Err(_) => return Err(ReviseFault::OutOfMemory),
         }
@@ -168,14 +160,13 @@ impl Hall {
         ensures err { OnErr result (self.new.events ≡ self.old.events) }
         ensures call { HasCalled self.old.workers self.old.events (Closes (keyed tenant.now job.now)) result self.new.events }
     {
-        let Some(at) = place_of(&self.seats, *tenant, *job) else {
+        let Some(at) = self.seats.place_of(*tenant, *job) else {
             return Err(CloseFault::NoJob);
         };
-        if self.seats[at].job().is_closed() {
+        if self.seats.at(at).job().is_closed() {
             return Err(CloseFault::Closed);
         }
-        let seat = &mut self.seats[at];
-        seat.close();
+        self.seats.close(at);
         self.unclosed -= 1;
         self.history.push_reserved(Event::Close {
             tenant: *tenant,
@@ -198,10 +189,10 @@ impl Hall {
         ensures own { (t : KeyedJob) → job_of (keyed tenant.now job.now) (states self.now.events) ≡ Some t → ClausesAreOwn t.state }
         ensures call { HasCalled self.now.workers self.now.events (Asks (keyed tenant.now job.now) r) (replied result) self.now.events }
     {
-        let Some(at) = place_of(&self.seats, *tenant, *job) else {
+        let Some(at) = self.seats.place_of(*tenant, *job) else {
             return Err(ReplyFault::NoJob);
         };
-        match self.seats[at].job().reply(r) {
+        match self.seats.at(at).job().reply(r) {
             Ok(text) => Ok(text),
             Err(_) => Err(ReplyFault::OutOfMemory),
         }
@@ -229,10 +220,10 @@ impl Hall {
     pub fn revision(&self, tenant: &Name, job: &Name, r: u32) -> Option<&Revision>
         ensures { option_copied result ≡ among r (revisions_of (keyed tenant.now job.now) (states self.now.events)) }
     {
-        let Some(at) = place_of(&self.seats, *tenant, *job) else {
+        let Some(at) = self.seats.place_of(*tenant, *job) else {
             return None;
         };
-        self.seats[at].job().revision(r)
+        self.seats.at(at).job().revision(r)
     }
 
     /// Whether a balancing is due.
@@ -243,7 +234,7 @@ impl Hall {
         ensures some { 1 ≤ self.now.workers }
         ensures bound { self.now.workers ≤ 64 }
     {
-        is_due(&self.seats)
+        self.seats.is_due()
     }
 
     /// The place of the first job of which an exchange is due.
@@ -252,21 +243,21 @@ impl Hall {
         ensures legal { Legal self.now.workers self.now.events }
         ensures some { 1 ≤ self.now.workers }
     {
-        first_exchange(&self.seats)
+        self.seats.first_exchange()
     }
 
     /// The node that starts next.
     pub(crate) fn next(&self) -> Option<Candidate>
         ensures { result ≡ states_of.picked (states self.now.events) }
     {
-        pick(&self.seats)
+        self.seats.pick()
     }
 
     /// Whether every job is closed and answered and nothing is out.
     fn is_over(&self) -> bool
         ensures { result ≡ is_over self.now.events }
     {
-        is_done(&self.seats) && count_out(&self.spots) == 0
+        self.seats.is_done() && count_out(&self.spots) == 0
     }
 
     /// Enters a balancing that is due. After want of memory nothing is entered.
@@ -277,9 +268,8 @@ impl Hall {
         ensures ok { OnOk result (HasBalanced self.old.workers self.old.events self.new.events) }
         ensures err { OnErr result (self.new.events ≡ self.old.events) }
     {
-        let alloc = *self.seats.allocator();
-        let owed = owed(self.unclosed, &self.spots);
-        enter_balance(alloc, &mut self.history, &mut self.seats, owed)?;
+        let owed = owed(&self.seats, self.unclosed, &self.spots);
+        enter_balance(&mut self.history, &mut self.seats, owed)?;
         Ok(())
     }
 
@@ -292,9 +282,8 @@ impl Hall {
         ensures ok { OnOk result (HasExchanged self.old.workers self.old.events self.new.events) }
         ensures err { OnErr result (self.new.events ≡ self.old.events) }
     {
-        let owed = owed(self.unclosed, &self.spots);
-        let seat = &mut self.seats[at];
-        match enter_exchange(&mut self.history, seat, owed) {
+        let owed = owed(&self.seats, self.unclosed, &self.spots);
+        match enter_exchange(&mut self.history, &mut self.seats, at, owed) {
             Ok(()) => {}
             Err(_) => return Err(AllocError),
         }
@@ -368,12 +357,12 @@ impl Hall {
         if self.starts == u64::MAX {
             return Err(AllocError);
         }
-        let owed = owed(self.unclosed, &self.spots);
+        let owed = owed(&self.seats, self.unclosed, &self.spots);
         self.history.reserve(owed + 2)?;
         let start = self.starts + 1;
-        let seat = &mut self.seats[at];
+        let seat = self.seats.at(at);
         let (tenant, job) = (seat.job().tenant(), seat.job().name());
-        let lease = match seat.start(index, worker, start) {
+        let lease = match self.seats.start(at, index, worker, start) {
             Ok(lease) => lease,
             Err(_) => return Err(AllocError),
         };
@@ -440,7 +429,7 @@ impl Hall {
         let Some(spot) = spot_of(&self.spots, worker) else {
             return Err(None);
         };
-        if !self.seats[spot.job()].is_back(spot.index(), back) {
+        if !self.seats.at(spot.job()).is_back(spot.index(), back) {
             return Err(Some(spot.start()));
         }
         Ok(())
@@ -457,11 +446,12 @@ impl Hall {
         let Some(spot) = spot_of(&self.spots, worker) else {
             return;
         };
+        let at = spot.job();
         let index = spot.index();
         let outcome = outcome_of(&back);
-        let seat = &mut self.seats[spot.job()];
+        let seat = self.seats.at(at);
         let (tenant, job) = (seat.job().tenant(), seat.job().name());
-        seat.finish(index, back);
+        self.seats.finish(at, index, back);
         self.spots[worker as usize - 1] = None;
         self.history.push_reserved(Event::Finish {
             tenant,
@@ -543,7 +533,7 @@ impl Hall {
     pub fn is_answered(&self) -> bool
         ensures { IsTrue result ↔ (lives (states self.now.events) ≡ []) }
     {
-        is_answered(&self.seats)
+        self.seats.is_answered()
     }
 
     /// Whether no lease is out.
@@ -557,20 +547,20 @@ impl Hall {
     pub(crate) fn next_of(&self, tenant: &Name, job: &Name) -> usize
         ensures { result ≡ next_number (keyed tenant.now job.now) self.now.events }
     {
-        let Some(at) = place_of(&self.seats, *tenant, *job) else {
+        let Some(at) = self.seats.place_of(*tenant, *job) else {
             return 1;
         };
-        self.seats[at].job().revisions().len() + 1
+        self.seats.at(at).job().revisions().len() + 1
     }
 
     /// Whether the job at a place, by opening, has this key.
     pub(crate) fn is_named(&self, at: usize, tenant: &Name, job: &Name) -> bool
         ensures { IsTrue result ↔ (slice_get (keys_of self.now.events) at ≡ Some (keyed tenant.now job.now)) }
     {
-        match self.seats.get(at) {
-            None => false,
-            Some(seat) => seat.is_named(*tenant, *job),
+        if at >= self.seats.len() {
+            return false;
         }
+        self.seats.at(at).is_named(*tenant, *job)
     }
 
     /// Whether the lease that a worker has out is of this node of a job.

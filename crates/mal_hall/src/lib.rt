@@ -8,10 +8,7 @@ mod hall;
 mod lodging;
 mod offer;
 mod room;
-mod scheduler;
-mod seats;
 mod spots;
-mod volumes;
 
 pub use desk::{Desk, Post, PostFault};
 pub use hall::Hall;

@@ -4,6 +4,7 @@ ghost use Rattle.std.specs.Prelude.{◌≡◌, ◌+◌, ◌-◌, ◌<◌, ◌≤
 ghost use Rattle.spec_hall.specs.Spots as spec;
 ghost use Rattle.mal_hall.specs.HallView.{out_in};
 
+use mal_seats::Seats;
 use std::alloc::{AllocError, Global};
 use std::marker::Model;
 
@@ -95,11 +96,12 @@ pub fn count_out(spots: &[Option<Spot>]) -> usize
 }
 
 /// For how many events room is kept: the closing of each job that is not closed, and the finish of each lease.
-pub fn owed(unclosed: usize, spots: &[Option<Spot>]) -> usize
-    requires few { unclosed < 2 ^ 63 }
+pub fn owed(seats: &Seats, unclosed: usize, spots: &[Option<Spot>]) -> usize
+    requires few { unclosed ≤ length seats.now }
     requires workers { length spots.now ≤ 64 }
     ensures value { result ≡ unclosed + out_in spots.now }
-    ensures bound { result ≤ unclosed + 64 }
+    ensures bound { result < 2 ^ 63 + 64 }
 {
+    let _jobs = seats.len();
     unclosed + count_out(spots)
 }

@@ -7,7 +7,7 @@ pub returns-then-worker-eq0-clause-strange : goal.returns-then-worker-eq0-clause
 returns-then-worker-eq0-clause-strange c = rw (← c.self.view_is) (strange-none _ c.args.back.now (zero-none _ c.args.back.now.worker _ c.self.invariant c.worker-worker.ensures c.if-worker-eq0.true))
 
 pub returns-then-worker-eq0-clause-kept : goal.returns-then-worker-eq0-clause-kept
-returns-then-worker-eq0-clause-kept c = rw (← c.self.view_is) (kept-none (events_of c.self.inside.history.events c.self.inside.seats.items) c.args.back.now.worker (zero-none _ c.args.back.now.worker _ c.self.invariant c.worker-worker.ensures c.if-worker-eq0.true))
+returns-then-worker-eq0-clause-kept c = rw (← c.self.view_is) (kept-none (events_of c.self.inside.history.events c.self.inside.seats) c.args.back.now.worker (zero-none _ c.args.back.now.worker _ c.self.invariant c.worker-worker.ensures c.if-worker-eq0.true))
 
 pub returns-in_default-clause-strange : goal.returns-in_default-clause-strange
 returns-in_default-clause-strange c =
@@ -19,10 +19,10 @@ pub returns-in_default-clause-kept : goal.returns-in_default-clause-kept
 returns-in_default-clause-kept c =
     let low : 1 ≤ c.worker-worker.result = omega (arith, c.if-worker-eq0.false) in
     let none = rw c.worker-worker.ensures at (none-out _ _ c.worker-worker.result _ c.self.invariant c.deref.ensures.value low c.spot_of.ensures c.in_default.is) in
-    rw (← c.self.view_is) (kept-none (events_of c.self.inside.history.events c.self.inside.seats.items) c.args.back.now.worker none)
+    rw (← c.self.view_is) (kept-none (events_of c.self.inside.history.events c.self.inside.seats) c.args.back.now.worker none)
 
-pub index-requires : goal.index-requires
-index-requires c =
+pub at-requires : goal.at-requires
+at-requires c =
     let low : 1 ≤ c.worker-worker.result = omega (arith, c.if-worker-eq0.false) in
     let is = spot-is _ _ c.worker-worker.result _ c.in-Some.spot c.self.invariant c.deref.ensures.value low c.spot_of.ensures c.in-Some.is in
     omega (arith, c.job.ensures, spot-within _ _ c.in-Some.spot c.self.invariant is)
@@ -31,25 +31,25 @@ pub is_back-requires : goal.is_back-requires
 is_back-requires c =
     let low : 1 ≤ c.worker-worker.result = omega (arith, c.if-worker-eq0.false) in
     let is = spot-is _ _ c.worker-worker.result _ c.in-Some.spot c.self.invariant c.deref.ensures.value low c.spot_of.ensures c.in-Some.is in
-    omega (arith, c.index-2.ensures, is.low)
+    omega (arith, c.index.ensures, is.low)
 
 pub returns-then-not-is_back-clause-strange : goal.returns-then-not-is_back-clause-strange
 returns-then-not-is_back-clause-strange c =
     let low : 1 ≤ c.worker-worker.result = omega (arith, c.if-worker-eq0.false) in
-    let at = rw c.worker-worker.ensures at (spot-seat _ _ c.worker-worker.result _ c.in-Some.spot c.index.result.now c.self.invariant c.deref.ensures.value low c.spot_of.ensures c.in-Some.is (rw c.job.ensures at c.index.ensures)) in
-    rw (← c.self.view_is) (back-not _ c.in-Some.spot c.index.result.now c.args.back.now c.self.invariant at (test-not c.is_back.result (rw c.index-2.ensures at c.is_back.ensures) c.if-not-is_back.true))
+    let at = rw c.worker-worker.ensures at (spot-seat _ _ c.worker-worker.result _ c.in-Some.spot c.at.result.now c.self.invariant c.deref.ensures.value low c.spot_of.ensures c.in-Some.is (rw c.job.ensures at c.at.ensures)) in
+    rw (← c.self.view_is) (back-not _ c.in-Some.spot c.at.result.now c.args.back.now c.self.invariant at (test-not c.is_back.result (rw c.index.ensures at c.is_back.ensures) c.if-not-is_back.true))
 
 pub returns-then-not-is_back-clause-kept : goal.returns-then-not-is_back-clause-kept
 returns-then-not-is_back-clause-kept c =
     let low : 1 ≤ c.worker-worker.result = omega (arith, c.if-worker-eq0.false) in
-    let at = rw c.worker-worker.ensures at (spot-seat _ _ c.worker-worker.result _ c.in-Some.spot c.index.result.now c.self.invariant c.deref.ensures.value low c.spot_of.ensures c.in-Some.is (rw c.job.ensures at c.index.ensures)) in
-    rw (← c.self.view_is, c.start.ensures) (kept-is _ c.in-Some.spot c.index.result.now c.args.back.now.worker c.self.invariant at)
+    let at = rw c.worker-worker.ensures at (spot-seat _ _ c.worker-worker.result _ c.in-Some.spot c.at.result.now c.self.invariant c.deref.ensures.value low c.spot_of.ensures c.in-Some.is (rw c.job.ensures at c.at.ensures)) in
+    rw (← c.self.view_is, c.start.ensures) (kept-is _ c.in-Some.spot c.at.result.now c.args.back.now.worker c.self.invariant at)
 
 pub returns-clause-ok : goal.returns-clause-ok
 returns-clause-ok c =
     let low : 1 ≤ c.worker-worker.result = omega (arith, c.if-worker-eq0.false) in
-    let at = rw c.worker-worker.ensures at (spot-seat _ _ c.worker-worker.result _ c.in-Some.spot c.index.result.now c.self.invariant c.deref.ensures.value low c.spot_of.ensures c.in-Some.is (rw c.job.ensures at c.index.ensures)) in
-    rw (← c.self.view_is) (may-return _ c.in-Some.spot c.index.result.now c.args.back.now c.self.invariant at (test-yes c.is_back.result (rw c.index-2.ensures at c.is_back.ensures) c.if-not-is_back.false))
+    let at = rw c.worker-worker.ensures at (spot-seat _ _ c.worker-worker.result _ c.in-Some.spot c.at.result.now c.self.invariant c.deref.ensures.value low c.spot_of.ensures c.in-Some.is (rw c.job.ensures at c.at.ensures)) in
+    rw (← c.self.view_is) (may-return _ c.in-Some.spot c.at.result.now c.args.back.now c.self.invariant at (test-yes c.is_back.result (rw c.index.ensures at c.is_back.ensures) c.if-not-is_back.false))
 
 pub returns-clause-worker : goal.returns-clause-worker
 returns-clause-worker c = omega (arith, c.if-worker-eq0.false, c.worker-worker.ensures)

@@ -3,7 +3,7 @@ use Rattle.mal_hall.proofs.PhaseLemmas.{phase-first}
 use Rattle.mal_hall.proofs.hall.Hall.first_exchange.Goals as goal
 
 pub returns-clause-value : goal.returns-clause-value
-returns-clause-value c = rw (← c.self.view_is) (phase-first _ _ _ c.self.invariant c.deref.ensures.value c.first_exchange.ensures)
+returns-clause-value c = rw (← c.self.view_is) (phase-first _ _ c.self.invariant c.first_exchange.ensures)
 
 pub returns-clause-legal : goal.returns-clause-legal
 returns-clause-legal c = rw (← c.self.view_is) (hall-seated _ c.self.invariant).legal

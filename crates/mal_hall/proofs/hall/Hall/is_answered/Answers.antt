@@ -2,4 +2,4 @@ use Rattle.mal_hall.proofs.ApplyLemmas.{answered-test}
 use Rattle.mal_hall.proofs.hall.Hall.is_answered.Goals as goal
 
 pub returns : goal.returns
-returns c = rw (← c.self.view_is) (answered-test _ _ _ c.self.invariant c.deref.ensures.value c.is_answered.ensures)
+returns c = rw (← c.self.view_is) (answered-test _ _ c.self.invariant c.is_answered.ensures)

@@ -3,10 +3,10 @@ use Rattle.mal_hall.proofs.PhaseLemmas.{phase-calm, phase-due}
 use Rattle.mal_hall.proofs.hall.Hall.is_due.Goals as goal
 
 pub returns-clause-due : goal.returns-clause-due
-returns-clause-due c = λ is. rw (← c.self.view_is) (phase-due _ _ _ c.self.invariant c.deref.ensures.value c.is_due.ensures is)
+returns-clause-due c = λ is. rw (← c.self.view_is) (phase-due _ _ c.self.invariant c.is_due.ensures is)
 
 pub returns-clause-calm : goal.returns-clause-calm
-returns-clause-calm c = λ is. rw (← c.self.view_is) (phase-calm _ _ _ c.self.invariant c.deref.ensures.value c.is_due.ensures is)
+returns-clause-calm c = λ is. rw (← c.self.view_is) (phase-calm _ _ c.self.invariant c.is_due.ensures is)
 
 pub returns-clause-legal : goal.returns-clause-legal
 returns-clause-legal c = rw (← c.self.view_is) (hall-seated _ c.self.invariant).legal

@@ -2,4 +2,4 @@ use Rattle.mal_hall.proofs.PhaseLemmas.{phase-next}
 use Rattle.mal_hall.proofs.hall.Hall.next.Goals as goal
 
 pub returns : goal.returns
-returns c = rw (← c.self.view_is) (phase-next _ _ _ c.self.invariant c.deref.ensures.value c.pick.ensures)
+returns c = rw (← c.self.view_is) (phase-next _ _ c.self.invariant c.pick.ensures)

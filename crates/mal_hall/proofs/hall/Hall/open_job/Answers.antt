@@ -6,76 +6,70 @@ use Rattle.spec_hall.specs.Dressed.{keyed}
 use Rattle.spec_hall.specs.Seats.{Seat}
 use Rattle.mal_hall.specs.HallView.{events_of}
 use Rattle.mal_hall.proofs.HallLemmas.{placed, none-from, hall-absent, hall-some_job, hall-jobs, hall-tenants, hall-open, may-open, called-none, called-one}
+use Rattle.mal_hall.proofs.RoomLemmas.{unclosed-few}
 use Rattle.mal_hall.proofs.hall.Hall.open_job.Goals as goal
+
+pub owed-owed-requires-clause-few : goal.owed-owed-requires-clause-few
+owed-owed-requires-clause-few c = omega (arith, unclosed-few (record { history = c.self.inside.history; seats = c.self.inside.seats; spots = c.self.inside.spots.items; starts = c.self.inside.starts; unclosed = c.self.inside.unclosed; tenants = c.self.inside.tenants }) c.self.invariant)
 
 pub returns-then-is_some-clause-call : goal.returns-then-is_some-clause-call
 returns-then-is_some-clause-call c =
     let found = sym c.is_some.ensures ∙ c.if-is_some.true in
-    rw (← c.self.view_is) (called-none _ _ (Opens (keyed c.args.tenant c.args.job) c.args.ask) (Err Duplicate) (hall-some_job _ _ _ _ c.self.invariant c.deref.ensures.value c.place_of.ensures ∙ found, refl))
+    rw (← c.self.view_is) (called-none _ _ (Opens (keyed c.args.tenant c.args.job) c.args.ask) (Err Duplicate) (hall-some_job _ (keyed c.args.tenant c.args.job) _ c.self.invariant c.place_of.ensures ∙ found, refl))
 
 pub returns-in_err-tenants-clause-call : goal.returns-in_err-tenants-clause-call
 returns-in_err-tenants-clause-call c =
-    let absent = placed _ _ _ _ _ c.deref.ensures.value c.place_of.ensures (none-from _ _ c.is_some.ensures c.if-is_some.false) in
+    let absent = placed c.self.inside.seats (keyed c.args.tenant c.args.job) _ _ c.place_of.ensures (none-from _ _ c.is_some.ensures c.if-is_some.false) in
     let none = hall-absent _ _ c.self.invariant absent in
-    let jobs = hall-jobs _ _ _ _ c.self.invariant c.deref-2.ensures.value c.jobs_of-jobs.ensures in
+    let jobs = hall-jobs _ c.args.tenant _ c.self.invariant c.jobs_of-jobs.ensures in
     let tenants = hall-tenants _ c.self.invariant in
     let p = err_from_is_err_and c.from_residual.result c.from_residual.ensures.1 in
-    let cause = c.in_err-tenants.ensures.refusal (keyed c.args.tenant c.args.job) c.args.ask (events_of c.self.inside.history.events c.self.inside.seats.items) none jobs tenants in
+    let cause = c.in_err-tenants.ensures.refusal (keyed c.args.tenant c.args.job) c.args.ask (events_of c.self.inside.history.events c.self.inside.seats) none jobs tenants in
     rw (p.1, p.2) (rw (← c.self.view_is) (called-none _ _ (Opens (keyed c.args.tenant c.args.job) c.args.ask) (Err c.in_err-tenants.field-0.0) cause))
 
 pub returns-in-Err-clause-call : goal.returns-in-Err-clause-call
 returns-in-Err-clause-call c =
-    let absent = placed _ _ _ _ _ c.deref.ensures.value c.place_of.ensures (none-from _ _ c.is_some.ensures c.if-is_some.false) in
-    let fits = rw (c.jobs_of-jobs.ensures, c.deref-2.ensures.value) at c.in_ok-tenants.ensures in
+    let absent = placed c.self.inside.seats (keyed c.args.tenant c.args.job) _ _ c.place_of.ensures (none-from _ _ c.is_some.ensures c.if-is_some.false) in
+    let fits = rw c.jobs_of-jobs.ensures at c.in_ok-tenants.ensures in
     let may = may-open _ (keyed c.args.tenant c.args.job) c.args.ask c.self.invariant c.are_in_form.ensures.tenant c.are_in_form.ensures.job c.are_in_form.ensures.ask absent fits.few fits.others in
     rw (← c.self.view_is, c.reserve.ensures.events) (called-none _ _ (Opens (keyed c.args.tenant c.args.job) c.args.ask) (Err OutOfMemory) (may, refl))
 
-pub returns-in-Err-reserve-clause-call : goal.returns-in-Err-reserve-clause-call
-returns-in-Err-reserve-clause-call c =
-    let absent = placed _ _ _ _ _ c.deref.ensures.value c.place_of.ensures (none-from _ _ c.is_some.ensures c.if-is_some.false) in
-    let fits = rw (c.jobs_of-jobs.ensures, c.deref-2.ensures.value) at c.in_ok-tenants.ensures in
-    let may = may-open _ (keyed c.args.tenant c.args.job) c.args.ask c.self.invariant c.are_in_form.ensures.tenant c.are_in_form.ensures.job c.are_in_form.ensures.ask absent fits.few fits.others in
-    rw (← c.self.view_is, c.in-Ok.ensures.events, c.reserve-2.ensures.items) (called-none _ _ (Opens (keyed c.args.tenant c.args.job) c.args.ask) (Err OutOfMemory) (may, refl))
+pub open-requires : goal.open-requires
+open-requires c = placed c.self.inside.seats (keyed c.args.tenant c.args.job) _ _ c.place_of.ensures (none-from _ _ c.is_some.ensures c.if-is_some.false)
 
-pub returns-in-Err-fresh-clause-call : goal.returns-in-Err-fresh-clause-call
-returns-in-Err-fresh-clause-call c =
-    let absent = placed _ _ _ _ _ c.deref.ensures.value c.place_of.ensures (none-from _ _ c.is_some.ensures c.if-is_some.false) in
-    let fits = rw (c.jobs_of-jobs.ensures, c.deref-2.ensures.value) at c.in_ok-tenants.ensures in
+pub returns-in-Err-open-clause-call : goal.returns-in-Err-open-clause-call
+returns-in-Err-open-clause-call c =
+    let absent = placed c.self.inside.seats (keyed c.args.tenant c.args.job) _ _ c.place_of.ensures (none-from _ _ c.is_some.ensures c.if-is_some.false) in
+    let fits = rw c.jobs_of-jobs.ensures at c.in_ok-tenants.ensures in
     let may = may-open _ (keyed c.args.tenant c.args.job) c.args.ask c.self.invariant c.are_in_form.ensures.tenant c.are_in_form.ensures.job c.are_in_form.ensures.ask absent fits.few fits.others in
-    rw (← c.self.view_is, c.in-Ok.ensures.events, c.reserve-2.ensures.items) (called-none _ _ (Opens (keyed c.args.tenant c.args.job) c.args.ask) (Err OutOfMemory) (may, refl))
+    rw (← c.self.view_is, c.in-Ok.ensures.events, c.in-Err-open.ensures.err) (called-none _ _ (Opens (keyed c.args.tenant c.args.job) c.args.ask) (Err OutOfMemory) (may, refl))
 
 pub invariant_of-self-2 : goal.invariant_of-self-2
 invariant_of-self-2 c =
-    let absent = placed _ _ _ _ _ c.deref.ensures.value c.place_of.ensures (none-from _ _ c.is_some.ensures c.if-is_some.false) in
-    let fits = rw (c.jobs_of-jobs.ensures, c.deref-2.ensures.value) at c.in_ok-tenants.ensures in
-    let may = may-open (record { history = c.self.inside.history; seats = c.self.inside.seats.items; spots = c.self.inside.spots.items; starts = c.self.inside.starts; unclosed = c.self.inside.unclosed; tenants = c.self.inside.tenants }) (keyed c.args.tenant c.args.job) c.args.ask c.self.invariant c.are_in_form.ensures.tenant c.are_in_form.ensures.job c.are_in_form.ensures.ask absent fits.few fits.others in
+    let absent = placed c.self.inside.seats (keyed c.args.tenant c.args.job) _ _ c.place_of.ensures (none-from _ _ c.is_some.ensures c.if-is_some.false) in
+    let fits = rw c.jobs_of-jobs.ensures at c.in_ok-tenants.ensures in
+    let may = may-open (record { history = c.self.inside.history; seats = c.self.inside.seats; spots = c.self.inside.spots.items; starts = c.self.inside.starts; unclosed = c.self.inside.unclosed; tenants = c.self.inside.tenants }) (keyed c.args.tenant c.args.job) c.args.ask c.self.invariant c.are_in_form.ensures.tenant c.are_in_form.ensures.job c.are_in_form.ensures.ask absent fits.few fits.others in
     let events = rw c.in-Ok.ensures.events at c.push_reserved.ensures.events in
-    let owing = rw c.deref-3.ensures.value at c.owed-owed.ensures.value in
-    let seats = rw (c.in-Ok-reserve.ensures.items, c.in-Ok-fresh.ensures) at c.push_reserved-2.ensures.items in
-    let long : c.len.result ≡ length c.self.inside.seats.items = omega (arith, c.len.ensures, ap (λ (xs : List Seat). length xs) c.in-Ok-reserve.ensures.items) in
-    let now = hall-open (record { history = c.self.inside.history; seats = c.self.inside.seats.items; spots = c.self.inside.spots.items; starts = c.self.inside.starts; unclosed = c.self.inside.unclosed; tenants = c.self.inside.tenants }) (record { history = c.push_reserved.new.self; seats = c.push_reserved-2.new.self.items; spots = c.self.inside.spots.items; starts = c.self.inside.starts; unclosed = c.self.inside.unclosed + 1; tenants = c.in_ok-tenants.tenants }) c.len.result (keyed c.args.tenant c.args.job) c.args.ask c.self.invariant (c.push_reserved.ensures.workers ∙ c.in-Ok.ensures.workers) events seats refl refl long may refl fits.count (omega (arith, owing, c.in-Ok.ensures.room, c.push_reserved.ensures.room)) in
+    let owing = rw c.deref.ensures.value at c.owed-owed.ensures.value in
+    let now = hall-open (record { history = c.self.inside.history; seats = c.self.inside.seats; spots = c.self.inside.spots.items; starts = c.self.inside.starts; unclosed = c.self.inside.unclosed; tenants = c.self.inside.tenants }) (record { history = c.push_reserved.new.self; seats = c.open.new.self; spots = c.self.inside.spots.items; starts = c.self.inside.starts; unclosed = c.self.inside.unclosed + 1; tenants = c.in_ok-tenants.tenants }) (length c.self.inside.seats) (keyed c.args.tenant c.args.job) c.args.ask c.self.invariant (c.push_reserved.ensures.workers ∙ c.in-Ok.ensures.workers) events c.in-Ok-open.ensures.ok refl refl refl may refl fits.count (omega (arith, owing, c.in-Ok.ensures.room, c.push_reserved.ensures.room)) in
     now.hall
 
 pub returns-clause-ok : goal.returns-clause-ok
 returns-clause-ok c =
-    let absent = placed _ _ _ _ _ c.deref.ensures.value c.place_of.ensures (none-from _ _ c.is_some.ensures c.if-is_some.false) in
-    let fits = rw (c.jobs_of-jobs.ensures, c.deref-2.ensures.value) at c.in_ok-tenants.ensures in
-    let may = may-open (record { history = c.self.inside.history; seats = c.self.inside.seats.items; spots = c.self.inside.spots.items; starts = c.self.inside.starts; unclosed = c.self.inside.unclosed; tenants = c.self.inside.tenants }) (keyed c.args.tenant c.args.job) c.args.ask c.self.invariant c.are_in_form.ensures.tenant c.are_in_form.ensures.job c.are_in_form.ensures.ask absent fits.few fits.others in
+    let absent = placed c.self.inside.seats (keyed c.args.tenant c.args.job) _ _ c.place_of.ensures (none-from _ _ c.is_some.ensures c.if-is_some.false) in
+    let fits = rw c.jobs_of-jobs.ensures at c.in_ok-tenants.ensures in
+    let may = may-open (record { history = c.self.inside.history; seats = c.self.inside.seats; spots = c.self.inside.spots.items; starts = c.self.inside.starts; unclosed = c.self.inside.unclosed; tenants = c.self.inside.tenants }) (keyed c.args.tenant c.args.job) c.args.ask c.self.invariant c.are_in_form.ensures.tenant c.are_in_form.ensures.job c.are_in_form.ensures.ask absent fits.few fits.others in
     let events = rw c.in-Ok.ensures.events at c.push_reserved.ensures.events in
-    let owing = rw c.deref-3.ensures.value at c.owed-owed.ensures.value in
-    let seats = rw (c.in-Ok-reserve.ensures.items, c.in-Ok-fresh.ensures) at c.push_reserved-2.ensures.items in
-    let long : c.len.result ≡ length c.self.inside.seats.items = omega (arith, c.len.ensures, ap (λ (xs : List Seat). length xs) c.in-Ok-reserve.ensures.items) in
-    let now = hall-open (record { history = c.self.inside.history; seats = c.self.inside.seats.items; spots = c.self.inside.spots.items; starts = c.self.inside.starts; unclosed = c.self.inside.unclosed; tenants = c.self.inside.tenants }) (record { history = c.push_reserved.new.self; seats = c.push_reserved-2.new.self.items; spots = c.self.inside.spots.items; starts = c.self.inside.starts; unclosed = c.self.inside.unclosed + 1; tenants = c.in_ok-tenants.tenants }) c.len.result (keyed c.args.tenant c.args.job) c.args.ask c.self.invariant (c.push_reserved.ensures.workers ∙ c.in-Ok.ensures.workers) events seats refl refl long may refl fits.count (omega (arith, owing, c.in-Ok.ensures.room, c.push_reserved.ensures.room)) in
+    let owing = rw c.deref.ensures.value at c.owed-owed.ensures.value in
+    let now = hall-open (record { history = c.self.inside.history; seats = c.self.inside.seats; spots = c.self.inside.spots.items; starts = c.self.inside.starts; unclosed = c.self.inside.unclosed; tenants = c.self.inside.tenants }) (record { history = c.push_reserved.new.self; seats = c.open.new.self; spots = c.self.inside.spots.items; starts = c.self.inside.starts; unclosed = c.self.inside.unclosed + 1; tenants = c.in_ok-tenants.tenants }) (length c.self.inside.seats) (keyed c.args.tenant c.args.job) c.args.ask c.self.invariant (c.push_reserved.ensures.workers ∙ c.in-Ok.ensures.workers) events c.in-Ok-open.ensures.ok refl refl refl may refl fits.count (omega (arith, owing, c.in-Ok.ensures.room, c.push_reserved.ensures.room)) in
     rw (← c.self.view_is) now.events
 
 pub returns-clause-call : goal.returns-clause-call
 returns-clause-call c =
-    let absent = placed _ _ _ _ _ c.deref.ensures.value c.place_of.ensures (none-from _ _ c.is_some.ensures c.if-is_some.false) in
-    let fits = rw (c.jobs_of-jobs.ensures, c.deref-2.ensures.value) at c.in_ok-tenants.ensures in
-    let may = may-open (record { history = c.self.inside.history; seats = c.self.inside.seats.items; spots = c.self.inside.spots.items; starts = c.self.inside.starts; unclosed = c.self.inside.unclosed; tenants = c.self.inside.tenants }) (keyed c.args.tenant c.args.job) c.args.ask c.self.invariant c.are_in_form.ensures.tenant c.are_in_form.ensures.job c.are_in_form.ensures.ask absent fits.few fits.others in
+    let absent = placed c.self.inside.seats (keyed c.args.tenant c.args.job) _ _ c.place_of.ensures (none-from _ _ c.is_some.ensures c.if-is_some.false) in
+    let fits = rw c.jobs_of-jobs.ensures at c.in_ok-tenants.ensures in
+    let may = may-open (record { history = c.self.inside.history; seats = c.self.inside.seats; spots = c.self.inside.spots.items; starts = c.self.inside.starts; unclosed = c.self.inside.unclosed; tenants = c.self.inside.tenants }) (keyed c.args.tenant c.args.job) c.args.ask c.self.invariant c.are_in_form.ensures.tenant c.are_in_form.ensures.job c.are_in_form.ensures.ask absent fits.few fits.others in
     let events = rw c.in-Ok.ensures.events at c.push_reserved.ensures.events in
-    let owing = rw c.deref-3.ensures.value at c.owed-owed.ensures.value in
-    let seats = rw (c.in-Ok-reserve.ensures.items, c.in-Ok-fresh.ensures) at c.push_reserved-2.ensures.items in
-    let long : c.len.result ≡ length c.self.inside.seats.items = omega (arith, c.len.ensures, ap (λ (xs : List Seat). length xs) c.in-Ok-reserve.ensures.items) in
-    let now = hall-open (record { history = c.self.inside.history; seats = c.self.inside.seats.items; spots = c.self.inside.spots.items; starts = c.self.inside.starts; unclosed = c.self.inside.unclosed; tenants = c.self.inside.tenants }) (record { history = c.push_reserved.new.self; seats = c.push_reserved-2.new.self.items; spots = c.self.inside.spots.items; starts = c.self.inside.starts; unclosed = c.self.inside.unclosed + 1; tenants = c.in_ok-tenants.tenants }) c.len.result (keyed c.args.tenant c.args.job) c.args.ask c.self.invariant (c.push_reserved.ensures.workers ∙ c.in-Ok.ensures.workers) events seats refl refl long may refl fits.count (omega (arith, owing, c.in-Ok.ensures.room, c.push_reserved.ensures.room)) in
+    let owing = rw c.deref.ensures.value at c.owed-owed.ensures.value in
+    let now = hall-open (record { history = c.self.inside.history; seats = c.self.inside.seats; spots = c.self.inside.spots.items; starts = c.self.inside.starts; unclosed = c.self.inside.unclosed; tenants = c.self.inside.tenants }) (record { history = c.push_reserved.new.self; seats = c.open.new.self; spots = c.self.inside.spots.items; starts = c.self.inside.starts; unclosed = c.self.inside.unclosed + 1; tenants = c.in_ok-tenants.tenants }) (length c.self.inside.seats) (keyed c.args.tenant c.args.job) c.args.ask c.self.invariant (c.push_reserved.ensures.workers ∙ c.in-Ok.ensures.workers) events c.in-Ok-open.ensures.ok refl refl refl may refl fits.count (omega (arith, owing, c.in-Ok.ensures.room, c.push_reserved.ensures.room)) in
     rw (← c.self.view_is) (called-one _ _ _ (Opens (keyed c.args.tenant c.args.job) c.args.ask) _ _ now.events (may, refl))

@@ -22,7 +22,7 @@ asked past k r None t job told = (t, job, sym told, refl)
 
 pub returns-in_default-clause-no_job : goal.returns-in_default-clause-no_job
 returns-in_default-clause-no_job c = λ _.
-    rw (← c.self.view_is) (hall-absent _ _ c.self.invariant (placed _ _ _ _ _ c.deref.ensures.value c.place_of.ensures c.in_default.is))
+    rw (← c.self.view_is) (hall-absent _ _ c.self.invariant (placed c.self.inside.seats (keyed c.args.tenant.now c.args.job.now) _ _ c.place_of.ensures c.in_default.is))
 
 pub returns-in_default-clause-models : goal.returns-in_default-clause-models
 returns-in_default-clause-models c = rw (← c.self.view_is) (hall-solves _ c.self.invariant _)
@@ -33,8 +33,8 @@ returns-in_default-clause-own c = rw (← c.self.view_is) (hall-owns _ c.self.in
 pub returns-in_default-clause-proofs : goal.returns-in_default-clause-proofs
 returns-in_default-clause-proofs c = rw (← c.self.view_is) (hall-refutes _ c.self.invariant _)
 
-pub index-requires : goal.index-requires
-index-requires c = omega (arith, placed-below _ _ _ _ _ c.deref.ensures.value c.place_of.ensures c.in-Some.is)
+pub at-requires : goal.at-requires
+at-requires c = omega (arith, placed-below c.self.inside.seats (keyed c.args.tenant.now c.args.job.now) _ _ c.place_of.ensures c.in-Some.is)
 
 pub returns-in-Ok-clause-models : goal.returns-in-Ok-clause-models
 returns-in-Ok-clause-models c = rw (← c.self.view_is) (hall-solves _ c.self.invariant _)
@@ -56,23 +56,23 @@ returns-in-Err-clause-proofs c = rw (← c.self.view_is) (hall-refutes _ c.self.
 
 pub returns-in-Ok-clause-reply : goal.returns-in-Ok-clause-reply
 returns-in-Ok-clause-reply c =
-    let here = sits _ _ _ _ _ _ c.deref.ensures.value c.place_of.ensures c.in-Some.is c.index.ensures in
+    let here = sits c.self.inside.seats (keyed c.args.tenant.now c.args.job.now) _ _ _ c.place_of.ensures c.in-Some.is c.at.ensures in
     let found = hall-found _ _ _ _ c.self.invariant here in
     let told = rw c.job.ensures at c.in-Ok.ensures in
-    let state = c.index.result.now.job.titled.state in (
-      c.index.result.now.job.titled,
+    let state = c.at.result.now.job.titled.state in (
+      c.at.result.now.job.titled,
       rw (← c.self.view_is) found.job,
       subst (λ (k : Key). MatchOption c.in-Ok.text (reply k c.args.r state ≡ None) (λ text. reply k c.args.r state ≡ Some text.items)) found.key told,
     )
 
 pub returns-in-Err-clause-out_of_memory : goal.returns-in-Err-clause-out_of_memory
 returns-in-Err-clause-out_of_memory c = λ _.
-    let here = sits _ _ _ _ _ _ c.deref.ensures.value c.place_of.ensures c.in-Some.is c.index.ensures in
-    (c.index.result.now.job.titled, rw (← c.self.view_is) (hall-found _ _ _ _ c.self.invariant here).job)
+    let here = sits c.self.inside.seats (keyed c.args.tenant.now c.args.job.now) _ _ _ c.place_of.ensures c.in-Some.is c.at.ensures in
+    (c.at.result.now.job.titled, rw (← c.self.view_is) (hall-found _ _ _ _ c.self.invariant here).job)
 
 pub returns-in-Ok-clause-alone : goal.returns-in-Ok-clause-alone
 returns-in-Ok-clause-alone c = λ other same.
-    let here = sits _ _ _ _ _ _ c.deref.ensures.value c.place_of.ensures c.in-Some.is c.index.ensures in
+    let here = sits c.self.inside.seats (keyed c.args.tenant.now c.args.job.now) _ _ _ c.place_of.ensures c.in-Some.is c.at.ensures in
     let found = hall-found _ _ _ _ c.self.invariant here in
     found-alone _ _ _ (λ (k : Key) (state : SoloMachine). MatchOption c.in-Ok.text (reply k c.args.r state ≡ None) (λ text. reply k c.args.r state ≡ Some text.items)) found (rw c.job.ensures at c.in-Ok.ensures) other (rw (← c.self.view_is) at same)
 
@@ -80,17 +80,17 @@ pub returns-in_default-clause-call : goal.returns-in_default-clause-call
 returns-in_default-clause-call c = record {
   events = [];
   grown = sym (append-nil _);
-  call = (rw (← c.self.view_is) (hall-absent _ _ c.self.invariant (placed _ _ _ _ _ c.deref.ensures.value c.place_of.ensures c.in_default.is)), refl);
+  call = (rw (← c.self.view_is) (hall-absent _ _ c.self.invariant (placed c.self.inside.seats (keyed c.args.tenant.now c.args.job.now) _ _ c.place_of.ensures c.in_default.is)), refl);
 }
 
 pub returns-in-Ok-clause-call : goal.returns-in-Ok-clause-call
 returns-in-Ok-clause-call c =
-    let here = sits _ _ _ _ _ _ c.deref.ensures.value c.place_of.ensures c.in-Some.is c.index.ensures in
+    let here = sits c.self.inside.seats (keyed c.args.tenant.now c.args.job.now) _ _ _ c.place_of.ensures c.in-Some.is c.at.ensures in
     let found = hall-found _ _ _ _ c.self.invariant here in
     let told = rw c.job.ensures at c.in-Ok.ensures in
     let past = c.args.self.now.events in
     let key = keyed c.args.tenant.now c.args.job.now in
-    let titled = c.index.result.now.job.titled in
+    let titled = c.at.result.now.job.titled in
     let job : job_of key (states past) ≡ Some titled = rw (← c.self.view_is) found.job in
     let replies : MatchOption c.in-Ok.text (reply key c.args.r titled.state ≡ None) (λ text. reply key c.args.r titled.state ≡ Some text.items) =
     subst (λ (k : Key). MatchOption c.in-Ok.text (reply k c.args.r titled.state ≡ None) (λ text. reply k c.args.r titled.state ≡ Some text.items)) found.key told in
@@ -98,8 +98,8 @@ returns-in-Ok-clause-call c =
 
 pub returns-in-Err-clause-call : goal.returns-in-Err-clause-call
 returns-in-Err-clause-call c =
-    let here = sits _ _ _ _ _ _ c.deref.ensures.value c.place_of.ensures c.in-Some.is c.index.ensures in record {
+    let here = sits c.self.inside.seats (keyed c.args.tenant.now c.args.job.now) _ _ _ c.place_of.ensures c.in-Some.is c.at.ensures in record {
       events = [];
       grown = sym (append-nil _);
-      call = (c.index.result.now.job.titled, rw (← c.self.view_is) (hall-found _ _ _ _ c.self.invariant here).job, refl);
+      call = (c.at.result.now.job.titled, rw (← c.self.view_is) (hall-found _ _ _ _ c.self.invariant here).job, refl);
     }

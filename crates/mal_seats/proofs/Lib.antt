@@ -1,0 +1,5 @@
+-- what this crate alone cites
+mod ScanLemmas
+mod CountLemmas
+mod FilledLemmas
+mod ChangedLemmas

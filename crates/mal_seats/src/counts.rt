@@ -1,0 +1,51 @@
+//! What is counted of the jobs of a hall.
+
+ghost use Rattle.std.specs.Prelude.{◌≡◌, ◌+◌, ◌<◌, ◌≤◌, ◌^◌};
+ghost use Rattle.mal_seats.specs.Counted.{one};
+
+/// Whether a job was changed so that a balancing is due, and whether it is not closed or not answered.
+#[derive(Clone, Copy)]
+pub struct Marks {
+    pub changed: bool,
+    pub unfinished: bool,
+}
+
+/// How many jobs have each mark.
+#[derive(Clone, Copy)]
+pub struct Counts {
+    pub changed: usize,
+    pub unfinished: usize,
+}
+
+impl Counts {
+    /// Counts a job anew that had the first marks and now has the others.
+    pub fn change(&mut self, before: Marks, after: Marks)
+        requires changed { one before.changed ≤ self.old.changed }
+        requires unfinished { one before.unfinished ≤ self.old.unfinished }
+        requires changed_room { self.old.changed < 2 ^ 63 }
+        requires unfinished_room { self.old.unfinished < 2 ^ 63 }
+        ensures changed { self.new.changed + one before.changed ≡ self.old.changed + one after.changed }
+        ensures unfinished { self.new.unfinished + one before.unfinished ≡ self.old.unfinished + one after.unfinished }
+    {
+        self.changed = recounted(self.changed, before.changed, after.changed);
+        self.unfinished = recounted(self.unfinished, before.unfinished, after.unfinished);
+    }
+}
+
+/// A count of jobs after one of them was counted or not, and now is or not.
+fn recounted(count: usize, before: bool, after: bool) -> usize
+    requires counted { one before ≤ count }
+    requires room { count < 2 ^ 63 }
+    ensures { result + one before ≡ count + one after }
+{
+    if before {
+        if after {
+            return count;
+        }
+        return count - 1;
+    }
+    if after {
+        return count + 1;
+    }
+    count
+}

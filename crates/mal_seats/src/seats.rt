@@ -1,0 +1,272 @@
+//! The seats of a hall, with what saves going over all of them.
+
+ghost use Rattle.std.specs.Prelude.{◌≡◌, ℕ, ◌+◌, ◌<◌, ◌≤◌, ◌^◌, [], ◌∷◌, ◌++◌, true, not, length, slice_index_or, None, IfOk, OnOk, OnErr};
+ghost use Rattle.std.specs.List.{list_all};
+ghost use Rattle.mal_job.specs.Finishing.{outcome_of, MayFinish};
+ghost use Rattle.mal_seats.specs.Changed.{OfSeat, IsChanged};
+ghost use Rattle.spec_balance.specs.Fair.{IsFair, volume_at};
+ghost use Rattle.spec_job.specs.SoloMachine.{Revised, Closed, Finished, Exchanged, startable, clauses_in};
+ghost use Rattle.spec_job.specs.Viewed.{and_own, and_start, IsLeaseOf};
+ghost use Rattle.spec_hall.specs.Dressed.{keyed};
+ghost use Rattle.spec_hall.specs.Driven as driven;
+ghost use Rattle.spec_hall.specs.Legal as legal;
+ghost use Rattle.spec_hall.specs.Seats as spec;
+ghost use Rattle.spec_hall.specs.States.{live_asks};
+
+use crate::counts::Counts;
+use crate::filled::first_among;
+use crate::names::{jobs_of, place_of};
+use crate::scheduler::{Candidate, pick_among};
+use crate::seat::Seat;
+use crate::volumes::{balance, filled_by, shares, volumes};
+use mal_base::{Ask, Name};
+use mal_history::Shares;
+use mal_revision::Revision;
+use mal_suspend::{Done, Lease};
+use std::alloc::{AllocError, Global};
+use std::marker::Model;
+
+/// The jobs of a hall in their seats, by opening. The type keeps beside them how many were changed so that a balancing is
+/// due, how many are not closed or not answered, and the places of those that have a volume: what is due and which node
+/// starts next is found without going over all jobs. Contracts see the seats.
+#[derive(Drop)]
+pub struct Seats {
+    seats: Vec<Seat>,
+    counts: Counts,
+    filled: Vec<usize>,
+}
+
+impl Model for Seats {
+    ghost use Rattle.std.specs.Prelude.{List};
+    ghost use Rattle.spec_hall.specs.Seats.{Seat};
+    ghost use Rattle.mal_seats.specs.Counted.{AreCounted};
+
+    ghost Value = { List Seat };
+
+    ghost view = { λ s. s.seats.items };
+
+    ghost invariant = { λ s. AreCounted s.seats.items s.counts.changed s.counts.unfinished s.filled.items };
+}
+
+impl Seats {
+    /// Seats without a job.
+    pub fn new(alloc: Global) -> Seats
+        ensures { result ≡ [] }
+    {
+        Seats {
+            seats: Vec::new(alloc),
+            counts: Counts {
+                changed: 0,
+                unfinished: 0,
+            },
+            filled: Vec::new(alloc),
+        }
+    }
+
+    /// How many jobs there are.
+    pub fn len(&self) -> usize
+        ensures len { result ≡ length self.now }
+        ensures few { result < 2 ^ 63 }
+    {
+        self.seats.len()
+    }
+
+    /// The seat at a place.
+    pub fn at(&self, place: usize) -> &Seat
+        requires { place < length self.now }
+        ensures { result.now ≡ slice_index_or self.now place result.now }
+    {
+        &self.seats[place]
+    }
+
+    /// The place of the job with this key.
+    pub fn place_of(&self, tenant: Name, job: Name) -> Option<usize>
+        ensures { result ≡ spec.place_of (keyed tenant job) self.now }
+    {
+        place_of(&self.seats, tenant, job)
+    }
+
+    /// How many jobs a tenant has.
+    pub fn jobs_of(&self, tenant: Name) -> usize
+        ensures { result ≡ legal.jobs_of tenant (spec.jobs_in self.now) }
+    {
+        jobs_of(&self.seats, tenant)
+    }
+
+    /// Whether a balancing is due.
+    pub fn is_due(&self) -> bool
+        ensures { result ≡ spec.is_due self.now }
+    {
+        self.counts.changed > 0
+    }
+
+    /// Whether every job is closed and answered.
+    pub fn is_done(&self) -> bool
+        ensures { result ≡ driven.is_done (spec.jobs_in self.now) }
+    {
+        self.counts.unfinished == 0
+    }
+
+    /// Whether no job is live.
+    pub fn is_answered(&self) -> bool
+        ensures { result ≡ list_all (λ s. not (spec.is_live_seat s)) self.now }
+    {
+        self.seats.iter().all(|seat| !seat.is_live())
+    }
+
+    /// The place of the first job of which an exchange is due.
+    pub fn first_exchange(&self) -> Option<usize>
+        ensures { result ≡ spec.first_exchange self.now }
+    {
+        first_among(&self.seats, &self.filled)
+    }
+
+    /// The node that starts next: that with the fewest starts, then by its job's opening, then by index.
+    pub fn pick(&self) -> Option<Candidate>
+        ensures { result ≡ spec.pick self.now }
+    {
+        pick_among(&self.seats, &self.filled)
+    }
+
+    /// Fair volumes of the live jobs for 1 to 64 workers, by opening.
+    pub fn volumes(&self, workers: u32) -> Result<Vec<u32>, AllocError>
+        requires some { 1 ≤ workers }
+        requires bound { workers ≤ 64 }
+        ensures fair { IfOk result (λ v. IsFair workers (live_asks (spec.jobs_in self.now)) v.items) }
+    {
+        volumes(*self.seats.allocator(), &self.seats, workers)
+    }
+
+    /// What a balancing notes of the live jobs that gives them these volumes, by opening.
+    pub fn shares(&self, volumes: &[u32]) -> Result<Shares, AllocError>
+        ensures { IfOk result (λ v. v ≡ spec.shares_by volumes.now self.now) }
+    {
+        shares(*self.seats.allocator(), &self.seats, volumes)
+    }
+
+    /// Gives the live jobs these volumes, by opening, and all others none. After want of memory the seats are as before.
+    pub fn balance(&mut self, volumes: &[u32]) -> Result<(), AllocError>
+        requires { (n : ℕ) → volume_at volumes.now n ≤ 64 }
+        ensures ok { OnOk result (self.new ≡ spec.balanced_by volumes.now self.old) }
+        ensures err { OnErr result (self.new ≡ self.old) }
+    {
+        let filled = match filled_by(*self.seats.allocator(), &self.seats, volumes) {
+            Ok(filled) => filled,
+            Err(_) => return Err(AllocError),
+        };
+        balance(&mut self.seats, volumes);
+        self.counts.changed = 0;
+        self.filled = filled;
+        Ok(())
+    }
+
+    /// Opens a job with a key that no other has. After want of memory the seats are as before.
+    pub fn open(&mut self, tenant: Name, job: Name, ask: Ask) -> Result<(), AllocError>
+        requires { spec.place_of (keyed tenant job) self.old ≡ None }
+        ensures ok { OnOk result (self.new ≡ self.old ++ spec.opened_seat (length self.old) (keyed tenant job) ask ∷ []) }
+        ensures err { OnErr result (self.new ≡ self.old) }
+    {
+        let alloc = *self.seats.allocator();
+        let number = self.seats.len() as u64;
+        match self.seats.reserve(1) {
+            Ok(()) => {}
+            Err(_) => return Err(AllocError),
+        }
+        let seat = match Seat::fresh(alloc, number, tenant, job, ask) {
+            Ok(seat) => seat,
+            Err(_) => return Err(AllocError),
+        };
+        self.seats.push_reserved(seat);
+        self.counts.unfinished += 1;
+        Ok(())
+    }
+
+    /// Posts the next revision of the job at a place. After want of memory the seats are as before.
+    pub fn revise(&mut self, at: usize, revision: Revision) -> Result<(), AllocError>
+        requires place { at < length self.old }
+        requires few { OfSeat self.old at (λ s. length s.job.titled.state.revisions < 256) }
+        requires clauses { OfSeat self.old at (λ s. clauses_in s.job.titled.state.revisions + length revision.clauses ≤ 1048576) }
+        ensures ok { OnOk result (IsChanged (λ s. record s { job = and_own s.job (Revised revision) }) at self.old self.new) }
+        ensures err { OnErr result (self.new ≡ self.old) }
+    {
+        let seat = &mut self.seats[at];
+        let before = seat.marks();
+        match seat.revise(revision) {
+            Ok(()) => {}
+            Err(_) => return Err(AllocError),
+        }
+        let after = seat.marks();
+        self.counts.change(before, after);
+        Ok(())
+    }
+
+    /// Closes the job at a place. Takes no memory.
+    pub fn close(&mut self, at: usize)
+        requires { at < length self.old }
+        ensures { IsChanged (λ s. record s { job = and_own s.job Closed }) at self.old self.new }
+    {
+        let seat = &mut self.seats[at];
+        let before = seat.marks();
+        seat.close();
+        let after = seat.marks();
+        self.counts.change(before, after);
+    }
+
+    /// Starts a node of the job at a place, as the start of this number: hands it out to a worker. After want of memory the
+    /// seats are as before.
+    pub fn start(
+        &mut self,
+        at: usize,
+        index: u32,
+        worker: u32,
+        start: u64,
+    ) -> Result<Lease, AllocError>
+        requires place { at < length self.old }
+        requires startable { OfSeat self.old at (λ s. startable s.job.titled.state index ≡ true) }
+        ensures ok { OnOk result (IsChanged (λ s. record s { job = and_start s.job index start }) at self.old self.new) }
+        ensures lease { IfOk result (λ l. OfSeat self.old at (λ s. IsLeaseOf s.job index start worker l)) }
+        ensures err { OnErr result (self.new ≡ self.old) }
+    {
+        let seat = &mut self.seats[at];
+        let before = seat.marks();
+        let lease = match seat.start(index, worker, start) {
+            Ok(lease) => lease,
+            Err(_) => return Err(AllocError),
+        };
+        let after = seat.marks();
+        self.counts.change(before, after);
+        Ok(lease)
+    }
+
+    /// Ends the start of the job at a place that is out at this index (0 to 63): it is lost where nothing came back. Takes no
+    /// memory.
+    pub fn finish(&mut self, at: usize, index: u32, back: Option<Done>)
+        requires place { at < length self.old }
+        requires index { index ≤ 63 }
+        requires back { OfSeat self.old at (λ s. MayFinish s.job index back) }
+        ensures { IsChanged (λ s. record s { job = and_own s.job (Finished index (outcome_of back)) }) at self.old self.new }
+    {
+        let seat = &mut self.seats[at];
+        let before = seat.marks();
+        seat.finish(index, back);
+        let after = seat.marks();
+        self.counts.change(before, after);
+    }
+
+    /// Lets the nodes of the job at a place tell one another what they derived. After want of memory the seats are as before.
+    pub fn exchange(&mut self, at: usize) -> Result<(), AllocError>
+        requires { at < length self.old }
+        ensures ok { OnOk result (IsChanged (λ s. record s { job = and_own s.job Exchanged }) at self.old self.new) }
+        ensures err { OnErr result (self.new ≡ self.old) }
+    {
+        let seat = &mut self.seats[at];
+        let before = seat.marks();
+        match seat.exchange() {
+            Ok(()) => {}
+            Err(_) => return Err(AllocError),
+        }
+        let after = seat.marks();
+        self.counts.change(before, after);
+        Ok(())
+    }
+}
