@@ -1,7 +1,7 @@
 //! What a node did, with slices in a row counted.
 
-ghost use Rattle.std.specs.Prelude.{◌≡◌, ◌↔◌, [], ◌∷◌, ◌++◌, map, IsTrue, IfOk, OnOk, OnErr};
-ghost use Rattle.spec_job.specs.Journal.{JournalEntry, Run, loads_in, imports_in};
+ghost use Rattle.std.specs.Prelude.{◌≡◌, ◌↔◌, [], ◌∷◌, ◌++◌, map, IsTrue, IfOk, OnOk};
+ghost use Rattle.spec_job.specs.Journal.{Run, loads_in, imports_in};
 ghost use Rattle.mal_suspend.specs.Entries.{entry_of, slices_of, counted_of, entries_of};
 ghost use Rattle.mal_suspend.specs.Replaying.{variables_after};
 
