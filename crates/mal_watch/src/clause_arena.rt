@@ -111,6 +111,7 @@ impl ClauseArena {
         ensures clauses { self.new.clauses ≡ forgetting ids.now self.old.clauses }
         ensures clause_room { self.old.clause_room ≤ self.new.clause_room }
         ensures literal_room { self.old.literal_room ≤ self.new.literal_room }
+        ensures won_clauses { length self.old.clauses + self.old.clause_room ≤ length self.new.clauses + self.new.clause_room }
         ensures won { listed_count self.old.clauses + self.old.literal_room ≤ listed_count self.new.clauses + self.new.literal_room }
     {
         take_away(&mut self.rows, ids);

@@ -157,6 +157,7 @@ impl WatchLists {
         ensures out { self.new.out ≡ [] }
         ensures lists { self.new.lists ≡ self.old.lists }
         ensures room { self.old.room ≤ self.new.room }
+        ensures won { length self.old.keys + self.old.room ≤ length self.new.keys + self.new.room }
     {
         keep_pairs(&mut self.nodes, rows, ids);
         self.heads.fill(Link::none());
