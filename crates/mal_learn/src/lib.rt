@@ -12,6 +12,3 @@ mod work;
 pub use dropping::choose_longer_half;
 pub use profile::analyse_in;
 pub use scratch::{Scratch, analyse, final_core, shorten};
-
-#[cfg(test)]
-mod tests;

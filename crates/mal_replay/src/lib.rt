@@ -3,8 +3,6 @@
 
 mod contents;
 mod replaying;
-#[cfg(test)]
-mod tests;
 
 pub use mal_base::ReplayFault;
 pub use replaying::replay;
