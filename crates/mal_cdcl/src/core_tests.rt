@@ -69,20 +69,6 @@ fn compare(
 }
 
 #[test]
-fn the_second_of_two_assumptions_fails(rt: HostRuntime) -> Result<(), Fail> {
-    let clauses = vec![in rt.alloc(); clause(rt.alloc(), &[-1, -2])?]?;
-    let node = run_under(&rt, rt.alloc(), 2, clauses, &[1, 2])?;
-    compare(&rt, rt.alloc(), node, &[-1, -2], 1)
-}
-
-#[test]
-fn an_assumption_fails_at_level_0(rt: HostRuntime) -> Result<(), Fail> {
-    let clauses = vec![in rt.alloc(); clause(rt.alloc(), &[-1])?]?;
-    let node = run_under(&rt, rt.alloc(), 1, clauses, &[1])?;
-    compare(&rt, rt.alloc(), node, &[-1], 1)
-}
-
-#[test]
 fn an_assumption_without_a_part_is_not_in_the_core(rt: HostRuntime) -> Result<(), Fail> {
     let one = clause(rt.alloc(), &[-1, 3])?;
     let other = clause(rt.alloc(), &[-3, 4])?;

@@ -123,14 +123,6 @@ fn search(
 }
 
 /// What becomes of node 0 that has loaded the clause of the literals 1 and 2 and imports the clause of these under the
-/// number 4294967363.
-fn search_with_one(rt: &impl Abort, alloc: Global, numbers: &[i32]) -> Result<Course, Fail> {
-    let clauses = vec![in alloc; clause(alloc, &[1, 2])?]?;
-    let one = told(alloc, 1, 3, numbers)?;
-    search(rt, alloc, clauses, &[&one])
-}
-
-/// What becomes of node 0 that has loaded the clause of the literals 1 and 2 and imports the clause of these under the
 /// number 4294967363 and then under 4294967298.
 fn search_with_two(rt: &impl Abort, alloc: Global, numbers: &[i32]) -> Result<Course, Fail> {
     let clauses = vec![in alloc; clause(alloc, &[1, 2])?]?;
@@ -168,35 +160,6 @@ fn compare_line(rt: &impl Abort, alloc: Global, lines: &Lines) -> Result<(), Fai
     assert_eq!(rt; lines.lits(0), literals(alloc, &[1])?.as_slice());
     let hints = [ClauseId::original(1), ClauseId::derived(1, 3)];
     assert_eq!(rt; lines.hints(0), hints.as_slice());
-    Ok(())
-}
-
-#[test]
-fn the_next_clause_is_numbered_above_an_imported_one(rt: HostRuntime) -> Result<(), Fail> {
-    let alloc = rt.alloc();
-    let course = search_with_one(&rt, alloc, &[1, -2])?;
-    let held: [(u64, &[i32]); 2] = [(1, &[1, 2]), (4_294_967_363, &[1, -2])];
-    compare_held(&rt, alloc, &course.before, 2, &held)?;
-    compare_line(&rt, alloc, &course.lines)?;
-    let held: [(u64, &[i32]); 3] = [
-        (1, &[1, 2]),
-        (4_294_967_363, &[1, -2]),
-        (4_294_967_424, &[1]),
-    ];
-    compare_held(&rt, alloc, &course.after, 3, &held)?;
-    assert_eq!(rt; course.after.parts().verdict, Some(Verdict::Satisfiable));
-    Ok(())
-}
-
-#[test]
-fn a_clause_that_is_held_is_not_taken(rt: HostRuntime) -> Result<(), Fail> {
-    let alloc = rt.alloc();
-    let course = search_with_one(&rt, alloc, &[2, 1])?;
-    let held: [(u64, &[i32]); 1] = [(1, &[1, 2])];
-    compare_held(&rt, alloc, &course.before, 0, &held)?;
-    assert_eq!(rt; course.lines.count(), 0);
-    compare_held(&rt, alloc, &course.after, 0, &held)?;
-    assert_eq!(rt; course.after.parts().verdict, Some(Verdict::Satisfiable));
     Ok(())
 }
 

@@ -170,39 +170,10 @@ fn compare(
 }
 
 #[test]
-fn one_of_two_variables_is_true(rt: HostRuntime) -> Result<(), Fail> {
-    let solved = solve(&rt, rt.alloc(), 0, 2, pairs(rt.alloc(), &[(1, 2)])?)?;
-    assert_eq!(rt; solved.verdict, Some(Verdict::Satisfiable));
-    assert_eq!(rt; solved.first, Some(false));
-    assert_eq!(rt; solved.model.as_slice(), [false, true].as_slice());
-    assert_eq!(rt; solved.lines.count(), 0);
-    Ok(())
-}
-
-#[test]
 fn an_odd_node_begins_with_true(rt: HostRuntime) -> Result<(), Fail> {
     let solved = solve(&rt, rt.alloc(), 1, 2, pairs(rt.alloc(), &[(1, 2)])?)?;
     assert_eq!(rt; solved.verdict, Some(Verdict::Satisfiable));
     assert_eq!(rt; solved.first, Some(true));
-    assert_eq!(rt; solved.model.as_slice(), [true, true].as_slice());
-    Ok(())
-}
-
-#[test]
-fn a_unit_clause_is_learned(rt: HostRuntime) -> Result<(), Fail> {
-    let clauses = pairs(rt.alloc(), &[(1, 2), (1, -2), (-1, 2)])?;
-    let solved = solve(&rt, rt.alloc(), 0, 2, clauses)?;
-    assert_eq!(rt; solved.lines.count(), 1);
-    let hints = [ClauseId::original(1), ClauseId::original(2)];
-    compare(
-        &rt,
-        &solved.lines,
-        0,
-        4_294_967_296,
-        &[Var::of(1).literal(true)],
-        &hints,
-    );
-    assert_eq!(rt; solved.verdict, Some(Verdict::Satisfiable));
     assert_eq!(rt; solved.model.as_slice(), [true, true].as_slice());
     Ok(())
 }
@@ -261,54 +232,6 @@ fn the_second_profile_learns_its_shorter_form(rt: HostRuntime) -> Result<(), Fai
         ClauseId::original(3),
     ];
     compare(&rt, &solved.lines, 0, 4_294_967_296, &lits, &hints);
-    Ok(())
-}
-
-#[test]
-fn node_3_numbers_its_clauses(rt: HostRuntime) -> Result<(), Fail> {
-    let clauses = pairs(rt.alloc(), &[(1, 2), (1, -2), (-1, 2), (-1, -2)])?;
-    let solved = solve(&rt, rt.alloc(), 3, 2, clauses)?;
-    assert_eq!(rt; solved.lines.count(), 2);
-    assert_eq!(rt; solved.lines.id(0).number(), 4_294_967_299);
-    assert_eq!(rt; solved.lines.id(1).number(), 4_294_967_363);
-    Ok(())
-}
-
-#[test]
-fn a_slice_decides_at_most_499_variables(rt: HostRuntime) -> Result<(), Fail> {
-    let solved = solve(&rt, rt.alloc(), 0, 499, Vec::new(rt.alloc()))?;
-    assert_eq!(rt; solved.verdict, Some(Verdict::Satisfiable));
-    let solved = solve(&rt, rt.alloc(), 0, 500, Vec::new(rt.alloc()))?;
-    assert_eq!(rt; solved.verdict, None);
-    Ok(())
-}
-
-/// The verdicts of a node of this index with these clauses after its first slice and after one more, and how many lines
-/// that derives.
-fn search_twice(
-    rt: &impl Abort,
-    alloc: Global,
-    index: u32,
-    variables: u32,
-    clauses: Vec<Option<Clause>>,
-) -> Result<(Option<Verdict>, Option<Verdict>, usize), Fail>
-    requires { index ≤ 63 }
-{
-    let mut scratch = Scratch::new(alloc);
-    let (mut node, _) = searched(rt, alloc, index, 1, variables, clauses, &mut scratch)?;
-    let verdict = node.verdict();
-    let lines = run_again(&mut node, &mut scratch)?;
-    Ok((verdict, node.verdict(), lines.count()))
-}
-
-#[test]
-fn a_refuted_node_stays(rt: HostRuntime) -> Result<(), Fail> {
-    let clauses = pairs(rt.alloc(), &[(1, 1), (-1, -1)])?;
-    let (first, second, lines) = search_twice(&rt, rt.alloc(), 0, 1, clauses)?;
-    let goal = ClauseId::derived(0, 0);
-    assert_eq!(rt; first, Some(Verdict::Unsatisfiable { goal }));
-    assert_eq!(rt; second, first);
-    assert_eq!(rt; lines, 0);
     Ok(())
 }
 
@@ -373,16 +296,6 @@ fn return_and_go_on(
     let verdict = again.verdict();
     let _ = run_again(&mut again, &mut scratch)?;
     Ok((verdict, again.verdict(), image.parts().conflict))
-}
-
-#[test]
-fn a_node_in_mid_search_comes_back_and_goes_on(rt: HostRuntime) -> Result<(), Fail> {
-    let clauses = pairs(rt.alloc(), &[(1, 2), (3, 4)])?;
-    let (before, after, conflict) = return_and_go_on(&rt, rt.alloc(), 0, 503, clauses)?;
-    assert_eq!(rt; before, None);
-    assert_eq!(rt; after, Some(Verdict::Satisfiable));
-    assert_eq!(rt; conflict, None);
-    Ok(())
 }
 
 #[test]

@@ -75,26 +75,6 @@ fn again(alloc: Global, bytes: &[u8]) -> Result<Vec<u8>, Fail> {
 }
 
 #[test]
-fn a_fresh_node_is_65_bytes(rt: HostRuntime) -> Result<(), Fail> {
-    let bytes = fresh_bytes(rt.alloc())?;
-    let mut expected = Vec::from_slice(rt.alloc(), b"MALNODE1")?;
-    expected.resize(65, 0)?;
-    let expected = changed(rt.alloc(), expected.as_slice(), 31, 1)?;
-    assert_eq!(rt; bytes.as_slice(), expected.as_slice());
-    Ok(())
-}
-
-#[test]
-fn a_fresh_node_of_profile_2_is_69_bytes(rt: HostRuntime) -> Result<(), Fail> {
-    let bytes = bytes_of(rt.alloc(), fresh_parts(rt.alloc(), 2))?;
-    let mut expected = Vec::from_slice(rt.alloc(), b"MALNODE2")?;
-    expected.resize(69, 0)?;
-    let expected = changed(rt.alloc(), expected.as_slice(), 31, 1)?;
-    assert_eq!(rt; bytes.as_slice(), expected.as_slice());
-    Ok(())
-}
-
-#[test]
 fn conflicts_since_the_last_dropping_come_back(rt: HostRuntime) -> Result<(), Fail> {
     let bytes = bytes_of(rt.alloc(), fresh_parts(rt.alloc(), 2))?;
     let counted = changed(rt.alloc(), bytes.as_slice(), 34, 7)?;
@@ -120,14 +100,6 @@ fn a_node_of_profile_1_counts_for_no_dropping(rt: HostRuntime) -> Result<(), Fai
 fn there_is_no_third_profile(rt: HostRuntime) -> Result<(), Fail> {
     let image = Image::new(rt.alloc(), fresh_parts(rt.alloc(), 3))?;
     assert!(rt; image.is_none());
-    Ok(())
-}
-
-#[test]
-fn a_fresh_node_comes_back_from_its_bytes(rt: HostRuntime) -> Result<(), Fail> {
-    let bytes = fresh_bytes(rt.alloc())?;
-    let image = thaw(rt.alloc(), bytes.as_slice()).ok().ok_or("no image")?;
-    assert_eq!(rt; image.parts().restart_number, 1);
     Ok(())
 }
 

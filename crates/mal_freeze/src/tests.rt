@@ -44,38 +44,3 @@ fn parts_in_form_make_an_image(rt: HostRuntime) -> Result<(), Fail> {
     assert_eq!(rt; trail.processed(), 2);
     Ok(())
 }
-
-/// Whether these parts make no image.
-fn are_refused(alloc: Global, parts: Parts) -> Result<bool, Fail> {
-    Ok(Image::new(alloc, parts)?.is_none())
-}
-
-#[test]
-fn a_batch_beyond_the_trail_makes_none(rt: HostRuntime) -> Result<(), Fail> {
-    let mut other = parts(rt.alloc())?;
-    other.processed = 3;
-    assert!(rt; are_refused(rt.alloc(), other)?);
-    Ok(())
-}
-
-#[test]
-fn a_variable_twice_in_the_order_makes_none(rt: HostRuntime) -> Result<(), Fail> {
-    let mut other = parts(rt.alloc())?;
-    other.order = vec![in rt.alloc(); Var::of(1), Var::of(1)]?;
-    assert!(rt; are_refused(rt.alloc(), other)?);
-    Ok(())
-}
-
-#[test]
-fn a_trail_of_other_variables_makes_none(rt: HostRuntime) -> Result<(), Fail> {
-    let mut other = parts(rt.alloc())?;
-    other.trail = vec![in rt.alloc();
-        TrailEntry {
-            lit: Var::of(3).literal(true),
-            reason: None,
-            level: 1,
-        },
-    ]?;
-    assert!(rt; are_refused(rt.alloc(), other)?);
-    Ok(())
-}
