@@ -3,11 +3,6 @@ use mal_base::Name;
 use std::alloc::Global;
 use std::test::Fail;
 
-/// The fault of a text.
-fn fault_of(alloc: Global, text: &[u8]) -> Option<HistoryFault> {
-    read(alloc, text).err()
-}
-
 #[test]
 fn a_history_is_read_and_written_again(rt: HostRuntime) -> Result<(), Fail> {
     let alloc = rt.alloc();
@@ -29,21 +24,6 @@ fn a_history_is_read_and_written_again(rt: HostRuntime) -> Result<(), Fail> {
 }
 
 #[test]
-fn an_opening_says_profile_2(rt: HostRuntime) -> Result<(), Fail> {
-    let alloc = rt.alloc();
-    match read(alloc, b"h mal 1 1\no a p 1 1 4 02\no a q 1 1 4\n") {
-        Err(_) => Err("no history".into()),
-        Ok(history) => {
-            assert_eq!(rt;
-                write(alloc, &history)?.as_slice(),
-                b"h mal 1 1\no a p 1 1 4 2\no a q 1 1 4\n".as_slice()
-            );
-            Ok(())
-        }
-    }
-}
-
-#[test]
 fn balancings_that_share_volumes_are_read(rt: HostRuntime) -> Result<(), Fail> {
     let alloc = rt.alloc();
     let text =
@@ -55,40 +35,6 @@ fn balancings_that_share_volumes_are_read(rt: HostRuntime) -> Result<(), Fail> {
             Ok(())
         }
     }
-}
-
-#[test]
-fn first_faults_are_told_with_their_lines(rt: HostRuntime) -> Result<(), Fail> {
-    let alloc = rt.alloc();
-    let cases: [(&[u8], HistoryFault); 8] = [
-        (b"", HistoryFault::BadLine { line: 1 }),
-        (b"h mal 1 0\n", HistoryFault::BadNumber { line: 1 }),
-        (b"h mal 9 1\n", HistoryFault::BadLine { line: 1 }),
-        (
-            b"h mal 1 1\nf a p 0 1 done\n",
-            HistoryFault::BadLine { line: 2 },
-        ),
-        (
-            b"h mal 1 1\no a p 1 1 4 1\n",
-            HistoryFault::BadNumber { line: 2 },
-        ),
-        (
-            b"h mal 1 1\no a p 1 1 4 x\n",
-            HistoryFault::BadLine { line: 2 },
-        ),
-        (
-            b"h mal 1 1\n\ns a p 0 2\n",
-            HistoryFault::BadNumber { line: 3 },
-        ),
-        (
-            b"h mal 1 1\nb a p 65 a Q 1\n",
-            HistoryFault::BadLine { line: 2 },
-        ),
-    ];
-    for (text, fault) in cases {
-        assert_eq!(rt; fault_of(alloc, text), Some(fault));
-    }
-    Ok(())
 }
 
 #[test]

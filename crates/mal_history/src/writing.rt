@@ -256,48 +256,6 @@ mod tests {
     use std::test::Fail;
 
     #[test]
-    fn a_job_is_written_from_open_to_finish(rt: HostRuntime) -> Result<(), Fail> {
-        let tenant = Name::of(rt.alloc(), b"a")?.ok_or("no name")?;
-        let job = Name::of(rt.alloc(), b"p")?.ok_or("no name")?;
-        let ask = Ask::of(1, 1, 4).ok_or("no ask")?;
-        let mut shares = Shares::new(rt.alloc());
-        shares.push(Share {
-            tenant,
-            job,
-            volume: 1,
-        })?;
-        let mut history = History::new(rt.alloc(), 1);
-        history.reserve(6)?;
-        history.push_reserved(Event::Open { tenant, job, ask });
-        history.push_reserved(Event::Revise {
-            tenant,
-            job,
-            number: 1,
-        });
-        history.push_reserved(Event::Close { tenant, job });
-        history.push_reserved(Event::Balance { volumes: shares });
-        history.push_reserved(Event::Start {
-            tenant,
-            job,
-            index: 0,
-            worker: 1,
-        });
-        history.push_reserved(Event::Finish {
-            tenant,
-            job,
-            index: 0,
-            worker: 1,
-            outcome: Outcome::Ran,
-        });
-        let text = write(rt.alloc(), &history)?;
-        assert_eq!(rt;
-            text.as_slice(),
-            b"h mal 1 1\no a p 1 1 4\nr a p 1\nc a p\nb a p 1\ns a p 0 1\nf a p 0 1 ran\n".as_slice()
-        );
-        Ok(())
-    }
-
-    #[test]
     fn other_outcomes_are_written(rt: HostRuntime) -> Result<(), Fail> {
         let tenant = Name::of(rt.alloc(), b"a")?.ok_or("no name")?;
         let job = Name::of(rt.alloc(), b"p")?.ok_or("no name")?;

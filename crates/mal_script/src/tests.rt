@@ -1,7 +1,7 @@
 //! Scripts that are read and written, and texts that are none.
 
 use super::*;
-use mal_base::{Ask, Lit};
+use mal_base::Lit;
 use std::alloc::Global;
 use std::test::Fail;
 
@@ -15,11 +15,6 @@ fn told(alloc: Global, text: &[u8]) -> Result<Vec<u8>, Fail> {
         Ok(script) => Ok(write(alloc, &script)?),
         Err(fault) => Ok(fault_line(alloc, fault)?.ok_or("no memory")?),
     }
-}
-
-/// Whether a text is a script.
-fn is_script(alloc: Global, text: &[u8]) -> bool {
-    read(alloc, text).is_ok()
 }
 
 /// Texts of scripts, with what is written of them: every field of a job, a tautology, what tools write, jobs of several
@@ -68,36 +63,6 @@ fn scripts_are_read_and_written_again(rt: HostRuntime) -> Result<(), Fail> {
     Ok(())
 }
 
-/// Whether a job has these names and this ask.
-fn is_job(job: &ScriptJob, tenant: &[u8], name: &[u8], ask: Ask) -> bool {
-    job.tenant().as_bytes() == tenant && job.name().as_bytes() == name && job.ask() == ask
-}
-
-/// How many variables and clauses the first revision of a job has.
-fn first_sizes(job: &ScriptJob) -> Option<(u32, usize)> {
-    let revision = job.revisions().first()?;
-    Some((revision.variables(), revision.clauses().len()))
-}
-
-#[test]
-fn a_job_has_what_is_read(rt: HostRuntime) -> Result<(), Fail> {
-    let text = b"t a\nj p_1 1000 64 4096\np cnf 3 3\n1 -3 0\n-2 0\n0\na 0\ne\n";
-    let script = read(rt.alloc(), text)?;
-    let job = script.jobs().first().ok_or("no job")?;
-    let ask = Ask::of(1000, 64, 4096).ok_or("no ask")?;
-    assert!(rt; is_job(job, b"a", b"p_1", ask));
-    assert!(rt; first_sizes(job) == Some((3, 3)));
-    Ok(())
-}
-
-#[test]
-fn the_sixth_word_of_a_job_names_its_profile(rt: HostRuntime) -> Result<(), Fail> {
-    let script = read(rt.alloc(), b"t a\nj p 1 1 4 2\ne\n")?;
-    let job = script.jobs().first().ok_or("no job")?;
-    assert_eq!(rt; job.ask().profile(), 2);
-    Ok(())
-}
-
 /// How many revisions each job of a script has.
 fn revisions_of(alloc: Global, text: &[u8]) -> Result<Vec<usize>, Fail> {
     let script = read(alloc, text)?;
@@ -106,34 +71,6 @@ fn revisions_of(alloc: Global, text: &[u8]) -> Result<Vec<usize>, Fail> {
         counts.push(job.revisions().len())?;
     }
     Ok(counts)
-}
-
-#[test]
-fn an_empty_script_and_a_job_without_a_revision_are_read(rt: HostRuntime) -> Result<(), Fail> {
-    assert_eq!(rt; revisions_of(rt.alloc(), b"")?.len(), 0);
-    let bare = revisions_of(rt.alloc(), b"t a\nj p 1 1 4\ne\n")?;
-    assert_eq!(rt; bare.as_slice(), [0].as_slice());
-    Ok(())
-}
-
-/// Whether each clause of a job's first revision is a tautology.
-fn tautologies(alloc: Global, job: &ScriptJob) -> Result<Vec<bool>, Fail> {
-    let revision = job.revisions().first().ok_or("no revision")?;
-    let mut found = Vec::new(alloc);
-    for clause in revision.clauses() {
-        found.push(clause.is_none())?;
-    }
-    Ok(found)
-}
-
-#[test]
-fn a_tautology_keeps_its_number(rt: HostRuntime) -> Result<(), Fail> {
-    let text = b"t a\nj p 1 1 4\np cnf 2 2\n1 -1 0\n2 0\na 0\ne\n";
-    let script = read(rt.alloc(), text)?;
-    let job = script.jobs().first().ok_or("no job")?;
-    let found = tautologies(rt.alloc(), job)?;
-    assert_eq!(rt; found.as_slice(), [true, false].as_slice());
-    Ok(())
 }
 
 /// Texts with the lines that tell their first faults: of jobs and what stands between them, of blocks, of limits, of a name
@@ -261,35 +198,6 @@ fn repeat(text: &mut Vec<u8>, part: &[u8], times: usize) -> Result<(), Fail> {
     Ok(())
 }
 
-#[test]
-fn one_tenant_too_many_is_refused(rt: HostRuntime) -> Result<(), Fail> {
-    let mut text = Vec::new(rt.alloc());
-    put_all(&mut text, b"t t", 64, b"\n")?;
-    assert!(rt; is_script(rt.alloc(), text.as_slice()));
-    text.extend_from_slice(b"t t0\nt t64\n")?;
-    let line = told(rt.alloc(), text.as_slice())?;
-    assert_eq!(rt;
-        line.as_slice(),
-        b"fault: script line 66 Limit Tenants\n".as_slice()
-    );
-    Ok(())
-}
-
-#[test]
-fn one_job_of_a_tenant_too_many_is_refused(rt: HostRuntime) -> Result<(), Fail> {
-    let mut text = Vec::new(rt.alloc());
-    text.extend_from_slice(b"t a\n")?;
-    put_all(&mut text, b"j j", 64, b" 1 1 1\ne\n")?;
-    assert!(rt; is_script(rt.alloc(), text.as_slice()));
-    text.extend_from_slice(b"t b\nj p 1 1 1\ne\nt a\nj p 1 1 1\ne\n")?;
-    let line = told(rt.alloc(), text.as_slice())?;
-    assert_eq!(rt;
-        line.as_slice(),
-        b"fault: script line 134 Limit Jobs\n".as_slice()
-    );
-    Ok(())
-}
-
 /// The text of so many tenants with 64 jobs each.
 fn full_tenants(alloc: Global, tenants: usize) -> Result<Vec<u8>, Fail> {
     let mut text = Vec::new(alloc);
@@ -307,27 +215,6 @@ fn all_jobs_of_all_tenants_are_read(rt: HostRuntime) -> Result<(), Fail> {
     Ok(())
 }
 
-/// The text of a job with so many revisions.
-fn with_revisions(alloc: Global, revisions: usize) -> Result<Vec<u8>, Fail> {
-    let mut text = Vec::from_slice(alloc, b"t a\nj p 1 1 1\n")?;
-    repeat(&mut text, b"p cnf 0 0\na 0\n", revisions)?;
-    text.extend_from_slice(b"e\n")?;
-    Ok(text)
-}
-
-#[test]
-fn one_revision_too_many_is_refused(rt: HostRuntime) -> Result<(), Fail> {
-    let full = with_revisions(rt.alloc(), 256)?;
-    assert!(rt; is_script(rt.alloc(), full.as_slice()));
-    let text = with_revisions(rt.alloc(), 257)?;
-    let line = told(rt.alloc(), text.as_slice())?;
-    assert_eq!(rt;
-        line.as_slice(),
-        b"fault: script line 515 Limit Revisions\n".as_slice()
-    );
-    Ok(())
-}
-
 #[test]
 fn too_many_clauses_of_a_job_are_refused(rt: HostRuntime) -> Result<(), Fail> {
     let mut text = Vec::new(rt.alloc());
@@ -339,21 +226,5 @@ fn too_many_clauses_of_a_job_are_refused(rt: HostRuntime) -> Result<(), Fail> {
         line.as_slice(),
         b"fault: script line 65543 Limit Clauses\n".as_slice()
     );
-    Ok(())
-}
-
-/// The text of the script of seed 1 with five jobs.
-fn made(alloc: Global) -> Result<Vec<u8>, Fail> {
-    let script = generate(alloc, 1, 5)?;
-    Ok(write(alloc, &script)?)
-}
-
-#[test]
-fn a_seed_decides_a_script(rt: HostRuntime) -> Result<(), Fail> {
-    let text = made(rt.alloc())?;
-    assert!(rt;
-        text.as_slice().starts_with(b"t t1\nj j1 7 1 64\np cnf 50 213\n-9 13 -24 0\n20 -21 50 0\n")
-    );
-    assert_eq!(rt; revisions_of(rt.alloc(), text.as_slice())?.len(), 5);
     Ok(())
 }
