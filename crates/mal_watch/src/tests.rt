@@ -1,4 +1,4 @@
-//! Trails that are known, of either engine.
+//! Trails that are known, and trails on which both engines agree.
 
 ghost use Rattle.std.specs.Prelude.{◌≡◌, ◌≤◌, true, OnOk, IfOk};
 ghost use Rattle.mal_base.specs.Formulas.{is_within};
@@ -7,7 +7,7 @@ ghost use Rattle.mal_trail.specs.Rooms.{are_within};
 use crate::Watch;
 use mal_base::{Clause, ClauseId, ClauseView, Lit, TrailEntry, Var};
 use mal_scan::Scan;
-use mal_trail::{Engine, Trail};
+use mal_trail::{Engine, Listed, Trail};
 use std::alloc::Global;
 use std::test::Fail;
 
@@ -272,5 +272,147 @@ fn a_clause_given_up_forces_nothing(rt: HostRuntime) -> Result<(), Fail> {
         without::<Scan>(alloc, &mut [second, first])?.as_slice(),
         last.as_slice()
     );
+    Ok(())
+}
+
+/// The next of a row of numbers that look random.
+fn next(state: u64) -> u64 {
+    state
+        .wrapping_mul(6_364_136_223_846_793_005)
+        .wrapping_add(1_442_695_040_888_963_407)
+}
+
+/// A literal of the variables 1 to 12.
+fn some_literal(state: u64) -> i32 {
+    let number = (state >> 33) % 12 + 1;
+    if (state >> 50) % 2 == 0 {
+        number as i32
+    } else {
+        -(number as i32)
+    }
+}
+
+/// Adds a random clause, where it is no tautology.
+fn add_random<E: Engine>(
+    run: &mut Run<E>,
+    alloc: Global,
+    id: ClauseId,
+    state: u64,
+) -> Result<(), Fail>
+    requires fits { E.fits run.old.engine run.old.trail.entries run.old.trail.processed }
+    requires within { are_within run.old.trail.room (E.clauses run.old.engine) ≡ true }
+    requires room { 16 ≤ run.old.trail.room }
+    ensures fits { OnOk result (E.fits run.new.engine run.new.trail.entries run.new.trail.processed) }
+    ensures within { OnOk result (are_within run.new.trail.room (E.clauses run.new.engine) ≡ true) }
+    ensures room { 16 ≤ run.new.trail.room }
+{
+    let other = next(state);
+    let third = next(other);
+    let numbers = [
+        some_literal(state),
+        some_literal(other),
+        some_literal(third),
+    ];
+    match clause(alloc, &numbers)? {
+        Some(clause) => add(run, id, &clause),
+        None => Ok(()),
+    }
+}
+
+/// Decides a random literal, or goes back to a low level where its variable has a value.
+fn turn<E: Engine>(run: &mut Run<E>, state: u64) -> Result<(), Fail>
+    requires fits { E.fits run.old.engine run.old.trail.entries run.old.trail.processed }
+    requires within { are_within run.old.trail.room (E.clauses run.old.engine) ≡ true }
+    requires room { 16 ≤ run.old.trail.room }
+    ensures fits { E.fits run.new.engine run.new.trail.entries run.new.trail.processed }
+    ensures within { are_within run.new.trail.room (E.clauses run.new.engine) ≡ true }
+    ensures room { 16 ≤ run.new.trail.room }
+{
+    let var = Var::of(((state >> 40) % 12 + 1) as u32);
+    if run.trail.has_value(var) {
+        back(run, ((state >> 20) % 3) as u32);
+        return Ok(());
+    }
+    decide(run, var.literal((state >> 30) % 2 == 0))
+}
+
+/// Gives up three clauses of numbers up to this one, as they come.
+fn forget_some<E: Engine>(run: &mut Run<E>, id: u32, state: u64)
+    requires number { 1 ≤ id }
+    requires fits { E.fits run.old.engine run.old.trail.entries run.old.trail.processed }
+    requires within { are_within run.old.trail.room (E.clauses run.old.engine) ≡ true }
+    requires room { 16 ≤ run.old.trail.room }
+    ensures fits { E.fits run.new.engine run.new.trail.entries run.new.trail.processed }
+    ensures within { are_within run.new.trail.room (E.clauses run.new.engine) ≡ true }
+    ensures room { 16 ≤ run.new.trail.room }
+{
+    if id % 6 != 0 {
+        return;
+    }
+    let some = ((state >> 25) % u64::from(id)) as u32;
+    let other = ((state >> 45) % u64::from(id)) as u32;
+    let mut ids = [
+        ClauseId::original(some + 1),
+        ClauseId::original(id / 2),
+        ClauseId::original(other + 1),
+    ];
+    give_up(run, &mut ids);
+}
+
+/// Propagates, and goes back to level 0 where there is a conflict.
+fn settle<E: Engine>(run: &mut Run<E>, log: &mut Vec<TrailEntry>) -> Result<(), Fail>
+    requires fits { E.fits run.old.engine run.old.trail.entries run.old.trail.processed }
+    requires within { are_within run.old.trail.room (E.clauses run.old.engine) ≡ true }
+    requires room { 16 ≤ run.old.trail.room }
+    ensures fits { E.fits run.new.engine run.new.trail.entries run.new.trail.processed }
+    ensures within { are_within run.new.trail.room (E.clauses run.new.engine) ≡ true }
+    ensures room { 16 ≤ run.new.trail.room }
+{
+    match propagate(run, log)? {
+        Some(_) => back(run, 0),
+        None => {}
+    }
+    Ok(())
+}
+
+/// The trails after each batch of a run over random clauses, with random decisions, cuts, clauses added behind, and
+/// clauses given up.
+fn random_run<E: Engine>(alloc: Global, seed: u64) -> Result<Vec<TrailEntry>, Fail> {
+    let mut run: Run<E> = begin(alloc)?;
+    let mut log = Vec::new(alloc);
+    let mut state = seed;
+    for id in 1..120u32 {
+        state = next(next(next(next(state))));
+        add_random(&mut run, alloc, ClauseId::original(id), state)?;
+        turn(&mut run, state)?;
+        settle(&mut run, &mut log)?;
+        forget_some(&mut run, id, state);
+    }
+    Ok(log)
+}
+
+#[test]
+fn both_engines_give_the_same_trails(rt: HostRuntime) -> Result<(), Fail> {
+    let alloc = rt.alloc();
+    for seed in 0..8 {
+        let watched = random_run::<Watch>(alloc, seed)?;
+        let scanned = random_run::<Scan>(alloc, seed)?;
+        assert!(rt; watched.len() > 500);
+        assert_eq!(rt; watched.as_slice(), scanned.as_slice());
+    }
+    Ok(())
+}
+
+#[test]
+fn clauses_are_listed_by_rising_number(rt: HostRuntime) -> Result<(), Fail> {
+    let alloc = rt.alloc();
+    let mut run: Run<Watch> = begin(alloc)?;
+    let short = clause(alloc, &[4])?.ok_or("no clause")?;
+    let long = clause(alloc, &[1, -2])?.ok_or("no clause")?;
+    add(&mut run, ClauseId::original(9), &long)?;
+    add(&mut run, ClauseId::original(3), &short)?;
+    assert_eq!(rt; run.engine.count(), 2);
+    assert_eq!(rt; run.engine.get(ClauseId::original(9)), Some(long.lits()));
+    assert_eq!(rt; run.engine.get(ClauseId::original(4)), None);
     Ok(())
 }
