@@ -104,8 +104,8 @@ impl ClauseArena {
         self.rows.push_reserved(Row { id, body });
     }
 
-    /// Gives up the clauses of these numbers, which rise, and closes the gaps: the room of those of their literals that stand
-    /// side by side is room again. Takes no memory.
+    /// Gives up the clauses of these numbers, which rise, and closes the gaps: the room of the clauses, and of those of
+    /// their literals that stand side by side, is room again. Takes no memory.
     pub fn forget(&mut self, ids: &[ClauseId])
         requires { IsNonDecreasing ids.now }
         ensures clauses { self.new.clauses ≡ forgetting ids.now self.old.clauses }
