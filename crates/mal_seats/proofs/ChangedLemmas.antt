@@ -1,6 +1,5 @@
 -- What is kept beside the seats after a change.
 use Rattle.std.proofs.Common.{◌≡◌, ℕ, suc, ◌+◌, ◌<◌, ◌≤◌, cond, List, [], ◌∷◌, ◌++◌, length, take, drop, get_or, slice_get, slice_set, Some, refl, sym, ◌∙◌, ap, arith}
-use Rattle.std.specs.Prelude.{count_by}
 use Rattle.std.proofs.lemmas.List.{set-get_or, take_at}
 use Rattle.std.proofs.lemmas.List.Sums.{count_by-le-length}
 use Rattle.std.proofs.lemmas.Option.{slice_get_read, get_or_from_slice_get}

@@ -2,4 +2,5 @@
 mod ScanLemmas
 mod CountLemmas
 mod FilledLemmas
+mod NameLemmas
 mod ChangedLemmas

@@ -1,12 +1,12 @@
-use Rattle.std.proofs.Common.{◌≡◌, ℕ, ◌+◌, ◌-◌, ◌<◌, Bool, true, false, if◌then◌else◌, List, ◌∷◌, length, drop, fold, get_or, Option, sym, ◌∙◌, ap, subst, below_more}
-use Rattle.std.proofs.lemmas.List.{drop_more, get_or_default}
+use Rattle.std.proofs.Common.{◌≡◌, ℕ, ◌+◌, ◌-◌, ◌<◌, Bool, true, false, if◌then◌else◌, List, ◌∷◌, length, drop, fold, get_or, Option, sym, ◌∙◌, ap}
+use Rattle.std.proofs.lemmas.List.{drop_more}
 use Rattle.std.proofs.lemmas.List.Sums.{sum_by-cons}
 use Rattle.spec_node.specs.Load.{counted}
 use Rattle.spec_job.specs.SoloMachine.{SoloMachine, place_at, startable}
 use Rattle.spec_job.specs.KeyedJob.{KeyedJob}
 use Rattle.spec_hall.specs.Legal.{jobs_of}
 use Rattle.spec_hall.specs.Own.{is_text}
-use Rattle.spec_hall.specs.Seats.{Seat, jobs_in, pick_job, pick_node}
+use Rattle.spec_hall.specs.Seats.{Seat, jobs_in, pick_node}
 use Rattle.spec_hall.specs.States.{Candidate, fewer}
 use Rattle.spec_hall.proofs.PickLemmas.{pick-more}
 

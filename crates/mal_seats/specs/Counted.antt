@@ -1,4 +1,4 @@
--- What is kept beside the seats of a hall.
+-- What is counted of the jobs of a hall.
 use Rattle.std.specs.Prelude.{◌≡◌, ℕ, Bool, ◌&&◌, not, List, count_by, if◌then◌else◌}
 use Rattle.spec_hall.specs.Seats.{Seat, has_changed, is_live_seat}
 use Rattle.mal_seats.specs.Filled.{filled_in}

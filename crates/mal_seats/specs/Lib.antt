@@ -1,3 +1,5 @@
 pub mod Changed
 pub mod Counted
 pub mod Filled
+pub mod Named
+pub mod Kept

@@ -8,6 +8,7 @@ mod scheduler;
 mod seat;
 mod seats;
 mod volumes;
+mod word;
 
 pub use scheduler::Candidate;
 pub use seat::Seat;

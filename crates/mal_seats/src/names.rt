@@ -1,34 +1,73 @@
-//! Looking jobs up by their names.
+//! Jobs by their names.
 
-ghost use Rattle.std.specs.Prelude.{◌≡◌};
+ghost use Rattle.std.specs.Prelude.{◌≡◌, ◌+◌, ◌<◌, ◌^◌, ℕ, List, None, Some, OnOk, OnErr, if◌then◌else◌};
+ghost use Rattle.mal_seats.specs.Named.{found, jobs_at};
 ghost use Rattle.spec_hall.specs.Dressed.{keyed};
-ghost use Rattle.spec_hall.specs.Legal as legal;
-ghost use Rattle.spec_hall.specs.Seats as spec;
+ghost use Rattle.spec_hall.specs.Own.{is_key, is_text};
+ghost use Rattle.spec_job.specs.KeyedJob.{Key};
 
-use crate::seat::Seat;
+use crate::word::Word;
 use mal_base::Name;
+use std::alloc::{AllocError, Global};
+use std::collections::BTreeMap;
 
-/// The place of the job with this key.
-pub fn place_of(seats: &[Seat], tenant: Name, job: Name) -> Option<usize>
-    ensures { result ≡ spec.place_of (keyed tenant job) seats.now }
-{
-    for (at, seat) in seats.iter().enumerate() {
-        if seat.is_named(tenant, job) {
-            return Some(at);
-        }
-    }
-    None
+/// The places of jobs by their tenants and names, and how many jobs each tenant has.
+#[derive(Drop)]
+pub struct Names {
+    places: BTreeMap<(Word, Word), usize>,
+    tenants: BTreeMap<Word, usize>,
 }
 
-/// How many jobs a tenant has.
-pub fn jobs_of(seats: &[Seat], tenant: Name) -> usize
-    ensures { result ≡ legal.jobs_of tenant (spec.jobs_in seats.now) }
-{
-    let mut count = 0;
-    for seat in seats {
-        if tenant == seat.job().tenant() {
-            count += 1;
+impl Names {
+    /// No names.
+    pub fn new(alloc: Global) -> Names
+        ensures found { (k : Key) → found result.places k ≡ None }
+        ensures jobs { (tenant : List ℕ) → jobs_at result.tenants tenant ≡ 0 }
+    {
+        Names {
+            places: BTreeMap::new(alloc),
+            tenants: BTreeMap::new(alloc),
         }
     }
-    count
+
+    /// The place of the job with this key.
+    pub fn place_of(&self, tenant: Name, job: Name) -> Option<usize>
+        ensures { result ≡ found self.now.places (keyed tenant job) }
+    {
+        self.places.get(&(Word::of(tenant), Word::of(job))).copied()
+    }
+
+    /// How many jobs a tenant has.
+    pub fn jobs_of(&self, tenant: Name) -> usize
+        ensures { result ≡ jobs_at self.now.tenants tenant }
+    {
+        match self.tenants.get(&Word::of(tenant)).copied() {
+            None => 0,
+            Some(jobs) => jobs,
+        }
+    }
+
+    /// Notes the place of a further job of a tenant. After want of memory what is found is as before.
+    pub fn note(&mut self, tenant: Name, job: Name, place: usize) -> Result<(), AllocError>
+        requires { jobs_at self.old.tenants tenant < 2 ^ 63 }
+        ensures found { OnOk result ((k : Key) → found self.new.places k ≡ (if is_key (keyed tenant job) k then Some place else found self.old.places k)) }
+        ensures jobs { OnOk result ((other : List ℕ) → jobs_at self.new.tenants other ≡ jobs_at self.old.tenants other + (if is_text tenant other then 1 else 0)) }
+        ensures same_found { OnErr result ((k : Key) → found self.new.places k ≡ found self.old.places k) }
+        ensures same_jobs { OnErr result ((other : List ℕ) → jobs_at self.new.tenants other ≡ jobs_at self.old.tenants other) }
+    {
+        let word = Word::of(tenant);
+        let jobs = self.jobs_of(tenant);
+        match self.tenants.insert(word, jobs) {
+            Ok(_) => {}
+            Err(_) => return Err(AllocError),
+        }
+        match self.places.insert((word, Word::of(job)), place) {
+            Ok(_) => {}
+            Err(_) => return Err(AllocError),
+        }
+        match self.tenants.insert(word, jobs + 1) {
+            Ok(_) => Ok(()),
+            Err(_) => unreachable!(),
+        }
+    }
 }

@@ -15,7 +15,7 @@ ghost use Rattle.spec_hall.specs.States.{live_asks};
 
 use crate::counts::Counts;
 use crate::filled::first_among;
-use crate::names::{jobs_of, place_of};
+use crate::names::Names;
 use crate::scheduler::{Candidate, pick_among};
 use crate::seat::Seat;
 use crate::volumes::{balance, filled_by, shares, volumes};
@@ -27,25 +27,26 @@ use std::alloc::{AllocError, Global};
 use std::marker::Model;
 
 /// The jobs of a hall in their seats, by opening. The type keeps beside them how many were changed so that a balancing is
-/// due, how many are not closed or not answered, and the places of those that have a volume: what is due and which node
-/// starts next is found without going over all jobs. Contracts see the seats.
+/// due, how many are not closed or not answered, the places of those that have a volume, and the names: what is due, which
+/// node starts next and where a job sits is found without going over all jobs. Contracts see the seats.
 #[derive(Drop)]
 pub struct Seats {
     seats: Vec<Seat>,
     counts: Counts,
     filled: Vec<usize>,
+    names: Names,
 }
 
 impl Model for Seats {
     ghost use Rattle.std.specs.Prelude.{List};
     ghost use Rattle.spec_hall.specs.Seats.{Seat};
-    ghost use Rattle.mal_seats.specs.Counted.{AreCounted};
+    ghost use Rattle.mal_seats.specs.Kept.{AreKept};
 
     ghost Value = { List Seat };
 
     ghost view = { λ s. s.seats.items };
 
-    ghost invariant = { λ s. AreCounted s.seats.items s.counts.changed s.counts.unfinished s.filled.items };
+    ghost invariant = { λ s. AreKept s.seats.items s.counts.changed s.counts.unfinished s.filled.items s.names.places s.names.tenants };
 }
 
 impl Seats {
@@ -60,6 +61,7 @@ impl Seats {
                 unfinished: 0,
             },
             filled: Vec::new(alloc),
+            names: Names::new(alloc),
         }
     }
 
@@ -83,14 +85,14 @@ impl Seats {
     pub fn place_of(&self, tenant: Name, job: Name) -> Option<usize>
         ensures { result ≡ spec.place_of (keyed tenant job) self.now }
     {
-        place_of(&self.seats, tenant, job)
+        self.names.place_of(tenant, job)
     }
 
     /// How many jobs a tenant has.
     pub fn jobs_of(&self, tenant: Name) -> usize
         ensures { result ≡ legal.jobs_of tenant (spec.jobs_in self.now) }
     {
-        jobs_of(&self.seats, tenant)
+        self.names.jobs_of(tenant)
     }
 
     /// Whether a balancing is due.
@@ -167,15 +169,19 @@ impl Seats {
         ensures err { OnErr result (self.new ≡ self.old) }
     {
         let alloc = *self.seats.allocator();
-        let number = self.seats.len() as u64;
+        let place = self.seats.len();
         match self.seats.reserve(1) {
             Ok(()) => {}
             Err(_) => return Err(AllocError),
         }
-        let seat = match Seat::fresh(alloc, number, tenant, job, ask) {
+        let seat = match Seat::fresh(alloc, place as u64, tenant, job, ask) {
             Ok(seat) => seat,
             Err(_) => return Err(AllocError),
         };
+        match self.names.note(tenant, job, place) {
+            Ok(()) => {}
+            Err(_) => return Err(AllocError),
+        }
         self.seats.push_reserved(seat);
         self.counts.unfinished += 1;
         Ok(())

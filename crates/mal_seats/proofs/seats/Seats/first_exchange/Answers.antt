@@ -1,9 +1,8 @@
-use Rattle.std.proofs.Common.{ap, ◌∙◌}
-use Rattle.mal_seats.specs.Filled.{first_among}
+use Rattle.std.proofs.Common.{◌∙◌}
 use Rattle.mal_seats.proofs.FilledLemmas.{first-filled}
 use Rattle.mal_seats.proofs.seats.Seats.first_exchange.Goals as goal
 
 pub returns : goal.returns
 returns c =
-    let scan = rw (c.deref.ensures.value, c.deref-2.ensures.value, c.self.invariant.filled_is) at c.first_among.ensures in
+    let scan = rw (c.deref.ensures.value, c.deref-2.ensures.value, c.self.invariant.counted.filled_is) at c.first_among.ensures in
     rw (← c.self.view_is) (scan ∙ first-filled c.self.inside.seats.items)

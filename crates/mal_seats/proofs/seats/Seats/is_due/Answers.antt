@@ -5,4 +5,4 @@ use Rattle.mal_seats.proofs.CountLemmas.{any-counted}
 use Rattle.mal_seats.proofs.seats.Seats.is_due.Goals as goal
 
 pub returns : goal.returns
-returns c = rw (← c.self.view_is) (ap (nat_lt 0) c.self.invariant.changed_is ∙ sym (any-counted has_changed c.self.inside.seats.items))
+returns c = rw (← c.self.view_is) (ap (nat_lt 0) c.self.invariant.counted.changed_is ∙ sym (any-counted has_changed c.self.inside.seats.items))

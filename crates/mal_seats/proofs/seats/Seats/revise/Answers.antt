@@ -1,6 +1,7 @@
-use Rattle.std.proofs.Common.{◌<◌, length, ap, sym, ◌∙◌, arith}
+use Rattle.std.proofs.Common.{◌<◌, length, ap, ◌∙◌, arith}
 use Rattle.mal_seats.proofs.ChangedLemmas.{are-few, changed-is, kept-set, may-count, seat-at, set-same}
 use Rattle.mal_seats.proofs.FilledLemmas.{volume_of}
+use Rattle.mal_seats.proofs.NameLemmas.{key_of, named-set}
 use Rattle.spec_job.specs.SoloMachine.{Revised}
 use Rattle.spec_job.specs.Viewed.{and_own}
 use Rattle.spec_hall.proofs.VolumeLemmas.{revise-keeps}
@@ -15,19 +16,19 @@ pub change-requires-clause-changed : goal.change-requires-clause-changed
 change-requires-clause-changed c =
     let low : c.args.at < length c.self.inside.seats.items = rw (← c.self.view_is) at c.requires.place in
     let there = seat-at c.self.inside.seats.items c.args.at c.index_mut-seat.result.now low c.index_mut-seat.ensures.value in
-    rw c.marks-before.ensures.changed (may-count c.self.inside.seats.items _ _ _ c.args.at c.index_mut-seat.result.now c.self.invariant there).changed_there
+    rw c.marks-before.ensures.changed (may-count c.self.inside.seats.items _ _ _ c.args.at c.index_mut-seat.result.now c.self.invariant.counted there).changed_there
 
 pub change-requires-clause-unfinished : goal.change-requires-clause-unfinished
 change-requires-clause-unfinished c =
     let low : c.args.at < length c.self.inside.seats.items = rw (← c.self.view_is) at c.requires.place in
     let there = seat-at c.self.inside.seats.items c.args.at c.index_mut-seat.result.now low c.index_mut-seat.ensures.value in
-    rw c.marks-before.ensures.unfinished (may-count c.self.inside.seats.items _ _ _ c.args.at c.index_mut-seat.result.now c.self.invariant there).unfinished_there
+    rw c.marks-before.ensures.unfinished (may-count c.self.inside.seats.items _ _ _ c.args.at c.index_mut-seat.result.now c.self.invariant.counted there).unfinished_there
 
 pub change-requires-clause-changed_room : goal.change-requires-clause-changed_room
-change-requires-clause-changed_room c = omega (arith, (are-few c.self.inside.seats.items _ _ _ c.self.invariant).changed_few)
+change-requires-clause-changed_room c = omega (arith, (are-few c.self.inside.seats.items _ _ _ c.self.invariant.counted).changed_few)
 
 pub change-requires-clause-unfinished_room : goal.change-requires-clause-unfinished_room
-change-requires-clause-unfinished_room c = omega (arith, (are-few c.self.inside.seats.items _ _ _ c.self.invariant).unfinished_few)
+change-requires-clause-unfinished_room c = omega (arith, (are-few c.self.inside.seats.items _ _ _ c.self.invariant.counted).unfinished_few)
 
 pub revise-requires-clause-few : goal.revise-requires-clause-few
 revise-requires-clause-few c =
@@ -61,7 +62,10 @@ invariant_of-self-2 c =
     let there = seat-at c.self.inside.seats.items c.args.at c.index_mut-seat.result.now low c.index_mut-seat.ensures.value in
     let changed = rw (c.marks-before.ensures.changed, c.marks-after.ensures.changed) at c.change.ensures.changed in
     let unfinished = rw (c.marks-before.ensures.unfinished, c.marks-after.ensures.unfinished) at c.change.ensures.unfinished in
-    kept-set c.self.inside.seats.items _ _ _ c.args.at c.index_mut-seat.result.now c.revise.new.self _ _ c.self.invariant there (ap volume_of c.in-Ok.ensures.ok ∙ (revise-keeps c.index_mut-seat.result.now.job.titled.state c.args.revision).volume) changed unfinished
+    record {
+      counted = kept-set c.self.inside.seats.items _ _ _ c.args.at c.index_mut-seat.result.now c.revise.new.self _ _ c.self.invariant.counted there (ap volume_of c.in-Ok.ensures.ok ∙ (revise-keeps c.index_mut-seat.result.now.job.titled.state c.args.revision).volume) changed unfinished;
+      named = named-set c.self.inside.seats.items _ _ c.args.at c.index_mut-seat.result.now c.revise.new.self c.self.invariant.named there (ap key_of c.in-Ok.ensures.ok);
+    }
 
 pub returns-clause-ok : goal.returns-clause-ok
 returns-clause-ok c =
