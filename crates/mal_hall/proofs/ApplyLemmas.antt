@@ -9,8 +9,8 @@ use Rattle.std.proofs.lemmas.Option.{slice_get-map, slice_get_read}
 use Rattle.mal_base.specs.Asks.{Terms}
 use Rattle.mal_base.specs.declared.verdict.Outcome.{Outcome}
 use Rattle.mal_base.specs.declared.verdict.Outcome.TheVariants.{Ran, Starved, Lost}
-use Rattle.mal_hall.specs.Applied.{ComesOf, HasApplied, HasEntered, IsBackOf, IsInside, IsRefused, StartsAt, listed_in, listed_last}
-use Rattle.mal_hall.specs.Offered.{HasBalanced, HasEnded, HasExchanged, HasStarted, IsFirst, MayEnd, MayStartAt, handed_of}
+use Rattle.mal_hall.specs.Applied.{HasEntered, IsBackOf, IsInside, StartsAt, listed_in, listed_last}
+use Rattle.mal_hall.specs.Offered.{HasBalanced, HasEnded, HasExchanged, HasStarted, IsFirst, MayEnd, handed_of}
 use Rattle.mal_hall.specs.HallView.{Inside, IsHall, HallView, events_in, next_number, out_in}
 use Rattle.mal_history.specs.declared.event.Event as written
 use Rattle.mal_history.specs.declared.event.Event.TheVariants as of
@@ -22,13 +22,11 @@ use Rattle.spec_job.specs.Journaled.{Journaled}
 use Rattle.spec_job.specs.Leased.{Becomes, Finished, Leased}
 use Rattle.spec_job.specs.KeyedJob.{Key, KeyedJob}
 use Rattle.spec_job.specs.Viewed.{IsGrownBy}
-use Rattle.spec_hall.specs.Calls.{AnswerTo, Call, Closes, Handed, HasCalled, IsCall, Opens, Revises, handed, wanted}
-use Rattle.spec_hall.specs.Events.{Event, Open, Revise, Close, Balance, Start, Finish, Exchange, bare}
-use Rattle.spec_hall.specs.Given.{given}
-use Rattle.spec_hall.specs.Legal.{Allowed, IsBalanceDue, MayExchange, MayRevise, job_of}
+use Rattle.spec_hall.specs.Calls.{AnswerTo, Call, Handed, HasCalled, IsCall, Opens, Revises, handed, wanted}
+use Rattle.spec_hall.specs.Events.{Event, Open, Revise, Balance, Start, Finish, Exchange, bare}
+use Rattle.spec_hall.specs.Legal.{Allowed, MayExchange, MayRevise, job_of}
 use Rattle.spec_hall.specs.Leases.{lease_adds, lease_journal}
 use Rattle.spec_hall.specs.States.{Candidate, LeaseOut, balanced, exchange_due, keys_of, lease_of, leases, live_of, live_ones, lives, picked, states, titled}
-use Rattle.mal_base.specs.declared.hall_fault.CloseFault.{CloseFault}
 use Rattle.mal_base.specs.declared.hall_fault.OpenFault.{OpenFault}
 use Rattle.mal_base.specs.declared.hall_fault.ReviseFault.{ReviseFault}
 use Rattle.spec_hall.proofs.DecidedCallLemmas.{call-is_decided}

@@ -1,10 +1,10 @@
 -- What a turn of a hall that is driven leaves.
-use Rattle.std.proofs.Common.{◌≡◌, ℕ, ◌<◌, ◌≤◌, Bool, true, false, cond, ◌&&◌, ◌==◌, List, [], ◌∷◌, ◌++◌, length, Option, Some, None, Result, Ok, Err, inl, inr, refl, sym, ◌∙◌, ap, subst, append_assoc, append-nil}
+use Rattle.std.proofs.Common.{◌≡◌, ℕ, ◌≤◌, Bool, true, false, ◌&&◌, ◌==◌, List, [], ◌∷◌, ◌++◌, length, Some, Ok, Err, inl, inr, refl, sym, ◌∙◌, ap, subst, append_assoc, append-nil}
 use Rattle.std.proofs.lemmas.Bool.{and_parts}
 use Rattle.mal_base.specs.declared.verdict.Outcome.{Outcome}
 use Rattle.mal_base.specs.declared.verdict.Outcome.TheVariants.{Ran, Starved, Lost}
 use Rattle.spec_job.specs.Journal.{JournalEntry}
-use Rattle.spec_job.specs.Journaled.{Journaled, and_entries}
+use Rattle.spec_job.specs.Journaled.{Journaled}
 use Rattle.spec_job.specs.Leased.{Becomes, Finished, Leased}
 use Rattle.spec_job.specs.Viewed.{IsGrownBy}
 use Rattle.mal_base.specs.declared.hall_fault.PickFault.{PickFault}
@@ -15,7 +15,6 @@ use Rattle.spec_hall.specs.Driven.{GrowsByTurns, IsAtEnd, IsIdle, is_done, was_l
 use Rattle.spec_hall.specs.Events.{Event, Start, Finish}
 use Rattle.spec_hall.specs.Leases.{lease_adds, lease_journal}
 use Rattle.spec_hall.specs.Legal.{Legal}
-use Rattle.spec_hall.specs.Measure.{left_in}
 use Rattle.spec_hall.specs.States.{LeaseOut, lease_of, leases, lives, states}
 use Rattle.spec_hall.proofs.GoesOnLemmas.{end-answered}
 use Rattle.spec_hall.proofs.PushLemmas.{leases-push}

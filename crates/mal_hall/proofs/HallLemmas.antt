@@ -1,12 +1,11 @@
 use Rattle.std.proofs.Common.{◌≡◌, ℕ, zero, ◌+◌, ◌-◌, ◌<◌, ◌≤◌, true, false, List, [], ◌∷◌, ◌++◌, map, length, get_or, slice_get, slice_set, suc, Bool, cond, Option, Some, None, option_map, is_some, refl, sym, ◌∙◌, ap, subst, arith, append-nil}
-use Rattle.std.specs.Prelude.{count_by, replicate, not}
+use Rattle.std.specs.Prelude.{replicate}
 use Rattle.std.specs.Option.{option_map_or}
-use Rattle.std.proofs.lemmas.List.{map-append, map-set}
+use Rattle.std.proofs.lemmas.List.{map-append}
 use Rattle.std.proofs.lemmas.List.Sums.{sum_by-cons}
-use Rattle.std.proofs.lemmas.Option.{slice_get_read, slice_get-map}
+use Rattle.std.proofs.lemmas.Option.{slice_get_read}
 use Rattle.mal_base.specs.Asks.{Terms, IsAsk}
 use Rattle.mal_base.specs.Names.{is_name}
-use Rattle.mal_base.specs.declared.verdict.Outcome.{Outcome}
 use Rattle.mal_history.specs.declared.event.Event as written
 use Rattle.mal_history.specs.declared.event.Event.TheVariants as of
 use Rattle.mal_history.specs.Written.{Written}
@@ -15,19 +14,18 @@ use Rattle.spec_balance.specs.Fair.{IsFair}
 use Rattle.spec_job.specs.Models.{AnswersSolve}
 use Rattle.spec_job.specs.Proofs.{AnswersRefute}
 use Rattle.spec_job.specs.Provenance.{ClausesAreOwn}
-use Rattle.spec_job.specs.SoloMachine.{Own, SoloMachine, Revised, Closed, Started, Finished, Exchanged, solo, solo_step}
-use Rattle.spec_job.specs.KeyedJob.{Key, KeyedJob, stepped}
-use Rattle.spec_job.specs.Viewed.{JobView, and_own, and_start}
-use Rattle.spec_job.proofs.StepLemmas.{finish-keeps, start-keeps}
-use Rattle.spec_hall.specs.Events.{Event, Open, Revise, Close, Balance, Start, Finish, Exchange, bare}
+use Rattle.spec_job.specs.SoloMachine.{Own, SoloMachine, Revised, Closed, Exchanged, solo}
+use Rattle.spec_job.specs.KeyedJob.{Key, KeyedJob}
+use Rattle.spec_job.specs.Viewed.{JobView, and_own}
+use Rattle.spec_hall.specs.Events.{Event, Open, Revise, Close, Balance, Exchange, bare}
 use Rattle.spec_hall.specs.Calls.{AnswerTo, Call, HasCalled, IsCall}
 use Rattle.spec_hall.specs.Dressed.{dressed}
 use Rattle.spec_hall.specs.Leases.{start_number, starts_in}
 use Rattle.spec_hall.specs.Own.{own, is_key}
-use Rattle.spec_hall.specs.States.{Candidate, LeaseOut, keys_of, states, live_asks, titled, leases, lease_of}
+use Rattle.spec_hall.specs.States.{keys_of, states, live_asks, titled, leases}
 use Rattle.spec_hall.specs.Legal.{Allowed, MayOpen, MayRevise, MayClose, job_of, jobs_of, tenant_count}
 use Rattle.spec_hall.specs.Room.{HasRoomFor}
-use Rattle.spec_hall.specs.Seats.{Seat, IsSeated, jobs_in, place_of, first_exchange, is_due, opened_seat, shares_by, balanced_seat, balanced_from, balanced_by, is_live_seat}
+use Rattle.spec_hall.specs.Seats.{Seat, IsSeated, jobs_in, place_of, is_due, opened_seat, shares_by, balanced_from, balanced_by, is_live_seat}
 use Rattle.spec_hall.specs.Spots.{Spot, Tag, AreSpots, tag_of, tags_of}
 use Rattle.spec_hall.proofs.DressedLemmas.{seated-dressed}
 use Rattle.spec_hall.proofs.BalanceLemmas.{seated-balance}
@@ -35,11 +33,11 @@ use Rattle.spec_hall.proofs.TouchLemmas.{exchange-touches}
 use Rattle.spec_hall.proofs.PlaceLemmas.{seated-found, seated-absent, placed-within}
 use Rattle.spec_hall.proofs.PushLemmas.{leases-push}
 use Rattle.spec_hall.proofs.RunnableLemmas.{find-titled, legal-answers_solve, legal-answers_refute, legal-clauses_own}
-use Rattle.spec_hall.proofs.SeatLemmas.{reseated, seats-touch, seated-none, seated-open, seated-revise, seated-close, seated-start, seated-finish}
-use Rattle.spec_hall.proofs.SpotLemmas.{and_started, numbered-push, starts-push, spots-stay, spots-open, spots-start, spots-finish, spots-none}
+use Rattle.spec_hall.proofs.SeatLemmas.{reseated, seats-touch, seated-none, seated-open, seated-revise, seated-close}
+use Rattle.spec_hall.proofs.SpotLemmas.{numbered-push, starts-push, spots-stay, spots-open, spots-none}
 use Rattle.spec_hall.proofs.VolumeLemmas.{revise-keeps}
 use Rattle.mal_seats.specs.Changed.{OfSeat}
-use Rattle.mal_hall.specs.HallView.{Inside, IsHall, events_in, events_of, out_in, unclosed_in, next_number}
+use Rattle.mal_hall.specs.HallView.{Inside, IsHall, events_in, out_in, unclosed_in, next_number}
 use Rattle.mal_hall.proofs.KeptLemmas.{first_of, tenants-push, tenants-set, tenants-balanced, unclosed-open, unclosed-same, unclosed-closed, unclosed-balanced}
 
 -- the events of a hall are its past

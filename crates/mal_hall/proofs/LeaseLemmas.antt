@@ -1,21 +1,20 @@
 -- A hall in which a start or a finish was entered.
-use Rattle.std.proofs.Common.{◌≡◌, ℕ, zero, suc, ◌+◌, ◌-◌, ◌<◌, ◌≤◌, Bool, cond, List, [], ◌∷◌, ◌++◌, map, get_or, slice_get, slice_set, Option, Some, None, is_some, refl, sym, ◌∙◌, ap, subst, arith}
+use Rattle.std.proofs.Common.{◌≡◌, ℕ, zero, suc, ◌+◌, ◌<◌, ◌≤◌, cond, List, [], ◌∷◌, ◌++◌, get_or, slice_get, slice_set, Option, Some, None, is_some, refl, sym, ◌∙◌, ap, arith}
 use Rattle.std.proofs.lemmas.List.{map-set}
 use Rattle.std.proofs.lemmas.List.Sums.{sum_by-cons}
 use Rattle.std.proofs.lemmas.Option.{slice_get-map}
 use Rattle.std.specs.Option.{option_map}
 use Rattle.mal_base.specs.declared.verdict.Outcome.{Outcome}
 use Rattle.mal_history.specs.declared.event.Event.TheVariants as of
-use Rattle.spec_job.specs.SoloMachine.{Started, Finished, solo_step}
-use Rattle.spec_job.specs.KeyedJob.{Key, KeyedJob}
+use Rattle.spec_job.specs.SoloMachine.{Finished}
+use Rattle.spec_job.specs.KeyedJob.{Key}
 use Rattle.spec_job.specs.Viewed.{and_own, and_start}
 use Rattle.spec_job.proofs.StepLemmas.{finish-keeps, start-keeps}
 use Rattle.spec_hall.specs.Events.{Event, Start, Finish}
 use Rattle.spec_hall.specs.Legal.{Allowed, tenant_count}
 use Rattle.spec_hall.specs.Leases.{starts_in}
-use Rattle.spec_hall.specs.Seats.{Seat, IsSeated, jobs_in}
-use Rattle.spec_hall.specs.Spots.{Spot, Tag, AreSpots, tag_of, tags_of}
-use Rattle.spec_hall.specs.States.{leases, lease_of}
+use Rattle.spec_hall.specs.Seats.{Seat, jobs_in}
+use Rattle.spec_hall.specs.Spots.{Spot, Tag, tag_of, tags_of}
 use Rattle.spec_hall.proofs.LeasesLemmas.{IsFree, start-free}
 use Rattle.spec_hall.proofs.SeatLemmas.{reseated, seated-start, seated-finish}
 use Rattle.spec_hall.proofs.SpotLemmas.{and_started, starts-push, spots-start, spots-finish}

@@ -1,36 +1,34 @@
 -- What the parts of a hall say of its events, and what its parts do to them.
-use Rattle.std.proofs.Common.{◌≡◌, ℕ, zero, suc, ◌+◌, ◌-◌, ◌<◌, ◌≤◌, Bool, true, false, cond, ◌&&◌, ◌==◌, List, [], ◌∷◌, ◌++◌, length, get_or, slice_get, slice_set, take, drop, Option, Some, None, Result, Ok, Err, map, option_map, is_some, refl, sym, ◌∙◌, ap, subst, arith, append_assoc, append-nil}
+use Rattle.std.proofs.Common.{◌≡◌, ℕ, zero, suc, ◌+◌, ◌-◌, ◌<◌, ◌≤◌, Bool, true, false, cond, ◌&&◌, ◌==◌, List, [], ◌∷◌, ◌++◌, length, get_or, slice_get, slice_set, Option, Some, None, Ok, Err, map, option_map, is_some, refl, sym, ◌∙◌, ap, subst, arith, append_assoc, append-nil}
 use Rattle.std.specs.Prelude.{IsTrue, MatchOption, nat_eq, ◌↔◌}
 use Rattle.std.specs.Option.{option_map_or}
 use Rattle.std.proofs.lemmas.Bool.{both_ways}
 use Rattle.std.proofs.lemmas.Bool.Decides.{Decides-eqb}
-use Rattle.std.proofs.lemmas.List.{take_at}
 use Rattle.std.proofs.lemmas.Option.{slice_get-map, slice_get_read}
 use Rattle.mal_base.specs.declared.verdict.Outcome.{Outcome}
 use Rattle.mal_history.specs.declared.event.Event.TheVariants as of
-use Rattle.mal_history.specs.Written.{Written}
-use Rattle.mal_job.specs.Finishing.{MayFinish, outcome_of}
+use Rattle.mal_job.specs.Finishing.{MayFinish}
 use Rattle.spec_job.specs.Journaled.{Journaled}
 use Rattle.spec_job.specs.Journal.{JournalEntry}
 use Rattle.spec_job.specs.Leased.{Finished, Leased}
-use Rattle.spec_job.specs.SoloMachine.{Own, Exchanged, Lease, SoloMachine, NodeSlot, place_at, solo_step, start_entries, startable, Started, vacant, current}
+use Rattle.spec_job.specs.SoloMachine.{Exchanged, NodeSlot, place_at, start_entries, startable, current}
 use Rattle.spec_job.specs.SoloMachine.Own.{Finished as Done}
 use Rattle.spec_job.specs.KeyedJob.{Key, KeyedJob}
-use Rattle.spec_job.specs.Viewed.{IsBack, IsLeaseOf, and_own, and_start, journal_at}
+use Rattle.spec_job.specs.Viewed.{IsBack, IsLeaseOf, and_own, and_start}
 use Rattle.spec_job.proofs.PlacesLemmas as places
 use Rattle.spec_hall.specs.Calls.{Handed, IsOfLease, handed, is_over}
 use Rattle.spec_hall.specs.Driven.{is_done}
 use Rattle.spec_hall.specs.Events.{Event, Balance, Start, Finish, Exchange}
 use Rattle.spec_hall.specs.Leases.{lease_adds, lease_journal, start_number}
 use Rattle.spec_hall.specs.Legal.{Allowed, IsBalanceDue}
-use Rattle.spec_hall.specs.Seats.{Seat, IsSeated, balanced_by, balanced_from, first_exchange, is_due, is_live_seat, jobs_in, pick, shares_by}
-use Rattle.spec_hall.specs.Spots.{Spot, IsAt, IsSpot, AreSpots, tags_of}
+use Rattle.spec_hall.specs.Seats.{Seat, first_exchange, is_due, jobs_in, pick, shares_by}
+use Rattle.spec_hall.specs.Spots.{Spot, IsAt, IsSpot, tags_of}
 use Rattle.spec_hall.specs.States.{Candidate, LeaseOut, candidates_from, titled, balanced, exchange_due, keys_of, lease_of, leases, lives, picked, states}
 use Rattle.spec_hall.proofs.BalanceLemmas.{balance-allowed}
 use Rattle.spec_hall.proofs.DueLemmas.{seated-calm, seated-due}
 use Rattle.spec_hall.proofs.ExchangeLemmas.{first-found, seated-no_exchange}
 use Rattle.spec_hall.proofs.JournalLemmas.{adds-of, back-lease, held_at, journal-of, lease-back, spot-held, spot-lease, spot-out, spots-home, zero-lease}
-use Rattle.spec_hall.proofs.LeasesLemmas.{IsFree, lease-worker, start-free}
+use Rattle.spec_hall.proofs.LeasesLemmas.{start-free}
 use Rattle.spec_hall.proofs.PickLemmas.{seated-picked}
 use Rattle.spec_hall.proofs.RunnableLemmas.{IsCandidate, candidates-may, fewest-All, picked-may}
 use Rattle.spec_job.proofs.LeftLemmas.{solo-tidy}
@@ -49,8 +47,8 @@ use Rattle.spec_hall.specs.Legal.{Legal}
 use Rattle.spec_hall.specs.Measure.{left_in}
 use Rattle.spec_hall.proofs.ArrangeLemmas.{balance-calm, due-more, exchange-calm}
 use Rattle.spec_hall.proofs.TurnLemmas.{arranged-left, due-leases, due-none}
-use Rattle.mal_hall.specs.Offered.{HasArranged, Belongs, HasBalanced, HasEnded, HasExchanged, HasStarted, IsFirst, MayEnd, MayStartAt, handed_of}
-use Rattle.mal_hall.specs.HallView.{Inside, IsHall, events_in, events_of, out_in}
+use Rattle.mal_hall.specs.Offered.{HasArranged, HasBalanced, HasEnded, HasExchanged, HasStarted, IsFirst, MayEnd, MayStartAt, handed_of}
+use Rattle.mal_hall.specs.HallView.{Inside, IsHall, events_in, out_in}
 use Rattle.mal_hall.specs.Turned.{IsBalancing}
 use Rattle.mal_hall.proofs.HallLemmas.{Grown, hall-balance, hall-exchange, hall-seated, hall-spots}
 use Rattle.mal_hall.proofs.LeaseLemmas.{hall-finish, hall-start, out-left}

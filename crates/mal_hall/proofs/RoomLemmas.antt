@@ -1,4 +1,4 @@
-use Rattle.std.proofs.Common.{ℕ, ◌≤◌, not, length, arith}
+use Rattle.std.proofs.Common.{◌≤◌, not, length, arith}
 use Rattle.std.proofs.lemmas.List.Sums.{count_by-le-length}
 use Rattle.spec_hall.specs.Seats.{Seat}
 use Rattle.mal_hall.specs.HallView.{Inside, IsHall}

@@ -13,9 +13,7 @@ use Rattle.spec_hall.specs.Calls as calls
 use Rattle.spec_hall.specs.Events.{Event, Balance, Start, Finish, Exchange}
 use Rattle.spec_hall.specs.Legal.{Allowed}
 use Rattle.spec_hall.specs.States.{LeaseOut, keys_of, states, leases, lease_of, exchange_due}
-use Rattle.spec_job.specs.Viewed.{IsGrownBy}
 use Rattle.mal_base.specs.declared.verdict.Outcome.{Outcome}
-use Rattle.mal_job.specs.Finishing.{outcome_of}
 
 -- a lease as it is handed out
 abbrev pub handed_of : Leased → calls.Handed

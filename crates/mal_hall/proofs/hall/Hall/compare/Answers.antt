@@ -1,4 +1,4 @@
-use Rattle.std.proofs.Common.{◌≡◌, ℕ, ◌≤◌, refl, sym, ◌∙◌, arith}
+use Rattle.std.proofs.Common.{◌≤◌, arith}
 use Rattle.mal_hall.proofs.PhaseLemmas.{back-not, kept-is, kept-none, may-return, none-out, spot-is, spot-seat, spot-within, strange-none, test-not, test-yes, zero-none}
 use Rattle.mal_hall.specs.HallView.{events_of}
 use Rattle.mal_hall.proofs.hall.Hall.compare.Goals as goal

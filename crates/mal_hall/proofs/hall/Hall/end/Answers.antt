@@ -1,4 +1,4 @@
-use Rattle.std.proofs.Common.{ℕ, ◌-◌, None, slice_set, ap, refl, sym, ◌∙◌, arith}
+use Rattle.std.proofs.Common.{◌-◌, None, slice_set, refl, arith}
 use Rattle.mal_job.specs.Finishing.{outcome_of}
 use Rattle.mal_job.specs.Finishing.{MayFinish}
 use Rattle.spec_hall.specs.Seats.{Seat}

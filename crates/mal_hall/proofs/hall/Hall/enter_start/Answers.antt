@@ -1,4 +1,4 @@
-use Rattle.std.proofs.Common.{refl, ◌∙◌}
+use Rattle.std.proofs.Common.{◌∙◌}
 use Rattle.spec_hall.specs.Dressed.{keyed}
 use Rattle.mal_hall.proofs.ApplyLemmas.{lodged-inside}
 use Rattle.mal_hall.proofs.InsideLemmas.{stands}

@@ -1,7 +1,4 @@
-use Rattle.std.proofs.Common.{◌∙◌, ap, sym}
-use Rattle.spec_hall.specs.Driven.{is_done}
-use Rattle.spec_hall.specs.Seats.{Seat, jobs_in}
-use Rattle.std.proofs.Common.{List}
+use Rattle.std.proofs.Common.{sym}
 use Rattle.mal_hall.proofs.PhaseLemmas.{phase-left, phase-over}
 use Rattle.mal_hall.proofs.hall.Hall.is_over.Goals as goal
 

@@ -1,4 +1,4 @@
-use Rattle.std.proofs.Common.{◌-◌, Some, ap, sym, ◌∙◌}
+use Rattle.std.proofs.Common.{◌-◌, Some}
 use Rattle.mal_hall.proofs.ApplyLemmas.{set-slot}
 use Rattle.mal_hall.proofs.hall.Hall.lodge.Goals as goal
 

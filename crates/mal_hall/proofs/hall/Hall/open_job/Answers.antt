@@ -1,9 +1,8 @@
-use Rattle.std.proofs.Common.{◌≡◌, ◌+◌, List, length, ap, [], ◌∙◌, refl, sym, subst, arith, Err}
+use Rattle.std.proofs.Common.{◌+◌, length, ◌∙◌, refl, sym, arith, Err}
 use Rattle.std.proofs.lemmas.Result.{err_from_is_err_and}
 use Rattle.spec_hall.specs.Calls.{Opens}
 use Rattle.mal_base.specs.declared.hall_fault.OpenFault.TheVariants.{Duplicate, OutOfMemory}
 use Rattle.spec_hall.specs.Dressed.{keyed}
-use Rattle.spec_hall.specs.Seats.{Seat}
 use Rattle.mal_hall.specs.HallView.{events_of}
 use Rattle.mal_hall.proofs.HallLemmas.{placed, none-from, hall-absent, hall-some_job, hall-jobs, hall-tenants, hall-open, may-open, called-none, called-one}
 use Rattle.mal_hall.proofs.RoomLemmas.{unclosed-few}

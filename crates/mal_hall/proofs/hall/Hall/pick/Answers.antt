@@ -1,4 +1,4 @@
-use Rattle.std.proofs.Common.{◌∙◌, refl, sym}
+use Rattle.std.proofs.Common.{◌∙◌, sym}
 use Rattle.mal_hall.proofs.PhaseLemmas.{arranged-same, may-pick, pick-busy, pick-done, pick-idle, pick-start, pick-wanting, start-may}
 use Rattle.mal_hall.proofs.hall.Hall.pick.Goals as goal
 

@@ -1,4 +1,4 @@
-use Rattle.std.proofs.Common.{◌≡◌, ℕ, ◌≤◌, ◌<◌, ◌∙◌, ap, sym, arith}
+use Rattle.std.proofs.Common.{◌≡◌, ◌≤◌, ◌∙◌, ap, sym, arith}
 use Rattle.mal_hall.specs.HallView.{HallView}
 use Rattle.mal_hall.proofs.PhaseLemmas.{may-lose}
 use Rattle.mal_hall.proofs.RecallLemmas.{home-none, home-one, lose-none, lose-one, recall-done}

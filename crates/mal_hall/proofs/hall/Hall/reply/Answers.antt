@@ -1,11 +1,10 @@
-use Rattle.std.proofs.Common.{◌≡◌, ℕ, List, [], Option, subst, sym, refl, arith, append-nil, Some, None, Ok, Err, MatchOption}
+use Rattle.std.proofs.Common.{◌≡◌, ℕ, List, [], Option, subst, sym, refl, arith, append-nil, Some, None, Ok, MatchOption}
 use Rattle.spec_job.specs.SoloMachine.{SoloMachine}
 use Rattle.spec_job.specs.KeyedJob.{Key}
 use Rattle.spec_job.specs.Replies.{reply}
 use Rattle.std.specs.declared.alloc.Global.{Global}
 use Rattle.std.specs.declared.vec.Vec.{Vec}
 use Rattle.spec_job.specs.KeyedJob.{KeyedJob}
-use Rattle.mal_base.specs.declared.hall_fault.ReplyFault.TheVariants.{NoJob, OutOfMemory}
 use Rattle.spec_hall.specs.Calls.{IsAsking}
 use Rattle.spec_hall.specs.Dressed.{keyed}
 use Rattle.spec_hall.specs.Events.{Event}

@@ -1,12 +1,11 @@
-use Rattle.std.proofs.Common.{List, [], ◌∙◌, ◌+◌, ◌<◌, ◌≤◌, ap, length, refl, subst, arith, Err}
+use Rattle.std.proofs.Common.{◌∙◌, ◌+◌, ◌<◌, ◌≤◌, length, refl, arith, Err}
 use Rattle.spec_job.specs.SoloMachine.{clauses_in}
 use Rattle.std.proofs.lemmas.Result.{err_from_is_err_and}
 use Rattle.spec_hall.specs.Dressed.{keyed}
 use Rattle.spec_hall.specs.Seats.{Seat}
-use Rattle.spec_hall.specs.States.{states}
-use Rattle.spec_hall.specs.Calls.{IsRevising, Revises}
+use Rattle.spec_hall.specs.Calls.{Revises}
 use Rattle.mal_base.specs.declared.hall_fault.ReviseFault.TheVariants.{OutOfMemory}
-use Rattle.mal_hall.specs.HallView.{HallView, events_of}
+use Rattle.mal_hall.specs.HallView.{events_of}
 use Rattle.mal_hall.proofs.HallLemmas.{placed, placed-below, sits, hall-absent, hall-found, hall-next, hall-revise, may-revise, called-none, called-one, of-seat}
 use Rattle.mal_hall.proofs.RoomLemmas.{unclosed-few}
 use Rattle.mal_hall.proofs.hall.Hall.revise_job.Goals as goal

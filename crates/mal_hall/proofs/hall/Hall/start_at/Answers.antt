@@ -1,8 +1,7 @@
-use Rattle.std.proofs.Common.{◌≡◌, true, ◌+◌, ◌-◌, slice_set, Some, ap, refl, sym, ◌∙◌, arith}
+use Rattle.std.proofs.Common.{◌≡◌, true, ◌+◌, ◌-◌, slice_set, Some, ap, refl, ◌∙◌, arith}
 use Rattle.spec_hall.specs.Seats.{Seat}
 use Rattle.spec_job.specs.SoloMachine.{startable}
 use Rattle.spec_hall.specs.Spots.{Spot}
-use Rattle.mal_hall.specs.HallView.{events_of}
 use Rattle.mal_hall.proofs.HallLemmas.{of-seat}
 use Rattle.mal_hall.proofs.PhaseLemmas.{can-start, phase-start, spot-same, within-key}
 use Rattle.mal_hall.proofs.RoomLemmas.{unclosed-few}
