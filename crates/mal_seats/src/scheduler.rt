@@ -77,8 +77,8 @@ fn pick_at(seats: &[Seat], at: usize, best: Option<Candidate>) -> Option<Candida
     }
 }
 
-/// The node that starts next of the jobs at these places, which rise: that with the fewest starts, then by its job's opening,
-/// then by index.
+/// The node that starts next of the jobs at these places, which rise: that with the fewest starts, then by its job's
+/// opening, then by index.
 pub fn pick_among(seats: &[Seat], places: &[usize]) -> Option<Candidate>
     ensures { result ≡ filled.pick_among seats.now None places.now }
 {

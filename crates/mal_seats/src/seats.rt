@@ -26,9 +26,9 @@ use mal_suspend::{Done, Lease};
 use std::alloc::{AllocError, Global};
 use std::marker::Model;
 
-/// The jobs of a hall in their seats, by opening. The type keeps beside them how many were changed so that a balancing is
-/// due, how many are not closed or not answered, the places of those that have a volume, and the names: what is due, which
-/// node starts next and where a job sits is found without going over all jobs. Contracts see the seats.
+/// The jobs of a hall in their seats, by opening. The type keeps beside them how many were changed so that a balancing
+/// is due, how many are not closed or not answered, the places of those that have a volume, and the names: what is due,
+/// which node starts next and where a job sits is found without going over all jobs. Contracts see the seats.
 #[derive(Drop)]
 pub struct Seats {
     seats: Vec<Seat>,
@@ -146,7 +146,8 @@ impl Seats {
         shares(*self.seats.allocator(), &self.seats, volumes)
     }
 
-    /// Gives the live jobs these volumes, by opening, and all others none. After want of memory the seats are as before.
+    /// Gives the live jobs these volumes, by opening, and all others none. After want of memory the seats are as
+    /// before.
     pub fn balance(&mut self, volumes: &[u32]) -> Result<(), AllocError>
         requires { (n : ℕ) → volume_at volumes.now n ≤ 64 }
         ensures ok { OnOk result (self.new ≡ spec.balanced_by volumes.now self.old) }
@@ -218,8 +219,8 @@ impl Seats {
         self.counts.change(before, after);
     }
 
-    /// Starts a node of the job at a place, as the start of this number: hands it out to a worker. After want of memory the
-    /// seats are as before.
+    /// Starts a node of the job at a place, as the start of this number: hands it out to a worker. After want of memory
+    /// the seats are as before.
     pub fn start(
         &mut self,
         at: usize,
@@ -244,8 +245,8 @@ impl Seats {
         Ok(lease)
     }
 
-    /// Ends the start of the job at a place that is out at this index (0 to 63): it is lost where nothing came back. Takes no
-    /// memory.
+    /// Ends the start of the job at a place that is out at this index (0 to 63): it is lost where nothing came back.
+    /// Takes no memory.
     pub fn finish(&mut self, at: usize, index: u32, back: Option<Done>)
         requires place { at < length self.old }
         requires index { index ≤ 63 }
@@ -259,7 +260,8 @@ impl Seats {
         self.counts.change(before, after);
     }
 
-    /// Lets the nodes of the job at a place tell one another what they derived. After want of memory the seats are as before.
+    /// Lets the nodes of the job at a place tell one another what they derived. After want of memory the seats are as
+    /// before.
     pub fn exchange(&mut self, at: usize) -> Result<(), AllocError>
         requires { at < length self.old }
         ensures ok { OnOk result (IsChanged (λ s. record s { job = and_own s.job Exchanged }) at self.old self.new) }
