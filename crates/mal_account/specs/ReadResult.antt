@@ -60,7 +60,8 @@ abbrev pub Tells : Option account.Fault → List ℕ → Type 0
 Tells None text = ⊥
 Tells (Some fault) text = text ≡ fault_line fault
 
--- two texts are those before and behind the first line `history` among the lines of a text; none where no line is that word
+-- two texts are those before and behind the first line `history` among the lines of a text; none where no line is that
+-- word
 abbrev pub IsCut : Option (Bor (List ℕ) × Bor (List ℕ)) → List (List (List ℕ)) → Type 0
 IsCut None rows = list_any account.is_history_line rows ≡ false
 IsCut (Some (front, behind)) rows = (list_any account.is_history_line rows ≡ true) × (rows_of front.now ≡ account.script_rows rows) × (rows_of behind.now ≡ account.history_rows rows)

@@ -3,8 +3,8 @@
 use mal_history::History;
 use mal_script::Script;
 
-/// A script, and the history of a hall that is said to have run it, with the line of each event, counted from 1 behind the
-/// line `history`.
+/// A script, and the history of a hall that is said to have run it, with the line of each event, counted from 1 behind
+/// the line `history`.
 #[derive(Drop)]
 pub struct Account {
     pub script: Script,

@@ -25,11 +25,11 @@ use mal_script::{Script, ScriptFault};
 use mal_text::{first_line, first_word};
 use std::alloc::Global;
 
-/// The account that a text spells: the lines before the first line of the one word `history` are a script, those behind it a
-/// history.
+/// The account that a text spells: the lines before the first line of the one word `history` are a script, those behind
+/// it a history.
 ///
-/// Errors: `NoHistory` where no line is that word; else the first fault of the script, and then that of the history, with its
-/// line. `OutOfMemory` may come at any time.
+/// Errors: `NoHistory` where no line is that word; else the first fault of the script, and then that of the history,
+/// with its line. `OutOfMemory` may come at any time.
 pub fn read(alloc: Global, text: &[u8]) -> Result<Account, AccountFault>
     // Which account or which fault it is.
     ensures exact { Gives seen result (read_text text.now) }

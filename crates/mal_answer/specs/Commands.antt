@@ -1,5 +1,5 @@
--- The commands: the grammar of each one's input, what its input has to meet, what it gives, and the lines that tell why it gives
--- nothing.
+-- The commands: the grammar of each one's input, what its input has to meet, what it gives, and the lines that tell why
+-- it gives nothing.
 use Rattle.std.specs.Prelude.{◌≡◌, ◌⊎◌, ℕ, List, [], ◌∷◌, codes, Err}
 use Rattle.mal_history.specs.Written.{line_at}
 use Rattle.mal_words.specs.declared.request.Request.{Request}

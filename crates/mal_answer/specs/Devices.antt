@@ -3,8 +3,8 @@ use Rattle.std.specs.Prelude.{◌≡◌, ◌+◌, ◌^◌, ◌≤◌, ℕ, List,
 use Rattle.std.specs.Io.KnownBytes.{Consumes, Appends, IsAtEnd}
 use Rattle.mal_io.specs.Moves.{GotFront, Rose}
 
--- what a device tells of a call: its bytes before and after (those that a source has left, those that a sink has got; maybe
--- none are told), and how many faults it has counted
+-- what a device tells of a call: its bytes before and after (those that a source has left, those that a sink has got;
+-- maybe none are told), and how many faults it has counted
 pub record Device : Type 0 where
   pub bytes : Option (List ℕ)
   pub bytes_now : Option (List ℕ)

@@ -8,8 +8,8 @@ use Rattle.spec_script.specs.Formed.{IsScript}
 use Rattle.spec_script.specs.Limits.{served}
 use Rattle.spec_script.specs.Script.{Scripted, spelling}
 
--- where a script was run, replaying the text that is the script's, the line `history` and the run's log gives the run's output, unless
--- the history is longer than a text of one may be, or otherwise out of form
+-- where a script was run, replaying the text that is the script's, the line `history` and the run's log gives the run's
+-- output, unless the history is longer than a text of one may be, or otherwise out of form
 abbrev pub RunReplays : Type 0
 RunReplays =
     (workers : ℕ) (s : Scripted) (log out : List ℕ) (run : IsRunOf workers s log out) → IsScript served s → IsHistory workers (map bare run.history)

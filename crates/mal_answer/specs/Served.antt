@@ -24,8 +24,8 @@ pub record IsCutShort (r : Request) (source log out : Device) : Type 0 where
   pub wrote : WrotePart log out log_text out_text
   pub failed : Failed log ⊎ Failed out
 
--- status 3: the source gave more bytes than the limit, or a text to its end that is refused, and the line was written that says
--- so
+-- status 3: the source gave more bytes than the limit, or a text to its end that is refused, and the line was written
+-- that says so
 pub record IsRefused (r : Request) (source log out : Device) : Type 0 where
   pub line : List ℕ
   pub cause : (GaveTooMuch source × (line ≡ too_long_line)) ⊎ ((text : List ℕ) × Gave source text × Refuses r text line)
@@ -39,8 +39,8 @@ pub record IsDenied (r : Request) (source log out : Device) : Type 0 where
   pub denies : Denies r text line
   pub told : Complained log out line
 
--- the status says what was done: 0, 3, 5 and 7 as above; 4 where the source failed, and 6 where memory ran out, and then nothing
--- was written
+-- the status says what was done: 0, 3, 5 and 7 as above; 4 where the source failed, and 6 where memory ran out, and
+-- then nothing was written
 abbrev pub Says : Request → Device → Device → Device → ℕ → Type 0
 Says r source log out status =
     ((status ≡ 0) × IsDone r source log out)
@@ -68,9 +68,9 @@ abbrev pub IsOutside : Request → Option (List ℕ) → Type 0
 IsOutside r None = ⊥
 IsOutside r (Some input) = (2 ^ 26 < length input) ⊎ (InGrammar r input → ⊥)
 
--- a command that reads its input: the status says what was done; where the source did not fail, an input outside the grammar or
--- above the limit gives 3, one that is not as the command wants it 7, and one that is, where no sink failed either, 0, unless
--- memory ran out
+-- a command that reads its input: the status says what was done; where the source did not fail, an input outside the
+-- grammar or above the limit gives 3, one that is not as the command wants it 7, and one that is, where no sink failed
+-- either, 0, unless memory ran out
 pub record HasServed (r : Request) (source log out : Device) (status : ℕ) : Type 0 where
   pub says : Says r source log out status
   pub refuses : IsOutside r source.bytes → (Failed source → ⊥) → (status ≡ 3) ⊎ (status ≡ 6)

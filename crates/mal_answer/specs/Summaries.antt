@@ -8,7 +8,8 @@ use Rattle.spec_text.specs.Numbers.{decimal_word}
 abbrev pub lines_that_are : List ℕ → List ℕ → ℕ
 lines_that_are line text = count_by (bytes_eq line) (lines_of text)
 
--- the line `g N sat A unsat B unknown C` of so many jobs: how many of the replies are satisfiable, unsatisfiable and unknown
+-- the line `g N sat A unsat B unknown C` of so many jobs: how many of the replies are satisfiable, unsatisfiable and
+-- unknown
 unfoldable pub summary_line : ℕ → List ℕ → List ℕ
 summary_line jobs replies = line_of (
     codes "g" ∷ decimal_word jobs

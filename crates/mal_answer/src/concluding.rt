@@ -31,9 +31,9 @@ const DENIED: u8 = 7;
 /// The line for an input above the limit.
 const TOO_LONG: &[u8] = b"fault: input too long\n";
 
-/// Writes what a command answered, and gives the status: what it gives to the log and then to the output, or the line that
-/// tells why it gives nothing to the log, as far as the log takes it. Where the source failed or memory ran out nothing is
-/// written.
+/// Writes what a command answered, and gives the status: what it gives to the log and then to the output, or the line
+/// that tells why it gives nothing to the log, as far as the log takes it. Where the source failed or memory ran out
+/// nothing is written.
 pub fn conclude<K: Sink, L: Sink>(answer: Result<Texts, Complaint>, out: &mut K, log: &mut L) -> u8
     ensures { IsConcluded (device (L.got log.old) (L.got log.new) (L.faults log.old) (L.faults log.new)) (device (K.got out.old) (K.got out.new) (K.faults out.old) (K.faults out.new)) answer result }
 {

@@ -2,8 +2,8 @@
 
 ghost use Rattle.mal_answer.specs.Laws.{RunReplays};
 
-/// Where a script was run, replaying the text of the script, the line `history` and the log of the run gives the output of the run,
-/// if the history is in form: one of 2^24 events at most.
+/// Where a script was run, replaying the text of the script, the line `history` and the log of the run gives the output
+/// of the run, if the history is in form: one of 2^24 events at most.
 pub fn run_replays()
     ensures { RunReplays }
 {}

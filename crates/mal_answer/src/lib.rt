@@ -1,5 +1,5 @@
-//! What the commands of the program answer, what is written for it, and what the statuses say: each command but those that run
-//! slices.
+//! What the commands of the program answer, what is written for it, and what the statuses say: each command but those
+//! that run slices.
 #![tactic(auto)]
 
 mod answer;

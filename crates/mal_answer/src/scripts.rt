@@ -12,7 +12,8 @@ use std::alloc::Global;
 
 /// The script that a text spells.
 ///
-/// Errors: `Refused` with the line that tells the first fault, exactly where the text spells no script; `OutOfMemory` at any time.
+/// Errors: `Refused` with the line that tells the first fault, exactly where the text spells no script; `OutOfMemory`
+/// at any time.
 #[tactic(auto, using(crate::proofs::ScriptLemmas::script_lemmas))]
 pub fn script_of(alloc: Global, text: &[u8]) -> Result<Script, Complaint>
     ensures spelled { IfOk result (λ s. Spells served text.now s) }

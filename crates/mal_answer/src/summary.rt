@@ -19,8 +19,8 @@ pub fn summarized(alloc: Global, jobs: u32, ran: Texts) -> Result<Texts, Complai
     }
 }
 
-/// The line `g N sat A unsat B unknown C` of so many jobs and the replies to them: A of them are satisfiable, B unsatisfiable and C
-/// unknown.
+/// The line `g N sat A unsat B unknown C` of so many jobs and the replies to them: A of them are satisfiable, B
+/// unsatisfiable and C unknown.
 #[tactic(auto, unfolding(crate::specs::Summaries::summary_line))]
 fn summary(alloc: Global, jobs: u32, replies: &[u8]) -> Result<Vec<u8>, AllocError>
     ensures { IfOk result (λ v. v.items ≡ summary_line jobs replies.now) }

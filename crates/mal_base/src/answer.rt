@@ -39,8 +39,8 @@ impl Values {
     }
 }
 
-/// The answer to a revision: a model; the derived clause that refutes the clauses under the assumptions; or unknown, since
-/// the budget of so many slices is spent or since three starts reported want of memory.
+/// The answer to a revision: a model; the derived clause that refutes the clauses under the assumptions; or unknown,
+/// since the budget of so many slices is spent or since three starts reported want of memory.
 #[derive(Debug, Drop)]
 pub enum Answer {
     Satisfied(Values),

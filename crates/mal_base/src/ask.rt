@@ -5,8 +5,9 @@ ghost use Rattle.mal_base.specs.Asks.{InRange, IsAsk, IsProfile};
 
 use std::marker::Model;
 
-/// A job's priority (1 to 1,000), its demand (the most solvers that it can use at a time, 1 to 64), the slices that each of its
-/// revisions may spend (1 to 4,096), and the profile of its solvers (1 or 2). Contracts see the four numbers.
+/// A job's priority (1 to 1,000), its demand (the most solvers that it can use at a time, 1 to 64), the slices that
+/// each of its revisions may spend (1 to 4,096), and the profile of its solvers (1 or 2). Contracts see the four
+/// numbers.
 #[derive(Clone, Copy, Debug, PartialEq, Eq)]
 pub struct Ask {
     priority: u32,

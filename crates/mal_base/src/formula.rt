@@ -8,8 +8,8 @@ use crate::clause::Clause;
 use crate::literal::{Lit, Var};
 use std::marker::Model;
 
-/// A formula: the number of its variables (at most 65,536) and its clauses (at most 2^20 with at most 2^24 literals, all
-/// of its variables). None stands for a tautology, which keeps its number, counts no literal and needs a variable.
+/// A formula: the number of its variables (at most 65,536) and its clauses (at most 2^20 with at most 2^24 literals,
+/// all of its variables). None stands for a tautology, which keeps its number, counts no literal and needs a variable.
 /// Contracts see the two.
 #[derive(Drop)]
 pub struct Formula {

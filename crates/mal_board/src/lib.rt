@@ -1,5 +1,5 @@
-//! The shared service as a board: tenants post and workers work at the same time, and every call of theirs is one entry of one
-//! legal record.
+//! The shared service as a board: tenants post and workers work at the same time, and every call of theirs is one entry
+//! of one legal record.
 #![tactic(auto)]
 
 mod laws;

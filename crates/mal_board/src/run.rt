@@ -16,9 +16,10 @@ use std::marker::Brand;
 use std::sync::Wait;
 use std::thread::Threads;
 
-/// Runs a script with 1 to 64 workers. With one worker no thread is made and nothing is waited for: all jobs are opened, then job
-/// by job its revisions and its closing are posted, and the hall is driven. With more, tenants post and workers work at the same
-/// time, each in a thread where one can be had, and share a service: they call its hall in turns, and work outside the turn.
+/// Runs a script with 1 to 64 workers. With one worker no thread is made and nothing is waited for: all jobs are
+/// opened, then job by job its revisions and its closing are posted, and the hall is driven. With more, tenants post
+/// and workers work at the same time, each in a thread where one can be had, and share a service: they call its hall in
+/// turns, and work outside the turn.
 #[tactic(auto, using(crate::proofs::LossLemmas::alone_loses_none))]
 pub fn run_served<R: Threads + Wait + Sync, G: Gate>(
     rt: &R,

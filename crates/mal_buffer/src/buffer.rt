@@ -10,8 +10,8 @@ use std::alloc::{AllocError, Global};
 use std::cmp::Ordering;
 use std::marker::Model;
 
-/// A buffer: clauses with their numbers, the shorter ones first and those of one length by the codes of their literals. No
-/// list of literals stands twice. Contracts see the list of entries.
+/// A buffer: clauses with their numbers, the shorter ones first and those of one length by the codes of their literals.
+/// No list of literals stands twice. Contracts see the list of entries.
 #[derive(Drop)]
 pub struct Buffer {
     entries: Vec<NumberedClause>,
@@ -96,7 +96,8 @@ fn push_copies(
     Ok(())
 }
 
-/// Two sorted lists merged: the lesser first entry first, and of two with the same literals the one with the lesser number.
+/// Two sorted lists merged: the lesser first entry first, and of two with the same literals the one with the lesser
+/// number.
 fn merged(
     alloc: Global,
     xs: &[NumberedClause],

@@ -6,8 +6,8 @@ ghost use Rattle.spec_exchange.specs.Exchange.{lits_cmp};
 use mal_base::NumberedClause;
 use std::cmp::Ordering;
 
-/// How two clauses stand: the one with fewer literals first, and of two with equally many the one whose literals have the
-/// lesser code where they first differ. Their numbers do not count.
+/// How two clauses stand: the one with fewer literals first, and of two with equally many the one whose literals have
+/// the lesser code where they first differ. Their numbers do not count.
 pub fn clause_order(one: &NumberedClause, other: &NumberedClause) -> Ordering
     ensures { result ≡ lits_cmp one.now.lits other.now.lits }
 {

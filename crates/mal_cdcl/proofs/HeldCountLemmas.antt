@@ -147,7 +147,8 @@ picks-profile : (ps : List (List NumberedClause)) (n : Node) → (with_picks ps 
 picks-profile [] n = refl
 picks-profile (new ∷ more) n = picks-profile more (with_pick new n) ∙ (pick-leaves new n).profile
 
--- room for the numbers of the clauses held before loads and imports, of theirs, and of so many more is room for those held after
+-- room for the numbers of the clauses held before loads and imports, of theirs, and of so many more is room for those
+-- held after
 pub ready-ids : (loads : List (Posted × ℕ)) (picks : List (List NumberedClause)) (start end : Node) (ids : ℕ) → end ≡ with_picks picks (readied loads start) → (start.profile ≡ 2 → length start.clauses + (clauses_in loads + told_clauses picks + 1000) ≤ ids) → end.profile ≡ 2 → length end.clauses + 1000 ≤ ids
 ready-ids loads picks start end ids is room two =
     let profile : end.profile ≡ start.profile = ap (λ (n : Node). n.profile) is ∙ (picks-profile picks (readied loads start) ∙ readied-profile loads start) in

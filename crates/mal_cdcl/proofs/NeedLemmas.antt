@@ -45,8 +45,8 @@ room-head l ls told n h =
       hints = omega (arith, g, h.hints);
     }
 
--- what is left to do of some loads: the node is ready after it, its numbers are new, and there is room for it, in a scratch
--- of this bound too
+-- what is left to do of some loads: the node is ready after it, its numbers are new, and there is room for it, in a
+-- scratch of this bound too
 pub record IsReadying (left all : List (Posted × ℕ)) (told : List (List NumberedClause)) (start : Node) (bound : ℕ) (now : NodeWithRoom) : Type 0 where
   pub done : readied left now.state ≡ readied all start
   pub new : AreNew left now.state

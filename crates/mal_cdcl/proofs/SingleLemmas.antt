@@ -95,7 +95,8 @@ two-first v id other told more high high' differ low low' h k n same unrun origi
       record { conflicts_since_restart = omega (arith, second.conflicts_since_restart, first.conflicts_since_restart, unrun.conflicts_since_restart); restart_number = omega (arith, second.restart_number, first.restart_number, unrun.restart_number); conflicts_since_dropping = omega (arith, second.conflicts_since_dropping, first.conflicts_since_dropping, unrun.conflicts_since_dropping); serial = omega (arith, twice) },
     )
 
--- lists that may be the first to be told may be told to node 0 after its first load, which is sound and of low counts then
+-- lists that may be the first to be told may be told to node 0 after its first load, which is sound and of low counts
+-- then
 pub first-told : (r : Posted) (imports : List (List NumberedClause)) → r.variables ≡ 2 → 1 + length r.clauses ≤ 2 ^ 32 → AreFirstTold 2 imports → MayImportAll imports (loaded r 1 (fresh 0)) × HasLowCounts (all_imported imports (loaded r 1 (fresh 0)))
 first-told r imports v b h = h (loaded r 1 (fresh 0)) (omega (arith, v)) (record { conflicts_since_restart = refl; restart_number = refl; conflicts_since_dropping = refl; serial = refl }) (All-with_originals (λ c. c.id < 2 ^ 32) [] (numbered 1 r.clauses) (All-nil (λ (c : NumberedClause). c.id < 2 ^ 32)) (numbered-below (2 ^ 32) 1 r.clauses b))
 

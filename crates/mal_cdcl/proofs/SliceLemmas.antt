@@ -50,7 +50,8 @@ behind-lines : (ls : List Line) (o : Option Line) (s : Sliced) → ls ++ (behind
 behind-lines ls None s = refl
 behind-lines ls (Some l) s = sym (append_assoc ls (l ∷ []) s.lines)
 
--- what is left of a slice: so many steps, before which so many literals and hints were derived, give what the whole gives
+-- what is left of a slice: so many steps, before which so many literals and hints were derived, give what the whole
+-- gives
 pub record IsSlicing (left used : ℕ) (start now : NodeWithRoom) : Type 0 where
   pub node : (steps_from left used now.state).node ≡ (steps_from 1000 0 start.state).node
   pub lines : now.lines ++ (steps_from left used now.state).lines ≡ (steps_from 1000 0 start.state).lines

@@ -53,7 +53,8 @@ pub record MayCount (n : Node) : Type 0 where
   pub conflicts_since_dropping : n.conflicts_since_dropping < 2 ^ 32 - 1
   pub serial : n.serial + 1 < 2 ^ 57
 
--- a scratch has room for the numbers of the clauses that a node holds and derives in so many steps, where its profile drops clauses
+-- a scratch has room for the numbers of the clauses that a node holds and derives in so many steps, where its profile
+-- drops clauses
 abbrev pub HasIdRoom : ℕ → Node → Shown → Type 0
 HasIdRoom steps n s = n.profile ≡ 2 → length n.clauses + steps ≤ s.ids
 

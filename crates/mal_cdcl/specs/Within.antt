@@ -13,8 +13,8 @@ use Rattle.mal_trail.specs.Rooms.{Room, are_within}
 abbrev pub is_order_of : ℕ → List ℕ → Bool
 is_order_of variables order = list_all (λ v. nat_le v variables) order
 
--- what a node's parts keep: all that it holds speaks of its variables, which the trail has room for, the order has as many
--- as there are and turns by the node's index, and the numbers of its clauses rise
+-- what a node's parts keep: all that it holds speaks of its variables, which the trail has room for, the order has as
+-- many as there are and turns by the node's index, and the numbers of its clauses rise
 pub record IsNode (index variables most : ℕ) (assumptions : List ℕ) (order : Ordered) (phases : List Bool) (clauses : List NumberedClause) : Type 0 where
   pub place : index ≤ 63
   pub small : variables ≤ 65536

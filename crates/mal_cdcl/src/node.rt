@@ -41,9 +41,9 @@ use std::mem;
 /// How many steps a slice has.
 const SLICE_STEPS: u32 = 1000;
 
-/// A solver node over an engine of unit propagation: what it holds, how far its search has come, and what its last slice
-/// derived. The first assumptions that were found true are passed until a cut. Contracts see the record of its state, what
-/// it has room for, and the lines of that slice.
+/// A solver node over an engine of unit propagation: what it holds, how far its search has come, and what its last
+/// slice derived. The first assumptions that were found true are passed until a cut. Contracts see the record of its
+/// state, what it has room for, and the lines of that slice.
 #[derive(Drop)]
 pub struct Node<E: Engine> {
     index: u32,
@@ -239,8 +239,8 @@ impl<E: Listed> Node<E> {
         })
     }
 
-    /// Makes room for these loads, the clauses that are taken and a slice after them, in a scratch too, and takes the lines
-    /// away.
+    /// Makes room for these loads, the clauses that are taken and a slice after them, in a scratch too, and takes the
+    /// lines away.
     fn make_room(
         &mut self,
         loads: &[(&Revision, u32)],
@@ -272,7 +272,8 @@ impl<E: Listed> Node<E> {
         Ok(())
     }
 
-    /// Makes room in a scratch for the numbers of the clauses held and of so many more, where the profile drops clauses.
+    /// Makes room in a scratch for the numbers of the clauses held and of so many more, where the profile drops
+    /// clauses.
     fn fit_ids(&self, more: usize, scratch: &mut Scratch) -> Result<(), AllocError>
         ensures ids { OnOk result (self.now.state.profile ≡ 2 → length self.now.state.clauses + more ≤ scratch.new.ids) }
         ensures room { scratch.new.room ≡ scratch.old.room }
@@ -321,8 +322,8 @@ impl<E: Listed> Node<E> {
         self.conflict = None;
     }
 
-    /// Imports what was taken of a list, where there is room for it: under profile 2 a list of which nothing was taken changes
-    /// nothing. Takes no memory.
+    /// Imports what was taken of a list, where there is room for it: under profile 2 a list of which nothing was taken
+    /// changes nothing. Takes no memory.
     fn take_pick(&mut self, told: &[NumberedClause])
         requires new { AreNewTo self.old.state.clauses self.old.state.variables told.now }
         requires room { HasRoom self.old.state.variables (length told.now) (lits_in told.now) self.old.spare.engine }
@@ -454,8 +455,8 @@ impl<E: Listed> Node<E> {
         self.restart_number += 1;
     }
 
-    /// Assumes the first assumption that is not true, unless it is false: then tells which one it is. Where all are true,
-    /// decides or ends.
+    /// Assumes the first assumption that is not true, unless it is false: then tells which one it is. Where all are
+    /// true, decides or ends.
     fn branch(&mut self) -> Option<Lit>
         requires { self.old.state.processed ≤ length self.old.state.trail + 1 }
         ensures { MatchOption result (IsSearched (branching self.old.state) self.old self.new) (λ a. IsFailing (branching self.old.state) a self.old self.new) }
@@ -491,7 +492,8 @@ impl<E: Listed> Node<E> {
         None
     }
 
-    /// Decides the first variable without a value with its phase, at a new level. Where each has a value the search ends.
+    /// Decides the first variable without a value with its phase, at a new level. Where each has a value the search
+    /// ends.
     fn decide(&mut self)
         requires found { first_open self.old.state.trail self.old.state.assumptions ≡ None }
         requires handled { self.old.state.processed ≤ length self.old.state.trail + 1 }
@@ -516,8 +518,8 @@ impl<E: Listed> Node<E> {
         self.trail.push(var.literal(positive), None, level);
     }
 
-    /// Derives a clause from a waiting conflict in a slice in which so many literals and hints were derived, and tells how
-    /// many were after it. None where they would be too many, and the slice is over.
+    /// Derives a clause from a waiting conflict in a slice in which so many literals and hints were derived, and tells
+    /// how many were after it. None where they would be too many, and the slice is over.
     fn derive(&mut self, id: ClauseId, used: usize, scratch: &mut Scratch) -> Option<usize>
         requires sound { IsSound self.old.state }
         requires goes { self.old.state.verdict ≡ None }
@@ -666,9 +668,9 @@ impl<E: Listed> Node<E> {
 }
 
 impl<E: Listed> Node<E> {
-    /// Loads revisions, each with the number of its first clause, one after another, then imports what was told, one list
-    /// after another, and makes room for a slice in the node and in a scratch. Where memory is wanting the node's state and
-    /// its lines stay as they were; else the lines of the last slice are taken away.
+    /// Loads revisions, each with the number of its first clause, one after another, then imports what was told, one
+    /// list after another, and makes room for a slice in the node and in a scratch. Where memory is wanting the node's
+    /// state and its lines stay as they were; else the lines of the last slice are taken away.
     pub fn ready(
         &mut self,
         loads: &[(&Revision, u32)],

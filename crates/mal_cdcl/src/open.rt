@@ -7,7 +7,8 @@ ghost use Rattle.spec_node.specs.Value.{is_true, first_open};
 use mal_base::Lit;
 use mal_trail::Trail;
 
-/// The first of these assumptions that is not true, where those that are passed are true. Those in front of it are passed.
+/// The first of these assumptions that is not true, where those that are passed are true. Those in front of it are
+/// passed.
 pub fn first_open(trail: &Trail, assumptions: &[Lit], passed: &mut usize) -> Option<Lit>
     requires { list_all (is_true trail.now.entries) (take passed.old assumptions.now) ≡ true }
     ensures value { result ≡ first_open trail.now.entries assumptions.now }

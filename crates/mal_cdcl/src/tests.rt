@@ -35,7 +35,8 @@ fn pairs(alloc: Global, numbers: &[(i32, i32)]) -> Result<Vec<Option<Clause>>, F
     Ok(clauses)
 }
 
-/// A node of this index and profile that has loaded these clauses as a revision without assumptions, and has room for a slice.
+/// A node of this index and profile that has loaded these clauses as a revision without assumptions, and has room for a
+/// slice.
 fn loaded(
     rt: &impl Abort,
     alloc: Global,
@@ -87,7 +88,8 @@ fn run_again(node: &mut Node<Scan>, scratch: &mut Scratch) -> Result<Lines, Fail
     Ok(node.take_lines())
 }
 
-/// A node of this index and profile that has loaded these clauses and run its first slice, in form, and the lines of that.
+/// A node of this index and profile that has loaded these clauses and run its first slice, in form, and the lines of
+/// that.
 fn searched(
     rt: &impl Abort,
     alloc: Global,

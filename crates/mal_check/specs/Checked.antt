@@ -5,7 +5,8 @@ use Rattle.spec_logic.specs.Logic.{Entails}
 use Rattle.spec_logic.specs.Derivation.{Holding}
 use Rattle.mal_check.specs.Places.{Placed, clause_at, place_in}
 
--- the original clauses, the clauses that accepted lines added (whether or not they were deleted later), and the places of the ids that are held
+-- the original clauses, the clauses that accepted lines added (whether or not they were deleted later), and the places
+-- of the ids that are held
 pub record Checked : Type 0 where
   pub originals : List (Option (List ℕ))
   pub added : List (Option (List ℕ))

@@ -22,9 +22,9 @@ use mal_lrat::Line;
 use std::alloc::{AllocError, Global};
 use std::marker::Model;
 
-/// A checker of LRAT proofs: original clauses, and lines that add clauses or delete them, of which it accepts those that
-/// follow. Contracts see the original clauses, the added ones, and what is held under each id; each added clause is
-/// entailed by the originals.
+/// A checker of LRAT proofs: original clauses, and lines that add clauses or delete them, of which it accepts those
+/// that follow. Contracts see the original clauses, the added ones, and what is held under each id; each added clause
+/// is entailed by the originals.
 #[derive(Drop)]
 pub struct Checker {
     clauses: Clauses,
@@ -80,9 +80,9 @@ impl Checker {
         self.clauses.add_original(id, clause)
     }
 
-    /// Takes a line. One that adds is accepted where its id is not held and its clause is derived along its hints (or is a
-    /// tautology); an id that is held is `IdUsed`, and then the first hint that refuses is named. One that deletes is
-    /// accepted. After a refusal the checker is as before.
+    /// Takes a line. One that adds is accepted where its id is not held and its clause is derived along its hints (or
+    /// is a tautology); an id that is held is `IdUsed`, and then the first hint that refuses is named. One that deletes
+    /// is accepted. After a refusal the checker is as before.
     pub fn line(&mut self, line: Line) -> Result<(), CheckFault>
         ensures answer { Answers result (refusal (held self.old) (seen line)) }
         ensures originals { self.new.originals ≡ self.old.originals }
@@ -122,9 +122,9 @@ impl Checker {
         Ok(())
     }
 
-    /// Whether an accepted line added a clause that has negated assumptions alone; the empty clause is one, a tautology is
-    /// none, and a clause that was deleted later counts. Then nothing satisfies the original clauses and the assumptions.
-    /// Takes no memory.
+    /// Whether an accepted line added a clause that has negated assumptions alone; the empty clause is one, a tautology
+    /// is none, and a clause that was deleted later counts. Then nothing satisfies the original clauses and the
+    /// assumptions. Takes no memory.
     pub fn goal(&self, assumptions: &[Lit]) -> bool
         ensures exact { result ≡ list_any (contradicts assumptions.now) self.now.added }
         ensures refuted { IsTrue result → IsUnsatisfiable self.now.originals assumptions.now }

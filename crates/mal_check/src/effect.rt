@@ -8,8 +8,8 @@ ghost use Rattle.mal_check.specs.CheckAnswers.{effect_seen};
 use crate::trues::Trues;
 use mal_base::{Clause, Lit};
 
-/// What the clause of a hint does: it changes nothing, it makes a literal true, it is false, or two literals or more are
-/// left of it.
+/// What the clause of a hint does: it changes nothing, it makes a literal true, it is false, or two literals or more
+/// are left of it.
 #[derive(Clone, Copy)]
 pub enum Effect {
     Passes,

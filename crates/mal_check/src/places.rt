@@ -9,8 +9,9 @@ use std::alloc::{AllocError, Global};
 use std::collections::BTreeMap;
 use std::marker::Model;
 
-/// The places of numbers: those of small numbers in a list by number, the others in a map. Whoever writes a proof chooses
-/// its numbers, so a list alone could be asked for any room. Contracts see both; `place_in` is the place of a number.
+/// The places of numbers: those of small numbers in a list by number, the others in a map. Whoever writes a proof
+/// chooses its numbers, so a list alone could be asked for any room. Contracts see both; `place_in` is the place of a
+/// number.
 #[derive(Drop)]
 pub struct PlaceTable {
     dense: Vec<Option<Place>>,

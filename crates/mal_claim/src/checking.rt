@@ -32,8 +32,8 @@ impl From<AllocError> for VerifyFault {
     }
 }
 
-/// Checks the lines of a proof in order against a formula and assumptions. Ok says that the lines refute the formula under
-/// the assumptions, so nothing satisfies both.
+/// Checks the lines of a proof in order against a formula and assumptions. Ok says that the lines refute the formula
+/// under the assumptions, so nothing satisfies both.
 pub fn verify(
     alloc: Global,
     formula: &Formula,

@@ -15,8 +15,8 @@ use mal_dimacs::{BlockFault, BlockReader, DimacsError, is_passed};
 use mal_text::first_line;
 use std::alloc::Global;
 
-/// The formula of the lines before the first one that begins with the word `a` or `proof`, how many lines these are, and
-/// the text behind them.
+/// The formula of the lines before the first one that begins with the word `a` or `proof`, how many lines these are,
+/// and the text behind them.
 pub fn read_formula(alloc: Global, text: &[u8]) -> Result<(Formula, u64, &[u8]), ClaimFault>
     ensures formula { Gives (λ t. t.0) result (in_formula (read_rows (formula_rows (rows_of text.now)) 0 None)) }
     ensures lines { IfOk result (λ t. t.1 ≡ length (formula_rows (rows_of text.now))) }

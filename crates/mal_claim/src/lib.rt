@@ -1,5 +1,5 @@
-//! Claims that nothing satisfies a formula and assumptions, each with its proof: reading them, checking their proofs line by
-//! line, and the lines that tell why a text is no claim or why its proof is not verified.
+//! Claims that nothing satisfies a formula and assumptions, each with its proof: reading them, checking their proofs
+//! line by line, and the lines that tell why a text is no claim or why its proof is not verified.
 #![tactic(auto)]
 
 mod checking;

@@ -20,11 +20,11 @@ use mal_script::{AssumptionFault, assumptions};
 use mal_text::first_line;
 use std::alloc::Global;
 
-/// The claim that a text spells: a formula by DIMACS CNF, maybe a line `a`, literals and 0, then the line `proof`, and the
-/// lines of a proof.
+/// The claim that a text spells: a formula by DIMACS CNF, maybe a line `a`, literals and 0, then the line `proof`, and
+/// the lines of a proof.
 ///
-/// Errors: `NoProof` where no line is the one word `proof`; else the first fault of the text, from its beginning, with its
-/// line. Lines of the proof are counted from 1 behind the line `proof`. `OutOfMemory` may come at any time.
+/// Errors: `NoProof` where no line is the one word `proof`; else the first fault of the text, from its beginning, with
+/// its line. Lines of the proof are counted from 1 behind the line `proof`. `OutOfMemory` may come at any time.
 pub fn read(alloc: Global, text: &[u8]) -> Result<Claim, ClaimFault>
     requires { length text.now < 2 ^ 63 }
     // Which claim or which fault it is.

@@ -105,8 +105,8 @@ pub fn run_script<R: Threads + Wait + Sync, G: Gate>(
     texts_of(alloc, script, hall)
 }
 
-/// The texts of the history and of the replies of a hall that has run a script. The hall is given up before its history is
-/// written.
+/// The texts of the history and of the replies of a hall that has run a script. The hall is given up before its history
+/// is written.
 fn texts_of(alloc: Global, script: &Script, hall: Hall) -> Result<Texts, AllocError>
     requires run { (workers : ℕ) × HasRun workers script.now hall }
     ensures { (workers : ℕ) → HasRun workers script.now hall → IfOk result (λ t. IsRun workers script.now hall.events t.log.items t.out.items) }

@@ -19,8 +19,8 @@ use mal_text::{NumberFault, first_word, number};
 use std::alloc::Global;
 use std::marker::Model;
 
-/// A block of which some lines are read: the header, and then lines of clauses. Contracts see the numbers of the header,
-/// the clauses that are closed, and the literals that wait for a 0.
+/// A block of which some lines are read: the header, and then lines of clauses. Contracts see the numbers of the
+/// header, the clauses that are closed, and the literals that wait for a 0.
 #[derive(Drop)]
 pub struct BlockReader {
     alloc: Global,
@@ -67,8 +67,8 @@ impl BlockReader {
         }
     }
 
-    /// The reader behind one more line: a line of numbers, an empty line, a comment, the line `%`, or one that may stand
-    /// behind it.
+    /// The reader behind one more line: a line of numbers, an empty line, a comment, the line `%`, or one that may
+    /// stand behind it.
     ///
     /// Errors: the first fault of the line by its words from left to right, or `OutOfMemory`.
     pub fn row(self, line: &[u8]) -> Result<BlockReader, DimacsError>
@@ -213,8 +213,8 @@ impl BlockReader {
 
     /// The formula of the whole block.
     ///
-    /// Errors: `ClauseCount` where there are not as many clauses as declared, and then `Trailing` where literals wait for
-    /// a 0.
+    /// Errors: `ClauseCount` where there are not as many clauses as declared, and then `Trailing` where literals wait
+    /// for a 0.
     pub fn finish(self) -> Result<Formula, BlockFault>
         ensures { result ≡ ended self }
     {

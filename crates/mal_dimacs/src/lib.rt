@@ -1,5 +1,5 @@
-//! DIMACS CNF: reading and writing formulas. A reader of one block of lines stands beside the reader of a whole text, for
-//! formats that have such blocks among other lines.
+//! DIMACS CNF: reading and writing formulas. A reader of one block of lines stands beside the reader of a whole text,
+//! for formats that have such blocks among other lines.
 #![tactic(auto)]
 
 mod block;

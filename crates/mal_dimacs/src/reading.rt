@@ -16,8 +16,8 @@ use mal_base::{BlockFault, Formula};
 use mal_text::first_line;
 use std::alloc::Global;
 
-/// The formula of a text of DIMACS CNF: comments and empty lines, a header `p cnf V C`, numbers that are C clauses, each
-/// closed by a 0, and maybe a line `%` and a line `0`.
+/// The formula of a text of DIMACS CNF: comments and empty lines, a header `p cnf V C`, numbers that are C clauses,
+/// each closed by a 0, and maybe a line `%` and a line `0`.
 ///
 /// Errors: the first fault of the text, from its beginning, with its line; faults at the end are on the last line.
 /// `OutOfMemory` may come at any time.

@@ -22,8 +22,8 @@ ReadIsSpelled = (bytes : List ℕ) (n : Node) → ((i : ℕ) → get_or bytes i 
 abbrev pub SpelledIsRead : Type 0
 SpelledIsRead = (n : Node) → IsImage n → Fits n → image_in (image_bytes n) ≡ Ok n
 
--- the 65 bytes of the node of index 0 and profile 1 at its first start, and the 69 of that of profile 2: all fields are 0 but for the
--- number of the restart
+-- the 65 bytes of the node of index 0 and profile 1 at its first start, and the 69 of that of profile 2: all fields are
+-- 0 but for the number of the restart
 pub record FreshBytes : Type 0 where
   pub first : image_bytes (fresh_with 0 1) ≡ codes "MALNODE1" ++ (replicate 20 0 ++ (0 ∷ 0 ∷ 0 ∷ 1 ∷ replicate 33 0))
   pub second : image_bytes (fresh_with 0 2) ≡ codes "MALNODE2" ++ (replicate 20 0 ++ (0 ∷ 0 ∷ 0 ∷ 1 ∷ replicate 37 0))

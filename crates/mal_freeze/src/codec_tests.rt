@@ -198,9 +198,9 @@ fn a_node_that_comes_back_has_the_same_bytes(rt: HostRuntime) -> Result<(), Fail
 }
 
 /// Places of the bytes of that node, with a byte there that leaves each number in its range and the node in no form: a
-/// batch too many; a verdict without a goal, a goal without a verdict; assumptions that do not rise; an order with a variable
-/// twice; a first level above 1, a variable twice on the trail, a level that falls, one that rises by 2; a clause number of
-/// 0, literals that do not rise, numbers that do not rise.
+/// batch too many; a verdict without a goal, a goal without a verdict; assumptions that do not rise; an order with a
+/// variable twice; a first level above 1, a variable twice on the trail, a level that falls, one that rises by 2; a
+/// clause number of 0, literals that do not rise, numbers that do not rise.
 const UNORDERED: [(usize, u8); 12] = [
     (35, 4),
     (44, 2),
@@ -216,9 +216,9 @@ const UNORDERED: [(usize, u8); 12] = [
     (142, 1),
 ];
 
-/// Places with a byte there that takes a number out of its range, and where that number begins: the variables, the serial,
-/// the number of the restart, the verdict, the count of the assumptions, a literal, a variable, a phase, the count of the
-/// trail, the count of a clause's literals.
+/// Places with a byte there that takes a number out of its range, and where that number begins: the variables, the
+/// serial, the number of the restart, the verdict, the count of the assumptions, a literal, a variable, a phase, the
+/// count of the trail, the count of a clause's literals.
 const OUT_OF_RANGE: [(usize, u8, usize); 10] = [
     (12, 1, 12),
     (16, 2, 16),

@@ -4,7 +4,8 @@ use crate::numbered::Numbered;
 use mal_base::{ClauseId, Lit, TrailEntry, Var};
 use std::marker::Model;
 
-/// The index (0 to 63), the variables (up to 65,536), the serial (below 2^57), and the conflicts since the last restart.
+/// The index (0 to 63), the variables (up to 65,536), the serial (below 2^57), and the conflicts since the last
+/// restart.
 #[derive(Clone, Copy)]
 pub struct Head {
     pub index: u32,
@@ -13,7 +14,8 @@ pub struct Head {
     pub conflicts_since_restart: u32,
 }
 
-/// The number of the restart (at least 1), the conflicts since the last dropping, the batches handled, and the waiting conflict.
+/// The number of the restart (at least 1), the conflicts since the last dropping, the batches handled, and the waiting
+/// conflict.
 #[derive(Clone, Copy)]
 pub struct Search {
     pub restart_number: u32,

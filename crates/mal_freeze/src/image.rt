@@ -10,12 +10,12 @@ use mal_trail::Trail;
 use std::alloc::{AllocError, Global};
 use std::marker::Model;
 
-/// The plain form of a node, whose numbers are in their ranges and whose lists are in order: the index is at most 63, the
-/// profile 1 or 2, the variables at most 65,536, the serial below 2^57, the number of the restart at least 1; under profile 1
-/// no conflicts count for a dropping; no more batches count as handled than the trail
-/// has prefixes; the assumptions and the literals of a clause rise by variable; the order has each variable once; each
-/// variable has a phase; no variable stands twice on the trail, whose levels rise by one at most; the numbers of the
-/// clauses rise. Contracts see the node.
+/// The plain form of a node, whose numbers are in their ranges and whose lists are in order: the index is at most 63,
+/// the profile 1 or 2, the variables at most 65,536, the serial below 2^57, the number of the restart at least 1; under
+/// profile 1 no conflicts count for a dropping; no more batches count as handled than the trail has prefixes; the
+/// assumptions and the literals of a clause rise by variable; the order has each variable once; each variable has a
+/// phase; no variable stands twice on the trail, whose levels rise by one at most; the numbers of the clauses rise.
+/// Contracts see the node.
 #[derive(Drop)]
 pub struct Image {
     parts: Parts,

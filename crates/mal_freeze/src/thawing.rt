@@ -14,7 +14,8 @@ use crate::reading;
 use mal_base::{ClauseId, Verdict};
 use std::alloc::{AllocError, Global};
 
-/// The image that these bytes spell. The bytes are all of its one spelling; else the fault is the first from front to back.
+/// The image that these bytes spell. The bytes are all of its one spelling; else the fault is the first from front to
+/// back.
 pub fn thaw(alloc: Global, bytes: &[u8]) -> Result<Image, ThawFault>
     // What is read is spelled so.
     ensures spelled { IfOk result (λ i. bytes.now ≡ image_bytes i) }
@@ -54,8 +55,8 @@ fn image_at(alloc: Global, bytes: &[u8]) -> Result<Image, ThawFault>
     }
 }
 
-/// The image of these fields. None exactly where bytes are left over, the goal does not go with the verdict, or the fields
-/// are in no order.
+/// The image of these fields. None exactly where bytes are left over, the goal does not go with the verdict, or the
+/// fields are in no order.
 fn image_of(alloc: Global, fields: Fields) -> Result<Option<Image>, AllocError>
     ensures { IfOk result (λ o. MatchOption o (is_canonical fields ≡ false) (λ i. (i ≡ node_in fields) × (is_canonical fields ≡ true))) }
 {
@@ -65,8 +66,8 @@ fn image_of(alloc: Global, fields: Fields) -> Result<Option<Image>, AllocError>
     }
 }
 
-/// The parts of an image that these fields give. None where bytes are left over, the goal does not go with the verdict, or a
-/// clause is in no order.
+/// The parts of an image that these fields give. None where bytes are left over, the goal does not go with the verdict,
+/// or a clause is in no order.
 fn parts_of(alloc: Global, fields: Fields) -> Result<Option<Parts>, AllocError>
     ensures { IfOk result (λ o. MatchOption o (is_canonical fields ≡ false) (λ p. ArePartsOf fields (node_of p))) }
 {

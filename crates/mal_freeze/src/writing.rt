@@ -95,8 +95,8 @@ fn put_head(out: &mut Vec<u8>, parts: &Parts) -> Result<(), AllocError>
     put_u32(out, parts.conflicts_since_restart)
 }
 
-/// Puts the number of the restart, the conflicts since the last dropping where the profile counts them, the batches handled, and
-/// the waiting conflict behind the others.
+/// Puts the number of the restart, the conflicts since the last dropping where the profile counts them, the batches
+/// handled, and the waiting conflict behind the others.
 fn put_search(out: &mut Vec<u8>, parts: &Parts) -> Result<(), AllocError>
     ensures spelled { OnOk result (out.new.items ≡ out.old.items ++ search_bytes (node_of parts.now)) }
     ensures fits { OnOk result (FitsCounts (node_of parts.now)) }

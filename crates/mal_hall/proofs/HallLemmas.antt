@@ -204,7 +204,8 @@ hall-found x k at s hall sits =
     let both = seated-found x.history.workers (events_in x) x.seats k at s (hall-seated x hall) sits.place sits.seat in
     record { key = both.0; job = both.1 }
 
--- what holds of a job that is found holds of its machine run alone on the job's own events, in whatever history has these
+-- what holds of a job that is found holds of its machine run alone on the job's own events, in whatever history has
+-- these
 pub found-alone : (x : Inside) (k : Key) (t : KeyedJob) (P : Key → SoloMachine → Type 0) → Found x k t → P t.key t.state → (other : List Event) → own k other ≡ own k (events_in x) → P k (solo (own k other))
 found-alone x k t P found holds other same =
     let past : List Event = events_in x in

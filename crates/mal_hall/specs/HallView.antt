@@ -12,8 +12,8 @@ use Rattle.spec_hall.specs.Dressed.{dressed}
 use Rattle.spec_hall.specs.Seats.{Seat, IsSeated, jobs_in}
 use Rattle.spec_hall.specs.Spots.{Spot, AreSpots, tags_of}
 
--- a hall as contracts see it: the number of workers, the events with the revisions that were posted, and the leases that are
--- kept inside
+-- a hall as contracts see it: the number of workers, the events with the revisions that were posted, and the leases
+-- that are kept inside
 pub record HallView : Type 0 where
   pub workers : ℕ
   pub events : List Event
@@ -31,8 +31,8 @@ unclosed_in seats = count_by (λ s. not s.job.titled.state.closed) seats
 abbrev pub out_in : List (Option Spot) → ℕ
 out_in spots = count_by (λ o. is_some o) spots
 
--- what a hall has: its history, its jobs in their seats, the spots of the workers' leases, and how many starts, jobs that are not
--- closed, and tenants there are
+-- what a hall has: its history, its jobs in their seats, the spots of the workers' leases, and how many starts, jobs
+-- that are not closed, and tenants there are
 pub record Inside : Type 0 where
   pub history : Written
   pub seats : List Seat
@@ -45,8 +45,9 @@ pub record Inside : Type 0 where
 abbrev pub events_in : Inside → List Event
 events_in x = events_of x.history.events x.seats
 
--- what a hall keeps: what is written down is a history of its jobs, the spots are those of the leases that are out, what is
--- counted is counted rightly, and there is room for the finish of each lease and the closing of each job that is not closed
+-- what a hall keeps: what is written down is a history of its jobs, the spots are those of the leases that are out,
+-- what is counted is counted rightly, and there is room for the finish of each lease and the closing of each job that
+-- is not closed
 pub record IsHall (x : Inside) : Type 0 where
   pub past : List Event
   pub written : x.history.events ≡ map bare past

@@ -18,11 +18,12 @@ use mal_learn::Scratch;
 use mal_revision::Revision;
 
 impl Hall {
-    /// Enters this one event, a Revise with the revision that is given. It is not allowed exactly where it may not come after
-    /// the events before it, a Revise without a revision among them. The lease of a start stays inside the hall: where the
-    /// event says that the start ran it is worked there, where it says that memory was wanting it is given back as it was, and
-    /// where it says that the start was lost it is dropped. Each lease that is out has to be inside, as it is in a new hall and
-    /// after each event that was entered so. The hall is given up where the event is not entered.
+    /// Enters this one event, a Revise with the revision that is given. It is not allowed exactly where it may not come
+    /// after the events before it, a Revise without a revision among them. The lease of a start stays inside the hall:
+    /// where the event says that the start ran it is worked there, where it says that memory was wanting it is given
+    /// back as it was, and where it says that the start was lost it is dropped. Each lease that is out has to be
+    /// inside, as it is in a new hall and after each event that was entered so. The hall is given up where the event is
+    /// not entered.
     pub fn apply(
         self,
         event: &Event,
@@ -185,8 +186,8 @@ impl Hall {
         Ok(())
     }
 
-    /// The place of a job where a worker may start this node of it: where neither a balancing nor an exchange is due, the node
-    /// is the one that starts next, and the worker has no lease out.
+    /// The place of a job where a worker may start this node of it: where neither a balancing nor an exchange is due,
+    /// the node is the one that starts next, and the worker has no lease out.
     fn startable_at(&self, tenant: &Name, job: &Name, index: u32, worker: u32) -> Option<usize>
         ensures { MatchOption result (Allowed self.now.workers self.now.events (Start (keyed tenant.now job.now) index worker) → ⊥) (λ at. StartsAt self.now.workers self.now.events (keyed tenant.now job.now) index worker at) }
     {

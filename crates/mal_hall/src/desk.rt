@@ -66,8 +66,9 @@ impl Hall {
     }
 }
 
-/// What workers share to pick and to give back. Each caller has a pass, which goes in with a call and comes back with the answer;
-/// it tells the caller's own calls with their answers, in their order. A desk says nothing of the calls of others.
+/// What workers share to pick and to give back. Each caller has a pass, which goes in with a call and comes back with
+/// the answer; it tells the caller's own calls with their answers, in their order. A desk says nothing of the calls of
+/// others.
 pub trait Desk: Sync {
     ghost use Rattle.std.specs.Prelude.{◌≡◌, ℕ, ◌≤◌, List, [], ◌∷◌, ◌++◌};
     ghost use Rattle.mal_hall.specs.Desks.{DeskCall, Picked, Gave, IsOwn};

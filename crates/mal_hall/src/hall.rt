@@ -43,8 +43,8 @@ use std::marker::Model;
 use std::mem;
 
 /// A hall of 1 to 64 workers with room for 64 tenants with 64 jobs each. Contracts see its workers, its events, each
-/// posted revision standing at its event, and the leases that are kept inside, which no worker has; the type keeps that the
-/// events are a legal history, that each job is its machine run alone on its own events, and which leases are out.
+/// posted revision standing at its event, and the leases that are kept inside, which no worker has; the type keeps that
+/// the events are a legal history, that each job is its machine run alone on its own events, and which leases are out.
 #[derive(Drop)]
 pub struct Hall {
     history: History,
@@ -117,8 +117,8 @@ impl Hall {
         Ok(())
     }
 
-    /// Posts the next revision of a job. There is room for 256, with 2^20 clauses and 2^24 literals in all; after a refusal the
-    /// hall is as before.
+    /// Posts the next revision of a job. There is room for 256, with 2^20 clauses and 2^24 literals in all; after a
+    /// refusal the hall is as before.
     pub fn revise_job(
         &mut self,
         tenant: &Name,
@@ -175,10 +175,11 @@ impl Hall {
         Ok(())
     }
 
-    /// The reply to a revision of a job, numbered from 1: None exactly where it is not answered. It is that of the job's
-    /// machine run alone on the job's own events, and the same in each history that has these. A satisfiable reply carries a
-    /// model of the revision, an unsatisfiable one a proof from the job's clauses alone; each clause that the job's nodes hold
-    /// or tell one another is the job's own. A job that is not there is `NoJob`, however much memory there is.
+    /// The reply to a revision of a job, numbered from 1: None exactly where it is not answered. It is that of the
+    /// job's machine run alone on the job's own events, and the same in each history that has these. A satisfiable
+    /// reply carries a model of the revision, an unsatisfiable one a proof from the job's clauses alone; each clause
+    /// that the job's nodes hold or tell one another is the job's own. A job that is not there is `NoJob`, however much
+    /// memory there is.
     pub fn reply(&self, tenant: &Name, job: &Name, r: u32) -> Result<Option<Vec<u8>>, ReplyFault>
         ensures reply { IfOk result (λ o. (t : KeyedJob) × (job_of (keyed tenant.now job.now) (states self.now.events) ≡ Some t) × (MatchOption o (reply (keyed tenant.now job.now) r t.state ≡ None) (λ text. reply (keyed tenant.now job.now) r t.state ≡ Some text.items))) }
         ensures alone { IfOk result (λ o. (other : List entered.Event) → own (keyed tenant.now job.now) other ≡ own (keyed tenant.now job.now) self.now.events → MatchOption o (reply (keyed tenant.now job.now) r (solo (own (keyed tenant.now job.now) other)) ≡ None) (λ text. reply (keyed tenant.now job.now) r (solo (own (keyed tenant.now job.now) other)) ≡ Some text.items)) }
@@ -273,7 +274,8 @@ impl Hall {
         Ok(())
     }
 
-    /// Enters an exchange of the first job of which it is due, where no balancing is. After want of memory nothing is entered.
+    /// Enters an exchange of the first job of which it is due, where no balancing is. After want of memory nothing is
+    /// entered.
     pub(crate) fn exchange_at(&mut self, at: usize) -> Result<(), AllocError>
         requires calm { lives (states self.old.events) ≡ balanced self.old.events }
         requires first { IsFirst self.old.events at }
@@ -325,8 +327,8 @@ impl Hall {
         Ok(true)
     }
 
-    /// Enters the balancing if it is due, then each exchange that is due, by opening. After want of memory what was entered
-    /// stays.
+    /// Enters the balancing if it is due, then each exchange that is due, by opening. After want of memory what was
+    /// entered stays.
     fn arrange(&mut self) -> Result<(), AllocError>
         ensures workers { self.new.workers ≡ self.old.workers }
         ensures due { HasArranged self.old.workers self.old.events self.new.events }
@@ -340,8 +342,8 @@ impl Hall {
         Ok(())
     }
 
-    /// Starts a node of the job at this place, which a worker may start, and makes room for the finish. After want of memory
-    /// nothing is entered.
+    /// Starts a node of the job at this place, which a worker may start, and makes room for the finish. After want of
+    /// memory nothing is entered.
     pub(crate) fn start_at(
         &mut self,
         at: usize,
@@ -377,10 +379,10 @@ impl Hall {
         Ok(lease)
     }
 
-    /// Hands a node out to a worker, 1 to the number of workers, behind the balancing and the exchanges that are due: the one
-    /// that was started least often, then by its job's opening, then by index. It waits where no node may start, and all is done
-    /// where every job is closed and answered and nothing is out. After want of memory the balancing and the exchanges that were
-    /// entered stay.
+    /// Hands a node out to a worker, 1 to the number of workers, behind the balancing and the exchanges that are due:
+    /// the one that was started least often, then by its job's opening, then by index. It waits where no node may
+    /// start, and all is done where every job is closed and answered and nothing is out. After want of memory the
+    /// balancing and the exchanges that were entered stay.
     pub fn pick(&mut self, worker: u32) -> Result<Pick, PickFault>
         requires some { 1 ≤ worker }
         requires bound { worker ≤ self.old.workers }
@@ -462,8 +464,8 @@ impl Hall {
         });
     }
 
-    /// Takes back what came of a lease, where its journal is that of the lease which its worker has out. What is strange is
-    /// handed back with the number of that lease's start, and the hall is as before. Takes no memory.
+    /// Takes back what came of a lease, where its journal is that of the lease which its worker has out. What is
+    /// strange is handed back with the number of that lease's start, and the hall is as before. Takes no memory.
     pub fn finish(&mut self, back: Done) -> Result<Back, Strange>
         ensures workers { self.new.workers ≡ self.old.workers }
         ensures call { HasCalled self.old.workers self.old.events (Finishes back) (returned result) self.new.events }
@@ -492,9 +494,9 @@ impl Hall {
         }
     }
 
-    /// Runs the jobs until nothing is left to do, turn by turn, as worker 1: every job is closed and answered, or nothing is due
-    /// and no node may start. After want of memory the events entered so far stay, no lease is out, and the hall may be driven
-    /// again.
+    /// Runs the jobs until nothing is left to do, turn by turn, as worker 1: every job is closed and answered, or
+    /// nothing is due and no node may start. After want of memory the events entered so far stay, no lease is out, and
+    /// the hall may be driven again.
     pub fn drive(&mut self, scratch: &mut Scratch) -> Result<(), AllocError>
         requires home { leases self.old.events ≡ [] }
         ensures workers { self.new.workers ≡ self.old.workers }

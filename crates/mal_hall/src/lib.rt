@@ -1,4 +1,5 @@
-//! The hall: it holds the jobs, enters each event, hands nodes out and takes them back, and keeps that its history is legal.
+//! The hall: it holds the jobs, enters each event, hands nodes out and takes them back, and keeps that its history is
+//! legal.
 #![tactic(auto)]
 
 mod apply;

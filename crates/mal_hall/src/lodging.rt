@@ -25,8 +25,8 @@ pub fn none_lodged(alloc: Global, workers: u32) -> Result<Vec<Option<Lease>>, Al
     Ok(lodged)
 }
 
-/// What comes of a lease whose start ended so: one that ran is worked off, one that wanted for memory is given back as it was,
-/// and one that was lost is dropped. A slice that wants for memory now is refused.
+/// What comes of a lease whose start ended so: one that ran is worked off, one that wanted for memory is given back as
+/// it was, and one that was lost is dropped. A slice that wants for memory now is refused.
 pub fn back_of(
     lease: Lease,
     outcome: Outcome,

@@ -18,8 +18,8 @@ use mal_job::Job;
 use mal_revision::Revision;
 use std::sync::Arc;
 
-/// How many tenants a hall with so many tenants has after a further job of a tenant with so many jobs, or why it does not
-/// take the job: the tenant has 64 jobs, or there are 64 other tenants.
+/// How many tenants a hall with so many tenants has after a further job of a tenant with so many jobs, or why it does
+/// not take the job: the tenant has 64 jobs, or there are 64 other tenants.
 pub fn tenants_after(tenants: usize, jobs: usize) -> Result<usize, OpenFault>
     ensures count { IfOk result (λ n. n ≡ tenants + (if 0 == jobs then 1 else 0)) }
     ensures few { IfOk result (λ n. jobs < 64) }
@@ -38,8 +38,8 @@ pub fn tenants_after(tenants: usize, jobs: usize) -> Result<usize, OpenFault>
     Ok(tenants + 1)
 }
 
-/// The number of a job's next revision, or why the job does not take it: it is closed, it has 256 revisions, or it has no
-/// room for the clauses or the literals.
+/// The number of a job's next revision, or why the job does not take it: it is closed, it has 256 revisions, or it has
+/// no room for the clauses or the literals.
 pub fn next_number(job: &Job, revision: &Revision) -> Result<u32, ReviseFault>
     ensures open { IfOk result (λ n. job.now.titled.state.closed ≡ false) }
     ensures number { IfOk result (λ n. n ≡ length job.now.titled.state.revisions + 1) }
@@ -62,8 +62,8 @@ pub fn next_number(job: &Job, revision: &Revision) -> Result<u32, ReviseFault>
     }
 }
 
-/// Which limit of a job a further revision would pass: 2^20 clauses, then 2^24 literals, over all revisions. It goes over the
-/// revisions, of which there are 256 at most, and not over their clauses.
+/// Which limit of a job a further revision would pass: 2^20 clauses, then 2^24 literals, over all revisions. It goes
+/// over the revisions, of which there are 256 at most, and not over their clauses.
 fn limit_passed(revisions: &[Arc<Revision>], revision: &Revision) -> Option<LimitKind>
     requires few { length (shared revisions.now) ≤ 256 }
     requires clauses { clauses_in (shared revisions.now) ≤ 2 ^ 20 }

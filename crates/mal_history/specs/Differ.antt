@@ -48,8 +48,8 @@ one_start index worker outcome = Start (codes "a") (codes "p") index worker ∷ 
 abbrev pub one_open : ℕ → List Event
 one_open profile = Open (codes "a") (codes "p") (record { priority = 1; demand = 1; slices = 4; profile = profile }) ∷ []
 
--- worked examples: another outcome, another number of workers, the node's index and the worker exchanged, an event less, and
--- another profile are other texts
+-- worked examples: another outcome, another number of workers, the node's index and the worker exchanged, an event
+-- less, and another profile are other texts
 pub record HaveOtherTexts : Type 0 where
   pub outcome : history_text 2 (one_start 0 1 Ran) ≢ history_text 2 (one_start 0 1 Lost)
   pub workers : history_text 2 (one_start 0 1 Ran) ≢ history_text 3 (one_start 0 1 Ran)

@@ -81,8 +81,8 @@ pub record SpellsFinish (workers : ℕ) (words : List (List ℕ)) (tenant job : 
   pub says_index : Says 0 63 at index
   pub says_worker : Says 1 workers by worker
 
--- the words of a line spell an event of a history of so many workers; those of a closing are `c` and the names, those of an
--- exchange `x` and the names
+-- the words of a line spell an event of a history of so many workers; those of a closing are `c` and the names, those
+-- of an exchange `x` and the names
 abbrev pub SpellsEvent : ℕ → List (List ℕ) → Event → Type 0
 SpellsEvent workers words (Open tenant job ask) = SpellsOpen words tenant job ask
 SpellsEvent workers words (Revise tenant job number) = SpellsRevise words tenant job number
@@ -113,8 +113,8 @@ AllSpell workers [] events = events ≡ []
 AllSpell workers (row ∷ rows) [] = ⊥
 AllSpell workers (row ∷ rows) (e ∷ events) = SpellsEvent workers row.words e × AllSpell workers rows events
 
--- the lines of a text spell a history: the first one that is not empty spells the number of workers, the others an event each,
--- of which there are at most 2^24
+-- the lines of a text spell a history: the first one that is not empty spells the number of workers, the others an
+-- event each, of which there are at most 2^24
 pub record SpellRows (rows : List (List (List ℕ))) (h : Read) : Type 0 where
   pub first : Row
   pub others : List Row

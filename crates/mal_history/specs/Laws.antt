@@ -10,8 +10,8 @@ use Rattle.mal_history.specs.Text.{history_text}
 abbrev pub SpelledEventIsRead : Type 0
 SpelledEventIsRead = (workers : ℕ) (words : List (List ℕ)) (e : Event) → SpellsEvent workers words e ↔ (event_of workers words ≡ Ok e)
 
--- the lines of a text spell a history exactly where reading gives it: no text spells two histories, or has a first fault and
--- spells one
+-- the lines of a text spell a history exactly where reading gives it: no text spells two histories, or has a first
+-- fault and spells one
 abbrev pub SpelledIsRead : Type 0
 SpelledIsRead = (rows : List (List (List ℕ))) (h : Read) → SpellRows rows h ↔ (read_rows rows ≡ Ok h)
 

@@ -45,8 +45,8 @@ ask_of p d s profile =
     in_range 1 1000 p >>= λ priority. in_range 1 64 d >>= λ demand. in_range 1 4096 s >>= λ slices.
     Ok (record { priority = priority; demand = demand; slices = slices; profile = profile })
 
--- the profile that a word says behind an ask, where 2 alone is written: another number is out of range, and a word that is no
--- number is none that stands there
+-- the profile that a word says behind an ask, where 2 alone is written: another number is out of range, and a word that
+-- is no number is none that stands there
 abbrev pub profile_said : NumberWord → Result ℕ Fault
 profile_said NotANumber = Err BadLine
 profile_said word = ranged 2 2 word

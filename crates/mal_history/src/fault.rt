@@ -10,8 +10,8 @@ use thiserror::Error;
 /// Why a text is no history: its first fault with its line, counted from 1, or want of memory.
 #[derive(Clone, Copy, Debug, PartialEq, Eq, Drop, Error)]
 pub enum HistoryFault {
-    /// The line has another form than that of an event, or it is the first one with words, and has another form than that of a
-    /// header. Where no line has words, line 1 is wrong.
+    /// The line has another form than that of an event, or it is the first one with words, and has another form than
+    /// that of a header. Where no line has words, line 1 is wrong.
     #[error("line {line}: bad line")]
     BadLine { line: u64 },
     /// A word of this line that is to be a number is none, or one outside its range.

@@ -7,8 +7,8 @@ use crate::event::Event;
 use std::alloc::{AllocError, Global};
 use std::marker::Model;
 
-/// A history of a hall with so many workers (1 to 64). Contracts see the number of workers, the events, the lines of those
-/// that were read, which are the first, and the room: for how many more events there is memory.
+/// A history of a hall with so many workers (1 to 64). Contracts see the number of workers, the events, the lines of
+/// those that were read, which are the first, and the room: for how many more events there is memory.
 #[derive(Drop)]
 pub struct History {
     workers: u32,
@@ -65,8 +65,8 @@ impl History {
         self.events.push_reserved(event);
     }
 
-    /// Puts an event that was read on this line behind those before, each of which was read. After want of memory the history
-    /// is as before.
+    /// Puts an event that was read on this line behind those before, each of which was read. After want of memory the
+    /// history is as before.
     pub fn push_read(&mut self, event: Event, line: u64) -> Result<(), AllocError>
         requires { length self.old.lines ≡ length self.old.events }
         ensures workers { self.new.workers ≡ self.old.workers }
@@ -105,8 +105,8 @@ impl History {
         self.events
     }
 
-    /// The line of an event, by its place from 0: the line it was read from, or, where it was pushed, the one that `write`
-    /// gives it.
+    /// The line of an event, by its place from 0: the line it was read from, or, where it was pushed, the one that
+    /// `write` gives it.
     pub fn line(&self, n: usize) -> u64
         requires { n < length self.now.events }
         ensures { result ≡ line_at self.now.lines n }

@@ -18,8 +18,8 @@ pub fn reading_examples()
     ensures limits { HaveLimits }
 {}
 
-/// The words of a line spell an event exactly where reading gives it, and the lines of a text a history. So no text spells
-/// two histories, and none that has a first fault spells one. What is spelled is in form.
+/// The words of a line spell an event exactly where reading gives it, and the lines of a text a history. So no text
+/// spells two histories, and none that has a first fault spells one. What is spelled is in form.
 pub fn spelled_is_read()
     ensures event { SpelledEventIsRead }
     ensures history { SpelledIsRead }

@@ -10,8 +10,9 @@ use mal_base::Name;
 use std::alloc::{AllocError, Global};
 use std::sync::Arc;
 
-/// What a history tells of one job: its events without those of other jobs, each start and finish as of worker 1, and of each
-/// balancing the job's volume (0 where it is not listed), only where it differs from the one before, which is 0 at first.
+/// What a history tells of one job: its events without those of other jobs, each start and finish as of worker 1, and
+/// of each balancing the job's volume (0 where it is not listed), only where it differs from the one before, which is 0
+/// at first.
 pub fn own(
     alloc: Global,
     history: &History,

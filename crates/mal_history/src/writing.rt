@@ -26,8 +26,8 @@ pub fn write(alloc: Global, history: &History) -> Result<Vec<u8>, AllocError>
     Ok(out)
 }
 
-/// The text of a history that is given up: each event is let go once its line is written, so text and events are never both
-/// there whole.
+/// The text of a history that is given up: each event is let go once its line is written, so text and events are never
+/// both there whole.
 #[tactic(auto, unfolding(crate::specs::Text::history_text))]
 pub fn write_out(alloc: Global, history: History) -> Result<Vec<u8>, AllocError>
     ensures { IfOk result (λ v. v.items ≡ history_text history.workers history.events) }

@@ -37,8 +37,8 @@ TakesAs (Ok n) (Err f) before now = ⊥
 TakesAs (Err e) (Ok m) before now = ⊥
 TakesAs (Err e) (Err f) before now = Counts before now
 
--- a sink answers as its writer did with a piece: as many bytes and no fault, or a fault exactly where the writer failed or
--- took nothing of a piece that is not empty
+-- a sink answers as its writer did with a piece: as many bytes and no fault, or a fault exactly where the writer failed
+-- or took nothing of a piece that is not empty
 abbrev pub PutsAs : {E F : Type 0} → Result ℕ E → Result ℕ F → List ℕ → ℕ → ℕ → Type 0
 PutsAs (Ok n) (Ok m) piece before now = (m ≡ n) × (0 < length piece → 0 < n) × (now ≡ before)
 PutsAs (Ok n) (Err f) piece before now = (n ≡ 0) × (0 < length piece) × Counts before now

@@ -59,8 +59,8 @@ pub fn read_all<S: Source>(alloc: Global, source: &mut S, max: u32) -> Result<Ve
     }
 }
 
-/// Hands all of `bytes` to `sink`, whose count of faults then stays. After a fault the sink got a front of them. It takes no
-/// memory.
+/// Hands all of `bytes` to `sink`, whose count of faults then stays. After a fault the sink got a front of them. It
+/// takes no memory.
 pub fn write_all<K: Sink>(sink: &mut K, bytes: &[u8]) -> Result<(), WriteFault>
     ensures all { OnOk result (Appends (K.got sink.old) (K.got sink.new) bytes.now) }
     ensures front { (front : List ℕ) × GotFront (K.got sink.old) (K.got sink.new) bytes.now front }

@@ -15,7 +15,8 @@ out_of entries (Cold s) = None
 out_of entries Gone = None
 out_of entries (Out revision grown) = Some (record { revision = revision; adds = drop (length entries) grown.entries })
 
--- what stands at a place with this journal: its node, live or as bytes, nothing, or the journal that the start will leave, where it runs
+-- what stands at a place with this journal: its node, live or as bytes, nothing, or the journal that the start will
+-- leave, where it runs
 abbrev pub IsSeated : Journaled → Seat → Type 0
 IsSeated j (Home s) = s ≡ j
 IsSeated j (Cold s) = s ≡ j

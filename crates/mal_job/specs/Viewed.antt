@@ -14,8 +14,8 @@ use Rattle.spec_job.specs.Viewed.{JobView}
 abbrev pub shared : {X Z : Type 0} → List (Arc X Z) → List X
 shared xs = map (λ x. arc_value x) xs
 
--- what was asked of a job and what was answered: the ask, whether it was closed, the revisions with their answers, and how
--- many slices the current revision has spent and how many of its starts wanted for memory
+-- what was asked of a job and what was answered: the ask, whether it was closed, the revisions with their answers, and
+-- how many slices the current revision has spent and how many of its starts wanted for memory
 pub record QuestionsView : Type 0 where
   pub ask : Terms
   pub closed : Bool
@@ -24,16 +24,16 @@ pub record QuestionsView : Type 0 where
   pub spent : ℕ
   pub starved : ℕ
 
--- a place of a job: the journal of its node, the start that is out, how often the node was started, and how long the log was
--- at the last exchange in which it took part
+-- a place of a job: the journal of its node, the start that is out, how often the node was started, and how long the
+-- log was at the last exchange in which it took part
 pub record PlaceView : Type 0 where
   pub journal : Journaled
   pub out : Option Lease
   pub starts : ℕ
   pub mark : ℕ
 
--- the tree of a job: the job's number, the profile of its solvers, the volume, the first places, as many as were ever used, what was told to all, and how
--- many slices were run since the last exchange
+-- the tree of a job: the job's number, the profile of its solvers, the volume, the first places, as many as were ever
+-- used, what was told to all, and how many slices were run since the last exchange
 pub record TreeView : Type 0 where
   pub number : ℕ
   pub profile : ℕ

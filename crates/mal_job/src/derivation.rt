@@ -62,8 +62,8 @@ impl Derivation {
         self.log.reserve_chunks(slices)
     }
 
-    /// Puts the lines of a slice behind the others, for which there is room. With those before them they have numbers of derived
-    /// clauses, each once and above all its hints. Takes no memory.
+    /// Puts the lines of a slice behind the others, for which there is room. With those before them they have numbers
+    /// of derived clauses, each once and above all its hints. Takes no memory.
     pub fn append(&mut self, lines: Lines)
         requires room { 1 ≤ self.old.chunk_room }
         requires countable { length self.old.lines + length lines.lines < 2 ^ 64 }

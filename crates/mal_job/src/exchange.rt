@@ -18,8 +18,8 @@ const MOST_LITERALS: usize = 16;
 /// A tree has 64 places.
 const PLACES: u64 = 64;
 
-/// What these places, the first ones of a job, export of the lines behind their marks, and nothing of those that are out; the
-/// literals of each line rise by variable.
+/// What these places, the first ones of a job, export of the lines behind their marks, and nothing of those that are
+/// out; the literals of each line rise by variable.
 pub fn exports(alloc: Global, places: &[NodeSlot], log: &Log) -> Result<Vec<Buffer>, AllocError>
     requires { All (λ line. rises line.lits ≡ true) log.now.lines }
     ensures { IfOk result (λ v. v.items ≡ unions_from log.now.lines 0 places.now) }

@@ -13,8 +13,8 @@ use crate::questions::Questions;
 use crate::tree::Tree;
 use mal_suspend::Done;
 
-/// Ends a start that ran: the node comes home with its journal, the lines enter the log, and unless the revision of the start has
-/// its answer, the slice answers it or counts as spent. Takes no memory.
+/// Ends a start that ran: the node comes home with its journal, the lines enter the log, and unless the revision of the
+/// start has its answer, the slice answers it or counts as spent. Takes no memory.
 pub fn finish_run(
     questions: &mut Questions,
     tree: &mut Tree,
@@ -48,8 +48,8 @@ pub fn finish_run(
     give_up(questions, tree);
 }
 
-/// Ends a start that wanted for memory: the node comes home as it was, and unless the revision of the start has its answer, the
-/// start is counted. Takes no memory.
+/// Ends a start that wanted for memory: the node comes home as it was, and unless the revision of the start has its
+/// answer, the start is counted. Takes no memory.
 pub fn finish_starved(
     questions: &mut Questions,
     tree: &mut Tree,

@@ -27,9 +27,9 @@ use std::alloc::{AllocError, Global};
 use std::marker::Model;
 use std::sync::Arc;
 
-/// A job as its machine run alone: what was asked and answered, the tree of its nodes, and the log of derived lines. Contracts
-/// see the job's number and key with the machine, and the numbers of the last starts; the type keeps that the machine was run on
-/// own events that may happen.
+/// A job as its machine run alone: what was asked and answered, the tree of its nodes, and the log of derived lines.
+/// Contracts see the job's number and key with the machine, and the numbers of the last starts; the type keeps that the
+/// machine was run on own events that may happen.
 #[derive(Drop)]
 pub struct Job {
     tenant: Name,
@@ -183,8 +183,8 @@ impl Job {
         }
     }
 
-    /// The text that tells of a refuted revision, numbered from 1: the assumptions that fail, and of the log the lines that the
-    /// goal needs, numbered behind the clauses of the revisions up to this one.
+    /// The text that tells of a refuted revision, numbered from 1: the assumptions that fail, and of the log the lines
+    /// that the goal needs, numbered behind the clauses of the revisions up to this one.
     fn tell_proof(&self, r: u32, goal: ClauseId) -> Result<Vec<u8>, AllocError>
         requires first { 1 ≤ r }
         requires posted { r ≤ length self.now.titled.state.revisions }
@@ -208,8 +208,8 @@ impl Job {
         )
     }
 
-    /// Posts the job's next revision, and makes room for its answer. It is answered at once where the log holds an empty
-    /// clause. After want of memory the job is as before.
+    /// Posts the job's next revision, and makes room for its answer. It is answered at once where the log holds an
+    /// empty clause. After want of memory the job is as before.
     pub fn revise(&mut self, revision: Revision) -> Result<(), AllocError>
         requires few { length self.old.titled.state.revisions < 256 }
         requires clauses { clauses_in self.old.titled.state.revisions + length revision.clauses ≤ 2 ^ 20 }
@@ -267,9 +267,9 @@ impl Job {
         self.questions.spent() as usize + out < self.questions.ask().slices() as usize
     }
 
-    /// Starts the node of this index for the current revision: hands it out to a worker as the lease of the start of this number.
-    /// Makes room for what comes back. After want of memory, and where the count of starts would pass its end, the job is as
-    /// before.
+    /// Starts the node of this index for the current revision: hands it out to a worker as the lease of the start of
+    /// this number. Makes room for what comes back. After want of memory, and where the count of starts would pass its
+    /// end, the job is as before.
     pub fn start(&mut self, index: u32, worker: u32, start: u64) -> Result<Lease, AllocError>
         requires { startable self.old.titled.state index ≡ true }
         ensures ok { OnOk result (self.new ≡ and_start self.old index start) }
@@ -284,8 +284,8 @@ impl Job {
         self.tree.start(index, current, loads, start, worker)
     }
 
-    /// Whether what came back is that of the lease that is out at this index (0 to 63): its journal is the lease's, after a start
-    /// that ran with the start's entries besides.
+    /// Whether what came back is that of the lease that is out at this index (0 to 63): its journal is the lease's,
+    /// after a start that ran with the start's entries besides.
     pub fn is_back(&self, index: u32, back: &Done) -> bool
         requires { index ≤ 63 }
         ensures { IsTrue result ↔ IsBack self.now index back.now }
@@ -350,8 +350,8 @@ impl Job {
         finish_lost(&mut self.questions, &mut self.tree, &self.log, index);
     }
 
-    /// Whether an exchange is due: at a volume of at least 2, once twice as many slices as the volume were run since the last
-    /// one.
+    /// Whether an exchange is due: at a volume of at least 2, once twice as many slices as the volume were run since
+    /// the last one.
     pub fn exchange_due(&self) -> bool
         ensures { result ≡ is_exchange_due self.now.titled.state }
     {
@@ -359,8 +359,8 @@ impl Job {
         volume >= 2 && 2 * volume <= self.tree.ran()
     }
 
-    /// Lets the nodes below the volume that are at home tell one another what they derived since their last exchange. After want
-    /// of memory the job is as before.
+    /// Lets the nodes below the volume that are at home tell one another what they derived since their last exchange.
+    /// After want of memory the job is as before.
     pub fn exchange(&mut self) -> Result<(), AllocError>
         ensures ok { OnOk result (self.new ≡ and_own self.old Exchanged) }
         ensures err { OnErr result (self.new ≡ self.old) }

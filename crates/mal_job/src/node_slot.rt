@@ -17,9 +17,9 @@ use std::marker::Model;
 use std::mem;
 use std::sync::Arc;
 
-/// What stands at a place: the node with its journal; its bytes with its journal; nothing, where the node is gone, or was
-/// never started; or, where the node is out, the revision that it was started for and the journal that it has once its slice
-/// ran.
+/// What stands at a place: the node with its journal; its bytes with its journal; nothing, where the node is gone, or
+/// was never started; or, where the node is out, the revision that it was started for and the journal that it has once
+/// its slice ran.
 #[derive(Drop)]
 pub enum Seat {
     Home(Suspended),
@@ -54,8 +54,8 @@ impl Model for NodeSlot {
 }
 
 impl NodeSlot {
-    /// The place of this index (0 to 63) of a job, whose solvers have this profile, 1 or 2, before its first start. Takes no
-    /// memory.
+    /// The place of this index (0 to 63) of a job, whose solvers have this profile, 1 or 2, before its first start.
+    /// Takes no memory.
     pub fn fresh(alloc: Global, job: u64, profile: u32, index: u32) -> NodeSlot
         requires index { index ≤ 63 }
         requires some { 1 ≤ profile }
@@ -122,9 +122,9 @@ impl NodeSlot {
         self.mark = mark;
     }
 
-    /// Hands the node, which is at home, out to a worker for the start of this number and for a revision: it loads these revisions,
-    /// each with the number of its first clause, then imports what was told, then runs a slice. After want of memory, and
-    /// where the count of starts would pass its end, the place is as before.
+    /// Hands the node, which is at home, out to a worker for the start of this number and for a revision: it loads
+    /// these revisions, each with the number of its first clause, then imports what was told, then runs a slice. After
+    /// want of memory, and where the count of starts would pass its end, the place is as before.
     pub fn start(
         &mut self,
         revision: usize,
@@ -218,8 +218,8 @@ impl NodeSlot {
         self.seat = seat_of(kept);
     }
 
-    /// Gives the node up, live or as bytes, where it is at home: from now on its journal alone is kept. A node that is out
-    /// stays out. Takes no memory.
+    /// Gives the node up, live or as bytes, where it is at home: from now on its journal alone is kept. A node that is
+    /// out stays out. Takes no memory.
     pub fn give_up(&mut self)
         ensures { self.new ≡ self.old }
     {

@@ -15,8 +15,8 @@ use std::sync::Arc;
 /// Three starts of a revision that wanted for memory answer it.
 const MOST_STARVED: u32 = 3;
 
-/// The ask of a job, whether it was closed, its revisions with their answers, and how many slices the current revision has spent
-/// and how many of its starts wanted for memory. There is room for each answer that is owed.
+/// The ask of a job, whether it was closed, its revisions with their answers, and how many slices the current revision
+/// has spent and how many of its starts wanted for memory. There is room for each answer that is owed.
 #[derive(Drop)]
 pub struct Questions {
     ask: Ask,
@@ -120,8 +120,8 @@ impl Questions {
         self.closed = true;
     }
 
-    /// Posts a revision, and makes room for its answer. It is answered at once where there is the number of an empty clause.
-    /// After want of memory all is as before.
+    /// Posts a revision, and makes room for its answer. It is answered at once where there is the number of an empty
+    /// clause. After want of memory all is as before.
     pub fn revise(&mut self, revision: Revision, goal: Option<ClauseId>) -> Result<(), AllocError>
         requires few { length self.old.revisions < 256 }
         requires clauses { clauses_in self.old.revisions + length revision.clauses ≤ 2 ^ 20 }
@@ -138,8 +138,8 @@ impl Questions {
         Ok(())
     }
 
-    /// A slice of the current revision ended with this verdict and the model that goes with it: they answer it, or the slice counts
-    /// as spent. Takes no memory.
+    /// A slice of the current revision ended with this verdict and the model that goes with it: they answer it, or the
+    /// slice counts as spent. Takes no memory.
     pub fn conclude(&mut self, verdict: Option<Verdict>, model: Values)
         requires live { length self.old.answers < length self.old.revisions }
         ensures value { self.new ≡ concluded verdict model self.old }

@@ -26,8 +26,8 @@ use std::alloc::{AllocError, Global};
 use std::marker::Model;
 use std::sync::Arc;
 
-/// The first places of a job's tree, as many as were ever used, the job's number, the profile of its solvers, its volume, what its
-/// nodes were told, and how many slices were run since the last exchange.
+/// The first places of a job's tree, as many as were ever used, the job's number, the profile of its solvers, its
+/// volume, what its nodes were told, and how many slices were run since the last exchange.
 #[derive(Drop)]
 pub struct Tree {
     number: u64,
@@ -50,7 +50,8 @@ impl Model for Tree {
 }
 
 impl Tree {
-    /// The tree of a job of this number, whose solvers have this profile, 1 or 2, of which no node was started. Takes no memory.
+    /// The tree of a job of this number, whose solvers have this profile, 1 or 2, of which no node was started. Takes
+    /// no memory.
     pub fn fresh(alloc: Global, number: u64, profile: u32) -> Tree
         requires some { 1 ≤ profile }
         requires bound { profile ≤ 2 }
@@ -166,9 +167,9 @@ impl Tree {
         self.places[index as usize].journal().loads()
     }
 
-    /// Hands the node of this index, which is at home, out to a worker for the start of this number and for a revision, counted
-    /// from 0: it loads these revisions, each with the number of its first clause, imports what it lacks of what was told, and
-    /// runs a slice. After want of memory the tree is as before.
+    /// Hands the node of this index, which is at home, out to a worker for the start of this number and for a revision,
+    /// counted from 0: it loads these revisions, each with the number of its first clause, imports what it lacks of
+    /// what was told, and runs a slice. After want of memory the tree is as before.
     pub fn start(
         &mut self,
         index: u32,
@@ -203,8 +204,8 @@ impl Tree {
         }
     }
 
-    /// The node of this index comes back from a start that ran. Gives the revision that the start was for, counted from 0. Takes
-    /// no memory.
+    /// The node of this index comes back from a start that ran. Gives the revision that the start was for, counted from
+    /// 0. Takes no memory.
     pub fn come_back(&mut self, index: u32, kept: Kept) -> usize
         requires out { is_some (placed self.old index).out ≡ true }
         requires back { journal_of kept ≡ and_entries (placed self.old index).journal (adds_of (placed self.old index).out) }
@@ -219,8 +220,8 @@ impl Tree {
         revision
     }
 
-    /// The node of this index comes back from a start that wanted for memory. Gives the revision that the start was for, counted
-    /// from 0. Takes no memory.
+    /// The node of this index comes back from a start that wanted for memory. Gives the revision that the start was
+    /// for, counted from 0. Takes no memory.
     pub fn come_home(&mut self, index: u32, kept: Kept) -> usize
         requires out { is_some (placed self.old index).out ≡ true }
         requires back { journal_of kept ≡ (placed self.old index).journal }
@@ -264,8 +265,8 @@ impl Tree {
         }
     }
 
-    /// Lets the nodes below the volume that are at home tell all what they derived since their last exchange. After want of
-    /// memory the tree is as before.
+    /// Lets the nodes below the volume that are at home tell all what they derived since their last exchange. After
+    /// want of memory the tree is as before.
     pub fn exchange(&mut self, log: &Log) -> Result<(), AllocError>
         requires rising { All (λ line. rises line.lits ≡ true) log.now.lines }
         requires volume { self.old.volume ≤ length self.old.places }
@@ -307,8 +308,8 @@ fn missing(
     tolds_of(alloc, &told[imported..])
 }
 
-/// Makes the first so many places of a job of this number, whose solvers have this profile, where they are not there yet. After
-/// want of memory some of them may be there.
+/// Makes the first so many places of a job of this number, whose solvers have this profile, where they are not there
+/// yet. After want of memory some of them may be there.
 fn grow(
     alloc: Global,
     number: u64,

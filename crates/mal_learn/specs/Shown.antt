@@ -9,8 +9,9 @@ pub record Work : Type 0 where
   pub state : State
   pub room : ℕ
 
--- what an analysis leaves: the clause, its hints, the level to jump to, and the bound below which there is room for each
--- variable, 0 before there is any; and for the numbers of how many clauses there is room, and which were chosen last
+-- what an analysis leaves: the clause, its hints, the level to jump to, and the bound below which there is room for
+-- each variable, 0 before there is any; and for the numbers of how many clauses there is room, and which were chosen
+-- last
 pub record Shown : Type 0 where
   pub clause : List ℕ
   pub hints : List ℕ

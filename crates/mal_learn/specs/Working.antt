@@ -5,7 +5,8 @@ use Rattle.mal_base.specs.NumberedClause.{NumberedClause, lits_under}
 use Rattle.mal_base.specs.declared.trail_entry.TrailEntry.{TrailEntry}
 
 -- an analysis at work: by variable whether it was seen and whether an entry of the current level with it is still to
--- come, how many seen ones are still to come at that level, the literals and hints found, and the level to jump to so far
+-- come, how many seen ones are still to come at that level, the literals and hints found, and the level to jump to so
+-- far
 pub record State : Type 0 where
   pub seen : List Bool
   pub here : List Bool

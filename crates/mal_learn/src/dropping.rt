@@ -18,8 +18,8 @@ struct Candidate {
     id: ClauseId,
 }
 
-/// What clauses are chosen in, and the numbers of those that were chosen last. Contracts see among how many clauses there
-/// is room to choose, and these numbers.
+/// What clauses are chosen in, and the numbers of those that were chosen last. Contracts see among how many clauses
+/// there is room to choose, and these numbers.
 #[derive(Drop)]
 pub struct Choice {
     candidates: Vec<Candidate>,
@@ -82,10 +82,10 @@ impl Choice {
     }
 }
 
-/// Chooses which of an engine's clauses a dropping gives up: the longer half of the derived clauses of three literals or
-/// more that are no entry's reason, of equal length those of the greater numbers. Leaves their numbers in a scratch that
-/// has room for all of the engine's clauses. Takes no memory. The time is that of a sort, and for each derived clause of
-/// three literals or more that of a walk over the trail.
+/// Chooses which of an engine's clauses a dropping gives up: the longer half of the derived clauses of three literals
+/// or more that are no entry's reason, of equal length those of the greater numbers. Leaves their numbers in a scratch
+/// that has room for all of the engine's clauses. Takes no memory. The time is that of a sort, and for each derived
+/// clause of three literals or more that of a walk over the trail.
 pub fn choose_longer_half<T: TrailView, E: Listed>(trail: &T, engine: &E, scratch: &mut Scratch)
     requires { length (E.clauses engine.now) ≤ scratch.old.ids }
     ensures chosen { scratch.new.chosen ≡ to_drop (T.entries trail.now) (E.clauses engine.now) }

@@ -5,8 +5,8 @@ ghost use Rattle.std.specs.Prelude.{◌≡◌, ◌≤◌, ◌<◌, true, false, 
 use std::alloc::{AllocError, Global};
 use std::marker::Model;
 
-/// A flag for each number below a bound. A flag is set where its stamp is the current one, so that all are cleared by the
-/// next stamp. Contracts see the flags.
+/// A flag for each number below a bound. A flag is set where its stamp is the current one, so that all are cleared by
+/// the next stamp. Contracts see the flags.
 #[derive(Drop)]
 pub struct Flags {
     stamps: Vec<u64>,

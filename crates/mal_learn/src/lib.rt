@@ -1,6 +1,6 @@
 //! Conflict analysis: the clause that is learned from a conflict, its hints and the level to jump to; its shorter form,
-//! which profile 2 learns; and the core clause of a false assumption. Beside it the choice of the clauses that a dropping
-//! gives up.
+//! which profile 2 learns; and the core clause of a false assumption. Beside it the choice of the clauses that a
+//! dropping gives up.
 #![tactic(auto)]
 
 mod dropping;

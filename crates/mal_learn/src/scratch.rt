@@ -13,10 +13,10 @@ use mal_base::{ClauseId, ClauseView, Lit, TrailView};
 use std::alloc::{AllocError, Global};
 use std::marker::Model;
 
-/// What an analysis works in, and what the last one left: a derived clause, its hints and the level to jump to. Contracts
-/// see these and the bound below which there is room for each variable, 0 before the first `fit`; then for how many
-/// clauses there is room to choose among them, 0 before the first `fit_ids`, and those that were chosen last. What else a
-/// scratch holds never changes an analysis.
+/// What an analysis works in, and what the last one left: a derived clause, its hints and the level to jump to.
+/// Contracts see these and the bound below which there is room for each variable, 0 before the first `fit`; then for
+/// how many clauses there is room to choose among them, 0 before the first `fit_ids`, and those that were chosen last.
+/// What else a scratch holds never changes an analysis.
 #[derive(Drop)]
 pub struct Scratch {
     work: Work,
@@ -114,9 +114,9 @@ impl Scratch {
     }
 }
 
-/// Analyses a conflict (first unique implication point): leaves in a fitted scratch the clause that is learned above level
-/// 0, at level 0 the empty clause, with its hints in trail order and the level to jump to. Takes no memory. The time is
-/// linear in the trail and the literals of the reasons used.
+/// Analyses a conflict (first unique implication point): leaves in a fitted scratch the clause that is learned above
+/// level 0, at level 0 the empty clause, with its hints in trail order and the level to jump to. Takes no memory. The
+/// time is linear in the trail and the literals of the reasons used.
 pub fn analyse<T: TrailView, C: ClauseView>(
     trail: &T,
     clauses: &C,
@@ -163,9 +163,9 @@ pub fn shorten<T: TrailView, C: ClauseView>(trail: &T, clauses: &C, scratch: &mu
     scratch.work.finish();
 }
 
-/// Analyses a false assumption (final conflict): leaves in a fitted scratch the core clause, which has the negation of the
-/// assumption and negated decisions, with its hints in trail order, the reason of the negation last. Takes no memory. The
-/// time is linear in the trail and the literals of the reasons used.
+/// Analyses a false assumption (final conflict): leaves in a fitted scratch the core clause, which has the negation of
+/// the assumption and negated decisions, with its hints in trail order, the reason of the negation last. Takes no
+/// memory. The time is linear in the trail and the literals of the reasons used.
 pub fn final_core<T: TrailView, C: ClauseView>(
     trail: &T,
     clauses: &C,

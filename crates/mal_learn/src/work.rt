@@ -349,7 +349,8 @@ impl Work {
         self.level = 0;
     }
 
-    /// Forgets all, marks the entries of the current level, and sees the variables of the conflict, which is the last hint.
+    /// Forgets all, marks the entries of the current level, and sees the variables of the conflict, which is the last
+    /// hint.
     pub fn begin<T: TrailView, C: ClauseView>(
         &mut self,
         trail: &T,
@@ -419,7 +420,8 @@ impl Work {
         }
     }
 
-    /// Resolves with the reason of the last of the first entries of a trail, as many as this, and traces those before it.
+    /// Resolves with the reason of the last of the first entries of a trail, as many as this, and traces those before
+    /// it.
     pub fn trace_from<T: TrailView, C: ClauseView>(&mut self, trail: &T, clauses: &C, count: usize)
         requires entries { EntriesWithin self.old.room (T.entries trail.now) }
         requires within { ClausesWithin self.old.room (C.clauses clauses.now) }

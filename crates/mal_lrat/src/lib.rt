@@ -1,5 +1,5 @@
-//! Lines of LRAT proofs, read from text and written to text. Comments and empty lines are the caller's: they are no lines
-//! of a proof.
+//! Lines of LRAT proofs, read from text and written to text. Comments and empty lines are the caller's: they are no
+//! lines of a proof.
 #![tactic(auto)]
 
 mod fault;

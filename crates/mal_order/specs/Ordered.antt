@@ -9,8 +9,8 @@ pub record Ordered : Type 0 where
   pub room : ℕ
   pub passed : ℕ
 
--- the index is that of a node, there are at most 65,536 variables, each place is one of theirs, and the mark is the last
--- variable that was passed, 0 where none was
+-- the index is that of a node, there are at most 65,536 variables, each place is one of theirs, and the mark is the
+-- last variable that was passed, 0 where none was
 pub record IsOrder (index : ℕ) (ring : Ringed) (passed mark : ℕ) : Type 0 where
   pub small : index ≤ 63
   pub bound : length ring.list ≤ 65536

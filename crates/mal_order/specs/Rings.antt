@@ -45,8 +45,8 @@ pub record IsTurned (list : List ℕ) : Type 0 where
   pub once : AreOnce list
   pub placed : ArePlaced (length list + 1) list
 
--- the links lead from the place 0 over these numbers back to it, each number stands once and has a place, and for so many
--- more places there is room
+-- the links lead from the place 0 over these numbers back to it, each number stands once and has a place, and for so
+-- many more places there is room
 pub record IsRing (after before : Linked) (list : List ℕ) (spare : ℕ) : Type 0 where
   pub leads : Leads after.numbers before.numbers 0 list 0
   pub once : AreOnce list

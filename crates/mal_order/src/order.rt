@@ -12,9 +12,9 @@ use mal_base::{TrailView, Var};
 use std::alloc::{AllocError, Global};
 use std::marker::Model;
 
-/// The decision order of a node: the first variable without a value is decided next. A search mark tells how many of the
-/// first variables were passed since they had values; who takes values away rewinds it. Contracts see the node's index (0
-/// to 63), the variables in order, at most 65,536, for how many more there is room, and how many are passed.
+/// The decision order of a node: the first variable without a value is decided next. A search mark tells how many of
+/// the first variables were passed since they had values; who takes values away rewinds it. Contracts see the node's
+/// index (0 to 63), the variables in order, at most 65,536, for how many more there is room, and how many are passed.
 #[derive(Drop)]
 pub struct Order {
     index: u32,
@@ -49,8 +49,8 @@ impl Order {
         }
     }
 
-    /// The order of the node with this index (0 to 63) that has the variables in this row: those from 1 to their number,
-    /// each once, at most 65,536.
+    /// The order of the node with this index (0 to 63) that has the variables in this row: those from 1 to their
+    /// number, each once, at most 65,536.
     pub fn of_list(alloc: Global, index: u32, list: &[Var]) -> Result<Order, AllocError>
         requires index { index ≤ 63 }
         requires bound { length list.now ≤ 65536 }
@@ -85,8 +85,8 @@ impl Order {
         self.ring.reserve(n)
     }
 
-    /// Appends the next n variables, for which there is room: in rising order, turned left by the node's share of a turn.
-    /// With those that stand they are at most 65,536. Takes no memory.
+    /// Appends the next n variables, for which there is room: in rising order, turned left by the node's share of a
+    /// turn. With those that stand they are at most 65,536. Takes no memory.
     pub fn append_reserved(&mut self, n: u32)
         requires bound { length self.old.list + n ≤ 65536 }
         requires room { n ≤ self.old.room }
@@ -102,8 +102,8 @@ impl Order {
         push_counted(&mut self.ring, variables + 1, turn);
     }
 
-    /// Appends the next n variables: in rising order, turned left by the node's share of a turn. With those that stand they
-    /// are at most 65,536. After want of memory the order is as before.
+    /// Appends the next n variables: in rising order, turned left by the node's share of a turn. With those that stand
+    /// they are at most 65,536. After want of memory the order is as before.
     pub fn append(&mut self, n: u32) -> Result<(), AllocError>
         requires { length self.old.list + n ≤ 65536 }
         ensures index { self.new.index ≡ self.old.index }
@@ -116,8 +116,8 @@ impl Order {
         Ok(())
     }
 
-    /// The first variable without a value, where those that are passed have values. None exactly where every variable of
-    /// the order has one. What has a value in front of it is passed.
+    /// The first variable without a value, where those that are passed have values. None exactly where every variable
+    /// of the order has one. What has a value in front of it is passed.
     pub fn first_free<T: TrailView>(&mut self, trail: &T) -> Option<Var>
         requires { list_all (has_value (T.entries trail.now)) (take self.old.passed self.old.list) ≡ true }
         ensures value { result ≡ first_free (T.entries trail.now) self.old.list }

@@ -20,8 +20,8 @@ picks (Posted p answer ∷ more) = picks more
 abbrev pub EndsWith : List DeskCall → DeskCall → Type 0
 EndsWith mine c = (front : List DeskCall) × (mine ≡ front ++ c ∷ [])
 
--- idle: the last 1,000 calls were picks that were answered idle; spent: so many picks were made as there were turns; stopped: the
--- last call was a pick, and the gate stops the worker with that lease. Every other end is the last answer
+-- idle: the last 1,000 calls were picks that were answered idle; spent: so many picks were made as there were turns;
+-- stopped: the last call was a pick, and the gate stops the worker with that lease. Every other end is the last answer
 abbrev pub EndSays : Stops → ℕ → ℕ → List DeskCall → End → Type 0
 EndSays stops w turns mine ends.Idle = (front : List DeskCall) × (mine ≡ front ++ replicate 1000 (Picked w (Ok calls.Idle)))
 EndSays stops w turns mine ends.Spent = picks mine ≡ turns

@@ -79,13 +79,14 @@ abbrev pub Fits : ℕ → List ScriptedJob → Part → Type 0
 Fits workers jobs (parts.Poster place) = place < length jobs
 Fits workers jobs (parts.Worker number) = (1 ≤ number) × (number ≤ workers)
 
--- what a part did: a poster posted the jobs of its tenant up to the place that it hands back, and a worker hands none back
+-- what a part did: a poster posted the jobs of its tenant up to the place that it hands back, and a worker hands none
+-- back
 abbrev pub HasPlayed : List ScriptedJob → Part → Option Left → List DeskCall → Type 0
 HasPlayed jobs (parts.Poster place) left mine = (j : ScriptedJob) × (slice_get jobs place ≡ Some j) × HasPosted j.tenant jobs left mine
 HasPlayed jobs (parts.Worker number) left mine = left ≡ None
 
--- a history was brought to its end: what was left was posted, what was out recalled, and the rest came by turns, until no job is
--- live and nothing is out
+-- a history was brought to its end: what was left was posted, what was out recalled, and the rest came by turns, until
+-- no job is live and nothing is out
 pub record IsSettled (workers : ℕ) (jobs : List ScriptedJob) (left : List Left) (before now : List Event) : Type 0 where
   pub posted : List Event
   pub posted_is : posted ≡ posted_on before (flat_map (left_by jobs) left)

@@ -10,7 +10,8 @@ use Rattle.mal_pool.specs.declared.working.End.TheVariants as ends
 use Rattle.mal_pool.specs.declared.working.Turned.{Turned}
 use Rattle.mal_pool.specs.declared.working.Turned.TheVariants as turned
 
--- one turn of a worker's loop: a pick, and where it leased and the gate let the worker pass the giving back of that lease, worked
+-- one turn of a worker's loop: a pick, and where it leased and the gate let the worker pass the giving back of that
+-- lease, worked
 abbrev pub IsTurn : Stops → ℕ → List DeskCall → Turned → Type 0
 IsTurn stops w mine turned.Worked = (l : Handed) × (d : Finished) × Passes stops w l × IsWorked l d × (mine ≡ Picked w (Ok (Leased l)) ∷ Gave d calls.Back ∷ [])
 IsTurn stops w mine turned.Idle = mine ≡ Picked w (Ok calls.Idle) ∷ []
@@ -41,8 +42,8 @@ Rests left idles ends.Strange = ⊥
 Rests left idles ends.Stopped = ⊥
 Rests left idles ends.OutOfMemory = ⊥
 
--- the calls of a worker's loop from here on and its end: so many turns are left, so many answers in a row were idle, and this
--- lease is owed
+-- the calls of a worker's loop from here on and its end: so many turns are left, so many answers in a row were idle,
+-- and this lease is owed
 abbrev pub Works : Stops → ℕ → ℕ → ℕ → Option Handed → List DeskCall → End → Type 0
 Works stops w left idles None [] end = Rests left idles end
 Works stops w left idles None (Picked v (Ok (Leased l)) ∷ more) end = (v ≡ w) × MayPick left idles × Works stops w (left - 1) 0 (Some l) more end

@@ -10,7 +10,8 @@ pub struct InUse {
     pub serving: u64,
 }
 
-/// A desk at which tenants post, with passes that are split and joined. In the end it gives its hall, of which no lease was lost.
+/// A desk at which tenants post, with passes that are split and joined. In the end it gives its hall, of which no lease
+/// was lost.
 pub trait Board: Desk + Drop {
     ghost use Rattle.std.specs.Prelude.{◌≡◌, ℕ, ◌<◌, List, [], ◌∷◌, ◌++◌, IfOk, IfErr};
     ghost use Rattle.mal_hall.specs.Desks.{DeskCall, Posted};
@@ -43,8 +44,8 @@ pub trait Board: Desk + Drop {
         requires other { Self.is_of self.now other }
         ensures of { Self.is_of self.now result };
 
-    /// Gives the hall. It is in use only where the pass is not whole and a holder did not pass its turn on; the hall is given up
-    /// then.
+    /// Gives the hall. It is in use only where the pass is not whole and a holder did not pass its turn on; the hall is
+    /// given up then.
     fn close(self, pass: Self::Pass) -> Result<Hall, InUse>
         requires of { Self.is_of self pass }
         ensures workers { IfOk result (λ h. h.workers ≡ Self.workers self) }

@@ -1,4 +1,5 @@
-//! Running a script: tenants post and workers work at the same time, or one thread does both, until every revision is answered.
+//! Running a script: tenants post and workers work at the same time, or one thread does both, until every revision is
+//! answered.
 #![tactic(auto)]
 
 mod answering;

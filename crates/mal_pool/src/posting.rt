@@ -13,8 +13,8 @@ use mal_script::ScriptJob;
 use std::alloc::AllocError;
 use std::sync::Wait;
 
-/// What a poster hands back: of the job at this place of the script so many revisions are posted, and no later job of its
-/// tenant.
+/// What a poster hands back: of the job at this place of the script so many revisions are posted, and no later job of
+/// its tenant.
 #[derive(Clone, Copy, PartialEq, Eq, Debug)]
 pub struct Left {
     pub job: usize,
@@ -48,8 +48,8 @@ pub fn open_all<R: Wait, B: Board>(
     (pass, Ok(()))
 }
 
-/// Posts the revisions and the closing of a tenant's jobs, job by job. Stops at a post that is refused, or for which memory is
-/// wanting, and hands back the place.
+/// Posts the revisions and the closing of a tenant's jobs, job by job. Stops at a post that is refused, or for which
+/// memory is wanting, and hands back the place.
 pub fn post_all<R: Wait, B: Board>(
     rt: &R,
     board: &B,
@@ -73,7 +73,8 @@ pub fn post_all<R: Wait, B: Board>(
     (pass, None)
 }
 
-/// Posts the revisions and the closing of a job, if it is the tenant's. Where it stops, it tells how many revisions are posted.
+/// Posts the revisions and the closing of a job, if it is the tenant's. Where it stops, it tells how many revisions are
+/// posted.
 fn post_for<R: Wait, B: Board>(
     rt: &R,
     board: &B,
@@ -117,8 +118,8 @@ fn post_job<R: Wait, B: Board>(
     (pass, None)
 }
 
-/// Posts a revision of a job, a copy that is made before the hall is asked. False where memory was wanting or the post was
-/// refused.
+/// Posts a revision of a job, a copy that is made before the hall is asked. False where memory was wanting or the post
+/// was refused.
 fn post_revision<R: Wait, B: Board>(
     rt: &R,
     board: &B,

@@ -14,7 +14,8 @@ use mal_script::ScriptJob;
 use std::alloc::Global;
 use std::sync::Wait;
 
-/// What a thread is to do: post for the tenant of the job at this place of the script, or work as a worker of this number.
+/// What a thread is to do: post for the tenant of the job at this place of the script, or work as a worker of this
+/// number.
 #[derive(Clone, Copy, PartialEq, Eq, Debug)]
 pub enum Part {
     Poster(usize),

@@ -28,9 +28,9 @@ use std::marker::Brand;
 use std::sync::Wait;
 use std::thread::{self, Threads};
 
-/// Runs a script with 1 to 64 workers. With one worker no thread is made and nothing is waited for: all jobs are opened, then job
-/// by job its revisions and its closing are posted, and the hall is driven. With more, tenants post and workers work at the same
-/// time, each in a thread where one can be had, and share the hall by a lock.
+/// Runs a script with 1 to 64 workers. With one worker no thread is made and nothing is waited for: all jobs are
+/// opened, then job by job its revisions and its closing are posted, and the hall is driven. With more, tenants post
+/// and workers work at the same time, each in a thread where one can be had, and share the hall by a lock.
 #[tactic(auto, using(crate::proofs::RunLosses::alone_by_stops))]
 pub fn run_all<R: Threads + Wait + Sync, G: Gate>(
     rt: &R,
@@ -69,10 +69,10 @@ fn run_locked<S: Size + Send + Sync, R: Threads + Wait + Sync, G: Gate>(
     run_with(rt, alloc, board, OwnCalls::new(), script, workers, gate)
 }
 
-/// Runs a script in threads that share a board, whose hall has so many workers, 1 to 64, and no event yet. Tenants post and
-/// workers work at the same time; what a tenant did not post is posted afterwards, what is out is recalled, and the hall is driven
-/// to its end. A new hall is run on this thread in its place where the board was in use, where a lease was lost though the gate
-/// stopped no worker, and where the history is not complete for the script.
+/// Runs a script in threads that share a board, whose hall has so many workers, 1 to 64, and no event yet. Tenants post
+/// and workers work at the same time; what a tenant did not post is posted afterwards, what is out is recalled, and the
+/// hall is driven to its end. A new hall is run on this thread in its place where the board was in use, where a lease
+/// was lost though the gate stopped no worker, and where the history is not complete for the script.
 pub fn run_with<R: Threads + Wait + Sync, B: Board, G: Gate>(
     rt: &R,
     alloc: Global,
@@ -110,8 +110,8 @@ fn is_stopped<P: Drop>(played: &[Played<P>]) -> bool
     played.iter().any(|one| one.stopped)
 }
 
-/// Puts the passes together, closes the board, and brings its hall to an end. None where the board was in use, or where what was
-/// left could not be posted.
+/// Puts the passes together, closes the board, and brings its hall to an end. None where the board was in use, or where
+/// what was left could not be posted.
 fn take_down<B: Board>(
     alloc: Global,
     board: B,
@@ -131,8 +131,8 @@ fn take_down<B: Board>(
     settle(alloc, hall, jobs, left.as_slice())
 }
 
-/// Posts what was left, recalls what is out, and drives the hall to its end. None where a post was refused for another cause than
-/// want of memory. Where driving wants for memory it is tried once more.
+/// Posts what was left, recalls what is out, and drives the hall to its end. None where a post was refused for another
+/// cause than want of memory. Where driving wants for memory it is tried once more.
 fn settle(
     alloc: Global,
     hall: Hall,

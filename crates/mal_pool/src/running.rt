@@ -20,9 +20,9 @@ use mal_revision::Revision;
 use mal_script::{Script, ScriptJob};
 use std::alloc::{AllocError, Global};
 
-/// Runs a script with 1 to 64 workers on this thread: all jobs are opened, and then job by job its revisions and its closing are
-/// posted, in the order of the script. The hall is driven as its first worker until every revision is answered, so its history
-/// comes by turns, and no lease is lost.
+/// Runs a script with 1 to 64 workers on this thread: all jobs are opened, and then job by job its revisions and its
+/// closing are posted, in the order of the script. The hall is driven as its first worker until every revision is
+/// answered, so its history comes by turns, and no lease is lost.
 pub fn run_alone(alloc: Global, script: &Script, workers: u32) -> Result<Hall, AllocError>
     requires some { 1 ≤ workers }
     requires bound { workers ≤ 64 }

@@ -5,8 +5,8 @@ ghost use Rattle.mal_pool.specs.Traces.{traced};
 
 use std::snapshot::Snapshot;
 
-/// What came one after the other. Only the last item has bytes: what was before it is known to contracts alone, which see the
-/// whole as a list.
+/// What came one after the other. Only the last item has bytes: what was before it is known to contracts alone, which
+/// see the whole as a list.
 #[derive(Drop)]
 pub enum Trace<T> {
     Empty,

@@ -46,8 +46,9 @@ pub enum Turned {
     Ended(End),
 }
 
-/// Works at a desk as a worker, 1 to the number of workers, for so many turns at most: each turn picks, works the lease and gives
-/// back what came of it. The calls that were made decide the end. After each answer that there is nothing now it yields once.
+/// Works at a desk as a worker, 1 to the number of workers, for so many turns at most: each turn picks, works the lease
+/// and gives back what came of it. The calls that were made decide the end. After each answer that there is nothing now
+/// it yields once.
 pub fn work_loop<R: Wait, D: Desk, G: Gate>(
     rt: &R,
     desk: &D,
@@ -109,8 +110,8 @@ fn turn<R: Wait, D: Desk, G: Gate>(
     }
 }
 
-/// Works a lease off that a worker has just picked, and gives it back. Where the gate stops the worker, the lease or what came of it
-/// is let go.
+/// Works a lease off that a worker has just picked, and gives it back. Where the gate stops the worker, the lease or
+/// what came of it is let go.
 fn work_off<R: Wait, D: Desk, G: Gate>(
     rt: &R,
     desk: &D,

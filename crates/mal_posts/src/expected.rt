@@ -31,8 +31,8 @@ pub enum Post {
     },
 }
 
-/// What a script posts of a tenant, in its order: the openings, then job by job the revisions and the closing. A job has 256
-/// revisions at most.
+/// What a script posts of a tenant, in its order: the openings, then job by job the revisions and the closing. A job
+/// has 256 revisions at most.
 pub fn posts_of(alloc: Global, script: &Script, tenant: Name) -> Result<Vec<Post>, AllocError>
     requires { AreFew script.now.jobs }
     ensures { IfOk result (λ v. lines_of v.items ≡ map bare (posts_of tenant script.now)) }

@@ -18,9 +18,9 @@ const LEAST_LINES: usize = 64;
 /// The literals, and the hints, that a chunk takes at least.
 const LEAST_NUMBERS: usize = 1_024;
 
-/// The derived lines of a job in the order in which they were entered. They stand in chunks, and what stands never moves.
-/// Contracts see the lines, for how many more lines and numbers, which are literals and hints, there is room, and for how many
-/// more chunks; the lines have the numbers of derived clauses, each once and above all its hints.
+/// The derived lines of a job in the order in which they were entered. They stand in chunks, and what stands never
+/// moves. Contracts see the lines, for how many more lines and numbers, which are literals and hints, there is room,
+/// and for how many more chunks; the lines have the numbers of derived clauses, each once and above all its hints.
 #[derive(Drop)]
 pub struct Log {
     full: Vec<Lines>,
@@ -60,8 +60,9 @@ impl Log {
         }
     }
 
-    /// Makes room for so many more lines with so many literals and hints. Where there is not enough, a new chunk is begun that
-    /// has room for twice as many, and for some at least. After want of memory the lines and the room for more are as before.
+    /// Makes room for so many more lines with so many literals and hints. Where there is not enough, a new chunk is
+    /// begun that has room for twice as many, and for some at least. After want of memory the lines and the room for
+    /// more are as before.
     pub fn reserve(&mut self, lines: usize, numbers: usize) -> Result<(), AllocError>
         ensures lines { self.new.lines ≡ self.old.lines }
         ensures room { OnOk result (lines ≤ self.new.room) }
@@ -85,8 +86,8 @@ impl Log {
         Ok(())
     }
 
-    /// Puts a line behind the others, for which there is room. It has the number of a derived clause that is not in the log
-    /// and is above all its hints. Takes no memory.
+    /// Puts a line behind the others, for which there is room. It has the number of a derived clause that is not in the
+    /// log and is above all its hints. Takes no memory.
     pub fn append_reserved(&mut self, id: ClauseId, lits: &[Lit], hints: &[ClauseId])
         requires room { 1 ≤ self.old.room }
         requires number_room { length lits.now + length hints.now ≤ self.old.number_room }
@@ -112,9 +113,9 @@ impl Log {
         Ok(())
     }
 
-    /// Puts lines behind the others as a chunk of their own, for which there is room: they are moved. With those before them
-    /// they have numbers of derived clauses, each once and above all its hints, so that proofs can be trimmed of them. No room
-    /// is left for further single lines. A chunk without lines keeps no room. Takes no memory.
+    /// Puts lines behind the others as a chunk of their own, for which there is room: they are moved. With those before
+    /// them they have numbers of derived clauses, each once and above all its hints, so that proofs can be trimmed of
+    /// them. No room is left for further single lines. A chunk without lines keeps no room. Takes no memory.
     pub fn append_chunk(&mut self, lines: Lines)
         requires room { 1 ≤ self.old.chunk_room }
         requires countable { length self.old.lines + length lines.lines < 2 ^ 64 }
@@ -181,8 +182,8 @@ impl Log {
         (&self.last, rest)
     }
 
-    /// The lines that are reached backwards from a goal over hints, by rising number. Where no line has the goal's number
-    /// there are none.
+    /// The lines that are reached backwards from a goal over hints, by rising number. Where no line has the goal's
+    /// number there are none.
     pub fn trim(&self, goal: ClauseId) -> Result<Lines, AllocError>
         ensures reached { IfOk result (λ out. out.lines ≡ reached goal self.now.lines) }
         ensures trimmed { IfOk result (λ out. IsTrimmed out.lines) }

@@ -9,7 +9,8 @@ use crate::lent::{LentLine, ids_of, lend_all, push};
 use mal_base::{ClauseId, Lines};
 use std::alloc::{AllocError, Global};
 
-/// Lines by rising number with the numbers from m + 1 on, and their hints with them; the hints of original clauses stay.
+/// Lines by rising number with the numbers from m + 1 on, and their hints with them; the hints of original clauses
+/// stay.
 pub fn renumber(alloc: Global, lines: &Lines, m: u64) -> Result<Lines, AllocError>
     requires rising { AreRising lines.now.lines }
     requires few { m < 2 ^ 32 }

@@ -13,7 +13,8 @@ use mal_revision::Revision;
 use mal_script::{Script, ScriptJob};
 use std::alloc::AllocError;
 
-/// What the script posts in an event: a copy of its revision, none where it lacks the revision or the event is no Revise.
+/// What the script posts in an event: a copy of its revision, none where it lacks the revision or the event is no
+/// Revise.
 pub fn posted_in(script: &Script, event: &Event) -> Result<Option<Revision>, AllocError>
     ensures { IfOk result (λ o. o ≡ posted_in script.now event.now) }
 {

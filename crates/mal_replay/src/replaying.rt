@@ -15,10 +15,10 @@ use mal_posts::have_posts;
 use mal_script::Script;
 use std::alloc::Global;
 
-/// The replies to a script of which this is the history: exactly where it is legal and complete for the script. `NotLegal`
-/// names the line of the first event that is not allowed, and `NotComplete` tells that each event is allowed, but that the
-/// history does not post what the script says, or that a revision is not answered or a lease is out. Each revision is the
-/// script's. The slices that the history says were run are run again.
+/// The replies to a script of which this is the history: exactly where it is legal and complete for the script.
+/// `NotLegal` names the line of the first event that is not allowed, and `NotComplete` tells that each event is
+/// allowed, but that the history does not post what the script says, or that a revision is not answered or a lease is
+/// out. Each revision is the script's. The slices that the history says were run are run again.
 pub fn replay(alloc: Global, script: &Script, history: &History) -> Result<Vec<u8>, ReplayFault>
     ensures ok { IfOk result (λ text. IsReplay history.now.workers script.now history.now.events (line_at history.now.lines) (Ok text.items)) }
     ensures err { IfErr result (λ fault. IsReplay history.now.workers script.now history.now.events (line_at history.now.lines) (Err fault)) }

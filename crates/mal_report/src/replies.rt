@@ -45,8 +45,8 @@ pub fn satisfiable(
     Ok(out)
 }
 
-/// The reply to a job's revision, numbered from 1, whose clauses no assignment satisfies where the assumptions hold: the
-/// assumptions that fail, and the lines of the proof. The job's solvers have this profile, 1 or 2.
+/// The reply to a job's revision, numbered from 1, whose clauses no assignment satisfies where the assumptions hold:
+/// the assumptions that fail, and the lines of the proof. The job's solvers have this profile, 1 or 2.
 #[tactic(auto, unfolding(spec_report::specs::Replies::reply_text))]
 pub fn unsatisfiable(
     alloc: Global,
@@ -69,8 +69,8 @@ pub fn unsatisfiable(
     Ok(out)
 }
 
-/// The reply to a job's revision, numbered from 1, that has neither a model nor a refutation. The job's solvers have this
-/// profile, 1 or 2.
+/// The reply to a job's revision, numbered from 1, that has neither a model nor a refutation. The job's solvers have
+/// this profile, 1 or 2.
 #[tactic(auto, unfolding(spec_report::specs::Replies::reply_text))]
 pub fn unknown(
     alloc: Global,

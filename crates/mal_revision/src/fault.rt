@@ -3,8 +3,8 @@
 use mal_base::{LimitKind, Var};
 use thiserror::Error;
 
-/// Why there is no revision of some variables, clauses and assumptions. The causes are tested in the order in which they
-/// stand here.
+/// Why there is no revision of some variables, clauses and assumptions. The causes are tested in the order in which
+/// they stand here.
 #[derive(Clone, Copy, Debug, PartialEq, Eq, Error, Drop)]
 pub enum RevisionFault {
     /// This is the least variable that is assumed with both signs.

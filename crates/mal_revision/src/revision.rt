@@ -16,8 +16,8 @@ use std::sync::Arc;
 
 /// A revision of a job: the number of its variables (at most 65,536), its clauses (at most 2^20 with at most 2^24
 /// literals; None stands for a tautology, which keeps its number and counts no literal) and its assumptions, by
-/// strictly rising variable. Contracts see the three. Copies share the lists, and the number of the literals is kept beside
-/// them, so that a copy and the limits take no walk over the clauses.
+/// strictly rising variable. Contracts see the three. Copies share the lists, and the number of the literals is kept
+/// beside them, so that a copy and the limits take no walk over the clauses.
 #[derive(Drop)]
 pub struct Revision {
     variables: u32,
@@ -115,8 +115,8 @@ impl Revision {
         })
     }
 
-    /// An equal revision. It shares the lists, so that it takes no memory and is made at once, however many clauses there are;
-    /// an error only where they are shared 2^63 times.
+    /// An equal revision. It shares the lists, so that it takes no memory and is made at once, however many clauses
+    /// there are; an error only where they are shared 2^63 times.
     pub fn copy(&self) -> Result<Revision, AllocError>
         ensures { IfOk result (λ r. r ≡ self.now) }
     {

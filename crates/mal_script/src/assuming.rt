@@ -91,8 +91,8 @@ pub fn assumptions_in(
     consistent(sorted)
 }
 
-/// The assumptions of a line, which is the word `a`, literals of variables up to this one (at most 65,536), in any order
-/// and with repeats, and then a 0: by rising variable, each once.
+/// The assumptions of a line, which is the word `a`, literals of variables up to this one (at most 65,536), in any
+/// order and with repeats, and then a 0: by rising variable, each once.
 ///
 /// Errors, the first that holds: `BadLine` where the line has another form, `Range` where a literal is above the
 /// variables, `Opposite` with the least variable that is assumed with both signs. `OutOfMemory` may come at any time.

@@ -21,8 +21,8 @@ const VARIABLES: u32 = 50;
 /// The clauses of a generated formula.
 const CLAUSES: u32 = 213;
 
-/// The script of a seed below 2^31 with 1 to 256 jobs: job i belongs to one of four tenants, which take turns, and has a
-/// priority of 1 to 8 and one revision, a random formula of 213 clauses of three literals over 50 variables.
+/// The script of a seed below 2^31 with 1 to 256 jobs: job i belongs to one of four tenants, which take turns, and has
+/// a priority of 1 to 8 and one revision, a random formula of 213 clauses of three literals over 50 variables.
 #[tactic(auto, using(crate::proofs::GenerateSteps::job_lemmas))]
 pub fn generate(alloc: Global, seed: u32, jobs: u32) -> Result<Script, AllocError>
     requires seed { seed < 2 ^ 31 }

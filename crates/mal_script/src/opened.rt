@@ -20,8 +20,8 @@ use mal_text::first_word;
 use std::alloc::Global;
 use std::marker::Model;
 
-/// A job that has begun and not ended: what was read of it, the clauses and the literals of its revisions, and its block
-/// that has begun and not ended. Contracts see the four.
+/// A job that has begun and not ended: what was read of it, the clauses and the literals of its revisions, and its
+/// block that has begun and not ended. Contracts see the four.
 #[derive(Drop)]
 pub struct OpenJob {
     job: ScriptJob,

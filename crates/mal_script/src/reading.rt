@@ -18,8 +18,8 @@ use mal_base::LineFault;
 use mal_text::first_line;
 use std::alloc::Global;
 
-/// The script that a text spells within the limits that are served, or the first fault of the text, with its line from 1
-/// on. A fault at the end names the last line, 1 where there is none. Want of memory may come at any time.
+/// The script that a text spells within the limits that are served, or the first fault of the text, with its line from
+/// 1 on. A fault at the end names the last line, 1 where there is none. Want of memory may come at any time.
 pub fn read(alloc: Global, text: &[u8]) -> Result<Script, ScriptFault>
     // What is read is spelled so.
     ensures found { IfOk result (λ s. Spells served text.now s) }

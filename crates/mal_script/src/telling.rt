@@ -37,7 +37,8 @@ fn in_script(alloc: Global, line: u64, fault: LineFault) -> Result<Option<Vec<u8
     Ok(Some(line_fault_line(alloc, b"script", line, fault)?))
 }
 
-/// The line that tells what is wrong with a line of this part of a text, as `fault: formula line 3 Range`, with its line end.
+/// The line that tells what is wrong with a line of this part of a text, as `fault: formula line 3 Range`, with its
+/// line end.
 pub fn line_fault_line(
     alloc: Global,
     part: &[u8],

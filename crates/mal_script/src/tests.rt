@@ -73,8 +73,8 @@ fn revisions_of(alloc: Global, text: &[u8]) -> Result<Vec<usize>, Fail> {
     Ok(counts)
 }
 
-/// Texts with the lines that tell their first faults: of jobs and what stands between them, of blocks, of limits, of a name
-/// that stands twice, and of a variable that is assumed with both signs.
+/// Texts with the lines that tell their first faults: of jobs and what stands between them, of blocks, of limits, of a
+/// name that stands twice, and of a variable that is assumed with both signs.
 const FAULTS: [(&[u8], &[u8]); 22] = [
     (b"t a\nj p 0 1 4\ne\n", b"fault: script line 2 Range\n"),
     (

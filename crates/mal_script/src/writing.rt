@@ -15,8 +15,8 @@ use mal_text::{end_line, put_line, put_word};
 use std::alloc::{AllocError, Global};
 
 /// The one text of a script: for each job the line of its tenant, the line of its name and its ask, for each revision a
-/// header, a line a clause and the line of its assumptions, and the line that ends the job. A tautology is written as the
-/// literals 1 and -1.
+/// header, a line a clause and the line of its assumptions, and the line that ends the job. A tautology is written as
+/// the literals 1 and -1.
 pub fn write(alloc: Global, script: &Script) -> Result<Vec<u8>, AllocError>
     ensures { IfOk result (λ text. text.items ≡ spelling script.now) }
 {

@@ -11,7 +11,8 @@ one b = if b then 1 else 0
 abbrev pub is_unfinished : Seat → Bool
 is_unfinished s = not (s.job.titled.state.closed && not (is_live_seat s))
 
--- how many jobs were changed so that a balancing is due, how many are not closed or not answered, and which have a volume
+-- how many jobs were changed so that a balancing is due, how many are not closed or not answered, and which have a
+-- volume
 pub record AreCounted (seats : List Seat) (changed unfinished : ℕ) (filled : List ℕ) : Type 0 where
   pub changed_is : changed ≡ count_by has_changed seats
   pub unfinished_is : unfinished ≡ count_by is_unfinished seats

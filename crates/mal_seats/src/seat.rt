@@ -180,8 +180,8 @@ impl Seat {
         self.job.set_volume(volume);
     }
 
-    /// Whether the last balancing listed the job so, with what it asks for now, and its volume is this one: nothing of it
-    /// has to be written again.
+    /// Whether the last balancing listed the job so, with what it asks for now, and its volume is this one: nothing of
+    /// it has to be written again.
     fn is_noted(&self, listed: bool, volume: u32) -> bool
         ensures listed { IsTrue result → self.now.listed ≡ listed }
         ensures noted { IsTrue result → self.now.noted ≡ self.now.job.titled.state.ask }
@@ -220,8 +220,8 @@ impl Seat {
         self.job.starts(index)
     }
 
-    /// Starts the node of this index, as the start of this number: hands it out to a worker. After want of memory the job is as
-    /// before.
+    /// Starts the node of this index, as the start of this number: hands it out to a worker. After want of memory the
+    /// job is as before.
     pub(crate) fn start(&mut self, index: u32, worker: u32, start: u64) -> Result<Lease, AllocError>
         requires { startable self.old.job.titled.state index ≡ true }
         ensures ok { OnOk result (self.new ≡ record self.old { job = and_start self.old.job index start }) }

@@ -8,8 +8,8 @@ use mal_hall::Hall;
 use std::marker::Model;
 use std::snapshot::Snapshot;
 
-/// One call of the hall, as the record has it. Contracts see the call with its arguments, its answer, and the events that it
-/// entered: those that the hall after the call has beyond the hall before it.
+/// One call of the hall, as the record has it. Contracts see the call with its arguments, its answer, and the events
+/// that it entered: those that the hall after the call has beyond the hall before it.
 #[derive(Drop)]
 pub struct Entry {
     told: HallCall,

@@ -16,19 +16,20 @@ use mal_turn::{InUse, Seat, Turn};
 use std::alloc::{AllocError, Global};
 use std::sync::Wait;
 
-/// The right to call a service: it goes in with a call and comes back with the answer. Contracts see the record that it has
-/// seen, and its numbers.
+/// The right to call a service: it goes in with a call and comes back with the answer. Contracts see the record that it
+/// has seen, and its numbers.
 pub type Pass<S> = Seat<NotedHall<S>>;
 
-/// A hall of so many workers that threads share, each with a pass. Whoever calls waits for the turn; the call is then one
-/// entry of the one record, and is answered as the hall answers at that point.
+/// A hall of so many workers that threads share, each with a pass. Whoever calls waits for the turn; the call is then
+/// one entry of the one record, and is answered as the hall answers at that point.
 #[derive(Drop)]
 pub struct Service<S: Size> {
     turn: Turn<NotedHall<S>>,
 }
 
 impl<S: Size> Service<S> {
-    /// The service of a hall of so many workers, 1 to 64, without a job, and the whole pass of it, which has seen nothing.
+    /// The service of a hall of so many workers, 1 to 64, without a job, and the whole pass of it, which has seen
+    /// nothing.
     pub fn new(alloc: Global, workers: u32) -> Result<(Service<S>, Pass<S>), AllocError>
         requires some { 1 ≤ workers }
         requires bound { workers ≤ 64 }
@@ -75,8 +76,8 @@ impl<S: Size> Service<S> {
         (self.turn.put(held), answer)
     }
 
-    /// Hands a node out to a worker, 1 to the number of workers, as `Hall::pick` does. One entry, with the worker and the
-    /// hall's answer.
+    /// Hands a node out to a worker, 1 to the number of workers, as `Hall::pick` does. One entry, with the worker and
+    /// the hall's answer.
     pub fn pick<R: Wait>(
         &self,
         rt: &R,
@@ -94,8 +95,8 @@ impl<S: Size> Service<S> {
         (self.turn.put(held), answer)
     }
 
-    /// Gives back what came of a lease, as `Hall::finish` does. One entry, with what came back and the hall's answer. Takes no
-    /// memory.
+    /// Gives back what came of a lease, as `Hall::finish` does. One entry, with what came back and the hall's answer.
+    /// Takes no memory.
     pub fn give<R: Wait>(
         &self,
         rt: &R,
@@ -135,8 +136,9 @@ impl<S: Size> Service<S> {
         self.turn.join(pass, other)
     }
 
-    /// Gives the hall back. Its history is the events of a legal record that begins with all that the pass had seen, and each
-    /// entry of which is a whole pass's. It is refused only where the pass is not whole and somebody's turn was not passed on.
+    /// Gives the hall back. Its history is the events of a legal record that begins with all that the pass had seen,
+    /// and each entry of which is a whole pass's. It is refused only where the pass is not whole and somebody's turn
+    /// was not passed on.
     pub fn close(self, pass: Pass<S>) -> Result<Hall, InUse>
         requires { IsOf self.turn pass }
         ensures workers { IfOk result (λ h. h.workers ≡ S.workers) }

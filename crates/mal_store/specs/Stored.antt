@@ -34,7 +34,8 @@ covers place s = if nat_le s.start place && nat_lt place (s.start + s.len) then 
 abbrev pub AreApart : List Slot → Type 0
 AreApart slots = (place : ℕ) → sum_by (covers place) slots ≤ 1
 
--- so many literals from one place on, if there are any, begin at another or behind it, and what is behind them begins there
+-- so many literals from one place on, if there are any, begin at another or behind it, and what is behind them begins
+-- there
 abbrev pub IsFrom : ℕ → ℕ → ℕ → Type 0
 IsFrom low start zero = Unit {0}
 IsFrom low start (suc n) = low ≤ start

@@ -155,8 +155,8 @@ fn place_of(slots: &[Slot], id: ClauseId) -> usize
     slots.partition_point(|slot| slot.id.number() < number)
 }
 
-/// Where the slot of a number stands if numbers are dense: those of the original clauses, which begin with 1, and those that
-/// one solver derives, each 64 above the one before it, up to the last.
+/// Where the slot of a number stands if numbers are dense: those of the original clauses, which begin with 1, and those
+/// that one solver derives, each 64 above the one before it, up to the last.
 fn guess_of(slots: &[Slot], number: u64) -> usize
     ensures { result ≤ length slots.now }
 {

@@ -33,8 +33,8 @@ MayAllReplay s (e ∷ es) = MayReplay e s.node × MayAllReplay (after_entry s e)
 abbrev pub AreAtRest : List JournalEntry → Type 0
 AreAtRest entries = (entries ≡ []) ⊎ ((before : List JournalEntry) × (entries ≡ before ++ Run ∷ []))
 
--- what the entries of a node's journal keep: a node of a job may have this profile and this index, each entry may be replayed
--- behind those before it, and they are those between two starts
+-- what the entries of a node's journal keep: a node of a job may have this profile and this index, each entry may be
+-- replayed behind those before it, and they are those between two starts
 pub record IsJournal (profile index : ℕ) (entries : List JournalEntry) : Type 0 where
   pub some_profile : 1 ≤ profile
   pub profile_bound : profile ≤ 2

@@ -12,8 +12,9 @@ use crate::suspended::{Solver, Suspended};
 use mal_base::{Lines, Outcome, Values, Verdict};
 use std::marker::Model;
 
-/// What came of a lease: the worker, how the start ended, and what is kept of the node; of a start that ran also the lines of its
-/// slice, the verdict and the model. Contracts see them; the type keeps that they are those of the journal's last slice.
+/// What came of a lease: the worker, how the start ended, and what is kept of the node; of a start that ran also the
+/// lines of its slice, the verdict and the model. Contracts see them; the type keeps that they are those of the
+/// journal's last slice.
 #[derive(Drop)]
 pub struct Done {
     worker: u32,
@@ -52,8 +53,8 @@ impl Model for Done {
 }
 
 impl Done {
-    /// A start that ran: the node with the lines of its slice, its journal, and an empty list with room for the values of a
-    /// model. Takes no memory.
+    /// A start that ran: the node with the lines of its slice, its journal, and an empty list with room for the values
+    /// of a model. Takes no memory.
     pub fn ran(worker: u32, mut node: Solver, journal: Journal, values: Vec<bool>) -> Done
         requires node { node.state ≡ node_of journal }
         requires lines { node.lines ≡ (replayed journal).lines }

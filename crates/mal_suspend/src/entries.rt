@@ -9,9 +9,9 @@ use crate::entry::{Counted, Entry};
 use std::alloc::{AllocError, Global};
 use std::marker::Model;
 
-/// What a node did, in order: the entries that are no slices, each with the number of slices before it, and the number of slices
-/// behind the last. Contracts see the list, in which each slice is an entry of its own; two lists are equal exactly where these
-/// are. So a slice more takes no memory, and a list costs what its loads and imports do.
+/// What a node did, in order: the entries that are no slices, each with the number of slices before it, and the number
+/// of slices behind the last. Contracts see the list, in which each slice is an entry of its own; two lists are equal
+/// exactly where these are. So a slice more takes no memory, and a list costs what its loads and imports do.
 #[derive(Drop)]
 pub struct Entries {
     counted: Vec<Counted>,
@@ -39,7 +39,8 @@ impl Entries {
         }
     }
 
-    /// The entries that are no slices, each with the number of slices before it, and the number of slices behind the last.
+    /// The entries that are no slices, each with the number of slices before it, and the number of slices behind the
+    /// last.
     pub fn parts(&self) -> (&[Counted], u64)
         ensures { entries_of result.0.now ++ slices_of result.1 ≡ self.now }
     {

@@ -11,8 +11,8 @@ use mal_revision::Revision;
 use std::alloc::AllocError;
 use std::sync::Arc;
 
-/// What a node took: it loaded a revision, of which the first clause has this number, or it imported what was told. The slices
-/// that it ran are counted beside these, as `Counted` has them.
+/// What a node took: it loaded a revision, of which the first clause has this number, or it imported what was told. The
+/// slices that it ran are counted beside these, as `Counted` has them.
 #[derive(Drop)]
 pub enum Entry {
     Load(Arc<Revision>, u32),
@@ -30,7 +30,8 @@ impl Entry {
         }
     }
 
-    /// Whether the other entry is of the same kind and has the same revision under the same number, or the same clauses.
+    /// Whether the other entry is of the same kind and has the same revision under the same number, or the same
+    /// clauses.
     pub fn same(&self, other: &Entry) -> bool
         ensures { IsTrue result ↔ (entry_of self.now ≡ entry_of other.now) }
     {
@@ -74,8 +75,8 @@ impl Entry {
     }
 }
 
-/// An entry with the number of slices that were run in a row right before it. It stands for as many entries of a journal that
-/// each run a slice, and for itself behind them.
+/// An entry with the number of slices that were run in a row right before it. It stands for as many entries of a
+/// journal that each run a slice, and for itself behind them.
 #[derive(Drop)]
 pub struct Counted {
     pub slices: u64,

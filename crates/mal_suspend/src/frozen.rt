@@ -12,8 +12,8 @@ use mal_freeze::thaw_known;
 use std::alloc::AllocError;
 use std::marker::Model;
 
-/// A node as the bytes of its image, with its journal. Contracts see the journal; the type keeps that the bytes are those of
-/// the image of the journal's node.
+/// A node as the bytes of its image, with its journal. Contracts see the journal; the type keeps that the bytes are
+/// those of the image of the journal's node.
 #[derive(Drop)]
 pub struct Frozen {
     bytes: Vec<u8>,

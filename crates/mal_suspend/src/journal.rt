@@ -14,9 +14,9 @@ use std::alloc::{AllocError, Global};
 use std::marker::Model;
 use std::sync::Arc;
 
-/// The journal of a node: the number of its job, the profile of the job's solvers, its index in the job's tree, the number of
-/// its last start, and what it did, in order. Contracts see the five; the type keeps that each entry may be replayed behind
-/// those before it.
+/// The journal of a node: the number of its job, the profile of the job's solvers, its index in the job's tree, the
+/// number of its last start, and what it did, in order. Contracts see the five; the type keeps that each entry may be
+/// replayed behind those before it.
 #[derive(Drop)]
 pub struct Journal {
     job: u64,
@@ -38,8 +38,8 @@ impl Model for Journal {
 }
 
 impl Journal {
-    /// The journal of the node of this index (0 to 63) of a job whose solvers have this profile (1 or 2), before its first start.
-    /// Takes no memory.
+    /// The journal of the node of this index (0 to 63) of a job whose solvers have this profile (1 or 2), before its
+    /// first start. Takes no memory.
     pub fn new(alloc: Global, job: u64, profile: u32, index: u32) -> Journal
         requires index { index ≤ 63 }
         requires some { 1 ≤ profile }

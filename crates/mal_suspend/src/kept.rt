@@ -13,8 +13,8 @@ use mal_learn::Scratch;
 /// The greatest length of an image of which the node is kept frozen between two starts.
 pub const FROZEN_BYTES: usize = 1 << 14;
 
-/// What is kept of a node: the node with its journal, its bytes with its journal, or its journal alone, since it never came
-/// back.
+/// What is kept of a node: the node with its journal, its bytes with its journal, or its journal alone, since it never
+/// came back.
 #[derive(Drop)]
 pub enum Kept {
     Live(Suspended),
@@ -66,8 +66,8 @@ impl Kept {
         }
     }
 
-    /// The node with its journal; one that is frozen is thawed, and one that is gone is rebuilt. Where memory for that is
-    /// wanting, gives back what was kept, as it was.
+    /// The node with its journal; one that is frozen is thawed, and one that is gone is rebuilt. Where memory for that
+    /// is wanting, gives back what was kept, as it was.
     pub fn wake(self, scratch: &mut Scratch) -> Result<Suspended, Kept>
         ensures live { IfOk result (λ s. s ≡ journal_of self) }
         ensures wanting { IfErr result (λ k. k ≡ self) }

@@ -19,8 +19,8 @@ use std::alloc::AllocError;
 use std::marker::Model;
 use std::sync::Arc;
 
-/// A node that is handed out to a worker for one start. Contracts see its journal, whether it is gone, what the start adds to the
-/// journal, and the worker; the type keeps that this may be replayed behind the journal.
+/// A node that is handed out to a worker for one start. Contracts see its journal, whether it is gone, what the start
+/// adds to the journal, and the worker; the type keeps that this may be replayed behind the journal.
 #[derive(Drop)]
 pub struct Lease {
     kept: Kept,
@@ -47,9 +47,9 @@ impl Model for Lease {
 }
 
 impl Lease {
-    /// Hands a node out to a worker for the start of this number: it loads these revisions, each with the number of its first
-    /// clause, then imports what was told, then runs a slice. After want of memory gives back what is kept of the node, as it
-    /// was.
+    /// Hands a node out to a worker for the start of this number: it loads these revisions, each with the number of its
+    /// first clause, then imports what was told, then runs a slice. After want of memory gives back what is kept of the
+    /// node, as it was.
     pub fn new(
         kept: Kept,
         loads: Vec<(Arc<Revision>, u32)>,
@@ -95,9 +95,9 @@ impl Lease {
         self.kept.journal()
     }
 
-    /// Works the lease off: thaws a node that is frozen and rebuilds one that is gone, loads, imports and runs a slice, and
-    /// freezes the node where that is cheap. It is never refused; where memory is wanting, what comes back has
-    /// the journal as before the start.
+    /// Works the lease off: thaws a node that is frozen and rebuilds one that is gone, loads, imports and runs a slice,
+    /// and freezes the node where that is cheap. It is never refused; where memory is wanting, what comes back has the
+    /// journal as before the start.
     pub fn work(self, scratch: &mut Scratch) -> Done
         ensures worker { result.worker ≡ self.worker }
         ensures becomes { Becomes result.outcome self result }
@@ -109,7 +109,8 @@ impl Lease {
         }
     }
 
-    /// Gives the lease back as one whose start wanted for memory: the journal and the node are as before it. Takes no memory.
+    /// Gives the lease back as one whose start wanted for memory: the journal and the node are as before it. Takes no
+    /// memory.
     pub fn starved(self) -> Done
         ensures worker { result.worker ≡ self.worker }
         ensures outcome { result.outcome ≡ Starved }

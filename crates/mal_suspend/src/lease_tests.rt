@@ -1,5 +1,5 @@
-//! What is kept of a node after a lease, on both sides of the greatest length of an image that is frozen, and nodes that are
-//! thawed.
+//! What is kept of a node after a lease, on both sides of the greatest length of an image that is frozen, and nodes
+//! that are thawed.
 
 ghost use Rattle.std.specs.Prelude.{◌≡◌, []};
 ghost use Rattle.mal_suspend.specs.Kept.{journal_of};
@@ -88,8 +88,8 @@ fn a_late_lease_and_the_one_after_it_are_frozen(rt: HostRuntime) -> Result<(), F
     Ok(())
 }
 
-/// How many bytes a frozen node has that is thawed and frozen again: those that come back where the thaw is refused, and none
-/// where the freeze is, after which the journal is that of no start.
+/// How many bytes a frozen node has that is thawed and frozen again: those that come back where the thaw is refused,
+/// and none where the freeze is, after which the journal is that of no start.
 fn thaw_and_freeze(frozen: Frozen) -> usize {
     match frozen.thaw() {
         Err((frozen, _)) => frozen.bytes().len(),

@@ -21,8 +21,8 @@ use std::alloc::AllocError;
 use std::marker::Model;
 use std::sync::Arc;
 
-/// What a start does: it loads, then imports, then runs a slice. It has the journal after the start, and room for the values of
-/// a model. Contracts see that journal, and the entries that the start adds.
+/// What a start does: it loads, then imports, then runs a slice. It has the journal after the start, and room for the
+/// values of a model. Contracts see that journal, and the entries that the start adds.
 #[derive(Drop)]
 pub struct Start {
     grown: Journal,
@@ -45,7 +45,8 @@ impl Model for Start {
 }
 
 impl Start {
-    /// The start of this number behind a journal that loads these revisions, then imports what was told, then runs a slice.
+    /// The start of this number behind a journal that loads these revisions, then imports what was told, then runs a
+    /// slice.
     pub fn new(
         journal: &Journal,
         loads: Vec<(Arc<Revision>, u32)>,

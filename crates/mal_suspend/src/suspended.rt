@@ -35,8 +35,8 @@ impl Model for Suspended {
 }
 
 impl Suspended {
-    /// The node of this index (0 to 63) of a job whose solvers have this profile (1 or 2), before its first start. Takes no
-    /// memory.
+    /// The node of this index (0 to 63) of a job whose solvers have this profile (1 or 2), before its first start.
+    /// Takes no memory.
     pub fn fresh(alloc: Global, job: u64, profile: u32, index: u32) -> Suspended
         requires index { index ≤ 63 }
         requires some { 1 ≤ profile }
@@ -97,8 +97,8 @@ impl Suspended {
         }
     }
 
-    /// The bytes of the node, with its journal, where they are no more than these and memory for them is there. Else gives the
-    /// node and its journal back, as they were.
+    /// The bytes of the node, with its journal, where they are no more than these and memory for them is there. Else
+    /// gives the node and its journal back, as they were.
     pub fn freeze_within(self, most: usize) -> Result<Frozen, Suspended>
         ensures frozen { IfOk result (λ f. f ≡ self) }
         ensures short { IfOk result (λ f. length (image_bytes (node_of f)) ≤ most) }

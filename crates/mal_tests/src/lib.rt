@@ -1,4 +1,5 @@
-//! Tests that cross crates: whole runs of the program in threads, of the words, the devices and the gate that it is given.
+//! Tests that cross crates: whole runs of the program in threads, of the words, the devices and the gate that it is
+//! given.
 #![tactic(auto)]
 
 #[cfg(test)]

@@ -20,8 +20,9 @@ use std::sync::atomic::Ordering;
 use std::test::Fail;
 use std::thread::Threads;
 
-/// Runs as many jobs of demand 1 as there are workers, whose first slices wait for one another before they begin and again before
-/// they are given back. It fails where a lock is held in a slice, and where no worker but the first has a start.
+/// Runs as many jobs of demand 1 as there are workers, whose first slices wait for one another before they begin and
+/// again before they are given back. It fails where a lock is held in a slice, and where no worker but the first has a
+/// start.
 fn start_together<R: Threads + Wait + Sync + Abort>(
     rt: &R,
     alloc: Global,
@@ -68,8 +69,8 @@ fn single_replies(alloc: Global) -> Result<Vec<u8>, Fail> {
     Ok(replies(alloc, &hall, &script)?)
 }
 
-/// Runs a script of 16 jobs of demands 1 to 4 many times with so many workers: each log replays to the replies, no lease is
-/// lost, and the replies to the jobs of demand 1 are the same each time.
+/// Runs a script of 16 jobs of demands 1 to 4 many times with so many workers: each log replays to the replies, no
+/// lease is lost, and the replies to the jobs of demand 1 are the same each time.
 fn run_often<R: Threads + Wait + Sync + Abort>(
     rt: &R,
     alloc: Global,

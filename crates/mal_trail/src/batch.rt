@@ -19,7 +19,8 @@ fn left_literal(trail: &Trail, count: usize, lits: &[Lit]) -> Option<Lit>
         .find(|l| !trail.is_false_before(count, *l))
 }
 
-/// Pushes the literal that is left of this clause, unless it is true. The conflict is the clause where the literal is false.
+/// Pushes the literal that is left of this clause, unless it is true. The conflict is the clause where the literal is
+/// false.
 pub fn handle_literal(trail: &mut Trail, id: ClauseId, lit: Lit) -> Option<ClauseId>
     requires { var_of lit ≤ trail.old.room }
     ensures progress { after_literal trail.old.entries id lit ≡ record { trail = trail.new.entries; conflict = result } }

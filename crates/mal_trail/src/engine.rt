@@ -15,9 +15,9 @@ use std::alloc::{AllocError, Global};
 
 /// What holds the clauses of a node and propagates with them. It sees its clauses by rising number.
 ///
-/// An engine may follow the entries that it has handled, those before the last batch that counts as handled: `fits` says
-/// that what it keeps fits a trail of which so many batches count as handled. Whatever a node does with its trail keeps
-/// this. Only `reserve` takes memory.
+/// An engine may follow the entries that it has handled, those before the last batch that counts as handled: `fits`
+/// says that what it keeps fits a trail of which so many batches count as handled. Whatever a node does with its trail
+/// keeps this. Only `reserve` takes memory.
 pub trait Engine: ClauseView + Drop {
     ghost room: { Self → Room };
 
@@ -45,7 +45,8 @@ pub trait Engine: ClauseView + Drop {
         ensures room { IsLeft 1 (length clause.now) (room self.old) (room self.new) }
         ensures fits { fits self.new trail.now.entries trail.now.processed };
 
-    /// Adds a clause that was derived, whose literals rise by variable, under a number that is not held. Takes no memory.
+    /// Adds a clause that was derived, whose literals rise by variable, under a number that is not held. Takes no
+    /// memory.
     fn learn(&mut self, id: ClauseId, lits: &[Lit], trail: &Trail)
         requires new { lits_under id (Self.clauses self.old) ≡ None }
         requires form { rises lits.now ≡ true }

@@ -13,9 +13,9 @@ use std::alloc::{AllocError, Global};
 use std::marker::Model;
 
 /// A trail, on which no variable stands twice and no level falls, and how many of its propagation batches count as
-/// handled: at most one more than it has entries. Contracts see its entries, the batches and the greatest variable that it
-/// has room for. Beside the entries stands for each literal, by its code, the index of the entry that makes it false, and
-/// the greatest number where there is none.
+/// handled: at most one more than it has entries. Contracts see its entries, the batches and the greatest variable that
+/// it has room for. Beside the entries stands for each literal, by its code, the index of the entry that makes it
+/// false, and the greatest number where there is none.
 #[derive(Drop)]
 pub struct Trail {
     entries: Vec<TrailEntry>,
@@ -184,8 +184,8 @@ impl Trail {
         self.processed = processed;
     }
 
-    /// Makes a literal true whose variable has no value, by a clause or, where there is none, as a decision. Its level is
-    /// that of the last entry (0 on an empty trail) or the next. Takes no memory.
+    /// Makes a literal true whose variable has no value, by a clause or, where there is none, as a decision. Its level
+    /// is that of the last entry (0 on an empty trail) or the next. Takes no memory.
     pub fn push(&mut self, lit: Lit, reason: Option<ClauseId>, level: u32)
         requires room { var_of lit ≤ self.old.room }
         requires free { has_value self.old.entries (var_of lit) ≡ false }

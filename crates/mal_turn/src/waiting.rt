@@ -110,8 +110,8 @@ impl<T: Recorded + Drop> Turn<T> {
         unreachable!()
     }
 
-    // What a caller does between two looks, after so many: it spins, then gives its time slice away, then sleeps until a
-    // holder passes on. It answers after how many looks it is then.
+    // What a caller does between two looks, after so many: it spins, then gives its time slice away, then sleeps until
+    // a holder passes on. It answers after how many looks it is then.
     fn pause<R: Wait>(&self, rt: &R, serving: u64, looks: u32) -> u32 {
         if looks == 0 {
             self.waiting.begin_looking();

@@ -14,8 +14,8 @@ Among c (d ∷ ds) = (c ≡ d) ⊎ Among c ds
 abbrev pub AreSingle : List NumberedClause → Type 0
 AreSingle rows = (i j : ℕ) → i < length rows → j < length rows → (slice_index_or rows i no_row).id ≡ (slice_index_or rows j no_row).id → i ≡ j
 
--- the clauses are by rising number, and the rows are those of two or more literals; each watches two different ones of its
--- literals, and no node is out of its list; there is room for the numbers of all rows; and under each front of the
+-- the clauses are by rising number, and the rows are those of two or more literals; each watches two different ones of
+-- its literals, and no node is out of its list; there is room for the numbers of all rows; and under each front of the
 -- handled entries, those before the last batch that counts as handled, a watched literal is false only where the other
 -- watched one of its clause is true, or all others are false but that one
 pub record Follows (clauses rows : List NumberedClause) (keys out : List ℕ) (lists capacity : ℕ) (entries : List TrailEntry) (processed : ℕ) : Type 0 where

@@ -14,8 +14,8 @@ pub record Turns (entries : List TrailEntry) (count lit : ℕ) : Type 0 where
   pub others : (x : ℕ) → is_false (take count entries) x ≡ true → x ≢ lit → is_false (take (count - 1) entries) x ≡ true
   pub clear : (x : ℕ) → is_true (take count entries) x ≡ true → is_false (take count entries) x ≡ false
 
--- how far the nodes that watch a literal that has become false were gone over: these are left, which still watch it, and
--- all others are where they may be under one entry more
+-- how far the nodes that watch a literal that has become false were gone over: these are left, which still watch it,
+-- and all others are where they may be under one entry more
 pub record Goes (entries : List TrailEntry) (count lit lists : ℕ) (rows : List NumberedClause) (keys left : List ℕ) : Type 0 where
   pub watching : IsWatching lists rows keys
   pub apart : (k : ℕ) → k < length keys → slice_index keys k ≢ other_key keys k

@@ -23,7 +23,8 @@ pub record IsBest (entries : List TrailEntry) (count : ℕ) (lits seen : List �
   pub order : pair.second_until ≤ pair.first_until
   pub others : (x : ℕ) → Has seen x → x ≢ pair.first → IsLater entries count pair.second x
 
--- two literals of a clause, of which the second is false no later than the first, and each other no later than the second
+-- two literals of a clause, of which the second is false no later than the first, and each other no later than the
+-- second
 pub record ArePicked (entries : List TrailEntry) (count : ℕ) (lits : List ℕ) (first second : ℕ) : Type 0 where
   pub first_in : Has lits first
   pub second_in : Has lits second

@@ -2,8 +2,8 @@ use Rattle.std.specs.Prelude.{◌≡◌, ℕ, zero, suc, ◌<◌, ◌≤◌, ◌
 use Rattle.std.specs.List.{list_any}
 use Rattle.mal_watch.specs.Links.{nowhere}
 
--- nodes in lists: each node's literal, the nodes that are out of the lists, how many lists there are, and how many nodes
--- more there is room for
+-- nodes in lists: each node's literal, the nodes that are out of the lists, how many lists there are, and how many
+-- nodes more there is room for
 pub record Chained : Type 0 where
   pub keys : List ℕ
   pub out : List ℕ

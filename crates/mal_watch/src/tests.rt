@@ -194,8 +194,8 @@ fn literals_are_forced_by_rising_number(rt: HostRuntime) -> Result<(), Fail> {
     Ok(())
 }
 
-/// The conflict, and the number of entries, where one clause was added behind a trail and one after a cut, and the decision
-/// that was cut away is taken again.
+/// The conflict, and the number of entries, where one clause was added behind a trail and one after a cut, and the
+/// decision that was cut away is taken again.
 fn behind_a_trail<E: Engine>(alloc: Global) -> Result<(Option<ClauseId>, usize), Fail> {
     let mut run: Run<E> = begin(alloc)?;
     let mut log = Vec::new(alloc);

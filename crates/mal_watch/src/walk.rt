@@ -47,7 +47,8 @@ fn next_open(trail: &Trail, count: usize, lits: &[Lit], other: Lit, from: usize)
 }
 
 /// The place of a literal of a clause that may be watched in the place of one that is false: not false under the first
-/// entries of the trail, so many, and not the other watched one. A clause of two literals has no other, and is not looked at.
+/// entries of the trail, so many, and not the other watched one. A clause of two literals has no other, and is not
+/// looked at.
 fn to_watch(trail: &Trail, count: usize, lits: &[Lit], other: Lit, from: usize) -> Option<usize>
     requires count { count ≤ length trail.now.entries }
     requires two { length lits.now ≡ 2 → AreOthersFalse (take count trail.now.entries) other lits.now }

@@ -20,8 +20,8 @@ use mal_trail::{Engine, Listed, Trail};
 use std::alloc::{AllocError, Global};
 
 /// The clauses by number, those of two or more literals also in the order in which they came, and for each of these the
-/// two literals that it watches. It fits a trail where, under each front of the handled entries, a watched literal is false
-/// only where the other watched one of its clause is true, or all others are false but that one.
+/// two literals that it watches. It fits a trail where, under each front of the handled entries, a watched literal is
+/// false only where the other watched one of its clause is true, or all others are false but that one.
 #[derive(Drop)]
 pub struct Watch {
     store: Store,
@@ -52,8 +52,8 @@ impl Watch {
         self.chains.add(second);
     }
 
-    /// Finds what is pending of the batch of the first entries of the trail, so many: its clauses whose literal left is not
-    /// true, by rising number. Takes no memory.
+    /// Finds what is pending of the batch of the first entries of the trail, so many: its clauses whose literal left is
+    /// not true, by rising number. Takes no memory.
     fn find(&mut self, trail: &Trail, count: usize)
         requires some { 1 ≤ count }
         requires count { count ≤ length trail.now.entries }

@@ -23,9 +23,9 @@ struct Node {
     key: Lit,
 }
 
-/// Nodes, each in the list of its literal, but for those that were taken out of a list and not put back yet. Contracts see
-/// each node's literal, the nodes taken out, in the order in which they go back, how many lists there are (one for each
-/// code of a literal below this number), and how many nodes more there is room for.
+/// Nodes, each in the list of its literal, but for those that were taken out of a list and not put back yet. Contracts
+/// see each node's literal, the nodes taken out, in the order in which they go back, how many lists there are (one for
+/// each code of a literal below this number), and how many nodes more there is room for.
 #[derive(Drop)]
 pub struct WatchLists {
     heads: Vec<Link>,

@@ -12,8 +12,9 @@ use clap::ArgMatches;
 use clap::error::ErrorKind;
 use std::alloc::{AllocError, Global};
 
-/// What the words ask for; the first of them is the program's name. None exactly where clap refuses them by the program's
-/// command line, or a number is out of its range or not in decimal digits without a sign and without a leading zero.
+/// What the words ask for; the first of them is the program's name. None exactly where clap refuses them by the
+/// program's command line, or a number is out of its range or not in decimal digits without a sign and without a
+/// leading zero.
 pub fn request_of(alloc: Global, words: &[String]) -> Result<Option<Request>, AllocError>
     ensures meaning { IfOk result (λ o. IsMeaning o (map string_bytes words.now)) }
     ensures range { IfOk result (λ o. IfSome o (λ r. IsRequest r)) }

@@ -7,8 +7,8 @@ use Rattle.spec_script.specs.Grammar as script
 use Rattle.mal_history.specs.Grammar as history
 use Rattle.spec_account.specs.Accounts.{Account, is_history_line}
 
--- a text spells an account: its lines are those of a text that spells the script, of which none is the line `history`, that
--- line, and those of a text that spells the history
+-- a text spells an account: its lines are those of a text that spells the script, of which none is the line `history`,
+-- that line, and those of a text that spells the history
 pub record Spells (text : List ℕ) (a : Account) : Type 0 where
   pub front : List ℕ
   pub behind : List ℕ

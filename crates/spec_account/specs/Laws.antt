@@ -9,7 +9,8 @@ use Rattle.spec_script.specs.Script.{Scripted, spelling}
 use Rattle.spec_account.specs.Accounts.{Account, read_text}
 use Rattle.spec_account.specs.Grammar.{Spells}
 
--- a text spells an account exactly where reading gives it: no text spells two accounts, or has a first fault and spells one
+-- a text spells an account exactly where reading gives it: no text spells two accounts, or has a first fault and spells
+-- one
 abbrev pub SpelledIsRead : Type 0
 SpelledIsRead = (text : List ℕ) (a : Account) → Spells text a ↔ (read_text text ≡ Ok a)
 

@@ -1,5 +1,6 @@
-//! Accounts of runs: a script and the history of a hall that ran it. What a text spells, which fault of a text is the first
-//! one, and the lines that tell it. Definitions, and the laws about them as the contracts of functions without a body.
+//! Accounts of runs: a script and the history of a hall that ran it. What a text spells, which fault of a text is the
+//! first one, and the lines that tell it. Definitions, and the laws about them as the contracts of functions without a
+//! body.
 #![tactic(auto)]
 
 ghost use Rattle.spec_account.specs.Examples.{HasExamples};
@@ -11,8 +12,8 @@ pub fn account_examples()
     ensures { HasExamples }
 {}
 
-/// A text spells an account exactly where reading gives the account. So no text spells two, and none that has a first fault
-/// spells one.
+/// A text spells an account exactly where reading gives the account. So no text spells two, and none that has a first
+/// fault spells one.
 pub fn spelled_is_read()
     ensures { SpelledIsRead }
 {}

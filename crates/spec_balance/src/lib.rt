@@ -26,8 +26,8 @@ pub fn names_do_not_matter()
     ensures { (workers : ℕ) (jobs renamed : List Asking) (us vs : List ℕ) → asks_of jobs ≡ asks_of renamed → IsFair workers (asks_of jobs) us → IsFair workers (asks_of renamed) vs → us ≡ vs }
 {}
 
-/// A job keeps its volume where its own ask and its rivals' asks stay. Its rivals are the jobs among the first, as many as
-/// there are workers; what the others ask for changes nothing. Each job asks for one worker at least.
+/// A job keeps its volume where its own ask and its rivals' asks stay. Its rivals are the jobs among the first, as many
+/// as there are workers; what the others ask for changes nothing. Each job asks for one worker at least.
 pub fn the_same_asks_keep_their_volumes()
     ensures { (workers : ℕ) (asks others : List Terms) (us vs : List ℕ) → All AsksForSome asks → All AsksForSome others → take workers asks ≡ take workers others → IsFair workers asks us → IsFair workers others vs → (i : ℕ) → volume_at us i ≡ volume_at vs i }
 {}

@@ -7,15 +7,15 @@ use Rattle.spec_script.specs.Grammar.{Assumes}
 use Rattle.spec_check.specs.Grammar.{SpellLines}
 use Rattle.spec_claim.specs.Claims.{Claim, is_formula_line}
 
--- what may stand between the formula and the line `proof`: nothing, or a line of assumptions, which begins with the word
--- `a`, and then such lines as are passed over
+-- what may stand between the formula and the line `proof`: nothing, or a line of assumptions, which begins with the
+-- word `a`, and then such lines as are passed over
 abbrev pub AreAssumed : ℕ → List (List (List ℕ)) → List ℕ → Type 0
 AreAssumed variables rows lits =
     ((rows ≡ []) × (lits ≡ []))
     ⊎ ((words : List (List ℕ)) × (others : List (List (List ℕ))) × (rows ≡ (codes "a" ∷ words) ∷ others) × Assumes variables words lits × (list_all is_passed others ≡ true))
 
--- a text spells a claim: its lines are those of a text that spells the formula, of which none begins with `a` or `proof`,
--- maybe the assumptions, the line `proof`, and the lines of a proof from the formula's clauses
+-- a text spells a claim: its lines are those of a text that spells the formula, of which none begins with `a` or
+-- `proof`, maybe the assumptions, the line `proof`, and the lines of a proof from the formula's clauses
 pub record Spells (text : List ℕ) (claim : Claim) : Type 0 where
   pub front : List ℕ
   pub between : List (List (List ℕ))

@@ -1,6 +1,6 @@
-//! Claims that nothing satisfies a formula and assumptions, each with its proof: what a text spells, which fault of a text
-//! is the first one, and the lines that tell it. Definitions, and the laws about them as the contracts of functions
-//! without a body.
+//! Claims that nothing satisfies a formula and assumptions, each with its proof: what a text spells, which fault of a
+//! text is the first one, and the lines that tell it. Definitions, and the laws about them as the contracts of
+//! functions without a body.
 #![tactic(auto)]
 
 ghost use Rattle.spec_claim.specs.Examples.{HasExamples};

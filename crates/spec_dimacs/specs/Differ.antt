@@ -11,7 +11,8 @@ FormulasDiffer = (f g : Formulated) → is_formula f ≡ true → is_formula g �
 abbrev pub of_two : List (Option (List ℕ)) → Formulated
 of_two clauses = record { variables = 2; clauses = clauses }
 
--- worked examples: a tautology is not the clause of its literals, clauses have their order, and variables that occur in no clause count
+-- worked examples: a tautology is not the clause of its literals, clauses have their order, and variables that occur in
+-- no clause count
 pub record HaveOtherTexts : Type 0 where
   pub tautology : spelling (of_two (None ∷ [])) ≢ spelling (of_two (Some (2 ∷ []) ∷ []))
   pub order : spelling (of_two (Some (2 ∷ []) ∷ Some (4 ∷ []) ∷ [])) ≢ spelling (of_two (Some (4 ∷ []) ∷ Some (2 ∷ []) ∷ []))

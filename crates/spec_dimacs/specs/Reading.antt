@@ -13,8 +13,8 @@ use Rattle.spec_dimacs.specs.Rows.{is_comment, is_passed, rows_of}
 use Rattle.spec_dimacs.specs.Merged.{clause_of}
 
 -- a block of which some lines are read: the variables and the number of clauses that its header declares, the closed
--- clauses (the first ones, at most as many as are declared), the number of closed clauses, the number of their literals,
--- the literals behind the last 0, and where the reader is
+-- clauses (the first ones, at most as many as are declared), the number of closed clauses, the number of their
+-- literals, the literals behind the last 0, and where the reader is
 pub record Block : Type 0 where
   pub variables : ℕ
   pub declared : ℕ

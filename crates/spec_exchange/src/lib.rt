@@ -1,12 +1,12 @@
-//! What the solvers of one job tell each other: unions of clauses in one order, each clause once, and their longest fronts.
-//! Definitions, and the laws about them as the contracts of functions without a body.
+//! What the solvers of one job tell each other: unions of clauses in one order, each clause once, and their longest
+//! fronts. Definitions, and the laws about them as the contracts of functions without a body.
 #![tactic(auto)]
 
 ghost use Rattle.spec_exchange.specs.Laws.{UnionIsSorted, UnionKeepsTheLeast, SortedAreDecided, OrderDoesNotMatter, UnionOfUnions, CutsEarly, FrontIsLongest, MergesUp};
 ghost use Rattle.spec_exchange.specs.Examples.{HasExamples};
 
-/// A union is sorted, has just the lists of literals that the entries have, each with the least of its numbers, and is the
-/// only such list.
+/// A union is sorted, has just the lists of literals that the entries have, each with the least of its numbers, and is
+/// the only such list.
 pub fn union_is_decided()
     ensures sorted { UnionIsSorted }
     ensures least { UnionKeepsTheLeast }

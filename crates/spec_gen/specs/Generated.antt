@@ -25,7 +25,8 @@ variables = variables_from 1 50
 abbrev pub signed : ℕ → ℕ → ℕ
 signed var x = literal var (pick 2 x == 0)
 
--- so many literals, one after the other: the variable is at a picked place among those that are left, and then its sign is picked
+-- so many literals, one after the other: the variable is at a picked place among those that are left, and then its sign
+-- is picked
 abbrev pub literals_from : ℕ → List ℕ → ℕ → List ℕ
 literals_from zero left x = []
 literals_from (suc k) left x =

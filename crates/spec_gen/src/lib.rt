@@ -1,5 +1,5 @@
-//! The scripts of the generator, which a seed decides: random formulas of three literals a clause. Definitions, and the laws
-//! about them as the contracts of functions without a body.
+//! The scripts of the generator, which a seed decides: random formulas of three literals a clause. Definitions, and the
+//! laws about them as the contracts of functions without a body.
 #![tactic(auto)]
 
 ghost use Rattle.spec_gen.specs.Laws.{GeneratedIsScript, HasExamples};

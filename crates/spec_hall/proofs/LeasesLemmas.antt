@@ -1,4 +1,5 @@
--- In a legal history the leases that are out are of workers that differ, of nodes that differ, and of the places that are out.
+-- In a legal history the leases that are out are of workers that differ, of nodes that differ, and of the places that
+-- are out.
 use Rattle.std.proofs.Common.{◌≡◌, ℕ, zero, suc, ◌+◌, ◌<◌, ◌≤◌, Bool, true, false, cond, not, ◌&&◌, ◌||◌, ◌==◌, nat_lt, List, [], ◌∷◌, ◌++◌, filter, find, get_or, length, slice_get, Option, Some, None, is_some, is_none, refl, sym, ◌∙◌, ap, subst, arith}
 use Rattle.std.specs.Prelude.{All}
 use Rattle.std.specs.Option.{option_or}

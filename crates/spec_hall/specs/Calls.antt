@@ -28,8 +28,8 @@ use Rattle.spec_hall.specs.Legal.{Allowed, Legal, LegalFrom, MayOpen, MayRevise,
 use Rattle.spec_hall.specs.Room.{IsOver}
 use Rattle.spec_hall.specs.States.{LeaseOut, leases, lease_of, states}
 
--- a call of a hall: a job is opened, revised or closed, a worker picks, what came of a lease is given back, all leases are
--- recalled, or the reply to a revision is asked for
+-- a call of a hall: a job is opened, revised or closed, a worker picks, what came of a lease is given back, all leases
+-- are recalled, or the reply to a revision is asked for
 pub data Call : Type 0 where
   Opens : Key → Terms → Call
   Revises : Key → Posted → Call
@@ -51,8 +51,8 @@ pub data Offer : Type 0 where
   Idle : Offer
   AllDone : Offer
 
--- what is answered to what came of a lease: it is taken back, or it is strange, and the worker keeps its lease, the start of
--- this number
+-- what is answered to what came of a lease: it is taken back, or it is strange, and the worker keeps its lease, the
+-- start of this number
 pub data Return : Type 0 where
   Back : Return
   Strange : Option ℕ → Return
@@ -67,7 +67,8 @@ AnswerTo (Finishes d) = Return
 AnswerTo Recalls = Unit {0}
 AnswerTo (Asks k r) = Result (Option (List ℕ)) ReplyFault
 
--- a job is opened where it may be, or is refused: the job is there, its tenant has 64 jobs, or there are 64 other tenants
+-- a job is opened where it may be, or is refused: the job is there, its tenant has 64 jobs, or there are 64 other
+-- tenants
 abbrev pub IsOpening : List Event → Key → Terms → Result (Unit {0}) OpenFault → List Event → Type 0
 IsOpening past k ask (Ok done) es = MayOpen past k ask × (es ≡ Open k ask ∷ [])
 IsOpening past k ask (Err opening.Duplicate) es = (is_some (job_of k (states past)) ≡ true) × (es ≡ [])
@@ -141,8 +142,8 @@ pub record IsWanting (workers : ℕ) (past : List Event) (worker : ℕ) (es : Li
   pub may : MayPick past worker
   pub due : AreDue workers past es
 
--- a worker picks: it is busy where it has a lease out, all is done where every job is closed and answered and nothing is out,
--- and else it gets the picked node behind what is due, or waits
+-- a worker picks: it is busy where it has a lease out, all is done where every job is closed and answered and nothing
+-- is out, and else it gets the picked node behind what is due, or waits
 abbrev pub IsPicking : ℕ → List Event → ℕ → Result Offer PickFault → List Event → Type 0
 IsPicking workers past worker (Ok (Leased lease)) es = IsStarting workers past worker lease es
 IsPicking workers past worker (Ok Idle) es = IsWaiting workers past worker es
@@ -155,8 +156,8 @@ pub record IsOfLease (past : List Event) (d : Finished) (l : LeaseOut) : Type 0 
   pub out : lease_of d.worker (leases past) ≡ Some l
   pub journal : IsGrownBy d.outcome (lease_adds past l) (lease_journal past l) d.journal
 
--- what came of a lease is taken back where its journal is that of the lease which its worker has out, after it ran with the
--- entries of the start; else it is strange
+-- what came of a lease is taken back where its journal is that of the lease which its worker has out, after it ran with
+-- the entries of the start; else it is strange
 abbrev pub IsReturning : List Event → Finished → Return → List Event → Type 0
 IsReturning past d Back es = (l : LeaseOut) × IsOfLease past d l × (es ≡ Finish l.key l.index d.worker d.outcome ∷ [])
 IsReturning past d (Strange kept) es = ((l : LeaseOut) → IsOfLease past d l → ⊥) × (kept ≡ option_map (λ l. start_number l.worker past) (lease_of d.worker (leases past))) × (es ≡ [])
@@ -214,8 +215,8 @@ wanted (Asks k r) (Ok text) = false
 wanted (Asks k r) (Err asking.NoJob) = false
 wanted (Asks k r) (Err asking.OutOfMemory) = true
 
--- the answer of a call and its events are decided by the history, the call and whether memory was wanting; where it was, the
--- events of a pick are some of those that are due
+-- the answer of a call and its events are decided by the history, the call and whether memory was wanting; where it
+-- was, the events of a pick are some of those that are due
 abbrev pub CallIsDecided : Type 0
 CallIsDecided =
     (workers : ℕ) (past : List Event) (c : Call) (one other : AnswerTo c) (es fs : List Event)

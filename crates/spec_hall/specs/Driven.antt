@@ -9,7 +9,8 @@ use Rattle.spec_hall.specs.Events.{Event, Balance, Start, Finish, Exchange}
 use Rattle.spec_hall.specs.States.{lives, states, balanced, exchange_due, picked}
 use Rattle.spec_hall.specs.Legal.{LegalFrom}
 
--- a turn of a hall that is driven by its first worker: a balancing, an exchange of a job, or a start of a node with its end
+-- a turn of a hall that is driven by its first worker: a balancing, an exchange of a job, or a start of a node with its
+-- end
 pub data Turn : Type 0 where
   Balances : List Share → Turn
   Exchanges : Key → Turn
@@ -49,7 +50,8 @@ has_run (Slices k index outcome) = did_run outcome
 abbrev pub is_done : List KeyedJob → Bool
 is_done jobs = list_all (λ t. t.state.closed && not (is_live t.state)) jobs
 
--- turns that a hall of so many workers takes after a past, each allowed and where something is left to do; none loses a start
+-- turns that a hall of so many workers takes after a past, each allowed and where something is left to do; none loses a
+-- start
 abbrev pub AreTurns : ℕ → List Event → List Turn → Type 0
 AreTurns workers past [] = Unit {0}
 AreTurns workers past (t ∷ ts) = (is_done (states past) ≡ false) × (loses t ≡ false) × LegalFrom workers past (events_in t) × AreTurns workers (past ++ events_in t) ts

@@ -74,9 +74,10 @@ pub record AsksForOne (history : List Event) (k : Key) : Type 0 where
   pub demand : (solo (own k history)).ask.demand ≡ 1
   pub fed : list_all is_fed (own k history) ≡ true
 
--- the answers and the replies of a job that asks for one worker are decided by its name, its budget, its solvers' profile and
--- its revisions up to that one: in any two legal histories, whatever the numbers of workers and the other jobs, in which it has
--- the same budget and the same profile and its revisions in one begin with those in the other, they agree as far as both go
+-- the answers and the replies of a job that asks for one worker are decided by its name, its budget, its solvers'
+-- profile and its revisions up to that one: in any two legal histories, whatever the numbers of workers and the other
+-- jobs, in which it has the same budget and the same profile and its revisions in one begin with those in the other,
+-- they agree as far as both go
 abbrev pub LegalSinglesAgree : Type 0
 LegalSinglesAgree =
     (k : Key) (workers others : ℕ) (one other : List Event) (more : List Posted) → Legal workers one → Legal others other → AsksForOne one k → AsksForOne other k

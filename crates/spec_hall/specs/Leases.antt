@@ -55,8 +55,8 @@ place_among k (j ∷ ks) = if is_key k j then 0 else suc (place_among k ks)
 abbrev pub job_number : Key → List Event → ℕ
 job_number k history = place_among k (keys_of history)
 
--- the journal of a lease that is out: that of its node, under the number of its job, the profile that the job asked for and the
--- number of its start
+-- the journal of a lease that is out: that of its node, under the number of its job, the profile that the job asked for
+-- and the number of its start
 abbrev pub lease_journal : List Event → LeaseOut → Journaled
 lease_journal history l = record {
   job = job_number l.key history;

@@ -63,7 +63,8 @@ pub record MayBalance (workers : ℕ) (past : List Event) (shares : List Share) 
   pub keys : map key_of shares ≡ map (λ l. l.key) (lives (states past))
   pub fair : IsFair workers (live_asks (states past)) (map (λ s. s.volume) shares)
 
--- a start comes where neither a balancing nor an exchange is due, of the node that is picked, by a worker that has none out
+-- a start comes where neither a balancing nor an exchange is due, of the node that is picked, by a worker that has none
+-- out
 pub record MayStart (workers : ℕ) (past : List Event) (k : Key) (index worker : ℕ) (choice : Candidate) : Type 0 where
   pub balance : lives (states past) ≡ balanced past
   pub exchange : exchange_due (states past) ≡ None

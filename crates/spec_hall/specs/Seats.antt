@@ -95,8 +95,8 @@ pub record HaveVolumes (workers : ℕ) (seats : List Seat) : Type 0 where
   pub fair : IsFair workers (listed_asks seats) (listed_volumes seats)
   pub others : All HasNoneUnlisted seats
 
--- the jobs of a hall of some workers: its history is legal, each job is its machine run alone on its own events, and the last
--- balancing is known
+-- the jobs of a hall of some workers: its history is legal, each job is its machine run alone on its own events, and
+-- the last balancing is known
 pub record IsSeated (workers : ℕ) (history : List Event) (seats : List Seat) : Type 0 where
   pub some_worker : 1 ≤ workers
   pub legal : Legal workers history

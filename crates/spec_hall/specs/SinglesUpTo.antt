@@ -7,9 +7,9 @@ use Rattle.spec_hall.specs.Own.{own}
 use Rattle.spec_hall.specs.Legal.{Legal}
 use Rattle.spec_hall.specs.Laws.{AsksForOne}
 
--- the answer and the reply to a revision of a job that asks for one worker are decided by its name, its budget, its solvers'
--- profile and its revisions up to that one: in any two legal histories in which it has these alike they agree, whatever revisions
--- come behind, whatever the numbers of workers and whatever other jobs there are
+-- the answer and the reply to a revision of a job that asks for one worker are decided by its name, its budget, its
+-- solvers' profile and its revisions up to that one: in any two legal histories in which it has these alike they agree,
+-- whatever revisions come behind, whatever the numbers of workers and whatever other jobs there are
 abbrev pub LegalSinglesAgreeUpTo : Type 0
 LegalSinglesAgreeUpTo =
     (k : Key) (workers others : ℕ) (one other : List Event) (r : ℕ) → Legal workers one → Legal others other → AsksForOne one k → AsksForOne other k

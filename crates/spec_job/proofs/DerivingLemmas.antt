@@ -56,8 +56,8 @@ pub record IsTracked (profile : ℕ) (revisions : List Posted) (log : List Line)
   pub logged : IsLogged log i (replay profile i p.entries).node
   pub running : (l : Lease) → p.out ≡ Some l → IsRunning profile revisions log i p.entries l
 
--- a machine whose log is derived from the revisions up to the current one and of their variables, and whose broadcasts have
--- clauses of its lines
+-- a machine whose log is derived from the revisions up to the current one and of their variables, and whose broadcasts
+-- have clauses of its lines
 pub record IsDeriving (profile : ℕ) (revisions : List Posted) (answers : List Answer) (places : List NodeSlot) (log : List Line) (broadcasts : List (List NumberedClause)) : Type 0 where
   pub derived : IsLog (clauses_of (take (length answers + 1) revisions)) log
   pub closed : IsClosed log

@@ -100,8 +100,8 @@ module _ (profile all i : ℕ) (entries : List JournalEntry) (l : Lease) (is : I
   pub out-numbered : AreNumbered node.serial i (replay profile i (entries ++ l.adds)).lines
   out-numbered = subst (λ (s : Sliced). AreNumbered node.serial i s.lines) (sym runs) (subst (λ (n : ℕ). AreNumbered node.serial n (slice node).lines) (replay-index profile i (entries ++ is.before)) (lines-counted node).numbered)
 
--- a node's journal has grown from the one with which it last took part in an exchange, and what it derived since then stands in the
--- log behind its mark
+-- a node's journal has grown from the one with which it last took part in an exchange, and what it derived since then
+-- stands in the log behind its mark
 record IsKnown (profile i : ℕ) (last : List JournalEntry) (log : List Line) (p : NodeSlot) : Type 0 where
   pub more : List JournalEntry
   pub grown : p.entries ≡ last ++ more

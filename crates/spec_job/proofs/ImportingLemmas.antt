@@ -1,5 +1,5 @@
--- What is told to a node that the log knows: clauses of lines of the log. A node that has loaded its revisions may import
--- them.
+-- What is told to a node that the log knows: clauses of lines of the log. A node that has loaded its revisions may
+-- import them.
 use Rattle.std.proofs.Common.{◌≡◌, ℕ, ◌<◌, ◌≤◌, ◌^◌, true, not, List, [], ◌∷◌, map, fold, Some, None, sym, ◌∙◌, subst, arith}
 use Rattle.std.specs.Prelude.{All}
 use Rattle.std.proofs.lemmas.Bool.{le-leb}

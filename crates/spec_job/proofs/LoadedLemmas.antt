@@ -38,8 +38,8 @@ IsLoadable r = is_posted r ≡ true
 abbrev pub last_assumed : List Posted → List ℕ
 last_assumed revisions = fold (λ (a : List ℕ) (p : Posted). p.assumptions) [] revisions
 
--- an assignment solves these revisions: it satisfies their clauses, the assumptions of the last are true, and it has a value for
--- each of their variables
+-- an assignment solves these revisions: it satisfies their clauses, the assumptions of the last are true, and it has a
+-- value for each of their variables
 pub record Solves (revisions : List Posted) (model : List Bool) : Type 0 where
   pub solves : satisfies_with model (clauses_of revisions) (last_assumed revisions) ≡ true
   pub whole : length model ≡ variables_of revisions

@@ -40,8 +40,8 @@ slices-none r es h = filter-none (is_slice_of r) es (All-weaker (λ (e : Ending)
 pub starved-none : (r : ℕ) (es : List Ending) → All (λ e. e.revision < r) es → starved_of r es ≡ []
 starved-none r es h = filter-none (is_starved_of r) es (All-weaker (λ (e : Ending). e.revision < r) (λ (e : Ending). is_starved_of r e ≡ false) (λ e low. no-starved r e (λ same. absurd (omega (arith, low, same)))) es h)
 
--- what has ended was of revisions that were posted, up to the current one; each answer is accounted for; and no start is out
--- for a revision whose budget was spent
+-- what has ended was of revisions that were posted, up to the current one; each answer is accounted for; and no start
+-- is out for a revision whose budget was spent
 pub record IsTallied (slices : ℕ) (es : List Ending) (s : SoloMachine) : Type 0 where
   pub reached : All (λ e. e.revision ≤ length s.answers) es
   pub posted : All (λ e. e.revision < length s.revisions) es

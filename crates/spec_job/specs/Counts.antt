@@ -20,8 +20,8 @@ runs_in entries = count_by is_run entries
 abbrev pub runs_of : List NodeSlot → ℕ
 runs_of places = sum_by (λ p. runs_in p.entries) places
 
--- the counts of a node that ran so many slices, of all those of its job: each slice raises a count by 1,000 at most, and
--- an import raises the serial to that of another node
+-- the counts of a node that ran so many slices, of all those of its job: each slice raises a count by 1,000 at most,
+-- and an import raises the serial to that of another node
 pub record HasCounts (all runs : ℕ) (n : Node) : Type 0 where
   pub serial : n.serial ≤ all * 1000
   pub conflicts_since_restart : n.conflicts_since_restart ≤ runs * 1000
@@ -56,7 +56,7 @@ pub record IsOpenedOnce (ask : Terms) (own : List Own) : Type 0 where
   pub runnable : IsRunnable [] (Opened ask ∷ own)
   pub once : list_any is_opening own ≡ false
 
--- the slices that were run, and those that are out, are no more than the budgets of the revisions that have their answers,
--- and of one more
+-- the slices that were run, and those that are out, are no more than the budgets of the revisions that have their
+-- answers, and of one more
 abbrev pub RunsAreFew : Type 0
 RunsAreFew = (ask : Terms) (own : List Own) → IsOpenedOnce ask own → let s = solo (Opened ask ∷ own) in runs_of s.places + starts_out s.places ≤ (length s.answers + 1) * ask.slices

@@ -20,8 +20,8 @@ had_memory Ran = true
 had_memory Starved = false
 had_memory Lost = true
 
--- an own event of a job of demand 1 behind its opening: no volume is above 1, so that no exchange is due, and no start wants
--- for memory
+-- an own event of a job of demand 1 behind its opening: no volume is above 1, so that no exchange is due, and no start
+-- wants for memory
 abbrev pub is_single : Own → Bool
 is_single (Opened ask) = false
 is_single (Revised r) = true
@@ -45,9 +45,9 @@ pub record AgreeAll (s t : SoloMachine) : Type 0 where
   pub answers : Agree s.answers t.answers
   pub replies : (k : Key) (r : ℕ) (a b : List ℕ) → reply k r s ≡ Some a → reply k r t ≡ Some b → a ≡ b
 
--- each answer and each reply of a job that one node runs is decided by its name, its budget, its solvers' profile and its
--- revisions up to that one: where the revisions of one run begin with those of another, with the same budget and the same
--- profile, they agree
+-- each answer and each reply of a job that one node runs is decided by its name, its budget, its solvers' profile and
+-- its revisions up to that one: where the revisions of one run begin with those of another, with the same budget and
+-- the same profile, they agree
 abbrev pub SinglesAgree : Type 0
 SinglesAgree =
     (ask asked : Terms) (own others : List Own) (more : List Posted) → ask.slices ≡ asked.slices → ask.profile ≡ asked.profile → IsSingle ask own → IsSingle asked others

@@ -16,8 +16,9 @@ pub record AgreeOn (r : ℕ) (s t : SoloMachine) : Type 0 where
   pub answers : (a b : Answer) → slice_get s.answers r ≡ Some a → slice_get t.answers r ≡ Some b → a ≡ b
   pub replies : (k : Key) (a b : List ℕ) → reply k (r + 1) s ≡ Some a → reply k (r + 1) t ≡ Some b → a ≡ b
 
--- the answer and the reply to a revision of a job that one node runs are decided by its name, its budget, its solvers' profile and
--- its revisions up to that one: where two runs have these alike, they agree on it, whatever revisions come behind
+-- the answer and the reply to a revision of a job that one node runs are decided by its name, its budget, its solvers'
+-- profile and its revisions up to that one: where two runs have these alike, they agree on it, whatever revisions come
+-- behind
 abbrev pub SinglesAgreeUpTo : Type 0
 SinglesAgreeUpTo =
     (ask asked : Terms) (own others : List Own) (r : ℕ) → ask.slices ≡ asked.slices → ask.profile ≡ asked.profile → IsSingle ask own → IsSingle asked others

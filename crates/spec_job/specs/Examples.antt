@@ -63,8 +63,8 @@ line id lits hints = record { id = id; lits = lits; hints = hints }
 abbrev pub proof_for : SoloMachine → ℕ → ℕ → List Line
 proof_for s r goal = proof_lines s.revisions s.log r goal
 
--- worked examples of a job's machine: answers, models of as many values as there are variables by then, budgets, starved and
--- lost starts, late finishes
+-- worked examples of a job's machine: answers, models of as many values as there are variables by then, budgets,
+-- starved and lost starts, late finishes
 pub record HasExamples : Type 0 where
   pub answered : (solo (Opened (ask 1 4) ∷ Revised one_of_two ∷ Closed ∷ Volume 1 ∷ Started 0 ∷ Finished 0 Ran ∷ [])).answers ≡ Satisfied (false ∷ true ∷ []) ∷ []
   pub whole : (solo (Opened (ask 1 4) ∷ Revised one_of_two ∷ Volume 1 ∷ Started 0 ∷ Finished 0 Ran ∷ Revised third_true ∷ Revised one_of_two ∷ Started 0 ∷ Finished 0 Ran ∷ Started 0 ∷ Finished 0 Ran ∷ [])).answers ≡ Satisfied (false ∷ true ∷ []) ∷ Satisfied (false ∷ true ∷ true ∷ []) ∷ Satisfied (false ∷ true ∷ true ∷ []) ∷ []
@@ -81,8 +81,8 @@ pub record HasExamples : Type 0 where
   pub not_past_budget : startable (solo (Opened (ask 2 1) ∷ Revised one_of_two ∷ Volume 2 ∷ Started 0 ∷ [])) 1 ≡ false
   pub not_when_answered : startable (solo (Opened (ask 1 4) ∷ Revised one_of_two ∷ Volume 1 ∷ Started 0 ∷ Finished 0 Ran ∷ [])) 0 ≡ false
 
--- worked examples of refutations: a job that its first slice refutes, with its log and its proof; a proof of two lines; a
--- revision that is posted behind an empty clause; and assumptions that fail
+-- worked examples of refutations: a job that its first slice refutes, with its log and its proof; a proof of two lines;
+-- a revision that is posted behind an empty clause; and assumptions that fail
 pub record HasRefutations : Type 0 where
   pub refuted_at_once : (ran_once at_odds).answers ≡ Refuted 4294967296 ∷ []
   pub one_line : (ran_once at_odds).log ≡ line 4294967296 [] (1 ∷ 2 ∷ []) ∷ []
@@ -107,8 +107,8 @@ derived_before later own = solo (Opened (ask 2 4) ∷ Revised both_assumed ∷ V
 abbrev pub exchanged_once : SoloMachine
 exchanged_once = derived_before one_of_two (Exchanged ∷ [])
 
--- worked examples of exchanges: what is told, which marks move, what is told once alone, what the next starts import, and
--- the clauses of a node that has imported
+-- worked examples of exchanges: what is told, which marks move, what is told once alone, what the next starts import,
+-- and the clauses of a node that has imported
 pub record HasExchanges : Type 0 where
   pub not_due : is_exchange_due (derived_before one_of_two []) ≡ false
   pub ran : (derived_before one_of_two []).ran ≡ 1

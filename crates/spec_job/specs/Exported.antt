@@ -1,5 +1,5 @@
--- What nodes export, in the words of their journals: the short lines that a node's own slices derived since the last exchange in
--- which it took part.
+-- What nodes export, in the words of their journals: the short lines that a node's own slices derived since the last
+-- exchange in which it took part.
 use Rattle.std.specs.Prelude.{◌≡◌, ℕ, ◌≤◌, Bool, false, ◌&&◌, nat_le, List, [], ◌∷◌, ◌++◌, length, map, filter, drop, flat_map, if◌then◌else◌}
 use Rattle.std.specs.List.{list_any}
 use Rattle.mal_base.specs.NumberedClause.{NumberedClause, Line}
@@ -68,8 +68,8 @@ ExchangesTellDerived = (events : List Own) → IsOpenedFirst events → (solo (e
 abbrev pub derived_one : List Own
 derived_one = Opened (ask 2 4) ∷ Revised both_assumed ∷ Volume 2 ∷ Started 0 ∷ Finished 0 Ran ∷ Revised one_of_two ∷ []
 
--- worked examples: a clause that is not told yet, which is none of the other node's; it is none any more behind an exchange, and is
--- still one where the node was out then
+-- worked examples: a clause that is not told yet, which is none of the other node's; it is none any more behind an
+-- exchange, and is still one where the node was out then
 pub record HasUntold : Type 0 where
   pub first : untold 0 derived_one ≡ told 4294967296 (3 ∷ 5 ∷ []) ∷ []
   pub other : untold 1 derived_one ≡ []

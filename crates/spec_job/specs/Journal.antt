@@ -6,8 +6,8 @@ use Rattle.spec_node.specs.Load.{loaded}
 use Rattle.spec_node.specs.Import.{imported}
 use Rattle.mal_base.specs.NumberedClause.{NumberedClause}
 
--- an entry of a node's journal: a revision is loaded under the number of its first clause, what was told is imported, or a
--- slice is run
+-- an entry of a node's journal: a revision is loaded under the number of its first clause, what was told is imported,
+-- or a slice is run
 pub data JournalEntry : Type 0 where
   Load : Posted → ℕ → JournalEntry
   Import : List NumberedClause → JournalEntry

@@ -3,8 +3,8 @@ use Rattle.spec_node.specs.State.{Node}
 use Rattle.spec_search.specs.Slice.{Sliced}
 use Rattle.spec_job.specs.Journal.{JournalEntry, replay}
 
--- a journal as contracts see it: the number of the job, the profile of its solvers, the index of the node in its tree, the number
--- of the last start, and the entries in order
+-- a journal as contracts see it: the number of the job, the profile of its solvers, the index of the node in its tree,
+-- the number of the last start, and the entries in order
 pub record Journaled : Type 0 where
   pub job : ℕ
   pub profile : ℕ

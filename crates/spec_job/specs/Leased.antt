@@ -9,8 +9,8 @@ use Rattle.spec_node.specs.Model.{model_of}
 use Rattle.spec_job.specs.Journal.{JournalEntry}
 use Rattle.spec_job.specs.Journaled.{Journaled, replayed, node_of, and_entries}
 
--- a lease as contracts see it: the journal of its node, whether the node is gone, what the start adds to the journal, and the
--- worker
+-- a lease as contracts see it: the journal of its node, whether the node is gone, what the start adds to the journal,
+-- and the worker
 pub record Leased : Type 0 where
   pub journal : Journaled
   pub gone : Bool
@@ -22,8 +22,8 @@ pub record Begun : Type 0 where
   pub grown : Journaled
   pub adds : List JournalEntry
 
--- what came of a lease: the worker, how the start ended, the journal of the node, whether the node is gone, and the lines, the
--- verdict and the model of the slice
+-- what came of a lease: the worker, how the start ended, the journal of the node, whether the node is gone, and the
+-- lines, the verdict and the model of the slice
 pub record Finished : Type 0 where
   pub worker : ℕ
   pub outcome : Outcome
@@ -58,8 +58,8 @@ Tells Ran d = HasRun d
 Tells Starved d = HasStarved d
 Tells Lost d = ⊥
 
--- what became of a journal and its node where a start ended so: a start that ran has added its entries; one that wanted for
--- memory has added none, and its node is gone only where it was before
+-- what became of a journal and its node where a start ended so: a start that ran has added its entries; one that wanted
+-- for memory has added none, and its node is gone only where it was before
 abbrev pub Becomes : Outcome → Leased → Finished → Type 0
 Becomes Ran l d = d.journal ≡ and_entries l.journal l.adds
 Becomes Starved l d = (d.journal ≡ l.journal) × (d.gone ≡ true → l.gone ≡ true)

@@ -3,8 +3,8 @@ use Rattle.mal_base.specs.declared.verdict.Outcome.{Outcome}
 use Rattle.mal_base.specs.declared.verdict.Outcome.TheVariants.{Ran, Starved, Lost}
 use Rattle.spec_job.specs.SoloMachine.{Own, Started, Finished, SoloMachine, solo, solo_step, startable}
 
--- what a job may still run, at the most: for each revision without an answer the slices of its budget and three starts that
--- want for memory, without those of the current revision that were
+-- what a job may still run, at the most: for each revision without an answer the slices of its budget and three starts
+-- that want for memory, without those of the current revision that were
 abbrev pub left_of : SoloMachine → ℕ
 left_of s = (length s.revisions - length s.answers) * (s.ask.slices + 3) - s.spent - s.starved
 

@@ -22,8 +22,8 @@ variables_of revisions = fold (λ (v : ℕ) (p : Posted). max v p.variables) 0 r
 abbrev pub variables_through : List Posted → ℕ → ℕ
 variables_through revisions r = variables_of (take (r + 1) revisions)
 
--- a revision was posted, an assignment satisfies the clauses of the revisions up to it, each of its assumptions is true in that,
--- and the assignment is whole: it has a value for each variable of these revisions, and no more
+-- a revision was posted, an assignment satisfies the clauses of the revisions up to it, each of its assumptions is true
+-- in that, and the assignment is whole: it has a value for each variable of these revisions, and no more
 pub record SolvesRevision (revisions : List Posted) (r : ℕ) (model : List Bool) : Type 0 where
   pub posted : r < length revisions
   pub satisfied : satisfies model (clauses_through revisions r) ≡ true

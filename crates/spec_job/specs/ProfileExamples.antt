@@ -30,9 +30,9 @@ before_import profile = (replay profile 0 (Load one_of_two 1 ∷ Run ∷ [])).no
 abbrev pub behind_import : ℕ → Node
 behind_import profile = (replay profile 0 (Load one_of_two 1 ∷ Run ∷ Import [] ∷ [])).node
 
--- both profiles refute the clauses 1 2, 1 -2, -1 2 and -1 -2 by the same lines, and the reply names the second alone; the first
--- clause that is learned is shorter under profile 2; and an import of nothing leaves a node of profile 2 as it is, where it cuts
--- one of profile 1
+-- both profiles refute the clauses 1 2, 1 -2, -1 2 and -1 -2 by the same lines, and the reply names the second alone;
+-- the first clause that is learned is shorter under profile 2; and an import of nothing leaves a node of profile 2 as
+-- it is, where it cuts one of profile 1
 pub record HasProfiles : Type 0 where
   pub refuted : (second_once four).answers ≡ Refuted 4294967360 ∷ []
   pub same_answers : (second_once four).answers ≡ (ran_once four).answers

@@ -22,9 +22,9 @@ failed goal log = map negated (lits_at goal log)
 abbrev pub proof_lines : List Posted → List Line → ℕ → ℕ → List Line
 proof_lines revisions log r goal = renumbered (length (clauses_through revisions r)) (reached goal log)
 
--- a revision was posted, its clauses and those of the revisions before it are refuted under the failed assumptions by the
--- lines that the goal needs, which are all of the job's log; these assumptions are the revision's; and the goal's line is
--- the last
+-- a revision was posted, its clauses and those of the revisions before it are refuted under the failed assumptions by
+-- the lines that the goal needs, which are all of the job's log; these assumptions are the revision's; and the goal's
+-- line is the last
 pub record RefutesRevision (s : SoloMachine) (r goal : ℕ) : Type 0 where
   pub posted : r < length s.revisions
   pub refuted : IsRefutation (clauses_through s.revisions r) (failed goal s.log) (proof_of (proof_lines s.revisions s.log r goal))

@@ -16,8 +16,8 @@ IsLineOf lines c = (line : Line) × Contains lines line × (line.id ≡ c.id) ×
 abbrev pub IsOwn : SoloMachine → NumberedClause → Type 0
 IsOwn s c = (numbered (clauses_of s.revisions) c.id ≡ Some (Some c.lits)) ⊎ IsLineOf s.log c
 
--- a start that is out: the node that runs its slice, with what it lacked loaded and imported, holds clauses of the job's
--- own alone, and behind its slice the slice's new lines besides
+-- a start that is out: the node that runs its slice, with what it lacked loaded and imported, holds clauses of the
+-- job's own alone, and behind its slice the slice's new lines besides
 pub record IsOutOwn (s : SoloMachine) (index : ℕ) (entries : List JournalEntry) (l : Lease) : Type 0 where
   pub before : List JournalEntry
   pub adds : l.adds ≡ before ++ Run ∷ []
@@ -25,8 +25,8 @@ pub record IsOutOwn (s : SoloMachine) (index : ℕ) (entries : List JournalEntry
   pub ran : All (λ c. IsOwn s c ⊎ IsLineOf (replay s.ask.profile index (entries ++ l.adds)).lines c) (replay s.ask.profile index (entries ++ l.adds)).node.clauses
 
 -- where a job's clauses come from: each node at home, and each that is out but for the new lines of its slice, holds
--- clauses of the job's own alone, what is exported and what was told to all are lines of the log, the log is derived from
--- the job's clauses, and the literals of each line rise by variable
+-- clauses of the job's own alone, what is exported and what was told to all are lines of the log, the log is derived
+-- from the job's clauses, and the literals of each line rise by variable
 pub record ClausesAreOwn (s : SoloMachine) : Type 0 where
   pub home : (i : ℕ) → i ≤ 63 → All (IsOwn s) (replay s.ask.profile i (place_at s i).entries).node.clauses
   pub out : (i : ℕ) (l : Lease) → (place_at s i).out ≡ Some l → IsOutOwn s i (place_at s i).entries l

@@ -9,8 +9,8 @@ pub record MayCome (s : SoloMachine) (r : Posted) : Type 0 where
   pub posted : is_posted r ≡ true
   pub room : clauses_in s.revisions + length r.clauses < 2 ^ 32
 
--- a job's machine may take an event: an opening before all else, a revision that may come, a start of a node that may start,
--- and any other
+-- a job's machine may take an event: an opening before all else, a revision that may come, a start of a node that may
+-- start, and any other
 abbrev pub MayHappen : SoloMachine → Own → Type 0
 MayHappen s (Opened ask) = s ≡ unopened
 MayHappen s (Revised r) = MayCome s r

@@ -102,8 +102,8 @@ answered s a = record s { answers = s.answers ++ a ∷ []; spent = 0; starved = 
 abbrev pub spend : SoloMachine → SoloMachine
 spend s = if s.spent + 1 == s.ask.slices then answered s (Spent s.ask.slices) else record s { spent = s.spent + 1 }
 
--- a satisfiable node's model answers the current revision, and so does the goal of a node that is refuted; a slice without
--- a verdict counts as spent
+-- a satisfiable node's model answers the current revision, and so does the goal of a node that is refuted; a slice
+-- without a verdict counts as spent
 abbrev pub conclude : Option Verdict → Node → SoloMachine → SoloMachine
 conclude None n s = spend s
 conclude (Some Satisfiable) n s = answered s (Satisfied (model_of n))

@@ -12,8 +12,8 @@ use Rattle.spec_job.specs.SoloMachine.{Own, Opened, Revised, Closed, Volume, Sta
 use Rattle.spec_job.specs.Counts.{IsOpenedOnce}
 use Rattle.spec_job.specs.DemandOne.{had_memory}
 
--- a start that has ended: for which revision it was, counted from 0, whether that had its answer by then, how it ended, and the
--- node that its slice leaves, which is the replay of the journal with the start's entries
+-- a start that has ended: for which revision it was, counted from 0, whether that had its answer by then, how it ended,
+-- and the node that its slice leaves, which is the replay of the journal with the start's entries
 pub record Ending : Type 0 where
   pub revision : ℕ
   pub late : Bool

@@ -25,8 +25,8 @@ starved_count r events = length (starved_of r (endings events))
 abbrev pub blank : ℕ → Ending
 blank r = record { revision = r; late = false; outcome = Ran; node = fresh 0 }
 
--- worked examples of starts that have ended: three that wanted for memory answer, and the fourth is late; a slice that ran late,
--- one that was lost, and one of a later revision; and what spends a budget of two slices
+-- worked examples of starts that have ended: three that wanted for memory answer, and the fourth is late; a slice that
+-- ran late, one that was lost, and one of a later revision; and what spends a budget of two slices
 pub record HasEndings : Type 0 where
   pub third_answers : (solo three_starved).answers ≡ OutOfStarts ∷ []
   pub three : starved_count 0 three_starved ≡ 3

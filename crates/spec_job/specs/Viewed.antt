@@ -7,8 +7,8 @@ use Rattle.spec_job.specs.Leased.{Leased, Finished}
 use Rattle.spec_job.specs.SoloMachine.{Own, Started, Lease, place_at, start_entries}
 use Rattle.spec_job.specs.KeyedJob.{KeyedJob, stepped}
 
--- a job of a hall: its number there, its key with its machine, and for each of the 64 places the number of its last start, 0
--- before the first
+-- a job of a hall: its number there, its key with its machine, and for each of the 64 places the number of its last
+-- start, 0 before the first
 pub record JobView : Type 0 where
   pub number : ℕ
   pub titled : KeyedJob

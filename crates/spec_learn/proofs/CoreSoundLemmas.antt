@@ -125,8 +125,8 @@ front-kept before e rest h q =
     let high : nat_le e.level (level_of before) ≡ false = lt-leb e.level (level_of before) (omega arith) in
     kept-through (level_of before) before (e ∷ rest) (levels-high before [] h) ∙ (ap (λ (t : List TrailEntry). before ++ t) (kept-cons (level_of before) e rest ∙ ap (λ (b : Bool). cond b (e ∷ kept (level_of before) rest) []) high) ∙ append-nil before)
 
--- what is known of a core clause on a trail: the kept entries are on it, one has the level of the negation where that is
--- above 0, and the assumption is not true
+-- what is known of a core clause on a trail: the kept entries are on it, one has the level of the negation where that
+-- is above 0, and the assumption is not true
 record IsCoreOn (variables : ℕ) (trail : List TrailEntry) (a : ℕ) (x : TrailEntry) (es : List TrailEntry) : Type 0 where
   pub on : AllOf (IsOn variables trail) es
   pub own : IsOn variables trail x

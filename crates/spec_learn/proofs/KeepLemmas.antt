@@ -270,8 +270,8 @@ pub apart-none : (past : List TrailEntry) → AreApartFrom [] past
 apart-none [] = tt
 apart-none (e ∷ past) = (refl, apart-none past)
 
--- a clause of the negations of different entries of a node's trail, one of the current level and others of levels from 1 on below, and
--- the greatest level of those others
+-- a clause of the negations of different entries of a node's trail, one of the current level and others of levels from
+-- 1 on below, and the greatest level of those others
 pub record IsOfEntries (n : Node) (a : Analysed) : Type 0 where
   pub entries : List TrailEntry
   pub lits : a.lits ≡ clause_of entries

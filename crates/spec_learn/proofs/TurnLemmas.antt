@@ -11,7 +11,8 @@ use Rattle.spec_learn.proofs.UipLemmas.{AreLevelled, falls, lower, left-more, Ha
 use Rattle.spec_learn.proofs.SoundParts.{AreDifferent}
 use Rattle.spec_learn.proofs.CaseLemmas.{after-by, after-same, IsMild}
 
--- where the walks of both profiles have passed the current level: they have come to the same, one entry of that level stays
+-- where the walks of both profiles have passed the current level: they have come to the same, one entry of that level
+-- stays
 pub record Turn (level : ℕ) (clauses : List NumberedClause) (past : List TrailEntry) (w : Walk) : Type 0 where
   pub front : List TrailEntry
   pub rest : List TrailEntry

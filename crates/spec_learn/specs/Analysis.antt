@@ -1,5 +1,5 @@
--- Conflict analysis (first unique implication point) and the final conflict. The trail stands latest first: a `past` has
--- its latest entry in front, and behind an entry stands what came before it.
+-- Conflict analysis (first unique implication point) and the final conflict. The trail stands latest first: a `past`
+-- has its latest entry in front, and behind an entry stands what came before it.
 use Rattle.std.specs.Prelude.{ℕ, max, Bool, true, false, ◌==◌, nat_lt, ◌&&◌, ◌||◌, List, [], ◌∷◌, ◌++◌, map, Option, Some, None, if◌then◌else◌}
 use Rattle.std.specs.List.{list_all, list_any}
 use Rattle.std.specs.Option.{option_map_or}
@@ -40,7 +40,8 @@ keeping e w = record { seen = w.seen; kept = e ∷ w.kept; hints = w.hints }
 abbrev pub resolving : List NumberedClause → ℕ → Walk → Walk
 resolving clauses r w = record { seen = vars_under clauses r ++ w.seen; kept = w.kept; hints = r ∷ w.hints }
 
--- what is resolved away: all but decisions, what a clause learned at a level does without, or what its shorter form does without
+-- what is resolved away: all but decisions, what a clause learned at a level does without, or what its shorter form
+-- does without
 pub data Aim : Type 0 where
   Final : Aim
   Learned : (level : ℕ) → Aim
@@ -54,7 +55,8 @@ is_left level seen past = list_any (λ e. (e.level == level) && has_var seen (va
 abbrev pub is_base : List TrailEntry → ℕ → Bool
 is_base past v = list_any (λ e. (e.level == 0) && (v == var_of e.lit)) past
 
--- each of these variables is in the clause as it stands, or has level 0: of the entries not yet passed those in the clause are those seen
+-- each of these variables is in the clause as it stands, or has level 0: of the entries not yet passed those in the
+-- clause are those seen
 abbrev pub are_covered : List ℕ → List TrailEntry → List ℕ → Bool
 are_covered seen past vars = list_all (λ v. has_var seen v || is_base past v) vars
 

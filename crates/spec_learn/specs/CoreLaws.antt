@@ -21,8 +21,8 @@ pub record HasFailed (n : Node) (a : ℕ) : Type 0 where
 abbrev pub CoreIsDerived : Type 0
 CoreIsDerived = (n : Node) (a : ℕ) → IsSound n → HasFailed n a → derivation (holding n.clauses) (Some (core_analysis a n).lits) (core_analysis a n).hints ≡ Derived
 
--- a core clause of a node: its literals are negations of assumptions, one of them that of the failed assumption; no other
--- one has level 0; and they are the node's, by rising variable
+-- a core clause of a node: its literals are negations of assumptions, one of them that of the failed assumption; no
+-- other one has level 0; and they are the node's, by rising variable
 pub record IsCore (n : Node) (a : ℕ) (lits : List ℕ) : Type 0 where
   pub assumed : contradicts n.assumptions (Some lits) ≡ true
   pub own : list_any (λ l. l == negated a) lits ≡ true

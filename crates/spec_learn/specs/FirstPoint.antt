@@ -1,5 +1,6 @@
--- The clause that is learned, of which profile 2 learns the shorter form, is that of the first implication point: on its way from
--- the conflict the clause has two literals of the current level or more, each time that another reason is resolved with.
+-- The clause that is learned, of which profile 2 learns the shorter form, is that of the first implication point: on
+-- its way from the conflict the clause has two literals of the current level or more, each time that another reason is
+-- resolved with.
 use Rattle.std.specs.Prelude.{◌≡◌, ◌≢◌, ℕ, ◌≤◌, ◌==◌, List, [], ◌∷◌, ◌++◌, map, filter, count_by, Some, None}
 use Rattle.mal_base.specs.Literals.{var_of, negated}
 use Rattle.mal_base.specs.NumberedClause.{NumberedClause}
@@ -12,8 +13,8 @@ abbrev pub walked_over : Aim → List NumberedClause → List TrailEntry → Lis
 walked_over aim clauses [] rest w = w
 walked_over aim clauses (e ∷ front) rest w = walked_over aim clauses front rest (after_entry aim clauses e (front ++ rest) w)
 
--- the clause on its way, where these entries are still to come: its literals are the negations of the entries that were kept,
--- and of those to come that were seen
+-- the clause on its way, where these entries are still to come: its literals are the negations of the entries that were
+-- kept, and of those to come that were seen
 abbrev pub on_way : Walk → List TrailEntry → List TrailEntry
 on_way w rest = w.kept ++ filter (λ e. has_var w.seen (var_of e.lit)) rest
 
@@ -25,7 +26,8 @@ count_at level es = count_by (λ e. e.level == level) es
 abbrev pub way_to : List NumberedClause → List TrailEntry → List TrailEntry → ℕ → Walk
 way_to clauses front rest id = walked_over (Learned (top (front ++ rest))) clauses front rest (begun (vars_under clauses id))
 
--- at an entry of the current level, above level 0, the walk resolves with a reason only where two literals of that level or more are in the clause
+-- at an entry of the current level, above level 0, the walk resolves with a reason only where two literals of that
+-- level or more are in the clause
 abbrev pub ResolvesAboveOne : Type 0
 ResolvesAboveOne = (clauses : List NumberedClause) (front rest : List TrailEntry) (e : TrailEntry) (id r : ℕ) →
     let past = front ++ e ∷ rest in
@@ -51,8 +53,9 @@ after_one = record { lit = 8; reason = Some 3; level = 1 } ∷ record { lit = 6;
 abbrev pub four_clauses : List NumberedClause
 four_clauses = record { id = 1; lits = 3 ∷ 4 ∷ [] } ∷ record { id = 2; lits = 5 ∷ 6 ∷ [] } ∷ record { id = 3; lits = 5 ∷ 8 ∷ [] } ∷ record { id = 4; lits = 7 ∷ 9 ∷ [] } ∷ []
 
--- worked examples in which the first implication point is not the decision: -2 is learned, by the reasons behind it alone; the
--- clause of the conflict has two literals of the level, and so has the first resolvent where there is one behind it
+-- worked examples in which the first implication point is not the decision: -2 is learned, by the reasons behind it
+-- alone; the clause of the conflict has two literals of the level, and so has the first resolvent where there is one
+-- behind it
 pub record HasFirstPoints : Type 0 where
   pub not_decision : analysed three_clauses after_not_one 3 ≡ record { lits = 5 ∷ []; hints = 2 ∷ 3 ∷ []; level = 0 }
   pub joined : analysed four_clauses after_one 4 ≡ record { lits = 5 ∷ []; hints = 2 ∷ 3 ∷ 4 ∷ []; level = 0 }

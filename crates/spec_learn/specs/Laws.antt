@@ -12,7 +12,8 @@ use Rattle.spec_learn.specs.Learning.{holding, analysis, learned}
 abbrev pub LineIsDerived : Type 0
 LineIsDerived = (n : Node) (id : ℕ) → IsSound n → n.conflict ≡ Some id → derivation (holding n.clauses) (Some (analysis id n).lits) (analysis id n).hints ≡ Derived
 
--- a clause is asserting: it has one literal of the current level, the jump goes below that, and after it one literal is left
+-- a clause is asserting: it has one literal of the current level, the jump goes below that, and after it one literal is
+-- left
 pub record IsAsserting (n : Node) (a : Analysed) : Type 0 where
   pub one : current_count n.trail a.lits ≡ 1
   pub below : a.level < level_of n.trail

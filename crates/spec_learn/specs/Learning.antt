@@ -39,8 +39,9 @@ abbrev pub forced_by : ℕ → List TrailEntry → Option ℕ → List TrailEntr
 forced_by id trail None = trail
 forced_by id trail (Some l) = trail ++ record { lit = l; reason = Some id; level = level_of trail } ∷ []
 
--- a node after learning from a conflict above level 0: it goes back to the greatest level of the clause's other literals,
--- holds the clause and pushes its remaining literal, and moves the clause's variables to the front by rising variable
+-- a node after learning from a conflict above level 0: it goes back to the greatest level of the clause's other
+-- literals, holds the clause and pushes its remaining literal, and moves the clause's variables to the front by rising
+-- variable
 abbrev pub learned : ℕ → Node → Node
 learned id n =
     let a = analysis id n in

@@ -10,8 +10,8 @@ use Rattle.spec_learn.specs.Analysis.{Analysed, clause_of, jump, vars_in}
 use Rattle.spec_learn.specs.Order.{moved_all}
 use Rattle.spec_learn.specs.Learning.{derived_id, forced_by, counted_in}
 
--- a node after learning a clause: it goes back to the greatest level of the clause's other literals, holds the clause and pushes its
--- remaining literal, and moves the clause's variables to the front by rising variable
+-- a node after learning a clause: it goes back to the greatest level of the clause's other literals, holds the clause
+-- and pushes its remaining literal, and moves the clause's variables to the front by rising variable
 abbrev pub taught : Analysed → Node → Node
 taught a n =
     let c = cut a.level n in
@@ -35,8 +35,9 @@ HaveOwnVariables (e ∷ es) = (has_value es (var_of e.lit) ≡ false) × HaveOwn
 abbrev pub IsBetween : ℕ → TrailEntry → Type 0
 IsBetween level e = (1 ≤ e.level) × (e.level < level)
 
--- a clause is a lesson for a node: it has the negations of entries of its trail, no two of one variable, the last of them of the current
--- level and the others of levels from 1 on below; and the jump is to the greatest level of those others
+-- a clause is a lesson for a node: it has the negations of entries of its trail, no two of one variable, the last of
+-- them of the current level and the others of levels from 1 on below; and the jump is to the greatest level of those
+-- others
 pub record IsLesson (n : Node) (a : Analysed) : Type 0 where
   pub others : List TrailEntry
   pub point : TrailEntry

@@ -1,6 +1,6 @@
--- The shorter form of a learned clause: the same walk, which also resolves away what the literals that are left imply by a reason.
--- And the same in words of the clause alone: go through the literals of the learned clause, the latest first, and leave out each
--- one whose reason has no other literals than the clause has and literals of level 0.
+-- The shorter form of a learned clause: the same walk, which also resolves away what the literals that are left imply
+-- by a reason. And the same in words of the clause alone: go through the literals of the learned clause, the latest
+-- first, and leave out each one whose reason has no other literals than the clause has and literals of level 0.
 use Rattle.std.specs.Prelude.{ℕ, Bool, false, not, ◌&&◌, ◌||◌, ◌==◌, List, [], ◌∷◌, ◌++◌, reverse, if◌then◌else◌}
 use Rattle.std.specs.List.{list_all}
 use Rattle.std.specs.Option.{option_map_or}
@@ -28,13 +28,13 @@ longer_analysis id n = analysed n.clauses (reverse n.trail) id
 abbrev pub shorter_analysis : ℕ → Node → Analysed
 shorter_analysis id n = shortened n.clauses (reverse n.trail) id
 
--- an entry of a clause can be left out where it is not of the current level and each other literal of its reason is in the clause or
--- has level 0
+-- an entry of a clause can be left out where it is not of the current level and each other literal of its reason is in
+-- the clause or has level 0
 abbrev pub is_redundant : ℕ → List NumberedClause → List TrailEntry → TrailEntry → List TrailEntry → Bool
 is_redundant level clauses past e others = not (e.level == level) && option_map_or (λ r. list_all (λ v. (v == var_of e.lit) || (has_value others v || level_in past v == 0)) (vars_under clauses r)) e.reason false
 
--- a clause after going through entries of it, the latest first: each is looked at in the clause as it then stands, that is with those
--- still ahead and those that stayed
+-- a clause after going through entries of it, the latest first: each is looked at in the clause as it then stands, that
+-- is with those still ahead and those that stayed
 abbrev pub gone_through : ℕ → List NumberedClause → List TrailEntry → List TrailEntry → List TrailEntry → List TrailEntry
 gone_through level clauses past [] stayed = stayed
 gone_through level clauses past (e ∷ ahead) stayed = gone_through level clauses past ahead (if is_redundant level clauses past e (ahead ++ stayed) then stayed else e ∷ stayed)

@@ -19,7 +19,8 @@ LessonAsserts = (n : Node) (a : Analysed) → IsSound n → 0 < level_of n.trail
 abbrev pub LessonKeepsSound : Type 0
 LessonKeepsSound = (n : Node) (a : Analysed) → IsSound n → 0 < level_of n.trail → IsLesson n a → IsSound (taught a n)
 
--- the clause that is learned from a conflict is a lesson, under either profile, and learning from a conflict is to be taught it
+-- the clause that is learned from a conflict is a lesson, under either profile, and learning from a conflict is to be
+-- taught it
 abbrev pub LearnedIsLesson : Type 0
 LearnedIsLesson = (n : Node) (id : ℕ) → IsSound n → n.conflict ≡ Some id → 0 < level_of n.trail → IsLesson n (analysis id n)
 

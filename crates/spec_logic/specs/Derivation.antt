@@ -18,7 +18,8 @@ is_false trues lit = is_true trues (negated lit)
 abbrev pub left_of : List ℕ → List ℕ → List ℕ
 left_of trues lits = filter (λ l. not (is_false trues l)) lits
 
--- what a hint does: its id is not held, it changes nothing, it makes a literal true, it is false, or two of its literals are left
+-- what a hint does: its id is not held, it changes nothing, it makes a literal true, it is false, or two of its
+-- literals are left
 pub data Effect : Type 0 where
   Missing : Effect
   Passes : Effect
@@ -49,7 +50,8 @@ trues_after (Makes l) trues = l ∷ trues
 trues_after Conflicts trues = trues
 trues_after LeavesMore trues = trues
 
--- how the propagation along hints ends: the line is derived, a hint is not held, a hint has two literals left or more, or the hints end first
+-- how the propagation along hints ends: the line is derived, a hint is not held, a hint has two literals left or more,
+-- or the hints end first
 pub data Derivation : Type 0 where
   Derived : Derivation
   Unknown : (id : ℕ) → Derivation

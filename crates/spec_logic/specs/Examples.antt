@@ -20,7 +20,8 @@ pub record HasExamples : Type 0 where
 abbrev pub four : List (Option (List ℕ))
 four = Some (2 ∷ 4 ∷ []) ∷ Some (2 ∷ 5 ∷ []) ∷ Some (3 ∷ 4 ∷ []) ∷ Some (3 ∷ 5 ∷ []) ∷ []
 
--- derived lines from these four: 1 along hints 1 and 2, whatever hints follow; a hint that is not held, one with two literals left, hints that end first, a hint with a true literal; a tautology, and a tautology as a hint
+-- derived lines from these four: 1 along hints 1 and 2, whatever hints follow; a hint that is not held, one with two
+-- literals left, hints that end first, a hint with a true literal; a tautology, and a tautology as a hint
 pub record HasDerivations : Type 0 where
   pub unit : derivation (numbered four) (Some (2 ∷ [])) (1 ∷ 2 ∷ []) ≡ Derived
   pub behind : derivation (numbered four) (Some (2 ∷ [])) (1 ∷ 2 ∷ 9 ∷ []) ≡ Derived
@@ -31,7 +32,8 @@ pub record HasDerivations : Type 0 where
   pub tautology : derivation (numbered four) None [] ≡ Derived
   pub tautology_hint : derivation (numbered (None ∷ Some (2 ∷ []) ∷ [])) (Some (2 ∷ [])) (1 ∷ 2 ∷ []) ≡ Derived
 
--- lines that are refused, and one that is not: an id that is held, a hint that was deleted, a deletion of what is not held
+-- lines that are refused, and one that is not: an id that is held, a hint that was deleted, a deletion of what is not
+-- held
 pub record HasRefusals : Type 0 where
   pub id_used : refusal (numbered four) (Add 4 None []) ≡ Some (IdUsed 4)
   pub unknown : refusal (numbered four) (Add 5 (Some (2 ∷ [])) (1 ∷ 9 ∷ [])) ≡ Some (UnknownHint 9)
@@ -48,7 +50,8 @@ pub record HasGoals : Type 0 where
   pub one_other : contradicts (2 ∷ []) (Some (3 ∷ 5 ∷ [])) ≡ false
   pub tautology : contradicts [] None ≡ false
 
--- the four clauses are refuted, also where the first line is deleted before the end; under the assumption -1 its first line is enough
+-- the four clauses are refuted, also where the first line is deleted before the end; under the assumption -1 its first
+-- line is enough
 abbrev pub refutation : List ProofLine
 refutation = Add 5 (Some (2 ∷ [])) (1 ∷ 2 ∷ []) ∷ Add 6 (Some []) (5 ∷ 3 ∷ 4 ∷ []) ∷ Delete (5 ∷ 6 ∷ []) ∷ []
 

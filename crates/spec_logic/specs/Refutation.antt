@@ -5,7 +5,8 @@ use Rattle.mal_base.specs.Literals.{negated}
 use Rattle.spec_logic.specs.Derivation.{Holding, Derivation, derivation}
 use Rattle.spec_logic.specs.Derivation.Derivation.{Derived, Unknown, NotUnit, Unfinished}
 
--- a line of a proof adds a clause under an id, with the hints that it is derived along, or deletes the clauses of some ids
+-- a line of a proof adds a clause under an id, with the hints that it is derived along, or deletes the clauses of some
+-- ids
 pub data ProofLine : Type 0 where
   Add : (id : ℕ) → (clause : Option (List ℕ)) → (hints : List ℕ) → ProofLine
   Delete : (ids : List ℕ) → ProofLine
@@ -25,7 +26,8 @@ abbrev pub after_line : Holding → ProofLine → Holding
 after_line held (Add id clause hints) = with_clause held id clause
 after_line held (Delete ids) = without held ids
 
--- why a line is refused: its id is held, a hint is not held, a hint has two literals left or more, or its hints end first
+-- why a line is refused: its id is held, a hint is not held, a hint has two literals left or more, or its hints end
+-- first
 pub data Refusal : Type 0 where
   IdUsed : (id : ℕ) → Refusal
   UnknownHint : (id : ℕ) → Refusal
@@ -65,12 +67,14 @@ added_in (Delete ids) = []
 abbrev pub added_by : List ProofLine → List (Option (List ℕ))
 added_by lines = flat_map added_in lines
 
--- a clause contradicts assumptions where its literals are negations of assumptions alone, as those of the empty clause are; a tautology never does
+-- a clause contradicts assumptions where its literals are negations of assumptions alone, as those of the empty clause
+-- are; a tautology never does
 abbrev pub contradicts : List ℕ → Option (List ℕ) → Bool
 contradicts assumptions None = false
 contradicts assumptions (Some lits) = list_all (λ l. list_any (λ a. a == negated l) assumptions) lits
 
--- lines refute clauses under assumptions: they are a proof from the clauses, and a clause that they add contradicts the assumptions
+-- lines refute clauses under assumptions: they are a proof from the clauses, and a clause that they add contradicts the
+-- assumptions
 pub record IsRefutation (clauses : List (Option (List ℕ))) (assumptions : List ℕ) (lines : List ProofLine) : Type 0 where
   pub proof : IsProof (numbered clauses) lines
   pub goal : list_any (contradicts assumptions) (added_by lines) ≡ true

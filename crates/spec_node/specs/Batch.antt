@@ -22,7 +22,8 @@ pub record Progress : Type 0 where
   pub trail : List TrailEntry
   pub conflict : Option ℕ
 
--- the literal left of a clause is pushed with it as reason, unless it is true; where it is false the clause is the conflict
+-- the literal left of a clause is pushed with it as reason, unless it is true; where it is false the clause is the
+-- conflict
 abbrev pub after_literal : List TrailEntry → ℕ → ℕ → Progress
 after_literal trail id l = if is_true trail l then record { trail = trail; conflict = None } else (if is_false trail l then record { trail = trail; conflict = Some id } else record { trail = trail ++ record { lit = l; reason = Some id; level = level_of trail } ∷ []; conflict = None })
 

@@ -22,8 +22,8 @@ abbrev pub searching : ℕ → Node
 searching profile = record (fresh_with 0 profile) { variables = 2; processed = 1; order = 1 ∷ 2 ∷ []; phases = true ∷ true ∷ []; trail = record { lit = 3; reason = None; level = 1 } ∷ []; clauses = held ∷ [] }
 
 -- worked examples of imports: node 0 that has derived nothing and imports the second clause of node 3 derives its own
--- clause of serial 2 next; where only a held clause is told, a node of profile 1 goes back to level 0 with the phase of what it
--- had decided, and one of profile 2 stays as it is; what is new is taken under either
+-- clause of serial 2 next; where only a held clause is told, a node of profile 1 goes back to level 0 with the phase of
+-- what it had decided, and one of profile 2 stays as it is; what is new is taken under either
 pub record HasExamples : Type 0 where
   pub told : (derived 1 3).id ≡ 4294967363
   pub serial : serial_above 0 (derived 1 3 ∷ []) ≡ 2

@@ -33,7 +33,8 @@ with_new new n =
       conflict = None;
     }
 
--- whether a node leaves off an import that takes no clause: under profile 2 it does, under profile 1 it is cut all the same
+-- whether a node leaves off an import that takes no clause: under profile 2 it does, under profile 1 it is cut all the
+-- same
 abbrev pub is_left_off : ℕ → List NumberedClause → Bool
 is_left_off profile new = (profile == 2) && (length new == 0)
 

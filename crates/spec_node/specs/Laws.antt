@@ -61,8 +61,8 @@ FreshIsConsistent = (i profile : ℕ) → IsConsistent (fresh_with i profile)
 abbrev pub LoadKeepsConsistent : Type 0
 LoadKeepsConsistent = (r : Posted) (first : ℕ) (n : Node) → is_posted r ≡ true → has_literals r ≡ true → IsConsistent n → IsConsistent (loaded r first n)
 
--- what loading a revision leaves in a node: its clauses behind the originals held, and its assumptions, no verdict, the index
--- and the profile
+-- what loading a revision leaves in a node: its clauses behind the originals held, and its assumptions, no verdict, the
+-- index and the profile
 pub record LoadHolds : Type 0 where
   pub originals : (r : Posted) (first : ℕ) (n : Node) → first + length r.clauses ≤ 2 ^ 32 → originals (loaded r first n).clauses ≡ originals n.clauses ++ numbered first r.clauses
   pub assumptions : (r : Posted) (first : ℕ) (n : Node) → (loaded r first n).assumptions ≡ r.assumptions
@@ -75,8 +75,8 @@ pub record NumbersMeanSame : Type 0 where
   pub by_number : (a : List Bool) (first : ℕ) (cs : List (Option (List ℕ))) → satisfies a (formula_of (numbered first cs)) ≡ satisfies a cs
   pub joined : (a : List Bool) (xs ys : List NumberedClause) → satisfies a (formula_of (xs ++ ys)) ≡ (satisfies a (formula_of xs) && satisfies a (formula_of ys))
 
--- where the originals of a node are the clauses of the revisions so far, numbered from 1, the next revision's numbers are
--- new, and after its load the originals are the clauses of all
+-- where the originals of a node are the clauses of the revisions so far, numbered from 1, the next revision's numbers
+-- are new, and after its load the originals are the clauses of all
 pub record HoldsAll (r : Posted) (clauses : List (Option (List ℕ))) (n : Node) : Type 0 where
   pub new : AreNewNumbers r (1 + length clauses) n
   pub held : originals (loaded r (1 + length clauses) n).clauses ≡ numbered 1 (clauses ++ r.clauses)
@@ -90,8 +90,8 @@ abbrev pub HaveOwnNumbers : List NumberedClause → Type 0
 HaveOwnNumbers [] = Unit {0}
 HaveOwnNumbers (c ∷ cs) = All (λ d. c.id ≢ d.id) cs × HaveOwnNumbers cs
 
--- clauses may be told to a node: they are derived ones of its variables, no two have one number, and one whose number is
--- held has the literals that are held under it
+-- clauses may be told to a node: they are derived ones of its variables, no two have one number, and one whose number
+-- is held has the literals that are held under it
 pub record MayImport (told : List NumberedClause) (n : Node) : Type 0 where
   pub derived : All (λ c. is_derived c ≡ true) told
   pub within : All (λ c. AreLiteralsOf n.variables c.lits) told
@@ -102,8 +102,8 @@ pub record MayImport (told : List NumberedClause) (n : Node) : Type 0 where
 abbrev pub ImportKeepsSound : Type 0
 ImportKeepsSound = (told : List NumberedClause) (n : Node) → MayImport told n → IsSound n → IsSound (imported told n)
 
--- what importing leaves in a node: its originals, its assumptions, its variables, its verdict, its index and its profile; and
--- what it holds, it held before or was told
+-- what importing leaves in a node: its originals, its assumptions, its variables, its verdict, its index and its
+-- profile; and what it holds, it held before or was told
 pub record ImportHolds : Type 0 where
   pub originals : (told : List NumberedClause) (n : Node) → All (λ c. is_derived c ≡ true) told → originals (imported told n).clauses ≡ originals n.clauses
   pub assumptions : (told : List NumberedClause) (n : Node) → (imported told n).assumptions ≡ n.assumptions
@@ -114,7 +114,8 @@ pub record ImportHolds : Type 0 where
   pub held : (told : List NumberedClause) (n : Node) (c : NumberedClause) → Contains (imported told n).clauses c → Contains (n.clauses ++ told) c
   pub kept : (told : List NumberedClause) (n : Node) (c : NumberedClause) → Contains n.clauses c → Contains (imported told n).clauses c
 
--- under profile 2 an import that takes no clause leaves a node as it is; any other import cuts it, whether it takes clauses or not
+-- under profile 2 an import that takes no clause leaves a node as it is; any other import cuts it, whether it takes
+-- clauses or not
 pub record ImportMayLeave : Type 0 where
   pub left : (told : List NumberedClause) (n : Node) → n.profile ≡ 2 → taken told n.clauses ≡ [] → imported told n ≡ n
   pub takes : (told : List NumberedClause) (n : Node) → taken told n.clauses ≢ [] → imported told n ≡ with_new (taken told n.clauses) n

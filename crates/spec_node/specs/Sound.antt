@@ -148,8 +148,8 @@ pub record IsSound (n : Node) : Type 0 where
   pub chosen : EachAfter (IsChosen n.assumptions) [] n.trail
   -- the batches up to each decision were handled
   pub passed : EachAfter (IsPassed n.processed) [] n.trail
-  -- the entries handled have reached the current level; it is kept so that a batch finds a literal of that level in each
-  -- reason and two in a conflict
+  -- the entries handled have reached the current level; it is kept so that a batch finds a literal of that level in
+  -- each reason and two in a conflict
   pub reached : level_of (take n.processed n.trail) ≡ level_of n.trail
   -- a waiting conflict is a false clause
   pub waiting : (id : ℕ) → n.conflict ≡ Some id → IsWaiting n.clauses n.trail id

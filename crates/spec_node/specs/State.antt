@@ -3,10 +3,10 @@ use Rattle.mal_base.specs.NumberedClause.{NumberedClause}
 use Rattle.mal_base.specs.declared.trail_entry.TrailEntry.{TrailEntry}
 use Rattle.mal_base.specs.declared.verdict.Verdict.{Verdict}
 
--- a solver node: its place in the tree, the profile that it follows (1 or 2), its variables 1 to V, the serial that its next
--- derived clause has, the conflicts since the last restart, the number of the restart, the conflicts learned since the last
--- dropping (under profile 2), the batches handled, the clause of a waiting conflict, a verdict, the assumptions by variable, the
--- decision order, a phase per variable, the trail, and the clauses by rising number
+-- a solver node: its place in the tree, the profile that it follows (1 or 2), its variables 1 to V, the serial that its
+-- next derived clause has, the conflicts since the last restart, the number of the restart, the conflicts learned since
+-- the last dropping (under profile 2), the batches handled, the clause of a waiting conflict, a verdict, the
+-- assumptions by variable, the decision order, a phase per variable, the trail, and the clauses by rising number
 pub record Node : Type 0 where
   pub index : ℕ
   pub profile : ℕ

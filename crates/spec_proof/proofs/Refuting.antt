@@ -17,7 +17,8 @@ use Rattle.spec_proof.proofs.Growing.{numbered-past, numbered-within, accepted-f
 use Rattle.spec_proof.proofs.Reaching.{sorted-among, among-sorted, sorted-rising, reached-among, reached-rising, reached-goal, reached-hints}
 use Rattle.spec_proof.proofs.Renumbering.{new-above, new-apart, new-other}
 
--- a clause held under a hint of a line is held under the hint's new name, or is that of a line to come with a lesser number
+-- a clause held under a hint of a line is held under the hint's new name, or is that of a line to come with a lesser
+-- number
 abbrev pub IsReady : (Holding) → (Holding) → (ℕ → ℕ) → List Line → Line → Type 0
 IsReady all held name xs line =
     (h : ℕ) → Contains line.hints h → (c : Option (List ℕ)) → all h ≡ Some c

@@ -52,7 +52,8 @@ LogTakesOriginals =
     (originals more : List (Option (List ℕ))) (lines : List Line)
     → IsLog originals lines → length (originals ++ more) < 2 ^ 32 → IsLog (originals ++ more) lines
 
--- the lines reached from a goal: its own line, and each hint of one of them that is a line of the log; no others, by rising number. So they are in each set of lines that has the goal's and the hints of those that it has
+-- the lines reached from a goal: its own line, and each hint of one of them that is a line of the log; no others, by
+-- rising number. So they are in each set of lines that has the goal's and the hints of those that it has
 pub record IsReached (goal : ℕ) (lines : List Line) : Type 0 where
   pub trimmed : IsTrimmed (reached goal lines)
   pub of_log : (line : Line) → Contains (reached goal lines) line → Contains lines line
@@ -101,7 +102,8 @@ NumbersFollow = (m : ℕ) (lines : List Line) → AreApart lines → ids_of (ren
 abbrev pub OthersStay : Type 0
 OthersStay = (m : ℕ) (lines : List Line) (id : ℕ) → All (λ line. line.id ≢ id) lines → new_id m (ids_of lines) id ≡ id
 
--- where the clause of the goal's line has negations of assumptions alone, the lines reached from it, numbered behind the originals, are a refutation
+-- where the clause of the goal's line has negations of assumptions alone, the lines reached from it, numbered behind
+-- the originals, are a refutation
 abbrev pub TrimmedRefutes : Type 0
 TrimmedRefutes =
     (originals : List (Option (List ℕ))) (assumptions : List ℕ) (goal : ℕ) (lines : List Line) (line : Line)

@@ -31,7 +31,8 @@ pub record IsOrderly (lines : List Line) : Type 0 where
 abbrev pub holding : List (Option (List ℕ)) → List Line → Holding
 holding originals lines = after_lines (numbered originals) (proof_of lines)
 
--- a log over original clauses: each line has a number not in use and is derived from the originals and the lines before it
+-- a log over original clauses: each line has a number not in use and is derived from the originals and the lines before
+-- it
 pub record IsLog (originals : List (Option (List ℕ))) (lines : List Line) : Type 0 where
   pub originals_below : length originals < 2 ^ 32
   pub proof : IsProof (numbered originals) (proof_of lines)

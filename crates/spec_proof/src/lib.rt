@@ -37,7 +37,8 @@ pub fn reached_lines_are_needed()
     ensures stays_last { GoalStaysLast }
 {}
 
-/// What is reached from a goal does not change when lines are entered later, where the hints of the earlier lines stand.
+/// What is reached from a goal does not change when lines are entered later, where the hints of the earlier lines
+/// stand.
 pub fn later_lines_do_not_matter()
     ensures later { LaterLinesDoNotMatter }
     ensures closed { ClosedLinesGrow }

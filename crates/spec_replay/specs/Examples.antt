@@ -15,7 +15,8 @@ free = record { variables = 2; clauses = []; assumptions = [] }
 abbrev pub one_job : Scripted
 one_job = record { jobs = record { tenant = codes "a"; name = codes "p"; ask = record { priority = 1; demand = 1; slices = 4; profile = 1 }; revisions = free ∷ [] } ∷ [] }
 
--- the first revision of that job is the script's; it lacks a second one, and the revisions of other jobs; a closing needs none
+-- the first revision of that job is the script's; it lacks a second one, and the revisions of other jobs; a closing
+-- needs none
 pub record HasEvents : Type 0 where
   pub first : event_by one_job (of.Revise (codes "a") (codes "p") 1) ≡ Some (Revise (keyed (codes "a") (codes "p")) 1 free)
   pub second : event_by one_job (of.Revise (codes "a") (codes "p") 2) ≡ None

@@ -15,8 +15,8 @@ ReplayIsDecided =
     (workers : ℕ) (s : Scripted) (lines : List written.Event) (line_of : ℕ → ℕ) (one other : Result (List ℕ) ReplayFault)
     → IsReplay workers s lines line_of one → IsReplay workers s lines line_of other → one ≢ Err OutOfMemory → other ≢ Err OutOfMemory → one ≡ other
 
--- a run's own history replays to its output: where a script was run, what the log writes down is a legal history, complete for the
--- script, whose replies are the output
+-- a run's own history replays to its output: where a script was run, what the log writes down is a legal history,
+-- complete for the script, whose replies are the output
 abbrev pub RunIsReplied : Type 0
 RunIsReplied =
     (workers : ℕ) (s : Scripted) (history : List Event) (log out : List ℕ)

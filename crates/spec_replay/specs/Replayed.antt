@@ -15,8 +15,8 @@ pub record IsLegal (workers : ℕ) (s : Scripted) (lines : List written.Event) (
   pub written : AreWritten s lines events
   pub legal : Legal workers events
 
--- the event at a place, counted from 0, is the first that is not allowed: those before it are a legal history, and it may not
--- come after them, or the script lacks its revision
+-- the event at a place, counted from 0, is the first that is not allowed: those before it are a legal history, and it
+-- may not come after them, or the script lacks its revision
 pub record IsFirstRefused (workers : ℕ) (s : Scripted) (lines : List written.Event) (n : ℕ) : Type 0 where
   pub past : List Event
   pub before : IsLegal workers s (take n lines) past
@@ -43,8 +43,8 @@ pub record IsRefusedAt (workers : ℕ) (s : Scripted) (lines : List written.Even
   pub first : IsFirstRefused workers s lines place
   pub line_is : line ≡ line_of place
 
--- what is answered to a history of so many workers that is replayed for a script: the replies where it is legal and complete,
--- else the line of the first event that is not allowed, or that it is not complete; unless memory is wanting
+-- what is answered to a history of so many workers that is replayed for a script: the replies where it is legal and
+-- complete, else the line of the first event that is not allowed, or that it is not complete; unless memory is wanting
 abbrev pub IsReplay : ℕ → Scripted → List written.Event → (ℕ → ℕ) → Result (List ℕ) ReplayFault → Type 0
 IsReplay workers s lines line_of (Ok text) = IsReplied workers s lines text
 IsReplay workers s lines line_of (Err (NotLegal line)) = IsRefusedAt workers s lines line_of line

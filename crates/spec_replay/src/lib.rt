@@ -1,4 +1,5 @@
-//! A history that is replayed for a script. Definitions, and the laws about them as the contracts of functions without a body.
+//! A history that is replayed for a script. Definitions, and the laws about them as the contracts of functions without
+//! a body.
 #![tactic(auto)]
 
 ghost use Rattle.spec_replay.specs.Examples.{HasEvents};
@@ -9,8 +10,8 @@ pub fn replay_is_decided()
     ensures { ReplayIsDecided }
 {}
 
-/// A run's own history replays to its output: it is legal and complete for the script, and its replies are the output. So a
-/// replay of it answers nothing else, where memory was not wanting.
+/// A run's own history replays to its output: it is legal and complete for the script, and its replies are the output.
+/// So a replay of it answers nothing else, where memory was not wanting.
 pub fn run_is_replayed()
     ensures replied { RunIsReplied }
     ensures replayed { RunIsReplayed }

@@ -1,5 +1,5 @@
-//! The texts of replies: how the answer to a revision is written, and worked examples of it. Each law is the contract of
-//! a function that does nothing.
+//! The texts of replies: how the answer to a revision is written, and worked examples of it. Each law is the contract
+//! of a function that does nothing.
 #![tactic(auto)]
 
 ghost use Rattle.spec_report.specs.Examples.{ReplyExamples};

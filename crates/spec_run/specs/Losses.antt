@@ -27,8 +27,8 @@ is_not_by_others (Start k index worker) = worker == 1
 is_not_by_others (Finish k index worker outcome) = true
 is_not_by_others (Exchange k) = true
 
--- where leases are lost, only the first worker starts nodes from the first loss on: in a first part none is lost, and in the rest
--- no other worker starts one
+-- where leases are lost, only the first worker starts nodes from the first loss on: in a first part none is lost, and
+-- in the rest no other worker starts one
 pub record LosesLate (history : List Event) : Type 0 where
   pub before : List Event
   pub after : List Event

@@ -34,17 +34,17 @@ job_replies history j = replies_from (key_of_job j) 1 (solo (own (key_of_job j) 
 unfoldable pub replies : Scripted → List Event → List ℕ
 replies s history = flat_map (job_replies history) s.jobs
 
--- the answers of a job with these own events are evidence: satisfiable carries a model of its revision, unsatisfiable a proof
--- from the job's clauses alone, and unknown is accounted for: the budget was spent on slices without a verdict, or three starts
--- wanted for memory; where none did, each answer is a verdict, or the budget was spent
+-- the answers of a job with these own events are evidence: satisfiable carries a model of its revision, unsatisfiable a
+-- proof from the job's clauses alone, and unknown is accounted for: the budget was spent on slices without a verdict,
+-- or three starts wanted for memory; where none did, each answer is a verdict, or the budget was spent
 pub record IsEvident (own : List Own) : Type 0 where
   pub models : AnswersSolve (solo own)
   pub proofs : AnswersRefute (solo own)
   pub unknowns : AnswersAccountedFor own
   pub decided : FedAnswersDecide own
 
--- a script was run with so many workers: the history is legal and complete for it; the log is the history's text, and the output
--- is the replies of the jobs' machines, each run alone on its own events, whose answers are evidence
+-- a script was run with so many workers: the history is legal and complete for it; the log is the history's text, and
+-- the output is the replies of the jobs' machines, each run alone on its own events, whose answers are evidence
 pub record IsRun (workers : ℕ) (s : Scripted) (history : List Event) (log out : List ℕ) : Type 0 where
   pub legal : Legal workers history
   pub complete : IsComplete s history
@@ -77,7 +77,7 @@ pub record AreSameRuns (one other : List Event) (log_one log_other out_one out_o
   pub logs : log_one ≡ log_other
   pub outs : out_one ≡ out_other
 
--- a script is run sequentially in one way where no start wants for memory: the history, and with it the log and the output, are
--- decided by the script and the number of workers
+-- a script is run sequentially in one way where no start wants for memory: the history, and with it the log and the
+-- output, are decided by the script and the number of workers
 abbrev pub RunIsDecided : Type 0
 RunIsDecided = (workers : ℕ) (s : Scripted) (one other : List Event) (log_one log_other out_one out_other : List ℕ) → IsSequentialRun workers s one log_one out_one → IsSequentialRun workers s other log_other out_other → IsFed one → IsFed other → AreSameRuns one other log_one log_other out_one out_other

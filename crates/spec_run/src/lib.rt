@@ -4,8 +4,8 @@
 
 ghost use Rattle.spec_run.specs.Run.{RunIsDecided};
 
-/// A script and a number of workers decide the history of a sequential run in which no start wanted for memory, and with it the
-/// log and the output.
+/// A script and a number of workers decide the history of a sequential run in which no start wanted for memory, and
+/// with it the log and the output.
 pub fn run_is_decided()
     ensures { RunIsDecided }
 {}

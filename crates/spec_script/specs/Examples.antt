@@ -30,8 +30,8 @@ pub record HasExamples : Type 0 where
   pub profile : spelling second_profile ≡ codes "t a" ++ 10 ∷ (codes "j p 1 1 4 2" ++ 10 ∷ (codes "e" ++ 10 ∷ []))
   pub assumed : spelling (job_with (record { variables = 2; clauses = None ∷ []; assumptions = 2 ∷ 5 ∷ [] } ∷ [])) ≡ codes "t a" ++ 10 ∷ (codes "j p 1 1 4" ++ 10 ∷ (codes "p cnf 2 1" ++ 10 ∷ (codes "1 -1 0" ++ 10 ∷ (codes "a 1 -2 0" ++ 10 ∷ (codes "e" ++ 10 ∷ [])))))
 
--- small texts that spell scripts, of profile 1 where no word names another; a literal is given by its code: 2 and 3 are 1
--- and -1
+-- small texts that spell scripts, of profile 1 where no word names another; a literal is given by its code: 2 and 3 are
+-- 1 and -1
 pub record ReadingExamples : Type 0 where
   pub empty : read_text served [] ≡ Ok (record { jobs = [] })
   pub no_revision : read_text served (codes "t a\nj p 1 1 4\ne\n") ≡ Ok (job_with [])

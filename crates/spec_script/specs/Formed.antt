@@ -36,8 +36,8 @@ pub record IsJob (limits : Limits) (j : ScriptedJob) : Type 0 where
   pub clauses : clauses_of j.revisions ≤ 1048576
   pub literals : clause_literals j.revisions ≤ 16777216
 
--- a job that may follow these: it is in form, its tenant has no job of this name, and with it there are not too many jobs,
--- jobs of the tenant and tenants
+-- a job that may follow these: it is in form, its tenant has no job of this name, and with it there are not too many
+-- jobs, jobs of the tenant and tenants
 pub record MayFollow (limits : Limits) (jobs : List ScriptedJob) (j : ScriptedJob) : Type 0 where
   pub formed : IsJob limits j
   pub new : list_any (is_job j.tenant j.name) jobs ≡ false

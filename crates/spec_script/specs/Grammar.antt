@@ -93,8 +93,8 @@ pub record Admits (limits : Limits) (tenant name : List ℕ) (jobs : List Script
   pub few_of_tenant : count_by (is_of tenant) jobs < limits.jobs_of_tenant
   pub few : length jobs < limits.jobs
 
--- words say assumptions: they are the numbers of literals of variables up to this one, and then a 0. The assumptions are
--- those literals once each, by rising variable, so no variable has both signs
+-- words say assumptions: they are the numbers of literals of variables up to this one, and then a 0. The assumptions
+-- are those literals once each, by rising variable, so no variable has both signs
 pub record Assumes (variables : ℕ) (words : List (List ℕ)) (assumptions : List ℕ) : Type 0 where
   pub lits : List ℕ
   pub closed : map (λ word. number_in word variables) words ≡ map (λ z. Number z) (closed_numbers lits)

@@ -13,7 +13,8 @@ use Rattle.spec_script.specs.Grammar.{Admits, Asks, Assumes, HasRoomFor, Names, 
 use Rattle.spec_script.specs.Within.{IsWithin}
 use Rattle.spec_script.specs.Formed.{IsScript}
 
--- a text spells a script exactly where reading gives it: no text spells two scripts, or has a first fault and spells one
+-- a text spells a script exactly where reading gives it: no text spells two scripts, or has a first fault and spells
+-- one
 abbrev pub SpelledIsRead : Type 0
 SpelledIsRead = (limits : Limits) (text : List ℕ) (s : Scripted) → Spells limits text s ↔ (read_text limits text ≡ Ok s)
 
@@ -39,8 +40,8 @@ abbrev pub RevisionIsRead : Type 0
 RevisionIsRead = (o : OpenJob) (formula : Formulated) (assumptions : List ℕ) (after : OpenJob)
     → (HasRoomFor o formula × (after ≡ with_revision o formula assumptions)) ↔ (revised o formula assumptions ≡ Ok after)
 
--- nothing behind a faulty line counts: where the first fault is on a line before the last, each text that begins with the
--- same lines, up to this one, has the same first fault
+-- nothing behind a faulty line counts: where the first fault is on a line before the last, each text that begins with
+-- the same lines, up to this one, has the same first fault
 abbrev pub FaultIsFirst : Type 0
 FaultIsFirst = (limits : Limits) (text other : List ℕ) (line : ℕ) (fault : LineFault) → read_text limits text ≡ Err (line, fault) → line < length (lines_of text) → take line (lines_of other) ≡ take line (lines_of text) → read_text limits other ≡ Err (line, fault)
 

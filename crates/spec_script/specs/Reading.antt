@@ -24,8 +24,8 @@ pub record OpenJob : Type 0 where
   pub literals : ℕ
   pub block : Option Block
 
--- a script of which some lines are read: the jobs that have ended, the tenants that were named, the last of them, and the
--- job that has begun
+-- a script of which some lines are read: the jobs that have ended, the tenants that were named, the last of them, and
+-- the job that has begun
 pub record Reading : Type 0 where
   pub jobs : List ScriptedJob
   pub tenants : List (List ℕ)

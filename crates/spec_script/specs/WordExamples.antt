@@ -6,8 +6,8 @@ use Rattle.spec_script.specs.Limits.{served}
 use Rattle.spec_script.specs.Reading.{read_text}
 use Rattle.spec_script.specs.Grammar.{Asks, Assumes}
 
--- the words of a priority, a demand, slices and a profile, which may be left out, and the words behind the `a` of a line of
--- assumptions; a literal is given by its code: 3 and 4 are -1 and 2
+-- the words of a priority, a demand, slices and a profile, which may be left out, and the words behind the `a` of a
+-- line of assumptions; a literal is given by its code: 3 and 4 are -1 and 2
 pub record WordExamples : Type 0 where
   pub greatest : Asks (codes "1000") (codes "64") (codes "4096") (codes "2" ∷ []) (record { priority = 1000; demand = 64; slices = 4096; profile = 2 })
   pub leading_zeros : Asks (codes "01") (codes "1") (codes "004") (codes "02" ∷ []) (record { priority = 1; demand = 1; slices = 4; profile = 2 })

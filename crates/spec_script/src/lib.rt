@@ -54,8 +54,8 @@ pub fn fault_is_first()
     ensures { FaultIsFirst }
 {}
 
-/// A text spells a script exactly where reading gives the script. So no text spells two, and none that has a first fault
-/// spells one.
+/// A text spells a script exactly where reading gives the script. So no text spells two, and none that has a first
+/// fault spells one.
 pub fn spelled_is_read()
     ensures { SpelledIsRead }
 {}

@@ -9,6 +9,7 @@ use Rattle.spec_learn.specs.Dropping.{to_drop}
 abbrev pub is_dropping_due : Node → Bool
 is_dropping_due n = (n.profile == 2) && nat_le 2000 n.conflicts_since_dropping
 
--- a node after dropping: it goes back to level 0, holds no longer the longer half of what may go there, and counts from 0 again
+-- a node after dropping: it goes back to level 0, holds no longer the longer half of what may go there, and counts from
+-- 0 again
 abbrev pub dropped : Node → Node
 dropped n = let c = cut 0 n in record c { clauses = forgetting (to_drop c.trail c.clauses) c.clauses; conflicts_since_dropping = 0 }

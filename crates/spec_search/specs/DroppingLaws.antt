@@ -26,20 +26,21 @@ covered = record { variables = 4; clauses = Some (2 ∷ 5 ∷ []) ∷ Some (2 �
 abbrev pub first_steps : ℕ → ℕ → Sliced
 first_steps k profile = steps k (loaded covered 1 (fresh_with 0 profile))
 
--- a node of this profile on whose empty trail all is handled and a restart is due, with so many conflicts learned since the last
--- dropping and those five clauses
+-- a node of this profile on whose empty trail all is handled and a restart is due, with so many conflicts learned since
+-- the last dropping and those five clauses
 abbrev pub idle : ℕ → ℕ → Node
 idle profile count = record (fresh_with 0 profile) { variables = 7; serial = 5; processed = 1; conflicts_since_restart = 64; conflicts_since_dropping = count; order = counted 1 7; phases = replicate 7 false; clauses = five_clauses }
 
--- worked examples of what goes: of clauses of 2, 3, 3, 5 and 7 literals those of 5 and 7; of two of equal length the later one; an
--- original and a reason stay, how long they may be
+-- worked examples of what goes: of clauses of 2, 3, 3, 5 and 7 literals those of 5 and 7; of two of equal length the
+-- later one; an original and a reason stay, how long they may be
 pub record HasDrops : Type 0 where
   pub five_and_seven : to_drop [] five_clauses ≡ 4294967552 ∷ 4294967488 ∷ []
   pub later : to_drop [] (clause 4294967296 (2 ∷ 4 ∷ 6 ∷ []) ∷ clause 4294967360 (2 ∷ 4 ∷ 8 ∷ []) ∷ []) ≡ 4294967360 ∷ []
   pub spared : to_drop (record { lit = 14; reason = Some 4294967552; level = 0 } ∷ []) (clause 7 (2 ∷ 4 ∷ 6 ∷ 8 ∷ 10 ∷ 12 ∷ []) ∷ five_clauses) ≡ 4294967488 ∷ []
 
--- worked examples of steps under either profile: the first clause that node 0 learns, the longer and the shorter one, and its trail
--- after the shorter one; and a dropping, which comes before a restart that is due as well, is due after 2,000 conflicts, and under profile 1 never
+-- worked examples of steps under either profile: the first clause that node 0 learns, the longer and the shorter one,
+-- and its trail after the shorter one; and a dropping, which comes before a restart that is due as well, is due after
+-- 2,000 conflicts, and under profile 1 never
 pub record HasProfiles : Type 0 where
   pub waits : (first_steps 6 2).node.conflict ≡ Some 3
   pub longer : (first_steps 7 1).lines ≡ record { id = 4294967296; lits = 2 ∷ 4 ∷ 6 ∷ []; hints = 2 ∷ 3 ∷ [] } ∷ []
@@ -57,8 +58,8 @@ pub record HasProfiles : Type 0 where
 abbrev pub DropKeepsSound : Type 0
 DropKeepsSound = (n : Node) → IsSound n → n.conflict ≡ None → length n.trail < n.processed → IsSound (dropped n)
 
--- what dropping leaves: originals and reasons stay, and what is held was held; half of what may go goes, and the count begins
--- anew
+-- what dropping leaves: originals and reasons stay, and what is held was held; half of what may go goes, and the count
+-- begins anew
 pub record DropHolds (n : Node) : Type 0 where
   pub originals : originals (dropped n).clauses ≡ originals n.clauses
   pub was : All (Contains n.clauses) (dropped n).clauses
@@ -69,8 +70,8 @@ pub record DropHolds (n : Node) : Type 0 where
 abbrev pub DropsHold : Type 0
 DropsHold = (n : Node) → DropHolds n
 
--- when a step drops clauses: under profile 2 where no conflict waits, no batch is left and 2,000 conflicts were learned since the last
--- dropping, and under no other profile
+-- when a step drops clauses: under profile 2 where no conflict waits, no batch is left and 2,000 conflicts were learned
+-- since the last dropping, and under no other profile
 pub record DropsWhenDue : Type 0 where
   pub due : (n : Node) → n.conflict ≡ None → length n.trail < n.processed → n.profile ≡ 2 → 2000 ≤ n.conflicts_since_dropping → case_of n ≡ Drops
   pub never : (n : Node) → n.profile ≢ 2 → is_dropping_due n ≡ false

@@ -58,8 +58,8 @@ pub record HasSteps : Type 0 where
   pub twenty_two_steps : (begun 22 (bare 10) 0).node.verdict ≡ Some Satisfiable
   pub not_twenty_one : (begun 21 (bare 10) 0).node.verdict ≡ None
 
--- worked examples of learning: a unit clause is learned and the search goes on, clauses are refuted by two lines, at once,
--- and at another node; a slice whose room is nearly used up ends before the line
+-- worked examples of learning: a unit clause is learned and the search goes on, clauses are refuted by two lines, at
+-- once, and at another node; a slice whose room is nearly used up ends before the line
 pub record HasLines : Type 0 where
   pub learns : (begun 1000 three 0).lines ≡ record { id = 2 ^ 32; lits = 2 ∷ []; hints = 1 ∷ 2 ∷ [] } ∷ []
   pub goes_on : literals (begun 1000 three 0).node ≡ 2 ∷ 4 ∷ []

@@ -20,7 +20,8 @@ StepKeepsSound = (n : Node) → IsSound n → IsSound (step n)
 abbrev pub SliceKeepsSound : Type 0
 SliceKeepsSound = (n : Node) → IsSound n → IsSound (slice n).node
 
--- what a step and a slice leave as it was: the index, the profile, the variables, the assumptions and the original clauses
+-- what a step and a slice leave as it was: the index, the profile, the variables, the assumptions and the original
+-- clauses
 pub record Leaves (before after : Node) : Type 0 where
   pub index : after.index ≡ before.index
   pub profile : after.profile ≡ before.profile
@@ -40,7 +41,8 @@ StepsLeave = (k used : ℕ) (n : Node) → Leaves n (steps_from k used n).node
 abbrev pub SliceLeaves : Type 0
 SliceLeaves = (n : Node) → Leaves n (slice n).node
 
--- a node that follows a profile follows it after a step and after a slice: only under profile 2 conflicts are counted for droppings
+-- a node that follows a profile follows it after a step and after a slice: only under profile 2 conflicts are counted
+-- for droppings
 abbrev pub StepKeepsProfile : Type 0
 StepKeepsProfile = (n : Node) → has_profile n ≡ true → has_profile (step n) ≡ true
 
@@ -51,8 +53,8 @@ SliceKeepsProfile = (n : Node) → has_profile n ≡ true → has_profile (slice
 abbrev pub SliceKeepsModel : Type 0
 SliceKeepsModel = (n : Node) → IsSound n → HasModel n → HasModel (slice n).node
 
--- where the originals of a node are these clauses, numbered from 1, and a slice of it ends satisfiable, the model on its
--- trail satisfies the clauses and the assumptions, tautologies among them or not
+-- where the originals of a node are these clauses, numbered from 1, and a slice of it ends satisfiable, the model on
+-- its trail satisfies the clauses and the assumptions, tautologies among them or not
 abbrev pub SliceSolves : Type 0
 SliceSolves = (n : Node) (clauses : List (Option (List ℕ))) → IsSound n → HasModel n → originals n.clauses ≡ numbered 1 clauses → (slice n).node.verdict ≡ Some Satisfiable → satisfies_with (model_of (slice n).node) clauses n.assumptions ≡ true
 
@@ -80,8 +82,8 @@ LinesHaveRoom = (n : Node) → LinesFit n
 abbrev pub SliceGoesOn : Type 0
 SliceGoesOn = (n : Node) → IsSound n → n.verdict ≡ None → is_over 0 n ≡ false
 
--- where a slice of a sound node refutes its clauses under its assumptions, its last line has the number of the goal, and
--- negations of assumptions alone
+-- where a slice of a sound node refutes its clauses under its assumptions, its last line has the number of the goal,
+-- and negations of assumptions alone
 pub record IsRefutedBy (assumptions : List ℕ) (goal : ℕ) (lines : List Line) : Type 0 where
   pub before : List Line
   pub line : Line

@@ -52,8 +52,8 @@ branching n = let a = first_open n.trail n.assumptions in assuming a (is_false_s
 abbrev pub restarting : Node → Case
 restarting n = if nat_le (64 * luby n.restart_number) n.conflicts_since_restart then Restarts else branching n
 
--- the first case that applies: a conflict waits, a batch is left, a dropping is due, a restart is due, an assumption is not
--- true, a variable is free, or the search ends
+-- the first case that applies: a conflict waits, a batch is left, a dropping is due, a restart is due, an assumption is
+-- not true, a variable is free, or the search ends
 abbrev pub case_by : Option ℕ → Node → Case
 case_by (Some id) n = conflicting n id
 case_by None n = if nat_le n.processed (length n.trail) then Propagates else (if is_dropping_due n then Drops else restarting n)

@@ -40,8 +40,8 @@ OpenedIsFound =
 abbrev pub machine : Key → Record → SoloMachine
 machine k log = solo (own k (events_of log))
 
--- a reply that a pass was told is that of the job's machine, run alone on the job's own events of the record that the pass has then
--- seen; the machine's answers carry models and proofs, and its clauses are the job's own
+-- a reply that a pass was told is that of the job's machine, run alone on the job's own events of the record that the
+-- pass has then seen; the machine's answers carry models and proofs, and its clauses are the job's own
 pub record IsTold (k : Key) (r : ℕ) (text : Option (List ℕ)) (log : Record) : Type 0 where
   pub told : text ≡ reply k r (machine k log)
   pub models : AnswersSolve (machine k log)

@@ -5,15 +5,15 @@ use Rattle.spec_turn.specs.Rule.{Extends, Leaves}
 use Rattle.spec_hall.specs.Events.{Event}
 use Rattle.spec_service.specs.Record.{Answered, Entry, IsAnswered, IsLegal, StandsFor, entry}
 
--- A pass made a call that was answered so. It has then seen a legal record, which has all that it had seen as a beginning and ends with
--- this call's entry; of its numbers the record has the entries that it had and this one.
+-- A pass made a call that was answered so. It has then seen a legal record, which has all that it had seen as a
+-- beginning and ends with this call's entry; of its numbers the record has the entries that it had and this one.
 pub record Enters (workers : ℕ) (before : View Entry) (c : Answered) (after : View Entry) : Type 0 where
   pub events : List Event
   pub extends : Extends before (entry c events) after
   pub legal : IsLegal workers after.seen
 
--- What a closed service leaves: a hall whose history is the events of a legal record, which has all that the pass had seen as a
--- beginning and goes on with entries of other numbers alone. Each entry is of a whole pass's numbers.
+-- What a closed service leaves: a hall whose history is the events of a legal record, which has all that the pass had
+-- seen as a beginning and goes on with entries of other numbers alone. Each entry is of a whole pass's numbers.
 abbrev pub LeavesHall : ℕ → List Event → View Entry → Type 0
 LeavesHall workers history pass = Leaves (StandsFor workers) history pass
 

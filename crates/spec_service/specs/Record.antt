@@ -14,8 +14,8 @@ use Rattle.spec_hall.specs.Calls.{IsCall, Offer, Return, Opens, Revises, Closes,
 use Rattle.spec_hall.specs.Events.{Event}
 use Rattle.spec_hall.specs.Legal.{Legal}
 
--- a call of the service with its arguments and its answer: a job was opened, revised or closed, the reply to a revision was asked
--- for, a worker picked, or what came of a lease was given back
+-- a call of the service with its arguments and its answer: a job was opened, revised or closed, the reply to a revision
+-- was asked for, a worker picked, or what came of a lease was given back
 pub data Answered : Type 0 where
   Opened : Key → Terms → Result (Unit {0}) OpenFault → Answered
   Revised : Key → Posted → Result (Unit {0}) ReviseFault → Answered
@@ -55,8 +55,8 @@ abbrev pub AreAnsweredFrom : ℕ → List Event → Record → Type 0
 AreAnsweredFrom workers past [] = Unit {0}
 AreAnsweredFrom workers past (e ∷ es) = IsAnswered workers past e.1.call e.1.events × AreAnsweredFrom workers (past ++ e.1.events) es
 
--- A legal record of a hall of so many workers: its events are a legal history, and each entry's answer and events are those of the
--- hall's call at that point.
+-- A legal record of a hall of so many workers: its events are a legal history, and each entry's answer and events are
+-- those of the hall's call at that point.
 pub record IsLegal (workers : ℕ) (log : Record) : Type 0 where
   pub history : Legal workers (events_of log)
   pub answers : AreAnsweredFrom workers [] log

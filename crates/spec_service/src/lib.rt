@@ -1,5 +1,5 @@
-//! The shared service: entries, legal records, and what a call does to a pass. Definitions, and the laws about them as the
-//! contracts of functions without a body.
+//! The shared service: entries, legal records, and what a call does to a pass. Definitions, and the laws about them as
+//! the contracts of functions without a body.
 #![tactic(auto)]
 
 ghost use Rattle.spec_service.specs.Laws.{AgreeingTellEqual, AnswersAreLegal, OpenedIsFound, RepliesAreSolo};
@@ -9,13 +9,14 @@ pub fn answers_make_a_legal_record()
     ensures { AnswersAreLegal }
 {}
 
-/// A pass that has seen that a job was opened is never told that there is no such job: no post and no ask of it is answered so.
+/// A pass that has seen that a job was opened is never told that there is no such job: no post and no ask of it is
+/// answered so.
 pub fn opened_job_is_found()
     ensures { OpenedIsFound }
 {}
 
-/// A reply that a pass is told is that of the job's machine, run alone on the job's own events of the record at that point,
-/// with its evidence. Two services whose records agree on a job's own events tell equal bytes of it.
+/// A reply that a pass is told is that of the job's machine, run alone on the job's own events of the record at that
+/// point, with its evidence. Two services whose records agree on a job's own events tell equal bytes of it.
 pub fn replies_are_solo()
     ensures solo { RepliesAreSolo }
     ensures agree { AgreeingTellEqual }

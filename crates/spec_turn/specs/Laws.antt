@@ -63,7 +63,8 @@ module _ {T E : Type 0} (stands : T → Log E → Type 0) where
   abbrev pub WholeIsAlone : Type 0
   WholeIsAlone = (s : State (Option T) (View E)) → TurnRule stands s → (j k : ℕ) (v w : View E) → At s.views j v → At s.views k w → IsWhole v.of → IsSpent w.of ⊎ (j ≡ k)
 
-  -- what a whole seat's close leaves stands for a record which the seat has seen whole, and of which each entry is its own
+  -- what a whole seat's close leaves stands for a record which the seat has seen whole, and of which each entry is its
+  -- own
   abbrev pub WholeSeesAll : Type 0
   WholeSeesAll = (x : T) (v : View E) → IsWhole v.of → (l : Leaves stands x v) → (l.log ≡ v.seen) × (part v.of.all l.log ≡ l.log) × stands x v.seen
 
@@ -85,7 +86,8 @@ module _ (E : Type 0) where
 abbrev pub ManyAreWhole : Type 0
 ManyAreWhole = (k : ℕ) (ms : List Numbers) → IsPermutation (children k opening) ms → IsWhole (join_all (split_times k opening) ms)
 
--- however the others were split: where each number that one of the seats awaits is one of theirs, the seat that took them all in is whole
+-- however the others were split: where each number that one of the seats awaits is one of theirs, the seat that took
+-- them all in is whole
 abbrev pub AllAreWhole : Type 0
 AllAreWhole = (n : Numbers) (ms : List Numbers) → Has n [] → AwaitsOthers n → ((x : List ℕ) → among x (n.awaited ++ awaited_of ms) ≡ true → among x (n.all ++ numbers_of ms) ≡ true) → IsWhole (join_all n ms)
 

@@ -33,7 +33,8 @@ awaited_of (m ∷ ms) = m.awaited ++ awaited_of ms
 abbrev pub AwaitsOthers : Numbers → Type 0
 AwaitsOthers n = (x : List ℕ) → among x n.awaited ≡ true → Has n x → ⊥
 
--- a seat came back from wherever it was split and joined: it has the numbers that it had, and awaits no others than it did
+-- a seat came back from wherever it was split and joined: it has the numbers that it had, and awaits no others than it
+-- did
 pub record IsBack (before after : Numbers) : Type 0 where
   pub kept : (x : List ℕ) → Has before x → Has after x
   pub awaited : (x : List ℕ) → among x after.awaited ≡ true → among x before.awaited ≡ true

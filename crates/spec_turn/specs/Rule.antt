@@ -120,8 +120,8 @@ module _ {E : Type 0} where
   abbrev pub Former : Log E → List (List ℕ) → Olds E → Type 0
   Former log all olds = (i : ℕ) (o : List (List ℕ) × Log E) → At olds i o → Begins log o.0 o.1 × ((x : List ℕ) → among x o.0 ≡ true → among x all ≡ true)
 
-  -- What a seat that took the turn and put the value back knows: all that it had seen, what others entered since, and then its own
-  -- entry. Of its numbers the record has the entries that it had and this one.
+  -- What a seat that took the turn and put the value back knows: all that it had seen, what others entered since, and
+  -- then its own entry. Of its numbers the record has the entries that it had and this one.
   pub record Extends (v : View E) (e : E) (w : View E) : Type 0 where
     pub earlier : Log E
     pub begins : Begins earlier v.of.all v.seen
@@ -130,7 +130,8 @@ module _ {E : Type 0} where
     pub numbers : w.of ≡ v.of
 
   module _ (log : Log E) (ticket serving : ℕ) (owner : ℕ → ℕ) (j : ℕ) (seen : Log E) where
-    -- what a seat at this stage may rely on: its ticket is drawn and not passed on, and whoever holds the value has seen the whole record
+    -- what a seat at this stage may rely on: its ticket is drawn and not passed on, and whoever holds the value has
+    -- seen the whole record
     abbrev pub Stands : Stage → Type 0
     Stands Idle = Unit {0}
     Stands (Drawn t) = (serving ≤ t) × (t < ticket) × (j ≡ owner t)
@@ -144,9 +145,10 @@ module _ {E : Type 0} where
     pub former : Former log v.of.all v.old
     pub live : (v.stage ≡ Idle) ⊎ Has v.of v.of.first
 
-  -- The rule on numbers: no number is in two views; a view that is not spent has its own first number; a number that is a view's
-  -- first with k put behind it has k below that view's count; of each number in a view, but for the empty one, some view has the
-  -- number without its last element, and has the number itself or awaits it; and the number of each entry is in some view.
+  -- The rule on numbers: no number is in two views; a view that is not spent has its own first number; a number that is
+  -- a view's first with k put behind it has k below that view's count; of each number in a view, but for the empty one,
+  -- some view has the number without its last element, and has the number itself or awaits it; and the number of each
+  -- entry is in some view.
   pub record NumberRule (log : Log E) (seat : List ℕ → ℕ) (ns : List Numbers) : Type 0 where
     pub own : (j : ℕ) (n : Numbers) (x : List ℕ) → At ns j n → Has n x → j ≡ seat x
     pub rooted : (j : ℕ) (n : Numbers) → At ns j n → IsSpent n ⊎ Has n n.first
@@ -164,7 +166,8 @@ module _ {T E : Type 0} (stands : T → Log E → Type 0) where
   abbrev pub Away : List (lean.Option (Option T)) → List (View E) → Type 0
   Away homes views = (homes ≡ lean.none ∷ []) × ((j : ℕ) × (v : View E) × At views j v × (is_inside v.stage ≡ true))
 
-  -- The rule of the turn. There is a record, whose length is the third word; `owner` says whose a ticket is, `seat` whose a number is.
+  -- The rule of the turn. There is a record, whose length is the third word; `owner` says whose a ticket is, `seat`
+  -- whose a number is.
   pub record TurnRule (s : State (Option T) (View E)) : Type 0 where
     pub ticket : ℕ
     pub serving : ℕ
@@ -178,8 +181,8 @@ module _ {T E : Type 0} (stands : T → Log E → Type 0) where
     pub each : (j : ℕ) (v : View E) → At s.views j v → Fits log ticket serving owner j v
     pub numbered : NumberRule log seat (map numbers s.views)
 
-  -- What a closed turn leaves: a value that stands for a record, which begins with what the seat had seen and goes on with entries of
-  -- other numbers alone. Each entry is of a whole seat's numbers.
+  -- What a closed turn leaves: a value that stands for a record, which begins with what the seat had seen and goes on
+  -- with entries of other numbers alone. Each entry is of a whole seat's numbers.
   pub record Leaves (x : T) (v : View E) : Type 0 where
     pub log : Log E
     pub value : stands x log

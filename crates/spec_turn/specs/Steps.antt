@@ -26,7 +26,8 @@ module _ {T E : Type 0} where
   abbrev pub served : (T → Log E → Type 0) → Sat T E → ℕ → Sat T E → Type 0
   served stands m t m' = (log : Log E) × (x : T) × (m' ≡ (seeing (Holds t) log m.0, (0, Some x) ∷ [])) × stands x log × Begins log m.0.of.all m.0.seen × (length log ≡ t)
 
-  -- the seat sees the record so far, which begins with what it had seen, and with what the seats had seen that it was joined of
+  -- the seat sees the record so far, which begins with what it had seen, and with what the seats had seen that it was
+  -- joined of
   abbrev pub learns : Sat T E → Sat T E → Type 0
   learns m m' = (log : Log E) × (m' ≡ (seeing m.0.stage log m.0, m.1)) × Begins log m.0.of.all m.0.seen × ((i : ℕ) (o : List (List ℕ) × Log E) → At m.0.old i o → Begins log o.0 o.1)
 

@@ -16,16 +16,16 @@ pub fn each_step_keeps_the_rule<T: Recorded>()
     ensures pass { PassingKeeps T.stands }
 {}
 
-/// At every moment at most one seat holds the value, a number is at most one seat's, and beside a whole seat no other is
-/// left.
+/// At every moment at most one seat holds the value, a number is at most one seat's, and beside a whole seat no other
+/// is left.
 pub fn one_seat_holds<T: Recorded>()
     ensures holds { OneHolds T.stands }
     ensures number { OneHas T.stands }
     ensures whole { WholeIsAlone T.stands }
 {}
 
-/// Whoever takes the turn and puts the value back has seen a record that has all it had seen as a beginning and ends with
-/// its entry, and has of its numbers the entries that it had and this one, each once.
+/// Whoever takes the turn and puts the value back has seen a record that has all it had seen as a beginning and ends
+/// with its entry, and has of its numbers the entries that it had and this one, each once.
 pub fn a_turn_adds_one_entry<T: Recorded>()
     ensures { TurnExtends T.Entry }
 {}
@@ -41,8 +41,8 @@ pub fn a_whole_seat_has_seen_all<T: Recorded>()
     ensures { WholeSeesAll T.stands }
 {}
 
-/// One seat that was split n times and took the n new seats in, in any order, is whole; and so is one that took in seats
-/// that were split further, once each number that is awaited is there.
+/// One seat that was split n times and took the n new seats in, in any order, is whole; and so is one that took in
+/// seats that were split further, once each number that is awaited is there.
 pub fn joined_seats_are_whole()
     ensures many { ManyAreWhole }
     ensures all { AllAreWhole }

@@ -1,5 +1,5 @@
-//! A turn that is handed on by tickets, with one record of what its holders did: what seats know, the rule, and the laws
-//! about them as the contracts of functions without a body.
+//! A turn that is handed on by tickets, with one record of what its holders did: what seats know, the rule, and the
+//! laws about them as the contracts of functions without a body.
 #![tactic(auto)]
 
 mod laws;

@@ -30,7 +30,8 @@ pub struct Numbers {
     pub awaited: LinkedList<LinkedList<u64>>,
 }
 
-/// What a seat knows: its stage, the record that it has seen, what the seats had seen that it was joined of, and its numbers.
+/// What a seat knows: its stage, the record that it has seen, what the seats had seen that it was joined of, and its
+/// numbers.
 pub struct View<E> {
     pub stage: Stage,
     pub seen: LinkedList<(LinkedList<u64>, E)>,

@@ -105,7 +105,8 @@ impl Trial {
         Ok(lease.ok_or("no lease")?.work(&mut Scratch::new(self.alloc)))
     }
 
-    /// Gives back what came of a lease: none where it is taken back, or else the number of the start that its worker has out.
+    /// Gives back what came of a lease: none where it is taken back, or else the number of the start that its worker
+    /// has out.
     fn give(&mut self, done: Done) -> Option<Option<u64>> {
         match self.hall.finish(done) {
             Ok(_) => None,
@@ -207,8 +208,8 @@ fn post_three(trial: &mut Trial) -> Result<(), Fail> {
 const THREE_REPLIES: &[u8] =
     b"r a p 1\ns SATISFIABLE\nv -1 2 0\nr a p 2\ns UNSATISFIABLE\nk -2 0\nl 3 2 0 2 1 0\nr a p 3\ns SATISFIABLE\nv -1 2 0\n";
 
-/// A driven hall of two workers with one job of demand 2, whose solvers have this profile and 8 slices for a revision of so many
-/// variables and no clause.
+/// A driven hall of two workers with one job of demand 2, whose solvers have this profile and 8 slices for a revision
+/// of so many variables and no clause.
 fn shared_by_two(alloc: Global, profile: i64, variables: u32) -> Result<Trial, Fail> {
     let mut trial = Trial::new(alloc, 2)?;
     let ask = Ask::of(1, 2, 8).ok_or("no ask")?;

@@ -201,8 +201,8 @@ fn second_lease(alloc: Global) -> Result<Option<Done>, Fail> {
     Ok(leased(hall.pick(1)).map(|lease| worked(alloc, lease)))
 }
 
-/// Gives a strange lease back, and then the service's own. The number of the start that the worker keeps, and whether its own
-/// lease was taken back.
+/// Gives a strange lease back, and then the service's own. The number of the start that the worker keeps, and whether
+/// its own lease was taken back.
 fn give_strange<R: Wait>(
     rt: &R,
     alloc: Global,

@@ -14,8 +14,8 @@ use std::sync::atomic::Ordering;
 use std::test::Fail;
 use std::thread::Threads;
 
-/// Runs as many jobs of demand 1 as there are workers over a hall under a lock. Their first slices wait for one another, so no worker
-/// has the lock while it works.
+/// Runs as many jobs of demand 1 as there are workers over a hall under a lock. Their first slices wait for one
+/// another, so no worker has the lock while it works.
 fn start_together<R: Threads + Wait + Sync + Abort>(
     rt: &R,
     alloc: Global,

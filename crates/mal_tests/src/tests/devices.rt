@@ -1,5 +1,5 @@
-//! The program over devices that fail, that are full, and that give what no command takes: what is left of the source, and what
-//! was written.
+//! The program over devices that fail, that are full, and that give what no command takes: what is left of the source,
+//! and what was written.
 
 use mal_cli::top;
 use mal_io::{MemSink, MemSource, Source, read_all};
@@ -156,8 +156,8 @@ fn answer_where<R: Threads + Wait + Sync>(
     answer_to(rt, alloc, parts, &mut source, &NONE)
 }
 
-/// Each call of the source fails in turn, up to the one that finds the end, and nothing is written. With no fault the output and the
-/// log are these.
+/// Each call of the source fails in turn, up to the one that finds the end, and nothing is written. With no fault the
+/// output and the log are these.
 fn fail_in_turn<R: Threads + Wait + Sync + Abort>(
     rt: &R,
     alloc: Global,
@@ -354,8 +354,8 @@ fn status_of<R: Threads + Wait + Sync + Abort>(
     Ok(told.status)
 }
 
-/// Fronts of the script are scripts where they end with its tenant or its job, with or without the end of that line, and where they are
-/// empty.
+/// Fronts of the script are scripts where they end with its tenant or its job, with or without the end of that line,
+/// and where they are empty.
 #[test]
 fn a_script_that_is_cut_off_is_refused(rt: HostRuntime) -> Result<(), Fail> {
     let alloc = rt.alloc();

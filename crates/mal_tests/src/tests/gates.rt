@@ -6,8 +6,8 @@ use mal_pool::{Gate, Point, Step};
 use std::sync::atomic::{AtomicU64, Ordering};
 use std::thread;
 
-/// A gate that holds everyone before the first slice, and again after it, until so many have come. It counts those whom another let
-/// go; who has looked a million times goes uncounted.
+/// A gate that holds everyone before the first slice, and again after it, until so many have come. It counts those whom
+/// another let go; who has looked a million times goes uncounted.
 #[derive(Drop)]
 pub struct Together {
     wanted: u64,

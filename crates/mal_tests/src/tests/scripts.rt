@@ -29,8 +29,8 @@ pub fn single_jobs(alloc: Global, count: u32) -> Result<Vec<u8>, AllocError> {
     Ok(text)
 }
 
-/// Four tenants with four jobs each: those of the first ask for one worker, those of the next for two, and so on up to this
-/// demand. Every job puts four pigeons into three holes.
+/// Four tenants with four jobs each: those of the first ask for one worker, those of the next for two, and so on up to
+/// this demand. Every job puts four pigeons into three holes.
 pub fn mixed_jobs(alloc: Global, demands: u32) -> Result<Vec<u8>, AllocError> {
     let mut text = Vec::new(alloc);
     for demand in 1..=demands {

@@ -37,8 +37,8 @@ struct Heard {
     text: Vec<u8>,
 }
 
-/// A tenant with one job, which works too. It notes the seeds of the revisions that it posted, what it was told, and whether a
-/// call of its was not answered as it must be.
+/// A tenant with one job, which works too. It notes the seeds of the revisions that it posted, what it was told, and
+/// whether a call of its was not answered as it must be.
 #[derive(Drop)]
 struct Tenant {
     number: u8,
@@ -364,7 +364,8 @@ fn listen_to_all<R: Wait>(
     pass
 }
 
-/// Asks for all replies to a tenant, and compares what it heard with a hall that has its job alone. How many replies it heard.
+/// Asks for all replies to a tenant, and compares what it heard with a hall that has its job alone. How many replies it
+/// heard.
 fn compare<R: Wait + Abort>(
     rt: &R,
     alloc: Global,
