@@ -1,14 +1,11 @@
-//! Searches whose answers are known, and nodes that come back from their images.
+//! Searches whose answers are known.
 
-ghost use Rattle.std.specs.Prelude.{◌≡◌, ◌≤◌, ◌<◌, true, IfOk};
-ghost use Rattle.spec_node.specs.State.{has_profile};
+ghost use Rattle.std.specs.Prelude.{◌≤◌, ◌<◌, IfOk};
 ghost use Rattle.spec_node.specs.Sound.{IsSound};
-ghost use Rattle.mal_cdcl.specs.Sliced.{HasSliceRoom, HasIdRoom, HasLowCounts, IsProfile, IsUnrun};
-ghost use Rattle.mal_freeze.specs.Imaged.{IsImage};
+ghost use Rattle.mal_cdcl.specs.Sliced.{HasSliceRoom, HasIdRoom, IsProfile, IsUnrun};
 
 use crate::Node;
 use mal_base::{Clause, ClauseId, Lines, Lit, Var, Verdict};
-use mal_freeze::Image;
 use mal_learn::Scratch;
 use mal_revision::Revision;
 use mal_scan::Scan;
@@ -49,7 +46,6 @@ fn loaded(
     requires index { index ≤ 63 }
     requires profile { IsProfile profile }
     ensures sound { IfOk result (λ n. IsSound n.state) }
-    ensures profile { IfOk result (λ n. has_profile n.state ≡ true) }
     ensures new { IfOk result (λ n. IsUnrun n.state) }
     ensures stocked { IfOk result (λ n. HasSliceRoom n) }
     ensures fitted { IfOk result (λ n. n.state.variables < scratch.new.room) }
@@ -65,49 +61,13 @@ fn loaded(
 /// Runs the first slice of a node, and takes its lines.
 fn run_first(node: &mut Node<Scan>, scratch: &mut Scratch) -> Lines
     requires sound { IsSound node.old.state }
-    requires profile { has_profile node.old.state ≡ true }
     requires new { IsUnrun node.old.state }
     requires stocked { HasSliceRoom node.old }
     requires fitted { node.old.state.variables < scratch.old.room }
     requires ids { HasIdRoom 1000 node.old.state scratch.old }
-    ensures sound { IsSound node.new.state }
-    ensures counts { HasLowCounts node.new.state }
-    ensures form { IsImage node.new.state }
 {
     node.run(scratch);
     node.take_lines()
-}
-
-/// Makes a node ready without a load, runs a slice, and takes its lines.
-fn run_again(node: &mut Node<Scan>, scratch: &mut Scratch) -> Result<Lines, Fail>
-    requires sound { IsSound node.old.state }
-    requires counts { HasLowCounts node.old.state }
-{
-    node.ready(&[], &[], scratch)?;
-    node.run(scratch);
-    Ok(node.take_lines())
-}
-
-/// A node of this index and profile that has loaded these clauses and run its first slice, in form, and the lines of
-/// that.
-fn searched(
-    rt: &impl Abort,
-    alloc: Global,
-    index: u32,
-    profile: u32,
-    variables: u32,
-    clauses: Vec<Option<Clause>>,
-    scratch: &mut Scratch,
-) -> Result<(Node<Scan>, Lines), Fail>
-    requires index { index ≤ 63 }
-    requires profile { IsProfile profile }
-    ensures sound { IfOk result (λ r. IsSound r.0.state) }
-    ensures counts { IfOk result (λ r. HasLowCounts r.0.state) }
-    ensures form { IfOk result (λ r. IsImage r.0.state) }
-{
-    let mut node = loaded(rt, alloc, index, profile, variables, clauses, scratch)?;
-    let lines = run_first(&mut node, scratch);
-    Ok((node, lines))
 }
 
 /// What the first slice of a node gives: its verdict, the value of the first variable, its model, and its lines.
@@ -145,7 +105,8 @@ fn solve_with(
     requires profile { IsProfile profile }
 {
     let mut scratch = Scratch::new(alloc);
-    let (node, lines) = searched(rt, alloc, index, profile, variables, clauses, &mut scratch)?;
+    let mut node = loaded(rt, alloc, index, profile, variables, clauses, &mut scratch)?;
+    let lines = run_first(&mut node, &mut scratch);
     let mut model = Vec::with_capacity(alloc, node.variables() as usize)?;
     node.model(&mut model);
     Ok(Solved {
@@ -234,79 +195,5 @@ fn the_second_profile_learns_its_shorter_form(rt: HostRuntime) -> Result<(), Fai
         ClauseId::original(3),
     ];
     compare(&rt, &solved.lines, 0, 4_294_967_296, &lits, &hints);
-    Ok(())
-}
-
-/// The node of this node's image, after both images were compared.
-fn come_back(
-    rt: &impl Abort,
-    alloc: Global,
-    node: &Node<Scan>,
-    image: &Image,
-) -> Result<Node<Scan>, Fail>
-    requires { image.now ≡ node.now.state }
-    ensures { IfOk result (λ n. n.state ≡ node.now.state) }
-{
-    let left = image.parts();
-    let again: Node<Scan> = Node::of_image(alloc, image)?;
-    let second = again.image()?;
-    let right = second.parts();
-    assert_eq!(rt; left.index, right.index);
-    assert_eq!(rt; left.profile, right.profile);
-    assert_eq!(rt; left.variables, right.variables);
-    assert_eq!(rt; left.processed, right.processed);
-    assert_eq!(rt; left.conflict, right.conflict);
-    assert_eq!(rt; left.verdict, right.verdict);
-    assert_eq!(rt; left.assumptions.as_slice(), right.assumptions.as_slice());
-    assert_eq!(rt; left.order.as_slice(), right.order.as_slice());
-    assert_eq!(rt; left.phases.as_slice(), right.phases.as_slice());
-    assert_eq!(rt; left.trail.as_slice(), right.trail.as_slice());
-    assert_eq!(rt; left.clauses.len(), right.clauses.len());
-    assert_eq!(rt; again.verdict(), node.verdict());
-    Ok(again)
-}
-
-#[test]
-fn a_fresh_node_comes_back(rt: HostRuntime) -> Result<(), Fail> {
-    let node: Node<Scan> = Node::fresh_with(rt.alloc(), 5, 2);
-    let image = node.image()?;
-    assert_eq!(rt; image.parts().index, 5);
-    assert_eq!(rt; image.parts().profile, 2);
-    assert_eq!(rt; image.parts().conflicts_since_dropping, 0);
-    assert_eq!(rt; image.parts().restart_number, 1);
-    let again = come_back(&rt, rt.alloc(), &node, &image)?;
-    assert_eq!(rt; again.index(), 5);
-    assert_eq!(rt; again.variables(), 0);
-    Ok(())
-}
-
-/// The verdicts of a node of this index with these clauses that comes back from its image after its first slice, then
-/// and after one more, and the conflict that waited.
-fn return_and_go_on(
-    rt: &impl Abort,
-    alloc: Global,
-    index: u32,
-    variables: u32,
-    clauses: Vec<Option<Clause>>,
-) -> Result<(Option<Verdict>, Option<Verdict>, Option<ClauseId>), Fail>
-    requires { index ≤ 63 }
-{
-    let mut scratch = Scratch::new(alloc);
-    let (node, _) = searched(rt, alloc, index, 1, variables, clauses, &mut scratch)?;
-    let image = node.image()?;
-    let mut again = come_back(rt, alloc, &node, &image)?;
-    let verdict = again.verdict();
-    let _ = run_again(&mut again, &mut scratch)?;
-    Ok((verdict, again.verdict(), image.parts().conflict))
-}
-
-#[test]
-fn a_refuted_node_comes_back(rt: HostRuntime) -> Result<(), Fail> {
-    let clauses = pairs(rt.alloc(), &[(1, 1), (-1, -1)])?;
-    let (before, after, conflict) = return_and_go_on(&rt, rt.alloc(), 1, 1, clauses)?;
-    let goal = ClauseId::derived(0, 1);
-    assert_eq!(rt; before, Some(Verdict::Unsatisfiable { goal }));
-    assert_eq!(rt; after, before);
-    assert_eq!(rt; conflict, Some(ClauseId::original(2)));
     Ok(())
 }

@@ -10,6 +10,3 @@ run-lines-requires-clause-sound g c = c.in_ok-node.ensures.sound
 
 pub run-lines-requires-clause-counts : goal.run-lines-requires-clause-counts
 run-lines-requires-clause-counts g c = c.in_ok-node.ensures.counts
-
-pub image-requires-2 : goal.image-requires-2
-image-requires-2 g c = c.run-lines.ensures

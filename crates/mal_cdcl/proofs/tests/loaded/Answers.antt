@@ -4,7 +4,6 @@ use Rattle.mal_base.specs.NumberedClause.{NumberedClause}
 use Rattle.spec_node.specs.State.{fresh_with}
 use Rattle.spec_node.proofs.PostedLemmas.{posted-literals}
 use Rattle.spec_node.proofs.SoundLemmas.{fresh-with_sound, loaded-sound}
-use Rattle.mal_cdcl.proofs.HeldCountLemmas.{fresh-has_profile}
 use Rattle.mal_cdcl.proofs.tests.loaded.Goals as goal
 
 pub returns-clause-sound : goal.returns-clause-sound
@@ -13,6 +12,3 @@ returns-clause-sound g c =
     let posted = c.clauses.ensures.form in
     let same = ap (λ (xs : List (Option (List ℕ))). length xs) c.clauses.ensures.value in
     rw (c.in_ok-ready.ensures.loaded, c.fresh_with-node.ensures) (loaded-sound r 1 (fresh_with c.args.index c.args.profile) posted (posted-literals r posted) (record { some = omega arith; above = All-nil (λ (h : NumberedClause). h.id < 2 ^ 32 → h.id < 1); below = omega (arith, same) }) (fresh-with_sound c.args.index c.args.profile c.requires.index))
-
-pub returns-clause-profile : goal.returns-clause-profile
-returns-clause-profile g c = rw (c.in_ok-ready.ensures.loaded, c.fresh_with-node.ensures) (fresh-has_profile c.args.index c.args.profile c.requires.profile)
