@@ -83,6 +83,7 @@ mod tests {
         assert_eq!(rt; lit(65_536)?.var().number(), 65_536);
         assert_eq!(rt; lit(-1)?.code(), 3);
         assert_eq!(rt; lit(-1)?.negate(), lit(1)?);
+        assert_eq!(rt; lit(-1)?.dimacs(), -1);
         Ok(())
     }
 
@@ -92,7 +93,7 @@ mod tests {
         let formula = Formula::new(2, vec![in rt.alloc(); clause, None]?).ok_or("no formula")?;
         assert_eq!(rt; formula.variables(), 2);
         assert_eq!(rt; formula.clauses().len(), 2);
-        assert_eq!(rt; formula.literals(), 1);
+        assert_eq!(rt; formula.literals(), 2);
         let clause = Clause::of_lits(rt.alloc(), &[lit(2)?])?;
         assert!(rt; Formula::new(1, vec![in rt.alloc(); clause]?).is_none());
         assert!(rt; Formula::new(0, vec![in rt.alloc(); None]?).is_none());
