@@ -11,7 +11,6 @@ ghost use Rattle.spec_run.specs.Run.{IsRun};
 use mal_answer::{Complaint, Texts, input, script_of};
 use mal_board::run_served;
 use mal_hall::Hall;
-use mal_history::write_out;
 use mal_io::Source;
 use mal_pool::{Gate, replies, run_alone};
 use mal_script::Script;
@@ -86,7 +85,7 @@ pub fn run_script_alone(alloc: Global, script: &Script) -> Result<Texts, AllocEr
     ensures { IfOk result (λ t. IsRunOf 1 script.now t.log.items t.out.items) }
 {
     let hall = run_alone(alloc, script, 1)?;
-    texts_of(alloc, script, hall)
+    texts_of(alloc, script, &hall)
 }
 
 /// Runs a script with 1 to 64 workers, and makes the texts of its history and its replies.
@@ -102,16 +101,15 @@ pub fn run_script<R: Threads + Wait + Sync, G: Gate>(
     ensures { IfOk result (λ t. IsRunOf workers script.now t.log.items t.out.items) }
 {
     let hall = run_served(rt, alloc, script, workers, gate)?;
-    texts_of(alloc, script, hall)
+    texts_of(alloc, script, &hall)
 }
 
-/// The texts of the history and of the replies of a hall that has run a script. The hall is given up before its history
-/// is written.
-fn texts_of(alloc: Global, script: &Script, hall: Hall) -> Result<Texts, AllocError>
-    requires run { (workers : ℕ) × HasRun workers script.now hall }
-    ensures { (workers : ℕ) → HasRun workers script.now hall → IfOk result (λ t. IsRun workers script.now hall.events t.log.items t.out.items) }
+/// The texts of the history and of the replies of a hall that has run a script.
+fn texts_of(alloc: Global, script: &Script, hall: &Hall) -> Result<Texts, AllocError>
+    requires run { (workers : ℕ) × HasRun workers script.now hall.now }
+    ensures { (workers : ℕ) → HasRun workers script.now hall.now → IfOk result (λ t. IsRun workers script.now hall.now.events t.log.items t.out.items) }
 {
-    let out = replies(alloc, &hall, script)?;
-    let log = write_out(alloc, hall.into_history())?;
+    let log = mal_history::write(alloc, hall.history())?;
+    let out = replies(alloc, hall, script)?;
     Ok(Texts { log, out })
 }

@@ -208,15 +208,6 @@ impl Hall {
         &self.history
     }
 
-    /// The history itself; the hall is given up. Takes no memory.
-    pub fn into_history(self) -> History
-        ensures workers { result.workers ≡ self.workers }
-        ensures events { result.events ≡ map bare self.events }
-        ensures legal { Legal self.workers self.events }
-    {
-        self.history
-    }
-
     /// A revision of a job, numbered from 1: None exactly where the job is not there or has no such revision.
     pub fn revision(&self, tenant: &Name, job: &Name, r: u32) -> Option<&Revision>
         ensures { option_copied result ≡ among r (revisions_of (keyed tenant.now job.now) (states self.now.events)) }

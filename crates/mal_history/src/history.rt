@@ -98,13 +98,6 @@ impl History {
         self.events.as_slice()
     }
 
-    /// The events themselves; the history is given up. Takes no memory.
-    pub fn into_events(self) -> Vec<Event>
-        ensures { result.items ≡ self.events }
-    {
-        self.events
-    }
-
     /// The line of an event, by its place from 0: the line it was read from, or, where it was pushed, the one that
     /// `write` gives it.
     pub fn line(&self, n: usize) -> u64

@@ -17,7 +17,7 @@ pub use history::History;
 pub use laws::{histories_differ, reading_examples, spelled_is_read, written_is_read};
 pub use owned::own;
 pub use reading::read;
-pub use writing::{write, write_out};
+pub use writing::write;
 
 #[cfg(test)]
 mod tests;

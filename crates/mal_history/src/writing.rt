@@ -26,18 +26,6 @@ pub fn write(alloc: Global, history: &History) -> Result<Vec<u8>, AllocError>
     Ok(out)
 }
 
-/// The text of a history that is given up: each event is let go once its line is written, so text and events are never
-/// both there whole.
-#[tactic(auto, unfolding(crate::specs::Text::history_text))]
-pub fn write_out(alloc: Global, history: History) -> Result<Vec<u8>, AllocError>
-    ensures { IfOk result (λ v. v.items ≡ history_text history.workers history.events) }
-{
-    let mut out = Vec::new(alloc);
-    put_header(&mut out, history.workers())?;
-    put_out(&mut out, history.into_events())?;
-    Ok(out)
-}
-
 /// Writes the first line: the version of the format and the number of workers.
 fn put_header(out: &mut Vec<u8>, workers: u32) -> Result<(), AllocError>
     ensures { OnOk result (out.new.items ≡ out.old.items ++ line_of (header_words workers)) }
@@ -57,16 +45,6 @@ fn put_events(out: &mut Vec<u8>, events: &[Event]) -> Result<(), AllocError>
 {
     for event in events {
         put_event(out, event)?;
-    }
-    Ok(())
-}
-
-/// Writes a line an event, and lets each event go behind its line.
-fn put_out(out: &mut Vec<u8>, events: Vec<Event>) -> Result<(), AllocError>
-    ensures { OnOk result (out.new.items ≡ out.old.items ++ flat_map line_of (map event_words events.items)) }
-{
-    for event in events {
-        put_event(out, &event)?;
     }
     Ok(())
 }

@@ -110,7 +110,7 @@ impl Entries {
     }
 
     /// Puts an entry behind the others.
-    pub fn push(&mut self, entry: Entry) -> Result<(), AllocError>
+    pub(crate) fn push(&mut self, entry: Entry) -> Result<(), AllocError>
         ensures { OnOk result (self.new ≡ self.old ++ entry_of entry ∷ []) }
     {
         let slices = self.slices;
@@ -120,7 +120,7 @@ impl Entries {
     }
 
     /// Puts a slice behind the others. Takes no memory; is refused where the count would pass its type's end.
-    pub fn push_slice(&mut self) -> Result<(), AllocError>
+    pub(crate) fn push_slice(&mut self) -> Result<(), AllocError>
         ensures { OnOk result (self.new ≡ self.old ++ Run ∷ []) }
     {
         match self.slices.checked_add(1) {
