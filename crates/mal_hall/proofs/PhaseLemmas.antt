@@ -112,11 +112,11 @@ pub record Balanced (x y : Inside) : Type 0 where
   pub hall : IsHall y
   pub has : HasBalanced x.history.workers (events_in x) (events_in y)
 
-pub phase-balance : (x y : Inside) → IsHall x → IsBalanceDue (events_in x) → y.history.workers ≡ x.history.workers → IsBalancing x.history y.history x.seats y.seats → y.spots ≡ x.spots → y.starts ≡ x.starts → y.unclosed ≡ x.unclosed → y.tenants ≡ x.tenants → x.unclosed + out_in x.spots ≤ y.history.room → Balanced x y
-phase-balance x y hall due workers b spots starts unclosed tenants room =
+pub phase-balance : (x y : Inside) → IsHall x → IsBalanceDue (events_in x) → y.history.workers ≡ x.history.workers → IsBalancing x.history y.history x.seats y.seats → y.posted ≡ x.posted → y.spots ≡ x.spots → y.starts ≡ x.starts → y.unclosed ≡ x.unclosed → y.tenants ≡ x.tenants → x.unclosed + out_in x.spots ≤ y.history.room → Balanced x y
+phase-balance x y hall due workers b posted spots starts unclosed tenants room =
     let vs : List ℕ = b.volumes in
     let is : is_due x.seats ≡ true = due-is x hall due in
-    let grown = hall-balance x y vs hall is b.fair workers b.events b.seats spots starts unclosed tenants room in
+    let grown = hall-balance x y vs hall is b.fair workers b.events posted b.seats spots starts unclosed tenants room in
     record { hall = grown.hall; has = record { shares = shares_by vs x.seats; grown = grown.events; allowed = balance-allowed x.history.workers (events_in x) x.seats vs (hall-seated x hall) b.fair is } }
 
 -- a job's place is one of the seats
@@ -139,11 +139,11 @@ pub record Exchanges (x y : Inside) : Type 0 where
   pub hall : IsHall y
   pub has : HasExchanged x.history.workers (events_in x) (events_in y)
 
-pub phase-exchange : (x y : Inside) (at : ℕ) (s : Seat) → IsHall x → lives (states (events_in x)) ≡ balanced (events_in x) → IsFirst (events_in x) at → slice_get x.seats at ≡ Some s → y.history.workers ≡ x.history.workers → y.history.events ≡ x.history.events ++ of.Exchange s.job.titled.key.tenant s.job.titled.key.job ∷ [] → y.seats ≡ slice_set x.seats at (record s { job = and_own s.job Exchanged }) → y.spots ≡ x.spots → y.starts ≡ x.starts → y.unclosed ≡ x.unclosed → y.tenants ≡ x.tenants → x.unclosed + out_in x.spots ≤ y.history.room → Exchanges x y
-phase-exchange x y at s hall calm first sits workers events seats spots starts unclosed tenants room =
+pub phase-exchange : (x y : Inside) (at : ℕ) (s : Seat) → IsHall x → lives (states (events_in x)) ≡ balanced (events_in x) → IsFirst (events_in x) at → slice_get x.seats at ≡ Some s → y.history.workers ≡ x.history.workers → y.history.events ≡ x.history.events ++ of.Exchange s.job.titled.key.tenant s.job.titled.key.job ∷ [] → y.posted ≡ x.posted → y.seats ≡ slice_set x.seats at (record s { job = and_own s.job Exchanged }) → y.spots ≡ x.spots → y.starts ≡ x.starts → y.unclosed ≡ x.unclosed → y.tenants ≡ x.tenants → x.unclosed + out_in x.spots ≤ y.history.room → Exchanges x y
+phase-exchange x y at s hall calm first sits workers events posted seats spots starts unclosed tenants room =
     let same : s.job.titled ≡ first.job = job-seat x at first.job s hall first.place sits in
     let may : Allowed x.history.workers (events_in x) (Exchange s.job.titled.key) = (first.job, record { balance = calm; first = first.first; key = ap (λ (t : KeyedJob). t.key) (sym same) }) in
-    let grown = hall-exchange x y at s hall may sits workers events seats spots starts unclosed tenants room in
+    let grown = hall-exchange x y at s hall may sits workers events posted seats spots starts unclosed tenants room in
     record { hall = grown.hall; has = record { key = s.job.titled.key; grown = grown.events; allowed = may } }
 
 -- the seat of a node that may be started
@@ -200,8 +200,8 @@ set-seat [] n s t e = absurd (cc)
 set-seat (x ∷ xs) zero s t e = refl
 set-seat (x ∷ xs) (suc n) s t e = set-seat xs n s t e
 
-pub phase-start : (x y : Inside) (at index worker start : ℕ) (s : Seat) (lease : Leased) → IsHall x → CanStart x at index worker s → IsLeaseOf s.job index start worker lease → start ≡ x.starts + 1 → y.history.workers ≡ x.history.workers → y.history.events ≡ x.history.events ++ of.Start s.job.titled.key.tenant s.job.titled.key.job index worker ∷ [] → y.seats ≡ slice_set x.seats at (record s { job = and_start s.job index start }) → y.spots ≡ slice_set x.spots (worker - 1) (Some (record { job = at; index = index; start = start })) → y.starts ≡ start → y.unclosed ≡ x.unclosed → y.tenants ≡ x.tenants → x.unclosed + out_in x.spots + 1 ≤ y.history.room → HasBegun x y index worker lease
-phase-start x y at index worker start s lease hall can mine next workers events seats spots starts unclosed tenants room =
+pub phase-start : (x y : Inside) (at index worker start : ℕ) (s : Seat) (lease : Leased) → IsHall x → CanStart x at index worker s → IsLeaseOf s.job index start worker lease → start ≡ x.starts + 1 → y.history.workers ≡ x.history.workers → y.history.events ≡ x.history.events ++ of.Start s.job.titled.key.tenant s.job.titled.key.job index worker ∷ [] → y.posted ≡ x.posted → y.seats ≡ slice_set x.seats at (record s { job = and_start s.job index start }) → y.spots ≡ slice_set x.spots (worker - 1) (Some (record { job = at; index = index; start = start })) → y.starts ≡ start → y.unclosed ≡ x.unclosed → y.tenants ≡ x.tenants → x.unclosed + out_in x.spots + 1 ≤ y.history.room → HasBegun x y index worker lease
+phase-start x y at index worker start s lease hall can mine next workers events posted seats spots starts unclosed tenants room =
     record { hall = grown.hall; has = record { key = s.job.titled.key; grown = events_are; allowed = can.allowed; lease_is = lease_is } }
   where
     w : ℕ
@@ -220,7 +220,7 @@ phase-start x y at index worker start s lease hall can mine next workers events 
     after = reseated s (and_start s.job index start)
 
     grown : Grown x y (Start s.job.titled.key index (suc w) ∷ [])
-    grown = hall-start x y at s index w start hall can.seat low (subst (λ (v : ℕ). Allowed x.history.workers (events_in x) (Start s.job.titled.key index v)) some can.allowed) next workers (subst (λ (v : ℕ). y.history.events ≡ x.history.events ++ of.Start s.job.titled.key.tenant s.job.titled.key.job index v ∷ []) some events) seats spots starts unclosed tenants room
+    grown = hall-start x y at s index w start hall can.seat low (subst (λ (v : ℕ). Allowed x.history.workers (events_in x) (Start s.job.titled.key index v)) some can.allowed) next workers (subst (λ (v : ℕ). y.history.events ≡ x.history.events ++ of.Start s.job.titled.key.tenant s.job.titled.key.job index v ∷ []) some events) posted seats spots starts unclosed tenants room
 
     events_are : events_in y ≡ events_in x ++ Start s.job.titled.key index worker ∷ []
     events_are = subst (λ (v : ℕ). events_in y ≡ events_in x ++ Start s.job.titled.key index v ∷ []) (sym some) grown.events
@@ -324,12 +324,12 @@ may-finish x worker spot s (Some d) hall at may =
     let same : d.worker ≡ worker = may.belongs.0 ∙ may.worker_is in
     lease-back x.history.workers (events_in x) x.seats x.spots s spot d may.lease (hall-seated x hall).some_worker hall.bound (hall-seated x hall) (hall-spots x hall) at.seat (subst (λ (v : ℕ). IsAt (events_in x) (tags_of x.seats) v spot) (sym same) at.is) may.belongs.1
 
-pub phase-end : (x y : Inside) (worker : ℕ) (spot : Spot) (s : Seat) (outcome : Outcome) → IsHall x → SpotSeat x worker spot s → y.history.workers ≡ x.history.workers → y.history.events ≡ x.history.events ++ of.Finish s.job.titled.key.tenant s.job.titled.key.job spot.index worker outcome ∷ [] → y.seats ≡ slice_set x.seats spot.job (record s { job = and_own s.job (Done spot.index outcome) }) → y.spots ≡ slice_set x.spots (worker - 1) None → y.starts ≡ x.starts → y.unclosed ≡ x.unclosed → y.tenants ≡ x.tenants → y.history.room + 1 ≡ x.history.room → Ended x y worker outcome
-phase-end x y worker spot s outcome hall at workers events seats spots starts unclosed tenants room =
+pub phase-end : (x y : Inside) (worker : ℕ) (spot : Spot) (s : Seat) (outcome : Outcome) → IsHall x → SpotSeat x worker spot s → y.history.workers ≡ x.history.workers → y.history.events ≡ x.history.events ++ of.Finish s.job.titled.key.tenant s.job.titled.key.job spot.index worker outcome ∷ [] → y.posted ≡ x.posted → y.seats ≡ slice_set x.seats spot.job (record s { job = and_own s.job (Done spot.index outcome) }) → y.spots ≡ slice_set x.spots (worker - 1) None → y.starts ≡ x.starts → y.unclosed ≡ x.unclosed → y.tenants ≡ x.tenants → y.history.room + 1 ≡ x.history.room → Ended x y worker outcome
+phase-end x y worker spot s outcome hall at workers events posted seats spots starts unclosed tenants room =
     let w : ℕ = worker - 1 in
     let some : worker ≡ suc w = omega (arith, at.worker_is.low) in
     let held : lease_of worker (leases (events_in x)) ≡ Some (held_at s worker spot.index) = spot-held (events_in x) x.seats s worker spot at.seat at.is in
-    let grown = hall-finish x y spot.job s spot.index w outcome spot hall at.seat (subst (λ (v : ℕ). Allowed x.history.workers (events_in x) (Finish s.job.titled.key spot.index v outcome)) some held) at.taken workers (subst (λ (v : ℕ). y.history.events ≡ x.history.events ++ of.Finish s.job.titled.key.tenant s.job.titled.key.job spot.index v outcome ∷ []) some events) seats spots starts unclosed tenants room in
+    let grown = hall-finish x y spot.job s spot.index w outcome spot hall at.seat (subst (λ (v : ℕ). Allowed x.history.workers (events_in x) (Finish s.job.titled.key spot.index v outcome)) some held) at.taken workers (subst (λ (v : ℕ). y.history.events ≡ x.history.events ++ of.Finish s.job.titled.key.tenant s.job.titled.key.job spot.index v outcome ∷ []) some events) posted seats spots starts unclosed tenants room in
     record { hall = grown.hall; has = record { lease = held_at s worker spot.index; out = held; grown = subst (λ (v : ℕ). events_in y ≡ events_in x ++ Finish s.job.titled.key spot.index v outcome ∷ []) (sym some) grown.events } }
 
 -- there is room for a finish

@@ -1,3 +1,4 @@
+pub mod Contents
 pub mod HallView
 pub mod Offered
 pub mod Turned

@@ -1,6 +1,6 @@
 //! The hall and its calls.
 
-ghost use Rattle.std.specs.Prelude.{◌≡◌, ◌↔◌, ◌+◌, ◌-◌, ◌<◌, ◌≤◌, IsTrue, length, get_or, slice_get, slice_set, List, [], ◌∷◌, ◌++◌, true, false, Some, None, MatchOption, IsErrOf, map, option_map, is_some, OnOk, OnErr, IfOk, IfErr};
+ghost use Rattle.std.specs.Prelude.{◌≡◌, ◌↔◌, ◌+◌, ◌-◌, ◌<◌, ◌≤◌, IsTrue, length, get_or, slice_get, slice_set, List, [], ◌∷◌, ◌++◌, true, false, Some, None, MatchOption, IsErrOf, map, option_map, is_some, vec_len, vec_capacity, OnOk, OnErr, IfOk, IfErr};
 ghost use Rattle.std.specs.Option.{option_copied};
 ghost use Rattle.mal_base.specs.Asks.{IsAsk};
 ghost use Rattle.mal_base.specs.Names.{is_name};
@@ -48,6 +48,10 @@ use std::mem;
 #[derive(Drop)]
 pub struct Hall {
     history: History,
+    /// The revisions that were posted, in that order: the n-th is that of the history's n-th Revise, which is written
+    /// down without it. So the events are told by what was entered alone, and by no job. A revision shares its lists
+    /// with the one that its job has.
+    posted: Vec<Revision>,
     seats: Seats,
     spots: Vec<Option<Spot>>,
     starts: u64,
@@ -59,13 +63,14 @@ pub struct Hall {
 impl Model for Hall {
     ghost use Rattle.std.specs.Prelude.{map, option_map};
     ghost use Rattle.mal_hall.specs.Offered.{handed_of};
-    ghost use Rattle.mal_hall.specs.HallView.{HallView, IsHall, events_of};
+    ghost use Rattle.mal_hall.specs.Contents.{with_posted};
+    ghost use Rattle.mal_hall.specs.HallView.{HallView, IsHall};
 
     ghost Value = { HallView };
 
-    ghost view = { λ h. record { workers = h.history.workers; events = events_of h.history.events h.seats; inside = map (option_map handed_of) h.lodged.items } };
+    ghost view = { λ h. record { workers = h.history.workers; events = with_posted h.history.events h.posted.items; inside = map (option_map handed_of) h.lodged.items } };
 
-    ghost invariant = { λ h. IsHall (record { history = h.history; seats = h.seats; spots = h.spots.items; starts = h.starts; unclosed = h.unclosed; tenants = h.tenants }) };
+    ghost invariant = { λ h. IsHall (record { history = h.history; posted = h.posted.items; seats = h.seats; spots = h.spots.items; starts = h.starts; unclosed = h.unclosed; tenants = h.tenants }) };
 }
 
 impl Hall {
@@ -79,6 +84,7 @@ impl Hall {
     {
         Ok(Hall {
             history: History::new(alloc, workers),
+            posted: Vec::new(alloc),
             seats: Seats::new(alloc),
             spots: no_spots(alloc, workers)?,
             starts: 0,
@@ -135,6 +141,9 @@ impl Hall {
             return Err(ReviseFault::NoJob);
         };
         let number = next_number(self.seats.at(at).job(), &revision)?;
+        let Ok(kept) = kept_for(&mut self.posted, &revision) else {
+            return Err(ReviseFault::OutOfMemory);
+        };
         let owed = owed(&self.seats, self.unclosed, &self.spots);
         match self.history.reserve(owed + 1) {
             Ok(()) => {}
@@ -149,6 +158,7 @@ impl Hall {
             job: *job,
             number,
         });
+        self.posted.push_reserved(kept);
         Ok(())
     }
 
@@ -605,6 +615,16 @@ impl Hall {
     {
         mem::replace(&mut self.lodged[worker as usize - 1], None)
     }
+}
+
+/// A revision to be kept behind those that were posted, for which there is room then.
+fn kept_for(posted: &mut Vec<Revision>, revision: &Revision) -> Result<Revision, AllocError>
+    ensures same { posted.new.items ≡ posted.old.items }
+    ensures kept { IfOk result (λ r. r ≡ revision.now) }
+    ensures room { OnOk result (vec_len posted.new < vec_capacity posted.new) }
+{
+    posted.reserve(1)?;
+    revision.copy()
 }
 
 /// What the types of names and asks keep.

@@ -105,6 +105,12 @@ impl Trial {
         Ok(lease.ok_or("no lease")?.work(&mut Scratch::new(self.alloc)))
     }
 
+    /// What came of the lease that a worker gets, whose start wants for memory.
+    fn starved(&mut self, worker: u32) -> Result<Done, Fail> {
+        let (_told, lease) = self.pick(worker)?;
+        Ok(lease.ok_or("no lease")?.starved())
+    }
+
     /// Gives back what came of a lease: none where it is taken back, or else the number of the start that its worker
     /// has out.
     fn give(&mut self, done: Done) -> Option<Option<u64>> {
@@ -399,6 +405,21 @@ fn a_lease_that_was_recalled_is_strange(rt: HostRuntime) -> Result<(), Fail> {
     let known =
         b"h mal 1 1\no a p 1 1 4\nr a p 1\nc a p\nb a p 1\ns a p 0 1\nf a p 0 1 lost\ns a p 0 1\nf a p 0 1 ran\n";
     assert_eq!(rt; text.as_slice(), known.as_slice());
+    Ok(())
+}
+
+#[test]
+fn three_starts_that_starve_leave_a_revision_unknown(rt: HostRuntime) -> Result<(), Fail> {
+    let mut trial = with_one_job(rt.alloc(), 1)?;
+    for _ in 0..3 {
+        assert!(rt; trial.reply(b"a", b"p", 1)?.is_none());
+        let done = trial.starved(1)?;
+        assert_eq!(rt; trial.give(done), None);
+    }
+    let reply = trial.reply(b"a", b"p", 1)?.ok_or("no reply")?;
+    let known = b"r a p 1\ns UNKNOWN\nu starved 3\n";
+    assert_eq!(rt; reply.as_slice(), known.as_slice());
+    assert_eq!(rt; trial.told(1)?, Told::AllDone);
     Ok(())
 }
 

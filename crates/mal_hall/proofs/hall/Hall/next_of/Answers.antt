@@ -1,7 +1,7 @@
 use Rattle.std.proofs.Common.{ap, length, sym, ◌+◌, ◌∙◌, arith}
 use Rattle.std.proofs.lemmas.List.{length-map}
 use Rattle.spec_hall.specs.Dressed.{keyed}
-use Rattle.mal_hall.specs.HallView.{events_of}
+use Rattle.mal_hall.specs.Contents.{with_posted}
 use Rattle.mal_hall.proofs.ApplyLemmas.{next-none}
 use Rattle.mal_hall.proofs.HallLemmas.{hall-absent, hall-found, hall-next, placed, placed-below, sits}
 use Rattle.mal_hall.proofs.hall.Hall.next_of.Goals as goal
@@ -9,7 +9,7 @@ use Rattle.mal_hall.proofs.hall.Hall.next_of.Goals as goal
 pub returns-in_default : goal.returns-in_default
 returns-in_default c =
     let none = hall-absent _ _ c.self.invariant (placed c.self.inside.seats (keyed c.args.tenant.now c.args.job.now) _ _ c.place_of.ensures c.in_default.is) in
-    rw (← c.self.view_is) (next-none (events_of c.self.inside.history.events c.self.inside.seats) (keyed c.args.tenant.now c.args.job.now) none)
+    rw (← c.self.view_is) (next-none (with_posted c.self.inside.history.events c.self.inside.posted.items) (keyed c.args.tenant.now c.args.job.now) none)
 
 pub at-requires : goal.at-requires
 at-requires c = omega (arith, placed-below c.self.inside.seats (keyed c.args.tenant.now c.args.job.now) _ _ c.place_of.ensures c.in-Some.is)
