@@ -11,8 +11,9 @@ pub record Device : Type 0 where
   pub faults : ℕ
   pub faults_now : ℕ
 
-abbrev pub device : Option (List ℕ) → Option (List ℕ) → ℕ → ℕ → Device
-device bytes bytes_now faults faults_now = record { bytes = bytes; bytes_now = bytes_now; faults = faults; faults_now = faults_now }
+-- the same, by how a device of its kind tells its bytes and its faults
+abbrev pub device : {A : Type 0} → (A → Option (List ℕ)) → (A → ℕ) → A → A → Device
+device bytes faults before now = record { bytes = bytes before; bytes_now = bytes now; faults = faults before; faults_now = faults now }
 
 -- its count of faults rose
 abbrev pub Failed : Device → Type 0

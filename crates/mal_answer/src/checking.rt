@@ -19,7 +19,7 @@ use std::alloc::{AllocError, Global};
 /// Checks the proof of the claim that `source` gives.
 #[tactic(auto, using(crate::proofs::Serving::answer_lemmas))]
 pub fn check_source<S: Source>(alloc: Global, source: &mut S) -> Result<Texts, Complaint>
-    ensures { IsAnswer Check (device (S.left source.old) (S.left source.new) (S.faults source.old) (S.faults source.new)) result }
+    ensures { IsAnswer Check (device S.left S.faults source.old source.new) result }
 {
     match input(alloc, source) {
         Ok(text) => check_text(alloc, text.as_slice()),

@@ -16,8 +16,8 @@ const LIMIT: u32 = 67_108_864;
 /// Errors: `Unread` only where the source failed, `TooLong` exactly where one byte more than the limit was taken,
 /// `OutOfMemory` at any time.
 pub fn input<S: Source>(alloc: Global, source: &mut S) -> Result<Vec<u8>, Complaint>
-    ensures gave { IfOk result (λ v. Gave (device (S.left source.old) (S.left source.new) (S.faults source.old) (S.faults source.new)) v.items) }
-    ensures unread { IfErr result (λ e. IsUnread (device (S.left source.old) (S.left source.new) (S.faults source.old) (S.faults source.new)) e) }
+    ensures gave { IfOk result (λ v. Gave (device S.left S.faults source.old source.new) v.items) }
+    ensures unread { IfErr result (λ e. IsUnread (device S.left S.faults source.old source.new) e) }
 {
     match read_all(alloc, source, LIMIT) {
         Ok(text) => Ok(text),

@@ -52,12 +52,12 @@ pub fn top<R: Threads + Wait + Sync, S: Source, K: Sink, L: Sink, G: Gate>(
     gate: &G,
 ) -> u8
     // What the words ask for is done, and the status says how far.
-    ensures done { (r : Request) → Means (map string_bytes words.now) r → HasDone r (device (S.left source.old) (S.left source.new) (S.faults source.old) (S.faults source.new)) (device (L.got log.old) (L.got log.new) (L.faults log.old) (L.faults log.new)) (device (K.got out.old) (K.got out.new) (K.faults out.old) (K.faults out.new)) result }
+    ensures done { (r : Request) → Means (map string_bytes words.now) r → HasDone r (device S.left S.faults source.old source.new) (device L.got L.faults log.old log.new) (device K.got K.faults out.old out.new) result }
     // Status 2 comes only where the words ask for nothing, and there nothing else comes, unless memory runs out.
     ensures usage { result ≡ 2 → MeansNothing (map string_bytes words.now) }
     ensures refuses { MeansNothing (map string_bytes words.now) → (result ≡ 2) ⊎ (result ≡ 6) }
-    ensures usage_line { result ≡ 2 → Complained (device (L.got log.old) (L.got log.new) (L.faults log.old) (L.faults log.new)) (device (K.got out.old) (K.got out.new) (K.faults out.old) (K.faults out.new)) usage_line }
-    ensures silent { result ≡ 6 → AreSilent (device (L.got log.old) (L.got log.new) (L.faults log.old) (L.faults log.new)) (device (K.got out.old) (K.got out.new) (K.faults out.old) (K.faults out.new)) }
+    ensures usage_line { result ≡ 2 → Complained (device L.got L.faults log.old log.new) (device K.got K.faults out.old out.new) usage_line }
+    ensures silent { result ≡ 6 → AreSilent (device L.got L.faults log.old log.new) (device K.got K.faults out.old out.new) }
     // The source is as before where the words ask for nothing, and where they ask for a script that is made.
     ensures unread { MeansNothing (map string_bytes words.now) → source.new ≡ source.old }
     ensures made_unread { (r : Request) → Means (map string_bytes words.now) r → ReadsNothing r → source.new ≡ source.old }
@@ -83,7 +83,7 @@ fn serve<R: Threads + Wait + Sync, S: Source, K: Sink, L: Sink, G: Gate>(
     gate: &G,
 ) -> u8
     requires { IsRequest request }
-    ensures done { HasDone request (device (S.left source.old) (S.left source.new) (S.faults source.old) (S.faults source.new)) (device (L.got log.old) (L.got log.new) (L.faults log.old) (L.faults log.new)) (device (K.got out.old) (K.got out.new) (K.faults out.old) (K.faults out.new)) result }
+    ensures done { HasDone request (device S.left S.faults source.old source.new) (device L.got L.faults log.old log.new) (device K.got K.faults out.old out.new) result }
     ensures made_unread { ReadsNothing request → source.new ≡ source.old }
 {
     match request {
@@ -112,7 +112,7 @@ fn serve_run<R: Threads + Wait + Sync, S: Source, K: Sink, L: Sink, G: Gate>(
 ) -> u8
     requires some { 1 ≤ workers }
     requires bound { workers ≤ 64 }
-    ensures { HasServed (Run workers) (device (S.left source.old) (S.left source.new) (S.faults source.old) (S.faults source.new)) (device (L.got log.old) (L.got log.new) (L.faults log.old) (L.faults log.new)) (device (K.got out.old) (K.got out.new) (K.faults out.old) (K.faults out.new)) result }
+    ensures { HasServed (Run workers) (device S.left S.faults source.old source.new) (device L.got L.faults log.old log.new) (device K.got K.faults out.old out.new) result }
 {
     if workers == 1 {
         return serve_alone(alloc, source, out, log);
@@ -128,7 +128,7 @@ fn serve_alone<S: Source, K: Sink, L: Sink>(
     out: &mut K,
     log: &mut L,
 ) -> u8
-    ensures { HasServed (Run 1) (device (S.left source.old) (S.left source.new) (S.faults source.old) (S.faults source.new)) (device (L.got log.old) (L.got log.new) (L.faults log.old) (L.faults log.new)) (device (K.got out.old) (K.got out.new) (K.faults out.old) (K.faults out.new)) result }
+    ensures { HasServed (Run 1) (device S.left S.faults source.old source.new) (device L.got L.faults log.old log.new) (device K.got K.faults out.old out.new) result }
 {
     conclude(run_source_alone(alloc, source), out, log)
 }
@@ -141,7 +141,7 @@ fn serve_check<S: Source, K: Sink, L: Sink>(
     out: &mut K,
     log: &mut L,
 ) -> u8
-    ensures { HasServed Check (device (S.left source.old) (S.left source.new) (S.faults source.old) (S.faults source.new)) (device (L.got log.old) (L.got log.new) (L.faults log.old) (L.faults log.new)) (device (K.got out.old) (K.got out.new) (K.faults out.old) (K.faults out.new)) result }
+    ensures { HasServed Check (device S.left S.faults source.old source.new) (device L.got L.faults log.old log.new) (device K.got K.faults out.old out.new) result }
 {
     conclude(check_source(alloc, source), out, log)
 }
@@ -154,7 +154,7 @@ fn serve_replay<S: Source, K: Sink, L: Sink>(
     out: &mut K,
     log: &mut L,
 ) -> u8
-    ensures { HasServed Replay (device (S.left source.old) (S.left source.new) (S.faults source.old) (S.faults source.new)) (device (L.got log.old) (L.got log.new) (L.faults log.old) (L.faults log.new)) (device (K.got out.old) (K.got out.new) (K.faults out.old) (K.faults out.new)) result }
+    ensures { HasServed Replay (device S.left S.faults source.old source.new) (device L.got L.faults log.old log.new) (device K.got K.faults out.old out.new) result }
 {
     conclude(replay_source(alloc, source), out, log)
 }
@@ -171,7 +171,7 @@ fn make_script<K: Sink, L: Sink>(
     requires seed { seed < 2 ^ 31 }
     requires some { 1 ≤ jobs }
     requires bound { jobs ≤ 256 }
-    ensures { HasMade (Generate seed jobs) (device (L.got log.old) (L.got log.new) (L.faults log.old) (L.faults log.new)) (device (K.got out.old) (K.got out.new) (K.faults out.old) (K.faults out.new)) result }
+    ensures { HasMade (Generate seed jobs) (device L.got L.faults log.old log.new) (device K.got K.faults out.old out.new) result }
 {
     conclude(generated(alloc, seed, jobs), out, log)
 }
@@ -193,7 +193,7 @@ fn make_run<R: Threads + Wait + Sync, K: Sink, L: Sink, G: Gate>(
     requires bound { jobs ≤ 256 }
     requires some_workers { 1 ≤ workers }
     requires workers_bound { workers ≤ 64 }
-    ensures { HasMade (RunGenerated seed jobs workers) (device (L.got log.old) (L.got log.new) (L.faults log.old) (L.faults log.new)) (device (K.got out.old) (K.got out.new) (K.faults out.old) (K.faults out.new)) result }
+    ensures { HasMade (RunGenerated seed jobs workers) (device L.got L.faults log.old log.new) (device K.got K.faults out.old out.new) result }
 {
     if workers == 1 {
         return make_run_alone(alloc, seed, jobs, out, log);
@@ -217,7 +217,7 @@ fn make_run_alone<K: Sink, L: Sink>(
     requires seed { seed < 2 ^ 31 }
     requires some { 1 ≤ jobs }
     requires bound { jobs ≤ 256 }
-    ensures { HasMade (RunGenerated seed jobs 1) (device (L.got log.old) (L.got log.new) (L.faults log.old) (L.faults log.new)) (device (K.got out.old) (K.got out.new) (K.faults out.old) (K.faults out.new)) result }
+    ensures { HasMade (RunGenerated seed jobs 1) (device L.got L.faults log.old log.new) (device K.got K.faults out.old out.new) result }
 {
     conclude(run_generated_alone(alloc, seed, jobs), out, log)
 }

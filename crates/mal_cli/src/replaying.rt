@@ -22,7 +22,7 @@ use std::alloc::{AllocError, Global};
 /// Replays the history that `source` gives behind its script.
 #[tactic(auto, using(crate::proofs::Rules::answer_lemmas))]
 pub fn replay_source<S: Source>(alloc: Global, source: &mut S) -> Result<Texts, Complaint>
-    ensures { IsAnswer Replay (device (S.left source.old) (S.left source.new) (S.faults source.old) (S.faults source.new)) result }
+    ensures { IsAnswer Replay (device S.left S.faults source.old source.new) result }
 {
     match input(alloc, source) {
         Ok(text) => replay_text(alloc, text.as_slice()),

@@ -21,7 +21,7 @@ use std::thread::Threads;
 /// Runs the script that `source` gives with one worker.
 #[tactic(auto, using(crate::proofs::Rules::answer_lemmas))]
 pub fn run_source_alone<S: Source>(alloc: Global, source: &mut S) -> Result<Texts, Complaint>
-    ensures { IsAnswer (Run 1) (device (S.left source.old) (S.left source.new) (S.faults source.old) (S.faults source.new)) result }
+    ensures { IsAnswer (Run 1) (device S.left S.faults source.old source.new) result }
 {
     match input(alloc, source) {
         Ok(text) => run_text_alone(alloc, text.as_slice()),
@@ -40,7 +40,7 @@ pub fn run_source<R: Threads + Wait + Sync, S: Source, G: Gate>(
 ) -> Result<Texts, Complaint>
     requires some { 1 ≤ workers }
     requires bound { workers ≤ 64 }
-    ensures { IsAnswer (Run workers) (device (S.left source.old) (S.left source.new) (S.faults source.old) (S.faults source.new)) result }
+    ensures { IsAnswer (Run workers) (device S.left S.faults source.old source.new) result }
 {
     match input(alloc, source) {
         Ok(text) => run_text(rt, alloc, workers, text.as_slice(), gate),
