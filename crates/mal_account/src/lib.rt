@@ -10,6 +10,3 @@ pub use account::Account;
 pub use fault::AccountFault;
 pub use reading::read;
 pub use telling::fault_line;
-
-#[cfg(test)]
-mod tests;

@@ -3,7 +3,5 @@
 
 mod buffer;
 mod order;
-#[cfg(test)]
-mod tests;
 
 pub use buffer::Buffer;

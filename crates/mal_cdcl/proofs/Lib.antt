@@ -1,12 +1,12 @@
+-- what crates above cite
+pub mod HeldCountLemmas
 -- what this crate alone cites
 mod OriginalLemmas
-mod HeldCountLemmas
 mod FillLemmas
 mod NeedLemmas
 mod PickLemmas
 mod TellingLemmas
 mod ImportingLemmas
-mod SingleLemmas
 mod StepLemmas
 mod ImageLemmas
 mod DeriveLemmas

@@ -4,4 +4,3 @@ pub mod Ready
 pub mod Rising
 pub mod Sliced
 pub mod Importing
-pub mod Single

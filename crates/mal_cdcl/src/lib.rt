@@ -12,10 +12,3 @@ mod open;
 mod restart;
 
 pub use node::Node;
-
-#[cfg(test)]
-mod core_tests;
-#[cfg(test)]
-mod import_tests;
-#[cfg(test)]
-mod tests;

@@ -17,8 +17,3 @@ pub use fault::ClaimFault;
 pub use proof_reading::{NumberedLine, ProofFault, read_proof};
 pub use reading::read;
 pub use telling::{fault_line, verdict_line};
-
-#[cfg(test)]
-mod proof_tests;
-#[cfg(test)]
-mod tests;

@@ -15,6 +15,3 @@ pub use mal_base::BlockFault;
 pub use reading::read;
 pub use words::{is_comment, is_passed};
 pub use writing::{put_block, put_closed, write};
-
-#[cfg(test)]
-mod tests;

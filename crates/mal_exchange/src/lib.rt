@@ -2,7 +2,5 @@
 #![tactic(auto)]
 
 mod climbing;
-#[cfg(test)]
-mod tests;
 
 pub use climbing::up;

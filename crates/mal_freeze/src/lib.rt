@@ -18,8 +18,3 @@ pub use laws::{fresh_bytes, read_is_spelled, sound_has_image, spelled_is_read};
 pub use parts::Parts;
 pub use thawing::{thaw, thaw_known};
 pub use writing::freeze;
-
-#[cfg(test)]
-mod codec_tests;
-#[cfg(test)]
-mod tests;

@@ -18,6 +18,3 @@ pub use laws::{histories_differ, reading_examples, spelled_is_read, written_is_r
 pub use owned::own;
 pub use reading::read;
 pub use writing::write;
-
-#[cfg(test)]
-mod tests;

@@ -13,6 +13,3 @@ pub use device::{Failed, Sink, Source};
 pub use memory::{MemSink, MemSource};
 pub use standard::{StdSink, StdSource};
 pub use whole::{ReadAllError, WriteFault, read_all, write_all};
-
-#[cfg(test)]
-mod tests;

@@ -11,6 +11,3 @@ pub use fault::LineFault;
 pub use line::Line;
 pub use reading::read_line;
 pub use writing::{put_added, put_lits, write_line};
-
-#[cfg(test)]
-mod tests;

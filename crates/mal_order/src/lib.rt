@@ -6,6 +6,3 @@ mod order;
 mod ring;
 
 pub use order::Order;
-
-#[cfg(test)]
-mod tests;

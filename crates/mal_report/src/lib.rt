@@ -4,6 +4,3 @@
 mod replies;
 
 pub use replies::{Cause, satisfiable, unknown, unsatisfiable};
-
-#[cfg(test)]
-mod tests;

@@ -68,28 +68,3 @@ fn value(model: &[bool], var: Var) -> bool
         None => false,
     }
 }
-
-#[cfg(test)]
-mod tests {
-    use super::*;
-    use std::test::Fail;
-
-    fn lit(number: i32) -> Result<Lit, Fail> {
-        Ok(Lit::of_dimacs(number).ok_or("no literal")?)
-    }
-
-    #[test]
-    fn each_clause_and_each_assumption_counts(rt: HostRuntime) -> Result<(), Fail> {
-        let mut clauses = Vec::new(rt.alloc());
-        clauses.push(Clause::of_lits(rt.alloc(), &[lit(1)?, lit(2)?])?)?;
-        clauses.push(Clause::of_lits(rt.alloc(), &[lit(2)?, lit(-2)?])?)?;
-        clauses.push(Clause::of_lits(rt.alloc(), &[lit(-1)?])?)?;
-        let formula = Formula::new(3, clauses).ok_or("no formula")?;
-        assert!(rt; satisfies(&formula, &[], &[false, true, false]));
-        assert!(rt; satisfies(&formula, &[lit(-3)?, lit(2)?], &[false, true]));
-        assert!(rt; !satisfies(&formula, &[lit(3)?], &[false, true]));
-        assert!(rt; !satisfies(&formula, &[], &[true, true, true]));
-        assert!(rt; !satisfies(&formula, &[], &[]));
-        Ok(())
-    }
-}

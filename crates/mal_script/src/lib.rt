@@ -21,6 +21,3 @@ pub use reading::read;
 pub use script::{Script, ScriptJob};
 pub use telling::{fault_line, line_fault_line};
 pub use writing::write;
-
-#[cfg(test)]
-mod tests;

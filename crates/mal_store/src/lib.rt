@@ -7,6 +7,3 @@ mod store;
 
 pub use ids::is_among;
 pub use store::Store;
-
-#[cfg(test)]
-mod tests;

@@ -3,6 +3,4 @@ mod ReplayLemmas
 mod StartLemmas
 mod EntryLemmas
 mod RebuildLemmas
-mod FirstLemmas
 mod FormLemmas
-mod GoingLemmas

@@ -3,4 +3,3 @@ pub mod Entries
 pub mod Starting
 pub mod Kept
 pub mod Freezing
-pub mod Going

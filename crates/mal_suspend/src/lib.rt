@@ -4,25 +4,15 @@
 
 mod done;
 mod entries;
-#[cfg(test)]
-mod entries_tests;
 mod entry;
 mod frozen;
-#[cfg(test)]
-mod going;
-#[cfg(test)]
-mod going_tests;
 mod journal;
 mod kept;
 mod lease;
-#[cfg(test)]
-mod lease_tests;
 mod lending;
 mod rebuilding;
 mod start;
 mod suspended;
-#[cfg(test)]
-mod tests;
 
 pub use done::Done;
 pub use entries::Entries;

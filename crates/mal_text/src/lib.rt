@@ -8,6 +8,3 @@ pub mod write;
 pub use numbers::{NumberFault, magnitude, number};
 pub use read::{first_line, first_word, words};
 pub use write::{end_line, put_line, put_number, put_word};
-
-#[cfg(test)]
-mod tests;

@@ -10,6 +10,3 @@ pub use batch::{handle_clause, handle_literal};
 pub use engine::Engine;
 pub use listed::Listed;
 pub use trail::Trail;
-
-#[cfg(test)]
-mod tests;

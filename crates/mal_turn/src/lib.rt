@@ -5,8 +5,6 @@ mod holding;
 mod rule;
 mod steps;
 mod table;
-#[cfg(test)]
-mod tests;
 mod turn;
 mod waiting;
 

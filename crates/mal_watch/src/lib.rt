@@ -11,6 +11,3 @@ mod watch;
 mod watch_lists;
 
 pub use watch::Watch;
-
-#[cfg(test)]
-mod tests;

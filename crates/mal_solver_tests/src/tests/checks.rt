@@ -1,29 +1,11 @@
 //! Checkers whose answers are known.
 
-use mal_base::{Clause, ClauseId, Formula, Lit};
+use super::values::{clause, id, lits};
+use mal_base::Formula;
 use mal_check::{CheckFault, Checker};
 use mal_lrat::read_line;
 use std::alloc::Global;
 use std::test::Fail;
-
-fn id(number: u64) -> Result<ClauseId, Fail> {
-    Ok(ClauseId::of(number).ok_or("no id")?)
-}
-
-/// The literals that DIMACS CNF writes as these numbers.
-fn lits(alloc: Global, numbers: &[i32]) -> Result<Vec<Lit>, Fail> {
-    let mut lits = Vec::new(alloc);
-    for number in numbers {
-        lits.push(Lit::of_dimacs(*number).ok_or("no literal")?)?;
-    }
-    Ok(lits)
-}
-
-/// The clause of these literals, none for a tautology.
-fn clause(alloc: Global, numbers: &[i32]) -> Result<Option<Clause>, Fail> {
-    let lits = lits(alloc, numbers)?;
-    Ok(Clause::of_lits(alloc, lits.as_slice())?)
-}
 
 /// The formula of these clauses over two variables.
 fn formula(alloc: Global, clauses: &[&[i32]]) -> Result<Formula, Fail> {

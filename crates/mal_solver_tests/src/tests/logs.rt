@@ -1,27 +1,20 @@
 //! Logs whose trimmed proofs are known.
 
-ghost use Rattle.std.specs.Prelude.{◌≢◌, ◌<◌, ◌^◌, IsTrue, All};
+ghost use Rattle.std.specs.Prelude.{◌≢◌, IsTrue, All};
 ghost use Rattle.spec_proof.specs.Log.{IsAbove};
 
+use super::values::{id, lits};
 use mal_base::{ClauseId, Lines, Lit};
+use mal_lrat::put_added;
 use mal_proof::{Log, renumber};
 use std::alloc::Global;
 use std::test::Fail;
-
-/// The literals that DIMACS CNF writes as these numbers.
-fn lits(alloc: Global, numbers: &[i32]) -> Result<Vec<Lit>, Fail> {
-    let mut lits = Vec::new(alloc);
-    for number in numbers {
-        lits.push(Lit::of_dimacs(*number).ok_or("no literal")?)?;
-    }
-    Ok(lits)
-}
 
 /// The clauses of these numbers.
 fn ids(alloc: Global, numbers: &[u64]) -> Result<Vec<ClauseId>, Fail> {
     let mut ids = Vec::new(alloc);
     for number in numbers {
-        ids.push(ClauseId::of(*number).ok_or("no number")?)?;
+        ids.push(id(*number)?)?;
     }
     Ok(ids)
 }
@@ -49,11 +42,11 @@ fn is_above(id: ClauseId, lits: &[Lit], hints: &[ClauseId]) -> bool
 fn enter(
     alloc: Global,
     log: &mut Log,
-    id: u64,
+    number: u64,
     numbers: &[i32],
     hints: &[u64],
 ) -> Result<(), Fail> {
-    let id = ClauseId::of(id).ok_or("no number")?;
+    let id = id(number)?;
     let lits = lits(alloc, numbers)?;
     let hints = ids(alloc, hints)?;
     if !is_fresh(log, id) || !is_above(id, lits.as_slice(), hints.as_slice()) {
@@ -64,89 +57,76 @@ fn enter(
     Ok(())
 }
 
-/// Whether a line has this number, these literals and these hints.
-fn is_line(
-    alloc: Global,
-    lines: &Lines,
-    n: usize,
-    id: u64,
-    numbers: &[i32],
-    hints: &[u64],
-) -> Result<bool, Fail> {
-    if n >= lines.count() {
-        return Ok(false);
+/// The log of these lines.
+fn entered(alloc: Global, lines: &[(u64, &[i32], &[u64])]) -> Result<Log, Fail> {
+    let mut log = Log::new(alloc);
+    for (number, numbers, hints) in lines {
+        enter(alloc, &mut log, *number, numbers, hints)?;
     }
-    let lits = lits(alloc, numbers)?;
-    let hints = ids(alloc, hints)?;
-    Ok(
-        lines.id(n).number() == id
-            && lines.lits(n) == lits.as_slice()
-            && lines.hints(n) == hints.as_slice(),
-    )
+    Ok(log)
 }
 
 /// What is trimmed of a log for a goal, numbered behind so many original clauses.
-fn proof(alloc: Global, log: &Log, goal: u64, m: u64) -> Result<Lines, Fail>
-    requires { m < 2 ^ 32 }
-{
-    let lines = log.trim(ClauseId::of(goal).ok_or("no number")?)?;
-    Ok(renumber(alloc, &lines, m)?)
+fn proof(alloc: Global, log: &Log, goal: u64, originals: u64) -> Result<Lines, Fail> {
+    if originals >= 1 << 32 {
+        return Err("many originals".into());
+    }
+    let lines = log.trim(id(goal)?)?;
+    Ok(renumber(alloc, &lines, originals)?)
+}
+
+/// The text of lines, as a proof has them.
+fn text_of(alloc: Global, lines: &Lines) -> Result<Vec<u8>, Fail> {
+    let mut text = Vec::new(alloc);
+    for n in 0..lines.count() {
+        put_added(&mut text, lines.id(n), lines.lits(n), lines.hints(n))?;
+    }
+    Ok(text)
 }
 
 const FIRST: u64 = 1 << 32;
 
+/// The lines of a log, its goal, the number of original clauses, and the proof: of four clauses, of both signs of a
+/// variable, and of an empty original.
+const PROOFS: [(&[(u64, &[i32], &[u64])], u64, u64, &[u8]); 3] = [
+    (
+        &[(FIRST, &[1], &[1, 2]), (FIRST + 64, &[], &[FIRST, 3, 4])],
+        FIRST + 64,
+        4,
+        b"5 1 0 1 2 0\n6 0 5 3 4 0\n",
+    ),
+    (&[(FIRST, &[], &[1, 2])], FIRST, 2, b"3 0 1 2 0\n"),
+    (&[(FIRST, &[], &[1])], FIRST, 1, b"2 0 1 0\n"),
+];
+
 #[test]
-fn four_clauses_take_two_lines(rt: HostRuntime) -> Result<(), Fail> {
-    let alloc = rt.alloc();
-    let mut log = Log::new(alloc);
-    enter(alloc, &mut log, FIRST, &[1], &[1, 2])?;
-    enter(alloc, &mut log, FIRST + 64, &[], &[FIRST, 3, 4])?;
-    let lines = proof(alloc, &log, FIRST + 64, 4)?;
-    assert_eq!(rt; lines.count(), 2);
-    assert!(rt; is_line(alloc, &lines, 0, 5, &[1], &[1, 2])?);
-    assert!(rt; is_line(alloc, &lines, 1, 6, &[], &[5, 3, 4])?);
+fn a_proof_has_the_lines_that_are_needed(rt: HostRuntime) -> Result<(), Fail> {
+    for (lines, goal, originals, known) in PROOFS {
+        let log = entered(rt.alloc(), lines)?;
+        let proof = proof(rt.alloc(), &log, goal, originals)?;
+        assert_eq!(rt; text_of(rt.alloc(), &proof)?.as_slice(), known);
+    }
     Ok(())
 }
 
-#[test]
-fn both_signs_of_a_variable_take_one_line(rt: HostRuntime) -> Result<(), Fail> {
-    let alloc = rt.alloc();
-    let mut log = Log::new(alloc);
-    enter(alloc, &mut log, FIRST, &[], &[1, 2])?;
-    let lines = proof(alloc, &log, FIRST, 2)?;
-    assert_eq!(rt; lines.count(), 1);
-    assert!(rt; is_line(alloc, &lines, 0, 3, &[], &[1, 2])?);
-    Ok(())
-}
-
-#[test]
-fn an_empty_original_takes_one_line(rt: HostRuntime) -> Result<(), Fail> {
-    let alloc = rt.alloc();
-    let mut log = Log::new(alloc);
-    enter(alloc, &mut log, FIRST, &[], &[1])?;
-    let lines = proof(alloc, &log, FIRST, 1)?;
-    assert_eq!(rt; lines.count(), 1);
-    assert!(rt; is_line(alloc, &lines, 0, 2, &[], &[1])?);
-    Ok(())
-}
+/// Lines of two solvers, two of which no line needs.
+const MIXED: &[(u64, &[i32], &[u64])] = &[
+    (FIRST + 65, &[2], &[1, 3]),
+    (FIRST + 64, &[-2, 3], &[7]),
+    (FIRST, &[1], &[1, 2]),
+    (FIRST + 129, &[-1], &[FIRST + 65, 4]),
+    (FIRST + 128, &[], &[FIRST, FIRST + 65, 4]),
+];
 
 #[test]
 fn lines_of_two_solvers_rise_and_others_stay_out(rt: HostRuntime) -> Result<(), Fail> {
-    let alloc = rt.alloc();
-    let mut log = Log::new(alloc);
-    enter(alloc, &mut log, FIRST + 65, &[2], &[1, 3])?;
-    enter(alloc, &mut log, FIRST + 64, &[-2, 3], &[7])?;
-    enter(alloc, &mut log, FIRST, &[1], &[1, 2])?;
-    enter(alloc, &mut log, FIRST + 129, &[-1], &[FIRST + 65, 4])?;
-    enter(alloc, &mut log, FIRST + 128, &[], &[FIRST, FIRST + 65, 4])?;
-    let goal = ClauseId::of(FIRST + 128).ok_or("no number")?;
-    let lines = log.trim(goal)?;
-    assert_eq!(rt; lines.count(), 3);
-    assert!(rt; is_line(alloc, &lines, 0, FIRST, &[1], &[1, 2])?);
-    assert!(rt; is_line(alloc, &lines, 1, FIRST + 65, &[2], &[1, 3])?);
-    assert!(rt; is_line(alloc, &lines, 2, FIRST + 128, &[], &[FIRST, FIRST + 65, 4])?);
-    let none = log.trim(ClauseId::original(7))?;
-    assert_eq!(rt; none.count(), 0);
+    let log = entered(rt.alloc(), MIXED)?;
+    let lines = log.trim(id(FIRST + 128)?)?;
+    assert_eq!(rt;
+        text_of(rt.alloc(), &lines)?.as_slice(),
+        b"4294967296 1 0 1 2 0\n4294967361 2 0 1 3 0\n4294967424 0 4294967296 4294967361 4 0\n".as_slice()
+    );
+    assert_eq!(rt; log.trim(id(7)?)?.count(), 0);
     Ok(())
 }
 

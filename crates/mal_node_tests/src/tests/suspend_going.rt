@@ -1,0 +1,99 @@
+//! A node that is thawed from its bytes goes on like the one that stayed live, over either engine.
+
+use super::going::Going;
+use super::values::text_of;
+use mal_base::{Clause, Lit};
+use mal_learn::Scratch;
+use mal_revision::Revision;
+use mal_scan::Scan;
+use mal_trail::Listed;
+use mal_watch::Watch;
+use std::alloc::Global;
+use std::test::Fail;
+
+/// How many pigeons there are for one hole less.
+const PIGEONS: i32 = 7;
+
+/// The literal that a pigeon from 0 on is in a hole from 0 on.
+fn is_in(pigeon: i32, hole: i32) -> Option<Lit> {
+    let first = pigeon.checked_mul(PIGEONS - 1)?;
+    Lit::of_dimacs(first.checked_add(hole)?.checked_add(1)?)
+}
+
+/// The clause that a pigeon is in some hole.
+fn some_hole(alloc: Global, pigeon: i32) -> Result<Option<Clause>, Fail> {
+    let mut lits = Vec::new(alloc);
+    for hole in 0..PIGEONS - 1 {
+        lits.push(is_in(pigeon, hole).ok_or("no literal")?)?;
+    }
+    Ok(Clause::of_lits(alloc, lits.as_slice())?)
+}
+
+/// The clause that two pigeons are not both in a hole.
+fn not_both(alloc: Global, one: i32, other: i32, hole: i32) -> Result<Option<Clause>, Fail> {
+    let left = is_in(one, hole).ok_or("no literal")?;
+    let right = is_in(other, hole).ok_or("no literal")?;
+    Ok(Clause::of_lits(alloc, &[left.negate(), right.negate()])?)
+}
+
+/// The clauses that each pigeon has a hole of its own.
+fn pigeons(alloc: Global) -> Result<Vec<Option<Clause>>, Fail> {
+    let mut clauses = Vec::new(alloc);
+    for one in 0..PIGEONS {
+        clauses.push(some_hole(alloc, one)?)?;
+        for other in 0..one {
+            for hole in 0..PIGEONS - 1 {
+                clauses.push(not_both(alloc, one, other, hole)?)?;
+            }
+        }
+    }
+    Ok(clauses)
+}
+
+/// Whether a slice of each of two nodes derives lines, the same ones, and leaves both with the same bytes.
+fn goes_alike<E: Listed>(
+    alloc: Global,
+    live: &mut Going<E>,
+    thawed: &mut Going<E>,
+    scratch: &mut Scratch,
+) -> Result<bool, Fail> {
+    let lines = live.slice(scratch)?.ok_or("no slice")?;
+    let others = thawed.slice(scratch)?.ok_or("no slice")?;
+    let text = text_of(alloc, &lines)?;
+    let other_text = text_of(alloc, &others)?;
+    let bytes = live.bytes()?;
+    let other_bytes = thawed.bytes()?;
+    Ok(
+        lines.count() > 0
+            && text.as_slice() == other_text.as_slice()
+            && bytes.as_slice() == other_bytes.as_slice(),
+    )
+}
+
+/// Thaws a node after two slices, and tells whether both nodes go on alike for three slices and have not ended then.
+fn goes_on<E: Listed>(alloc: Global) -> Result<bool, Fail> {
+    let revision = Revision::new(alloc, 42, pigeons(alloc)?, &[])?;
+    let mut scratch = Scratch::new(alloc);
+    let mut live: Going<E> = Going::new(alloc, &revision, &mut scratch)?;
+    let _ = live.slice(&mut scratch)?;
+    let _ = live.slice(&mut scratch)?;
+    let mut thawed = live.thawed()?;
+    for _ in 0..3 {
+        if !goes_alike(alloc, &mut live, &mut thawed, &mut scratch)? {
+            return Ok(false);
+        }
+    }
+    Ok(!thawed.has_ended())
+}
+
+#[test]
+fn a_thawed_node_goes_on_over_clauses_that_are_scanned(rt: HostRuntime) -> Result<(), Fail> {
+    assert!(rt; goes_on::<Scan>(rt.alloc())?);
+    Ok(())
+}
+
+#[test]
+fn a_thawed_node_goes_on_over_clauses_that_are_watched(rt: HostRuntime) -> Result<(), Fail> {
+    assert!(rt; goes_on::<Watch>(rt.alloc())?);
+    Ok(())
+}

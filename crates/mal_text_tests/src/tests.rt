@@ -1,0 +1,17 @@
+//! Values, texts and devices whose contents are known.
+
+mod account;
+mod base;
+mod claim;
+mod claim_proof;
+mod dimacs;
+mod history;
+mod history_writing;
+mod io;
+mod lrat;
+mod report;
+mod revision;
+mod script;
+mod seq;
+mod text;
+mod values;

@@ -1,0 +1,60 @@
+//! Values by their numbers in texts.
+
+use mal_base::{Clause, ClauseId, Lines, Lit};
+use std::alloc::Global;
+use std::test::Fail;
+
+/// The literal that DIMACS CNF writes as this number.
+pub fn lit(number: i32) -> Result<Lit, Fail> {
+    Ok(Lit::of_dimacs(number).ok_or("no literal")?)
+}
+
+/// The literals that DIMACS CNF writes as these numbers.
+pub fn lits(alloc: Global, numbers: &[i32]) -> Result<Vec<Lit>, Fail> {
+    let mut lits = Vec::new(alloc);
+    for number in numbers {
+        lits.push(lit(*number)?)?;
+    }
+    Ok(lits)
+}
+
+/// The clause of these literals. None for a tautology.
+pub fn clause(alloc: Global, numbers: &[i32]) -> Result<Option<Clause>, Fail> {
+    let lits = lits(alloc, numbers)?;
+    Ok(Clause::of_lits(alloc, lits.as_slice())?)
+}
+
+/// These clauses.
+pub fn clauses(alloc: Global, rows: &[&[i32]]) -> Result<Vec<Option<Clause>>, Fail> {
+    let mut clauses = Vec::new(alloc);
+    for numbers in rows {
+        clauses.push(clause(alloc, numbers)?)?;
+    }
+    Ok(clauses)
+}
+
+/// The number of a clause.
+pub fn id(number: u64) -> Result<ClauseId, Fail> {
+    Ok(ClauseId::of(number).ok_or("no id")?)
+}
+
+/// The clauses of these numbers.
+pub fn ids(alloc: Global, numbers: &[u64]) -> Result<Vec<ClauseId>, Fail> {
+    let mut ids = Vec::new(alloc);
+    for number in numbers {
+        ids.push(id(*number)?)?;
+    }
+    Ok(ids)
+}
+
+/// Lines by their numbers, literals and hints.
+pub fn lines(alloc: Global, rows: &[(u64, &[i32], &[u64])]) -> Result<Lines, Fail> {
+    let mut lines = Lines::new(alloc);
+    for (number, numbers, hints) in rows {
+        let lits = lits(alloc, numbers)?;
+        let hints = ids(alloc, hints)?;
+        lines.reserve(1, lits.len(), hints.len())?;
+        lines.push_reserved(id(*number)?, lits.as_slice(), hints.as_slice());
+    }
+    Ok(lines)
+}

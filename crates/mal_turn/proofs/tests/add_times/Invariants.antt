@@ -1,6 +1,0 @@
-use Rattle.std.proofs.Common.{◌≡◌}
-use Rattle.mal_turn.specs.Seats.{view, IsOf}
-use Rattle.mal_turn.proofs.tests.add_times.Given as goal
-
-abbrev pub invariant-loop-made : goal.invariant-loop-made
-invariant-loop-made g l = IsOf l.fn.turn l.seat × ((view l.seat).of ≡ (view l.fn.seat).of)
