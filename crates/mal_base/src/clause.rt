@@ -47,10 +47,10 @@ impl Clause {
     }
 
     /// An equal clause.
-    pub fn copy(&self, alloc: Global) -> Result<Clause, AllocError>
+    pub fn copy(&self) -> Result<Clause, AllocError>
         ensures { IfOk result (λ c. c ≡ self.now) }
     {
-        let lits = SmallVec::from_slice(alloc, self.lits.as_slice())?;
+        let lits = SmallVec::from_slice(*self.lits.allocator(), self.lits.as_slice())?;
         Ok(Clause { lits })
     }
 

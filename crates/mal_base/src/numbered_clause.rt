@@ -3,7 +3,7 @@
 ghost use Rattle.std.specs.Prelude.{◌≡◌, IfOk};
 
 use crate::{Clause, ClauseId, Lit};
-use std::alloc::{AllocError, Global};
+use std::alloc::AllocError;
 use std::marker::Model;
 
 /// A clause under its number.
@@ -51,10 +51,10 @@ impl NumberedClause {
     }
 
     /// An equal clause under the same number.
-    pub fn copy(&self, alloc: Global) -> Result<NumberedClause, AllocError>
+    pub fn copy(&self) -> Result<NumberedClause, AllocError>
         ensures { IfOk result (λ c. c ≡ self.now) }
     {
-        let clause = self.clause.copy(alloc)?;
+        let clause = self.clause.copy()?;
         Ok(NumberedClause {
             id: self.id,
             clause,

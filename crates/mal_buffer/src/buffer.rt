@@ -56,11 +56,11 @@ impl Buffer {
     }
 
     /// An equal buffer.
-    pub fn copy(&self, alloc: Global) -> Result<Buffer, AllocError>
+    pub fn copy(&self) -> Result<Buffer, AllocError>
         ensures { IfOk result (λ b. b ≡ self.now) }
     {
-        let mut entries = Vec::with_capacity(alloc, self.entries.len())?;
-        push_copies(alloc, &mut entries, self.entries.as_slice())?;
+        let mut entries = Vec::with_capacity(*self.entries.allocator(), self.entries.len())?;
+        push_copies(&mut entries, self.entries.as_slice())?;
         Ok(Buffer { entries })
     }
 
@@ -83,15 +83,11 @@ impl Buffer {
 }
 
 /// Copies of entries, put behind others.
-fn push_copies(
-    alloc: Global,
-    all: &mut Vec<NumberedClause>,
-    more: &[NumberedClause],
-) -> Result<(), AllocError>
+fn push_copies(all: &mut Vec<NumberedClause>, more: &[NumberedClause]) -> Result<(), AllocError>
     ensures { OnOk result (all.new.items ≡ all.old.items ++ more.now) }
 {
     for entry in more {
-        all.push(entry.copy(alloc)?)?;
+        all.push(entry.copy()?)?;
     }
     Ok(())
 }
@@ -111,22 +107,22 @@ fn merged(
         let (x, y) = (&xs[i], &ys[j]);
         match clause_order(x, y) {
             Ordering::Less => {
-                all.push(x.copy(alloc)?)?;
+                all.push(x.copy()?)?;
                 i += 1;
             }
             Ordering::Greater => {
-                all.push(y.copy(alloc)?)?;
+                all.push(y.copy()?)?;
                 j += 1;
             }
             Ordering::Equal => {
-                all.push(lesser(x, y).copy(alloc)?)?;
+                all.push(lesser(x, y).copy()?)?;
                 i += 1;
                 j += 1;
             }
         }
     }
-    push_copies(alloc, &mut all, &xs[i..])?;
-    push_copies(alloc, &mut all, &ys[j..])?;
+    push_copies(&mut all, &xs[i..])?;
+    push_copies(&mut all, &ys[j..])?;
     Ok(all)
 }
 

@@ -46,7 +46,7 @@ impl Pick {
         let mut taken = Vec::new(alloc);
         for entry in entries {
             if seen.passes_lits(entry.lits()) {
-                taken.push(entry.copy(alloc)?)?;
+                taken.push(entry.copy()?)?;
             }
         }
         Ok(Pick { entries: taken })

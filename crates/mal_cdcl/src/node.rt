@@ -217,7 +217,7 @@ impl<E: Listed> Node<E> {
         ensures { IfOk result (λ n. n.state ≡ image.now) }
     {
         let parts = image.parts();
-        let trail = image.trail(alloc)?;
+        let trail = image.trail()?;
         let engine = copies::engine_of(alloc, parts.variables, parts.clauses.as_slice(), &trail)?;
         Ok(Node {
             index: parts.index,
@@ -726,7 +726,7 @@ impl<E: Listed> Node<E> {
             conflict: self.conflict,
             verdict: self.verdict,
             assumptions: Vec::from_slice(alloc, self.assumptions.as_slice())?,
-            order: self.order.variables(alloc)?,
+            order: self.order.variables()?,
             phases: Vec::from_slice(alloc, self.phases.as_slice())?,
             trail: Vec::from_slice(alloc, self.trail.entries())?,
             clauses: copies::clauses_of(alloc, &self.engine)?,

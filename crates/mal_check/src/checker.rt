@@ -62,7 +62,7 @@ impl Checker {
         let clauses = formula.clauses();
         let mut checker = Checker::new(alloc);
         for (index, clause) in clauses.iter().enumerate() {
-            let clause = copy(alloc, clause)?;
+            let clause = copy(clause)?;
             checker.original(ClauseId::original(index as u32 + 1), clause)?;
         }
         Ok(checker)
@@ -134,12 +134,12 @@ impl Checker {
 }
 
 /// An equal clause.
-fn copy(alloc: Global, clause: &Option<Clause>) -> Result<Option<Clause>, AllocError>
+fn copy(clause: &Option<Clause>) -> Result<Option<Clause>, AllocError>
     ensures { IfOk result (λ c. c ≡ clause.now) }
 {
     match clause {
         None => Ok(None),
-        Some(clause) => Ok(Some(clause.copy(alloc)?)),
+        Some(clause) => Ok(Some(clause.copy()?)),
     }
 }
 

@@ -37,7 +37,7 @@ fn copies(alloc: Global, buffers: &[Buffer]) -> Result<Vec<Buffer>, AllocError>
 {
     let mut all = Vec::with_capacity(alloc, buffers.len())?;
     for buffer in buffers {
-        all.push(buffer.copy(alloc)?)?;
+        all.push(buffer.copy()?)?;
     }
     Ok(all)
 }

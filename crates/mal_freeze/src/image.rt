@@ -62,13 +62,17 @@ impl Image {
     }
 
     /// The trail of the node, with room for its variables and with so many batches handled.
-    pub fn trail(&self, alloc: Global) -> Result<Trail, AllocError>
+    pub fn trail(&self) -> Result<Trail, AllocError>
         ensures entries { IfOk result (λ t. t.entries ≡ self.now.trail) }
         ensures processed { IfOk result (λ t. t.processed ≡ self.now.processed) }
         ensures room { IfOk result (λ t. self.now.variables ≤ t.room) }
     {
         let parts = &self.parts;
-        match scan::trail_of(alloc, parts.variables, parts.trail.as_slice())? {
+        match scan::trail_of(
+            *parts.trail.allocator(),
+            parts.variables,
+            parts.trail.as_slice(),
+        )? {
             None => unreachable!(),
             Some(trail) => {
                 let mut trail = trail;

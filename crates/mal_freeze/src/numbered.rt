@@ -33,14 +33,14 @@ impl Numbered {
     }
 
     /// The clause that is held so. None exactly where the number is 0 or the literals do not rise by variable.
-    fn held(&self, alloc: Global) -> Result<Option<NumberedClause>, AllocError>
+    fn held(&self) -> Result<Option<NumberedClause>, AllocError>
         ensures { IfOk result (λ o. MatchOption o (can_hold self.now ≡ false) (λ h. (h ≡ self.now) × (can_hold self.now ≡ true))) }
     {
         let id = match ClauseId::of(self.number) {
             None => return Ok(None),
             Some(id) => id,
         };
-        match Clause::of_rising(alloc, self.lits.as_slice())? {
+        match Clause::of_rising(*self.lits.allocator(), self.lits.as_slice())? {
             None => Ok(None),
             Some(clause) => Ok(Some(NumberedClause::new(id, clause))),
         }
@@ -56,7 +56,7 @@ pub fn held_of(
 {
     let mut all = Vec::new(alloc);
     for numbered in clauses {
-        match numbered.held(alloc)? {
+        match numbered.held()? {
             None => return Ok(None),
             Some(held) => all.push(held)?,
         }

@@ -38,6 +38,11 @@ impl Links {
         }
     }
 
+    /// Where its memory comes from.
+    pub fn allocator(&self) -> Global {
+        *self.rest.allocator()
+    }
+
     /// The number at a place, 0 where there is none.
     pub fn get(&self, place: u32) -> u32
         ensures { result ≡ link self.now.numbers place }

@@ -181,10 +181,10 @@ impl Order {
     }
 
     /// The variables in order.
-    pub fn variables(&self, alloc: Global) -> Result<Vec<Var>, AllocError>
+    pub fn variables(&self) -> Result<Vec<Var>, AllocError>
         ensures { IfOk result (λ v. v.items ≡ self.now.list) }
     {
-        let mut list = Vec::with_capacity(alloc, self.ring.len() as usize)?;
+        let mut list = Vec::with_capacity(self.ring.allocator(), self.ring.len() as usize)?;
         let mut mark = 0;
         for _place in 0..self.ring.len() {
             mark = self.ring.next(mark);

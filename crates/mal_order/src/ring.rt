@@ -48,6 +48,11 @@ impl Ring {
         }
     }
 
+    /// Where its memory comes from.
+    pub fn allocator(&self) -> Global {
+        self.after.allocator()
+    }
+
     /// How many numbers there are.
     pub fn len(&self) -> u32
         ensures { result ≡ length self.now.list }

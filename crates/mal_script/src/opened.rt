@@ -55,12 +55,7 @@ impl OpenJob {
     }
 
     /// After the header of a block, which is this line.
-    pub fn after_header(
-        self,
-        alloc: Global,
-        limits: Limits,
-        line: &[u8],
-    ) -> Result<OpenJob, LineRefusal>
+    pub fn after_header(self, limits: Limits, line: &[u8]) -> Result<OpenJob, LineRefusal>
         ensures { Gives (λ o. o) result (after_header limits (words_of line.now) self) }
     {
         if self.job.revisions().len() >= limits.revisions() {
@@ -68,7 +63,7 @@ impl OpenJob {
                 which: LimitKind::Revisions,
             }));
         }
-        let block = blocks::opened(alloc, line)?;
+        let block = blocks::opened(self.job.allocator(), line)?;
         Ok(self.with_block(block))
     }
 
@@ -107,7 +102,6 @@ impl OpenJob {
     /// The job with one revision more, which has so many literals, in place of its block.
     fn with_revision(
         self,
-        alloc: Global,
         formula: Formula,
         literals: usize,
         assumptions: &[Lit],
@@ -123,6 +117,7 @@ impl OpenJob {
         let variables = formula.variables();
         let clauses = self.clauses + formula.clauses().len();
         let literals = self.literals + literals;
+        let alloc = self.job.allocator();
         match Revision::new(alloc, variables, formula.into_clauses(), assumptions) {
             Ok(revision) => Ok(OpenJob {
                 job: self.job.with_revision(revision)?,
@@ -135,12 +130,7 @@ impl OpenJob {
     }
 
     /// After a revision of this formula under these assumptions.
-    fn revised(
-        self,
-        alloc: Global,
-        formula: Formula,
-        assumptions: &[Lit],
-    ) -> Result<OpenJob, LineRefusal>
+    fn revised(self, formula: Formula, assumptions: &[Lit]) -> Result<OpenJob, LineRefusal>
         requires rising { rises assumptions.now ≡ true }
         requires within { is_within formula.variables assumptions.now ≡ true }
         ensures { Gives (λ o. o) result (revised self formula assumptions.now) }
@@ -156,27 +146,21 @@ impl OpenJob {
                 which: LimitKind::Literals,
             }));
         }
-        self.with_revision(alloc, formula, literals, assumptions)
+        self.with_revision(formula, literals, assumptions)
     }
 
     /// After the words behind the `a` of the line that ends this block.
-    fn after_assumptions(
-        self,
-        alloc: Global,
-        words: &[u8],
-        block: BlockReader,
-    ) -> Result<OpenJob, LineRefusal>
+    fn after_assumptions(self, words: &[u8], block: BlockReader) -> Result<OpenJob, LineRefusal>
         ensures { Gives (λ o. o) result (after_assumptions (words_of words.now) self block) }
     {
         let formula = blocks::ended(block)?;
-        let assumptions = assumed(alloc, words, formula.variables())?;
-        self.revised(alloc, formula, assumptions.as_slice())
+        let assumptions = assumed(self.job.allocator(), words, formula.variables())?;
+        self.revised(formula, assumptions.as_slice())
     }
 
     /// After a line in this block, which is its first word and the others.
     pub fn inside_block(
         self,
-        alloc: Global,
         line: &[u8],
         first: &[u8],
         others: &[u8],
@@ -186,7 +170,7 @@ impl OpenJob {
         ensures { Gives (λ o. o) result (inside_block first.now (words_of others.now) self block) }
     {
         if first == b"a".as_slice() {
-            return self.after_assumptions(alloc, others, block);
+            return self.after_assumptions(others, block);
         }
         let block = blocks::after_row(block, line)?;
         Ok(self.with_block(block))

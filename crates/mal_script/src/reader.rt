@@ -68,18 +68,13 @@ impl Reader {
     }
 
     /// After the words behind the `t` of a tenant's line.
-    fn after_tenant(
-        self,
-        alloc: Global,
-        limits: Limits,
-        words: &[u8],
-    ) -> Result<Reader, LineRefusal>
+    fn after_tenant(self, limits: Limits, words: &[u8]) -> Result<Reader, LineRefusal>
         ensures { Gives (λ r. r) result (after_tenant limits (words_of words.now) self) }
     {
         let Some(word) = only_word(words) else {
             return Err(LineRefusal::Fault(LineFault::BadLine));
         };
-        match Name::of(alloc, word)? {
+        match Name::of(*self.jobs.allocator(), word)? {
             Some(name) => self.named(limits, name),
             None => Err(LineRefusal::Fault(LineFault::BadLine)),
         }
@@ -88,7 +83,6 @@ impl Reader {
     /// After a job of this tenant has begun.
     fn admitted(
         mut self,
-        alloc: Global,
         limits: Limits,
         tenant: Name,
         name: Name,
@@ -104,6 +98,7 @@ impl Reader {
                 which: LimitKind::Jobs,
             }));
         }
+        let alloc = *self.jobs.allocator();
         self.opened = Some(OpenJob::begin(alloc, tenant, name, ask));
         Ok(self)
     }
@@ -111,7 +106,6 @@ impl Reader {
     /// After the words of a job's first line: its name, its priority, demand and slices, and the words behind them.
     fn of_tenant(
         self,
-        alloc: Global,
         limits: Limits,
         name: &[u8],
         priority: &[u8],
@@ -124,42 +118,36 @@ impl Reader {
         let Some(tenant) = self.tenant else {
             return Err(LineRefusal::Fault(LineFault::BadLine));
         };
-        let Some(name) = Name::of(alloc, name)? else {
+        let Some(name) = Name::of(*self.jobs.allocator(), name)? else {
             return Err(LineRefusal::Fault(LineFault::BadLine));
         };
         match asked(priority, demand, slices, behind) {
-            Ok(ask) => self.admitted(alloc, limits, tenant, name, ask),
+            Ok(ask) => self.admitted(limits, tenant, name, ask),
             Err(fault) => Err(LineRefusal::Fault(fault)),
         }
     }
 
     /// After the words behind the `j` of a job's first line.
-    fn after_job(self, alloc: Global, limits: Limits, words: &[u8]) -> Result<Reader, LineRefusal>
+    fn after_job(self, limits: Limits, words: &[u8]) -> Result<Reader, LineRefusal>
         ensures { Gives (λ r. r) result (after_job limits (words_of words.now) self) }
     {
         match four_words(words) {
             Some((name, priority, demand, slices, behind)) => {
-                self.of_tenant(alloc, limits, name, priority, demand, slices, behind)
+                self.of_tenant(limits, name, priority, demand, slices, behind)
             }
             None => Err(LineRefusal::Fault(LineFault::BadLine)),
         }
     }
 
     /// After a line outside a job, which is its first word and the others.
-    fn outside(
-        self,
-        alloc: Global,
-        limits: Limits,
-        first: &[u8],
-        others: &[u8],
-    ) -> Result<Reader, LineRefusal>
+    fn outside(self, limits: Limits, first: &[u8], others: &[u8]) -> Result<Reader, LineRefusal>
         ensures { Gives (λ r. r) result (outside limits first.now (words_of others.now) self) }
     {
         if first == b"t".as_slice() {
-            return self.after_tenant(alloc, limits, others);
+            return self.after_tenant(limits, others);
         }
         if first == b"j".as_slice() {
-            return self.after_job(alloc, limits, others);
+            return self.after_job(limits, others);
         }
         Err(LineRefusal::Fault(LineFault::BadLine))
     }
@@ -185,7 +173,6 @@ impl Reader {
     /// After a line in this job and in no block, which is its first word and the others.
     fn inside_job(
         self,
-        alloc: Global,
         limits: Limits,
         line: &[u8],
         first: &[u8],
@@ -196,7 +183,7 @@ impl Reader {
         ensures { Gives (λ r. r) result (inside_job limits first.now (words_of others.now) job self) }
     {
         if first == b"p".as_slice() {
-            let job = job.after_header(alloc, limits, line)?;
+            let job = job.after_header(limits, line)?;
             return Ok(self.goes_on(job));
         }
         if first == b"e".as_slice() {
@@ -208,7 +195,6 @@ impl Reader {
     /// After a line in this job, which is its first word and the others.
     fn inside(
         self,
-        alloc: Global,
         limits: Limits,
         line: &[u8],
         first: &[u8],
@@ -220,9 +206,9 @@ impl Reader {
     {
         let (job, block) = job.without_block();
         match block {
-            None => self.inside_job(alloc, limits, line, first, others, job),
+            None => self.inside_job(limits, line, first, others, job),
             Some(block) => {
-                let job = job.inside_block(alloc, line, first, others, block)?;
+                let job = job.inside_block(line, first, others, block)?;
                 Ok(self.goes_on(job))
             }
         }
@@ -231,7 +217,6 @@ impl Reader {
     /// After a line, which is its first word and the others and no comment.
     fn after_counted(
         mut self,
-        alloc: Global,
         limits: Limits,
         line: &[u8],
         first: &[u8],
@@ -241,18 +226,13 @@ impl Reader {
         ensures { Gives (λ r. r) result (after_counted limits first.now (words_of others.now) self.opened self) }
     {
         match self.opened.take() {
-            None => self.outside(alloc, limits, first, others),
-            Some(job) => self.inside(alloc, limits, line, first, others, job),
+            None => self.outside(limits, first, others),
+            Some(job) => self.inside(limits, line, first, others, job),
         }
     }
 
     /// After a line.
-    pub fn after_row(
-        self,
-        alloc: Global,
-        limits: Limits,
-        line: &[u8],
-    ) -> Result<Reader, LineRefusal>
+    pub fn after_row(self, limits: Limits, line: &[u8]) -> Result<Reader, LineRefusal>
         ensures { Gives (λ r. r) result (after_row limits (words_of line.now) self) }
     {
         let Some((first, others)) = first_word(line) else {
@@ -261,7 +241,7 @@ impl Reader {
         if is_comment(first) {
             return Ok(self);
         }
-        self.after_counted(alloc, limits, line, first, others)
+        self.after_counted(limits, line, first, others)
     }
 
     /// The jobs of the script, where no job has begun that has not ended.

@@ -7,7 +7,7 @@ ghost use Rattle.spec_script.specs.Limits.{served};
 
 use mal_base::{Ask, Name};
 use mal_revision::Revision;
-use std::alloc::AllocError;
+use std::alloc::{AllocError, Global};
 use std::marker::Model;
 
 /// A job of a script: its tenant, its name, its ask and its revisions. Contracts see the four.
@@ -52,6 +52,11 @@ impl ScriptJob {
             ask: self.ask,
             revisions,
         })
+    }
+
+    /// Where its memory comes from.
+    pub(crate) fn allocator(&self) -> Global {
+        *self.revisions.allocator()
     }
 
     /// The tenant's name.

@@ -39,7 +39,7 @@ fn parts_in_form_make_an_image(rt: HostRuntime) -> Result<(), Fail> {
     let image = Image::new(rt.alloc(), parts(rt.alloc())?)?.ok_or("no image")?;
     assert_eq!(rt; image.parts().variables, 2);
     assert_eq!(rt; image.parts().clauses.len(), 1);
-    let trail = image.trail(rt.alloc())?;
+    let trail = image.trail()?;
     assert_eq!(rt; trail.len(), 1);
     assert_eq!(rt; trail.processed(), 2);
     Ok(())

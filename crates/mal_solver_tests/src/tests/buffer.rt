@@ -64,7 +64,7 @@ fn shorter_clauses_come_first_and_then_those_of_lesser_literals(
         ids.push(entry.id().number())?;
     }
     assert_eq!(rt; ids.as_slice(), [4, 2, 3, 1].as_slice());
-    let again = all.copy(rt.alloc())?;
+    let again = all.copy()?;
     assert_eq!(rt; again.entries().len(), 4);
     Ok(())
 }

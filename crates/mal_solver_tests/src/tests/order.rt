@@ -26,7 +26,7 @@ fn first(order: &mut Order, trail: &Trail) -> [u32; 2] {
 /// The numbers of the variables, in their order.
 fn numbers(alloc: Global, order: &Order) -> Result<Vec<u32>, Fail> {
     let mut numbers = Vec::new(alloc);
-    for var in order.variables(alloc)? {
+    for var in order.variables()? {
         numbers.push(var.number())?;
     }
     Ok(numbers)
@@ -45,8 +45,8 @@ fn append(order: &mut Order, n: u32) -> Result<(), Fail> {
 }
 
 /// Moves a variable of the order to the front.
-fn bump(alloc: Global, order: &mut Order, var: Var) -> Result<(), Fail> {
-    let list = order.variables(alloc)?;
+fn bump(order: &mut Order, var: Var) -> Result<(), Fail> {
+    let list = order.variables()?;
     if !list.iter().any(|w| *w == var) {
         return Err("no such variable".into());
     }
@@ -98,8 +98,8 @@ fn a_moved_variable_is_decided_next(rt: HostRuntime) -> Result<(), Fail> {
     assert!(rt; first(&mut order, &none) == [0, 0]);
     append(&mut order, 3)?;
     append(&mut order, 2)?;
-    bump(alloc, &mut order, Var::of(2))?;
-    bump(alloc, &mut order, Var::of(4))?;
+    bump(&mut order, Var::of(2))?;
+    bump(&mut order, Var::of(4))?;
     assert!(rt; first(&mut order, &none) == [4, 4]);
     assert!(rt; first(&mut order, &without_four(alloc)?) == [2, 2]);
     let moved: [u32; 5] = [4, 2, 1, 3, 5];
@@ -111,7 +111,7 @@ fn a_moved_variable_is_decided_next(rt: HostRuntime) -> Result<(), Fail> {
 fn a_list_comes_back_in_its_order(rt: HostRuntime) -> Result<(), Fail> {
     let list = vec![in rt.alloc(); Var::of(2), Var::of(3), Var::of(1)]?;
     let mut order = Order::of_list(rt.alloc(), 5, list.as_slice())?;
-    let again = order.variables(rt.alloc())?;
+    let again = order.variables()?;
     assert!(rt; again.as_slice() == list.as_slice());
     assert!(rt; first(&mut order, &Trail::new(rt.alloc())) == [2, 2]);
     Ok(())

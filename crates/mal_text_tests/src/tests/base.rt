@@ -10,7 +10,7 @@ fn a_clause_has_each_literal_once_in_order(rt: HostRuntime) -> Result<(), Fail> 
     let known = lits(rt.alloc(), &[-1, 2, 3])?;
     let clause = clause(rt.alloc(), &[3, -1, 3, 2])?.ok_or("a tautology")?;
     assert_eq!(rt; clause.lits(), known.as_slice());
-    let again = clause.copy(rt.alloc())?;
+    let again = clause.copy()?;
     assert_eq!(rt; again.lits(), known.as_slice());
     Ok(())
 }
