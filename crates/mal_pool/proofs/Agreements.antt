@@ -1,15 +1,12 @@
 -- When a history has what a script posts.
-use Rattle.std.proofs.Common.{◌≡◌, ℕ, zero, suc, ◌+◌, ◌-◌, ◌<◌, ◌≤◌, Bool, true, false, ◌||◌, ◌&&◌, cond, List, [], ◌∷◌, ◌++◌, length, map, take, get_or, flat_map, filter, fold, Option, Some, None, refl, sym, ◌∙◌, ap, subst, append-nil, append_assoc, arith, length-append}
+use Rattle.std.proofs.Common.{◌≡◌, ℕ, zero, suc, ◌+◌, ◌-◌, ◌<◌, ◌≤◌, Bool, true, false, ◌||◌, cond, List, [], ◌∷◌, ◌++◌, length, map, take, get_or, flat_map, filter, Some, refl, sym, ◌∙◌, ap, subst, append_assoc, arith, length-append}
 use Rattle.std.specs.Prelude.{slice_get}
-use Rattle.std.specs.List.{list_any, list_all}
-use Rattle.std.proofs.lemmas.List.{map-append, take_all, get_or-append-add}
-use Rattle.std.proofs.lemmas.List.Concat.{flat_map-append}
-use Rattle.std.proofs.lemmas.List.Elements.{filter-append}
+use Rattle.std.specs.List.{list_any}
+use Rattle.std.proofs.lemmas.List.{map-append, take_all}
 use Rattle.std.proofs.lemmas.Option.{get_or_from_slice_get, slice_get_read}
 use Rattle.mal_history.specs.declared.event.Event as written
 use Rattle.mal_history.specs.declared.event.Event.TheVariants as of
 use Rattle.mal_job.specs.Among.{among}
-use Rattle.mal_pool.specs.Posts.{AreKnown}
 use Rattle.mal_pool.specs.Testing as testing
 use Rattle.mal_pool.specs.Testing.{HasContents, HaveContents, HasPosts}
 use Rattle.mal_revision.specs.Posted.{Posted}
@@ -17,14 +14,12 @@ use Rattle.spec_job.specs.KeyedJob.{Key, KeyedJob}
 use Rattle.spec_hall.specs.Dressed.{dressed, no_revision, revisions_of}
 use Rattle.spec_hall.specs.Events.{Event, Open, Revise, Close, Balance, Start, Finish, Exchange, bare}
 use Rattle.spec_hall.specs.Legal.{Legal}
-use Rattle.spec_hall.specs.Own.{is_text, is_key}
-use Rattle.spec_hall.specs.States.{states, keys_of, keys_step, titled}
+use Rattle.spec_hall.specs.Own.{is_text}
+use Rattle.spec_hall.specs.States.{states}
 use Rattle.spec_hall.proofs.DressedLemmas.{legal-is_dressed}
-use Rattle.spec_hall.proofs.KeyLemmas.{is_text-Decides, is_key-same}
-use Rattle.spec_run.specs.Complete.{is_post_of, key_of_job, job_events, open_events, posts_of, revise_events, script_events, jobs_of_tenant}
+use Rattle.spec_run.specs.Complete.{is_post_of, key_of_job, job_events, open_events, revise_events, jobs_of_tenant}
 use Rattle.spec_replay.specs.Posts.{HavePosts, is_post_line, post_lines}
 use Rattle.spec_run.specs.Losses as losses
-use Rattle.spec_run.proofs.KeyLemmas.{job-found}
 use Rattle.spec_run.proofs.PostingLemmas.{take-one}
 use Rattle.spec_script.specs.Script.{ScriptedJob, Scripted}
 

@@ -1,5 +1,5 @@
 -- The calls of a hall but the recall lose no lease, and a lease that is picked is its worker's.
-use Rattle.std.proofs.Common.{◌≡◌, ℕ, ◌+◌, Bool, true, false, ◌||◌, ◌&&◌, cond, List, [], ◌∷◌, ◌++◌, refl, sym, ◌∙◌, ap, subst, Option, Some, None, Result, Ok, Err}
+use Rattle.std.proofs.Common.{◌≡◌, ℕ, Bool, true, false, ◌||◌, ◌&&◌, List, [], ◌∷◌, refl, ◌∙◌, ap, Result, Ok, Err}
 use Rattle.std.specs.List.{list_all, list_any}
 use Rattle.mal_base.specs.declared.verdict.Outcome.{Outcome}
 use Rattle.mal_base.specs.declared.verdict.Outcome.TheVariants.{Ran, Starved, Lost}

@@ -1,5 +1,5 @@
 -- What a worker does with a lease at a gate.
-use Rattle.std.proofs.Common.{◌≡◌, ℕ, Bool, true, false, if◌then◌else◌, List, [], ◌∷◌, ◌++◌, inl, inr, refl, sym, ◌∙◌, ap, subst, append-nil, append_assoc, Option, Some, None, Result, Ok, Err}
+use Rattle.std.proofs.Common.{◌≡◌, ℕ, Bool, true, false, if◌then◌else◌, List, [], ◌∷◌, ◌++◌, inl, inr, refl, sym, ◌∙◌, subst, append-nil, Ok}
 use Rattle.mal_base.specs.declared.verdict.Outcome.{Outcome}
 use Rattle.mal_base.specs.declared.verdict.Outcome.TheVariants.{Ran, Starved, Lost}
 use Rattle.mal_hall.specs.Desks.{DeskCall, Picked, Gave, IsWorked}
@@ -8,16 +8,14 @@ use Rattle.mal_pool.specs.declared.gate.Point.TheVariants.{Before, After}
 use Rattle.mal_pool.specs.declared.gate.Step.{Step}
 use Rattle.mal_pool.specs.declared.gate.Step.TheVariants.{Go, Stop}
 use Rattle.mal_pool.specs.declared.working.End.TheVariants as ends
-use Rattle.mal_pool.specs.declared.working.Turned.{Turned}
 use Rattle.mal_pool.specs.declared.working.Turned.TheVariants as turned
-use Rattle.mal_pool.specs.Gates.{Stops, StopsSomewhere, Passes, Halts}
+use Rattle.mal_pool.specs.Gates.{Stops, Passes}
 use Rattle.mal_pool.specs.Works.{IsTurn, turned_by}
 use Rattle.spec_job.specs.Leased as job
 use Rattle.spec_job.specs.Leased.{Finished, Becomes, Tells}
 use Rattle.spec_job.specs.Viewed.{IsGrownBy}
 use Rattle.spec_hall.specs.Calls as calls
 use Rattle.spec_hall.specs.Calls.{Leased, Handed, Return, Offer}
-use Rattle.mal_base.specs.declared.hall_fault.PickFault.{PickFault}
 
 stop-is : (b : Bool) (s : Step) → s ≡ (if b then Stop else Go) → s ≡ Stop → b ≡ true
 stop-is true s e is = refl
@@ -44,11 +42,11 @@ stopped-before stops w start l old s is told stop = (
   (handed_of l, inl (subst (λ (n : ℕ). stops Before n w ≡ true) is (stop-is (stops Before start w) s told stop)), refl),
 )
 
-pub stopped-after : (stops : Stops) (w start : ℕ) (l : job.Leased) (old : List DeskCall) (s t : Step) → start ≡ l.journal.start → s ≡ (if stops Before start w then Stop else Go) → s ≡ Go → t ≡ (if stops After start w then Stop else Go) → t ≡ Stop → (mine : List DeskCall) × (old ≡ old ++ mine) × IsTurn stops w (Picked w (Ok (Leased (handed_of l))) ∷ mine) (turned.Ended ends.Stopped)
-stopped-after stops w start l old s t is first go told stop = (
+pub stopped-after : (stops : Stops) (w start : ℕ) (l : job.Leased) (old : List DeskCall) (t : Step) → start ≡ l.journal.start → stops Before l.journal.start w ≡ false → t ≡ (if stops After start w then Stop else Go) → t ≡ Stop → (mine : List DeskCall) × (old ≡ old ++ mine) × IsTurn stops w (Picked w (Ok (Leased (handed_of l))) ∷ mine) (turned.Ended ends.Stopped)
+stopped-after stops w start l old t is passed told stop = (
   [],
   sym (append-nil old),
-  (handed_of l, inr (subst (λ (n : ℕ). stops Before n w ≡ false) is (go-is (stops Before start w) s first go), subst (λ (n : ℕ). stops After n w ≡ true) is (stop-is (stops After start w) t told stop)), refl),
+  (handed_of l, inr (passed, subst (λ (n : ℕ). stops After n w ≡ true) is (stop-is (stops After start w) t told stop)), refl),
 )
 
 -- a lease that passed is given back

@@ -1,12 +1,12 @@
 -- The jobs that a history opens are known to it.
-use Rattle.std.proofs.Common.{◌≡◌, ℕ, Bool, true, false, ◌||◌, cond, List, [], ◌∷◌, ◌++◌, flat_map, filter, fold, Some, refl, sym, ◌∙◌, ap, append_assoc}
+use Rattle.std.proofs.Common.{◌≡◌, Bool, true, false, ◌||◌, cond, List, [], ◌∷◌, ◌++◌, flat_map, filter, fold, refl, sym, ◌∙◌, ap, append_assoc}
 use Rattle.std.specs.List.{list_any}
 use Rattle.mal_pool.specs.Posts.{AreKnown}
 use Rattle.mal_pool.specs.Testing.{HasPosts}
 use Rattle.spec_job.specs.KeyedJob.{Key}
 use Rattle.spec_hall.specs.Events.{Event, Open, Revise, Close, Balance, Start, Finish, Exchange}
 use Rattle.spec_hall.specs.Own.{is_text, is_key}
-use Rattle.spec_hall.specs.States.{keys_of, keys_step, titled}
+use Rattle.spec_hall.specs.States.{keys_step, titled}
 use Rattle.spec_hall.proofs.KeyLemmas.{is_text-Decides, is_key-same}
 use Rattle.spec_run.specs.Complete.{is_post_of, key_of_job, job_events, open_events, jobs_of_tenant}
 use Rattle.spec_run.proofs.KeyLemmas.{job-found}

@@ -1,9 +1,8 @@
 -- What is left is posted, one post further.
-use Rattle.std.proofs.Common.{◌≡◌, ℕ, ◌+◌, ◌<◌, ◌≤◌, Bool, true, false, cond, List, [], ◌∷◌, ◌++◌, length, map, drop, get_or, flat_map, fold, Option, Some, None, Result, Ok, Err, IfOk, refl, sym, ◌∙◌, ap, append-nil}
+use Rattle.std.proofs.Common.{◌≡◌, ℕ, ◌+◌, ◌<◌, Bool, true, false, cond, List, [], ◌∷◌, ◌++◌, length, drop, get_or, flat_map, Option, Some, Result, Ok, Err, IfOk, refl, sym, ◌∙◌, ap, append-nil}
 use Rattle.std.specs.Prelude.{slice_get}
 use Rattle.std.specs.Option.{option_map_or}
-use Rattle.std.specs.List.{list_any}
-use Rattle.std.proofs.lemmas.List.{drop_all, drop_more}
+use Rattle.std.proofs.lemmas.List.{drop_more}
 use Rattle.std.proofs.lemmas.List.Concat.{flat_map-append}
 use Rattle.std.proofs.lemmas.List.Elements.{filter-append}
 use Rattle.std.proofs.lemmas.List.Sums.{fold-append}
@@ -11,8 +10,7 @@ use Rattle.mal_hall.specs.declared.desk.Post.{Post}
 use Rattle.mal_hall.specs.declared.desk.Post.TheVariants as posts
 use Rattle.mal_hall.specs.Desks.{event_of}
 use Rattle.mal_pool.specs.declared.posting.Left.{Left}
-use Rattle.mal_pool.specs.Runs.{revise_posts, job_posts, of_tenant, posts_behind, posted_on, left_by}
-use Rattle.mal_revision.specs.Posted.{Posted}
+use Rattle.mal_pool.specs.Runs.{job_posts, of_tenant, posts_behind, posted_on, left_by}
 use Rattle.spec_hall.specs.Events.{Event}
 use Rattle.spec_hall.specs.Own.{is_text}
 use Rattle.spec_run.specs.Losses.{is_loss, NoneIsLost}

@@ -1,5 +1,5 @@
 -- What the end of a worker's loop says of its calls, by induction on the calls.
-use Rattle.std.proofs.Common.{◌≡◌, ℕ, ◌+◌, ◌-◌, ◌<◌, ◌≤◌, List, [], ◌∷◌, ◌++◌, ◌⊎◌, inl, inr, refl, sym, ap, ◌∙◌, arith, subst, suc, Option, Some, None, Result, Ok, Err}
+use Rattle.std.proofs.Common.{◌≡◌, ℕ, ◌+◌, ◌-◌, ◌≤◌, List, [], ◌∷◌, ◌++◌, ◌⊎◌, inl, inr, refl, sym, ap, ◌∙◌, arith, subst, suc, Option, Some, None, Ok, Err}
 use Rattle.std.specs.Prelude.{replicate}
 use Rattle.spec_job.specs.Leased.{Finished}
 use Rattle.mal_base.specs.declared.hall_fault.PickFault.TheVariants as faults

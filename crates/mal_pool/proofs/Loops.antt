@@ -1,5 +1,5 @@
 -- A worker's loop, turn by turn.
-use Rattle.std.proofs.Common.{◌≡◌, ℕ, List, [], ◌∷◌, ◌++◌, sym, append-nil, subst, None}
+use Rattle.std.proofs.Common.{◌≡◌, ℕ, List, [], ◌++◌, sym, append-nil, subst, None}
 use Rattle.mal_hall.specs.Desks.{DeskCall}
 use Rattle.mal_pool.specs.Gates.{Stops}
 use Rattle.mal_pool.specs.Making.{HasMade}

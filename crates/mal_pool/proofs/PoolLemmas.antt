@@ -2,7 +2,7 @@
 use Rattle.std.proofs.Common.{◌≡◌, ℕ, zero, suc, ◌+◌, ◌<◌, ◌≤◌, true, false, List, [], ◌∷◌, ◌++◌, length, map, take, get_or, flat_map, Option, Some, None, sym, ◌∙◌, ap, arith, append-nil, append_assoc, subst}
 use Rattle.std.specs.List.{list_any}
 use Rattle.std.specs.Option.{option_map_or}
-use Rattle.std.proofs.lemmas.List.{take_all, take_more, length-take-le, flat_map_more}
+use Rattle.std.proofs.lemmas.List.{take_all, take_more, length-take-le}
 use Rattle.mal_hall.specs.HallView.{HallView, next_number}
 use Rattle.mal_pool.specs.Posts.{IsKnown, AreKnown, HasRun}
 use Rattle.mal_revision.specs.Posted.{Posted}

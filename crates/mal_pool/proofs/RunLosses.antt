@@ -1,5 +1,5 @@
 -- What a run that was brought to its end comes to, and which leases it lost.
-use Rattle.std.proofs.Common.{◌≡◌, ℕ, Bool, true, false, ◌||◌, ◌&&◌, not, List, [], ◌∷◌, ◌++◌, flat_map, map, Result, Ok, Err, IfOk, refl, sym, ◌∙◌, ap, subst}
+use Rattle.std.proofs.Common.{◌≡◌, ℕ, Bool, true, false, ◌||◌, ◌&&◌, not, List, [], ◌∷◌, flat_map, map, Result, Ok, Err, IfOk, refl, sym, ◌∙◌, ap, subst}
 use Rattle.std.specs.List.{All, list_any}
 use Rattle.std.proofs.lemmas.List.Elements.{All-head, All-tail}
 use Rattle.mal_hall.specs.HallView.{HallView}
@@ -16,7 +16,7 @@ use Rattle.mal_pool.proofs.Leavings.{posts-lose-none}
 use Rattle.spec_hall.specs.Events.{Event, bare}
 use Rattle.spec_hall.specs.Legal.{Legal}
 use Rattle.spec_hall.specs.States.{leases, lives, states}
-use Rattle.spec_run.specs.Losses.{is_loss, NoneIsLost, LosesLate}
+use Rattle.spec_run.specs.Losses.{NoneIsLost, LosesLate}
 use Rattle.spec_run.proofs.LossLemmas.{none-late, recalled-late}
 use Rattle.spec_script.specs.Script.{ScriptedJob, Scripted}
 

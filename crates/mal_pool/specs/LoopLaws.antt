@@ -1,4 +1,4 @@
-use Rattle.std.specs.Prelude.{◌≡◌, ℕ, ◌+◌, ◌≤◌, List, [], ◌∷◌, ◌++◌, replicate, Option, Some, None, Result, Ok, Err}
+use Rattle.std.specs.Prelude.{◌≡◌, ℕ, ◌+◌, ◌≤◌, List, [], ◌∷◌, ◌++◌, replicate, Option, None, Ok, Err}
 use Rattle.spec_job.specs.Leased.{Finished}
 use Rattle.mal_base.specs.declared.hall_fault.PickFault.TheVariants as faults
 use Rattle.spec_hall.specs.Calls as calls

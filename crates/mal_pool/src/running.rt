@@ -30,13 +30,27 @@ pub fn run_alone(alloc: Global, script: &Script, workers: u32) -> Result<Hall, A
     ensures sequential { IfOk result (λ h. IsDriven workers (script_events script.now) h.events) }
     ensures none_lost { IfOk result (λ h. NoneIsLost h.events) }
 {
-    let mut scratch = Scratch::new(alloc);
     let mut hall = Hall::new(alloc, workers)?;
-    open_all(&mut hall, script.jobs())?;
-    post_all(&mut hall, script.jobs())?;
+    match run_in(alloc, &mut hall, script) {
+        Ok(()) => Ok(hall),
+        Err(error) => Err(error),
+    }
+}
+
+/// Runs a script in a hall without events.
+fn run_in(alloc: Global, hall: &mut Hall, script: &Script) -> Result<(), AllocError>
+    requires new { hall.old.events ≡ [] }
+    ensures workers { hall.new.workers ≡ hall.old.workers }
+    ensures run { OnOk result (HasRun hall.old.workers script.now hall.new) }
+    ensures sequential { OnOk result (IsDriven hall.old.workers (script_events script.now) hall.new.events) }
+    ensures none_lost { OnOk result (NoneIsLost hall.new.events) }
+{
+    let mut scratch = Scratch::new(alloc);
+    open_all(hall, script.jobs())?;
+    post_all(hall, script.jobs())?;
     hall.drive(&mut scratch)?;
     let _ = hall.history();
-    Ok(hall)
+    Ok(())
 }
 
 /// Opens the jobs of a script in a hall without events.

@@ -1,9 +1,10 @@
 //! What a worker does at a desk.
 
-ghost use Rattle.std.specs.Prelude.{◌≡◌, ◌≤◌, List, [], ◌∷◌, ◌++◌, None, Ok};
+ghost use Rattle.std.specs.Prelude.{◌≡◌, ◌≤◌, List, [], ◌∷◌, ◌++◌, None, Ok, false};
 ghost use Rattle.mal_hall.specs.Desks.{DeskCall, Picked, Gave};
 ghost use Rattle.mal_hall.specs.Offered.{handed_of};
 ghost use Rattle.mal_pool.specs.Gates.{StopsSomewhere};
+ghost use Rattle.mal_pool.specs.declared.gate.Point.TheVariants.{Before};
 ghost use Rattle.mal_pool.specs.Works.{IsTurn, Works, turned_by};
 ghost use Rattle.mal_pool.specs.declared.working.End.TheVariants.{Stopped};
 ghost use Rattle.spec_hall.specs.Calls.{Leased, Return};
@@ -127,16 +128,45 @@ fn work_off<R: Wait, D: Desk, G: Gate>(
 {
     let start = lease.start();
     match gate.at(Point::Before, start, worker) {
-        Step::Stop => return (pass, Turned::Ended(End::Stopped)),
-        Step::Go => {}
+        Step::Stop => {
+            let_lease_go(lease);
+            (pass, Turned::Ended(End::Stopped))
+        }
+        Step::Go => work_on(rt, desk, pass, worker, lease, scratch, gate),
     }
+}
+
+/// Works a lease off with which the gate let the worker pass, and gives back what came of it.
+fn work_on<R: Wait, D: Desk, G: Gate>(
+    rt: &R,
+    desk: &D,
+    pass: D::Pass,
+    worker: u32,
+    lease: Lease,
+    scratch: &mut Scratch,
+    gate: &G,
+) -> (D::Pass, Turned)
+    requires of { D.is_of desk.now pass }
+    requires passed { G.stops gate.now Before lease.journal.start worker ≡ false }
+    ensures of { D.is_of desk.now result.0 }
+    ensures calls { (mine : List DeskCall) × (D.calls result.0 ≡ D.calls pass ++ mine) × IsTurn (G.stops gate.now) worker (Picked worker (Ok (Leased (handed_of lease))) ∷ mine) result.1 }
+{
+    let start = lease.start();
     let back = lease.work(scratch);
     match gate.at(Point::After, start, worker) {
-        Step::Stop => return (pass, Turned::Ended(End::Stopped)),
-        Step::Go => {}
+        Step::Stop => {
+            let_done_go(back);
+            (pass, Turned::Ended(End::Stopped))
+        }
+        Step::Go => give_back(rt, desk, pass, back),
     }
-    give_back(rt, desk, pass, back)
 }
+
+/// Lets a lease go.
+fn let_lease_go(_lease: Lease) {}
+
+/// Lets what came of a lease go.
+fn let_done_go(_back: Done) {}
 
 /// Gives back what came of a lease.
 fn give_back<R: Wait, D: Desk>(rt: &R, desk: &D, pass: D::Pass, back: Done) -> (D::Pass, Turned)

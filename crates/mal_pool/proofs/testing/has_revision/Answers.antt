@@ -1,4 +1,4 @@
-use Rattle.std.proofs.Common.{◌≡◌, ◌∙◌, sym, refl}
+use Rattle.std.proofs.Common.{◌∙◌, sym, refl}
 use Rattle.mal_pool.proofs.Agreements.{among-at, at-default}
 use Rattle.mal_pool.proofs.testing.has_revision.Goals as goal
 

@@ -1,5 +1,5 @@
 use Rattle.spec_run.proofs.PostingLemmas.{posting-formed}
-use Rattle.mal_pool.proofs.Agreements.{contents-all, contents-more}
+use Rattle.mal_pool.proofs.Agreements.{contents-more}
 use Rattle.mal_pool.proofs.testing.have_contents.Goals as goal
 
 pub has_contents-requires : goal.has_contents-requires

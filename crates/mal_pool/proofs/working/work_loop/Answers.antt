@@ -1,4 +1,4 @@
-use Rattle.std.proofs.Common.{◌≡◌, ℕ, ◌-◌, ◌<◌, arith, subst}
+use Rattle.std.proofs.Common.{ℕ, arith, subst}
 use Rattle.mal_pool.specs.Making.{HasMade}
 use Rattle.mal_pool.proofs.Loops.{nothing-made, rested}
 use Rattle.mal_pool.proofs.working.work_loop.Goals as goal

@@ -1,4 +1,4 @@
-use Rattle.std.proofs.Common.{ℕ, ◌-◌, ◌<◌}
+use Rattle.std.proofs.Common.{◌-◌, ◌<◌}
 use Rattle.mal_pool.specs.Making.{HasMade}
 use Rattle.mal_pool.proofs.working.work_loop.Given as goal
 

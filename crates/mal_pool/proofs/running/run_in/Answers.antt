@@ -1,4 +1,4 @@
-use Rattle.std.proofs.Common.{◌≡◌, ℕ, [], ◌++◌, flat_map, List, ◌∙◌, ap, subst}
+use Rattle.std.proofs.Common.{◌≡◌, ℕ, ◌++◌, flat_map, List, ◌∙◌, ap, subst}
 use Rattle.spec_hall.specs.Driven.{GrowsByTurns}
 use Rattle.spec_hall.specs.Events.{Event}
 use Rattle.spec_hall.specs.States.{leases}
@@ -8,7 +8,7 @@ use Rattle.spec_run.proofs.HomeLemmas.{script-home}
 use Rattle.spec_run.proofs.LossLemmas.{grown-loses-none, script-loses-none}
 use Rattle.spec_script.specs.Script.{ScriptedJob, Scripted}
 use Rattle.mal_pool.proofs.PoolLemmas.{has-run}
-use Rattle.mal_pool.proofs.running.run_alone.Goals as goal
+use Rattle.mal_pool.proofs.running.run_in.Goals as goal
 
 pub drive-requires : goal.drive-requires
 drive-requires c =
@@ -26,12 +26,13 @@ returns c =
     let posted : c.post_all.new.hall.events ≡ script_events s =
     c.in_ok-post_all.ensures.events
     ∙ (ap (λ (js : List ScriptedJob). c.open_all.new.hall.events ++ flat_map job_events js) c.jobs-2.ensures.jobs ∙ ap (λ (es : List Event). es ++ flat_map job_events s.jobs) opened) in
-    let before : c.post_all.new.hall.workers ≡ c.args.workers = c.in_ok-post_all.ensures.workers ∙ (c.in_ok-open_all.ensures.workers ∙ c.in_ok-hall.ensures.workers) in
+    let before : c.post_all.new.hall.workers ≡ c.args.hall.now.workers = c.in_ok-post_all.ensures.workers ∙ c.in_ok-open_all.ensures.workers in
     let workers = c.in_ok-drive.ensures.workers ∙ before in
-    let counted : GrowsByTurns c.args.workers c.post_all.new.hall.events c.drive.new.self.events = subst (λ (w : ℕ). GrowsByTurns w c.post_all.new.hall.events c.drive.new.self.events) before c.in_ok-drive.ensures.turns in
-    let turns : GrowsByTurns c.args.workers (script_events s) c.drive.new.self.events = subst (λ (past : List Event). GrowsByTurns c.args.workers past c.drive.new.self.events) posted counted in
+    let counted : GrowsByTurns c.args.hall.now.workers c.post_all.new.hall.events c.drive.new.self.events = subst (λ (w : ℕ). GrowsByTurns w c.post_all.new.hall.events c.drive.new.self.events) before c.in_ok-drive.ensures.turns in
+    let turns : GrowsByTurns c.args.hall.now.workers (script_events s) c.drive.new.self.events = subst (λ (past : List Event). GrowsByTurns c.args.hall.now.workers past c.drive.new.self.events) posted counted in
     record {
-      run = has-run c.args.workers s c.drive.new.self workers c.history.ensures.legal turns c.in_ok-drive.ensures.answered c.in_ok-drive.ensures.home;
-      sequential = grown-driven c.args.workers s c.drive.new.self.events turns c.in_ok-drive.ensures.answered;
-      none_lost = grown-loses-none c.args.workers (script_events s) c.drive.new.self.events turns (script-loses-none s);
+      workers = workers;
+      run = has-run c.args.hall.now.workers s c.drive.new.self workers c.history.ensures.legal turns c.in_ok-drive.ensures.answered c.in_ok-drive.ensures.home;
+      sequential = grown-driven c.args.hall.now.workers s c.drive.new.self.events turns c.in_ok-drive.ensures.answered;
+      none_lost = grown-loses-none c.args.hall.now.workers (script_events s) c.drive.new.self.events turns (script-loses-none s);
     }
