@@ -1,4 +1,4 @@
-use Rattle.std.proofs.Common.{◌≡◌, ℕ, zero, suc, ◌+◌, ◌<◌, ◌^◌, Bool, true, false, cond, not, ◌||◌, List, [], ◌∷◌, ◌++◌, length, take, drop, get_or, filter, bytes_eq, Option, Some, None, refl, sym, ap, ◌∙◌, append_assoc, append-nil, arith, Bor, ◌≤◌, ◌⊎◌, inl, inr}
+use Rattle.std.proofs.Common.{◌≡◌, ℕ, zero, suc, ◌+◌, ◌<◌, ◌^◌, Bool, true, false, cond, not, ◌||◌, List, [], ◌∷◌, ◌++◌, length, take, drop, get_or, filter, map, bytes_eq, Option, Some, None, refl, sym, ap, ◌∙◌, append_assoc, append-nil, arith, Bor, ◌≤◌, ◌⊎◌, inl, inr}
 use Rattle.std.specs.Prelude.{nat_lt}
 use Rattle.std.specs.List.{list_any}
 use Rattle.std.proofs.lemmas.List.Folds.{list_any-append}
@@ -14,7 +14,7 @@ use Rattle.spec_node.specs.Load.{numbered, with_originals, is_derived, loaded}
 use Rattle.spec_node.specs.Import.{has_lits, taken, with_clauses}
 use Rattle.spec_node.specs.Laws.{originals}
 use Rattle.mal_cdcl.specs.Ready.{readied}
-use Rattle.mal_cdcl.specs.Importing.{Sees, lent, picked, is_posted_in, is_loaded_in}
+use Rattle.mal_cdcl.specs.Importing.{Sees, lent, picked, is_told_in, is_posted_in, is_loaded_in}
 
 or-moved : (a b c : Bool) → (b || (a || c)) ≡ ((a || (b || false)) || c)
 or-moved true true c = refl
@@ -51,6 +51,10 @@ lits-with_clauses : (lits : List ℕ) (new cs : List NumberedClause) → has_lit
 lits-with_clauses lits [] cs = refl
 lits-with_clauses lits (c ∷ new) cs = lits-with_clauses lits new (with_clause c cs) ∙ (ap (λ (b : Bool). has_lits lits new || b) (lits-with_clause lits c cs) ∙ or-joined (has_lits lits new) (bytes_eq lits c.lits) (has_lits lits cs))
 
+or-true : (a b : Bool) → b ≡ true → (a || b) ≡ true
+or-true true b h = refl
+or-true false b h = h
+
 -- literals that are told were held or are taken
 lits-taken : (lits : List ℕ) (told cs : List NumberedClause) → (has_lits lits (taken told cs) || has_lits lits cs) ≡ (has_lits lits told || has_lits lits cs)
 lits-taken lits [] cs = refl
@@ -59,12 +63,8 @@ lits-taken lits (c ∷ told) cs = by_test (lits-taken lits told cs) (has_lits c.
     has : bytes_eq lits c.lits ≡ true → has_lits c.lits cs ≡ true → has_lits lits cs ≡ true
     has same h = ap (λ (ls : List ℕ). has_lits ls cs) ((bytes_eq-Decides lits c.lits).0 same) ∙ h
 
-    last : (a b : Bool) → b ≡ true → (a || b) ≡ true
-    last true b h = refl
-    last false b h = h
-
     by_test : (has_lits lits (taken told cs) || has_lits lits cs) ≡ (has_lits lits told || has_lits lits cs) → (b : Bool) → has_lits c.lits cs ≡ b → (e : Bool) → bytes_eq lits c.lits ≡ e → (has_lits lits (cond (not b) (c ∷ taken told cs) (taken told cs)) || has_lits lits cs) ≡ ((e || has_lits lits told) || has_lits lits cs)
-    by_test k true h true same = last (has_lits lits (taken told cs)) (has_lits lits cs) (has same h)
+    by_test k true h true same = or-true (has_lits lits (taken told cs)) (has_lits lits cs) (has same h)
     by_test k true h false same = k
     by_test k false h true same = rw same refl
     by_test k false h false same = rw same k
@@ -159,12 +159,56 @@ drop-all (x ∷ xs) (suc i) l = drop-all xs i (omega arith)
 pub picking-ends : (all : List (Bor (List NumberedClause))) (i : ℕ) (clauses : List NumberedClause) (picks : List (List NumberedClause)) (seen : List (List ℕ)) → length all ≤ i → IsPicking (lent (drop i all)) (lent all) clauses picks seen → picks ≡ picked (lent all) clauses
 picking-ends all i clauses picks seen l h = sym (append-nil picks) ∙ (ap (λ (left : List (List NumberedClause)). picks ++ picked left h.now) (sym (drop-all all i l)) ∙ h.done)
 
--- what has noted the clauses of a node and those of loads has seen those of the node after the loads
-pub sees-readied : (loads : List (Posted × ℕ)) (n : Node) (clauses : List NumberedClause) (none held all : List (List ℕ)) → n.clauses ≡ clauses → none ≡ [] → ((lits : List ℕ) → is_noted lits held ≡ (has_lits lits clauses || is_noted lits none)) → ((lits : List ℕ) → is_noted lits all ≡ (is_loaded_in lits loads || is_noted lits held)) → Sees all (readied loads n).clauses
-sees-readied loads n clauses none held all same empty h k = λ lits.
-    let first : is_noted lits held ≡ has_lits lits n.clauses = h lits ∙ (ap (λ (xs : List (List ℕ)). has_lits lits clauses || is_noted lits xs) empty ∙ (no-more (has_lits lits clauses) ∙ ap (λ (cs : List NumberedClause). has_lits lits cs) (sym same))) in
-    k lits ∙ (ap (λ (b : Bool). is_loaded_in lits loads || b) first ∙ sym (lits-readied lits loads n))
+-- literals that were not told are no others' that were
+pub untold : (told : List (List ℕ)) (lits others : List ℕ) (seen : List (List ℕ)) → not (is_noted lits told) ≡ true → is_noted others told ≡ true → is_noted others seen ≡ (bytes_eq others lits || is_noted others seen)
+untold told lits others seen h k = by_test (bytes_eq others lits) refl
+  where
+    by_told : (b : Bool) → not b ≡ true → b ≡ true → is_noted others seen ≡ true
+    by_told true n e = absurd (cc)
+    by_told false n e = absurd (cc)
+
+    by_test : (b : Bool) → bytes_eq others lits ≡ b → is_noted others seen ≡ (b || is_noted others seen)
+    by_test true same = by_told (is_noted lits told) h (ap (λ (ls : List ℕ). is_noted ls told) (sym ((bytes_eq-Decides others lits).0 same)) ∙ k)
+    by_test false same = refl
+
+-- what is taken of a list is the same of two lists that hold the same of its clauses
+taken-alike : (told cs ds : List NumberedClause) → ((lits : List ℕ) → has_lits lits told ≡ true → has_lits lits cs ≡ has_lits lits ds) → taken told cs ≡ taken told ds
+taken-alike [] cs ds h = refl
+taken-alike (c ∷ told) cs ds h =
+    let own : has_lits c.lits cs ≡ has_lits c.lits ds = h c.lits (ap (λ (b : Bool). b || has_lits c.lits told) ((bytes_eq-Decides c.lits c.lits).1 refl)) in
+    let more : taken told cs ≡ taken told ds = taken-alike told cs ds (λ lits k. h lits (or-true (bytes_eq lits c.lits) (has_lits lits told) k)) in
+    ap (λ (b : Bool). cond (not b) (c ∷ taken told cs) (taken told cs)) own ∙ ap (λ (xs : List NumberedClause). cond (not (has_lits c.lits ds)) (c ∷ xs) xs) more
+
+-- so it is of each of some lists
+picked-alike : (tolds : List (List NumberedClause)) (cs ds : List NumberedClause) → ((lits : List ℕ) → is_told_in lits tolds ≡ true → has_lits lits cs ≡ has_lits lits ds) → picked tolds cs ≡ picked tolds ds
+picked-alike [] cs ds h = refl
+picked-alike (told ∷ more) cs ds h =
+    let here : taken told cs ≡ taken told ds = taken-alike told cs ds (λ lits k. h lits (ap (λ (b : Bool). b || is_told_in lits more) k)) in
+    let rest : picked more (with_clauses (taken told cs) cs) ≡ picked more (with_clauses (taken told ds) ds) = picked-alike more (with_clauses (taken told cs) cs) (with_clauses (taken told ds) ds) (λ lits k. lits-imported lits told cs ∙ (ap (λ (b : Bool). has_lits lits told || b) (h lits (or-true (has_lits lits told) (is_told_in lits more) k)) ∙ sym (lits-imported lits told ds))) in
+    ap (λ (xs : List NumberedClause). xs ∷ picked more (with_clauses (taken told cs) cs)) here ∙ ap (λ (ps : List (List NumberedClause)). taken told ds ∷ ps) rest
+
+-- clauses of these literals
+abbrev clauses_of : List (List ℕ) → List NumberedClause
+clauses_of seen = map (λ (lits : List ℕ). record { id = 0; lits = lits }) seen
+
+seen-clauses : (seen : List (List ℕ)) (lits : List ℕ) → is_noted lits seen ≡ has_lits lits (clauses_of seen)
+seen-clauses [] lits = refl
+seen-clauses (s ∷ seen) lits = ap (λ (b : Bool). bytes_eq lits s || b) (seen-clauses seen lits)
+
+-- a node after loads takes of some lists what passes a filter that has noted those of its clauses and of the loads
+-- that are told
+pub picked-readied : (tolds : List (List NumberedClause)) (loads : List (Posted × ℕ)) (n : Node) (clauses : List NumberedClause) (picks : List (List NumberedClause)) (nothing told none held all : List (List ℕ)) → n.clauses ≡ clauses → nothing ≡ [] → none ≡ []
+    → ((lits : List ℕ) → is_noted lits told ≡ (is_told_in lits tolds || is_noted lits nothing))
+    → ((lits : List ℕ) → is_noted lits told ≡ true → is_noted lits held ≡ (has_lits lits clauses || is_noted lits none))
+    → ((lits : List ℕ) → is_noted lits told ≡ true → is_noted lits all ≡ (is_loaded_in lits loads || is_noted lits held))
+    → ((cs : List NumberedClause) → Sees all cs → picks ≡ picked tolds cs) → picks ≡ picked tolds (readied loads n).clauses
+picked-readied tolds loads n clauses picks nothing told none held all same empty bare g h k p = p (clauses_of all) (seen-clauses all) ∙ picked-alike tolds (clauses_of all) (readied loads n).clauses (λ lits is. sym (seen-clauses all lits) ∙ sees lits (g lits ∙ ap (λ (b : Bool). b || is_noted lits nothing) is))
   where
     no-more : (b : Bool) → (b || false) ≡ b
     no-more true = refl
     no-more false = refl
+
+    sees : (lits : List ℕ) → is_noted lits told ≡ true → is_noted lits all ≡ has_lits lits (readied loads n).clauses
+    sees lits is =
+        let first : is_noted lits held ≡ has_lits lits n.clauses = h lits is ∙ (ap (λ (xs : List (List ℕ)). has_lits lits clauses || is_noted lits xs) bare ∙ (no-more (has_lits lits clauses) ∙ ap (λ (cs : List NumberedClause). has_lits lits cs) (sym same))) in
+        k lits is ∙ (ap (λ (b : Bool). is_loaded_in lits loads || b) first ∙ sym (lits-readied lits loads n))

@@ -33,6 +33,10 @@ picked (told ∷ more) clauses = taken told clauses ∷ picked more (with_clause
 abbrev pub Sees : List (List ℕ) → List NumberedClause → Type 0
 Sees seen clauses = (lits : List ℕ) → is_noted lits seen ≡ has_lits lits clauses
 
+-- whether an entry of the lists has these literals
+abbrev pub is_told_in : List ℕ → List (List NumberedClause) → Bool
+is_told_in lits tolds = list_any (has_lits lits) tolds
+
 -- whether a clause of a revision has these literals
 abbrev pub is_posted_in : List ℕ → List (Option (List ℕ)) → Bool
 is_posted_in lits clauses = list_any (λ c. option_map_or (bytes_eq lits) c false) clauses

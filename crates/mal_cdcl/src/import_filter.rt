@@ -1,14 +1,14 @@
 //! What a node takes of the clauses that it is told: those whose literals no clause held has.
 
-ghost use Rattle.std.specs.Prelude.{◌≡◌, ℕ, ◌||◌, not, List, filter, IfOk, OnOk};
+ghost use Rattle.std.specs.Prelude.{◌≡◌, ℕ, ◌||◌, true, not, bytes_eq, List, filter, IfOk, OnOk};
 ghost use Rattle.mal_base.specs.NumberedClause.{NumberedClause};
 ghost use Rattle.mal_filter.specs.Noted.{is_noted};
 ghost use Rattle.spec_node.specs.Import.{has_lits};
 ghost use Rattle.spec_node.specs.State.{Node};
 ghost use Rattle.mal_cdcl.specs.Ready.{posted, readied};
-ghost use Rattle.mal_cdcl.specs.Importing.{Sees, lent, picked, is_posted_in, is_loaded_in};
+ghost use Rattle.mal_cdcl.specs.Importing.{Sees, lent, picked, is_told_in, is_posted_in, is_loaded_in};
 
-use mal_base::{Clause, NumberedClause};
+use mal_base::{Clause, Lit, NumberedClause};
 use mal_buffer::Buffer;
 use mal_filter::ClauseSet;
 use mal_revision::Revision;
@@ -65,9 +65,11 @@ pub fn picks_of<E: Listed>(
     if imports.is_empty() {
         return Ok(Vec::new(alloc));
     }
+    let mut told = ClauseSet::new(alloc);
+    note_told(&mut told, imports)?;
     let mut seen = ClauseSet::new(alloc);
-    note_held(&mut seen, engine)?;
-    note_loads(&mut seen, loads)?;
+    note_held(&mut seen, &told, engine)?;
+    note_loads(&mut seen, &told, loads)?;
     picks_past(alloc, &mut seen, imports)
 }
 
@@ -97,37 +99,69 @@ fn note_entries(seen: &mut ClauseSet, entries: &[NumberedClause]) -> Result<(), 
     Ok(())
 }
 
-/// Notes the clauses of an engine.
-fn note_held<E: Listed>(seen: &mut ClauseSet, engine: &E) -> Result<(), AllocError>
-    ensures { OnOk result ((lits : List ℕ) → is_noted lits seen.new ≡ (has_lits lits (E.clauses engine.now) || is_noted lits seen.old)) }
+/// Notes the entries of imports.
+fn note_told(told: &mut ClauseSet, imports: &[&Buffer]) -> Result<(), AllocError>
+    ensures { OnOk result ((lits : List ℕ) → is_noted lits told.new ≡ (is_told_in lits (lent imports.now) || is_noted lits told.old)) }
+{
+    for buffer in imports {
+        note_entries(told, buffer.entries())?;
+    }
+    Ok(())
+}
+
+/// Notes those clauses of an engine that are told too.
+fn note_held<E: Listed>(
+    seen: &mut ClauseSet,
+    told: &ClauseSet,
+    engine: &E,
+) -> Result<(), AllocError>
+    ensures { OnOk result ((lits : List ℕ) → is_noted lits told.now ≡ true → is_noted lits seen.new ≡ (has_lits lits (E.clauses engine.now) || is_noted lits seen.old)) }
 {
     for place in 0..engine.count() {
         let (_id, lits) = engine.clause_at(place);
-        seen.note_lits(lits)?;
+        note_if_told(seen, told, lits)?;
     }
     Ok(())
 }
 
-/// Notes the clauses of loads.
-fn note_loads(seen: &mut ClauseSet, loads: &[(&Revision, u32)]) -> Result<(), AllocError>
-    ensures { OnOk result ((lits : List ℕ) → is_noted lits seen.new ≡ (is_loaded_in lits (posted loads.now) || is_noted lits seen.old)) }
+/// Notes those clauses of loads that are told too.
+fn note_loads(
+    seen: &mut ClauseSet,
+    told: &ClauseSet,
+    loads: &[(&Revision, u32)],
+) -> Result<(), AllocError>
+    ensures { OnOk result ((lits : List ℕ) → is_noted lits told.now ≡ true → is_noted lits seen.new ≡ (is_loaded_in lits (posted loads.now) || is_noted lits seen.old)) }
 {
     for load in loads {
         let (revision, _first) = load;
-        note_posted(seen, revision.clauses())?;
+        note_posted(seen, told, revision.clauses())?;
     }
     Ok(())
 }
 
-/// Notes the clauses of a revision.
-fn note_posted(seen: &mut ClauseSet, clauses: &[Option<Clause>]) -> Result<(), AllocError>
-    ensures { OnOk result ((lits : List ℕ) → is_noted lits seen.new ≡ (is_posted_in lits clauses.now || is_noted lits seen.old)) }
+/// Notes those clauses of a revision that are told too.
+fn note_posted(
+    seen: &mut ClauseSet,
+    told: &ClauseSet,
+    clauses: &[Option<Clause>],
+) -> Result<(), AllocError>
+    ensures { OnOk result ((lits : List ℕ) → is_noted lits told.now ≡ true → is_noted lits seen.new ≡ (is_posted_in lits clauses.now || is_noted lits seen.old)) }
 {
     for clause in clauses {
         match clause {
             None => {}
-            Some(clause) => seen.note(clause)?,
+            Some(clause) => note_if_told(seen, told, clause.lits())?,
         }
     }
     Ok(())
+}
+
+/// Notes these literals where they are told too.
+fn note_if_told(seen: &mut ClauseSet, told: &ClauseSet, lits: &[Lit]) -> Result<(), AllocError>
+    ensures { OnOk result ((others : List ℕ) → is_noted others told.now ≡ true → is_noted others seen.new ≡ (bytes_eq others lits.now || is_noted others seen.old)) }
+{
+    if told.passes_lits(lits) {
+        return Ok(());
+    }
+    seen.note_lits(lits)
 }
