@@ -240,7 +240,7 @@ impl<E: Listed> Node<E> {
     }
 
     /// Makes room for these loads, the clauses that are taken and a slice after them, in a scratch too, and takes the
-    /// lines away.
+    /// lines away, in exchange for the scratch's spare lines.
     fn make_room(
         &mut self,
         loads: &[(&Revision, u32)],
@@ -265,11 +265,9 @@ impl<E: Listed> Node<E> {
         let clauses = needs::added(needs.clauses, SLICE_STEPS as usize)?;
         let literals = needs::added(needs.literals, numbers)?;
         self.engine.reserve(needs.variables, clauses, literals)?;
-        self.lines.reserve(SLICE_STEPS as usize, numbers, numbers)?;
         scratch.fit(needs.variables)?;
         self.fit_ids(clauses, scratch)?;
-        self.lines.clear();
-        Ok(())
+        scratch.swap_spare(&mut self.lines, SLICE_STEPS as usize, numbers, numbers)
     }
 
     /// Makes room in a scratch for the numbers of the clauses held and of so many more, where the profile drops
@@ -669,8 +667,9 @@ impl<E: Listed> Node<E> {
 
 impl<E: Listed> Node<E> {
     /// Loads revisions, each with the number of its first clause, one after another, then imports what was told, one
-    /// list after another, and makes room for a slice in the node and in a scratch. Where memory is wanting the node's
-    /// state and its lines stay as they were; else the lines of the last slice are taken away.
+    /// list after another, and makes room for a slice in the node and in a scratch. The room for the slice's lines is
+    /// that of the scratch's spare lines. Where memory is wanting the node's state and its lines stay as they were;
+    /// else the lines of the last slice are taken away.
     pub fn ready(
         &mut self,
         loads: &[(&Revision, u32)],

@@ -1,6 +1,6 @@
 //! The scratch of an analysis, and the analysis.
 
-ghost use Rattle.std.specs.Prelude.{◌≡◌, ◌-◌, ◌<◌, ◌≤◌, [], length, reverse, take, OnOk};
+ghost use Rattle.std.specs.Prelude.{◌≡◌, ◌-◌, ◌<◌, ◌≤◌, [], length, reverse, take, OnOk, OnErr};
 ghost use Rattle.spec_node.specs.Sound.{EachAfter, IsPlaced};
 ghost use Rattle.spec_learn.specs.Analysis.{analysed, core, reached, top};
 ghost use Rattle.spec_learn.specs.Shorter.{shortened};
@@ -9,19 +9,22 @@ ghost use Rattle.mal_learn.specs.Shown.{ClausesWithin, last_of};
 use crate::dropping::Choice;
 use crate::flags::Flags;
 use crate::work::{Work, mark_level};
-use mal_base::{ClauseId, ClauseView, Lit, TrailView};
+use mal_base::{ClauseId, ClauseView, Lines, Lit, TrailView};
 use std::alloc::{AllocError, Global};
 use std::marker::Model;
+use std::mem;
 
 /// What an analysis works in, and what the last one left: a derived clause, its hints and the level to jump to.
 /// Contracts see these and the bound below which there is room for each variable, 0 before the first `fit`; then for
 /// how many clauses there is room to choose among them, 0 before the first `fit_ids`, and those that were chosen last.
-/// What else a scratch holds never changes an analysis.
+/// What else a scratch holds never changes an analysis. Beside that it keeps spare lines, whose room one slice after
+/// another derives its lines in.
 #[derive(Drop)]
 pub struct Scratch {
     work: Work,
     base: Flags,
     pub choice: Choice,
+    spare: Lines,
 }
 
 impl Model for Scratch {
@@ -54,6 +57,7 @@ impl Scratch {
             work: Work::new(alloc),
             base: Flags::new(alloc),
             choice: Choice::new(alloc),
+            spare: Lines::new(alloc),
         }
     }
 
@@ -82,6 +86,35 @@ impl Scratch {
         ensures level { self.new.level ≡ self.old.level }
     {
         self.choice.fit(ids)
+    }
+
+    /// Puts the spare lines, emptied and with room for so many lines, literals and hints, in place of these, which are
+    /// the spare from now on. After want of memory these lines are as before.
+    pub fn swap_spare(
+        &mut self,
+        lines: &mut Lines,
+        count: usize,
+        lits: usize,
+        hints: usize,
+    ) -> Result<(), AllocError>
+        ensures none { OnOk result (lines.new.lines ≡ []) }
+        ensures room { OnOk result (count ≤ lines.new.room) }
+        ensures lit_room { OnOk result (lits ≤ lines.new.lit_room) }
+        ensures hint_room { OnOk result (hints ≤ lines.new.hint_room) }
+        ensures kept { OnErr result (lines.new ≡ lines.old) }
+        ensures same { self.new ≡ self.old }
+    {
+        self.spare.clear();
+        self.spare.reserve(count, lits, hints)?;
+        mem::swap(&mut self.spare, lines);
+        Ok(())
+    }
+
+    /// Keeps these lines as the spare, for the room that they have. Takes no memory.
+    pub fn keep_spare(&mut self, lines: Lines)
+        ensures { self.new ≡ self.old }
+    {
+        self.spare = lines;
     }
 
     /// The numbers of the clauses that were chosen last, to be put in another order. All else stays.

@@ -1,7 +1,6 @@
 -- The node of a journal is in the form of an image.
-use Rattle.std.proofs.Common.{◌≡◌, ℕ, zero, suc, ◌+◌, ◌<◌, ◌≤◌, ◌^◌, true, List, [], ◌∷◌, ◌++◌, fold, refl, sym, ap, subst, ◌∙◌, arith, inl, inr}
+use Rattle.std.proofs.Common.{◌≡◌, ℕ, zero, suc, ◌≤◌, true, List, [], ◌∷◌, ◌++◌, fold, refl, sym, subst, arith, inl, inr}
 use Rattle.spec_node.specs.State.{Node, fresh_with, has_profile}
-use Rattle.spec_node.specs.Sound.{IsSound}
 use Rattle.spec_node.proofs.SoundLemmas.{fresh-with_sound}
 use Rattle.spec_node.proofs.ImportLemmas.{by-taking}
 use Rattle.spec_search.specs.Slice.{Sliced, slice}
@@ -10,7 +9,7 @@ use Rattle.spec_search.proofs.SoundLemmas.{slice-sound}
 use Rattle.spec_job.specs.Journal.{JournalEntry, Load, Import, Run, after_entry, replay}
 use Rattle.mal_freeze.specs.Imaged.{IsImage}
 use Rattle.mal_freeze.proofs.SoundLemmas.{sound-image}
-use Rattle.mal_suspend.specs.Replaying.{MayReplay, MayAllReplay, AreAtRest, IsJournal}
+use Rattle.mal_suspend.specs.Replaying.{MayReplay, AreAtRest, IsJournal}
 use Rattle.mal_suspend.proofs.ReplayLemmas.{journal-behind, replay-grows}
 
 -- a slice of a node that may run one leaves it in form

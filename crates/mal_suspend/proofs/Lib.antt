@@ -4,3 +4,4 @@ mod StartLemmas
 mod EntryLemmas
 mod RebuildLemmas
 mod FormLemmas
+mod PackLemmas

@@ -7,7 +7,7 @@ use Rattle.spec_search.specs.Slice.{Sliced, slice}
 use Rattle.spec_job.specs.Journal.{JournalEntry, Run, after_entry, replay}
 use Rattle.mal_suspend.specs.Entries.{slices_of}
 use Rattle.mal_suspend.specs.Replaying.{alone, after_entries, MayReplay, MayAllReplay}
-use Rattle.mal_suspend.proofs.ReplayLemmas.{may-behind, after-alone, after-more_alone, replay-grows}
+use Rattle.mal_suspend.proofs.ReplayLemmas.{may-behind, after-more_alone, replay-grows}
 
 -- each of the slices in a row may be run
 slices-may : (s : Sliced) (count k : ℕ) → k < count → MayAllReplay s (slices_of count) → MayReplay Run (fold after_entry s (slices_of k)).node

@@ -3,3 +3,4 @@ pub mod Entries
 pub mod Starting
 pub mod Kept
 pub mod Freezing
+pub mod Packed

@@ -8,8 +8,10 @@ ghost use Rattle.spec_job.specs.Leased.{Tells, model_with};
 
 use crate::journal::Journal;
 use crate::kept::Kept;
+use crate::packing::packed;
 use crate::suspended::{Solver, Suspended};
 use mal_base::{Lines, Outcome, Values, Verdict};
+use mal_learn::Scratch;
 use std::marker::Model;
 
 /// What came of a lease: the worker, how the start ended, and what is kept of the node; of a start that ran also the
@@ -159,6 +161,22 @@ impl Done {
             outcome: self.outcome,
             kept: self.kept.cooled(),
             lines: self.lines,
+            verdict: self.verdict,
+            values: self.values,
+        }
+    }
+
+    /// The same, with the lines in no more room than they need where memory for that is there; a scratch keeps the room
+    /// that they had, for the next slice.
+    pub fn packed(self, scratch: &mut Scratch) -> Done
+        ensures { result ≡ self }
+    {
+        let alloc = self.kept.journal().allocator();
+        Done {
+            worker: self.worker,
+            outcome: self.outcome,
+            kept: self.kept,
+            lines: packed(alloc, self.lines, scratch),
             verdict: self.verdict,
             values: self.values,
         }

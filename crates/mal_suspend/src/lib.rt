@@ -10,6 +10,7 @@ mod journal;
 mod kept;
 mod lease;
 mod lending;
+mod packing;
 mod rebuilding;
 mod start;
 mod suspended;

@@ -67,7 +67,8 @@ impl Start {
         })
     }
 
-    /// Starts a node with its journal, and gives it back to this worker's account with what came of it.
+    /// Starts a node with its journal, and gives it back to this worker's account with what came of it. The scratch
+    /// lends the room for the lines and gets it back.
     pub fn run(self, suspended: Suspended, worker: u32, scratch: &mut Scratch) -> Done
         requires { self.grown ≡ and_entries suspended self.adds }
         ensures worker { result.worker ≡ worker }
@@ -78,7 +79,7 @@ impl Start {
             Err(_) => Done::starved(worker, Kept::Live(Suspended::of(node, journal))),
             Ok(()) => {
                 node.run(scratch);
-                Done::ran(worker, node, self.grown, self.values)
+                Done::ran(worker, node, self.grown, self.values).packed(scratch)
             }
         }
     }
