@@ -6,6 +6,7 @@ mod claim;
 mod claim_proof;
 mod dimacs;
 mod history;
+mod history_pieces;
 mod history_writing;
 mod io;
 mod lrat;
