@@ -16,7 +16,7 @@ use Rattle.mal_claim.specs.declared.fault.ClaimFault.{ClaimFault}
 use Rattle.mal_claim.specs.ReadResult.{Fails, Tells, TellsVerdict, fault_of, refused, verdict_in}
 use Rattle.mal_answer.specs.Answers.{IsAnswerTo}
 use Rattle.mal_answer.specs.Claims.{TellsFault, TellsRefusal, IsUnverified}
-use Rattle.mal_answer.specs.Commands.{IsProved, InGrammar, Meets, TellsFirst}
+use Rattle.mal_answer.specs.Commands.{IsProved, InGrammar, TellsFirst}
 use Rattle.mal_answer.specs.declared.answer.Complaint.{Complaint}
 use Rattle.mal_answer.specs.declared.answer.Complaint.TheVariants as complaint
 use Rattle.mal_words.specs.declared.request.Request.TheVariants.{Check}

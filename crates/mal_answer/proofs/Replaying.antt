@@ -1,8 +1,7 @@
 -- A run's own history replays to its output.
-use Rattle.std.proofs.Common.{◌≡◌, ℕ, List, ◌++◌, map, codes, Ok, refl, sym, subst}
-use Rattle.mal_answer.specs.Commands.{Gives, IsRunOf}
+use Rattle.std.proofs.Common.{ℕ, List, ◌++◌, map, codes, refl, sym, subst}
 use Rattle.mal_answer.specs.Laws.{RunReplays}
-use Rattle.mal_history.specs.Formed.{IsHistory, written_read}
+use Rattle.mal_history.specs.Formed.{written_read}
 use Rattle.mal_history.specs.Text.{history_text}
 use Rattle.spec_account.specs.Accounts.{Account}
 use Rattle.spec_account.specs.Grammar.{Spells}
@@ -10,9 +9,7 @@ use Rattle.spec_account.proofs.AgainLemmas.{written-is-read}
 use Rattle.spec_account.proofs.ReadLemmas.{spelled-is-read}
 use Rattle.spec_hall.specs.Events.{bare}
 use Rattle.spec_replay.proofs.RunLemmas.{run-is_replied}
-use Rattle.spec_script.specs.Formed.{IsScript}
-use Rattle.spec_script.specs.Limits.{served}
-use Rattle.spec_script.specs.Script.{Scripted, spelling}
+use Rattle.spec_script.specs.Script.{spelling}
 
 pub run-replays : RunReplays
 run-replays workers s log out run formed within =

@@ -2,7 +2,7 @@
 use Rattle.std.proofs.Common.{◌≡◌, ◌⊎◌, ℕ, ◌≤◌, ◌<◌, ◌+◌, ◌^◌, List, [], ◌++◌, ◌∙◌, ap, sym, inl, inr, append-nil, length, length-append, arith, subst, refl, Ok, Err, Result}
 use Rattle.std.specs.Prelude.{Option, Some, None}
 use Rattle.std.specs.Io.KnownBytes.{Consumes, IsAtEnd}
-use Rattle.mal_answer.specs.Answers.{IsAnswer, IsAnswerTo, IsConcluded, IsUnread}
+use Rattle.mal_answer.specs.Answers.{IsAnswer, IsAnswerTo, IsConcluded, IsUnread, logged}
 use Rattle.mal_answer.specs.Commands.{InGrammar, Meets, Gives, Refuses, Denies}
 use Rattle.mal_answer.specs.Devices.{Device, Failed, Gave, GaveTooMuch, AreSilent}
 use Rattle.mal_answer.specs.Served.{Says, IsWithin, IsMet, IsUnmet, IsOutside, HasServed, SaysMade, HasMade, HasDone}
@@ -38,8 +38,8 @@ pub ruleset answer_lemmas = (answered, unanswered)
 
 -- the status says what was done
 says : (r : Request) (source log out : Device) (answer : Result Texts Complaint) (status : ℕ) → IsAnswer r source answer → IsConcluded log out answer status → Says r source log out status
-says r source log out (Ok texts) status (inl a) (inl c) = inl (c.0, record { text = a.0; log_text = texts.log.items; out_text = texts.out.items; gave = a.1; gives = a.2; wrote = c.1 })
-says r source log out (Ok texts) status (inl a) (inr c) = inr (inr (inr (inl (c.0, record { text = a.0; log_text = texts.log.items; out_text = texts.out.items; gave = a.1; gives = a.2; wrote = c.2; failed = c.1 }))))
+says r source log out (Ok texts) status (inl a) (inl c) = inl (c.0, record { text = a.0; log_text = logged texts.log; out_text = texts.out.items; gave = a.1; gives = a.2; wrote = c.1 })
+says r source log out (Ok texts) status (inl a) (inr c) = inr (inr (inr (inl (c.0, record { text = a.0; log_text = logged texts.log; out_text = texts.out.items; gave = a.1; gives = a.2; wrote = c.2; failed = c.1 }))))
 says r source log out (Ok texts) status (inr a) c = absurd a
 says r source log out (Err complaint.Unread) status (inl a) c = absurd a.2
 says r source log out (Err complaint.Unread) status (inr a) c = inr (inr (inl (c.0, a, c.1)))
@@ -135,8 +135,8 @@ served r source log out answer status a c = record {
 
 -- a command without an input has made what it makes
 says-made : (r : Request) (log out : Device) (answer : Result Texts Complaint) (status : ℕ) → IsAnswerTo r [] answer → ((line : List ℕ) → Refuses r [] line → ⊥) → ((line : List ℕ) → Denies r [] line → ⊥) → IsConcluded log out answer status → SaysMade r log out status
-says-made r log out (Ok texts) status a unrefused never (inl c) = inl (c.0, (texts.log.items, texts.out.items, a, c.1))
-says-made r log out (Ok texts) status a unrefused never (inr c) = inr (inl (c.0, (texts.log.items, texts.out.items, a, c.2, c.1)))
+says-made r log out (Ok texts) status a unrefused never (inl c) = inl (c.0, (logged texts.log, texts.out.items, a, c.1))
+says-made r log out (Ok texts) status a unrefused never (inr c) = inr (inl (c.0, (logged texts.log, texts.out.items, a, c.2, c.1)))
 says-made r log out (Err complaint.Unread) status a unrefused never c = absurd a
 says-made r log out (Err complaint.TooLong) status a unrefused never c = absurd a
 says-made r log out (Err (complaint.Refused line)) status a unrefused never c = absurd (unrefused line.items a)

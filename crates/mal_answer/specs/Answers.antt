@@ -1,19 +1,33 @@
 -- What the steps of a command answer.
-use Rattle.std.specs.Prelude.{◌≡◌, ℕ, List, [], ◌⊎◌, Result, Ok, Err}
+use Rattle.std.specs.Prelude.{◌≡◌, ℕ, List, [], ◌⊎◌, Result, Ok, Err, map}
 use Rattle.mal_answer.specs.Commands.{Gives, Refuses, Denies}
 use Rattle.mal_answer.specs.Devices.{Device, Failed, Gave, GaveTooMuch, AreSilent, WroteWhole, WrotePart, Complained, too_long_line}
+use Rattle.mal_answer.specs.declared.answer.LogText.{LogText}
+use Rattle.mal_answer.specs.declared.answer.LogText.TheVariants.{Empty, History}
 use Rattle.mal_answer.specs.declared.answer.Complaint.{Complaint}
 use Rattle.mal_answer.specs.declared.answer.Complaint.TheVariants as complaint
 use Rattle.mal_answer.specs.declared.answer.Texts.{Texts}
 use Rattle.mal_answer.specs.Summaries.{summary_line}
+use Rattle.mal_hall.specs.HallView.{HallView}
+use Rattle.mal_history.specs.Text.{history_text}
 use Rattle.mal_script.specs.declared.fault.ScriptFault.{ScriptFault}
 use Rattle.mal_script.specs.ReadResult.{Tells}
+use Rattle.spec_hall.specs.Events.{bare}
 use Rattle.mal_words.specs.declared.request.Request.{Request}
 use Rattle.mal_words.specs.declared.request.Request.TheVariants.{Run}
 
+-- the text of the history of a hall
+abbrev pub hall_text : HallView → List ℕ
+hall_text hall = history_text hall.workers (map bare hall.events)
+
+-- the bytes of a text for the log
+abbrev pub logged : LogText → List ℕ
+logged Empty = []
+logged (History hall) = hall_text hall
+
 -- a command's answer to a text: what it gives, why it gives nothing, or memory ran out
 abbrev pub IsAnswerTo : Request → List ℕ → Result Texts Complaint → Type 0
-IsAnswerTo r text (Ok texts) = Gives r text texts.log.items texts.out.items
+IsAnswerTo r text (Ok texts) = Gives r text (logged texts.log) texts.out.items
 IsAnswerTo r text (Err complaint.Unread) = ⊥
 IsAnswerTo r text (Err complaint.TooLong) = ⊥
 IsAnswerTo r text (Err (complaint.Refused line)) = Refuses r text line.items
@@ -45,7 +59,7 @@ IsFinished log out log_text out_text status =
 
 -- what is written for an answer, and the status
 abbrev pub IsConcluded : Device → Device → Result Texts Complaint → ℕ → Type 0
-IsConcluded log out (Ok texts) status = IsFinished log out texts.log.items texts.out.items status
+IsConcluded log out (Ok texts) status = IsFinished log out (logged texts.log) texts.out.items status
 IsConcluded log out (Err complaint.Unread) status = (status ≡ 4) × AreSilent log out
 IsConcluded log out (Err complaint.TooLong) status = (status ≡ 3) × Complained log out too_long_line
 IsConcluded log out (Err (complaint.Refused line)) status = (status ≡ 3) × Complained log out line.items
@@ -70,7 +84,7 @@ TellsScriptFault fault complaint.OutOfMemory = Unit {0}
 
 -- the log of a run, with the summary of its replies for the output
 abbrev pub IsSummaryOf : ℕ → List ℕ → List ℕ → Result Texts Complaint → Type 0
-IsSummaryOf jobs log replies (Ok texts) = (texts.log.items ≡ log) × (texts.out.items ≡ summary_line jobs replies)
+IsSummaryOf jobs log replies (Ok texts) = (logged texts.log ≡ log) × (texts.out.items ≡ summary_line jobs replies)
 IsSummaryOf jobs log replies (Err complaint.Unread) = ⊥
 IsSummaryOf jobs log replies (Err complaint.TooLong) = ⊥
 IsSummaryOf jobs log replies (Err (complaint.Refused line)) = ⊥

@@ -3,7 +3,7 @@ use Rattle.std.specs.Prelude.{◌≡◌, ◌^◌, ◌<◌, ◌≤◌, ℕ, List,
 use Rattle.mal_answer.specs.Commands.{InGrammar, Meets, Gives, Refuses, Denies}
 use Rattle.mal_answer.specs.Devices.{Device, Failed, Gave, GaveTooMuch, AreSilent, WroteWhole, WrotePart, Complained, too_long_line}
 use Rattle.mal_words.specs.declared.request.Request.{Request}
-use Rattle.mal_words.specs.declared.request.Request.TheVariants.{Run, Check, Replay, Generate, RunGenerated}
+use Rattle.mal_words.specs.declared.request.Request.TheVariants.{Generate, RunGenerated}
 
 -- status 0: the source gave an input to its end, and what the command gives for it was written whole
 pub record IsDone (r : Request) (source log out : Device) : Type 0 where

@@ -1,9 +1,20 @@
 //! What a command answers to its input.
 
+use mal_hall::Hall;
+
+/// The text for the log: the bytes of a history are not made before they are written.
+#[derive(Drop)]
+pub enum LogText {
+    /// No byte.
+    Empty,
+    /// The text of the history of a hall.
+    History(Hall),
+}
+
 /// What a command gives: the text for the log and the text for the output.
-#[derive(Debug, Drop)]
+#[derive(Drop)]
 pub struct Texts {
-    pub log: Vec<u8>,
+    pub log: LogText,
     pub out: Vec<u8>,
 }
 

@@ -2,7 +2,7 @@
 
 ghost use Rattle.std.specs.Prelude.{◌≡◌, ◌<◌, ◌^◌, [], length, IfOk, IfErr, OnOk};
 ghost use Rattle.mal_claim.specs.ReadResult.{seen};
-ghost use Rattle.mal_answer.specs.Answers.{IsAnswer, IsAnswerTo};
+ghost use Rattle.mal_answer.specs.Answers.{IsAnswer, IsAnswerTo, logged};
 ghost use Rattle.mal_answer.specs.Commands.{IsProved, Verifies};
 ghost use Rattle.mal_answer.specs.Claims.{TellsFault, TellsRefusal, IsUnverified};
 ghost use Rattle.mal_answer.specs.Devices.{device};
@@ -10,7 +10,7 @@ ghost use Rattle.mal_words.specs.declared.request.Request.TheVariants.{Check};
 ghost use Rattle.spec_claim.specs.FaultLines.{verified_line};
 ghost use Rattle.spec_logic.specs.Logic.{IsUnsatisfiable};
 
-use crate::answer::{Complaint, Texts};
+use crate::answer::{Complaint, LogText, Texts};
 use crate::reading::input;
 use mal_claim::{ClaimFault, VerifyFault, fault_line, read, verdict_line, verify};
 use mal_io::Source;
@@ -44,7 +44,7 @@ fn check_text(alloc: Global, text: &[u8]) -> Result<Texts, Complaint>
 fn judge(alloc: Global, claim: mal_claim::Claim) -> Result<Texts, Complaint>
     ensures proved { OnOk result (IsProved (seen claim)) }
     ensures unsatisfiable { OnOk result (IsUnsatisfiable claim.formula.clauses claim.assumptions.items) }
-    ensures texts { IfOk result (λ t. (t.log.items ≡ []) × (t.out.items ≡ verified_line)) }
+    ensures texts { IfOk result (λ t. (logged t.log ≡ []) × (t.out.items ≡ verified_line)) }
     ensures denied { IfErr result (λ e. IsUnverified (seen claim) e) }
 {
     let mal_claim::Claim {
@@ -63,12 +63,12 @@ fn judge(alloc: Global, claim: mal_claim::Claim) -> Result<Texts, Complaint>
 
 /// The texts of a verified claim.
 fn verified(alloc: Global) -> Result<Texts, AllocError>
-    ensures { IfOk result (λ t. (t.log.items ≡ []) × (t.out.items ≡ verified_line)) }
+    ensures { IfOk result (λ t. (logged t.log ≡ []) × (t.out.items ≡ verified_line)) }
 {
     let mut out = Vec::new(alloc);
     out.extend_from_slice(b"s VERIFIED\n")?;
     Ok(Texts {
-        log: Vec::new(alloc),
+        log: LogText::Empty,
         out,
     })
 }

@@ -1,10 +1,11 @@
 //! The statuses, and what is written with each.
 
 ghost use Rattle.std.specs.Prelude.{◌⊎◌, OnOk, OnErr};
-ghost use Rattle.mal_answer.specs.Answers.{IsConcluded, IsFinished};
+ghost use Rattle.mal_answer.specs.Answers.{IsConcluded, IsFinished, hall_text, logged};
 ghost use Rattle.mal_answer.specs.Devices.{Complained, Failed, Gained, GainedFront, WroteWhole, WrotePart, device};
 
-use crate::answer::{Complaint, Texts};
+use crate::answer::{Complaint, LogText, Texts};
+use mal_hall::Hall;
 use mal_io::{Sink, WriteFault, write_all};
 
 /// The texts of a command were written whole.
@@ -58,7 +59,7 @@ pub fn conclude<K: Sink, L: Sink>(answer: Result<Texts, Complaint>, out: &mut K,
 
 /// Writes what a command gives: status 0, or 5 where a sink failed.
 fn finish<K: Sink, L: Sink>(texts: &Texts, out: &mut K, log: &mut L) -> u8
-    ensures { IsFinished (device L.got L.faults log.old log.new) (device K.got K.faults out.old out.new) texts.now.log.items texts.now.out.items result }
+    ensures { IsFinished (device L.got L.faults log.old log.new) (device K.got K.faults out.old out.new) (logged texts.now.log) texts.now.out.items result }
 {
     match write_both(texts, out, log) {
         Ok(()) => DONE,
@@ -68,12 +69,33 @@ fn finish<K: Sink, L: Sink>(texts: &Texts, out: &mut K, log: &mut L) -> u8
 
 /// Writes the text for the log, and then that for the output.
 fn write_both<K: Sink, L: Sink>(texts: &Texts, out: &mut K, log: &mut L) -> Result<(), WriteFault>
-    ensures whole { OnOk result (WroteWhole (device L.got L.faults log.old log.new) (device K.got K.faults out.old out.new) texts.now.log.items texts.now.out.items) }
-    ensures part { OnErr result (WrotePart (device L.got L.faults log.old log.new) (device K.got K.faults out.old out.new) texts.now.log.items texts.now.out.items) }
+    ensures whole { OnOk result (WroteWhole (device L.got L.faults log.old log.new) (device K.got K.faults out.old out.new) (logged texts.now.log) texts.now.out.items) }
+    ensures part { OnErr result (WrotePart (device L.got L.faults log.old log.new) (device K.got K.faults out.old out.new) (logged texts.now.log) texts.now.out.items) }
     ensures cause { OnErr result (Failed (device L.got L.faults log.old log.new) ⊎ Failed (device K.got K.faults out.old out.new)) }
 {
-    write_all(log, texts.log.as_slice())?;
+    write_log(log, &texts.log)?;
     write_all(out, texts.out.as_slice())
+}
+
+/// Writes the text for the log, that of a history line by line.
+fn write_log<L: Sink>(log: &mut L, text: &LogText) -> Result<(), WriteFault>
+    ensures whole { OnOk result (Gained (device L.got L.faults log.old log.new) (logged text.now)) }
+    ensures front { GainedFront (device L.got L.faults log.old log.new) (logged text.now) }
+    ensures cause { OnErr result (Failed (device L.got L.faults log.old log.new)) }
+{
+    match text {
+        LogText::Empty => Ok(()),
+        LogText::History(hall) => write_history(log, hall),
+    }
+}
+
+/// Writes the text of the history of a hall.
+fn write_history<L: Sink>(log: &mut L, hall: &Hall) -> Result<(), WriteFault>
+    ensures whole { OnOk result (Gained (device L.got L.faults log.old log.new) (hall_text hall.now)) }
+    ensures front { GainedFront (device L.got L.faults log.old log.new) (hall_text hall.now) }
+    ensures cause { OnErr result (Failed (device L.got L.faults log.old log.new)) }
+{
+    mal_log::write(log, hall.history())
 }
 
 /// Writes a line to the log, as far as the log takes it.

@@ -6,7 +6,7 @@ ghost use Rattle.mal_words.specs.declared.request.Request.TheVariants.{Generate}
 ghost use Rattle.spec_gen.specs.Generated.{generated};
 ghost use Rattle.spec_script.specs.Script.{spelling};
 
-use crate::answer::{Complaint, Texts};
+use crate::answer::{Complaint, LogText, Texts};
 use mal_script::{generate, write};
 use std::alloc::{AllocError, Global};
 
@@ -19,7 +19,7 @@ pub fn generated(alloc: Global, seed: u32, jobs: u32) -> Result<Texts, Complaint
 {
     match script_text(alloc, seed, jobs) {
         Ok(out) => Ok(Texts {
-            log: Vec::new(alloc),
+            log: LogText::Empty,
             out,
         }),
         Err(_) => Err(Complaint::OutOfMemory),

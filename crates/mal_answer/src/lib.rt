@@ -11,7 +11,7 @@ mod reading;
 mod scripts;
 mod summary;
 
-pub use answer::{Complaint, Texts};
+pub use answer::{Complaint, LogText, Texts};
 pub use checking::check_source;
 pub use concluding::{BAD_WORDS, OUT_OF_MEMORY, complain, conclude};
 pub use generating::generated;

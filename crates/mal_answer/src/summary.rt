@@ -1,7 +1,7 @@
 //! The summary of a run's replies.
 
 ghost use Rattle.std.specs.Prelude.{◌≡◌, ◌≤◌, bytes_eq, if◌then◌else◌, IfOk};
-ghost use Rattle.mal_answer.specs.Answers.{IsSummaryOf};
+ghost use Rattle.mal_answer.specs.Answers.{IsSummaryOf, logged};
 ghost use Rattle.mal_answer.specs.Summaries.{lines_that_are, summary_line};
 
 use crate::answer::{Complaint, Texts};
@@ -11,7 +11,7 @@ use std::alloc::{AllocError, Global};
 
 /// The texts of a run with the summary of its replies in their place.
 pub fn summarized(alloc: Global, jobs: u32, ran: Texts) -> Result<Texts, Complaint>
-    ensures { IsSummaryOf jobs ran.log.items ran.out.items result }
+    ensures { IsSummaryOf jobs (logged ran.log) ran.out.items result }
 {
     match summary(alloc, jobs, ran.out.as_slice()) {
         Ok(out) => Ok(Texts { log: ran.log, out }),

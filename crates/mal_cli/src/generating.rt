@@ -1,7 +1,7 @@
 //! Running the script of a seed.
 
 ghost use Rattle.std.specs.Prelude.{◌≡◌, ◌<◌, ◌≤◌, ◌^◌, [], IfOk};
-ghost use Rattle.mal_answer.specs.Answers.{IsAnswerTo};
+ghost use Rattle.mal_answer.specs.Answers.{IsAnswerTo, logged};
 ghost use Rattle.mal_answer.specs.Commands.{IsRunOf};
 ghost use Rattle.mal_words.specs.declared.request.Request.TheVariants.{RunGenerated};
 ghost use Rattle.spec_gen.specs.Generated.{generated};
@@ -54,7 +54,7 @@ fn ran_alone(alloc: Global, seed: u32, jobs: u32) -> Result<Texts, AllocError>
     requires seed { seed < 2 ^ 31 }
     requires some { 1 ≤ jobs }
     requires bound { jobs ≤ 256 }
-    ensures { IfOk result (λ t. IsRunOf 1 (generated seed jobs) t.log.items t.out.items) }
+    ensures { IfOk result (λ t. IsRunOf 1 (generated seed jobs) (logged t.log) t.out.items) }
 {
     let script = generate(alloc, seed, jobs)?;
     run_script_alone(alloc, &script)
@@ -74,7 +74,7 @@ fn ran<R: Threads + Wait + Sync, G: Gate>(
     requires bound { jobs ≤ 256 }
     requires some_workers { 1 ≤ workers }
     requires workers_bound { workers ≤ 64 }
-    ensures { IfOk result (λ t. IsRunOf workers (generated seed jobs) t.log.items t.out.items) }
+    ensures { IfOk result (λ t. IsRunOf workers (generated seed jobs) (logged t.log) t.out.items) }
 {
     let script = generate(alloc, seed, jobs)?;
     run_script(rt, alloc, &script, workers, gate)

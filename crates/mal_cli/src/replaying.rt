@@ -3,7 +3,7 @@
 ghost use Rattle.std.specs.Prelude.{◌≡◌, ◌∷◌, [], codes, IfOk, IfErr, MatchOption};
 ghost use Rattle.mal_account.specs.ReadResult.{seen};
 ghost use Rattle.mal_cli.specs.Accounts.{IsReplayText, IsUnsound, TellsFault, TellsReplay};
-ghost use Rattle.mal_answer.specs.Answers.{IsAnswer, IsAnswerTo};
+ghost use Rattle.mal_answer.specs.Answers.{IsAnswer, IsAnswerTo, logged};
 ghost use Rattle.mal_answer.specs.Commands.{AreReplies};
 ghost use Rattle.mal_answer.specs.Devices.{device};
 ghost use Rattle.mal_words.specs.declared.request.Request.TheVariants.{Replay};
@@ -13,7 +13,7 @@ ghost use Rattle.spec_text.specs.Lines.{line_of};
 
 use itoa::Buffer;
 use mal_account::{Account, AccountFault, fault_line, read};
-use mal_answer::{Complaint, Texts, input};
+use mal_answer::{Complaint, LogText, Texts, input};
 use mal_io::Source;
 use mal_replay::{ReplayFault, replay};
 use mal_text::put_line;
@@ -45,12 +45,12 @@ fn replay_text(alloc: Global, text: &[u8]) -> Result<Texts, Complaint>
 #[tactic(auto, using(crate::proofs::Replays::judge_lemmas))]
 fn judge(alloc: Global, account: &Account) -> Result<Texts, Complaint>
     ensures replies { IfOk result (λ t. AreReplies (seen account.now) t.out.items) }
-    ensures silent { IfOk result (λ t. t.log.items ≡ []) }
+    ensures silent { IfOk result (λ t. logged t.log ≡ []) }
     ensures denied { IfErr result (λ e. IsUnsound (seen account.now) e) }
 {
     match replay(alloc, &account.script, &account.history) {
         Ok(out) => Ok(Texts {
-            log: Vec::new(alloc),
+            log: LogText::Empty,
             out,
         }),
         Err(fault) => Err(no_replay(alloc, fault)),

@@ -1,14 +1,14 @@
 //! Running a script.
 
 ghost use Rattle.std.specs.Prelude.{◌≤◌, ℕ, IfOk};
-ghost use Rattle.mal_answer.specs.Answers.{IsAnswer, IsAnswerTo};
+ghost use Rattle.mal_answer.specs.Answers.{IsAnswer, IsAnswerTo, logged};
 ghost use Rattle.mal_answer.specs.Commands.{IsRunOf};
 ghost use Rattle.mal_answer.specs.Devices.{device};
 ghost use Rattle.mal_pool.specs.Posts.{HasRun};
 ghost use Rattle.mal_words.specs.declared.request.Request.TheVariants.{Run};
 ghost use Rattle.spec_run.specs.Run.{IsRun};
 
-use mal_answer::{Complaint, Texts, input, script_of};
+use mal_answer::{Complaint, LogText, Texts, input, script_of};
 use mal_board::run_served;
 use mal_hall::Hall;
 use mal_io::Source;
@@ -82,10 +82,10 @@ fn run_text<R: Threads + Wait + Sync, G: Gate>(
 
 /// Runs a script with one worker, and makes the texts of its history and its replies.
 pub fn run_script_alone(alloc: Global, script: &Script) -> Result<Texts, AllocError>
-    ensures { IfOk result (λ t. IsRunOf 1 script.now t.log.items t.out.items) }
+    ensures { IfOk result (λ t. IsRunOf 1 script.now (logged t.log) t.out.items) }
 {
     let hall = run_alone(alloc, script, 1)?;
-    texts_of(alloc, script, &hall)
+    texts_of(alloc, script, hall)
 }
 
 /// Runs a script with 1 to 64 workers, and makes the texts of its history and its replies.
@@ -98,18 +98,21 @@ pub fn run_script<R: Threads + Wait + Sync, G: Gate>(
 ) -> Result<Texts, AllocError>
     requires some { 1 ≤ workers }
     requires bound { workers ≤ 64 }
-    ensures { IfOk result (λ t. IsRunOf workers script.now t.log.items t.out.items) }
+    ensures { IfOk result (λ t. IsRunOf workers script.now (logged t.log) t.out.items) }
 {
     let hall = run_served(rt, alloc, script, workers, gate)?;
-    texts_of(alloc, script, &hall)
+    texts_of(alloc, script, hall)
 }
 
-/// The texts of the history and of the replies of a hall that has run a script.
-fn texts_of(alloc: Global, script: &Script, hall: &Hall) -> Result<Texts, AllocError>
-    requires run { (workers : ℕ) × HasRun workers script.now hall.now }
-    ensures { (workers : ℕ) → HasRun workers script.now hall.now → IfOk result (λ t. IsRun workers script.now hall.now.events t.log.items t.out.items) }
+/// The texts of the history and of the replies of a hall that has run a script: the replies stand in memory before
+/// anything is written, the history's text is made while it is written, without memory.
+fn texts_of(alloc: Global, script: &Script, hall: Hall) -> Result<Texts, AllocError>
+    requires run { (workers : ℕ) × HasRun workers script.now hall }
+    ensures { (workers : ℕ) → HasRun workers script.now hall → IfOk result (λ t. IsRun workers script.now hall.events (logged t.log) t.out.items) }
 {
-    let log = mal_history::write(alloc, hall.history())?;
-    let out = replies(alloc, hall, script)?;
-    Ok(Texts { log, out })
+    let out = replies(alloc, &hall, script)?;
+    Ok(Texts {
+        log: LogText::History(hall),
+        out,
+    })
 }
