@@ -1,7 +1,7 @@
 //! Values that are made, and what they are made of.
 
-use super::values::{clause, clauses, id, ids, lit, lits};
-use mal_base::{Ask, ClauseId, Formula, Lines, Lit, Name};
+use super::values::{clause, clauses, has_lines, lines, lit, lits};
+use mal_base::{Ask, ClauseId, Formula, Lit, Name};
 use std::alloc::Global;
 use std::test::Fail;
 
@@ -21,13 +21,27 @@ fn both_signs_of_a_variable_make_a_tautology(rt: HostRuntime) -> Result<(), Fail
     Ok(())
 }
 
+/// Bytes, and whether they are a name.
+const NAMES: [(&[u8], bool); 4] = [
+    (b"job_7", true),
+    (b"Job", false),
+    (b"", false),
+    (&[97; 33], false),
+];
+
+/// Whether these bytes are a name, which then has them.
+fn is_name(alloc: Global, bytes: &[u8]) -> Result<bool, Fail> {
+    match Name::of(alloc, bytes)? {
+        None => Ok(false),
+        Some(name) => Ok(name.as_bytes() == bytes),
+    }
+}
+
 #[test]
 fn names_are_small_letters_digits_and_underlines(rt: HostRuntime) -> Result<(), Fail> {
-    let name = Name::of(rt.alloc(), b"job_7")?.ok_or("no name")?;
-    assert_eq!(rt; name.as_bytes(), b"job_7".as_slice());
-    assert!(rt; Name::of(rt.alloc(), b"Job")?.is_none());
-    assert!(rt; Name::of(rt.alloc(), b"")?.is_none());
-    assert!(rt; Name::of(rt.alloc(), &[97; 33])?.is_none());
+    for (bytes, known) in NAMES {
+        assert_eq!(rt; is_name(rt.alloc(), bytes)?, known);
+    }
     Ok(())
 }
 
@@ -42,20 +56,32 @@ fn literals_are_those_of_dimacs(rt: HostRuntime) -> Result<(), Fail> {
     Ok(())
 }
 
-/// The formula of these clauses, if there is one.
-fn formula(alloc: Global, variables: u32, rows: &[&[i32]]) -> Result<Option<Formula>, Fail> {
-    Ok(Formula::new(variables, clauses(alloc, rows)?))
+/// Variables and clauses, and what their formula counts, if there is one: its variables, its clauses and the literals.
+const FORMULAS: [(u32, &[&[i32]], Option<[usize; 3]>); 4] = [
+    (2, &[&[2, -1], &[1, -1]], Some([2, 2, 2])),
+    (1, &[&[2]], None),
+    (0, &[&[1, -1]], None),
+    (65_537, &[], None),
+];
+
+/// What a formula of these clauses counts, if there is one.
+fn counts_of(alloc: Global, variables: u32, rows: &[&[i32]]) -> Result<Option<[usize; 3]>, Fail> {
+    match Formula::new(variables, clauses(alloc, rows)?) {
+        None => Ok(None),
+        Some(formula) => Ok(Some([
+            formula.variables() as usize,
+            formula.clauses().len(),
+            formula.literals() as usize,
+        ])),
+    }
 }
 
 #[test]
 fn a_formula_is_of_its_variables(rt: HostRuntime) -> Result<(), Fail> {
-    let two = formula(rt.alloc(), 2, &[&[2, -1], &[1, -1]])?.ok_or("no formula")?;
-    assert_eq!(rt; two.variables(), 2);
-    assert_eq!(rt; two.clauses().len(), 2);
-    assert_eq!(rt; two.literals(), 2);
-    assert!(rt; formula(rt.alloc(), 1, &[&[2]])?.is_none());
-    assert!(rt; formula(rt.alloc(), 0, &[&[1, -1]])?.is_none());
-    assert!(rt; formula(rt.alloc(), 65_537, &[])?.is_none());
+    for (variables, rows, known) in FORMULAS {
+        let counts = counts_of(rt.alloc(), variables, rows)?;
+        assert!(rt; counts == known);
+    }
     Ok(())
 }
 
@@ -66,44 +92,48 @@ fn a_clause_number_is_at_least_one(rt: HostRuntime) -> Result<(), Fail> {
     Ok(())
 }
 
-#[test]
-fn an_ask_names_the_profile_of_its_solvers(rt: HostRuntime) -> Result<(), Fail> {
-    assert!(rt; Ask::of(0, 1, 4).is_none());
-    assert!(rt; Ask::of(1, 65, 4).is_none());
-    assert!(rt; Ask::of(1, 1, 4097).is_none());
-    let ask = Ask::of(1000, 64, 4096).ok_or("no ask")?;
-    assert_eq!(rt; ask.profile(), 1);
-    assert_eq!(rt; ask.with_profile(1), Some(ask));
-    let second = ask.with_profile(2).ok_or("no ask")?;
-    assert_eq!(rt; second.profile(), 2);
-    assert_eq!(rt; second.priority(), 1000);
-    assert_eq!(rt; second.demand(), 64);
-    assert_eq!(rt; second.slices(), 4096);
-    assert!(rt; ask.with_profile(0).is_none());
-    assert!(rt; ask.with_profile(3).is_none());
-    Ok(())
+/// Priorities, demands, slices and profiles, and whether there is an ask of them.
+const ASKS: [([i64; 4], bool); 7] = [
+    ([0, 1, 4, 1], false),
+    ([1, 65, 4, 1], false),
+    ([1, 1, 4097, 1], false),
+    ([1000, 64, 4096, 0], false),
+    ([1000, 64, 4096, 1], true),
+    ([1000, 64, 4096, 2], true),
+    ([1000, 64, 4096, 3], false),
+];
+
+/// The ask of a priority, a demand and slices for solvers of a profile.
+fn ask_of(terms: [i64; 4]) -> Option<Ask> {
+    let [priority, demand, slices, profile] = terms;
+    Ask::of(priority, demand, slices)?.with_profile(profile)
 }
 
-/// Two lines, for which room was made at once.
-fn two_lines(alloc: Global) -> Result<Lines, Fail> {
-    let (one, two, three) = (lit(1)?, lit(-2)?, lit(3)?);
-    let (four, five) = (id(4)?, id(5)?);
-    let mut lines = Lines::new(alloc);
-    lines.reserve(2, 3, 3)?;
-    lines.push_reserved(id(7)?, &[one, two], &[four]);
-    lines.push_reserved(id(8)?, &[three], &[four, five]);
-    Ok(lines)
+/// The priority, the demand, the slices and the profile of an ask.
+fn terms_of(ask: Ask) -> [i64; 4] {
+    [
+        i64::from(ask.priority()),
+        i64::from(ask.demand()),
+        i64::from(ask.slices()),
+        i64::from(ask.profile()),
+    ]
+}
+
+#[test]
+fn an_ask_names_the_profile_of_its_solvers(rt: HostRuntime) -> Result<(), Fail> {
+    for (terms, is_ask) in ASKS {
+        assert!(rt; ask_of(terms).map(terms_of) == if is_ask { Some(terms) } else { None });
+    }
+    assert!(rt; Ask::of(1000, 64, 4096) == ask_of([1000, 64, 4096, 1]));
+    Ok(())
 }
 
 #[test]
 fn lines_stand_one_behind_another(rt: HostRuntime) -> Result<(), Fail> {
-    let mut lines = two_lines(rt.alloc())?;
+    let rows: [(u64, &[i32], &[u64]); 2] = [(7, &[1, -2], &[4]), (8, &[3], &[4, 5])];
+    let mut lines = lines(rt.alloc(), &rows)?;
     assert_eq!(rt; lines.count(), 2);
-    assert!(rt; lines.id(1) == id(8)?);
-    assert!(rt; lines.lits(0) == lits(rt.alloc(), &[1, -2])?.as_slice());
-    assert!(rt; lines.lits(1) == lits(rt.alloc(), &[3])?.as_slice());
-    assert!(rt; lines.hints(0) == ids(rt.alloc(), &[4])?.as_slice());
-    assert!(rt; lines.hints(1) == ids(rt.alloc(), &[4, 5])?.as_slice());
+    assert!(rt; has_lines(rt.alloc(), &lines, &rows)?);
     lines.clear();
     assert_eq!(rt; lines.count(), 0);
     Ok(())

@@ -3,57 +3,97 @@
 ghost use Rattle.std.specs.Prelude.{◌≤◌, IfOk};
 
 use mal_io::{
-    Failed, MemSink, MemSource, ReadAllError, Sink, Source, StdSink, StdSource, WriteFault,
-    read_all, write_all,
+    MemSink, MemSource, ReadAllError, Sink, Source, StdSink, StdSource, read_all, write_all,
 };
+use std::alloc::Global;
 use std::io::{self, Read, Write};
+use std::test::Fail;
 
-#[test]
-fn a_fault_in_mid_stream_is_a_read_fault(rt: HostRuntime) {
-    let mut source = MemSource::new(b"sixteen bytes ok", 4, &[3]);
-    let read = read_all(rt.alloc(), &mut source, 100);
-    assert_eq!(rt; read.err(), Some(ReadAllError::ReadFault));
+/// What a source has, how many bytes it gives a call, the calls of it that fail, how many bytes are read at most, and the
+/// fault; where there is none the whole source is read. A fault in mid-stream, a byte a call, and as many bytes as the
+/// limit and one more.
+const READ: [(&[u8], usize, &[u64], u32, Option<ReadAllError>); 4] = [
+    (
+        b"sixteen bytes ok",
+        4,
+        &[3],
+        100,
+        Some(ReadAllError::ReadFault),
+    ),
+    (b"in pieces", 1, &[], 100, None),
+    (b"12345", 4, &[], 5, None),
+    (b"123456", 4, &[], 5, Some(ReadAllError::TooLong)),
+];
+
+/// The fault where the bytes of a source are read, none where all of them are.
+fn fault_of<S: Source>(
+    alloc: Global,
+    source: &mut S,
+    bytes: &[u8],
+    most: u32,
+) -> Result<Option<ReadAllError>, Fail> {
+    match read_all(alloc, source, most) {
+        Err(fault) => Ok(Some(fault)),
+        Ok(read) => {
+            if read.as_slice() != bytes {
+                return Err("other bytes".into());
+            }
+            Ok(None)
+        }
+    }
 }
 
 #[test]
-fn a_source_of_one_byte_a_call_is_read_whole(rt: HostRuntime) {
-    let mut source = MemSource::new(b"in pieces", 1, &[]);
-    let read = read_all(rt.alloc(), &mut source, 100).expect(&rt, "read");
-    assert_eq!(rt; read.as_slice(), b"in pieces".as_slice());
+fn a_source_is_read_whole_or_its_fault_is_told(rt: HostRuntime) -> Result<(), Fail> {
+    for (bytes, piece, failing, most, known) in READ {
+        if piece == 0 {
+            return Err("no piece".into());
+        }
+        let mut source = MemSource::new(bytes, piece, failing);
+        assert!(rt; fault_of(rt.alloc(), &mut source, bytes, most)? == known);
+    }
+    Ok(())
+}
+
+/// How many bytes a sink has room for, the calls of it that fail, and how many bytes of nine it keeps; it takes four a
+/// call.
+const KEPT: [(usize, &[u64], usize); 3] = [(9, &[2], 4), (6, &[], 6), (9, &[], 9)];
+
+/// How many bytes a sink of this room keeps of these bytes, where these calls of it fail. Fails unless they are the first
+/// bytes, and unless the fault is told exactly where bytes are lost.
+fn kept_of(alloc: Global, room: usize, failing: &[u64], bytes: &[u8]) -> Result<usize, Fail> {
+    let mut sink = MemSink::new(alloc, room, 4, failing)?;
+    let is_whole = write_all(&mut sink, bytes).is_ok();
+    let kept = sink.bytes();
+    if !bytes.starts_with(kept) || is_whole != (kept.len() == bytes.len()) {
+        return Err("another answer".into());
+    }
+    Ok(kept.len())
 }
 
 #[test]
-fn as_many_bytes_as_the_limit_are_read_and_one_more_is_too_long(rt: HostRuntime) {
-    let mut fitting = MemSource::new(b"12345", 4, &[]);
-    let read = read_all(rt.alloc(), &mut fitting, 5).expect(&rt, "read");
-    assert_eq!(rt; read.as_slice(), b"12345".as_slice());
-    let mut longer = MemSource::new(b"123456", 4, &[]);
-    let refused = read_all(rt.alloc(), &mut longer, 5);
-    assert_eq!(rt; refused.err(), Some(ReadAllError::TooLong));
+fn a_sink_keeps_what_it_got_before_its_fault(rt: HostRuntime) -> Result<(), Fail> {
+    for (room, failing, known) in KEPT {
+        assert_eq!(rt; kept_of(rt.alloc(), room, failing, b"123456789")?, known);
+    }
+    Ok(())
 }
 
 #[test]
-fn a_sink_keeps_what_it_got_before_its_fault(rt: HostRuntime) {
-    let mut failing = MemSink::new(rt.alloc(), 9, 4, &[2]).expect(&rt, "sink");
-    assert_eq!(rt; write_all(&mut failing, b"123456789"), Err(WriteFault));
-    assert_eq!(rt; failing.bytes(), b"1234".as_slice());
-    let mut full = MemSink::new(rt.alloc(), 6, 4, &[]).expect(&rt, "sink");
-    assert_eq!(rt; write_all(&mut full, b"123456789"), Err(WriteFault));
-    assert_eq!(rt; full.bytes(), b"123456".as_slice());
-    let mut whole = MemSink::new(rt.alloc(), 9, 4, &[]).expect(&rt, "sink");
-    assert_eq!(rt; write_all(&mut whole, b"123456789"), Ok(()));
-    assert_eq!(rt; whole.bytes(), b"123456789".as_slice());
+fn a_reader_of_std_is_a_source(rt: HostRuntime) -> Result<(), Fail> {
+    let bytes = b"from a slice".as_slice();
+    let mut source = StdSource::new(bytes);
+    assert!(rt; fault_of(rt.alloc(), &mut source, bytes, 100)?.is_none());
+    Ok(())
 }
 
 #[test]
-fn readers_and_writers_of_std_are_devices(rt: HostRuntime) {
-    let mut source = StdSource::new(b"from a slice".as_slice());
-    let read = read_all(rt.alloc(), &mut source, 100).expect(&rt, "read");
-    assert_eq!(rt; read.as_slice(), b"from a slice".as_slice());
+fn a_writer_of_std_is_a_sink(rt: HostRuntime) -> Result<(), Fail> {
     let mut written: Vec<u8> = Vec::new(rt.alloc());
     let mut sink = StdSink::new(&mut written);
-    assert_eq!(rt; write_all(&mut sink, read.as_slice()), Ok(()));
+    assert!(rt; write_all(&mut sink, b"from a slice").is_ok());
     assert_eq!(rt; written.as_slice(), b"from a slice".as_slice());
+    Ok(())
 }
 
 /// A reader and a writer of a byte a call that fails in every second call, and counts its calls.
@@ -91,15 +131,17 @@ impl Write for Fickle {
     }
 }
 
+/// How many bytes calls are to move, and how many they move; none where they fail.
+const MOVED: [(usize, Option<usize>); 4] = [(3, Some(1)), (3, None), (0, Some(0)), (0, None)];
+
 #[test]
 fn a_source_asks_its_reader_once_in_each_call(rt: HostRuntime) {
     let mut reader = Fickle { calls: 0 };
     let mut source = StdSource::new(&mut reader);
-    let mut into = [0; 4];
-    assert_eq!(rt; source.take(&mut into), Ok(1));
-    assert_eq!(rt; source.take(&mut into), Err(Failed));
-    assert_eq!(rt; source.take(&mut into[..0]), Ok(0));
-    assert_eq!(rt; source.take(&mut into[..0]), Err(Failed));
+    let mut into = [0; 3];
+    for (length, known) in MOVED {
+        assert_eq!(rt; source.take(&mut into[..length]).ok(), known);
+    }
     assert_eq!(rt; reader.calls, 4);
 }
 
@@ -107,9 +149,9 @@ fn a_source_asks_its_reader_once_in_each_call(rt: HostRuntime) {
 fn a_sink_asks_its_writer_once_in_each_call(rt: HostRuntime) {
     let mut writer = Fickle { calls: 0 };
     let mut sink = StdSink::new(&mut writer);
-    assert_eq!(rt; sink.put(b"abc"), Ok(1));
-    assert_eq!(rt; sink.put(b"abc"), Err(Failed));
-    assert_eq!(rt; sink.put(b""), Ok(0));
-    assert_eq!(rt; sink.put(b""), Err(Failed));
+    let bytes = [97; 3];
+    for (length, known) in MOVED {
+        assert_eq!(rt; sink.put(&bytes[..length]).ok(), known);
+    }
     assert_eq!(rt; writer.calls, 4);
 }

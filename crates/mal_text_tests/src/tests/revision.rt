@@ -13,14 +13,26 @@ fn posted(alloc: Global, assumptions: &[i32]) -> Result<Revision, Fail> {
     Ok(Revision::new(alloc, 2, clauses, assumed.as_slice())?)
 }
 
+/// How many variables, clauses and literals a revision has.
+fn counts_of(revision: &Revision) -> (u32, usize, u32) {
+    (
+        revision.variables(),
+        revision.clauses().len(),
+        revision.literals(),
+    )
+}
+
+/// Whether these are the assumptions of a revision.
+fn assumes(alloc: Global, revision: &Revision, numbers: &[i32]) -> Result<bool, Fail> {
+    let assumed = lits(alloc, numbers)?;
+    Ok(revision.assumptions() == assumed.as_slice())
+}
+
 #[test]
 fn assumptions_stand_once_by_variable(rt: HostRuntime) -> Result<(), Fail> {
     let revision = posted(rt.alloc(), &[2, -1, 2])?;
-    let assumed = lits(rt.alloc(), &[-1, 2])?;
-    assert_eq!(rt; revision.variables(), 2);
-    assert_eq!(rt; revision.clauses().len(), 2);
-    assert_eq!(rt; revision.literals(), 2);
-    assert_eq!(rt; revision.assumptions(), assumed.as_slice());
+    assert!(rt; counts_of(&revision) == (2, 2, 2));
+    assert!(rt; assumes(rt.alloc(), &revision, &[-1, 2])?);
     Ok(())
 }
 

@@ -13,22 +13,16 @@ fn told(alloc: Global, text: &[u8]) -> Result<Vec<u8>, Fail> {
     }
 }
 
-/// Texts of scripts, with what is written of them: every field of a job, a tautology, what tools write, jobs of several
-/// tenants, several revisions, assumptions, and jobs that name the profile of their solvers.
-const READ: [(&[u8], &[u8]); 11] = [
-    (b"", b""),
+/// Texts of scripts, with what is written of them: every field of a job, what tools write, and jobs of several tenants
+/// with several revisions and assumptions.
+const READ: [(&[u8], &[u8]); 4] = [
     (
         b"t a\nj p_1 1000 64 4096\np cnf 3 3\n1 -3 0\n-2 0\n0\na 0\ne\n",
         b"t a\nj p_1 1000 64 4096\np cnf 3 3\n1 -3 0\n-2 0\n0\na 0\ne\n",
     ),
-    (b"t a\nj p 1 1 4\ne\n", b"t a\nj p 1 1 4\ne\n"),
     (
         b"c made by a tool\r\nt a\r\nj p 1 1 04\r\np cnf 2 2\r\n1\r\n2 0 -1\r\n\r\n-1 0\r\n%\r\n0\r\na 00\r\ne",
         b"t a\nj p 1 1 4\np cnf 2 2\n1 2 0\n-1 0\na 0\ne\n",
-    ),
-    (
-        b"t a\nj p 1 1 4\np cnf 2 2\n1 -1 0\n2 0\na 0\ne\n",
-        b"t a\nj p 1 1 4\np cnf 2 2\n1 -1 0\n2 0\na 0\ne\n",
     ),
     (
         b"t a\nt b\nt a\nj p 1 1 4\np cnf 2 1\n1 2 0\na 2 -1 2 0\np cnf 1 0\na 1 0\ne\nt b\nj p 2 2 2\ne\n",
@@ -38,16 +32,6 @@ const READ: [(&[u8], &[u8]); 11] = [
         b"t a\nj p 1 1 4\ne\nj q 1 1 4\ne\n",
         b"t a\nj p 1 1 4\ne\nt a\nj q 1 1 4\ne\n",
     ),
-    (
-        b"t a\nj p 1 1 4\np cnf 0 0\na 0\np cnf 0 0\na 0\ne\n",
-        b"t a\nj p 1 1 4\np cnf 0 0\na 0\np cnf 0 0\na 0\ne\n",
-    ),
-    (
-        b"t a\nj p 1 1 4\np cnf 2 0\na 1 0\ne\n",
-        b"t a\nj p 1 1 4\np cnf 2 0\na 1 0\ne\n",
-    ),
-    (b"t a\nj p 1 1 4 02\ne\n", b"t a\nj p 1 1 4 2\ne\n"),
-    (b"t a\nj p 1 1 4 1\ne\n", b"t a\nj p 1 1 4\ne\n"),
 ];
 
 #[test]
@@ -69,47 +53,14 @@ fn revisions_of(alloc: Global, text: &[u8]) -> Result<Vec<usize>, Fail> {
     Ok(counts)
 }
 
-/// Texts with the lines that tell their first faults: of jobs and what stands between them, of blocks, of limits, of a
-/// name that stands twice, and of a variable that is assumed with both signs.
-const FAULTS: [(&[u8], &[u8]); 22] = [
-    (b"t a\nj p 0 1 4\ne\n", b"fault: script line 2 Range\n"),
-    (
-        b"t a\nj p 1 1 4 1 1\ne\n",
-        b"fault: script line 2 BadLine\n",
-    ),
-    (b"t a\nj p 1 1 4 0\ne\n", b"fault: script line 2 Range\n"),
-    (b"t a\nj p 1 1 4 3\ne\n", b"fault: script line 2 Range\n"),
-    (b"t a\nj p 1 1 4 x\ne\n", b"fault: script line 2 BadLine\n"),
-    (b"t a\nj p 0 1 4 x\ne\n", b"fault: script line 2 BadLine\n"),
-    (
-        b"t a\nj p 1 1 4 2 2\ne\n",
-        b"fault: script line 2 BadLine\n",
-    ),
-    (b"t a\nj p x 0 4\ne\n", b"fault: script line 2 BadLine\n"),
-    (b"e", b"fault: script line 1 BadLine\n"),
-    (b"\x1f\x8b\x08", b"fault: script line 1 BadLine\n"),
-    (b"j p 1 1 4\n", b"fault: script line 1 BadLine\n"),
+/// Texts with the lines that tell their first faults: of what stands between jobs, of blocks, of limits, of a name that
+/// stands twice, and of a variable that is assumed with both signs.
+const FAULTS: [(&[u8], &[u8]); 7] = [
     (b"t A\n", b"fault: script line 1 BadLine\n"),
     (b"t a\nj p 1 1 4\n\nc x", b"fault: script line 4 BadLine\n"),
     (
-        b"t a\nj p 1 1 4\np cnf 2 1\n3 0\na 0\ne\n",
-        b"fault: script line 4 VarTooLarge\n",
-    ),
-    (
-        b"t a\nj p 1 1 4\np cnf 2 2\n1 2 0\n-1",
-        b"fault: script line 5 ClauseCount 2 1\n",
-    ),
-    (
-        b"t a\nj p 1 1 4\np cnf 2 1\n1 2 0\n",
-        b"fault: script line 4 BadLine\n",
-    ),
-    (
         b"t a\nj p 1 1 4\np cnf 2 1\nq 2\na 0\ne\n",
         b"fault: script line 4 BadNumber\n",
-    ),
-    (
-        b"t a\nj p 1 1 4\np cnf 2 2\n1 2 0\na x\ne\n",
-        b"fault: script line 5 ClauseCount 2 1\n",
     ),
     (
         b"t a\nj p 1 1 4\np cnf 65537 0\na 0\ne\n",

@@ -4,26 +4,8 @@ use mal_seq::{Draws, luby};
 use std::test::Fail;
 
 #[test]
-fn luby_begins_with_these_numbers(rt: HostRuntime) -> Result<(), Fail> {
-    let expected: [u64; 7] = [1, 1, 2, 1, 1, 2, 4];
-    for place in 0..7usize {
-        assert_eq!(rt; luby(place as u64 + 1), expected[place]);
-    }
-    Ok(())
-}
-
-#[test]
 fn the_last_place_has_the_greatest_number(rt: HostRuntime) -> Result<(), Fail> {
     assert_eq!(rt; luby(u64::MAX), 1 << 63);
-    Ok(())
-}
-
-#[test]
-fn seed_1_draws_these_numbers(rt: HostRuntime) -> Result<(), Fail> {
-    let mut draws = Draws::new(1);
-    for expected in [16838u32, 5758, 10113, 17515, 31051, 5627, 23010] {
-        assert_eq!(rt; draws.next(), expected);
-    }
     Ok(())
 }
 

