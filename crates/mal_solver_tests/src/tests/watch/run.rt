@@ -51,6 +51,21 @@ impl<E: Engine> Run<E> {
         Ok(())
     }
 
+    /// Adds a clause of the variables 1 to 16 as one that was derived, under a number that is not held.
+    pub fn learn(&mut self, id: ClauseId, clause: &Clause) -> Result<(), Fail> {
+        if !are_few(clause.lits()) {
+            return Err("a variable above 16".into());
+        }
+        match self.engine.get(id) {
+            Some(_) => return Err("a number twice".into()),
+            None => {}
+        }
+        let lits = clause.lits();
+        self.engine.reserve(16, 1, lits.len())?;
+        self.engine.learn(id, lits, &self.trail);
+        Ok(())
+    }
+
     /// Gives up the clauses of these numbers.
     pub fn give_up(&mut self, ids: &mut [ClauseId]) {
         self.engine.forget(ids);
@@ -78,6 +93,11 @@ impl<E: Engine> Run<E> {
             return None;
         }
         Some(self.engine.propagate_one(&mut self.trail))
+    }
+
+    /// Whether a clause is held under a number.
+    pub fn holds(&self, id: ClauseId) -> bool {
+        self.engine.get(id).is_some()
     }
 
     /// Whether the variable has a value.
