@@ -1,3 +1,2 @@
 mod FirstLemmas
 mod GoingLemmas
-mod SingleLemmas

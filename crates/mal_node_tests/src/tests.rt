@@ -2,7 +2,6 @@
 
 mod cdcl;
 mod cdcl_import;
-mod freeze;
 mod freeze_codec;
 mod going;
 mod suspend;

@@ -33,7 +33,7 @@ fn after_first(
 }
 
 /// The lines of a node's slice.
-fn lines_of(alloc: Global, mut node: Node<Scan>) -> Result<Vec<u8>, Fail> {
+fn lines_of(alloc: Global, node: &mut Node<Scan>) -> Result<Vec<u8>, Fail> {
     let lines = node.take_lines();
     text_of(alloc, &lines)
 }
@@ -46,15 +46,21 @@ fn goal_of(node: &Node<Scan>) -> Option<u64> {
     }
 }
 
+/// The value of the first variable, and the values of all.
+fn values_of(alloc: Global, node: &Node<Scan>) -> Result<(Option<bool>, Vec<bool>), Fail> {
+    let mut model = Vec::with_capacity(alloc, node.variables() as usize)?;
+    node.model(&mut model);
+    Ok((node.value(Var::of(1)), model))
+}
+
 #[test]
 fn an_odd_node_begins_with_true(rt: HostRuntime) -> Result<(), Fail> {
     let revision = revision(rt.alloc(), 2, &[&[1, 2]], &[])?;
     let node = after_first(rt.alloc(), 1, 1, &revision)?;
-    let mut model = Vec::with_capacity(rt.alloc(), node.variables() as usize)?;
-    node.model(&mut model);
-    assert_eq!(rt; node.verdict(), Some(Verdict::Satisfiable));
-    assert_eq!(rt; node.value(Var::of(1)), Some(true));
-    assert_eq!(rt; model.as_slice(), [true, true].as_slice());
+    assert!(rt; node.verdict() == Some(Verdict::Satisfiable));
+    let (first, model) = values_of(rt.alloc(), &node)?;
+    assert!(rt; first == Some(true));
+    assert!(rt; model.as_slice() == [true, true].as_slice());
     Ok(())
 }
 
@@ -76,39 +82,21 @@ const REFUTED: [(u32, &[&[i32]], &[i32], &[u8], u64); 2] = [
     ),
 ];
 
+/// The goal of a node after its first slice over a revision, none where that is not refuted, and the lines of the slice.
+fn refuted(alloc: Global, revision: &Revision) -> Result<(Option<u64>, Vec<u8>), Fail> {
+    let mut node = after_first(alloc, 0, 1, revision)?;
+    let goal = goal_of(&node);
+    let lines = lines_of(alloc, &mut node)?;
+    Ok((goal, lines))
+}
+
 #[test]
 fn clauses_are_refuted_by_their_lines(rt: HostRuntime) -> Result<(), Fail> {
-    for (variables, clauses, assumptions, lines, goal) in REFUTED {
+    for (variables, clauses, assumptions, known, number) in REFUTED {
         let revision = revision(rt.alloc(), variables, clauses, assumptions)?;
-        let node = after_first(rt.alloc(), 0, 1, &revision)?;
-        assert_eq!(rt; goal_of(&node), Some(goal));
-        assert_eq!(rt; lines_of(rt.alloc(), node)?.as_slice(), lines);
+        let (goal, lines) = refuted(rt.alloc(), &revision)?;
+        assert!(rt; goal == Some(number));
+        assert!(rt; lines.as_slice() == known);
     }
-    Ok(())
-}
-
-/// The first line of a node of this profile over the clauses 1 -2, 1 2 3 4 and 2 3 -4, and what follows it.
-fn learned(alloc: Global, profile: u32) -> Result<Vec<u8>, Fail>
-    requires some { 1 ≤ profile }
-    requires bound { profile ≤ 2 }
-{
-    let revision = revision(alloc, 4, &[&[1, -2], &[1, 2, 3, 4], &[2, 3, -4]], &[])?;
-    let node = after_first(alloc, 0, profile, &revision)?;
-    lines_of(alloc, node)
-}
-
-#[test]
-fn the_first_profile_learns_the_clause_of_the_first_implication_point(
-    rt: HostRuntime,
-) -> Result<(), Fail> {
-    let lines = learned(rt.alloc(), 1)?;
-    assert!(rt; lines.as_slice().starts_with(b"4294967296 1 2 3 0 2 3 0\n"));
-    Ok(())
-}
-
-#[test]
-fn the_second_profile_learns_its_shorter_form(rt: HostRuntime) -> Result<(), Fail> {
-    let lines = learned(rt.alloc(), 2)?;
-    assert!(rt; lines.as_slice().starts_with(b"4294967296 1 3 0 1 2 3 0\n"));
     Ok(())
 }

@@ -2,13 +2,14 @@
 
 ghost use Rattle.std.specs.Prelude.{◌≤◌};
 
-use mal_base::{Clause, ClauseId, Lit, NumberedClause, TrailEntry, Var};
+use mal_base::{Clause, ClauseId, NumberedClause, TrailEntry, Var};
 use mal_freeze::{Image, Parts, ThawFault, freeze, thaw};
 use std::alloc::Global;
 use std::test::Fail;
 
-/// The parts of the node of index 0 and of this profile at its first start.
-fn fresh_parts(alloc: Global, profile: u32) -> Parts {
+/// The parts of the node of index 0 and of this profile at its first start, but that so many conflicts count for the next
+/// dropping.
+fn fresh_parts(alloc: Global, profile: u32, conflicts_since_dropping: u32) -> Parts {
     Parts {
         index: 0,
         profile,
@@ -16,7 +17,7 @@ fn fresh_parts(alloc: Global, profile: u32) -> Parts {
         serial: 0,
         conflicts_since_restart: 0,
         restart_number: 1,
-        conflicts_since_dropping: 0,
+        conflicts_since_dropping,
         processed: 0,
         conflict: None,
         verdict: None,
@@ -28,10 +29,17 @@ fn fresh_parts(alloc: Global, profile: u32) -> Parts {
     }
 }
 
-/// The bytes of the image of these parts.
-fn bytes_of(alloc: Global, parts: Parts) -> Result<Vec<u8>, Fail> {
-    let image = Image::new(alloc, parts)?.ok_or("no image")?;
-    Ok(freeze(alloc, &image)?)
+/// The bytes of the image of these parts, none where they are in no form.
+fn bytes_of(alloc: Global, parts: Parts) -> Result<Option<Vec<u8>>, Fail> {
+    match Image::new(alloc, parts)? {
+        None => Ok(None),
+        Some(image) => Ok(Some(freeze(alloc, &image)?)),
+    }
+}
+
+/// The bytes of the node of index 0 and profile 1 at its first start.
+fn fresh_bytes(alloc: Global) -> Result<Vec<u8>, Fail> {
+    Ok(bytes_of(alloc, fresh_parts(alloc, 1, 0))?.ok_or("no image")?)
 }
 
 /// The fault of these bytes, none where they are an image.
@@ -42,21 +50,6 @@ fn fault_of(alloc: Global, bytes: &[u8]) -> Option<ThawFault> {
     }
 }
 
-/// These bytes with another one at a place.
-fn changed(alloc: Global, bytes: &[u8], place: usize, byte: u8) -> Result<Vec<u8>, Fail> {
-    let mut other = Vec::from_slice(alloc, bytes)?;
-    match other.get_mut(place) {
-        None => return Err(Fail::from("no such place")),
-        Some(found) => *found = byte,
-    }
-    Ok(other)
-}
-
-/// The bytes of the node of index 0 and profile 1 at its first start.
-fn fresh_bytes(alloc: Global) -> Result<Vec<u8>, Fail> {
-    bytes_of(alloc, fresh_parts(alloc, 1))
-}
-
 /// The fault of these bytes with another one at a place, none where they are an image.
 fn fault_of_changed(
     alloc: Global,
@@ -64,42 +57,45 @@ fn fault_of_changed(
     place: usize,
     byte: u8,
 ) -> Result<Option<ThawFault>, Fail> {
-    let other = changed(alloc, bytes, place, byte)?;
+    let mut other = Vec::from_slice(alloc, bytes)?;
+    match other.get_mut(place) {
+        None => return Err(Fail::from("no such place")),
+        Some(found) => *found = byte,
+    }
     Ok(fault_of(alloc, other.as_slice()))
 }
 
-/// The bytes of the image that these bytes are.
-fn again(alloc: Global, bytes: &[u8]) -> Result<Vec<u8>, Fail> {
-    let image = thaw(alloc, bytes).ok().ok_or("no image")?;
-    Ok(freeze(alloc, &image)?)
+/// Whether these bytes are an image that is written as they are.
+fn come_again(alloc: Global, bytes: &[u8]) -> Result<bool, Fail> {
+    match thaw(alloc, bytes) {
+        Err(_) => Ok(false),
+        Ok(image) => Ok(freeze(alloc, &image)?.as_slice() == bytes),
+    }
+}
+
+/// Profiles, how many conflicts count for the next dropping, and whether a node may have them: under profile 1 none count,
+/// and there is no third profile.
+const COUNTED: [(u32, u32, bool); 4] = [
+    (1, 0, true),
+    (1, 1, false),
+    (2, 1792, true),
+    (3, 0, false),
+];
+
+#[test]
+fn conflicts_count_for_a_dropping_under_profile_2(rt: HostRuntime) -> Result<(), Fail> {
+    for (profile, conflicts, is_image) in COUNTED {
+        let bytes = bytes_of(rt.alloc(), fresh_parts(rt.alloc(), profile, conflicts))?;
+        assert_eq!(rt; bytes.is_some(), is_image);
+    }
+    Ok(())
 }
 
 #[test]
 fn conflicts_since_the_last_dropping_come_back(rt: HostRuntime) -> Result<(), Fail> {
-    let bytes = bytes_of(rt.alloc(), fresh_parts(rt.alloc(), 2))?;
-    let counted = changed(rt.alloc(), bytes.as_slice(), 34, 7)?;
-    let image = thaw(rt.alloc(), counted.as_slice()).ok().ok_or("no image")?;
-    assert_eq!(rt; image.parts().profile, 2);
-    assert_eq!(rt; image.parts().conflicts_since_dropping, 1792);
-    assert_eq!(rt;
-        again(rt.alloc(), counted.as_slice())?.as_slice(),
-        counted.as_slice()
-    );
-    Ok(())
-}
-
-#[test]
-fn a_node_of_profile_1_counts_for_no_dropping(rt: HostRuntime) -> Result<(), Fail> {
-    let mut counted = fresh_parts(rt.alloc(), 1);
-    counted.conflicts_since_dropping = 1;
-    assert!(rt; Image::new(rt.alloc(), counted)?.is_none());
-    Ok(())
-}
-
-#[test]
-fn there_is_no_third_profile(rt: HostRuntime) -> Result<(), Fail> {
-    let image = Image::new(rt.alloc(), fresh_parts(rt.alloc(), 3))?;
-    assert!(rt; image.is_none());
+    let bytes = bytes_of(rt.alloc(), fresh_parts(rt.alloc(), 2, 1792))?.ok_or("no image")?;
+    assert_eq!(rt; bytes.get(33..36), Some([0, 7, 0].as_slice()));
+    assert!(rt; come_again(rt.alloc(), bytes.as_slice())?);
     Ok(())
 }
 
@@ -143,41 +139,68 @@ fn clause(alloc: Global, number: u32, first: bool, second: bool) -> Result<Numbe
     Ok(NumberedClause::new(ClauseId::original(number), clause))
 }
 
-/// The bytes of a node of two variables that has two assumptions, two entries on its trail, and two clauses.
-fn node_bytes(alloc: Global) -> Result<Vec<u8>, Fail> {
-    let lits = [Var::of(1).literal(false), Var::of(2).literal(true)];
-    let entries = [
-        TrailEntry {
-            lit: Var::of(1).literal(false),
-            reason: None,
-            level: 1,
-        },
-        TrailEntry {
-            lit: Var::of(2).literal(true),
-            reason: Some(ClauseId::original(1)),
-            level: 1,
-        },
-    ];
+/// The clauses 1 2 and -1 2.
+fn clauses(alloc: Global) -> Result<Vec<NumberedClause>, Fail> {
     let first = clause(alloc, 1, true, true)?;
     let second = clause(alloc, 2, false, true)?;
-    let mut parts = fresh_parts(alloc, 1);
-    parts.variables = 2;
-    parts.processed = 3;
-    parts.assumptions = Vec::from_slice(alloc, &lits)?;
-    parts.order = vec![in alloc; Var::of(2), Var::of(1)]?;
-    parts.phases = vec![in alloc; false, true]?;
-    parts.trail = Vec::from_slice(alloc, &entries)?;
-    parts.clauses = vec![in alloc; first, second]?;
-    bytes_of(alloc, parts)
+    Ok(vec![in alloc; first, second]?)
 }
 
-/// Whether parts are those of that node, as far as they are counted.
-fn are_counted(parts: &Parts) -> bool {
-    parts.variables == 2
-        && parts.processed == 3
-        && parts.phases.as_slice() == [false, true].as_slice()
-        && parts.trail.len() == 2
-        && parts.clauses.len() == 2
+/// A trail on which -1 was decided and 2 was forced.
+fn trail(alloc: Global) -> Result<Vec<TrailEntry>, Fail> {
+    let decided = TrailEntry {
+        lit: Var::of(1).literal(false),
+        reason: None,
+        level: 1,
+    };
+    let forced = TrailEntry {
+        lit: Var::of(2).literal(true),
+        reason: Some(ClauseId::original(1)),
+        level: 1,
+    };
+    Ok(vec![in alloc; decided, forced]?)
+}
+
+/// The parts of a node of two variables that has two assumptions, two entries on its trail, and two clauses.
+fn node_parts(alloc: Global) -> Result<Parts, Fail> {
+    let clauses = clauses(alloc)?;
+    let trail = trail(alloc)?;
+    let order = vec![in alloc; Var::of(2), Var::of(1)]?;
+    let phases = vec![in alloc; false, true]?;
+    let assumptions = vec![in alloc; Var::of(1).literal(false), Var::of(2).literal(true)]?;
+    Ok(Parts {
+        index: 0,
+        profile: 1,
+        variables: 2,
+        serial: 0,
+        conflicts_since_restart: 0,
+        restart_number: 1,
+        conflicts_since_dropping: 0,
+        processed: 3,
+        conflict: None,
+        verdict: None,
+        assumptions,
+        order,
+        phases,
+        trail,
+        clauses,
+    })
+}
+
+/// The bytes of that node.
+fn node_bytes(alloc: Global) -> Result<Vec<u8>, Fail> {
+    Ok(bytes_of(alloc, node_parts(alloc)?)?.ok_or("no image")?)
+}
+
+/// How many variables, batches that count as handled, entries and clauses an image has.
+fn counts_of(image: &Image) -> [usize; 4] {
+    let parts = image.parts();
+    [
+        parts.variables as usize,
+        parts.processed as usize,
+        parts.trail.len(),
+        parts.clauses.len(),
+    ]
 }
 
 #[test]
@@ -185,15 +208,29 @@ fn a_node_comes_back_from_its_bytes(rt: HostRuntime) -> Result<(), Fail> {
     let bytes = node_bytes(rt.alloc())?;
     assert_eq!(rt; bytes.len(), 155);
     let image = thaw(rt.alloc(), bytes.as_slice()).ok().ok_or("no image")?;
-    assert!(rt; are_counted(image.parts()));
+    assert!(rt; counts_of(&image) == [2, 3, 2, 2]);
+    assert!(rt; image.parts().phases.as_slice() == [false, true].as_slice());
     Ok(())
 }
 
 #[test]
 fn a_node_that_comes_back_has_the_same_bytes(rt: HostRuntime) -> Result<(), Fail> {
     let bytes = node_bytes(rt.alloc())?;
-    let again = again(rt.alloc(), bytes.as_slice())?;
-    assert_eq!(rt; again.as_slice(), bytes.as_slice());
+    assert!(rt; come_again(rt.alloc(), bytes.as_slice())?);
+    Ok(())
+}
+
+/// How many entries the trail of an image has, and how many batches count as handled.
+fn trail_counts(image: &Image) -> Result<(usize, u32), Fail> {
+    let trail = image.trail()?;
+    Ok((trail.len(), trail.processed()))
+}
+
+#[test]
+fn parts_in_form_make_an_image(rt: HostRuntime) -> Result<(), Fail> {
+    let image = Image::new(rt.alloc(), node_parts(rt.alloc())?)?.ok_or("no image")?;
+    assert!(rt; counts_of(&image) == [2, 3, 2, 2]);
+    assert!(rt; trail_counts(&image)? == (2, 3));
     Ok(())
 }
 

@@ -50,40 +50,75 @@ fn pigeons(alloc: Global) -> Result<Vec<Option<Clause>>, Fail> {
     Ok(clauses)
 }
 
-/// Whether a slice of each of two nodes derives lines, the same ones, and leaves both with the same bytes.
-fn goes_alike<E: Listed>(
+/// The revision of these clauses.
+fn pigeon_revision(alloc: Global) -> Result<Revision, Fail> {
+    Ok(Revision::new(alloc, 42, pigeons(alloc)?, &[])?)
+}
+
+/// The text of the lines of a node's next slice.
+fn sliced<E: Listed>(
+    alloc: Global,
+    going: &mut Going<E>,
+    scratch: &mut Scratch,
+) -> Result<Vec<u8>, Fail> {
+    match going.slice(scratch)? {
+        None => Err("no slice".into()),
+        Some(lines) => text_of(alloc, &lines),
+    }
+}
+
+/// Whether a slice of each of two nodes derives lines, the same ones.
+fn derive_alike<E: Listed>(
     alloc: Global,
     live: &mut Going<E>,
     thawed: &mut Going<E>,
     scratch: &mut Scratch,
 ) -> Result<bool, Fail> {
-    let lines = live.slice(scratch)?.ok_or("no slice")?;
-    let others = thawed.slice(scratch)?.ok_or("no slice")?;
-    let text = text_of(alloc, &lines)?;
-    let other_text = text_of(alloc, &others)?;
-    let bytes = live.bytes()?;
-    let other_bytes = thawed.bytes()?;
-    Ok(
-        lines.count() > 0
-            && text.as_slice() == other_text.as_slice()
-            && bytes.as_slice() == other_bytes.as_slice(),
-    )
+    let text = sliced(alloc, live, scratch)?;
+    let other = sliced(alloc, thawed, scratch)?;
+    Ok(!text.is_empty() && text.as_slice() == other.as_slice())
 }
 
-/// Thaws a node after two slices, and tells whether both nodes go on alike for three slices and have not ended then.
-fn goes_on<E: Listed>(alloc: Global) -> Result<bool, Fail> {
-    let revision = Revision::new(alloc, 42, pigeons(alloc)?, &[])?;
-    let mut scratch = Scratch::new(alloc);
-    let mut live: Going<E> = Going::new(alloc, &revision, &mut scratch)?;
-    let _ = live.slice(&mut scratch)?;
-    let _ = live.slice(&mut scratch)?;
-    let mut thawed = live.thawed()?;
+/// Whether two nodes have the same bytes.
+fn have_same_bytes<E: Listed>(live: &Going<E>, thawed: &Going<E>) -> Result<bool, Fail> {
+    let bytes = live.bytes()?;
+    let others = thawed.bytes()?;
+    Ok(bytes.as_slice() == others.as_slice())
+}
+
+/// Whether three slices of each of two nodes go alike and leave both with the same bytes, and the second has not ended.
+fn go_alike<E: Listed>(
+    alloc: Global,
+    live: &mut Going<E>,
+    thawed: &mut Going<E>,
+    scratch: &mut Scratch,
+) -> Result<bool, Fail> {
     for _ in 0..3 {
-        if !goes_alike(alloc, &mut live, &mut thawed, &mut scratch)? {
+        if !derive_alike(alloc, live, thawed, scratch)? || !have_same_bytes(live, thawed)? {
             return Ok(false);
         }
     }
     Ok(!thawed.has_ended())
+}
+
+/// Thaws a node after two slices, and tells whether both nodes go on alike.
+fn thaws_alike<E: Listed>(
+    alloc: Global,
+    live: &mut Going<E>,
+    scratch: &mut Scratch,
+) -> Result<bool, Fail> {
+    sliced(alloc, live, scratch)?;
+    sliced(alloc, live, scratch)?;
+    let mut thawed = live.thawed()?;
+    go_alike(alloc, live, &mut thawed, scratch)
+}
+
+/// Whether a node over these clauses that is thawed after two slices goes on like the one that stayed live.
+fn goes_on<E: Listed>(alloc: Global) -> Result<bool, Fail> {
+    let revision = pigeon_revision(alloc)?;
+    let mut scratch = Scratch::new(alloc);
+    let mut live: Going<E> = Going::new(alloc, &revision, &mut scratch)?;
+    thaws_alike(alloc, &mut live, &mut scratch)
 }
 
 #[test]

@@ -73,30 +73,33 @@ fn rebuilt_bytes(alloc: Global, variables: u32) -> Result<usize, Fail> {
 #[test]
 fn a_node_is_frozen_up_to_the_constant(rt: HostRuntime) -> Result<(), Fail> {
     let most = (FROZEN_BYTES - 8065) / 5;
-    let bytes = live_bytes(rt.alloc(), most as u32)?;
-    assert_eq!(rt; bytes, 8065 + 5 * most);
-    let bytes = live_bytes(rt.alloc(), most as u32 + 1)?;
-    assert_eq!(rt; bytes, 0);
+    assert!(rt; live_bytes(rt.alloc(), most as u32)? == 8065 + 5 * most);
+    assert!(rt; live_bytes(rt.alloc(), most as u32 + 1)? == 0);
     Ok(())
 }
 
 /// A node that never came back is rebuilt from its journal; the lease that it went out with comes back late.
 #[test]
 fn a_late_lease_and_the_one_after_it_are_frozen(rt: HostRuntime) -> Result<(), Fail> {
-    assert_eq!(rt; rebuilt_bytes(rt.alloc(), 100)?, 2165);
-    assert_eq!(rt; live_bytes(rt.alloc(), 100)?, 2165);
+    assert!(rt; rebuilt_bytes(rt.alloc(), 100)? == 2165);
+    assert!(rt; live_bytes(rt.alloc(), 100)? == 2165);
     Ok(())
 }
 
-/// How many bytes a frozen node has that is thawed and frozen again: those that come back where the thaw is refused,
-/// and none where the freeze is, after which the journal is that of no start.
-fn thaw_and_freeze(frozen: Frozen) -> usize {
+/// How many bytes a node has, frozen. None where memory is wanting.
+fn frozen_len(suspended: Suspended) -> Option<usize> {
+    match suspended.freeze() {
+        Err(_) => None,
+        Ok(frozen) => Some(frozen.bytes().len()),
+    }
+}
+
+/// How many bytes a frozen node has that is thawed and frozen again, or that comes back where the thaw is refused. None
+/// where memory is wanting for the second freeze.
+fn thawed_len(frozen: Frozen) -> Option<usize> {
     match frozen.thaw() {
-        Err((frozen, _)) => frozen.bytes().len(),
-        Ok(suspended) => match suspended.freeze() {
-            Err((suspended, _)) => suspended.journal().loads(),
-            Ok(frozen) => frozen.bytes().len(),
-        },
+        Err((frozen, _)) => Some(frozen.bytes().len()),
+        Ok(suspended) => frozen_len(suspended),
     }
 }
 
@@ -105,28 +108,44 @@ fn a_node_that_is_not_thawed_comes_back(rt: HostRuntime) -> Result<(), Fail> {
     let Ok(frozen) = Suspended::fresh(rt.alloc(), 7, 1, 0).freeze() else {
         return Err(Fail::from("no memory"));
     };
-    assert_eq!(rt; thaw_and_freeze(frozen), 65);
+    assert!(rt; thawed_len(frozen) == Some(65));
     Ok(())
+}
+
+/// The journal of a node after this lease.
+fn journal_after(lease: Lease, scratch: &mut Scratch) -> Result<Journal, AllocError> {
+    let done = lease.work(scratch);
+    done.journal().copy()
 }
 
 /// The journal of node 0 after its first start, which loads a revision of two variables.
 fn first_journal(alloc: Global) -> Result<Journal, Fail> {
     let revision = shared(alloc, 2)?;
-    let kept = Kept::Live(Suspended::fresh(alloc, 7, 1, 0));
     let mut scratch = Scratch::new(alloc);
-    let lease = first(alloc, kept, revision)?;
-    let done = lease.work(&mut scratch);
-    Ok(done.journal().copy()?)
+    let lease = first(
+        alloc,
+        Kept::Live(Suspended::fresh(alloc, 7, 1, 0)),
+        revision,
+    )?;
+    Ok(journal_after(lease, &mut scratch)?)
+}
+
+/// How many entries of a journal are listed, and how many slices are counted behind them.
+fn counts_of(journal: &Journal) -> (usize, u64) {
+    let (counted, slices) = journal.entries().parts();
+    (counted.len(), slices)
+}
+
+/// Whether a copy of a journal's entries is the same, and is not without entries.
+fn are_copied(alloc: Global, journal: &Journal) -> Result<bool, AllocError> {
+    let entries = journal.entries().copy_with(0)?;
+    Ok(entries.same(journal.entries()) && !Entries::new(alloc).same(&entries))
 }
 
 #[test]
 fn a_load_is_listed_and_the_slice_behind_it_is_counted(rt: HostRuntime) -> Result<(), Fail> {
     let journal = first_journal(rt.alloc())?;
-    let (counted, slices) = journal.entries().parts();
-    assert_eq!(rt; counted.len(), 1);
-    assert_eq!(rt; slices, 1);
-    let entries = journal.entries().copy_with(0)?;
-    assert!(rt; entries.same(journal.entries()));
-    assert!(rt; !Entries::new(rt.alloc()).same(&entries));
+    assert!(rt; counts_of(&journal) == (1, 1));
+    assert!(rt; are_copied(rt.alloc(), &journal)?);
     Ok(())
 }

@@ -7,7 +7,7 @@ use std::alloc::Global;
 use std::test::Fail;
 
 /// The literals that DIMACS CNF writes as these numbers.
-pub fn lits(alloc: Global, numbers: &[i32]) -> Result<Vec<Lit>, Fail> {
+fn lits(alloc: Global, numbers: &[i32]) -> Result<Vec<Lit>, Fail> {
     let mut lits = Vec::new(alloc);
     for number in numbers {
         lits.push(Lit::of_dimacs(*number).ok_or("no literal")?)?;
@@ -16,7 +16,7 @@ pub fn lits(alloc: Global, numbers: &[i32]) -> Result<Vec<Lit>, Fail> {
 }
 
 /// The clause of these literals. None for a tautology.
-pub fn clause(alloc: Global, numbers: &[i32]) -> Result<Option<Clause>, Fail> {
+fn clause(alloc: Global, numbers: &[i32]) -> Result<Option<Clause>, Fail> {
     let lits = lits(alloc, numbers)?;
     Ok(Clause::of_lits(alloc, lits.as_slice())?)
 }
