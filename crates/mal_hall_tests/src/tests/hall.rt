@@ -1,4 +1,4 @@
-//! A hall whose replies and history are known.
+//! Halls whose answers and histories are known.
 
 ghost use Rattle.std.specs.Prelude.{◌≤◌};
 
@@ -8,160 +8,83 @@ use mal_learn::Scratch;
 use mal_revision::Revision;
 use mal_suspend::{Done, Lease};
 use std::alloc::Global;
-use std::test::Fail;
 
-/// A hall that is tried.
-#[derive(Drop)]
-struct Trial {
-    alloc: Global,
-    hall: Hall,
+/// The names of a tenant and of its job.
+pub(crate) type Key<'a> = (&'a [u8], &'a [u8]);
+
+/// The job p of tenant a.
+const P: Key = (b"a", b"p");
+
+/// What is posted.
+#[derive(Clone, Copy)]
+enum Posted<'a> {
+    /// No clause over so many variables.
+    Free(u32),
+    /// So many clauses over one variable that are always true.
+    Tautologies(usize),
+    /// A clause over two variables, and assumptions, by their DIMACS numbers.
+    Clause(&'a [i32], &'a [i32]),
 }
 
-impl Trial {
-    fn new(alloc: Global, workers: u32) -> Result<Trial, Fail>
-        requires some { 1 ≤ workers }
-        requires bound { workers ≤ 64 }
-    {
-        Ok(Trial {
-            alloc,
-            hall: Hall::new(alloc, workers)?,
-        })
-    }
-
-    /// Why a job is not opened, none where it is.
-    fn open(&mut self, tenant: &[u8], job: &[u8]) -> Result<Option<OpenFault>, Fail> {
-        self.open_for(tenant, job, 1, 4)
-    }
-
-    /// Why a job with this demand and a budget of so many slices is not opened, none where it is.
-    fn open_for(
-        &mut self,
-        tenant: &[u8],
-        job: &[u8],
-        demand: i64,
-        slices: i64,
-    ) -> Result<Option<OpenFault>, Fail> {
-        self.open_asking(tenant, job, Ask::of(1, demand, slices).ok_or("no ask")?)
-    }
-
-    /// Why a job with this ask is not opened, none where it is.
-    fn open_asking(
-        &mut self,
-        tenant: &[u8],
-        job: &[u8],
-        ask: Ask,
-    ) -> Result<Option<OpenFault>, Fail> {
-        let (tenant, job) = (name(self.alloc, tenant)?, name(self.alloc, job)?);
-        Ok(self.hall.open_job(tenant, job, ask).err())
-    }
-
-    /// Why a revision is not posted, none where it is.
-    fn revise(
-        &mut self,
-        tenant: &[u8],
-        job: &[u8],
-        revision: Revision,
-    ) -> Result<Option<ReviseFault>, Fail> {
-        let (tenant, job) = (name(self.alloc, tenant)?, name(self.alloc, job)?);
-        Ok(self.hall.revise_job(&tenant, &job, revision).err())
-    }
-
-    /// Why a job is not closed, none where it is.
-    fn close(&mut self, tenant: &[u8], job: &[u8]) -> Result<Option<CloseFault>, Fail> {
-        let (tenant, job) = (name(self.alloc, tenant)?, name(self.alloc, job)?);
-        Ok(self.hall.close_job(&tenant, &job).err())
-    }
-
-    /// Drives the hall until nothing is left to do; what is out is lost first.
-    fn drive(&mut self) -> Result<(), Fail> {
-        self.hall.recall();
-        self.hall.drive(&mut Scratch::new(self.alloc))?;
-        Ok(())
-    }
-
-    /// What a worker is told that picks, with the lease that it gets.
-    fn pick(&mut self, worker: u32) -> Result<(Told, Option<Lease>), Fail> {
-        if worker < 1 || self.hall.history().workers() < worker {
-            return Err(Fail::from("no worker"));
-        }
-        match self.hall.pick(worker) {
-            Ok(Pick::Leased(lease)) => Ok((Told::Leased, Some(lease))),
-            Ok(Pick::Idle) => Ok((Told::Idle, None)),
-            Ok(Pick::AllDone) => Ok((Told::AllDone, None)),
-            Err(PickFault::Busy) => Ok((Told::Busy, None)),
-            Err(PickFault::OutOfMemory) => Err(Fail::from("no memory")),
-        }
-    }
-
-    /// What a worker is told that picks.
-    fn told(&mut self, worker: u32) -> Result<Told, Fail> {
-        let (told, _lease) = self.pick(worker)?;
-        Ok(told)
-    }
-
-    /// What came of the lease that a worker gets, which is worked off.
-    fn worked(&mut self, worker: u32) -> Result<Done, Fail> {
-        let (_told, lease) = self.pick(worker)?;
-        Ok(lease.ok_or("no lease")?.work(&mut Scratch::new(self.alloc)))
-    }
-
-    /// What came of the lease that a worker gets, whose start wants for memory.
-    fn starved(&mut self, worker: u32) -> Result<Done, Fail> {
-        let (_told, lease) = self.pick(worker)?;
-        Ok(lease.ok_or("no lease")?.starved())
-    }
-
-    /// Gives back what came of a lease: none where it is taken back, or else the number of the start that its worker
-    /// has out.
-    fn give(&mut self, done: Done) -> Option<Option<u64>> {
-        match self.hall.finish(done) {
-            Ok(_) => None,
-            Err(strange) => Some(strange.kept),
-        }
-    }
-
-    /// The reply to a revision, none before it is answered.
-    fn reply(&self, tenant: &[u8], job: &[u8], r: u32) -> Result<Option<Vec<u8>>, Fail> {
-        let (tenant, job) = (name(self.alloc, tenant)?, name(self.alloc, job)?);
-        Ok(self.hall.reply(&tenant, &job, r)?)
-    }
-
-    /// The replies to the first revisions of a job, one behind another.
-    fn replies(&self, tenant: &[u8], job: &[u8], revisions: u32) -> Result<Vec<u8>, Fail> {
-        let mut all = Vec::new(self.alloc);
-        for r in 1..=revisions {
-            let text = self.reply(tenant, job, r)?.ok_or("no reply")?;
-            all.extend_from_slice(text.as_slice())?;
-        }
-        Ok(all)
-    }
-
-    /// Whether the hall tells that it has no such job.
-    fn is_absent(&self, tenant: &[u8], job: &[u8]) -> Result<bool, Fail> {
-        let (tenant, job) = (name(self.alloc, tenant)?, name(self.alloc, job)?);
-        match self.hall.reply(&tenant, &job, 1) {
-            Err(ReplyFault::NoJob) => Ok(true),
-            _ => Ok(false),
-        }
-    }
-
-    /// The text of the history.
-    fn history(&self) -> Result<Vec<u8>, Fail> {
-        Ok(mal_history::write(self.alloc, self.hall.history())?)
-    }
+/// A call of a hall.
+#[derive(Clone, Copy)]
+enum Call<'a> {
+    /// Opens a job of demand 1 with 4 slices.
+    Open(Key<'a>),
+    /// Opens the job p of tenant a, posts a revision without variables, and closes the job.
+    OneJob,
+    /// Opens the job p of tenant a with this demand, so many slices and this profile.
+    OpenFor(i64, i64, i64),
+    /// Opens so many jobs of tenant a.
+    OpenJobs(u8),
+    /// Opens a job of each of so many tenants.
+    OpenTenants(u8),
+    Revise(Key<'a>, Posted<'a>),
+    /// Posts so many revisions of the job p of tenant a.
+    ReviseOften(u32),
+    Close(Key<'a>),
+    /// A worker picks.
+    Pick(u32),
+    /// A worker picks and works its lease off. What came of it is kept, behind what was kept before.
+    Work(u32),
+    /// A worker picks, and the start of its lease wants for memory. What came of it is kept too.
+    Starve(u32),
+    /// Worker 1 of another hall, which has `OneJob` too, works its lease off. What came of it is kept too.
+    WorkElsewhere,
+    /// Gives back what was kept at a place.
+    Give(usize),
+    Recall,
+    Drive,
+    /// Asks for the reply to a revision, which is to be this text.
+    Hear(Key<'a>, u32, &'a [u8]),
+    /// Writes the history, which is to be this text.
+    Write(&'a [u8]),
 }
 
-/// What a worker is told that picks.
-#[derive(Clone, Copy, PartialEq, Eq, Debug)]
-enum Told {
+/// What a call is answered.
+#[derive(Clone, Copy, Debug, PartialEq, Eq)]
+pub(crate) enum Told {
+    Done,
+    NotOpened(OpenFault),
+    NotPosted(ReviseFault),
+    NotClosed(CloseFault),
     Leased,
     Idle,
     AllDone,
-    Busy,
+    NotPicked(PickFault),
+    Strange(Option<u64>),
+    NoReply,
+    NotHeard(ReplyFault),
+    /// Another text.
+    Other,
+    /// There is no such worker, or nothing is kept at that place.
+    Absent,
+    /// Memory was wanting for what the call takes.
+    Wanting,
 }
 
-fn name(alloc: Global, text: &[u8]) -> Result<Name, Fail> {
-    Ok(Name::of(alloc, text)?.ok_or("no name")?)
+pub(crate) fn name(alloc: Global, text: &[u8]) -> Option<Name> {
+    Name::of(alloc, text).ok()?
 }
 
 /// One of many names.
@@ -169,309 +92,623 @@ fn numbered(n: u8) -> [u8; 2] {
     [b'a' + n / 26, b'a' + n % 26]
 }
 
-/// A revision of no clauses over so many variables.
-fn free(alloc: Global, variables: u32) -> Result<Revision, Fail> {
-    Ok(Revision::new(alloc, variables, Vec::new(alloc), &[])?)
+pub(crate) fn ask(demand: i64, slices: i64, profile: i64) -> Option<Ask> {
+    Ask::of(1, demand, slices)?.with_profile(profile)
 }
 
-/// A revision of no clauses over no variables.
-fn empty(alloc: Global) -> Result<Revision, Fail> {
-    free(alloc, 0)
-}
-
-/// A revision over one variable of so many clauses that are always true.
-fn trivial(alloc: Global, clauses: usize) -> Result<Revision, Fail> {
-    let mut all = Vec::new(alloc);
-    for _ in 0..clauses {
-        all.push(None)?;
+fn lits(alloc: Global, numbers: &[i32]) -> Option<Vec<Lit>> {
+    let mut lits = Vec::new(alloc);
+    for number in numbers {
+        lits.push(Lit::of_dimacs(*number)?).ok()?;
     }
-    Ok(Revision::new(alloc, 1, all, &[])?)
+    Some(lits)
 }
 
-fn lit(number: i32) -> Result<Lit, Fail> {
-    Ok(Lit::of_dimacs(number).ok_or("no literal")?)
+fn clause(alloc: Global, numbers: &[i32]) -> Option<Vec<Option<Clause>>> {
+    let lits = lits(alloc, numbers)?;
+    vec![in alloc; Clause::of_lits(alloc, lits.as_slice()).ok()?].ok()
 }
 
-/// A revision over two variables with one clause.
-fn with_clause(alloc: Global, clause: &[Lit], assumptions: &[Lit]) -> Result<Revision, Fail> {
-    let clauses = vec![in alloc; Clause::of_lits(alloc, clause)?]?;
-    Ok(Revision::new(alloc, 2, clauses, assumptions)?)
-}
-
-/// Posts three revisions of the job p of tenant a, and closes it: a revision that is satisfiable, one whose assumption
-/// fails, and one that is satisfiable again.
-fn post_three(trial: &mut Trial) -> Result<(), Fail> {
-    let alloc = trial.alloc;
-    let (one, two) = (lit(1)?, lit(2)?);
-    trial.revise(b"a", b"p", with_clause(alloc, &[one, two], &[])?)?;
-    trial.revise(b"a", b"p", with_clause(alloc, &[lit(-1)?], &[lit(-2)?])?)?;
-    trial.revise(b"a", b"p", free(alloc, 2)?)?;
-    trial.close(b"a", b"p")?;
-    Ok(())
-}
-
-/// The replies to these three revisions.
-const THREE_REPLIES: &[u8] =
-    b"r a p 1\ns SATISFIABLE\nv -1 2 0\nr a p 2\ns UNSATISFIABLE\nk -2 0\nl 3 2 0 2 1 0\nr a p 3\ns SATISFIABLE\nv -1 2 0\n";
-
-/// A driven hall of two workers with one job of demand 2, whose solvers have this profile and 8 slices for a revision
-/// of so many variables and no clause.
-fn shared_by_two(alloc: Global, profile: i64, variables: u32) -> Result<Trial, Fail> {
-    let mut trial = Trial::new(alloc, 2)?;
-    let ask = Ask::of(1, 2, 8).ok_or("no ask")?;
-    trial.open_asking(b"a", b"p", ask.with_profile(profile).ok_or("no profile")?)?;
-    trial.revise(b"a", b"p", free(alloc, variables)?)?;
-    trial.close(b"a", b"p")?;
-    trial.drive()?;
-    Ok(trial)
-}
-
-#[test]
-fn an_opening_is_refused(rt: HostRuntime) -> Result<(), Fail> {
-    let mut trial = Trial::new(rt.alloc(), 1)?;
-    assert_eq!(rt; trial.open(b"a", b"p")?, None);
-    assert_eq!(rt; trial.open(b"a", b"p")?, Some(OpenFault::Duplicate));
-    assert_eq!(rt; trial.open(b"p", b"a")?, None);
-    Ok(())
-}
-
-#[test]
-fn a_tenant_has_room_for_64_jobs(rt: HostRuntime) -> Result<(), Fail> {
-    let mut trial = Trial::new(rt.alloc(), 1)?;
-    for n in 0..64 {
-        assert_eq!(rt; trial.open(b"a", &numbered(n))?, None);
+fn tautologies(alloc: Global, count: usize) -> Option<Vec<Option<Clause>>> {
+    let mut clauses = Vec::new(alloc);
+    for _ in 0..count {
+        clauses.push(None).ok()?;
     }
-    assert_eq!(rt; trial.open(b"a", b"p")?, Some(OpenFault::TenantFull));
-    assert_eq!(rt; trial.open(b"a", b"aa")?, Some(OpenFault::Duplicate));
-    assert_eq!(rt; trial.open(b"b", b"p")?, None);
-    Ok(())
+    Some(clauses)
 }
 
-#[test]
-fn a_hall_has_room_for_64_tenants(rt: HostRuntime) -> Result<(), Fail> {
-    let mut trial = Trial::new(rt.alloc(), 1)?;
-    for n in 0..64 {
-        assert_eq!(rt; trial.open(&numbered(n), b"p")?, None);
+fn revision(alloc: Global, posted: Posted) -> Option<Revision> {
+    match posted {
+        Posted::Free(variables) => Revision::new(alloc, variables, Vec::new(alloc), &[]).ok(),
+        Posted::Tautologies(count) => {
+            Revision::new(alloc, 1, tautologies(alloc, count)?, &[]).ok()
+        }
+        Posted::Clause(numbers, assumptions) => {
+            let assumptions = lits(alloc, assumptions)?;
+            Revision::new(alloc, 2, clause(alloc, numbers)?, assumptions.as_slice()).ok()
+        }
     }
-    assert_eq!(rt; trial.open(b"a", b"p")?, Some(OpenFault::HallFull));
-    assert_eq!(rt; trial.open(b"aa", b"q")?, None);
-    Ok(())
 }
 
-#[test]
-fn a_revision_and_a_closing_are_refused(rt: HostRuntime) -> Result<(), Fail> {
-    let alloc = rt.alloc();
-    let mut trial = Trial::new(alloc, 1)?;
-    trial.open(b"a", b"p")?;
-    assert_eq!(rt;
-        trial.revise(b"a", b"q", empty(alloc)?)?,
-        Some(ReviseFault::NoJob)
-    );
-    assert_eq!(rt; trial.close(b"q", b"p")?, Some(CloseFault::NoJob));
-    assert_eq!(rt; trial.close(b"a", b"p")?, None);
-    assert_eq!(rt;
-        trial.revise(b"a", b"p", empty(alloc)?)?,
-        Some(ReviseFault::Closed)
-    );
-    assert_eq!(rt; trial.close(b"a", b"p")?, Some(CloseFault::Closed));
-    Ok(())
-}
-
-#[test]
-fn a_job_has_room_for_256_revisions(rt: HostRuntime) -> Result<(), Fail> {
-    let alloc = rt.alloc();
-    let mut trial = Trial::new(alloc, 1)?;
-    trial.open(b"a", b"p")?;
-    for _ in 0..256 {
-        assert_eq!(rt; trial.revise(b"a", b"p", empty(alloc)?)?, None);
-    }
-    let refused = trial.revise(b"a", b"p", empty(alloc)?)?;
-    assert_eq!(rt; refused, Some(ReviseFault::RevisionsFull));
-    Ok(())
-}
-
-#[test]
-fn a_job_has_room_for_its_clauses(rt: HostRuntime) -> Result<(), Fail> {
-    let alloc = rt.alloc();
-    let mut trial = Trial::new(alloc, 1)?;
-    trial.open(b"a", b"p")?;
-    assert_eq!(rt; trial.revise(b"a", b"p", trivial(alloc, 1_048_575)?)?, None);
-    let refused = trial.revise(b"a", b"p", trivial(alloc, 2)?)?;
-    let full = ReviseFault::JobFull {
-        which: LimitKind::Clauses,
+fn open(alloc: Global, hall: &mut Hall, key: Key, ask: Option<Ask>) -> Told {
+    let (Some(tenant), Some(job), Some(ask)) = (name(alloc, key.0), name(alloc, key.1), ask) else {
+        return Told::Wanting;
     };
-    assert_eq!(rt; refused, Some(full));
-    assert_eq!(rt; trial.revise(b"a", b"p", trivial(alloc, 1)?)?, None);
-    Ok(())
+    match hall.open_job(tenant, job, ask) {
+        Ok(()) => Told::Done,
+        Err(fault) => Told::NotOpened(fault),
+    }
 }
 
-#[test]
-fn an_absent_job_is_told(rt: HostRuntime) -> Result<(), Fail> {
-    let mut trial = Trial::new(rt.alloc(), 1)?;
-    trial.open(b"a", b"p")?;
-    assert!(rt; trial.is_absent(b"a", b"a")?);
-    assert!(rt; trial.is_absent(b"p", b"p")?);
-    assert!(rt; !trial.is_absent(b"a", b"p")?);
-    Ok(())
+/// Opens jobs of tenant a. What the first that is refused is told, if one is.
+fn open_jobs(alloc: Global, hall: &mut Hall, jobs: u8) -> Told {
+    for n in 0..jobs {
+        let told = open(alloc, hall, (b"a", &numbered(n)), ask(1, 4, 1));
+        if told != Told::Done {
+            return told;
+        }
+    }
+    Told::Done
 }
 
-#[test]
-fn three_revisions_are_replied_to(rt: HostRuntime) -> Result<(), Fail> {
-    let mut trial = Trial::new(rt.alloc(), 1)?;
-    trial.open(b"a", b"p")?;
-    post_three(&mut trial)?;
-    assert!(rt; trial.reply(b"a", b"p", 1)?.is_none());
-    trial.drive()?;
-    let replies = trial.replies(b"a", b"p", 3)?;
-    assert_eq!(rt; replies.as_slice(), THREE_REPLIES);
-    let text = trial.history()?;
-    let known =
-        b"h mal 1 1\no a p 1 1 4\nr a p 1\nr a p 2\nr a p 3\nc a p\nb a p 1\ns a p 0 1\nf a p 0 1 ran\ns a p 0 1\nf a p 0 1 ran\ns a p 0 1\nf a p 0 1 ran\n";
-    assert_eq!(rt; text.as_slice(), known.as_slice());
-    Ok(())
+/// Opens a job of each of so many tenants. What the first that is refused is told, if one is.
+fn open_tenants(alloc: Global, hall: &mut Hall, tenants: u8) -> Told {
+    for n in 0..tenants {
+        let told = open(alloc, hall, (&numbered(n), b"p"), ask(1, 4, 1));
+        if told != Told::Done {
+            return told;
+        }
+    }
+    Told::Done
 }
 
-#[test]
-fn two_nodes_spend_8_slices_with_an_exchange_between(rt: HostRuntime) -> Result<(), Fail> {
-    let trial = shared_by_two(rt.alloc(), 1, 1_000)?;
-    let text = trial.history()?;
-    let known =
-        b"h mal 1 2\no a p 1 2 8\nr a p 1\nc a p\nb a p 2\ns a p 0 1\nf a p 0 1 ran\ns a p 1 1\nf a p 1 1 ran\ns a p 0 1\nf a p 0 1 ran\ns a p 1 1\nf a p 1 1 ran\nx a p\ns a p 0 1\nf a p 0 1 ran\ns a p 1 1\nf a p 1 1 ran\ns a p 0 1\nf a p 0 1 ran\ns a p 1 1\nf a p 1 1 ran\n";
-    assert_eq!(rt; text.as_slice(), known.as_slice());
-    let reply = trial.reply(b"a", b"p", 1)?.ok_or("no reply")?;
-    let known = b"r a p 1\ns UNKNOWN\nu spent 8\n";
-    assert_eq!(rt; reply.as_slice(), known.as_slice());
-    Ok(())
+fn revise(alloc: Global, hall: &mut Hall, key: Key, posted: Posted) -> Told {
+    let (Some(tenant), Some(job)) = (name(alloc, key.0), name(alloc, key.1)) else {
+        return Told::Wanting;
+    };
+    let Some(revision) = revision(alloc, posted) else {
+        return Told::Wanting;
+    };
+    match hall.revise_job(&tenant, &job, revision) {
+        Ok(()) => Told::Done,
+        Err(fault) => Told::NotPosted(fault),
+    }
 }
 
-#[test]
-fn an_exchange_of_nothing_leaves_nodes_of_profile_2(rt: HostRuntime) -> Result<(), Fail> {
-    let trial = shared_by_two(rt.alloc(), 2, 1_000)?;
-    let text = trial.history()?;
-    let known =
-        b"h mal 1 2\no a p 1 2 8 2\nr a p 1\nc a p\nb a p 2\ns a p 0 1\nf a p 0 1 ran\ns a p 1 1\nf a p 1 1 ran\ns a p 0 1\nf a p 0 1 ran\ns a p 1 1\nf a p 1 1 ran\nx a p\ns a p 0 1\nf a p 0 1 ran\n";
-    assert_eq!(rt; text.as_slice(), known.as_slice());
-    Ok(())
+/// Posts revisions without variables. What the first that is refused is told, if one is.
+fn revise_often(alloc: Global, hall: &mut Hall, times: u32) -> Told {
+    for _ in 0..times {
+        let told = revise(alloc, hall, P, Posted::Free(0));
+        if told != Told::Done {
+            return told;
+        }
+    }
+    Told::Done
 }
 
-#[test]
-fn all_literals_of_its_model_are_negative(rt: HostRuntime) -> Result<(), Fail> {
-    let trial = shared_by_two(rt.alloc(), 2, 1_000)?;
-    let reply = trial.reply(b"a", b"p", 1)?.ok_or("no reply")?;
-    let front = b"r a p 1 2\ns SATISFIABLE\nv -1 -2 -3 ";
-    assert_eq!(rt; reply.get(..front.len()), Some(front.as_slice()));
-    assert_eq!(rt; reply.len(), 4_921);
-    assert_eq!(rt; reply.iter().filter(|byte| **byte == b'-').count(), 1_000);
-    Ok(())
+fn close(alloc: Global, hall: &mut Hall, key: Key) -> Told {
+    let (Some(tenant), Some(job)) = (name(alloc, key.0), name(alloc, key.1)) else {
+        return Told::Wanting;
+    };
+    match hall.close_job(&tenant, &job) {
+        Ok(()) => Told::Done,
+        Err(fault) => Told::NotClosed(fault),
+    }
 }
 
-/// A hall of so many workers with one job of demand 1, whose one revision has neither variables nor clauses.
-fn with_one_job(alloc: Global, workers: u32) -> Result<Trial, Fail>
+/// Opens the job p of tenant a, posts a revision without variables, and closes the job. What the first call is told
+/// that is refused, if one is.
+fn one_job(alloc: Global, hall: &mut Hall) -> Told {
+    let opened = open(alloc, hall, P, ask(1, 4, 1));
+    if opened != Told::Done {
+        return opened;
+    }
+    let posted = revise(alloc, hall, P, Posted::Free(0));
+    if posted != Told::Done {
+        return posted;
+    }
+    close(alloc, hall, P)
+}
+
+/// What a worker is told that picks, or the lease that it gets.
+pub(crate) fn pick(hall: &mut Hall, worker: u32) -> Result<Lease, Told> {
+    if worker < 1 || hall.history().workers() < worker {
+        return Err(Told::Absent);
+    }
+    match hall.pick(worker) {
+        Ok(Pick::Leased(lease)) => Ok(lease),
+        Ok(Pick::Idle) => Err(Told::Idle),
+        Ok(Pick::AllDone) => Err(Told::AllDone),
+        Err(fault) => Err(Told::NotPicked(fault)),
+    }
+}
+
+/// What a worker is told that picks.
+fn picked(hall: &mut Hall, worker: u32) -> Told {
+    match pick(hall, worker) {
+        Ok(_) => Told::Leased,
+        Err(told) => told,
+    }
+}
+
+/// Keeps what came of a lease.
+fn keep(kept: &mut Vec<Done>, done: Done) -> Told {
+    match kept.push(done) {
+        Ok(()) => Told::Done,
+        Err(_) => Told::Wanting,
+    }
+}
+
+fn work(alloc: Global, hall: &mut Hall, worker: u32, kept: &mut Vec<Done>) -> Told {
+    match pick(hall, worker) {
+        Ok(lease) => keep(kept, lease.work(&mut Scratch::new(alloc))),
+        Err(told) => told,
+    }
+}
+
+fn starve(hall: &mut Hall, worker: u32, kept: &mut Vec<Done>) -> Told {
+    match pick(hall, worker) {
+        Ok(lease) => keep(kept, lease.starved()),
+        Err(told) => told,
+    }
+}
+
+/// Has worker 1 of another hall with one job work.
+fn work_elsewhere(alloc: Global, kept: &mut Vec<Done>) -> Told {
+    let Ok(hall) = Hall::new(alloc, 1) else {
+        return Told::Wanting;
+    };
+    let mut hall = hall;
+    match one_job(alloc, &mut hall) {
+        Told::Done => work(alloc, &mut hall, 1, kept),
+        told => told,
+    }
+}
+
+fn give(hall: &mut Hall, kept: &mut Vec<Done>, place: usize) -> Told {
+    if place >= kept.len() {
+        return Told::Absent;
+    }
+    match hall.finish(kept.remove(place)) {
+        Ok(_) => Told::Done,
+        Err(strange) => Told::Strange(strange.kept),
+    }
+}
+
+fn recall(hall: &mut Hall) -> Told {
+    hall.recall();
+    Told::Done
+}
+
+/// Drives a hall until nothing is left to do; what is out is lost first.
+pub(crate) fn drive(alloc: Global, hall: &mut Hall) -> Told {
+    hall.recall();
+    match hall.drive(&mut Scratch::new(alloc)) {
+        Ok(()) => Told::Done,
+        Err(_) => Told::Wanting,
+    }
+}
+
+/// What is told to who asks for a reply, which is to be this text.
+pub(crate) fn heard(answer: Result<Option<Vec<u8>>, ReplyFault>, known: &[u8]) -> Told {
+    match answer {
+        Ok(Some(text)) if text.as_slice() == known => Told::Done,
+        Ok(Some(_)) => Told::Other,
+        Ok(None) => Told::NoReply,
+        Err(fault) => Told::NotHeard(fault),
+    }
+}
+
+pub(crate) fn hear(alloc: Global, hall: &Hall, key: Key, r: u32, known: &[u8]) -> Told {
+    let (Some(tenant), Some(job)) = (name(alloc, key.0), name(alloc, key.1)) else {
+        return Told::Wanting;
+    };
+    heard(hall.reply(&tenant, &job, r), known)
+}
+
+pub(crate) fn write(alloc: Global, hall: &Hall, known: &[u8]) -> Told {
+    match mal_history::write(alloc, hall.history()) {
+        Ok(text) if text.as_slice() == known => Told::Done,
+        Ok(_) => Told::Other,
+        Err(_) => Told::Wanting,
+    }
+}
+
+/// What a hall answers to a call.
+fn answer(alloc: Global, hall: &mut Hall, kept: &mut Vec<Done>, call: Call) -> Told {
+    match call {
+        Call::Open(key) => open(alloc, hall, key, ask(1, 4, 1)),
+        Call::OneJob => one_job(alloc, hall),
+        Call::OpenFor(demand, slices, profile) => {
+            open(alloc, hall, P, ask(demand, slices, profile))
+        }
+        Call::OpenJobs(jobs) => open_jobs(alloc, hall, jobs),
+        Call::OpenTenants(tenants) => open_tenants(alloc, hall, tenants),
+        Call::Revise(key, posted) => revise(alloc, hall, key, posted),
+        Call::ReviseOften(times) => revise_often(alloc, hall, times),
+        Call::Close(key) => close(alloc, hall, key),
+        Call::Pick(worker) => picked(hall, worker),
+        Call::Work(worker) => work(alloc, hall, worker, kept),
+        Call::Starve(worker) => starve(hall, worker, kept),
+        Call::WorkElsewhere => work_elsewhere(alloc, kept),
+        Call::Give(place) => give(hall, kept, place),
+        Call::Recall => recall(hall),
+        Call::Drive => drive(alloc, hall),
+        Call::Hear(key, r, known) => hear(alloc, hall, key, r, known),
+        Call::Write(known) => write(alloc, hall, known),
+    }
+}
+
+/// How many calls a hall answers as it is known, from the first on.
+fn answered(alloc: Global, hall: &mut Hall, calls: &[(Call, Told)]) -> usize {
+    let mut kept = Vec::new(alloc);
+    for at in 0..calls.len() {
+        let (call, told) = calls[at];
+        if answer(alloc, hall, &mut kept, call) != told {
+            return at;
+        }
+    }
+    calls.len()
+}
+
+/// How many calls a hall of so many workers answers as it is known, from the first on.
+fn tried(alloc: Global, workers: u32, calls: &[(Call, Told)]) -> usize
     requires some { 1 ≤ workers }
     requires bound { workers ≤ 64 }
 {
-    let mut trial = Trial::new(alloc, workers)?;
-    trial.open(b"a", b"p")?;
-    trial.revise(b"a", b"p", empty(alloc)?)?;
-    trial.close(b"a", b"p")?;
-    Ok(trial)
-}
-
-/// The reply to that job's revision.
-const FREE_REPLY: &[u8] = b"r a p 1\ns SATISFIABLE\nv 0\n";
-
-#[test]
-fn a_worker_with_a_lease_is_busy(rt: HostRuntime) -> Result<(), Fail> {
-    let mut trial = with_one_job(rt.alloc(), 2)?;
-    assert_eq!(rt; trial.told(1)?, Told::Leased);
-    assert_eq!(rt; trial.told(1)?, Told::Busy);
-    assert_eq!(rt; trial.told(2)?, Told::Idle);
-    assert!(rt; trial.reply(b"a", b"p", 1)?.is_none());
-    Ok(())
-}
-
-#[test]
-fn a_lease_that_was_recalled_is_strange(rt: HostRuntime) -> Result<(), Fail> {
-    let mut trial = with_one_job(rt.alloc(), 1)?;
-    let late = trial.worked(1)?;
-    trial.hall.recall();
-    let done = trial.worked(1)?;
-    assert_eq!(rt; trial.give(late), Some(Some(2)));
-    assert_eq!(rt; trial.give(done), None);
-    let reply = trial.reply(b"a", b"p", 1)?.ok_or("no reply")?;
-    assert_eq!(rt; reply.as_slice(), FREE_REPLY);
-    assert_eq!(rt; trial.told(1)?, Told::AllDone);
-    let text = trial.history()?;
-    let known =
-        b"h mal 1 1\no a p 1 1 4\nr a p 1\nc a p\nb a p 1\ns a p 0 1\nf a p 0 1 lost\ns a p 0 1\nf a p 0 1 ran\n";
-    assert_eq!(rt; text.as_slice(), known.as_slice());
-    Ok(())
-}
-
-#[test]
-fn three_starts_that_starve_leave_a_revision_unknown(rt: HostRuntime) -> Result<(), Fail> {
-    let mut trial = with_one_job(rt.alloc(), 1)?;
-    for _ in 0..3 {
-        assert!(rt; trial.reply(b"a", b"p", 1)?.is_none());
-        let done = trial.starved(1)?;
-        assert_eq!(rt; trial.give(done), None);
+    match Hall::new(alloc, workers) {
+        Ok(hall) => {
+            let mut hall = hall;
+            answered(alloc, &mut hall, calls)
+        }
+        Err(_) => 0,
     }
-    let reply = trial.reply(b"a", b"p", 1)?.ok_or("no reply")?;
-    let known = b"r a p 1\ns UNKNOWN\nu starved 3\n";
-    assert_eq!(rt; reply.as_slice(), known.as_slice());
-    assert_eq!(rt; trial.told(1)?, Told::AllDone);
-    Ok(())
 }
+
+/// Calls with their answers.
+type Play = &'static [(Call<'static>, Told)];
+
+const OPENINGS: Play = &[
+    (Call::Open(P), Told::Done),
+    (Call::Open(P), Told::NotOpened(OpenFault::Duplicate)),
+    (Call::Open((b"p", b"a")), Told::Done),
+];
 
 #[test]
-fn an_equal_journal_of_another_hall_is_taken_back(rt: HostRuntime) -> Result<(), Fail> {
-    let alloc = rt.alloc();
-    let mut one = with_one_job(alloc, 1)?;
-    let mut other = with_one_job(alloc, 1)?;
-    let mine = one.worked(1)?;
-    let own = other.worked(1)?;
-    assert_eq!(rt; other.give(mine), None);
-    assert_eq!(rt; other.give(own), Some(None));
-    let reply = other.reply(b"a", b"p", 1)?.ok_or("no reply")?;
-    assert_eq!(rt; reply.as_slice(), FREE_REPLY);
-    Ok(())
+fn an_opening_is_refused(rt: HostRuntime) {
+    assert_eq!(rt; tried(rt.alloc(), 1, OPENINGS), OPENINGS.len());
 }
+
+const JOBS_OF_A_TENANT: Play = &[
+    (Call::OpenJobs(64), Told::Done),
+    (Call::Open(P), Told::NotOpened(OpenFault::TenantFull)),
+    (
+        Call::Open((b"a", b"aa")),
+        Told::NotOpened(OpenFault::Duplicate),
+    ),
+    (Call::Open((b"b", b"p")), Told::Done),
+];
 
 #[test]
-fn the_last_balancing_comes_before_a_hall_idles(rt: HostRuntime) -> Result<(), Fail> {
-    let alloc = rt.alloc();
-    let mut trial = Trial::new(alloc, 1)?;
-    trial.open(b"a", b"p")?;
-    trial.revise(b"a", b"p", empty(alloc)?)?;
-    trial.drive()?;
-    let text = trial.history()?;
-    let known = b"h mal 1 1\no a p 1 1 4\nr a p 1\nb a p 1\ns a p 0 1\nf a p 0 1 ran\nb\n";
-    assert_eq!(rt; text.as_slice(), known.as_slice());
-    assert_eq!(rt; trial.told(1)?, Told::Idle);
-    Ok(())
-}
-
-/// A hall of two workers with one job of demand 2, one of whose two variables has to be true.
-fn with_two_nodes(alloc: Global) -> Result<Trial, Fail> {
-    let mut trial = Trial::new(alloc, 2)?;
-    trial.open_for(b"a", b"p", 2, 4)?;
-    trial.revise(b"a", b"p", with_clause(alloc, &[lit(1)?, lit(2)?], &[])?)?;
-    Ok(trial)
-}
-
-#[test]
-fn the_first_node_that_comes_back_answers(rt: HostRuntime) -> Result<(), Fail> {
-    let alloc = rt.alloc();
-    let mut trial = with_two_nodes(alloc)?;
-    let (one, two) = (trial.worked(1)?, trial.worked(2)?);
-    assert_eq!(rt; trial.give(two), None);
-    trial.revise(b"a", b"p", with_clause(alloc, &[lit(-1)?], &[])?)?;
-    assert_eq!(rt; trial.give(one), None);
-    let reply = trial.reply(b"a", b"p", 1)?.ok_or("no reply")?;
+fn a_tenant_has_room_for_64_jobs(rt: HostRuntime) {
     assert_eq!(rt;
-        reply.as_slice(),
-        b"r a p 1\ns SATISFIABLE\nv 1 2 0\n".as_slice()
+        tried(rt.alloc(), 1, JOBS_OF_A_TENANT),
+        JOBS_OF_A_TENANT.len()
     );
-    assert!(rt; trial.reply(b"a", b"p", 2)?.is_none());
-    Ok(())
+}
+
+const TENANTS: Play = &[
+    (Call::OpenTenants(64), Told::Done),
+    (Call::Open(P), Told::NotOpened(OpenFault::HallFull)),
+    (Call::Open((b"aa", b"q")), Told::Done),
+];
+
+#[test]
+fn a_hall_has_room_for_64_tenants(rt: HostRuntime) {
+    assert_eq!(rt; tried(rt.alloc(), 1, TENANTS), TENANTS.len());
+}
+
+const REVISIONS_AND_CLOSINGS: Play = &[
+    (Call::Open(P), Told::Done),
+    (
+        Call::Revise((b"a", b"q"), Posted::Free(0)),
+        Told::NotPosted(ReviseFault::NoJob),
+    ),
+    (
+        Call::Close((b"q", b"p")),
+        Told::NotClosed(CloseFault::NoJob),
+    ),
+    (Call::Close(P), Told::Done),
+    (
+        Call::Revise(P, Posted::Free(0)),
+        Told::NotPosted(ReviseFault::Closed),
+    ),
+    (Call::Close(P), Told::NotClosed(CloseFault::Closed)),
+];
+
+#[test]
+fn a_revision_and_a_closing_are_refused(rt: HostRuntime) {
+    assert_eq!(rt;
+        tried(rt.alloc(), 1, REVISIONS_AND_CLOSINGS),
+        REVISIONS_AND_CLOSINGS.len()
+    );
+}
+
+const REVISIONS_OF_A_JOB: Play = &[
+    (Call::Open(P), Told::Done),
+    (Call::ReviseOften(256), Told::Done),
+    (
+        Call::Revise(P, Posted::Free(0)),
+        Told::NotPosted(ReviseFault::RevisionsFull),
+    ),
+];
+
+#[test]
+fn a_job_has_room_for_256_revisions(rt: HostRuntime) {
+    assert_eq!(rt;
+        tried(rt.alloc(), 1, REVISIONS_OF_A_JOB),
+        REVISIONS_OF_A_JOB.len()
+    );
+}
+
+/// A job has no room for more clauses.
+const CLAUSES_FULL: ReviseFault = ReviseFault::JobFull {
+    which: LimitKind::Clauses,
+};
+
+const CLAUSES_OF_A_JOB: Play = &[
+    (Call::Open(P), Told::Done),
+    (Call::Revise(P, Posted::Tautologies(1_048_575)), Told::Done),
+    (
+        Call::Revise(P, Posted::Tautologies(2)),
+        Told::NotPosted(CLAUSES_FULL),
+    ),
+    (Call::Revise(P, Posted::Tautologies(1)), Told::Done),
+];
+
+#[test]
+fn a_job_has_room_for_its_clauses(rt: HostRuntime) {
+    assert_eq!(rt;
+        tried(rt.alloc(), 1, CLAUSES_OF_A_JOB),
+        CLAUSES_OF_A_JOB.len()
+    );
+}
+
+const ABSENT_JOBS: Play = &[
+    (Call::Open(P), Told::Done),
+    (
+        Call::Hear((b"a", b"a"), 1, b""),
+        Told::NotHeard(ReplyFault::NoJob),
+    ),
+    (
+        Call::Hear((b"p", b"p"), 1, b""),
+        Told::NotHeard(ReplyFault::NoJob),
+    ),
+    (Call::Hear(P, 1, b""), Told::NoReply),
+];
+
+#[test]
+fn an_absent_job_is_told(rt: HostRuntime) {
+    assert_eq!(rt; tried(rt.alloc(), 1, ABSENT_JOBS), ABSENT_JOBS.len());
+}
+
+/// A revision that is satisfiable, one whose assumption fails, and one that is satisfiable again.
+const THREE_REVISIONS: Play = &[
+    (Call::Open(P), Told::Done),
+    (Call::Revise(P, Posted::Clause(&[1, 2], &[])), Told::Done),
+    (Call::Revise(P, Posted::Clause(&[-1], &[-2])), Told::Done),
+    (Call::Revise(P, Posted::Free(2)), Told::Done),
+    (Call::Close(P), Told::Done),
+    (Call::Hear(P, 1, b""), Told::NoReply),
+    (Call::Drive, Told::Done),
+    (
+        Call::Hear(P, 1, b"r a p 1\ns SATISFIABLE\nv -1 2 0\n"),
+        Told::Done,
+    ),
+    (
+        Call::Hear(P, 2, b"r a p 2\ns UNSATISFIABLE\nk -2 0\nl 3 2 0 2 1 0\n"),
+        Told::Done,
+    ),
+    (
+        Call::Hear(P, 3, b"r a p 3\ns SATISFIABLE\nv -1 2 0\n"),
+        Told::Done,
+    ),
+    (
+        Call::Write(
+            b"h mal 1 1\no a p 1 1 4\nr a p 1\nr a p 2\nr a p 3\nc a p\nb a p 1\ns a p 0 1\nf a p 0 1 ran\ns a p 0 1\nf a p 0 1 ran\ns a p 0 1\nf a p 0 1 ran\n",
+        ),
+        Told::Done,
+    ),
+];
+
+#[test]
+fn three_revisions_are_replied_to(rt: HostRuntime) {
+    assert_eq!(rt;
+        tried(rt.alloc(), 1, THREE_REVISIONS),
+        THREE_REVISIONS.len()
+    );
+}
+
+/// Two solvers of profile 1 have 8 slices for a revision of 1,000 variables and no clause.
+const TWO_NODES_SPEND: Play = &[
+    (Call::OpenFor(2, 8, 1), Told::Done),
+    (Call::Revise(P, Posted::Free(1_000)), Told::Done),
+    (Call::Close(P), Told::Done),
+    (Call::Drive, Told::Done),
+    (
+        Call::Write(
+            b"h mal 1 2\no a p 1 2 8\nr a p 1\nc a p\nb a p 2\ns a p 0 1\nf a p 0 1 ran\ns a p 1 1\nf a p 1 1 ran\ns a p 0 1\nf a p 0 1 ran\ns a p 1 1\nf a p 1 1 ran\nx a p\ns a p 0 1\nf a p 0 1 ran\ns a p 1 1\nf a p 1 1 ran\ns a p 0 1\nf a p 0 1 ran\ns a p 1 1\nf a p 1 1 ran\n",
+        ),
+        Told::Done,
+    ),
+    (
+        Call::Hear(P, 1, b"r a p 1\ns UNKNOWN\nu spent 8\n"),
+        Told::Done,
+    ),
+];
+
+#[test]
+fn two_nodes_spend_8_slices_with_an_exchange_between(rt: HostRuntime) {
+    assert_eq!(rt;
+        tried(rt.alloc(), 2, TWO_NODES_SPEND),
+        TWO_NODES_SPEND.len()
+    );
+}
+
+/// The same of profile 2.
+const TWO_NODES_ANSWER: Play = &[
+    (Call::OpenFor(2, 8, 2), Told::Done),
+    (Call::Revise(P, Posted::Free(1_000)), Told::Done),
+    (Call::Close(P), Told::Done),
+    (Call::Drive, Told::Done),
+    (
+        Call::Write(
+            b"h mal 1 2\no a p 1 2 8 2\nr a p 1\nc a p\nb a p 2\ns a p 0 1\nf a p 0 1 ran\ns a p 1 1\nf a p 1 1 ran\ns a p 0 1\nf a p 0 1 ran\ns a p 1 1\nf a p 1 1 ran\nx a p\ns a p 0 1\nf a p 0 1 ran\n",
+        ),
+        Told::Done,
+    ),
+];
+
+#[test]
+fn an_exchange_of_nothing_leaves_nodes_of_profile_2(rt: HostRuntime) {
+    assert_eq!(rt;
+        tried(rt.alloc(), 2, TWO_NODES_ANSWER),
+        TWO_NODES_ANSWER.len()
+    );
+}
+
+/// The reply to a revision without variables.
+pub(crate) const FREE_REPLY: &[u8] = b"r a p 1\ns SATISFIABLE\nv 0\n";
+
+const BUSY: Play = &[
+    (Call::OneJob, Told::Done),
+    (Call::Pick(1), Told::Leased),
+    (Call::Pick(1), Told::NotPicked(PickFault::Busy)),
+    (Call::Pick(2), Told::Idle),
+    (Call::Hear(P, 1, b""), Told::NoReply),
+];
+
+#[test]
+fn a_worker_with_a_lease_is_busy(rt: HostRuntime) {
+    assert_eq!(rt; tried(rt.alloc(), 2, BUSY), BUSY.len());
+}
+
+const RECALLED: Play = &[
+    (Call::OneJob, Told::Done),
+    (Call::Work(1), Told::Done),
+    (Call::Recall, Told::Done),
+    (Call::Work(1), Told::Done),
+    (Call::Give(0), Told::Strange(Some(2))),
+    (Call::Give(0), Told::Done),
+    (Call::Hear(P, 1, FREE_REPLY), Told::Done),
+    (Call::Pick(1), Told::AllDone),
+    (
+        Call::Write(
+            b"h mal 1 1\no a p 1 1 4\nr a p 1\nc a p\nb a p 1\ns a p 0 1\nf a p 0 1 lost\ns a p 0 1\nf a p 0 1 ran\n",
+        ),
+        Told::Done,
+    ),
+];
+
+#[test]
+fn a_lease_that_was_recalled_is_strange(rt: HostRuntime) {
+    assert_eq!(rt; tried(rt.alloc(), 1, RECALLED), RECALLED.len());
+}
+
+const STARVED: Play = &[
+    (Call::OneJob, Told::Done),
+    (Call::Hear(P, 1, b""), Told::NoReply),
+    (Call::Starve(1), Told::Done),
+    (Call::Give(0), Told::Done),
+    (Call::Hear(P, 1, b""), Told::NoReply),
+    (Call::Starve(1), Told::Done),
+    (Call::Give(0), Told::Done),
+    (Call::Hear(P, 1, b""), Told::NoReply),
+    (Call::Starve(1), Told::Done),
+    (Call::Give(0), Told::Done),
+    (
+        Call::Hear(P, 1, b"r a p 1\ns UNKNOWN\nu starved 3\n"),
+        Told::Done,
+    ),
+    (Call::Pick(1), Told::AllDone),
+];
+
+#[test]
+fn three_starts_that_starve_leave_a_revision_unknown(rt: HostRuntime) {
+    assert_eq!(rt; tried(rt.alloc(), 1, STARVED), STARVED.len());
+}
+
+const EQUAL_JOURNALS: Play = &[
+    (Call::OneJob, Told::Done),
+    (Call::WorkElsewhere, Told::Done),
+    (Call::Work(1), Told::Done),
+    (Call::Give(0), Told::Done),
+    (Call::Give(0), Told::Strange(None)),
+    (Call::Hear(P, 1, FREE_REPLY), Told::Done),
+];
+
+#[test]
+fn an_equal_journal_of_another_hall_is_taken_back(rt: HostRuntime) {
+    assert_eq!(rt; tried(rt.alloc(), 1, EQUAL_JOURNALS), EQUAL_JOURNALS.len());
+}
+
+const UNCLOSED: Play = &[
+    (Call::Open(P), Told::Done),
+    (Call::Revise(P, Posted::Free(0)), Told::Done),
+    (Call::Drive, Told::Done),
+    (
+        Call::Write(b"h mal 1 1\no a p 1 1 4\nr a p 1\nb a p 1\ns a p 0 1\nf a p 0 1 ran\nb\n"),
+        Told::Done,
+    ),
+    (Call::Pick(1), Told::Idle),
+];
+
+#[test]
+fn the_last_balancing_comes_before_a_hall_idles(rt: HostRuntime) {
+    assert_eq!(rt; tried(rt.alloc(), 1, UNCLOSED), UNCLOSED.len());
+}
+
+/// Of two nodes the second comes back first.
+const LATE_MODEL: Play = &[
+    (Call::OpenFor(2, 4, 1), Told::Done),
+    (Call::Revise(P, Posted::Clause(&[1, 2], &[])), Told::Done),
+    (Call::Work(1), Told::Done),
+    (Call::Work(2), Told::Done),
+    (Call::Give(1), Told::Done),
+    (Call::Revise(P, Posted::Clause(&[-1], &[])), Told::Done),
+    (Call::Give(0), Told::Done),
+    (
+        Call::Hear(P, 1, b"r a p 1\ns SATISFIABLE\nv 1 2 0\n"),
+        Told::Done,
+    ),
+    (Call::Hear(P, 2, b""), Told::NoReply),
+];
+
+#[test]
+fn the_first_node_that_comes_back_answers(rt: HostRuntime) {
+    assert_eq!(rt; tried(rt.alloc(), 2, LATE_MODEL), LATE_MODEL.len());
+}
+
+/// Of two nodes the first comes back first.
+const LATE_MODEL_OF_THE_SECOND: Play = &[
+    (Call::OpenFor(2, 4, 1), Told::Done),
+    (Call::Revise(P, Posted::Clause(&[1, 2], &[])), Told::Done),
+    (Call::Work(1), Told::Done),
+    (Call::Work(2), Told::Done),
+    (Call::Give(0), Told::Done),
+    (Call::Revise(P, Posted::Clause(&[-1], &[])), Told::Done),
+    (Call::Give(0), Told::Done),
+    (
+        Call::Hear(P, 1, b"r a p 1\ns SATISFIABLE\nv -1 2 0\n"),
+        Told::Done,
+    ),
+    (Call::Hear(P, 2, b""), Told::NoReply),
+];
+
+#[test]
+fn the_second_node_that_comes_back_answers_nothing(rt: HostRuntime) {
+    assert_eq!(rt;
+        tried(rt.alloc(), 2, LATE_MODEL_OF_THE_SECOND),
+        LATE_MODEL_OF_THE_SECOND.len()
+    );
 }

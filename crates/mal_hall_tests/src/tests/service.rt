@@ -1,18 +1,17 @@
 //! A service whose answers and whose history are known.
 
-ghost use Rattle.std.specs.Prelude.{IfOk};
+ghost use Rattle.std.specs.Prelude.{◌≤◌};
 ghost use Rattle.mal_turn.specs.Seats.{IsOf};
 
-use mal_base::{Ask, Name};
-use mal_hall::{Hall, Pick, PickFault, Post, ReplyFault};
+use super::hall::{FREE_REPLY, Told, ask, heard, name, pick, write};
+use mal_base::ReplyFault;
+use mal_hall::{Hall, Pick, PickFault, Post};
 use mal_learn::Scratch;
 use mal_revision::Revision;
 use mal_service::{Pass, Service, Size};
-use mal_suspend::{Done, Lease};
-use std::alloc::Global;
-use std::process::Abort;
+use mal_suspend::Done;
+use std::alloc::{AllocError, Global};
 use std::sync::Wait;
-use std::test::Fail;
 
 mod many;
 
@@ -23,43 +22,112 @@ impl Size for One {
     ghost workers = { 1 };
 }
 
-fn name(alloc: Global, text: &[u8]) -> Result<Name, Fail> {
-    Ok(Name::of(alloc, text)?.ok_or("no name")?)
-}
-
 /// The opening of the job p of a tenant.
-fn opening(alloc: Global, tenant: &[u8]) -> Result<Post, Fail> {
-    Ok(Post::Open {
+fn opening(alloc: Global, tenant: &[u8]) -> Option<Post> {
+    Some(Post::Open {
         tenant: name(alloc, tenant)?,
         job: name(alloc, b"p")?,
-        ask: Ask::of(1, 1, 4).ok_or("no ask")?,
+        ask: ask(1, 4, 1)?,
     })
 }
 
-/// A revision of the job p of tenant a, without variables.
-fn revising(alloc: Global) -> Result<Post, Fail> {
-    Ok(Post::Revise {
-        tenant: name(alloc, b"a")?,
+/// The posting of a revision of the job p of a tenant.
+fn revising(alloc: Global, tenant: &[u8], revision: Option<Revision>) -> Option<Post> {
+    Some(Post::Revise {
+        tenant: name(alloc, tenant)?,
         job: name(alloc, b"p")?,
-        revision: Revision::new(alloc, 0, Vec::new(alloc), &[])?,
+        revision: revision?,
     })
 }
 
-/// Posts; a refusal fails.
+/// A revision without variables.
+fn free(alloc: Global) -> Option<Revision> {
+    Revision::new(alloc, 0, Vec::new(alloc), &[]).ok()
+}
+
+/// Posts.
 fn post<S: Size, R: Wait>(
     rt: &R,
     service: &Service<S>,
     pass: Pass<S>,
-    post: Post,
-) -> Result<Pass<S>, Fail>
+    post: Option<Post>,
+) -> (Pass<S>, bool)
     requires { IsOf service.now.turn pass }
-    ensures { IfOk result (λ p. IsOf service.now.turn p) }
+    ensures { IsOf service.now.turn result.0 }
 {
-    let (pass, answer) = service.post(rt, pass, post);
-    match answer {
-        Ok(()) => Ok(pass),
-        Err(_) => Err(Fail::from("refused")),
+    match post {
+        Some(post) => {
+            let (pass, answer) = service.post(rt, pass, post);
+            (pass, answer.is_ok())
+        }
+        None => (pass, false),
     }
+}
+
+/// Asks for the reply to the first revision of a job of tenant a, which is to be this text.
+fn hear<R: Wait>(
+    rt: &R,
+    alloc: Global,
+    service: &Service<One>,
+    pass: Pass<One>,
+    job: &[u8],
+    known: &[u8],
+) -> (Pass<One>, Told)
+    requires { IsOf service.now.turn pass }
+    ensures { IsOf service.now.turn result.0 }
+{
+    let (Some(tenant), Some(job)) = (name(alloc, b"a"), name(alloc, job)) else {
+        return (pass, Told::Wanting);
+    };
+    let (pass, answer) = service.ask(rt, pass, &tenant, &job, 1);
+    (pass, heard(answer, known))
+}
+
+/// What came of the lease of a pick that is worked off, if there is one.
+fn worked(alloc: Global, picked: Result<Pick, PickFault>) -> Option<Done> {
+    match picked {
+        Ok(Pick::Leased(lease)) => Some(lease.work(&mut Scratch::new(alloc))),
+        _ => None,
+    }
+}
+
+/// Gives back.
+fn give<S: Size, R: Wait>(
+    rt: &R,
+    service: &Service<S>,
+    pass: Pass<S>,
+    done: Option<Done>,
+) -> (Pass<S>, Told)
+    requires { IsOf service.now.turn pass }
+    ensures { IsOf service.now.turn result.0 }
+{
+    match done {
+        Some(done) => {
+            let (pass, answer) = service.give(rt, pass, done);
+            match answer {
+                Ok(_) => (pass, Told::Done),
+                Err(strange) => (pass, Told::Strange(strange.kept)),
+            }
+        }
+        None => (pass, Told::Absent),
+    }
+}
+
+/// Picks as a worker, works and gives back.
+fn work<S: Size, R: Wait>(
+    rt: &R,
+    alloc: Global,
+    service: &Service<S>,
+    pass: Pass<S>,
+    worker: u32,
+) -> (Pass<S>, Told)
+    requires of { IsOf service.now.turn pass }
+    requires low { 1 ≤ worker }
+    requires high { worker ≤ S.workers }
+    ensures { IsOf service.now.turn result.0 }
+{
+    let (pass, picked) = service.pick(rt, pass, worker);
+    give(rt, service, pass, worked(alloc, picked))
 }
 
 /// Opens the job p of tenant a, and posts its first revision.
@@ -68,176 +136,135 @@ fn post_job<R: Wait>(
     alloc: Global,
     service: &Service<One>,
     pass: Pass<One>,
-) -> Result<Pass<One>, Fail>
-    requires { IsOf service.now.turn pass }
-    ensures { IfOk result (λ p. IsOf service.now.turn p) }
-{
-    let pass = post(rt, service, pass, opening(alloc, b"a")?)?;
-    post(rt, service, pass, revising(alloc)?)
-}
-
-/// What is told of a job's first revision.
-#[derive(PartialEq, Debug, Drop)]
-enum Heard {
-    NoJob,
-    NoReply,
-    Reply(Vec<u8>),
-}
-
-/// Asks for the reply to the first revision of a job of tenant a.
-fn ask<R: Wait>(
-    rt: &R,
-    alloc: Global,
-    service: &Service<One>,
-    pass: Pass<One>,
-    job: &[u8],
-) -> Result<(Pass<One>, Heard), Fail>
-    requires { IsOf service.now.turn pass }
-    ensures { IfOk result (λ r. IsOf service.now.turn r.0) }
-{
-    let (tenant, job) = (name(alloc, b"a")?, name(alloc, job)?);
-    let (pass, answer) = service.ask(rt, pass, &tenant, &job, 1);
-    match answer {
-        Ok(Some(text)) => Ok((pass, Heard::Reply(text))),
-        Ok(None) => Ok((pass, Heard::NoReply)),
-        Err(ReplyFault::NoJob) => Ok((pass, Heard::NoJob)),
-        Err(ReplyFault::OutOfMemory) => Err(Fail::from("no memory")),
-    }
-}
-
-/// The lease of a pick, if it gave one.
-fn leased(pick: Result<Pick, PickFault>) -> Option<Lease> {
-    match pick {
-        Ok(Pick::Leased(lease)) => Some(lease),
-        _ => None,
-    }
-}
-
-/// What came of a lease that is worked off.
-fn worked(alloc: Global, lease: Lease) -> Done {
-    lease.work(&mut Scratch::new(alloc))
-}
-
-/// Picks as the one worker, works and gives back. True where what came of the lease was taken back.
-fn work_once<R: Wait>(
-    rt: &R,
-    alloc: Global,
-    service: &Service<One>,
-    pass: Pass<One>,
 ) -> (Pass<One>, bool)
     requires { IsOf service.now.turn pass }
     ensures { IsOf service.now.turn result.0 }
 {
-    let (pass, picked) = service.pick(rt, pass, 1);
-    match leased(picked) {
-        Some(lease) => {
-            let (pass, back) = service.give(rt, pass, worked(alloc, lease));
-            (pass, back.is_ok())
-        }
-        None => (pass, false),
-    }
+    let (pass, is_open) = post(rt, service, pass, opening(alloc, b"a"));
+    let (pass, is_posted) = post(rt, service, pass, revising(alloc, b"a", free(alloc)));
+    (pass, is_open && is_posted)
 }
 
-/// The reply to a revision without variables.
-const FREE_REPLY: &[u8] = b"r a p 1\ns SATISFIABLE\nv 0\n";
-
-/// Asks before the first slice, has another pass work, and asks again.
-fn ask_around<R: Wait + Abort>(
+/// Has another pass work.
+fn work_aside<R: Wait>(
     rt: &R,
     alloc: Global,
     service: &Service<One>,
     pass: Pass<One>,
-) -> Result<Pass<One>, Fail>
+) -> (Pass<One>, Told)
     requires { IsOf service.now.turn pass }
-    ensures { IfOk result (λ p. IsOf service.now.turn p) }
+    ensures { IsOf service.now.turn result.0 }
 {
-    let pass = post_job(rt, alloc, service, pass)?;
-    let (pass, early) = ask(rt, alloc, service, pass, b"p")?;
-    assert!(rt; matches!(early, Heard::NoReply));
     let (pass, other) = service.split(pass);
-    let (other, is_back) = work_once(rt, alloc, service, other);
-    assert!(rt; is_back);
-    let pass = service.join(pass, other);
-    let (pass, late) = ask(rt, alloc, service, pass, b"p")?;
-    assert!(rt; late == Heard::Reply(Vec::from_slice(alloc, FREE_REPLY)?));
-    let (pass, absent) = ask(rt, alloc, service, pass, b"q")?;
-    assert!(rt; matches!(absent, Heard::NoJob));
-    Ok(pass)
+    let (other, told) = work(rt, alloc, service, other, 1);
+    (service.join(pass, other), told)
 }
 
-/// The text of the history of a service that is closed.
-fn history_of<S: Size>(alloc: Global, service: Service<S>, pass: Pass<S>) -> Result<Vec<u8>, Fail>
+/// Asks for the reply before the first slice, has another pass work, asks again, and asks of a job that is not there.
+/// What is answered.
+fn ask_around<R: Wait>(
+    rt: &R,
+    alloc: Global,
+    service: &Service<One>,
+    pass: Pass<One>,
+) -> (Pass<One>, [Told; 4])
+    requires { IsOf service.now.turn pass }
+    ensures { IsOf service.now.turn result.0 }
+{
+    let (pass, early) = hear(rt, alloc, service, pass, b"p", b"");
+    let (pass, back) = work_aside(rt, alloc, service, pass);
+    let (pass, late) = hear(rt, alloc, service, pass, b"p", FREE_REPLY);
+    let (pass, absent) = hear(rt, alloc, service, pass, b"q", b"");
+    (pass, [early, back, late, absent])
+}
+
+/// The history of a service with one job that was asked around.
+const HISTORY: &[u8] = b"h mal 1 1\no a p 1 1 4\nr a p 1\nb a p 1\ns a p 0 1\nf a p 0 1 ran\n";
+
+/// Closes a service. Its history is to be this text.
+fn closed<S: Size>(alloc: Global, service: Service<S>, pass: Pass<S>, known: &[u8]) -> Told
     requires { IsOf service.turn pass }
 {
     match service.close(pass) {
-        Ok(hall) => Ok(mal_history::write(alloc, hall.history())?),
-        Err(_) => Err(Fail::from("in use")),
+        Ok(hall) => write(alloc, &hall, known),
+        Err(_) => Told::Other,
     }
 }
 
 #[test]
-fn a_pass_hears_what_another_worked(rt: HostRuntime) -> Result<(), Fail> {
-    let alloc = rt.alloc();
-    let (service, pass) = Service::<One>::new(alloc, 1)?;
-    let pass = ask_around(&rt, alloc, &service, pass)?;
-    let text = history_of(alloc, service, pass)?;
-    let known = b"h mal 1 1\no a p 1 1 4\nr a p 1\nb a p 1\ns a p 0 1\nf a p 0 1 ran\n";
-    assert_eq!(rt; text.as_slice(), known.as_slice());
+fn a_pass_hears_what_another_worked(rt: HostRuntime) -> Result<(), AllocError> {
+    let (service, pass) = Service::<One>::new(rt.alloc(), 1)?;
+    let (pass, is_posted) = post_job(&rt, rt.alloc(), &service, pass);
+    let (pass, told) = ask_around(&rt, rt.alloc(), &service, pass);
+    let end = closed(rt.alloc(), service, pass, HISTORY);
+    assert!(rt; is_posted);
+    let known = [
+        Told::NoReply,
+        Told::Done,
+        Told::Done,
+        Told::NotHeard(ReplyFault::NoJob),
+    ];
+    assert_eq!(rt; told, known);
+    assert_eq!(rt; end, Told::Done);
     Ok(())
 }
 
-/// What comes of the second lease of a hall whose first was lost.
-fn second_lease(alloc: Global) -> Result<Option<Done>, Fail> {
-    let mut hall = Hall::new(alloc, 1)?;
-    let (opened, revised) = (
-        hall.post(opening(alloc, b"a")?),
-        hall.post(revising(alloc)?),
-    );
-    if opened.is_err() || revised.is_err() {
-        return Err(Fail::from("refused"));
+/// Posts to a hall.
+fn post_to(hall: &mut Hall, post: Option<Post>) -> bool {
+    match post {
+        Some(post) => hall.post(post).is_ok(),
+        None => false,
     }
-    drop(leased(hall.pick(1)));
-    hall.recall();
-    Ok(leased(hall.pick(1)).map(|lease| worked(alloc, lease)))
 }
 
-/// Gives a strange lease back, and then the service's own. The number of the start that the worker keeps, and whether
-/// its own lease was taken back.
+/// What comes of the second lease of a hall whose first was lost.
+fn second_of(alloc: Global, hall: &mut Hall) -> Option<Done> {
+    if !post_to(hall, opening(alloc, b"a")) || !post_to(hall, revising(alloc, b"a", free(alloc))) {
+        return None;
+    }
+    drop(pick(hall, 1));
+    hall.recall();
+    match pick(hall, 1) {
+        Ok(lease) => Some(lease.work(&mut Scratch::new(alloc))),
+        Err(_) => None,
+    }
+}
+
+/// What comes of the second lease of another hall whose first was lost.
+fn second(alloc: Global) -> Option<Done> {
+    match Hall::new(alloc, 1) {
+        Ok(hall) => {
+            let mut hall = hall;
+            second_of(alloc, &mut hall)
+        }
+        Err(_) => None,
+    }
+}
+
+/// Picks, gives back what came of another hall's lease, and then what came of its own. What is answered.
 fn give_strange<R: Wait>(
     rt: &R,
     alloc: Global,
     service: &Service<One>,
     pass: Pass<One>,
-    strange: Done,
-) -> (Pass<One>, Option<u64>, bool)
+) -> (Pass<One>, [Told; 2])
     requires { IsOf service.now.turn pass }
     ensures { IsOf service.now.turn result.0 }
 {
     let (pass, picked) = service.pick(rt, pass, 1);
-    let (pass, refused) = service.give(rt, pass, strange);
-    let kept = match refused {
-        Ok(_) => None,
-        Err(strange) => strange.kept,
-    };
-    match leased(picked) {
-        Some(lease) => {
-            let (pass, back) = service.give(rt, pass, worked(alloc, lease));
-            (pass, kept, back.is_ok())
-        }
-        None => (pass, kept, false),
-    }
+    let (pass, strange) = give(rt, service, pass, second(alloc));
+    let (pass, back) = give(rt, service, pass, worked(alloc, picked));
+    (pass, [strange, back])
 }
 
 #[test]
-fn the_second_lease_of_another_hall_is_strange(rt: HostRuntime) -> Result<(), Fail> {
-    let alloc = rt.alloc();
-    let strange = second_lease(alloc)?.ok_or("no lease")?;
-    let (service, pass) = Service::<One>::new(alloc, 1)?;
-    let pass = post_job(&rt, alloc, &service, pass)?;
-    let (pass, kept, is_back) = give_strange(&rt, alloc, &service, pass, strange);
-    assert_eq!(rt; kept, Some(1));
-    assert!(rt; is_back);
-    let (_pass, reply) = ask(&rt, alloc, &service, pass, b"p")?;
-    assert!(rt; reply == Heard::Reply(Vec::from_slice(alloc, FREE_REPLY)?));
+fn the_second_lease_of_another_hall_is_strange(rt: HostRuntime) -> Result<(), AllocError> {
+    let (service, pass) = Service::<One>::new(rt.alloc(), 1)?;
+    let (pass, is_posted) = post_job(&rt, rt.alloc(), &service, pass);
+    let (pass, told) = give_strange(&rt, rt.alloc(), &service, pass);
+    let (_pass, reply) = hear(&rt, rt.alloc(), &service, pass, b"p", FREE_REPLY);
+    assert!(rt; is_posted);
+    assert_eq!(rt; told, [Told::Strange(Some(1)), Told::Done]);
+    assert_eq!(rt; reply, Told::Done);
     Ok(())
 }

@@ -4,16 +4,14 @@ ghost use Rattle.std.specs.Prelude.{◌≤◌, IfOk};
 ghost use Rattle.std.specs.List.{All};
 ghost use Rattle.mal_turn.specs.Seats.{IsOf};
 
-use super::{leased, opening, post, worked};
-use mal_base::{Clause, Lit, Name};
-use mal_hall::{Hall, Post, ReplyFault};
-use mal_learn::Scratch;
+use super::{opening, post, post_to, revising, work};
+use crate::tests::hall::{Told, drive, hear, name};
+use mal_base::{Clause, Lit, ReplyFault};
+use mal_hall::Hall;
 use mal_revision::Revision;
 use mal_service::{Pass, Service, Size};
 use std::alloc::{AllocError, Global};
-use std::process::Abort;
 use std::sync::Wait;
-use std::test::Fail;
 
 /// Services of sixteen workers.
 struct Sixteen;
@@ -75,8 +73,15 @@ impl Tenant {
     }
 
     /// Its name.
-    fn letter(&self) -> u8 {
-        b'a' + self.number % 16
+    fn letter(&self) -> [u8; 1] {
+        [b'a' + self.number % 16]
+    }
+
+    /// Notes that it posted the revision of a seed, or that this was refused.
+    fn note(&mut self, seed: u64, is_posted: bool) {
+        if !is_posted || self.posted.push(seed).is_err() {
+            self.is_wrong = true;
+        }
     }
 
     /// Notes what it was told of a revision.
@@ -93,11 +98,13 @@ impl Tenant {
     }
 }
 
-/// The names of a tenant of this letter and of its job.
-fn names(alloc: Global, letter: u8) -> Option<(Name, Name)> {
-    let tenant = Name::of(alloc, &[letter]).ok()??;
-    let job = Name::of(alloc, b"p").ok()??;
-    Some((tenant, job))
+/// Sixteen tenants.
+fn all_tenants(alloc: Global) -> Result<Vec<Tenant>, AllocError> {
+    let mut tenants = Vec::new(alloc);
+    for number in 0..16 {
+        tenants.push(Tenant::new(alloc, number))?;
+    }
+    Ok(tenants)
 }
 
 /// A literal of a variable, by a random number.
@@ -118,18 +125,7 @@ fn revision_of(alloc: Global, seed: u64) -> Option<Revision> {
     Revision::new(alloc, 3, clauses, &[]).ok()
 }
 
-/// The post of the revision of a seed for the job of a tenant.
-fn revising(alloc: Global, letter: u8, seed: u64) -> Option<Post> {
-    let (tenant, job) = names(alloc, letter)?;
-    let revision = revision_of(alloc, seed)?;
-    Some(Post::Revise {
-        tenant,
-        job,
-        revision,
-    })
-}
-
-/// Posts the revision of a seed for a tenant's job.
+/// Posts a revision for a tenant's job.
 fn revise<R: Wait>(
     rt: &R,
     alloc: Global,
@@ -141,14 +137,9 @@ fn revise<R: Wait>(
     ensures { IsOf service.now.turn result }
 {
     let seed = tenant.draw();
-    let Some(revision) = revising(alloc, tenant.letter(), seed) else {
-        tenant.is_wrong = true;
-        return pass;
-    };
-    let (pass, answer) = service.post(rt, pass, revision);
-    if answer.is_err() || tenant.posted.push(seed).is_err() {
-        tenant.is_wrong = true;
-    }
+    let revision = revising(alloc, &tenant.letter(), revision_of(alloc, seed));
+    let (pass, is_posted) = post(rt, service, pass, revision);
+    tenant.note(seed, is_posted);
     pass
 }
 
@@ -164,7 +155,7 @@ fn listen<R: Wait>(
     requires { IsOf service.now.turn pass }
     ensures { IsOf service.now.turn result }
 {
-    let Some((name, job)) = names(alloc, tenant.letter()) else {
+    let (Some(name), Some(job)) = (name(alloc, &tenant.letter()), name(alloc, b"p")) else {
         tenant.is_wrong = true;
         return pass;
     };
@@ -173,27 +164,22 @@ fn listen<R: Wait>(
     pass
 }
 
-/// Picks as a worker, works and gives back. True where there was a lease; what comes of one is never strange.
-fn work<R: Wait>(
+/// Works as a worker. What comes of a lease is never strange.
+fn help<R: Wait>(
     rt: &R,
     alloc: Global,
     service: &Service<Sixteen>,
     pass: Pass<Sixteen>,
-    worker: u32,
-) -> (Pass<Sixteen>, Option<bool>)
-    requires of { IsOf service.now.turn pass }
-    requires low { 1 ≤ worker }
-    requires high { worker ≤ 16 }
-    ensures { IsOf service.now.turn result.0 }
+    tenant: &mut Tenant,
+) -> Pass<Sixteen>
+    requires { IsOf service.now.turn pass }
+    ensures { IsOf service.now.turn result }
 {
-    let (pass, picked) = service.pick(rt, pass, worker);
-    match leased(picked) {
-        Some(lease) => {
-            let (pass, back) = service.give(rt, pass, worked(alloc, lease));
-            (pass, Some(back.is_ok()))
-        }
-        None => (pass, None),
+    let (pass, told) = work(rt, alloc, service, pass, tenant.worker());
+    if matches!(told, Told::Strange(_)) {
+        tenant.is_wrong = true;
     }
+    pass
 }
 
 /// One call of a tenant, by a random number.
@@ -211,115 +197,126 @@ fn step<R: Wait>(
     match drawn % 4 {
         0 => revise(rt, alloc, service, pass, tenant),
         1 => listen(rt, alloc, service, pass, tenant, (drawn / 4 % 8) as u32 + 1),
-        _ => {
-            let (pass, back) = work(rt, alloc, service, pass, tenant.worker());
-            if back == Some(false) {
-                tenant.is_wrong = true;
-            }
-            pass
-        }
+        _ => help(rt, alloc, service, pass, tenant),
     }
 }
 
-/// A tenant with its pass.
-#[derive(Drop)]
-struct Role {
-    pass: Pass<Sixteen>,
-    tenant: Tenant,
-}
-
-/// Makes the calls of a tenant.
-fn play<R: Wait>(rt: &R, alloc: Global, service: &Service<Sixteen>, role: Role) -> Role
-    requires { IsOf service.now.turn role.pass }
-    ensures { IsOf service.now.turn result.pass }
-{
-    let Role { pass, tenant } = role;
-    let mut pass = pass;
-    let mut tenant = tenant;
-    for _made in 0..CALLS {
-        pass = step(rt, alloc, service, pass, &mut tenant);
-    }
-    Role { pass, tenant }
-}
-
-/// Opens a job for each of sixteen tenants, and gives each a pass.
-fn deal<R: Wait>(
+/// Makes the calls of a tenant in a round.
+fn play<R: Wait>(
     rt: &R,
     alloc: Global,
     service: &Service<Sixteen>,
     pass: Pass<Sixteen>,
-) -> Result<(Pass<Sixteen>, Vec<Role>), Fail>
+    tenant: &mut Tenant,
+) -> Pass<Sixteen>
     requires { IsOf service.now.turn pass }
-    ensures of { IfOk result (λ r. IsOf service.now.turn r.0) }
-    ensures roles { IfOk result (λ r. All (λ x. IsOf service.now.turn x.pass) r.1.items) }
+    ensures { IsOf service.now.turn result }
 {
     let mut pass = pass;
-    let mut roles = Vec::new(alloc);
-    for number in 0..16 {
-        let tenant = Tenant::new(alloc, number);
-        pass = post(rt, service, pass, opening(alloc, &[tenant.letter()])?)?;
-        let (mine, theirs) = service.split(pass);
-        pass = mine;
-        roles.push(Role {
-            pass: theirs,
-            tenant,
-        })?;
+    for _made in 0..CALLS {
+        pass = step(rt, alloc, service, pass, tenant);
     }
-    Ok((pass, roles))
+    pass
 }
 
-/// Has one tenant after another make the calls of a round.
+/// Opens a job for each tenant.
+fn open_all<R: Wait>(
+    rt: &R,
+    alloc: Global,
+    service: &Service<Sixteen>,
+    pass: Pass<Sixteen>,
+    tenants: &mut [Tenant],
+) -> Pass<Sixteen>
+    requires { IsOf service.now.turn pass }
+    ensures { IsOf service.now.turn result }
+{
+    let mut pass = pass;
+    for tenant in tenants {
+        let (next, is_open) = post(rt, service, pass, opening(alloc, &tenant.letter()));
+        pass = next;
+        if !is_open {
+            tenant.is_wrong = true;
+        }
+    }
+    pass
+}
+
+/// Has each tenant make the calls of a round with a pass of its own.
 fn play_round<R: Wait>(
     rt: &R,
     alloc: Global,
     service: &Service<Sixteen>,
-    roles: Vec<Role>,
-) -> Result<Vec<Role>, AllocError>
-    requires { All (λ x. IsOf service.now.turn x.pass) roles.items }
-    ensures { IfOk result (λ v. All (λ x. IsOf service.now.turn x.pass) v.items) }
+    passes: Vec<Pass<Sixteen>>,
+    tenants: &mut [Tenant],
+) -> Result<Vec<Pass<Sixteen>>, AllocError>
+    requires { All (λ x. IsOf service.now.turn x) passes.items }
+    ensures { IfOk result (λ v. All (λ x. IsOf service.now.turn x) v.items) }
 {
     let mut played = Vec::new(alloc);
-    for role in roles {
-        played.push(play(rt, alloc, service, role))?;
+    for pass in passes {
+        let at = played.len();
+        match tenants.get_mut(at) {
+            Some(tenant) => played.push(play(rt, alloc, service, pass, tenant))?,
+            None => {}
+        }
     }
     Ok(played)
 }
 
-/// Plays all rounds.
+/// Sixteen passes of one, which comes back.
+fn split_all(
+    alloc: Global,
+    service: &Service<Sixteen>,
+    pass: Pass<Sixteen>,
+) -> Result<(Pass<Sixteen>, Vec<Pass<Sixteen>>), AllocError>
+    requires { IsOf service.now.turn pass }
+    ensures of { IfOk result (λ r. IsOf service.now.turn r.0) }
+    ensures all { IfOk result (λ r. All (λ x. IsOf service.now.turn x) r.1.items) }
+{
+    let mut pass = pass;
+    let mut passes = Vec::new(alloc);
+    for _made in 0..16 {
+        let (mine, theirs) = service.split(pass);
+        pass = mine;
+        passes.push(theirs)?;
+    }
+    Ok((pass, passes))
+}
+
+/// Puts passes together.
+fn join_all(
+    service: &Service<Sixteen>,
+    pass: Pass<Sixteen>,
+    passes: Vec<Pass<Sixteen>>,
+) -> Pass<Sixteen>
+    requires of { IsOf service.now.turn pass }
+    requires all { All (λ x. IsOf service.now.turn x) passes.items }
+    ensures { IsOf service.now.turn result }
+{
+    let mut pass = pass;
+    for other in passes {
+        pass = service.join(pass, other);
+    }
+    pass
+}
+
+/// Has all tenants make their calls, each by a pass of its own.
 fn play_all<R: Wait>(
     rt: &R,
     alloc: Global,
     service: &Service<Sixteen>,
-    roles: Vec<Role>,
-) -> Result<Vec<Role>, AllocError>
-    requires { All (λ x. IsOf service.now.turn x.pass) roles.items }
-    ensures { IfOk result (λ v. All (λ x. IsOf service.now.turn x.pass) v.items) }
-{
-    let mut roles = roles;
-    for _round in 0..ROUNDS {
-        roles = play_round(rt, alloc, service, roles)?;
-    }
-    Ok(roles)
-}
-
-/// Puts the passes together.
-fn gather(
-    alloc: Global,
-    service: &Service<Sixteen>,
     pass: Pass<Sixteen>,
-    roles: Vec<Role>,
-) -> Result<(Pass<Sixteen>, Vec<Tenant>), AllocError>
-    requires of { IsOf service.now.turn pass }
-    requires all { All (λ x. IsOf service.now.turn x.pass) roles.items }
-    ensures { IfOk result (λ r. IsOf service.now.turn r.0) }
+    tenants: &mut [Tenant],
+) -> Result<Pass<Sixteen>, AllocError>
+    requires { IsOf service.now.turn pass }
+    ensures { IfOk result (λ p. IsOf service.now.turn p) }
 {
-    let mut pass = pass;
-    let mut tenants = Vec::new(alloc);
-    for role in roles {
-        pass = service.join(pass, role.pass);
-        tenants.push(role.tenant)?;
+    let (pass, passes) = split_all(alloc, service, pass)?;
+    let mut passes = passes;
+    for _round in 0..ROUNDS {
+        passes = play_round(rt, alloc, service, passes, tenants)?;
     }
-    Ok((pass, tenants))
+    Ok(join_all(service, pass, passes))
 }
 
 /// Works until there is nothing to do.
@@ -334,9 +331,9 @@ fn work_off<R: Wait>(
 {
     let mut pass = pass;
     for _made in 0..REST {
-        let (next, back) = work(rt, alloc, service, pass, 1);
+        let (next, told) = work(rt, alloc, service, pass, 1);
         pass = next;
-        if back.is_none() {
+        if told == Told::Absent {
             return pass;
         }
     }
@@ -364,73 +361,105 @@ fn listen_to_all<R: Wait>(
     pass
 }
 
-/// Asks for all replies to a tenant, and compares what it heard with a hall that has its job alone. How many replies it
-/// heard.
-fn compare<R: Wait + Abort>(
+/// Asks for the replies to all revisions of all tenants.
+fn listen_for_all<R: Wait>(
     rt: &R,
     alloc: Global,
     service: &Service<Sixteen>,
     pass: Pass<Sixteen>,
-    tenant: Tenant,
-) -> Result<Pass<Sixteen>, Fail>
+    tenants: &mut [Tenant],
+) -> Pass<Sixteen>
+    requires { IsOf service.now.turn pass }
+    ensures { IsOf service.now.turn result }
+{
+    let mut pass = pass;
+    for tenant in tenants {
+        pass = listen_to_all(rt, alloc, service, pass, tenant);
+    }
+    pass
+}
+
+/// Posts what a tenant posted to a hall that has its job alone, and drives the hall.
+fn answer_alone(alloc: Global, hall: &mut Hall, tenant: &Tenant) -> bool {
+    let letter = tenant.letter();
+    if !post_to(hall, opening(alloc, &letter)) {
+        return false;
+    }
+    for seed in tenant.posted.as_slice() {
+        if !post_to(hall, revising(alloc, &letter, revision_of(alloc, *seed))) {
+            return false;
+        }
+    }
+    drive(alloc, hall) == Told::Done
+}
+
+/// Whether a hall replies as a tenant heard.
+fn replies_so(alloc: Global, hall: &Hall, tenant: &Tenant) -> bool {
+    let letter = tenant.letter();
+    for one in tenant.heard.as_slice() {
+        let told = hear(
+            alloc,
+            hall,
+            (&letter, b"p"),
+            one.revision,
+            one.text.as_slice(),
+        );
+        if told != Told::Done {
+            return false;
+        }
+    }
+    true
+}
+
+/// Whether a tenant heard what is replied by a hall that has its job alone, at least as often as it posted.
+fn is_as_alone(alloc: Global, tenant: &Tenant) -> bool {
+    if tenant.is_wrong || tenant.heard.len() < tenant.posted.len() {
+        return false;
+    }
+    match Hall::new(alloc, 1) {
+        Ok(hall) => {
+            let mut hall = hall;
+            answer_alone(alloc, &mut hall, tenant) && replies_so(alloc, &hall, tenant)
+        }
+        Err(_) => false,
+    }
+}
+
+/// Tenants share a service, and ask for all replies at the end.
+fn share<R: Wait>(
+    rt: &R,
+    alloc: Global,
+    service: &Service<Sixteen>,
+    pass: Pass<Sixteen>,
+    tenants: &mut [Tenant],
+) -> Result<Pass<Sixteen>, AllocError>
     requires { IsOf service.now.turn pass }
     ensures { IfOk result (λ p. IsOf service.now.turn p) }
 {
-    let mut tenant = tenant;
-    let pass = listen_to_all(rt, alloc, service, pass, &mut tenant);
-    assert!(rt; !tenant.is_wrong);
-    assert!(rt; tenant.posted.len() <= tenant.heard.len());
-    assert!(rt; is_as_alone(alloc, &tenant)?);
-    Ok(pass)
+    let pass = open_all(rt, alloc, service, pass, tenants);
+    let pass = play_all(rt, alloc, service, pass, tenants)?;
+    let pass = work_off(rt, alloc, service, pass);
+    Ok(listen_for_all(rt, alloc, service, pass, tenants))
 }
 
-/// A hall that has the job of a tenant alone, and has answered it.
-fn alone(alloc: Global, tenant: &Tenant) -> Result<Hall, Fail> {
-    let mut hall = Hall::new(alloc, 1)?;
-    let opened = hall.post(opening(alloc, &[tenant.letter()])?);
-    if opened.is_err() {
-        return Err(Fail::from("not opened"));
-    }
-    for at in 0..tenant.posted.len() {
-        let post = revising(alloc, tenant.letter(), tenant.posted[at]).ok_or("no post")?;
-        let revised = hall.post(post);
-        if revised.is_err() {
-            return Err(Fail::from("not posted"));
-        }
-    }
-    hall.recall();
-    hall.drive(&mut Scratch::new(alloc))?;
-    Ok(hall)
-}
-
-/// Whether a tenant heard what is replied by a hall that has its job alone.
-fn is_as_alone(alloc: Global, tenant: &Tenant) -> Result<bool, Fail> {
-    let hall = alone(alloc, tenant)?;
-    let (name, job) = names(alloc, tenant.letter()).ok_or("no name")?;
-    for one in tenant.heard.as_slice() {
-        let text = hall.reply(&name, &job, one.revision)?.ok_or("no reply")?;
-        if text.as_slice() != one.text.as_slice() {
-            return Ok(false);
-        }
-    }
-    Ok(true)
-}
-
-/// Sixteen tenants share a service.
-fn share<R: Wait + Abort>(rt: &R, alloc: Global) -> Result<(), Fail> {
+/// Tenants share a service, which is closed in the end. False where it is still in use then.
+fn is_shared<R: Wait>(rt: &R, alloc: Global, tenants: &mut [Tenant]) -> Result<bool, AllocError> {
     let (service, pass) = Service::<Sixteen>::new(alloc, 16)?;
-    let (pass, roles) = deal(rt, alloc, &service, pass)?;
-    let roles = play_all(rt, alloc, &service, roles)?;
-    let (pass, tenants) = gather(alloc, &service, pass, roles)?;
-    let mut pass = work_off(rt, alloc, &service, pass);
-    for tenant in tenants {
-        pass = compare(rt, alloc, &service, pass, tenant)?;
-    }
-    assert!(rt; service.close(pass).is_ok());
-    Ok(())
+    let pass = share(rt, alloc, &service, pass, tenants)?;
+    Ok(service.close(pass).is_ok())
 }
 
 #[test]
-fn sixteen_tenants_hear_what_a_hall_of_their_own_replies(rt: HostRuntime) -> Result<(), Fail> {
-    share(&rt, rt.alloc())
+fn sixteen_tenants_hear_what_a_hall_of_their_own_replies(
+    rt: HostRuntime,
+) -> Result<(), AllocError> {
+    let mut tenants = all_tenants(rt.alloc())?;
+    let is_closed = is_shared(&rt, rt.alloc(), tenants.as_mut_slice())?;
+    assert!(rt; is_closed);
+    let alike = tenants
+        .iter()
+        .filter(|tenant| is_as_alone(rt.alloc(), tenant))
+        .count();
+    assert_eq!(rt; alike, 16);
+    Ok(())
 }
