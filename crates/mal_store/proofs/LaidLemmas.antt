@@ -1,41 +1,79 @@
-use Rattle.std.proofs.Common.{◌≡◌, ℕ, zero, suc, ◌+◌, ◌-◌, ◌<◌, ◌≤◌, List, [], ◌∷◌, ◌++◌, length, take, drop, set, get_or, refl, sym, ap, ◌∙◌, subst, arith}
-use Rattle.std.specs.Prelude.{sum_by}
+use Rattle.std.proofs.Common.{◌≡◌, ℕ, zero, suc, ◌+◌, ◌-◌, ◌<◌, ◌≤◌, Bool, true, false, cond, List, [], ◌∷◌, ◌++◌, length, take, drop, set, get_or, refl, sym, ap, ◌∙◌, subst, arith}
+use Rattle.std.specs.Prelude.{filter, sum_by}
 use Rattle.std.proofs.lemmas.List.Sums.{sum_by_push}
 use Rattle.std.proofs.lemmas.List.{take-append-drop, take-set, drop-set, drop-set-lt, drop_more, take_more_set, take_all, map-append}
-use Rattle.mal_store.specs.declared.slot.Slot.{Slot}
-use Rattle.mal_store.specs.Stored.{clause_in, held_in, IsFrom, end_of, AreLaid, AreWithin}
+use Rattle.mal_base.specs.NumberedClause.{NumberedClause}
+use Rattle.spec_node.specs.Adding.{forgetting}
+use Rattle.mal_store.specs.declared.clause_arena.Row.{Row}
+use Rattle.mal_store.specs.declared.clause_arena.Body.{Body}
+use Rattle.mal_store.specs.declared.clause_arena.Body.TheVariants.{Three, Listed}
+use Rattle.mal_store.specs.Rowed.{is_left, lits_in, clause_in, clauses_in, IsBody, AreRows, IsFrom, end_of, AreLaid, IsFit, AreFit, len_of}
+use Rattle.mal_store.proofs.WonLemmas.{fit-at, fit-same}
 
-forward : (low start len : ℕ) → IsFrom low start len → low ≤ end_of low start len
-forward low start zero h = omega arith
-forward low start (suc n) h = omega (arith, h)
+-- a place where a clause's literals begin is not behind its end
+body-forward : (low : ℕ) (b : Body) → IsFrom low b → low ≤ end_of low b
+body-forward low (Three lits) h = omega arith
+body-forward low (Listed start len hint) h = omega (arith, h)
 
--- slots that are laid stand among the literals
-pub laid-forward : (low high : ℕ) (ss : List Slot) → AreLaid low high ss → low ≤ high
+body-within : (low high : ℕ) (b : Body) → end_of low b ≤ high → IsBody high b
+body-within low high (Three lits) l = tt
+body-within low high (Listed start len hint) l = l
+
+-- rows that are laid stand among the literals
+pub laid-forward : (low high : ℕ) (rs : List Row) → AreLaid low high rs → low ≤ high
 laid-forward low high [] h = h
-laid-forward low high (s ∷ ss) h = omega (arith, forward low s.start s.len h.1, laid-forward (end_of low s.start s.len) high ss h.2)
+laid-forward low high (r ∷ rs) h = omega (arith, body-forward low r.body h.0, laid-forward (end_of low r.body) high rs h.1)
 
-pub laid-within : (low high : ℕ) (ss : List Slot) → AreLaid low high ss → AreWithin high ss
+pub laid-within : (low high : ℕ) (rs : List Row) → AreLaid low high rs → AreRows high rs
 laid-within low high [] h = tt
-laid-within low high (s ∷ ss) h = (h.0, laid-within (end_of low s.start s.len) high ss h.2)
+laid-within low high (r ∷ rs) h = (body-within low high r.body (laid-forward (end_of low r.body) high rs h.1), laid-within (end_of low r.body) high rs h.1)
 
-laid-lower : (low lower high : ℕ) (ss : List Slot) → lower ≤ low → AreLaid low high ss → AreLaid lower high ss
+pub laid-lower : (low lower high : ℕ) (rs : List Row) → lower ≤ low → AreLaid low high rs → AreLaid lower high rs
 laid-lower low lower high [] l h = omega (arith, h)
-laid-lower low lower high (s ∷ ss) l h = let p = by_len (laid-lower low lower high ss l) s.len h.1 h.2 in (h.0, p.0, p.1)
+laid-lower low lower high (r ∷ rs) l h = by_body (laid-lower low lower high rs l) r.body h.0 h.1
   where
-    by_len : (AreLaid low high ss → AreLaid lower high ss) → (n : ℕ) → IsFrom low s.start n → AreLaid (end_of low s.start n) high ss → IsFrom lower s.start n × AreLaid (end_of lower s.start n) high ss
-    by_len f zero g k = (tt, f k)
-    by_len f (suc n) g k = (omega (arith, g), k)
+    by_body : (AreLaid low high rs → AreLaid lower high rs) → (b : Body) → IsFrom low b → AreLaid (end_of low b) high rs → IsFrom lower b × AreLaid (end_of lower b) high rs
+    by_body f (Three lits) g k = (tt, f k)
+    by_body f (Listed start len hint) g k = (omega (arith, g), k)
 
-laid-push : (low high end : ℕ) (ss : List Slot) (s : Slot) → s.start ≡ high → s.start + s.len ≡ end → AreLaid low high ss → AreLaid low end (ss ++ s ∷ [])
-laid-push low high end [] s f e h = let p = by_len s.len refl in (omega (arith, e), p.0, p.1)
+pub laid-filter : (test : Row → Bool) (low high : ℕ) (rs : List Row) → AreLaid low high rs → AreLaid low high (filter test rs)
+laid-filter test low high [] h = h
+laid-filter test low high (r ∷ rs) h = by_test (laid-filter test (end_of low r.body) high rs h.1) (test r)
   where
-    by_len : (n : ℕ) → s.len ≡ n → IsFrom low s.start n × (end_of low s.start n ≤ end)
-    by_len zero q = (tt, omega (arith, f, e, q, h))
-    by_len (suc n) q = (omega (arith, f, h), omega (arith, e, q))
-laid-push low high end (x ∷ xs) s f e h = (omega (arith, h.0, f, e), h.1, laid-push (end_of low x.start x.len) high end xs s f e h.2)
+    by_test : AreLaid (end_of low r.body) high (filter test rs) → (b : Bool) → AreLaid low high (cond b (r ∷ filter test rs) (filter test rs))
+    by_test k true = (h.0, k)
+    by_test k false = laid-lower (end_of low r.body) low high (filter test rs) (body-forward low r.body h.0) k
+
+pub laid-push : (low high end : ℕ) (rs : List Row) (r : Row) → IsFrom high r.body → end_of high r.body ≡ end → AreLaid low high rs → AreLaid low end (rs ++ r ∷ [])
+laid-push low high end [] r f e h = by_body r.body f e
+  where
+    by_body : (b : Body) → IsFrom high b → end_of high b ≡ end → IsFrom low b × (end_of low b ≤ end)
+    by_body (Three lits) f e = (tt, omega (arith, e, h))
+    by_body (Listed start len hint) f e = (omega (arith, f, h), omega (arith, e))
+laid-push low high end (x ∷ xs) r f e h = (h.0, laid-push (end_of low x.body) high end xs r f e h.1)
+
+-- another row of the same place
+pub laid-same : (low high : ℕ) (rs : List Row) (k : ℕ) (r s : Row) → k < length rs → r ≡ get_or rs k r → ((l : ℕ) → IsFrom l r.body → IsFrom l s.body) → ((l : ℕ) → end_of l s.body ≡ end_of l r.body) → AreLaid low high rs → AreLaid low high (set rs k s)
+laid-same low high [] k r s l e f n h = absurd (omega arith)
+laid-same low high (x ∷ xs) zero r s l e f n h =
+    let was : IsFrom low r.body × AreLaid (end_of low r.body) high xs = subst (λ (y : Row). IsFrom low y.body × AreLaid (end_of low y.body) high xs) (sym e) h in
+    (f low was.0, rw (n low) was.1)
+laid-same low high (x ∷ xs) (suc k) r s l e f n h = (h.0, laid-same (end_of low x.body) high xs k r s (omega arith) e f n h.1)
+
+-- the clauses that stay are those of the rows that stay
+pub rows-filter : (literals ids : List ℕ) (rs : List Row) → clauses_in literals (filter (λ (r : Row). is_left ids (clause_in literals r)) rs) ≡ forgetting ids (clauses_in literals rs)
+rows-filter literals ids [] = refl
+rows-filter literals ids (r ∷ rs) = by_test (rows-filter literals ids rs) (is_left ids (clause_in literals r))
+  where
+    left : List Row
+    left = filter (λ (x : Row). is_left ids (clause_in literals x)) rs
+
+    by_test : clauses_in literals left ≡ forgetting ids (clauses_in literals rs) → (b : Bool) → clauses_in literals (cond b (r ∷ left) left) ≡ cond b (clause_in literals r ∷ forgetting ids (clauses_in literals rs)) (forgetting ids (clauses_in literals rs))
+    by_test f true = ap (λ (cs : List NumberedClause). clause_in literals r ∷ cs) f
+    by_test f false = f
 
 -- parts of lists with the same elements are equal
-part-same : (xs ys : List ℕ) (n i j : ℕ) → i + n ≤ length xs → j + n ≤ length ys → ((k : ℕ) → i ≤ k → k < i + n → get_or xs k 0 ≡ get_or ys (j + (k - i)) 0) → take n (drop i xs) ≡ take n (drop j ys)
+pub part-same : (xs ys : List ℕ) (n i j : ℕ) → i + n ≤ length xs → j + n ≤ length ys → ((k : ℕ) → i ≤ k → k < i + n → get_or xs k 0 ≡ get_or ys (j + (k - i)) 0) → take n (drop i xs) ≡ take n (drop j ys)
 part-same xs ys zero i j a b h = refl
 part-same xs ys (suc n) i j a b h =
     let front : get_or xs i 0 ≡ get_or ys j 0 = h i (omega arith) (omega arith) ∙ ap (λ (m : ℕ). get_or ys m 0) (omega arith) in
@@ -46,61 +84,56 @@ part-same xs ys (suc n) i j a b h =
 abbrev pub Agree : List ℕ → List ℕ → ℕ → ℕ → Type 0
 Agree old new low high = (k : ℕ) → low ≤ k → k < high → get_or new k 0 ≡ get_or old k 0
 
-part-agrees : (old new : List ℕ) (low high start len : ℕ) → high ≤ length old → high ≤ length new → Agree old new low high → IsFrom low start len → start + len ≤ high → take len (drop start new) ≡ take len (drop start old)
-part-agrees old new low high start zero a b h f e = refl
-part-agrees old new low high start (suc n) a b h f e = part-same new old (suc n) start start (omega (arith, e)) (omega (arith, e)) (λ k l m. h k (omega (arith, f)) (omega (arith, e)) ∙ ap (λ (x : ℕ). get_or old x 0) (omega arith))
+body-agrees : (old new : List ℕ) (low high : ℕ) (b : Body) → high ≤ length old → high ≤ length new → Agree old new low high → IsFrom low b → end_of low b ≤ high → lits_in new b ≡ lits_in old b
+body-agrees old new low high (Three lits) a b h f e = refl
+body-agrees old new low high (Listed start len hint) a b h f e = part-same new old len start start (omega (arith, e)) (omega (arith, e)) (λ k l m. h k (omega (arith, f)) (omega (arith, e)) ∙ ap (λ (x : ℕ). get_or old x 0) (omega arith))
 
--- and then the clauses of slots that are laid there are the same
-slots-agree : (old new : List ℕ) (low high : ℕ) (ss : List Slot) → high ≤ length old → high ≤ length new → Agree old new low high → AreLaid low high ss → held_in new ss ≡ held_in old ss
-slots-agree old new low high [] a b h w = refl
-slots-agree old new low high (s ∷ ss) a b h w =
-    let far = forward low s.start s.len w.1 in
-    rw (part-agrees old new low high s.start s.len a b h w.1 w.0, slots-agree old new (end_of low s.start s.len) high ss a b (λ k l m. h k (omega (arith, far)) m) w.2) refl
+-- and then the clauses of rows that are laid there are the same
+pub rows-agree : (old new : List ℕ) (low high : ℕ) (rs : List Row) → high ≤ length old → high ≤ length new → Agree old new low high → AreLaid low high rs → clauses_in new rs ≡ clauses_in old rs
+rows-agree old new low high [] a b h w = refl
+rows-agree old new low high (r ∷ rs) a b h w =
+    let far = body-forward low r.body w.0 in
+    rw (body-agrees old new low high r.body a b h w.0 (laid-forward (end_of low r.body) high rs w.1), rows-agree old new (end_of low r.body) high rs a b (λ k l m. h k (omega (arith, far)) m) w.1) refl
 
--- slots of which the literals of the first ones were moved down
-pub record IsMoving (before literals : List ℕ) (first slots : List Slot) (place end : ℕ) : Type 0 where
-  pub clauses : held_in literals slots ≡ held_in before first
-  pub done : AreLaid 0 end (take place slots)
-  pub rest : AreLaid end (length literals) (drop place slots)
-  pub total : sum_by (λ s. s.len) (take place slots) ≡ end
-
-pub slot-at : (low high : ℕ) (ss : List Slot) (place : ℕ) (r : Slot) → place < length ss → r ≡ get_or ss place r → AreLaid low high (drop place ss) → (r.start + r.len ≤ high) × IsFrom low r.start r.len × AreLaid (end_of low r.start r.len) high (drop (place + 1) ss)
-slot-at low high ss place r l e h = subst (λ (xs : List Slot). AreLaid low high xs) (drop_more ss place r l ∙ ap (λ (x : Slot). x ∷ drop (place + 1) ss) (sym e)) h
-
--- there is room for its literals where they go
-pub slot-fits : (low high : ℕ) (ss : List Slot) (place : ℕ) (r : Slot) → place < length ss → r ≡ get_or ss place r → AreLaid low high (drop place ss) → low + r.len ≤ high
-slot-fits low high ss place r l e h = let at = slot-at low high ss place r l e h in by_len r.len at.0 at.1 (laid-forward low high (drop place ss) h)
-  where
-    by_len : (n : ℕ) → r.start + n ≤ high → IsFrom low r.start n → low ≤ high → low + n ≤ high
-    by_len zero a b c = omega arith
-    by_len (suc n) a b c = omega (arith, b)
+-- rows of which the first ones were moved down
+pub record IsClosing (before literals : List ℕ) (first rows : List Row) (place end : ℕ) : Type 0 where
+  pub clauses : clauses_in literals rows ≡ clauses_in before first
+  pub done : AreLaid 0 end (take place rows)
+  pub rest : AreLaid end (length literals) (drop place rows)
+  pub fit : AreFit rows
+  pub total : sum_by (λ r. len_of r.body) (take place rows) ≡ end
 
 -- one more
-pub move-more : (before old new : List ℕ) (first ss : List Slot) (place end behind : ℕ) (r s : Slot) → place < length ss → r ≡ get_or ss place r → length new ≡ length old → s.id ≡ r.id → s.start ≡ end → s.len ≡ r.len → behind ≡ end + r.len → ((k : ℕ) → end ≤ k → k < end + r.len → get_or new k 0 ≡ get_or old (r.start + (k - end)) 0) → Agree old new 0 end → ((k : ℕ) → end + r.len ≤ k → get_or new k 0 ≡ get_or old k 0) → IsMoving before old first ss place end → IsMoving before new first (set ss place s) (place + 1) behind
-move-more before old new first ss place end behind r s l e n i f u b own below above c =
-    let at = slot-at end (length old) ss place r l e c.rest in
-    let cut : ss ≡ take place ss ++ r ∷ drop (place + 1) ss = sym (take-append-drop place ss) ∙ ap (λ (xs : List Slot). take place ss ++ xs) (drop_more ss place r l ∙ ap (λ (x : Slot). x ∷ drop (place + 1) ss) (sym e)) in
-    let made : set ss place s ≡ take place ss ++ s ∷ drop (place + 1) ss = sym (take-append-drop place (set ss place s)) ∙ (ap (λ (xs : List Slot). xs ++ drop place (set ss place s)) (take-set ss place s) ∙ ap (λ (xs : List Slot). take place ss ++ xs) (drop-set ss place s l)) in
-    let short : end ≤ length old = laid-forward end (length old) (drop place ss) c.rest in
-    let fits : end_of end r.start r.len ≤ length old = laid-forward (end_of end r.start r.len) (length old) (drop (place + 1) ss) at.2 in
-    let low : end + r.len ≤ end_of end r.start r.len = lower r.len at.1 in
-    let front : held_in new (take place ss) ≡ held_in old (take place ss) = slots-agree old new 0 end (take place ss) short (omega arith) below c.done in
-    let back : held_in new (drop (place + 1) ss) ≡ held_in old (drop (place + 1) ss) = slots-agree old new (end_of end r.start r.len) (length old) (drop (place + 1) ss) (omega arith) (omega arith) (λ k p q. above k (omega (arith, low, p))) at.2 in
-    let part : take s.len (drop s.start new) ≡ take r.len (drop r.start old) = rw (u, f) (part-same new old r.len end r.start (omega arith) (omega (arith, at.0)) own) in
-    let one : clause_in new s ≡ clause_in old r = rw (i, part) refl in
+pub close-more : (before old new : List ℕ) (first rs : List Row) (place end behind : ℕ) (r s : Row) → place < length rs → r ≡ get_or rs place r → length new ≡ length old → s.id ≡ r.id → lits_in new s.body ≡ lits_in old r.body → IsFrom end s.body → behind ≡ end_of end s.body → behind ≤ end_of end r.body → behind ≡ end + len_of s.body → (IsFit r.body → IsFit s.body) → Agree old new 0 end → Agree old new (end_of end r.body) (length old) → IsClosing before old first rs place end → IsClosing before new first (set rs place s) (place + 1) behind
+close-more before old new first rs place end behind r s l e n i h f b w t u below above c =
+    let cut : rs ≡ take place rs ++ r ∷ drop (place + 1) rs = sym (take-append-drop place rs) ∙ ap (λ (xs : List Row). take place rs ++ xs) (drop_more rs place r l ∙ ap (λ (x : Row). x ∷ drop (place + 1) rs) (sym e)) in
+    let made : set rs place s ≡ take place rs ++ s ∷ drop (place + 1) rs = sym (take-append-drop place (set rs place s)) ∙ (ap (λ (xs : List Row). xs ++ drop place (set rs place s)) (take-set rs place s) ∙ ap (λ (xs : List Row). take place rs ++ xs) (drop-set rs place s l)) in
+    let laid : IsFrom end r.body × AreLaid (end_of end r.body) (length old) (drop (place + 1) rs) = subst (λ (xs : List Row). AreLaid end (length old) xs) (drop_more rs place r l ∙ ap (λ (x : Row). x ∷ drop (place + 1) rs) (sym e)) c.rest in
+    let short : end ≤ length old = laid-forward end (length old) (drop place rs) c.rest in
+    let front : clauses_in new (take place rs) ≡ clauses_in old (take place rs) = rows-agree old new 0 end (take place rs) short (omega arith) below c.done in
+    let back : clauses_in new (drop (place + 1) rs) ≡ clauses_in old (drop (place + 1) rs) = rows-agree old new (end_of end r.body) (length old) (drop (place + 1) rs) (omega arith) (omega arith) above laid.1 in
+    let one : clause_in new s ≡ clause_in old r = rw (i, h) refl in
     record {
-      clauses = ap (held_in new) made ∙ (map-append (clause_in new) (take place ss) (s ∷ drop (place + 1) ss) ∙ (rw (front, back, one) refl ∙ (sym (map-append (clause_in old) (take place ss) (r ∷ drop (place + 1) ss)) ∙ (ap (held_in old) (sym cut) ∙ c.clauses))));
-      done = rw (take_more_set ss place s l) (laid-push 0 end behind (take place ss) s f (omega (arith, f, u, b)) c.done);
-      total = rw (take_more_set ss place s l) (omega (arith, sum_by_push (λ (x : Slot). x.len) (take place ss) s, u, b, c.total));
-      rest = rw (n, drop-set-lt (place + 1) ss place s (omega arith)) (laid-lower (end_of end r.start r.len) behind (length old) (drop (place + 1) ss) (omega (arith, low, b)) at.2);
+      clauses = ap (clauses_in new) made ∙ (map-append (clause_in new) (take place rs) (s ∷ drop (place + 1) rs) ∙ (rw (front, back, one) refl ∙ (sym (map-append (clause_in old) (take place rs) (r ∷ drop (place + 1) rs)) ∙ (ap (clauses_in old) (sym cut) ∙ c.clauses))));
+      done = rw (take_more_set rs place s l) (laid-push 0 end behind (take place rs) s f (sym b) c.done);
+      fit = fit-same rs place s (u (fit-at rs place r l e c.fit)) c.fit;
+      total = rw (take_more_set rs place s l) (omega (arith, sum_by_push (λ (x : Row). len_of x.body) (take place rs) s, t, c.total));
+      rest = rw (n, drop-behind) (laid-lower (end_of end r.body) behind (length old) (drop (place + 1) rs) w laid.1);
     }
   where
-    lower : (m : ℕ) → IsFrom end r.start m → end + m ≤ end_of end r.start m
-    lower zero h = omega arith
-    lower (suc m) h = omega (arith, h)
+    drop-behind : drop (place + 1) (set rs place s) ≡ drop (place + 1) rs
+    drop-behind = drop-set-lt (place + 1) rs place s (omega arith)
 
--- what is behind the last slot can go
-pub move-last : (before old new : List ℕ) (first ss : List Slot) (place end : ℕ) → length ss ≤ place → length new ≡ end → ((k : ℕ) (d : ℕ) → k < end → get_or new k d ≡ get_or old k d) → IsMoving before old first ss place end → (held_in new ss ≡ held_in before first) × AreLaid 0 (length new) ss × (length new ≡ sum_by (λ s. s.len) ss)
-move-last before old new first ss place end l w h c =
-    let laid : AreLaid 0 end ss = subst (λ (xs : List Slot). AreLaid 0 end xs) (take_all place ss l) c.done in
-    (slots-agree old new 0 end ss (laid-forward end (length old) (drop place ss) c.rest) (omega (arith, w)) (λ k a b. h k 0 b) laid ∙ c.clauses, rw w laid, w ∙ (sym c.total ∙ ap (λ (xs : List Slot). sum_by (λ (s : Slot). s.len) xs) (take_all place ss l)))
+-- the row at a place is within
+pub laid-at : (low high : ℕ) (rs : List Row) (place : ℕ) (r : Row) → place < length rs → r ≡ get_or rs place r → AreLaid low high (drop place rs) → IsBody high r.body
+laid-at low high rs place r l e h = (subst (λ (xs : List Row). AreRows high xs) (drop_more rs place r l ∙ ap (λ (x : Row). x ∷ drop (place + 1) rs) (sym e)) (laid-within low high (drop place rs) h)).0
+
+-- what is behind the last row can go
+pub close-last : (before old new : List ℕ) (first rs : List Row) (place end : ℕ) → length rs ≤ place → end ≤ length new → ((k : ℕ) (d : ℕ) → k < end → get_or new k d ≡ get_or old k d) → IsClosing before old first rs place end → clauses_in new rs ≡ clauses_in before first
+close-last before old new first rs place end l w h c =
+    let laid : AreLaid 0 end rs = subst (λ (xs : List Row). AreLaid 0 end xs) (take_all place rs l) c.done in
+    rows-agree old new 0 end rs (laid-forward end (length old) (drop place rs) c.rest) w (λ k a b. h k 0 b) laid ∙ c.clauses
+
+-- and what is left has as many literals as the rows say
+pub close-total : (before literals : List ℕ) (first rs : List Row) (place end : ℕ) → length rs ≤ place → IsClosing before literals first rs place end → sum_by (λ r. len_of r.body) rs ≡ end
+close-total before literals first rs place end l c = ap (λ (xs : List Row). sum_by (λ (r : Row). len_of r.body) xs) (sym (take_all place rs l)) ∙ c.total

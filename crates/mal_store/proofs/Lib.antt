@@ -1,7 +1,13 @@
+-- which clauses stand among others, and that the order of numbers to forget is all the same
+pub mod AmongLemmas
+pub mod ForgetLemmas
 -- what this crate alone cites
-mod SlotLemmas
 mod IdLemmas
-mod ForgetLemmas
+mod EntryLemmas
+mod RowLemmas
 mod LaidLemmas
-mod ApartLemmas
-mod OrderLemmas
+mod WonLemmas
+mod HeldLemmas
+mod CountLemmas
+mod SettledLemmas
+mod StoreLemmas

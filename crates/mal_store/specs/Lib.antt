@@ -1,1 +1,3 @@
+pub mod Rowed
+pub mod Indexed
 pub mod Stored

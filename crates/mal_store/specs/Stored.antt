@@ -1,61 +1,76 @@
-use Rattle.std.specs.Prelude.{ℕ, zero, suc, ◌+◌, ◌≤◌, ◌&&◌, nat_le, nat_lt, if◌then◌else◌, List, [], ◌∷◌, length, take, drop, map, sum_by}
+use Rattle.std.specs.Prelude.{◌≡◌, ℕ, zero, suc, ◌+◌, ◌≤◌, ◌<◌, ◌⊎◌, Bool, nat_lt, if◌then◌else◌, List, [], ◌∷◌, ◌++◌, length, map, sum_by, slice_index_or}
 use Rattle.mal_base.specs.NumberedClause.{NumberedClause}
-use Rattle.mal_store.specs.declared.slot.Slot.{Slot}
+use Rattle.mal_store.specs.declared.entry.Entry.{Entry}
+use Rattle.mal_store.specs.declared.entry.Held.{Held}
+use Rattle.mal_store.specs.declared.entry.Held.TheVariants.{Empty, One, Long}
+use Rattle.mal_store.specs.Indexed.{settled}
+use Rattle.mal_store.specs.Rowed.{no_row, listed_count}
 
--- a store: the clauses by rising number, and how many clauses and literals it has room for
+-- a store: the clauses by rising number, those of two and more literals in the order in which they came, and how many
+-- clauses and literals it has room for
 pub record Stored : Type 0 where
   pub clauses : List NumberedClause
+  pub long : List NumberedClause
   pub clause_room : ℕ
   pub literal_room : ℕ
 
--- the clause of a slot
-abbrev pub clause_in : List ℕ → Slot → NumberedClause
-clause_in literals s = record { id = s.id; lits = take s.len (drop s.start literals) }
+-- a clause stands among others
+abbrev pub Among : NumberedClause → List NumberedClause → Type 0
+Among c [] = ⊥
+Among c (d ∷ ds) = (c ≡ d) ⊎ Among c ds
 
--- the clauses of the slots
-abbrev pub held_in : List ℕ → List Slot → List NumberedClause
-held_in literals slots = map (clause_in literals) slots
+-- the literals of a clause: none, one, or those of the long one at a place
+abbrev pub lits_held : List NumberedClause → Held → List ℕ
+lits_held long Empty = []
+lits_held long (One lits) = lits
+lits_held long (Long place) = (slice_index_or long place no_row).lits
 
--- the numbers of the slots rise strictly, from this one on
-abbrev pub SlotsRise : ℕ → List Slot → Type 0
-SlotsRise low [] = Unit {0}
-SlotsRise low (s ∷ ss) = (low ≤ s.id) × SlotsRise (s.id + 1) ss
+-- the clause of an entry
+abbrev pub entry_clause : List NumberedClause → Entry → NumberedClause
+entry_clause long e = record { id = e.id; lits = lits_held long e.held }
 
--- so many literals have those of each slot among them
-abbrev pub AreWithin : ℕ → List Slot → Type 0
-AreWithin count [] = Unit {0}
-AreWithin count (s ∷ ss) = (s.start + s.len ≤ count) × AreWithin count ss
+-- the clauses of the entries
+abbrev pub held_in : List NumberedClause → List Entry → List NumberedClause
+held_in long entries = map (entry_clause long) entries
 
--- how many of a slot's literals stand at a place
-abbrev pub covers : ℕ → Slot → ℕ
-covers place s = if nat_le s.start place && nat_lt place (s.start + s.len) then 1 else 0
+-- a long clause of this number stands where its entry says
+abbrev pub IsPlaced : List NumberedClause → ℕ → Held → Type 0
+IsPlaced long id Empty = Unit {0}
+IsPlaced long id (One lits) = Unit {0}
+IsPlaced long id (Long place) = (place < length long) × ((slice_index_or long place no_row).id ≡ id)
 
--- no two slots have a literal at one place
-abbrev pub AreApart : List Slot → Type 0
-AreApart slots = (place : ℕ) → sum_by (covers place) slots ≤ 1
+abbrev pub ArePlaced : List NumberedClause → List Entry → Type 0
+ArePlaced long [] = Unit {0}
+ArePlaced long (e ∷ es) = IsPlaced long e.id e.held × ArePlaced long es
 
--- so many literals from one place on, if there are any, begin at another or behind it, and what is behind them begins
--- there
-abbrev pub IsFrom : ℕ → ℕ → ℕ → Type 0
-IsFrom low start zero = Unit {0}
-IsFrom low start (suc n) = low ≤ start
-
-abbrev pub end_of : ℕ → ℕ → ℕ → ℕ
-end_of low start zero = low
-end_of low start (suc n) = start + suc n
-
--- the literals of slots stand from one place to another, those of each behind those of the ones before
-abbrev pub AreLaid : ℕ → ℕ → List Slot → Type 0
-AreLaid low high [] = low ≤ high
-AreLaid low high (s ∷ ss) = (s.start + s.len ≤ high) × IsFrom low s.start s.len × AreLaid (end_of low s.start s.len) high ss
+-- an entry where the first long clauses, so many, stand at their places
+abbrev pub settled_in : List NumberedClause → ℕ → Entry → Entry
+settled_in long zero e = e
+settled_in long (suc n) e = settled (slice_index_or long n no_row).id n (settled_in long n e)
 
 -- how many literals clauses have
 abbrev pub literal_count : List NumberedClause → ℕ
 literal_count clauses = sum_by (λ c. length c.lits) clauses
 
--- each slot's literals are there, and its own; and numbers rise
-pub record IsStore (literals : List ℕ) (slots : List Slot) : Type 0 where
-  pub within : AreWithin (length literals) slots
-  pub fits : sum_by (λ s. s.len) slots ≤ length literals
-  pub apart : AreApart slots
-  pub rising : SlotsRise 1 slots
+-- a clause has two literals or more
+abbrev pub is_long : NumberedClause → Bool
+is_long c = nat_lt 1 (length c.lits)
+
+-- what a clause of two literals and more adds
+abbrev pub if_long : (NumberedClause → ℕ) → NumberedClause → ℕ
+if_long f c = if is_long c then f c else 0
+
+-- the long clauses are those of two and more literals, each once: whatever is summed up over them comes to the same
+abbrev pub AreLong : List NumberedClause → List NumberedClause → Type 0
+AreLong long clauses = (f : NumberedClause → ℕ) → sum_by f long ≡ sum_by (if_long f) clauses
+
+-- each long clause stands where its entry says and has an entry; and the room in the list of literals is enough for all
+-- literals, so that also those that do not stand in it leave room behind when they go
+pub record IsStore (long : List NumberedClause) (room : ℕ) (entries : List Entry) : Type 0 where
+  pub placed : ArePlaced long entries
+  pub once : AreLong long (held_in long entries)
+  pub enough : literal_count (held_in long entries) ≤ listed_count long + room
+
+-- long clauses with one more behind them, if it is long
+abbrev pub with_long : NumberedClause → List NumberedClause → List NumberedClause
+with_long c long = if is_long c then long ++ c ∷ [] else long

@@ -7,7 +7,7 @@ ghost use Rattle.std.specs.List.Sorted.{IsNonDecreasing, IsPermutation};
 use mal_base::ClauseId;
 
 /// Puts numbers in rising order. Takes no memory.
-pub fn sort(ids: &mut [ClauseId])
+pub fn sort_ids(ids: &mut [ClauseId])
     ensures same { IsPermutation ids.old ids.new }
     ensures rising { IsNonDecreasing ids.new }
 {

@@ -1,29 +1,20 @@
-use Rattle.std.proofs.Common.{◌≡◌, ◌≢◌, ℕ, zero, suc, ◌+◌, ◌-◌, ◌/◌, ◌%◌, ◌<◌, ◌≤◌, ◌⊎◌, inl, inr, Bool, true, false, cond, not, nat_lt, List, [], ◌∷◌, length, get_or, refl, sym, ap, ◌∙◌, subst, arith}
+use Rattle.std.proofs.Common.{◌≡◌, ◌≢◌, ℕ, zero, suc, ◌+◌, ◌-◌, ◌/◌, ◌%◌, ◌<◌, ◌≤◌, ◌⊎◌, inl, inr, Bool, true, false, cond, nat_lt, List, [], ◌∷◌, length, get_or, refl, sym, ap, ◌∙◌, subst, arith}
 use Rattle.std.specs.Prelude.{filter, ◌==◌, slice_index}
-use Rattle.std.specs.List.Sorted.{IsPermutation}
-use Rattle.std.proofs.lemmas.Bool.{ltb-true, ltb-false, false≢true}
+use Rattle.std.proofs.lemmas.Bool.{ltb-true, ltb-false}
 use Rattle.std.proofs.lemmas.List.{get_or_past}
-use Rattle.std.proofs.lemmas.List.Sorted.{list_any-IsPermutation}
 use Rattle.mal_base.specs.NumberedClause.{NumberedClause}
 use Rattle.mal_base.specs.declared.trail_entry.TrailEntry.{TrailEntry}
 use Rattle.spec_node.specs.Adding.{forgetting}
-use Rattle.mal_watch.specs.Leaving.{is_left, pairs_left}
+use Rattle.mal_store.specs.Rowed.{is_left}
+use Rattle.mal_watch.specs.Leaving.{pairs_left}
 use Rattle.mal_watch.specs.WatchLists.{Has}
-use Rattle.mal_watch.specs.Watching.{no_row, row_at, partner, other_key}
-use Rattle.mal_watch.specs.Following.{Among, AreSingle, Follows}
+use Rattle.mal_store.specs.Rowed.{no_row}
+use Rattle.mal_watch.specs.Watching.{row_at, partner, other_key}
+use Rattle.mal_store.specs.Stored.{Among}
+use Rattle.mal_watch.specs.Following.{AreSingle, Follows}
 use Rattle.mal_watch.proofs.HasLemmas.{has-none}
-use Rattle.mal_watch.proofs.HeldLemmas.{among-at, among-place, among-passed, among-passes, rise-passed}
-
--- what is given up does not depend on the order of the numbers
-pub forgetting-order : (ids now : List ℕ) → IsPermutation ids now → (cs : List NumberedClause) → forgetting ids cs ≡ forgetting now cs
-forgetting-order ids now p [] = refl
-forgetting-order ids now p (c ∷ cs) = by_test (forgetting-order ids now p cs) (is_left ids c) (is_left now c) (ap not (list_any-IsPermutation (λ (i : ℕ). i == c.id) ids now p))
-  where
-    by_test : forgetting ids cs ≡ forgetting now cs → (a b : Bool) → a ≡ b → cond a (c ∷ forgetting ids cs) (forgetting ids cs) ≡ cond b (c ∷ forgetting now cs) (forgetting now cs)
-    by_test f true true e = ap (λ (ds : List NumberedClause). c ∷ ds) f
-    by_test f false false e = f
-    by_test f true false e = absurd (false≢true (sym e))
-    by_test f false true e = absurd (false≢true e)
+use Rattle.mal_store.proofs.AmongLemmas.{among-at, among-place, among-passed, among-passes}
+use Rattle.mal_watch.proofs.HeldLemmas.{rise-passed}
 
 -- two nodes further, and a clause further
 shift-row : (c : NumberedClause) (rows : List NumberedClause) (k : ℕ) → row_at (c ∷ rows) (suc (suc k)) ≡ row_at rows k

@@ -14,13 +14,16 @@ use Rattle.spec_node.specs.Batch.{is_in_batch}
 use Rattle.spec_node.specs.Value.{is_true, is_false, open_count}
 use Rattle.mal_watch.specs.WatchLists.{Has, AreOnce, IsAt}
 use Rattle.mal_watch.specs.Pairs.{ArePicked}
-use Rattle.mal_watch.specs.Watching.{no_row, row_at, partner, other_key, AreOthersFalse, IsWatchKept}
+use Rattle.mal_store.specs.Rowed.{no_row}
+use Rattle.mal_watch.specs.Watching.{row_at, partner, other_key, AreOthersFalse, IsWatchKept}
 use Rattle.mal_watch.specs.Going.{Turns, Goes}
 use Rattle.mal_watch.specs.Finding.{is_pending, found_of, pending, found_in}
 use Rattle.mal_watch.specs.declared.found.Found.{Found}
-use Rattle.mal_watch.specs.Following.{Among, AreSingle, Follows}
+use Rattle.mal_store.specs.Stored.{Among, is_long, with_long}
+use Rattle.mal_watch.specs.Following.{AreSingle, Follows}
 use Rattle.mal_watch.proofs.HasLemmas.{has-none, has-cases}
-use Rattle.mal_watch.proofs.HeldLemmas.{among-at, among-with, with-among, under-none, rise-with}
+use Rattle.mal_store.proofs.AmongLemmas.{among-at}
+use Rattle.mal_watch.proofs.HeldLemmas.{among-with, with-among, under-none, rise-with}
 use Rattle.mal_watch.proofs.TurnLemmas.{partner-even, partner-odd, only-last, goes-start, goes-end, goes-apart}
 use Rattle.mal_watch.proofs.FoundLemmas.{found-is}
 use Rattle.mal_watch.proofs.FalseLemmas.{true-more, false-more, open-less}
@@ -44,6 +47,22 @@ follows-more clauses rows keys out lists more capacity wider entries processed l
     }
 
 -- a clause of at most one literal more
+pub with-short : (c : NumberedClause) (long : List NumberedClause) → length c.lits ≤ 1 → with_long c long ≡ long
+with-short c long l =
+    let test : is_long c ≡ false = ltb-not 1 (length c.lits) l in
+    rw test refl
+  where
+    ltb-not : (a b : ℕ) → b ≤ a → nat_lt a b ≡ false
+    ltb-not a b = grind (arith, nat_tests)
+
+pub with-behind : (c : NumberedClause) (long : List NumberedClause) → 2 ≤ length c.lits → with_long c long ≡ long ++ c ∷ []
+with-behind c long l =
+    let test : is_long c ≡ true = ltb-yes 1 (length c.lits) (omega (arith, l)) in
+    rw test refl
+  where
+    ltb-yes : (a b : ℕ) → a < b → nat_lt a b ≡ true
+    ltb-yes a b = grind (arith, nat_tests)
+
 pub follows-short : (clauses rows : List NumberedClause) (keys out : List ℕ) (lists capacity : ℕ) (entries : List TrailEntry) (processed : ℕ) (c : NumberedClause) → lits_under c.id clauses ≡ None → length c.lits ≤ 1 → Follows clauses rows keys out lists capacity entries processed → Follows (with_clause c clauses) rows keys out lists capacity entries processed
 follows-short clauses rows keys out lists capacity entries processed c n s f =
     record {

@@ -12,12 +12,15 @@ use Rattle.mal_base.specs.declared.trail_entry.TrailEntry.{TrailEntry}
 use Rattle.spec_node.specs.Batch.{is_in_batch}
 use Rattle.spec_node.specs.Sound.{NumbersRise, left_is_true}
 use Rattle.mal_watch.specs.WatchLists.{Has, AreOnce, IsAt}
-use Rattle.mal_watch.specs.Following.{Among, AreSingle}
-use Rattle.mal_watch.specs.Watching.{no_row, row_at, partner, other_key, IsWatching}
+use Rattle.mal_store.specs.Stored.{Among}
+use Rattle.mal_watch.specs.Following.{AreSingle}
+use Rattle.mal_store.specs.Rowed.{no_row}
+use Rattle.mal_watch.specs.Watching.{row_at, partner, other_key, IsWatching}
 use Rattle.mal_watch.specs.declared.found.Found.{Found}
 use Rattle.mal_watch.specs.Finding.{is_pending, found_of, pending, found_in}
 use Rattle.mal_watch.proofs.HasLemmas.{has-none, has-head, has-tail, has-cases, has-contains, contains-has, distinct-from, long-below}
-use Rattle.mal_watch.proofs.HeldLemmas.{among-passed, among-passes, among-place, among-at, rise-passed, rise-under}
+use Rattle.mal_store.proofs.AmongLemmas.{among-passed, among-passes, among-place, among-at}
+use Rattle.mal_watch.proofs.HeldLemmas.{rise-passed, rise-under}
 use Rattle.mal_watch.proofs.WalkLemmas.{partner-below, row-below}
 use Rattle.mal_watch.proofs.TurnLemmas.{same-row, partner-other, partner-half}
 

@@ -1,7 +1,6 @@
 -- what this crate alone cites
 mod HasLemmas
 mod ChainLemmas
-mod RowLemmas
 mod FalseLemmas
 mod HeldLemmas
 mod BatchLemmas
@@ -12,7 +11,5 @@ mod FoundLemmas
 mod FollowLemmas
 mod WiderLemmas
 mod NodeLemmas
-mod LaidLemmas
 mod ListedLemmas
 mod FewerLemmas
-mod WonLemmas

@@ -4,7 +4,8 @@ use Rattle.std.proofs.lemmas.List.{length_push, length-set, length-drop, length-
 use Rattle.std.proofs.lemmas.List.Elements.{All-nil, All-cons, All-head, All-tail, All-push, All-set, All-weaker}
 use Rattle.mal_base.specs.NumberedClause.{NumberedClause}
 use Rattle.mal_watch.specs.declared.watch_lists.Node.{Node}
-use Rattle.mal_watch.specs.Leaving.{is_left, pairs_left}
+use Rattle.mal_store.specs.Rowed.{is_left}
+use Rattle.mal_watch.specs.Leaving.{pairs_left}
 use Rattle.mal_watch.specs.Links.{nowhere}
 use Rattle.mal_watch.specs.Nodes.{links_of, keys_of}
 use Rattle.mal_watch.specs.WatchLists.{link_at, IsChained, AreListed}

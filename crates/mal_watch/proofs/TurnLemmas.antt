@@ -9,7 +9,8 @@ use Rattle.mal_base.specs.declared.trail_entry.TrailEntry.{TrailEntry}
 use Rattle.spec_node.specs.Value.{is_true, is_false, open_count, left_literal}
 use Rattle.spec_node.specs.Batch.{is_in_batch}
 use Rattle.mal_watch.specs.WatchLists.{Has, AreOnce, IsAt}
-use Rattle.mal_watch.specs.Watching.{no_row, row_at, partner, IsOther, AreOthersFalse, other_key, IsWatching, IsWatchKept}
+use Rattle.mal_store.specs.Rowed.{no_row}
+use Rattle.mal_watch.specs.Watching.{row_at, partner, IsOther, AreOthersFalse, other_key, IsWatching, IsWatchKept}
 use Rattle.mal_watch.specs.Going.{Turns, Goes}
 use Rattle.mal_watch.specs.Finding.{is_pending, found_at}
 use Rattle.mal_watch.specs.declared.found.Found.{Found}

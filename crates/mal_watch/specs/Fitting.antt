@@ -7,8 +7,8 @@ use Rattle.mal_watch.specs.Following.{Follows}
 
 -- what an engine has room for: two lists for each variable, two nodes for each clause, and its number among those found
 abbrev pub room_in : Watch → Room
-room_in w = record { variables = w.chains.lists / 2 - 1; clauses = min (min w.store.clause_room w.rows.clause_room) (min (w.chains.room / 2) (vec_capacity w.found - length w.rows.clauses)); literals = min w.store.literal_room w.rows.literal_room }
+room_in w = record { variables = w.chains.lists / 2 - 1; clauses = min w.store.clause_room (min (w.chains.room / 2) (vec_capacity w.found - length w.store.long)); literals = w.store.literal_room }
 
 -- what an engine keeps follows a trail
 abbrev pub Fits : Watch → List TrailEntry → ℕ → Type 0
-Fits w entries processed = Follows w.store.clauses w.rows.clauses w.chains.keys w.chains.out w.chains.lists (vec_capacity w.found) entries processed
+Fits w entries processed = Follows w.store.clauses w.store.long w.chains.keys w.chains.out w.chains.lists (vec_capacity w.found) entries processed

@@ -1,14 +1,11 @@
-use Rattle.std.specs.Prelude.{◌≡◌, ◌≢◌, ℕ, ◌-◌, ◌<◌, ◌≤◌, ◌⊎◌, List, [], ◌∷◌, length, take, slice_index, slice_index_or}
+use Rattle.std.specs.Prelude.{◌≡◌, ◌≢◌, ℕ, ◌-◌, ◌<◌, ◌≤◌, ◌⊎◌, List, [], length, take, slice_index, slice_index_or}
 use Rattle.mal_base.specs.NumberedClause.{NumberedClause}
 use Rattle.mal_base.specs.declared.trail_entry.TrailEntry.{TrailEntry}
 use Rattle.spec_node.specs.Sound.{NumbersRise}
+use Rattle.mal_store.specs.Stored.{Among}
 use Rattle.mal_watch.specs.WatchLists.{AreOnce}
-use Rattle.mal_watch.specs.Watching.{no_row, other_key, IsWatching, IsWatchKept}
-
--- a clause stands among others
-abbrev pub Among : NumberedClause → List NumberedClause → Type 0
-Among c [] = ⊥
-Among c (d ∷ ds) = (c ≡ d) ⊎ Among c ds
+use Rattle.mal_store.specs.Rowed.{no_row}
+use Rattle.mal_watch.specs.Watching.{other_key, IsWatching, IsWatchKept}
 
 -- clauses have different numbers
 abbrev pub AreSingle : List NumberedClause → Type 0

@@ -1,11 +1,7 @@
 -- What stays where clauses are given up.
-use Rattle.std.specs.Prelude.{ℕ, Bool, not, ◌==◌, if◌then◌else◌, List, [], ◌∷◌}
-use Rattle.std.specs.List.{list_any}
+use Rattle.std.specs.Prelude.{ℕ, if◌then◌else◌, List, [], ◌∷◌}
 use Rattle.mal_base.specs.NumberedClause.{NumberedClause}
-
--- a clause stays where these numbers go
-abbrev pub is_left : List ℕ → NumberedClause → Bool
-is_left ids c = not (list_any (λ i. i == c.id) ids)
+use Rattle.mal_store.specs.Rowed.{is_left}
 
 -- of a list with two for each clause, the two of each clause that stays
 abbrev pub pairs_left : {X : Type 0} → List ℕ → List NumberedClause → List X → List X

@@ -2,7 +2,6 @@ pub mod Links
 pub mod LinkLaws
 pub mod WatchLists
 pub mod Nodes
-pub mod Rowed
 pub mod Pairs
 pub mod Watching
 pub mod Finding

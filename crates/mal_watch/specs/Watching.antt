@@ -1,12 +1,9 @@
-use Rattle.std.specs.Prelude.{◌≡◌, ◌≢◌, ℕ, ◌+◌, ◌-◌, ◌/◌, ◌%◌, ◌<◌, ◌⊎◌, true, false, ◌==◌, if◌then◌else◌, List, [], length, slice_index, slice_index_or}
+use Rattle.std.specs.Prelude.{◌≡◌, ◌≢◌, ℕ, ◌+◌, ◌-◌, ◌/◌, ◌%◌, ◌<◌, ◌⊎◌, true, false, ◌==◌, if◌then◌else◌, List, length, slice_index, slice_index_or}
 use Rattle.mal_base.specs.NumberedClause.{NumberedClause}
 use Rattle.mal_base.specs.declared.trail_entry.TrailEntry.{TrailEntry}
 use Rattle.spec_node.specs.Value.{is_true, is_false}
+use Rattle.mal_store.specs.Rowed.{no_row}
 use Rattle.mal_watch.specs.WatchLists.{Has}
-
--- no clause
-abbrev pub no_row : NumberedClause
-no_row = record { id = 0; lits = [] }
 
 -- the clause that a node watches a literal of: clauses have two nodes each, in order
 abbrev pub row_at : List NumberedClause → ℕ → NumberedClause

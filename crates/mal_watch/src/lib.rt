@@ -2,7 +2,6 @@
 #![tactic(auto)]
 
 mod batch;
-mod clause_arena;
 mod found;
 mod link;
 mod pair;

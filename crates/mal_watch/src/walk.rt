@@ -5,10 +5,10 @@ ghost use Rattle.mal_watch.specs.Watching.{partner, IsOther, AreOthersFalse};
 ghost use Rattle.mal_watch.specs.Going.{Turns, Goes};
 ghost use Rattle.mal_watch.specs.Finding.{found_at, found_in};
 
-use crate::clause_arena::ClauseArena;
 use crate::found::Found;
 use crate::watch_lists::WatchLists;
 use mal_base::Lit;
+use mal_store::Store;
 use mal_trail::Trail;
 
 /// The other of the two nodes of a clause.
@@ -66,7 +66,7 @@ fn to_watch(trail: &Trail, count: usize, lits: &[Lit], other: Lit, from: usize) 
 fn seek(
     chains: &mut WatchLists,
     found: &mut Vec<Found>,
-    rows: &mut ClauseArena,
+    store: &mut Store,
     trail: &Trail,
     count: usize,
     lit: Lit,
@@ -74,30 +74,30 @@ fn seek(
 )
     requires turns { Turns trail.now.entries count lit }
     requires first { chains.old.out ≡ node ∷ drop 1 chains.old.out }
-    requires goes { Goes trail.now.entries count lit chains.old.lists rows.old.clauses chains.old.keys (node ∷ drop 1 chains.old.out) }
+    requires goes { Goes trail.now.entries count lit chains.old.lists store.old.long chains.old.keys (node ∷ drop 1 chains.old.out) }
     requires room { vec_len found.old < vec_capacity found.old }
-    ensures goes { Goes trail.now.entries count lit chains.new.lists rows.old.clauses chains.new.keys (drop 1 chains.old.out) }
-    ensures found { found.new.items ≡ found.old.items ++ found_at (take count trail.now.entries) trail.now.entries rows.old.clauses node }
+    ensures goes { Goes trail.now.entries count lit chains.new.lists store.old.long chains.new.keys (drop 1 chains.old.out) }
+    ensures found { found.new.items ≡ found.old.items ++ found_at (take count trail.now.entries) trail.now.entries store.old.long node }
     ensures out { chains.new.out ≡ drop 1 chains.old.out }
-    ensures rows { rows.new ≡ rows.old }
+    ensures store { store.new ≡ store.old }
     ensures lists { chains.new.lists ≡ chains.old.lists }
     ensures chains_room { chains.new.room ≡ chains.old.room }
     ensures len { vec_len found.new ≤ vec_len found.old + 1 }
     ensures capacity { vec_capacity found.new ≡ vec_capacity found.old }
 {
     let row = node / 2;
-    let lits = rows.lits(row);
+    let lits = store.long_lits(row);
     let other = chains.key(partner(node));
-    match to_watch(trail, count, lits, other, rows.hint(row)) {
+    match to_watch(trail, count, lits, other, store.hint(row)) {
         Some(place) => {
             chains.put(node, lits[place]);
-            rows.keep_hint(row, place);
+            store.keep_hint(row, place);
         }
         None => {
             chains.put(node, lit);
             if !trail.is_false_before(count, other) && !trail.is_true(other) {
                 found.push_reserved(Found {
-                    id: rows.id(row),
+                    id: store.long_id(row),
                     lit: other,
                 });
             }
@@ -110,7 +110,7 @@ fn seek(
 fn visit(
     chains: &mut WatchLists,
     found: &mut Vec<Found>,
-    rows: &mut ClauseArena,
+    store: &mut Store,
     trail: &Trail,
     count: usize,
     lit: Lit,
@@ -118,12 +118,12 @@ fn visit(
 )
     requires turns { Turns trail.now.entries count lit }
     requires first { chains.old.out ≡ node ∷ drop 1 chains.old.out }
-    requires goes { Goes trail.now.entries count lit chains.old.lists rows.old.clauses chains.old.keys (node ∷ drop 1 chains.old.out) }
+    requires goes { Goes trail.now.entries count lit chains.old.lists store.old.long chains.old.keys (node ∷ drop 1 chains.old.out) }
     requires room { vec_len found.old < vec_capacity found.old }
-    ensures goes { Goes trail.now.entries count lit chains.new.lists rows.old.clauses chains.new.keys (drop 1 chains.old.out) }
-    ensures found { found.new.items ≡ found.old.items ++ found_at (take count trail.now.entries) trail.now.entries rows.old.clauses node }
+    ensures goes { Goes trail.now.entries count lit chains.new.lists store.old.long chains.new.keys (drop 1 chains.old.out) }
+    ensures found { found.new.items ≡ found.old.items ++ found_at (take count trail.now.entries) trail.now.entries store.old.long node }
     ensures out { chains.new.out ≡ drop 1 chains.old.out }
-    ensures rows { rows.new ≡ rows.old }
+    ensures store { store.new ≡ store.old }
     ensures lists { chains.new.lists ≡ chains.old.lists }
     ensures chains_room { chains.new.room ≡ chains.old.room }
     ensures len { vec_len found.new ≤ vec_len found.old + 1 }
@@ -134,7 +134,7 @@ fn visit(
         chains.put(node, lit);
         return;
     }
-    seek(chains, found, rows, trail, count, lit, node);
+    seek(chains, found, store, trail, count, lit, node);
 }
 
 /// Visits the clauses of all nodes that are out, which watch the literal that became false by the last of the first
@@ -142,23 +142,23 @@ fn visit(
 pub fn walk(
     chains: &mut WatchLists,
     found: &mut Vec<Found>,
-    rows: &mut ClauseArena,
+    store: &mut Store,
     trail: &Trail,
     count: usize,
     lit: Lit,
 )
     requires turns { Turns trail.now.entries count lit }
-    requires goes { Goes trail.now.entries count lit chains.old.lists rows.old.clauses chains.old.keys chains.old.out }
+    requires goes { Goes trail.now.entries count lit chains.old.lists store.old.long chains.old.keys chains.old.out }
     requires room { vec_len found.old + length chains.old.out ≤ vec_capacity found.old }
-    ensures goes { Goes trail.now.entries count lit chains.new.lists rows.old.clauses chains.new.keys [] }
-    ensures found { found.new.items ≡ found.old.items ++ found_in (take count trail.now.entries) trail.now.entries rows.old.clauses chains.old.out }
+    ensures goes { Goes trail.now.entries count lit chains.new.lists store.old.long chains.new.keys [] }
+    ensures found { found.new.items ≡ found.old.items ++ found_in (take count trail.now.entries) trail.now.entries store.old.long chains.old.out }
     ensures out { chains.new.out ≡ [] }
-    ensures rows { rows.new ≡ rows.old }
+    ensures store { store.new ≡ store.old }
     ensures lists { chains.new.lists ≡ chains.old.lists }
     ensures chains_room { chains.new.room ≡ chains.old.room }
     ensures capacity { vec_capacity found.new ≡ vec_capacity found.old }
 {
     while let Some(node) = chains.first() {
-        visit(chains, found, rows, trail, count, lit, node);
+        visit(chains, found, store, trail, count, lit, node);
     }
 }

@@ -10,22 +10,20 @@ ghost use Rattle.mal_watch.specs.Finding.{pending};
 ghost use Rattle.mal_watch.specs.Fitting.{room_in, Fits};
 ghost use Rattle.mal_watch.specs.FollowLaws.{follows-push, follows-cut, follows-less};
 
-use crate::clause_arena::ClauseArena;
 use crate::found::Found;
 use crate::watch_lists::WatchLists;
 use crate::{batch, found, pair, walk};
 use mal_base::{Clause, ClauseId, ClauseView, Lit};
-use mal_store::Store;
+use mal_store::{Store, sort_ids};
 use mal_trail::{Engine, Listed, Trail};
 use std::alloc::{AllocError, Global};
 
-/// The clauses by number, those of two or more literals also in the order in which they came, and for each of these the
-/// two literals that it watches. It fits a trail where, under each front of the handled entries, a watched literal is
+/// The clauses, and for each of two or more literals, in the order in which these came, the two literals that it watches.
+/// It fits a trail where, under each front of the handled entries, a watched literal is
 /// false only where the other watched one of its clause is true, or all others are false but that one.
 #[derive(Drop)]
 pub struct Watch {
     store: Store,
-    rows: ClauseArena,
     chains: WatchLists,
     found: Vec<Found>,
 }
@@ -47,7 +45,6 @@ impl Watch {
         }
         let handled = trail.processed().saturating_sub(1) as usize;
         let (first, second) = pair::pick(trail, handled, lits);
-        self.rows.add_reserved(id, lits);
         self.chains.add(first);
         self.chains.add(second);
     }
@@ -60,7 +57,6 @@ impl Watch {
         requires fits { Fits self.old trail.now.entries count }
         ensures found { self.new.found.items ≡ pending (take count trail.now.entries) trail.now.entries self.old.store.clauses }
         ensures store { self.new.store ≡ self.old.store }
-        ensures rows { self.new.rows ≡ self.old.rows }
         ensures lists { self.new.chains.lists ≡ self.old.chains.lists }
         ensures nodes { self.new.chains.room ≡ self.old.chains.room }
         ensures capacity { vec_capacity self.new.found ≡ vec_capacity self.old.found }
@@ -77,7 +73,7 @@ impl Watch {
         walk::walk(
             &mut self.chains,
             &mut self.found,
-            &mut self.rows,
+            &mut self.store,
             trail,
             count,
             lit,
@@ -95,7 +91,6 @@ impl Watch {
         ensures processed { trail.new.processed ≡ trail.old.processed }
         ensures trail_room { trail.new.room ≡ trail.old.room }
         ensures store { self.new.store ≡ self.old.store }
-        ensures rows { self.new.rows ≡ self.old.rows }
         ensures lists { self.new.chains.lists ≡ self.old.chains.lists }
         ensures nodes { self.new.chains.room ≡ self.old.chains.room }
         ensures capacity { vec_capacity self.new.found ≡ vec_capacity self.old.found }
@@ -126,7 +121,6 @@ impl Engine for Watch {
     fn new(alloc: Global) -> Watch {
         Watch {
             store: Store::new(alloc),
-            rows: ClauseArena::new(alloc),
             chains: WatchLists::new(alloc),
             found: Vec::new(alloc),
         }
@@ -141,11 +135,10 @@ impl Engine for Watch {
         let Some(nodes) = clauses.checked_mul(2) else {
             return Err(AllocError);
         };
-        let Some(total) = clauses.checked_add(self.rows.len()) else {
+        let Some(total) = clauses.checked_add(self.store.count_long()) else {
             return Err(AllocError);
         };
         self.store.reserve(clauses, literals)?;
-        self.rows.reserve(clauses, literals)?;
         self.chains.reserve(2 * variables as usize + 2, nodes)?;
         self.found.clear();
         self.found.reserve(total)
@@ -160,9 +153,9 @@ impl Engine for Watch {
     }
 
     fn forget(&mut self, ids: &mut [ClauseId]) {
+        sort_ids(ids);
+        self.chains.forget(&self.store, ids);
         self.store.forget(ids);
-        self.chains.forget(&self.rows, ids);
-        self.rows.forget(ids);
     }
 
     fn propagate_one(&mut self, trail: &mut Trail) -> Option<ClauseId> {

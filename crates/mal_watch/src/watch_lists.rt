@@ -6,10 +6,9 @@ ghost use Rattle.mal_watch.specs.Leaving.{pairs_left};
 ghost use Rattle.mal_watch.specs.Nodes.{links_of, keys_of};
 ghost use Rattle.mal_watch.specs.WatchLists.{Has, AreOnce, IsAt, IsChained, AreListed};
 
-use crate::clause_arena::ClauseArena;
 use crate::link::Link;
 use mal_base::{ClauseId, Lit};
-use mal_store::is_among;
+use mal_store::{Store, is_among};
 use std::alloc::{AllocError, Global};
 use std::marker::Model;
 
@@ -149,33 +148,33 @@ impl WatchLists {
         self.heads[list] = first;
     }
 
-    /// Gives up the nodes of the clauses of these numbers, which rise, where each clause has two nodes, in order. The
+    /// Gives up the nodes of the long clauses of these numbers, which rise, where each has two nodes, in order. The
     /// others are in the lists of their literals afterwards, and none is out. Takes no memory.
-    pub fn forget(&mut self, rows: &ClauseArena, ids: &[ClauseId])
+    pub fn forget(&mut self, store: &Store, ids: &[ClauseId])
         requires { IsNonDecreasing ids.now }
-        ensures keys { self.new.keys ≡ pairs_left ids.now rows.now.clauses self.old.keys }
+        ensures keys { self.new.keys ≡ pairs_left ids.now store.now.long self.old.keys }
         ensures out { self.new.out ≡ [] }
         ensures lists { self.new.lists ≡ self.old.lists }
         ensures room { self.old.room ≤ self.new.room }
         ensures won { length self.old.keys + self.old.room ≤ length self.new.keys + self.new.room }
     {
-        keep_pairs(&mut self.nodes, rows, ids);
+        keep_pairs(&mut self.nodes, store, ids);
         self.heads.fill(Link::none());
         self.taken = Link::none();
         link_all(&mut self.heads, &mut self.nodes);
     }
 }
 
-/// Keeps of nodes, two for each clause, those of the clauses without these numbers, which rise. Takes no memory.
-fn keep_pairs(nodes: &mut Vec<Node>, rows: &ClauseArena, ids: &[ClauseId])
+/// Keeps of nodes, two for each long clause, those of the clauses without these numbers, which rise. Takes no memory.
+fn keep_pairs(nodes: &mut Vec<Node>, store: &Store, ids: &[ClauseId])
     requires { IsNonDecreasing ids.now }
-    ensures items { nodes.new.items ≡ pairs_left ids.now rows.now.clauses nodes.old.items }
+    ensures items { nodes.new.items ≡ pairs_left ids.now store.now.long nodes.old.items }
     ensures len { vec_len nodes.new ≤ vec_len nodes.old }
     ensures capacity { vec_capacity nodes.new ≡ vec_capacity nodes.old }
 {
     let mut kept = 0;
-    for place in 0..rows.len().min(nodes.len() / 2) {
-        if !is_among(ids, rows.id(place)) {
+    for place in 0..store.count_long().min(nodes.len() / 2) {
+        if !is_among(ids, store.long_id(place)) {
             let first = nodes[2 * place];
             let second = nodes[2 * place + 1];
             nodes[kept] = first;

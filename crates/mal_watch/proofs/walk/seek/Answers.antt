@@ -12,7 +12,7 @@ use Rattle.mal_watch.proofs.walk.seek.Goals.{else-not-is_false_before-via-then-n
 pub key-other-requires : goal.key-other-requires
 key-other-requires c =
     let here = c.requires.goes.left_is c.args.node (has-head c.args.node c.args.node (drop 1 c.args.chains.now.out) refl) in
-    rw c.partner.ensures (partner-below c.args.chains.now.lists c.args.rows.now.clauses c.args.chains.now.keys c.args.node c.requires.goes.watching here.0)
+    rw c.partner.ensures (partner-below c.args.chains.now.lists c.args.store.now.long c.args.chains.now.keys c.args.node c.requires.goes.watching here.0)
 
 pub hint-requires : goal.hint-requires
 hint-requires c =
@@ -22,16 +22,16 @@ hint-requires c =
 pub to_watch-requires-clause-two : goal.to_watch-requires-clause-two
 to_watch-requires-clause-two c =
     let s = c.args.chains.now in
-    let rows = c.args.rows.now.clauses in
-    let row : (row_at rows c.args.node).lits ≡ c.lits-lits.result.now = sym c.lits-lits.ensures in
+    let rows = c.args.store.now.long in
+    let row : (row_at rows c.args.node).lits ≡ c.long_lits-lits.result.now = sym c.long_lits-lits.ensures in
     let other : c.key-other.result ≡ other_key s.keys c.args.node = rw c.partner.ensures at c.key-other.ensures in
     λ l. rw other (rw row at (two-watched c.args.trail.now.entries c.args.count c.args.lit s.lists rows s.keys (drop 1 s.out) c.args.node c.requires.turns c.requires.goes (rw row l)))
 
 pub put-requires-clause-list : goal.put-requires-clause-list
 put-requires-clause-list c =
-    let row : (row_at c.args.rows.now.clauses c.args.node).lits ≡ c.lits-lits.result.now = sym c.lits-lits.ensures in
-    let is = get_or_read c.lits-lits.result.now c.in-Some.place c.index-lits-place.result c.in-Some.ensures.0 c.index-lits-place.is 0 in
-    let there : Has (row_at c.args.rows.now.clauses c.args.node).lits c.index-lits-place.result = rw row (rw (← is) at c.in-Some.ensures.1.there) in
+    let row : (row_at c.args.store.now.long c.args.node).lits ≡ c.long_lits-lits.result.now = sym c.long_lits-lits.ensures in
+    let is = get_or_read c.long_lits-lits.result.now c.in-Some.place c.index-lits-place.result c.in-Some.ensures.0 c.index-lits-place.is 0 in
+    let there : Has (row_at c.args.store.now.long c.args.node).lits c.index-lits-place.result = rw row (rw (← is) at c.in-Some.ensures.1.there) in
     c.requires.goes.watching.below c.args.node c.index-lits-place.result there
 
 pub put-requires-in-None-clause-list : goal.put-requires-in-None-clause-list
@@ -42,31 +42,31 @@ put-requires-in-None-clause-list c =
 pub returns-in-Some-clause-goes : goal.returns-in-Some-clause-goes
 returns-in-Some-clause-goes c =
     let s = c.args.chains.now in
-    let rows = c.args.rows.now.clauses in
+    let rows = c.args.store.now.long in
     let prefix = take c.args.count c.args.trail.now.entries in
-    let row : (row_at rows c.args.node).lits ≡ c.lits-lits.result.now = sym c.lits-lits.ensures in
+    let row : (row_at rows c.args.node).lits ≡ c.long_lits-lits.result.now = sym c.long_lits-lits.ensures in
     let other : c.key-other.result ≡ other_key s.keys c.args.node = rw c.partner.ensures at c.key-other.ensures in
-    let is = get_or_read c.lits-lits.result.now c.in-Some.place c.index-lits-place.result c.in-Some.ensures.0 c.index-lits-place.is 0 in
+    let is = get_or_read c.long_lits-lits.result.now c.in-Some.place c.index-lits-place.result c.in-Some.ensures.0 c.index-lits-place.is 0 in
     let free : IsOther prefix (other_key s.keys c.args.node) (row_at rows c.args.node).lits c.index-lits-place.result = rw (row, ← other) (rw (← is) at c.in-Some.ensures.1) in
     rw (c.put.ensures.keys, c.put.ensures.lists) (visit-moved c.args.trail.now.entries c.args.count c.args.lit s.lists rows s.keys (drop 1 s.out) c.args.node c.index-lits-place.result c.requires.turns c.requires.goes free).goes
 
 pub returns-in-Some-clause-found : goal.returns-in-Some-clause-found
 returns-in-Some-clause-found c =
     let s = c.args.chains.now in
-    let rows = c.args.rows.now.clauses in
+    let rows = c.args.store.now.long in
     let prefix = take c.args.count c.args.trail.now.entries in
-    let row : (row_at rows c.args.node).lits ≡ c.lits-lits.result.now = sym c.lits-lits.ensures in
+    let row : (row_at rows c.args.node).lits ≡ c.long_lits-lits.result.now = sym c.long_lits-lits.ensures in
     let other : c.key-other.result ≡ other_key s.keys c.args.node = rw c.partner.ensures at c.key-other.ensures in
-    let is = get_or_read c.lits-lits.result.now c.in-Some.place c.index-lits-place.result c.in-Some.ensures.0 c.index-lits-place.is 0 in
+    let is = get_or_read c.long_lits-lits.result.now c.in-Some.place c.index-lits-place.result c.in-Some.ensures.0 c.index-lits-place.is 0 in
     let free : IsOther prefix (other_key s.keys c.args.node) (row_at rows c.args.node).lits c.index-lits-place.result = rw (row, ← other) (rw (← is) at c.in-Some.ensures.1) in
     rw (visit-moved c.args.trail.now.entries c.args.count c.args.lit s.lists rows s.keys (drop 1 s.out) c.args.node c.index-lits-place.result c.requires.turns c.requires.goes free).finds (sym (append-nil c.args.found.now.items))
 
 pub returns-then-not-is_true-clause-goes : goal.returns-then-not-is_true-clause-goes
 returns-then-not-is_true-clause-goes c =
     let s = c.args.chains.now in
-    let rows = c.args.rows.now.clauses in
+    let rows = c.args.store.now.long in
     let prefix = take c.args.count c.args.trail.now.entries in
-    let row : (row_at rows c.args.node).lits ≡ c.lits-lits.result.now = sym c.lits-lits.ensures in
+    let row : (row_at rows c.args.node).lits ≡ c.long_lits-lits.result.now = sym c.long_lits-lits.ensures in
     let other : c.key-other.result ≡ other_key s.keys c.args.node = rw c.partner.ensures at c.key-other.ensures in
     let others : AreOthersFalse prefix (other_key s.keys c.args.node) (row_at rows c.args.node).lits = rw (row, ← other) c.in-None.ensures in
     let free : is_false prefix (other_key s.keys c.args.node) ≡ false = rw (← other) (sym c.is_false_before.ensures ∙ c.if-not-is_false_before.true) in
@@ -76,22 +76,22 @@ returns-then-not-is_true-clause-goes c =
 pub returns-then-not-is_true-clause-found : goal.returns-then-not-is_true-clause-found
 returns-then-not-is_true-clause-found c =
     let s = c.args.chains.now in
-    let rows = c.args.rows.now.clauses in
+    let rows = c.args.store.now.long in
     let prefix = take c.args.count c.args.trail.now.entries in
-    let row : (row_at rows c.args.node).lits ≡ c.lits-lits.result.now = sym c.lits-lits.ensures in
+    let row : (row_at rows c.args.node).lits ≡ c.long_lits-lits.result.now = sym c.long_lits-lits.ensures in
     let other : c.key-other.result ≡ other_key s.keys c.args.node = rw c.partner.ensures at c.key-other.ensures in
     let others : AreOthersFalse prefix (other_key s.keys c.args.node) (row_at rows c.args.node).lits = rw (row, ← other) c.in-None.ensures in
     let free : is_false prefix (other_key s.keys c.args.node) ≡ false = rw (← other) (sym c.is_false_before.ensures ∙ c.if-not-is_false_before.true) in
     let fresh : is_true c.args.trail.now.entries (other_key s.keys c.args.node) ≡ false = rw (← other) (sym c.is_true.ensures ∙ c.if-not-is_true.true) in
-    let number : (row_at rows c.args.node).id ≡ c.id.result = sym c.id.ensures in
+    let number : (row_at rows c.args.node).id ≡ c.long_id.result = sym c.long_id.ensures in
     rw (c.push_reserved.ensures.items, (visit-found c.args.trail.now.entries c.args.count c.args.lit s.lists rows s.keys (drop 1 s.out) c.args.node c.requires.turns c.requires.goes others free fresh).finds, number, ← other) refl
 
 pub returns-else-not-is_false_before-clause-goes : goal.returns-else-not-is_false_before-clause-goes
 returns-else-not-is_false_before-clause-goes c =
     let s = c.args.chains.now in
-    let rows = c.args.rows.now.clauses in
+    let rows = c.args.store.now.long in
     let prefix = take c.args.count c.args.trail.now.entries in
-    let row : (row_at rows c.args.node).lits ≡ c.lits-lits.result.now = sym c.lits-lits.ensures in
+    let row : (row_at rows c.args.node).lits ≡ c.long_lits-lits.result.now = sym c.long_lits-lits.ensures in
     let other : c.key-other.result ≡ other_key s.keys c.args.node = rw c.partner.ensures at c.key-other.ensures in
     let others : AreOthersFalse prefix (other_key s.keys c.args.node) (row_at rows c.args.node).lits = rw (row, ← other) c.in-None.ensures in
     elim c.else-not-is_false_before.branch [
@@ -107,9 +107,9 @@ returns-else-not-is_false_before-clause-goes c =
 pub returns-else-not-is_false_before-clause-found : goal.returns-else-not-is_false_before-clause-found
 returns-else-not-is_false_before-clause-found c =
     let s = c.args.chains.now in
-    let rows = c.args.rows.now.clauses in
+    let rows = c.args.store.now.long in
     let prefix = take c.args.count c.args.trail.now.entries in
-    let row : (row_at rows c.args.node).lits ≡ c.lits-lits.result.now = sym c.lits-lits.ensures in
+    let row : (row_at rows c.args.node).lits ≡ c.long_lits-lits.result.now = sym c.long_lits-lits.ensures in
     let other : c.key-other.result ≡ other_key s.keys c.args.node = rw c.partner.ensures at c.key-other.ensures in
     let others : AreOthersFalse prefix (other_key s.keys c.args.node) (row_at rows c.args.node).lits = rw (row, ← other) c.in-None.ensures in
     elim c.else-not-is_false_before.branch [

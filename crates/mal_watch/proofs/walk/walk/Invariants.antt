@@ -7,10 +7,10 @@ abbrev pub invariant-loop-node : goal.invariant-loop-node
 invariant-loop-node l =
     let prefix = take l.count l.trail.entries in
     record {
-      goes : Goes l.trail.entries l.count l.lit l.chains.lists l.fn.rows.clauses l.chains.keys l.chains.out;
-      found : l.found.items ++ found_in prefix l.trail.entries l.fn.rows.clauses l.chains.out ≡ l.fn.found.items ++ found_in prefix l.trail.entries l.fn.rows.clauses l.fn.chains.out;
+      goes : Goes l.trail.entries l.count l.lit l.chains.lists l.fn.store.long l.chains.keys l.chains.out;
+      found : l.found.items ++ found_in prefix l.trail.entries l.fn.store.long l.chains.out ≡ l.fn.found.items ++ found_in prefix l.trail.entries l.fn.store.long l.fn.chains.out;
       room : vec_len l.found + length l.chains.out ≤ vec_capacity l.found;
-      rows : l.rows ≡ l.fn.rows;
+      store : l.store ≡ l.fn.store;
       lists : l.chains.lists ≡ l.fn.chains.lists;
       chains_room : l.chains.room ≡ l.fn.chains.room;
       capacity : vec_capacity l.found ≡ vec_capacity l.fn.found;

@@ -1,27 +1,38 @@
-use Rattle.std.proofs.Common.{ℕ, ◌<◌, ◌≤◌, ◌-◌, length, get_or, arith, vec_len, vec_capacity, ◌∙◌}
-use Rattle.mal_store.specs.declared.slot.Slot.{Slot}
-use Rattle.mal_store.proofs.SlotLemmas.{add-slot, insert_items}
-use Rattle.mal_store.proofs.ApartLemmas.{apart-insert, fits-insert}
+use Rattle.std.proofs.Common.{◌-◌, ◌+◌, ◌≤◌, length, arith}
+use Rattle.mal_store.specs.Rowed.{listed_count}
+use Rattle.mal_store.specs.Stored.{held_in, literal_count}
+use Rattle.mal_store.proofs.HeldLemmas.{none-under, held-added}
+use Rattle.mal_store.proofs.CountLemmas.{listed-fewer}
+use Rattle.mal_store.proofs.StoreLemmas.{store-added, count-added}
 use Rattle.mal_store.proofs.store.Store.add_reserved.Goals as goal
+
+pub hold-held-requires-clause-literal_room : goal.hold-held-requires-clause-literal_room
+hold-held-requires-clause-literal_room c =
+    let s = c.self.inside in
+    let room : length c.args.lits.now ≤ listed_count s.long.clauses + s.long.literal_room - literal_count (held_in s.long.clauses s.index.entries) = rw (← c.self.view_is) at c.requires.literal_room in
+    omega (arith, room, listed-fewer s.long.clauses (held_in s.long.clauses s.index.entries) c.self.invariant.once)
+
+pub insert_reserved-requires-clause-new : goal.insert_reserved-requires-clause-new
+insert_reserved-requires-clause-new c =
+    let s = c.self.inside in
+    none-under s.long.clauses c.args.id s.index.entries (rw (← c.self.view_is) at c.requires.new)
 
 pub invariant_of-self : goal.invariant_of-self
 invariant_of-self c =
     let s = c.self.inside in
-    let below : (k : ℕ) (d : Slot) → k < c.place_of-place.result → (get_or s.slots.items k d).id < c.args.id = rw c.as_slice.ensures.value at c.place_of-place.ensures.below in
-    let above : (k : ℕ) (d : Slot) → c.place_of-place.result ≤ k → k < length s.slots.items → c.args.id ≤ (get_or s.slots.items k d).id = rw c.as_slice.ensures.value at c.place_of-place.ensures.above in
-    let bound : c.place_of-place.result ≤ length s.slots.items = rw c.as_slice.ensures.value at c.place_of-place.ensures.bound in
-    let new = rw (← c.self.view_is) at c.requires.new in
-    let room : 1 ≤ vec_capacity s.slots - vec_len s.slots = rw (← c.self.view_is) at c.requires.clause_room in
-    let more = add-slot s.literals.items c.args.lits.now c.args.id c.len.result _ s.slots.items c.place_of-place.result c.self.invariant.within c.self.invariant.rising c.place_of-place.ensures.some (omega (arith, c.len.ensures)) (omega arith) new bound below above in
-    rw (c.append_reserved.ensures.items, c.insert.ensures.items ∙ insert_items c.insert.result _ _ (c.insert.ensures.succeeds (omega arith))) (record { within = more.within; fits = fits-insert s.literals.items c.args.lits.now c.place_of-place.result _ s.slots.items (omega arith) c.self.invariant.fits; apart = apart-insert (length s.literals.items) c.place_of-place.result _ s.slots.items c.self.invariant.within (omega (arith, c.len.ensures)) c.self.invariant.apart; rising = more.rising })
+    let h = c.hold-held in
+    let room : length c.args.lits.now ≤ listed_count s.long.clauses + s.long.literal_room - literal_count (held_in s.long.clauses s.index.entries) = rw (← c.self.view_is) at c.requires.literal_room in
+    rw c.insert_reserved.ensures.entries (store-added s.long.clauses h.new.long.clauses c.args.id h.result c.args.lits.now s.long.literal_room h.new.long.literal_room s.index.entries h.ensures.long h.ensures.lits h.ensures.placed room h.ensures.total c.self.invariant)
 
 pub returns-clause-clauses : goal.returns-clause-clauses
 returns-clause-clauses c =
     let s = c.self.inside in
-    let below : (k : ℕ) (d : Slot) → k < c.place_of-place.result → (get_or s.slots.items k d).id < c.args.id = rw c.as_slice.ensures.value at c.place_of-place.ensures.below in
-    let above : (k : ℕ) (d : Slot) → c.place_of-place.result ≤ k → k < length s.slots.items → c.args.id ≤ (get_or s.slots.items k d).id = rw c.as_slice.ensures.value at c.place_of-place.ensures.above in
-    let bound : c.place_of-place.result ≤ length s.slots.items = rw c.as_slice.ensures.value at c.place_of-place.ensures.bound in
-    let new = rw (← c.self.view_is) at c.requires.new in
-    let room : 1 ≤ vec_capacity s.slots - vec_len s.slots = rw (← c.self.view_is) at c.requires.clause_room in
-    let more = add-slot s.literals.items c.args.lits.now c.args.id c.len.result _ s.slots.items c.place_of-place.result c.self.invariant.within c.self.invariant.rising c.place_of-place.ensures.some (omega (arith, c.len.ensures)) (omega arith) new bound below above in
-    rw (c.append_reserved.ensures.items, c.insert.ensures.items ∙ insert_items c.insert.result _ _ (c.insert.ensures.succeeds (omega arith)), ← c.self.view_is) more.clauses
+    let h = c.hold-held in
+    rw (c.insert_reserved.ensures.entries, ← c.self.view_is) (held-added s.long.clauses h.new.long.clauses c.args.id h.result c.args.lits.now s.index.entries h.ensures.long h.ensures.lits c.self.invariant.placed)
+
+pub returns-clause-literal_room : goal.returns-clause-literal_room
+returns-clause-literal_room c =
+    let s = c.self.inside in
+    let h = c.hold-held in
+    let count = count-added s.long.clauses h.new.long.clauses c.args.id h.result c.args.lits.now s.long.literal_room s.index.entries h.ensures.long h.ensures.lits c.self.invariant in
+    rw (c.insert_reserved.ensures.entries, ← c.self.view_is) (omega (arith, count, h.ensures.total))

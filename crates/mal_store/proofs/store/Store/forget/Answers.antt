@@ -1,26 +1,30 @@
-use Rattle.std.proofs.Common.{◌≡◌, ◌∙◌, ◌-◌, List, vec_len, vec_capacity, refl, ap, arith}
-use Rattle.std.specs.Prelude.{sum_by}
-use Rattle.mal_store.specs.declared.slot.Slot.{Slot}
-use Rattle.mal_store.specs.Stored.{Stored, held_in, literal_count}
-use Rattle.spec_node.specs.Adding.{forgetting}
-use Rattle.mal_store.proofs.ForgetLemmas.{stays, held-filter, store-filter}
-use Rattle.mal_store.proofs.OrderLemmas.{held-literals}
+use Rattle.std.proofs.Common.{◌∙◌, sym, ap, arith}
+use Rattle.mal_store.specs.Stored.{held_in, literal_count}
+use Rattle.mal_store.proofs.CountLemmas.{count-fewer}
+use Rattle.mal_store.proofs.ForgetLemmas.{forgetting-order}
+use Rattle.mal_store.proofs.StoreLemmas.{store-fewer, held-fewer}
 use Rattle.mal_store.proofs.store.Store.forget.Goals as goal
 
-pub close_up-requires : goal.close_up-requires
-close_up-requires c = rw c.take_away.ensures.items (store-filter (stays c.sort.new.ids) c.self.inside.literals.items c.self.inside.slots.items c.self.invariant)
+pub invariant_of-self : goal.invariant_of-self
+invariant_of-self c =
+    let s = c.self.inside in
+    let won = rw c.forget.ensures.clauses at c.forget.ensures.won in
+    rw (c.renumber.ensures.entries, c.forget-2.ensures.entries, c.forget.ensures.clauses) (store-fewer c.sort_ids.new.ids s.long.clauses s.long.literal_room c.forget.new.self.literal_room s.index.entries c.forget-2.ensures.rising won c.self.invariant)
 
 pub returns-clause-clauses : goal.returns-clause-clauses
 returns-clause-clauses c =
     let s = c.self.inside in
-    c.close_up.ensures.clauses
-    ∙ (ap (λ (ss : List Slot). held_in s.literals.items ss) c.take_away.ensures.items
-    ∙ (held-filter s.literals.items c.args.ids.now c.sort.new.ids c.sort.ensures.same s.slots.items ∙ ap (λ (v : Stored). forgetting c.args.ids.now v.clauses) c.self.view_is))
+    let now = held-fewer c.sort_ids.new.ids s.long.clauses s.long.literal_room s.index.entries c.forget-2.ensures.rising c.self.invariant in
+    rw (c.renumber.ensures.entries, c.forget-2.ensures.entries, c.forget.ensures.clauses, ← c.self.view_is) (now ∙ sym (forgetting-order c.args.ids.now c.sort_ids.new.ids c.sort_ids.ensures.same (held_in s.long.clauses s.index.entries)))
 
-pub returns-clause-won : goal.returns-clause-won
-returns-clause-won c =
+pub returns-clause-long : goal.returns-clause-long
+returns-clause-long c =
     let s = c.self.inside in
-    let old : literal_count c.args.self.now.clauses ≡ sum_by (λ x. x.len) s.slots.items = rw (← c.self.view_is) (held-literals s.literals.items s.slots.items c.self.invariant.within) in
-    let new = held-literals c.close_up.new.literals.items c.close_up.new.slots.items c.close_up.ensures.store.within in
-    let room : c.args.self.now.literal_room ≡ vec_capacity s.literals - vec_len s.literals = rw (← c.self.view_is) refl in
-    omega (arith, old, new, room, c.self.invariant.fits, c.close_up.ensures.total, c.close_up.ensures.literals, c.close_up.ensures.literal_room)
+    rw (← c.self.view_is) (c.forget.ensures.clauses ∙ sym (forgetting-order c.args.ids.now c.sort_ids.new.ids c.sort_ids.ensures.same s.long.clauses))
+
+pub returns-clause-literal_room : goal.returns-clause-literal_room
+returns-clause-literal_room c =
+    let s = c.self.inside in
+    let now = held-fewer c.sort_ids.new.ids s.long.clauses s.long.literal_room s.index.entries c.forget-2.ensures.rising c.self.invariant in
+    let won = rw c.forget.ensures.clauses at c.forget.ensures.won in
+    rw (c.renumber.ensures.entries, c.forget-2.ensures.entries, c.forget.ensures.clauses, ← c.self.view_is) (omega (arith, ap literal_count now, won, count-fewer c.sort_ids.new.ids (held_in s.long.clauses s.index.entries)))

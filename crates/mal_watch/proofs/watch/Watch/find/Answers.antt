@@ -17,7 +17,7 @@ returns-then-is_false_before-clause-found c =
     let last = c.index-entries-count.result in
     let is : last ≡ get_or entries (c.args.count - 1) last = rw c.entries.ensures at c.index-entries-count.is in
     let was : is_false (take (c.args.count - 1) entries) (negated last.lit) ≡ true = rw (← c.negate-lit.ensures) (sym c.is_false_before.ensures ∙ c.if-is_false_before.true) in
-    rw c.clear.ensures.items (no-walk s.store.clauses s.rows.clauses s.chains.keys s.chains.lists _ entries c.args.count last s.chains.out c.requires.some c.requires.count is was c.requires.fits).1
+    rw c.clear.ensures.items (no-walk s.store.clauses s.store.long s.chains.keys s.chains.lists _ entries c.args.count last s.chains.out c.requires.some c.requires.count is was c.requires.fits).1
 
 pub returns-then-is_false_before-clause-fits : goal.returns-then-is_false_before-clause-fits
 returns-then-is_false_before-clause-fits c =
@@ -26,7 +26,7 @@ returns-then-is_false_before-clause-fits c =
     let last = c.index-entries-count.result in
     let is : last ≡ get_or entries (c.args.count - 1) last = rw c.entries.ensures at c.index-entries-count.is in
     let was : is_false (take (c.args.count - 1) entries) (negated last.lit) ≡ true = rw (← c.negate-lit.ensures) (sym c.is_false_before.ensures ∙ c.if-is_false_before.true) in
-    rw c.clear.ensures.capacity (no-walk s.store.clauses s.rows.clauses s.chains.keys s.chains.lists _ entries c.args.count last s.chains.out c.requires.some c.requires.count is was c.requires.fits).0
+    rw c.clear.ensures.capacity (no-walk s.store.clauses s.store.long s.chains.keys s.chains.lists _ entries c.args.count last s.chains.out c.requires.some c.requires.count is was c.requires.fits).0
 
 pub walk-requires-clause-turns : goal.walk-requires-clause-turns
 walk-requires-clause-turns c =
@@ -47,14 +47,14 @@ walk-requires-clause-goes c =
     let fresh : is_false (take (c.args.count - 1) entries) (negated last.lit) ≡ false = rw (← c.negate-lit.ensures) (sym c.is_false_before.ensures ∙ c.if-is_false_before.false) in
     let turns = turns-is entries c.args.count last c.requires.some c.requires.count is fresh c.is_consistent.ensures in
     let nodes : (k : ℕ) → Has c.take.new.self.out k ↔ IsAt s.chains.keys k (negated last.lit) = rw (c.take.ensures.keys, c.negate-lit.ensures) at c.take.ensures.nodes in
-    rw (c.negate-lit.ensures, c.take.ensures.lists, c.take.ensures.keys) (before-walk s.store.clauses s.rows.clauses s.chains.keys c.take.new.self.out s.chains.out s.chains.lists _ entries c.args.count (negated last.lit) c.requires.fits turns nodes c.take.ensures.once)
+    rw (c.negate-lit.ensures, c.take.ensures.lists, c.take.ensures.keys) (before-walk s.store.clauses s.store.long s.chains.keys c.take.new.self.out s.chains.out s.chains.lists _ entries c.args.count (negated last.lit) c.requires.fits turns nodes c.take.ensures.once)
 
 pub walk-requires-clause-room : goal.walk-requires-clause-room
 walk-requires-clause-room c =
     let s = c.args.self.now in
     let w = c.requires.fits in
     let nodes : (k : ℕ) → Has c.take.new.self.out k ↔ IsAt s.chains.keys k c.negate-lit.result = rw c.take.ensures.keys at c.take.ensures.nodes in
-    let few : length c.take.new.self.out ≤ length s.rows.clauses = out-length c.negate-lit.result s.chains.lists s.rows.clauses s.chains.keys c.take.new.self.out w.watching w.apart nodes c.take.ensures.once in
+    let few : length c.take.new.self.out ≤ length s.store.long = out-length c.negate-lit.result s.chains.lists s.store.long s.chains.keys c.take.new.self.out w.watching w.apart nodes c.take.ensures.once in
     omega (arith, few, w.room, c.clear.ensures.len, c.clear.ensures.capacity)
 
 pub returns-clause-found : goal.returns-clause-found
@@ -66,9 +66,9 @@ returns-clause-found c =
     let fresh : is_false (take (c.args.count - 1) entries) (negated last.lit) ≡ false = rw (← c.negate-lit.ensures) (sym c.is_false_before.ensures ∙ c.if-is_false_before.false) in
     let turns = turns-is entries c.args.count last c.requires.some c.requires.count is fresh c.is_consistent.ensures in
     let nodes : (k : ℕ) → Has c.take.new.self.out k ↔ IsAt s.chains.keys k (negated last.lit) = rw (c.take.ensures.keys, c.negate-lit.ensures) at c.take.ensures.nodes in
-    let goes : Goes entries c.args.count (negated last.lit) s.chains.lists s.rows.clauses c.walk.new.chains.keys [] = rw (c.walk.ensures.lists, c.take.ensures.lists, c.negate-lit.ensures) at c.walk.ensures.goes in
-    let moved : IsPermutation (found_in (take c.args.count entries) entries s.rows.clauses c.take.new.self.out) c.sort.new.found.items = rw (c.walk.ensures.found, c.clear.ensures.items) at c.sort.ensures.same in
-    let found = after-walk s.store.clauses s.rows.clauses s.chains.keys c.take.new.self.out s.chains.out c.walk.new.chains.keys c.sort.new.found.items s.chains.lists _ entries c.args.count (negated last.lit) c.requires.fits turns nodes c.take.ensures.once goes moved c.sort.ensures.order in
+    let goes : Goes entries c.args.count (negated last.lit) s.chains.lists s.store.long c.walk.new.chains.keys [] = rw (c.walk.ensures.lists, c.take.ensures.lists, c.negate-lit.ensures) at c.walk.ensures.goes in
+    let moved : IsPermutation (found_in (take c.args.count entries) entries s.store.long c.take.new.self.out) c.sort.new.found.items = rw (c.walk.ensures.found, c.clear.ensures.items) at c.sort.ensures.same in
+    let found = after-walk s.store.clauses s.store.long s.chains.keys c.take.new.self.out s.chains.out c.walk.new.chains.keys c.sort.new.found.items s.chains.lists _ entries c.args.count (negated last.lit) c.requires.fits turns nodes c.take.ensures.once goes moved c.sort.ensures.order in
     found.found_is
 
 pub returns-clause-fits : goal.returns-clause-fits
@@ -80,8 +80,8 @@ returns-clause-fits c =
     let fresh : is_false (take (c.args.count - 1) entries) (negated last.lit) ≡ false = rw (← c.negate-lit.ensures) (sym c.is_false_before.ensures ∙ c.if-is_false_before.false) in
     let turns = turns-is entries c.args.count last c.requires.some c.requires.count is fresh c.is_consistent.ensures in
     let nodes : (k : ℕ) → Has c.take.new.self.out k ↔ IsAt s.chains.keys k (negated last.lit) = rw (c.take.ensures.keys, c.negate-lit.ensures) at c.take.ensures.nodes in
-    let goes : Goes entries c.args.count (negated last.lit) s.chains.lists s.rows.clauses c.walk.new.chains.keys [] = rw (c.walk.ensures.lists, c.take.ensures.lists, c.negate-lit.ensures) at c.walk.ensures.goes in
-    let moved : IsPermutation (found_in (take c.args.count entries) entries s.rows.clauses c.take.new.self.out) c.sort.new.found.items = rw (c.walk.ensures.found, c.clear.ensures.items) at c.sort.ensures.same in
-    let found = after-walk s.store.clauses s.rows.clauses s.chains.keys c.take.new.self.out s.chains.out c.walk.new.chains.keys c.sort.new.found.items s.chains.lists _ entries c.args.count (negated last.lit) c.requires.fits turns nodes c.take.ensures.once goes moved c.sort.ensures.order in
+    let goes : Goes entries c.args.count (negated last.lit) s.chains.lists s.store.long c.walk.new.chains.keys [] = rw (c.walk.ensures.lists, c.take.ensures.lists, c.negate-lit.ensures) at c.walk.ensures.goes in
+    let moved : IsPermutation (found_in (take c.args.count entries) entries s.store.long c.take.new.self.out) c.sort.new.found.items = rw (c.walk.ensures.found, c.clear.ensures.items) at c.sort.ensures.same in
+    let found = after-walk s.store.clauses s.store.long s.chains.keys c.take.new.self.out s.chains.out c.walk.new.chains.keys c.sort.new.found.items s.chains.lists _ entries c.args.count (negated last.lit) c.requires.fits turns nodes c.take.ensures.once goes moved c.sort.ensures.order in
     let capacity : vec_capacity c.sort.new.found ≡ vec_capacity s.found = c.sort.ensures.capacity ∙ (c.walk.ensures.capacity ∙ c.clear.ensures.capacity) in
-    rw (c.walk.ensures.out, c.walk.ensures.rows, c.walk.ensures.lists, c.take.ensures.lists, capacity) found.follows
+    rw (c.walk.ensures.out, c.walk.ensures.store, c.walk.ensures.lists, c.take.ensures.lists, capacity) found.follows

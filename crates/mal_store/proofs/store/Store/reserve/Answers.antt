@@ -1,0 +1,19 @@
+use Rattle.std.proofs.Common.{◌+◌, ◌-◌, ◌≤◌, Result, Ok, Err, arith}
+use Rattle.std.specs.Prelude.{OnOk}
+use Rattle.mal_store.specs.Rowed.{listed_count}
+use Rattle.mal_store.specs.Stored.{held_in, literal_count}
+use Rattle.mal_store.proofs.HeldLemmas.{held-length}
+use Rattle.mal_store.proofs.CountLemmas.{count-listed}
+use Rattle.mal_store.proofs.store.Store.reserve.Goals as goal
+
+-- where there is room, there is more
+on_ok : {A B : Type 0} (r : Result A B) (P Q : Type 0) → (P → Q) → OnOk r P → OnOk r Q
+on_ok (Ok x) P Q f p = f p
+on_ok (Err x) P Q f p = tt
+
+pub returns-clause-for_literals : goal.returns-clause-for_literals
+returns-clause-for_literals c =
+    let s = c.self.inside in
+    let long = s.long.clauses in
+    let es = s.index.entries in
+    rw (c.reserve-2.ensures.clauses, c.reserve.ensures.entries) (on_ok c.reserve-2.result (c.in-Some-checked_add.total ≤ c.reserve-2.new.self.literal_room) (c.args.literals ≤ listed_count long + c.reserve-2.new.self.literal_room - literal_count (held_in long es)) (λ l. omega (arith, l, c.len.ensures, c.in-Some.ensures, c.in-Some-checked_add.ensures, held-length long es, count-listed long (held_in long es) c.self.invariant.once)) c.reserve-2.ensures.for_literals)
