@@ -10,4 +10,5 @@ mod WonLemmas
 mod HeldLemmas
 mod CountLemmas
 mod SettledLemmas
+mod ShortLemmas
 mod StoreLemmas

@@ -1,5 +1,6 @@
-use Rattle.std.specs.Prelude.{◌≡◌, ℕ, zero, suc, ◌+◌, ◌≤◌, ◌<◌, ◌⊎◌, Bool, nat_lt, if◌then◌else◌, List, [], ◌∷◌, ◌++◌, length, map, sum_by, slice_index_or}
+use Rattle.std.specs.Prelude.{◌≡◌, ℕ, zero, suc, ◌+◌, ◌≤◌, ◌<◌, ◌⊎◌, Bool, nat_lt, nat_le, if◌then◌else◌, List, [], ◌∷◌, ◌++◌, length, map, filter, sum_by, slice_index_or}
 use Rattle.mal_base.specs.NumberedClause.{NumberedClause}
+use Rattle.spec_node.specs.Sound.{NumbersRise}
 use Rattle.mal_store.specs.declared.entry.Entry.{Entry}
 use Rattle.mal_store.specs.declared.entry.Held.{Held}
 use Rattle.mal_store.specs.declared.entry.Held.TheVariants.{Empty, One, Long}
@@ -64,9 +65,31 @@ if_long f c = if is_long c then f c else 0
 abbrev pub AreLong : List NumberedClause → List NumberedClause → Type 0
 AreLong long clauses = (f : NumberedClause → ℕ) → sum_by f long ≡ sum_by (if_long f) clauses
 
--- each long clause stands where its entry says and has an entry; and the room in the list of literals is enough for all
+-- the clauses of at most one literal, and their numbers
+abbrev pub is_short : NumberedClause → Bool
+is_short c = nat_le (length c.lits) 1
+
+abbrev pub short_clauses : List NumberedClause → List NumberedClause
+short_clauses clauses = filter is_short clauses
+
+abbrev pub short_ids : List NumberedClause → List ℕ
+short_ids clauses = map (λ c. c.id) (short_clauses clauses)
+
+-- numbers in rising order with one more
+abbrev pub with_number : ℕ → List ℕ → List ℕ
+with_number id [] = id ∷ []
+with_number id (n ∷ ns) = if nat_le id n then id ∷ (n ∷ ns) else n ∷ with_number id ns
+
+-- the numbers of the short clauses with that of one more, if it is short
+abbrev pub with_short : NumberedClause → List ℕ → List ℕ
+with_short c short = if is_short c then with_number c.id short else short
+
+-- clauses have different numbers, which rise; those of the short ones stand in a list of their own; each long clause
+-- stands where its entry says and has an entry; and the room in the list of literals is enough for all
 -- literals, so that also those that do not stand in it leave room behind when they go
-pub record IsStore (long : List NumberedClause) (room : ℕ) (entries : List Entry) : Type 0 where
+pub record IsStore (long : List NumberedClause) (room : ℕ) (entries : List Entry) (short : List ℕ) : Type 0 where
+  pub rising : NumbersRise 0 (held_in long entries)
+  pub short_is : short ≡ short_ids (held_in long entries)
   pub placed : ArePlaced long entries
   pub once : AreLong long (held_in long entries)
   pub enough : literal_count (held_in long entries) ≤ listed_count long + room

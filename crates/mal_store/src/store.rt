@@ -1,11 +1,11 @@
 //! A map from numbers to clauses.
 
-ghost use Rattle.std.specs.Prelude.{◌≡◌, ℕ, ◌+◌, ◌≤◌, ◌<◌, [], length, map, slice_get, slice_index_or, Some, None, OnOk, MatchOption};
+ghost use Rattle.std.specs.Prelude.{◌≡◌, ℕ, ◌+◌, ◌≤◌, ◌<◌, [], length, map, slice_get, slice_index_or, Some, None, OnOk, MatchOption, vec_len, vec_capacity};
 ghost use Rattle.std.specs.List.Sorted.{IsNonDecreasing, IsPermutation};
 ghost use Rattle.mal_base.specs.NumberedClause.{lits_under};
 ghost use Rattle.spec_node.specs.Adding.{with_clause, forgetting};
 ghost use Rattle.mal_store.specs.Rowed.{no_row, listed_count};
-ghost use Rattle.mal_store.specs.Stored.{lits_held, IsPlaced, settled_in, literal_count, with_long};
+ghost use Rattle.mal_store.specs.Stored.{lits_held, IsPlaced, settled_in, literal_count, with_long, with_short, short_clauses};
 
 use crate::clause_arena::ClauseArena;
 use crate::entry::{Entry, Held};
@@ -18,15 +18,18 @@ use std::marker::Model;
 /// Clauses by rising number, and those of two and more literals, the long ones, also in the order in which they came:
 /// only there their literals stand, and the index says where. A place in that list stays what it is while clauses are
 /// added, whatever their numbers are, since new ones stand behind; where clauses are forgotten, the others move up, and
-/// the index is told. Contracts see both lists, and how many clauses and literals there is room for.
+/// the index is told. The numbers of the other clauses, the short ones, rise in a list of their own. Contracts see both
+/// lists of clauses, and how many clauses and literals there is room for.
 #[derive(Drop)]
 pub struct Store {
     long: ClauseArena,
+    short: Vec<ClauseId>,
     index: Index,
 }
 
 impl Model for Store {
     ghost use Rattle.std.specs.Prelude.{◌+◌, ◌-◌, min};
+    ghost use Rattle.std.specs.Vec.{vec_len, vec_capacity};
     ghost use Rattle.mal_store.specs.Rowed.{listed_count};
     ghost use Rattle.mal_store.specs.Stored.{Stored, IsStore, held_in, literal_count};
 
@@ -35,11 +38,11 @@ impl Model for Store {
     ghost view = { λ s. record {
       clauses = held_in s.long.clauses s.index.entries;
       long = s.long.clauses;
-      clause_room = min s.long.clause_room s.index.room;
+      clause_room = min (min s.long.clause_room s.index.room) (vec_capacity s.short - vec_len s.short);
       literal_room = listed_count s.long.clauses + s.long.literal_room - literal_count (held_in s.long.clauses s.index.entries);
     } };
 
-    ghost invariant = { λ s. IsStore s.long.clauses s.long.literal_room s.index.entries };
+    ghost invariant = { λ s. IsStore s.long.clauses s.long.literal_room s.index.entries s.short.items };
 }
 
 impl Store {
@@ -50,6 +53,7 @@ impl Store {
     {
         Store {
             long: ClauseArena::new(alloc),
+            short: Vec::new(alloc),
             index: Index::new(alloc),
         }
     }
@@ -70,6 +74,7 @@ impl Store {
             return Err(AllocError);
         };
         self.index.reserve(clauses)?;
+        self.short.reserve(clauses)?;
         self.long.reserve(clauses, total)
     }
 
@@ -83,6 +88,7 @@ impl Store {
         ensures clause_room { self.old.clause_room ≤ self.new.clause_room + 1 }
         ensures literal_room { self.old.literal_room ≤ self.new.literal_room + length lits.now }
     {
+        add_short(&mut self.short, id, lits);
         let held = hold(&mut self.long, id, lits);
         self.index.insert_reserved(Entry { id, held });
     }
@@ -99,6 +105,7 @@ impl Store {
         ensures rising { IsNonDecreasing ids.new }
     {
         ids::sort_ids(ids);
+        ids::take_ids_away(&mut self.short, ids);
         self.long.forget(ids);
         self.index.forget(ids);
         renumber(&mut self.index, &self.long);
@@ -127,6 +134,25 @@ impl Store {
         match self.index.get(id) {
             None => None,
             Some(entry) => Some(lits_of(&self.long, &entry.held)),
+        }
+    }
+
+    /// The number of short clauses, those of at most one literal.
+    pub fn count_short(&self) -> usize
+        ensures { result ≡ length (short_clauses self.now.clauses) }
+    {
+        self.short.len()
+    }
+
+    /// The short clause at a place among them, counted from 0 by rising number.
+    pub fn short_at(&self, place: usize) -> (ClauseId, &[Lit])
+        requires { place < length (short_clauses self.now.clauses) }
+        ensures { slice_get (short_clauses self.now.clauses) place ≡ Some (record { id = result.0; lits = result.1.now }) }
+    {
+        let id = self.short[place];
+        match self.get(id) {
+            Some(lits) => (id, lits),
+            None => (id, &[]),
         }
     }
 
@@ -176,6 +202,19 @@ impl ClauseView for Store {
 
     fn get(&self, id: ClauseId) -> Option<&[Lit]> {
         Store::get(self, id)
+    }
+}
+
+/// Adds the number of a clause to those of the short ones, which rise, if it is short. Takes no memory.
+fn add_short(short: &mut Vec<ClauseId>, id: ClauseId, lits: &[Lit])
+    requires rising { IsNonDecreasing short.old.items }
+    requires room { vec_len short.old < vec_capacity short.old }
+    ensures items { short.new.items ≡ with_short (record { id = id; lits = lits.now }) short.old.items }
+    ensures len { vec_len short.new ≤ vec_len short.old + 1 }
+    ensures capacity { vec_capacity short.new ≡ vec_capacity short.old }
+{
+    if lits.len() <= 1 {
+        ids::insert_id(short, id);
     }
 }
 

@@ -1,5 +1,5 @@
-use Rattle.std.proofs.Common.{◌≡◌, ℕ, ◌+◌, ◌<◌, ◌≤◌, Bool, true, false, not, ◌&&◌, ◌||◌, cond, eqb, List, [], ◌∷◌, ◌++◌, length, map, drop, get_or, zero, suc, Option, Some, None, refl, sym, ap, ◌∙◌, arith}
-use Rattle.std.specs.Prelude.{nat_le, nat_lt, nat_eq, filter}
+use Rattle.std.proofs.Common.{◌≡◌, ℕ, ◌+◌, ◌<◌, ◌≤◌, inl, inr, Bool, true, false, not, ◌&&◌, ◌||◌, cond, eqb, List, [], ◌∷◌, ◌++◌, length, map, drop, get_or, zero, suc, Option, Some, None, refl, sym, ap, ◌∙◌, arith}
+use Rattle.std.specs.Prelude.{nat_le, nat_lt, nat_eq, filter, slice_get}
 use Rattle.std.specs.List.{AllByRecursion}
 use Rattle.std.specs.Option.{unwrap_or, option_map_or}
 use Rattle.std.proofs.lemmas.List.Sums.{sum_by-cons}
@@ -14,6 +14,8 @@ use Rattle.spec_node.specs.Batch.{after_all, after_left, after_literal, before_l
 use Rattle.spec_node.specs.Sound.{left_is_true}
 use Rattle.spec_node.specs.Value.{is_true, is_false, level_of, open_count, left_literal}
 use Rattle.mal_trail.proofs.FoundLemmas.{and_true, none_some, found_passes, calm, after_all-ended}
+use Rattle.mal_store.specs.Stored.{Among, is_short, short_clauses}
+use Rattle.mal_store.proofs.AmongLemmas.{among-get, among-passed}
 use Rattle.mal_watch.specs.declared.found.Found.{Found}
 use Rattle.mal_watch.specs.Finding.{is_pending, found_of, pending, after_found}
 
@@ -23,12 +25,26 @@ le-nat_le a b = grind (arith, nat_tests)
 lt-nat_le : (a b : ℕ) → b < a → nat_le a b ≡ false
 lt-nat_le a b = grind (arith, nat_tests)
 
--- the clauses of at most one literal are in the batch of no entry
-pub short : (c : NumberedClause) → length c.lits ≤ 1 → is_in_batch [] c ≡ true
-short c h = le-nat_le (length c.lits) 1 h
+-- where all clauses are of some variables, so is one among them
+pub within-among : (room : ℕ) (cs : List NumberedClause) (c : NumberedClause) → are_within room cs ≡ true → Among c cs → is_within room c.lits ≡ true
+within-among room [] c w h = absurd h
+within-among room (d ∷ ds) c w (inl e) = rw e (and_true (is_within room d.lits) (are_within room ds) w).0
+within-among room (d ∷ ds) c w (inr h) = within-among room ds c (and_true (is_within room d.lits) (are_within room ds) w).1 h
 
-pub long : (c : NumberedClause) → 1 < length c.lits → is_in_batch [] c ≡ false
-long c h = lt-nat_le (length c.lits) 1 h
+-- and one at a place of the short ones, which is in the batch of no entry
+pub within-short : (room : ℕ) (cs : List NumberedClause) (i : ℕ) (c : NumberedClause) → are_within room cs ≡ true → slice_get (short_clauses cs) i ≡ Some c → is_within room c.lits ≡ true
+within-short room cs i c w e = within-among room cs c w (among-passed is_short c cs (among-get (short_clauses cs) i c e)).0
+
+pub short-in : (cs : List NumberedClause) (i : ℕ) (c : NumberedClause) → slice_get (short_clauses cs) i ≡ Some c → is_in_batch [] c ≡ true
+short-in cs i c e = (among-passed is_short c cs (among-get (short_clauses cs) i c e)).1
+
+pub short-batch : (cs : List NumberedClause) → batch [] (short_clauses cs) ≡ batch [] cs
+short-batch [] = refl
+short-batch (c ∷ cs) = by_test (is_short c) refl (short-batch cs)
+  where
+    by_test : (b : Bool) → is_short c ≡ b → batch [] (short_clauses cs) ≡ batch [] cs → batch [] (cond b (c ∷ short_clauses cs) (short_clauses cs)) ≡ cond b (c ∷ batch [] cs) (batch [] cs)
+    by_test true t f = rw t (ap (λ (ds : List NumberedClause). c ∷ ds) f)
+    by_test false t f = f
 
 is_one : (n : ℕ) → eqb n 1 ≡ true → n ≡ 1
 is_one n = grind (arith, nat_tests)

@@ -13,8 +13,7 @@ use Rattle.mal_watch.specs.Watching.{row_at, partner, other_key}
 use Rattle.mal_store.specs.Stored.{Among}
 use Rattle.mal_watch.specs.Following.{AreSingle, Follows}
 use Rattle.mal_watch.proofs.HasLemmas.{has-none}
-use Rattle.mal_store.proofs.AmongLemmas.{among-at, among-place, among-passed, among-passes}
-use Rattle.mal_watch.proofs.HeldLemmas.{rise-passed}
+use Rattle.mal_store.proofs.AmongLemmas.{among-at, among-place, among-passed, among-passes, rise-passed}
 
 -- two nodes further, and a clause further
 shift-row : (c : NumberedClause) (rows : List NumberedClause) (k : ℕ) → row_at (c ∷ rows) (suc (suc k)) ≡ row_at rows k

@@ -22,8 +22,7 @@ use Rattle.mal_watch.specs.declared.found.Found.{Found}
 use Rattle.mal_store.specs.Stored.{Among, is_long, with_long}
 use Rattle.mal_watch.specs.Following.{AreSingle, Follows}
 use Rattle.mal_watch.proofs.HasLemmas.{has-none, has-cases}
-use Rattle.mal_store.proofs.AmongLemmas.{among-at}
-use Rattle.mal_watch.proofs.HeldLemmas.{among-with, with-among, under-none, rise-with}
+use Rattle.mal_store.proofs.AmongLemmas.{among-at, among-with, with-among, under-none, rise-with}
 use Rattle.mal_watch.proofs.TurnLemmas.{partner-even, partner-odd, only-last, goes-start, goes-end, goes-apart}
 use Rattle.mal_watch.proofs.FoundLemmas.{found-is}
 use Rattle.mal_watch.proofs.FalseLemmas.{true-more, false-more, open-less}

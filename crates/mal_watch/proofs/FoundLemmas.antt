@@ -19,8 +19,7 @@ use Rattle.mal_watch.specs.Watching.{row_at, partner, other_key, IsWatching}
 use Rattle.mal_watch.specs.declared.found.Found.{Found}
 use Rattle.mal_watch.specs.Finding.{is_pending, found_of, pending, found_in}
 use Rattle.mal_watch.proofs.HasLemmas.{has-none, has-head, has-tail, has-cases, has-contains, contains-has, distinct-from, long-below}
-use Rattle.mal_store.proofs.AmongLemmas.{among-passed, among-passes, among-place, among-at}
-use Rattle.mal_watch.proofs.HeldLemmas.{rise-passed, rise-under}
+use Rattle.mal_store.proofs.AmongLemmas.{among-passed, among-passes, among-place, among-at, rise-passed, rise-under}
 use Rattle.mal_watch.proofs.WalkLemmas.{partner-below, row-below}
 use Rattle.mal_watch.proofs.TurnLemmas.{same-row, partner-other, partner-half}
 

@@ -2,7 +2,6 @@
 mod HasLemmas
 mod ChainLemmas
 mod FalseLemmas
-mod HeldLemmas
 mod BatchLemmas
 mod WalkLemmas
 mod CountLemmas

@@ -19,13 +19,11 @@ pub fn handle_short(trail: &mut Trail, store: &Store) -> Option<ClauseId>
     ensures processed { trail.new.processed ≡ trail.old.processed }
     ensures room { trail.new.room ≡ trail.old.room }
 {
-    for place in 0..store.len() {
-        let (id, lits) = store.at(place);
-        if lits.len() <= 1 {
-            match handle_clause(trail, 0, id, lits) {
-                Some(id) => return Some(id),
-                None => {}
-            }
+    for place in 0..store.count_short() {
+        let (id, lits) = store.short_at(place);
+        match handle_clause(trail, 0, id, lits) {
+            Some(id) => return Some(id),
+            None => {}
         }
     }
     None
