@@ -29,7 +29,7 @@ get_or-same (e ∷ es) (suc k) d f l = get_or-same es k d f (omega arith)
 pub test_lt : (a b : ℕ) → nat_lt a b ≡ true → a < b
 test_lt a b = grind (arith, nat_tests)
 
-lt_test : (a b : ℕ) → a < b → nat_lt a b ≡ true
+pub lt_test : (a b : ℕ) → a < b → nat_lt a b ≡ true
 lt_test a b = grind (arith, nat_tests)
 
 pub test_not : (a b : ℕ) → nat_lt a b ≡ false → b ≤ a
@@ -44,7 +44,7 @@ eq_not a b = grind (arith, nat_tests)
 eq_yes : (a b : ℕ) → a ≡ b → nat_eq a b ≡ true
 eq_yes a b = grind (arith, nat_tests)
 
-yes_eq : (a b : ℕ) → nat_eq a b ≡ true → a ≡ b
+pub yes_eq : (a b : ℕ) → nat_eq a b ≡ true → a ≡ b
 yes_eq a b = grind (arith, nat_tests)
 
 -- entries of numbers below one stand in front of the others

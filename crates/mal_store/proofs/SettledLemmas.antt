@@ -10,23 +10,15 @@ use Rattle.mal_store.specs.Indexed.{is_kept, settled}
 use Rattle.mal_store.specs.Rowed.{no_row, is_left}
 use Rattle.mal_store.specs.Stored.{Among, entry_clause, held_in, IsPlaced, ArePlaced, settled_in}
 use Rattle.mal_store.proofs.AmongLemmas.{among-at, among-place, among-passed, among-passes}
+use Rattle.mal_store.proofs.EntryLemmas.{test_lt, test_not, yes_eq}
 use Rattle.mal_store.proofs.CountLemmas.{has_number, same-number}
 
 -- the number of the long clause at a place
 abbrev id_at : List NumberedClause → ℕ → ℕ
 id_at long k = (get_or long k no_row).id
 
-eq_yes : (a b : ℕ) → nat_eq a b ≡ true → a ≡ b
-eq_yes a b = grind (arith, nat_tests)
-
 eq_not : (a b : ℕ) → nat_eq a b ≡ false → a ≡ b → ⊥
 eq_not a b = grind (arith, nat_tests)
-
-lt_not : (a b : ℕ) → nat_lt a b ≡ false → b ≤ a
-lt_not a b = grind (arith, nat_tests)
-
-lt_yes : (a b : ℕ) → nat_lt a b ≡ true → a < b
-lt_yes a b = grind (arith, nat_tests)
 
 -- where the first long clauses, so many, stand at their places, a short one is as it was
 settled-empty : (now : List NumberedClause) (n id : ℕ) → settled_in now n (record { id = id; held = Empty }) ≡ record { id = id; held = Empty }
@@ -66,13 +58,13 @@ place-found now (suc n) id was k l h e = by_test (place-found now n id was k (om
     before t = by_order (nat_lt k n) refl
       where
         by_order : (b : Bool) → nat_lt k n ≡ b → k < n
-        by_order true o = lt_yes k n o
+        by_order true o = test_lt k n o
         by_order false o =
-            let same : k ≡ n = omega (arith, h, lt_not k n o) in
+            let same : k ≡ n = omega (arith, h, test_not k n o) in
             absurd (eq_not id (id_at now n) t (sym e ∙ ap (λ (i : ℕ). id_at now i) same))
 
     by_test : (k < n → id_at now k ≡ id → (place_in now n id was < length now) × (id_at now (place_in now n id was) ≡ id)) → (b : Bool) → nat_eq id (id_at now n) ≡ b → (cond b n (place_in now n id was) < length now) × (id_at now (cond b n (place_in now n id was)) ≡ id)
-    by_test f true t = (omega arith, sym (eq_yes id (id_at now n) t))
+    by_test f true t = (omega arith, sym (yes_eq id (id_at now n) t))
     by_test f false t = f (before t) e
 
 -- an entry that stays has the same clause then

@@ -10,16 +10,8 @@ use Rattle.spec_node.specs.Adding.{with_clause, forgetting}
 use Rattle.spec_node.specs.Sound.{NumbersRise}
 use Rattle.mal_store.specs.Rowed.{is_left}
 use Rattle.mal_store.specs.Stored.{Among, is_short, short_clauses, short_ids, with_number, with_short}
+use Rattle.mal_store.proofs.EntryLemmas.{test_lt, lt_test, test_not}
 use Rattle.mal_store.proofs.AmongLemmas.{among-get, among-passed, rise-passed, rise-under, under-none}
-
-lt_yes : (a b : ℕ) → nat_lt a b ≡ true → a < b
-lt_yes a b = grind (arith, nat_tests)
-
-yes_lt : (a b : ℕ) → a < b → nat_lt a b ≡ true
-yes_lt a b = grind (arith, nat_tests)
-
-lt_not : (a b : ℕ) → nat_lt a b ≡ false → b ≤ a
-lt_not a b = grind (arith, nat_tests)
 
 yes_le : (a b : ℕ) → a ≤ b → nat_le a b ≡ true
 yes_le a b = grind (arith, nat_tests)
@@ -33,7 +25,7 @@ insert_ids {A} {B} r xs ys h = rw h refl
 
 -- numbers below one stand in front of the others
 pub numbers-part : (id : ℕ) (ns : List ℕ) → IsNonDecreasing ns → IsPartitionedBy (λ (n : ℕ). nat_lt n id) ns
-numbers-part id ns h i j d a l t = yes_lt (get_or ns i d) id (omega (arith, h i j d a l, lt_yes (get_or ns j d) id t))
+numbers-part id ns h i j d a l t = lt_test (get_or ns i d) id (omega (arith, h i j d a l, test_lt (get_or ns j d) id t))
 
 pub number-at : (id : ℕ) (ns : List ℕ) (place : ℕ) → place ≤ length ns → ((k d : ℕ) → k < place → get_or ns k d < id) → ((k d : ℕ) → place ≤ k → k < length ns → id ≤ get_or ns k d) → with_number id ns ≡ insert ns place id
 number-at id [] zero l b a = refl
@@ -87,15 +79,15 @@ short-with low c (d ∷ ds) t r h = by_order (nat_lt c.id d.id) refl (short-with
     above e = not_le c.id d.id (by_less (nat_lt d.id c.id) refl)
       where
         by_less : (b : Bool) → nat_lt d.id c.id ≡ b → d.id < c.id
-        by_less true u = lt_yes d.id c.id u
-        by_less false u = absurd (h d (inl refl) (omega (arith, lt_not c.id d.id e, lt_not d.id c.id u)))
+        by_less true u = test_lt d.id c.id u
+        by_less false u = absurd (h d (inl refl) (omega (arith, test_not c.id d.id e, test_not d.id c.id u)))
 
     by_short : (b : Bool) → nat_le c.id d.id ≡ false → short_ids (with_clause c ds) ≡ with_number c.id (short_ids ds) → ids (cond b (d ∷ short_clauses (with_clause c ds)) (short_clauses (with_clause c ds))) ≡ with_number c.id (ids (cond b (d ∷ short_clauses ds) (short_clauses ds)))
     by_short true e f = rw e (ap (λ (ns : List ℕ). d.id ∷ ns) f)
     by_short false e f = f
 
     by_order : (b : Bool) → nat_lt c.id d.id ≡ b → short_ids (with_clause c ds) ≡ with_number c.id (short_ids ds) → short_ids (cond b (c ∷ (d ∷ ds)) (d ∷ with_clause c ds)) ≡ with_number c.id (short_ids (d ∷ ds))
-    by_order true e f = rw t (sym (in-front c.id d.id (d ∷ ds) (omega arith, r.1) (omega (arith, lt_yes c.id d.id e))))
+    by_order true e f = rw t (sym (in-front c.id d.id (d ∷ ds) (omega arith, r.1) (omega (arith, test_lt c.id d.id e))))
     by_order false e f = by_short (is_short d) (above e) f
 
 pub long-without : (c : NumberedClause) (cs : List NumberedClause) → is_short c ≡ false → short_ids (with_clause c cs) ≡ short_ids cs
