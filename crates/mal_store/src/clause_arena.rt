@@ -67,7 +67,7 @@ impl ClauseArena {
         }
     }
 
-    /// Makes room for so many clauses and literals more. There are fewer than 2^32 clauses, and fewer than 2^32 literals.
+    /// Makes room for so many clauses and literals more. There are fewer than 2^32 of either.
     pub fn reserve(&mut self, clauses: usize, literals: usize) -> Result<(), AllocError>
         ensures clauses { self.new.clauses ≡ self.old.clauses }
         ensures for_clauses { OnOk result (clauses ≤ self.new.clause_room) }

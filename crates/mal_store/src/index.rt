@@ -154,8 +154,8 @@ fn are_below(entries: &[Entry], number: u64) -> bool
     last.id.number() < number
 }
 
-/// Where the entry of a number stands if numbers are dense: those of the original clauses, which begin with 1, and those
-/// that one solver derives, each 64 above the one before it, up to the last.
+/// Where the entry of a number stands if numbers are dense: those of the original clauses, which begin with 1, and
+/// those that one solver derives, each 64 above the one before it, up to the last.
 fn guess_of(entries: &[Entry], number: u64) -> usize {
     if number < FIRST_DERIVED {
         return number.saturating_sub(1) as usize;
@@ -203,7 +203,8 @@ fn get_in(entries: &[Entry], id: ClauseId) -> Option<&Entry>
     }
 }
 
-/// Adds an entry to entries by rising number, under a number that has none, where there is room for it. Takes no memory.
+/// Adds an entry to entries by rising number, under a number that has none, where there is room for it. Takes no
+/// memory.
 fn insert_in(entries: &mut Vec<Entry>, entry: Entry)
     requires rising { EntriesRise 1 entries.old.items }
     requires new { entry_under entry.id entries.old.items ≡ None }

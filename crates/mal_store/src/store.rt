@@ -67,8 +67,8 @@ impl Store {
         ensures more_clauses { self.old.clause_room ≤ self.new.clause_room }
         ensures more_literals { self.old.literal_room ≤ self.new.literal_room }
     {
-        // Of no clause more than three literals stand elsewhere than in the list of literals; there is room in it for these
-        // too, so that what any clause leaves behind when it goes is room for any other.
+        // Of no clause more than three literals stand elsewhere than in the list of literals; there is room in it for
+        // these too, so that what any clause leaves behind when it goes is room for any other.
         let Some(beside) = self.index.len().checked_mul(3) else {
             return Err(AllocError);
         };

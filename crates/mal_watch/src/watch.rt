@@ -18,9 +18,9 @@ use mal_store::{Store, sort_ids};
 use mal_trail::{Engine, Listed, Trail};
 use std::alloc::{AllocError, Global};
 
-/// The clauses, and for each of two or more literals, in the order in which these came, the two literals that it watches.
-/// It fits a trail where, under each front of the handled entries, a watched literal is
-/// false only where the other watched one of its clause is true, or all others are false but that one.
+/// The clauses, and for each of two or more literals, in the order in which these came, the two literals that it
+/// watches. It fits a trail where, under each front of the handled entries, a watched literal is false only where the
+/// other watched one of its clause is true, or all others are false but that one.
 #[derive(Drop)]
 pub struct Watch {
     store: Store,
