@@ -1,6 +1,7 @@
 //! Accounts that are read, and texts that are none.
 
 use mal_account::{fault_line, read};
+use mal_history::History;
 use std::alloc::Global;
 use std::test::Fail;
 
@@ -8,6 +9,14 @@ use std::test::Fail;
 fn told(alloc: Global, text: &[u8]) -> Result<Vec<u8>, Fail> {
     let fault = read(alloc, text).err().ok_or("an account")?;
     Ok(fault_line(alloc, fault)?.ok_or("no memory")?)
+}
+
+/// The line of the first event.
+fn first_line(history: &History) -> Result<u64, Fail> {
+    if history.events().is_empty() {
+        return Err("no event".into());
+    }
+    Ok(history.line(0))
 }
 
 /// The script and the history of a text, one behind another, and the line of the history's first event.
@@ -18,7 +27,7 @@ fn again(alloc: Global, text: &[u8]) -> Result<(Vec<u8>, u64), Fail> {
             let mut text = mal_script::write(alloc, &account.script)?;
             let history = mal_history::write(alloc, &account.history)?;
             text.extend_from_slice(history.as_slice())?;
-            Ok((text, account.history.line(0)))
+            Ok((text, first_line(&account.history)?))
         }
     }
 }

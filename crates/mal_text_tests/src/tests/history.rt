@@ -34,11 +34,19 @@ fn histories_are_read_and_written_again(rt: HostRuntime) -> Result<(), Fail> {
     Ok(())
 }
 
+/// The lines of the first two events.
+fn first_lines(history: &History) -> Option<[u64; 2]> {
+    if history.events().len() < 2 {
+        return None;
+    }
+    Some([history.line(0), history.line(1)])
+}
+
 #[test]
 fn empty_lines_are_counted(rt: HostRuntime) -> Result<(), Fail> {
     let history = history_of(rt.alloc(), b"h mal 1 2\n\nc a p\n\n\nc a p")?;
     assert!(rt; history.workers() == 2);
-    assert!(rt; [history.line(0), history.line(1)] == [3, 6]);
+    assert!(rt; first_lines(&history) == Some([3, 6]));
     Ok(())
 }
 

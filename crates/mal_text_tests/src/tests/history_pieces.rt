@@ -11,8 +11,8 @@ fn long_history(alloc: Global) -> Result<History, Fail> {
     let tenant = Name::of(alloc, b"abcdefghijklmno")?.ok_or("no name")?;
     let job = Name::of(alloc, b"pqrstuvwxyzabcd")?.ok_or("no name")?;
     let mut history = History::new(alloc, 1);
-    history.reserve(1000)?;
     for _ in 0..1000 {
+        history.reserve(1)?;
         history.push_reserved(Event::Exchange { tenant, job });
     }
     Ok(history)

@@ -9,12 +9,11 @@ use std::test::Fail;
 /// The number, the literals and the hints of the addition of this text. None for another line.
 fn addition(alloc: Global, text: &[u8]) -> Result<Option<(ClauseId, Clause, Vec<ClauseId>)>, Fail> {
     match read_line(alloc, text, 4)? {
-        Line::Add {
-            id,
-            clause: Some(clause),
-            hints,
-        } => Ok(Some((id, clause, hints))),
-        _ => Ok(None),
+        Line::Add { id, clause, hints } => match clause {
+            None => Ok(None),
+            Some(clause) => Ok(Some((id, clause, hints))),
+        },
+        Line::Delete { .. } => Ok(None),
     }
 }
 
