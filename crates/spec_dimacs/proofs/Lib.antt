@@ -7,6 +7,7 @@ pub mod Again
 pub mod Laws
 pub mod Led
 pub mod Texts
+pub mod FirstLine
 -- what this crate alone cites
 mod Steps
 mod Firsts
