@@ -1,5 +1,5 @@
 use Rattle.std.proofs.Common.{◌≡◌, ℕ, Bool, true, false, cond, List, [], ◌∷◌, ◌++◌, map, Option, Some, None, refl, sym, ap, ◌∙◌, subst, inl, inr, ◌⊎◌}
-use Rattle.std.specs.Prelude.{◌==◌, nat_lt, ◌||◌}
+use Rattle.std.specs.Prelude.{◌==◌, ◌||◌}
 use Rattle.std.specs.List.{list_any, list_all}
 use Rattle.std.specs.Option.{option_map_or}
 use Rattle.std.proofs.lemmas.List.Folds.{list_any-append}
@@ -15,7 +15,7 @@ use Rattle.spec_logic.specs.Derivation.Effect.{Passes, Makes, Conflicts}
 use Rattle.spec_logic.specs.Derivation.Derivation.{Derived}
 use Rattle.spec_learn.specs.Analysis.{Walk, Aim, has_var, vars_in, vars_under, begun, keeping, resolving, is_resolved, after_seen, after_entry, walked, put, clause_of}
 use Rattle.spec_learn.specs.Learning.{holding}
-use Rattle.spec_learn.proofs.LogicLemmas.{negated-negated, AreOthersFalse, IsConsistentList, reason-effect, conflict-effect}
+use Rattle.spec_learn.proofs.LogicLemmas.{negated-negated, put-any, AreOthersFalse, IsConsistentList, reason-effect, conflict-effect}
 
 -- a held clause forces an entry: its other literals are false before
 pub record IsBy (clauses : List NumberedClause) (past : List TrailEntry) (e : TrailEntry) (r : ℕ) : Type 0 where
@@ -204,20 +204,13 @@ kept-true aim clauses trail (e ∷ past) w g h = kept-true aim clauses trail pas
     by_seen true = by_reason e.reason
     by_seen false = h
 
+negations-any : (l : ℕ) (ls : List ℕ) → has_true (map negated ls) l ≡ list_any (λ m. negated m == l) ls
+negations-any l [] = refl
+negations-any l (m ∷ ms) = ap (λ (b : Bool). (negated m == l) || b) (negations-any l ms)
+
 -- the negations of a clause, one of which was put
 put-has : (x l : ℕ) (ls : List ℕ) → has_true (map negated (put x ls)) l ≡ ((negated x == l) || has_true (map negated ls) l)
-put-has x l [] = refl
-put-has x l (m ∷ ms) = by_less (put-has x l ms) (nat_lt x m)
-  where
-    turn : (a b c : Bool) → (a || (b || c)) ≡ (b || (a || c))
-    turn true true c = refl
-    turn true false c = refl
-    turn false true c = refl
-    turn false false c = refl
-
-    by_less : has_true (map negated (put x ms)) l ≡ ((negated x == l) || has_true (map negated ms) l) → (b : Bool) → has_true (map negated (cond b (x ∷ (m ∷ ms)) (m ∷ put x ms))) l ≡ ((negated x == l) || ((negated m == l) || has_true (map negated ms) l))
-    by_less f true = refl
-    by_less f false = ap (λ (b : Bool). (negated m == l) || b) f ∙ turn (negated m == l) (negated x == l) (has_true (map negated ms) l)
+put-has x l ls = negations-any l (put x ls) ∙ put-any (λ (m : ℕ). negated m == l) x ls ∙ ap (λ (b : Bool). (negated x == l) || b) (sym (negations-any l ls))
 
 pub clause-within : (trail es : List TrailEntry) → AreTrueOn trail es → (l : ℕ) → has_true (map negated (clause_of es)) l ≡ true → is_true trail l ≡ true
 clause-within trail [] h l q = absurd (cc)

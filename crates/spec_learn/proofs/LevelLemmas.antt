@@ -18,6 +18,7 @@ use Rattle.spec_learn.proofs.UipLemmas.{AreLevelled, falls, lower}
 use Rattle.spec_learn.proofs.PointLemmas.{AllOf, level-front}
 use Rattle.spec_learn.proofs.SoundParts.{AreDifferent}
 use Rattle.spec_learn.proofs.KeepLemmas.{level-none}
+use Rattle.spec_learn.proofs.LogicLemmas.{not-both}
 use Rattle.spec_learn.proofs.CaseLemmas.{after-by, IsMild}
 
 -- levels of variables do not depend on the order of different entries
@@ -207,11 +208,7 @@ rest-jump aim level clauses (e ∷ past) w m h d k t none = let low : top past �
     parts = or_parts ((e.level == level) && has_var w.seen (var_of e.lit)) (is_left level w.seen past) none
 
     other : has_var w.seen (var_of e.lit) ≡ true → (e.level == level) ≡ false
-    other s = by_test (e.level == level) (sym (ap (λ (b : Bool). (e.level == level) && b) s) ∙ parts.0)
-      where
-        by_test : (x : Bool) → (x && true) ≡ false → x ≡ false
-        by_test true q = q
-        by_test false q = refl
+    other s = not-both (e.level == level) (has_var w.seen (var_of e.lit)) parts.0 s
 
     by_place : (r : ℕ) → e.reason ≡ Some r → ((e.level == 0) ≡ true) ⊎ (is_covered clauses e w.seen past ≡ true) → greatest_seen (vars_under clauses r ++ w.seen) past ≡ max e.level (greatest_seen w.seen past)
     by_place r q (inl z) =

@@ -1,11 +1,12 @@
-use Rattle.std.proofs.Common.{◌≡◌, ℕ, ◌+◌, ◌-◌, ◌/◌, ◌%◌, ◌<◌, Bool, true, false, cond, List, [], ◌∷◌, refl, ap, ◌∙◌, subst, inl, inr, ◌⊎◌, arith}
-use Rattle.std.specs.Prelude.{◌==◌, nat_lt, ◌||◌}
+use Rattle.std.proofs.Common.{◌≡◌, ℕ, ◌+◌, ◌-◌, ◌/◌, ◌%◌, ◌<◌, Bool, true, false, cond, List, [], ◌∷◌, refl, sym, ap, ◌∙◌, subst, inl, inr, ◌⊎◌, arith}
+use Rattle.std.specs.Prelude.{◌==◌, nat_lt, ◌||◌, ◌&&◌}
 use Rattle.std.specs.List.{list_any, list_all}
 use Rattle.std.proofs.lemmas.Bool.{and_parts, and_from, or_cases, or_parts, lt-ltb, eq-eqb, eqb-true, eqb-false, ne_eqb, ltb-true, false_from_ne_true}
 use Rattle.mal_base.specs.Literals.{negated}
 use Rattle.mal_base.specs.Clauses.{rises, is_below}
 use Rattle.spec_logic.specs.Derivation.{is_true, is_false, left_of, effect_of_lits, effect_of_left}
 use Rattle.spec_logic.specs.Derivation.Effect.{Passes, Makes, Conflicts}
+use Rattle.spec_learn.specs.Analysis.{put}
 
 -- two negations undo each other
 pub negated-negated : (l : ℕ) → negated (negated l) ≡ l
@@ -105,3 +106,23 @@ none-true trues (l ∷ ls) c h =
 
 pub conflict-effect : (trues lits : List ℕ) → IsConsistentList trues → list_all (is_false trues) lits ≡ true → effect_of_lits trues lits ≡ Conflicts
 conflict-effect trues lits c h = rw (none-true trues lits c h) (ap effect_of_left (all-left trues lits h))
+
+-- of two that do not hold both, the one does not hold where the other does
+pub not-both : (x b : Bool) → (x && b) ≡ false → b ≡ true → x ≡ false
+not-both true b h q = sym q ∙ h
+not-both false b h q = refl
+
+-- a literal that was put among others passes a test as one more of them
+pub put-any : (f : ℕ → Bool) (l : ℕ) (ms : List ℕ) → list_any f (put l ms) ≡ (f l || list_any f ms)
+put-any f l [] = refl
+put-any f l (m ∷ ms) = by_less (put-any f l ms) (nat_lt l m)
+  where
+    turn : (a b c : Bool) → (a || (b || c)) ≡ (b || (a || c))
+    turn true true c = refl
+    turn true false c = refl
+    turn false true c = refl
+    turn false false c = refl
+
+    by_less : list_any f (put l ms) ≡ (f l || list_any f ms) → (b : Bool) → list_any f (cond b (l ∷ (m ∷ ms)) (m ∷ put l ms)) ≡ (f l || (f m || list_any f ms))
+    by_less h true = refl
+    by_less h false = ap (λ (b : Bool). f m || b) h ∙ turn (f m) (f l) (list_any f ms)

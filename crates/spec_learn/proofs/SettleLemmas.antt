@@ -15,7 +15,7 @@ use Rattle.spec_node.proofs.LevelLemmas.{level_in-le}
 use Rattle.spec_node.proofs.ReasonLemmas.{batch-cases, IsStart, IsFallen}
 use Rattle.spec_node.proofs.SettledLemmas.{open-none}
 use Rattle.spec_learn.specs.Analysis.{put, clause_of, jump}
-use Rattle.spec_learn.proofs.LogicLemmas.{negated-negated}
+use Rattle.spec_learn.proofs.LogicLemmas.{negated-negated, put-any}
 use Rattle.spec_learn.proofs.UipLemmas.{AreBetween}
 use Rattle.spec_learn.proofs.PointLemmas.{AllOf, IsOn, count-put, level-front}
 
@@ -35,18 +35,7 @@ clause-list_all f [] h = refl
 clause-list_all f (e ∷ es) h = put-list_all f (negated e.lit) (clause_of es) h.0 (clause-list_all f es h.1)
 
 pub put-own : (x y : ℕ) (ls : List ℕ) → list_any (λ m. m == x) (put y ls) ≡ ((y == x) || list_any (λ m. m == x) ls)
-put-own x y [] = refl
-put-own x y (m ∷ ms) = by_less (put-own x y ms) (nat_lt y m)
-  where
-    turn : (a b c : Bool) → (a || (b || c)) ≡ (b || (a || c))
-    turn true true c = refl
-    turn true false c = refl
-    turn false true c = refl
-    turn false false c = refl
-
-    by_less : list_any (λ (k : ℕ). k == x) (put y ms) ≡ ((y == x) || list_any (λ (k : ℕ). k == x) ms) → (b : Bool) → list_any (λ (k : ℕ). k == x) (cond b (y ∷ (m ∷ ms)) (m ∷ put y ms)) ≡ ((y == x) || ((m == x) || list_any (λ (k : ℕ). k == x) ms))
-    by_less f true = refl
-    by_less f false = ap (λ (b : Bool). (m == x) || b) f ∙ turn (m == x) (y == x) (list_any (λ (k : ℕ). k == x) ms)
+put-own x y ls = put-any (λ (m : ℕ). m == x) y ls
 
 pub clause-own : (es : List TrailEntry) (point : TrailEntry) → list_any (λ m. m == negated point.lit) (clause_of (es ++ point ∷ [])) ≡ true
 clause-own [] point = or_left _ _ (eq-eqb (negated point.lit) (negated point.lit) refl)

@@ -18,6 +18,7 @@ use Rattle.spec_node.specs.Adding.{with_clause}
 use Rattle.spec_node.specs.Sound.{NumbersRise, serial_of}
 use Rattle.spec_node.proofs.SettledLemmas.{var_of-negated}
 use Rattle.spec_learn.specs.Analysis.{Walk, Aim, has_var, keeping, resolving, is_resolved, after_seen, after_entry, walked, put, clause_of}
+use Rattle.spec_learn.proofs.LogicLemmas.{put-any}
 use Rattle.spec_learn.specs.Order.{without, moved, moved_all}
 use Rattle.spec_learn.proofs.PointLemmas.{AllOf}
 
@@ -100,26 +101,12 @@ put-rises l (m ∷ ms) h o =
     by_less f true q o b = let low : l < m = ltb-true l m q in and_from _ _ (lt-ltb (l / 2) (m / 2) (omega arith)) h
     by_less f false q o b = let high : m ≤ l = ltb-false l m q in and_from _ _ (is_below-put m l ms (omega arith) b) f
 
-put-vars : (l v : ℕ) (ms : List ℕ) → list_any (λ m. var_of m == v) (put l ms) ≡ ((var_of l == v) || list_any (λ m. var_of m == v) ms)
-put-vars l v [] = refl
-put-vars l v (m ∷ ms) = by_less (put-vars l v ms) (nat_lt l m)
-  where
-    turn : (a b c : Bool) → (a || (b || c)) ≡ (b || (a || c))
-    turn true true c = refl
-    turn true false c = refl
-    turn false true c = refl
-    turn false false c = refl
-
-    by_less : list_any (λ (x : ℕ). var_of x == v) (put l ms) ≡ ((var_of l == v) || list_any (λ (x : ℕ). var_of x == v) ms) → (b : Bool) → list_any (λ (x : ℕ). var_of x == v) (cond b (l ∷ (m ∷ ms)) (m ∷ put l ms)) ≡ ((var_of l == v) || ((var_of m == v) || list_any (λ (x : ℕ). var_of x == v) ms))
-    by_less f true = refl
-    by_less f false = ap (λ (b : Bool). (var_of m == v) || b) f ∙ turn (var_of m == v) (var_of l == v) (list_any (λ (x : ℕ). var_of x == v) ms)
-
 clause-vars : (es : List TrailEntry) (v : ℕ) → has_value es v ≡ false → list_any (λ m. var_of m == v) (clause_of es) ≡ false
 clause-vars [] v h = refl
 clause-vars (e ∷ es) v h =
     let parts = or_parts (v == var_of e.lit) (has_value es v) h in
     let other : (var_of (negated e.lit) == v) ≡ false = ne_eqb (var_of (negated e.lit)) v (λ q. eqb-false v (var_of e.lit) parts.0 (sym q ∙ var_of-negated e.lit)) in
-    put-vars (negated e.lit) v (clause_of es) ∙ rw (other, clause-vars es v parts.1) refl
+    put-any (λ (m : ℕ). var_of m == v) (negated e.lit) (clause_of es) ∙ rw (other, clause-vars es v parts.1) refl
 
 pub clause-rises : (es : List TrailEntry) → AreDifferent es → rises (clause_of es) ≡ true
 clause-rises [] h = refl

@@ -23,6 +23,7 @@ use Rattle.spec_learn.proofs.SoundParts.{AreDifferent, AreApartFrom, apart-more}
 use Rattle.spec_learn.proofs.KeepLemmas.{sound-different, apart-none}
 use Rattle.spec_learn.specs.Shorter.{shorter_walk, is_redundant, gone_through}
 use Rattle.spec_learn.specs.ShorterLaws.{ShorterIsGoneThrough}
+use Rattle.spec_learn.proofs.LogicLemmas.{not-both}
 use Rattle.spec_learn.proofs.CaseLemmas.{after-by}
 use Rattle.spec_learn.proofs.TurnLemmas.{Turn}
 use Rattle.spec_learn.proofs.LevelLemmas.{level-cons, other-var, own-levels, base-is, covered-var}
@@ -104,11 +105,7 @@ plain-picks level clauses (e ∷ past) w h t none = let low : top past ≤ e.lev
     parts = or_parts ((e.level == level) && has_var w.seen (var_of e.lit)) (is_left level w.seen past) none
 
     other : has_var w.seen (var_of e.lit) ≡ true → (e.level == level) ≡ false
-    other s = by_test (e.level == level) (sym (ap (λ (b : Bool). (e.level == level) && b) s) ∙ parts.0)
-      where
-        by_test : (x : Bool) → (x && true) ≡ false → x ≡ false
-        by_test true q = q
-        by_test false q = refl
+    other s = not-both (e.level == level) (has_var w.seen (var_of e.lit)) parts.0 s
 
     at_zero : has_var w.seen (var_of e.lit) ≡ true → is_resolved (Learned level) e w.seen past ≡ true → e.level ≡ 0
     at_zero s k = by_place (or_cases (e.level == 0) ((e.level == level) && is_left level w.seen past) k)
@@ -201,11 +198,7 @@ shorter-stays level clauses trail whole (e ∷ past) w h d g a same t none = let
     parts = or_parts ((e.level == level) && has_var w.seen (var_of e.lit)) (is_left level w.seen past) none
 
     other : has_var w.seen (var_of e.lit) ≡ true → (e.level == level) ≡ false
-    other s = by_test (e.level == level) (sym (ap (λ (b : Bool). (e.level == level) && b) s) ∙ parts.0)
-      where
-        by_test : (x : Bool) → (x && true) ≡ false → x ≡ false
-        by_test true q = q
-        by_test false q = refl
+    other s = not-both (e.level == level) (has_var w.seen (var_of e.lit)) parts.0 s
 
     later : (v : ℕ) → has_value past v ≡ true → level_in whole v ≡ level_in past v
     later v q = same v (or_right _ _ q) ∙ (level-cons e past v ∙ ap (λ (b : Bool). cond b e.level (level_in past v)) (other-var e past v d.0 q))

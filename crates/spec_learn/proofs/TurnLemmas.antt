@@ -9,6 +9,7 @@ use Rattle.spec_learn.specs.Analysis.{Walk, Aim, has_var, vars_under, keeping, r
 use Rattle.spec_learn.specs.Analysis.Aim.{Learned, Shortened}
 use Rattle.spec_learn.proofs.UipLemmas.{AreLevelled, falls, lower, left-more, HasPoint}
 use Rattle.spec_learn.proofs.SoundParts.{AreDifferent}
+use Rattle.spec_learn.proofs.LogicLemmas.{not-both}
 use Rattle.spec_learn.proofs.CaseLemmas.{after-by, after-same, IsMild}
 
 -- where the walks of both profiles have passed the current level: they have come to the same, one entry of that level
@@ -94,11 +95,7 @@ rest-point aim level clauses (e ∷ past) w m some h t none p = let low : top pa
     parts = or_parts ((e.level == level) && has_var w.seen (var_of e.lit)) (is_left level w.seen past) none
 
     other : has_var w.seen (var_of e.lit) ≡ true → (e.level == level) ≡ false
-    other s = by_test (e.level == level) (sym (ap (λ (b : Bool). (e.level == level) && b) s) ∙ parts.0)
-      where
-        by_test : (x : Bool) → (x && true) ≡ false → x ≡ false
-        by_test true q = q
-        by_test false q = refl
+    other s = not-both (e.level == level) (has_var w.seen (var_of e.lit)) parts.0 s
 
     above : (e.reason ≡ None) ⊎ (is_resolved aim e w.seen past ≡ false) → 1 ≤ e.level
     above (inl d) = let u : e.level ≡ top past + 1 = h.0 d in omega arith
