@@ -1,6 +1,7 @@
 //! Logs of derived lines, and the proofs that are trimmed of them.
 #![tactic(auto)]
 
+mod chunk;
 mod ids;
 mod lent;
 mod log;

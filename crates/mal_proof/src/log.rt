@@ -5,6 +5,7 @@ ghost use Rattle.mal_base.specs.NumberedClause.{Line};
 ghost use Rattle.spec_proof.specs.Log.{IsAbove, IsOrderly};
 ghost use Rattle.spec_proof.specs.Trimmed.{IsTrimmed, reached};
 
+use crate::chunk::{Chunk, chunks_before, place_among};
 use crate::lent::{LentLine, lend_all, sort};
 use crate::trim::trimmed;
 use mal_base::{ClauseId, Lines, Lit};
@@ -23,7 +24,7 @@ const LEAST_NUMBERS: usize = 1_024;
 /// and for how many more chunks; the lines have the numbers of derived clauses, each once and above all its hints.
 #[derive(Drop)]
 pub struct Log {
-    full: Vec<Lines>,
+    full: Vec<Chunk>,
     last: Lines,
     count: usize,
     room: usize,
@@ -80,7 +81,10 @@ impl Log {
         let mut fresh = Lines::new(*self.full.allocator());
         fresh.reserve(room, number_room, number_room)?;
         self.full.reserve(1)?;
-        self.full.push_reserved(mem::replace(&mut self.last, fresh));
+        self.full.push_reserved(Chunk {
+            lines: mem::replace(&mut self.last, fresh),
+            end: self.count,
+        });
         self.room = room;
         self.number_room = number_room;
         Ok(())
@@ -123,9 +127,13 @@ impl Log {
         ensures lines { self.new.lines ≡ self.old.lines ++ lines.lines }
         ensures less { self.new.chunk_room + 1 ≡ self.old.chunk_room }
     {
+        let end = self.count;
         self.count += lines.count();
         let lines = kept(*self.full.allocator(), lines);
-        self.full.push_reserved(mem::replace(&mut self.last, lines));
+        self.full.push_reserved(Chunk {
+            lines: mem::replace(&mut self.last, lines),
+            end,
+        });
         self.room = 0;
         self.number_room = 0;
     }
@@ -171,15 +179,10 @@ impl Log {
         ensures within { result.1 < length result.0.now.lines }
         ensures same { slice_get result.0.now.lines result.1 ≡ slice_get self.now.lines n }
     {
-        let mut rest = n;
-        for chunk in &self.full {
-            let count = chunk.count();
-            if rest < count {
-                return (chunk, rest);
-            }
-            rest -= count;
+        match self.full.get(chunks_before(&self.full, n)) {
+            Some(chunk) => (&chunk.lines, place_among(&chunk.lines, chunk.end, n)),
+            None => (&self.last, place_among(&self.last, self.count, n)),
         }
-        (&self.last, rest)
     }
 
     /// The lines that are reached backwards from a goal over hints, by rising number. Where no line has the goal's
@@ -200,7 +203,7 @@ impl Log {
     {
         let mut lines = Vec::with_capacity(*self.full.allocator(), self.count)?;
         for chunk in &self.full {
-            lend_all(&mut lines, chunk)?;
+            lend_all(&mut lines, &chunk.lines)?;
         }
         lend_all(&mut lines, &self.last)?;
         Ok(lines)

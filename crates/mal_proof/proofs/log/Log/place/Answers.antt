@@ -1,17 +1,36 @@
-use Rattle.std.proofs.Common.{arith, ◌≤◌, ◌<◌, length}
-use Rattle.mal_proof.proofs.Placing.{place-here, place-within, place-next}
+use Rattle.std.proofs.Common.{◌<◌, ◌∙◌, ap, length, slice_get}
+use Rattle.mal_proof.specs.Logged.{lines_in}
+use Rattle.mal_proof.proofs.Placing.{in-chunk, in-last}
 use Rattle.mal_proof.proofs.log.Log.place.Goals as goal
 
-pub returns-then-rest-count-clause-same : goal.returns-then-rest-count-clause-same
-returns-then-rest-count-clause-same c =
-    let there : c.loop-chunk.rest < length c.chunk-item.result.lines = omega arith in
-    rw (← c.self.view_is, ← c.deref-chunk-items.ensures.value)
-    (place-here c.deref-chunk-items.result.now c.self.inside.last c.chunk-item.result c.loop-chunk.chunk-index c.loop-chunk.rest (omega arith) c.chunk-item.is c.args.n there c.loop-chunk.invariant.same)
+pub place_among-requires : goal.place_among-requires
+place_among-requires c =
+    let s = c.self.inside in
+    let clauses = rw c.deref-2.ensures.value at c.chunks_before.ensures in
+    let at = rw c.deref.ensures.value at c.in-Some.ensures.lookup in
+    (in-chunk s.full.items s.last c.args.n c.chunks_before.result c.self.invariant.ends clauses.before c.in-Some.chunk.now at.3.0 at.1 clauses.behind).has
 
-pub loop-chunk-preserved : goal.loop-chunk-preserved
-loop-chunk-preserved c =
-    let past : length c.chunk-item.result.lines ≤ c.loop-chunk.rest = omega arith in
-    rw c.count-count.ensures record {
-      within = place-within c.deref-chunk-items.result.now c.self.inside.last c.chunk-item.result c.loop-chunk.chunk-index c.loop-chunk.rest (omega arith) c.chunk-item.is past c.loop-chunk.invariant.within;
-      same = place-next c.deref-chunk-items.result.now c.self.inside.last c.chunk-item.result c.loop-chunk.chunk-index c.loop-chunk.rest (omega arith) c.chunk-item.is c.args.n past c.loop-chunk.invariant.same;
-    }
+pub place_among-requires-in-None : goal.place_among-requires-in-None
+place_among-requires-in-None c =
+    let s = c.self.inside in
+    let clauses = rw c.deref-2.ensures.value at c.chunks_before.ensures in
+    let at = rw c.deref.ensures.value at c.in-None.ensures.lookup in
+    let low : c.args.n < length (lines_in s.full.items s.last) = rw (← c.self.view_is) at c.requires in
+    (in-last s.full.items s.last c.args.n c.chunks_before.result c.self.invariant.ends clauses.before s.count at.3 c.self.invariant.counted (rw (← c.self.invariant.counted) at low)).has
+
+pub returns-in-Some-clause-same : goal.returns-in-Some-clause-same
+returns-in-Some-clause-same c =
+    let s = c.self.inside in
+    let clauses = rw c.deref-2.ensures.value at c.chunks_before.ensures in
+    let at = rw c.deref.ensures.value at c.in-Some.ensures.lookup in
+    let found = in-chunk s.full.items s.last c.args.n c.chunks_before.result c.self.invariant.ends clauses.before c.in-Some.chunk.now at.3.0 at.1 clauses.behind in
+    rw (← c.self.view_is) (ap (slice_get c.in-Some.chunk.now.lines.lines) c.place_among.ensures.value ∙ found.same)
+
+pub returns-in-None-clause-same : goal.returns-in-None-clause-same
+returns-in-None-clause-same c =
+    let s = c.self.inside in
+    let clauses = rw c.deref-2.ensures.value at c.chunks_before.ensures in
+    let at = rw c.deref.ensures.value at c.in-None.ensures.lookup in
+    let low : c.args.n < length (lines_in s.full.items s.last) = rw (← c.self.view_is) at c.requires in
+    let found = in-last s.full.items s.last c.args.n c.chunks_before.result c.self.invariant.ends clauses.before s.count at.3 c.self.invariant.counted (rw (← c.self.invariant.counted) at low) in
+    rw (← c.self.view_is) (ap (slice_get s.last.lines) c.place_among-in-None.ensures.value ∙ found.same)
