@@ -1,23 +1,32 @@
 -- Lines of a list, one after another.
-use Rattle.std.proofs.Common.{◌≡◌, ℕ, ◌+◌, ◌<◌, List, [], ◌∷◌, ◌++◌, length, take, get_or, slice_get, append_assoc, Some, refl, sym, ◌∙◌, ap}
+use Rattle.std.proofs.Common.{◌≡◌, ℕ, ◌+◌, ◌<◌, ◌≤◌, Bool, cond, nat_le, List, [], ◌∷◌, ◌++◌, append-nil, length, take, get_or, slice_get, append_assoc, Option, Some, sym, ◌∙◌, ap}
+use Rattle.std.specs.Option.{option_map_or}
 use Rattle.std.proofs.lemmas.Option.{slice_get-get_or}
+use Rattle.std.proofs.lemmas.Bool.{le-leb, lt-leb}
 use Rattle.std.proofs.lemmas.List.{take_more}
+use Rattle.std.proofs.lemmas.List.Elements.{filter-append}
 use Rattle.mal_base.specs.NumberedClause.{Line}
+use Rattle.mal_proof.specs.Goals.{up_to}
 
--- a line with the number, literals and hints of the one at a place is that one
-pub line-at : (xs : List Line) (n id : ℕ) (lits hints : List ℕ) (d : Line) → n < length xs
-    → ((l : Line) → slice_get xs n ≡ Some l → id ≡ l.id) → ((l : Line) → slice_get xs n ≡ Some l → lits ≡ l.lits) → ((l : Line) → slice_get xs n ≡ Some l → hints ≡ l.hints)
-    → record { id = id; lits = lits; hints = hints } ≡ get_or xs n d
-line-at xs n id lits hints d low a b c =
-    let is : slice_get xs n ≡ Some (get_or xs n d) = slice_get-get_or xs n d low in
-    rw (a (get_or xs n d) is, b (get_or xs n d) is, c (get_or xs n d) is) refl
+-- a line more of the front of a list
+module _ (xs : List Line) (n : ℕ) (line : Line) (low : n < length xs) (is : slice_get xs n ≡ Some line) where
+  front-more : take (n + 1) xs ≡ take n xs ++ line ∷ []
+  front-more =
+      let same : line ≡ get_or xs n line = ap (λ (o : Option Line). option_map_or (λ l. l) o line) (sym is ∙ slice_get-get_or xs n line low) in
+      take_more xs n line low ∙ ap (λ (l : Line). take n xs ++ l ∷ []) (sym same)
 
--- one line more behind the front of a list
-pub lent-next : (xs before all now : List Line) (n id : ℕ) (lits hints : List ℕ) → n < length xs
-    → ((l : Line) → slice_get xs n ≡ Some l → id ≡ l.id) → ((l : Line) → slice_get xs n ≡ Some l → lits ≡ l.lits) → ((l : Line) → slice_get xs n ≡ Some l → hints ≡ l.hints)
-    → all ≡ before ++ take n xs → now ≡ all ++ record { id = id; lits = lits; hints = hints } ∷ [] → now ≡ before ++ take (n + 1) xs
-lent-next xs before all now n id lits hints low a b c e f =
-    let line : Line = record { id = id; lits = lits; hints = hints } in
-    let is : line ≡ get_or xs n line = line-at xs n id lits hints line low a b c in
-    let more : take (n + 1) xs ≡ take n xs ++ get_or xs n line ∷ [] = take_more xs n line low in
-    f ∙ (ap (λ (ls : List Line). ls ++ line ∷ []) e ∙ (append_assoc before (take n xs) (line ∷ []) ∙ ap (λ (ls : List Line). before ++ ls) (ap (λ (l : Line). take n xs ++ l ∷ []) is ∙ sym more)))
+  pub lent-next : (before all now : List Line) → all ≡ before ++ take n xs → now ≡ all ++ line ∷ [] → now ≡ before ++ take (n + 1) xs
+  lent-next before all now e f = f ∙ (ap (λ (ls : List Line). ls ++ line ∷ []) e ∙ (append_assoc before (take n xs) (line ∷ []) ∙ ap (λ (ls : List Line). before ++ ls) (sym front-more)))
+
+  up_to-more : (most : ℕ) → up_to most (take (n + 1) xs) ≡ up_to most (take n xs) ++ up_to most (line ∷ [])
+  up_to-more most = ap (up_to most) front-more ∙ filter-append (λ l. nat_le l.id most) (take n xs) (line ∷ [])
+
+  pub lent-low : (before all now : List Line) (most : ℕ) → line.id ≤ most → all ≡ before ++ up_to most (take n xs) → now ≡ all ++ line ∷ [] → now ≡ before ++ up_to most (take (n + 1) xs)
+  lent-low before all now most low-enough e f =
+      let one : up_to most (line ∷ []) ≡ line ∷ [] = ap (λ (b : Bool). cond b (line ∷ []) []) (le-leb line.id most low-enough) in
+      f ∙ (ap (λ (ls : List Line). ls ++ line ∷ []) e ∙ (append_assoc before (up_to most (take n xs)) (line ∷ []) ∙ ap (λ (ls : List Line). before ++ ls) (sym (up_to-more most ∙ ap (λ (ls : List Line). up_to most (take n xs) ++ ls) one))))
+
+  pub lent-high : (before all : List Line) (most : ℕ) → most < line.id → all ≡ before ++ up_to most (take n xs) → all ≡ before ++ up_to most (take (n + 1) xs)
+  lent-high before all most high e =
+      let none : up_to most (line ∷ []) ≡ [] = ap (λ (b : Bool). cond b (line ∷ []) []) (lt-leb line.id most high) in
+      e ∙ ap (λ (ls : List Line). before ++ ls) (sym (up_to-more most ∙ (ap (λ (ls : List Line). up_to most (take n xs) ++ ls) none ∙ append-nil (up_to most (take n xs)))))

@@ -4,3 +4,5 @@ mod Lending
 mod Marking
 mod Trimming
 mod Placing
+mod Bounding
+mod Ending

@@ -12,6 +12,9 @@ use Rattle.spec_proof.specs.Trimmed.{by_id, AreRising, IsTrimmed, is_needed, wit
 use Rattle.spec_proof.proofs.Among.{Among, of-all}
 use Rattle.spec_proof.proofs.Reaching.{hint-there, reached-trimmed}
 use Rattle.mal_proof.specs.Marks.{AreMarks}
+use Rattle.mal_proof.specs.Goals.{up_to, goal_lits, last_lits}
+use Rattle.mal_proof.proofs.Bounding.{reached-bounded}
+use Rattle.mal_proof.proofs.Ending.{goal-ends}
 use Rattle.mal_proof.proofs.Marking.{map-agree}
 
 or-none : (a : Bool) → (a || false) ≡ a
@@ -134,9 +137,13 @@ pub trimmed-result : {E : Type 0} (r : Result Lined E) (goal : ℕ) (lines : Lis
 trimmed-result (Err e) goal lines is h = tt
 trimmed-result (Ok out) goal lines is h = trimmed-is goal lines out.lines is h
 
-pub reached-result : {E : Type 0} (r : Result Lined E) (goal : ℕ) (lines sorted : List Line) → sorted ≡ by_id lines → IfOk r (λ out. out.lines ≡ reached_in goal sorted) → IfOk r (λ out. out.lines ≡ reached goal lines)
-reached-result (Err e) goal lines sorted is h = tt
-reached-result (Ok out) goal lines sorted is h = h ∙ ap (reached_in goal) is
+pub reached-result : {E : Type 0} (r : Result Lined E) (goal : ℕ) (lines sorted : List Line) → IsOrderly lines → sorted ≡ by_id (up_to goal lines) → IfOk r (λ out. out.lines ≡ reached_in goal sorted) → IfOk r (λ out. out.lines ≡ reached goal lines)
+reached-result (Err e) goal lines sorted orderly is h = tt
+reached-result (Ok out) goal lines sorted orderly is h = h ∙ (ap (reached_in goal) is ∙ reached-bounded goal lines orderly.apart)
+
+pub last-result : {E : Type 0} (r : Result Lined E) (goal : ℕ) (lines : List Line) → IsOrderly lines → IfOk r (λ out. out.lines ≡ reached goal lines) → IfOk r (λ out. last_lits out.lines ≡ goal_lits goal lines)
+last-result (Err e) goal lines orderly h = tt
+last-result (Ok out) goal lines orderly h = ap last_lits h ∙ goal-ends goal lines orderly
 
 pub reached-is_trimmed : {E : Type 0} (r : Result Lined E) (goal : ℕ) (lines : List Line) → IsOrderly lines → IfOk r (λ out. out.lines ≡ reached goal lines) → IfOk r (λ out. IsTrimmed out.lines)
 reached-is_trimmed (Err e) goal lines is h = tt

@@ -1,8 +1,9 @@
 //! Lines of a log, lent.
 
-ghost use Rattle.std.specs.Prelude.{◌≡◌, ◌++◌, ◌∷◌, [], OnOk, IfOk};
+ghost use Rattle.std.specs.Prelude.{◌≡◌, ◌<◌, ◌++◌, ◌∷◌, [], length, slice_get, Some, OnOk, IfOk};
 ghost use Rattle.spec_proof.specs.Log.{AreApart};
 ghost use Rattle.spec_proof.specs.Trimmed.{by_id, ids_of};
+ghost use Rattle.mal_proof.specs.Goals.{up_to};
 
 use mal_base::{ClauseId, Lines, Lit};
 use std::alloc::{AllocError, Global};
@@ -24,16 +25,42 @@ impl<'a> Model for LentLine<'a> {
     ghost view = { λ l. record { id = l.id; lits = l.lits.now; hints = l.hints.now } };
 }
 
+/// A line of these, counted from 0, lent.
+fn lend<'a>(lines: &'a Lines, n: usize) -> LentLine<'a>
+    requires { n < length lines.now.lines }
+    ensures { slice_get lines.now.lines n ≡ Some result }
+{
+    LentLine {
+        id: lines.id(n),
+        lits: lines.lits(n),
+        hints: lines.hints(n),
+    }
+}
+
 /// Puts lines behind others, lent.
 pub fn lend_all<'a>(all: &mut Vec<LentLine<'a>>, lines: &'a Lines) -> Result<(), AllocError>
     ensures { OnOk result (all.new.items ≡ all.old.items ++ lines.now.lines) }
 {
     for n in 0..lines.count() {
-        all.push(LentLine {
-            id: lines.id(n),
-            lits: lines.lits(n),
-            hints: lines.hints(n),
-        })?;
+        all.push(lend(lines, n))?;
+    }
+    Ok(())
+}
+
+/// Puts those lines behind others, lent, whose numbers are this one at most.
+pub fn lend_up_to<'a>(
+    all: &mut Vec<LentLine<'a>>,
+    lines: &'a Lines,
+    most: ClauseId,
+) -> Result<(), AllocError>
+    ensures { OnOk result (all.new.items ≡ all.old.items ++ up_to most lines.now.lines) }
+{
+    let bound = most.number();
+    for n in 0..lines.count() {
+        let line = lend(lines, n);
+        if line.id.number() <= bound {
+            all.push(line)?;
+        }
     }
     Ok(())
 }

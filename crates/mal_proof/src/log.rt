@@ -4,9 +4,10 @@ ghost use Rattle.std.specs.Prelude.{◌≡◌, ◌≢◌, ◌+◌, ◌<◌, ◌�
 ghost use Rattle.mal_base.specs.NumberedClause.{Line};
 ghost use Rattle.spec_proof.specs.Log.{IsAbove, IsOrderly};
 ghost use Rattle.spec_proof.specs.Trimmed.{IsTrimmed, reached};
+ghost use Rattle.mal_proof.specs.Goals.{up_to, goal_lits, last_lits};
 
 use crate::chunk::{Chunk, chunks_before, place_among};
-use crate::lent::{LentLine, lend_all, sort};
+use crate::lent::{LentLine, lend_up_to, sort};
 use crate::trim::trimmed;
 use mal_base::{ClauseId, Lines, Lit};
 use std::alloc::{AllocError, Global};
@@ -186,26 +187,27 @@ impl Log {
     }
 
     /// The lines that are reached backwards from a goal over hints, by rising number. Where no line has the goal's
-    /// number there are none.
+    /// number there are none; else the goal's is the last.
     pub fn trim(&self, goal: ClauseId) -> Result<Lines, AllocError>
         ensures reached { IfOk result (λ out. out.lines ≡ reached goal self.now.lines) }
         ensures trimmed { IfOk result (λ out. IsTrimmed out.lines) }
+        ensures goal { IfOk result (λ out. last_lits out.lines ≡ goal_lits goal self.now.lines) }
     {
-        let mut lines = self.lend()?;
+        let mut lines = self.lend_up_to(goal)?;
         sort(&mut lines);
         trimmed(*self.full.allocator(), lines.as_slice(), goal)
     }
 
-    /// All lines, lent.
-    fn lend(&self) -> Result<Vec<LentLine<'_>>, AllocError>
-        ensures lines { IfOk result (λ lines. lines.items ≡ self.now.lines) }
+    /// The lines with numbers up to this one, lent.
+    fn lend_up_to(&self, most: ClauseId) -> Result<Vec<LentLine<'_>>, AllocError>
+        ensures lines { IfOk result (λ lines. lines.items ≡ up_to most self.now.lines) }
         ensures orderly { IsOrderly self.now.lines }
     {
         let mut lines = Vec::with_capacity(*self.full.allocator(), self.count)?;
         for chunk in &self.full {
-            lend_all(&mut lines, &chunk.lines)?;
+            lend_up_to(&mut lines, &chunk.lines, most)?;
         }
-        lend_all(&mut lines, &self.last)?;
+        lend_up_to(&mut lines, &self.last, most)?;
         Ok(lines)
     }
 }

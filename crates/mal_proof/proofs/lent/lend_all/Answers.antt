@@ -4,5 +4,4 @@ use Rattle.mal_proof.proofs.lent.lend_all.Goals as goal
 
 pub loop-n-preserved : goal.loop-n-preserved
 loop-n-preserved c =
-    lent-next c.args.lines.now.lines c.args.all.now.items c.loop-n.all.items c.push.new.self.items c.loop-n.n c.id.result c.lits.result.now c.hints.result.now (omega arith)
-    c.id.ensures c.lits.ensures c.hints.ensures c.loop-n.invariant c.in_ok-push.ensures.items
+    lent-next c.args.lines.now.lines c.loop-n.n c.lend.result (omega arith) c.lend.ensures c.args.all.now.items c.loop-n.all.items c.push.new.self.items c.loop-n.invariant c.in_ok-push.ensures.items
