@@ -1,3 +1,4 @@
 -- what this crate alone cites
 mod Fronts
+mod Listing
 mod Texts

@@ -1,3 +1,4 @@
 pub mod LineView
 pub mod Answers
 pub mod Spaced
+pub mod IdLists

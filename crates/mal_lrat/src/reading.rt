@@ -1,13 +1,14 @@
 //! Reading a line of a proof.
 
-ghost use Rattle.std.specs.Prelude.{◌≡◌, Some, IfOk};
-ghost use Rattle.std.specs.List.{list_any};
+ghost use Rattle.std.specs.Prelude.{◌≡◌, ◌==◌, Some, length, IfOk};
+ghost use Rattle.std.specs.Option.{option_map};
 ghost use Rattle.spec_text.specs.Inputs.{words_of};
 ghost use Rattle.spec_text.specs.Numbers.{number_in};
 ghost use Rattle.spec_dimacs.specs.Merged.{clause_of};
-ghost use Rattle.spec_lrat.specs.Reading.{greatest_id, is_end, behind_l, before_end, behind_end, numbers_of, literal_said, literals_of, id_said, is_negative, are_closed, ids_of, deleting, adding, added, behind_id, with_id, reading_of, reading};
+ghost use Rattle.spec_lrat.specs.Reading.{greatest_id, behind_l, before_end, behind_end, number_said, numbers_of, literals_of, id_said, deleting, added, behind_id, reading_of, reading};
 ghost use Rattle.spec_lrat.specs.Grammar.{Spells};
 ghost use Rattle.mal_lrat.specs.LineView.{seen};
+ghost use Rattle.mal_lrat.specs.IdLists.{listing, list_said, negative_behind, adding_listed, literal_or_end};
 ghost use Rattle.mal_lrat.specs.Answers.{Gives, GivesWords};
 
 use crate::fault::LineFault;
@@ -18,6 +19,15 @@ use std::alloc::{AllocError, Global};
 
 /// The greatest id of a clause in a proof.
 const GREATEST_ID: u64 = 1 << 62;
+
+/// The numbers at the end of a line, as they are read: the ids before the first 0, which are magnitudes; whether one of
+/// all numbers is negative; and whether the last one is 0 and no other.
+#[derive(Drop)]
+struct IdList {
+    ids: Vec<ClauseId>,
+    has_negative: bool,
+    is_closed: bool,
+}
 
 /// The line that a text without line ends spells, where `last` is the greater of the number of original clauses and the
 /// last id that was added. The text is `id`, literals, `0`, hints, `0`, or `id`, `d`, ids, `0`, and may begin with the
@@ -79,16 +89,14 @@ fn behind_id(alloc: Global, id: ClauseId, words: &[u8], last: u64) -> Result<Lin
 fn deletion(alloc: Global, words: &[u8]) -> Result<Line, LineFault>
     ensures { Gives seen result (deleting (numbers_of (words_of words.now))) }
 {
-    let numbers = numbers(alloc, words)?;
-    let numbers = numbers.as_slice();
-    if has_negative(numbers) {
+    let ids = id_list(alloc, words)?;
+    if ids.has_negative {
         return Err(LineFault::BadNumber);
     }
-    if !are_closed(numbers) {
+    if !ids.is_closed {
         return Err(LineFault::MissingZero);
     }
-    let ids = ids(alloc, numbers)?;
-    Ok(Line::Delete { ids })
+    Ok(Line::Delete { ids: ids.ids })
 }
 
 /// The line that adds the clause of this id, of the words of its literals and hints.
@@ -96,8 +104,8 @@ fn addition(alloc: Global, id: ClauseId, words: &[u8], last: u64) -> Result<Line
     ensures { Gives seen result (added last id (words_of words.now)) }
 {
     let (lits, hint_words) = literals(alloc, words)?;
-    let hints = numbers(alloc, hint_words)?;
-    added(alloc, id, lits.as_slice(), hints.as_slice(), last)
+    let hints = id_list(alloc, hint_words)?;
+    added(alloc, id, lits.as_slice(), hints, last)
 }
 
 /// The line that adds the clause of this id and these literals, with these hints.
@@ -105,12 +113,12 @@ fn added(
     alloc: Global,
     id: ClauseId,
     lits: &[Lit],
-    hints: &[i64],
+    hints: IdList,
     last: u64,
 ) -> Result<Line, LineFault>
-    ensures { Gives seen result (adding last id (Some lits.now) (Some hints.now)) }
+    ensures { Gives seen result (adding_listed last id lits.now (listing hints)) }
 {
-    if !are_closed(hints) {
+    if !hints.is_closed {
         return Err(LineFault::MissingZero);
     }
     if id.number() <= last {
@@ -119,28 +127,24 @@ fn added(
             id: id.number(),
         });
     }
-    if has_negative(hints) {
+    if hints.has_negative {
         return Err(LineFault::NegativeHint);
     }
     let clause = clause(alloc, lits)?;
-    let hints = ids(alloc, hints)?;
-    Ok(Line::Add { id, clause, hints })
+    Ok(Line::Add {
+        id,
+        clause,
+        hints: hints.ids,
+    })
 }
 
-/// The clause of these literals, none for a tautology.
+/// The clause of these literals, none for a tautology. Those that rise already are not sorted.
 fn clause(alloc: Global, lits: &[Lit]) -> Result<Option<Clause>, AllocError>
     ensures { IfOk result (λ c. c ≡ clause_of lits.now) }
 {
-    Clause::of_lits(alloc, lits)
-}
-
-/// Whether a word says 0.
-fn is_end(word: &[u8]) -> bool
-    ensures { result ≡ is_end word.now }
-{
-    match number(word, 0) {
-        Ok(number) => number == 0,
-        Err(_) => false,
+    match Clause::of_rising(alloc, lits)? {
+        Some(clause) => Ok(Some(clause)),
+        None => Clause::of_lits(alloc, lits),
     }
 }
 
@@ -157,14 +161,14 @@ fn id_in(word: &[u8]) -> Option<ClauseId>
     ClauseId::of(number as u64)
 }
 
-/// The literal that a word says.
-fn literal_in(word: &[u8]) -> Option<Lit>
-    ensures { result ≡ literal_said (number_in word.now 65536) }
+/// The literal that a word says, none for a 0.
+fn literal_in(word: &[u8]) -> Result<Option<Lit>, LineFault>
+    ensures { GivesWords (λ lit. lit) result (literal_or_end word.now) }
 {
-    let Ok(number) = number(word, 65_536) else {
-        return None;
-    };
-    Lit::of_dimacs(number as i32)
+    match number(word, 65_536) {
+        Ok(number) => Ok(Lit::of_dimacs(number as i32)),
+        Err(_) => Err(LineFault::BadNumber),
+    }
 }
 
 /// The literals that the words before the first 0 say, and the words behind it.
@@ -175,12 +179,9 @@ fn literals(alloc: Global, words: &[u8]) -> Result<(Vec<Lit>, &[u8]), LineFault>
     let mut lits = Vec::new(alloc);
     let mut rest = words;
     while let Some((word, behind)) = first_word(rest) {
-        if is_end(word) {
-            return Ok((lits, behind));
-        }
-        match literal_in(word) {
+        match literal_in(word)? {
             Some(lit) => lits.push(lit)?,
-            None => return Err(LineFault::BadNumber),
+            None => return Ok((lits, behind)),
         }
         rest = behind;
     }
@@ -188,57 +189,61 @@ fn literals(alloc: Global, words: &[u8]) -> Result<(Vec<Lit>, &[u8]), LineFault>
 }
 
 /// The numbers with a magnitude up to 2^62 that words say.
-fn numbers(alloc: Global, words: &[u8]) -> Result<Vec<i64>, LineFault>
-    ensures { GivesWords (λ v. v.items) result (numbers_of (words_of words.now)) }
-{
-    let mut numbers = Vec::new(alloc);
-    let mut rest = words;
-    while let Some((word, behind)) = first_word(rest) {
-        match number(word, GREATEST_ID) {
-            Ok(number) => numbers.push(number)?,
-            Err(_) => return Err(LineFault::BadNumber),
-        }
-        rest = behind;
-    }
-    Ok(numbers)
-}
-
-/// Whether one of the numbers is negative.
-fn has_negative(numbers: &[i64]) -> bool
-    ensures { result ≡ list_any is_negative numbers.now }
-{
-    numbers.iter().any(|number| is_negative(*number))
-}
-
-/// Whether a number is negative.
-fn is_negative(number: i64) -> bool
-    ensures { result ≡ is_negative number }
-{
-    number < 0
-}
-
-/// Whether the last of the numbers is 0 and no other is.
-fn are_closed(numbers: &[i64]) -> bool
-    ensures { result ≡ are_closed numbers.now }
-{
-    for (index, number) in numbers.iter().enumerate() {
-        if *number == 0 {
-            return index + 1 == numbers.len();
-        }
-    }
-    false
-}
-
-/// The ids that the numbers before the first 0 are.
-fn ids(alloc: Global, numbers: &[i64]) -> Result<Vec<ClauseId>, AllocError>
-    ensures { IfOk result (λ v. v.items ≡ ids_of numbers.now) }
+fn id_list(alloc: Global, words: &[u8]) -> Result<IdList, LineFault>
+    ensures { GivesWords listing result (list_said (words_of words.now)) }
 {
     let mut ids = Vec::new(alloc);
-    for number in numbers {
+    let mut has_negative = false;
+    let mut rest = words;
+    while let Some((word, behind)) = first_word(rest) {
+        let number = number_in(word)?;
         match ClauseId::of(number.unsigned_abs()) {
             Some(id) => ids.push(id)?,
-            None => return Ok(ids),
+            None => {
+                return Ok(IdList {
+                    ids,
+                    has_negative: has_negative_behind(has_negative, behind)?,
+                    is_closed: has_no_word(behind),
+                });
+            }
         }
+        has_negative = has_negative || number < 0;
+        rest = behind;
     }
-    Ok(ids)
+    Ok(IdList {
+        ids,
+        has_negative,
+        is_closed: false,
+    })
+}
+
+/// The number with a magnitude up to 2^62 that a word says.
+fn number_in(word: &[u8]) -> Result<i64, LineFault>
+    ensures { GivesWords (λ z. z) result (number_said (number_in word.now greatest_id)) }
+{
+    match number(word, GREATEST_ID) {
+        Ok(number) => Ok(number),
+        Err(_) => Err(LineFault::BadNumber),
+    }
+}
+
+/// Whether a number was negative before, or one of those that these words say is.
+fn has_negative_behind(before: bool, words: &[u8]) -> Result<bool, LineFault>
+    ensures { GivesWords (λ b. b) result (option_map (negative_behind before) (numbers_of (words_of words.now))) }
+{
+    let mut has_negative = before;
+    let mut rest = words;
+    while let Some((word, behind)) = first_word(rest) {
+        let number = number_in(word)?;
+        has_negative = has_negative || number < 0;
+        rest = behind;
+    }
+    Ok(has_negative)
+}
+
+/// Whether a line is of blanks alone.
+fn has_no_word(line: &[u8]) -> bool
+    ensures { result ≡ (length (words_of line.now) == 0) }
+{
+    first_word(line).is_none()
 }
