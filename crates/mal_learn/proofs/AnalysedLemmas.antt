@@ -1,9 +1,7 @@
 use Rattle.std.proofs.Common.{◌≡◌, ℕ, ◌+◌, ◌-◌, ◌<◌, ◌≤◌, ◌^◌, Bool, true, false, cond, List, [], ◌∷◌, ◌++◌, length, get_or, set, take, reverse, replicate, Option, Some, None, refl, sym, ap, ◌∙◌, subst, arith}
 use Rattle.std.specs.Prelude.{All, ◌==◌, ◌&&◌, ◌||◌, slice_get}
-use Rattle.std.specs.List.Sorted.{IsPermutation, IsSorted}
-use Rattle.std.specs.Ordering.{nat_cmp}
 use Rattle.std.specs.Option.{option_map_or}
-use Rattle.std.proofs.lemmas.List.{length-set, get_or-set_same, get_or-set_other, get_or-replicate, length-replicate, take_all}
+use Rattle.std.proofs.lemmas.List.{length-set, get_or-set_same, get_or-set_other, get_or-replicate, length-replicate, length-reverse, take_all}
 use Rattle.std.proofs.lemmas.List.Elements.{All-nil, All-cons}
 use Rattle.std.proofs.lemmas.List.Sorted.{list_any-IsPermutation, IsPermutation-reverse}
 use Rattle.std.proofs.lemmas.Bool.{eqb-true, eqb-false}
@@ -11,9 +9,10 @@ use Rattle.mal_base.specs.Literals.{var_of}
 use Rattle.mal_base.specs.NumberedClause.{NumberedClause, lits_under}
 use Rattle.mal_base.specs.declared.trail_entry.TrailEntry.{TrailEntry}
 use Rattle.spec_node.specs.Sound.{EachAfter, IsPlaced}
-use Rattle.spec_learn.specs.Analysis.{Walk, has_var, vars_in, vars_under, begun, walk_of, analysed, top}
+use Rattle.spec_learn.specs.Analysis.{Analysed, has_var, vars_in, vars_under, begun, walked, walk_of, analysed, top}
+use Rattle.spec_learn.specs.Analysis.Aim.{Learned}
 use Rattle.mal_learn.specs.Working.{State, see_all, lits_of, visited_all, here_all}
-use Rattle.mal_learn.specs.Shown.{ClausesWithin, EntriesWithin}
+use Rattle.mal_learn.specs.Shown.{Work, IsFitted, IsFinished, ClausesWithin, EntriesWithin}
 use Rattle.spec_learn.proofs.ApartLemmas.{IsApart, apart-reverse, apart-short}
 use Rattle.mal_learn.proofs.CountLemmas.{is_here, left_count, left-cons}
 use Rattle.mal_learn.proofs.SortLemmas.{turned-back, sorted-clause}
@@ -102,23 +101,36 @@ clauses-below n clauses h r = by_found (lits_under r clauses) refl
     by_found None q = All-nil (λ l. var_of l < n)
     by_found (Some lits) q = lits-within n r clauses lits h q
 
--- what is found, put in order, is what the definition gives
-pub record IsAnalysed (clauses : List NumberedClause) (past : List TrailEntry) (id : ℕ) (lits hints : List ℕ) (level : ℕ) : Type 0 where
-  pub clause : lits ≡ (analysed clauses past id).lits
-  pub hints_are : hints ≡ (analysed clauses past id).hints
-  pub target : level ≡ (analysed clauses past id).level
+-- an analysis has room for the variables of the trail and of the clauses
+pub record HasRoom (n : ℕ) (es : List TrailEntry) (clauses : List NumberedClause) : Type 0 where
+  pub some : 1 ≤ n
+  pub placed : EachAfter (IsPlaced (n - 1)) [] es
+  pub within : ClausesWithin n clauses
 
-pub analysis-done : (n a b id : ℕ) (clauses : List NumberedClause) (es : List TrailEntry) (s : State) (lits hints : List ℕ) → 1 ≤ n → n ≤ 65537 → n ≤ a → n ≤ b → ClausesWithin n clauses → EachAfter (IsPlaced (n - 1)) [] es → s ≡ visited_all clauses (top (reverse es)) (reverse es) (see_all (lits_of clauses id) (start a b (top (reverse es)) id es)) → IsPermutation s.lits lits → IsSorted nat_cmp lits → hints ≡ reverse s.hints → IsAnalysed clauses (reverse es) id lits hints s.level
-analysis-done n a b id clauses es s lits hints l small p q within placed is moved sorted turns =
+-- and so for each entry
+pub room-short : (n : ℕ) (es : List TrailEntry) → 1 ≤ n → EachAfter (IsPlaced (n - 1)) [] es → length es + 1 ≤ n
+room-short n es l placed = omega (arith, apart-short n (reverse es) l (apart-reverse n es l placed), length-reverse es)
+
+-- what is left in the end is what a definition gives
+pub record IsFound (a : Analysed) (w : Work) : Type 0 where
+  pub clause : w.state.lits ≡ a.lits
+  pub hints : w.state.hints ≡ a.hints
+  pub level : w.state.level ≡ a.level
+
+pub analysis-done : (n a b y z id level : ℕ) (clauses : List NumberedClause) (es : List TrailEntry) (s : State) (v w : Work) → HasRoom n es clauses → IsFitted n a b y z → level ≡ top (reverse es) → s ≡ see_all (lits_of clauses id) (start a b level id es) → v.state ≡ visited_all clauses level (reverse es) s → IsFinished v w → IsFound (analysed clauses (reverse es) id) w
+analysis-done n a b y z id level clauses es s v w room fits tops begins walks ends =
     let past : List TrailEntry = reverse es in
-    let apart : IsApart n past = apart-reverse n es l placed in
-    let short : length past + 1 ≤ n = apart-short n past l apart in
-    let w : Walk = walk_of clauses past id in
-    let shows : Shows n (top past) id [] w s = subst (Shows n (top past) id [] w) (sym is) (walked-shows n (top past) id clauses past (begun (vars_under clauses id)) (see_all (lits_of clauses id) (start a b (top past) id es)) (clauses-below n clauses within) apart (omega arith) (begin-shows n a b (top past) id clauses es p q (clauses-below n clauses within) apart (omega arith))) in
+    let below : AreBelow n clauses = clauses-below n clauses room.within in
+    let apart : IsApart n past = apart-reverse n es room.some room.placed in
+    let short : length past + 1 ≤ n = apart-short n past room.some apart in
+    let small : n ≤ 65537 = fits.small in
+    let is : v.state ≡ visited_all clauses level past (see_all (lits_of clauses id) (start a b level id es)) = walks ∙ ap (visited_all clauses level past) begins in
+    let at_level : Shows n level id [] (walked (Learned level) clauses past (begun (vars_under clauses id))) v.state = subst (Shows n level id [] (walked (Learned level) clauses past (begun (vars_under clauses id)))) (sym is) (walked-shows n level id clauses past (begun (vars_under clauses id)) (see_all (lits_of clauses id) (start a b level id es)) below apart (omega arith) (begin-shows n a b level id clauses es fits.seen_fits fits.here_fits below apart (omega arith))) in
+    let shows : Shows n (top past) id [] (walk_of clauses past id) v.state = subst (λ (k : ℕ). Shows n k id [] (walked (Learned k) clauses past (begun (vars_under clauses id))) v.state) tops at_level in
     record {
-      clause = sorted-clause w.kept s.lits lits shows.lits moved sorted;
-      hints_are = turns ∙ (ap reverse shows.hints ∙ turned-back id w.hints);
-      target = shows.target;
+      clause = sorted-clause (walk_of clauses past id).kept v.state.lits w.state.lits shows.lits ends.permutation ends.sorted;
+      hints = ends.hints ∙ (ap reverse shows.hints ∙ turned-back id (walk_of clauses past id).hints);
+      level = ends.level ∙ shows.target;
     }
 
 -- the level of the last entry

@@ -1,26 +1,23 @@
 use Rattle.std.proofs.Common.{◌≡◌, ℕ, ◌+◌, ◌-◌, ◌<◌, ◌≤◌, ◌^◌, Bool, true, false, cond, List, [], ◌∷◌, length, take, reverse, replicate, get_or, set, Option, Some, None, refl, sym, ap, ◌∙◌, subst, arith}
 use Rattle.std.specs.Prelude.{All, ◌==◌, nat_lt, ◌&&◌, ◌||◌, slice_get}
 use Rattle.std.specs.Option.{option_map_or}
-use Rattle.std.specs.List.Sorted.{IsPermutation, IsSorted}
-use Rattle.std.specs.Ordering.{nat_cmp}
 use Rattle.std.proofs.lemmas.List.{length-set, get_or-replicate, length-replicate}
 use Rattle.std.proofs.lemmas.List.Elements.{All-head, All-tail}
 use Rattle.std.proofs.lemmas.List.Sorted.{list_any-IsPermutation, IsPermutation-reverse}
 use Rattle.mal_base.specs.Literals.{var_of}
 use Rattle.mal_base.specs.NumberedClause.{NumberedClause}
 use Rattle.mal_base.specs.declared.trail_entry.TrailEntry.{TrailEntry}
-use Rattle.spec_node.specs.Sound.{EachAfter, IsPlaced}
 use Rattle.spec_learn.specs.Analysis.{Walk, has_var, vars_in, vars_under, begun, keeping, resolving, is_left, is_base, are_covered, is_covered, is_resolved, after_seen, after_entry, walked, top}
 use Rattle.spec_learn.specs.Shorter.{shorter_walk, shortened}
 use Rattle.spec_learn.specs.Analysis.Aim.{Shortened}
 use Rattle.spec_learn.proofs.ApartLemmas.{IsApart, apart-reverse, apart-short}
 use Rattle.mal_learn.specs.Working.{State, see_all, lits_of, kept, resolved, passed, uncounted, here_all}
 use Rattle.mal_learn.specs.Shortening.{Shortening, covers, is_left_out, by_shorter_reason, shorter_visited, shorter_visited_all}
-use Rattle.mal_learn.specs.Shown.{ClausesWithin}
+use Rattle.mal_learn.specs.Shown.{Work, IsFitted, IsFinished}
 use Rattle.mal_learn.proofs.CountLemmas.{is_here, left-some}
 use Rattle.mal_learn.proofs.SortLemmas.{turned-back, sorted-clause}
 use Rattle.mal_learn.proofs.ShowsLemmas.{Shows, AreBelow, vars-of, kept-shows, resolved-shows, passed-here, passed-shows, uncounted-shows}
-use Rattle.mal_learn.proofs.AnalysedLemmas.{start, here-is, here-long, begin-shows, clauses-below}
+use Rattle.mal_learn.proofs.AnalysedLemmas.{start, here-is, here-long, begin-shows, clauses-below, HasRoom, IsFound}
 use Rattle.mal_learn.proofs.WalkLemmas.{reverse-got, AddsOne, kept-adds, resolved-adds}
 
 -- what a shortening at work shows: besides, the variables of level 0 to come
@@ -76,12 +73,6 @@ walked-shorter : (n level id : ℕ) (clauses : List NumberedClause) (past : List
 walked-shorter n level id clauses [] w x below a long h = h
 walked-shorter n level id clauses (e ∷ past) w x below a long h = walked-shorter n level id clauses past (after_entry (Shortened level clauses) clauses e past w) (shorter_visited clauses level e x) below a.3 (omega arith) (visited-shorter n level id clauses e past w x below a (omega arith) h)
 
--- what is found, put in order, is what the definition gives
-pub record IsShortened (clauses : List NumberedClause) (past : List TrailEntry) (id : ℕ) (lits hints : List ℕ) (level : ℕ) : Type 0 where
-  pub clause : lits ≡ (shortened clauses past id).lits
-  pub hints_are : hints ≡ (shortened clauses past id).hints
-  pub target : level ≡ (shortened clauses past id).level
-
 begin-shorter : (n a b d level id : ℕ) (clauses : List NumberedClause) (es : List TrailEntry) → n ≤ a → n ≤ b → n ≤ d → AreBelow n clauses → IsApart n (reverse es) → length (reverse es) < 2 ^ 64 → ShowsShortening n level id (reverse es) (begun (vars_under clauses id)) (record { state = see_all (lits_of clauses id) (start a b level id es); base = here_all 0 es (replicate d false) })
 begin-shorter n a b d level id clauses es p q r below apart long =
     let ld : length (replicate d false) ≡ d = length-replicate d false in
@@ -96,17 +87,22 @@ begin-shorter n a b d level id clauses es p q r below apart long =
     or-false true = refl
     or-false false = refl
 
-pub shortening-done : (n a b d id : ℕ) (clauses : List NumberedClause) (es : List TrailEntry) (x : Shortening) (lits hints : List ℕ) → 1 ≤ n → n ≤ 65537 → n ≤ a → n ≤ b → n ≤ d → ClausesWithin n clauses → EachAfter (IsPlaced (n - 1)) [] es → x ≡ shorter_visited_all clauses (top (reverse es)) (reverse es) (record { state = see_all (lits_of clauses id) (start a b (top (reverse es)) id es); base = here_all 0 es (replicate d false) }) → IsPermutation x.state.lits lits → IsSorted nat_cmp lits → hints ≡ reverse x.state.hints → IsShortened clauses (reverse es) id lits hints x.state.level
-shortening-done n a b d id clauses es x lits hints l small p q r within placed is moved sorted turns =
+pub shortening-done : (n a b y z d id level : ℕ) (clauses : List NumberedClause) (es : List TrailEntry) (s : State) (base walked_base : List Bool) (v w : Work) → HasRoom n es clauses → IsFitted n a b y z → n ≤ d → level ≡ top (reverse es) → s ≡ see_all (lits_of clauses id) (start a b level id es) → base ≡ here_all 0 es (replicate d false) → record { state = v.state; base = walked_base } ≡ shorter_visited_all clauses level (reverse es) (record { state = s; base = base }) → IsFinished v w → IsFound (shortened clauses (reverse es) id) w
+shortening-done n a b y z d id level clauses es s base walked_base v w room fits r tops begins marks walks ends =
     let past : List TrailEntry = reverse es in
-    let apart : IsApart n past = apart-reverse n es l placed in
-    let short : length past + 1 ≤ n = apart-short n past l apart in
-    let w : Walk = shorter_walk clauses past id in
-    let shows : ShowsShortening n (top past) id [] w x = subst (ShowsShortening n (top past) id [] w) (sym is) (walked-shorter n (top past) id clauses past (begun (vars_under clauses id)) (record { state = see_all (lits_of clauses id) (start a b (top past) id es); base = here_all 0 es (replicate d false) }) (clauses-below n clauses within) apart (omega arith) (begin-shorter n a b d (top past) id clauses es p q r (clauses-below n clauses within) apart (omega arith))) in
+    let below : AreBelow n clauses = clauses-below n clauses room.within in
+    let apart : IsApart n past = apart-reverse n es room.some room.placed in
+    let short : length past + 1 ≤ n = apart-short n past room.some apart in
+    let small : n ≤ 65537 = fits.small in
+    let x : Shortening = record { state = v.state; base = walked_base } in
+    let first : Shortening = record { state = see_all (lits_of clauses id) (start a b level id es); base = here_all 0 es (replicate d false) } in
+    let is : x ≡ shorter_visited_all clauses level past first = walks ∙ (ap (λ (t : State). shorter_visited_all clauses level past (record { state = t; base = base })) begins ∙ ap (λ (f : List Bool). shorter_visited_all clauses level past (record first { base = f })) marks) in
+    let at_level : ShowsShortening n level id [] (walked (Shortened level clauses) clauses past (begun (vars_under clauses id))) x = subst (ShowsShortening n level id [] (walked (Shortened level clauses) clauses past (begun (vars_under clauses id)))) (sym is) (walked-shorter n level id clauses past (begun (vars_under clauses id)) first below apart (omega arith) (begin-shorter n a b d level id clauses es fits.seen_fits fits.here_fits r below apart (omega arith))) in
+    let shows : ShowsShortening n (top past) id [] (shorter_walk clauses past id) x = subst (λ (k : ℕ). ShowsShortening n k id [] (walked (Shortened k clauses) clauses past (begun (vars_under clauses id))) x) tops at_level in
     record {
-      clause = sorted-clause w.kept x.state.lits lits shows.shows.lits moved sorted;
-      hints_are = turns ∙ (ap reverse shows.shows.hints ∙ turned-back id w.hints);
-      target = shows.shows.target;
+      clause = sorted-clause (shorter_walk clauses past id).kept v.state.lits w.state.lits shows.shows.lits ends.permutation ends.sorted;
+      hints = ends.hints ∙ (ap reverse shows.shows.hints ∙ turned-back id (shorter_walk clauses past id).hints);
+      level = ends.level ∙ shows.shows.target;
     }
 
 -- each entry adds a literal or a hint at most

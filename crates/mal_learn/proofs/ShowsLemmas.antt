@@ -142,8 +142,9 @@ passed-here n level e past s free fits h v l = by_same (v == var_of e.lit) refl
         rw same (get_or-set_same s.here (var_of e.lit) false false (let u : var_of e.lit < n = subst (λ (x : ℕ). x < n) same l in omega arith) ∙ sym (not-here level past (var_of e.lit) free))
     by_same false q = get_or-set_other s.here (var_of e.lit) v false false (eqb-false v (var_of e.lit) q) ∙ (h v l ∙ ap (λ (b : Bool). b || is_here level past v) (ap (λ (b : Bool). (e.level == level) && b) q ∙ and-false (e.level == level)))
 
-pub passed-shows : (n level id : ℕ) (e : TrailEntry) (past : List TrailEntry) (w : Walk) (s : State) → IsApart n (e ∷ past) → has_var w.seen (var_of e.lit) ≡ false → Shows n level id (e ∷ past) w s → Shows n level id past w (passed e s)
-passed-shows n level id e past w s a unseen h =
+-- and so are the marks, where the variables of the level that are left are counted
+passed-with : (n level id left : ℕ) (e : TrailEntry) (past : List TrailEntry) (w : Walk) (s : State) → IsApart n (e ∷ past) → left ≡ left_count level (has_var w.seen) past → Shows n level id (e ∷ past) w s → Shows n level id past w (record (passed e s) { left = left })
+passed-with n level id left e past w s a counted h =
     let k = h.is_seen in
     record {
       is_seen = record {
@@ -151,32 +152,25 @@ passed-shows n level id e past w s a unseen h =
         here_len = let q = length-set s.here (var_of e.lit) false in let u : n ≤ length s.here = k.here_len in omega arith;
         seen = k.seen;
         here = passed-here n level e past s a.0 k.here_len k.here;
-        left = k.left ∙ (left-cons level (has_var w.seen) e past ∙ ap (λ (b : Bool). cond {A = ℕ} ((e.level == level) && b) 1 0 + left_count level (has_var w.seen) past) unseen ∙ none (e.level == level));
+        left = counted;
       };
       lits = h.lits;
       hints = h.hints;
       target = h.target;
     }
+
+count-passed : (level : ℕ) (e : TrailEntry) (past : List TrailEntry) (w : Walk) (left : ℕ) (b : Bool) → has_var w.seen (var_of e.lit) ≡ b → left ≡ left_count level (has_var w.seen) (e ∷ past) → left ≡ cond {A = ℕ} ((e.level == level) && b) 1 0 + left_count level (has_var w.seen) past
+count-passed level e past w left b q was = was ∙ (left-cons level (has_var w.seen) e past ∙ ap (λ (c : Bool). cond {A = ℕ} ((e.level == level) && c) 1 0 + left_count level (has_var w.seen) past) q)
+
+pub passed-shows : (n level id : ℕ) (e : TrailEntry) (past : List TrailEntry) (w : Walk) (s : State) → IsApart n (e ∷ past) → has_var w.seen (var_of e.lit) ≡ false → Shows n level id (e ∷ past) w s → Shows n level id past w (passed e s)
+passed-shows n level id e past w s a unseen h = passed-with n level id s.left e past w s a (none (e.level == level) (count-passed level e past w s.left false unseen h.is_seen.left)) h
   where
-    none : (b : Bool) → cond {A = ℕ} (b && false) 1 0 + left_count level (has_var w.seen) past ≡ left_count level (has_var w.seen) past
-    none true = omega arith
-    none false = omega arith
+    none : (b : Bool) → s.left ≡ cond {A = ℕ} (b && false) 1 0 + left_count level (has_var w.seen) past → s.left ≡ left_count level (has_var w.seen) past
+    none true q = omega arith
+    none false q = omega arith
 
 pub uncounted-shows : (n level id : ℕ) (e : TrailEntry) (past : List TrailEntry) (w : Walk) (s : State) → IsApart n (e ∷ past) → has_var w.seen (var_of e.lit) ≡ true → Shows n level id (e ∷ past) w s → Shows n level id past w (uncounted level e (passed e s))
-uncounted-shows n level id e past w s a seen h =
-    let k = h.is_seen in
-    record {
-      is_seen = record {
-        seen_len = k.seen_len;
-        here_len = let q = length-set s.here (var_of e.lit) false in let u : n ≤ length s.here = k.here_len in omega arith;
-        seen = k.seen;
-        here = passed-here n level e past s a.0 k.here_len k.here;
-        left = one (e.level == level) (k.left ∙ (left-cons level (has_var w.seen) e past ∙ ap (λ (b : Bool). cond {A = ℕ} ((e.level == level) && b) 1 0 + left_count level (has_var w.seen) past) seen));
-      };
-      lits = h.lits;
-      hints = h.hints;
-      target = h.target;
-    }
+uncounted-shows n level id e past w s a seen h = passed-with n level id (uncounted level e s).left e past w s a (one (e.level == level) (count-passed level e past w s.left true seen h.is_seen.left)) h
   where
     one : (b : Bool) → s.left ≡ cond {A = ℕ} (b && true) 1 0 + left_count level (has_var w.seen) past → cond b (s.left - 1) s.left ≡ left_count level (has_var w.seen) past
     one true q = omega arith

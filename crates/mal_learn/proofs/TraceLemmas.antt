@@ -1,8 +1,6 @@
 use Rattle.std.proofs.Common.{◌≡◌, ℕ, zero, suc, ◌+◌, ◌-◌, ◌<◌, ◌≤◌, Bool, true, false, cond, List, [], ◌∷◌, ◌++◌, length, get_or, take, reverse, replicate, Option, Some, None, refl, sym, ap, ◌∙◌, subst, append_assoc, append-nil, arith}
 use Rattle.std.specs.Prelude.{◌==◌, ◌||◌, slice_get}
 use Rattle.std.specs.Option.{option_map_or}
-use Rattle.std.specs.List.Sorted.{IsPermutation, IsSorted}
-use Rattle.std.specs.Ordering.{nat_cmp}
 use Rattle.std.proofs.lemmas.List.{length_push, length-replicate, get_or-replicate, reverse-append}
 use Rattle.std.proofs.lemmas.List.Elements.{All-nil, All-cons, All-head, All-tail}
 use Rattle.std.proofs.lemmas.List.Folds.{list_any-append}
@@ -14,10 +12,10 @@ use Rattle.spec_learn.specs.Analysis.Aim.{Final}
 use Rattle.spec_learn.proofs.CoreLemmas.{assumed, with_base, base-walked, clause-turned}
 use Rattle.mal_learn.specs.Working.{State, see_all, lits_of, resolved}
 use Rattle.mal_learn.specs.Tracing.{begun_with, by_cause, traced, traced_all, traced_behind, traced_from}
-use Rattle.mal_learn.specs.Shown.{ClausesWithin, EntriesWithin}
+use Rattle.mal_learn.specs.Shown.{Work, IsFitted, IsFinished, EntriesWithin}
 use Rattle.mal_learn.proofs.SortLemmas.{negations, turned, turned-back, sorted-clause}
 use Rattle.mal_learn.proofs.ShowsLemmas.{IsSeen, same-seen, see_all-shows, vars-of, AreBelow}
-use Rattle.mal_learn.proofs.AnalysedLemmas.{clauses-below}
+use Rattle.mal_learn.proofs.AnalysedLemmas.{clauses-below, entries-within, HasRoom, IsFound}
 use Rattle.mal_learn.proofs.WalkLemmas.{Leaves, see_all-leaves, reverse-got, AddsOne, resolved-adds}
 
 -- each entry adds a literal or a hint at most
@@ -129,12 +127,6 @@ begun-seen n a b l p q =
       left = refl;
     }
 
--- what is found, put in order, is what the definition gives
-pub record IsCored (clauses : List NumberedClause) (past : List TrailEntry) (x : ℕ) (lits hints : List ℕ) (level : ℕ) : Type 0 where
-  pub clause : lits ≡ (core clauses past x).lits
-  pub hints_are : hints ≡ (core clauses past x).hints
-  pub target : level ≡ (core clauses past x).level
-
 record HasFound (clauses : List NumberedClause) (x : ℕ) (past : List TrailEntry) (s : State) : Type 0 where
   pub es : List TrailEntry
   pub lits : s.lits ≡ negations es
@@ -177,15 +169,16 @@ small-front n (suc k) (e ∷ es) h = All-cons (λ x. var_of x.lit < n) e (take k
 small-take : (n k : ℕ) (es : List TrailEntry) → EntriesWithin n es → AreSmall n (reverse (take k es))
 small-take n k es h = subst (AreSmall n) (append-nil (reverse (take k es))) (small-behind n (take k es) [] (small-front n k es h) tt)
 
-pub core-done : (n a b x k : ℕ) (clauses : List NumberedClause) (es : List TrailEntry) (s : State) (lits hints : List ℕ) → n ≤ a → n ≤ b → ClausesWithin n clauses → EntriesWithin n es → reached (negated x) (reverse es) ≡ reverse (take k es) → s ≡ traced_from clauses (reverse (take k es)) (begun_with a b (negated x)) → IsPermutation s.lits lits → IsSorted nat_cmp lits → hints ≡ reverse s.hints → IsCored clauses (reverse es) x lits hints s.level
-core-done n a b x k clauses es s lits hints p q within small at is moved sorted turns =
+pub core-done : (n a b y z x negation k : ℕ) (clauses : List NumberedClause) (es : List TrailEntry) (s : State) (v w : Work) → HasRoom n es clauses → IsFitted n a b y z → negation ≡ negated x → reached negation (reverse es) ≡ reverse (take k es) → s ≡ begun_with a b negation → v.state ≡ traced_from clauses (reverse (take k es)) s → IsFinished v w → IsFound (core clauses (reverse es) x) w
+core-done n a b y z x negation k clauses es s v w room fits negates at begins traces ends =
     let past : List TrailEntry = reverse (take k es) in
-    let f : HasFound clauses x past s = subst (HasFound clauses x past) (sym is) (found n a b x clauses past p q (clauses-below n clauses within) (small-take n k es small)) in
-    let same : core_at clauses x past ≡ core clauses (reverse es) x = ap (core_at clauses x) (sym at) in
+    let is : v.state ≡ traced_from clauses past (begun_with a b (negated x)) = traces ∙ ap (traced_from clauses past) (begins ∙ ap (begun_with a b) negates) in
+    let f : HasFound clauses x past v.state = subst (HasFound clauses x past) (sym is) (found n a b x clauses past fits.seen_fits fits.here_fits (clauses-below n clauses room.within) (small-take n k es (entries-within n es [] room.some room.placed))) in
+    let same : core_at clauses x past ≡ core clauses (reverse es) x = ap (core_at clauses x) (sym (rw negates at at)) in
     record {
-      clause = sorted-clause f.es s.lits lits f.lits moved sorted ∙ (f.clause ∙ ap (λ (y : Analysed). y.lits) same);
-      hints_are = turns ∙ (f.hints ∙ ap (λ (y : Analysed). y.hints) same);
-      target = f.level ∙ ap (λ (y : Analysed). y.level) same;
+      clause = sorted-clause f.es v.state.lits w.state.lits f.lits ends.permutation ends.sorted ∙ (f.clause ∙ ap (λ (a : Analysed). a.lits) same);
+      hints = ends.hints ∙ (f.hints ∙ ap (λ (a : Analysed). a.hints) same);
+      level = ends.level ∙ (f.level ∙ ap (λ (a : Analysed). a.level) same);
     }
 
 pub resolved-lits : (clauses : List NumberedClause) (r : ℕ) (s : State) → length (resolved clauses r s).lits ≡ length s.lits

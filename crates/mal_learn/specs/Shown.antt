@@ -1,4 +1,6 @@
-use Rattle.std.specs.Prelude.{ℕ, ◌+◌, ◌-◌, ◌≤◌, ◌<◌, List, All, length, slice_index_or}
+use Rattle.std.specs.Prelude.{◌≡◌, ℕ, ◌+◌, ◌-◌, ◌≤◌, ◌<◌, List, All, length, reverse, slice_index_or}
+use Rattle.std.specs.List.Sorted.{IsPermutation, IsSorted}
+use Rattle.std.specs.Ordering.{nat_cmp}
 use Rattle.mal_base.specs.NumberedClause.{NumberedClause}
 use Rattle.mal_base.specs.Literals.{var_of}
 use Rattle.mal_base.specs.declared.trail_entry.TrailEntry.{TrailEntry}
@@ -8,6 +10,14 @@ use Rattle.mal_learn.specs.Working.{State}
 pub record Work : Type 0 where
   pub state : State
   pub room : ℕ
+
+-- an analysis is finished: the literals are put in order and the hints turned round
+pub record IsFinished (before now : Work) : Type 0 where
+  pub permutation : IsPermutation before.state.lits now.state.lits
+  pub sorted : IsSorted nat_cmp now.state.lits
+  pub hints : now.state.hints ≡ reverse before.state.hints
+  pub level : now.state.level ≡ before.state.level
+  pub room : now.room ≡ before.room
 
 -- what an analysis leaves: the clause, its hints, the level to jump to, and the bound below which there is room for
 -- each variable, 0 before there is any; and for the numbers of how many clauses there is room, and which were chosen

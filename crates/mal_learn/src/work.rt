@@ -2,14 +2,12 @@
 
 ghost use Rattle.std.specs.Prelude.{◌≡◌, ◌+◌, ◌-◌, ◌≤◌, ◌<◌, max, All, length, replicate, reverse, take, false, true};
 ghost use Rattle.std.specs.Prelude.{[], ◌∷◌, slice_index_or, slice_set, OnOk};
-ghost use Rattle.std.specs.List.Sorted.{IsPermutation, IsSorted};
-ghost use Rattle.std.specs.Ordering.{nat_cmp};
 ghost use Rattle.mal_base.specs.Literals.{var_of};
 ghost use Rattle.mal_learn.specs.Working.{see, see_all, lits_of, kept, resolved, by_reason, visited, visited_all, here_all};
 ghost use Rattle.mal_learn.specs.Tracing.{begun_with, traced, traced_all, traced_from};
 ghost use Rattle.mal_learn.specs.Shortening.{Shortening, covers, is_left_out, by_shorter_reason};
 ghost use Rattle.mal_learn.specs.Shortening.{shorter_state, shorter_visited_all};
-ghost use Rattle.mal_learn.specs.Shown.{IsFitted, AreWithin, ClausesWithin, EntriesWithin, last_of};
+ghost use Rattle.mal_learn.specs.Shown.{IsFitted, IsFinished, AreWithin, ClausesWithin, EntriesWithin, last_of};
 
 use crate::flags::Flags;
 use mal_base::{ClauseId, ClauseView, Lit, TrailEntry, TrailView, Var};
@@ -84,11 +82,7 @@ impl Work {
 
     /// Puts the literals and the hints in order.
     pub fn finish(&mut self)
-        ensures permutation { IsPermutation self.old.state.lits self.new.state.lits }
-        ensures sorted { IsSorted nat_cmp self.new.state.lits }
-        ensures hints { self.new.state.hints ≡ reverse self.old.state.hints }
-        ensures level { self.new.state.level ≡ self.old.state.level }
-        ensures room { self.new.room ≡ self.old.room }
+        ensures { IsFinished self.old self.new }
     {
         self.lits.sort_unstable();
         self.hints.as_mut_slice().reverse();
