@@ -4,6 +4,7 @@ use Rattle.spec_learn.specs.Order.{moved}
 use Rattle.mal_order.specs.Rings.{link, walk, Leads, ArePlaced}
 use Rattle.mal_order.proofs.RingLemmas.{ring-taken, ring-bumped, leads-same, walk-leads, length-walk}
 use Rattle.mal_order.proofs.ring.Ring.bump.Goals as goal
+use Rattle.mal_order.proofs.ring.Ring.bump.Goals.{After-tie-3}
 
 pub tie-requires-clause-here : goal.tie-requires-clause-here
 tie-requires-clause-here c =
@@ -39,27 +40,37 @@ tie-requires-3-clause-there c =
     let t = ring-taken r.after r.before c.args.number r.spare _ c.self.invariant (rw (← c.self.view_is) at c.requires) in
     rw (c.tie-2.ensures.before, length-set, c.tie.ensures.before, length-set, c.self.invariant.same) t.here
 
-pub invariant_of-self : goal.invariant_of-self
-invariant_of-self c =
+-- the links lead over the moved list in the end
+leads : (c : After-tie-3) → Leads c.tie-3.new.after.numbers c.tie-3.new.before.numbers 0 (moved c.args.number (walk c.self.inside.after.numbers 0 c.self.inside.count)) 0
+leads c =
     let r = c.self.inside in
-    let has = rw (← c.self.view_is) at c.requires in
-    let t = ring-taken r.after r.before c.args.number r.spare _ c.self.invariant has in
     let a = rw (c.get-left.ensures, c.get-right.ensures) at c.tie.ensures.after in
     let b = rw (c.get-left.ensures, c.get-right.ensures) at c.tie.ensures.before in
-    let f = ring-bumped r.after r.before c.args.number r.spare _ c.tie.new.after.numbers c.tie.new.before.numbers c.self.invariant has a b in
-    let list = walk r.after.numbers 0 r.count in
+    let f = ring-bumped r.after r.before c.args.number r.spare _ c.tie.new.after.numbers c.tie.new.before.numbers c.self.invariant (rw (← c.self.view_is) at c.requires) a b in
     let first = link c.tie.new.after.numbers 0 in
     let after_is : c.tie-3.new.after.numbers ≡ set (set c.tie.new.after.numbers c.args.number first) 0 c.args.number = rw (c.tie-3.ensures.after, c.tie-2.ensures.after, c.get-first.ensures) refl in
     let before_is : c.tie-3.new.before.numbers ≡ set (set c.tie.new.before.numbers first c.args.number) c.args.number 0 = rw (c.tie-3.ensures.before, c.tie-2.ensures.before, c.get-first.ensures) refl in
-    let leads : Leads c.tie-3.new.after.numbers c.tie-3.new.before.numbers 0 (moved c.args.number list) 0 = leads-same c.tie-3.new.after.numbers _ c.tie-3.new.before.numbers _ 0 0 (moved c.args.number list) after_is before_is f.1 in
+    leads-same c.tie-3.new.after.numbers _ c.tie-3.new.before.numbers _ 0 0 (moved c.args.number (walk r.after.numbers 0 r.count)) after_is before_is f.1
+
+-- so the walk along them is the moved list
+walks : (c : After-tie-3) → walk c.tie-3.new.after.numbers 0 c.self.inside.count ≡ moved c.args.number (walk c.self.inside.after.numbers 0 c.self.inside.count)
+walks c =
+    let r = c.self.inside in
+    let list = walk r.after.numbers 0 r.count in
+    let t = ring-taken r.after r.before c.args.number r.spare list c.self.invariant (rw (← c.self.view_is) at c.requires) in
     let long : length (moved c.args.number list) ≡ r.count = t.long ∙ length-walk r.after.numbers 0 r.count in
-    let same = ap (λ (n : ℕ). walk c.tie-3.new.after.numbers 0 n) (sym long) ∙ walk-leads c.tie-3.new.after.numbers c.tie-3.new.before.numbers 0 0 (moved c.args.number list) leads in
+    ap (λ (n : ℕ). walk c.tie-3.new.after.numbers 0 n) (sym long) ∙ walk-leads c.tie-3.new.after.numbers c.tie-3.new.before.numbers 0 0 (moved c.args.number list) (leads c)
+
+pub invariant_of-self : goal.invariant_of-self
+invariant_of-self c =
+    let r = c.self.inside in
+    let t = ring-taken r.after r.before c.args.number r.spare _ c.self.invariant (rw (← c.self.view_is) at c.requires) in
     let after : length c.tie-3.new.after.numbers ≡ length r.after.numbers = rw (c.tie-3.ensures.after, c.tie-2.ensures.after, c.tie.ensures.after, length-set, length-set, length-set) refl in
     let before : length c.tie-3.new.before.numbers ≡ length r.before.numbers = rw (c.tie-3.ensures.before, c.tie-2.ensures.before, c.tie.ensures.before, length-set, length-set, length-set) refl in
-    rw same (record {
-      leads = leads;
+    rw (walks c) (record {
+      leads = leads c;
       once = t.once;
-      placed = subst (λ (n : ℕ). ArePlaced n (moved c.args.number list)) (sym after) t.placed;
+      placed = subst (λ (n : ℕ). ArePlaced n (moved c.args.number (walk r.after.numbers 0 r.count))) (sym after) t.placed;
       same = before ∙ (c.self.invariant.same ∙ sym after);
       some = rw after c.self.invariant.some;
       room_after = omega (arith, c.tie-3.ensures.room_after, c.tie-2.ensures.room_after, c.tie.ensures.room_after, c.self.invariant.room_after);
@@ -67,21 +78,7 @@ invariant_of-self c =
     })
 
 pub returns-clause-list : goal.returns-clause-list
-returns-clause-list c =
-    let r = c.self.inside in
-    let has = rw (← c.self.view_is) at c.requires in
-    let t = ring-taken r.after r.before c.args.number r.spare _ c.self.invariant has in
-    let a = rw (c.get-left.ensures, c.get-right.ensures) at c.tie.ensures.after in
-    let b = rw (c.get-left.ensures, c.get-right.ensures) at c.tie.ensures.before in
-    let f = ring-bumped r.after r.before c.args.number r.spare _ c.tie.new.after.numbers c.tie.new.before.numbers c.self.invariant has a b in
-    let list = walk r.after.numbers 0 r.count in
-    let first = link c.tie.new.after.numbers 0 in
-    let after_is : c.tie-3.new.after.numbers ≡ set (set c.tie.new.after.numbers c.args.number first) 0 c.args.number = rw (c.tie-3.ensures.after, c.tie-2.ensures.after, c.get-first.ensures) refl in
-    let before_is : c.tie-3.new.before.numbers ≡ set (set c.tie.new.before.numbers first c.args.number) c.args.number 0 = rw (c.tie-3.ensures.before, c.tie-2.ensures.before, c.get-first.ensures) refl in
-    let leads : Leads c.tie-3.new.after.numbers c.tie-3.new.before.numbers 0 (moved c.args.number list) 0 = leads-same c.tie-3.new.after.numbers _ c.tie-3.new.before.numbers _ 0 0 (moved c.args.number list) after_is before_is f.1 in
-    let long : length (moved c.args.number list) ≡ r.count = t.long ∙ length-walk r.after.numbers 0 r.count in
-    let same = ap (λ (n : ℕ). walk c.tie-3.new.after.numbers 0 n) (sym long) ∙ walk-leads c.tie-3.new.after.numbers c.tie-3.new.before.numbers 0 0 (moved c.args.number list) leads in
-    rw (← c.self.view_is) same
+returns-clause-list c = rw (← c.self.view_is) (walks c)
 
 pub returns-clause-len : goal.returns-clause-len
 returns-clause-len c = rw (← c.self.view_is) (length-walk _ _ _ ∙ sym (length-walk c.self.inside.after.numbers 0 c.self.inside.count))
