@@ -286,21 +286,30 @@ added heads links more keys longer taken key list node to c e n l t m k =
     rw (m, k, t, n, e) (from-linked _ _ _ _ _ _ now, out-is _ _ _ _ _ _ now)
 
 -- after the first node that was out was put back
-pub put : (heads links : List (Option ℕ)) (keys : List ℕ) (taken : Option ℕ) (key list node : ℕ) (to next : Option ℕ) → IsChained heads links keys taken → chain links (length links) taken ≡ node ∷ drop 1 (chain links (length links) taken) → list ≡ key → key < length heads → to ≡ link_at heads list → next ≡ link_at links node → IsChained (set heads list (Some node)) (set links node to) (set keys node key) next × (chain (set links node to) (length (set links node to)) next ≡ drop 1 (chain links (length links) taken))
+pub record IsPut (heads links : List (Option ℕ)) (keys : List ℕ) (taken : Option ℕ) (key list node : ℕ) (to next : Option ℕ) : Type 0 where
+  pub chained : IsChained (set heads list (Some node)) (set links node to) (set keys node key) next
+  pub out : chain (set links node to) (length (set links node to)) next ≡ drop 1 (chain links (length links) taken)
+
+pub put : (heads links : List (Option ℕ)) (keys : List ℕ) (taken : Option ℕ) (key list node : ℕ) (to next : Option ℕ) → IsChained heads links keys taken → chain links (length links) taken ≡ node ∷ drop 1 (chain links (length links) taken) → list ≡ key → key < length heads → to ≡ link_at heads list → next ≡ link_at links node → IsPut heads links keys taken key list node to next
 put heads links keys taken key list node to next c f e l t n =
     let was = to-linked heads links keys taken c in
     let first : Linked heads links keys taken c.lists (node ∷ drop 1 (chain links (length links) taken)) = subst (λ (xs : List ℕ). Linked heads links keys taken c.lists xs) f was in
     let now = put-back heads links keys taken c.lists (drop 1 (chain links (length links) taken)) node key l first in
-    rw (t, n, e) (from-linked _ _ _ _ _ _ now, out-is _ _ _ _ _ _ now)
+    rw (t, n, e) (record { chained = from-linked _ _ _ _ _ _ now; out = out-is _ _ _ _ _ _ now })
 
 -- after the nodes of a literal were taken out
-pub took : (heads links : List (Option ℕ)) (keys : List ℕ) (taken : Option ℕ) (key list : ℕ) (next : Option ℕ) → IsChained heads links keys taken → chain links (length links) taken ≡ [] → list ≡ key → list < length heads → next ≡ link_at heads list → IsChained (set heads list None) links keys next × ((k : ℕ) → Has (chain links (length links) next) k ↔ IsAt keys k key) × AreOnce (chain links (length links) next)
+pub record IsTaken (heads links : List (Option ℕ)) (keys : List ℕ) (key list : ℕ) (next : Option ℕ) : Type 0 where
+  pub chained : IsChained (set heads list None) links keys next
+  pub nodes : (k : ℕ) → Has (chain links (length links) next) k ↔ IsAt keys k key
+  pub once : AreOnce (chain links (length links) next)
+
+pub took : (heads links : List (Option ℕ)) (keys : List ℕ) (taken : Option ℕ) (key list : ℕ) (next : Option ℕ) → IsChained heads links keys taken → chain links (length links) taken ≡ [] → list ≡ key → list < length heads → next ≡ link_at heads list → IsTaken heads links keys key list next
 took heads links keys taken key list next c f e l n =
     let was : Linked heads links keys taken c.lists [] = subst (λ (xs : List ℕ). Linked heads links keys taken c.lists xs) f (to-linked heads links keys taken c) in
     let inside : key < length heads = rw e at l in
     let now = take-linked heads links keys taken c.lists key inside was in
     let is : chain links (length links) (link_at heads key) ≡ c.lists key = out-is _ _ _ _ _ _ now in
-    rw (n, e, is) (from-linked _ _ _ _ _ _ now, taken-are heads links keys taken c.lists key was, c.once key)
+    rw (n, e) (record { chained = from-linked _ _ _ _ _ _ now; nodes = rw is (taken-are heads links keys taken c.lists key was); once = rw is (c.once key) })
 
 -- after none was, as the literal has no list
 pub took-none : (heads links : List (Option ℕ)) (keys : List ℕ) (taken : Option ℕ) (key : ℕ) (out : List ℕ) → IsChained heads links keys taken → chain links (length links) taken ≡ [] → length heads ≤ key → out ≡ [] → (k : ℕ) → Has out k ↔ IsAt keys k key

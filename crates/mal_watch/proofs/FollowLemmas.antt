@@ -23,6 +23,7 @@ use Rattle.mal_store.specs.Stored.{Among, is_long, with_long}
 use Rattle.mal_watch.specs.Following.{AreSingle, Follows}
 use Rattle.mal_watch.proofs.HasLemmas.{has-none, has-cases}
 use Rattle.mal_store.proofs.AmongLemmas.{among-at, among-with, with-among, under-none, rise-with}
+use Rattle.mal_watch.specs.FollowLaws.{follows-with}
 use Rattle.mal_watch.proofs.TurnLemmas.{partner-even, partner-odd, only-last, goes-start, goes-end, goes-apart}
 use Rattle.mal_watch.proofs.FoundLemmas.{found-is}
 use Rattle.mal_watch.proofs.FalseLemmas.{true-more, false-more, open-less}
@@ -281,18 +282,7 @@ pub record IsFound (clauses rows : List NumberedClause) (keys : List ℕ) (found
 pub after-walk : (clauses rows : List NumberedClause) (keys out idle now : List ℕ) (found : List Found) (lists capacity : ℕ) (entries : List TrailEntry) (count : ℕ) (f : ℕ) → Follows clauses rows keys idle lists capacity entries count → Turns entries count f → ((k : ℕ) → Has out k ↔ IsAt keys k f) → AreOnce out → Goes entries count f lists rows now [] → IsPermutation (found_in (take count entries) entries rows out) found → IsNonDecreasingBy (λ (x : Found). x.id) found → IsFound clauses rows now found lists capacity entries count
 after-walk clauses rows keys out idle now found lists capacity entries count f w t nodes once goes moved s =
     record {
-      follows = record {
-        numbers = w.numbers;
-        held = w.held;
-        each = w.each;
-        single = w.single;
-        form = w.form;
-        watching = goes.watching;
-        apart = goes.apart;
-        idle = refl;
-        room = w.room;
-        kept = goes-end entries count f lists rows now goes;
-      };
+      follows = follows-with clauses rows keys idle now [] lists capacity entries entries count (count + 1) w goes.watching goes.apart refl (goes-end entries count f lists rows now goes);
       found_is = found-is (take count entries) entries f lists clauses rows keys out found w.numbers w.held w.single w.watching w.apart nodes once (batch-rows clauses rows entries count t.some t.within w.each) (λ k l d e. goes-apart entries count f lists rows keys k t w.watching w.apart (rows-once rows w.form) w.kept l d e) moved s;
     }
 
@@ -303,24 +293,13 @@ passed-none p h (c ∷ cs) = rw (h c) (passed-none p h cs)
 -- an entry whose literal was true before makes no batch
 pub no-walk : (clauses rows : List NumberedClause) (keys : List ℕ) (lists capacity : ℕ) (entries : List TrailEntry) (count : ℕ) (e : TrailEntry) (idle : List ℕ) → 1 ≤ count → count ≤ length entries → e ≡ get_or entries (count - 1) e → is_false (take (count - 1) entries) (negated e.lit) ≡ true → Follows clauses rows keys idle lists capacity entries count → Follows clauses rows keys idle lists capacity entries (count + 1) × ([] ≡ pending (take count entries) entries clauses)
 no-walk clauses rows keys lists capacity entries count e idle s l is was f = (
-  record {
-    numbers = f.numbers;
-    held = f.held;
-    each = f.each;
-    single = f.single;
-    form = f.form;
-    watching = f.watching;
-    apart = f.apart;
-    idle = f.idle;
-    room = f.room;
-    kept = λ n k h m. elim (cases_eq n count) [
-      | inl q ↦ rw q (λ z. elim (f.kept (count - 1) k (omega arith) m (back (get_or keys k 0) z)) [
-        | inl closed ↦ inl (λ x i d. false-more (count - 1) count entries x (omega arith) (closed x i d))
-        | inr holds ↦ inr (true-more (count - 1) count entries (other_key keys k) (omega arith) holds)
-      ])
-      | inr d ↦ f.kept n k (omega (arith, h, d)) m
-    ];
-  },
+  follows-with clauses rows keys idle keys idle lists capacity entries entries count (count + 1) f f.watching f.apart f.idle (λ n k h m. elim (cases_eq n count) [
+    | inl q ↦ rw q (λ z. elim (f.kept (count - 1) k (omega arith) m (back (get_or keys k 0) z)) [
+      | inl closed ↦ inl (λ x i d. false-more (count - 1) count entries x (omega arith) (closed x i d))
+      | inr holds ↦ inr (true-more (count - 1) count entries (other_key keys k) (omega arith) holds)
+    ])
+    | inr d ↦ f.kept n k (omega (arith, h, d)) m
+  ]),
   ap (λ (cs : List NumberedClause). map (found_of (take count entries)) cs) (sym (passed-none (is_pending (take count entries) entries) (λ c. rw (never c) refl) clauses)),
 )
   where

@@ -10,7 +10,7 @@ use Rattle.spec_node.specs.Value.{is_true, is_false, open_count, left_literal}
 use Rattle.spec_node.specs.Batch.{is_in_batch}
 use Rattle.mal_watch.specs.WatchLists.{Has, AreOnce, IsAt}
 use Rattle.mal_store.specs.Rowed.{no_row}
-use Rattle.mal_watch.specs.Watching.{row_at, partner, IsOther, AreOthersFalse, other_key, IsWatching, IsWatchKept}
+use Rattle.mal_watch.specs.Watching.{row_at, partner, IsOther, AreOthersFalse, IsSettled, other_key, IsWatching, IsWatchKept}
 use Rattle.mal_watch.specs.Going.{Turns, Goes}
 use Rattle.mal_watch.specs.Finding.{is_pending, found_at}
 use Rattle.mal_watch.specs.declared.found.Found.{Found}
@@ -236,6 +236,22 @@ goes-moved es q f lists rows keys rest k r t g found =
           batch-no es q (row_at rows k) t.some t.within (λ s. omega (arith, two, s));
     }
 
+-- the first node that is left is done where it watches as it may
+goes-done : (es : List TrailEntry) (q f lists : ℕ) (rows : List NumberedClause) (keys rest : List ℕ) (k : ℕ) → Goes es q f lists rows keys (k ∷ rest) → IsWatchKept (take q es) rows keys k → Goes es q f lists rows keys rest
+goes-done es q f lists rows keys rest k g w =
+    record {
+      watching = g.watching;
+      apart = g.apart;
+      form = g.form;
+      left_is = λ m h. g.left_is m (has-tail m k rest h);
+      once = g.once.1;
+      kept = g.kept;
+      done = λ m l h. elim (cases_eq m k) [
+        | inl s ↦ rw s w
+        | inr d ↦ g.done m l (λ i. elim (has-cases m k rest i) [ inl s ↦ d s | inr x ↦ h x ])
+      ];
+    }
+
 -- a clause whose other literals are false but for the other watched one
 pub goes-stays : (es : List TrailEntry) (q f lists : ℕ) (rows : List NumberedClause) (keys rest : List ℕ) (k : ℕ) → Turns es q f → Goes es q f lists rows keys (k ∷ rest) → AreOthersFalse (take q es) (other_key keys k) (row_at rows k).lits → Goes-next es q f lists rows keys keys rest k (not (is_false (take q es) (other_key keys k)))
 goes-stays es q f lists rows keys rest k t g others =
@@ -246,18 +262,7 @@ goes-stays es q f lists rows keys rest k t g others =
     let has_f : Has lits f = rw here.1 at (g.watching.own k here.0) in
     let f_other : f ≢ o = rw here.1 at (g.apart k here.0) in
     record {
-      goes = record {
-        watching = g.watching;
-        apart = g.apart;
-        form = g.form;
-        left_is = λ m h. g.left_is m (has-tail m k rest h);
-        once = g.once.1;
-        kept = g.kept;
-        done = λ m l h. elim (cases_eq m k) [
-          | inl s ↦ rw s (λ z. inl others)
-          | inr d ↦ g.done m l (λ i. elim (has-cases m k rest i) [ inl s ↦ d s | inr x ↦ h x ])
-        ];
-      };
+      goes = goes-done es q f lists rows keys rest k g (λ z. inl others);
       batch = by_value others has_o has_f f_other (g.form k) (is_false (take q es) o) refl;
     }
   where
@@ -316,34 +321,20 @@ stays : (es : List TrailEntry) (q f lists : ℕ) (rows : List NumberedClause) (k
 stays es q f lists rows keys rest k g = let here = g.left_is k (has-head k k rest refl) in ap (λ (x : ℕ). set keys k x) (sym here.1) ∙ set-get_or keys k 0
 
 -- the other watched literal is true
-pub visit-spared : (es : List TrailEntry) (q f lists : ℕ) (rows : List NumberedClause) (keys rest : List ℕ) (k : ℕ) → Turns es q f → Goes es q f lists rows keys (k ∷ rest) → is_true (take q es) (other_key keys k) ≡ true → Visited es q f lists rows (set keys k f) rest k []
+visit-spared : (es : List TrailEntry) (q f lists : ℕ) (rows : List NumberedClause) (keys rest : List ℕ) (k : ℕ) → Turns es q f → Goes es q f lists rows keys (k ∷ rest) → is_true (take q es) (other_key keys k) ≡ true → Visited es q f lists rows (set keys k f) rest k []
 visit-spared es q f lists rows keys rest k t g u =
     let here = g.left_is k (has-head k k rest refl) in
     let has_o : Has (row_at rows k).lits (other_key keys k) = other-has lists rows keys k g.watching here.0 in
     let no = true-not-pending es q (row_at rows k) (other_key keys k) t.some t.within has_o u (t.clear (other_key keys k) u) in
-    record {
-      goes = rw (stays es q f lists rows keys rest k g) (record {
-        watching = g.watching;
-        apart = g.apart;
-        form = g.form;
-        left_is = λ m h. g.left_is m (has-tail m k rest h);
-        once = g.once.1;
-        kept = g.kept;
-        done = λ m l h. elim (cases_eq m k) [
-          | inl s ↦ rw s (λ z. inr u)
-          | inr d ↦ g.done m l (λ i. elim (has-cases m k rest i) [ inl s ↦ d s | inr x ↦ h x ])
-        ];
-      });
-      finds = rw no refl;
-    }
+    record { goes = rw (stays es q f lists rows keys rest k g) (goes-done es q f lists rows keys rest k g (λ z. inr u)); finds = rw no refl }
 
-pub visit-false : (es : List TrailEntry) (q f lists : ℕ) (rows : List NumberedClause) (keys rest : List ℕ) (k : ℕ) → Turns es q f → Goes es q f lists rows keys (k ∷ rest) → AreOthersFalse (take q es) (other_key keys k) (row_at rows k).lits → is_false (take q es) (other_key keys k) ≡ true → Visited es q f lists rows (set keys k f) rest k []
+visit-false : (es : List TrailEntry) (q f lists : ℕ) (rows : List NumberedClause) (keys rest : List ℕ) (k : ℕ) → Turns es q f → Goes es q f lists rows keys (k ∷ rest) → AreOthersFalse (take q es) (other_key keys k) (row_at rows k).lits → is_false (take q es) (other_key keys k) ≡ true → Visited es q f lists rows (set keys k f) rest k []
 visit-false es q f lists rows keys rest k t g o e =
     let next = goes-stays es q f lists rows keys rest k t g o in
     let no : is_in_batch (take q es) (row_at rows k) ≡ false = next.batch ∙ ap not e in
     record { goes = rw (stays es q f lists rows keys rest k g) next.goes; finds = rw no refl }
 
-pub visit-true : (es : List TrailEntry) (q f lists : ℕ) (rows : List NumberedClause) (keys rest : List ℕ) (k : ℕ) → Turns es q f → Goes es q f lists rows keys (k ∷ rest) → AreOthersFalse (take q es) (other_key keys k) (row_at rows k).lits → is_false (take q es) (other_key keys k) ≡ false → is_true es (other_key keys k) ≡ true → Visited es q f lists rows (set keys k f) rest k []
+visit-true : (es : List TrailEntry) (q f lists : ℕ) (rows : List NumberedClause) (keys rest : List ℕ) (k : ℕ) → Turns es q f → Goes es q f lists rows keys (k ∷ rest) → AreOthersFalse (take q es) (other_key keys k) (row_at rows k).lits → is_false (take q es) (other_key keys k) ≡ false → is_true es (other_key keys k) ≡ true → Visited es q f lists rows (set keys k f) rest k []
 visit-true es q f lists rows keys rest k t g o e u =
     let next = goes-stays es q f lists rows keys rest k t g o in
     let yes : is_in_batch (take q es) (row_at rows k) ≡ true = next.batch ∙ ap not e in
@@ -351,13 +342,23 @@ visit-true es q f lists rows keys rest k t g o e u =
     let left = left-only (take q es) (other_key keys k) (row_at rows k).lits o (other-has lists rows keys k g.watching here.0) e in
     record { goes = rw (stays es q f lists rows keys rest k g) next.goes; finds = rw (yes, left, u) refl }
 
-pub visit-found : (es : List TrailEntry) (q f lists : ℕ) (rows : List NumberedClause) (keys rest : List ℕ) (k : ℕ) → Turns es q f → Goes es q f lists rows keys (k ∷ rest) → AreOthersFalse (take q es) (other_key keys k) (row_at rows k).lits → is_false (take q es) (other_key keys k) ≡ false → is_true es (other_key keys k) ≡ false → Visited es q f lists rows (set keys k f) rest k (record { id = (row_at rows k).id; lit = other_key keys k } ∷ [])
+visit-found : (es : List TrailEntry) (q f lists : ℕ) (rows : List NumberedClause) (keys rest : List ℕ) (k : ℕ) → Turns es q f → Goes es q f lists rows keys (k ∷ rest) → AreOthersFalse (take q es) (other_key keys k) (row_at rows k).lits → is_false (take q es) (other_key keys k) ≡ false → is_true es (other_key keys k) ≡ false → Visited es q f lists rows (set keys k f) rest k (record { id = (row_at rows k).id; lit = other_key keys k } ∷ [])
 visit-found es q f lists rows keys rest k t g o e u =
     let next = goes-stays es q f lists rows keys rest k t g o in
     let yes : is_in_batch (take q es) (row_at rows k) ≡ true = next.batch ∙ ap not e in
     let here = g.left_is k (has-head k k rest refl) in
     let left = left-only (take q es) (other_key keys k) (row_at rows k).lits o (other-has lists rows keys k g.watching here.0) e in
     record { goes = rw (stays es q f lists rows keys rest k g) next.goes; finds = rw (yes, left, u) refl }
+
+-- nothing else is to be watched: the clause is found where the other literal alone is left, and not true on the trail
+pub visit-settled : (es : List TrailEntry) (q f lists : ℕ) (rows : List NumberedClause) (keys rest : List ℕ) (k : ℕ) → Turns es q f → Goes es q f lists rows keys (k ∷ rest) → IsSettled (take q es) (other_key keys k) (row_at rows k).lits → (is_false (take q es) (other_key keys k) ≡ true) ⊎ ((is_false (take q es) (other_key keys k) ≡ false) × (is_true es (other_key keys k) ≡ true)) → Visited es q f lists rows (set keys k f) rest k []
+visit-settled es q f lists rows keys rest k t g (inr u) v = visit-spared es q f lists rows keys rest k t g u
+visit-settled es q f lists rows keys rest k t g (inl o) (inl e) = visit-false es q f lists rows keys rest k t g o e
+visit-settled es q f lists rows keys rest k t g (inl o) (inr v) = visit-true es q f lists rows keys rest k t g o v.0 v.1
+
+pub visit-left : (es : List TrailEntry) (q f lists : ℕ) (rows : List NumberedClause) (keys rest : List ℕ) (k : ℕ) → Turns es q f → Goes es q f lists rows keys (k ∷ rest) → IsSettled (take q es) (other_key keys k) (row_at rows k).lits → is_false (take q es) (other_key keys k) ≡ false → is_true es (other_key keys k) ≡ false → Visited es q f lists rows (set keys k f) rest k (record { id = (row_at rows k).id; lit = other_key keys k } ∷ [])
+visit-left es q f lists rows keys rest k t g (inl o) e u = visit-found es q f lists rows keys rest k t g o e u
+visit-left es q f lists rows keys rest k t g (inr v) e u = absurd (false≢true (sym u ∙ true-all q es (other_key keys k) v))
 
 -- the nodes of the literal are left at the start
 pub goes-start : (es : List TrailEntry) (q f lists : ℕ) (rows : List NumberedClause) (keys out : List ℕ) → Turns es q f → IsWatching lists rows keys → ((k : ℕ) → k < length keys → get_or keys k 0 ≢ other_key keys k) → ((k : ℕ) → AreOnce (row_at rows k).lits) → ((n k : ℕ) → n ≤ q - 1 → k < length keys → IsWatchKept (take n es) rows keys k) → ((k : ℕ) → Has out k ↔ IsAt keys k f) → AreOnce out → Goes es q f lists rows keys out
@@ -385,10 +386,6 @@ goes-end es q f lists rows keys g n k h l = by_place (cases_eq n q)
     by_place (inl e) = rw e (g.done k l (has-none k))
     by_place (inr d) = g.kept n k (omega arith) l
 
--- before the last of the first entries all literals but one were false, or that one was true
-abbrev IsApart : List TrailEntry → ℕ → List ℕ → ℕ → Type 0
-IsApart es q lits o = AreOthersFalse (take (q - 1) es) o lits ⊎ (is_true (take (q - 1) es) o ≡ true)
-
 not-pending : (prefix trail : List TrailEntry) (c : NumberedClause) → is_in_batch prefix c ≡ false → is_pending prefix trail c ≡ false
 not-pending prefix trail c h = rw h refl
 
@@ -400,21 +397,21 @@ goes-apart es q f lists rows keys k t w a form kept l d e =
     let own : Has (row_at rows k).lits (get_or keys k 0) = w.own k l in
     let other : Has (row_at rows k).lits (other_key keys k) = other-has lists rows keys k w l in
     let back : other_key keys j ≡ get_or keys k 0 = ap (λ (i : ℕ). get_or keys i 0) (partner-back k) in
-    let by_own : is_false (take (q - 1) es) (get_or keys k 0) ≡ true → IsApart es q (row_at rows k).lits (other_key keys k) = kept (q - 1) k (omega arith) l in
-    let by_other : is_false (take (q - 1) es) (other_key keys k) ≡ true → IsApart es q (row_at rows k).lits (get_or keys k 0) = λ z. elim (kept (q - 1) j (omega arith) below z) [
+    let by_own : is_false (take (q - 1) es) (get_or keys k 0) ≡ true → IsSettled (take (q - 1) es) (other_key keys k) (row_at rows k).lits = kept (q - 1) k (omega arith) l in
+    let by_other : is_false (take (q - 1) es) (other_key keys k) ≡ true → IsSettled (take (q - 1) es) (get_or keys k 0) (row_at rows k).lits = λ z. elim (kept (q - 1) j (omega arith) below z) [
       | inl closed ↦ inl (λ x m n. closed x (subst (λ (c : NumberedClause). Has c.lits x) (sym (same-row rows k)) m) (λ s. n (s ∙ back)))
       | inr holds ↦ inr (rw back at holds)
     ] in
     by_values own other by_own by_other (is_false (take q es) (get_or keys k 0)) refl (is_false (take q es) (other_key keys k)) refl
   where
-    by_side : (o : ℕ) → Has (row_at rows k).lits o → IsApart es q (row_at rows k).lits o → is_pending (take q es) es (row_at rows k) ≡ false
+    by_side : (o : ℕ) → Has (row_at rows k).lits o → IsSettled (take (q - 1) es) o (row_at rows k).lits → is_pending (take q es) es (row_at rows k) ≡ false
     by_side o h (inl closed) =
         not-pending (take q es) es (row_at rows k) (batch-before es q (row_at rows k) t.some t.within (count-most (λ l. not (is_false (take (q - 1) es) l)) (row_at rows k).lits o (form k) (λ x m n. not-true (is_false (take (q - 1) es) x) (closed x m n))))
     by_side o h (inr holds) =
         let now : is_true (take q es) o ≡ true = true-more (q - 1) q es o (omega arith) holds in
         true-not-pending es q (row_at rows k) o t.some t.within h now (t.clear o now)
 
-    by_values : Has (row_at rows k).lits (get_or keys k 0) → Has (row_at rows k).lits (other_key keys k) → (is_false (take (q - 1) es) (get_or keys k 0) ≡ true → IsApart es q (row_at rows k).lits (other_key keys k)) → (is_false (take (q - 1) es) (other_key keys k) ≡ true → IsApart es q (row_at rows k).lits (get_or keys k 0)) → (b : Bool) → is_false (take q es) (get_or keys k 0) ≡ b → (c : Bool) → is_false (take q es) (other_key keys k) ≡ c → is_pending (take q es) es (row_at rows k) ≡ false
+    by_values : Has (row_at rows k).lits (get_or keys k 0) → Has (row_at rows k).lits (other_key keys k) → (is_false (take (q - 1) es) (get_or keys k 0) ≡ true → IsSettled (take (q - 1) es) (other_key keys k) (row_at rows k).lits) → (is_false (take (q - 1) es) (other_key keys k) ≡ true → IsSettled (take (q - 1) es) (get_or keys k 0) (row_at rows k).lits) → (b : Bool) → is_false (take q es) (get_or keys k 0) ≡ b → (c : Bool) → is_false (take q es) (other_key keys k) ≡ c → is_pending (take q es) es (row_at rows k) ≡ false
     by_values own other by_own by_other true u c v = by_side (other_key keys k) other (by_own (t.others (get_or keys k 0) u d))
     by_values own other by_own by_other false u true v = by_side (get_or keys k 0) own (by_other (t.others (other_key keys k) v e))
     by_values own other by_own by_other false u false v =

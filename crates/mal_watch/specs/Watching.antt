@@ -33,7 +33,11 @@ AreOthersFalse prefix other lits = (x : ℕ) → Has lits x → x ≢ other → 
 abbrev pub other_key : List ℕ → ℕ → ℕ
 other_key keys node = slice_index keys (partner node)
 
+-- beside a literal nothing of a clause is to be watched: it is true, or each other literal is false
+abbrev pub IsSettled : List TrailEntry → ℕ → List ℕ → Type 0
+IsSettled prefix other lits = AreOthersFalse prefix other lits ⊎ (is_true prefix other ≡ true)
+
 -- where the literal that a node watches is false, the other watched one is true, or each other literal of its clause is
 -- false but that one
 abbrev pub IsWatchKept : List TrailEntry → List NumberedClause → List ℕ → ℕ → Type 0
-IsWatchKept prefix rows keys k = is_false prefix (slice_index keys k) ≡ true → AreOthersFalse prefix (other_key keys k) (row_at rows k).lits ⊎ (is_true prefix (other_key keys k) ≡ true)
+IsWatchKept prefix rows keys k = is_false prefix (slice_index keys k) ≡ true → IsSettled prefix (other_key keys k) (row_at rows k).lits

@@ -1,7 +1,8 @@
 //! Going over the clauses that watch a literal which has become false.
 
-ghost use Rattle.std.specs.Prelude.{◌≡◌, ◌+◌, ◌≤◌, ◌<◌, [], ◌++◌, length, take, drop, ◌∷◌, slice_index, MatchOption, vec_len, vec_capacity};
-ghost use Rattle.mal_watch.specs.Watching.{partner, IsOther, AreOthersFalse};
+ghost use Rattle.std.specs.Prelude.{◌≡◌, ◌+◌, ◌≤◌, ◌<◌, [], ◌++◌, length, take, drop, ◌∷◌, slice_index, slice_index_or, MatchOption, vec_len, vec_capacity};
+ghost use Rattle.mal_store.specs.Rowed.{no_row};
+ghost use Rattle.mal_watch.specs.Watching.{partner, IsOther, AreOthersFalse, IsSettled};
 ghost use Rattle.mal_watch.specs.Going.{Turns, Goes};
 ghost use Rattle.mal_watch.specs.Finding.{found_at, found_in};
 
@@ -46,67 +47,28 @@ fn next_open(trail: &Trail, count: usize, lits: &[Lit], other: Lit, from: usize)
     first_open(trail, count, front, other)
 }
 
-/// The place of a literal of a clause that may be watched in the place of one that is false: not false under the first
-/// entries of the trail, so many, and not the other watched one. A clause of two literals has no other, and is not
-/// looked at.
-fn to_watch(trail: &Trail, count: usize, lits: &[Lit], other: Lit, from: usize) -> Option<usize>
+/// The place of a literal of a long clause that may be watched in the place of one that is false: not false under the
+/// first entries of the trail, so many, and not the other watched one. None is sought where that one is true under
+/// these entries; a clause of two literals has no other. Neither is looked at.
+fn to_watch(store: &Store, trail: &Trail, count: usize, row: usize, other: Lit) -> Option<usize>
     requires count { count ≤ length trail.now.entries }
-    requires two { length lits.now ≡ 2 → AreOthersFalse (take count trail.now.entries) other lits.now }
-    ensures { MatchOption result (AreOthersFalse (take count trail.now.entries) other lits.now) (λ i. (i < length lits.now) × IsOther (take count trail.now.entries) other lits.now (slice_index lits.now i)) }
+    requires row { row < length store.now.long }
+    requires two { length (slice_index_or store.now.long row no_row).lits ≡ 2 → AreOthersFalse (take count trail.now.entries) other (slice_index_or store.now.long row no_row).lits }
+    ensures { MatchOption result (IsSettled (take count trail.now.entries) other (slice_index_or store.now.long row no_row).lits) (λ i. (i < length (slice_index_or store.now.long row no_row).lits) × IsOther (take count trail.now.entries) other (slice_index_or store.now.long row no_row).lits (slice_index (slice_index_or store.now.long row no_row).lits i)) }
 {
+    if trail.is_true_before(count, other) {
+        return None;
+    }
+    let lits = store.long_lits(row);
     if lits.len() == 2 {
         return None;
     }
-    next_open(trail, count, lits, other, from)
+    next_open(trail, count, lits, other, store.hint(row))
 }
 
-/// Looks into the clause of the first node that is out, which watches the literal that became false by the last of the
-/// first entries, so many: the node goes to another literal that is not false, or back. Where the other watched literal
-/// alone is left, and not true, the clause is found.
-fn seek(
-    chains: &mut WatchLists,
-    found: &mut Vec<Found>,
-    store: &mut Store,
-    trail: &Trail,
-    count: usize,
-    lit: Lit,
-    node: usize,
-)
-    requires turns { Turns trail.now.entries count lit }
-    requires first { chains.old.out ≡ node ∷ drop 1 chains.old.out }
-    requires goes { Goes trail.now.entries count lit chains.old.lists store.old.long chains.old.keys (node ∷ drop 1 chains.old.out) }
-    requires room { vec_len found.old < vec_capacity found.old }
-    ensures goes { Goes trail.now.entries count lit chains.new.lists store.old.long chains.new.keys (drop 1 chains.old.out) }
-    ensures found { found.new.items ≡ found.old.items ++ found_at (take count trail.now.entries) trail.now.entries store.old.long node }
-    ensures out { chains.new.out ≡ drop 1 chains.old.out }
-    ensures store { store.new ≡ store.old }
-    ensures lists { chains.new.lists ≡ chains.old.lists }
-    ensures chains_room { chains.new.room ≡ chains.old.room }
-    ensures len { vec_len found.new ≤ vec_len found.old + 1 }
-    ensures capacity { vec_capacity found.new ≡ vec_capacity found.old }
-{
-    let row = node / 2;
-    let lits = store.long_lits(row);
-    let other = chains.key(partner(node));
-    match to_watch(trail, count, lits, other, store.hint(row)) {
-        Some(place) => {
-            chains.put(node, lits[place]);
-            store.keep_hint(row, place);
-        }
-        None => {
-            chains.put(node, lit);
-            if !trail.is_false_before(count, other) && !trail.is_true(other) {
-                found.push_reserved(Found {
-                    id: store.long_id(row),
-                    lit: other,
-                });
-            }
-        }
-    }
-}
-
-/// Visits the first node that is out, as `seek` does. Where the other watched literal is true under the first entries
-/// already the node goes back, and its clause is not looked at.
+/// Visits the first node that is out, which watches the literal that became false by the last of the first entries, so
+/// many: the node goes to another literal that is not false, or back. It goes back too where the other watched literal
+/// is true under the first entries. Where that one alone is left, and not true, the clause is found.
 fn visit(
     chains: &mut WatchLists,
     found: &mut Vec<Found>,
@@ -129,12 +91,23 @@ fn visit(
     ensures len { vec_len found.new ≤ vec_len found.old + 1 }
     ensures capacity { vec_capacity found.new ≡ vec_capacity found.old }
 {
+    let row = node / 2;
     let other = chains.key(partner(node));
-    if trail.is_true_before(count, other) {
-        chains.put(node, lit);
-        return;
+    match to_watch(store, trail, count, row, other) {
+        Some(place) => {
+            chains.put(node, store.long_lits(row)[place]);
+            store.keep_hint(row, place);
+        }
+        None => {
+            chains.put(node, lit);
+            if !trail.is_false_before(count, other) && !trail.is_true(other) {
+                found.push_reserved(Found {
+                    id: store.long_id(row),
+                    lit: other,
+                });
+            }
+        }
     }
-    seek(chains, found, store, trail, count, lit, node);
 }
 
 /// Visits the clauses of all nodes that are out, which watch the literal that became false by the last of the first

@@ -1,53 +1,52 @@
-use Rattle.std.proofs.Common.{◌≡◌, ◌≤◌, ◌-◌, ◌↔◌, ℕ, [], length, take, get_or, true, false, vec_capacity, sym, ◌∙◌, arith}
+use Rattle.std.proofs.Common.{◌≡◌, ◌≤◌, ◌+◌, ◌-◌, ◌↔◌, ℕ, [], length, take, get_or, true, false, vec_capacity, sym, ◌∙◌, arith}
 use Rattle.std.specs.List.Sorted.{IsPermutation}
 use Rattle.mal_base.specs.Literals.{negated}
-use Rattle.spec_node.specs.Value.{is_false}
+use Rattle.spec_node.specs.Value.{is_true, is_false}
 use Rattle.mal_watch.specs.WatchLists.{Has, IsAt}
-use Rattle.mal_watch.specs.Going.{Goes}
-use Rattle.mal_watch.specs.Finding.{found_in}
+use Rattle.mal_watch.specs.Going.{Turns, Goes}
+use Rattle.mal_watch.specs.Finding.{found_in, pending}
+use Rattle.mal_watch.specs.Following.{Follows}
 use Rattle.mal_watch.proofs.TurnLemmas.{turns-is}
 use Rattle.mal_watch.proofs.FoundLemmas.{out-length}
-use Rattle.mal_watch.proofs.FollowLemmas.{before-walk, after-walk, no-walk}
+use Rattle.mal_watch.proofs.FollowLemmas.{before-walk, after-walk, no-walk, IsFound}
 use Rattle.mal_watch.proofs.watch.Watch.find.Goals as goal
+use Rattle.mal_watch.proofs.watch.Watch.find.Goals.{Then-is_false_before, Else-is_false_before, After-sort}
+
+-- an entry whose literal was true before
+skipped : (c : Then-is_false_before) → Follows c.args.self.now.store.clauses c.args.self.now.store.long c.args.self.now.chains.keys c.args.self.now.chains.out c.args.self.now.chains.lists (vec_capacity c.args.self.now.found) c.args.trail.now.entries (c.args.count + 1) × ([] ≡ pending (take c.args.count c.args.trail.now.entries) c.args.trail.now.entries c.args.self.now.store.clauses)
+skipped c =
+    let s = c.args.self.now in
+    let entries = c.args.trail.now.entries in
+    let last = c.index-entries-count.result in
+    let is : last ≡ get_or entries (c.args.count - 1) last = rw c.entries.ensures at c.index-entries-count.is in
+    let was : is_false (take (c.args.count - 1) entries) (negated last.lit) ≡ true = rw (← c.negate-lit.ensures) (sym c.is_false_before.ensures ∙ c.if-is_false_before.true) in
+    no-walk s.store.clauses s.store.long s.chains.keys s.chains.lists _ entries c.args.count last s.chains.out c.requires.some c.requires.count is was c.requires.fits
 
 pub returns-then-is_false_before-clause-found : goal.returns-then-is_false_before-clause-found
-returns-then-is_false_before-clause-found c =
-    let s = c.args.self.now in
-    let entries = c.args.trail.now.entries in
-    let last = c.index-entries-count.result in
-    let is : last ≡ get_or entries (c.args.count - 1) last = rw c.entries.ensures at c.index-entries-count.is in
-    let was : is_false (take (c.args.count - 1) entries) (negated last.lit) ≡ true = rw (← c.negate-lit.ensures) (sym c.is_false_before.ensures ∙ c.if-is_false_before.true) in
-    rw c.clear.ensures.items (no-walk s.store.clauses s.store.long s.chains.keys s.chains.lists _ entries c.args.count last s.chains.out c.requires.some c.requires.count is was c.requires.fits).1
+returns-then-is_false_before-clause-found c = rw c.clear.ensures.items (skipped c).1
 
 pub returns-then-is_false_before-clause-fits : goal.returns-then-is_false_before-clause-fits
-returns-then-is_false_before-clause-fits c =
-    let s = c.args.self.now in
-    let entries = c.args.trail.now.entries in
-    let last = c.index-entries-count.result in
-    let is : last ≡ get_or entries (c.args.count - 1) last = rw c.entries.ensures at c.index-entries-count.is in
-    let was : is_false (take (c.args.count - 1) entries) (negated last.lit) ≡ true = rw (← c.negate-lit.ensures) (sym c.is_false_before.ensures ∙ c.if-is_false_before.true) in
-    rw c.clear.ensures.capacity (no-walk s.store.clauses s.store.long s.chains.keys s.chains.lists _ entries c.args.count last s.chains.out c.requires.some c.requires.count is was c.requires.fits).0
+returns-then-is_false_before-clause-fits c = rw c.clear.ensures.capacity (skipped c).0
 
-pub walk-requires-clause-turns : goal.walk-requires-clause-turns
-walk-requires-clause-turns c =
-    let s = c.args.self.now in
+-- any other makes its literal's negation false
+turns : (c : Else-is_false_before) → ((x : ℕ) → is_true c.args.trail.now.entries x ≡ true → is_false c.args.trail.now.entries x ≡ false) → Turns c.args.trail.now.entries c.args.count (negated c.index-entries-count.result.lit)
+turns c clear =
     let entries = c.args.trail.now.entries in
     let last = c.index-entries-count.result in
     let is : last ≡ get_or entries (c.args.count - 1) last = rw c.entries.ensures at c.index-entries-count.is in
     let fresh : is_false (take (c.args.count - 1) entries) (negated last.lit) ≡ false = rw (← c.negate-lit.ensures) (sym c.is_false_before.ensures ∙ c.if-is_false_before.false) in
-    let turns = turns-is entries c.args.count last c.requires.some c.requires.count is fresh c.is_consistent.ensures in
-    rw c.negate-lit.ensures turns
+    turns-is entries c.args.count last c.requires.some c.requires.count is fresh clear
+
+pub walk-requires-clause-turns : goal.walk-requires-clause-turns
+walk-requires-clause-turns c = rw c.negate-lit.ensures (turns (goal.at.walk-requires-clause-turns c).Else-is_false_before c.is_consistent.ensures)
 
 pub walk-requires-clause-goes : goal.walk-requires-clause-goes
 walk-requires-clause-goes c =
     let s = c.args.self.now in
-    let entries = c.args.trail.now.entries in
-    let last = c.index-entries-count.result in
-    let is : last ≡ get_or entries (c.args.count - 1) last = rw c.entries.ensures at c.index-entries-count.is in
-    let fresh : is_false (take (c.args.count - 1) entries) (negated last.lit) ≡ false = rw (← c.negate-lit.ensures) (sym c.is_false_before.ensures ∙ c.if-is_false_before.false) in
-    let turns = turns-is entries c.args.count last c.requires.some c.requires.count is fresh c.is_consistent.ensures in
-    let nodes : (k : ℕ) → Has c.take.new.self.out k ↔ IsAt s.chains.keys k (negated last.lit) = rw (c.take.ensures.keys, c.negate-lit.ensures) at c.take.ensures.nodes in
-    rw (c.negate-lit.ensures, c.take.ensures.lists, c.take.ensures.keys) (before-walk s.store.clauses s.store.long s.chains.keys c.take.new.self.out s.chains.out s.chains.lists _ entries c.args.count (negated last.lit) c.requires.fits turns nodes c.take.ensures.once)
+    let key = negated c.index-entries-count.result.lit in
+    let nodes : (k : ℕ) → Has c.take.new.self.out k ↔ IsAt s.chains.keys k key = rw (c.take.ensures.keys, c.negate-lit.ensures) at c.take.ensures.nodes in
+    let now = turns (goal.at.walk-requires-clause-goes c).Else-is_false_before c.is_consistent.ensures in
+    rw (c.negate-lit.ensures, c.take.ensures.lists, c.take.ensures.keys) (before-walk s.store.clauses s.store.long s.chains.keys c.take.new.self.out s.chains.out s.chains.lists _ c.args.trail.now.entries c.args.count key c.requires.fits now nodes c.take.ensures.once)
 
 pub walk-requires-clause-room : goal.walk-requires-clause-room
 walk-requires-clause-room c =
@@ -57,31 +56,22 @@ walk-requires-clause-room c =
     let few : length c.take.new.self.out ≤ length s.store.long = out-length c.negate-lit.result s.chains.lists s.store.long s.chains.keys c.take.new.self.out w.watching w.apart nodes c.take.ensures.once in
     omega (arith, few, w.room, c.clear.ensures.len, c.clear.ensures.capacity)
 
-pub returns-clause-found : goal.returns-clause-found
-returns-clause-found c =
+-- what was found, and that the rest follows
+walked : (c : After-sort) → Turns c.args.trail.now.entries c.args.count (negated c.index-entries-count.result.lit) → IsFound c.args.self.now.store.clauses c.args.self.now.store.long c.walk.new.chains.keys c.sort.new.found.items c.args.self.now.chains.lists (vec_capacity c.args.self.now.found) c.args.trail.now.entries c.args.count
+walked c now =
     let s = c.args.self.now in
     let entries = c.args.trail.now.entries in
-    let last = c.index-entries-count.result in
-    let is : last ≡ get_or entries (c.args.count - 1) last = rw c.entries.ensures at c.index-entries-count.is in
-    let fresh : is_false (take (c.args.count - 1) entries) (negated last.lit) ≡ false = rw (← c.negate-lit.ensures) (sym c.is_false_before.ensures ∙ c.if-is_false_before.false) in
-    let turns = turns-is entries c.args.count last c.requires.some c.requires.count is fresh c.is_consistent.ensures in
-    let nodes : (k : ℕ) → Has c.take.new.self.out k ↔ IsAt s.chains.keys k (negated last.lit) = rw (c.take.ensures.keys, c.negate-lit.ensures) at c.take.ensures.nodes in
-    let goes : Goes entries c.args.count (negated last.lit) s.chains.lists s.store.long c.walk.new.chains.keys [] = rw (c.walk.ensures.lists, c.take.ensures.lists, c.negate-lit.ensures) at c.walk.ensures.goes in
+    let key = negated c.index-entries-count.result.lit in
+    let nodes : (k : ℕ) → Has c.take.new.self.out k ↔ IsAt s.chains.keys k key = rw (c.take.ensures.keys, c.negate-lit.ensures) at c.take.ensures.nodes in
+    let goes : Goes entries c.args.count key s.chains.lists s.store.long c.walk.new.chains.keys [] = rw (c.walk.ensures.lists, c.take.ensures.lists, c.negate-lit.ensures) at c.walk.ensures.goes in
     let moved : IsPermutation (found_in (take c.args.count entries) entries s.store.long c.take.new.self.out) c.sort.new.found.items = rw (c.walk.ensures.found, c.clear.ensures.items) at c.sort.ensures.same in
-    let found = after-walk s.store.clauses s.store.long s.chains.keys c.take.new.self.out s.chains.out c.walk.new.chains.keys c.sort.new.found.items s.chains.lists _ entries c.args.count (negated last.lit) c.requires.fits turns nodes c.take.ensures.once goes moved c.sort.ensures.order in
-    found.found_is
+    after-walk s.store.clauses s.store.long s.chains.keys c.take.new.self.out s.chains.out c.walk.new.chains.keys c.sort.new.found.items s.chains.lists _ entries c.args.count key c.requires.fits now nodes c.take.ensures.once goes moved c.sort.ensures.order
+
+pub returns-clause-found : goal.returns-clause-found
+returns-clause-found c = (walked c (turns (goal.at.returns-clause-found c).Else-is_false_before c.is_consistent.ensures)).found_is
 
 pub returns-clause-fits : goal.returns-clause-fits
 returns-clause-fits c =
-    let s = c.args.self.now in
-    let entries = c.args.trail.now.entries in
-    let last = c.index-entries-count.result in
-    let is : last ≡ get_or entries (c.args.count - 1) last = rw c.entries.ensures at c.index-entries-count.is in
-    let fresh : is_false (take (c.args.count - 1) entries) (negated last.lit) ≡ false = rw (← c.negate-lit.ensures) (sym c.is_false_before.ensures ∙ c.if-is_false_before.false) in
-    let turns = turns-is entries c.args.count last c.requires.some c.requires.count is fresh c.is_consistent.ensures in
-    let nodes : (k : ℕ) → Has c.take.new.self.out k ↔ IsAt s.chains.keys k (negated last.lit) = rw (c.take.ensures.keys, c.negate-lit.ensures) at c.take.ensures.nodes in
-    let goes : Goes entries c.args.count (negated last.lit) s.chains.lists s.store.long c.walk.new.chains.keys [] = rw (c.walk.ensures.lists, c.take.ensures.lists, c.negate-lit.ensures) at c.walk.ensures.goes in
-    let moved : IsPermutation (found_in (take c.args.count entries) entries s.store.long c.take.new.self.out) c.sort.new.found.items = rw (c.walk.ensures.found, c.clear.ensures.items) at c.sort.ensures.same in
-    let found = after-walk s.store.clauses s.store.long s.chains.keys c.take.new.self.out s.chains.out c.walk.new.chains.keys c.sort.new.found.items s.chains.lists _ entries c.args.count (negated last.lit) c.requires.fits turns nodes c.take.ensures.once goes moved c.sort.ensures.order in
-    let capacity : vec_capacity c.sort.new.found ≡ vec_capacity s.found = c.sort.ensures.capacity ∙ (c.walk.ensures.capacity ∙ c.clear.ensures.capacity) in
+    let found = walked c (turns (goal.at.returns-clause-fits c).Else-is_false_before c.is_consistent.ensures) in
+    let capacity : vec_capacity c.sort.new.found ≡ vec_capacity c.args.self.now.found = c.sort.ensures.capacity ∙ (c.walk.ensures.capacity ∙ c.clear.ensures.capacity) in
     rw (c.walk.ensures.out, c.walk.ensures.store, c.walk.ensures.lists, c.take.ensures.lists, capacity) found.follows
