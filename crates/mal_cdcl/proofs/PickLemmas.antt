@@ -197,12 +197,11 @@ seen-clauses (s ∷ seen) lits = ap (λ (b : Bool). bytes_eq lits s || b) (seen-
 
 -- a node after loads takes of some lists what passes a filter that has noted those of its clauses and of the loads
 -- that are told
-pub picked-readied : (tolds : List (List NumberedClause)) (loads : List (Posted × ℕ)) (n : Node) (clauses : List NumberedClause) (picks : List (List NumberedClause)) (nothing told none held all : List (List ℕ)) → n.clauses ≡ clauses → nothing ≡ [] → none ≡ []
+pub picked-readied : (tolds : List (List NumberedClause)) (loads : List (Posted × ℕ)) (n : Node) (clauses : List NumberedClause) (picks : List (List NumberedClause)) (nothing told none all : List (List ℕ)) → n.clauses ≡ clauses → nothing ≡ [] → none ≡ []
     → ((lits : List ℕ) → is_noted lits told ≡ (is_told_in lits tolds || is_noted lits nothing))
-    → ((lits : List ℕ) → is_noted lits told ≡ true → is_noted lits held ≡ (has_lits lits clauses || is_noted lits none))
-    → ((lits : List ℕ) → is_noted lits told ≡ true → is_noted lits all ≡ (is_loaded_in lits loads || is_noted lits held))
+    → ((lits : List ℕ) → is_noted lits told ≡ true → is_noted lits all ≡ (is_loaded_in lits loads || (has_lits lits clauses || is_noted lits none)))
     → ((cs : List NumberedClause) → Sees all cs → picks ≡ picked tolds cs) → picks ≡ picked tolds (readied loads n).clauses
-picked-readied tolds loads n clauses picks nothing told none held all same empty bare g h k p = p (clauses_of all) (seen-clauses all) ∙ picked-alike tolds (clauses_of all) (readied loads n).clauses (λ lits is. sym (seen-clauses all lits) ∙ sees lits (g lits ∙ ap (λ (b : Bool). b || is_noted lits nothing) is))
+picked-readied tolds loads n clauses picks nothing told none all same empty bare g h p = p (clauses_of all) (seen-clauses all) ∙ picked-alike tolds (clauses_of all) (readied loads n).clauses (λ lits is. sym (seen-clauses all lits) ∙ sees lits (g lits ∙ ap (λ (b : Bool). b || is_noted lits nothing) is))
   where
     no-more : (b : Bool) → (b || false) ≡ b
     no-more true = refl
@@ -210,5 +209,5 @@ picked-readied tolds loads n clauses picks nothing told none held all same empty
 
     sees : (lits : List ℕ) → is_noted lits told ≡ true → is_noted lits all ≡ has_lits lits (readied loads n).clauses
     sees lits is =
-        let first : is_noted lits held ≡ has_lits lits n.clauses = h lits is ∙ (ap (λ (xs : List (List ℕ)). has_lits lits clauses || is_noted lits xs) bare ∙ (no-more (has_lits lits clauses) ∙ ap (λ (cs : List NumberedClause). has_lits lits cs) (sym same))) in
-        k lits is ∙ (ap (λ (b : Bool). is_loaded_in lits loads || b) first ∙ sym (lits-readied lits loads n))
+        let first : (has_lits lits clauses || is_noted lits none) ≡ has_lits lits n.clauses = ap (λ (xs : List (List ℕ)). has_lits lits clauses || is_noted lits xs) bare ∙ (no-more (has_lits lits clauses) ∙ ap (λ (cs : List NumberedClause). has_lits lits cs) (sym same)) in
+        h lits is ∙ (ap (λ (b : Bool). is_loaded_in lits loads || b) first ∙ sym (lits-readied lits loads n))

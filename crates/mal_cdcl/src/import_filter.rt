@@ -1,6 +1,6 @@
 //! What a node takes of the clauses that it is told: those whose literals no clause held has.
 
-ghost use Rattle.std.specs.Prelude.{◌≡◌, ℕ, ◌||◌, true, not, bytes_eq, List, filter, IfOk, OnOk};
+ghost use Rattle.std.specs.Prelude.{◌≡◌, ℕ, ◌||◌, true, not, bytes_eq, List, [], filter, IfOk, OnOk};
 ghost use Rattle.mal_base.specs.NumberedClause.{NumberedClause};
 ghost use Rattle.mal_filter.specs.Noted.{is_noted};
 ghost use Rattle.spec_node.specs.Import.{has_lits};
@@ -62,31 +62,49 @@ pub fn picks_of<E: Listed>(
 ) -> Result<Vec<Pick>, AllocError>
     ensures { IfOk result (λ v. (n : Node) → n.clauses ≡ E.clauses engine.now → v.items ≡ picked (lent imports.now) (readied (posted loads.now) n).clauses) }
 {
+    let mut picks = Vec::new(alloc);
     if imports.is_empty() {
-        return Ok(Vec::new(alloc));
+        return Ok(picks);
     }
     let mut told = ClauseSet::new(alloc);
-    note_told(&mut told, imports)?;
     let mut seen = ClauseSet::new(alloc);
-    note_held(&mut seen, &told, engine)?;
-    note_loads(&mut seen, &told, loads)?;
-    picks_past(alloc, &mut seen, imports)
+    note_all(&mut told, &mut seen, engine, loads, imports)?;
+    pick_past(alloc, &mut picks, &mut seen, imports)?;
+    Ok(picks)
 }
 
-/// What is taken of each import by a node whose clauses a filter has seen.
-fn picks_past(
+/// Notes the entries of imports in one filter, and in another those clauses of an engine and of loads that are told
+/// too.
+fn note_all<E: Listed>(
+    told: &mut ClauseSet,
+    seen: &mut ClauseSet,
+    engine: &E,
+    loads: &[(&Revision, u32)],
+    imports: &[&Buffer],
+) -> Result<(), AllocError>
+    ensures told { OnOk result ((lits : List ℕ) → is_noted lits told.new ≡ (is_told_in lits (lent imports.now) || is_noted lits told.old)) }
+    ensures seen { OnOk result ((lits : List ℕ) → is_noted lits told.new ≡ true → is_noted lits seen.new ≡ (is_loaded_in lits (posted loads.now) || (has_lits lits (E.clauses engine.now) || is_noted lits seen.old))) }
+{
+    note_told(told, imports)?;
+    note_held(seen, told, engine)?;
+    note_loads(seen, told, loads)
+}
+
+/// Picks what is taken of each import by a node whose clauses a filter has seen.
+fn pick_past(
     alloc: Global,
+    picks: &mut Vec<Pick>,
     seen: &mut ClauseSet,
     imports: &[&Buffer],
-) -> Result<Vec<Pick>, AllocError>
-    ensures { IfOk result (λ v. (clauses : List NumberedClause) → Sees seen.old clauses → v.items ≡ picked (lent imports.now) clauses) }
+) -> Result<(), AllocError>
+    requires { picks.old.items ≡ [] }
+    ensures { OnOk result ((clauses : List NumberedClause) → Sees seen.old clauses → picks.new.items ≡ picked (lent imports.now) clauses) }
 {
-    let mut picks = Vec::new(alloc);
     for told in imports {
         picks.push(Pick::of(alloc, seen, told.entries())?)?;
         note_entries(seen, told.entries())?;
     }
-    Ok(picks)
+    Ok(())
 }
 
 /// Notes entries.

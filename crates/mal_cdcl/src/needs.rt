@@ -1,15 +1,23 @@
-//! What room loads need.
+//! What room loads and the slice after them need.
 
-ghost use Rattle.std.specs.Prelude.{◌≡◌, ℕ, ◌+◌, ◌≤◌, length, IfOk};
+ghost use Rattle.std.specs.Prelude.{◌≡◌, ℕ, ◌+◌, ◌-◌, ◌≤◌, length, List, IfOk, OnOk, vec_len, vec_capacity};
+ghost use Rattle.mal_base.specs.declared.trail_entry.TrailEntry.{TrailEntry};
+ghost use Rattle.mal_trail.specs.Rooms.{HasRoom};
+ghost use Rattle.spec_search.specs.Slice.{most_numbers};
 ghost use Rattle.mal_cdcl.specs.ImportSizes.{lits_in, told_clauses, told_literals};
 ghost use Rattle.mal_cdcl.specs.Ready.{posted, greatest, clauses_in, literals_in, most_assumptions};
 
 use crate::import_filter::Pick;
-use mal_base::NumberedClause;
+use mal_base::{Lit, NumberedClause};
+use mal_order::Order;
 use mal_revision::Revision;
+use mal_trail::{Listed, Trail};
 use std::alloc::AllocError;
 
-/// What a node needs for its next loads: variables in all, clauses and literals more, and assumptions of one load.
+/// How many steps a slice has.
+pub const SLICE_STEPS: u32 = 1000;
+
+/// What a node needs: variables in all, clauses and literals more, and assumptions of one load.
 #[derive(Clone, Copy, Debug)]
 pub struct Needs {
     pub variables: u32,
@@ -46,7 +54,7 @@ fn needs_of(loads: &[(&Revision, u32)], variables: u32) -> Result<Needs, AllocEr
 }
 
 /// What these loads and then the clauses taken need at a node of so many variables, at most 65,536.
-pub fn needs_with(
+fn needs_with(
     loads: &[(&Revision, u32)],
     picks: &[Pick],
     variables: u32,
@@ -66,6 +74,73 @@ pub fn needs_with(
         needs.literals = added(needs.literals, literals)?;
     }
     Ok(needs)
+}
+
+/// What these loads, the clauses taken and then a slice need at a node of so many variables, at most 65,536.
+pub fn needs_in_all(
+    loads: &[(&Revision, u32)],
+    picks: &[Pick],
+    variables: u32,
+) -> Result<Needs, AllocError>
+    requires { variables ≤ 65536 }
+    ensures variables { IfOk result (λ n. n.variables ≡ greatest (posted loads.now) variables) }
+    ensures least { IfOk result (λ n. variables ≤ n.variables) }
+    ensures bound { IfOk result (λ n. n.variables ≤ 65536) }
+    ensures clauses { IfOk result (λ n. n.clauses ≡ clauses_in (posted loads.now) + told_clauses picks.now + 1000) }
+    ensures literals { IfOk result (λ n. n.literals ≡ literals_in (posted loads.now) + told_literals picks.now + most_numbers n.variables) }
+    ensures assumptions { IfOk result (λ n. n.assumptions ≡ most_assumptions (posted loads.now) 0) }
+{
+    let needs = needs_with(loads, picks, variables)?;
+    let clauses = added(needs.clauses, SLICE_STEPS as usize)?;
+    let literals = added(needs.literals, most_numbers(needs.variables))?;
+    Ok(Needs {
+        variables: needs.variables,
+        clauses,
+        literals,
+        assumptions: needs.assumptions,
+    })
+}
+
+/// Makes room in the parts of a node for what it needs, so many variables of which are new. What they hold stays.
+pub fn reserve<E: Listed>(
+    trail: &mut Trail,
+    order: &mut Order,
+    phases: &mut Vec<bool>,
+    assumptions: &mut Vec<Lit>,
+    engine: &mut E,
+    needs: Needs,
+    new: u32,
+) -> Result<(), AllocError>
+    requires { needs.variables ≤ 65536 }
+    ensures entries { trail.new.entries ≡ trail.old.entries }
+    ensures processed { trail.new.processed ≡ trail.old.processed }
+    ensures trail_room { OnOk result (needs.variables ≤ trail.new.room) }
+    ensures trail_more { trail.old.room ≤ trail.new.room }
+    ensures index { order.new.index ≡ order.old.index }
+    ensures list { order.new.list ≡ order.old.list }
+    ensures passed { order.new.passed ≡ order.old.passed }
+    ensures order_room { OnOk result (new ≤ order.new.room) }
+    ensures phases { phases.new.items ≡ phases.old.items }
+    ensures phase_room { OnOk result (new + vec_len phases.new ≤ vec_capacity phases.new) }
+    ensures assumptions { assumptions.new.items ≡ assumptions.old.items }
+    ensures assumption_room { OnOk result (needs.assumptions ≤ vec_capacity assumptions.new) }
+    ensures clauses { E.clauses engine.new ≡ E.clauses engine.old }
+    ensures room { OnOk result (HasRoom needs.variables needs.clauses needs.literals (E.room engine.new)) }
+    ensures fits { (entries : List TrailEntry) (processed : ℕ) → E.fits engine.old entries processed → E.fits engine.new entries processed }
+{
+    trail.reserve(needs.variables)?;
+    order.reserve(new)?;
+    phases.reserve(new as usize)?;
+    assumptions.reserve(needs.assumptions)?;
+    engine.reserve(needs.variables, needs.clauses, needs.literals)
+}
+
+/// How many literals and hints a slice may derive, for so many variables.
+pub fn most_numbers(variables: u32) -> usize
+    requires { variables ≤ 65536 }
+    ensures { result ≡ most_numbers variables }
+{
+    65_536 + 2 * variables as usize + 2
 }
 
 /// How many literals clauses have. A size that no memory holds is want of memory.

@@ -26,7 +26,8 @@ ghost use Rattle.mal_cdcl.specs.Sliced.{HasSliceRoom, HasStepRoom, HasIdRoom, Ha
 ghost use Rattle.mal_freeze.specs.Imaged.{IsImage};
 
 use crate::import_filter::{self, Pick};
-use crate::{copies, dropping, learning, needs, node_load, open, restart};
+use crate::needs::{self, Needs, SLICE_STEPS, most_numbers};
+use crate::{copies, dropping, learning, node_load, open, restart};
 use mal_base::{ClauseId, Lines, Lit, NumberedClause, Var, Verdict};
 use mal_buffer::Buffer;
 use mal_freeze::{Image, Parts};
@@ -37,9 +38,6 @@ use mal_trail::{Engine, Listed, Trail};
 use std::alloc::{AllocError, Global};
 use std::marker::Model;
 use std::mem;
-
-/// How many steps a slice has.
-const SLICE_STEPS: u32 = 1000;
 
 /// A solver node over an engine of unit propagation: what it holds, how far its search has come, and what its last
 /// slice derived. The first assumptions that were found true are passed until a cut. Contracts see the record of its
@@ -255,32 +253,35 @@ impl<E: Listed> Node<E> {
         ensures state { self.new.state ≡ self.old.state }
         ensures kept { OnErr result (self.new.lines ≡ self.old.lines) }
     {
-        let needs = needs::needs_with(loads, picks, self.variables)?;
-        let added = needs.variables - self.variables;
+        let needs = needs::needs_in_all(loads, picks, self.variables)?;
+        self.fit(needs, scratch)?;
+        needs::reserve(
+            &mut self.trail,
+            &mut self.order,
+            &mut self.phases,
+            &mut self.assumptions,
+            &mut self.engine,
+            needs,
+            needs.variables - self.variables,
+        )?;
         let numbers = most_numbers(needs.variables);
-        self.trail.reserve(needs.variables)?;
-        self.order.reserve(added)?;
-        self.phases.reserve(added as usize)?;
-        self.assumptions.reserve(needs.assumptions)?;
-        let clauses = needs::added(needs.clauses, SLICE_STEPS as usize)?;
-        let literals = needs::added(needs.literals, numbers)?;
-        self.engine.reserve(needs.variables, clauses, literals)?;
-        scratch.fit(needs.variables)?;
-        self.fit_ids(clauses, scratch)?;
         scratch.swap_spare(&mut self.lines, SLICE_STEPS as usize, numbers, numbers)
     }
 
-    /// Makes room in a scratch for the numbers of the clauses held and of so many more, where the profile drops
-    /// clauses.
-    fn fit_ids(&self, more: usize, scratch: &mut Scratch) -> Result<(), AllocError>
-        ensures ids { OnOk result (self.now.state.profile ≡ 2 → length self.now.state.clauses + more ≤ scratch.new.ids) }
-        ensures room { scratch.new.room ≡ scratch.old.room }
-        ensures more { scratch.old.ids ≤ scratch.new.ids }
+    /// Makes room in a scratch for these variables, and where the profile drops clauses for the numbers of the clauses
+    /// held and of as many more as are needed.
+    fn fit(&self, needs: Needs, scratch: &mut Scratch) -> Result<(), AllocError>
+        requires { needs.variables ≤ 65536 }
+        ensures room { OnOk result (needs.variables < scratch.new.room) }
+        ensures ids { OnOk result (self.now.state.profile ≡ 2 → length self.now.state.clauses + needs.clauses ≤ scratch.new.ids) }
+        ensures more { scratch.old.room ≤ scratch.new.room }
+        ensures more_ids { scratch.old.ids ≤ scratch.new.ids }
     {
+        scratch.fit(needs.variables)?;
         if self.profile != 2 {
             return Ok(());
         }
-        let ids = needs::added(self.engine.count(), more)?;
+        let ids = needs::added(self.engine.count(), needs.clauses)?;
         scratch.fit_ids(ids)
     }
 
@@ -732,12 +733,4 @@ impl<E: Listed> Node<E> {
         };
         Ok(Image::of_form(parts))
     }
-}
-
-/// How many literals and hints a slice may derive, for so many variables.
-fn most_numbers(variables: u32) -> usize
-    requires { variables ≤ 65536 }
-    ensures { result ≡ most_numbers variables }
-{
-    65_536 + 2 * variables as usize + 2
 }

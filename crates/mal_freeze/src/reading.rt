@@ -1,7 +1,8 @@
 //! Reading the fields of an image from front to back. `total` is the length of the whole text.
 
-ghost use Rattle.std.specs.Prelude.{◌≡◌, ◌≤◌, ◌+◌, ◌-◌, ◌*◌, ◌<◌, ◌^◌, length, IfOk};
+ghost use Rattle.std.specs.Prelude.{◌≡◌, ℕ, ◌≤◌, ◌+◌, ◌-◌, ◌*◌, ◌<◌, ◌^◌, List, Result, length, IfOk};
 ghost use Rattle.std.specs.Int.{w32, w64};
+ghost use Rattle.mal_freeze.specs.declared.fault.ThawFault.{ThawFault};
 ghost use Rattle.mal_freeze.specs.declared.fault.ThawFault.TheVariants.{BadField};
 ghost use Rattle.mal_freeze.specs.Reading.{Gives, place_of, number_at, ranged_at, byte_at, many_at, counted_at, literal_at, variable_at, number_in, phase_at, entry_at, clause_at, profile_at, dropping_at, head_at, search_at, ended_at, lists_at, fields_at};
 
@@ -113,34 +114,6 @@ fn number_of(number: u64) -> Option<ClauseId>
     ClauseId::of(number)
 }
 
-/// A phase.
-#[tactic(auto, unfolding(crate::specs::Reading::phase_at))]
-fn phase(total: usize, bytes: &[u8]) -> Result<(bool, &[u8]), ThawFault>
-    ensures { Gives (λ x. (x.0, x.1.now)) result (phase_at total bytes.now) }
-{
-    let (code, rest) = u8_within(total, 1, bytes)?;
-    Ok((code == 1, rest))
-}
-
-/// An entry of the trail, of the variables up to the greatest.
-#[tactic(auto, unfolding(crate::specs::Reading::entry_at))]
-fn entry(total: usize, greatest: u32, bytes: &[u8]) -> Result<(TrailEntry, &[u8]), ThawFault>
-    requires { greatest ≤ 65536 }
-    ensures { Gives (λ x. (x.0, x.1.now)) result (entry_at total greatest bytes.now) }
-{
-    let (code, rest) = u32_within(total, 2, 2 * greatest + 1, bytes)?;
-    let (reason, rest) = u64_at(rest)?;
-    let (level, rest) = u32_at(rest)?;
-    Ok((
-        TrailEntry {
-            lit: literal_of(code),
-            reason: number_of(reason),
-            level,
-        },
-        rest,
-    ))
-}
-
 /// So many literals of the variables up to the greatest.
 fn literals(
     alloc: Global,
@@ -177,74 +150,121 @@ fn counted_literals(
     literals(alloc, total, greatest, count, rest)
 }
 
-/// A count up to the greatest variable, and so many assumptions.
-fn assumptions(
-    alloc: Global,
-    total: usize,
-    greatest: u32,
-    bytes: &[u8],
-) -> Result<(Vec<Lit>, &[u8]), ThawFault>
-    requires { greatest ≤ 65536 }
-    ensures { Gives (λ x. (x.0.items, x.1.now)) result (counted_at total greatest (literal_at total greatest) bytes.now) }
-{
-    let (lits, rest) = counted_literals(alloc, total, greatest, bytes)?;
-    Ok((Vec::from_slice(alloc, lits.as_slice())?, rest))
+/// A field of which an image has lists. `greatest` is the greatest variable.
+trait Field: Drop {
+    /// What the field at the front of these bytes is read to, with the bytes behind it, or the fault.
+    ghost at: { ℕ → ℕ → List ℕ → Result (Self × List ℕ) ThawFault };
+
+    /// The field at the front, and the bytes behind it.
+    fn read(
+        alloc: Global,
+        total: usize,
+        greatest: u32,
+        bytes: &[u8],
+    ) -> Result<(Self, &[u8]), ThawFault>
+        requires { greatest ≤ 65536 }
+        ensures { Gives (λ x. (x.0, x.1.now)) result (at total greatest bytes.now) };
 }
 
-/// As many variables as the greatest.
-fn variables(
-    alloc: Global,
-    total: usize,
-    greatest: u32,
-    bytes: &[u8],
-) -> Result<(Vec<Var>, &[u8]), ThawFault>
-    requires { greatest ≤ 65536 }
-    ensures { Gives (λ x. (x.0.items, x.1.now)) result (many_at (variable_at total greatest) greatest bytes.now) }
-{
-    let mut all = Vec::new(alloc);
-    let mut rest = bytes;
-    for _ in 0..greatest {
-        let (number, after) = u32_within(total, 1, greatest, rest)?;
-        all.push(Var::of(number))?;
-        rest = after;
+impl Field for Lit {
+    ghost at = { literal_at };
+
+    fn read(
+        _alloc: Global,
+        total: usize,
+        greatest: u32,
+        bytes: &[u8],
+    ) -> Result<(Lit, &[u8]), ThawFault> {
+        let (code, rest) = u32_within(total, 2, 2 * greatest + 1, bytes)?;
+        Ok((literal_of(code), rest))
     }
-    Ok((all, rest))
 }
 
-/// So many phases.
-fn phases(
+impl Field for Var {
+    ghost at = { variable_at };
+
+    fn read(
+        _alloc: Global,
+        total: usize,
+        greatest: u32,
+        bytes: &[u8],
+    ) -> Result<(Var, &[u8]), ThawFault> {
+        let (number, rest) = u32_within(total, 1, greatest, bytes)?;
+        Ok((Var::of(number), rest))
+    }
+}
+
+/// A phase.
+impl Field for bool {
+    ghost at = { λ total greatest bytes. phase_at total bytes };
+
+    #[tactic(auto, unfolding(crate::specs::Reading::phase_at))]
+    fn read(
+        _alloc: Global,
+        total: usize,
+        _greatest: u32,
+        bytes: &[u8],
+    ) -> Result<(bool, &[u8]), ThawFault> {
+        let (code, rest) = u8_within(total, 1, bytes)?;
+        Ok((code == 1, rest))
+    }
+}
+
+impl Field for TrailEntry {
+    ghost at = { entry_at };
+
+    #[tactic(auto, unfolding(crate::specs::Reading::entry_at))]
+    fn read(
+        _alloc: Global,
+        total: usize,
+        greatest: u32,
+        bytes: &[u8],
+    ) -> Result<(TrailEntry, &[u8]), ThawFault> {
+        let (code, rest) = u32_within(total, 2, 2 * greatest + 1, bytes)?;
+        let (reason, rest) = u64_at(rest)?;
+        let (level, rest) = u32_at(rest)?;
+        Ok((
+            TrailEntry {
+                lit: literal_of(code),
+                reason: number_of(reason),
+                level,
+            },
+            rest,
+        ))
+    }
+}
+
+impl Field for Numbered {
+    ghost at = { clause_at };
+
+    #[tactic(auto, unfolding(crate::specs::Reading::clause_at))]
+    fn read(
+        alloc: Global,
+        total: usize,
+        greatest: u32,
+        bytes: &[u8],
+    ) -> Result<(Numbered, &[u8]), ThawFault> {
+        let (number, rest) = u64_at(bytes)?;
+        let (lits, rest) = counted_literals(alloc, total, greatest, rest)?;
+        Ok((Numbered::new(number, lits), rest))
+    }
+}
+
+/// So many fields.
+fn many<F: Field>(
     alloc: Global,
     total: usize,
+    greatest: u32,
     count: u32,
     bytes: &[u8],
-) -> Result<(Vec<bool>, &[u8]), ThawFault>
-    ensures { Gives (λ x. (x.0.items, x.1.now)) result (many_at (phase_at total) count bytes.now) }
+) -> Result<(Vec<F>, &[u8]), ThawFault>
+    requires { greatest ≤ 65536 }
+    ensures { Gives (λ x. (x.0.items, x.1.now)) result (many_at (F.at total greatest) count bytes.now) }
 {
     let mut all = Vec::new(alloc);
     let mut rest = bytes;
     for _ in 0..count {
-        let (value, after) = phase(total, rest)?;
-        all.push(value)?;
-        rest = after;
-    }
-    Ok((all, rest))
-}
-
-/// So many entries of the trail, of the variables up to the greatest.
-fn entries(
-    alloc: Global,
-    total: usize,
-    greatest: u32,
-    count: u32,
-    bytes: &[u8],
-) -> Result<(Vec<TrailEntry>, &[u8]), ThawFault>
-    requires { greatest ≤ 65536 }
-    ensures { Gives (λ x. (x.0.items, x.1.now)) result (many_at (entry_at total greatest) count bytes.now) }
-{
-    let mut all = Vec::new(alloc);
-    let mut rest = bytes;
-    for _ in 0..count {
-        let (one, after) = match entry(total, greatest, rest) {
+        let (one, after) = match F::read(alloc, total, greatest, rest) {
             Ok(read) => read,
             Err(fault) => return Err(fault),
         };
@@ -254,74 +274,20 @@ fn entries(
     Ok((all, rest))
 }
 
-/// A count up to the greatest variable, and so many entries of the trail.
+/// A count up to the most, and so many fields.
 #[tactic(auto, unfolding(crate::specs::Reading::counted_at))]
-fn trail(
+fn counted<F: Field>(
     alloc: Global,
     total: usize,
     greatest: u32,
+    most: u32,
     bytes: &[u8],
-) -> Result<(Vec<TrailEntry>, &[u8]), ThawFault>
+) -> Result<(Vec<F>, &[u8]), ThawFault>
     requires { greatest ≤ 65536 }
-    ensures { Gives (λ x. (x.0.items, x.1.now)) result (counted_at total greatest (entry_at total greatest) bytes.now) }
+    ensures { Gives (λ x. (x.0.items, x.1.now)) result (counted_at total most (F.at total greatest) bytes.now) }
 {
-    let (count, rest) = u32_within(total, 0, greatest, bytes)?;
-    entries(alloc, total, greatest, count, rest)
-}
-
-/// A clause of the variables up to the greatest.
-#[tactic(auto, unfolding(crate::specs::Reading::clause_at))]
-fn clause(
-    alloc: Global,
-    total: usize,
-    greatest: u32,
-    bytes: &[u8],
-) -> Result<(Numbered, &[u8]), ThawFault>
-    requires { greatest ≤ 65536 }
-    ensures { Gives (λ x. (x.0, x.1.now)) result (clause_at total greatest bytes.now) }
-{
-    let (number, rest) = u64_at(bytes)?;
-    let (lits, rest) = counted_literals(alloc, total, greatest, rest)?;
-    Ok((Numbered::new(number, lits), rest))
-}
-
-/// So many clauses of the variables up to the greatest.
-fn many_clauses(
-    alloc: Global,
-    total: usize,
-    greatest: u32,
-    count: u32,
-    bytes: &[u8],
-) -> Result<(Vec<Numbered>, &[u8]), ThawFault>
-    requires { greatest ≤ 65536 }
-    ensures { Gives (λ x. (x.0.items, x.1.now)) result (many_at (clause_at total greatest) count bytes.now) }
-{
-    let mut all = Vec::new(alloc);
-    let mut rest = bytes;
-    for _ in 0..count {
-        let (one, after) = match clause(alloc, total, greatest, rest) {
-            Ok(read) => read,
-            Err(fault) => return Err(fault),
-        };
-        all.push(one)?;
-        rest = after;
-    }
-    Ok((all, rest))
-}
-
-/// A count, and so many clauses of the variables up to the greatest.
-#[tactic(auto, unfolding(crate::specs::Reading::counted_at))]
-fn clauses(
-    alloc: Global,
-    total: usize,
-    greatest: u32,
-    bytes: &[u8],
-) -> Result<(Vec<Numbered>, &[u8]), ThawFault>
-    requires { greatest ≤ 65536 }
-    ensures { Gives (λ x. (x.0.items, x.1.now)) result (counted_at total (2 ^ 32 - 1) (clause_at total greatest) bytes.now) }
-{
-    let (count, rest) = u32_within(total, 0, u32::MAX, bytes)?;
-    many_clauses(alloc, total, greatest, count, rest)
+    let (count, rest) = u32_within(total, 0, most, bytes)?;
+    many(alloc, total, greatest, count, rest)
 }
 
 /// The profile that the first 8 bytes name, and what stands behind them.
@@ -413,11 +379,11 @@ fn lists(
     requires { greatest ≤ 65536 }
     ensures { Gives (λ x. (x.0, x.1.now)) result (lists_at total greatest bytes.now) }
 {
-    let (assumptions, rest) = assumptions(alloc, total, greatest, bytes)?;
-    let (order, rest) = variables(alloc, total, greatest, rest)?;
-    let (phases, rest) = phases(alloc, total, greatest, rest)?;
-    let (trail, rest) = trail(alloc, total, greatest, rest)?;
-    let (clauses, rest) = clauses(alloc, total, greatest, rest)?;
+    let (assumptions, rest) = counted::<Lit>(alloc, total, greatest, greatest, bytes)?;
+    let (order, rest) = many::<Var>(alloc, total, greatest, greatest, rest)?;
+    let (phases, rest) = many::<bool>(alloc, total, greatest, greatest, rest)?;
+    let (trail, rest) = counted::<TrailEntry>(alloc, total, greatest, greatest, rest)?;
+    let (clauses, rest) = counted::<Numbered>(alloc, total, greatest, u32::MAX, rest)?;
     Ok((
         Lists {
             assumptions,

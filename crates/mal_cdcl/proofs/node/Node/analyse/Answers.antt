@@ -13,9 +13,4 @@ analyse_in-requires-clause-placed g c =
     placed-wider c.self.inside.variables (c.args.scratch.now.room - 1) c.self.inside.trail.entries [] (omega (arith, fitted)) sound.consistent.placed
 
 pub returns-clause-few : goal.returns-clause-few
-returns-clause-few g c =
-    let n = c.args.self.now.state in
-    let same = ap (λ (s : NodeWithRoom). s.state) c.self.view_is in
-    let lits : length c.clause.result.now ≡ length (analysis c.args.id n).lits = rw (c.clause.ensures, c.analyse_in.ensures.clause) (ap (λ (m : Node). length (analysis c.args.id m).lits) same) in
-    let hints : length c.hints.result.now ≡ length (analysis c.args.id n).hints = rw (c.hints.ensures, c.analyse_in.ensures.hints) (ap (λ (m : Node). length (analysis c.args.id m).hints) same) in
-    omega (arith, lits, hints, sound-small n c.args.id c.requires.sound)
+returns-clause-few g c = rw (c.clause.ensures, c.hints.ensures, c.analyse_in.ensures.clause, c.analyse_in.ensures.hints, ← c.self.view_is) (rw (← c.self.view_is) at (sound-small c.args.self.now.state c.args.id c.requires.sound))

@@ -17,9 +17,4 @@ final_core-requires-clause-placed g c =
     placed-wider c.self.inside.variables (c.args.scratch.now.room - 1) c.self.inside.trail.entries [] (omega (arith, fitted)) sound.consistent.placed
 
 pub returns-clause-few : goal.returns-clause-few
-returns-clause-few g c =
-    let n = c.args.self.now.state in
-    let same = ap (λ (s : NodeWithRoom). s.state) c.self.view_is in
-    let lits : length c.clause.result.now ≡ length (core_analysis c.args.assumption n).lits = rw (c.clause.ensures, c.final_core.ensures.clause) (ap (λ (m : Node). length (core_analysis c.args.assumption m).lits) same) in
-    let hints : length c.hints.result.now ≡ length (core_analysis c.args.assumption n).hints = rw (c.hints.ensures, c.final_core.ensures.hints) (ap (λ (m : Node). length (core_analysis c.args.assumption m).hints) same) in
-    omega (arith, lits, hints, core-small n c.args.assumption c.requires.sound)
+returns-clause-few g c = rw (c.clause.ensures, c.hints.ensures, c.final_core.ensures.clause, c.final_core.ensures.hints, ← c.self.view_is) (rw (← c.self.view_is) at (core-small c.args.self.now.state c.args.assumption c.requires.sound))

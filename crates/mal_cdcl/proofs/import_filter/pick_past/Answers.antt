@@ -2,10 +2,10 @@ use Rattle.std.proofs.Common.{◌≡◌, arith, filter, not}
 use Rattle.mal_filter.specs.Noted.{is_noted}
 use Rattle.mal_cdcl.specs.Importing.{lent}
 use Rattle.mal_cdcl.proofs.PickLemmas.{picking-begins, picking-next, picking-ends}
-use Rattle.mal_cdcl.proofs.import_filter.picks_past.Goals as goal
+use Rattle.mal_cdcl.proofs.import_filter.pick_past.Goals as goal
 
 pub loop-told-init : goal.loop-told-init
-loop-told-init c = λ clauses h. rw c.new-picks.ensures.items (picking-begins (lent c.args.imports.now) clauses c.args.seen.now h)
+loop-told-init c = λ clauses h. rw c.requires (picking-begins (lent c.args.imports.now) clauses c.args.seen.now h)
 
 pub loop-told-preserved : goal.loop-told-preserved
 loop-told-preserved c = λ clauses h.

@@ -1,7 +1,0 @@
-use Rattle.std.proofs.Common.{◌≡◌, ◌-◌}
-use Rattle.mal_freeze.specs.Reading.{many_at, variable_at}
-use Rattle.mal_freeze.proofs.ManyLemmas.{with_front}
-use Rattle.mal_freeze.proofs.reading.variables.Given as goal
-
-abbrev pub invariant-loop : goal.invariant-loop
-invariant-loop l = with_front l.all.items (many_at (variable_at l.total l.greatest) (l.greatest - l.counter) l.rest) ≡ many_at (variable_at l.total l.greatest) l.greatest l.bytes
