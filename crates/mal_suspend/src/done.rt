@@ -28,30 +28,14 @@ pub struct Done {
 }
 
 impl Model for Done {
-    ghost use Rattle.mal_suspend.specs.Kept.{journal_of, is_gone};
+    ghost use Rattle.mal_suspend.specs.Kept.{finished};
     ghost use Rattle.spec_job.specs.Leased.{Finished, Tells};
 
     ghost Value = { Finished };
 
-    ghost view = { λ d. record {
-      worker = d.worker;
-      outcome = d.outcome;
-      journal = journal_of d.kept;
-      gone = is_gone d.kept;
-      lines = d.lines.lines;
-      verdict = d.verdict;
-      model = d.values;
-    } };
+    ghost view = { λ d. finished d.worker d.outcome d.kept d.lines.lines d.verdict d.values };
 
-    ghost invariant = { λ d. Tells d.outcome (record {
-      worker = d.worker;
-      outcome = d.outcome;
-      journal = journal_of d.kept;
-      gone = is_gone d.kept;
-      lines = d.lines.lines;
-      verdict = d.verdict;
-      model = d.values;
-    }) };
+    ghost invariant = { λ d. Tells d.outcome (finished d.worker d.outcome d.kept d.lines.lines d.verdict d.values) };
 }
 
 impl Done {

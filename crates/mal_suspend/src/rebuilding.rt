@@ -1,6 +1,7 @@
 //! Nodes rebuilt from their journals.
 
 ghost use Rattle.std.specs.Prelude.{◌≡◌, IfOk, OnOk};
+ghost use Rattle.spec_node.specs.State.{fresh_with};
 ghost use Rattle.spec_search.specs.Slice.{slice};
 ghost use Rattle.spec_job.specs.Journal.{Run, after_entry};
 ghost use Rattle.mal_suspend.specs.Entries.{entry_of, slices_of, counted_of};
@@ -28,12 +29,20 @@ pub fn replay(journal: &Journal, scratch: &mut Scratch) -> Result<Solver, AllocE
     ensures { IfOk result (λ n. n.state ≡ node_of journal.now) }
 {
     let mut node = Node::fresh_with(journal.allocator(), journal.index(), journal.profile());
+    follow(&mut node, journal, scratch)?;
+    Ok(node)
+}
+
+/// Takes a node at its first start over each entry of its journal in turn.
+fn follow(node: &mut Solver, journal: &Journal, scratch: &mut Scratch) -> Result<(), AllocError>
+    requires { node.old.state ≡ fresh_with journal.now.index journal.now.profile }
+    ensures { OnOk result (node.new.state ≡ node_of journal.now) }
+{
     let (counted, slices) = journal.entries().parts();
     for one in counted {
-        go_again(&mut node, one, scratch)?;
+        go_again(node, one, scratch)?;
     }
-    run_again(&mut node, slices, scratch)?;
-    Ok(node)
+    run_again(node, slices, scratch)
 }
 
 /// Takes a node over the slices before an entry, and then over the entry.

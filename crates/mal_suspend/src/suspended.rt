@@ -1,6 +1,6 @@
 //! A node with its journal.
 
-ghost use Rattle.std.specs.Prelude.{◌≡◌, ◌≤◌, [], length, IfOk, IfErr};
+ghost use Rattle.std.specs.Prelude.{◌≡◌, ◌≤◌, [], length, IfOk, IfErr, IfSome};
 ghost use Rattle.mal_freeze.specs.Spelling.{image_bytes};
 ghost use Rattle.spec_job.specs.Journaled.{node_of, started};
 ghost use Rattle.mal_suspend.specs.Freezing.{IsFrozen};
@@ -104,13 +104,24 @@ impl Suspended {
         ensures short { IfOk result (λ f. length (image_bytes (node_of f)) ≤ most) }
         ensures kept { IfErr result (λ s. s ≡ self) }
     {
+        match self.bytes_within(most) {
+            None => Err(self),
+            Some(bytes) => Ok(Frozen::of(bytes, self.journal)),
+        }
+    }
+
+    /// The bytes of the image of the node, where they are no more than these and memory for them is there.
+    fn bytes_within(&self, most: usize) -> Option<Vec<u8>>
+        ensures bytes { IfSome result (λ v. IsFrozen v.items self.now) }
+        ensures short { IfSome result (λ v. length v.items ≤ most) }
+    {
         match self.bytes() {
-            Err(_) => Err(self),
+            Err(_) => None,
             Ok(bytes) => {
                 if bytes.len() > most {
-                    return Err(self);
+                    return None;
                 }
-                Ok(Frozen::of(bytes, self.journal))
+                Some(bytes)
             }
         }
     }

@@ -1,4 +1,5 @@
 use Rattle.std.proofs.Common.{List, [], ◌++◌, take, take_all, arith, sym, ◌∙◌, ap, subst}
+use Rattle.std.proofs.lemmas.Result.{on_ok_weaker}
 use Rattle.spec_node.specs.State.{Node}
 use Rattle.spec_search.specs.Slice.{Sliced}
 use Rattle.spec_job.specs.Journal.{JournalEntry, replay}
@@ -7,7 +8,7 @@ use Rattle.mal_suspend.specs.Replaying.{MayAllReplay, alone, after_entries}
 use Rattle.mal_suspend.proofs.EntryLemmas.{may-at, replay-at}
 use Rattle.mal_suspend.proofs.ReplayLemmas.{may-alone, may-behind}
 use Rattle.mal_suspend.proofs.RebuildLemmas.{nodes-alone, replay-ends}
-use Rattle.mal_suspend.proofs.rebuilding.replay.Goals as goal
+use Rattle.mal_suspend.proofs.rebuilding.follow.Goals as goal
 
 pub go_again-requires : goal.go_again-requires
 go_again-requires c =
@@ -44,5 +45,4 @@ returns c =
     let items = c.parts-slices.result.0.now in
     let journal = c.args.journal.now in
     let done = take_all c.loop-one.one-index items (omega arith) in
-    replay-ends journal.profile journal.index (entries_of items) c.loop-one.node.state c.run_again.new.node.state c.parts-slices.result.1 (rw done at c.loop-one.invariant) c.in_ok-run_again.ensures
-    ∙ ap (λ (es : List JournalEntry). (replay journal.profile journal.index es).node) (c.parts-slices.ensures ∙ c.entries.ensures.value)
+    on_ok_weaker c.run_again.result (λ ran. replay-ends journal.profile journal.index (entries_of items) c.loop-one.node.state c.run_again.new.node.state c.parts-slices.result.1 (rw done at c.loop-one.invariant) ran ∙ ap (λ (es : List JournalEntry). (replay journal.profile journal.index es).node) (c.parts-slices.ensures ∙ c.entries.ensures.value)) c.run_again.ensures
