@@ -131,10 +131,8 @@ impl Log {
         let end = self.count;
         self.count += lines.count();
         let lines = kept(*self.full.allocator(), lines);
-        self.full.push_reserved(Chunk {
-            lines: mem::replace(&mut self.last, lines),
-            end,
-        });
+        let last = mem::replace(&mut self.last, lines);
+        self.full.push_reserved(Chunk { lines: last, end });
         self.room = 0;
         self.number_room = 0;
     }
