@@ -9,6 +9,7 @@ ghost use Rattle.spec_job.specs.Proofs.{failed, proof_lines};
 ghost use Rattle.spec_job.specs.Replies.{told_by, reply};
 ghost use Rattle.spec_report.specs.Replies.{Proof, reply_text};
 ghost use Rattle.mal_job.specs.Among.{among};
+ghost use Rattle.mal_job.specs.Asking.{literals_in};
 ghost use Rattle.mal_job.specs.Finishing.{outcome_of, MayFinish};
 ghost use Rattle.mal_job.specs.Viewed.{shared};
 
@@ -16,7 +17,7 @@ use crate::derivation::Derivation;
 use crate::finishing::{finish_lost, finish_run, finish_starved, give_up};
 use crate::loading::{count_clauses, missing_loads};
 use crate::questions::Questions;
-use crate::told::{answer_at, lits_of, negations, revision_at};
+use crate::told::{answer_at, last_lits, negations, revision_at};
 use crate::tree::Tree;
 use mal_base::{Answer, Ask, ClauseId, Name, Outcome};
 use mal_proof::renumber;
@@ -130,6 +131,22 @@ impl Job {
         self.questions.revisions()
     }
 
+    /// The number of the clauses of all revisions, tautologies among them, at most 2^20. It is kept, and takes no count.
+    pub fn clauses(&self) -> u32
+        ensures value { result ≡ clauses_in self.now.titled.state.revisions }
+        ensures bound { result ≤ 2 ^ 20 }
+    {
+        self.questions.clauses()
+    }
+
+    /// The number of the literals of the clauses of all revisions, at most 2^32. It is kept, and takes no count.
+    pub fn literals(&self) -> u64
+        ensures value { result ≡ literals_in self.now.titled.state.revisions }
+        ensures bound { result ≤ 2 ^ 32 }
+    {
+        self.questions.literals()
+    }
+
     /// A revision, numbered from 1: None exactly where the job has no such revision.
     pub fn revision(&self, r: u32) -> Option<&Revision>
         ensures { option_copied result ≡ among r self.now.titled.state.revisions }
@@ -191,12 +208,11 @@ impl Job {
         ensures { IfOk result (λ text. text.items ≡ reply_text self.now.titled.key.tenant self.now.titled.key.job r self.now.titled.state.ask.profile (Proof (failed goal self.now.titled.state.log) (proof_lines self.now.titled.state.revisions self.now.titled.state.log (r - 1) goal))) }
     {
         let alloc = self.questions.allocator();
-        let log = self.log.log();
-        let needed = log.trim(goal)?;
+        let needed = self.log.log().trim(goal)?;
         let revisions = self.questions.revisions();
         let count = count_clauses(&revisions[..r as usize]);
         let lines = renumber(alloc, &needed, count as u64)?;
-        let failed = negations(alloc, lits_of(log, goal))?;
+        let failed = negations(alloc, last_lits(&needed))?;
         unsatisfiable(
             alloc,
             &self.tenant,

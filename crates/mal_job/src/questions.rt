@@ -4,7 +4,7 @@ ghost use Rattle.std.specs.Prelude.{◌≡◌, ◌+◌, ◌-◌, ◌<◌, ◌≤
 ghost use Rattle.mal_base.specs.declared.answer.Answer.TheVariants.{Refuted};
 ghost use Rattle.spec_job.specs.SoloMachine.{clauses_in};
 ghost use Rattle.mal_job.specs.Viewed.{shared};
-ghost use Rattle.mal_job.specs.Asking.{IsAsked, and_revision, replied, answer_by, spent_once, concluded, starved_once, settled_with};
+ghost use Rattle.mal_job.specs.Asking.{IsAsked, literals_in, and_revision, replied, answer_by, spent_once, concluded, starved_once, settled_with};
 
 use mal_base::{Answer, Ask, ClauseId, Values, Verdict};
 use mal_revision::Revision;
@@ -16,7 +16,8 @@ use std::sync::Arc;
 const MOST_STARVED: u32 = 3;
 
 /// The ask of a job, whether it was closed, its revisions with their answers, and how many slices the current revision
-/// has spent and how many of its starts wanted for memory. There is room for each answer that is owed.
+/// has spent and how many of its starts wanted for memory. There is room for each answer that is owed. The numbers of
+/// the clauses and of the literals of all revisions are kept, so that no call counts them.
 #[derive(Drop)]
 pub struct Questions {
     ask: Ask,
@@ -25,12 +26,14 @@ pub struct Questions {
     answers: Vec<Answer>,
     spent: u32,
     starved: u32,
+    clauses: u32,
+    literals: u64,
 }
 
 impl Model for Questions {
     ghost use Rattle.std.specs.Prelude.{◌≤◌, length, vec_capacity};
     ghost use Rattle.mal_job.specs.Viewed.{QuestionsView, shared};
-    ghost use Rattle.mal_job.specs.Asking.{IsAsked};
+    ghost use Rattle.mal_job.specs.Asking.{IsAsked, AreSums};
 
     ghost Value = { QuestionsView };
 
@@ -50,7 +53,7 @@ impl Model for Questions {
       answers = q.answers.items;
       spent = q.spent;
       starved = q.starved;
-    }) × (length q.revisions.items ≤ vec_capacity q.answers) };
+    }) × (length q.revisions.items ≤ vec_capacity q.answers) × AreSums (shared q.revisions.items) q.clauses q.literals };
 }
 
 impl Questions {
@@ -67,6 +70,8 @@ impl Questions {
             answers: Vec::new(alloc),
             spent: 0,
             starved: 0,
+            clauses: 0,
+            literals: 0,
         }
     }
 
@@ -90,6 +95,22 @@ impl Questions {
         ensures kept { IsAsked self.now }
     {
         self.revisions.as_slice()
+    }
+
+    /// The number of the clauses of all revisions.
+    pub fn clauses(&self) -> u32
+        ensures value { result ≡ clauses_in self.now.revisions }
+        ensures bound { result ≤ 2 ^ 20 }
+    {
+        self.clauses
+    }
+
+    /// The number of the literals of the clauses of all revisions.
+    pub fn literals(&self) -> u64
+        ensures value { result ≡ literals_in self.now.revisions }
+        ensures bound { result ≤ 2 ^ 32 }
+    {
+        self.literals
     }
 
     /// The answers, in the order of the revisions.
@@ -130,10 +151,13 @@ impl Questions {
         ensures kept { IsAsked self.new }
     {
         let alloc = self.allocator();
+        let (clauses, literals) = (revision.clauses().len(), revision.literals());
         let posted = Arc::new(alloc, revision)?;
         let unanswered = self.revisions.len() - self.answers.len();
         self.answers.reserve(unanswered + 1)?;
         self.revisions.push(posted)?;
+        self.clauses += clauses as u32;
+        self.literals += literals as u64;
         self.settle(goal);
         Ok(())
     }

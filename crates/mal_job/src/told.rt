@@ -3,12 +3,11 @@
 ghost use Rattle.std.specs.Prelude.{◌≡◌, map, IfOk};
 ghost use Rattle.std.specs.Option.{option_copied};
 ghost use Rattle.mal_base.specs.Literals.{negated};
-ghost use Rattle.spec_job.specs.Proofs.{lits_at};
+ghost use Rattle.mal_proof.specs.Goals.{last_lits};
 ghost use Rattle.mal_job.specs.Among.{among};
 ghost use Rattle.mal_job.specs.Viewed.{shared};
 
-use mal_base::{Answer, ClauseId, Lit};
-use mal_proof::Log;
+use mal_base::{Answer, Lines, Lit};
 use mal_revision::Revision;
 use std::alloc::{AllocError, Global};
 use std::sync::Arc;
@@ -36,16 +35,14 @@ pub fn revision_at(revisions: &[Arc<Revision>], r: u32) -> Option<&Revision>
     }
 }
 
-/// The literals of the line of a log with this number, none where there is no such line.
-pub fn lits_of(log: &Log, goal: ClauseId) -> &[Lit]
-    ensures { result.now ≡ lits_at goal log.now.lines }
+/// The literals of the last of these lines, none where there is no line.
+pub fn last_lits(lines: &Lines) -> &[Lit]
+    ensures { result.now ≡ last_lits lines.now.lines }
 {
-    for n in 0..log.count() {
-        if log.id(n) == goal {
-            return log.lits(n);
-        }
+    match lines.count().checked_sub(1) {
+        None => &[],
+        Some(last) => lines.lits(last),
     }
-    &[]
 }
 
 /// The negations of literals.
