@@ -1,14 +1,11 @@
 //! Whether a hall takes a further job, and a job a further revision.
 
-ghost use Rattle.std.specs.Prelude.{◌≡◌, ◌+◌, ◌<◌, ◌≤◌, ◌^◌, true, false, ◌==◌, if◌then◌else◌, List, [], length, Some, None, Err, MatchOption, IfOk, IfErr};
+ghost use Rattle.std.specs.Prelude.{◌≡◌, ◌+◌, ◌<◌, true, false, ◌==◌, if◌then◌else◌, List, [], length, Some, None, Err, MatchOption, IfOk, IfErr};
 ghost use Rattle.mal_revision.specs.Posted.{is_posted};
-ghost use Rattle.spec_job.specs.SoloMachine.{clauses_in};
-ghost use Rattle.spec_hall.specs.Legal.{literals_in};
 ghost use Rattle.spec_hall.specs.Calls.{IsOpening, IsRevising};
 ghost use Rattle.spec_hall.specs.Events.{Event};
 ghost use Rattle.spec_hall.specs.Room.{HasRoomFor, IsOver};
 ghost use Rattle.spec_hall.specs.States.{states};
-ghost use Rattle.mal_job.specs.Viewed.{shared};
 ghost use Rattle.mal_base.specs.Asks.{Terms};
 ghost use Rattle.spec_hall.specs.Legal.{job_of, jobs_of, tenant_count};
 ghost use Rattle.spec_job.specs.KeyedJob.{Key};
@@ -16,7 +13,6 @@ ghost use Rattle.spec_job.specs.KeyedJob.{Key};
 use mal_base::{LimitKind, OpenFault, ReviseFault};
 use mal_job::Job;
 use mal_revision::Revision;
-use std::sync::Arc;
 
 /// How many tenants a hall with so many tenants has after a further job of a tenant with so many jobs, or why it does
 /// not take the job: the tenant has 64 jobs, or there are 64 other tenants.
@@ -56,53 +52,25 @@ pub fn next_number(job: &Job, revision: &Revision) -> Result<u32, ReviseFault>
     if posted == 256 {
         return Err(ReviseFault::RevisionsFull);
     }
-    match limit_passed(job.revisions(), revision) {
+    match limit_passed(job, revision) {
         Some(which) => Err(ReviseFault::JobFull { which }),
         None => Ok(posted as u32 + 1),
     }
 }
 
-/// Which limit of a job a further revision would pass: 2^20 clauses, then 2^24 literals, over all revisions. It goes
-/// over the revisions, of which there are 256 at most, and not over their clauses.
-fn limit_passed(revisions: &[Arc<Revision>], revision: &Revision) -> Option<LimitKind>
-    requires few { length (shared revisions.now) ≤ 256 }
-    requires clauses { clauses_in (shared revisions.now) ≤ 2 ^ 20 }
-    ensures limit { MatchOption result (HasRoomFor (shared revisions.now) revision.now) (λ which. IsOver which (shared revisions.now) revision.now) }
+/// Which limit of a job a further revision would pass: 2^20 clauses, then 2^24 literals, over all revisions. The job
+/// keeps both numbers.
+fn limit_passed(job: &Job, revision: &Revision) -> Option<LimitKind>
+    ensures limit { MatchOption result (HasRoomFor job.now.titled.state.revisions revision.now) (λ which. IsOver which job.now.titled.state.revisions revision.now) }
     ensures form { is_posted revision.now ≡ true }
 {
-    let clauses = count_clauses(revisions) + revision.clauses().len() as u64;
+    let clauses = job.clauses() as u64 + revision.clauses().len() as u64;
     if clauses > 1_048_576 {
         return Some(LimitKind::Clauses);
     }
-    let literals = count_literals(revisions) + revision.literals() as u64;
+    let literals = job.literals() + revision.literals() as u64;
     if literals > 16_777_216 {
         return Some(LimitKind::Literals);
     }
     None
-}
-
-/// The number of the clauses of these revisions, at most 2^20.
-fn count_clauses(revisions: &[Arc<Revision>]) -> u64
-    requires { clauses_in (shared revisions.now) ≤ 2 ^ 20 }
-    ensures value { result ≡ clauses_in (shared revisions.now) }
-    ensures bound { result ≤ 2 ^ 20 }
-{
-    let mut count = 0;
-    for revision in revisions {
-        count += revision.clauses().len() as u64;
-    }
-    count
-}
-
-/// How many literals the clauses of these revisions have, of which there are 256 at most.
-fn count_literals(revisions: &[Arc<Revision>]) -> u64
-    requires { length (shared revisions.now) ≤ 256 }
-    ensures value { result ≡ literals_in (shared revisions.now) }
-    ensures bound { result ≤ 2 ^ 32 }
-{
-    let mut count = 0;
-    for revision in revisions {
-        count += revision.literals() as u64;
-    }
-    count
 }
