@@ -1,17 +1,11 @@
 use Rattle.std.specs.Prelude.{◌≡◌, ℕ, ◌+◌, ◌-◌, ◌*◌, ◌<◌, ◌≤◌, ◌^◌, ◌==◌, nat_lt, Bool, List, [], ◌∷◌, ◌++◌, length, replicate, Option, Some, None, if◌then◌else◌}
-use Rattle.std.specs.List.{sum_by}
-use Rattle.mal_base.specs.Formulas.{literals_of}
 use Rattle.mal_base.specs.declared.answer.Answer.{Answer}
 use Rattle.mal_base.specs.declared.answer.Answer.TheVariants.{Satisfied, Refuted, Spent, OutOfStarts}
 use Rattle.mal_base.specs.declared.verdict.Verdict.{Verdict}
 use Rattle.mal_base.specs.declared.verdict.Verdict.TheVariants.{Satisfiable, Unsatisfiable}
 use Rattle.mal_revision.specs.Posted.{Posted}
-use Rattle.spec_job.specs.SoloMachine.{clauses_in}
+use Rattle.spec_job.specs.SoloMachine.{clauses_in, literals_in}
 use Rattle.mal_job.specs.Viewed.{QuestionsView}
-
--- the literals of revisions
-abbrev pub literals_in : List Posted → ℕ
-literals_in revisions = sum_by (λ r. literals_of r.clauses) revisions
 
 -- these are the numbers of the clauses and of the literals of revisions, which have 2^24 literals each at most
 pub record AreSums (revisions : List Posted) (clauses literals : ℕ) : Type 0 where

@@ -3,13 +3,12 @@
 ghost use Rattle.std.specs.Prelude.{◌≡◌, ◌↔◌, ◌+◌, ◌-◌, ◌<◌, ◌≤◌, ◌^◌, true, length, is_some, IsTrue, Some, None, MatchOption, OnOk, OnErr, IfOk};
 ghost use Rattle.std.specs.Option.{option_copied};
 ghost use Rattle.mal_base.specs.declared.verdict.Outcome.TheVariants.{Ran, Starved, Lost};
-ghost use Rattle.spec_job.specs.SoloMachine.{Opened, Revised, Closed, Volume, Finished, Exchanged, unopened, solo_step, is_live, startable, is_exchange_due, place_at, clauses_in};
+ghost use Rattle.spec_job.specs.SoloMachine.{Opened, Revised, Closed, Volume, Finished, Exchanged, unopened, solo_step, is_live, startable, is_exchange_due, place_at, clauses_in, literals_in};
 ghost use Rattle.spec_job.specs.Viewed.{unstarted, and_own, and_start, IsLeaseOf, IsBack};
 ghost use Rattle.spec_job.specs.Proofs.{failed, proof_lines};
 ghost use Rattle.spec_job.specs.Replies.{told_by, reply};
 ghost use Rattle.spec_report.specs.Replies.{Proof, reply_text};
 ghost use Rattle.mal_job.specs.Among.{among};
-ghost use Rattle.mal_job.specs.Asking.{literals_in};
 ghost use Rattle.mal_job.specs.Finishing.{outcome_of, MayFinish};
 ghost use Rattle.mal_job.specs.Viewed.{shared};
 

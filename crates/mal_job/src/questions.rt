@@ -2,9 +2,9 @@
 
 ghost use Rattle.std.specs.Prelude.{◌≡◌, ◌+◌, ◌-◌, ◌<◌, ◌≤◌, ◌^◌, [], ◌++◌, true, false, length, replicate, vec_len, vec_capacity, OnOk, OnErr};
 ghost use Rattle.mal_base.specs.declared.answer.Answer.TheVariants.{Refuted};
-ghost use Rattle.spec_job.specs.SoloMachine.{clauses_in};
+ghost use Rattle.spec_job.specs.SoloMachine.{clauses_in, literals_in};
 ghost use Rattle.mal_job.specs.Viewed.{shared};
-ghost use Rattle.mal_job.specs.Asking.{IsAsked, literals_in, and_revision, replied, answer_by, spent_once, concluded, starved_once, settled_with};
+ghost use Rattle.mal_job.specs.Asking.{IsAsked, and_revision, replied, answer_by, spent_once, concluded, starved_once, settled_with};
 
 use mal_base::{Answer, Ask, ClauseId, Values, Verdict};
 use mal_revision::Revision;

@@ -1,11 +1,11 @@
-use Rattle.std.specs.Prelude.{◌≡◌, ◌≢◌, ℕ, ◌+◌, ◌<◌, ◌≤◌, true, false, ◌==◌, List, [], ◌∷◌, ◌++◌, length, map, find, sum_by, count_by, slice_get, Option, Some, None, if◌then◌else◌}
+use Rattle.std.specs.Prelude.{◌≡◌, ◌≢◌, ℕ, ◌+◌, ◌<◌, ◌≤◌, true, false, ◌==◌, List, [], ◌∷◌, ◌++◌, length, map, find, count_by, slice_get, Option, Some, None, if◌then◌else◌}
 use Rattle.mal_base.specs.Asks.{Terms, IsAsk}
 use Rattle.mal_base.specs.Names.{is_name}
 use Rattle.mal_history.specs.declared.event.Share.{Share}
 use Rattle.mal_base.specs.Formulas.{literals_of}
 use Rattle.mal_revision.specs.Posted.{Posted, is_posted}
 use Rattle.spec_balance.specs.Fair.{IsFair}
-use Rattle.spec_job.specs.SoloMachine.{clauses_in}
+use Rattle.spec_job.specs.SoloMachine.{clauses_in, literals_in}
 use Rattle.spec_job.specs.KeyedJob.{Key, KeyedJob}
 use Rattle.spec_hall.specs.Events.{Event, Open, Revise, Close, Balance, Start, Finish, Exchange, key_of}
 use Rattle.spec_hall.specs.Own.{is_text, is_key}
@@ -23,10 +23,6 @@ jobs_of tenant jobs = count_by (λ t. is_text tenant t.key.tenant) jobs
 abbrev pub tenant_count : List KeyedJob → ℕ
 tenant_count [] = 0
 tenant_count (t ∷ ts) = (if 0 == jobs_of t.key.tenant ts then 1 else 0) + tenant_count ts
-
--- the literals of a job's revisions
-abbrev pub literals_in : List Posted → ℕ
-literals_in revisions = sum_by (λ r. literals_of r.clauses) revisions
 
 -- a job may be opened: it has a name and an ask in form, no job has its key, its tenant has fewer than 64 jobs, and
 -- there are fewer than 64 other tenants

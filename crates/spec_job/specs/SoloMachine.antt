@@ -1,5 +1,6 @@
 use Rattle.std.specs.Prelude.{find, option_map, ℕ, ◌+◌, ◌-◌, ◌*◌, ◌%◌, Bool, true, false, ◌&&◌, ◌==◌, nat_lt, nat_le, List, [], ◌∷◌, ◌++◌, map, filter, length, take, drop, replicate, sum_by, count_by, fold, get_or, slice_set, Option, Some, None, is_none, if◌then◌else◌}
 use Rattle.mal_base.specs.Asks.{Terms}
+use Rattle.mal_base.specs.Formulas.{literals_of}
 use Rattle.mal_base.specs.declared.answer.Answer.{Answer}
 use Rattle.mal_base.specs.declared.answer.Answer.TheVariants.{Satisfied, Refuted, Spent, OutOfStarts}
 use Rattle.mal_base.specs.declared.verdict.Verdict.{Verdict}
@@ -77,6 +78,10 @@ with_place s i p = record s { places = slice_set s.places i p }
 -- how many original clauses these revisions have
 abbrev pub clauses_in : List Posted → ℕ
 clauses_in revisions = sum_by (λ r. length r.clauses) revisions
+
+-- how many literals these clauses have
+abbrev pub literals_in : List Posted → ℕ
+literals_in revisions = sum_by (λ r. literals_of r.clauses) revisions
 
 -- the loads that a journal lacks, up to the current revision
 abbrev pub missing_loads : SoloMachine → NodeSlot → List JournalEntry

@@ -7,12 +7,12 @@ use Rattle.std.proofs.lemmas.List.Sums.{fold-append}
 use Rattle.std.proofs.lemmas.List.Folds.{list_any-append}
 use Rattle.mal_base.specs.Formulas.{literals_of}
 use Rattle.mal_revision.specs.Posted.{Posted, is_posted}
-use Rattle.spec_job.specs.SoloMachine.{Own, Opened, Revised, Closed, SoloMachine, solo, solo_step, clauses_in}
+use Rattle.spec_job.specs.SoloMachine.{Own, Opened, Revised, Closed, SoloMachine, solo, solo_step, clauses_in, literals_in}
 use Rattle.spec_job.specs.KeyedJob.{Key}
 use Rattle.spec_hall.specs.Events.{Event, Open, Revise, Close}
 use Rattle.spec_hall.specs.Own.{own, own_step, is_key}
 use Rattle.spec_hall.specs.States.{keys_of, states, titled}
-use Rattle.spec_hall.specs.Legal.{MayOpen, MayRevise, MayClose, job_of, jobs_of, tenant_count, literals_in}
+use Rattle.spec_hall.specs.Legal.{MayOpen, MayRevise, MayClose, job_of, jobs_of, tenant_count}
 use Rattle.spec_hall.proofs.KeyLemmas.{is_key-Decides}
 use Rattle.spec_hall.proofs.PushLemmas.{own-push, solo-push, keys-push}
 use Rattle.spec_hall.proofs.VolumeLemmas.{revise-keeps}

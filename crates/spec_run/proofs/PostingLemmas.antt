@@ -6,11 +6,11 @@ use Rattle.std.proofs.lemmas.List.{map-append, take-append-drop, drop_more, take
 use Rattle.std.proofs.lemmas.List.Sums.{sum_by_more_le}
 use Rattle.mal_base.specs.Formulas.{literals_of}
 use Rattle.mal_revision.specs.Posted.{Posted, is_posted}
-use Rattle.spec_job.specs.SoloMachine.{clauses_in}
+use Rattle.spec_job.specs.SoloMachine.{clauses_in, literals_in}
 use Rattle.spec_job.specs.KeyedJob.{Key}
 use Rattle.spec_hall.specs.Events.{Event, Open, Revise}
 use Rattle.spec_hall.specs.States.{keys_of, titled}
-use Rattle.spec_hall.specs.Legal.{MayOpen, MayRevise, literals_in}
+use Rattle.spec_hall.specs.Legal.{MayOpen, MayRevise}
 use Rattle.spec_run.specs.Complete.{key_of_job, job_events, open_events, revise_events}
 use Rattle.spec_run.specs.Posting.{IsOpen}
 use Rattle.spec_run.proofs.KeyLemmas.{opened-keys}
