@@ -1,4 +1,5 @@
 -- what this crate alone cites
+mod Digits
 mod Fronts
 mod Listing
 mod Texts

@@ -32,7 +32,7 @@ behind-zero ids before after n (Some zs) h e =
     let negative : negative_behind before zs ≡ after = cc in
     rw (append-nil ids, h, negative) refl
 
-pub closed-list : (ids : List ℕ) (before after : Bool) (w : List ℕ) (ws : List (List ℕ)) (z : ℤ) → number_said (number_in w greatest_id) ≡ Some z → nat_abs z ≡ 0 → option_map (negative_behind before) (numbers_of ws) ≡ Some after → behind ids before (list_said (w ∷ ws)) ≡ Some (record { ids = ids; negative = after; closed = length ws == 0 })
-closed-list ids before after w ws (pos zero) e k h = ap (λ (o : Option ℤ). behind ids before (option_map listed (before_all o (numbers_of ws)))) e ∙ behind-zero ids before after (length ws) (numbers_of ws) (one-each ws) h
-closed-list ids before after w ws (pos (suc m)) e k h = absurd (cc)
-closed-list ids before after w ws (negsuc m) e k h = absurd (cc)
+pub closed-list : (ids : List ℕ) (before after : Bool) (rows ws : List (List ℕ)) (z : ℤ) → numbers_of rows ≡ before_all (Some z) (numbers_of ws) → nat_abs z ≡ 0 → option_map (negative_behind before) (numbers_of ws) ≡ Some after → behind ids before (list_said rows) ≡ Some (record { ids = ids; negative = after; closed = length ws == 0 })
+closed-list ids before after rows ws (pos zero) e k h = ap (λ (o : Option (List ℤ)). behind ids before (option_map listed o)) e ∙ behind-zero ids before after (length ws) (numbers_of ws) (one-each ws) h
+closed-list ids before after rows ws (pos (suc m)) e k h = absurd (cc)
+closed-list ids before after rows ws (negsuc m) e k h = absurd (cc)

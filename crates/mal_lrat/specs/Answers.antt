@@ -1,8 +1,8 @@
 -- What the answers of the readers say.
-use Rattle.std.specs.Prelude.{◌≡◌, Option, Some, None, Result, Ok, Err}
+use Rattle.std.specs.Prelude.{◌≡◌, ℕ, ℤ, List, [], Option, Some, None, Result, Ok, Err}
 use Rattle.mal_lrat.specs.declared.fault.LineFault.{LineFault}
 use Rattle.mal_lrat.specs.declared.fault.LineFault.TheVariants as answer
-use Rattle.spec_lrat.specs.Reading.{Fault}
+use Rattle.spec_lrat.specs.Reading.{Fault, before_all, numbers_of}
 use Rattle.spec_lrat.specs.Reading.Fault.{BadNumber, MissingZero, IdNotRising, NegativeHint}
 
 -- an answer other than want of memory is this fault
@@ -29,3 +29,10 @@ FailsWords answer.OutOfMemory read = Unit {0}
 abbrev pub GivesWords : {X Y : Type 0} → (X → Y) → Result X LineFault → Option Y → Type 0
 GivesWords view (Ok x) read = read ≡ Some (view x)
 GivesWords view (Err e) read = FailsWords e read
+
+-- what a function answered of a line's first number, seen by these two views: none where there is no word, else a number
+-- and the words behind it
+abbrev pub CutsNumber : {X : Type 0} → (X → ℤ) → (X → List (List ℕ)) → Result (Option X) LineFault → List (List ℕ) → Type 0
+CutsNumber number behind (Ok None) words = words ≡ []
+CutsNumber number behind (Ok (Some cut)) words = numbers_of words ≡ before_all (Some (number cut)) (numbers_of (behind cut))
+CutsNumber number behind (Err e) words = FailsWords e (numbers_of words)

@@ -4,6 +4,7 @@
 
 mod fault;
 mod line;
+mod plain;
 mod reading;
 mod writing;
 

@@ -1,24 +1,28 @@
 //! Reading a line of a proof.
 
-ghost use Rattle.std.specs.Prelude.{◌≡◌, ◌==◌, Some, length, IfOk};
+ghost use Rattle.std.specs.Prelude.{◌≡◌, ◌==◌, ◌<◌, Some, length, IfOk, IfSome};
 ghost use Rattle.std.specs.Option.{option_map};
 ghost use Rattle.spec_text.specs.Inputs.{words_of};
 ghost use Rattle.spec_text.specs.Numbers.{number_in};
 ghost use Rattle.spec_dimacs.specs.Merged.{clause_of};
-ghost use Rattle.spec_lrat.specs.Reading.{greatest_id, behind_l, before_end, behind_end, number_said, numbers_of, literals_of, id_said, deleting, added, behind_id, reading_of, reading};
+ghost use Rattle.spec_lrat.specs.Reading.{greatest_id, behind_l, before_end, behind_end, numbers_of, literals_of, id_said, deleting, added, behind_id, reading_of, reading};
 ghost use Rattle.spec_lrat.specs.Grammar.{Spells};
 ghost use Rattle.mal_lrat.specs.LineView.{seen};
 ghost use Rattle.mal_lrat.specs.IdLists.{listing, list_said, negative_behind, adding_listed, literal_or_end};
-ghost use Rattle.mal_lrat.specs.Answers.{Gives, GivesWords};
+ghost use Rattle.mal_lrat.specs.Answers.{Gives, GivesWords, CutsNumber};
 
 use crate::fault::LineFault;
 use crate::line::Line;
+use crate::plain::digits_in_front;
 use mal_base::{Clause, ClauseId, Lit};
 use mal_text::{first_word, number};
 use std::alloc::{AllocError, Global};
 
 /// The greatest id of a clause in a proof.
 const GREATEST_ID: u64 = 1 << 62;
+
+/// Room for ids is made at once for so many bytes each; more room is made where they are shorter.
+const BYTES_OF_ID: usize = 5;
 
 /// The numbers at the end of a line, as they are read: the ids before the first 0, which are magnitudes; whether one of
 /// all numbers is negative; and whether the last one is 0 and no other.
@@ -192,11 +196,10 @@ fn literals(alloc: Global, words: &[u8]) -> Result<(Vec<Lit>, &[u8]), LineFault>
 fn id_list(alloc: Global, words: &[u8]) -> Result<IdList, LineFault>
     ensures { GivesWords listing result (list_said (words_of words.now)) }
 {
-    let mut ids = Vec::new(alloc);
+    let mut ids = Vec::with_capacity(alloc, words.len() / BYTES_OF_ID)?;
     let mut has_negative = false;
     let mut rest = words;
-    while let Some((word, behind)) = first_word(rest) {
-        let number = number_in(word)?;
+    while let Some((number, behind)) = first_number(rest)? {
         match ClauseId::of(number.unsigned_abs()) {
             Some(id) => ids.push(id)?,
             None => {
@@ -217,28 +220,43 @@ fn id_list(alloc: Global, words: &[u8]) -> Result<IdList, LineFault>
     })
 }
 
-/// The number with a magnitude up to 2^62 that a word says.
-fn number_in(word: &[u8]) -> Result<i64, LineFault>
-    ensures { GivesWords (λ z. z) result (number_said (number_in word.now greatest_id)) }
-{
-    match number(word, GREATEST_ID) {
-        Ok(number) => Ok(number),
-        Err(_) => Err(LineFault::BadNumber),
-    }
-}
-
 /// Whether a number was negative before, or one of those that these words say is.
 fn has_negative_behind(before: bool, words: &[u8]) -> Result<bool, LineFault>
     ensures { GivesWords (λ b. b) result (option_map (negative_behind before) (numbers_of (words_of words.now))) }
 {
     let mut has_negative = before;
     let mut rest = words;
-    while let Some((word, behind)) = first_word(rest) {
-        let number = number_in(word)?;
+    while let Some((number, behind)) = first_number(rest)? {
         has_negative = has_negative || number < 0;
         rest = behind;
     }
     Ok(has_negative)
+}
+
+/// The number with a magnitude up to 2^62 that the first word of a line says, and the line behind the word. None for a
+/// line of blanks alone.
+fn first_number(line: &[u8]) -> Result<Option<(i64, &[u8])>, LineFault>
+    ensures number { CutsNumber (λ cut. cut.0) (λ cut. words_of cut.1.now) result (words_of line.now) }
+    ensures shorter { IfOk result (λ o. IfSome o (λ cut. length cut.1.now < length line.now)) }
+{
+    match digits_in_front(line) {
+        Some((number, behind)) => Ok(Some((number as i64, behind))),
+        None => number_of_word(line),
+    }
+}
+
+/// The same, word by word.
+fn number_of_word(line: &[u8]) -> Result<Option<(i64, &[u8])>, LineFault>
+    ensures number { CutsNumber (λ cut. cut.0) (λ cut. words_of cut.1.now) result (words_of line.now) }
+    ensures shorter { IfOk result (λ o. IfSome o (λ cut. length cut.1.now < length line.now)) }
+{
+    let Some((word, behind)) = first_word(line) else {
+        return Ok(None);
+    };
+    match number(word, GREATEST_ID) {
+        Ok(number) => Ok(Some((number, behind))),
+        Err(_) => Err(LineFault::BadNumber),
+    }
 }
 
 /// Whether a line is of blanks alone.
