@@ -1,7 +1,7 @@
 //! What is counted of the jobs of a hall.
 
 ghost use Rattle.std.specs.Prelude.{◌≡◌, ◌+◌, ◌<◌, ◌≤◌, ◌^◌};
-ghost use Rattle.mal_seats.specs.Counted.{one};
+ghost use Rattle.mal_seats.specs.Counted.{AreRecounted, IsAmong, one};
 
 /// Whether a job was changed so that a balancing is due, and whether it is not closed or not answered.
 #[derive(Clone, Copy)]
@@ -20,12 +20,8 @@ pub struct Counts {
 impl Counts {
     /// Counts a job anew that had the first marks and now has the others.
     pub fn change(&mut self, before: Marks, after: Marks)
-        requires changed { one before.changed ≤ self.old.changed }
-        requires unfinished { one before.unfinished ≤ self.old.unfinished }
-        requires changed_room { self.old.changed < 2 ^ 63 }
-        requires unfinished_room { self.old.unfinished < 2 ^ 63 }
-        ensures changed { self.new.changed + one before.changed ≡ self.old.changed + one after.changed }
-        ensures unfinished { self.new.unfinished + one before.unfinished ≡ self.old.unfinished + one after.unfinished }
+        requires { IsAmong before self.old }
+        ensures { AreRecounted before after self.old self.new }
     {
         self.changed = recounted(self.changed, before.changed, after.changed);
         self.unfinished = recounted(self.unfinished, before.unfinished, after.unfinished);

@@ -8,7 +8,7 @@ ghost use Rattle.spec_job.specs.Viewed.{and_own, and_start, IsLeaseOf, IsBack};
 ghost use Rattle.spec_hall.specs.Dressed.{keyed};
 ghost use Rattle.spec_hall.specs.Own.{is_key};
 ghost use Rattle.spec_hall.specs.Seats as spec;
-ghost use Rattle.mal_seats.specs.Counted.{is_unfinished};
+ghost use Rattle.mal_seats.specs.Counted.{is_unfinished, marks_of};
 
 use crate::counts::Marks;
 use mal_base::{Ask, Name};
@@ -115,8 +115,7 @@ impl Seat {
 
     /// What is counted of the job.
     pub(crate) fn marks(&self) -> Marks
-        ensures changed { result.changed ≡ spec.has_changed self.now }
-        ensures unfinished { result.unfinished ≡ is_unfinished self.now }
+        ensures { result ≡ marks_of self.now }
     {
         Marks {
             changed: self.has_changed(),

@@ -1,9 +1,10 @@
 //! The seats of a hall, with what saves going over all of them.
 
 ghost use Rattle.std.specs.Prelude.{◌≡◌, ℕ, ◌+◌, ◌<◌, ◌≤◌, ◌^◌, [], ◌∷◌, ◌++◌, true, not, length, slice_index_or, None, IfOk, OnOk, OnErr};
+ghost use Rattle.std.specs.Fn.{FnOnceReturnsAtMut, FnOnceTakesAtMut};
 ghost use Rattle.std.specs.List.{list_all};
 ghost use Rattle.mal_job.specs.Finishing.{outcome_of, MayFinish};
-ghost use Rattle.mal_seats.specs.Changed.{OfSeat, IsChanged};
+ghost use Rattle.mal_seats.specs.Changed.{OfSeat, IsChanged, IsSteady, HasStepped};
 ghost use Rattle.spec_balance.specs.Fair.{IsFair, volume_at};
 ghost use Rattle.spec_job.specs.SoloMachine.{Revised, Closed, Finished, Exchanged, startable, clauses_in};
 ghost use Rattle.spec_job.specs.Viewed.{and_own, and_start, IsLeaseOf};
@@ -46,7 +47,7 @@ impl Model for Seats {
 
     ghost view = { λ s. s.seats.items };
 
-    ghost invariant = { λ s. AreKept s.seats.items s.counts.changed s.counts.unfinished s.filled.items s.names.places s.names.tenants };
+    ghost invariant = { λ s. AreKept s.seats.items s.counts s.filled.items s.names.places s.names.tenants };
 }
 
 impl Seats {
@@ -188,6 +189,21 @@ impl Seats {
         Ok(())
     }
 
+    /// Changes the seat at a place so that its job keeps its name and its volume, and counts the job anew.
+    fn change<T, F: FnOnce(&mut Seat) -> T>(&mut self, at: usize, step: F) -> T
+        requires place { at < length self.old }
+        requires may { OfSeat self.old at (λ s. FnOnceTakesAtMut F.FnOnce step s) }
+        requires steady { OfSeat self.old at (λ s. (r : T) (now : spec.Seat) → FnOnceReturnsAtMut F.FnOnce step s r now → IsSteady s now) }
+        ensures { HasStepped (λ s now. FnOnceReturnsAtMut F.FnOnce step s result now) at self.old self.new }
+    {
+        let seat = &mut self.seats[at];
+        let before = seat.marks();
+        let result = step(seat);
+        let after = seat.marks();
+        self.counts.change(before, after);
+        result
+    }
+
     /// Posts the next revision of the job at a place. After want of memory the seats are as before.
     pub fn revise(&mut self, at: usize, revision: Revision) -> Result<(), AllocError>
         requires place { at < length self.old }
@@ -196,15 +212,7 @@ impl Seats {
         ensures ok { OnOk result (IsChanged (λ s. record s { job = and_own s.job (Revised revision) }) at self.old self.new) }
         ensures err { OnErr result (self.new ≡ self.old) }
     {
-        let seat = &mut self.seats[at];
-        let before = seat.marks();
-        match seat.revise(revision) {
-            Ok(()) => {}
-            Err(_) => return Err(AllocError),
-        }
-        let after = seat.marks();
-        self.counts.change(before, after);
-        Ok(())
+        self.change(at, |seat| seat.revise(revision))
     }
 
     /// Closes the job at a place. Takes no memory.
@@ -212,11 +220,7 @@ impl Seats {
         requires { at < length self.old }
         ensures { IsChanged (λ s. record s { job = and_own s.job Closed }) at self.old self.new }
     {
-        let seat = &mut self.seats[at];
-        let before = seat.marks();
-        seat.close();
-        let after = seat.marks();
-        self.counts.change(before, after);
+        self.change(at, |seat| seat.close());
     }
 
     /// Starts a node of the job at a place, as the start of this number: hands it out to a worker. After want of memory
@@ -234,15 +238,7 @@ impl Seats {
         ensures lease { IfOk result (λ l. OfSeat self.old at (λ s. IsLeaseOf s.job index start worker l)) }
         ensures err { OnErr result (self.new ≡ self.old) }
     {
-        let seat = &mut self.seats[at];
-        let before = seat.marks();
-        let lease = match seat.start(index, worker, start) {
-            Ok(lease) => lease,
-            Err(_) => return Err(AllocError),
-        };
-        let after = seat.marks();
-        self.counts.change(before, after);
-        Ok(lease)
+        self.change(at, |seat| seat.start(index, worker, start))
     }
 
     /// Ends the start of the job at a place that is out at this index (0 to 63): it is lost where nothing came back.
@@ -253,11 +249,7 @@ impl Seats {
         requires back { OfSeat self.old at (λ s. MayFinish s.job index back) }
         ensures { IsChanged (λ s. record s { job = and_own s.job (Finished index (outcome_of back)) }) at self.old self.new }
     {
-        let seat = &mut self.seats[at];
-        let before = seat.marks();
-        seat.finish(index, back);
-        let after = seat.marks();
-        self.counts.change(before, after);
+        self.change(at, |seat| seat.finish(index, back));
     }
 
     /// Lets the nodes of the job at a place tell one another what they derived. After want of memory the seats are as
@@ -267,14 +259,6 @@ impl Seats {
         ensures ok { OnOk result (IsChanged (λ s. record s { job = and_own s.job Exchanged }) at self.old self.new) }
         ensures err { OnErr result (self.new ≡ self.old) }
     {
-        let seat = &mut self.seats[at];
-        let before = seat.marks();
-        match seat.exchange() {
-            Ok(()) => {}
-            Err(_) => return Err(AllocError),
-        }
-        let after = seat.marks();
-        self.counts.change(before, after);
-        Ok(())
+        self.change(at, |seat| seat.exchange())
     }
 }

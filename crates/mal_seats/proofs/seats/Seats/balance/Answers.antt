@@ -11,7 +11,7 @@ invariant_of-self c =
     let len : c.self.inside.seats.len ≡ length c.self.inside.seats.items = omega arith in
     let filled : c.in-Ok.filled.items ≡ filled_in (balanced_by c.args.volumes.now c.self.inside.seats.items) = rw c.deref.ensures.value at c.in-Ok.ensures in
     rw (written-back c.self.inside.seats.items c.balance.new.seats c.self.inside.seats.len c.args.volumes.now len now) (record {
-      counted = kept-balance c.self.inside.seats.items c.args.volumes.now _ _ _ _ c.self.invariant.counted filled;
+      counted = kept-balance c.self.inside.seats.items c.args.volumes.now _ _ _ c.self.invariant.counted filled;
       named = named-balanced c.self.inside.seats.items _ _ c.args.volumes.now c.self.invariant.named;
     })
 

@@ -1,56 +1,13 @@
-use Rattle.std.proofs.Common.{◌<◌, length, ap, ◌∙◌, arith}
-use Rattle.mal_seats.proofs.ChangedLemmas.{are-few, changed-is, kept-set, may-count, seat-at}
-use Rattle.mal_seats.proofs.FilledLemmas.{volume_of}
-use Rattle.mal_seats.proofs.NameLemmas.{key_of, named-set}
+use Rattle.std.proofs.Common.{◌≡◌, ap, ◌∙◌, rules}
 use Rattle.mal_job.specs.Finishing.{outcome_of}
 use Rattle.spec_job.specs.SoloMachine.{Finished}
 use Rattle.spec_job.specs.Viewed.{and_own}
 use Rattle.spec_job.proofs.StepLemmas.{finish-keeps}
+use Rattle.mal_seats.proofs.FilledLemmas.{volume_of}
+use Rattle.mal_seats.proofs.NameLemmas.{key_of}
 use Rattle.mal_seats.proofs.seats.Seats.finish.Goals as goal
 
-pub index_mut-seat-requires : goal.index_mut-seat-requires
-index_mut-seat-requires c =
-    let low : c.args.at < length c.self.inside.seats.items = rw (← c.self.view_is) at c.requires.place in
-    omega arith
-
-pub change-requires-clause-changed : goal.change-requires-clause-changed
-change-requires-clause-changed c =
-    let low : c.args.at < length c.self.inside.seats.items = rw (← c.self.view_is) at c.requires.place in
-    let there = seat-at c.self.inside.seats.items c.args.at c.index_mut-seat.result.now low c.index_mut-seat.ensures.value in
-    rw c.marks-before.ensures.changed (may-count c.self.inside.seats.items _ _ _ c.args.at c.index_mut-seat.result.now c.self.invariant.counted there).changed_there
-
-pub change-requires-clause-unfinished : goal.change-requires-clause-unfinished
-change-requires-clause-unfinished c =
-    let low : c.args.at < length c.self.inside.seats.items = rw (← c.self.view_is) at c.requires.place in
-    let there = seat-at c.self.inside.seats.items c.args.at c.index_mut-seat.result.now low c.index_mut-seat.ensures.value in
-    rw c.marks-before.ensures.unfinished (may-count c.self.inside.seats.items _ _ _ c.args.at c.index_mut-seat.result.now c.self.invariant.counted there).unfinished_there
-
-pub change-requires-clause-changed_room : goal.change-requires-clause-changed_room
-change-requires-clause-changed_room c = omega (arith, (are-few c.self.inside.seats.items _ _ _ c.self.invariant.counted).changed_few)
-
-pub change-requires-clause-unfinished_room : goal.change-requires-clause-unfinished_room
-change-requires-clause-unfinished_room c = omega (arith, (are-few c.self.inside.seats.items _ _ _ c.self.invariant.counted).unfinished_few)
-
-pub finish-requires-clause-back : goal.finish-requires-clause-back
-finish-requires-clause-back c =
-    let low : c.args.at < length c.self.inside.seats.items = rw (← c.self.view_is) at c.requires.place in
-    let there = seat-at c.self.inside.seats.items c.args.at c.index_mut-seat.result.now low c.index_mut-seat.ensures.value in
-    let may = rw (← c.self.view_is) at c.requires.back in
-    may c.index_mut-seat.result.now there
-
-pub invariant_of-self : goal.invariant_of-self
-invariant_of-self c =
-    let low : c.args.at < length c.self.inside.seats.items = rw (← c.self.view_is) at c.requires.place in
-    let there = seat-at c.self.inside.seats.items c.args.at c.index_mut-seat.result.now low c.index_mut-seat.ensures.value in
-    let changed = rw (c.marks-before.ensures.changed, c.marks-after.ensures.changed) at c.change.ensures.changed in
-    let unfinished = rw (c.marks-before.ensures.unfinished, c.marks-after.ensures.unfinished) at c.change.ensures.unfinished in
-    record {
-      counted = kept-set c.self.inside.seats.items _ _ _ c.args.at c.index_mut-seat.result.now c.finish.new.self _ _ c.self.invariant.counted there (ap volume_of c.finish.ensures ∙ (finish-keeps c.index_mut-seat.result.now.job.titled.state c.args.index (outcome_of c.args.back)).volume) changed unfinished;
-      named = named-set c.self.inside.seats.items _ _ c.args.at c.index_mut-seat.result.now c.finish.new.self c.self.invariant.named there (ap key_of c.finish.ensures);
-    }
-
-pub returns : goal.returns
-returns c =
-    let low : c.args.at < length c.self.inside.seats.items = rw (← c.self.view_is) at c.requires.place in
-    let there = seat-at c.self.inside.seats.items c.args.at c.index_mut-seat.result.now low c.index_mut-seat.ensures.value in
-    rw (← c.self.view_is) (changed-is (λ s. record s { job = and_own s.job (Finished c.args.index (outcome_of c.args.back)) }) c.self.inside.seats.items c.args.at c.index_mut-seat.result.now c.finish.new.self there c.finish.ensures)
+pub change-requires-clause-steady : goal.change-requires-clause-steady
+change-requires-clause-steady c = λ s there r now gave.
+    let is : now ≡ record s { job = and_own s.job (Finished c.args.index (outcome_of c.args.back)) } = search rules in
+    record { key = ap key_of is; volume = ap volume_of is ∙ (finish-keeps s.job.titled.state c.args.index (outcome_of c.args.back)).volume }

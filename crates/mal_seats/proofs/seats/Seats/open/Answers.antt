@@ -17,6 +17,6 @@ invariant_of-self-2 c =
     let long : c.len-place.result ≡ length c.self.inside.seats.items = omega arith in
     let found = rw long at c.in-Ok-note.ensures.found in
     rw items (record {
-      counted = kept-open c.self.inside.seats.items _ _ _ c.len-place.result key c.args.ask c.self.invariant.counted;
+      counted = kept-open c.self.inside.seats.items _ _ c.len-place.result key c.args.ask c.self.invariant.counted;
       named = named-open c.self.inside.seats.items _ _ _ _ c.len-place.result key c.args.ask c.self.invariant.named fresh found c.in-Ok-note.ensures.jobs;
     })
