@@ -19,6 +19,7 @@ use Rattle.spec_hall.specs.States.{LeaseOut, lease_of, leases, lives, states}
 use Rattle.spec_hall.proofs.GoesOnLemmas.{end-answered}
 use Rattle.spec_hall.proofs.PushLemmas.{leases-push}
 use Rattle.spec_hall.proofs.TurnLemmas.{HasTurned, HasWorked, due-leases, due-legal, due-turns, turn-worked, turns-more, turns-none}
+use Rattle.mal_hall.specs.Driven.{HasWorkedOff, IsTurn}
 use Rattle.mal_hall.specs.Offered.{handed_of}
 
 -- a turn in which nothing started
@@ -76,7 +77,7 @@ not-lost Starved l d b = refl
 not-lost Lost l d b = absurd b
 
 -- a lease of the first worker, worked off and taken back
-pub turn-done : (v w : ℕ) (past middle now : List Event) (lease : Leased) (d : Finished) (answer : Return) → v ≡ w → 1 ≤ w → w ≤ 64 → Legal w past → leases past ≡ [] → HasCalled w past (Picks 1) (Ok (calls.Leased (handed_of lease))) middle → d.worker ≡ lease.worker → Becomes d.outcome lease d → HasCalled v middle (Finishes d) answer now → HasWorked w past now
+turn-done : (v w : ℕ) (past middle now : List Event) (lease : Leased) (d : Finished) (answer : Return) → v ≡ w → 1 ≤ w → w ≤ 64 → Legal w past → leases past ≡ [] → HasCalled w past (Picks 1) (Ok (calls.Leased (handed_of lease))) middle → d.worker ≡ lease.worker → Becomes d.outcome lease d → HasCalled v middle (Finishes d) answer now → HasWorked w past now
 turn-done v w past middle now lease d answer same some bound legal home called worker becomes given = by_answer answer given
   where
     is : IsStarting w past 1 (handed_of lease) called.events
@@ -122,3 +123,17 @@ turn-done v w past middle now lease d answer same some bound legal home called w
 -- turns behind turns of as many workers
 pub turns-behind : (v w : ℕ) (a b c : List Event) → v ≡ w → GrowsByTurns w a b → GrowsByTurns v b c → GrowsByTurns w a c
 turns-behind v w a b c same one two = turns-more w a b c one (subst (λ (x : ℕ). GrowsByTurns x b c) same two)
+
+-- what a turn leaves that nothing came of
+pub rested-turn : {E : Type 0} (w : ℕ) (past now : List Event) (e : E) → HasRested w past now → IsTurn w past (Err e) now
+rested-turn w past now e rested = record { turns = rested.turns; home = rested.home; end = tt; answered = tt; less = tt }
+
+-- one that found nothing left to do
+pub stopped-turn : {E : Type 0} (w : ℕ) (past now : List Event) → HasStopped w past now → IsTurn {E = E} w past (Ok false) now
+stopped-turn w past now stopped = record { turns = stopped.rested.turns; home = stopped.rested.home; end = λ _. stopped.end; answered = λ _. stopped.answered; less = λ (e : false ≡ true). absurd (cc) }
+
+-- and one in which a lease was worked off
+pub worked-turn : {E : Type 0} (v w : ℕ) (past middle now : List Event) (lease : Leased) → v ≡ w → 1 ≤ w → w ≤ 64 → Legal w past → leases past ≡ [] → HasCalled w past (Picks 1) (Ok (calls.Leased (handed_of lease))) middle → HasWorkedOff v middle lease now → IsTurn {E = E} w past (Ok true) now
+worked-turn v w past middle now lease same some bound legal home called off =
+    let worked = turn-done v w past middle now lease off.done off.answer same some bound legal home called off.worker off.becomes off.given in
+    record { turns = worked.turns; home = worked.home; end = λ (e : true ≡ false). absurd (cc); answered = λ (e : true ≡ false). absurd (cc); less = λ _. worked.less }

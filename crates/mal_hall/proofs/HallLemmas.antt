@@ -286,14 +286,15 @@ may-revise x k at s r hall sits still few fits posted = record {
 }
 
 -- a revision is posted
-pub hall-revise : (x y : Inside) (k : Key) (at : ℕ) (s : Seat) (number : ℕ) (r : Posted) → IsHall x → Sits x.seats k at s → y.history.workers ≡ x.history.workers → y.history.events ≡ x.history.events ++ of.Revise k.tenant k.job number ∷ [] → y.posted ≡ x.posted ++ r ∷ [] → y.seats ≡ slice_set x.seats at (reseated s (and_own s.job (Revised r))) → y.spots ≡ x.spots → y.starts ≡ x.starts → y.unclosed ≡ x.unclosed → y.tenants ≡ x.tenants → number ≡ length s.job.titled.state.revisions + 1 → MayRevise (events_in x) k (length s.job.titled.state.revisions + 1) r s.job.titled → y.unclosed + out_in x.spots ≤ y.history.room → Grown x y (Revise k number r ∷ [])
+pub hall-revise : (x y : Inside) (k : Key) (at : ℕ) (s : Seat) (number : ℕ) (r : Posted) → IsHall x → Sits x.seats k at s → y.history.workers ≡ x.history.workers → y.history.events ≡ x.history.events ++ of.Revise s.job.titled.key.tenant s.job.titled.key.job number ∷ [] → y.posted ≡ x.posted ++ r ∷ [] → y.seats ≡ slice_set x.seats at (reseated s (and_own s.job (Revised r))) → y.spots ≡ x.spots → y.starts ≡ x.starts → y.unclosed ≡ x.unclosed → y.tenants ≡ x.tenants → number ≡ length s.job.titled.state.revisions + 1 → MayRevise (events_in x) k (length s.job.titled.state.revisions + 1) r s.job.titled → y.unclosed + out_in x.spots ≤ y.history.room → Grown x y (Revise k number r ∷ [])
 hall-revise x y k at s number r hall sits workers events posted seats spots starts unclosed tenants next may room =
     let past : List Event = events_in x in
     let found = hall-found x k at s hall sits in
+    let written = subst (λ (j : Key). y.history.events ≡ x.history.events ++ of.Revise j.tenant j.job number ∷ []) found.key events in
     let now : Seat = reseated s (and_own s.job (Revised r)) in
     let mine : MayRevise past s.job.titled.key number r s.job.titled = rw next (subst (λ (j : Key). MayRevise past j (length s.job.titled.state.revisions + 1) r s.job.titled) (sym found.key) may) in
     let seated = subst (λ (j : Key). IsSeated x.history.workers (past ++ Revise j number r ∷ []) (slice_set x.seats at now)) found.key (seated-revise x.history.workers past x.seats at s number r (hall-seated x hall) sits.seat mine) in
-    own-grown x y at s (Revise k number r) (Revised r) hall sits.seat workers events posted seats spots starts tenants seated (leases-push past (Revise k number r)) (λ v. ap (λ n. n.last) (numbered-push v past (Revise k number r))) (starts-push past (Revise k number r)) (unclosed ∙ (hall.unclosed_is ∙ unclosed-same x.seats at s now sits.seat (revise-keeps s.job.titled.state r).closed)) room
+    own-grown x y at s (Revise k number r) (Revised r) hall sits.seat workers written posted seats spots starts tenants seated (leases-push past (Revise k number r)) (λ v. ap (λ n. n.last) (numbered-push v past (Revise k number r))) (starts-push past (Revise k number r)) (unclosed ∙ (hall.unclosed_is ∙ unclosed-same x.seats at s now sits.seat (revise-keeps s.job.titled.state r).closed)) room
 
 -- where a job is open some are not closed
 pub hall-some : (x : Inside) (k : Key) (at : ℕ) (s : Seat) → IsHall x → Sits x.seats k at s → s.job.titled.state.closed ≡ false → 1 ≤ x.unclosed

@@ -1,6 +1,7 @@
 -- what crates above cite
 pub mod DriveLemmas
 -- what this crate alone cites
+mod Parts
 mod RoomLemmas
 mod KeptLemmas
 mod HallLemmas

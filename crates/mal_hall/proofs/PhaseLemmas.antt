@@ -4,7 +4,7 @@ use Rattle.std.specs.Prelude.{IsTrue, MatchOption, nat_eq, ◌↔◌}
 use Rattle.std.specs.Option.{option_map_or}
 use Rattle.std.proofs.lemmas.Bool.{both_ways}
 use Rattle.std.proofs.lemmas.Bool.Decides.{Decides-eqb}
-use Rattle.std.proofs.lemmas.Option.{slice_get-map, slice_get_read}
+use Rattle.std.proofs.lemmas.Option.{get_or_from_slice_get, slice_get-map, slice_get_read}
 use Rattle.mal_base.specs.declared.verdict.Outcome.{Outcome}
 use Rattle.mal_history.specs.declared.event.Event.TheVariants as of
 use Rattle.mal_job.specs.Finishing.{MayFinish}
@@ -50,7 +50,8 @@ use Rattle.spec_hall.proofs.TurnLemmas.{arranged-left, due-leases, due-none}
 use Rattle.mal_hall.specs.Offered.{HasArranged, HasBalanced, HasEnded, HasExchanged, HasStarted, IsFirst, MayEnd, MayStartAt, handed_of}
 use Rattle.mal_hall.specs.HallView.{Inside, IsHall, events_in, out_in}
 use Rattle.mal_hall.specs.Turned.{IsBalancing}
-use Rattle.mal_hall.proofs.HallLemmas.{Grown, hall-balance, hall-exchange, hall-seated, hall-spots}
+use Rattle.mal_hall.proofs.HallLemmas.{Grown, hall-balance, hall-exchange, hall-seated, hall-spots, of-seat}
+use Rattle.mal_seats.specs.Changed.{OfSeat}
 use Rattle.mal_hall.proofs.LeaseLemmas.{hall-finish, hall-start, out-left}
 
 -- whether a balancing is due
@@ -168,10 +169,9 @@ within-key x at k hall e = below (states-at (keys_of (events_in x)) at e)
         length-keys [] = refl
         length-keys (s ∷ ss) = ap suc (length-keys ss)
 
-pub can-start : (x : Inside) (at index worker : ℕ) (s : Seat) → IsHall x → MayStartAt x.history.workers (events_in x) at index worker → s ≡ get_or x.seats at s → CanStart x at index worker s
-can-start x at index worker s hall may read =
+pub can-start : (x : Inside) (at index worker : ℕ) (s : Seat) → IsHall x → MayStartAt x.history.workers (events_in x) at index worker → slice_get x.seats at ≡ Some s → CanStart x at index worker s
+can-start x at index worker s hall may sits =
     let seated = hall-seated x hall in
-    let sits : slice_get x.seats at ≡ Some s = read-seat x at s (within-key x at may.key hall may.place) read in
     let here : SitsAt (events_in x) at s.job.titled = sits-at (events_in x) x.seats at s seated.jobs sits in
     let both : Some s.job.titled.key ≡ Some may.key = sym here.place ∙ may.place in
     let key : may.key ≡ s.job.titled.key = cc in
@@ -313,16 +313,42 @@ strange-none past d none l of = let both : None ≡ Some l = sym none ∙ of.out
 pub zero-out : (x : Inside) → IsHall x → lease_of 0 (leases (events_in x)) ≡ None
 zero-out x hall = zero-lease x.history.workers (events_in x) (hall-seated x hall).some_worker hall.bound (hall-seated x hall).legal
 
--- a lease ends
-pub record Ended (x y : Inside) (worker : ℕ) (outcome : Outcome) : Type 0 where
-  pub hall : IsHall y
-  pub has : HasEnded (events_in x) (events_in y) worker outcome
-
-pub may-finish : (x : Inside) (worker : ℕ) (spot : Spot) (s : Seat) (back : Option Finished) → IsHall x → SpotSeat x worker spot s → MayEnd (events_in x) worker back → MayFinish s.job spot.index back
+may-finish : (x : Inside) (worker : ℕ) (spot : Spot) (s : Seat) (back : Option Finished) → IsHall x → SpotSeat x worker spot s → MayEnd (events_in x) worker back → MayFinish s.job spot.index back
 may-finish x worker spot s None hall at may = spot-out x.history.workers (events_in x) x.seats s worker spot (hall-seated x hall).some_worker hall.bound (hall-seated x hall) at.seat at.is
 may-finish x worker spot s (Some d) hall at may =
     let same : d.worker ≡ worker = may.belongs.0 ∙ may.worker_is in
     lease-back x.history.workers (events_in x) x.seats x.spots s spot d may.lease (hall-seated x hall).some_worker hall.bound (hall-seated x hall) (hall-spots x hall) at.seat (subst (λ (v : ℕ). IsAt (events_in x) (tags_of x.seats) v spot) (sym same) at.is) may.belongs.1
+
+-- there is room for a finish
+end-room : (x : Inside) (worker : ℕ) (spot : Spot) (s : Seat) → IsHall x → SpotSeat x worker spot s → 1 ≤ x.history.room
+end-room x worker spot s hall at = omega (arith, hall.room, out-left x.spots (worker - 1) spot at.taken)
+
+-- the lease of a worker at a spot may end so
+pub record EndsAt (x : Inside) (worker : ℕ) (spot : Spot) (back : Option Finished) : Type 0 where
+  pub seat : Seat
+  pub sits : SpotSeat x worker spot seat
+  pub place : spot.job < length x.seats
+  pub may : OfSeat x.seats spot.job (λ s. MayFinish s.job spot.index back)
+  pub room : 1 ≤ x.history.room
+
+pub ends-at : (x : Inside) (sp : List (Option Spot)) (worker : ℕ) (o : Option Spot) (spot : Spot) (back : Option Finished) → IsHall x → sp ≡ x.spots → 1 ≤ worker → o ≡ get_or sp (worker - 1) None → o ≡ Some spot → MayEnd (events_in x) worker back → EndsAt x worker spot back
+ends-at x sp worker o spot back hall same low scan found may =
+    let within = spot-within x worker spot hall (spot-is x sp worker o spot hall same low scan found) in
+    let there = seat-there x.seats spot.job within in
+    let s : Seat = there.0 in
+    let sits = spot-seat x sp worker o spot s hall same low scan found (sym (get_or_from_slice_get x.seats spot.job s s there.1)) in
+    record {
+      seat = s;
+      sits = sits;
+      place = within;
+      may = of-seat (λ (t : Seat). MayFinish t.job spot.index back) x.seats spot.job s sits.seat (may-finish x worker spot s back hall sits may);
+      room = end-room x worker spot s hall sits;
+    }
+
+-- a lease ends
+pub record Ended (x y : Inside) (worker : ℕ) (outcome : Outcome) : Type 0 where
+  pub hall : IsHall y
+  pub has : HasEnded (events_in x) (events_in y) worker outcome
 
 pub phase-end : (x y : Inside) (worker : ℕ) (spot : Spot) (s : Seat) (outcome : Outcome) → IsHall x → SpotSeat x worker spot s → y.history.workers ≡ x.history.workers → y.history.events ≡ x.history.events ++ of.Finish s.job.titled.key.tenant s.job.titled.key.job spot.index worker outcome ∷ [] → y.posted ≡ x.posted → y.seats ≡ slice_set x.seats spot.job (record s { job = and_own s.job (Done spot.index outcome) }) → y.spots ≡ slice_set x.spots (worker - 1) None → y.starts ≡ x.starts → y.unclosed ≡ x.unclosed → y.tenants ≡ x.tenants → y.history.room + 1 ≡ x.history.room → Ended x y worker outcome
 phase-end x y worker spot s outcome hall at workers events posted seats spots starts unclosed tenants room =
@@ -331,10 +357,6 @@ phase-end x y worker spot s outcome hall at workers events posted seats spots st
     let held : lease_of worker (leases (events_in x)) ≡ Some (held_at s worker spot.index) = spot-held (events_in x) x.seats s worker spot at.seat at.is in
     let grown = hall-finish x y spot.job s spot.index w outcome spot hall at.seat (subst (λ (v : ℕ). Allowed x.history.workers (events_in x) (Finish s.job.titled.key spot.index v outcome)) some held) at.taken workers (subst (λ (v : ℕ). y.history.events ≡ x.history.events ++ of.Finish s.job.titled.key.tenant s.job.titled.key.job spot.index v outcome ∷ []) some events) posted seats spots starts unclosed tenants room in
     record { hall = grown.hall; has = record { lease = held_at s worker spot.index; out = held; grown = subst (λ (v : ℕ). events_in y ≡ events_in x ++ Finish s.job.titled.key spot.index v outcome ∷ []) (sym some) grown.events } }
-
--- there is room for a finish
-pub end-room : (x : Inside) (worker : ℕ) (spot : Spot) (s : Seat) → IsHall x → SpotSeat x worker spot s → 1 ≤ x.history.room
-end-room x worker spot s hall at = omega (arith, hall.room, out-left x.spots (worker - 1) spot at.taken)
 
 -- the worker of a lease that is found
 found-worker : (worker : ℕ) (ls : List LeaseOut) (l : LeaseOut) → lease_of worker ls ≡ Some l → l.worker ≡ worker

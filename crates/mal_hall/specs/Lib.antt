@@ -4,3 +4,4 @@ pub mod Offered
 pub mod Turned
 pub mod Applied
 pub mod Desks
+pub mod Driven

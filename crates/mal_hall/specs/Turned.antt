@@ -1,4 +1,4 @@
-use Rattle.std.specs.Prelude.{◌≡◌, ℕ, List, [], ◌∷◌, ◌++◌}
+use Rattle.std.specs.Prelude.{◌≡◌, ℕ, ◌≤◌, List, [], ◌∷◌, ◌++◌}
 use Rattle.mal_history.specs.declared.event.Event.TheVariants as of
 use Rattle.mal_history.specs.Written.{Written}
 use Rattle.spec_balance.specs.Fair.{IsFair}
@@ -11,3 +11,10 @@ pub record IsBalancing (h after : Written) (ss now : List Seat) : Type 0 where
   pub fair : IsFair h.workers (live_asks (jobs_in ss)) volumes
   pub events : after.events ≡ h.events ++ of.Balance (shares_by volumes ss) ∷ []
   pub seats : now ≡ balanced_by volumes ss
+
+-- nothing was entered, and there is as much room as before
+pub record HasWaited (h after : Written) (ss now : List Seat) : Type 0 where
+  pub workers : after.workers ≡ h.workers
+  pub events : after.events ≡ h.events
+  pub seats : now ≡ ss
+  pub room : h.room ≤ after.room

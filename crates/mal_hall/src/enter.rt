@@ -1,14 +1,91 @@
-//! Entering what the hall does by itself: balancings and exchanges.
+//! Entering events: what is written down, and what that does to the jobs.
 
-ghost use Rattle.std.specs.Prelude.{◌≡◌, ◌+◌, ◌<◌, ◌≤◌, ◌^◌, [], ◌∷◌, ◌++◌, length, OnOk, OnErr};
-ghost use Rattle.mal_hall.specs.Turned.{IsBalancing};
+ghost use Rattle.std.specs.Prelude.{◌≡◌, ◌+◌, ◌<◌, ◌≤◌, ◌^◌, [], ◌∷◌, ◌++◌, true, length, None, IfOk, OnOk, OnErr, vec_len, vec_capacity};
+ghost use Rattle.mal_hall.specs.Turned.{HasWaited, IsBalancing};
+ghost use Rattle.mal_job.specs.Finishing.{outcome_of, MayFinish};
 ghost use Rattle.mal_seats.specs.Changed.{OfSeat, IsChanged};
-ghost use Rattle.spec_job.specs.SoloMachine.{Exchanged};
-ghost use Rattle.spec_job.specs.Viewed.{and_own};
+ghost use Rattle.spec_job.specs.SoloMachine.{Exchanged, Finished, Revised, clauses_in, startable};
+ghost use Rattle.spec_job.specs.Viewed.{and_own, and_start, IsLeaseOf};
+ghost use Rattle.spec_hall.specs.Dressed.{keyed};
+ghost use Rattle.spec_hall.specs.Seats.{opened_seat, place_of};
 
+use crate::spots::Spot;
+use mal_base::{Ask, Name, Outcome};
 use mal_history::{Event, History};
+use mal_revision::Revision;
 use mal_seats::Seats;
+use mal_suspend::{Done, Lease};
 use std::alloc::AllocError;
+
+/// Enters the opening of a job with a key that no other has, and leaves room for as many events as are owed.
+pub fn enter_open(
+    history: &mut History,
+    seats: &mut Seats,
+    tenant: Name,
+    job: Name,
+    ask: Ask,
+    owed: usize,
+) -> Result<(), AllocError>
+    requires new { place_of (keyed tenant job) seats.old ≡ None }
+    requires owed { owed < 2 ^ 63 + 65 }
+    ensures workers { history.new.workers ≡ history.old.workers }
+    ensures events { OnOk result (history.new.events ≡ history.old.events ++ Event.Open tenant job ask ∷ []) }
+    ensures seats { OnOk result (seats.new ≡ seats.old ++ opened_seat (length seats.old) (keyed tenant job) ask ∷ []) }
+    ensures room { OnOk result (owed ≤ history.new.room) }
+    ensures err { OnErr result (HasWaited history.old history.new seats.old seats.new) }
+{
+    history.reserve(owed + 1)?;
+    seats.open(tenant, job, ask)?;
+    history.push_reserved(Event::Open { tenant, job, ask });
+    Ok(())
+}
+
+/// Enters a revision of the job at a place, as the one of this number, keeps it behind those that were posted, and
+/// leaves room for as many events as are owed.
+pub fn enter_revise(
+    history: &mut History,
+    posted: &mut Vec<Revision>,
+    seats: &mut Seats,
+    at: usize,
+    number: u32,
+    revision: Revision,
+    owed: usize,
+) -> Result<(), AllocError>
+    requires place { at < length seats.old }
+    requires few { OfSeat seats.old at (λ s. length s.job.titled.state.revisions < 256) }
+    requires clauses { OfSeat seats.old at (λ s. clauses_in s.job.titled.state.revisions + length revision.clauses ≤ 1048576) }
+    requires owed { owed < 2 ^ 63 + 65 }
+    ensures workers { history.new.workers ≡ history.old.workers }
+    ensures events { OnOk result (OfSeat seats.old at (λ s. history.new.events ≡ history.old.events ++ Event.Revise s.job.titled.key.tenant s.job.titled.key.job number ∷ [])) }
+    ensures posted { OnOk result (posted.new.items ≡ posted.old.items ++ revision ∷ []) }
+    ensures seats { OnOk result (IsChanged (λ s. record s { job = and_own s.job (Revised revision) }) at seats.old seats.new) }
+    ensures room { OnOk result (owed ≤ history.new.room) }
+    ensures err { OnErr result (HasWaited history.old history.new seats.old seats.new) }
+    ensures same { OnErr result (posted.new.items ≡ posted.old.items) }
+{
+    let seat = seats.at(at);
+    let (tenant, job) = (seat.job().tenant(), seat.job().name());
+    let kept = kept_for(posted, &revision)?;
+    history.reserve(owed + 1)?;
+    seats.revise(at, revision)?;
+    history.push_reserved(Event::Revise {
+        tenant,
+        job,
+        number,
+    });
+    posted.push_reserved(kept);
+    Ok(())
+}
+
+/// A revision to be kept behind those that were posted, for which there is room then.
+fn kept_for(posted: &mut Vec<Revision>, revision: &Revision) -> Result<Revision, AllocError>
+    ensures same { posted.new.items ≡ posted.old.items }
+    ensures kept { IfOk result (λ r. r ≡ revision.now) }
+    ensures room { OnOk result (vec_len posted.new < vec_capacity posted.new) }
+{
+    posted.reserve(1)?;
+    revision.copy()
+}
 
 /// Enters a balancing with fair volumes, and leaves room for as many events as are owed.
 pub fn enter_balance(
@@ -20,9 +97,7 @@ pub fn enter_balance(
     ensures workers { history.new.workers ≡ history.old.workers }
     ensures balancing { OnOk result (IsBalancing history.old history.new seats.old seats.new) }
     ensures room { OnOk result (owed ≤ history.new.room) }
-    ensures same_events { OnErr result (history.new.events ≡ history.old.events) }
-    ensures same_seats { OnErr result (seats.new ≡ seats.old) }
-    ensures more_room { OnErr result (history.old.room ≤ history.new.room) }
+    ensures err { OnErr result (HasWaited history.old history.new seats.old seats.new) }
 {
     let volumes = seats.volumes(history.workers())?;
     let shares = seats.shares(volumes.as_slice())?;
@@ -30,6 +105,81 @@ pub fn enter_balance(
     seats.balance(volumes.as_slice())?;
     history.push_reserved(Event::Balance { volumes: shares });
     Ok(())
+}
+
+/// Enters the start of this number of a node of the job at a place, by a worker, and leaves room for as many events as
+/// are owed.
+pub fn enter_start(
+    history: &mut History,
+    seats: &mut Seats,
+    at: usize,
+    index: u32,
+    worker: u32,
+    start: u64,
+    owed: usize,
+) -> Result<Lease, AllocError>
+    requires place { at < length seats.old }
+    requires startable { OfSeat seats.old at (λ s. startable s.job.titled.state index ≡ true) }
+    requires owed { owed < 2 ^ 63 + 65 }
+    ensures workers { history.new.workers ≡ history.old.workers }
+    ensures events { OnOk result (OfSeat seats.old at (λ s. history.new.events ≡ history.old.events ++ Event.Start s.job.titled.key.tenant s.job.titled.key.job index worker ∷ [])) }
+    ensures seats { OnOk result (IsChanged (λ s. record s { job = and_start s.job index start }) at seats.old seats.new) }
+    ensures lease { IfOk result (λ l. OfSeat seats.old at (λ s. IsLeaseOf s.job index start worker l)) }
+    ensures room { OnOk result (owed ≤ history.new.room) }
+    ensures err { OnErr result (HasWaited history.old history.new seats.old seats.new) }
+{
+    let seat = seats.at(at);
+    let (tenant, job) = (seat.job().tenant(), seat.job().name());
+    history.reserve(owed + 1)?;
+    let lease = seats.start(at, index, worker, start)?;
+    history.push_reserved(Event::Start {
+        tenant,
+        job,
+        index,
+        worker,
+    });
+    Ok(lease)
+}
+
+/// Enters the end of the lease of a worker at this spot: it is lost where nothing came back. Takes no memory.
+pub fn enter_finish(
+    history: &mut History,
+    seats: &mut Seats,
+    spot: Spot,
+    worker: u32,
+    back: Option<Done>,
+)
+    requires place { spot.job < length seats.old }
+    requires index { spot.index ≤ 63 }
+    requires back { OfSeat seats.old spot.job (λ s. MayFinish s.job spot.index back) }
+    requires room { 1 ≤ history.old.room }
+    ensures workers { history.new.workers ≡ history.old.workers }
+    ensures events { OfSeat seats.old spot.job (λ s. history.new.events ≡ history.old.events ++ Event.Finish s.job.titled.key.tenant s.job.titled.key.job spot.index worker (outcome_of back) ∷ []) }
+    ensures seats { IsChanged (λ s. record s { job = and_own s.job (Finished spot.index (outcome_of back)) }) spot.job seats.old seats.new }
+    ensures room { history.new.room + 1 ≡ history.old.room }
+{
+    let seat = seats.at(spot.job());
+    let (tenant, job) = (seat.job().tenant(), seat.job().name());
+    let index = spot.index();
+    let outcome = outcome_of(&back);
+    seats.finish(spot.job(), index, back);
+    history.push_reserved(Event::Finish {
+        tenant,
+        job,
+        index,
+        worker,
+        outcome,
+    });
+}
+
+/// How a start ended of which this came back: it is lost where nothing came.
+fn outcome_of(back: &Option<Done>) -> Outcome
+    ensures { result ≡ outcome_of back.now }
+{
+    match back {
+        None => Outcome::Lost,
+        Some(done) => done.outcome(),
+    }
 }
 
 /// Enters an exchange of the job at a place, and leaves room for as many events as are owed.
@@ -45,9 +195,7 @@ pub fn enter_exchange(
     ensures events { OnOk result (OfSeat seats.old at (λ s. history.new.events ≡ history.old.events ++ Event.Exchange s.job.titled.key.tenant s.job.titled.key.job ∷ [])) }
     ensures seats { OnOk result (IsChanged (λ s. record s { job = and_own s.job Exchanged }) at seats.old seats.new) }
     ensures room { OnOk result (owed ≤ history.new.room) }
-    ensures same_events { OnErr result (history.new.events ≡ history.old.events) }
-    ensures same_seats { OnErr result (seats.new ≡ seats.old) }
-    ensures more_room { OnErr result (history.old.room ≤ history.new.room) }
+    ensures err { OnErr result (HasWaited history.old history.new seats.old seats.new) }
 {
     let seat = seats.at(at);
     let (tenant, job) = (seat.job().tenant(), seat.job().name());

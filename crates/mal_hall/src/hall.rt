@@ -7,6 +7,7 @@ ghost use Rattle.mal_base.specs.Names.{is_name};
 ghost use Rattle.mal_hall.specs.Applied.{IsInside, listed_last};
 ghost use Rattle.mal_hall.specs.Offered.{HasArranged, HasBalanced, HasEnded, HasExchanged, HasStarted, IsFirst, MayEnd, MayStartAt, handed_of, offered, replied, returned};
 ghost use Rattle.mal_hall.specs.HallView.{next_number};
+ghost use Rattle.mal_hall.specs.Driven.{HasWorkedOff, IsTurn};
 ghost use Rattle.mal_job.specs.Among.{among};
 ghost use Rattle.mal_job.specs.Finishing.{outcome_of};
 ghost use Rattle.spec_hall.specs.Calls.{HasCalled, IsOfLease, Opens, Revises, Closes, Picks, Finishes, Recalls, Asks, is_over};
@@ -27,7 +28,9 @@ ghost use Rattle.spec_hall.specs.States.{LeaseOut, keys_of, states, lives, lease
 ghost use Rattle.spec_hall.specs.Legal.{IsBalanceDue, Legal, job_of};
 ghost use Rattle.spec_hall.specs.Measure.{left_in};
 
-use crate::enter::{enter_balance, enter_exchange};
+use crate::enter::{
+    enter_balance, enter_exchange, enter_finish, enter_open, enter_revise, enter_start,
+};
 use crate::lodging::{lists, none_lodged};
 use crate::offer::{Back, Pick, Strange};
 use crate::room::{next_number, tenants_after};
@@ -109,15 +112,17 @@ impl Hall {
         let tenants = tenants_after(self.tenants, jobs)?;
         are_in_form(&tenant, &job, ask);
         let owed = owed(&self.seats, self.unclosed, &self.spots);
-        match self.history.reserve(owed + 2) {
+        match enter_open(
+            &mut self.history,
+            &mut self.seats,
+            tenant,
+            job,
+            ask,
+            owed + 1,
+        ) {
             Ok(()) => {}
             Err(_) => return Err(OpenFault::OutOfMemory),
         }
-        match self.seats.open(tenant, job, ask) {
-            Ok(()) => {}
-            Err(_) => return Err(OpenFault::OutOfMemory),
-        }
-        self.history.push_reserved(Event::Open { tenant, job, ask });
         self.unclosed += 1;
         self.tenants = tenants;
         Ok(())
@@ -141,24 +146,19 @@ impl Hall {
             return Err(ReviseFault::NoJob);
         };
         let number = next_number(self.seats.at(at).job(), &revision)?;
-        let Ok(kept) = kept_for(&mut self.posted, &revision) else {
-            return Err(ReviseFault::OutOfMemory);
-        };
         let owed = owed(&self.seats, self.unclosed, &self.spots);
-        match self.history.reserve(owed + 1) {
-            Ok(()) => {}
-            Err(_) => return Err(ReviseFault::OutOfMemory),
-        }
-        match self.seats.revise(at, revision) {
-            Ok(()) => {}
-            Err(_) => return Err(ReviseFault::OutOfMemory),
-        }
-        self.history.push_reserved(Event::Revise {
-            tenant: *tenant,
-            job: *job,
+        match enter_revise(
+            &mut self.history,
+            &mut self.posted,
+            &mut self.seats,
+            at,
             number,
-        });
-        self.posted.push_reserved(kept);
+            revision,
+            owed,
+        ) {
+            Ok(()) => {}
+            Err(_) => return Err(ReviseFault::OutOfMemory),
+        }
         Ok(())
     }
 
@@ -360,21 +360,20 @@ impl Hall {
         if self.starts == u64::MAX {
             return Err(AllocError);
         }
-        let owed = owed(&self.seats, self.unclosed, &self.spots);
-        self.history.reserve(owed + 2)?;
         let start = self.starts + 1;
-        let seat = self.seats.at(at);
-        let (tenant, job) = (seat.job().tenant(), seat.job().name());
-        let lease = match self.seats.start(at, index, worker, start) {
+        let owed = owed(&self.seats, self.unclosed, &self.spots);
+        let lease = match enter_start(
+            &mut self.history,
+            &mut self.seats,
+            at,
+            index,
+            worker,
+            start,
+            owed + 1,
+        ) {
             Ok(lease) => lease,
             Err(_) => return Err(AllocError),
         };
-        self.history.push_reserved(Event::Start {
-            tenant,
-            job,
-            index,
-            worker,
-        });
         self.starts = start;
         self.spots[worker as usize - 1] = Some(Spot::new(at, index, start));
         Ok(lease)
@@ -447,22 +446,10 @@ impl Hall {
         ensures ended { HasEnded self.old.events self.new.events worker (outcome_of back) }
     {
         let Some(spot) = spot_of(&self.spots, worker) else {
-            return;
+            unreachable!();
         };
-        let at = spot.job();
-        let index = spot.index();
-        let outcome = outcome_of(&back);
-        let seat = self.seats.at(at);
-        let (tenant, job) = (seat.job().tenant(), seat.job().name());
-        self.seats.finish(at, index, back);
+        enter_finish(&mut self.history, &mut self.seats, spot, worker, back);
         self.spots[worker as usize - 1] = None;
-        self.history.push_reserved(Event::Finish {
-            tenant,
-            job,
-            index,
-            worker,
-            outcome,
-        });
     }
 
     /// Takes back what came of a lease, where its journal is that of the lease which its worker has out. What is
@@ -514,22 +501,26 @@ impl Hall {
     fn turn(&mut self, scratch: &mut Scratch) -> Result<bool, AllocError>
         requires home { leases self.old.events ≡ [] }
         ensures workers { self.new.workers ≡ self.old.workers }
-        ensures turns { GrowsByTurns self.old.workers self.old.events self.new.events }
-        ensures home { leases self.new.events ≡ [] }
-        ensures end { IfOk result (λ b. b ≡ false → IsAtEnd self.new.events) }
-        ensures answered { IfOk result (λ b. b ≡ false → lives (states self.new.events) ≡ []) }
-        ensures less { IfOk result (λ b. b ≡ true → left_in self.new.events < left_in self.old.events) }
+        ensures turned { IsTurn self.old.workers self.old.events result self.new.events }
     {
         let _ = self.is_due();
-        let lease = match self.pick(1) {
-            Err(_) => return Err(AllocError),
-            Ok(Pick::Idle) => return Ok(false),
-            Ok(Pick::AllDone) => return Ok(false),
-            Ok(Pick::Leased(lease)) => lease,
-        };
-        let done = lease.work(scratch);
-        let _ = self.finish(done);
-        Ok(true)
+        match self.pick(1) {
+            Err(_) => Err(AllocError),
+            Ok(Pick::Idle) => Ok(false),
+            Ok(Pick::AllDone) => Ok(false),
+            Ok(Pick::Leased(lease)) => {
+                self.work_off(lease, scratch);
+                Ok(true)
+            }
+        }
+    }
+
+    /// Works a lease off and takes back what came of it.
+    fn work_off(&mut self, lease: Lease, scratch: &mut Scratch)
+        ensures workers { self.new.workers ≡ self.old.workers }
+        ensures off { HasWorkedOff self.old.workers self.old.events lease self.new.events }
+    {
+        let _ = self.finish(lease.work(scratch));
     }
 
     /// Whether every revision is answered.
@@ -617,16 +608,6 @@ impl Hall {
     }
 }
 
-/// A revision to be kept behind those that were posted, for which there is room then.
-fn kept_for(posted: &mut Vec<Revision>, revision: &Revision) -> Result<Revision, AllocError>
-    ensures same { posted.new.items ≡ posted.old.items }
-    ensures kept { IfOk result (λ r. r ≡ revision.now) }
-    ensures room { OnOk result (vec_len posted.new < vec_capacity posted.new) }
-{
-    posted.reserve(1)?;
-    revision.copy()
-}
-
 /// What the types of names and asks keep.
 fn are_in_form(tenant: &Name, job: &Name, ask: Ask)
     ensures tenant { is_name tenant.now ≡ true }
@@ -636,14 +617,4 @@ fn are_in_form(tenant: &Name, job: &Name, ask: Ask)
     let _ = tenant.as_bytes();
     let _ = job.as_bytes();
     let _ = ask.priority();
-}
-
-/// How a start ended of which this came back: it is lost where nothing came.
-fn outcome_of(back: &Option<Done>) -> Outcome
-    ensures { result ≡ outcome_of back.now }
-{
-    match back {
-        None => Outcome::Lost,
-        Some(done) => done.outcome(),
-    }
 }

@@ -48,10 +48,20 @@ fn ran(lease: Lease, scratch: &mut Scratch) -> Result<Done, AllocError>
     ensures becomes { IfOk result (λ done. Becomes Ran lease done) }
 {
     let done = lease.work(scratch);
+    if !has_run(&done) {
+        return Err(AllocError);
+    }
+    Ok(done)
+}
+
+/// Whether a start ran of which this came.
+fn has_run(done: &Done) -> bool
+    ensures { IsTrue result → done.now.outcome ≡ Ran }
+{
     match done.outcome() {
-        Outcome::Ran => Ok(done),
-        Outcome::Starved => Err(AllocError),
-        Outcome::Lost => unreachable!(),
+        Outcome::Ran => true,
+        Outcome::Starved => false,
+        Outcome::Lost => false,
     }
 }
 

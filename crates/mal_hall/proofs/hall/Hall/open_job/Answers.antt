@@ -1,15 +1,17 @@
-use Rattle.std.proofs.Common.{◌+◌, length, ◌∙◌, refl, sym, arith, Err}
+use Rattle.std.proofs.Common.{◌+◌, [], ◌∷◌, length, ◌∙◌, refl, sym, arith, Err}
 use Rattle.std.proofs.lemmas.Result.{err_from_is_err_and}
-use Rattle.spec_hall.specs.Calls.{Opens}
 use Rattle.mal_base.specs.declared.hall_fault.OpenFault.TheVariants.{Duplicate, OutOfMemory}
+use Rattle.spec_hall.specs.Calls.{Opens}
 use Rattle.spec_hall.specs.Dressed.{keyed}
+use Rattle.spec_hall.specs.Events.{Open}
 use Rattle.mal_hall.specs.Contents.{with_posted}
-use Rattle.mal_hall.proofs.HallLemmas.{placed, none-from, hall-absent, hall-some_job, hall-jobs, hall-tenants, hall-open, may-open, called-none, called-one}
+use Rattle.mal_hall.proofs.HallLemmas.{Grown, placed, none-from, hall-absent, hall-some_job, hall-jobs, hall-tenants, hall-open, hall-waits, may-open, called-none, called-one}
+use Rattle.mal_hall.proofs.Parts.{parts}
 use Rattle.mal_hall.proofs.RoomLemmas.{unclosed-few}
 use Rattle.mal_hall.proofs.hall.Hall.open_job.Goals as goal
 
 pub owed-owed-requires-clause-few : goal.owed-owed-requires-clause-few
-owed-owed-requires-clause-few c = omega (arith, unclosed-few (record { history = c.self.inside.history; posted = c.self.inside.posted.items; seats = c.self.inside.seats; spots = c.self.inside.spots.items; starts = c.self.inside.starts; unclosed = c.self.inside.unclosed; tenants = c.self.inside.tenants }) c.self.invariant)
+owed-owed-requires-clause-few c = omega (arith, unclosed-few (parts c.self.inside) c.self.invariant)
 
 pub returns-then-is_some-clause-call : goal.returns-then-is_some-clause-call
 returns-then-is_some-clause-call c =
@@ -26,49 +28,50 @@ returns-in_err-tenants-clause-call c =
     let cause = c.in_err-tenants.ensures.refusal (keyed c.args.tenant c.args.job) c.args.ask (with_posted c.self.inside.history.events c.self.inside.posted.items) none jobs tenants in
     rw (p.1, p.2) (rw (← c.self.view_is) (called-none _ _ (Opens (keyed c.args.tenant c.args.job) c.args.ask) (Err c.in_err-tenants.field-0.0) cause))
 
+pub enter_open-requires-clause-new : goal.enter_open-requires-clause-new
+enter_open-requires-clause-new c = placed c.self.inside.seats (keyed c.args.tenant c.args.job) _ _ c.place_of.ensures (none-from _ _ c.is_some.ensures c.if-is_some.false)
+
+pub invariant_of-self : goal.invariant_of-self
+invariant_of-self c =
+    let e = c.in-Err.ensures.err in
+    hall-waits (parts c.self.inside) _ c.self.invariant e.workers e.events refl e.seats refl refl refl refl e.room
+
+pub returns-in-Err-clause-err : goal.returns-in-Err-clause-err
+returns-in-Err-clause-err c = rw (← c.self.view_is, c.in-Err.ensures.err.events) refl
+
 pub returns-in-Err-clause-call : goal.returns-in-Err-clause-call
 returns-in-Err-clause-call c =
     let absent = placed c.self.inside.seats (keyed c.args.tenant c.args.job) _ _ c.place_of.ensures (none-from _ _ c.is_some.ensures c.if-is_some.false) in
     let fits = rw c.jobs_of-jobs.ensures at c.in_ok-tenants.ensures in
     let may = may-open _ (keyed c.args.tenant c.args.job) c.args.ask c.self.invariant c.are_in_form.ensures.tenant c.are_in_form.ensures.job c.are_in_form.ensures.ask absent fits.few fits.others in
-    rw (← c.self.view_is, c.reserve.ensures.events) (called-none _ _ (Opens (keyed c.args.tenant c.args.job) c.args.ask) (Err OutOfMemory) (may, refl))
-
-pub open-requires : goal.open-requires
-open-requires c = placed c.self.inside.seats (keyed c.args.tenant c.args.job) _ _ c.place_of.ensures (none-from _ _ c.is_some.ensures c.if-is_some.false)
-
-pub returns-in-Err-open-clause-call : goal.returns-in-Err-open-clause-call
-returns-in-Err-open-clause-call c =
-    let absent = placed c.self.inside.seats (keyed c.args.tenant c.args.job) _ _ c.place_of.ensures (none-from _ _ c.is_some.ensures c.if-is_some.false) in
-    let fits = rw c.jobs_of-jobs.ensures at c.in_ok-tenants.ensures in
-    let may = may-open _ (keyed c.args.tenant c.args.job) c.args.ask c.self.invariant c.are_in_form.ensures.tenant c.are_in_form.ensures.job c.are_in_form.ensures.ask absent fits.few fits.others in
-    rw (← c.self.view_is, c.in-Ok.ensures.events) (called-none _ _ (Opens (keyed c.args.tenant c.args.job) c.args.ask) (Err OutOfMemory) (may, refl))
+    rw (← c.self.view_is, c.in-Err.ensures.err.events) (called-none _ _ (Opens (keyed c.args.tenant c.args.job) c.args.ask) (Err OutOfMemory) (may, refl))
 
 pub invariant_of-self-2 : goal.invariant_of-self-2
 invariant_of-self-2 c =
     let absent = placed c.self.inside.seats (keyed c.args.tenant c.args.job) _ _ c.place_of.ensures (none-from _ _ c.is_some.ensures c.if-is_some.false) in
     let fits = rw c.jobs_of-jobs.ensures at c.in_ok-tenants.ensures in
-    let may = may-open (record { history = c.self.inside.history; posted = c.self.inside.posted.items; seats = c.self.inside.seats; spots = c.self.inside.spots.items; starts = c.self.inside.starts; unclosed = c.self.inside.unclosed; tenants = c.self.inside.tenants }) (keyed c.args.tenant c.args.job) c.args.ask c.self.invariant c.are_in_form.ensures.tenant c.are_in_form.ensures.job c.are_in_form.ensures.ask absent fits.few fits.others in
-    let events = rw c.in-Ok.ensures.events at c.push_reserved.ensures.events in
+    let may = may-open (parts c.self.inside) (keyed c.args.tenant c.args.job) c.args.ask c.self.invariant c.are_in_form.ensures.tenant c.are_in_form.ensures.job c.are_in_form.ensures.ask absent fits.few fits.others in
     let owing = rw c.deref.ensures.value at c.owed-owed.ensures.value in
-    let now = hall-open (record { history = c.self.inside.history; posted = c.self.inside.posted.items; seats = c.self.inside.seats; spots = c.self.inside.spots.items; starts = c.self.inside.starts; unclosed = c.self.inside.unclosed; tenants = c.self.inside.tenants }) (record { history = c.push_reserved.new.self; posted = c.self.inside.posted.items; seats = c.open.new.self; spots = c.self.inside.spots.items; starts = c.self.inside.starts; unclosed = c.self.inside.unclosed + 1; tenants = c.in_ok-tenants.tenants }) (length c.self.inside.seats) (keyed c.args.tenant c.args.job) c.args.ask c.self.invariant (c.push_reserved.ensures.workers ∙ c.in-Ok.ensures.workers) events refl c.in-Ok-open.ensures.ok refl refl refl may refl fits.count (omega (arith, owing, c.in-Ok.ensures.room, c.push_reserved.ensures.room)) in
+    let e = c.in-Ok.ensures in
+    let now : Grown (parts c.self.inside) (record { history = c.enter_open.new.history; posted = c.self.inside.posted.items; seats = c.enter_open.new.seats; spots = c.self.inside.spots.items; starts = c.self.inside.starts; unclosed = c.self.inside.unclosed + 1; tenants = c.in_ok-tenants.tenants }) (Open (keyed c.args.tenant c.args.job) c.args.ask ∷ []) = hall-open (parts c.self.inside) _ (length c.self.inside.seats) (keyed c.args.tenant c.args.job) c.args.ask c.self.invariant e.workers e.events refl e.seats refl refl refl may refl fits.count (omega (arith, owing, e.room)) in
     now.hall
 
 pub returns-clause-ok : goal.returns-clause-ok
 returns-clause-ok c =
     let absent = placed c.self.inside.seats (keyed c.args.tenant c.args.job) _ _ c.place_of.ensures (none-from _ _ c.is_some.ensures c.if-is_some.false) in
     let fits = rw c.jobs_of-jobs.ensures at c.in_ok-tenants.ensures in
-    let may = may-open (record { history = c.self.inside.history; posted = c.self.inside.posted.items; seats = c.self.inside.seats; spots = c.self.inside.spots.items; starts = c.self.inside.starts; unclosed = c.self.inside.unclosed; tenants = c.self.inside.tenants }) (keyed c.args.tenant c.args.job) c.args.ask c.self.invariant c.are_in_form.ensures.tenant c.are_in_form.ensures.job c.are_in_form.ensures.ask absent fits.few fits.others in
-    let events = rw c.in-Ok.ensures.events at c.push_reserved.ensures.events in
+    let may = may-open (parts c.self.inside) (keyed c.args.tenant c.args.job) c.args.ask c.self.invariant c.are_in_form.ensures.tenant c.are_in_form.ensures.job c.are_in_form.ensures.ask absent fits.few fits.others in
     let owing = rw c.deref.ensures.value at c.owed-owed.ensures.value in
-    let now = hall-open (record { history = c.self.inside.history; posted = c.self.inside.posted.items; seats = c.self.inside.seats; spots = c.self.inside.spots.items; starts = c.self.inside.starts; unclosed = c.self.inside.unclosed; tenants = c.self.inside.tenants }) (record { history = c.push_reserved.new.self; posted = c.self.inside.posted.items; seats = c.open.new.self; spots = c.self.inside.spots.items; starts = c.self.inside.starts; unclosed = c.self.inside.unclosed + 1; tenants = c.in_ok-tenants.tenants }) (length c.self.inside.seats) (keyed c.args.tenant c.args.job) c.args.ask c.self.invariant (c.push_reserved.ensures.workers ∙ c.in-Ok.ensures.workers) events refl c.in-Ok-open.ensures.ok refl refl refl may refl fits.count (omega (arith, owing, c.in-Ok.ensures.room, c.push_reserved.ensures.room)) in
+    let e = c.in-Ok.ensures in
+    let now : Grown (parts c.self.inside) (record { history = c.enter_open.new.history; posted = c.self.inside.posted.items; seats = c.enter_open.new.seats; spots = c.self.inside.spots.items; starts = c.self.inside.starts; unclosed = c.self.inside.unclosed + 1; tenants = c.in_ok-tenants.tenants }) (Open (keyed c.args.tenant c.args.job) c.args.ask ∷ []) = hall-open (parts c.self.inside) _ (length c.self.inside.seats) (keyed c.args.tenant c.args.job) c.args.ask c.self.invariant e.workers e.events refl e.seats refl refl refl may refl fits.count (omega (arith, owing, e.room)) in
     rw (← c.self.view_is) now.events
 
 pub returns-clause-call : goal.returns-clause-call
 returns-clause-call c =
     let absent = placed c.self.inside.seats (keyed c.args.tenant c.args.job) _ _ c.place_of.ensures (none-from _ _ c.is_some.ensures c.if-is_some.false) in
     let fits = rw c.jobs_of-jobs.ensures at c.in_ok-tenants.ensures in
-    let may = may-open (record { history = c.self.inside.history; posted = c.self.inside.posted.items; seats = c.self.inside.seats; spots = c.self.inside.spots.items; starts = c.self.inside.starts; unclosed = c.self.inside.unclosed; tenants = c.self.inside.tenants }) (keyed c.args.tenant c.args.job) c.args.ask c.self.invariant c.are_in_form.ensures.tenant c.are_in_form.ensures.job c.are_in_form.ensures.ask absent fits.few fits.others in
-    let events = rw c.in-Ok.ensures.events at c.push_reserved.ensures.events in
+    let may = may-open (parts c.self.inside) (keyed c.args.tenant c.args.job) c.args.ask c.self.invariant c.are_in_form.ensures.tenant c.are_in_form.ensures.job c.are_in_form.ensures.ask absent fits.few fits.others in
     let owing = rw c.deref.ensures.value at c.owed-owed.ensures.value in
-    let now = hall-open (record { history = c.self.inside.history; posted = c.self.inside.posted.items; seats = c.self.inside.seats; spots = c.self.inside.spots.items; starts = c.self.inside.starts; unclosed = c.self.inside.unclosed; tenants = c.self.inside.tenants }) (record { history = c.push_reserved.new.self; posted = c.self.inside.posted.items; seats = c.open.new.self; spots = c.self.inside.spots.items; starts = c.self.inside.starts; unclosed = c.self.inside.unclosed + 1; tenants = c.in_ok-tenants.tenants }) (length c.self.inside.seats) (keyed c.args.tenant c.args.job) c.args.ask c.self.invariant (c.push_reserved.ensures.workers ∙ c.in-Ok.ensures.workers) events refl c.in-Ok-open.ensures.ok refl refl refl may refl fits.count (omega (arith, owing, c.in-Ok.ensures.room, c.push_reserved.ensures.room)) in
+    let e = c.in-Ok.ensures in
+    let now : Grown (parts c.self.inside) (record { history = c.enter_open.new.history; posted = c.self.inside.posted.items; seats = c.enter_open.new.seats; spots = c.self.inside.spots.items; starts = c.self.inside.starts; unclosed = c.self.inside.unclosed + 1; tenants = c.in_ok-tenants.tenants }) (Open (keyed c.args.tenant c.args.job) c.args.ask ∷ []) = hall-open (parts c.self.inside) _ (length c.self.inside.seats) (keyed c.args.tenant c.args.job) c.args.ask c.self.invariant e.workers e.events refl e.seats refl refl refl may refl fits.count (omega (arith, owing, e.room)) in
     rw (← c.self.view_is) (called-one _ _ _ (Opens (keyed c.args.tenant c.args.job) c.args.ask) _ _ now.events (may, refl))

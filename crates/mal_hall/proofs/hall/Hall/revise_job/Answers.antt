@@ -1,17 +1,20 @@
-use Rattle.std.proofs.Common.{◌∙◌, ◌+◌, ◌<◌, ◌≤◌, length, refl, arith, Err}
-use Rattle.spec_job.specs.SoloMachine.{clauses_in}
+use Rattle.std.proofs.Common.{◌+◌, ◌<◌, ◌≤◌, [], ◌∷◌, length, refl, arith, Err}
 use Rattle.std.proofs.lemmas.Result.{err_from_is_err_and}
-use Rattle.spec_hall.specs.Dressed.{keyed}
-use Rattle.spec_hall.specs.Seats.{Seat}
+use Rattle.spec_job.specs.SoloMachine.{clauses_in}
 use Rattle.spec_hall.specs.Calls.{Revises}
+use Rattle.spec_hall.specs.Dressed.{keyed}
+use Rattle.spec_hall.specs.Events.{Revise}
+use Rattle.spec_hall.specs.Seats.{Seat}
 use Rattle.mal_base.specs.declared.hall_fault.ReviseFault.TheVariants.{OutOfMemory}
 use Rattle.mal_hall.specs.Contents.{with_posted}
-use Rattle.mal_hall.proofs.HallLemmas.{placed, placed-below, sits, hall-absent, hall-found, hall-next, hall-revise, may-revise, called-none, called-one, of-seat}
+use Rattle.mal_hall.proofs.HallLemmas.{Grown, placed, placed-below, sits, hall-absent, hall-found, hall-next, hall-revise, hall-waits, may-revise, called-none, called-one, of-seat}
+use Rattle.mal_hall.proofs.Parts.{parts}
 use Rattle.mal_hall.proofs.RoomLemmas.{unclosed-few}
 use Rattle.mal_hall.proofs.hall.Hall.revise_job.Goals as goal
+use Rattle.mal_hall.proofs.hall.Hall.revise_job.Goals.{In-Ok}
 
 pub owed-owed-requires-clause-few : goal.owed-owed-requires-clause-few
-owed-owed-requires-clause-few c = omega (arith, unclosed-few (record { history = c.self.inside.history; posted = c.self.inside.posted.items; seats = c.self.inside.seats; spots = c.self.inside.spots.items; starts = c.self.inside.starts; unclosed = c.self.inside.unclosed; tenants = c.self.inside.tenants }) c.self.invariant)
+owed-owed-requires-clause-few c = omega (arith, unclosed-few (parts c.self.inside) c.self.invariant)
 
 pub returns-in_default-clause-call : goal.returns-in_default-clause-call
 returns-in_default-clause-call c =
@@ -20,8 +23,8 @@ returns-in_default-clause-call c =
 pub at-requires : goal.at-requires
 at-requires c = omega (arith, placed-below c.self.inside.seats (keyed c.args.tenant.now c.args.job.now) _ _ c.place_of.ensures c.in-Some.is)
 
-pub revise-requires-clause-place : goal.revise-requires-clause-place
-revise-requires-clause-place c = omega (arith, placed-below c.self.inside.seats (keyed c.args.tenant.now c.args.job.now) _ _ c.place_of.ensures c.in-Some.is)
+pub enter_revise-requires-clause-place : goal.enter_revise-requires-clause-place
+enter_revise-requires-clause-place c = omega (arith, placed-below c.self.inside.seats (keyed c.args.tenant.now c.args.job.now) _ _ c.place_of.ensures c.in-Some.is)
 
 pub returns-in_err-number-clause-call : goal.returns-in_err-number-clause-call
 returns-in_err-number-clause-call c =
@@ -32,73 +35,54 @@ returns-in_err-number-clause-call c =
     let mine = cause (keyed c.args.tenant.now c.args.job.now) (with_posted c.self.inside.history.events c.self.inside.posted.items) found.job in
     rw (p.1, p.2) (rw (← c.self.view_is) (called-none _ _ (Revises (keyed c.args.tenant.now c.args.job.now) c.args.revision) (Err c.in_err-number.field-0.0) mine))
 
-pub revise-requires-clause-few : goal.revise-requires-clause-few
-revise-requires-clause-few c =
+pub enter_revise-requires-clause-few : goal.enter_revise-requires-clause-few
+enter_revise-requires-clause-few c =
     let here = sits c.self.inside.seats (keyed c.args.tenant.now c.args.job.now) _ _ _ c.place_of.ensures c.in-Some.is c.at.ensures in
     let e = rw c.job.ensures at c.in_ok-number.ensures in
     of-seat (λ (s : Seat). length s.job.titled.state.revisions < 256) c.self.inside.seats c.in-Some.at c.at.result.now here.seat e.few
 
-pub revise-requires-clause-clauses : goal.revise-requires-clause-clauses
-revise-requires-clause-clauses c =
+pub enter_revise-requires-clause-clauses : goal.enter_revise-requires-clause-clauses
+enter_revise-requires-clause-clauses c =
     let here = sits c.self.inside.seats (keyed c.args.tenant.now c.args.job.now) _ _ _ c.place_of.ensures c.in-Some.is c.at.ensures in
     let e = rw c.job.ensures at c.in_ok-number.ensures in
     of-seat (λ (s : Seat). clauses_in s.job.titled.state.revisions + length c.args.revision.clauses ≤ 1048576) c.self.inside.seats c.in-Some.at c.at.result.now here.seat e.room.clauses
 
-pub returns-in-Err-revise-clause-err : goal.returns-in-Err-revise-clause-err
-returns-in-Err-revise-clause-err c = rw (← c.self.view_is, c.in-Ok-reserve.ensures.events, c.kept_for.ensures.same) refl
+pub invariant_of-self : goal.invariant_of-self
+invariant_of-self c =
+    let e = c.in-Err.ensures in
+    hall-waits (parts c.self.inside) _ c.self.invariant e.err.workers e.err.events e.same e.err.seats refl refl refl refl e.err.room
 
-pub returns-in_default-kept_for-clause-call : goal.returns-in_default-kept_for-clause-call
-returns-in_default-kept_for-clause-call c =
-    let here = sits c.self.inside.seats (keyed c.args.tenant.now c.args.job.now) _ _ _ c.place_of.ensures c.in-Some.is c.at.ensures in
-    let e = rw c.job.ensures at c.in_ok-number.ensures in
-    let may = may-revise _ (keyed c.args.tenant.now c.args.job.now) _ _ c.args.revision c.self.invariant here e.open e.few e.room e.form in
-    rw (← c.self.view_is, c.kept_for.ensures.same) (called-none _ _ (Revises (keyed c.args.tenant.now c.args.job.now) c.args.revision) (Err OutOfMemory) (c.at.result.now.job.titled, may, refl))
+pub returns-in-Err-clause-err : goal.returns-in-Err-clause-err
+returns-in-Err-clause-err c = rw (← c.self.view_is, c.in-Err.ensures.err.events, c.in-Err.ensures.same) refl
 
 pub returns-in-Err-clause-call : goal.returns-in-Err-clause-call
 returns-in-Err-clause-call c =
     let here = sits c.self.inside.seats (keyed c.args.tenant.now c.args.job.now) _ _ _ c.place_of.ensures c.in-Some.is c.at.ensures in
     let e = rw c.job.ensures at c.in_ok-number.ensures in
     let may = may-revise _ (keyed c.args.tenant.now c.args.job.now) _ _ c.args.revision c.self.invariant here e.open e.few e.room e.form in
-    rw (← c.self.view_is, c.reserve.ensures.events, c.kept_for.ensures.same) (called-none _ _ (Revises (keyed c.args.tenant.now c.args.job.now) c.args.revision) (Err OutOfMemory) (c.at.result.now.job.titled, may, refl))
+    rw (← c.self.view_is, c.in-Err.ensures.err.events, c.in-Err.ensures.same) (called-none _ _ (Revises (keyed c.args.tenant.now c.args.job.now) c.args.revision) (Err OutOfMemory) (c.at.result.now.job.titled, may, refl))
 
-pub returns-in-Err-revise-clause-call : goal.returns-in-Err-revise-clause-call
-returns-in-Err-revise-clause-call c =
+-- the revision was entered
+revised : (c : In-Ok) → Grown (parts c.self.inside) (record { history = c.enter_revise.new.history; posted = c.enter_revise.new.posted.items; seats = c.enter_revise.new.seats; spots = c.self.inside.spots.items; starts = c.self.inside.starts; unclosed = c.self.inside.unclosed; tenants = c.self.inside.tenants }) (Revise (keyed c.args.tenant.now c.args.job.now) c.in_ok-number.number c.args.revision ∷ [])
+revised c =
     let here = sits c.self.inside.seats (keyed c.args.tenant.now c.args.job.now) _ _ _ c.place_of.ensures c.in-Some.is c.at.ensures in
-    let e = rw c.job.ensures at c.in_ok-number.ensures in
-    let may = may-revise _ (keyed c.args.tenant.now c.args.job.now) _ _ c.args.revision c.self.invariant here e.open e.few e.room e.form in
-    rw (← c.self.view_is, c.in-Ok-reserve.ensures.events, c.kept_for.ensures.same) (called-none _ _ (Revises (keyed c.args.tenant.now c.args.job.now) c.args.revision) (Err OutOfMemory) (c.at.result.now.job.titled, may, refl))
+    let f = rw c.job.ensures at c.in_ok-number.ensures in
+    let owing = rw c.deref.ensures.value at c.owed-owed.ensures.value in
+    let e = c.in-Ok.ensures in
+    hall-revise (parts c.self.inside) _ (keyed c.args.tenant.now c.args.job.now) _ _ c.in_ok-number.number c.args.revision c.self.invariant here e.workers (e.events _ here.seat) e.posted (e.seats _ here.seat) refl refl refl refl f.number (may-revise (parts c.self.inside) (keyed c.args.tenant.now c.args.job.now) _ _ c.args.revision c.self.invariant here f.open f.few f.room f.form) (omega (arith, owing, e.room))
 
 pub invariant_of-self-2 : goal.invariant_of-self-2
-invariant_of-self-2 c =
-    let here = sits c.self.inside.seats (keyed c.args.tenant.now c.args.job.now) _ _ _ c.place_of.ensures c.in-Some.is c.at.ensures in
-    let e = rw c.job.ensures at c.in_ok-number.ensures in
-    let may = may-revise _ (keyed c.args.tenant.now c.args.job.now) _ _ c.args.revision c.self.invariant here e.open e.few e.room e.form in
-    let events = rw c.in-Ok-reserve.ensures.events at c.push_reserved.ensures.events in
-    let posted = rw (c.kept_for.ensures.same, c.in-Ok.ensures.kept) at c.push_reserved-2.ensures.items in
-    let owing = rw c.deref.ensures.value at c.owed-owed.ensures.value in
-    let now = hall-revise _ (record { history = c.push_reserved.new.self; posted = c.push_reserved-2.new.self.items; seats = c.revise.new.self; spots = c.self.inside.spots.items; starts = c.self.inside.starts; unclosed = c.self.inside.unclosed; tenants = c.self.inside.tenants }) (keyed c.args.tenant.now c.args.job.now) _ _ c.in_ok-number.number c.args.revision c.self.invariant here (c.push_reserved.ensures.workers ∙ c.in-Ok-reserve.ensures.workers) events posted (c.in-Ok-revise.ensures.ok _ here.seat) refl refl refl refl e.number may (omega (arith, owing, c.in-Ok-reserve.ensures.room, c.push_reserved.ensures.room)) in
-    now.hall
+invariant_of-self-2 c = (revised c).hall
 
 pub returns-clause-ok : goal.returns-clause-ok
 returns-clause-ok c =
     let here = sits c.self.inside.seats (keyed c.args.tenant.now c.args.job.now) _ _ _ c.place_of.ensures c.in-Some.is c.at.ensures in
     let e = rw c.job.ensures at c.in_ok-number.ensures in
-    let may = may-revise _ (keyed c.args.tenant.now c.args.job.now) _ _ c.args.revision c.self.invariant here e.open e.few e.room e.form in
-    let events = rw c.in-Ok-reserve.ensures.events at c.push_reserved.ensures.events in
-    let posted = rw (c.kept_for.ensures.same, c.in-Ok.ensures.kept) at c.push_reserved-2.ensures.items in
-    let owing = rw c.deref.ensures.value at c.owed-owed.ensures.value in
-    let now = hall-revise _ (record { history = c.push_reserved.new.self; posted = c.push_reserved-2.new.self.items; seats = c.revise.new.self; spots = c.self.inside.spots.items; starts = c.self.inside.starts; unclosed = c.self.inside.unclosed; tenants = c.self.inside.tenants }) (keyed c.args.tenant.now c.args.job.now) _ _ c.in_ok-number.number c.args.revision c.self.invariant here (c.push_reserved.ensures.workers ∙ c.in-Ok-reserve.ensures.workers) events posted (c.in-Ok-revise.ensures.ok _ here.seat) refl refl refl refl e.number may (omega (arith, owing, c.in-Ok-reserve.ensures.room, c.push_reserved.ensures.room)) in
-    let found = hall-found _ _ _ _ c.self.invariant here in
-    let next = hall-next _ _ _ _ found e.number in
-    rw (← c.self.view_is, ← next) now.events
+    rw (← c.self.view_is, ← hall-next _ _ _ _ (hall-found _ _ _ _ c.self.invariant here) e.number) (revised c).events
 
 pub returns-clause-call : goal.returns-clause-call
 returns-clause-call c =
     let here = sits c.self.inside.seats (keyed c.args.tenant.now c.args.job.now) _ _ _ c.place_of.ensures c.in-Some.is c.at.ensures in
     let e = rw c.job.ensures at c.in_ok-number.ensures in
     let may = may-revise _ (keyed c.args.tenant.now c.args.job.now) _ _ c.args.revision c.self.invariant here e.open e.few e.room e.form in
-    let events = rw c.in-Ok-reserve.ensures.events at c.push_reserved.ensures.events in
-    let posted = rw (c.kept_for.ensures.same, c.in-Ok.ensures.kept) at c.push_reserved-2.ensures.items in
-    let owing = rw c.deref.ensures.value at c.owed-owed.ensures.value in
-    let now = hall-revise _ (record { history = c.push_reserved.new.self; posted = c.push_reserved-2.new.self.items; seats = c.revise.new.self; spots = c.self.inside.spots.items; starts = c.self.inside.starts; unclosed = c.self.inside.unclosed; tenants = c.self.inside.tenants }) (keyed c.args.tenant.now c.args.job.now) _ _ c.in_ok-number.number c.args.revision c.self.invariant here (c.push_reserved.ensures.workers ∙ c.in-Ok-reserve.ensures.workers) events posted (c.in-Ok-revise.ensures.ok _ here.seat) refl refl refl refl e.number may (omega (arith, owing, c.in-Ok-reserve.ensures.room, c.push_reserved.ensures.room)) in
-    rw (← c.self.view_is) (called-one _ _ _ (Revises (keyed c.args.tenant.now c.args.job.now) c.args.revision) _ _ (rw e.number at now.events) (c.at.result.now.job.titled, may, refl))
+    rw (← c.self.view_is) (called-one _ _ _ (Revises (keyed c.args.tenant.now c.args.job.now) c.args.revision) _ _ (rw e.number at (revised c).events) (c.at.result.now.job.titled, may, refl))
