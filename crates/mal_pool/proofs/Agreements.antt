@@ -1,6 +1,6 @@
 -- When a history has what a script posts.
 use Rattle.std.proofs.Common.{◌≡◌, ℕ, zero, suc, ◌+◌, ◌-◌, ◌<◌, ◌≤◌, Bool, true, false, ◌||◌, cond, List, [], ◌∷◌, ◌++◌, length, map, take, get_or, flat_map, filter, Some, refl, sym, ◌∙◌, ap, subst, append_assoc, arith, length-append}
-use Rattle.std.specs.Prelude.{slice_get}
+use Rattle.std.specs.Prelude.{slice_get, ◌↔◌, Option, None}
 use Rattle.std.specs.List.{list_any}
 use Rattle.std.proofs.lemmas.List.{map-append, take_all}
 use Rattle.std.proofs.lemmas.Option.{get_or_from_slice_get, slice_get_read}
@@ -45,13 +45,48 @@ contents-more h js i j have here low is = subst (HaveContents h) (sym (take-one 
 pub contents-all : (h : List Event) (js : List ScriptedJob) (i : ℕ) → HaveContents h (take i js) → length js ≤ i → HaveContents h js
 contents-all h js i have all = subst (HaveContents h) (take_all i js all) have
 
--- a revision that is there
-pub among-at : (n i : ℕ) (rs : List Posted) (r : Posted) → n ≡ i + 1 → Some r ≡ among n rs → get_or rs i no_revision ≡ r
-among-at zero i rs r is e = absurd (omega (arith, is))
-among-at (suc k) i rs r is e = get_or_from_slice_get rs i r no_revision (ap (slice_get rs) (omega (arith, is)) ∙ sym e)
+-- a job among those that have their contents
+pub contents-at : (h : List Event) (js : List ScriptedJob) (i : ℕ) (j : ScriptedJob) → HaveContents h js → i < length js → j ≡ get_or js i j → HasContents h j
+contents-at h [] i j have low is = absurd (omega arith)
+contents-at h (x ∷ xs) zero j have low is = subst (HasContents h) (sym is) have.0
+contents-at h (x ∷ xs) (suc i) j have low is = contents-at h xs i j have.1 (omega arith) is
 
-pub at-default : (rs : List Posted) (i : ℕ) (r : Posted) → i < length rs → r ≡ get_or rs i r → get_or rs i no_revision ≡ r
-at-default rs i r low is = get_or_from_slice_get rs i r no_revision (slice_get_read rs (length rs) i r refl low is)
+-- a revision that is there, compared with another
+pub revision-at : (n i : ℕ) (rs all : List Posted) (r q : Posted) → n ≡ i + 1 → Some r ≡ among n rs → i < length all → q ≡ get_or all i q → (b : Bool) → (b ≡ true ↔ r ≡ q) → (b ≡ true ↔ slice_get rs i ≡ slice_get all i)
+revision-at zero i rs all r q is e low there b same = absurd (omega (arith, is))
+revision-at (suc k) i rs all r q is e low there b same = (
+  λ t. mine ∙ (ap (λ (x : Posted). Some x) (same.0 t) ∙ sym theirs),
+  λ t. same.1 (inner r q (sym mine ∙ t ∙ theirs)),
+)
+  where
+    mine : slice_get rs i ≡ Some r
+    mine = ap (slice_get rs) (omega (arith, is)) ∙ sym e
+
+    theirs : slice_get all i ≡ Some q
+    theirs = slice_get_read all (length all) i q refl low there
+
+    inner : (x y : Posted) → ◌≡◌ {A = Option Posted} (Some x) (Some y) → x ≡ y
+    inner x y e = cc
+
+get_or-same : (xs : List Posted) (k : ℕ) → k < length xs → get_or xs k no_revision ≡ get_or xs k (get_or xs k no_revision)
+get_or-same [] k low = absurd (omega arith)
+get_or-same (x ∷ xs) zero low = refl
+get_or-same (x ∷ xs) (suc k) low = get_or-same xs k (omega arith)
+
+there-at : (all : List Posted) (i : ℕ) → i < length all → slice_get all i ≡ Some (get_or all i no_revision)
+there-at all i low = slice_get_read all (length all) i (get_or all i no_revision) refl low (get_or-same all i low)
+
+-- one that is not there
+pub revision-none : (n i : ℕ) (rs all : List Posted) → n ≡ i + 1 → None ≡ among n rs → i < length all → slice_get rs i ≡ slice_get all i → ⊥
+revision-none zero i rs all is e low t = omega (arith, is)
+revision-none (suc k) i rs all is e low t = differ (get_or all i no_revision) (e ∙ (ap (slice_get rs) (omega (arith, is)) ∙ (t ∙ there-at all i low)))
+  where
+    differ : (x : Posted) → ◌≡◌ {A = Option Posted} None (Some x) → ⊥
+    differ x q = cc
+
+-- the contents by place
+at-place : (rs all : List Posted) (i : ℕ) → i < length all → slice_get rs i ≡ slice_get all i → get_or rs i no_revision ≡ get_or all i no_revision
+at-place rs all i low same = get_or_from_slice_get rs i (get_or all i no_revision) no_revision (same ∙ there-at all i low)
 
 -- what is written down, with the revisions of the jobs
 dressed-by : (ts : List KeyedJob) (t : List ℕ) (e : written.Event) → is_post_of t (dressed ts e) ≡ is_post_line t e
@@ -104,7 +139,7 @@ job-dressed h j has =
     let revised : List Event = revise_events k 1 j.revisions in
     ap (map (dressed ts)) (map-append bare revised (Close k ∷ []))
     ∙ (map-append (dressed ts) (map bare revised) (map bare (Close k ∷ []))
-    ∙ ap (λ (x : List Event). x ++ Close k ∷ []) (revised-dressed ts k j.revisions [] j.revisions 1 refl refl has))
+    ∙ ap (λ (x : List Event). x ++ Close k ∷ []) (revised-dressed ts k j.revisions [] j.revisions 1 refl refl (λ i low. at-place (revisions_of k ts) j.revisions i low (has i low))))
 
 jobs-dressed : (h : List Event) (js : List ScriptedJob) → HaveContents h js → map (dressed (states h)) (map bare (flat_map job_events js)) ≡ flat_map job_events js
 jobs-dressed h [] have = refl

@@ -7,6 +7,7 @@ mod Loops
 mod LoopLaws
 mod Postings
 mod Leavings
+mod Refused
 mod Agreements
 mod Knowing
 mod Gating

@@ -1,10 +1,11 @@
-use Rattle.std.specs.Prelude.{◌≡◌, ℕ, ◌<◌, Bool, false, List, [], ◌∷◌, length, filter, get_or}
+use Rattle.std.specs.Prelude.{◌≡◌, ℕ, ◌<◌, Bool, false, List, [], ◌∷◌, length, map, filter, slice_get}
 use Rattle.mal_history.specs.declared.event.Event as written
 use Rattle.mal_history.specs.declared.event.Event.TheVariants as of
 use Rattle.spec_hall.specs.Driven.{was_lost}
-use Rattle.spec_hall.specs.Dressed.{no_revision, revisions_of}
-use Rattle.spec_hall.specs.Events.{Event}
+use Rattle.spec_hall.specs.Dressed.{revisions_of}
+use Rattle.spec_hall.specs.Events.{Event, bare}
 use Rattle.spec_hall.specs.States.{states}
+use Rattle.spec_replay.specs.Posts.{HavePosts}
 use Rattle.spec_run.specs.Complete.{is_post_of, key_of_job, posts_of}
 use Rattle.spec_script.specs.Script.{ScriptedJob, Scripted}
 
@@ -20,7 +21,7 @@ is_loss (of.Exchange tenant job) = false
 
 -- the job of a hall has the revisions of the script's, as far as the script's go
 abbrev pub HasContents : List Event → ScriptedJob → Type 0
-HasContents history j = (i : ℕ) → i < length j.revisions → get_or (revisions_of (key_of_job j) (states history)) i no_revision ≡ get_or j.revisions i no_revision
+HasContents history j = (i : ℕ) → i < length j.revisions → slice_get (revisions_of (key_of_job j) (states history)) i ≡ slice_get j.revisions i
 
 -- so do the jobs of these
 abbrev pub HaveContents : List Event → List ScriptedJob → Type 0
@@ -30,3 +31,7 @@ HaveContents history (j ∷ js) = HasContents history j × HaveContents history 
 -- each tenant posted just what the script says, in its order
 abbrev pub HasPosts : Scripted → List Event → Type 0
 HasPosts s history = (tenant : List ℕ) → filter (is_post_of tenant) history ≡ posts_of tenant s
+
+-- what is written down of a history's posts is just what the script says, and its jobs have the script's contents
+abbrev pub AreThePosts : Scripted → List Event → Type 0
+AreThePosts s history = HavePosts s (map bare history) × HaveContents history s.jobs

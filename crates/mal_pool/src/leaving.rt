@@ -1,7 +1,8 @@
 //! What posters left, posted in a hall that nobody shares any more.
 
-ghost use Rattle.std.specs.Prelude.{◌≡◌, ◌≤◌, [], ◌∷◌, ◌++◌, length, flat_map, drop, true, IfOk};
+ghost use Rattle.std.specs.Prelude.{◌≡◌, ◌≤◌, [], ◌∷◌, ◌++◌, length, flat_map, drop, true, false, IfOk};
 ghost use Rattle.mal_hall.specs.Desks.{event_of};
+ghost use Rattle.mal_pool.specs.Refusals.{IsOneRefused, is_want};
 ghost use Rattle.mal_pool.specs.Runs.{job_posts, left_by, of_tenant, posted_on, posts_behind, revise_posts};
 
 use crate::posting::Left;
@@ -10,13 +11,15 @@ use mal_hall::{CloseFault, Hall, OpenFault, Post, PostFault, ReviseFault};
 use mal_script::ScriptJob;
 use std::alloc::AllocError;
 
-/// Posts what posters left, in their order. False where a post was refused for another cause than want of memory.
+/// Posts what posters left, in their order: true where each post is taken, false where one is refused for another cause
+/// than want of memory.
 pub fn post_left(hall: &mut Hall, jobs: &[ScriptJob], left: &[Left]) -> Result<bool, AllocError>
     ensures workers { hall.new.workers ≡ hall.old.workers }
     ensures events { IfOk result (λ done. done ≡ true → hall.new.events ≡ posted_on hall.old.events (flat_map (left_by jobs.now) left.now)) }
+    ensures refused { IfOk result (λ done. done ≡ false → IsOneRefused hall.old.workers hall.old.events (flat_map (left_by jobs.now) left.now)) }
 {
     for one in left {
-        if !post_from(hall, jobs, *one)? {
+        if !post_from(hall, jobs, one)? {
             return Ok(false);
         }
     }
@@ -24,9 +27,10 @@ pub fn post_left(hall: &mut Hall, jobs: &[ScriptJob], left: &[Left]) -> Result<b
 }
 
 /// Posts what one poster left: the rest of a job, and the later jobs of its tenant.
-fn post_from(hall: &mut Hall, jobs: &[ScriptJob], left: Left) -> Result<bool, AllocError>
+fn post_from(hall: &mut Hall, jobs: &[ScriptJob], left: &Left) -> Result<bool, AllocError>
     ensures workers { hall.new.workers ≡ hall.old.workers }
-    ensures events { IfOk result (λ done. done ≡ true → hall.new.events ≡ posted_on hall.old.events (left_by jobs.now left)) }
+    ensures events { IfOk result (λ done. done ≡ true → hall.new.events ≡ posted_on hall.old.events (left_by jobs.now left.now)) }
+    ensures refused { IfOk result (λ done. done ≡ false → IsOneRefused hall.old.workers hall.old.events (left_by jobs.now left.now)) }
 {
     if left.job >= jobs.len() {
         return Ok(true);
@@ -48,6 +52,7 @@ fn post_later(
     requires { from ≤ length jobs.now }
     ensures workers { hall.new.workers ≡ hall.old.workers }
     ensures events { IfOk result (λ done. done ≡ true → hall.new.events ≡ posted_on hall.old.events (flat_map job_posts (of_tenant tenant (drop from jobs.now)))) }
+    ensures refused { IfOk result (λ done. done ≡ false → IsOneRefused hall.old.workers hall.old.events (flat_map job_posts (of_tenant tenant (drop from jobs.now)))) }
 {
     for place in from..jobs.len() {
         if !post_for(hall, tenant, &jobs[place])? {
@@ -61,6 +66,7 @@ fn post_later(
 fn post_for(hall: &mut Hall, tenant: Name, job: &ScriptJob) -> Result<bool, AllocError>
     ensures workers { hall.new.workers ≡ hall.old.workers }
     ensures events { IfOk result (λ done. done ≡ true → hall.new.events ≡ posted_on hall.old.events (flat_map job_posts (of_tenant tenant (job.now ∷ [])))) }
+    ensures refused { IfOk result (λ done. done ≡ false → IsOneRefused hall.old.workers hall.old.events (flat_map job_posts (of_tenant tenant (job.now ∷ [])))) }
 {
     if tenant == job.tenant() {
         return post_rest(hall, job, 0);
@@ -72,6 +78,7 @@ fn post_for(hall: &mut Hall, tenant: Name, job: &ScriptJob) -> Result<bool, Allo
 fn post_rest(hall: &mut Hall, job: &ScriptJob, posted: usize) -> Result<bool, AllocError>
     ensures workers { hall.new.workers ≡ hall.old.workers }
     ensures events { IfOk result (λ done. done ≡ true → hall.new.events ≡ posted_on hall.old.events (posts_behind posted job.now)) }
+    ensures refused { IfOk result (λ done. done ≡ false → IsOneRefused hall.old.workers hall.old.events (posts_behind posted job.now)) }
 {
     if !post_revisions(hall, job, posted)? {
         return Ok(false);
@@ -87,6 +94,7 @@ fn post_rest(hall: &mut Hall, job: &ScriptJob, posted: usize) -> Result<bool, Al
 fn post_revisions(hall: &mut Hall, job: &ScriptJob, posted: usize) -> Result<bool, AllocError>
     ensures workers { hall.new.workers ≡ hall.old.workers }
     ensures events { IfOk result (λ done. done ≡ true → hall.new.events ≡ posted_on hall.old.events (revise_posts job.now (drop posted job.now.revisions))) }
+    ensures refused { IfOk result (λ done. done ≡ false → IsOneRefused hall.old.workers hall.old.events (revise_posts job.now (drop posted job.now.revisions))) }
 {
     for at in posted..job.revisions().len() {
         let revision = job.revisions()[at].copy()?;
@@ -102,10 +110,11 @@ fn post_revisions(hall: &mut Hall, job: &ScriptJob, posted: usize) -> Result<boo
     Ok(true)
 }
 
-/// Posts. False where the post was refused for another cause than want of memory.
+/// Posts: true where the post is taken, false where it is refused for another cause than want of memory.
 fn post_one(hall: &mut Hall, post: Post) -> Result<bool, AllocError>
     ensures workers { hall.new.workers ≡ hall.old.workers }
     ensures events { IfOk result (λ done. done ≡ true → hall.new.events ≡ hall.old.events ++ event_of hall.old.events post ∷ []) }
+    ensures refused { IfOk result (λ done. done ≡ false → IsOneRefused hall.old.workers hall.old.events (post ∷ [])) }
 {
     match hall.post(post) {
         Ok(()) => Ok(true),
@@ -119,10 +128,12 @@ fn post_one(hall: &mut Hall, post: Post) -> Result<bool, AllocError>
 }
 
 /// Whether a post was refused for want of memory.
-fn wanted(fault: PostFault) -> bool {
+fn wanted(fault: PostFault) -> bool
+    ensures { result ≡ is_want fault }
+{
     match fault {
-        PostFault::Open(fault) => fault == OpenFault::OutOfMemory,
-        PostFault::Revise(fault) => fault == ReviseFault::OutOfMemory,
-        PostFault::Close(_) => false,
+        PostFault::Open(OpenFault::OutOfMemory) => true,
+        PostFault::Revise(ReviseFault::OutOfMemory) => true,
+        _ => false,
     }
 }

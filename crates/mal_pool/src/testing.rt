@@ -1,9 +1,9 @@
 //! Tests of a hall's history: whether a lease was lost, and whether tenants posted what a script says.
 
-ghost use Rattle.std.specs.Prelude.{◌≡◌, ◌≤◌, ◌<◌, true, ◌&&◌, not, [], length, get_or, IfOk};
+ghost use Rattle.std.specs.Prelude.{◌≡◌, ◌↔◌, ◌≤◌, ◌<◌, true, ◌&&◌, not, [], length, slice_get, IfOk, IsTrue};
 ghost use Rattle.std.specs.List.{list_any};
-ghost use Rattle.mal_pool.specs.Testing.{HasContents, HaveContents, HasPosts, is_loss};
-ghost use Rattle.spec_hall.specs.Dressed.{no_revision, revisions_of};
+ghost use Rattle.mal_pool.specs.Testing.{AreThePosts, HasContents, HaveContents, HasPosts, is_loss};
+ghost use Rattle.spec_hall.specs.Dressed.{revisions_of};
 ghost use Rattle.spec_hall.specs.Driven.{was_lost};
 ghost use Rattle.spec_hall.specs.Own.{is_text};
 ghost use Rattle.spec_hall.specs.States.{states};
@@ -55,7 +55,8 @@ fn was_lost(outcome: Outcome) -> bool
 
 /// Whether each tenant posted in a hall just what a script says, in its order, and no other tenant anything.
 pub fn has_posts(alloc: Global, hall: &Hall, script: &Script) -> Result<bool, AllocError>
-    ensures { IfOk result (λ b. b ≡ true → HasPosts script.now hall.now.events) }
+    ensures posts { IfOk result (λ b. b ≡ true → HasPosts script.now hall.now.events) }
+    ensures exact { IfOk result (λ b. IsTrue b ↔ AreThePosts script.now hall.now.events) }
 {
     if !have_posts(alloc, script, hall.history().events())? {
         return Ok(false);
@@ -73,7 +74,7 @@ pub fn has_name(names: &[Name], tenant: Name) -> bool
 /// Whether the jobs of a hall have the revisions of the script's.
 fn have_contents(hall: &Hall, jobs: &[ScriptJob]) -> bool
     requires { MayAllFollow served [] jobs.now }
-    ensures { result ≡ true → HaveContents hall.now.events jobs.now }
+    ensures { IsTrue result ↔ HaveContents hall.now.events jobs.now }
 {
     for job in jobs {
         if !has_contents(hall, job) {
@@ -86,7 +87,7 @@ fn have_contents(hall: &Hall, jobs: &[ScriptJob]) -> bool
 /// Whether the job of a hall has the revisions of the script's.
 fn has_contents(hall: &Hall, job: &ScriptJob) -> bool
     requires { length job.now.revisions ≤ 256 }
-    ensures { result ≡ true → HasContents hall.now.events job.now }
+    ensures { IsTrue result ↔ HasContents hall.now.events job.now }
 {
     for at in 0..job.revisions().len() {
         if !has_revision(hall, job, at) {
@@ -100,7 +101,7 @@ fn has_contents(hall: &Hall, job: &ScriptJob) -> bool
 fn has_revision(hall: &Hall, job: &ScriptJob, at: usize) -> bool
     requires few { length job.now.revisions ≤ 256 }
     requires low { at < length job.now.revisions }
-    ensures { result ≡ true → get_or (revisions_of (key_of_job job.now) (states hall.now.events)) at no_revision ≡ get_or job.now.revisions at no_revision }
+    ensures { IsTrue result ↔ (slice_get (revisions_of (key_of_job job.now) (states hall.now.events)) at ≡ slice_get job.now.revisions at) }
 {
     match hall.revision(&job.tenant(), &job.name(), at as u32 + 1) {
         Some(posted) => posted.same(&job.revisions()[at]),

@@ -12,7 +12,7 @@ pub returns-clause-run : goal.returns-clause-run
 returns-clause-run g c =
     let size = rw c.in-Some.is at c.in_ok-hall.ensures.workers in
     let settled = rw c.in-Some.is at c.in_ok-hall.ensures.settled in
-    settled-run c.args.workers c.args.script.now c.in-Some.hall (size ∙ c.requires.size) c.history.ensures.legal (c.in_ok-has_posts.ensures c.if-not-branch.false) settled.2.answered settled.2.home
+    settled-run c.args.workers c.args.script.now c.in-Some.hall (size ∙ c.requires.size) c.history.ensures.legal (c.in_ok-has_posts.ensures.posts c.if-not-branch.false) settled.2.answered settled.2.home
 
 pub returns-clause-lost : goal.returns-clause-lost
 returns-clause-lost g c =
