@@ -2,6 +2,7 @@
 use Rattle.std.proofs.Common.{◌≡◌, ℕ, zero, suc, ◌+◌, ◌-◌, ◌<◌, ◌≤◌, List, [], ◌∷◌, ◌++◌, length, map, drop, get_or, replicate, Option, Some, None, inl, inr, ◌⊎◌, refl, sym, ◌∙◌, ap, subst, arith, length-append}
 use Rattle.std.specs.Prelude.{slice_get, slice_set}
 use Rattle.std.proofs.lemmas.List.{length-replicate, length-set}
+use Rattle.mal_base.specs.Asks.{Terms}
 use Rattle.mal_base.specs.declared.answer.Answer.{Answer}
 use Rattle.mal_base.specs.declared.answer.Answer.TheVariants.{Refuted}
 use Rattle.mal_base.specs.NumberedClause.{NumberedClause}
@@ -36,14 +37,21 @@ pub record IsSettled (s : SoloMachine) (c : Course) (goal : ℕ) : Type 0 where
   pub all : length s.answers ≡ length s.revisions
   pub come : ComeFrom c s.answers
 
+-- a job that one node runs alone: its terms, its volume, nothing is told, and no place but the first is out
+pub record IsAlone (profile slices : ℕ) (ask : Terms) (volume : ℕ) (broadcasts : List (List NumberedClause)) (places : List NodeSlot) : Type 0 where
+  pub budget : ask.slices ≡ slices
+  pub solvers : ask.profile ≡ profile
+  pub low : volume ≤ 1
+  pub untold : broadcasts ≡ []
+  pub some : 1 ≤ length places
+  pub others : (i : ℕ) → (get_or places (suc i) vacant).out ≡ None
+
+abbrev pub IsAloneSolo : ℕ → ℕ → SoloMachine → Type 0
+IsAloneSolo profile slices s = IsAlone profile slices s.ask s.volume s.broadcasts s.places
+
 -- a machine whose one node has run so many slices of its course
 pub record IsAlong (profile slices : ℕ) (s : SoloMachine) (n : ℕ) : Type 0 where
-  pub budget : s.ask.slices ≡ slices
-  pub solvers : s.ask.profile ≡ profile
-  pub low : s.volume ≤ 1
-  pub untold : s.broadcasts ≡ []
-  pub some : 1 ≤ length s.places
-  pub others : (i : ℕ) → (place_at s (suc i)).out ≡ None
+  pub alone : IsAloneSolo profile slices s
   pub went : WentOn profile slices s.revisions n
   pub stands : IsOpen s (course profile slices s.revisions n) ⊎ ((goal : ℕ) × IsSettled s (course profile slices s.revisions n) goal)
 
@@ -76,34 +84,19 @@ start-next s c untold same = ap (lease-with s) (no-imports (imports_in (place_at
 
 -- the machine stands at the end of a slice, before what an empty clause answers
 pub record IsThere (profile slices : ℕ) (t : SoloMachine) (n : ℕ) : Type 0 where
-  pub budget : t.ask.slices ≡ slices
-  pub solvers : t.ask.profile ≡ profile
-  pub low : t.volume ≤ 1
-  pub untold : t.broadcasts ≡ []
-  pub some : 1 ≤ length t.places
-  pub others : (i : ℕ) → (place_at t (suc i)).out ≡ None
+  pub alone : IsAloneSolo profile slices t
   pub went : WentOn profile slices t.revisions n
   pub same : course_of t ≡ course profile slices t.revisions n
   pub idle : (place_at t 0).out ≡ None
 
 pub there-settled : (profile slices n : ℕ) (t : SoloMachine) (o : Option ℕ) → first_empty t.log ≡ o → length (settled_by o t).answers ≤ length t.revisions → IsThere profile slices t n → IsAlong profile slices (settled_by o t) n
 there-settled profile slices n t None e order h = record {
-  budget = h.budget;
-  solvers = h.solvers;
-  low = h.low;
-  untold = h.untold;
-  some = h.some;
-  others = h.others;
+  alone = h.alone;
   went = h.went;
   stands = inl (record { none = subst (λ (c : Course). first_empty c.log ≡ None) h.same e; same = h.same; leased = λ l out. absurd (let bad : None ≡ Some l = sym h.idle ∙ out in cc) });
 }
 there-settled profile slices n t (Some goal) e order h = record {
-  budget = h.budget;
-  solvers = h.solvers;
-  low = h.low;
-  untold = h.untold;
-  some = h.some;
-  others = h.others;
+  alone = h.alone;
   went = h.went;
   stands = inr (goal, record { found = found; log = ap (λ (c : Course). c.log) h.same; idle = h.idle; all = all; come = come-more (course profile slices t.revisions n) t.answers more goal found (subst (λ (c : Course). ComeFrom c t.answers) h.same (come-itself (course_of t))) });
 }
@@ -126,11 +119,15 @@ set-others : (ps : List NodeSlot) (q : NodeSlot) (i : ℕ) → get_or (slice_set
 set-others [] q i = refl
 set-others (p ∷ ps) q i = refl
 
-pub others-stay : (ps : List NodeSlot) (q : NodeSlot) → ((i : ℕ) → (get_or ps (suc i) vacant).out ≡ None) → (i : ℕ) → (get_or (slice_set ps 0 q) (suc i) vacant).out ≡ None
-others-stay ps q h i = ap (λ (p : NodeSlot). p.out) (set-others ps q i) ∙ h i
-
-pub some-stay : (ps : List NodeSlot) (q : NodeSlot) → 1 ≤ length ps → 1 ≤ length (slice_set ps 0 q)
-some-stay ps q h = subst (λ (n : ℕ). 1 ≤ n) (sym (length-set ps 0 q)) h
+pub alone-set : (profile slices : ℕ) (s : SoloMachine) (q : NodeSlot) → IsAloneSolo profile slices s → IsAlone profile slices s.ask s.volume s.broadcasts (slice_set s.places 0 q)
+alone-set profile slices s q h = record {
+  budget = h.budget;
+  solvers = h.solvers;
+  low = h.low;
+  untold = h.untold;
+  some = subst (λ (n : ℕ). 1 ≤ n) (sym (length-set s.places 0 q)) h.some;
+  others = λ i. ap (λ (p : NodeSlot). p.out) (set-others s.places q i) ∙ h.others i;
+}
 
 pub set-first : (ps : List NodeSlot) (q : NodeSlot) → 1 ≤ length ps → get_or (slice_set ps 0 q) 0 vacant ≡ q
 set-first ps q h = set-here ps 0 q (omega arith)
@@ -138,12 +135,7 @@ set-first ps q h = set-here ps 0 q (omega arith)
 -- a start of the one node
 pub started-along : (profile slices n : ℕ) (s : SoloMachine) → length s.answers < length s.revisions → IsAlong profile slices s n → IsAlong profile slices (solo_step s (Started 0)) n
 started-along profile slices n s live h = record {
-  budget = h.budget;
-  solvers = h.solvers;
-  low = h.low;
-  untold = h.untold;
-  some = some-stay s.places q h.some;
-  others = others-stay s.places q h.others;
+  alone = alone-set profile slices s q h.alone;
   went = h.went;
   stands = by_stand h.stands;
 }
@@ -155,7 +147,7 @@ started-along profile slices n s live h = record {
     q = record (place_at s 0) { out = Some (lease_of s 0); starts = (place_at s 0).starts + 1 }
 
     here : get_or (slice_set s.places 0 q) 0 vacant ≡ q
-    here = set-first s.places q h.some
+    here = set-first s.places q h.alone.some
 
     open-started : IsOpen s c → IsOpen (solo_step s (Started 0)) c
     open-started k = record {
@@ -164,7 +156,7 @@ started-along profile slices n s live h = record {
       leased = λ l e.
           let out : Some (lease_of s 0) ≡ Some l = sym (ap (λ (p : NodeSlot). p.out) here) ∙ e in
           let same : lease_of s 0 ≡ l = cc in
-          (subst (λ (x : Course). length x.answers < length s.revisions) k.same live, sym same ∙ start-next s c h.untold k.same);
+          (subst (λ (x : Course). length x.answers < length s.revisions) k.same live, sym same ∙ start-next s c h.alone.untold k.same);
     }
 
     by_stand : IsOpen s c ⊎ ((goal : ℕ) × IsSettled s c goal) → IsOpen (solo_step s (Started 0)) c ⊎ ((goal : ℕ) × IsSettled (solo_step s (Started 0)) c goal)

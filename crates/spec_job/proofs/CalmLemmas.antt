@@ -1,5 +1,5 @@
 -- The nodes that have loaded the current revision have no verdict.
-use Rattle.std.proofs.Common.{◌≡◌, ℕ, ◌+◌, ◌<◌, ◌≤◌, Bool, true, false, cond, ◌==◌, List, [], ◌∷◌, ◌++◌, length, get_or, Option, Some, None, inl, inr, ◌⊎◌, refl, sym, subst, arith, length-append}
+use Rattle.std.proofs.Common.{◌≡◌, ℕ, ◌+◌, ◌<◌, ◌≤◌, Bool, true, false, cond, ◌==◌, List, [], ◌∷◌, ◌++◌, length, get_or, Option, Some, None, inl, inr, ◌⊎◌, refl, sym, ◌∙◌, subst, arith, length-append}
 use Rattle.std.specs.Prelude.{slice_set, ◌-◌, replicate}
 use Rattle.std.proofs.lemmas.Bool.{ltb-true}
 use Rattle.mal_base.specs.Asks.{Terms}
@@ -8,13 +8,14 @@ use Rattle.mal_base.specs.declared.answer.Answer.TheVariants.{Satisfied, Refuted
 use Rattle.mal_base.specs.declared.verdict.Verdict.{Verdict}
 use Rattle.mal_base.specs.declared.verdict.Verdict.TheVariants.{Satisfiable, Unsatisfiable}
 use Rattle.mal_base.specs.declared.verdict.Outcome.{Outcome}
-use Rattle.mal_base.specs.declared.verdict.Outcome.TheVariants.{Ran, Starved, Lost}
+use Rattle.mal_base.specs.declared.verdict.Outcome.TheVariants.{Starved}
 use Rattle.mal_revision.specs.Posted.{Posted}
 use Rattle.spec_node.specs.State.{Node}
 use Rattle.spec_node.specs.Model.{model_of}
 use Rattle.spec_job.specs.Journal.{replay, loads_in}
-use Rattle.spec_job.specs.SoloMachine.{Own, Opened, Revised, Closed, Volume, Started, Finished, Exchanged, Lease, NodeSlot, vacant, SoloMachine, unopened, solo_step, place_at, with_place, start_entries, answered, spend, starve, conclude, first_empty, settled_by, is_late, finished_ran, finished_home, finished_lease, finished}
+use Rattle.spec_job.specs.SoloMachine.{Own, Opened, Revised, Closed, Volume, Started, Finished, Exchanged, Lease, NodeSlot, vacant, SoloMachine, unopened, solo_step, place_at, start_entries, answered, spend, starve, conclude, first_empty, settled_by, settled, is_late, finished_ran, finished_home, finished_lease, finished}
 use Rattle.spec_job.specs.Runnable.{MayHappen}
+use Rattle.spec_job.proofs.FinishLemmas.{with_entries, slice_of, ran_home, ran_now, by-ran, by-starved, by-outcome, by-lease}
 use Rattle.spec_job.proofs.PlacesLemmas.{all-marked, get-vacant, set-place}
 use Rattle.spec_job.proofs.SolvingLemmas.{IsLeased, IsSolving, IsSolvingSolo, placed-solving, out-leased}
 use Rattle.spec_job.proofs.SolvedLemmas.{home-ready, idle-solving, lease-solving}
@@ -70,16 +71,10 @@ conclude-calm (Some Satisfiable) n s early h = answered-calm s (Satisfied (model
 conclude-calm (Some (Unsatisfiable goal)) n s early h = answered-calm s (Refuted goal) early
 
 ran-calm : (s : SoloMachine) (i : ℕ) (l : Lease) → (place_at s i).out ≡ Some l → IsSolvingSolo s → AreCalmIn s → AreCalmIn (finished_ran s i (place_at s i) l)
-ran-calm s i l out k h = by_late (is_late s l) refl
+ran-calm s i l out k h = by-ran AreCalmIn s i (place_at s i) l late now
   where
     q : NodeSlot
-    q = record (place_at s i) { entries = (place_at s i).entries ++ l.adds; out = None }
-
-    node : Node
-    node = (replay s.ask.profile i q.entries).node
-
-    home : SoloMachine
-    home = record (with_place s i q) { log = s.log ++ (replay s.ask.profile i q.entries).lines; ran = s.ran + 1 }
+    q = with_entries (place_at s i) l
 
     leased : IsLeased s.ask.profile s.revisions (length s.answers) i (place_at s i).entries l
     leased = out-leased s i l out k
@@ -87,36 +82,30 @@ ran-calm s i l out k h = by_late (is_late s l) refl
     early : AreEarly (length s.answers) (slice_set s.places i q)
     early = early-of s.ask.profile s.revisions s.answers (slice_set s.places i q) (placed-solving s.ask.profile s.revisions s.answers s.places i q (λ low. home-ready s.ask.profile s.revisions (length s.answers) i (place_at s i) l leased) k)
 
-    by_late : (b : Bool) → is_late s l ≡ b → AreCalmIn (cond b home (conclude node.verdict node home))
-    by_late true e =
+    late : is_late s l ≡ true → AreCalmIn (ran_home s i (place_at s i) l)
+    late e =
         let late : l.revision < length s.answers = ltb-true l.revision (length s.answers) e in
         let loads : loads_in q.entries ≡ l.revision + 1 = leased.loads in
         calm-placed s.ask.profile (length s.answers) i s.places q (λ low same. absurd (omega arith)) h
-    by_late false e = conclude-calm node.verdict node home early (λ none. calm-placed s.ask.profile (length s.answers) i s.places q (λ low same. none) h)
+
+    now : is_late s l ≡ false → AreCalmIn (ran_now s i (place_at s i) l)
+    now e = conclude-calm (slice_of s i (place_at s i) l).node.verdict (slice_of s i (place_at s i) l).node (ran_home s i (place_at s i) l) early (λ none. calm-placed s.ask.profile (length s.answers) i s.places q (λ low same. none) h)
 
 idle-calm : (s : SoloMachine) (i : ℕ) → AreCalmIn s → AreCalmIn (finished_home s i (place_at s i))
 idle-calm s i h = calm-placed s.ask.profile (length s.answers) i s.places (record (place_at s i) { out = None }) (h i) h
 
 starved-calm : (s : SoloMachine) (i : ℕ) (l : Lease) → IsSolvingSolo s → AreCalmIn s → AreCalmIn (finished_lease s i (place_at s i) l Starved)
-starved-calm s i l k h = by_late (is_late s l)
-  where
-    early : AreEarly (length s.answers) (finished_home s i (place_at s i)).places
-    early = early-of s.ask.profile s.revisions s.answers (finished_home s i (place_at s i)).places (idle-solving s i k)
+starved-calm s i l k h =
+    let home : SoloMachine = finished_home s i (place_at s i) in
+    by-starved AreCalmIn s i (place_at s i) l (λ late. idle-calm s i h) (λ now. starve-calm home (early-of s.ask.profile s.revisions s.answers home.places (idle-solving s i k)) (idle-calm s i h))
 
-    by_late : (b : Bool) → AreCalmIn (cond b (finished_home s i (place_at s i)) (starve (finished_home s i (place_at s i))))
-    by_late true = idle-calm s i h
-    by_late false = starve-calm (finished_home s i (place_at s i)) early (idle-calm s i h)
-
-lease-calm : (s : SoloMachine) (i : ℕ) (l : Lease) (o : Outcome) → (place_at s i).out ≡ Some l → IsSolvingSolo s → AreCalmIn s → AreCalmIn (finished_lease s i (place_at s i) l o)
-lease-calm s i l Ran e k h = ran-calm s i l e k h
-lease-calm s i l Starved e k h = starved-calm s i l k h
-lease-calm s i l Lost e k h = idle-calm s i h
+ended-calm : (s : SoloMachine) (i : ℕ) (l : Lease) (o : Outcome) → (place_at s i).out ≡ Some l → IsSolvingSolo s → AreCalmIn s → AreCalmIn (settled (finished_lease s i (place_at s i) l o))
+ended-calm s i l o e k h =
+    let ended : SoloMachine = finished_lease s i (place_at s i) l o in
+    settled-calm (first_empty ended.log) ended (early-of ended.ask.profile ended.revisions ended.answers ended.places (lease-solving s i l o e k)) (by-outcome AreCalmIn s i (place_at s i) l o (ran-calm s i l e k h) (starved-calm s i l k h) (idle-calm s i h))
 
 finished-calm : (s : SoloMachine) (i : ℕ) (out : Option Lease) (o : Outcome) → (place_at s i).out ≡ out → IsSolvingSolo s → AreCalmIn s → AreCalmIn (finished s i (place_at s i) out o)
-finished-calm s i None o e k h = h
-finished-calm s i (Some l) o e k h =
-    let ended : SoloMachine = finished_lease s i (place_at s i) l o in
-    settled-calm (first_empty ended.log) ended (early-of ended.ask.profile ended.revisions ended.answers ended.places (lease-solving s i l o e k)) (lease-calm s i l o e k h)
+finished-calm s i out o e k h = by-lease AreCalmIn s i (place_at s i) out o h (λ l f. ended-calm s i l o (e ∙ f) k h)
 
 -- the machine that is opened
 pub opened-calm : (ask : Terms) → AreCalmIn (record unopened { ask = ask })

@@ -1,14 +1,10 @@
 -- The nodes of a machine count no further than the slices that were run.
-use Rattle.std.proofs.Common.{◌≡◌, ℕ, suc, ◌+◌, ◌-◌, ◌*◌, ◌/◌, ◌<◌, ◌≤◌, ◌^◌, Bool, true, false, cond, ◌==◌, List, [], ◌∷◌, ◌++◌, length, Option, Some, None, inl, inr, ◌⊎◌, refl, sym, ◌∙◌, ap, subst, arith, append_assoc, append-nil}
+use Rattle.std.proofs.Common.{◌≡◌, ℕ, suc, ◌+◌, ◌-◌, ◌*◌, ◌/◌, ◌<◌, ◌≤◌, ◌^◌, List, [], ◌∷◌, ◌++◌, length, Option, Some, None, inl, inr, ◌⊎◌, refl, sym, ◌∙◌, ap, subst, arith, append_assoc, append-nil}
 use Rattle.std.specs.Prelude.{All, slice_set}
 use Rattle.std.proofs.lemmas.List.Elements.{All-nil, All-cons, All-append, All-weaker}
 use Rattle.std.proofs.lemmas.List.Sums.{fold_push}
 use Rattle.mal_base.specs.NumberedClause.{NumberedClause, Line}
-use Rattle.mal_base.specs.declared.answer.Answer.TheVariants.{Spent, OutOfStarts}
-use Rattle.mal_base.specs.declared.verdict.Verdict.{Verdict}
-use Rattle.mal_base.specs.declared.verdict.Verdict.TheVariants.{Satisfiable, Unsatisfiable}
 use Rattle.mal_base.specs.declared.verdict.Outcome.{Outcome}
-use Rattle.mal_base.specs.declared.verdict.Outcome.TheVariants.{Ran, Starved, Lost}
 use Rattle.spec_exchange.specs.Exchange.{broadcast}
 use Rattle.spec_node.specs.State.{Node}
 use Rattle.spec_search.specs.Slice.{Sliced, slice}
@@ -16,8 +12,9 @@ use Rattle.spec_search.specs.Laws.{IsCounted, AreNumbered}
 use Rattle.spec_search.proofs.LineLemmas.{lines-counted}
 use Rattle.spec_proof.proofs.Among.{Among, among-append}
 use Rattle.spec_job.specs.Journal.{JournalEntry, replay}
-use Rattle.spec_job.specs.SoloMachine.{Own, Opened, Revised, Closed, Volume, Started, Finished, Exchanged, Lease, NodeSlot, SoloMachine, unopened, solo, solo_step, place_at, with_place, answered, spend, starve, conclude, first_empty, settled_by, is_late, finished_home, finished_lease, finished, exports_from, exchanged}
+use Rattle.spec_job.specs.SoloMachine.{Own, Opened, Revised, Closed, Volume, Started, Finished, Exchanged, Lease, NodeSlot, SoloMachine, unopened, solo, solo_step, place_at, first_empty, settled_by, finished, exports_from, exchanged}
 use Rattle.spec_job.specs.Counts.{runs_in, runs_of, HasCounts, PlaceCounts, ReplaysCount}
+use Rattle.spec_job.proofs.FinishLemmas.{settled-leaves, finished-leaves}
 use Rattle.spec_job.proofs.PlacesLemmas.{marked-length, all-marked, get-vacant, out-within}
 use Rattle.spec_job.proofs.CountLemmas.{IsLow, slice-counted, replay-index, replay-runs, runs-set, runs-marked}
 use Rattle.spec_job.proofs.LinesLemmas.{IsOfLine}
@@ -88,50 +85,10 @@ home-low s i l out h = subst (λ (n : ℕ). AreLow n (slice_set s.places i q) (s
 
 -- answers change none of it
 settled-low : (o : Option ℕ) (s : SoloMachine) → IsLowSolo s → IsLowSolo (settled_by o s)
-settled-low None s h = h
-settled-low (Some goal) s h = h
-
-spend-low : (s : SoloMachine) → IsLowSolo s → IsLowSolo (spend s)
-spend-low s h = by_test (s.spent + 1 == s.ask.slices)
-  where
-    by_test : (b : Bool) → IsLowSolo (cond b (answered s (Spent s.ask.slices)) (record s { spent = s.spent + 1 }))
-    by_test true = h
-    by_test false = h
-
-starve-low : (s : SoloMachine) → IsLowSolo s → IsLowSolo (starve s)
-starve-low s h = by_test (s.starved + 1 == 3)
-  where
-    by_test : (b : Bool) → IsLowSolo (cond b (answered s OutOfStarts) (record s { starved = s.starved + 1 }))
-    by_test true = h
-    by_test false = h
-
-conclude-low : (v : Option Verdict) (n : Node) (s : SoloMachine) → IsLowSolo s → IsLowSolo (conclude v n s)
-conclude-low None n s h = spend-low s h
-conclude-low (Some Satisfiable) n s h = h
-conclude-low (Some (Unsatisfiable goal)) n s h = h
-
-lease-low : (s : SoloMachine) (i : ℕ) (l : Lease) (o : Outcome) → (place_at s i).out ≡ Some l → IsLowSolo s → IsLowSolo (finished_lease s i (place_at s i) l o)
-lease-low s i l Ran e h = by_late (is_late s l)
-  where
-    ran : Sliced
-    ran = replay s.ask.profile i ((place_at s i).entries ++ l.adds)
-
-    home : SoloMachine
-    home = record (with_place s i (record (place_at s i) { entries = (place_at s i).entries ++ l.adds; out = None })) { log = s.log ++ ran.lines; ran = s.ran + 1 }
-
-    by_late : (b : Bool) → IsLowSolo (cond b home (conclude ran.node.verdict ran.node home))
-    by_late true = home-low s i l e h
-    by_late false = conclude-low ran.node.verdict ran.node home (home-low s i l e h)
-lease-low s i l Starved e h = by_late (is_late s l)
-  where
-    by_late : (b : Bool) → IsLowSolo (cond b (finished_home s i (place_at s i)) (starve (finished_home s i (place_at s i))))
-    by_late true = idle-low s i h
-    by_late false = starve-low (finished_home s i (place_at s i)) (idle-low s i h)
-lease-low s i l Lost e h = idle-low s i h
+settled-low o s h = settled-leaves IsLowSolo (λ t more k. k) (λ t spent starved k. k) o s h
 
 finished-low : (s : SoloMachine) (i : ℕ) (out : Option Lease) (o : Outcome) → (place_at s i).out ≡ out → IsLowSolo s → IsLowSolo (finished s i (place_at s i) out o)
-finished-low s i None o e h = h
-finished-low s i (Some l) o e h = let ended : SoloMachine = finished_lease s i (place_at s i) l o in settled-low (first_empty ended.log) ended (lease-low s i l o e h)
+finished-low s i out o e h = finished-leaves IsLowSolo (λ t more k. k) (λ t spent starved k. k) s i (place_at s i) out o h (λ l f. home-low s i l (e ∙ f) h) (idle-low s i h)
 
 -- an exchange
 of-line-low : (all : ℕ) (log : List Line) → ((line : Line) → Among line log → IsLow all (clause_of line)) → (c : NumberedClause) → IsOfLine log c → IsLow all c

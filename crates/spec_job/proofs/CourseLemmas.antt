@@ -110,31 +110,23 @@ pub went-before : (profile slices : ℕ) (revisions : List Posted) (n k : ℕ) �
 went-before profile slices revisions n zero w = w.1
 went-before profile slices revisions n (suc k) w = went-before profile slices revisions n k w.0
 
--- answers and lines stay
-concluded-answers : (v : Option Verdict) (n : Node) (slices : ℕ) (c : Course) (r : ℕ) (a : Answer) → slice_get c.answers r ≡ Some a → slice_get (concluded v n slices c).answers r ≡ Some a
-concluded-answers None n slices c r a e = by_test (c.spent + 1 == slices)
+-- what holds of a course however its answers become more, and however its slices spent are counted
+pub concluded-leaves : (P : Course → Type 0) → ((c : Course) (a : Answer) → P c → P (with_answer c a)) → ((c : Course) (spent : ℕ) → P c → P (record c { spent = spent })) → (v : Option Verdict) (n : Node) (slices : ℕ) (c : Course) → P c → P (concluded v n slices c)
+concluded-leaves P more counted None n slices c h = by_test (c.spent + 1 == slices)
   where
-    by_test : (b : Bool) → slice_get (cond b (with_answer c (Spent slices)) (record c { spent = c.spent + 1 })).answers r ≡ Some a
-    by_test true = get-front c.answers (Spent slices ∷ []) r a e
-    by_test false = e
-concluded-answers (Some Satisfiable) n slices c r a e = get-front c.answers (Satisfied (model_of n) ∷ []) r a e
-concluded-answers (Some (Unsatisfiable goal)) n slices c r a e = get-front c.answers (Refuted goal ∷ []) r a e
+    by_test : (b : Bool) → P (cond b (with_answer c (Spent slices)) (record c { spent = c.spent + 1 }))
+    by_test true = more c (Spent slices) h
+    by_test false = counted c (c.spent + 1) h
+concluded-leaves P more counted (Some Satisfiable) n slices c h = more c (Satisfied (model_of n)) h
+concluded-leaves P more counted (Some (Unsatisfiable goal)) n slices c h = more c (Refuted goal) h
 
+-- answers and lines stay
 pub course-answers : (profile slices : ℕ) (revisions : List Posted) (n k r : ℕ) (a : Answer) → slice_get (course profile slices revisions n).answers r ≡ Some a → slice_get (course profile slices revisions (beyond k n)).answers r ≡ Some a
 course-answers profile slices revisions n zero r a e = e
 course-answers profile slices revisions n (suc k) r a e =
     let c : Course = course profile slices revisions (beyond k n) in
     let ran : Sliced = replay profile 0 (c.entries ++ next_adds revisions c) in
-    concluded-answers ran.node.verdict ran.node slices (record c { entries = c.entries ++ next_adds revisions c; log = c.log ++ ran.lines }) r a (course-answers profile slices revisions n k r a e)
-
-concluded-log : (v : Option Verdict) (n : Node) (slices : ℕ) (c : Course) → (concluded v n slices c).log ≡ c.log
-concluded-log None n slices c = by_test (c.spent + 1 == slices)
-  where
-    by_test : (b : Bool) → (cond b (with_answer c (Spent slices)) (record c { spent = c.spent + 1 })).log ≡ c.log
-    by_test true = refl
-    by_test false = refl
-concluded-log (Some Satisfiable) n slices c = refl
-concluded-log (Some (Unsatisfiable goal)) n slices c = refl
+    concluded-leaves (λ d. slice_get d.answers r ≡ Some a) (λ d b e. get-front d.answers (b ∷ []) r a e) (λ d spent e. e) ran.node.verdict ran.node slices (record c { entries = c.entries ++ next_adds revisions c; log = c.log ++ ran.lines }) (course-answers profile slices revisions n k r a e)
 
 pub course-log : (profile slices : ℕ) (revisions : List Posted) (n k : ℕ) → (lines : List Line) × ((course profile slices revisions (beyond k n)).log ≡ (course profile slices revisions n).log ++ lines)
 course-log profile slices revisions n zero = ([], sym (append-nil (course profile slices revisions n).log))
@@ -147,4 +139,4 @@ course-log profile slices revisions n (suc k) = by_rest (course-log profile slic
     ran = replay profile 0 (c.entries ++ next_adds revisions c)
 
     by_rest : (lines : List Line) × (c.log ≡ (course profile slices revisions n).log ++ lines) → (lines : List Line) × ((next profile slices revisions c).log ≡ (course profile slices revisions n).log ++ lines)
-    by_rest (lines, e) = (lines ++ ran.lines, concluded-log ran.node.verdict ran.node slices (record c { entries = c.entries ++ next_adds revisions c; log = c.log ++ ran.lines }) ∙ (ap (λ (ls : List Line). ls ++ ran.lines) e ∙ append_assoc (course profile slices revisions n).log lines ran.lines))
+    by_rest (lines, e) = (lines ++ ran.lines, concluded-leaves (λ d. d.log ≡ c.log ++ ran.lines) (λ d a same. same) (λ d spent same. same) ran.node.verdict ran.node slices (record c { entries = c.entries ++ next_adds revisions c; log = c.log ++ ran.lines }) refl ∙ (ap (λ (ls : List Line). ls ++ ran.lines) e ∙ append_assoc (course profile slices revisions n).log lines ran.lines))

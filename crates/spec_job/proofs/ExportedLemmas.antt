@@ -11,11 +11,7 @@ use Rattle.std.proofs.lemmas.List.Sums.{fold_push, fold-append}
 use Rattle.std.proofs.lemmas.Nat.{mod-mul-add}
 use Rattle.mal_base.specs.Asks.{Terms}
 use Rattle.mal_base.specs.NumberedClause.{NumberedClause, Line}
-use Rattle.mal_base.specs.declared.answer.Answer.TheVariants.{Spent, OutOfStarts}
-use Rattle.mal_base.specs.declared.verdict.Verdict.{Verdict}
-use Rattle.mal_base.specs.declared.verdict.Verdict.TheVariants.{Satisfiable, Unsatisfiable}
 use Rattle.mal_base.specs.declared.verdict.Outcome.{Outcome}
-use Rattle.mal_base.specs.declared.verdict.Outcome.TheVariants.{Ran, Starved, Lost}
 use Rattle.spec_exchange.specs.Exchange.{broadcast}
 use Rattle.spec_node.specs.Load.{counted}
 use Rattle.spec_node.specs.State.{Node}
@@ -25,9 +21,10 @@ use Rattle.spec_search.proofs.LineLemmas.{lines-counted}
 use Rattle.spec_job.specs.Counts.{runs_in, runs_of, is_opening}
 use Rattle.spec_job.specs.Exported.{derived_from, told_step, told_from, journal_told, is_short, exported_by, IsOpenedFirst, ExportsAreDerived, ExchangesTellDerived}
 use Rattle.spec_job.specs.Journal.{JournalEntry, Load, Import, Run, after_entry, replay}
-use Rattle.spec_job.specs.SoloMachine.{Own, Opened, Revised, Closed, Volume, Started, Finished, Exchanged, Lease, NodeSlot, vacant, SoloMachine, unopened, solo, solo_step, place_at, with_place, answered, spend, starve, conclude, first_empty, settled_by, is_late, finished_home, finished_lease, finished, exports_of, takes_part, exports_from, marked_from, exchanged}
+use Rattle.spec_job.specs.SoloMachine.{Own, Opened, Revised, Closed, Volume, Started, Finished, Exchanged, Lease, NodeSlot, vacant, SoloMachine, unopened, solo, solo_step, place_at, first_empty, settled_by, finished, exports_of, takes_part, exports_from, marked_from, exchanged}
 use Rattle.spec_job.proofs.CountLemmas.{runs_in-cons, replay-index, replay-runs}
 use Rattle.spec_job.proofs.CountingLemmas.{step-low, unopened-low}
+use Rattle.spec_job.proofs.FinishLemmas.{settled-leaves, finished-leaves}
 use Rattle.spec_job.proofs.LeftLemmas.{IsTidy, step-tidy, solo-tidy}
 use Rattle.spec_job.proofs.LowLemmas.{IsOutLow, IsLowSolo}
 use Rattle.spec_job.proofs.PlacesLemmas.{get-vacant, set-place, set-here, out-within}
@@ -114,27 +111,7 @@ IsKnownIn i last s = IsKnown s.ask.profile i last s.log (place_at s i)
 
 -- answers change none of it
 settled-known : (i : ℕ) (last : List JournalEntry) (o : Option ℕ) (s : SoloMachine) → IsKnownIn i last s → IsKnownIn i last (settled_by o s)
-settled-known i last None s h = h
-settled-known i last (Some goal) s h = h
-
-spend-known : (i : ℕ) (last : List JournalEntry) (s : SoloMachine) → IsKnownIn i last s → IsKnownIn i last (spend s)
-spend-known i last s h = by_test (s.spent + 1 == s.ask.slices)
-  where
-    by_test : (b : Bool) → IsKnownIn i last (cond b (answered s (Spent s.ask.slices)) (record s { spent = s.spent + 1 }))
-    by_test true = h
-    by_test false = h
-
-starve-known : (i : ℕ) (last : List JournalEntry) (s : SoloMachine) → IsKnownIn i last s → IsKnownIn i last (starve s)
-starve-known i last s h = by_test (s.starved + 1 == 3)
-  where
-    by_test : (b : Bool) → IsKnownIn i last (cond b (answered s OutOfStarts) (record s { starved = s.starved + 1 }))
-    by_test true = h
-    by_test false = h
-
-conclude-known : (i : ℕ) (last : List JournalEntry) (v : Option Verdict) (n : Node) (s : SoloMachine) → IsKnownIn i last s → IsKnownIn i last (conclude v n s)
-conclude-known i last None n s h = spend-known i last s h
-conclude-known i last (Some Satisfiable) n s h = h
-conclude-known i last (Some (Unsatisfiable goal)) n s h = h
+settled-known i last o s h = settled-leaves (IsKnownIn i last) (λ t more k. k) (λ t spent starved k. k) o s h
 
 -- a place that is set with the journal and the mark as they were
 same-known : (i j : ℕ) (last : List JournalEntry) (s : SoloMachine) (q : NodeSlot) → q.entries ≡ (place_at s j).entries → q.mark ≡ (place_at s j).mark → IsKnownIn i last s → IsKnown s.ask.profile i last s.log (get_or (slice_set s.places j q) i vacant)
@@ -215,31 +192,8 @@ ran-known i j last s l few out low h = by_place (set-place s.places j i q) (case
     by_place (inr k) (inl e) = subst (λ (n : ℕ). IsKnown s.ask.profile n last (s.log ++ lines) (get_or (slice_set s.places j q) n vacant)) (sym (eqb-true i j e)) (subst (IsKnown s.ask.profile j last (s.log ++ lines)) (sym (set-here s.places j q within)) (grown-own (subst (λ (n : ℕ). IsKnownIn n last s) (eqb-true i j e) h)))
     by_place (inr k) (inr e) = other (eqb-false i j e) k
 
-lease-known : (i j : ℕ) (last : List JournalEntry) (s : SoloMachine) (l : Lease) (o : Outcome) → i ≤ 63 → (place_at s j).out ≡ Some l → IsLowSolo s → IsKnownIn i last s → IsKnownIn i last (finished_lease s j (place_at s j) l o)
-lease-known i j last s l Ran few out low h = by_late (is_late s l)
-  where
-    ran : Sliced
-    ran = replay s.ask.profile j ((place_at s j).entries ++ l.adds)
-
-    home : SoloMachine
-    home = record (with_place s j (record (place_at s j) { entries = (place_at s j).entries ++ l.adds; out = None })) { log = s.log ++ ran.lines; ran = s.ran + 1 }
-
-    by_late : (b : Bool) → IsKnownIn i last (cond b home (conclude ran.node.verdict ran.node home))
-    by_late true = ran-known i j last s l few out low h
-    by_late false = conclude-known i last ran.node.verdict ran.node home (ran-known i j last s l few out low h)
-lease-known i j last s l Starved few out low h = by_late (is_late s l)
-  where
-    home : IsKnownIn i last (finished_home s j (place_at s j))
-    home = same-known i j last s (record (place_at s j) { out = None }) refl refl h
-
-    by_late : (b : Bool) → IsKnownIn i last (cond b (finished_home s j (place_at s j)) (starve (finished_home s j (place_at s j))))
-    by_late true = home
-    by_late false = starve-known i last (finished_home s j (place_at s j)) home
-lease-known i j last s l Lost few out low h = same-known i j last s (record (place_at s j) { out = None }) refl refl h
-
 finished-known : (i j : ℕ) (last : List JournalEntry) (s : SoloMachine) (out : Option Lease) (o : Outcome) → i ≤ 63 → (place_at s j).out ≡ out → IsLowSolo s → IsKnownIn i last s → IsKnownIn i last (finished s j (place_at s j) out o)
-finished-known i j last s None o few e low h = h
-finished-known i j last s (Some l) o few e low h = let ended : SoloMachine = finished_lease s j (place_at s j) l o in settled-known i last (first_empty ended.log) ended (lease-known i j last s l o few e low h)
+finished-known i j last s out o few e low h = finished-leaves (IsKnownIn i last) (λ t more k. k) (λ t spent starved k. k) s j (place_at s j) out o h (λ l f. ran-known i j last s l few (e ∙ f) low h) (same-known i j last s (record (place_at s j) { out = None }) refl refl h)
 
 -- an exchange
 pub marked-at : (volume mark k : ℕ) (ps : List NodeSlot) (i : ℕ) → i < length ps → get_or (marked_from volume mark k ps) i vacant ≡ cond (takes_part volume (k + i) (get_or ps i vacant)) (record (get_or ps i vacant) { mark = mark }) (get_or ps i vacant)

@@ -1,12 +1,12 @@
 -- Finishes of a machine whose log is derived, and each of its events.
-use Rattle.std.proofs.Common.{◌≡◌, ℕ, ◌+◌, ◌<◌, ◌≤◌, Bool, true, false, cond, List, [], ◌∷◌, ◌++◌, length, take, Option, Some, None, inl, refl, sym, ◌∙◌, ap, subst, arith, append-nil}
+use Rattle.std.proofs.Common.{◌≡◌, ℕ, ◌+◌, ◌<◌, ◌≤◌, true, List, [], ◌∷◌, ◌++◌, length, take, Option, Some, None, inl, refl, sym, ◌∙◌, ap, subst, arith, append-nil}
 use Rattle.std.specs.Prelude.{slice_set}
 use Rattle.std.proofs.lemmas.List.Elements.{All-nil}
 use Rattle.mal_base.specs.Asks.{Terms}
 use Rattle.mal_base.specs.NumberedClause.{Line}
 use Rattle.mal_base.specs.declared.verdict.Verdict.TheVariants.{Unsatisfiable}
 use Rattle.mal_base.specs.declared.verdict.Outcome.{Outcome}
-use Rattle.mal_base.specs.declared.verdict.Outcome.TheVariants.{Ran, Starved, Lost}
+use Rattle.mal_base.specs.declared.verdict.Outcome.TheVariants.{Starved}
 use Rattle.spec_logic.specs.Refutation.{contradicts}
 use Rattle.spec_node.specs.State.{Node}
 use Rattle.spec_search.specs.Slice.{Sliced, slice}
@@ -15,9 +15,10 @@ use Rattle.spec_search.proofs.LineLemmas.{slice-refutes}
 use Rattle.spec_proof.proofs.Among.{Among}
 use Rattle.spec_proof.proofs.LogLemmas.{log-empty}
 use Rattle.spec_job.specs.Journal.{replay}
-use Rattle.spec_job.specs.SoloMachine.{Own, Opened, Revised, Closed, Volume, Started, Finished, Exchanged, Lease, NodeSlot, SoloMachine, unopened, solo_step, place_at, with_place, starve, conclude, first_empty, is_late, finished_ran, finished_home, finished_lease, finished}
+use Rattle.spec_job.specs.SoloMachine.{Own, Opened, Revised, Closed, Volume, Started, Finished, Exchanged, Lease, NodeSlot, SoloMachine, unopened, solo_step, place_at, first_empty, settled, finished_ran, finished_home, finished_lease, finished}
 use Rattle.spec_job.specs.Runnable.{MayHappen}
 use Rattle.spec_job.proofs.LoadedLemmas.{last_assumed}
+use Rattle.spec_job.proofs.FinishLemmas.{slice_of, ran_home, by-ran, by-starved, by-outcome, by-lease}
 use Rattle.spec_job.proofs.PlacesLemmas.{get-vacant, out-within}
 use Rattle.spec_job.proofs.SolvingLemmas.{IsSolvingSolo, out-leased}
 use Rattle.spec_job.proofs.PostingLemmas.{posted-solving}
@@ -65,41 +66,21 @@ out-low s i l out k = let inside : i < length s.places = out-within s.places i l
 
 -- a slice that was run
 ran-deriving : (s : SoloMachine) (i : ℕ) (l : Lease) → (place_at s i).out ≡ Some l → IsSolvingSolo s → IsDerivingSolo s → IsDerivingSolo (finished_ran s i (place_at s i) l)
-ran-deriving s i l out k h = by_late (is_late s l) refl
-  where
-    p : NodeSlot
-    p = place_at s i
-
-    node : Node
-    node = (replay s.ask.profile i (p.entries ++ l.adds)).node
-
-    home : SoloMachine
-    home = record (with_place s i (record p { entries = p.entries ++ l.adds; out = None })) { log = s.log ++ (replay s.ask.profile i (p.entries ++ l.adds)).lines; ran = s.ran + 1 }
-
-    at_home : IsDerivingSolo home
-    at_home = home-deriving s i l out k h
-
-    by_late : (b : Bool) → is_late s l ≡ b → IsDerivingSolo (cond b home (conclude node.verdict node home))
-    by_late true e = at_home
-    by_late false e = conclude-deriving node.verdict node home k.room (λ goal v. ran-refuted s i l goal out k h (out-low s i l out k) (in-time s l (out-leased s i l out k).reached e) v) at_home
+ran-deriving s i l out k h =
+    let node : Node = (slice_of s i (place_at s i) l).node in
+    let at_home : IsDerivingSolo (ran_home s i (place_at s i) l) = home-deriving s i l out k h in
+    by-ran IsDerivingSolo s i (place_at s i) l (λ late. at_home) (λ now. conclude-deriving node.verdict node (ran_home s i (place_at s i) l) k.room (λ goal v. ran-refuted s i l goal out k h (out-low s i l out k) (in-time s l (out-leased s i l out k).reached now) v) at_home)
 
 starved-deriving : (s : SoloMachine) (i : ℕ) (l : Lease) → IsSolvingSolo s → IsDerivingSolo s → IsDerivingSolo (finished_lease s i (place_at s i) l Starved)
-starved-deriving s i l k h = by_late (is_late s l)
-  where
-    by_late : (b : Bool) → IsDerivingSolo (cond b (finished_home s i (place_at s i)) (starve (finished_home s i (place_at s i))))
-    by_late true = idle-deriving s i h
-    by_late false = starve-deriving (finished_home s i (place_at s i)) k.room (idle-deriving s i h)
+starved-deriving s i l k h = by-starved IsDerivingSolo s i (place_at s i) l (λ late. idle-deriving s i h) (λ now. starve-deriving (finished_home s i (place_at s i)) k.room (idle-deriving s i h))
 
-lease-deriving : (s : SoloMachine) (i : ℕ) (l : Lease) (o : Outcome) → (place_at s i).out ≡ Some l → IsSolvingSolo s → IsDerivingSolo s → IsDerivingSolo (finished_lease s i (place_at s i) l o)
-lease-deriving s i l Ran e k h = ran-deriving s i l e k h
-lease-deriving s i l Starved e k h = starved-deriving s i l k h
-lease-deriving s i l Lost e k h = idle-deriving s i h
+ended-deriving : (s : SoloMachine) (i : ℕ) (l : Lease) (o : Outcome) → (place_at s i).out ≡ Some l → IsSolvingSolo s → IsDerivingSolo s → IsDerivingSolo (settled (finished_lease s i (place_at s i) l o))
+ended-deriving s i l o e k h =
+    let ended : SoloMachine = finished_lease s i (place_at s i) l o in
+    settled-deriving (first_empty ended.log) ended refl (lease-solving s i l o e k).room (by-outcome IsDerivingSolo s i (place_at s i) l o (ran-deriving s i l e k h) (starved-deriving s i l k h) (idle-deriving s i h))
 
 finished-deriving : (s : SoloMachine) (i : ℕ) (out : Option Lease) (o : Outcome) → (place_at s i).out ≡ out → IsSolvingSolo s → IsDerivingSolo s → IsDerivingSolo (finished s i (place_at s i) out o)
-finished-deriving s i None o e k h = h
-finished-deriving s i (Some l) o e k h =
-    let ended : SoloMachine = finished_lease s i (place_at s i) l o in
-    settled-deriving (first_empty ended.log) ended refl (lease-solving s i l o e k).room (lease-deriving s i l o e k h)
+finished-deriving s i out o e k h = by-lease IsDerivingSolo s i (place_at s i) out o h (λ l f. ended-deriving s i l o (e ∙ f) k h)
 
 -- the machine that is opened
 pub opened-deriving : (ask : Terms) → IsDerivingSolo (record unopened { ask = ask })

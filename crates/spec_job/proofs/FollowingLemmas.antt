@@ -1,19 +1,14 @@
 -- The journals of a machine that was run on own events that may happen can be replayed.
-use Rattle.std.proofs.Common.{◌≡◌, ℕ, ◌+◌, ◌≤◌, Bool, true, false, cond, ◌==◌, List, [], ◌∷◌, ◌++◌, length, get_or, Option, Some, None, inl, inr, ◌⊎◌, refl, sym, subst, append_assoc, append-nil}
+use Rattle.std.proofs.Common.{◌≡◌, ℕ, ◌+◌, ◌≤◌, true, List, [], ◌∷◌, ◌++◌, length, get_or, Option, Some, None, inl, inr, ◌⊎◌, refl, sym, ◌∙◌, subst, append_assoc, append-nil}
 use Rattle.std.specs.Prelude.{slice_set}
 use Rattle.std.proofs.lemmas.List.Sums.{fold_push}
 use Rattle.mal_base.specs.Asks.{Terms}
-use Rattle.mal_base.specs.declared.answer.Answer.TheVariants.{Spent, OutOfStarts}
-use Rattle.mal_base.specs.declared.verdict.Verdict.{Verdict}
-use Rattle.mal_base.specs.declared.verdict.Verdict.TheVariants.{Satisfiable, Unsatisfiable}
 use Rattle.mal_base.specs.declared.verdict.Outcome.{Outcome}
-use Rattle.mal_base.specs.declared.verdict.Outcome.TheVariants.{Ran, Starved, Lost}
-use Rattle.spec_node.specs.State.{Node}
-use Rattle.spec_search.specs.Slice.{Sliced}
 use Rattle.spec_job.specs.Journal.{replay}
-use Rattle.spec_job.specs.SoloMachine.{Own, Opened, Revised, Closed, Volume, Started, Finished, Exchanged, Lease, NodeSlot, vacant, SoloMachine, unopened, solo, solo_step, place_at, with_place, startable, answered, starve, conclude, first_empty, settled_by, is_late, finished_home, finished_lease, finished}
+use Rattle.spec_job.specs.SoloMachine.{Own, Opened, Revised, Closed, Volume, Started, Finished, Exchanged, Lease, NodeSlot, vacant, SoloMachine, unopened, solo, solo_step, place_at, startable, first_empty, settled_by, finished_home, finished}
 use Rattle.spec_job.specs.Runnable.{MayHappen, IsRunnable}
 use Rattle.spec_job.specs.Following.{MayAllFollow, JournalsFollow, RunnableJournalsFollow}
+use Rattle.spec_job.proofs.FinishLemmas.{settled-leaves, finished-leaves}
 use Rattle.spec_job.proofs.PlacesLemmas.{get-vacant, set-place, all-marked}
 use Rattle.spec_job.proofs.SolvingLemmas.{lease_of, live-parts}
 use Rattle.spec_job.proofs.KeptLemmas.{MachineInvariant, step-kept, unopened-kept}
@@ -39,8 +34,7 @@ abbrev AreFollowedIn : SoloMachine → Type 0
 AreFollowedIn s = AreFollowed s.ask.profile s.places
 
 settled-followed : (o : Option ℕ) (s : SoloMachine) → AreFollowedIn s → AreFollowedIn (settled_by o s)
-settled-followed None s h = h
-settled-followed (Some goal) s h = h
+settled-followed o s h = settled-leaves AreFollowedIn (λ t more k. k) (λ t spent starved k. k) o s h
 
 started-followed : (s : SoloMachine) (i : ℕ) → startable s i ≡ true → MachineInvariant s → AreFollowedIn s → AreFollowedIn (solo_step s (Started i))
 started-followed s i may k h = set-followed s.ask.profile s.places i (record (place_at s i) { out = Some (lease_of s i); starts = (place_at s i).starts + 1 }) (λ low. record {
@@ -54,44 +48,8 @@ home-followed s i h = set-followed s.ask.profile s.places i (record (place_at s 
 ran-followed : (s : SoloMachine) (i : ℕ) (l : Lease) → (place_at s i).out ≡ Some l → AreFollowedIn s → AreFollowed s.ask.profile (slice_set s.places i (record (place_at s i) { entries = (place_at s i).entries ++ l.adds; out = None }))
 ran-followed s i l e h = set-followed s.ask.profile s.places i (record (place_at s i) { entries = (place_at s i).entries ++ l.adds; out = None }) (λ low. record { home = follow-append (place_at s i).entries l.adds (replay s.ask.profile i []) (h i low).home ((h i low).out l e); out = λ x q. absurd (cc) }) h
 
-conclude-followed : (v : Option Verdict) (n : Node) (s : SoloMachine) → AreFollowedIn s → AreFollowedIn (conclude v n s)
-conclude-followed None n s h = by_test (s.spent + 1 == s.ask.slices)
-  where
-    by_test : (b : Bool) → AreFollowedIn (cond b (answered s (Spent s.ask.slices)) (record s { spent = s.spent + 1 }))
-    by_test true = h
-    by_test false = h
-conclude-followed (Some Satisfiable) n s h = h
-conclude-followed (Some (Unsatisfiable goal)) n s h = h
-
-lease-followed : (s : SoloMachine) (i : ℕ) (l : Lease) (o : Outcome) → (place_at s i).out ≡ Some l → AreFollowedIn s → AreFollowedIn (finished_lease s i (place_at s i) l o)
-lease-followed s i l Ran e h = by_late (is_late s l)
-  where
-    ran : Sliced
-    ran = replay s.ask.profile i ((place_at s i).entries ++ l.adds)
-
-    home : SoloMachine
-    home = record (with_place s i (record (place_at s i) { entries = (place_at s i).entries ++ l.adds; out = None })) { log = s.log ++ ran.lines; ran = s.ran + 1 }
-
-    by_late : (b : Bool) → AreFollowedIn (cond b home (conclude ran.node.verdict ran.node home))
-    by_late true = ran-followed s i l e h
-    by_late false = conclude-followed ran.node.verdict ran.node home (ran-followed s i l e h)
-lease-followed s i l Starved e h = by_late (is_late s l)
-  where
-    home : SoloMachine
-    home = finished_home s i (place_at s i)
-
-    by_test : (b : Bool) → AreFollowedIn (cond b (answered home OutOfStarts) (record home { starved = home.starved + 1 }))
-    by_test true = home-followed s i h
-    by_test false = home-followed s i h
-
-    by_late : (b : Bool) → AreFollowedIn (cond b home (starve home))
-    by_late true = home-followed s i h
-    by_late false = by_test (home.starved + 1 == 3)
-lease-followed s i l Lost e h = home-followed s i h
-
 finished-followed : (s : SoloMachine) (i : ℕ) (out : Option Lease) (o : Outcome) → (place_at s i).out ≡ out → AreFollowedIn s → AreFollowedIn (finished s i (place_at s i) out o)
-finished-followed s i None o e h = h
-finished-followed s i (Some l) o e h = let ended : SoloMachine = finished_lease s i (place_at s i) l o in settled-followed (first_empty ended.log) ended (lease-followed s i l o e h)
+finished-followed s i out o e h = finished-leaves AreFollowedIn (λ t more k. k) (λ t spent starved k. k) s i (place_at s i) out o h (λ l f. ran-followed s i l (e ∙ f) h) (home-followed s i h)
 
 -- the machine that is opened
 opened-followed : (ask : Terms) → AreFollowedIn (record unopened { ask = ask })

@@ -14,7 +14,8 @@ use Rattle.spec_node.specs.Model.{model_of}
 use Rattle.spec_search.specs.Slice.{Sliced}
 use Rattle.spec_job.specs.Journal.{replay}
 use Rattle.spec_job.specs.Left.{left_of, after_start, StartsLeaveLess, LeftFalls}
-use Rattle.spec_job.specs.SoloMachine.{Own, Opened, Revised, Closed, Volume, Started, Finished, Exchanged, Lease, NodeSlot, SoloMachine, unopened, solo, solo_step, place_at, with_place, answered, spend, starve, conclude, first_empty, settled_by, settled, is_late, finished_home, finished_lease, finished, startable, vacant, out_count, is_live}
+use Rattle.spec_job.specs.SoloMachine.{Own, Opened, Revised, Closed, Volume, Started, Finished, Exchanged, Lease, NodeSlot, SoloMachine, unopened, solo, solo_step, place_at, with_place, answered, spend, starve, conclude, first_empty, settled_by, settled, is_late, finished_ran, finished_home, finished_lease, finished, startable, vacant, out_count, is_live}
+use Rattle.spec_job.proofs.FinishLemmas.{with_entries, slice_of, ran_home, by-ran, by-starved, by-outcome}
 use Rattle.spec_job.proofs.FewLemmas.{next-budget}
 use Rattle.spec_job.proofs.PlacesLemmas.{marked-length, set-here}
 use Rattle.spec_job.proofs.SolvingLemmas.{live-parts, lease_of}
@@ -71,32 +72,19 @@ placed : (s : SoloMachine) (i : ℕ) (p : NodeSlot) → HasPlaces s → HasPlace
 placed s i p h = record { count = length-set s.places i p ∙ h.count; starved = h.starved }
 
 lease-places : (s : SoloMachine) (i : ℕ) (p : NodeSlot) (l : Lease) (o : Outcome) → HasPlaces s → HasPlaces (finished_lease s i p l o)
-lease-places s i p l Ran h = by_late (is_late s l)
+lease-places s i p l o h = by-outcome HasPlaces s i p l o ran starved home
   where
-    slice : Sliced
-    slice = replay s.ask.profile i (p.entries ++ l.adds)
+    back : HasPlaces (ran_home s i p l)
+    back = record { count = length-set s.places i (with_entries p l) ∙ h.count; starved = h.starved }
 
-    home : SoloMachine
-    home = record (with_place s i (record p { entries = p.entries ++ l.adds; out = None })) { log = s.log ++ slice.lines; ran = s.ran + 1 }
+    ran : HasPlaces (finished_ran s i p l)
+    ran = by-ran HasPlaces s i p l (λ late. back) (λ now. conclude-places (slice_of s i p l).node.verdict (slice_of s i p l).node (ran_home s i p l) back)
 
-    same : HasPlaces home
-    same = record { count = length-set s.places i (record p { entries = p.entries ++ l.adds; out = None }) ∙ h.count; starved = h.starved }
+    home : HasPlaces (finished_home s i p)
+    home = placed s i (record p { out = None }) h
 
-    by_late : (b : Bool) → HasPlaces (cond b home (conclude slice.node.verdict slice.node home))
-    by_late true = same
-    by_late false = conclude-places slice.node.verdict slice.node home same
-lease-places s i p l Starved h = by_late (is_late s l)
-  where
-    home : SoloMachine
-    home = finished_home s i p
-
-    same : HasPlaces home
-    same = placed s i (record p { out = None }) h
-
-    by_late : (b : Bool) → HasPlaces (cond b home (starve home))
-    by_late true = same
-    by_late false = starve-places home same
-lease-places s i p l Lost h = placed s i (record p { out = None }) h
+    starved : HasPlaces (finished_lease s i p l Starved)
+    starved = by-starved HasPlaces s i p l (λ late. home) (λ now. starve-places (finished_home s i p) home)
 
 finished-tidy : (s : SoloMachine) (i : ℕ) (p : NodeSlot) (out : Option Lease) (o : Outcome) → IsTidy s → IsTidy (finished s i p out o)
 finished-tidy s i p None o h = h

@@ -1,5 +1,6 @@
 -- what crates above cite
 pub mod StepLemmas
+pub mod FinishLemmas
 pub mod LoadedLemmas
 pub mod PlacesLemmas
 pub mod SolvingLemmas

@@ -1,5 +1,5 @@
 -- A job that is opened once runs no more slices than its budgets.
-use Rattle.std.proofs.Common.{◌≡◌, ℕ, ◌+◌, ◌*◌, ◌<◌, ◌≤◌, Bool, true, false, cond, List, [], ◌∷◌, ◌++◌, length, Option, Some, None, inl, inr, ◌⊎◌, refl, sym, subst, arith, append_assoc, append-nil, length-append}
+use Rattle.std.proofs.Common.{◌≡◌, ℕ, ◌+◌, ◌*◌, ◌<◌, ◌≤◌, Bool, true, false, List, [], ◌∷◌, ◌++◌, length, Option, Some, None, inl, inr, ◌⊎◌, refl, sym, subst, arith, append_assoc, append-nil, length-append}
 use Rattle.std.specs.List.{list_any}
 use Rattle.std.proofs.lemmas.Bool.{or_parts, ltb-true, cases_lt}
 use Rattle.std.proofs.lemmas.List.Sums.{fold_push}
@@ -7,10 +7,10 @@ use Rattle.mal_base.specs.Asks.{Terms}
 use Rattle.mal_base.specs.declared.verdict.Outcome.{Outcome}
 use Rattle.mal_base.specs.declared.verdict.Outcome.TheVariants.{Ran, Starved, Lost}
 use Rattle.spec_search.specs.Slice.{Sliced}
-use Rattle.spec_job.specs.Journal.{replay}
-use Rattle.spec_job.specs.SoloMachine.{Own, Opened, Revised, Closed, Volume, Started, Finished, Exchanged, Lease, NodeSlot, SoloMachine, unopened, solo, solo_step, place_at, with_place, starve, conclude, first_empty, is_late, finished_home, finished_lease, finished, exchanged, marked_from}
+use Rattle.spec_job.specs.SoloMachine.{Own, Opened, Revised, Closed, Volume, Started, Finished, Exchanged, Lease, NodeSlot, SoloMachine, unopened, solo, solo_step, place_at, first_empty, is_late, finished_home, finished_lease, finished, exchanged, marked_from}
 use Rattle.spec_job.specs.Runnable.{MayHappen, IsRunnable}
 use Rattle.spec_job.specs.Counts.{runs_in, runs_of, starts_out, is_opening, RunsAreFew}
+use Rattle.spec_job.proofs.FinishLemmas.{with_entries, slice_of, ran_home, ran_now, by-ran, by-starved}
 use Rattle.spec_job.proofs.PlacesLemmas.{out-within}
 use Rattle.spec_job.proofs.SolvingLemmas.{IsSolvingSolo, out-leased}
 use Rattle.spec_job.proofs.SolvedLemmas.{lease-solving, in-time}
@@ -59,36 +59,24 @@ module _ (slices i : ℕ) (s : SoloMachine) (l : Lease) (out : (place_at s i).ou
       by_late false e = now-few slices 0 i s l q s.log s.ran out refl same h refl (current e)
 
   starved-few : IsFew slices (finished_lease s i (place_at s i) l Starved)
-  starved-few = by_late (is_late s l) refl
-    where
-      home : SoloMachine
-      home = finished_home s i (place_at s i)
-
-      same : runs_in (place_at s i).entries ≡ runs_in (place_at s i).entries + 0
-      same = omega arith
-
-      by_late : (b : Bool) → is_late s l ≡ b → IsFew slices (cond b home (starve home))
-      by_late true e = home-few
-      by_late false e = starve-few slices home (now-back slices 0 i s l (record (place_at s i) { out = None }) s.log s.ran out refl same h (omega arith) (current e) (open_now e) k) home-few
+  starved-few =
+      let same : runs_in (place_at s i).entries ≡ runs_in (place_at s i).entries + 0 = omega arith in
+      by-starved (IsFew slices) s i (place_at s i) l (λ late. home-few) (λ e. starve-few slices (finished_home s i (place_at s i)) (now-back slices 0 i s l (record (place_at s i) { out = None }) s.log s.ran out refl same h (omega arith) (current e) (open_now e) k) home-few)
 
   ran-few : runs_in ((place_at s i).entries ++ l.adds) ≡ runs_in (place_at s i).entries + 1 → IsFew slices (finished_lease s i (place_at s i) l Ran)
-  ran-few more = by_late (is_late s l) refl
+  ran-few one = by-ran (IsFew slices) s i (place_at s i) l (λ e. late-few slices 1 i s l q log (s.ran + 1) out refl one h (omega arith) (late-now s l e)) now
     where
       q : NodeSlot
-      q = record (place_at s i) { entries = (place_at s i).entries ++ l.adds; out = None }
+      q = with_entries (place_at s i) l
 
-      slice : Sliced
-      slice = replay s.ask.profile i q.entries
+      ran : Sliced
+      ran = slice_of s i (place_at s i) l
 
       log : List Line
-      log = s.log ++ slice.lines
+      log = s.log ++ ran.lines
 
-      home : SoloMachine
-      home = record (with_place s i q) { log = log; ran = s.ran + 1 }
-
-      by_late : (b : Bool) → is_late s l ≡ b → IsFew slices (cond b home (conclude slice.node.verdict slice.node home))
-      by_late true e = late-few slices 1 i s l q log (s.ran + 1) out refl more h (omega arith) (late-now s l e)
-      by_late false e = conclude-few slices slice.node.verdict slice.node home (now-back slices 1 i s l q log (s.ran + 1) out refl more h (omega arith) (current e) (open_now e) k)
+      now : is_late s l ≡ false → IsFew slices (ran_now s i (place_at s i) l)
+      now e = conclude-few slices ran.node.verdict ran.node (ran_home s i (place_at s i) l) (now-back slices 1 i s l q log (s.ran + 1) out refl one h (omega arith) (current e) (open_now e) k)
 
 lease-few : (slices i : ℕ) (s : SoloMachine) (l : Lease) (o : Outcome) → (place_at s i).out ≡ Some l → IsSolvingSolo s → IsLowSolo s → IsFew slices s → IsFew slices (finished_lease s i (place_at s i) l o)
 lease-few slices i s l Ran out k low h =

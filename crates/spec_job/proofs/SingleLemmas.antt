@@ -69,8 +69,8 @@ revised-along profile slices n s r k h = by_stand h.stands
     same = course-more profile slices s.revisions (r ∷ []) n h.went
 
     with-stand : (o : Option ℕ) → IsOpen (settled_by o t) c ⊎ ((goal : ℕ) × IsSettled (settled_by o t) c goal) → IsAlong profile slices (settled_by o t) n
-    with-stand None x = record { budget = h.budget; solvers = h.solvers; low = h.low; untold = h.untold; some = h.some; others = h.others; went = went-more profile slices s.revisions (r ∷ []) n h.went; stands = subst (λ (d : Course). IsOpen t d ⊎ ((goal : ℕ) × IsSettled t d goal)) (sym same) x }
-    with-stand (Some g) x = record { budget = h.budget; solvers = h.solvers; low = h.low; untold = h.untold; some = h.some; others = h.others; went = went-more profile slices s.revisions (r ∷ []) n h.went; stands = subst (λ (d : Course). IsOpen (settled_by (Some g) t) d ⊎ ((goal : ℕ) × IsSettled (settled_by (Some g) t) d goal)) (sym same) x }
+    with-stand None x = record { alone = h.alone; went = went-more profile slices s.revisions (r ∷ []) n h.went; stands = subst (λ (d : Course). IsOpen t d ⊎ ((goal : ℕ) × IsSettled t d goal)) (sym same) x }
+    with-stand (Some g) x = record { alone = h.alone; went = went-more profile slices s.revisions (r ∷ []) n h.went; stands = subst (λ (d : Course). IsOpen (settled_by (Some g) t) d ⊎ ((goal : ℕ) × IsSettled (settled_by (Some g) t) d goal)) (sym same) x }
 
     by_stand : IsOpen s c ⊎ ((goal : ℕ) × IsSettled s c goal) → IsAlong profile slices (settled_by (first_empty s.log) t) n
     by_stand (inl x) =
@@ -85,7 +85,7 @@ started-on : (profile slices n i : ℕ) (s : SoloMachine) → startable s i ≡ 
 started-on profile slices n zero s may h = started-along profile slices n s (live-parts s 0 may) h
 started-on profile slices n (suc i) s may h =
     let low : suc i < s.volume = ltb-true (suc i) s.volume (and_parts (is_live s) (nat_lt (suc i) s.volume) (and_parts (is_live s && nat_lt (suc i) s.volume) _ may).0).1 in
-    let one : s.volume ≤ 1 = h.low in
+    let one : s.volume ≤ 1 = h.alone.low in
     absurd (omega arith)
 
 -- a finish of the start that is out
@@ -117,18 +117,18 @@ finished-on profile slices n s (Some l) o m e k after h = by_stand h.stands
 
 finish-on : (profile slices n i : ℕ) (s : SoloMachine) (o : Outcome) → had_memory o ≡ true → IsSolvingSolo s → IsSolvingSolo (solo_step s (Finished i o)) → IsAlong profile slices s n → GoesOneOn profile slices n (solo_step s (Finished i o))
 finish-on profile slices n zero s o m k after h = finished-on profile slices n s (place_at s 0).out o m refl k after h
-finish-on profile slices n (suc i) s o m k after h = subst (λ (out : Option Lease). GoesOneOn profile slices n (finished s (suc i) (place_at s (suc i)) out o)) (sym (h.others i)) (n, omega arith, h)
+finish-on profile slices n (suc i) s o m k after h = subst (λ (out : Option Lease). GoesOneOn profile slices n (finished s (suc i) (place_at s (suc i)) out o)) (sym (h.alone.others i)) (n, omega arith, h)
 
 -- each event of a job that one node runs
 pub step-on : (profile slices n : ℕ) (s : SoloMachine) (o : Own) → MayHappen s o → is_single o ≡ true → MachineInvariant s → MachineInvariant (solo_step s o) → IsAlong profile slices s n → GoesOneOn profile slices n (solo_step s o)
 step-on profile slices n s (Opened ask) may single k after h = absurd (false≢true single)
 step-on profile slices n s (Revised r) may single k after h = (n, omega arith, revised-along profile slices n s r k.solving h)
-step-on profile slices n s Closed may single k after h = (n, omega arith, record { budget = h.budget; solvers = h.solvers; low = h.low; untold = h.untold; some = h.some; others = h.others; went = h.went; stands = same-stand h.stands })
+step-on profile slices n s Closed may single k after h = (n, omega arith, record { alone = h.alone; went = h.went; stands = same-stand h.stands })
   where
     same-stand : IsOpen s (course profile slices s.revisions n) ⊎ ((goal : ℕ) × IsSettled s (course profile slices s.revisions n) goal) → IsOpen (record s { closed = true }) (course profile slices s.revisions n) ⊎ ((goal : ℕ) × IsSettled (record s { closed = true }) (course profile slices s.revisions n) goal)
     same-stand (inl x) = inl (record { none = x.none; same = x.same; leased = x.leased })
     same-stand (inr (goal, x)) = inr (goal, record { found = x.found; log = x.log; idle = x.idle; all = x.all; come = x.come })
-step-on profile slices n s (Volume v) may single k after h = (n, omega arith, record { budget = h.budget; solvers = h.solvers; low = leb-true v 1 single; untold = h.untold; some = h.some; others = h.others; went = h.went; stands = same-stand h.stands })
+step-on profile slices n s (Volume v) may single k after h = (n, omega arith, record { alone = record { budget = h.alone.budget; solvers = h.alone.solvers; low = leb-true v 1 single; untold = h.alone.untold; some = h.alone.some; others = h.alone.others }; went = h.went; stands = same-stand h.stands })
   where
     same-stand : IsOpen s (course profile slices s.revisions n) ⊎ ((goal : ℕ) × IsSettled s (course profile slices s.revisions n) goal) → IsOpen (record s { volume = v }) (course profile slices s.revisions n) ⊎ ((goal : ℕ) × IsSettled (record s { volume = v }) (course profile slices s.revisions n) goal)
     same-stand (inl x) = inl (record { none = x.none; same = x.same; leased = x.leased })
@@ -157,12 +157,7 @@ opened-follows ask = record {
   on = (
     0,
     record {
-      budget = refl;
-      solvers = refl;
-      low = omega arith;
-      untold = refl;
-      some = omega arith;
-      others = λ i. ap (λ (p : NodeSlot). p.out) (get-vacant 64 (suc i));
+      alone = record { budget = refl; solvers = refl; low = omega arith; untold = refl; some = omega arith; others = λ i. ap (λ (p : NodeSlot). p.out) (get-vacant 64 (suc i)) };
       went = tt;
       stands = inl (record { none = refl; same = refl; leased = λ l e. absurd (cc) });
     },
@@ -197,7 +192,7 @@ on-logs profile slices s t more e (n, h) (m, k) = courses-logs profile slices (s
 following-agree : (profile slices : ℕ) (s t : SoloMachine) (more : List Posted) → t.revisions ≡ s.revisions ++ more → IsFollowing profile slices s → IsFollowing profile slices t → AgreeAll s t
 following-agree profile slices s t more e h k =
     let agree : Agree s.answers t.answers = on-agree profile slices s t more e h.on k.on in
-    record { answers = agree; replies = replies-agree s t more e (h.on.1.solvers ∙ sym k.on.1.solvers) h.kept k.kept (on-logs profile slices s t more e h.on k.on) agree }
+    record { answers = agree; replies = replies-agree s t more e (h.on.1.alone.solvers ∙ sym k.on.1.alone.solvers) h.kept k.kept (on-logs profile slices s t more e h.on k.on) agree }
 
 pub singles-agree : SinglesAgree
 singles-agree ask asked own others more budget solvers one other front = following-agree ask.profile ask.slices (solo (Opened ask ∷ own)) (solo (Opened asked ∷ others)) more front (single-follows ask own one) (subst (λ (p : ℕ). IsFollowing p ask.slices (solo (Opened asked ∷ others))) (sym solvers) (subst (λ (k : ℕ). IsFollowing asked.profile k (solo (Opened asked ∷ others))) (sym budget) (single-follows asked others other)))

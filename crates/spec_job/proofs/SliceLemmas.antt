@@ -3,37 +3,18 @@ use Rattle.std.proofs.Common.{◌≡◌, ℕ, suc, ◌+◌, ◌<◌, ◌≤◌, 
 use Rattle.std.specs.Prelude.{slice_set}
 use Rattle.std.proofs.lemmas.Bool.{le-ltb}
 use Rattle.mal_base.specs.declared.answer.Answer.TheVariants.{Spent}
+use Rattle.mal_base.specs.declared.answer.Answer.{Answer}
 use Rattle.mal_base.specs.declared.verdict.Verdict.{Verdict}
 use Rattle.mal_base.specs.declared.verdict.Verdict.TheVariants.{Satisfiable, Unsatisfiable}
-use Rattle.mal_base.specs.Asks.{Terms}
 use Rattle.mal_revision.specs.Posted.{Posted}
 use Rattle.spec_node.specs.State.{Node}
 use Rattle.spec_search.specs.Slice.{Sliced}
 use Rattle.spec_job.specs.Journal.{JournalEntry, replay, loads_in}
-use Rattle.spec_job.specs.SoloMachine.{Lease, NodeSlot, vacant, SoloMachine, place_at, with_place, answered, spend, conclude, is_late, finished_ran, finished_home}
+use Rattle.spec_job.specs.SoloMachine.{Lease, NodeSlot, vacant, SoloMachine, place_at, with_place, answered, conclude, is_late, finished_ran, finished_home}
 use Rattle.spec_job.proofs.SolvingLemmas.{IsSolvingSolo}
 use Rattle.spec_job.proofs.CourseLemmas.{Course, concluded, next_adds, ran_on, course, GoesOn, WentOn}
-use Rattle.spec_job.proofs.AlongLemmas.{course_of, lease_from, IsOpen, IsAlong, IsThere, others-stay, some-stay, set-first}
-
--- what an answer leaves of a machine
-pub record KeepsRest (s t : SoloMachine) : Type 0 where
-  pub ask : t.ask ≡ s.ask
-  pub volume : t.volume ≡ s.volume
-  pub revisions : t.revisions ≡ s.revisions
-  pub places : t.places ≡ s.places
-  pub broadcasts : t.broadcasts ≡ s.broadcasts
-
-spend-rest : (s : SoloMachine) → KeepsRest s (spend s)
-spend-rest s = by_test (s.spent + 1 == s.ask.slices)
-  where
-    by_test : (b : Bool) → KeepsRest s (cond b (answered s (Spent s.ask.slices)) (record s { spent = s.spent + 1 }))
-    by_test true = record { ask = refl; volume = refl; revisions = refl; places = refl; broadcasts = refl }
-    by_test false = record { ask = refl; volume = refl; revisions = refl; places = refl; broadcasts = refl }
-
-pub conclude-rest : (v : Option Verdict) (n : Node) (s : SoloMachine) → KeepsRest s (conclude v n s)
-conclude-rest None n s = spend-rest s
-conclude-rest (Some Satisfiable) n s = record { ask = refl; volume = refl; revisions = refl; places = refl; broadcasts = refl }
-conclude-rest (Some (Unsatisfiable goal)) n s = record { ask = refl; volume = refl; revisions = refl; places = refl; broadcasts = refl }
+use Rattle.spec_job.proofs.AlongLemmas.{course_of, lease_from, IsOpen, IsAlong, IsAloneSolo, IsThere, alone-set, set-first}
+use Rattle.spec_job.proofs.FinishLemmas.{conclude-leaves}
 
 -- what a verdict makes of the machine it makes of the course
 conclude-course : (v : Option Verdict) (n : Node) (s : SoloMachine) → course_of (conclude v n s) ≡ concluded v n s.ask.slices (course_of s)
@@ -74,8 +55,12 @@ module _ (profile slices n : ℕ) (s : SoloMachine) (k : IsSolvingSolo s) (h : I
   abbrev t : SoloMachine
   t = conclude ran.node.verdict ran.node home
 
-  rest : KeepsRest home t
-  rest = conclude-rest ran.node.verdict ran.node home
+  -- an answer leaves the rest
+  unanswered : (P : SoloMachine → Type 0) → ((m : SoloMachine) (answers : List Answer) → P m → P (record m { answers = m.answers ++ answers; spent = 0; starved = 0 })) → ((m : SoloMachine) (spent starved : ℕ) → P m → P (record m { spent = spent; starved = starved })) → P home → P t
+  unanswered P more counted at = conclude-leaves P more counted ran.node.verdict ran.node home at
+
+  revised : s.revisions ≡ t.revisions
+  revised = unanswered (λ m. s.revisions ≡ m.revisions) (λ m more e. e) (λ m spent starved e. e) refl
 
   on : GoesOn s.revisions c
   on = record {
@@ -85,25 +70,20 @@ module _ (profile slices n : ℕ) (s : SoloMachine) (k : IsSolvingSolo s) (h : I
   }
 
   here : get_or (slice_set s.places 0 q) 0 vacant ≡ q
-  here = set-first s.places q h.some
+  here = set-first s.places q h.alone.some
 
   at-home : course_of home ≡ record { entries = p.entries ++ adds; log = s.log ++ ran.lines; answers = s.answers; spent = s.spent }
   at-home = ap (λ (x : NodeSlot). record { entries = x.entries; log = s.log ++ ran.lines; answers = s.answers; spent = s.spent }) here
 
   same : course_of t ≡ course profile slices s.revisions (suc n)
-  same = conclude-course ran.node.verdict ran.node home ∙ (ap (λ (x : ℕ). concluded ran.node.verdict ran.node x (course_of home)) h.budget ∙ (ap (concluded ran.node.verdict ran.node slices) at-home ∙ (ap (λ (x : ℕ). ran_on x slices adds (course_of s)) h.solvers ∙ ap (ran_on profile slices adds) stand.same)))
+  same = conclude-course ran.node.verdict ran.node home ∙ (ap (λ (x : ℕ). concluded ran.node.verdict ran.node x (course_of home)) h.alone.budget ∙ (ap (concluded ran.node.verdict ran.node slices) at-home ∙ (ap (λ (x : ℕ). ran_on x slices adds (course_of s)) h.alone.solvers ∙ ap (ran_on profile slices adds) stand.same)))
 
   there : IsThere profile slices t (suc n)
   there = record {
-    budget = ap (λ (a : Terms). a.slices) rest.ask ∙ h.budget;
-    solvers = ap (λ (a : Terms). a.profile) rest.ask ∙ h.solvers;
-    low = subst (λ (v : ℕ). v ≤ 1) (sym rest.volume) h.low;
-    untold = rest.broadcasts ∙ h.untold;
-    some = subst (λ (ps : List NodeSlot). 1 ≤ length ps) (sym rest.places) (some-stay s.places q h.some);
-    others = λ i. subst (λ (ps : List NodeSlot). (get_or ps (suc i) vacant).out ≡ None) (sym rest.places) (others-stay s.places q h.others i);
-    went = subst (λ (rs : List Posted). WentOn profile slices rs (suc n)) (sym rest.revisions) (h.went, on);
-    same = subst (λ (rs : List Posted). course_of t ≡ course profile slices rs (suc n)) (sym rest.revisions) same;
-    idle = subst (λ (ps : List NodeSlot). (get_or ps 0 vacant).out ≡ None) (sym rest.places) (ap (λ (x : NodeSlot). x.out) here);
+    alone = unanswered (IsAloneSolo profile slices) (λ m more a. a) (λ m spent starved a. a) (alone-set profile slices s q h.alone);
+    went = subst (λ (rs : List Posted). WentOn profile slices rs (suc n)) revised (h.went, on);
+    same = subst (λ (rs : List Posted). course_of t ≡ course profile slices rs (suc n)) revised same;
+    idle = unanswered (λ m. (place_at m 0).out ≡ None) (λ m more e. e) (λ m spent starved e. e) (ap (λ (x : NodeSlot). x.out) here);
   }
 
   in-time : is_late s lease ≡ false
@@ -124,14 +104,9 @@ lease-there profile slices n s l out k h stand =
 pub home-there : (profile slices n : ℕ) (s : SoloMachine) → IsAlong profile slices s n → IsOpen s (course profile slices s.revisions n) → IsThere profile slices (finished_home s 0 (place_at s 0)) n
 home-there profile slices n s h stand =
     let q : NodeSlot = record (place_at s 0) { out = None } in
-    let here : get_or (slice_set s.places 0 q) 0 vacant ≡ q = set-first s.places q h.some in
+    let here : get_or (slice_set s.places 0 q) 0 vacant ≡ q = set-first s.places q h.alone.some in
     record {
-      budget = h.budget;
-      solvers = h.solvers;
-      low = h.low;
-      untold = h.untold;
-      some = some-stay s.places q h.some;
-      others = others-stay s.places q h.others;
+      alone = alone-set profile slices s q h.alone;
       went = h.went;
       same = ap (λ (x : NodeSlot). record { entries = x.entries; log = s.log; answers = s.answers; spent = s.spent }) here ∙ stand.same;
       idle = ap (λ (x : NodeSlot). x.out) here;

@@ -9,16 +9,17 @@ use Rattle.mal_base.specs.declared.answer.Answer.TheVariants.{Satisfied, Refuted
 use Rattle.mal_base.specs.declared.verdict.Verdict.{Verdict}
 use Rattle.mal_base.specs.declared.verdict.Verdict.TheVariants.{Satisfiable, Unsatisfiable}
 use Rattle.mal_base.specs.declared.verdict.Outcome.{Outcome}
-use Rattle.mal_base.specs.declared.verdict.Outcome.TheVariants.{Ran, Starved, Lost}
+use Rattle.mal_base.specs.declared.verdict.Outcome.TheVariants.{Starved}
 use Rattle.mal_revision.specs.Posted.{Posted}
 use Rattle.spec_logic.specs.Logic.{satisfies, is_true_in}
 use Rattle.spec_node.specs.State.{Node}
 use Rattle.spec_node.specs.Model.{model_of}
 use Rattle.spec_job.specs.Journal.{replay, loads_in}
-use Rattle.spec_job.specs.SoloMachine.{Own, Opened, Revised, Closed, Volume, Started, Finished, Exchanged, Lease, NodeSlot, SoloMachine, unopened, solo_step, place_at, with_place, answered, spend, starve, conclude, first_empty, is_late, finished_ran, finished_home, finished_lease, finished}
+use Rattle.spec_job.specs.SoloMachine.{Own, Opened, Revised, Closed, Volume, Started, Finished, Exchanged, Lease, NodeSlot, SoloMachine, unopened, solo_step, place_at, answered, spend, starve, conclude, first_empty, is_late, finished_ran, finished_home, finished_lease, finished}
 use Rattle.spec_job.specs.Models.{clauses_of, AnswersSolve}
 use Rattle.spec_job.specs.Runnable.{MayHappen}
 use Rattle.spec_job.proofs.LoadedLemmas.{IsLoadable, last_assumed, Solves, HasLoaded, fresh-loaded, loaded-solves, last-at}
+use Rattle.spec_job.proofs.FinishLemmas.{with_entries, slice_of, ran_home, ran_now, by-ran, by-starved, by-outcome, by-lease}
 use Rattle.spec_job.proofs.PlacesLemmas.{get-vacant}
 use Rattle.spec_job.proofs.SolvingLemmas.{IsLeased, IsReady, IsSolvingSolo, placed-solving, MayLease, out-leased}
 use Rattle.spec_job.proofs.PostingLemmas.{answered-solving, settled-solving, revised-solving, started-solving, exchanged-solving}
@@ -64,7 +65,7 @@ in-time s l reached e = let b : length s.answers ≤ l.revision = ltb-false l.re
 
 -- a slice that was run
 ran-solving : (s : SoloMachine) (i : ℕ) (l : Lease) → (place_at s i).out ≡ Some l → IsSolvingSolo s → IsSolvingSolo (finished_ran s i (place_at s i) l)
-ran-solving s i l out h = by_late (is_late s l) refl
+ran-solving s i l out h = by-ran IsSolvingSolo s i p l (λ late. at_home) now
   where
     p : NodeSlot
     p = place_at s i
@@ -73,20 +74,16 @@ ran-solving s i l out h = by_late (is_late s l) refl
     leased = out-leased s i l out h
 
     node : Node
-    node = (replay s.ask.profile i (p.entries ++ l.adds)).node
+    node = (slice_of s i p l).node
 
-    home : SoloMachine
-    home = record (with_place s i (record p { entries = p.entries ++ l.adds; out = None })) { log = s.log ++ (replay s.ask.profile i (p.entries ++ l.adds)).lines; ran = s.ran + 1 }
+    at_home : IsSolvingSolo (ran_home s i p l)
+    at_home = placed-solving s.ask.profile s.revisions s.answers s.places i (with_entries p l) (λ low. home-ready s.ask.profile s.revisions (length s.answers) i p l leased) h
 
-    at_home : IsSolvingSolo home
-    at_home = placed-solving s.ask.profile s.revisions s.answers s.places i (record p { entries = p.entries ++ l.adds; out = None }) (λ low. home-ready s.ask.profile s.revisions (length s.answers) i p l leased) h
-
-    by_late : (b : Bool) → is_late s l ≡ b → IsSolvingSolo (cond b home (conclude node.verdict node home))
-    by_late true e = at_home
-    by_late false e =
+    now : is_late s l ≡ false → IsSolvingSolo (ran_now s i p l)
+    now e =
         let now : l.revision ≡ length s.answers = in-time s l leased.reached e in
         let posted : l.revision < length s.revisions = leased.posted in
-        conclude-solving node.verdict node home (omega arith) (λ v. subst (λ (r : ℕ). Solves (take (r + 1) s.revisions) (model_of node)) now (loaded-solves (take (l.revision + 1) s.revisions) node leased.node v)) at_home
+        conclude-solving node.verdict node (ran_home s i p l) (omega arith) (λ v. subst (λ (r : ℕ). Solves (take (r + 1) s.revisions) (model_of node)) now (loaded-solves (take (l.revision + 1) s.revisions) node leased.node v)) at_home
 
 -- a start that comes to nothing
 pub idle-solving : (s : SoloMachine) (i : ℕ) → IsSolvingSolo s → IsSolvingSolo (finished_home s i (place_at s i))
@@ -97,28 +94,24 @@ idle-solving s i h =
     record { early = ready.early; posted = ready.posted; node = ready.node; leased = λ l e. absurd (cc) }) h
 
 starved-solving : (s : SoloMachine) (i : ℕ) (l : Lease) → (place_at s i).out ≡ Some l → IsSolvingSolo s → IsSolvingSolo (finished_lease s i (place_at s i) l Starved)
-starved-solving s i l out h = by_late (is_late s l) refl
+starved-solving s i l out h = by-starved IsSolvingSolo s i (place_at s i) l (λ late. idle-solving s i h) now
   where
     leased : IsLeased s.ask.profile s.revisions (length s.answers) i (place_at s i).entries l
     leased = out-leased s i l out h
 
-    by_late : (b : Bool) → is_late s l ≡ b → IsSolvingSolo (cond b (finished_home s i (place_at s i)) (starve (finished_home s i (place_at s i))))
-    by_late true e = idle-solving s i h
-    by_late false e =
+    now : is_late s l ≡ false → IsSolvingSolo (starve (finished_home s i (place_at s i)))
+    now e =
         let now : l.revision ≡ length s.answers = in-time s l leased.reached e in
         let posted : l.revision < length s.revisions = leased.posted in
         starve-solving (finished_home s i (place_at s i)) (omega arith) (idle-solving s i h)
 
 -- a start that ended, by its outcome
 pub lease-solving : (s : SoloMachine) (i : ℕ) (l : Lease) (o : Outcome) → (place_at s i).out ≡ Some l → IsSolvingSolo s → IsSolvingSolo (finished_lease s i (place_at s i) l o)
-lease-solving s i l Ran e h = ran-solving s i l e h
-lease-solving s i l Starved e h = starved-solving s i l e h
-lease-solving s i l Lost e h = idle-solving s i h
+lease-solving s i l o e h = by-outcome IsSolvingSolo s i (place_at s i) l o (ran-solving s i l e h) (starved-solving s i l e h) (idle-solving s i h)
 
 -- a finish, whether a start was out or not
 finished-solving : (s : SoloMachine) (i : ℕ) (out : Option Lease) (o : Outcome) → (place_at s i).out ≡ out → IsSolvingSolo s → IsSolvingSolo (finished s i (place_at s i) out o)
-finished-solving s i None o e h = h
-finished-solving s i (Some l) o e h = let ended : SoloMachine = finished_lease s i (place_at s i) l o in settled-solving (first_empty ended.log) ended (lease-solving s i l o e h)
+finished-solving s i out o e h = by-lease IsSolvingSolo s i (place_at s i) out o h (λ l f. let ended : SoloMachine = finished_lease s i (place_at s i) l o in settled-solving (first_empty ended.log) ended (lease-solving s i l o (e ∙ f) h))
 
 -- the machine that is opened
 pub opened-solving : (ask : Terms) → IsSolvingSolo (record unopened { ask = ask })

@@ -16,14 +16,13 @@ use Rattle.mal_base.specs.declared.verdict.Verdict.TheVariants.{Satisfiable, Uns
 use Rattle.mal_base.specs.declared.verdict.Outcome.{Outcome}
 use Rattle.mal_base.specs.declared.verdict.Outcome.TheVariants.{Ran, Starved, Lost}
 use Rattle.spec_node.specs.Model.{model_of}
-use Rattle.spec_search.specs.Slice.{Sliced}
-use Rattle.spec_job.specs.Journal.{replay}
-use Rattle.spec_job.specs.SoloMachine.{Own, Opened, Revised, Closed, Volume, Started, Finished, Exchanged, Lease, NodeSlot, SoloMachine, unopened, solo, solo_step, place_at, with_place, answered, spend, starve, conclude, first_empty, settled, is_for, is_late, finished_home, finished_lease, finished}
+use Rattle.spec_job.specs.SoloMachine.{Own, Opened, Revised, Closed, Volume, Started, Finished, Exchanged, Lease, NodeSlot, SoloMachine, unopened, solo, solo_step, place_at, answered, spend, starve, conclude, first_empty, settled, is_for, is_late, finished_lease, finished}
 use Rattle.spec_job.specs.Counts.{is_opening}
 use Rattle.spec_job.specs.DemandOne.{had_memory}
 use Rattle.spec_job.specs.Runnable.{MayHappen, IsRunnable}
 use Rattle.spec_job.specs.Unknown.{Ending, ending_of, ended_by, with_ending, endings_from, endings, has_run, is_slice_of, slices_of, is_starved_of, starved_of, IsAccountedFor, IsVerdictOrSpent, is_fed, AnswersAccountedFor, FedAnswersDecide, RunnableAnswersAccountedFor, RunnableFedAnswersDecide}
 use Rattle.spec_job.proofs.BudgetLemmas.{IsFew}
+use Rattle.spec_job.proofs.FinishLemmas.{with_entries, ran_home, by-ran, by-starved}
 use Rattle.spec_job.proofs.FewLemmas.{one_if, out_for, outs_for}
 use Rattle.spec_job.proofs.PlacesLemmas.{out-within}
 use Rattle.spec_job.proofs.RunsLemmas.{IsWithin, step-within, events-within, opened-within}
@@ -222,31 +221,14 @@ module _ (slices i : ℕ) (es : List Ending) (s : SoloMachine) (l : Lease) (o : 
 
   -- the start that ended, by its outcome
   pub lease-tally : (x : Outcome) → o ≡ x → HasTally slices all (finished_lease s i (place_at s i) l x)
-  lease-tally Ran ran = by_late (is_late s l) refl
+  lease-tally Ran ran = by-ran (HasTally slices all) s i (place_at s i) l (λ late. late-tally q log (s.ran + 1) refl late) (λ now. conclude-tally q log (s.ran + 1) refl now ran e.node.verdict refl)
     where
       q : NodeSlot
-      q = record (place_at s i) { entries = (place_at s i).entries ++ l.adds; out = None }
-
-      slice : Sliced
-      slice = replay s.ask.profile i q.entries
+      q = with_entries (place_at s i) l
 
       log : List Line
-      log = s.log ++ slice.lines
-
-      home : SoloMachine
-      home = record (with_place s i q) { log = log; ran = s.ran + 1 }
-
-      by_late : (b : Bool) → is_late s l ≡ b → HasTally slices all (cond b home (conclude slice.node.verdict slice.node home))
-      by_late true late = late-tally q log (s.ran + 1) refl late
-      by_late false now = conclude-tally q log (s.ran + 1) refl now ran slice.node.verdict refl
-  lease-tally Starved starved = by_late (is_late s l) refl
-    where
-      home : SoloMachine
-      home = finished_home s i (place_at s i)
-
-      by_late : (b : Bool) → is_late s l ≡ b → HasTally slices all (cond b home (starve home))
-      by_late true late = late-tally (record (place_at s i) { out = None }) s.log s.ran refl late
-      by_late false now = starve-tally (record (place_at s i) { out = None }) s.log s.ran refl now starved
+      log = (ran_home s i (place_at s i) l).log
+  lease-tally Starved starved = by-starved (HasTally slices all) s i (place_at s i) l (λ late. late-tally (record (place_at s i) { out = None }) s.log s.ran refl late) (λ now. starve-tally (record (place_at s i) { out = None }) s.log s.ran refl now starved)
   lease-tally Lost lost = home-tally (record (place_at s i) { out = None }) s.log s.ran refl (and_right (l.revision == length s.answers) (has_run o) (ap has_run lost)) (and_right (l.revision == length s.answers) (not (is_late s l) && not (had_memory o)) (and_right (not (is_late s l)) (not (had_memory o)) (ap (λ (x : Outcome). not (had_memory x)) lost)))
 
 -- the starts that have ended, with what one more event ends

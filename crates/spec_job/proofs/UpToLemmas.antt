@@ -1,5 +1,5 @@
 -- What a job that one node runs answers to a revision is decided by the revisions up to it.
-use Rattle.std.proofs.Common.{◌≡◌, ℕ, zero, suc, ◌+◌, ◌-◌, ◌<◌, ◌≤◌, Bool, true, false, cond, ◌==◌, List, [], ◌∷◌, ◌++◌, length, min, take, drop, get_or, Option, Some, None, inl, inr, ◌⊎◌, refl, sym, ◌∙◌, ap, subst, arith, append_assoc, append-nil, length-append}
+use Rattle.std.proofs.Common.{◌≡◌, ℕ, zero, suc, ◌+◌, ◌-◌, ◌<◌, ◌≤◌, true, List, [], ◌∷◌, ◌++◌, length, min, take, drop, get_or, Option, Some, inl, inr, ◌⊎◌, refl, sym, ◌∙◌, ap, subst, arith, append_assoc, append-nil, length-append}
 use Rattle.std.specs.Prelude.{slice_get}
 use Rattle.std.specs.List.{list_all}
 use Rattle.std.proofs.lemmas.Bool.{and_parts, cases_lt}
@@ -9,14 +9,9 @@ use Rattle.std.proofs.lemmas.Option.{slice_get_within, slice_get-get_or}
 use Rattle.mal_base.specs.Asks.{Terms}
 use Rattle.mal_base.specs.NumberedClause.{Line}
 use Rattle.mal_base.specs.declared.answer.Answer.{Answer}
-use Rattle.mal_base.specs.declared.answer.Answer.TheVariants.{Satisfied, Refuted, Spent, OutOfStarts}
-use Rattle.mal_base.specs.declared.verdict.Verdict.{Verdict}
-use Rattle.mal_base.specs.declared.verdict.Verdict.TheVariants.{Satisfiable, Unsatisfiable}
+use Rattle.mal_base.specs.declared.answer.Answer.TheVariants.{OutOfStarts}
 use Rattle.mal_base.specs.declared.verdict.Outcome.{Outcome}
-use Rattle.mal_base.specs.declared.verdict.Outcome.TheVariants.{Ran, Starved, Lost}
 use Rattle.mal_revision.specs.Posted.{Posted}
-use Rattle.spec_node.specs.State.{Node}
-use Rattle.spec_node.specs.Model.{model_of}
 use Rattle.spec_report.specs.Replies.{reply_text}
 use Rattle.spec_search.specs.Slice.{Sliced}
 use Rattle.spec_job.specs.DemandOne.{is_single, IsSingle, Agree}
@@ -25,11 +20,12 @@ use Rattle.spec_job.specs.Journal.{Run, replay, loads_in, loads_of}
 use Rattle.spec_job.specs.Models.{KeepsAnswers}
 use Rattle.spec_job.specs.Replies.{told_by, reply}
 use Rattle.spec_job.specs.Runnable.{MayHappen, IsRunnable}
-use Rattle.spec_job.specs.SoloMachine.{Own, Opened, Revised, Closed, Volume, Started, Finished, Exchanged, Lease, NodeSlot, SoloMachine, unopened, solo, solo_step, place_at, with_place, answered, spend, starve, conclude, first_empty, settled_by, clauses_in, is_late, finished_home, finished_lease, finished}
+use Rattle.spec_job.specs.SoloMachine.{Own, Opened, Revised, Closed, Volume, Started, Finished, Exchanged, Lease, NodeSlot, SoloMachine, unopened, solo, solo_step, place_at, first_empty, settled_by, clauses_in, finished_home, finished}
 use Rattle.spec_job.specs.KeyedJob.{Key}
 use Rattle.spec_job.proofs.AgreeLemmas.{ComeFrom, courses-agree, le-or_lt, IsFront, courses-logs}
 use Rattle.spec_job.proofs.AlongLemmas.{IsAlong}
-use Rattle.spec_job.proofs.CourseLemmas.{Course, course, concluded, with_answer, next_adds, GoesOn, WentOn, course-more}
+use Rattle.spec_job.proofs.CourseLemmas.{Course, course, concluded-leaves, next_adds, GoesOn, WentOn, course-more}
+use Rattle.spec_job.proofs.FinishLemmas.{slice_of, settled-leaves, finished-leaves}
 use Rattle.spec_job.proofs.ElementLemmas.{get-front}
 use Rattle.spec_job.proofs.KeptLemmas.{MachineInvariant, step-kept}
 use Rattle.spec_job.proofs.LoadedLemmas.{loads_in-append, loads_in-loads}
@@ -47,37 +43,17 @@ record HasGrown (s t : SoloMachine) : Type 0 where
 unchanged : (s t : SoloMachine) → t.log ≡ s.log → t.revisions ≡ s.revisions → HasGrown s t
 unchanged s t l r = record { lines = []; log = l ∙ sym (append-nil s.log); more = []; revisions = r ∙ sym (append-nil s.revisions) }
 
+told-grown : (s h : SoloMachine) (answers : List Answer) → HasGrown s h → HasGrown s (record h { answers = h.answers ++ answers; spent = 0; starved = 0 })
+told-grown s h answers k = record { lines = k.lines; log = k.log; more = k.more; revisions = k.revisions }
+
+counted-grown : (s h : SoloMachine) (spent starved : ℕ) → HasGrown s h → HasGrown s (record h { spent = spent; starved = starved })
+counted-grown s h spent starved k = record { lines = k.lines; log = k.log; more = k.more; revisions = k.revisions }
+
 settled-grown : (s h : SoloMachine) (o : Option ℕ) → HasGrown s h → HasGrown s (settled_by o h)
-settled-grown s h None k = k
-settled-grown s h (Some goal) k = record { lines = k.lines; log = k.log; more = k.more; revisions = k.revisions }
-
-either-grown : (b : Bool) (s x y : SoloMachine) → HasGrown s x → HasGrown s y → HasGrown s (cond b x y)
-either-grown true s x y p q = p
-either-grown false s x y p q = q
-
-spend-grown : (s h : SoloMachine) → HasGrown s h → HasGrown s (spend h)
-spend-grown s h k = either-grown (h.spent + 1 == h.ask.slices) s (answered h (Spent h.ask.slices)) (record h { spent = h.spent + 1 }) (record { lines = k.lines; log = k.log; more = k.more; revisions = k.revisions }) (record { lines = k.lines; log = k.log; more = k.more; revisions = k.revisions })
-
-starve-grown : (s h : SoloMachine) → HasGrown s h → HasGrown s (starve h)
-starve-grown s h k = either-grown (h.starved + 1 == 3) s (answered h OutOfStarts) (record h { starved = h.starved + 1 }) (record { lines = k.lines; log = k.log; more = k.more; revisions = k.revisions }) (record { lines = k.lines; log = k.log; more = k.more; revisions = k.revisions })
-
-conclude-grown : (v : Option Verdict) (n : Node) (s h : SoloMachine) → HasGrown s h → HasGrown s (conclude v n h)
-conclude-grown None n s h k = spend-grown s h k
-conclude-grown (Some Satisfiable) n s h k = record { lines = k.lines; log = k.log; more = k.more; revisions = k.revisions }
-conclude-grown (Some (Unsatisfiable goal)) n s h k = record { lines = k.lines; log = k.log; more = k.more; revisions = k.revisions }
-
-lease-grown : (s : SoloMachine) (i : ℕ) (p : NodeSlot) (l : Lease) (o : Outcome) → HasGrown s (finished_lease s i p l o)
-lease-grown s i p l Ran =
-    let slice : Sliced = replay s.ask.profile i (p.entries ++ l.adds) in
-    let home : SoloMachine = record (with_place s i (record p { entries = p.entries ++ l.adds; out = None })) { log = s.log ++ slice.lines; ran = s.ran + 1 } in
-    let grown : HasGrown s home = record { lines = slice.lines; log = refl; more = []; revisions = sym (append-nil s.revisions) } in
-    either-grown (is_late s l) s home (conclude slice.node.verdict slice.node home) grown (conclude-grown slice.node.verdict slice.node s home grown)
-lease-grown s i p l Starved = let home : SoloMachine = finished_home s i p in either-grown (is_late s l) s home (starve home) (unchanged s home refl refl) (starve-grown s home (unchanged s home refl refl))
-lease-grown s i p l Lost = unchanged s (finished_home s i p) refl refl
+settled-grown s h o k = settled-leaves (HasGrown s) (told-grown s) (counted-grown s) o h k
 
 finished-grown : (s : SoloMachine) (i : ℕ) (p : NodeSlot) (out : Option Lease) (o : Outcome) → HasGrown s (finished s i p out o)
-finished-grown s i p None o = unchanged s s refl refl
-finished-grown s i p (Some l) o = let ended : SoloMachine = finished_lease s i p l o in settled-grown s ended (first_empty ended.log) (lease-grown s i p l o)
+finished-grown s i p out o = finished-leaves (HasGrown s) (told-grown s) (counted-grown s) s i p out o (unchanged s s refl refl) (λ l e. record { lines = (slice_of s i p l).lines; log = refl; more = []; revisions = sym (append-nil s.revisions) }) (unchanged s (finished_home s i p) refl refl)
 
 step-grown : (s : SoloMachine) (o : Own) → HasGrown s (solo_step s o)
 step-grown s (Opened ask) = unchanged s (solo_step s (Opened ask)) refl refl
@@ -89,24 +65,6 @@ step-grown s (Finished i o) = finished-grown s i (place_at s i) (place_at s i).o
 step-grown s Exchanged = unchanged s (solo_step s Exchanged) refl refl
 
 -- a course: its answers become more, and the node has loaded one revision more than have answers at the most
-concluded-more : (v : Option Verdict) (n : Node) (slices : ℕ) (c : Course) → length c.answers ≤ length (concluded v n slices c).answers
-concluded-more None n slices c = by_test (c.spent + 1 == slices)
-  where
-    by_test : (b : Bool) → length c.answers ≤ length (cond b (with_answer c (Spent slices)) (record c { spent = c.spent + 1 })).answers
-    by_test true = omega (arith, length-append c.answers (Spent slices ∷ []))
-    by_test false = omega arith
-concluded-more (Some Satisfiable) n slices c = omega (arith, length-append c.answers (Satisfied (model_of n) ∷ []))
-concluded-more (Some (Unsatisfiable goal)) n slices c = omega (arith, length-append c.answers (Refuted goal ∷ []))
-
-concluded-entries : (v : Option Verdict) (n : Node) (slices : ℕ) (c : Course) → (concluded v n slices c).entries ≡ c.entries
-concluded-entries None n slices c = by_test (c.spent + 1 == slices)
-  where
-    by_test : (b : Bool) → (cond b (with_answer c (Spent slices)) (record c { spent = c.spent + 1 })).entries ≡ c.entries
-    by_test true = refl
-    by_test false = refl
-concluded-entries (Some Satisfiable) n slices c = refl
-concluded-entries (Some (Unsatisfiable goal)) n slices c = refl
-
 module _ (profile slices : ℕ) (revisions : List Posted) (n : ℕ) where
   abbrev c : Course
   c = course profile slices revisions n
@@ -118,7 +76,7 @@ module _ (profile slices : ℕ) (revisions : List Posted) (n : ℕ) where
   before = record c { entries = c.entries ++ next_adds revisions c; log = c.log ++ ran.lines }
 
   pub more-answers : length (course profile slices revisions n).answers ≤ length (course profile slices revisions (suc n)).answers
-  more-answers = concluded-more ran.node.verdict ran.node slices before
+  more-answers = concluded-leaves (λ d. length c.answers ≤ length d.answers) (λ d a low. omega (arith, low, length-append d.answers (a ∷ []))) (λ d spent low. low) ran.node.verdict ran.node slices before (omega arith)
 
   pub next-loads : loads_in (course profile slices revisions n).entries ≤ length (course profile slices revisions n).answers + 1 → loads_in (course profile slices revisions (suc n)).entries ≤ length (course profile slices revisions (suc n)).answers + 1
   next-loads low =
@@ -130,7 +88,7 @@ module _ (profile slices : ℕ) (revisions : List Posted) (n : ℕ) where
       let adds : loads_in (next_adds revisions c) ≡ loads_in (loads_of first new) + 0 = loads_in-append (loads_of first new) (Run ∷ []) in
       let count : loads_in (loads_of first new) ≡ length new = loads_in-loads first new in
       let taken : length new ≡ min m (length (drop k revisions)) = length-take m (drop k revisions) in
-      let same : loads_in (course profile slices revisions (suc n)).entries ≡ loads_in (c.entries ++ next_adds revisions c) = ap loads_in (concluded-entries ran.node.verdict ran.node slices before) in
+      let same : loads_in (course profile slices revisions (suc n)).entries ≡ loads_in (c.entries ++ next_adds revisions c) = concluded-leaves (λ d. loads_in d.entries ≡ loads_in before.entries) (λ d a same. same) (λ d spent same. same) ran.node.verdict ran.node slices before refl in
       omega (arith, low, all, adds, count, taken, same, more-answers)
 
 course-loads : (profile slices : ℕ) (revisions : List Posted) (n : ℕ) → loads_in (course profile slices revisions n).entries ≤ length (course profile slices revisions n).answers + 1
@@ -347,7 +305,7 @@ traced-agree profile slices r s t h k alike = record { answers = answers; replie
         let theirs : slice_get w.was.answers r ≡ Some x = subst (λ (z : Answer). slice_get w.was.answers r ≡ Some z) (sym same) (answer-then profile slices r t w y q) in
         let between : told_by v.was r x ≡ told_by w.was r x = told-same v.was w.was r x v.kept w.kept (were-fronts profile slices r s t v w alike) (sym v.same ∙ (alike ∙ w.same)) (answer-then profile slices r s v x p) theirs in
         let all : told_by s r x ≡ told_by t r y = told-then profile slices r s v x h.kept p ∙ (between ∙ (ap (told_by w.was r) same ∙ sym (told-then profile slices r t w y k.kept q))) in
-        sym i ∙ (ap (reply_text key.tenant key.job (suc r) s.ask.profile) all ∙ (ap (λ (p : ℕ). reply_text key.tenant key.job (suc r) p (told_by t r y)) (h.on.1.solvers ∙ sym k.on.1.solvers) ∙ j))
+        sym i ∙ (ap (reply_text key.tenant key.job (suc r) s.ask.profile) all ∙ (ap (λ (p : ℕ). reply_text key.tenant key.job (suc r) p (told_by t r y)) (h.on.1.alone.solvers ∙ sym k.on.1.alone.solvers) ∙ j))
 
     replies : (key : Key) (a b : List ℕ) → reply key (suc r) s ≡ Some a → reply key (suc r) t ≡ Some b → a ≡ b
     replies key a b e f = by_answers key a b (reply-at key s r a e) (reply-at key t r b f)
