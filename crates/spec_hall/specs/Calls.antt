@@ -94,13 +94,9 @@ IsClosing past k (Err closing.Closed) es = (t : KeyedJob) × (job_of k (states p
 
 -- whether an event arranges the jobs: a balancing or an exchange
 abbrev pub arranges : Event → Bool
-arranges (Open k ask) = false
-arranges (Revise k number r) = false
-arranges (Close k) = false
 arranges (Balance shares) = true
-arranges (Start k index worker) = false
-arranges (Finish k index worker outcome) = false
 arranges (Exchange k) = true
+arranges event = false
 
 -- balancings and exchanges that are due, one after the other
 pub record AreDue (workers : ℕ) (past es : List Event) : Type 0 where

@@ -52,13 +52,8 @@ live_asks jobs = map (λ t. t.state.ask) (live_ones jobs)
 
 -- whether an event is a balancing
 abbrev pub is_balance : Event → Bool
-is_balance (Open k ask) = false
-is_balance (Revise k number r) = false
-is_balance (Close k) = false
 is_balance (Balance shares) = true
-is_balance (Start k index worker) = false
-is_balance (Finish k index worker outcome) = false
-is_balance (Exchange k) = false
+is_balance event = false
 
 -- the live jobs at the last balancing of the events that follow a past, where they were so far
 abbrev pub balanced_from : List Event → List Live → List Event → List Live

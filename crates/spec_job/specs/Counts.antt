@@ -2,15 +2,14 @@ use Rattle.std.specs.Prelude.{◌≡◌, ℕ, ◌+◌, ◌*◌, ◌≤◌, Bool,
 use Rattle.std.specs.List.{list_any}
 use Rattle.mal_base.specs.Asks.{Terms}
 use Rattle.spec_node.specs.State.{Node}
-use Rattle.spec_job.specs.Journal.{JournalEntry, Load, Import, Run, replay}
-use Rattle.spec_job.specs.SoloMachine.{Own, Opened, Revised, Closed, Volume, Started, Finished, Exchanged, NodeSlot, SoloMachine, solo, place_at, missing_loads, missing_imports}
+use Rattle.spec_job.specs.Journal.{JournalEntry, Run, replay}
+use Rattle.spec_job.specs.SoloMachine.{Own, Opened, NodeSlot, SoloMachine, solo, place_at, missing_loads, missing_imports}
 use Rattle.spec_job.specs.Runnable.{IsRunnable}
 
 -- whether an entry runs a slice
 abbrev pub is_run : JournalEntry → Bool
-is_run (Load r first) = false
-is_run (Import told) = false
 is_run Run = true
+is_run entry = false
 
 -- how many slices a journal has run
 abbrev pub runs_in : List JournalEntry → ℕ
@@ -44,12 +43,7 @@ starts_out places = count_by (λ p. is_some p.out) places
 -- whether an own event opens a job
 abbrev pub is_opening : Own → Bool
 is_opening (Opened ask) = true
-is_opening (Revised r) = false
-is_opening Closed = false
-is_opening (Volume v) = false
-is_opening (Started i) = false
-is_opening (Finished i outcome) = false
-is_opening Exchanged = false
+is_opening event = false
 
 -- a job is opened once, and then each own event may happen
 pub record IsOpenedOnce (ask : Terms) (own : List Own) : Type 0 where

@@ -26,14 +26,12 @@ replay profile index entries = fold after_entry (record { node = fresh_with inde
 -- whether an entry loads a revision
 abbrev pub is_load : JournalEntry → Bool
 is_load (Load r first) = true
-is_load (Import told) = false
-is_load Run = false
+is_load entry = false
 
 -- whether an entry imports what was told
 abbrev pub is_import : JournalEntry → Bool
-is_import (Load r first) = false
 is_import (Import told) = true
-is_import Run = false
+is_import entry = false
 
 -- how many revisions a journal has loaded
 abbrev pub loads_in : List JournalEntry → ℕ

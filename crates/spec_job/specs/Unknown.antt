@@ -94,13 +94,8 @@ IsVerdictOrSpent slices es r OutOfStarts = ⊥
 
 -- whether an own event is no start that wanted for memory
 abbrev pub is_fed : Own → Bool
-is_fed (Opened ask) = true
-is_fed (Revised r) = true
-is_fed Closed = true
-is_fed (Volume v) = true
-is_fed (Started i) = true
 is_fed (Finished i outcome) = had_memory outcome
-is_fed Exchanged = true
+is_fed event = true
 
 -- where no start of a job wanted for memory, each answer is a verdict, or the whole budget was spent without one
 abbrev pub FedAnswersDecide : List Own → Type 0

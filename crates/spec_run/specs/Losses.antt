@@ -5,13 +5,8 @@ use Rattle.spec_hall.specs.Events.{Event, Open, Revise, Close, Balance, Start, F
 
 -- whether an event is the loss of a lease
 abbrev pub is_loss : Event → Bool
-is_loss (Open k ask) = false
-is_loss (Revise k number r) = false
-is_loss (Close k) = false
-is_loss (Balance shares) = false
-is_loss (Start k index worker) = false
 is_loss (Finish k index worker outcome) = was_lost outcome
-is_loss (Exchange k) = false
+is_loss event = false
 
 -- no lease was lost
 abbrev pub NoneIsLost : List Event → Type 0
@@ -19,13 +14,8 @@ NoneIsLost history = list_any is_loss history ≡ false
 
 -- whether an event is no start by another worker than the first
 abbrev pub is_not_by_others : Event → Bool
-is_not_by_others (Open k ask) = true
-is_not_by_others (Revise k number r) = true
-is_not_by_others (Close k) = true
-is_not_by_others (Balance shares) = true
 is_not_by_others (Start k index worker) = worker == 1
-is_not_by_others (Finish k index worker outcome) = true
-is_not_by_others (Exchange k) = true
+is_not_by_others event = true
 
 -- where leases are lost, only the first worker starts nodes from the first loss on: in a first part none is lost, and
 -- in the rest no other worker starts one

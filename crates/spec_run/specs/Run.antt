@@ -59,13 +59,8 @@ pub record IsSequentialRun (workers : ℕ) (s : Scripted) (history : List Event)
 
 -- whether an event is no end of a start that wanted for memory
 abbrev pub is_fed : Event → Bool
-is_fed (Open k ask) = true
-is_fed (Revise k number r) = true
-is_fed (Close k) = true
-is_fed (Balance shares) = true
-is_fed (Start k index worker) = true
 is_fed (Finish k index worker outcome) = had_memory outcome
-is_fed (Exchange k) = true
+is_fed event = true
 
 -- no start of a history wanted for memory
 abbrev pub IsFed : List Event → Type 0
