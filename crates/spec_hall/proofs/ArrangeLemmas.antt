@@ -1,5 +1,5 @@
 -- What is due, event by event.
-use Rattle.std.proofs.Common.{◌≡◌, ℕ, ◌<◌, ◌≤◌, Bool, true, false, cond, List, [], ◌∷◌, ◌++◌, map, refl, sym, ◌∙◌, ap, subst, append_assoc, append-nil}
+use Rattle.std.proofs.Common.{◌≡◌, ℕ, ◌≤◌, List, [], ◌∷◌, ◌++◌, map, refl, sym, ◌∙◌, subst, append_assoc, append-nil}
 use Rattle.std.specs.List.{list_all}
 use Rattle.std.proofs.lemmas.Bool.{and_from, and_parts}
 use Rattle.mal_history.specs.declared.event.Share.{Share}
@@ -11,10 +11,9 @@ use Rattle.spec_job.specs.KeyedJob.{Key}
 use Rattle.spec_job.specs.Viewed.{and_own}
 use Rattle.spec_hall.specs.Events.{Event, Balance, Exchange}
 use Rattle.spec_hall.specs.Legal.{Allowed, Legal}
-use Rattle.spec_hall.specs.Seats.{Seat, IsSeated, balanced_by, is_due, shares_by}
+use Rattle.spec_hall.specs.Seats.{Seat, balanced_by, shares_by}
 use Rattle.spec_hall.specs.States.{balanced, lives, states}
-use Rattle.spec_hall.proofs.DueLemmas.{seated-calm, seated-due}
-use Rattle.spec_hall.proofs.KeyLemmas.{key-stands}
+use Rattle.spec_hall.proofs.DueLemmas.{seated-calm}
 use Rattle.spec_hall.proofs.LeftLemmas.{due-set}
 use Rattle.spec_hall.proofs.SeatLemmas.{reseated, seats-touch}
 use Rattle.spec_hall.proofs.SeatedLemmas.{HasSeats, IsBalancedBy, balance-facts, legal-seats}

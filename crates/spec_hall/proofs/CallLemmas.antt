@@ -1,5 +1,5 @@
 -- The events that a call enters leave a legal history legal.
-use Rattle.std.proofs.Common.{◌≡◌, ℕ, zero, suc, ◌+◌, ◌<◌, ◌≤◌, Bool, true, false, cond, List, [], ◌∷◌, ◌++◌, flat_map, Option, Some, None, Result, Ok, Err, refl, sym, ◌∙◌, ap, subst, arith, append_assoc, append-nil}
+use Rattle.std.proofs.Common.{◌≡◌, ℕ, zero, suc, ◌+◌, ◌≤◌, List, [], ◌∷◌, ◌++◌, flat_map, Option, Some, None, Result, Ok, Err, refl, sym, ◌∙◌, ap, subst, arith, append_assoc, append-nil}
 use Rattle.std.specs.Option.{option_map_or}
 use Rattle.mal_base.specs.declared.verdict.Outcome.TheVariants.{Lost}
 use Rattle.mal_base.specs.Asks.{Terms}
@@ -17,7 +17,7 @@ use Rattle.mal_base.specs.declared.hall_fault.PickFault.{PickFault}
 use Rattle.mal_base.specs.declared.hall_fault.PickFault.TheVariants as picking
 use Rattle.mal_base.specs.declared.hall_fault.ReplyFault.{ReplyFault}
 use Rattle.mal_base.specs.declared.hall_fault.ReplyFault.TheVariants as asking
-use Rattle.spec_hall.specs.Calls.{AnswerTo, Back, Call, CallIsLegal, Closes, Finishes, Idle, AllDone, Leased, Opens, Asks, Picks, Recalls, Revises, IsCall, Offer, Return, Strange, lost_of, recalled, IsOfLease, IsOpening, IsRevising, IsClosing, IsPicking, IsReturning, IsAsking}
+use Rattle.spec_hall.specs.Calls.{Back, CallIsLegal, Closes, Finishes, Idle, AllDone, Leased, Opens, Asks, Picks, Recalls, Revises, Offer, Return, Strange, lost_of, IsOpening, IsRevising, IsClosing, IsPicking, IsReturning, IsAsking}
 use Rattle.spec_hall.specs.Events.{Event, Open, Revise, Close, Start, Finish}
 use Rattle.spec_hall.specs.Legal.{Allowed, Legal}
 use Rattle.spec_hall.specs.States.{LeaseOut, leases, lease_of}

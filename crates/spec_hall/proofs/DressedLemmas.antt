@@ -1,4 +1,4 @@
-use Rattle.std.proofs.Common.{◌≡◌, ℕ, zero, suc, ◌-◌, Bool, true, false, cond, ◌==◌, if◌then◌else◌, List, [], ◌∷◌, ◌++◌, length, map, slice_get, Option, Some, None, refl, sym, ◌∙◌, ap, subst, arith, append-nil}
+use Rattle.std.proofs.Common.{◌≡◌, ℕ, zero, suc, ◌-◌, Bool, true, false, cond, if◌then◌else◌, List, [], ◌∷◌, ◌++◌, length, map, slice_get, Option, Some, None, refl, sym, ◌∙◌, ap, subst, arith, append-nil}
 use Rattle.std.specs.Prelude.{All}
 use Rattle.std.specs.List.{list_any}
 use Rattle.std.specs.Option.{option_map_or}
@@ -9,13 +9,13 @@ use Rattle.spec_job.specs.SoloMachine.{Own, Opened, Revised, Closed, Volume, Sta
 use Rattle.spec_job.specs.KeyedJob.{Key, KeyedJob}
 use Rattle.spec_job.proofs.StepLemmas.{start-keeps, finish-keeps}
 use Rattle.spec_hall.specs.Events.{Event, Open, Revise, Close, Balance, Start, Finish, Exchange, bare}
-use Rattle.spec_hall.specs.Own.{own, own_step, adds, adds_volume, is_key, volume_in, volume_after}
+use Rattle.spec_hall.specs.Own.{own, own_step, adds, is_key}
 use Rattle.spec_hall.specs.States.{keys_of, states, titled}
 use Rattle.spec_hall.specs.Legal.{Allowed, MayRevise}
 use Rattle.spec_hall.specs.Dressed.{LegalIsDressed, dressed, revisions_of, no_revision}
 use Rattle.spec_hall.specs.Seats.{Seat, IsSeated, jobs_in}
 use Rattle.spec_hall.proofs.KeyLemmas.{is_key-same}
-use Rattle.spec_hall.proofs.PushLemmas.{own-push, solo-push, keys-push}
+use Rattle.spec_hall.proofs.PushLemmas.{own-push, solo-push, own_step-keeps, keys-push}
 use Rattle.spec_hall.proofs.VolumeLemmas.{revise-keeps}
 use Rattle.spec_hall.proofs.StatesLemmas.{IsFound, keys-stay, job_of-found, job_of-states, legal_from-keeps}
 
@@ -40,25 +40,8 @@ step-grows s Exchanged = grows-same s.revisions s.revisions refl
 push-grows : (es : List Own) (o : Own) → Grows (solo es).revisions (solo (es ++ o ∷ [])).revisions
 push-grows es o = subst (λ (s : SoloMachine). Grows (solo es).revisions s.revisions) (sym (solo-push es o)) (step-grows (solo es) o)
 
-adds-grows : (mine : Bool) (es : List Own) (o : Own) → Grows (solo es).revisions (solo (adds mine es o)).revisions
-adds-grows true es o = push-grows es o
-adds-grows false es o = grows-same (solo es).revisions (solo es).revisions refl
-
-adds_volume-grows : (v : ℕ) (es : List Own) → Grows (solo es).revisions (solo (adds_volume v es)).revisions
-adds_volume-grows v es = by_test (v == volume_after es)
-  where
-    by_test : (b : Bool) → Grows (solo es).revisions (solo (cond b es (es ++ Volume v ∷ []))).revisions
-    by_test true = grows-same (solo es).revisions (solo es).revisions refl
-    by_test false = push-grows es (Volume v)
-
 event-grows : (j : Key) (es : List Own) (e : Event) → Grows (solo es).revisions (solo (own_step j es e)).revisions
-event-grows j es (Open k ask) = adds-grows (is_key j k) es (Opened ask)
-event-grows j es (Revise k number r) = adds-grows (is_key j k) es (Revised r)
-event-grows j es (Close k) = adds-grows (is_key j k) es Closed
-event-grows j es (Balance shares) = adds_volume-grows (volume_in j shares) es
-event-grows j es (Start k index worker) = adds-grows (is_key j k) es (Started index)
-event-grows j es (Finish k index worker outcome) = adds-grows (is_key j k) es (Finished index outcome)
-event-grows j es (Exchange k) = adds-grows (is_key j k) es Exchanged
+event-grows j es e = own_step-keeps (λ os. Grows (solo es).revisions (solo os).revisions) j es e (grows-same (solo es).revisions (solo es).revisions refl) (push-grows es)
 
 -- the revisions under a key are those of its machine, where it was opened
 revisions-states : (past : List Event) (k : Key) → revisions_of k (states past) ≡ (if list_any (is_key k) (keys_of past) then (solo (own k past)).revisions else [])

@@ -1,8 +1,8 @@
 -- Where a job is live and nothing is out, a balancing is due or some node may start.
-use Rattle.std.proofs.Common.{◌≡◌, ℕ, zero, suc, ◌+◌, ◌<◌, ◌≤◌, Bool, true, false, cond, not, ◌&&◌, ◌||◌, ◌==◌, nat_lt, List, [], ◌∷◌, ◌++◌, map, get_or, slice_get, Option, Some, None, is_some, is_none, inl, inr, ◌⊎◌, refl, sym, ◌∙◌, ap, subst, arith}
+use Rattle.std.proofs.Common.{◌≡◌, ℕ, suc, ◌+◌, ◌<◌, ◌≤◌, Bool, true, false, cond, not, ◌&&◌, ◌||◌, ◌==◌, nat_lt, List, [], ◌∷◌, ◌++◌, map, get_or, slice_get, Option, Some, None, is_some, is_none, inl, inr, refl, sym, ◌∙◌, ap, subst, arith}
 use Rattle.std.specs.Prelude.{All, count_by}
 use Rattle.std.specs.List.{list_any}
-use Rattle.std.proofs.lemmas.Bool.{and_from, and_parts, both_ways, eqb-false, or_parts}
+use Rattle.std.proofs.lemmas.Bool.{and_from, and_parts, eqb-false}
 use Rattle.std.proofs.lemmas.Bool.Decides.{Decides-ltb}
 use Rattle.std.proofs.lemmas.List.Elements.{All-nil, All-cons}
 use Rattle.std.proofs.lemmas.List.Folds.{list_any-append}
@@ -12,28 +12,27 @@ use Rattle.mal_base.specs.declared.answer.Answer.TheVariants.{Satisfied, Refuted
 use Rattle.mal_base.specs.declared.verdict.Verdict.{Verdict}
 use Rattle.mal_base.specs.declared.verdict.Verdict.TheVariants.{Satisfiable, Unsatisfiable}
 use Rattle.mal_base.specs.declared.verdict.Outcome.{Outcome}
-use Rattle.mal_base.specs.declared.verdict.Outcome.TheVariants.{Ran, Starved, Lost}
 use Rattle.spec_node.specs.State.{Node}
 use Rattle.spec_node.specs.Model.{model_of}
-use Rattle.spec_job.specs.Journal.{replay}
-use Rattle.spec_job.specs.SoloMachine.{Own, Opened, Revised, Closed, Volume, Started, Finished, Exchanged, SoloMachine, NodeSlot, Lease, vacant, current, is_live, is_for, out_count, place_at, with_place, solo, solo_step, startable, answered, spend, starve, conclude, first_empty, settled_by, is_late, finished_home, finished_lease, finished}
+use Rattle.spec_job.specs.SoloMachine.{Own, Opened, Revised, Closed, Volume, Started, Finished, Exchanged, SoloMachine, NodeSlot, Lease, vacant, current, is_live, is_for, out_count, place_at, solo, solo_step, startable, answered, spend, starve, conclude, first_empty, settled_by, finished_home, finished_lease, finished}
 use Rattle.spec_job.specs.KeyedJob.{Key, KeyedJob}
-use Rattle.spec_hall.specs.Driven.{IsIdle, IsAtEnd, is_done}
+use Rattle.spec_hall.specs.Driven.{IsAtEnd, is_done}
 use Rattle.spec_hall.specs.Events.{Event, Open, Revise, Close, Balance, Start, Finish, Exchange}
-use Rattle.spec_hall.specs.Own.{own, own_step, adds, adds_volume, is_key, volume_in, volume_after}
-use Rattle.spec_hall.specs.States.{Candidate, keys_of, states, titled, lives, live_of, live_ones, balanced, leases, picked}
+use Rattle.spec_hall.specs.Own.{own, own_step, adds, adds_volume, is_key, volume_in}
+use Rattle.spec_hall.specs.States.{Candidate, keys_of, states, lives, live_of, live_ones, balanced, leases, picked}
 use Rattle.spec_hall.specs.Legal.{Allowed, Legal}
 use Rattle.spec_hall.specs.Leases.{LegalGoesOn, lease_at}
-use Rattle.spec_hall.specs.Seats.{Seat, IsSeated, is_due, is_live_seat, pick}
+use Rattle.spec_hall.specs.Seats.{Seat, is_due}
+use Rattle.spec_job.proofs.FinishLemmas.{slice_of, ran_home, by-ran, by-starved, by-outcome, by-lease}
 use Rattle.spec_hall.proofs.KeyLemmas.{is_key-Decides, key-stands}
-use Rattle.spec_hall.proofs.PushLemmas.{own-push, keys-push, solo-push}
+use Rattle.spec_hall.proofs.PushLemmas.{own-push, keys-push, solo-push, adds-keeps, adds_volume-keeps}
 use Rattle.spec_hall.proofs.StatesLemmas.{job_of-absent, legal_from-keeps}
 use Rattle.spec_hall.proofs.OrderlyLemmas.{legal-orderly}
 use Rattle.spec_hall.proofs.SeatLemmas.{seated-none, sits-at}
 use Rattle.spec_hall.proofs.DueLemmas.{seated-due}
 use Rattle.spec_hall.proofs.PickLemmas.{seated-picked}
 use Rattle.spec_hall.proofs.IdleLemmas.{FirstMay, seated-idle}
-use Rattle.spec_hall.proofs.SeatedLemmas.{HasSeats, event-seats, legal-seats}
+use Rattle.spec_hall.proofs.SeatedLemmas.{HasSeats, event-seats}
 use Rattle.spec_hall.proofs.OutLemmas.{is_out}
 use Rattle.spec_hall.proofs.LeasesLemmas.{legal-leases}
 
@@ -71,39 +70,17 @@ settled-budget None s h = h
 settled-budget (Some goal) s h = omega (arith, h)
 
 lease-budget : (s : SoloMachine) (i : ℕ) (p : NodeSlot) (l : Lease) (o : Outcome) → HasBudget s → HasBudget (finished_lease s i p l o)
-lease-budget s i p l Ran h = by_late (is_late s l)
-  where
-    n : Node
-    n = (replay s.ask.profile i (p.entries ++ l.adds)).node
-
-    back : SoloMachine
-    back = record (with_place s i (record p { entries = p.entries ++ l.adds; out = None })) { log = s.log ++ (replay s.ask.profile i (p.entries ++ l.adds)).lines; ran = s.ran + 1 }
-
-    by_late : (b : Bool) → HasBudget (cond b back (conclude n.verdict n back))
-    by_late true = h
-    by_late false = conclude-budget n.verdict n back h
-lease-budget s i p l Starved h = by_late (is_late s l)
-  where
-    by_late : (b : Bool) → HasBudget (cond b (finished_home s i p) (starve (finished_home s i p)))
-    by_late true = h
-    by_late false = starve-budget (finished_home s i p) h
-lease-budget s i p l Lost h = h
+lease-budget s i p l o h = by-outcome HasBudget s i p l o (by-ran HasBudget s i p l (λ late. h) (λ now. conclude-budget (slice_of s i p l).node.verdict (slice_of s i p l).node (ran_home s i p l) h)) (by-starved HasBudget s i p l (λ late. h) (λ now. starve-budget (finished_home s i p) h)) h
 
 finished-budget : (s : SoloMachine) (i : ℕ) (p : NodeSlot) (out : Option Lease) (o : Outcome) → HasBudget s → HasBudget (finished s i p out o)
-finished-budget s i p None o h = h
-finished-budget s i p (Some l) o h = settled-budget (first_empty (finished_lease s i p l o).log) (finished_lease s i p l o) (lease-budget s i p l o h)
+finished-budget s i p out o h = by-lease HasBudget s i p out o h (λ l e. settled-budget (first_empty (finished_lease s i p l o).log) (finished_lease s i p l o) (lease-budget s i p l o h))
 
 -- an event of a job that was opened leaves it some
 adds-budget : (mine : Bool) (es : List Own) (o : Own) → ((s : SoloMachine) → HasBudget s → HasBudget (solo_step s o)) → HasBudget (solo es) → HasBudget (solo (adds mine es o))
-adds-budget true es o keeps h = subst HasBudget (sym (solo-push es o)) (keeps (solo es) h)
-adds-budget false es o keeps h = h
+adds-budget mine es o keeps h = adds-keeps (λ os. HasBudget (solo os)) mine es o h (λ joins. subst HasBudget (sym (solo-push es o)) (keeps (solo es) h))
 
 adds_volume-budget : (v : ℕ) (es : List Own) → HasBudget (solo es) → HasBudget (solo (adds_volume v es))
-adds_volume-budget v es h = by_test (v == volume_after es)
-  where
-    by_test : (b : Bool) → HasBudget (solo (cond b es (es ++ Volume v ∷ [])))
-    by_test true = h
-    by_test false = subst HasBudget (sym (solo-push es (Volume v))) h
+adds_volume-budget v es h = adds_volume-keeps (λ os. HasBudget (solo os)) v es h (subst HasBudget (sym (solo-push es (Volume v))) h)
 
 -- the jobs have seats, and slices left
 record HasLeft (w : ℕ) (past : List Event) : Type 0 where

@@ -8,7 +8,6 @@ use Rattle.mal_base.specs.Asks.{Terms}
 use Rattle.mal_base.specs.declared.verdict.Outcome.{Outcome}
 use Rattle.mal_revision.specs.Posted.{Posted}
 use Rattle.spec_job.specs.Journal.{JournalEntry}
-use Rattle.spec_job.specs.Journaled.{Journaled}
 use Rattle.spec_job.specs.SoloMachine.{Own, Opened, Revised, Closed, Volume, Started, Finished, Exchanged, SoloMachine, NodeSlot, Lease, vacant, place_at, solo, solo_step, start_entries, current, first_empty, finished_lease, finished, exchanged}
 use Rattle.spec_job.specs.KeyedJob.{Key}
 use Rattle.spec_job.proofs.PlacesLemmas.{marked-place, set-place}
@@ -17,13 +16,13 @@ use Rattle.spec_hall.specs.Calls.{Handed, handed}
 use Rattle.spec_hall.specs.Events.{Event, Open, Revise, Close, Balance, Start, Finish, Exchange}
 use Rattle.spec_hall.specs.Leases.{Numbered, job_number, numbered, place_among, start_number}
 use Rattle.spec_hall.specs.Legal.{Allowed, Legal}
-use Rattle.spec_hall.specs.Own.{own, own_step, adds, adds_volume, is_key, volume_in, volume_after}
+use Rattle.spec_hall.specs.Own.{own, own_step, adds, adds_volume, is_key, volume_in}
 use Rattle.spec_hall.specs.States.{LeaseOut, keys_of, leases, lease_of}
 use Rattle.spec_hall.proofs.KeyLemmas.{is_key-Decides}
 use Rattle.spec_hall.proofs.LeasesLemmas.{lease-out, lease-worker, start-free}
 use Rattle.spec_hall.proofs.OrderlyLemmas.{lease-opened, legal-orderly}
 use Rattle.spec_hall.proofs.OutLemmas.{EndsAt, finished-out, is_out, lease-ends, settled-same}
-use Rattle.spec_hall.proofs.PushLemmas.{Legal-push, keys-push, own-push, solo-push}
+use Rattle.spec_hall.proofs.PushLemmas.{Legal-push, adds-keeps, adds_volume-keeps, keys-push, own-push, solo-push}
 use Rattle.spec_hall.proofs.SpotLemmas.{numbered-push}
 use Rattle.spec_hall.proofs.StatesLemmas.{job_of-absent}
 use Rattle.spec_hall.proofs.OnceLemmas.{open-other}
@@ -74,22 +73,16 @@ finished-left s i j o other = by_lease (place_at s i).out refl
         ap (λ (x : Option Lease). (finished s i (place_at s i) x o).places) e ∙ (settled-same (first_empty (finished_lease s i (place_at s i) l o).log) (finished_lease s i (place_at s i) l o) ∙ ends.is) in
         ap (λ (ps : List NodeSlot). left_of (get_or ps j vacant)) whole ∙ ap left_of (set-other s.places i j ends.place other)
 
--- an own event that leaves it for each machine, whether it joins or not
-adds-left : (mine : Bool) (es : List Own) (o : Own) (i : ℕ) → ((s : SoloMachine) → left_at (solo_step s o) i ≡ left_at s i) → left_at (solo (adds mine es o)) i ≡ left_at (solo es) i
-adds-left true es o i same = ap (λ (s : SoloMachine). left_at s i) (solo-push es o) ∙ same (solo es)
-adds-left false es o i same = refl
-
--- or of another node, where it joins
+-- an own event that joins leaves it where it is of another node
 other-left : (mine : Bool) (es : List Own) (o : Own) (i : ℕ) → (mine ≡ true → (s : SoloMachine) → left_at (solo_step s o) i ≡ left_at s i) → left_at (solo (adds mine es o)) i ≡ left_at (solo es) i
-other-left true es o i same = adds-left true es o i (same refl)
-other-left false es o i same = refl
+other-left mine es o i same = adds-keeps (λ os. left_at (solo os) i ≡ left_at (solo es) i) mine es o refl (λ joins. ap (λ (s : SoloMachine). left_at s i) (solo-push es o) ∙ same joins (solo es))
+
+-- or leaves it for each machine, whether it joins or not
+adds-left : (mine : Bool) (es : List Own) (o : Own) (i : ℕ) → ((s : SoloMachine) → left_at (solo_step s o) i ≡ left_at s i) → left_at (solo (adds mine es o)) i ≡ left_at (solo es) i
+adds-left mine es o i same = other-left mine es o i (λ joins. same)
 
 volume-left : (v : ℕ) (es : List Own) (i : ℕ) → left_at (solo (adds_volume v es)) i ≡ left_at (solo es) i
-volume-left v es i = by_test (v == volume_after es)
-  where
-    by_test : (b : Bool) → left_at (solo (cond b es (es ++ Volume v ∷ []))) i ≡ left_at (solo es) i
-    by_test true = refl
-    by_test false = ap (λ (s : SoloMachine). left_at s i) (solo-push es (Volume v))
+volume-left v es i = adds_volume-keeps (λ os. left_at (solo os) i ≡ left_at (solo es) i) v es refl (ap (λ (s : SoloMachine). left_at s i) (solo-push es (Volume v)))
 
 -- a lease that is out before an event and after it
 record IsOutStill (w : ℕ) (past : List Event) (e : Event) (worker : ℕ) (l : LeaseOut) : Type 0 where
@@ -164,15 +157,10 @@ event-left w past (Exchange k) worker l is = adds-left (is_key l.key k) (own l.k
 
 -- what a job asks for is left by an own event that is no opening
 adds-ask : (mine : Bool) (es : List Own) (o : Own) → (solo_step (solo es) o).ask ≡ (solo es).ask → (solo (adds mine es o)).ask ≡ (solo es).ask
-adds-ask true es o same = ap (λ (s : SoloMachine). s.ask) (solo-push es o) ∙ same
-adds-ask false es o same = refl
+adds-ask mine es o same = adds-keeps (λ os. (solo os).ask ≡ (solo es).ask) mine es o refl (λ joins. ap (λ (s : SoloMachine). s.ask) (solo-push es o) ∙ same)
 
 volume-ask : (v : ℕ) (es : List Own) → (solo (adds_volume v es)).ask ≡ (solo es).ask
-volume-ask v es = by_test (v == volume_after es)
-  where
-    by_test : (b : Bool) → (solo (cond b es (es ++ Volume v ∷ []))).ask ≡ (solo es).ask
-    by_test true = refl
-    by_test false = ap (λ (s : SoloMachine). s.ask) (solo-push es (Volume v))
+volume-ask v es = adds_volume-keeps (λ os. (solo os).ask ≡ (solo es).ask) v es refl (ap (λ (s : SoloMachine). s.ask) (solo-push es (Volume v)))
 
 -- its job asks for what it asked for
 event-ask : (w : ℕ) (past : List Event) (e : Event) (worker : ℕ) (l : LeaseOut) → IsOutStill w past e worker l → (solo (own_step l.key (own l.key past) e)).ask ≡ (solo (own l.key past)).ask

@@ -1,38 +1,20 @@
-use Rattle.std.proofs.Common.{◌≡◌, ◌≢◌, ℕ, Bool, true, false, cond, ◌==◌, List, [], ◌∷◌, ◌++◌, Some, refl, sym, ◌∙◌, ap, subst, append_assoc, append-nil}
+use Rattle.std.proofs.Common.{◌≡◌, ◌≢◌, List, [], ◌∷◌, ◌++◌, Some, refl, sym, ◌∙◌, ap, subst, append_assoc, append-nil}
 use Rattle.std.proofs.lemmas.Bool.{false_from_ne_true}
 use Rattle.std.proofs.lemmas.Bool.Decides.{Decides-eqb}
-use Rattle.spec_job.specs.SoloMachine.{Own, Opened, Revised, Closed, Volume, Started, Finished, Exchanged, solo}
+use Rattle.spec_job.specs.SoloMachine.{Own, Opened, Revised, Closed, Started, Finished, Exchanged, solo}
 use Rattle.spec_job.specs.KeyedJob.{Key}
 use Rattle.spec_job.specs.Models.{KeepsAnswers}
 use Rattle.spec_job.specs.Replies.{reply}
 use Rattle.spec_job.proofs.StayLemmas.{push-stays, stays-on, stays-self}
 use Rattle.spec_hall.specs.Events.{Event, Open, Revise, Close, Balance, Start, Finish, Exchange}
-use Rattle.spec_hall.specs.Own.{own, own_step, adds, adds_volume, is_key, volume_in, volume_after}
+use Rattle.spec_hall.specs.Own.{own, own_step, adds, is_key, volume_in, volume_after}
 use Rattle.spec_hall.specs.Laws.{JobAnswersStay, OthersLeaveOwn, OwnEventsAnswer, OwnEventsReply, SameVolumeLeavesOwn, job_in}
 use Rattle.spec_hall.proofs.KeyLemmas.{is_key-Decides}
-use Rattle.spec_hall.proofs.PushLemmas.{own-push}
-
--- an own event that joins keeps the answers given
-adds-stays : (mine : Bool) (es : List Own) (o : Own) → KeepsAnswers (solo es) (solo (adds mine es o))
-adds-stays true es o = push-stays es o
-adds-stays false es o = stays-self (solo es)
-
-adds_volume-stays : (v : ℕ) (es : List Own) → KeepsAnswers (solo es) (solo (adds_volume v es))
-adds_volume-stays v es = by_test (v == volume_after es)
-  where
-    by_test : (b : Bool) → KeepsAnswers (solo es) (solo (cond b es (es ++ Volume v ∷ [])))
-    by_test true = stays-self (solo es)
-    by_test false = push-stays es (Volume v)
+use Rattle.spec_hall.proofs.PushLemmas.{own-push, own_step-keeps}
 
 -- an event keeps the answers that were given
 event-stays : (j : Key) (es : List Own) (e : Event) → KeepsAnswers (solo es) (solo (own_step j es e))
-event-stays j es (Open k ask) = adds-stays (is_key j k) es (Opened ask)
-event-stays j es (Revise k number r) = adds-stays (is_key j k) es (Revised r)
-event-stays j es (Close k) = adds-stays (is_key j k) es Closed
-event-stays j es (Balance shares) = adds_volume-stays (volume_in j shares) es
-event-stays j es (Start k index worker) = adds-stays (is_key j k) es (Started index)
-event-stays j es (Finish k index worker outcome) = adds-stays (is_key j k) es (Finished index outcome)
-event-stays j es (Exchange k) = adds-stays (is_key j k) es Exchanged
+event-stays j es e = own_step-keeps (λ os. KeepsAnswers (solo es) (solo os)) j es e (stays-self (solo es)) (push-stays es)
 
 pub job_answers-stay : JobAnswersStay
 job_answers-stay j past [] = subst (λ (h : List Event). KeepsAnswers (solo (own j past)) (solo (own j h))) (sym (append-nil past)) (stays-self (solo (own j past)))

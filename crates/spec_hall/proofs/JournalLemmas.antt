@@ -1,5 +1,5 @@
 -- The journal of a lease is that of its job's node.
-use Rattle.std.proofs.Common.{◌≡◌, ℕ, zero, suc, ◌+◌, ◌-◌, ◌<◌, ◌≤◌, Bool, true, false, cond, ◌==◌, List, [], ◌∷◌, length, get_or, slice_get, Option, Some, None, option_map, is_some, inl, inr, ◌⊎◌, refl, sym, ◌∙◌, ap, subst, arith}
+use Rattle.std.proofs.Common.{◌≡◌, ℕ, zero, suc, ◌+◌, ◌<◌, ◌≤◌, Bool, true, false, cond, ◌==◌, List, [], ◌∷◌, length, get_or, slice_get, Option, Some, None, option_map, is_some, inl, inr, ◌⊎◌, refl, sym, ◌∙◌, ap, subst, arith}
 use Rattle.std.specs.Prelude.{All, count_by}
 use Rattle.std.specs.Option.{option_map_or}
 use Rattle.std.proofs.lemmas.Bool.{both_ways, cases_lt}
@@ -7,13 +7,12 @@ use Rattle.std.proofs.lemmas.Bool.Decides.{Decides-eqb}
 use Rattle.std.proofs.lemmas.List.Elements.{All-head}
 use Rattle.std.proofs.lemmas.List.Sums.{sum_by-cons}
 use Rattle.std.proofs.lemmas.Option.{slice_get-map}
-use Rattle.mal_base.specs.declared.verdict.Outcome.{Outcome}
 use Rattle.spec_job.specs.Journal.{JournalEntry}
 use Rattle.spec_job.specs.Journaled.{Journaled}
 use Rattle.spec_job.specs.Leased.{Finished}
-use Rattle.spec_job.specs.SoloMachine.{SoloMachine, Lease, place_at, solo}
+use Rattle.spec_job.specs.SoloMachine.{Lease, place_at, solo}
 use Rattle.spec_job.specs.KeyedJob.{Key, KeyedJob}
-use Rattle.spec_job.specs.Viewed.{JobView, IsBack, IsGrownBy, journal_at}
+use Rattle.spec_job.specs.Viewed.{IsBack, IsGrownBy, journal_at}
 use Rattle.spec_hall.specs.Calls.{IsOfLease}
 use Rattle.spec_hall.specs.Events.{Event}
 use Rattle.spec_hall.specs.Leases.{IsWorker, job_number, lease_adds, lease_journal, place_among, start_number}
@@ -21,7 +20,7 @@ use Rattle.spec_hall.specs.Legal.{Legal}
 use Rattle.spec_hall.specs.Own.{own, is_key}
 use Rattle.spec_hall.specs.Seats.{Seat, IsSeated}
 use Rattle.spec_hall.specs.Spots.{Spot, Tag, IsAt, IsSpot, IsTagged, AreSpots, tag_of, tags_of}
-use Rattle.spec_hall.specs.States.{LeaseOut, keys_of, titled, leases, lease_of}
+use Rattle.spec_hall.specs.States.{LeaseOut, keys_of, leases, lease_of}
 use Rattle.spec_hall.proofs.KeyLemmas.{AreApart, is_key-same, key-differs, key-stands, is_key-back}
 use Rattle.spec_hall.proofs.OrderlyLemmas.{legal-orderly}
 use Rattle.spec_hall.proofs.SeatLemmas.{SitsAt, sits-at}

@@ -1,20 +1,18 @@
 -- What a job's own events have that were opened in form and no other event opens again.
-use Rattle.std.proofs.Common.{◌≡◌, ℕ, Bool, true, false, cond, ◌==◌, List, [], ◌∷◌, ◌++◌, refl, sym, ◌∙◌, ap, subst}
+use Rattle.std.proofs.Common.{◌≡◌, ℕ, Bool, true, false, List, [], ◌∷◌, ◌++◌, refl, sym, ◌∙◌, ap, subst}
 use Rattle.std.specs.List.{list_any}
 use Rattle.std.proofs.lemmas.Bool.{both_ways}
 use Rattle.std.proofs.lemmas.List.Folds.{list_any-append}
 use Rattle.mal_base.specs.Asks.{Terms, IsAsk}
-use Rattle.spec_job.specs.Counts.{is_opening}
-use Rattle.spec_job.specs.SoloMachine.{Own, Opened, Revised, Closed, Volume, Started, Finished, Exchanged}
+use Rattle.spec_job.specs.SoloMachine.{Own, Opened}
 use Rattle.spec_job.specs.KeyedJob.{Key}
 use Rattle.spec_hall.specs.Events.{Event, Open, Revise, Close, Balance, Start, Finish, Exchange}
-use Rattle.spec_hall.specs.Own.{own, own_step, adds, adds_volume, is_key, volume_in, volume_after}
+use Rattle.spec_hall.specs.Own.{own, own_step, adds, is_key}
 use Rattle.spec_hall.specs.States.{keys_of, keys_step}
 use Rattle.spec_hall.specs.Legal.{Allowed, Legal}
-use Rattle.spec_hall.proofs.OnceLemmas.{open-other}
 use Rattle.spec_hall.proofs.OrderlyLemmas.{IsOrderly, was_opened, legal-orderly, orderly-push}
 use Rattle.spec_hall.proofs.PushLemmas.{own-push, keys-push}
-use Rattle.spec_hall.proofs.StatesLemmas.{job_of-absent, legal_from-keeps}
+use Rattle.spec_hall.proofs.StatesLemmas.{legal_from-keeps}
 
 -- it holds when a job is opened
 abbrev pub Begins : (List Own → Type 0) → Type 0

@@ -14,7 +14,7 @@ use Rattle.spec_job.specs.KeyedJob.{Key, KeyedJob}
 use Rattle.spec_job.proofs.LeftLemmas.{solo-tidy}
 use Rattle.spec_job.proofs.PlacesLemmas.{get-vacant}
 use Rattle.spec_hall.specs.Events.{Event, Open, Revise, Close, Balance, Start, Finish, Exchange}
-use Rattle.spec_hall.specs.Own.{own, own_step, adds, adds_volume, is_key, volume_in, volume_after}
+use Rattle.spec_hall.specs.Own.{own, own_step, adds, adds_volume, is_key, volume_in}
 use Rattle.spec_hall.specs.States.{Candidate, LeaseOut, keys_of, titled, leases, leases_step, lease_of}
 use Rattle.spec_hall.specs.Legal.{Allowed, Legal, MayStart}
 use Rattle.spec_hall.specs.Leases.{AreApart, AreLeases, IsWorker, LegalLeases, is_of, lease_at}
@@ -23,7 +23,7 @@ use Rattle.spec_hall.proofs.SeatLemmas.{seated-none, sits-at}
 use Rattle.spec_hall.proofs.IdleLemmas.{seated-volumes}
 use Rattle.spec_hall.proofs.SeatedLemmas.{HasSeats, SeatOf, event-seats, legal-seats, opened-seat}
 use Rattle.spec_hall.proofs.KeyLemmas.{is_key-Decides, is_key-same, key-stands}
-use Rattle.spec_hall.proofs.PushLemmas.{own-push, solo-push, leases-push}
+use Rattle.spec_hall.proofs.PushLemmas.{own-push, solo-push, leases-push, adds-keeps, adds_volume-keeps}
 use Rattle.spec_hall.proofs.StatesLemmas.{legal_from-keeps}
 use Rattle.spec_hall.proofs.RunnableLemmas.{picked-may}
 use Rattle.spec_hall.proofs.OutLemmas.{is_out, revised-out, exchanged-out, started-out, finished-out}
@@ -199,15 +199,10 @@ push-apart (x ∷ xs) l apart worker node = by_worker (x.worker == l.worker) ref
 
 -- an event that leaves each job's places leaves the leases
 adds-out : (mine : Bool) (es : List Own) (o : Own) (i : ℕ) → ((s : SoloMachine) → is_out (solo_step s o) i ≡ is_out s i) → is_out (solo (adds mine es o)) i ≡ is_out (solo es) i
-adds-out true es o i same = ap (λ (s : SoloMachine). is_out s i) (solo-push es o) ∙ same (solo es)
-adds-out false es o i same = refl
+adds-out mine es o i same = adds-keeps (λ os. is_out (solo os) i ≡ is_out (solo es) i) mine es o refl (λ joins. ap (λ (s : SoloMachine). is_out s i) (solo-push es o) ∙ same (solo es))
 
 adds_volume-out : (v : ℕ) (es : List Own) (i : ℕ) → is_out (solo (adds_volume v es)) i ≡ is_out (solo es) i
-adds_volume-out v es i = by_test (v == volume_after es)
-  where
-    by_test : (b : Bool) → is_out (solo (cond b es (es ++ Volume v ∷ []))) i ≡ is_out (solo es) i
-    by_test true = refl
-    by_test false = ap (λ (s : SoloMachine). is_out s i) (solo-push es (Volume v))
+adds_volume-out v es i = adds_volume-keeps (λ os. is_out (solo os) i ≡ is_out (solo es) i) v es refl (ap (λ (s : SoloMachine). is_out s i) (solo-push es (Volume v)))
 
 same-leases : (w : ℕ) (past : List Event) (e : Event) → leases_step (leases past) e ≡ leases past → ((k : Key) (i : ℕ) → is_out (solo (own_step k (own k past) e)) i ≡ is_out (solo (own k past)) i) → AreLeases w past → AreLeases w (past ++ e ∷ [])
 same-leases w past e same outs are =

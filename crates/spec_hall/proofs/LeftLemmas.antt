@@ -18,7 +18,7 @@ use Rattle.spec_hall.proofs.DueLemmas.{seated-calm, seated-due}
 use Rattle.spec_hall.proofs.BalanceLemmas.{seated-balance}
 use Rattle.spec_hall.proofs.ExchangeLemmas.{seated-exchange}
 use Rattle.spec_hall.proofs.SeatLemmas.{seated-start, seated-finish}
-use Rattle.spec_hall.proofs.MeasureLemmas.{balance-less, exchange-less, slice-less, start-same, calm-balanced}
+use Rattle.spec_hall.proofs.MeasureLemmas.{balance-less, exchange-less, slice-less, calm-balanced}
 
 -- the test of two live jobs says whether they are equal
 is_same_live-Decides : (a b : Live) → Decides (is_same_live a b) (a ≡ b)

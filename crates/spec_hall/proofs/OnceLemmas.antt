@@ -1,5 +1,5 @@
 -- The own events of a job that asks for one worker are those of a job that one node runs.
-use Rattle.std.proofs.Common.{◌≡◌, ℕ, zero, suc, ◌*◌, ◌<◌, ◌≤◌, Bool, true, false, cond, ◌==◌, nat_le, List, [], ◌∷◌, ◌++◌, length, map, find, fold, Some, inl, inr, ◌⊎◌, refl, sym, ◌∙◌, ap, subst, arith}
+use Rattle.std.proofs.Common.{◌≡◌, ℕ, zero, suc, ◌*◌, ◌<◌, ◌≤◌, Bool, true, false, cond, nat_le, List, [], ◌∷◌, ◌++◌, length, map, find, fold, Some, inl, inr, ◌⊎◌, refl, sym, ◌∙◌, ap, subst, arith}
 use Rattle.std.specs.Prelude.{All}
 use Rattle.std.specs.List.{list_all, list_any}
 use Rattle.std.specs.Option.{option_map_or}
@@ -18,7 +18,7 @@ use Rattle.spec_hall.specs.States.{keys_of, states, titled, live_of, live_ones, 
 use Rattle.spec_hall.specs.Legal.{MayBalance, MayExchange}
 use Rattle.spec_job.specs.Unknown.{is_fed}
 use Rattle.spec_hall.proofs.KeyLemmas.{is_key-Decides, is_key-back, key-differs}
-use Rattle.spec_hall.proofs.PushLemmas.{solo-push}
+use Rattle.spec_hall.proofs.PushLemmas.{solo-push, adds-keeps, adds_volume-keeps}
 use Rattle.spec_hall.proofs.VolumeLemmas.{solo-volume}
 
 -- a job was opened once, and is run by one node if it asks for one worker
@@ -67,15 +67,10 @@ once-more es o once keeps suits = record {
         list_all-append is_single once.rest (o ∷ []) ∙ rw (before, last) refl
 
 pub adds-once : (mine : Bool) (es : List Own) (o : Own) → IsOnce es → (solo_step (solo es) o).ask ≡ (solo es).ask → (mine ≡ true → Suits es o) → IsOnce (adds mine es o)
-adds-once true es o once keeps suits = once-more es o once keeps (suits refl)
-adds-once false es o once keeps suits = once
+adds-once mine es o once keeps suits = adds-keeps IsOnce mine es o once (λ joins. once-more es o once keeps (suits joins))
 
 pub adds_volume-once : (v : ℕ) (es : List Own) → IsOnce es → Suits es (Volume v) → IsOnce (adds_volume v es)
-adds_volume-once v es once suits = by_test (v == volume_after es)
-  where
-    by_test : (b : Bool) → IsOnce (cond b es (es ++ Volume v ∷ []))
-    by_test true = once
-    by_test false = once-more es (Volume v) once refl suits
+adds_volume-once v es once suits = adds_volume-keeps IsOnce v es once (once-more es (Volume v) once refl suits)
 
 -- a job of demand 1 is given one worker at most
 shares-low : (k : Key) (shares : List Share) (ts : List KeyedJob) → map key_of shares ≡ map (λ (t : KeyedJob). t.key) ts → All (λ (t : KeyedJob). is_key k t.key ≡ true → t.state.ask.demand ≡ 1) ts → ((i : ℕ) → i < length ts → volume_at (map (λ (s : Share). s.volume) shares) i ≤ demand_at (map (λ (t : KeyedJob). t.state.ask) ts) i) → volume_in k shares ≤ 1

@@ -1,5 +1,5 @@
 -- A job of a legal history is opened once, so its answers are accounted for.
-use Rattle.std.proofs.Common.{◌≡◌, ℕ, Bool, true, false, cond, ◌==◌, List, [], ◌∷◌, ◌++◌, refl, sym, ◌∙◌, ap, subst}
+use Rattle.std.proofs.Common.{◌≡◌, ℕ, Bool, true, false, List, [], ◌∷◌, ◌++◌, refl, sym, ◌∙◌, ap, subst}
 use Rattle.std.specs.List.{list_any}
 use Rattle.std.proofs.lemmas.Bool.{both_ways}
 use Rattle.std.proofs.lemmas.List.Folds.{list_any-append}
@@ -11,11 +11,11 @@ use Rattle.spec_job.specs.Runnable.{IsRunnable}
 use Rattle.spec_job.specs.Unknown.{AnswersAccountedFor}
 use Rattle.spec_job.proofs.UnknownLemmas.{answers-accounted_for, accounted-decides}
 use Rattle.spec_hall.specs.Events.{Event, Open, Revise, Close, Balance, Start, Finish, Exchange}
-use Rattle.spec_hall.specs.Own.{own, own_step, adds, adds_volume, is_key, volume_in, volume_after}
+use Rattle.spec_hall.specs.Own.{own, own_step, adds, adds_volume, is_key, volume_in}
 use Rattle.spec_hall.specs.States.{keys_of, keys_step}
 use Rattle.spec_hall.specs.Legal.{Allowed, Legal}
 use Rattle.spec_hall.specs.Unknowns.{LegalAnswersAccountedFor, LegalFedAnswersDecide}
-use Rattle.spec_hall.proofs.PushLemmas.{own-push, keys-push}
+use Rattle.spec_hall.proofs.PushLemmas.{own-push, keys-push, adds-keeps, adds_volume-keeps}
 use Rattle.spec_hall.proofs.StatesLemmas.{job_of-absent, legal_from-keeps}
 use Rattle.spec_hall.proofs.OrderlyLemmas.{IsOrderly, legal-orderly, orderly-push}
 use Rattle.spec_hall.proofs.RunnableLemmas.{legal-is_runnable}
@@ -32,15 +32,10 @@ opened-more : (es : List Own) (o : Own) → is_opening o ≡ false → IsOpened 
 opened-more es o other h = record { ask = h.ask; rest = h.rest ++ o ∷ []; is = ap (λ (xs : List Own). xs ++ o ∷ []) h.is; once = list_any-append is_opening h.rest (o ∷ []) ∙ rw (h.once, other) refl }
 
 adds-opened : (mine : Bool) (es : List Own) (o : Own) → is_opening o ≡ false → IsOpened es → IsOpened (adds mine es o)
-adds-opened true es o other h = opened-more es o other h
-adds-opened false es o other h = h
+adds-opened mine es o other h = adds-keeps IsOpened mine es o h (λ joins. opened-more es o other h)
 
 volume-opened : (v : ℕ) (es : List Own) → IsOpened es → IsOpened (adds_volume v es)
-volume-opened v es h = by_test (v == volume_after es)
-  where
-    by_test : (b : Bool) → IsOpened (cond b es (es ++ Volume v ∷ []))
-    by_test true = h
-    by_test false = opened-more es (Volume v) refl h
+volume-opened v es h = adds_volume-keeps IsOpened v es h (opened-more es (Volume v) refl h)
 
 -- a history is orderly, and a job that it has was opened once
 record IsTidy (k : Key) (past : List Event) : Type 0 where

@@ -1,9 +1,9 @@
-use Rattle.std.proofs.Common.{◌≡◌, ℕ, List, [], ◌∷◌, ◌++◌, if◌then◌else◌, sym, ◌∙◌, ap, append_assoc, append-nil}
+use Rattle.std.proofs.Common.{◌≡◌, ℕ, Bool, true, false, cond, ◌==◌, List, [], ◌∷◌, ◌++◌, if◌then◌else◌, refl, sym, ◌∙◌, ap, append_assoc, append-nil}
 use Rattle.std.proofs.lemmas.List.Sums.{fold_push}
 use Rattle.spec_job.specs.KeyedJob.{Key}
-use Rattle.spec_job.specs.SoloMachine.{Own, solo, solo_step, unopened}
-use Rattle.spec_hall.specs.Events.{Event}
-use Rattle.spec_hall.specs.Own.{own, own_step}
+use Rattle.spec_job.specs.SoloMachine.{Own, Opened, Revised, Closed, Volume, Started, Finished, Exchanged, solo, solo_step, unopened}
+use Rattle.spec_hall.specs.Events.{Event, Open, Revise, Close, Balance, Start, Finish, Exchange}
+use Rattle.spec_hall.specs.Own.{own, own_step, adds, adds_volume, is_key, volume_in, volume_after}
 use Rattle.spec_hall.specs.States.{Live, keys_of, keys_step, states, lives, is_balance, balanced, balanced_from, leases, leases_step}
 use Rattle.spec_hall.specs.Legal.{Allowed, LegalFrom, Legal}
 
@@ -14,6 +14,29 @@ own-push k h e = fold_push (own_step k) [] h e
 -- the machine after one more event
 pub solo-push : (es : List Own) (o : Own) → solo (es ++ o ∷ []) ≡ solo_step (solo es) o
 solo-push es o = fold_push solo_step unopened es o
+
+-- what a job's own events have, they have with one that joins
+pub adds-keeps : (P : List Own → Type 0) (mine : Bool) (es : List Own) (o : Own) → P es → (mine ≡ true → P (es ++ o ∷ [])) → P (adds mine es o)
+adds-keeps P true es o h more = more refl
+adds-keeps P false es o h more = h
+
+-- after a balancing
+pub adds_volume-keeps : (P : List Own → Type 0) (v : ℕ) (es : List Own) → P es → P (es ++ Volume v ∷ []) → P (adds_volume v es)
+adds_volume-keeps P v es h more = by_test (v == volume_after es)
+  where
+    by_test : (b : Bool) → P (cond b es (es ++ Volume v ∷ []))
+    by_test true = h
+    by_test false = more
+
+-- and after any event of the hall, where each own event leaves it
+pub own_step-keeps : (P : List Own → Type 0) (j : Key) (es : List Own) (e : Event) → P es → ((o : Own) → P (es ++ o ∷ [])) → P (own_step j es e)
+own_step-keeps P j es (Open k ask) h more = adds-keeps P (is_key j k) es (Opened ask) h (λ mine. more (Opened ask))
+own_step-keeps P j es (Revise k number r) h more = adds-keeps P (is_key j k) es (Revised r) h (λ mine. more (Revised r))
+own_step-keeps P j es (Close k) h more = adds-keeps P (is_key j k) es Closed h (λ mine. more Closed)
+own_step-keeps P j es (Balance shares) h more = adds_volume-keeps P (volume_in j shares) es h (more (Volume (volume_in j shares)))
+own_step-keeps P j es (Start k index worker) h more = adds-keeps P (is_key j k) es (Started index) h (λ mine. more (Started index))
+own_step-keeps P j es (Finish k index worker outcome) h more = adds-keeps P (is_key j k) es (Finished index outcome) h (λ mine. more (Finished index outcome))
+own_step-keeps P j es (Exchange k) h more = adds-keeps P (is_key j k) es Exchanged h (λ mine. more Exchanged)
 
 -- the keys after one more event
 pub keys-push : (h : List Event) (e : Event) → keys_of (h ++ e ∷ []) ≡ keys_step (keys_of h) e

@@ -1,4 +1,4 @@
-use Rattle.std.proofs.Common.{◌≡◌, ℕ, suc, ◌+◌, ◌-◌, ◌<◌, ◌≤◌, Bool, true, false, cond, ◌==◌, List, [], ◌∷◌, ◌++◌, length, map, filter, find, fold, slice_get, Option, Some, None, refl, sym, ◌∙◌, ap, subst, arith, append_assoc, append-nil}
+use Rattle.std.proofs.Common.{◌≡◌, ℕ, suc, ◌+◌, ◌-◌, ◌<◌, ◌≤◌, Bool, true, false, cond, List, [], ◌∷◌, ◌++◌, length, map, filter, find, fold, slice_get, Option, Some, None, refl, sym, ◌∙◌, ap, subst, arith, append_assoc, append-nil}
 use Rattle.std.specs.Prelude.{All, nat_lt}
 use Rattle.std.specs.Option.{option_map}
 use Rattle.std.proofs.lemmas.Option.{slice_get-map}
@@ -12,12 +12,12 @@ use Rattle.spec_job.specs.Runnable.{MayCome, MayHappen, IsRunnable}
 use Rattle.spec_job.proofs.OwnLemmas.{runnable-clauses_own}
 use Rattle.spec_job.proofs.RefutingLemmas.{runnable-answers_follow, runnable-answers_refute, runnable-answers_solve, runnable-logs_derived}
 use Rattle.spec_hall.specs.Events.{Event, Open, Revise, Close, Balance, Start, Finish, Exchange}
-use Rattle.spec_hall.specs.Own.{own, own_step, adds, adds_volume, is_key, volume_in, volume_after}
+use Rattle.spec_hall.specs.Own.{own, own_step, adds, adds_volume, is_key, volume_in}
 use Rattle.spec_hall.specs.States.{Candidate, keys_of, states, titled, candidates_of, candidates_from, fewer}
 use Rattle.spec_hall.specs.Legal.{LegalFrom, Allowed, MayRevise, MayStart}
 use Rattle.spec_hall.specs.Laws.{LegalAnswersFollow, LegalAnswersRefute, LegalAnswersSolve, LegalClausesOwn, LegalIsRunnable, LegalLogsDerived}
 use Rattle.spec_hall.proofs.KeyLemmas.{is_key-Decides}
-use Rattle.spec_hall.proofs.PushLemmas.{own-push}
+use Rattle.spec_hall.proofs.PushLemmas.{own-push, adds-keeps, adds_volume-keeps}
 use Rattle.spec_hall.proofs.StatesLemmas.{job_of-absent}
 use Rattle.spec_hall.proofs.OrderlyLemmas.{IsOrderly, empty-orderly, orderly-push}
 
@@ -102,15 +102,10 @@ runnable-push past [] o h may = (subst (λ (xs : List Own). MayHappen (solo xs) 
 runnable-push past (x ∷ xs) o h may = (h.0, runnable-push (past ++ x ∷ []) xs o h.1 (subst (λ (ys : List Own). MayHappen (solo ys) o) (sym (append_assoc past (x ∷ []) xs)) may))
 
 adds-runnable : (mine : Bool) (es : List Own) (o : Own) → IsRunnable [] es → (mine ≡ true → MayHappen (solo es) o) → IsRunnable [] (adds mine es o)
-adds-runnable true es o h may = runnable-push [] es o h (may refl)
-adds-runnable false es o h may = h
+adds-runnable mine es o h may = adds-keeps (IsRunnable []) mine es o h (λ joins. runnable-push [] es o h (may joins))
 
 adds_volume-runnable : (v : ℕ) (es : List Own) → IsRunnable [] es → IsRunnable [] (adds_volume v es)
-adds_volume-runnable v es h = by_test (v == volume_after es)
-  where
-    by_test : (b : Bool) → IsRunnable [] (cond b es (es ++ Volume v ∷ []))
-    by_test true = h
-    by_test false = runnable-push [] es (Volume v) h tt
+adds_volume-runnable v es h = adds_volume-keeps (IsRunnable []) v es h (runnable-push [] es (Volume v) h tt)
 
 -- an event that is allowed leaves a job's own events runnable
 event-runnable : (w : ℕ) (past : List Event) (e : Event) (j : Key) → Allowed w past e → IsOrderly past → IsRunnable [] (own j past) → IsRunnable [] (own_step j (own j past) e)

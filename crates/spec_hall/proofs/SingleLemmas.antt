@@ -2,7 +2,7 @@
 use Rattle.std.proofs.Common.{◌≡◌, ℕ, Bool, true, false, List, [], ◌∷◌, ◌++◌, refl, sym, ◌∙◌, ap, subst, arith}
 use Rattle.std.specs.List.{list_all, list_any}
 use Rattle.mal_base.specs.Asks.{Terms}
-use Rattle.spec_job.specs.SoloMachine.{Own, Opened, Revised, Closed, Started, Finished, Exchanged, solo}
+use Rattle.spec_job.specs.SoloMachine.{Own, Opened, Revised, Closed, Started, Finished, Exchanged, SoloMachine, solo}
 use Rattle.spec_job.specs.KeyedJob.{Key}
 use Rattle.spec_job.specs.DemandOne.{IsSingle, AgreeAll}
 use Rattle.spec_job.specs.Runnable.{IsRunnable}
@@ -58,11 +58,17 @@ legal-alone w h k legal asks = by_test (list_any (is_key k) (keys_of h)) refl
         let none : (solo (own k h)).ask.demand ≡ 0 = ap (λ (es : List Own). (solo es).ask.demand) ((legal-orderly w h legal).absent k e) in
         absurd (omega (arith, none, asks.demand))
 
-pub legal-singles_agree : LegalSinglesAgree
-legal-singles_agree k workers others one other more legal lawful asks asked budget profile front =
+-- what relates the runs of two such jobs of one budget and one profile relates their machines
+pub alone-agree : (R : SoloMachine → SoloMachine → Type 0) (workers others : ℕ) (one other : List Event) (k : Key) → Legal workers one → Legal others other → AsksForOne one k → AsksForOne other k → (solo (own k one)).ask.slices ≡ (solo (own k other)).ask.slices → (solo (own k one)).ask.profile ≡ (solo (own k other)).ask.profile
+    → ((ask asked : Terms) (rest others : List Own) → own k one ≡ Opened ask ∷ rest → own k other ≡ Opened asked ∷ others → ask.slices ≡ asked.slices → ask.profile ≡ asked.profile → IsSingle ask rest → IsSingle asked others → R (solo (Opened ask ∷ rest)) (solo (Opened asked ∷ others))) → R (solo (own k one)) (solo (own k other))
+alone-agree R workers others one other k legal lawful asks asked budget profile runs =
     let a : IsAlone one k = legal-alone workers one k legal asks in
     let b : IsAlone other k = legal-alone others other k lawful asked in
     let slices : a.ask.slices ≡ b.ask.slices = ap (λ (t : Terms). t.slices) (sym a.same) ∙ (budget ∙ ap (λ (t : Terms). t.slices) b.same) in
     let same : a.ask.profile ≡ b.ask.profile = ap (λ (t : Terms). t.profile) (sym a.same) ∙ (profile ∙ ap (λ (t : Terms). t.profile) b.same) in
-    let begins : (solo (Opened b.ask ∷ b.rest)).revisions ≡ (solo (Opened a.ask ∷ a.rest)).revisions ++ more = ap (λ (es : List Own). (solo es).revisions) (sym b.is) ∙ (front ∙ ap (λ (es : List Own). (solo es).revisions ++ more) a.is) in
-    subst (λ (es : List Own). AgreeAll (solo es) (solo (own k other))) (sym a.is) (subst (λ (es : List Own). AgreeAll (solo (Opened a.ask ∷ a.rest)) (solo es)) (sym b.is) (singles-agree a.ask b.ask a.rest b.rest more slices same a.single b.single begins))
+    subst (λ (es : List Own). R (solo es) (solo (own k other))) (sym a.is) (subst (λ (es : List Own). R (solo (Opened a.ask ∷ a.rest)) (solo es)) (sym b.is) (runs a.ask b.ask a.rest b.rest a.is b.is slices same a.single b.single))
+
+pub legal-singles_agree : LegalSinglesAgree
+legal-singles_agree k workers others one other more legal lawful asks asked budget profile front = alone-agree AgreeAll workers others one other k legal lawful asks asked budget profile (λ a b own-a own-b is-a is-b slices same single-a single-b.
+    let begins : (solo (Opened b ∷ own-b)).revisions ≡ (solo (Opened a ∷ own-a)).revisions ++ more = ap (λ (es : List Own). (solo es).revisions) (sym is-b) ∙ (front ∙ ap (λ (es : List Own). (solo es).revisions ++ more) is-a) in
+    singles-agree a b own-a own-b more slices same single-a single-b begins)

@@ -1,5 +1,5 @@
 -- The spots of the workers after an event.
-use Rattle.std.proofs.Common.{◌≡◌, ℕ, zero, suc, ◌+◌, ◌-◌, ◌<◌, ◌≤◌, Bool, true, false, cond, not, ◌||◌, ◌==◌, nat_lt, List, [], ◌∷◌, ◌++◌, length, map, filter, find, fold, get_or, replicate, slice_get, slice_set, Option, Some, None, refl, sym, ◌∙◌, ap, subst, arith}
+use Rattle.std.proofs.Common.{◌≡◌, ℕ, zero, suc, ◌+◌, ◌<◌, ◌≤◌, Bool, true, false, cond, not, ◌||◌, ◌==◌, nat_lt, List, [], ◌∷◌, ◌++◌, length, filter, fold, get_or, replicate, slice_get, slice_set, Option, Some, None, refl, sym, ◌∙◌, ap, subst, arith}
 use Rattle.std.specs.Option.{option_or}
 use Rattle.std.proofs.lemmas.Bool.{both_ways}
 use Rattle.std.proofs.lemmas.Bool.Decides.{Decides-eqb}
@@ -11,7 +11,7 @@ use Rattle.spec_job.specs.KeyedJob.{Key}
 use Rattle.spec_hall.specs.Events.{Event, Open, Revise, Close, Balance, Start, Finish, Exchange}
 use Rattle.spec_hall.specs.Leases.{start_number, numbered, numbered_step, starts_in, starts_step}
 use Rattle.spec_hall.specs.Spots.{Spot, Tag, IsAt, IsSpot, IsTagged, AreSpots}
-use Rattle.spec_hall.specs.States.{LeaseOut, leases, leases_step, lease_of}
+use Rattle.spec_hall.specs.States.{LeaseOut, leases, lease_of}
 use Rattle.spec_hall.proofs.PushLemmas.{leases-push}
 use Rattle.spec_hall.proofs.LeasesLemmas.{others}
 

@@ -1,36 +1,35 @@
 -- What a hall does between two starts, and a start with its end, as turns that leave less to do.
-use Rattle.std.proofs.Common.{◌≡◌, ℕ, zero, suc, ◌+◌, ◌<◌, ◌≤◌, Bool, true, false, cond, not, ◌&&◌, List, [], ◌∷◌, ◌++◌, map, flat_map, length, slice_get, slice_set, Option, Some, None, refl, sym, ◌∙◌, ap, subst, arith, append_assoc, append-nil, lit≤}
+use Rattle.std.proofs.Common.{◌≡◌, ℕ, zero, suc, ◌<◌, ◌≤◌, Bool, true, false, not, ◌&&◌, List, [], ◌∷◌, ◌++◌, map, flat_map, length, slice_get, slice_set, Option, Some, None, refl, sym, ◌∙◌, ap, subst, arith, append_assoc, append-nil}
 use Rattle.std.specs.List.{list_all}
 use Rattle.std.proofs.lemmas.Bool.{and_from, and_parts}
 use Rattle.std.proofs.lemmas.List.Concat.{flat_map-append}
 use Rattle.mal_base.specs.declared.verdict.Outcome.{Outcome}
 use Rattle.mal_base.specs.declared.verdict.Outcome.TheVariants.{Ran, Starved, Lost}
 use Rattle.mal_history.specs.declared.event.Share.{Share}
-use Rattle.spec_balance.specs.Fair.{IsFair}
 use Rattle.spec_job.specs.Left.{StartsLeaveLess, after_start, left_of}
-use Rattle.spec_job.specs.SoloMachine.{Exchanged, SoloMachine, is_live, solo, startable}
-use Rattle.spec_job.specs.KeyedJob.{Key, KeyedJob, stepped}
-use Rattle.spec_job.specs.Viewed.{JobView, and_own}
+use Rattle.spec_job.specs.SoloMachine.{Exchanged, SoloMachine, is_live, solo}
+use Rattle.spec_job.specs.KeyedJob.{Key, KeyedJob}
+use Rattle.spec_job.specs.Viewed.{and_own}
 use Rattle.spec_job.proofs.LeftLemmas.{left-falls}
-use Rattle.spec_hall.specs.Calls.{AreDue, IsStarting, Handed, arranges}
+use Rattle.spec_hall.specs.Calls.{AreDue, arranges}
 use Rattle.spec_hall.specs.Driven.{Turn, Balances, Exchanges, Slices, AreTurns, GrowsByTurns, events_in, is_done, loses, was_lost}
 use Rattle.spec_hall.specs.Events.{Event, Open, Revise, Close, Balance, Start, Finish, Exchange}
-use Rattle.spec_hall.specs.Legal.{Allowed, Legal, LegalFrom, MayBalance}
+use Rattle.spec_hall.specs.Legal.{Allowed, Legal, LegalFrom}
 use Rattle.spec_hall.specs.Measure.{left_in}
 use Rattle.spec_hall.specs.Own.{own}
-use Rattle.spec_hall.specs.Seats.{Seat, IsSeated, jobs_in, is_due, first_exchange, shares_by}
-use Rattle.spec_hall.specs.States.{LeaseOut, keys_of, states, titled, leases, lease_of, exchange_due, live_asks}
-use Rattle.spec_hall.proofs.PushLemmas.{LegalFrom-push, Legal-push, leases-push}
+use Rattle.spec_hall.specs.Seats.{Seat, IsSeated, jobs_in, is_due, first_exchange}
+use Rattle.spec_hall.specs.States.{LeaseOut, keys_of, states, titled, leases, lease_of, exchange_due}
+use Rattle.spec_hall.proofs.PushLemmas.{Legal-push, leases-push}
 use Rattle.spec_hall.proofs.StatesLemmas.{legal_from-keeps}
 use Rattle.spec_hall.proofs.TouchLemmas.{given, states-balance, exchange-touches}
-use Rattle.spec_hall.proofs.SeatLemmas.{SitsAt, reseated, seats-touch, sits-at}
-use Rattle.spec_hall.proofs.DueLemmas.{seated-calm, seated-due}
-use Rattle.spec_hall.proofs.ExchangeLemmas.{first-found, first-none, seated-no_exchange}
+use Rattle.spec_hall.proofs.SeatLemmas.{reseated, seats-touch, sits-at}
+use Rattle.spec_hall.proofs.DueLemmas.{seated-due}
+use Rattle.spec_hall.proofs.ExchangeLemmas.{first-found, seated-no_exchange}
 use Rattle.spec_hall.proofs.PlaceLemmas.{first-within}
 use Rattle.spec_hall.proofs.RunnableLemmas.{picked-may}
 use Rattle.spec_hall.proofs.LeftLemmas.{left-balance, left-exchange, left-slice}
-use Rattle.spec_hall.proofs.SeatedLemmas.{HasSeats, SeatOf, IsBalancedBy, balance-facts, legal-seats, opened-seat, event-seats}
-use Rattle.spec_hall.proofs.LeasesLemmas.{IsFree, start-free, without}
+use Rattle.spec_hall.proofs.SeatedLemmas.{HasSeats, SeatOf, IsBalancedBy, balance-facts, legal-seats, opened-seat}
+use Rattle.spec_hall.proofs.LeasesLemmas.{start-free, without}
 use Rattle.spec_hall.proofs.KeyLemmas.{key-stands}
 
 -- what is due, and one event more
