@@ -1,6 +1,7 @@
-use Rattle.std.proofs.Common.{◌≡◌, ◌≢◌, ℕ, ◌/◌, true, List, [], ◌∷◌, Option, Some, None, Result, Ok, Err, IfOk, MatchOption, Contains, ◌⊎◌, inl, inr, ◌<◌, refl, sym, ap, subst, arith}
-use Rattle.mal_base.specs.Clauses.{rises, climbs, clash_after, clash, IsTautology, HaveSame, IsLeastOpposite}
-use Rattle.mal_base.proofs.Sorting.{Contains-head, Contains-later, Contains-cases, rises-no_clash, clash-least, rises-apart, rises-tail, over-first}
+use Rattle.std.proofs.Common.{◌≡◌, ◌≢◌, ℕ, ◌/◌, true, List, [], ◌∷◌, Option, Some, None, Result, Ok, Err, IfOk, MatchOption, Contains, ◌⊎◌, inl, inr, ◌<◌, refl, sym, subst, arith}
+use Rattle.mal_base.specs.Clauses.{rises, climbs, is_below, is_less, clash_after, clash, IsTautology, HaveSame, IsLeastOpposite}
+use Rattle.mal_base.proofs.Sorting.{Contains-head, Contains-later, Contains-cases, rises-no_clash, clash-least, rises-apart, rises-tail, above-first, and-left, and-right, and-both}
+use Rattle.std.proofs.lemmas.Bool.{ltb-true, lt-ltb}
 
 -- literals that climb and do not rise have a variable with both signs
 both-cases : (l : ℕ) (ls : List ℕ) (o : Option ℕ) → clash_after (l / 2) ls ≡ o → climbs (l ∷ ls) ≡ true → rises (l ∷ ls) ≢ true → IsTautology (l ∷ ls)
@@ -56,32 +57,44 @@ consistent-from_sorted lits sorted same up both = rises-apart sorted both.0 up (
 nothing : (x : ℕ) → Contains [] x → ⊥
 nothing x (k, h, e) = omega arith
 
--- literals that rise are those of each rising list with the same members
-unique-more : (l m : ℕ) (ls ms : List ℕ) → rises (l ∷ ls) ≡ true → rises (m ∷ ms) ≡ true → (l ≡ m) ⊎ Contains ls m → (m ≡ l) ⊎ Contains ms l → l ≡ m
-unique-more l m ls ms p q (inl e) f = e
-unique-more l m ls ms p q (inr e) (inl f) = sym f
-unique-more l m ls ms p q (inr e) (inr f) =
-    let one : l / 2 < m / 2 = over-first l ls m p e in
-    let two : m / 2 < l / 2 = over-first m ms l q f in
+-- lists that climb are equal where they have the same members
+first-same : (l m : ℕ) (ls ms : List ℕ) → climbs (l ∷ ls) ≡ true → climbs (m ∷ ms) ≡ true → (l ≡ m) ⊎ Contains ls m → (m ≡ l) ⊎ Contains ms l → l ≡ m
+first-same l m ls ms p q (inl e) f = e
+first-same l m ls ms p q (inr e) (inl f) = sym f
+first-same l m ls ms p q (inr e) (inr f) =
+    let one : l < m = above-first l ls m p e in
+    let two : m < l = above-first m ms l q f in
     absurd (omega arith)
 
-rest-case : (l : ℕ) (ls ms : List ℕ) (x : ℕ) → rises (l ∷ ls) ≡ true → Contains ls x → (l ≡ x) ⊎ Contains ms x → Contains ms x
+rest-case : (l : ℕ) (ls ms : List ℕ) (x : ℕ) → climbs (l ∷ ls) ≡ true → Contains ls x → (l ≡ x) ⊎ Contains ms x → Contains ms x
 rest-case l ls ms x up has (inr there) = there
-rest-case l ls ms x up has (inl e) = let more : l / 2 < x / 2 = over-first l ls x up has in absurd (omega (arith, ap (λ (n : ℕ). n / 2) e))
+rest-case l ls ms x up has (inl e) = let more : l < x = above-first l ls x up has in absurd (omega arith)
 
-rest-same : (l : ℕ) (ls ms : List ℕ) → rises (l ∷ ls) ≡ true → rises (l ∷ ms) ≡ true → HaveSame (l ∷ ls) (l ∷ ms) → HaveSame ls ms
+rest-same : (l : ℕ) (ls ms : List ℕ) → climbs (l ∷ ls) ≡ true → climbs (l ∷ ms) ≡ true → HaveSame (l ∷ ls) (l ∷ ms) → HaveSame ls ms
 rest-same l ls ms p q same = record {
   there = λ x h. rest-case l ls ms x p h (Contains-cases l ms x (same.there x (Contains-later l ls x h)));
   back = λ x h. rest-case l ms ls x q h (Contains-cases l ls x (same.back x (Contains-later l ms x h)));
 }
 
-pub rising-unique : (ls ms : List ℕ) → rises ls ≡ true → rises ms ≡ true → HaveSame ls ms → ls ≡ ms
-rising-unique [] [] p q same = refl
-rising-unique [] (m ∷ ms) p q same = let none : Contains [] m = same.back m (Contains-head m ms) in absurd (nothing m none)
-rising-unique (l ∷ ls) [] p q same = let none : Contains [] l = same.there l (Contains-head l ls) in absurd (nothing l none)
-rising-unique (l ∷ ls) (m ∷ ms) p q same =
-    let e : l ≡ m = unique-more l m ls ms p q (Contains-cases l ls m (same.back m (Contains-head m ms))) (Contains-cases m ms l (same.there l (Contains-head l ls))) in
-    let q' : rises (l ∷ ms) ≡ true = rw e q in
+pub climbing-unique : (ls ms : List ℕ) → climbs ls ≡ true → climbs ms ≡ true → HaveSame ls ms → ls ≡ ms
+climbing-unique [] [] p q same = refl
+climbing-unique [] (m ∷ ms) p q same = let none : Contains [] m = same.back m (Contains-head m ms) in absurd (nothing m none)
+climbing-unique (l ∷ ls) [] p q same = let none : Contains [] l = same.there l (Contains-head l ls) in absurd (nothing l none)
+climbing-unique (l ∷ ls) (m ∷ ms) p q same =
+    let e : l ≡ m = first-same l m ls ms p q (Contains-cases l ls m (same.back m (Contains-head m ms))) (Contains-cases m ms l (same.there l (Contains-head l ls))) in
+    let q' : climbs (l ∷ ms) ≡ true = rw e q in
     let same' : HaveSame (l ∷ ls) (l ∷ ms) = subst (λ (n : ℕ). HaveSame (l ∷ ls) (n ∷ ms)) (sym e) same in
-    let rest : ls ≡ ms = rising-unique ls ms (rises-tail l ls p) (rises-tail l ms q') (rest-same l ls ms p q' same') in
+    let rest : ls ≡ ms = climbing-unique ls ms (and-right _ _ p) (and-right _ _ q') (rest-same l ls ms p q' same') in
     rw (e, rest) refl
+
+-- and so are lists that rise: they climb
+less-from_below : (l : ℕ) (ls : List ℕ) → is_below l ls ≡ true → is_less l ls ≡ true
+less-from_below l [] h = refl
+less-from_below l (m ∷ ms) h = let low : l / 2 < m / 2 = ltb-true (l / 2) (m / 2) h in lt-ltb l m (omega arith)
+
+climbs-from_rises : (ls : List ℕ) → rises ls ≡ true → climbs ls ≡ true
+climbs-from_rises [] h = refl
+climbs-from_rises (l ∷ ls) h = and-both _ _ (less-from_below l ls (and-left _ _ h)) (climbs-from_rises ls (rises-tail l ls h))
+
+pub rising-unique : (ls ms : List ℕ) → rises ls ≡ true → rises ms ≡ true → HaveSame ls ms → ls ≡ ms
+rising-unique ls ms p q same = climbing-unique ls ms (climbs-from_rises ls p) (climbs-from_rises ms q) same
