@@ -1,5 +1,5 @@
 -- The numbers of words and the codes of literals.
-use Rattle.std.proofs.Common.{◌≡◌, ◌≢◌, ℕ, zero, suc, ◌+◌, ◌*◌, ◌/◌, ◌%◌, ◌≤◌, Bool, true, false, cond, ◌&&◌, ◌==◌, nat_lt, nat_le, List, [], ◌∷◌, ℤ, pos, negsuc, neg_ℤ, nat_abs, length, refl, sym, ap, arith, eqb-true}
+use Rattle.std.proofs.Common.{◌≡◌, ℕ, zero, suc, ◌+◌, ◌*◌, ◌/◌, ◌%◌, ◌≤◌, Bool, true, false, cond, ◌&&◌, ◌==◌, nat_lt, nat_le, List, [], ◌∷◌, ℤ, pos, negsuc, nat_abs, length, refl, sym, ◌∙◌, ap, arith, eqb-true}
 use Rattle.std.specs.Str.{bytes_eq}
 use Rattle.std.proofs.lemmas.Bool.{leb-true}
 use Rattle.std.proofs.lemmas.Bool.Decides.{nat_tests}
@@ -7,6 +7,7 @@ use Rattle.std.proofs.lemmas.Slice.Eq.{bytes_eq-Decides}
 use Rattle.mal_base.specs.Literals.{literal}
 use Rattle.spec_text.specs.Numbers.{NumberWord, is_digit, is_numeral, value_of, magnitude_in, number_in, negated, number_of}
 use Rattle.spec_text.specs.Numbers.NumberWord.{NotANumber, TooLarge, Number}
+use Rattle.spec_text.proofs.Clean as clean
 use Rattle.spec_dimacs.specs.Rows.{is_comment}
 use Rattle.spec_dimacs.specs.Reading.{code_of}
 
@@ -70,13 +71,12 @@ number_of-negative n =
     rw (test, half) refl
 
 -- a literal's code is that of its number, which is not 0
+same-code : (z : ℤ) → code_of z ≡ clean.code_of z
+same-code (pos n) = omega arith
+same-code (negsuc n) = omega arith
+
 pub code_of-number_of : (code : ℕ) → 2 ≤ code → code_of (number_of code) ≡ code
-code_of-number_of code h = by_sign (code % 2 == 0) refl (code / 2) refl
-  where
-    by_sign : (b : Bool) → (code % 2 == 0) ≡ b → (n : ℕ) → code / 2 ≡ n → code_of (cond b (pos n) (neg_ℤ (pos n))) ≡ code
-    by_sign true e n f = let even : code % 2 ≡ 0 = eqb-true (code % 2) 0 e in omega arith
-    by_sign false e zero f = absurd (omega arith)
-    by_sign false e (suc n) f = let odd : code % 2 ≢ 0 = λ q. grind (arith, nat_tests) in omega arith
+code_of-number_of code h = same-code (number_of code) ∙ clean.code_of-number_of code h
 
 -- a word that begins with neither a digit nor a minus sign is no number
 and-false : (x : Bool) → (x && false) ≡ false

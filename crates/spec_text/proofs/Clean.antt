@@ -47,12 +47,11 @@ pub decimals_differ : DecimalsDiffer
 decimals_differ m n = decimal_injective m n
 
 -- the code that a number stands for
-code_of : ℤ → ℕ
+abbrev pub code_of : ℤ → ℕ
 code_of (pos n) = n + n
 code_of (negsuc n) = n + n + 3
 
-code_of-number_of : (code : ℕ) → 2 ≤ code → code_of (number_of code) ≡ code
-unfolding code_of
+pub code_of-number_of : (code : ℕ) → 2 ≤ code → code_of (number_of code) ≡ code
 code_of-number_of code h = by_sign (code % 2 == 0) refl (code / 2) refl
   where
     by_sign : (b : Bool) → (code % 2 == 0) ≡ b → (v : ℕ) → code / 2 ≡ v → code_of (cond b (pos v) (neg_ℤ (pos v))) ≡ code
