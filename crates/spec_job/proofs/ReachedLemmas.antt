@@ -11,9 +11,9 @@ use Rattle.mal_base.specs.Literals.{negated}
 use Rattle.mal_base.proofs.Sorting.{Contains-head, Contains-later, Contains-cases}
 use Rattle.spec_logic.specs.Refutation.{contradicts}
 use Rattle.spec_proof.specs.Log.{IsAbove, AreApart}
-use Rattle.spec_proof.specs.Trimmed.{put, by_id, is_needed, with_needed, reached_in, reached}
+use Rattle.spec_proof.specs.Trimmed.{put, by_id, with_needed, reached_in, reached}
 use Rattle.spec_proof.proofs.Among.{Among, among-append, of-all}
-use Rattle.spec_proof.proofs.Reaching.{sorted-among, among-sorted, sorted-rising, reached-among}
+use Rattle.spec_proof.proofs.Reaching.{sorted-among, among-sorted, sorted-rising, with-later, reached-among}
 use Rattle.spec_proof.proofs.OrderLemmas.{apart-permuted, rising-same}
 use Rattle.spec_job.specs.Proofs.{lits_at}
 use Rattle.spec_job.specs.SoloMachine.{first_empty}
@@ -68,18 +68,10 @@ unneeded goal m later other none =
     let rest : list_any (λ line. list_any (λ hint. hint == m.id) line.hints) later ≡ false = no-user later m.id none in
     rw (first, rest) refl
 
--- what is reached is reached with a line before it too
-with-subset : (goal : ℕ) (x : Line) (later : List Line) (y : Line) → Among y later → Among y (with_needed goal x later)
-with-subset goal x later y h = by_needed (is_needed goal later x.id)
-  where
-    by_needed : (b : Bool) → Among y (cond b (x ∷ later) later)
-    by_needed true = inr h
-    by_needed false = h
-
 -- a line that is not needed changes nothing
 put-unneeded : (goal : ℕ) (m : Line) (xs : List Line) → m.id ≢ goal → ((y : Line) → Among y (reached_in goal xs) → Contains y.hints m.id → ⊥) → reached_in goal (put m xs) ≡ reached_in goal xs
 put-unneeded goal m [] other none = unneeded goal m [] other none
-put-unneeded goal m (x ∷ xs) other none = by_order (nat_lt m.id x.id) (put-unneeded goal m xs other (λ y h. none y (with-subset goal x (reached_in goal xs) y h)))
+put-unneeded goal m (x ∷ xs) other none = by_order (nat_lt m.id x.id) (put-unneeded goal m xs other (λ y h. none y (with-later goal x (reached_in goal xs) y h)))
   where
     by_order : (b : Bool) → reached_in goal (put m xs) ≡ reached_in goal xs → reached_in goal (cond b (m ∷ x ∷ xs) (x ∷ put m xs)) ≡ reached_in goal (x ∷ xs)
     by_order true rest = unneeded goal m (reached_in goal (x ∷ xs)) other none

@@ -9,7 +9,8 @@ use Rattle.spec_job.specs.SoloMachine.{Own, Opened, Revised, Closed, Volume, Sta
 use Rattle.spec_job.specs.KeyedJob.{Key}
 use Rattle.spec_job.specs.Replies.{reply}
 use Rattle.spec_job.specs.DemandOne.{IsSingle}
-use Rattle.spec_job.specs.Examples.{ask, at_odds, one_of_two, third_true}
+use Rattle.spec_job.specs.Examples.{ask, one_of_two, third_true}
+use Rattle.spec_search.specs.Examples.{at_odds}
 
 -- two machines agree on a revision, counted from 0: on its answer and on its reply, where both have them
 pub record AgreeOn (r : ℕ) (s t : SoloMachine) : Type 0 where

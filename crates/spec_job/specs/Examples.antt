@@ -5,6 +5,8 @@ use Rattle.mal_base.specs.declared.answer.Answer.TheVariants.{Satisfied, Refuted
 use Rattle.mal_base.specs.declared.verdict.Outcome.TheVariants.{Ran, Starved, Lost}
 use Rattle.mal_revision.specs.Posted.{Posted}
 use Rattle.spec_node.specs.State.{fresh}
+use Rattle.spec_search.specs.Examples as searched
+use Rattle.spec_search.specs.Examples.{at_odds, four}
 use Rattle.spec_job.specs.Journal.{Load, Import, Run, replay}
 use Rattle.spec_job.specs.SoloMachine.{Own, Opened, Revised, Closed, Volume, Started, Finished, Exchanged, SoloMachine, unopened, solo, startable, start_entries, is_exchange_due, place_at, conclude}
 use Rattle.spec_job.specs.Proofs.{failed, proof_lines}
@@ -20,17 +22,9 @@ ask demand slices = record { priority = 1; demand = demand; slices = slices; pro
 abbrev pub second_ask : ℕ → ℕ → Terms
 second_ask demand slices = record { priority = 1; demand = demand; slices = slices; profile = 2 }
 
--- two variables, one of which has to be true
+-- the revision of the examples of a slice of which one of two variables has to be true
 abbrev pub one_of_two : Posted
-one_of_two = record { variables = 2; clauses = Some (2 ∷ 4 ∷ []) ∷ []; assumptions = [] }
-
--- a variable that has to be true and false
-abbrev pub at_odds : Posted
-at_odds = record { variables = 1; clauses = Some (2 ∷ []) ∷ Some (3 ∷ []) ∷ []; assumptions = [] }
-
--- the clauses 1 2, 1 -2, -1 2 and -1 -2
-abbrev pub four : Posted
-four = record { variables = 2; clauses = Some (2 ∷ 4 ∷ []) ∷ Some (2 ∷ 5 ∷ []) ∷ Some (3 ∷ 4 ∷ []) ∷ Some (3 ∷ 5 ∷ []) ∷ []; assumptions = [] }
+one_of_two = searched.one_of_two
 
 -- two variables, one of which has to be false, where both are assumed true
 abbrev pub both_assumed : Posted

@@ -9,7 +9,8 @@ use Rattle.spec_job.specs.SoloMachine.{Opened, Revised, Closed, Volume, Started,
 use Rattle.spec_job.specs.KeyedJob.{Key}
 use Rattle.spec_job.specs.Replies.{reply}
 use Rattle.spec_job.specs.DemandOne.{IsSingle}
-use Rattle.spec_job.specs.Examples.{second_ask, four, one_of_two, ran_once, line, proof_for}
+use Rattle.spec_search.specs.Examples.{four}
+use Rattle.spec_job.specs.Examples.{second_ask, one_of_two, ran_once, line, proof_for}
 
 -- a job of profile 2 whose revision one node ran a slice of
 abbrev pub second_once : Posted → SoloMachine

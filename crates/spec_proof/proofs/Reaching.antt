@@ -84,7 +84,7 @@ with-cases goal x later y h = by_needed (is_needed goal later x.id) refl h
     by_needed true q (inr k) = inr k
     by_needed false q k = inr k
 
-with-later : (goal : ℕ) (x : Line) (later : List Line) (y : Line) → Among y later → Among y (with_needed goal x later)
+pub with-later : (goal : ℕ) (x : Line) (later : List Line) (y : Line) → Among y later → Among y (with_needed goal x later)
 with-later goal x later y h = by_needed (is_needed goal later x.id)
   where
     by_needed : (b : Bool) → Among y (cond b (x ∷ later) later)
