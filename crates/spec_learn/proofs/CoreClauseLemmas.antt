@@ -17,7 +17,8 @@ use Rattle.spec_learn.specs.Refuting.{core_analysis}
 use Rattle.spec_learn.specs.CoreLaws.{HasFailed, HasReason, IsCore}
 use Rattle.spec_learn.proofs.LogicLemmas.{negated-negated}
 use Rattle.spec_learn.proofs.BehindLemmas.{EachBehind, each-reverse, true-turned}
-use Rattle.spec_learn.proofs.UipLemmas.{AreLevelled, walk-small, length-put, length-clause}
+use Rattle.spec_learn.proofs.UipLemmas.{AreLevelled, walk-small, length-clause}
+use Rattle.spec_learn.proofs.InsertionLemmas.{length-put}
 use Rattle.spec_learn.proofs.ApartLemmas.{apart-reverse, apart-short}
 use Rattle.spec_learn.proofs.PointLemmas.{AllOf, allof-append, allof-back, allof-kept, IsOn, all-on}
 use Rattle.spec_learn.proofs.LawLemmas.{sound-levelled}
@@ -42,7 +43,7 @@ by-small : (clauses : List NumberedClause) (a : ℕ) (past : List TrailEntry) (o
 by-small clauses a past None = omega arith
 by-small clauses a past (Some r) =
     let w : Walk = core_walk clauses a past r in
-    let lits : length (put (negated a) (clause_of w.kept)) ≡ length (clause_of w.kept) + 1 = length-put (negated a) (clause_of w.kept) in
+    let lits : length (put (negated a) (clause_of w.kept)) ≡ length (clause_of w.kept) + 1 = length-put nat_lt (negated a) (clause_of w.kept) in
     let kept : length (clause_of w.kept) ≡ length w.kept = length-clause w.kept in
     let hints : length (w.hints ++ r ∷ []) ≡ length w.hints + 1 = length_push w.hints r in
     let walk : length w.kept + length w.hints ≤ length past + (0 + 0) = walk-small Final clauses past (begun (vars_under clauses r)) in

@@ -19,18 +19,18 @@ use Rattle.spec_node.specs.Load.{counted, is_derived}
 use Rattle.spec_node.specs.Adding.{with_clause}
 use Rattle.spec_node.specs.Sound.{EachAfter, IsPlaced, IsLevelled, IsClosed, IsForced, IsChosen, IsPassed, AreSettled, left_is_true, level_in, greatest_level, IsReason, IsLiteralOf, AreLiteralsOf, serial_of, IsRanged, IsConsistent, IsSound}
 use Rattle.spec_node.proofs.TrailLemmas.{each-push, each-front, each-weaker, is_true-more, value-from_true, settled-more, true_or_false}
+use Rattle.spec_node.proofs.SoundLemmas.{kept-level}
 use Rattle.spec_node.proofs.LevelLemmas.{greatest-le}
 use Rattle.spec_node.proofs.CutLemmas.{kept-cons, kept-front, kept-settled}
 use Rattle.spec_node.proofs.SettledLemmas.{var_of-negated}
 use Rattle.spec_learn.specs.Analysis.{Analysed, put, clause_of, jump, vars_in, top}
 use Rattle.spec_learn.specs.Order.{moved_all}
-use Rattle.spec_learn.specs.Learning.{derived_id, forced_by, counted_in}
-use Rattle.spec_learn.specs.Lesson.{taught}
+use Rattle.spec_learn.specs.Learning.{derived_id, forced_by, counted_in, taught}
 use Rattle.spec_learn.proofs.LogicLemmas.{negated-negated}
 use Rattle.spec_learn.proofs.HeartLemmas.{IsConsistentTrail}
 use Rattle.spec_learn.proofs.BehindLemmas.{sound-consistent}
 use Rattle.spec_learn.proofs.UipLemmas.{HasPoint, AreBetween, jump-below}
-use Rattle.spec_learn.proofs.PointLemmas.{AllOf, allof-append, allof-front, allof-back, IsOn, kept-low, level-front, jump-reaches, unit-after}
+use Rattle.spec_learn.proofs.PointLemmas.{AllOf, allof-append, allof-front, allof-back, IsOn, level-front, jump-reaches, unit-after}
 use Rattle.spec_learn.proofs.ApartLemmas.{IsApart, apart-reverse}
 use Rattle.spec_learn.proofs.LawLemmas.{top-trail}
 use Rattle.spec_learn.proofs.SoundParts.{moves-permute, counted-has, with-last, numbers-last, below-derived, derived-serial, AreDifferent, AreApartFrom, clause-rises, clause-All, find-alone}
@@ -125,7 +125,7 @@ learned-reason variables trail level es point id c own k =
     let free : has_value t (var_of point.lit) ≡ false = point-free variables trail level es point c own k in
     let greatest : greatest_level t (clause_of (es ++ point ∷ [])) ≡ j = greatest-clause t level es point k.between k.own (low-levels variables j trail es k.lows reaches) (level-none t (var_of point.lit) free) in
     let high : greatest_level t (clause_of (es ++ point ∷ [])) ≤ level_of t = greatest-le t (clause_of (es ++ point ∷ [])) (cut-front j trail IsLevelled k.levels) in
-    let low : level_of t ≤ j = kept-low j trail [] (omega arith) in
+    let low : level_of t ≤ j = kept-level j trail [] (omega arith) in
     record {
       own = clause-own es point;
       others = clause-list_all (λ m. (m == negated point.lit) || is_false t m) (es ++ point ∷ []) (allof-append (λ e. ((negated e.lit == negated point.lit) || is_false t (negated e.lit)) ≡ true) es (point ∷ []) (low-false variables j trail (negated point.lit) es k.lows reaches) (or_left _ _ (eq-eqb (negated point.lit) (negated point.lit) refl), tt));
@@ -155,7 +155,7 @@ learned-settled variables trail level es point clauses id closed k q l = batch-m
     old (inl m) =
         let a : jump level (es ++ point ∷ []) < level = k.below in
         let b : level ≡ level_of trail = k.reached in
-        let d : level_of (kept j trail) ≤ j = kept-low j trail [] (omega arith) in
+        let d : level_of (kept j trail) ≤ j = kept-level j trail [] (omega arith) in
         let e : level_of (kept j trail) ≡ level_of trail = ap level_of m in
         absurd (omega arith)
     old (inr m) = settled-more (length t + 1) t (x ∷ []) clauses (omega arith) m

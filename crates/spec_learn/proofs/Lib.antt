@@ -1,4 +1,5 @@
 -- what crates above cite
+pub mod InsertionLemmas
 pub mod BehindLemmas
 pub mod ApartLemmas
 pub mod SoundParts

@@ -1,4 +1,4 @@
-use Rattle.std.proofs.Common.{◌≡◌, ℕ, ◌+◌, ◌<◌, ◌≤◌, max, Bool, true, false, cond, not, List, [], ◌∷◌, ◌++◌, reverse, count_by, Option, Some, None, refl, sym, ap, ◌∙◌, subst, append_assoc, append-nil, arith}
+use Rattle.std.proofs.Common.{◌≡◌, ℕ, ◌+◌, ◌<◌, ◌≤◌, max, Bool, true, false, cond, not, List, [], ◌∷◌, ◌++◌, reverse, count_by, Option, Some, None, refl, sym, ap, ◌∙◌, subst, append_assoc, arith}
 use Rattle.std.specs.Prelude.{All, find, ◌==◌, ◌||◌, nat_lt, nat_le}
 use Rattle.std.specs.Option.{option_map_or}
 use Rattle.std.proofs.lemmas.List.{reverse-append}
@@ -13,8 +13,9 @@ use Rattle.spec_node.specs.Value.{is_true, is_false, has_value, level_of}
 use Rattle.spec_node.specs.Cut.{kept, removed}
 use Rattle.spec_node.specs.Sound.{EachAfter, IsPlaced, IsLevelled, own_level, level_in}
 use Rattle.spec_node.proofs.TrailLemmas.{each-front, each-at, value-from_true}
+use Rattle.spec_node.proofs.SoundLemmas.{kept-level}
 use Rattle.spec_node.proofs.LevelLemmas.{levels-high, level_in-le, level_in-behind}
-use Rattle.spec_node.proofs.CutLemmas.{kept-cons, kept-front, level_of-push}
+use Rattle.spec_node.proofs.CutLemmas.{kept-cons, kept-front}
 use Rattle.spec_node.proofs.SettledLemmas.{var_of-negated}
 use Rattle.spec_learn.specs.Analysis.{Walk, Aim, has_var, vars_in, keeping, resolving, is_left, is_resolved, after_seen, after_entry, walked, put, clause_of, jump}
 use Rattle.spec_learn.proofs.LogicLemmas.{negated-negated}
@@ -83,14 +84,6 @@ kept-through j (x ∷ xs) zs h =
     let low : nat_le x.level j ≡ true = le-leb x.level j (All-head (λ y. y.level ≤ j) x xs h) in
     kept-cons j x (xs ++ zs) ∙ rw low (ap (λ (ys : List TrailEntry). x ∷ ys) (kept-through j xs zs (All-tail (λ y. y.level ≤ j) x xs h)))
 
-pub kept-low : (j : ℕ) (es before : List TrailEntry) → level_of before ≤ j → level_of (before ++ kept j es) ≤ j
-kept-low j [] before h = subst (λ (t : List TrailEntry). level_of t ≤ j) (sym (append-nil before)) h
-kept-low j (e ∷ es) before h = subst (λ (t : List TrailEntry). level_of (before ++ t) ≤ j) (sym (kept-cons j e es)) (by_level (kept-low j es (before ++ e ∷ [])) (nat_le e.level j) refl)
-  where
-    by_level : (level_of (before ++ e ∷ []) ≤ j → level_of ((before ++ e ∷ []) ++ kept j es) ≤ j) → (b : Bool) → nat_le e.level j ≡ b → level_of (before ++ cond b (e ∷ kept j es) []) ≤ j
-    by_level f true q = let own : level_of (before ++ e ∷ []) ≡ e.level = level_of-push before e in let low : e.level ≤ j = leb-true e.level j q in subst (λ (t : List TrailEntry). level_of t ≤ j) (append_assoc before (e ∷ []) (kept j es)) (f (omega arith))
-    by_level f false q = subst (λ (t : List TrailEntry). level_of t ≤ j) (sym (append-nil before)) h
-
 -- the level of a variable in front
 pub level-front : (xs ys : List TrailEntry) (v : ℕ) → has_value xs v ≡ true → level_in (xs ++ ys) v ≡ level_in xs v
 level-front [] ys v h = absurd (cc)
@@ -127,7 +120,7 @@ cut-has variables j xs e ys p h = by_level (nat_le e.level j) refl
         let same : level_in (xs ++ e ∷ ys) (var_of e.lit) ≡ level_in (kept j (xs ++ e ∷ ys)) (var_of e.lit) = sym (ap (λ (t : List TrailEntry). level_in t (var_of e.lit)) whole) ∙ level-front (kept j (xs ++ e ∷ ys)) (removed j (xs ++ e ∷ ys)) (var_of e.lit) valued in
         let own : level_in (xs ++ e ∷ ys) (var_of e.lit) ≡ e.level = own-level variables xs e ys p in
         let high : level_in (kept j (xs ++ e ∷ ys)) (var_of e.lit) ≤ level_of (kept j (xs ++ e ∷ ys)) = level_in-le (kept j (xs ++ e ∷ ys)) (var_of e.lit) (each-front IsLevelled (kept j (xs ++ e ∷ ys)) (removed j (xs ++ e ∷ ys)) [] (subst (λ (t : List TrailEntry). EachAfter IsLevelled [] t) (sym whole) h)) in
-        let low : level_of (kept j (xs ++ e ∷ ys)) ≤ j = kept-low j (xs ++ e ∷ ys) [] (omega arith) in
+        let low : level_of (kept j (xs ++ e ∷ ys)) ≤ j = kept-level j (xs ++ e ∷ ys) [] (omega arith) in
         both_ways (nat_le e.level j) q (le-leb e.level j (omega arith)))
 
 -- each entry of a trail is on it, latest first

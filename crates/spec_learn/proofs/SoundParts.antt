@@ -18,6 +18,7 @@ use Rattle.spec_node.specs.Adding.{with_clause}
 use Rattle.spec_node.specs.Sound.{NumbersRise, serial_of}
 use Rattle.spec_node.proofs.SettledLemmas.{var_of-negated}
 use Rattle.spec_learn.specs.Analysis.{Walk, Aim, has_var, keeping, resolving, is_resolved, after_seen, after_entry, walked, put, clause_of}
+use Rattle.spec_learn.proofs.InsertionLemmas.{put-All}
 use Rattle.spec_learn.proofs.LogicLemmas.{put-any}
 use Rattle.spec_learn.specs.Order.{without, moved, moved_all}
 use Rattle.spec_learn.proofs.PointLemmas.{AllOf}
@@ -112,17 +113,9 @@ pub clause-rises : (es : List TrailEntry) → AreDifferent es → rises (clause_
 clause-rises [] h = refl
 clause-rises (e ∷ es) h = put-rises (negated e.lit) (clause_of es) (clause-rises es h.1) (clause-vars es (var_of (negated e.lit)) (subst (λ (v : ℕ). has_value es v ≡ false) (sym (var_of-negated e.lit)) h.0))
 
-put-All : (P : ℕ → Type 0) (l : ℕ) (ms : List ℕ) → P l → All P ms → All P (put l ms)
-put-All P l [] p h = All-cons P l [] p h
-put-All P l (m ∷ ms) p h = by_less (put-All P l ms p (All-tail P m ms h)) (nat_lt l m)
-  where
-    by_less : All P (put l ms) → (b : Bool) → All P (cond b (l ∷ (m ∷ ms)) (m ∷ put l ms))
-    by_less f true = All-cons P l (m ∷ ms) p h
-    by_less f false = All-cons P m (put l ms) (All-head P m ms h) f
-
 pub clause-All : (P : ℕ → Type 0) (es : List TrailEntry) → AllOf (λ e. P (negated e.lit)) es → All P (clause_of es)
 clause-All P [] h = All-nil P
-clause-All P (e ∷ es) h = put-All P (negated e.lit) (clause_of es) h.0 (clause-All P es h.1)
+clause-All P (e ∷ es) h = put-All nat_lt P (negated e.lit) (clause_of es) h.0 (clause-All P es h.1)
 
 -- a walk over different entries keeps different ones
 abbrev pub AreApartFrom : List TrailEntry → List TrailEntry → Type 0

@@ -8,6 +8,7 @@ use Rattle.mal_base.specs.NumberedClause.{NumberedClause}
 use Rattle.mal_base.specs.declared.trail_entry.TrailEntry.{TrailEntry}
 use Rattle.spec_node.specs.Sound.{IsLevelled, own_level}
 use Rattle.spec_learn.specs.Analysis.{Walk, Aim, has_var, keeping, resolving, is_left, is_resolved, after_seen, after_entry, walked, put, clause_of, jump, top}
+use Rattle.spec_learn.proofs.InsertionLemmas.{length-put}
 use Rattle.spec_learn.proofs.BehindLemmas.{EachBehind, level-turned}
 
 -- decisions open a level, forced entries have the one that is reached
@@ -93,14 +94,6 @@ walk-small aim clauses (e ∷ past) w =
     by_seen true = by_reason e.reason
     by_seen false = omega arith
 
-pub length-put : (l : ℕ) (ms : List ℕ) → length (put l ms) ≡ length ms + 1
-length-put l [] = refl
-length-put l (m ∷ ms) = by_less (length-put l ms) (nat_lt l m)
-  where
-    by_less : length (put l ms) ≡ length ms + 1 → (b : Bool) → length (cond b (l ∷ (m ∷ ms)) (m ∷ put l ms)) ≡ length (m ∷ ms) + 1
-    by_less f true = omega arith
-    by_less f false = omega arith
-
 pub length-clause : (es : List TrailEntry) → length (clause_of es) ≡ length es
 length-clause [] = refl
-length-clause (e ∷ es) = let ih : length (clause_of es) ≡ length es = length-clause es in let p : length (put (negated e.lit) (clause_of es)) ≡ length (clause_of es) + 1 = length-put (negated e.lit) (clause_of es) in omega arith
+length-clause (e ∷ es) = let ih : length (clause_of es) ≡ length es = length-clause es in let p : length (put (negated e.lit) (clause_of es)) ≡ length (clause_of es) + 1 = length-put nat_lt (negated e.lit) (clause_of es) in omega arith

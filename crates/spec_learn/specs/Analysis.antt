@@ -6,6 +6,7 @@ use Rattle.std.specs.Option.{option_map_or}
 use Rattle.mal_base.specs.Literals.{var_of, negated}
 use Rattle.mal_base.specs.NumberedClause.{NumberedClause, lits_under}
 use Rattle.mal_base.specs.declared.trail_entry.TrailEntry.{TrailEntry}
+use Rattle.spec_learn.specs.Insertion.{put_by}
 
 -- the level that is reached
 abbrev pub top : List TrailEntry → ℕ
@@ -86,8 +87,7 @@ walked aim clauses (e ∷ past) w = walked aim clauses past (after_entry aim cla
 
 -- a literal in its place among literals in order
 abbrev pub put : ℕ → List ℕ → List ℕ
-put l [] = l ∷ []
-put l (m ∷ ms) = if nat_lt l m then l ∷ (m ∷ ms) else m ∷ put l ms
+put l ms = put_by nat_lt l ms
 
 -- the negations of entries, in order
 abbrev pub clause_of : List TrailEntry → List ℕ

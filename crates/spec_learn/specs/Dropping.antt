@@ -1,10 +1,11 @@
 -- What a dropping takes away: the longer half of the derived clauses that may go.
-use Rattle.std.specs.Prelude.{ℕ, ◌/◌, Bool, false, not, ◌&&◌, ◌||◌, ◌==◌, nat_lt, nat_le, List, [], ◌∷◌, length, take, map, filter, if◌then◌else◌}
+use Rattle.std.specs.Prelude.{ℕ, ◌/◌, Bool, false, not, ◌&&◌, ◌||◌, ◌==◌, nat_lt, nat_le, List, [], ◌∷◌, length, take, map, filter}
 use Rattle.std.specs.List.{list_any}
 use Rattle.std.specs.Option.{option_map_or}
 use Rattle.mal_base.specs.NumberedClause.{NumberedClause}
 use Rattle.mal_base.specs.declared.trail_entry.TrailEntry.{TrailEntry}
 use Rattle.spec_node.specs.Load.{is_derived}
+use Rattle.spec_learn.specs.Insertion.{put_by}
 
 -- a clause is the reason of an entry
 abbrev pub is_reason : List TrailEntry → NumberedClause → Bool
@@ -20,8 +21,7 @@ goes_before c d = nat_lt (length d.lits) (length c.lits) || ((length c.lits == l
 
 -- a clause among clauses in that order, at its place
 abbrev pub put_by_length : NumberedClause → List NumberedClause → List NumberedClause
-put_by_length c [] = c ∷ []
-put_by_length c (d ∷ ds) = if goes_before c d then c ∷ (d ∷ ds) else d ∷ put_by_length c ds
+put_by_length c ds = put_by goes_before c ds
 
 -- clauses in that order
 abbrev pub by_length : List NumberedClause → List NumberedClause

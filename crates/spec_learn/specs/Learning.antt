@@ -39,12 +39,10 @@ abbrev pub forced_by : ℕ → List TrailEntry → Option ℕ → List TrailEntr
 forced_by id trail None = trail
 forced_by id trail (Some l) = trail ++ record { lit = l; reason = Some id; level = level_of trail } ∷ []
 
--- a node after learning from a conflict above level 0: it goes back to the greatest level of the clause's other
--- literals, holds the clause and pushes its remaining literal, and moves the clause's variables to the front by rising
--- variable
-abbrev pub learned : ℕ → Node → Node
-learned id n =
-    let a = analysis id n in
+-- a node after learning a clause: it goes back to the greatest level of the clause's other literals, holds the clause
+-- and pushes its remaining literal, and moves the clause's variables to the front by rising variable
+abbrev pub taught : Analysed → Node → Node
+taught a n =
     let c = cut a.level n in
     record c {
       clauses = with_clause (record { id = derived_id n; lits = a.lits }) n.clauses;
@@ -56,3 +54,7 @@ learned id n =
       conflicts_since_dropping = counted_in n.profile n.conflicts_since_dropping;
       conflict = None;
     }
+
+-- a node after learning from a conflict above level 0: it is taught what the analysis gives
+abbrev pub learned : ℕ → Node → Node
+learned id n = taught (analysis id n) n

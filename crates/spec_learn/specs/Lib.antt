@@ -1,3 +1,4 @@
+pub mod Insertion
 pub mod Analysis
 pub mod Order
 pub mod Learning

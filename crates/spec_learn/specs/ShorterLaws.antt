@@ -6,9 +6,9 @@ use Rattle.spec_node.specs.State.{Node}
 use Rattle.spec_node.specs.Value.{level_of}
 use Rattle.spec_node.specs.Sound.{IsSound}
 use Rattle.spec_learn.specs.Analysis.{Analysed, walk_of}
-use Rattle.spec_learn.specs.Learning.{holding, analysis, learned}
+use Rattle.spec_learn.specs.Learning.{holding, analysis, learned, taught}
 use Rattle.spec_learn.specs.Laws.{IsAsserting}
-use Rattle.spec_learn.specs.Lesson.{taught, IsLesson}
+use Rattle.spec_learn.specs.Lesson.{IsLesson}
 use Rattle.spec_learn.specs.Shorter.{shorter_walk, longer_analysis, shorter_analysis, gone_through}
 
 -- a lesson has one literal of the current level, jumps below it, and has one literal left after the jump

@@ -9,36 +9,21 @@ use Rattle.mal_base.specs.declared.trail_entry.TrailEntry.{TrailEntry}
 use Rattle.spec_node.specs.Cut.{kept}
 use Rattle.spec_node.specs.Load.{is_derived}
 use Rattle.spec_learn.specs.Dropping.{is_reason, may_go, goes_before, put_by_length, by_length, longer_half, to_drop}
+use Rattle.spec_learn.proofs.InsertionLemmas.{put-All, length-put}
 use Rattle.spec_search.specs.Step.{Case, Propagates, Drops, restarting, case_by}
 use Rattle.spec_search.specs.Dropping.{is_dropping_due, dropped}
 use Rattle.spec_search.specs.DroppingLaws.{DropsHold, DropsWhenDue}
 
-put-All : (P : NumberedClause → Type 0) (c : NumberedClause) (ds : List NumberedClause) → P c → All P ds → All P (put_by_length c ds)
-put-All P c [] p h = All-cons P c [] p h
-put-All P c (d ∷ ds) p h = by_order (put-All P c ds p (All-tail P d ds h)) (goes_before c d)
-  where
-    by_order : All P (put_by_length c ds) → (b : Bool) → All P (cond b (c ∷ (d ∷ ds)) (d ∷ put_by_length c ds))
-    by_order f true = All-cons P c (d ∷ ds) p h
-    by_order f false = All-cons P d (put_by_length c ds) (All-head P d ds h) f
-
 by_length-All : (P : NumberedClause → Type 0) (cs : List NumberedClause) → All P cs → All P (by_length cs)
 by_length-All P [] h = h
-by_length-All P (c ∷ cs) h = put-All P c (by_length cs) (All-head P c cs h) (by_length-All P cs (All-tail P c cs h))
+by_length-All P (c ∷ cs) h = put-All goes_before P c (by_length cs) (All-head P c cs h) (by_length-All P cs (All-tail P c cs h))
 
 longer-All : (P : NumberedClause → Type 0) (cs : List NumberedClause) → All P cs → All P (longer_half cs)
 longer-All P cs h = All-take P (length cs / 2) (by_length cs) (by_length-All P cs h)
 
-length-put_by : (c : NumberedClause) (ds : List NumberedClause) → length (put_by_length c ds) ≡ length ds + 1
-length-put_by c [] = refl
-length-put_by c (d ∷ ds) = by_order (length-put_by c ds) (goes_before c d)
-  where
-    by_order : length (put_by_length c ds) ≡ length ds + 1 → (b : Bool) → length (cond b (c ∷ (d ∷ ds)) (d ∷ put_by_length c ds)) ≡ length (d ∷ ds) + 1
-    by_order f true = omega arith
-    by_order f false = omega arith
-
 length-by : (cs : List NumberedClause) → length (by_length cs) ≡ length cs
 length-by [] = refl
-length-by (c ∷ cs) = let ih : length (by_length cs) ≡ length cs = length-by cs in let p : length (put_by_length c (by_length cs)) ≡ length (by_length cs) + 1 = length-put_by c (by_length cs) in omega arith
+length-by (c ∷ cs) = let ih : length (by_length cs) ≡ length cs = length-by cs in let p : length (put_by_length c (by_length cs)) ≡ length (by_length cs) + 1 = length-put goes_before c (by_length cs) in omega arith
 
 half-goes : (cs : List NumberedClause) → length (longer_half cs) ≡ length cs / 2
 half-goes cs = let l : length (by_length cs) ≡ length cs = length-by cs in length-take-le (length cs / 2) (by_length cs) (omega arith)

@@ -49,37 +49,27 @@ step-derives n h = by_cases (λ c. Stepped n (after_case c n) (line_by c n)) n (
   ends = λ idle o f. (All-contains_itself n.clauses, refl);
 })
 
-behind-derived : (held : List NumberedClause) (n m : Node) (o : Option Line) (s : Sliced) → IsSound n → IsOver held n → Stepped n m o → ((cs : List NumberedClause) → IsOver cs m → AreDerivedFrom cs s.lines) → AreDerivedFrom held (behind o s).lines
-behind-derived held n m None s h v k f = f held (over-without_line held n m v k)
-behind-derived held n m (Some l) s h v k f = (derived-more held n l v k.1 k.0, f (with_line held l) (over-with_line held n m l h v k))
+-- what holds at the end of a slice over all clauses held, and with each line behind them, holds of the whole
+module _ (P : List NumberedClause → Sliced → Type 0) (end : (held : List NumberedClause) (n : Node) → IsOver held n → P held (record { node = n; lines = [] })) (more : (held : List NumberedClause) (n : Node) (l : Line) (s : Sliced) → IsOver held n → l.id ≡ derived_id n → IsDerivedFrom n.clauses l → P (with_line held l) s → P held (behind (Some l) s)) where
+  behind-over : (held : List NumberedClause) (n m : Node) (o : Option Line) (s : Sliced) → IsSound n → IsOver held n → Stepped n m o → ((cs : List NumberedClause) → IsOver cs m → P cs s) → P held (behind o s)
+  behind-over held n m None s h v k f = f held (over-without_line held n m v k)
+  behind-over held n m (Some l) s h v k f = more held n l s v k.1 k.0 (f (with_line held l) (over-with_line held n m l h v k))
 
-steps-derived : (k : ℕ) (over : Bool) (used : ℕ) (n : Node) (held : List NumberedClause) → IsSound n → IsOver held n → AreDerivedFrom held (steps_unless k over used n).lines
-steps-derived zero over used n held h v = tt
-steps-derived (suc k) true used n held h v = tt
-steps-derived (suc k) false used n held h v =
-    let u : ℕ = used_after used (next_line n) in
-    let m : Node = step n in
-    behind-derived held n m (next_line n) (steps_unless k (is_over u m) u m) h v (step-derives n h) (λ cs w. steps-derived k (is_over u m) u m cs (step-sound n h) w)
+  steps-over : (k : ℕ) (over : Bool) (used : ℕ) (n : Node) (held : List NumberedClause) → IsSound n → IsOver held n → P held (steps_unless k over used n)
+  steps-over zero over used n held h v = end held n v
+  steps-over (suc k) true used n held h v = end held n v
+  steps-over (suc k) false used n held h v =
+      let u : ℕ = used_after used (next_line n) in
+      let m : Node = step n in
+      behind-over held n m (next_line n) (steps_unless k (is_over u m) u m) h v (step-derives n h) (λ cs w. steps-over k (is_over u m) u m cs (step-sound n h) w)
 
 pub lines-derived : LinesAreDerived
 unfolding slice
-lines-derived n h = steps-derived 1000 (is_over 0 n) 0 n n.clauses h (own-over n h)
-
-behind-held : (held : List NumberedClause) (n m : Node) (o : Option Line) (s : Sliced) → IsSound n → IsOver held n → Stepped n m o → ((cs : List NumberedClause) → IsOver cs m → All (Contains (with_lines cs s.lines)) s.node.clauses) → All (Contains (with_lines held (behind o s).lines)) (behind o s).node.clauses
-behind-held held n m None s h v k f = f held (over-without_line held n m v k)
-behind-held held n m (Some l) s h v k f = f (with_line held l) (over-with_line held n m l h v k)
-
-steps-held : (k : ℕ) (over : Bool) (used : ℕ) (n : Node) (held : List NumberedClause) → IsSound n → IsOver held n → All (Contains (with_lines held (steps_unless k over used n).lines)) (steps_unless k over used n).node.clauses
-steps-held zero over used n held h v = v.within
-steps-held (suc k) true used n held h v = v.within
-steps-held (suc k) false used n held h v =
-    let u : ℕ = used_after used (next_line n) in
-    let m : Node = step n in
-    behind-held held n m (next_line n) (steps_unless k (is_over u m) u m) h v (step-derives n h) (λ cs w. steps-held k (is_over u m) u m cs (step-sound n h) w)
+lines-derived n h = steps-over (λ held s. AreDerivedFrom held s.lines) (λ held m v. tt) (λ held m l s v is d rest. (derived-more held m l v is d, rest)) 1000 (is_over 0 n) 0 n n.clauses h (own-over n h)
 
 pub held-of_lines : HeldAreOfLines
 unfolding slice
-held-of_lines n h = steps-held 1000 (is_over 0 n) 0 n n.clauses h (own-over n h)
+held-of_lines n h = steps-over (λ held s. All (Contains (with_lines held s.lines)) s.node.clauses) (λ held m v. v.within) (λ held m l s v is d rest. rest) 1000 (is_over 0 n) 0 n n.clauses h (own-over n h)
 
 -- the clause of a line is held right after its step, by a sound node
 line-within : (n m : Node) (l : Line) → IsSound n → IsSound m → m.variables ≡ n.variables → Stepped n m (Some l) → AreLiteralsOf n.variables l.lits

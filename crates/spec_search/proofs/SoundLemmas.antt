@@ -4,6 +4,7 @@ use Rattle.std.specs.List.{list_all, list_any}
 use Rattle.std.proofs.lemmas.List.{take-append-drop, take_at, take_all, length-take-le, length_push}
 use Rattle.std.proofs.lemmas.List.Elements.{All-head, All-tail, All-weaker, All-contains_itself}
 use Rattle.std.proofs.lemmas.Bool.{or_left, or_right, not-false}
+use Rattle.mal_base.specs.NumberedClause.{NumberedClause}
 use Rattle.mal_base.specs.declared.trail_entry.TrailEntry.{TrailEntry}
 use Rattle.spec_node.specs.State.{Node}
 use Rattle.spec_node.specs.Value.{is_true, level_of}
@@ -52,19 +53,19 @@ batch-waiting n h =
     let prefix = take n.processed n.trail in
     after_all-conflict (IsGoing n.variables n.clauses prefix) (λ id t. IsWaiting n.clauses t id) prefix (batch prefix n.clauses) (record { trail = n.trail; conflict = None }) (handled-members n h.consistent prefix) (start-going n h) (λ id e. no-conflict (λ i. IsWaiting n.clauses n.trail i) id e)
 
-batch-chosen : (n : Node) → IsSound n → EachAfter (IsChosen n.assumptions) [] (next_batch n).trail
-batch-chosen n h =
+-- what holds of forced entries wherever they are pushed stays so through a batch
+batch-each : (P : List TrailEntry → TrailEntry → Type 0) → ((c : NumberedClause) (t : List TrailEntry) (l : ℕ) → P t (forced l c.id t)) → (n : Node) → EachAfter P [] n.trail → EachAfter P [] (next_batch n).trail
+batch-each P holds n h =
     let prefix = take n.processed n.trail in
-    after_all-keeps (EachAfter (IsChosen n.assumptions) []) prefix (batch prefix n.clauses) (record { trail = n.trail; conflict = None })
-    (all-of (PushKeeps (EachAfter (IsChosen n.assumptions) []) prefix) (λ c t l e a b k. each-push (IsChosen n.assumptions) t [] (forced l c.id t) k (λ q. absurd (cc))) (batch prefix n.clauses))
-    h.chosen
+    after_all-keeps (EachAfter P []) prefix (batch prefix n.clauses) (record { trail = n.trail; conflict = None })
+    (all-of (PushKeeps (EachAfter P []) prefix) (λ c t l e a b k. each-push P t [] (forced l c.id t) k (holds c t l)) (batch prefix n.clauses))
+    h
+
+batch-chosen : (n : Node) → IsSound n → EachAfter (IsChosen n.assumptions) [] (next_batch n).trail
+batch-chosen n h = batch-each (IsChosen n.assumptions) (λ c t l q. absurd (cc)) n h.chosen
 
 batch-passed : (n : Node) → IsSound n → EachAfter (IsPassed n.processed) [] (next_batch n).trail
-batch-passed n h =
-    let prefix = take n.processed n.trail in
-    after_all-keeps (EachAfter (IsPassed n.processed) []) prefix (batch prefix n.clauses) (record { trail = n.trail; conflict = None })
-    (all-of (PushKeeps (EachAfter (IsPassed n.processed) []) prefix) (λ c t l e a b k. each-push (IsPassed n.processed) t [] (forced l c.id t) k (λ q. absurd (cc))) (batch prefix n.clauses))
-    h.passed
+batch-passed n h = batch-each (IsPassed n.processed) (λ c t l q. absurd (cc)) n h.passed
 
 -- one more entry handled keeps the level reached
 batch-reached : (n : Node) → IsSound n → n.processed ≤ length n.trail → level_of (take (n.processed + 1) (next_batch n).trail) ≡ level_of (next_batch n).trail
