@@ -4,7 +4,7 @@ use Rattle.spec_job.specs.Journal.{JournalEntry}
 use Rattle.spec_job.specs.Journaled.{Journaled}
 use Rattle.spec_job.specs.SoloMachine.{solo, place_at}
 use Rattle.spec_job.specs.KeyedJob.{Key}
-use Rattle.spec_hall.specs.Events.{Event, Open, Revise, Close, Balance, Start, Finish, Exchange}
+use Rattle.spec_hall.specs.Events.{Event, Start}
 use Rattle.spec_hall.specs.Own.{own, is_key}
 use Rattle.spec_hall.specs.States.{LeaseOut, Candidate, keys_of, states, lives, balanced, leases, lease_of, picked}
 use Rattle.spec_hall.specs.Legal.{Legal}
@@ -16,13 +16,8 @@ pub record Numbered : Type 0 where
 
 -- starts are numbered 1, 2, .. in a history
 abbrev pub numbered_step : ℕ → Numbered → Event → Numbered
-numbered_step worker n (Open k ask) = n
-numbered_step worker n (Revise k number r) = n
-numbered_step worker n (Close k) = n
-numbered_step worker n (Balance shares) = n
 numbered_step worker n (Start k index w) = record { all = n.all + 1; last = if w == worker then n.all + 1 else n.last }
-numbered_step worker n (Finish k index w outcome) = n
-numbered_step worker n (Exchange k) = n
+numbered_step worker n event = n
 
 -- the starts of a history as they concern a worker
 abbrev pub numbered : ℕ → List Event → Numbered
@@ -34,13 +29,8 @@ start_number worker history = (numbered worker history).last
 
 -- how many starts there were after one more event
 abbrev pub starts_step : ℕ → Event → ℕ
-starts_step n (Open k ask) = n
-starts_step n (Revise k number r) = n
-starts_step n (Close k) = n
-starts_step n (Balance shares) = n
 starts_step n (Start k index worker) = n + 1
-starts_step n (Finish k index worker outcome) = n
-starts_step n (Exchange k) = n
+starts_step n event = n
 
 -- how many starts a history has
 abbrev pub starts_in : List Event → ℕ

@@ -21,13 +21,8 @@ volume_in k shares = option_map_or (λ s. s.volume) (find (λ s. is_key k (key_o
 
 -- the volume after an own event
 abbrev pub volume_step : ℕ → Own → ℕ
-volume_step v (Opened ask) = v
-volume_step v (Revised r) = v
-volume_step v Closed = v
 volume_step v (Volume w) = w
-volume_step v (Started i) = v
-volume_step v (Finished i outcome) = v
-volume_step v Exchanged = v
+volume_step v o = v
 
 -- the volume after a list of own events, 0 at first
 abbrev pub volume_after : List Own → ℕ

@@ -3,7 +3,7 @@ use Rattle.mal_base.specs.Asks.{Terms}
 use Rattle.spec_job.specs.SoloMachine.{SoloMachine, solo, is_live, is_exchange_due, startable, place_at}
 use Rattle.spec_job.specs.KeyedJob.{Key, KeyedJob}
 use Rattle.spec_node.specs.Load.{counted}
-use Rattle.spec_hall.specs.Events.{Event, Open, Revise, Close, Balance, Start, Finish, Exchange}
+use Rattle.spec_hall.specs.Events.{Event, Open, Balance, Start, Finish}
 use Rattle.spec_hall.specs.Own.{own}
 
 -- a live job with what the balancing reads of its ask
@@ -15,12 +15,7 @@ pub record Live : Type 0 where
 -- the keys of the jobs after one more event, by opening
 abbrev pub keys_step : List Key → Event → List Key
 keys_step keys (Open k ask) = keys ++ k ∷ []
-keys_step keys (Revise k number r) = keys
-keys_step keys (Close k) = keys
-keys_step keys (Balance shares) = keys
-keys_step keys (Start k index worker) = keys
-keys_step keys (Finish k index worker outcome) = keys
-keys_step keys (Exchange k) = keys
+keys_step keys event = keys
 
 -- the keys of a history's jobs, by opening
 abbrev pub keys_of : List Event → List Key
@@ -72,13 +67,9 @@ pub record LeaseOut : Type 0 where
 
 -- the starts that are out after one more event
 abbrev pub leases_step : List LeaseOut → Event → List LeaseOut
-leases_step out (Open k ask) = out
-leases_step out (Revise k number r) = out
-leases_step out (Close k) = out
-leases_step out (Balance shares) = out
 leases_step out (Start k index worker) = out ++ record { worker = worker; key = k; index = index } ∷ []
 leases_step out (Finish k index worker outcome) = filter (λ l. nat_lt l.worker worker || nat_lt worker l.worker) out
-leases_step out (Exchange k) = out
+leases_step out event = out
 
 -- the starts that are out, oldest first
 abbrev pub leases : List Event → List LeaseOut

@@ -1,9 +1,9 @@
 -- What a script posts hands no lease out.
-use Rattle.std.proofs.Common.{◌≡◌, ℕ, ◌+◌, List, [], ◌∷◌, ◌++◌, flat_map, fold, refl, ◌∙◌}
+use Rattle.std.proofs.Common.{◌≡◌, ℕ, ◌+◌, List, [], ◌∷◌, flat_map, fold, refl, ◌∙◌}
 use Rattle.std.proofs.lemmas.List.Sums.{fold-append}
 use Rattle.mal_revision.specs.Posted.{Posted}
 use Rattle.spec_job.specs.KeyedJob.{Key}
-use Rattle.spec_hall.specs.Events.{Event, Close}
+use Rattle.spec_hall.specs.Events.{Close}
 use Rattle.spec_hall.specs.States.{LeaseOut, leases, leases_step}
 use Rattle.spec_run.specs.Complete.{key_of_job, job_events, open_events, revise_events, script_events}
 use Rattle.spec_script.specs.Script.{ScriptedJob, Scripted}

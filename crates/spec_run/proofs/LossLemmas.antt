@@ -1,18 +1,13 @@
 -- Which events lose a lease, and which are starts by others than the first worker.
-use Rattle.std.proofs.Common.{◌≡◌, ℕ, ◌+◌, Bool, true, false, ◌||◌, ◌&&◌, List, [], ◌∷◌, ◌++◌, flat_map, refl, sym, ◌∙◌, ap, append-nil, append_assoc, Option, Some, None, Ok, Err}
+use Rattle.std.proofs.Common.{◌≡◌, ℕ, ◌+◌, Bool, true, false, ◌||◌, ◌&&◌, List, [], ◌∷◌, ◌++◌, flat_map, refl, sym, ◌∙◌, ap, append-nil, append_assoc, Option, Some, None}
 use Rattle.std.specs.List.{list_all, list_any}
 use Rattle.std.specs.Option.{option_map_or}
-use Rattle.mal_base.specs.declared.verdict.Outcome.{Outcome}
-use Rattle.mal_base.specs.declared.verdict.Outcome.TheVariants.{Ran, Starved, Lost}
+use Rattle.mal_base.specs.declared.verdict.Outcome.TheVariants.{Lost}
 use Rattle.mal_revision.specs.Posted.{Posted}
-use Rattle.spec_job.specs.Leased.{Finished}
-use Rattle.spec_job.specs.Journal.{JournalEntry}
-use Rattle.spec_job.specs.Journaled.{Journaled}
 use Rattle.spec_job.specs.KeyedJob.{Key}
-use Rattle.spec_job.specs.Viewed.{IsGrownBy}
 use Rattle.spec_hall.specs.Calls.{lost_of, recalled}
 use Rattle.spec_hall.specs.Driven.{Turn, Balances, Exchanges, Slices, events_in, was_lost, AreTurns, GrowsByTurns}
-use Rattle.spec_hall.specs.Events.{Event, Open, Revise, Close, Balance, Start, Finish, Exchange}
+use Rattle.spec_hall.specs.Events.{Event, Close, Finish}
 use Rattle.spec_hall.specs.States.{LeaseOut, leases, lease_of}
 use Rattle.spec_node.specs.Load.{counted}
 use Rattle.spec_run.specs.Complete.{key_of_job, job_events, open_events, revise_events, script_events}

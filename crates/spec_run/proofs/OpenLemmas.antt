@@ -12,7 +12,7 @@ use Rattle.spec_job.specs.KeyedJob.{Key}
 use Rattle.spec_hall.specs.Events.{Event, Open, Revise, Close}
 use Rattle.spec_hall.specs.Own.{own, own_step, is_key}
 use Rattle.spec_hall.specs.States.{keys_of, states, titled}
-use Rattle.spec_hall.specs.Legal.{MayOpen, MayRevise, MayClose, job_of, jobs_of, tenant_count}
+use Rattle.spec_hall.specs.Legal.{MayOpen, MayRevise, job_of, jobs_of, tenant_count}
 use Rattle.spec_hall.proofs.KeyLemmas.{is_key-Decides}
 use Rattle.spec_hall.proofs.PushLemmas.{own-push, solo-push, keys-push}
 use Rattle.spec_hall.proofs.VolumeLemmas.{revise-keeps}

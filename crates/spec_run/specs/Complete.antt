@@ -1,7 +1,7 @@
 use Rattle.std.specs.Prelude.{◌≡◌, ℕ, ◌+◌, Bool, false, List, [], ◌∷◌, ◌++◌, map, filter, flat_map}
 use Rattle.mal_revision.specs.Posted.{Posted}
 use Rattle.spec_job.specs.KeyedJob.{Key}
-use Rattle.spec_hall.specs.Events.{Event, Open, Revise, Close, Balance, Start, Finish, Exchange}
+use Rattle.spec_hall.specs.Events.{Event, Open, Revise, Close}
 use Rattle.spec_hall.specs.Own.{is_text}
 use Rattle.spec_hall.specs.States.{states, lives, leases}
 use Rattle.spec_script.specs.Script.{ScriptedJob, Scripted}
@@ -11,10 +11,7 @@ abbrev pub is_post_of : List ℕ → Event → Bool
 is_post_of tenant (Open k ask) = is_text tenant k.tenant
 is_post_of tenant (Revise k number r) = is_text tenant k.tenant
 is_post_of tenant (Close k) = is_text tenant k.tenant
-is_post_of tenant (Balance shares) = false
-is_post_of tenant (Start k index worker) = false
-is_post_of tenant (Finish k index worker outcome) = false
-is_post_of tenant (Exchange k) = false
+is_post_of tenant event = false
 
 -- the key of a script's job
 abbrev pub key_of_job : ScriptedJob → Key

@@ -1,7 +1,7 @@
-use Rattle.std.specs.Prelude.{◌≡◌, ℕ, Bool, true, false, ◌==◌, List, ◌++◌}
+use Rattle.std.specs.Prelude.{◌≡◌, Bool, true, false, ◌==◌, List, ◌++◌}
 use Rattle.std.specs.List.{list_all, list_any}
 use Rattle.spec_hall.specs.Driven.{was_lost}
-use Rattle.spec_hall.specs.Events.{Event, Open, Revise, Close, Balance, Start, Finish, Exchange}
+use Rattle.spec_hall.specs.Events.{Event, Start, Finish}
 
 -- whether an event is the loss of a lease
 abbrev pub is_loss : Event → Bool

@@ -4,7 +4,7 @@ use Rattle.mal_history.specs.Text.{history_text}
 use Rattle.mal_revision.specs.Posted.{Posted}
 use Rattle.spec_job.specs.SoloMachine.{Own, SoloMachine, solo}
 use Rattle.spec_job.specs.KeyedJob.{Key}
-use Rattle.spec_hall.specs.Events.{Event, Open, Revise, Close, Balance, Start, Finish, Exchange, bare}
+use Rattle.spec_hall.specs.Events.{Event, Finish, bare}
 use Rattle.spec_hall.specs.Own.{own}
 use Rattle.spec_hall.specs.Legal.{Legal}
 use Rattle.spec_hall.specs.Driven.{IsDriven}
