@@ -175,6 +175,33 @@ module _ {T E : Type 0} (stands : T → Log E → Type 0) where
       let here : a.1.0 ≡ id = inside_is_served r.log r.ticket r.serving r.owner a.1.0 a.1.1.seen a.1.1.stage f.staged a.1.3 ∙ (ap r.owner is ∙ sym m.staged.2) in
       absurd (not_both (is_inside a.1.1.stage) a.1.3 (ap (λ (z : View E). is_inside z.stage) (one_view s.views a.1.0 id a.1.1 (at_stage (Drawn t) v) a.1.2 at here)))) r.slot
 
+  -- other views that fit what the words and the record say keep the rule
+  viewed : (s : St) (r : Rule s) (words : List ℕ) (homes : List (lean.Option (Option T))) (vs : List (View E)) (seat : List ℕ → ℕ) → words ≡ r.ticket ∷ r.serving ∷ length r.log ∷ []
+      → ((t : ℕ) → r.serving ≤ t → t < r.ticket → (d : View E) × At vs (r.owner t) d × HasTicket t d.stage) → Home stands r.log r.serving homes vs ⊎ Away stands homes vs
+      → ((j : ℕ) (d : View E) → At vs j d → Fits r.log r.ticket r.serving r.owner j d) → NumberRule r.log seat (map numbers vs) → Rule record { words = words; homes = homes; views = vs }
+  viewed s r words homes vs seat same drawn slot each numbered = record {
+    ticket = r.ticket;
+    serving = r.serving;
+    log = r.log;
+    owner = r.owner;
+    seat = seat;
+    words = same;
+    below = r.below;
+    drawn = drawn;
+    slot = slot;
+    each = each;
+    numbered = numbered;
+  }
+
+  -- a seat that looks has seen the record so far; the words, its numbers and what the others know stay
+  looked : (s : St) (r : Rule s) (id : ℕ) (v : View E) (before after : Stage) (homes : List (lean.Option (Option T))) → At s.views id (at_stage before v) → ((t : ℕ) → HasTicket t before → HasTicket t after)
+      → Stands r.log r.ticket r.serving r.owner id r.log after → ((after ≡ Idle) ⊎ Has v.of v.of.first) → Home stands r.log r.serving homes (set s.views id (seeing after r.log v)) ⊎ Away stands homes (set s.views id (seeing after r.log v))
+      → Rule record { words = set s.words 1 (get_or s.words 1 0); homes = homes; views = set s.views id (seeing after r.log v) }
+  looked s r id v before after homes at same staged live slot = let was : View E = at_stage before v in let w : View E = seeing after r.log v in
+      viewed s r (set s.words 1 (get_or s.words 1 0)) homes (set s.views id w) r.seat (set-get_or s.words 1 0 ∙ r.words) (drawn_stay r.ticket r.serving r.owner s.views id was w at same r.drawn) slot
+      (stay (Fits r.log r.ticket r.serving r.owner) s.views id w (record { staged = staged; begins = begins_whole r.log r.log v.of.all refl; former = no_former r.log v.of.all; live = live }) (λ j d _ p. r.each j d p))
+      (same_numbers r.log r.seat s.views id was w at refl r.numbered)
+
   pub looks_keep : (slots id t : ℕ) (v : View E)
       → Allows Rule slots id (at_stage (Drawn t) v, []) 1 (λ x. x) (looks stands (step slots 1 0 0 lean.none) (at_stage (Drawn t) v, []))
   looks_keep slots id t v s r _ at _ = let x : ℕ = get_or s.words 1 0 in let now : x ≡ r.serving = word_is s r 1 in let was : View E = at_stage (Drawn t) v in let fit = r.each id was at in dite (ℕ_discrete x t)
@@ -182,21 +209,8 @@ module _ {T E : Type 0} (stands : T → Log E → Type 0) where
         w,
         takes 0 (Some h.0),
         ap (λ (l : List (lean.Option (Option T))). get_elem? l 0) h.1,
-        record {
-          ticket = r.ticket;
-          serving = r.serving;
-          log = r.log;
-          owner = r.owner;
-          seat = r.seat;
-          words = set-get_or s.words 1 0 ∙ r.words;
-          below = r.below;
-          drawn = drawn_stay r.ticket r.serving r.owner s.views id was w at (λ t h. h) r.drawn;
-          slot = inr (ap (λ (l : List (lean.Option (Option T))). set l 0 lean.none) h.1, (id, w, set_here s.views id w (long_enough s.views id was at), refl));
-          each = stay (Fits r.log r.ticket r.serving r.owner) s.views id w
-              (record { staged = (omega arith, lt, mine.2, refl, h.3 ∙ omega arith); begins = begins_whole r.log r.log v.of.all refl; former = no_former r.log v.of.all; live = ⊎_elim (λ (idle : Drawn t ≡ Idle). absurd (cc)) inr fit.live })
-              (λ j d _ p. r.each j d p);
-          numbered = same_numbers r.log r.seat s.views id was w at refl r.numbered;
-        },
+        looked s r id v (Drawn t) (Holds t) (set s.homes 0 lean.none) at (λ u h. h) (omega arith, lt, mine.2, refl, h.3 ∙ omega arith) (⊎_elim (λ (idle : Drawn t ≡ Idle). absurd (cc)) inr fit.live)
+            (inr (ap (λ (l : List (lean.Option (Option T))). set l 0 lean.none) h.1, (id, w, set_here s.views id w (long_enough s.views id was at), refl))),
         ((λ _. (r.log, h.0, refl, h.2, fit.begins, h.3 ∙ omega arith)), λ miss. absurd (miss hit)),
       ))
       (λ miss. (was, keeps, tt, still s r 1 id was at, ((λ hit. absurd (miss hit)), λ _. refl)))
@@ -330,6 +344,9 @@ module _ {T E : Type 0} (stands : T → Log E → Type 0) where
   abbrev Knows : Log E → ℕ → ℕ → (ℕ → ℕ) → ℕ → View E → Type 0
   Knows log ticket serving owner j v = Stands log ticket serving owner j v.seen v.stage × Begins log v.of.all v.seen × Former log v.of.all v.old × ((v.stage ≡ Idle) ⊎ Has v.of v.of.first)
 
+  fits : (log : Log E) (ticket serving : ℕ) (owner : ℕ → ℕ) (j : ℕ) (v : View E) → Knows log ticket serving owner j v → Fits log ticket serving owner j v
+  fits log ticket serving owner j v k = record { staged = k.0; begins = k.1; former = k.2; live = k.3 }
+
   knows : (s : St) (r : Rule s) (j : ℕ) (v : View E) → At s.views j v → Knows r.log r.ticket r.serving r.owner j v
   knows s r j v p = let f = r.each j v p in (f.staged, f.begins, f.former, f.live)
 
@@ -357,26 +374,13 @@ module _ {T E : Type 0} (stands : T → Log E → Type 0) where
       let nums : map numbers vs ≡ set ns id (splitting v.of) ++ child v.of ∷ [] = map-append numbers (set s.views id left) (right ∷ []) ∙ ap (λ (l : List Numbers). l ++ child v.of ∷ []) (map-set numbers s.views id left) in
       let next : List ℕ → ℕ = seat_split r.log r.seat ns r.numbered id v.of at' has in
       let known = stay_more (Knows r.log r.ticket r.serving r.owner) s.views id left right (tt, fit.begins, fit.former, inr has) (λ j d _ p. knows s r j d p) (λ j. (tt, none_new s r id was at has v.seen fit.begins, no_former r.log (next_number v.of ∷ []), inl refl)) in
-      record {
-        ticket = r.ticket;
-        serving = r.serving;
-        log = r.log;
-        owner = r.owner;
-        seat = next;
-        words = r.words;
-        below = r.below;
-        drawn = λ t lo hi. let d = r.drawn t lo hi in let other : r.owner t ≢ id = λ e. subst (λ (z : View E). HasTicket t z.stage) (one_view s.views (r.owner t) id d.0 was d.1 at e) d.2 in
-            (d.0, at_longer (set s.views id left) (right ∷ []) (r.owner t) d.0 (set_else s.views id (r.owner t) left other ∙ d.1), d.2);
-        slot = ⊎_elim (λ h. inl (h.0, h.1, h.2, h.3, stay_more (λ j z. is_inside z.stage ≡ false) s.views id left right refl (λ j d _ p. h.4 j d p) (λ _. refl)))
-            (λ a. let b = away_stays s.homes s.views id was left at refl a in inr (b.0, (b.1.0, b.1.1, at_longer (set s.views id left) (right ∷ []) b.1.0 b.1.1 b.1.2, b.1.3))) r.slot;
-        each = λ j d p. let k = known j d p in record {
-          staged = k.0;
-          begins = k.1;
-          former = k.2;
-          live = k.3;
-        };
-        numbered = subst (NumberRule r.log next) (sym nums) (numbered_split r.log r.seat ns r.numbered id v.of at' has);
-      }
+      viewed s r s.words s.homes vs next r.words
+      (λ t lo hi. let d = r.drawn t lo hi in let other : r.owner t ≢ id = λ e. subst (λ (z : View E). HasTicket t z.stage) (one_view s.views (r.owner t) id d.0 was d.1 at e) d.2 in
+      (d.0, at_longer (set s.views id left) (right ∷ []) (r.owner t) d.0 (set_else s.views id (r.owner t) left other ∙ d.1), d.2))
+      (⊎_elim (λ h. inl (h.0, h.1, h.2, h.3, stay_more (λ j z. is_inside z.stage ≡ false) s.views id left right refl (λ j d _ p. h.4 j d p) (λ _. refl)))
+      (λ a. let b = away_stays s.homes s.views id was left at refl a in inr (b.0, (b.1.0, b.1.1, at_longer (set s.views id left) (right ∷ []) b.1.0 b.1.1 b.1.2, b.1.3))) r.slot)
+      (λ j d p. fits r.log r.ticket r.serving r.owner j d (known j d p))
+      (subst (NumberRule r.log next) (sym nums) (numbered_split r.log r.seat ns r.numbered id v.of at' has))
 
   part_nil : (es : Log E) → part [] es ≡ []
   part_nil [] = refl
@@ -404,28 +408,15 @@ module _ {T E : Type 0} (stands : T → Log E → Type 0) where
       let K = Knows r.log r.ticket r.serving r.owner in
       let known = stay K (set s.views id both) other nobody (tt, (r.log, refl, part_nil r.log), no_former r.log [], inl refl)
       (λ j d _ p. stay K s.views id both (tt, seen, join_former r.log v.seen w.seen v.of.all w.of.all fit.begins fit2.begins, inr (has_left v.of.first v.of.all w.of.all has)) (λ j d _ p. knows s r j d p) j d p) in
-      record {
-        ticket = r.ticket;
-        serving = r.serving;
-        log = r.log;
-        owner = r.owner;
-        seat = next;
-        words = r.words;
-        below = r.below;
-        drawn = λ t lo hi. let d = r.drawn t lo hi in
-            let other1 : r.owner t ≢ id = λ e. subst (λ (z : View E). HasTicket t z.stage) (one_view s.views (r.owner t) id d.0 was d.1 at e) d.2 in
-            let other2 : r.owner t ≢ other = λ e. subst (λ (z : View E). HasTicket t z.stage) (one_view s.views (r.owner t) other d.0 their d.1 there e) d.2 in
-            (d.0, set_else (set s.views id both) other (r.owner t) nobody other2 ∙ (set_else s.views id (r.owner t) both other1 ∙ d.1), d.2);
-        slot = ⊎_elim (λ h. inl (home_stays r.log r.serving s.homes (set s.views id both) other nobody refl (home_stays r.log r.serving s.homes s.views id both refl h)))
-            (λ a. inr (away_stays s.homes (set s.views id both) other their nobody there' refl (away_stays s.homes s.views id was both at refl a))) r.slot;
-        each = λ j d p. let k = known j d p in record {
-          staged = k.0;
-          begins = k.1;
-          former = k.2;
-          live = k.3;
-        };
-        numbered = subst (NumberRule r.log next) (sym nums) (numbered_join r.log r.seat ns r.numbered id other v.of w.of at1 at2 apart has);
-      }
+      viewed s r s.words s.homes vs next r.words
+      (λ t lo hi. let d = r.drawn t lo hi in
+      let other1 : r.owner t ≢ id = λ e. subst (λ (z : View E). HasTicket t z.stage) (one_view s.views (r.owner t) id d.0 was d.1 at e) d.2 in
+      let other2 : r.owner t ≢ other = λ e. subst (λ (z : View E). HasTicket t z.stage) (one_view s.views (r.owner t) other d.0 their d.1 there e) d.2 in
+      (d.0, set_else (set s.views id both) other (r.owner t) nobody other2 ∙ (set_else s.views id (r.owner t) both other1 ∙ d.1), d.2))
+      (⊎_elim (λ h. inl (home_stays r.log r.serving s.homes (set s.views id both) other nobody refl (home_stays r.log r.serving s.homes s.views id both refl h)))
+      (λ a. inr (away_stays s.homes (set s.views id both) other their nobody there' refl (away_stays s.homes s.views id was both at refl a))) r.slot)
+      (λ j d p. fits r.log r.ticket r.serving r.owner j d (known j d p))
+      (subst (NumberRule r.log next) (sym nums) (numbered_join r.log r.seat ns r.numbered id other v.of w.of at1 at2 apart has))
 
   pub learns_keep : (slots id : ℕ) (v : View E) → Has v.of v.of.first
       → Allows Rule slots id (at_stage Idle v, []) 1 (λ x. x) (looks stands (step slots 1 0 0 lean.none) (at_stage Idle v, []))
@@ -433,21 +424,7 @@ module _ {T E : Type 0} (stands : T → Log E → Type 0) where
     w,
     keeps,
     tt,
-    record {
-      ticket = r.ticket;
-      serving = r.serving;
-      log = r.log;
-      owner = r.owner;
-      seat = r.seat;
-      words = set-get_or s.words 1 0 ∙ r.words;
-      below = r.below;
-      drawn = drawn_stay r.ticket r.serving r.owner s.views id was w at (λ t h. h) r.drawn;
-      slot = ⊎_elim (λ h. inl (home_stays r.log r.serving s.homes s.views id w refl h)) (λ a. inr (away_stays s.homes s.views id was w at refl a)) r.slot;
-      each = stay (Fits r.log r.ticket r.serving r.owner) s.views id w
-          (record { staged = tt; begins = begins_whole r.log r.log v.of.all refl; former = no_former r.log v.of.all; live = inr has })
-          (λ j d _ p. r.each j d p);
-      numbered = same_numbers r.log r.seat s.views id was w at refl r.numbered;
-    },
+    looked s r id v Idle Idle s.homes at (λ u h. h) tt (inr has) (⊎_elim (λ h. inl (home_stays r.log r.serving s.homes s.views id w refl h)) (λ a. inr (away_stays s.homes s.views id was w at refl a)) r.slot),
     (r.log, refl, fit.begins, λ i o p. (fit.former i o p).0),
   )
 
