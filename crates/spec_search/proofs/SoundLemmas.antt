@@ -1,4 +1,4 @@
-use Rattle.std.proofs.Common.{◌≡◌, ℕ, ◌+◌, ◌<◌, ◌≤◌, true, false, not, ◌||◌, List, [], ◌∷◌, ◌++◌, length, take, drop, Some, None, refl, sym, ap, ◌∙◌, subst, arith}
+use Rattle.std.proofs.Common.{◌≡◌, ℕ, ◌+◌, ◌<◌, ◌≤◌, true, false, not, ◌||◌, List, [], ◌∷◌, ◌++◌, length, take, drop, Option, Some, None, refl, sym, ap, ◌∙◌, subst, arith}
 use Rattle.std.specs.Prelude.{All, Contains, ◌==◌}
 use Rattle.std.specs.List.{list_all, list_any}
 use Rattle.std.proofs.lemmas.List.{take-append-drop, take_at, take_all, length-take-le, length_push}
@@ -6,6 +6,8 @@ use Rattle.std.proofs.lemmas.List.Elements.{All-head, All-tail, All-weaker, All-
 use Rattle.std.proofs.lemmas.Bool.{or_left, or_right, not-false}
 use Rattle.mal_base.specs.NumberedClause.{NumberedClause}
 use Rattle.mal_base.specs.declared.trail_entry.TrailEntry.{TrailEntry}
+use Rattle.mal_base.specs.declared.verdict.Verdict.{Verdict}
+use Rattle.mal_base.specs.declared.verdict.Verdict.TheVariants.{Satisfiable}
 use Rattle.spec_node.specs.State.{Node}
 use Rattle.spec_node.specs.Value.{is_true, level_of}
 use Rattle.spec_node.specs.Batch.{batch, is_in_batch, propagated}
@@ -112,28 +114,13 @@ decided-sound n h idle l c chosen =
       waiting = λ id q. let none : n.conflict ≡ None = idle.calm in absurd (cc);
     }
 
--- a restart keeps a node sound
-restarted-sound : (n : Node) → IsSound n → IsIdle n → IsSound (restarted n)
-restarted-sound n h idle =
-    let k : IsSound (cut 0 n) = cut-sound n h idle in
-    let r : IsRanged (cut 0 n) = k.ranged in
-    let c : IsConsistent (cut 0 n) = k.consistent in
-    record {
-      ranged = record { index = r.index; variables = r.variables; restart_number = omega arith; phases = r.phases; numbers = r.numbers; serial = r.serial };
-      consistent = record { order = c.order; clauses = c.clauses; assumptions = c.assumptions; placed = c.placed; levels = c.levels; closed = c.closed; handled = c.handled; settled = c.settled };
-      reasons = k.reasons;
-      chosen = k.chosen;
-      passed = k.passed;
-      reached = k.reached;
-      waiting = k.waiting;
-    }
-
-ended-sound : (n : Node) → IsSound n → IsSound (ended n)
-ended-sound n h =
+-- the counts of restarts and the verdict are no part of what makes a node sound
+counted-sound : (n : Node) (number since : ℕ) (verdict : Option Verdict) → 1 ≤ number → IsSound n → IsSound (record n { restart_number = number; conflicts_since_restart = since; verdict = verdict })
+counted-sound n number since verdict some h =
     let r : IsRanged n = h.ranged in
     let c : IsConsistent n = h.consistent in
     record {
-      ranged = record { index = r.index; variables = r.variables; restart_number = r.restart_number; phases = r.phases; numbers = r.numbers; serial = r.serial };
+      ranged = record { index = r.index; variables = r.variables; restart_number = some; phases = r.phases; numbers = r.numbers; serial = r.serial };
       consistent = record { order = c.order; clauses = c.clauses; assumptions = c.assumptions; placed = c.placed; levels = c.levels; closed = c.closed; handled = c.handled; settled = c.settled };
       reasons = h.reasons;
       chosen = h.chosen;
@@ -141,6 +128,13 @@ ended-sound n h =
       reached = h.reached;
       waiting = h.waiting;
     }
+
+-- a restart keeps a node sound
+restarted-sound : (n : Node) → IsSound n → IsIdle n → IsSound (restarted n)
+restarted-sound n h idle = counted-sound (cut 0 n) (n.restart_number + 1) 0 n.verdict (omega arith) (cut-sound n h idle)
+
+ended-sound : (n : Node) → IsSound n → IsSound (ended n)
+ended-sound n h = counted-sound n n.restart_number n.conflicts_since_restart (Some Satisfiable) h.ranged.restart_number h
 
 -- where no assumption is open all are true
 all-assumed : (trail : List TrailEntry) (xs : List ℕ) → All (λ a. not (is_true trail a) ≡ false) xs → list_all (is_true trail) xs ≡ true
