@@ -13,9 +13,9 @@ use Rattle.spec_search.specs.Slice.{Sliced, slice}
 use Rattle.spec_search.specs.Laws.{CountsRise}
 use Rattle.spec_search.proofs.CountLemmas.{slice-counts}
 use Rattle.spec_search.proofs.ModelLemmas.{slice-leaves}
-use Rattle.spec_job.specs.Journal.{JournalEntry, Load, Import, Run, after_entry, replay, loads_of}
+use Rattle.spec_job.specs.Journal.{JournalEntry, Load, Import, Run, after_entry, replay, loads_of, is_run}
 use Rattle.spec_job.specs.SoloMachine.{NodeSlot, vacant, marked_from, takes_part}
-use Rattle.spec_job.specs.Counts.{is_run, runs_in, runs_of, HasCounts}
+use Rattle.spec_job.specs.Counts.{runs_in, runs_of, HasCounts}
 
 pub runs_in-append : (xs ys : List JournalEntry) → runs_in (xs ++ ys) ≡ runs_in xs + runs_in ys
 runs_in-append xs ys = sum_by-append (λ (e : JournalEntry). cond (is_run e) 1 0) xs ys

@@ -2,14 +2,9 @@ use Rattle.std.specs.Prelude.{◌≡◌, ℕ, ◌+◌, ◌*◌, ◌≤◌, Bool,
 use Rattle.std.specs.List.{list_any}
 use Rattle.mal_base.specs.Asks.{Terms}
 use Rattle.spec_node.specs.State.{Node}
-use Rattle.spec_job.specs.Journal.{JournalEntry, Run, replay}
+use Rattle.spec_job.specs.Journal.{JournalEntry, is_run, replay}
 use Rattle.spec_job.specs.SoloMachine.{Own, Opened, NodeSlot, SoloMachine, solo, place_at, missing_loads, missing_imports}
 use Rattle.spec_job.specs.Runnable.{IsRunnable}
-
--- whether an entry runs a slice
-abbrev pub is_run : JournalEntry → Bool
-is_run Run = true
-is_run entry = false
 
 -- how many slices a journal has run
 abbrev pub runs_in : List JournalEntry → ℕ

@@ -33,6 +33,11 @@ abbrev pub is_import : JournalEntry → Bool
 is_import (Import told) = true
 is_import entry = false
 
+-- whether an entry runs a slice
+abbrev pub is_run : JournalEntry → Bool
+is_run Run = true
+is_run entry = false
+
 -- how many revisions a journal has loaded
 abbrev pub loads_in : List JournalEntry → ℕ
 loads_in entries = count_by is_load entries

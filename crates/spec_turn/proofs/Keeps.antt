@@ -179,19 +179,7 @@ module _ {T E : Type 0} (stands : T → Log E → Type 0) where
   viewed : (s : St) (r : Rule s) (words : List ℕ) (homes : List (lean.Option (Option T))) (vs : List (View E)) (seat : List ℕ → ℕ) → words ≡ r.ticket ∷ r.serving ∷ length r.log ∷ []
       → ((t : ℕ) → r.serving ≤ t → t < r.ticket → (d : View E) × At vs (r.owner t) d × HasTicket t d.stage) → Home stands r.log r.serving homes vs ⊎ Away stands homes vs
       → ((j : ℕ) (d : View E) → At vs j d → Fits r.log r.ticket r.serving r.owner j d) → NumberRule r.log seat (map numbers vs) → Rule record { words = words; homes = homes; views = vs }
-  viewed s r words homes vs seat same drawn slot each numbered = record {
-    ticket = r.ticket;
-    serving = r.serving;
-    log = r.log;
-    owner = r.owner;
-    seat = seat;
-    words = same;
-    below = r.below;
-    drawn = drawn;
-    slot = slot;
-    each = each;
-    numbered = numbered;
-  }
+  viewed s r words homes vs seat same drawn slot each numbered = record { ticket = r.ticket; serving = r.serving; log = r.log; owner = r.owner; seat = seat; words = same; below = r.below; drawn = drawn; slot = slot; each = each; numbered = numbered }
 
   -- a seat that looks has seen the record so far; the words, its numbers and what the others know stay
   looked : (s : St) (r : Rule s) (id : ℕ) (v : View E) (before after : Stage) (homes : List (lean.Option (Option T))) → At s.views id (at_stage before v) → ((t : ℕ) → HasTicket t before → HasTicket t after)
