@@ -13,4 +13,5 @@ mod DeriveLemmas
 mod BumpLemmas
 mod SliceLemmas
 mod LineLemmas
+mod SourceLemmas
 mod PastLemmas

@@ -1,7 +1,7 @@
 use Rattle.std.proofs.Common.{◌≡◌, ℕ, ◌+◌, ◌<◌, ◌≤◌, Bool, true, false, cond, [], ◌∷◌, ◌++◌, Option, Some, None, is_some, refl, sym, ap, ◌∙◌, subst, arith}
 use Rattle.std.specs.Prelude.{◌==◌, ◌||◌, nat_lt}
 use Rattle.std.specs.Option.{option_map_or}
-use Rattle.std.proofs.lemmas.Bool.{le-ltb, ne_eqb}
+use Rattle.std.proofs.lemmas.Bool.{le-ltb, lt-ltb, ne_eqb}
 use Rattle.mal_base.specs.NumberedClause.{Line}
 use Rattle.mal_base.specs.declared.verdict.Verdict.{Verdict}
 use Rattle.mal_base.specs.Formulas.{is_within}
@@ -11,7 +11,7 @@ use Rattle.spec_learn.specs.Learning.{line_of, learned}
 use Rattle.spec_learn.specs.Refuting.{core_line, cored}
 use Rattle.spec_learn.specs.CoreLaws.{HasFailed}
 use Rattle.spec_search.specs.Step.{Case, Learns, Refutes, Contradicts, case_by, case_of, after_case, line_by, next_line, step}
-use Rattle.spec_search.specs.Slice.{numbers_of, most_numbers}
+use Rattle.spec_search.specs.Slice.{numbers_of, most_numbers, is_over}
 use Rattle.spec_search.proofs.StepLemmas.{by_cases}
 use Rattle.spec_search.proofs.ModelLemmas.{step-leaves}
 use Rattle.mal_cdcl.specs.Within.{NodeWithRoom}
@@ -69,6 +69,17 @@ line-room used l n h low w =
 
 not-over : (v : Option Verdict) (o p : Option Line) (f : Line → Bool) → is_some v ≡ false → o ≡ p → option_map_or f p false ≡ false → (is_some v || option_map_or f o false) ≡ false
 not-over v o p f a e h = rw (a, e) h
+
+is-over : (v : Option Verdict) (o p : Option Line) (f : Line → Bool) → o ≡ p → option_map_or f p false ≡ true → (is_some v || option_map_or f o false) ≡ true
+is-over v o p f e h = rw (e, h) (or-true (is_some v))
+  where
+    or-true : (b : Bool) → (b || true) ≡ true
+    or-true true = refl
+    or-true false = refl
+
+-- a slice is over where the next line would be too long
+pub over-line : (used : ℕ) (line : Line) (n : Node) → next_line n ≡ Some line → most_numbers n.variables < used + numbers_of line → is_over used n ≡ true
+over-line used line n next long = is-over n.verdict (next_line n) (Some line) (λ l. nat_lt (most_numbers n.variables) (used + numbers_of l)) next (lt-ltb (most_numbers n.variables) (used + numbers_of line) long)
 
 -- a step with a line
 pub derived-step : (used now : ℕ) (line : Line) (before after : NodeWithRoom) → before.state.verdict ≡ None → next_line before.state ≡ Some line → now ≡ used + numbers_of line → now ≤ most_numbers before.state.variables → after.state ≡ step before.state → after.lines ≡ before.lines ++ line ∷ [] → IsLineLess line before after → IsStepped used before now after

@@ -3,4 +3,5 @@ pub mod ImportSizes
 pub mod Ready
 pub mod Rising
 pub mod Sliced
+pub mod Sourced
 pub mod Importing

@@ -10,5 +10,6 @@ mod node;
 mod node_load;
 mod open;
 mod restart;
+mod source;
 
 pub use node::Node;

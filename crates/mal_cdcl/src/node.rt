@@ -14,19 +14,21 @@ ghost use Rattle.mal_trail.specs.Rooms.{HasRoom};
 ghost use Rattle.spec_node.specs.Laws.{AreNewNumbers};
 ghost use Rattle.spec_node.specs.Model.{model_of};
 ghost use Rattle.spec_node.specs.Sound.{IsSound};
-ghost use Rattle.spec_learn.specs.Learning.{analysis, derived_id, line_of, learned};
-ghost use Rattle.spec_learn.specs.Refuting.{refuted, core_analysis, core_line, cored};
-ghost use Rattle.spec_learn.specs.CoreLaws.{HasFailed};
+ghost use Rattle.spec_learn.specs.Learning.{analysis, derived_id, learned};
+ghost use Rattle.spec_learn.specs.Refuting.{refuted};
 ghost use Rattle.spec_search.specs.Step.{step, restarting, branching, case_of, after_case};
 ghost use Rattle.spec_search.specs.Dropping.{dropped};
 ghost use Rattle.spec_search.specs.Step.Case.{Contradicts, Decides, Restarts};
 ghost use Rattle.spec_search.specs.Slice.{slice, numbers_of, most_numbers};
 ghost use Rattle.mal_cdcl.specs.Ready.{posted, readied, greatest, clauses_in, AreNew, HasRoomFor, IsSpared};
 ghost use Rattle.mal_cdcl.specs.Sliced.{HasSliceRoom, HasStepRoom, HasIdRoom, HasLowCounts, MayCount, Keeps, IsShown, IsEnded, IsStepped, IsSearched, IsFailing, HasClauseRoom, HasLineRoom, IsLineLess};
+ghost use Rattle.mal_cdcl.specs.Sourced.{IsSource, analysis_from, line_from};
+ghost use Rattle.mal_learn.specs.Shown.{HasLeft};
 ghost use Rattle.mal_freeze.specs.Imaged.{IsImage};
 
 use crate::import_filter::{self, Pick};
 use crate::needs::{self, Needs, SLICE_STEPS, most_numbers};
+use crate::source::Source;
 use crate::{copies, dropping, learning, node_load, open, restart};
 use mal_base::{ClauseId, Lines, Lit, NumberedClause, Var, Verdict};
 use mal_buffer::Buffer;
@@ -363,7 +365,7 @@ impl<E: Listed> Node<E> {
         }
         match self.conflict {
             None => self.go_on(used, scratch),
-            Some(id) => self.derive(id, used, scratch),
+            Some(id) => self.derive(&Source::Conflict(id), used, scratch),
         }
     }
 
@@ -383,7 +385,7 @@ impl<E: Listed> Node<E> {
     {
         match self.search(scratch) {
             None => Some(used),
-            Some(assumption) => self.derive_core(assumption, used, scratch),
+            Some(assumption) => self.derive(&Source::Failed(assumption), used, scratch),
         }
     }
 
@@ -517,12 +519,12 @@ impl<E: Listed> Node<E> {
         self.trail.push(var.literal(positive), None, level);
     }
 
-    /// Derives a clause from a waiting conflict in a slice in which so many literals and hints were derived, and tells
-    /// how many were after it. None where they would be too many, and the slice is over.
-    fn derive(&mut self, id: ClauseId, used: usize, scratch: &mut Scratch) -> Option<usize>
+    /// Derives a clause from a waiting conflict or a failed assumption in a slice in which so many literals and hints
+    /// were derived, and tells how many were after it. None where they would be too many, and the slice is over.
+    fn derive(&mut self, source: &Source, used: usize, scratch: &mut Scratch) -> Option<usize>
         requires sound { IsSound self.old.state }
         requires goes { self.old.state.verdict ≡ None }
-        requires conflict { self.old.state.conflict ≡ Some id }
+        requires source { IsSource source.now self.old.state }
         requires room { HasStepRoom 1 used self.old }
         requires fitted { self.old.state.variables < scratch.old.room }
         requires counts { MayCount self.old.state }
@@ -530,46 +532,71 @@ impl<E: Listed> Node<E> {
         ensures room { scratch.new.room ≡ scratch.old.room }
         ensures id_room { scratch.new.ids ≡ scratch.old.ids }
     {
-        let numbers = self.analyse(id, scratch);
+        let numbers = self.analyse(source, scratch);
         if most_numbers(self.variables) < used + numbers {
             return None;
         }
-        self.hold(id, scratch);
+        self.hold(source, scratch);
         Some(used + numbers)
     }
 
-    /// Analyses a conflict, and tells how many literals and hints come of it.
-    fn analyse(&self, id: ClauseId, scratch: &mut Scratch) -> usize
+    /// Analyses a conflict or a failed assumption, and tells how many literals and hints come of it.
+    fn analyse(&self, source: &Source, scratch: &mut Scratch) -> usize
         requires sound { IsSound self.now.state }
+        requires source { IsSource source.now self.now.state }
         requires fitted { self.now.state.variables < scratch.old.room }
-        ensures shown { IsShown (analysis id self.now.state) scratch.new }
-        ensures numbers { result ≡ numbers_of (line_of id self.now.state) }
+        ensures shown { HasLeft (analysis_from source.now self.now.state) scratch.old scratch.new }
+        ensures numbers { result ≡ numbers_of (line_from source.now self.now.state) }
         ensures few { result ≤ self.now.state.variables + 1 }
-        ensures room { scratch.new.room ≡ scratch.old.room }
-        ensures id_room { scratch.new.ids ≡ scratch.old.ids }
     {
-        mal_learn::analyse_in(self.profile, &self.trail, &self.engine, id, scratch);
+        self.analyse_from(source, scratch);
         scratch.clause().len() + scratch.hints().len()
     }
 
-    /// Notes the line of a conflict that was analysed, and learns from it, or refutes the clauses.
-    fn hold(&mut self, id: ClauseId, scratch: &Scratch)
+    /// Analyses a conflict or a failed assumption.
+    fn analyse_from(&self, source: &Source, scratch: &mut Scratch)
+        requires sound { IsSound self.now.state }
+        requires source { IsSource source.now self.now.state }
+        requires fitted { self.now.state.variables < scratch.old.room }
+        ensures { HasLeft (analysis_from source.now self.now.state) scratch.old scratch.new }
+    {
+        let (trail, engine) = (&self.trail, &self.engine);
+        match source {
+            Source::Conflict(id) => mal_learn::analyse_in(
+                self.profile,
+                trail,
+                engine,
+                *id,
+                scratch,
+            ),
+            Source::Failed(literal) => mal_learn::final_core(trail, engine, *literal, scratch),
+        }
+    }
+
+    /// Notes the line that was analysed. Learns from a conflict above level 0; else the line refutes the clauses under
+    /// the assumptions.
+    fn hold(&mut self, source: &Source, scratch: &Scratch)
         requires sound { IsSound self.old.state }
-        requires conflict { self.old.state.conflict ≡ Some id }
-        requires shown { IsShown (analysis id self.old.state) scratch.now }
+        requires source { IsSource source.now self.old.state }
+        requires shown { IsShown (analysis_from source.now self.old.state) scratch.now }
         requires counts { MayCount self.old.state }
-        requires room { HasLineRoom (line_of id self.old.state) self.old }
+        requires room { HasLineRoom (line_from source.now self.old.state) self.old }
         ensures state { self.new.state ≡ step self.old.state }
-        ensures lines { self.new.lines ≡ self.old.lines ++ line_of id self.old.state ∷ [] }
-        ensures room { IsLineLess (line_of id self.old.state) self.old self.new }
+        ensures lines { self.new.lines ≡ self.old.lines ++ line_from source.now self.old.state ∷ [] }
+        ensures room { IsLineLess (line_from source.now self.old.state) self.old self.new }
     {
         let number = ClauseId::derived(self.serial, self.index);
         self.lines
             .push_reserved(number, scratch.clause(), scratch.hints());
-        if self.trail.level() == 0 {
-            self.refute(number, scratch);
-        } else {
-            self.learn(id, number, scratch);
+        match source {
+            Source::Failed(_) => self.refute(number, scratch),
+            Source::Conflict(id) => {
+                if self.trail.level() == 0 {
+                    self.refute(number, scratch);
+                } else {
+                    self.learn(*id, number, scratch);
+                }
+            }
         }
     }
 
@@ -610,59 +637,6 @@ impl<E: Listed> Node<E> {
         let count = dropping::counted(self.profile, self.conflicts_since_dropping);
         self.conflicts_since_dropping = count;
         self.conflict = None;
-    }
-
-    /// Derives the core clause of a failed assumption in a slice in which so many literals and hints were derived, and
-    /// tells how many were after it. None where they would be too many, and the slice is over.
-    fn derive_core(&mut self, assumption: Lit, used: usize, scratch: &mut Scratch) -> Option<usize>
-        requires sound { IsSound self.old.state }
-        requires goes { self.old.state.verdict ≡ None }
-        requires failed { case_of self.old.state ≡ Contradicts assumption }
-        requires room { HasStepRoom 1 used self.old }
-        requires fitted { self.old.state.variables < scratch.old.room }
-        requires counts { MayCount self.old.state }
-        ensures step { MatchOption result (IsEnded used self.old self.new) (λ now. IsStepped used self.old now self.new) }
-        ensures room { scratch.new.room ≡ scratch.old.room }
-        ensures id_room { scratch.new.ids ≡ scratch.old.ids }
-    {
-        let numbers = self.analyse_core(assumption, scratch);
-        if most_numbers(self.variables) < used + numbers {
-            return None;
-        }
-        self.hold_core(assumption, scratch);
-        Some(used + numbers)
-    }
-
-    /// Analyses a failed assumption, and tells how many literals and hints come of it.
-    fn analyse_core(&self, assumption: Lit, scratch: &mut Scratch) -> usize
-        requires sound { IsSound self.now.state }
-        requires failed { HasFailed self.now.state assumption }
-        requires fitted { self.now.state.variables < scratch.old.room }
-        ensures shown { IsShown (core_analysis assumption self.now.state) scratch.new }
-        ensures numbers { result ≡ numbers_of (core_line assumption self.now.state) }
-        ensures few { result ≤ self.now.state.variables + 1 }
-        ensures room { scratch.new.room ≡ scratch.old.room }
-        ensures id_room { scratch.new.ids ≡ scratch.old.ids }
-    {
-        mal_learn::final_core(&self.trail, &self.engine, assumption, scratch);
-        scratch.clause().len() + scratch.hints().len()
-    }
-
-    /// Notes the line of a failed assumption that was analysed, and ends the search with it.
-    fn hold_core(&mut self, assumption: Lit, scratch: &Scratch)
-        requires sound { IsSound self.old.state }
-        requires failed { HasFailed self.old.state assumption }
-        requires shown { IsShown (core_analysis assumption self.old.state) scratch.now }
-        requires counts { MayCount self.old.state }
-        requires room { HasLineRoom (core_line assumption self.old.state) self.old }
-        ensures state { self.new.state ≡ cored assumption self.old.state }
-        ensures lines { self.new.lines ≡ self.old.lines ++ core_line assumption self.old.state ∷ [] }
-        ensures room { IsLineLess (core_line assumption self.old.state) self.old self.new }
-    {
-        let goal = ClauseId::derived(self.serial, self.index);
-        self.lines
-            .push_reserved(goal, scratch.clause(), scratch.hints());
-        self.refute(goal, scratch);
     }
 }
 

@@ -12,30 +12,24 @@ use Rattle.spec_node.specs.Sound.{EachAfter, IsPlaced}
 use Rattle.spec_learn.specs.Analysis.{Analysed, has_var, vars_in, vars_under, begun, walked, walk_of, analysed, top}
 use Rattle.spec_learn.specs.Analysis.Aim.{Learned}
 use Rattle.mal_learn.specs.Working.{State, see_all, lits_of, visited_all, here_all}
-use Rattle.mal_learn.specs.Shown.{Work, IsFitted, IsFinished, ClausesWithin, EntriesWithin}
+use Rattle.mal_learn.specs.Shown.{Work, IsFitted, IsFinished, HasRoom, HasWalkRoom, ClausesWithin, EntriesWithin}
 use Rattle.spec_learn.proofs.ApartLemmas.{IsApart, apart-reverse, apart-short}
 use Rattle.mal_learn.proofs.CountLemmas.{is_here, left_count, left-cons}
 use Rattle.mal_learn.proofs.SortLemmas.{turned-back, sorted-clause}
 use Rattle.mal_learn.proofs.WalkLemmas.{Leaves, see_all-leaves, lits-within, reverse-got}
-use Rattle.mal_learn.proofs.ShowsLemmas.{IsSeen, Shows, same-seen, see_all-shows, vars-of, walked-shows, AreBelow}
+use Rattle.mal_learn.proofs.ShowsLemmas.{IsSeen, Shows, or-turn, same-seen, see_all-shows, vars-of, walked-shows, AreBelow}
 
 -- the marks of a level
 pub here-is : (level v : ℕ) (es : List TrailEntry) (flags : List Bool) → v < length flags → get_or (here_all level es flags) v false ≡ (is_here level es v || get_or flags v false)
 here-is level v [] flags l = refl
 here-is level v (e ∷ es) flags l = by_level (λ xs k. here-is level v es xs k) (e.level == level)
   where
-    turn : (x y z : Bool) → (x || (y || z)) ≡ ((y || x) || z)
-    turn true true z = refl
-    turn true false z = refl
-    turn false true z = refl
-    turn false false z = refl
-
     own : (b : Bool) → (v == var_of e.lit) ≡ b → get_or (set flags (var_of e.lit) true) v false ≡ (b || get_or flags v false)
     own true q = let same : v ≡ var_of e.lit = eqb-true v (var_of e.lit) q in subst (λ (x : ℕ). get_or (set flags x true) v false ≡ true) same (get_or-set_same flags v true false l)
     own false q = get_or-set_other flags (var_of e.lit) v true false (eqb-false v (var_of e.lit) q)
 
     by_level : ((xs : List Bool) → v < length xs → get_or (here_all level es xs) v false ≡ (is_here level es v || get_or xs v false)) → (b : Bool) → get_or (here_all level es (cond b (set flags (var_of e.lit) true) flags)) v false ≡ (((b && (v == var_of e.lit)) || is_here level es v) || get_or flags v false)
-    by_level f true = f (set flags (var_of e.lit) true) (let k = length-set flags (var_of e.lit) true in omega arith) ∙ (ap (λ (b : Bool). is_here level es v || b) (own (v == var_of e.lit) refl) ∙ turn (is_here level es v) (v == var_of e.lit) (get_or flags v false))
+    by_level f true = f (set flags (var_of e.lit) true) (let k = length-set flags (var_of e.lit) true in omega arith) ∙ (ap (λ (b : Bool). is_here level es v || b) (own (v == var_of e.lit) refl) ∙ or-turn (is_here level es v) (v == var_of e.lit) (get_or flags v false))
     by_level f false = f flags l
 
 pub here-long : (level : ℕ) (es : List TrailEntry) (flags : List Bool) → length (here_all level es flags) ≡ length flags
@@ -101,15 +95,23 @@ clauses-below n clauses h r = by_found (lits_under r clauses) refl
     by_found None q = All-nil (λ l. var_of l < n)
     by_found (Some lits) q = lits-within n r clauses lits h q
 
--- an analysis has room for the variables of the trail and of the clauses
-pub record HasRoom (n : ℕ) (es : List TrailEntry) (clauses : List NumberedClause) : Type 0 where
-  pub some : 1 ≤ n
-  pub placed : EachAfter (IsPlaced (n - 1)) [] es
-  pub within : ClausesWithin n clauses
-
--- and so for each entry
+-- where there is room for the variables of a trail there is room for each entry
 pub room-short : (n : ℕ) (es : List TrailEntry) → 1 ≤ n → EachAfter (IsPlaced (n - 1)) [] es → length es + 1 ≤ n
 room-short n es l placed = omega (arith, apart-short n (reverse es) l (apart-reverse n es l placed), length-reverse es)
+
+-- an analysis that has begun has room to walk over the trail
+pub begun-room : (n m a b y z level id : ℕ) (clauses : List NumberedClause) (es : List TrailEntry) (w : Work) → m ≡ n → HasRoom 1 n es clauses → IsFitted m a b y z → w.room ≡ m → w.state ≡ see_all (lits_of clauses id) (start a b level id es) → HasWalkRoom es w
+begun-room n m a b y z level id clauses es w e room fits same is =
+    let leaves : Leaves (start a b level id es) (see_all (lits_of clauses id) (start a b level id es)) = see_all-leaves (lits_of clauses id) (start a b level id es) in
+    let short : length es + 1 ≤ n = room-short n es room.fitted room.placed in
+    let lits : length w.state.lits ≡ 0 = ap (λ (s : State). length s.lits) is ∙ ap (λ (ls : List ℕ). length ls) leaves.lits in
+    let hints : length w.state.hints ≡ 1 = ap (λ (s : State). length s.hints) is ∙ ap (λ (ls : List ℕ). length ls) leaves.hints in
+    let whole : w.room ≡ n = same ∙ e in
+    record {
+      within = subst (λ (k : ℕ). EntriesWithin k es) (sym whole) (entries-within n es [] room.fitted room.placed);
+      lits = omega (arith, lits, short, whole);
+      hints = omega (arith, hints, short, whole);
+    }
 
 -- what is left in the end is what a definition gives
 pub record IsFound (a : Analysed) (w : Work) : Type 0 where
@@ -117,12 +119,12 @@ pub record IsFound (a : Analysed) (w : Work) : Type 0 where
   pub hints : w.state.hints ≡ a.hints
   pub level : w.state.level ≡ a.level
 
-pub analysis-done : (n a b y z id level : ℕ) (clauses : List NumberedClause) (es : List TrailEntry) (s : State) (v w : Work) → HasRoom n es clauses → IsFitted n a b y z → level ≡ top (reverse es) → s ≡ see_all (lits_of clauses id) (start a b level id es) → v.state ≡ visited_all clauses level (reverse es) s → IsFinished v w → IsFound (analysed clauses (reverse es) id) w
+pub analysis-done : (n a b y z id level : ℕ) (clauses : List NumberedClause) (es : List TrailEntry) (s : State) (v w : Work) → HasRoom 1 n es clauses → IsFitted n a b y z → level ≡ top (reverse es) → s ≡ see_all (lits_of clauses id) (start a b level id es) → v.state ≡ visited_all clauses level (reverse es) s → IsFinished v w → IsFound (analysed clauses (reverse es) id) w
 analysis-done n a b y z id level clauses es s v w room fits tops begins walks ends =
     let past : List TrailEntry = reverse es in
     let below : AreBelow n clauses = clauses-below n clauses room.within in
-    let apart : IsApart n past = apart-reverse n es room.some room.placed in
-    let short : length past + 1 ≤ n = apart-short n past room.some apart in
+    let apart : IsApart n past = apart-reverse n es room.fitted room.placed in
+    let short : length past + 1 ≤ n = apart-short n past room.fitted apart in
     let small : n ≤ 65537 = fits.small in
     let is : v.state ≡ visited_all clauses level past (see_all (lits_of clauses id) (start a b level id es)) = walks ∙ ap (visited_all clauses level past) begins in
     let at_level : Shows n level id [] (walked (Learned level) clauses past (begun (vars_under clauses id))) v.state = subst (Shows n level id [] (walked (Learned level) clauses past (begun (vars_under clauses id)))) (sym is) (walked-shows n level id clauses past (begun (vars_under clauses id)) (see_all (lits_of clauses id) (start a b level id es)) below apart (omega arith) (begin-shows n a b level id clauses es fits.seen_fits fits.here_fits below apart (omega arith))) in

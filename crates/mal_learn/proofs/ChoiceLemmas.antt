@@ -1,5 +1,5 @@
 use Rattle.std.proofs.Common.{◌≡◌, ℕ, suc, ◌+◌, ◌/◌, ◌<◌, ◌≤◌, Bool, true, false, cond, List, [], ◌∷◌, ◌++◌, map, take, get_or, length, reverse, refl, sym, ap, ◌∙◌, subst, arith, Less, Equal, Greater}
-use Rattle.std.specs.Prelude.{All, nat_lt, ◌==◌, ◌&&◌, ◌||◌, sum_by}
+use Rattle.std.specs.Prelude.{All, nat_lt, ◌==◌, ◌&&◌, ◌||◌}
 use Rattle.std.specs.List.Sorted.{IsPermutation, IsSorted}
 use Rattle.std.specs.Cmp.{IsTotalOrder}
 use Rattle.std.specs.Ordering.{nat_cmp, is_lt, ordering_then}
@@ -7,13 +7,13 @@ use Rattle.std.proofs.lemmas.Cmp.{then_total, on_total, nat_cmp_total}
 use Rattle.std.proofs.lemmas.List.{reverse-append, take-map, length-map}
 use Rattle.std.proofs.lemmas.List.Elements.{All-nil, All-cons, All-head, All-tail, All-append}
 use Rattle.std.proofs.lemmas.List.MinMax.{ranks_by}
-use Rattle.std.proofs.lemmas.List.Sums.{sum_by-cons}
-use Rattle.std.proofs.lemmas.List.Sorted.{sum_by-IsPermutation, IsPermutation-reverse, All-permutation, sorted_far}
+use Rattle.std.proofs.lemmas.List.Sorted.{IsPermutation-reverse, All-permutation, sorted_far}
 use Rattle.std.proofs.lemmas.Bool.{or_parts, and_parts, eqb-true, eq-eqb, eqb-false, ltb-true, ltb-false, le-ltb}
 use Rattle.mal_base.specs.NumberedClause.{NumberedClause}
 use Rattle.spec_learn.specs.Dropping.{goes_before, put_by_length, by_length, longer_half}
 use Rattle.mal_learn.specs.declared.dropping.Candidate.{Candidate}
 use Rattle.mal_learn.specs.Choosing.{candidate_of, candidate_cmp, precedes}
+use Rattle.mal_learn.proofs.OrderedLemmas.{IsOrdered, times, times-cons, times-moved, ordered-same}
 
 -- a candidate does not go before another: it is no longer, and of equal length its number is no greater
 record Follows (a b : Candidate) : Type 0 where
@@ -82,9 +82,8 @@ one a b h k =
     equal a.len b.len a.id b.id len (omega arith)
 
 -- none goes before one that stands in front of it
-abbrev IsOrdered : List Candidate → Type 0
-IsOrdered [] = Unit {0}
-IsOrdered (x ∷ xs) = All (λ y. precedes y x ≡ false) xs × IsOrdered xs
+abbrev IsShrinking : List Candidate → Type 0
+IsShrinking xs = IsOrdered (λ x y. precedes y x ≡ false) xs
 
 abbrev is_same : Candidate → Candidate → Bool
 is_same a b = (a.len == b.len) && (a.id == b.id)
@@ -92,54 +91,12 @@ is_same a b = (a.len == b.len) && (a.id == b.id)
 same-one : (a b : Candidate) → is_same a b ≡ true → a ≡ b
 same-one a b h = let parts = and_parts (a.len == b.len) (a.id == b.id) h in equal a.len b.len a.id b.id (eqb-true a.len b.len parts.0) (eqb-true a.id b.id parts.1)
 
--- how often a candidate stands in a list
-times : Candidate → List Candidate → ℕ
-times x xs = sum_by (λ y. cond (is_same x y) 1 0) xs
-
-times-cons : (x y : Candidate) (ys : List Candidate) → times x (y ∷ ys) ≡ cond (is_same x y) 1 0 + times x ys
-unfolding times
-times-cons x y ys = sum_by-cons (λ z. cond (is_same x z) 1 0) y ys
-
-times-nil : (x : Candidate) → times x [] ≡ 0
-unfolding times
-times-nil x = refl
-
-self-times : (x : Candidate) (xs : List Candidate) → 1 ≤ times x (x ∷ xs)
-self-times x xs = let e = times-cons x x xs in let len : (x.len == x.len) ≡ true = eq-eqb x.len x.len refl in let id : (x.id == x.id) ≡ true = eq-eqb x.id x.id refl in rw (e, len, id) (omega arith)
-
--- one that stands in a list does not go before what none of it goes before
-none-before : (x low : Candidate) (ys : List Candidate) → All (λ y. precedes y low ≡ false) ys → 1 ≤ times x ys → precedes x low ≡ false
-none-before x low [] h l = let none = times-nil x in absurd (omega arith)
-none-before x low (y ∷ ys) h l = by_here (none-before x low ys (All-tail (λ z. precedes z low ≡ false) y ys h)) (is_same x y) refl (times-cons x y ys)
-  where
-    by_here : (1 ≤ times x ys → precedes x low ≡ false) → (b : Bool) → is_same x y ≡ b → times x (y ∷ ys) ≡ cond b 1 0 + times x ys → precedes x low ≡ false
-    by_here f true q e = subst (λ (z : Candidate). precedes z low ≡ false) (sym (same-one x y q)) (All-head (λ z. precedes z low ≡ false) y ys h)
-    by_here f false q e = f (omega arith)
-
--- none of an ordered list goes before its first
-first-leads : (x y : Candidate) (ys : List Candidate) → IsOrdered (y ∷ ys) → 1 ≤ times x (y ∷ ys) → precedes x y ≡ false
-first-leads x y ys h l = by_here (is_same x y) refl (times-cons x y ys)
-  where
-    by_here : (b : Bool) → is_same x y ≡ b → times x (y ∷ ys) ≡ cond b 1 0 + times x ys → precedes x y ≡ false
-    by_here true q e = subst (λ (z : Candidate). precedes x z ≡ false) (same-one x y q) (itself x)
-    by_here false q e = none-before x y ys h.0 (omega arith)
+same-itself : (x : Candidate) → is_same x x ≡ true
+same-itself x = let len : (x.len == x.len) ≡ true = eq-eqb x.len x.len refl in let id : (x.id == x.id) ≡ true = eq-eqb x.id x.id refl in rw (len, id) refl
 
 -- ordered lists of the same candidates are equal
-ordered-same : (xs ys : List Candidate) → IsOrdered xs → IsOrdered ys → ((x : Candidate) → times x xs ≡ times x ys) → xs ≡ ys
-ordered-same [] [] a b h = refl
-ordered-same [] (y ∷ ys) a b h = let e : times y [] ≡ times y (y ∷ ys) = h y in let s = self-times y ys in let n = times-nil y in absurd (omega arith)
-ordered-same (x ∷ xs) [] a b h = let e : times x (x ∷ xs) ≡ times x [] = h x in let s = self-times x xs in let n = times-nil x in absurd (omega arith)
-ordered-same (x ∷ xs) (y ∷ ys) a b h =
-    let there : precedes x y ≡ false = first-leads x y ys b (let e : times x (x ∷ xs) ≡ times x (y ∷ ys) = h x in let s = self-times x xs in omega arith) in
-    let here : precedes y x ≡ false = first-leads y x xs a (let e : times y (x ∷ xs) ≡ times y (y ∷ ys) = h y in let s = self-times y ys in omega arith) in
-    let same : x ≡ y = one x y there here in
-    cons-same x y xs ys same (ordered-same xs ys (tail-ordered x xs a) (tail-ordered y ys b) (λ z. let e : times z (x ∷ xs) ≡ times z (y ∷ ys) = h z in let u = times-cons z x xs in let w = times-cons z y ys in let c : cond (is_same z x) 1 0 ≡ cond (is_same z y) 1 0 = ap (λ (k : Candidate). cond {A = ℕ} (is_same z k) 1 0) same in omega arith))
-  where
-    tail-ordered : (z : Candidate) (zs : List Candidate) → IsOrdered (z ∷ zs) → IsOrdered zs
-    tail-ordered z zs k = k.1
-
-    cons-same : (x y : Candidate) (xs ys : List Candidate) → x ≡ y → xs ≡ ys → x ∷ xs ≡ y ∷ ys
-    cons-same x y xs ys p q = rw (p, q) refl
+shrinking-same : (xs ys : List Candidate) → IsShrinking xs → IsShrinking ys → ((x : Candidate) → times is_same x xs ≡ times is_same x ys) → xs ≡ ys
+shrinking-same xs ys = ordered-same is_same same-itself same-one (λ x y. precedes y x ≡ false) itself (λ a b h k. one a b k h) xs ys
 
 -- putting a clause at its place keeps what holds of all, the order, and the clauses
 put-all : (P : Candidate → Type 0) (c : NumberedClause) (ds : List NumberedClause) → P (candidate_of c) → All P (map candidate_of ds) → All P (map candidate_of (put_by_length c ds))
@@ -154,29 +111,29 @@ all-behind : (a b : Candidate) (xs : List Candidate) → precedes a b ≡ true �
 all-behind a b [] q h = All-nil (λ y. precedes y a ≡ false)
 all-behind a b (x ∷ xs) q h = All-cons (λ y. precedes y a ≡ false) x xs (behind a b x q (All-head (λ y. precedes y b ≡ false) x xs h)) (all-behind a b xs q (All-tail (λ y. precedes y b ≡ false) x xs h))
 
-put-ordered : (c : NumberedClause) (ds : List NumberedClause) → IsOrdered (map candidate_of ds) → IsOrdered (map candidate_of (put_by_length c ds))
+put-ordered : (c : NumberedClause) (ds : List NumberedClause) → IsShrinking (map candidate_of ds) → IsShrinking (map candidate_of (put_by_length c ds))
 put-ordered c [] h = (All-nil (λ y. precedes y (candidate_of c) ≡ false), tt)
 put-ordered c (d ∷ ds) h = by_order (put-ordered c ds h.1) (goes_before c d) refl
   where
-    by_order : IsOrdered (map candidate_of (put_by_length c ds)) → (b : Bool) → goes_before c d ≡ b → IsOrdered (map candidate_of (cond b (c ∷ (d ∷ ds)) (d ∷ put_by_length c ds)))
+    by_order : IsShrinking (map candidate_of (put_by_length c ds)) → (b : Bool) → goes_before c d ≡ b → IsShrinking (map candidate_of (cond b (c ∷ (d ∷ ds)) (d ∷ put_by_length c ds)))
     by_order f true q = (All-cons (λ y. precedes y (candidate_of c) ≡ false) (candidate_of d) (map candidate_of ds) (back (candidate_of c) (candidate_of d) q) (all-behind (candidate_of c) (candidate_of d) (map candidate_of ds) q h.0), h)
     by_order f false q = (put-all (λ y. precedes y (candidate_of d) ≡ false) c ds q h.0, f)
 
-put-times : (x : Candidate) (c : NumberedClause) (ds : List NumberedClause) → times x (map candidate_of (put_by_length c ds)) ≡ cond (is_same x (candidate_of c)) 1 0 + times x (map candidate_of ds)
-put-times x c [] = times-cons x (candidate_of c) []
+put-times : (x : Candidate) (c : NumberedClause) (ds : List NumberedClause) → times is_same x (map candidate_of (put_by_length c ds)) ≡ cond (is_same x (candidate_of c)) 1 0 + times is_same x (map candidate_of ds)
+put-times x c [] = times-cons is_same x (candidate_of c) []
 put-times x c (d ∷ ds) = by_order (put-times x c ds) (goes_before c d)
   where
-    by_order : times x (map candidate_of (put_by_length c ds)) ≡ cond (is_same x (candidate_of c)) 1 0 + times x (map candidate_of ds) → (b : Bool) → times x (map candidate_of (cond b (c ∷ (d ∷ ds)) (d ∷ put_by_length c ds))) ≡ cond (is_same x (candidate_of c)) 1 0 + times x (map candidate_of (d ∷ ds))
-    by_order f true = times-cons x (candidate_of c) (map candidate_of (d ∷ ds))
-    by_order f false = let u = times-cons x (candidate_of d) (map candidate_of (put_by_length c ds)) in let w = times-cons x (candidate_of d) (map candidate_of ds) in omega arith
+    by_order : times is_same x (map candidate_of (put_by_length c ds)) ≡ cond (is_same x (candidate_of c)) 1 0 + times is_same x (map candidate_of ds) → (b : Bool) → times is_same x (map candidate_of (cond b (c ∷ (d ∷ ds)) (d ∷ put_by_length c ds))) ≡ cond (is_same x (candidate_of c)) 1 0 + times is_same x (map candidate_of (d ∷ ds))
+    by_order f true = times-cons is_same x (candidate_of c) (map candidate_of (d ∷ ds))
+    by_order f false = let u = times-cons is_same x (candidate_of d) (map candidate_of (put_by_length c ds)) in let w = times-cons is_same x (candidate_of d) (map candidate_of ds) in omega arith
 
-length-ordered : (cs : List NumberedClause) → IsOrdered (map candidate_of (by_length cs))
+length-ordered : (cs : List NumberedClause) → IsShrinking (map candidate_of (by_length cs))
 length-ordered [] = tt
 length-ordered (c ∷ cs) = put-ordered c (by_length cs) (length-ordered cs)
 
-length-times : (x : Candidate) (cs : List NumberedClause) → times x (map candidate_of (by_length cs)) ≡ times x (map candidate_of cs)
+length-times : (x : Candidate) (cs : List NumberedClause) → times is_same x (map candidate_of (by_length cs)) ≡ times is_same x (map candidate_of cs)
 length-times x [] = refl
-length-times x (c ∷ cs) = let p = put-times x c (by_length cs) in let u = times-cons x (candidate_of c) (map candidate_of cs) in let ih = length-times x cs in omega arith
+length-times x (c ∷ cs) = let p = put-times x c (by_length cs) in let u = times-cons is_same x (candidate_of c) (map candidate_of cs) in let ih = length-times x cs in omega arith
 
 -- a sorted list read backwards is ordered
 candidates-total : IsTotalOrder candidate_cmp
@@ -202,31 +159,30 @@ abbrev Rises : List Candidate → Type 0
 Rises [] = Unit {0}
 Rises (x ∷ xs) = All (λ y. precedes x y ≡ false) xs × Rises xs
 
-ordered-push : (xs : List Candidate) (y : Candidate) → All (λ x. precedes y x ≡ false) xs → IsOrdered xs → IsOrdered (xs ++ y ∷ [])
+ordered-push : (xs : List Candidate) (y : Candidate) → All (λ x. precedes y x ≡ false) xs → IsShrinking xs → IsShrinking (xs ++ y ∷ [])
 ordered-push [] y h k = (All-nil (λ x. precedes x y ≡ false), tt)
 ordered-push (x ∷ xs) y h k = (
   All-append (λ z. precedes z x ≡ false) xs (y ∷ []) k.0 (All-cons (λ z. precedes z x ≡ false) y [] (All-head (λ z. precedes y z ≡ false) x xs h) (All-nil (λ z. precedes z x ≡ false))),
   ordered-push xs y (All-tail (λ z. precedes y z ≡ false) x xs h) k.1,
 )
 
-ordered-reverse : (xs : List Candidate) → Rises xs → IsOrdered (reverse xs)
+ordered-reverse : (xs : List Candidate) → Rises xs → IsShrinking (reverse xs)
 ordered-reverse [] h = tt
-ordered-reverse (x ∷ xs) h = subst IsOrdered (sym (reverse-append (x ∷ []) xs)) (ordered-push (reverse xs) x (All-permutation (λ y. precedes x y ≡ false) xs (reverse xs) (IsPermutation-reverse xs) h.0) (ordered-reverse xs h.1))
+ordered-reverse (x ∷ xs) h = subst IsShrinking (sym (reverse-append (x ∷ []) xs)) (ordered-push (reverse xs) x (All-permutation (λ y. precedes x y ≡ false) xs (reverse xs) (IsPermutation-reverse xs) h.0) (ordered-reverse xs h.1))
 
 rises-from : (xs : List Candidate) → ((i j : ℕ) (d : Candidate) → i ≤ j → j < length xs → precedes (get_or xs i d) (get_or xs j d) ≡ false) → Rises xs
 rises-from [] h = tt
 rises-from (x ∷ xs) h = ((λ k d l. h 0 (suc k) d (omega arith) (omega arith)), rises-from xs (λ i j d a b. h (suc i) (suc j) d (omega arith) (omega arith)))
 
-sorted-back : (xs : List Candidate) → IsSorted candidate_cmp xs → IsOrdered (reverse xs)
+sorted-back : (xs : List Candidate) → IsSorted candidate_cmp xs → IsShrinking (reverse xs)
 sorted-back xs up = ordered-reverse xs (rises-from xs (λ i j d a b. not-less (get_or xs j d) (get_or xs i d) (sorted_far (λ x y. is_lt (candidate_cmp x y)) (ranks_by candidates-total (λ (c : Candidate). c)) xs up i j d a b)))
 
 -- sorted candidates read backwards are the clauses by length
 pub sorted-clauses : (cs : List NumberedClause) (xs sorted : List Candidate) → xs ≡ map candidate_of cs → IsPermutation xs sorted → IsSorted candidate_cmp sorted → reverse sorted ≡ map candidate_of (by_length cs)
-unfolding times
-sorted-clauses cs xs sorted q p up = ordered-same (reverse sorted) (map candidate_of (by_length cs)) (sorted-back sorted up) (length-ordered cs) (λ x.
-    let turned : times x (reverse sorted) ≡ times x sorted = sum_by-IsPermutation (λ y. cond (is_same x y) 1 0) sorted (reverse sorted) (IsPermutation-reverse sorted) in
-    let moved : times x sorted ≡ times x xs = sum_by-IsPermutation (λ y. cond (is_same x y) 1 0) xs sorted p in
-    turned ∙ (moved ∙ (ap (times x) q ∙ sym (length-times x cs))))
+sorted-clauses cs xs sorted q p up = shrinking-same (reverse sorted) (map candidate_of (by_length cs)) (sorted-back sorted up) (length-ordered cs) (λ x.
+    let turned : times is_same x (reverse sorted) ≡ times is_same x sorted = times-moved is_same x sorted (reverse sorted) (IsPermutation-reverse sorted) in
+    let moved : times is_same x sorted ≡ times is_same x xs = times-moved is_same x xs sorted p in
+    turned ∙ (moved ∙ (ap (times is_same x) q ∙ sym (length-times x cs))))
 
 map-numbers : (cs : List NumberedClause) → map (λ (c : Candidate). c.id) (map candidate_of cs) ≡ map (λ (c : NumberedClause). c.id) cs
 map-numbers [] = refl

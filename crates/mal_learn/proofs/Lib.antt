@@ -3,6 +3,7 @@ mod FlagLemmas
 mod WalkLemmas
 mod CountLemmas
 mod ShowsLemmas
+mod OrderedLemmas
 mod SortLemmas
 mod AnalysedLemmas
 mod TraceLemmas

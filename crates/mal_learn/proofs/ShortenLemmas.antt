@@ -13,12 +13,12 @@ use Rattle.spec_learn.specs.Analysis.Aim.{Shortened}
 use Rattle.spec_learn.proofs.ApartLemmas.{IsApart, apart-reverse, apart-short}
 use Rattle.mal_learn.specs.Working.{State, see_all, lits_of, kept, resolved, passed, uncounted, here_all}
 use Rattle.mal_learn.specs.Shortening.{Shortening, covers, is_left_out, by_shorter_reason, shorter_visited, shorter_visited_all}
-use Rattle.mal_learn.specs.Shown.{Work, IsFitted, IsFinished}
+use Rattle.mal_learn.specs.Shown.{Work, IsFitted, IsFinished, HasRoom}
 use Rattle.mal_learn.proofs.CountLemmas.{is_here, left-some}
 use Rattle.mal_learn.proofs.SortLemmas.{turned-back, sorted-clause}
 use Rattle.mal_learn.proofs.ShowsLemmas.{Shows, AreBelow, vars-of, kept-shows, resolved-shows, passed-here, passed-shows, uncounted-shows}
-use Rattle.mal_learn.proofs.AnalysedLemmas.{start, here-is, here-long, begin-shows, clauses-below, HasRoom, IsFound}
-use Rattle.mal_learn.proofs.WalkLemmas.{reverse-got, AddsOne, kept-adds, resolved-adds}
+use Rattle.mal_learn.proofs.AnalysedLemmas.{start, here-is, here-long, begin-shows, clauses-below, IsFound}
+use Rattle.mal_learn.proofs.WalkLemmas.{left-entries, AddsOne, kept-adds, resolved-adds}
 
 -- what a shortening at work shows: besides, the variables of level 0 to come
 pub record ShowsShortening (n level id : ℕ) (past : List TrailEntry) (w : Walk) (x : Shortening) : Type 0 where
@@ -87,12 +87,12 @@ begin-shorter n a b d level id clauses es p q r below apart long =
     or-false true = refl
     or-false false = refl
 
-pub shortening-done : (n a b y z d id level : ℕ) (clauses : List NumberedClause) (es : List TrailEntry) (s : State) (base walked_base : List Bool) (v w : Work) → HasRoom n es clauses → IsFitted n a b y z → n ≤ d → level ≡ top (reverse es) → s ≡ see_all (lits_of clauses id) (start a b level id es) → base ≡ here_all 0 es (replicate d false) → record { state = v.state; base = walked_base } ≡ shorter_visited_all clauses level (reverse es) (record { state = s; base = base }) → IsFinished v w → IsFound (shortened clauses (reverse es) id) w
+pub shortening-done : (n a b y z d id level : ℕ) (clauses : List NumberedClause) (es : List TrailEntry) (s : State) (base walked_base : List Bool) (v w : Work) → HasRoom 1 n es clauses → IsFitted n a b y z → n ≤ d → level ≡ top (reverse es) → s ≡ see_all (lits_of clauses id) (start a b level id es) → base ≡ here_all 0 es (replicate d false) → record { state = v.state; base = walked_base } ≡ shorter_visited_all clauses level (reverse es) (record { state = s; base = base }) → IsFinished v w → IsFound (shortened clauses (reverse es) id) w
 shortening-done n a b y z d id level clauses es s base walked_base v w room fits r tops begins marks walks ends =
     let past : List TrailEntry = reverse es in
     let below : AreBelow n clauses = clauses-below n clauses room.within in
-    let apart : IsApart n past = apart-reverse n es room.some room.placed in
-    let short : length past + 1 ≤ n = apart-short n past room.some apart in
+    let apart : IsApart n past = apart-reverse n es room.fitted room.placed in
+    let short : length past + 1 ≤ n = apart-short n past room.fitted apart in
     let small : n ≤ 65537 = fits.small in
     let x : Shortening = record { state = v.state; base = walked_base } in
     let first : Shortening = record { state = see_all (lits_of clauses id) (start a b level id es); base = here_all 0 es (replicate d false) } in
@@ -126,7 +126,4 @@ shorter-adds clauses level e x = by_seen (get_or x.state.seen (var_of e.lit) fal
 
 -- how far a walk has come
 pub shorter-step : (clauses : List NumberedClause) (level made n : ℕ) (es : List TrailEntry) (e : TrailEntry) (x : Shortening) → n ≡ length es → made < n → slice_get es (n - 1 - made) ≡ Some e → shorter_visited_all clauses level (reverse (take (length es - made) es)) x ≡ shorter_visited_all clauses level (reverse (take (length es - (made + 1)) es)) (shorter_visited clauses level e x)
-shorter-step clauses level made n es e x m l q =
-    let one : length es - made ≡ n - 1 - made + 1 = omega arith in
-    let two : length es - (made + 1) ≡ n - 1 - made = omega arith in
-    rw (one, two) (ap (λ (xs : List TrailEntry). shorter_visited_all clauses level xs x) (reverse-got es (n - 1 - made) e (omega arith) q))
+shorter-step clauses level made n es e x m l q = ap (λ (xs : List TrailEntry). shorter_visited_all clauses level xs x) (left-entries made n es e m l q)

@@ -65,18 +65,18 @@ see-shows n level v past f s l a long h = by_seen (get_or s.seen v false) refl
       left = ap (λ (b : Bool). counted_more b s.left) (h.here v l) ∙ count (is_here level past v) refl (sym (h.seen v l) ∙ q);
     }
 
+pub or-turn : (x y z : Bool) → (x || (y || z)) ≡ ((y || x) || z)
+or-turn true true z = refl
+or-turn true false z = refl
+or-turn false true z = refl
+or-turn false false z = refl
+
 -- the variables of literals are seen
 pub see_all-shows : (n level : ℕ) (past : List TrailEntry) (ls : List ℕ) (f : ℕ → Bool) (s : State) → All (λ l. var_of l < n) ls → IsApart n past → length past < 2 ^ 64 → IsSeen n level past f s → IsSeen n level past (λ u. has_var (vars_in ls) u || f u) (see_all ls s)
 see_all-shows n level past [] f s w a long h = h
 see_all-shows n level past (l ∷ ls) f s w a long h =
-    same-seen n level past (λ u. has_var (vars_in ls) u || ((u == var_of l) || f u)) (λ u. has_var (vars_in (l ∷ ls)) u || f u) (see_all (l ∷ ls) s) (λ u. turn (has_var (vars_in ls) u) (u == var_of l) (f u))
+    same-seen n level past (λ u. has_var (vars_in ls) u || ((u == var_of l) || f u)) (λ u. has_var (vars_in (l ∷ ls)) u || f u) (see_all (l ∷ ls) s) (λ u. or-turn (has_var (vars_in ls) u) (u == var_of l) (f u))
     (see_all-shows n level past ls (λ u. (u == var_of l) || f u) (see (var_of l) s) (All-tail (λ x. var_of x < n) l ls w) a long (see-shows n level (var_of l) past f s (All-head (λ x. var_of x < n) l ls w) a long h))
-  where
-    turn : (x y z : Bool) → (x || (y || z)) ≡ ((y || x) || z)
-    turn true true z = refl
-    turn true false z = refl
-    turn false true z = refl
-    turn false false z = refl
 
 pub vars-of : (clauses : List NumberedClause) (r : ℕ) → vars_in (lits_of clauses r) ≡ vars_under clauses r
 vars-of clauses r = by_found (lits_under r clauses)

@@ -12,10 +12,10 @@ use Rattle.spec_learn.specs.Analysis.Aim.{Final}
 use Rattle.spec_learn.proofs.CoreLemmas.{assumed, with_base, base-walked, clause-turned}
 use Rattle.mal_learn.specs.Working.{State, see_all, lits_of, resolved}
 use Rattle.mal_learn.specs.Tracing.{begun_with, by_cause, traced, traced_all, traced_behind, traced_from}
-use Rattle.mal_learn.specs.Shown.{Work, IsFitted, IsFinished, EntriesWithin}
+use Rattle.mal_learn.specs.Shown.{Work, IsFitted, IsFinished, HasRoom, EntriesWithin}
 use Rattle.mal_learn.proofs.SortLemmas.{negations, turned, turned-back, sorted-clause}
 use Rattle.mal_learn.proofs.ShowsLemmas.{IsSeen, same-seen, see_all-shows, vars-of, AreBelow}
-use Rattle.mal_learn.proofs.AnalysedLemmas.{clauses-below, entries-within, HasRoom, IsFound}
+use Rattle.mal_learn.proofs.AnalysedLemmas.{clauses-below, entries-within, IsFound}
 use Rattle.mal_learn.proofs.WalkLemmas.{Leaves, see_all-leaves, reverse-got, AddsOne, resolved-adds}
 
 -- each entry adds a literal or a hint at most
@@ -38,10 +38,14 @@ trace-step clauses made n es e s m l q =
     rw (one, two) (ap (λ (xs : List TrailEntry). traced_all clauses xs s) (reverse-got es (n - 1 - made) e (omega arith) q))
 
 -- from the last of the first entries on
-pub from-last : (clauses : List NumberedClause) (n : ℕ) (es : List TrailEntry) (e : TrailEntry) (s : State) → 0 < n → n ≤ length es → slice_get es (n - 1) ≡ Some e → traced_from clauses (reverse (take n es)) s ≡ traced_behind clauses (reverse (take (n - 1) es)) s e.reason
+from-last : (clauses : List NumberedClause) (n : ℕ) (es : List TrailEntry) (e : TrailEntry) (s : State) → 0 < n → n ≤ length es → slice_get es (n - 1) ≡ Some e → traced_from clauses (reverse (take n es)) s ≡ traced_behind clauses (reverse (take (n - 1) es)) s e.reason
 from-last clauses n es e s l m q =
     let one : n ≡ n - 1 + 1 = omega arith in
     ap (λ (k : ℕ). traced_from clauses (reverse (take k es)) s) one ∙ ap (λ (xs : List TrailEntry). traced_from clauses xs s) (reverse-got es (n - 1) e (omega arith) q)
+
+-- and so by what its reason is
+pub from-cause : (clauses : List NumberedClause) (n : ℕ) (es : List TrailEntry) (e : TrailEntry) (s : State) (cause : Option ℕ) → 0 < n → n ≤ length es → slice_get es (n - 1) ≡ Some e → e.reason ≡ cause → traced_from clauses (reverse (take n es)) s ≡ traced_behind clauses (reverse (take (n - 1) es)) s cause
+from-cause clauses n es e s cause l m q is = from-last clauses n es e s l m q ∙ ap (traced_behind clauses (reverse (take (n - 1) es)) s) is
 
 -- where a literal is reached
 pub reached-here : (l n made : ℕ) (es : List TrailEntry) (e : TrailEntry) → n ≡ length es → made < n → slice_get es (n - 1 - made) ≡ Some e → (e.lit == l) ≡ true → reached l (reverse (take (n - made) es)) ≡ reverse (take (n - made) es)
@@ -169,11 +173,11 @@ small-front n (suc k) (e ∷ es) h = All-cons (λ x. var_of x.lit < n) e (take k
 small-take : (n k : ℕ) (es : List TrailEntry) → EntriesWithin n es → AreSmall n (reverse (take k es))
 small-take n k es h = subst (AreSmall n) (append-nil (reverse (take k es))) (small-behind n (take k es) [] (small-front n k es h) tt)
 
-pub core-done : (n a b y z x negation k : ℕ) (clauses : List NumberedClause) (es : List TrailEntry) (s : State) (v w : Work) → HasRoom n es clauses → IsFitted n a b y z → negation ≡ negated x → reached negation (reverse es) ≡ reverse (take k es) → s ≡ begun_with a b negation → v.state ≡ traced_from clauses (reverse (take k es)) s → IsFinished v w → IsFound (core clauses (reverse es) x) w
+pub core-done : (n a b y z x negation k : ℕ) (clauses : List NumberedClause) (es : List TrailEntry) (s : State) (v w : Work) → HasRoom 2 n es clauses → IsFitted n a b y z → negation ≡ negated x → reached negation (reverse es) ≡ reverse (take k es) → s ≡ begun_with a b negation → v.state ≡ traced_from clauses (reverse (take k es)) s → IsFinished v w → IsFound (core clauses (reverse es) x) w
 core-done n a b y z x negation k clauses es s v w room fits negates at begins traces ends =
     let past : List TrailEntry = reverse (take k es) in
     let is : v.state ≡ traced_from clauses past (begun_with a b (negated x)) = traces ∙ ap (traced_from clauses past) (begins ∙ ap (begun_with a b) negates) in
-    let f : HasFound clauses x past v.state = subst (HasFound clauses x past) (sym is) (found n a b x clauses past fits.seen_fits fits.here_fits (clauses-below n clauses room.within) (small-take n k es (entries-within n es [] room.some room.placed))) in
+    let f : HasFound clauses x past v.state = subst (HasFound clauses x past) (sym is) (found n a b x clauses past fits.seen_fits fits.here_fits (clauses-below n clauses room.within) (small-take n k es (entries-within n es [] (omega (arith, room.fitted)) room.placed))) in
     let same : core_at clauses x past ≡ core clauses (reverse es) x = ap (core_at clauses x) (sym (rw negates at at)) in
     record {
       clause = sorted-clause f.es v.state.lits w.state.lits f.lits ends.permutation ends.sorted ∙ (f.clause ∙ ap (λ (a : Analysed). a.lits) same);

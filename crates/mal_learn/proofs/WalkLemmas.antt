@@ -88,9 +88,13 @@ visited-adds clauses level e s = by_seen (get_or s.seen (var_of e.lit) false)
     by_seen true = let a = by_reason-adds clauses level e (uncounted level e (passed e s)) e.reason in record { lits = a.lits; hints = a.hints }
     by_seen false = record { lits = omega arith; hints = omega arith }
 
--- how far a walk has come
-pub walk-step : (clauses : List NumberedClause) (level made n : ℕ) (es : List TrailEntry) (e : TrailEntry) (s : State) → n ≡ length es → made < n → slice_get es (n - 1 - made) ≡ Some e → visited_all clauses level (reverse (take (length es - made) es)) s ≡ visited_all clauses level (reverse (take (length es - (made + 1)) es)) (visited clauses level e s)
-walk-step clauses level made n es e s m l q =
+-- the entries that are left to pass, the latest first
+pub left-entries : (made n : ℕ) (es : List TrailEntry) (e : TrailEntry) → n ≡ length es → made < n → slice_get es (n - 1 - made) ≡ Some e → reverse (take (length es - made) es) ≡ e ∷ reverse (take (length es - (made + 1)) es)
+left-entries made n es e m l q =
     let one : length es - made ≡ n - 1 - made + 1 = omega arith in
     let two : length es - (made + 1) ≡ n - 1 - made = omega arith in
-    rw (one, two) (ap (λ (xs : List TrailEntry). visited_all clauses level xs s) (reverse-got es (n - 1 - made) e (omega arith) q))
+    rw (one, two) (reverse-got es (n - 1 - made) e (omega arith) q)
+
+-- how far a walk has come
+pub walk-step : (clauses : List NumberedClause) (level made n : ℕ) (es : List TrailEntry) (e : TrailEntry) (s : State) → n ≡ length es → made < n → slice_get es (n - 1 - made) ≡ Some e → visited_all clauses level (reverse (take (length es - made) es)) s ≡ visited_all clauses level (reverse (take (length es - (made + 1)) es)) (visited clauses level e s)
+walk-step clauses level made n es e s m l q = ap (λ (xs : List TrailEntry). visited_all clauses level xs s) (left-entries made n es e m l q)

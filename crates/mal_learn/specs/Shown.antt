@@ -1,9 +1,11 @@
-use Rattle.std.specs.Prelude.{◌≡◌, ℕ, ◌+◌, ◌-◌, ◌≤◌, ◌<◌, List, All, length, reverse, slice_index_or}
+use Rattle.std.specs.Prelude.{◌≡◌, ℕ, ◌+◌, ◌-◌, ◌≤◌, ◌<◌, List, [], All, length, reverse, slice_index_or}
 use Rattle.std.specs.List.Sorted.{IsPermutation, IsSorted}
 use Rattle.std.specs.Ordering.{nat_cmp}
 use Rattle.mal_base.specs.NumberedClause.{NumberedClause}
 use Rattle.mal_base.specs.Literals.{var_of}
 use Rattle.mal_base.specs.declared.trail_entry.TrailEntry.{TrailEntry}
+use Rattle.spec_node.specs.Sound.{EachAfter, IsPlaced}
+use Rattle.spec_learn.specs.Analysis.{Analysed}
 use Rattle.mal_learn.specs.Working.{State}
 
 -- a state, and the bound below which there is room for each variable, 0 before there is any
@@ -52,6 +54,26 @@ ClausesWithin room clauses = All (λ c. AreWithin room c.lits) clauses
 
 abbrev pub EntriesWithin : ℕ → List TrailEntry → Type 0
 EntriesWithin room entries = All (λ e. var_of e.lit < room) entries
+
+-- there is room, for so many variables at least, for those of the entries of a trail and of clauses
+pub record HasRoom (least room : ℕ) (entries : List TrailEntry) (clauses : List NumberedClause) : Type 0 where
+  pub fitted : least ≤ room
+  pub placed : EachAfter (IsPlaced (room - 1)) [] entries
+  pub within : ClausesWithin room clauses
+
+-- there is room to walk over entries: for the variable of each, and for one more literal and hint for each
+pub record HasWalkRoom (entries : List TrailEntry) (work : Work) : Type 0 where
+  pub within : EntriesWithin work.room entries
+  pub lits : length entries + length work.state.lits < work.room
+  pub hints : length entries + length work.state.hints ≤ work.room
+
+-- an analysis left what a definition gives, and as much room as there was
+pub record HasLeft (analysed : Analysed) (before now : Shown) : Type 0 where
+  pub clause : now.clause ≡ analysed.lits
+  pub hints : now.hints ≡ analysed.hints
+  pub level : now.level ≡ analysed.level
+  pub room : now.room ≡ before.room
+  pub id_room : now.ids ≡ before.ids
 
 -- the last of some numbers, 0 where there is none
 abbrev pub last_of : List ℕ → ℕ

@@ -1,9 +1,8 @@
 //! The clause that a solver learns, by its profile.
 
-ghost use Rattle.std.specs.Prelude.{◌≡◌, ◌-◌, ◌≤◌, ◌==◌, [], reverse};
-ghost use Rattle.spec_node.specs.Sound.{EachAfter, IsPlaced};
+ghost use Rattle.std.specs.Prelude.{◌≡◌, ◌==◌, reverse};
 ghost use Rattle.spec_learn.specs.Learning.{analysed_in};
-ghost use Rattle.mal_learn.specs.Shown.{ClausesWithin};
+ghost use Rattle.mal_learn.specs.Shown.{HasRoom, HasLeft};
 
 use crate::scratch::{Scratch, analyse, shorten};
 use mal_base::{ClauseId, ClauseView, TrailView};
@@ -18,14 +17,8 @@ pub fn analyse_in<T: TrailView, C: ClauseView>(
     conflict: ClauseId,
     scratch: &mut Scratch,
 )
-    requires fitted { 1 ≤ scratch.old.room }
-    requires placed { EachAfter (IsPlaced (scratch.old.room - 1)) [] (T.entries trail.now) }
-    requires within { ClausesWithin scratch.old.room (C.clauses clauses.now) }
-    ensures clause { scratch.new.clause ≡ (analysed_in profile (C.clauses clauses.now) (reverse (T.entries trail.now)) conflict).lits }
-    ensures hints { scratch.new.hints ≡ (analysed_in profile (C.clauses clauses.now) (reverse (T.entries trail.now)) conflict).hints }
-    ensures level { scratch.new.level ≡ (analysed_in profile (C.clauses clauses.now) (reverse (T.entries trail.now)) conflict).level }
-    ensures room { scratch.new.room ≡ scratch.old.room }
-    ensures id_room { scratch.new.ids ≡ scratch.old.ids }
+    requires { HasRoom 1 scratch.old.room (T.entries trail.now) (C.clauses clauses.now) }
+    ensures { HasLeft (analysed_in profile (C.clauses clauses.now) (reverse (T.entries trail.now)) conflict) scratch.old scratch.new }
 {
     analyse(trail, clauses, conflict, scratch);
     if is_shortening(profile) {

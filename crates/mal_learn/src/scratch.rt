@@ -1,10 +1,9 @@
 //! The scratch of an analysis, and the analysis.
 
 ghost use Rattle.std.specs.Prelude.{◌≡◌, ◌-◌, ◌<◌, ◌≤◌, [], length, reverse, take, OnOk, OnErr};
-ghost use Rattle.spec_node.specs.Sound.{EachAfter, IsPlaced};
 ghost use Rattle.spec_learn.specs.Analysis.{analysed, core, reached, top};
 ghost use Rattle.spec_learn.specs.Shorter.{shortened};
-ghost use Rattle.mal_learn.specs.Shown.{ClausesWithin, last_of};
+ghost use Rattle.mal_learn.specs.Shown.{HasRoom, HasLeft, last_of};
 
 use crate::dropping::Choice;
 use crate::flags::Flags;
@@ -156,14 +155,8 @@ pub fn analyse<T: TrailView, C: ClauseView>(
     conflict: ClauseId,
     scratch: &mut Scratch,
 )
-    requires fitted { 1 ≤ scratch.old.room }
-    requires placed { EachAfter (IsPlaced (scratch.old.room - 1)) [] (T.entries trail.now) }
-    requires within { ClausesWithin scratch.old.room (C.clauses clauses.now) }
-    ensures clause { scratch.new.clause ≡ (analysed (C.clauses clauses.now) (reverse (T.entries trail.now)) conflict).lits }
-    ensures hints { scratch.new.hints ≡ (analysed (C.clauses clauses.now) (reverse (T.entries trail.now)) conflict).hints }
-    ensures level { scratch.new.level ≡ (analysed (C.clauses clauses.now) (reverse (T.entries trail.now)) conflict).level }
-    ensures room { scratch.new.room ≡ scratch.old.room }
-    ensures id_room { scratch.new.ids ≡ scratch.old.ids }
+    requires { HasRoom 1 scratch.old.room (T.entries trail.now) (C.clauses clauses.now) }
+    ensures { HasLeft (analysed (C.clauses clauses.now) (reverse (T.entries trail.now)) conflict) scratch.old scratch.new }
 {
     let level = current_level(trail);
     scratch.work.begin(trail, clauses, conflict, level);
@@ -175,15 +168,9 @@ pub fn analyse<T: TrailView, C: ClauseView>(
 /// clause with its hints in trail order and the same level. Takes no memory. The time is linear in the trail and twice
 /// the literals of the reasons looked at.
 pub fn shorten<T: TrailView, C: ClauseView>(trail: &T, clauses: &C, scratch: &mut Scratch)
-    requires fitted { 1 ≤ scratch.old.room }
-    requires placed { EachAfter (IsPlaced (scratch.old.room - 1)) [] (T.entries trail.now) }
-    requires within { ClausesWithin scratch.old.room (C.clauses clauses.now) }
+    requires room { HasRoom 1 scratch.old.room (T.entries trail.now) (C.clauses clauses.now) }
     requires analysed { 1 ≤ length scratch.old.hints }
-    ensures clause { scratch.new.clause ≡ (shortened (C.clauses clauses.now) (reverse (T.entries trail.now)) (last_of scratch.old.hints)).lits }
-    ensures hints { scratch.new.hints ≡ (shortened (C.clauses clauses.now) (reverse (T.entries trail.now)) (last_of scratch.old.hints)).hints }
-    ensures level { scratch.new.level ≡ (shortened (C.clauses clauses.now) (reverse (T.entries trail.now)) (last_of scratch.old.hints)).level }
-    ensures room { scratch.new.room ≡ scratch.old.room }
-    ensures id_room { scratch.new.ids ≡ scratch.old.ids }
+    ensures { HasLeft (shortened (C.clauses clauses.now) (reverse (T.entries trail.now)) (last_of scratch.old.hints)) scratch.old scratch.new }
 {
     let conflict = scratch.work.last_hint();
     let level = current_level(trail);
@@ -205,14 +192,8 @@ pub fn final_core<T: TrailView, C: ClauseView>(
     assumption: Lit,
     scratch: &mut Scratch,
 )
-    requires fitted { 2 ≤ scratch.old.room }
-    requires placed { EachAfter (IsPlaced (scratch.old.room - 1)) [] (T.entries trail.now) }
-    requires within { ClausesWithin scratch.old.room (C.clauses clauses.now) }
-    ensures clause { scratch.new.clause ≡ (core (C.clauses clauses.now) (reverse (T.entries trail.now)) assumption).lits }
-    ensures hints { scratch.new.hints ≡ (core (C.clauses clauses.now) (reverse (T.entries trail.now)) assumption).hints }
-    ensures level { scratch.new.level ≡ (core (C.clauses clauses.now) (reverse (T.entries trail.now)) assumption).level }
-    ensures room { scratch.new.room ≡ scratch.old.room }
-    ensures id_room { scratch.new.ids ≡ scratch.old.ids }
+    requires { HasRoom 2 scratch.old.room (T.entries trail.now) (C.clauses clauses.now) }
+    ensures { HasLeft (core (C.clauses clauses.now) (reverse (T.entries trail.now)) assumption) scratch.old scratch.new }
 {
     let negation = assumption.negate();
     let count = count_to(trail, negation);

@@ -7,7 +7,7 @@ ghost use Rattle.mal_learn.specs.Working.{see, see_all, lits_of, kept, resolved,
 ghost use Rattle.mal_learn.specs.Tracing.{begun_with, traced, traced_all, traced_from};
 ghost use Rattle.mal_learn.specs.Shortening.{Shortening, covers, is_left_out, by_shorter_reason};
 ghost use Rattle.mal_learn.specs.Shortening.{shorter_state, shorter_visited_all};
-ghost use Rattle.mal_learn.specs.Shown.{IsFitted, IsFinished, AreWithin, ClausesWithin, EntriesWithin, last_of};
+ghost use Rattle.mal_learn.specs.Shown.{IsFitted, IsFinished, HasWalkRoom, AreWithin, ClausesWithin, EntriesWithin, last_of};
 
 use crate::flags::Flags;
 use mal_base::{ClauseId, ClauseView, Lit, TrailEntry, TrailView, Var};
@@ -200,10 +200,8 @@ impl Work {
 
     /// Passes the entries of a trail, the latest first.
     pub fn walk<T: TrailView, C: ClauseView>(&mut self, trail: &T, clauses: &C, level: u32)
-        requires entries { EntriesWithin self.old.room (T.entries trail.now) }
+        requires room { HasWalkRoom (T.entries trail.now) self.old }
         requires within { ClausesWithin self.old.room (C.clauses clauses.now) }
-        requires lit_room { length (T.entries trail.now) + length self.old.state.lits < self.old.room }
-        requires hint_room { length (T.entries trail.now) + length self.old.state.hints ≤ self.old.room }
         ensures state { self.new.state ≡ visited_all (C.clauses clauses.now) level (reverse (T.entries trail.now)) self.old.state }
         ensures room { self.new.room ≡ self.old.room }
     {
@@ -313,11 +311,9 @@ impl Work {
         base: &mut Flags,
         level: u32,
     )
-        requires entries { EntriesWithin self.old.room (T.entries trail.now) }
+        requires room { HasWalkRoom (T.entries trail.now) self.old }
         requires within { ClausesWithin self.old.room (C.clauses clauses.now) }
         requires fits { self.old.room ≤ length base.old }
-        requires lit_room { length (T.entries trail.now) + length self.old.state.lits < self.old.room }
-        requires hint_room { length (T.entries trail.now) + length self.old.state.hints ≤ self.old.room }
         ensures walk { record { state = self.new.state; base = base.new } ≡ shorter_visited_all (C.clauses clauses.now) level (reverse (T.entries trail.now)) (record { state = self.old.state; base = base.old }) }
         ensures len { length base.new ≡ length base.old }
         ensures room { self.new.room ≡ self.old.room }
@@ -356,8 +352,6 @@ impl Work {
         requires entries { EntriesWithin self.old.room (T.entries trail.now) }
         requires within { ClausesWithin self.old.room (C.clauses clauses.now) }
         ensures state { self.new.state ≡ see_all (lits_of (C.clauses clauses.now) conflict) (record { seen = replicate (length self.old.state.seen) false; here = here_all level (T.entries trail.now) (replicate (length self.old.state.here) false); left = 0; lits = []; hints = conflict ∷ []; level = 0 }) }
-        ensures lits { self.new.state.lits ≡ [] }
-        ensures hints { self.new.state.hints ≡ conflict ∷ [] }
         ensures fits { IsFitted self.old.room (length self.old.state.seen) (length self.old.state.here) 65537 65537 }
         ensures room { self.new.room ≡ self.old.room }
     {

@@ -1,5 +1,6 @@
-use Rattle.std.proofs.Common.{refl, ◌+◌, ◌≤◌, ◌∙◌, [], length, reverse, ap, arith}
-use Rattle.mal_learn.proofs.AnalysedLemmas.{entries-within, room-short, HasRoom}
+use Rattle.std.proofs.Common.{refl, ◌+◌, ◌≤◌, ◌∙◌, [], length, ap, arith}
+use Rattle.mal_learn.specs.Shown.{HasRoom}
+use Rattle.mal_learn.proofs.AnalysedLemmas.{entries-within, room-short}
 use Rattle.mal_learn.proofs.TraceLemmas.{core-done}
 use Rattle.mal_learn.proofs.scratch.final_core.Goals as goal
 
@@ -20,7 +21,6 @@ pub returns : goal.returns
 returns g c =
     let es = g.T.TrailView.entries c.args.trail.now in
     let cs = g.C.ClauseView.clauses c.args.clauses.now in
-    let some : 2 ≤ c.scratch.inside.work.room = rw (← c.scratch.view_is) at c.requires.fitted in
-    let room : HasRoom c.scratch.inside.work.room es cs = record { some = omega (arith, some); placed = rw (← c.scratch.view_is) at c.requires.placed; within = rw (← c.scratch.view_is) at c.requires.within } in
+    let room : HasRoom 2 c.scratch.inside.work.room es cs = rw (← c.scratch.view_is) at c.requires in
     let done = core-done _ _ _ _ _ c.args.assumption c.negate-negation.result c.count_to-count.result cs es c.begin_with.new.self.state c.trace_from.new.self c.finish.new.self room c.begin_with.ensures.fits c.negate-negation.ensures c.count_to-count.ensures.is c.begin_with.ensures.state c.trace_from.ensures.state c.finish.ensures in
     record { clause = done.clause; hints = done.hints; level = done.level; room = rw (← c.scratch.view_is) (c.finish.ensures.room ∙ (c.trace_from.ensures.room ∙ c.begin_with.ensures.room)); id_room = rw (← c.scratch.view_is) refl }

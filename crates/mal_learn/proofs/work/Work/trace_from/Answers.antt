@@ -1,8 +1,8 @@
 use Rattle.std.proofs.Common.{◌≡◌, ◌-◌, ◌<◌, ◌∙◌, length, take, reverse, sym, ap, subst, arith}
 use Rattle.mal_learn.specs.Working.{State}
-use Rattle.mal_learn.specs.Tracing.{traced_all, traced_behind}
+use Rattle.mal_learn.specs.Tracing.{traced_all}
 use Rattle.mal_learn.proofs.WalkLemmas.{AddsOne, resolved-adds}
-use Rattle.mal_learn.proofs.TraceLemmas.{from-last, resolved-lits}
+use Rattle.mal_learn.proofs.TraceLemmas.{from-cause, resolved-lits}
 use Rattle.mal_learn.proofs.work.Work.trace_from.Goals as goal
 
 pub trace_all-requires-clause-lit_room : goal.trace_all-requires-clause-lit_room
@@ -20,17 +20,10 @@ trace_all-requires-clause-hint_room g c =
     omega (arith, adds.hints, some, c.requires.hint_room, c.resolve.ensures.room)
 
 pub returns-in-None-clause-state : goal.returns-in-None-clause-state
-returns-in-None-clause-state g c =
-    let es = g.T.TrailView.entries c.args.trail.now in
-    let cs = g.C.ClauseView.clauses c.args.clauses.now in
-    let s = c.args.self.now.state in
-    let some : 0 < c.args.count = omega (arith, c.if-count-eq0.false) in
-    sym (from-last cs c.args.count es c.at.result s some c.requires.count c.at.ensures ∙ ap (traced_behind cs (reverse (take (c.args.count - 1) es)) s) c.in-None.is)
+returns-in-None-clause-state g c = sym (from-cause _ c.args.count _ _ c.args.self.now.state _ (omega (arith, c.if-count-eq0.false)) c.requires.count c.at.ensures c.in-None.is)
 
 pub returns-in-Some-clause-state : goal.returns-in-Some-clause-state
 returns-in-Some-clause-state g c =
-    let es = g.T.TrailView.entries c.args.trail.now in
-    let cs = g.C.ClauseView.clauses c.args.clauses.now in
-    let s = c.args.self.now.state in
-    let some : 0 < c.args.count = omega (arith, c.if-count-eq0.false) in
-    c.trace_all.ensures.state ∙ (ap (traced_all cs (reverse (take (c.args.count - 1) es))) c.resolve.ensures.state ∙ sym (from-last cs c.args.count es c.at.result s some c.requires.count c.at.ensures ∙ ap (traced_behind cs (reverse (take (c.args.count - 1) es)) s) c.in-Some.is))
+    let past = reverse (take (c.args.count - 1) (g.T.TrailView.entries c.args.trail.now)) in
+    let whole = from-cause _ c.args.count _ _ c.args.self.now.state _ (omega (arith, c.if-count-eq0.false)) c.requires.count c.at.ensures c.in-Some.is in
+    c.trace_all.ensures.state ∙ (ap (traced_all (g.C.ClauseView.clauses c.args.clauses.now) past) c.resolve.ensures.state ∙ sym whole)
