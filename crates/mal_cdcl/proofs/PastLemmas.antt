@@ -1,4 +1,4 @@
-use Rattle.std.proofs.Common.{◌≡◌, ℕ, zero, suc, ◌+◌, ◌<◌, ◌≤◌, Bool, true, false, not, cond, List, [], ◌∷◌, ◌++◌, length, take, drop, get_or, Some, None, Option, refl, sym, ap, ◌∙◌, subst}
+use Rattle.std.proofs.Common.{◌≡◌, ℕ, ◌+◌, ◌<◌, ◌≤◌, Bool, true, false, not, List, [], ◌∷◌, ◌++◌, length, take, drop, get_or, Some, None, Option, refl, sym, ap, ◌∙◌, subst}
 use Rattle.std.specs.Prelude.{◌&&◌, ◌==◌}
 use Rattle.std.specs.List.{list_all}
 use Rattle.std.proofs.lemmas.List.{take_more, drop_more, drop_all}
@@ -41,16 +41,7 @@ past-batch q trail now clauses o order assumptions passed e h =
     let is : now ≡ trail ++ k.rest = sym (ap (λ (p : Progress). p.trail) e) ∙ k.is in
     subst (λ (t : List TrailEntry). IsPast t order assumptions passed) (sym is) (past-more trail k.rest order assumptions passed h)
 
--- where the first assumptions are true, the first that is not stands behind them
-pub open-passed : (trail : List TrailEntry) (list : List ℕ) (p : ℕ) → list_all (is_true trail) (take p list) ≡ true → first_open trail list ≡ first_open trail (drop p list)
-open-passed trail list zero h = refl
-open-passed trail [] (suc p) h = refl
-open-passed trail (v ∷ vs) (suc p) h = by_here (is_true trail v) h (open-passed trail vs p)
-  where
-    by_here : (b : Bool) → (b && list_all (is_true trail) (take p vs)) ≡ true → (list_all (is_true trail) (take p vs) ≡ true → first_open trail vs ≡ first_open trail (drop p vs)) → cond (not b) (Some v) (first_open trail vs) ≡ first_open trail (drop p vs)
-    by_here true k f = f k
-    by_here false k f = absurd (cc)
-
+-- the first assumption that is not true
 pub open-here : (trail : List TrailEntry) (list : List ℕ) (p l : ℕ) → p < length list → l ≡ get_or list p 0 → not (is_true trail l) ≡ true → first_open trail (drop p list) ≡ Some l
 open-here trail list p l low q f = rw (drop_more list p 0 low, ← q, f) refl
 

@@ -26,13 +26,13 @@ free-here trail list place v l q k =
 pub free-ends : (trail : List TrailEntry) (list : List ℕ) (place : ℕ) → length list ≤ place → first_free trail (drop place list) ≡ None
 free-ends trail list place l = rw (drop_all place list l) refl
 
--- where the first variables have values, the first without one stands behind them
-pub free-passed : (trail : List TrailEntry) (list : List ℕ) (p : ℕ) → list_all (has_value trail) (take p list) ≡ true → first_free trail list ≡ first_free trail (drop p list)
-free-passed trail list zero h = refl
-free-passed trail [] (suc p) h = refl
-free-passed trail (v ∷ vs) (suc p) h = by_here (has_value trail v) h (free-passed trail vs p)
+-- where the first elements pass a test, the first that does not stands behind them
+pub find-passed : (test : ℕ → Bool) (list : List ℕ) (p : ℕ) → list_all test (take p list) ≡ true → find (λ x. not (test x)) list ≡ find (λ x. not (test x)) (drop p list)
+find-passed test list zero h = refl
+find-passed test [] (suc p) h = refl
+find-passed test (v ∷ vs) (suc p) h = by_here (test v) h (find-passed test vs p)
   where
-    by_here : (b : Bool) → (b && list_all (has_value trail) (take p vs)) ≡ true → (list_all (has_value trail) (take p vs) ≡ true → first_free trail vs ≡ first_free trail (drop p vs)) → cond (not b) (Some v) (first_free trail vs) ≡ first_free trail (drop p vs)
+    by_here : (b : Bool) → (b && list_all test (take p vs)) ≡ true → (list_all test (take p vs) ≡ true → find (λ x. not (test x)) vs ≡ find (λ x. not (test x)) (drop p vs)) → cond (not b) (Some v) (find (λ x. not (test x)) vs) ≡ find (λ x. not (test x)) (drop p vs)
     by_here true k f = f k
     by_here false k f = absurd (cc)
 

@@ -1,5 +1,5 @@
 -- what crates above cite
 pub mod CountedLemmas
+pub mod FreeLemmas
 -- what this crate alone cites
-mod FreeLemmas
 mod RingLemmas

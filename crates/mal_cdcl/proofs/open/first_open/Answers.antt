@@ -1,6 +1,8 @@
 use Rattle.std.proofs.Common.{◌<◌, ◌≤◌, ◌∙◌, not, length, sym, ap, arith}
 use Rattle.std.proofs.lemmas.List.{get_or_read}
-use Rattle.mal_cdcl.proofs.PastLemmas.{open-passed, open-here, open-ends}
+use Rattle.spec_node.specs.Value.{is_true}
+use Rattle.mal_order.proofs.FreeLemmas.{find-passed}
+use Rattle.mal_cdcl.proofs.PastLemmas.{open-here, open-ends}
 use Rattle.mal_cdcl.proofs.open.first_open.Goals as goal
 
 pub returns-then-not-is_true-clause-value : goal.returns-then-not-is_true-clause-value
@@ -11,7 +13,7 @@ returns-then-not-is_true-clause-value c =
     let list = c.args.assumptions.now in
     let low : p < length list = omega arith in
     let read = get_or_read list p c.index-assumptions-place.result low c.index-assumptions-place.is 0 in
-    sym (open-passed trail list p (rw inv.place at inv.passed) ∙ open-here trail list p c.index-assumptions-place.result low read (ap not (rw c.is_true.ensures at c.if-not-is_true.true)))
+    sym (find-passed (is_true trail) list p (rw inv.place at inv.passed) ∙ open-here trail list p c.index-assumptions-place.result low read (ap not (rw c.is_true.ensures at c.if-not-is_true.true)))
 
 pub returns-clause-value : goal.returns-clause-value
 returns-clause-value c =
@@ -20,4 +22,4 @@ returns-clause-value c =
     let trail = c.args.trail.now.entries in
     let list = c.args.assumptions.now in
     let high : length list ≤ p = omega arith in
-    sym (open-passed trail list p (rw inv.place at inv.passed) ∙ open-ends trail list p high)
+    sym (find-passed (is_true trail) list p (rw inv.place at inv.passed) ∙ open-ends trail list p high)

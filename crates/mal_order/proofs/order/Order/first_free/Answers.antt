@@ -1,5 +1,6 @@
 use Rattle.std.proofs.Common.{◌≡◌, ◌<◌, ◌≤◌, ◌∙◌, refl, sym, length, arith}
-use Rattle.mal_order.proofs.FreeLemmas.{free-here, free-ends, free-passed, passed-more}
+use Rattle.spec_node.specs.Value.{has_value}
+use Rattle.mal_order.proofs.FreeLemmas.{free-here, free-ends, find-passed, passed-more}
 use Rattle.mal_order.proofs.order.Order.first_free.Goals as goal
 
 pub returns-in-None-clause-value : goal.returns-in-None-clause-value
@@ -9,7 +10,7 @@ returns-in-None-clause-value g c =
     let trail = g.T.TrailView.entries c.args.trail.now in
     let long : length s.list ≡ length c.self.inside.ring.list = rw (inv.list, ← c.self.view_is) refl in
     let low : s.passed < length s.list = omega (arith, long, inv.place) in
-    rw (← inv.list) (sym (free-passed trail s.list s.passed inv.valued ∙ free-here trail s.list s.passed c.ahead-var.result low c.ahead-var.ensures (sym c.value.ensures ∙ c.in-None.is)))
+    rw (← inv.list) (sym (find-passed (has_value trail) s.list s.passed inv.valued ∙ free-here trail s.list s.passed c.ahead-var.result low c.ahead-var.ensures (sym c.value.ensures ∙ c.in-None.is)))
 
 pub loop-place-preserved : goal.loop-place-preserved
 loop-place-preserved g c =
@@ -33,4 +34,4 @@ returns-clause-value g c =
     let trail = g.T.TrailView.entries c.args.trail.now in
     let long : length s.list ≡ length c.self.inside.ring.list = rw (inv.list, ← c.self.view_is) refl in
     let high : length s.list ≤ s.passed = omega (arith, long, inv.place) in
-    rw (← inv.list) (sym (free-passed trail s.list s.passed inv.valued ∙ free-ends trail s.list s.passed high))
+    rw (← inv.list) (sym (find-passed (has_value trail) s.list s.passed inv.valued ∙ free-ends trail s.list s.passed high))
