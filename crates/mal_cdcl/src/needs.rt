@@ -53,29 +53,6 @@ fn needs_of(loads: &[(&Revision, u32)], variables: u32) -> Result<Needs, AllocEr
     Ok(needs)
 }
 
-/// What these loads and then the clauses taken need at a node of so many variables, at most 65,536.
-fn needs_with(
-    loads: &[(&Revision, u32)],
-    picks: &[Pick],
-    variables: u32,
-) -> Result<Needs, AllocError>
-    requires { variables ≤ 65536 }
-    ensures variables { IfOk result (λ n. n.variables ≡ greatest (posted loads.now) variables) }
-    ensures least { IfOk result (λ n. variables ≤ n.variables) }
-    ensures bound { IfOk result (λ n. n.variables ≤ 65536) }
-    ensures clauses { IfOk result (λ n. n.clauses ≡ clauses_in (posted loads.now) + told_clauses picks.now) }
-    ensures literals { IfOk result (λ n. n.literals ≡ literals_in (posted loads.now) + told_literals picks.now) }
-    ensures assumptions { IfOk result (λ n. n.assumptions ≡ most_assumptions (posted loads.now) 0) }
-{
-    let mut needs = needs_of(loads, variables)?;
-    for pick in picks {
-        let literals = count_lits(pick.entries())?;
-        needs.clauses = added(needs.clauses, pick.entries().len())?;
-        needs.literals = added(needs.literals, literals)?;
-    }
-    Ok(needs)
-}
-
 /// What these loads, the clauses taken and then a slice need at a node of so many variables, at most 65,536.
 pub fn needs_in_all(
     loads: &[(&Revision, u32)],
@@ -90,15 +67,15 @@ pub fn needs_in_all(
     ensures literals { IfOk result (λ n. n.literals ≡ literals_in (posted loads.now) + told_literals picks.now + most_numbers n.variables) }
     ensures assumptions { IfOk result (λ n. n.assumptions ≡ most_assumptions (posted loads.now) 0) }
 {
-    let needs = needs_with(loads, picks, variables)?;
-    let clauses = added(needs.clauses, SLICE_STEPS as usize)?;
-    let literals = added(needs.literals, most_numbers(needs.variables))?;
-    Ok(Needs {
-        variables: needs.variables,
-        clauses,
-        literals,
-        assumptions: needs.assumptions,
-    })
+    let mut needs = needs_of(loads, variables)?;
+    for pick in picks {
+        let literals = count_lits(pick.entries())?;
+        needs.clauses = added(needs.clauses, pick.entries().len())?;
+        needs.literals = added(needs.literals, literals)?;
+    }
+    needs.clauses = added(needs.clauses, SLICE_STEPS as usize)?;
+    needs.literals = added(needs.literals, most_numbers(needs.variables))?;
+    Ok(needs)
 }
 
 /// Makes room in the parts of a node for what it needs, so many variables of which are new. What they hold stays.

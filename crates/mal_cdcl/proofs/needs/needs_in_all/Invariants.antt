@@ -1,7 +1,7 @@
 use Rattle.std.proofs.Common.{◌≡◌, ◌+◌, ◌≤◌, drop}
 use Rattle.mal_cdcl.specs.Ready.{posted, greatest, clauses_in, literals_in, most_assumptions}
 use Rattle.mal_cdcl.specs.ImportSizes.{told_clauses, told_literals}
-use Rattle.mal_cdcl.proofs.needs.needs_with.Given as goal
+use Rattle.mal_cdcl.proofs.needs.needs_in_all.Given as goal
 
 abbrev pub invariant-loop-pick : goal.invariant-loop-pick
 invariant-loop-pick l =
