@@ -1,6 +1,7 @@
 use Rattle.std.proofs.Common.{◌≡◌, ℕ, zero, suc, ◌+◌, ◌<◌, ◌^◌, Bool, true, false, cond, not, ◌||◌, List, [], ◌∷◌, ◌++◌, length, take, drop, get_or, filter, map, bytes_eq, Option, Some, None, refl, sym, ap, ◌∙◌, append_assoc, append-nil, arith, Bor, ◌≤◌, ◌⊎◌, inl, inr}
 use Rattle.std.specs.Prelude.{nat_lt}
 use Rattle.std.specs.List.{list_any}
+use Rattle.std.proofs.Math.Bool.{or_assoc, or_comm}
 use Rattle.std.proofs.lemmas.List.Folds.{list_any-append}
 use Rattle.std.proofs.lemmas.Bool.{cases_lt, lt-ltb, le-ltb, le-leb, lt-leb}
 use Rattle.std.proofs.lemmas.Slice.Eq.{bytes_eq-Decides}
@@ -16,36 +17,24 @@ use Rattle.spec_node.specs.Laws.{originals}
 use Rattle.mal_cdcl.specs.Ready.{readied}
 use Rattle.mal_cdcl.specs.Importing.{Sees, lent, picked, is_told_in, is_posted_in, is_loaded_in}
 
-or-moved : (a b c : Bool) → (b || (a || c)) ≡ ((a || (b || false)) || c)
-or-moved true true c = refl
-or-moved true false c = refl
-or-moved false true c = refl
-or-moved false false c = refl
+or-swap : (a b c : Bool) → (a || (b || c)) ≡ (b || (a || c))
+or-swap a b c = sym (or_assoc a b c) ∙ (ap (λ (x : Bool). x || c) (or_comm a b) ∙ or_assoc b a c)
+
+or-joined : (a b c : Bool) → (a || (b || c)) ≡ ((b || a) || c)
+or-joined a b c = or-swap a b c ∙ sym (or_assoc b a c)
 
 -- what is noted after one element more
 pub noted-next : {X : Type 0} (test : X → Bool) (xs : List X) (i : ℕ) (x d : X) → i < length xs → x ≡ get_or xs i d → (before now next : Bool) → now ≡ (list_any test (take i xs) || before) → next ≡ (test x || now) → next ≡ (list_any test (take (i + 1) xs) || before)
-noted-next test xs i x d l e before now next h k = rw (take-at xs i x d l e, list_any-append) (k ∙ (ap (λ (b : Bool). test x || b) h ∙ or-moved (list_any test (take i xs)) (test x) before))
+noted-next test xs i x d l e before now next h k = rw (take-at xs i x d l e, list_any-append, or_comm (test x) false) (k ∙ (ap (λ (b : Bool). test x || b) h ∙ or-joined (test x) (list_any test (take i xs)) before))
 
 -- whether literals are held does not depend on where clauses stand
 lits-with_clause : (lits : List ℕ) (c : NumberedClause) (cs : List NumberedClause) → has_lits lits (with_clause c cs) ≡ (bytes_eq lits c.lits || has_lits lits cs)
 lits-with_clause lits c [] = refl
 lits-with_clause lits c (d ∷ ds) = by_order (lits-with_clause lits c ds) (nat_lt c.id d.id)
   where
-    swap : (a b e : Bool) → (a || (b || e)) ≡ (b || (a || e))
-    swap true true e = refl
-    swap true false e = refl
-    swap false true e = refl
-    swap false false e = refl
-
     by_order : has_lits lits (with_clause c ds) ≡ (bytes_eq lits c.lits || has_lits lits ds) → (b : Bool) → has_lits lits (cond b (c ∷ (d ∷ ds)) (d ∷ with_clause c ds)) ≡ (bytes_eq lits c.lits || (bytes_eq lits d.lits || has_lits lits ds))
     by_order k true = refl
-    by_order k false = ap (λ (b : Bool). bytes_eq lits d.lits || b) k ∙ swap (bytes_eq lits d.lits) (bytes_eq lits c.lits) (has_lits lits ds)
-
-or-joined : (a b c : Bool) → (a || (b || c)) ≡ ((b || a) || c)
-or-joined true true c = refl
-or-joined true false c = refl
-or-joined false true c = refl
-or-joined false false c = refl
+    by_order k false = ap (λ (b : Bool). bytes_eq lits d.lits || b) k ∙ or-swap (bytes_eq lits d.lits) (bytes_eq lits c.lits) (has_lits lits ds)
 
 lits-with_clauses : (lits : List ℕ) (new cs : List NumberedClause) → has_lits lits (with_clauses new cs) ≡ (has_lits lits new || has_lits lits cs)
 lits-with_clauses lits [] cs = refl
@@ -83,31 +72,12 @@ parted : (lits : List ℕ) (ds : List NumberedClause) → (has_lits lits (origin
 parted lits [] = refl
 parted lits (d ∷ ds) = by_kind (parted lits ds) (cases_lt d.id (2 ^ 32))
   where
-    behind : (a b c : Bool) → (b || (a || c)) ≡ (a || (b || c))
-    behind true true c = refl
-    behind true false c = refl
-    behind false true c = refl
-    behind false false c = refl
-
-    before : (a b c : Bool) → ((a || b) || c) ≡ (a || (b || c))
-    before true b c = refl
-    before false b c = refl
-
     by_kind : (has_lits lits (originals ds) || has_lits lits (filter is_derived ds)) ≡ has_lits lits ds → (d.id < 2 ^ 32) ⊎ (2 ^ 32 ≤ d.id) → (has_lits lits (originals (d ∷ ds)) || has_lits lits (filter is_derived (d ∷ ds))) ≡ (bytes_eq lits d.lits || has_lits lits ds)
-    by_kind k (inl l) = rw (lt-ltb d.id (2 ^ 32) l, lt-leb (2 ^ 32) d.id l) (before (bytes_eq lits d.lits) (has_lits lits (originals ds)) (has_lits lits (filter is_derived ds)) ∙ ap (λ (b : Bool). bytes_eq lits d.lits || b) k)
-    by_kind k (inr l) = rw (le-ltb d.id (2 ^ 32) l, le-leb (2 ^ 32) d.id l) (behind (bytes_eq lits d.lits) (has_lits lits (originals ds)) (has_lits lits (filter is_derived ds)) ∙ ap (λ (b : Bool). bytes_eq lits d.lits || b) k)
+    by_kind k (inl l) = rw (lt-ltb d.id (2 ^ 32) l, lt-leb (2 ^ 32) d.id l) (or_assoc (bytes_eq lits d.lits) (has_lits lits (originals ds)) (has_lits lits (filter is_derived ds)) ∙ ap (λ (b : Bool). bytes_eq lits d.lits || b) k)
+    by_kind k (inr l) = rw (le-ltb d.id (2 ^ 32) l, le-leb (2 ^ 32) d.id l) (or-swap (has_lits lits (originals ds)) (bytes_eq lits d.lits) (has_lits lits (filter is_derived ds)) ∙ ap (λ (b : Bool). bytes_eq lits d.lits || b) k)
 
 lits-parted : (lits : List ℕ) (new cs : List NumberedClause) → has_lits lits (with_originals cs new) ≡ (has_lits lits new || has_lits lits cs)
-lits-parted lits new cs = list_any-append (λ (c : NumberedClause). bytes_eq lits c.lits) (originals cs) (new ++ filter is_derived cs) ∙ (ap (λ (b : Bool). has_lits lits (originals cs) || b) (list_any-append (λ (c : NumberedClause). bytes_eq lits c.lits) new (filter is_derived cs)) ∙ (moved (has_lits lits (originals cs)) (has_lits lits new) (has_lits lits (filter is_derived cs)) ∙ ap (λ (b : Bool). has_lits lits new || b) (parts cs)))
-  where
-    moved : (a b c : Bool) → (a || (b || c)) ≡ (b || (a || c))
-    moved true true c = refl
-    moved true false c = refl
-    moved false true c = refl
-    moved false false c = refl
-
-    parts : (ds : List NumberedClause) → (has_lits lits (originals ds) || has_lits lits (filter is_derived ds)) ≡ has_lits lits ds
-    parts ds = parted lits ds
+lits-parted lits new cs = list_any-append (λ (c : NumberedClause). bytes_eq lits c.lits) (originals cs) (new ++ filter is_derived cs) ∙ (ap (λ (b : Bool). has_lits lits (originals cs) || b) (list_any-append (λ (c : NumberedClause). bytes_eq lits c.lits) new (filter is_derived cs)) ∙ (or-swap (has_lits lits (originals cs)) (has_lits lits new) (has_lits lits (filter is_derived cs)) ∙ ap (λ (b : Bool). has_lits lits new || b) (parted lits cs)))
 
 lits-loaded : (lits : List ℕ) (r : Posted) (first : ℕ) (n : Node) → has_lits lits (loaded r first n).clauses ≡ (is_posted_in lits r.clauses || has_lits lits n.clauses)
 lits-loaded lits r first n = lits-parted lits (numbered first r.clauses) n.clauses ∙ ap (λ (b : Bool). b || has_lits lits n.clauses) (lits-numbered lits first r.clauses)

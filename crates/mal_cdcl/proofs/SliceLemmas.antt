@@ -105,3 +105,6 @@ slicing-over k used start now o h =
 
 pub slicing-ends : (used : ℕ) (start now : NodeWithRoom) → IsSlicing 0 used start now → HasRun start now
 slicing-ends used start now h = record { node = h.node; lines = sym (append-nil now.lines) ∙ h.lines }
+
+pub slicing-done : (left used : ℕ) (start now : NodeWithRoom) → left ≡ 0 → IsSlicing left used start now → HasRun start now
+slicing-done left used start now e h = slicing-ends used start now (rw e at h)

@@ -1,7 +1,7 @@
 use Rattle.std.proofs.Common.{◌≡◌, suc, ◌+◌, ◌-◌, ap, ◌∙◌, arith}
 use Rattle.spec_search.specs.Slice.{slice}
 use Rattle.mal_cdcl.specs.Within.{NodeWithRoom}
-use Rattle.mal_cdcl.proofs.SliceLemmas.{IsSlicing, slicing-next, slicing-ids, slicing-over, slicing-ends}
+use Rattle.mal_cdcl.proofs.SliceLemmas.{IsSlicing, slicing-next, slicing-ids, slicing-over, slicing-done}
 use Rattle.mal_cdcl.proofs.node.Node.run.Goals as goal
 
 pub returns-in-None-clause-node : goal.returns-in-None-clause-node
@@ -32,14 +32,8 @@ loop-made-preserved g c =
 
 pub returns-clause-node : goal.returns-clause-node
 unfolding slice
-returns-clause-node g c =
-    let left : 1000 - c.loop-made._made ≡ 0 = omega arith in
-    let inv : IsSlicing 0 c.loop-made.used c.args.self.now c.loop-made.self = rw left at c.loop-made.invariant.slicing in
-    (slicing-ends c.loop-made.used c.args.self.now c.loop-made.self inv).node
+returns-clause-node g c = (slicing-done (1000 - c.loop-made._made) c.loop-made.used c.args.self.now c.loop-made.self (omega arith) c.loop-made.invariant.slicing).node
 
 pub returns-clause-lines : goal.returns-clause-lines
 unfolding slice
-returns-clause-lines g c =
-    let left : 1000 - c.loop-made._made ≡ 0 = omega arith in
-    let inv : IsSlicing 0 c.loop-made.used c.args.self.now c.loop-made.self = rw left at c.loop-made.invariant.slicing in
-    (slicing-ends c.loop-made.used c.args.self.now c.loop-made.self inv).lines
+returns-clause-lines g c = (slicing-done (1000 - c.loop-made._made) c.loop-made.used c.args.self.now c.loop-made.self (omega arith) c.loop-made.invariant.slicing).lines
