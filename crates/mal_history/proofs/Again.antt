@@ -6,8 +6,10 @@ use Rattle.std.proofs.lemmas.Bool.{leb-true, ltb-true, and_parts}
 use Rattle.std.proofs.lemmas.Bool.Decides.{nat_tests}
 use Rattle.std.proofs.lemmas.List.Concat.{flat_map-cons}
 use Rattle.mal_base.specs.Names.{is_name, is_name_byte}
-use Rattle.spec_text.specs.Lines.{IsClean, AreRows}
+use Rattle.spec_text.specs.Asks.{profile_words}
+use Rattle.spec_text.specs.Lines.{AreRows}
 use Rattle.spec_text.specs.Numbers.{decimal_word}
+use Rattle.spec_text.proofs.Names.{name-clean}
 use Rattle.spec_text.proofs.Numerals.{numbers_read_again}
 use Rattle.spec_dimacs.specs.Reading.{◌>>=◌}
 use Rattle.spec_dimacs.proofs.Again.{rows_again}
@@ -15,33 +17,15 @@ use Rattle.mal_history.specs.declared.event.Event.{Event}
 use Rattle.mal_history.specs.declared.event.Event.TheVariants.{Open, Revise, Close, Balance, Start, Finish, Exchange}
 use Rattle.mal_history.specs.declared.event.Share.{Share}
 use Rattle.mal_history.specs.Differ.{IsShare, IsWritable}
-use Rattle.mal_history.specs.Text.{profile_words, share_words, event_words, header_words, history_text}
+use Rattle.mal_history.specs.Text.{share_words, event_words, header_words, history_text}
 use Rattle.mal_history.specs.Reading.{Fault, header_of, on_line, events_from, read_rows, most_events}
 use Rattle.mal_history.specs.Grammar.{Says, SayProfile, SayShares, SpellsEvent}
-use Rattle.mal_history.specs.Formed.{IsVolume, IsEvent, IsHistory, lines_from}
+use Rattle.mal_history.specs.Formed.{IsVolume, IsSeat, IsEvent, IsHistory, lines_from}
 use Rattle.mal_history.specs.Laws.{WrittenIsRead}
 use Rattle.mal_history.proofs.Differ.{event-rows, header-row}
 use Rattle.mal_history.proofs.Words.{says-read}
 use Rattle.mal_history.proofs.Spelled.{spelled-read}
 use Rattle.mal_history.proofs.Rows.{one-more}
-
--- names can be written
-name-byte : (b : ℕ) (p q r : Bool) → nat_le 97 b ≡ p → nat_le 48 b ≡ q → (b == 95) ≡ r → ((p && nat_le b 122) || (q && nat_le b 57) || r) ≡ true → 33 ≤ b
-name-byte b true q r e f g h = let low : 97 ≤ b = leb-true 97 b e in omega arith
-name-byte b false true r e f g h = let low : 48 ≤ b = leb-true 48 b f in omega arith
-name-byte b false false true e f g h = grind (arith, nat_tests)
-name-byte b false false false e f g h = absurd (cc)
-
-name-bytes : (bytes : List ℕ) → list_all is_name_byte bytes ≡ true → AllByRecursion (λ b. 33 ≤ b) bytes
-name-bytes [] h = tt
-name-bytes (b ∷ bs) h =
-    let both = and_parts (is_name_byte b) (list_all is_name_byte bs) h in
-    (name-byte b (nat_le 97 b) (nat_le 48 b) (b == 95) refl refl refl both.0, name-bytes bs both.1)
-
-name-clean : (name : List ℕ) → is_name name ≡ true → IsClean name
-name-clean name h =
-    let both = and_parts (nat_lt 0 (length name) && nat_le (length name) 32) (list_all is_name_byte name) h in
-    (ltb-true 0 (length name) (and_parts (nat_lt 0 (length name)) (nat_le (length name) 32) both.0).0, name-bytes name both.1)
 
 -- an event in form can be written
 shares-writable : (shares : List Share) → AllByRecursion IsVolume shares → AllByRecursion IsShare shares
@@ -78,6 +62,9 @@ profile-says n some low = by_test (n == 1) refl
     by_test true e = grind (arith, nat_tests)
     by_test false e = says 2 2 n (grind (arith, nat_tests)) low (omega arith)
 
+seat-says : (workers index worker : ℕ) → workers ≤ 64 → IsSeat workers index worker → Says 0 63 (decimal_word index) index × Says 1 workers (decimal_word worker) worker
+seat-says workers index worker low h = (says 0 63 index (omega arith) h.index_bound (omega arith), says 1 workers worker h.some_worker h.worker_bound (omega (arith, low)))
+
 spelled : (workers : ℕ) (e : Event) → workers ≤ 64 → IsEvent workers e → SpellsEvent workers (event_words e) e
 spelled workers (Open tenant job ask) low h = record {
   priority = decimal_word ask.priority;
@@ -94,22 +81,12 @@ spelled workers (Open tenant job ask) low h = record {
 spelled workers (Revise tenant job number) low h = record { word = decimal_word number; row = refl; names = h.0; says_number = says 1 256 number h.1 h.2 (omega arith) }
 spelled workers (Close tenant job) low h = (refl, h)
 spelled workers (Balance volumes) low h = record { behind = flat_map share_words volumes; row = refl; says_volumes = shares-say volumes h }
-spelled workers (Start tenant job index worker) low h = record {
-  at = decimal_word index;
-  by = decimal_word worker;
-  row = refl;
-  names = h.0;
-  says_index = says 0 63 index (omega arith) h.1.index_bound (omega arith);
-  says_worker = says 1 workers worker h.1.some_worker h.1.worker_bound (omega (arith, low));
-}
-spelled workers (Finish tenant job index worker outcome) low h = record {
-  at = decimal_word index;
-  by = decimal_word worker;
-  row = refl;
-  names = h.0;
-  says_index = says 0 63 index (omega arith) h.1.index_bound (omega arith);
-  says_worker = says 1 workers worker h.1.some_worker h.1.worker_bound (omega (arith, low));
-}
+spelled workers (Start tenant job index worker) low h =
+    let seat = seat-says workers index worker low h.1 in
+    record { at = decimal_word index; by = decimal_word worker; row = refl; names = h.0; says_index = seat.0; says_worker = seat.1 }
+spelled workers (Finish tenant job index worker outcome) low h =
+    let seat = seat-says workers index worker low h.1 in
+    record { at = decimal_word index; by = decimal_word worker; row = refl; names = h.0; says_index = seat.0; says_worker = seat.1 }
 spelled workers (Exchange tenant job) low h = (refl, h)
 
 -- the lines of events are read again

@@ -6,14 +6,16 @@ use Rattle.std.proofs.lemmas.List.Concat.{flat_map-cons}
 use Rattle.mal_base.specs.Asks.{Terms}
 use Rattle.mal_base.specs.declared.verdict.Outcome.{Outcome}
 use Rattle.mal_base.specs.declared.verdict.Outcome.TheVariants.{Ran, Starved, Lost}
+use Rattle.spec_text.specs.Asks.{profile_words}
 use Rattle.spec_text.specs.Lines.{IsClean, AreClean, IsRow, AreRows}
 use Rattle.spec_text.specs.Numbers.{decimal_word}
 use Rattle.spec_text.proofs.Again.{texts_differ}
 use Rattle.spec_text.proofs.Clean.{decimals_are_clean, decimals_differ}
+use Rattle.spec_text.proofs.Names.{profile-clean}
 use Rattle.mal_history.specs.declared.event.Event.{Event}
 use Rattle.mal_history.specs.declared.event.Event.TheVariants.{Open, Revise, Close, Balance, Start, Finish, Exchange}
 use Rattle.mal_history.specs.declared.event.Share.{Share}
-use Rattle.mal_history.specs.Text.{outcome_word, profile_words, share_words, event_words, header_words, history_text}
+use Rattle.mal_history.specs.Text.{outcome_word, share_words, event_words, header_words, history_text}
 use Rattle.mal_history.specs.Differ.{IsNumber, IsShare, IsWritable, one_start, one_open, HistoriesDiffer, HaveOtherTexts}
 
 -- the parts of a list
@@ -39,13 +41,6 @@ outcome-clean : (o : Outcome) → IsClean (outcome_word o)
 outcome-clean Ran = (omega arith, (omega arith, (omega arith, (omega arith, tt))))
 outcome-clean Starved = (omega arith, (omega arith, (omega arith, (omega arith, (omega arith, (omega arith, (omega arith, (omega arith, tt))))))))
 outcome-clean Lost = (omega arith, (omega arith, (omega arith, (omega arith, (omega arith, tt)))))
-
-profile-clean : (n : ℕ) → AreClean (profile_words n)
-profile-clean n = by_test (n == 1)
-  where
-    by_test : (b : Bool) → AreClean (cond b [] (decimal_word n ∷ []))
-    by_test true = tt
-    by_test false = (decimals_are_clean n, tt)
 
 event-row : (e : Event) → IsWritable e → IsRow (event_words e)
 event-row (Open t j ask) h = (omega arith, ((omega arith, (omega arith, tt)), (h.0, (h.1, (decimals_are_clean ask.priority, (decimals_are_clean ask.demand, (decimals_are_clean ask.slices, profile-clean ask.profile)))))))

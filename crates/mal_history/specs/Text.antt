@@ -1,10 +1,10 @@
-use Rattle.std.specs.Prelude.{ℕ, List, [], ◌∷◌, ◌==◌, if◌then◌else◌, map, flat_map, codes}
-use Rattle.mal_base.specs.Asks.{Terms}
+use Rattle.std.specs.Prelude.{ℕ, List, [], ◌∷◌, map, flat_map, codes}
 use Rattle.mal_base.specs.declared.verdict.Outcome.{Outcome}
 use Rattle.mal_base.specs.declared.verdict.Outcome.TheVariants.{Ran, Starved, Lost}
 use Rattle.mal_history.specs.declared.event.Event.{Event}
 use Rattle.mal_history.specs.declared.event.Event.TheVariants.{Open, Revise, Close, Balance, Start, Finish, Exchange}
 use Rattle.mal_history.specs.declared.event.Share.{Share}
+use Rattle.spec_text.specs.Asks.{ask_words}
 use Rattle.spec_text.specs.Lines.{text_of}
 use Rattle.spec_text.specs.Numbers.{decimal_word}
 
@@ -17,14 +17,6 @@ outcome_word Lost = codes "lost"
 -- the words of a volume
 abbrev pub share_words : Share → List (List ℕ)
 share_words s = s.tenant ∷ s.job ∷ decimal_word s.volume ∷ []
-
--- the words of a profile: 1 has none
-abbrev pub profile_words : ℕ → List (List ℕ)
-profile_words profile = if profile == 1 then [] else decimal_word profile ∷ []
-
--- the words of an ask
-abbrev pub ask_words : Terms → List (List ℕ)
-ask_words ask = decimal_word ask.priority ∷ decimal_word ask.demand ∷ decimal_word ask.slices ∷ profile_words ask.profile
 
 -- the words of an event's line
 abbrev pub event_words : Event → List (List ℕ)

@@ -89,6 +89,29 @@ impl Shares {
     }
 }
 
+/// A node of a job's tree and a worker: what the start of a node and its end tell.
+#[derive(Clone, Copy, Debug, PartialEq, Eq)]
+pub struct Place {
+    pub tenant: Name,
+    pub job: Name,
+    pub index: u32,
+    pub worker: u32,
+}
+
+impl Place {
+    /// This node of a job of a tenant, and this worker.
+    pub fn of(tenant: Name, job: Name, index: u32, worker: u32) -> Place
+        ensures { result ≡ record { tenant = tenant; job = job; index = index; worker = worker } }
+    {
+        Place {
+            tenant,
+            job,
+            index,
+            worker,
+        }
+    }
+}
+
 /// An event of a hall. Revisions of a job are numbered from 1, nodes of its tree from 0 to 63, workers from 1.
 #[derive(Debug, Drop)]
 pub enum Event {

@@ -11,10 +11,10 @@ mod owned;
 mod reading;
 mod writing;
 
-pub use event::{Event, Share, Shares};
+pub use event::{Event, Place, Share, Shares};
 pub use fault::HistoryFault;
 pub use history::History;
 pub use laws::{histories_differ, reading_examples, spelled_is_read, written_is_read};
 pub use owned::own;
 pub use reading::read;
-pub use writing::write;
+pub use writing::{outcome_word, write};

@@ -4,14 +4,14 @@ ghost use Rattle.std.specs.Prelude.{◌≡◌, [], ◌∷◌, ◌++◌, map, fla
 ghost use Rattle.spec_text.specs.Lines.{line_of};
 ghost use Rattle.spec_text.specs.Numbers.{decimal_word};
 ghost use Rattle.mal_history.specs.Shared.{shared};
-ghost use Rattle.mal_history.specs.Text.{ask_words, outcome_word, share_words, event_words, header_words, history_text};
+ghost use Rattle.mal_history.specs.Text.{outcome_word, share_words, event_words, header_words, history_text};
 ghost use Rattle.mal_history.specs.declared.event.Event.TheVariants.{Open, Revise, Start, Finish};
 
-use crate::event::{Event, Share};
+use crate::event::{Event, Place, Share};
 use crate::history::History;
 use itoa::Buffer;
 use mal_base::{Ask, Name, Outcome};
-use mal_text::{end_line, put_line, put_word};
+use mal_text::{end_line, put_ask, put_decimal, put_line, put_word};
 use std::alloc::{AllocError, Global};
 use std::sync::Arc;
 
@@ -67,14 +67,14 @@ fn put_event(out: &mut Vec<u8>, event: &Event) -> Result<(), AllocError>
             job,
             index,
             worker,
-        } => put_start(out, tenant, job, *index, *worker),
+        } => put_start(out, Place::of(*tenant, *job, *index, *worker)),
         Event::Finish {
             tenant,
             job,
             index,
             worker,
             outcome,
-        } => put_finish(out, tenant, job, *index, *worker, *outcome),
+        } => put_finish(out, Place::of(*tenant, *job, *index, *worker), *outcome),
         Event::Exchange { tenant, job } => put_line(
             out,
             b"x",
@@ -103,39 +103,15 @@ fn put_names(out: &mut Vec<u8>, tenant: &Name, job: &Name) -> Result<(), AllocEr
     Ok(())
 }
 
-/// Writes the words of an ask, each behind a space. Profile 1 has none.
-fn put_ask(out: &mut Vec<u8>, ask: Ask) -> Result<(), AllocError>
-    ensures { OnOk result (out.new.items ≡ out.old.items ++ flat_map (λ w. 32 ∷ w) (ask_words ask)) }
-{
-    put_number(out, ask.priority())?;
-    put_number(out, ask.demand())?;
-    put_number(out, ask.slices())?;
-    if ask.profile() != 1 {
-        put_number(out, ask.profile())?;
-    }
-    Ok(())
-}
-
-/// Writes a number behind a space.
-fn put_number(out: &mut Vec<u8>, number: u32) -> Result<(), AllocError>
-    ensures { OnOk result (out.new.items ≡ out.old.items ++ 32 ∷ decimal_word number) }
-{
-    let mut buffer = Buffer::new();
-    put_word(out, buffer.format(number).as_bytes())?;
-    Ok(())
-}
-
 /// Writes the line of a revision of a job.
 fn put_revise(out: &mut Vec<u8>, tenant: &Name, job: &Name, number: u32) -> Result<(), AllocError>
     ensures { OnOk result (out.new.items ≡ out.old.items ++ line_of (event_words (Revise tenant.now job.now number))) }
 {
-    let mut buffer = Buffer::new();
-    let words = [
-        tenant.as_bytes(),
-        job.as_bytes(),
-        buffer.format(number).as_bytes(),
-    ];
-    put_line(out, b"r", &words)
+    out.push(b'r')?;
+    put_names(out, tenant, job)?;
+    put_decimal(out, u64::from(number))?;
+    end_line(out)?;
+    Ok(())
 }
 
 /// Writes the line of a balancing.
@@ -154,70 +130,44 @@ fn put_balance(out: &mut Vec<u8>, shares: &[Arc<Share>]) -> Result<(), AllocErro
 fn put_share(out: &mut Vec<u8>, share: &Share) -> Result<(), AllocError>
     ensures { OnOk result (out.new.items ≡ out.old.items ++ flat_map (λ w. 32 ∷ w) (share_words share.now)) }
 {
-    put_word(out, share.tenant.as_bytes())?;
-    put_word(out, share.job.as_bytes())?;
-    put_number(out, share.volume)?;
+    put_names(out, &share.tenant, &share.job)?;
+    put_decimal(out, u64::from(share.volume))?;
     Ok(())
 }
 
 /// Writes the line of a start of a node on a worker.
-fn put_start(
-    out: &mut Vec<u8>,
-    tenant: &Name,
-    job: &Name,
-    index: u32,
-    worker: u32,
-) -> Result<(), AllocError>
-    ensures { OnOk result (out.new.items ≡ out.old.items ++ line_of (event_words (Start tenant.now job.now index worker))) }
+fn put_start(out: &mut Vec<u8>, place: Place) -> Result<(), AllocError>
+    ensures { OnOk result (out.new.items ≡ out.old.items ++ line_of (event_words (Start place.tenant place.job place.index place.worker))) }
 {
-    let mut at = Buffer::new();
-    let mut by = Buffer::new();
-    let words = [
-        tenant.as_bytes(),
-        job.as_bytes(),
-        at.format(index).as_bytes(),
-        by.format(worker).as_bytes(),
-    ];
-    put_line(out, b"s", &words)
+    out.push(b's')?;
+    put_place(out, place)?;
+    end_line(out)?;
+    Ok(())
 }
 
 /// Writes the line of the end of a start.
-fn put_finish(
-    out: &mut Vec<u8>,
-    tenant: &Name,
-    job: &Name,
-    index: u32,
-    worker: u32,
-    outcome: Outcome,
-) -> Result<(), AllocError>
-    ensures { OnOk result (out.new.items ≡ out.old.items ++ line_of (event_words (Finish tenant.now job.now index worker outcome))) }
+fn put_finish(out: &mut Vec<u8>, place: Place, outcome: Outcome) -> Result<(), AllocError>
+    ensures { OnOk result (out.new.items ≡ out.old.items ++ line_of (event_words (Finish place.tenant place.job place.index place.worker outcome))) }
 {
     out.push(b'f')?;
-    put_place(out, tenant, job, index, worker)?;
+    put_place(out, place)?;
     put_word(out, outcome_word(outcome))?;
     end_line(out)?;
     Ok(())
 }
 
 /// Writes the words of a node and its worker, each behind a space.
-fn put_place(
-    out: &mut Vec<u8>,
-    tenant: &Name,
-    job: &Name,
-    index: u32,
-    worker: u32,
-) -> Result<(), AllocError>
-    ensures { OnOk result (out.new.items ≡ out.old.items ++ flat_map (λ w. 32 ∷ w) (tenant.now ∷ job.now ∷ decimal_word index ∷ decimal_word worker ∷ [])) }
+fn put_place(out: &mut Vec<u8>, place: Place) -> Result<(), AllocError>
+    ensures { OnOk result (out.new.items ≡ out.old.items ++ flat_map (λ w. 32 ∷ w) (place.tenant ∷ place.job ∷ decimal_word place.index ∷ decimal_word place.worker ∷ [])) }
 {
-    put_word(out, tenant.as_bytes())?;
-    put_word(out, job.as_bytes())?;
-    put_number(out, index)?;
-    put_number(out, worker)?;
+    put_names(out, &place.tenant, &place.job)?;
+    put_decimal(out, u64::from(place.index))?;
+    put_decimal(out, u64::from(place.worker))?;
     Ok(())
 }
 
 /// The word of an outcome.
-fn outcome_word(outcome: Outcome) -> &'static [u8]
+pub fn outcome_word(outcome: Outcome) -> &'static [u8]
     ensures { result.now ≡ outcome_word outcome }
 {
     match outcome {

@@ -1,6 +1,7 @@
 -- The lines of a history, put word by word.
-use Rattle.std.proofs.Common.{◌≡◌, ℕ, ◌≤◌, List, [], ◌∷◌, ◌++◌, codes, map, flat_map, length, take, Bor, refl, ap, ◌∙◌, sym, take_all}
+use Rattle.std.proofs.Common.{◌≡◌, ℕ, ◌≤◌, List, [], ◌∷◌, ◌++◌, codes, map, flat_map, length, take, Bor, refl, ap, ◌∙◌, sym, append_assoc, take_all}
 use Rattle.std.specs.declared.sync.Arc.{Arc}
+use Rattle.std.proofs.lemmas.Grind.{flat_map-append}
 use Rattle.std.proofs.lemmas.List.Folds.{flat_map-map}
 use Rattle.spec_text.specs.Lines.{line_of}
 use Rattle.spec_text.proofs.Again.{joined_word_by_word}
@@ -24,6 +25,14 @@ all-events events i all = ap (λ (es : List Event). flat_map (λ e. line_of (eve
 -- a line is its first word, the others behind a space each, and a line end
 pub line-by-word : (first : List ℕ) (others : List (List ℕ)) → (first ++ flat_map (λ w. 32 ∷ w) others) ++ 10 ∷ [] ≡ line_of (first ∷ others)
 line-by-word first others = ap (λ (bytes : List ℕ). bytes ++ 10 ∷ []) (sym (joined_word_by_word first others))
+
+-- the line of a node and its worker, with other words behind theirs
+pub node-by-word : (first tenant job index worker : List ℕ) (others : List (List ℕ))
+    → ((first ++ flat_map (λ w. 32 ∷ w) (tenant ∷ job ∷ index ∷ worker ∷ [])) ++ flat_map (λ w. 32 ∷ w) others) ++ 10 ∷ [] ≡ line_of (first ∷ tenant ∷ job ∷ index ∷ worker ∷ others)
+node-by-word first tenant job index worker others =
+    let words : List (List ℕ) = tenant ∷ job ∷ index ∷ worker ∷ [] in
+    ap (λ (bytes : List ℕ). bytes ++ 10 ∷ []) (append_assoc first (flat_map (λ w. 32 ∷ w) words) (flat_map (λ w. 32 ∷ w) others) ∙ ap (λ (bytes : List ℕ). first ++ bytes) (sym (flat_map-append (λ w. 32 ∷ w) words others)))
+    ∙ line-by-word first (words ++ others)
 
 -- the volumes so far are, at the end, all volumes, and with a line end they make the line
 pub spaced-all : {Z : Type 0} (shares : List (Arc Share Z)) (i : ℕ) → length shares ≤ i → (98 ∷ spaced (shared (take i shares))) ++ 10 ∷ [] ≡ line_of (codes "b" ∷ flat_map share_words (shared shares))

@@ -5,15 +5,15 @@ ghost use Rattle.std.specs.Io.KnownBytes.{Appends};
 ghost use Rattle.spec_text.specs.Lines.{line_of};
 ghost use Rattle.spec_text.specs.Numbers.{decimal_word};
 ghost use Rattle.mal_history.specs.Shared.{shared};
-ghost use Rattle.mal_history.specs.Text.{outcome_word, share_words, event_words, header_words, history_text};
-ghost use Rattle.mal_history.specs.declared.event.Event.TheVariants.{Open, Revise, Start, Finish};
+ghost use Rattle.mal_history.specs.Text.{share_words, event_words, header_words, history_text};
+ghost use Rattle.mal_history.specs.declared.event.Event.TheVariants.{Open, Revise};
 ghost use Rattle.mal_io.specs.Moves.{Rose, GotFront};
 ghost use Rattle.mal_log.specs.Pieces.{Puts};
 
 use crate::pieces::Pieces;
 use itoa::Buffer;
-use mal_base::{Ask, Name, Outcome};
-use mal_history::{Event, History, Share};
+use mal_base::{Ask, Name};
+use mal_history::{Event, History, Place, Share, outcome_word};
 use mal_io::{Sink, WriteFault};
 use std::sync::Arc;
 
@@ -73,14 +73,26 @@ fn put_event<K: Sink>(out: &mut Pieces, sink: &mut K, event: &Event)
             job,
             index,
             worker,
-        } => put_start(out, sink, tenant, job, *index, *worker),
+        } => put_node(
+            out,
+            sink,
+            b"s",
+            Place::of(*tenant, *job, *index, *worker),
+            &[],
+        ),
         Event::Finish {
             tenant,
             job,
             index,
             worker,
             outcome,
-        } => put_finish(out, sink, tenant, job, *index, *worker, *outcome),
+        } => put_node(
+            out,
+            sink,
+            b"f",
+            Place::of(*tenant, *job, *index, *worker),
+            &[outcome_word(*outcome)],
+        ),
         Event::Exchange { tenant, job } => {
             put_line(out, sink, b"x", &[tenant.as_bytes(), job.as_bytes()])
         }
@@ -147,61 +159,30 @@ fn put_share<K: Sink>(out: &mut Pieces, sink: &mut K, share: &Share)
     put_words(out, sink, &words)
 }
 
-/// Puts the line of a start of a node on a worker.
-fn put_start<K: Sink>(
-    out: &mut Pieces,
-    sink: &mut K,
-    tenant: &Name,
-    job: &Name,
-    index: u32,
-    worker: u32,
-)
-    ensures { Puts K.got K.faults sink.old sink.new out.old out.new (line_of (event_words (Start tenant.now job.now index worker))) }
+/// Puts the line of a start of a node on a worker, or of its end: the word `first`, the words of the node and its worker,
+/// and the words `others`.
+fn put_node<K: Sink>(out: &mut Pieces, sink: &mut K, first: &[u8], place: Place, others: &[&[u8]])
+    ensures { Puts K.got K.faults sink.old sink.new out.old out.new (line_of (first.now ∷ place.tenant ∷ place.job ∷ decimal_word place.index ∷ decimal_word place.worker ∷ map (λ w. w.now) others.now)) }
+{
+    out.put(sink, first);
+    put_place(out, sink, place);
+    put_words(out, sink, others);
+    out.put(sink, b"\n");
+}
+
+/// Puts the words of a node and its worker, each behind a space.
+fn put_place<K: Sink>(out: &mut Pieces, sink: &mut K, place: Place)
+    ensures { Puts K.got K.faults sink.old sink.new out.old out.new (flat_map (λ w. 32 ∷ w) (place.tenant ∷ place.job ∷ decimal_word place.index ∷ decimal_word place.worker ∷ [])) }
 {
     let mut at = Buffer::new();
     let mut by = Buffer::new();
     let words = [
-        tenant.as_bytes(),
-        job.as_bytes(),
-        at.format(index).as_bytes(),
-        by.format(worker).as_bytes(),
+        place.tenant.as_bytes(),
+        place.job.as_bytes(),
+        at.format(place.index).as_bytes(),
+        by.format(place.worker).as_bytes(),
     ];
-    put_line(out, sink, b"s", &words)
-}
-
-/// Puts the line of the end of a start.
-fn put_finish<K: Sink>(
-    out: &mut Pieces,
-    sink: &mut K,
-    tenant: &Name,
-    job: &Name,
-    index: u32,
-    worker: u32,
-    outcome: Outcome,
-)
-    ensures { Puts K.got K.faults sink.old sink.new out.old out.new (line_of (event_words (Finish tenant.now job.now index worker outcome))) }
-{
-    let mut at = Buffer::new();
-    let mut by = Buffer::new();
-    let words = [
-        tenant.as_bytes(),
-        job.as_bytes(),
-        at.format(index).as_bytes(),
-        by.format(worker).as_bytes(),
-        outcome_word(&outcome),
-    ];
-    put_line(out, sink, b"f", &words)
-}
-
-/// The word of an outcome.
-fn outcome_word(outcome: &Outcome) -> &[u8]
-    ensures { result.now ≡ outcome_word outcome.now }
-{
-    match outcome {
-        Outcome::Ran => b"ran",
-        Outcome::Starved => b"starved",
-        Outcome::Lost => b"lost",
-    }
+    put_words(out, sink, &words)
 }
 
 /// Puts a line of the words `first` and `others`.

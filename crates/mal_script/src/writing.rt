@@ -2,16 +2,14 @@
 
 ghost use Rattle.std.specs.Prelude.{◌≡◌, ◌∷◌, ◌++◌, [], flat_map, codes, IfOk, OnOk};
 ghost use Rattle.spec_text.specs.Lines.{line_of, text_of};
-ghost use Rattle.spec_text.specs.Numbers.{decimal_word};
 ghost use Rattle.spec_dimacs.specs.Written.{closed_words};
-ghost use Rattle.spec_script.specs.Script.{ask_words, job_rows, job_words, revision_rows, spelling, tenant_words};
+ghost use Rattle.spec_script.specs.Script.{job_rows, job_words, revision_rows, spelling, tenant_words};
 
 use crate::script::{Script, ScriptJob};
-use itoa::Buffer;
 use mal_base::{Ask, Lit, Name};
 use mal_dimacs::{put_block, put_closed};
 use mal_revision::Revision;
-use mal_text::{end_line, put_line, put_word};
+use mal_text::{end_line, put_ask, put_line, put_word};
 use std::alloc::{AllocError, Global};
 
 /// The one text of a script: for each job the line of its tenant, the line of its name and its ask, for each revision a
@@ -55,28 +53,6 @@ fn put_terms(out: &mut Vec<u8>, name: Name, ask: Ask) -> Result<(), AllocError>
     put_word(out, name.as_bytes())?;
     put_ask(out, ask)?;
     end_line(out)?;
-    Ok(())
-}
-
-/// Writes the words of an ask, each behind a space. Profile 1 has none.
-fn put_ask(out: &mut Vec<u8>, ask: Ask) -> Result<(), AllocError>
-    ensures { OnOk result (out.new.items ≡ out.old.items ++ flat_map (λ w. 32 ∷ w) (ask_words ask)) }
-{
-    put_number(out, ask.priority())?;
-    put_number(out, ask.demand())?;
-    put_number(out, ask.slices())?;
-    if ask.profile() != 1 {
-        put_number(out, ask.profile())?;
-    }
-    Ok(())
-}
-
-/// Writes a number behind a space.
-fn put_number(out: &mut Vec<u8>, number: u32) -> Result<(), AllocError>
-    ensures { OnOk result (out.new.items ≡ out.old.items ++ 32 ∷ decimal_word number) }
-{
-    let mut buffer = Buffer::new();
-    put_word(out, buffer.format(number).as_bytes())?;
     Ok(())
 }
 

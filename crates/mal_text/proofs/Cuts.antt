@@ -1,8 +1,8 @@
 -- A line without the blanks in front, and its first word.
-use Rattle.std.proofs.Common.{◌≡◌, ℕ, zero, suc, ◌+◌, ◌-◌, ◌<◌, refl, true, false, List, ◌∷◌, length, take, drop, get_or, arith, add-one, ap, ◌∙◌, sym, drop-cons}
+use Rattle.std.proofs.Common.{◌≡◌, ℕ, zero, suc, ◌+◌, ◌-◌, ◌<◌, refl, true, false, List, ◌∷◌, length, take, drop, get_or, arith, add-one, ap, ◌∙◌, sym}
 use Rattle.std.proofs.lemmas.List.{take_rest}
 use Rattle.spec_text.specs.Inputs.{is_blank, words_of}
-use Rattle.spec_text.proofs.Read.{words_behind_blank, first_word_at}
+use Rattle.spec_text.proofs.Read.{first_word_at}
 
 -- what is left from a place on
 pub words_from : (line : List ℕ) (i : ℕ) → words_of (drop i line) ≡ words_of line → words_of (take (length line - i) (drop i line)) ≡ words_of line

@@ -1,10 +1,12 @@
 //! Numbers, words and lines of texts: writing and reading.
 #![tactic(auto)]
 
+mod asks;
 pub mod numbers;
 pub mod read;
 pub mod write;
 
+pub use asks::put_ask;
 pub use numbers::{NumberFault, magnitude, number};
 pub use read::{first_line, first_word, words};
-pub use write::{end_line, put_line, put_number, put_word};
+pub use write::{end_line, put_decimal, put_line, put_number, put_word};

@@ -2,6 +2,7 @@
 ghost use Rattle.std.specs.Prelude.{◌≡◌, [], ◌∷◌, ◌++◌, map, flat_map, take, vec_len, OnOk, OnErr};
 ghost use Rattle.std.specs.Fmt.{signed_decimal};
 ghost use Rattle.spec_text.specs.Lines.{line_of};
+ghost use Rattle.spec_text.specs.Numbers.{decimal_word};
 
 use itoa::Buffer;
 use std::alloc::AllocError;
@@ -23,6 +24,15 @@ pub fn put_word(out: &mut Vec<u8>, word: &[u8]) -> Result<(), AllocError>
     out.reserve(word.len() + 1)?;
     out.push_reserved(b' ');
     out.extend_from_slice(word)?;
+    Ok(())
+}
+
+/// Writes a space and then a number in decimal, without a leading zero. Where memory is refused nothing is written.
+pub fn put_decimal(out: &mut Vec<u8>, n: u64) -> Result<(), AllocError>
+    ensures written { OnOk result (out.new.items ≡ out.old.items ++ 32 ∷ decimal_word n) }
+    ensures unchanged { OnErr result (out.new.items ≡ out.old.items) }
+{
+    put_word(out, Buffer::new().format(n).as_bytes())?;
     Ok(())
 }
 

@@ -9,6 +9,7 @@ use Rattle.mal_base.specs.Formulas.{Formulated, is_within, is_clause_of, is_with
 use Rattle.mal_base.specs.Clauses.{rises}
 use Rattle.mal_base.proofs.Sorting.{and-left, and-right}
 use Rattle.mal_revision.specs.Posted.{Posted, is_posted}
+use Rattle.spec_text.specs.Asks.{profile_words}
 use Rattle.spec_text.specs.Numbers.{decimal_word}
 use Rattle.spec_text.proofs.Numerals.{is_numeral-decimal, value_of-decimal}
 use Rattle.mal_base.specs.declared.block_fault.BlockFault.{BlockFault}
@@ -21,7 +22,7 @@ use Rattle.spec_dimacs.proofs.Behind.{Leads, whole_leads}
 use Rattle.spec_dimacs.proofs.Again.{written_rows}
 use Rattle.spec_dimacs.proofs.Laws.{written_is_read}
 use Rattle.spec_script.specs.Limits.{Limits}
-use Rattle.spec_script.specs.Script.{ScriptedJob, profile_words, rows_of, spelling}
+use Rattle.spec_script.specs.Script.{ScriptedJob, rows_of, spelling}
 use Rattle.spec_script.specs.Reading.{OpenJob, Reading, begun, with_revision}
 use Rattle.spec_script.specs.Formed.{with_name, tenants_of, clauses_of, clause_literals, IsJob, MayFollow, MayAllFollow}
 use Rattle.spec_script.specs.Grammar.{Asks, SayProfile, SaysUpTo, formula_of, Revises, ReviseAll, Runs, MakeAll}

@@ -7,16 +7,18 @@ use Rattle.mal_base.specs.Formulas.{is_within, is_clause_of, is_within_limits, i
 use Rattle.mal_base.specs.Names.{is_name, is_name_byte}
 use Rattle.mal_base.proofs.Sorting.{and-left, and-right, and-both}
 use Rattle.mal_revision.specs.Posted.{Posted, is_posted}
+use Rattle.spec_text.specs.Asks.{profile_words}
 use Rattle.spec_text.specs.Lines.{text_of, IsClean, AreClean, IsRow, AreRows}
 use Rattle.spec_text.specs.Numbers.{decimal_word, literal_word, number_of}
 use Rattle.spec_text.proofs.Clean.{decimals_are_clean}
+use Rattle.spec_text.proofs.Names.{name-clean, profile-clean}
 use Rattle.spec_dimacs.specs.Rows.{is_passed, counted_rows}
 use Rattle.spec_dimacs.specs.Written.{closed_words, clause_words}
 use Rattle.spec_dimacs.proofs.Numbers.{number-not_word}
 use Rattle.spec_dimacs.proofs.Behind.{counted_of, keeps_row}
 use Rattle.spec_dimacs.proofs.Again.{rows_again, clause_lits, words-lits, lits_within, closed_row, header_row, closed_counts, literal_again}
 use Rattle.spec_script.specs.Limits.{Limits}
-use Rattle.spec_script.specs.Script.{ScriptedJob, revision_rows, tenant_words, profile_words, job_words, job_rows}
+use Rattle.spec_script.specs.Script.{ScriptedJob, revision_rows, tenant_words, job_words, job_rows}
 use Rattle.spec_script.specs.Formed.{IsJob, MayAllFollow}
 use Rattle.spec_script.specs.Grammar.{RevisionLines, JobLines, Part, Tenant, Job, revision_lines, part_lines, is_inside}
 
@@ -39,29 +41,6 @@ all-rows (row ∷ rows) h = (h.0.0, all-rows rows h.1)
 -- the lines that count of a text of such lines are these
 pub text-rows : (rows : List (List (List ℕ))) → AllByRecursion Stands rows → counted_rows (text_of rows) ≡ rows
 text-rows rows h = ap counted_of (rows_again rows (all-rows rows h)) ∙ all-count rows h
-
--- ---- names are clean words
-
-name-byte : (b : ℕ) (p q r : Bool) → nat_le 97 b ≡ p → nat_le 48 b ≡ q → (b == 95) ≡ r → ((p && nat_le b 122) || (q && nat_le b 57) || r) ≡ true → 33 ≤ b
-name-byte b true q r e f g h = let low : 97 ≤ b = leb-true 97 b e in omega arith
-name-byte b false true r e f g h = let low : 48 ≤ b = leb-true 48 b f in omega arith
-name-byte b false false true e f g h = grind (arith, nat_tests)
-name-byte b false false false e f g h = absurd (cc)
-
-name-bytes : (bytes : List ℕ) → list_all is_name_byte bytes ≡ true → AllByRecursion (λ b. 33 ≤ b) bytes
-name-bytes [] h = tt
-name-bytes (b ∷ bs) h = (name-byte b (nat_le 97 b) (nat_le 48 b) (b == 95) refl refl refl (and-left _ _ h), name-bytes bs (and-right (is_name_byte b) _ h))
-
-name-parts : (a b c : Bool) → (a && b && c) ≡ true → (a ≡ true) × (c ≡ true)
-name-parts true true true h = (refl, refl)
-name-parts true true false h = absurd (cc)
-name-parts true false c h = absurd (cc)
-name-parts false b c h = absurd (cc)
-
-name-clean : (name : List ℕ) → is_name name ≡ true → IsClean name
-name-clean name h =
-    let parts = name-parts (nat_lt 0 (length name)) (nat_le (length name) 32) (list_all is_name_byte name) h in
-    (ltb-true 0 (length name) parts.0, name-bytes name parts.1)
 
 -- ---- the lines of a revision
 
@@ -98,13 +77,6 @@ revisions-stand (r ∷ rs) h = all-both (revision_rows r) (flat_map revision_row
 
 tenant-stands : (tenant : List ℕ) → is_name tenant ≡ true → Stands (tenant_words tenant)
 tenant-stands tenant h = ((omega arith, ((omega arith, (omega arith, tt)), (name-clean tenant h, tt))), refl)
-
-profile-clean : (profile : ℕ) → AreClean (profile_words profile)
-profile-clean profile = by_test (profile == 1)
-  where
-    by_test : (b : Bool) → AreClean (cond b [] (decimal_word profile ∷ []))
-    by_test true = tt
-    by_test false = (decimals_are_clean profile, tt)
 
 terms-stand : (limits : Limits) (j : ScriptedJob) → is_name j.name ≡ true → Stands (job_words j.name j.ask)
 terms-stand limits j h = ((omega arith, ((omega arith, (omega arith, tt)), (name-clean j.name h, (decimals_are_clean j.ask.priority, (decimals_are_clean j.ask.demand, (decimals_are_clean j.ask.slices, profile-clean j.ask.profile)))))), refl)

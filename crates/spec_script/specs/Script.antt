@@ -1,6 +1,7 @@
-use Rattle.std.specs.Prelude.{ℕ, List, [], ◌∷◌, ◌++◌, ◌==◌, if◌then◌else◌, length, map, flat_map, codes}
+use Rattle.std.specs.Prelude.{ℕ, List, [], ◌∷◌, ◌++◌, length, map, flat_map, codes}
 use Rattle.mal_base.specs.Asks.{Terms}
 use Rattle.mal_revision.specs.Posted.{Posted}
+use Rattle.spec_text.specs.Asks.{ask_words}
 use Rattle.spec_text.specs.Lines.{text_of}
 use Rattle.spec_text.specs.Numbers.{decimal_word}
 use Rattle.spec_dimacs.specs.Written.{closed_words, clause_words, header_words}
@@ -23,14 +24,6 @@ revision_rows r = header_words r.variables (length r.clauses) ∷ (map clause_wo
 -- the words of a tenant's line
 abbrev pub tenant_words : List ℕ → List (List ℕ)
 tenant_words tenant = codes "t" ∷ tenant ∷ []
-
--- the words of a profile: 1 has none
-abbrev pub profile_words : ℕ → List (List ℕ)
-profile_words profile = if profile == 1 then [] else decimal_word profile ∷ []
-
--- the words of an ask
-abbrev pub ask_words : Terms → List (List ℕ)
-ask_words ask = decimal_word ask.priority ∷ decimal_word ask.demand ∷ decimal_word ask.slices ∷ profile_words ask.profile
 
 -- the words of the line that begins a job
 abbrev pub job_words : List ℕ → Terms → List (List ℕ)

@@ -1,5 +1,6 @@
 -- what crates above cite
 pub mod Clean
+pub mod Names
 pub mod Again
 pub mod Read
 pub mod Numerals

@@ -1,5 +1,6 @@
 pub mod Lines
 pub mod Numbers
+pub mod Asks
 pub mod Inputs
 pub mod Laws
 pub mod Examples
