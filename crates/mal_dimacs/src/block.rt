@@ -13,7 +13,7 @@ ghost use Rattle.mal_base.specs.declared.stage.Stage.TheVariants as stage;
 
 use crate::fault::DimacsError;
 use crate::header::counts;
-use crate::words::{clause_of, is_comment, is_p, is_percent, is_zero, literal};
+use crate::words::{clause_of, is_comment, literal};
 use mal_base::{BlockFault, Clause, Formula, LimitKind, Lit, Stage, size_of};
 use mal_text::{NumberFault, first_word, number};
 use std::alloc::Global;
@@ -80,7 +80,7 @@ impl BlockReader {
         if is_comment(first) {
             return Ok(self);
         }
-        if is_p(first) {
+        if first == b"p".as_slice() {
             return Err(DimacsError::Fault(BlockFault::BadHeader));
         }
         self.counted_row(line, first, rest)
@@ -103,7 +103,7 @@ impl BlockReader {
         requires { words_of line.now ≡ first.now ∷ words_of rest.now }
         ensures { Gives result (after_counted stage.Clauses first.now (words_of rest.now) self) }
     {
-        if is_percent(first) {
+        if first == b"%".as_slice() {
             self.percent_row(rest)
         } else {
             self.number_row(line)
@@ -125,7 +125,7 @@ impl BlockReader {
         ensures { Gives result (after_zero first.now (words_of rest.now) self) }
     {
         match first_word(rest) {
-            None if is_zero(first) => Ok(self.at(Stage::Zero)),
+            None if first == b"0".as_slice() => Ok(self.at(Stage::Zero)),
             _ => Err(DimacsError::Fault(BlockFault::Trailing)),
         }
     }

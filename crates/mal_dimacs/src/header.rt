@@ -8,7 +8,6 @@ ghost use Rattle.spec_dimacs.specs.Reading.{opened, opened_with, within_limits};
 ghost use Rattle.mal_dimacs.specs.Counts.{opens_with};
 ghost use Rattle.mal_base.specs.declared.block_fault.BlockFault.TheVariants.{BadHeader};
 
-use crate::words::{is_cnf, is_p};
 use mal_base::{BlockFault, LimitKind};
 use mal_text::{NumberFault, first_word, magnitude};
 
@@ -28,10 +27,9 @@ fn count_words(line: &[u8]) -> Option<(&[u8], &[u8])>
 {
     let (p, rest) = first_word(line)?;
     let (cnf, rest) = first_word(rest)?;
-    if is_p(p) && is_cnf(cnf) {
-        two_words(rest)
-    } else {
-        None
+    match (p, cnf) {
+        (b"p", b"cnf") => two_words(rest),
+        _ => None,
     }
 }
 

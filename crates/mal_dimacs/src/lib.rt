@@ -12,6 +12,6 @@ mod writing;
 pub use block::BlockReader;
 pub use fault::{DimacsError, DimacsFault};
 pub use mal_base::BlockFault;
-pub use reading::read;
+pub use reading::{after_line, at_end, read};
 pub use words::{is_comment, is_passed};
 pub use writing::{put_block, put_closed, write};

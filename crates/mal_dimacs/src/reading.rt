@@ -39,13 +39,13 @@ fn first(alloc: Global, text: &[u8]) -> Result<Formula, DimacsFault>
     let mut reader = None;
     while let Some((row, behind)) = first_line(rest) {
         line += 1;
-        match next(alloc, reader, row) {
+        match after_line(alloc, reader, row) {
             Ok(read) => reader = read,
             Err(error) => return Err(error.on_line(line)),
         }
         rest = behind;
     }
-    match finish(reader) {
+    match at_end(reader) {
         Ok(formula) => Ok(formula),
         Err(fault) => Err(DimacsFault::Fault {
             line: line.max(1),
@@ -54,8 +54,8 @@ fn first(alloc: Global, text: &[u8]) -> Result<Formula, DimacsFault>
     }
 }
 
-/// The reader behind a line of a text, none before the header.
-fn next(
+/// The reader behind one more line of a text, none before the header.
+pub fn after_line(
     alloc: Global,
     reader: Option<BlockReader>,
     line: &[u8],
@@ -82,7 +82,7 @@ fn before_header(alloc: Global, line: &[u8]) -> Result<Option<BlockReader>, Dima
 }
 
 /// The formula at the end of a text.
-fn finish(reader: Option<BlockReader>) -> Result<Formula, BlockFault>
+pub fn at_end(reader: Option<BlockReader>) -> Result<Formula, BlockFault>
     ensures { result ≡ at_end reader }
 {
     match reader {

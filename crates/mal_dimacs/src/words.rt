@@ -1,6 +1,6 @@
 //! What a word is, and the literal that a number stands for.
 
-ghost use Rattle.std.specs.Prelude.{◌≡◌, ◌≤◌, true, nat_abs, codes, bytes_eq, IfOk};
+ghost use Rattle.std.specs.Prelude.{◌≡◌, ◌≤◌, true, nat_abs, IfOk};
 ghost use Rattle.mal_base.specs.Formulas.{is_clause_of, is_within};
 ghost use Rattle.spec_text.specs.Inputs.{words_of};
 ghost use Rattle.spec_dimacs.specs.Merged.{clause_of};
@@ -17,46 +17,6 @@ pub fn is_comment(word: &[u8]) -> bool
 {
     match word {
         [b'c', ..] => true,
-        _ => false,
-    }
-}
-
-/// Whether this is the word `p`.
-pub fn is_p(word: &[u8]) -> bool
-    ensures { result ≡ bytes_eq word.now (codes "p") }
-{
-    match word {
-        b"p" => true,
-        _ => false,
-    }
-}
-
-/// Whether this is the word `cnf`.
-pub fn is_cnf(word: &[u8]) -> bool
-    ensures { result ≡ bytes_eq word.now (codes "cnf") }
-{
-    match word {
-        b"cnf" => true,
-        _ => false,
-    }
-}
-
-/// Whether this is the word `%`.
-pub fn is_percent(word: &[u8]) -> bool
-    ensures { result ≡ bytes_eq word.now (codes "%") }
-{
-    match word {
-        b"%" => true,
-        _ => false,
-    }
-}
-
-/// Whether this is the word `0`.
-pub fn is_zero(word: &[u8]) -> bool
-    ensures { result ≡ bytes_eq word.now (codes "0") }
-{
-    match word {
-        b"0" => true,
         _ => false,
     }
 }
