@@ -11,7 +11,7 @@ ghost use Rattle.mal_lrat.specs.Spaced.{spaced};
 use crate::line::Line;
 use itoa::Buffer;
 use mal_base::{Clause, ClauseId, Lit, Var};
-use mal_text::{end_line, put_word};
+use mal_text::{end_line, put_decimal, put_word};
 use std::alloc::{AllocError, Global};
 
 /// The text of a line, with its line end and without a leading `l`. A tautology is written as the literals 1 and -1, a
@@ -110,17 +110,8 @@ fn put_ids(out: &mut Vec<u8>, ids: &[ClauseId]) -> Result<(), AllocError>
     ensures { OnOk result (out.new.items ≡ out.old.items ++ spaced (words_of_ids ids.now)) }
 {
     for id in ids {
-        put_id(out, *id)?;
+        put_decimal(out, id.number())?;
     }
     put_word(out, b"0")?;
-    Ok(())
-}
-
-/// Writes a space and then an id.
-fn put_id(out: &mut Vec<u8>, id: ClauseId) -> Result<(), AllocError>
-    ensures { OnOk result (out.new.items ≡ out.old.items ++ 32 ∷ decimal_word id) }
-{
-    let mut buffer = Buffer::new();
-    put_word(out, buffer.format(id.number()).as_bytes())?;
     Ok(())
 }
