@@ -1,9 +1,8 @@
 -- Lemmas on what sinks gain, on what sources give, and on counts of faults.
-use Rattle.std.proofs.Common.{◌≡◌, ℕ, ◌≤◌, List, [], ◌++◌, ◌∙◌, ap, sym, append_assoc, take, drop, take-append-drop, arith}
-use Rattle.std.proofs.KnownBytes.{Appends-nil, Appends-trans, Consumes-trans}
+use Rattle.std.proofs.Common.{◌≡◌, ℕ, List, ◌++◌, ◌∙◌, ap, sym, append_assoc, take, drop, take-append-drop}
+use Rattle.std.proofs.KnownBytes.{Appends-trans, Consumes-trans}
 use Rattle.std.specs.declared.option.Option.{Option}
 use Rattle.std.specs.Io.KnownBytes.{Appends, Consumes}
-use Rattle.mal_io.specs.Moves.{Rose, GotFront}
 
 -- two gains, one after the other
 pub gains_more : (old mid new : Option (List ℕ)) (front rest : List ℕ) → Appends old mid front → Appends mid new rest → Appends old new (front ++ rest)

@@ -1,6 +1,7 @@
 -- What the devices of this crate hold.
 use Rattle.std.specs.Prelude.{ℕ, List, Some}
 use Rattle.std.specs.declared.option.Option.{Option}
+use Rattle.mal_io.specs.declared.memory.Calls.{Calls}
 use Rattle.mal_io.specs.declared.memory.MemSource.{MemSource}
 use Rattle.mal_io.specs.declared.memory.MemSink.{MemSink}
 use Rattle.mal_io.specs.declared.standard.StdSource.{StdSource}
@@ -10,20 +11,8 @@ use Rattle.mal_io.specs.declared.standard.StdSink.{StdSink}
 abbrev pub source_left : MemSource → Option (List ℕ)
 source_left s = Some s.bytes.now
 
--- the most bytes that a source in memory gives in a call
-abbrev pub source_piece : MemSource → ℕ
-source_piece s = s.piece
-
--- the numbers of the calls in which a source in memory is told to fail
-abbrev pub source_failing : MemSource → List ℕ
-source_failing s = s.failing.now
-
--- how often a source in memory has failed
-abbrev pub source_faults : MemSource → ℕ
-source_faults s = s.faults
-
--- how often a source in memory was called
-abbrev pub source_calls : MemSource → ℕ
+-- the calls of a source in memory
+abbrev pub source_calls : MemSource → Calls
 source_calls s = s.calls
 
 -- the bytes that a sink in memory got
@@ -34,20 +23,8 @@ sink_got s = Some s.bytes.items
 abbrev pub sink_room : MemSink → ℕ
 sink_room s = s.room
 
--- the most bytes that a sink in memory takes in a call
-abbrev pub sink_piece : MemSink → ℕ
-sink_piece s = s.piece
-
--- the numbers of the calls in which a sink in memory is told to fail
-abbrev pub sink_failing : MemSink → List ℕ
-sink_failing s = s.failing.now
-
--- how often a sink in memory has failed
-abbrev pub sink_faults : MemSink → ℕ
-sink_faults s = s.faults
-
--- how often a sink in memory was called
-abbrev pub sink_calls : MemSink → ℕ
+-- the calls of a sink in memory
+abbrev pub sink_calls : MemSink → Calls
 sink_calls s = s.calls
 
 -- the reader of a source

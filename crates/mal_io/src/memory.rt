@@ -7,10 +7,10 @@ ghost use Rattle.mal_io.specs.Moves.{Rose, FailsNext, IsFull};
 use crate::device::{Failed, Sink, Source};
 use std::alloc::{AllocError, Global};
 
-/// A source over a slice.
+/// The calls of a device in memory: how many bytes move in a call at most, which of the calls are told to fail, counted
+/// from 1, how many calls there were, and how many faults.
 #[derive(Drop)]
-pub struct MemSource<'a> {
-    bytes: &'a [u8],
+struct Calls<'a> {
     piece: usize,
     failing: &'a [u64],
     calls: u64,
@@ -18,52 +18,97 @@ pub struct MemSource<'a> {
     ghost moves: { 0 < piece },
 }
 
-impl<'a> MemSource<'a> {
-    ghost use Rattle.mal_io.specs.Held.{source_left, source_piece, source_failing, source_faults, source_calls};
-
-    /// A source that gives `bytes`, at most `piece` (at least 1) of them in a call, and fails in the
-    /// calls that `failing` numbers, counted from 1.
-    pub fn new(bytes: &'a [u8], piece: usize, failing: &'a [u64]) -> Self
+impl<'a> Calls<'a> {
+    /// Before the first call.
+    fn none(piece: usize, failing: &'a [u64]) -> Self
         requires { 0 < piece }
-        ensures left { source_left result ≡ Some bytes.entry.now }
-        ensures piece { source_piece result ≡ piece }
-        ensures failing { source_failing result ≡ failing.entry.now }
-        ensures faults { source_faults result ≡ 0 }
-        ensures calls { source_calls result ≡ 0 }
+        ensures piece { result.piece ≡ piece }
+        ensures failing { result.failing.now ≡ failing.entry.now }
+        ensures calls { result.calls ≡ 0 }
+        ensures faults { result.faults ≡ 0 }
     {
-        MemSource {
-            bytes,
+        Calls {
             piece,
             failing,
             calls: 0,
             faults: 0,
         }
     }
+
+    /// Counts a call, which fails where it was told to.
+    fn next(&mut self) -> Result<(), Failed>
+        ensures told { IsErr result ↔ FailsNext self.old.failing.now self.old.calls }
+        ensures cause { OnErr result (Rose self.old.faults self.new.faults) }
+        ensures later { self.old.faults ≤ self.new.faults }
+        ensures counted { OnOk result (self.new.faults ≡ self.old.faults) }
+        ensures calls { self.new.calls ≡ min (self.old.calls + 1) (2 ^ 64 - 1) }
+        ensures same { (self.new.piece ≡ self.old.piece) × (self.new.failing.now ≡ self.old.failing.now) }
+    {
+        self.calls = self.calls.saturating_add(1);
+        if self.failing.contains(&self.calls) {
+            return Err(self.fail());
+        }
+        Ok(())
+    }
+
+    /// Counts a fault.
+    fn fail(&mut self) -> Failed
+        ensures cause { Rose self.old.faults self.new.faults }
+        ensures later { self.old.faults ≤ self.new.faults }
+        ensures calls { self.new.calls ≡ self.old.calls }
+        ensures same { (self.new.piece ≡ self.old.piece) × (self.new.failing.now ≡ self.old.failing.now) }
+    {
+        self.faults = self.faults.saturating_add(1);
+        Failed
+    }
+}
+
+/// A source over a slice.
+#[derive(Drop)]
+pub struct MemSource<'a> {
+    bytes: &'a [u8],
+    calls: Calls<'a>,
+}
+
+impl<'a> MemSource<'a> {
+    ghost use Rattle.mal_io.specs.Held.{source_left, source_calls};
+
+    /// A source that gives `bytes`, at most `piece` (at least 1) of them in a call, and fails in the
+    /// calls that `failing` numbers, counted from 1.
+    pub fn new(bytes: &'a [u8], piece: usize, failing: &'a [u64]) -> Self
+        requires { 0 < piece }
+        ensures left { source_left result ≡ Some bytes.entry.now }
+        ensures piece { (source_calls result).piece ≡ piece }
+        ensures failing { (source_calls result).failing.now ≡ failing.entry.now }
+        ensures faults { (source_calls result).faults ≡ 0 }
+        ensures calls { (source_calls result).calls ≡ 0 }
+    {
+        MemSource {
+            bytes,
+            calls: Calls::none(piece, failing),
+        }
+    }
 }
 
 impl<'a> Source for MemSource<'a> {
-    ghost use Rattle.mal_io.specs.Held.{source_left, source_piece, source_failing, source_faults, source_calls};
+    ghost use Rattle.mal_io.specs.Held.{source_left, source_calls};
 
     ghost left = { source_left };
 
-    ghost faults = { source_faults };
+    ghost faults = { λ s. (source_calls s).faults };
 
     fn take(&mut self, into: &mut [u8]) -> Result<usize, Failed>
         ensures bound { ReadsAtMost result into.new }
         ensures bytes { ReadConsumes (source_left self.old) (source_left self.new) result into.new }
-        ensures later { source_faults self.old ≤ source_faults self.new }
-        ensures cause { OnErr result (Rose (source_faults self.old) (source_faults self.new)) }
-        ensures counted { OnOk result (source_faults self.new ≡ source_faults self.old) }
-        ensures told { IsErr result ↔ FailsNext (source_failing self.old) (source_calls self.old) }
-        ensures few { IfOk result (λ n. n ≤ source_piece self.old) }
-        ensures calls { source_calls self.new ≡ min (source_calls self.old + 1) (2 ^ 64 - 1) }
+        ensures later { (source_calls self.old).faults ≤ (source_calls self.new).faults }
+        ensures cause { OnErr result (Rose (source_calls self.old).faults (source_calls self.new).faults) }
+        ensures counted { OnOk result ((source_calls self.new).faults ≡ (source_calls self.old).faults) }
+        ensures told { IsErr result ↔ FailsNext (source_calls self.old).failing.now (source_calls self.old).calls }
+        ensures few { IfOk result (λ n. n ≤ (source_calls self.old).piece) }
+        ensures calls { (source_calls self.new).calls ≡ min ((source_calls self.old).calls + 1) (2 ^ 64 - 1) }
     {
-        self.calls = self.calls.saturating_add(1);
-        if self.failing.contains(&self.calls) {
-            self.faults = self.faults.saturating_add(1);
-            return Err(Failed);
-        }
-        let count = into.len().min(self.piece).min(self.bytes.len());
+        self.calls.next()?;
+        let count = into.len().min(self.calls.piece).min(self.bytes.len());
         let (front, rest) = self.bytes.split_at(count);
         into[..count].copy_from_slice(front);
         self.bytes = rest;
@@ -76,16 +121,12 @@ impl<'a> Source for MemSource<'a> {
 pub struct MemSink<'a> {
     bytes: Vec<u8>,
     room: usize,
-    piece: usize,
-    failing: &'a [u64],
-    calls: u64,
-    faults: u64,
-    ghost moves: { 0 < piece },
+    calls: Calls<'a>,
     ghost fits: { vec_len bytes + room ≤ vec_capacity bytes },
 }
 
 impl<'a> MemSink<'a> {
-    ghost use Rattle.mal_io.specs.Held.{sink_got, sink_room, sink_piece, sink_failing, sink_faults, sink_calls};
+    ghost use Rattle.mal_io.specs.Held.{sink_got, sink_room, sink_calls};
 
     /// A sink that got nothing yet, has room for `room` bytes, takes at most `piece` (at least 1) bytes in a
     /// call, and fails in the calls that `failing` numbers, counted from 1.
@@ -98,20 +139,17 @@ impl<'a> MemSink<'a> {
         requires { 0 < piece }
         ensures got { IfOk result (λ s. sink_got s ≡ Some []) }
         ensures room { IfOk result (λ s. sink_room s ≡ room) }
-        ensures piece { IfOk result (λ s. sink_piece s ≡ piece) }
-        ensures failing { IfOk result (λ s. sink_failing s ≡ failing.entry.now) }
-        ensures faults { IfOk result (λ s. sink_faults s ≡ 0) }
-        ensures calls { IfOk result (λ s. sink_calls s ≡ 0) }
+        ensures piece { IfOk result (λ s. (sink_calls s).piece ≡ piece) }
+        ensures failing { IfOk result (λ s. (sink_calls s).failing.now ≡ failing.entry.now) }
+        ensures faults { IfOk result (λ s. (sink_calls s).faults ≡ 0) }
+        ensures calls { IfOk result (λ s. (sink_calls s).calls ≡ 0) }
     {
         let mut bytes = Vec::new(alloc);
         bytes.reserve(room)?;
         Ok(MemSink {
             bytes,
             room,
-            piece,
-            failing,
-            calls: 0,
-            faults: 0,
+            calls: Calls::none(piece, failing),
         })
     }
 
@@ -124,34 +162,29 @@ impl<'a> MemSink<'a> {
 }
 
 impl<'a> Sink for MemSink<'a> {
-    ghost use Rattle.mal_io.specs.Held.{sink_got, sink_room, sink_piece, sink_failing, sink_faults, sink_calls};
+    ghost use Rattle.mal_io.specs.Held.{sink_got, sink_room, sink_calls};
 
     ghost got = { sink_got };
 
-    ghost faults = { sink_faults };
+    ghost faults = { λ s. (sink_calls s).faults };
 
     fn put(&mut self, bytes: &[u8]) -> Result<usize, Failed>
         ensures bound { WritesAtMost result bytes.now }
         ensures bytes { WriteAppends (sink_got self.old) (sink_got self.new) result bytes.now }
         ensures moves { IfOk result (λ n. 0 < length bytes.now → 0 < n) }
-        ensures later { sink_faults self.old ≤ sink_faults self.new }
-        ensures cause { OnErr result (Rose (sink_faults self.old) (sink_faults self.new)) }
-        ensures counted { OnOk result (sink_faults self.new ≡ sink_faults self.old) }
-        ensures told { IsErr result ↔ (FailsNext (sink_failing self.old) (sink_calls self.old) ⊎ IsFull (sink_room self.old) bytes.now) }
-        ensures few { IfOk result (λ n. n ≤ sink_piece self.old) }
+        ensures later { (sink_calls self.old).faults ≤ (sink_calls self.new).faults }
+        ensures cause { OnErr result (Rose (sink_calls self.old).faults (sink_calls self.new).faults) }
+        ensures counted { OnOk result ((sink_calls self.new).faults ≡ (sink_calls self.old).faults) }
+        ensures told { IsErr result ↔ (FailsNext (sink_calls self.old).failing.now (sink_calls self.old).calls ⊎ IsFull (sink_room self.old) bytes.now) }
+        ensures few { IfOk result (λ n. n ≤ (sink_calls self.old).piece) }
         ensures room { IfOk result (λ n. sink_room self.new + n ≡ sink_room self.old) }
-        ensures calls { sink_calls self.new ≡ min (sink_calls self.old + 1) (2 ^ 64 - 1) }
+        ensures calls { (sink_calls self.new).calls ≡ min ((sink_calls self.old).calls + 1) (2 ^ 64 - 1) }
     {
-        self.calls = self.calls.saturating_add(1);
-        if self.failing.contains(&self.calls) {
-            self.faults = self.faults.saturating_add(1);
-            return Err(Failed);
-        }
+        self.calls.next()?;
         if is_full(self.room, bytes) {
-            self.faults = self.faults.saturating_add(1);
-            return Err(Failed);
+            return Err(self.calls.fail());
         }
-        let count = bytes.len().min(self.piece).min(self.room);
+        let count = bytes.len().min(self.calls.piece).min(self.room);
         let (front, _) = bytes.split_at(count);
         self.room -= count;
         push_all(&mut self.bytes, front);
