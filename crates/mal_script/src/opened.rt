@@ -20,6 +20,14 @@ use mal_text::first_word;
 use std::alloc::Global;
 use std::marker::Model;
 
+/// A line that has a word, its first word, and the line behind it.
+#[derive(Clone, Copy)]
+pub struct Row<'a> {
+    pub line: &'a [u8],
+    pub first: &'a [u8],
+    pub others: &'a [u8],
+}
+
 /// A job that has begun and not ended: what was read of it, the clauses and the literals of its revisions, and its
 /// block that has begun and not ended. Contracts see the four.
 #[derive(Drop)]
@@ -159,20 +167,14 @@ impl OpenJob {
     }
 
     /// After a line in this block, which is its first word and the others.
-    pub fn inside_block(
-        self,
-        line: &[u8],
-        first: &[u8],
-        others: &[u8],
-        block: BlockReader,
-    ) -> Result<OpenJob, LineRefusal>
-        requires { words_of line.now ≡ first.now ∷ words_of others.now }
-        ensures { Gives (λ o. o) result (inside_block first.now (words_of others.now) self block) }
+    pub fn inside_block(self, row: Row, block: BlockReader) -> Result<OpenJob, LineRefusal>
+        requires { words_of row.line.now ≡ row.first.now ∷ words_of row.others.now }
+        ensures { Gives (λ o. o) result (inside_block row.entry.first.now (words_of row.entry.others.now) self block) }
     {
-        if first == b"a".as_slice() {
-            return self.after_assumptions(others, block);
+        if row.first == b"a".as_slice() {
+            return self.after_assumptions(row.others, block);
         }
-        let block = blocks::after_row(block, line)?;
+        let block = blocks::after_row(block, row.line)?;
         Ok(self.with_block(block))
     }
 

@@ -10,7 +10,7 @@ ghost use Rattle.mal_script.specs.ReadResult.{Gives, of_jobs};
 use crate::asks::asked;
 use crate::fault::LineRefusal;
 use crate::limits::Limits;
-use crate::opened::OpenJob;
+use crate::opened::{OpenJob, Row};
 use crate::script::ScriptJob;
 use mal_base::{Ask, LimitKind, LineFault, Name};
 use mal_dimacs::is_comment;
@@ -171,63 +171,43 @@ impl Reader {
     }
 
     /// After a line in this job and in no block, which is its first word and the others.
-    fn inside_job(
-        self,
-        limits: Limits,
-        line: &[u8],
-        first: &[u8],
-        others: &[u8],
-        job: OpenJob,
-    ) -> Result<Reader, LineRefusal>
-        requires { words_of line.now ≡ first.now ∷ words_of others.now }
-        ensures { Gives (λ r. r) result (inside_job limits first.now (words_of others.now) job self) }
+    fn inside_job(self, limits: Limits, row: Row, job: OpenJob) -> Result<Reader, LineRefusal>
+        requires { words_of row.line.now ≡ row.first.now ∷ words_of row.others.now }
+        ensures { Gives (λ r. r) result (inside_job limits row.entry.first.now (words_of row.entry.others.now) job self) }
     {
-        if first == b"p".as_slice() {
-            let job = job.after_header(limits, line)?;
+        if row.first == b"p".as_slice() {
+            let job = job.after_header(limits, row.line)?;
             return Ok(self.goes_on(job));
         }
-        if first == b"e".as_slice() {
-            return self.after_end(job, others);
+        if row.first == b"e".as_slice() {
+            return self.after_end(job, row.others);
         }
         Err(LineRefusal::Fault(LineFault::BadLine))
     }
 
     /// After a line in this job, which is its first word and the others.
-    fn inside(
-        self,
-        limits: Limits,
-        line: &[u8],
-        first: &[u8],
-        others: &[u8],
-        job: OpenJob,
-    ) -> Result<Reader, LineRefusal>
-        requires { words_of line.now ≡ first.now ∷ words_of others.now }
-        ensures { Gives (λ r. r) result (inside limits first.now (words_of others.now) job job.block self) }
+    fn inside(self, limits: Limits, row: Row, job: OpenJob) -> Result<Reader, LineRefusal>
+        requires { words_of row.line.now ≡ row.first.now ∷ words_of row.others.now }
+        ensures { Gives (λ r. r) result (inside limits row.entry.first.now (words_of row.entry.others.now) job job.block self) }
     {
         let (job, block) = job.without_block();
         match block {
-            None => self.inside_job(limits, line, first, others, job),
+            None => self.inside_job(limits, row, job),
             Some(block) => {
-                let job = job.inside_block(line, first, others, block)?;
+                let job = job.inside_block(row, block)?;
                 Ok(self.goes_on(job))
             }
         }
     }
 
     /// After a line, which is its first word and the others and no comment.
-    fn after_counted(
-        mut self,
-        limits: Limits,
-        line: &[u8],
-        first: &[u8],
-        others: &[u8],
-    ) -> Result<Reader, LineRefusal>
-        requires { words_of line.now ≡ first.now ∷ words_of others.now }
-        ensures { Gives (λ r. r) result (after_counted limits first.now (words_of others.now) self.opened self) }
+    fn after_counted(mut self, limits: Limits, row: Row) -> Result<Reader, LineRefusal>
+        requires { words_of row.line.now ≡ row.first.now ∷ words_of row.others.now }
+        ensures { Gives (λ r. r) result (after_counted limits row.entry.first.now (words_of row.entry.others.now) self.opened self) }
     {
         match self.opened.take() {
-            None => self.outside(limits, first, others),
-            Some(job) => self.inside(limits, line, first, others, job),
+            None => self.outside(limits, row.first, row.others),
+            Some(job) => self.inside(limits, row, job),
         }
     }
 
@@ -241,7 +221,12 @@ impl Reader {
         if is_comment(first) {
             return Ok(self);
         }
-        self.after_counted(limits, line, first, others)
+        let row = Row {
+            line,
+            first,
+            others,
+        };
+        self.after_counted(limits, row)
     }
 
     /// The jobs of the script, where no job has begun that has not ended.

@@ -47,76 +47,73 @@ pub fn line_fault_line(
 ) -> Result<Vec<u8>, AllocError>
     ensures { IfOk result (λ text. text.items ≡ part_line part.now line (fault_words fault)) }
 {
+    let at = Place { part, line };
     match fault {
-        LineFault::BadLine => told(alloc, part, line, &[b"BadLine"]),
-        LineFault::Dimacs { fault } => block_line(alloc, part, line, fault),
-        LineFault::Opposite { var } => opposite_line(alloc, part, line, var.number()),
-        LineFault::Duplicate { tenant, job } => duplicate_line(alloc, part, line, tenant, job),
-        LineFault::Range => told(alloc, part, line, &[b"Range"]),
-        LineFault::Limit { which } => limit_line(alloc, part, line, which),
+        LineFault::BadLine => told(alloc, at, &[b"BadLine"]),
+        LineFault::Dimacs { fault } => block_line(alloc, at, fault),
+        LineFault::Opposite { var } => opposite_line(alloc, at, var.number()),
+        LineFault::Duplicate { tenant, job } => duplicate_line(alloc, at, tenant, job),
+        LineFault::Range => told(alloc, at, &[b"Range"]),
+        LineFault::Limit { which } => limit_line(alloc, at, which),
     }
 }
 
+/// A line of a part of a text.
+#[derive(Clone, Copy)]
+struct Place<'a> {
+    part: &'a [u8],
+    line: u64,
+}
+
 /// The line that tells that a variable is assumed with both signs.
-fn opposite_line(alloc: Global, part: &[u8], line: u64, var: u32) -> Result<Vec<u8>, AllocError>
-    ensures { IfOk result (λ text. text.items ≡ part_line part.now line (codes "Opposite" ∷ decimal_word var ∷ [])) }
+fn opposite_line(alloc: Global, at: Place, var: u32) -> Result<Vec<u8>, AllocError>
+    ensures { IfOk result (λ text. text.items ≡ part_line at.entry.part.now at.entry.line (codes "Opposite" ∷ decimal_word var ∷ [])) }
 {
     let mut number = Buffer::new();
     let words = [b"Opposite".as_slice(), number.format(var).as_bytes()];
-    told(alloc, part, line, &words)
+    told(alloc, at, &words)
 }
 
 /// The line that tells that a tenant has a job of this name.
 fn duplicate_line(
     alloc: Global,
-    part: &[u8],
-    line: u64,
+    at: Place,
     tenant: Name,
     job: Name,
 ) -> Result<Vec<u8>, AllocError>
-    ensures { IfOk result (λ text. text.items ≡ part_line part.now line (codes "Duplicate" ∷ tenant ∷ job ∷ [])) }
+    ensures { IfOk result (λ text. text.items ≡ part_line at.entry.part.now at.entry.line (codes "Duplicate" ∷ tenant ∷ job ∷ [])) }
 {
     let words = [b"Duplicate".as_slice(), tenant.as_bytes(), job.as_bytes()];
-    told(alloc, part, line, &words)
+    told(alloc, at, &words)
 }
 
 /// The line that tells that there are too many of these.
-fn limit_line(
-    alloc: Global,
-    part: &[u8],
-    line: u64,
-    which: LimitKind,
-) -> Result<Vec<u8>, AllocError>
-    ensures { IfOk result (λ text. text.items ≡ part_line part.now line (codes "Limit" ∷ which_word which ∷ [])) }
+fn limit_line(alloc: Global, at: Place, which: LimitKind) -> Result<Vec<u8>, AllocError>
+    ensures { IfOk result (λ text. text.items ≡ part_line at.entry.part.now at.entry.line (codes "Limit" ∷ which_word which ∷ [])) }
 {
-    told(alloc, part, line, &[b"Limit", which_word(which)])
+    told(alloc, at, &[b"Limit", which_word(which)])
 }
 
 /// The line that tells these words of a line of a part.
-fn told(alloc: Global, part: &[u8], line: u64, words: &[&[u8]]) -> Result<Vec<u8>, AllocError>
-    ensures { IfOk result (λ text. text.items ≡ part_line part.now line (map (λ w. w.now) words.now)) }
+fn told(alloc: Global, at: Place, words: &[&[u8]]) -> Result<Vec<u8>, AllocError>
+    ensures { IfOk result (λ text. text.items ≡ part_line at.entry.part.now at.entry.line (map (λ w. w.now) words.now)) }
 {
     let mut text = Vec::new(alloc);
     text.extend_from_slice(b"fault: ")?;
-    text.extend_from_slice(part)?;
+    text.extend_from_slice(at.part)?;
     text.extend_from_slice(b" line ")?;
-    put_line(&mut text, Buffer::new().format(line).as_bytes(), words)?;
+    put_line(&mut text, Buffer::new().format(at.line).as_bytes(), words)?;
     Ok(text)
 }
 
 /// The line that tells a fault of a block.
-fn block_line(
-    alloc: Global,
-    part: &[u8],
-    line: u64,
-    fault: BlockFault,
-) -> Result<Vec<u8>, AllocError>
-    ensures { IfOk result (λ text. text.items ≡ part_line part.now line (block_words fault)) }
+fn block_line(alloc: Global, at: Place, fault: BlockFault) -> Result<Vec<u8>, AllocError>
+    ensures { IfOk result (λ text. text.items ≡ part_line at.entry.part.now at.entry.line (block_words fault)) }
 {
     match fault {
-        BlockFault::BadHeader => told(alloc, part, line, &[b"BadHeader"]),
-        BlockFault::BadNumber => told(alloc, part, line, &[b"BadNumber"]),
-        BlockFault::VarTooLarge => told(alloc, part, line, &[b"VarTooLarge"]),
+        BlockFault::BadHeader => told(alloc, at, &[b"BadHeader"]),
+        BlockFault::BadNumber => told(alloc, at, &[b"BadNumber"]),
+        BlockFault::VarTooLarge => told(alloc, at, &[b"VarTooLarge"]),
         BlockFault::ClauseCount { declared, found } => {
             let mut one = Buffer::new();
             let mut other = Buffer::new();
@@ -125,10 +122,10 @@ fn block_line(
                 one.format(declared).as_bytes(),
                 other.format(found).as_bytes(),
             ];
-            told(alloc, part, line, &words)
+            told(alloc, at, &words)
         }
-        BlockFault::Limit { which } => limit_line(alloc, part, line, which),
-        BlockFault::Trailing => told(alloc, part, line, &[b"Trailing"]),
+        BlockFault::Limit { which } => limit_line(alloc, at, which),
+        BlockFault::Trailing => told(alloc, at, &[b"Trailing"]),
     }
 }
 

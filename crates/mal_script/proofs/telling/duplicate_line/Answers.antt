@@ -7,5 +7,5 @@ use Rattle.mal_script.proofs.telling.duplicate_line.Goals as goal
 pub returns : goal.returns
 returns c =
     IfOk-weaker c.told.result _ _ (λ text h. h
-    ∙ ap (λ (a : List ℕ). line_of (codes "fault:" ∷ c.args.part.now ∷ codes "line" ∷ decimal_word c.args.line ∷ a ∷ c.as_bytes.result.now ∷ c.as_bytes-2.result.now ∷ [])) c.as_slice.ensures
-    ∙ ap₂ (λ (a b : List ℕ). line_of (codes "fault:" ∷ c.args.part.now ∷ codes "line" ∷ decimal_word c.args.line ∷ codes "Duplicate" ∷ a ∷ b ∷ [])) c.as_bytes.ensures.value c.as_bytes-2.ensures.value) c.told.ensures
+    ∙ ap (λ (a : List ℕ). line_of (codes "fault:" ∷ c.args.at.part.now ∷ codes "line" ∷ decimal_word c.args.at.line ∷ a ∷ c.as_bytes.result.now ∷ c.as_bytes-2.result.now ∷ [])) c.as_slice.ensures
+    ∙ ap₂ (λ (a b : List ℕ). line_of (codes "fault:" ∷ c.args.at.part.now ∷ codes "line" ∷ decimal_word c.args.at.line ∷ codes "Duplicate" ∷ a ∷ b ∷ [])) c.as_bytes.ensures.value c.as_bytes-2.ensures.value) c.told.ensures

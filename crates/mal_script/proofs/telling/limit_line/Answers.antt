@@ -6,4 +6,4 @@ use Rattle.mal_script.proofs.telling.limit_line.Goals as goal
 
 pub returns : goal.returns
 returns c =
-    IfOk-weaker c.told.result _ _ (λ text h. h ∙ ap (λ (a : List ℕ). line_of (codes "fault:" ∷ c.args.part.now ∷ codes "line" ∷ decimal_word c.args.line ∷ codes "Limit" ∷ a ∷ [])) c.which_word.ensures) c.told.ensures
+    IfOk-weaker c.told.result _ _ (λ text h. h ∙ ap (λ (a : List ℕ). line_of (codes "fault:" ∷ c.args.at.part.now ∷ codes "line" ∷ decimal_word c.args.at.line ∷ codes "Limit" ∷ a ∷ [])) c.which_word.ensures) c.told.ensures
