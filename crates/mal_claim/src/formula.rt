@@ -1,17 +1,15 @@
 //! Reading the lines of a claim's formula.
 
 ghost use Rattle.std.specs.Prelude.{◌≡◌, ◌≤◌, ◌+◌, None, length, max, IfOk};
-ghost use Rattle.spec_text.specs.Inputs.{words_of};
 ghost use Rattle.spec_dimacs.specs.Rows.{rows_of};
-ghost use Rattle.spec_dimacs.specs.Reading.{after_line, at_end, on_line, read_rows};
-ghost use Rattle.mal_dimacs.specs.Reads.{Gives as GivesBlock, Fails as FailsBlock};
+ghost use Rattle.spec_dimacs.specs.Reading.{at_end, on_line, read_rows};
 ghost use Rattle.spec_claim.specs.Claims.{formula_rows, behind_formula, in_formula};
 ghost use Rattle.mal_claim.specs.ReadResult.{Gives, IsOnLine};
 
 use crate::fault::ClaimFault;
 use crate::words::is_formula_line;
 use mal_base::{Formula, LineFault};
-use mal_dimacs::{BlockFault, BlockReader, DimacsError, is_passed};
+use mal_dimacs::{BlockReader, DimacsError, after_line, at_end};
 use mal_text::first_line;
 use std::alloc::Global;
 
@@ -31,7 +29,7 @@ pub fn read_formula(alloc: Global, text: &[u8]) -> Result<(Formula, u64, &[u8]),
             return finish(reader, line, rest);
         }
         line += 1;
-        match next(alloc, reader, row) {
+        match after_line(alloc, reader, row) {
             Ok(read) => reader = read,
             Err(error) => return Err(on_line(line, error)),
         }
@@ -49,49 +47,12 @@ fn finish(
     ensures formula { Gives (λ t. t.0) result (in_formula (on_line (max 1 line) (at_end reader))) }
     ensures same { IfOk result (λ t. (t.1 ≡ line) × (t.2.now ≡ rest.now)) }
 {
-    match formula_of(reader) {
+    match at_end(reader) {
         Ok(formula) => Ok((formula, line, rest)),
         Err(fault) => Err(ClaimFault::Formula {
             line: line.max(1),
             fault: LineFault::Dimacs { fault },
         }),
-    }
-}
-
-/// The reader behind one more line of the formula, none before the header.
-fn next(
-    alloc: Global,
-    reader: Option<BlockReader>,
-    line: &[u8],
-) -> Result<Option<BlockReader>, DimacsError>
-    ensures { GivesBlock result (after_line (words_of line.now) reader) }
-{
-    match reader {
-        None => before_header(alloc, line),
-        Some(reader) => Ok(Some(reader.row(line)?)),
-    }
-}
-
-/// The reader behind a line before which only such lines stand as are passed over.
-fn before_header(alloc: Global, line: &[u8]) -> Result<Option<BlockReader>, DimacsError>
-    ensures { GivesBlock result (after_line (words_of line.now) None) }
-{
-    if is_passed(line) {
-        return Ok(None);
-    }
-    match BlockReader::of_header(alloc, line) {
-        Ok(reader) => Ok(Some(reader)),
-        Err(fault) => Err(DimacsError::Fault(fault)),
-    }
-}
-
-/// The formula at the end of its lines.
-fn formula_of(reader: Option<BlockReader>) -> Result<Formula, BlockFault>
-    ensures { result ≡ at_end reader }
-{
-    match reader {
-        None => Err(BlockFault::BadHeader),
-        Some(reader) => reader.finish(),
     }
 }
 

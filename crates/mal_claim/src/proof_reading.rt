@@ -1,10 +1,9 @@
 //! Reading the text of a proof.
 
-ghost use Rattle.std.specs.Prelude.{◌≡◌, ◌<◌, ◌+◌, ◌^◌, [], ◌∷◌, length, map, IfOk, IfSome, MatchOption};
+ghost use Rattle.std.specs.Prelude.{◌≡◌, ◌<◌, ◌+◌, ◌^◌, Ok, length, map};
 ghost use Rattle.spec_text.specs.Inputs.{lines_of, words_of};
 ghost use Rattle.spec_check.specs.Proofs.{last_after, with_number, row_at, lines_from};
 ghost use Rattle.mal_lrat.specs.LineView.{seen};
-ghost use Rattle.spec_lrat.specs.Reading.{reading};
 ghost use Rattle.mal_claim.specs.Views.{views};
 ghost use Rattle.mal_claim.specs.Answers.{Gives, GivesRow};
 
@@ -58,34 +57,31 @@ fn read_row(
     if is_passed(line) {
         return Ok(last);
     }
-    put_line(alloc, lines, number, line, last)
-}
-
-/// Reads a line that counts, and puts it behind the lines before. Answers the last id behind it.
-fn put_line(
-    alloc: Global,
-    lines: &mut Vec<NumberedLine>,
-    number: u64,
-    line: &[u8],
-    last: u64,
-) -> Result<u64, ProofFault>
-    ensures { GivesRow (views lines.old.items) (views lines.new.items) result (with_number number last (reading last (words_of line.now))) }
-{
     match read_line(alloc, line, last) {
         Err(fault) => Err(ProofFault {
             line: number,
             fault,
         }),
-        Ok(line) => {
-            let last = last_after(last, &line);
-            match lines.push(NumberedLine { number, line }) {
-                Ok(()) => Ok(last),
-                Err(_) => Err(ProofFault {
-                    line: number,
-                    fault: LineFault::OutOfMemory,
-                }),
-            }
-        }
+        Ok(line) => put_line(lines, NumberedLine { number, line }, last),
+    }
+}
+
+/// Puts a line behind the lines before. Answers the last id behind it.
+fn put_line(
+    lines: &mut Vec<NumberedLine>,
+    line: NumberedLine,
+    last: u64,
+) -> Result<u64, ProofFault>
+    ensures { GivesRow (views lines.old.items) (views lines.new.items) result (with_number line.number last (Ok (seen line.line))) }
+{
+    let number = line.number;
+    let last = last_after(last, &line.line);
+    match lines.push(line) {
+        Ok(()) => Ok(last),
+        Err(_) => Err(ProofFault {
+            line: number,
+            fault: LineFault::OutOfMemory,
+        }),
     }
 }
 

@@ -46,18 +46,14 @@ pub fn verdict_line(alloc: Global, fault: VerifyFault) -> Result<Option<Vec<u8>>
 fn no_proof(alloc: Global) -> Result<Vec<u8>, AllocError>
     ensures { IfOk result (λ text. text.items ≡ line_of (codes "fault:" ∷ codes "no" ∷ codes "proof" ∷ [])) }
 {
-    let mut text = Vec::new(alloc);
-    text.extend_from_slice(b"fault: no proof\n")?;
-    Ok(text)
+    Vec::from_slice(alloc, b"fault: no proof\n")
 }
 
 /// The line that tells that the lines of a proof do not reach the goal.
 fn no_goal(alloc: Global) -> Result<Vec<u8>, AllocError>
     ensures { IfOk result (λ text. text.items ≡ line_of (codes "fault:" ∷ codes "proof" ∷ codes "goal" ∷ [])) }
 {
-    let mut text = Vec::new(alloc);
-    text.extend_from_slice(b"fault: proof goal\n")?;
-    Ok(text)
+    Vec::from_slice(alloc, b"fault: proof goal\n")
 }
 
 /// The line that tells a fault of a line of the proof; none for want of memory.
