@@ -68,19 +68,18 @@ no-run rows none Replay a = let e : codes "run" ≡ codes "replay" = a in cc
 no-run rows none (Generate seed jobs) a = absurd (run-gen (a.0))
 no-run rows none (RunGenerated seed jobs workers) a = absurd (run-gen (a.0))
 
+no-gen : (rows : List Row) → ((seed jobs : ℕ) → IsNumber 0 2147483647 seed (first_of (codes "seed") rows) → IsNumber 1 256 jobs (first_of (codes "jobs") rows) → ⊥) → IsAsked None (codes "gen") rows
+no-gen rows none (Run workers) a = absurd (run-gen (sym (a.0)))
+no-gen rows none Check a = let e : codes "gen" ≡ codes "check" = a in cc
+no-gen rows none Replay a = let e : codes "gen" ≡ codes "replay" = a in cc
+no-gen rows none (Generate seed jobs) a = none seed jobs a.2 a.3
+no-gen rows none (RunGenerated seed jobs workers) a = none seed jobs a.2 a.3
+
 pub no-seed : (rows : List Row) → IsNumberOf 0 2147483647 None (first_of (codes "seed") rows) → IsAsked None (codes "gen") rows
-no-seed rows none (Run workers) a = absurd (run-gen (sym (a.0)))
-no-seed rows none Check a = let e : codes "gen" ≡ codes "check" = a in cc
-no-seed rows none Replay a = let e : codes "gen" ≡ codes "replay" = a in cc
-no-seed rows none (Generate seed jobs) a = none seed a.2
-no-seed rows none (RunGenerated seed jobs workers) a = none seed a.2
+no-seed rows none = no-gen rows (λ seed jobs s j. none seed s)
 
 pub no-jobs : (rows : List Row) → IsNumberOf 1 256 None (first_of (codes "jobs") rows) → IsAsked None (codes "gen") rows
-no-jobs rows none (Run workers) a = absurd (run-gen (sym (a.0)))
-no-jobs rows none Check a = let e : codes "gen" ≡ codes "check" = a in cc
-no-jobs rows none Replay a = let e : codes "gen" ≡ codes "replay" = a in cc
-no-jobs rows none (Generate seed jobs) a = none jobs a.3
-no-jobs rows none (RunGenerated seed jobs workers) a = none jobs a.3
+no-jobs rows none = no-gen rows (λ seed jobs s j. none jobs j)
 
 not-none : (word : Text) (o : Option Text) → o ≡ None → Some word ≡ o → ⊥
 not-none word o e f = cc
