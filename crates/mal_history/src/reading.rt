@@ -23,6 +23,7 @@ const MOST_EVENTS: usize = 1 << 24;
 
 /// The history that a text spells, or the first fault of the text, with its line from 1 on. Each event has the line
 /// from which it was read. Want of memory may come at any time.
+#[tactic(auto, using(crate::proofs::Found::read_lemmas))]
 pub fn read(alloc: Global, text: &[u8]) -> Result<History, HistoryFault>
     // Which history or which fault it is.
     ensures exact { GivesAt seen result (read_text text.now) }
