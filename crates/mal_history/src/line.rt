@@ -20,10 +20,7 @@ pub fn read_header(first: &[u8], line: &[u8]) -> Result<u32, EventFault>
     ensures some { IfOk result (λ n. 1 ≤ n) }
     ensures bound { IfOk result (λ n. n ≤ 64) }
 {
-    let Some((mal, line)) = first_word(line) else {
-        return Err(EventFault::BadLine);
-    };
-    let Some((version, line)) = first_word(line) else {
+    let Some((mal, version, line)) = two_words(line) else {
         return Err(EventFault::BadLine);
     };
     let Some(workers) = only_word(line) else {
@@ -129,10 +126,7 @@ fn read_kind(
 fn read_open(tenant: Name, job: Name, line: &[u8]) -> Result<Event, EventFault>
     ensures { Gives result (opened tenant job (words_of line.now)) }
 {
-    let Some((priority, line)) = first_word(line) else {
-        return Err(EventFault::BadLine);
-    };
-    let Some((demand, line)) = first_word(line) else {
+    let Some((priority, demand, line)) = two_words(line) else {
         return Err(EventFault::BadLine);
     };
     let Some((slices, line)) = first_word(line) else {
@@ -207,10 +201,7 @@ fn read_start(tenant: Name, job: Name, line: &[u8], workers: u32) -> Result<Even
 fn read_finish(tenant: Name, job: Name, line: &[u8], workers: u32) -> Result<Event, EventFault>
     ensures { Gives result (finished workers tenant job (words_of line.now)) }
 {
-    let Some((index, line)) = first_word(line) else {
-        return Err(EventFault::BadLine);
-    };
-    let Some((worker, line)) = first_word(line) else {
+    let Some((index, worker, line)) = two_words(line) else {
         return Err(EventFault::BadLine);
     };
     let Some(outcome) = only_word(line) else {
