@@ -1,11 +1,8 @@
 -- A history that is written is read again.
-use Rattle.std.proofs.Common.{◌≡◌, ℕ, suc, ◌+◌, ◌<◌, ◌≤◌, ◌^◌, Bool, true, false, cond, ◌&&◌, ◌||◌, ◌==◌, List, [], ◌∷◌, map, flat_map, length, pos, Result, Ok, refl, ap, ◌∙◌, arith}
-use Rattle.std.specs.Prelude.{nat_le, nat_lt}
-use Rattle.std.specs.List.{AllByRecursion, list_all}
-use Rattle.std.proofs.lemmas.Bool.{leb-true, ltb-true, and_parts}
+use Rattle.std.proofs.Common.{◌≡◌, ℕ, suc, ◌+◌, ◌<◌, ◌≤◌, ◌^◌, Bool, true, false, cond, ◌==◌, List, [], ◌∷◌, map, flat_map, length, pos, Result, Ok, refl, ap, ◌∙◌, arith}
+use Rattle.std.specs.List.{AllByRecursion}
 use Rattle.std.proofs.lemmas.Bool.Decides.{nat_tests}
 use Rattle.std.proofs.lemmas.List.Concat.{flat_map-cons}
-use Rattle.mal_base.specs.Names.{is_name, is_name_byte}
 use Rattle.spec_text.specs.Asks.{profile_words}
 use Rattle.spec_text.specs.Lines.{AreRows}
 use Rattle.spec_text.specs.Numbers.{decimal_word}

@@ -1,6 +1,5 @@
 -- The line of a balancing is written volume by volume.
 use Rattle.std.proofs.Common.{◌≡◌, ℕ, ◌≤◌, List, [], ◌∷◌, ◌++◌, codes, flat_map, length, take, ap, ◌∙◌, sym, append_assoc, take_all}
-use Rattle.std.proofs.lemmas.Grind.{flat_map-append}
 use Rattle.std.specs.declared.sync.Arc.{Arc}
 use Rattle.spec_text.specs.Lines.{line_of}
 use Rattle.spec_text.proofs.Again.{joined_word_by_word}
