@@ -1,8 +1,8 @@
-use Rattle.std.proofs.Common.{◌≡◌, ℕ, zero, suc, ◌+◌, ◌*◌, ◌<◌, ◌≤◌, ◌⊎◌, inl, inr, Option, Some, None, List, refl, arith}
+use Rattle.std.proofs.Common.{◌≡◌, ℕ, zero, suc, ◌+◌, ◌*◌, ◌<◌, ◌≤◌, ◌⊎◌, inl, inr, List, refl, arith}
 use Rattle.std.proofs.Math.Nat.{mul-lt-mul_of_pos_right, lt_of_mul-lt-mul_right}
 use Rattle.mal_base.specs.Asks.{Terms}
 use Rattle.spec_balance.specs.Fair.{priority_at, demand_at, volume_at}
-use Rattle.mal_balance.specs.Greedy.{IsClosed, Precedes, IsNext, IsBest}
+use Rattle.mal_balance.specs.Greedy.{IsClosed, Precedes, IsNext}
 
 -- a comparison by cross products goes through a third job that has some worker
 swap : (x y z : ℕ) → x * y * z ≡ x * z * y

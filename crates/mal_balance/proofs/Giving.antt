@@ -1,14 +1,11 @@
-use Rattle.std.proofs.Common.{◌≡◌, ◌≢◌, ℕ, zero, suc, true, false, eqb, ◌+◌, ◌-◌, ◌*◌, ◌<◌, ◌≤◌, ◌⊎◌, inl, inr, min, List, [], ◌∷◌, length, set, replicate, sum, sum_by, sym, ◌∙◌, ap, arith, get_or-set_other}
+use Rattle.std.proofs.Common.{◌≡◌, ◌≢◌, ℕ, zero, suc, true, false, eqb, ◌+◌, ◌-◌, ◌*◌, ◌<◌, ◌≤◌, ◌⊎◌, inl, inr, min, List, [], ◌∷◌, length, get_or, set, sum, sum_by, sym, ◌∙◌, ap, arith, get_or-set_other}
 use Rattle.std.proofs.lemmas.Grind.{get_or-set_at}
 use Rattle.std.proofs.lemmas.Bool.Decides.{eqb_tells}
-use Rattle.std.proofs.lemmas.List.{length-replicate}
 use Rattle.std.proofs.lemmas.List.Sums.{sum_by-cons, sum_by-set}
-use Rattle.std.proofs.lemmas.List.Folds.{sum_by-replicate}
 use Rattle.std.proofs.Math.ListN.{length-set}
 use Rattle.mal_base.specs.Asks.{Terms}
-use Rattle.spec_balance.specs.Fair.{priority_at, demand_at, volume_at, HasNoBetterClaim, IsFair}
+use Rattle.spec_balance.specs.Fair.{no_ask, priority_at, demand_at, volume_at, HasNoBetterClaim, IsFair}
 use Rattle.spec_balance.proofs.Unique.{compare}
-use Rattle.spec_balance.proofs.Single.{zero_at}
 use Rattle.mal_balance.specs.Greedy.{IsGreedy, IsClosed, Precedes, IsNext, IsStarted}
 
 same_or : (i b : ℕ) → (i ≡ b) ⊎ (i ≢ b)
@@ -127,26 +124,15 @@ started-more asks k vs x s low some one =
     })
 
 -- sums, place by place
-pub sum-le : (vs : List ℕ) (asks : List Terms) → length vs ≡ length asks → ((i : ℕ) → i < length asks → volume_at vs i ≤ demand_at asks i) → sum vs ≤ sum_by (λ a. a.demand) asks
-sum-le [] [] e all = omega arith
-sum-le [] (a ∷ asks) e all = absurd (omega arith)
-sum-le (v ∷ vs) [] e all = absurd (omega arith)
-sum-le (v ∷ vs) (a ∷ asks) e all =
-    let x : sum (v ∷ vs) ≡ v + sum vs = sum_by-cons (λ (n : ℕ). n) v vs in
-    let y : sum_by (λ (t : Terms). t.demand) (a ∷ asks) ≡ a.demand + sum_by (λ (t : Terms). t.demand) asks = sum_by-cons (λ (t : Terms). t.demand) a asks in
-    let head : v ≤ a.demand = all 0 (omega arith) in
-    let rest : sum vs ≤ sum_by (λ (t : Terms). t.demand) asks = sum-le vs asks (omega arith) (λ i h. all (suc i) (omega arith)) in
-    omega arith
-
-pub sum-ge : (vs : List ℕ) (asks : List Terms) → length vs ≡ length asks → ((i : ℕ) → i < length asks → demand_at asks i ≤ volume_at vs i) → sum_by (λ a. a.demand) asks ≤ sum vs
-sum-ge [] [] e all = omega arith
-sum-ge [] (a ∷ asks) e all = absurd (omega arith)
-sum-ge (v ∷ vs) [] e all = absurd (omega arith)
-sum-ge (v ∷ vs) (a ∷ asks) e all =
-    let x : sum (v ∷ vs) ≡ v + sum vs = sum_by-cons (λ (n : ℕ). n) v vs in
-    let y : sum_by (λ (t : Terms). t.demand) (a ∷ asks) ≡ a.demand + sum_by (λ (t : Terms). t.demand) asks = sum_by-cons (λ (t : Terms). t.demand) a asks in
-    let head : a.demand ≤ v = all 0 (omega arith) in
-    let rest : sum_by (λ (t : Terms). t.demand) asks ≤ sum vs = sum-ge vs asks (omega arith) (λ i h. all (suc i) (omega arith)) in
+sums-le : {X Y : Type 0} (f : X → ℕ) (g : Y → ℕ) (xs : List X) (ys : List Y) (d : X) (e : Y) → length xs ≡ length ys → ((i : ℕ) → i < length xs → f (get_or xs i d) ≤ g (get_or ys i e)) → sum_by f xs ≤ sum_by g ys
+sums-le f g [] [] d e same all = omega arith
+sums-le f g [] (y ∷ ys) d e same all = absurd (omega arith)
+sums-le f g (x ∷ xs) [] d e same all = absurd (omega arith)
+sums-le f g (x ∷ xs) (y ∷ ys) d e same all =
+    let left : sum_by f (x ∷ xs) ≡ f x + sum_by f xs = sum_by-cons f x xs in
+    let right : sum_by g (y ∷ ys) ≡ g y + sum_by g ys = sum_by-cons g y ys in
+    let head : f x ≤ g y = all 0 (omega arith) in
+    let rest : sum_by f xs ≤ sum_by g ys = sums-le f g xs ys d e (omega arith) (λ i h. all (suc i) (omega arith)) in
     omega arith
 
 wanted-all : (asks : List Terms) (first made : ℕ) (vs : List ℕ) (i : ℕ) → IsGreedy asks first made vs → (i < first) ⊎ (first ≤ i) → volume_at vs i ≤ demand_at asks i
@@ -166,13 +152,13 @@ fair-from_greedy workers asks first made vs g e m = record {
 
 pub fair-full : (workers : ℕ) (asks : List Terms) (first : ℕ) (vs : List ℕ) → IsGreedy asks first workers vs → first ≡ min (length asks) workers → IsFair workers asks vs
 fair-full workers asks first vs g e =
-    let le : sum vs ≤ sum_by (λ (a : Terms). a.demand) asks = sum-le vs asks g.same_length (λ i h. wanted-all asks first workers vs i g (compare i first)) in
+    let le : sum vs ≤ sum_by (λ (a : Terms). a.demand) asks = sums-le (λ n. n) (λ t. t.demand) vs asks 0 no_ask g.same_length (λ i h. wanted-all asks first workers vs i g (compare i first)) in
     let was : sum vs ≡ workers = g.total in
     fair-from_greedy workers asks first workers vs g e (omega arith)
 
 pub fair-closed : (workers : ℕ) (asks : List Terms) (first made : ℕ) (vs : List ℕ) → IsGreedy asks first made vs → IsClosed asks vs first → first ≤ made → made < workers → first ≡ min (length asks) workers → IsFair workers asks vs
 fair-closed workers asks first made vs g closed some low e =
-    let le : sum vs ≤ sum_by (λ (a : Terms). a.demand) asks = sum-le vs asks g.same_length (λ i h. wanted-all asks first made vs i g (compare i first)) in
-    let ge : sum_by (λ (a : Terms). a.demand) asks ≤ sum vs = sum-ge vs asks g.same_length (λ i h. closed i (omega arith)) in
+    let le : sum vs ≤ sum_by (λ (a : Terms). a.demand) asks = sums-le (λ n. n) (λ t. t.demand) vs asks 0 no_ask g.same_length (λ i h. wanted-all asks first made vs i g (compare i first)) in
+    let ge : sum_by (λ (a : Terms). a.demand) asks ≤ sum vs = sums-le (λ t. t.demand) (λ n. n) asks vs no_ask 0 (sym g.same_length) (λ i h. closed i (omega arith)) in
     let was : sum vs ≡ made = g.total in
     fair-from_greedy workers asks first made vs g e (omega arith)

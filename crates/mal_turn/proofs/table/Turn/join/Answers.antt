@@ -1,13 +1,13 @@
-use Rattle.std.proofs.Common.{refl}
-use Rattle.std.proofs.Common.{rules, ◌≡◌, [], sym, ap, ◌∙◌, subst}
+use Rattle.std.proofs.Common.{rules, ◌≡◌, ℕ, List, [], refl, sym, ap, ◌∙◌, subst}
 use mathlib.Core.Option as lean
 use Rattle.atomic_table.specs.Table.{Allows, Joins, step}
 use Rattle.spec_turn.specs.declared.view.View.{View}
 use Rattle.spec_turn.specs.declared.view.Stage.TheVariants.{Idle}
-use Rattle.spec_turn.specs.Rule.{Begins, TurnRule, Has, at_stage, join_both, nobody}
+use Rattle.spec_turn.specs.Rule.{At, Begins, Log, TurnRule, Has, at_stage, join_both, nobody}
 use Rattle.spec_turn.specs.Steps.{Sat, learns, looks}
 use Rattle.spec_turn.proofs.Paths.{has_left}
 use Rattle.spec_turn.proofs.Keeps.{joins_keep, learns_keep}
+use Rattle.mal_turn.proofs.table.Turn.join.Given.{Over}
 use Rattle.mal_turn.proofs.table.Turn.join.Goals as goal
 
 pub join_seat-requires : goal.join_seat-requires
@@ -26,45 +26,47 @@ join_seat-requires g c =
       subst (λ (x : View g.row.T-Entry.Denot). F x w) (sym is) (subst (F (at_stage Idle v)) (sym is2) (joins_keep g.T.Recorded.stands id v other w c.args.seat.live)),
     )
 
+-- the seat of both, before it looks at the record
+both : (g : Over) (m new : Sat g.row.T.Denot g.row.T-Entry.Denot) (w : View g.row.T-Entry.Denot) → m ≡ (at_stage Idle m.0, []) → new ≡ (join_both m.0 w, m.1) → new ≡ (at_stage Idle (join_both m.0 w), [])
+both g m new w idle is = is ∙ ap (λ (x : Sat g.row.T.Denot g.row.T-Entry.Denot). (join_both x.0 w, x.1)) idle
+
+-- what it sees in the record
+told : (g : Over) (n r : ℕ) (m joint new : Sat g.row.T.Denot g.row.T-Entry.Denot) (w : View g.row.T-Entry.Denot) → m ≡ (at_stage Idle m.0, []) → joint ≡ (join_both m.0 w, m.1) → looks g.T.Recorded.stands (step n 1 0 0 lean.none) joint r new → learns (at_stage Idle (join_both m.0 w), []) new
+told g n r m joint new w idle is sees = subst (λ (x : Sat g.row.T.Denot g.row.T-Entry.Denot). looks g.T.Recorded.stands (step n 1 0 0 lean.none) x r new) (both g m joint w idle is) sees
+
+-- what one of the two had seen stands in the record that the seat of both has seen
+begins : (g : Over) (v w : View g.row.T-Entry.Denot) (new : Sat g.row.T.Denot g.row.T-Entry.Denot) → learns (at_stage Idle (join_both v w), []) new → (i : ℕ) (o : List (List ℕ) × Log g.row.T-Entry.Denot) → At (join_both v w).old i o → Begins new.0.seen o.0 o.1
+begins g v w new sees i o at = subst (λ (m : Sat g.row.T.Denot g.row.T-Entry.Denot). Begins m.0.seen o.0 o.1) (sym sees.1) (sees.3 i o at)
+
 pub load-requires : goal.load-requires
 load-requires g c =
     let n = c.args.self.now.table.shared.table_id.slots in
     let id = c.join_seat.new.seat.id in
     let v = c.args.seat.place.me.0 in
     let w = c.args.other.place.me.0 in
-    let is : c.join_seat.new.seat.me ≡ (at_stage Idle (join_both v w), []) = c.join_seat.ensures.2 ∙ ap (λ (m : Sat g.row.T.Denot g.row.T-Entry.Denot). (join_both m.0 w, m.1)) c.args.seat.idle in
     let F = λ (m : Sat g.row.T.Denot g.row.T-Entry.Denot). Allows (TurnRule g.T.Recorded.stands) n id m 1 (λ x. x) (looks g.T.Recorded.stands (step n 1 0 0 lean.none) m) in (
       search rules,
       search rules,
-      subst F (sym is) (learns_keep g.T.Recorded.stands n id (join_both v w) (has_left v.of.first v.of.all w.of.all c.args.seat.live)),
+      subst F (sym (both g c.args.seat.place.me c.join_seat.new.seat.me w c.args.seat.idle c.join_seat.ensures.2)) (learns_keep g.T.Recorded.stands n id (join_both v w) (has_left v.of.first v.of.all w.of.all c.args.seat.live)),
     )
 
 pub invariant_of-result : goal.invariant_of-result
 invariant_of-result g c =
     let v = c.args.seat.place.me.0 in
-    let w = c.args.other.place.me.0 in
-    let is : c.join_seat.new.seat.me ≡ (at_stage Idle (join_both v w), []) = c.join_seat.ensures.2 ∙ ap (λ (m : Sat g.row.T.Denot g.row.T-Entry.Denot). (join_both m.0 w, m.1)) c.args.seat.idle in
-    let n = c.args.self.now.table.shared.table_id.slots in
-    let told : learns (at_stage Idle (join_both v w), []) c.load.new.seat.me = subst (λ (m : Sat g.row.T.Denot g.row.T-Entry.Denot). looks g.T.Recorded.stands (step n 1 0 0 lean.none) m c.load.result c.load.new.seat.me) is c.load.ensures.2 in
+    let sees = told g c.args.self.now.table.shared.table_id.slots c.load.result c.args.seat.place.me c.join_seat.new.seat.me c.load.new.seat.me c.args.other.place.me.0 c.args.seat.idle c.join_seat.ensures.2 c.load.ensures.2 in
     record {
-      idle = told.1 ∙ ap (λ (m : Sat g.row.T.Denot g.row.T-Entry.Denot). (at_stage Idle m.0, [])) (sym told.1);
-      live = subst (λ (m : Sat g.row.T.Denot g.row.T-Entry.Denot). Has m.0.of m.0.of.first) (sym told.1) (has_left v.of.first v.of.all w.of.all c.args.seat.live);
+      idle = sees.1 ∙ ap (λ (m : Sat g.row.T.Denot g.row.T-Entry.Denot). (at_stage Idle m.0, [])) (sym sees.1);
+      live = subst (λ (m : Sat g.row.T.Denot g.row.T-Entry.Denot). Has m.0.of m.0.of.first) (sym sees.1) (has_left v.of.first v.of.all c.args.other.place.me.0.of.all c.args.seat.live);
     }
 
 pub returns-clause-one : goal.returns-clause-one
 returns-clause-one g c =
     let v = c.args.seat.place.me.0 in
-    let w = c.args.other.place.me.0 in
-    let is : c.join_seat.new.seat.me ≡ (at_stage Idle (join_both v w), []) = c.join_seat.ensures.2 ∙ ap (λ (m : Sat g.row.T.Denot g.row.T-Entry.Denot). (join_both m.0 w, m.1)) c.args.seat.idle in
-    let n = c.args.self.now.table.shared.table_id.slots in
-    let told : learns (at_stage Idle (join_both v w), []) c.load.new.seat.me = subst (λ (m : Sat g.row.T.Denot g.row.T-Entry.Denot). looks g.T.Recorded.stands (step n 1 0 0 lean.none) m c.load.result c.load.new.seat.me) is c.load.ensures.2 in
-    subst (λ (m : Sat g.row.T.Denot g.row.T-Entry.Denot). Begins m.0.seen v.of.all v.seen) (sym told.1) (told.3 0 (v.of.all, v.seen) refl)
+    let sees = told g c.args.self.now.table.shared.table_id.slots c.load.result c.args.seat.place.me c.join_seat.new.seat.me c.load.new.seat.me c.args.other.place.me.0 c.args.seat.idle c.join_seat.ensures.2 c.load.ensures.2 in
+    begins g v c.args.other.place.me.0 c.load.new.seat.me sees 0 (v.of.all, v.seen) refl
 
 pub returns-clause-other : goal.returns-clause-other
 returns-clause-other g c =
-    let v = c.args.seat.place.me.0 in
     let w = c.args.other.place.me.0 in
-    let is : c.join_seat.new.seat.me ≡ (at_stage Idle (join_both v w), []) = c.join_seat.ensures.2 ∙ ap (λ (m : Sat g.row.T.Denot g.row.T-Entry.Denot). (join_both m.0 w, m.1)) c.args.seat.idle in
-    let n = c.args.self.now.table.shared.table_id.slots in
-    let told : learns (at_stage Idle (join_both v w), []) c.load.new.seat.me = subst (λ (m : Sat g.row.T.Denot g.row.T-Entry.Denot). looks g.T.Recorded.stands (step n 1 0 0 lean.none) m c.load.result c.load.new.seat.me) is c.load.ensures.2 in
-    subst (λ (m : Sat g.row.T.Denot g.row.T-Entry.Denot). Begins m.0.seen w.of.all w.seen) (sym told.1) (told.3 1 (w.of.all, w.seen) refl)
+    let sees = told g c.args.self.now.table.shared.table_id.slots c.load.result c.args.seat.place.me c.join_seat.new.seat.me c.load.new.seat.me w c.args.seat.idle c.join_seat.ensures.2 c.load.ensures.2 in
+    begins g c.args.seat.place.me.0 w c.load.new.seat.me sees 1 (w.of.all, w.seen) refl
