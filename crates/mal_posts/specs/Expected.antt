@@ -4,18 +4,23 @@ use Rattle.std.specs.List.{list_any}
 use Rattle.mal_history.specs.declared.event.Event as written
 use Rattle.mal_history.specs.declared.event.Event.TheVariants as of
 use Rattle.mal_posts.specs.declared.expected.Post.{Post}
-use Rattle.mal_posts.specs.declared.expected.Post.TheVariants as post
+use Rattle.mal_posts.specs.declared.expected.What.{What}
+use Rattle.mal_posts.specs.declared.expected.What.TheVariants.{Opening, Revision, Closing}
 use Rattle.spec_hall.specs.Events.{bare}
 use Rattle.spec_hall.specs.Own.{is_text}
 use Rattle.spec_replay.specs.Posts.{post_lines}
 use Rattle.spec_run.specs.Complete.{job_events, open_events}
 use Rattle.spec_script.specs.Script.{ScriptedJob}
 
+-- the line of what is posted about a job
+abbrev pub line_about : List ℕ → List ℕ → What → written.Event
+line_about tenant job (Opening ask) = of.Open tenant job ask
+line_about tenant job (Revision number) = of.Revise tenant job number
+line_about tenant job Closing = of.Close tenant job
+
 -- the line of what a script posts
 abbrev pub line_of : Post → written.Event
-line_of (post.Open tenant job ask) = of.Open tenant job ask
-line_of (post.Revise tenant job number) = of.Revise tenant job number
-line_of (post.Close tenant job) = of.Close tenant job
+line_of post = line_about post.tenant post.job post.what
 
 -- the lines of what a script posts
 abbrev pub lines_of : List Post → List written.Event

@@ -2,7 +2,7 @@
 
 ghost use Rattle.std.specs.Prelude.{◌≡◌, ◌↔◌, ◌++◌, ◌∷◌, [], ◌≤◌, IsTrue, length, map, IfOk, OnOk};
 ghost use Rattle.mal_history.specs.declared.event.Event.TheVariants as of;
-ghost use Rattle.mal_posts.specs.Expected.{AreFew, job_lines, line_of, lines_of, opening_lines};
+ghost use Rattle.mal_posts.specs.Expected.{AreFew, job_lines, line_about, line_of, lines_of, opening_lines};
 ghost use Rattle.spec_hall.specs.Events.{bare};
 ghost use Rattle.spec_hall.specs.Own.{is_text};
 ghost use Rattle.spec_run.specs.Complete.{job_events, posts_of};
@@ -12,23 +12,31 @@ use mal_history::Event;
 use mal_script::{Script, ScriptJob};
 use std::alloc::{AllocError, Global};
 
-/// A post: a job is opened, its revision of a number is posted, or it is closed.
+/// A post about a job.
 #[derive(Clone, Copy)]
-pub enum Post {
-    Open {
-        tenant: Name,
-        job: Name,
-        ask: Ask,
-    },
-    Revise {
-        tenant: Name,
-        job: Name,
-        number: u32,
-    },
-    Close {
-        tenant: Name,
-        job: Name,
-    },
+pub struct Post {
+    tenant: Name,
+    job: Name,
+    what: What,
+}
+
+/// What is posted about a job: it is opened, its revision of a number is posted, or it is closed.
+#[derive(Clone, Copy)]
+pub enum What {
+    Opening(Ask),
+    Revision(u32),
+    Closing,
+}
+
+/// The post of this about a job.
+fn about(job: &ScriptJob, what: What) -> Post
+    ensures { line_of result ≡ line_about job.now.tenant job.now.name what }
+{
+    Post {
+        tenant: job.tenant(),
+        job: job.name(),
+        what,
+    }
 }
 
 /// What a script posts of a tenant, in its order: the openings, then job by job the revisions and the closing. A job
@@ -60,11 +68,7 @@ fn put_opening(posts: &mut Vec<Post>, job: &ScriptJob, tenant: Name) -> Result<(
     if !is_of(job, tenant) {
         return Ok(());
     }
-    posts.push(Post::Open {
-        tenant: job.tenant(),
-        job: job.name(),
-        ask: job.ask(),
-    })?;
+    posts.push(about(job, What::Opening(job.ask())))?;
     Ok(())
 }
 
@@ -103,16 +107,9 @@ fn put_job(posts: &mut Vec<Post>, job: &ScriptJob) -> Result<(), AllocError>
     ensures { OnOk result (lines_of posts.new.items ≡ lines_of posts.old.items ++ map bare (job_events job.now)) }
 {
     for posted in 0..job.revisions().len() {
-        posts.push(Post::Revise {
-            tenant: job.tenant(),
-            job: job.name(),
-            number: posted as u32 + 1,
-        })?;
+        posts.push(about(job, What::Revision(posted as u32 + 1)))?;
     }
-    posts.push(Post::Close {
-        tenant: job.tenant(),
-        job: job.name(),
-    })?;
+    posts.push(about(job, What::Closing))?;
     Ok(())
 }
 
@@ -120,14 +117,11 @@ fn put_job(posts: &mut Vec<Post>, job: &ScriptJob) -> Result<(), AllocError>
 pub fn is_post(event: &Event, post: Post) -> bool
     ensures { IsTrue result ↔ (event.now ≡ line_of post) }
 {
-    match post {
-        Post::Open { tenant, job, ask } => is_opening(event, tenant, job, ask),
-        Post::Revise {
-            tenant,
-            job,
-            number,
-        } => is_revision(event, tenant, job, number),
-        Post::Close { tenant, job } => is_closing(event, tenant, job),
+    let Post { tenant, job, what } = post;
+    match what {
+        What::Opening(ask) => is_opening(event, tenant, job, ask),
+        What::Revision(number) => is_revision(event, tenant, job, number),
+        What::Closing => is_closing(event, tenant, job),
     }
 }
 

@@ -1,5 +1,4 @@
-use Rattle.std.proofs.Common.{◌<◌, ◌≤◌, length, arith, sym, ◌∙◌, ap}
-use Rattle.spec_script.specs.Formed.{tenants_of}
+use Rattle.std.proofs.Common.{◌<◌, ◌≤◌, length, arith, sym, ◌∙◌}
 use Rattle.mal_posts.proofs.FollowLemmas.{few-jobs}
 use Rattle.mal_posts.proofs.TenantLemmas.{posted-all, posted-more, test-false, test-true, unknown-not}
 use Rattle.mal_posts.proofs.posts.have_posts.Goals as goal
