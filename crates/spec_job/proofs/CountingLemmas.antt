@@ -1,8 +1,7 @@
 -- The nodes of a machine count no further than the slices that were run.
-use Rattle.std.proofs.Common.{◌≡◌, ℕ, suc, ◌+◌, ◌-◌, ◌*◌, ◌/◌, ◌<◌, ◌≤◌, ◌^◌, List, [], ◌∷◌, ◌++◌, length, Option, Some, None, inl, inr, ◌⊎◌, refl, sym, ◌∙◌, ap, subst, arith, append_assoc, append-nil}
+use Rattle.std.proofs.Common.{◌≡◌, ℕ, suc, ◌+◌, ◌-◌, ◌*◌, ◌/◌, ◌<◌, ◌≤◌, ◌^◌, List, [], ◌∷◌, ◌++◌, length, Option, Some, None, inl, inr, ◌⊎◌, refl, sym, ◌∙◌, ap, subst, arith}
 use Rattle.std.specs.Prelude.{All, slice_set}
 use Rattle.std.proofs.lemmas.List.Elements.{All-nil, All-cons, All-append, All-weaker}
-use Rattle.std.proofs.lemmas.List.Sums.{fold_push}
 use Rattle.mal_base.specs.NumberedClause.{NumberedClause, Line}
 use Rattle.mal_base.specs.declared.verdict.Outcome.{Outcome}
 use Rattle.spec_exchange.specs.Exchange.{broadcast}
@@ -14,6 +13,7 @@ use Rattle.spec_proof.proofs.Among.{Among, among-append}
 use Rattle.spec_job.specs.Journal.{JournalEntry, replay}
 use Rattle.spec_job.specs.SoloMachine.{Own, Opened, Revised, Closed, Volume, Started, Finished, Exchanged, Lease, NodeSlot, SoloMachine, unopened, solo, solo_step, place_at, first_empty, settled_by, finished, exports_from, exchanged}
 use Rattle.spec_job.specs.Counts.{runs_in, runs_of, HasCounts, PlaceCounts, ReplaysCount}
+use Rattle.spec_job.proofs.PushLemmas.{events-keep}
 use Rattle.spec_job.proofs.FinishLemmas.{settled-leaves, finished-leaves}
 use Rattle.spec_job.proofs.PlacesLemmas.{marked-length, all-marked, get-vacant, out-within}
 use Rattle.spec_job.proofs.CountLemmas.{IsLow, slice-counted, replay-index, replay-runs, runs-set, runs-marked}
@@ -124,10 +124,7 @@ unopened-low = record {
 }
 
 events-low : (past events : List Own) → IsLowSolo (solo past) → IsLowSolo (solo (past ++ events))
-events-low past [] h = subst (λ (es : List Own). IsLowSolo (solo es)) (sym (append-nil past)) h
-events-low past (o ∷ os) h =
-    let next : IsLowSolo (solo (past ++ o ∷ [])) = subst (λ (s : SoloMachine). IsLowSolo s) (sym (fold_push solo_step unopened past o)) (step-low (solo past) o h) in
-    subst (λ (es : List Own). IsLowSolo (solo es)) (append_assoc past (o ∷ []) os) (events-low (past ++ o ∷ []) os next)
+events-low past events h = events-keep IsLowSolo (λ before os. Unit {0}) (λ before o os q k. (step-low (solo before) o k, tt)) past events tt h
 
 place-counts : (s : SoloMachine) (i : ℕ) → i ≤ 63 → IsLowSolo s → PlaceCounts s i (place_at s i)
 place-counts s i few h = record { home = (h.places_low i few).home s.ask.profile; ready = start-ready s i few h s.ask.profile }

@@ -1,13 +1,13 @@
 -- The journals of a machine that was run on own events that may happen can be replayed.
-use Rattle.std.proofs.Common.{◌≡◌, ℕ, ◌+◌, ◌≤◌, true, List, [], ◌∷◌, ◌++◌, length, get_or, Option, Some, None, inl, inr, ◌⊎◌, refl, sym, ◌∙◌, subst, append_assoc, append-nil}
+use Rattle.std.proofs.Common.{◌≡◌, ℕ, ◌+◌, ◌≤◌, true, List, [], ◌∷◌, ◌++◌, length, get_or, Option, Some, None, inl, inr, ◌⊎◌, refl, sym, ◌∙◌, subst}
 use Rattle.std.specs.Prelude.{slice_set}
-use Rattle.std.proofs.lemmas.List.Sums.{fold_push}
 use Rattle.mal_base.specs.Asks.{Terms}
 use Rattle.mal_base.specs.declared.verdict.Outcome.{Outcome}
 use Rattle.spec_job.specs.Journal.{replay}
 use Rattle.spec_job.specs.SoloMachine.{Own, Opened, Revised, Closed, Volume, Started, Finished, Exchanged, Lease, NodeSlot, vacant, SoloMachine, unopened, solo, solo_step, place_at, startable, first_empty, settled_by, finished_home, finished}
 use Rattle.spec_job.specs.Runnable.{MayHappen, IsRunnable}
 use Rattle.spec_job.specs.Following.{MayAllFollow, JournalsFollow, RunnableJournalsFollow}
+use Rattle.spec_job.proofs.PushLemmas.{events-keep}
 use Rattle.spec_job.proofs.FinishLemmas.{settled-leaves, finished-leaves}
 use Rattle.spec_job.proofs.PlacesLemmas.{get-vacant, set-place, all-marked}
 use Rattle.spec_job.proofs.SolvingLemmas.{lease_of, live-parts}
@@ -69,11 +69,7 @@ record IsPlayed (s : SoloMachine) : Type 0 where
   pub followed : AreFollowedIn s
 
 events-played : (past events : List Own) → IsRunnable past events → IsPlayed (solo past) → IsPlayed (solo (past ++ events))
-events-played past [] may h = subst (λ (es : List Own). IsPlayed (solo es)) (sym (append-nil past)) h
-events-played past (o ∷ os) may h =
-    let here : IsPlayed (solo_step (solo past) o) = record { kept = step-kept (solo past) o may.0 h.kept; followed = step-followed (solo past) o may.0 h.kept h.followed } in
-    let next : IsPlayed (solo (past ++ o ∷ [])) = subst (λ (s : SoloMachine). IsPlayed s) (sym (fold_push solo_step unopened past o)) here in
-    subst (λ (es : List Own). IsPlayed (solo es)) (append_assoc past (o ∷ []) os) (events-played (past ++ o ∷ []) os may.1 next)
+events-played past events may h = events-keep IsPlayed IsRunnable (λ before o os q k. (record { kept = step-kept (solo before) o q.0 k.kept; followed = step-followed (solo before) o q.0 k.kept k.followed }, q.1)) past events may h
 
 unopened-played : IsPlayed unopened
 unopened-played = record { kept = unopened-kept; followed = opened-followed unopened.ask }

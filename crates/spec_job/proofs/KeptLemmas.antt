@@ -1,10 +1,10 @@
 -- What is kept of a machine that is run on own events that may happen.
-use Rattle.std.proofs.Common.{◌+◌, List, [], ◌∷◌, ◌++◌, length, sym, subst, append_assoc, append-nil}
-use Rattle.std.proofs.lemmas.List.Sums.{fold_push}
+use Rattle.std.proofs.Common.{◌+◌, List, [], ◌++◌, length}
 use Rattle.mal_base.specs.Asks.{Terms}
 use Rattle.spec_job.specs.SoloMachine.{Own, SoloMachine, unopened, solo, solo_step}
 use Rattle.spec_job.specs.Proofs.{LogIsDerived}
 use Rattle.spec_job.specs.Runnable.{MayHappen, IsRunnable}
+use Rattle.spec_job.proofs.PushLemmas.{events-keep}
 use Rattle.spec_job.proofs.SolvingLemmas.{IsSolvingSolo}
 use Rattle.spec_job.proofs.SolvedLemmas.{step-solving, opened-solving}
 use Rattle.spec_job.proofs.TrackedLemmas.{log-all}
@@ -30,10 +30,7 @@ pub unopened-kept : MachineInvariant unopened
 unopened-kept = opened-kept unopened.ask
 
 events-kept : (past events : List Own) → IsRunnable past events → MachineInvariant (solo past) → MachineInvariant (solo (past ++ events))
-events-kept past [] may h = subst (λ (es : List Own). MachineInvariant (solo es)) (sym (append-nil past)) h
-events-kept past (o ∷ os) may h =
-    let next : MachineInvariant (solo (past ++ o ∷ [])) = subst (λ (s : SoloMachine). MachineInvariant s) (sym (fold_push solo_step unopened past o)) (step-kept (solo past) o may.0 h) in
-    subst (λ (es : List Own). MachineInvariant (solo es)) (append_assoc past (o ∷ []) os) (events-kept (past ++ o ∷ []) os may.1 next)
+events-kept past events may h = events-keep MachineInvariant IsRunnable (λ before o os q k. (step-kept (solo before) o q.0 k, q.1)) past events may h
 
 pub runnable-kept : (events : List Own) → IsRunnable [] events → MachineInvariant (solo events)
 runnable-kept events may = events-kept [] events may unopened-kept

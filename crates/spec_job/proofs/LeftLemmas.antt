@@ -1,8 +1,7 @@
 -- What a job may still run falls with each start that ends.
-use Rattle.std.proofs.Common.{◌≡◌, ◌&&◌, is_none, nat_lt, ◌≢◌, ℕ, ◌+◌, ◌-◌, ◌*◌, ◌<◌, ◌≤◌, Bool, true, false, cond, ◌==◌, List, [], ◌∷◌, ◌++◌, length, replicate, Option, Some, None, refl, sym, ◌∙◌, ap, subst, arith, append_assoc, append-nil, length-append}
+use Rattle.std.proofs.Common.{◌≡◌, ◌&&◌, is_none, nat_lt, ◌≢◌, ℕ, ◌+◌, ◌-◌, ◌*◌, ◌<◌, ◌≤◌, Bool, true, false, cond, ◌==◌, List, [], ◌∷◌, ◌++◌, length, replicate, Option, Some, None, refl, sym, ◌∙◌, ap, subst, arith, length-append}
 use Rattle.std.proofs.lemmas.Bool.{and_parts, eqb-false, ltb-true, le-ltb}
 use Rattle.std.proofs.lemmas.List.{length-set, length-replicate}
-use Rattle.std.proofs.lemmas.List.Sums.{fold_push}
 use Rattle.mal_base.specs.declared.answer.Answer.{Answer}
 use Rattle.mal_base.specs.declared.answer.Answer.TheVariants.{Satisfied, Refuted, Spent, OutOfStarts}
 use Rattle.mal_base.specs.declared.verdict.Verdict.{Verdict}
@@ -14,7 +13,8 @@ use Rattle.spec_node.specs.Model.{model_of}
 use Rattle.spec_search.specs.Slice.{Sliced}
 use Rattle.spec_job.specs.Journal.{replay}
 use Rattle.spec_job.specs.Left.{left_of, after_start, StartsLeaveLess, LeftFalls}
-use Rattle.spec_job.specs.SoloMachine.{Own, Opened, Revised, Closed, Volume, Started, Finished, Exchanged, Lease, NodeSlot, SoloMachine, unopened, solo, solo_step, place_at, with_place, answered, spend, starve, conclude, first_empty, settled_by, settled, is_late, finished_ran, finished_home, finished_lease, finished, startable, vacant, out_count, is_live}
+use Rattle.spec_job.specs.SoloMachine.{Own, Opened, Revised, Closed, Volume, Started, Finished, Exchanged, Lease, NodeSlot, SoloMachine, solo, solo_step, place_at, with_place, answered, spend, starve, conclude, first_empty, settled_by, settled, is_late, finished_ran, finished_home, finished_lease, finished, startable, vacant, out_count, is_live}
+use Rattle.spec_job.proofs.PushLemmas.{events-keep}
 use Rattle.spec_job.proofs.FinishLemmas.{with_entries, slice_of, ran_home, by-ran, by-starved, by-outcome}
 use Rattle.spec_job.proofs.FewLemmas.{next-budget}
 use Rattle.spec_job.proofs.PlacesLemmas.{marked-length, set-here}
@@ -100,10 +100,7 @@ step-tidy s (Finished i o) h = finished-tidy s i (place_at s i) (place_at s i).o
 step-tidy s Exchanged h = record { places = record { count = marked-length s.volume (length s.log) 0 s.places ∙ h.places.count; starved = h.places.starved }; settled = h.settled }
 
 events-tidy : (past events : List Own) → IsTidy (solo past) → IsTidy (solo (past ++ events))
-events-tidy past [] h = subst (λ (es : List Own). IsTidy (solo es)) (sym (append-nil past)) h
-events-tidy past (o ∷ os) h =
-    let next : IsTidy (solo (past ++ o ∷ [])) = subst (λ (s : SoloMachine). IsTidy s) (sym (fold_push solo_step unopened past o)) (step-tidy (solo past) o h) in
-    subst (λ (es : List Own). IsTidy (solo es)) (append_assoc past (o ∷ []) os) (events-tidy (past ++ o ∷ []) os next)
+events-tidy past events h = events-keep IsTidy (λ before os. Unit {0}) (λ before o os q k. (step-tidy (solo before) o k, tt)) past events tt h
 
 -- so it is of every machine
 pub solo-tidy : (events : List Own) → IsTidy (solo events)

@@ -1,15 +1,15 @@
 -- A job that is opened once runs no more slices than its budgets.
-use Rattle.std.proofs.Common.{◌≡◌, ℕ, ◌+◌, ◌*◌, ◌<◌, ◌≤◌, Bool, true, false, List, [], ◌∷◌, ◌++◌, length, Option, Some, None, inl, inr, ◌⊎◌, refl, sym, subst, arith, append_assoc, append-nil, length-append}
+use Rattle.std.proofs.Common.{◌≡◌, ℕ, ◌+◌, ◌*◌, ◌<◌, ◌≤◌, Bool, true, false, List, [], ◌∷◌, ◌++◌, length, Option, Some, None, inl, inr, ◌⊎◌, refl, arith, length-append}
 use Rattle.std.specs.List.{list_any}
 use Rattle.std.proofs.lemmas.Bool.{or_parts, ltb-true, cases_lt}
-use Rattle.std.proofs.lemmas.List.Sums.{fold_push}
 use Rattle.mal_base.specs.Asks.{Terms}
 use Rattle.mal_base.specs.declared.verdict.Outcome.{Outcome}
 use Rattle.mal_base.specs.declared.verdict.Outcome.TheVariants.{Ran, Starved, Lost}
 use Rattle.spec_search.specs.Slice.{Sliced}
-use Rattle.spec_job.specs.SoloMachine.{Own, Opened, Revised, Closed, Volume, Started, Finished, Exchanged, Lease, NodeSlot, SoloMachine, unopened, solo, solo_step, place_at, first_empty, is_late, finished_home, finished_lease, finished, exchanged, marked_from}
+use Rattle.spec_job.specs.SoloMachine.{Own, Opened, Revised, Closed, Volume, Started, Finished, Exchanged, Lease, NodeSlot, SoloMachine, solo, solo_step, place_at, first_empty, is_late, finished_home, finished_lease, finished, exchanged, marked_from}
 use Rattle.spec_job.specs.Runnable.{MayHappen, IsRunnable}
 use Rattle.spec_job.specs.Counts.{runs_in, runs_of, starts_out, is_opening, RunsAreFew}
+use Rattle.spec_job.proofs.PushLemmas.{events-keep}
 use Rattle.spec_job.proofs.FinishLemmas.{with_entries, slice_of, ran_home, ran_now, by-ran, by-starved}
 use Rattle.spec_job.proofs.PlacesLemmas.{out-within}
 use Rattle.spec_job.proofs.SolvingLemmas.{IsSolvingSolo, out-leased}
@@ -122,12 +122,9 @@ pub step-within : (slices : ℕ) (s : SoloMachine) (o : Own) → MayHappen s o �
 step-within slices s o may once h = record { kept = step-kept s o may h.kept; low = step-low s o h.low; few = step-few slices s o may once h.kept h.low h.few }
 
 pub events-within : (slices : ℕ) (past events : List Own) → IsRunnable past events → list_any is_opening events ≡ false → IsWithin slices (solo past) → IsWithin slices (solo (past ++ events))
-events-within slices past [] may once h = subst (λ (es : List Own). IsWithin slices (solo es)) (sym (append-nil past)) h
-events-within slices past (o ∷ os) may once h =
-    let parts = or_parts (is_opening o) (list_any is_opening os) once in
-    let here : IsWithin slices (solo_step (solo past) o) = step-within slices (solo past) o may.0 parts.0 h in
-    let next : IsWithin slices (solo (past ++ o ∷ [])) = subst (λ (s : SoloMachine). IsWithin slices s) (sym (fold_push solo_step unopened past o)) here in
-    subst (λ (es : List Own). IsWithin slices (solo es)) (append_assoc past (o ∷ []) os) (events-within slices (past ++ o ∷ []) os may.1 parts.1 next)
+events-within slices past events may once h = events-keep (IsWithin slices) (λ before os. IsRunnable before os × (list_any is_opening os ≡ false)) (λ before o os q k.
+    let parts = or_parts (is_opening o) (list_any is_opening os) q.1 in
+    (step-within slices (solo before) o q.0.0 parts.0 k, (q.0.1, parts.1))) past events (may, once) h
 
 pub opened-within : (ask : Terms) → IsWithin ask.slices (solo (Opened ask ∷ []))
 opened-within ask = record {

@@ -1,18 +1,18 @@
 -- A job that one node runs follows its course, so its answers are decided.
-use Rattle.std.proofs.Common.{◌≡◌, ℕ, zero, suc, ◌+◌, ◌-◌, ◌<◌, ◌≤◌, Bool, true, false, ◌&&◌, nat_lt, nat_le, ◌*◌, List, [], ◌∷◌, ◌++◌, length, replicate, Option, Some, None, inl, inr, ◌⊎◌, refl, sym, ◌∙◌, ap, subst, arith, append_assoc, append-nil, length-append}
+use Rattle.std.proofs.Common.{◌≡◌, ℕ, zero, suc, ◌+◌, ◌-◌, ◌<◌, ◌≤◌, Bool, true, false, ◌&&◌, nat_lt, nat_le, ◌*◌, List, [], ◌∷◌, ◌++◌, length, replicate, Option, Some, None, inl, inr, ◌⊎◌, refl, sym, ◌∙◌, ap, subst, arith, length-append}
 use Rattle.std.specs.List.{list_all}
 use Rattle.std.proofs.lemmas.Bool.{and_parts, ltb-true, leb-true, lt-leb, false≢true}
 use Rattle.std.proofs.lemmas.List.{length-replicate}
-use Rattle.std.proofs.lemmas.List.Sums.{fold_push}
 use Rattle.mal_base.specs.Asks.{Terms}
 use Rattle.mal_base.specs.declared.answer.Answer.TheVariants.{Refuted}
 use Rattle.mal_base.specs.declared.verdict.Outcome.{Outcome}
 use Rattle.mal_base.specs.declared.verdict.Outcome.TheVariants.{Ran, Starved, Lost}
 use Rattle.mal_revision.specs.Posted.{Posted}
-use Rattle.spec_job.specs.SoloMachine.{Own, Opened, Revised, Closed, Volume, Started, Finished, Exchanged, Lease, NodeSlot, SoloMachine, unopened, solo, solo_step, place_at, is_live, startable, first_empty, settled_by, settled, finished_lease, finished}
+use Rattle.spec_job.specs.SoloMachine.{Own, Opened, Revised, Closed, Volume, Started, Finished, Exchanged, Lease, NodeSlot, SoloMachine, solo, solo_step, place_at, is_live, startable, first_empty, settled_by, settled, finished_lease, finished}
 use Rattle.spec_job.specs.Journal.{JournalEntry, loads_in}
 use Rattle.spec_job.specs.Runnable.{MayHappen, IsRunnable}
 use Rattle.spec_job.specs.DemandOne.{is_single, had_memory, IsSingle, Agree, AgreeAll, NoneIsDue, SinglesAgree}
+use Rattle.spec_job.proofs.PushLemmas.{events-keep}
 use Rattle.spec_job.proofs.PlacesLemmas.{get-vacant}
 use Rattle.spec_job.proofs.SolvingLemmas.{IsSolvingSolo, live-parts}
 use Rattle.spec_job.proofs.KeptLemmas.{MachineInvariant, step-kept, opened-kept}
@@ -143,13 +143,11 @@ pub record IsFollowing (profile slices : ℕ) (s : SoloMachine) : Type 0 where
   pub on : IsOnCourse profile slices s
 
 events-follow : (profile slices : ℕ) (past events : List Own) → IsRunnable past events → list_all is_single events ≡ true → IsFollowing profile slices (solo past) → IsFollowing profile slices (solo (past ++ events))
-events-follow profile slices past [] may single h = subst (λ (es : List Own). IsFollowing profile slices (solo es)) (sym (append-nil past)) h
-events-follow profile slices past (o ∷ os) may single h =
-    let parts = and_parts (is_single o) (list_all is_single os) single in
-    let after : MachineInvariant (solo_step (solo past) o) = step-kept (solo past) o may.0 h.kept in
-    let here : IsFollowing profile slices (solo_step (solo past) o) = record { kept = after; on = let on : GoesOneOn profile slices h.on.0 (solo_step (solo past) o) = step-on profile slices h.on.0 (solo past) o may.0 parts.0 h.kept after h.on.1 in (on.0, on.2) } in
-    let next : IsFollowing profile slices (solo (past ++ o ∷ [])) = subst (λ (s : SoloMachine). IsFollowing profile slices s) (sym (fold_push solo_step unopened past o)) here in
-    subst (λ (es : List Own). IsFollowing profile slices (solo es)) (append_assoc past (o ∷ []) os) (events-follow profile slices (past ++ o ∷ []) os may.1 parts.1 next)
+events-follow profile slices past events may single h = events-keep (IsFollowing profile slices) (λ before os. IsRunnable before os × (list_all is_single os ≡ true)) (λ before o os q k.
+    let parts = and_parts (is_single o) (list_all is_single os) q.1 in
+    let after : MachineInvariant (solo_step (solo before) o) = step-kept (solo before) o q.0.0 k.kept in
+    let on : GoesOneOn profile slices k.on.0 (solo_step (solo before) o) = step-on profile slices k.on.0 (solo before) o q.0.0 parts.0 k.kept after k.on.1 in
+    (record { kept = after; on = (on.0, on.2) }, (q.0.1, parts.1))) past events (may, single) h
 
 pub opened-follows : (ask : Terms) → IsFollowing ask.profile ask.slices (solo (Opened ask ∷ []))
 opened-follows ask = record {

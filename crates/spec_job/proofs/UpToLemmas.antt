@@ -4,7 +4,6 @@ use Rattle.std.specs.Prelude.{slice_get}
 use Rattle.std.specs.List.{list_all}
 use Rattle.std.proofs.lemmas.Bool.{and_parts, cases_lt}
 use Rattle.std.proofs.lemmas.List.{length-take, take-append-drop, take-append-le}
-use Rattle.std.proofs.lemmas.List.Sums.{fold_push}
 use Rattle.std.proofs.lemmas.Option.{slice_get_within, slice_get-get_or}
 use Rattle.mal_base.specs.Asks.{Terms}
 use Rattle.mal_base.specs.NumberedClause.{Line}
@@ -20,8 +19,9 @@ use Rattle.spec_job.specs.Journal.{Run, replay, loads_in, loads_of}
 use Rattle.spec_job.specs.Models.{KeepsAnswers}
 use Rattle.spec_job.specs.Replies.{told_by, reply}
 use Rattle.spec_job.specs.Runnable.{MayHappen, IsRunnable}
-use Rattle.spec_job.specs.SoloMachine.{Own, Opened, Revised, Closed, Volume, Started, Finished, Exchanged, Lease, NodeSlot, SoloMachine, unopened, solo, solo_step, place_at, first_empty, settled_by, clauses_in, finished_home, finished}
+use Rattle.spec_job.specs.SoloMachine.{Own, Opened, Revised, Closed, Volume, Started, Finished, Exchanged, Lease, NodeSlot, SoloMachine, solo, solo_step, place_at, first_empty, settled_by, clauses_in, finished_home, finished}
 use Rattle.spec_job.specs.KeyedJob.{Key}
+use Rattle.spec_job.proofs.PushLemmas.{events-keep}
 use Rattle.spec_job.proofs.AgreeLemmas.{ComeFrom, courses-agree, le-or_lt, IsFront, courses-logs}
 use Rattle.spec_job.proofs.AlongLemmas.{IsAlong}
 use Rattle.spec_job.proofs.CourseLemmas.{Course, course, concluded-leaves, next_adds, GoesOn, WentOn, course-more}
@@ -234,14 +234,11 @@ record IsTraced (profile slices r : ℕ) (s : SoloMachine) : Type 0 where
   pub stands : Stands profile slices r s
 
 events-traced : (profile slices r : ℕ) (past events : List Own) → IsRunnable past events → list_all is_single events ≡ true → IsTraced profile slices r (solo past) → IsTraced profile slices r (solo (past ++ events))
-events-traced profile slices r past [] may single h = subst (λ (es : List Own). IsTraced profile slices r (solo es)) (sym (append-nil past)) h
-events-traced profile slices r past (o ∷ os) may single h =
-    let parts = and_parts (is_single o) (list_all is_single os) single in
-    let after : MachineInvariant (solo_step (solo past) o) = step-kept (solo past) o may.0 h.kept in
-    let on : GoesOneOn profile slices h.on.0 (solo_step (solo past) o) = step-on profile slices h.on.0 (solo past) o may.0 parts.0 h.kept after h.on.1 in
-    let here : IsTraced profile slices r (solo_step (solo past) o) = record { kept = after; on = (on.0, on.2); stands = step-stands profile slices r h.on.0 (solo past) o may.0 parts.0 h.kept h.on.1 h.stands } in
-    let next : IsTraced profile slices r (solo (past ++ o ∷ [])) = subst (λ (s : SoloMachine). IsTraced profile slices r s) (sym (fold_push solo_step unopened past o)) here in
-    subst (λ (es : List Own). IsTraced profile slices r (solo es)) (append_assoc past (o ∷ []) os) (events-traced profile slices r (past ++ o ∷ []) os may.1 parts.1 next)
+events-traced profile slices r past events may single h = events-keep (IsTraced profile slices r) (λ before os. IsRunnable before os × (list_all is_single os ≡ true)) (λ before o os q k.
+    let parts = and_parts (is_single o) (list_all is_single os) q.1 in
+    let after : MachineInvariant (solo_step (solo before) o) = step-kept (solo before) o q.0.0 k.kept in
+    let on : GoesOneOn profile slices k.on.0 (solo_step (solo before) o) = step-on profile slices k.on.0 (solo before) o q.0.0 parts.0 k.kept after k.on.1 in
+    (record { kept = after; on = (on.0, on.2); stands = step-stands profile slices r k.on.0 (solo before) o q.0.0 parts.0 k.kept k.on.1 k.stands }, (q.0.1, parts.1))) past events (may, single) h
 
 single-traced : (ask : Terms) (own : List Own) (r : ℕ) → IsSingle ask own → IsTraced ask.profile ask.slices r (solo (Opened ask ∷ own))
 single-traced ask own r h =
