@@ -78,38 +78,45 @@ view_of tenant job number s starts = record { number = number; titled = record {
 pub view-same : (tenant job : List ℕ) (number other : ℕ) (s t : SoloMachine) (starts others : List ℕ) → number ≡ other → s ≡ t → starts ≡ others → view_of tenant job number s starts ≡ view_of tenant job other t others
 view-same tenant job number other s t starts others a b c = ap (λ (n : ℕ). view_of tenant job n s starts) a ∙ (ap (λ (x : SoloMachine). view_of tenant job other x starts) b ∙ ap (λ (ns : List ℕ). view_of tenant job other t ns) c)
 
--- places that are made, and more room for chunks
-module _ (q : Parts) (t : TreeView) (l : LogView) (g : IsGrown q.tree.number q.tree.profile q.tree.places t.places) (rest : (let x : TreeView = record t { places = [] } in x) ≡ record q.tree { places = [] }) (h : IsTree t) (lines : l.lines ≡ q.log.lines) (room : q.log.chunk_room ≤ l.chunk_room) where
+-- places were made, and there is no less room for chunks
+pub record HasGrown (q : Parts) (t : TreeView) (l : LogView) : Type 0 where
+  pub places : IsGrown q.tree.number q.tree.profile q.tree.places t.places
+  pub rest : (let x : TreeView = record t { places = [] } in x) ≡ record q.tree { places = [] }
+  pub tree : IsTree t
+  pub lines : l.lines ≡ q.log.lines
+  pub room : q.log.chunk_room ≤ l.chunk_room
+
+module _ (q : Parts) (t : TreeView) (l : LogView) (g : HasGrown q t l) where
   abbrev pub grown : Parts
   grown = record { asked = q.asked; tree = t; log = l }
 
   pub grown-state : state_of grown ≡ state_of q
   grown-state =
-      let volume : t.volume ≡ q.tree.volume = ap (λ (x : TreeView). x.volume) rest in
-      let tolds : t.broadcasts ≡ q.tree.broadcasts = ap (λ (x : TreeView). x.broadcasts) rest in
-      let ran : t.ran ≡ q.tree.ran = ap (λ (x : TreeView). x.ran) rest in
-      let places : places_of t.places ≡ places_of q.tree.places = grown-places q.tree.number q.tree.profile q.tree.places t.places g h.few in
+      let volume : t.volume ≡ q.tree.volume = ap (λ (x : TreeView). x.volume) g.rest in
+      let tolds : t.broadcasts ≡ q.tree.broadcasts = ap (λ (x : TreeView). x.broadcasts) g.rest in
+      let ran : t.ran ≡ q.tree.ran = ap (λ (x : TreeView). x.ran) g.rest in
+      let places : places_of t.places ≡ places_of q.tree.places = grown-places q.tree.number q.tree.profile q.tree.places t.places g.places g.tree.few in
       parts-same places volume tolds ran
     where
       parts-same : places_of t.places ≡ places_of q.tree.places → t.volume ≡ q.tree.volume → t.broadcasts ≡ q.tree.broadcasts → t.ran ≡ q.tree.ran → state_of grown ≡ state_of q
-      parts-same a b c d = by_parts (places_of t.places) t.volume t.broadcasts t.ran l.lines a b c d lines
+      parts-same a b c d = by_parts (places_of t.places) t.volume t.broadcasts t.ran l.lines a b c d g.lines
         where
           by_parts : (ps : List NodeSlot) (v : ℕ) (ts : List (List NumberedClause)) (n : ℕ) (ls : List Line) → ps ≡ places_of q.tree.places → v ≡ q.tree.volume → ts ≡ q.tree.broadcasts → n ≡ q.tree.ran → ls ≡ q.log.lines → (let s : SoloMachine = record (state_of q) { places = ps; volume = v; broadcasts = ts; ran = n; log = ls } in s) ≡ state_of q
           by_parts ps v ts n ls a b c d e = rw (a, b, c, d, e) refl
 
   pub grown-view : (tenant job : List ℕ) → viewed tenant job grown ≡ viewed tenant job q
-  grown-view tenant job = view-same tenant job t.number q.tree.number (state_of grown) (state_of q) (starts_of t.places) (starts_of q.tree.places) (ap (λ (x : TreeView). x.number) rest) grown-state (grown-starts q.tree.number q.tree.profile q.tree.places t.places g h.few)
+  grown-view tenant job = view-same tenant job t.number q.tree.number (state_of grown) (state_of q) (starts_of t.places) (starts_of q.tree.places) (ap (λ (x : TreeView). x.number) g.rest) grown-state (grown-starts q.tree.number q.tree.profile q.tree.places t.places g.places g.tree.few)
 
   pub grown-kept : JobInvariant q → JobInvariant grown
   grown-kept k =
-      let ran : t.ran ≡ q.tree.ran = ap (λ (x : TreeView). x.ran) rest in
+      let ran : t.ran ≡ q.tree.ran = ap (λ (x : TreeView). x.ran) g.rest in
       let places : places_of t.places ≡ places_of q.tree.places = ap (λ (s : SoloMachine). s.places) grown-state in
       record {
         own = subst IsOwn (sym grown-state) k.own;
         asked = k.asked;
-        tree = h;
-        solvers = ap (λ (x : TreeView). x.profile) rest ∙ k.solvers;
+        tree = g.tree;
+        solvers = ap (λ (x : TreeView). x.profile) g.rest ∙ k.solvers;
         ran = subst (λ (ps : List NodeSlot). t.ran ≤ runs_of ps) (sym places) (omega (arith, ran, k.ran));
-        few_lines = subst (λ (ps : List NodeSlot). length l.lines ≤ runs_of ps * 1000) (sym places) (subst (λ (ls : List Line). length ls ≤ runs_of (places_of q.tree.places) * 1000) (sym lines) k.few_lines);
-        chunks = subst (λ (ps : List NodeSlot). starts_out ps ≤ l.chunk_room) (sym places) (omega (arith, k.chunks, room));
+        few_lines = subst (λ (ps : List NodeSlot). length l.lines ≤ runs_of ps * 1000) (sym places) (subst (λ (ls : List Line). length ls ≤ runs_of (places_of q.tree.places) * 1000) (sym g.lines) k.few_lines);
+        chunks = subst (λ (ps : List NodeSlot). starts_out ps ≤ l.chunk_room) (sym places) (omega (arith, k.chunks, g.room));
       }

@@ -1,6 +1,6 @@
 -- A node that may start is handed out, and an exchange.
 use Rattle.std.proofs.Common.{◌≡◌, ℕ, ◌+◌, ◌-◌, ◌*◌, ◌<◌, ◌≤◌, ◌^◌, Bool, true, false, ◌&&◌, List, [], ◌∷◌, ◌++◌, length, map, take, drop, fold, get_or, nat_lt, Option, Some, None, refl, sym, ◌∙◌, ap, subst, arith, append_assoc}
-use Rattle.std.specs.Prelude.{Result, Ok, Err, IfOk, slice_set, is_none, is_some}
+use Rattle.std.specs.Prelude.{Result, Ok, Err, OnOk, OnErr, IfOk, slice_set, is_none, is_some}
 use Rattle.std.proofs.lemmas.Bool.{and_parts}
 use Rattle.std.proofs.lemmas.List.Sums.{fold-append}
 use Rattle.mal_base.specs.NumberedClause.{NumberedClause}
@@ -32,9 +32,16 @@ use Rattle.mal_job.specs.Viewed.{PlaceView, TreeView, LogView, QuestionsView, Pa
 use Rattle.mal_job.proofs.ExchangeLemmas.{places-marked, starts-marked}
 use Rattle.mal_job.proofs.KeptLemmas.{own-next, own-kept, few-runs, outs-more, outs-marked}
 use Rattle.mal_job.proofs.LoadingLemmas.{paired-entries}
-use Rattle.mal_job.proofs.PartLemmas.{starts-set, journal-same, view-same}
+use Rattle.mal_job.proofs.PartLemmas.{HasGrown, grown, grown-state, grown-view, grown-kept, on-both, then-ok, then-err, lease-of, starts-set, journal-same, view-same}
 use Rattle.mal_job.proofs.PlaceLemmas.{placed-at, out-same, own-at, set-placed, length-filled, length-set, runs-least, set-here}
 use Rattle.mal_job.proofs.StateLemmas.{started-state}
+
+-- what a start that was handed out, or refused, leaves of a job
+pub record HasSent {E : Type 0} (tenant job : List ℕ) (before : JobView) (i start worker : ℕ) (after : Parts) (result : Result Leased E) : Type 0 where
+  pub kept : JobInvariant after
+  pub ok : OnOk result (viewed tenant job after ≡ and_start before i start)
+  pub lease : IfOk result (λ l. IsLeaseOf before i start worker l)
+  pub err : OnErr result (viewed tenant job after ≡ before)
 
 none-is : (o : Option Lease) → is_none o ≡ true → o ≡ None
 none-is None e = refl
@@ -156,6 +163,37 @@ module _ (q : Parts) (i : ℕ) (k : JobInvariant q) (may : startable (state_of q
     pub lease-is : {E : Type 0} (tenant job : List ℕ) (worker : ℕ) (result : Result Leased E) → IsTree gone → IfOk result (λ l. l.journal ≡ started start p.journal) → IfOk result (λ l. l.adds ≡ start_entries ls tolds) → IfOk result (λ l. l.worker ≡ worker) → IfOk result (λ l. IsLeaseOf (viewed tenant job q) i start worker l)
     lease-is tenant job worker (Ok l) ht a b c = record { journal = a ∙ lease-journal tenant job ht; adds = b ∙ adds-by ls e; worker = c }
     lease-is tenant job worker (Err x) ht a b c = tt
+
+-- what a job is made ready with: a startable node that has its place
+module _ (tenant job : List ℕ) (before : JobView) (q : Parts) (i : ℕ) (t : TreeView) (l : LogView) (g : HasGrown q t l) (k : JobInvariant q) (is : viewed tenant job q ≡ before) (may : startable before.titled.state i ≡ true) (low : i < length t.places) where
+  kept-grown : JobInvariant (grown q t l g)
+  kept-grown = grown-kept q t l g k
+
+  may-grown : startable (state_of (grown q t l g)) i ≡ true
+  may-grown = subst (λ (s : SoloMachine). startable s i ≡ true) (sym (grown-state q t l g)) (subst (λ (v : JobView). startable v.titled.state i ≡ true) (sym is) may)
+
+  pub ready-early : loads_in (placed t i).journal.entries ≤ length q.asked.answers + 1
+  ready-early = early (grown q t l g) i kept-grown may-grown low
+
+  pub ready-home : (placed t i).out ≡ None
+  ready-home = home (grown q t l g) i kept-grown may-grown low
+
+  pub ready-replays : (ls : List (Posted × ℕ)) → ls ≡ lacking (loads_in (placed t i).journal.entries) q.asked → MayAllReplay (replayed (placed t i).journal) (start_entries ls (drop (imports_in (placed t i).journal.entries) t.broadcasts))
+  ready-replays ls loads = replays (grown q t l g) i kept-grown may-grown low ls loads
+
+  -- the start is handed out, or refused
+  pub start-sent : {E : Type 0} (start worker : ℕ) (ls : List (Posted × ℕ)) (answered : ℕ) (new : TreeView) (result : Result Leased E) → ls ≡ lacking (loads_in (placed t i).journal.entries) q.asked → answered ≡ length q.asked.answers → starts_out (places_of t.places) + 1 ≤ l.chunk_room → OnOk result (new ≡ with_placed t i (sent answered (start_entries ls (drop (imports_in (placed t i).journal.entries) t.broadcasts)) start (placed t i))) → OnErr result (new ≡ t) → IsTree new → IfOk result (λ x. x.journal ≡ started start (placed t i).journal) → IfOk result (λ x. x.adds ≡ start_entries ls (drop (imports_in (placed t i).journal.entries) t.broadcasts)) → IfOk result (λ x. x.worker ≡ worker) → HasSent tenant job before i start worker (record (grown q t l g) { tree = new }) result
+  start-sent start worker ls answered new result loads current room done none tree journal adds own_worker =
+      let p : Parts = grown q t l g in
+      let same : viewed tenant job p ≡ before = grown-view q t l g tenant job ∙ is in
+      let away : TreeView = gone p i kept-grown may-grown low start ls loads in
+      let ok : OnOk result (new ≡ away) = then-ok result done (λ e. e ∙ ap (λ (n : ℕ). with_placed t i (sent n (start_entries ls (drop (imports_in (placed t i).journal.entries) t.broadcasts)) start (placed t i))) current) in
+      record {
+        kept = on-both result (λ (x : TreeView). IsTree x → JobInvariant (record p { tree = x })) new away t ok none (λ h. start-kept p i kept-grown may-grown low start ls loads h room) (λ h. kept-grown) tree;
+        ok = then-ok result ok (λ e. ap (λ (x : TreeView). viewed tenant job (record p { tree = x })) e ∙ (start-view p i kept-grown may-grown low start ls loads tenant job ∙ ap (λ (v : JobView). and_start v i start) same));
+        lease = subst (λ (v : JobView). IfOk result (λ x. IsLeaseOf v i start worker x)) same (lease-of (λ x. IsLeaseOf (viewed tenant job p) i start worker x) result away new ok tree (λ h. lease-is p i kept-grown may-grown low start ls loads tenant job worker result h journal adds own_worker));
+        err = then-err result none (λ e. ap (λ (x : TreeView). viewed tenant job (record p { tree = x })) e ∙ same);
+      }
 
 -- an exchange
 module _ (q : Parts) (k : JobInvariant q) (wide : q.tree.volume ≤ length q.tree.places) where

@@ -147,13 +147,14 @@ impl Tree {
         count
     }
 
-    /// Makes the first so many places, where they are not there yet. After want of memory some of them may be there.
+    /// Makes the first so many places, where they are not there yet. After want of memory the tree is as before.
     pub fn grow(&mut self, count: usize) -> Result<(), AllocError>
         requires { count ≤ 64 }
         ensures places { IsGrown self.old.number self.old.profile self.old.places self.new.places }
         ensures rest { record self.new { places = [] } ≡ record self.old { places = [] } }
         ensures enough { OnOk result (count ≤ length self.new.places) }
         ensures kept { IsTree self.new }
+        ensures err { OnErr result (self.new ≡ self.old) }
     {
         let alloc = *self.places.allocator();
         grow(alloc, self.number, self.profile, &mut self.places, count)
@@ -309,7 +310,7 @@ fn missing(
 }
 
 /// Makes the first so many places of a job of this number, whose solvers have this profile, where they are not there
-/// yet. After want of memory some of them may be there.
+/// yet. After want of memory they are as before.
 fn grow(
     alloc: Global,
     number: u64,
@@ -324,9 +325,11 @@ fn grow(
     ensures grown { IsGrown number profile places.old.items places.new.items }
     ensures few { length places.new.items ≤ 64 }
     ensures ok { OnOk result (count ≤ length places.new.items) }
+    ensures err { OnErr result (places.new.items ≡ places.old.items) }
 {
+    places.reserve(count.saturating_sub(places.len()))?;
     for index in places.len()..count {
-        places.push(NodeSlot::fresh(alloc, number, profile, index as u32))?;
+        places.push_reserved(NodeSlot::fresh(alloc, number, profile, index as u32));
     }
     Ok(())
 }

@@ -1,4 +1,5 @@
 use Rattle.std.proofs.Common.{◌≡◌, ◌≤◌, length}
+use Rattle.std.specs.Vec.{vec_capacity}
 use Rattle.mal_job.specs.Placing.{IsGrown}
 use Rattle.mal_job.proofs.tree.grow.Given as goal
 
@@ -8,4 +9,5 @@ invariant-loop-index l =
       grown : IsGrown l.number l.profile l.fn.places.items l.places.items;
       len : length l.places.items ≡ l.index;
       few : length l.places.items ≤ 64;
+      room : l.count ≤ vec_capacity l.places;
     }
