@@ -32,19 +32,7 @@ use Rattle.mal_watch.proofs.CountLemmas.{count-same, batch-before, batch-no}
 
 -- what follows a trail follows it with more room for the numbers found and more lists
 pub follows-more : (clauses rows : List NumberedClause) (keys out : List ℕ) (lists more capacity wider : ℕ) (entries : List TrailEntry) (processed : ℕ) → lists ≤ more → length rows ≤ wider → Follows clauses rows keys out lists capacity entries processed → Follows clauses rows keys out more wider entries processed
-follows-more clauses rows keys out lists more capacity wider entries processed l c f =
-    record {
-      numbers = f.numbers;
-      held = f.held;
-      each = f.each;
-      single = f.single;
-      form = f.form;
-      watching = record { paired = f.watching.paired; own = f.watching.own; below = λ k x h. omega (arith, f.watching.below k x h, l) };
-      apart = f.apart;
-      idle = f.idle;
-      room = c;
-      kept = f.kept;
-    }
+follows-more clauses rows keys out lists more capacity wider entries processed l c f = follows-with clauses rows keys out keys out lists more capacity wider entries entries processed processed f (record { paired = f.watching.paired; own = f.watching.own; below = λ k x h. omega (arith, f.watching.below k x h, l) }) f.apart f.idle c f.kept
 
 -- a clause of at most one literal more
 pub with-short : (c : NumberedClause) (long : List NumberedClause) → length c.lits ≤ 1 → with_long c long ≡ long
@@ -282,7 +270,7 @@ pub record IsFound (clauses rows : List NumberedClause) (keys : List ℕ) (found
 pub after-walk : (clauses rows : List NumberedClause) (keys out idle now : List ℕ) (found : List Found) (lists capacity : ℕ) (entries : List TrailEntry) (count : ℕ) (f : ℕ) → Follows clauses rows keys idle lists capacity entries count → Turns entries count f → ((k : ℕ) → Has out k ↔ IsAt keys k f) → AreOnce out → Goes entries count f lists rows now [] → IsPermutation (found_in (take count entries) entries rows out) found → IsNonDecreasingBy (λ (x : Found). x.id) found → IsFound clauses rows now found lists capacity entries count
 after-walk clauses rows keys out idle now found lists capacity entries count f w t nodes once goes moved s =
     record {
-      follows = follows-with clauses rows keys idle now [] lists capacity entries entries count (count + 1) w goes.watching goes.apart refl (goes-end entries count f lists rows now goes);
+      follows = follows-with clauses rows keys idle now [] lists lists capacity capacity entries entries count (count + 1) w goes.watching goes.apart refl w.room (goes-end entries count f lists rows now goes);
       found_is = found-is (take count entries) entries f lists clauses rows keys out found w.numbers w.held w.single w.watching w.apart nodes once (batch-rows clauses rows entries count t.some t.within w.each) (λ k l d e. goes-apart entries count f lists rows keys k t w.watching w.apart (rows-once rows w.form) w.kept l d e) moved s;
     }
 
@@ -293,7 +281,7 @@ passed-none p h (c ∷ cs) = rw (h c) (passed-none p h cs)
 -- an entry whose literal was true before makes no batch
 pub no-walk : (clauses rows : List NumberedClause) (keys : List ℕ) (lists capacity : ℕ) (entries : List TrailEntry) (count : ℕ) (e : TrailEntry) (idle : List ℕ) → 1 ≤ count → count ≤ length entries → e ≡ get_or entries (count - 1) e → is_false (take (count - 1) entries) (negated e.lit) ≡ true → Follows clauses rows keys idle lists capacity entries count → Follows clauses rows keys idle lists capacity entries (count + 1) × ([] ≡ pending (take count entries) entries clauses)
 no-walk clauses rows keys lists capacity entries count e idle s l is was f = (
-  follows-with clauses rows keys idle keys idle lists capacity entries entries count (count + 1) f f.watching f.apart f.idle (λ n k h m. elim (cases_eq n count) [
+  follows-with clauses rows keys idle keys idle lists lists capacity capacity entries entries count (count + 1) f f.watching f.apart f.idle f.room (λ n k h m. elim (cases_eq n count) [
     | inl q ↦ rw q (λ z. elim (f.kept (count - 1) k (omega arith) m (back (get_or keys k 0) z)) [
       | inl closed ↦ inl (λ x i d. false-more (count - 1) count entries x (omega arith) (closed x i d))
       | inr holds ↦ inr (true-more (count - 1) count entries (other_key keys k) (omega arith) holds)

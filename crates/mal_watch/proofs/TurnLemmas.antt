@@ -334,30 +334,36 @@ visit-false es q f lists rows keys rest k t g o e =
     let no : is_in_batch (take q es) (row_at rows k) ≡ false = next.batch ∙ ap not e in
     record { goes = rw (stays es q f lists rows keys rest k g) next.goes; finds = rw no refl }
 
-visit-true : (es : List TrailEntry) (q f lists : ℕ) (rows : List NumberedClause) (keys rest : List ℕ) (k : ℕ) → Turns es q f → Goes es q f lists rows keys (k ∷ rest) → AreOthersFalse (take q es) (other_key keys k) (row_at rows k).lits → is_false (take q es) (other_key keys k) ≡ false → is_true es (other_key keys k) ≡ true → Visited es q f lists rows (set keys k f) rest k []
-visit-true es q f lists rows keys rest k t g o e u =
-    let next = goes-stays es q f lists rows keys rest k t g o in
-    let yes : is_in_batch (take q es) (row_at rows k) ≡ true = next.batch ∙ ap not e in
-    let here = g.left_is k (has-head k k rest refl) in
-    let left = left-only (take q es) (other_key keys k) (row_at rows k).lits o (other-has lists rows keys k g.watching here.0) e in
-    record { goes = rw (stays es q f lists rows keys rest k g) next.goes; finds = rw (yes, left, u) refl }
+-- the other watched literal alone is left
+record IsOnly (es : List TrailEntry) (q f lists : ℕ) (rows : List NumberedClause) (keys rest : List ℕ) (k : ℕ) : Type 0 where
+  pub goes : Goes es q f lists rows (set keys k f) rest
+  pub batch : is_in_batch (take q es) (row_at rows k) ≡ true
+  pub left : left_literal (take q es) (row_at rows k).lits ≡ Some (other_key keys k)
 
-visit-found : (es : List TrailEntry) (q f lists : ℕ) (rows : List NumberedClause) (keys rest : List ℕ) (k : ℕ) → Turns es q f → Goes es q f lists rows keys (k ∷ rest) → AreOthersFalse (take q es) (other_key keys k) (row_at rows k).lits → is_false (take q es) (other_key keys k) ≡ false → is_true es (other_key keys k) ≡ false → Visited es q f lists rows (set keys k f) rest k (record { id = (row_at rows k).id; lit = other_key keys k } ∷ [])
-visit-found es q f lists rows keys rest k t g o e u =
+only-left : (es : List TrailEntry) (q f lists : ℕ) (rows : List NumberedClause) (keys rest : List ℕ) (k : ℕ) → Goes es q f lists rows keys (k ∷ rest) → AreOthersFalse (take q es) (other_key keys k) (row_at rows k).lits → Turns es q f → is_false (take q es) (other_key keys k) ≡ false → IsOnly es q f lists rows keys rest k
+only-left es q f lists rows keys rest k g o t e =
     let next = goes-stays es q f lists rows keys rest k t g o in
-    let yes : is_in_batch (take q es) (row_at rows k) ≡ true = next.batch ∙ ap not e in
     let here = g.left_is k (has-head k k rest refl) in
-    let left = left-only (take q es) (other_key keys k) (row_at rows k).lits o (other-has lists rows keys k g.watching here.0) e in
-    record { goes = rw (stays es q f lists rows keys rest k g) next.goes; finds = rw (yes, left, u) refl }
+    record {
+      goes = rw (stays es q f lists rows keys rest k g) next.goes;
+      batch = next.batch ∙ ap not e;
+      left = left-only (take q es) (other_key keys k) (row_at rows k).lits o (other-has lists rows keys k g.watching here.0) e;
+    }
+
+visit-true : (es : List TrailEntry) (q f lists : ℕ) (rows : List NumberedClause) (keys rest : List ℕ) (k : ℕ) → IsOnly es q f lists rows keys rest k → is_true es (other_key keys k) ≡ true → Visited es q f lists rows (set keys k f) rest k []
+visit-true es q f lists rows keys rest k only u = record { goes = only.goes; finds = rw (only.batch, only.left, u) refl }
+
+visit-found : (es : List TrailEntry) (q f lists : ℕ) (rows : List NumberedClause) (keys rest : List ℕ) (k : ℕ) → IsOnly es q f lists rows keys rest k → is_true es (other_key keys k) ≡ false → Visited es q f lists rows (set keys k f) rest k (record { id = (row_at rows k).id; lit = other_key keys k } ∷ [])
+visit-found es q f lists rows keys rest k only u = record { goes = only.goes; finds = rw (only.batch, only.left, u) refl }
 
 -- nothing else is to be watched: the clause is found where the other literal alone is left, and not true on the trail
 pub visit-settled : (es : List TrailEntry) (q f lists : ℕ) (rows : List NumberedClause) (keys rest : List ℕ) (k : ℕ) → Turns es q f → Goes es q f lists rows keys (k ∷ rest) → IsSettled (take q es) (other_key keys k) (row_at rows k).lits → (is_false (take q es) (other_key keys k) ≡ true) ⊎ ((is_false (take q es) (other_key keys k) ≡ false) × (is_true es (other_key keys k) ≡ true)) → Visited es q f lists rows (set keys k f) rest k []
 visit-settled es q f lists rows keys rest k t g (inr u) v = visit-spared es q f lists rows keys rest k t g u
 visit-settled es q f lists rows keys rest k t g (inl o) (inl e) = visit-false es q f lists rows keys rest k t g o e
-visit-settled es q f lists rows keys rest k t g (inl o) (inr v) = visit-true es q f lists rows keys rest k t g o v.0 v.1
+visit-settled es q f lists rows keys rest k t g (inl o) (inr v) = visit-true es q f lists rows keys rest k (only-left es q f lists rows keys rest k g o t v.0) v.1
 
 pub visit-left : (es : List TrailEntry) (q f lists : ℕ) (rows : List NumberedClause) (keys rest : List ℕ) (k : ℕ) → Turns es q f → Goes es q f lists rows keys (k ∷ rest) → IsSettled (take q es) (other_key keys k) (row_at rows k).lits → is_false (take q es) (other_key keys k) ≡ false → is_true es (other_key keys k) ≡ false → Visited es q f lists rows (set keys k f) rest k (record { id = (row_at rows k).id; lit = other_key keys k } ∷ [])
-visit-left es q f lists rows keys rest k t g (inl o) e u = visit-found es q f lists rows keys rest k t g o e u
+visit-left es q f lists rows keys rest k t g (inl o) e u = visit-found es q f lists rows keys rest k (only-left es q f lists rows keys rest k g o t e) u
 visit-left es q f lists rows keys rest k t g (inr v) e u = absurd (false≢true (sym u ∙ true-all q es (other_key keys k) v))
 
 -- the nodes of the literal are left at the start
