@@ -150,6 +150,9 @@ short-next cs i id r l e =
     let c : NumberedClause = record { id = id; lits = a.lits } in
     record { lits = a.lits; there = a.there; held = rise-under 0 cs c r (among-passed is_short c cs (among-get (short_clauses cs) i c a.there)).0 }
 
+pub short-at : (cs : List NumberedClause) (short : List ℕ) (i id : ℕ) → NumbersRise 0 cs → short ≡ short_ids cs → i < length (short_clauses cs) → id ≡ get_or short i id → IsNext cs i id
+short-at cs short i id r e l is = short-next cs i id r (omega (arith, l, short-length cs)) (is ∙ ap (λ (ns : List ℕ). get_or ns i id) e)
+
 some_lits : (x y : List ℕ) → Some x ≡ Some y → x ≡ y
 some_lits x y e = cc
 
