@@ -1,4 +1,4 @@
-use Rattle.std.proofs.Common.{◌≡◌, ℕ, zero, suc, ◌+◌, ◌-◌, ◌/◌, ◌%◌, ◌*◌, ◌<◌, ◌≤◌, Bool, true, false, nat_eq, nat_lt, List, [], ◌∷◌, ◌++◌, length, take, replicate, get_or, set, Some, None, cond, ◌||◌, ap, refl, sym, ◌∙◌, arith, ⊎_elim, ◌⊎◌, inl, inr, ◌≢◌}
+use Rattle.std.proofs.Common.{◌≡◌, ℕ, zero, suc, ◌+◌, ◌-◌, ◌/◌, ◌%◌, ◌*◌, ◌<◌, ◌≤◌, Bool, true, false, not, nat_eq, nat_lt, List, [], ◌∷◌, ◌++◌, length, take, replicate, get_or, set, Some, None, cond, ◌||◌, ap, refl, sym, ◌∙◌, arith, ⊎_elim, ◌⊎◌, inl, inr, ◌≢◌}
 use Rattle.std.specs.List.{list_any, find, IsDistinct}
 use Rattle.std.specs.Option.{option_map}
 use Rattle.std.specs.Prelude.{eqb}
@@ -193,27 +193,20 @@ not-lit : (v l : ℕ) (b : Bool) → nat_eq v (var_of l) ≡ false → nat_eq l 
 not-lit v l true = grind (arith, nat_tests)
 not-lit v l false = grind (arith, nat_tests)
 
+sign-of : (v l : ℕ) (b : Bool) → nat_eq v (var_of l) ≡ true → nat_eq l (literal v (not b)) ≡ false → has_plus l ≡ b
+sign-of v l true = plus-sign v l
+sign-of v l false = minus-sign v l
+
 -- the value of a variable is the sign of the one of its literals that is true
-pub value-true : (entries : List TrailEntry) (v : ℕ) → is_true entries (literal v true) ≡ true → is_true entries (literal v false) ≡ false → value_on entries v ≡ Some true
-value-true [] v t f = absurd (false≢true t)
-value-true (e ∷ es) v t f = by_test (nat_eq v (var_of e.lit)) refl (λ h. value-true es v (rw (not-lit v e.lit true h) at t) apart.1)
+pub value-sign : (entries : List TrailEntry) (v : ℕ) (b : Bool) → is_true entries (literal v b) ≡ true → is_true entries (literal v (not b)) ≡ false → value_on entries v ≡ Some b
+value-sign [] v b t f = absurd (false≢true t)
+value-sign (e ∷ es) v b t f = by_test (nat_eq v (var_of e.lit)) refl (λ h. value-sign es v b (rw (not-lit v e.lit b h) at t) apart.1)
   where
-    apart : (nat_eq e.lit (literal v false) ≡ false) × (is_true es (literal v false) ≡ false)
-    apart = or_false (nat_eq e.lit (literal v false)) (is_true es (literal v false)) f
+    apart : (nat_eq e.lit (literal v (not b)) ≡ false) × (is_true es (literal v (not b)) ≡ false)
+    apart = or_false (nat_eq e.lit (literal v (not b))) (is_true es (literal v (not b))) f
 
-    by_test : (b : Bool) → nat_eq v (var_of e.lit) ≡ b → (nat_eq v (var_of e.lit) ≡ false → value_on es v ≡ Some true) → option_map (λ (x : TrailEntry). has_plus x.lit) (cond b (Some e) (find (λ (x : TrailEntry). nat_eq v (var_of x.lit)) es)) ≡ Some true
-    by_test true h rest = ap (λ (b : Bool). Some b) (plus-sign v e.lit h apart.0)
-    by_test false h rest = rest h
-
-pub value-false : (entries : List TrailEntry) (v : ℕ) → is_true entries (literal v false) ≡ true → is_true entries (literal v true) ≡ false → value_on entries v ≡ Some false
-value-false [] v t f = absurd (false≢true t)
-value-false (e ∷ es) v t f = by_test (nat_eq v (var_of e.lit)) refl (λ h. value-false es v (rw (not-lit v e.lit false h) at t) apart.1)
-  where
-    apart : (nat_eq e.lit (literal v true) ≡ false) × (is_true es (literal v true) ≡ false)
-    apart = or_false (nat_eq e.lit (literal v true)) (is_true es (literal v true)) f
-
-    by_test : (b : Bool) → nat_eq v (var_of e.lit) ≡ b → (nat_eq v (var_of e.lit) ≡ false → value_on es v ≡ Some false) → option_map (λ (x : TrailEntry). has_plus x.lit) (cond b (Some e) (find (λ (x : TrailEntry). nat_eq v (var_of x.lit)) es)) ≡ Some false
-    by_test true h rest = ap (λ (b : Bool). Some b) (minus-sign v e.lit h apart.0)
+    by_test : (x : Bool) → nat_eq v (var_of e.lit) ≡ x → (nat_eq v (var_of e.lit) ≡ false → value_on es v ≡ Some b) → option_map (λ (y : TrailEntry). has_plus y.lit) (cond x (Some e) (find (λ (y : TrailEntry). nat_eq v (var_of y.lit)) es)) ≡ Some b
+    by_test true h rest = ap (λ (s : Bool). Some s) (sign-of v e.lit b h apart.0)
     by_test false h rest = rest h
 
 find-none : (p : TrailEntry → Bool) (es : List TrailEntry) → list_any p es ≡ false → find p es ≡ None

@@ -7,19 +7,13 @@ use Rattle.mal_trail.proofs.trail.Trail.push.Goals as goal
 
 pub overflow_cast-len : goal.overflow_cast-len
 overflow_cast-len c =
-    let t = c.self.inside in
-    let free = rw (← c.self.view_is) at c.requires.free in
-    let room = rw (← c.self.view_is) at c.requires.room in
     let positive : 1 ≤ var_of c.args.lit = omega (arith, c.code-code.ensures.value, c.code-code.ensures.range, c.negate.ensures, negated-var c.args.lit) in
-    omega (arith, c.len.ensures, c.self.invariant.fits.small, room_for t.room t.entries.items (var_of c.args.lit) c.self.invariant.fits free positive room)
+    omega (arith, c.len.ensures, c.self.invariant.fits.small, room_for c.self.inside.room c.self.inside.entries.items (var_of c.args.lit) c.self.invariant.fits (rw (← c.self.view_is) at c.requires.free) positive (rw (← c.self.view_is) at c.requires.room))
 
 pub push_reserved-requires : goal.push_reserved-requires
 push_reserved-requires c =
-    let t = c.self.inside in
-    let free = rw (← c.self.view_is) at c.requires.free in
-    let room = rw (← c.self.view_is) at c.requires.room in
     let positive : 1 ≤ var_of c.args.lit = omega (arith, c.code-code.ensures.value, c.code-code.ensures.range, c.negate.ensures, negated-var c.args.lit) in
-    omega (arith, c.self.invariant.held, room_for t.room t.entries.items (var_of c.args.lit) c.self.invariant.fits free positive room)
+    omega (arith, c.self.invariant.held, room_for c.self.inside.room c.self.inside.entries.items (var_of c.args.lit) c.self.invariant.fits (rw (← c.self.view_is) at c.requires.free) positive (rw (← c.self.view_is) at c.requires.room))
 
 pub invariant_of-self : goal.invariant_of-self
 invariant_of-self c =
