@@ -3,6 +3,7 @@ use Rattle.mal_base.specs.declared.verdict.Outcome.{Outcome}
 use Rattle.mal_base.specs.declared.verdict.Outcome.TheVariants.{Ran, Starved, Lost}
 use Rattle.mal_history.specs.declared.event.Event.{Event}
 use Rattle.mal_history.specs.declared.event.Event.TheVariants.{Open, Revise, Close, Balance, Start, Finish, Exchange}
+use Rattle.mal_history.specs.declared.event.Place.{Place}
 use Rattle.mal_history.specs.declared.event.Share.{Share}
 use Rattle.spec_text.specs.Asks.{ask_words}
 use Rattle.spec_text.specs.Lines.{text_of}
@@ -17,6 +18,10 @@ outcome_word Lost = codes "lost"
 -- the words of a volume
 abbrev pub share_words : Share → List (List ℕ)
 share_words s = s.tenant ∷ s.job ∷ decimal_word s.volume ∷ []
+
+-- the words of a node of a job and its worker
+abbrev pub place_words : Place → List (List ℕ)
+place_words p = p.tenant ∷ p.job ∷ decimal_word p.index ∷ decimal_word p.worker ∷ []
 
 -- the words of an event's line
 abbrev pub event_words : Event → List (List ℕ)

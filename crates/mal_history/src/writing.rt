@@ -2,9 +2,8 @@
 
 ghost use Rattle.std.specs.Prelude.{◌≡◌, [], ◌∷◌, ◌++◌, map, flat_map, codes, IfOk, OnOk};
 ghost use Rattle.spec_text.specs.Lines.{line_of};
-ghost use Rattle.spec_text.specs.Numbers.{decimal_word};
 ghost use Rattle.mal_history.specs.Shared.{shared};
-ghost use Rattle.mal_history.specs.Text.{outcome_word, share_words, event_words, header_words, history_text};
+ghost use Rattle.mal_history.specs.Text.{outcome_word, place_words, share_words, event_words, header_words, history_text};
 ghost use Rattle.mal_history.specs.declared.event.Event.TheVariants.{Open, Revise, Start, Finish};
 
 use crate::event::{Event, Place, Share};
@@ -158,7 +157,7 @@ fn put_finish(out: &mut Vec<u8>, place: Place, outcome: Outcome) -> Result<(), A
 
 /// Writes the words of a node and its worker, each behind a space.
 fn put_place(out: &mut Vec<u8>, place: Place) -> Result<(), AllocError>
-    ensures { OnOk result (out.new.items ≡ out.old.items ++ flat_map (λ w. 32 ∷ w) (place.tenant ∷ place.job ∷ decimal_word place.index ∷ decimal_word place.worker ∷ [])) }
+    ensures { OnOk result (out.new.items ≡ out.old.items ++ flat_map (λ w. 32 ∷ w) (place_words place)) }
 {
     put_names(out, &place.tenant, &place.job)?;
     put_decimal(out, u64::from(place.index))?;

@@ -26,11 +26,9 @@ all-events events i all = ap (λ (es : List Event). flat_map (λ e. line_of (eve
 pub line-by-word : (first : List ℕ) (others : List (List ℕ)) → (first ++ flat_map (λ w. 32 ∷ w) others) ++ 10 ∷ [] ≡ line_of (first ∷ others)
 line-by-word first others = ap (λ (bytes : List ℕ). bytes ++ 10 ∷ []) (sym (joined_word_by_word first others))
 
--- the line of a node and its worker, with other words behind theirs
-pub node-by-word : (first tenant job index worker : List ℕ) (others : List (List ℕ))
-    → ((first ++ flat_map (λ w. 32 ∷ w) (tenant ∷ job ∷ index ∷ worker ∷ [])) ++ flat_map (λ w. 32 ∷ w) others) ++ 10 ∷ [] ≡ line_of (first ∷ tenant ∷ job ∷ index ∷ worker ∷ others)
-node-by-word first tenant job index worker others =
-    let words : List (List ℕ) = tenant ∷ job ∷ index ∷ worker ∷ [] in
+-- a line of words and of others behind them
+pub more-by-word : (first : List ℕ) (words others : List (List ℕ)) → ((first ++ flat_map (λ w. 32 ∷ w) words) ++ flat_map (λ w. 32 ∷ w) others) ++ 10 ∷ [] ≡ line_of (first ∷ (words ++ others))
+more-by-word first words others =
     ap (λ (bytes : List ℕ). bytes ++ 10 ∷ []) (append_assoc first (flat_map (λ w. 32 ∷ w) words) (flat_map (λ w. 32 ∷ w) others) ∙ ap (λ (bytes : List ℕ). first ++ bytes) (sym (flat_map-append (λ w. 32 ∷ w) words others)))
     ∙ line-by-word first (words ++ others)
 

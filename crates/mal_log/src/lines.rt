@@ -5,7 +5,7 @@ ghost use Rattle.std.specs.Io.KnownBytes.{Appends};
 ghost use Rattle.spec_text.specs.Lines.{line_of};
 ghost use Rattle.spec_text.specs.Numbers.{decimal_word};
 ghost use Rattle.mal_history.specs.Shared.{shared};
-ghost use Rattle.mal_history.specs.Text.{share_words, event_words, header_words, history_text};
+ghost use Rattle.mal_history.specs.Text.{place_words, share_words, event_words, header_words, history_text};
 ghost use Rattle.mal_history.specs.declared.event.Event.TheVariants.{Open, Revise};
 ghost use Rattle.mal_io.specs.Moves.{Rose, GotFront};
 ghost use Rattle.mal_log.specs.Pieces.{Puts};
@@ -162,7 +162,7 @@ fn put_share<K: Sink>(out: &mut Pieces, sink: &mut K, share: &Share)
 /// Puts the line of a start of a node on a worker, or of its end: the word `first`, the words of the node and its worker,
 /// and the words `others`.
 fn put_node<K: Sink>(out: &mut Pieces, sink: &mut K, first: &[u8], place: Place, others: &[&[u8]])
-    ensures { Puts K.got K.faults sink.old sink.new out.old out.new (line_of (first.now ∷ place.tenant ∷ place.job ∷ decimal_word place.index ∷ decimal_word place.worker ∷ map (λ w. w.now) others.now)) }
+    ensures { Puts K.got K.faults sink.old sink.new out.old out.new (line_of (first.now ∷ (place_words place ++ map (λ w. w.now) others.now))) }
 {
     out.put(sink, first);
     put_place(out, sink, place);
@@ -172,7 +172,7 @@ fn put_node<K: Sink>(out: &mut Pieces, sink: &mut K, first: &[u8], place: Place,
 
 /// Puts the words of a node and its worker, each behind a space.
 fn put_place<K: Sink>(out: &mut Pieces, sink: &mut K, place: Place)
-    ensures { Puts K.got K.faults sink.old sink.new out.old out.new (flat_map (λ w. 32 ∷ w) (place.tenant ∷ place.job ∷ decimal_word place.index ∷ decimal_word place.worker ∷ [])) }
+    ensures { Puts K.got K.faults sink.old sink.new out.old out.new (flat_map (λ w. 32 ∷ w) (place_words place)) }
 {
     let mut at = Buffer::new();
     let mut by = Buffer::new();
