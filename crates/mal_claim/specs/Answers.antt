@@ -2,10 +2,6 @@
 use Rattle.std.specs.Prelude.{◌≡◌, ℕ, List, ◌++◌, Result, Ok, Err}
 use Rattle.mal_lrat.specs.declared.fault.LineFault.{LineFault}
 use Rattle.mal_lrat.specs.declared.fault.LineFault.TheVariants as answer
-use Rattle.mal_check.specs.declared.fault.CheckFault.{CheckFault}
-use Rattle.mal_check.specs.declared.fault.CheckFault.TheVariants as fault
-use Rattle.spec_logic.specs.Refutation.{Refusal}
-use Rattle.spec_logic.specs.Refutation.Refusal.{IdUsed, UnknownHint, HintNotUnit, NoContradiction}
 use Rattle.spec_lrat.specs.Reading.{Fault}
 use Rattle.spec_lrat.specs.Reading.Fault.{BadNumber, MissingZero, IdNotRising, NegativeHint}
 use Rattle.spec_check.specs.Proofs.{Numbered, Read}

@@ -75,12 +75,7 @@ fn opposite_line(alloc: Global, at: Place, var: u32) -> Result<Vec<u8>, AllocErr
 }
 
 /// The line that tells that a tenant has a job of this name.
-fn duplicate_line(
-    alloc: Global,
-    at: Place,
-    tenant: Name,
-    job: Name,
-) -> Result<Vec<u8>, AllocError>
+fn duplicate_line(alloc: Global, at: Place, tenant: Name, job: Name) -> Result<Vec<u8>, AllocError>
     ensures { IfOk result (λ text. text.items ≡ part_line at.entry.part.now at.entry.line (codes "Duplicate" ∷ tenant ∷ job ∷ [])) }
 {
     let words = [b"Duplicate".as_slice(), tenant.as_bytes(), job.as_bytes()];

@@ -1,5 +1,5 @@
 -- What is found in the words is what they mean.
-use Rattle.std.proofs.Common.{◌≡◌, ◌⊎◌, ℕ, ◌<◌, ◌≤◌, ◌^◌, true, List, [], ◌∷◌, codes, inl, inr, refl, sym, ap, ap₂, ◌∙◌, subst, arith}
+use Rattle.std.proofs.Common.{◌≡◌, ℕ, ◌<◌, ◌≤◌, ◌^◌, true, List, [], codes, inl, inr, refl, sym, ap, ap₂, ◌∙◌, subst, arith}
 use Rattle.std.specs.Prelude.{Option, Some, None, IfSome}
 use Rattle.std.specs.List.{slice_index}
 use Rattle.std.proofs.lemmas.Fmt.{decimal_injective}
@@ -11,7 +11,7 @@ use Rattle.clap.specs.declared.error.kind.ErrorKind.TheVariants as kind
 use Rattle.mal_words.specs.CommandLine.{mal_app, refusals, subcommand}
 use Rattle.mal_words.specs.Found.{IsAsked, IsAskedIn, IsMeaning, IsNumberOf}
 use Rattle.mal_words.specs.Laws.{OneMeaning}
-use Rattle.mal_words.specs.Requests.{Asks, IsNumber, IsRequest, Means, MeansNothing}
+use Rattle.mal_words.specs.Requests.{Asks, IsNumber, IsRequest, MeansNothing}
 use Rattle.mal_words.specs.declared.request.Request.{Request}
 use Rattle.mal_words.specs.declared.request.Request.TheVariants.{Run, Check, Replay, Generate, RunGenerated}
 

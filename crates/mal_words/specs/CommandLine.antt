@@ -1,5 +1,5 @@
 -- The program's command line, as clap takes it: four subcommands, their options, and nothing else.
-use Rattle.std.specs.Prelude.{ℕ, Bool, true, false, List, codes, Option, Some}
+use Rattle.std.specs.Prelude.{Bool, true, false, List, codes, Option, Some}
 use Rattle.clap.specs.Faults.{fault_of}
 use Rattle.clap.specs.Kinds.{Kinds}
 use Rattle.clap.specs.Simple.{App, new_app, new_rule, on_top, with_rule, with_subcommand, subcommand_of}

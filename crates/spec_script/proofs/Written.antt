@@ -1,14 +1,13 @@
 -- The lines of the text that a script is written as: they are clean, each of them counts, and they are those of parts.
-use Rattle.std.proofs.Common.{◌≡◌, ℕ, ◌≤◌, Bool, true, false, cond, not, ◌&&◌, ◌||◌, ◌==◌, nat_lt, nat_le, List, [], ◌∷◌, ◌++◌, map, flat_map, length, codes, Option, refl, sym, ap, ap₂, ◌∙◌, subst, arith}
+use Rattle.std.proofs.Common.{◌≡◌, ℕ, ◌≤◌, true, false, not, List, [], ◌∷◌, ◌++◌, map, flat_map, length, codes, Option, refl, sym, ap, ap₂, ◌∙◌, subst, arith}
 use Rattle.std.specs.List.{list_all, AllByRecursion}
-use Rattle.std.proofs.lemmas.Bool.{ltb-true, leb-true}
-use Rattle.std.proofs.lemmas.Bool.Decides.{nat_tests}
+use Rattle.std.proofs.lemmas.Bool.{leb-true}
 use Rattle.mal_base.specs.Formulas.{is_within, is_clause_of, is_within_limits, is_formula}
-use Rattle.mal_base.specs.Names.{is_name, is_name_byte}
+use Rattle.mal_base.specs.Names.{is_name}
 use Rattle.mal_base.proofs.Sorting.{and-left, and-right, and-both}
 use Rattle.mal_revision.specs.Posted.{Posted, is_posted}
 use Rattle.spec_text.specs.Asks.{profile_words}
-use Rattle.spec_text.specs.Lines.{text_of, IsClean, AreClean, IsRow, AreRows}
+use Rattle.spec_text.specs.Lines.{text_of, IsRow, AreRows}
 use Rattle.spec_text.specs.Numbers.{decimal_word, literal_word, number_of}
 use Rattle.spec_text.proofs.Clean.{decimals_are_clean}
 use Rattle.spec_text.proofs.Names.{name-clean, profile-clean}

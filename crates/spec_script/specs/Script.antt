@@ -3,7 +3,6 @@ use Rattle.mal_base.specs.Asks.{Terms}
 use Rattle.mal_revision.specs.Posted.{Posted}
 use Rattle.spec_text.specs.Asks.{ask_words}
 use Rattle.spec_text.specs.Lines.{text_of}
-use Rattle.spec_text.specs.Numbers.{decimal_word}
 use Rattle.spec_dimacs.specs.Written.{closed_words, clause_words, header_words}
 
 -- a job of a script: its tenant, its name, its ask and its revisions

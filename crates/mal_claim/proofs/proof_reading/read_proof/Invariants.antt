@@ -1,4 +1,4 @@
-use Rattle.std.proofs.Common.{◌≡◌, ◌≤◌, ◌+◌, ℕ, map, length}
+use Rattle.std.proofs.Common.{◌≡◌, ◌≤◌, ◌+◌, map, length}
 use Rattle.spec_text.specs.Inputs.{lines_of, words_of}
 use Rattle.spec_check.specs.Proofs.{lines_from}
 use Rattle.mal_claim.specs.Views.{views}

@@ -1,5 +1,4 @@
 use Rattle.std.proofs.Common.{◌∙◌}
-use Rattle.std.proofs.lemmas.Result.{IfOk-weaker}
 use Rattle.spec_gen.proofs.FormedLemmas.{clause-value, after-three}
 use Rattle.mal_script.proofs.generating.clause.Goals as goal
 

@@ -1,7 +1,7 @@
 use Rattle.std.proofs.Common.{◌≡◌, ◌∙◌, ap, ap₂}
 use Rattle.std.proofs.lemmas.Result.{IfOk-weaker}
 use Rattle.clap.specs.Words.{App, app_of, with_subcommand}
-use Rattle.mal_words.specs.CommandLine.{bare_mal, run_app, check_app, replay_app, mal_app}
+use Rattle.mal_words.specs.CommandLine.{bare_mal, run_app, check_app, replay_app}
 use Rattle.mal_words.proofs.command.command.Goals as goal
 
 pub returns : goal.returns

@@ -1,4 +1,4 @@
-use Rattle.std.proofs.Common.{◌≡◌, ◌∙◌, sym}
+use Rattle.std.proofs.Common.{◌∙◌}
 use Rattle.clap.specs.Words.{app_of}
 use Rattle.mal_words.proofs.Meanings.{found-of, means-request, refused-of}
 use Rattle.mal_words.proofs.reading.request_of.Goals as goal
