@@ -1,6 +1,6 @@
 //! What a job asks for.
 
-ghost use Rattle.std.specs.Prelude.{◌≡◌, ℕ, ◌≤◌, ◌↔◌, ℤ, pos, IsSome, IfSome};
+ghost use Rattle.std.specs.Prelude.{◌≡◌, ◌≤◌, ◌↔◌, pos, IsSome, IfSome};
 ghost use Rattle.mal_base.specs.Asks.{InRange, IsAsk, IsProfile};
 
 use std::marker::Model;

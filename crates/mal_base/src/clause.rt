@@ -1,7 +1,7 @@
 //! Clauses.
 
-ghost use Rattle.std.specs.Prelude.{◌≡◌, ◌≢◌, ℕ, ◌<◌, ◌≤◌, ◌↔◌, List, true, length, IsTrue, IfOk, MatchOption};
-ghost use Rattle.mal_base.specs.Clauses.{rises, is_below, IsTautology, HaveSame};
+ghost use Rattle.std.specs.Prelude.{◌≡◌, ◌≢◌, ℕ, ◌<◌, List, true, IfOk, MatchOption};
+ghost use Rattle.mal_base.specs.Clauses.{rises, IsTautology, HaveSame};
 
 use crate::literal::Lit;
 use smallvec::SmallVec;

@@ -1,6 +1,6 @@
 //! Formulas in conjunctive normal form.
 
-ghost use Rattle.std.specs.Prelude.{◌≡◌, ◌≢◌, ◌<◌, ◌≤◌, true, nat_le, length, IfSome, MatchOption};
+ghost use Rattle.std.specs.Prelude.{◌≡◌, ◌≢◌, ◌<◌, ◌≤◌, true, nat_le, IfSome, MatchOption};
 ghost use Rattle.std.specs.List.{list_all};
 ghost use Rattle.mal_base.specs.Formulas.{is_formula, is_within, is_clause_of, is_within_limits, size_of, literals_of};
 

@@ -1,6 +1,6 @@
 //! Variables and literals, as DIMACS CNF numbers them.
 
-ghost use Rattle.std.specs.Prelude.{◌≡◌, ◌≢◌, ℕ, ◌+◌, ◌-◌, ◌*◌, ◌/◌, ◌%◌, ◌<◌, ◌≤◌, ◌↔◌, ◌==◌, true, if◌then◌else◌, IfOk, IsSome, IfSome, pos, int_lt, nat_abs};
+ghost use Rattle.std.specs.Prelude.{◌≡◌, ℕ, ◌+◌, ◌-◌, ◌*◌, ◌/◌, ◌%◌, ◌<◌, ◌≤◌, ◌↔◌, ◌==◌, true, IfOk, IsSome, IfSome, pos, int_lt, nat_abs};
 ghost use Rattle.mal_base.specs.Literals.{var_of, dimacs_of, negated, literal, has_plus, IsLiteral};
 ghost use Rattle.mal_base.specs.Clauses.{climbs, HaveSame};
 

@@ -1,6 +1,6 @@
 //! Buffers, merging and cutting.
 
-ghost use Rattle.std.specs.Prelude.{◌≡◌, ℕ, ◌+◌, ◌-◌, ◌<◌, ◌≤◌, List, [], ◌∷◌, ◌++◌, length, take, IfOk, OnOk};
+ghost use Rattle.std.specs.Prelude.{◌≡◌, ◌+◌, ◌-◌, ◌<◌, ◌≤◌, List, [], ◌∷◌, ◌++◌, length, take, IfOk, OnOk};
 ghost use Rattle.spec_exchange.specs.Exchange.{union, front, lesser, merged};
 ghost use Rattle.spec_exchange.specs.Order.{IsSorted};
 

@@ -1,6 +1,6 @@
 //! The clauses of an engine as an image has them, and an engine of an image's clauses.
 
-ghost use Rattle.std.specs.Prelude.{◌≡◌, ◌≤◌, true, List, [], IfOk};
+ghost use Rattle.std.specs.Prelude.{◌≡◌, ◌≤◌, true, IfOk};
 ghost use Rattle.mal_base.specs.Clauses.{rises};
 ghost use Rattle.mal_freeze.specs.Imaged.{are_clauses, numbers_rise};
 ghost use Rattle.mal_cdcl.specs.Rising.{all_rise};

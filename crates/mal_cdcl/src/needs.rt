@@ -1,6 +1,6 @@
 //! What room loads and the slice after them need.
 
-ghost use Rattle.std.specs.Prelude.{◌≡◌, ℕ, ◌+◌, ◌-◌, ◌≤◌, length, List, IfOk, OnOk, vec_len, vec_capacity};
+ghost use Rattle.std.specs.Prelude.{◌≡◌, ℕ, ◌+◌, ◌-◌, ◌≤◌, List, IfOk, OnOk, vec_len, vec_capacity};
 ghost use Rattle.mal_base.specs.declared.trail_entry.TrailEntry.{TrailEntry};
 ghost use Rattle.mal_trail.specs.Rooms.{HasRoom};
 ghost use Rattle.spec_search.specs.Slice.{most_numbers};

@@ -18,7 +18,7 @@ ghost use Rattle.spec_learn.specs.Learning.{analysis, derived_id, learned};
 ghost use Rattle.spec_learn.specs.Refuting.{refuted};
 ghost use Rattle.spec_search.specs.Step.{step, restarting, branching, case_of, after_case};
 ghost use Rattle.spec_search.specs.Dropping.{dropped};
-ghost use Rattle.spec_search.specs.Step.Case.{Contradicts, Decides, Restarts};
+ghost use Rattle.spec_search.specs.Step.Case.{Decides, Restarts};
 ghost use Rattle.spec_search.specs.Slice.{slice, numbers_of, most_numbers};
 ghost use Rattle.mal_cdcl.specs.Ready.{posted, readied, greatest, clauses_in, AreNew, HasRoomFor, IsSpared};
 ghost use Rattle.mal_cdcl.specs.Sliced.{HasSliceRoom, HasStepRoom, HasIdRoom, HasLowCounts, MayCount, Keeps, IsShown, IsEnded, IsStepped, IsSearched, IsFailing, HasClauseRoom, HasLineRoom, IsLineLess};

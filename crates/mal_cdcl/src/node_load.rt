@@ -1,17 +1,17 @@
 //! What a node makes of a revision: its phases, clauses and assumptions. Room was made before.
 
-ghost use Rattle.std.specs.Prelude.{◌≡◌, ℕ, ◌+◌, ◌-◌, ◌*◌, ◌/◌, ◌^◌, ◌≤◌, ◌<◌, true, All, Bool, List, [], ◌∷◌, ◌++◌, length, replicate, slice_set, vec_len, vec_capacity};
+ghost use Rattle.std.specs.Prelude.{◌≡◌, ◌+◌, ◌-◌, ◌*◌, ◌/◌, ◌^◌, ◌≤◌, ◌<◌, true, All, ◌++◌, length, replicate, slice_set, vec_len, vec_capacity};
 ghost use Rattle.std.specs.List.{list_all};
 ghost use Rattle.mal_base.specs.Formulas.{is_clause_of, literals_of};
 ghost use Rattle.mal_base.specs.NumberedClause.{NumberedClause};
 ghost use Rattle.mal_base.specs.Literals.{var_of, has_plus};
 ghost use Rattle.spec_node.specs.Cut.{saved};
-ghost use Rattle.spec_node.specs.Load.{counted, numbered, new_order, with_originals};
+ghost use Rattle.spec_node.specs.Load.{numbered, with_originals};
 ghost use Rattle.spec_node.specs.Sound.{NumbersRise};
 ghost use Rattle.spec_node.specs.Import.{with_clauses, serial_above};
 ghost use Rattle.mal_cdcl.specs.ImportSizes.{lits_in};
 ghost use Rattle.mal_cdcl.specs.Importing.{AreNewTo};
-ghost use Rattle.mal_trail.specs.Rooms.{HasRoom, IsLeft};
+ghost use Rattle.mal_trail.specs.Rooms.{IsLeft};
 
 use mal_base::{Clause, ClauseId, Lit, NumberedClause, TrailEntry, Var};
 use mal_trail::{Engine, Trail};

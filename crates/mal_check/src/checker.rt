@@ -1,12 +1,12 @@
 //! The checker.
 
-ghost use Rattle.std.specs.Prelude.{◌≡◌, ◌∷◌, ◌++◌, ◌==◌, [], map, IsTrue, IfOk, OnOk, OnErr, All};
+ghost use Rattle.std.specs.Prelude.{◌≡◌, ◌∷◌, ◌++◌, [], map, IsTrue, IfOk, OnOk, OnErr, All};
 ghost use Rattle.std.specs.List.{list_any};
 ghost use Rattle.mal_base.specs.Literals.{negated};
 ghost use Rattle.mal_lrat.specs.LineView.{seen};
 ghost use Rattle.spec_logic.specs.Logic.{Entails, IsUnsatisfiable};
 ghost use Rattle.spec_logic.specs.Derivation.{propagation, derivation};
-ghost use Rattle.spec_logic.specs.Refutation.{ProofLine, numbered, with_clause, without, after_line, added_in, refusal, contradicts};
+ghost use Rattle.spec_logic.specs.Refutation.{numbered, with_clause, after_line, added_in, refusal, contradicts};
 ghost use Rattle.spec_logic.specs.Refutation.ProofLine.{Add, Delete};
 ghost use Rattle.mal_check.specs.Checked.{held, IsSound};
 ghost use Rattle.mal_check.specs.Places.{no_places};

@@ -1,8 +1,8 @@
 //! What a hint does.
 
-ghost use Rattle.std.specs.Prelude.{◌≡◌, not, Some};
+ghost use Rattle.std.specs.Prelude.{◌≡◌, Some};
 ghost use Rattle.std.specs.List.{list_any};
-ghost use Rattle.spec_logic.specs.Derivation.{is_true, is_false, left_of, effect_of, effect_of_lits, effect_of_left};
+ghost use Rattle.spec_logic.specs.Derivation.{is_true, left_of, effect_of, effect_of_lits, effect_of_left};
 ghost use Rattle.mal_check.specs.CheckAnswers.{effect_seen};
 
 use crate::trues::Trues;

@@ -1,8 +1,6 @@
 //! The literals that are true so far.
 
-ghost use Rattle.std.specs.Prelude.{◌≡◌, ℕ, ◌==◌, ◌∷◌, ◌++◌, [], true, false, List, Bool, slice_index_or, length, map, OnOk, OnErr};
-ghost use Rattle.std.specs.List.{list_any};
-ghost use Rattle.mal_base.specs.Literals.{negated};
+ghost use Rattle.std.specs.Prelude.{◌≡◌, ℕ, ◌∷◌, ◌++◌, [], true, false, List, slice_index_or, OnOk, OnErr};
 ghost use Rattle.spec_logic.specs.Derivation.{is_true, is_false};
 
 use mal_base::Lit;

@@ -1,13 +1,12 @@
 //! A reader of one block: a header and the lines of clauses behind it.
 
-ghost use Rattle.std.specs.Prelude.{◌≡◌, ◌≤◌, ◌∷◌, ◌++◌, [], true, nat_abs, Ok, ℤ};
-ghost use Rattle.std.specs.List.{list_all};
-ghost use Rattle.mal_base.specs.Formulas.{is_clause_of, is_within, size_of};
+ghost use Rattle.std.specs.Prelude.{◌≡◌, ◌≤◌, ◌∷◌, ◌++◌, [], true, nat_abs, Ok};
+ghost use Rattle.mal_base.specs.Formulas.{is_clause_of, size_of};
 ghost use Rattle.spec_text.specs.Inputs.{words_of};
 ghost use Rattle.spec_text.specs.Numbers.{number_in};
 ghost use Rattle.spec_dimacs.specs.Merged.{clause_of};
 ghost use Rattle.spec_dimacs.specs.Blocks.{IsBlock};
-ghost use Rattle.spec_dimacs.specs.Reading.{Block, after_counted, after_number, after_percent, after_row, after_words, after_zero, block_of, closed, code_of, ended, opened};
+ghost use Rattle.spec_dimacs.specs.Reading.{Block, after_counted, after_number, after_percent, after_row, after_words, after_zero, closed, code_of, ended, opened};
 ghost use Rattle.mal_dimacs.specs.Reads.{Gives, Leaves};
 ghost use Rattle.mal_base.specs.declared.stage.Stage.TheVariants as stage;
 

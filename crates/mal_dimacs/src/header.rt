@@ -1,10 +1,10 @@
 //! The header of a block.
 
-ghost use Rattle.std.specs.Prelude.{◌≡◌, ◌∷◌, [], List, ℕ, Err, MatchOption, MatchResult};
+ghost use Rattle.std.specs.Prelude.{◌≡◌, ◌∷◌, [], List, ℕ, Err, MatchOption};
 ghost use Rattle.spec_text.specs.Inputs.{words_of};
 ghost use Rattle.spec_text.specs.Numbers.{magnitude_in};
 ghost use Rattle.mal_text.specs.Numbers.{magnitude_word_of};
-ghost use Rattle.spec_dimacs.specs.Reading.{opened, opened_with, within_limits};
+ghost use Rattle.spec_dimacs.specs.Reading.{opened, opened_with};
 ghost use Rattle.mal_dimacs.specs.Counts.{opens_with};
 ghost use Rattle.mal_base.specs.declared.block_fault.BlockFault.TheVariants.{BadHeader};
 

@@ -1,6 +1,6 @@
 //! Reading the fields of an image from front to back. `total` is the length of the whole text.
 
-ghost use Rattle.std.specs.Prelude.{◌≡◌, ℕ, ◌≤◌, ◌+◌, ◌-◌, ◌*◌, ◌<◌, ◌^◌, List, Result, length, IfOk};
+ghost use Rattle.std.specs.Prelude.{◌≡◌, ℕ, ◌≤◌, ◌+◌, ◌-◌, ◌*◌, ◌<◌, List, Result, length, IfOk};
 ghost use Rattle.std.specs.Int.{w32, w64};
 ghost use Rattle.mal_freeze.specs.declared.fault.ThawFault.{ThawFault};
 ghost use Rattle.mal_freeze.specs.declared.fault.ThawFault.TheVariants.{BadField};

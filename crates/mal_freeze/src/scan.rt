@@ -1,6 +1,6 @@
 //! What the parts of an image are tested for.
 
-ghost use Rattle.std.specs.Prelude.{◌≡◌, ℕ, ◌≤◌, [], true, false, IfOk, MatchOption};
+ghost use Rattle.std.specs.Prelude.{◌≡◌, ◌≤◌, [], true, false, IfOk, MatchOption};
 ghost use Rattle.mal_base.specs.Formulas.{is_within};
 ghost use Rattle.mal_freeze.specs.Imaged.{are_new, is_order, may_follow, all_follow, are_literals, are_clauses, numbers_rise};
 ghost use Rattle.mal_freeze.specs.Trailing.{IsTrailOf};

@@ -10,7 +10,7 @@ ghost use Rattle.mal_history.specs.Grammar.{Spells};
 ghost use Rattle.mal_history.specs.Formed.{IsHistory};
 ghost use Rattle.mal_history.specs.Laws.{IsFormed};
 ghost use Rattle.mal_history.specs.Text.{history_text};
-ghost use Rattle.mal_history.specs.ReadResult.{Fails, FailsAt, GivesAt, IsOnLine, Puts, seen};
+ghost use Rattle.mal_history.specs.ReadResult.{GivesAt, IsOnLine, Puts, seen};
 
 use crate::fault::{EventFault, HistoryFault};
 use crate::history::History;

@@ -1,6 +1,6 @@
 //! Chunks of a log.
 
-ghost use Rattle.std.specs.Prelude.{◌≡◌, ℕ, ◌+◌, ◌-◌, ◌<◌, ◌≤◌, length, slice_index_or};
+ghost use Rattle.std.specs.Prelude.{◌≡◌, ℕ, ◌-◌, ◌<◌, ◌≤◌, length, slice_index_or};
 ghost use Rattle.mal_proof.specs.Logged.{AreCounted, HasPlace};
 
 use mal_base::Lines;

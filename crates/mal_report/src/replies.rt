@@ -4,7 +4,7 @@ ghost use Rattle.std.specs.Prelude.{◌≡◌, ◌<◌, ◌≤◌, [], ◌∷◌
 ghost use Rattle.mal_base.specs.NumberedClause.{Line};
 ghost use Rattle.mal_base.specs.Literals.{literal};
 ghost use Rattle.spec_text.specs.Lines.{line_of, text_of};
-ghost use Rattle.spec_text.specs.Numbers.{decimal_word, literal_word};
+ghost use Rattle.spec_text.specs.Numbers.{literal_word};
 ghost use Rattle.spec_report.specs.Replies.{Model, Proof, head_words, model_words, proof_row, reply_text};
 ghost use Rattle.mal_report.specs.Causes.{told_of, cause_words};
 

@@ -1,6 +1,6 @@
 //! What a revision's parts are tested for.
 
-ghost use Rattle.std.specs.Prelude.{◌≡◌, ◌<◌, ◌≤◌, true, Some, None, IfSome, IfOk, IfErr, MatchOption};
+ghost use Rattle.std.specs.Prelude.{◌≡◌, ◌<◌, true, Some, None, IfOk, IfErr};
 ghost use Rattle.std.specs.List.{list_all};
 ghost use Rattle.mal_base.specs.Clauses.{clash};
 ghost use Rattle.mal_base.specs.Formulas.{is_within, is_clause_of, literals_of};

@@ -1,6 +1,5 @@
 //! The engine.
 
-ghost use Rattle.std.specs.Prelude.{◌≡◌};
 
 use crate::batch;
 use mal_base::{Clause, ClauseId, ClauseView, Lit};

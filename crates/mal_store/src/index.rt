@@ -1,6 +1,6 @@
 //! The way from a number to a clause.
 
-ghost use Rattle.std.specs.Prelude.{◌≡◌, ℕ, ◌+◌, ◌↔◌, ◌≤◌, ◌<◌, true, List, [], length, map, filter, slice_get, slice_index_or, Some, None, OnOk, MatchOption, vec_len, vec_capacity};
+ghost use Rattle.std.specs.Prelude.{◌≡◌, ℕ, ◌+◌, ◌↔◌, ◌≤◌, ◌<◌, true, [], length, map, filter, slice_get, slice_index_or, Some, None, OnOk, MatchOption, vec_len, vec_capacity};
 ghost use Rattle.std.specs.List.Sorted.{IsNonDecreasing};
 ghost use Rattle.mal_store.specs.declared.entry.Entry.{Entry};
 ghost use Rattle.mal_store.specs.Indexed.{EntriesRise, entry_under, with_entry, is_kept, moved, settled};

@@ -1,6 +1,6 @@
 //! What came of a lease.
 
-ghost use Rattle.std.specs.Prelude.{◌≡◌, ◌≤◌, true, false, [], None, length, vec_capacity};
+ghost use Rattle.std.specs.Prelude.{◌≡◌, ◌≤◌, [], None, vec_capacity};
 ghost use Rattle.mal_base.specs.declared.verdict.Outcome.TheVariants.{Ran, Starved};
 ghost use Rattle.spec_job.specs.Journaled.{replayed, node_of};
 ghost use Rattle.mal_suspend.specs.Kept.{journal_of, is_gone};

@@ -1,5 +1,4 @@
 //! Reading numbers.
-ghost use Rattle.std.specs.Prelude.{◌≡◌, ◌<◌, ◌^◌};
 
 use thiserror::Error;
 

@@ -1,6 +1,6 @@
 //! The trail: the literals that are true, in the order in which they became so.
 
-ghost use Rattle.std.specs.Prelude.{vec_capacity, ◌≡◌, ℕ, ◌+◌, ◌-◌, ◌≤◌, ◌<◌, false, List, [], ◌∷◌, ◌++◌, length, slice_index, take, map, min, true, is_some, Some, None, OnOk, IfOk, IfSome};
+ghost use Rattle.std.specs.Prelude.{vec_capacity, ◌≡◌, ℕ, ◌+◌, ◌-◌, ◌≤◌, ◌<◌, false, [], ◌∷◌, ◌++◌, length, take, map, min, true, Some, None, OnOk};
 ghost use Rattle.mal_base.specs.Literals.{var_of, literal};
 ghost use Rattle.mal_base.specs.Trails.{value_on};
 ghost use Rattle.spec_node.specs.Load.{counted};

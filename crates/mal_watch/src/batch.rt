@@ -1,6 +1,6 @@
 //! Handling the clauses of a batch on the trail.
 
-ghost use Rattle.std.specs.Prelude.{◌≡◌, ℕ, ◌≤◌, true, List, length, take, None, All};
+ghost use Rattle.std.specs.Prelude.{◌≡◌, ℕ, ◌≤◌, true, length, take, None, All};
 ghost use Rattle.mal_base.specs.Literals.{var_of};
 ghost use Rattle.spec_node.specs.Batch.{after_batch};
 ghost use Rattle.mal_trail.specs.Rooms.{are_within};

@@ -1,6 +1,6 @@
 //! Which two literals of a clause are watched.
 
-ghost use Rattle.std.specs.Prelude.{◌≡◌, ◌≢◌, ℕ, ◌≤◌, ◌<◌, true, List, [], ◌∷◌, ◌++◌, length, take};
+ghost use Rattle.std.specs.Prelude.{◌≡◌, ◌≢◌, ℕ, ◌≤◌, ◌<◌, true, List, [], ◌∷◌, ◌++◌, length};
 ghost use Rattle.mal_base.specs.Clauses.{rises};
 ghost use Rattle.mal_base.specs.declared.trail_entry.TrailEntry.{TrailEntry};
 ghost use Rattle.mal_watch.specs.WatchLists.{Has};

@@ -1,6 +1,6 @@
 //! The engine.
 
-ghost use Rattle.std.specs.Prelude.{◌≡◌, ℕ, ◌+◌, ◌≤◌, true, length, take, None, vec_capacity};
+ghost use Rattle.std.specs.Prelude.{◌≡◌, ◌+◌, ◌≤◌, true, length, take, None, vec_capacity};
 ghost use Rattle.mal_base.specs.Clauses.{rises};
 ghost use Rattle.mal_base.specs.NumberedClause.{lits_under};
 ghost use Rattle.spec_node.specs.Adding.{with_clause};

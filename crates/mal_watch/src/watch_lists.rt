@@ -1,6 +1,6 @@
 //! Lists of nodes, linked in place: a node moves from one list to another without memory.
 
-ghost use Rattle.std.specs.Prelude.{◌≡◌, ℕ, ◌+◌, ◌≤◌, ◌<◌, List, [], ◌∷◌, ◌++◌, length, drop, replicate, slice_index, slice_set, None, OnOk, IfSome, MatchOption, ◌↔◌, vec_len, vec_capacity};
+ghost use Rattle.std.specs.Prelude.{◌≡◌, ℕ, ◌+◌, ◌≤◌, ◌<◌, [], ◌∷◌, ◌++◌, length, drop, replicate, slice_index, slice_set, None, OnOk, MatchOption, ◌↔◌, vec_len, vec_capacity};
 ghost use Rattle.std.specs.List.Sorted.{IsNonDecreasing};
 ghost use Rattle.mal_watch.specs.Leaving.{pairs_left};
 ghost use Rattle.mal_watch.specs.Nodes.{links_of, keys_of};

@@ -3,8 +3,7 @@
 
 ghost use Rattle.std.specs.Prelude.{◌≡◌, false, IfOk};
 ghost use Rattle.clap.specs.Words.{app_of, rule_of};
-ghost use Rattle.clap.specs.declared.builder.command.Command.TheViews.{out-Command as fields_of};
-ghost use Rattle.mal_words.specs.CommandLine.{bare_app, bare_mal, check_app, gen_app, mal_app, option_rule, replay_app, run_app};
+ghost use Rattle.mal_words.specs.CommandLine.{bare_app, bare_mal, gen_app, mal_app, option_rule, run_app};
 
 use clap::{Arg, Command};
 use std::alloc::{AllocError, Global};

@@ -1,6 +1,6 @@
 //! Numbers among the words: decimal digits without a sign and without a leading zero.
 
-ghost use Rattle.std.specs.Prelude.{◌≡◌, ◌↔◌, ◌<◌, ◌^◌, Some, IsTrue, decimal};
+ghost use Rattle.std.specs.Prelude.{◌≡◌, ◌↔◌, ◌<◌, Some, IsTrue, decimal};
 ghost use Rattle.mal_words.specs.Found.{IsDecimalOf, IsNumberOf, IsWithin};
 
 use itoa::Buffer;
