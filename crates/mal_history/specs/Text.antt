@@ -3,7 +3,7 @@ use Rattle.mal_base.specs.declared.verdict.Outcome.{Outcome}
 use Rattle.mal_base.specs.declared.verdict.Outcome.TheVariants.{Ran, Starved, Lost}
 use Rattle.mal_history.specs.declared.event.Event.{Event}
 use Rattle.mal_history.specs.declared.event.Event.TheVariants.{Open, Revise, Close, Balance, Start, Finish, Exchange}
-use Rattle.mal_history.specs.declared.event.Place.{Place}
+use Rattle.mal_history.specs.declared.event.Assignment.{Assignment}
 use Rattle.mal_history.specs.declared.event.Share.{Share}
 use Rattle.spec_text.specs.Asks.{ask_words}
 use Rattle.spec_text.specs.Lines.{text_of}
@@ -20,8 +20,8 @@ abbrev pub share_words : Share → List (List ℕ)
 share_words s = s.tenant ∷ s.job ∷ decimal_word s.volume ∷ []
 
 -- the words of a node of a job and its worker
-abbrev pub place_words : Place → List (List ℕ)
-place_words p = p.tenant ∷ p.job ∷ decimal_word p.index ∷ decimal_word p.worker ∷ []
+abbrev pub assignment_words : Assignment → List (List ℕ)
+assignment_words a = a.tenant ∷ a.job ∷ decimal_word a.index ∷ decimal_word a.worker ∷ []
 
 -- the words of an event's line
 abbrev pub event_words : Event → List (List ℕ)

@@ -91,19 +91,19 @@ impl Shares {
 
 /// A node of a job's tree and a worker: what the start of a node and its end tell.
 #[derive(Clone, Copy, Debug, PartialEq, Eq)]
-pub struct Place {
+pub struct Assignment {
     pub tenant: Name,
     pub job: Name,
     pub index: u32,
     pub worker: u32,
 }
 
-impl Place {
+impl Assignment {
     /// This node of a job of a tenant, and this worker.
-    pub fn of(tenant: Name, job: Name, index: u32, worker: u32) -> Place
+    pub fn of(tenant: Name, job: Name, index: u32, worker: u32) -> Assignment
         ensures { result ≡ record { tenant = tenant; job = job; index = index; worker = worker } }
     {
-        Place {
+        Assignment {
             tenant,
             job,
             index,

@@ -11,7 +11,7 @@ mod owned;
 mod reading;
 mod writing;
 
-pub use event::{Event, Place, Share, Shares};
+pub use event::{Assignment, Event, Share, Shares};
 pub use fault::HistoryFault;
 pub use history::History;
 pub use laws::{histories_differ, reading_examples, spelled_is_read, written_is_read};

@@ -3,10 +3,10 @@
 ghost use Rattle.std.specs.Prelude.{◌≡◌, [], ◌∷◌, ◌++◌, map, flat_map, codes, IfOk, OnOk};
 ghost use Rattle.spec_text.specs.Lines.{line_of};
 ghost use Rattle.mal_history.specs.Shared.{shared};
-ghost use Rattle.mal_history.specs.Text.{outcome_word, place_words, share_words, event_words, header_words, history_text};
+ghost use Rattle.mal_history.specs.Text.{outcome_word, assignment_words, share_words, event_words, header_words, history_text};
 ghost use Rattle.mal_history.specs.declared.event.Event.TheVariants.{Open, Revise, Start, Finish};
 
-use crate::event::{Event, Place, Share};
+use crate::event::{Assignment, Event, Share};
 use crate::history::History;
 use itoa::Buffer;
 use mal_base::{Ask, Name, Outcome};
@@ -66,14 +66,18 @@ fn put_event(out: &mut Vec<u8>, event: &Event) -> Result<(), AllocError>
             job,
             index,
             worker,
-        } => put_start(out, Place::of(*tenant, *job, *index, *worker)),
+        } => put_start(out, Assignment::of(*tenant, *job, *index, *worker)),
         Event::Finish {
             tenant,
             job,
             index,
             worker,
             outcome,
-        } => put_finish(out, Place::of(*tenant, *job, *index, *worker), *outcome),
+        } => put_finish(
+            out,
+            Assignment::of(*tenant, *job, *index, *worker),
+            *outcome,
+        ),
         Event::Exchange { tenant, job } => put_line(
             out,
             b"x",
@@ -135,33 +139,33 @@ fn put_share(out: &mut Vec<u8>, share: &Share) -> Result<(), AllocError>
 }
 
 /// Writes the line of a start of a node on a worker.
-fn put_start(out: &mut Vec<u8>, place: Place) -> Result<(), AllocError>
-    ensures { OnOk result (out.new.items ≡ out.old.items ++ line_of (event_words (Start place.tenant place.job place.index place.worker))) }
+fn put_start(out: &mut Vec<u8>, assigned: Assignment) -> Result<(), AllocError>
+    ensures { OnOk result (out.new.items ≡ out.old.items ++ line_of (event_words (Start assigned.tenant assigned.job assigned.index assigned.worker))) }
 {
     out.push(b's')?;
-    put_place(out, place)?;
+    put_assignment(out, assigned)?;
     end_line(out)?;
     Ok(())
 }
 
 /// Writes the line of the end of a start.
-fn put_finish(out: &mut Vec<u8>, place: Place, outcome: Outcome) -> Result<(), AllocError>
-    ensures { OnOk result (out.new.items ≡ out.old.items ++ line_of (event_words (Finish place.tenant place.job place.index place.worker outcome))) }
+fn put_finish(out: &mut Vec<u8>, assigned: Assignment, outcome: Outcome) -> Result<(), AllocError>
+    ensures { OnOk result (out.new.items ≡ out.old.items ++ line_of (event_words (Finish assigned.tenant assigned.job assigned.index assigned.worker outcome))) }
 {
     out.push(b'f')?;
-    put_place(out, place)?;
+    put_assignment(out, assigned)?;
     put_word(out, outcome_word(outcome))?;
     end_line(out)?;
     Ok(())
 }
 
 /// Writes the words of a node and its worker, each behind a space.
-fn put_place(out: &mut Vec<u8>, place: Place) -> Result<(), AllocError>
-    ensures { OnOk result (out.new.items ≡ out.old.items ++ flat_map (λ w. 32 ∷ w) (place_words place)) }
+fn put_assignment(out: &mut Vec<u8>, assigned: Assignment) -> Result<(), AllocError>
+    ensures { OnOk result (out.new.items ≡ out.old.items ++ flat_map (λ w. 32 ∷ w) (assignment_words assigned)) }
 {
-    put_names(out, &place.tenant, &place.job)?;
-    put_decimal(out, u64::from(place.index))?;
-    put_decimal(out, u64::from(place.worker))?;
+    put_names(out, &assigned.tenant, &assigned.job)?;
+    put_decimal(out, u64::from(assigned.index))?;
+    put_decimal(out, u64::from(assigned.worker))?;
     Ok(())
 }
 

@@ -5,7 +5,7 @@ ghost use Rattle.std.specs.Io.KnownBytes.{Appends};
 ghost use Rattle.spec_text.specs.Lines.{line_of};
 ghost use Rattle.spec_text.specs.Numbers.{decimal_word};
 ghost use Rattle.mal_history.specs.Shared.{shared};
-ghost use Rattle.mal_history.specs.Text.{place_words, share_words, event_words, header_words, history_text};
+ghost use Rattle.mal_history.specs.Text.{assignment_words, share_words, event_words, header_words, history_text};
 ghost use Rattle.mal_history.specs.declared.event.Event.TheVariants.{Open, Revise};
 ghost use Rattle.mal_io.specs.Moves.{Rose, GotFront};
 ghost use Rattle.mal_log.specs.Pieces.{Puts};
@@ -13,7 +13,7 @@ ghost use Rattle.mal_log.specs.Pieces.{Puts};
 use crate::pieces::Pieces;
 use itoa::Buffer;
 use mal_base::{Ask, Name};
-use mal_history::{Event, History, Place, Share, outcome_word};
+use mal_history::{Assignment, Event, History, Share, outcome_word};
 use mal_io::{Sink, WriteFault};
 use std::sync::Arc;
 
@@ -77,7 +77,7 @@ fn put_event<K: Sink>(out: &mut Pieces, sink: &mut K, event: &Event)
             out,
             sink,
             b"s",
-            Place::of(*tenant, *job, *index, *worker),
+            Assignment::of(*tenant, *job, *index, *worker),
             &[],
         ),
         Event::Finish {
@@ -90,7 +90,7 @@ fn put_event<K: Sink>(out: &mut Pieces, sink: &mut K, event: &Event)
             out,
             sink,
             b"f",
-            Place::of(*tenant, *job, *index, *worker),
+            Assignment::of(*tenant, *job, *index, *worker),
             &[outcome_word(*outcome)],
         ),
         Event::Exchange { tenant, job } => {
@@ -161,26 +161,32 @@ fn put_share<K: Sink>(out: &mut Pieces, sink: &mut K, share: &Share)
 
 /// Puts the line of a start of a node on a worker, or of its end: the word `first`, the words of the node and its worker,
 /// and the words `others`.
-fn put_node<K: Sink>(out: &mut Pieces, sink: &mut K, first: &[u8], place: Place, others: &[&[u8]])
-    ensures { Puts K.got K.faults sink.old sink.new out.old out.new (line_of (first.now ∷ (place_words place ++ map (λ w. w.now) others.now))) }
+fn put_node<K: Sink>(
+    out: &mut Pieces,
+    sink: &mut K,
+    first: &[u8],
+    assigned: Assignment,
+    others: &[&[u8]],
+)
+    ensures { Puts K.got K.faults sink.old sink.new out.old out.new (line_of (first.now ∷ (assignment_words assigned ++ map (λ w. w.now) others.now))) }
 {
     out.put(sink, first);
-    put_place(out, sink, place);
+    put_assignment(out, sink, assigned);
     put_words(out, sink, others);
     out.put(sink, b"\n");
 }
 
 /// Puts the words of a node and its worker, each behind a space.
-fn put_place<K: Sink>(out: &mut Pieces, sink: &mut K, place: Place)
-    ensures { Puts K.got K.faults sink.old sink.new out.old out.new (flat_map (λ w. 32 ∷ w) (place_words place)) }
+fn put_assignment<K: Sink>(out: &mut Pieces, sink: &mut K, assigned: Assignment)
+    ensures { Puts K.got K.faults sink.old sink.new out.old out.new (flat_map (λ w. 32 ∷ w) (assignment_words assigned)) }
 {
     let mut at = Buffer::new();
     let mut by = Buffer::new();
     let words = [
-        place.tenant.as_bytes(),
-        place.job.as_bytes(),
-        at.format(place.index).as_bytes(),
-        by.format(place.worker).as_bytes(),
+        assigned.tenant.as_bytes(),
+        assigned.job.as_bytes(),
+        at.format(assigned.index).as_bytes(),
+        by.format(assigned.worker).as_bytes(),
     ];
     put_words(out, sink, &words)
 }
