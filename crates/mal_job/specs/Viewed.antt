@@ -24,6 +24,9 @@ pub record QuestionsView : Type 0 where
   pub spent : ℕ
   pub starved : ℕ
 
+abbrev pub questions_of : Terms → Bool → List Posted → List Answer → ℕ → ℕ → QuestionsView
+questions_of ask closed revisions answers spent starved = record { ask = ask; closed = closed; revisions = revisions; answers = answers; spent = spent; starved = starved }
+
 -- a place of a job: the journal of its node, the start that is out, how often the node was started, and how long the
 -- log was at the last exchange in which it took part
 pub record PlaceView : Type 0 where

@@ -32,28 +32,14 @@ pub struct Questions {
 
 impl Model for Questions {
     ghost use Rattle.std.specs.Prelude.{◌≤◌, length, vec_capacity};
-    ghost use Rattle.mal_job.specs.Viewed.{QuestionsView, shared};
+    ghost use Rattle.mal_job.specs.Viewed.{QuestionsView, questions_of, shared};
     ghost use Rattle.mal_job.specs.Asking.{IsAsked, AreSums};
 
     ghost Value = { QuestionsView };
 
-    ghost view = { λ q. record {
-      ask = q.ask;
-      closed = q.closed;
-      revisions = shared q.revisions.items;
-      answers = q.answers.items;
-      spent = q.spent;
-      starved = q.starved;
-    } };
+    ghost view = { λ q. questions_of q.ask q.closed (shared q.revisions.items) q.answers.items q.spent q.starved };
 
-    ghost invariant = { λ q. IsAsked (record {
-      ask = q.ask;
-      closed = q.closed;
-      revisions = shared q.revisions.items;
-      answers = q.answers.items;
-      spent = q.spent;
-      starved = q.starved;
-    }) × (length q.revisions.items ≤ vec_capacity q.answers) × AreSums (shared q.revisions.items) q.clauses q.literals };
+    ghost invariant = { λ q. IsAsked (questions_of q.ask q.closed (shared q.revisions.items) q.answers.items q.spent q.starved) × (length q.revisions.items ≤ vec_capacity q.answers) × AreSums (shared q.revisions.items) q.clauses q.literals };
 }
 
 impl Questions {
