@@ -9,10 +9,10 @@ use std::marker::Model;
 /// Contracts see the four.
 #[derive(Clone, Copy, Debug)]
 pub struct Limits {
-    tenants: usize,
-    jobs: usize,
-    jobs_of_tenant: usize,
-    revisions: usize,
+    pub tenants: usize,
+    pub jobs: usize,
+    pub jobs_of_tenant: usize,
+    pub revisions: usize,
 }
 
 impl Model for Limits {
@@ -36,33 +36,5 @@ impl Limits {
             jobs_of_tenant: 64,
             revisions: 256,
         }
-    }
-
-    /// How many tenants may be named.
-    pub fn tenants(self) -> usize
-        ensures { result ≡ self.tenants }
-    {
-        self.tenants
-    }
-
-    /// How many jobs there may be in all.
-    pub fn jobs(self) -> usize
-        ensures { result ≡ self.jobs }
-    {
-        self.jobs
-    }
-
-    /// How many jobs a tenant may have.
-    pub fn jobs_of_tenant(self) -> usize
-        ensures { result ≡ self.jobs_of_tenant }
-    {
-        self.jobs_of_tenant
-    }
-
-    /// How many revisions a job may have.
-    pub fn revisions(self) -> usize
-        ensures { result ≡ self.revisions }
-    {
-        self.revisions
     }
 }

@@ -66,7 +66,7 @@ impl OpenJob {
     pub fn after_header(self, limits: Limits, line: &[u8]) -> Result<OpenJob, LineRefusal>
         ensures { Gives (λ o. o) result (after_header limits (words_of line.now) self) }
     {
-        if self.job.revisions().len() >= limits.revisions() {
+        if self.job.revisions().len() >= limits.revisions {
             return Err(LineRefusal::Fault(LineFault::Limit {
                 which: LimitKind::Revisions,
             }));

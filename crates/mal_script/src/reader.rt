@@ -57,7 +57,7 @@ impl Reader {
             self.tenant = Some(name);
             return Ok(self);
         }
-        if self.tenants.len() >= limits.tenants() {
+        if self.tenants.len() >= limits.tenants {
             return Err(LineRefusal::Fault(LineFault::Limit {
                 which: LimitKind::Tenants,
             }));
@@ -280,7 +280,7 @@ fn jobs_of(jobs: &[ScriptJob], tenant: Name) -> usize
 fn has_room(jobs: &[ScriptJob], limits: Limits, tenant: Name) -> bool
     ensures { result ≡ has_room limits tenant jobs.now }
 {
-    jobs_of(jobs, tenant) < limits.jobs_of_tenant() && jobs.len() < limits.jobs()
+    jobs_of(jobs, tenant) < limits.jobs_of_tenant && jobs.len() < limits.jobs
 }
 
 /// The only word of a line. None exactly where the line has no word or more than one.
