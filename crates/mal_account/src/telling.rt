@@ -29,9 +29,7 @@ pub fn fault_line(alloc: Global, fault: AccountFault) -> Result<Option<Vec<u8>>,
 fn no_history(alloc: Global) -> Result<Vec<u8>, AllocError>
     ensures { IfOk result (λ text. text.items ≡ line_of (codes "fault:" ∷ codes "no" ∷ codes "history" ∷ [])) }
 {
-    let mut text = Vec::new(alloc);
-    text.extend_from_slice(b"fault: no history\n")?;
-    Ok(text)
+    Vec::from_slice(alloc, b"fault: no history\n")
 }
 
 /// The line that tells a fault of the script; none for want of memory.
