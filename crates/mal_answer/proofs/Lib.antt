@@ -1,4 +1,5 @@
 -- what crates above cite
+pub mod Complaints
 pub mod Serving
 pub mod ScriptLemmas
 -- what this crate alone cites

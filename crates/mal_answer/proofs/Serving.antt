@@ -5,7 +5,7 @@ use Rattle.std.specs.Io.KnownBytes.{Consumes, IsAtEnd}
 use Rattle.mal_answer.specs.Answers.{IsAnswer, IsAnswerTo, IsConcluded, IsUnread, logged}
 use Rattle.mal_answer.specs.Commands.{InGrammar, Meets, Gives, Refuses, Denies}
 use Rattle.mal_answer.specs.Devices.{Device, Failed, Gave, GaveTooMuch, AreSilent}
-use Rattle.mal_answer.specs.Served.{Says, IsWithin, IsMet, IsUnmet, IsOutside, HasServed, SaysMade, HasMade, HasDone}
+use Rattle.mal_answer.specs.Served.{Says, IsGiven, IsWithin, IsMet, IsUnmet, IsOutside, HasServed, SaysMade, HasMade, HasDone}
 use Rattle.mal_answer.specs.declared.answer.Complaint.{Complaint}
 use Rattle.mal_answer.specs.declared.answer.Complaint.TheVariants as complaint
 use Rattle.mal_answer.specs.declared.answer.Texts.{Texts}
@@ -36,10 +36,13 @@ unanswered r source e u = inr u
 
 pub ruleset answer_lemmas = (answered, unanswered)
 
+abbrev given-by : (r : Request) (source : Device) (text : List ℕ) (texts : Texts) → Gave source text → Gives r text (logged texts.log) texts.out.items → IsGiven r source
+given-by r source text texts gave gives = record { text = text; log_text = logged texts.log; out_text = texts.out.items; gave = gave; gives = gives }
+
 -- the status says what was done
 says : (r : Request) (source log out : Device) (answer : Result Texts Complaint) (status : ℕ) → IsAnswer r source answer → IsConcluded log out answer status → Says r source log out status
-says r source log out (Ok texts) status (inl a) (inl c) = inl (c.0, record { text = a.0; log_text = logged texts.log; out_text = texts.out.items; gave = a.1; gives = a.2; wrote = c.1 })
-says r source log out (Ok texts) status (inl a) (inr c) = inr (inr (inr (inl (c.0, record { text = a.0; log_text = logged texts.log; out_text = texts.out.items; gave = a.1; gives = a.2; wrote = c.2; failed = c.1 }))))
+says r source log out (Ok texts) status (inl a) (inl c) = inl (c.0, record { given = given-by r source a.0 texts a.1 a.2; wrote = c.1 })
+says r source log out (Ok texts) status (inl a) (inr c) = inr (inr (inr (inl (c.0, record { given = given-by r source a.0 texts a.1 a.2; wrote = c.2; failed = c.1 }))))
 says r source log out (Ok texts) status (inr a) c = absurd a
 says r source log out (Err complaint.Unread) status (inl a) c = absurd a.2
 says r source log out (Err complaint.Unread) status (inr a) c = inr (inr (inl (c.0, a, c.1)))

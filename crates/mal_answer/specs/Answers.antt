@@ -25,14 +25,22 @@ abbrev pub logged : LogText → List ℕ
 logged Empty = []
 logged (History hall) = hall_text hall
 
+-- a complaint of these: one whose line says why a text is refused or why it is denied, or that memory ran out
+abbrev pub Complains : (List ℕ → Type 0) → (List ℕ → Type 0) → Complaint → Type 0
+Complains Refused Denied complaint.Unread = ⊥
+Complains Refused Denied complaint.TooLong = ⊥
+Complains Refused Denied (complaint.Refused line) = Refused line.items
+Complains Refused Denied (complaint.Denied line) = Denied line.items
+Complains Refused Denied complaint.OutOfMemory = Unit {0}
+
+-- no line says so
+abbrev pub NoLine : List ℕ → Type 0
+NoLine line = ⊥
+
 -- a command's answer to a text: what it gives, why it gives nothing, or memory ran out
 abbrev pub IsAnswerTo : Request → List ℕ → Result Texts Complaint → Type 0
 IsAnswerTo r text (Ok texts) = Gives r text (logged texts.log) texts.out.items
-IsAnswerTo r text (Err complaint.Unread) = ⊥
-IsAnswerTo r text (Err complaint.TooLong) = ⊥
-IsAnswerTo r text (Err (complaint.Refused line)) = Refuses r text line.items
-IsAnswerTo r text (Err (complaint.Denied line)) = Denies r text line.items
-IsAnswerTo r text (Err complaint.OutOfMemory) = Unit {0}
+IsAnswerTo r text (Err complaint) = Complains (Refuses r text) (Denies r text) complaint
 
 -- why a source gave no text
 abbrev pub IsUnread : Device → Complaint → Type 0
@@ -68,25 +76,13 @@ IsConcluded log out (Err complaint.OutOfMemory) status = (status ≡ 6) × AreSi
 
 -- the complaint about a text that spells no script: the line tells its first fault, or memory ran out
 abbrev pub IsScriptRefusal : List ℕ → Complaint → Type 0
-IsScriptRefusal text complaint.Unread = ⊥
-IsScriptRefusal text complaint.TooLong = ⊥
-IsScriptRefusal text (complaint.Refused line) = Refuses (Run 1) text line.items
-IsScriptRefusal text (complaint.Denied line) = ⊥
-IsScriptRefusal text complaint.OutOfMemory = Unit {0}
+IsScriptRefusal text complaint = Complains (Refuses (Run 1) text) NoLine complaint
 
 -- the complaint tells a fault of a script, or memory ran out
 abbrev pub TellsScriptFault : ScriptFault → Complaint → Type 0
-TellsScriptFault fault complaint.Unread = ⊥
-TellsScriptFault fault complaint.TooLong = ⊥
-TellsScriptFault fault (complaint.Refused line) = Tells fault line.items
-TellsScriptFault fault (complaint.Denied line) = ⊥
-TellsScriptFault fault complaint.OutOfMemory = Unit {0}
+TellsScriptFault fault complaint = Complains (Tells fault) NoLine complaint
 
 -- the log of a run, with the summary of its replies for the output
 abbrev pub IsSummaryOf : ℕ → List ℕ → List ℕ → Result Texts Complaint → Type 0
 IsSummaryOf jobs log replies (Ok texts) = (logged texts.log ≡ log) × (texts.out.items ≡ summary_line jobs replies)
-IsSummaryOf jobs log replies (Err complaint.Unread) = ⊥
-IsSummaryOf jobs log replies (Err complaint.TooLong) = ⊥
-IsSummaryOf jobs log replies (Err (complaint.Refused line)) = ⊥
-IsSummaryOf jobs log replies (Err (complaint.Denied line)) = ⊥
-IsSummaryOf jobs log replies (Err complaint.OutOfMemory) = Unit {0}
+IsSummaryOf jobs log replies (Err complaint) = Complains NoLine NoLine complaint

@@ -5,23 +5,23 @@ use Rattle.mal_answer.specs.Devices.{Device, Failed, Gave, GaveTooMuch, AreSilen
 use Rattle.mal_words.specs.declared.request.Request.{Request}
 use Rattle.mal_words.specs.declared.request.Request.TheVariants.{Generate, RunGenerated}
 
--- status 0: the source gave an input to its end, and what the command gives for it was written whole
-pub record IsDone (r : Request) (source log out : Device) : Type 0 where
+-- the source gave an input to its end, for which the command gives these texts
+pub record IsGiven (r : Request) (source : Device) : Type 0 where
   pub text : List ℕ
   pub log_text : List ℕ
   pub out_text : List ℕ
   pub gave : Gave source text
   pub gives : Gives r text log_text out_text
-  pub wrote : WroteWhole log out log_text out_text
+
+-- status 0: the source gave an input to its end, and what the command gives for it was written whole
+pub record IsDone (r : Request) (source log out : Device) : Type 0 where
+  pub given : IsGiven r source
+  pub wrote : WroteWhole log out given.log_text given.out_text
 
 -- status 5: the same, but a sink failed, and what was written is a front of the log's text and then of the output's
 pub record IsCutShort (r : Request) (source log out : Device) : Type 0 where
-  pub text : List ℕ
-  pub log_text : List ℕ
-  pub out_text : List ℕ
-  pub gave : Gave source text
-  pub gives : Gives r text log_text out_text
-  pub wrote : WrotePart log out log_text out_text
+  pub given : IsGiven r source
+  pub wrote : WrotePart log out given.log_text given.out_text
   pub failed : Failed log ⊎ Failed out
 
 -- status 3: the source gave more bytes than the limit, or a text to its end that is refused, and the line was written

@@ -21,10 +21,8 @@ use std::alloc::{AllocError, Global};
 pub fn check_source<S: Source>(alloc: Global, source: &mut S) -> Result<Texts, Complaint>
     ensures { IsAnswer Check (device S.left S.faults source.old source.new) result }
 {
-    match input(alloc, source) {
-        Ok(text) => check_text(alloc, text.as_slice()),
-        Err(complaint) => Err(complaint),
-    }
+    let text = input(alloc, source)?;
+    check_text(alloc, text.as_slice())
 }
 
 /// Checks the proof of the claim that a text spells: nothing for the log, and the line `s VERIFIED` for the output.
@@ -65,11 +63,9 @@ fn judge(alloc: Global, claim: mal_claim::Claim) -> Result<Texts, Complaint>
 fn verified(alloc: Global) -> Result<Texts, AllocError>
     ensures { IfOk result (λ t. (logged t.log ≡ []) × (t.out.items ≡ verified_line)) }
 {
-    let mut out = Vec::new(alloc);
-    out.extend_from_slice(b"s VERIFIED\n")?;
     Ok(Texts {
         log: LogText::Empty,
-        out,
+        out: Vec::from_slice(alloc, b"s VERIFIED\n")?,
     })
 }
 
@@ -79,8 +75,7 @@ fn no_claim(alloc: Global, fault: ClaimFault) -> Complaint
 {
     match fault_line(alloc, fault) {
         Ok(Some(line)) => Complaint::Refused(line),
-        Ok(None) => Complaint::OutOfMemory,
-        Err(_) => Complaint::OutOfMemory,
+        _ => Complaint::OutOfMemory,
     }
 }
 
@@ -90,7 +85,6 @@ fn no_proof(alloc: Global, fault: VerifyFault) -> Complaint
 {
     match verdict_line(alloc, fault) {
         Ok(Some(line)) => Complaint::Denied(line),
-        Ok(None) => Complaint::OutOfMemory,
-        Err(_) => Complaint::OutOfMemory,
+        _ => Complaint::OutOfMemory,
     }
 }

@@ -32,7 +32,6 @@ fn refusal_of(alloc: Global, fault: ScriptFault) -> Complaint
 {
     match fault_line(alloc, fault) {
         Ok(Some(line)) => Complaint::Refused(line),
-        Ok(None) => Complaint::OutOfMemory,
-        Err(_) => Complaint::OutOfMemory,
+        _ => Complaint::OutOfMemory,
     }
 }
