@@ -1,13 +1,13 @@
 -- What is refused of an account is told, and each text is of one kind.
-use Rattle.std.proofs.Common.{◌≡◌, ◌⊎◌, ℕ, List, [], ◌∙◌, ap, inl, inr, refl, sym, subst, Ok, Err, Result}
+use Rattle.std.proofs.Common.{◌≡◌, ℕ, List, inl, inr, refl, subst, Ok, Err, Result}
 use Rattle.std.specs.Prelude.{Option, Some, None}
 use Rattle.mal_account.specs.declared.fault.AccountFault.{AccountFault}
 use Rattle.mal_account.specs.ReadResult.{Fails, Tells, fault_of}
 use Rattle.mal_cli.specs.Accounts.{IsReplayText, IsUnsound, TellsFault, TellsReplay}
-use Rattle.mal_answer.specs.Answers.{IsAnswerTo}
-use Rattle.mal_answer.specs.Commands.{AreReplies, InGrammar, IsSound, Meets, TellsFirst, TellsUnsound}
+use Rattle.mal_answer.specs.Answers.{IsAnswerTo, NoLine}
+use Rattle.mal_answer.specs.Commands.{IsSound, Refuses, Denies, TellsUnsound}
 use Rattle.mal_answer.specs.declared.answer.Complaint.{Complaint}
-use Rattle.mal_answer.specs.declared.answer.Complaint.TheVariants as complaint
+use Rattle.mal_answer.proofs.Complaints.{refused-as, denied-as, read-faulty, read-once}
 use Rattle.mal_history.specs.Written.{line_at}
 use Rattle.mal_words.specs.declared.request.Request.TheVariants.{Replay}
 use Rattle.spec_account.specs.Accounts.{Account, Fault, read_text}
@@ -15,39 +15,17 @@ use Rattle.spec_account.specs.Grammar.{Spells}
 use Rattle.spec_account.proofs.ReadLemmas.{spelled-is-read}
 use Rattle.mal_base.specs.declared.replay_fault.ReplayFault.{ReplayFault}
 use Rattle.mal_base.specs.declared.replay_fault.ReplayFault.TheVariants.{NotLegal, NotComplete, OutOfMemory}
-use Rattle.spec_replay.specs.Replayed.{IsReplay, IsReplied}
+use Rattle.spec_replay.specs.Replayed.{IsReplay}
 use Rattle.spec_replay.proofs.ReplayLemmas.{replay-is_decided}
 use Rattle.spec_run.specs.Run.{replies}
-use Rattle.spec_script.specs.Formed.{IsScript}
-use Rattle.spec_script.specs.Limits.{served}
 
--- a text that spells an account is read as it
-spelled-read : (text : List ℕ) (a : Account) → Spells text a → read_text text ≡ Ok a
-spelled-read text a s = (spelled-is-read text a).0 s
-
--- a text with a first fault is no account
-faulty : (text : List ℕ) (fault : Fault) → read_text text ≡ Err fault → InGrammar Replay text → ⊥
-faulty text fault e is = differ is.0 (sym (spelled-read text is.0 is.1) ∙ e)
-  where
-    differ : (a : Account) → ◌≡◌ {A = Result Account Fault} (Ok a) (Err fault) → ⊥
-    differ a h = cc
-
-told-fault : (text line : List ℕ) (o : Option Fault) → Fails o (read_text text) → Tells o line → (InGrammar Replay text → ⊥) × TellsFirst Replay text line
+-- a text with a first fault is no account, and the line tells it
+told-fault : (text line : List ℕ) (o : Option Fault) → Fails o (read_text text) → Tells o line → Refuses Replay text line
 told-fault text line None h k = absurd k
-told-fault text line (Some fault) h k = (faulty text fault h, (fault, h, k))
+told-fault text line (Some fault) h k = record { outside = λ is. read-faulty (read_text text) is.0 fault ((spelled-is-read text is.0).0 is.1) h; told = (fault, h, k) }
 
 pub account-refused : (text : List ℕ) (e : AccountFault) (c : Complaint) → Fails (fault_of e) (read_text text) → TellsFault e c → IsAnswerTo Replay text (Err c)
-account-refused text e complaint.Unread h k = k
-account-refused text e complaint.TooLong h k = k
-account-refused text e (complaint.Refused line) h k = let t = told-fault text line.items (fault_of e) h k in record { outside = t.0; told = t.1 }
-account-refused text e (complaint.Denied line) h k = absurd k
-account-refused text e complaint.OutOfMemory h k = tt
-
-one-account : (text : List ℕ) (a b : Account) → Spells text a → Spells text b → a ≡ b
-one-account text a b s t = same (sym (spelled-read text a s) ∙ spelled-read text b t)
-  where
-    same : ◌≡◌ {A = Result Account Fault} (Ok a) (Ok b) → a ≡ b
-    same h = cc
+account-refused text e c h k = refused-as (Tells (fault_of e)) (Refuses Replay text) (Denies Replay text) (λ line t. told-fault text line (fault_of e) h t) c k
 
 -- an account with a fault is not sound
 unsound : (a : Account) (fault : ReplayFault) → IsReplay a.history.workers a.script a.history.events (line_at a.history.lines) (Err fault) → (fault ≡ OutOfMemory → ⊥) → IsSound a → ⊥
@@ -72,23 +50,16 @@ told-replay a NotComplete line is t = inr (is, t)
 told-replay a OutOfMemory line is t = absurd t
 
 pub replay-denied : (a : Account) (fault : ReplayFault) (c : Complaint) → IsReplay a.history.workers a.script a.history.events (line_at a.history.lines) (Err fault) → TellsReplay fault c → IsUnsound a c
-replay-denied a fault complaint.Unread is t = t
-replay-denied a fault complaint.TooLong is t = t
-replay-denied a fault (complaint.Refused line) is t = t
-replay-denied a fault (complaint.Denied line) is t = told-replay a fault line.items is t
-replay-denied a fault complaint.OutOfMemory is t = tt
+replay-denied a fault c is t = denied-as (IsReplayText fault) NoLine (TellsUnsound a) (λ line k. told-replay a fault line is k) c t
 
 -- the complaint about an account is that about its text
+denied-line : (text line : List ℕ) (a : Account) → Spells text a → TellsUnsound a line → Denies Replay text line
+denied-line text line a s h =
+    let one = λ (b : Account) (t : Spells text b). read-once (read_text text) b a ((spelled-is-read text b).0 t) ((spelled-is-read text a).0 s) in
+    record { inside = (a, s); unmet = λ m. unsound-told a line h (subst IsSound (one m.0 m.1) m.2); told = (a, s, h) }
+
 pub denied-as-text : (text : List ℕ) (a : Account) (c : Complaint) → Spells text a → IsUnsound a c → IsAnswerTo Replay text (Err c)
-denied-as-text text a complaint.Unread s h = h
-denied-as-text text a complaint.TooLong s h = h
-denied-as-text text a (complaint.Refused line) s h = absurd h
-denied-as-text text a (complaint.Denied line) s h = record {
-  inside = (a, s);
-  unmet = λ m. unsound-told a line.items h (subst IsSound (one-account text m.0 a m.1 s) m.2);
-  told = (a, s, h);
-}
-denied-as-text text a complaint.OutOfMemory s h = tt
+denied-as-text text a c s h = denied-as (TellsUnsound a) (Refuses Replay text) (Denies Replay text) (λ line k. denied-line text line a s k) c h
 
 pub ruleset judge_lemmas = (replay-denied)
 

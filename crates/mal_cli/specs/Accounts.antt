@@ -1,10 +1,10 @@
 -- The complaints about accounts.
-use Rattle.std.specs.Prelude.{◌≡◌, ℕ, List, [], ◌∷◌, codes, Option, Some, None}
+use Rattle.std.specs.Prelude.{◌≡◌, ℕ, List, [], ◌∷◌, codes}
 use Rattle.mal_account.specs.ReadResult.{Tells, fault_of}
 use Rattle.mal_account.specs.declared.fault.AccountFault.{AccountFault}
+use Rattle.mal_answer.specs.Answers.{Complains, NoLine}
 use Rattle.mal_answer.specs.Commands.{TellsUnsound}
 use Rattle.mal_answer.specs.declared.answer.Complaint.{Complaint}
-use Rattle.mal_answer.specs.declared.answer.Complaint.TheVariants as complaint
 use Rattle.spec_account.specs.Accounts.{Account}
 use Rattle.spec_account.specs.FaultLines.{history_line}
 use Rattle.mal_base.specs.declared.replay_fault.ReplayFault.{ReplayFault}
@@ -13,11 +13,7 @@ use Rattle.spec_text.specs.Lines.{line_of}
 
 -- the complaint tells the fault of a text, or memory ran out
 abbrev pub TellsFault : AccountFault → Complaint → Type 0
-TellsFault fault complaint.Unread = ⊥
-TellsFault fault complaint.TooLong = ⊥
-TellsFault fault (complaint.Refused line) = Tells (fault_of fault) line.items
-TellsFault fault (complaint.Denied line) = ⊥
-TellsFault fault complaint.OutOfMemory = Unit {0}
+TellsFault fault complaint = Complains (Tells (fault_of fault)) NoLine complaint
 
 -- the text tells why a history is not replayed
 abbrev pub IsReplayText : ReplayFault → List ℕ → Type 0
@@ -27,16 +23,8 @@ IsReplayText OutOfMemory text = ⊥
 
 -- the complaint tells why a history is not replayed, or memory ran out
 abbrev pub TellsReplay : ReplayFault → Complaint → Type 0
-TellsReplay fault complaint.Unread = ⊥
-TellsReplay fault complaint.TooLong = ⊥
-TellsReplay fault (complaint.Refused line) = ⊥
-TellsReplay fault (complaint.Denied line) = IsReplayText fault line.items
-TellsReplay fault complaint.OutOfMemory = Unit {0}
+TellsReplay fault complaint = Complains NoLine (IsReplayText fault) complaint
 
 -- why an account has no replies
 abbrev pub IsUnsound : Account → Complaint → Type 0
-IsUnsound a complaint.Unread = ⊥
-IsUnsound a complaint.TooLong = ⊥
-IsUnsound a (complaint.Refused line) = ⊥
-IsUnsound a (complaint.Denied line) = TellsUnsound a line.items
-IsUnsound a complaint.OutOfMemory = Unit {0}
+IsUnsound a complaint = Complains NoLine (TellsUnsound a) complaint

@@ -24,10 +24,8 @@ use std::alloc::{AllocError, Global};
 pub fn replay_source<S: Source>(alloc: Global, source: &mut S) -> Result<Texts, Complaint>
     ensures { IsAnswer Replay (device S.left S.faults source.old source.new) result }
 {
-    match input(alloc, source) {
-        Ok(text) => replay_text(alloc, text.as_slice()),
-        Err(complaint) => Err(complaint),
-    }
+    let text = input(alloc, source)?;
+    replay_text(alloc, text.as_slice())
 }
 
 /// Replays the history of the account that a text spells: nothing for the log, and the replies for the output.
@@ -63,8 +61,7 @@ fn no_account(alloc: Global, fault: AccountFault) -> Complaint
 {
     match fault_line(alloc, fault) {
         Ok(Some(line)) => Complaint::Refused(line),
-        Ok(None) => Complaint::OutOfMemory,
-        Err(_) => Complaint::OutOfMemory,
+        _ => Complaint::OutOfMemory,
     }
 }
 
@@ -74,8 +71,7 @@ fn no_replay(alloc: Global, fault: ReplayFault) -> Complaint
 {
     match replay_line(alloc, fault) {
         Ok(Some(line)) => Complaint::Denied(line),
-        Ok(None) => Complaint::OutOfMemory,
-        Err(_) => Complaint::OutOfMemory,
+        _ => Complaint::OutOfMemory,
     }
 }
 
@@ -108,7 +104,5 @@ fn not_legal(alloc: Global, line: u64) -> Result<Vec<u8>, AllocError>
 fn not_complete(alloc: Global) -> Result<Vec<u8>, AllocError>
     ensures { IfOk result (λ text. text.items ≡ line_of (codes "fault:" ∷ codes "history" ∷ codes "NotComplete" ∷ [])) }
 {
-    let mut text = Vec::new(alloc);
-    text.extend_from_slice(b"fault: history NotComplete\n")?;
-    Ok(text)
+    Vec::from_slice(alloc, b"fault: history NotComplete\n")
 }

@@ -23,10 +23,8 @@ use std::thread::Threads;
 pub fn run_source_alone<S: Source>(alloc: Global, source: &mut S) -> Result<Texts, Complaint>
     ensures { IsAnswer (Run 1) (device S.left S.faults source.old source.new) result }
 {
-    match input(alloc, source) {
-        Ok(text) => run_text_alone(alloc, text.as_slice()),
-        Err(complaint) => Err(complaint),
-    }
+    let text = input(alloc, source)?;
+    run_text_alone(alloc, text.as_slice())
 }
 
 /// Runs the script that `source` gives with 1 to 64 workers.
@@ -42,10 +40,8 @@ pub fn run_source<R: Threads + Wait + Sync, S: Source, G: Gate>(
     requires bound { workers ≤ 64 }
     ensures { IsAnswer (Run workers) (device S.left S.faults source.old source.new) result }
 {
-    match input(alloc, source) {
-        Ok(text) => run_text(rt, alloc, workers, text.as_slice(), gate),
-        Err(complaint) => Err(complaint),
-    }
+    let text = input(alloc, source)?;
+    run_text(rt, alloc, workers, text.as_slice(), gate)
 }
 
 /// Runs the script that a text spells with one worker.
