@@ -7,7 +7,6 @@ ghost use Rattle.spec_node.specs.Value.{first_open, first_free, level_of};
 ghost use Rattle.spec_node.specs.Batch.{propagated};
 ghost use Rattle.spec_node.specs.Cut.{cut};
 ghost use Rattle.spec_node.specs.Load.{loaded};
-ghost use Rattle.spec_node.specs.Import.{with_new};
 ghost use Rattle.mal_cdcl.specs.ImportSizes.{lits_in, told_clauses};
 ghost use Rattle.mal_cdcl.specs.Importing.{AreNewTo, lent, MayImportAll, all_imported, with_pick};
 ghost use Rattle.mal_trail.specs.Rooms.{HasRoom};
@@ -309,20 +308,6 @@ impl<E: Listed> Node<E> {
         self.verdict = None;
     }
 
-    /// Imports clauses under their numbers, where there is room for them. Takes no memory.
-    fn import_reserved(&mut self, told: &[NumberedClause])
-        requires new { AreNewTo self.old.state.clauses self.old.state.variables told.now }
-        requires room { HasRoom self.old.state.variables (length told.now) (lits_in told.now) self.old.spare.engine }
-        ensures state { self.new.state ≡ with_new told.now self.old.state }
-        ensures keeps { Keeps (length told.now) (lits_in told.now) self.old self.new }
-    {
-        self.cut(0);
-        self.trail.set_processed(0);
-        node_load::add_told(&mut self.engine, &self.trail, told);
-        self.serial = node_load::serial_above(self.serial, told);
-        self.conflict = None;
-    }
-
     /// Imports what was taken of a list, where there is room for it: under profile 2 a list of which nothing was taken
     /// changes nothing. Takes no memory.
     fn take_pick(&mut self, told: &[NumberedClause])
@@ -331,9 +316,14 @@ impl<E: Listed> Node<E> {
         ensures state { self.new.state ≡ with_pick told.now self.old.state }
         ensures keeps { Keeps (length told.now) (lits_in told.now) self.old self.new }
     {
-        if !dropping::is_left_off(self.profile, told) {
-            self.import_reserved(told);
+        if dropping::is_left_off(self.profile, told) {
+            return;
         }
+        self.cut(0);
+        self.trail.set_processed(0);
+        node_load::add_told(&mut self.engine, &self.trail, told);
+        self.serial = node_load::serial_above(self.serial, told);
+        self.conflict = None;
     }
 
     /// Goes back to a level. The sign of each literal that leaves the trail becomes its variable's phase.
