@@ -1,13 +1,12 @@
 -- A start that is out ends.
-use Rattle.std.proofs.Common.{◌≡◌, ℕ, ◌+◌, ◌*◌, ◌<◌, ◌≤◌, ◌^◌, true, false, List, [], ◌∷◌, ◌++◌, length, get_or, Option, Some, None, Bool, cond, nat_lt, refl, sym, ◌∙◌, ap, subst, arith, length-append}
+use Rattle.std.proofs.Common.{◌≡◌, ℕ, ◌+◌, ◌<◌, ◌≤◌, ◌^◌, true, List, [], ◌∷◌, ◌++◌, length, Option, Some, None, Bool, refl, sym, ◌∙◌, ap, subst, arith, length-append}
 use Rattle.std.specs.Prelude.{is_some, slice_set}
 use Rattle.mal_base.specs.Asks.{Terms}
 use Rattle.mal_base.specs.NumberedClause.{Line}
 use Rattle.mal_base.specs.declared.verdict.Outcome.{Outcome}
 use Rattle.mal_base.specs.declared.verdict.Outcome.TheVariants.{Ran, Starved, Lost}
 use Rattle.mal_base.specs.declared.verdict.Verdict.{Verdict}
-use Rattle.spec_node.specs.State.{Node}
-use Rattle.spec_search.specs.Slice.{Sliced, slice}
+use Rattle.spec_search.specs.Slice.{Sliced}
 use Rattle.spec_search.proofs.CountLemmas.{slice-fits}
 use Rattle.spec_proof.specs.Log.{IsLog, IsOrderly}
 use Rattle.spec_proof.proofs.LogLemmas.{log-orderly}
@@ -18,13 +17,12 @@ use Rattle.spec_job.specs.Leased.{Finished, HasRun, model_with}
 use Rattle.spec_job.specs.Models.{clauses_of}
 use Rattle.spec_job.specs.SoloMachine.{Own, Opened, NodeSlot, Lease, SoloMachine, solo, solo_step, place_at, vacant, first_empty, settled_by}
 use Rattle.spec_job.specs.SoloMachine as own
-use Rattle.spec_job.specs.Viewed.{JobView, IsBack, IsGrownBy, and_own, journal_at}
+use Rattle.spec_job.specs.Viewed.{IsBack, IsGrownBy, and_own}
 use Rattle.spec_job.proofs.CountLemmas.{runs_in-append, runs-set, runs-same}
 use Rattle.spec_job.proofs.DerivingLemmas.{IsRunning}
 use Rattle.spec_job.proofs.RefutingLemmas.{runnable-logs_derived}
 use Rattle.spec_job.proofs.SolvingLemmas.{IsLeased, out-leased}
 use Rattle.mal_job.specs.Asking.{IsAsked, concluded_by, starved_by, settled_with}
-use Rattle.mal_job.specs.Finishing.{MayFinish}
 use Rattle.mal_job.specs.JobInvariant.{IsOwn, JobInvariant}
 use Rattle.mal_job.specs.Placing.{IsBackAt, IsTree, placed, with_placed, ran_home, came_home, one_more_ran, fresh_place, revision_of, adds_of}
 use Rattle.mal_job.specs.Viewed.{PlaceView, TreeView, LogView, QuestionsView, Parts, place_of, places_of, starts_of, state_of, viewed}

@@ -1,5 +1,5 @@
 -- What a job keeps, after each event of its own.
-use Rattle.std.proofs.Common.{◌≡◌, ℕ, zero, suc, ◌+◌, ◌*◌, ◌<◌, ◌≤◌, ◌^◌, Bool, true, false, ◌||◌, cond, List, [], ◌∷◌, ◌++◌, length, fold, get_or, count_by, sum_by, Option, Some, None, refl, sym, ◌∙◌, ap, arith, length-append, subst}
+use Rattle.std.proofs.Common.{◌≡◌, ℕ, ◌+◌, ◌*◌, ◌<◌, ◌≤◌, ◌^◌, Bool, true, false, ◌||◌, cond, List, [], ◌∷◌, ◌++◌, length, fold, get_or, Option, Some, None, refl, sym, ◌∙◌, ap, arith, subst}
 use Rattle.std.specs.Prelude.{All, Result, Ok, Err, OnOk, OnErr, slice_set, is_some}
 use Rattle.std.specs.List.{list_any}
 use Rattle.std.proofs.lemmas.Bool.{or_parts}
@@ -7,12 +7,11 @@ use Rattle.std.proofs.lemmas.Nat.{mul-le}
 use Rattle.std.proofs.lemmas.List.Folds.{list_any-append}
 use Rattle.mal_base.specs.Asks.{Terms}
 use Rattle.mal_base.specs.Clauses.{rises}
-use Rattle.mal_base.specs.NumberedClause.{NumberedClause, Line}
+use Rattle.mal_base.specs.NumberedClause.{Line}
 use Rattle.mal_revision.specs.Posted.{Posted, is_posted}
-use Rattle.spec_job.specs.Counts.{runs_of, starts_out, is_opening, IsOpenedOnce}
-use Rattle.spec_job.specs.SoloMachine.{Own, Opened, Revised, Closed, Volume, Started, Finished, Exchanged, NodeSlot, SoloMachine, solo, solo_step, place_at, vacant, clauses_in, first_empty, settled_by, settled, marked_from, Lease}
+use Rattle.spec_job.specs.Counts.{runs_of, starts_out, is_opening}
+use Rattle.spec_job.specs.SoloMachine.{Own, Opened, Revised, Closed, Volume, Started, Finished, Exchanged, NodeSlot, SoloMachine, solo, solo_step, vacant, clauses_in, first_empty, settled_by, marked_from, Lease}
 use Rattle.spec_job.specs.Runnable.{MayHappen}
-use Rattle.spec_job.proofs.CountLemmas.{runs-marked}
 use Rattle.spec_job.proofs.KeptLemmas as machine
 use Rattle.spec_job.proofs.OwnLemmas.{runnable-clauses_own}
 use Rattle.spec_job.proofs.PushLemmas.{solo-push, runnable-push}

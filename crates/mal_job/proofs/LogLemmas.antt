@@ -1,5 +1,5 @@
 -- Lines of a log: the one at a place, and the first empty one.
-use Rattle.std.proofs.Common.{true, false, cond, ◌==◌, Bool, ◌≡◌, ℕ, zero, suc, ◌+◌, ◌<◌, List, [], ◌∷◌, ◌++◌, length, drop, find, get_or, slice_get, Option, Some, None, refl, sym, ◌∙◌, ap, arith, add-one}
+use Rattle.std.proofs.Common.{true, false, cond, ◌==◌, Bool, ◌≡◌, ℕ, zero, suc, ◌+◌, ◌<◌, List, [], ◌∷◌, ◌++◌, length, drop, find, get_or, slice_get, Some, refl, sym, ◌∙◌, ap, arith, add-one}
 use Rattle.std.specs.Option.{option_map, option_or}
 use Rattle.std.proofs.lemmas.Option.{slice_get-get_or}
 use Rattle.std.proofs.lemmas.Bool.{ne_eqb, eq-eqb}

@@ -1,5 +1,5 @@
 -- The parts of a job and its view: the journals of its nodes, and places that are made.
-use Rattle.std.proofs.Common.{◌≡◌, ℕ, zero, suc, ◌+◌, ◌-◌, ◌*◌, ◌<◌, ◌≤◌, true, List, [], ◌∷◌, ◌++◌, length, map, replicate, get_or, Option, Some, None, refl, sym, ◌∙◌, ap, subst, arith}
+use Rattle.std.proofs.Common.{◌≡◌, ℕ, zero, suc, ◌-◌, ◌*◌, ◌<◌, ◌≤◌, List, [], ◌∷◌, ◌++◌, length, map, replicate, get_or, refl, sym, ◌∙◌, ap, subst, arith}
 use Rattle.std.specs.Prelude.{Result, Ok, Err, OnOk, OnErr, IfOk, slice_set}
 use Rattle.mal_base.specs.NumberedClause.{NumberedClause, Line}
 use Rattle.spec_job.specs.Counts.{runs_of, starts_out}
@@ -9,7 +9,7 @@ use Rattle.spec_job.specs.SoloMachine.{NodeSlot, SoloMachine, place_at}
 use Rattle.spec_job.specs.Viewed.{JobView, journal_at}
 use Rattle.mal_job.specs.JobInvariant.{IsOwn, JobInvariant}
 use Rattle.mal_job.specs.Placing.{IsGrown, IsTree, placed, fresh_place}
-use Rattle.mal_job.specs.Viewed.{PlaceView, TreeView, LogView, Parts, place_of, places_of, starts_of, state_of, viewed}
+use Rattle.mal_job.specs.Viewed.{PlaceView, TreeView, LogView, Parts, places_of, starts_of, state_of, viewed}
 use Rattle.mal_job.proofs.PlaceLemmas.{placed-at, own-at, grown-places, grown-starts}
 
 -- what holds of the outcome of a call that is refused or not

@@ -1,14 +1,12 @@
 -- The places of a tree: one is set, some are made, and how many are out.
-use Rattle.std.proofs.Common.{◌≡◌, ℕ, zero, suc, ◌+◌, ◌-◌, ◌<◌, ◌≤◌, Bool, true, false, cond, ◌&&◌, List, [], ◌∷◌, ◌++◌, length, map, replicate, take, get_or, count_by, Option, None, inl, inr, ◌⊎◌, refl, sym, ◌∙◌, ap, subst, arith, append-nil, length-append}
+use Rattle.std.proofs.Common.{◌≡◌, ℕ, zero, suc, ◌+◌, ◌-◌, ◌<◌, ◌≤◌, true, false, List, [], ◌∷◌, ◌++◌, length, map, replicate, get_or, inl, inr, ◌⊎◌, refl, sym, ◌∙◌, ap, subst, arith, length-append}
 use Rattle.std.specs.Prelude.{slice_set, is_some}
-use Rattle.std.proofs.lemmas.Bool.{ltb-true, and_parts}
 use Rattle.std.proofs.lemmas.List.{length-replicate, length-map}
 use Rattle.std.proofs.lemmas.List.Sums.{sum_by-cons}
 use Rattle.spec_job.proofs.AgreeLemmas.{le-or_lt}
-use Rattle.spec_job.specs.Counts.{runs_in, runs_of, starts_out}
-use Rattle.spec_job.specs.Journaled.{Journaled}
-use Rattle.spec_job.specs.SoloMachine.{NodeSlot, Lease, vacant, SoloMachine, place_at, is_live, startable}
-use Rattle.mal_job.specs.Viewed.{PlaceView, place_of, filled, places_of, starts_of}
+use Rattle.spec_job.specs.Counts.{runs_in, runs_of}
+use Rattle.spec_job.specs.SoloMachine.{NodeSlot, vacant}
+use Rattle.mal_job.specs.Viewed.{PlaceView, place_of, places_of, starts_of}
 use Rattle.mal_job.specs.Placing.{fresh_place, fresh_from, IsGrown, AreOwn}
 
 lt-or_le : (i n : ℕ) → (i < n) ⊎ (n ≤ i)

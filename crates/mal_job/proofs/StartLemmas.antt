@@ -1,17 +1,16 @@
 -- A node that may start is handed out, and an exchange.
-use Rattle.std.proofs.Common.{◌≡◌, ℕ, ◌+◌, ◌-◌, ◌*◌, ◌<◌, ◌≤◌, ◌^◌, Bool, true, false, ◌&&◌, List, [], ◌∷◌, ◌++◌, length, map, take, drop, fold, get_or, nat_lt, Option, Some, None, refl, sym, ◌∙◌, ap, subst, arith, append_assoc}
-use Rattle.std.specs.Prelude.{Result, Ok, Err, OnOk, OnErr, IfOk, slice_set, is_none, is_some}
+use Rattle.std.proofs.Common.{◌≡◌, ℕ, ◌+◌, ◌-◌, ◌<◌, ◌≤◌, true, ◌&&◌, List, [], ◌∷◌, ◌++◌, length, map, take, drop, fold, nat_lt, Option, Some, None, refl, sym, ◌∙◌, ap, subst, arith}
+use Rattle.std.specs.Prelude.{Result, Ok, Err, OnOk, OnErr, IfOk, slice_set, is_none}
 use Rattle.std.proofs.lemmas.Bool.{and_parts}
 use Rattle.std.proofs.lemmas.List.Sums.{fold-append}
 use Rattle.mal_base.specs.NumberedClause.{NumberedClause}
 use Rattle.mal_revision.specs.Posted.{Posted}
-use Rattle.spec_node.specs.State.{Node}
 use Rattle.spec_exchange.specs.Exchange.{broadcast}
 use Rattle.spec_search.specs.Slice.{Sliced}
 use Rattle.spec_job.specs.Counts.{runs_in, runs_of, starts_out, HasCounts, PlaceCounts}
 use Rattle.spec_job.specs.Following.{MayAllFollow}
 use Rattle.spec_job.specs.Journal.{JournalEntry, Load, Import, Run, after_entry, replay, loads_in, loads_of, imports_in}
-use Rattle.spec_job.specs.Journaled.{Journaled, replayed, started}
+use Rattle.spec_job.specs.Journaled.{replayed, started}
 use Rattle.spec_job.specs.Leased.{Leased}
 use Rattle.spec_job.specs.SoloMachine.{Opened, NodeSlot, Lease, SoloMachine, solo, solo_step, place_at, vacant, startable, is_live, clauses_in, missing_loads, missing_imports, exports_from, marked_from}
 use Rattle.spec_job.specs.SoloMachine as own
@@ -19,16 +18,15 @@ use Rattle.spec_job.specs.Viewed.{JobView, IsLeaseOf, and_own, and_start, journa
 use Rattle.spec_job.proofs.CountLemmas.{runs-same, runs-marked}
 use Rattle.spec_job.proofs.CountingLemmas.{replays-count}
 use Rattle.spec_job.proofs.FollowLemmas.{start-follows}
-use Rattle.spec_job.proofs.KeptLemmas as machine
 use Rattle.spec_job.proofs.SolvingLemmas.{live-parts}
 use Rattle.mal_cdcl.specs.Sliced.{HasLowCounts}
-use Rattle.mal_suspend.specs.Replaying.{MayReplay, MayAllReplay}
-use Rattle.mal_suspend.specs.Starting.{load_entries, import_entries, start_entries}
+use Rattle.mal_suspend.specs.Replaying.{MayAllReplay}
+use Rattle.mal_suspend.specs.Starting.{import_entries, start_entries}
 use Rattle.mal_job.specs.Exports.{marked}
-use Rattle.mal_job.specs.JobInvariant.{IsOwn, JobInvariant}
-use Rattle.mal_job.specs.Loads.{paired, lacking}
+use Rattle.mal_job.specs.JobInvariant.{JobInvariant}
+use Rattle.mal_job.specs.Loads.{lacking}
 use Rattle.mal_job.specs.Placing.{IsTree, placed, with_placed, sent, fresh_place}
-use Rattle.mal_job.specs.Viewed.{PlaceView, TreeView, LogView, QuestionsView, Parts, place_of, places_of, starts_of, state_of, viewed}
+use Rattle.mal_job.specs.Viewed.{PlaceView, TreeView, LogView, Parts, place_of, places_of, starts_of, state_of, viewed}
 use Rattle.mal_job.proofs.ExchangeLemmas.{places-marked, starts-marked}
 use Rattle.mal_job.proofs.KeptLemmas.{own-next, own-kept, few-runs, outs-more, outs-marked}
 use Rattle.mal_job.proofs.LoadingLemmas.{paired-entries}

@@ -1,6 +1,5 @@
 -- A job's machine after each event of its own, by its parts.
 use Rattle.std.proofs.Common.{◌≡◌, ℕ, ◌+◌, ◌<◌, Bool, true, false, cond, ◌==◌, nat_lt, List, ◌++◌, length, Option, Some, None, refl, sym, ◌∙◌, ap}
-use Rattle.mal_base.specs.NumberedClause.{Line}
 use Rattle.mal_base.specs.declared.answer.Answer.TheVariants.{Spent, OutOfStarts}
 use Rattle.mal_base.specs.declared.verdict.Outcome.{Outcome}
 use Rattle.mal_base.specs.declared.verdict.Outcome.TheVariants.{Ran, Starved, Lost}
@@ -10,10 +9,10 @@ use Rattle.spec_node.specs.State.{Node}
 use Rattle.spec_search.specs.Slice.{Sliced}
 use Rattle.spec_job.specs.Journal.{replay}
 use Rattle.spec_job.specs.Leased.{model_with}
-use Rattle.spec_job.specs.SoloMachine.{Started, Finished, NodeSlot, Lease, SoloMachine, solo_step, place_at, started, start_entries, with_place, finished, first_empty, settled_by, settled, conclude, spend, starve, answered}
+use Rattle.spec_job.specs.SoloMachine.{Started, Finished, NodeSlot, Lease, SoloMachine, solo_step, place_at, start_entries, with_place, finished, first_empty, settled_by, settled, conclude, starve, answered}
 use Rattle.mal_job.specs.Asking.{replied, concluded, concluded_by, starved_once, starved_by, settled_with}
 use Rattle.mal_job.specs.Placing.{placed, with_placed, sent, ran_home, came_home, one_more_ran, fresh_place, adds_of}
-use Rattle.mal_job.specs.Viewed.{PlaceView, TreeView, QuestionsView, LogView, Parts, place_of, places_of, state_of}
+use Rattle.mal_job.specs.Viewed.{PlaceView, Parts, place_of, state_of}
 use Rattle.mal_job.proofs.PlaceLemmas.{set-placed, placed-at}
 
 -- what an empty clause answers

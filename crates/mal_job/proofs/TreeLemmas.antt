@@ -1,6 +1,6 @@
 -- What a tree keeps, and what it tells.
-use Rattle.std.proofs.Common.{◌≡◌, ℕ, zero, suc, ◌+◌, ◌-◌, ◌<◌, ◌≤◌, Bool, true, List, [], ◌∷◌, ◌++◌, length, map, take, drop, get_or, Option, Some, None, refl, sym, ◌∙◌, ap, subst, arith}
-use Rattle.std.specs.Prelude.{slice_get, slice_set, IsTrue}
+use Rattle.std.proofs.Common.{◌≡◌, ℕ, zero, suc, ◌+◌, ◌-◌, ◌<◌, ◌≤◌, Bool, List, [], ◌∷◌, ◌++◌, length, take, drop, get_or, Option, Some, None, refl, sym, ◌∙◌, ap, subst, arith}
+use Rattle.std.specs.Prelude.{slice_get, IsTrue}
 use Rattle.std.specs.Arc.{arc_value}
 use Rattle.std.specs.declared.sync.Arc.{Arc}
 use Rattle.std.proofs.lemmas.List.{map-append, take_all, length-drop}
@@ -8,7 +8,6 @@ use Rattle.mal_base.specs.NumberedClause.{NumberedClause, Line}
 use Rattle.mal_base.specs.declared.verdict.Outcome.{Outcome}
 use Rattle.mal_base.specs.declared.verdict.Outcome.TheVariants.{Ran, Starved}
 use Rattle.spec_exchange.specs.Exchange.{broadcast, entries_of}
-use Rattle.spec_job.specs.Journal.{JournalEntry}
 use Rattle.spec_job.specs.Journaled.{Journaled, and_entries}
 use Rattle.spec_job.specs.Leased.{Finished}
 use Rattle.spec_job.specs.SoloMachine.{Lease, exports_from}
@@ -17,7 +16,7 @@ use Rattle.mal_job.specs.Among.{among}
 use Rattle.mal_job.specs.Exports.{unions_from, marked}
 use Rattle.mal_job.specs.Placing.{IsBackAt, IsGrown, IsTree, with_placed}
 use Rattle.mal_job.specs.Viewed.{PlaceView, TreeView, shared, places_of}
-use Rattle.mal_job.proofs.PlaceLemmas.{length-set, get-within, own-at, own-set, grown-own}
+use Rattle.mal_job.proofs.PlaceLemmas.{length-set, own-at, own-set, grown-own}
 use Rattle.mal_job.proofs.ExchangeLemmas.{length-marked, own-marked, told-is}
 
 -- a place that is set has the journal of its node

@@ -1,4 +1,4 @@
-use Rattle.std.specs.Prelude.{◌≡◌, ℕ, ◌*◌, ◌≤◌, List, ◌∷◌, length}
+use Rattle.std.specs.Prelude.{◌≡◌, ◌*◌, ◌≤◌, List, ◌∷◌, length}
 use Rattle.mal_base.specs.Asks.{Terms}
 use Rattle.spec_job.specs.Counts.{runs_of, starts_out, IsOpenedOnce}
 use Rattle.spec_job.specs.SoloMachine.{Own, Opened, SoloMachine, solo}

@@ -7,7 +7,6 @@ use Rattle.mal_base.specs.declared.answer.Answer.{Answer}
 use Rattle.mal_revision.specs.Posted.{Posted}
 use Rattle.spec_job.specs.Journaled.{Journaled}
 use Rattle.spec_job.specs.SoloMachine.{SoloMachine, NodeSlot, Lease, vacant}
-use Rattle.spec_job.specs.KeyedJob.{Key}
 use Rattle.spec_job.specs.Viewed.{JobView}
 
 -- what is shared

@@ -1,12 +1,11 @@
-use Rattle.std.proofs.Common.{◌≡◌, true, sym, ◌∙◌, ap, subst}
+use Rattle.std.proofs.Common.{◌∙◌, ap, subst}
 use Rattle.std.specs.Prelude.{is_some, Option}
 use Rattle.mal_base.specs.declared.verdict.Outcome.{Outcome}
 use Rattle.mal_base.specs.declared.verdict.Outcome.TheVariants.{Ran}
-use Rattle.spec_job.specs.Journaled.{and_entries}
 use Rattle.spec_job.specs.Leased.{HasRun, Tells}
 use Rattle.spec_job.specs.SoloMachine.{Lease, Finished}
 use Rattle.spec_job.specs.Viewed.{JobView, and_own}
-use Rattle.mal_job.specs.Placing.{IsBackAt, placed, adds_of}
+use Rattle.mal_job.specs.Placing.{IsBackAt, placed}
 use Rattle.mal_job.specs.Viewed.{Parts}
 use Rattle.mal_job.proofs.FinishLemmas.{back-place, back-ran, live, few-ran, chunk, countable, orderly, ran-view, ran-kept}
 use Rattle.mal_job.proofs.job.Job.end_run.Goals as goal

@@ -1,4 +1,4 @@
-use Rattle.std.proofs.Common.{◌≡◌, true, sym, ◌∙◌, ap}
+use Rattle.std.proofs.Common.{◌≡◌, true, ◌∙◌, ap}
 use Rattle.std.specs.Prelude.{is_some, Option}
 use Rattle.mal_base.specs.declared.verdict.Outcome.TheVariants.{Starved}
 use Rattle.spec_job.specs.SoloMachine.{Lease, Finished}

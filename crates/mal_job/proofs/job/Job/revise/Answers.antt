@@ -1,5 +1,3 @@
-use Rattle.std.proofs.Common.{◌∙◌, sym, ap}
-use Rattle.mal_revision.specs.Posted.{is_posted}
 use Rattle.mal_job.proofs.KeptLemmas.{kept-revised}
 use Rattle.mal_job.proofs.job.Job.revise.Goals as goal
 

@@ -1,4 +1,4 @@
-use Rattle.std.proofs.Common.{◌≡◌, ◌+◌, ◌<◌, ◌≤◌, ℕ, List, length, ◌∙◌, ap, arith}
+use Rattle.std.proofs.Common.{◌≡◌, ℕ, List, length, ◌∙◌, ap, arith}
 use Rattle.mal_base.specs.declared.answer.Answer.{Answer}
 use Rattle.mal_suspend.specs.Starting.{shared_loads}
 use Rattle.mal_job.specs.Loads.{lacking}

@@ -1,4 +1,4 @@
-use Rattle.std.proofs.Common.{◌≡◌, ℕ, List, length, drop, sym, ◌∙◌, ap, subst}
+use Rattle.std.proofs.Common.{length, drop, sym, ◌∙◌, ap, subst}
 use Rattle.spec_job.specs.SoloMachine.{Lease}
 use Rattle.mal_job.specs.Placing.{out_of, IsSeated}
 use Rattle.mal_job.specs.Viewed.{PlaceView}

@@ -1,7 +1,5 @@
-use Rattle.std.proofs.Common.{◌≡◌, ◌≤◌, List, take, [], ◌∷◌, ◌++◌, length, sym, ◌∙◌, ap, arith}
+use Rattle.std.proofs.Common.{◌≡◌, List, take, [], ◌∷◌, ◌++◌, ◌∙◌, ap}
 use Rattle.std.specs.Arc.{arc_value}
-use Rattle.mal_base.specs.NumberedClause.{NumberedClause}
-use Rattle.spec_exchange.specs.Exchange.{broadcast, entries_of}
 use Rattle.mal_job.specs.Exports.{unions_from}
 use Rattle.mal_job.specs.Viewed.{PlaceView, TreeView, shared}
 use Rattle.mal_job.proofs.ExchangeLemmas.{unions-few}

@@ -1,4 +1,4 @@
-use Rattle.std.proofs.Common.{refl, ap}
+use Rattle.std.proofs.Common.{ap}
 use Rattle.mal_job.specs.Viewed.{PlaceView, TreeView, shared}
 use Rattle.mal_job.proofs.PlaceLemmas.{out-within}
 use Rattle.mal_job.proofs.TreeLemmas.{tree-set}

@@ -1,4 +1,4 @@
-use Rattle.std.proofs.Common.{◌≡◌, ℕ, List, drop, IfOk, get_or, sym, ◌∙◌, ap, subst}
+use Rattle.std.proofs.Common.{◌≡◌, ℕ, List, drop, IfOk, sym, ◌∙◌, ap, subst}
 use Rattle.mal_base.specs.NumberedClause.{NumberedClause}
 use Rattle.spec_job.specs.Journal.{imports_in}
 use Rattle.spec_job.specs.Journaled.{Journaled, replayed}
