@@ -286,6 +286,9 @@ held-test x worker index k spot b hall is same test = (λ t. yes (test.0 t), λ 
 pub next-none : (past : List Event) (k : Key) → job_of k (states past) ≡ None → 1 ≡ next_number k past
 next-none past k none = sym (ap (λ (o : Option KeyedJob). option_map_or (λ (u : KeyedJob). length u.state.revisions + 1) o 1) none)
 
+pub next-some : (past : List Event) (k : Key) (t : KeyedJob) → job_of k (states past) ≡ Some t → length t.state.revisions + 1 ≡ next_number k past
+next-some past k t found = sym (ap (λ (o : Option KeyedJob). option_map_or (λ (u : KeyedJob). length u.state.revisions + 1) o 1) found)
+
 -- a slot that is set
 pub set-slot : (os : List (Option Leased)) (n : ℕ) (o : Option Leased) → map (option_map handed_of) (slice_set os n o) ≡ slice_set (map (option_map handed_of) os) n (option_map handed_of o)
 set-slot os n o = map-set (option_map handed_of) os n o

@@ -37,6 +37,8 @@ use Rattle.spec_hall.proofs.SpotLemmas.{numbered-push, starts-push, spots-stay, 
 use Rattle.spec_hall.proofs.VolumeLemmas.{revise-keeps}
 use Rattle.mal_seats.specs.Changed.{OfSeat}
 use Rattle.mal_hall.specs.Contents.{posted_by, posted_in, with_posted}
+use Rattle.mal_hall.specs.Turned.{HasWaited}
+use Rattle.mal_hall.proofs.Parts.{and_seats}
 use Rattle.mal_hall.specs.HallView.{Inside, IsHall, events_in, out_in, unclosed_in, next_number}
 use Rattle.mal_hall.proofs.KeptLemmas.{first_of, tenants-push, tenants-set, tenants-balanced, unclosed-open, unclosed-same, unclosed-closed, unclosed-balanced}
 
@@ -110,6 +112,10 @@ hall-waits x y hall workers events posted seats spots starts unclosed tenants ro
   tenants_is = tenants ∙ (hall.tenants_is ∙ ap (λ (ss : List Seat). tenant_count (jobs_in ss)) (sym seats));
   room = omega (arith, hall.room, room, unclosed, ap out_in spots);
 }
+
+-- the same of a hall in which nothing was entered
+pub hall-waited : (x : Inside) (history : Written) (seats : List Seat) → IsHall x → HasWaited x.history history x.seats seats → IsHall (and_seats x history seats)
+hall-waited x history seats hall e = hall-waits x (and_seats x history seats) hall e.workers e.events refl e.seats refl refl refl refl e.room
 
 -- a hall in which events were entered
 pub record Grown (x y : Inside) (es : List Event) : Type 0 where

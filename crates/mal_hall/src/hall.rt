@@ -37,6 +37,7 @@ use crate::room::{next_number, tenants_after};
 use crate::spots::{Spot, count_out, no_spots, owed, spot_of};
 use mal_base::{Ask, CloseFault, Name, OpenFault, Outcome, PickFault, ReplyFault, ReviseFault};
 use mal_history::{Event, History, Shares};
+use mal_job::Job;
 use mal_learn::Scratch;
 use mal_revision::Revision;
 use mal_seats::{Candidate, Seats};
@@ -222,10 +223,20 @@ impl Hall {
     pub fn revision(&self, tenant: &Name, job: &Name, r: u32) -> Option<&Revision>
         ensures { option_copied result ≡ among r (revisions_of (keyed tenant.now job.now) (states self.now.events)) }
     {
+        match self.job_named(tenant, job) {
+            None => None,
+            Some(job) => job.revision(r),
+        }
+    }
+
+    /// The job of this key: None exactly where it is not there.
+    fn job_named(&self, tenant: &Name, job: &Name) -> Option<&Job>
+        ensures { MatchOption result (job_of (keyed tenant.now job.now) (states self.now.events) ≡ None) (λ j. job_of (keyed tenant.now job.now) (states self.now.events) ≡ Some j.now.titled) }
+    {
         let Some(at) = self.seats.place_of(*tenant, *job) else {
             return None;
         };
-        self.seats.at(at).job().revision(r)
+        Some(self.seats.at(at).job())
     }
 
     /// Whether a balancing is due.
@@ -541,10 +552,10 @@ impl Hall {
     pub(crate) fn next_of(&self, tenant: &Name, job: &Name) -> usize
         ensures { result ≡ next_number (keyed tenant.now job.now) self.now.events }
     {
-        let Some(at) = self.seats.place_of(*tenant, *job) else {
-            return 1;
-        };
-        self.seats.at(at).job().revisions().len() + 1
+        match self.job_named(tenant, job) {
+            None => 1,
+            Some(job) => job.revisions().len() + 1,
+        }
     }
 
     /// Whether the job at a place, by opening, has this key.
@@ -559,7 +570,8 @@ impl Hall {
 
     /// Whether the lease that a worker has out is of this node of a job.
     pub(crate) fn holds(&self, worker: u32, tenant: &Name, job: &Name, index: u32) -> bool
-        ensures { IsTrue result ↔ (lease_of worker (leases self.now.events) ≡ Some (record { worker = worker; key = keyed tenant.now job.now; index = index })) }
+        ensures value { IsTrue result ↔ (lease_of worker (leases self.now.events) ≡ Some (record { worker = worker; key = keyed tenant.now job.now; index = index })) }
+        ensures some { result ≡ true → 1 ≤ worker }
     {
         let _starts = self.starts;
         if worker == 0 {

@@ -9,9 +9,11 @@ mod hall;
 mod lodging;
 mod offer;
 mod room;
+mod size;
 mod spots;
 
 pub use desk::{Desk, Post, PostFault};
 pub use hall::Hall;
 pub use mal_base::{ApplyFault, CloseFault, OpenFault, PickFault, ReplyFault, ReviseFault};
 pub use offer::{Back, Pick, Strange};
+pub use size::Size;

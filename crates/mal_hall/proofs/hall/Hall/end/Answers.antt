@@ -1,4 +1,4 @@
-use Rattle.std.proofs.Common.{◌-◌, None, slice_set, refl, arith}
+use Rattle.std.proofs.Common.{◌-◌, None, slice_set, refl}
 use Rattle.mal_job.specs.Finishing.{outcome_of}
 use Rattle.mal_hall.proofs.Parts.{parts}
 use Rattle.mal_hall.proofs.PhaseLemmas.{Ended, end-spot, ends-at, phase-end}

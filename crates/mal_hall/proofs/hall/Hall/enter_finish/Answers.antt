@@ -1,42 +1,30 @@
 use Rattle.std.proofs.Common.{◌∙◌}
 use Rattle.spec_hall.specs.Dressed.{keyed}
-use Rattle.mal_hall.proofs.ApplyLemmas.{back-may, ended-inside, held-slot, held-worker, never-none}
+use Rattle.mal_hall.proofs.ApplyLemmas.{back-may, ended-inside, held-slot, never-none}
 use Rattle.mal_hall.proofs.InsideLemmas.{stands}
 use Rattle.mal_hall.proofs.PhaseLemmas.{test-yes}
 use Rattle.mal_hall.proofs.hall.Hall.enter_finish.Goals as goal
 
-pub take_lodged-requires-clause-some : goal.take_lodged-requires-clause-some
-take_lodged-requires-clause-some c =
-    let is = stands _ c.workers.result (c.workers.ensures.value ∙ c.history.ensures.workers) c.workers.ensures.some c.workers.ensures.bound c.history.ensures.legal c.requires in
-    let out = test-yes c.holds.result c.holds.ensures c.if-not-holds.false in
-    (held-worker _ (keyed c.args.tenant.now c.args.job.now) c.args.index c.args.worker is out).low
-
 pub take_lodged-requires-clause-bound : goal.take_lodged-requires-clause-bound
 take_lodged-requires-clause-bound c =
     let is = stands _ c.workers.result (c.workers.ensures.value ∙ c.history.ensures.workers) c.workers.ensures.some c.workers.ensures.bound c.history.ensures.legal c.requires in
-    let out = test-yes c.holds.result c.holds.ensures c.if-not-holds.false in
+    let out = test-yes c.holds.result c.holds.ensures.value c.if-not-holds.false in
     held-slot _ (keyed c.args.tenant.now c.args.job.now) c.args.index c.args.worker is out
 
 pub unreachable-requires : goal.unreachable-requires
 unreachable-requires c =
     let is = stands _ c.workers.result (c.workers.ensures.value ∙ c.history.ensures.workers) c.workers.ensures.some c.workers.ensures.bound c.history.ensures.legal c.requires in
-    let out = test-yes c.holds.result c.holds.ensures c.if-not-holds.false in
+    let out = test-yes c.holds.result c.holds.ensures.value c.if-not-holds.false in
     never-none _ (keyed c.args.tenant.now c.args.job.now) c.args.index c.args.worker c.take_lodged.result is out c.take_lodged.ensures.taken c.in_default.is
-
-pub end-requires-clause-some : goal.end-requires-clause-some
-end-requires-clause-some c =
-    let is = stands _ c.workers.result (c.workers.ensures.value ∙ c.history.ensures.workers) c.workers.ensures.some c.workers.ensures.bound c.history.ensures.legal c.requires in
-    let out = test-yes c.holds.result c.holds.ensures c.if-not-holds.false in
-    (held-worker _ (keyed c.args.tenant.now c.args.job.now) c.args.index c.args.worker is out).low
 
 pub end-requires-clause-may : goal.end-requires-clause-may
 end-requires-clause-may c =
     let is = stands _ c.workers.result (c.workers.ensures.value ∙ c.history.ensures.workers) c.workers.ensures.some c.workers.ensures.bound c.history.ensures.legal c.requires in
-    let out = test-yes c.holds.result c.holds.ensures c.if-not-holds.false in
+    let out = test-yes c.holds.result c.holds.ensures.value c.if-not-holds.false in
     back-may _ c.take_lodged.new.self (keyed c.args.tenant.now c.args.job.now) c.args.index c.args.worker c.take_lodged.result c.in-Some.lease c.args.outcome _ is out c.take_lodged.ensures.taken c.in-Some.is c.in-Ok.ensures c.take_lodged.ensures.events
 
 pub returns-clause-inside : goal.returns-clause-inside
 returns-clause-inside c =
     let is = stands _ c.workers.result (c.workers.ensures.value ∙ c.history.ensures.workers) c.workers.ensures.some c.workers.ensures.bound c.history.ensures.legal c.requires in
-    let out = test-yes c.holds.result c.holds.ensures c.if-not-holds.false in
+    let out = test-yes c.holds.result c.holds.ensures.value c.if-not-holds.false in
     ended-inside _ _ _ (keyed c.args.tenant.now c.args.job.now) c.args.index c.args.worker c.in-Some.lease c.args.outcome _ is out c.in-Ok.ensures c.take_lodged.ensures.workers c.take_lodged.ensures.events c.take_lodged.ensures.inside c.end.ensures.workers c.end.ensures.inside c.end.ensures.ended

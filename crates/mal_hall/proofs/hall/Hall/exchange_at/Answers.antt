@@ -1,5 +1,5 @@
 use Rattle.std.proofs.Common.{refl, arith}
-use Rattle.mal_hall.proofs.HallLemmas.{hall-waits}
+use Rattle.mal_hall.proofs.HallLemmas.{hall-waited}
 use Rattle.mal_hall.proofs.Parts.{and_seats, parts}
 use Rattle.mal_hall.proofs.PhaseLemmas.{Exchanges, phase-exchange, seat-there, within-first}
 use Rattle.mal_hall.proofs.RoomLemmas.{unclosed-few}
@@ -18,9 +18,7 @@ pub returns-in-Err-clause-err : goal.returns-in-Err-clause-err
 returns-in-Err-clause-err c = rw (← c.self.view_is, c.in-Err.ensures.err.events) refl
 
 pub invariant_of-self : goal.invariant_of-self
-invariant_of-self c =
-    let e = c.in-Err.ensures.err in
-    hall-waits (parts c.self.inside) _ c.self.invariant e.workers e.events refl e.seats refl refl refl refl e.room
+invariant_of-self c = hall-waited (parts c.self.inside) c.enter_exchange.new.history c.enter_exchange.new.seats c.self.invariant c.in-Err.ensures.err
 
 -- the exchange was entered
 exchanged : (c : In-Ok) → Exchanges (parts c.self.inside) (and_seats (parts c.self.inside) c.enter_exchange.new.history c.enter_exchange.new.seats)

@@ -5,22 +5,22 @@ use Rattle.mal_hall.proofs.ApplyLemmas.{held-none, held-other, held-test}
 use Rattle.mal_hall.proofs.PhaseLemmas.{none-out, spot-is, zero-none}
 use Rattle.mal_hall.proofs.hall.Hall.holds.Goals as goal
 
-pub returns-then-worker-eq0 : goal.returns-then-worker-eq0
-returns-then-worker-eq0 c = rw (← c.self.view_is) (held-none (with_posted c.self.inside.history.events c.self.inside.posted.items) c.args.worker c.args.index (keyed c.args.tenant.now c.args.job.now) (zero-none _ c.args.worker c.args.worker c.self.invariant refl c.if-worker-eq0.true))
+pub returns-then-worker-eq0-clause-value : goal.returns-then-worker-eq0-clause-value
+returns-then-worker-eq0-clause-value c = rw (← c.self.view_is) (held-none (with_posted c.self.inside.history.events c.self.inside.posted.items) c.args.worker c.args.index (keyed c.args.tenant.now c.args.job.now) (zero-none _ c.args.worker c.args.worker c.self.invariant refl c.if-worker-eq0.true))
 
-pub returns-in_default : goal.returns-in_default
-returns-in_default c =
+pub returns-in_default-clause-value : goal.returns-in_default-clause-value
+returns-in_default-clause-value c =
     let low : 1 ≤ c.args.worker = omega (arith, c.if-worker-eq0.false) in
     rw (← c.self.view_is) (held-none (with_posted c.self.inside.history.events c.self.inside.posted.items) c.args.worker c.args.index (keyed c.args.tenant.now c.args.job.now) (none-out _ _ c.args.worker _ c.self.invariant c.deref.ensures.value low c.spot_of.ensures c.in_default.is))
 
-pub returns-then-index : goal.returns-then-index
-returns-then-index c =
+pub returns-then-index-clause-value : goal.returns-then-index-clause-value
+returns-then-index-clause-value c =
     let low : 1 ≤ c.args.worker = omega (arith, c.if-worker-eq0.false) in
     let is = spot-is _ _ c.args.worker _ c.in-Some.spot c.self.invariant c.deref.ensures.value low c.spot_of.ensures c.in-Some.is in
     rw (← c.self.view_is) (held-other _ c.args.worker c.args.index (keyed c.args.tenant.now c.args.job.now) c.in-Some.spot c.self.invariant is (λ q. c.if-index.true (c.index.ensures ∙ q)))
 
-pub returns : goal.returns
-returns c =
+pub returns-clause-value : goal.returns-clause-value
+returns-clause-value c =
     let low : 1 ≤ c.args.worker = omega (arith, c.if-worker-eq0.false) in
     let is = spot-is _ _ c.args.worker _ c.in-Some.spot c.self.invariant c.deref.ensures.value low c.spot_of.ensures c.in-Some.is in
     rw (← c.self.view_is) (held-test _ c.args.worker c.args.index (keyed c.args.tenant.now c.args.job.now) c.in-Some.spot _ c.self.invariant is (sym c.index.ensures ∙ c.if-index.false) (rw (← c.self.view_is, c.job.ensures) at c.is_named.ensures))

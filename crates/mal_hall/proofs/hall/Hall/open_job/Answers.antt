@@ -4,11 +4,14 @@ use Rattle.mal_base.specs.declared.hall_fault.OpenFault.TheVariants.{Duplicate, 
 use Rattle.spec_hall.specs.Calls.{Opens}
 use Rattle.spec_hall.specs.Dressed.{keyed}
 use Rattle.spec_hall.specs.Events.{Open}
+use Rattle.spec_hall.specs.Legal.{MayOpen}
+use Rattle.mal_hall.specs.HallView.{events_in}
 use Rattle.mal_hall.specs.Contents.{with_posted}
-use Rattle.mal_hall.proofs.HallLemmas.{Grown, placed, none-from, hall-absent, hall-some_job, hall-jobs, hall-tenants, hall-open, hall-waits, may-open, called-none, called-one}
+use Rattle.mal_hall.proofs.HallLemmas.{Grown, placed, none-from, hall-absent, hall-some_job, hall-jobs, hall-tenants, hall-open, hall-waited, may-open, called-none, called-one}
 use Rattle.mal_hall.proofs.Parts.{parts}
 use Rattle.mal_hall.proofs.RoomLemmas.{unclosed-few}
 use Rattle.mal_hall.proofs.hall.Hall.open_job.Goals as goal
+use Rattle.mal_hall.proofs.hall.Hall.open_job.Goals.{After-self-2-1}
 
 pub owed-owed-requires-clause-few : goal.owed-owed-requires-clause-few
 owed-owed-requires-clause-few c = omega (arith, unclosed-few (parts c.self.inside) c.self.invariant)
@@ -32,9 +35,7 @@ pub enter_open-requires-clause-new : goal.enter_open-requires-clause-new
 enter_open-requires-clause-new c = placed c.self.inside.seats (keyed c.args.tenant c.args.job) _ _ c.place_of.ensures (none-from _ _ c.is_some.ensures c.if-is_some.false)
 
 pub invariant_of-self : goal.invariant_of-self
-invariant_of-self c =
-    let e = c.in-Err.ensures.err in
-    hall-waits (parts c.self.inside) _ c.self.invariant e.workers e.events refl e.seats refl refl refl refl e.room
+invariant_of-self c = hall-waited (parts c.self.inside) c.enter_open.new.history c.enter_open.new.seats c.self.invariant c.in-Err.ensures.err
 
 pub returns-in-Err-clause-err : goal.returns-in-Err-clause-err
 returns-in-Err-clause-err c = rw (← c.self.view_is, c.in-Err.ensures.err.events) refl
@@ -46,32 +47,26 @@ returns-in-Err-clause-call c =
     let may = may-open _ (keyed c.args.tenant c.args.job) c.args.ask c.self.invariant c.are_in_form.ensures.tenant c.are_in_form.ensures.job c.are_in_form.ensures.ask absent fits.few fits.others in
     rw (← c.self.view_is, c.in-Err.ensures.err.events) (called-none _ _ (Opens (keyed c.args.tenant c.args.job) c.args.ask) (Err OutOfMemory) (may, refl))
 
-pub invariant_of-self-2 : goal.invariant_of-self-2
-invariant_of-self-2 c =
+-- the opening was allowed
+may : (c : After-self-2-1) → MayOpen (events_in (parts c.self.inside)) (keyed c.args.tenant c.args.job) c.args.ask
+may c =
     let absent = placed c.self.inside.seats (keyed c.args.tenant c.args.job) _ _ c.place_of.ensures (none-from _ _ c.is_some.ensures c.if-is_some.false) in
     let fits = rw c.jobs_of-jobs.ensures at c.in_ok-tenants.ensures in
-    let may = may-open (parts c.self.inside) (keyed c.args.tenant c.args.job) c.args.ask c.self.invariant c.are_in_form.ensures.tenant c.are_in_form.ensures.job c.are_in_form.ensures.ask absent fits.few fits.others in
+    may-open (parts c.self.inside) (keyed c.args.tenant c.args.job) c.args.ask c.self.invariant c.are_in_form.ensures.tenant c.are_in_form.ensures.job c.are_in_form.ensures.ask absent fits.few fits.others
+
+-- it was entered
+opened : (c : After-self-2-1) → Grown (parts c.self.inside) (record { history = c.enter_open.new.history; posted = c.self.inside.posted.items; seats = c.enter_open.new.seats; spots = c.self.inside.spots.items; starts = c.self.inside.starts; unclosed = c.self.inside.unclosed + 1; tenants = c.in_ok-tenants.tenants }) (Open (keyed c.args.tenant c.args.job) c.args.ask ∷ [])
+opened c =
+    let fits = rw c.jobs_of-jobs.ensures at c.in_ok-tenants.ensures in
     let owing = rw c.deref.ensures.value at c.owed-owed.ensures.value in
     let e = c.in-Ok.ensures in
-    let now : Grown (parts c.self.inside) (record { history = c.enter_open.new.history; posted = c.self.inside.posted.items; seats = c.enter_open.new.seats; spots = c.self.inside.spots.items; starts = c.self.inside.starts; unclosed = c.self.inside.unclosed + 1; tenants = c.in_ok-tenants.tenants }) (Open (keyed c.args.tenant c.args.job) c.args.ask ∷ []) = hall-open (parts c.self.inside) _ (length c.self.inside.seats) (keyed c.args.tenant c.args.job) c.args.ask c.self.invariant e.workers e.events refl e.seats refl refl refl may refl fits.count (omega (arith, owing, e.room)) in
-    now.hall
+    hall-open (parts c.self.inside) _ (length c.self.inside.seats) (keyed c.args.tenant c.args.job) c.args.ask c.self.invariant e.workers e.events refl e.seats refl refl refl (may c) refl fits.count (omega (arith, owing, e.room))
+
+pub invariant_of-self-2 : goal.invariant_of-self-2
+invariant_of-self-2 c = (opened c).hall
 
 pub returns-clause-ok : goal.returns-clause-ok
-returns-clause-ok c =
-    let absent = placed c.self.inside.seats (keyed c.args.tenant c.args.job) _ _ c.place_of.ensures (none-from _ _ c.is_some.ensures c.if-is_some.false) in
-    let fits = rw c.jobs_of-jobs.ensures at c.in_ok-tenants.ensures in
-    let may = may-open (parts c.self.inside) (keyed c.args.tenant c.args.job) c.args.ask c.self.invariant c.are_in_form.ensures.tenant c.are_in_form.ensures.job c.are_in_form.ensures.ask absent fits.few fits.others in
-    let owing = rw c.deref.ensures.value at c.owed-owed.ensures.value in
-    let e = c.in-Ok.ensures in
-    let now : Grown (parts c.self.inside) (record { history = c.enter_open.new.history; posted = c.self.inside.posted.items; seats = c.enter_open.new.seats; spots = c.self.inside.spots.items; starts = c.self.inside.starts; unclosed = c.self.inside.unclosed + 1; tenants = c.in_ok-tenants.tenants }) (Open (keyed c.args.tenant c.args.job) c.args.ask ∷ []) = hall-open (parts c.self.inside) _ (length c.self.inside.seats) (keyed c.args.tenant c.args.job) c.args.ask c.self.invariant e.workers e.events refl e.seats refl refl refl may refl fits.count (omega (arith, owing, e.room)) in
-    rw (← c.self.view_is) now.events
+returns-clause-ok c = rw (← c.self.view_is) (opened c).events
 
 pub returns-clause-call : goal.returns-clause-call
-returns-clause-call c =
-    let absent = placed c.self.inside.seats (keyed c.args.tenant c.args.job) _ _ c.place_of.ensures (none-from _ _ c.is_some.ensures c.if-is_some.false) in
-    let fits = rw c.jobs_of-jobs.ensures at c.in_ok-tenants.ensures in
-    let may = may-open (parts c.self.inside) (keyed c.args.tenant c.args.job) c.args.ask c.self.invariant c.are_in_form.ensures.tenant c.are_in_form.ensures.job c.are_in_form.ensures.ask absent fits.few fits.others in
-    let owing = rw c.deref.ensures.value at c.owed-owed.ensures.value in
-    let e = c.in-Ok.ensures in
-    let now : Grown (parts c.self.inside) (record { history = c.enter_open.new.history; posted = c.self.inside.posted.items; seats = c.enter_open.new.seats; spots = c.self.inside.spots.items; starts = c.self.inside.starts; unclosed = c.self.inside.unclosed + 1; tenants = c.in_ok-tenants.tenants }) (Open (keyed c.args.tenant c.args.job) c.args.ask ∷ []) = hall-open (parts c.self.inside) _ (length c.self.inside.seats) (keyed c.args.tenant c.args.job) c.args.ask c.self.invariant e.workers e.events refl e.seats refl refl refl may refl fits.count (omega (arith, owing, e.room)) in
-    rw (← c.self.view_is) (called-one _ _ _ (Opens (keyed c.args.tenant c.args.job) c.args.ask) _ _ now.events (may, refl))
+returns-clause-call c = rw (← c.self.view_is) (called-one _ _ _ (Opens (keyed c.args.tenant c.args.job) c.args.ask) _ _ (opened c).events (may c, refl))

@@ -1,13 +1,12 @@
-use Rattle.std.proofs.Common.{◌≡◌, true, ◌+◌, ◌-◌, slice_set, Some, ap, refl, arith}
+use Rattle.std.proofs.Common.{◌+◌, ◌-◌, slice_set, Some, ap, refl, arith}
 use Rattle.spec_hall.specs.Seats.{Seat}
 use Rattle.spec_hall.specs.Spots.{Spot}
-use Rattle.spec_job.specs.SoloMachine.{startable}
-use Rattle.mal_hall.specs.HallView.{Inside}
-use Rattle.mal_hall.proofs.HallLemmas.{hall-waits, of-seat}
+use Rattle.mal_hall.proofs.HallLemmas.{hall-waited}
 use Rattle.mal_hall.proofs.Parts.{parts}
 use Rattle.mal_hall.proofs.PhaseLemmas.{HasBegun, can-start, phase-start, seat-there, spot-same, within-key}
 use Rattle.mal_hall.proofs.RoomLemmas.{unclosed-few}
 use Rattle.mal_hall.proofs.hall.Hall.start_at.Goals as goal
+use Rattle.mal_hall.proofs.hall.Hall.start_at.Goals.{After-self-2-1}
 
 pub owed-owed-requires-clause-few : goal.owed-owed-requires-clause-few
 owed-owed-requires-clause-few c = omega (arith, unclosed-few (parts c.self.inside) c.self.invariant)
@@ -26,30 +25,22 @@ pub returns-in-Err-clause-err : goal.returns-in-Err-clause-err
 returns-in-Err-clause-err c = rw (← c.self.view_is, c.in-Err.ensures.err.events) refl
 
 pub invariant_of-self : goal.invariant_of-self
-invariant_of-self c =
-    let e = c.in-Err.ensures.err in
-    hall-waits (parts c.self.inside) _ c.self.invariant e.workers e.events refl e.seats refl refl refl refl e.room
+invariant_of-self c = hall-waited (parts c.self.inside) c.enter_start.new.history c.enter_start.new.seats c.self.invariant c.in-Err.ensures.err
+
+-- the start was entered
+begun : (c : After-self-2-1) → HasBegun (parts c.self.inside) (record { history = c.enter_start.new.history; posted = c.self.inside.posted.items; seats = c.enter_start.new.seats; spots = slice_set c.self.inside.spots.items (c.args.worker - 1) (Some c.new.result); starts = c.self.inside.starts + 1; unclosed = c.self.inside.unclosed; tenants = c.self.inside.tenants }) c.args.index c.args.worker c.in-Ok.lease
+begun c =
+    let may = rw (← c.self.view_is) at c.requires in
+    let there = seat-there c.self.inside.seats c.args.at (within-key (parts c.self.inside) c.args.at may.key c.self.invariant may.place) in
+    let s : Seat = there.0 in
+    let can = can-start (parts c.self.inside) c.args.at c.args.index c.args.worker s c.self.invariant may there.1 in
+    let owing = rw c.deref.ensures.value at c.owed-owed.ensures.value in
+    let e = c.in-Ok.ensures in
+    let spots = ap (λ (sp : Spot). slice_set c.self.inside.spots.items (c.args.worker - 1) (Some sp)) (spot-same c.new.result c.args.at c.args.index (c.self.inside.starts + 1) c.new.ensures.job c.new.ensures.index c.new.ensures.start) in
+    phase-start (parts c.self.inside) _ c.args.at c.args.index c.args.worker (c.self.inside.starts + 1) s c.in-Ok.lease c.self.invariant can (e.lease s there.1) refl e.workers (e.events s there.1) refl (e.seats s there.1) spots refl refl refl (omega (arith, owing, e.room))
 
 pub invariant_of-self-2 : goal.invariant_of-self-2
-invariant_of-self-2 c =
-    let may = rw (← c.self.view_is) at c.requires in
-    let there = seat-there c.self.inside.seats c.args.at (within-key (parts c.self.inside) c.args.at may.key c.self.invariant may.place) in
-    let s : Seat = there.0 in
-    let can = can-start (parts c.self.inside) c.args.at c.args.index c.args.worker s c.self.invariant may there.1 in
-    let owing = rw c.deref.ensures.value at c.owed-owed.ensures.value in
-    let e = c.in-Ok.ensures in
-    let spots = ap (λ (sp : Spot). slice_set c.self.inside.spots.items (c.args.worker - 1) (Some sp)) (spot-same c.new.result c.args.at c.args.index (c.self.inside.starts + 1) c.new.ensures.job c.new.ensures.index c.new.ensures.start) in
-    let now : HasBegun (parts c.self.inside) (record { history = c.enter_start.new.history; posted = c.self.inside.posted.items; seats = c.enter_start.new.seats; spots = slice_set c.self.inside.spots.items (c.args.worker - 1) (Some c.new.result); starts = c.self.inside.starts + 1; unclosed = c.self.inside.unclosed; tenants = c.self.inside.tenants }) c.args.index c.args.worker c.in-Ok.lease = phase-start (parts c.self.inside) _ c.args.at c.args.index c.args.worker (c.self.inside.starts + 1) s c.in-Ok.lease c.self.invariant can (e.lease s there.1) refl e.workers (e.events s there.1) refl (e.seats s there.1) spots refl refl refl (omega (arith, owing, e.room)) in
-    now.hall
+invariant_of-self-2 c = (begun c).hall
 
 pub returns-clause-ok : goal.returns-clause-ok
-returns-clause-ok c =
-    let may = rw (← c.self.view_is) at c.requires in
-    let there = seat-there c.self.inside.seats c.args.at (within-key (parts c.self.inside) c.args.at may.key c.self.invariant may.place) in
-    let s : Seat = there.0 in
-    let can = can-start (parts c.self.inside) c.args.at c.args.index c.args.worker s c.self.invariant may there.1 in
-    let owing = rw c.deref.ensures.value at c.owed-owed.ensures.value in
-    let e = c.in-Ok.ensures in
-    let spots = ap (λ (sp : Spot). slice_set c.self.inside.spots.items (c.args.worker - 1) (Some sp)) (spot-same c.new.result c.args.at c.args.index (c.self.inside.starts + 1) c.new.ensures.job c.new.ensures.index c.new.ensures.start) in
-    let now : HasBegun (parts c.self.inside) (record { history = c.enter_start.new.history; posted = c.self.inside.posted.items; seats = c.enter_start.new.seats; spots = slice_set c.self.inside.spots.items (c.args.worker - 1) (Some c.new.result); starts = c.self.inside.starts + 1; unclosed = c.self.inside.unclosed; tenants = c.self.inside.tenants }) c.args.index c.args.worker c.in-Ok.lease = phase-start (parts c.self.inside) _ c.args.at c.args.index c.args.worker (c.self.inside.starts + 1) s c.in-Ok.lease c.self.invariant can (e.lease s there.1) refl e.workers (e.events s there.1) refl (e.seats s there.1) spots refl refl refl (omega (arith, owing, e.room)) in
-    rw (← c.self.view_is) now.has
+returns-clause-ok c = rw (← c.self.view_is) (begun c).has
