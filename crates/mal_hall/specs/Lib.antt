@@ -1,6 +1,7 @@
 pub mod Contents
 pub mod HallView
 pub mod Offered
+pub mod Replying
 pub mod Turned
 pub mod Applied
 pub mod Desks

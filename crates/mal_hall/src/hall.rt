@@ -1,6 +1,6 @@
 //! The hall and its calls.
 
-ghost use Rattle.std.specs.Prelude.{◌≡◌, ◌↔◌, ◌+◌, ◌-◌, ◌<◌, ◌≤◌, IsTrue, length, get_or, slice_get, slice_set, List, [], ◌∷◌, ◌++◌, true, false, Some, None, MatchOption, IsErrOf, map, option_map, is_some, vec_len, vec_capacity, OnOk, OnErr, IfOk, IfErr};
+ghost use Rattle.std.specs.Prelude.{◌≡◌, ◌↔◌, ◌+◌, ◌-◌, ◌<◌, ◌≤◌, IsTrue, length, get_or, slice_get, slice_set, [], ◌∷◌, ◌++◌, true, false, Some, None, MatchOption, IsErrOf, map, option_map, is_some, OnOk, OnErr, IfOk, IfErr};
 ghost use Rattle.std.specs.Option.{option_copied};
 ghost use Rattle.mal_base.specs.Asks.{IsAsk};
 ghost use Rattle.mal_base.specs.Names.{is_name};
@@ -8,20 +8,18 @@ ghost use Rattle.mal_hall.specs.Applied.{IsInside, listed_last};
 ghost use Rattle.mal_hall.specs.Offered.{HasArranged, HasBalanced, HasEnded, HasExchanged, HasStarted, IsFirst, MayEnd, MayStartAt, handed_of, offered, replied, returned};
 ghost use Rattle.mal_hall.specs.HallView.{next_number};
 ghost use Rattle.mal_hall.specs.Driven.{HasWorkedOff, IsTurn};
+ghost use Rattle.mal_hall.specs.Replying.{HasJob, OfAlone, OfJob};
 ghost use Rattle.mal_job.specs.Among.{among};
 ghost use Rattle.mal_job.specs.Finishing.{outcome_of};
+ghost use Rattle.mal_job.specs.Replying.{TellsReply};
 ghost use Rattle.spec_hall.specs.Calls.{HasCalled, IsOfLease, Opens, Revises, Closes, Picks, Finishes, Recalls, Asks, is_over};
 ghost use Rattle.spec_hall.specs.Dressed.{keyed, revisions_of};
 ghost use Rattle.spec_hall.specs.Driven.{GrowsByTurns, IsAtEnd, IsCalm};
 ghost use Rattle.spec_hall.specs.Events.{Open, Revise, Close, bare};
-ghost use Rattle.spec_hall.specs.Events as entered;
 ghost use Rattle.spec_hall.specs.Leases.{start_number};
-ghost use Rattle.spec_hall.specs.Own.{own};
 ghost use Rattle.spec_job.specs.Models.{AnswersSolve};
 ghost use Rattle.spec_job.specs.Proofs.{AnswersRefute};
 ghost use Rattle.spec_job.specs.Provenance.{ClausesAreOwn};
-ghost use Rattle.spec_job.specs.Replies.{reply};
-ghost use Rattle.spec_job.specs.SoloMachine.{solo};
 ghost use Rattle.spec_job.specs.KeyedJob.{KeyedJob};
 ghost use Rattle.spec_hall.specs.States as states_of;
 ghost use Rattle.spec_hall.specs.States.{LeaseOut, keys_of, states, lives, leases, lease_of, balanced, exchange_due};
@@ -192,13 +190,13 @@ impl Hall {
     /// that the job's nodes hold or tell one another is the job's own. A job that is not there is `NoJob`, however much
     /// memory there is.
     pub fn reply(&self, tenant: &Name, job: &Name, r: u32) -> Result<Option<Vec<u8>>, ReplyFault>
-        ensures reply { IfOk result (λ o. (t : KeyedJob) × (job_of (keyed tenant.now job.now) (states self.now.events) ≡ Some t) × (MatchOption o (reply (keyed tenant.now job.now) r t.state ≡ None) (λ text. reply (keyed tenant.now job.now) r t.state ≡ Some text.items))) }
-        ensures alone { IfOk result (λ o. (other : List entered.Event) → own (keyed tenant.now job.now) other ≡ own (keyed tenant.now job.now) self.now.events → MatchOption o (reply (keyed tenant.now job.now) r (solo (own (keyed tenant.now job.now) other)) ≡ None) (λ text. reply (keyed tenant.now job.now) r (solo (own (keyed tenant.now job.now) other)) ≡ Some text.items)) }
+        ensures reply { IfOk result (λ told. HasJob (keyed tenant.now job.now) self.now.events (TellsReply (keyed tenant.now job.now) r told)) }
+        ensures alone { IfOk result (λ told. OfAlone (keyed tenant.now job.now) self.now.events (TellsReply (keyed tenant.now job.now) r told)) }
         ensures no_job { IsErrOf result ReplyFault.NoJob → job_of (keyed tenant.now job.now) (states self.now.events) ≡ None }
         ensures out_of_memory { IsErrOf result ReplyFault.OutOfMemory → (t : KeyedJob) × (job_of (keyed tenant.now job.now) (states self.now.events) ≡ Some t) }
-        ensures models { (t : KeyedJob) → job_of (keyed tenant.now job.now) (states self.now.events) ≡ Some t → AnswersSolve t.state }
-        ensures proofs { (t : KeyedJob) → job_of (keyed tenant.now job.now) (states self.now.events) ≡ Some t → AnswersRefute t.state }
-        ensures own { (t : KeyedJob) → job_of (keyed tenant.now job.now) (states self.now.events) ≡ Some t → ClausesAreOwn t.state }
+        ensures models { OfJob (keyed tenant.now job.now) self.now.events AnswersSolve }
+        ensures proofs { OfJob (keyed tenant.now job.now) self.now.events AnswersRefute }
+        ensures own { OfJob (keyed tenant.now job.now) self.now.events ClausesAreOwn }
         ensures call { HasCalled self.now.workers self.now.events (Asks (keyed tenant.now job.now) r) (replied result) self.now.events }
     {
         let Some(at) = self.seats.place_of(*tenant, *job) else {

@@ -6,3 +6,4 @@ pub mod Loads
 pub mod Exports
 pub mod Among
 pub mod Finishing
+pub mod Replying

@@ -1,15 +1,16 @@
 //! A job: its machine, which only takes events.
 
-ghost use Rattle.std.specs.Prelude.{◌≡◌, ◌↔◌, ◌+◌, ◌-◌, ◌<◌, ◌≤◌, ◌^◌, true, length, is_some, IsTrue, Some, None, MatchOption, OnOk, OnErr, IfOk};
+ghost use Rattle.std.specs.Prelude.{◌≡◌, ◌↔◌, ◌+◌, ◌-◌, ◌<◌, ◌≤◌, ◌^◌, true, length, is_some, IsTrue, Some, None, OnOk, OnErr, IfOk};
 ghost use Rattle.std.specs.Option.{option_copied};
 ghost use Rattle.mal_base.specs.declared.verdict.Outcome.TheVariants.{Ran, Starved, Lost};
 ghost use Rattle.spec_job.specs.SoloMachine.{Opened, Revised, Closed, Volume, Finished, Exchanged, unopened, solo_step, is_live, startable, is_exchange_due, place_at, clauses_in, literals_in};
 ghost use Rattle.spec_job.specs.Viewed.{unstarted, and_own, and_start, IsLeaseOf, IsBack};
 ghost use Rattle.spec_job.specs.Proofs.{failed, proof_lines};
-ghost use Rattle.spec_job.specs.Replies.{told_by, reply};
+ghost use Rattle.spec_job.specs.Replies.{told_by};
 ghost use Rattle.spec_report.specs.Replies.{Proof, reply_text};
 ghost use Rattle.mal_job.specs.Among.{among};
 ghost use Rattle.mal_job.specs.Finishing.{outcome_of, MayFinish};
+ghost use Rattle.mal_job.specs.Replying.{TellsReply};
 ghost use Rattle.mal_job.specs.Viewed.{shared};
 
 use crate::derivation::Derivation;
@@ -170,7 +171,7 @@ impl Job {
 
     /// The reply to a revision, numbered from 1: None exactly where it is not answered.
     pub fn reply(&self, r: u32) -> Result<Option<Vec<u8>>, AllocError>
-        ensures { IfOk result (λ o. MatchOption o (reply self.now.titled.key r self.now.titled.state ≡ None) (λ text. reply self.now.titled.key r self.now.titled.state ≡ Some text.items)) }
+        ensures { IfOk result (λ told. TellsReply self.now.titled.key r told self.now.titled.state) }
     {
         match answer_at(self.questions.answers(), r) {
             None => Ok(None),

@@ -1,7 +1,6 @@
-use Rattle.std.proofs.Common.{◌≡◌, ℕ, List, [], Option, subst, sym, refl, arith, append-nil, Some, None, Ok, MatchOption}
-use Rattle.spec_job.specs.SoloMachine.{SoloMachine}
+use Rattle.std.proofs.Common.{◌≡◌, ℕ, List, [], Option, subst, sym, refl, arith, append-nil, Some, None, Ok}
 use Rattle.spec_job.specs.KeyedJob.{Key}
-use Rattle.spec_job.specs.Replies.{reply}
+use Rattle.mal_job.specs.Replying.{TellsReply}
 use Rattle.std.specs.declared.alloc.Global.{Global}
 use Rattle.std.specs.declared.vec.Vec.{Vec}
 use Rattle.spec_job.specs.KeyedJob.{KeyedJob}
@@ -15,7 +14,7 @@ use Rattle.mal_hall.proofs.HallLemmas.{placed, placed-below, sits, hall-absent, 
 use Rattle.mal_hall.proofs.hall.Hall.reply.Goals as goal
 
 -- a text that is the reply of the job's machine
-asked : (past : List Event) (k : Key) (r : ℕ) (o : Option (Vec ℕ Global)) (t : KeyedJob) → job_of k (states past) ≡ Some t → MatchOption o (reply k r t.state ≡ None) (λ text. reply k r t.state ≡ Some text.items) → IsAsking past k r (replied (Ok o)) []
+asked : (past : List Event) (k : Key) (r : ℕ) (o : Option (Vec ℕ Global)) (t : KeyedJob) → job_of k (states past) ≡ Some t → TellsReply k r o t.state → IsAsking past k r (replied (Ok o)) []
 asked past k r (Some text) t job told = (t, job, sym told, refl)
 asked past k r None t job told = (t, job, sym told, refl)
 
@@ -61,7 +60,7 @@ returns-in-Ok-clause-reply c =
     let state = c.at.result.now.job.titled.state in (
       c.at.result.now.job.titled,
       rw (← c.self.view_is) found.job,
-      subst (λ (k : Key). MatchOption c.in-Ok.text (reply k c.args.r state ≡ None) (λ text. reply k c.args.r state ≡ Some text.items)) found.key told,
+      subst (λ (k : Key). TellsReply k c.args.r c.in-Ok.text state) found.key told,
     )
 
 pub returns-in-Err-clause-out_of_memory : goal.returns-in-Err-clause-out_of_memory
@@ -73,7 +72,7 @@ pub returns-in-Ok-clause-alone : goal.returns-in-Ok-clause-alone
 returns-in-Ok-clause-alone c = λ other same.
     let here = sits c.self.inside.seats (keyed c.args.tenant.now c.args.job.now) _ _ _ c.place_of.ensures c.in-Some.is c.at.ensures in
     let found = hall-found _ _ _ _ c.self.invariant here in
-    found-alone _ _ _ (λ (k : Key) (state : SoloMachine). MatchOption c.in-Ok.text (reply k c.args.r state ≡ None) (λ text. reply k c.args.r state ≡ Some text.items)) found (rw c.job.ensures at c.in-Ok.ensures) other (rw (← c.self.view_is) at same)
+    found-alone _ _ _ (λ (k : Key). TellsReply k c.args.r c.in-Ok.text) found (rw c.job.ensures at c.in-Ok.ensures) other (rw (← c.self.view_is) at same)
 
 pub returns-in_default-clause-call : goal.returns-in_default-clause-call
 returns-in_default-clause-call c = record {
@@ -91,8 +90,7 @@ returns-in-Ok-clause-call c =
     let key = keyed c.args.tenant.now c.args.job.now in
     let titled = c.at.result.now.job.titled in
     let job : job_of key (states past) ≡ Some titled = rw (← c.self.view_is) found.job in
-    let replies : MatchOption c.in-Ok.text (reply key c.args.r titled.state ≡ None) (λ text. reply key c.args.r titled.state ≡ Some text.items) =
-    subst (λ (k : Key). MatchOption c.in-Ok.text (reply k c.args.r titled.state ≡ None) (λ text. reply k c.args.r titled.state ≡ Some text.items)) found.key told in
+    let replies : TellsReply key c.args.r c.in-Ok.text titled.state = subst (λ (k : Key). TellsReply k c.args.r c.in-Ok.text titled.state) found.key told in
     record { events = []; grown = sym (append-nil past); call = asked past key c.args.r c.in-Ok.text titled job replies }
 
 pub returns-in-Err-clause-call : goal.returns-in-Err-clause-call
