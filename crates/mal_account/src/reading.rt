@@ -1,7 +1,6 @@
 //! Reading accounts.
 
-ghost use Rattle.std.specs.Prelude.{◌≡◌, ℕ, List, ◌++◌, false, None, codes, IfOk, MatchOption, MatchResult};
-ghost use Rattle.std.specs.List.{list_any};
+ghost use Rattle.std.specs.Prelude.{◌≡◌, ℕ, List, ◌++◌, false, None, codes, IfOk, MatchResult};
 ghost use Rattle.spec_text.specs.Inputs.{words_of};
 ghost use Rattle.spec_dimacs.specs.Rows.{rows_of};
 ghost use Rattle.spec_script.specs.Limits.{served};

@@ -3,7 +3,7 @@
 ghost use Rattle.std.specs.Prelude.{◌≡◌, ◌<◌, ◌^◌, [], length, IfOk, IfErr, OnOk};
 ghost use Rattle.mal_claim.specs.ReadResult.{seen};
 ghost use Rattle.mal_answer.specs.Answers.{IsAnswer, IsAnswerTo, logged};
-ghost use Rattle.mal_answer.specs.Commands.{IsProved, Verifies};
+ghost use Rattle.mal_answer.specs.Commands.{IsProved};
 ghost use Rattle.mal_answer.specs.Claims.{TellsFault, TellsRefusal, IsUnverified};
 ghost use Rattle.mal_answer.specs.Devices.{device};
 ghost use Rattle.mal_words.specs.declared.request.Request.TheVariants.{Check};

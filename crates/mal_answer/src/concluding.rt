@@ -2,7 +2,7 @@
 
 ghost use Rattle.std.specs.Prelude.{◌⊎◌, OnOk, OnErr};
 ghost use Rattle.mal_answer.specs.Answers.{IsConcluded, IsFinished, hall_text, logged};
-ghost use Rattle.mal_answer.specs.Devices.{Complained, Failed, Gained, GainedFront, WroteWhole, WrotePart, device};
+ghost use Rattle.mal_answer.specs.Devices.{Failed, Gained, GainedFront, WroteWhole, WrotePart, device};
 
 use crate::answer::{Complaint, LogText, Texts};
 use mal_hall::Hall;

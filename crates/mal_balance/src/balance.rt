@@ -1,8 +1,8 @@
 //! The balancer: one worker for each of the first jobs, and the rest one by one.
 
-ghost use Rattle.std.specs.Prelude.{◌≡◌, ℕ, ◌*◌, ◌+◌, ◌<◌, ◌≤◌, ◌↔◌, List, length, IsTrue, MatchOption};
+ghost use Rattle.std.specs.Prelude.{◌≡◌, ℕ, ◌*◌, ◌+◌, ◌<◌, ◌≤◌, ◌↔◌, List, length, IsTrue};
 ghost use Rattle.spec_balance.specs.Fair.{priority_at, demand_at, volume_at, IsFair};
-ghost use Rattle.mal_balance.specs.Greedy.{IsGreedy, IsBest, IsClosed, IsNext};
+ghost use Rattle.mal_balance.specs.Greedy.{IsGreedy, IsBest, IsNext};
 
 use mal_base::Ask;
 

@@ -1,6 +1,6 @@
 //! The program from its words and its devices to its exit status.
 
-ghost use Rattle.std.specs.Prelude.{◌≡◌, ◌≤◌, ◌<◌, ◌^◌, ◌⊎◌, [], map, string_bytes};
+ghost use Rattle.std.specs.Prelude.{◌≡◌, ◌≤◌, ◌<◌, ◌^◌, ◌⊎◌, map, string_bytes};
 ghost use Rattle.mal_answer.specs.Devices.{AreSilent, Complained, device, usage_line};
 ghost use Rattle.mal_answer.specs.Served.{HasDone, HasMade, HasServed, ReadsNothing};
 ghost use Rattle.mal_words.specs.Requests.{IsRequest, Means, MeansNothing};

@@ -12,7 +12,7 @@ ghost use Rattle.mal_suspend.specs.Replaying.{MayAllReplay};
 ghost use Rattle.mal_suspend.specs.Starting.{shared_loads, shared_tolds, start_entries};
 ghost use Rattle.mal_job.specs.Exports.{marked};
 ghost use Rattle.mal_job.specs.Placing.{IsGrown, IsTree, IsBackAt, placed, with_placed, sent, ran_home, came_home, one_more_ran, revision_of, adds_of};
-ghost use Rattle.mal_job.specs.Viewed.{places_of, starts_of};
+ghost use Rattle.mal_job.specs.Viewed.{places_of};
 
 use crate::exchange::{exports, move_marks};
 use crate::loading::tolds_of;

@@ -1,6 +1,6 @@
 //! A job of a hall in its seat.
 
-ghost use Rattle.std.specs.Prelude.{◌≡◌, ◌↔◌, ◌+◌, ◌<◌, ◌≤◌, [], ◌∷◌, ◌++◌, true, not, IfOk, IsTrue, OnOk, OnErr, length};
+ghost use Rattle.std.specs.Prelude.{◌≡◌, ◌↔◌, ◌+◌, ◌<◌, ◌≤◌, [], ◌∷◌, ◌++◌, true, IfOk, IsTrue, OnOk, OnErr, length};
 ghost use Rattle.mal_base.specs.Asks.{IsAsk};
 ghost use Rattle.mal_job.specs.Finishing.{outcome_of, MayFinish};
 ghost use Rattle.spec_job.specs.SoloMachine.{Revised, Closed, Finished, Exchanged, is_exchange_due, place_at, startable, clauses_in};

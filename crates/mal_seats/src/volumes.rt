@@ -1,7 +1,6 @@
 //! The volumes of a balancing.
 
-ghost use Rattle.std.specs.Prelude.{◌≡◌, ℕ, ◌≤◌, All, IfOk, OnOk};
-ghost use Rattle.mal_base.specs.Asks.{IsAsk};
+ghost use Rattle.std.specs.Prelude.{◌≡◌, ℕ, ◌≤◌, IfOk};
 ghost use Rattle.spec_balance.specs.Fair.{IsFair, volume_at};
 ghost use Rattle.spec_hall.specs.Seats.{jobs_in, shares_by, balanced_by};
 ghost use Rattle.spec_hall.specs.States.{live_asks};
