@@ -8,6 +8,7 @@ use Rattle.mal_pool.specs.declared.gate.Point.TheVariants.{Before, After}
 use Rattle.mal_pool.specs.declared.gate.Step.{Step}
 use Rattle.mal_pool.specs.declared.gate.Step.TheVariants.{Go, Stop}
 use Rattle.mal_pool.specs.declared.working.End.TheVariants as ends
+use Rattle.mal_pool.specs.declared.working.Turned.{Turned}
 use Rattle.mal_pool.specs.declared.working.Turned.TheVariants as turned
 use Rattle.mal_pool.specs.Gates.{Stops, Passes}
 use Rattle.mal_pool.specs.Works.{IsTurn, turned_by}
@@ -53,3 +54,10 @@ stopped-after stops w start l old t is passed told stop = (
 given : (stops : Stops) (w : ℕ) (l : Handed) (d : Finished) (answer : Return) → Passes stops w l → IsWorked l d → IsTurn stops w (Picked w (Ok (Leased l)) ∷ Gave d answer ∷ []) (turned_by answer)
 given stops w l d calls.Back pass done = (l, d, pass, done, refl)
 given stops w l d (calls.Strange kept) pass done = (l, d, kept, pass, done, refl)
+
+-- what came of a lease that passed was given back, and this was answered
+pub gave-back : (stops : Stops) (w start : ℕ) (l : job.Leased) (d : Finished) (old now : List DeskCall) (t : Step) (end : Turned) → start ≡ l.journal.start → stops Before l.journal.start w ≡ false → t ≡ (if stops After start w then Stop else Go) → t ≡ Go → d.worker ≡ l.worker → Becomes d.outcome l d → Tells d.outcome d → (answer : Return) × (now ≡ old ++ Gave d answer ∷ []) × (end ≡ turned_by answer) → (mine : List DeskCall) × (now ≡ old ++ mine) × IsTurn stops w (Picked w (Ok (Leased (handed_of l))) ∷ mine) end
+gave-back stops w start l d old now t end is passed told go who becomes tells back =
+    let pass : Passes stops w (handed_of l) = (passed, subst (λ (n : ℕ). stops After n w ≡ false) is (go-is (stops After start w) t told go)) in
+    let turn = given stops w (handed_of l) d back.0 pass (worked l d who becomes tells) in
+    (Gave d back.0 ∷ [], back.1, subst (IsTurn stops w (Picked w (Ok (Leased (handed_of l))) ∷ Gave d back.0 ∷ [])) (sym back.2) turn)

@@ -1,6 +1,7 @@
 -- what crates above cite
 pub mod RunLosses
 pub mod CallLosses
+pub mod Knowing
 -- what this crate alone cites
 mod PoolLemmas
 mod Loops
@@ -9,5 +10,4 @@ mod Postings
 mod Leavings
 mod Refused
 mod Agreements
-mod Knowing
 mod Gating

@@ -4,10 +4,10 @@ ghost use Rattle.std.specs.Prelude.{◌≡◌, []};
 ghost use Rattle.mal_pool.specs.Traces.{traced};
 
 use crate::board::{Board, InUse};
-use crate::shared::{HallBox, Size};
+use crate::shared::HallBox;
 use crate::trace::Trace;
 use mal_base::PickFault;
-use mal_hall::{Back, Desk, Hall, Pick, Post, PostFault, Strange};
+use mal_hall::{Back, Desk, Hall, Pick, Post, PostFault, Size, Strange};
 use mal_suspend::Done;
 use std::snapshot::Snapshot;
 use std::sync::{Mutex, Wait};

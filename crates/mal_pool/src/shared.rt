@@ -7,20 +7,9 @@ ghost use Rattle.spec_hall.specs.Calls.{HasCalled, Picks, Finishes};
 ghost use Rattle.spec_run.specs.Losses.{NoneIsLost};
 
 use mal_base::PickFault;
-use mal_hall::{Back, Hall, Pick, Post, PostFault, Strange};
+use mal_hall::{Back, Hall, Pick, Post, PostFault, Size, Strange};
 use mal_suspend::Done;
-use std::marker::{Brand, PhantomData};
-
-/// How many workers a hall has that lies under a lock: of what is locked, contracts know the type alone.
-pub trait Size {
-    ghost use Rattle.std.specs.Prelude.{ℕ};
-
-    ghost workers: { ℕ };
-}
-
-impl Size for Brand {
-    ghost workers = { 1 };
-}
+use std::marker::PhantomData;
 
 /// A hall of so many workers of which no lease was lost.
 #[derive(Drop)]

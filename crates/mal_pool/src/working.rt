@@ -66,10 +66,16 @@ pub fn work_loop<R: Wait, D: Desk, G: Gate>(
     ensures calls { (mine : List DeskCall) × (D.calls result.0 ≡ D.calls pass ++ mine) × Works (G.stops gate.now) worker turns 0 None mine result.1 }
     ensures stopped { result.1 ≡ Stopped → StopsSomewhere (G.stops gate.now) }
 {
+    let station = Station {
+        rt,
+        desk,
+        worker,
+        gate,
+    };
     let mut pass = pass;
     let mut idles = 0;
     for _made in 0..turns {
-        let (back, turned) = turn(rt, desk, pass, worker, scratch, gate);
+        let (back, turned) = station.turn(pass, scratch);
         pass = back;
         match turned {
             Turned::Worked => idles = 0,
@@ -86,79 +92,67 @@ pub fn work_loop<R: Wait, D: Desk, G: Gate>(
     (pass, End::Spent)
 }
 
-/// Picks once, works what was leased off, and gives it back.
-fn turn<R: Wait, D: Desk, G: Gate>(
-    rt: &R,
-    desk: &D,
-    pass: D::Pass,
+/// Where a worker works: a desk, its number there, and the gate that it passes.
+#[derive(Drop)]
+struct Station<'a, R, D, G> {
+    rt: &'a R,
+    desk: &'a D,
     worker: u32,
-    scratch: &mut Scratch,
-    gate: &G,
-) -> (D::Pass, Turned)
-    requires of { D.is_of desk.now pass }
-    requires low { 1 ≤ worker }
-    requires high { worker ≤ D.workers desk.now }
-    ensures of { D.is_of desk.now result.0 }
-    ensures calls { (mine : List DeskCall) × (D.calls result.0 ≡ D.calls pass ++ mine) × IsTurn (G.stops gate.now) worker mine result.1 }
-{
-    let (pass, answer) = desk.pick(rt, pass, worker);
-    match answer {
-        Ok(Pick::Leased(lease)) => work_off(rt, desk, pass, worker, lease, scratch, gate),
-        Ok(Pick::Idle) => (pass, Turned::Idle),
-        Ok(Pick::AllDone) => (pass, Turned::Ended(End::AllDone)),
-        Err(PickFault::Busy) => (pass, Turned::Ended(End::Busy)),
-        Err(PickFault::OutOfMemory) => (pass, Turned::Ended(End::OutOfMemory)),
-    }
+    gate: &'a G,
 }
 
-/// Works a lease off that a worker has just picked, and gives it back. Where the gate stops the worker, the lease or
-/// what came of it is let go.
-fn work_off<R: Wait, D: Desk, G: Gate>(
-    rt: &R,
-    desk: &D,
-    pass: D::Pass,
-    worker: u32,
-    lease: Lease,
-    scratch: &mut Scratch,
-    gate: &G,
-) -> (D::Pass, Turned)
-    requires of { D.is_of desk.now pass }
-    ensures of { D.is_of desk.now result.0 }
-    ensures calls { (mine : List DeskCall) × (D.calls result.0 ≡ D.calls pass ++ mine) × IsTurn (G.stops gate.now) worker (Picked worker (Ok (Leased (handed_of lease))) ∷ mine) result.1 }
-{
-    let start = lease.start();
-    match gate.at(Point::Before, start, worker) {
-        Step::Stop => {
-            let_lease_go(lease);
-            (pass, Turned::Ended(End::Stopped))
+impl<'a, R: Wait, D: Desk, G: Gate> Station<'a, R, D, G> {
+    /// Picks once, works what was leased off, and gives it back.
+    fn turn(&self, pass: D::Pass, scratch: &mut Scratch) -> (D::Pass, Turned)
+        requires of { D.is_of self.now.desk.now pass }
+        requires low { 1 ≤ self.now.worker }
+        requires high { self.now.worker ≤ D.workers self.now.desk.now }
+        ensures of { D.is_of self.now.desk.now result.0 }
+        ensures calls { (mine : List DeskCall) × (D.calls result.0 ≡ D.calls pass ++ mine) × IsTurn (G.stops self.now.gate.now) self.now.worker mine result.1 }
+    {
+        let (pass, answer) = self.desk.pick(self.rt, pass, self.worker);
+        match answer {
+            Ok(Pick::Leased(lease)) => self.work_off(pass, lease, scratch),
+            Ok(Pick::Idle) => (pass, Turned::Idle),
+            Ok(Pick::AllDone) => (pass, Turned::Ended(End::AllDone)),
+            Err(PickFault::Busy) => (pass, Turned::Ended(End::Busy)),
+            Err(PickFault::OutOfMemory) => (pass, Turned::Ended(End::OutOfMemory)),
         }
-        Step::Go => work_on(rt, desk, pass, worker, lease, scratch, gate),
     }
-}
 
-/// Works a lease off with which the gate let the worker pass, and gives back what came of it.
-fn work_on<R: Wait, D: Desk, G: Gate>(
-    rt: &R,
-    desk: &D,
-    pass: D::Pass,
-    worker: u32,
-    lease: Lease,
-    scratch: &mut Scratch,
-    gate: &G,
-) -> (D::Pass, Turned)
-    requires of { D.is_of desk.now pass }
-    requires passed { G.stops gate.now Before lease.journal.start worker ≡ false }
-    ensures of { D.is_of desk.now result.0 }
-    ensures calls { (mine : List DeskCall) × (D.calls result.0 ≡ D.calls pass ++ mine) × IsTurn (G.stops gate.now) worker (Picked worker (Ok (Leased (handed_of lease))) ∷ mine) result.1 }
-{
-    let start = lease.start();
-    let back = lease.work(scratch);
-    match gate.at(Point::After, start, worker) {
-        Step::Stop => {
-            let_done_go(back);
-            (pass, Turned::Ended(End::Stopped))
+    /// Works a lease off that the worker has just picked, and gives it back. Where the gate stops the worker, the lease
+    /// or what came of it is let go.
+    fn work_off(&self, pass: D::Pass, lease: Lease, scratch: &mut Scratch) -> (D::Pass, Turned)
+        requires of { D.is_of self.now.desk.now pass }
+        ensures of { D.is_of self.now.desk.now result.0 }
+        ensures calls { (mine : List DeskCall) × (D.calls result.0 ≡ D.calls pass ++ mine) × IsTurn (G.stops self.now.gate.now) self.now.worker (Picked self.now.worker (Ok (Leased (handed_of lease))) ∷ mine) result.1 }
+    {
+        let start = lease.start();
+        match self.gate.at(Point::Before, start, self.worker) {
+            Step::Stop => {
+                let_lease_go(lease);
+                (pass, Turned::Ended(End::Stopped))
+            }
+            Step::Go => self.work_on(pass, lease, scratch),
         }
-        Step::Go => give_back(rt, desk, pass, back),
+    }
+
+    /// Works a lease off with which the gate let the worker pass, and gives back what came of it.
+    fn work_on(&self, pass: D::Pass, lease: Lease, scratch: &mut Scratch) -> (D::Pass, Turned)
+        requires of { D.is_of self.now.desk.now pass }
+        requires passed { G.stops self.now.gate.now Before lease.journal.start self.now.worker ≡ false }
+        ensures of { D.is_of self.now.desk.now result.0 }
+        ensures calls { (mine : List DeskCall) × (D.calls result.0 ≡ D.calls pass ++ mine) × IsTurn (G.stops self.now.gate.now) self.now.worker (Picked self.now.worker (Ok (Leased (handed_of lease))) ∷ mine) result.1 }
+    {
+        let start = lease.start();
+        let back = lease.work(scratch);
+        match self.gate.at(Point::After, start, self.worker) {
+            Step::Stop => {
+                let_done_go(back);
+                (pass, Turned::Ended(End::Stopped))
+            }
+            Step::Go => give_back(self.rt, self.desk, pass, back),
+        }
     }
 }
 

@@ -1,5 +1,5 @@
 -- A history that is entered event by event, and then judged.
-use Rattle.std.proofs.Common.{◌≡◌, ℕ, ◌+◌, ◌<◌, ◌≤◌, Bool, false, List, [], ◌∷◌, ◌++◌, length, map, filter, take, get_or, slice_get, Option, Some, refl, sym, ◌∙◌, ap, subst, arith}
+use Rattle.std.proofs.Common.{◌≡◌, ℕ, ◌+◌, ◌<◌, Bool, false, List, [], ◌∷◌, ◌++◌, length, map, take, get_or, Option, Some, refl, sym, ◌∙◌, ap, subst, arith}
 use Rattle.std.specs.Prelude.{IsTrue, ◌↔◌}
 use Rattle.std.proofs.lemmas.Bool.{both_ways}
 use Rattle.std.proofs.lemmas.List.{map-append, take_all}
@@ -9,7 +9,7 @@ use Rattle.mal_hall.specs.HallView.{HallView}
 use Rattle.mal_history.specs.Written.{Written}
 use Rattle.mal_history.specs.declared.event.Event as written
 use Rattle.mal_pool.specs.Posts.{HasRun}
-use Rattle.mal_replay.proofs.KnownLemmas.{complete-known}
+use Rattle.mal_pool.proofs.Knowing.{posts-known}
 use Rattle.mal_replay.specs.Replaying.{HasReplayed}
 use Rattle.spec_hall.specs.Events.{Event}
 use Rattle.spec_hall.specs.Legal.{Allowed, Legal}
@@ -66,7 +66,7 @@ pub is-complete : (s : Scripted) (h : Written) (hall : HallView) → IsScript se
 is-complete s h hall formed is legal answered home have = record { posts = lines-posted s h.events hall.events formed (all-legal s h hall is legal).written have; answered = answered; home = home }
 
 pub has-run : (s : Scripted) (hall : HallView) → Legal hall.workers hall.events → IsComplete s hall.events → (w : ℕ) × HasRun w s hall
-has-run s hall legal complete = (hall.workers, record { workers_are = refl; legal = legal; complete = complete; known = complete-known s hall.events complete })
+has-run s hall legal complete = (hall.workers, record { workers_are = refl; legal = legal; complete = complete; known = posts-known s hall.events complete.posts })
 
 pub replied : (s : Scripted) (h : Written) (hall : HallView) (text : List ℕ) → HasReplayed s h (length h.events) hall → Legal hall.workers hall.events → IsComplete s hall.events → text ≡ replies s hall.events → IsReplied h.workers s h.events text
 replied s h hall text is legal complete told = record { events = hall.events; legal = all-legal s h hall is legal; complete = complete; text_is = told }

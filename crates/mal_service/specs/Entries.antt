@@ -1,24 +1,21 @@
-use Rattle.std.specs.Prelude.{List, [], Option, Some, None, Ok}
+use Rattle.std.specs.Prelude.{[], Option, Some, None}
 use Rattle.mal_service.specs.declared.hall_call.HallCall.{HallCall}
 use Rattle.mal_service.specs.declared.hall_call.HallCall.TheVariants as told
 use Rattle.mal_hall.specs.Offered.{offered, replied, returned}
-use Rattle.spec_hall.specs.Calls.{Idle}
+use Rattle.mal_service.specs.Posts.{call_of, no_call}
 use Rattle.spec_hall.specs.Dressed.{keyed}
-use Rattle.spec_hall.specs.Events.{Event}
-use Rattle.spec_service.specs.Record.{Answered, Opened, Revised, Closed, Asked, Picked, Gave, Entry, entry}
+use Rattle.spec_service.specs.Record.{Answered, Asked, Picked, Gave, Entry, entry}
 
 -- a call with its arguments and its answer
 abbrev pub answered : HallCall → Answered
-answered (told.Opened tenant job ask answer) = Opened (keyed tenant.value job.value) ask.value answer.value
-answered (told.Revised tenant job revision answer) = Revised (keyed tenant.value job.value) revision.value answer.value
-answered (told.Closed tenant job answer) = Closed (keyed tenant.value job.value) answer.value
+answered (told.Posted post answer) = call_of post.value answer.value
 answered (told.Asked tenant job r answer) = Asked (keyed tenant.value job.value) r.value (replied answer.value)
 answered (told.Picked worker answer) = Picked worker.value (offered answer.value)
 answered (told.Gave back answer) = Gave back.value (returned answer.value)
 
 -- an entry that stands nowhere
 abbrev pub no_entry : Entry
-no_entry = entry (Picked 0 (Ok Idle)) []
+no_entry = entry no_call []
 
 -- the entry that was noted last
 abbrev pub noted_in : Option Entry → Entry

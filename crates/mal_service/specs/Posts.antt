@@ -3,8 +3,9 @@ use Rattle.mal_hall.specs.declared.desk.Post.{Post}
 use Rattle.mal_hall.specs.declared.desk.Post.TheVariants as posts
 use Rattle.mal_hall.specs.declared.desk.PostFault.{PostFault}
 use Rattle.mal_hall.specs.declared.desk.PostFault.TheVariants as faults
+use Rattle.spec_hall.specs.Calls.{Idle}
 use Rattle.spec_hall.specs.Dressed.{keyed}
-use Rattle.spec_service.specs.Record.{Answered, Opened, Revised, Closed}
+use Rattle.spec_service.specs.Record.{Answered, Opened, Revised, Closed, Picked}
 
 -- it holds of the hall's call that a post is, with the answer to the post
 abbrev pub HoldsOfPost : Post → Result (Unit {0}) PostFault → (Answered → Type 0) → Type 0
@@ -20,3 +21,22 @@ HoldsOfPost (posts.Close tenant job) (Ok done) P = P (Closed (keyed tenant job) 
 HoldsOfPost (posts.Close tenant job) (Err (faults.Open fault)) P = ⊥
 HoldsOfPost (posts.Close tenant job) (Err (faults.Revise fault)) P = ⊥
 HoldsOfPost (posts.Close tenant job) (Err (faults.Close fault)) P = P (Closed (keyed tenant job) (Err fault))
+
+-- what no post is
+abbrev pub no_call : Answered
+no_call = Picked 0 (Ok Idle)
+
+-- the hall's call that a post is, with the answer to the post; no post is refused by a fault of another kind
+abbrev pub call_of : Post → Result (Unit {0}) PostFault → Answered
+call_of (posts.Open tenant job ask) (Ok done) = Opened (keyed tenant job) ask (Ok done)
+call_of (posts.Open tenant job ask) (Err (faults.Open fault)) = Opened (keyed tenant job) ask (Err fault)
+call_of (posts.Open tenant job ask) (Err (faults.Revise fault)) = no_call
+call_of (posts.Open tenant job ask) (Err (faults.Close fault)) = no_call
+call_of (posts.Revise tenant job r) (Ok done) = Revised (keyed tenant job) r (Ok done)
+call_of (posts.Revise tenant job r) (Err (faults.Open fault)) = no_call
+call_of (posts.Revise tenant job r) (Err (faults.Revise fault)) = Revised (keyed tenant job) r (Err fault)
+call_of (posts.Revise tenant job r) (Err (faults.Close fault)) = no_call
+call_of (posts.Close tenant job) (Ok done) = Closed (keyed tenant job) (Ok done)
+call_of (posts.Close tenant job) (Err (faults.Open fault)) = no_call
+call_of (posts.Close tenant job) (Err (faults.Revise fault)) = no_call
+call_of (posts.Close tenant job) (Err (faults.Close fault)) = Closed (keyed tenant job) (Err fault)

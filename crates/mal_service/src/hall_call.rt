@@ -1,30 +1,16 @@
 //! Calls of a hall with their answers, as clauses see them.
 
-use mal_base::{Ask, Name};
-use mal_hall::{Back, CloseFault, OpenFault, Pick, PickFault, ReplyFault, ReviseFault, Strange};
-use mal_revision::Revision;
+use mal_base::Name;
+use mal_hall::{Back, Pick, PickFault, Post, PostFault, ReplyFault, Strange};
 use mal_suspend::Done;
 use std::snapshot::Snapshot;
 
 /// A call of a hall with its arguments and its answer. They are snapshots, which have no bytes.
 #[derive(Drop)]
 pub(crate) enum HallCall {
-    Opened {
-        tenant: Snapshot<Name>,
-        job: Snapshot<Name>,
-        ask: Snapshot<Ask>,
-        answer: Snapshot<Result<(), OpenFault>>,
-    },
-    Revised {
-        tenant: Snapshot<Name>,
-        job: Snapshot<Name>,
-        revision: Snapshot<Revision>,
-        answer: Snapshot<Result<(), ReviseFault>>,
-    },
-    Closed {
-        tenant: Snapshot<Name>,
-        job: Snapshot<Name>,
-        answer: Snapshot<Result<(), CloseFault>>,
+    Posted {
+        post: Snapshot<Post>,
+        answer: Snapshot<Result<(), PostFault>>,
     },
     Asked {
         tenant: Snapshot<Name>,

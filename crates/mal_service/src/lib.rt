@@ -7,6 +7,7 @@ mod noted;
 mod service;
 
 pub use entry::Entry;
+pub use mal_hall::Size;
 pub use mal_turn::InUse;
-pub use noted::{NotedHall, Size};
+pub use noted::NotedHall;
 pub use service::{Pass, Service};

@@ -3,34 +3,19 @@ ghost use Rattle.std.specs.Prelude.{◌≡◌, ◌≤◌, [], IfOk, IfErr};
 ghost use Rattle.mal_hall.specs.Offered.{offered, replied, returned};
 ghost use Rattle.spec_hall.specs.Dressed.{keyed};
 ghost use Rattle.spec_service.specs.Passes.{HasNoted};
-ghost use Rattle.spec_service.specs.Record.{Opened, Revised, Closed, Asked, Picked, Gave};
+ghost use Rattle.spec_service.specs.Record.{Asked, Picked, Gave};
 ghost use Rattle.mal_service.specs.Entries.{noted_in};
 ghost use Rattle.mal_service.specs.Posts.{HoldsOfPost};
 
 use crate::entry::Entry;
 use crate::hall_call::HallCall;
-use mal_base::{Ask, Name};
-use mal_hall::{
-    Back, CloseFault, Hall, OpenFault, Pick, PickFault, Post, PostFault, ReplyFault, ReviseFault,
-    Strange,
-};
-use mal_revision::Revision;
+use mal_base::Name;
+use mal_hall::{Back, Hall, Pick, PickFault, Post, PostFault, ReplyFault, Size, Strange};
 use mal_suspend::Done;
 use spec_turn::Recorded;
 use std::alloc::{AllocError, Global};
-use std::marker::{Brand, PhantomData};
+use std::marker::PhantomData;
 use std::snapshot::Snapshot;
-
-/// How many workers the hall of a service has.
-pub trait Size {
-    ghost use Rattle.std.specs.Prelude.{ℕ};
-
-    ghost workers: { ℕ };
-}
-
-impl Size for Brand {
-    ghost workers = { 1 };
-}
 
 /// A hall of so many workers with the entry of its last call. It stands for the records whose events are its history.
 #[derive(Drop)]
@@ -77,81 +62,20 @@ impl<S: Size> NotedHall<S> {
         self.hall
     }
 
-    /// Opens a job, and notes the call.
-    fn open_job(&mut self, tenant: Name, job: Name, ask: Ask) -> Result<(), OpenFault>
-        ensures { HasNoted S.workers self.old.hall.events (Opened (keyed tenant job) ask result) self.new.hall.events (noted_in self.new.noted) }
-    {
-        let before = Snapshot::of(&self.hall);
-        let answer = self.hall.open_job(tenant, job, ask);
-        let told = HallCall::Opened {
-            tenant: Snapshot::of(&tenant),
-            job: Snapshot::of(&job),
-            ask: Snapshot::of(&ask),
-            answer: Snapshot::of(&answer),
-        };
-        self.noted = Some(Entry::of(told, before, &self.hall));
-        answer
-    }
-
-    /// Posts a job's next revision, and notes the call.
-    fn revise_job(
-        &mut self,
-        tenant: &Name,
-        job: &Name,
-        revision: Revision,
-    ) -> Result<(), ReviseFault>
-        ensures { HasNoted S.workers self.old.hall.events (Revised (keyed tenant.now job.now) revision result) self.new.hall.events (noted_in self.new.noted) }
-    {
-        let before = Snapshot::of(&self.hall);
-        let posted = Snapshot::of(&revision);
-        let answer = self.hall.revise_job(tenant, job, revision);
-        let told = HallCall::Revised {
-            tenant: Snapshot::of(tenant),
-            job: Snapshot::of(job),
-            revision: posted,
-            answer: Snapshot::of(&answer),
-        };
-        self.noted = Some(Entry::of(told, before, &self.hall));
-        answer
-    }
-
-    /// Closes a job, and notes the call.
-    fn close_job(&mut self, tenant: &Name, job: &Name) -> Result<(), CloseFault>
-        ensures { HasNoted S.workers self.old.hall.events (Closed (keyed tenant.now job.now) result) self.new.hall.events (noted_in self.new.noted) }
-    {
-        let before = Snapshot::of(&self.hall);
-        let answer = self.hall.close_job(tenant, job);
-        let told = HallCall::Closed {
-            tenant: Snapshot::of(tenant),
-            job: Snapshot::of(job),
-            answer: Snapshot::of(&answer),
-        };
-        self.noted = Some(Entry::of(told, before, &self.hall));
-        answer
-    }
-
-    /// Posts by the call of the post's kind, and notes that call.
+    /// Posts, and notes the hall's call that the post is.
+    #[tactic(auto, using(crate::proofs::PostLemmas::post_noted))]
     pub(crate) fn post(&mut self, post: Post) -> Result<(), PostFault>
         ensures { HoldsOfPost post result (λ c. HasNoted S.workers self.old.hall.events c self.new.hall.events (noted_in self.new.noted)) }
     {
-        match post {
-            Post::Open { tenant, job, ask } => match self.open_job(tenant, job, ask) {
-                Ok(()) => Ok(()),
-                Err(fault) => Err(PostFault::Open(fault)),
-            },
-            Post::Revise {
-                tenant,
-                job,
-                revision,
-            } => match self.revise_job(&tenant, &job, revision) {
-                Ok(()) => Ok(()),
-                Err(fault) => Err(PostFault::Revise(fault)),
-            },
-            Post::Close { tenant, job } => match self.close_job(&tenant, &job) {
-                Ok(()) => Ok(()),
-                Err(fault) => Err(PostFault::Close(fault)),
-            },
-        }
+        let before = Snapshot::of(&self.hall);
+        let posted = Snapshot::of(&post);
+        let answer = self.hall.post(post);
+        let told = HallCall::Posted {
+            post: posted,
+            answer: Snapshot::of(&answer),
+        };
+        self.noted = Some(Entry::of(told, before, &self.hall));
+        answer
     }
 
     /// Asks for the reply to a job's revision, and notes the call.

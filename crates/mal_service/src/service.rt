@@ -8,9 +8,9 @@ ghost use Rattle.spec_service.specs.Passes.{Enters, LeavesHall};
 ghost use Rattle.spec_service.specs.Record.{Asked, Picked, Gave};
 ghost use Rattle.spec_turn.specs.Rule.{Begins, IsWhole, child, joined, opener, splitting};
 
-use crate::noted::{NotedHall, Size};
+use crate::noted::NotedHall;
 use mal_base::Name;
-use mal_hall::{Back, Hall, Pick, PickFault, Post, PostFault, ReplyFault, Strange};
+use mal_hall::{Back, Hall, Pick, PickFault, Post, PostFault, ReplyFault, Size, Strange};
 use mal_suspend::Done;
 use mal_turn::{InUse, Seat, Turn};
 use std::alloc::{AllocError, Global};

@@ -1,4 +1,3 @@
-use Rattle.std.proofs.Common.{arith}
 use Rattle.spec_run.proofs.PostingLemmas.{posting-formed}
 use Rattle.mal_pool.proofs.Agreements.{contents-at, contents-more}
 use Rattle.mal_pool.proofs.testing.have_contents.Goals as goal

@@ -1,4 +1,3 @@
-use Rattle.std.proofs.Common.{refl}
 use Rattle.mal_replay.proofs.EnterLemmas.{has-run, is-complete, lacks-posts, not-passed, replied}
 use Rattle.mal_replay.proofs.replaying.answer.Goals as goal
 

@@ -1,4 +1,4 @@
-use Rattle.std.proofs.Common.{Err, ap, refl}
+use Rattle.std.proofs.Common.{Err, ap}
 use Rattle.mal_history.specs.Written.{line_at}
 use Rattle.mal_replay.proofs.EnterLemmas.{refused-at, replayed-more}
 use Rattle.mal_replay.proofs.replaying.enter.Goals as goal
