@@ -13,8 +13,8 @@ pub struct InUse {
 /// A desk at which tenants post, with passes that are split and joined. In the end it gives its hall, of which no lease
 /// was lost.
 pub trait Board: Desk + Drop {
-    ghost use Rattle.std.specs.Prelude.{◌≡◌, ℕ, ◌<◌, List, [], ◌∷◌, ◌++◌, IfOk, IfErr};
-    ghost use Rattle.mal_hall.specs.Desks.{DeskCall, Posted};
+    ghost use Rattle.std.specs.Prelude.{◌≡◌, ◌<◌, [], ◌∷◌, ◌++◌, IfOk, IfErr};
+    ghost use Rattle.mal_hall.specs.Desks.{Posted};
     ghost use Rattle.spec_run.specs.Losses.{NoneIsLost};
 
     /// Whether a pass is the whole of its board's: no other is left.

@@ -1,6 +1,6 @@
 //! The parts of threads in a run.
 
-ghost use Rattle.std.specs.Prelude.{◌≡◌, ℕ, ◌≤◌, List, [], ◌∷◌, ◌++◌, true};
+ghost use Rattle.std.specs.Prelude.{◌≡◌, ◌≤◌, List, ◌++◌, true};
 ghost use Rattle.mal_hall.specs.Desks.{DeskCall};
 ghost use Rattle.mal_pool.specs.Gates.{StopsSomewhere};
 ghost use Rattle.mal_pool.specs.Runs.{Fits, HasPlayed};

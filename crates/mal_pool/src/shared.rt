@@ -1,6 +1,6 @@
 //! A hall under a lock.
 
-ghost use Rattle.std.specs.Prelude.{◌≡◌, ℕ, ◌≤◌, ◌++◌, ◌∷◌, []};
+ghost use Rattle.std.specs.Prelude.{◌≡◌, ◌≤◌};
 ghost use Rattle.mal_hall.specs.Desks.{HasPosted, IsOwn};
 ghost use Rattle.mal_hall.specs.Offered.{offered, returned};
 ghost use Rattle.spec_hall.specs.Calls.{HasCalled, Picks, Finishes};

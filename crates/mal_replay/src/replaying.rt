@@ -1,6 +1,6 @@
 //! Replaying a history.
 
-ghost use Rattle.std.specs.Prelude.{◌≡◌, ◌+◌, ◌<◌, Ok, Err, length, IfOk, IfErr};
+ghost use Rattle.std.specs.Prelude.{◌+◌, ◌<◌, Ok, Err, length, IfOk, IfErr};
 ghost use Rattle.mal_history.specs.Written.{line_at};
 ghost use Rattle.mal_replay.specs.Replaying.{HasReplayed};
 ghost use Rattle.spec_replay.specs.Replayed.{IsReplay};

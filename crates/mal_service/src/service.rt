@@ -1,5 +1,5 @@
 //! The service and its calls.
-ghost use Rattle.std.specs.Prelude.{◌≡◌, ◌≤◌, ◌<◌, [], IfOk, IfErr};
+ghost use Rattle.std.specs.Prelude.{◌≡◌, ◌≤◌, ◌<◌, IfOk, IfErr};
 ghost use Rattle.mal_hall.specs.Offered.{offered, replied, returned};
 ghost use Rattle.mal_service.specs.Posts.{HoldsOfPost};
 ghost use Rattle.mal_turn.specs.Seats.{IsOf, view};
