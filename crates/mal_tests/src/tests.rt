@@ -9,14 +9,13 @@ mod scripts;
 mod slow;
 mod stops;
 
-use gates::{Together, last_worker, losses, starts_at_once};
+use gates::{Together, last_worker, losses};
 use mal_pool::{PlainGate, replies, run_alone};
 use programs::{replayed, run};
 use scripts::{FOUR_REPLIES, FOUR_TENANTS, mixed_jobs, single_jobs};
 use std::alloc::Global;
 use std::process::Abort;
 use std::sync::Wait;
-use std::sync::atomic::Ordering;
 use std::test::Fail;
 use std::thread::Threads;
 
@@ -32,12 +31,9 @@ fn start_together<R: Threads + Wait + Sync + Abort>(
     let gate = Together::of(u64::from(workers));
     let ran = run(rt, alloc, workers, text.as_slice(), &gate)?;
     assert_eq!(rt; ran.status, 0);
-    assert_eq!(rt; gate.let_go.load(Ordering::SeqCst), 2 * u64::from(workers));
     let history = mal_history::read(alloc, ran.log.as_slice())?;
-    assert_eq!(rt; starts_at_once(&history), workers as usize);
     assert!(rt; last_worker(&history) > 1);
-    assert_eq!(rt; losses(&history), 0);
-    Ok(())
+    gate.check(rt, &history)
 }
 
 #[test]

@@ -22,6 +22,14 @@ impl Size for One {
     ghost workers = { 1 };
 }
 
+/// Who calls a service: how it waits, where it takes memory, and the service.
+#[derive(Drop)]
+struct Caller<'a, R: Wait, S: Size> {
+    rt: &'a R,
+    alloc: Global,
+    service: &'a Service<S>,
+}
+
 /// The opening of the job p of a tenant.
 fn opening(alloc: Global, tenant: &[u8]) -> Option<Post> {
     Some(Post::Open {
@@ -45,44 +53,6 @@ fn free(alloc: Global) -> Option<Revision> {
     Revision::new(alloc, 0, Vec::new(alloc), &[]).ok()
 }
 
-/// Posts.
-fn post<S: Size, R: Wait>(
-    rt: &R,
-    service: &Service<S>,
-    pass: Pass<S>,
-    post: Option<Post>,
-) -> (Pass<S>, bool)
-    requires { IsOf service.now.turn pass }
-    ensures { IsOf service.now.turn result.0 }
-{
-    match post {
-        Some(post) => {
-            let (pass, answer) = service.post(rt, pass, post);
-            (pass, answer.is_ok())
-        }
-        None => (pass, false),
-    }
-}
-
-/// Asks for the reply to the first revision of a job of tenant a, which is to be this text.
-fn hear<R: Wait>(
-    rt: &R,
-    alloc: Global,
-    service: &Service<One>,
-    pass: Pass<One>,
-    job: &[u8],
-    known: &[u8],
-) -> (Pass<One>, Told)
-    requires { IsOf service.now.turn pass }
-    ensures { IsOf service.now.turn result.0 }
-{
-    let (Some(tenant), Some(job)) = (name(alloc, b"a"), name(alloc, job)) else {
-        return (pass, Told::Wanting);
-    };
-    let (pass, answer) = service.ask(rt, pass, &tenant, &job, 1);
-    (pass, heard(answer, known))
-}
-
 /// What came of the lease of a pick that is worked off, if there is one.
 fn worked(alloc: Global, picked: Result<Pick, PickFault>) -> Option<Done> {
     match picked {
@@ -91,91 +61,107 @@ fn worked(alloc: Global, picked: Result<Pick, PickFault>) -> Option<Done> {
     }
 }
 
-/// Gives back.
-fn give<S: Size, R: Wait>(
-    rt: &R,
-    service: &Service<S>,
-    pass: Pass<S>,
-    done: Option<Done>,
-) -> (Pass<S>, Told)
-    requires { IsOf service.now.turn pass }
-    ensures { IsOf service.now.turn result.0 }
-{
-    match done {
-        Some(done) => {
-            let (pass, answer) = service.give(rt, pass, done);
-            match answer {
-                Ok(_) => (pass, Told::Done),
-                Err(strange) => (pass, Told::Strange(strange.kept)),
+impl<R: Wait, S: Size> Caller<'_, R, S> {
+    /// Posts.
+    fn post(&self, pass: Pass<S>, post: Option<Post>) -> (Pass<S>, bool)
+        requires { IsOf self.now.service.now.turn pass }
+        ensures { IsOf self.now.service.now.turn result.0 }
+    {
+        match post {
+            Some(post) => {
+                let (pass, answer) = self.service.post(self.rt, pass, post);
+                (pass, answer.is_ok())
             }
+            None => (pass, false),
         }
-        None => (pass, Told::Absent),
+    }
+
+    /// Gives back.
+    fn give(&self, pass: Pass<S>, done: Option<Done>) -> (Pass<S>, Told)
+        requires { IsOf self.now.service.now.turn pass }
+        ensures { IsOf self.now.service.now.turn result.0 }
+    {
+        match done {
+            Some(done) => {
+                let (pass, answer) = self.service.give(self.rt, pass, done);
+                match answer {
+                    Ok(_) => (pass, Told::Done),
+                    Err(strange) => (pass, Told::Strange(strange.kept)),
+                }
+            }
+            None => (pass, Told::Absent),
+        }
+    }
+
+    /// Picks as a worker, works and gives back.
+    fn work(&self, pass: Pass<S>, worker: u32) -> (Pass<S>, Told)
+        requires of { IsOf self.now.service.now.turn pass }
+        requires low { 1 ≤ worker }
+        requires high { worker ≤ S.workers }
+        ensures { IsOf self.now.service.now.turn result.0 }
+    {
+        let (pass, picked) = self.service.pick(self.rt, pass, worker);
+        self.give(pass, worked(self.alloc, picked))
     }
 }
 
-/// Picks as a worker, works and gives back.
-fn work<S: Size, R: Wait>(
-    rt: &R,
-    alloc: Global,
-    service: &Service<S>,
-    pass: Pass<S>,
-    worker: u32,
-) -> (Pass<S>, Told)
-    requires of { IsOf service.now.turn pass }
-    requires low { 1 ≤ worker }
-    requires high { worker ≤ S.workers }
-    ensures { IsOf service.now.turn result.0 }
-{
-    let (pass, picked) = service.pick(rt, pass, worker);
-    give(rt, service, pass, worked(alloc, picked))
-}
+impl<R: Wait> Caller<'_, R, One> {
+    /// Opens the job p of tenant a, and posts its first revision.
+    fn post_job(&self, pass: Pass<One>) -> (Pass<One>, bool)
+        requires { IsOf self.now.service.now.turn pass }
+        ensures { IsOf self.now.service.now.turn result.0 }
+    {
+        let (pass, is_open) = self.post(pass, opening(self.alloc, b"a"));
+        let revision = revising(self.alloc, b"a", free(self.alloc));
+        let (pass, is_posted) = self.post(pass, revision);
+        (pass, is_open && is_posted)
+    }
 
-/// Opens the job p of tenant a, and posts its first revision.
-fn post_job<R: Wait>(
-    rt: &R,
-    alloc: Global,
-    service: &Service<One>,
-    pass: Pass<One>,
-) -> (Pass<One>, bool)
-    requires { IsOf service.now.turn pass }
-    ensures { IsOf service.now.turn result.0 }
-{
-    let (pass, is_open) = post(rt, service, pass, opening(alloc, b"a"));
-    let (pass, is_posted) = post(rt, service, pass, revising(alloc, b"a", free(alloc)));
-    (pass, is_open && is_posted)
-}
+    /// Asks for the reply to the first revision of a job of tenant a, which is to be this text.
+    fn hear(&self, pass: Pass<One>, job: &[u8], known: &[u8]) -> (Pass<One>, Told)
+        requires { IsOf self.now.service.now.turn pass }
+        ensures { IsOf self.now.service.now.turn result.0 }
+    {
+        let (Some(tenant), Some(job)) = (name(self.alloc, b"a"), name(self.alloc, job)) else {
+            return (pass, Told::Wanting);
+        };
+        let (pass, answer) = self.service.ask(self.rt, pass, &tenant, &job, 1);
+        (pass, heard(answer, known))
+    }
 
-/// Has another pass work.
-fn work_aside<R: Wait>(
-    rt: &R,
-    alloc: Global,
-    service: &Service<One>,
-    pass: Pass<One>,
-) -> (Pass<One>, Told)
-    requires { IsOf service.now.turn pass }
-    ensures { IsOf service.now.turn result.0 }
-{
-    let (pass, other) = service.split(pass);
-    let (other, told) = work(rt, alloc, service, other, 1);
-    (service.join(pass, other), told)
-}
+    /// Has another pass work.
+    fn work_aside(&self, pass: Pass<One>) -> (Pass<One>, Told)
+        requires { IsOf self.now.service.now.turn pass }
+        ensures { IsOf self.now.service.now.turn result.0 }
+    {
+        let (pass, other) = self.service.split(pass);
+        let (other, told) = self.work(other, 1);
+        (self.service.join(pass, other), told)
+    }
 
-/// Asks for the reply before the first slice, has another pass work, asks again, and asks of a job that is not there.
-/// What is answered.
-fn ask_around<R: Wait>(
-    rt: &R,
-    alloc: Global,
-    service: &Service<One>,
-    pass: Pass<One>,
-) -> (Pass<One>, [Told; 4])
-    requires { IsOf service.now.turn pass }
-    ensures { IsOf service.now.turn result.0 }
-{
-    let (pass, early) = hear(rt, alloc, service, pass, b"p", b"");
-    let (pass, back) = work_aside(rt, alloc, service, pass);
-    let (pass, late) = hear(rt, alloc, service, pass, b"p", FREE_REPLY);
-    let (pass, absent) = hear(rt, alloc, service, pass, b"q", b"");
-    (pass, [early, back, late, absent])
+    /// Asks for the reply before the first slice, has another pass work, asks again, and asks of a job that is not
+    /// there. What is answered.
+    fn ask_around(&self, pass: Pass<One>) -> (Pass<One>, [Told; 4])
+        requires { IsOf self.now.service.now.turn pass }
+        ensures { IsOf self.now.service.now.turn result.0 }
+    {
+        let (pass, early) = self.hear(pass, b"p", b"");
+        let (pass, back) = self.work_aside(pass);
+        let (pass, late) = self.hear(pass, b"p", FREE_REPLY);
+        let (pass, absent) = self.hear(pass, b"q", b"");
+        (pass, [early, back, late, absent])
+    }
+
+    /// Picks, gives back what came of another hall's lease, and then what came of its own. What is answered.
+    fn give_strange(&self, pass: Pass<One>) -> (Pass<One>, [Told; 2])
+        requires { IsOf self.now.service.now.turn pass }
+        ensures { IsOf self.now.service.now.turn result.0 }
+    {
+        let (pass, picked) = self.service.pick(self.rt, pass, 1);
+        let (pass, strange) = self.give(pass, second(self.alloc));
+        let (pass, back) = self.give(pass, worked(self.alloc, picked));
+        (pass, [strange, back])
+    }
 }
 
 /// The history of a service with one job that was asked around.
@@ -194,8 +180,13 @@ fn closed<S: Size>(alloc: Global, service: Service<S>, pass: Pass<S>, known: &[u
 #[test]
 fn a_pass_hears_what_another_worked(rt: HostRuntime) -> Result<(), AllocError> {
     let (service, pass) = Service::<One>::new(rt.alloc(), 1)?;
-    let (pass, is_posted) = post_job(&rt, rt.alloc(), &service, pass);
-    let (pass, told) = ask_around(&rt, rt.alloc(), &service, pass);
+    let caller = Caller {
+        rt: &rt,
+        alloc: rt.alloc(),
+        service: &service,
+    };
+    let (pass, is_posted) = caller.post_job(pass);
+    let (pass, told) = caller.ask_around(pass);
     let end = closed(rt.alloc(), service, pass, HISTORY);
     assert!(rt; is_posted);
     let known = [
@@ -241,28 +232,17 @@ fn second(alloc: Global) -> Option<Done> {
     }
 }
 
-/// Picks, gives back what came of another hall's lease, and then what came of its own. What is answered.
-fn give_strange<R: Wait>(
-    rt: &R,
-    alloc: Global,
-    service: &Service<One>,
-    pass: Pass<One>,
-) -> (Pass<One>, [Told; 2])
-    requires { IsOf service.now.turn pass }
-    ensures { IsOf service.now.turn result.0 }
-{
-    let (pass, picked) = service.pick(rt, pass, 1);
-    let (pass, strange) = give(rt, service, pass, second(alloc));
-    let (pass, back) = give(rt, service, pass, worked(alloc, picked));
-    (pass, [strange, back])
-}
-
 #[test]
 fn the_second_lease_of_another_hall_is_strange(rt: HostRuntime) -> Result<(), AllocError> {
     let (service, pass) = Service::<One>::new(rt.alloc(), 1)?;
-    let (pass, is_posted) = post_job(&rt, rt.alloc(), &service, pass);
-    let (pass, told) = give_strange(&rt, rt.alloc(), &service, pass);
-    let (_pass, reply) = hear(&rt, rt.alloc(), &service, pass, b"p", FREE_REPLY);
+    let caller = Caller {
+        rt: &rt,
+        alloc: rt.alloc(),
+        service: &service,
+    };
+    let (pass, is_posted) = caller.post_job(pass);
+    let (pass, told) = caller.give_strange(pass);
+    let (_pass, reply) = caller.hear(pass, b"p", FREE_REPLY);
     assert!(rt; is_posted);
     assert_eq!(rt; told, [Told::Strange(Some(1)), Told::Done]);
     assert_eq!(rt; reply, Told::Done);

@@ -2,7 +2,7 @@
 
 ghost use Rattle.std.specs.Prelude.{◌≤◌};
 
-use super::gates::{Together, losses, starts_at_once};
+use super::gates::{Together, losses};
 use super::scripts::{FOUR_REPLIES, FOUR_TENANTS, single_jobs};
 use mal_board::run_served;
 use mal_pool::{PlainGate, replies, run_all};
@@ -10,7 +10,6 @@ use mal_script::read;
 use std::alloc::Global;
 use std::process::Abort;
 use std::sync::Wait;
-use std::sync::atomic::Ordering;
 use std::test::Fail;
 use std::thread::Threads;
 
@@ -27,10 +26,7 @@ fn start_together<R: Threads + Wait + Sync + Abort>(
     let script = read(alloc, single_jobs(alloc, workers)?.as_slice())?;
     let gate = Together::of(u64::from(workers));
     let hall = run_all(rt, alloc, &script, workers, &gate)?;
-    assert_eq!(rt; starts_at_once(hall.history()), workers as usize);
-    assert_eq!(rt; gate.let_go.load(Ordering::SeqCst), 2 * u64::from(workers));
-    assert_eq!(rt; losses(hall.history()), 0);
-    Ok(())
+    gate.check(rt, hall.history())
 }
 
 #[test]
@@ -49,10 +45,7 @@ fn four_workers_of_a_service_start_before_one_finishes(rt: HostRuntime) -> Resul
     let script = read(rt.alloc(), single_jobs(rt.alloc(), 4)?.as_slice())?;
     let gate = Together::of(4);
     let hall = run_served(&rt, rt.alloc(), &script, 4, &gate)?;
-    assert_eq!(rt; starts_at_once(hall.history()), 4);
-    assert_eq!(rt; gate.let_go.load(Ordering::SeqCst), 8);
-    assert_eq!(rt; losses(hall.history()), 0);
-    Ok(())
+    gate.check(&rt, hall.history())
 }
 
 /// Runs the script of four tenants over a hall under a lock, and compares the replies.

@@ -3,7 +3,9 @@
 use mal_base::Outcome;
 use mal_history::{Event, History};
 use mal_pool::{Gate, Point, Step};
+use std::process::Abort;
 use std::sync::atomic::{AtomicU64, Ordering};
+use std::test::Fail;
 use std::thread;
 
 /// A gate that holds everyone before the first slice, and again after it, until so many have come. It counts those whom
@@ -13,7 +15,7 @@ pub struct Together {
     wanted: u64,
     before: AtomicU64,
     after: AtomicU64,
-    pub let_go: AtomicU64,
+    let_go: AtomicU64,
 }
 
 impl Together {
@@ -24,6 +26,17 @@ impl Together {
             after: AtomicU64::new(0),
             let_go: AtomicU64::new(0),
         }
+    }
+
+    /// All whom it waits for started before any of them finished, each was let go by another, and no lease was lost.
+    pub fn check<R: Abort>(&self, rt: &R, history: &History) -> Result<(), Fail> {
+        assert_eq!(rt; starts_at_once(history) as u64, self.wanted);
+        assert_eq!(rt;
+            self.let_go.load(Ordering::SeqCst),
+            self.wanted.wrapping_mul(2)
+        );
+        assert_eq!(rt; losses(history), 0);
+        Ok(())
     }
 }
 
@@ -56,7 +69,7 @@ impl Gate for Together {
 }
 
 /// How many starts stand before the first finish.
-pub fn starts_at_once(history: &History) -> usize {
+fn starts_at_once(history: &History) -> usize {
     let mut count: usize = 0;
     for event in history.events() {
         match event {

@@ -11,80 +11,45 @@ use std::sync::Wait;
 use std::test::Fail;
 use std::thread::Threads;
 
-/// A gate that stops everyone before the slice.
+/// A gate that stops everyone at a point, of the starts from one to another.
 #[derive(Clone, Copy, Debug)]
-struct EachBefore;
+struct StopAt {
+    point: Point,
+    first: u64,
+    last: u64,
+}
 
-impl Gate for EachBefore {
-    ghost use Rattle.mal_pool.specs.Gates.{at_point};
-    ghost use Rattle.mal_pool.specs.declared.gate.Point.TheVariants.{Before};
+impl StopAt {
+    /// Stops each start.
+    fn each(point: Point) -> StopAt {
+        StopAt {
+            point,
+            first: 0,
+            last: u64::MAX,
+        }
+    }
 
-    ghost stops = { λ gate point start worker. at_point Before point };
-
-    fn at(&self, point: Point, _start: u64, _worker: u32) -> Step {
-        match point {
-            Point::Before => Step::Stop,
-            Point::After => Step::Go,
+    /// Stops one start alone.
+    fn one(point: Point, start: u64) -> StopAt {
+        StopAt {
+            point,
+            first: start,
+            last: start,
         }
     }
 }
 
-/// A gate that stops everyone after the slice.
-#[derive(Clone, Copy, Debug)]
-struct EachAfter;
-
-impl Gate for EachAfter {
+impl Gate for StopAt {
+    ghost use Rattle.std.specs.Prelude.{◌&&◌, nat_le};
     ghost use Rattle.mal_pool.specs.Gates.{at_point};
-    ghost use Rattle.mal_pool.specs.declared.gate.Point.TheVariants.{After};
 
-    ghost stops = { λ gate point start worker. at_point After point };
-
-    fn at(&self, point: Point, _start: u64, _worker: u32) -> Step {
-        match point {
-            Point::Before => Step::Go,
-            Point::After => Step::Stop,
-        }
-    }
-}
-
-/// A gate that stops one start alone, before its slice.
-#[derive(Clone, Copy, Debug)]
-struct OneBefore {
-    start: u64,
-}
-
-impl Gate for OneBefore {
-    ghost use Rattle.std.specs.Prelude.{◌&&◌, ◌==◌};
-    ghost use Rattle.mal_pool.specs.Gates.{at_point};
-    ghost use Rattle.mal_pool.specs.declared.gate.Point.TheVariants.{Before};
-
-    ghost stops = { λ gate point start worker. at_point Before point && start == gate.start };
+    ghost stops = { λ gate point start worker. at_point gate.point point && (nat_le gate.first start && nat_le start gate.last) };
 
     fn at(&self, point: Point, start: u64, _worker: u32) -> Step {
-        match point {
-            Point::Before if start == self.start => Step::Stop,
-            _ => Step::Go,
-        }
-    }
-}
-
-/// A gate that stops one start alone, after its slice.
-#[derive(Clone, Copy, Debug)]
-struct OneAfter {
-    start: u64,
-}
-
-impl Gate for OneAfter {
-    ghost use Rattle.std.specs.Prelude.{◌&&◌, ◌==◌};
-    ghost use Rattle.mal_pool.specs.Gates.{at_point};
-    ghost use Rattle.mal_pool.specs.declared.gate.Point.TheVariants.{After};
-
-    ghost stops = { λ gate point start worker. at_point After point && start == gate.start };
-
-    fn at(&self, point: Point, start: u64, _worker: u32) -> Step {
-        match point {
-            Point::After if start == self.start => Step::Stop,
-            _ => Step::Go,
+        if self.point == point && self.first <= start && start <= self.last {
+            Step::Stop
+        } else {
+            Step::Go
         }
     }
 }
@@ -125,9 +90,14 @@ fn stopped<R: Threads + Wait + Sync, G: Gate>(
     ))
 }
 
-#[test]
-fn who_stops_before_each_slice_loses_each_lease(rt: HostRuntime) -> Result<(), Fail> {
-    let (text, (started, lost)) = stopped(&rt, rt.alloc(), THREE_REVISIONS, &EachBefore)?;
+/// Runs three revisions with a gate that stops each slice at a point, and compares the replies. Each lease before the
+/// recall is lost.
+fn lose_each<R: Threads + Wait + Sync + Abort>(
+    rt: &R,
+    alloc: Global,
+    point: Point,
+) -> Result<(), Fail> {
+    let (text, (started, lost)) = stopped(rt, alloc, THREE_REVISIONS, &StopAt::each(point))?;
     assert_eq!(rt; text.as_slice(), THREE_REPLIES);
     assert!(rt; started > 0);
     assert_eq!(rt; lost, started);
@@ -135,12 +105,13 @@ fn who_stops_before_each_slice_loses_each_lease(rt: HostRuntime) -> Result<(), F
 }
 
 #[test]
+fn who_stops_before_each_slice_loses_each_lease(rt: HostRuntime) -> Result<(), Fail> {
+    lose_each(&rt, rt.alloc(), Point::Before)
+}
+
+#[test]
 fn who_stops_after_each_slice_loses_each_lease(rt: HostRuntime) -> Result<(), Fail> {
-    let (text, (started, lost)) = stopped(&rt, rt.alloc(), THREE_REVISIONS, &EachAfter)?;
-    assert_eq!(rt; text.as_slice(), THREE_REPLIES);
-    assert!(rt; started > 0);
-    assert_eq!(rt; lost, started);
-    Ok(())
+    lose_each(&rt, rt.alloc(), Point::After)
 }
 
 /// Eight jobs of two tenants.
@@ -170,26 +141,27 @@ fn no_stop_loses_no_lease(rt: HostRuntime) -> Result<(), Fail> {
     Ok(())
 }
 
-/// Each of eight starts is stopped before its slice in a run of its own.
-#[test]
-fn a_stop_before_any_one_slice_changes_no_reply(rt: HostRuntime) -> Result<(), Fail> {
+/// Each of eight starts is stopped at a point in a run of its own. Some of them lose a lease.
+fn stop_any_one<R: Threads + Wait + Sync + Abort>(
+    rt: &R,
+    alloc: Global,
+    point: Point,
+) -> Result<(), Fail> {
     let mut lost: usize = 0;
     for start in 1..9 {
-        let one = eight_reply_alike(&rt, rt.alloc(), &OneBefore { start })?;
+        let one = eight_reply_alike(rt, alloc, &StopAt::one(point, start))?;
         lost = lost.saturating_add(one);
     }
     assert!(rt; lost > 0);
     Ok(())
 }
 
-/// Each of eight starts is stopped after its slice in a run of its own.
+#[test]
+fn a_stop_before_any_one_slice_changes_no_reply(rt: HostRuntime) -> Result<(), Fail> {
+    stop_any_one(&rt, rt.alloc(), Point::Before)
+}
+
 #[test]
 fn a_stop_after_any_one_slice_changes_no_reply(rt: HostRuntime) -> Result<(), Fail> {
-    let mut lost: usize = 0;
-    for start in 1..9 {
-        let one = eight_reply_alike(&rt, rt.alloc(), &OneAfter { start })?;
-        lost = lost.saturating_add(one);
-    }
-    assert!(rt; lost > 0);
-    Ok(())
+    stop_any_one(&rt, rt.alloc(), Point::After)
 }

@@ -4,7 +4,7 @@ ghost use Rattle.std.specs.Prelude.{◌≤◌, IfOk};
 ghost use Rattle.std.specs.List.{All};
 ghost use Rattle.mal_turn.specs.Seats.{IsOf};
 
-use super::{opening, post, post_to, revising, work};
+use super::{Caller, opening, post_to, revising};
 use crate::tests::hall::{Told, drive, hear, name};
 use mal_base::{Clause, Lit, ReplyFault};
 use mal_hall::Hall;
@@ -125,258 +125,213 @@ fn revision_of(alloc: Global, seed: u64) -> Option<Revision> {
     Revision::new(alloc, 3, clauses, &[]).ok()
 }
 
-/// Posts a revision for a tenant's job.
-fn revise<R: Wait>(
-    rt: &R,
-    alloc: Global,
-    service: &Service<Sixteen>,
-    pass: Pass<Sixteen>,
-    tenant: &mut Tenant,
-) -> Pass<Sixteen>
-    requires { IsOf service.now.turn pass }
-    ensures { IsOf service.now.turn result }
-{
-    let seed = tenant.draw();
-    let revision = revising(alloc, &tenant.letter(), revision_of(alloc, seed));
-    let (pass, is_posted) = post(rt, service, pass, revision);
-    tenant.note(seed, is_posted);
-    pass
-}
-
-/// Asks for the reply to a revision of a tenant's job, as far as it has posted.
-fn listen<R: Wait>(
-    rt: &R,
-    alloc: Global,
-    service: &Service<Sixteen>,
-    pass: Pass<Sixteen>,
-    tenant: &mut Tenant,
-    revision: u32,
-) -> Pass<Sixteen>
-    requires { IsOf service.now.turn pass }
-    ensures { IsOf service.now.turn result }
-{
-    let (Some(name), Some(job)) = (name(alloc, &tenant.letter()), name(alloc, b"p")) else {
-        tenant.is_wrong = true;
-        return pass;
-    };
-    let (pass, answer) = service.ask(rt, pass, &name, &job, revision);
-    tenant.hear(revision, answer);
-    pass
-}
-
-/// Works as a worker. What comes of a lease is never strange.
-fn help<R: Wait>(
-    rt: &R,
-    alloc: Global,
-    service: &Service<Sixteen>,
-    pass: Pass<Sixteen>,
-    tenant: &mut Tenant,
-) -> Pass<Sixteen>
-    requires { IsOf service.now.turn pass }
-    ensures { IsOf service.now.turn result }
-{
-    let (pass, told) = work(rt, alloc, service, pass, tenant.worker());
-    if matches!(told, Told::Strange(_)) {
-        tenant.is_wrong = true;
+impl<R: Wait> Caller<'_, R, Sixteen> {
+    /// Posts a revision for a tenant's job.
+    fn revise(&self, pass: Pass<Sixteen>, tenant: &mut Tenant) -> Pass<Sixteen>
+        requires { IsOf self.now.service.now.turn pass }
+        ensures { IsOf self.now.service.now.turn result }
+    {
+        let seed = tenant.draw();
+        let revision = revising(self.alloc, &tenant.letter(), revision_of(self.alloc, seed));
+        let (pass, is_posted) = self.post(pass, revision);
+        tenant.note(seed, is_posted);
+        pass
     }
-    pass
-}
 
-/// One call of a tenant, by a random number.
-fn step<R: Wait>(
-    rt: &R,
-    alloc: Global,
-    service: &Service<Sixteen>,
-    pass: Pass<Sixteen>,
-    tenant: &mut Tenant,
-) -> Pass<Sixteen>
-    requires { IsOf service.now.turn pass }
-    ensures { IsOf service.now.turn result }
-{
-    let drawn = tenant.draw();
-    match drawn % 4 {
-        0 => revise(rt, alloc, service, pass, tenant),
-        1 => listen(rt, alloc, service, pass, tenant, (drawn / 4 % 8) as u32 + 1),
-        _ => help(rt, alloc, service, pass, tenant),
+    /// Asks for the reply to a revision of a tenant's job, as far as it has posted.
+    fn listen(&self, pass: Pass<Sixteen>, tenant: &mut Tenant, revision: u32) -> Pass<Sixteen>
+        requires { IsOf self.now.service.now.turn pass }
+        ensures { IsOf self.now.service.now.turn result }
+    {
+        let (Some(name), Some(job)) = (name(self.alloc, &tenant.letter()), name(self.alloc, b"p"))
+        else {
+            tenant.is_wrong = true;
+            return pass;
+        };
+        let (pass, answer) = self.service.ask(self.rt, pass, &name, &job, revision);
+        tenant.hear(revision, answer);
+        pass
     }
-}
 
-/// Makes the calls of a tenant in a round.
-fn play<R: Wait>(
-    rt: &R,
-    alloc: Global,
-    service: &Service<Sixteen>,
-    pass: Pass<Sixteen>,
-    tenant: &mut Tenant,
-) -> Pass<Sixteen>
-    requires { IsOf service.now.turn pass }
-    ensures { IsOf service.now.turn result }
-{
-    let mut pass = pass;
-    for _made in 0..CALLS {
-        pass = step(rt, alloc, service, pass, tenant);
-    }
-    pass
-}
-
-/// Opens a job for each tenant.
-fn open_all<R: Wait>(
-    rt: &R,
-    alloc: Global,
-    service: &Service<Sixteen>,
-    pass: Pass<Sixteen>,
-    tenants: &mut [Tenant],
-) -> Pass<Sixteen>
-    requires { IsOf service.now.turn pass }
-    ensures { IsOf service.now.turn result }
-{
-    let mut pass = pass;
-    for tenant in tenants {
-        let (next, is_open) = post(rt, service, pass, opening(alloc, &tenant.letter()));
-        pass = next;
-        if !is_open {
+    /// Works as a worker. What comes of a lease is never strange.
+    fn help(&self, pass: Pass<Sixteen>, tenant: &mut Tenant) -> Pass<Sixteen>
+        requires { IsOf self.now.service.now.turn pass }
+        ensures { IsOf self.now.service.now.turn result }
+    {
+        let (pass, told) = self.work(pass, tenant.worker());
+        if matches!(told, Told::Strange(_)) {
             tenant.is_wrong = true;
         }
+        pass
     }
-    pass
-}
 
-/// Has each tenant make the calls of a round with a pass of its own.
-fn play_round<R: Wait>(
-    rt: &R,
-    alloc: Global,
-    service: &Service<Sixteen>,
-    passes: Vec<Pass<Sixteen>>,
-    tenants: &mut [Tenant],
-) -> Result<Vec<Pass<Sixteen>>, AllocError>
-    requires { All (λ x. IsOf service.now.turn x) passes.items }
-    ensures { IfOk result (λ v. All (λ x. IsOf service.now.turn x) v.items) }
-{
-    let mut played = Vec::new(alloc);
-    for pass in passes {
-        let at = played.len();
-        match tenants.get_mut(at) {
-            Some(tenant) => played.push(play(rt, alloc, service, pass, tenant))?,
-            None => {}
+    /// One call of a tenant, by a random number.
+    fn step(&self, pass: Pass<Sixteen>, tenant: &mut Tenant) -> Pass<Sixteen>
+        requires { IsOf self.now.service.now.turn pass }
+        ensures { IsOf self.now.service.now.turn result }
+    {
+        let drawn = tenant.draw();
+        match drawn % 4 {
+            0 => self.revise(pass, tenant),
+            1 => self.listen(pass, tenant, (drawn / 4 % 8) as u32 + 1),
+            _ => self.help(pass, tenant),
         }
     }
-    Ok(played)
-}
 
-/// Sixteen passes of one, which comes back.
-fn split_all(
-    alloc: Global,
-    service: &Service<Sixteen>,
-    pass: Pass<Sixteen>,
-) -> Result<(Pass<Sixteen>, Vec<Pass<Sixteen>>), AllocError>
-    requires { IsOf service.now.turn pass }
-    ensures of { IfOk result (λ r. IsOf service.now.turn r.0) }
-    ensures all { IfOk result (λ r. All (λ x. IsOf service.now.turn x) r.1.items) }
-{
-    let mut pass = pass;
-    let mut passes = Vec::new(alloc);
-    for _made in 0..16 {
-        let (mine, theirs) = service.split(pass);
-        pass = mine;
-        passes.push(theirs)?;
-    }
-    Ok((pass, passes))
-}
-
-/// Puts passes together.
-fn join_all(
-    service: &Service<Sixteen>,
-    pass: Pass<Sixteen>,
-    passes: Vec<Pass<Sixteen>>,
-) -> Pass<Sixteen>
-    requires of { IsOf service.now.turn pass }
-    requires all { All (λ x. IsOf service.now.turn x) passes.items }
-    ensures { IsOf service.now.turn result }
-{
-    let mut pass = pass;
-    for other in passes {
-        pass = service.join(pass, other);
-    }
-    pass
-}
-
-/// Has all tenants make their calls, each by a pass of its own.
-fn play_all<R: Wait>(
-    rt: &R,
-    alloc: Global,
-    service: &Service<Sixteen>,
-    pass: Pass<Sixteen>,
-    tenants: &mut [Tenant],
-) -> Result<Pass<Sixteen>, AllocError>
-    requires { IsOf service.now.turn pass }
-    ensures { IfOk result (λ p. IsOf service.now.turn p) }
-{
-    let (pass, passes) = split_all(alloc, service, pass)?;
-    let mut passes = passes;
-    for _round in 0..ROUNDS {
-        passes = play_round(rt, alloc, service, passes, tenants)?;
-    }
-    Ok(join_all(service, pass, passes))
-}
-
-/// Works until there is nothing to do.
-fn work_off<R: Wait>(
-    rt: &R,
-    alloc: Global,
-    service: &Service<Sixteen>,
-    pass: Pass<Sixteen>,
-) -> Pass<Sixteen>
-    requires { IsOf service.now.turn pass }
-    ensures { IsOf service.now.turn result }
-{
-    let mut pass = pass;
-    for _made in 0..REST {
-        let (next, told) = work(rt, alloc, service, pass, 1);
-        pass = next;
-        if told == Told::Absent {
-            return pass;
+    /// Makes the calls of a tenant in a round.
+    fn play(&self, pass: Pass<Sixteen>, tenant: &mut Tenant) -> Pass<Sixteen>
+        requires { IsOf self.now.service.now.turn pass }
+        ensures { IsOf self.now.service.now.turn result }
+    {
+        let mut pass = pass;
+        for _made in 0..CALLS {
+            pass = self.step(pass, tenant);
         }
+        pass
     }
-    pass
-}
 
-/// Asks for the replies to all revisions of a tenant.
-fn listen_to_all<R: Wait>(
-    rt: &R,
-    alloc: Global,
-    service: &Service<Sixteen>,
-    pass: Pass<Sixteen>,
-    tenant: &mut Tenant,
-) -> Pass<Sixteen>
-    requires { IsOf service.now.turn pass }
-    ensures { IsOf service.now.turn result }
-{
-    let mut pass = pass;
-    for at in 0..ROUNDS * CALLS {
-        if at as usize >= tenant.posted.len() {
-            return pass;
+    /// Opens a job for each tenant.
+    fn open_all(&self, pass: Pass<Sixteen>, tenants: &mut [Tenant]) -> Pass<Sixteen>
+        requires { IsOf self.now.service.now.turn pass }
+        ensures { IsOf self.now.service.now.turn result }
+    {
+        let mut pass = pass;
+        for tenant in tenants {
+            let (next, is_open) = self.post(pass, opening(self.alloc, &tenant.letter()));
+            pass = next;
+            if !is_open {
+                tenant.is_wrong = true;
+            }
         }
-        pass = listen(rt, alloc, service, pass, tenant, at + 1);
+        pass
     }
-    pass
-}
 
-/// Asks for the replies to all revisions of all tenants.
-fn listen_for_all<R: Wait>(
-    rt: &R,
-    alloc: Global,
-    service: &Service<Sixteen>,
-    pass: Pass<Sixteen>,
-    tenants: &mut [Tenant],
-) -> Pass<Sixteen>
-    requires { IsOf service.now.turn pass }
-    ensures { IsOf service.now.turn result }
-{
-    let mut pass = pass;
-    for tenant in tenants {
-        pass = listen_to_all(rt, alloc, service, pass, tenant);
+    /// Has each tenant make the calls of a round with a pass of its own.
+    fn play_round(
+        &self,
+        passes: Vec<Pass<Sixteen>>,
+        tenants: &mut [Tenant],
+    ) -> Result<Vec<Pass<Sixteen>>, AllocError>
+        requires { All (λ x. IsOf self.now.service.now.turn x) passes.items }
+        ensures { IfOk result (λ v. All (λ x. IsOf self.now.service.now.turn x) v.items) }
+    {
+        let mut played = Vec::new(self.alloc);
+        for pass in passes {
+            let at = played.len();
+            match tenants.get_mut(at) {
+                Some(tenant) => played.push(self.play(pass, tenant))?,
+                None => {}
+            }
+        }
+        Ok(played)
     }
-    pass
+
+    /// Sixteen passes of one, which comes back.
+    fn split_all(
+        &self,
+        pass: Pass<Sixteen>,
+    ) -> Result<(Pass<Sixteen>, Vec<Pass<Sixteen>>), AllocError>
+        requires { IsOf self.now.service.now.turn pass }
+        ensures of { IfOk result (λ r. IsOf self.now.service.now.turn r.0) }
+        ensures all { IfOk result (λ r. All (λ x. IsOf self.now.service.now.turn x) r.1.items) }
+    {
+        let mut pass = pass;
+        let mut passes = Vec::new(self.alloc);
+        for _made in 0..16 {
+            let (mine, theirs) = self.service.split(pass);
+            pass = mine;
+            passes.push(theirs)?;
+        }
+        Ok((pass, passes))
+    }
+
+    /// Puts passes together.
+    fn join_all(&self, pass: Pass<Sixteen>, passes: Vec<Pass<Sixteen>>) -> Pass<Sixteen>
+        requires of { IsOf self.now.service.now.turn pass }
+        requires all { All (λ x. IsOf self.now.service.now.turn x) passes.items }
+        ensures { IsOf self.now.service.now.turn result }
+    {
+        let mut pass = pass;
+        for other in passes {
+            pass = self.service.join(pass, other);
+        }
+        pass
+    }
+
+    /// Has all tenants make their calls, each by a pass of its own.
+    fn play_all(
+        &self,
+        pass: Pass<Sixteen>,
+        tenants: &mut [Tenant],
+    ) -> Result<Pass<Sixteen>, AllocError>
+        requires { IsOf self.now.service.now.turn pass }
+        ensures { IfOk result (λ p. IsOf self.now.service.now.turn p) }
+    {
+        let (pass, passes) = self.split_all(pass)?;
+        let mut passes = passes;
+        for _round in 0..ROUNDS {
+            passes = self.play_round(passes, tenants)?;
+        }
+        Ok(self.join_all(pass, passes))
+    }
+
+    /// Works until there is nothing to do.
+    fn work_off(&self, pass: Pass<Sixteen>) -> Pass<Sixteen>
+        requires { IsOf self.now.service.now.turn pass }
+        ensures { IsOf self.now.service.now.turn result }
+    {
+        let mut pass = pass;
+        for _made in 0..REST {
+            let (next, told) = self.work(pass, 1);
+            pass = next;
+            if told == Told::Absent {
+                return pass;
+            }
+        }
+        pass
+    }
+
+    /// Asks for the replies to all revisions of a tenant.
+    fn listen_to_all(&self, pass: Pass<Sixteen>, tenant: &mut Tenant) -> Pass<Sixteen>
+        requires { IsOf self.now.service.now.turn pass }
+        ensures { IsOf self.now.service.now.turn result }
+    {
+        let mut pass = pass;
+        for at in 0..ROUNDS * CALLS {
+            if at as usize >= tenant.posted.len() {
+                return pass;
+            }
+            pass = self.listen(pass, tenant, at + 1);
+        }
+        pass
+    }
+
+    /// Asks for the replies to all revisions of all tenants.
+    fn listen_for_all(&self, pass: Pass<Sixteen>, tenants: &mut [Tenant]) -> Pass<Sixteen>
+        requires { IsOf self.now.service.now.turn pass }
+        ensures { IsOf self.now.service.now.turn result }
+    {
+        let mut pass = pass;
+        for tenant in tenants {
+            pass = self.listen_to_all(pass, tenant);
+        }
+        pass
+    }
+
+    /// Tenants share a service, and ask for all replies at the end.
+    fn share(
+        &self,
+        pass: Pass<Sixteen>,
+        tenants: &mut [Tenant],
+    ) -> Result<Pass<Sixteen>, AllocError>
+        requires { IsOf self.now.service.now.turn pass }
+        ensures { IfOk result (λ p. IsOf self.now.service.now.turn p) }
+    {
+        let pass = self.open_all(pass, tenants);
+        let pass = self.play_all(pass, tenants)?;
+        let pass = self.work_off(pass);
+        Ok(self.listen_for_all(pass, tenants))
+    }
 }
 
 /// Posts what a tenant posted to a hall that has its job alone, and drives the hall.
@@ -425,27 +380,15 @@ fn is_as_alone(alloc: Global, tenant: &Tenant) -> bool {
     }
 }
 
-/// Tenants share a service, and ask for all replies at the end.
-fn share<R: Wait>(
-    rt: &R,
-    alloc: Global,
-    service: &Service<Sixteen>,
-    pass: Pass<Sixteen>,
-    tenants: &mut [Tenant],
-) -> Result<Pass<Sixteen>, AllocError>
-    requires { IsOf service.now.turn pass }
-    ensures { IfOk result (λ p. IsOf service.now.turn p) }
-{
-    let pass = open_all(rt, alloc, service, pass, tenants);
-    let pass = play_all(rt, alloc, service, pass, tenants)?;
-    let pass = work_off(rt, alloc, service, pass);
-    Ok(listen_for_all(rt, alloc, service, pass, tenants))
-}
-
 /// Tenants share a service, which is closed in the end. False where it is still in use then.
 fn is_shared<R: Wait>(rt: &R, alloc: Global, tenants: &mut [Tenant]) -> Result<bool, AllocError> {
     let (service, pass) = Service::<Sixteen>::new(alloc, 16)?;
-    let pass = share(rt, alloc, &service, pass, tenants)?;
+    let caller = Caller {
+        rt,
+        alloc,
+        service: &service,
+    };
+    let pass = caller.share(pass, tenants)?;
     Ok(service.close(pass).is_ok())
 }
 
