@@ -1,6 +1,5 @@
 //! The engine.
 
-
 use crate::batch;
 use mal_base::{Clause, ClauseId, ClauseView, Lit};
 use mal_store::Store;
