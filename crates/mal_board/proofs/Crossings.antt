@@ -9,7 +9,7 @@ use Rattle.mal_hall.proofs.hall.Hall.TheSendSync as hall
 use Rattle.mal_service.specs.contracts.entry.Entry as Entry
 use Rattle.mal_service.specs.contracts.noted.NotedHall as NotedHall
 use Rattle.mal_service.specs.contracts.service.Service as Service
-use Rattle.mal_service.specs.declared.noted.Size as Size
+use Rattle.mal_hall.specs.declared.size.Size as Size
 use Rattle.mal_service.specs.Entries.{noted_in}
 use Rattle.spec_service.specs.Record.{StandsFor}
 use Rattle.mal_turn.specs.contracts.table.SeatOf as SeatOf
