@@ -1,5 +1,0 @@
-use Rattle.mal_turn.specs.Seats.{IsOf}
-use Rattle.mal_hall_tests.proofs.tests.service.many.Caller.join_all.Given as goal
-
-abbrev pub invariant-loop-other : goal.invariant-loop-other
-invariant-loop-other l = IsOf l.self.service.turn l.pass

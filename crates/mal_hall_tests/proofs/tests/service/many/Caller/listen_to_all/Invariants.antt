@@ -1,5 +1,0 @@
-use Rattle.mal_turn.specs.Seats.{IsOf}
-use Rattle.mal_hall_tests.proofs.tests.service.many.Caller.listen_to_all.Given as goal
-
-abbrev pub invariant-loop-at : goal.invariant-loop-at
-invariant-loop-at g l = IsOf l.self.service.turn l.pass

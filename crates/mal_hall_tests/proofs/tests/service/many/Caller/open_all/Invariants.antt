@@ -1,5 +1,0 @@
-use Rattle.mal_turn.specs.Seats.{IsOf}
-use Rattle.mal_hall_tests.proofs.tests.service.many.Caller.open_all.Given as goal
-
-abbrev pub invariant-loop-tenant : goal.invariant-loop-tenant
-invariant-loop-tenant g l = IsOf l.self.service.turn l.pass

@@ -1,6 +1,0 @@
-use Rattle.std.specs.List.{All}
-use Rattle.mal_turn.specs.Seats.{IsOf}
-use Rattle.mal_hall_tests.proofs.tests.service.many.Caller.play_round.Given as goal
-
-abbrev pub invariant-loop-pass : goal.invariant-loop-pass
-invariant-loop-pass g l = All (λ x. IsOf l.self.service.turn x) l.played.items

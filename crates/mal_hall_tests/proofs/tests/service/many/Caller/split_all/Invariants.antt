@@ -1,6 +1,0 @@
-use Rattle.std.specs.List.{All}
-use Rattle.mal_turn.specs.Seats.{IsOf}
-use Rattle.mal_hall_tests.proofs.tests.service.many.Caller.split_all.Given as goal
-
-abbrev pub invariant-loop-made : goal.invariant-loop-made
-invariant-loop-made l = IsOf l.self.service.turn l.pass × All (λ x. IsOf l.service.turn x) l.passes.items
