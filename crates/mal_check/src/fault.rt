@@ -4,7 +4,7 @@ ghost use Rattle.std.specs.Prelude.{◌≡◌};
 ghost use Rattle.mal_check.specs.declared.fault.CheckFault.TheVariants.{OutOfMemory};
 
 use mal_base::ClauseId;
-use std::alloc::{AllocError, AllocFailed};
+use std::alloc::AllocError;
 use thiserror::Error;
 
 /// Why a line of a proof is refused.
@@ -30,14 +30,6 @@ impl From<AllocError> for CheckFault {
     ghost from_gives = { λ _ e. e ≡ OutOfMemory };
 
     fn from(_error: AllocError) -> CheckFault {
-        CheckFault::OutOfMemory
-    }
-}
-
-impl<T: Drop> From<AllocFailed<T>> for CheckFault {
-    ghost from_gives = { λ _ e. e ≡ OutOfMemory };
-
-    fn from(_error: AllocFailed<T>) -> CheckFault {
         CheckFault::OutOfMemory
     }
 }

@@ -5,7 +5,7 @@ ghost use Rattle.mal_claim.specs.declared.fault.ClaimFault.TheVariants.{OutOfMem
 
 use crate::ProofFault;
 use mal_base::LineFault;
-use std::alloc::{AllocError, AllocFailed};
+use std::alloc::AllocError;
 
 /// Why a text is no claim: its first fault, or want of memory.
 #[derive(Clone, Copy, Debug, Drop)]
@@ -24,14 +24,6 @@ impl From<AllocError> for ClaimFault {
     ghost from_gives = { λ _ e. e ≡ OutOfMemory };
 
     fn from(_error: AllocError) -> ClaimFault {
-        ClaimFault::OutOfMemory
-    }
-}
-
-impl<T: Drop> From<AllocFailed<T>> for ClaimFault {
-    ghost from_gives = { λ _ e. e ≡ OutOfMemory };
-
-    fn from(_error: AllocFailed<T>) -> ClaimFault {
         ClaimFault::OutOfMemory
     }
 }

@@ -177,7 +177,8 @@ impl BlockReader {
         requires bound { nat_abs number ≤ self.old.variables }
         ensures { Leaves result self.new (Ok (record self.old { pending = self.old.pending ++ code_of number ∷ [] })) }
     {
-        self.pending.push(literal(number))?;
+        self.pending.reserve(1)?;
+        self.pending.push_reserved(literal(number));
         Ok(())
     }
 
@@ -202,7 +203,8 @@ impl BlockReader {
             }));
         }
         if self.clauses.len() < self.declared as usize {
-            self.clauses.push(clause)?;
+            self.clauses.reserve(1)?;
+            self.clauses.push_reserved(clause);
         }
         self.found = self.found.saturating_add(1);
         self.literals += size as u32;

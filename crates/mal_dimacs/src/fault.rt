@@ -6,7 +6,7 @@ ghost use Rattle.mal_dimacs.specs.declared.fault.DimacsFault.TheVariants as loca
 ghost use Rattle.mal_dimacs.specs.Reads.{on_line_of};
 
 use mal_base::BlockFault;
-use std::alloc::{AllocError, AllocFailed};
+use std::alloc::AllocError;
 use thiserror::Error;
 
 /// Why a line of a block is not read.
@@ -24,14 +24,6 @@ impl From<AllocError> for DimacsError {
     ghost from_gives = { λ _ e. e ≡ error.OutOfMemory };
 
     fn from(_error: AllocError) -> DimacsError {
-        DimacsError::OutOfMemory
-    }
-}
-
-impl<T: Drop> From<AllocFailed<T>> for DimacsError {
-    ghost from_gives = { λ _ e. e ≡ error.OutOfMemory };
-
-    fn from(_error: AllocFailed<T>) -> DimacsError {
         DimacsError::OutOfMemory
     }
 }

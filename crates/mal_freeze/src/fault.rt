@@ -3,7 +3,7 @@
 ghost use Rattle.std.specs.Prelude.{◌≡◌};
 ghost use Rattle.mal_freeze.specs.declared.fault.ThawFault.TheVariants.{OutOfMemory};
 
-use std::alloc::{AllocError, AllocFailed};
+use std::alloc::AllocError;
 use thiserror::Error;
 
 /// Why bytes are no image: the first fault from front to back.
@@ -29,14 +29,6 @@ impl From<AllocError> for ThawFault {
     ghost from_gives = { λ _ e. e ≡ OutOfMemory };
 
     fn from(_error: AllocError) -> ThawFault {
-        ThawFault::OutOfMemory
-    }
-}
-
-impl<T: Drop> From<AllocFailed<T>> for ThawFault {
-    ghost from_gives = { λ _ e. e ≡ OutOfMemory };
-
-    fn from(_error: AllocFailed<T>) -> ThawFault {
         ThawFault::OutOfMemory
     }
 }

@@ -129,7 +129,8 @@ fn literals(
     let mut rest = bytes;
     for _ in 0..count {
         let (code, after) = u32_within(total, 2, 2 * greatest + 1, rest)?;
-        all.push(literal_of(code))?;
+        all.reserve(1)?;
+        all.push_reserved(literal_of(code));
         rest = after;
     }
     Ok((all, rest))
@@ -268,7 +269,8 @@ fn many<F: Field>(
             Ok(read) => read,
             Err(fault) => return Err(fault),
         };
-        all.push(one)?;
+        all.reserve(1)?;
+        all.push_reserved(one);
         rest = after;
     }
     Ok((all, rest))

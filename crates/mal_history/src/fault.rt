@@ -4,7 +4,7 @@ ghost use Rattle.std.specs.Prelude.{◌≡◌};
 ghost use Rattle.mal_history.specs.declared.fault.HistoryFault.TheVariants.{OutOfMemory};
 ghost use Rattle.mal_history.specs.declared.fault.EventFault.TheVariants as event;
 
-use std::alloc::{AllocError, AllocFailed};
+use std::alloc::AllocError;
 use thiserror::Error;
 
 /// Why a text is no history: its first fault with its line, counted from 1, or want of memory.
@@ -45,14 +45,6 @@ impl From<AllocError> for EventFault {
     ghost from_gives = { λ _ e. e ≡ event.OutOfMemory };
 
     fn from(_error: AllocError) -> EventFault {
-        EventFault::OutOfMemory
-    }
-}
-
-impl<T: Drop> From<AllocFailed<T>> for EventFault {
-    ghost from_gives = { λ _ e. e ≡ event.OutOfMemory };
-
-    fn from(_error: AllocFailed<T>) -> EventFault {
         EventFault::OutOfMemory
     }
 }

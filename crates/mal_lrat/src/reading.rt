@@ -184,7 +184,10 @@ fn literals(alloc: Global, words: &[u8]) -> Result<(Vec<Lit>, &[u8]), LineFault>
     let mut rest = words;
     while let Some((word, behind)) = first_word(rest) {
         match literal_in(word)? {
-            Some(lit) => lits.push(lit)?,
+            Some(lit) => {
+                lits.reserve(1)?;
+                lits.push_reserved(lit);
+            }
             None => return Ok((lits, behind)),
         }
         rest = behind;
@@ -201,7 +204,10 @@ fn id_list(alloc: Global, words: &[u8]) -> Result<IdList, LineFault>
     let mut rest = words;
     while let Some((number, behind)) = first_number(rest)? {
         match ClauseId::of(number.unsigned_abs()) {
-            Some(id) => ids.push(id)?,
+            Some(id) => {
+                ids.reserve(1)?;
+                ids.push_reserved(id);
+            }
             None => {
                 return Ok(IdList {
                     ids,

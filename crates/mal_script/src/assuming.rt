@@ -55,7 +55,8 @@ fn literals(alloc: Global, line: &[u8], variables: u32) -> Result<Vec<Lit>, Assu
                 if number == 0 {
                     return closed(lits, above, behind);
                 }
-                lits.push(literal(number))?;
+                lits.reserve(1)?;
+                lits.push_reserved(literal(number));
             }
         }
         rest = behind;

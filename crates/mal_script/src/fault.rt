@@ -6,7 +6,7 @@ ghost use Rattle.mal_script.specs.declared.fault.AssumptionFault.TheVariants as 
 ghost use Rattle.mal_script.specs.ReadResult.{OfAssumptions};
 
 use mal_base::{BlockFault, LimitKind, LineFault, Name, Var};
-use std::alloc::{AllocError, AllocFailed};
+use std::alloc::AllocError;
 use thiserror::Error;
 
 /// Why a text is not read as a script: the first fault of the text with its line, counted from 1, or want of memory.
@@ -50,14 +50,6 @@ impl From<AllocError> for LineRefusal {
     }
 }
 
-impl<T: Drop> From<AllocFailed<T>> for LineRefusal {
-    ghost from_gives = { λ _ e. e ≡ OutOfMemory };
-
-    fn from(_error: AllocFailed<T>) -> LineRefusal {
-        LineRefusal::OutOfMemory
-    }
-}
-
 /// Why the words behind the first of a line are no assumptions: the causes stand in the order in which they are tested.
 #[derive(Clone, Copy, Debug, PartialEq, Eq, Drop, Error)]
 pub enum AssumptionFault {
@@ -79,14 +71,6 @@ impl From<AllocError> for AssumptionFault {
     ghost from_gives = { λ _ e. e ≡ assumption.OutOfMemory };
 
     fn from(_error: AllocError) -> AssumptionFault {
-        AssumptionFault::OutOfMemory
-    }
-}
-
-impl<T: Drop> From<AllocFailed<T>> for AssumptionFault {
-    ghost from_gives = { λ _ e. e ≡ assumption.OutOfMemory };
-
-    fn from(_error: AllocFailed<T>) -> AssumptionFault {
         AssumptionFault::OutOfMemory
     }
 }

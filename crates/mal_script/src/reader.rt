@@ -62,7 +62,8 @@ impl Reader {
                 which: LimitKind::Tenants,
             }));
         }
-        self.tenants.push(name)?;
+        self.tenants.reserve(1)?;
+        self.tenants.push_reserved(name);
         self.tenant = Some(name);
         Ok(self)
     }
@@ -165,7 +166,8 @@ impl Reader {
         ensures { Gives (λ r. r) result (after_end (words_of words.now) job self) }
     {
         let job = job.ended(words)?;
-        self.jobs.push(job)?;
+        self.jobs.reserve(1)?;
+        self.jobs.push_reserved(job);
         self.opened = None;
         Ok(self)
     }
