@@ -67,7 +67,7 @@ impl Clause {
 fn is_rising(lits: &[Lit]) -> bool
     ensures { result ≡ rises lits.now }
 {
-    let [first, rest @ ..] = lits else {
+    let Some((first, rest)) = lits.split_first() else {
         return true;
     };
     let mut last = *first;

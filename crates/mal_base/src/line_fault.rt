@@ -10,7 +10,7 @@ pub enum LineFault {
     #[error("bad line")]
     BadLine,
     /// The line is one of a block, and wrong in it.
-    #[error("{fault}")]
+    #[error(transparent)]
     Dimacs { fault: BlockFault },
     /// This is the least variable that is assumed with both signs.
     #[error("variable {} is assumed with both signs", .var.number())]

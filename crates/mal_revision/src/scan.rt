@@ -12,9 +12,7 @@ use mal_base::{Clause, LimitKind, Lit, Var, literals_of};
 pub fn opposite(lits: &[Lit]) -> Option<Var>
     ensures { result ≡ clash lits.now }
 {
-    let [first, rest @ ..] = lits else {
-        return None;
-    };
+    let (first, rest) = lits.split_first()?;
     let mut last = first.var().number();
     for lit in rest {
         let var = lit.var();

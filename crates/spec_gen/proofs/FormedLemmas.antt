@@ -1,5 +1,5 @@
 -- What is generated is in form.
-use Rattle.std.proofs.Common.{◌≡◌, ℕ, zero, suc, ◌+◌, ◌-◌, ◌*◌, ◌/◌, ◌%◌, ◌<◌, ◌≤◌, ◌^◌, Bool, true, false, cond, ◌&&◌, ◌||◌, ◌==◌, nat_lt, nat_le, List, [], ◌∷◌, ◌++◌, length, take, drop, decimal, Option, Some, None, Result, Ok, Err, IfOk, OnOk, MatchOption, refl, sym, ap, ap₂, ◌∙◌, subst, arith}
+use Rattle.std.proofs.Common.{◌≡◌, ℕ, zero, suc, ◌+◌, ◌*◌, ◌/◌, ◌%◌, ◌<◌, ◌≤◌, Bool, true, false, cond, ◌&&◌, ◌||◌, ◌==◌, nat_lt, nat_le, List, [], ◌∷◌, length, take, drop, decimal, Option, Some, None, Result, Ok, Err, IfOk, OnOk, MatchOption, refl, ap, ◌∙◌, arith}
 use Rattle.std.specs.List.{list_all, remove, slice_index}
 use Rattle.std.proofs.lemmas.Bool.{lt-ltb, le-leb}
 use Rattle.std.proofs.lemmas.Fmt.{length-decimal-le}
@@ -17,7 +17,7 @@ use Rattle.spec_dimacs.proofs.Merging.{clause_of-made, clause_of-unique, clause_
 use Rattle.spec_seq.specs.Draws.{next, drawn}
 use Rattle.spec_text.specs.Numbers.{is_digit}
 use Rattle.spec_text.proofs.Numerals.{is_numeral-decimal}
-use Rattle.spec_gen.specs.Generated.{pick, variables, variables_from, signed, literals_from, after_literals, clause_from, after_clause, clauses_from, revision_from}
+use Rattle.spec_gen.specs.Generated.{pick, variables, signed, literals_from, after_literals, clause_from, after_clause, clauses_from, revision_from}
 use Rattle.spec_gen.proofs.StepLemmas.{clauses-none, clauses-suc}
 
 -- a letter with a number behind it is a name

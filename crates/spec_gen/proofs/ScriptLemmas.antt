@@ -1,22 +1,21 @@
 -- A generated script is in form: its jobs may follow one another.
-use Rattle.std.proofs.Common.{◌≡◌, ◌⊎◌, ℕ, zero, suc, ◌+◌, ◌-◌, ◌*◌, ◌/◌, ◌%◌, ◌<◌, ◌≤◌, ◌^◌, Bool, true, false, cond, ◌&&◌, ◌||◌, nat_lt, List, [], ◌∷◌, ◌++◌, length, length-append, decimal, bytes_eq, refl, sym, ap, ap₂, ◌∙◌, subst, inl, inr, arith}
+use Rattle.std.proofs.Common.{◌≡◌, ℕ, zero, suc, ◌+◌, ◌-◌, ◌/◌, ◌%◌, ◌<◌, ◌≤◌, Bool, true, false, cond, ◌&&◌, ◌||◌, List, [], ◌∷◌, ◌++◌, length, length-append, decimal, bytes_eq, refl, sym, ap, ◌∙◌, subst, arith, rules}
 use Rattle.std.specs.Fmt.{digits}
-use Rattle.std.specs.List.{AllByRecursion, list_all, list_any, count_by, fold, sum_by}
+use Rattle.std.specs.List.{AllByRecursion, list_any, count_by}
 use Rattle.std.proofs.lemmas.Bool.{lt-ltb}
 use Rattle.std.proofs.lemmas.Fmt.{decimal_injective}
 use Rattle.std.proofs.lemmas.List.Sums.{sum_by-append, sum_by-cons, fold-append}
 use Rattle.std.proofs.lemmas.Slice.Eq.{bytes_eq-Decides}
 use Rattle.mal_base.specs.Asks.{IsAsk}
-use Rattle.mal_base.specs.Names.{is_name}
 use Rattle.mal_base.proofs.Sorting.{and-both}
 use Rattle.spec_script.specs.Formed.{with_name, tenants_of, IsJob, MayFollow, MayAllFollow}
 use Rattle.spec_script.specs.Limits.{served}
-use Rattle.spec_script.specs.Reading.{is_of, is_job, has_room}
+use Rattle.spec_script.specs.Reading.{is_of, is_job}
 use Rattle.spec_script.specs.Script.{ScriptedJob}
 use Rattle.spec_seq.specs.Draws.{next}
-use Rattle.spec_gen.specs.Generated.{pick, tenant_of, name_of, ask_from, revision_from, after_revision, job_from, jobs_from}
+use Rattle.spec_gen.specs.Generated.{pick, tenant_of, name_of, ask_from, after_revision, job_from, jobs_from}
 use Rattle.spec_gen.specs.Laws.{GeneratedIsScript}
-use Rattle.spec_gen.proofs.FormedLemmas.{numbered-name, tenant-formed, name-formed, revision-formed, revision-length, revision-literals, pick-below}
+use Rattle.spec_gen.proofs.FormedLemmas.{tenant-formed, name-formed, revision-formed, revision-length, revision-literals, pick-below}
 
 -- the name of a tenant, counted from 0
 abbrev tenant : ℕ → List ℕ
@@ -148,16 +147,7 @@ prior-next i x prev some p = record {
 
 -- what a generated job asks for is an ask
 ask-formed : (x : ℕ) → IsAsk (ask_from x)
-ask-formed x = let small : pick 8 x < 8 = pick-below 8 x (omega arith) in record {
-  some_priority = omega arith;
-  priority_bound = omega arith;
-  some_demand = omega arith;
-  demand_bound = omega arith;
-  some_slices = omega arith;
-  slices_bound = omega arith;
-  some_profile = omega arith;
-  profile_bound = omega arith;
-}
+ask-formed x = let small : pick 8 x < 8 = pick-below 8 x (omega arith) in search (rules, arith)
 
 job-formed : (i x : ℕ) → i ≤ 256 → IsJob served (job_from i x)
 job-formed i x few = record {

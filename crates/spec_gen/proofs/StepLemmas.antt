@@ -1,5 +1,5 @@
 -- The generator's lists, one step at a time.
-use Rattle.std.proofs.Common.{◌≡◌, ℕ, zero, suc, ◌+◌, ◌-◌, ◌<◌, List, [], ◌∷◌, ◌++◌, length, refl, sym, ap, ◌∙◌, append-nil, append_assoc, ◌≤◌, arith}
+use Rattle.std.proofs.Common.{◌≡◌, ℕ, suc, ◌+◌, ◌-◌, ◌<◌, List, [], ◌∷◌, ◌++◌, length, refl, sym, ap, ◌∙◌, append-nil, append_assoc, ◌≤◌, arith}
 use Rattle.std.specs.Prelude.{Option}
 use Rattle.std.specs.List.{remove, slice_index}
 use Rattle.spec_script.specs.Script.{ScriptedJob}

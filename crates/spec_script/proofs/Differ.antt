@@ -1,5 +1,5 @@
 -- A text that a script is written as is read as that script.
-use Rattle.std.proofs.Common.{◌≡◌, ◌≤◌, ℕ, List, [], ◌∷◌, length, codes, refl, sym, ap, ◌∙◌, arith, Ok, Result}
+use Rattle.std.proofs.Common.{rules, ◌≡◌, ◌≤◌, ℕ, List, [], ◌∷◌, length, codes, refl, sym, ap, ◌∙◌, arith, Ok, Result}
 use Rattle.mal_base.specs.Asks.{IsAsk}
 use Rattle.mal_base.specs.declared.line_fault.LineFault.{LineFault}
 use Rattle.spec_script.specs.Examples.{job_named, job_under, job_with, second_profile}
@@ -17,16 +17,7 @@ pub scripts-differ : ScriptsDiffer
 scripts-differ limits one other h k e = read-same one other (sym (written-read limits one h) ∙ (ap (read_text limits) e ∙ written-read limits other k))
 
 asked : (profile : ℕ) → 1 ≤ profile → profile ≤ 2 → IsAsk (job_under profile (codes "p") []).ask
-asked profile some bound = record {
-  some_priority = omega arith;
-  priority_bound = omega arith;
-  some_demand = omega arith;
-  demand_bound = omega arith;
-  some_slices = omega arith;
-  slices_bound = omega arith;
-  some_profile = some;
-  profile_bound = bound;
-}
+asked profile some bound = search (rules, arith)
 
 job-of : (profile : ℕ) → 1 ≤ profile → profile ≤ 2 → IsJob served (job_under profile (codes "p") [])
 job-of profile some bound = record { tenant = refl; name = refl; ask = asked profile some bound; few = omega arith; formed = refl; clauses = omega arith; literals = omega arith }
