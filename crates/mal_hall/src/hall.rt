@@ -29,7 +29,7 @@ ghost use Rattle.spec_hall.specs.Measure.{left_in};
 use crate::enter::{
     enter_balance, enter_exchange, enter_finish, enter_open, enter_revise, enter_start,
 };
-use crate::lodging::{lists, none_lodged};
+use crate::lodging::{let_done_go, let_lease_go, lists, none_lodged};
 use crate::offer::{Back, Pick, Strange};
 use crate::room::{next_number, tenants_after};
 use crate::spots::{Spot, count_out, no_spots, owed, spot_of};
@@ -529,7 +529,10 @@ impl Hall {
         ensures workers { self.new.workers ≡ self.old.workers }
         ensures off { HasWorkedOff self.old.workers self.old.events lease self.new.events }
     {
-        let _ = self.finish(lease.work(scratch));
+        match self.finish(lease.work(scratch)) {
+            Ok(_) => {}
+            Err(strange) => let_done_go(strange.back),
+        }
     }
 
     /// Whether every revision is answered.
@@ -602,7 +605,8 @@ impl Hall {
         ensures events { self.new.events ≡ self.old.events }
         ensures inside { self.new.inside ≡ slice_set self.old.inside (worker - 1) (Some (handed_of lease)) }
     {
-        self.lodged[worker as usize - 1] = Some(lease);
+        let before = mem::replace(&mut self.lodged[worker as usize - 1], Some(lease));
+        let_lease_go(before);
     }
 
     /// Takes the lease of a worker that is kept inside, none where it is not.

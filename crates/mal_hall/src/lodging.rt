@@ -37,7 +37,7 @@ pub fn back_of(
     match outcome {
         Outcome::Ran => Ok(Some(ran(lease, scratch)?)),
         Outcome::Starved => Ok(Some(lease.starved())),
-        Outcome::Lost => Ok(None),
+        Outcome::Lost => Ok(lost(lease)),
     }
 }
 
@@ -49,10 +49,25 @@ fn ran(lease: Lease, scratch: &mut Scratch) -> Result<Done, AllocError>
 {
     let done = lease.work(scratch);
     if !has_run(&done) {
+        let_done_go(done);
         return Err(AllocError);
     }
     Ok(done)
 }
+
+/// What comes of a lease that is lost: nothing.
+fn lost(lease: Lease) -> Option<Done>
+    ensures { result ≡ None }
+{
+    let_lease_go(Some(lease));
+    None
+}
+
+/// Lets a lease go, if there is one.
+pub fn let_lease_go(_lease: Option<Lease>) {}
+
+/// Lets go what came of a lease.
+pub fn let_done_go(_back: Done) {}
 
 /// Whether a start ran of which this came.
 fn has_run(done: &Done) -> bool

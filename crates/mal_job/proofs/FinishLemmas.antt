@@ -47,12 +47,21 @@ place-back tenant job q i d k solvers b =
     let low : i < length q.tree.places = out-within q.tree.places i 0 0 (ap (λ (o : Option Lease). is_some o) b.out) in
     record { lease = b.lease; out = out-same q.tree.places i 0 0 ∙ b.out; journal = subst (λ (j : Journaled). IsGrownBy d.outcome b.lease.adds j d.journal) (sym (journal-same tenant job q i low k solvers)) b.journal }
 
+-- a start is out of which this came back
+pub back-out : (p : PlaceView) (d : Finished) → IsBackAt p d → is_some p.out ≡ true
+back-out p d b = ap (λ (o : Option Lease). is_some o) b.out
+
 -- how what came back ended
 pub back-ran : (p : PlaceView) (d : Finished) → d.outcome ≡ Ran → IsBackAt p d → d.journal ≡ and_entries p.journal (adds_of p.out)
 back-ran p d o b = subst (λ (x : Outcome). IsGrownBy x b.lease.adds p.journal d.journal) o b.journal ∙ ap (λ (x : Option Lease). and_entries p.journal (adds_of x)) (sym b.out)
 
 pub back-starved : (p : PlaceView) (d : Finished) → d.outcome ≡ Starved → IsBackAt p d → d.journal ≡ p.journal
 back-starved p d o b = subst (λ (x : Outcome). IsGrownBy x b.lease.adds p.journal d.journal) o b.journal
+
+-- a start of a job ended so: this is the job afterwards, and it keeps what a job has to
+pub record Ended (tenant job : List ℕ) (q r : Parts) (i : ℕ) (o : Outcome) : Type 0 where
+  pub view : viewed tenant job r ≡ and_own (viewed tenant job q) (own.Finished i o)
+  pub kept : JobInvariant r
 
 module _ (q : Parts) (i : ℕ) (k : JobInvariant q) (is_out : is_some (placed q.tree i).out ≡ true) where
   abbrev p : PlaceView
@@ -184,10 +193,10 @@ module _ (q : Parts) (i : ℕ) (k : JobInvariant q) (is_out : is_some (placed q.
     same : r ≡ after_run log.chunk_room
     same = ap (λ (y : QuestionsView). let z : Parts = record { asked = y; tree = tree; log = log } in z) asked-is ∙ (ap (λ (y : TreeView). let z : Parts = record { asked = (after_run log.chunk_room).asked; tree = y; log = log } in z) t ∙ ap (λ (y : LogView). let z : Parts = record { asked = (after_run log.chunk_room).asked; tree = one_more_ran (with_placed q.tree i (ran_home p)); log = y } in z) log-is)
 
-    pub ran-view : (tenant job : List ℕ) → viewed tenant job r ≡ and_own (viewed tenant job q) (own.Finished i Ran)
+    ran-view : (tenant job : List ℕ) → viewed tenant job r ≡ and_own (viewed tenant job q) (own.Finished i Ran)
     ran-view tenant job = ap (λ (y : Parts). viewed tenant job y) same ∙ view-same tenant job q.tree.number q.tree.number (state_of (after_run log.chunk_room)) (solo_step s (own.Finished i Ran)) (starts_of (slice_set q.tree.places i (ran_home p))) (starts_of q.tree.places) refl (sym (run-step log.chunk_room)) (starts-same q.tree.places i (fresh_place 0 1 0) (ran_home p) low refl)
 
-    pub ran-kept : IsAsked asked → IsTree tree → JobInvariant r
+    ran-kept : IsAsked asked → IsTree tree → JobInvariant r
     ran-kept ha ht =
         let places : places_of tree.places ≡ places_of (slice_set q.tree.places i (ran_home p)) = ap (λ (y : TreeView). places_of y.places) t in
         let runs : runs_of (places_of tree.places) ≡ runs_of (places_of q.tree.places) + runs_in l.adds = ap (λ (ps : List NodeSlot). runs_of ps) places ∙ more-runs in
@@ -204,6 +213,9 @@ module _ (q : Parts) (i : ℕ) (k : JobInvariant q) (is_out : is_some (placed q.
           chunks = omega (arith, less, room, k.chunks);
         }
 
+    pub ran-ended : (tenant job : List ℕ) → IsAsked asked → IsTree tree → Ended tenant job q r i Ran
+    ran-ended tenant job ha ht = record { view = ran-view tenant job; kept = ran-kept ha ht }
+
   -- the job after a start that came to nothing
   module _ (o : Outcome) (asked : QuestionsView) (tree : TreeView) (t : tree ≡ with_placed q.tree i (came_home p)) (step : solo_step s (own.Finished i o) ≡ state_of (record { asked = asked; tree = with_placed q.tree i (came_home p); log = q.log })) where
     abbrev home : Parts
@@ -212,10 +224,10 @@ module _ (q : Parts) (i : ℕ) (k : JobInvariant q) (is_out : is_some (placed q.
     home-state : solo_step s (own.Finished i o) ≡ state_of home
     home-state = step ∙ ap (λ (y : TreeView). state_of (record { asked = asked; tree = y; log = q.log })) (sym t)
 
-    pub home-view : (tenant job : List ℕ) → viewed tenant job home ≡ and_own (viewed tenant job q) (own.Finished i o)
+    home-view : (tenant job : List ℕ) → viewed tenant job home ≡ and_own (viewed tenant job q) (own.Finished i o)
     home-view tenant job = view-same tenant job tree.number q.tree.number (state_of home) (solo_step s (own.Finished i o)) (starts_of tree.places) (starts_of q.tree.places) (ap (λ (y : TreeView). y.number) t) (sym home-state) (ap (λ (y : TreeView). starts_of y.places) t ∙ starts-same q.tree.places i (fresh_place 0 1 0) (came_home p) low refl)
 
-    pub home-kept : IsAsked asked → IsTree tree → JobInvariant home
+    home-kept : IsAsked asked → IsTree tree → JobInvariant home
     home-kept ha ht =
         let places : places_of tree.places ≡ places_of (slice_set q.tree.places i (came_home p)) = ap (λ (y : TreeView). places_of y.places) t in
         let runs : runs_of (places_of tree.places) ≡ runs_of (places_of q.tree.places) = ap (λ (ps : List NodeSlot). runs_of ps) (places ∙ sym (set-placed q.tree.places i (came_home p) low)) ∙ runs-same (places_of q.tree.places) i (place_of (came_home p)) (ap (λ (y : NodeSlot). y.entries) (sym here)) in
@@ -230,6 +242,9 @@ module _ (q : Parts) (i : ℕ) (k : JobInvariant q) (is_out : is_some (placed q.
           few_lines = omega (arith, runs, k.few_lines);
           chunks = omega (arith, less, k.chunks);
         }
+
+    pub home-ended : (tenant job : List ℕ) → IsAsked asked → IsTree tree → Ended tenant job q home i o
+    home-ended tenant job ha ht = record { view = home-view tenant job; kept = home-kept ha ht }
 
   pub starved-step : (asked : QuestionsView) → asked ≡ settled_with (first_empty q.log.lines) (starved_by (revision_of p.out) q.asked) → solo_step s (own.Finished i Starved) ≡ state_of (record { asked = asked; tree = with_placed q.tree i (came_home p); log = q.log })
   starved-step asked a =

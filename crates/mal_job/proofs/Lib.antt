@@ -1,4 +1,5 @@
 -- what this crate alone cites
+mod Parts
 mod LogLemmas
 mod ToldLemmas
 mod ExportedLemmas

@@ -1,12 +1,11 @@
 //! How a start ends that came back, and when the nodes of a job are given up.
 
 ghost use Rattle.std.specs.Prelude.{◌≡◌, ◌+◌, ◌<◌, ◌≤◌, ◌^◌, true, ◌++◌, length, is_some};
-ghost use Rattle.mal_base.specs.declared.verdict.Outcome.TheVariants.{Ran};
+ghost use Rattle.mal_base.specs.declared.verdict.Outcome.TheVariants.{Ran, Starved};
 ghost use Rattle.spec_proof.specs.Log.{IsOrderly};
-ghost use Rattle.spec_job.specs.Journaled.{and_entries};
 ghost use Rattle.spec_job.specs.SoloMachine.{first_empty};
 ghost use Rattle.mal_job.specs.Asking.{IsAsked, concluded_by, starved_by, settled_with};
-ghost use Rattle.mal_job.specs.Placing.{IsTree, placed, with_placed, ran_home, came_home, one_more_ran, revision_of, adds_of};
+ghost use Rattle.mal_job.specs.Placing.{IsBackAt, IsTree, placed, with_placed, ran_home, came_home, one_more_ran, revision_of};
 
 use crate::derivation::Derivation;
 use crate::questions::Questions;
@@ -23,8 +22,7 @@ pub fn finish_run(
     back: Done,
 )
     requires ran { back.outcome ≡ Ran }
-    requires out { is_some (placed tree.old index).out ≡ true }
-    requires back { back.journal ≡ and_entries (placed tree.old index).journal (adds_of (placed tree.old index).out) }
+    requires back { IsBackAt (placed tree.old index) back }
     requires few { tree.old.ran < 2 ^ 31 }
     requires live { length questions.old.answers ≤ revision_of (placed tree.old index).out → length questions.old.answers < length questions.old.revisions }
     requires room { 1 ≤ log.old.chunk_room }
@@ -57,8 +55,8 @@ pub fn finish_starved(
     index: u32,
     back: Done,
 )
-    requires out { is_some (placed tree.old index).out ≡ true }
-    requires back { back.journal ≡ (placed tree.old index).journal }
+    requires starved { back.outcome ≡ Starved }
+    requires back { IsBackAt (placed tree.old index) back }
     requires live { length questions.old.answers ≤ revision_of (placed tree.old index).out → length questions.old.answers < length questions.old.revisions }
     ensures tree { tree.new ≡ with_placed tree.old index (came_home (placed tree.old index)) }
     ensures questions { questions.new ≡ settled_with (first_empty log.now.lines) (starved_by (revision_of (placed tree.old index).out) questions.old) }

@@ -1,6 +1,6 @@
 //! A place of a job's tree: a node at home, gone, or out.
 
-ghost use Rattle.std.specs.Prelude.{◌≡◌, ◌↔◌, ◌≤◌, IsTrue, is_some, true, None, IfOk, OnOk, OnErr};
+ghost use Rattle.std.specs.Prelude.{◌≡◌, ◌↔◌, ◌+◌, ◌≤◌, IsTrue, is_some, true, None, IfOk, OnOk, OnErr};
 ghost use Rattle.std.specs.Option.{option_map};
 ghost use Rattle.spec_job.specs.Journaled.{replayed, started, and_entries};
 ghost use Rattle.mal_suspend.specs.Kept.{journal_of};
@@ -144,25 +144,56 @@ impl NodeSlot {
         ensures own_index { self.new.journal.index ≡ self.old.journal.index }
         ensures own_profile { self.new.journal.profile ≡ self.old.journal.profile }
     {
+        let (starts, grown) = self.following(start, loads.as_slice(), imports.as_slice())?;
+        let lease = self.lease(loads, imports, start, worker)?;
+        reseat(&mut self.seat, Seat::Out(revision, grown));
+        self.journal.set_start(start);
+        self.starts = starts;
+        Ok(lease)
+    }
+
+    /// How often the node was started once it is started again, and the journal that it has once that start ran.
+    fn following(
+        &self,
+        start: u64,
+        loads: &[(Arc<Revision>, u32)],
+        imports: &[Arc<Buffer>],
+    ) -> Result<(u64, Journal), AllocError>
+        requires { MayAllReplay (replayed self.now.journal) (start_entries (shared_loads loads.now) (shared_tolds imports.now)) }
+        ensures starts { IfOk result (λ r. r.0 ≡ self.now.starts + 1) }
+        ensures grown { IfOk result (λ r. r.1 ≡ and_entries (started start self.now.journal) (start_entries (shared_loads loads.now) (shared_tolds imports.now))) }
+    {
         let starts = match self.starts.checked_add(1) {
             Some(starts) => starts,
             None => return Err(AllocError),
         };
-        let grown = self
-            .journal
-            .grown(start, loads.as_slice(), imports.as_slice())?;
+        let grown = self.journal.grown(start, loads, imports)?;
+        Ok((starts, grown))
+    }
+
+    /// The lease of the node, which is at home, for the start of this number. After want of memory the node is where
+    /// it was.
+    fn lease(
+        &mut self,
+        loads: Vec<(Arc<Revision>, u32)>,
+        imports: Vec<Arc<Buffer>>,
+        start: u64,
+        worker: u32,
+    ) -> Result<Lease, AllocError>
+        requires home { self.old.out ≡ None }
+        requires replays { MayAllReplay (replayed self.old.journal) (start_entries (shared_loads loads.items) (shared_tolds imports.items)) }
+        ensures same { self.new ≡ self.old }
+        ensures journal { IfOk result (λ l. l.journal ≡ started start self.old.journal) }
+        ensures adds { IfOk result (λ l. l.adds ≡ start_entries (shared_loads loads.items) (shared_tolds imports.items)) }
+        ensures worker { IfOk result (λ l. l.worker ≡ worker) }
+    {
         let kept = self.hand_out()?;
         match Lease::new(kept, loads, imports, start, worker) {
             Err((kept, error)) => {
-                self.seat = seat_of(kept);
+                reseat(&mut self.seat, seat_of(kept));
                 Err(error)
             }
-            Ok(lease) => {
-                self.seat = Seat::Out(revision, grown);
-                self.journal.set_start(start);
-                self.starts = starts;
-                Ok(lease)
-            }
+            Ok(lease) => Ok(lease),
         }
     }
 
@@ -215,7 +246,7 @@ impl NodeSlot {
         requires { journal_of kept ≡ self.old.journal }
         ensures { self.new ≡ came_home self.old }
     {
-        self.seat = seat_of(kept);
+        reseat(&mut self.seat, seat_of(kept));
     }
 
     /// Gives the node up, live or as bytes, where it is at home: from now on its journal alone is kept. A node that is
@@ -223,11 +254,8 @@ impl NodeSlot {
     pub fn give_up(&mut self)
         ensures { self.new ≡ self.old }
     {
-        match mem::replace(&mut self.seat, Seat::Gone) {
-            Seat::Home(_) => {}
-            Seat::Cold(_) => {}
-            Seat::Gone => {}
-            Seat::Out(revision, grown) => self.seat = Seat::Out(revision, grown),
+        if !self.is_out() {
+            self.lose();
         }
     }
 
@@ -235,8 +263,15 @@ impl NodeSlot {
     pub fn lose(&mut self)
         ensures { self.new ≡ came_home self.old }
     {
-        self.seat = Seat::Gone;
+        reseat(&mut self.seat, Seat::Gone);
     }
+}
+
+/// Puts another in a seat's place. What stood there is let go.
+fn reseat(seat: &mut Seat, next: Seat)
+    ensures { seat.new ≡ next }
+{
+    *seat = next;
 }
 
 /// The seat of what is kept of a node.

@@ -5,23 +5,24 @@ use Rattle.spec_job.specs.SoloMachine.{Lease, Finished}
 use Rattle.spec_job.specs.Viewed.{JobView, and_own}
 use Rattle.mal_job.specs.Placing.{placed}
 use Rattle.mal_job.specs.Viewed.{Parts}
-use Rattle.mal_job.proofs.FinishLemmas.{lost-step, home-view, home-kept}
+use Rattle.mal_job.proofs.FinishLemmas.{Ended, lost-step, home-ended}
+use Rattle.mal_job.proofs.Parts.{parts}
 use Rattle.mal_job.proofs.PlaceLemmas.{out-same}
 use Rattle.mal_job.proofs.job.Job.end_lost.Goals as goal
+use Rattle.mal_job.proofs.job.Job.end_lost.Goals.{After-finish_lost}
 
 pub finish_lost-requires : goal.finish_lost-requires
-finish_lost-requires c =
-    let q : Parts = record { asked = c.self.inside.questions; tree = c.self.inside.tree; log = c.self.inside.log } in
-    record { out = ap (λ (o : Option Lease). is_some o) (sym (out-same q.tree.places c.args.index 0 0)) ∙ (rw (← c.self.view_is) at c.requires) }
+finish_lost-requires c = record { out = ap (λ (o : Option Lease). is_some o) (sym (out-same c.self.inside.tree.places c.args.index 0 0)) ∙ (rw (← c.self.view_is) at c.requires) }
+
+ended : (c : After-finish_lost) → Ended c.self.inside.tenant c.self.inside.name (parts c.self.inside) (record { asked = c.finish_lost.new.questions; tree = c.finish_lost.new.tree; log = c.self.inside.log }) c.args.index Lost
+ended c =
+    let q : Parts = parts c.self.inside in
+    let out : is_some (placed q.tree c.args.index).out ≡ true = ap (λ (o : Option Lease). is_some o) (sym (out-same q.tree.places c.args.index 0 0)) ∙ (rw (← c.self.view_is) at c.requires) in
+    let e = c.finish_lost.ensures in
+    home-ended q c.args.index c.self.invariant out Lost c.finish_lost.new.questions c.finish_lost.new.tree e.tree (lost-step q c.args.index c.self.invariant out c.finish_lost.new.questions e.questions) c.self.inside.tenant c.self.inside.name e.asked e.kept
 
 pub invariant_of-self : goal.invariant_of-self
-invariant_of-self c =
-    let q : Parts = record { asked = c.self.inside.questions; tree = c.self.inside.tree; log = c.self.inside.log } in
-    let out : is_some (placed q.tree c.args.index).out ≡ true = ap (λ (o : Option Lease). is_some o) (sym (out-same q.tree.places c.args.index 0 0)) ∙ (rw (← c.self.view_is) at c.requires) in
-    home-kept q c.args.index c.self.invariant out Lost c.finish_lost.new.questions c.finish_lost.new.tree c.finish_lost.ensures.tree (lost-step q c.args.index c.self.invariant out c.finish_lost.new.questions c.finish_lost.ensures.questions) c.finish_lost.ensures.asked c.finish_lost.ensures.kept
+invariant_of-self c = (ended c).kept
 
 pub returns : goal.returns
-returns c =
-    let q : Parts = record { asked = c.self.inside.questions; tree = c.self.inside.tree; log = c.self.inside.log } in
-    let out : is_some (placed q.tree c.args.index).out ≡ true = ap (λ (o : Option Lease). is_some o) (sym (out-same q.tree.places c.args.index 0 0)) ∙ (rw (← c.self.view_is) at c.requires) in
-    home-view q c.args.index c.self.invariant out Lost c.finish_lost.new.questions c.finish_lost.new.tree c.finish_lost.ensures.tree (lost-step q c.args.index c.self.invariant out c.finish_lost.new.questions c.finish_lost.ensures.questions) c.self.inside.tenant c.self.inside.name ∙ ap (λ (v : JobView). and_own v (Finished c.args.index Lost)) c.self.view_is
+returns c = (ended c).view ∙ ap (λ (v : JobView). and_own v (Finished c.args.index Lost)) c.self.view_is

@@ -1,40 +1,30 @@
 use Rattle.std.proofs.Common.{◌≡◌, true, ◌∙◌, ap}
-use Rattle.std.specs.Prelude.{is_some, Option}
+use Rattle.std.specs.Prelude.{is_some}
 use Rattle.mal_base.specs.declared.verdict.Outcome.TheVariants.{Starved}
-use Rattle.spec_job.specs.SoloMachine.{Lease, Finished}
+use Rattle.spec_job.specs.SoloMachine.{Finished}
 use Rattle.spec_job.specs.Viewed.{JobView, and_own}
 use Rattle.mal_job.specs.Placing.{IsBackAt, placed}
 use Rattle.mal_job.specs.Viewed.{Parts}
-use Rattle.mal_job.proofs.FinishLemmas.{back-place, back-starved, live, starved-step, home-view, home-kept}
+use Rattle.mal_job.proofs.FinishLemmas.{Ended, back-out, back-place, live, starved-step, home-ended}
+use Rattle.mal_job.proofs.Parts.{parts}
 use Rattle.mal_job.proofs.job.Job.end_starved.Goals as goal
+use Rattle.mal_job.proofs.job.Job.end_starved.Goals.{After-finish_starved}
 
-pub finish_starved-requires-clause-out : goal.finish_starved-requires-clause-out
-finish_starved-requires-clause-out c =
-    let q : Parts = record { asked = c.self.inside.questions; tree = c.self.inside.tree; log = c.self.inside.log } in
+pub finish_starved-requires : goal.finish_starved-requires
+finish_starved-requires c =
+    let q : Parts = parts c.self.inside in
     let b : IsBackAt (placed q.tree c.args.index) c.args.back = back-place c.self.inside.tenant c.self.inside.name q c.args.index c.args.back c.self.invariant.tree c.self.invariant.solvers (rw (← c.self.view_is) at c.requires.back) in
-    ap (λ (o : Option Lease). is_some o) b.out
+    record { starved = c.requires.starved; back = b; live = live q c.args.index c.self.invariant (back-out (placed q.tree c.args.index) c.args.back b) }
 
-pub finish_starved-requires-clause-back : goal.finish_starved-requires-clause-back
-finish_starved-requires-clause-back c =
-    let q : Parts = record { asked = c.self.inside.questions; tree = c.self.inside.tree; log = c.self.inside.log } in
-    let b : IsBackAt (placed q.tree c.args.index) c.args.back = back-place c.self.inside.tenant c.self.inside.name q c.args.index c.args.back c.self.invariant.tree c.self.invariant.solvers (rw (← c.self.view_is) at c.requires.back) in
-    back-starved (placed q.tree c.args.index) c.args.back c.requires.starved b
-
-pub finish_starved-requires-clause-live : goal.finish_starved-requires-clause-live
-finish_starved-requires-clause-live c =
-    let q : Parts = record { asked = c.self.inside.questions; tree = c.self.inside.tree; log = c.self.inside.log } in
-    live q c.args.index c.self.invariant (finish_starved-requires-clause-out c)
+ended : (c : After-finish_starved) → Ended c.self.inside.tenant c.self.inside.name (parts c.self.inside) (record { asked = c.finish_starved.new.questions; tree = c.finish_starved.new.tree; log = c.self.inside.log }) c.args.index Starved
+ended c =
+    let q : Parts = parts c.self.inside in
+    let out : is_some (placed q.tree c.args.index).out ≡ true = back-out (placed q.tree c.args.index) c.args.back (back-place c.self.inside.tenant c.self.inside.name q c.args.index c.args.back c.self.invariant.tree c.self.invariant.solvers (rw (← c.self.view_is) at c.requires.back)) in
+    let e = c.finish_starved.ensures in
+    home-ended q c.args.index c.self.invariant out Starved c.finish_starved.new.questions c.finish_starved.new.tree e.tree (starved-step q c.args.index c.self.invariant out c.finish_starved.new.questions e.questions) c.self.inside.tenant c.self.inside.name e.asked e.kept
 
 pub invariant_of-self : goal.invariant_of-self
-invariant_of-self c =
-    let q : Parts = record { asked = c.self.inside.questions; tree = c.self.inside.tree; log = c.self.inside.log } in
-    let b : IsBackAt (placed q.tree c.args.index) c.args.back = back-place c.self.inside.tenant c.self.inside.name q c.args.index c.args.back c.self.invariant.tree c.self.invariant.solvers (rw (← c.self.view_is) at c.requires.back) in
-    let out : is_some (placed q.tree c.args.index).out ≡ true = ap (λ (o : Option Lease). is_some o) b.out in
-    home-kept q c.args.index c.self.invariant out Starved c.finish_starved.new.questions c.finish_starved.new.tree c.finish_starved.ensures.tree (starved-step q c.args.index c.self.invariant out c.finish_starved.new.questions c.finish_starved.ensures.questions) c.finish_starved.ensures.asked c.finish_starved.ensures.kept
+invariant_of-self c = (ended c).kept
 
 pub returns : goal.returns
-returns c =
-    let q : Parts = record { asked = c.self.inside.questions; tree = c.self.inside.tree; log = c.self.inside.log } in
-    let b : IsBackAt (placed q.tree c.args.index) c.args.back = back-place c.self.inside.tenant c.self.inside.name q c.args.index c.args.back c.self.invariant.tree c.self.invariant.solvers (rw (← c.self.view_is) at c.requires.back) in
-    let out : is_some (placed q.tree c.args.index).out ≡ true = ap (λ (o : Option Lease). is_some o) b.out in
-    home-view q c.args.index c.self.invariant out Starved c.finish_starved.new.questions c.finish_starved.new.tree c.finish_starved.ensures.tree (starved-step q c.args.index c.self.invariant out c.finish_starved.new.questions c.finish_starved.ensures.questions) c.self.inside.tenant c.self.inside.name ∙ ap (λ (v : JobView). and_own v (Finished c.args.index Starved)) c.self.view_is
+returns c = (ended c).view ∙ ap (λ (v : JobView). and_own v (Finished c.args.index Starved)) c.self.view_is
