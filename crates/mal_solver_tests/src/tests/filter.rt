@@ -36,7 +36,7 @@ fn pass_both(alloc: Global, seen: &mut ClauseSet) -> Result<[bool; 3], Fail> {
     Ok([other, first, empty])
 }
 
-/// Both of a set that is empty at first.
+/// What both tell of a set that is empty at first.
 fn passed(alloc: Global) -> Result<([bool; 3], [bool; 3]), Fail> {
     let mut seen = ClauseSet::new(alloc);
     let first = pass_first(alloc, &mut seen)?;
