@@ -1,5 +1,5 @@
 -- The first starts of a node of one revision.
-use Rattle.std.proofs.Common.{◌≡◌, ℕ, ◌+◌, ◌<◌, ◌≤◌, ◌^◌, true, List, [], ◌∷◌, length, None, refl, sym, ◌∙◌, ap, subst, arith}
+use Rattle.std.proofs.Common.{◌≡◌, ℕ, ◌+◌, ◌<◌, ◌≤◌, ◌^◌, true, [], ◌∷◌, length, refl, arith}
 use Rattle.std.proofs.lemmas.List.Elements.{All-nil}
 use Rattle.mal_base.specs.NumberedClause.{NumberedClause}
 use Rattle.mal_revision.specs.Posted.{Posted, is_posted}
@@ -9,14 +9,7 @@ use Rattle.spec_node.specs.Laws.{AreNewNumbers}
 use Rattle.spec_node.specs.Sound.{IsSound}
 use Rattle.spec_node.proofs.PostedLemmas.{posted-literals}
 use Rattle.spec_node.proofs.SoundLemmas.{fresh-sound, loaded-sound}
-use Rattle.spec_search.specs.Laws.{CountsRise}
-use Rattle.spec_search.proofs.SoundLemmas.{slice-sound}
-use Rattle.spec_search.proofs.CountLemmas.{slice-counts}
-use Rattle.spec_job.specs.Journal.{JournalEntry, Load, Run, replay}
-use Rattle.mal_base.specs.declared.verdict.Outcome.{Outcome}
-use Rattle.mal_base.specs.declared.verdict.Outcome.TheVariants.{Ran}
-use Rattle.spec_job.specs.Journaled.{Journaled, replayed, node_of, and_entries}
-use Rattle.spec_job.specs.Leased.{Leased, Finished, Tells, Becomes}
+use Rattle.spec_job.specs.Journal.{Load, Run, replay}
 use Rattle.mal_suspend.specs.Replaying.{MayAllReplay}
 
 new-numbers : (i : ℕ) (r : Posted) → 1 + length r.clauses ≤ 2 ^ 32 → AreNewNumbers r 1 (fresh i)

@@ -1,5 +1,5 @@
 -- Nodes that are run by whole slices.
-use Rattle.std.proofs.Common.{◌≡◌, ℕ, ◌+◌, ◌<◌, ◌≤◌, ◌^◌, true, length, refl, arith}
+use Rattle.std.proofs.Common.{◌≡◌, ℕ, ◌+◌, ◌≤◌, ◌^◌, true, length, refl, arith}
 use Rattle.mal_revision.specs.Posted.{Posted, is_posted}
 use Rattle.spec_node.specs.State.{Node, fresh}
 use Rattle.spec_node.specs.Load.{loaded}

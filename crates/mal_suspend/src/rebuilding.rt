@@ -19,9 +19,17 @@ use std::alloc::{AllocError, Global};
 pub fn rebuild(alloc: Global, journal: &Journal) -> Result<Suspended, AllocError>
     ensures { IfOk result (λ s. s ≡ journal.now) }
 {
+    let journal = journal.copy()?;
     let mut scratch = Scratch::new(alloc);
-    let node = replay(journal, &mut scratch)?;
-    Ok(Suspended::of(node, journal.copy()?))
+    with_node(journal, &mut scratch)
+}
+
+/// A journal with its node.
+fn with_node(journal: Journal, scratch: &mut Scratch) -> Result<Suspended, AllocError>
+    ensures { IfOk result (λ s. s ≡ journal) }
+{
+    let node = replay(&journal, scratch)?;
+    Ok(Suspended::of(node, journal))
 }
 
 /// The node of a journal: the node of its profile at its first start, and then each entry in turn.

@@ -93,7 +93,7 @@ impl Suspended {
     {
         match self.bytes() {
             Err(error) => Err((self, error)),
-            Ok(bytes) => Ok(Frozen::of(bytes, self.journal)),
+            Ok(bytes) => Ok(self.with_bytes(bytes)),
         }
     }
 
@@ -106,8 +106,16 @@ impl Suspended {
     {
         match self.bytes_within(most) {
             None => Err(self),
-            Some(bytes) => Ok(Frozen::of(bytes, self.journal)),
+            Some(bytes) => Ok(self.with_bytes(bytes)),
         }
+    }
+
+    /// The journal with the bytes of the node's image in place of the node.
+    fn with_bytes(self, bytes: Vec<u8>) -> Frozen
+        requires { IsFrozen bytes.items self }
+        ensures { result ≡ self }
+    {
+        Frozen::of(bytes, self.journal)
     }
 
     /// The bytes of the image of the node, where they are no more than these and memory for them is there.

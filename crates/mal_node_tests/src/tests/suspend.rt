@@ -17,7 +17,7 @@ fn fresh(alloc: Global, profile: u32) -> Suspended
 }
 
 /// How many bytes a node has, frozen. None where memory is wanting.
-fn frozen_len(suspended: Suspended) -> Option<usize> {
+pub fn frozen_len(suspended: Suspended) -> Option<usize> {
     match suspended.freeze() {
         Err(_) => None,
         Ok(frozen) => Some(frozen.bytes().len()),

@@ -1,9 +1,9 @@
 //! A node that is thawed from its bytes goes on like the one that stayed live, over either engine.
 
 use super::going::Going;
-use super::values::text_of;
-use mal_base::{Clause, Lit};
+use mal_base::{Clause, Lines, Lit};
 use mal_learn::Scratch;
+use mal_lrat::put_added;
 use mal_revision::Revision;
 use mal_scan::Scan;
 use mal_trail::Listed;
@@ -53,6 +53,15 @@ fn pigeons(alloc: Global) -> Result<Vec<Option<Clause>>, Fail> {
 /// The revision of these clauses.
 fn pigeon_revision(alloc: Global) -> Result<Revision, Fail> {
     Ok(Revision::new(alloc, 42, pigeons(alloc)?, &[])?)
+}
+
+/// The text of lines, as a proof has them.
+fn text_of(alloc: Global, lines: &Lines) -> Result<Vec<u8>, Fail> {
+    let mut text = Vec::new(alloc);
+    for n in 0..lines.count() {
+        put_added(&mut text, lines.id(n), lines.lits(n), lines.hints(n))?;
+    }
+    Ok(text)
 }
 
 /// The text of the lines of a node's next slice.

@@ -1,9 +1,13 @@
 //! What is kept of a node after a lease, on both sides of the greatest length of an image that is frozen, and nodes
 //! that are thawed.
 
-ghost use Rattle.std.specs.Prelude.{◌≡◌, []};
+ghost use Rattle.std.specs.Prelude.{◌≡◌, [], IfOk};
+ghost use Rattle.spec_job.specs.Journal.{replay};
 ghost use Rattle.mal_suspend.specs.Kept.{journal_of};
+ghost use Rattle.mal_suspend.specs.Replaying.{MayAllReplay};
+ghost use Rattle.mal_suspend.specs.Starting.{shared_loads, start_entries};
 
+use super::suspend::frozen_len;
 use mal_learn::Scratch;
 use mal_revision::Revision;
 use mal_suspend::{Entries, FROZEN_BYTES, Frozen, Journal, Kept, Lease, Suspended};
@@ -11,16 +15,30 @@ use std::alloc::{AllocError, Global};
 use std::sync::Arc;
 use std::test::Fail;
 
-/// The first start of node 0, which loads a shared revision.
-fn first(alloc: Global, kept: Kept, revision: Arc<Revision>) -> Result<Lease, AllocError>
-    requires { journal_of kept ≡ record { job = 7; profile = 1; index = 0; start = 0; entries = [] } }
+/// The load of a shared revision at the first start of a node.
+fn loads_of(alloc: Global, revision: Arc<Revision>) -> Result<Vec<(Arc<Revision>, u32)>, AllocError>
+    ensures { IfOk result (λ v. MayAllReplay (replay 1 0 []) (start_entries (shared_loads v.items) [])) }
 {
     if revision.clauses().len() > 1000 {
         return Err(AllocError);
     }
     let loads = vec![in alloc; (revision, 1)]?;
+    Ok(loads)
+}
+
+/// Lets go of a node that came back, and tells why it did.
+fn refusal(back: (Kept, AllocError)) -> AllocError {
+    let (_kept, error) = back;
+    error
+}
+
+/// The first start of node 0, with these loads.
+fn first(alloc: Global, kept: Kept, loads: Vec<(Arc<Revision>, u32)>) -> Result<Lease, AllocError>
+    requires journal { journal_of kept ≡ record { job = 7; profile = 1; index = 0; start = 0; entries = [] } }
+    requires loads { MayAllReplay (replay 1 0 []) (start_entries (shared_loads loads.items) []) }
+{
     match Lease::new(kept, loads, Vec::new(alloc), 3, 0) {
-        Err((_, error)) => Err(error),
+        Err(back) => Err(refusal(back)),
         Ok(lease) => Ok(lease),
     }
 }
@@ -40,12 +58,17 @@ fn bytes_after(lease: Lease, scratch: &mut Scratch) -> usize {
     cold_bytes(done.kept())
 }
 
-/// How many bytes are kept of node 0 after its first start, which loads a shared revision.
-fn first_bytes(alloc: Global, kept: Kept, revision: Arc<Revision>) -> Result<usize, AllocError>
-    requires { journal_of kept ≡ record { job = 7; profile = 1; index = 0; start = 0; entries = [] } }
+/// How many bytes are kept of node 0 after its first start, with these loads.
+fn first_bytes(
+    alloc: Global,
+    kept: Kept,
+    loads: Vec<(Arc<Revision>, u32)>,
+) -> Result<usize, AllocError>
+    requires journal { journal_of kept ≡ record { job = 7; profile = 1; index = 0; start = 0; entries = [] } }
+    requires loads { MayAllReplay (replay 1 0 []) (start_entries (shared_loads loads.items) []) }
 {
+    let lease = first(alloc, kept, loads)?;
     let mut scratch = Scratch::new(alloc);
-    let lease = first(alloc, kept, revision)?;
     Ok(bytes_after(lease, &mut scratch))
 }
 
@@ -58,15 +81,17 @@ fn shared(alloc: Global, variables: u32) -> Result<Arc<Revision>, Fail> {
 /// How many bytes are kept of node 0, which was live, after a first start with so many variables.
 fn live_bytes(alloc: Global, variables: u32) -> Result<usize, Fail> {
     let revision = shared(alloc, variables)?;
+    let loads = loads_of(alloc, revision)?;
     let kept = Kept::Live(Suspended::fresh(alloc, 7, 1, 0));
-    Ok(first_bytes(alloc, kept, revision)?)
+    Ok(first_bytes(alloc, kept, loads)?)
 }
 
 /// How many bytes are kept of node 0, which was gone, after a first start with so many variables.
 fn rebuilt_bytes(alloc: Global, variables: u32) -> Result<usize, Fail> {
     let revision = shared(alloc, variables)?;
+    let loads = loads_of(alloc, revision)?;
     let kept = Kept::Gone(Journal::new(alloc, 7, 1, 0));
-    Ok(first_bytes(alloc, kept, revision)?)
+    Ok(first_bytes(alloc, kept, loads)?)
 }
 
 /// A slice decides 500 variables: an image has 65 bytes, 5 for each variable and 16 for each that is decided.
@@ -84,14 +109,6 @@ fn a_late_lease_and_the_one_after_it_are_frozen(rt: HostRuntime) -> Result<(), F
     assert!(rt; rebuilt_bytes(rt.alloc(), 100)? == 2165);
     assert!(rt; live_bytes(rt.alloc(), 100)? == 2165);
     Ok(())
-}
-
-/// How many bytes a node has, frozen. None where memory is wanting.
-fn frozen_len(suspended: Suspended) -> Option<usize> {
-    match suspended.freeze() {
-        Err(_) => None,
-        Ok(frozen) => Some(frozen.bytes().len()),
-    }
 }
 
 /// How many bytes a frozen node has that is thawed and frozen again, or that comes back where the thaw is refused. None
@@ -121,12 +138,10 @@ fn journal_after(lease: Lease, scratch: &mut Scratch) -> Result<Journal, AllocEr
 /// The journal of node 0 after its first start, which loads a revision of two variables.
 fn first_journal(alloc: Global) -> Result<Journal, Fail> {
     let revision = shared(alloc, 2)?;
+    let loads = loads_of(alloc, revision)?;
+    let kept = Kept::Live(Suspended::fresh(alloc, 7, 1, 0));
+    let lease = first(alloc, kept, loads)?;
     let mut scratch = Scratch::new(alloc);
-    let lease = first(
-        alloc,
-        Kept::Live(Suspended::fresh(alloc, 7, 1, 0)),
-        revision,
-    )?;
     Ok(journal_after(lease, &mut scratch)?)
 }
 

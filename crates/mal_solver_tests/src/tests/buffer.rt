@@ -1,16 +1,10 @@
-//! Buffers whose union and front are known.
+//! Buffers whose front is known.
 
-use super::values::{clause, counted, id, lits};
+use super::values::counted;
 use mal_base::ClauseId;
 use mal_buffer::Buffer;
 use std::alloc::Global;
 use std::test::Fail;
-
-/// The buffer of one clause under its number.
-fn single(alloc: Global, numbers: &[i32], number: u64) -> Result<Buffer, Fail> {
-    let clause = clause(alloc, numbers)?.ok_or("a tautology")?;
-    Ok(Buffer::single(alloc, clause, id(number)?)?)
-}
 
 /// A buffer with one clause of so many literals and so many clauses of 16 literals.
 fn one_and_many(alloc: Global, size: i32, count: u32) -> Result<Buffer, Fail> {
@@ -35,50 +29,16 @@ fn literals(buffer: &Buffer) -> usize {
     sum
 }
 
-#[test]
-fn a_clause_of_two_solvers_stands_once_with_the_lesser_number(rt: HostRuntime) -> Result<(), Fail> {
-    let one = single(rt.alloc(), &[1, -2], 4_294_967_297)?;
-    let three = single(rt.alloc(), &[-2, 1], 4_294_967_299)?;
-    for (a, b) in [(&one, &three), (&three, &one)] {
-        let both = Buffer::merge(rt.alloc(), a, b)?;
-        let [entry] = both.entries() else {
-            return Err(Fail::from("not one entry"));
-        };
-        assert_eq!(rt; entry.id().number(), 4_294_967_297);
-        assert_eq!(rt; entry.lits(), lits(rt.alloc(), &[1, -2])?.as_slice());
-    }
-    Ok(())
-}
-
-#[test]
-fn shorter_clauses_come_first_and_then_those_of_lesser_literals(
-    rt: HostRuntime,
-) -> Result<(), Fail> {
-    let mut all = Buffer::new(rt.alloc());
-    let known: [(&[i32], u64); 4] = [(&[1, 3], 1), (&[9], 2), (&[1, -2], 3), (&[], 4)];
-    for (numbers, id) in known {
-        all = Buffer::merge(rt.alloc(), &all, &single(rt.alloc(), numbers, id)?)?;
-    }
-    let mut ids = Vec::new(rt.alloc());
-    for entry in all.entries() {
-        ids.push(entry.id().number())?;
-    }
-    assert_eq!(rt; ids.as_slice(), [4, 2, 3, 1].as_slice());
-    let again = all.copy()?;
-    assert_eq!(rt; again.entries().len(), 4);
-    Ok(())
+/// How many entries and how many literals such a buffer has after it was cut to 1,500 literals.
+fn counts_of_cut(alloc: Global, size: i32, count: u32) -> Result<(usize, usize), Fail> {
+    let mut buffer = one_and_many(alloc, size, count)?;
+    buffer.cut(1500);
+    Ok((buffer.entries().len(), literals(&buffer)))
 }
 
 #[test]
 fn a_buffer_takes_1500_literals(rt: HostRuntime) -> Result<(), Fail> {
-    let mut buffer = one_and_many(rt.alloc(), 12, 94)?;
-    assert_eq!(rt; buffer.entries().len(), 95);
-    buffer.cut(1500);
-    assert_eq!(rt; buffer.entries().len(), 94);
-    assert_eq!(rt; literals(&buffer), 1500);
-    let mut buffer = one_and_many(rt.alloc(), 13, 93)?;
-    buffer.cut(1500);
-    assert_eq!(rt; buffer.entries().len(), 93);
-    assert_eq!(rt; literals(&buffer), 1485);
+    assert!(rt; counts_of_cut(rt.alloc(), 12, 94)? == (94, 1500));
+    assert!(rt; counts_of_cut(rt.alloc(), 13, 93)? == (93, 1485));
     Ok(())
 }

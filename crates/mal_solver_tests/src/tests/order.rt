@@ -23,15 +23,6 @@ fn first(order: &mut Order, trail: &Trail) -> [u32; 2] {
     [number_of(first), number_of(again)]
 }
 
-/// The numbers of the variables, in their order.
-fn numbers(alloc: Global, order: &Order) -> Result<Vec<u32>, Fail> {
-    let mut numbers = Vec::new(alloc);
-    for var in order.variables()? {
-        numbers.push(var.number())?;
-    }
-    Ok(numbers)
-}
-
 /// Appends variables to an order that has few.
 fn append(order: &mut Order, n: u32) -> Result<(), Fail> {
     if order.len() > 100 {
@@ -54,34 +45,6 @@ fn bump(order: &mut Order, var: Var) -> Result<(), Fail> {
     Ok(())
 }
 
-/// The order of the node of this index, to which so many variables were appended.
-fn appended(alloc: Global, index: u32, n: u32) -> Result<Order, Fail> {
-    if index > 63 {
-        return Err("no node".into());
-    }
-    let mut order = Order::new(alloc, index);
-    append(&mut order, n)?;
-    Ok(order)
-}
-
-#[test]
-fn node_1_begins_at_2_and_ends_at_1(rt: HostRuntime) -> Result<(), Fail> {
-    let mut order = appended(rt.alloc(), 1, 64)?;
-    let trail = Trail::new(rt.alloc());
-    assert!(rt; order.len() == 64);
-    assert!(rt; first(&mut order, &trail) == [2, 2]);
-    assert!(rt; numbers(rt.alloc(), &order)?.last().copied() == Some(1));
-    Ok(())
-}
-
-#[test]
-fn node_33_turns_ten_variables_by_five(rt: HostRuntime) -> Result<(), Fail> {
-    let order = appended(rt.alloc(), 33, 10)?;
-    let known: [u32; 10] = [6, 7, 8, 9, 10, 1, 2, 3, 4, 5];
-    assert!(rt; numbers(rt.alloc(), &order)?.as_slice() == known.as_slice());
-    Ok(())
-}
-
 /// A trail on which 4 is false.
 fn without_four(alloc: Global) -> Result<Trail, Fail> {
     let mut trail = Trail::new(alloc);
@@ -90,29 +53,48 @@ fn without_four(alloc: Global) -> Result<Trail, Fail> {
     Ok(trail)
 }
 
+/// Appends five variables in two parts, and moves 2 and then 4 to the front.
+fn append_and_move(order: &mut Order) -> Result<(), Fail> {
+    append(order, 3)?;
+    append(order, 2)?;
+    bump(order, Var::of(2))?;
+    bump(order, Var::of(4))
+}
+
+/// The variables that are free first in such an order, where none has a value and where 4 has one.
+fn firsts(order: &mut Order, none: &Trail, four: &Trail) -> Result<[[u32; 2]; 2], Fail> {
+    append_and_move(order)?;
+    Ok([first(order, none), first(order, four)])
+}
+
 #[test]
 fn a_moved_variable_is_decided_next(rt: HostRuntime) -> Result<(), Fail> {
-    let alloc = rt.alloc();
-    let none = Trail::new(alloc);
-    let mut order = appended(alloc, 0, 0)?;
-    assert!(rt; first(&mut order, &none) == [0, 0]);
-    append(&mut order, 3)?;
-    append(&mut order, 2)?;
-    bump(&mut order, Var::of(2))?;
-    bump(&mut order, Var::of(4))?;
-    assert!(rt; first(&mut order, &none) == [4, 4]);
-    assert!(rt; first(&mut order, &without_four(alloc)?) == [2, 2]);
-    let moved: [u32; 5] = [4, 2, 1, 3, 5];
-    assert!(rt; numbers(alloc, &order)?.as_slice() == moved.as_slice());
+    let four = without_four(rt.alloc())?;
+    let none = Trail::new(rt.alloc());
+    let mut order = Order::new(rt.alloc(), 0);
+    assert!(rt; firsts(&mut order, &none, &four)? == [[4, 4], [2, 2]]);
     Ok(())
 }
 
 #[test]
-fn a_list_comes_back_in_its_order(rt: HostRuntime) -> Result<(), Fail> {
-    let list = vec![in rt.alloc(); Var::of(2), Var::of(3), Var::of(1)]?;
-    let mut order = Order::of_list(rt.alloc(), 5, list.as_slice())?;
+fn an_order_without_variables_has_no_first(rt: HostRuntime) -> Result<(), Fail> {
+    let mut order = Order::new(rt.alloc(), 0);
+    assert!(rt; first(&mut order, &Trail::new(rt.alloc())) == [0, 0]);
+    Ok(())
+}
+
+/// Whether an order has this list, and the variables that are free first where none has a value.
+fn shown(order: &mut Order, alloc: Global, list: &[Var]) -> Result<(bool, [u32; 2]), Fail> {
     let again = order.variables()?;
-    assert!(rt; again.as_slice() == list.as_slice());
-    assert!(rt; first(&mut order, &Trail::new(rt.alloc())) == [2, 2]);
+    let is_same = again.as_slice() == list;
+    let none = Trail::new(alloc);
+    Ok((is_same, first(order, &none)))
+}
+
+#[test]
+fn a_list_comes_back_in_its_order(rt: HostRuntime) -> Result<(), Fail> {
+    let list = [Var::of(2), Var::of(3), Var::of(1)];
+    let mut order = Order::of_list(rt.alloc(), 5, &list)?;
+    assert!(rt; shown(&mut order, rt.alloc(), &list)? == (true, [2, 2]));
     Ok(())
 }

@@ -45,20 +45,34 @@ fn holds(alloc: Global, store: &Store, clauses: &[(u64, &[i32])]) -> Result<bool
     Ok(true)
 }
 
+/// Whether a clause is held under this number.
+fn is_held(store: &Store, number: u64) -> Result<bool, Fail> {
+    let id = id(number)?;
+    Ok(store.get(id).is_some())
+}
+
+/// Whether a store has these clauses, and one under the number 4.
+fn shown(alloc: Global, store: &Store, clauses: &[(u64, &[i32])]) -> Result<(bool, bool), Fail> {
+    let stand = holds(alloc, store, clauses)?;
+    let more = is_held(store, 4)?;
+    Ok((stand, more))
+}
+
 #[test]
 fn clauses_stand_by_rising_number(rt: HostRuntime) -> Result<(), Fail> {
-    let store = filled(rt.alloc(), &[(4_294_967_299, &[-2]), (5, &[1, -2])])?;
     assert!(rt; ClauseId::derived(0, 3) == id(4_294_967_299)?);
-    assert!(rt; holds(rt.alloc(), &store, &[(5, &[1, -2]), (4_294_967_299, &[-2])])?);
-    assert!(rt; store.get(id(4)?).is_none());
+    let clauses: &[(u64, &[i32])] = &[(4_294_967_299, &[-2]), (5, &[1, -2])];
+    let store = filled(rt.alloc(), clauses)?;
+    assert!(rt; shown(rt.alloc(), &store, clauses)? == (true, false));
     Ok(())
 }
 
-/// Of four clauses two are forgotten, whose literals stand before, between and behind those of the others.
-#[test]
-fn a_store_forgets_the_clauses_of_some_numbers(rt: HostRuntime) -> Result<(), Fail> {
+/// The store of four clauses, of which two are forgotten, whose literals stand before, between and behind those of the
+/// others.
+fn forgetful(alloc: Global) -> Result<Store, Fail> {
+    let mut gone = [id(4_294_967_360)?, id(7)?, id(4_294_967_299)?];
     let mut store = filled(
-        rt.alloc(),
+        alloc,
         &[
             (4_294_967_299, &[1, -2]),
             (5, &[-2, 3]),
@@ -66,9 +80,20 @@ fn a_store_forgets_the_clauses_of_some_numbers(rt: HostRuntime) -> Result<(), Fa
             (2, &[1, 3]),
         ],
     )?;
-    store.forget(&mut [id(4_294_967_360)?, id(7)?, id(4_294_967_299)?]);
-    assert!(rt; holds(rt.alloc(), &store, &[(2, &[1, 3]), (5, &[-2, 3])])?);
-    assert!(rt; store.get(id(4_294_967_299)?).is_none());
-    assert!(rt; store.get(id(4_294_967_360)?).is_none());
+    store.forget(&mut gone);
+    Ok(store)
+}
+
+/// Whether a store has the two that stay alone, and one of those that were forgotten.
+fn has_forgotten(alloc: Global, store: &Store) -> Result<(bool, bool), Fail> {
+    let stay = holds(alloc, store, &[(2, &[1, 3]), (5, &[-2, 3])])?;
+    let gone = is_held(store, 4_294_967_299)? || is_held(store, 4_294_967_360)?;
+    Ok((stay, gone))
+}
+
+#[test]
+fn a_store_forgets_the_clauses_of_some_numbers(rt: HostRuntime) -> Result<(), Fail> {
+    let store = forgetful(rt.alloc())?;
+    assert!(rt; has_forgotten(rt.alloc(), &store)? == (true, false));
     Ok(())
 }

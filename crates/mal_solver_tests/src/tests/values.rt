@@ -29,6 +29,12 @@ pub fn clause(alloc: Global, numbers: &[i32]) -> Result<Option<Clause>, Fail> {
     Ok(Clause::of_lits(alloc, lits.as_slice())?)
 }
 
+/// The clause of these literals, which is no tautology.
+pub fn some_clause(alloc: Global, numbers: &[i32]) -> Result<Clause, Fail> {
+    let clause = clause(alloc, numbers)?;
+    Ok(clause.ok_or("a tautology")?)
+}
+
 /// The clause of so many variables from this one on.
 pub fn counted(alloc: Global, first: i32, size: i32) -> Result<Clause, Fail> {
     let mut lits = Vec::new(alloc);

@@ -1,6 +1,6 @@
 //! Trails that are known, and trails on which both engines agree.
 
-use super::values::{clause, id, lit, lits};
+use super::values::{id, lit, lits, some_clause};
 use both::Both;
 use mal_base::{ClauseId, ClauseView, TrailEntry};
 use mal_trail::Listed;
@@ -16,8 +16,9 @@ mod run;
 /// Adds the clauses of these literals under their numbers.
 fn add_all(both: &mut Both, alloc: Global, clauses: &[(u64, &[i32])]) -> Result<(), Fail> {
     for (number, numbers) in clauses {
-        let clause = clause(alloc, numbers)?.ok_or("a tautology")?;
-        both.add(id(*number)?, &clause)?;
+        let id = id(*number)?;
+        let clause = some_clause(alloc, numbers)?;
+        both.add(id, &clause)?;
     }
     Ok(())
 }
@@ -54,17 +55,19 @@ fn told(alloc: Global, entries: &[TrailEntry]) -> Result<Vec<(i32, u64, u32)>, F
     Ok(told)
 }
 
-/// Adds these clauses under their numbers, gives some up, decides 1, and tells the trail.
-fn after_one(
+/// Adds these clauses under their numbers, gives some up, decides 1, and tells whether this is the trail then.
+fn has_trail(
     both: &mut Both,
     alloc: Global,
     clauses: &[(u64, &[i32])],
     given_up: &[u64],
-) -> Result<Vec<(i32, u64, u32)>, Fail> {
+    known: &[(i32, u64, u32)],
+) -> Result<bool, Fail> {
     add_all(both, alloc, clauses)?;
     give_up(both, alloc, given_up)?;
     decide(both, 1)?;
-    told(alloc, both.entries())
+    let told = told(alloc, both.entries())?;
+    Ok(told.as_slice() == known)
 }
 
 /// Whether this is the trail of both engines after decision 1 over these clauses, of which some were given up.
@@ -75,8 +78,7 @@ fn is_after_one(
     known: &[(i32, u64, u32)],
 ) -> Result<bool, Fail> {
     let mut both = Both::new(alloc)?;
-    let told = after_one(&mut both, alloc, clauses, given_up)?;
-    Ok(told.as_slice() == known)
+    has_trail(&mut both, alloc, clauses, given_up, known)
 }
 
 #[test]
@@ -100,39 +102,45 @@ fn clauses_that_are_given_up_force_nothing(rt: HostRuntime) -> Result<(), Fail> 
     Ok(())
 }
 
-/// Adds one clause behind a trail and one after a cut, and takes the decision that was cut away again. The conflict, if
-/// there is one.
-fn behind_a_trail(both: &mut Both, alloc: Global) -> Result<Option<ClauseId>, Fail> {
+/// Adds one clause behind a trail and one after a cut, and takes the decision that was cut away again. The number of the
+/// conflict, 0 for none, and the length of the trail.
+fn behind_a_trail(both: &mut Both, alloc: Global) -> Result<(u64, usize), Fail> {
     decide(both, -1)?;
     decide(both, -2)?;
     add_all(both, alloc, &[(5, &[1, 2, 3])])?;
     both.back(1);
     add_all(both, alloc, &[(6, &[1, 2, -3])])?;
-    decide(both, -2)
+    let conflict = decide(both, -2)?;
+    Ok((number_of(conflict), both.entries().len()))
 }
 
 #[test]
 fn a_clause_behind_a_trail_is_found_after_a_cut(rt: HostRuntime) -> Result<(), Fail> {
     let mut both = Both::new(rt.alloc())?;
-    let conflict = behind_a_trail(&mut both, rt.alloc())?;
-    assert_eq!(rt; number_of(conflict), 6);
-    assert_eq!(rt; both.entries().len(), 3);
+    assert!(rt; behind_a_trail(&mut both, rt.alloc())? == (6, 3));
     Ok(())
 }
 
-/// Whether an engine with the clauses 1 -2 and 4 under the numbers 9 and 3 lends them so.
+/// Adds the clause of these literals under a number.
+fn add(run: &mut Run<Watch>, alloc: Global, number: u64, numbers: &[i32]) -> Result<(), Fail> {
+    let id = id(number)?;
+    let clause = some_clause(alloc, numbers)?;
+    run.add(id, &clause)
+}
+
+/// Whether an engine lends the clause of these literals under a number.
+fn is_lent(run: &Run<Watch>, alloc: Global, number: u64, numbers: &[i32]) -> Result<bool, Fail> {
+    let id = id(number)?;
+    let lits = lits(alloc, numbers)?;
+    Ok(run.engine().get(id) == Some(lits.as_slice()))
+}
+
+/// Adds the clauses 1 -2 and 4 under the numbers 9 and 3, and tells whether the first is lent so.
 fn are_lent(run: &mut Run<Watch>, alloc: Global) -> Result<bool, Fail> {
-    let long = clause(alloc, &[1, -2])?.ok_or("a tautology")?;
-    let unit = clause(alloc, &[4])?.ok_or("a tautology")?;
-    run.add(id(9)?, &long)?;
-    run.add(id(3)?, &unit)?;
-    let lits = lits(alloc, &[1, -2])?;
-    let engine = run.engine();
-    Ok(
-        engine.count() == 2
-            && engine.get(id(9)?) == Some(lits.as_slice())
-            && engine.get(id(4)?).is_none(),
-    )
+    add(run, alloc, 9, &[1, -2])?;
+    add(run, alloc, 3, &[4])?;
+    let is_lent = is_lent(run, alloc, 9, &[1, -2])?;
+    Ok(is_lent && run.engine().count() == 2 && !run.holds(id(4)?))
 }
 
 #[test]
