@@ -1,5 +1,5 @@
 -- No call of a service loses a lease.
-use Rattle.std.proofs.Common.{◌≡◌, ℕ, List, [], ◌∷◌, ◌++◌, Result, Ok, Err, IfOk, refl, sym, ap, ◌∙◌, subst, append_assoc, append-nil}
+use Rattle.std.proofs.Common.{◌≡◌, ℕ, List, [], ◌∷◌, ◌++◌, Ok, Err, refl, sym, ap, ◌∙◌, subst, append_assoc, append-nil}
 use Rattle.spec_turn.specs.declared.view.View.{View}
 use Rattle.mal_base.specs.declared.hall_fault.ReplyFault.TheVariants as asking
 use Rattle.spec_hall.specs.Events.{Event}
@@ -8,10 +8,7 @@ use Rattle.spec_service.specs.Passes.{LeavesHall}
 use Rattle.spec_service.specs.Record.{Answered, Opened, Revised, Closed, Asked, Picked, Gave, AreAnsweredFrom, Entry, IsAnswered, Record, events_of}
 use Rattle.mal_hall.specs.declared.desk.Post.TheVariants as posts
 use Rattle.mal_hall.specs.declared.desk.PostFault.TheVariants as faults
-use Rattle.mal_hall.specs.HallView.{HallView}
-use Rattle.mal_pool.specs.Gates.{Stops, LosesByStops}
 use Rattle.mal_pool.proofs.CallLosses.{finish_loses_none, pick_loses_none, post_loses_none}
-use Rattle.mal_pool.proofs.RunLosses.{alone_by_stops}
 use Rattle.mal_board.specs.Laws.{RecordsLoseNone}
 
 -- nothing was entered
@@ -43,7 +40,3 @@ record-loses-none w log legal = answers-lose-none w [] log legal.answers refl
 -- so the hall of a closed service lost none
 pub left_loses_none : (w : ℕ) (h : List Event) (v : View Entry) → LeavesHall w h v → NoneIsLost h
 left_loses_none w h v left = subst NoneIsLost (sym left.value.1) (record-loses-none w left.log left.value.0)
-
--- a run of one thread that lost none loses by stops
-pub alone_loses_none : {E : Type 0} (stops : Stops) (r : Result HallView E) → IfOk r (λ h. NoneIsLost h.events) → IfOk r (λ h. LosesByStops stops h.events)
-alone_loses_none stops r none = alone_by_stops stops r none

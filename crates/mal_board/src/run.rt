@@ -3,12 +3,10 @@
 ghost use Rattle.std.specs.Prelude.{◌≡◌, ◌≤◌, IfOk};
 ghost use Rattle.mal_pool.specs.Gates.{LosesByStops};
 ghost use Rattle.mal_pool.specs.Posts.{HasRun};
-ghost use Rattle.spec_hall.specs.Driven.{IsDriven};
-ghost use Rattle.spec_run.specs.Complete.{script_events};
 
 use crate::served::Served;
 use mal_hall::Hall;
-use mal_pool::{Gate, run_alone, run_with};
+use mal_pool::{Gate, run_with};
 use mal_script::Script;
 use mal_service::{Service, Size};
 use std::alloc::{AllocError, Global};
@@ -16,11 +14,8 @@ use std::marker::Brand;
 use std::sync::Wait;
 use std::thread::Threads;
 
-/// Runs a script with 1 to 64 workers. With one worker no thread is made and nothing is waited for: all jobs are
-/// opened, then job by job its revisions and its closing are posted, and the hall is driven. With more, tenants post
-/// and workers work at the same time, each in a thread where one can be had, and share a service: they call its hall in
-/// turns, and work outside the turn.
-#[tactic(auto, using(crate::proofs::LossLemmas::alone_loses_none))]
+/// Runs a script with 2 to 64 workers. Tenants post and workers work at the same time, each in a thread where one can be
+/// had, and share a service: they call its hall in turns, and work outside the turn.
 pub fn run_served<R: Threads + Wait + Sync, G: Gate>(
     rt: &R,
     alloc: Global,
@@ -28,15 +23,11 @@ pub fn run_served<R: Threads + Wait + Sync, G: Gate>(
     workers: u32,
     gate: &G,
 ) -> Result<Hall, AllocError>
-    requires some { 1 ≤ workers }
+    requires some { 2 ≤ workers }
     requires bound { workers ≤ 64 }
     ensures run { IfOk result (λ h. HasRun workers script.now h) }
-    ensures sequential { workers ≡ 1 → IfOk result (λ h. IsDriven workers (script_events script.now) h.events) }
     ensures lost { IfOk result (λ h. LosesByStops (G.stops gate.now) h.events) }
 {
-    if workers == 1 {
-        return run_alone(alloc, script, workers);
-    }
     run_shared::<Brand, R, G>(rt, alloc, script, workers, gate)
 }
 

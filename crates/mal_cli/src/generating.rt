@@ -28,7 +28,7 @@ pub fn run_generated_alone(alloc: Global, seed: u32, jobs: u32) -> Result<Texts,
     }
 }
 
-/// Runs the script of a seed with so many jobs with 1 to 64 workers.
+/// Runs the script of a seed with so many jobs with 2 to 64 workers.
 pub fn run_generated<R: Threads + Wait + Sync, G: Gate>(
     rt: &R,
     alloc: Global,
@@ -40,7 +40,7 @@ pub fn run_generated<R: Threads + Wait + Sync, G: Gate>(
     requires seed { seed < 2 ^ 31 }
     requires some { 1 ≤ jobs }
     requires bound { jobs ≤ 256 }
-    requires some_workers { 1 ≤ workers }
+    requires some_workers { 2 ≤ workers }
     requires workers_bound { workers ≤ 64 }
     ensures { IsAnswerTo (RunGenerated seed jobs workers) [] result }
 {

@@ -1,16 +1,18 @@
 //! The program from its words and its devices to its exit status.
 
-ghost use Rattle.std.specs.Prelude.{◌≡◌, ◌≤◌, ◌<◌, ◌^◌, ◌⊎◌, map, string_bytes};
+ghost use Rattle.std.specs.Prelude.{◌≡◌, ◌⊎◌, map, string_bytes};
 ghost use Rattle.mal_answer.specs.Devices.{AreSilent, Complained, device, usage_line};
-ghost use Rattle.mal_answer.specs.Served.{HasDone, HasMade, HasServed, ReadsNothing};
+ghost use Rattle.mal_answer.specs.Served.{HasDone, ReadsNothing};
+ghost use Rattle.mal_cli.specs.Answering.{HasAnswered};
 ghost use Rattle.mal_words.specs.Requests.{IsRequest, Means, MeansNothing};
 ghost use Rattle.mal_words.specs.declared.request.Request.{Request};
-ghost use Rattle.mal_words.specs.declared.request.Request.TheVariants.{Run, Check, Replay, Generate, RunGenerated};
 
 use crate::generating::{run_generated, run_generated_alone};
 use crate::replaying::replay_source;
 use crate::running::{run_source, run_source_alone};
-use mal_answer::{BAD_WORDS, OUT_OF_MEMORY, check_source, complain, conclude, generated};
+use mal_answer::{
+    BAD_WORDS, Complaint, OUT_OF_MEMORY, Texts, check_source, complain, conclude, generated,
+};
 use mal_io::{Sink, Source};
 use mal_pool::Gate;
 use mal_words::{Request, request_of};
@@ -72,7 +74,7 @@ pub fn top<R: Threads + Wait + Sync, S: Source, K: Sink, L: Sink, G: Gate>(
     }
 }
 
-/// Does what was asked for.
+/// Does what was asked for: writes what the command answers.
 fn serve<R: Threads + Wait + Sync, S: Source, K: Sink, L: Sink, G: Gate>(
     rt: &R,
     alloc: Global,
@@ -86,138 +88,40 @@ fn serve<R: Threads + Wait + Sync, S: Source, K: Sink, L: Sink, G: Gate>(
     ensures done { HasDone request (device S.left S.faults source.old source.new) (device L.got L.faults log.old log.new) (device K.got K.faults out.old out.new) result }
     ensures made_unread { ReadsNothing request → source.new ≡ source.old }
 {
+    conclude(answer_to(rt, alloc, request, source, gate), out, log)
+}
+
+/// What a command answers.
+fn answer_to<R: Threads + Wait + Sync, S: Source, G: Gate>(
+    rt: &R,
+    alloc: Global,
+    request: Request,
+    source: &mut S,
+    gate: &G,
+) -> Result<Texts, Complaint>
+    requires { IsRequest request }
+    ensures answer { HasAnswered request (device S.left S.faults source.old source.new) result }
+    ensures made_unread { ReadsNothing request → source.new ≡ source.old }
+{
     match request {
-        Request::Run { workers } => serve_run(rt, alloc, workers, source, out, log, gate),
-        Request::Check => serve_check(alloc, source, out, log),
-        Request::Replay => serve_replay(alloc, source, out, log),
-        Request::Generate { seed, jobs } => make_script(alloc, seed, jobs, out, log),
+        Request::Run { workers } => {
+            if workers == 1 {
+                return run_source_alone(alloc, source);
+            }
+            run_source(rt, alloc, workers, source, gate)
+        }
+        Request::Check => check_source(alloc, source),
+        Request::Replay => replay_source(alloc, source),
+        Request::Generate { seed, jobs } => generated(alloc, seed, jobs),
         Request::RunGenerated {
             seed,
             jobs,
             workers,
-        } => make_run(rt, alloc, seed, jobs, workers, out, log, gate),
+        } => {
+            if workers == 1 {
+                return run_generated_alone(alloc, seed, jobs);
+            }
+            run_generated(rt, alloc, seed, jobs, workers, gate)
+        }
     }
-}
-
-/// Runs the script that `source` gives.
-#[tactic(auto, using(crate::proofs::Rules::serving_lemmas))]
-fn serve_run<R: Threads + Wait + Sync, S: Source, K: Sink, L: Sink, G: Gate>(
-    rt: &R,
-    alloc: Global,
-    workers: u32,
-    source: &mut S,
-    out: &mut K,
-    log: &mut L,
-    gate: &G,
-) -> u8
-    requires some { 1 ≤ workers }
-    requires bound { workers ≤ 64 }
-    ensures { HasServed (Run workers) (device S.left S.faults source.old source.new) (device L.got L.faults log.old log.new) (device K.got K.faults out.old out.new) result }
-{
-    if workers == 1 {
-        return serve_alone(alloc, source, out, log);
-    }
-    conclude(run_source(rt, alloc, workers, source, gate), out, log)
-}
-
-/// Runs the script that `source` gives with one worker.
-#[tactic(auto, using(crate::proofs::Rules::serving_lemmas))]
-fn serve_alone<S: Source, K: Sink, L: Sink>(
-    alloc: Global,
-    source: &mut S,
-    out: &mut K,
-    log: &mut L,
-) -> u8
-    ensures { HasServed (Run 1) (device S.left S.faults source.old source.new) (device L.got L.faults log.old log.new) (device K.got K.faults out.old out.new) result }
-{
-    conclude(run_source_alone(alloc, source), out, log)
-}
-
-/// Checks the proof of the claim that `source` gives.
-#[tactic(auto, using(crate::proofs::Rules::serving_lemmas))]
-fn serve_check<S: Source, K: Sink, L: Sink>(
-    alloc: Global,
-    source: &mut S,
-    out: &mut K,
-    log: &mut L,
-) -> u8
-    ensures { HasServed Check (device S.left S.faults source.old source.new) (device L.got L.faults log.old log.new) (device K.got K.faults out.old out.new) result }
-{
-    conclude(check_source(alloc, source), out, log)
-}
-
-/// Replays the history that `source` gives.
-#[tactic(auto, using(crate::proofs::Rules::serving_lemmas))]
-fn serve_replay<S: Source, K: Sink, L: Sink>(
-    alloc: Global,
-    source: &mut S,
-    out: &mut K,
-    log: &mut L,
-) -> u8
-    ensures { HasServed Replay (device S.left S.faults source.old source.new) (device L.got L.faults log.old log.new) (device K.got K.faults out.old out.new) result }
-{
-    conclude(replay_source(alloc, source), out, log)
-}
-
-/// Writes the script of a seed.
-#[tactic(auto, using(crate::proofs::Rules::serving_lemmas))]
-fn make_script<K: Sink, L: Sink>(
-    alloc: Global,
-    seed: u32,
-    jobs: u32,
-    out: &mut K,
-    log: &mut L,
-) -> u8
-    requires seed { seed < 2 ^ 31 }
-    requires some { 1 ≤ jobs }
-    requires bound { jobs ≤ 256 }
-    ensures { HasMade (Generate seed jobs) (device L.got L.faults log.old log.new) (device K.got K.faults out.old out.new) result }
-{
-    conclude(generated(alloc, seed, jobs), out, log)
-}
-
-/// Runs the script of a seed.
-#[tactic(auto, using(crate::proofs::Rules::serving_lemmas))]
-fn make_run<R: Threads + Wait + Sync, K: Sink, L: Sink, G: Gate>(
-    rt: &R,
-    alloc: Global,
-    seed: u32,
-    jobs: u32,
-    workers: u32,
-    out: &mut K,
-    log: &mut L,
-    gate: &G,
-) -> u8
-    requires seed { seed < 2 ^ 31 }
-    requires some { 1 ≤ jobs }
-    requires bound { jobs ≤ 256 }
-    requires some_workers { 1 ≤ workers }
-    requires workers_bound { workers ≤ 64 }
-    ensures { HasMade (RunGenerated seed jobs workers) (device L.got L.faults log.old log.new) (device K.got K.faults out.old out.new) result }
-{
-    if workers == 1 {
-        return make_run_alone(alloc, seed, jobs, out, log);
-    }
-    conclude(
-        run_generated(rt, alloc, seed, jobs, workers, gate),
-        out,
-        log,
-    )
-}
-
-/// Runs the script of a seed with one worker.
-#[tactic(auto, using(crate::proofs::Rules::serving_lemmas))]
-fn make_run_alone<K: Sink, L: Sink>(
-    alloc: Global,
-    seed: u32,
-    jobs: u32,
-    out: &mut K,
-    log: &mut L,
-) -> u8
-    requires seed { seed < 2 ^ 31 }
-    requires some { 1 ≤ jobs }
-    requires bound { jobs ≤ 256 }
-    ensures { HasMade (RunGenerated seed jobs 1) (device L.got L.faults log.old log.new) (device K.got K.faults out.old out.new) result }
-{
-    conclude(run_generated_alone(alloc, seed, jobs), out, log)
 }

@@ -27,7 +27,7 @@ pub fn run_source_alone<S: Source>(alloc: Global, source: &mut S) -> Result<Text
     run_text_alone(alloc, text.as_slice())
 }
 
-/// Runs the script that `source` gives with 1 to 64 workers.
+/// Runs the script that `source` gives with 2 to 64 workers.
 #[tactic(auto, using(crate::proofs::Rules::answer_lemmas))]
 pub fn run_source<R: Threads + Wait + Sync, S: Source, G: Gate>(
     rt: &R,
@@ -36,7 +36,7 @@ pub fn run_source<R: Threads + Wait + Sync, S: Source, G: Gate>(
     source: &mut S,
     gate: &G,
 ) -> Result<Texts, Complaint>
-    requires some { 1 ≤ workers }
+    requires some { 2 ≤ workers }
     requires bound { workers ≤ 64 }
     ensures { IsAnswer (Run workers) (device S.left S.faults source.old source.new) result }
 {
@@ -56,7 +56,7 @@ fn run_text_alone(alloc: Global, text: &[u8]) -> Result<Texts, Complaint>
     }
 }
 
-/// Runs the script that a text spells with 1 to 64 workers.
+/// Runs the script that a text spells with 2 to 64 workers.
 #[tactic(auto, using(crate::proofs::Rules::script_lemmas))]
 fn run_text<R: Threads + Wait + Sync, G: Gate>(
     rt: &R,
@@ -65,7 +65,7 @@ fn run_text<R: Threads + Wait + Sync, G: Gate>(
     text: &[u8],
     gate: &G,
 ) -> Result<Texts, Complaint>
-    requires some { 1 ≤ workers }
+    requires some { 2 ≤ workers }
     requires bound { workers ≤ 64 }
     ensures { IsAnswerTo (Run workers) text.now result }
 {
@@ -84,7 +84,7 @@ pub fn run_script_alone(alloc: Global, script: &Script) -> Result<Texts, AllocEr
     texts_of(alloc, script, hall)
 }
 
-/// Runs a script with 1 to 64 workers, and makes the texts of its history and its replies.
+/// Runs a script with 2 to 64 workers, and makes the texts of its history and its replies.
 pub fn run_script<R: Threads + Wait + Sync, G: Gate>(
     rt: &R,
     alloc: Global,
@@ -92,7 +92,7 @@ pub fn run_script<R: Threads + Wait + Sync, G: Gate>(
     workers: u32,
     gate: &G,
 ) -> Result<Texts, AllocError>
-    requires some { 1 ≤ workers }
+    requires some { 2 ≤ workers }
     requires bound { workers ≤ 64 }
     ensures { IfOk result (λ t. IsRunOf workers script.now (logged t.log) t.out.items) }
 {

@@ -37,12 +37,8 @@ fn start_together<R: Threads + Wait + Sync + Abort>(
 }
 
 #[test]
-fn two_slices_run_at_the_same_time(rt: HostRuntime) -> Result<(), Fail> {
-    start_together(&rt, rt.alloc(), 2)
-}
-
-#[test]
-fn four_slices_run_at_the_same_time(rt: HostRuntime) -> Result<(), Fail> {
+fn slices_run_at_the_same_time(rt: HostRuntime) -> Result<(), Fail> {
+    start_together(&rt, rt.alloc(), 2)?;
     start_together(&rt, rt.alloc(), 4)
 }
 
@@ -88,21 +84,9 @@ fn run_often<R: Threads + Wait + Sync + Abort>(
 }
 
 #[test]
-fn logs_of_two_workers_replay(rt: HostRuntime) -> Result<(), Fail> {
-    run_often(&rt, rt.alloc(), 2)
-}
-
-#[test]
-fn logs_of_four_workers_replay(rt: HostRuntime) -> Result<(), Fail> {
-    run_often(&rt, rt.alloc(), 4)
-}
-
-#[test]
-fn logs_of_sixteen_workers_replay(rt: HostRuntime) -> Result<(), Fail> {
-    run_often(&rt, rt.alloc(), 16)
-}
-
-#[test]
-fn logs_of_sixty_four_workers_replay(rt: HostRuntime) -> Result<(), Fail> {
+fn logs_of_any_number_of_workers_replay(rt: HostRuntime) -> Result<(), Fail> {
+    run_often(&rt, rt.alloc(), 2)?;
+    run_often(&rt, rt.alloc(), 4)?;
+    run_often(&rt, rt.alloc(), 16)?;
     run_often(&rt, rt.alloc(), 64)
 }

@@ -3,11 +3,11 @@
 ghost use Rattle.std.specs.Prelude.{◌≤◌, IfOk};
 ghost use Rattle.mal_pool.specs.Posts.{HasRun};
 
-use super::gates::{Together, losses};
+use super::gates::{Together, check_replies};
 use super::scripts::{FOUR_REPLIES, FOUR_TENANTS, single_jobs};
 use mal_board::run_served;
 use mal_hall::Hall;
-use mal_pool::{Gate, PlainGate, replies, run_all};
+use mal_pool::{Gate, PlainGate, run_all};
 use mal_script::{Script, read};
 use std::alloc::{AllocError, Global};
 use std::process::Abort;
@@ -23,7 +23,7 @@ enum Sharing {
 }
 
 impl Sharing {
-    /// Runs a script with so many workers.
+    /// Runs a script with so many workers, two at least.
     fn run<R: Threads + Wait + Sync, G: Gate>(
         self,
         rt: &R,
@@ -32,7 +32,7 @@ impl Sharing {
         workers: u32,
         gate: &G,
     ) -> Result<Hall, AllocError>
-        requires some { 1 ≤ workers }
+        requires some { 2 ≤ workers }
         requires bound { workers ≤ 64 }
         ensures { IfOk result (λ h. HasRun workers script.now h) }
     {
@@ -51,7 +51,7 @@ fn start_together<R: Threads + Wait + Sync + Abort>(
     sharing: Sharing,
     workers: u32,
 ) -> Result<(), Fail>
-    requires some { 1 ≤ workers }
+    requires some { 2 ≤ workers }
     requires bound { workers ≤ 64 }
 {
     let script = read(alloc, single_jobs(alloc, workers)?.as_slice())?;
@@ -61,17 +61,9 @@ fn start_together<R: Threads + Wait + Sync + Abort>(
 }
 
 #[test]
-fn two_workers_start_before_either_finishes(rt: HostRuntime) -> Result<(), Fail> {
-    start_together(&rt, rt.alloc(), Sharing::Lock, 2)
-}
-
-#[test]
-fn four_workers_start_before_one_finishes(rt: HostRuntime) -> Result<(), Fail> {
-    start_together(&rt, rt.alloc(), Sharing::Lock, 4)
-}
-
-#[test]
-fn four_workers_of_a_service_start_before_one_finishes(rt: HostRuntime) -> Result<(), Fail> {
+fn workers_start_before_one_finishes(rt: HostRuntime) -> Result<(), Fail> {
+    start_together(&rt, rt.alloc(), Sharing::Lock, 2)?;
+    start_together(&rt, rt.alloc(), Sharing::Lock, 4)?;
     start_together(&rt, rt.alloc(), Sharing::Service, 4)
 }
 
@@ -90,15 +82,23 @@ fn reply_alike<R: Threads + Wait + Sync + Abort>(
     workers: u32,
     known: Answered,
 ) -> Result<(), Fail>
-    requires some { 1 ≤ workers }
+    requires some { 2 ≤ workers }
     requires bound { workers ≤ 64 }
 {
     let script = read(alloc, known.script)?;
     let hall = sharing.run(rt, alloc, &script, workers, &PlainGate)?;
-    let text = replies(alloc, &hall, &script)?;
-    assert_eq!(rt; text.as_slice(), known.replies);
-    assert_eq!(rt; losses(hall.history()), 0);
-    Ok(())
+    check_replies(rt, alloc, &hall, &script, known.replies)
+}
+
+/// Runs a script with one worker, who shares the hall with nobody, and compares the replies.
+fn reply_alone<R: Threads + Wait + Sync + Abort>(
+    rt: &R,
+    alloc: Global,
+    known: Answered,
+) -> Result<(), Fail> {
+    let script = read(alloc, known.script)?;
+    let hall = run_all(rt, alloc, &script, 1, &PlainGate)?;
+    check_replies(rt, alloc, &hall, &script, known.replies)
 }
 
 /// The script of four tenants.
@@ -109,7 +109,7 @@ const FOUR: Answered = Answered {
 
 #[test]
 fn any_number_of_workers_replies_alike(rt: HostRuntime) -> Result<(), Fail> {
-    reply_alike(&rt, rt.alloc(), Sharing::Lock, 1, FOUR)?;
+    reply_alone(&rt, rt.alloc(), FOUR)?;
     reply_alike(&rt, rt.alloc(), Sharing::Lock, 4, FOUR)?;
     reply_alike(&rt, rt.alloc(), Sharing::Lock, 64, FOUR)
 }
@@ -122,7 +122,7 @@ const THREE: Answered = Answered {
 
 #[test]
 fn any_number_of_workers_of_a_service_replies_alike(rt: HostRuntime) -> Result<(), Fail> {
-    reply_alike(&rt, rt.alloc(), Sharing::Service, 1, THREE)?;
+    reply_alone(&rt, rt.alloc(), THREE)?;
     reply_alike(&rt, rt.alloc(), Sharing::Service, 2, THREE)?;
     reply_alike(&rt, rt.alloc(), Sharing::Service, 4, THREE)?;
     reply_alike(&rt, rt.alloc(), Sharing::Service, 64, THREE)

@@ -18,6 +18,16 @@ struct Told {
     log: Vec<u8>,
 }
 
+impl Told {
+    /// The status, the output and the log are these.
+    fn check<R: Abort>(&self, rt: &R, status: u8, out: &[u8], log: &[u8]) -> Result<(), Fail> {
+        assert_eq!(rt; self.status, status);
+        assert_eq!(rt; self.out.as_slice(), out);
+        assert_eq!(rt; self.log.as_slice(), log);
+        Ok(())
+    }
+}
+
 /// How a sink fails: how many bytes it has room for, and the calls that fail. It takes one byte a call.
 #[derive(Clone, Copy)]
 struct Sinking<'a> {
@@ -30,6 +40,21 @@ const WHOLE: Sinking<'static> = Sinking {
     room: 10_000,
     failing: &[],
 };
+
+impl<'a> Sinking<'a> {
+    /// These calls fail.
+    fn failing(failing: &'a [u64]) -> Sinking<'a> {
+        Sinking {
+            room: 10_000,
+            failing,
+        }
+    }
+
+    /// It has room for so many bytes.
+    fn full(room: usize) -> Sinking<'a> {
+        Sinking { room, failing: &[] }
+    }
+}
 
 /// How the output and the log fail.
 #[derive(Clone, Copy)]
@@ -103,9 +128,7 @@ fn refused_words_leave_the_source_unread(rt: HostRuntime) -> Result<(), Fail> {
     let alloc = rt.alloc();
     let mut source = MemSource::new(SCRIPT, 4, &[]);
     let told = answer_to(&rt, alloc, &["mal", "fly"], &mut source, &NONE)?;
-    assert_eq!(rt; told.status, 2);
-    assert_eq!(rt; told.out.as_slice(), b"".as_slice());
-    assert_eq!(rt; told.log.as_slice(), USAGE);
+    told.check(&rt, 2, b"", USAGE)?;
     let left = read_all(alloc, &mut source, 100).expect(&rt, "left");
     assert_eq!(rt; left.as_slice(), SCRIPT);
     Ok(())
@@ -169,15 +192,10 @@ fn fail_in_turn<R: Threads + Wait + Sync + Abort>(
     let calls = (input.len() as u64).saturating_add(2);
     for call in 1..calls {
         let told = answer_where(rt, alloc, parts, input, call)?;
-        assert_eq!(rt; told.status, 4);
-        assert_eq!(rt; told.out.as_slice(), b"".as_slice());
-        assert_eq!(rt; told.log.as_slice(), b"".as_slice());
+        told.check(rt, 4, b"", b"")?;
     }
     let told = answer_where(rt, alloc, parts, input, calls)?;
-    assert_eq!(rt; told.status, 0);
-    assert_eq!(rt; told.out.as_slice(), out);
-    assert_eq!(rt; told.log.as_slice(), log);
-    Ok(())
+    told.check(rt, 0, out, log)
 }
 
 #[test]
@@ -223,16 +241,8 @@ fn a_log_that_fails_is_told_and_keeps_a_front(rt: HostRuntime) -> Result<(), Fai
     assert_eq!(rt; LOG.len(), 68);
     for front in 0..68usize {
         let failing = [front as u64 + 1];
-        let failed = Sinking {
-            room: 10_000,
-            failing: &failing,
-        };
-        has_front_of_log(&rt, alloc, failed, front)?;
-        let full = Sinking {
-            room: front,
-            failing: &[],
-        };
-        has_front_of_log(&rt, alloc, full, front)?;
+        has_front_of_log(&rt, alloc, Sinking::failing(&failing), front)?;
+        has_front_of_log(&rt, alloc, Sinking::full(front), front)?;
     }
     Ok(())
 }
@@ -261,18 +271,10 @@ fn keeps_front<R: Threads + Wait + Sync + Abort>(
     front: usize,
 ) -> Result<(), Fail> {
     let failing = [(front as u64).saturating_add(1)];
-    let failed = Sinking {
-        room: 10_000,
-        failing: &failing,
-    };
-    let told = has_front_of_output(rt, alloc, parts, input, failed)?;
+    let told = has_front_of_output(rt, alloc, parts, input, Sinking::failing(&failing))?;
     assert_eq!(rt; told.out.len(), front);
     assert!(rt; text.starts_with(told.out.as_slice()));
-    let full = Sinking {
-        room: front,
-        failing: &[],
-    };
-    let again = has_front_of_output(rt, alloc, parts, input, full)?;
+    let again = has_front_of_output(rt, alloc, parts, input, Sinking::full(front))?;
     assert_eq!(rt; again.out.as_slice(), told.out.as_slice());
     assert_eq!(rt; again.log.as_slice(), told.log.as_slice());
     Ok(())
@@ -294,11 +296,7 @@ fn an_output_that_fails_is_told_and_keeps_a_front(rt: HostRuntime) -> Result<(),
 
 #[test]
 fn the_output_is_written_behind_the_whole_log(rt: HostRuntime) -> Result<(), Fail> {
-    let full = Sinking {
-        room: 25,
-        failing: &[],
-    };
-    let told = has_front_of_output(&rt, rt.alloc(), RUN, SCRIPT, full)?;
+    let told = has_front_of_output(&rt, rt.alloc(), RUN, SCRIPT, Sinking::full(25))?;
     assert_eq!(rt; told.log.as_slice(), LOG);
     assert_eq!(rt; told.out.as_slice(), REPLY.get(..25).ok_or("no front")?);
     Ok(())
@@ -307,20 +305,11 @@ fn the_output_is_written_behind_the_whole_log(rt: HostRuntime) -> Result<(), Fai
 #[test]
 fn sinks_with_room_for_their_texts_get_them(rt: HostRuntime) -> Result<(), Fail> {
     let sinks = Sinks {
-        out: Sinking {
-            room: 26,
-            failing: &[],
-        },
-        log: Sinking {
-            room: 68,
-            failing: &[],
-        },
+        out: Sinking::full(26),
+        log: Sinking::full(68),
     };
     let told = cut_short(&rt, rt.alloc(), RUN, SCRIPT, &sinks)?;
-    assert_eq!(rt; told.status, 0);
-    assert_eq!(rt; told.out.as_slice(), REPLY);
-    assert_eq!(rt; told.log.as_slice(), LOG);
-    Ok(())
+    told.check(&rt, 0, REPLY, LOG)
 }
 
 #[test]
@@ -328,16 +317,10 @@ fn a_fault_keeps_its_status_where_the_log_fails(rt: HostRuntime) -> Result<(), F
     let script = b"t a\nj p 1 1 4\np cnf 1 0\na 1 -1 0\ne\n";
     let sinks = Sinks {
         out: WHOLE,
-        log: Sinking {
-            room: 10_000,
-            failing: &[1],
-        },
+        log: Sinking::failing(&[1]),
     };
     let told = cut_short(&rt, rt.alloc(), RUN, script, &sinks)?;
-    assert_eq!(rt; told.status, 3);
-    assert_eq!(rt; told.out.as_slice(), b"".as_slice());
-    assert_eq!(rt; told.log.as_slice(), b"".as_slice());
-    Ok(())
+    told.check(&rt, 3, b"", b"")
 }
 
 /// The status of a run of a script, whose fault is told, and which writes no reply where there is one.

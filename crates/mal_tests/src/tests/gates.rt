@@ -1,8 +1,14 @@
 //! A gate that holds workers until others have come, and what a history tells of who ran when.
 
+ghost use Rattle.std.specs.Prelude.{ℕ};
+ghost use Rattle.mal_pool.specs.Posts.{HasRun};
+
 use mal_base::Outcome;
+use mal_hall::Hall;
 use mal_history::{Event, History};
-use mal_pool::{Gate, Point, Step};
+use mal_pool::{Gate, Point, Step, replies};
+use mal_script::Script;
+use std::alloc::Global;
 use std::process::Abort;
 use std::sync::atomic::{AtomicU64, Ordering};
 use std::test::Fail;
@@ -107,4 +113,20 @@ pub fn losses(history: &History) -> usize {
         }
     }
     count
+}
+
+/// A hall that has run a script replies like this, and no lease of it was lost.
+pub fn check_replies<R: Abort>(
+    rt: &R,
+    alloc: Global,
+    hall: &Hall,
+    script: &Script,
+    known: &[u8],
+) -> Result<(), Fail>
+    requires { (workers : ℕ) × HasRun workers script.now hall.now }
+{
+    let text = replies(alloc, hall, script)?;
+    assert_eq!(rt; text.as_slice(), known);
+    assert_eq!(rt; losses(hall.history()), 0);
+    Ok(())
 }

@@ -3,11 +3,11 @@
 ghost use Rattle.std.specs.Prelude.{◌≡◌, ◌≤◌, IfOk};
 ghost use Rattle.mal_pool.specs.Posts.{HasRun};
 
-use super::gates::losses;
+use super::gates::check_replies;
 use super::scripts::{FOUR_REPLIES, FOUR_TENANTS};
 use mal_base::PickFault;
 use mal_hall::{Back, Desk, Hall, Pick, Post, PostFault, Strange};
-use mal_pool::{Board, HallBox, InUse, OwnCalls, PlainGate, Shared, Size, replies, run_with};
+use mal_pool::{Board, HallBox, InUse, OwnCalls, PlainGate, Shared, Size, run_with};
 use mal_script::Script;
 use mal_suspend::Done;
 use std::alloc::{AllocError, Global};
@@ -111,10 +111,7 @@ fn reply_slowly<R: Threads + Wait + Sync + Abort>(
     let workers = 4;
     let script = mal_script::read(alloc, FOUR_TENANTS)?;
     let hall = run_slowly::<Brand, R>(rt, alloc, &script, workers, turns)?;
-    let text = replies(alloc, &hall, &script)?;
-    assert_eq!(rt; text.as_slice(), FOUR_REPLIES);
-    assert_eq!(rt; losses(hall.history()), 0);
-    Ok(())
+    check_replies(rt, alloc, &hall, &script, FOUR_REPLIES)
 }
 
 #[test]

@@ -1,4 +1,4 @@
-use Rattle.std.proofs.Common.{List, ℕ, map, string_bytes, subst}
+use Rattle.std.proofs.Common.{map, string_bytes, subst}
 use Rattle.std.specs.Prelude.{Option}
 use Rattle.mal_words.specs.Found.{IsMeaning}
 use Rattle.mal_words.specs.declared.request.Request.{Request}
