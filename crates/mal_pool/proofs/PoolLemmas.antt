@@ -1,5 +1,6 @@
 -- What the hall's calls say, for a script that is posted and answered.
-use Rattle.std.proofs.Common.{◌≡◌, ℕ, zero, suc, ◌+◌, ◌<◌, ◌≤◌, true, false, List, [], ◌∷◌, ◌++◌, length, map, take, get_or, flat_map, Option, Some, None, sym, ◌∙◌, ap, arith, append-nil, append_assoc, subst}
+use Rattle.std.proofs.Common.{◌≡◌, ℕ, zero, suc, ◌+◌, ◌<◌, ◌≤◌, true, false, List, [], ◌∷◌, ◌++◌, length, map, take, get_or, flat_map, Option, Some, None, Result, Ok, Err, sym, ◌∙◌, ap, arith, append-nil, append_assoc, subst}
+use Rattle.std.specs.Prelude.{OnOk}
 use Rattle.std.specs.List.{list_any}
 use Rattle.std.specs.Option.{option_map_or}
 use Rattle.std.proofs.lemmas.List.{take_all, take_more, length-take-le}
@@ -15,7 +16,7 @@ use Rattle.spec_hall.specs.Own.{own, is_key}
 use Rattle.spec_hall.specs.States.{keys_of, states, titled, lives, leases}
 use Rattle.spec_hall.specs.Legal.{Legal, job_of}
 use Rattle.spec_hall.proofs.RunnableLemmas.{find-titled}
-use Rattle.spec_run.specs.Complete.{key_of_job, script_events}
+use Rattle.spec_run.specs.Complete.{key_of_job, job_events, open_events, script_events}
 use Rattle.spec_run.specs.Posting.{IsOpen}
 use Rattle.spec_run.specs.Run.{text_or_none, replies_from, job_replies, replies}
 use Rattle.spec_run.proofs.KeyLemmas.{among-keys, among-parts, job-found}
@@ -51,6 +52,12 @@ open-not_closed k rs h is t found closed =
 pub revised-on : (k : Key) (rs : List Posted) (h after : List Event) (i n : ℕ) (r : Posted) → IsOpen k (take i rs) h → after ≡ h ++ Revise k n r ∷ [] → i < length rs → r ≡ get_or rs i r → IsOpen k (take (i + 1) rs) after
 revised-on k rs h after i n r is step low at =
     subst (λ (x : List Posted). IsOpen k x after) (sym (take-one rs i r low at)) (subst (λ (x : List Event). IsOpen k (take i rs ++ r ∷ []) x) (sym step) (revised-is_open k (take i rs) h n r is))
+
+-- a script was posted whose jobs were opened and then posted
+pub all-posted : {E : Type 0} (s : Scripted) (opening posting : List ScriptedJob) (opened now : List Event) (r : Result (Unit {0}) E) → opening ≡ s.jobs → posting ≡ s.jobs → opened ≡ open_events opening → OnOk r (now ≡ opened ++ flat_map job_events posting) → OnOk r (now ≡ script_events s)
+all-posted s opening posting opened now (Ok done) a b is posted =
+    posted ∙ (ap (λ (js : List ScriptedJob). opened ++ flat_map job_events js) b ∙ ap (λ (es : List Event). es ++ flat_map job_events s.jobs) (is ∙ ap open_events a))
+all-posted s opening posting opened now (Err e) a b is posted = tt
 
 -- the jobs of a script are known to a history that has their keys
 known-all : (h : List Event) (before js : List ScriptedJob) → keys_of h ≡ map key_of_job (before ++ js) → AreKnown h js

@@ -69,7 +69,8 @@ pub fn play<R: Wait, B: Board, G: Gate>(
             }
         }
         Part::Worker(number) => {
-            let (pass, stopped) = work(rt, alloc, board, role.pass, number, gate);
+            let mut scratch = Scratch::new(alloc);
+            let (pass, stopped) = work(rt, board, role.pass, number, &mut scratch, gate);
             Played {
                 pass,
                 left: None,
@@ -79,13 +80,13 @@ pub fn play<R: Wait, B: Board, G: Gate>(
     }
 }
 
-/// Works as long as there is work, with a scratch of its own. True where the gate stopped the worker.
+/// Works as long as there is work. True where the gate stopped the worker.
 fn work<R: Wait, B: Board, G: Gate>(
     rt: &R,
-    alloc: Global,
     board: &B,
     pass: B::Pass,
     number: u32,
+    scratch: &mut Scratch,
     gate: &G,
 ) -> (B::Pass, bool)
     requires of { B.is_of board.now pass }
@@ -95,10 +96,9 @@ fn work<R: Wait, B: Board, G: Gate>(
     ensures calls { (mine : List DeskCall) × (B.calls result.0 ≡ B.calls pass ++ mine) }
     ensures stopped { result.1 ≡ true → StopsSomewhere (G.stops gate.now) }
 {
-    let mut scratch = Scratch::new(alloc);
     let mut pass = pass;
     for _ in 0..=AGAIN {
-        let (back, end) = work_loop(rt, board, pass, number, &mut scratch, gate, TURNS);
+        let (back, end) = work_loop(rt, board, pass, number, scratch, gate, TURNS);
         pass = back;
         match end {
             End::Idle => {}

@@ -17,11 +17,10 @@ use crate::leaving::post_left;
 use crate::mutex::{OwnCalls, Shared};
 use crate::posting::{Left, open_all};
 use crate::role::{Part, Played, Role, play};
-use crate::running::run_alone;
+use crate::running::{drive_once, run_alone};
 use crate::shared::HallBox;
 use crate::testing::{has_lost_unasked, has_name, has_posts};
 use mal_hall::{Hall, Size};
-use mal_learn::Scratch;
 use mal_script::{Script, ScriptJob};
 use std::alloc::{AllocError, Global};
 use std::marker::Brand;
@@ -95,9 +94,11 @@ pub fn run_with<R: Threads + Wait + Sync, B: Board, G: Gate>(
         return run_alone(alloc, script, workers);
     };
     if has_lost_unasked(hall.history(), stopped) {
+        drop(hall);
         return run_alone(alloc, script, workers);
     }
     if !has_posts(alloc, &hall, script)? {
+        drop(hall);
         return run_alone(alloc, script, workers);
     }
     Ok(hall)
@@ -163,18 +164,6 @@ fn drive_twice(alloc: Global, hall: &mut Hall) -> Result<(), AllocError>
         Ok(()) => Ok(()),
         Err(_) => drive_once(alloc, hall),
     }
-}
-
-/// Drives a hall to its end, with a scratch of its own.
-fn drive_once(alloc: Global, hall: &mut Hall) -> Result<(), AllocError>
-    requires home { leases hall.old.events ≡ [] }
-    ensures workers { hall.new.workers ≡ hall.old.workers }
-    ensures turns { GrowsByTurns hall.old.workers hall.old.events hall.new.events }
-    ensures home { leases hall.new.events ≡ [] }
-    ensures answered { OnOk result (lives (states hall.new.events) ≡ []) }
-{
-    let mut scratch = Scratch::new(alloc);
-    hall.drive(&mut scratch)
 }
 
 /// Opens all jobs, and lets posters and workers play their parts.

@@ -4,9 +4,10 @@ ghost use Rattle.std.specs.Prelude.{◌≡◌, ◌≤◌, List, ◌++◌, [], �
 ghost use Rattle.mal_hall.specs.HallView.{next_number};
 ghost use Rattle.mal_pool.specs.Posts.{HasRun};
 ghost use Rattle.mal_revision.specs.Posted.{Posted};
-ghost use Rattle.spec_hall.specs.Driven.{IsDriven};
+ghost use Rattle.spec_hall.specs.Driven.{GrowsByTurns, IsDriven};
 ghost use Rattle.spec_hall.specs.Events.{Open, Revise, Close};
 ghost use Rattle.spec_hall.specs.Legal.{MayOpen, MayRevise};
+ghost use Rattle.spec_hall.specs.States.{leases, lives, states};
 ghost use Rattle.spec_job.specs.KeyedJob.{KeyedJob};
 ghost use Rattle.spec_run.specs.Complete.{key_of_job, job_events, open_events, revise_events, script_events};
 ghost use Rattle.spec_run.specs.Losses.{NoneIsLost};
@@ -45,12 +46,32 @@ fn run_in(alloc: Global, hall: &mut Hall, script: &Script) -> Result<(), AllocEr
     ensures sequential { OnOk result (IsDriven hall.old.workers (script_events script.now) hall.new.events) }
     ensures none_lost { OnOk result (NoneIsLost hall.new.events) }
 {
-    let mut scratch = Scratch::new(alloc);
-    open_all(hall, script.jobs())?;
-    post_all(hall, script.jobs())?;
-    hall.drive(&mut scratch)?;
+    post_script(hall, script)?;
+    drive_once(alloc, hall)?;
     let _ = hall.history();
     Ok(())
+}
+
+/// Posts a script in a hall without events.
+fn post_script(hall: &mut Hall, script: &Script) -> Result<(), AllocError>
+    requires new { hall.old.events ≡ [] }
+    ensures workers { hall.new.workers ≡ hall.old.workers }
+    ensures events { OnOk result (hall.new.events ≡ script_events script.now) }
+{
+    open_all(hall, script.jobs())?;
+    post_all(hall, script.jobs())
+}
+
+/// Drives a hall to its end, with a scratch of its own.
+pub fn drive_once(alloc: Global, hall: &mut Hall) -> Result<(), AllocError>
+    requires home { leases hall.old.events ≡ [] }
+    ensures workers { hall.new.workers ≡ hall.old.workers }
+    ensures turns { GrowsByTurns hall.old.workers hall.old.events hall.new.events }
+    ensures home { leases hall.new.events ≡ [] }
+    ensures answered { OnOk result (lives (states hall.new.events) ≡ []) }
+{
+    let mut scratch = Scratch::new(alloc);
+    hall.drive(&mut scratch)
 }
 
 /// Opens the jobs of a script in a hall without events.

@@ -130,7 +130,7 @@ impl<'a, R: Wait, D: Desk, G: Gate> Station<'a, R, D, G> {
         let start = lease.start();
         match self.gate.at(Point::Before, start, self.worker) {
             Step::Stop => {
-                let_lease_go(lease);
+                drop(lease);
                 (pass, Turned::Ended(End::Stopped))
             }
             Step::Go => self.work_on(pass, lease, scratch),
@@ -148,19 +148,13 @@ impl<'a, R: Wait, D: Desk, G: Gate> Station<'a, R, D, G> {
         let back = lease.work(scratch);
         match self.gate.at(Point::After, start, self.worker) {
             Step::Stop => {
-                let_done_go(back);
+                drop(back);
                 (pass, Turned::Ended(End::Stopped))
             }
             Step::Go => give_back(self.rt, self.desk, pass, back),
         }
     }
 }
-
-/// Lets a lease go.
-fn let_lease_go(_lease: Lease) {}
-
-/// Lets what came of a lease go.
-fn let_done_go(_back: Done) {}
 
 /// Gives back what came of a lease.
 fn give_back<R: Wait, D: Desk>(rt: &R, desk: &D, pass: D::Pass, back: Done) -> (D::Pass, Turned)
@@ -171,6 +165,9 @@ fn give_back<R: Wait, D: Desk>(rt: &R, desk: &D, pass: D::Pass, back: Done) -> (
     let (pass, answer) = desk.finish(rt, pass, back);
     match answer {
         Ok(_) => (pass, Turned::Worked),
-        Err(_) => (pass, Turned::Ended(End::Strange)),
+        Err(strange) => {
+            drop(strange);
+            (pass, Turned::Ended(End::Strange))
+        }
     }
 }
