@@ -35,9 +35,13 @@ pub fn read(alloc: Global, text: &[u8]) -> Result<Account, AccountFault>
     // What is read is spelled so.
     ensures found { IfOk result (λ a. Spells text.now (seen a)) }
     // What is spelled so is read, unless memory runs out.
-    ensures only { (a : spelled.Account) → Spells text.now a → MatchResult result (λ x. seen x ≡ a) (λ e. fault_of e ≡ None) }
+    ensures only { (a : spelled.Account) → Spells text.now a
+        → MatchResult result (λ x. seen x ≡ a) (λ e. fault_of e ≡ None) }
     // The texts of a script and of a history in form, with the line `history` between them, are read as these.
-    ensures again { (s : Scripted) (workers : ℕ) (events : List Event) → IsScript served s → IsHistory workers events → text.now ≡ spelling s ++ (codes "history\n" ++ history_text workers events) → MatchResult result (λ a. (a.script ≡ s) × (a.history.workers ≡ workers) × (a.history.events ≡ events)) (λ e. fault_of e ≡ None) }
+    ensures again { (s : Scripted) (workers : ℕ) (events : List Event) → IsScript served s → IsHistory workers events
+        → text.now ≡ spelling s ++ (codes "history\n" ++ history_text workers events)
+        → MatchResult result (λ a. (a.script ≡ s) × (a.history.workers ≡ workers) × (a.history.events ≡ events))
+        (λ e. fault_of e ≡ None) }
 {
     first(alloc, text)
 }

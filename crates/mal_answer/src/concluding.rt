@@ -36,7 +36,8 @@ const TOO_LONG: &[u8] = b"fault: input too long\n";
 /// that tells why it gives nothing to the log, as far as the log takes it. Where the source failed or memory ran out
 /// nothing is written.
 pub fn conclude<K: Sink, L: Sink>(answer: Result<Texts, Complaint>, out: &mut K, log: &mut L) -> u8
-    ensures { IsConcluded (device L.got L.faults log.old log.new) (device K.got K.faults out.old out.new) answer result }
+    ensures { IsConcluded (device L.got L.faults log.old log.new)
+        (device K.got K.faults out.old out.new) answer result }
 {
     match answer {
         Ok(texts) => finish(&texts, out, log),
@@ -59,7 +60,8 @@ pub fn conclude<K: Sink, L: Sink>(answer: Result<Texts, Complaint>, out: &mut K,
 
 /// Writes what a command gives: status 0, or 5 where a sink failed.
 fn finish<K: Sink, L: Sink>(texts: &Texts, out: &mut K, log: &mut L) -> u8
-    ensures { IsFinished (device L.got L.faults log.old log.new) (device K.got K.faults out.old out.new) (logged texts.now.log) texts.now.out.items result }
+    ensures { IsFinished (device L.got L.faults log.old log.new) (device K.got K.faults out.old out.new)
+        (logged texts.now.log) texts.now.out.items result }
 {
     match write_both(texts, out, log) {
         Ok(()) => DONE,
@@ -69,9 +71,14 @@ fn finish<K: Sink, L: Sink>(texts: &Texts, out: &mut K, log: &mut L) -> u8
 
 /// Writes the text for the log, and then that for the output.
 fn write_both<K: Sink, L: Sink>(texts: &Texts, out: &mut K, log: &mut L) -> Result<(), WriteFault>
-    ensures whole { OnOk result (WroteWhole (device L.got L.faults log.old log.new) (device K.got K.faults out.old out.new) (logged texts.now.log) texts.now.out.items) }
-    ensures part { OnErr result (WrotePart (device L.got L.faults log.old log.new) (device K.got K.faults out.old out.new) (logged texts.now.log) texts.now.out.items) }
-    ensures cause { OnErr result (Failed (device L.got L.faults log.old log.new) ⊎ Failed (device K.got K.faults out.old out.new)) }
+    ensures whole { OnOk result
+        (WroteWhole (device L.got L.faults log.old log.new) (device K.got K.faults out.old out.new)
+        (logged texts.now.log) texts.now.out.items) }
+    ensures part { OnErr result
+        (WrotePart (device L.got L.faults log.old log.new) (device K.got K.faults out.old out.new)
+        (logged texts.now.log) texts.now.out.items) }
+    ensures cause { OnErr result
+        (Failed (device L.got L.faults log.old log.new) ⊎ Failed (device K.got K.faults out.old out.new)) }
 {
     write_log(log, &texts.log)?;
     write_all(out, texts.out.as_slice())
@@ -101,7 +108,8 @@ fn write_history<L: Sink>(log: &mut L, hall: &Hall) -> Result<(), WriteFault>
 /// Writes a line to the log, as far as the log takes it.
 pub fn complain<L: Sink>(log: &mut L, line: &[u8])
     ensures front { GainedFront (device L.got L.faults log.old log.new) line.now }
-    ensures whole { (Failed (device L.got L.faults log.old log.new) → ⊥) → Gained (device L.got L.faults log.old log.new) line.now }
+    ensures whole { (Failed (device L.got L.faults log.old log.new) → ⊥)
+        → Gained (device L.got L.faults log.old log.new) line.now }
 {
     let _ = write_all(log, line);
 }

@@ -88,7 +88,8 @@ fn has_better_claim(jobs: &[Ask], volumes: &[u32], job: usize, other: usize) -> 
     requires job_within { job < length jobs.now }
     requires other_within { other < length jobs.now }
     requires same_length { length jobs.now ≡ length volumes.now }
-    ensures { IsTrue result ↔ (priority_at jobs.now other * volume_at volumes.now job < priority_at jobs.now job * volume_at volumes.now other) }
+    ensures { IsTrue result
+        ↔ (priority_at jobs.now other * volume_at volumes.now job < priority_at jobs.now job * volume_at volumes.now other) }
 {
     let claim = u64::from(priority_of(jobs, job)) * u64::from(volumes[other]);
     let other_claim = u64::from(priority_of(jobs, other)) * u64::from(volumes[job]);

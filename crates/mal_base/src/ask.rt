@@ -23,7 +23,8 @@ impl Model for Ask {
 
     ghost view = { λ a. record { priority = a.priority; demand = a.demand; slices = a.slices; profile = a.profile } };
 
-    ghost invariant = { λ a. IsAsk (record { priority = a.priority; demand = a.demand; slices = a.slices; profile = a.profile }) };
+    ghost invariant = { λ a. IsAsk
+        (record { priority = a.priority; demand = a.demand; slices = a.slices; profile = a.profile }) };
 
     ghost inverse = { λ t. record { priority = t.priority; demand = t.demand; slices = t.slices; profile = t.profile } };
 }

@@ -26,7 +26,8 @@ impl Clause {
     /// The clause of these literals, which stand in clause order. None exactly where the variables do not rise
     /// strictly.
     pub fn of_rising(alloc: Global, lits: &[Lit]) -> Result<Option<Clause>, AllocError>
-        ensures { IfOk result (λ o. MatchOption o (rises lits.now ≢ true) (λ c. (c ≡ lits.now) × (rises lits.now ≡ true))) }
+        ensures { IfOk result
+            (λ o. MatchOption o (rises lits.now ≢ true) (λ c. (c ≡ lits.now) × (rises lits.now ≡ true))) }
     {
         if !is_rising(lits) {
             return Ok(None);

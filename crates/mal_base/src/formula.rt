@@ -32,7 +32,8 @@ impl Formula {
     /// The formula of so many variables and these clauses. None exactly where a limit is passed, a literal is above the
     /// variables, or a tautology stands where there is no variable. Takes no memory.
     pub fn new(variables: u32, clauses: Vec<Option<Clause>>) -> Option<Formula>
-        ensures { MatchOption result (is_formula (record { variables = variables; clauses = clauses.items }) ≢ true) (λ f. (f ≡ record { variables = variables; clauses = clauses.items }) × (is_formula f ≡ true)) }
+        ensures { MatchOption result (is_formula (record { variables = variables; clauses = clauses.items }) ≢ true)
+            (λ f. (f ≡ record { variables = variables; clauses = clauses.items }) × (is_formula f ≡ true)) }
     {
         if is_formula(variables, clauses.as_slice()) {
             Some(Formula { variables, clauses })

@@ -51,7 +51,8 @@ impl Eq for Name {
 impl Name {
     /// The name of these bytes. None exactly where they are no name.
     pub fn of(_alloc: Global, text: &[u8]) -> Result<Option<Name>, AllocError>
-        ensures { IfOk result (λ o. MatchOption o (is_name text.now ≢ true) (λ n. (n ≡ text.now) × (is_name text.now ≡ true))) }
+        ensures { IfOk result
+            (λ o. MatchOption o (is_name text.now ≢ true) (λ n. (n ≡ text.now) × (is_name text.now ≡ true))) }
     {
         if !is_name_text(text) {
             return Ok(None);

@@ -33,5 +33,6 @@ pub trait ClauseView {
 
     /// The literals of the clause of this number. None exactly where the number is not held.
     fn get(&self, id: ClauseId) -> Option<&[Lit]>
-        ensures { MatchOption result (lits_under id (clauses self.now) ≡ None) (λ lits. lits_under id (clauses self.now) ≡ Some lits.now) };
+        ensures { MatchOption result (lits_under id (clauses self.now) ≡ None)
+            (λ lits. lits_under id (clauses self.now) ≡ Some lits.now) };
 }

@@ -60,7 +60,9 @@ pub fn picks_of<E: Listed>(
     loads: &[(&Revision, u32)],
     imports: &[&Buffer],
 ) -> Result<Vec<Pick>, AllocError>
-    ensures { IfOk result (λ v. (n : Node) → n.clauses ≡ E.clauses engine.now → v.items ≡ picked (lent imports.now) (readied (posted loads.now) n).clauses) }
+    ensures { IfOk result
+        (λ v. (n : Node) → n.clauses ≡ E.clauses engine.now
+        → v.items ≡ picked (lent imports.now) (readied (posted loads.now) n).clauses) }
 {
     let mut picks = Vec::new(alloc);
     if imports.is_empty() {
@@ -82,8 +84,12 @@ fn note_all<E: Listed>(
     loads: &[(&Revision, u32)],
     imports: &[&Buffer],
 ) -> Result<(), AllocError>
-    ensures told { OnOk result ((lits : List ℕ) → is_noted lits told.new ≡ (is_told_in lits (lent imports.now) || is_noted lits told.old)) }
-    ensures seen { OnOk result ((lits : List ℕ) → is_noted lits told.new ≡ true → is_noted lits seen.new ≡ (is_loaded_in lits (posted loads.now) || (has_lits lits (E.clauses engine.now) || is_noted lits seen.old))) }
+    ensures told { OnOk result
+        ((lits : List ℕ) → is_noted lits told.new ≡ (is_told_in lits (lent imports.now) || is_noted lits told.old)) }
+    ensures seen { OnOk result
+        ((lits : List ℕ) → is_noted lits told.new ≡ true
+        → is_noted lits seen.new
+        ≡ (is_loaded_in lits (posted loads.now) || (has_lits lits (E.clauses engine.now) || is_noted lits seen.old))) }
 {
     note_told(told, imports)?;
     note_held(seen, told, engine)?;
@@ -98,7 +104,9 @@ fn pick_past(
     imports: &[&Buffer],
 ) -> Result<(), AllocError>
     requires { picks.old.items ≡ [] }
-    ensures { OnOk result ((clauses : List NumberedClause) → Sees seen.old clauses → picks.new.items ≡ picked (lent imports.now) clauses) }
+    ensures { OnOk result
+        ((clauses : List NumberedClause) → Sees seen.old clauses
+        → picks.new.items ≡ picked (lent imports.now) clauses) }
 {
     for told in imports {
         picks.push(Pick::of(alloc, seen, told.entries())?)?;
@@ -109,7 +117,8 @@ fn pick_past(
 
 /// Notes entries.
 fn note_entries(seen: &mut ClauseSet, entries: &[NumberedClause]) -> Result<(), AllocError>
-    ensures { OnOk result ((lits : List ℕ) → is_noted lits seen.new ≡ (has_lits lits entries.now || is_noted lits seen.old)) }
+    ensures { OnOk result
+        ((lits : List ℕ) → is_noted lits seen.new ≡ (has_lits lits entries.now || is_noted lits seen.old)) }
 {
     for entry in entries {
         seen.note_lits(entry.lits())?;
@@ -119,7 +128,8 @@ fn note_entries(seen: &mut ClauseSet, entries: &[NumberedClause]) -> Result<(), 
 
 /// Notes the entries of imports.
 fn note_told(told: &mut ClauseSet, imports: &[&Buffer]) -> Result<(), AllocError>
-    ensures { OnOk result ((lits : List ℕ) → is_noted lits told.new ≡ (is_told_in lits (lent imports.now) || is_noted lits told.old)) }
+    ensures { OnOk result
+        ((lits : List ℕ) → is_noted lits told.new ≡ (is_told_in lits (lent imports.now) || is_noted lits told.old)) }
 {
     for buffer in imports {
         note_entries(told, buffer.entries())?;
@@ -133,7 +143,9 @@ fn note_held<E: Listed>(
     told: &ClauseSet,
     engine: &E,
 ) -> Result<(), AllocError>
-    ensures { OnOk result ((lits : List ℕ) → is_noted lits told.now ≡ true → is_noted lits seen.new ≡ (has_lits lits (E.clauses engine.now) || is_noted lits seen.old)) }
+    ensures { OnOk result
+        ((lits : List ℕ) → is_noted lits told.now ≡ true
+        → is_noted lits seen.new ≡ (has_lits lits (E.clauses engine.now) || is_noted lits seen.old)) }
 {
     for place in 0..engine.count() {
         let (_id, lits) = engine.clause_at(place);
@@ -148,7 +160,9 @@ fn note_loads(
     told: &ClauseSet,
     loads: &[(&Revision, u32)],
 ) -> Result<(), AllocError>
-    ensures { OnOk result ((lits : List ℕ) → is_noted lits told.now ≡ true → is_noted lits seen.new ≡ (is_loaded_in lits (posted loads.now) || is_noted lits seen.old)) }
+    ensures { OnOk result
+        ((lits : List ℕ) → is_noted lits told.now ≡ true
+        → is_noted lits seen.new ≡ (is_loaded_in lits (posted loads.now) || is_noted lits seen.old)) }
 {
     for load in loads {
         let (revision, _first) = load;
@@ -163,7 +177,9 @@ fn note_posted(
     told: &ClauseSet,
     clauses: &[Option<Clause>],
 ) -> Result<(), AllocError>
-    ensures { OnOk result ((lits : List ℕ) → is_noted lits told.now ≡ true → is_noted lits seen.new ≡ (is_posted_in lits clauses.now || is_noted lits seen.old)) }
+    ensures { OnOk result
+        ((lits : List ℕ) → is_noted lits told.now ≡ true
+        → is_noted lits seen.new ≡ (is_posted_in lits clauses.now || is_noted lits seen.old)) }
 {
     for clause in clauses {
         match clause {
@@ -176,7 +192,9 @@ fn note_posted(
 
 /// Notes these literals where they are told too.
 fn note_if_told(seen: &mut ClauseSet, told: &ClauseSet, lits: &[Lit]) -> Result<(), AllocError>
-    ensures { OnOk result ((others : List ℕ) → is_noted others told.now ≡ true → is_noted others seen.new ≡ (bytes_eq others lits.now || is_noted others seen.old)) }
+    ensures { OnOk result
+        ((others : List ℕ) → is_noted others told.now ≡ true
+        → is_noted others seen.new ≡ (bytes_eq others lits.now || is_noted others seen.old)) }
 {
     if told.passes_lits(lits) {
         return Ok(());

@@ -41,7 +41,8 @@ pub fn bump_all(order: &mut Order, lits: &[Lit])
     ensures index { order.new.index ≡ order.old.index }
     ensures list { order.new.list ≡ moved_all (vars_in lits.now) order.old.list }
     ensures room { order.new.room ≡ order.old.room }
-    ensures passed { (p : ℕ → Bool) → list_all p (take order.old.passed order.old.list) ≡ true → list_all p (take order.new.passed order.new.list) ≡ true }
+    ensures passed { (p : ℕ → Bool) → list_all p (take order.old.passed order.old.list) ≡ true
+        → list_all p (take order.new.passed order.new.list) ≡ true }
 {
     for lit in lits {
         order.bump(lit.var());

@@ -64,7 +64,8 @@ pub fn needs_in_all(
     ensures least { IfOk result (λ n. variables ≤ n.variables) }
     ensures bound { IfOk result (λ n. n.variables ≤ 65536) }
     ensures clauses { IfOk result (λ n. n.clauses ≡ clauses_in (posted loads.now) + told_clauses picks.now + 1000) }
-    ensures literals { IfOk result (λ n. n.literals ≡ literals_in (posted loads.now) + told_literals picks.now + most_numbers n.variables) }
+    ensures literals { IfOk result
+        (λ n. n.literals ≡ literals_in (posted loads.now) + told_literals picks.now + most_numbers n.variables) }
     ensures assumptions { IfOk result (λ n. n.assumptions ≡ most_assumptions (posted loads.now) 0) }
 {
     let mut needs = needs_of(loads, variables)?;
@@ -103,7 +104,8 @@ pub fn reserve<E: Listed>(
     ensures assumption_room { OnOk result (needs.assumptions ≤ vec_capacity assumptions.new) }
     ensures clauses { E.clauses engine.new ≡ E.clauses engine.old }
     ensures room { OnOk result (HasRoom needs.variables needs.clauses needs.literals (E.room engine.new)) }
-    ensures fits { (entries : List TrailEntry) (processed : ℕ) → E.fits engine.old entries processed → E.fits engine.new entries processed }
+    ensures fits { (entries : List TrailEntry) (processed : ℕ) → E.fits engine.old entries processed
+        → E.fits engine.new entries processed }
 {
     trail.reserve(needs.variables)?;
     order.reserve(new)?;

@@ -101,7 +101,10 @@ impl<E: Engine> Model for Node<E> {
       lines = n.lines.lines;
     } };
 
-    ghost invariant = { λ n. (IsNode n.index n.variables n.trail.room n.assumptions.items n.order n.phases.items (E.clauses n.engine)) × (E.fits n.engine n.trail.entries n.trail.processed) × (IsPast n.trail.entries n.order n.assumptions.items n.passed) };
+    ghost invariant = { λ n. (IsNode n.index n.variables n.trail.room n.assumptions.items n.order n.phases.items
+        (E.clauses n.engine))
+        × (E.fits n.engine n.trail.entries n.trail.processed)
+        × (IsPast n.trail.entries n.order n.assumptions.items n.passed) };
 }
 
 impl<E: Listed> Node<E> {
@@ -248,7 +251,10 @@ impl<E: Listed> Node<E> {
     ) -> Result<(), AllocError>
         ensures room { OnOk result (HasRoomFor (posted loads.now) picks.now self.new) }
         ensures fitted { OnOk result (greatest (posted loads.now) self.old.state.variables < scratch.new.room) }
-        ensures ids { OnOk result (self.old.state.profile ≡ 2 → length self.old.state.clauses + (clauses_in (posted loads.now) + told_clauses picks.now + 1000) ≤ scratch.new.ids) }
+        ensures ids { OnOk result
+            (self.old.state.profile ≡ 2
+            → length self.old.state.clauses + (clauses_in (posted loads.now) + told_clauses picks.now + 1000)
+            ≤ scratch.new.ids) }
         ensures more { scratch.old.room ≤ scratch.new.room }
         ensures more_ids { scratch.old.ids ≤ scratch.new.ids }
         ensures state { self.new.state ≡ self.old.state }
@@ -274,7 +280,8 @@ impl<E: Listed> Node<E> {
     fn fit(&self, needs: Needs, scratch: &mut Scratch) -> Result<(), AllocError>
         requires { needs.variables ≤ 65536 }
         ensures room { OnOk result (needs.variables < scratch.new.room) }
-        ensures ids { OnOk result (self.now.state.profile ≡ 2 → length self.now.state.clauses + needs.clauses ≤ scratch.new.ids) }
+        ensures ids { OnOk result
+            (self.now.state.profile ≡ 2 → length self.now.state.clauses + needs.clauses ≤ scratch.new.ids) }
         ensures more { scratch.old.room ≤ scratch.new.room }
         ensures more_ids { scratch.old.ids ≤ scratch.new.ids }
     {
@@ -346,7 +353,8 @@ impl<E: Listed> Node<E> {
         requires fitted { self.old.state.variables < scratch.old.room }
         requires ids { HasIdRoom 0 self.old.state scratch.old }
         requires counts { MayCount self.old.state }
-        ensures step { MatchOption result (IsEnded used self.old self.new) (λ now. IsStepped used self.old now self.new) }
+        ensures step { MatchOption result (IsEnded used self.old self.new)
+            (λ now. IsStepped used self.old now self.new) }
         ensures room { scratch.new.room ≡ scratch.old.room }
         ensures id_room { scratch.new.ids ≡ scratch.old.ids }
     {
@@ -369,7 +377,8 @@ impl<E: Listed> Node<E> {
         requires fitted { self.old.state.variables < scratch.old.room }
         requires ids { HasIdRoom 0 self.old.state scratch.old }
         requires counts { MayCount self.old.state }
-        ensures step { MatchOption result (IsEnded used self.old self.new) (λ now. IsStepped used self.old now self.new) }
+        ensures step { MatchOption result (IsEnded used self.old self.new)
+            (λ now. IsStepped used self.old now self.new) }
         ensures room { scratch.new.room ≡ scratch.old.room }
         ensures id_room { scratch.new.ids ≡ scratch.old.ids }
     {
@@ -384,7 +393,8 @@ impl<E: Listed> Node<E> {
         requires calm { self.old.state.conflict ≡ None }
         requires counts { MayCount self.old.state }
         requires ids { HasIdRoom 0 self.old.state scratch.old }
-        ensures searched { MatchOption result (IsSearched (case_of self.old.state) self.old self.new) (λ a. IsFailing (case_of self.old.state) a self.old self.new) }
+        ensures searched { MatchOption result (IsSearched (case_of self.old.state) self.old self.new)
+            (λ a. IsFailing (case_of self.old.state) a self.old self.new) }
         ensures room { scratch.new.room ≡ scratch.old.room }
         ensures id_room { scratch.new.ids ≡ scratch.old.ids }
     {
@@ -403,7 +413,8 @@ impl<E: Listed> Node<E> {
     fn restart_or_branch(&mut self) -> Option<Lit>
         requires counts { MayCount self.old.state }
         requires handled { self.old.state.processed ≤ length self.old.state.trail + 1 }
-        ensures { MatchOption result (IsSearched (restarting self.old.state) self.old self.new) (λ a. IsFailing (restarting self.old.state) a self.old self.new) }
+        ensures { MatchOption result (IsSearched (restarting self.old.state) self.old self.new)
+            (λ a. IsFailing (restarting self.old.state) a self.old self.new) }
     {
         if restart::is_due(self.conflicts_since_restart, self.restart_number) {
             self.restart();
@@ -450,7 +461,8 @@ impl<E: Listed> Node<E> {
     /// true, decides or ends.
     fn branch(&mut self) -> Option<Lit>
         requires { self.old.state.processed ≤ length self.old.state.trail + 1 }
-        ensures { MatchOption result (IsSearched (branching self.old.state) self.old self.new) (λ a. IsFailing (branching self.old.state) a self.old self.new) }
+        ensures { MatchOption result (IsSearched (branching self.old.state) self.old self.new)
+            (λ a. IsFailing (branching self.old.state) a self.old self.new) }
     {
         match self.first_open() {
             None => {
@@ -473,7 +485,8 @@ impl<E: Listed> Node<E> {
     fn assume(&mut self, lit: Lit) -> Option<Lit>
         requires found { first_open self.old.state.trail self.old.state.assumptions ≡ Some lit }
         requires handled { self.old.state.processed ≤ length self.old.state.trail + 1 }
-        ensures { MatchOption result (IsSearched (branching self.old.state) self.old self.new) (λ a. IsFailing (branching self.old.state) a self.old self.new) }
+        ensures { MatchOption result (IsSearched (branching self.old.state) self.old self.new)
+            (λ a. IsFailing (branching self.old.state) a self.old self.new) }
     {
         if self.trail.is_false(lit) {
             return Some(lit);
@@ -518,7 +531,8 @@ impl<E: Listed> Node<E> {
         requires room { HasStepRoom 1 used self.old }
         requires fitted { self.old.state.variables < scratch.old.room }
         requires counts { MayCount self.old.state }
-        ensures step { MatchOption result (IsEnded used self.old self.new) (λ now. IsStepped used self.old now self.new) }
+        ensures step { MatchOption result (IsEnded used self.old self.new)
+            (λ now. IsStepped used self.old now self.new) }
         ensures room { scratch.new.room ≡ scratch.old.room }
         ensures id_room { scratch.new.ids ≡ scratch.old.ids }
     {
@@ -643,7 +657,8 @@ impl<E: Listed> Node<E> {
     ) -> Result<(), AllocError>
         requires new { AreNew (posted loads.now) self.old.state }
         requires told { MayImportAll (lent imports.now) (readied (posted loads.now) self.old.state) }
-        ensures loaded { OnOk result (self.new.state ≡ all_imported (lent imports.now) (readied (posted loads.now) self.old.state)) }
+        ensures loaded { OnOk result
+            (self.new.state ≡ all_imported (lent imports.now) (readied (posted loads.now) self.old.state)) }
         ensures unchanged { OnErr result (self.new.state ≡ self.old.state) }
         ensures kept { OnErr result (self.new.lines ≡ self.old.lines) }
         ensures stocked { OnOk result (HasSliceRoom self.new) }

@@ -132,7 +132,8 @@ fn clause_at<'a>(
 
 /// Takes these ids away.
 fn forget(places: &mut PlaceTable, ids: &[ClauseId])
-    ensures { (id : ℕ) → place_in places.new id ≡ (if list_any (λ i. i == id) ids.now then None else place_in places.old id) }
+    ensures { (id : ℕ)
+        → place_in places.new id ≡ (if list_any (λ i. i == id) ids.now then None else place_in places.old id) }
 {
     for id in ids {
         places.remove(*id);

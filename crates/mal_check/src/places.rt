@@ -51,7 +51,8 @@ impl PlaceTable {
     /// Gives a number a place. It stands in the list where the number is below this bound, or the list is longer. Where
     /// memory is refused nothing changes.
     pub fn put(&mut self, id: ClauseId, place: Place, bound: usize) -> Result<(), AllocError>
-        ensures ok { OnOk result ((q : ℕ) → place_in self.new q ≡ (if q == id then Some place else place_in self.old q)) }
+        ensures ok { OnOk result
+            ((q : ℕ) → place_in self.new q ≡ (if q == id then Some place else place_in self.old q)) }
         ensures err { OnErr result (self.new ≡ self.old) }
     {
         let number = id.number();
@@ -95,7 +96,10 @@ fn sparse_at(sparse: &BTreeMap<u64, Place>, number: u64) -> Option<Place>
 
 /// Gives a number a place in the list. Where memory is refused nothing changes.
 fn put_dense(dense: &mut Vec<Option<Place>>, at: usize, place: Place) -> Result<(), AllocError>
-    ensures ok { OnOk result ((q : ℕ) → slice_index_or dense.new.items q None ≡ (if q == at then Some place else slice_index_or dense.old.items q None)) }
+    ensures ok { OnOk result
+        ((q : ℕ)
+        → slice_index_or dense.new.items q None
+        ≡ (if q == at then Some place else slice_index_or dense.old.items q None)) }
     ensures err { OnErr result (dense.new.items ≡ dense.old.items) }
 {
     let Some(len) = at.checked_add(1) else {

@@ -68,7 +68,8 @@ fn read_row(
 
 /// Puts a line behind the lines before. Answers the last id behind it.
 fn put_line(lines: &mut Vec<NumberedLine>, line: NumberedLine, last: u64) -> Result<u64, ProofFault>
-    ensures { GivesRow (views lines.old.items) (views lines.new.items) result (with_number line.number last (Ok (seen line.line))) }
+    ensures { GivesRow (views lines.old.items) (views lines.new.items) result
+        (with_number line.number last (Ok (seen line.line))) }
 {
     let number = line.number;
     let last = last_after(last, &line.line);

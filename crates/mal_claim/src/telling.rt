@@ -33,7 +33,8 @@ pub fn fault_line(alloc: Global, fault: ClaimFault) -> Result<Option<Vec<u8>>, A
 /// The line that tells why a proof is not verified, as `fault: proof line 1 UnknownHint 9` or `fault: proof goal`, with
 /// its line end. None exactly for want of memory.
 pub fn verdict_line(alloc: Global, fault: VerifyFault) -> Result<Option<Vec<u8>>, AllocError>
-    ensures { IfOk result (λ o. MatchOption o (verdict_in fault ≡ None) (λ text. TellsVerdict (verdict_in fault) text.items)) }
+    ensures { IfOk result
+        (λ o. MatchOption o (verdict_in fault ≡ None) (λ text. TellsVerdict (verdict_in fault) text.items)) }
 {
     match fault {
         VerifyFault::Refused { line, fault } => refusal_line(alloc, line, fault),
@@ -62,7 +63,8 @@ fn proof_line(
     line: u64,
     fault: mal_lrat::LineFault,
 ) -> Result<Option<Vec<u8>>, AllocError>
-    ensures { IfOk result (λ o. MatchOption o (in_line line fault ≡ None) (λ text. Tells (in_line line fault) text.items)) }
+    ensures { IfOk result
+        (λ o. MatchOption o (in_line line fault ≡ None) (λ text. Tells (in_line line fault) text.items)) }
 {
     match fault {
         mal_lrat::LineFault::BadNumber => Ok(Some(in_proof(alloc, line, &[b"BadNumber"])?)),
@@ -77,7 +79,8 @@ fn proof_line(
 
 /// The line that tells that an id is not above the last one.
 fn not_rising_line(alloc: Global, line: u64, last: u64, id: u64) -> Result<Vec<u8>, AllocError>
-    ensures { IfOk result (λ text. text.items ≡ proof_line line (codes "IdNotRising" ∷ decimal_word last ∷ decimal_word id ∷ [])) }
+    ensures { IfOk result
+        (λ text. text.items ≡ proof_line line (codes "IdNotRising" ∷ decimal_word last ∷ decimal_word id ∷ [])) }
 {
     let mut one = Buffer::new();
     let mut other = Buffer::new();
@@ -91,7 +94,9 @@ fn not_rising_line(alloc: Global, line: u64, last: u64, id: u64) -> Result<Vec<u
 
 /// The line that tells why a line of the proof is refused; none for want of memory.
 fn refusal_line(alloc: Global, line: u64, fault: CheckFault) -> Result<Option<Vec<u8>>, AllocError>
-    ensures { IfOk result (λ o. MatchOption o (refused line (refusal_of fault) ≡ None) (λ text. TellsVerdict (refused line (refusal_of fault)) text.items)) }
+    ensures { IfOk result
+        (λ o. MatchOption o (refused line (refusal_of fault) ≡ None)
+        (λ text. TellsVerdict (refused line (refusal_of fault)) text.items)) }
 {
     match fault {
         CheckFault::IdUsed { id } => Ok(Some(id_line(alloc, line, b"IdUsed", id.number())?)),

@@ -54,15 +54,20 @@ pub fn top<R: Threads + Wait + Sync, S: Source, K: Sink, L: Sink, G: Gate>(
     gate: &G,
 ) -> u8
     // What the words ask for is done, and the status says how far.
-    ensures done { (r : Request) → Means (map string_bytes words.now) r → HasDone r (device S.left S.faults source.old source.new) (device L.got L.faults log.old log.new) (device K.got K.faults out.old out.new) result }
+    ensures done { (r : Request) → Means (map string_bytes words.now) r
+        → HasDone r (device S.left S.faults source.old source.new) (device L.got L.faults log.old log.new)
+        (device K.got K.faults out.old out.new) result }
     // Status 2 comes only where the words ask for nothing, and there nothing else comes, unless memory runs out.
     ensures usage { result ≡ 2 → MeansNothing (map string_bytes words.now) }
     ensures refuses { MeansNothing (map string_bytes words.now) → (result ≡ 2) ⊎ (result ≡ 6) }
-    ensures usage_line { result ≡ 2 → Complained (device L.got L.faults log.old log.new) (device K.got K.faults out.old out.new) usage_line }
-    ensures silent { result ≡ 6 → AreSilent (device L.got L.faults log.old log.new) (device K.got K.faults out.old out.new) }
+    ensures usage_line { result ≡ 2
+        → Complained (device L.got L.faults log.old log.new) (device K.got K.faults out.old out.new) usage_line }
+    ensures silent { result ≡ 6
+        → AreSilent (device L.got L.faults log.old log.new) (device K.got K.faults out.old out.new) }
     // The source is as before where the words ask for nothing, and where they ask for a script that is made.
     ensures unread { MeansNothing (map string_bytes words.now) → source.new ≡ source.old }
-    ensures made_unread { (r : Request) → Means (map string_bytes words.now) r → ReadsNothing r → source.new ≡ source.old }
+    ensures made_unread { (r : Request) → Means (map string_bytes words.now) r → ReadsNothing r
+        → source.new ≡ source.old }
 {
     match request_of(alloc, words) {
         Ok(Some(request)) => serve(rt, alloc, request, source, out, log, gate),
@@ -85,7 +90,8 @@ fn serve<R: Threads + Wait + Sync, S: Source, K: Sink, L: Sink, G: Gate>(
     gate: &G,
 ) -> u8
     requires { IsRequest request }
-    ensures done { HasDone request (device S.left S.faults source.old source.new) (device L.got L.faults log.old log.new) (device K.got K.faults out.old out.new) result }
+    ensures done { HasDone request (device S.left S.faults source.old source.new)
+        (device L.got L.faults log.old log.new) (device K.got K.faults out.old out.new) result }
     ensures made_unread { ReadsNothing request → source.new ≡ source.old }
 {
     conclude(answer_to(rt, alloc, request, source, gate), out, log)

@@ -104,7 +104,8 @@ pub fn run_script<R: Threads + Wait + Sync, G: Gate>(
 /// anything is written, the history's text is made while it is written, without memory.
 fn texts_of(alloc: Global, script: &Script, hall: Hall) -> Result<Texts, AllocError>
     requires run { (workers : ℕ) × HasRun workers script.now hall }
-    ensures { (workers : ℕ) → HasRun workers script.now hall → IfOk result (λ t. IsRun workers script.now hall.events (logged t.log) t.out.items) }
+    ensures { (workers : ℕ) → HasRun workers script.now hall
+        → IfOk result (λ t. IsRun workers script.now hall.events (logged t.log) t.out.items) }
 {
     let out = replies(alloc, &hall, script)?;
     Ok(Texts {

@@ -40,7 +40,8 @@ impl Model for BlockReader {
 
     ghost view = { λ b. record { variables = b.variables; declared = b.declared; clauses = b.clauses.items; found = b.found; literals = b.literals; pending = b.pending.items; stage = b.stage } };
 
-    ghost invariant = { λ b. IsBlock (record { variables = b.variables; declared = b.declared; clauses = b.clauses.items; found = b.found; literals = b.literals; pending = b.pending.items; stage = b.stage }) };
+    ghost invariant = { λ b. IsBlock
+        (record { variables = b.variables; declared = b.declared; clauses = b.clauses.items; found = b.found; literals = b.literals; pending = b.pending.items; stage = b.stage }) };
 }
 
 impl BlockReader {

@@ -23,7 +23,8 @@ pub fn counts(line: &[u8]) -> Result<(u32, u32), BlockFault>
 
 /// The words of the two numbers of a header line.
 fn count_words(line: &[u8]) -> Option<(&[u8], &[u8])>
-    ensures { MatchOption result (opened (words_of line.now) ≡ Err BadHeader) (λ x. opened (words_of line.now) ≡ opened_with x.0.now x.1.now) }
+    ensures { MatchOption result (opened (words_of line.now) ≡ Err BadHeader)
+        (λ x. opened (words_of line.now) ≡ opened_with x.0.now x.1.now) }
 {
     let (p, rest) = first_word(line)?;
     let (cnf, rest) = first_word(rest)?;
@@ -35,7 +36,8 @@ fn count_words(line: &[u8]) -> Option<(&[u8], &[u8])>
 
 /// The words of a line that has two words.
 fn two_words(line: &[u8]) -> Option<(&[u8], &[u8])>
-    ensures { MatchOption result ((first second : List ℕ) → words_of line.now ≡ first ∷ second ∷ [] → ⊥) (λ x. words_of line.now ≡ x.0.now ∷ x.1.now ∷ []) }
+    ensures { MatchOption result ((first second : List ℕ) → words_of line.now ≡ first ∷ second ∷ [] → ⊥)
+        (λ x. words_of line.now ≡ x.0.now ∷ x.1.now ∷ []) }
 {
     let (first, rest) = first_word(line)?;
     let (second, rest) = first_word(rest)?;

@@ -25,7 +25,8 @@ pub fn read(alloc: Global, text: &[u8]) -> Result<Formula, DimacsFault>
     ensures exact { GivesAt result (read_text text.now) }
     ensures spelled { IfOk result (λ f. Spells text.now f) }
     ensures read { (f : Formulated) → Spells text.now f → MatchResult result (λ g. g ≡ f) (λ e. e ≡ OutOfMemory) }
-    ensures again { (f : Formulated) → is_formula f ≡ true → text.now ≡ spelling f → MatchResult result (λ g. g ≡ f) (λ e. e ≡ OutOfMemory) }
+    ensures again { (f : Formulated) → is_formula f ≡ true → text.now ≡ spelling f
+        → MatchResult result (λ g. g ≡ f) (λ e. e ≡ OutOfMemory) }
 {
     first(alloc, text)
 }

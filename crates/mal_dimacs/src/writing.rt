@@ -27,7 +27,9 @@ pub fn put_block(
     variables: u32,
     clauses: &[Option<Clause>],
 ) -> Result<(), AllocError>
-    ensures { OnOk result (out.new.items ≡ out.old.items ++ text_of (formula_rows (record { variables = variables; clauses = clauses.now }))) }
+    ensures { OnOk result
+        (out.new.items
+        ≡ out.old.items ++ text_of (formula_rows (record { variables = variables; clauses = clauses.now }))) }
 {
     put_header(out, variables, clauses.len())?;
     put_clauses(out, clauses)?;

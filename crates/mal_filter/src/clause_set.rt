@@ -51,7 +51,8 @@ impl ClauseSet {
 
     /// Notes a clause, which then no longer passes. After want of memory the filter is as before.
     pub fn note(&mut self, clause: &Clause) -> Result<(), AllocError>
-        ensures noted { OnOk result ((lits : List ℕ) → is_noted lits self.new ≡ (bytes_eq lits clause.now || is_noted lits self.old)) }
+        ensures noted { OnOk result
+            ((lits : List ℕ) → is_noted lits self.new ≡ (bytes_eq lits clause.now || is_noted lits self.old)) }
         ensures unchanged { OnErr result (self.new ≡ self.old) }
     {
         self.note_lits(clause.lits())
@@ -59,7 +60,8 @@ impl ClauseSet {
 
     /// Notes a clause of these literals.
     pub fn note_lits(&mut self, lits: &[Lit]) -> Result<(), AllocError>
-        ensures noted { OnOk result ((others : List ℕ) → is_noted others self.new ≡ (bytes_eq others lits.now || is_noted others self.old)) }
+        ensures noted { OnOk result
+            ((others : List ℕ) → is_noted others self.new ≡ (bytes_eq others lits.now || is_noted others self.old)) }
         ensures unchanged { OnErr result (self.new ≡ self.old) }
     {
         let lits = Vec::from_slice(self.alloc, lits)?;

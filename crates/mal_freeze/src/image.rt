@@ -36,7 +36,8 @@ impl Model for Image {
 impl Image {
     /// The image of these parts. None exactly where they are not in form.
     pub fn new(alloc: Global, parts: Parts) -> Result<Option<Image>, AllocError>
-        ensures { IfOk result (λ o. MatchOption o (IsImage (node_of parts) → ⊥) (λ i. (i ≡ node_of parts) × IsImage (node_of parts))) }
+        ensures { IfOk result
+            (λ o. MatchOption o (IsImage (node_of parts) → ⊥) (λ i. (i ≡ node_of parts) × IsImage (node_of parts))) }
     {
         if is_image(alloc, &parts)? {
             Ok(Some(Image { parts }))

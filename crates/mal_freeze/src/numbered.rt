@@ -34,7 +34,8 @@ impl Numbered {
 
     /// The clause that is held so. None exactly where the number is 0 or the literals do not rise by variable.
     fn held(&self) -> Result<Option<NumberedClause>, AllocError>
-        ensures { IfOk result (λ o. MatchOption o (can_hold self.now ≡ false) (λ h. (h ≡ self.now) × (can_hold self.now ≡ true))) }
+        ensures { IfOk result
+            (λ o. MatchOption o (can_hold self.now ≡ false) (λ h. (h ≡ self.now) × (can_hold self.now ≡ true))) }
     {
         let id = match ClauseId::of(self.number) {
             None => return Ok(None),
@@ -52,7 +53,9 @@ pub fn held_of(
     alloc: Global,
     clauses: &[Numbered],
 ) -> Result<Option<Vec<NumberedClause>>, AllocError>
-    ensures { IfOk result (λ o. MatchOption o (list_all can_hold clauses.now ≡ false) (λ v. (v.items ≡ clauses.now) × (list_all can_hold clauses.now ≡ true))) }
+    ensures { IfOk result
+        (λ o. MatchOption o (list_all can_hold clauses.now ≡ false)
+        (λ v. (v.items ≡ clauses.now) × (list_all can_hold clauses.now ≡ true))) }
 {
     let mut all = Vec::new(alloc);
     for numbered in clauses {

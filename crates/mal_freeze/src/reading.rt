@@ -145,7 +145,8 @@ fn counted_literals(
     bytes: &[u8],
 ) -> Result<(SmallVec<Lit, 4>, &[u8]), ThawFault>
     requires { greatest ≤ 65536 }
-    ensures { Gives (λ x. (x.0.items, x.1.now)) result (counted_at total greatest (literal_at total greatest) bytes.now) }
+    ensures { Gives
+        (λ x. (x.0.items, x.1.now)) result (counted_at total greatest (literal_at total greatest) bytes.now) }
 {
     let (count, rest) = u32_within(total, 0, greatest, bytes)?;
     literals(alloc, total, greatest, count, rest)

@@ -104,7 +104,8 @@ pub fn trail_of(
     entries: &[TrailEntry],
 ) -> Result<Option<Trail>, AllocError>
     requires { greatest ≤ 65536 }
-    ensures { IfOk result (λ o. MatchOption o (all_follow greatest [] entries.now ≡ false) (λ t. IsTrailOf greatest entries.now t)) }
+    ensures { IfOk result
+        (λ o. MatchOption o (all_follow greatest [] entries.now ≡ false) (λ t. IsTrailOf greatest entries.now t)) }
 {
     let mut trail = Trail::new(alloc);
     trail.reserve(greatest)?;

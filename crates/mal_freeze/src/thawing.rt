@@ -58,7 +58,8 @@ fn image_at(alloc: Global, bytes: &[u8]) -> Result<Image, ThawFault>
 /// The image of these fields. None exactly where bytes are left over, the goal does not go with the verdict, or the
 /// fields are in no order.
 fn image_of(alloc: Global, fields: Fields) -> Result<Option<Image>, AllocError>
-    ensures { IfOk result (λ o. MatchOption o (is_canonical fields ≡ false) (λ i. (i ≡ node_in fields) × (is_canonical fields ≡ true))) }
+    ensures { IfOk result
+        (λ o. MatchOption o (is_canonical fields ≡ false) (λ i. (i ≡ node_in fields) × (is_canonical fields ≡ true))) }
 {
     match parts_of(alloc, fields)? {
         None => Ok(None),

@@ -54,7 +54,8 @@ impl Hall {
         ensures workers { self.new.workers ≡ self.old.workers }
         ensures applied { OnOk result (HasApplied self.old.workers self.old.events revision event.now self.new.events) }
         ensures inside { OnOk result (IsInside self.new) }
-        ensures refused { IsErrOf result ApplyFault.NotAllowed → IsRefused self.old.workers self.old.events revision event.now }
+        ensures refused { IsErrOf result ApplyFault.NotAllowed
+            → IsRefused self.old.workers self.old.events revision event.now }
     {
         match event {
             Event::Open { tenant, job, ask } => self.enter_open(*tenant, *job, *ask),
@@ -89,9 +90,11 @@ impl Hall {
     fn enter_open(&mut self, tenant: Name, job: Name, ask: Ask) -> Result<(), ApplyFault>
         requires { IsInside self.old }
         ensures workers { self.new.workers ≡ self.old.workers }
-        ensures entered { OnOk result (HasEntered self.old.workers self.old.events (Open (keyed tenant job) ask) self.new.events) }
+        ensures entered { OnOk result
+            (HasEntered self.old.workers self.old.events (Open (keyed tenant job) ask) self.new.events) }
         ensures inside { OnOk result (IsInside self.new) }
-        ensures refused { IsErrOf result ApplyFault.NotAllowed → Allowed self.old.workers self.old.events (Open (keyed tenant job) ask) → ⊥ }
+        ensures refused { IsErrOf result ApplyFault.NotAllowed
+            → Allowed self.old.workers self.old.events (Open (keyed tenant job) ask) → ⊥ }
     {
         let _ = self.history().workers();
         match self.open_job(tenant, job, ask) {
@@ -110,9 +113,12 @@ impl Hall {
     ) -> Result<(), ApplyFault>
         requires { IsInside self.old }
         ensures workers { self.new.workers ≡ self.old.workers }
-        ensures entered { OnOk result (HasEntered self.old.workers self.old.events (Revise (keyed tenant.now job.now) number revision) self.new.events) }
+        ensures entered { OnOk result
+            (HasEntered self.old.workers self.old.events
+            (Revise (keyed tenant.now job.now) number revision) self.new.events) }
         ensures inside { OnOk result (IsInside self.new) }
-        ensures refused { IsErrOf result ApplyFault.NotAllowed → Allowed self.old.workers self.old.events (Revise (keyed tenant.now job.now) number revision) → ⊥ }
+        ensures refused { IsErrOf result ApplyFault.NotAllowed
+            → Allowed self.old.workers self.old.events (Revise (keyed tenant.now job.now) number revision) → ⊥ }
     {
         let _ = self.history().workers();
         if self.next_of(tenant, job) != number as usize {
@@ -128,9 +134,11 @@ impl Hall {
     fn enter_close(&mut self, tenant: &Name, job: &Name) -> Result<(), ApplyFault>
         requires { IsInside self.old }
         ensures workers { self.new.workers ≡ self.old.workers }
-        ensures entered { OnOk result (HasEntered self.old.workers self.old.events (Close (keyed tenant.now job.now)) self.new.events) }
+        ensures entered { OnOk result
+            (HasEntered self.old.workers self.old.events (Close (keyed tenant.now job.now)) self.new.events) }
         ensures inside { OnOk result (IsInside self.new) }
-        ensures refused { IsErrOf result ApplyFault.NotAllowed → Allowed self.old.workers self.old.events (Close (keyed tenant.now job.now)) → ⊥ }
+        ensures refused { IsErrOf result ApplyFault.NotAllowed
+            → Allowed self.old.workers self.old.events (Close (keyed tenant.now job.now)) → ⊥ }
     {
         let _ = self.history().workers();
         match self.close_job(tenant, job) {
@@ -143,9 +151,11 @@ impl Hall {
     fn enter_balance(&mut self, volumes: &Shares) -> Result<(), ApplyFault>
         requires { IsInside self.old }
         ensures workers { self.new.workers ≡ self.old.workers }
-        ensures entered { OnOk result (HasEntered self.old.workers self.old.events (Balance volumes.now) self.new.events) }
+        ensures entered { OnOk result
+            (HasEntered self.old.workers self.old.events (Balance volumes.now) self.new.events) }
         ensures inside { OnOk result (IsInside self.new) }
-        ensures refused { IsErrOf result ApplyFault.NotAllowed → Allowed self.old.workers self.old.events (Balance volumes.now) → ⊥ }
+        ensures refused { IsErrOf result ApplyFault.NotAllowed
+            → Allowed self.old.workers self.old.events (Balance volumes.now) → ⊥ }
     {
         if !self.is_due() {
             return Err(ApplyFault::NotAllowed);
@@ -170,9 +180,12 @@ impl Hall {
     ) -> Result<(), ApplyFault>
         requires { IsInside self.old }
         ensures workers { self.new.workers ≡ self.old.workers }
-        ensures entered { OnOk result (HasEntered self.old.workers self.old.events (Start (keyed tenant.now job.now) index worker) self.new.events) }
+        ensures entered { OnOk result
+            (HasEntered self.old.workers self.old.events
+            (Start (keyed tenant.now job.now) index worker) self.new.events) }
         ensures inside { OnOk result (IsInside self.new) }
-        ensures refused { IsErrOf result ApplyFault.NotAllowed → Allowed self.old.workers self.old.events (Start (keyed tenant.now job.now) index worker) → ⊥ }
+        ensures refused { IsErrOf result ApplyFault.NotAllowed
+            → Allowed self.old.workers self.old.events (Start (keyed tenant.now job.now) index worker) → ⊥ }
     {
         let _ = self.history().workers();
         let Some(at) = self.startable_at(tenant, job, index, worker) else {
@@ -189,7 +202,9 @@ impl Hall {
     /// The place of a job where a worker may start this node of it: where neither a balancing nor an exchange is due,
     /// the node is the one that starts next, and the worker has no lease out.
     fn startable_at(&self, tenant: &Name, job: &Name, index: u32, worker: u32) -> Option<usize>
-        ensures { MatchOption result (Allowed self.now.workers self.now.events (Start (keyed tenant.now job.now) index worker) → ⊥) (λ at. StartsAt self.now.workers self.now.events (keyed tenant.now job.now) index worker at) }
+        ensures { MatchOption result
+            (Allowed self.now.workers self.now.events (Start (keyed tenant.now job.now) index worker) → ⊥)
+            (λ at. StartsAt self.now.workers self.now.events (keyed tenant.now job.now) index worker at) }
     {
         if worker == 0 || worker > self.history().workers() {
             return None;
@@ -228,9 +243,12 @@ impl Hall {
     ) -> Result<(), ApplyFault>
         requires { IsInside self.old }
         ensures workers { self.new.workers ≡ self.old.workers }
-        ensures entered { OnOk result (HasEntered self.old.workers self.old.events (Finish (keyed tenant.now job.now) index worker outcome) self.new.events) }
+        ensures entered { OnOk result
+            (HasEntered self.old.workers self.old.events
+            (Finish (keyed tenant.now job.now) index worker outcome) self.new.events) }
         ensures inside { OnOk result (IsInside self.new) }
-        ensures refused { IsErrOf result ApplyFault.NotAllowed → Allowed self.old.workers self.old.events (Finish (keyed tenant.now job.now) index worker outcome) → ⊥ }
+        ensures refused { IsErrOf result ApplyFault.NotAllowed
+            → Allowed self.old.workers self.old.events (Finish (keyed tenant.now job.now) index worker outcome) → ⊥ }
     {
         let _ = self.history().workers();
         if !self.holds(worker, tenant, job, index) {
@@ -251,9 +269,11 @@ impl Hall {
     fn enter_exchange(&mut self, tenant: &Name, job: &Name) -> Result<(), ApplyFault>
         requires { IsInside self.old }
         ensures workers { self.new.workers ≡ self.old.workers }
-        ensures entered { OnOk result (HasEntered self.old.workers self.old.events (Exchange (keyed tenant.now job.now)) self.new.events) }
+        ensures entered { OnOk result
+            (HasEntered self.old.workers self.old.events (Exchange (keyed tenant.now job.now)) self.new.events) }
         ensures inside { OnOk result (IsInside self.new) }
-        ensures refused { IsErrOf result ApplyFault.NotAllowed → Allowed self.old.workers self.old.events (Exchange (keyed tenant.now job.now)) → ⊥ }
+        ensures refused { IsErrOf result ApplyFault.NotAllowed
+            → Allowed self.old.workers self.old.events (Exchange (keyed tenant.now job.now)) → ⊥ }
     {
         if self.is_due() {
             return Err(ApplyFault::NotAllowed);

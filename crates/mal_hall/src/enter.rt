@@ -53,12 +53,17 @@ pub fn enter_revise(
 ) -> Result<(), AllocError>
     requires place { at < length seats.old }
     requires few { OfSeat seats.old at (λ s. length s.job.titled.state.revisions < 256) }
-    requires clauses { OfSeat seats.old at (λ s. clauses_in s.job.titled.state.revisions + length revision.clauses ≤ 1048576) }
+    requires clauses { OfSeat seats.old at
+        (λ s. clauses_in s.job.titled.state.revisions + length revision.clauses ≤ 1048576) }
     requires owed { owed < 2 ^ 63 + 65 }
     ensures workers { history.new.workers ≡ history.old.workers }
-    ensures events { OnOk result (OfSeat seats.old at (λ s. history.new.events ≡ history.old.events ++ Event.Revise s.job.titled.key.tenant s.job.titled.key.job number ∷ [])) }
+    ensures events { OnOk result
+        (OfSeat seats.old at
+        (λ s. history.new.events
+        ≡ history.old.events ++ Event.Revise s.job.titled.key.tenant s.job.titled.key.job number ∷ [])) }
     ensures posted { OnOk result (posted.new.items ≡ posted.old.items ++ revision ∷ []) }
-    ensures seats { OnOk result (IsChanged (λ s. record s { job = and_own s.job (Revised revision) }) at seats.old seats.new) }
+    ensures seats { OnOk result
+        (IsChanged (λ s. record s { job = and_own s.job (Revised revision) }) at seats.old seats.new) }
     ensures room { OnOk result (owed ≤ history.new.room) }
     ensures err { OnErr result (HasWaited history.old history.new seats.old seats.new) }
     ensures same { OnErr result (posted.new.items ≡ posted.old.items) }
@@ -122,8 +127,12 @@ pub fn enter_start(
     requires startable { OfSeat seats.old at (λ s. startable s.job.titled.state index ≡ true) }
     requires owed { owed < 2 ^ 63 + 65 }
     ensures workers { history.new.workers ≡ history.old.workers }
-    ensures events { OnOk result (OfSeat seats.old at (λ s. history.new.events ≡ history.old.events ++ Event.Start s.job.titled.key.tenant s.job.titled.key.job index worker ∷ [])) }
-    ensures seats { OnOk result (IsChanged (λ s. record s { job = and_start s.job index start }) at seats.old seats.new) }
+    ensures events { OnOk result
+        (OfSeat seats.old at
+        (λ s. history.new.events
+        ≡ history.old.events ++ Event.Start s.job.titled.key.tenant s.job.titled.key.job index worker ∷ [])) }
+    ensures seats { OnOk result
+        (IsChanged (λ s. record s { job = and_start s.job index start }) at seats.old seats.new) }
     ensures lease { IfOk result (λ l. OfSeat seats.old at (λ s. IsLeaseOf s.job index start worker l)) }
     ensures room { OnOk result (owed ≤ history.new.room) }
     ensures err { OnErr result (HasWaited history.old history.new seats.old seats.new) }
@@ -154,8 +163,12 @@ pub fn enter_finish(
     requires back { OfSeat seats.old spot.job (λ s. MayFinish s.job spot.index back) }
     requires room { 1 ≤ history.old.room }
     ensures workers { history.new.workers ≡ history.old.workers }
-    ensures events { OfSeat seats.old spot.job (λ s. history.new.events ≡ history.old.events ++ Event.Finish s.job.titled.key.tenant s.job.titled.key.job spot.index worker (outcome_of back) ∷ []) }
-    ensures seats { IsChanged (λ s. record s { job = and_own s.job (Finished spot.index (outcome_of back)) }) spot.job seats.old seats.new }
+    ensures events { OfSeat seats.old spot.job
+        (λ s. history.new.events
+        ≡ history.old.events
+        ++ Event.Finish s.job.titled.key.tenant s.job.titled.key.job spot.index worker (outcome_of back) ∷ []) }
+    ensures seats { IsChanged
+        (λ s. record s { job = and_own s.job (Finished spot.index (outcome_of back)) }) spot.job seats.old seats.new }
     ensures room { history.new.room + 1 ≡ history.old.room }
 {
     let seat = seats.at(spot.job());
@@ -192,7 +205,10 @@ pub fn enter_exchange(
     requires place { at < length seats.old }
     requires owed { owed < 2 ^ 63 + 64 }
     ensures workers { history.new.workers ≡ history.old.workers }
-    ensures events { OnOk result (OfSeat seats.old at (λ s. history.new.events ≡ history.old.events ++ Event.Exchange s.job.titled.key.tenant s.job.titled.key.job ∷ [])) }
+    ensures events { OnOk result
+        (OfSeat seats.old at
+        (λ s. history.new.events
+        ≡ history.old.events ++ Event.Exchange s.job.titled.key.tenant s.job.titled.key.job ∷ [])) }
     ensures seats { OnOk result (IsChanged (λ s. record s { job = and_own s.job Exchanged }) at seats.old seats.new) }
     ensures room { OnOk result (owed ≤ history.new.room) }
     ensures err { OnErr result (HasWaited history.old history.new seats.old seats.new) }

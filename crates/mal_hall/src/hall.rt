@@ -70,9 +70,15 @@ impl Model for Hall {
 
     ghost Value = { HallView };
 
-    ghost view = { λ h. record { workers = h.history.workers; events = with_posted h.history.events h.posted.items; inside = map (option_map handed_of) h.lodged.items } };
+    ghost view = { λ h. record {
+      workers = h.history.workers;
+      events = with_posted h.history.events h.posted.items;
+      inside = map
+          (option_map handed_of) h.lodged.items;
+    } };
 
-    ghost invariant = { λ h. IsHall (record { history = h.history; posted = h.posted.items; seats = h.seats; spots = h.spots.items; starts = h.starts; unclosed = h.unclosed; tenants = h.tenants }) };
+    ghost invariant = { λ h. IsHall
+        (record { history = h.history; posted = h.posted.items; seats = h.seats; spots = h.spots.items; starts = h.starts; unclosed = h.unclosed; tenants = h.tenants }) };
 }
 
 impl Hall {
@@ -102,7 +108,8 @@ impl Hall {
         ensures inside { self.new.inside ≡ self.old.inside }
         ensures ok { OnOk result (self.new.events ≡ self.old.events ++ Open (keyed tenant job) ask ∷ []) }
         ensures err { OnErr result (self.new.events ≡ self.old.events) }
-        ensures call { HasCalled self.old.workers self.old.events (Opens (keyed tenant job) ask) result self.new.events }
+        ensures call { HasCalled self.old.workers self.old.events
+            (Opens (keyed tenant job) ask) result self.new.events }
     {
         if self.seats.place_of(tenant, job).is_some() {
             return Err(OpenFault::Duplicate);
@@ -137,9 +144,14 @@ impl Hall {
     ) -> Result<(), ReviseFault>
         ensures workers { self.new.workers ≡ self.old.workers }
         ensures inside { self.new.inside ≡ self.old.inside }
-        ensures ok { OnOk result (self.new.events ≡ self.old.events ++ Revise (keyed tenant.now job.now) (next_number (keyed tenant.now job.now) self.old.events) revision ∷ []) }
+        ensures ok { OnOk result
+            (self.new.events
+            ≡ self.old.events
+            ++ Revise (keyed tenant.now job.now) (next_number (keyed tenant.now job.now) self.old.events) revision
+            ∷ []) }
         ensures err { OnErr result (self.new.events ≡ self.old.events) }
-        ensures call { HasCalled self.old.workers self.old.events (Revises (keyed tenant.now job.now) revision) result self.new.events }
+        ensures call { HasCalled self.old.workers self.old.events
+            (Revises (keyed tenant.now job.now) revision) result self.new.events }
     {
         let Some(at) = self.seats.place_of(*tenant, *job) else {
             return Err(ReviseFault::NoJob);
@@ -167,7 +179,8 @@ impl Hall {
         ensures inside { self.new.inside ≡ self.old.inside }
         ensures ok { OnOk result (self.new.events ≡ self.old.events ++ Close (keyed tenant.now job.now) ∷ []) }
         ensures err { OnErr result (self.new.events ≡ self.old.events) }
-        ensures call { HasCalled self.old.workers self.old.events (Closes (keyed tenant.now job.now)) result self.new.events }
+        ensures call { HasCalled self.old.workers self.old.events
+            (Closes (keyed tenant.now job.now)) result self.new.events }
     {
         let Some(at) = self.seats.place_of(*tenant, *job) else {
             return Err(CloseFault::NoJob);
@@ -190,14 +203,20 @@ impl Hall {
     /// that the job's nodes hold or tell one another is the job's own. A job that is not there is `NoJob`, however much
     /// memory there is.
     pub fn reply(&self, tenant: &Name, job: &Name, r: u32) -> Result<Option<Vec<u8>>, ReplyFault>
-        ensures reply { IfOk result (λ told. HasJob (keyed tenant.now job.now) self.now.events (TellsReply (keyed tenant.now job.now) r told)) }
-        ensures alone { IfOk result (λ told. OfAlone (keyed tenant.now job.now) self.now.events (TellsReply (keyed tenant.now job.now) r told)) }
-        ensures no_job { IsErrOf result ReplyFault.NoJob → job_of (keyed tenant.now job.now) (states self.now.events) ≡ None }
-        ensures out_of_memory { IsErrOf result ReplyFault.OutOfMemory → (t : KeyedJob) × (job_of (keyed tenant.now job.now) (states self.now.events) ≡ Some t) }
+        ensures reply { IfOk result
+            (λ told. HasJob (keyed tenant.now job.now) self.now.events (TellsReply (keyed tenant.now job.now) r told)) }
+        ensures alone { IfOk result
+            (λ told. OfAlone (keyed tenant.now job.now) self.now.events
+            (TellsReply (keyed tenant.now job.now) r told)) }
+        ensures no_job { IsErrOf result ReplyFault.NoJob
+            → job_of (keyed tenant.now job.now) (states self.now.events) ≡ None }
+        ensures out_of_memory { IsErrOf result ReplyFault.OutOfMemory
+            → (t : KeyedJob) × (job_of (keyed tenant.now job.now) (states self.now.events) ≡ Some t) }
         ensures models { OfJob (keyed tenant.now job.now) self.now.events AnswersSolve }
         ensures proofs { OfJob (keyed tenant.now job.now) self.now.events AnswersRefute }
         ensures own { OfJob (keyed tenant.now job.now) self.now.events ClausesAreOwn }
-        ensures call { HasCalled self.now.workers self.now.events (Asks (keyed tenant.now job.now) r) (replied result) self.now.events }
+        ensures call { HasCalled self.now.workers self.now.events (Asks (keyed tenant.now job.now) r)
+            (replied result) self.now.events }
     {
         let Some(at) = self.seats.place_of(*tenant, *job) else {
             return Err(ReplyFault::NoJob);
@@ -229,7 +248,8 @@ impl Hall {
 
     /// The job of this key: None exactly where it is not there.
     fn job_named(&self, tenant: &Name, job: &Name) -> Option<&Job>
-        ensures { MatchOption result (job_of (keyed tenant.now job.now) (states self.now.events) ≡ None) (λ j. job_of (keyed tenant.now job.now) (states self.now.events) ≡ Some j.now.titled) }
+        ensures { MatchOption result (job_of (keyed tenant.now job.now) (states self.now.events) ≡ None)
+            (λ j. job_of (keyed tenant.now job.now) (states self.now.events) ≡ Some j.now.titled) }
     {
         let Some(at) = self.seats.place_of(*tenant, *job) else {
             return None;
@@ -250,7 +270,8 @@ impl Hall {
 
     /// The place of the first job of which an exchange is due.
     pub(crate) fn first_exchange(&self) -> Option<usize>
-        ensures value { MatchOption result (exchange_due (states self.now.events) ≡ None) (λ at. IsFirst self.now.events at) }
+        ensures value { MatchOption result (exchange_due (states self.now.events) ≡ None)
+            (λ at. IsFirst self.now.events at) }
         ensures legal { Legal self.now.workers self.now.events }
         ensures some { 1 ≤ self.now.workers }
     {
@@ -363,7 +384,8 @@ impl Hall {
         requires { MayStartAt self.old.workers self.old.events at index worker }
         ensures workers { self.new.workers ≡ self.old.workers }
         ensures inside { self.new.inside ≡ self.old.inside }
-        ensures ok { IfOk result (λ lease. HasStarted self.old.workers self.old.events self.new.events index worker lease) }
+        ensures ok { IfOk result
+            (λ lease. HasStarted self.old.workers self.old.events self.new.events index worker lease) }
         ensures err { OnErr result (self.new.events ≡ self.old.events) }
     {
         if self.starts == u64::MAX {
@@ -430,7 +452,9 @@ impl Hall {
         ensures ok { OnOk result (MayEnd self.now.events back.now.worker (Some back.now)) }
         ensures worker { OnOk result (1 ≤ back.now.worker) }
         ensures strange { OnErr result ((l : LeaseOut) → IsOfLease self.now.events back.now l → ⊥) }
-        ensures kept { IfErr result (λ kept. kept ≡ option_map (λ l. start_number l.worker self.now.events) (lease_of back.now.worker (leases self.now.events))) }
+        ensures kept { IfErr result
+            (λ kept. kept ≡ option_map
+            (λ l. start_number l.worker self.now.events) (lease_of back.now.worker (leases self.now.events))) }
     {
         let _starts = self.starts;
         let worker = back.worker();
@@ -571,7 +595,9 @@ impl Hall {
 
     /// Whether the lease that a worker has out is of this node of a job.
     pub(crate) fn holds(&self, worker: u32, tenant: &Name, job: &Name, index: u32) -> bool
-        ensures value { IsTrue result ↔ (lease_of worker (leases self.now.events) ≡ Some (record { worker = worker; key = keyed tenant.now job.now; index = index })) }
+        ensures value { IsTrue result
+            ↔ (lease_of worker (leases self.now.events) ≡ Some
+            (record { worker = worker; key = keyed tenant.now job.now; index = index })) }
         ensures some { result ≡ true → 1 ≤ worker }
     {
         let _starts = self.starts;

@@ -20,7 +20,10 @@ pub fn tenants_after(tenants: usize, jobs: usize) -> Result<usize, OpenFault>
     ensures count { IfOk result (λ n. n ≡ tenants + (if 0 == jobs then 1 else 0)) }
     ensures few { IfOk result (λ n. jobs < 64) }
     ensures others { IfOk result (λ n. jobs ≡ 0 → tenants < 64) }
-    ensures refusal { IfErr result (λ fault. (k : Key) (ask : Terms) (past : List Event) → job_of k (states past) ≡ None → jobs ≡ jobs_of k.tenant (states past) → tenants ≡ tenant_count (states past) → IsOpening past k ask (Err fault) []) }
+    ensures refusal { IfErr result
+        (λ fault. (k : Key) (ask : Terms) (past : List Event) → job_of k (states past) ≡ None
+        → jobs ≡ jobs_of k.tenant (states past) → tenants ≡ tenant_count (states past)
+        → IsOpening past k ask (Err fault) []) }
 {
     if jobs >= 64 {
         return Err(OpenFault::TenantFull);
@@ -42,7 +45,9 @@ pub fn next_number(job: &Job, revision: &Revision) -> Result<u32, ReviseFault>
     ensures few { IfOk result (λ n. length job.now.titled.state.revisions < 256) }
     ensures room { IfOk result (λ n. HasRoomFor job.now.titled.state.revisions revision.now) }
     ensures form { is_posted revision.now ≡ true }
-    ensures refusal { IfErr result (λ fault. (k : Key) (past : List Event) → job_of k (states past) ≡ Some job.now.titled → IsRevising past k revision.now (Err fault) []) }
+    ensures refusal { IfErr result
+        (λ fault. (k : Key) (past : List Event) → job_of k (states past) ≡ Some job.now.titled
+        → IsRevising past k revision.now (Err fault) []) }
 {
     let _ = revision.clauses();
     if job.is_closed() {
@@ -61,7 +66,8 @@ pub fn next_number(job: &Job, revision: &Revision) -> Result<u32, ReviseFault>
 /// Which limit of a job a further revision would pass: 2^20 clauses, then 2^24 literals, over all revisions. The job
 /// keeps both numbers.
 fn limit_passed(job: &Job, revision: &Revision) -> Option<LimitKind>
-    ensures limit { MatchOption result (HasRoomFor job.now.titled.state.revisions revision.now) (λ which. IsOver which job.now.titled.state.revisions revision.now) }
+    ensures limit { MatchOption result (HasRoomFor job.now.titled.state.revisions revision.now)
+        (λ which. IsOver which job.now.titled.state.revisions revision.now) }
     ensures form { is_posted revision.now ≡ true }
 {
     let clauses = job.clauses() as u64 + revision.clauses().len() as u64;

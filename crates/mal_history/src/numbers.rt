@@ -12,7 +12,8 @@ use mal_text::{NumberFault, number};
 
 /// The number that a word says, from `low` to `high`. None where it says no such number.
 pub fn in_range(word: &[u8], low: u32, high: u32) -> Option<u32>
-    ensures value { MatchOption result (in_range low high word.now ≡ Err BadNumber) (λ n. in_range low high word.now ≡ Ok n) }
+    ensures value { MatchOption result (in_range low high word.now ≡ Err BadNumber)
+        (λ n. in_range low high word.now ≡ Ok n) }
     ensures some { IfSome result (λ n. low ≤ n) }
     ensures bound { IfSome result (λ n. n ≤ high) }
 {

@@ -38,7 +38,8 @@ fn tell(
     job: Name,
     event: &Event,
 ) -> Result<u32, AllocError>
-    ensures { IfOk result (λ v. told_of own.new.items v ≡ own_step tenant job (told_of own.old.items volume) event.now) }
+    ensures { IfOk result
+        (λ v. told_of own.new.items v ≡ own_step tenant job (told_of own.old.items volume) event.now) }
 {
     match event {
         Event::Balance { volumes } => {
@@ -119,7 +120,8 @@ fn tell(
 
 /// Puts an event behind those told so far, where it is one of the job.
 fn put(own: &mut Vec<Event>, mine: bool, event: Event) -> Result<(), AllocError>
-    ensures { (volume : ℕ) → OnOk result (told_of own.new.items volume ≡ tells mine event (told_of own.old.items volume)) }
+    ensures { (volume : ℕ)
+        → OnOk result (told_of own.new.items volume ≡ tells mine event (told_of own.old.items volume)) }
 {
     if mine {
         own.push(event)?;
@@ -136,7 +138,8 @@ fn tell_volume(
     job: Name,
     volume: u32,
 ) -> Result<u32, AllocError>
-    ensures { IfOk result (λ v. told_of own.new.items v ≡ tells_volume tenant job volume (told_of own.old.items before)) }
+    ensures { IfOk result
+        (λ v. told_of own.new.items v ≡ tells_volume tenant job volume (told_of own.old.items before)) }
 {
     if volume == before {
         return Ok(before);

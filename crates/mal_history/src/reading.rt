@@ -32,7 +32,9 @@ pub fn read(alloc: Global, text: &[u8]) -> Result<History, HistoryFault>
     // What is spelled so is read, unless memory runs out.
     ensures only { (h : Read) → Spells text.now h → MatchResult result (λ x. seen x ≡ h) (λ e. e ≡ OutOfMemory) }
     // The text of a history in form is read as its events, unless memory runs out; what is read is in form.
-    ensures again { (workers : ℕ) (events : List Event) → IsHistory workers events → text.now ≡ history_text workers events → MatchResult result (λ h. (h.workers ≡ workers) × (h.events ≡ events)) (λ e. e ≡ OutOfMemory) }
+    ensures again { (workers : ℕ) (events : List Event) → IsHistory workers events
+        → text.now ≡ history_text workers events
+        → MatchResult result (λ h. (h.workers ≡ workers) × (h.events ≡ events)) (λ e. e ≡ OutOfMemory) }
     ensures formed { IfOk result (λ h. IsFormed (seen h)) }
 {
     read_history(alloc, text, MOST_EVENTS)
@@ -93,7 +95,9 @@ fn put_event(
     max: usize,
 ) -> Result<(), HistoryFault>
     requires { length history.old.lines ≡ length history.old.events }
-    ensures { Puts history.old history.new line result (on_line line (next_event max history.old.workers (length history.old.events) (first.now ∷ words_of others.now))) }
+    ensures { Puts history.old history.new line result
+        (on_line line
+        (next_event max history.old.workers (length history.old.events) (first.now ∷ words_of others.now))) }
 {
     let workers = history.workers();
     match next_event(alloc, first, others, workers, history.events(), max) {

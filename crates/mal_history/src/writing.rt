@@ -119,7 +119,8 @@ fn put_revise(out: &mut Vec<u8>, tenant: &Name, job: &Name, number: u32) -> Resu
 
 /// Writes the line of a balancing.
 fn put_balance(out: &mut Vec<u8>, shares: &[Arc<Share>]) -> Result<(), AllocError>
-    ensures { OnOk result (out.new.items ≡ out.old.items ++ line_of (codes "b" ∷ flat_map share_words (shared shares.now))) }
+    ensures { OnOk result
+        (out.new.items ≡ out.old.items ++ line_of (codes "b" ∷ flat_map share_words (shared shares.now))) }
 {
     out.push(b'b')?;
     for share in shares {
@@ -140,7 +141,9 @@ fn put_share(out: &mut Vec<u8>, share: &Share) -> Result<(), AllocError>
 
 /// Writes the line of a start of a node on a worker.
 fn put_start(out: &mut Vec<u8>, assigned: Assignment) -> Result<(), AllocError>
-    ensures { OnOk result (out.new.items ≡ out.old.items ++ line_of (event_words (Start assigned.tenant assigned.job assigned.index assigned.worker))) }
+    ensures { OnOk result
+        (out.new.items
+        ≡ out.old.items ++ line_of (event_words (Start assigned.tenant assigned.job assigned.index assigned.worker))) }
 {
     out.push(b's')?;
     put_assignment(out, assigned)?;
@@ -150,7 +153,10 @@ fn put_start(out: &mut Vec<u8>, assigned: Assignment) -> Result<(), AllocError>
 
 /// Writes the line of the end of a start.
 fn put_finish(out: &mut Vec<u8>, assigned: Assignment, outcome: Outcome) -> Result<(), AllocError>
-    ensures { OnOk result (out.new.items ≡ out.old.items ++ line_of (event_words (Finish assigned.tenant assigned.job assigned.index assigned.worker outcome))) }
+    ensures { OnOk result
+        (out.new.items
+        ≡ out.old.items
+        ++ line_of (event_words (Finish assigned.tenant assigned.job assigned.index assigned.worker outcome))) }
 {
     out.push(b'f')?;
     put_assignment(out, assigned)?;

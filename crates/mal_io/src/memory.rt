@@ -175,7 +175,9 @@ impl<'a> Sink for MemSink<'a> {
         ensures later { (sink_calls self.old).faults ≤ (sink_calls self.new).faults }
         ensures cause { OnErr result (Rose (sink_calls self.old).faults (sink_calls self.new).faults) }
         ensures counted { OnOk result ((sink_calls self.new).faults ≡ (sink_calls self.old).faults) }
-        ensures told { IsErr result ↔ (FailsNext (sink_calls self.old).failing.now (sink_calls self.old).calls ⊎ IsFull (sink_room self.old) bytes.now) }
+        ensures told { IsErr result
+            ↔ (FailsNext (sink_calls self.old).failing.now (sink_calls self.old).calls
+            ⊎ IsFull (sink_room self.old) bytes.now) }
         ensures few { IfOk result (λ n. n ≤ (sink_calls self.old).piece) }
         ensures room { IfOk result (λ n. sink_room self.new + n ≡ sink_room self.old) }
         ensures calls { (sink_calls self.new).calls ≡ min ((sink_calls self.old).calls + 1) (2 ^ 64 - 1) }

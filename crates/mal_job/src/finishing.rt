@@ -24,12 +24,15 @@ pub fn finish_run(
     requires ran { back.outcome ≡ Ran }
     requires back { IsBackAt (placed tree.old index) back }
     requires few { tree.old.ran < 2 ^ 31 }
-    requires live { length questions.old.answers ≤ revision_of (placed tree.old index).out → length questions.old.answers < length questions.old.revisions }
+    requires live { length questions.old.answers ≤ revision_of (placed tree.old index).out
+        → length questions.old.answers < length questions.old.revisions }
     requires room { 1 ≤ log.old.chunk_room }
     requires countable { length log.old.lines + length back.lines < 2 ^ 64 }
     requires orderly { IsOrderly (log.old.lines ++ back.lines) }
     ensures tree { tree.new ≡ one_more_ran (with_placed tree.old index (ran_home (placed tree.old index))) }
-    ensures questions { questions.new ≡ settled_with (first_empty log.new.lines) (concluded_by (revision_of (placed tree.old index).out) back.verdict back.model questions.old) }
+    ensures questions { questions.new
+        ≡ settled_with (first_empty log.new.lines)
+        (concluded_by (revision_of (placed tree.old index).out) back.verdict back.model questions.old) }
     ensures log { log.new.lines ≡ log.old.lines ++ back.lines }
     ensures less { log.new.chunk_room + 1 ≡ log.old.chunk_room }
     ensures asked { IsAsked questions.new }
@@ -57,9 +60,12 @@ pub fn finish_starved(
 )
     requires starved { back.outcome ≡ Starved }
     requires back { IsBackAt (placed tree.old index) back }
-    requires live { length questions.old.answers ≤ revision_of (placed tree.old index).out → length questions.old.answers < length questions.old.revisions }
+    requires live { length questions.old.answers ≤ revision_of (placed tree.old index).out
+        → length questions.old.answers < length questions.old.revisions }
     ensures tree { tree.new ≡ with_placed tree.old index (came_home (placed tree.old index)) }
-    ensures questions { questions.new ≡ settled_with (first_empty log.now.lines) (starved_by (revision_of (placed tree.old index).out) questions.old) }
+    ensures questions { questions.new
+        ≡ settled_with (first_empty log.now.lines)
+        (starved_by (revision_of (placed tree.old index).out) questions.old) }
     ensures asked { IsAsked questions.new }
     ensures kept { IsTree tree.new }
 {

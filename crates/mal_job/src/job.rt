@@ -61,7 +61,9 @@ impl Job {
         job: Name,
         ask: Ask,
     ) -> Result<Job, AllocError>
-        ensures { IfOk result (λ j. j ≡ unstarted number (record { key = record { tenant = tenant; job = job }; state = solo_step unopened (Opened ask) })) }
+        ensures { IfOk result
+            (λ j. j ≡ unstarted number
+            (record { key = record { tenant = tenant; job = job }; state = solo_step unopened (Opened ask) })) }
     {
         Ok(Job {
             tenant,
@@ -183,7 +185,10 @@ impl Job {
     fn tell(&self, r: u32, answer: &Answer) -> Result<Vec<u8>, AllocError>
         requires first { 1 ≤ r }
         requires posted { r ≤ length self.now.titled.state.revisions }
-        ensures { IfOk result (λ text. text.items ≡ reply_text self.now.titled.key.tenant self.now.titled.key.job r self.now.titled.state.ask.profile (told_by self.now.titled.state (r - 1) answer.now)) }
+        ensures { IfOk result
+            (λ text. text.items
+            ≡ reply_text self.now.titled.key.tenant self.now.titled.key.job r self.now.titled.state.ask.profile
+            (told_by self.now.titled.state (r - 1) answer.now)) }
     {
         let alloc = self.questions.allocator();
         let profile = self.questions.ask().profile();
@@ -205,7 +210,11 @@ impl Job {
     fn tell_proof(&self, r: u32, goal: ClauseId) -> Result<Vec<u8>, AllocError>
         requires first { 1 ≤ r }
         requires posted { r ≤ length self.now.titled.state.revisions }
-        ensures { IfOk result (λ text. text.items ≡ reply_text self.now.titled.key.tenant self.now.titled.key.job r self.now.titled.state.ask.profile (Proof (failed goal self.now.titled.state.log) (proof_lines self.now.titled.state.revisions self.now.titled.state.log (r - 1) goal))) }
+        ensures { IfOk result
+            (λ text. text.items
+            ≡ reply_text self.now.titled.key.tenant self.now.titled.key.job r self.now.titled.state.ask.profile
+            (Proof (failed goal self.now.titled.state.log)
+            (proof_lines self.now.titled.state.revisions self.now.titled.state.log (r - 1) goal))) }
     {
         let alloc = self.questions.allocator();
         let needed = self.log.log().trim(goal)?;

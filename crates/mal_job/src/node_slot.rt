@@ -134,10 +134,14 @@ impl NodeSlot {
         worker: u32,
     ) -> Result<Lease, AllocError>
         requires home { self.old.out ≡ None }
-        requires replays { MayAllReplay (replayed self.old.journal) (start_entries (shared_loads loads.items) (shared_tolds imports.items)) }
-        ensures ok { OnOk result (self.new ≡ sent revision (start_entries (shared_loads loads.items) (shared_tolds imports.items)) start self.old) }
+        requires replays { MayAllReplay (replayed self.old.journal)
+            (start_entries (shared_loads loads.items) (shared_tolds imports.items)) }
+        ensures ok { OnOk result
+            (self.new
+            ≡ sent revision (start_entries (shared_loads loads.items) (shared_tolds imports.items)) start self.old) }
         ensures journal { IfOk result (λ l. l.journal ≡ started start self.old.journal) }
-        ensures adds { IfOk result (λ l. l.adds ≡ start_entries (shared_loads loads.items) (shared_tolds imports.items)) }
+        ensures adds { IfOk result
+            (λ l. l.adds ≡ start_entries (shared_loads loads.items) (shared_tolds imports.items)) }
         ensures worker { IfOk result (λ l. l.worker ≡ worker) }
         ensures err { OnErr result (self.new ≡ self.old) }
         ensures own_job { self.new.journal.job ≡ self.old.journal.job }
@@ -159,9 +163,13 @@ impl NodeSlot {
         loads: &[(Arc<Revision>, u32)],
         imports: &[Arc<Buffer>],
     ) -> Result<(u64, Journal), AllocError>
-        requires { MayAllReplay (replayed self.now.journal) (start_entries (shared_loads loads.now) (shared_tolds imports.now)) }
+        requires { MayAllReplay (replayed self.now.journal)
+            (start_entries (shared_loads loads.now) (shared_tolds imports.now)) }
         ensures starts { IfOk result (λ r. r.0 ≡ self.now.starts + 1) }
-        ensures grown { IfOk result (λ r. r.1 ≡ and_entries (started start self.now.journal) (start_entries (shared_loads loads.now) (shared_tolds imports.now))) }
+        ensures grown { IfOk result
+            (λ r. r.1
+            ≡ and_entries (started start self.now.journal)
+            (start_entries (shared_loads loads.now) (shared_tolds imports.now))) }
     {
         let starts = match self.starts.checked_add(1) {
             Some(starts) => starts,
@@ -181,10 +189,12 @@ impl NodeSlot {
         worker: u32,
     ) -> Result<Lease, AllocError>
         requires home { self.old.out ≡ None }
-        requires replays { MayAllReplay (replayed self.old.journal) (start_entries (shared_loads loads.items) (shared_tolds imports.items)) }
+        requires replays { MayAllReplay (replayed self.old.journal)
+            (start_entries (shared_loads loads.items) (shared_tolds imports.items)) }
         ensures same { self.new ≡ self.old }
         ensures journal { IfOk result (λ l. l.journal ≡ started start self.old.journal) }
-        ensures adds { IfOk result (λ l. l.adds ≡ start_entries (shared_loads loads.items) (shared_tolds imports.items)) }
+        ensures adds { IfOk result
+            (λ l. l.adds ≡ start_entries (shared_loads loads.items) (shared_tolds imports.items)) }
         ensures worker { IfOk result (λ l. l.worker ≡ worker) }
     {
         let kept = self.hand_out()?;

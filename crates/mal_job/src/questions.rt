@@ -39,13 +39,17 @@ impl Model for Questions {
 
     ghost view = { λ q. questions_of q.ask q.closed (shared q.revisions.items) q.answers.items q.spent q.starved };
 
-    ghost invariant = { λ q. IsAsked (questions_of q.ask q.closed (shared q.revisions.items) q.answers.items q.spent q.starved) × (length q.revisions.items ≤ vec_capacity q.answers) × AreSums (shared q.revisions.items) q.clauses q.literals };
+    ghost invariant = { λ q. IsAsked
+        (questions_of q.ask q.closed (shared q.revisions.items) q.answers.items q.spent q.starved)
+        × (length q.revisions.items ≤ vec_capacity q.answers)
+        × AreSums (shared q.revisions.items) q.clauses q.literals };
 }
 
 impl Questions {
     /// Nothing but an ask. Takes no memory.
     pub fn fresh(alloc: Global, ask: Ask) -> Questions
-        ensures value { result ≡ record { ask = ask; closed = false; revisions = []; answers = []; spent = 0; starved = 0 } }
+        ensures value { result
+            ≡ record { ask = ask; closed = false; revisions = []; answers = []; spent = 0; starved = 0 } }
         ensures kept { IsAsked result }
     {
         let _ = ask.slices();

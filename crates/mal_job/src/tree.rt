@@ -46,7 +46,8 @@ impl Model for Tree {
 
     ghost view = { λ t. record { number = t.number; profile = t.profile; volume = t.volume; places = t.places.items; broadcasts = shared t.broadcasts.items; ran = t.ran } };
 
-    ghost invariant = { λ t. IsTree (record { number = t.number; profile = t.profile; volume = t.volume; places = t.places.items; broadcasts = shared t.broadcasts.items; ran = t.ran }) };
+    ghost invariant = { λ t. IsTree
+        (record { number = t.number; profile = t.profile; volume = t.volume; places = t.places.items; broadcasts = shared t.broadcasts.items; ran = t.ran }) };
 }
 
 impl Tree {
@@ -55,7 +56,8 @@ impl Tree {
     pub fn fresh(alloc: Global, number: u64, profile: u32) -> Tree
         requires some { 1 ≤ profile }
         requires bound { profile ≤ 2 }
-        ensures value { result ≡ record { number = number; profile = profile; volume = 0; places = []; broadcasts = []; ran = 0 } }
+        ensures value { result
+            ≡ record { number = number; profile = profile; volume = 0; places = []; broadcasts = []; ran = 0 } }
         ensures kept { IsTree result }
     {
         Tree {
@@ -181,10 +183,21 @@ impl Tree {
     ) -> Result<Lease, AllocError>
         requires place { index < length self.old.places }
         requires home { (placed self.old index).out ≡ None }
-        requires replays { MayAllReplay (replayed (placed self.old index).journal) (start_entries (shared_loads loads.items) (drop (imports_in (placed self.old index).journal.entries) self.old.broadcasts)) }
-        ensures ok { OnOk result (self.new ≡ with_placed self.old index (sent revision (start_entries (shared_loads loads.items) (drop (imports_in (placed self.old index).journal.entries) self.old.broadcasts)) start (placed self.old index))) }
+        requires replays { MayAllReplay (replayed (placed self.old index).journal)
+            (start_entries (shared_loads loads.items)
+            (drop (imports_in (placed self.old index).journal.entries) self.old.broadcasts)) }
+        ensures ok { OnOk result
+            (self.new
+            ≡ with_placed self.old index
+            (sent revision
+            (start_entries (shared_loads loads.items)
+            (drop (imports_in (placed self.old index).journal.entries) self.old.broadcasts)) start
+            (placed self.old index))) }
         ensures journal { IfOk result (λ l. l.journal ≡ started start (placed self.old index).journal) }
-        ensures adds { IfOk result (λ l. l.adds ≡ start_entries (shared_loads loads.items) (drop (imports_in (placed self.old index).journal.entries) self.old.broadcasts)) }
+        ensures adds { IfOk result
+            (λ l. l.adds
+            ≡ start_entries (shared_loads loads.items)
+            (drop (imports_in (placed self.old index).journal.entries) self.old.broadcasts)) }
         ensures worker { IfOk result (λ l. l.worker ≡ worker) }
         ensures err { OnErr result (self.new ≡ self.old) }
         ensures kept { IsTree self.new }
@@ -209,7 +222,8 @@ impl Tree {
     /// 0. Takes no memory.
     pub fn come_back(&mut self, index: u32, kept: Kept) -> usize
         requires out { is_some (placed self.old index).out ≡ true }
-        requires back { journal_of kept ≡ and_entries (placed self.old index).journal (adds_of (placed self.old index).out) }
+        requires back { journal_of kept
+            ≡ and_entries (placed self.old index).journal (adds_of (placed self.old index).out) }
         requires few { self.old.ran < 2 ^ 31 }
         ensures value { self.new ≡ one_more_ran (with_placed self.old index (ran_home (placed self.old index))) }
         ensures revision { result ≡ revision_of (placed self.old index).out }
@@ -271,7 +285,15 @@ impl Tree {
     pub fn exchange(&mut self, log: &Log) -> Result<(), AllocError>
         requires rising { All (λ line. rises line.lits ≡ true) log.now.lines }
         requires volume { self.old.volume ≤ length self.old.places }
-        ensures ok { OnOk result (self.new ≡ record self.old { broadcasts = self.old.broadcasts ++ broadcast (exports_from self.old.volume log.now.lines 0 (places_of self.old.places)) ∷ []; places = marked self.old.volume (length log.now.lines) self.old.places; ran = 0 }) }
+        ensures ok { OnOk result
+            (self.new
+            ≡ record self.old {
+              broadcasts = self.old.broadcasts
+                  ++ broadcast (exports_from self.old.volume log.now.lines 0 (places_of self.old.places))
+                  ∷ [];
+              places = marked self.old.volume (length log.now.lines) self.old.places;
+              ran = 0;
+            }) }
         ensures err { OnErr result (self.new ≡ self.old) }
         ensures kept { IsTree self.new }
     {

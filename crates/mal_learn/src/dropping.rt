@@ -33,7 +33,11 @@ impl Model for Choice {
 
     ghost Value = { Choice };
 
-    ghost view = { λ c. record { ids = min (vec_capacity c.candidates) (vec_capacity c.chosen); chosen = c.chosen.items } };
+    ghost view = { λ c. record {
+      ids = min (vec_capacity c.candidates)
+          (vec_capacity c.chosen);
+      chosen = c.chosen.items;
+    } };
 }
 
 impl Choice {
@@ -124,7 +128,8 @@ fn may_go<T: TrailView>(trail: &T, id: ClauseId, lits: &[Lit]) -> bool
 /// Gathers the clauses that may go.
 fn gather<T: TrailView, E: Listed>(trail: &T, engine: &E, candidates: &mut Vec<Candidate>)
     requires { length (E.clauses engine.now) ≤ vec_capacity candidates.old }
-    ensures candidates { candidates.new.items ≡ map candidate_of (filter (may_go (T.entries trail.now)) (E.clauses engine.now)) }
+    ensures candidates { candidates.new.items
+        ≡ map candidate_of (filter (may_go (T.entries trail.now)) (E.clauses engine.now)) }
     ensures capacity { vec_capacity candidates.new ≡ vec_capacity candidates.old }
     ensures short { vec_len candidates.new ≤ length (E.clauses engine.now) }
 {
@@ -143,7 +148,8 @@ fn gather<T: TrailView, E: Listed>(trail: &T, engine: &E, candidates: &mut Vec<C
 /// Takes the numbers of the longer half of candidates, the longest first.
 fn take_longer_half(candidates: &mut Vec<Candidate>, chosen: &mut Vec<ClauseId>)
     requires { vec_len candidates.old ≤ vec_capacity chosen.old }
-    ensures chosen { (clauses : List NumberedClause) → candidates.old.items ≡ map candidate_of clauses → chosen.new.items ≡ map (λ c. c.id) (longer_half clauses) }
+    ensures chosen { (clauses : List NumberedClause) → candidates.old.items ≡ map candidate_of clauses
+        → chosen.new.items ≡ map (λ c. c.id) (longer_half clauses) }
     ensures candidate_capacity { vec_capacity candidates.new ≡ vec_capacity candidates.old }
     ensures capacity { vec_capacity chosen.new ≡ vec_capacity chosen.old }
 {

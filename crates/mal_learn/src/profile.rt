@@ -18,7 +18,8 @@ pub fn analyse_in<T: TrailView, C: ClauseView>(
     scratch: &mut Scratch,
 )
     requires { HasRoom 1 scratch.old.room (T.entries trail.now) (C.clauses clauses.now) }
-    ensures { HasLeft (analysed_in profile (C.clauses clauses.now) (reverse (T.entries trail.now)) conflict) scratch.old scratch.new }
+    ensures { HasLeft
+        (analysed_in profile (C.clauses clauses.now) (reverse (T.entries trail.now)) conflict) scratch.old scratch.new }
 {
     analyse(trail, clauses, conflict, scratch);
     if is_shortening(profile) {

@@ -156,7 +156,8 @@ pub fn analyse<T: TrailView, C: ClauseView>(
     scratch: &mut Scratch,
 )
     requires { HasRoom 1 scratch.old.room (T.entries trail.now) (C.clauses clauses.now) }
-    ensures { HasLeft (analysed (C.clauses clauses.now) (reverse (T.entries trail.now)) conflict) scratch.old scratch.new }
+    ensures { HasLeft
+        (analysed (C.clauses clauses.now) (reverse (T.entries trail.now)) conflict) scratch.old scratch.new }
 {
     let level = current_level(trail);
     scratch.work.begin(trail, clauses, conflict, level);
@@ -170,7 +171,9 @@ pub fn analyse<T: TrailView, C: ClauseView>(
 pub fn shorten<T: TrailView, C: ClauseView>(trail: &T, clauses: &C, scratch: &mut Scratch)
     requires room { HasRoom 1 scratch.old.room (T.entries trail.now) (C.clauses clauses.now) }
     requires analysed { 1 ≤ length scratch.old.hints }
-    ensures { HasLeft (shortened (C.clauses clauses.now) (reverse (T.entries trail.now)) (last_of scratch.old.hints)) scratch.old scratch.new }
+    ensures { HasLeft
+        (shortened (C.clauses clauses.now) (reverse (T.entries trail.now))
+        (last_of scratch.old.hints)) scratch.old scratch.new }
 {
     let conflict = scratch.work.last_hint();
     let level = current_level(trail);
@@ -193,7 +196,8 @@ pub fn final_core<T: TrailView, C: ClauseView>(
     scratch: &mut Scratch,
 )
     requires { HasRoom 2 scratch.old.room (T.entries trail.now) (C.clauses clauses.now) }
-    ensures { HasLeft (core (C.clauses clauses.now) (reverse (T.entries trail.now)) assumption) scratch.old scratch.new }
+    ensures { HasLeft
+        (core (C.clauses clauses.now) (reverse (T.entries trail.now)) assumption) scratch.old scratch.new }
 {
     let negation = assumption.negate();
     let count = count_to(trail, negation);

@@ -39,7 +39,8 @@ impl Model for Work {
       room = w.room;
     } };
 
-    ghost invariant = { λ w. IsFitted w.room (length w.seen) (length w.here) (vec_capacity w.lits) (vec_capacity w.hints) };
+    ghost invariant = { λ w. IsFitted w.room (length w.seen) (length w.here) (vec_capacity w.lits)
+        (vec_capacity w.hints) };
 }
 
 impl Work {
@@ -202,7 +203,8 @@ impl Work {
     pub fn walk<T: TrailView, C: ClauseView>(&mut self, trail: &T, clauses: &C, level: u32)
         requires room { HasWalkRoom (T.entries trail.now) self.old }
         requires within { ClausesWithin self.old.room (C.clauses clauses.now) }
-        ensures state { self.new.state ≡ visited_all (C.clauses clauses.now) level (reverse (T.entries trail.now)) self.old.state }
+        ensures state { self.new.state
+            ≡ visited_all (C.clauses clauses.now) level (reverse (T.entries trail.now)) self.old.state }
         ensures room { self.new.room ≡ self.old.room }
     {
         let count = trail.len();
@@ -236,7 +238,8 @@ impl Work {
         requires fits { self.old.room ≤ length base.now }
         requires lit_room { length self.old.state.lits + 1 < self.old.room }
         requires hint_room { length self.old.state.hints < self.old.room }
-        ensures state { self.new.state ≡ by_shorter_reason (C.clauses clauses.now) level base.now entry self.old.state entry.reason }
+        ensures state { self.new.state
+            ≡ by_shorter_reason (C.clauses clauses.now) level base.now entry self.old.state entry.reason }
         ensures room { self.new.room ≡ self.old.room }
     {
         match entry.reason {
@@ -286,7 +289,9 @@ impl Work {
         requires var { var_of entry.lit < self.old.room }
         requires lit_room { length self.old.state.lits + 1 < self.old.room }
         requires hint_room { length self.old.state.hints < self.old.room }
-        ensures state { self.new.state ≡ shorter_state (C.clauses clauses.now) level entry (slice_set base.old (var_of entry.lit) false) self.old.state }
+        ensures state { self.new.state
+            ≡ shorter_state (C.clauses clauses.now) level entry
+            (slice_set base.old (var_of entry.lit) false) self.old.state }
         ensures base { base.new ≡ slice_set base.old (var_of entry.lit) false }
         ensures room { self.new.room ≡ self.old.room }
     {
@@ -314,7 +319,9 @@ impl Work {
         requires room { HasWalkRoom (T.entries trail.now) self.old }
         requires within { ClausesWithin self.old.room (C.clauses clauses.now) }
         requires fits { self.old.room ≤ length base.old }
-        ensures walk { record { state = self.new.state; base = base.new } ≡ shorter_visited_all (C.clauses clauses.now) level (reverse (T.entries trail.now)) (record { state = self.old.state; base = base.old }) }
+        ensures walk { record { state = self.new.state; base = base.new }
+            ≡ shorter_visited_all (C.clauses clauses.now) level (reverse (T.entries trail.now))
+            (record { state = self.old.state; base = base.old }) }
         ensures len { length base.new ≡ length base.old }
         ensures room { self.new.room ≡ self.old.room }
     {
@@ -327,7 +334,16 @@ impl Work {
 
     /// Forgets all.
     fn forget(&mut self)
-        ensures state { self.new.state ≡ (record { seen = replicate (length self.old.state.seen) false; here = replicate (length self.old.state.here) false; left = 0; lits = []; hints = []; level = 0 }) }
+        ensures state { self.new.state
+            ≡ (record {
+              seen = replicate (length self.old.state.seen) false;
+              here = replicate
+                  (length self.old.state.here) false;
+              left = 0;
+              lits = [];
+              hints = [];
+              level = 0;
+            }) }
         ensures fits { IsFitted self.old.room (length self.old.state.seen) (length self.old.state.here) 65537 65537 }
         ensures room { self.new.room ≡ self.old.room }
     {
@@ -351,7 +367,17 @@ impl Work {
         requires some { 1 ≤ self.old.room }
         requires entries { EntriesWithin self.old.room (T.entries trail.now) }
         requires within { ClausesWithin self.old.room (C.clauses clauses.now) }
-        ensures state { self.new.state ≡ see_all (lits_of (C.clauses clauses.now) conflict) (record { seen = replicate (length self.old.state.seen) false; here = here_all level (T.entries trail.now) (replicate (length self.old.state.here) false); left = 0; lits = []; hints = conflict ∷ []; level = 0 }) }
+        ensures state { self.new.state ≡ see_all (lits_of (C.clauses clauses.now) conflict)
+            (record {
+              seen = replicate (length self.old.state.seen) false;
+              here = here_all level (T.entries trail.now)
+                  (replicate (length self.old.state.here) false);
+              left = 0;
+              lits = [];
+              hints = conflict
+                  ∷ [];
+              level = 0;
+            }) }
         ensures fits { IsFitted self.old.room (length self.old.state.seen) (length self.old.state.here) 65537 65537 }
         ensures room { self.new.room ≡ self.old.room }
     {
@@ -399,7 +425,8 @@ impl Work {
         requires count { count ≤ length (T.entries trail.now) }
         requires lit_room { count + length self.old.state.lits < self.old.room }
         requires hint_room { count + length self.old.state.hints ≤ self.old.room }
-        ensures state { self.new.state ≡ traced_all (C.clauses clauses.now) (reverse (take count (T.entries trail.now))) self.old.state }
+        ensures state { self.new.state
+            ≡ traced_all (C.clauses clauses.now) (reverse (take count (T.entries trail.now))) self.old.state }
         ensures room { self.new.room ≡ self.old.room }
     {
         for made in 0..count {
@@ -416,7 +443,8 @@ impl Work {
         requires count { count ≤ length (T.entries trail.now) }
         requires lit_room { count + length self.old.state.lits ≤ self.old.room }
         requires hint_room { count + length self.old.state.hints ≤ self.old.room }
-        ensures state { self.new.state ≡ traced_from (C.clauses clauses.now) (reverse (take count (T.entries trail.now))) self.old.state }
+        ensures state { self.new.state
+            ≡ traced_from (C.clauses clauses.now) (reverse (take count (T.entries trail.now))) self.old.state }
         ensures room { self.new.room ≡ self.old.room }
     {
         if count == 0 {

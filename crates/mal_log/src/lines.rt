@@ -19,8 +19,10 @@ use std::sync::Arc;
 /// Hands the text of a history to `sink`, some 16,000 bytes at a time; its count of faults then stays. After a fault the
 /// sink got a front of the text. It takes no memory.
 pub fn write<K: Sink>(sink: &mut K, history: &History) -> Result<(), WriteFault>
-    ensures all { OnOk result (Appends (K.got sink.old) (K.got sink.new) (history_text history.now.workers history.now.events)) }
-    ensures front { (front : List ℕ) × GotFront (K.got sink.old) (K.got sink.new) (history_text history.now.workers history.now.events) front }
+    ensures all { OnOk result
+        (Appends (K.got sink.old) (K.got sink.new) (history_text history.now.workers history.now.events)) }
+    ensures front { (front : List ℕ)
+        × GotFront (K.got sink.old) (K.got sink.new) (history_text history.now.workers history.now.events) front }
     ensures later { K.faults sink.old ≤ K.faults sink.new }
     ensures cause { OnErr result (Rose (K.faults sink.old) (K.faults sink.new)) }
     ensures counted { OnOk result (K.faults sink.new ≡ K.faults sink.old) }
@@ -35,7 +37,8 @@ pub fn write<K: Sink>(sink: &mut K, history: &History) -> Result<(), WriteFault>
 
 /// Puts the text of a history.
 fn put_history<K: Sink>(out: &mut Pieces, sink: &mut K, history: &History)
-    ensures { Puts K.got K.faults sink.old sink.new out.old out.new (history_text history.now.workers history.now.events) }
+    ensures { Puts K.got K.faults sink.old sink.new out.old out.new
+        (history_text history.now.workers history.now.events) }
 {
     let mut buffer = Buffer::new();
     let workers = buffer.format(history.workers()).as_bytes();
@@ -100,7 +103,8 @@ fn put_event<K: Sink>(out: &mut Pieces, sink: &mut K, event: &Event)
 
 /// Puts the line of the opening of a job. Profile 1 has no word.
 fn put_open<K: Sink>(out: &mut Pieces, sink: &mut K, tenant: &Name, job: &Name, ask: Ask)
-    ensures { Puts K.got K.faults sink.old sink.new out.old out.new (line_of (event_words (Open tenant.now job.now ask))) }
+    ensures { Puts K.got K.faults sink.old sink.new out.old out.new
+        (line_of (event_words (Open tenant.now job.now ask))) }
 {
     let mut priority = Buffer::new();
     let mut demand = Buffer::new();
@@ -123,7 +127,8 @@ fn put_open<K: Sink>(out: &mut Pieces, sink: &mut K, tenant: &Name, job: &Name, 
 
 /// Puts the line of a revision of a job.
 fn put_revise<K: Sink>(out: &mut Pieces, sink: &mut K, tenant: &Name, job: &Name, number: u32)
-    ensures { Puts K.got K.faults sink.old sink.new out.old out.new (line_of (event_words (Revise tenant.now job.now number))) }
+    ensures { Puts K.got K.faults sink.old sink.new out.old out.new
+        (line_of (event_words (Revise tenant.now job.now number))) }
 {
     let mut buffer = Buffer::new();
     let words = [
@@ -136,7 +141,8 @@ fn put_revise<K: Sink>(out: &mut Pieces, sink: &mut K, tenant: &Name, job: &Name
 
 /// Puts the line of a balancing.
 fn put_balance<K: Sink>(out: &mut Pieces, sink: &mut K, shares: &[Arc<Share>])
-    ensures { Puts K.got K.faults sink.old sink.new out.old out.new (line_of (codes "b" ∷ flat_map share_words (shared shares.now))) }
+    ensures { Puts K.got K.faults sink.old sink.new out.old out.new
+        (line_of (codes "b" ∷ flat_map share_words (shared shares.now))) }
 {
     out.put(sink, b"b");
     for share in shares {
@@ -167,7 +173,8 @@ fn put_node<K: Sink>(
     assigned: Assignment,
     others: &[&[u8]],
 )
-    ensures { Puts K.got K.faults sink.old sink.new out.old out.new (line_of (first.now ∷ (assignment_words assigned ++ map (λ w. w.now) others.now))) }
+    ensures { Puts K.got K.faults sink.old sink.new out.old out.new
+        (line_of (first.now ∷ (assignment_words assigned ++ map (λ w. w.now) others.now))) }
 {
     out.put(sink, first);
     put_assignment(out, sink, assigned);
@@ -177,7 +184,8 @@ fn put_node<K: Sink>(
 
 /// Puts the words of a node and its worker, each behind a space.
 fn put_assignment<K: Sink>(out: &mut Pieces, sink: &mut K, assigned: Assignment)
-    ensures { Puts K.got K.faults sink.old sink.new out.old out.new (flat_map (λ w. 32 ∷ w) (assignment_words assigned)) }
+    ensures { Puts K.got K.faults sink.old sink.new out.old out.new
+        (flat_map (λ w. 32 ∷ w) (assignment_words assigned)) }
 {
     let mut at = Buffer::new();
     let mut by = Buffer::new();
@@ -192,7 +200,8 @@ fn put_assignment<K: Sink>(out: &mut Pieces, sink: &mut K, assigned: Assignment)
 
 /// Puts a line of the words `first` and `others`.
 fn put_line<K: Sink>(out: &mut Pieces, sink: &mut K, first: &[u8], others: &[&[u8]])
-    ensures { Puts K.got K.faults sink.old sink.new out.old out.new (line_of (first.now ∷ map (λ w. w.now) others.now)) }
+    ensures { Puts K.got K.faults sink.old sink.new out.old out.new
+        (line_of (first.now ∷ map (λ w. w.now) others.now)) }
 {
     out.put(sink, first);
     put_words(out, sink, others);
@@ -201,7 +210,8 @@ fn put_line<K: Sink>(out: &mut Pieces, sink: &mut K, first: &[u8], others: &[&[u
 
 /// Puts words, each behind a space.
 fn put_words<K: Sink>(out: &mut Pieces, sink: &mut K, words: &[&[u8]])
-    ensures { Puts K.got K.faults sink.old sink.new out.old out.new (flat_map (λ w. 32 ∷ w) (map (λ w. w.now) words.now)) }
+    ensures { Puts K.got K.faults sink.old sink.new out.old out.new
+        (flat_map (λ w. 32 ∷ w) (map (λ w. w.now) words.now)) }
 {
     for word in words {
         put_word(out, sink, word);

@@ -106,7 +106,8 @@ impl Pieces {
 
 /// Hands bytes to a sink, unless it has failed before, and says whether it has now.
 fn handed<K: Sink>(failed: bool, sink: &mut K, bytes: &[u8]) -> bool
-    ensures { Puts K.got K.faults sink.old sink.new (record { bytes = bytes.now; failed = failed }) (record { bytes = []; failed = result }) [] }
+    ensures { Puts K.got K.faults sink.old sink.new (record { bytes = bytes.now; failed = failed })
+        (record { bytes = []; failed = result }) [] }
 {
     if failed {
         return true;

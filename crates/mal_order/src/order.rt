@@ -107,7 +107,8 @@ impl Order {
     pub fn append(&mut self, n: u32) -> Result<(), AllocError>
         requires { length self.old.list + n ≤ 65536 }
         ensures index { self.new.index ≡ self.old.index }
-        ensures list { OnOk result (self.new.list ≡ self.old.list ++ new_order self.old.index (length self.old.list) n) }
+        ensures list { OnOk result
+            (self.new.list ≡ self.old.list ++ new_order self.old.index (length self.old.list) n) }
         ensures unchanged { OnErr result (self.new.list ≡ self.old.list) }
         ensures passed { self.new.passed ≡ self.old.passed }
     {

@@ -120,7 +120,8 @@ impl Ring {
 
     /// The number behind the one at this place, or the first behind 0.
     pub fn next(&self, number: u32) -> u32
-        ensures { (p : ℕ) → number ≡ get_or (0 ∷ self.now.list) p 0 → p < length self.now.list → (result ≡ get_or self.now.list p 0) × (1 ≤ result) × (result < self.now.places) }
+        ensures { (p : ℕ) → number ≡ get_or (0 ∷ self.now.list) p 0 → p < length self.now.list
+            → (result ≡ get_or self.now.list p 0) × (1 ≤ result) × (result < self.now.places) }
     {
         self.after.get(number)
     }

@@ -15,8 +15,10 @@ use std::alloc::AllocError;
 /// than want of memory.
 pub fn post_left(hall: &mut Hall, jobs: &[ScriptJob], left: &[Left]) -> Result<bool, AllocError>
     ensures workers { hall.new.workers ≡ hall.old.workers }
-    ensures events { IfOk result (λ done. done ≡ true → hall.new.events ≡ posted_on hall.old.events (flat_map (left_by jobs.now) left.now)) }
-    ensures refused { IfOk result (λ done. done ≡ false → IsOneRefused hall.old.workers hall.old.events (flat_map (left_by jobs.now) left.now)) }
+    ensures events { IfOk result
+        (λ done. done ≡ true → hall.new.events ≡ posted_on hall.old.events (flat_map (left_by jobs.now) left.now)) }
+    ensures refused { IfOk result
+        (λ done. done ≡ false → IsOneRefused hall.old.workers hall.old.events (flat_map (left_by jobs.now) left.now)) }
 {
     for one in left {
         if !post_from(hall, jobs, one)? {
@@ -29,8 +31,10 @@ pub fn post_left(hall: &mut Hall, jobs: &[ScriptJob], left: &[Left]) -> Result<b
 /// Posts what one poster left: the rest of a job, and the later jobs of its tenant.
 fn post_from(hall: &mut Hall, jobs: &[ScriptJob], left: &Left) -> Result<bool, AllocError>
     ensures workers { hall.new.workers ≡ hall.old.workers }
-    ensures events { IfOk result (λ done. done ≡ true → hall.new.events ≡ posted_on hall.old.events (left_by jobs.now left.now)) }
-    ensures refused { IfOk result (λ done. done ≡ false → IsOneRefused hall.old.workers hall.old.events (left_by jobs.now left.now)) }
+    ensures events { IfOk result
+        (λ done. done ≡ true → hall.new.events ≡ posted_on hall.old.events (left_by jobs.now left.now)) }
+    ensures refused { IfOk result
+        (λ done. done ≡ false → IsOneRefused hall.old.workers hall.old.events (left_by jobs.now left.now)) }
 {
     if left.job >= jobs.len() {
         return Ok(true);
@@ -51,8 +55,12 @@ fn post_later(
 ) -> Result<bool, AllocError>
     requires { from ≤ length jobs.now }
     ensures workers { hall.new.workers ≡ hall.old.workers }
-    ensures events { IfOk result (λ done. done ≡ true → hall.new.events ≡ posted_on hall.old.events (flat_map job_posts (of_tenant tenant (drop from jobs.now)))) }
-    ensures refused { IfOk result (λ done. done ≡ false → IsOneRefused hall.old.workers hall.old.events (flat_map job_posts (of_tenant tenant (drop from jobs.now)))) }
+    ensures events { IfOk result
+        (λ done. done ≡ true
+        → hall.new.events ≡ posted_on hall.old.events (flat_map job_posts (of_tenant tenant (drop from jobs.now)))) }
+    ensures refused { IfOk result
+        (λ done. done ≡ false
+        → IsOneRefused hall.old.workers hall.old.events (flat_map job_posts (of_tenant tenant (drop from jobs.now)))) }
 {
     for place in from..jobs.len() {
         if !post_for(hall, tenant, &jobs[place])? {
@@ -65,8 +73,12 @@ fn post_later(
 /// Posts the revisions and the closing of a job, if it is the tenant's.
 fn post_for(hall: &mut Hall, tenant: Name, job: &ScriptJob) -> Result<bool, AllocError>
     ensures workers { hall.new.workers ≡ hall.old.workers }
-    ensures events { IfOk result (λ done. done ≡ true → hall.new.events ≡ posted_on hall.old.events (flat_map job_posts (of_tenant tenant (job.now ∷ [])))) }
-    ensures refused { IfOk result (λ done. done ≡ false → IsOneRefused hall.old.workers hall.old.events (flat_map job_posts (of_tenant tenant (job.now ∷ [])))) }
+    ensures events { IfOk result
+        (λ done. done ≡ true
+        → hall.new.events ≡ posted_on hall.old.events (flat_map job_posts (of_tenant tenant (job.now ∷ [])))) }
+    ensures refused { IfOk result
+        (λ done. done ≡ false
+        → IsOneRefused hall.old.workers hall.old.events (flat_map job_posts (of_tenant tenant (job.now ∷ [])))) }
 {
     if tenant == job.tenant() {
         return post_rest(hall, job, 0);
@@ -77,8 +89,10 @@ fn post_for(hall: &mut Hall, tenant: Name, job: &ScriptJob) -> Result<bool, Allo
 /// Posts the revisions of a job behind the first ones, of which there are so many, and its closing.
 fn post_rest(hall: &mut Hall, job: &ScriptJob, posted: usize) -> Result<bool, AllocError>
     ensures workers { hall.new.workers ≡ hall.old.workers }
-    ensures events { IfOk result (λ done. done ≡ true → hall.new.events ≡ posted_on hall.old.events (posts_behind posted job.now)) }
-    ensures refused { IfOk result (λ done. done ≡ false → IsOneRefused hall.old.workers hall.old.events (posts_behind posted job.now)) }
+    ensures events { IfOk result
+        (λ done. done ≡ true → hall.new.events ≡ posted_on hall.old.events (posts_behind posted job.now)) }
+    ensures refused { IfOk result
+        (λ done. done ≡ false → IsOneRefused hall.old.workers hall.old.events (posts_behind posted job.now)) }
 {
     if !post_revisions(hall, job, posted)? {
         return Ok(false);
@@ -93,8 +107,12 @@ fn post_rest(hall: &mut Hall, job: &ScriptJob, posted: usize) -> Result<bool, Al
 /// Posts the revisions of a job behind the first ones, of which there are so many.
 fn post_revisions(hall: &mut Hall, job: &ScriptJob, posted: usize) -> Result<bool, AllocError>
     ensures workers { hall.new.workers ≡ hall.old.workers }
-    ensures events { IfOk result (λ done. done ≡ true → hall.new.events ≡ posted_on hall.old.events (revise_posts job.now (drop posted job.now.revisions))) }
-    ensures refused { IfOk result (λ done. done ≡ false → IsOneRefused hall.old.workers hall.old.events (revise_posts job.now (drop posted job.now.revisions))) }
+    ensures events { IfOk result
+        (λ done. done ≡ true
+        → hall.new.events ≡ posted_on hall.old.events (revise_posts job.now (drop posted job.now.revisions))) }
+    ensures refused { IfOk result
+        (λ done. done ≡ false
+        → IsOneRefused hall.old.workers hall.old.events (revise_posts job.now (drop posted job.now.revisions))) }
 {
     for at in posted..job.revisions().len() {
         let revision = job.revisions()[at].copy()?;
@@ -113,7 +131,8 @@ fn post_revisions(hall: &mut Hall, job: &ScriptJob, posted: usize) -> Result<boo
 /// Posts: true where the post is taken, false where it is refused for another cause than want of memory.
 fn post_one(hall: &mut Hall, post: Post) -> Result<bool, AllocError>
     ensures workers { hall.new.workers ≡ hall.old.workers }
-    ensures events { IfOk result (λ done. done ≡ true → hall.new.events ≡ hall.old.events ++ event_of hall.old.events post ∷ []) }
+    ensures events { IfOk result
+        (λ done. done ≡ true → hall.new.events ≡ hall.old.events ++ event_of hall.old.events post ∷ []) }
     ensures refused { IfOk result (λ done. done ≡ false → IsOneRefused hall.old.workers hall.old.events (post ∷ [])) }
 {
     match hall.post(post) {

@@ -59,7 +59,8 @@ pub fn post_all<R: Wait, B: Board>(
 ) -> (B::Pass, Option<Left>)
     requires of { B.is_of board.now pass }
     ensures of { B.is_of board.now result.0 }
-    ensures calls { (mine : List DeskCall) × (B.calls result.0 ≡ B.calls pass ++ mine) × HasPosted tenant jobs.now result.1 mine }
+    ensures calls { (mine : List DeskCall) × (B.calls result.0 ≡ B.calls pass ++ mine)
+        × HasPosted tenant jobs.now result.1 mine }
 {
     let mut pass = pass;
     for place in 0..jobs.len() {
@@ -84,7 +85,8 @@ fn post_for<R: Wait, B: Board>(
 ) -> (B::Pass, Option<usize>)
     requires of { B.is_of board.now pass }
     ensures of { B.is_of board.now result.0 }
-    ensures calls { (mine : List DeskCall) × (B.calls result.0 ≡ B.calls pass ++ mine) × HasPostedFor tenant job.now result.1 mine }
+    ensures calls { (mine : List DeskCall) × (B.calls result.0 ≡ B.calls pass ++ mine)
+        × HasPostedFor tenant job.now result.1 mine }
 {
     if tenant == job.tenant() {
         return post_job(rt, board, pass, job);
@@ -101,7 +103,8 @@ fn post_job<R: Wait, B: Board>(
 ) -> (B::Pass, Option<usize>)
     requires of { B.is_of board.now pass }
     ensures of { B.is_of board.now result.0 }
-    ensures calls { (mine : List DeskCall) × (B.calls result.0 ≡ B.calls pass ++ mine) × HasPostedOf job.now result.1 mine }
+    ensures calls { (mine : List DeskCall) × (B.calls result.0 ≡ B.calls pass ++ mine)
+        × HasPostedOf job.now result.1 mine }
 {
     let mut pass = pass;
     for posted in 0..job.revisions().len() {
@@ -130,8 +133,12 @@ fn post_revision<R: Wait, B: Board>(
     requires of { B.is_of board.now pass }
     requires low { at < length job.now.revisions }
     ensures of { B.is_of board.now result.0 }
-    ensures taken { result.1 ≡ true → B.calls result.0 ≡ B.calls pass ++ taken (posts.Revise job.now.tenant job.now.name (get_or job.now.revisions at no_revision) ∷ []) }
-    ensures refused { result.1 ≡ false → (last : List DeskCall) × IsRefusal last × (B.calls result.0 ≡ B.calls pass ++ last) }
+    ensures taken { result.1 ≡ true
+        → B.calls result.0
+        ≡ B.calls pass
+        ++ taken (posts.Revise job.now.tenant job.now.name (get_or job.now.revisions at no_revision) ∷ []) }
+    ensures refused { result.1 ≡ false
+        → (last : List DeskCall) × IsRefusal last × (B.calls result.0 ≡ B.calls pass ++ last) }
 {
     let revision = match job.revisions()[at].copy() {
         Ok(revision) => revision,
@@ -155,8 +162,10 @@ fn post_closing<R: Wait, B: Board>(
 ) -> (B::Pass, bool)
     requires of { B.is_of board.now pass }
     ensures of { B.is_of board.now result.0 }
-    ensures taken { result.1 ≡ true → B.calls result.0 ≡ B.calls pass ++ taken (posts.Close job.now.tenant job.now.name ∷ []) }
-    ensures refused { result.1 ≡ false → (last : List DeskCall) × IsRefusal last × (B.calls result.0 ≡ B.calls pass ++ last) }
+    ensures taken { result.1 ≡ true
+        → B.calls result.0 ≡ B.calls pass ++ taken (posts.Close job.now.tenant job.now.name ∷ []) }
+    ensures refused { result.1 ≡ false
+        → (last : List DeskCall) × IsRefusal last × (B.calls result.0 ≡ B.calls pass ++ last) }
 {
     let post = Post::Close {
         tenant: job.tenant(),

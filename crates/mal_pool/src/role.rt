@@ -55,7 +55,8 @@ pub fn play<R: Wait, B: Board, G: Gate>(
     requires of { B.is_of board.now role.pass }
     requires fits { Fits (B.workers board.now) jobs.now role.part }
     ensures of { B.is_of board.now result.pass }
-    ensures played { (mine : List DeskCall) × (B.calls result.pass ≡ B.calls role.pass ++ mine) × HasPlayed jobs.now role.part result.left mine }
+    ensures played { (mine : List DeskCall) × (B.calls result.pass ≡ B.calls role.pass ++ mine)
+        × HasPlayed jobs.now role.part result.left mine }
     ensures stopped { result.stopped ≡ true → StopsSomewhere (G.stops gate.now) }
 {
     match role.part {

@@ -123,7 +123,10 @@ fn take_down<B: Board>(
     requires of { B.is_of board pass }
     requires all { All (λ x. B.is_of board x.pass) played.items }
     ensures workers { IfOk result (λ o. IfSome o (λ h. h.workers ≡ B.workers board)) }
-    ensures settled { IfOk result (λ o. IfSome o (λ h. (before : List Event) × NoneIsLost before × IsSettled h.workers jobs.now (filter_map (λ x. x.left) played.items) before h.events)) }
+    ensures settled { IfOk result
+        (λ o. IfSome o
+        (λ h. (before : List Event) × NoneIsLost before
+        × IsSettled h.workers jobs.now (filter_map (λ x. x.left) played.items) before h.events)) }
 {
     let (pass, left) = gather(alloc, &board, pass, played)?;
     let Ok(hall) = board.close(pass) else {
@@ -180,7 +183,8 @@ fn share<R: Threads + Wait + Sync, B: Board, G: Gate>(
     requires size { B.workers board.now ≡ workers }
     requires bound { workers ≤ 64 }
     ensures of { IfOk result (λ r. B.is_of board.now r.0) }
-    ensures all { IfOk result (λ r. All (λ x. B.is_of board.now x.pass × (x.stopped ≡ true → StopsSomewhere (G.stops gate.now))) r.1.items) }
+    ensures all { IfOk result
+        (λ r. All (λ x. B.is_of board.now x.pass × (x.stopped ≡ true → StopsSomewhere (G.stops gate.now))) r.1.items) }
 {
     let (pass, opened) = open_all(rt, board, pass, jobs);
     opened?;
@@ -247,7 +251,8 @@ fn deal<B: Board>(
     requires of { B.is_of board.now pass }
     requires fits { All (Fits (B.workers board.now) jobs.now) parts.now }
     ensures of { IfOk result (λ r. B.is_of board.now r.0) }
-    ensures roles { IfOk result (λ r. All (λ x. B.is_of board.now x.pass × Fits (B.workers board.now) jobs.now x.part) r.1.items) }
+    ensures roles { IfOk result
+        (λ r. All (λ x. B.is_of board.now x.pass × Fits (B.workers board.now) jobs.now x.part) r.1.items) }
 {
     let _ = jobs.len();
     let mut pass = pass;

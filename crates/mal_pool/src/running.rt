@@ -132,7 +132,8 @@ fn revise_all(hall: &mut Hall, job: &ScriptJob) -> Result<(), AllocError>
     requires opened { IsOpen (key_of_job job.now) [] hall.old.events }
     requires formed { IsJob served job.now }
     ensures workers { hall.new.workers ≡ hall.old.workers }
-    ensures events { OnOk result (hall.new.events ≡ hall.old.events ++ revise_events (key_of_job job.now) 1 job.now.revisions) }
+    ensures events { OnOk result
+        (hall.new.events ≡ hall.old.events ++ revise_events (key_of_job job.now) 1 job.now.revisions) }
     ensures opened { OnOk result (IsOpen (key_of_job job.now) job.now.revisions hall.new.events) }
 {
     for revision in job.revisions() {
@@ -143,9 +144,14 @@ fn revise_all(hall: &mut Hall, job: &ScriptJob) -> Result<(), AllocError>
 
 /// Posts the next revision of a job.
 fn revise(hall: &mut Hall, job: &ScriptJob, revision: &Revision) -> Result<(), AllocError>
-    requires { (t : KeyedJob) × MayRevise hall.old.events (key_of_job job.now) (next_number (key_of_job job.now) hall.old.events) revision.now t }
+    requires { (t : KeyedJob)
+        × MayRevise hall.old.events (key_of_job job.now)
+        (next_number (key_of_job job.now) hall.old.events) revision.now t }
     ensures workers { hall.new.workers ≡ hall.old.workers }
-    ensures events { OnOk result (hall.new.events ≡ hall.old.events ++ Revise (key_of_job job.now) (next_number (key_of_job job.now) hall.old.events) revision.now ∷ []) }
+    ensures events { OnOk result
+        (hall.new.events
+        ≡ hall.old.events ++ Revise (key_of_job job.now) (next_number (key_of_job job.now) hall.old.events) revision.now
+        ∷ []) }
 {
     let revision = revision.copy()?;
     match hall.revise_job(&job.tenant(), &job.name(), revision) {

@@ -101,7 +101,8 @@ fn has_contents(hall: &Hall, job: &ScriptJob) -> bool
 fn has_revision(hall: &Hall, job: &ScriptJob, at: usize) -> bool
     requires few { length job.now.revisions ≤ 256 }
     requires low { at < length job.now.revisions }
-    ensures { IsTrue result ↔ (slice_get (revisions_of (key_of_job job.now) (states hall.now.events)) at ≡ slice_get job.now.revisions at) }
+    ensures { IsTrue result
+        ↔ (slice_get (revisions_of (key_of_job job.now) (states hall.now.events)) at ≡ slice_get job.now.revisions at) }
 {
     match hall.revision(&job.tenant(), &job.name(), at as u32 + 1) {
         Some(posted) => posted.same(&job.revisions()[at]),

@@ -63,7 +63,8 @@ pub fn work_loop<R: Wait, D: Desk, G: Gate>(
     requires low { 1 ≤ worker }
     requires high { worker ≤ D.workers desk.now }
     ensures of { D.is_of desk.now result.0 }
-    ensures calls { (mine : List DeskCall) × (D.calls result.0 ≡ D.calls pass ++ mine) × Works (G.stops gate.now) worker turns 0 None mine result.1 }
+    ensures calls { (mine : List DeskCall) × (D.calls result.0 ≡ D.calls pass ++ mine)
+        × Works (G.stops gate.now) worker turns 0 None mine result.1 }
     ensures stopped { result.1 ≡ Stopped → StopsSomewhere (G.stops gate.now) }
 {
     let station = Station {
@@ -108,7 +109,8 @@ impl<'a, R: Wait, D: Desk, G: Gate> Station<'a, R, D, G> {
         requires low { 1 ≤ self.now.worker }
         requires high { self.now.worker ≤ D.workers self.now.desk.now }
         ensures of { D.is_of self.now.desk.now result.0 }
-        ensures calls { (mine : List DeskCall) × (D.calls result.0 ≡ D.calls pass ++ mine) × IsTurn (G.stops self.now.gate.now) self.now.worker mine result.1 }
+        ensures calls { (mine : List DeskCall) × (D.calls result.0 ≡ D.calls pass ++ mine)
+            × IsTurn (G.stops self.now.gate.now) self.now.worker mine result.1 }
     {
         let (pass, answer) = self.desk.pick(self.rt, pass, self.worker);
         match answer {
@@ -125,7 +127,9 @@ impl<'a, R: Wait, D: Desk, G: Gate> Station<'a, R, D, G> {
     fn work_off(&self, pass: D::Pass, lease: Lease, scratch: &mut Scratch) -> (D::Pass, Turned)
         requires of { D.is_of self.now.desk.now pass }
         ensures of { D.is_of self.now.desk.now result.0 }
-        ensures calls { (mine : List DeskCall) × (D.calls result.0 ≡ D.calls pass ++ mine) × IsTurn (G.stops self.now.gate.now) self.now.worker (Picked self.now.worker (Ok (Leased (handed_of lease))) ∷ mine) result.1 }
+        ensures calls { (mine : List DeskCall) × (D.calls result.0 ≡ D.calls pass ++ mine)
+            × IsTurn (G.stops self.now.gate.now) self.now.worker
+            (Picked self.now.worker (Ok (Leased (handed_of lease))) ∷ mine) result.1 }
     {
         let start = lease.start();
         match self.gate.at(Point::Before, start, self.worker) {
@@ -142,7 +146,9 @@ impl<'a, R: Wait, D: Desk, G: Gate> Station<'a, R, D, G> {
         requires of { D.is_of self.now.desk.now pass }
         requires passed { G.stops self.now.gate.now Before lease.journal.start self.now.worker ≡ false }
         ensures of { D.is_of self.now.desk.now result.0 }
-        ensures calls { (mine : List DeskCall) × (D.calls result.0 ≡ D.calls pass ++ mine) × IsTurn (G.stops self.now.gate.now) self.now.worker (Picked self.now.worker (Ok (Leased (handed_of lease))) ∷ mine) result.1 }
+        ensures calls { (mine : List DeskCall) × (D.calls result.0 ≡ D.calls pass ++ mine)
+            × IsTurn (G.stops self.now.gate.now) self.now.worker
+            (Picked self.now.worker (Ok (Leased (handed_of lease))) ∷ mine) result.1 }
     {
         let start = lease.start();
         let back = lease.work(scratch);
@@ -160,7 +166,8 @@ impl<'a, R: Wait, D: Desk, G: Gate> Station<'a, R, D, G> {
 fn give_back<R: Wait, D: Desk>(rt: &R, desk: &D, pass: D::Pass, back: Done) -> (D::Pass, Turned)
     requires of { D.is_of desk.now pass }
     ensures of { D.is_of desk.now result.0 }
-    ensures calls { (answer : Return) × (D.calls result.0 ≡ D.calls pass ++ Gave back answer ∷ []) × (result.1 ≡ turned_by answer) }
+    ensures calls { (answer : Return) × (D.calls result.0 ≡ D.calls pass ++ Gave back answer ∷ [])
+        × (result.1 ≡ turned_by answer) }
 {
     let (pass, answer) = desk.finish(rt, pass, back);
     match answer {

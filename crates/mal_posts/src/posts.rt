@@ -62,7 +62,8 @@ fn follows(events: &[Event], tenant: Name, posts: &[Post]) -> bool
 /// The place in a tenant's posts behind an event, which is reached at a place: none where it is another post of the
 /// tenant.
 fn after(event: &Event, tenant: Name, posts: &[Post], next: usize) -> Option<usize>
-    ensures { MatchOption result (Leaves tenant event.now posts.now next) (λ later. GoesOn tenant event.now posts.now next later) }
+    ensures { MatchOption result (Leaves tenant event.now posts.now next)
+        (λ later. GoesOn tenant event.now posts.now next later) }
 {
     if !is_post_of(event, tenant) {
         return Some(next);

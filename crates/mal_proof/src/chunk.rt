@@ -18,7 +18,8 @@ pub fn chunks_before(chunks: &[Chunk], n: usize) -> usize
     requires { AreCounted 0 chunks.now }
     ensures bound { result ≤ length chunks.now }
     ensures before { (k : ℕ) (d : Chunk) → k < result → (slice_index_or chunks.now k d).end ≤ n }
-    ensures behind { (k : ℕ) (d : Chunk) → result ≤ k → k < length chunks.now → n < (slice_index_or chunks.now k d).end }
+    ensures behind { (k : ℕ) (d : Chunk) → result ≤ k → k < length chunks.now
+        → n < (slice_index_or chunks.now k d).end }
 {
     chunks.partition_point(|chunk| chunk.end <= n)
 }

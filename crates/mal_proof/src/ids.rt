@@ -10,7 +10,8 @@ use mal_base::ClauseId;
 /// The place of a number among numbers that rise, none where it is not one of them.
 pub fn place_of(ids: &[ClauseId], id: ClauseId) -> Option<usize>
     requires { IsStrictlyIncreasing ids.now }
-    ensures { MatchOption result (IsMissing ids.now id) (λ place. (place < length ids.now) × (slice_index ids.now place ≡ id)) }
+    ensures { MatchOption result (IsMissing ids.now id)
+        (λ place. (place < length ids.now) × (slice_index ids.now place ≡ id)) }
 {
     ids.binary_search(&id).ok()
 }
@@ -19,7 +20,8 @@ pub fn place_of(ids: &[ClauseId], id: ClauseId) -> Option<usize>
 pub fn mark(ids: &[ClauseId], marks: &mut [bool], id: ClauseId)
     requires rising { IsStrictlyIncreasing ids.now }
     requires len { length marks.old ≡ length ids.now }
-    ensures { (test : ℕ → Bool) → AreMarks test ids.now marks.old → AreMarks (λ i. test i || (id == i)) ids.now marks.new }
+    ensures { (test : ℕ → Bool) → AreMarks test ids.now marks.old
+        → AreMarks (λ i. test i || (id == i)) ids.now marks.new }
 {
     match place_of(ids, id) {
         None => {}
@@ -31,7 +33,8 @@ pub fn mark(ids: &[ClauseId], marks: &mut [bool], id: ClauseId)
 pub fn mark_all(ids: &[ClauseId], marks: &mut [bool], more: &[ClauseId])
     requires rising { IsStrictlyIncreasing ids.now }
     requires len { length marks.old ≡ length ids.now }
-    ensures { (test : ℕ → Bool) → AreMarks test ids.now marks.old → AreMarks (λ i. test i || list_any (λ id. id == i) more.now) ids.now marks.new }
+    ensures { (test : ℕ → Bool) → AreMarks test ids.now marks.old
+        → AreMarks (λ i. test i || list_any (λ id. id == i) more.now) ids.now marks.new }
 {
     for id in more {
         mark(ids, marks, *id);

@@ -87,7 +87,8 @@ pub fn push(
     lits: &[Lit],
     hints: &[ClauseId],
 ) -> Result<(), AllocError>
-    ensures { OnOk result (lines.new.lines ≡ lines.old.lines ++ record { id = id; lits = lits.now; hints = hints.now } ∷ []) }
+    ensures { OnOk result
+        (lines.new.lines ≡ lines.old.lines ++ record { id = id; lits = lits.now; hints = hints.now } ∷ []) }
 {
     lines.reserve(1, lits.len(), hints.len())?;
     lines.push_reserved(id, lits, hints);

@@ -22,7 +22,8 @@ pub fn trimmed(alloc: Global, lines: &[LentLine<'_>], goal: ClauseId) -> Result<
 /// Marks of the lines that are reached.
 fn needed(alloc: Global, lines: &[LentLine<'_>], goal: ClauseId) -> Result<Vec<bool>, AllocError>
     requires { AreRising lines.now }
-    ensures { IfOk result (λ marks. AreMarks (is_needed goal (reached_in goal lines.now)) (ids_of lines.now) marks.items) }
+    ensures { IfOk result
+        (λ marks. AreMarks (is_needed goal (reached_in goal lines.now)) (ids_of lines.now) marks.items) }
 {
     let ids = ids_of(alloc, lines)?;
     let mut marks = vec![in alloc; false; lines.len()]?;
@@ -49,7 +50,8 @@ fn mark_needed(lines: &[LentLine<'_>], ids: &[ClauseId], marks: &mut [bool], goa
 /// Copies of the marked lines.
 fn marked(alloc: Global, lines: &[LentLine<'_>], marks: &[bool]) -> Result<Lines, AllocError>
     requires { length marks.now ≡ length lines.now }
-    ensures { (test : Line → Bool) → marks.now ≡ map test lines.now → IfOk result (λ out. out.lines ≡ filter test lines.now) }
+    ensures { (test : Line → Bool) → marks.now ≡ map test lines.now
+        → IfOk result (λ out. out.lines ≡ filter test lines.now) }
 {
     let mut out = Lines::new(alloc);
     for place in 0..lines.len() {

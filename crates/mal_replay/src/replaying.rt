@@ -20,8 +20,11 @@ use std::alloc::Global;
 /// allowed, but that the history does not post what the script says, or that a revision is not answered or a lease is
 /// out. Each revision is the script's. The slices that the history says were run are run again.
 pub fn replay(alloc: Global, script: &Script, history: &History) -> Result<Vec<u8>, ReplayFault>
-    ensures ok { IfOk result (λ text. IsReplay history.now.workers script.now history.now.events (line_at history.now.lines) (Ok text.items)) }
-    ensures err { IfErr result (λ fault. IsReplay history.now.workers script.now history.now.events (line_at history.now.lines) (Err fault)) }
+    ensures ok { IfOk result
+        (λ text. IsReplay history.now.workers script.now history.now.events (line_at history.now.lines)
+        (Ok text.items)) }
+    ensures err { IfErr result
+        (λ fault. IsReplay history.now.workers script.now history.now.events (line_at history.now.lines) (Err fault)) }
 {
     match enter_all(alloc, script, history) {
         Err(fault) => Err(fault),
@@ -37,8 +40,11 @@ fn answer(
     hall: &Hall,
 ) -> Result<Vec<u8>, ReplayFault>
     requires { HasReplayed script.now history.now (length history.now.events) hall.now }
-    ensures ok { IfOk result (λ text. IsReplay history.now.workers script.now history.now.events (line_at history.now.lines) (Ok text.items)) }
-    ensures err { IfErr result (λ fault. IsReplay history.now.workers script.now history.now.events (line_at history.now.lines) (Err fault)) }
+    ensures ok { IfOk result
+        (λ text. IsReplay history.now.workers script.now history.now.events (line_at history.now.lines)
+        (Ok text.items)) }
+    ensures err { IfErr result
+        (λ fault. IsReplay history.now.workers script.now history.now.events (line_at history.now.lines) (Err fault)) }
 {
     let _ = hall.history();
     let _ = script.jobs();
@@ -61,7 +67,8 @@ fn answer(
 /// Enters all events of a history into a hall, each Revise with the script's revision.
 fn enter_all(alloc: Global, script: &Script, history: &History) -> Result<Hall, ReplayFault>
     ensures ok { IfOk result (λ h. HasReplayed script.now history.now (length history.now.events) h) }
-    ensures err { IfErr result (λ fault. IsReplay history.now.workers script.now history.now.events (line_at history.now.lines) (Err fault)) }
+    ensures err { IfErr result
+        (λ fault. IsReplay history.now.workers script.now history.now.events (line_at history.now.lines) (Err fault)) }
 {
     let mut scratch = Scratch::new(alloc);
     let mut hall = match Hall::new(alloc, history.workers()) {
@@ -88,7 +95,8 @@ fn enter(
     requires within { n < length history.now.events }
     requires replayed { HasReplayed script.now history.now n hall }
     ensures ok { IfOk result (λ h. HasReplayed script.now history.now (n + 1) h) }
-    ensures err { IfErr result (λ fault. IsReplay history.now.workers script.now history.now.events (line_at history.now.lines) (Err fault)) }
+    ensures err { IfErr result
+        (λ fault. IsReplay history.now.workers script.now history.now.events (line_at history.now.lines) (Err fault)) }
 {
     let _ = hall.history();
     let event = &history.events()[n];

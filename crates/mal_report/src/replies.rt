@@ -100,7 +100,8 @@ fn put_head(
     r: u32,
     profile: u32,
 ) -> Result<(), AllocError>
-    ensures { OnOk result (out.new.items ≡ out.old.items ++ line_of (codes "r" ∷ head_words tenant.now job.now r profile)) }
+    ensures { OnOk result
+        (out.new.items ≡ out.old.items ++ line_of (codes "r" ∷ head_words tenant.now job.now r profile)) }
 {
     let mut buffer = Buffer::new();
     let number = buffer.format(r).as_bytes();
@@ -132,7 +133,8 @@ fn put_cause(out: &mut Vec<u8>, cause: Cause) -> Result<(), AllocError>
 /// Writes the line of a model.
 fn put_model(out: &mut Vec<u8>, model: &[bool]) -> Result<(), AllocError>
     requires { length model.now ≤ 65536 }
-    ensures { OnOk result (out.new.items ≡ out.old.items ++ line_of (codes "v" ∷ (model_words 1 model.now ++ codes "0" ∷ []))) }
+    ensures { OnOk result
+        (out.new.items ≡ out.old.items ++ line_of (codes "v" ∷ (model_words 1 model.now ++ codes "0" ∷ []))) }
 {
     out.push(b'v')?;
     let mut number = 0;
@@ -160,7 +162,8 @@ fn put_literal(out: &mut Vec<u8>, number: u32, value: bool) -> Result<(), AllocE
 
 /// Writes the line of the assumptions that fail.
 fn put_failed(out: &mut Vec<u8>, failed: &[Lit]) -> Result<(), AllocError>
-    ensures { OnOk result (out.new.items ≡ out.old.items ++ line_of (codes "k" ∷ (map literal_word failed.now ++ codes "0" ∷ []))) }
+    ensures { OnOk result
+        (out.new.items ≡ out.old.items ++ line_of (codes "k" ∷ (map literal_word failed.now ++ codes "0" ∷ []))) }
 {
     out.push(b'k')?;
     put_lits(out, failed)?;
@@ -181,7 +184,9 @@ fn put_proof(out: &mut Vec<u8>, lines: &Lines) -> Result<(), AllocError>
 /// Writes a line of a proof, the lines counted from 0.
 fn put_row(out: &mut Vec<u8>, lines: &Lines, n: usize) -> Result<(), AllocError>
     requires { n < length lines.now.lines }
-    ensures { OnOk result ((line : Line) → slice_get lines.now.lines n ≡ Some line → out.new.items ≡ out.old.items ++ line_of (proof_row line)) }
+    ensures { OnOk result
+        ((line : Line) → slice_get lines.now.lines n ≡ Some line
+        → out.new.items ≡ out.old.items ++ line_of (proof_row line)) }
 {
     out.extend_from_slice(b"l ")?;
     put_added(out, lines.id(n), lines.lits(n), lines.hints(n))?;

@@ -36,7 +36,10 @@ impl Model for Revision {
 
     ghost view = { λ r. record { variables = r.variables; clauses = (arc_value r.clauses).items; assumptions = (arc_value r.assumptions).items } };
 
-    ghost invariant = { λ r. (is_posted (record { variables = r.variables; clauses = (arc_value r.clauses).items; assumptions = (arc_value r.assumptions).items }) ≡ true) × (r.literals ≡ literals_of (arc_value r.clauses).items) };
+    ghost invariant = { λ r. (is_posted
+        (record { variables = r.variables; clauses = (arc_value r.clauses).items; assumptions = (arc_value r.assumptions).items })
+        ≡ true)
+        × (r.literals ≡ literals_of (arc_value r.clauses).items) };
 }
 
 impl Revision {
@@ -54,7 +57,11 @@ impl Revision {
     ) -> Result<Revision, RevisionFault>
         ensures made { IfOk result (λ r. IsMadeOf variables clauses.items assumptions.now r) }
         ensures refused { IfErr result (λ e. IsRefused variables clauses.items assumptions.now e) }
-        ensures fits { is_posted (record { variables = variables; clauses = clauses.items; assumptions = assumptions.now }) ≡ true → MatchResult result (λ r. r ≡ record { variables = variables; clauses = clauses.items; assumptions = assumptions.now }) (λ e. e ≡ OutOfMemory) }
+        ensures fits { is_posted
+            (record { variables = variables; clauses = clauses.items; assumptions = assumptions.now }) ≡ true
+            → MatchResult result
+            (λ r. r ≡ record { variables = variables; clauses = clauses.items; assumptions = assumptions.now })
+            (λ e. e ≡ OutOfMemory) }
     {
         let Ok(sorted) = Lit::sorted(alloc, assumptions) else {
             return Err(RevisionFault::OutOfMemory);
@@ -97,9 +104,12 @@ impl Revision {
         clauses: Vec<Option<Clause>>,
         assumptions: Vec<Lit>,
     ) -> Result<Revision, RevisionFault>
-        requires form { is_posted (record { variables = variables; clauses = clauses.items; assumptions = assumptions.items }) ≡ true }
+        requires form { is_posted
+            (record { variables = variables; clauses = clauses.items; assumptions = assumptions.items }) ≡ true }
         requires sum { literals ≡ literals_of clauses.items }
-        ensures { MatchResult result (λ r. r ≡ record { variables = variables; clauses = clauses.items; assumptions = assumptions.items }) (λ e. e ≡ OutOfMemory) }
+        ensures { MatchResult result
+            (λ r. r ≡ record { variables = variables; clauses = clauses.items; assumptions = assumptions.items })
+            (λ e. e ≡ OutOfMemory) }
     {
         let Ok(clauses) = Arc::new(alloc, clauses) else {
             return Err(RevisionFault::OutOfMemory);

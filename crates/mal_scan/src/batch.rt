@@ -37,7 +37,8 @@ fn is_in_batch(trail: &Trail, count: usize, lits: &[Lit]) -> bool
 pub fn propagate(trail: &mut Trail, count: usize, store: &Store) -> Option<ClauseId>
     requires count { count ≤ length trail.old.entries }
     requires within { are_within trail.old.room store.now.clauses ≡ true }
-    ensures progress { after_batch count trail.old.entries store.now.clauses ≡ record { trail = trail.new.entries; conflict = result } }
+    ensures progress { after_batch count trail.old.entries store.now.clauses
+        ≡ record { trail = trail.new.entries; conflict = result } }
     ensures longer { length trail.old.entries ≤ length trail.new.entries }
     ensures processed { trail.new.processed ≡ trail.old.processed }
     ensures room { trail.new.room ≡ trail.old.room }

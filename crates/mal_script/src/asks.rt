@@ -73,7 +73,9 @@ fn profile_in(line: &[u8]) -> Result<i64, NumberFault>
 
 /// The ask of the words of a priority, a demand and a number of slices, and of the words behind them.
 pub fn asked(priority: &[u8], demand: &[u8], slices: &[u8], behind: &[u8]) -> Result<Ask, LineFault>
-    ensures { result ≡ asked (number_in priority.now 1000) (number_in demand.now 64) (number_in slices.now 4096) (profile_in (words_of behind.now)) }
+    ensures { result
+        ≡ asked (number_in priority.now 1000) (number_in demand.now 64) (number_in slices.now 4096)
+        (profile_in (words_of behind.now)) }
 {
     let priority = number(priority, 1000);
     let demand = number(demand, 64);

@@ -26,7 +26,9 @@ fn literal(number: i64) -> Lit
 
 /// The literals behind which a 0 stands: nothing stands behind the 0, and no literal is above the variables.
 fn closed(lits: Vec<Lit>, above: bool, behind: &[u8]) -> Result<Vec<Lit>, AssumptionFault>
-    ensures value { (max : ℕ) → GivesAssumed (λ v. v.items) result (closed lits.items above (map (λ word. number_in word max) (words_of behind.now))) }
+    ensures value { (max : ℕ)
+        → GivesAssumed
+        (λ v. v.items) result (closed lits.items above (map (λ word. number_in word max) (words_of behind.now))) }
     ensures same { IfOk result (λ v. v.items ≡ lits.items) }
 {
     if first_word(behind).is_some() {
@@ -41,7 +43,8 @@ fn closed(lits: Vec<Lit>, above: bool, behind: &[u8]) -> Result<Vec<Lit>, Assump
 /// The literals of a line's words up to the 0 that ends it, in their order and with repeats.
 fn literals(alloc: Global, line: &[u8], variables: u32) -> Result<Vec<Lit>, AssumptionFault>
     requires { variables ≤ 65536 }
-    ensures value { GivesAssumed (λ v. v.items) result (literals_from [] false (map (λ word. number_in word variables) (words_of line.now))) }
+    ensures value { GivesAssumed
+        (λ v. v.items) result (literals_from [] false (map (λ word. number_in word variables) (words_of line.now))) }
     ensures within { IfOk result (λ v. is_within variables v.items ≡ true) }
 {
     let mut lits = Vec::new(alloc);

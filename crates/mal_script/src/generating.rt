@@ -138,7 +138,8 @@ fn literals(alloc: Global, count: u32, draws: &mut Draws) -> Result<Vec<Lit>, Al
 fn literal(left: &mut Vec<Var>, draws: &mut Draws) -> Lit
     requires some { 1 ≤ length left.old.items }
     requires bound { length left.old.items ≤ 50 }
-    ensures value { result ≡ signed (slice_index left.old.items (pick (length left.old.items) draws.old)) (next draws.old) }
+    ensures value { result
+        ≡ signed (slice_index left.old.items (pick (length left.old.items) draws.old)) (next draws.old) }
     ensures left { left.new.items ≡ remove left.old.items (pick (length left.old.items) draws.old) }
     ensures state { draws.new ≡ next (next draws.old) }
 {

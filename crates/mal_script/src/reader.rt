@@ -114,7 +114,9 @@ impl Reader {
         slices: &[u8],
         behind: &[u8],
     ) -> Result<Reader, LineRefusal>
-        ensures { Gives (λ r. r) result (of_tenant limits self.tenant name.now priority.now demand.now slices.now (words_of behind.now) self) }
+        ensures { Gives
+            (λ r. r) result
+            (of_tenant limits self.tenant name.now priority.now demand.now slices.now (words_of behind.now) self) }
     {
         let Some(tenant) = self.tenant else {
             return Err(LineRefusal::Fault(LineFault::BadLine));
@@ -175,7 +177,8 @@ impl Reader {
     /// After a line in this job and in no block, which is its first word and the others.
     fn inside_job(self, limits: Limits, row: Row, job: OpenJob) -> Result<Reader, LineRefusal>
         requires { words_of row.line.now ≡ row.first.now ∷ words_of row.others.now }
-        ensures { Gives (λ r. r) result (inside_job limits row.entry.first.now (words_of row.entry.others.now) job self) }
+        ensures { Gives
+            (λ r. r) result (inside_job limits row.entry.first.now (words_of row.entry.others.now) job self) }
     {
         if row.first == b"p".as_slice() {
             let job = job.after_header(limits, row.line)?;
@@ -190,7 +193,8 @@ impl Reader {
     /// After a line in this job, which is its first word and the others.
     fn inside(self, limits: Limits, row: Row, job: OpenJob) -> Result<Reader, LineRefusal>
         requires { words_of row.line.now ≡ row.first.now ∷ words_of row.others.now }
-        ensures { Gives (λ r. r) result (inside limits row.entry.first.now (words_of row.entry.others.now) job job.block self) }
+        ensures { Gives
+            (λ r. r) result (inside limits row.entry.first.now (words_of row.entry.others.now) job job.block self) }
     {
         let (job, block) = job.without_block();
         match block {
@@ -205,7 +209,9 @@ impl Reader {
     /// After a line, which is its first word and the others and no comment.
     fn after_counted(mut self, limits: Limits, row: Row) -> Result<Reader, LineRefusal>
         requires { words_of row.line.now ≡ row.first.now ∷ words_of row.others.now }
-        ensures { Gives (λ r. r) result (after_counted limits row.entry.first.now (words_of row.entry.others.now) self.opened self) }
+        ensures { Gives
+            (λ r. r) result
+            (after_counted limits row.entry.first.now (words_of row.entry.others.now) self.opened self) }
     {
         match self.opened.take() {
             None => self.outside(limits, row.first, row.others),
@@ -287,7 +293,8 @@ fn has_room(jobs: &[ScriptJob], limits: Limits, tenant: Name) -> bool
 
 /// The only word of a line. None exactly where the line has no word or more than one.
 fn only_word(line: &[u8]) -> Option<&[u8]>
-    ensures { MatchOption result ((word : List ℕ) → words_of line.now ≢ word ∷ []) (λ word. words_of line.now ≡ word.now ∷ []) }
+    ensures { MatchOption result ((word : List ℕ) → words_of line.now ≢ word ∷ [])
+        (λ word. words_of line.now ≡ word.now ∷ []) }
 {
     match first_word(line) {
         Some((word, others)) if first_word(others).is_none() => Some(word),
@@ -297,7 +304,9 @@ fn only_word(line: &[u8]) -> Option<&[u8]>
 
 /// The first four words of a line, and what is behind them. None exactly where the line has fewer words.
 fn four_words(line: &[u8]) -> Option<(&[u8], &[u8], &[u8], &[u8], &[u8])>
-    ensures { MatchOption result ((a b c d : List ℕ) (behind : List (List ℕ)) → words_of line.now ≢ a ∷ b ∷ c ∷ d ∷ behind) (λ w. words_of line.now ≡ w.0.now ∷ w.1.now ∷ w.2.now ∷ w.3.now ∷ words_of w.4.now) }
+    ensures { MatchOption result
+        ((a b c d : List ℕ) (behind : List (List ℕ)) → words_of line.now ≢ a ∷ b ∷ c ∷ d ∷ behind)
+        (λ w. words_of line.now ≡ w.0.now ∷ w.1.now ∷ w.2.now ∷ w.3.now ∷ words_of w.4.now) }
 {
     let (first, others) = first_word(line)?;
     let (second, others) = first_word(others)?;

@@ -28,7 +28,8 @@ pub fn read(alloc: Global, text: &[u8]) -> Result<Script, ScriptFault>
     // Which fault it is, and where.
     ensures exact { GivesAt (λ s. s) result (read_text served text.now) }
     // The text of a script in form is read as this script, unless memory runs out; what is read is in form.
-    ensures again { (s : Scripted) → IsScript served s → text.now ≡ spelling s → MatchResult result (λ x. x ≡ s) (λ e. e ≡ OutOfMemory) }
+    ensures again { (s : Scripted) → IsScript served s → text.now ≡ spelling s
+        → MatchResult result (λ x. x ≡ s) (λ e. e ≡ OutOfMemory) }
     ensures within { IfOk result (λ s. IsWithin served s) }
     ensures formed { IfOk result (λ s. IsScript served s) }
 {

@@ -42,7 +42,15 @@ impl ScriptJob {
 
     /// The job with one revision more, behind the others.
     pub fn with_revision(self, revision: Revision) -> Result<ScriptJob, AllocError>
-        ensures { IfOk result (λ j. j ≡ record { tenant = self.tenant; name = self.name; ask = self.ask; revisions = self.revisions ++ revision ∷ [] }) }
+        ensures { IfOk result
+            (λ j. j
+            ≡ record {
+              tenant = self.tenant;
+              name = self.name;
+              ask = self.ask;
+              revisions = self.revisions ++ revision
+                  ∷ [];
+            }) }
     {
         let mut revisions = self.revisions;
         revisions.push(revision)?;

@@ -67,7 +67,8 @@ struct Place<'a> {
 
 /// The line that tells that a variable is assumed with both signs.
 fn opposite_line(alloc: Global, at: Place, var: u32) -> Result<Vec<u8>, AllocError>
-    ensures { IfOk result (λ text. text.items ≡ part_line at.entry.part.now at.entry.line (codes "Opposite" ∷ decimal_word var ∷ [])) }
+    ensures { IfOk result
+        (λ text. text.items ≡ part_line at.entry.part.now at.entry.line (codes "Opposite" ∷ decimal_word var ∷ [])) }
 {
     let mut number = Buffer::new();
     let words = [b"Opposite".as_slice(), number.format(var).as_bytes()];
@@ -76,7 +77,8 @@ fn opposite_line(alloc: Global, at: Place, var: u32) -> Result<Vec<u8>, AllocErr
 
 /// The line that tells that a tenant has a job of this name.
 fn duplicate_line(alloc: Global, at: Place, tenant: Name, job: Name) -> Result<Vec<u8>, AllocError>
-    ensures { IfOk result (λ text. text.items ≡ part_line at.entry.part.now at.entry.line (codes "Duplicate" ∷ tenant ∷ job ∷ [])) }
+    ensures { IfOk result
+        (λ text. text.items ≡ part_line at.entry.part.now at.entry.line (codes "Duplicate" ∷ tenant ∷ job ∷ [])) }
 {
     let words = [b"Duplicate".as_slice(), tenant.as_bytes(), job.as_bytes()];
     told(alloc, at, &words)
@@ -84,14 +86,16 @@ fn duplicate_line(alloc: Global, at: Place, tenant: Name, job: Name) -> Result<V
 
 /// The line that tells that there are too many of these.
 fn limit_line(alloc: Global, at: Place, which: LimitKind) -> Result<Vec<u8>, AllocError>
-    ensures { IfOk result (λ text. text.items ≡ part_line at.entry.part.now at.entry.line (codes "Limit" ∷ which_word which ∷ [])) }
+    ensures { IfOk result
+        (λ text. text.items ≡ part_line at.entry.part.now at.entry.line (codes "Limit" ∷ which_word which ∷ [])) }
 {
     told(alloc, at, &[b"Limit", which_word(which)])
 }
 
 /// The line that tells these words of a line of a part.
 fn told(alloc: Global, at: Place, words: &[&[u8]]) -> Result<Vec<u8>, AllocError>
-    ensures { IfOk result (λ text. text.items ≡ part_line at.entry.part.now at.entry.line (map (λ w. w.now) words.now)) }
+    ensures { IfOk result
+        (λ text. text.items ≡ part_line at.entry.part.now at.entry.line (map (λ w. w.now) words.now)) }
 {
     let mut text = Vec::new(alloc);
     text.extend_from_slice(b"fault: ")?;

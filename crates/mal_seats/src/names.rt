@@ -50,10 +50,16 @@ impl Names {
     /// Notes the place of a further job of a tenant. After want of memory what is found is as before.
     pub fn note(&mut self, tenant: Name, job: Name, place: usize) -> Result<(), AllocError>
         requires { jobs_at self.old.tenants tenant < 2 ^ 63 }
-        ensures found { OnOk result ((k : Key) → found self.new.places k ≡ (if is_key (keyed tenant job) k then Some place else found self.old.places k)) }
-        ensures jobs { OnOk result ((other : List ℕ) → jobs_at self.new.tenants other ≡ jobs_at self.old.tenants other + (if is_text tenant other then 1 else 0)) }
+        ensures found { OnOk result
+            ((k : Key)
+            → found self.new.places k ≡ (if is_key (keyed tenant job) k then Some place else found self.old.places k)) }
+        ensures jobs { OnOk result
+            ((other : List ℕ)
+            → jobs_at self.new.tenants other
+            ≡ jobs_at self.old.tenants other + (if is_text tenant other then 1 else 0)) }
         ensures same_found { OnErr result ((k : Key) → found self.new.places k ≡ found self.old.places k) }
-        ensures same_jobs { OnErr result ((other : List ℕ) → jobs_at self.new.tenants other ≡ jobs_at self.old.tenants other) }
+        ensures same_jobs { OnErr result
+            ((other : List ℕ) → jobs_at self.new.tenants other ≡ jobs_at self.old.tenants other) }
     {
         let word = Word::of(tenant);
         let jobs = self.jobs_of(tenant);

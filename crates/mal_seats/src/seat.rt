@@ -39,7 +39,8 @@ impl Model for Seat {
 
     ghost view = { λ s. record { job = s.job; listed = s.listed; noted = s.noted } };
 
-    ghost invariant = { λ s. arc_value s.none ≡ share_of 0 (record { job = s.job; listed = s.listed; noted = s.noted }) };
+    ghost invariant = { λ s. arc_value s.none ≡ share_of 0
+        (record { job = s.job; listed = s.listed; noted = s.noted }) };
 }
 
 impl Seat {

@@ -167,7 +167,8 @@ impl Seats {
     /// Opens a job with a key that no other has. After want of memory the seats are as before.
     pub fn open(&mut self, tenant: Name, job: Name, ask: Ask) -> Result<(), AllocError>
         requires { spec.place_of (keyed tenant job) self.old ≡ None }
-        ensures ok { OnOk result (self.new ≡ self.old ++ spec.opened_seat (length self.old) (keyed tenant job) ask ∷ []) }
+        ensures ok { OnOk result
+            (self.new ≡ self.old ++ spec.opened_seat (length self.old) (keyed tenant job) ask ∷ []) }
         ensures err { OnErr result (self.new ≡ self.old) }
     {
         let alloc = *self.seats.allocator();
@@ -193,7 +194,8 @@ impl Seats {
     fn change<T, F: FnOnce(&mut Seat) -> T>(&mut self, at: usize, step: F) -> T
         requires place { at < length self.old }
         requires may { OfSeat self.old at (λ s. FnOnceTakesAtMut F.FnOnce step s) }
-        requires steady { OfSeat self.old at (λ s. (r : T) (now : spec.Seat) → FnOnceReturnsAtMut F.FnOnce step s r now → IsSteady s now) }
+        requires steady { OfSeat self.old at
+            (λ s. (r : T) (now : spec.Seat) → FnOnceReturnsAtMut F.FnOnce step s r now → IsSteady s now) }
         ensures { HasStepped (λ s now. FnOnceReturnsAtMut F.FnOnce step s result now) at self.old self.new }
     {
         let seat = &mut self.seats[at];
@@ -208,8 +210,10 @@ impl Seats {
     pub fn revise(&mut self, at: usize, revision: Revision) -> Result<(), AllocError>
         requires place { at < length self.old }
         requires few { OfSeat self.old at (λ s. length s.job.titled.state.revisions < 256) }
-        requires clauses { OfSeat self.old at (λ s. clauses_in s.job.titled.state.revisions + length revision.clauses ≤ 1048576) }
-        ensures ok { OnOk result (IsChanged (λ s. record s { job = and_own s.job (Revised revision) }) at self.old self.new) }
+        requires clauses { OfSeat self.old at
+            (λ s. clauses_in s.job.titled.state.revisions + length revision.clauses ≤ 1048576) }
+        ensures ok { OnOk result
+            (IsChanged (λ s. record s { job = and_own s.job (Revised revision) }) at self.old self.new) }
         ensures err { OnErr result (self.new ≡ self.old) }
     {
         self.change(at, |seat| seat.revise(revision))
@@ -234,7 +238,8 @@ impl Seats {
     ) -> Result<Lease, AllocError>
         requires place { at < length self.old }
         requires startable { OfSeat self.old at (λ s. startable s.job.titled.state index ≡ true) }
-        ensures ok { OnOk result (IsChanged (λ s. record s { job = and_start s.job index start }) at self.old self.new) }
+        ensures ok { OnOk result
+            (IsChanged (λ s. record s { job = and_start s.job index start }) at self.old self.new) }
         ensures lease { IfOk result (λ l. OfSeat self.old at (λ s. IsLeaseOf s.job index start worker l)) }
         ensures err { OnErr result (self.new ≡ self.old) }
     {
@@ -247,7 +252,8 @@ impl Seats {
         requires place { at < length self.old }
         requires index { index ≤ 63 }
         requires back { OfSeat self.old at (λ s. MayFinish s.job index back) }
-        ensures { IsChanged (λ s. record s { job = and_own s.job (Finished index (outcome_of back)) }) at self.old self.new }
+        ensures { IsChanged
+            (λ s. record s { job = and_own s.job (Finished index (outcome_of back)) }) at self.old self.new }
     {
         self.change(at, |seat| seat.finish(index, back));
     }

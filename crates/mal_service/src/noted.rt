@@ -65,7 +65,8 @@ impl<S: Size> NotedHall<S> {
     /// Posts, and notes the hall's call that the post is.
     #[tactic(auto, using(crate::proofs::PostLemmas::post_noted))]
     pub(crate) fn post(&mut self, post: Post) -> Result<(), PostFault>
-        ensures { HoldsOfPost post result (λ c. HasNoted S.workers self.old.hall.events c self.new.hall.events (noted_in self.new.noted)) }
+        ensures { HoldsOfPost post result
+            (λ c. HasNoted S.workers self.old.hall.events c self.new.hall.events (noted_in self.new.noted)) }
     {
         let before = Snapshot::of(&self.hall);
         let posted = Snapshot::of(&post);
@@ -85,7 +86,8 @@ impl<S: Size> NotedHall<S> {
         job: &Name,
         r: u32,
     ) -> Result<Option<Vec<u8>>, ReplyFault>
-        ensures { HasNoted S.workers self.old.hall.events (Asked (keyed tenant.now job.now) r (replied result)) self.new.hall.events (noted_in self.new.noted) }
+        ensures { HasNoted S.workers self.old.hall.events
+            (Asked (keyed tenant.now job.now) r (replied result)) self.new.hall.events (noted_in self.new.noted) }
     {
         let before = Snapshot::of(&self.hall);
         let answer = self.hall.reply(tenant, job, r);
@@ -103,7 +105,8 @@ impl<S: Size> NotedHall<S> {
     pub(crate) fn pick(&mut self, worker: u32) -> Result<Pick, PickFault>
         requires some { 1 ≤ worker }
         requires bound { worker ≤ S.workers }
-        ensures { HasNoted S.workers self.old.hall.events (Picked worker (offered result)) self.new.hall.events (noted_in self.new.noted) }
+        ensures { HasNoted S.workers self.old.hall.events (Picked worker (offered result)) self.new.hall.events
+            (noted_in self.new.noted) }
     {
         let before = Snapshot::of(&self.hall);
         let answer = self.hall.pick(worker);
@@ -117,7 +120,8 @@ impl<S: Size> NotedHall<S> {
 
     /// Takes back what came of a lease, and notes the call.
     pub(crate) fn finish(&mut self, back: Done) -> Result<Back, Strange>
-        ensures call { HasNoted S.workers self.old.hall.events (Gave back (returned result)) self.new.hall.events (noted_in self.new.noted) }
+        ensures call { HasNoted S.workers self.old.hall.events (Gave back (returned result)) self.new.hall.events
+            (noted_in self.new.noted) }
         ensures back { IfErr result (λ s. s.back ≡ back) }
     {
         let before = Snapshot::of(&self.hall);

@@ -69,7 +69,8 @@ impl<S: Size> Service<S> {
     ) -> (Pass<S>, Result<Option<Vec<u8>>, ReplyFault>)
         requires { IsOf self.now.turn pass }
         ensures turn { IsOf self.now.turn result.0 }
-        ensures entry { Enters S.workers (view pass) (Asked (keyed tenant.now job.now) r (replied result.1)) (view result.0) }
+        ensures entry { Enters S.workers (view pass) (Asked (keyed tenant.now job.now) r (replied result.1))
+            (view result.0) }
     {
         let mut held = self.turn.take(rt, pass);
         let answer = held.value.reply(tenant, job, r);

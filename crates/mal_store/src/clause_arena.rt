@@ -53,7 +53,8 @@ impl Model for ClauseArena {
       literal_room = min (vec_capacity s.literals - vec_len s.literals) (4294967295 - vec_len s.literals);
     } };
 
-    ghost invariant = { λ s. AreLaid 0 (length s.literals.items) s.rows.items × (length s.literals.items ≤ 4294967295) × AreFit s.rows.items × (length s.rows.items ≤ 4294967295) };
+    ghost invariant = { λ s. AreLaid 0 (length s.literals.items) s.rows.items × (length s.literals.items ≤ 4294967295)
+        × AreFit s.rows.items × (length s.rows.items ≤ 4294967295) };
 }
 
 impl ClauseArena {
@@ -113,8 +114,10 @@ impl ClauseArena {
         ensures clauses { self.new.clauses ≡ forgetting ids.now self.old.clauses }
         ensures clause_room { self.old.clause_room ≤ self.new.clause_room }
         ensures literal_room { self.old.literal_room ≤ self.new.literal_room }
-        ensures won_clauses { length self.old.clauses + self.old.clause_room ≤ length self.new.clauses + self.new.clause_room }
-        ensures won { listed_count self.old.clauses + self.old.literal_room ≤ listed_count self.new.clauses + self.new.literal_room }
+        ensures won_clauses { length self.old.clauses + self.old.clause_room
+            ≤ length self.new.clauses + self.new.clause_room }
+        ensures won { listed_count self.old.clauses + self.old.literal_room
+            ≤ listed_count self.new.clauses + self.new.literal_room }
     {
         take_away(&mut self.rows, ids);
         close_up(&mut self.rows, &mut self.literals);
@@ -161,7 +164,8 @@ impl ClauseArena {
 /// Takes the rows of these numbers, which rise, away. Takes no memory.
 fn take_away(rows: &mut Vec<Row>, ids: &[ClauseId])
     requires { IsNonDecreasing ids.now }
-    ensures items { (literals : List ℕ) → rows.new.items ≡ filter (λ r. is_left ids.now (clause_in literals r)) rows.old.items }
+    ensures items { (literals : List ℕ)
+        → rows.new.items ≡ filter (λ r. is_left ids.now (clause_in literals r)) rows.old.items }
     ensures capacity { vec_capacity rows.new ≡ vec_capacity rows.old }
     ensures len { vec_len rows.new ≤ vec_len rows.old }
 {
@@ -232,7 +236,9 @@ fn body_of(literals: &mut Vec<Lit>, lits: &[Lit]) -> Body
     ensures lits { lits_in literals.new.items result ≡ lits.now }
     ensures from { IsFrom (length literals.old.items) result }
     ensures end { end_of (length literals.old.items) result ≡ length literals.new.items }
-    ensures rows { (rs : List Row) → AreRows (length literals.old.items) rs → AreRows (length literals.new.items) rs × (clauses_in literals.new.items rs ≡ clauses_in literals.old.items rs) }
+    ensures rows { (rs : List Row) → AreRows (length literals.old.items) rs
+        → AreRows (length literals.new.items) rs
+        × (clauses_in literals.new.items rs ≡ clauses_in literals.old.items rs) }
     ensures fit { IsFit result }
     ensures len { vec_len literals.new ≡ vec_len literals.old + listed lits.now }
     ensures capacity { vec_capacity literals.new ≡ vec_capacity literals.old }

@@ -81,7 +81,8 @@ impl Index {
 
     /// The entry of this number. None exactly where there is none.
     pub fn get(&self, id: ClauseId) -> Option<&Entry>
-        ensures { MatchOption result (entry_under id self.now.entries ≡ None) (λ e. entry_under id self.now.entries ≡ Some e.now) }
+        ensures { MatchOption result (entry_under id self.now.entries ≡ None)
+            (λ e. entry_under id self.now.entries ≡ Some e.now) }
     {
         if id.number() < FIRST_DERIVED {
             return get_in(self.originals.as_slice(), id);
@@ -133,7 +134,8 @@ fn place_of(entries: &[Entry], id: ClauseId) -> usize
     ensures some { 1 ≤ id }
     ensures bound { result ≤ length entries.now }
     ensures below { (k : ℕ) (d : Entry) → k < result → (slice_index_or entries.now k d).id < id }
-    ensures above { (k : ℕ) (d : Entry) → result ≤ k → k < length entries.now → id ≤ (slice_index_or entries.now k d).id }
+    ensures above { (k : ℕ) (d : Entry) → result ≤ k → k < length entries.now
+        → id ≤ (slice_index_or entries.now k d).id }
 {
     let number = id.number();
     if are_below(entries, number) {
@@ -145,7 +147,8 @@ fn place_of(entries: &[Entry], id: ClauseId) -> usize
 /// Whether entries, by rising number, have numbers below this one. Only the last is looked at.
 fn are_below(entries: &[Entry], number: u64) -> bool
     requires rising { EntriesRise 1 entries.now }
-    ensures { result ≡ true → (k : ℕ) (d : Entry) → k < length entries.now → (slice_index_or entries.now k d).id < number }
+    ensures { result ≡ true → (k : ℕ) (d : Entry) → k < length entries.now
+        → (slice_index_or entries.now k d).id < number }
 {
     if entries.is_empty() {
         return true;
@@ -172,7 +175,8 @@ fn guess_of(entries: &[Entry], number: u64) -> usize {
 /// Where the entry of this number stands among entries by rising number. None exactly where there is none.
 fn position_of(entries: &[Entry], id: ClauseId) -> Option<usize>
     requires { EntriesRise 1 entries.now }
-    ensures { MatchOption result (entry_under id entries.now ≡ None) (λ k. (k < length entries.now) × (entry_under id entries.now ≡ slice_get entries.now k)) }
+    ensures { MatchOption result (entry_under id entries.now ≡ None)
+        (λ k. (k < length entries.now) × (entry_under id entries.now ≡ slice_get entries.now k)) }
 {
     let guess = guess_of(entries, id.number());
     if guess < entries.len() && has_id(&entries[guess], id) {

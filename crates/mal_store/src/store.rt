@@ -102,7 +102,8 @@ impl Store {
         ensures long { self.new.long ≡ forgetting ids.old self.old.long }
         ensures clause_room { self.old.clause_room ≤ self.new.clause_room }
         ensures literal_room { self.old.literal_room ≤ self.new.literal_room }
-        ensures won { literal_count self.old.clauses + self.old.literal_room ≤ literal_count self.new.clauses + self.new.literal_room }
+        ensures won { literal_count self.old.clauses + self.old.literal_room
+            ≤ literal_count self.new.clauses + self.new.literal_room }
         ensures same { IsPermutation ids.old ids.new }
         ensures rising { IsNonDecreasing ids.new }
     {
@@ -131,7 +132,8 @@ impl Store {
 
     /// The literals of the clause of this number. None exactly where the number is not held.
     pub fn get(&self, id: ClauseId) -> Option<&[Lit]>
-        ensures { MatchOption result (lits_under id self.now.clauses ≡ None) (λ lits. lits_under id self.now.clauses ≡ Some lits.now) }
+        ensures { MatchOption result (lits_under id self.now.clauses ≡ None)
+            (λ lits. lits_under id self.now.clauses ≡ Some lits.now) }
     {
         match self.index.get(id) {
             None => None,
@@ -149,7 +151,8 @@ impl Store {
     /// The short clause at a place among them, counted from 0 by rising number.
     pub fn short_at(&self, place: usize) -> (ClauseId, &[Lit])
         requires { place < length (short_clauses self.now.clauses) }
-        ensures { slice_get (short_clauses self.now.clauses) place ≡ Some (record { id = result.0; lits = result.1.now }) }
+        ensures { slice_get (short_clauses self.now.clauses) place ≡ Some
+            (record { id = result.0; lits = result.1.now }) }
     {
         let id = self.short[place];
         match self.get(id) {
@@ -228,7 +231,8 @@ fn hold(long: &mut ClauseArena, id: ClauseId, lits: &[Lit]) -> Held
     ensures long { long.new.clauses ≡ with_long (record { id = id; lits = lits.now }) long.old.clauses }
     ensures placed { IsPlaced long.new.clauses id result }
     ensures clause_room { long.old.clause_room ≤ long.new.clause_room + 1 }
-    ensures total { listed_count long.old.clauses + long.old.literal_room ≤ listed_count long.new.clauses + long.new.literal_room }
+    ensures total { listed_count long.old.clauses + long.old.literal_room
+        ≤ listed_count long.new.clauses + long.new.literal_room }
 {
     match lits {
         [] => Held::Empty,
@@ -255,7 +259,8 @@ fn lits_of<'a>(long: &'a ClauseArena, held: &'a Held) -> &'a [Lit]
 
 /// Tells the index where each long clause stands now.
 fn renumber(index: &mut Index, long: &ClauseArena)
-    ensures entries { index.new.entries ≡ map (settled_in long.now.clauses (length long.now.clauses)) index.old.entries }
+    ensures entries { index.new.entries
+        ≡ map (settled_in long.now.clauses (length long.now.clauses)) index.old.entries }
     ensures room { index.new.room ≡ index.old.room }
 {
     for place in 0..long.len() {

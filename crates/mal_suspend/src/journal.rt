@@ -155,8 +155,12 @@ impl Journal {
         loads: &[(Arc<Revision>, u32)],
         imports: &[Arc<Buffer>],
     ) -> Result<Journal, AllocError>
-        requires { MayAllReplay (replayed self.now) (start_entries (shared_loads loads.now) (shared_tolds imports.now)) }
-        ensures value { IfOk result (λ j. j ≡ and_entries (started start self.now) (start_entries (shared_loads loads.now) (shared_tolds imports.now))) }
+        requires { MayAllReplay (replayed self.now)
+            (start_entries (shared_loads loads.now) (shared_tolds imports.now)) }
+        ensures value { IfOk result
+            (λ j. j
+            ≡ and_entries (started start self.now)
+            (start_entries (shared_loads loads.now) (shared_tolds imports.now))) }
         ensures keeps { IfOk result (λ j. IsJournal j.profile j.index j.entries) }
     {
         let mut entries = self.entries.copy_with(loads.len() + imports.len())?;

@@ -57,10 +57,12 @@ impl Lease {
         start: u64,
         worker: u32,
     ) -> Result<Lease, (Kept, AllocError)>
-        requires { MayAllReplay (replayed (journal_of kept)) (start_entries (shared_loads loads.items) (shared_tolds imports.items)) }
+        requires { MayAllReplay (replayed (journal_of kept))
+            (start_entries (shared_loads loads.items) (shared_tolds imports.items)) }
         ensures journal { IfOk result (λ l. l.journal ≡ started start (journal_of kept)) }
         ensures gone { IfOk result (λ l. l.gone ≡ is_gone kept) }
-        ensures adds { IfOk result (λ l. l.adds ≡ start_entries (shared_loads loads.items) (shared_tolds imports.items)) }
+        ensures adds { IfOk result
+            (λ l. l.adds ≡ start_entries (shared_loads loads.items) (shared_tolds imports.items)) }
         ensures worker { IfOk result (λ l. l.worker ≡ worker) }
         ensures refused { IfErr result (λ e. e.0 ≡ kept) }
     {

@@ -39,9 +39,14 @@ impl Model for Start {
 
     ghost Value = { Begun };
 
-    ghost view = { λ s. record { grown = s.grown; adds = start_entries (shared_loads s.loads.items) (shared_tolds s.imports.items) } };
+    ghost view = { λ s. record {
+      grown = s.grown;
+      adds = start_entries (shared_loads s.loads.items)
+          (shared_tolds s.imports.items);
+    } };
 
-    ghost invariant = { λ s. IsJournal s.grown.profile s.grown.index s.grown.entries × (s.values.items ≡ []) × (variables_after 0 s.grown.entries ≤ vec_capacity s.values) };
+    ghost invariant = { λ s. IsJournal s.grown.profile s.grown.index s.grown.entries × (s.values.items ≡ [])
+        × (variables_after 0 s.grown.entries ≤ vec_capacity s.values) };
 }
 
 impl Start {
@@ -53,9 +58,14 @@ impl Start {
         imports: Vec<Arc<Buffer>>,
         start: u64,
     ) -> Result<Start, AllocError>
-        requires { MayAllReplay (replayed journal.now) (start_entries (shared_loads loads.items) (shared_tolds imports.items)) }
-        ensures adds { IfOk result (λ s. s.adds ≡ start_entries (shared_loads loads.items) (shared_tolds imports.items)) }
-        ensures grown { IfOk result (λ s. s.grown ≡ and_entries (started start journal.now) (start_entries (shared_loads loads.items) (shared_tolds imports.items))) }
+        requires { MayAllReplay (replayed journal.now)
+            (start_entries (shared_loads loads.items) (shared_tolds imports.items)) }
+        ensures adds { IfOk result
+            (λ s. s.adds ≡ start_entries (shared_loads loads.items) (shared_tolds imports.items)) }
+        ensures grown { IfOk result
+            (λ s. s.grown
+            ≡ and_entries (started start journal.now)
+            (start_entries (shared_loads loads.items) (shared_tolds imports.items))) }
     {
         let grown = journal.grown(start, loads.as_slice(), imports.as_slice())?;
         let values = Vec::with_capacity(journal.allocator(), grown.variables() as usize)?;

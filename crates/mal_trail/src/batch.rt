@@ -23,7 +23,8 @@ fn left_literal(trail: &Trail, count: usize, lits: &[Lit]) -> Option<Lit>
 /// false.
 pub fn handle_literal(trail: &mut Trail, id: ClauseId, lit: Lit) -> Option<ClauseId>
     requires { var_of lit ≤ trail.old.room }
-    ensures progress { after_literal trail.old.entries id lit ≡ record { trail = trail.new.entries; conflict = result } }
+    ensures progress { after_literal trail.old.entries id lit
+        ≡ record { trail = trail.new.entries; conflict = result } }
     ensures longer { length trail.old.entries ≤ length trail.new.entries }
     ensures prefix { (n : ℕ) → n ≤ length trail.old.entries → take n trail.new.entries ≡ take n trail.old.entries }
     ensures processed { trail.new.processed ≡ trail.old.processed }
@@ -49,7 +50,8 @@ pub fn handle_clause(
 ) -> Option<ClauseId>
     requires count { count ≤ length trail.old.entries }
     requires within { is_within trail.old.room lits.now ≡ true }
-    ensures progress { after_clause (take count trail.old.entries) trail.old.entries (record { id = id; lits = lits.now }) ≡ record { trail = trail.new.entries; conflict = result } }
+    ensures progress { after_clause (take count trail.old.entries) trail.old.entries
+        (record { id = id; lits = lits.now }) ≡ record { trail = trail.new.entries; conflict = result } }
     ensures longer { length trail.old.entries ≤ length trail.new.entries }
     ensures prefix { (n : ℕ) → n ≤ length trail.old.entries → take n trail.new.entries ≡ take n trail.old.entries }
     ensures processed { trail.new.processed ≡ trail.old.processed }

@@ -34,14 +34,16 @@ pub trait Engine: ClauseView + Drop {
         ensures room { OnOk result (HasRoom variables clauses literals (room self.new)) }
         ensures more { IsLeft 0 0 (room self.old) (room self.new) }
         ensures clauses { Self.clauses self.new ≡ Self.clauses self.old }
-        ensures fits { (entries : List TrailEntry) (processed : ℕ) → fits self.old entries processed → fits self.new entries processed };
+        ensures fits { (entries : List TrailEntry) (processed : ℕ) → fits self.old entries processed
+            → fits self.new entries processed };
 
     /// Adds a clause under a number that is not held. Takes no memory.
     fn load(&mut self, id: ClauseId, clause: &Clause, trail: &Trail)
         requires new { lits_under id (Self.clauses self.old) ≡ None }
         requires room { IsRoomFor clause.now (room self.old) }
         requires fits { fits self.old trail.now.entries trail.now.processed }
-        ensures clauses { Self.clauses self.new ≡ with_clause (record { id = id; lits = clause.now }) (Self.clauses self.old) }
+        ensures clauses { Self.clauses self.new ≡ with_clause
+            (record { id = id; lits = clause.now }) (Self.clauses self.old) }
         ensures room { IsLeft 1 (length clause.now) (room self.old) (room self.new) }
         ensures fits { fits self.new trail.now.entries trail.now.processed };
 
@@ -52,7 +54,8 @@ pub trait Engine: ClauseView + Drop {
         requires form { rises lits.now ≡ true }
         requires room { IsRoomFor lits.now (room self.old) }
         requires fits { fits self.old trail.now.entries trail.now.processed }
-        ensures clauses { Self.clauses self.new ≡ with_clause (record { id = id; lits = lits.now }) (Self.clauses self.old) }
+        ensures clauses { Self.clauses self.new ≡ with_clause
+            (record { id = id; lits = lits.now }) (Self.clauses self.old) }
         ensures room { IsLeft 1 (length lits.now) (room self.old) (room self.new) }
         ensures fits { fits self.new trail.now.entries trail.now.processed };
 
@@ -60,7 +63,8 @@ pub trait Engine: ClauseView + Drop {
     fn forget(&mut self, ids: &mut [ClauseId])
         ensures clauses { Self.clauses self.new ≡ forgetting ids.old (Self.clauses self.old) }
         ensures room { IsLeft 0 0 (room self.old) (room self.new) }
-        ensures fits { (entries : List TrailEntry) (processed : ℕ) → fits self.old entries processed → fits self.new entries processed };
+        ensures fits { (entries : List TrailEntry) (processed : ℕ) → fits self.old entries processed
+            → fits self.new entries processed };
 
     /// Handles the next batch, which then counts as handled. The result is the conflict, None exactly where there is
     /// none. Takes no memory.
@@ -68,16 +72,21 @@ pub trait Engine: ClauseView + Drop {
         requires left { trail.old.processed ≤ length trail.old.entries }
         requires within { are_within trail.old.room (Self.clauses self.old) ≡ true }
         requires fits { fits self.old trail.old.entries trail.old.processed }
-        ensures progress { after_batch trail.old.processed trail.old.entries (Self.clauses self.old) ≡ record { trail = trail.new.entries; conflict = result } }
+        ensures progress { after_batch trail.old.processed trail.old.entries (Self.clauses self.old)
+            ≡ record { trail = trail.new.entries; conflict = result } }
         ensures processed { trail.new.processed ≡ trail.old.processed + 1 }
         ensures trail_room { trail.new.room ≡ trail.old.room }
         ensures clauses { Self.clauses self.new ≡ Self.clauses self.old }
         ensures room { IsLeft 0 0 (room self.old) (room self.new) }
         ensures fits { fits self.new trail.new.entries trail.new.processed };
 
-    ghost fits_push: { (engine : Self) (entries : List TrailEntry) (entry : TrailEntry) (processed : ℕ) → processed ≤ length entries + 1 → fits engine entries processed → fits engine (entries ++ entry ∷ []) processed };
+    ghost fits_push: { (engine : Self) (entries : List TrailEntry) (entry : TrailEntry) (processed : ℕ)
+        → processed ≤ length entries + 1 → fits engine entries processed
+        → fits engine (entries ++ entry ∷ []) processed };
 
-    ghost fits_cut: { (engine : Self) (entries : List TrailEntry) (processed level : ℕ) → fits engine entries processed → fits engine (kept level entries) (min processed (length (kept level entries) + 1)) };
+    ghost fits_cut: { (engine : Self) (entries : List TrailEntry) (processed level : ℕ) → fits engine entries processed
+        → fits engine (kept level entries) (min processed (length (kept level entries) + 1)) };
 
-    ghost fits_less: { (engine : Self) (entries : List TrailEntry) (processed less : ℕ) → less ≤ processed → fits engine entries processed → fits engine entries less };
+    ghost fits_less: { (engine : Self) (entries : List TrailEntry) (processed less : ℕ) → less ≤ processed
+        → fits engine entries processed → fits engine entries less };
 }

@@ -191,7 +191,8 @@ impl Trail {
         requires free { has_value self.old.entries (var_of lit) ≡ false }
         requires last { level_of self.old.entries ≤ level }
         requires next { level ≤ level_of self.old.entries + 1 }
-        ensures entries { self.new.entries ≡ self.old.entries ++ record { lit = lit; reason = reason; level = level } ∷ [] }
+        ensures entries { self.new.entries
+            ≡ self.old.entries ++ record { lit = lit; reason = reason; level = level } ∷ [] }
         ensures processed { self.new.processed ≡ self.old.processed }
         ensures room { self.new.room ≡ self.old.room }
     {

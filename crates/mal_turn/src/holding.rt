@@ -14,7 +14,13 @@ impl<T: Recorded + Drop> Turn<T> {
         requires holds { place.old.me ≡ (at_stage (Holds ticket) place.old.me.0, (0, None) ∷ []) }
         requires small { ticket + 1 < 2 ^ 64 }
         ensures same { place.new.table_id ≡ place.old.table_id }
-        ensures entered { place.new.me ≡ (seeing (Entered ticket) (place.old.me.0.seen ++ (place.old.me.0.of.first, T.last value) ∷ []) place.old.me.0, (0, Some value) ∷ []) }
+        ensures entered { place.new.me
+            ≡ (
+              seeing (Entered ticket)
+                  (place.old.me.0.seen ++ (place.old.me.0.of.first, T.last value) ∷ []) place.old.me.0,
+              (0, Some value)
+                  ∷ [],
+            ) }
     {
         let shared = &self.table.shared;
         match shared.exchange(place, 0, Some(value)) {
@@ -27,7 +33,8 @@ impl<T: Recorded + Drop> Turn<T> {
     /// Serves the next ticket.
     pub(crate) fn pass_on(&self, place: &mut Place<T, T::Entry>, ticket: u64)
         requires turn { place.old.table_id ≡ self.now.table.shared.table_id }
-        requires entered { (x : T) × (place.old.me ≡ (at_stage (Entered ticket) place.old.me.0, (0, Some x) ∷ [])) × T.stands x place.old.me.0.seen }
+        requires entered { (x : T) × (place.old.me ≡ (at_stage (Entered ticket) place.old.me.0, (0, Some x) ∷ []))
+            × T.stands x place.old.me.0.seen }
         requires small { ticket + 1 < 2 ^ 64 }
         ensures same { place.new.table_id ≡ place.old.table_id }
         ensures idle { place.new.me ≡ (at_stage Idle place.old.me.0, []) }

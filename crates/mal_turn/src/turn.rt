@@ -56,9 +56,11 @@ impl<T: Recorded + Drop> Turn<T> {
     /// Puts the value back, with its last entry as one entry more, and passes the turn on.
     pub fn put(&self, held: Held<T>) -> Seat<T>
         requires turn { IsHeldOf self.now held }
-        requires value { T.stands held.value ((held_view held).seen ++ ((held_view held).of.first, T.last held.value) ∷ []) }
+        requires value { T.stands held.value
+            ((held_view held).seen ++ ((held_view held).of.first, T.last held.value) ∷ []) }
         ensures turn { IsOf self.now result }
-        ensures seen { (view result).seen ≡ (held_view held).seen ++ ((held_view held).of.first, T.last held.value) ∷ [] }
+        ensures seen { (view result).seen
+            ≡ (held_view held).seen ++ ((held_view held).of.first, T.last held.value) ∷ [] }
         ensures numbers { (view result).of ≡ (held_view held).of }
     {
         let HeldOf {

@@ -55,7 +55,8 @@ impl Waiting {
 impl<T: Recorded + Drop> Turn<T> {
     /// Draws a ticket.
     pub(crate) fn draw<R: Wait>(&self, rt: &R, place: &mut Place<T, T::Entry>) -> u64
-        requires { (place.old.table_id ≡ self.now.table.shared.table_id) × (place.old.me ≡ (at_stage Idle place.old.me.0, [])) × Has place.old.me.0.of place.old.me.0.of.first }
+        requires { (place.old.table_id ≡ self.now.table.shared.table_id)
+            × (place.old.me ≡ (at_stage Idle place.old.me.0, [])) × Has place.old.me.0.of place.old.me.0.of.first }
         ensures same { (place.new.table_id ≡ place.old.table_id) × (result + 1 < 2 ^ 64) }
         ensures view { place.new.me ≡ (at_stage (Drawn result) place.old.me.0, []) }
     {
@@ -77,9 +78,11 @@ impl<T: Recorded + Drop> Turn<T> {
 
     // Draws this ticket, if it is the next. After the last one there is none.
     fn try_draw(&self, place: &mut Place<T, T::Entry>, next: u64) -> Option<u64>
-        requires { (place.old.table_id ≡ self.now.table.shared.table_id) × (place.old.me ≡ (at_stage Idle place.old.me.0, [])) × Has place.old.me.0.of place.old.me.0.of.first }
+        requires { (place.old.table_id ≡ self.now.table.shared.table_id)
+            × (place.old.me ≡ (at_stage Idle place.old.me.0, [])) × Has place.old.me.0.of place.old.me.0.of.first }
         ensures same { place.new.table_id ≡ place.old.table_id }
-        ensures some { IfSome result (λ t. (place.new.me ≡ (at_stage (Drawn t) place.old.me.0, [])) × (t + 1 < 2 ^ 64)) }
+        ensures some { IfSome result
+            (λ t. (place.new.me ≡ (at_stage (Drawn t) place.old.me.0, [])) × (t + 1 < 2 ^ 64)) }
         ensures none { IfNone result (place.new.me ≡ place.old.me) }
     {
         if next == u64::MAX || self.table.shared.peek(TICKET) != next {
@@ -95,9 +98,12 @@ impl<T: Recorded + Drop> Turn<T> {
 
     /// Waits until the ticket is served.
     pub(crate) fn wait<R: Wait>(&self, rt: &R, place: &mut Place<T, T::Entry>, ticket: u64)
-        requires { (place.old.table_id ≡ self.now.table.shared.table_id) × (place.old.me ≡ (at_stage (Drawn ticket) place.old.me.0, [])) }
+        requires { (place.old.table_id ≡ self.now.table.shared.table_id)
+            × (place.old.me ≡ (at_stage (Drawn ticket) place.old.me.0, [])) }
         ensures same { place.new.table_id ≡ place.old.table_id }
-        ensures slot { (x : T) × (place.new.me ≡ (seeing (Holds ticket) place.new.me.0.seen place.old.me.0, (0, Some x) ∷ [])) × T.stands x place.new.me.0.seen }
+        ensures slot { (x : T)
+            × (place.new.me ≡ (seeing (Holds ticket) place.new.me.0.seen place.old.me.0, (0, Some x) ∷ []))
+            × T.stands x place.new.me.0.seen }
         ensures seen { Begins place.new.me.0.seen place.old.me.0.of.all place.old.me.0.seen }
         ensures count { length place.new.me.0.seen ≡ ticket }
     {

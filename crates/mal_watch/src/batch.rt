@@ -14,7 +14,8 @@ use mal_trail::{Trail, handle_clause, handle_literal};
 /// Handles the clauses of at most one literal: the batch of no entry. The result is the conflict.
 pub fn handle_short(trail: &mut Trail, store: &Store) -> Option<ClauseId>
     requires { are_within trail.old.room store.now.clauses ≡ true }
-    ensures progress { after_batch 0 trail.old.entries store.now.clauses ≡ record { trail = trail.new.entries; conflict = result } }
+    ensures progress { after_batch 0 trail.old.entries store.now.clauses
+        ≡ record { trail = trail.new.entries; conflict = result } }
     ensures longer { length trail.old.entries ≤ length trail.new.entries }
     ensures processed { trail.new.processed ≡ trail.old.processed }
     ensures room { trail.new.room ≡ trail.old.room }
@@ -33,7 +34,9 @@ pub fn handle_short(trail: &mut Trail, store: &Store) -> Option<ClauseId>
 /// conflict.
 pub fn handle(trail: &mut Trail, found: &[Found]) -> Option<ClauseId>
     requires { All (λ f. var_of f.lit ≤ trail.old.room) found.now }
-    ensures progress { after_found (record { trail = trail.old.entries; conflict = None }) found.now ≡ record { trail = trail.new.entries; conflict = result } }
+    ensures progress { after_found
+        (record { trail = trail.old.entries; conflict = None }) found.now
+        ≡ record { trail = trail.new.entries; conflict = result } }
     ensures longer { length trail.old.entries ≤ length trail.new.entries }
     ensures prefix { (n : ℕ) → n ≤ length trail.old.entries → take n trail.new.entries ≡ take n trail.old.entries }
     ensures processed { trail.new.processed ≡ trail.old.processed }

@@ -22,7 +22,9 @@ impl Pair {
     /// These two literals of a clause.
     fn of(first: Lit, first_until: usize, second: Lit, second_until: usize) -> Pair
         requires { first ≢ second }
-        ensures { (entries : List TrailEntry) (count : ℕ) (lits : List ℕ) → Has lits first → Has lits second → IsOpenUntil entries count first first_until → IsOpenUntil entries count second second_until → IsBest entries count lits [] result }
+        ensures { (entries : List TrailEntry) (count : ℕ) (lits : List ℕ) → Has lits first → Has lits second
+            → IsOpenUntil entries count first first_until → IsOpenUntil entries count second second_until
+            → IsBest entries count lits [] result }
     {
         if first_until < second_until {
             return Pair {
@@ -42,7 +44,9 @@ impl Pair {
 
     /// The two that stay open longest, where one more literal of the clause is seen.
     fn with(self, lit: Lit, until: usize) -> Pair
-        ensures { (entries : List TrailEntry) (count : ℕ) (lits seen : List ℕ) → Has lits lit → IsOpenUntil entries count lit until → IsBest entries count lits seen self → IsBest entries count lits (seen ++ lit ∷ []) result }
+        ensures { (entries : List TrailEntry) (count : ℕ) (lits seen : List ℕ) → Has lits lit
+            → IsOpenUntil entries count lit until → IsBest entries count lits seen self
+            → IsBest entries count lits (seen ++ lit ∷ []) result }
     {
         if lit == self.first {
             return self;

@@ -22,7 +22,8 @@ fn partner(node: usize) -> usize
 /// The place of a literal other than this one that is not false under the first entries of the trail, so many.
 fn first_open(trail: &Trail, count: usize, lits: &[Lit], other: Lit) -> Option<usize>
     requires { count ≤ length trail.now.entries }
-    ensures { MatchOption result (AreOthersFalse (take count trail.now.entries) other lits.now) (λ i. (i < length lits.now) × IsOther (take count trail.now.entries) other lits.now (slice_index lits.now i)) }
+    ensures { MatchOption result (AreOthersFalse (take count trail.now.entries) other lits.now)
+        (λ i. (i < length lits.now) × IsOther (take count trail.now.entries) other lits.now (slice_index lits.now i)) }
 {
     for place in 0..lits.len() {
         let lit = lits[place];
@@ -36,7 +37,8 @@ fn first_open(trail: &Trail, count: usize, lits: &[Lit], other: Lit) -> Option<u
 /// The same, sought from a place on and round to it.
 fn next_open(trail: &Trail, count: usize, lits: &[Lit], other: Lit, from: usize) -> Option<usize>
     requires { count ≤ length trail.now.entries }
-    ensures { MatchOption result (AreOthersFalse (take count trail.now.entries) other lits.now) (λ i. (i < length lits.now) × IsOther (take count trail.now.entries) other lits.now (slice_index lits.now i)) }
+    ensures { MatchOption result (AreOthersFalse (take count trail.now.entries) other lits.now)
+        (λ i. (i < length lits.now) × IsOther (take count trail.now.entries) other lits.now (slice_index lits.now i)) }
 {
     let start = from.min(lits.len());
     let (front, back) = lits.split_at(start);
@@ -53,8 +55,13 @@ fn next_open(trail: &Trail, count: usize, lits: &[Lit], other: Lit, from: usize)
 fn to_watch(store: &Store, trail: &Trail, count: usize, row: usize, other: Lit) -> Option<usize>
     requires count { count ≤ length trail.now.entries }
     requires row { row < length store.now.long }
-    requires two { length (slice_index_or store.now.long row no_row).lits ≡ 2 → AreOthersFalse (take count trail.now.entries) other (slice_index_or store.now.long row no_row).lits }
-    ensures { MatchOption result (IsSettled (take count trail.now.entries) other (slice_index_or store.now.long row no_row).lits) (λ i. (i < length (slice_index_or store.now.long row no_row).lits) × IsOther (take count trail.now.entries) other (slice_index_or store.now.long row no_row).lits (slice_index (slice_index_or store.now.long row no_row).lits i)) }
+    requires two { length (slice_index_or store.now.long row no_row).lits ≡ 2
+        → AreOthersFalse (take count trail.now.entries) other (slice_index_or store.now.long row no_row).lits }
+    ensures { MatchOption result
+        (IsSettled (take count trail.now.entries) other (slice_index_or store.now.long row no_row).lits)
+        (λ i. (i < length (slice_index_or store.now.long row no_row).lits)
+        × IsOther (take count trail.now.entries) other (slice_index_or store.now.long row no_row).lits
+        (slice_index (slice_index_or store.now.long row no_row).lits i)) }
 {
     if trail.is_true_before(count, other) {
         return None;
@@ -80,10 +87,13 @@ fn visit(
 )
     requires turns { Turns trail.now.entries count lit }
     requires first { chains.old.out ≡ node ∷ drop 1 chains.old.out }
-    requires goes { Goes trail.now.entries count lit chains.old.lists store.old.long chains.old.keys (node ∷ drop 1 chains.old.out) }
+    requires goes { Goes trail.now.entries count lit chains.old.lists store.old.long chains.old.keys
+        (node ∷ drop 1 chains.old.out) }
     requires room { vec_len found.old < vec_capacity found.old }
-    ensures goes { Goes trail.now.entries count lit chains.new.lists store.old.long chains.new.keys (drop 1 chains.old.out) }
-    ensures found { found.new.items ≡ found.old.items ++ found_at (take count trail.now.entries) trail.now.entries store.old.long node }
+    ensures goes { Goes trail.now.entries count lit chains.new.lists store.old.long chains.new.keys
+        (drop 1 chains.old.out) }
+    ensures found { found.new.items
+        ≡ found.old.items ++ found_at (take count trail.now.entries) trail.now.entries store.old.long node }
     ensures out { chains.new.out ≡ drop 1 chains.old.out }
     ensures store { store.new ≡ store.old }
     ensures lists { chains.new.lists ≡ chains.old.lists }
@@ -124,7 +134,8 @@ pub fn walk(
     requires goes { Goes trail.now.entries count lit chains.old.lists store.old.long chains.old.keys chains.old.out }
     requires room { vec_len found.old + length chains.old.out ≤ vec_capacity found.old }
     ensures goes { Goes trail.now.entries count lit chains.new.lists store.old.long chains.new.keys [] }
-    ensures found { found.new.items ≡ found.old.items ++ found_in (take count trail.now.entries) trail.now.entries store.old.long chains.old.out }
+    ensures found { found.new.items
+        ≡ found.old.items ++ found_in (take count trail.now.entries) trail.now.entries store.old.long chains.old.out }
     ensures out { chains.new.out ≡ [] }
     ensures store { store.new ≡ store.old }
     ensures lists { chains.new.lists ≡ chains.old.lists }

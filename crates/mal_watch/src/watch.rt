@@ -35,7 +35,8 @@ impl Watch {
         requires form { rises lits.now ≡ true }
         requires room { IsRoomFor lits.now (room_in self.old) }
         requires fits { Fits self.old trail.now.entries trail.now.processed }
-        ensures clauses { self.new.store.clauses ≡ with_clause (record { id = id; lits = lits.now }) self.old.store.clauses }
+        ensures clauses { self.new.store.clauses ≡ with_clause
+            (record { id = id; lits = lits.now }) self.old.store.clauses }
         ensures room { IsLeft 1 (length lits.now) (room_in self.old) (room_in self.new) }
         ensures fits { Fits self.new trail.now.entries trail.now.processed }
     {
@@ -55,7 +56,8 @@ impl Watch {
         requires some { 1 ≤ count }
         requires count { count ≤ length trail.now.entries }
         requires fits { Fits self.old trail.now.entries count }
-        ensures found { self.new.found.items ≡ pending (take count trail.now.entries) trail.now.entries self.old.store.clauses }
+        ensures found { self.new.found.items
+            ≡ pending (take count trail.now.entries) trail.now.entries self.old.store.clauses }
         ensures store { self.new.store ≡ self.old.store }
         ensures lists { self.new.chains.lists ≡ self.old.chains.lists }
         ensures nodes { self.new.chains.room ≡ self.old.chains.room }
@@ -86,7 +88,8 @@ impl Watch {
         requires left { trail.old.processed ≤ length trail.old.entries }
         requires within { are_within trail.old.room self.old.store.clauses ≡ true }
         requires fits { Fits self.old trail.old.entries trail.old.processed }
-        ensures progress { after_batch trail.old.processed trail.old.entries self.old.store.clauses ≡ record { trail = trail.new.entries; conflict = result } }
+        ensures progress { after_batch trail.old.processed trail.old.entries self.old.store.clauses
+            ≡ record { trail = trail.new.entries; conflict = result } }
         ensures longer { length trail.old.entries ≤ length trail.new.entries }
         ensures processed { trail.new.processed ≡ trail.old.processed }
         ensures trail_room { trail.new.room ≡ trail.old.room }

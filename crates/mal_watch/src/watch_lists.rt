@@ -48,7 +48,8 @@ impl Model for WatchLists {
       room = min (vec_capacity c.nodes - vec_len c.nodes) (nowhere - vec_len c.nodes);
     } };
 
-    ghost invariant = { λ c. IsChained c.heads.items (links_of c.nodes.items) (keys_of c.nodes.items) c.taken × AreListed (length c.heads.items) (keys_of c.nodes.items) };
+    ghost invariant = { λ c. IsChained c.heads.items (links_of c.nodes.items) (keys_of c.nodes.items) c.taken
+        × AreListed (length c.heads.items) (keys_of c.nodes.items) };
 }
 
 impl WatchLists {
@@ -125,7 +126,8 @@ impl WatchLists {
 
     /// The first of the nodes taken out. None exactly where none is out.
     pub fn first(&self) -> Option<usize>
-        ensures { MatchOption result (self.now.out ≡ []) (λ k. (self.now.out ≡ k ∷ drop 1 self.now.out) × (k < length self.now.keys)) }
+        ensures { MatchOption result (self.now.out ≡ [])
+            (λ k. (self.now.out ≡ k ∷ drop 1 self.now.out) × (k < length self.now.keys)) }
     {
         self.taken.node()
     }

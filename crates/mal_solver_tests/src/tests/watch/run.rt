@@ -24,7 +24,8 @@ impl<E: Engine> Model for Run<E> {
 
     ghost view = { λ r. r.trail.room };
 
-    ghost invariant = { λ r. (16 ≤ r.trail.room) × (are_within r.trail.room (E.clauses r.engine) ≡ true) × E.fits r.engine r.trail.entries r.trail.processed };
+    ghost invariant = { λ r. (16 ≤ r.trail.room) × (are_within r.trail.room (E.clauses r.engine) ≡ true)
+        × E.fits r.engine r.trail.entries r.trail.processed };
 }
 
 impl<E: Engine> Run<E> {
