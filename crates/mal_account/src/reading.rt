@@ -3,18 +3,13 @@
 ghost use Rattle.std.specs.Prelude.{◌≡◌, ℕ, List, ◌++◌, false, None, codes, IfOk, MatchResult};
 ghost use Rattle.spec_text.specs.Inputs.{words_of};
 ghost use Rattle.spec_dimacs.specs.Rows.{rows_of};
-ghost use Rattle.spec_script.specs.Limits.{served};
-ghost use Rattle.spec_script.specs.Formed.{IsScript};
+ghost use Rattle.spec_script.specs.{Limits.{served}, Formed.{IsScript}, Script.{Scripted, spelling}};
 ghost use Rattle.spec_script.specs.Reading as script;
-ghost use Rattle.spec_script.specs.Script.{Scripted, spelling};
-ghost use Rattle.mal_history.specs.declared.event.Event.{Event};
-ghost use Rattle.mal_history.specs.Formed.{IsHistory};
-ghost use Rattle.mal_history.specs.Text.{history_text};
+ghost use Rattle.mal_history.specs.{declared.event.Event.{Event}, Formed.{IsHistory}, Text.{history_text}};
 ghost use Rattle.mal_history.specs.ReadResult as history_given;
 ghost use Rattle.mal_history.specs.Reading as history;
 ghost use Rattle.spec_account.specs.Accounts as spelled;
-ghost use Rattle.spec_account.specs.Accounts.{in_history, in_script, is_history_line, read_text};
-ghost use Rattle.spec_account.specs.Grammar.{Spells};
+ghost use Rattle.spec_account.specs.{Accounts.{in_history, in_script, is_history_line, read_text}, Grammar.{Spells}};
 ghost use Rattle.mal_account.specs.ReadResult.{Gives, IsCut, fault_of, seen};
 
 use crate::account::Account;

@@ -2,10 +2,7 @@
 
 ghost use Rattle.std.specs.Prelude.{◌≡◌, ◌<◌, ◌^◌, [], length, IfOk, IfErr, OnOk};
 ghost use Rattle.mal_claim.specs.ReadResult.{seen};
-ghost use Rattle.mal_answer.specs.Answers.{IsAnswer, IsAnswerTo, logged};
-ghost use Rattle.mal_answer.specs.Commands.{IsProved};
-ghost use Rattle.mal_answer.specs.Claims.{TellsFault, TellsRefusal, IsUnverified};
-ghost use Rattle.mal_answer.specs.Devices.{device};
+ghost use Rattle.mal_answer.specs.{Answers.{IsAnswer, IsAnswerTo, logged}, Commands.{IsProved}, Claims.{TellsFault, TellsRefusal, IsUnverified}, Devices.{device}};
 ghost use Rattle.mal_words.specs.declared.request.Request.TheVariants.{Check};
 ghost use Rattle.spec_claim.specs.FaultLines.{verified_line};
 ghost use Rattle.spec_logic.specs.Logic.{IsUnsatisfiable};

@@ -1,8 +1,7 @@
 //! The statuses, and what is written with each.
 
 ghost use Rattle.std.specs.Prelude.{◌⊎◌, OnOk, OnErr};
-ghost use Rattle.mal_answer.specs.Answers.{IsConcluded, IsFinished, hall_text, logged};
-ghost use Rattle.mal_answer.specs.Devices.{Failed, Gained, GainedFront, WroteWhole, WrotePart, device};
+ghost use Rattle.mal_answer.specs.{Answers.{IsConcluded, IsFinished, hall_text, logged}, Devices.{Failed, Gained, GainedFront, WroteWhole, WrotePart, device}};
 
 use crate::answer::{Complaint, LogText, Texts};
 use mal_hall::Hall;

@@ -1,8 +1,7 @@
 //! Reading a command's input.
 
 ghost use Rattle.std.specs.Prelude.{IfOk, IfErr};
-ghost use Rattle.mal_answer.specs.Answers.{IsUnread};
-ghost use Rattle.mal_answer.specs.Devices.{Gave, device};
+ghost use Rattle.mal_answer.specs.{Answers.{IsUnread}, Devices.{Gave, device}};
 
 use crate::answer::Complaint;
 use mal_io::{ReadAllError, Source, read_all};

@@ -2,9 +2,7 @@
 
 ghost use Rattle.std.specs.Prelude.{IfOk, IfErr};
 ghost use Rattle.mal_answer.specs.Answers.{IsScriptRefusal, TellsScriptFault};
-ghost use Rattle.spec_script.specs.Formed.{IsScript};
-ghost use Rattle.spec_script.specs.Grammar.{Spells};
-ghost use Rattle.spec_script.specs.Limits.{served};
+ghost use Rattle.spec_script.specs.{Formed.{IsScript}, Grammar.{Spells}, Limits.{served}};
 
 use crate::answer::Complaint;
 use mal_script::{Script, ScriptFault, fault_line, read};

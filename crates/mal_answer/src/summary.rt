@@ -1,8 +1,7 @@
 //! The summary of a run's replies.
 
 ghost use Rattle.std.specs.Prelude.{◌≡◌, ◌≤◌, bytes_eq, if◌then◌else◌, IfOk};
-ghost use Rattle.mal_answer.specs.Answers.{IsSummaryOf, logged};
-ghost use Rattle.mal_answer.specs.Summaries.{lines_that_are, summary_line};
+ghost use Rattle.mal_answer.specs.{Answers.{IsSummaryOf, logged}, Summaries.{lines_that_are, summary_line}};
 
 use crate::answer::{Complaint, Texts};
 use itoa::Buffer;

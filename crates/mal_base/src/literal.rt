@@ -1,8 +1,7 @@
 //! Variables and literals, as DIMACS CNF numbers them.
 
 ghost use Rattle.std.specs.Prelude.{◌≡◌, ℕ, ◌+◌, ◌-◌, ◌*◌, ◌/◌, ◌%◌, ◌<◌, ◌≤◌, ◌↔◌, ◌==◌, true, IfOk, IsSome, IfSome, pos, int_lt, nat_abs};
-ghost use Rattle.mal_base.specs.Literals.{var_of, dimacs_of, negated, literal, has_plus, IsLiteral};
-ghost use Rattle.mal_base.specs.Clauses.{climbs, HaveSame};
+ghost use Rattle.mal_base.specs.{Literals.{var_of, dimacs_of, negated, literal, has_plus, IsLiteral}, Clauses.{climbs, HaveSame}};
 
 use std::alloc::{AllocError, Global};
 use std::marker::Model;

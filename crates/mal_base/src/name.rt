@@ -1,9 +1,7 @@
 //! The names of tenants and jobs.
 
 ghost use Rattle.std.specs.Prelude.{◌≡◌, ◌≢◌, ℕ, ◌-◌, ◌<◌, ◌++◌, List, true, length, take, replicate, IfOk, MatchOption};
-ghost use Rattle.std.specs.List.{list_all};
-ghost use Rattle.std.specs.Str.{bytes_eq};
-ghost use Rattle.std.specs.Cmp.Rules.{comparing};
+ghost use Rattle.std.specs.{List.{list_all}, Str.{bytes_eq}, Cmp.Rules.{comparing}};
 ghost use Rattle.std.proofs.Common.{rules};
 ghost use Rattle.mal_base.specs.Names.{is_name, is_name_byte};
 

@@ -1,9 +1,7 @@
 //! A trail and clauses as the layers above see them, whatever keeps them.
 
 ghost use Rattle.std.specs.Prelude.{◌≡◌, ◌<◌, List, length, slice_get, Some, None, MatchOption};
-ghost use Rattle.mal_base.specs.NumberedClause.{NumberedClause, lits_under};
-ghost use Rattle.mal_base.specs.Trails.{value_on};
-ghost use Rattle.mal_base.specs.declared.trail_entry.TrailEntry.{TrailEntry};
+ghost use Rattle.mal_base.specs.{NumberedClause.{NumberedClause, lits_under}, Trails.{value_on}, declared.trail_entry.TrailEntry.{TrailEntry}};
 
 use crate::clause_id::ClauseId;
 use crate::literal::{Lit, Var};

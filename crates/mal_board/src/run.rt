@@ -1,8 +1,7 @@
 //! Running a script with many workers that share a service.
 
 ghost use Rattle.std.specs.Prelude.{◌≡◌, ◌≤◌, IfOk};
-ghost use Rattle.mal_pool.specs.Gates.{LosesByStops};
-ghost use Rattle.mal_pool.specs.Posts.{HasRun};
+ghost use Rattle.mal_pool.specs.{Gates.{LosesByStops}, Posts.{HasRun}};
 
 use crate::served::Served;
 use mal_hall::Hall;

@@ -1,8 +1,7 @@
 //! Buffers, merging and cutting.
 
 ghost use Rattle.std.specs.Prelude.{◌≡◌, ◌+◌, ◌-◌, ◌<◌, ◌≤◌, List, [], ◌∷◌, ◌++◌, length, take, IfOk, OnOk};
-ghost use Rattle.spec_exchange.specs.Exchange.{union, front, lesser, merged};
-ghost use Rattle.spec_exchange.specs.Order.{IsSorted};
+ghost use Rattle.spec_exchange.specs.{Exchange.{union, front, lesser, merged}, Order.{IsSorted}};
 
 use crate::order::clause_order;
 use mal_base::{Clause, ClauseId, NumberedClause};

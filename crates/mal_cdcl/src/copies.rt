@@ -3,8 +3,7 @@
 ghost use Rattle.std.specs.Prelude.{◌≡◌, ◌≤◌, true, IfOk};
 ghost use Rattle.mal_base.specs.Clauses.{rises};
 ghost use Rattle.mal_freeze.specs.Imaged.{are_clauses, numbers_rise};
-ghost use Rattle.mal_cdcl.specs.Rising.{all_rise};
-ghost use Rattle.mal_cdcl.specs.ImportSizes.{lits_in};
+ghost use Rattle.mal_cdcl.specs.{Rising.{all_rise}, ImportSizes.{lits_in}};
 
 use crate::needs::added;
 use mal_base::{Clause, ClauseId, Lit, NumberedClause};

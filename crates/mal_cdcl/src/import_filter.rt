@@ -3,10 +3,8 @@
 ghost use Rattle.std.specs.Prelude.{◌≡◌, ℕ, ◌||◌, true, not, bytes_eq, List, [], filter, IfOk, OnOk};
 ghost use Rattle.mal_base.specs.NumberedClause.{NumberedClause};
 ghost use Rattle.mal_filter.specs.Noted.{is_noted};
-ghost use Rattle.spec_node.specs.Import.{has_lits};
-ghost use Rattle.spec_node.specs.State.{Node};
-ghost use Rattle.mal_cdcl.specs.Ready.{posted, readied};
-ghost use Rattle.mal_cdcl.specs.Importing.{Sees, lent, picked, is_told_in, is_posted_in, is_loaded_in};
+ghost use Rattle.spec_node.specs.{Import.{has_lits}, State.{Node}};
+ghost use Rattle.mal_cdcl.specs.{Ready.{posted, readied}, Importing.{Sees, lent, picked, is_told_in, is_posted_in, is_loaded_in}};
 
 use mal_base::{Clause, Lit, NumberedClause};
 use mal_buffer::Buffer;

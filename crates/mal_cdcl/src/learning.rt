@@ -3,9 +3,7 @@
 ghost use Rattle.std.specs.Prelude.{◌≡◌, ℕ, Bool, ◌==◌, true, take, Some};
 ghost use Rattle.std.specs.List.{list_all, list_any};
 ghost use Rattle.spec_node.specs.Value.{left_literal};
-ghost use Rattle.spec_learn.specs.Analysis.{vars_in};
-ghost use Rattle.spec_learn.specs.Learning.{forced_by};
-ghost use Rattle.spec_learn.specs.Order.{moved_all};
+ghost use Rattle.spec_learn.specs.{Analysis.{vars_in}, Learning.{forced_by}, Order.{moved_all}};
 ghost use Rattle.mal_cdcl.specs.Sliced.{IsForcible};
 
 use mal_base::{ClauseId, Lit};

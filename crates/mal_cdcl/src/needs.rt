@@ -4,8 +4,7 @@ ghost use Rattle.std.specs.Prelude.{◌≡◌, ℕ, ◌+◌, ◌-◌, ◌≤◌,
 ghost use Rattle.mal_base.specs.declared.trail_entry.TrailEntry.{TrailEntry};
 ghost use Rattle.mal_trail.specs.Rooms.{HasRoom};
 ghost use Rattle.spec_search.specs.Slice.{most_numbers};
-ghost use Rattle.mal_cdcl.specs.ImportSizes.{lits_in, told_clauses, told_literals};
-ghost use Rattle.mal_cdcl.specs.Ready.{posted, greatest, clauses_in, literals_in, most_assumptions};
+ghost use Rattle.mal_cdcl.specs.{ImportSizes.{lits_in, told_clauses, told_literals}, Ready.{posted, greatest, clauses_in, literals_in, most_assumptions}};
 
 use crate::import_filter::Pick;
 use mal_base::{Lit, NumberedClause};

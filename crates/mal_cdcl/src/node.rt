@@ -2,26 +2,11 @@
 
 ghost use Rattle.std.specs.Prelude.{◌≡◌, ◌+◌, ◌-◌, ◌^◌, ◌<◌, ◌≤◌, length, Some, None, [], ◌∷◌, ◌++◌, OnOk, OnErr, IfOk, MatchOption, vec_capacity};
 ghost use Rattle.mal_base.specs.Trails.{value_on};
-ghost use Rattle.spec_node.specs.State.{fresh, fresh_with};
-ghost use Rattle.spec_node.specs.Value.{first_open, first_free, level_of};
-ghost use Rattle.spec_node.specs.Batch.{propagated};
-ghost use Rattle.spec_node.specs.Cut.{cut};
-ghost use Rattle.spec_node.specs.Load.{loaded};
-ghost use Rattle.mal_cdcl.specs.ImportSizes.{lits_in, told_clauses};
-ghost use Rattle.mal_cdcl.specs.Importing.{AreNewTo, lent, MayImportAll, all_imported, with_pick};
+ghost use Rattle.spec_node.specs.{State.{fresh, fresh_with}, Value.{first_open, first_free, level_of}, Batch.{propagated}, Cut.{cut}, Load.{loaded}, Laws.{AreNewNumbers}, Model.{model_of}, Sound.{IsSound}};
+ghost use Rattle.mal_cdcl.specs.{ImportSizes.{lits_in, told_clauses}, Importing.{AreNewTo, lent, MayImportAll, all_imported, with_pick}, Ready.{posted, readied, greatest, clauses_in, AreNew, HasRoomFor, IsSpared}, Sliced.{HasSliceRoom, HasStepRoom, HasIdRoom, HasLowCounts, MayCount, Keeps, IsShown, IsEnded, IsStepped, IsSearched, IsFailing, HasClauseRoom, HasLineRoom, IsLineLess}, Sourced.{IsSource, analysis_from, line_from}};
 ghost use Rattle.mal_trail.specs.Rooms.{HasRoom};
-ghost use Rattle.spec_node.specs.Laws.{AreNewNumbers};
-ghost use Rattle.spec_node.specs.Model.{model_of};
-ghost use Rattle.spec_node.specs.Sound.{IsSound};
-ghost use Rattle.spec_learn.specs.Learning.{analysis, derived_id, learned};
-ghost use Rattle.spec_learn.specs.Refuting.{refuted};
-ghost use Rattle.spec_search.specs.Step.{step, restarting, branching, case_of, after_case};
-ghost use Rattle.spec_search.specs.Dropping.{dropped};
-ghost use Rattle.spec_search.specs.Step.Case.{Decides, Restarts};
-ghost use Rattle.spec_search.specs.Slice.{slice, numbers_of, most_numbers};
-ghost use Rattle.mal_cdcl.specs.Ready.{posted, readied, greatest, clauses_in, AreNew, HasRoomFor, IsSpared};
-ghost use Rattle.mal_cdcl.specs.Sliced.{HasSliceRoom, HasStepRoom, HasIdRoom, HasLowCounts, MayCount, Keeps, IsShown, IsEnded, IsStepped, IsSearched, IsFailing, HasClauseRoom, HasLineRoom, IsLineLess};
-ghost use Rattle.mal_cdcl.specs.Sourced.{IsSource, analysis_from, line_from};
+ghost use Rattle.spec_learn.specs.{Learning.{analysis, derived_id, learned}, Refuting.{refuted}};
+ghost use Rattle.spec_search.specs.{Step.{step, restarting, branching, case_of, after_case}, Dropping.{dropped}, Step.Case.{Decides, Restarts}, Slice.{slice, numbers_of, most_numbers}};
 ghost use Rattle.mal_learn.specs.Shown.{HasLeft};
 ghost use Rattle.mal_freeze.specs.Imaged.{IsImage};
 

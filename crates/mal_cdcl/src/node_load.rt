@@ -2,15 +2,9 @@
 
 ghost use Rattle.std.specs.Prelude.{◌≡◌, ◌+◌, ◌-◌, ◌*◌, ◌/◌, ◌^◌, ◌≤◌, ◌<◌, true, All, ◌++◌, length, replicate, slice_set, vec_len, vec_capacity};
 ghost use Rattle.std.specs.List.{list_all};
-ghost use Rattle.mal_base.specs.Formulas.{is_clause_of, literals_of};
-ghost use Rattle.mal_base.specs.NumberedClause.{NumberedClause};
-ghost use Rattle.mal_base.specs.Literals.{var_of, has_plus};
-ghost use Rattle.spec_node.specs.Cut.{saved};
-ghost use Rattle.spec_node.specs.Load.{numbered, with_originals};
-ghost use Rattle.spec_node.specs.Sound.{NumbersRise};
-ghost use Rattle.spec_node.specs.Import.{with_clauses, serial_above};
-ghost use Rattle.mal_cdcl.specs.ImportSizes.{lits_in};
-ghost use Rattle.mal_cdcl.specs.Importing.{AreNewTo};
+ghost use Rattle.mal_base.specs.{Formulas.{is_clause_of, literals_of}, NumberedClause.{NumberedClause}, Literals.{var_of, has_plus}};
+ghost use Rattle.spec_node.specs.{Cut.{saved}, Load.{numbered, with_originals}, Sound.{NumbersRise}, Import.{with_clauses, serial_above}};
+ghost use Rattle.mal_cdcl.specs.{ImportSizes.{lits_in}, Importing.{AreNewTo}};
 ghost use Rattle.mal_trail.specs.Rooms.{IsLeft};
 
 use mal_base::{Clause, ClauseId, Lit, NumberedClause, TrailEntry, Var};

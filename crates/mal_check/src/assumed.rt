@@ -1,8 +1,7 @@
 //! Assumptions among which literals are looked for.
 
 ghost use Rattle.std.specs.Prelude.{◌≡◌, ◌==◌, true};
-ghost use Rattle.std.specs.List.{list_any, list_all};
-ghost use Rattle.std.specs.List.Sorted.{IsNonDecreasing};
+ghost use Rattle.std.specs.{List.{list_any, list_all}, List.Sorted.{IsNonDecreasing}};
 ghost use Rattle.mal_base.specs.Literals.{negated};
 ghost use Rattle.spec_logic.specs.Refutation.{contradicts};
 

@@ -4,13 +4,8 @@ ghost use Rattle.std.specs.Prelude.{◌≡◌, ◌∷◌, ◌++◌, [], map, IsT
 ghost use Rattle.std.specs.List.{list_any};
 ghost use Rattle.mal_base.specs.Literals.{negated};
 ghost use Rattle.mal_lrat.specs.LineView.{seen};
-ghost use Rattle.spec_logic.specs.Logic.{Entails, IsUnsatisfiable};
-ghost use Rattle.spec_logic.specs.Derivation.{propagation, derivation};
-ghost use Rattle.spec_logic.specs.Refutation.{numbered, with_clause, after_line, added_in, refusal, contradicts};
-ghost use Rattle.spec_logic.specs.Refutation.ProofLine.{Add, Delete};
-ghost use Rattle.mal_check.specs.Checked.{held, IsSound};
-ghost use Rattle.mal_check.specs.Places.{no_places};
-ghost use Rattle.mal_check.specs.CheckAnswers.{Ends, Answers};
+ghost use Rattle.spec_logic.specs.{Logic.{Entails, IsUnsatisfiable}, Derivation.{propagation, derivation}, Refutation.{numbered, with_clause, after_line, added_in, refusal, contradicts}, Refutation.ProofLine.{Add, Delete}};
+ghost use Rattle.mal_check.specs.{Checked.{held, IsSound}, Places.{no_places}, CheckAnswers.{Ends, Answers}};
 
 use crate::assumed::has_contradiction;
 use crate::effect::{Effect, effect_of};

@@ -1,11 +1,9 @@
 //! The clauses of a checker.
 
 ghost use Rattle.std.specs.Prelude.{◌≡◌, ℕ, ◌∷◌, ◌++◌, ◌==◌, [], None, if◌then◌else◌, OnOk, OnErr};
-ghost use Rattle.std.specs.List.{list_any};
-ghost use Rattle.std.specs.Option.{option_map};
+ghost use Rattle.std.specs.{List.{list_any}, Option.{option_map}};
 ghost use Rattle.spec_logic.specs.Refutation.{with_clause, without};
-ghost use Rattle.mal_check.specs.Places.{clause_at, place_in, no_places};
-ghost use Rattle.mal_check.specs.Checked.{held};
+ghost use Rattle.mal_check.specs.{Places.{clause_at, place_in, no_places}, Checked.{held}};
 
 use crate::places::PlaceTable;
 use mal_base::{Clause, ClauseId};
@@ -28,8 +26,7 @@ pub struct Clauses {
 }
 
 impl Model for Clauses {
-    ghost use Rattle.mal_check.specs.Places.{HavePlaces};
-    ghost use Rattle.mal_check.specs.Checked.{Checked};
+    ghost use Rattle.mal_check.specs.{Places.{HavePlaces}, Checked.{Checked}};
 
     ghost Value = { Checked };
 

@@ -1,13 +1,10 @@
 //! Checking the lines of a proof.
 
 ghost use Rattle.std.specs.Prelude.{◌≡◌, ◌++◌, OnOk};
-ghost use Rattle.spec_logic.specs.Logic.{IsUnsatisfiable};
-ghost use Rattle.spec_logic.specs.Refutation.{added_by};
+ghost use Rattle.spec_logic.specs.{Logic.{IsUnsatisfiable}, Refutation.{added_by}};
 ghost use Rattle.spec_check.specs.Proofs.{bare, first_refused, verdict_of};
 ghost use Rattle.mal_check.specs.Checked.{held};
-ghost use Rattle.mal_claim.specs.Views.{views};
-ghost use Rattle.mal_claim.specs.Verdicts.{Says, SaysLine, IsFault};
-ghost use Rattle.mal_claim.specs.declared.checking.VerifyFault.TheVariants.{OutOfMemory};
+ghost use Rattle.mal_claim.specs.{Views.{views}, Verdicts.{Says, SaysLine, IsFault}, declared.checking.VerifyFault.TheVariants.{OutOfMemory}};
 
 use crate::proof_reading::NumberedLine;
 use mal_base::{Formula, Lit};

@@ -1,8 +1,7 @@
 //! Reading the lines of a claim's formula.
 
 ghost use Rattle.std.specs.Prelude.{◌≡◌, ◌≤◌, ◌+◌, None, length, max, IfOk};
-ghost use Rattle.spec_dimacs.specs.Rows.{rows_of};
-ghost use Rattle.spec_dimacs.specs.Reading.{at_end, on_line, read_rows};
+ghost use Rattle.spec_dimacs.specs.{Rows.{rows_of}, Reading.{at_end, on_line, read_rows}};
 ghost use Rattle.spec_claim.specs.Claims.{formula_rows, behind_formula, in_formula};
 ghost use Rattle.mal_claim.specs.ReadResult.{Gives, IsOnLine};
 

@@ -4,8 +4,7 @@ ghost use Rattle.std.specs.Prelude.{◌≡◌, ◌<◌, ◌+◌, ◌^◌, Ok, le
 ghost use Rattle.spec_text.specs.Inputs.{lines_of, words_of};
 ghost use Rattle.spec_check.specs.Proofs.{last_after, with_number, row_at, lines_from};
 ghost use Rattle.mal_lrat.specs.LineView.{seen};
-ghost use Rattle.mal_claim.specs.Views.{views};
-ghost use Rattle.mal_claim.specs.Answers.{Gives, GivesRow};
+ghost use Rattle.mal_claim.specs.{Views.{views}, Answers.{Gives, GivesRow}};
 
 use mal_dimacs::is_passed;
 use mal_lrat::{Line, LineFault, read_line};

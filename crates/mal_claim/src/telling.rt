@@ -1,11 +1,9 @@
 //! The lines that tell why a text is no claim, or why its proof is not verified.
 
 ghost use Rattle.std.specs.Prelude.{◌≡◌, ◌∷◌, [], None, map, codes, IfOk, MatchOption};
-ghost use Rattle.spec_text.specs.Lines.{line_of};
-ghost use Rattle.spec_text.specs.Numbers.{decimal_word};
+ghost use Rattle.spec_text.specs.{Lines.{line_of}, Numbers.{decimal_word}};
 ghost use Rattle.spec_claim.specs.FaultLines.{proof_line};
-ghost use Rattle.mal_claim.specs.ReadResult.{Tells, TellsVerdict, fault_of, in_line, refused, verdict_in};
-ghost use Rattle.mal_claim.specs.Verdicts.{refusal_of};
+ghost use Rattle.mal_claim.specs.{ReadResult.{Tells, TellsVerdict, fault_of, in_line, refused, verdict_in}, Verdicts.{refusal_of}};
 
 use crate::VerifyFault;
 use crate::fault::ClaimFault;

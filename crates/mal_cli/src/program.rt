@@ -1,11 +1,9 @@
 //! The program from its words and its devices to its exit status.
 
 ghost use Rattle.std.specs.Prelude.{◌≡◌, ◌⊎◌, map, string_bytes};
-ghost use Rattle.mal_answer.specs.Devices.{AreSilent, Complained, device, usage_line};
-ghost use Rattle.mal_answer.specs.Served.{HasDone, ReadsNothing};
+ghost use Rattle.mal_answer.specs.{Devices.{AreSilent, Complained, device, usage_line}, Served.{HasDone, ReadsNothing}};
 ghost use Rattle.mal_cli.specs.Answering.{HasAnswered};
-ghost use Rattle.mal_words.specs.Requests.{IsRequest, Means, MeansNothing};
-ghost use Rattle.mal_words.specs.declared.request.Request.{Request};
+ghost use Rattle.mal_words.specs.{Requests.{IsRequest, Means, MeansNothing}, declared.request.Request.{Request}};
 
 use crate::generating::{run_generated, run_generated_alone};
 use crate::replaying::replay_source;

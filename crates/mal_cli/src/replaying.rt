@@ -3,9 +3,7 @@
 ghost use Rattle.std.specs.Prelude.{◌≡◌, ◌∷◌, [], codes, IfOk, IfErr, MatchOption};
 ghost use Rattle.mal_account.specs.ReadResult.{seen};
 ghost use Rattle.mal_cli.specs.Accounts.{IsReplayText, IsUnsound, TellsFault, TellsReplay};
-ghost use Rattle.mal_answer.specs.Answers.{IsAnswer, IsAnswerTo, logged};
-ghost use Rattle.mal_answer.specs.Commands.{AreReplies};
-ghost use Rattle.mal_answer.specs.Devices.{device};
+ghost use Rattle.mal_answer.specs.{Answers.{IsAnswer, IsAnswerTo, logged}, Commands.{AreReplies}, Devices.{device}};
 ghost use Rattle.mal_words.specs.declared.request.Request.TheVariants.{Replay};
 ghost use Rattle.spec_account.specs.FaultLines.{history_line};
 ghost use Rattle.mal_base.specs.declared.replay_fault.ReplayFault.TheVariants.{OutOfMemory};

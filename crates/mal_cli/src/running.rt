@@ -1,9 +1,7 @@
 //! Running a script.
 
 ghost use Rattle.std.specs.Prelude.{◌≤◌, ℕ, IfOk};
-ghost use Rattle.mal_answer.specs.Answers.{IsAnswer, IsAnswerTo, logged};
-ghost use Rattle.mal_answer.specs.Commands.{IsRunOf};
-ghost use Rattle.mal_answer.specs.Devices.{device};
+ghost use Rattle.mal_answer.specs.{Answers.{IsAnswer, IsAnswerTo, logged}, Commands.{IsRunOf}, Devices.{device}};
 ghost use Rattle.mal_pool.specs.Posts.{HasRun};
 ghost use Rattle.mal_words.specs.declared.request.Request.TheVariants.{Run};
 ghost use Rattle.spec_run.specs.Run.{IsRun};

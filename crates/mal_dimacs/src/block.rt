@@ -2,11 +2,8 @@
 
 ghost use Rattle.std.specs.Prelude.{◌≡◌, ◌≤◌, ◌∷◌, ◌++◌, [], true, nat_abs, Ok};
 ghost use Rattle.mal_base.specs.Formulas.{is_clause_of, size_of};
-ghost use Rattle.spec_text.specs.Inputs.{words_of};
-ghost use Rattle.spec_text.specs.Numbers.{number_in};
-ghost use Rattle.spec_dimacs.specs.Merged.{clause_of};
-ghost use Rattle.spec_dimacs.specs.Blocks.{IsBlock};
-ghost use Rattle.spec_dimacs.specs.Reading.{Block, after_counted, after_number, after_percent, after_row, after_words, after_zero, closed, code_of, ended, opened};
+ghost use Rattle.spec_text.specs.{Inputs.{words_of}, Numbers.{number_in}};
+ghost use Rattle.spec_dimacs.specs.{Merged.{clause_of}, Blocks.{IsBlock}, Reading.{Block, after_counted, after_number, after_percent, after_row, after_words, after_zero, closed, code_of, ended, opened}};
 ghost use Rattle.mal_dimacs.specs.Reads.{Gives, Leaves};
 ghost use Rattle.mal_base.specs.declared.stage.Stage.TheVariants as stage;
 
@@ -33,8 +30,7 @@ pub struct BlockReader {
 }
 
 impl Model for BlockReader {
-    ghost use Rattle.spec_dimacs.specs.Blocks.{IsBlock};
-    ghost use Rattle.spec_dimacs.specs.Reading.{Block};
+    ghost use Rattle.spec_dimacs.specs.{Blocks.{IsBlock}, Reading.{Block}};
 
     ghost Value = { Block };
 

@@ -1,8 +1,7 @@
 //! The header of a block.
 
 ghost use Rattle.std.specs.Prelude.{◌≡◌, ◌∷◌, [], List, ℕ, Err, MatchOption};
-ghost use Rattle.spec_text.specs.Inputs.{words_of};
-ghost use Rattle.spec_text.specs.Numbers.{magnitude_in};
+ghost use Rattle.spec_text.specs.{Inputs.{words_of}, Numbers.{magnitude_in}};
 ghost use Rattle.mal_text.specs.Numbers.{magnitude_word_of};
 ghost use Rattle.spec_dimacs.specs.Reading.{opened, opened_with};
 ghost use Rattle.mal_dimacs.specs.Counts.{opens_with};

@@ -2,12 +2,9 @@
 
 ghost use Rattle.std.specs.Prelude.{◌≡◌, true, None, IfOk, MatchResult};
 ghost use Rattle.mal_base.specs.Formulas.{Formulated, is_formula};
-ghost use Rattle.spec_dimacs.specs.Grammar.{Spells};
-ghost use Rattle.spec_dimacs.specs.Written.{spelling};
-ghost use Rattle.mal_dimacs.specs.declared.fault.DimacsFault.TheVariants.{OutOfMemory};
+ghost use Rattle.spec_dimacs.specs.{Grammar.{Spells}, Written.{spelling}, Reading.{after_line, at_end, read_text}};
+ghost use Rattle.mal_dimacs.specs.{declared.fault.DimacsFault.TheVariants.{OutOfMemory}, Reads.{Gives, GivesAt}};
 ghost use Rattle.spec_text.specs.Inputs.{words_of};
-ghost use Rattle.spec_dimacs.specs.Reading.{after_line, at_end, read_text};
-ghost use Rattle.mal_dimacs.specs.Reads.{Gives, GivesAt};
 
 use crate::block::BlockReader;
 use crate::fault::{DimacsError, DimacsFault};

@@ -3,9 +3,7 @@
 ghost use Rattle.std.specs.Prelude.{◌≡◌, ◌≤◌, true, nat_abs, IfOk};
 ghost use Rattle.mal_base.specs.Formulas.{is_clause_of, is_within};
 ghost use Rattle.spec_text.specs.Inputs.{words_of};
-ghost use Rattle.spec_dimacs.specs.Merged.{clause_of};
-ghost use Rattle.spec_dimacs.specs.Rows.{is_comment, is_passed};
-ghost use Rattle.spec_dimacs.specs.Reading.{code_of};
+ghost use Rattle.spec_dimacs.specs.{Merged.{clause_of}, Rows.{is_comment, is_passed}, Reading.{code_of}};
 
 use mal_base::{Clause, Lit};
 use mal_text::first_word;

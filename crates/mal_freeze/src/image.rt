@@ -1,8 +1,7 @@
 //! The image of a node.
 
 ghost use Rattle.std.specs.Prelude.{◌≡◌, ◌==◌, ◌||◌, ◌&&◌, ◌≤◌, ◌↔◌, IsTrue, IfOk, MatchOption};
-ghost use Rattle.mal_freeze.specs.Imaged.{IsImage, HasRanges};
-ghost use Rattle.mal_freeze.specs.Parted.{node_of};
+ghost use Rattle.mal_freeze.specs.{Imaged.{IsImage, HasRanges}, Parted.{node_of}};
 
 use crate::parts::Parts;
 use crate::scan;
@@ -23,8 +22,7 @@ pub struct Image {
 
 impl Model for Image {
     ghost use Rattle.spec_node.specs.State.{Node};
-    ghost use Rattle.mal_freeze.specs.Imaged.{IsImage};
-    ghost use Rattle.mal_freeze.specs.Parted.{node_of};
+    ghost use Rattle.mal_freeze.specs.{Imaged.{IsImage}, Parted.{node_of}};
 
     ghost Value = { Node };
 

@@ -2,9 +2,7 @@
 
 ghost use Rattle.std.specs.Prelude.{◌≡◌, ℕ, ◌≤◌, ◌+◌, ◌-◌, ◌*◌, ◌<◌, List, Result, length, IfOk};
 ghost use Rattle.std.specs.Int.{w32, w64};
-ghost use Rattle.mal_freeze.specs.declared.fault.ThawFault.{ThawFault};
-ghost use Rattle.mal_freeze.specs.declared.fault.ThawFault.TheVariants.{BadField};
-ghost use Rattle.mal_freeze.specs.Reading.{Gives, place_of, number_at, ranged_at, byte_at, many_at, counted_at, literal_at, variable_at, number_in, phase_at, entry_at, clause_at, profile_at, dropping_at, head_at, search_at, ended_at, lists_at, fields_at};
+ghost use Rattle.mal_freeze.specs.{declared.fault.ThawFault.{ThawFault}, declared.fault.ThawFault.TheVariants.{BadField}, Reading.{Gives, place_of, number_at, ranged_at, byte_at, many_at, counted_at, literal_at, variable_at, number_in, phase_at, entry_at, clause_at, profile_at, dropping_at, head_at, search_at, ended_at, lists_at, fields_at}};
 
 use crate::fault::ThawFault;
 use crate::fields::{Ended, Fields, Head, Lists, Search};

@@ -2,8 +2,7 @@
 
 ghost use Rattle.std.specs.Prelude.{◌≡◌, ◌≤◌, [], true, false, IfOk, MatchOption};
 ghost use Rattle.mal_base.specs.Formulas.{is_within};
-ghost use Rattle.mal_freeze.specs.Imaged.{are_new, is_order, may_follow, all_follow, are_literals, are_clauses, numbers_rise};
-ghost use Rattle.mal_freeze.specs.Trailing.{IsTrailOf};
+ghost use Rattle.mal_freeze.specs.{Imaged.{are_new, is_order, may_follow, all_follow, are_literals, are_clauses, numbers_rise}, Trailing.{IsTrailOf}};
 
 use mal_base::{Clause, Lit, NumberedClause, TrailEntry, Var};
 use mal_trail::Trail;

@@ -1,9 +1,7 @@
 //! From bytes to images.
 
 ghost use Rattle.std.specs.Prelude.{◌≡◌, true, false, Ok, IfOk, IfErr, MatchOption};
-ghost use Rattle.mal_freeze.specs.Parted.{node_of};
-ghost use Rattle.mal_freeze.specs.Reading.{Gives, ArePartsOf, fits_goal, verdict_in, is_canonical, node_in, image_in};
-ghost use Rattle.mal_freeze.specs.Spelling.{image_bytes};
+ghost use Rattle.mal_freeze.specs.{Parted.{node_of}, Reading.{Gives, ArePartsOf, fits_goal, verdict_in, is_canonical, node_in, image_in}, Spelling.{image_bytes}};
 
 use crate::fault::ThawFault;
 use crate::fields::{Ended, Fields};

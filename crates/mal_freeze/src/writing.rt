@@ -1,12 +1,8 @@
 //! From images to bytes.
 
 ghost use Rattle.std.specs.Prelude.{◌≡◌, ◌<◌, ◌^◌, ◌++◌, Ok, length, flat_map, IfOk, OnOk};
-ghost use Rattle.std.specs.Int.{w32, w64};
-ghost use Rattle.std.specs.List.{AllByRecursion};
-ghost use Rattle.mal_freeze.specs.Parted.{node_of};
-ghost use Rattle.mal_freeze.specs.Reading.{image_in};
-ghost use Rattle.mal_freeze.specs.Spelling.{spelled, magic, dropping_bytes, number_or_0, code_of, goal_of, counted, phase_bytes, entry_bytes, clause_bytes, head_bytes, search_bytes, verdict_bytes, list_bytes, image_bytes};
-ghost use Rattle.mal_freeze.specs.Widths.{FitsNumber, FitsGoal, FitsEntry, FitsClause, FitsCounts, FitsLists, Fits};
+ghost use Rattle.std.specs.{Int.{w32, w64}, List.{AllByRecursion}};
+ghost use Rattle.mal_freeze.specs.{Parted.{node_of}, Reading.{image_in}, Spelling.{spelled, magic, dropping_bytes, number_or_0, code_of, goal_of, counted, phase_bytes, entry_bytes, clause_bytes, head_bytes, search_bytes, verdict_bytes, list_bytes, image_bytes}, Widths.{FitsNumber, FitsGoal, FitsEntry, FitsClause, FitsCounts, FitsLists, Fits}};
 
 use crate::image::Image;
 use crate::parts::Parts;

@@ -4,10 +4,7 @@ ghost use Rattle.std.specs.Prelude.{◌≡◌, false, Some, Err, MatchOption, If
 ghost use Rattle.mal_base.specs.Asks.{Terms};
 ghost use Rattle.mal_hall.specs.Applied.{HasApplied, HasEntered, IsInside, IsRefused, StartsAt};
 ghost use Rattle.mal_revision.specs.Posted.{Posted};
-ghost use Rattle.spec_hall.specs.Calls.{Opens, Revises, wanted};
-ghost use Rattle.spec_hall.specs.Dressed.{keyed};
-ghost use Rattle.spec_hall.specs.Events.{Open, Revise, Close, Balance, Start, Finish, Exchange};
-ghost use Rattle.spec_hall.specs.Legal.{Allowed};
+ghost use Rattle.spec_hall.specs.{Calls.{Opens, Revises, wanted}, Dressed.{keyed}, Events.{Open, Revise, Close, Balance, Start, Finish, Exchange}, Legal.{Allowed}};
 ghost use Rattle.spec_job.specs.KeyedJob.{Key};
 
 use crate::hall::Hall;

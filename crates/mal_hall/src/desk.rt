@@ -71,8 +71,7 @@ impl Hall {
 /// others.
 pub trait Desk: Sync {
     ghost use Rattle.std.specs.Prelude.{◌≡◌, ℕ, ◌≤◌, List, [], ◌∷◌, ◌++◌};
-    ghost use Rattle.mal_hall.specs.Desks.{DeskCall, Picked, Gave, IsOwn};
-    ghost use Rattle.mal_hall.specs.Offered.{offered, returned};
+    ghost use Rattle.mal_hall.specs.{Desks.{DeskCall, Picked, Gave, IsOwn}, Offered.{offered, returned}};
 
     type Pass: Send + Drop;
 

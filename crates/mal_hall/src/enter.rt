@@ -4,10 +4,8 @@ ghost use Rattle.std.specs.Prelude.{◌≡◌, ◌+◌, ◌<◌, ◌≤◌, ◌^
 ghost use Rattle.mal_hall.specs.Turned.{HasWaited, IsBalancing};
 ghost use Rattle.mal_job.specs.Finishing.{outcome_of, MayFinish};
 ghost use Rattle.mal_seats.specs.Changed.{OfSeat, IsChanged};
-ghost use Rattle.spec_job.specs.SoloMachine.{Exchanged, Finished, Revised, clauses_in, startable};
-ghost use Rattle.spec_job.specs.Viewed.{and_own, and_start, IsLeaseOf};
-ghost use Rattle.spec_hall.specs.Dressed.{keyed};
-ghost use Rattle.spec_hall.specs.Seats.{opened_seat, place_of};
+ghost use Rattle.spec_job.specs.{SoloMachine.{Exchanged, Finished, Revised, clauses_in, startable}, Viewed.{and_own, and_start, IsLeaseOf}};
+ghost use Rattle.spec_hall.specs.{Dressed.{keyed}, Seats.{opened_seat, place_of}};
 
 use crate::spots::Spot;
 use mal_base::{Ask, Name, Outcome};

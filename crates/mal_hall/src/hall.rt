@@ -2,29 +2,12 @@
 
 ghost use Rattle.std.specs.Prelude.{◌≡◌, ◌↔◌, ◌+◌, ◌-◌, ◌<◌, ◌≤◌, IsTrue, length, get_or, slice_get, slice_set, [], ◌∷◌, ◌++◌, true, false, Some, None, MatchOption, IsErrOf, map, option_map, is_some, OnOk, OnErr, IfOk, IfErr};
 ghost use Rattle.std.specs.Option.{option_copied};
-ghost use Rattle.mal_base.specs.Asks.{IsAsk};
-ghost use Rattle.mal_base.specs.Names.{is_name};
-ghost use Rattle.mal_hall.specs.Applied.{IsInside, listed_last};
-ghost use Rattle.mal_hall.specs.Offered.{HasArranged, HasBalanced, HasEnded, HasExchanged, HasStarted, IsFirst, MayEnd, MayStartAt, handed_of, offered, replied, returned};
-ghost use Rattle.mal_hall.specs.HallView.{next_number};
-ghost use Rattle.mal_hall.specs.Driven.{HasWorkedOff, IsTurn};
-ghost use Rattle.mal_hall.specs.Replying.{HasJob, OfAlone, OfJob};
-ghost use Rattle.mal_job.specs.Among.{among};
-ghost use Rattle.mal_job.specs.Finishing.{outcome_of};
-ghost use Rattle.mal_job.specs.Replying.{TellsReply};
-ghost use Rattle.spec_hall.specs.Calls.{HasCalled, IsOfLease, Opens, Revises, Closes, Picks, Finishes, Recalls, Asks, is_over};
-ghost use Rattle.spec_hall.specs.Dressed.{keyed, revisions_of};
-ghost use Rattle.spec_hall.specs.Driven.{GrowsByTurns, IsAtEnd, IsCalm};
-ghost use Rattle.spec_hall.specs.Events.{Open, Revise, Close, bare};
-ghost use Rattle.spec_hall.specs.Leases.{start_number};
-ghost use Rattle.spec_job.specs.Models.{AnswersSolve};
-ghost use Rattle.spec_job.specs.Proofs.{AnswersRefute};
-ghost use Rattle.spec_job.specs.Provenance.{ClausesAreOwn};
-ghost use Rattle.spec_job.specs.KeyedJob.{KeyedJob};
+ghost use Rattle.mal_base.specs.{Asks.{IsAsk}, Names.{is_name}};
+ghost use Rattle.mal_hall.specs.{Applied.{IsInside, listed_last}, Offered.{HasArranged, HasBalanced, HasEnded, HasExchanged, HasStarted, IsFirst, MayEnd, MayStartAt, handed_of, offered, replied, returned}, HallView.{next_number}, Driven.{HasWorkedOff, IsTurn}, Replying.{HasJob, OfAlone, OfJob}};
+ghost use Rattle.mal_job.specs.{Among.{among}, Finishing.{outcome_of}, Replying.{TellsReply}};
+ghost use Rattle.spec_hall.specs.{Calls.{HasCalled, IsOfLease, Opens, Revises, Closes, Picks, Finishes, Recalls, Asks, is_over}, Dressed.{keyed, revisions_of}, Driven.{GrowsByTurns, IsAtEnd, IsCalm}, Events.{Open, Revise, Close, bare}, Leases.{start_number}, States.{LeaseOut, keys_of, states, lives, leases, lease_of, balanced, exchange_due}, Legal.{IsBalanceDue, Legal, job_of}, Measure.{left_in}};
+ghost use Rattle.spec_job.specs.{Models.{AnswersSolve}, Proofs.{AnswersRefute}, Provenance.{ClausesAreOwn}, KeyedJob.{KeyedJob}};
 ghost use Rattle.spec_hall.specs.States as states_of;
-ghost use Rattle.spec_hall.specs.States.{LeaseOut, keys_of, states, lives, leases, lease_of, balanced, exchange_due};
-ghost use Rattle.spec_hall.specs.Legal.{IsBalanceDue, Legal, job_of};
-ghost use Rattle.spec_hall.specs.Measure.{left_in};
 
 use crate::enter::{
     enter_balance, enter_exchange, enter_finish, enter_open, enter_revise, enter_start,
@@ -64,9 +47,7 @@ pub struct Hall {
 
 impl Model for Hall {
     ghost use Rattle.std.specs.Prelude.{map, option_map};
-    ghost use Rattle.mal_hall.specs.Offered.{handed_of};
-    ghost use Rattle.mal_hall.specs.Contents.{with_posted};
-    ghost use Rattle.mal_hall.specs.HallView.{HallView, IsHall};
+    ghost use Rattle.mal_hall.specs.{Offered.{handed_of}, Contents.{with_posted}, HallView.{HallView, IsHall}};
 
     ghost Value = { HallView };
 

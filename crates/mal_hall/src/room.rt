@@ -2,12 +2,8 @@
 
 ghost use Rattle.std.specs.Prelude.{◌≡◌, ◌+◌, ◌<◌, true, false, ◌==◌, if◌then◌else◌, List, [], length, Some, None, Err, MatchOption, IfOk, IfErr};
 ghost use Rattle.mal_revision.specs.Posted.{is_posted};
-ghost use Rattle.spec_hall.specs.Calls.{IsOpening, IsRevising};
-ghost use Rattle.spec_hall.specs.Events.{Event};
-ghost use Rattle.spec_hall.specs.Room.{HasRoomFor, IsOver};
-ghost use Rattle.spec_hall.specs.States.{states};
+ghost use Rattle.spec_hall.specs.{Calls.{IsOpening, IsRevising}, Events.{Event}, Room.{HasRoomFor, IsOver}, States.{states}, Legal.{job_of, jobs_of, tenant_count}};
 ghost use Rattle.mal_base.specs.Asks.{Terms};
-ghost use Rattle.spec_hall.specs.Legal.{job_of, jobs_of, tenant_count};
 ghost use Rattle.spec_job.specs.KeyedJob.{Key};
 
 use mal_base::{LimitKind, OpenFault, ReviseFault};

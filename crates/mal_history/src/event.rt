@@ -35,8 +35,7 @@ pub struct Shares {
 
 impl Model for Shares {
     ghost use Rattle.std.specs.Prelude.{List};
-    ghost use Rattle.mal_history.specs.declared.event.Share.{Share};
-    ghost use Rattle.mal_history.specs.Shared.{shared};
+    ghost use Rattle.mal_history.specs.{declared.event.Share.{Share}, Shared.{shared}};
 
     ghost Value = { List Share };
 

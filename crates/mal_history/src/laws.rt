@@ -1,8 +1,6 @@
 //! What is known of histories and of their texts, as the contracts of functions without a body.
 
-ghost use Rattle.mal_history.specs.Differ.{HaveOtherTexts, HistoriesDiffer};
-ghost use Rattle.mal_history.specs.Laws.{SpelledEventIsRead, SpelledIsFormed, SpelledIsRead, WrittenIsRead};
-ghost use Rattle.mal_history.specs.Examples.{HaveHistories, HaveFaults, HaveLimits};
+ghost use Rattle.mal_history.specs.{Differ.{HaveOtherTexts, HistoriesDiffer}, Laws.{SpelledEventIsRead, SpelledIsFormed, SpelledIsRead, WrittenIsRead}, Examples.{HaveHistories, HaveFaults, HaveLimits}};
 
 /// Two histories with one text have as many workers and the same events in the same order.
 pub fn histories_differ()

@@ -3,8 +3,7 @@
 ghost use Rattle.std.specs.Prelude.{◌≡◌, ◌≤◌, ◌<◌, [], ◌∷◌, ◌++◌, length, IfOk, IfSome, OnOk};
 ghost use Rattle.std.specs.Arc.{arc_value};
 ghost use Rattle.spec_text.specs.Inputs.{words_of};
-ghost use Rattle.mal_history.specs.Reading.{header_of, outcome_of, profile_of, opened, revised, closed, started, finished, exchanged, event_of_job, named_event, balanced, event_of, next_event};
-ghost use Rattle.mal_history.specs.ReadResult.{AreNamed, AreTwo, Gives, IsOnly};
+ghost use Rattle.mal_history.specs.{Reading.{header_of, outcome_of, profile_of, opened, revised, closed, started, finished, exchanged, event_of_job, named_event, balanced, event_of, next_event}, ReadResult.{AreNamed, AreTwo, Gives, IsOnly}};
 
 use crate::event::{Event, Share, Shares};
 use crate::fault::EventFault;

@@ -2,9 +2,7 @@
 
 ghost use Rattle.std.specs.Prelude.{◌≡◌, ◌≤◌, Ok, Err, IfOk, IfSome, MatchOption};
 ghost use Rattle.spec_text.specs.Numbers.{number_in};
-ghost use Rattle.mal_history.specs.Reading.{in_range, ask_of, profile_said};
-ghost use Rattle.mal_history.specs.Reading.Fault.{BadNumber};
-ghost use Rattle.mal_history.specs.ReadResult.{Gives};
+ghost use Rattle.mal_history.specs.{Reading.{in_range, ask_of, profile_said}, Reading.Fault.{BadNumber}, ReadResult.{Gives}};
 
 use crate::fault::EventFault;
 use mal_base::Ask;

@@ -1,8 +1,7 @@
 //! The own events of a job.
 
 ghost use Rattle.std.specs.Prelude.{◌≡◌, ℕ, IfOk, OnOk};
-ghost use Rattle.mal_history.specs.Own.{is_of, own, own_step, told_of, tells, tells_volume, volume_in};
-ghost use Rattle.mal_history.specs.Shared.{shared};
+ghost use Rattle.mal_history.specs.{Own.{is_of, own, own_step, told_of, tells, tells_volume, volume_in}, Shared.{shared}};
 
 use crate::event::{Event, Share, Shares};
 use crate::history::History;

@@ -3,14 +3,7 @@
 ghost use Rattle.std.specs.Prelude.{◌≡◌, ◌≤◌, ◌<◌, ◌+◌, ◌^◌, ℕ, List, ◌∷◌, length, Err, IfOk, MatchResult};
 ghost use Rattle.spec_text.specs.Inputs.{words_of};
 ghost use Rattle.spec_dimacs.specs.Rows.{rows_of};
-ghost use Rattle.mal_history.specs.declared.event.Event.{Event};
-ghost use Rattle.mal_history.specs.declared.fault.HistoryFault.TheVariants.{OutOfMemory};
-ghost use Rattle.mal_history.specs.Reading.{Read, events_from, history_from, next_event, on_line, read_text};
-ghost use Rattle.mal_history.specs.Grammar.{Spells};
-ghost use Rattle.mal_history.specs.Formed.{IsHistory};
-ghost use Rattle.mal_history.specs.Laws.{IsFormed};
-ghost use Rattle.mal_history.specs.Text.{history_text};
-ghost use Rattle.mal_history.specs.ReadResult.{GivesAt, IsOnLine, Puts, seen};
+ghost use Rattle.mal_history.specs.{declared.event.Event.{Event}, declared.fault.HistoryFault.TheVariants.{OutOfMemory}, Reading.{Read, events_from, history_from, next_event, on_line, read_text}, Grammar.{Spells}, Formed.{IsHistory}, Laws.{IsFormed}, Text.{history_text}, ReadResult.{GivesAt, IsOnLine, Puts, seen}};
 
 use crate::fault::{EventFault, HistoryFault};
 use crate::history::History;

@@ -1,7 +1,6 @@
 //! Devices in memory: they tell their bytes, move few of them in a call, and fail when told to.
 ghost use Rattle.std.specs.Prelude.{◌≡◌, ◌<◌, ◌≤◌, ◌+◌, ◌-◌, ◌^◌, ◌↔◌, ◌⊎◌, ◌++◌, [], min, length, IfOk, OnOk, OnErr, IsErr, IsTrue, vec_len, vec_capacity};
-ghost use Rattle.std.specs.Io.{ReadsAtMost, WritesAtMost};
-ghost use Rattle.std.specs.Io.KnownBytes.{ReadConsumes, WriteAppends};
+ghost use Rattle.std.specs.{Io.{ReadsAtMost, WritesAtMost}, Io.KnownBytes.{ReadConsumes, WriteAppends}};
 ghost use Rattle.mal_io.specs.Moves.{Rose, FailsNext, IsFull};
 
 use crate::device::{Failed, Sink, Source};

@@ -1,7 +1,6 @@
 //! Thin adapters over the readers and writers of the standard library.
 ghost use Rattle.std.specs.Prelude.{◌≡◌, ◌≤◌};
-ghost use Rattle.mal_io.specs.Held.{reader, read_faults, writer, write_faults};
-ghost use Rattle.mal_io.specs.Moves.{PutsAs, TakesAs};
+ghost use Rattle.mal_io.specs.{Held.{reader, read_faults, writer, write_faults}, Moves.{PutsAs, TakesAs}};
 
 use crate::device::{Failed, Sink, Source};
 use std::io::{self, Read, Write};

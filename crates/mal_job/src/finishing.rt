@@ -4,8 +4,7 @@ ghost use Rattle.std.specs.Prelude.{◌≡◌, ◌+◌, ◌<◌, ◌≤◌, ◌^
 ghost use Rattle.mal_base.specs.declared.verdict.Outcome.TheVariants.{Ran, Starved};
 ghost use Rattle.spec_proof.specs.Log.{IsOrderly};
 ghost use Rattle.spec_job.specs.SoloMachine.{first_empty};
-ghost use Rattle.mal_job.specs.Asking.{IsAsked, concluded_by, starved_by, settled_with};
-ghost use Rattle.mal_job.specs.Placing.{IsBackAt, IsTree, placed, with_placed, ran_home, came_home, one_more_ran, revision_of};
+ghost use Rattle.mal_job.specs.{Asking.{IsAsked, concluded_by, starved_by, settled_with}, Placing.{IsBackAt, IsTree, placed, with_placed, ran_home, came_home, one_more_ran, revision_of}};
 
 use crate::derivation::Derivation;
 use crate::questions::Questions;

@@ -3,15 +3,9 @@
 ghost use Rattle.std.specs.Prelude.{◌≡◌, ◌↔◌, ◌+◌, ◌-◌, ◌<◌, ◌≤◌, ◌^◌, true, length, is_some, IsTrue, Some, None, OnOk, OnErr, IfOk};
 ghost use Rattle.std.specs.Option.{option_copied};
 ghost use Rattle.mal_base.specs.declared.verdict.Outcome.TheVariants.{Ran, Starved, Lost};
-ghost use Rattle.spec_job.specs.SoloMachine.{Opened, Revised, Closed, Volume, Finished, Exchanged, unopened, solo_step, is_live, startable, is_exchange_due, place_at, clauses_in, literals_in};
-ghost use Rattle.spec_job.specs.Viewed.{unstarted, and_own, and_start, IsLeaseOf, IsBack};
-ghost use Rattle.spec_job.specs.Proofs.{failed, proof_lines};
-ghost use Rattle.spec_job.specs.Replies.{told_by};
+ghost use Rattle.spec_job.specs.{SoloMachine.{Opened, Revised, Closed, Volume, Finished, Exchanged, unopened, solo_step, is_live, startable, is_exchange_due, place_at, clauses_in, literals_in}, Viewed.{unstarted, and_own, and_start, IsLeaseOf, IsBack}, Proofs.{failed, proof_lines}, Replies.{told_by}};
 ghost use Rattle.spec_report.specs.Replies.{Proof, reply_text};
-ghost use Rattle.mal_job.specs.Among.{among};
-ghost use Rattle.mal_job.specs.Finishing.{outcome_of, MayFinish};
-ghost use Rattle.mal_job.specs.Replying.{TellsReply};
-ghost use Rattle.mal_job.specs.Viewed.{shared};
+ghost use Rattle.mal_job.specs.{Among.{among}, Finishing.{outcome_of, MayFinish}, Replying.{TellsReply}, Viewed.{shared}};
 
 use crate::derivation::Derivation;
 use crate::finishing::{finish_lost, finish_run, finish_starved, give_up};
@@ -42,8 +36,7 @@ pub struct Job {
 
 impl Model for Job {
     ghost use Rattle.spec_job.specs.Viewed.{JobView};
-    ghost use Rattle.mal_job.specs.Viewed.{viewed};
-    ghost use Rattle.mal_job.specs.JobInvariant.{JobInvariant};
+    ghost use Rattle.mal_job.specs.{Viewed.{viewed}, JobInvariant.{JobInvariant}};
 
     ghost Value = { JobView };
 

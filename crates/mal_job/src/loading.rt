@@ -3,8 +3,7 @@
 ghost use Rattle.std.specs.Prelude.{◌≡◌, ◌+◌, ◌<◌, ◌≤◌, ◌^◌, length, IfOk};
 ghost use Rattle.spec_job.specs.SoloMachine.{clauses_in};
 ghost use Rattle.mal_suspend.specs.Starting.{shared_loads, shared_tolds};
-ghost use Rattle.mal_job.specs.Loads.{paired, lacking};
-ghost use Rattle.mal_job.specs.Viewed.{shared};
+ghost use Rattle.mal_job.specs.{Loads.{paired, lacking}, Viewed.{shared}};
 
 use crate::questions::Questions;
 use mal_buffer::Buffer;

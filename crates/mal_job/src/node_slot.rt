@@ -3,9 +3,7 @@
 ghost use Rattle.std.specs.Prelude.{◌≡◌, ◌↔◌, ◌+◌, ◌≤◌, IsTrue, is_some, true, None, IfOk, OnOk, OnErr};
 ghost use Rattle.std.specs.Option.{option_map};
 ghost use Rattle.spec_job.specs.Journaled.{replayed, started, and_entries};
-ghost use Rattle.mal_suspend.specs.Kept.{journal_of};
-ghost use Rattle.mal_suspend.specs.Replaying.{MayAllReplay};
-ghost use Rattle.mal_suspend.specs.Starting.{shared_loads, shared_tolds, start_entries};
+ghost use Rattle.mal_suspend.specs.{Kept.{journal_of}, Replaying.{MayAllReplay}, Starting.{shared_loads, shared_tolds, start_entries}};
 ghost use Rattle.mal_job.specs.Placing.{fresh_place, sent, ran_home, came_home, IsBackAt, IsSeatOf, adds_of};
 
 use mal_base::Outcome;
@@ -38,8 +36,7 @@ pub struct NodeSlot {
 }
 
 impl Model for NodeSlot {
-    ghost use Rattle.mal_job.specs.Viewed.{PlaceView};
-    ghost use Rattle.mal_job.specs.Placing.{out_of, IsSeated};
+    ghost use Rattle.mal_job.specs.{Viewed.{PlaceView}, Placing.{out_of, IsSeated}};
 
     ghost Value = { PlaceView };
 

@@ -3,8 +3,7 @@
 ghost use Rattle.std.specs.Prelude.{◌≡◌, ◌+◌, ◌-◌, ◌<◌, ◌≤◌, ◌^◌, [], ◌++◌, true, false, length, replicate, vec_len, vec_capacity, OnOk, OnErr};
 ghost use Rattle.mal_base.specs.declared.answer.Answer.TheVariants.{Refuted};
 ghost use Rattle.spec_job.specs.SoloMachine.{clauses_in, literals_in};
-ghost use Rattle.mal_job.specs.Viewed.{shared};
-ghost use Rattle.mal_job.specs.Asking.{IsAsked, and_revision, replied, answer_by, spent_once, concluded, starved_once, settled_with};
+ghost use Rattle.mal_job.specs.{Viewed.{shared}, Asking.{IsAsked, and_revision, replied, answer_by, spent_once, concluded, starved_once, settled_with}};
 
 use mal_base::{Answer, Ask, ClauseId, Values, Verdict};
 use mal_revision::Revision;
@@ -32,8 +31,7 @@ pub struct Questions {
 
 impl Model for Questions {
     ghost use Rattle.std.specs.Prelude.{◌≤◌, length, vec_capacity};
-    ghost use Rattle.mal_job.specs.Viewed.{QuestionsView, questions_of, shared};
-    ghost use Rattle.mal_job.specs.Asking.{IsAsked, AreSums};
+    ghost use Rattle.mal_job.specs.{Viewed.{QuestionsView, questions_of, shared}, Asking.{IsAsked, AreSums}};
 
     ghost Value = { QuestionsView };
 

@@ -4,8 +4,7 @@ ghost use Rattle.std.specs.Prelude.{◌≡◌, map, IfOk};
 ghost use Rattle.std.specs.Option.{option_copied};
 ghost use Rattle.mal_base.specs.Literals.{negated};
 ghost use Rattle.mal_proof.specs.Goals.{last_lits};
-ghost use Rattle.mal_job.specs.Among.{among};
-ghost use Rattle.mal_job.specs.Viewed.{shared};
+ghost use Rattle.mal_job.specs.{Among.{among}, Viewed.{shared}};
 
 use mal_base::{Answer, Lines, Lit};
 use mal_revision::Revision;

@@ -3,16 +3,9 @@
 ghost use Rattle.std.specs.Prelude.{◌≡◌, ◌↔◌, ◌+◌, ◌<◌, ◌≤◌, ◌^◌, true, [], ◌++◌, ◌∷◌, length, drop, count_by, get_or, is_some, All, Some, None, IsTrue, IfOk, OnOk, OnErr};
 ghost use Rattle.mal_base.specs.Clauses.{rises};
 ghost use Rattle.spec_exchange.specs.Exchange.{broadcast};
-ghost use Rattle.spec_job.specs.Counts.{starts_out};
-ghost use Rattle.spec_job.specs.Journal.{loads_in, imports_in};
-ghost use Rattle.spec_job.specs.Journaled.{replayed, started, and_entries};
-ghost use Rattle.spec_job.specs.SoloMachine.{vacant, is_for, exports_from};
-ghost use Rattle.mal_suspend.specs.Kept.{journal_of};
-ghost use Rattle.mal_suspend.specs.Replaying.{MayAllReplay};
-ghost use Rattle.mal_suspend.specs.Starting.{shared_loads, shared_tolds, start_entries};
-ghost use Rattle.mal_job.specs.Exports.{marked};
-ghost use Rattle.mal_job.specs.Placing.{IsGrown, IsTree, IsBackAt, placed, with_placed, sent, ran_home, came_home, one_more_ran, revision_of, adds_of};
-ghost use Rattle.mal_job.specs.Viewed.{places_of};
+ghost use Rattle.spec_job.specs.{Counts.{starts_out}, Journal.{loads_in, imports_in}, Journaled.{replayed, started, and_entries}, SoloMachine.{vacant, is_for, exports_from}};
+ghost use Rattle.mal_suspend.specs.{Kept.{journal_of}, Replaying.{MayAllReplay}, Starting.{shared_loads, shared_tolds, start_entries}};
+ghost use Rattle.mal_job.specs.{Exports.{marked}, Placing.{IsGrown, IsTree, IsBackAt, placed, with_placed, sent, ran_home, came_home, one_more_ran, revision_of, adds_of}, Viewed.{places_of}};
 
 use crate::exchange::{exports, move_marks};
 use crate::loading::tolds_of;
@@ -39,8 +32,7 @@ pub struct Tree {
 }
 
 impl Model for Tree {
-    ghost use Rattle.mal_job.specs.Viewed.{TreeView, shared};
-    ghost use Rattle.mal_job.specs.Placing.{IsTree};
+    ghost use Rattle.mal_job.specs.{Viewed.{TreeView, shared}, Placing.{IsTree}};
 
     ghost Value = { TreeView };
 

@@ -1,8 +1,7 @@
 //! The scratch of an analysis, and the analysis.
 
 ghost use Rattle.std.specs.Prelude.{◌≡◌, ◌-◌, ◌<◌, ◌≤◌, [], length, reverse, take, OnOk, OnErr};
-ghost use Rattle.spec_learn.specs.Analysis.{analysed, core, reached, top};
-ghost use Rattle.spec_learn.specs.Shorter.{shortened};
+ghost use Rattle.spec_learn.specs.{Analysis.{analysed, core, reached, top}, Shorter.{shortened}};
 ghost use Rattle.mal_learn.specs.Shown.{HasRoom, HasLeft, last_of};
 
 use crate::dropping::Choice;

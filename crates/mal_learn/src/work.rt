@@ -3,11 +3,7 @@
 ghost use Rattle.std.specs.Prelude.{◌≡◌, ◌+◌, ◌-◌, ◌≤◌, ◌<◌, max, All, length, replicate, reverse, take, false, true};
 ghost use Rattle.std.specs.Prelude.{[], ◌∷◌, slice_set, OnOk};
 ghost use Rattle.mal_base.specs.Literals.{var_of};
-ghost use Rattle.mal_learn.specs.Working.{see, see_all, lits_of, kept, resolved, by_reason, visited, visited_all, here_all};
-ghost use Rattle.mal_learn.specs.Tracing.{begun_with, traced, traced_all, traced_from};
-ghost use Rattle.mal_learn.specs.Shortening.{covers, is_left_out, by_shorter_reason};
-ghost use Rattle.mal_learn.specs.Shortening.{shorter_state, shorter_visited_all};
-ghost use Rattle.mal_learn.specs.Shown.{IsFitted, IsFinished, HasWalkRoom, AreWithin, ClausesWithin, EntriesWithin, last_of};
+ghost use Rattle.mal_learn.specs.{Working.{see, see_all, lits_of, kept, resolved, by_reason, visited, visited_all, here_all}, Tracing.{begun_with, traced, traced_all, traced_from}, Shortening.{covers, is_left_out, by_shorter_reason, shorter_state, shorter_visited_all}, Shown.{IsFitted, IsFinished, HasWalkRoom, AreWithin, ClausesWithin, EntriesWithin, last_of}};
 
 use crate::flags::Flags;
 use mal_base::{ClauseId, ClauseView, Lit, TrailEntry, TrailView, Var};

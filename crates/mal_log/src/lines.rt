@@ -3,9 +3,7 @@
 ghost use Rattle.std.specs.Prelude.{◌≡◌, ◌≤◌, List, ℕ, [], ◌∷◌, ◌++◌, map, flat_map, codes, OnOk, OnErr};
 ghost use Rattle.std.specs.Io.KnownBytes.{Appends};
 ghost use Rattle.spec_text.specs.Lines.{line_of};
-ghost use Rattle.mal_history.specs.Shared.{shared};
-ghost use Rattle.mal_history.specs.Text.{assignment_words, share_words, event_words, history_text};
-ghost use Rattle.mal_history.specs.declared.event.Event.TheVariants.{Open, Revise};
+ghost use Rattle.mal_history.specs.{Shared.{shared}, Text.{assignment_words, share_words, event_words, history_text}, declared.event.Event.TheVariants.{Open, Revise}};
 ghost use Rattle.mal_io.specs.Moves.{Rose, GotFront};
 ghost use Rattle.mal_log.specs.Pieces.{Puts};
 

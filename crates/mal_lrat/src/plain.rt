@@ -1,8 +1,7 @@
 //! Numbers of digits alone at the beginning of a line, each read in one pass over its bytes.
 
 ghost use Rattle.std.specs.Prelude.{◌≡◌, ◌<◌, ◌≤◌, length, IfSome};
-ghost use Rattle.spec_text.specs.Inputs.{words_of, is_blank};
-ghost use Rattle.spec_text.specs.Numbers.{is_digit};
+ghost use Rattle.spec_text.specs.{Inputs.{words_of, is_blank}, Numbers.{is_digit}};
 ghost use Rattle.spec_lrat.specs.Reading.{greatest_id};
 ghost use Rattle.mal_lrat.specs.IdLists.{BeginsWith};
 

@@ -2,14 +2,10 @@
 
 ghost use Rattle.std.specs.Prelude.{◌≡◌, ◌==◌, ◌<◌, Some, length, IfOk, IfSome};
 ghost use Rattle.std.specs.Option.{option_map};
-ghost use Rattle.spec_text.specs.Inputs.{words_of};
-ghost use Rattle.spec_text.specs.Numbers.{number_in};
+ghost use Rattle.spec_text.specs.{Inputs.{words_of}, Numbers.{number_in}};
 ghost use Rattle.spec_dimacs.specs.Merged.{clause_of};
-ghost use Rattle.spec_lrat.specs.Reading.{greatest_id, behind_l, before_end, behind_end, numbers_of, literals_of, id_said, deleting, added, behind_id, reading_of, reading};
-ghost use Rattle.spec_lrat.specs.Grammar.{Spells};
-ghost use Rattle.mal_lrat.specs.LineView.{seen};
-ghost use Rattle.mal_lrat.specs.IdLists.{listing, list_said, negative_behind, adding_listed, literal_or_end};
-ghost use Rattle.mal_lrat.specs.Answers.{Gives, GivesWords, CutsNumber};
+ghost use Rattle.spec_lrat.specs.{Reading.{greatest_id, behind_l, before_end, behind_end, numbers_of, literals_of, id_said, deleting, added, behind_id, reading_of, reading}, Grammar.{Spells}};
+ghost use Rattle.mal_lrat.specs.{LineView.{seen}, IdLists.{listing, list_said, negative_behind, adding_listed, literal_or_end}, Answers.{Gives, GivesWords, CutsNumber}};
 
 use crate::fault::LineFault;
 use crate::line::Line;

@@ -1,12 +1,10 @@
 //! Writing a line of a proof.
 
 ghost use Rattle.std.specs.Prelude.{◌≡◌, ◌∷◌, ◌++◌, Some, IfOk, OnOk};
-ghost use Rattle.spec_text.specs.Lines.{line_of};
-ghost use Rattle.spec_text.specs.Numbers.{decimal_word, literal_word};
+ghost use Rattle.spec_text.specs.{Lines.{line_of}, Numbers.{decimal_word, literal_word}};
 ghost use Rattle.spec_logic.specs.Refutation.ProofLine.{Add, Delete};
 ghost use Rattle.spec_lrat.specs.Written.{words_of_ids, words_of_lits, row_of};
-ghost use Rattle.mal_lrat.specs.LineView.{seen};
-ghost use Rattle.mal_lrat.specs.Spaced.{spaced};
+ghost use Rattle.mal_lrat.specs.{LineView.{seen}, Spaced.{spaced}};
 
 use crate::line::Line;
 use itoa::Buffer;

@@ -2,8 +2,7 @@
 
 ghost use Rattle.std.specs.Prelude.{◌≡◌, ℕ, ◌+◌, ◌≤◌, ◌<◌, ◌==◌, true, length, [], ◌++◌, take, get_or, OnOk, OnErr, IfOk};
 ghost use Rattle.std.specs.List.{list_any, list_all};
-ghost use Rattle.spec_node.specs.Load.{counted, new_order};
-ghost use Rattle.spec_node.specs.Value.{first_free, has_value};
+ghost use Rattle.spec_node.specs.{Load.{counted, new_order}, Value.{first_free, has_value}};
 ghost use Rattle.spec_learn.specs.Order.{moved};
 ghost use Rattle.mal_order.specs.Rings.{IsApart, IsTurned};
 

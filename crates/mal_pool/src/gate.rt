@@ -17,8 +17,7 @@ pub enum Step {
 /// What a worker passes before and after each slice, with the number of the start and its own.
 pub trait Gate: Sync {
     ghost use Rattle.std.specs.Prelude.{◌≡◌, ℕ, Bool, if◌then◌else◌};
-    ghost use Rattle.mal_pool.specs.declared.gate.Point.{Point};
-    ghost use Rattle.mal_pool.specs.declared.gate.Step.TheVariants.{Go, Stop};
+    ghost use Rattle.mal_pool.specs.{declared.gate.Point.{Point}, declared.gate.Step.TheVariants.{Go, Stop}};
 
     /// Where the gate stops a worker: at this point, of the start of this number, a worker of this number.
     ghost stops: { Self → Point → ℕ → ℕ → Bool };

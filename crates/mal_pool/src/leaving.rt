@@ -2,8 +2,7 @@
 
 ghost use Rattle.std.specs.Prelude.{◌≡◌, ◌≤◌, [], ◌∷◌, ◌++◌, length, flat_map, drop, true, false, IfOk};
 ghost use Rattle.mal_hall.specs.Desks.{event_of};
-ghost use Rattle.mal_pool.specs.Refusals.{IsOneRefused, is_want};
-ghost use Rattle.mal_pool.specs.Runs.{job_posts, left_by, of_tenant, posted_on, posts_behind, revise_posts};
+ghost use Rattle.mal_pool.specs.{Refusals.{IsOneRefused, is_want}, Runs.{job_posts, left_by, of_tenant, posted_on, posts_behind, revise_posts}};
 
 use crate::posting::Left;
 use mal_base::Name;

@@ -52,8 +52,7 @@ impl<S: Size> Shared<S> {
 
 impl<S: Size + Send + Sync> Desk for Shared<S> {
     ghost use Rattle.std.specs.Prelude.{map};
-    ghost use Rattle.mal_pool.specs.Noting.{told_of};
-    ghost use Rattle.mal_pool.specs.Traces.{traced};
+    ghost use Rattle.mal_pool.specs.{Noting.{told_of}, Traces.{traced}};
 
     type Pass = OwnCalls;
 

@@ -2,8 +2,7 @@
 
 ghost use Rattle.std.specs.Prelude.{◌≡◌, ◌≤◌, List, ◌++◌, true};
 ghost use Rattle.mal_hall.specs.Desks.{DeskCall};
-ghost use Rattle.mal_pool.specs.Gates.{StopsSomewhere};
-ghost use Rattle.mal_pool.specs.Runs.{Fits, HasPlayed};
+ghost use Rattle.mal_pool.specs.{Gates.{StopsSomewhere}, Runs.{Fits, HasPlayed}};
 
 use crate::board::Board;
 use crate::gate::Gate;

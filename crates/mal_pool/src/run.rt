@@ -2,14 +2,9 @@
 
 ghost use Rattle.std.specs.Prelude.{◌≡◌, ◌≤◌, min, true, List, [], IfOk, IfSome, OnOk};
 ghost use Rattle.std.specs.List.{All, filter_map, list_any};
-ghost use Rattle.mal_pool.specs.Gates.{LosesByStops, StopsSomewhere};
-ghost use Rattle.mal_pool.specs.Posts.{HasRun};
-ghost use Rattle.mal_pool.specs.Runs.{Fits, IsSettled, demand_of};
-ghost use Rattle.spec_hall.specs.Driven.{GrowsByTurns, IsDriven};
-ghost use Rattle.spec_hall.specs.Events.{Event};
-ghost use Rattle.spec_hall.specs.States.{leases, lives, states};
-ghost use Rattle.spec_run.specs.Complete.{script_events};
-ghost use Rattle.spec_run.specs.Losses.{NoneIsLost};
+ghost use Rattle.mal_pool.specs.{Gates.{LosesByStops, StopsSomewhere}, Posts.{HasRun}, Runs.{Fits, IsSettled, demand_of}};
+ghost use Rattle.spec_hall.specs.{Driven.{GrowsByTurns, IsDriven}, Events.{Event}, States.{leases, lives, states}};
+ghost use Rattle.spec_run.specs.{Complete.{script_events}, Losses.{NoneIsLost}};
 
 use crate::board::Board;
 use crate::gate::Gate;

@@ -4,16 +4,10 @@ ghost use Rattle.std.specs.Prelude.{◌≡◌, ◌≤◌, List, ◌++◌, [], �
 ghost use Rattle.mal_hall.specs.HallView.{next_number};
 ghost use Rattle.mal_pool.specs.Posts.{HasRun};
 ghost use Rattle.mal_revision.specs.Posted.{Posted};
-ghost use Rattle.spec_hall.specs.Driven.{GrowsByTurns, IsDriven};
-ghost use Rattle.spec_hall.specs.Events.{Open, Revise, Close};
-ghost use Rattle.spec_hall.specs.Legal.{MayOpen, MayRevise};
-ghost use Rattle.spec_hall.specs.States.{leases, lives, states};
+ghost use Rattle.spec_hall.specs.{Driven.{GrowsByTurns, IsDriven}, Events.{Open, Revise, Close}, Legal.{MayOpen, MayRevise}, States.{leases, lives, states}};
 ghost use Rattle.spec_job.specs.KeyedJob.{KeyedJob};
-ghost use Rattle.spec_run.specs.Complete.{key_of_job, job_events, open_events, revise_events, script_events};
-ghost use Rattle.spec_run.specs.Losses.{NoneIsLost};
-ghost use Rattle.spec_run.specs.Posting.{IsOpen};
-ghost use Rattle.spec_script.specs.Formed.{IsJob, MayAllFollow};
-ghost use Rattle.spec_script.specs.Limits.{served};
+ghost use Rattle.spec_run.specs.{Complete.{key_of_job, job_events, open_events, revise_events, script_events}, Losses.{NoneIsLost}, Posting.{IsOpen}};
+ghost use Rattle.spec_script.specs.{Formed.{IsJob, MayAllFollow}, Limits.{served}};
 
 use mal_hall::{CloseFault, Hall, OpenFault, ReviseFault};
 use mal_learn::Scratch;

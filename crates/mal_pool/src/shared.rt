@@ -1,8 +1,7 @@
 //! A hall under a lock.
 
 ghost use Rattle.std.specs.Prelude.{◌≡◌, ◌≤◌};
-ghost use Rattle.mal_hall.specs.Desks.{HasPosted, IsOwn};
-ghost use Rattle.mal_hall.specs.Offered.{offered, returned};
+ghost use Rattle.mal_hall.specs.{Desks.{HasPosted, IsOwn}, Offered.{offered, returned}};
 ghost use Rattle.spec_hall.specs.Calls.{HasCalled, Picks, Finishes};
 ghost use Rattle.spec_run.specs.Losses.{NoneIsLost};
 

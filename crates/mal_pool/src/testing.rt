@@ -3,13 +3,9 @@
 ghost use Rattle.std.specs.Prelude.{◌≡◌, ◌↔◌, ◌≤◌, ◌<◌, true, ◌&&◌, not, [], length, slice_get, IfOk, IsTrue};
 ghost use Rattle.std.specs.List.{list_any};
 ghost use Rattle.mal_pool.specs.Testing.{AreThePosts, HasContents, HaveContents, HasPosts, is_loss};
-ghost use Rattle.spec_hall.specs.Dressed.{revisions_of};
-ghost use Rattle.spec_hall.specs.Driven.{was_lost};
-ghost use Rattle.spec_hall.specs.Own.{is_text};
-ghost use Rattle.spec_hall.specs.States.{states};
+ghost use Rattle.spec_hall.specs.{Dressed.{revisions_of}, Driven.{was_lost}, Own.{is_text}, States.{states}};
 ghost use Rattle.spec_run.specs.Complete.{key_of_job};
-ghost use Rattle.spec_script.specs.Formed.{MayAllFollow};
-ghost use Rattle.spec_script.specs.Limits.{served};
+ghost use Rattle.spec_script.specs.{Formed.{MayAllFollow}, Limits.{served}};
 
 use mal_base::{Name, Outcome};
 use mal_hall::Hall;

@@ -1,12 +1,8 @@
 //! What a worker does at a desk.
 
 ghost use Rattle.std.specs.Prelude.{◌≡◌, ◌≤◌, List, [], ◌∷◌, ◌++◌, None, Ok, false};
-ghost use Rattle.mal_hall.specs.Desks.{DeskCall, Picked, Gave};
-ghost use Rattle.mal_hall.specs.Offered.{handed_of};
-ghost use Rattle.mal_pool.specs.Gates.{StopsSomewhere};
-ghost use Rattle.mal_pool.specs.declared.gate.Point.TheVariants.{Before};
-ghost use Rattle.mal_pool.specs.Works.{IsTurn, Works, turned_by};
-ghost use Rattle.mal_pool.specs.declared.working.End.TheVariants.{Stopped};
+ghost use Rattle.mal_hall.specs.{Desks.{DeskCall, Picked, Gave}, Offered.{handed_of}};
+ghost use Rattle.mal_pool.specs.{Gates.{StopsSomewhere}, declared.gate.Point.TheVariants.{Before}, Works.{IsTurn, Works, turned_by}, declared.working.End.TheVariants.{Stopped}};
 ghost use Rattle.spec_hall.specs.Calls.{Leased, Return};
 
 use crate::gate::{Gate, Point, Step};

@@ -3,8 +3,7 @@
 ghost use Rattle.std.specs.Prelude.{◌≡◌, ◌↔◌, ◌++◌, ◌∷◌, [], ◌≤◌, IsTrue, length, map, IfOk, OnOk};
 ghost use Rattle.mal_history.specs.declared.event.Event.TheVariants as of;
 ghost use Rattle.mal_posts.specs.Expected.{AreFew, job_lines, line_about, line_of, lines_of, opening_lines};
-ghost use Rattle.spec_hall.specs.Events.{bare};
-ghost use Rattle.spec_hall.specs.Own.{is_text};
+ghost use Rattle.spec_hall.specs.{Events.{bare}, Own.{is_text}};
 ghost use Rattle.spec_run.specs.Complete.{job_events, posts_of};
 
 use mal_base::{Ask, Name};

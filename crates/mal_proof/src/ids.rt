@@ -1,8 +1,7 @@
 //! Numbers that rise, and marks of them.
 
 ghost use Rattle.std.specs.Prelude.{◌≡◌, ℕ, ◌<◌, Bool, ◌||◌, ◌==◌, length, slice_index, MatchOption};
-ghost use Rattle.std.specs.List.{list_any};
-ghost use Rattle.std.specs.List.Sorted.{IsStrictlyIncreasing};
+ghost use Rattle.std.specs.{List.{list_any}, List.Sorted.{IsStrictlyIncreasing}};
 ghost use Rattle.mal_proof.specs.Marks.{AreMarks, IsMissing};
 
 use mal_base::ClauseId;

@@ -1,8 +1,7 @@
 //! Lines of a log, lent.
 
 ghost use Rattle.std.specs.Prelude.{◌≡◌, ◌<◌, ◌++◌, ◌∷◌, [], length, slice_get, Some, OnOk, IfOk};
-ghost use Rattle.spec_proof.specs.Log.{AreApart};
-ghost use Rattle.spec_proof.specs.Trimmed.{by_id, ids_of};
+ghost use Rattle.spec_proof.specs.{Log.{AreApart}, Trimmed.{by_id, ids_of}};
 ghost use Rattle.mal_proof.specs.Goals.{up_to};
 
 use mal_base::{ClauseId, Lines, Lit};

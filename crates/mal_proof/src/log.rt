@@ -2,8 +2,7 @@
 
 ghost use Rattle.std.specs.Prelude.{◌≡◌, ◌≢◌, ◌+◌, ◌<◌, ◌≤◌, ◌^◌, [], ◌∷◌, ◌++◌, length, slice_get, Some, All, IfOk, OnOk, OnErr};
 ghost use Rattle.mal_base.specs.NumberedClause.{Line};
-ghost use Rattle.spec_proof.specs.Log.{IsAbove, IsOrderly};
-ghost use Rattle.spec_proof.specs.Trimmed.{IsTrimmed, reached};
+ghost use Rattle.spec_proof.specs.{Log.{IsAbove, IsOrderly}, Trimmed.{IsTrimmed, reached}};
 ghost use Rattle.mal_proof.specs.Goals.{up_to, goal_lits, last_lits};
 
 use crate::chunk::{Chunk, chunks_before, place_among};

@@ -1,10 +1,8 @@
 //! Writing replies.
 
 ghost use Rattle.std.specs.Prelude.{◌≡◌, ◌<◌, ◌≤◌, [], ◌∷◌, ◌++◌, codes, length, map, slice_get, Some, IfOk, OnOk};
-ghost use Rattle.mal_base.specs.NumberedClause.{Line};
-ghost use Rattle.mal_base.specs.Literals.{literal};
-ghost use Rattle.spec_text.specs.Lines.{line_of, text_of};
-ghost use Rattle.spec_text.specs.Numbers.{literal_word};
+ghost use Rattle.mal_base.specs.{NumberedClause.{Line}, Literals.{literal}};
+ghost use Rattle.spec_text.specs.{Lines.{line_of, text_of}, Numbers.{literal_word}};
 ghost use Rattle.spec_report.specs.Replies.{Model, Proof, head_words, model_words, proof_row, reply_text};
 ghost use Rattle.mal_report.specs.Causes.{told_of, cause_words};
 

@@ -1,11 +1,8 @@
 //! A revision: clauses that are added to a job, and assumptions for one answer.
 
 ghost use Rattle.std.specs.Prelude.{◌≡◌, ◌≤◌, ◌^◌, ◌↔◌, true, IsTrue, IfOk, IfErr, MatchResult};
-ghost use Rattle.mal_base.specs.Formulas.{literals_of};
-ghost use Rattle.mal_revision.specs.Posted.{Posted, is_posted};
-ghost use Rattle.mal_base.specs.Clauses.{climbs, HaveSame};
-ghost use Rattle.mal_revision.specs.Refused.{IsMadeOf, IsRefused};
-ghost use Rattle.mal_revision.specs.declared.fault.RevisionFault.TheVariants.{OutOfMemory};
+ghost use Rattle.mal_base.specs.{Formulas.{literals_of}, Clauses.{climbs, HaveSame}};
+ghost use Rattle.mal_revision.specs.{Posted.{Posted, is_posted}, Refused.{IsMadeOf, IsRefused}, declared.fault.RevisionFault.TheVariants.{OutOfMemory}};
 
 use crate::fault::RevisionFault;
 use crate::scan;

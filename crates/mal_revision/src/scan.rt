@@ -2,8 +2,7 @@
 
 ghost use Rattle.std.specs.Prelude.{◌≡◌, ◌<◌, true, Some, None, IfOk, IfErr};
 ghost use Rattle.std.specs.List.{list_all};
-ghost use Rattle.mal_base.specs.Clauses.{clash};
-ghost use Rattle.mal_base.specs.Formulas.{is_within, is_clause_of, literals_of};
+ghost use Rattle.mal_base.specs.{Clauses.{clash}, Formulas.{is_within, is_clause_of, literals_of}};
 ghost use Rattle.mal_revision.specs.Refused.{above, above_in, first_above, or_else, limit_passed};
 
 use mal_base::{Clause, LimitKind, Lit, Var, literals_of};

@@ -1,8 +1,7 @@
 //! Propagation: the batch of a prefix of the trail, found by going over all clauses.
 
 ghost use Rattle.std.specs.Prelude.{◌≡◌, ℕ, ◌≤◌, true, length, take, None};
-ghost use Rattle.spec_node.specs.Value.{open_count};
-ghost use Rattle.spec_node.specs.Batch.{is_in_batch, after_batch};
+ghost use Rattle.spec_node.specs.{Value.{open_count}, Batch.{is_in_batch, after_batch}};
 ghost use Rattle.mal_trail.specs.Rooms.{are_within};
 
 use mal_base::{ClauseId, Lit};

@@ -1,8 +1,7 @@
 //! The asks of jobs, as they are read.
 
 ghost use Rattle.std.specs.Prelude.{◌≡◌, ◌≤◌, ◌<◌, IfOk};
-ghost use Rattle.spec_text.specs.Inputs.{words_of};
-ghost use Rattle.spec_text.specs.Numbers.{number_in};
+ghost use Rattle.spec_text.specs.{Inputs.{words_of}, Numbers.{number_in}};
 ghost use Rattle.mal_text.specs.Numbers.{word_of};
 ghost use Rattle.spec_script.specs.Reading.{is_number, ranged, in_range, asked, profile_in};
 

@@ -1,10 +1,8 @@
 //! The words of assumptions, as they are read.
 
 ghost use Rattle.std.specs.Prelude.{◌≡◌, ◌≤◌, [], map, false, true, nat_abs, ℕ, None, IfOk};
-ghost use Rattle.mal_base.specs.Clauses.{clash, rises};
-ghost use Rattle.mal_base.specs.Formulas.{is_within};
-ghost use Rattle.spec_text.specs.Inputs.{words_of};
-ghost use Rattle.spec_text.specs.Numbers.{number_in};
+ghost use Rattle.mal_base.specs.{Clauses.{clash, rises}, Formulas.{is_within}};
+ghost use Rattle.spec_text.specs.{Inputs.{words_of}, Numbers.{number_in}};
 ghost use Rattle.spec_dimacs.specs.Reading.{code_of};
 ghost use Rattle.spec_script.specs.Assumptions.{assumptions_in, assumptions_of, consistent, literals_from, closed};
 ghost use Rattle.mal_script.specs.ReadResult.{GivesAssumed};

@@ -1,9 +1,8 @@
 //! Why a text is not read as a script.
 
 ghost use Rattle.std.specs.Prelude.{◌≡◌};
-ghost use Rattle.mal_script.specs.declared.fault.LineRefusal.TheVariants.{OutOfMemory};
+ghost use Rattle.mal_script.specs.{declared.fault.LineRefusal.TheVariants.{OutOfMemory}, ReadResult.{OfAssumptions}};
 ghost use Rattle.mal_script.specs.declared.fault.AssumptionFault.TheVariants as assumption;
-ghost use Rattle.mal_script.specs.ReadResult.{OfAssumptions};
 
 use mal_base::{BlockFault, LimitKind, LineFault, Name, Var};
 use std::alloc::AllocError;

@@ -1,11 +1,9 @@
 //! A job that has begun and not ended.
 
 ghost use Rattle.std.specs.Prelude.{◌≡◌, ◌+◌, ◌≤◌, ◌∷◌, length, true, Some, Ok, IfOk};
-ghost use Rattle.mal_base.specs.Clauses.{rises};
-ghost use Rattle.mal_base.specs.Formulas.{is_formula, is_within, literals_of};
+ghost use Rattle.mal_base.specs.{Clauses.{rises}, Formulas.{is_formula, is_within, literals_of}};
 ghost use Rattle.spec_text.specs.Inputs.{words_of};
-ghost use Rattle.spec_script.specs.Assumptions.{assumptions_in};
-ghost use Rattle.spec_script.specs.Reading.{begun, with_block, after_header, revised, after_assumptions, inside_block, with_revision, ended_job, unended, without_block};
+ghost use Rattle.spec_script.specs.{Assumptions.{assumptions_in}, Reading.{begun, with_block, after_header, revised, after_assumptions, inside_block, with_revision, ended_job, unended, without_block}};
 ghost use Rattle.mal_script.specs.ReadResult.{Fails, Gives};
 
 use crate::assuming::assumptions_in;

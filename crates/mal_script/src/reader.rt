@@ -1,8 +1,7 @@
 //! A script of which some lines were read.
 
 ghost use Rattle.std.specs.Prelude.{◌≡◌, ◌≢◌, ◌∷◌, [], ℕ, List, MatchOption, count_by};
-ghost use Rattle.std.specs.List.{list_any};
-ghost use Rattle.std.specs.Str.{bytes_eq};
+ghost use Rattle.std.specs.{List.{list_any}, Str.{bytes_eq}};
 ghost use Rattle.spec_text.specs.Inputs.{words_of};
 ghost use Rattle.spec_script.specs.Reading.{unread, named, after_tenant, is_of, is_job, has_room, admitted, of_tenant, after_job, outside, inside_job, inside, after_counted, after_row, at_end, after_end, going_on};
 ghost use Rattle.mal_script.specs.ReadResult.{Gives, of_jobs};

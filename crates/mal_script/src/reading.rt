@@ -1,14 +1,8 @@
 //! Reading scripts.
 
 ghost use Rattle.std.specs.Prelude.{◌≡◌, ℕ, List, Err, IfOk, MatchResult};
-ghost use Rattle.spec_script.specs.Limits.{served};
-ghost use Rattle.spec_script.specs.Grammar.{Spells};
-ghost use Rattle.spec_script.specs.Reading.{read_text};
-ghost use Rattle.spec_script.specs.Formed.{IsScript};
-ghost use Rattle.spec_script.specs.Script.{Scripted, spelling};
-ghost use Rattle.spec_script.specs.Within.{IsWithin};
-ghost use Rattle.mal_script.specs.declared.fault.ScriptFault.TheVariants.{OutOfMemory};
-ghost use Rattle.mal_script.specs.ReadResult.{FailsAt, GivesAt, RefusedAt, of_jobs};
+ghost use Rattle.spec_script.specs.{Limits.{served}, Grammar.{Spells}, Reading.{read_text}, Formed.{IsScript}, Script.{Scripted, spelling}, Within.{IsWithin}};
+ghost use Rattle.mal_script.specs.{declared.fault.ScriptFault.TheVariants.{OutOfMemory}, ReadResult.{FailsAt, GivesAt, RefusedAt, of_jobs}};
 
 use crate::fault::{LineRefusal, ScriptFault};
 use crate::limits::Limits;

@@ -2,8 +2,7 @@
 
 ghost use Rattle.std.specs.Prelude.{◌≡◌, ◌++◌, ◌∷◌, [], IfOk};
 ghost use Rattle.mal_script.specs.ReadResult.{of_jobs};
-ghost use Rattle.spec_script.specs.Formed.{IsScript};
-ghost use Rattle.spec_script.specs.Limits.{served};
+ghost use Rattle.spec_script.specs.{Formed.{IsScript}, Limits.{served}};
 
 use mal_base::{Ask, Name};
 use mal_revision::Revision;
@@ -104,9 +103,7 @@ pub struct Script {
 
 impl Model for Script {
     ghost use Rattle.mal_script.specs.ReadResult.{of_jobs};
-    ghost use Rattle.spec_script.specs.Formed.{IsScript};
-    ghost use Rattle.spec_script.specs.Limits.{served};
-    ghost use Rattle.spec_script.specs.Script.{Scripted};
+    ghost use Rattle.spec_script.specs.{Formed.{IsScript}, Limits.{served}, Script.{Scripted}};
 
     ghost Value = { Scripted };
 

@@ -3,8 +3,7 @@
 ghost use Rattle.std.specs.Prelude.{◌≡◌, ◌∷◌, [], map, codes, IfOk, MatchOption};
 ghost use Rattle.spec_text.specs.Numbers.{decimal_word};
 ghost use Rattle.spec_script.specs.FaultLines.{block_words, fault_line, fault_words, part_line, which_word};
-ghost use Rattle.mal_script.specs.ReadResult.{Tells};
-ghost use Rattle.mal_script.specs.declared.fault.ScriptFault.TheVariants.{OutOfMemory};
+ghost use Rattle.mal_script.specs.{ReadResult.{Tells}, declared.fault.ScriptFault.TheVariants.{OutOfMemory}};
 
 use crate::fault::ScriptFault;
 use itoa::Buffer;

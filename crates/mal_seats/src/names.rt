@@ -2,8 +2,7 @@
 
 ghost use Rattle.std.specs.Prelude.{◌≡◌, ◌+◌, ◌<◌, ◌^◌, ℕ, List, None, Some, OnOk, OnErr, if◌then◌else◌};
 ghost use Rattle.mal_seats.specs.Named.{found, jobs_at};
-ghost use Rattle.spec_hall.specs.Dressed.{keyed};
-ghost use Rattle.spec_hall.specs.Own.{is_key, is_text};
+ghost use Rattle.spec_hall.specs.{Dressed.{keyed}, Own.{is_key, is_text}};
 ghost use Rattle.spec_job.specs.KeyedJob.{Key};
 
 use crate::word::Word;

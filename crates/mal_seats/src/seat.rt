@@ -3,10 +3,8 @@
 ghost use Rattle.std.specs.Prelude.{◌≡◌, ◌↔◌, ◌+◌, ◌<◌, ◌≤◌, [], ◌∷◌, ◌++◌, true, IfOk, IsTrue, OnOk, OnErr, length};
 ghost use Rattle.mal_base.specs.Asks.{IsAsk};
 ghost use Rattle.mal_job.specs.Finishing.{outcome_of, MayFinish};
-ghost use Rattle.spec_job.specs.SoloMachine.{Revised, Closed, Finished, Exchanged, is_exchange_due, place_at, startable, clauses_in};
-ghost use Rattle.spec_job.specs.Viewed.{and_own, and_start, IsLeaseOf, IsBack};
-ghost use Rattle.spec_hall.specs.Dressed.{keyed};
-ghost use Rattle.spec_hall.specs.Own.{is_key};
+ghost use Rattle.spec_job.specs.{SoloMachine.{Revised, Closed, Finished, Exchanged, is_exchange_due, place_at, startable, clauses_in}, Viewed.{and_own, and_start, IsLeaseOf, IsBack}};
+ghost use Rattle.spec_hall.specs.{Dressed.{keyed}, Own.{is_key}};
 ghost use Rattle.spec_hall.specs.Seats as spec;
 ghost use Rattle.mal_seats.specs.Counted.{is_unfinished, marks_of};
 

@@ -1,18 +1,15 @@
 //! The seats of a hall, with what saves going over all of them.
 
 ghost use Rattle.std.specs.Prelude.{◌≡◌, ℕ, ◌+◌, ◌<◌, ◌≤◌, ◌^◌, [], ◌∷◌, ◌++◌, true, not, length, slice_index_or, None, IfOk, OnOk, OnErr};
-ghost use Rattle.std.specs.Fn.{FnOnceReturnsAtMut, FnOnceTakesAtMut};
-ghost use Rattle.std.specs.List.{list_all};
+ghost use Rattle.std.specs.{Fn.{FnOnceReturnsAtMut, FnOnceTakesAtMut}, List.{list_all}};
 ghost use Rattle.mal_job.specs.Finishing.{outcome_of, MayFinish};
 ghost use Rattle.mal_seats.specs.Changed.{OfSeat, IsChanged, IsSteady, HasStepped};
 ghost use Rattle.spec_balance.specs.Fair.{IsFair, volume_at};
-ghost use Rattle.spec_job.specs.SoloMachine.{Revised, Closed, Finished, Exchanged, startable, clauses_in};
-ghost use Rattle.spec_job.specs.Viewed.{and_own, and_start, IsLeaseOf};
-ghost use Rattle.spec_hall.specs.Dressed.{keyed};
+ghost use Rattle.spec_job.specs.{SoloMachine.{Revised, Closed, Finished, Exchanged, startable, clauses_in}, Viewed.{and_own, and_start, IsLeaseOf}};
+ghost use Rattle.spec_hall.specs.{Dressed.{keyed}, States.{live_asks}};
 ghost use Rattle.spec_hall.specs.Driven as driven;
 ghost use Rattle.spec_hall.specs.Legal as legal;
 ghost use Rattle.spec_hall.specs.Seats as spec;
-ghost use Rattle.spec_hall.specs.States.{live_asks};
 
 use crate::counts::Counts;
 use crate::filled::first_among;

@@ -2,8 +2,7 @@
 
 ghost use Rattle.std.specs.Prelude.{◌≡◌, ℕ, ◌≤◌, IfOk};
 ghost use Rattle.spec_balance.specs.Fair.{IsFair, volume_at};
-ghost use Rattle.spec_hall.specs.Seats.{jobs_in, shares_by, balanced_by};
-ghost use Rattle.spec_hall.specs.States.{live_asks};
+ghost use Rattle.spec_hall.specs.{Seats.{jobs_in, shares_by, balanced_by}, States.{live_asks}};
 ghost use Rattle.mal_seats.specs.Filled.{filled_in};
 
 use crate::seat::Seat;

@@ -1,9 +1,7 @@
 //! Names as maps order them.
 
 ghost use Rattle.std.specs.Prelude.{◌≡◌, Some, nat_eq, refl};
-ghost use Rattle.std.specs.Cmp.{partial_equiv_from_equiv};
-ghost use Rattle.std.specs.Cmp.Lexicographic.{pointwise, slice_cmp, nat_list_eq_equiv, nat_list_cmp_total, texts_ties, texts_po};
-ghost use Rattle.std.specs.Ordering.{nat_cmp};
+ghost use Rattle.std.specs.{Cmp.{partial_equiv_from_equiv}, Cmp.Lexicographic.{pointwise, slice_cmp, nat_list_eq_equiv, nat_list_cmp_total, texts_ties, texts_po}, Ordering.{nat_cmp}};
 
 use mal_base::Name;
 use std::cmp::Ordering;

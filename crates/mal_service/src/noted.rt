@@ -2,10 +2,8 @@
 ghost use Rattle.std.specs.Prelude.{◌≡◌, ◌≤◌, [], IfOk, IfErr};
 ghost use Rattle.mal_hall.specs.Offered.{offered, replied, returned};
 ghost use Rattle.spec_hall.specs.Dressed.{keyed};
-ghost use Rattle.spec_service.specs.Passes.{HasNoted};
-ghost use Rattle.spec_service.specs.Record.{Asked, Picked, Gave};
-ghost use Rattle.mal_service.specs.Entries.{noted_in};
-ghost use Rattle.mal_service.specs.Posts.{HoldsOfPost};
+ghost use Rattle.spec_service.specs.{Passes.{HasNoted}, Record.{Asked, Picked, Gave}};
+ghost use Rattle.mal_service.specs.{Entries.{noted_in}, Posts.{HoldsOfPost}};
 
 use crate::entry::Entry;
 use crate::hall_call::HallCall;

@@ -1,12 +1,9 @@
 //! Clauses in the order in which they came.
 
 ghost use Rattle.std.specs.Prelude.{◌≡◌, ◌≢◌, ℕ, ◌+◌, ◌≤◌, ◌<◌, List, [], ◌∷◌, ◌++◌, length, take, drop, filter, slice_index_or, sum_by, OnOk, vec_len, vec_capacity};
-ghost use Rattle.std.specs.List.{SameBelow, SameFrom};
-ghost use Rattle.std.specs.List.Sorted.{IsNonDecreasing};
+ghost use Rattle.std.specs.{List.{SameBelow, SameFrom}, List.Sorted.{IsNonDecreasing}};
 ghost use Rattle.spec_node.specs.Adding.{forgetting};
-ghost use Rattle.mal_store.specs.Rowed.{no_row, is_left, listed, lits_in, clause_in, IsBody, AreRows, clauses_in, IsFrom, end_of, AreLaid};
-ghost use Rattle.mal_store.specs.Rowed.{IsFit, AreFit, len_of, listed_count};
-ghost use Rattle.mal_store.specs.declared.clause_arena.Row.{Row};
+ghost use Rattle.mal_store.specs.{Rowed.{no_row, is_left, listed, lits_in, clause_in, IsBody, AreRows, clauses_in, IsFrom, end_of, AreLaid, IsFit, AreFit, len_of, listed_count}, declared.clause_arena.Row.{Row}};
 
 use crate::ids::is_among;
 use mal_base::{ClauseId, Lit};

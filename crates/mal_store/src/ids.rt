@@ -1,8 +1,7 @@
 //! Numbers of clauses, in rising order.
 
 ghost use Rattle.std.specs.Prelude.{◌≡◌, ℕ, ◌+◌, ◌≤◌, ◌<◌, not, ◌==◌, length, filter, slice_index_or, vec_len, vec_capacity};
-ghost use Rattle.std.specs.List.{list_any};
-ghost use Rattle.std.specs.List.Sorted.{IsNonDecreasing, IsPermutation};
+ghost use Rattle.std.specs.{List.{list_any}, List.Sorted.{IsNonDecreasing, IsPermutation}};
 ghost use Rattle.mal_store.specs.Stored.{with_number};
 
 use mal_base::ClauseId;

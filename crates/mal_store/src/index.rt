@@ -2,8 +2,7 @@
 
 ghost use Rattle.std.specs.Prelude.{◌≡◌, ℕ, ◌+◌, ◌↔◌, ◌≤◌, ◌<◌, true, [], length, map, filter, slice_get, slice_index_or, Some, None, OnOk, MatchOption, vec_len, vec_capacity};
 ghost use Rattle.std.specs.List.Sorted.{IsNonDecreasing};
-ghost use Rattle.mal_store.specs.declared.entry.Entry.{Entry};
-ghost use Rattle.mal_store.specs.Indexed.{EntriesRise, entry_under, with_entry, is_kept, moved, settled};
+ghost use Rattle.mal_store.specs.{declared.entry.Entry.{Entry}, Indexed.{EntriesRise, entry_under, with_entry, is_kept, moved, settled}};
 
 use crate::entry::{Entry, Held};
 use crate::ids;

@@ -4,8 +4,7 @@ ghost use Rattle.std.specs.Prelude.{◌≡◌, ℕ, ◌+◌, ◌≤◌, ◌<◌,
 ghost use Rattle.std.specs.List.Sorted.{IsNonDecreasing, IsPermutation};
 ghost use Rattle.mal_base.specs.NumberedClause.{lits_under};
 ghost use Rattle.spec_node.specs.Adding.{with_clause, forgetting};
-ghost use Rattle.mal_store.specs.Rowed.{no_row, listed_count};
-ghost use Rattle.mal_store.specs.Stored.{lits_held, IsPlaced, settled_in, literal_count, with_long, with_short, short_clauses};
+ghost use Rattle.mal_store.specs.{Rowed.{no_row, listed_count}, Stored.{lits_held, IsPlaced, settled_in, literal_count, with_long, with_short, short_clauses}};
 
 use crate::clause_arena::ClauseArena;
 use crate::entry::{Entry, Held};
@@ -30,8 +29,7 @@ pub struct Store {
 impl Model for Store {
     ghost use Rattle.std.specs.Prelude.{◌+◌, ◌-◌, min};
     ghost use Rattle.std.specs.Vec.{vec_len, vec_capacity};
-    ghost use Rattle.mal_store.specs.Rowed.{listed_count};
-    ghost use Rattle.mal_store.specs.Stored.{Stored, IsStore, held_in, literal_count};
+    ghost use Rattle.mal_store.specs.{Rowed.{listed_count}, Stored.{Stored, IsStore, held_in, literal_count}};
 
     ghost Value = { Stored };
 

@@ -2,9 +2,8 @@
 
 ghost use Rattle.std.specs.Prelude.{◌≡◌, ◌≤◌, [], None, vec_capacity};
 ghost use Rattle.mal_base.specs.declared.verdict.Outcome.TheVariants.{Ran, Starved};
-ghost use Rattle.spec_job.specs.Journaled.{replayed, node_of};
+ghost use Rattle.spec_job.specs.{Journaled.{replayed, node_of}, Leased.{Tells, model_with}};
 ghost use Rattle.mal_suspend.specs.Kept.{journal_of, is_gone};
-ghost use Rattle.spec_job.specs.Leased.{Tells, model_with};
 
 use crate::journal::Journal;
 use crate::kept::Kept;

@@ -2,8 +2,7 @@
 
 ghost use Rattle.std.specs.Prelude.{◌≡◌, ◌↔◌, [], ◌∷◌, ◌++◌, map, IsTrue, IfOk, OnOk};
 ghost use Rattle.spec_job.specs.Journal.{Run, loads_in, imports_in};
-ghost use Rattle.mal_suspend.specs.Entries.{entry_of, slices_of, counted_of, entries_of};
-ghost use Rattle.mal_suspend.specs.Replaying.{variables_after};
+ghost use Rattle.mal_suspend.specs.{Entries.{entry_of, slices_of, counted_of, entries_of}, Replaying.{variables_after}};
 
 use crate::entry::{Counted, Entry};
 use std::alloc::{AllocError, Global};

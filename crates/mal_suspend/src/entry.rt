@@ -2,8 +2,7 @@
 
 ghost use Rattle.std.specs.Prelude.{◌≡◌, ◌↔◌, IsTrue, IfOk};
 ghost use Rattle.spec_job.specs.Journal.{is_load, is_import};
-ghost use Rattle.mal_suspend.specs.Entries.{entry_of, counted_of};
-ghost use Rattle.mal_suspend.specs.Replaying.{variables_with};
+ghost use Rattle.mal_suspend.specs.{Entries.{entry_of, counted_of}, Replaying.{variables_with}};
 
 use mal_base::{Lit, NumberedClause};
 use mal_buffer::Buffer;

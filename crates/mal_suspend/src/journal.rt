@@ -1,10 +1,8 @@
 //! The journal of a node.
 
 ghost use Rattle.std.specs.Prelude.{◌≡◌, ◌↔◌, ◌≤◌, [], ◌++◌, IsTrue, IfOk, OnOk};
-ghost use Rattle.spec_job.specs.Journal.{loads_in, imports_in};
-ghost use Rattle.spec_job.specs.Journaled.{replayed, and_entries, started};
-ghost use Rattle.mal_suspend.specs.Replaying.{IsJournal, MayAllReplay, variables_after};
-ghost use Rattle.mal_suspend.specs.Starting.{shared_loads, shared_tolds, load_entries, import_entries, start_entries};
+ghost use Rattle.spec_job.specs.{Journal.{loads_in, imports_in}, Journaled.{replayed, and_entries, started}};
+ghost use Rattle.mal_suspend.specs.{Replaying.{IsJournal, MayAllReplay, variables_after}, Starting.{shared_loads, shared_tolds, load_entries, import_entries, start_entries}};
 
 use crate::entries::Entries;
 use crate::entry::Entry;

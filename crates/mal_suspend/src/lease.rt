@@ -2,11 +2,8 @@
 
 ghost use Rattle.std.specs.Prelude.{◌≡◌, IfOk, IfErr};
 ghost use Rattle.mal_base.specs.declared.verdict.Outcome.TheVariants.{Starved};
-ghost use Rattle.spec_job.specs.Journaled.{replayed, started};
-ghost use Rattle.mal_suspend.specs.Kept.{journal_of, is_gone};
-ghost use Rattle.spec_job.specs.Leased.{Becomes, Tells};
-ghost use Rattle.mal_suspend.specs.Replaying.{MayAllReplay};
-ghost use Rattle.mal_suspend.specs.Starting.{shared_loads, shared_tolds, start_entries};
+ghost use Rattle.spec_job.specs.{Journaled.{replayed, started}, Leased.{Becomes, Tells}};
+ghost use Rattle.mal_suspend.specs.{Kept.{journal_of, is_gone}, Replaying.{MayAllReplay}, Starting.{shared_loads, shared_tolds, start_entries}};
 
 use crate::done::Done;
 use crate::journal::Journal;
@@ -30,9 +27,8 @@ pub struct Lease {
 
 impl Model for Lease {
     ghost use Rattle.std.specs.Prelude.{◌≡◌};
-    ghost use Rattle.spec_job.specs.Journaled.{and_entries};
+    ghost use Rattle.spec_job.specs.{Journaled.{and_entries}, Leased.{Leased}};
     ghost use Rattle.mal_suspend.specs.Kept.{journal_of, is_gone};
-    ghost use Rattle.spec_job.specs.Leased.{Leased};
 
     ghost Value = { Leased };
 

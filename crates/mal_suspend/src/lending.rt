@@ -1,8 +1,7 @@
 //! What is shared, lent to a node.
 
 ghost use Rattle.std.specs.Prelude.{◌≡◌, IfOk};
-ghost use Rattle.mal_cdcl.specs.Importing.{lent};
-ghost use Rattle.mal_cdcl.specs.Ready.{posted};
+ghost use Rattle.mal_cdcl.specs.{Importing.{lent}, Ready.{posted}};
 ghost use Rattle.mal_suspend.specs.Starting.{shared_loads, shared_tolds};
 
 use mal_buffer::Buffer;

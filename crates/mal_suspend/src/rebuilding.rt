@@ -3,10 +3,8 @@
 ghost use Rattle.std.specs.Prelude.{◌≡◌, IfOk, OnOk};
 ghost use Rattle.spec_node.specs.State.{fresh_with};
 ghost use Rattle.spec_search.specs.Slice.{slice};
-ghost use Rattle.spec_job.specs.Journal.{Run, after_entry};
-ghost use Rattle.mal_suspend.specs.Entries.{entry_of, slices_of, counted_of};
-ghost use Rattle.spec_job.specs.Journaled.{node_of};
-ghost use Rattle.mal_suspend.specs.Replaying.{MayReplay, MayAllReplay, alone, after_entries};
+ghost use Rattle.spec_job.specs.{Journal.{Run, after_entry}, Journaled.{node_of}};
+ghost use Rattle.mal_suspend.specs.{Entries.{entry_of, slices_of, counted_of}, Replaying.{MayReplay, MayAllReplay, alone, after_entries}};
 
 use crate::entry::{Counted, Entry};
 use crate::journal::Journal;

@@ -4,10 +4,8 @@ ghost use Rattle.std.specs.Prelude.{◌≡◌, ◌<◌, ◌≤◌, IfOk, OnOk, O
 ghost use Rattle.spec_node.specs.Sound.{IsSound};
 ghost use Rattle.spec_search.specs.Slice.{slice};
 ghost use Rattle.mal_cdcl.specs.Sliced.{HasIdRoom, HasLowCounts, HasSliceRoom};
-ghost use Rattle.spec_job.specs.Journaled.{replayed, and_entries, started};
-ghost use Rattle.spec_job.specs.Leased.{HasBecome};
-ghost use Rattle.mal_suspend.specs.Replaying.{MayAllReplay, after_entries, alone};
-ghost use Rattle.mal_suspend.specs.Starting.{shared_loads, shared_tolds, start_entries};
+ghost use Rattle.spec_job.specs.{Journaled.{replayed, and_entries, started}, Leased.{HasBecome}};
+ghost use Rattle.mal_suspend.specs.{Replaying.{MayAllReplay, after_entries, alone}, Starting.{shared_loads, shared_tolds, start_entries}};
 
 use crate::done::Done;
 use crate::journal::Journal;
@@ -34,8 +32,7 @@ pub struct Start {
 impl Model for Start {
     ghost use Rattle.std.specs.Prelude.{◌≡◌, ◌≤◌, [], vec_capacity};
     ghost use Rattle.spec_job.specs.Leased.{Begun};
-    ghost use Rattle.mal_suspend.specs.Replaying.{IsJournal, variables_after};
-    ghost use Rattle.mal_suspend.specs.Starting.{shared_loads, shared_tolds, start_entries};
+    ghost use Rattle.mal_suspend.specs.{Replaying.{IsJournal, variables_after}, Starting.{shared_loads, shared_tolds, start_entries}};
 
     ghost Value = { Begun };
 

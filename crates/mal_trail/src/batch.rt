@@ -1,10 +1,8 @@
 //! Handling a clause of a batch on the trail: what all engines do.
 
 ghost use Rattle.std.specs.Prelude.{◌≡◌, ℕ, ◌≤◌, true, length, take};
-ghost use Rattle.mal_base.specs.Formulas.{is_within};
-ghost use Rattle.mal_base.specs.Literals.{var_of};
-ghost use Rattle.spec_node.specs.Batch.{after_clause, after_literal};
-ghost use Rattle.spec_node.specs.Value.{left_literal};
+ghost use Rattle.mal_base.specs.{Formulas.{is_within}, Literals.{var_of}};
+ghost use Rattle.spec_node.specs.{Batch.{after_clause, after_literal}, Value.{left_literal}};
 
 use crate::trail::Trail;
 use mal_base::{ClauseId, Lit};

@@ -1,12 +1,8 @@
 //! Engines of unit propagation.
 
 ghost use Rattle.std.specs.Prelude.{◌≡◌, ℕ, ◌+◌, ◌≤◌, true, List, [], ◌∷◌, ◌++◌, length, min, None, OnOk};
-ghost use Rattle.mal_base.specs.Clauses.{rises};
-ghost use Rattle.mal_base.specs.NumberedClause.{lits_under};
-ghost use Rattle.mal_base.specs.declared.trail_entry.TrailEntry.{TrailEntry};
-ghost use Rattle.spec_node.specs.Adding.{with_clause, forgetting};
-ghost use Rattle.spec_node.specs.Batch.{after_batch};
-ghost use Rattle.spec_node.specs.Cut.{kept};
+ghost use Rattle.mal_base.specs.{Clauses.{rises}, NumberedClause.{lits_under}, declared.trail_entry.TrailEntry.{TrailEntry}};
+ghost use Rattle.spec_node.specs.{Adding.{with_clause, forgetting}, Batch.{after_batch}, Cut.{kept}};
 ghost use Rattle.mal_trail.specs.Rooms.{Room, HasRoom, IsRoomFor, IsLeft, are_within};
 
 use crate::trail::Trail;

@@ -1,11 +1,8 @@
 //! The trail: the literals that are true, in the order in which they became so.
 
 ghost use Rattle.std.specs.Prelude.{vec_capacity, ◌≡◌, ℕ, ◌+◌, ◌-◌, ◌≤◌, ◌<◌, false, [], ◌∷◌, ◌++◌, length, take, map, min, true, Some, None, OnOk};
-ghost use Rattle.mal_base.specs.Literals.{var_of, literal};
-ghost use Rattle.mal_base.specs.Trails.{value_on};
-ghost use Rattle.spec_node.specs.Load.{counted};
-ghost use Rattle.spec_node.specs.Cut.{kept, removed};
-ghost use Rattle.spec_node.specs.Value.{is_true, is_false, has_value, level_of};
+ghost use Rattle.mal_base.specs.{Literals.{var_of, literal}, Trails.{value_on}};
+ghost use Rattle.spec_node.specs.{Load.{counted}, Cut.{kept, removed}, Value.{is_true, is_false, has_value, level_of}};
 ghost use Rattle.mal_trail.specs.Trailed.{false_place};
 
 use mal_base::{ClauseId, Lit, TrailEntry, TrailView, Var};

@@ -1,7 +1,6 @@
 //! What a holder does as it gives the turn up.
 ghost use Rattle.std.specs.Prelude.{◌≡◌, ◌+◌, ◌^◌, ◌<◌, ◌++◌, [], ◌∷◌, None, Some};
-ghost use Rattle.spec_turn.specs.declared.view.Stage.TheVariants.{Idle, Holds, Entered};
-ghost use Rattle.spec_turn.specs.Rule.{at_stage, seeing};
+ghost use Rattle.spec_turn.specs.{declared.view.Stage.TheVariants.{Idle, Holds, Entered}, Rule.{at_stage, seeing}};
 
 use crate::steps::{Enter, Pass};
 use crate::table::{HISTORY, Place, SERVING, Turn};

@@ -1,6 +1,5 @@
 //! What each kind of step tells.
-ghost use Rattle.spec_turn.specs.Steps.{draws, looks, enters, passes};
-ghost use Rattle.spec_turn.specs.Rule.{split_left, split_right, join_both, nobody};
+ghost use Rattle.spec_turn.specs.{Steps.{draws, looks, enters, passes}, Rule.{split_left, split_right, join_both, nobody}};
 
 use atomic_table::{Join, Play, Split};
 use spec_turn::{Recorded, View};

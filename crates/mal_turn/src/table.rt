@@ -1,8 +1,6 @@
 //! The turn, its seats, and what a holder has.
 ghost use Rattle.std.specs.Prelude.{◌≡◌, ◌+◌, ◌^◌, ◌<◌, [], ◌∷◌, None, true};
-ghost use Rattle.spec_turn.specs.declared.view.Stage.TheVariants.{Idle, Holds};
-ghost use Rattle.spec_turn.specs.Numbers.{among};
-ghost use Rattle.spec_turn.specs.Rule.{at_stage};
+ghost use Rattle.spec_turn.specs.{declared.view.Stage.TheVariants.{Idle, Holds}, Numbers.{among}, Rule.{at_stage}};
 
 use crate::rule::TurnRule;
 use crate::waiting::Waiting;

@@ -1,7 +1,6 @@
 //! Waiting for the turn. Who waits has drawn no ticket yet: a ticket is drawn where the turn is free.
 ghost use Rattle.std.specs.Prelude.{◌≡◌, ◌+◌, ◌^◌, ◌<◌, [], ◌∷◌, length, IfSome, IfNone, Some};
-ghost use Rattle.spec_turn.specs.declared.view.Stage.TheVariants.{Idle, Drawn, Holds};
-ghost use Rattle.spec_turn.specs.Rule.{Begins, Has, at_stage, seeing};
+ghost use Rattle.spec_turn.specs.{declared.view.Stage.TheVariants.{Idle, Drawn, Holds}, Rule.{Begins, Has, at_stage, seeing}};
 
 use crate::steps::{Draw, Look};
 use crate::table::{Place, SERVING, TICKET, Turn};

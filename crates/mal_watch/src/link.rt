@@ -14,8 +14,7 @@ pub struct Link {
 impl Model for Link {
     ghost use Rattle.std.specs.Prelude.{ℕ, Option};
     ghost use Rattle.std.proofs.Common.{refl};
-    ghost use Rattle.mal_watch.specs.Links.{node_of, code_of};
-    ghost use Rattle.mal_watch.specs.LinkLaws.{code-back};
+    ghost use Rattle.mal_watch.specs.{Links.{node_of, code_of}, LinkLaws.{code-back}};
 
     ghost Value = { Option ℕ };
 

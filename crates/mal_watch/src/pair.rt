@@ -1,10 +1,8 @@
 //! Which two literals of a clause are watched.
 
 ghost use Rattle.std.specs.Prelude.{◌≡◌, ◌≢◌, ℕ, ◌≤◌, ◌<◌, true, List, [], ◌∷◌, ◌++◌, length};
-ghost use Rattle.mal_base.specs.Clauses.{rises};
-ghost use Rattle.mal_base.specs.declared.trail_entry.TrailEntry.{TrailEntry};
-ghost use Rattle.mal_watch.specs.WatchLists.{Has};
-ghost use Rattle.mal_watch.specs.Pairs.{IsOpenUntil, IsBest, ArePicked};
+ghost use Rattle.mal_base.specs.{Clauses.{rises}, declared.trail_entry.TrailEntry.{TrailEntry}};
+ghost use Rattle.mal_watch.specs.{WatchLists.{Has}, Pairs.{IsOpenUntil, IsBest, ArePicked}};
 
 use mal_base::Lit;
 use mal_trail::Trail;

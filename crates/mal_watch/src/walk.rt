@@ -2,9 +2,7 @@
 
 ghost use Rattle.std.specs.Prelude.{◌≡◌, ◌+◌, ◌≤◌, ◌<◌, [], ◌++◌, length, take, drop, ◌∷◌, slice_index, slice_index_or, MatchOption, vec_len, vec_capacity};
 ghost use Rattle.mal_store.specs.Rowed.{no_row};
-ghost use Rattle.mal_watch.specs.Watching.{partner, IsOther, AreOthersFalse, IsSettled};
-ghost use Rattle.mal_watch.specs.Going.{Turns, Goes};
-ghost use Rattle.mal_watch.specs.Finding.{found_at, found_in};
+ghost use Rattle.mal_watch.specs.{Watching.{partner, IsOther, AreOthersFalse, IsSettled}, Going.{Turns, Goes}, Finding.{found_at, found_in}};
 
 use crate::found::Found;
 use crate::watch_lists::WatchLists;

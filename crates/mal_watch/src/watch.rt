@@ -1,14 +1,10 @@
 //! The engine.
 
 ghost use Rattle.std.specs.Prelude.{◌≡◌, ◌+◌, ◌≤◌, true, length, take, None, vec_capacity};
-ghost use Rattle.mal_base.specs.Clauses.{rises};
-ghost use Rattle.mal_base.specs.NumberedClause.{lits_under};
-ghost use Rattle.spec_node.specs.Adding.{with_clause};
-ghost use Rattle.spec_node.specs.Batch.{after_batch};
+ghost use Rattle.mal_base.specs.{Clauses.{rises}, NumberedClause.{lits_under}};
+ghost use Rattle.spec_node.specs.{Adding.{with_clause}, Batch.{after_batch}};
 ghost use Rattle.mal_trail.specs.Rooms.{IsRoomFor, IsLeft, are_within};
-ghost use Rattle.mal_watch.specs.Finding.{pending};
-ghost use Rattle.mal_watch.specs.Fitting.{room_in, Fits};
-ghost use Rattle.mal_watch.specs.FollowLaws.{follows-push, follows-cut, follows-less};
+ghost use Rattle.mal_watch.specs.{Finding.{pending}, Fitting.{room_in, Fits}, FollowLaws.{follows-push, follows-cut, follows-less}};
 
 use crate::found::Found;
 use crate::watch_lists::WatchLists;

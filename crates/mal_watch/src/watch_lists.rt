@@ -2,9 +2,7 @@
 
 ghost use Rattle.std.specs.Prelude.{◌≡◌, ℕ, ◌+◌, ◌≤◌, ◌<◌, [], ◌∷◌, ◌++◌, length, drop, replicate, slice_index, slice_set, None, OnOk, MatchOption, ◌↔◌, vec_len, vec_capacity};
 ghost use Rattle.std.specs.List.Sorted.{IsNonDecreasing};
-ghost use Rattle.mal_watch.specs.Leaving.{pairs_left};
-ghost use Rattle.mal_watch.specs.Nodes.{links_of, keys_of};
-ghost use Rattle.mal_watch.specs.WatchLists.{Has, AreOnce, IsAt, IsChained, AreListed};
+ghost use Rattle.mal_watch.specs.{Leaving.{pairs_left}, Nodes.{links_of, keys_of}, WatchLists.{Has, AreOnce, IsAt, IsChained, AreListed}};
 
 use crate::link::Link;
 use mal_base::{ClauseId, Lit};
@@ -35,9 +33,7 @@ pub struct WatchLists {
 impl Model for WatchLists {
     ghost use Rattle.std.specs.Prelude.{◌-◌, length, min};
     ghost use Rattle.std.specs.Vec.{vec_len, vec_capacity};
-    ghost use Rattle.mal_watch.specs.WatchLists.{Chained, IsChained, AreListed, chain};
-    ghost use Rattle.mal_watch.specs.Links.{nowhere};
-    ghost use Rattle.mal_watch.specs.Nodes.{links_of, keys_of};
+    ghost use Rattle.mal_watch.specs.{WatchLists.{Chained, IsChained, AreListed, chain}, Links.{nowhere}, Nodes.{links_of, keys_of}};
 
     ghost Value = { Chained };
 

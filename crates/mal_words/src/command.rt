@@ -2,8 +2,7 @@
 //! abbreviation, and no option twice.
 
 ghost use Rattle.std.specs.Prelude.{◌≡◌, false, IfOk};
-ghost use Rattle.clap.specs.Words.{app_of, rule_of};
-ghost use Rattle.clap.specs.declared.builder.command.Command.TheViews.{out-Command as fields_of};
+ghost use Rattle.clap.specs.{Words.{app_of, rule_of}, declared.builder.command.Command.TheViews.{out-Command as fields_of}};
 ghost use Rattle.mal_words.specs.CommandLine.{bare_app, bare_mal, gen_app, mal_app, option_rule, run_app};
 
 use clap::{Arg, Command};

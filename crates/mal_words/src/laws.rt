@@ -1,7 +1,6 @@
 //! Laws on the meaning of words, as the contracts of functions without a body.
 
-ghost use Rattle.mal_words.specs.Examples.{HasExamples};
-ghost use Rattle.mal_words.specs.Laws.{OneMeaning};
+ghost use Rattle.mal_words.specs.{Examples.{HasExamples}, Laws.{OneMeaning}};
 
 /// Words ask for one thing at most.
 pub fn words_have_one_meaning()

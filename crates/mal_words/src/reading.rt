@@ -2,8 +2,7 @@
 
 ghost use Rattle.std.specs.Prelude.{◌≡◌, IfOk, IfSome, codes, map, option_map, string_bytes};
 ghost use Rattle.clap.specs.Words.{first_of, found_of, rows_of, subcommand_rows_of};
-ghost use Rattle.mal_words.specs.Requests.{IsNumber, IsRequest};
-ghost use Rattle.mal_words.specs.Found.{IsAsked, IsAskedIn, IsMeaning, IsNumberOf};
+ghost use Rattle.mal_words.specs.{Requests.{IsNumber, IsRequest}, Found.{IsAsked, IsAskedIn, IsMeaning, IsNumberOf}};
 
 use crate::command::command;
 use crate::number::number;

@@ -3,8 +3,7 @@
 //! body.
 #![tactic(auto)]
 
-ghost use Rattle.spec_account.specs.Examples.{HasExamples};
-ghost use Rattle.spec_account.specs.Laws.{SpelledIsRead, WrittenIsRead};
+ghost use Rattle.spec_account.specs.{Examples.{HasExamples}, Laws.{SpelledIsRead, WrittenIsRead}};
 
 /// What is said of small texts.
 #[tactic(auto, using(crate::proofs::ExampleLemmas::examples))]

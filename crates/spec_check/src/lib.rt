@@ -2,8 +2,7 @@
 //! them as the contracts of functions without a body.
 #![tactic(auto)]
 
-ghost use Rattle.spec_check.specs.Examples.{HasSpelled, HasVerdicts};
-ghost use Rattle.spec_check.specs.Laws.{LinesAreRead, RowFaultIsFirst, VerifiedIsRefutation, VerifiedIsUnsatisfiable};
+ghost use Rattle.spec_check.specs.{Examples.{HasSpelled, HasVerdicts}, Laws.{LinesAreRead, RowFaultIsFirst, VerifiedIsRefutation, VerifiedIsUnsatisfiable}};
 
 /// What is said of small proofs, and which lines they spell.
 pub fn verdict_examples()

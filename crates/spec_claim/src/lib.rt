@@ -3,8 +3,7 @@
 //! functions without a body.
 #![tactic(auto)]
 
-ghost use Rattle.spec_claim.specs.Examples.{HasExamples};
-ghost use Rattle.spec_claim.specs.Laws.{SpelledIsRead};
+ghost use Rattle.spec_claim.specs.{Examples.{HasExamples}, Laws.{SpelledIsRead}};
 
 /// What is said of small texts.
 pub fn claim_examples()

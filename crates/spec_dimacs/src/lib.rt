@@ -2,9 +2,7 @@
 //! functions without a body.
 #![tactic(auto)]
 
-ghost use Rattle.spec_dimacs.specs.Differ.{FormulasDiffer, HaveOtherTexts};
-ghost use Rattle.spec_dimacs.specs.Examples.{SpelledExamples, HeaderExamples, FaultExamples};
-ghost use Rattle.spec_dimacs.specs.Laws.{SpellingIsRead, SpellsOne, SpelledIsFormula, WrittenIsSpelled, WrittenIsRead, LiteralsMakeOne, FaultIsFirst};
+ghost use Rattle.spec_dimacs.specs.{Differ.{FormulasDiffer, HaveOtherTexts}, Examples.{SpelledExamples, HeaderExamples, FaultExamples}, Laws.{SpellingIsRead, SpellsOne, SpelledIsFormula, WrittenIsSpelled, WrittenIsRead, LiteralsMakeOne, FaultIsFirst}};
 
 /// A text spells a formula exactly where reading it gives this formula. Reading a text gives a formula or a fault, so
 /// each text spells one formula or has a first fault, and never both.

@@ -2,8 +2,7 @@
 //! fronts. Definitions, and the laws about them as the contracts of functions without a body.
 #![tactic(auto)]
 
-ghost use Rattle.spec_exchange.specs.Laws.{UnionIsSorted, UnionKeepsTheLeast, SortedAreDecided, OrderDoesNotMatter, UnionOfUnions, CutsEarly, FrontIsLongest, MergesUp};
-ghost use Rattle.spec_exchange.specs.Examples.{HasExamples};
+ghost use Rattle.spec_exchange.specs.{Laws.{UnionIsSorted, UnionKeepsTheLeast, SortedAreDecided, OrderDoesNotMatter, UnionOfUnions, CutsEarly, FrontIsLongest, MergesUp}, Examples.{HasExamples}};
 
 /// A union is sorted, has just the lists of literals that the entries have, each with the least of its numbers, and is
 /// the only such list.

@@ -2,14 +2,7 @@
 //! functions without a body.
 #![tactic(auto)]
 
-ghost use Rattle.spec_hall.specs.Laws.{JobAnswersStay, LegalAnswersFollow, LegalAnswersRefute, LegalAnswersSolve, LegalClausesOwn, LegalIsRunnable, LegalLogsDerived, LegalSinglesAgree, OwnEventsAnswer, OwnEventsReply, OthersLeaveOwn, SameVolumeLeavesOwn};
-ghost use Rattle.spec_hall.specs.Dressed.{LegalIsDressed};
-ghost use Rattle.spec_hall.specs.Driven.{DrivenIsDecided};
-ghost use Rattle.spec_hall.specs.Picked.{HasPicks, PicksFirst, PicksNone};
-ghost use Rattle.spec_hall.specs.SinglesUpTo.{LegalSinglesAgreeUpTo};
-ghost use Rattle.spec_hall.specs.Unknowns.{LegalAnswersAccountedFor, LegalFedAnswersDecide};
-ghost use Rattle.spec_hall.specs.Leases.{LegalLeases, LegalGoesOn};
-ghost use Rattle.spec_hall.specs.Calls.{CallIsDecided, CallIsLegal};
+ghost use Rattle.spec_hall.specs.{Laws.{JobAnswersStay, LegalAnswersFollow, LegalAnswersRefute, LegalAnswersSolve, LegalClausesOwn, LegalIsRunnable, LegalLogsDerived, LegalSinglesAgree, OwnEventsAnswer, OwnEventsReply, OthersLeaveOwn, SameVolumeLeavesOwn}, Dressed.{LegalIsDressed}, Driven.{DrivenIsDecided}, Picked.{HasPicks, PicksFirst, PicksNone}, SinglesUpTo.{LegalSinglesAgreeUpTo}, Unknowns.{LegalAnswersAccountedFor, LegalFedAnswersDecide}, Leases.{LegalLeases, LegalGoesOn}, Calls.{CallIsDecided, CallIsLegal}};
 
 /// A job's answers and replies come from its own events alone, and events of other jobs are none of these.
 pub fn jobs_are_isolated()

@@ -2,18 +2,7 @@
 //! and the laws about them as the contracts of functions without a body.
 #![tactic(auto)]
 
-ghost use Rattle.spec_job.specs.Counts.{ReplaysCount, RunsAreFew};
-ghost use Rattle.spec_job.specs.DemandOne.{NoneIsDue, SinglesAgree};
-ghost use Rattle.spec_job.specs.DemandOneUpTo.{HasUpTo, SinglesAgreeUpTo};
-ghost use Rattle.spec_job.specs.Examples.{HasExamples, HasExchanges, HasRefutations, HasRunnable};
-ghost use Rattle.spec_job.specs.Exported.{ExchangesTellDerived, ExportsAreDerived, HasUntold};
-ghost use Rattle.spec_job.specs.Following.{RunnableJournalsFollow};
-ghost use Rattle.spec_job.specs.Left.{LeftFalls};
-ghost use Rattle.spec_job.specs.ProfileExamples.{HasProfiles};
-ghost use Rattle.spec_job.specs.Provenance.{RunnableClausesOwn};
-ghost use Rattle.spec_job.specs.Runnable.{AnswersStay, RunnableAnswersFollow, RunnableAnswersRefute, RunnableAnswersSolve, RunnableLogsDerived};
-ghost use Rattle.spec_job.specs.Unknown.{RunnableAnswersAccountedFor, RunnableFedAnswersDecide};
-ghost use Rattle.spec_job.specs.UnknownExamples.{HasEndings};
+ghost use Rattle.spec_job.specs.{Counts.{ReplaysCount, RunsAreFew}, DemandOne.{NoneIsDue, SinglesAgree}, DemandOneUpTo.{HasUpTo, SinglesAgreeUpTo}, Examples.{HasExamples, HasExchanges, HasRefutations, HasRunnable}, Exported.{ExchangesTellDerived, ExportsAreDerived, HasUntold}, Following.{RunnableJournalsFollow}, Left.{LeftFalls}, ProfileExamples.{HasProfiles}, Provenance.{RunnableClausesOwn}, Runnable.{AnswersStay, RunnableAnswersFollow, RunnableAnswersRefute, RunnableAnswersSolve, RunnableLogsDerived}, Unknown.{RunnableAnswersAccountedFor, RunnableFedAnswersDecide}, UnknownExamples.{HasEndings}};
 
 /// The worked examples of a job's machine compute to the answers that are known, under either profile of its solvers,
 /// and own events may happen as they should.

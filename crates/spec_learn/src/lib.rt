@@ -3,18 +3,7 @@
 //! about them as the contracts of functions without a body.
 #![tactic(auto)]
 
-ghost use Rattle.spec_learn.specs.Examples.{HasExamples};
-ghost use Rattle.spec_learn.specs.CoreLaws.{CoreIsAssumed, CoreIsDerived, CoreIsSmall, FailedHasReason};
-ghost use Rattle.spec_learn.specs.FirstPoint.{HasFirstPoints, ResolvesAboveOne, WayEnds};
-ghost use Rattle.spec_learn.specs.Laws.{AnalysisIsSmall, EmptyAtZero, LearnedAsserts, LearnKeepsSound, LineIsDerived};
-ghost use Rattle.spec_learn.specs.RefutingExamples.{HasRefutingExamples};
-ghost use Rattle.spec_learn.specs.RefutingLaws.{CoreKeepsSound, EmptyKeepsSound, GoalIsHeld, NumberIsNew, OthersStayHeld};
-ghost use Rattle.spec_learn.specs.ShorterExamples.{HasShorterExamples};
-ghost use Rattle.spec_learn.specs.ShorterLaws.{LearnedIsLesson, LearnedIsTaught, LearnsByProfile};
-ghost use Rattle.spec_learn.specs.ShorterLaws.{LessonAsserts, LessonKeepsSound};
-ghost use Rattle.spec_learn.specs.ShorterLaws.{ShorterHintsDiffer, ShorterIsDerived, ShorterIsEmptyAtZero};
-ghost use Rattle.spec_learn.specs.ShorterLaws.{ShorterIsGoneThrough, ShorterIsLesson, ShorterIsSmall, ShorterIsWithin};
-ghost use Rattle.spec_learn.specs.ShorterLaws.{ShorterJumpsAlike};
+ghost use Rattle.spec_learn.specs.{Examples.{HasExamples}, CoreLaws.{CoreIsAssumed, CoreIsDerived, CoreIsSmall, FailedHasReason}, FirstPoint.{HasFirstPoints, ResolvesAboveOne, WayEnds}, Laws.{AnalysisIsSmall, EmptyAtZero, LearnedAsserts, LearnKeepsSound, LineIsDerived}, RefutingExamples.{HasRefutingExamples}, RefutingLaws.{CoreKeepsSound, EmptyKeepsSound, GoalIsHeld, NumberIsNew, OthersStayHeld}, ShorterExamples.{HasShorterExamples}, ShorterLaws.{LearnedIsLesson, LearnedIsTaught, LearnsByProfile, LessonAsserts, LessonKeepsSound, ShorterHintsDiffer, ShorterIsDerived, ShorterIsEmptyAtZero, ShorterIsGoneThrough, ShorterIsLesson, ShorterIsSmall, ShorterIsWithin, ShorterJumpsAlike}};
 
 /// The worked examples of conflict analysis compute to the answers that are known.
 pub fn learning_examples()

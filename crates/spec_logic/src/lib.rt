@@ -2,8 +2,7 @@
 //! Definitions, and the laws about them as the contracts of functions without a body.
 #![tactic(auto)]
 
-ghost use Rattle.spec_logic.specs.Examples.{HasExamples, HasDerivations, HasRefusals, HasGoals, HasRefutations};
-ghost use Rattle.spec_logic.specs.Laws.{DerivedIsEntailed, DerivedIsSatisfied, ProofIsEntailed, RefutedIsUnsatisfiable};
+ghost use Rattle.spec_logic.specs.{Examples.{HasExamples, HasDerivations, HasRefusals, HasGoals, HasRefutations}, Laws.{DerivedIsEntailed, DerivedIsSatisfied, ProofIsEntailed, RefutedIsUnsatisfiable}};
 
 /// The worked examples of satisfaction compute to the answers that are known.
 pub fn satisfaction_examples()

@@ -2,8 +2,7 @@
 //! laws about them as the contracts of functions without a body.
 #![tactic(auto)]
 
-ghost use Rattle.spec_lrat.specs.Examples.{HasLines, HasFaults};
-ghost use Rattle.spec_lrat.specs.Laws.{MakesOneClause, SpellsWhatIsRead, WrittenIsRead};
+ghost use Rattle.spec_lrat.specs.{Examples.{HasLines, HasFaults}, Laws.{MakesOneClause, SpellsWhatIsRead, WrittenIsRead}};
 
 /// What small lines are read as, and what is wrong with others.
 #[tactic(auto, using(crate::proofs::ExampleLemmas::lines, crate::proofs::ExampleLemmas::faults))]

@@ -2,10 +2,7 @@
 //! the contracts of functions without a body.
 #![tactic(auto)]
 
-ghost use Rattle.spec_node.specs.Examples.{HasExamples};
-ghost use Rattle.spec_node.specs.Laws.{FreshIsConsistent, FreshIsSound, HandledAreTrue, ImportHolds, ImportKeepsSound};
-ghost use Rattle.spec_node.specs.Laws.{ImportMayLeave, LoadHolds, LoadKeepsConsistent, LoadKeepsSound, LoadsHoldAll};
-ghost use Rattle.spec_node.specs.Laws.{NumbersMeanSame};
+ghost use Rattle.spec_node.specs.{Examples.{HasExamples}, Laws.{FreshIsConsistent, FreshIsSound, HandledAreTrue, ImportHolds, ImportKeepsSound, ImportMayLeave, LoadHolds, LoadKeepsConsistent, LoadKeepsSound, LoadsHoldAll, NumbersMeanSame}};
 
 /// The search of a node is consistent at its first start, and loads keep it so.
 pub fn search_is_consistent()

@@ -2,8 +2,7 @@
 //! about them as the contracts of functions without a body.
 #![tactic(auto)]
 
-ghost use Rattle.spec_proof.specs.Laws.{DerivedWithMore, LogHolds, LogIsOrderly, EmptyIsLog, LogGrows, LogTakesProof, LogTakesOriginals, ReachedIsReached, GoalIsLast, GoalStaysLast, LaterLinesDoNotMatter, ClosedLinesGrow, LitsStay, NumbersFollow, OthersStay, TrimmedRefutes};
-ghost use Rattle.spec_proof.specs.Examples.{HasTrims, HasRefutations};
+ghost use Rattle.spec_proof.specs.{Laws.{DerivedWithMore, LogHolds, LogIsOrderly, EmptyIsLog, LogGrows, LogTakesProof, LogTakesOriginals, ReachedIsReached, GoalIsLast, GoalStaysLast, LaterLinesDoNotMatter, ClosedLinesGrow, LitsStay, NumbersFollow, OthersStay, TrimmedRefutes}, Examples.{HasTrims, HasRefutations}};
 
 /// Worked examples: what is trimmed of logs, and that it refutes.
 pub fn trim_examples()

@@ -2,8 +2,7 @@
 //! a body.
 #![tactic(auto)]
 
-ghost use Rattle.spec_replay.specs.Examples.{HasEvents};
-ghost use Rattle.spec_replay.specs.Laws.{ReplayIsDecided, RunIsReplayed, RunIsReplied};
+ghost use Rattle.spec_replay.specs.{Examples.{HasEvents}, Laws.{ReplayIsDecided, RunIsReplayed, RunIsReplied}};
 
 /// There is one answer to a replay at most, where memory was not wanting.
 pub fn replay_is_decided()

@@ -2,11 +2,7 @@
 //! text is the first one. Definitions, and the laws about them as the contracts of functions without a body.
 #![tactic(auto)]
 
-ghost use Rattle.spec_script.specs.Differ.{HaveOtherTexts, ScriptsDiffer};
-ghost use Rattle.spec_script.specs.Examples.{HasExamples, ReadingExamples, FaultExamples, LimitExamples};
-ghost use Rattle.spec_script.specs.WordExamples.{WordExamples};
-ghost use Rattle.spec_script.specs.Laws.{SpelledIsRead, SpelledIsWithin, WrittenIsSpelled, WrittenIsRead, SpelledIsScript, SpelledAgain};
-ghost use Rattle.spec_script.specs.Laws.{AskIsRead, AssumptionsAreRead, FaultIsFirst, JobIsAdmitted, RevisionIsRead, TenantIsRead};
+ghost use Rattle.spec_script.specs.{Differ.{HaveOtherTexts, ScriptsDiffer}, Examples.{HasExamples, ReadingExamples, FaultExamples, LimitExamples}, WordExamples.{WordExamples}, Laws.{SpelledIsRead, SpelledIsWithin, WrittenIsSpelled, WrittenIsRead, SpelledIsScript, SpelledAgain, AskIsRead, AssumptionsAreRead, FaultIsFirst, JobIsAdmitted, RevisionIsRead, TenantIsRead}};
 
 /// The worked examples of a script's text compute to the texts that are known.
 pub fn script_examples()

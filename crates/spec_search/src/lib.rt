@@ -2,12 +2,7 @@
 //! without a body.
 #![tactic(auto)]
 
-ghost use Rattle.spec_search.specs.Examples.{HasExamples};
-ghost use Rattle.spec_search.specs.DroppingLaws.{DropKeepsSound, DropsHold, DropsWhenDue, HasDrops, HasProfiles};
-ghost use Rattle.spec_search.specs.Laws.{EmptyRefutes, HeldAreOfLines, LinesAreCounted, LinesAreDerived};
-ghost use Rattle.spec_search.specs.Laws.{LinesHaveRoom, LinesStayWithin, SliceCounts, SliceGoesOn, SliceKeepsModel};
-ghost use Rattle.spec_search.specs.Laws.{SliceKeepsProfile, SliceKeepsSound, SliceLeaves, SliceRefutes, SliceSolves};
-ghost use Rattle.spec_search.specs.Laws.{StepKeepsProfile, StepKeepsSound, StepLeaves, StepsLeave};
+ghost use Rattle.spec_search.specs.{Examples.{HasExamples}, DroppingLaws.{DropKeepsSound, DropsHold, DropsWhenDue, HasDrops, HasProfiles}, Laws.{EmptyRefutes, HeldAreOfLines, LinesAreCounted, LinesAreDerived, LinesHaveRoom, LinesStayWithin, SliceCounts, SliceGoesOn, SliceKeepsModel, SliceKeepsProfile, SliceKeepsSound, SliceLeaves, SliceRefutes, SliceSolves, StepKeepsProfile, StepKeepsSound, StepLeaves, StepsLeave}};
 
 /// The worked examples of steps and slices compute to the answers that are known.
 pub fn search_examples()

@@ -1,8 +1,5 @@
 //! The laws of texts, words and numbers.
-ghost use Rattle.spec_text.specs.Laws.{DecimalsAreClean, LiteralsAreClean, DecimalsDiffer, LiteralsDiffer};
-ghost use Rattle.spec_text.specs.Laws.{WordsAgain, LinesAgain, TextsDiffer, JoinedWordByWord};
-ghost use Rattle.spec_text.specs.Laws.{WordsReadAgain, LinesReadAgain, NumbersReadAgain};
-ghost use Rattle.spec_text.specs.Examples.{NumberExamples, TextExamples};
+ghost use Rattle.spec_text.specs.{Laws.{DecimalsAreClean, LiteralsAreClean, DecimalsDiffer, LiteralsDiffer, WordsAgain, LinesAgain, TextsDiffer, JoinedWordByWord, WordsReadAgain, LinesReadAgain, NumbersReadAgain}, Examples.{NumberExamples, TextExamples}};
 
 /// A written number is a clean word: it is not empty and has neither blanks nor line ends.
 #[tactic(auto, using(crate::proofs::Clean::decimals_are_clean))]

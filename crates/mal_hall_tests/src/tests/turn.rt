@@ -2,8 +2,7 @@
 
 ghost use Rattle.std.specs.Prelude.{ℕ, ◌≡◌, ◌<◌};
 ghost use Rattle.std.specs.Thread.{IsSync};
-ghost use Rattle.spec_turn.specs.Rule.{Extends};
-ghost use Rattle.spec_turn.specs.Many.{IsBack};
+ghost use Rattle.spec_turn.specs.{Rule.{Extends}, Many.{IsBack}};
 ghost use Rattle.mal_turn.specs.Seats.{view, IsOf};
 
 use mal_turn::{Seat, Turn};

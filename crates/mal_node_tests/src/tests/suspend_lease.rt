@@ -3,9 +3,7 @@
 
 ghost use Rattle.std.specs.Prelude.{◌≡◌, [], IfOk};
 ghost use Rattle.spec_job.specs.Journal.{replay};
-ghost use Rattle.mal_suspend.specs.Kept.{journal_of};
-ghost use Rattle.mal_suspend.specs.Replaying.{MayAllReplay};
-ghost use Rattle.mal_suspend.specs.Starting.{shared_loads, start_entries};
+ghost use Rattle.mal_suspend.specs.{Kept.{journal_of}, Replaying.{MayAllReplay}, Starting.{shared_loads, start_entries}};
 
 use super::suspend::frozen_len;
 use mal_learn::Scratch;
