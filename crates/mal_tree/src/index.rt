@@ -8,7 +8,7 @@ use std::marker::Model;
 const LAST: u32 = 63;
 
 /// The place of a solver in its job's tree, from 0 (the root) to 63. Contracts see the number.
-#[derive(Clone, Copy, Debug, PartialEq, Eq, PartialOrd, Ord)]
+#[derive(Clone, Copy, Debug)]
 pub struct Index {
     number: u32,
 }
