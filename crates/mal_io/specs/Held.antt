@@ -4,8 +4,7 @@ use Rattle.std.specs.declared.option.Option.{Option}
 use Rattle.mal_io.specs.declared.memory.Calls.{Calls}
 use Rattle.mal_io.specs.declared.memory.MemSource.{MemSource}
 use Rattle.mal_io.specs.declared.memory.MemSink.{MemSink}
-use Rattle.mal_io.specs.declared.standard.StdSource.{StdSource}
-use Rattle.mal_io.specs.declared.standard.StdSink.{StdSink}
+use Rattle.mal_io.specs.declared.standard.Counted.{Counted}
 
 -- the bytes that a source in memory has left
 abbrev pub source_left : MemSource → Option (List ℕ)
@@ -27,18 +26,10 @@ sink_room s = s.room
 abbrev pub sink_calls : MemSink → Calls
 sink_calls s = s.calls
 
--- the reader of a source
-abbrev pub reader : {R : Type 0} → StdSource R → R
-reader s = s.inner
+-- the reader or writer of a device over std
+abbrev pub device : {D : Type 0} → Counted D → D
+device d = d.inner
 
--- how often a source over a reader has failed
-abbrev pub read_faults : {R : Type 0} → StdSource R → ℕ
-read_faults s = s.faults
-
--- the writer of a sink
-abbrev pub writer : {W : Type 0} → StdSink W → W
-writer s = s.inner
-
--- how often a sink over a writer has failed
-abbrev pub write_faults : {W : Type 0} → StdSink W → ℕ
-write_faults s = s.faults
+-- how often it has failed
+abbrev pub device_faults : {D : Type 0} → Counted D → ℕ
+device_faults d = d.faults

@@ -1,31 +1,34 @@
 //! Thin adapters over the readers and writers of the standard library.
 ghost use Rattle.std.specs.Prelude.{◌≡◌, ◌≤◌};
-ghost use Rattle.mal_io.specs.{Held.{reader, read_faults, writer, write_faults}, Moves.{PutsAs, TakesAs}};
+ghost use Rattle.mal_io.specs.{Held.{device, device_faults}, Moves.{PutsAs, TakesAs}};
 
 use crate::device::{Failed, Sink, Source};
 use std::io::{self, Read, Write};
 
-/// A source over a reader. Each error of the reader is a fault, and nothing else is one.
+/// A reader or a writer of std, with the count of its faults.
 #[derive(Drop)]
-pub struct StdSource<R: Read> {
-    inner: R,
+pub struct Counted<D> {
+    inner: D,
     faults: u64,
 }
 
-impl<R: Read> StdSource<R> {
-    /// A source that gives what `inner` gives, and has not failed yet.
-    pub fn new(inner: R) -> Self
-        ensures inner { reader result ≡ inner }
-        ensures faults { read_faults result ≡ 0 }
+impl<D> Counted<D> {
+    /// This reader or writer, which has not failed yet.
+    pub fn new(inner: D) -> Self
+        ensures inner { device result ≡ inner }
+        ensures faults { device_faults result ≡ 0 }
     {
-        StdSource { inner, faults: 0 }
+        Counted { inner, faults: 0 }
     }
 }
 
-impl<R: Read> Source for StdSource<R> {
-    ghost left = { λ s. R.remaining (reader s) };
+/// A source over a reader. Each error of the reader is a fault, and nothing else is one.
+pub type StdSource<R> = Counted<R>;
 
-    ghost faults = { read_faults };
+impl<R: Read> Source for StdSource<R> {
+    ghost left = { λ s. R.remaining (device s) };
+
+    ghost faults = { device_faults };
 
     fn take(&mut self, into: &mut [u8]) -> Result<usize, Failed> {
         let answer = self.inner.read(into);
@@ -35,26 +38,12 @@ impl<R: Read> Source for StdSource<R> {
 
 /// A sink over a writer. Each error of the writer is a fault, and so is a call that takes nothing of
 /// a piece that is not empty. Nothing else is one.
-#[derive(Drop)]
-pub struct StdSink<W: Write> {
-    inner: W,
-    faults: u64,
-}
-
-impl<W: Write> StdSink<W> {
-    /// A sink that hands on to `inner`, and has not failed yet.
-    pub fn new(inner: W) -> Self
-        ensures inner { writer result ≡ inner }
-        ensures faults { write_faults result ≡ 0 }
-    {
-        StdSink { inner, faults: 0 }
-    }
-}
+pub type StdSink<W> = Counted<W>;
 
 impl<W: Write> Sink for StdSink<W> {
-    ghost got = { λ s. W.contents (writer s) };
+    ghost got = { λ s. W.contents (device s) };
 
-    ghost faults = { write_faults };
+    ghost faults = { device_faults };
 
     fn put(&mut self, bytes: &[u8]) -> Result<usize, Failed> {
         let answer = self.inner.write(bytes);
