@@ -36,9 +36,7 @@ pub fn satisfiable(
     requires length { length model.now ≤ 65536 }
     ensures { IfOk result (λ v. v.items ≡ reply_text tenant.now job.now r profile (Model model.now)) }
 {
-    let mut out = Vec::new(alloc);
-    put_head(&mut out, tenant, job, r, profile)?;
-    put_line(&mut out, b"s", &[b"SATISFIABLE"])?;
+    let mut out = begun(alloc, tenant, job, r, profile, b"SATISFIABLE")?;
     put_model(&mut out, model)?;
     Ok(out)
 }
@@ -59,9 +57,7 @@ pub fn unsatisfiable(
     requires bound { profile ≤ 2 }
     ensures { IfOk result (λ v. v.items ≡ reply_text tenant.now job.now r profile (Proof failed.now lines.now.lines)) }
 {
-    let mut out = Vec::new(alloc);
-    put_head(&mut out, tenant, job, r, profile)?;
-    put_line(&mut out, b"s", &[b"UNSATISFIABLE"])?;
+    let mut out = begun(alloc, tenant, job, r, profile, b"UNSATISFIABLE")?;
     put_failed(&mut out, failed)?;
     put_proof(&mut out, lines)?;
     Ok(out)
@@ -82,10 +78,27 @@ pub fn unknown(
     requires bound { profile ≤ 2 }
     ensures { IfOk result (λ v. v.items ≡ reply_text tenant.now job.now r profile (told_of cause)) }
 {
+    let mut out = begun(alloc, tenant, job, r, profile, b"UNKNOWN")?;
+    put_cause(&mut out, cause)?;
+    Ok(out)
+}
+
+/// The first two lines of a reply, of which the second tells this word.
+fn begun(
+    alloc: Global,
+    tenant: &Name,
+    job: &Name,
+    r: u32,
+    profile: u32,
+    word: &[u8],
+) -> Result<Vec<u8>, AllocError>
+    ensures { IfOk result
+        (λ v. v.items
+        ≡ line_of (codes "r" ∷ head_words tenant.now job.now r profile) ++ line_of (codes "s" ∷ word.now ∷ [])) }
+{
     let mut out = Vec::new(alloc);
     put_head(&mut out, tenant, job, r, profile)?;
-    put_line(&mut out, b"s", &[b"UNKNOWN"])?;
-    put_cause(&mut out, cause)?;
+    put_line(&mut out, b"s", &[word])?;
     Ok(out)
 }
 
