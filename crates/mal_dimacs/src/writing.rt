@@ -5,9 +5,8 @@ ghost use Rattle.spec_text.specs.Lines.{line_of, text_of};
 ghost use Rattle.spec_dimacs.specs.Written.{clause_words, closed_words, formula_rows, header_words, spelling};
 ghost use Rattle.mal_dimacs.specs.Spaced.{spaced};
 
-use itoa::Buffer;
 use mal_base::{Clause, Formula, Lit};
-use mal_text::{put_line, put_number};
+use mal_text::{end_line, put_decimal, put_line, put_number};
 use std::alloc::{AllocError, Global};
 
 /// The text of a formula: a header, and a line for each clause with its literals by rising variable. A tautology is
@@ -40,14 +39,10 @@ pub fn put_block(
 fn put_header(out: &mut Vec<u8>, variables: u32, clauses: usize) -> Result<(), AllocError>
     ensures { OnOk result (out.new.items ≡ out.old.items ++ line_of (header_words variables clauses)) }
 {
-    let mut variables_word = Buffer::new();
-    let mut clauses_word = Buffer::new();
-    let words = [
-        b"cnf".as_slice(),
-        variables_word.format(variables).as_bytes(),
-        clauses_word.format(clauses).as_bytes(),
-    ];
-    put_line(out, b"p", &words)?;
+    out.extend_from_slice(b"p cnf")?;
+    put_decimal(out, u64::from(variables))?;
+    put_decimal(out, clauses as u64)?;
+    end_line(out)?;
     Ok(())
 }
 
