@@ -5,6 +5,7 @@ use Rattle.std.specs.List.{list_any}
 use Rattle.std.specs.List.Sorted.{IsStrictlyIncreasing, IsBinarySearchResult}
 use Rattle.std.specs.Ordering.{nat_cmp}
 use Rattle.std.specs.Result.{result_ok}
+use Rattle.std.proofs.Math.Bool.{or-false, or_assoc}
 use Rattle.std.proofs.lemmas.Bool.{ne_eqb, eq-eqb, or_right, cases_lt}
 use Rattle.std.proofs.lemmas.List.{take_more}
 use Rattle.std.proofs.lemmas.List.Elements.{All-from_get_or, All-contains, Contains-get_or}
@@ -37,21 +38,13 @@ pub map-agree : (f g : ℕ → Bool) (ids : List ℕ) → ((i : ℕ) → f i ≡
 map-agree f g [] h = refl
 map-agree f g (i ∷ ids) h = let here : f i ≡ g i = h i in let rest : map f ids ≡ map g ids = map-agree f g ids h in rw (here, rest) refl
 
-or-none : (a : Bool) → (a || false) ≡ a
-or-none true = refl
-or-none false = refl
-
-or-assoc : (a b c : Bool) → ((a || b) || c) ≡ (a || (b || c))
-or-assoc true b c = refl
-or-assoc false b c = refl
-
 -- a number that is not there is not marked
 pub missing-marked : (test : ℕ → Bool) (ids : List ℕ) (id : ℕ) → IsMissing ids id → map test ids ≡ map (λ i. test i || (id == i)) ids
 missing-marked test [] id none = refl
 missing-marked test (x ∷ xs) id none =
     let other : (id == x) ≡ false = ne_eqb id x (λ e. none (subst (λ (n : ℕ). Contains (x ∷ xs) n) (sym e) (Contains-head x xs))) in
     let rest : map test xs ≡ map (λ i. test i || (id == i)) xs = missing-marked test xs id (λ h. none (Contains-later x xs id h)) in
-    let here : test x ≡ (test x || (id == x)) = sym (ap (λ (b : Bool). test x || b) other ∙ or-none (test x)) in
+    let here : test x ≡ (test x || (id == x)) = sym (ap (λ (b : Bool). test x || b) other ∙ or-false (test x)) in
     ap (λ (b : Bool). b ∷ map test xs) here ∙ ap (λ (bs : List Bool). (test x || (id == x)) ∷ bs) rest
 
 climbs-tail : (x : ℕ) (xs : List ℕ) → climbs (x ∷ xs) ≡ true → climbs xs ≡ true
@@ -71,7 +64,7 @@ there-marked test (x ∷ xs) (suc k) id up low is =
     let has : Contains xs id = subst (λ (n : ℕ). Contains xs n) is (Contains-get_or xs k 0 (omega arith)) in
     let over : x < id = above-first x xs id up has in
     let other : (id == x) ≡ false = ne_eqb id x (λ e. omega arith) in
-    let here : test x ≡ (test x || (id == x)) = sym (ap (λ (b : Bool). test x || b) other ∙ or-none (test x)) in
+    let here : test x ≡ (test x || (id == x)) = sym (ap (λ (b : Bool). test x || b) other ∙ or-false (test x)) in
     let rest : set (map test xs) k true ≡ map (λ i. test i || (id == i)) xs = there-marked test xs k id (climbs-tail x xs up) (omega arith) is in
     ap (λ (b : Bool). b ∷ set (map test xs) k true) here ∙ ap (λ (bs : List Bool). (test x || (id == x)) ∷ bs) rest
 
@@ -80,18 +73,18 @@ mark-there test ids marks place id up low is e = ap (λ (ms : List Bool). set ms
 
 -- marks of no numbers, and of one more
 pub marks-none : (test : ℕ → Bool) (ids : List ℕ) (marks : List Bool) → AreMarks test ids marks → AreMarks (λ i. test i || false) ids marks
-marks-none test ids marks e = e ∙ map-agree test (λ i. test i || false) ids (λ i. sym (or-none (test i)))
+marks-none test ids marks e = e ∙ map-agree test (λ i. test i || false) ids (λ i. sym (or-false (test i)))
 
 any-push : (p : ℕ → Bool) (xs : List ℕ) (x : ℕ) → list_any p (xs ++ x ∷ []) ≡ (list_any p xs || p x)
-any-push p [] x = or-none (p x)
-any-push p (y ∷ ys) x = ap (λ (b : Bool). p y || b) (any-push p ys x) ∙ sym (or-assoc (p y) (list_any p ys) (p x))
+any-push p [] x = or-false (p x)
+any-push p (y ∷ ys) x = ap (λ (b : Bool). p y || b) (any-push p ys x) ∙ sym (or_assoc (p y) (list_any p ys) (p x))
 
 pub marks-more : (test : ℕ → Bool) (ids more : List ℕ) (marks : List Bool) (k id : ℕ) → k < length more → id ≡ get_or more k id
     → AreMarks (λ i. (test i || list_any (λ h. h == i) (take k more)) || (id == i)) ids marks → AreMarks (λ i. test i || list_any (λ h. h == i) (take (k + 1) more)) ids marks
 marks-more test ids more marks k id low is e =
     let longer : take (k + 1) more ≡ take k more ++ id ∷ [] = take_more more k id low ∙ ap (λ (n : ℕ). take k more ++ n ∷ []) (sym is) in
     rw longer (e ∙ map-agree (λ i. (test i || list_any (λ h. h == i) (take k more)) || (id == i)) (λ i. test i || list_any (λ h. h == i) (take k more ++ id ∷ [])) ids (λ i.
-    or-assoc (test i) (list_any (λ h. h == i) (take k more)) (id == i) ∙ ap (λ (b : Bool). test i || b) (sym (any-push (λ h. h == i) (take k more) id))))
+    or_assoc (test i) (list_any (λ h. h == i) (take k more)) (id == i) ∙ ap (λ (b : Bool). test i || b) (sym (any-push (λ h. h == i) (take k more) id))))
 
 -- new numbers
 pub new-missing : (m : ℕ) (ids : List ℕ) (id : ℕ) → IsMissing ids id → id ≡ new_id m ids id

@@ -2,6 +2,7 @@
 use Rattle.std.proofs.Common.{◌≡◌, ℕ, zero, suc, ◌+◌, ◌-◌, ◌<◌, ◌≤◌, Bool, true, false, ◌||◌, cond, List, [], ◌∷◌, ◌++◌, append-nil, ◌==◌, length, take, drop, drop-cons, get_or, map, refl, sym, ◌∙◌, subst, ap, inl, inr, arith}
 use Rattle.std.specs.Prelude.{replicate, filter, IfOk, Result, Ok, Err}
 use Rattle.std.specs.List.{list_any}
+use Rattle.std.proofs.Math.Bool.{or-false, or_assoc, or_comm}
 use Rattle.std.proofs.lemmas.Bool.{false_from_ne_true}
 use Rattle.std.proofs.lemmas.List.Elements.{filter_more, All-contains}
 use Rattle.std.proofs.Math.ListN.{drop_of_length-le}
@@ -17,17 +18,6 @@ use Rattle.mal_proof.proofs.Bounding.{reached-bounded}
 use Rattle.mal_proof.proofs.Ending.{goal-ends}
 use Rattle.mal_proof.proofs.Marking.{map-agree}
 
-or-none : (a : Bool) → (a || false) ≡ a
-or-none true = refl
-or-none false = refl
-
-or-swapped : (a b c : Bool) → ((a || b) || c) ≡ (a || (c || b))
-or-swapped true b c = refl
-or-swapped false true true = refl
-or-swapped false true false = refl
-or-swapped false false true = refl
-or-swapped false false false = refl
-
 -- no marks
 pub marks-empty : (lines : List Line) → AreMarks (λ i. false) (ids_of lines) (replicate (length lines) false)
 marks-empty [] = refl
@@ -35,7 +25,7 @@ marks-empty (x ∷ xs) = ap (λ (bs : List Bool). false ∷ bs) (marks-empty xs)
 
 -- only the goal is marked
 pub marks-goal : (goal : ℕ) (lines none : List Line) (marks : List Bool) → none ≡ [] → AreMarks (λ i. false || (goal == i)) (ids_of lines) marks → AreMarks (is_needed goal (reached_in goal none)) (ids_of lines) marks
-marks-goal goal lines none marks e h = rw e (h ∙ map-agree (λ i. false || (goal == i)) (λ i. (goal == i) || false) (ids_of lines) (λ i. sym (or-none (goal == i))))
+marks-goal goal lines none marks e h = rw e (h ∙ map-agree (λ i. false || (goal == i)) (λ i. (goal == i) || false) (ids_of lines) (λ i. sym (or-false (goal == i))))
 
 pub mark-at : (test : ℕ → Bool) (lines : List Line) (n : ℕ) (d : Line) → n < length lines → get_or (map test (ids_of lines)) n false ≡ test (get_or lines n d).id
 mark-at test [] n d low = absurd (omega arith)
@@ -59,7 +49,9 @@ module _ (goal : ℕ) (lines : List Line) (n : ℕ) (line : Line) (marks : List 
       let needed : is_needed goal (reached_in goal (drop (n + 1) lines)) line.id ≡ true = sym mark-is ∙ at in
       let whole : reached_in goal (drop n lines) ≡ line ∷ reached_in goal (drop (n + 1) lines) = ap (reached_in goal) rest-is ∙ ap (λ (b : Bool). cond b (line ∷ reached_in goal (drop (n + 1) lines)) (reached_in goal (drop (n + 1) lines))) needed in
       rw whole (e ∙ map-agree (λ i. is_needed goal (reached_in goal (drop (n + 1) lines)) i || list_any (λ h. h == i) line.hints) (is_needed goal (line ∷ reached_in goal (drop (n + 1) lines))) (ids_of lines) (λ i.
-      or-swapped (goal == i) (list_any (λ l. list_any (λ h. h == i) l.hints) (reached_in goal (drop (n + 1) lines))) (list_any (λ h. h == i) line.hints)))
+      let others = list_any (λ l. list_any (λ h. h == i) l.hints) (reached_in goal (drop (n + 1) lines)) in
+      let own = list_any (λ h. h == i) line.hints in
+      or_assoc (goal == i) others own ∙ ap (λ (b : Bool). (goal == i) || b) (or_comm others own)))
 
   pub marks-without : get_or marks n false ≡ false → AreMarks (is_needed goal (reached_in goal (drop n lines))) (ids_of lines) marks
   marks-without at =

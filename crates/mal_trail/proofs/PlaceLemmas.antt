@@ -1,8 +1,8 @@
-use Rattle.std.proofs.Common.{◌≡◌, ℕ, zero, suc, ◌+◌, ◌-◌, ◌/◌, ◌%◌, ◌*◌, ◌<◌, ◌≤◌, Bool, true, false, not, nat_eq, nat_lt, List, [], ◌∷◌, ◌++◌, length, take, replicate, get_or, set, Some, None, cond, ◌||◌, ap, refl, sym, ◌∙◌, arith, ⊎_elim, ◌⊎◌, inl, inr, ◌≢◌}
+use Rattle.std.proofs.Common.{◌≡◌, ℕ, zero, suc, ◌+◌, ◌-◌, ◌/◌, ◌%◌, ◌<◌, ◌≤◌, Bool, true, false, not, nat_eq, nat_lt, List, [], ◌∷◌, ◌++◌, length, take, replicate, get_or, set, Some, None, cond, ◌||◌, ap, refl, sym, ◌∙◌, arith, ⊎_elim, ◌⊎◌, inl, inr, ◌≢◌}
 use Rattle.std.specs.List.{list_any, find, IsDistinct}
 use Rattle.std.specs.Option.{option_map}
 use Rattle.std.specs.Prelude.{eqb}
-use Rattle.std.proofs.lemmas.Bool.{false≢true, cases_lt, cases_eq, ltb-true}
+use Rattle.std.proofs.lemmas.Bool.{false≢true, cases_lt, cases_eq, ltb-true, lt-ltb, eqb-true, eq-eqb}
 use Rattle.std.proofs.lemmas.Bool.Decides.{nat_tests}
 use Rattle.std.proofs.lemmas.Map.Keys.{apart_from_distinct}
 use Rattle.std.proofs.lemmas.List.{length-map, get_or-take, length-take-le, get_or_append_left, get_or_push, get_or-set_same, get_or-set_other, length_push}
@@ -15,20 +15,13 @@ use Rattle.mal_trail.specs.Trailed.{nowhere, false_place, Stand}
 use Rattle.mal_trail.proofs.TrailLemmas.{none_of, or_cases, or_false}
 
 parity : (a : ℕ) → (a % 2 ≡ 0) ⊎ (a % 2 ≡ 1)
-parity a = by_case (nat_eq (a % 2) 0) refl
-  where
-    by_case : (b : Bool) → nat_eq (a % 2) 0 ≡ b → (a % 2 ≡ 0) ⊎ (a % 2 ≡ 1)
-    by_case true e = inl (grind (arith, nat_tests))
-    by_case false e = inr (let n : a % 2 ≡ 0 → ⊥ = grind (arith, nat_tests) in omega arith)
-
-test_zero : (n : ℕ) → n ≡ 0 → nat_eq n 0 ≡ true
-test_zero n = grind (arith, nat_tests)
+parity a = ⊎_elim inl (λ n. inr (omega (arith, n))) (cases_eq (a % 2) 0)
 
 test_one : (n : ℕ) → n ≡ 1 → nat_eq n 0 ≡ false
 test_one n = grind (arith, nat_tests)
 
 even-negated : (l : ℕ) → l % 2 ≡ 0 → negated l ≡ l + 1
-even-negated l e = rw (test_zero (l % 2) e) refl
+even-negated l e = rw (eq-eqb (l % 2) 0 e) refl
 
 odd-negated : (l : ℕ) → l % 2 ≡ 1 → negated l ≡ l - 1
 odd-negated l e = rw (test_one (l % 2) e) refl
@@ -43,15 +36,6 @@ negated-back l = ⊎_elim
 -- and it is of the same variable
 pub negated-var : (l : ℕ) → var_of (negated l) ≡ var_of l
 negated-var l = ⊎_elim (λ e. let p = even-negated l e in omega arith) (λ e. let p = odd-negated l e in omega arith) (parity l)
-
-nat_eq_same : (a b : ℕ) → a ≡ b → nat_eq a b ≡ true
-nat_eq_same a b = grind (arith, nat_tests)
-
-eq_of : (a b : ℕ) → nat_eq a b ≡ true → a ≡ b
-eq_of a b = grind (arith, nat_tests)
-
-lt_test : (a b : ℕ) → a < b → nat_lt a b ≡ true
-lt_test a b = grind (arith, nat_tests)
 
 -- an entry that passes a test, where some entry does
 record Witness (p : TrailEntry → Bool) (entries : List TrailEntry) (d : TrailEntry) : Type 0 where
@@ -79,14 +63,14 @@ false-told places entries s bound l count h = by_value (is_false (take count ent
         let w = witness (λ (e : TrailEntry). nat_eq e.lit (negated l)) (take count entries) none t in
         let below : w.at < count = omega (arith, w.within, length-take-le count entries h) in
         let passes : nat_eq (get_or entries w.at none).lit (negated l) ≡ true = rw (get_or-take count entries w.at none below) at w.passes in
-        let is : (get_or entries w.at none).lit ≡ negated l = eq_of _ _ passes in
+        let is : (get_or entries w.at none).lit ≡ negated l = eqb-true _ _ passes in
         let place : false_place places (negated (negated l)) ≡ w.at = rw is at (s.placed w.at none (omega arith)) in
-        lt_test _ _ (let p : false_place places l ≡ w.at = rw (negated-back l) at place in omega arith)
+        lt-ltb _ _ (let p : false_place places l ≡ w.at = rw (negated-back l) at place in omega arith)
     by_value false t = none_of (nat_lt (false_place places l) count) (λ m.
         let below : false_place places l < count = ltb-true _ _ m in
         ⊎_elim (λ e. omega arith) (λ there.
         let inside : false_place places l < length (take count entries) = omega (arith, length-take-le count entries h) in
-        let passes : nat_eq (get_or (take count entries) (false_place places l) none).lit (negated l) ≡ true = rw (get_or-take count entries (false_place places l) none below) (nat_eq_same _ _ there.1) in
+        let passes : nat_eq (get_or (take count entries) (false_place places l) none).lit (negated l) ≡ true = rw (get_or-take count entries (false_place places l) none below) (eq-eqb _ _ there.1) in
         false≢true (sym t ∙ list_any_at (λ (e : TrailEntry). nat_eq e.lit (negated l)) (take count entries) (false_place places l) none inside passes)) (s.there l none))
 
 -- nothing stands on the trail without an entry
@@ -121,7 +105,7 @@ stand-push places entries e s free room = record {
     old k d b =
         let apart : negated (get_or entries k d).lit ≢ negated e.lit =
         (λ q. let v : var_of (get_or entries k d).lit ≡ var_of e.lit = sym (negated-var (get_or entries k d).lit) ∙ (ap var_of q ∙ negated-var e.lit) in
-        false≢true (sym free ∙ list_any_at (λ (x : TrailEntry). nat_eq (var_of e.lit) (var_of x.lit)) entries k d b (nat_eq_same (var_of e.lit) (var_of (get_or entries k d).lit) (sym v)))) in
+        false≢true (sym free ∙ list_any_at (λ (x : TrailEntry). nat_eq (var_of e.lit) (var_of x.lit)) entries k d b (eq-eqb (var_of e.lit) (var_of (get_or entries k d).lit) (sym v)))) in
         rw (get_or_append_left entries (e ∷ []) d k b, get_or-set_other places (negated e.lit) (negated (get_or entries k d).lit) (length entries) nowhere apart) (s.placed k d b)
 
     new : (k : ℕ) (d : TrailEntry) → k < length (entries ++ e ∷ []) → length entries ≤ k → false_place (set places (negated e.lit) (length entries)) (negated (get_or (entries ++ e ∷ []) k d).lit) ≡ k
@@ -221,9 +205,6 @@ find-none p (e ∷ es) h = by_test (p e) (find-none p es) h
 pub value-none : (entries : List TrailEntry) (v : ℕ) → has_value entries v ≡ false → value_on entries v ≡ None
 value-none entries v h = ap (option_map (λ (e : TrailEntry). has_plus e.lit)) (find-none (λ e. nat_eq v (var_of e.lit)) entries h)
 
-eqb_same : (a b : ℕ) → a ≡ b → eqb a b ≡ true
-eqb_same a b = grind (arith, nat_tests)
-
 var-literal : (v : ℕ) (b : Bool) → var_of (literal v b) ≡ v
 var-literal v true = omega arith
 var-literal v false = omega arith
@@ -236,16 +217,16 @@ pub not-both : (entries : List TrailEntry) (v : ℕ) → IsDistinct eqb (vars_of
 not-both entries v d t = none_of (is_true entries (literal v false)) (λ f.
     let a = witness (λ (e : TrailEntry). nat_eq e.lit (literal v true)) entries none t in
     let b = witness (λ (e : TrailEntry). nat_eq e.lit (literal v false)) entries none f in
-    let at_a : (get_or entries a.at none).lit ≡ literal v true = eq_of _ _ a.passes in
-    let at_b : (get_or entries b.at none).lit ≡ literal v false = eq_of _ _ b.passes in
+    let at_a : (get_or entries a.at none).lit ≡ literal v true = eqb-true _ _ a.passes in
+    let at_b : (get_or entries b.at none).lit ≡ literal v false = eqb-true _ _ b.passes in
     let var_a : get_or (vars_of entries) a.at 0 ≡ v = get-var entries a.at a.within ∙ (ap var_of at_a ∙ var-literal v true) in
     let var_b : get_or (vars_of entries) b.at 0 ≡ v = get-var entries b.at b.within ∙ (ap var_of at_b ∙ var-literal v false) in
     let long : length (vars_of entries) ≡ length entries = length-map entries (λ (e : TrailEntry). var_of e.lit) in
     ⊎_elim
-    (λ l. false≢true (sym (apart_from_distinct eqb (vars_of entries) a.at b.at 0 d l (omega (arith, b.within, long))) ∙ eqb_same _ _ (var_a ∙ sym var_b)))
+    (λ l. false≢true (sym (apart_from_distinct eqb (vars_of entries) a.at b.at 0 d l (omega (arith, b.within, long))) ∙ eq-eqb _ _ (var_a ∙ sym var_b)))
     (λ l. ⊎_elim
     (λ s. lits-differ v (sym at_a ∙ (ap (λ (i : ℕ). (get_or entries i none).lit) s ∙ at_b)))
-    (λ n. false≢true (sym (apart_from_distinct eqb (vars_of entries) b.at a.at 0 d (omega (arith, l, n)) (omega (arith, a.within, long))) ∙ eqb_same _ _ (var_b ∙ sym var_a)))
+    (λ n. false≢true (sym (apart_from_distinct eqb (vars_of entries) b.at a.at 0 d (omega (arith, l, n)) (omega (arith, a.within, long))) ∙ eq-eqb _ _ (var_b ∙ sym var_a)))
     (cases_eq a.at b.at))
     (cases_lt a.at b.at))
   where
