@@ -5,14 +5,13 @@ use Rattle.std.specs.List.{AllByRecursion}
 use Rattle.std.proofs.lemmas.List.Sums.{prefix_len_is}
 use Rattle.std.proofs.lemmas.List.Folds.{length-prefix_len}
 use Rattle.std.proofs.lemmas.Map.Keys.{IsDistinct-head, IsDistinct-tail, IsDistinct-cons}
-use Rattle.std.proofs.lemmas.Bool.{false≢true}
+use Rattle.std.proofs.lemmas.Bool.{false≢true, or_cases}
 use Rattle.mal_base.specs.Literals.{var_of}
 use Rattle.mal_base.specs.declared.trail_entry.TrailEntry.{TrailEntry}
 use Rattle.spec_node.specs.Value.{vars_of}
 use Rattle.spec_node.specs.Cut.{kept}
 use Rattle.mal_trail.specs.Trailed.{Fits}
 use Rattle.mal_trail.proofs.LevelLemmas.{rise-take}
-use Rattle.mal_trail.proofs.TrailLemmas.{or_cases}
 
 -- the number of entries of a level or below is where the others begin
 pub kept_count : (level : ℕ) (es : List TrailEntry) (n : ℕ) (d : TrailEntry) → n ≤ length es → IsPartitionPoint (λ (e : TrailEntry). nat_le e.level level ≡ true) (λ (e : TrailEntry). nat_le e.level level ≡ false) es n → n ≡ length (kept level es)

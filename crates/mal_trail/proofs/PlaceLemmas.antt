@@ -2,7 +2,7 @@ use Rattle.std.proofs.Common.{◌≡◌, ℕ, zero, suc, ◌+◌, ◌-◌, ◌/�
 use Rattle.std.specs.List.{list_any, find, IsDistinct}
 use Rattle.std.specs.Option.{option_map}
 use Rattle.std.specs.Prelude.{eqb}
-use Rattle.std.proofs.lemmas.Bool.{false≢true, cases_lt, cases_eq, ltb-true, lt-ltb, eqb-true, eq-eqb}
+use Rattle.std.proofs.lemmas.Bool.{false≢true, false_from_ne_true, or_cases, or_parts, cases_lt, cases_eq, ltb-true, lt-ltb, eqb-true, eq-eqb}
 use Rattle.std.proofs.lemmas.Bool.Decides.{nat_tests}
 use Rattle.std.proofs.lemmas.Map.Keys.{apart_from_distinct}
 use Rattle.std.proofs.lemmas.List.{length-map, get_or-take, length-take-le, get_or_append_left, get_or_push, get_or-set_same, get_or-set_other, length_push}
@@ -12,7 +12,6 @@ use Rattle.mal_base.specs.Trails.{value_on}
 use Rattle.mal_base.specs.declared.trail_entry.TrailEntry.{TrailEntry}
 use Rattle.spec_node.specs.Value.{is_true, is_false, has_value, vars_of}
 use Rattle.mal_trail.specs.Trailed.{nowhere, false_place, Stand}
-use Rattle.mal_trail.proofs.TrailLemmas.{none_of, or_cases, or_false}
 
 parity : (a : ℕ) → (a % 2 ≡ 0) ⊎ (a % 2 ≡ 1)
 parity a = ⊎_elim inl (λ n. inr (omega (arith, n))) (cases_eq (a % 2) 0)
@@ -66,7 +65,7 @@ false-told places entries s bound l count h = by_value (is_false (take count ent
         let is : (get_or entries w.at none).lit ≡ negated l = eqb-true _ _ passes in
         let place : false_place places (negated (negated l)) ≡ w.at = rw is at (s.placed w.at none (omega arith)) in
         lt-ltb _ _ (let p : false_place places l ≡ w.at = rw (negated-back l) at place in omega arith)
-    by_value false t = none_of (nat_lt (false_place places l) count) (λ m.
+    by_value false t = false_from_ne_true (nat_lt (false_place places l) count) (λ m.
         let below : false_place places l < count = ltb-true _ _ m in
         ⊎_elim (λ e. omega arith) (λ there.
         let inside : false_place places l < length (take count entries) = omega (arith, length-take-le count entries h) in
@@ -187,7 +186,7 @@ value-sign [] v b t f = absurd (false≢true t)
 value-sign (e ∷ es) v b t f = by_test (nat_eq v (var_of e.lit)) refl (λ h. value-sign es v b (rw (not-lit v e.lit b h) at t) apart.1)
   where
     apart : (nat_eq e.lit (literal v (not b)) ≡ false) × (is_true es (literal v (not b)) ≡ false)
-    apart = or_false (nat_eq e.lit (literal v (not b))) (is_true es (literal v (not b))) f
+    apart = or_parts (nat_eq e.lit (literal v (not b))) (is_true es (literal v (not b))) f
 
     by_test : (x : Bool) → nat_eq v (var_of e.lit) ≡ x → (nat_eq v (var_of e.lit) ≡ false → value_on es v ≡ Some b) → option_map (λ (y : TrailEntry). has_plus y.lit) (cond x (Some e) (find (λ (y : TrailEntry). nat_eq v (var_of y.lit)) es)) ≡ Some b
     by_test true h rest = ap (λ (s : Bool). Some s) (sign-of v e.lit b h apart.0)
@@ -214,7 +213,7 @@ lits-differ v e = omega arith
 
 -- of the two literals of a variable that stands once, one alone is true
 pub not-both : (entries : List TrailEntry) (v : ℕ) → IsDistinct eqb (vars_of entries) → is_true entries (literal v true) ≡ true → is_true entries (literal v false) ≡ false
-not-both entries v d t = none_of (is_true entries (literal v false)) (λ f.
+not-both entries v d t = false_from_ne_true (is_true entries (literal v false)) (λ f.
     let a = witness (λ (e : TrailEntry). nat_eq e.lit (literal v true)) entries none t in
     let b = witness (λ (e : TrailEntry). nat_eq e.lit (literal v false)) entries none f in
     let at_a : (get_or entries a.at none).lit ≡ literal v true = eqb-true _ _ a.passes in

@@ -1,12 +1,11 @@
 use Rattle.std.proofs.Common.{◌≡◌, ℕ, ◌+◌, ◌-◌, ◌/◌, ◌%◌, Bool, true, false, eqb, cond, List, refl, sym, ap, ◌∙◌, arith}
 use Rattle.std.specs.Prelude.{nat_eq}
 use Rattle.std.specs.List.{IsDistinct}
-use Rattle.std.proofs.lemmas.Bool.{false≢true}
+use Rattle.std.proofs.lemmas.Bool.{false≢true, false_from_ne_true}
 use Rattle.std.proofs.lemmas.Bool.Decides.{nat_tests}
 use Rattle.mal_base.specs.Literals.{literal, negated}
 use Rattle.mal_base.specs.declared.trail_entry.TrailEntry.{TrailEntry}
 use Rattle.spec_node.specs.Value.{is_true, vars_of}
-use Rattle.mal_trail.proofs.TrailLemmas.{none_of}
 use Rattle.mal_trail.proofs.PlaceLemmas.{not-both}
 
 even_of : (a : ℕ) → nat_eq (a % 2) 0 ≡ true → a % 2 ≡ 0
@@ -29,4 +28,4 @@ never-both entries l d t = by_sign (nat_eq (l % 2) 0) refl
         let odd : l % 2 ≡ 1 = let n = not_even l q in omega arith in
         let plus : literal (l / 2) true ≡ l - 1 = omega arith in
         let minus : literal (l / 2) false ≡ l = omega arith in
-        none_of (is_true entries (l - 1)) (λ n. false≢true (sym (not-both entries (l / 2) d (ap (λ (x : ℕ). is_true entries x) plus ∙ n)) ∙ (ap (λ (x : ℕ). is_true entries x) minus ∙ t)))
+        false_from_ne_true (is_true entries (l - 1)) (λ n. false≢true (sym (not-both entries (l / 2) d (ap (λ (x : ℕ). is_true entries x) plus ∙ n)) ∙ (ap (λ (x : ℕ). is_true entries x) minus ∙ t)))

@@ -1,7 +1,7 @@
 use Rattle.std.proofs.Common.{◌≡◌, ℕ, ◌+◌, ◌<◌, ◌≤◌, Bool, true, false, ◌||◌, eqb, nat_eq, List, [], ◌∷◌, ◌++◌, length, get_or, refl, sym, ap, ◌∙◌, arith, inl, inr, ⊎_elim, ◌⊎◌, rules}
 use Rattle.std.specs.List.{list_any, IsDistinct}
 use Rattle.std.proofs.lemmas.Cmp.{nat_eq_equiv}
-use Rattle.std.proofs.lemmas.Bool.{false≢true}
+use Rattle.std.proofs.lemmas.Bool.{false≢true, false_from_ne_true, or_cases, or_parts, eqb-true}
 use Rattle.std.proofs.lemmas.Bool.Decides.{nat_tests}
 use Rattle.std.proofs.lemmas.List.{map-append, length_push, length-map}
 use Rattle.std.proofs.lemmas.List.Folds.{list_any-append, list_any_at}
@@ -13,11 +13,6 @@ use Rattle.spec_node.specs.Value.{is_true, is_false, has_value, level_of, vars_o
 use Rattle.mal_trail.specs.Trailed.{Fits}
 use Rattle.mal_trail.proofs.LevelLemmas.{rise-push}
 
--- neither of two tests that fail together holds
-pub or_false : (a b : Bool) → (a || b) ≡ false → (a ≡ false) × (b ≡ false)
-or_false false b h = (refl, h)
-or_false true b h = absurd (false≢true (sym h))
-
 -- a literal that is neither another one nor its negation has another variable
 pub apart : (l m : ℕ) → nat_eq m l ≡ false → nat_eq m (negated l) ≡ false → nat_eq (var_of l) (var_of m) ≡ false
 apart l m = grind (arith, nat_tests)
@@ -26,8 +21,8 @@ apart l m = grind (arith, nat_tests)
 pub free_from_open : (trail : List TrailEntry) (l : ℕ) → is_true trail l ≡ false → is_false trail l ≡ false → has_value trail (var_of l) ≡ false
 free_from_open [] l t f = refl
 free_from_open (e ∷ es) l t f =
-    let a = or_false (nat_eq e.lit l) (is_true es l) t in
-    let b = or_false (nat_eq e.lit (negated l)) (is_false es l) f in
+    let a = or_parts (nat_eq e.lit l) (is_true es l) t in
+    let b = or_parts (nat_eq e.lit (negated l)) (is_false es l) f in
     rw (apart l e.lit a.0 b.0) (free_from_open es l a.1 b.1)
 
 -- whether a variable has a value is whether it is among the trail's variables
@@ -35,26 +30,15 @@ pub has_value-vars : (trail : List TrailEntry) (v : ℕ) → list_any (eqb v) (v
 has_value-vars [] v = refl
 has_value-vars (e ∷ es) v = ap (λ (b : Bool). nat_eq v (var_of e.lit) || b) (has_value-vars es v)
 
-eqb_at : (a b : ℕ) → eqb a b ≡ true → a ≡ b
-eqb_at a b = grind (arith, nat_tests)
-
-pub or_cases : (a b : Bool) → (a || b) ≡ true → (a ≡ true) ⊎ (b ≡ true)
-or_cases true b h = inl refl
-or_cases false b h = inr h
-
 -- a member of a list with one more element
 pub any_push : (xs : List ℕ) (y q : ℕ) → list_any (eqb q) (xs ++ y ∷ []) ≡ true → (list_any (eqb q) xs ≡ true) ⊎ (q ≡ y)
 any_push xs y q h =
-    ⊎_elim (λ e. inl e) (λ e. ⊎_elim (λ k. inr (eqb_at q y k)) (λ k. absurd (false≢true k)) (or_cases (eqb q y) false e)) (or_cases (list_any (eqb q) xs) (list_any (eqb q) (y ∷ [])) (sym (list_any-append (eqb q) xs (y ∷ [])) ∙ h))
-
-pub none_of : (b : Bool) → (b ≡ true → ⊥) → b ≡ false
-none_of true h = absurd (h refl)
-none_of false h = refl
+    ⊎_elim (λ e. inl e) (λ e. ⊎_elim (λ k. inr (eqb-true q y k)) (λ k. absurd (false≢true k)) (or_cases (eqb q y) false e)) (or_cases (list_any (eqb q) xs) (list_any (eqb q) (y ∷ [])) (sym (list_any-append (eqb q) xs (y ∷ [])) ∙ h))
 
 -- distinct numbers from 1 to n are at most n
 pub length_within : (xs : List ℕ) (n : ℕ) → IsDistinct eqb xs → ((v : ℕ) → list_any (eqb v) xs ≡ true → (1 ≤ v) × (v ≤ n)) → length xs ≤ n
 length_within xs n d w =
-    let no_zero : list_any (eqb 0) xs ≡ false = none_of (list_any (eqb 0) xs) (λ h. omega (arith, (w 0 h).0)) in
+    let no_zero : list_any (eqb 0) xs ≡ false = false_from_ne_true (list_any (eqb 0) xs) (λ h. omega (arith, (w 0 h).0)) in
     let below : (q : ℕ) → list_any (eqb q) (xs ++ 0 ∷ []) ≡ true → q < n + 1 = λ q h. ⊎_elim (λ e. omega (arith, (w q e).1)) (λ e. omega arith) (any_push xs 0 q h) in
     omega (arith, length-le_from_distinct_below (xs ++ 0 ∷ []) (n + 1) (IsDistinct-push nat_eq_equiv xs 0 d no_zero) below, length_push xs 0)
 
