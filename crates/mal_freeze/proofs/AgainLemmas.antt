@@ -1,33 +1,31 @@
 -- What is spelled of an image is read again.
-use Rattle.std.proofs.Common.{◌≡◌, ℕ, zero, suc, ◌+◌, ◌-◌, ◌*◌, ◌/◌, ◌^◌, ◌<◌, ◌≤◌, Bool, true, false, ◌&&◌, ◌||◌, ◌==◌, eqb, nat_lt, nat_le, List, [], ◌∷◌, ◌++◌, length, Option, Some, None, Result, Ok, Err, refl, sym, ap, subst, ◌∙◌, append_assoc, arith, rules}
-use Rattle.std.specs.List.{flat_map, list_any, AllByRecursion, IsDistinct}
+use Rattle.std.proofs.Common.{◌≡◌, ℕ, zero, suc, ◌+◌, ◌-◌, ◌*◌, ◌/◌, ◌^◌, ◌<◌, ◌≤◌, Bool, true, false, ◌&&◌, ◌||◌, ◌==◌, eqb, nat_le, List, [], ◌∷◌, ◌++◌, length, Option, Some, None, Ok, refl, sym, ap, subst, ◌∙◌, append_assoc, arith, rules}
+use Rattle.std.specs.List.{flat_map, AllByRecursion, IsDistinct}
 use Rattle.std.specs.Int.{w32, w64}
-use Rattle.std.proofs.lemmas.Bool.{false≢true, and_parts, and_from}
+use Rattle.std.proofs.lemmas.Bool.{false≢true, and_parts, leb-true, ltb-true, eqb-true, lt-ltb}
 use Rattle.std.proofs.lemmas.List.{append-nil, length_push}
 use Rattle.mal_base.specs.Clauses.{rises, is_below}
 use Rattle.mal_base.specs.Formulas.{is_within}
 use Rattle.mal_base.specs.NumberedClause.{NumberedClause}
-use Rattle.mal_base.specs.Literals.{var_of}
 use Rattle.mal_base.specs.declared.trail_entry.TrailEntry.{TrailEntry}
 use Rattle.mal_base.specs.declared.verdict.Verdict.{Verdict}
 use Rattle.mal_base.specs.declared.verdict.Verdict.TheVariants.{Satisfiable, Unsatisfiable}
 use Rattle.spec_node.specs.State.{Node}
 use Rattle.mal_trail.specs.Trailed.{Fits as TrailFits}
 use Rattle.mal_trail.proofs.TrailLemmas.{Fits-push, length_fits}
-use Rattle.mal_freeze.specs.declared.fault.ThawFault.{ThawFault}
 use Rattle.mal_freeze.specs.declared.fields.Head.{Head}
 use Rattle.mal_freeze.specs.declared.fields.Search.{Search}
 use Rattle.mal_freeze.specs.declared.fields.Ended.{Ended}
 use Rattle.mal_freeze.specs.declared.fields.Fields.{Fields}
 use Rattle.mal_freeze.specs.Fields.{Listing}
 use Rattle.mal_freeze.specs.Imaged.{IsImage, is_image, is_new, are_new, may_follow, all_follow, are_literals, are_clauses}
-use Rattle.mal_freeze.specs.Spelling.{spelled, magic, dropping_bytes, number_or_0, code_of, goal_of, phase_code, phase_bytes, counted, entry_bytes, clause_bytes, image_bytes}
+use Rattle.mal_freeze.specs.Spelling.{spelled, magic, dropping_bytes, number_or_0, code_of, goal_of, phase_bytes, counted, entry_bytes, clause_bytes, image_bytes}
 use Rattle.mal_freeze.specs.Widths.{FitsNumber, FitsGoal, FitsEntry, FitsClause, Fits}
-use Rattle.mal_freeze.specs.Reading.{◌>>=◌, number_at, ranged_at, byte_at, many_at, counted_at, number_in, literal_at, variable_at, phase_at, entry_at, clause_at, profile_at, dropping_at, head_at, search_at, ended_at, lists_at, fields_at, fits_goal, verdict_in, node_in, is_canonical, image_in}
+use Rattle.mal_freeze.specs.Reading.{many_at, number_in, literal_at, variable_at, phase_at, entry_at, clause_at, profile_at, dropping_at, head_at, search_at, ended_at, lists_at, fields_at, fits_goal, verdict_in, node_in, image_in}
 use Rattle.mal_freeze.proofs.FieldLemmas.{four, eight, number_again, ranged_again, byte_again, many_again, counted_again}
 use Rattle.mal_freeze.proofs.FollowLemmas.{follow_parts}
-use Rattle.mal_freeze.proofs.TestLemmas.{le_is, lt_is, eqb_is, is_lt, is-image, by-profile}
-use Rattle.mal_freeze.proofs.BeginsLemmas.{head_spelled, search_spelled, ended_spelled, lists_spelled, fields_spelled}
+use Rattle.mal_freeze.proofs.TestLemmas.{is-image, by-profile}
+use Rattle.mal_freeze.proofs.BeginsLemmas.{head_spelled, search_spelled, ended_spelled, lists_spelled}
 
 -- ---- what the elements of lists in form are
 
@@ -43,19 +41,19 @@ lits_within greatest [] h = tt
 lits_within greatest (l ∷ ls) h =
     let a = and_parts (nat_le 1 (l / 2) && nat_le (l / 2) greatest) (is_within greatest ls) h in
     let b = and_parts (nat_le 1 (l / 2)) (nat_le (l / 2) greatest) a.0 in
-    (code_within l greatest (le_is 1 (l / 2) b.0) (le_is (l / 2) greatest b.1), lits_within greatest ls a.1)
+    (code_within l greatest (leb-true 1 (l / 2) b.0) (leb-true (l / 2) greatest b.1), lits_within greatest ls a.1)
 
 -- literals that rise by variable are no more than the greatest
 rise_short : (greatest l : ℕ) (ls : List ℕ) → rises (l ∷ ls) ≡ true → is_within greatest (l ∷ ls) ≡ true → length ls + l / 2 ≤ greatest
 rise_short greatest l [] h k =
     let a = and_parts (nat_le 1 (l / 2) && nat_le (l / 2) greatest) true k in
     let b = and_parts (nat_le 1 (l / 2)) (nat_le (l / 2) greatest) a.0 in
-    let high : l / 2 ≤ greatest = le_is (l / 2) greatest b.1 in
+    let high : l / 2 ≤ greatest = leb-true (l / 2) greatest b.1 in
     omega arith
 rise_short greatest l (m ∷ ms) h k =
     let a = and_parts (nat_le 1 (l / 2) && nat_le (l / 2) greatest) (is_within greatest (m ∷ ms)) k in
     let b = and_parts (is_below l (m ∷ ms)) (rises (m ∷ ms)) h in
-    let less : l / 2 < m / 2 = lt_is (l / 2) (m / 2) b.0 in
+    let less : l / 2 < m / 2 = ltb-true (l / 2) (m / 2) b.0 in
     let more : length ms + m / 2 ≤ greatest = rise_short greatest m ms b.1 a.1 in
     omega arith
 
@@ -65,7 +63,7 @@ lits_few greatest (l ∷ ls) h =
     let p = and_parts (rises (l ∷ ls)) (is_within greatest (l ∷ ls)) h in
     let a = and_parts (nat_le 1 (l / 2) && nat_le (l / 2) greatest) (is_within greatest ls) p.1 in
     let b = and_parts (nat_le 1 (l / 2)) (nat_le (l / 2) greatest) a.0 in
-    let low : 1 ≤ l / 2 = le_is 1 (l / 2) b.0 in
+    let low : 1 ≤ l / 2 = leb-true 1 (l / 2) b.0 in
     let short : length ls + l / 2 ≤ greatest = rise_short greatest l ls p.0 p.1 in
     omega arith
 
@@ -75,7 +73,7 @@ order_within greatest before (v ∷ vs) h =
     let a = and_parts (is_new greatest before v) (are_new greatest (before ++ v ∷ []) vs) h in
     let b = and_parts (nat_le 1 v && nat_le v greatest) _ a.0 in
     let d = and_parts (nat_le 1 v) (nat_le v greatest) b.0 in
-    ((le_is 1 v d.0, le_is v greatest d.1), order_within greatest (before ++ v ∷ []) vs a.1)
+    ((leb-true 1 v d.0, leb-true v greatest d.1), order_within greatest (before ++ v ∷ []) vs a.1)
 
 -- an entry whose numbers are in their ranges
 abbrev pub IsEntryOf : ℕ → TrailEntry → Type 0
@@ -228,7 +226,7 @@ lists_are n i f =
       assumptions = lits_within n.variables n.assumptions a.1;
       few = lits_few n.variables n.assumptions i.form.assumptions;
       order = order_within n.variables [] n.order o.1;
-      all = eqb_is (length n.order) n.variables o.0;
+      all = eqb-true (length n.order) n.variables o.0;
       phases = i.form.ranges.phases;
       trail = trail_within n.variables [] n.trail i.form.trail f.lists.trail;
       short = trail_few n.variables n.trail i.form.ranges.variables i.form.trail;
@@ -252,7 +250,7 @@ ended_of v = record { code = code_of v; goal = goal_of v }
 goal_goes : (v : Option Verdict) → FitsGoal v → fits_goal (ended_of v) ≡ true
 goal_goes None f = refl
 goal_goes (Some Satisfiable) f = refl
-goal_goes (Some (Unsatisfiable goal)) f = is_lt 0 goal (omega (arith, f.0))
+goal_goes (Some (Unsatisfiable goal)) f = lt-ltb 0 goal (omega (arith, f.0))
 
 verdict_again : (v : Option Verdict) → verdict_in (ended_of v) ≡ v
 verdict_again None = refl

@@ -3,7 +3,7 @@ use Rattle.std.proofs.Common.{◌≡◌, ℕ, Bool, true, false, ◌&&◌, cond,
 use Rattle.std.specs.Prelude.{IfOk, IfErr, MatchOption}
 use Rattle.std.specs.List.{list_all}
 use Rattle.std.specs.declared.alloc.AllocError.{AllocError}
-use Rattle.std.proofs.lemmas.Bool.{and_from, and_parts}
+use Rattle.std.proofs.lemmas.Bool.{and_from, and_parts, eq-eqb}
 use Rattle.spec_node.specs.State.{Node}
 use Rattle.mal_freeze.specs.declared.fault.ThawFault.{ThawFault}
 use Rattle.mal_freeze.specs.declared.fault.ThawFault.TheVariants.{NotCanonical}
@@ -11,7 +11,7 @@ use Rattle.mal_freeze.specs.declared.fields.Fields.{Fields}
 use Rattle.mal_freeze.specs.Holding.{can_hold}
 use Rattle.mal_freeze.specs.Imaged.{IsImage, is_image}
 use Rattle.mal_freeze.specs.Reading.{◌>>=◌, ArePartsOf, fits_goal, fields_at, node_in, is_canonical, image_in}
-use Rattle.mal_freeze.proofs.TestLemmas.{not-held, not-image, is-image, image-is, is_eqb}
+use Rattle.mal_freeze.proofs.TestLemmas.{not-held, not-image, is-image, image-is}
 
 third_false : (a b c : Bool) → c ≡ false → (a && (b && c)) ≡ false
 third_false true true c h = h
@@ -27,7 +27,7 @@ pub image_result : (f : Fields) (n : Node) (r : Result (Option Node) AllocError)
 image_result f n (Err e) p h = tt
 image_result f n (Ok None) p h = third_false (eqb f.left 0) (fits_goal f.ended) (is_image (node_in f)) (ap (λ (m : Node). is_image m) (sym p.node) ∙ not-image n h)
 image_result f n (Ok (Some i)) p h =
-    (h.0 ∙ p.node, and_from (eqb f.left 0) (fits_goal f.ended && is_image (node_in f)) (is_eqb f.left 0 p.none_left) (and_from (fits_goal f.ended) (is_image (node_in f)) p.goal (ap (λ (m : Node). is_image m) (sym p.node) ∙ is-image n h.1)))
+    (h.0 ∙ p.node, and_from (eqb f.left 0) (fits_goal f.ended && is_image (node_in f)) (eq-eqb f.left 0 p.none_left) (and_from (fits_goal f.ended) (is_image (node_in f)) p.goal (ap (λ (m : Node). is_image m) (sym p.node) ∙ is-image n h.1)))
 
 -- bytes that are known to spell an image spell that of their fields
 pub known_image : (bytes : List ℕ) (f : Fields) → fields_at (length bytes) bytes ≡ Ok f → IfErr (image_in bytes) (λ e. ⊥) → (image_in bytes ≡ Ok (node_in f)) × IsImage (node_in f)

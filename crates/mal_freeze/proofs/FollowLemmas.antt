@@ -1,11 +1,10 @@
-use Rattle.std.proofs.Common.{◌≡◌, ℕ, ◌+◌, ◌<◌, ◌≤◌, Bool, true, false, not, ◌&&◌, nat_le, List, [], ◌∷◌, ◌++◌, length, take, drop, get_or, refl, sym, arith}
+use Rattle.std.proofs.Common.{◌≡◌, ℕ, ◌+◌, ◌≤◌, Bool, true, false, not, ◌&&◌, nat_le, List, refl, arith}
 use Rattle.std.proofs.lemmas.Bool.{false≢true, and_parts}
 use Rattle.std.proofs.lemmas.Bool.Decides.{nat_tests}
 use Rattle.mal_base.specs.Literals.{var_of}
 use Rattle.mal_base.specs.declared.trail_entry.TrailEntry.{TrailEntry}
 use Rattle.spec_node.specs.Value.{has_value, level_of}
-use Rattle.mal_freeze.specs.Imaged.{may_follow, all_follow}
-use Rattle.mal_freeze.proofs.ListLemmas.{drop-at, take-at, by_true, by_false}
+use Rattle.mal_freeze.specs.Imaged.{may_follow}
 
 -- what it means that an entry may stand behind others
 pub record MayFollow (greatest : ℕ) (before : List TrailEntry) (e : TrailEntry) : Type 0 where

@@ -1,8 +1,7 @@
 -- The form of an image, as a test and as what it says.
-use Rattle.std.proofs.Common.{◌≡◌, ℕ, ◌+◌, ◌<◌, ◌≤◌, ◌^◌, Bool, true, false, ◌&&◌, ◌||◌, ◌==◌, eqb, nat_lt, nat_le, List, [], ◌∷◌, length, refl, sym, subst, ◌∙◌, arith}
+use Rattle.std.proofs.Common.{◌≡◌, ℕ, ◌+◌, ◌<◌, ◌^◌, Bool, true, false, ◌&&◌, ◌||◌, ◌==◌, eqb, nat_lt, nat_le, List, [], ◌∷◌, length, refl, sym, subst, ◌∙◌, arith}
 use Rattle.std.specs.List.{list_all}
-use Rattle.std.proofs.lemmas.Bool.{false≢true, and_parts, and_from, false_from_ne_true}
-use Rattle.std.proofs.lemmas.Bool.Decides.{nat_tests}
+use Rattle.std.proofs.lemmas.Bool.{false≢true, and_parts, and_from, false_from_ne_true, leb-true, ltb-true, eqb-true, le-leb, lt-ltb, eq-eqb}
 use Rattle.mal_base.specs.Clauses.{rises}
 use Rattle.mal_base.specs.Formulas.{is_within}
 use Rattle.mal_base.specs.NumberedClause.{NumberedClause}
@@ -10,34 +9,16 @@ use Rattle.spec_node.specs.State.{Node, has_profile}
 use Rattle.mal_freeze.specs.Imaged.{IsFormed, IsImage, HasRanges, is_image, has_ranges, has_order, are_literals, is_order, all_follow, are_clauses, numbers_rise}
 use Rattle.mal_freeze.specs.Holding.{can_hold}
 
-pub le_is : (a b : ℕ) → nat_le a b ≡ true → a ≤ b
-le_is a b = grind (arith, nat_tests)
-
-pub lt_is : (a b : ℕ) → nat_lt a b ≡ true → a < b
-lt_is a b = grind (arith, nat_tests)
-
-pub eqb_is : (a b : ℕ) → eqb a b ≡ true → a ≡ b
-eqb_is a b = grind (arith, nat_tests)
-
-pub is_le : (a b : ℕ) → a ≤ b → nat_le a b ≡ true
-is_le a b = grind (arith, nat_tests)
-
-pub is_lt : (a b : ℕ) → a < b → nat_lt a b ≡ true
-is_lt a b = grind (arith, nat_tests)
-
-pub is_eqb : (a b : ℕ) → a ≡ b → eqb a b ≡ true
-is_eqb a b = grind (arith, nat_tests)
-
 -- a profile that passes the test is 1, where nothing is counted, or 2
 pub by-profile : (P : ℕ → ℕ → Type 0) (profile count : ℕ) → ((profile == 2) || ((profile == 1) && (count == 0))) ≡ true → P 1 0 → ((c : ℕ) → P 2 c) → P profile count
 by-profile P profile count h one two = by_test (eqb profile 2) refl
   where
     by_test : (b : Bool) → eqb profile 2 ≡ b → P profile count
-    by_test true t = subst (λ (p : ℕ). P p count) (sym (eqb_is profile 2 t)) (two count)
+    by_test true t = subst (λ (p : ℕ). P p count) (sym (eqb-true profile 2 t)) (two count)
     by_test false t =
         let left : (eqb profile 1 && eqb count 0) ≡ true = subst (λ (b : Bool). (b || (eqb profile 1 && eqb count 0)) ≡ true) t h in
         let a = and_parts (eqb profile 1) (eqb count 0) left in
-        subst (λ (p : ℕ). P p count) (sym (eqb_is profile 1 a.0)) (subst (λ (c : ℕ). P 1 c) (sym (eqb_is count 0 a.1)) one)
+        subst (λ (p : ℕ). P p count) (sym (eqb-true profile 1 a.0)) (subst (λ (c : ℕ). P 1 c) (sym (eqb-true count 0 a.1)) one)
 
 ranges-are : (n : Node) → has_ranges n ≡ true → HasRanges n
 ranges-are n h =
@@ -47,17 +28,17 @@ ranges-are n h =
     let e = and_parts (nat_lt n.serial (2 ^ 57)) (nat_le 1 n.restart_number) d.1 in
     let f = and_parts (nat_le n.processed (length n.trail + 1)) (eqb (length n.phases) n.variables) a.1 in
     record {
-      index = le_is n.index 63 b.0;
-      variables = le_is n.variables 65536 d.0;
-      serial = lt_is n.serial (2 ^ 57) e.0;
-      restart_number = le_is 1 n.restart_number e.1;
-      processed = le_is n.processed (length n.trail + 1) f.0;
-      phases = eqb_is (length n.phases) n.variables f.1;
+      index = leb-true n.index 63 b.0;
+      variables = leb-true n.variables 65536 d.0;
+      serial = ltb-true n.serial (2 ^ 57) e.0;
+      restart_number = leb-true 1 n.restart_number e.1;
+      processed = leb-true n.processed (length n.trail + 1) f.0;
+      phases = eqb-true (length n.phases) n.variables f.1;
     }
 
 has-ranges : (n : Node) → HasRanges n → has_ranges n ≡ true
 has-ranges n r =
-    rw (is_le n.index 63 r.index, is_le n.variables 65536 r.variables, is_lt n.serial (2 ^ 57) r.serial, is_le 1 n.restart_number r.restart_number, is_le n.processed (length n.trail + 1) r.processed, is_eqb (length n.phases) n.variables r.phases) refl
+    rw (le-leb n.index 63 r.index, le-leb n.variables 65536 r.variables, lt-ltb n.serial (2 ^ 57) r.serial, le-leb 1 n.restart_number r.restart_number, le-leb n.processed (length n.trail + 1) r.processed, eq-eqb (length n.phases) n.variables r.phases) refl
 
 -- a node that passes the test is an image
 pub image-is : (n : Node) → is_image n ≡ true → IsImage n
@@ -91,8 +72,8 @@ all-hold greatest last (c ∷ cs) h k =
     let a = and_parts (are_literals greatest c.lits) (are_clauses greatest cs) h in
     let b = and_parts (rises c.lits) (is_within greatest c.lits) a.0 in
     let d = and_parts (nat_lt last c.id) (numbers_rise c.id cs) k in
-    let low : last < c.id = lt_is last c.id d.0 in
-    and_from (can_hold c) (list_all can_hold cs) (and_from (nat_lt 0 c.id) (rises c.lits) (is_lt 0 c.id (omega arith)) b.0) (all-hold greatest c.id cs a.1 d.1)
+    let low : last < c.id = ltb-true last c.id d.0 in
+    and_from (can_hold c) (list_all can_hold cs) (and_from (nat_lt 0 c.id) (rises c.lits) (lt-ltb 0 c.id (omega arith)) b.0) (all-hold greatest c.id cs a.1 d.1)
 
 pub not-held : (n : Node) → list_all can_hold n.clauses ≡ false → is_image n ≡ false
 not-held n h = false_from_ne_true (is_image n) (λ k. let i = image-is n k in false≢true (sym h ∙ all-hold n.variables 0 n.clauses i.form.clauses i.form.numbers))

@@ -1,4 +1,4 @@
-use Rattle.std.proofs.Common.{◌≡◌, true, take, drop}
+use Rattle.std.proofs.Common.{◌≡◌, take, drop}
 use Rattle.std.specs.List.{list_all}
 use Rattle.mal_freeze.specs.Holding.{can_hold}
 use Rattle.mal_freeze.proofs.numbered.held_of.Given as goal

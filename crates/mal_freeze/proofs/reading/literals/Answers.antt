@@ -1,4 +1,3 @@
-use Rattle.std.proofs.Common.{◌≡◌}
 use Rattle.std.proofs.lemmas.Result.{err_from_is_err_and}
 use Rattle.mal_freeze.specs.Reading.{many_at, literal_at}
 use Rattle.mal_freeze.proofs.ManyLemmas.{goes_on, ends, is_done}

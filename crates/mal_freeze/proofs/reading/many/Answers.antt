@@ -1,4 +1,3 @@
-use Rattle.std.proofs.Common.{◌≡◌}
 use Rattle.mal_freeze.specs.Reading.{many_at}
 use Rattle.mal_freeze.proofs.ManyLemmas.{goes_on, ends, is_done}
 use Rattle.mal_freeze.proofs.reading.many.Goals as goal

@@ -1,4 +1,3 @@
-use Rattle.std.proofs.Common.{◌≡◌, false, ap, sym, ◌∙◌}
 use Rattle.mal_freeze.proofs.CanonicalLemmas.{unheld}
 use Rattle.mal_freeze.proofs.thawing.parts_of.Goals as goal
 

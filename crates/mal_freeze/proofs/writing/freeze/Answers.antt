@@ -1,4 +1,4 @@
-use Rattle.std.proofs.Common.{◌≡◌, ℕ, List, ap, ◌∙◌}
+use Rattle.std.proofs.Common.{ℕ, List, ap, ◌∙◌}
 use Rattle.spec_node.specs.State.{Node}
 use Rattle.mal_freeze.specs.Parted.{node_of}
 use Rattle.mal_freeze.specs.Reading.{image_in}
