@@ -1,6 +1,6 @@
 //! From images to bytes.
 
-ghost use Rattle.std.specs.Prelude.{◌≡◌, ◌<◌, ◌^◌, ◌++◌, Ok, length, flat_map, IfOk, OnOk};
+ghost use Rattle.std.specs.Prelude.{◌≡◌, ℕ, ◌<◌, ◌^◌, ◌++◌, List, Ok, length, flat_map, IfOk, OnOk};
 ghost use Rattle.std.specs.{Int.{w32, w64}, List.{AllByRecursion}};
 ghost use Rattle.mal_freeze.specs.{Parted.{node_of}, Reading.{image_in}, Spelling.{spelled, magic, dropping_bytes, number_or_0, code_of, goal_of, counted, phase_bytes, entry_bytes, clause_bytes, head_bytes, search_bytes, verdict_bytes, list_bytes, image_bytes}, Widths.{FitsNumber, FitsGoal, FitsEntry, FitsClause, FitsCounts, FitsLists, Fits}};
 
@@ -156,119 +156,103 @@ fn put_lists(out: &mut Vec<u8>, parts: &Parts) -> Result<(), AllocError>
     ensures spelled { OnOk result (out.new.items ≡ out.old.items ++ list_bytes (node_of parts.now)) }
     ensures fits { OnOk result (FitsLists (node_of parts.now)) }
 {
-    put_literals(out, parts.assumptions.as_slice())?;
-    put_order(out, parts.order.as_slice())?;
-    put_phases(out, parts.phases.as_slice())?;
-    put_trail(out, parts.trail.as_slice())?;
-    put_clauses(out, parts.clauses.as_slice())
+    put_counted(out, parts.assumptions.as_slice())?;
+    put_each(out, parts.order.as_slice())?;
+    put_each(out, parts.phases.as_slice())?;
+    put_counted(out, parts.trail.as_slice())?;
+    put_counted(out, parts.clauses.as_slice())
 }
 
-/// Puts a count and so many literals behind the others.
-fn put_literals(out: &mut Vec<u8>, lits: &[Lit]) -> Result<(), AllocError>
-    ensures { OnOk result (out.new.items ≡ out.old.items ++ counted (spelled w32) lits.now) }
-{
-    put_count(out, lits.len())?;
-    put_each_literal(out, lits)
+/// What an image has lists of.
+trait Piece {
+    /// How it is spelled.
+    ghost spelled: { Self → List ℕ };
+
+    /// That its numbers fit the fields.
+    ghost fits: { Self → Type 0 };
+
+    /// Puts it behind the others.
+    fn put(&self, out: &mut Vec<u8>) -> Result<(), AllocError>
+        ensures spelled { OnOk result (out.new.items ≡ out.old.items ++ spelled self.now) }
+        ensures fits { OnOk result (fits self.now) };
 }
 
-/// Puts literals behind the others.
-fn put_each_literal(out: &mut Vec<u8>, lits: &[Lit]) -> Result<(), AllocError>
-    ensures { OnOk result (out.new.items ≡ out.old.items ++ flat_map (spelled w32) lits.now) }
+impl Piece for Lit {
+    ghost spelled = { spelled w32 };
+
+    ghost fits = { λ _. Unit {0} };
+
+    fn put(&self, out: &mut Vec<u8>) -> Result<(), AllocError> {
+        put_u32(out, self.code())
+    }
+}
+
+impl Piece for Var {
+    ghost spelled = { spelled w32 };
+
+    ghost fits = { λ _. Unit {0} };
+
+    fn put(&self, out: &mut Vec<u8>) -> Result<(), AllocError> {
+        put_u32(out, self.number())
+    }
+}
+
+/// A phase.
+impl Piece for bool {
+    ghost spelled = { phase_bytes };
+
+    ghost fits = { λ _. Unit {0} };
+
+    fn put(&self, out: &mut Vec<u8>) -> Result<(), AllocError> {
+        if *self {
+            out.push(1)?;
+        } else {
+            out.push(0)?;
+        }
+        Ok(())
+    }
+}
+
+impl Piece for TrailEntry {
+    ghost spelled = { entry_bytes };
+
+    ghost fits = { FitsEntry };
+
+    fn put(&self, out: &mut Vec<u8>) -> Result<(), AllocError> {
+        put_u32(out, self.lit.code())?;
+        put_u64(out, number_or_0(self.reason))?;
+        put_u32(out, self.level)
+    }
+}
+
+impl Piece for NumberedClause {
+    ghost spelled = { clause_bytes };
+
+    ghost fits = { FitsClause };
+
+    fn put(&self, out: &mut Vec<u8>) -> Result<(), AllocError> {
+        put_u64(out, self.id().number())?;
+        put_counted(out, self.clause().lits())
+    }
+}
+
+/// Puts pieces behind the others.
+fn put_each<P: Piece>(out: &mut Vec<u8>, pieces: &[P]) -> Result<(), AllocError>
+    ensures spelled { OnOk result (out.new.items ≡ out.old.items ++ flat_map P.spelled pieces.now) }
+    ensures fits { OnOk result (AllByRecursion P.fits pieces.now) }
 {
-    for lit in lits {
-        put_u32(out, lit.code())?;
+    for piece in pieces {
+        piece.put(out)?;
     }
     Ok(())
 }
 
-/// Puts variables behind the others.
-fn put_order(out: &mut Vec<u8>, order: &[Var]) -> Result<(), AllocError>
-    ensures { OnOk result (out.new.items ≡ out.old.items ++ flat_map (spelled w32) order.now) }
+/// Puts a count and so many pieces behind the others.
+fn put_counted<P: Piece>(out: &mut Vec<u8>, pieces: &[P]) -> Result<(), AllocError>
+    ensures spelled { OnOk result (out.new.items ≡ out.old.items ++ counted P.spelled pieces.now) }
+    ensures fits { OnOk result (AllByRecursion P.fits pieces.now) }
+    ensures count { OnOk result (length pieces.now < 2 ^ 32) }
 {
-    for var in order {
-        put_u32(out, var.number())?;
-    }
-    Ok(())
-}
-
-/// Puts phases behind the others.
-fn put_phases(out: &mut Vec<u8>, phases: &[bool]) -> Result<(), AllocError>
-    ensures { OnOk result (out.new.items ≡ out.old.items ++ flat_map phase_bytes phases.now) }
-{
-    for phase in phases {
-        put_phase(out, *phase)?;
-    }
-    Ok(())
-}
-
-/// Puts a phase behind the others.
-fn put_phase(out: &mut Vec<u8>, phase: bool) -> Result<(), AllocError>
-    ensures { OnOk result (out.new.items ≡ out.old.items ++ phase_bytes phase) }
-{
-    if phase {
-        out.push(1)?;
-    } else {
-        out.push(0)?;
-    }
-    Ok(())
-}
-
-/// Puts a count and so many entries of a trail behind the others.
-fn put_trail(out: &mut Vec<u8>, entries: &[TrailEntry]) -> Result<(), AllocError>
-    ensures spelled { OnOk result (out.new.items ≡ out.old.items ++ counted entry_bytes entries.now) }
-    ensures fits { OnOk result (AllByRecursion FitsEntry entries.now) }
-{
-    put_count(out, entries.len())?;
-    put_each_entry(out, entries)
-}
-
-/// Puts entries of a trail behind the others.
-fn put_each_entry(out: &mut Vec<u8>, entries: &[TrailEntry]) -> Result<(), AllocError>
-    ensures spelled { OnOk result (out.new.items ≡ out.old.items ++ flat_map entry_bytes entries.now) }
-    ensures fits { OnOk result (AllByRecursion FitsEntry entries.now) }
-{
-    for entry in entries {
-        put_entry(out, *entry)?;
-    }
-    Ok(())
-}
-
-/// Puts an entry of a trail behind the others.
-fn put_entry(out: &mut Vec<u8>, entry: TrailEntry) -> Result<(), AllocError>
-    ensures spelled { OnOk result (out.new.items ≡ out.old.items ++ entry_bytes entry) }
-    ensures fits { OnOk result (FitsEntry entry) }
-{
-    put_u32(out, entry.lit.code())?;
-    put_u64(out, number_or_0(entry.reason))?;
-    put_u32(out, entry.level)
-}
-
-/// Puts a count and so many clauses behind the others.
-fn put_clauses(out: &mut Vec<u8>, clauses: &[NumberedClause]) -> Result<(), AllocError>
-    ensures spelled { OnOk result (out.new.items ≡ out.old.items ++ counted clause_bytes clauses.now) }
-    ensures fits { OnOk result (AllByRecursion FitsClause clauses.now) }
-    ensures count { OnOk result (length clauses.now < 2 ^ 32) }
-{
-    put_count(out, clauses.len())?;
-    put_each_clause(out, clauses)
-}
-
-/// Puts clauses behind the others.
-fn put_each_clause(out: &mut Vec<u8>, clauses: &[NumberedClause]) -> Result<(), AllocError>
-    ensures spelled { OnOk result (out.new.items ≡ out.old.items ++ flat_map clause_bytes clauses.now) }
-    ensures fits { OnOk result (AllByRecursion FitsClause clauses.now) }
-{
-    for held in clauses {
-        put_clause(out, held)?;
-    }
-    Ok(())
-}
-
-/// Puts a clause behind the others.
-fn put_clause(out: &mut Vec<u8>, held: &NumberedClause) -> Result<(), AllocError>
-    ensures spelled { OnOk result (out.new.items ≡ out.old.items ++ clause_bytes held.now) }
-    ensures fits { OnOk result (FitsClause held.now) }
-{
-    put_u64(out, held.id().number())?;
-    put_literals(out, held.clause().lits())
+    put_count(out, pieces.len())?;
+    put_each(out, pieces)
 }
