@@ -242,27 +242,15 @@ fn body_of(literals: &mut Vec<Lit>, lits: &[Lit]) -> Body
 {
     match lits {
         [first, second, third] => Body::Three([*first, *second, *third]),
-        _ => list(literals, lits),
-    }
-}
-
-/// Puts the literals of a clause behind the others. Takes no memory.
-fn list(literals: &mut Vec<Lit>, lits: &[Lit]) -> Body
-    requires room { vec_len literals.old + length lits.now ≤ vec_capacity literals.old }
-    requires few { vec_len literals.old + length lits.now ≤ 4294967295 }
-    ensures lits { lits_in literals.new.items result ≡ lits.now }
-    ensures from { IsFrom (length literals.old.items) result }
-    ensures end { end_of (length literals.old.items) result ≡ length literals.new.items }
-    ensures fit { len_of result ≢ 3 → IsFit result }
-    ensures items { literals.new.items ≡ literals.old.items ++ lits.now }
-    ensures capacity { vec_capacity literals.new ≡ vec_capacity literals.old }
-{
-    let start = literals.len() as u32;
-    append_reserved(literals, lits);
-    Body::Listed {
-        start,
-        len: lits.len() as u32,
-        hint: 0,
+        _ => {
+            let start = literals.len() as u32;
+            append_reserved(literals, lits);
+            Body::Listed {
+                start,
+                len: lits.len() as u32,
+                hint: 0,
+            }
+        }
     }
 }
 

@@ -8,4 +8,4 @@ pub returns-in_default-clause-rows : goal.returns-in_default-clause-rows
 returns-in_default-clause-rows c =
     let old = c.args.literals.now.items in
     let lits = c.args.lits.now in
-    λ rs w. rw c.list.ensures.items (rows-wider (length old) (length (old ++ lits)) rs (omega (arith, length-append old lits)) w, rows-more old lits rs w)
+    λ rs w. rw c.append_reserved.ensures.items (rows-wider (length old) (length (old ++ lits)) rs (omega (arith, length-append old lits)) w, rows-more old lits rs w)
