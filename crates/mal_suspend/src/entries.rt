@@ -55,26 +55,14 @@ impl Entries {
     pub fn loads(&self) -> usize
         ensures { result ≡ loads_in self.now }
     {
-        let mut count = 0;
-        for counted in self.counted.as_slice() {
-            if counted.entry.is_load() {
-                count += 1;
-            }
-        }
-        count
+        self.counted.iter().filter(|c| c.entry.is_load()).count()
     }
 
     /// How much of what was told was imported.
     pub fn imports(&self) -> usize
         ensures { result ≡ imports_in self.now }
     {
-        let mut count = 0;
-        for counted in self.counted.as_slice() {
-            if counted.entry.is_import() {
-                count += 1;
-            }
-        }
-        count
+        self.counted.iter().filter(|c| c.entry.is_import()).count()
     }
 
     /// The greatest number of variables of the revisions that were loaded.
