@@ -36,18 +36,6 @@ pub placed-wider : (v w : ℕ) (es before : List TrailEntry) → v ≤ w → Eac
 placed-wider v w [] before l h = tt
 placed-wider v w (e ∷ es) before l h = (record { low = h.0.low; high = omega (arith, h.0.high); free = h.0.free }, placed-wider v w es (before ++ e ∷ []) l h.1)
 
--- a number above those held is not held
-none-under : (id : ℕ) (ds : List NumberedClause) → All (λ d. d.id < id) ds → lits_under id ds ≡ None
-none-under id [] h = refl
-none-under id (d ∷ ds) h =
-    let low : d.id < id = All-head (λ x. x.id < id) d ds h in
-    let other : (d.id == id) ≡ false = ne_eqb d.id id (λ q. absurd (omega arith)) in
-    rw other (none-under id ds (All-tail (λ x. x.id < id) d ds h))
-
--- the number of the next clause is not held
-pub new-number : (n : Node) → IsSound n → lits_under (derived_id n) n.clauses ≡ None
-new-number n h = none-under (derived_id n) n.clauses (below-derived n.serial n.index n.clauses h.ranged.serial)
-
 -- what holds of the clauses held with one more holds of that
 all-new : (P : NumberedClause → Type 0) (c : NumberedClause) (ds : List NumberedClause) → All P (with_clause c ds) → P c
 all-new P c [] h = All-head P c [] h

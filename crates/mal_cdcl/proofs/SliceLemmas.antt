@@ -1,43 +1,17 @@
 use Rattle.std.proofs.Common.{◌≡◌, ℕ, zero, suc, ◌+◌, ◌≤◌, Bool, true, false, cond, List, [], ◌∷◌, ◌++◌, length, Option, Some, None, refl, sym, ap, ◌∙◌, append_assoc, append-nil, arith}
-use Rattle.std.specs.Prelude.{◌==◌}
 use Rattle.mal_base.specs.NumberedClause.{Line}
 use Rattle.spec_node.specs.State.{Node}
 use Rattle.spec_node.specs.Sound.{IsSound}
-use Rattle.spec_search.specs.Step.{Case, Learns, Refutes, Propagates, Drops, Restarts, Contradicts, Assumes, Decides, Ends, case_of, after_case, step, next_line}
+use Rattle.spec_search.specs.Step.{case_of, step, next_line}
 use Rattle.spec_search.specs.Slice.{Sliced, behind, steps_from, is_over, used_after}
+use Rattle.spec_search.proofs.CountLemmas.{Rise, case-rise}
 use Rattle.spec_search.proofs.SliceLemmas.{behind-node}
 use Rattle.spec_search.proofs.SoundLemmas.{step-sound}
 use Rattle.spec_search.proofs.ModelLemmas.{step-leaves}
-use Rattle.spec_learn.specs.Learning.{counted_in}
 use Rattle.mal_learn.specs.Shown.{Shown}
 use Rattle.mal_cdcl.specs.Within.{NodeWithRoom}
 use Rattle.mal_cdcl.proofs.HeldCountLemmas.{case-held}
 use Rattle.mal_cdcl.specs.Sliced.{HasStepRoom, HasIdRoom, and_line, IsStepped}
-
--- a step raises each count by 1 at the most
-record Rises (before after : Node) : Type 0 where
-  pub serial : after.serial ≤ before.serial + 1
-  pub conflicts_since_restart : after.conflicts_since_restart ≤ before.conflicts_since_restart + 1
-  pub restart_number : after.restart_number ≤ before.restart_number + 1
-  pub conflicts_since_dropping : after.conflicts_since_dropping ≤ before.conflicts_since_dropping + 1
-
-counted-rises : (profile count : ℕ) → counted_in profile count ≤ count + 1
-counted-rises profile count = by_test (profile == 2)
-  where
-    by_test : (b : Bool) → cond b (count + 1) count ≤ count + 1
-    by_test true = omega arith
-    by_test false = omega arith
-
-case-rises : (c : Case) (n : Node) → Rises n (after_case c n)
-case-rises (Learns id) n = record { serial = omega arith; conflicts_since_restart = omega arith; restart_number = omega arith; conflicts_since_dropping = counted-rises n.profile n.conflicts_since_dropping }
-case-rises (Refutes id) n = record { serial = omega arith; conflicts_since_restart = omega arith; restart_number = omega arith; conflicts_since_dropping = omega arith }
-case-rises Propagates n = record { serial = omega arith; conflicts_since_restart = omega arith; restart_number = omega arith; conflicts_since_dropping = omega arith }
-case-rises Drops n = record { serial = omega arith; conflicts_since_restart = omega arith; restart_number = omega arith; conflicts_since_dropping = omega arith }
-case-rises Restarts n = record { serial = omega arith; conflicts_since_restart = omega arith; restart_number = omega arith; conflicts_since_dropping = omega arith }
-case-rises (Contradicts a) n = record { serial = omega arith; conflicts_since_restart = omega arith; restart_number = omega arith; conflicts_since_dropping = omega arith }
-case-rises (Assumes a) n = record { serial = omega arith; conflicts_since_restart = omega arith; restart_number = omega arith; conflicts_since_dropping = omega arith }
-case-rises (Decides v) n = record { serial = omega arith; conflicts_since_restart = omega arith; restart_number = omega arith; conflicts_since_dropping = omega arith }
-case-rises Ends n = record { serial = omega arith; conflicts_since_restart = omega arith; restart_number = omega arith; conflicts_since_dropping = omega arith }
 
 steps-next : (k used : ℕ) (n : Node) → is_over used n ≡ false → steps_from (suc k) used n ≡ behind (next_line n) (steps_from k (used_after used (next_line n)) (step n))
 steps-next k used n h = rw h refl
@@ -71,7 +45,7 @@ slicing-next k used u start now next h s =
     let rest : Sliced = steps_from k (used_after used line) (step now.state) in
     let whole : steps_from (suc k) used now.state ≡ behind line rest = steps-next k used now.state s.on in
     let after : steps_from k u next.state ≡ rest = rw (s.numbers, s.state) refl in
-    let rises : Rises now.state (step now.state) = case-rises (case_of now.state) now.state in
+    let rises : Rise 1 now.state (step now.state) = case-rise (case_of now.state) now.state in
     record {
       node = rw after (sym (behind-node line rest) ∙ (sym (ap (λ (x : Sliced). x.node) whole) ∙ h.node));
       lines = rw (after, s.lines) (sym (behind-lines now.lines line rest) ∙ (sym (ap (λ (x : Sliced). now.lines ++ x.lines) whole) ∙ h.lines));

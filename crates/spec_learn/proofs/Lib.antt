@@ -9,6 +9,7 @@ pub mod CoreLemmas
 pub mod CoreClauseLemmas
 pub mod CoreSoundLemmas
 pub mod ProfileLemmas
+pub mod GoalLemmas
 -- what this crate alone cites
 mod LogicLemmas
 mod HeartLemmas
@@ -16,7 +17,6 @@ mod UipLemmas
 mod PointLemmas
 mod SettleLemmas
 mod LawLemmas
-mod GoalLemmas
 mod FirstPointLemmas
 mod CaseLemmas
 mod TurnLemmas

@@ -17,7 +17,7 @@ use Rattle.spec_search.proofs.SliceLemmas.{behind-node, going, steps-keep}
 use Rattle.spec_search.proofs.ModelLemmas.{step-leaves}
 
 -- the counts of a node rise by so much at the most
-record Rise (k : ℕ) (before after : Node) : Type 0 where
+pub record Rise (k : ℕ) (before after : Node) : Type 0 where
   pub serial : after.serial ≤ before.serial + k
   pub conflicts_since_restart : after.conflicts_since_restart ≤ before.conflicts_since_restart + k
   pub restart_number : after.restart_number ≤ before.restart_number + k
@@ -30,7 +30,7 @@ counted-more profile count = by_profile (profile == 2)
     by_profile true = omega arith
     by_profile false = omega arith
 
-case-rise : (c : Case) (n : Node) → Rise 1 n (after_case c n)
+pub case-rise : (c : Case) (n : Node) → Rise 1 n (after_case c n)
 case-rise (Learns id) n = record { serial = omega arith; conflicts_since_restart = omega arith; restart_number = omega arith; conflicts_since_dropping = counted-more n.profile n.conflicts_since_dropping }
 case-rise (Refutes id) n = record { serial = omega arith; conflicts_since_restart = omega arith; restart_number = omega arith; conflicts_since_dropping = omega arith }
 case-rise Propagates n = record { serial = omega arith; conflicts_since_restart = omega arith; restart_number = omega arith; conflicts_since_dropping = omega arith }

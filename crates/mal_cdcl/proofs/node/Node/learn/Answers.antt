@@ -11,14 +11,15 @@ use Rattle.mal_cdcl.specs.Within.{NodeWithRoom, IsNode, IsPast}
 use Rattle.mal_cdcl.proofs.ImageLemmas.{formed-node}
 use Rattle.mal_cdcl.proofs.PastLemmas.{past-more}
 use Rattle.mal_cdcl.proofs.BumpLemmas.{are_in}
-use Rattle.mal_cdcl.proofs.DeriveLemmas.{new-number, fit-learned, formed-learned, has-learned, processed-learned, free-learned, forced-keeps}
+use Rattle.spec_learn.proofs.GoalLemmas.{number-new}
+use Rattle.mal_cdcl.proofs.DeriveLemmas.{fit-learned, formed-learned, has-learned, processed-learned, free-learned, forced-keeps}
 use Rattle.mal_cdcl.proofs.node.Node.learn.Goals as goal
 
 pub learn-requires-clause-new : goal.learn-requires-clause-new
 learn-requires-clause-new g c =
     let n = c.args.self.now.state in
     let held : g.E.ClauseView.clauses c.self.inside.engine ≡ n.clauses = ap (λ (s : NodeWithRoom). s.state.clauses) c.self.view_is ∙ ap (λ (m : Node). m.clauses) c.cut.ensures.state in
-    rw (held, c.requires.number) (new-number n c.requires.sound)
+    rw (held, c.requires.number) (number-new n c.requires.sound)
 
 pub learn-requires-clause-form : goal.learn-requires-clause-form
 learn-requires-clause-form g c =

@@ -4,14 +4,15 @@ use Rattle.spec_node.specs.Adding.{with_clause}
 use Rattle.spec_learn.specs.Refuting.{refuted}
 use Rattle.mal_cdcl.specs.Within.{NodeWithRoom, IsNode}
 use Rattle.mal_cdcl.proofs.ImageLemmas.{formed-node}
-use Rattle.mal_cdcl.proofs.DeriveLemmas.{new-number, fit-refuted, formed-refuted}
+use Rattle.spec_learn.proofs.GoalLemmas.{number-new}
+use Rattle.mal_cdcl.proofs.DeriveLemmas.{fit-refuted, formed-refuted}
 use Rattle.mal_cdcl.proofs.node.Node.refute.Goals as goal
 
 pub learn-requires-clause-new : goal.learn-requires-clause-new
 learn-requires-clause-new g c =
     let n = c.args.self.now.state in
     let held : g.E.ClauseView.clauses c.self.inside.engine ≡ n.clauses = ap (λ (s : NodeWithRoom). s.state.clauses) c.self.view_is in
-    rw (held, c.requires.number) (new-number n c.requires.sound)
+    rw (held, c.requires.number) (number-new n c.requires.sound)
 
 pub learn-requires-clause-form : goal.learn-requires-clause-form
 learn-requires-clause-form g c =
