@@ -146,11 +146,19 @@ impl NodeSlot {
         ensures own_profile { self.new.journal.profile ≡ self.old.journal.profile }
     {
         let (starts, grown) = self.following(start, loads.as_slice(), imports.as_slice())?;
-        let lease = self.lease(loads, imports, start, worker)?;
-        reseat(&mut self.seat, Seat::Out(revision, grown));
-        self.journal.set_start(start);
-        self.starts = starts;
-        Ok(lease)
+        let kept = self.hand_out()?;
+        match Lease::new(kept, loads, imports, start, worker) {
+            Err((kept, error)) => {
+                reseat(&mut self.seat, seat_of(kept));
+                Err(error)
+            }
+            Ok(lease) => {
+                reseat(&mut self.seat, Seat::Out(revision, grown));
+                self.journal.set_start(start);
+                self.starts = starts;
+                Ok(lease)
+            }
+        }
     }
 
     /// How often the node was started once it is started again, and the journal that it has once that start ran.
@@ -174,34 +182,6 @@ impl NodeSlot {
         };
         let grown = self.journal.grown(start, loads, imports)?;
         Ok((starts, grown))
-    }
-
-    /// The lease of the node, which is at home, for the start of this number. After want of memory the node is where
-    /// it was.
-    fn lease(
-        &mut self,
-        loads: Vec<(Arc<Revision>, u32)>,
-        imports: Vec<Arc<Buffer>>,
-        start: u64,
-        worker: u32,
-    ) -> Result<Lease, AllocError>
-        requires home { self.old.out ≡ None }
-        requires replays { MayAllReplay (replayed self.old.journal)
-            (start_entries (shared_loads loads.items) (shared_tolds imports.items)) }
-        ensures same { self.new ≡ self.old }
-        ensures journal { IfOk result (λ l. l.journal ≡ started start self.old.journal) }
-        ensures adds { IfOk result
-            (λ l. l.adds ≡ start_entries (shared_loads loads.items) (shared_tolds imports.items)) }
-        ensures worker { IfOk result (λ l. l.worker ≡ worker) }
-    {
-        let kept = self.hand_out()?;
-        match Lease::new(kept, loads, imports, start, worker) {
-            Err((kept, error)) => {
-                reseat(&mut self.seat, seat_of(kept));
-                Err(error)
-            }
-            Ok(lease) => Ok(lease),
-        }
     }
 
     /// Takes the node out of its seat, or a copy of the journal where it is gone.
