@@ -18,8 +18,7 @@ ended : (c : After-finish_lost) → Ended c.self.inside.tenant c.self.inside.nam
 ended c =
     let q : Parts = parts c.self.inside in
     let out : is_some (placed q.tree c.args.index).out ≡ true = ap (λ (o : Option Lease). is_some o) (sym (out-same q.tree.places c.args.index 0 0)) ∙ (rw (← c.self.view_is) at c.requires) in
-    let e = c.finish_lost.ensures in
-    home-ended q c.args.index c.self.invariant out Lost c.finish_lost.new.questions c.finish_lost.new.tree e.tree (lost-step q c.args.index c.self.invariant out c.finish_lost.new.questions e.questions) c.self.inside.tenant c.self.inside.name e.asked e.kept
+    home-ended q c.args.index c.self.invariant out Lost _ _ c.finish_lost.ensures.tree (lost-step q c.args.index c.self.invariant out _ c.finish_lost.ensures.questions) _ _ c.finish_lost.ensures.asked c.finish_lost.ensures.kept
 
 pub invariant_of-self : goal.invariant_of-self
 invariant_of-self c = (ended c).kept

@@ -20,8 +20,7 @@ ended : (c : After-finish_starved) → Ended c.self.inside.tenant c.self.inside.
 ended c =
     let q : Parts = parts c.self.inside in
     let out : is_some (placed q.tree c.args.index).out ≡ true = back-out (placed q.tree c.args.index) c.args.back (back-place c.self.inside.tenant c.self.inside.name q c.args.index c.args.back c.self.invariant.tree c.self.invariant.solvers (rw (← c.self.view_is) at c.requires.back)) in
-    let e = c.finish_starved.ensures in
-    home-ended q c.args.index c.self.invariant out Starved c.finish_starved.new.questions c.finish_starved.new.tree e.tree (starved-step q c.args.index c.self.invariant out c.finish_starved.new.questions e.questions) c.self.inside.tenant c.self.inside.name e.asked e.kept
+    home-ended q c.args.index c.self.invariant out Starved _ _ c.finish_starved.ensures.tree (starved-step q c.args.index c.self.invariant out _ c.finish_starved.ensures.questions) _ _ c.finish_starved.ensures.asked c.finish_starved.ensures.kept
 
 pub invariant_of-self : goal.invariant_of-self
 invariant_of-self c = (ended c).kept
