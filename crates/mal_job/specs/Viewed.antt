@@ -1,10 +1,11 @@
-use Rattle.std.specs.Prelude.{ℕ, ◌-◌, Bool, List, ◌++◌, length, map, replicate, Option}
+use Rattle.std.specs.Prelude.{ℕ, ◌+◌, ◌-◌, ◌<◌, ◌≤◌, ◌^◌, Bool, List, ◌++◌, length, map, replicate, Option}
 use Rattle.std.specs.Arc.{arc_value}
 use Rattle.std.specs.declared.sync.Arc.{Arc}
 use Rattle.mal_base.specs.Asks.{Terms}
 use Rattle.mal_base.specs.NumberedClause.{NumberedClause, Line}
 use Rattle.mal_base.specs.declared.answer.Answer.{Answer}
 use Rattle.mal_revision.specs.Posted.{Posted}
+use Rattle.spec_proof.specs.Log.{IsOrderly}
 use Rattle.spec_job.specs.Journaled.{Journaled}
 use Rattle.spec_job.specs.SoloMachine.{SoloMachine, NodeSlot, Lease, vacant}
 use Rattle.spec_job.specs.Viewed.{JobView}
@@ -48,6 +49,13 @@ pub record TreeView : Type 0 where
 pub record LogView : Type 0 where
   pub lines : List Line
   pub chunk_room : ℕ
+
+-- these lines may stand behind those of a log: there is room for them, and with those before them they can be counted
+-- and have numbers of derived clauses, each once and above all its hints
+pub record MayAppend (log : LogView) (lines : List Line) : Type 0 where
+  pub room : 1 ≤ log.chunk_room
+  pub countable : length log.lines + length lines < 2 ^ 64
+  pub orderly : IsOrderly (log.lines ++ lines)
 
 -- the three parts of a job
 pub record Parts : Type 0 where

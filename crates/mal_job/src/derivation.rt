@@ -1,8 +1,8 @@
 //! The log of a job.
 
-ghost use Rattle.std.specs.Prelude.{◌≡◌, ◌+◌, ◌<◌, ◌≤◌, ◌^◌, [], ◌++◌, length, OnOk};
-ghost use Rattle.spec_proof.specs.Log.{IsOrderly};
+ghost use Rattle.std.specs.Prelude.{◌≡◌, ◌+◌, ◌≤◌, [], ◌++◌, OnOk};
 ghost use Rattle.spec_job.specs.SoloMachine.{first_empty};
+ghost use Rattle.mal_job.specs.Viewed.{MayAppend};
 
 use mal_base::{ClauseId, Lines};
 use mal_proof::Log;
@@ -65,9 +65,7 @@ impl Derivation {
     /// Puts the lines of a slice behind the others, for which there is room. With those before them they have numbers
     /// of derived clauses, each once and above all its hints. Takes no memory.
     pub fn append(&mut self, lines: Lines)
-        requires room { 1 ≤ self.old.chunk_room }
-        requires countable { length self.old.lines + length lines.lines < 2 ^ 64 }
-        requires orderly { IsOrderly (self.old.lines ++ lines.lines) }
+        requires { MayAppend self.old lines.lines }
         ensures lines { self.new.lines ≡ self.old.lines ++ lines.lines }
         ensures less { self.new.chunk_room + 1 ≡ self.old.chunk_room }
     {

@@ -2,9 +2,8 @@
 
 ghost use Rattle.std.specs.Prelude.{◌≡◌, ◌+◌, ◌<◌, ◌≤◌, ◌^◌, true, ◌++◌, length, is_some};
 ghost use Rattle.mal_base.specs.declared.verdict.Outcome.TheVariants.{Ran, Starved};
-ghost use Rattle.spec_proof.specs.Log.{IsOrderly};
 ghost use Rattle.spec_job.specs.SoloMachine.{first_empty};
-ghost use Rattle.mal_job.specs.{Asking.{IsAsked, concluded_by, starved_by, settled_with}, Placing.{IsBackAt, IsTree, placed, with_placed, ran_home, came_home, one_more_ran, revision_of}};
+ghost use Rattle.mal_job.specs.{Asking.{IsAsked, concluded_by, starved_by, settled_with}, Placing.{IsBackAt, IsTree, placed, with_placed, ran_home, came_home, one_more_ran, revision_of}, Viewed.{MayAppend}};
 
 use crate::derivation::Derivation;
 use crate::questions::Questions;
@@ -25,9 +24,7 @@ pub fn finish_run(
     requires few { tree.old.ran < 2 ^ 31 }
     requires live { length questions.old.answers ≤ revision_of (placed tree.old index).out
         → length questions.old.answers < length questions.old.revisions }
-    requires room { 1 ≤ log.old.chunk_room }
-    requires countable { length log.old.lines + length back.lines < 2 ^ 64 }
-    requires orderly { IsOrderly (log.old.lines ++ back.lines) }
+    requires log { MayAppend log.old back.lines }
     ensures tree { tree.new ≡ one_more_ran (with_placed tree.old index (ran_home (placed tree.old index))) }
     ensures questions { questions.new
         ≡ settled_with (first_empty log.new.lines)

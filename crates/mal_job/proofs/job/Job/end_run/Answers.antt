@@ -24,9 +24,7 @@ finish_run-requires c =
       back = b;
       few = few-ran q c.args.index c.self.invariant out;
       live = live q c.args.index c.self.invariant out;
-      room = chunk q c.args.index c.self.invariant out;
-      countable = countable q c.args.index c.self.invariant out c.args.back e h;
-      orderly = orderly q c.args.index c.self.invariant out c.args.back e h;
+      log = record { room = chunk q c.args.index c.self.invariant out; countable = countable q c.args.index c.self.invariant out c.args.back e h; orderly = orderly q c.args.index c.self.invariant out c.args.back e h };
     }
 
 ended : (c : After-finish_run) → Ended c.self.inside.tenant c.self.inside.name (parts c.self.inside) (record { asked = c.finish_run.new.questions; tree = c.finish_run.new.tree; log = c.finish_run.new.log }) c.args.index Ran
