@@ -55,9 +55,9 @@ impl Model for ClauseArena {
 }
 
 impl ClauseArena {
-    /// No clause. Takes no memory.
+    /// No clause, and no room. Takes no memory.
     pub fn new(alloc: Global) -> ClauseArena
-        ensures { result.clauses ≡ [] }
+        ensures { result ≡ record { clauses = []; clause_room = 0; literal_room = 0 } }
     {
         ClauseArena {
             rows: Vec::new(alloc),

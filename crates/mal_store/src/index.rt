@@ -38,9 +38,9 @@ impl Model for Index {
 }
 
 impl Index {
-    /// No entry. Takes no memory.
+    /// No entry, and no room. Takes no memory.
     pub fn new(alloc: Global) -> Index
-        ensures { result.entries ≡ [] }
+        ensures { result ≡ record { entries = []; room = 0 } }
     {
         Index {
             originals: Vec::new(alloc),
