@@ -2,7 +2,7 @@
 
 ghost use Rattle.std.specs.Prelude.{◌≡◌, ℕ, ◌≤◌, true, length, take, None};
 ghost use Rattle.spec_node.specs.{Value.{open_count}, Batch.{is_in_batch, after_batch}};
-ghost use Rattle.mal_trail.specs.Rooms.{are_within};
+ghost use Rattle.mal_trail.specs.{Rooms.{are_within}, Trailed.{Grows}};
 
 use mal_base::{ClauseId, Lit};
 use mal_store::Store;
@@ -38,9 +38,7 @@ pub fn propagate(trail: &mut Trail, count: usize, store: &Store) -> Option<Claus
     requires within { are_within trail.old.room store.now.clauses ≡ true }
     ensures progress { after_batch count trail.old.entries store.now.clauses
         ≡ record { trail = trail.new.entries; conflict = result } }
-    ensures longer { length trail.old.entries ≤ length trail.new.entries }
-    ensures processed { trail.new.processed ≡ trail.old.processed }
-    ensures room { trail.new.room ≡ trail.old.room }
+    ensures grows { Grows trail.old trail.new }
 {
     for place in 0..store.len() {
         let (id, lits) = store.at(place);

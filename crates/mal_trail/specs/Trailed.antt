@@ -10,6 +10,12 @@ pub record Trailed : Type 0 where
   pub processed : ℕ
   pub room : ℕ
 
+-- a trail is as long as it was or longer, and no more of its batches count as handled
+pub record Grows (before after : Trailed) : Type 0 where
+  pub longer : length before.entries ≤ length after.entries
+  pub processed : after.processed ≡ before.processed
+  pub room : after.room ≡ before.room
+
 -- levels never fall, and each is the level before it (at the front this one) or the next
 abbrev pub LevelsRise : ℕ → List TrailEntry → Type 0
 LevelsRise level [] = Unit {0}

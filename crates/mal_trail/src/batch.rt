@@ -3,6 +3,7 @@
 ghost use Rattle.std.specs.Prelude.{◌≡◌, ℕ, ◌≤◌, true, length, take};
 ghost use Rattle.mal_base.specs.{Formulas.{is_within}, Literals.{var_of}};
 ghost use Rattle.spec_node.specs.{Batch.{after_clause, after_literal}, Value.{left_literal}};
+ghost use Rattle.mal_trail.specs.Trailed.{Grows};
 
 use crate::trail::Trail;
 use mal_base::{ClauseId, Lit};
@@ -23,10 +24,8 @@ pub fn handle_literal(trail: &mut Trail, id: ClauseId, lit: Lit) -> Option<Claus
     requires { var_of lit ≤ trail.old.room }
     ensures progress { after_literal trail.old.entries id lit
         ≡ record { trail = trail.new.entries; conflict = result } }
-    ensures longer { length trail.old.entries ≤ length trail.new.entries }
     ensures prefix { (n : ℕ) → n ≤ length trail.old.entries → take n trail.new.entries ≡ take n trail.old.entries }
-    ensures processed { trail.new.processed ≡ trail.old.processed }
-    ensures room { trail.new.room ≡ trail.old.room }
+    ensures grows { Grows trail.old trail.new }
 {
     if trail.is_true(lit) {
         return None;
@@ -50,10 +49,8 @@ pub fn handle_clause(
     requires within { is_within trail.old.room lits.now ≡ true }
     ensures progress { after_clause (take count trail.old.entries) trail.old.entries
         (record { id = id; lits = lits.now }) ≡ record { trail = trail.new.entries; conflict = result } }
-    ensures longer { length trail.old.entries ≤ length trail.new.entries }
     ensures prefix { (n : ℕ) → n ≤ length trail.old.entries → take n trail.new.entries ≡ take n trail.old.entries }
-    ensures processed { trail.new.processed ≡ trail.old.processed }
-    ensures room { trail.new.room ≡ trail.old.room }
+    ensures grows { Grows trail.old trail.new }
 {
     match left_literal(trail, count, lits) {
         None => Some(id),

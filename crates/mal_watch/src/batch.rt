@@ -3,7 +3,7 @@
 ghost use Rattle.std.specs.Prelude.{◌≡◌, ℕ, ◌≤◌, true, length, take, None, All};
 ghost use Rattle.mal_base.specs.Literals.{var_of};
 ghost use Rattle.spec_node.specs.Batch.{after_batch};
-ghost use Rattle.mal_trail.specs.Rooms.{are_within};
+ghost use Rattle.mal_trail.specs.{Rooms.{are_within}, Trailed.{Grows}};
 ghost use Rattle.mal_watch.specs.Finding.{after_found};
 
 use crate::found::Found;
@@ -16,9 +16,7 @@ pub fn handle_short(trail: &mut Trail, store: &Store) -> Option<ClauseId>
     requires { are_within trail.old.room store.now.clauses ≡ true }
     ensures progress { after_batch 0 trail.old.entries store.now.clauses
         ≡ record { trail = trail.new.entries; conflict = result } }
-    ensures longer { length trail.old.entries ≤ length trail.new.entries }
-    ensures processed { trail.new.processed ≡ trail.old.processed }
-    ensures room { trail.new.room ≡ trail.old.room }
+    ensures grows { Grows trail.old trail.new }
 {
     for place in 0..store.count_short() {
         let (id, lits) = store.short_at(place);
@@ -37,10 +35,8 @@ pub fn handle(trail: &mut Trail, found: &[Found]) -> Option<ClauseId>
     ensures progress { after_found
         (record { trail = trail.old.entries; conflict = None }) found.now
         ≡ record { trail = trail.new.entries; conflict = result } }
-    ensures longer { length trail.old.entries ≤ length trail.new.entries }
     ensures prefix { (n : ℕ) → n ≤ length trail.old.entries → take n trail.new.entries ≡ take n trail.old.entries }
-    ensures processed { trail.new.processed ≡ trail.old.processed }
-    ensures room { trail.new.room ≡ trail.old.room }
+    ensures grows { Grows trail.old trail.new }
 {
     for next in found {
         match handle_literal(trail, next.id, next.lit) {

@@ -3,7 +3,7 @@
 ghost use Rattle.std.specs.Prelude.{◌≡◌, ◌+◌, ◌≤◌, true, length, take, None, vec_capacity};
 ghost use Rattle.mal_base.specs.{Clauses.{rises}, NumberedClause.{lits_under}};
 ghost use Rattle.spec_node.specs.{Adding.{with_clause}, Batch.{after_batch}};
-ghost use Rattle.mal_trail.specs.Rooms.{IsRoomFor, IsLeft, are_within};
+ghost use Rattle.mal_trail.specs.{Rooms.{IsRoomFor, IsLeft, are_within}, Trailed.{Grows}};
 ghost use Rattle.mal_watch.specs.{Finding.{pending}, Fitting.{room_in, Fits}, FollowLaws.{follows-push, follows-cut, follows-less}};
 
 use crate::found::Found;
@@ -86,9 +86,7 @@ impl Watch {
         requires fits { Fits self.old trail.old.entries trail.old.processed }
         ensures progress { after_batch trail.old.processed trail.old.entries self.old.store.clauses
             ≡ record { trail = trail.new.entries; conflict = result } }
-        ensures longer { length trail.old.entries ≤ length trail.new.entries }
-        ensures processed { trail.new.processed ≡ trail.old.processed }
-        ensures trail_room { trail.new.room ≡ trail.old.room }
+        ensures grows { Grows trail.old trail.new }
         ensures store { self.new.store ≡ self.old.store }
         ensures lists { self.new.chains.lists ≡ self.old.chains.lists }
         ensures nodes { self.new.chains.room ≡ self.old.chains.room }

@@ -33,9 +33,9 @@ loop-place-preserved c =
           rw w.trail-is (record {
             progress = sym (after_all-in prefix c.loop-place.trail.entries c.args.store.now.clauses c.loop-place.place found c.at-id.ensures test ∙ ap (λ (p : Progress). after_all prefix p rest) handled) ∙ inv.progress;
             prefix = w.in-None.ensures.prefix c.args.count (omega (arith, c.requires.count, inv.longer)) ∙ inv.prefix;
-            longer = omega (arith, w.in-None.ensures.longer, inv.longer);
-            processed = w.in-None.ensures.processed ∙ inv.processed;
-            room = w.in-None.ensures.room ∙ inv.room;
+            longer = omega (arith, w.in-None.ensures.grows.longer, inv.longer);
+            processed = w.in-None.ensures.grows.processed ∙ inv.processed;
+            room = w.in-None.ensures.grows.room ∙ inv.room;
           })
       | else-is_in_batch w ↦
           let test : is_in_batch prefix found ≡ false = rw inv.prefix at (sym (c.is_in_batch.ensures c.at-id.result.0) ∙ w.if-is_in_batch.false) in

@@ -32,7 +32,7 @@ loop-place-preserved c =
     let test = short-in c.args.store.now.clauses c.loop-place.place found c.short_at-id.ensures in
     record {
       progress = sym (after_all-in [] c.loop-place.trail.entries short c.loop-place.place found c.short_at-id.ensures test ∙ ap (λ (p : Progress). after_all [] p rest) c.in-None.ensures.progress) ∙ inv.progress;
-      longer = omega (arith, c.in-None.ensures.longer, inv.longer);
-      processed = c.in-None.ensures.processed ∙ inv.processed;
-      room = c.in-None.ensures.room ∙ inv.room;
+      longer = omega (arith, c.in-None.ensures.grows.longer, inv.longer);
+      processed = c.in-None.ensures.grows.processed ∙ inv.processed;
+      room = c.in-None.ensures.grows.room ∙ inv.room;
     }
