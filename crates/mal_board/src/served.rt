@@ -2,7 +2,7 @@
 
 ghost use Rattle.std.specs.Prelude.{◌≡◌};
 
-use mal_hall::{Back, Desk, Hall, Pick, PickFault, Post, PostFault, Strange};
+use mal_hall::{Desk, FinishAnswer, Hall, PickAnswer, Post, PostFault};
 use mal_pool::{Board, InUse};
 use mal_service::{Pass, Service, Size};
 use mal_suspend::Done;
@@ -35,21 +35,11 @@ impl<S: Size + Send + Sync> Desk for Served<S> {
 
     ghost calls = { λ pass. calls_of (view pass) };
 
-    fn pick<R: Wait>(
-        &self,
-        rt: &R,
-        pass: Pass<S>,
-        worker: u32,
-    ) -> (Pass<S>, Result<Pick, PickFault>) {
+    fn pick<R: Wait>(&self, rt: &R, pass: Pass<S>, worker: u32) -> (Pass<S>, PickAnswer) {
         self.service.pick(rt, pass, worker)
     }
 
-    fn finish<R: Wait>(
-        &self,
-        rt: &R,
-        pass: Pass<S>,
-        back: Done,
-    ) -> (Pass<S>, Result<Back, Strange>) {
+    fn finish<R: Wait>(&self, rt: &R, pass: Pass<S>, back: Done) -> (Pass<S>, FinishAnswer) {
         self.service.give(rt, pass, back)
     }
 }

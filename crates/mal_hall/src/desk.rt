@@ -4,8 +4,8 @@ ghost use Rattle.std.specs.Prelude.{◌≡◌, ◌++◌, ◌∷◌, [], OnOk, On
 ghost use Rattle.mal_hall.specs.Desks.{HasPosted, event_of};
 
 use crate::hall::Hall;
-use crate::offer::{Back, Pick, Strange};
-use mal_base::{Ask, CloseFault, Name, OpenFault, PickFault, ReviseFault};
+use crate::offer::{FinishAnswer, PickAnswer};
+use mal_base::{Ask, CloseFault, Name, OpenFault, ReviseFault};
 use mal_revision::Revision;
 use mal_suspend::Done;
 use std::sync::Wait;
@@ -85,12 +85,7 @@ pub trait Desk: Sync {
     ghost calls: { Self.Pass → List DeskCall };
 
     /// Picks as a worker, 1 to the number of workers. A lease is the worker's own.
-    fn pick<R: Wait>(
-        &self,
-        rt: &R,
-        pass: Self::Pass,
-        worker: u32,
-    ) -> (Self::Pass, Result<Pick, PickFault>)
+    fn pick<R: Wait>(&self, rt: &R, pass: Self::Pass, worker: u32) -> (Self::Pass, PickAnswer)
         requires of { is_of self.now pass }
         requires low { 1 ≤ worker }
         requires high { worker ≤ workers self.now }
@@ -99,12 +94,7 @@ pub trait Desk: Sync {
         ensures own { IsOwn worker (offered result.1) };
 
     /// Gives back what came of a lease.
-    fn finish<R: Wait>(
-        &self,
-        rt: &R,
-        pass: Self::Pass,
-        back: Done,
-    ) -> (Self::Pass, Result<Back, Strange>)
+    fn finish<R: Wait>(&self, rt: &R, pass: Self::Pass, back: Done) -> (Self::Pass, FinishAnswer)
         requires of { is_of self.now pass }
         ensures of { is_of self.now result.0 }
         ensures calls { calls result.0 ≡ calls pass ++ Gave back (returned result.1) ∷ [] };

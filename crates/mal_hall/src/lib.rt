@@ -15,5 +15,5 @@ mod spots;
 pub use desk::{Desk, Post, PostFault};
 pub use hall::Hall;
 pub use mal_base::{ApplyFault, CloseFault, OpenFault, PickFault, ReplyFault, ReviseFault};
-pub use offer::{Back, Pick, Strange};
+pub use offer::{Back, FinishAnswer, Pick, PickAnswer, Strange};
 pub use size::Size;

@@ -1,5 +1,6 @@
 //! What a hall answers to a pick, and to what came of a lease.
 
+use mal_base::PickFault;
 use mal_suspend::{Done, Lease};
 
 /// What a worker gets: a lease, nothing now, or nothing any more.
@@ -20,3 +21,9 @@ pub struct Strange {
     pub kept: Option<u64>,
     pub back: Done,
 }
+
+/// The answer to a pick.
+pub type PickAnswer = Result<Pick, PickFault>;
+
+/// The answer to what came of a lease.
+pub type FinishAnswer = Result<Back, Strange>;

@@ -6,8 +6,7 @@ ghost use Rattle.mal_pool.specs.Traces.{traced};
 use crate::board::{Board, InUse};
 use crate::shared::HallBox;
 use crate::trace::Trace;
-use mal_base::PickFault;
-use mal_hall::{Back, Desk, Hall, Pick, Post, PostFault, Size, Strange};
+use mal_hall::{Desk, FinishAnswer, Hall, PickAnswer, Post, PostFault, Size};
 use mal_suspend::Done;
 use std::snapshot::Snapshot;
 use std::sync::{Mutex, Wait};
@@ -15,8 +14,8 @@ use std::sync::{Mutex, Wait};
 /// One call with its answer, as a pass tells it. It has no bytes but those of the worker's number.
 #[derive(Drop)]
 pub enum Noted {
-    Picked(u32, Snapshot<Result<Pick, PickFault>>),
-    Gave(Snapshot<Done>, Snapshot<Result<Back, Strange>>),
+    Picked(u32, Snapshot<PickAnswer>),
+    Gave(Snapshot<Done>, Snapshot<FinishAnswer>),
     Posted(Snapshot<Post>, Snapshot<Result<(), PostFault>>),
 }
 
@@ -62,24 +61,14 @@ impl<S: Size + Send + Sync> Desk for Shared<S> {
 
     ghost calls = { λ pass. map told_of (traced pass.log) };
 
-    fn pick<R: Wait>(
-        &self,
-        rt: &R,
-        pass: OwnCalls,
-        worker: u32,
-    ) -> (OwnCalls, Result<Pick, PickFault>) {
+    fn pick<R: Wait>(&self, rt: &R, pass: OwnCalls, worker: u32) -> (OwnCalls, PickAnswer) {
         let answer = self.kept.lock(rt).pick(worker);
         let noted = Noted::Picked(worker, Snapshot::of(&answer));
         let log = pass.log.and(noted);
         (OwnCalls { log }, answer)
     }
 
-    fn finish<R: Wait>(
-        &self,
-        rt: &R,
-        pass: OwnCalls,
-        back: Done,
-    ) -> (OwnCalls, Result<Back, Strange>) {
+    fn finish<R: Wait>(&self, rt: &R, pass: OwnCalls, back: Done) -> (OwnCalls, FinishAnswer) {
         let given = Snapshot::of(&back);
         let answer = self.kept.lock(rt).finish(back);
         let noted = Noted::Gave(given, Snapshot::of(&answer));

@@ -9,7 +9,7 @@ ghost use Rattle.spec_turn.specs.Rule.{Begins, IsWhole, child, joined, opener, s
 
 use crate::noted::NotedHall;
 use mal_base::Name;
-use mal_hall::{Back, Hall, Pick, PickFault, Post, PostFault, ReplyFault, Size, Strange};
+use mal_hall::{FinishAnswer, Hall, PickAnswer, Post, PostFault, ReplyFault, Size};
 use mal_suspend::Done;
 use mal_turn::{InUse, Seat, Turn};
 use std::alloc::{AllocError, Global};
@@ -78,12 +78,7 @@ impl<S: Size> Service<S> {
 
     /// Hands a node out to a worker, 1 to the number of workers, as `Hall::pick` does. One entry, with the worker and
     /// the hall's answer.
-    pub fn pick<R: Wait>(
-        &self,
-        rt: &R,
-        pass: Pass<S>,
-        worker: u32,
-    ) -> (Pass<S>, Result<Pick, PickFault>)
+    pub fn pick<R: Wait>(&self, rt: &R, pass: Pass<S>, worker: u32) -> (Pass<S>, PickAnswer)
         requires turn { IsOf self.now.turn pass }
         requires some { 1 ≤ worker }
         requires bound { worker ≤ S.workers }
@@ -97,12 +92,7 @@ impl<S: Size> Service<S> {
 
     /// Gives back what came of a lease, as `Hall::finish` does. One entry, with what came back and the hall's answer.
     /// Takes no memory.
-    pub fn give<R: Wait>(
-        &self,
-        rt: &R,
-        pass: Pass<S>,
-        back: Done,
-    ) -> (Pass<S>, Result<Back, Strange>)
+    pub fn give<R: Wait>(&self, rt: &R, pass: Pass<S>, back: Done) -> (Pass<S>, FinishAnswer)
         requires { IsOf self.now.turn pass }
         ensures turn { IsOf self.now.turn result.0 }
         ensures entry { Enters S.workers (view pass) (Gave back (returned result.1)) (view result.0) }

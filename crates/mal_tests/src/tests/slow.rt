@@ -5,8 +5,7 @@ ghost use Rattle.mal_pool.specs.Posts.{HasRun};
 
 use super::gates::check_replies;
 use super::scripts::{FOUR_REPLIES, FOUR_TENANTS};
-use mal_base::PickFault;
-use mal_hall::{Back, Desk, Hall, Pick, Post, PostFault, Strange};
+use mal_hall::{Desk, FinishAnswer, Hall, PickAnswer, Post, PostFault};
 use mal_pool::{Board, HallBox, InUse, OwnCalls, PlainGate, Shared, Size, run_with};
 use mal_script::Script;
 use mal_suspend::Done;
@@ -33,21 +32,11 @@ impl<B: Board> Desk for Slow<B> {
 
     ghost calls = { λ pass. B.calls pass };
 
-    fn pick<R: Wait>(
-        &self,
-        rt: &R,
-        pass: B::Pass,
-        worker: u32,
-    ) -> (B::Pass, Result<Pick, PickFault>) {
+    fn pick<R: Wait>(&self, rt: &R, pass: B::Pass, worker: u32) -> (B::Pass, PickAnswer) {
         self.board.pick(rt, pass, worker)
     }
 
-    fn finish<R: Wait>(
-        &self,
-        rt: &R,
-        pass: B::Pass,
-        back: Done,
-    ) -> (B::Pass, Result<Back, Strange>) {
+    fn finish<R: Wait>(&self, rt: &R, pass: B::Pass, back: Done) -> (B::Pass, FinishAnswer) {
         self.board.finish(rt, pass, back)
     }
 }
