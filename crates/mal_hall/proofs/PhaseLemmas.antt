@@ -402,12 +402,6 @@ zero-none x worker v hall same zero_is = ap (λ (n : ℕ). lease_of n (leases (e
 pub kept-none : (past : List Event) (worker : ℕ) → lease_of worker (leases past) ≡ None → None ≡ option_map (λ (l : LeaseOut). start_number l.worker past) (lease_of worker (leases past))
 kept-none past worker none = sym (ap (option_map (λ (l : LeaseOut). start_number l.worker past)) none)
 
--- a spot of these numbers
-pub spot-same : (s : Spot) (job index start : ℕ) → s.job ≡ job → s.index ≡ index → s.start ≡ start → ◌≡◌ {A = Spot} s (record { job = job; index = index; start = start })
-spot-same s job index start p q r =
-    ap (λ (n : ℕ). let t : Spot = record { job = n; index = s.index; start = s.start } in t) p
-    ∙ (ap (λ (n : ℕ). let t : Spot = record { job = job; index = n; start = s.start } in t) q ∙ ap (λ (n : ℕ). let t : Spot = record { job = job; index = index; start = n } in t) r)
-
 -- what a test says
 pub test-not : {P : Type 0} (b : Bool) → IsTrue b ↔ P → b ≡ false → P → ⊥
 test-not b e q p = both_ways b q (e.1 p)

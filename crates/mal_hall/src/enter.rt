@@ -110,35 +110,34 @@ pub fn enter_balance(
     Ok(())
 }
 
-/// Enters the start of this number of a node of the job at a place, by a worker, and leaves room for as many events as
-/// are owed.
+/// Enters the start of a node by a worker, as the lease at this spot, and leaves room for as many events as are owed.
 pub fn enter_start(
     history: &mut History,
     seats: &mut Seats,
-    at: usize,
-    index: u32,
+    spot: Spot,
     worker: u32,
-    start: u64,
     owed: usize,
 ) -> Result<Lease, AllocError>
-    requires place { at < length seats.old }
-    requires startable { OfSeat seats.old at (λ s. startable s.job.titled.state index ≡ true) }
+    requires place { spot.job < length seats.old }
+    requires startable { OfSeat seats.old spot.job (λ s. startable s.job.titled.state spot.index ≡ true) }
     requires owed { owed < 2 ^ 63 + 65 }
     ensures workers { history.new.workers ≡ history.old.workers }
     ensures events { OnOk result
-        (OfSeat seats.old at
+        (OfSeat seats.old spot.job
         (λ s. history.new.events
-        ≡ history.old.events ++ Event.Start s.job.titled.key.tenant s.job.titled.key.job index worker ∷ [])) }
+        ≡ history.old.events ++ Event.Start s.job.titled.key.tenant s.job.titled.key.job spot.index worker ∷ [])) }
     ensures seats { OnOk result
-        (IsChanged (λ s. record s { job = and_start s.job index start }) at seats.old seats.new) }
-    ensures lease { IfOk result (λ l. OfSeat seats.old at (λ s. IsLeaseOf s.job index start worker l)) }
+        (IsChanged (λ s. record s { job = and_start s.job spot.index spot.start }) spot.job seats.old seats.new) }
+    ensures lease { IfOk result
+        (λ l. OfSeat seats.old spot.job (λ s. IsLeaseOf s.job spot.index spot.start worker l)) }
     ensures room { OnOk result (owed ≤ history.new.room) }
     ensures err { OnErr result (HasWaited history.old history.new seats.old seats.new) }
 {
-    let seat = seats.at(at);
+    let seat = seats.at(spot.job());
     let (tenant, job) = (seat.job().tenant(), seat.job().name());
+    let index = spot.index();
     history.reserve(owed + 1)?;
-    let lease = seats.start(at, index, worker, start)?;
+    let lease = seats.start(spot.job(), index, worker, spot.start())?;
     history.push_reserved(Event::Start {
         tenant,
         job,

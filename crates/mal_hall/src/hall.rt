@@ -12,11 +12,11 @@ ghost use Rattle.spec_hall.specs.States as states_of;
 use crate::enter::{
     enter_balance, enter_exchange, enter_finish, enter_open, enter_revise, enter_start,
 };
-use crate::lodging::{let_done_go, let_lease_go, lists, none_lodged};
+use crate::lodging::{let_done_go, let_lease_go, lists};
 use crate::offer::{Back, Pick, Strange};
 use crate::room::{next_number, tenants_after};
-use crate::spots::{Spot, count_out, no_spots, owed, spot_of};
-use mal_base::{Ask, CloseFault, Name, OpenFault, Outcome, PickFault, ReplyFault, ReviseFault};
+use crate::spots::{Spot, count_out, no_leases, owed, spot_of};
+use mal_base::{Ask, CloseFault, Name, OpenFault, PickFault, ReplyFault, ReviseFault};
 use mal_history::{Event, History, Shares};
 use mal_job::Job;
 use mal_learn::Scratch;
@@ -75,11 +75,11 @@ impl Hall {
             history: History::new(alloc, workers),
             posted: Vec::new(alloc),
             seats: Seats::new(alloc),
-            spots: no_spots(alloc, workers)?,
+            spots: no_leases(alloc, workers)?,
             starts: 0,
             unclosed: 0,
             tenants: 0,
-            lodged: none_lodged(alloc, workers)?,
+            lodged: no_leases(alloc, workers)?,
         })
     }
 
@@ -373,21 +373,14 @@ impl Hall {
             return Err(AllocError);
         }
         let start = self.starts + 1;
+        let spot = Spot::new(at, index, start);
         let owed = owed(&self.seats, self.unclosed, &self.spots);
-        let lease = match enter_start(
-            &mut self.history,
-            &mut self.seats,
-            at,
-            index,
-            worker,
-            start,
-            owed + 1,
-        ) {
+        let lease = match enter_start(&mut self.history, &mut self.seats, spot, worker, owed + 1) {
             Ok(lease) => lease,
             Err(_) => return Err(AllocError),
         };
         self.starts = start;
-        self.spots[worker as usize - 1] = Some(Spot::new(at, index, start));
+        self.spots[worker as usize - 1] = Some(spot);
         Ok(lease)
     }
 

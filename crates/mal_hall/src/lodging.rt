@@ -1,6 +1,6 @@
 //! Leases that are kept inside a hall, and what comes of them.
 
-ghost use Rattle.std.specs.Prelude.{◌≡◌, ◌↔◌, IfOk, IsTrue, None, Some, replicate};
+ghost use Rattle.std.specs.Prelude.{◌≡◌, ◌↔◌, IfOk, IsTrue, None, Some};
 ghost use Rattle.mal_hall.specs.Applied.{IsBackOf, listed_in};
 ghost use Rattle.mal_base.specs.declared.verdict.Outcome.TheVariants.{Ran};
 ghost use Rattle.mal_history.specs.Shared.{shared};
@@ -10,20 +10,8 @@ use mal_base::Outcome;
 use mal_history::{Event, Share, Shares};
 use mal_learn::Scratch;
 use mal_suspend::{Done, Lease};
-use std::alloc::{AllocError, Global};
+use std::alloc::AllocError;
 use std::sync::Arc;
-
-/// Room for the leases of so many workers, without a lease.
-pub fn none_lodged(alloc: Global, workers: u32) -> Result<Vec<Option<Lease>>, AllocError>
-    ensures { IfOk result (λ v. v.items ≡ replicate workers None) }
-{
-    let mut lodged = Vec::new(alloc);
-    for worker in 0..workers {
-        let _ = worker;
-        lodged.push(None)?;
-    }
-    Ok(lodged)
-}
 
 /// What comes of a lease whose start ended so: one that ran is worked off, one that wanted for memory is given back as
 /// it was, and one that was lost is dropped. A slice that wants for memory now is refused.

@@ -1,7 +1,6 @@
 //! Where the leases are that are out.
 
 ghost use Rattle.std.specs.Prelude.{◌≡◌, ◌+◌, ◌-◌, ◌<◌, ◌≤◌, ◌^◌, get_or, length, replicate, IfOk, None};
-ghost use Rattle.spec_hall.specs.Spots as spec;
 ghost use Rattle.mal_hall.specs.HallView.{out_in};
 
 use mal_seats::Seats;
@@ -29,9 +28,7 @@ impl Model for Spot {
 impl Spot {
     /// The spot of the start of this number of a node.
     pub fn new(job: usize, index: u32, start: u64) -> Spot
-        ensures job { result.job ≡ job }
-        ensures index { result.index ≡ index }
-        ensures start { result.start ≡ start }
+        ensures { result ≡ record { job = job; index = index; start = start } }
     {
         Spot { job, index, start }
     }
@@ -58,16 +55,16 @@ impl Spot {
     }
 }
 
-/// The spots of so many workers without a lease.
-pub fn no_spots(alloc: Global, workers: u32) -> Result<Vec<Option<Spot>>, AllocError>
+/// Room for what is kept of the leases of so many workers, without a lease.
+pub fn no_leases<T: Drop>(alloc: Global, workers: u32) -> Result<Vec<Option<T>>, AllocError>
     ensures { IfOk result (λ v. v.items ≡ replicate workers None) }
 {
-    let mut spots = Vec::new(alloc);
+    let mut leases = Vec::new(alloc);
     for worker in 0..workers {
         let _ = worker;
-        spots.push(None)?;
+        leases.push(None)?;
     }
-    Ok(spots)
+    Ok(leases)
 }
 
 /// The spot of a worker, None where it has no lease or is no worker of the hall.

@@ -3,7 +3,7 @@ use Rattle.spec_hall.specs.Seats.{Seat}
 use Rattle.spec_hall.specs.Spots.{Spot}
 use Rattle.mal_hall.proofs.HallLemmas.{hall-waited}
 use Rattle.mal_hall.proofs.Parts.{parts}
-use Rattle.mal_hall.proofs.PhaseLemmas.{HasBegun, can-start, phase-start, seat-there, spot-same, within-key}
+use Rattle.mal_hall.proofs.PhaseLemmas.{HasBegun, can-start, phase-start, seat-there, within-key}
 use Rattle.mal_hall.proofs.RoomLemmas.{unclosed-few}
 use Rattle.mal_hall.proofs.hall.Hall.start_at.Goals as goal
 use Rattle.mal_hall.proofs.hall.Hall.start_at.Goals.{After-self-2-1}
@@ -14,12 +14,12 @@ owed-owed-requires-clause-few c = omega (arith, unclosed-few (parts c.self.insid
 pub enter_start-requires-clause-place : goal.enter_start-requires-clause-place
 enter_start-requires-clause-place c =
     let may = rw (← c.self.view_is) at c.requires in
-    omega (arith, within-key _ c.args.at may.key c.self.invariant may.place)
+    rw c.new-spot.ensures (omega (arith, within-key _ c.args.at may.key c.self.invariant may.place))
 
 pub enter_start-requires-clause-startable : goal.enter_start-requires-clause-startable
 enter_start-requires-clause-startable c =
     let may = rw (← c.self.view_is) at c.requires in
-    λ (s : Seat) there. (can-start (parts c.self.inside) c.args.at c.args.index c.args.worker s c.self.invariant may there).startable
+    rw c.new-spot.ensures (λ (s : Seat) there. (can-start (parts c.self.inside) c.args.at c.args.index c.args.worker s c.self.invariant may there).startable)
 
 pub returns-in-Err-clause-err : goal.returns-in-Err-clause-err
 returns-in-Err-clause-err c = rw (← c.self.view_is, c.in-Err.ensures.err.events) refl
@@ -28,15 +28,15 @@ pub invariant_of-self : goal.invariant_of-self
 invariant_of-self c = hall-waited (parts c.self.inside) c.enter_start.new.history c.enter_start.new.seats c.self.invariant c.in-Err.ensures.err
 
 -- the start was entered
-begun : (c : After-self-2-1) → HasBegun (parts c.self.inside) (record { history = c.enter_start.new.history; posted = c.self.inside.posted.items; seats = c.enter_start.new.seats; spots = slice_set c.self.inside.spots.items (c.args.worker - 1) (Some c.new.result); starts = c.self.inside.starts + 1; unclosed = c.self.inside.unclosed; tenants = c.self.inside.tenants }) c.args.index c.args.worker c.in-Ok.lease
+begun : (c : After-self-2-1) → HasBegun (parts c.self.inside) (record { history = c.enter_start.new.history; posted = c.self.inside.posted.items; seats = c.enter_start.new.seats; spots = slice_set c.self.inside.spots.items (c.args.worker - 1) (Some c.new-spot.result); starts = c.self.inside.starts + 1; unclosed = c.self.inside.unclosed; tenants = c.self.inside.tenants }) c.args.index c.args.worker c.in-Ok.lease
 begun c =
     let may = rw (← c.self.view_is) at c.requires in
     let there = seat-there c.self.inside.seats c.args.at (within-key (parts c.self.inside) c.args.at may.key c.self.invariant may.place) in
     let s : Seat = there.0 in
     let can = can-start (parts c.self.inside) c.args.at c.args.index c.args.worker s c.self.invariant may there.1 in
     let owing = rw c.deref.ensures.value at c.owed-owed.ensures.value in
-    let e = c.in-Ok.ensures in
-    let spots = ap (λ (sp : Spot). slice_set c.self.inside.spots.items (c.args.worker - 1) (Some sp)) (spot-same c.new.result c.args.at c.args.index (c.self.inside.starts + 1) c.new.ensures.job c.new.ensures.index c.new.ensures.start) in
+    let e = rw c.new-spot.ensures at c.in-Ok.ensures in
+    let spots = ap (λ (sp : Spot). slice_set c.self.inside.spots.items (c.args.worker - 1) (Some sp)) c.new-spot.ensures in
     phase-start (parts c.self.inside) _ c.args.at c.args.index c.args.worker (c.self.inside.starts + 1) s c.in-Ok.lease c.self.invariant can (e.lease s there.1) refl e.workers (e.events s there.1) refl (e.seats s there.1) spots refl refl refl (omega (arith, owing, e.room))
 
 pub invariant_of-self-2 : goal.invariant_of-self-2
