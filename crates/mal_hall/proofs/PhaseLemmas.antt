@@ -430,6 +430,9 @@ exchange-after w past now some legal has = subst (λ (h : List Event). lives (st
 pub exchange-left : (w : ℕ) (past now : List Event) → 1 ≤ w → Legal w past → HasExchanged w past now → left_in now < left_in past
 exchange-left w past now some legal has = subst (λ (h : List Event). left_in h < left_in past) (sym has.grown) (arranged-left w past (Exchange has.key) some legal refl has.allowed)
 
+-- how what is due is entered in one step
+pub ruleset arranging = (arranged-none, arranged-balance, arranged-exchange)
+
 -- one behind the other
 pub arranged-more : (v w : ℕ) (a b c : List Event) → v ≡ w → HasArranged w a b → HasArranged v b c → HasArranged w a c
 arranged-more v w a b c same one two =

@@ -305,6 +305,7 @@ impl Hall {
     }
 
     /// Enters a balancing if it is due. After want of memory nothing is entered.
+    #[tactic(auto, using(crate::proofs::PhaseLemmas::arranging))]
     fn balance_due(&mut self) -> Result<(), AllocError>
         ensures workers { self.new.workers ≡ self.old.workers }
         ensures due { HasArranged self.old.workers self.old.events self.new.events }
@@ -321,6 +322,7 @@ impl Hall {
     }
 
     /// Enters the first exchange that is due, where no balancing is. False where none was due.
+    #[tactic(auto, using(crate::proofs::PhaseLemmas::arranging))]
     fn exchange_due(&mut self) -> Result<bool, AllocError>
         requires calm { lives (states self.old.events) ≡ balanced self.old.events }
         ensures workers { self.new.workers ≡ self.old.workers }
