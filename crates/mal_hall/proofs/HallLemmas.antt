@@ -37,6 +37,7 @@ use Rattle.spec_hall.proofs.SpotLemmas.{numbered-push, starts-push, spots-stay, 
 use Rattle.spec_hall.proofs.VolumeLemmas.{revise-keeps}
 use Rattle.mal_seats.specs.Changed.{OfSeat}
 use Rattle.mal_hall.specs.Contents.{posted_by, posted_in, with_posted}
+use Rattle.mal_hall.specs.Replying.{AnswersRightly}
 use Rattle.mal_hall.specs.Turned.{HasWaited}
 use Rattle.mal_hall.proofs.Parts.{and_seats}
 use Rattle.mal_hall.specs.HallView.{Inside, IsHall, events_in, out_in, unclosed_in, next_number}
@@ -236,12 +237,10 @@ hall-found x k at s hall sits =
 
 -- what holds of a job that is found holds of its machine run alone on the job's own events, in whatever history has
 -- these
-pub found-alone : (x : Inside) (k : Key) (t : KeyedJob) (P : Key → SoloMachine → Type 0) → Found x k t → P t.key t.state → (other : List Event) → own k other ≡ own k (events_in x) → P k (solo (own k other))
-found-alone x k t P found holds other same =
-    let past : List Event = events_in x in
-    let is : titled past k ≡ t = find-titled past k (keys_of past) t found.job in
-    let state : t.state ≡ solo (own k other) = sym (ap (λ (u : KeyedJob). u.state) is) ∙ ap solo (sym same) in
-    subst (P k) state (subst (λ (j : Key). P j t.state) found.key holds)
+pub found-alone : (past : List Event) (k : Key) (t : KeyedJob) (P : SoloMachine → Type 0) → job_of k (states past) ≡ Some t → P t.state → (other : List Event) → own k other ≡ own k past → P (solo (own k other))
+found-alone past k t P found holds other same =
+    let is : titled past k ≡ t = find-titled past k (keys_of past) t found in
+    subst P (sym (ap (λ (u : KeyedJob). u.state) is) ∙ ap solo (sym same)) holds
 
 pub hall-absent : (x : Inside) (k : Key) → IsHall x → place_of k x.seats ≡ None → job_of k (states (events_in x)) ≡ None
 hall-absent x k hall place = seated-absent x.history.workers (events_in x) x.seats k (hall-seated x hall) place
@@ -334,25 +333,28 @@ hall-exchange x y at s hall may sits workers events posted seats spots starts un
     own-grown x y at s e Exchanged hall sits workers events (none-posted x y posted) seats spots starts tenants seated (leases-push past e) (λ v. ap (λ n. n.last) (numbered-push v past e)) (starts-push past e) (unclosed ∙ (hall.unclosed_is ∙ unclosed-same x.seats at s now sits refl)) (omega (arith, room, unclosed))
 
 -- the answers of a job of a hall carry models
-pub hall-solves : (x : Inside) → IsHall x → (k : Key) (t : KeyedJob) → job_of k (states (events_in x)) ≡ Some t → AnswersSolve t.state
+hall-solves : (x : Inside) → IsHall x → (k : Key) (t : KeyedJob) → job_of k (states (events_in x)) ≡ Some t → AnswersSolve t.state
 hall-solves x hall k t found =
     let past : List Event = events_in x in
     let same : titled past k ≡ t = find-titled past k (keys_of past) t found in
     subst (λ (u : KeyedJob). AnswersSolve u.state) same (legal-answers_solve x.history.workers past (hall-seated x hall).legal k)
 
 -- and proofs
-pub hall-refutes : (x : Inside) → IsHall x → (k : Key) (t : KeyedJob) → job_of k (states (events_in x)) ≡ Some t → AnswersRefute t.state
+hall-refutes : (x : Inside) → IsHall x → (k : Key) (t : KeyedJob) → job_of k (states (events_in x)) ≡ Some t → AnswersRefute t.state
 hall-refutes x hall k t found =
     let past : List Event = events_in x in
     let same : titled past k ≡ t = find-titled past k (keys_of past) t found in
     subst (λ (u : KeyedJob). AnswersRefute u.state) same (legal-answers_refute x.history.workers past (hall-seated x hall).legal k)
 
 -- and its clauses are its own
-pub hall-owns : (x : Inside) → IsHall x → (k : Key) (t : KeyedJob) → job_of k (states (events_in x)) ≡ Some t → ClausesAreOwn t.state
+hall-owns : (x : Inside) → IsHall x → (k : Key) (t : KeyedJob) → job_of k (states (events_in x)) ≡ Some t → ClausesAreOwn t.state
 hall-owns x hall k t found =
     let past : List Event = events_in x in
     let same : titled past k ≡ t = find-titled past k (keys_of past) t found in
     subst (λ (u : KeyedJob). ClausesAreOwn u.state) same (legal-clauses_own x.history.workers past (hall-seated x hall).legal k)
+
+pub hall-right : (x : Inside) → IsHall x → (k : Key) → AnswersRightly k (events_in x)
+hall-right x hall k = record { models = hall-solves x hall k; proofs = hall-refutes x hall k; own_clauses = hall-owns x hall k }
 
 -- a call that enters nothing
 pub called-none : (w : ℕ) (past : List Event) (c : Call) (answer : AnswerTo c) → IsCall w past c answer [] → HasCalled w past c answer past

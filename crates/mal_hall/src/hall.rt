@@ -1,9 +1,9 @@
 //! The hall and its calls.
 
-ghost use Rattle.std.specs.Prelude.{◌≡◌, ◌↔◌, ◌+◌, ◌-◌, ◌<◌, ◌≤◌, IsTrue, length, get_or, slice_get, slice_set, [], ◌∷◌, ◌++◌, true, false, Some, None, MatchOption, IsErrOf, map, option_map, is_some, OnOk, OnErr, IfOk, IfErr};
+ghost use Rattle.std.specs.Prelude.{◌≡◌, ◌↔◌, ◌+◌, ◌-◌, ◌<◌, ◌≤◌, IsTrue, length, get_or, slice_get, slice_set, [], ◌∷◌, ◌++◌, true, false, Some, None, MatchOption, IsErrOf, map, option_map, is_some, OnOk, OnErr, IfOk, IfErr, IfSome};
 ghost use Rattle.std.specs.Option.{option_copied};
 ghost use Rattle.mal_base.specs.{Asks.{IsAsk}, Names.{is_name}};
-ghost use Rattle.mal_hall.specs.{Applied.{IsInside, listed_last}, Offered.{HasArranged, HasBalanced, HasEnded, HasExchanged, HasStarted, IsFirst, MayEnd, MayStartAt, handed_of, offered, replied, returned}, HallView.{next_number}, Driven.{HasWorkedOff, IsTurn}, Replying.{HasJob, OfAlone, OfJob}};
+ghost use Rattle.mal_hall.specs.{Applied.{IsInside, listed_last}, Offered.{HasArranged, HasBalanced, HasEnded, HasExchanged, HasStarted, IsFirst, MayEnd, MayStartAt, handed_of, offered, replied, returned}, HallView.{next_number}, Driven.{HasWorkedOff, IsTurn}, Replying.{AnswersRightly, HasJob, OfAlone, OfJob}};
 ghost use Rattle.mal_job.specs.{Among.{among}, Finishing.{outcome_of}, Replying.{TellsReply}};
 ghost use Rattle.spec_hall.specs.{Calls.{HasCalled, IsOfLease, Opens, Revises, Closes, Picks, Finishes, Recalls, Asks, is_over}, Dressed.{keyed, revisions_of}, Driven.{GrowsByTurns, IsAtEnd, IsCalm}, Events.{Open, Revise, Close, bare}, Leases.{start_number}, States.{LeaseOut, keys_of, states, lives, leases, lease_of, balanced, exchange_due}, Legal.{IsBalanceDue, Legal, job_of}, Measure.{left_in}};
 ghost use Rattle.spec_job.specs.{Models.{AnswersSolve}, Proofs.{AnswersRefute}, Provenance.{ClausesAreOwn}, KeyedJob.{KeyedJob}};
@@ -199,10 +199,10 @@ impl Hall {
         ensures call { HasCalled self.now.workers self.now.events (Asks (keyed tenant.now job.now) r)
             (replied result) self.now.events }
     {
-        let Some(at) = self.seats.place_of(*tenant, *job) else {
+        let Some(job) = self.job_named(tenant, job) else {
             return Err(ReplyFault::NoJob);
         };
-        match self.seats.at(at).job().reply(r) {
+        match job.reply(r) {
             Ok(text) => Ok(text),
             Err(_) => Err(ReplyFault::OutOfMemory),
         }
@@ -227,10 +227,12 @@ impl Hall {
         }
     }
 
-    /// The job of this key: None exactly where it is not there.
+    /// The job of this key: None exactly where it is not there. Its answers are right, and its clauses its own.
     fn job_named(&self, tenant: &Name, job: &Name) -> Option<&Job>
-        ensures { MatchOption result (job_of (keyed tenant.now job.now) (states self.now.events) ≡ None)
+        ensures found { MatchOption result (job_of (keyed tenant.now job.now) (states self.now.events) ≡ None)
             (λ j. job_of (keyed tenant.now job.now) (states self.now.events) ≡ Some j.now.titled) }
+        ensures key { IfSome result (λ j. j.now.titled.key ≡ keyed tenant.now job.now) }
+        ensures right { AnswersRightly (keyed tenant.now job.now) self.now.events }
     {
         let Some(at) = self.seats.place_of(*tenant, *job) else {
             return None;
