@@ -15,4 +15,5 @@ mod revision;
 mod script;
 mod seq;
 mod text;
+mod told;
 mod values;

@@ -1,4 +1,4 @@
-//! Histories that are read and written again, and the events of one job.
+//! The lines of events, and the events of one job.
 
 use mal_base::Name;
 use mal_history::{History, own, read, write};
@@ -11,27 +11,6 @@ fn history_of(alloc: Global, text: &[u8]) -> Result<History, Fail> {
         Err(_) => Err("no history".into()),
         Ok(history) => Ok(history),
     }
-}
-
-/// Texts, and what their histories are written as.
-const READ: [(&[u8], &[u8]); 2] = [
-    (
-        b"h mal 1 2\n\no a p 1 1 4\r\nr a p 01\nc a p\nb a p 2\ns  a p 0 2\nf a p 0 2 lost\nx a p",
-        b"h mal 1 2\no a p 1 1 4\nr a p 1\nc a p\nb a p 2\ns a p 0 2\nf a p 0 2 lost\nx a p\n",
-    ),
-    (
-        b"h mal 1 2\nb a p 1 a q 1 b p 0 b q 0\nb a q 1 b p 1 b q 0\nc a p\nb b p 1 c p 1 b q 0\nb\nb b p 1\n",
-        b"h mal 1 2\nb a p 1 a q 1 b p 0 b q 0\nb a q 1 b p 1 b q 0\nc a p\nb b p 1 c p 1 b q 0\nb\nb b p 1\n",
-    ),
-];
-
-#[test]
-fn histories_are_read_and_written_again(rt: HostRuntime) -> Result<(), Fail> {
-    for (text, known) in READ {
-        let history = history_of(rt.alloc(), text)?;
-        assert!(rt; write(rt.alloc(), &history)?.as_slice() == known);
-    }
-    Ok(())
 }
 
 /// The lines of the first two events.

@@ -18,24 +18,26 @@ fn long_history(alloc: Global) -> Result<History, Fail> {
     Ok(history)
 }
 
-#[test]
-fn a_long_history_is_written_in_pieces(rt: HostRuntime) -> Result<(), Fail> {
-    let alloc = rt.alloc();
-    let history = long_history(alloc)?;
-    let text = write(alloc, &history)?;
-    let mut sink = MemSink::new(alloc, 40_000, 40_000, &[4])?;
-    assert_eq!(rt; mal_log::write(&mut sink, &history).is_ok(), true);
-    assert_eq!(rt; sink.bytes(), text.as_slice());
-    Ok(())
+/// A sink whose calls of these numbers fail, with what it took of a history, and whether it took it all.
+fn sunk<'a>(
+    alloc: Global,
+    history: &History,
+    failing: &'a [u64],
+) -> Result<(MemSink<'a>, bool), Fail> {
+    let mut sink = MemSink::new(alloc, 40_000, 40_000, failing)?;
+    let is_whole = mal_log::write(&mut sink, history).is_ok();
+    Ok((sink, is_whole))
 }
 
 #[test]
-fn a_fault_leaves_the_pieces_before_it(rt: HostRuntime) -> Result<(), Fail> {
-    let alloc = rt.alloc();
-    let history = long_history(alloc)?;
-    let text = write(alloc, &history)?;
-    let mut sink = MemSink::new(alloc, 40_000, 40_000, &[2])?;
-    assert_eq!(rt; mal_log::write(&mut sink, &history).is_err(), true);
+fn a_long_history_is_written_in_pieces(rt: HostRuntime) -> Result<(), Fail> {
+    let history = long_history(rt.alloc())?;
+    let text = write(rt.alloc(), &history)?;
+    let (sink, is_whole) = sunk(rt.alloc(), &history, &[4])?;
+    assert_eq!(rt; is_whole, true);
+    assert_eq!(rt; sink.bytes(), text.as_slice());
+    let (sink, is_whole) = sunk(rt.alloc(), &history, &[2])?;
+    assert_eq!(rt; is_whole, false);
     let front = sink.bytes();
     assert_eq!(rt; 16_300 < front.len() && front.len() <= 16_384, true);
     assert_eq!(rt; text.as_slice().starts_with(front), true);

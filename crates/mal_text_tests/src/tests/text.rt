@@ -39,26 +39,31 @@ fn a_line_with_tabs_is_cut_into_words(rt: HostRuntime) -> Result<(), Fail> {
     Ok(())
 }
 
-#[test]
-fn the_last_line_needs_no_line_end(rt: HostRuntime) -> Result<(), Fail> {
-    let mut rest = b"a b\nc".as_slice();
-    for known in [b"a b".as_slice(), b"c".as_slice()] {
-        let (line, behind) = first_line(rest).ok_or("no line")?;
-        assert_eq!(rt; line, known);
-        rest = behind;
+/// The first line of a text and what is behind it, or its first word.
+fn first(is_line: bool, text: &[u8]) -> Option<(&[u8], &[u8])> {
+    if is_line {
+        first_line(text)
+    } else {
+        first_word(text)
     }
-    assert!(rt; first_line(rest).is_none());
-    Ok(())
 }
 
+/// Texts that are cut into lines, the last of which has no end, and into words.
+const CUTS: [(bool, &[u8], [&[u8]; 2]); 2] = [
+    (true, b"a b\nc", [b"a b", b"c"]),
+    (false, b" 1\t-2\r", [b"1", b"-2"]),
+];
+
 #[test]
-fn words_are_cut_one_by_one(rt: HostRuntime) -> Result<(), Fail> {
-    let mut rest = b" 1\t-2\r".as_slice();
-    for known in [b"1".as_slice(), b"-2".as_slice()] {
-        let (word, behind) = first_word(rest).ok_or("no word")?;
-        assert_eq!(rt; word, known);
-        rest = behind;
+fn lines_and_words_are_cut_one_by_one(rt: HostRuntime) -> Result<(), Fail> {
+    for (is_line, text, pieces) in CUTS {
+        let mut rest = text;
+        for known in pieces {
+            let (piece, behind) = first(is_line, rest).ok_or("too few")?;
+            assert_eq!(rt; piece, known);
+            rest = behind;
+        }
+        assert!(rt; first(is_line, rest).is_none());
     }
-    assert!(rt; first_word(rest).is_none());
     Ok(())
 }

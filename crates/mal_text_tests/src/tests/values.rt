@@ -11,11 +11,7 @@ pub fn lit(number: i32) -> Result<Lit, Fail> {
 
 /// The literals that DIMACS CNF writes as these numbers.
 pub fn lits(alloc: Global, numbers: &[i32]) -> Result<Vec<Lit>, Fail> {
-    let mut lits = Vec::new(alloc);
-    for number in numbers {
-        lits.push(lit(*number)?)?;
-    }
-    Ok(lits)
+    numbers.iter().map(|n| lit(*n)).try_collect(alloc)
 }
 
 /// The clause of these literals. None for a tautology.
@@ -26,11 +22,7 @@ pub fn clause(alloc: Global, numbers: &[i32]) -> Result<Option<Clause>, Fail> {
 
 /// These clauses.
 pub fn clauses(alloc: Global, rows: &[&[i32]]) -> Result<Vec<Option<Clause>>, Fail> {
-    let mut clauses = Vec::new(alloc);
-    for numbers in rows {
-        clauses.push(clause(alloc, numbers)?)?;
-    }
-    Ok(clauses)
+    rows.iter().map(|row| clause(alloc, row)).try_collect(alloc)
 }
 
 /// The number of a clause.
@@ -40,11 +32,7 @@ pub fn id(number: u64) -> Result<ClauseId, Fail> {
 
 /// The clauses of these numbers.
 pub fn ids(alloc: Global, numbers: &[u64]) -> Result<Vec<ClauseId>, Fail> {
-    let mut ids = Vec::new(alloc);
-    for number in numbers {
-        ids.push(id(*number)?)?;
-    }
-    Ok(ids)
+    numbers.iter().map(|n| id(*n)).try_collect(alloc)
 }
 
 /// Lines by their numbers, literals and hints.
