@@ -90,34 +90,30 @@ fn an_original_clause_is_held(rt: HostRuntime) -> Result<(), Fail> {
     Ok(())
 }
 
-#[test]
-fn numbers_far_apart_are_held(rt: HostRuntime) -> Result<(), Fail> {
-    let id = id(5_000_000_000)?;
-    let known = [None, None, Some(CheckFault::IdUsed { id }), None];
-    let lines: &[&[u8]] = &[
-        b"5000000000 1 0 1 2 0",
-        b"70 -1 0 3 4 0",
-        b"5000000000 2 0 1 2 0",
-        b"75 0 5000000000 70 0",
-    ];
-    assert!(rt; four_answer(rt.alloc(), lines, &known)? == (true, true));
-    Ok(())
+/// What a checker of the four clauses answers to two clauses whose numbers are far apart, which it takes, and to two
+/// lines behind them.
+fn far_apart_answer(
+    alloc: Global,
+    lines: [&[u8]; 2],
+    known: [Option<CheckFault>; 2],
+) -> Result<(bool, bool), Fail> {
+    let [third, fourth] = lines;
+    let [told, last] = known;
+    let lines: [&[u8]; 4] = [b"5000000000 1 0 1 2 0", b"70 -1 0 3 4 0", third, fourth];
+    four_answer(alloc, &lines, &[None, None, told, last])
 }
 
 #[test]
-fn numbers_far_apart_are_deleted(rt: HostRuntime) -> Result<(), Fail> {
-    let known = [
-        None,
-        None,
-        None,
-        Some(CheckFault::UnknownHint { id: id(70)? }),
-    ];
-    let lines: &[&[u8]] = &[
-        b"5000000000 1 0 1 2 0",
-        b"70 -1 0 3 4 0",
-        b"1 d 5000000000 70 0",
-        b"76 0 70 0",
-    ];
-    assert!(rt; four_answer(rt.alloc(), lines, &known)? == (true, false));
+fn numbers_far_apart_are_held_and_deleted(rt: HostRuntime) -> Result<(), Fail> {
+    let id_used = CheckFault::IdUsed {
+        id: id(5_000_000_000)?,
+    };
+    let lines: [&[u8]; 2] = [b"5000000000 2 0 1 2 0", b"75 0 5000000000 70 0"];
+    let held = far_apart_answer(rt.alloc(), lines, [Some(id_used), None])?;
+    assert!(rt; held == (true, true));
+    let unknown = CheckFault::UnknownHint { id: id(70)? };
+    let lines: [&[u8]; 2] = [b"1 d 5000000000 70 0", b"76 0 70 0"];
+    let deleted = far_apart_answer(rt.alloc(), lines, [None, Some(unknown)])?;
+    assert!(rt; deleted == (true, false));
     Ok(())
 }

@@ -11,11 +11,7 @@ pub fn lit(number: i32) -> Result<Lit, Fail> {
 
 /// The literals that DIMACS CNF writes as these numbers.
 pub fn lits(alloc: Global, numbers: &[i32]) -> Result<Vec<Lit>, Fail> {
-    let mut lits = Vec::new(alloc);
-    for number in numbers {
-        lits.push(lit(*number)?)?;
-    }
-    Ok(lits)
+    numbers.iter().map(|n| lit(*n)).try_collect(alloc)
 }
 
 /// The number of a clause.

@@ -1,7 +1,7 @@
 //! An engine beside a trail that it propagates on.
 
-ghost use Rattle.std.specs.Prelude.{◌≡◌};
-ghost use Rattle.mal_base.specs.Formulas.{is_within};
+ghost use Rattle.std.specs.Prelude.{◌≡◌, true, None, OnOk};
+ghost use Rattle.mal_base.specs.{Formulas.{is_within}, NumberedClause.{lits_under}};
 
 use mal_base::{Clause, ClauseId, Lit, TrailEntry, Var};
 use mal_trail::{Engine, Trail};
@@ -39,28 +39,15 @@ impl<E: Engine> Run<E> {
 
     /// Adds a clause of the variables 1 to 16 under a number that is not held.
     pub fn add(&mut self, id: ClauseId, clause: &Clause) -> Result<(), Fail> {
-        if !are_few(clause.lits()) {
-            return Err("a variable above 16".into());
-        }
-        match self.engine.get(id) {
-            Some(_) => return Err("a number twice".into()),
-            None => {}
-        }
-        let literals = clause.lits().len();
-        self.engine.reserve(16, 1, literals)?;
+        check_new(&self.engine, id, clause)?;
+        self.engine.reserve(16, 1, clause.lits().len())?;
         self.engine.load(id, clause, &self.trail);
         Ok(())
     }
 
     /// Adds a clause of the variables 1 to 16 as one that was derived, under a number that is not held.
     pub fn learn(&mut self, id: ClauseId, clause: &Clause) -> Result<(), Fail> {
-        if !are_few(clause.lits()) {
-            return Err("a variable above 16".into());
-        }
-        match self.engine.get(id) {
-            Some(_) => return Err("a number twice".into()),
-            None => {}
-        }
+        check_new(&self.engine, id, clause)?;
         let lits = clause.lits();
         self.engine.reserve(16, 1, lits.len())?;
         self.engine.learn(id, lits, &self.trail);
@@ -114,6 +101,20 @@ impl<E: Engine> Run<E> {
     /// The entries of the trail.
     pub fn entries(&self) -> &[TrailEntry] {
         self.trail.entries()
+    }
+}
+
+/// A clause is of the variables 1 to 16, and its number is not held.
+fn check_new<E: Engine>(engine: &E, id: ClauseId, clause: &Clause) -> Result<(), Fail>
+    ensures few { OnOk result (is_within 16 clause.now ≡ true) }
+    ensures new { OnOk result (lits_under id (E.clauses engine.now) ≡ None) }
+{
+    if !are_few(clause.lits()) {
+        return Err("a variable above 16".into());
+    }
+    match engine.get(id) {
+        Some(_) => Err("a number twice".into()),
+        None => Ok(()),
     }
 }
 

@@ -1,4 +1,4 @@
-use Rattle.std.proofs.Common.{◌≡◌, true, sym, ◌∙◌}
+use Rattle.std.proofs.Common.{◌≡◌, true}
 use Rattle.mal_base.specs.Formulas.{is_within}
 use Rattle.mal_solver_tests.proofs.RoomLemmas.{within-more, within-with}
 use Rattle.mal_solver_tests.proofs.tests.watch.run.Run.learn.Goals as goal
@@ -6,8 +6,7 @@ use Rattle.mal_solver_tests.proofs.tests.watch.run.Run.learn.Goals as goal
 pub learn-requires-clause-room : goal.learn-requires-clause-room
 learn-requires-clause-room g c =
     let room = c.in_ok-reserve.ensures.room in
-    let few : is_within 16 c.args.clause.now ≡ true = rw c.lits.ensures.value at (sym c.are_few.ensures ∙ c.if-not-are_few.false) in
-    let same : is_within 16 c.lits-lits.result.now ≡ true = rw c.lits-lits.ensures.value few in
+    let same : is_within 16 c.lits-lits.result.now ≡ true = rw c.lits-lits.ensures.value c.in_ok-check_new.ensures.few in
     record {
       within = within-more 16 _ c.lits-lits.result.now room.variables same;
       clauses = room.clauses;
@@ -17,7 +16,6 @@ learn-requires-clause-room g c =
 pub invariant_of-self-2 : goal.invariant_of-self-2
 invariant_of-self-2 g c =
     let n = c.self.inside in
-    let few : is_within 16 c.args.clause.now ≡ true = rw c.lits.ensures.value at (sym c.are_few.ensures ∙ c.if-not-are_few.false) in
-    let same : is_within 16 c.lits-lits.result.now ≡ true = rw c.lits-lits.ensures.value few in
+    let same : is_within 16 c.lits-lits.result.now ≡ true = rw c.lits-lits.ensures.value c.in_ok-check_new.ensures.few in
     let within = within-with n.trail.room (record { id = c.args.id; lits = c.lits-lits.result.now }) (g.E.ClauseView.clauses n.engine) (within-more 16 n.trail.room c.lits-lits.result.now c.self.invariant.0 same) c.self.invariant.1 in
     (c.self.invariant.0, rw (c.learn.ensures.clauses, c.reserve.ensures.clauses) within, c.learn.ensures.fits)
