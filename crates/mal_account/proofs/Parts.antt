@@ -6,6 +6,7 @@ use Rattle.std.proofs.lemmas.List.{map-append}
 use Rattle.std.proofs.lemmas.List.Folds.{list_any-append}
 use Rattle.std.proofs.lemmas.Bool.{or_from}
 use Rattle.spec_text.specs.Inputs.{lines_of, words_of}
+use Rattle.spec_text.specs.Faults.{Fails}
 use Rattle.spec_dimacs.specs.Rows.{rows_of}
 use Rattle.mal_base.specs.declared.line_fault.LineFault.{LineFault}
 use Rattle.spec_script.specs.Limits.{served}
@@ -31,7 +32,7 @@ use Rattle.spec_account.proofs.ReadLemmas.{spelled-is-read}
 use Rattle.spec_account.proofs.AgainLemmas.{written-is-read}
 use Rattle.mal_account.specs.declared.account.Account.{Account}
 use Rattle.mal_account.specs.declared.fault.AccountFault.{AccountFault}
-use Rattle.mal_account.specs.ReadResult.{seen, in_script, in_history, fault_of, Fails, Gives}
+use Rattle.mal_account.specs.ReadResult.{seen, in_script, in_history, fault_of, Gives}
 
 -- a fault of the script's text, and of the history's, is one of the whole text
 pub script_fails : {Y : Type 0} (fault : ScriptFault) (read : Result Y (ℕ × LineFault)) → script_given.FailsAt fault read → Fails (in_script fault) (account.in_script read)

@@ -1,7 +1,8 @@
 -- What the answers of reading accounts say.
-use Rattle.std.specs.Prelude.{◌≡◌, ℕ, true, false, List, Option, Some, None, Result, Ok, Err}
+use Rattle.std.specs.Prelude.{◌≡◌, ℕ, true, false, List, Option, Some, None, Result}
 use Rattle.std.specs.Borrow.{Bor}
 use Rattle.std.specs.List.{list_any}
+use Rattle.spec_text.specs.Faults.{GivesBy}
 use Rattle.spec_dimacs.specs.Rows.{rows_of}
 use Rattle.mal_base.specs.declared.line_fault.LineFault.TheVariants as line
 use Rattle.mal_script.specs.declared.fault.ScriptFault.{ScriptFault}
@@ -12,7 +13,6 @@ use Rattle.mal_history.specs.declared.fault.HistoryFault.{HistoryFault}
 use Rattle.mal_history.specs.declared.fault.HistoryFault.TheVariants as history
 use Rattle.spec_account.specs.Accounts as account
 use Rattle.spec_account.specs.Accounts.Fault.{NoHistory, InScript, InHistory}
-use Rattle.spec_account.specs.FaultLines.{fault_line}
 use Rattle.mal_account.specs.declared.account.Account.{Account}
 use Rattle.mal_account.specs.declared.fault.AccountFault.{AccountFault}
 use Rattle.mal_account.specs.declared.fault.AccountFault.TheVariants as answer
@@ -45,20 +45,9 @@ fault_of (answer.Script fault) = in_script fault
 fault_of (answer.History fault) = in_history fault
 fault_of answer.OutOfMemory = None
 
--- reading gives this fault, of which want of memory claims nothing
-abbrev pub Fails : {Y : Type 0} → Option account.Fault → Result Y account.Fault → Type 0
-Fails None read = Unit {0}
-Fails (Some fault) read = read ≡ Err fault
-
 -- what was answered, seen by view, is what reading gives, unless memory ran out
 abbrev pub Gives : {X Y : Type 0} → (X → Y) → Result X AccountFault → Result Y account.Fault → Type 0
-Gives view (Ok x) read = read ≡ Ok (view x)
-Gives view (Err e) read = Fails (fault_of e) read
-
--- the text is the line that tells the fault
-abbrev pub Tells : Option account.Fault → List ℕ → Type 0
-Tells None text = ⊥
-Tells (Some fault) text = text ≡ fault_line fault
+Gives view answer read = GivesBy fault_of view answer read
 
 -- two texts are those before and behind the first line `history` among the lines of a text; none where no line is that
 -- word

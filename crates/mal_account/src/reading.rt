@@ -1,7 +1,6 @@
 //! Reading accounts.
 
 ghost use Rattle.std.specs.Prelude.{◌≡◌, ℕ, List, ◌++◌, false, None, codes, IfOk, MatchResult};
-ghost use Rattle.spec_text.specs.Inputs.{words_of};
 ghost use Rattle.spec_dimacs.specs.Rows.{rows_of};
 ghost use Rattle.spec_script.specs.{Limits.{served}, Formed.{IsScript}, Script.{Scripted, spelling}};
 ghost use Rattle.spec_script.specs.Reading as script;
@@ -9,14 +8,14 @@ ghost use Rattle.mal_history.specs.{declared.event.Event.{Event}, Formed.{IsHist
 ghost use Rattle.mal_history.specs.ReadResult as history_given;
 ghost use Rattle.mal_history.specs.Reading as history;
 ghost use Rattle.spec_account.specs.Accounts as spelled;
-ghost use Rattle.spec_account.specs.{Accounts.{in_history, in_script, is_history_line, read_text}, Grammar.{Spells}};
+ghost use Rattle.spec_account.specs.{Accounts.{in_history, in_script, read_text}, Grammar.{Spells}};
 ghost use Rattle.mal_account.specs.ReadResult.{Gives, IsCut, fault_of, seen};
 
 use crate::account::Account;
 use crate::fault::AccountFault;
 use mal_history::{History, HistoryFault};
 use mal_script::{Script, ScriptFault};
-use mal_text::{first_line, first_word};
+use mal_text::{first_line, is_word_line};
 use std::alloc::Global;
 
 /// The account that a text spells: the lines before the first line of the one word `history` are a script, those behind
@@ -60,26 +59,13 @@ fn cut(text: &[u8]) -> Option<(&[u8], &[u8])>
     let mut rest = text;
     let mut start = 0;
     while let Some((row, behind)) = first_line(rest) {
-        if is_history_line(row) {
+        if is_word_line(row, b"history") {
             return Some((&text[..start], behind));
         }
         start += row.len() + 1;
         rest = behind;
     }
     None
-}
-
-/// Whether a line is the one word `history`.
-fn is_history_line(line: &[u8]) -> bool
-    ensures { result ≡ is_history_line (words_of line.now) }
-{
-    match first_word(line) {
-        None => false,
-        Some((first, rest)) => match first_word(rest) {
-            None => first == b"history".as_slice(),
-            Some(_) => false,
-        },
-    }
 }
 
 /// The script of the text before the line `history`.

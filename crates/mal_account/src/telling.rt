@@ -1,9 +1,9 @@
 //! The lines that tell why a text is no account.
 
 ghost use Rattle.std.specs.Prelude.{◌≡◌, [], ◌∷◌, None, codes, IfOk, MatchOption};
-ghost use Rattle.mal_account.specs.ReadResult.{Tells, fault_of, in_history, in_script};
-ghost use Rattle.spec_text.specs.Lines.{line_of};
-ghost use Rattle.spec_account.specs.FaultLines.{history_line};
+ghost use Rattle.mal_account.specs.ReadResult.{fault_of, in_history, in_script};
+ghost use Rattle.spec_text.specs.{Faults.{TellsBy}, Lines.{line_of}};
+ghost use Rattle.spec_account.specs.FaultLines.{fault_line, history_line};
 
 use crate::fault::AccountFault;
 use itoa::Buffer;
@@ -15,7 +15,8 @@ use std::alloc::{AllocError, Global};
 /// The line that tells a fault of a text, as `fault: no history`, `fault: script line 3 Range` or
 /// `fault: history line 1 BadNumber`, with its line end. None exactly for want of memory.
 pub fn fault_line(alloc: Global, fault: AccountFault) -> Result<Option<Vec<u8>>, AllocError>
-    ensures { IfOk result (λ o. MatchOption o (fault_of fault ≡ None) (λ text. Tells (fault_of fault) text.items)) }
+    ensures { IfOk result
+        (λ o. MatchOption o (fault_of fault ≡ None) (λ text. TellsBy fault_line (fault_of fault) text.items)) }
 {
     match fault {
         AccountFault::NoHistory => Ok(Some(no_history(alloc)?)),
@@ -34,14 +35,16 @@ fn no_history(alloc: Global) -> Result<Vec<u8>, AllocError>
 
 /// The line that tells a fault of the script; none for want of memory.
 fn script_line(alloc: Global, fault: ScriptFault) -> Result<Option<Vec<u8>>, AllocError>
-    ensures { IfOk result (λ o. MatchOption o (in_script fault ≡ None) (λ text. Tells (in_script fault) text.items)) }
+    ensures { IfOk result
+        (λ o. MatchOption o (in_script fault ≡ None) (λ text. TellsBy fault_line (in_script fault) text.items)) }
 {
     mal_script::fault_line(alloc, fault)
 }
 
 /// The line that tells a fault of the history; none for want of memory.
 fn history_line(alloc: Global, fault: HistoryFault) -> Result<Option<Vec<u8>>, AllocError>
-    ensures { IfOk result (λ o. MatchOption o (in_history fault ≡ None) (λ text. Tells (in_history fault) text.items)) }
+    ensures { IfOk result
+        (λ o. MatchOption o (in_history fault ≡ None) (λ text. TellsBy fault_line (in_history fault) text.items)) }
 {
     match fault {
         HistoryFault::BadLine { line } => Ok(Some(told(alloc, line, b"BadLine")?)),

@@ -1,5 +1,6 @@
 -- Complaints, and what reading a text gives of which they tell.
-use Rattle.std.proofs.Common.{◌≡◌, ℕ, List, sym, ◌∙◌, Ok, Err, Result}
+use Rattle.std.proofs.Common.{◌≡◌, ℕ, List, Option, Some, None, sym, ◌∙◌, Ok, Err, Result}
+use Rattle.spec_text.specs.Faults.{Fails, TellsBy}
 use Rattle.mal_answer.specs.Answers.{Complains, NoLine}
 use Rattle.mal_answer.specs.declared.answer.Complaint.{Complaint}
 use Rattle.mal_answer.specs.declared.answer.Complaint.TheVariants as complaint
@@ -18,6 +19,11 @@ refused-as Told Refuses Denies refuses c h = complains-as Told NoLine Refuses De
 
 pub denied-as : (Told Refuses Denies : List ℕ → Type 0) → ((line : List ℕ) → Told line → Denies line) → (c : Complaint) → Complains NoLine Told c → Complains Refuses Denies c
 denied-as Told Refuses Denies denies c h = complains-as NoLine Told Refuses Denies (λ line k. absurd k) denies c h
+
+-- the fault that reading gives is told
+pub fault-refused : {X F : Type 0} (line_of : F → List ℕ) (read : Result X F) (Refuses Denies : List ℕ → Type 0) → ((line : List ℕ) (fault : F) → read ≡ Err fault → line ≡ line_of fault → Refuses line) → (fault : Option F) (c : Complaint) → Fails fault read → Complains (TellsBy line_of fault) NoLine c → Complains Refuses Denies c
+fault-refused line_of read Refuses Denies refuses None c h k = refused-as (TellsBy line_of None) Refuses Denies (λ line t. absurd t) c k
+fault-refused line_of read Refuses Denies refuses (Some fault) c h k = refused-as (TellsBy line_of (Some fault)) Refuses Denies (λ line t. refuses line fault h t) c k
 
 -- a text that is read has no fault, and is read as one
 pub read-faulty : {X F : Type 0} (read : Result X F) (x : X) (fault : F) → read ≡ Ok x → read ≡ Err fault → ⊥

@@ -1,33 +1,30 @@
 -- What is refused of a claim is told, and each text is of one kind.
 use Rattle.std.proofs.Common.{◌≡◌, ℕ, List, ◌∙◌, ap, sym, subst, Err}
 use Rattle.std.specs.Prelude.{Option, Some, None}
+use Rattle.spec_text.specs.Faults.{Fails}
 use Rattle.spec_logic.specs.Refutation.{Refusal}
 use Rattle.spec_check.specs.Proofs.{Verdict, verdict_of}
 use Rattle.spec_check.specs.Proofs.Verdict.{Verified}
 use Rattle.spec_check.proofs.VerdictLemmas.{verified-refutation}
-use Rattle.spec_claim.specs.Claims.{Claim, Fault, read_text}
-use Rattle.spec_claim.specs.FaultLines.{verdict_line}
+use Rattle.spec_claim.specs.Claims.{Claim, read_text}
+use Rattle.spec_claim.specs.FaultLines.{fault_line, verdict_line}
 use Rattle.spec_claim.specs.Grammar.{Spells}
 use Rattle.spec_claim.proofs.ReadLemmas.{spelled-is-read}
 use Rattle.mal_claim.specs.declared.checking.VerifyFault.{VerifyFault}
 use Rattle.mal_claim.specs.declared.checking.VerifyFault.TheVariants as verify
 use Rattle.mal_claim.specs.Verdicts as verdicts
 use Rattle.mal_claim.specs.declared.fault.ClaimFault.{ClaimFault}
-use Rattle.mal_claim.specs.ReadResult.{Fails, Tells, TellsVerdict, fault_of, refused, verdict_in}
+use Rattle.mal_claim.specs.ReadResult.{TellsVerdict, fault_of, refused, verdict_in}
 use Rattle.mal_answer.specs.Answers.{IsAnswerTo, NoLine}
 use Rattle.mal_answer.specs.Claims.{TellsFault, TellsRefusal, TellsUnproved, IsUnverified}
 use Rattle.mal_answer.specs.Commands.{IsProved, Refuses, Denies}
 use Rattle.mal_answer.specs.declared.answer.Complaint.{Complaint}
 use Rattle.mal_words.specs.declared.request.Request.TheVariants.{Check}
-use Rattle.mal_answer.proofs.Complaints.{refused-as, denied-as, read-faulty, read-once}
+use Rattle.mal_answer.proofs.Complaints.{fault-refused, denied-as, read-faulty, read-once}
 
 -- a text with a first fault is no claim, and the line tells it
-told-fault : (text line : List ℕ) (o : Option Fault) → Fails o (read_text text) → Tells o line → Refuses Check text line
-told-fault text line None h k = absurd k
-told-fault text line (Some fault) h k = record { outside = λ is. read-faulty (read_text text) is.0 fault ((spelled-is-read text is.0).0 is.1) h; told = (fault, h, k) }
-
 pub refused-text : (text : List ℕ) (e : ClaimFault) (d : Complaint) → Fails (fault_of e) (read_text text) → TellsFault e d → IsAnswerTo Check text (Err d)
-refused-text text e d h k = refused-as (Tells (fault_of e)) (Refuses Check text) (Denies Check text) (λ line t. told-fault text line (fault_of e) h t) d k
+refused-text text e d h k = fault-refused fault_line (read_text text) (Refuses Check text) (Denies Check text) (λ line fault f t. record { outside = λ is. read-faulty (read_text text) is.0 fault ((spelled-is-read text is.0).0 is.1) f; told = (fault, f, t) }) (fault_of e) d h k
 
 -- the verdict that a refusal is
 said-so : Option Verdict → Verdict → Type 0

@@ -1,6 +1,7 @@
 -- The complaints about claims.
 use Rattle.std.specs.Prelude.{◌≡◌, ℕ, List}
-use Rattle.mal_claim.specs.ReadResult.{Tells, TellsVerdict, fault_of, verdict_in}
+use Rattle.spec_text.specs.Faults.{TellsBy}
+use Rattle.mal_claim.specs.ReadResult.{TellsVerdict, fault_of, verdict_in}
 use Rattle.mal_claim.specs.declared.fault.ClaimFault.{ClaimFault}
 use Rattle.mal_answer.specs.Answers.{Complains, NoLine}
 use Rattle.mal_answer.specs.Commands.{IsProved}
@@ -8,11 +9,11 @@ use Rattle.mal_answer.specs.declared.answer.Complaint.{Complaint}
 use Rattle.mal_claim.specs.declared.checking.VerifyFault.{VerifyFault}
 use Rattle.spec_check.specs.Proofs.{verdict_of}
 use Rattle.spec_claim.specs.Claims.{Claim}
-use Rattle.spec_claim.specs.FaultLines.{verdict_line}
+use Rattle.spec_claim.specs.FaultLines.{fault_line, verdict_line}
 
 -- the complaint tells the fault of a text, or memory ran out
 abbrev pub TellsFault : ClaimFault → Complaint → Type 0
-TellsFault fault complaint = Complains (Tells (fault_of fault)) NoLine complaint
+TellsFault fault complaint = Complains (TellsBy fault_line (fault_of fault)) NoLine complaint
 
 -- the complaint tells why a proof is none, or memory ran out
 abbrev pub TellsRefusal : VerifyFault → Complaint → Type 0

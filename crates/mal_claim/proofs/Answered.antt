@@ -1,6 +1,7 @@
 -- What answers say of a text.
 use Rattle.std.proofs.Common.{ℕ, List, Result, Ok, Err, ap}
 use Rattle.std.specs.Prelude.{IfOk}
+use Rattle.spec_text.specs.Faults.{Fails}
 use Rattle.spec_lrat.specs.Reading as proof
 use Rattle.spec_claim.specs.Claims.{in_proof, read_text}
 use Rattle.spec_claim.specs.Grammar.{Spells}
@@ -10,7 +11,7 @@ use Rattle.mal_lrat.specs.declared.fault.LineFault.TheVariants as lrat
 use Rattle.mal_claim.specs.Answers as verify
 use Rattle.mal_claim.specs.declared.claim.Claim.{Claim}
 use Rattle.mal_claim.specs.declared.fault.ClaimFault.{ClaimFault}
-use Rattle.mal_claim.specs.ReadResult.{seen, in_line, Fails, Gives}
+use Rattle.mal_claim.specs.ReadResult.{seen, in_line, Gives}
 
 -- a fault of the proof's text is one of the whole text
 pub proof_fails : {Y : Type 0} (line : ℕ) (fault : LineFault) (read : Result Y (ℕ × proof.Fault)) → verify.FailsAt line fault read → Fails (in_line line fault) (in_proof read)

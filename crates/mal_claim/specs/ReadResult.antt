@@ -1,7 +1,8 @@
 -- What the answers of reading and judging claims say.
-use Rattle.std.specs.Prelude.{◌≡◌, ℕ, List, Option, Some, None, Result, Ok, Err}
+use Rattle.std.specs.Prelude.{◌≡◌, ℕ, List, Option, Some, None, Result}
 use Rattle.spec_logic.specs.Refutation.{Refusal}
 use Rattle.mal_base.specs.declared.line_fault.LineFault.TheVariants.{BadLine, Dimacs, Opposite, Range}
+use Rattle.spec_text.specs.Faults.{GivesBy, TellsBy}
 use Rattle.spec_dimacs.specs.Rows.{rows_of}
 use Rattle.mal_dimacs.specs.declared.fault.DimacsError.{DimacsError}
 use Rattle.mal_dimacs.specs.declared.fault.DimacsError.TheVariants as error
@@ -12,7 +13,7 @@ use Rattle.spec_check.specs.Proofs.{Verdict}
 use Rattle.spec_check.specs.Proofs.Verdict.{Refused, NoGoal}
 use Rattle.spec_claim.specs.Claims as claim
 use Rattle.spec_claim.specs.Claims.Fault.{NoProof, InFormula, InProof}
-use Rattle.spec_claim.specs.FaultLines.{fault_line, verdict_line}
+use Rattle.spec_claim.specs.FaultLines.{verdict_line}
 use Rattle.mal_lrat.specs.declared.fault.LineFault.TheVariants as lrat
 use Rattle.mal_lrat.specs.declared.fault.LineFault as declared
 use Rattle.mal_claim.specs.declared.checking.VerifyFault.{VerifyFault}
@@ -42,20 +43,9 @@ fault_of (claimed.Formula line fault) = Some (InFormula line fault)
 fault_of (claimed.Proof fault) = in_line fault.line fault.fault
 fault_of claimed.OutOfMemory = None
 
--- reading gives this fault, of which want of memory claims nothing
-abbrev pub Fails : {Y : Type 0} → Option claim.Fault → Result Y claim.Fault → Type 0
-Fails None read = Unit {0}
-Fails (Some fault) read = read ≡ Err fault
-
 -- what was answered, seen by view, is what reading gives, unless memory ran out
 abbrev pub Gives : {X Y : Type 0} → (X → Y) → Result X ClaimFault → Result Y claim.Fault → Type 0
-Gives view (Ok x) read = read ≡ Ok (view x)
-Gives view (Err e) read = Fails (fault_of e) read
-
--- the text is the line that tells the fault
-abbrev pub Tells : Option claim.Fault → List ℕ → Type 0
-Tells None text = ⊥
-Tells (Some fault) text = text ≡ fault_line fault
+Gives view answer read = GivesBy fault_of view answer read
 
 -- the verdict on a proof of which a line is refused so, none for want of memory
 abbrev pub refused : ℕ → Option Refusal → Option Verdict
@@ -69,8 +59,7 @@ verdict_in verify.OutOfMemory = None
 
 -- the text is the line that tells the verdict
 abbrev pub TellsVerdict : Option Verdict → List ℕ → Type 0
-TellsVerdict None text = ⊥
-TellsVerdict (Some verdict) text = text ≡ verdict_line verdict
+TellsVerdict verdict text = TellsBy verdict_line verdict text
 
 -- an error of a block's reader as the fault of this line
 abbrev pub IsOnLine : ℕ → DimacsError → ClaimFault → Type 0

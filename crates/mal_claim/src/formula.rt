@@ -1,15 +1,15 @@
 //! Reading the lines of a claim's formula.
 
 ghost use Rattle.std.specs.Prelude.{◌≡◌, ◌≤◌, ◌+◌, None, length, max, IfOk};
+ghost use Rattle.spec_text.specs.Inputs.{words_of};
 ghost use Rattle.spec_dimacs.specs.{Rows.{rows_of}, Reading.{at_end, on_line, read_rows}};
-ghost use Rattle.spec_claim.specs.Claims.{formula_rows, behind_formula, in_formula};
+ghost use Rattle.spec_claim.specs.Claims.{is_formula_line, formula_rows, behind_formula, in_formula};
 ghost use Rattle.mal_claim.specs.ReadResult.{Gives, IsOnLine};
 
 use crate::fault::ClaimFault;
-use crate::words::is_formula_line;
 use mal_base::{Formula, LineFault};
 use mal_dimacs::{BlockReader, DimacsError, after_line, at_end};
-use mal_text::first_line;
+use mal_text::{first_line, first_word};
 use std::alloc::Global;
 
 /// The formula of the lines before the first one that begins with the word `a` or `proof`, how many lines these are,
@@ -35,6 +35,16 @@ pub fn read_formula(alloc: Global, text: &[u8]) -> Result<(Formula, u64, &[u8]),
         rest = behind;
     }
     finish(reader, line, rest)
+}
+
+/// Whether a line is one of the formula: its first word is neither `a` nor `proof`.
+fn is_formula_line(line: &[u8]) -> bool
+    ensures { result ≡ is_formula_line (words_of line.now) }
+{
+    match first_word(line) {
+        None => true,
+        Some((first, _)) => !(first == b"a".as_slice() || first == b"proof".as_slice()),
+    }
 }
 
 /// The formula of all its lines, of which there are so many, and what stands behind them.

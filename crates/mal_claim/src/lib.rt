@@ -9,7 +9,6 @@ mod formula;
 mod proof_reading;
 mod reading;
 mod telling;
-mod words;
 
 pub use checking::{VerifyFault, verify};
 pub use claim::Claim;

@@ -10,12 +10,11 @@ ghost use Rattle.mal_claim.specs.{Views.{views}, ReadResult.{Gives, IsAssumed, s
 use crate::claim::Claim;
 use crate::fault::ClaimFault;
 use crate::formula::read_formula;
-use crate::words::is_proof_line;
 use crate::{NumberedLine, read_proof};
 use mal_base::{LineFault, Lit};
 use mal_dimacs::is_passed;
 use mal_script::{AssumptionFault, assumptions};
-use mal_text::first_line;
+use mal_text::{first_line, is_word_line};
 use std::alloc::Global;
 
 /// The claim that a text spells: a formula by DIMACS CNF, maybe a line `a`, literals and 0, then the line `proof`, and
@@ -51,7 +50,7 @@ fn has_proof(text: &[u8]) -> bool
 {
     let mut rest = text;
     while let Some((row, behind)) = first_line(rest) {
-        if is_proof_line(row) {
+        if is_word_line(row, b"proof") {
             return true;
         }
         rest = behind;
@@ -89,7 +88,7 @@ fn read_assumptions(
     let Some((row, behind)) = first_line(text) else {
         return Err(ClaimFault::NoProof);
     };
-    if is_proof_line(row) {
+    if is_word_line(row, b"proof") {
         return Ok((Vec::new(alloc), behind));
     }
     match assumptions(alloc, row, variables) {
@@ -107,7 +106,7 @@ fn to_proof(lits: Vec<Lit>, line: u64, text: &[u8]) -> Result<(Vec<Lit>, &[u8]),
     let mut rest = text;
     let mut line = line;
     while let Some((row, behind)) = first_line(rest) {
-        if is_proof_line(row) {
+        if is_word_line(row, b"proof") {
             return Ok((lits, behind));
         }
         line += 1;

@@ -1,9 +1,9 @@
 //! The lines that tell why a text is no claim, or why its proof is not verified.
 
 ghost use Rattle.std.specs.Prelude.{◌≡◌, ◌∷◌, [], None, map, codes, IfOk, MatchOption};
-ghost use Rattle.spec_text.specs.{Lines.{line_of}, Numbers.{decimal_word}};
-ghost use Rattle.spec_claim.specs.FaultLines.{proof_line};
-ghost use Rattle.mal_claim.specs.{ReadResult.{Tells, TellsVerdict, fault_of, in_line, refused, verdict_in}, Verdicts.{refusal_of}};
+ghost use Rattle.spec_text.specs.{Faults.{TellsBy}, Lines.{line_of}, Numbers.{decimal_word}};
+ghost use Rattle.spec_claim.specs.FaultLines.{fault_line, proof_line};
+ghost use Rattle.mal_claim.specs.{ReadResult.{TellsVerdict, fault_of, in_line, refused, verdict_in}, Verdicts.{refusal_of}};
 
 use crate::VerifyFault;
 use crate::fault::ClaimFault;
@@ -16,7 +16,8 @@ use std::alloc::{AllocError, Global};
 /// The line that tells a fault of a text, as `fault: no proof`, `fault: formula line 3 Range` or
 /// `fault: proof line 1 MissingZero`, with its line end. None exactly for want of memory.
 pub fn fault_line(alloc: Global, fault: ClaimFault) -> Result<Option<Vec<u8>>, AllocError>
-    ensures { IfOk result (λ o. MatchOption o (fault_of fault ≡ None) (λ text. Tells (fault_of fault) text.items)) }
+    ensures { IfOk result
+        (λ o. MatchOption o (fault_of fault ≡ None) (λ text. TellsBy fault_line (fault_of fault) text.items)) }
 {
     match fault {
         ClaimFault::NoProof => Ok(Some(no_proof(alloc)?)),
@@ -62,7 +63,7 @@ fn proof_line(
     fault: mal_lrat::LineFault,
 ) -> Result<Option<Vec<u8>>, AllocError>
     ensures { IfOk result
-        (λ o. MatchOption o (in_line line fault ≡ None) (λ text. Tells (in_line line fault) text.items)) }
+        (λ o. MatchOption o (in_line line fault ≡ None) (λ text. TellsBy fault_line (in_line line fault) text.items)) }
 {
     match fault {
         mal_lrat::LineFault::BadNumber => Ok(Some(in_proof(alloc, line, &[b"BadNumber"])?)),

@@ -1,16 +1,17 @@
 -- What is refused of an account is told, and each text is of one kind.
 use Rattle.std.proofs.Common.{◌≡◌, ℕ, List, inl, inr, refl, subst, Ok, Err, Result}
-use Rattle.std.specs.Prelude.{Option, Some, None}
+use Rattle.spec_text.specs.Faults.{Fails}
 use Rattle.mal_account.specs.declared.fault.AccountFault.{AccountFault}
-use Rattle.mal_account.specs.ReadResult.{Fails, Tells, fault_of}
+use Rattle.mal_account.specs.ReadResult.{fault_of}
 use Rattle.mal_cli.specs.Accounts.{IsReplayText, IsUnsound, TellsFault, TellsReplay}
 use Rattle.mal_answer.specs.Answers.{IsAnswerTo, NoLine}
 use Rattle.mal_answer.specs.Commands.{IsSound, Refuses, Denies, TellsUnsound}
 use Rattle.mal_answer.specs.declared.answer.Complaint.{Complaint}
-use Rattle.mal_answer.proofs.Complaints.{refused-as, denied-as, read-faulty, read-once}
+use Rattle.mal_answer.proofs.Complaints.{fault-refused, denied-as, read-faulty, read-once}
 use Rattle.mal_history.specs.Written.{line_at}
 use Rattle.mal_words.specs.declared.request.Request.TheVariants.{Replay}
-use Rattle.spec_account.specs.Accounts.{Account, Fault, read_text}
+use Rattle.spec_account.specs.Accounts.{Account, read_text}
+use Rattle.spec_account.specs.FaultLines.{fault_line}
 use Rattle.spec_account.specs.Grammar.{Spells}
 use Rattle.spec_account.proofs.ReadLemmas.{spelled-is-read}
 use Rattle.mal_base.specs.declared.replay_fault.ReplayFault.{ReplayFault}
@@ -20,12 +21,8 @@ use Rattle.spec_replay.proofs.ReplayLemmas.{replay-is_decided}
 use Rattle.spec_run.specs.Run.{replies}
 
 -- a text with a first fault is no account, and the line tells it
-told-fault : (text line : List ℕ) (o : Option Fault) → Fails o (read_text text) → Tells o line → Refuses Replay text line
-told-fault text line None h k = absurd k
-told-fault text line (Some fault) h k = record { outside = λ is. read-faulty (read_text text) is.0 fault ((spelled-is-read text is.0).0 is.1) h; told = (fault, h, k) }
-
 pub account-refused : (text : List ℕ) (e : AccountFault) (c : Complaint) → Fails (fault_of e) (read_text text) → TellsFault e c → IsAnswerTo Replay text (Err c)
-account-refused text e c h k = refused-as (Tells (fault_of e)) (Refuses Replay text) (Denies Replay text) (λ line t. told-fault text line (fault_of e) h t) c k
+account-refused text e c h k = fault-refused fault_line (read_text text) (Refuses Replay text) (Denies Replay text) (λ line fault f t. record { outside = λ is. read-faulty (read_text text) is.0 fault ((spelled-is-read text is.0).0 is.1) f; told = (fault, f, t) }) (fault_of e) c h k
 
 -- an account with a fault is not sound
 unsound : (a : Account) (fault : ReplayFault) → IsReplay a.history.workers a.script a.history.events (line_at a.history.lines) (Err fault) → (fault ≡ OutOfMemory → ⊥) → IsSound a → ⊥

@@ -8,5 +8,5 @@ pub mod write;
 
 pub use asks::put_ask;
 pub use numbers::{NumberFault, magnitude, number};
-pub use read::{first_line, first_word, words};
+pub use read::{first_line, first_word, is_word_line, words};
 pub use write::{end_line, put_decimal, put_line, put_number, put_word};

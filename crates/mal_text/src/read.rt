@@ -1,6 +1,6 @@
 //! Reading a text line by line, and a line word by word.
 ghost use Rattle.std.specs.Prelude.{◌≡◌, ◌<◌, ◌≤◌, false, [], ◌∷◌, map, length, get_or, IfOk, IfSome, MatchOption};
-ghost use Rattle.spec_text.specs.Inputs.{lines_of, words_of, is_blank};
+ghost use Rattle.spec_text.specs.Inputs.{lines_of, words_of, is_blank, is_word_line};
 
 use std::alloc::{AllocError, Global};
 
@@ -41,6 +41,19 @@ pub fn first_word(line: &[u8]) -> Option<(&[u8], &[u8])>
         return None;
     }
     Some(word_in_front(line))
+}
+
+/// Whether a line is this one word.
+pub fn is_word_line(line: &[u8], word: &[u8]) -> bool
+    ensures { result ≡ is_word_line word.now (words_of line.now) }
+{
+    match first_word(line) {
+        None => false,
+        Some((first, rest)) => match first_word(rest) {
+            None => first == word,
+            Some(_) => false,
+        },
+    }
 }
 
 /// The line without the blanks before its first word.

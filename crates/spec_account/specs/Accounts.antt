@@ -1,6 +1,7 @@
 -- Reading an account of a run: a script and the history of a hall that ran it, or the first fault.
-use Rattle.std.specs.Prelude.{ℕ, Bool, false, List, [], ◌∷◌, codes, bytes_eq, if◌then◌else◌, Result, Ok, Err}
+use Rattle.std.specs.Prelude.{ℕ, Bool, List, [], ◌∷◌, codes, if◌then◌else◌, Result, Ok, Err}
 use Rattle.std.specs.List.{list_any}
+use Rattle.spec_text.specs.Inputs.{is_word_line}
 use Rattle.spec_dimacs.specs.Rows.{rows_of}
 use Rattle.spec_dimacs.specs.Reading.{◌>>=◌}
 use Rattle.mal_base.specs.declared.line_fault.LineFault.{LineFault}
@@ -23,9 +24,7 @@ pub data Fault : Type 0 where
 
 -- the line of the one word `history`
 abbrev pub is_history_line : List (List ℕ) → Bool
-is_history_line [] = false
-is_history_line (first ∷ []) = bytes_eq first (codes "history")
-is_history_line (first ∷ second ∷ others) = false
+is_history_line row = is_word_line (codes "history") row
 
 -- the lines of the script: those before the first line `history`
 abbrev pub script_rows : List (List (List ℕ)) → List (List (List ℕ))

@@ -1,8 +1,9 @@
 -- Reading a claim that nothing satisfies a formula and assumptions, with its proof: the claim, or the first fault.
-use Rattle.std.specs.Prelude.{ℕ, suc, Bool, true, false, not, ◌||◌, List, [], ◌∷◌, length, codes, bytes_eq, if◌then◌else◌, None, Result, Ok, Err}
+use Rattle.std.specs.Prelude.{ℕ, suc, Bool, true, not, ◌||◌, List, [], ◌∷◌, length, codes, bytes_eq, if◌then◌else◌, None, Result, Ok, Err}
 use Rattle.std.specs.List.{list_any}
 use Rattle.mal_base.specs.Formulas.{Formulated}
 use Rattle.mal_base.specs.declared.block_fault.BlockFault.{BlockFault}
+use Rattle.spec_text.specs.Inputs.{is_word_line}
 use Rattle.spec_dimacs.specs.Rows.{is_passed, rows_of}
 use Rattle.spec_dimacs.specs.Reading.{◌>>=◌, read_rows}
 use Rattle.mal_base.specs.declared.line_fault.LineFault.{LineFault}
@@ -26,9 +27,7 @@ pub data Fault : Type 0 where
 
 -- the line of the one word `proof`
 abbrev pub is_proof_line : List (List ℕ) → Bool
-is_proof_line [] = false
-is_proof_line (first ∷ []) = bytes_eq first (codes "proof")
-is_proof_line (first ∷ second ∷ others) = false
+is_proof_line row = is_word_line (codes "proof") row
 
 -- a line of the formula: its first word is neither `a` nor `proof`
 abbrev pub is_formula_line : List (List ℕ) → Bool

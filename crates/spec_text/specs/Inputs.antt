@@ -1,5 +1,5 @@
 -- Texts as lines of words, as they are read.
-use Rattle.std.specs.Prelude.{ℕ, Bool, ◌||◌, List, [], ◌∷◌, length, nat_lt, ◌==◌, if◌then◌else◌, filter}
+use Rattle.std.specs.Prelude.{ℕ, Bool, false, ◌||◌, List, [], ◌∷◌, length, nat_lt, ◌==◌, bytes_eq, if◌then◌else◌, filter}
 use Rattle.std.specs.List.{slice_split, onto_first}
 
 -- a byte before the lines of the text behind it: a line end begins an empty line, any other byte is the first of the
@@ -23,3 +23,9 @@ is_word part = nat_lt 0 (length part)
 -- the words of a line: its longest runs of bytes that are not blanks
 abbrev pub words_of : List ℕ → List (List ℕ)
 words_of line = filter is_word (slice_split is_blank line)
+
+-- the line of this one word, by its words
+abbrev pub is_word_line : List ℕ → List (List ℕ) → Bool
+is_word_line word [] = false
+is_word_line word (first ∷ []) = bytes_eq first word
+is_word_line word (first ∷ second ∷ others) = false
