@@ -76,18 +76,6 @@ fn sliced<E: Listed>(
     }
 }
 
-/// Whether a slice of each of two nodes derives lines, the same ones.
-fn derive_alike<E: Listed>(
-    alloc: Global,
-    live: &mut Going<E>,
-    thawed: &mut Going<E>,
-    scratch: &mut Scratch,
-) -> Result<bool, Fail> {
-    let text = sliced(alloc, live, scratch)?;
-    let other = sliced(alloc, thawed, scratch)?;
-    Ok(!text.is_empty() && text.as_slice() == other.as_slice())
-}
-
 /// Whether two nodes have the same bytes.
 fn have_same_bytes<E: Listed>(live: &Going<E>, thawed: &Going<E>) -> Result<bool, Fail> {
     let bytes = live.bytes()?;
@@ -95,7 +83,8 @@ fn have_same_bytes<E: Listed>(live: &Going<E>, thawed: &Going<E>) -> Result<bool
     Ok(bytes.as_slice() == others.as_slice())
 }
 
-/// Whether three slices of each of two nodes go alike and leave both with the same bytes, and the second has not ended.
+/// Whether three slices of each of two nodes derive lines, the same ones, and leave both with the same bytes, and the
+/// second has not ended.
 fn go_alike<E: Listed>(
     alloc: Global,
     live: &mut Going<E>,
@@ -103,7 +92,10 @@ fn go_alike<E: Listed>(
     scratch: &mut Scratch,
 ) -> Result<bool, Fail> {
     for _ in 0..3 {
-        if !derive_alike(alloc, live, thawed, scratch)? || !have_same_bytes(live, thawed)? {
+        let text = sliced(alloc, live, scratch)?;
+        let other = sliced(alloc, thawed, scratch)?;
+        let is_alike = !text.is_empty() && text.as_slice() == other.as_slice();
+        if !is_alike || !have_same_bytes(live, thawed)? {
             return Ok(false);
         }
     }
