@@ -1,53 +1,43 @@
 //! Jobs whose fair volumes are known.
 
+ghost use Rattle.std.specs.Prelude.{◌≤◌};
+
 use mal_balance::fair;
 use mal_base::Ask;
+use std::alloc::Global;
 use std::test::Fail;
 
 fn ask(priority: i64, demand: i64) -> Result<Ask, Fail> {
     Ok(Ask::of(priority, demand, 1).ok_or("out of range")?)
 }
 
-#[test]
-fn higher_priorities_get_more(rt: HostRuntime) -> Result<(), Fail> {
-    let jobs = [ask(4, 8)?, ask(2, 8)?, ask(1, 8)?];
-    let mut out = [9; 3];
-    fair(&jobs, 8, &mut out);
-    assert_eq!(rt; out, [5, 2, 1]);
-    Ok(())
+/// Whether jobs with these priorities and demands get these volumes of so many workers.
+fn get(alloc: Global, workers: u32, jobs: &[(i64, i64)], known: &[u32]) -> Result<bool, Fail>
+    requires some { 1 ≤ workers }
+    requires bound { workers ≤ 64 }
+{
+    let mut asks = Vec::new(alloc);
+    for (priority, demand) in jobs {
+        asks.push(ask(*priority, *demand)?)?;
+    }
+    let mut out = vec![in alloc; 9; asks.len()]?;
+    fair(asks.as_slice(), workers, out.as_mut_slice());
+    Ok(out.as_slice() == known)
 }
 
 #[test]
-fn no_job_gets_more_than_it_asks(rt: HostRuntime) -> Result<(), Fail> {
-    let jobs = [ask(7, 2)?, ask(7, 8)?];
-    let mut out = [9; 2];
-    fair(&jobs, 8, &mut out);
-    assert_eq!(rt; out, [2, 6]);
-    Ok(())
-}
-
-#[test]
-fn jobs_behind_the_workers_get_none(rt: HostRuntime) -> Result<(), Fail> {
-    let jobs = [ask(1, 8)?, ask(1, 8)?, ask(9, 8)?];
-    let mut out = [9; 3];
-    fair(&jobs, 2, &mut out);
-    assert_eq!(rt; out, [1, 1, 0]);
-    Ok(())
-}
-
-#[test]
-fn no_jobs_get_nothing(rt: HostRuntime) {
-    let mut out = [0; 0];
-    fair(&[], 8, &mut out);
-    assert_eq!(rt; out.len(), 0);
-}
-
-#[test]
-fn ties_go_to_the_earlier_job(rt: HostRuntime) -> Result<(), Fail> {
-    let jobs = [ask(4, 8)?, ask(2, 8)?, ask(4, 8)?];
-    let mut out = [9; 3];
-    fair(&jobs, 8, &mut out);
-    assert_eq!(rt; out, [3, 2, 3]);
+fn volumes_are_fair(rt: HostRuntime) -> Result<(), Fail> {
+    let alloc = rt.alloc();
+    // Higher priorities get more.
+    assert!(rt; get(alloc, 8, &[(4, 8), (2, 8), (1, 8)], &[5, 2, 1])?);
+    // No job gets more than it asks.
+    assert!(rt; get(alloc, 8, &[(7, 2), (7, 8)], &[2, 6])?);
+    // Jobs behind the workers get none.
+    assert!(rt; get(alloc, 2, &[(1, 8), (1, 8), (9, 8)], &[1, 1, 0])?);
+    // Ties go to the earlier job.
+    assert!(rt; get(alloc, 8, &[(4, 8), (2, 8), (4, 8)], &[3, 2, 3])?);
+    // No jobs get nothing.
+    assert!(rt; get(alloc, 8, &[], &[])?);
     Ok(())
 }
 

@@ -2,7 +2,7 @@
 
 ghost use Rattle.std.specs.Prelude.{ℕ, ◌≡◌, ◌<◌};
 ghost use Rattle.std.specs.Thread.{IsSync};
-ghost use Rattle.spec_turn.specs.{Rule.{Extends}, Many.{IsBack}};
+ghost use Rattle.spec_turn.specs.{Rule.{Extends, IsWhole}, Many.{IsBack}};
 ghost use Rattle.mal_turn.specs.Seats.{view, IsOf};
 
 use mal_turn::{Seat, Turn};
@@ -30,7 +30,7 @@ fn add<R: Wait>(rt: &R, turn: &Turn<Tally>, seat: Seat<Tally>, amount: u64) -> S
 fn add_times<R: Wait>(
     rt: &R,
     turn: &Turn<Tally>,
-    seat: Seat<Tally>,
+    mut seat: Seat<Tally>,
     amount: u64,
     times: u32,
 ) -> Seat<Tally>
@@ -38,7 +38,6 @@ fn add_times<R: Wait>(
     ensures turn { IsOf turn.now result }
     ensures numbers { (view result).of ≡ (view seat).of }
 {
-    let mut seat = seat;
     for _made in 0..times {
         seat = add(rt, turn, seat, amount);
     }
@@ -75,6 +74,17 @@ fn add_all<R: Threads + Wait + Sync>(
     turn.join(one, two)
 }
 
+/// The total of a turn that is closed by its whole seat.
+fn closed(turn: Turn<Tally>, seat: Seat<Tally>) -> u64
+    requires of { IsOf turn seat }
+    requires whole { IsWhole (view seat).of }
+{
+    match turn.close(seat) {
+        Ok(tally) => tally.total(),
+        Err(_) => unreachable!(),
+    }
+}
+
 /// The total that threads made, which are doubled so often.
 fn total<R: Threads + Wait + Sync>(
     rt: &R,
@@ -84,31 +94,15 @@ fn total<R: Threads + Wait + Sync>(
 ) -> Result<u64, AllocError> {
     let (turn, seat) = Turn::new(alloc, Tally::new())?;
     let seat = add_all(rt, &turn, seat, doublings, times);
-    match turn.close(seat) {
-        Ok(tally) => Ok(tally.total()),
-        Err(_) => unreachable!(),
-    }
+    Ok(closed(turn, seat))
 }
 
+/// A turn that nobody used, and those that two and sixteen threads used.
 #[test]
-fn two_threads_make_one_sum(rt: HostRuntime) -> Result<(), Fail> {
+fn threads_make_one_sum(rt: HostRuntime) -> Result<(), Fail> {
+    assert!(rt; total(&rt, rt.alloc(), 0, 0)? == 0);
     assert!(rt; total(&rt, rt.alloc(), 1, 100)? == 1_400);
-    Ok(())
-}
-
-#[test]
-fn sixteen_threads_make_one_sum(rt: HostRuntime) -> Result<(), Fail> {
     assert!(rt; total(&rt, rt.alloc(), 4, 50)? == 5_600);
-    Ok(())
-}
-
-#[test]
-fn a_turn_that_nobody_used_gives_its_value(rt: HostRuntime) -> Result<(), Fail> {
-    let (turn, seat) = Turn::new(rt.alloc(), Tally::new())?;
-    match turn.close(seat) {
-        Ok(tally) => assert!(rt; tally.total() == 0),
-        Err(_) => unreachable!(),
-    }
     Ok(())
 }
 
@@ -125,21 +119,16 @@ fn a_holder_finds_what_was_put_back(rt: HostRuntime) -> Result<(), Fail> {
     let two = turn.put(held);
     let all = turn.join(one, two);
     assert!(rt; found == 5);
-    match turn.close(all) {
-        Ok(tally) => assert!(rt; tally.total() == 6),
-        Err(_) => unreachable!(),
-    }
+    assert!(rt; closed(turn, all) == 6);
     Ok(())
 }
 
 #[test]
 fn a_seat_that_is_not_whole_gets_the_value(rt: HostRuntime) -> Result<(), Fail> {
     let (turn, seat) = Turn::new(rt.alloc(), Tally::new())?;
-    let (one, two) = turn.split(seat);
-    let two = add(&rt, &turn, two, 5);
-    drop(one);
-    let total = turn.close(two).map_or(0, |tally| tally.total());
-    assert!(rt; total == 5);
+    let part = add(&rt, &turn, turn.split(seat).1, 5);
+    let closed = turn.close(part);
+    assert!(rt; closed.map_or(0, |tally| tally.total()) == 5);
     Ok(())
 }
 
@@ -155,10 +144,7 @@ fn joined_in_another_order<R: Wait>(rt: &R, alloc: Global) -> Result<u64, AllocE
     let seat = turn.join(seat, two);
     let seat = turn.join(seat, three);
     let seat = turn.join(seat, one);
-    match turn.close(seat) {
-        Ok(tally) => Ok(tally.total()),
-        Err(_) => unreachable!(),
-    }
+    Ok(closed(turn, seat))
 }
 
 #[test]

@@ -5,6 +5,6 @@ use Rattle.spec_turn.proofs.Wholes.{back_whole}
 use Rattle.mal_turn.specs.Seats.{view}
 use Rattle.mal_hall_tests.proofs.tests.turn.total.Goals as goal
 
-pub unreachable-requires : goal.unreachable-requires
-unreachable-requires g c = c.in-Err.ensures.in_use.1
-    (back_whole (view c.in_ok-turn.seat).of (view c.add_all-seat.result).of c.add_all-seat.ensures.back (subst (λ (v : View _). IsWhole v.of) (sym c.in_ok-turn.ensures.1) (refl, refl)))
+pub closed-requires-clause-whole : goal.closed-requires-clause-whole
+closed-requires-clause-whole g c =
+    back_whole (view c.in_ok-turn.seat).of (view c.add_all-seat.result).of c.add_all-seat.ensures.back (subst (λ (v : View _). IsWhole v.of) (sym c.in_ok-turn.ensures.1) (refl, refl))
