@@ -1,9 +1,9 @@
 //! Halls whose answers and histories are known.
 
-ghost use Rattle.std.specs.Prelude.{◌≤◌};
-
 use mal_base::{Ask, Clause, LimitKind, Lit, Name};
-use mal_hall::{CloseFault, Hall, OpenFault, Pick, PickFault, ReplyFault, ReviseFault};
+use mal_hall::{
+    Back, CloseFault, Hall, OpenFault, Pick, PickFault, ReplyFault, ReviseFault, Strange,
+};
 use mal_learn::Scratch;
 use mal_revision::Revision;
 use mal_suspend::{Done, Lease};
@@ -31,8 +31,9 @@ enum Posted<'a> {
 enum Call<'a> {
     /// Opens a job of demand 1 with 4 slices.
     Open(Key<'a>),
-    /// Opens the job p of tenant a, posts a revision without variables, and closes the job.
-    OneJob,
+    /// Opens the job p of tenant a with this demand, so many slices and this profile, posts a revision of so many
+    /// variables, and closes the job.
+    OneJob(i64, i64, i64, u32),
     /// Opens the job p of tenant a with this demand, so many slices and this profile.
     OpenFor(i64, i64, i64),
     /// Opens so many jobs of tenant a.
@@ -49,12 +50,13 @@ enum Call<'a> {
     Work(u32),
     /// A worker picks, and the start of its lease wants for memory. What came of it is kept too.
     Starve(u32),
-    /// Worker 1 of another hall, which has `OneJob` too, works its lease off. What came of it is kept too.
+    /// Worker 1 of another hall, which has `ONE_JOB` too, works its lease off. What came of it is kept too.
     WorkElsewhere,
     /// Gives back what was kept at a place.
     Give(usize),
     Recall,
-    Drive,
+    /// Drives the hall until nothing is left to do, and writes its history, which is to be this text.
+    Drive(&'a [u8]),
     /// Asks for the reply to a revision, which is to be this text.
     Hear(Key<'a>, u32, &'a [u8]),
     /// Writes the history, which is to be this text.
@@ -196,14 +198,14 @@ fn close(alloc: Global, hall: &mut Hall, key: Key) -> Told {
     }
 }
 
-/// Opens the job p of tenant a, posts a revision without variables, and closes the job. What the first call is told
+/// Opens the job p of tenant a, posts a revision of so many variables, and closes the job. What the first call is told
 /// that is refused, if one is.
-fn one_job(alloc: Global, hall: &mut Hall) -> Told {
-    let opened = open(alloc, hall, P, ask(1, 4, 1));
+fn one_job(alloc: Global, hall: &mut Hall, ask: Option<Ask>, variables: u32) -> Told {
+    let opened = open(alloc, hall, P, ask);
     if opened != Told::Done {
         return opened;
     }
-    let posted = revise(alloc, hall, P, Posted::Free(0));
+    let posted = revise(alloc, hall, P, Posted::Free(variables));
     if posted != Told::Done {
         return posted;
     }
@@ -259,7 +261,7 @@ fn work_elsewhere(alloc: Global, kept: &mut Vec<Done>) -> Told {
         return Told::Wanting;
     };
     let mut hall = hall;
-    match one_job(alloc, &mut hall) {
+    match one_job(alloc, &mut hall, ask(1, 4, 1), 0) {
         Told::Done => work(alloc, &mut hall, 1, kept),
         told => told,
     }
@@ -269,7 +271,12 @@ fn give(hall: &mut Hall, kept: &mut Vec<Done>, place: usize) -> Told {
     if place >= kept.len() {
         return Told::Absent;
     }
-    match hall.finish(kept.remove(place)) {
+    given(hall.finish(kept.remove(place)))
+}
+
+/// What is told to who gives a lease back.
+pub(crate) fn given(answer: Result<Back, Strange>) -> Told {
+    match answer {
         Ok(_) => Told::Done,
         Err(strange) => Told::Strange(strange.kept),
     }
@@ -314,11 +321,21 @@ pub(crate) fn write(alloc: Global, hall: &Hall, known: &[u8]) -> Told {
     }
 }
 
+/// Drives a hall. Its history is to be this text then.
+fn drive_to(alloc: Global, hall: &mut Hall, known: &[u8]) -> Told {
+    match drive(alloc, hall) {
+        Told::Done => write(alloc, hall, known),
+        told => told,
+    }
+}
+
 /// What a hall answers to a call.
 fn answer(alloc: Global, hall: &mut Hall, kept: &mut Vec<Done>, call: Call) -> Told {
     match call {
         Call::Open(key) => open(alloc, hall, key, ask(1, 4, 1)),
-        Call::OneJob => one_job(alloc, hall),
+        Call::OneJob(demand, slices, profile, variables) => {
+            one_job(alloc, hall, ask(demand, slices, profile), variables)
+        }
         Call::OpenFor(demand, slices, profile) => {
             open(alloc, hall, P, ask(demand, slices, profile))
         }
@@ -333,7 +350,7 @@ fn answer(alloc: Global, hall: &mut Hall, kept: &mut Vec<Done>, call: Call) -> T
         Call::WorkElsewhere => work_elsewhere(alloc, kept),
         Call::Give(place) => give(hall, kept, place),
         Call::Recall => recall(hall),
-        Call::Drive => drive(alloc, hall),
+        Call::Drive(known) => drive_to(alloc, hall, known),
         Call::Hear(key, r, known) => hear(alloc, hall, key, r, known),
         Call::Write(known) => write(alloc, hall, known),
     }
@@ -352,10 +369,10 @@ fn answered(alloc: Global, hall: &mut Hall, calls: &[(Call, Told)]) -> usize {
 }
 
 /// How many calls a hall of so many workers answers as it is known, from the first on.
-fn tried(alloc: Global, workers: u32, calls: &[(Call, Told)]) -> usize
-    requires some { 1 ≤ workers }
-    requires bound { workers ≤ 64 }
-{
+fn tried(alloc: Global, workers: u32, calls: &[(Call, Told)]) -> usize {
+    if workers < 1 || 64 < workers {
+        return 0;
+    }
     match Hall::new(alloc, workers) {
         Ok(hall) => {
             let mut hall = hall;
@@ -368,17 +385,14 @@ fn tried(alloc: Global, workers: u32, calls: &[(Call, Told)]) -> usize
 /// Calls with their answers.
 type Play = &'static [(Call<'static>, Told)];
 
+/// A job that is open is not opened again.
 const OPENINGS: Play = &[
     (Call::Open(P), Told::Done),
     (Call::Open(P), Told::NotOpened(OpenFault::Duplicate)),
     (Call::Open((b"p", b"a")), Told::Done),
 ];
 
-#[test]
-fn an_opening_is_refused(rt: HostRuntime) {
-    assert_eq!(rt; tried(rt.alloc(), 1, OPENINGS), OPENINGS.len());
-}
-
+/// A tenant has room for 64 jobs.
 const JOBS_OF_A_TENANT: Play = &[
     (Call::OpenJobs(64), Told::Done),
     (Call::Open(P), Told::NotOpened(OpenFault::TenantFull)),
@@ -389,25 +403,14 @@ const JOBS_OF_A_TENANT: Play = &[
     (Call::Open((b"b", b"p")), Told::Done),
 ];
 
-#[test]
-fn a_tenant_has_room_for_64_jobs(rt: HostRuntime) {
-    assert_eq!(rt;
-        tried(rt.alloc(), 1, JOBS_OF_A_TENANT),
-        JOBS_OF_A_TENANT.len()
-    );
-}
-
+/// A hall has room for 64 tenants.
 const TENANTS: Play = &[
     (Call::OpenTenants(64), Told::Done),
     (Call::Open(P), Told::NotOpened(OpenFault::HallFull)),
     (Call::Open((b"aa", b"q")), Told::Done),
 ];
 
-#[test]
-fn a_hall_has_room_for_64_tenants(rt: HostRuntime) {
-    assert_eq!(rt; tried(rt.alloc(), 1, TENANTS), TENANTS.len());
-}
-
+/// A revision and a closing of an absent job are refused, and of one that is closed.
 const REVISIONS_AND_CLOSINGS: Play = &[
     (Call::Open(P), Told::Done),
     (
@@ -426,14 +429,7 @@ const REVISIONS_AND_CLOSINGS: Play = &[
     (Call::Close(P), Told::NotClosed(CloseFault::Closed)),
 ];
 
-#[test]
-fn a_revision_and_a_closing_are_refused(rt: HostRuntime) {
-    assert_eq!(rt;
-        tried(rt.alloc(), 1, REVISIONS_AND_CLOSINGS),
-        REVISIONS_AND_CLOSINGS.len()
-    );
-}
-
+/// A job has room for 256 revisions.
 const REVISIONS_OF_A_JOB: Play = &[
     (Call::Open(P), Told::Done),
     (Call::ReviseOften(256), Told::Done),
@@ -443,19 +439,12 @@ const REVISIONS_OF_A_JOB: Play = &[
     ),
 ];
 
-#[test]
-fn a_job_has_room_for_256_revisions(rt: HostRuntime) {
-    assert_eq!(rt;
-        tried(rt.alloc(), 1, REVISIONS_OF_A_JOB),
-        REVISIONS_OF_A_JOB.len()
-    );
-}
-
 /// A job has no room for more clauses.
 const CLAUSES_FULL: ReviseFault = ReviseFault::JobFull {
     which: LimitKind::Clauses,
 };
 
+/// A job has room for its clauses.
 const CLAUSES_OF_A_JOB: Play = &[
     (Call::Open(P), Told::Done),
     (Call::Revise(P, Posted::Tautologies(1_048_575)), Told::Done),
@@ -466,14 +455,7 @@ const CLAUSES_OF_A_JOB: Play = &[
     (Call::Revise(P, Posted::Tautologies(1)), Told::Done),
 ];
 
-#[test]
-fn a_job_has_room_for_its_clauses(rt: HostRuntime) {
-    assert_eq!(rt;
-        tried(rt.alloc(), 1, CLAUSES_OF_A_JOB),
-        CLAUSES_OF_A_JOB.len()
-    );
-}
-
+/// Who asks an absent job for a reply is told so.
 const ABSENT_JOBS: Play = &[
     (Call::Open(P), Told::Done),
     (
@@ -487,12 +469,7 @@ const ABSENT_JOBS: Play = &[
     (Call::Hear(P, 1, b""), Told::NoReply),
 ];
 
-#[test]
-fn an_absent_job_is_told(rt: HostRuntime) {
-    assert_eq!(rt; tried(rt.alloc(), 1, ABSENT_JOBS), ABSENT_JOBS.len());
-}
-
-/// A revision that is satisfiable, one whose assumption fails, and one that is satisfiable again.
+/// A revision is satisfiable, the assumption of the next fails, and the third is satisfiable again.
 const THREE_REVISIONS: Play = &[
     (Call::Open(P), Told::Done),
     (Call::Revise(P, Posted::Clause(&[1, 2], &[])), Told::Done),
@@ -500,7 +477,12 @@ const THREE_REVISIONS: Play = &[
     (Call::Revise(P, Posted::Free(2)), Told::Done),
     (Call::Close(P), Told::Done),
     (Call::Hear(P, 1, b""), Told::NoReply),
-    (Call::Drive, Told::Done),
+    (
+        Call::Drive(
+            b"h mal 1 1\no a p 1 1 4\nr a p 1\nr a p 2\nr a p 3\nc a p\nb a p 1\ns a p 0 1\nf a p 0 1 ran\ns a p 0 1\nf a p 0 1 ran\ns a p 0 1\nf a p 0 1 ran\n",
+        ),
+        Told::Done,
+    ),
     (
         Call::Hear(P, 1, b"r a p 1\ns SATISFIABLE\nv -1 2 0\n"),
         Told::Done,
@@ -513,30 +495,13 @@ const THREE_REVISIONS: Play = &[
         Call::Hear(P, 3, b"r a p 3\ns SATISFIABLE\nv -1 2 0\n"),
         Told::Done,
     ),
-    (
-        Call::Write(
-            b"h mal 1 1\no a p 1 1 4\nr a p 1\nr a p 2\nr a p 3\nc a p\nb a p 1\ns a p 0 1\nf a p 0 1 ran\ns a p 0 1\nf a p 0 1 ran\ns a p 0 1\nf a p 0 1 ran\n",
-        ),
-        Told::Done,
-    ),
 ];
 
-#[test]
-fn three_revisions_are_replied_to(rt: HostRuntime) {
-    assert_eq!(rt;
-        tried(rt.alloc(), 1, THREE_REVISIONS),
-        THREE_REVISIONS.len()
-    );
-}
-
-/// Two solvers of profile 1 have 8 slices for a revision of 1,000 variables and no clause.
+/// Two nodes of profile 1 spend 8 slices on a revision of 1,000 variables and no clause, with an exchange between.
 const TWO_NODES_SPEND: Play = &[
-    (Call::OpenFor(2, 8, 1), Told::Done),
-    (Call::Revise(P, Posted::Free(1_000)), Told::Done),
-    (Call::Close(P), Told::Done),
-    (Call::Drive, Told::Done),
+    (Call::OneJob(2, 8, 1, 1_000), Told::Done),
     (
-        Call::Write(
+        Call::Drive(
             b"h mal 1 2\no a p 1 2 8\nr a p 1\nc a p\nb a p 2\ns a p 0 1\nf a p 0 1 ran\ns a p 1 1\nf a p 1 1 ran\ns a p 0 1\nf a p 0 1 ran\ns a p 1 1\nf a p 1 1 ran\nx a p\ns a p 0 1\nf a p 0 1 ran\ns a p 1 1\nf a p 1 1 ran\ns a p 0 1\nf a p 0 1 ran\ns a p 1 1\nf a p 1 1 ran\n",
         ),
         Told::Done,
@@ -547,54 +512,35 @@ const TWO_NODES_SPEND: Play = &[
     ),
 ];
 
-#[test]
-fn two_nodes_spend_8_slices_with_an_exchange_between(rt: HostRuntime) {
-    assert_eq!(rt;
-        tried(rt.alloc(), 2, TWO_NODES_SPEND),
-        TWO_NODES_SPEND.len()
-    );
-}
-
-/// The same of profile 2.
+/// The same of profile 2: the exchange of nothing leaves the nodes as they are, and one answers.
 const TWO_NODES_ANSWER: Play = &[
-    (Call::OpenFor(2, 8, 2), Told::Done),
-    (Call::Revise(P, Posted::Free(1_000)), Told::Done),
-    (Call::Close(P), Told::Done),
-    (Call::Drive, Told::Done),
+    (Call::OneJob(2, 8, 2, 1_000), Told::Done),
     (
-        Call::Write(
+        Call::Drive(
             b"h mal 1 2\no a p 1 2 8 2\nr a p 1\nc a p\nb a p 2\ns a p 0 1\nf a p 0 1 ran\ns a p 1 1\nf a p 1 1 ran\ns a p 0 1\nf a p 0 1 ran\ns a p 1 1\nf a p 1 1 ran\nx a p\ns a p 0 1\nf a p 0 1 ran\n",
         ),
         Told::Done,
     ),
 ];
 
-#[test]
-fn an_exchange_of_nothing_leaves_nodes_of_profile_2(rt: HostRuntime) {
-    assert_eq!(rt;
-        tried(rt.alloc(), 2, TWO_NODES_ANSWER),
-        TWO_NODES_ANSWER.len()
-    );
-}
+/// One job with a revision without variables.
+const ONE_JOB: Call = Call::OneJob(1, 4, 1, 0);
 
 /// The reply to a revision without variables.
 pub(crate) const FREE_REPLY: &[u8] = b"r a p 1\ns SATISFIABLE\nv 0\n";
 
+/// A worker with a lease is busy.
 const BUSY: Play = &[
-    (Call::OneJob, Told::Done),
+    (ONE_JOB, Told::Done),
     (Call::Pick(1), Told::Leased),
     (Call::Pick(1), Told::NotPicked(PickFault::Busy)),
     (Call::Pick(2), Told::Idle),
     (Call::Hear(P, 1, b""), Told::NoReply),
 ];
 
-#[test]
-fn a_worker_with_a_lease_is_busy(rt: HostRuntime) {
-    assert_eq!(rt; tried(rt.alloc(), 2, BUSY), BUSY.len());
-}
-
+/// A lease that was recalled is strange.
 const RECALLED: Play = &[
-    (Call::OneJob, Told::Done),
+    (ONE_JOB, Told::Done),
     (Call::Work(1), Told::Done),
     (Call::Recall, Told::Done),
     (Call::Work(1), Told::Done),
@@ -610,13 +556,9 @@ const RECALLED: Play = &[
     ),
 ];
 
-#[test]
-fn a_lease_that_was_recalled_is_strange(rt: HostRuntime) {
-    assert_eq!(rt; tried(rt.alloc(), 1, RECALLED), RECALLED.len());
-}
-
+/// Three starts that starve leave a revision unknown.
 const STARVED: Play = &[
-    (Call::OneJob, Told::Done),
+    (ONE_JOB, Told::Done),
     (Call::Hear(P, 1, b""), Told::NoReply),
     (Call::Starve(1), Told::Done),
     (Call::Give(0), Told::Done),
@@ -633,13 +575,9 @@ const STARVED: Play = &[
     (Call::Pick(1), Told::AllDone),
 ];
 
-#[test]
-fn three_starts_that_starve_leave_a_revision_unknown(rt: HostRuntime) {
-    assert_eq!(rt; tried(rt.alloc(), 1, STARVED), STARVED.len());
-}
-
+/// An equal journal of another hall is taken back.
 const EQUAL_JOURNALS: Play = &[
-    (Call::OneJob, Told::Done),
+    (ONE_JOB, Told::Done),
     (Call::WorkElsewhere, Told::Done),
     (Call::Work(1), Told::Done),
     (Call::Give(0), Told::Done),
@@ -647,68 +585,68 @@ const EQUAL_JOURNALS: Play = &[
     (Call::Hear(P, 1, FREE_REPLY), Told::Done),
 ];
 
-#[test]
-fn an_equal_journal_of_another_hall_is_taken_back(rt: HostRuntime) {
-    assert_eq!(rt; tried(rt.alloc(), 1, EQUAL_JOURNALS), EQUAL_JOURNALS.len());
-}
-
+/// The last balancing comes before a hall idles.
 const UNCLOSED: Play = &[
     (Call::Open(P), Told::Done),
     (Call::Revise(P, Posted::Free(0)), Told::Done),
-    (Call::Drive, Told::Done),
     (
-        Call::Write(b"h mal 1 1\no a p 1 1 4\nr a p 1\nb a p 1\ns a p 0 1\nf a p 0 1 ran\nb\n"),
+        Call::Drive(b"h mal 1 1\no a p 1 1 4\nr a p 1\nb a p 1\ns a p 0 1\nf a p 0 1 ran\nb\n"),
         Told::Done,
     ),
     (Call::Pick(1), Told::Idle),
 ];
 
+/// All plays, each behind the number of workers that its hall has.
+const PLAYS: [(u32, Play); 15] = [
+    (1, OPENINGS),
+    (1, JOBS_OF_A_TENANT),
+    (1, TENANTS),
+    (1, REVISIONS_AND_CLOSINGS),
+    (1, REVISIONS_OF_A_JOB),
+    (1, CLAUSES_OF_A_JOB),
+    (1, ABSENT_JOBS),
+    (1, THREE_REVISIONS),
+    (2, TWO_NODES_SPEND),
+    (2, TWO_NODES_ANSWER),
+    (2, BUSY),
+    (1, RECALLED),
+    (1, STARVED),
+    (1, EQUAL_JOURNALS),
+    (1, UNCLOSED),
+];
+
 #[test]
-fn the_last_balancing_comes_before_a_hall_idles(rt: HostRuntime) {
-    assert_eq!(rt; tried(rt.alloc(), 1, UNCLOSED), UNCLOSED.len());
+fn calls_are_answered_as_known(rt: HostRuntime) {
+    for (workers, play) in PLAYS {
+        assert_eq!(rt; tried(rt.alloc(), workers, play), play.len());
+    }
 }
 
-/// Of two nodes the second comes back first.
-const LATE_MODEL: Play = &[
-    (Call::OpenFor(2, 4, 1), Told::Done),
-    (Call::Revise(P, Posted::Clause(&[1, 2], &[])), Told::Done),
-    (Call::Work(1), Told::Done),
-    (Call::Work(2), Told::Done),
-    (Call::Give(1), Told::Done),
-    (Call::Revise(P, Posted::Clause(&[-1], &[])), Told::Done),
-    (Call::Give(0), Told::Done),
-    (
-        Call::Hear(P, 1, b"r a p 1\ns SATISFIABLE\nv 1 2 0\n"),
-        Told::Done,
-    ),
-    (Call::Hear(P, 2, b""), Told::NoReply),
-];
+/// How many calls are answered as known where of two nodes the one at this place comes back first, and this is the reply.
+fn first_back(alloc: Global, place: usize, reply: &[u8]) -> usize {
+    let calls = [
+        (Call::OpenFor(2, 4, 1), Told::Done),
+        (Call::Revise(P, Posted::Clause(&[1, 2], &[])), Told::Done),
+        (Call::Work(1), Told::Done),
+        (Call::Work(2), Told::Done),
+        (Call::Give(place), Told::Done),
+        (Call::Revise(P, Posted::Clause(&[-1], &[])), Told::Done),
+        (Call::Give(0), Told::Done),
+        (Call::Hear(P, 1, reply), Told::Done),
+        (Call::Hear(P, 2, b""), Told::NoReply),
+    ];
+    tried(alloc, 2, &calls)
+}
 
 #[test]
 fn the_first_node_that_comes_back_answers(rt: HostRuntime) {
-    assert_eq!(rt; tried(rt.alloc(), 2, LATE_MODEL), LATE_MODEL.len());
-}
-
-/// Of two nodes the first comes back first.
-const LATE_MODEL_OF_THE_SECOND: Play = &[
-    (Call::OpenFor(2, 4, 1), Told::Done),
-    (Call::Revise(P, Posted::Clause(&[1, 2], &[])), Told::Done),
-    (Call::Work(1), Told::Done),
-    (Call::Work(2), Told::Done),
-    (Call::Give(0), Told::Done),
-    (Call::Revise(P, Posted::Clause(&[-1], &[])), Told::Done),
-    (Call::Give(0), Told::Done),
-    (
-        Call::Hear(P, 1, b"r a p 1\ns SATISFIABLE\nv -1 2 0\n"),
-        Told::Done,
-    ),
-    (Call::Hear(P, 2, b""), Told::NoReply),
-];
-
-#[test]
-fn the_second_node_that_comes_back_answers_nothing(rt: HostRuntime) {
+    let alloc = rt.alloc();
     assert_eq!(rt;
-        tried(rt.alloc(), 2, LATE_MODEL_OF_THE_SECOND),
-        LATE_MODEL_OF_THE_SECOND.len()
+        first_back(alloc, 0, b"r a p 1\ns SATISFIABLE\nv -1 2 0\n"),
+        9
+    );
+    assert_eq!(rt;
+        first_back(alloc, 1, b"r a p 1\ns SATISFIABLE\nv 1 2 0\n"),
+        9
     );
 }

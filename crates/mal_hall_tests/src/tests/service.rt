@@ -1,9 +1,9 @@
 //! A service whose answers and whose history are known.
 
-ghost use Rattle.std.specs.Prelude.{◌≤◌};
+ghost use Rattle.std.specs.Prelude.{◌≡◌, ◌≤◌};
 ghost use Rattle.mal_turn.specs.Seats.{IsOf};
 
-use super::hall::{FREE_REPLY, Told, ask, heard, name, pick, write};
+use super::hall::{FREE_REPLY, Told, ask, given, heard, name, pick, write};
 use mal_base::ReplyFault;
 use mal_hall::{Hall, Pick, PickFault, Post};
 use mal_learn::Scratch;
@@ -28,6 +28,14 @@ struct Caller<'a, R: Wait, S: Size> {
     rt: &'a R,
     alloc: Global,
     service: &'a Service<S>,
+}
+
+impl<'a, R: Wait, S: Size> Caller<'a, R, S> {
+    fn new(rt: &'a R, alloc: Global, service: &'a Service<S>) -> Caller<'a, R, S>
+        ensures { result.service.now.turn ≡ service.now.turn }
+    {
+        Caller { rt, alloc, service }
+    }
 }
 
 /// The opening of the job p of a tenant.
@@ -67,13 +75,11 @@ impl<R: Wait, S: Size> Caller<'_, R, S> {
         requires { IsOf self.now.service.now.turn pass }
         ensures { IsOf self.now.service.now.turn result.0 }
     {
-        match post {
-            Some(post) => {
-                let (pass, answer) = self.service.post(self.rt, pass, post);
-                (pass, answer.is_ok())
-            }
-            None => (pass, false),
-        }
+        let Some(post) = post else {
+            return (pass, false);
+        };
+        let (pass, answer) = self.service.post(self.rt, pass, post);
+        (pass, answer.is_ok())
     }
 
     /// Gives back.
@@ -84,10 +90,7 @@ impl<R: Wait, S: Size> Caller<'_, R, S> {
         match done {
             Some(done) => {
                 let (pass, answer) = self.service.give(self.rt, pass, done);
-                match answer {
-                    Ok(_) => (pass, Told::Done),
-                    Err(strange) => (pass, Told::Strange(strange.kept)),
-                }
+                (pass, given(answer))
             }
             None => (pass, Told::Absent),
         }
@@ -107,14 +110,18 @@ impl<R: Wait, S: Size> Caller<'_, R, S> {
 
 impl<R: Wait> Caller<'_, R, One> {
     /// Opens the job p of tenant a, and posts its first revision.
-    fn post_job(&self, pass: Pass<One>) -> (Pass<One>, bool)
+    fn post_job(&self, pass: Pass<One>) -> (Pass<One>, Told)
         requires { IsOf self.now.service.now.turn pass }
         ensures { IsOf self.now.service.now.turn result.0 }
     {
         let (pass, is_open) = self.post(pass, opening(self.alloc, b"a"));
         let revision = revising(self.alloc, b"a", free(self.alloc));
         let (pass, is_posted) = self.post(pass, revision);
-        (pass, is_open && is_posted)
+        if is_open && is_posted {
+            (pass, Told::Done)
+        } else {
+            (pass, Told::Absent)
+        }
     }
 
     /// Asks for the reply to the first revision of a job of tenant a, which is to be this text.
@@ -139,28 +146,32 @@ impl<R: Wait> Caller<'_, R, One> {
         (self.service.join(pass, other), told)
     }
 
-    /// Asks for the reply before the first slice, has another pass work, asks again, and asks of a job that is not
-    /// there. What is answered.
-    fn ask_around(&self, pass: Pass<One>) -> (Pass<One>, [Told; 4])
+    /// Posts a job, asks for the reply before its first slice, has another pass work, asks again, and asks of a job that
+    /// is not there. What is answered.
+    fn ask_around(&self, pass: Pass<One>) -> (Pass<One>, [Told; 5])
         requires { IsOf self.now.service.now.turn pass }
         ensures { IsOf self.now.service.now.turn result.0 }
     {
+        let (pass, posted) = self.post_job(pass);
         let (pass, early) = self.hear(pass, b"p", b"");
         let (pass, back) = self.work_aside(pass);
         let (pass, late) = self.hear(pass, b"p", FREE_REPLY);
         let (pass, absent) = self.hear(pass, b"q", b"");
-        (pass, [early, back, late, absent])
+        (pass, [posted, early, back, late, absent])
     }
 
-    /// Picks, gives back what came of another hall's lease, and then what came of its own. What is answered.
-    fn give_strange(&self, pass: Pass<One>) -> (Pass<One>, [Told; 2])
+    /// Posts a job, picks, gives back what came of another hall's lease, then what came of its own, and asks for the
+    /// reply. What is answered.
+    fn give_strange(&self, pass: Pass<One>) -> (Pass<One>, [Told; 4])
         requires { IsOf self.now.service.now.turn pass }
         ensures { IsOf self.now.service.now.turn result.0 }
     {
+        let (pass, posted) = self.post_job(pass);
         let (pass, picked) = self.service.pick(self.rt, pass, 1);
         let (pass, strange) = self.give(pass, second(self.alloc));
         let (pass, back) = self.give(pass, worked(self.alloc, picked));
-        (pass, [strange, back])
+        let (pass, reply) = self.hear(pass, b"p", FREE_REPLY);
+        (pass, [posted, strange, back, reply])
     }
 }
 
@@ -180,16 +191,10 @@ fn closed<S: Size>(alloc: Global, service: Service<S>, pass: Pass<S>, known: &[u
 #[test]
 fn a_pass_hears_what_another_worked(rt: HostRuntime) -> Result<(), AllocError> {
     let (service, pass) = Service::<One>::new(rt.alloc(), 1)?;
-    let caller = Caller {
-        rt: &rt,
-        alloc: rt.alloc(),
-        service: &service,
-    };
-    let (pass, is_posted) = caller.post_job(pass);
-    let (pass, told) = caller.ask_around(pass);
+    let (pass, told) = Caller::new(&rt, rt.alloc(), &service).ask_around(pass);
     let end = closed(rt.alloc(), service, pass, HISTORY);
-    assert!(rt; is_posted);
     let known = [
+        Told::Done,
         Told::NoReply,
         Told::Done,
         Told::Done,
@@ -235,16 +240,8 @@ fn second(alloc: Global) -> Option<Done> {
 #[test]
 fn the_second_lease_of_another_hall_is_strange(rt: HostRuntime) -> Result<(), AllocError> {
     let (service, pass) = Service::<One>::new(rt.alloc(), 1)?;
-    let caller = Caller {
-        rt: &rt,
-        alloc: rt.alloc(),
-        service: &service,
-    };
-    let (pass, is_posted) = caller.post_job(pass);
-    let (pass, told) = caller.give_strange(pass);
-    let (_pass, reply) = caller.hear(pass, b"p", FREE_REPLY);
-    assert!(rt; is_posted);
-    assert_eq!(rt; told, [Told::Strange(Some(1)), Told::Done]);
-    assert_eq!(rt; reply, Told::Done);
+    let (_pass, told) = Caller::new(&rt, rt.alloc(), &service).give_strange(pass);
+    let known = [Told::Done, Told::Strange(Some(1)), Told::Done, Told::Done];
+    assert_eq!(rt; told, known);
     Ok(())
 }

@@ -179,11 +179,10 @@ impl<R: Wait> Caller<'_, R, Sixteen> {
     }
 
     /// Makes the calls of a tenant in a round.
-    fn play(&self, pass: Pass<Sixteen>, tenant: &mut Tenant) -> Pass<Sixteen>
+    fn play(&self, mut pass: Pass<Sixteen>, tenant: &mut Tenant) -> Pass<Sixteen>
         requires { IsOf self.now.service.now.turn pass }
         ensures { IsOf self.now.service.now.turn result }
     {
-        let mut pass = pass;
         for _made in 0..CALLS {
             pass = self.step(pass, tenant);
         }
@@ -191,11 +190,10 @@ impl<R: Wait> Caller<'_, R, Sixteen> {
     }
 
     /// Opens a job for each tenant.
-    fn open_all(&self, pass: Pass<Sixteen>, tenants: &mut [Tenant]) -> Pass<Sixteen>
+    fn open_all(&self, mut pass: Pass<Sixteen>, tenants: &mut [Tenant]) -> Pass<Sixteen>
         requires { IsOf self.now.service.now.turn pass }
         ensures { IsOf self.now.service.now.turn result }
     {
-        let mut pass = pass;
         for tenant in tenants {
             let (next, is_open) = self.post(pass, opening(self.alloc, &tenant.letter()));
             pass = next;
@@ -229,13 +227,12 @@ impl<R: Wait> Caller<'_, R, Sixteen> {
     /// Sixteen passes of one, which comes back.
     fn split_all(
         &self,
-        pass: Pass<Sixteen>,
+        mut pass: Pass<Sixteen>,
     ) -> Result<(Pass<Sixteen>, Vec<Pass<Sixteen>>), AllocError>
         requires { IsOf self.now.service.now.turn pass }
         ensures of { IfOk result (λ r. IsOf self.now.service.now.turn r.0) }
         ensures all { IfOk result (λ r. All (λ x. IsOf self.now.service.now.turn x) r.1.items) }
     {
-        let mut pass = pass;
         let mut passes = Vec::new(self.alloc);
         for _made in 0..16 {
             let (mine, theirs) = self.service.split(pass);
@@ -246,12 +243,11 @@ impl<R: Wait> Caller<'_, R, Sixteen> {
     }
 
     /// Puts passes together.
-    fn join_all(&self, pass: Pass<Sixteen>, passes: Vec<Pass<Sixteen>>) -> Pass<Sixteen>
+    fn join_all(&self, mut pass: Pass<Sixteen>, passes: Vec<Pass<Sixteen>>) -> Pass<Sixteen>
         requires of { IsOf self.now.service.now.turn pass }
         requires all { All (λ x. IsOf self.now.service.now.turn x) passes.items }
         ensures { IsOf self.now.service.now.turn result }
     {
-        let mut pass = pass;
         for other in passes {
             pass = self.service.join(pass, other);
         }
@@ -276,11 +272,10 @@ impl<R: Wait> Caller<'_, R, Sixteen> {
     }
 
     /// Works until there is nothing to do.
-    fn work_off(&self, pass: Pass<Sixteen>) -> Pass<Sixteen>
+    fn work_off(&self, mut pass: Pass<Sixteen>) -> Pass<Sixteen>
         requires { IsOf self.now.service.now.turn pass }
         ensures { IsOf self.now.service.now.turn result }
     {
-        let mut pass = pass;
         for _made in 0..REST {
             let (next, told) = self.work(pass, 1);
             pass = next;
@@ -292,11 +287,10 @@ impl<R: Wait> Caller<'_, R, Sixteen> {
     }
 
     /// Asks for the replies to all revisions of a tenant.
-    fn listen_to_all(&self, pass: Pass<Sixteen>, tenant: &mut Tenant) -> Pass<Sixteen>
+    fn listen_to_all(&self, mut pass: Pass<Sixteen>, tenant: &mut Tenant) -> Pass<Sixteen>
         requires { IsOf self.now.service.now.turn pass }
         ensures { IsOf self.now.service.now.turn result }
     {
-        let mut pass = pass;
         for at in 0..ROUNDS * CALLS {
             if at as usize >= tenant.posted.len() {
                 return pass;
@@ -307,30 +301,14 @@ impl<R: Wait> Caller<'_, R, Sixteen> {
     }
 
     /// Asks for the replies to all revisions of all tenants.
-    fn listen_for_all(&self, pass: Pass<Sixteen>, tenants: &mut [Tenant]) -> Pass<Sixteen>
+    fn listen_for_all(&self, mut pass: Pass<Sixteen>, tenants: &mut [Tenant]) -> Pass<Sixteen>
         requires { IsOf self.now.service.now.turn pass }
         ensures { IsOf self.now.service.now.turn result }
     {
-        let mut pass = pass;
         for tenant in tenants {
             pass = self.listen_to_all(pass, tenant);
         }
         pass
-    }
-
-    /// Tenants share a service, and ask for all replies at the end.
-    fn share(
-        &self,
-        pass: Pass<Sixteen>,
-        tenants: &mut [Tenant],
-    ) -> Result<Pass<Sixteen>, AllocError>
-        requires { IsOf self.now.service.now.turn pass }
-        ensures { IfOk result (λ p. IsOf self.now.service.now.turn p) }
-    {
-        let pass = self.open_all(pass, tenants);
-        let pass = self.play_all(pass, tenants)?;
-        let pass = self.work_off(pass);
-        Ok(self.listen_for_all(pass, tenants))
     }
 }
 
@@ -380,15 +358,14 @@ fn is_as_alone(alloc: Global, tenant: &Tenant) -> bool {
     }
 }
 
-/// Tenants share a service, which is closed in the end. False where it is still in use then.
+/// Tenants share a service, ask for all replies and close it. False where it is still in use then.
 fn is_shared<R: Wait>(rt: &R, alloc: Global, tenants: &mut [Tenant]) -> Result<bool, AllocError> {
     let (service, pass) = Service::<Sixteen>::new(alloc, 16)?;
-    let caller = Caller {
-        rt,
-        alloc,
-        service: &service,
-    };
-    let pass = caller.share(pass, tenants)?;
+    let caller = Caller::new(rt, alloc, &service);
+    let pass = caller.open_all(pass, tenants);
+    let pass = caller.play_all(pass, tenants)?;
+    let pass = caller.work_off(pass);
+    let pass = caller.listen_for_all(pass, tenants);
     Ok(service.close(pass).is_ok())
 }
 
