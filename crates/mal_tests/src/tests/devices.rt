@@ -149,134 +149,141 @@ fn a_script_that_is_made_leaves_the_source_unread(rt: HostRuntime) -> Result<(),
     Ok(())
 }
 
-/// The words of a run.
-const RUN: &[&str] = &["mal", "run", "--workers", "1"];
+/// A command that reads: its words and an input, with what it writes.
+#[derive(Clone, Copy)]
+struct Command<'a> {
+    parts: &'a [&'a str],
+    input: &'a [u8],
+    out: &'a [u8],
+    log: &'a [u8],
+}
 
-/// The words of the other commands that read.
-const CHECK: &[&str] = &["mal", "check"];
+/// A run of the script.
+const RUN: Command<'static> = Command {
+    parts: &["mal", "run", "--workers", "1"],
+    input: SCRIPT,
+    out: REPLY,
+    log: LOG,
+};
 
-const REPLAY: &[&str] = &["mal", "replay"];
+/// A check of a claim.
+const CHECK: Command<'static> = Command {
+    parts: &["mal", "check"],
+    input: b"p cnf 1 2\n1 0\n-1 0\nproof\n3 0 1 2 0\n",
+    out: b"s VERIFIED\n",
+    log: b"",
+};
 
-/// A claim, and what is answered to it.
-const CLAIM: &[u8] = b"p cnf 1 2\n1 0\n-1 0\nproof\n3 0 1 2 0\n";
+/// A replay of the account of that run.
+const REPLAY: Command<'static> = Command {
+    parts: &["mal", "replay"],
+    input: ACCOUNT,
+    out: REPLY,
+    log: b"",
+};
 
-const VERIFIED: &[u8] = b"s VERIFIED\n";
-
-/// The account of the run of that script.
 const ACCOUNT: &[u8] =
     b"t a\nj p 1 1 4\np cnf 0 0\na 0\ne\nhistory\nh mal 1 1\no a p 1 1 4\nr a p 1\nc a p\nb a p 1\ns a p 0 1\nf a p 0 1 ran\n";
 
-/// What is answered where a call of the source fails, which gives a byte a call.
+/// What a command answers where a call of the source fails, which gives a byte a call.
 fn answer_where<R: Threads + Wait + Sync>(
     rt: &R,
     alloc: Global,
-    parts: &[&str],
-    input: &[u8],
+    command: &Command,
     call: u64,
 ) -> Result<Told, AllocError> {
     let failing = [call];
-    let mut source = MemSource::new(input, 1, &failing);
-    answer_to(rt, alloc, parts, &mut source, &NONE)
+    let mut source = MemSource::new(command.input, 1, &failing);
+    answer_to(rt, alloc, command.parts, &mut source, &NONE)
 }
 
 /// Each call of the source fails in turn, up to the one that finds the end, and nothing is written. With no fault the
-/// output and the log are these.
+/// command writes what it has to.
 fn fail_in_turn<R: Threads + Wait + Sync + Abort>(
     rt: &R,
     alloc: Global,
-    parts: &[&str],
-    input: &[u8],
-    out: &[u8],
-    log: &[u8],
+    command: &Command,
 ) -> Result<(), Fail> {
-    let calls = (input.len() as u64).saturating_add(2);
+    let calls = (command.input.len() as u64).saturating_add(2);
     for call in 1..calls {
-        let told = answer_where(rt, alloc, parts, input, call)?;
+        let told = answer_where(rt, alloc, command, call)?;
         told.check(rt, 4, b"", b"")?;
     }
-    let told = answer_where(rt, alloc, parts, input, calls)?;
-    told.check(rt, 0, out, log)
+    let told = answer_where(rt, alloc, command, calls)?;
+    told.check(rt, 0, command.out, command.log)
 }
 
 #[test]
 fn a_source_that_fails_is_told_and_nothing_is_written(rt: HostRuntime) -> Result<(), Fail> {
     let alloc = rt.alloc();
     assert_eq!(rt; SCRIPT.len(), 30);
-    fail_in_turn(&rt, alloc, RUN, SCRIPT, REPLY, LOG)?;
-    fail_in_turn(&rt, alloc, CHECK, CLAIM, VERIFIED, b"")?;
-    fail_in_turn(&rt, alloc, REPLAY, ACCOUNT, REPLY, b"")
+    fail_in_turn(&rt, alloc, &RUN)?;
+    fail_in_turn(&rt, alloc, &CHECK)?;
+    fail_in_turn(&rt, alloc, &REPLAY)
 }
 
-/// What is answered to an input where the sinks fail. The source gives so many bytes a call.
+/// What a command answers where the sinks fail. The source gives so many bytes a call.
 fn cut_short<R: Threads + Wait + Sync>(
     rt: &R,
     alloc: Global,
-    parts: &[&str],
-    input: &[u8],
+    command: &Command,
     sinks: &Sinks,
 ) -> Result<Told, AllocError> {
-    let mut source = MemSource::new(input, 4, &[]);
-    answer_to(rt, alloc, parts, &mut source, sinks)
+    let mut source = MemSource::new(command.input, 4, &[]);
+    answer_to(rt, alloc, command.parts, &mut source, sinks)
 }
 
-/// A log that fails in a run keeps a front of its text, of so many bytes, and the output gets nothing.
-fn has_front_of_log<R: Threads + Wait + Sync + Abort>(
+/// What a command answers whose output, or else its log, fails so.
+fn answer_with<R: Threads + Wait + Sync>(
     rt: &R,
     alloc: Global,
-    log: Sinking,
+    command: &Command,
+    is_out: bool,
+    sinking: Sinking,
+) -> Result<Told, AllocError> {
+    let sinks = if is_out {
+        Sinks {
+            out: sinking,
+            log: WHOLE,
+        }
+    } else {
+        Sinks {
+            out: WHOLE,
+            log: sinking,
+        }
+    };
+    cut_short(rt, alloc, command, &sinks)
+}
+
+/// An output or a log that fails at its byte behind so many, and one that is full there, keep that front of their text.
+/// The output is written behind the whole log, and where the log fails it gets nothing.
+fn keeps_front<R: Threads + Wait + Sync + Abort>(
+    rt: &R,
+    alloc: Global,
+    command: &Command,
+    is_out: bool,
     front: usize,
 ) -> Result<(), Fail> {
-    let sinks = Sinks { out: WHOLE, log };
-    let told = cut_short(rt, alloc, RUN, SCRIPT, &sinks)?;
-    assert_eq!(rt; told.status, 5);
-    assert_eq!(rt; told.out.as_slice(), b"".as_slice());
-    assert_eq!(rt; told.log.len(), front);
-    assert!(rt; LOG.starts_with(told.log.as_slice()));
-    Ok(())
+    let text = if is_out { command.out } else { command.log };
+    let kept = text.get(..front).ok_or("no front")?;
+    let (out, log) = if is_out {
+        (kept, command.log)
+    } else {
+        (b"".as_slice(), kept)
+    };
+    let failing = [(front as u64).saturating_add(1)];
+    let told = answer_with(rt, alloc, command, is_out, Sinking::failing(&failing))?;
+    told.check(rt, 5, out, log)?;
+    let told = answer_with(rt, alloc, command, is_out, Sinking::full(front))?;
+    told.check(rt, 5, out, log)
 }
 
 #[test]
 fn a_log_that_fails_is_told_and_keeps_a_front(rt: HostRuntime) -> Result<(), Fail> {
-    let alloc = rt.alloc();
     assert_eq!(rt; LOG.len(), 68);
     for front in 0..68usize {
-        let failing = [front as u64 + 1];
-        has_front_of_log(&rt, alloc, Sinking::failing(&failing), front)?;
-        has_front_of_log(&rt, alloc, Sinking::full(front), front)?;
+        keeps_front(&rt, rt.alloc(), &RUN, false, front)?;
     }
-    Ok(())
-}
-
-/// An output that fails keeps a front of its text, of so many bytes, behind the whole log.
-fn has_front_of_output<R: Threads + Wait + Sync + Abort>(
-    rt: &R,
-    alloc: Global,
-    parts: &[&str],
-    input: &[u8],
-    out: Sinking,
-) -> Result<Told, Fail> {
-    let sinks = Sinks { out, log: WHOLE };
-    let told = cut_short(rt, alloc, parts, input, &sinks)?;
-    assert_eq!(rt; told.status, 5);
-    Ok(told)
-}
-
-/// An output that fails at its byte behind so many, and one that is full there, both keep that front of this text.
-fn keeps_front<R: Threads + Wait + Sync + Abort>(
-    rt: &R,
-    alloc: Global,
-    parts: &[&str],
-    input: &[u8],
-    text: &[u8],
-    front: usize,
-) -> Result<(), Fail> {
-    let failing = [(front as u64).saturating_add(1)];
-    let told = has_front_of_output(rt, alloc, parts, input, Sinking::failing(&failing))?;
-    assert_eq!(rt; told.out.len(), front);
-    assert!(rt; text.starts_with(told.out.as_slice()));
-    let again = has_front_of_output(rt, alloc, parts, input, Sinking::full(front))?;
-    assert_eq!(rt; again.out.as_slice(), told.out.as_slice());
-    assert_eq!(rt; again.log.as_slice(), told.log.as_slice());
     Ok(())
 }
 
@@ -285,20 +292,12 @@ fn an_output_that_fails_is_told_and_keeps_a_front(rt: HostRuntime) -> Result<(),
     let alloc = rt.alloc();
     assert_eq!(rt; REPLY.len(), 26);
     for front in 0..26usize {
-        keeps_front(&rt, alloc, RUN, SCRIPT, REPLY, front)?;
-        keeps_front(&rt, alloc, REPLAY, ACCOUNT, REPLY, front)?;
+        keeps_front(&rt, alloc, &RUN, true, front)?;
+        keeps_front(&rt, alloc, &REPLAY, true, front)?;
     }
-    for front in 0..VERIFIED.len() {
-        keeps_front(&rt, alloc, CHECK, CLAIM, VERIFIED, front)?;
+    for front in 0..CHECK.out.len() {
+        keeps_front(&rt, alloc, &CHECK, true, front)?;
     }
-    Ok(())
-}
-
-#[test]
-fn the_output_is_written_behind_the_whole_log(rt: HostRuntime) -> Result<(), Fail> {
-    let told = has_front_of_output(&rt, rt.alloc(), RUN, SCRIPT, Sinking::full(25))?;
-    assert_eq!(rt; told.log.as_slice(), LOG);
-    assert_eq!(rt; told.out.as_slice(), REPLY.get(..25).ok_or("no front")?);
     Ok(())
 }
 
@@ -308,18 +307,21 @@ fn sinks_with_room_for_their_texts_get_them(rt: HostRuntime) -> Result<(), Fail>
         out: Sinking::full(26),
         log: Sinking::full(68),
     };
-    let told = cut_short(&rt, rt.alloc(), RUN, SCRIPT, &sinks)?;
+    let told = cut_short(&rt, rt.alloc(), &RUN, &sinks)?;
     told.check(&rt, 0, REPLY, LOG)
 }
 
 #[test]
 fn a_fault_keeps_its_status_where_the_log_fails(rt: HostRuntime) -> Result<(), Fail> {
-    let script = b"t a\nj p 1 1 4\np cnf 1 0\na 1 -1 0\ne\n";
+    let command = Command {
+        input: b"t a\nj p 1 1 4\np cnf 1 0\na 1 -1 0\ne\n",
+        ..RUN
+    };
     let sinks = Sinks {
         out: WHOLE,
         log: Sinking::failing(&[1]),
     };
-    let told = cut_short(&rt, rt.alloc(), RUN, script, &sinks)?;
+    let told = cut_short(&rt, rt.alloc(), &command, &sinks)?;
     told.check(&rt, 3, b"", b"")
 }
 
@@ -329,7 +331,11 @@ fn status_of<R: Threads + Wait + Sync + Abort>(
     alloc: Global,
     script: &[u8],
 ) -> Result<u8, Fail> {
-    let told = cut_short(rt, alloc, RUN, script, &NONE)?;
+    let command = Command {
+        input: script,
+        ..RUN
+    };
+    let told = cut_short(rt, alloc, &command, &NONE)?;
     if told.status == 3 {
         assert_eq!(rt; told.out.as_slice(), b"".as_slice());
         assert!(rt; told.log.as_slice().starts_with(b"fault: script line "));
