@@ -1,6 +1,6 @@
 //! Scripts that threads run over a hall under a lock, and over a service.
 
-ghost use Rattle.std.specs.Prelude.{◌≤◌, IfOk};
+ghost use Rattle.std.specs.Prelude.{◌≡◌, ◌≤◌, IfOk};
 ghost use Rattle.mal_pool.specs.Posts.{HasRun};
 
 use super::gates::{Together, check_replies};
@@ -22,23 +22,47 @@ enum Sharing {
     Service,
 }
 
-impl Sharing {
-    /// Runs a script with so many workers, two at least.
+/// Workers, two at least, and how they share a hall.
+#[derive(Clone, Copy)]
+struct Team {
+    sharing: Sharing,
+    workers: u32,
+}
+
+impl Team {
+    fn locking(workers: u32) -> Team
+        ensures { result.workers ≡ workers }
+    {
+        Team {
+            sharing: Sharing::Lock,
+            workers,
+        }
+    }
+
+    fn serving(workers: u32) -> Team
+        ensures { result.workers ≡ workers }
+    {
+        Team {
+            sharing: Sharing::Service,
+            workers,
+        }
+    }
+
+    /// Runs a script.
     fn run<R: Threads + Wait + Sync, G: Gate>(
         self,
         rt: &R,
         alloc: Global,
         script: &Script,
-        workers: u32,
         gate: &G,
     ) -> Result<Hall, AllocError>
-        requires some { 2 ≤ workers }
-        requires bound { workers ≤ 64 }
-        ensures { IfOk result (λ h. HasRun workers script.now h) }
+        requires some { 2 ≤ self.workers }
+        requires bound { self.workers ≤ 64 }
+        ensures { IfOk result (λ h. HasRun self.workers script.now h) }
     {
-        match self {
-            Sharing::Lock => run_all(rt, alloc, script, workers, gate),
-            Sharing::Service => run_served(rt, alloc, script, workers, gate),
+        match self.sharing {
+            Sharing::Lock => run_all(rt, alloc, script, self.workers, gate),
+            Sharing::Service => run_served(rt, alloc, script, self.workers, gate),
         }
     }
 }
@@ -48,23 +72,22 @@ impl Sharing {
 fn start_together<R: Threads + Wait + Sync + Abort>(
     rt: &R,
     alloc: Global,
-    sharing: Sharing,
-    workers: u32,
+    team: Team,
 ) -> Result<(), Fail>
-    requires some { 2 ≤ workers }
-    requires bound { workers ≤ 64 }
+    requires some { 2 ≤ team.workers }
+    requires bound { team.workers ≤ 64 }
 {
-    let script = read(alloc, single_jobs(alloc, workers)?.as_slice())?;
-    let gate = Together::of(u64::from(workers));
-    let hall = sharing.run(rt, alloc, &script, workers, &gate)?;
+    let script = read(alloc, single_jobs(alloc, team.workers)?.as_slice())?;
+    let gate = Together::of(u64::from(team.workers));
+    let hall = team.run(rt, alloc, &script, &gate)?;
     gate.check(rt, hall.history())
 }
 
 #[test]
 fn workers_start_before_one_finishes(rt: HostRuntime) -> Result<(), Fail> {
-    start_together(&rt, rt.alloc(), Sharing::Lock, 2)?;
-    start_together(&rt, rt.alloc(), Sharing::Lock, 4)?;
-    start_together(&rt, rt.alloc(), Sharing::Service, 4)
+    start_together(&rt, rt.alloc(), Team::locking(2))?;
+    start_together(&rt, rt.alloc(), Team::locking(4))?;
+    start_together(&rt, rt.alloc(), Team::serving(4))
 }
 
 /// A script with the replies to it.
@@ -78,15 +101,14 @@ struct Answered {
 fn reply_alike<R: Threads + Wait + Sync + Abort>(
     rt: &R,
     alloc: Global,
-    sharing: Sharing,
-    workers: u32,
+    team: Team,
     known: Answered,
 ) -> Result<(), Fail>
-    requires some { 2 ≤ workers }
-    requires bound { workers ≤ 64 }
+    requires some { 2 ≤ team.workers }
+    requires bound { team.workers ≤ 64 }
 {
     let script = read(alloc, known.script)?;
-    let hall = sharing.run(rt, alloc, &script, workers, &PlainGate)?;
+    let hall = team.run(rt, alloc, &script, &PlainGate)?;
     check_replies(rt, alloc, &hall, &script, known.replies)
 }
 
@@ -110,8 +132,8 @@ const FOUR: Answered = Answered {
 #[test]
 fn any_number_of_workers_replies_alike(rt: HostRuntime) -> Result<(), Fail> {
     reply_alone(&rt, rt.alloc(), FOUR)?;
-    reply_alike(&rt, rt.alloc(), Sharing::Lock, 4, FOUR)?;
-    reply_alike(&rt, rt.alloc(), Sharing::Lock, 64, FOUR)
+    reply_alike(&rt, rt.alloc(), Team::locking(4), FOUR)?;
+    reply_alike(&rt, rt.alloc(), Team::locking(64), FOUR)
 }
 
 /// Three revisions of a job of one tenant, beside jobs of two others.
@@ -123,7 +145,7 @@ const THREE: Answered = Answered {
 #[test]
 fn any_number_of_workers_of_a_service_replies_alike(rt: HostRuntime) -> Result<(), Fail> {
     reply_alone(&rt, rt.alloc(), THREE)?;
-    reply_alike(&rt, rt.alloc(), Sharing::Service, 2, THREE)?;
-    reply_alike(&rt, rt.alloc(), Sharing::Service, 4, THREE)?;
-    reply_alike(&rt, rt.alloc(), Sharing::Service, 64, THREE)
+    reply_alike(&rt, rt.alloc(), Team::serving(2), THREE)?;
+    reply_alike(&rt, rt.alloc(), Team::serving(4), THREE)?;
+    reply_alike(&rt, rt.alloc(), Team::serving(64), THREE)
 }
