@@ -1,16 +1,15 @@
 //! The lines that tell why a text is no claim, or why its proof is not verified.
 
-ghost use Rattle.std.specs.Prelude.{◌≡◌, ◌∷◌, [], None, map, codes, IfOk, MatchOption};
+ghost use Rattle.std.specs.Prelude.{◌≡◌, ◌∷◌, ◌++◌, [], None, codes, IfOk, MatchOption};
 ghost use Rattle.spec_text.specs.{Faults.{TellsBy}, Lines.{line_of}, Numbers.{decimal_word}};
 ghost use Rattle.spec_claim.specs.FaultLines.{fault_line, proof_line};
 ghost use Rattle.mal_claim.specs.{ReadResult.{TellsVerdict, fault_of, in_line, refused, verdict_in}, Verdicts.{refusal_of}};
 
 use crate::VerifyFault;
 use crate::fault::ClaimFault;
-use itoa::Buffer;
 use mal_check::CheckFault;
 use mal_script::line_fault_line;
-use mal_text::put_line;
+use mal_text::{end_line, put_decimal, put_word};
 use std::alloc::{AllocError, Global};
 
 /// The line that tells a fault of a text, as `fault: no proof`, `fault: formula line 3 Range` or
@@ -66,12 +65,12 @@ fn proof_line(
         (λ o. MatchOption o (in_line line fault ≡ None) (λ text. TellsBy fault_line (in_line line fault) text.items)) }
 {
     match fault {
-        mal_lrat::LineFault::BadNumber => Ok(Some(in_proof(alloc, line, &[b"BadNumber"])?)),
-        mal_lrat::LineFault::MissingZero => Ok(Some(in_proof(alloc, line, &[b"MissingZero"])?)),
+        mal_lrat::LineFault::BadNumber => Ok(Some(word_line(alloc, line, b"BadNumber")?)),
+        mal_lrat::LineFault::MissingZero => Ok(Some(word_line(alloc, line, b"MissingZero")?)),
         mal_lrat::LineFault::IdNotRising { last, id } => {
             Ok(Some(not_rising_line(alloc, line, last, id)?))
         }
-        mal_lrat::LineFault::NegativeHint => Ok(Some(in_proof(alloc, line, &[b"NegativeHint"])?)),
+        mal_lrat::LineFault::NegativeHint => Ok(Some(word_line(alloc, line, b"NegativeHint")?)),
         mal_lrat::LineFault::OutOfMemory => Ok(None),
     }
 }
@@ -81,14 +80,11 @@ fn not_rising_line(alloc: Global, line: u64, last: u64, id: u64) -> Result<Vec<u
     ensures { IfOk result
         (λ text. text.items ≡ proof_line line (codes "IdNotRising" ∷ decimal_word last ∷ decimal_word id ∷ [])) }
 {
-    let mut one = Buffer::new();
-    let mut other = Buffer::new();
-    let words = [
-        b"IdNotRising".as_slice(),
-        one.format(last).as_bytes(),
-        other.format(id).as_bytes(),
-    ];
-    in_proof(alloc, line, &words)
+    let mut text = told(alloc, line, b"IdNotRising")?;
+    put_decimal(&mut text, last)?;
+    put_decimal(&mut text, id)?;
+    end_line(&mut text)?;
+    Ok(text)
 }
 
 /// The line that tells why a line of the proof is refused; none for want of memory.
@@ -105,7 +101,7 @@ fn refusal_line(alloc: Global, line: u64, fault: CheckFault) -> Result<Option<Ve
         CheckFault::HintNotUnit { id } => {
             Ok(Some(id_line(alloc, line, b"HintNotUnit", id.number())?))
         }
-        CheckFault::NoContradiction => Ok(Some(in_proof(alloc, line, &[b"NoContradiction"])?)),
+        CheckFault::NoContradiction => Ok(Some(word_line(alloc, line, b"NoContradiction")?)),
         CheckFault::OutOfMemory => Ok(None),
     }
 }
@@ -114,17 +110,29 @@ fn refusal_line(alloc: Global, line: u64, fault: CheckFault) -> Result<Option<Ve
 fn id_line(alloc: Global, line: u64, word: &[u8], id: u64) -> Result<Vec<u8>, AllocError>
     ensures { IfOk result (λ text. text.items ≡ proof_line line (word.now ∷ decimal_word id ∷ [])) }
 {
-    let mut number = Buffer::new();
-    let words = [word, number.format(id).as_bytes()];
-    in_proof(alloc, line, &words)
+    let mut text = told(alloc, line, word)?;
+    put_decimal(&mut text, id)?;
+    end_line(&mut text)?;
+    Ok(text)
 }
 
-/// The line that tells these words of a line of the proof.
-fn in_proof(alloc: Global, line: u64, words: &[&[u8]]) -> Result<Vec<u8>, AllocError>
-    ensures { IfOk result (λ text. text.items ≡ proof_line line (map (λ w. w.now) words.now)) }
+/// The line that tells this word of a line of the proof.
+fn word_line(alloc: Global, line: u64, word: &[u8]) -> Result<Vec<u8>, AllocError>
+    ensures { IfOk result (λ text. text.items ≡ proof_line line (word.now ∷ [])) }
+{
+    let mut text = told(alloc, line, word)?;
+    end_line(&mut text)?;
+    Ok(text)
+}
+
+/// What a line that tells of a line of the proof begins with, up to this word.
+fn told(alloc: Global, line: u64, word: &[u8]) -> Result<Vec<u8>, AllocError>
+    ensures { IfOk result
+        (λ text. text.items ≡ codes "fault: proof line" ++ 32 ∷ decimal_word line ++ 32 ∷ word.now) }
 {
     let mut text = Vec::new(alloc);
-    text.extend_from_slice(b"fault: proof line ")?;
-    put_line(&mut text, Buffer::new().format(line).as_bytes(), words)?;
+    text.extend_from_slice(b"fault: proof line")?;
+    put_decimal(&mut text, line)?;
+    put_word(&mut text, word)?;
     Ok(text)
 }
