@@ -126,7 +126,7 @@ impl Order {
         ensures room { self.new.room ≡ self.old.room }
         ensures passed { list_all (has_value (T.entries trail.now)) (take self.new.passed self.new.list) ≡ true }
     {
-        for _place in self.passed..self.ring.len() {
+        for _place in self.passed as usize..self.len() {
             let var = self.ahead();
             match trail.value(var) {
                 None => return Some(var),

@@ -1,4 +1,4 @@
-use Rattle.std.proofs.Common.{◌≡◌, ◌<◌, ◌≤◌, ◌∙◌, refl, sym, length, arith}
+use Rattle.std.proofs.Common.{◌<◌, ◌≤◌, ◌∙◌, sym, ap, length, arith}
 use Rattle.spec_node.specs.Value.{has_value}
 use Rattle.mal_order.proofs.FreeLemmas.{free-here, free-ends, find-passed, passed-more}
 use Rattle.mal_order.proofs.order.Order.first_free.Goals as goal
@@ -8,8 +8,7 @@ returns-in-None-clause-value g c =
     let inv = c.loop-place.invariant in
     let s = c.loop-place.self in
     let trail = g.T.TrailView.entries c.args.trail.now in
-    let long : length s.list ≡ length c.self.inside.ring.list = rw (inv.list, ← c.self.view_is) refl in
-    let low : s.passed < length s.list = omega (arith, long, inv.place) in
+    let low : s.passed < length s.list = omega (arith, ap length inv.list, inv.place) in
     rw (← inv.list) (sym (find-passed (has_value trail) s.list s.passed inv.valued ∙ free-here trail s.list s.passed c.ahead-var.result low c.ahead-var.ensures (sym c.value.ensures ∙ c.in-None.is)))
 
 pub loop-place-preserved : goal.loop-place-preserved
@@ -17,8 +16,7 @@ loop-place-preserved g c =
     let inv = c.loop-place.invariant in
     let s = c.loop-place.self in
     let trail = g.T.TrailView.entries c.args.trail.now in
-    let long : length s.list ≡ length c.self.inside.ring.list = rw (inv.list, ← c.self.view_is) refl in
-    let low : s.passed < length s.list = omega (arith, long, inv.place) in
+    let low : s.passed < length s.list = omega (arith, ap length inv.list, inv.place) in
     record {
       index = c.pass.ensures.index ∙ inv.index;
       list = c.pass.ensures.list ∙ inv.list;
@@ -32,6 +30,5 @@ returns-clause-value g c =
     let inv = c.loop-place.invariant in
     let s = c.loop-place.self in
     let trail = g.T.TrailView.entries c.args.trail.now in
-    let long : length s.list ≡ length c.self.inside.ring.list = rw (inv.list, ← c.self.view_is) refl in
-    let high : length s.list ≤ s.passed = omega (arith, long, inv.place) in
+    let high : length s.list ≤ s.passed = omega (arith, ap length inv.list, inv.place) in
     rw (← inv.list) (sym (find-passed (has_value trail) s.list s.passed inv.valued ∙ free-ends trail s.list s.passed high))
