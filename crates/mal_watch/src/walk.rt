@@ -1,6 +1,7 @@
 //! Going over the clauses that watch a literal which has become false.
 
 ghost use Rattle.std.specs.Prelude.{◌≡◌, ◌+◌, ◌≤◌, ◌<◌, [], ◌++◌, length, take, drop, ◌∷◌, slice_index, slice_index_or, MatchOption, vec_len, vec_capacity};
+ghost use Rattle.std.specs.Option.{option_to_list};
 ghost use Rattle.mal_store.specs.Rowed.{no_row};
 ghost use Rattle.mal_watch.specs.{Watching.{partner, IsOther, AreOthersFalse, IsSettled}, Going.{Turns, Goes}, Finding.{found_at, found_in}};
 
@@ -76,28 +77,24 @@ fn to_watch(store: &Store, trail: &Trail, count: usize, row: usize, other: Lit) 
 /// is true under the first entries. Where that one alone is left, and not true, the clause is found.
 fn visit(
     chains: &mut WatchLists,
-    found: &mut Vec<Found>,
     store: &mut Store,
     trail: &Trail,
     count: usize,
     lit: Lit,
     node: usize,
-)
+) -> Option<Found>
     requires turns { Turns trail.now.entries count lit }
     requires first { chains.old.out ≡ node ∷ drop 1 chains.old.out }
     requires goes { Goes trail.now.entries count lit chains.old.lists store.old.long chains.old.keys
         (node ∷ drop 1 chains.old.out) }
-    requires room { vec_len found.old < vec_capacity found.old }
     ensures goes { Goes trail.now.entries count lit chains.new.lists store.old.long chains.new.keys
         (drop 1 chains.old.out) }
-    ensures found { found.new.items
-        ≡ found.old.items ++ found_at (take count trail.now.entries) trail.now.entries store.old.long node }
+    ensures found { option_to_list result
+        ≡ found_at (take count trail.now.entries) trail.now.entries store.old.long node }
     ensures out { chains.new.out ≡ drop 1 chains.old.out }
     ensures store { store.new ≡ store.old }
     ensures lists { chains.new.lists ≡ chains.old.lists }
     ensures chains_room { chains.new.room ≡ chains.old.room }
-    ensures len { vec_len found.new ≤ vec_len found.old + 1 }
-    ensures capacity { vec_capacity found.new ≡ vec_capacity found.old }
 {
     let row = node / 2;
     let other = chains.key(partner(node));
@@ -105,14 +102,17 @@ fn visit(
         Some(place) => {
             chains.put(node, store.long_lits(row)[place]);
             store.keep_hint(row, place);
+            None
         }
         None => {
             chains.put(node, lit);
             if !trail.is_false_before(count, other) && !trail.is_true(other) {
-                found.push_reserved(Found {
+                Some(Found {
                     id: store.long_id(row),
                     lit: other,
-                });
+                })
+            } else {
+                None
             }
         }
     }
@@ -141,6 +141,9 @@ pub fn walk(
     ensures capacity { vec_capacity found.new ≡ vec_capacity found.old }
 {
     while let Some(node) = chains.first() {
-        visit(chains, found, store, trail, count, lit, node);
+        match visit(chains, store, trail, count, lit, node) {
+            Some(clause) => found.push_reserved(clause),
+            None => {}
+        }
     }
 }

@@ -1,4 +1,4 @@
-use Rattle.std.proofs.Common.{◌≡◌, ◌⊎◌, inl, inr, true, false, [], ◌∷◌, take, drop, set, refl, sym, ◌∙◌, append-nil, arith}
+use Rattle.std.proofs.Common.{◌≡◌, ◌⊎◌, inl, inr, true, false, [], ◌∷◌, take, drop, set, refl, sym, ◌∙◌}
 use Rattle.std.proofs.lemmas.List.{get_or_read}
 use Rattle.spec_node.specs.Value.{is_true, is_false}
 use Rattle.mal_watch.specs.Watching.{row_at, other_key, IsOther, IsSettled}
@@ -6,7 +6,7 @@ use Rattle.mal_watch.proofs.HasLemmas.{has-head}
 use Rattle.mal_watch.proofs.WalkLemmas.{partner-below, row-below}
 use Rattle.mal_watch.proofs.TurnLemmas.{Visited, visit-moved, visit-settled, visit-left, two-watched}
 use Rattle.mal_watch.proofs.walk.visit.Goals as goal
-use Rattle.mal_watch.proofs.walk.visit.Goals.{After-keep_hint, After-push_reserved, Joined-else-not-is_false_before, else-not-is_false_before-via-then-not-is_false_before+else-not-is_true, else-not-is_false_before-via-else-not-is_false_before}
+use Rattle.mal_watch.proofs.walk.visit.Goals.{After-keep_hint, After-long_id, Joined-else-not-is_false_before, else-not-is_false_before-via-then-not-is_false_before+else-not-is_true, else-not-is_false_before-via-else-not-is_false_before}
 
 pub key-other-requires : goal.key-other-requires
 key-other-requires c =
@@ -44,10 +44,10 @@ pub returns-in-Some-clause-goes : goal.returns-in-Some-clause-goes
 returns-in-Some-clause-goes c = rw (c.put.ensures.keys, c.put.ensures.lists) (moved c).goes
 
 pub returns-in-Some-clause-found : goal.returns-in-Some-clause-found
-returns-in-Some-clause-found c = rw (moved c).finds (sym (append-nil c.args.found.now.items))
+returns-in-Some-clause-found c = sym (moved c).finds
 
 -- the other literal alone is left
-left : (c : After-push_reserved) → Visited c.args.trail.now.entries c.args.count c.args.lit c.args.chains.now.lists c.args.store.now.long (set c.args.chains.now.keys c.args.node c.args.lit) (drop 1 c.args.chains.now.out) c.args.node (record { id = (row_at c.args.store.now.long c.args.node).id; lit = other_key c.args.chains.now.keys c.args.node } ∷ [])
+left : (c : After-long_id) → Visited c.args.trail.now.entries c.args.count c.args.lit c.args.chains.now.lists c.args.store.now.long (set c.args.chains.now.keys c.args.node c.args.lit) (drop 1 c.args.chains.now.out) c.args.node (record { id = (row_at c.args.store.now.long c.args.node).id; lit = other_key c.args.chains.now.keys c.args.node } ∷ [])
 left c =
     let s = c.args.chains.now in
     let prefix = take c.args.count c.args.trail.now.entries in
@@ -64,7 +64,7 @@ pub returns-then-not-is_true-clause-found : goal.returns-then-not-is_true-clause
 returns-then-not-is_true-clause-found c =
     let other : c.key-other.result ≡ other_key c.args.chains.now.keys c.args.node = rw c.partner.ensures at c.key-other.ensures in
     let number : (row_at c.args.store.now.long c.args.node).id ≡ c.long_id.result = sym c.long_id.ensures in
-    rw (c.push_reserved.ensures.items, (left c).finds, number, ← other) refl
+    rw ((left c).finds, number, ← other) refl
 
 -- the other literal is false too, or true on the trail
 none : (c : Joined-else-not-is_false_before) → Visited c.args.trail.now.entries c.args.count c.args.lit c.args.chains.now.lists c.args.store.now.long (set c.args.chains.now.keys c.args.node c.args.lit) (drop 1 c.args.chains.now.out) c.args.node []
@@ -85,4 +85,4 @@ pub returns-else-not-is_false_before-clause-goes : goal.returns-else-not-is_fals
 returns-else-not-is_false_before-clause-goes c = rw (c.put-in-None.ensures.keys, c.put-in-None.ensures.lists) (none c).goes
 
 pub returns-else-not-is_false_before-clause-found : goal.returns-else-not-is_false_before-clause-found
-returns-else-not-is_false_before-clause-found c = rw (none c).finds (sym (append-nil c.args.found.now.items))
+returns-else-not-is_false_before-clause-found c = sym (none c).finds
