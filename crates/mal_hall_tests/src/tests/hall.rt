@@ -497,32 +497,6 @@ const THREE_REVISIONS: Play = &[
     ),
 ];
 
-/// Two nodes of profile 1 spend 8 slices on a revision of 1,000 variables and no clause, with an exchange between.
-const TWO_NODES_SPEND: Play = &[
-    (Call::OneJob(2, 8, 1, 1_000), Told::Done),
-    (
-        Call::Drive(
-            b"h mal 1 2\no a p 1 2 8\nr a p 1\nc a p\nb a p 2\ns a p 0 1\nf a p 0 1 ran\ns a p 1 1\nf a p 1 1 ran\ns a p 0 1\nf a p 0 1 ran\ns a p 1 1\nf a p 1 1 ran\nx a p\ns a p 0 1\nf a p 0 1 ran\ns a p 1 1\nf a p 1 1 ran\ns a p 0 1\nf a p 0 1 ran\ns a p 1 1\nf a p 1 1 ran\n",
-        ),
-        Told::Done,
-    ),
-    (
-        Call::Hear(P, 1, b"r a p 1\ns UNKNOWN\nu spent 8\n"),
-        Told::Done,
-    ),
-];
-
-/// The same of profile 2: the exchange of nothing leaves the nodes as they are, and one answers.
-const TWO_NODES_ANSWER: Play = &[
-    (Call::OneJob(2, 8, 2, 1_000), Told::Done),
-    (
-        Call::Drive(
-            b"h mal 1 2\no a p 1 2 8 2\nr a p 1\nc a p\nb a p 2\ns a p 0 1\nf a p 0 1 ran\ns a p 1 1\nf a p 1 1 ran\ns a p 0 1\nf a p 0 1 ran\ns a p 1 1\nf a p 1 1 ran\nx a p\ns a p 0 1\nf a p 0 1 ran\n",
-        ),
-        Told::Done,
-    ),
-];
-
 /// One job with a revision without variables.
 const ONE_JOB: Call = Call::OneJob(1, 4, 1, 0);
 
@@ -597,7 +571,7 @@ const UNCLOSED: Play = &[
 ];
 
 /// All plays, each behind the number of workers that its hall has.
-const PLAYS: [(u32, Play); 15] = [
+const PLAYS: [(u32, Play); 13] = [
     (1, OPENINGS),
     (1, JOBS_OF_A_TENANT),
     (1, TENANTS),
@@ -606,8 +580,6 @@ const PLAYS: [(u32, Play); 15] = [
     (1, CLAUSES_OF_A_JOB),
     (1, ABSENT_JOBS),
     (1, THREE_REVISIONS),
-    (2, TWO_NODES_SPEND),
-    (2, TWO_NODES_ANSWER),
     (2, BUSY),
     (1, RECALLED),
     (1, STARVED),
@@ -620,6 +592,32 @@ fn calls_are_answered_as_known(rt: HostRuntime) {
     for (workers, play) in PLAYS {
         assert_eq!(rt; tried(rt.alloc(), workers, play), play.len());
     }
+}
+
+/// How two nodes of profile 1 spend 8 slices on a revision of 1,000 variables and no clause, with an exchange between.
+const SPENT: &[u8] =
+    b"h mal 1 2\no a p 1 2 8\nr a p 1\nc a p\nb a p 2\ns a p 0 1\nf a p 0 1 ran\ns a p 1 1\nf a p 1 1 ran\ns a p 0 1\nf a p 0 1 ran\ns a p 1 1\nf a p 1 1 ran\nx a p\ns a p 0 1\nf a p 0 1 ran\ns a p 1 1\nf a p 1 1 ran\ns a p 0 1\nf a p 0 1 ran\ns a p 1 1\nf a p 1 1 ran\n";
+
+/// The same of profile 2: the exchange of nothing leaves the nodes as they are, and one answers.
+const ANSWERED: &[u8] =
+    b"h mal 1 2\no a p 1 2 8 2\nr a p 1\nc a p\nb a p 2\ns a p 0 1\nf a p 0 1 ran\ns a p 1 1\nf a p 1 1 ran\ns a p 0 1\nf a p 0 1 ran\ns a p 1 1\nf a p 1 1 ran\nx a p\ns a p 0 1\nf a p 0 1 ran\n";
+
+/// How many calls are answered as known where two nodes of a profile have 8 slices for a revision of 1,000 variables and
+/// no clause, this is the history of the run, and who expects this reply is told so.
+fn two_nodes(alloc: Global, profile: i64, history: &[u8], reply: &[u8], told: Told) -> usize {
+    let calls = [
+        (Call::OneJob(2, 8, profile, 1_000), Told::Done),
+        (Call::Drive(history), Told::Done),
+        (Call::Hear(P, 1, reply), told),
+    ];
+    tried(alloc, 2, &calls)
+}
+
+#[test]
+fn two_nodes_go_on_behind_an_exchange(rt: HostRuntime) {
+    let spent = b"r a p 1\ns UNKNOWN\nu spent 8\n";
+    assert_eq!(rt; two_nodes(rt.alloc(), 1, SPENT, spent, Told::Done), 3);
+    assert_eq!(rt; two_nodes(rt.alloc(), 2, ANSWERED, b"", Told::Other), 3);
 }
 
 /// How many calls are answered as known where of two nodes the one at this place comes back first, and this is the reply.
