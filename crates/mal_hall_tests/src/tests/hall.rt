@@ -604,7 +604,13 @@ const ANSWERED: &[u8] =
 
 /// How many calls are answered as known where two nodes of a profile have 8 slices for a revision of 1,000 variables and
 /// no clause, this is the history of the run, and who expects this reply is told so.
-fn two_nodes(alloc: Global, profile: i64, history: &[u8], reply: &[u8], told: Told) -> usize {
+fn two_nodes<'a>(
+    alloc: Global,
+    profile: i64,
+    history: &'a [u8],
+    reply: &'a [u8],
+    told: Told,
+) -> usize {
     let calls = [
         (Call::OneJob(2, 8, profile, 1_000), Told::Done),
         (Call::Drive(history), Told::Done),
