@@ -9,7 +9,7 @@ use Rattle.std.proofs.lemmas.Option.{slice_get-map, slice_get_read}
 use Rattle.mal_base.specs.Asks.{Terms}
 use Rattle.mal_base.specs.declared.verdict.Outcome.{Outcome}
 use Rattle.mal_base.specs.declared.verdict.Outcome.TheVariants.{Ran, Starved, Lost}
-use Rattle.mal_hall.specs.Applied.{HasEntered, IsBackOf, IsInside, StartsAt, listed_in, listed_last}
+use Rattle.mal_hall.specs.Applied.{Enters, HasEntered, IsBackOf, StartsAt, listed_in, listed_last}
 use Rattle.mal_hall.specs.Offered.{HasBalanced, HasEnded, HasExchanged, HasStarted, IsFirst, MayEnd, handed_of}
 use Rattle.mal_hall.specs.HallView.{Inside, IsHall, HallView, events_in, next_number, out_in}
 use Rattle.mal_history.specs.declared.event.Event as written
@@ -307,11 +307,15 @@ pub fault-is : {A : Type 0} (f g : ApplyFault) → ◌≡◌ {A = Result A Apply
 fault-is f g e = cc
 
 -- a lease that was handed out and is kept inside
-pub lodged-inside : (x m y : HallView) (k : Key) (index worker at : ℕ) (lease : Leased) → Stands x → StartsAt x.workers x.events k index worker at → HasStarted x.workers x.events m.events index worker lease → m.workers ≡ x.workers → m.inside ≡ x.inside → y.workers ≡ m.workers → y.events ≡ m.events → y.inside ≡ slice_set m.inside (worker - 1) (Some (handed_of lease)) → IsInside y
-lodged-inside x m y k index worker at lease is starts has workers inside later events set =
+pub enters-start : (x m y : HallView) (k : Key) (index worker at : ℕ) (lease : Leased) → Stands x → StartsAt x.workers x.events k index worker at → HasStarted x.workers x.events m.events index worker lease → m.workers ≡ x.workers → m.inside ≡ x.inside → y.workers ≡ m.workers → y.events ≡ m.events → y.inside ≡ slice_set m.inside (worker - 1) (Some (handed_of lease)) → Enters x (Start k index worker) y
+enters-start x m y k index worker at lease is starts has workers inside later events set =
     let entered : HasEntered x.workers x.events (Start k index worker) y.events = subst (HasEntered x.workers x.events (Start k index worker)) (sym events) (start-entered x.workers x.events m.events k index worker at lease starts has) in
     let handed_is : handed_of lease ≡ handed y.events (record { worker = worker; key = k; index = index }) = subst (λ (h : List Event). handed_of lease ≡ handed h (record { worker = worker; key = k; index = index })) (sym events) (start-handed x.workers x.events m.events k index worker at lease starts has) in
-    inside-start x y k index worker lease is (later ∙ workers) (set ∙ ap (λ (os : List (Option Handed)). slice_set os (worker - 1) (Some (handed_of lease))) inside) entered handed_is
+    record {
+      workers = later ∙ workers;
+      entered = entered;
+      inside = inside-start x y k index worker lease is (later ∙ workers) (set ∙ ap (λ (os : List (Option Handed)). slice_set os (worker - 1) (Some (handed_of lease))) inside) entered handed_is;
+    }
 
 -- a worker with a lease is one of the hall
 pub held-worker : (x : HallView) (k : Key) (index worker : ℕ) → Stands x → lease_of worker (leases x.events) ≡ Some (record { worker = worker; key = k; index = index }) → IsWorker x.workers worker
@@ -334,11 +338,16 @@ back-may x m k index worker o l outcome back is out taken found came events =
     let handed_is : handed_of l ≡ handed x.events held = handed-inside o l (handed x.events held) (lease-inside x k index worker o is mine.low mine.high out taken) found in
     subst (λ (h : List Event). MayEnd h worker back) (sym events) (finish-may x.events held l outcome back out handed_is came)
 
-pub ended-inside : (x m y : HallView) (k : Key) (index worker : ℕ) (l : Leased) (outcome : Outcome) (back : Option Finished) → Stands x → lease_of worker (leases x.events) ≡ Some (record { worker = worker; key = k; index = index }) → IsBackOf l outcome back → m.workers ≡ x.workers → m.events ≡ x.events → m.inside ≡ slice_set x.inside (worker - 1) None → y.workers ≡ m.workers → y.inside ≡ m.inside → HasEnded m.events y.events worker (outcome_of back) → IsInside y
-ended-inside x m y k index worker l outcome back is out came workers events inside later same ended =
+pub enters-finish : (x m y : HallView) (k : Key) (index worker : ℕ) (l : Leased) (outcome : Outcome) (back : Option Finished) → Stands x → lease_of worker (leases x.events) ≡ Some (record { worker = worker; key = k; index = index }) → IsBackOf l outcome back → m.workers ≡ x.workers → m.events ≡ x.events → m.inside ≡ slice_set x.inside (worker - 1) None → y.workers ≡ m.workers → y.inside ≡ m.inside → HasEnded m.events y.events worker (outcome_of back) → Enters x (Finish k index worker outcome) y
+enters-finish x m y k index worker l outcome back is out came workers events inside later same ended =
     let mine = held-worker x k index worker is out in
     let here : HasEnded x.events y.events worker (outcome_of back) = subst (λ (h : List Event). HasEnded h y.events worker (outcome_of back)) events ended in
-    inside-finish x y k index worker outcome is mine.low (later ∙ workers) (same ∙ inside) (finish-entered x.workers x.events y.events k index worker l outcome back out came here)
+    let entered : HasEntered x.workers x.events (Finish k index worker outcome) y.events = finish-entered x.workers x.events y.events k index worker l outcome back out came here in
+    record {
+      workers = later ∙ workers;
+      entered = entered;
+      inside = inside-finish x y k index worker outcome is mine.low (later ∙ workers) (same ∙ inside) entered;
+    }
 
 -- no job is live
 none-live : (ss : List Seat) → list_all (λ (s : Seat). not (is_live_seat s)) ss ≡ true → lives (jobs_in ss) ≡ []

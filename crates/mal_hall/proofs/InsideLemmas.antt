@@ -4,7 +4,7 @@ use Rattle.std.specs.Prelude.{replicate}
 use Rattle.std.proofs.lemmas.Bool.{both_ways}
 use Rattle.std.proofs.lemmas.Bool.Decides.{Decides-eqb}
 use Rattle.mal_base.specs.declared.verdict.Outcome.{Outcome}
-use Rattle.mal_hall.specs.Applied.{HasEntered, IsInside}
+use Rattle.mal_hall.specs.Applied.{Enters, HasEntered, IsInside}
 use Rattle.mal_hall.specs.Offered.{handed_of}
 use Rattle.mal_hall.specs.HallView.{HallView}
 use Rattle.spec_job.specs.Leased.{Leased}
@@ -36,11 +36,14 @@ slot-stays x e events n is entered low same =
     ∙ ap (λ (h : List Event). option_map (handed h) (lease_of (suc n) (leases h))) (sym entered.grown))
 
 -- an event that neither starts nor ends a start
-pub inside-same : (x y : HallView) (e : Event) → Stands x → y.workers ≡ x.workers → y.inside ≡ x.inside → HasEntered x.workers x.events e y.events → leases_step (leases x.events) e ≡ leases x.events → IsInside y
-inside-same x y e is workers inside entered same = record {
-  count = ap (λ (os : List (Option Handed)). length os) inside ∙ (is.inside.count ∙ sym workers);
-  each = λ n low. ap (λ (os : List (Option Handed)). get_or os n None) inside ∙ slot-stays x e y.events n is entered (omega (arith, low, workers)) (ap (lease_of (suc n)) (leases-push x.events e ∙ same));
-}
+pub enters-same : (x y : HallView) (e : Event) → Stands x → y.workers ≡ x.workers → y.inside ≡ x.inside → HasEntered x.workers x.events e y.events → leases_step (leases x.events) e ≡ leases x.events → Enters x e y
+enters-same x y e is workers inside entered same = record { workers = workers; entered = entered; inside = home }
+  where
+    home : IsInside y
+    home = record {
+      count = ap (λ (os : List (Option Handed)). length os) inside ∙ (is.inside.count ∙ sym workers);
+      each = λ n low. ap (λ (os : List (Option Handed)). get_or os n None) inside ∙ slot-stays x e y.events n is entered (omega (arith, low, workers)) (ap (lease_of (suc n)) (leases-push x.events e ∙ same));
+    }
 
 -- a start
 pub inside-start : (x y : HallView) (k : Key) (index worker : ℕ) (lease : Leased) → Stands x → y.workers ≡ x.workers → y.inside ≡ slice_set x.inside (worker - 1) (Some (handed_of lease)) → HasEntered x.workers x.events (Start k index worker) y.events → handed_of lease ≡ handed y.events (record { worker = worker; key = k; index = index }) → IsInside y

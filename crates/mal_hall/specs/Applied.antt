@@ -26,6 +26,16 @@ pub record HasEntered (workers : ℕ) (past : List Event) (event : Event) (now :
   pub allowed : Allowed workers past event
   pub grown : now ≡ past ++ event ∷ []
 
+-- so a hall whose leases are inside has entered it, and they are inside again
+pub record Enters (before : HallView) (event : Event) (after : HallView) : Type 0 where
+  pub workers : after.workers ≡ before.workers
+  pub entered : HasEntered before.workers before.events event after.events
+  pub inside : IsInside after
+
+-- the event may not come after those of the hall
+abbrev pub MayNotEnter : HallView → Event → Type 0
+MayNotEnter before event = Allowed before.workers before.events event → ⊥
+
 -- so was the event that was written down, with what was given as posted
 pub record HasApplied (workers : ℕ) (past : List Event) (posted : Option Posted) (line : written.Event) (now : List Event) : Type 0 where
   pub event : Event

@@ -2,7 +2,7 @@
 
 ghost use Rattle.std.specs.Prelude.{◌≡◌, false, Some, Err, MatchOption, IfOk, OnOk, IsErrOf};
 ghost use Rattle.mal_base.specs.Asks.{Terms};
-ghost use Rattle.mal_hall.specs.Applied.{HasApplied, HasEntered, IsInside, IsRefused, StartsAt};
+ghost use Rattle.mal_hall.specs.Applied.{Enters, HasApplied, IsInside, IsRefused, MayNotEnter, StartsAt};
 ghost use Rattle.mal_revision.specs.Posted.{Posted};
 ghost use Rattle.spec_hall.specs.{Calls.{Opens, Revises, wanted}, Dressed.{keyed}, Events.{Open, Revise, Close, Balance, Start, Finish, Exchange}, Legal.{Allowed}};
 ghost use Rattle.spec_job.specs.KeyedJob.{Key};
@@ -48,7 +48,7 @@ impl Hall {
         scratch: &mut Scratch,
     ) -> Result<(), ApplyFault>
         requires { IsInside self.old }
-        ensures workers { self.new.workers ≡ self.old.workers }
+        ensures workers { OnOk result (self.new.workers ≡ self.old.workers) }
         ensures applied { OnOk result (HasApplied self.old.workers self.old.events revision event.now self.new.events) }
         ensures inside { OnOk result (IsInside self.new) }
         ensures refused { IsErrOf result ApplyFault.NotAllowed
@@ -86,12 +86,8 @@ impl Hall {
     /// Enters the opening of a job.
     fn enter_open(&mut self, tenant: Name, job: Name, ask: Ask) -> Result<(), ApplyFault>
         requires { IsInside self.old }
-        ensures workers { self.new.workers ≡ self.old.workers }
-        ensures entered { OnOk result
-            (HasEntered self.old.workers self.old.events (Open (keyed tenant job) ask) self.new.events) }
-        ensures inside { OnOk result (IsInside self.new) }
-        ensures refused { IsErrOf result ApplyFault.NotAllowed
-            → Allowed self.old.workers self.old.events (Open (keyed tenant job) ask) → ⊥ }
+        ensures entered { OnOk result (Enters self.old (Open (keyed tenant job) ask) self.new) }
+        ensures refused { IsErrOf result ApplyFault.NotAllowed → MayNotEnter self.old (Open (keyed tenant job) ask) }
     {
         let _ = self.history().workers();
         match self.open_job(tenant, job, ask) {
@@ -109,13 +105,9 @@ impl Hall {
         revision: Revision,
     ) -> Result<(), ApplyFault>
         requires { IsInside self.old }
-        ensures workers { self.new.workers ≡ self.old.workers }
-        ensures entered { OnOk result
-            (HasEntered self.old.workers self.old.events
-            (Revise (keyed tenant.now job.now) number revision) self.new.events) }
-        ensures inside { OnOk result (IsInside self.new) }
+        ensures entered { OnOk result (Enters self.old (Revise (keyed tenant.now job.now) number revision) self.new) }
         ensures refused { IsErrOf result ApplyFault.NotAllowed
-            → Allowed self.old.workers self.old.events (Revise (keyed tenant.now job.now) number revision) → ⊥ }
+            → MayNotEnter self.old (Revise (keyed tenant.now job.now) number revision) }
     {
         let _ = self.history().workers();
         if self.next_of(tenant, job) != number as usize {
@@ -130,12 +122,9 @@ impl Hall {
     /// Enters the closing of a job.
     fn enter_close(&mut self, tenant: &Name, job: &Name) -> Result<(), ApplyFault>
         requires { IsInside self.old }
-        ensures workers { self.new.workers ≡ self.old.workers }
-        ensures entered { OnOk result
-            (HasEntered self.old.workers self.old.events (Close (keyed tenant.now job.now)) self.new.events) }
-        ensures inside { OnOk result (IsInside self.new) }
+        ensures entered { OnOk result (Enters self.old (Close (keyed tenant.now job.now)) self.new) }
         ensures refused { IsErrOf result ApplyFault.NotAllowed
-            → Allowed self.old.workers self.old.events (Close (keyed tenant.now job.now)) → ⊥ }
+            → MayNotEnter self.old (Close (keyed tenant.now job.now)) }
     {
         let _ = self.history().workers();
         match self.close_job(tenant, job) {
@@ -147,12 +136,8 @@ impl Hall {
     /// Enters a balancing that lists these volumes.
     fn enter_balance(&mut self, volumes: &Shares) -> Result<(), ApplyFault>
         requires { IsInside self.old }
-        ensures workers { self.new.workers ≡ self.old.workers }
-        ensures entered { OnOk result
-            (HasEntered self.old.workers self.old.events (Balance volumes.now) self.new.events) }
-        ensures inside { OnOk result (IsInside self.new) }
-        ensures refused { IsErrOf result ApplyFault.NotAllowed
-            → Allowed self.old.workers self.old.events (Balance volumes.now) → ⊥ }
+        ensures entered { OnOk result (Enters self.old (Balance volumes.now) self.new) }
+        ensures refused { IsErrOf result ApplyFault.NotAllowed → MayNotEnter self.old (Balance volumes.now) }
     {
         if !self.is_due() {
             return Err(ApplyFault::NotAllowed);
@@ -176,13 +161,9 @@ impl Hall {
         worker: u32,
     ) -> Result<(), ApplyFault>
         requires { IsInside self.old }
-        ensures workers { self.new.workers ≡ self.old.workers }
-        ensures entered { OnOk result
-            (HasEntered self.old.workers self.old.events
-            (Start (keyed tenant.now job.now) index worker) self.new.events) }
-        ensures inside { OnOk result (IsInside self.new) }
+        ensures entered { OnOk result (Enters self.old (Start (keyed tenant.now job.now) index worker) self.new) }
         ensures refused { IsErrOf result ApplyFault.NotAllowed
-            → Allowed self.old.workers self.old.events (Start (keyed tenant.now job.now) index worker) → ⊥ }
+            → MayNotEnter self.old (Start (keyed tenant.now job.now) index worker) }
     {
         let _ = self.history().workers();
         let Some(at) = self.startable_at(tenant, job, index, worker) else {
@@ -239,13 +220,10 @@ impl Hall {
         scratch: &mut Scratch,
     ) -> Result<(), ApplyFault>
         requires { IsInside self.old }
-        ensures workers { self.new.workers ≡ self.old.workers }
         ensures entered { OnOk result
-            (HasEntered self.old.workers self.old.events
-            (Finish (keyed tenant.now job.now) index worker outcome) self.new.events) }
-        ensures inside { OnOk result (IsInside self.new) }
+            (Enters self.old (Finish (keyed tenant.now job.now) index worker outcome) self.new) }
         ensures refused { IsErrOf result ApplyFault.NotAllowed
-            → Allowed self.old.workers self.old.events (Finish (keyed tenant.now job.now) index worker outcome) → ⊥ }
+            → MayNotEnter self.old (Finish (keyed tenant.now job.now) index worker outcome) }
     {
         let _ = self.history().workers();
         if !self.holds(worker, tenant, job, index) {
@@ -265,12 +243,9 @@ impl Hall {
     /// Enters an exchange of a job.
     fn enter_exchange(&mut self, tenant: &Name, job: &Name) -> Result<(), ApplyFault>
         requires { IsInside self.old }
-        ensures workers { self.new.workers ≡ self.old.workers }
-        ensures entered { OnOk result
-            (HasEntered self.old.workers self.old.events (Exchange (keyed tenant.now job.now)) self.new.events) }
-        ensures inside { OnOk result (IsInside self.new) }
+        ensures entered { OnOk result (Enters self.old (Exchange (keyed tenant.now job.now)) self.new) }
         ensures refused { IsErrOf result ApplyFault.NotAllowed
-            → Allowed self.old.workers self.old.events (Exchange (keyed tenant.now job.now)) → ⊥ }
+            → MayNotEnter self.old (Exchange (keyed tenant.now job.now)) }
     {
         if self.is_due() {
             return Err(ApplyFault::NotAllowed);
