@@ -27,23 +27,37 @@ pub fn run_served<R: Threads + Wait + Sync, G: Gate>(
     ensures run { IfOk result (λ h. HasRun workers script.now h) }
     ensures lost { IfOk result (λ h. LosesByStops (G.stops gate.now) h.events) }
 {
-    run_shared::<Brand, R, G>(rt, alloc, script, workers, gate)
+    Run {
+        script,
+        workers,
+        gate,
+    }
+    .share::<Brand, R>(rt, alloc)
 }
 
-/// Runs a script in threads that share a service.
-fn run_shared<S: Size + Send + Sync, R: Threads + Wait + Sync, G: Gate>(
-    rt: &R,
-    alloc: Global,
-    script: &Script,
+/// A script that so many workers run behind a gate.
+#[derive(Drop)]
+struct Run<'a, G: Gate> {
+    script: &'a Script,
     workers: u32,
-    gate: &G,
-) -> Result<Hall, AllocError>
-    requires some { 1 ≤ workers }
-    requires bound { workers ≤ 64 }
-    requires size { workers ≡ S.workers }
-    ensures run { IfOk result (λ h. HasRun workers script.now h) }
-    ensures lost { IfOk result (λ h. LosesByStops (G.stops gate.now) h.events) }
-{
-    let (service, pass) = Service::<S>::new(alloc, workers)?;
-    run_with(rt, alloc, Served::new(service), pass, script, workers, gate)
+    gate: &'a G,
+}
+
+impl<G: Gate> Run<'_, G> {
+    /// Runs the script in threads that share a service.
+    fn share<S: Size + Send + Sync, R: Threads + Wait + Sync>(
+        self,
+        rt: &R,
+        alloc: Global,
+    ) -> Result<Hall, AllocError>
+        requires some { 1 ≤ self.workers }
+        requires bound { self.workers ≤ 64 }
+        requires size { self.workers ≡ S.workers }
+        ensures run { IfOk result (λ h. HasRun self.entry.workers self.entry.script.now h) }
+        ensures lost { IfOk result (λ h. LosesByStops (G.stops self.entry.gate.now) h.events) }
+    {
+        let (service, pass) = Service::<S>::new(alloc, self.workers)?;
+        let board = Served::new(service);
+        run_with(rt, alloc, board, pass, self.script, self.workers, self.gate)
+    }
 }

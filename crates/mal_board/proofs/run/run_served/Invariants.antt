@@ -1,4 +1,4 @@
 use Rattle.mal_board.proofs.run.run_served.Given as goal
 
-abbrev pub ghosts-run_shared : goal.ghosts-run_shared
-ghosts-run_shared g a = record { workers = a.workers }
+abbrev pub ghosts-share : goal.ghosts-share
+ghosts-share g a = record { workers = a.self.workers }

@@ -1,6 +1,6 @@
 use denote.Param.Send.{sendable}
 use Rattle.mal_board.proofs.Crossings.{board-sync, pass-send}
-use Rattle.mal_board.proofs.run.run_shared.Goals as goal
+use Rattle.mal_board.proofs.run.Run.share.Goals as goal
 
 pub run_with-requires-send-B-Pass : goal.run_with-requires-send-B-Pass
 run_with-requires-send-B-Pass g c κs within = search (pass-send, sendable) depth 20
