@@ -1,19 +1,20 @@
 -- What is found in the words is what they mean.
-use Rattle.std.proofs.Common.{◌≡◌, ℕ, ◌<◌, ◌≤◌, ◌^◌, true, List, [], codes, inl, inr, refl, sym, ap, ap₂, ◌∙◌, subst, arith}
-use Rattle.std.specs.Prelude.{Option, Some, None, IfSome}
-use Rattle.std.specs.List.{slice_index}
-use Rattle.std.proofs.lemmas.Fmt.{decimal_injective}
+use Rattle.std.proofs.Common.{◌≡◌, ℕ, ◌≤◌, Bool, true, false, List, [], ◌∷◌, codes, inl, inr, refl, sym, ap, ◌∙◌, subst, arith}
+use Rattle.std.specs.Prelude.{bytes_eq, cond, Option, Some, None, IfSome, option_map}
+use Rattle.std.proofs.lemmas.Slice.Eq.{bytes_eq-Decides}
 use Rattle.clap.proofs.OnLiterals.{clap_on_literals}
 use Rattle.clap.proofs.WalkLemmas.{first_value-rows}
 use Rattle.clap.specs.Words.{App, HasKind, IsAmong, Kinds, Row, Text, fault_of, first_of, is_simple, is_simple_and_free, kind_of, subcommand_of}
 use Rattle.clap.specs.declared.error.Error.{Error}
 use Rattle.clap.specs.declared.error.kind.ErrorKind.TheVariants as kind
 use Rattle.mal_words.specs.CommandLine.{mal_app, refusals, subcommand}
-use Rattle.mal_words.specs.Found.{IsAsked, IsAskedIn, IsMeaning, IsNumberOf}
-use Rattle.mal_words.specs.Laws.{OneMeaning}
-use Rattle.mal_words.specs.Requests.{Asks, IsNumber, IsRequest, MeansNothing}
+use Rattle.mal_words.specs.Forms.{Form, check_form, gen_form, generate_of, number_by, number_in, replay_form, run_form}
+use Rattle.mal_words.specs.Found.{IsMeaning}
+use Rattle.mal_words.specs.Laws.{AskedIsAsks, OneMeaning}
+use Rattle.mal_words.specs.Requests.{Asks, IsNumber, IsRequest, Means, MeansNothing, asked, asked_by, asked_in}
 use Rattle.mal_words.specs.declared.request.Request.{Request}
 use Rattle.mal_words.specs.declared.request.Request.TheVariants.{Run, Check, Replay, Generate, RunGenerated}
+use Rattle.mal_words.proofs.Decimals.{is-number, is-value, number-is, value-is}
 
 pub ruleset value_lemmas = (first_value-rows)
 
@@ -25,21 +26,86 @@ pub mal_is_free : is_simple_and_free mal_app ≡ true
 unfolding clap_on_literals
 mal_is_free = refl
 
-one-found : (f : Text × List Row) (name : Text) (rows : List Row) (r : Request) → ◌≡◌ {A = Option (Text × List Row)} (Some f) (Some (name, rows)) → Asks name rows r → Asks f.0 f.1 r
-one-found f name rows r e asks = subst (λ (p : Text × List Row). Asks p.0 p.1 r) (sym (inner f (name, rows) e)) asks
+-- what is asked for by the first form is so by its name, else by a later one
+by-form : (f : Form) (fs : List Form) (name : Text) (rows : List Row) (r : Request) (P : Type 0) → asked_by (f ∷ fs) name rows ≡ Some r → (name ≡ f.name → f.asks rows ≡ Some r → P) → (asked_by fs name rows ≡ Some r → P) → P
+by-form f fs name rows r P e here later = by-test (bytes_eq name f.name) refl
   where
-    inner : (p q : Text × List Row) → ◌≡◌ {A = Option (Text × List Row)} (Some p) (Some q) → p ≡ q
-    inner p q e = cc
+    by-test : (b : Bool) → bytes_eq name f.name ≡ b → P
+    by-test true is = here ((bytes_eq-Decides name f.name).0 is) (subst (λ (t : Bool). cond t (f.asks rows) (asked_by fs name rows) ≡ Some r) is e)
+    by-test false is = later (subst (λ (t : Bool). cond t (f.asks rows) (asked_by fs name rows) ≡ Some r) is e)
 
-none-found : (p : Text × List Row) → ◌≡◌ {A = Option (Text × List Row)} None (Some p) → ⊥
-none-found p e = cc
+mapped : (g : ℕ → Request) (o : Option ℕ) (r : Request) → option_map g o ≡ Some r → (n : ℕ) × (o ≡ Some n) × (g n ≡ r)
+mapped g None r e = cc
+mapped g (Some n) r e = (n, refl, inner e)
+  where
+    inner : ◌≡◌ {A = Option Request} (Some (g n)) (Some r) → g n ≡ r
+    inner h = cc
 
-pub found-meaning : (words : List Text) (o : Option Request) (found : Option (Text × List Row)) → IsAskedIn o found → found ≡ subcommand_of mal_app words → fault_of mal_app words ≡ [] → IsMeaning o words
+run-asks : (rows : List Row) (r : Request) → run_form.asks rows ≡ Some r → Asks (codes "run") rows r
+run-asks rows r e =
+    let word : Option Text = first_of (codes "workers") rows in
+    let m = mapped (λ w. Run w) (number_in 1 64 word) r e in
+    subst (λ (q : Request). Asks (codes "run") rows q) m.2 (refl, is-value 1 64 m.0 word m.1)
+
+gen-asks : (rows : List Row) (r : Request) (seed jobs : Option ℕ) (word : Option Text) → number_in 0 2147483647 (first_of (codes "seed") rows) ≡ seed → number_in 1 256 (first_of (codes "jobs") rows) ≡ jobs → first_of (codes "workers") rows ≡ word → generate_of seed jobs word ≡ Some r → Asks (codes "gen") rows r
+gen-asks rows r None jobs word s j w e = cc
+gen-asks rows r (Some seed) None word s j w e = cc
+gen-asks rows r (Some seed) (Some jobs) None s j w e =
+    subst (λ (q : Request). Asks (codes "gen") rows q) (inner e) (refl, w, is-value 0 2147483647 seed _ s, is-value 1 256 jobs _ j)
+  where
+    inner : ◌≡◌ {A = Option Request} (Some (Generate seed jobs)) (Some r) → Generate seed jobs ≡ r
+    inner h = cc
+gen-asks rows r (Some seed) (Some jobs) (Some word) s j w e =
+    let m = mapped (λ n. RunGenerated seed jobs n) (number_by 1 64 word) r e in
+    subst (λ (q : Request). Asks (codes "gen") rows q) m.2 (refl, subst (λ (o : Option Text). IsNumber 1 64 m.0 o) (sym w) (is-number 1 64 m.0 word m.1), is-value 0 2147483647 seed _ s, is-value 1 256 jobs _ j)
+
+some-is : (q r : Request) → ◌≡◌ {A = Option Request} (Some q) (Some r) → q ≡ r
+some-is q r e = cc
+
+named : (name form : Text) (rows : List Row) (r : Request) → name ≡ form → Asks form rows r → Asks name rows r
+named name form rows r same asks = subst (λ (t : Text). Asks t rows r) (sym same) asks
+
+asked-asks : (name : Text) (rows : List Row) (r : Request) → asked name rows ≡ Some r → Asks name rows r
+asked-asks name rows r e =
+    by-form run_form (check_form ∷ replay_form ∷ gen_form ∷ []) name rows r (Asks name rows r) e (λ n a. named name (codes "run") rows r n (run-asks rows r a)) (λ e.
+    by-form check_form (replay_form ∷ gen_form ∷ []) name rows r (Asks name rows r) e (λ n a. subst (λ (q : Request). Asks name rows q) (some-is Check r a) n) (λ e.
+    by-form replay_form (gen_form ∷ []) name rows r (Asks name rows r) e (λ n a. subst (λ (q : Request). Asks name rows q) (some-is Replay r a) n) (λ e.
+    by-form gen_form [] name rows r (Asks name rows r) e (λ n a. named name (codes "gen") rows r n (gen-asks rows r _ _ _ refl refl refl a)) (λ e. cc))))
+
+-- what a subcommand asks for is its form's
+as-named : (name form : Text) (rows : List Row) (r : Request) → name ≡ form → asked form rows ≡ Some r → asked name rows ≡ Some r
+as-named name form rows r same is = subst (λ (t : Text). asked t rows ≡ Some r) (sym same) is
+
+generates : (rows : List Row) (r : Request) (seed jobs : Option ℕ) (word : Option Text) → number_in 0 2147483647 (first_of (codes "seed") rows) ≡ seed → number_in 1 256 (first_of (codes "jobs") rows) ≡ jobs → first_of (codes "workers") rows ≡ word → generate_of seed jobs word ≡ Some r → gen_form.asks rows ≡ Some r
+generates rows r seed jobs word s j w e = rw (s, j, w) e
+
+asks-asked : (name : Text) (rows : List Row) (r : Request) → Asks name rows r → asked name rows ≡ Some r
+asks-asked name rows (Run w) a = as-named name (codes "run") rows (Run w) a.0 (ap (λ (o : Option ℕ). option_map (λ n. Run n) o) (value-is 1 64 w (first_of (codes "workers") rows) (omega arith) a.1))
+asks-asked name rows Check a = as-named name (codes "check") rows Check a refl
+asks-asked name rows Replay a = as-named name (codes "replay") rows Replay a refl
+asks-asked name rows (Generate s j) a =
+    as-named name (codes "gen") rows (Generate s j) a.0 (generates rows (Generate s j) (Some s) (Some j) None (value-is 0 2147483647 s _ (omega arith) a.2) (value-is 1 256 j _ (omega arith) a.3) a.1 refl)
+asks-asked name rows (RunGenerated s j w) a = as-named name (codes "gen") rows (RunGenerated s j w) a.0 (by-workers (first_of (codes "workers") rows) refl a.1)
+  where
+    by-workers : (word : Option Text) → first_of (codes "workers") rows ≡ word → IsNumber 1 64 w word → gen_form.asks rows ≡ Some (RunGenerated s j w)
+    by-workers None is h = absurd h
+    by-workers (Some word) is h = generates rows (RunGenerated s j w) (Some s) (Some j) (Some word) (value-is 0 2147483647 s _ (omega arith) a.2) (value-is 1 256 j _ (omega arith) a.3) is (ap (λ (o : Option ℕ). option_map (λ n. RunGenerated s j n) o) (number-is 1 64 w word (omega arith) h))
+
+pub asked-is_asks : AskedIsAsks
+asked-is_asks name rows r = (asked-asks name rows r, asks-asked name rows r)
+
+-- so it is for what words mean
+meant : (words : List Text) (r : Request) → Means words r → asked_in (subcommand words) ≡ Some r
+meant words r m = ap asked_in m.named ∙ asks-asked m.name m.rows r m.asks
+
+none-found : (r : Request) → ◌≡◌ {A = Option Request} None (Some r) → ⊥
+none-found r e = cc
+
+pub found-meaning : (words : List Text) (o : Option Request) (found : Option (Text × List Row)) → o ≡ asked_in found → found ≡ subcommand_of mal_app words → fault_of mal_app words ≡ [] → IsMeaning o words
 unfolding refusals subcommand
-found-meaning words None None asked is taken = λ r m. none-found (m.name, m.rows) (is ∙ m.named)
-found-meaning words None (Some f) asked is taken = λ r m. asked r (one-found f m.name m.rows r (is ∙ m.named) m.asks)
-found-meaning words (Some r) None asked is taken = absurd asked
-found-meaning words (Some r) (Some f) asked is taken = record { name = f.0; rows = f.1; taken = taken; named = sym is; asks = asked }
+found-meaning words None found is named taken = λ r m. none-found r (is ∙ (ap asked_in named ∙ meant words r m))
+found-meaning words (Some r) None is named taken = absurd (none-found r (sym is))
+found-meaning words (Some r) (Some f) is named taken = record { name = f.0; rows = f.1; taken = taken; named = sym named; asks = asked-asks f.0 f.1 r (sym is) }
 
 pub refused-meaning : (words : List Text) (e : Error) → HasKind (fault_of mal_app words) e → (kind_of e ≡ kind.OutOfMemory → ⊥) → MeansNothing words
 unfolding refusals
@@ -47,7 +113,7 @@ refused-meaning words e (inl out) some = λ r m. some out
 refused-meaning words e (inr among) some = λ r m. subst (λ (kinds : Kinds). IsAmong (kind_of e) kinds) m.taken among
 
 -- the same of a command that is the program's command line
-pub found-of : (a : App) (words : List Text) (o : Option Request) (found : Option (Text × List Row)) → a ≡ mal_app → IsAskedIn o found → (is_simple a ≡ true → found ≡ subcommand_of a words) → (is_simple_and_free a ≡ true → fault_of a words ≡ []) → IsMeaning o words
+pub found-of : (a : App) (words : List Text) (o : Option Request) (found : Option (Text × List Row)) → a ≡ mal_app → o ≡ asked_in found → (is_simple a ≡ true → found ≡ subcommand_of a words) → (is_simple_and_free a ≡ true → fault_of a words ≡ []) → IsMeaning o words
 found-of a words o found is asked named taken =
     found-meaning words o found asked
     (named (ap is_simple is ∙ mal_is_simple) ∙ ap (λ (b : App). subcommand_of b words) is)
@@ -56,42 +122,6 @@ found-of a words o found is asked named taken =
 pub refused-of : (a : App) (words : List Text) (e : Error) → a ≡ mal_app → (is_simple_and_free a ≡ true → HasKind (fault_of a words) e) → (kind_of e ≡ kind.OutOfMemory → ⊥) → MeansNothing words
 refused-of a words e is refused some =
     refused-meaning words e (subst (λ (b : App). HasKind (fault_of b words) e) is (refused (ap is_simple_and_free is ∙ mal_is_free))) some
-
-run-gen : codes "run" ≡ codes "gen" → ⊥
-run-gen e = let first : ◌≡◌ {A = ℕ} 114 103 = ap (λ (t : List ℕ). slice_index t 0) e in absurd (omega arith)
-
--- a subcommand whose options are none of its numbers asks for nothing
-pub no-run : (rows : List Row) → IsNumberOf 1 64 None (first_of (codes "workers") rows) → IsAsked None (codes "run") rows
-no-run rows none (Run workers) a = none workers a.1
-no-run rows none Check a = let e : codes "run" ≡ codes "check" = a in cc
-no-run rows none Replay a = let e : codes "run" ≡ codes "replay" = a in cc
-no-run rows none (Generate seed jobs) a = absurd (run-gen (a.0))
-no-run rows none (RunGenerated seed jobs workers) a = absurd (run-gen (a.0))
-
-no-gen : (rows : List Row) → ((seed jobs : ℕ) → IsNumber 0 2147483647 seed (first_of (codes "seed") rows) → IsNumber 1 256 jobs (first_of (codes "jobs") rows) → ⊥) → IsAsked None (codes "gen") rows
-no-gen rows none (Run workers) a = absurd (run-gen (sym (a.0)))
-no-gen rows none Check a = let e : codes "gen" ≡ codes "check" = a in cc
-no-gen rows none Replay a = let e : codes "gen" ≡ codes "replay" = a in cc
-no-gen rows none (Generate seed jobs) a = none seed jobs a.2 a.3
-no-gen rows none (RunGenerated seed jobs workers) a = none seed jobs a.2 a.3
-
-pub no-seed : (rows : List Row) → IsNumberOf 0 2147483647 None (first_of (codes "seed") rows) → IsAsked None (codes "gen") rows
-no-seed rows none = no-gen rows (λ seed jobs s j. none seed s)
-
-pub no-jobs : (rows : List Row) → IsNumberOf 1 256 None (first_of (codes "jobs") rows) → IsAsked None (codes "gen") rows
-no-jobs rows none = no-gen rows (λ seed jobs s j. none jobs j)
-
-not-none : (word : Text) (o : Option Text) → o ≡ None → Some word ≡ o → ⊥
-not-none word o e f = cc
-
-pub no-workers : (rows : List Row) (word : Text) → Some word ≡ first_of (codes "workers") rows → IsNumberOf 1 64 None (Some word) → IsAsked None (codes "gen") rows
-no-workers rows word is none (Run workers) a = absurd (run-gen (sym (a.0)))
-no-workers rows word is none Check a = let e : codes "gen" ≡ codes "check" = a in cc
-no-workers rows word is none Replay a = let e : codes "gen" ≡ codes "replay" = a in cc
-no-workers rows word is none (Generate seed jobs) a = not-none word (first_of (codes "workers") rows) a.1 is
-no-workers rows word is none (RunGenerated seed jobs workers) a = none workers (subst (λ (o : Option Text). IsNumber 1 64 workers o) (sym is) a.1)
-
-pub ruleset asking_lemmas = (no-run, no-seed, no-jobs, no-workers)
 
 -- the numbers of what is asked for are in their ranges
 in-range : (least most n : ℕ) (o : Option Text) → IsNumber least most n o → (least ≤ n) × (n ≤ most)
@@ -112,47 +142,5 @@ means-request words None m = tt
 means-request words (Some r) m = asks-request m.name m.rows r m.asks
 
 -- words have one meaning
-one-number : (least most m n : ℕ) (o : Option Text) → most < 2 ^ 32 → IsNumber least most m o → IsNumber least most n o → m ≡ n
-one-number least most m n None bound h k = absurd h
-one-number least most m n (Some word) bound h k = let a = h.1 in let b = k.1 in decimal_injective m n (omega arith) (omega arith) (sym h.2 ∙ k.2)
-
-some-number : (least most n : ℕ) (o : Option Text) → o ≡ None → IsNumber least most n o → ⊥
-some-number least most n None e h = h
-some-number least most n (Some word) e h = cc
-
-one-asked : (name : Text) (rows : List Row) (r q : Request) → Asks name rows r → Asks name rows q → r ≡ q
-one-asked name rows (Run w) (Run v) a b = ap (λ n. Run n) (one-number 1 64 w v _ (omega arith) a.1 b.1)
-one-asked name rows (Run w) Check a b = let e : codes "run" ≡ codes "check" = sym a.0 ∙ b in cc
-one-asked name rows (Run w) Replay a b = let e : codes "run" ≡ codes "replay" = sym a.0 ∙ b in cc
-one-asked name rows (Run w) (Generate s j) a b = absurd (run-gen (sym a.0 ∙ b.0))
-one-asked name rows (Run w) (RunGenerated s j v) a b = absurd (run-gen (sym a.0 ∙ b.0))
-one-asked name rows Check (Run v) a b = let e : codes "check" ≡ codes "run" = sym a ∙ b.0 in cc
-one-asked name rows Check Check a b = refl
-one-asked name rows Check Replay a b = let e : codes "check" ≡ codes "replay" = sym a ∙ b in cc
-one-asked name rows Check (Generate s j) a b = let e : codes "check" ≡ codes "gen" = sym a ∙ b.0 in cc
-one-asked name rows Check (RunGenerated s j v) a b = let e : codes "check" ≡ codes "gen" = sym a ∙ b.0 in cc
-one-asked name rows Replay (Run v) a b = let e : codes "replay" ≡ codes "run" = sym a ∙ b.0 in cc
-one-asked name rows Replay Check a b = let e : codes "replay" ≡ codes "check" = sym a ∙ b in cc
-one-asked name rows Replay Replay a b = refl
-one-asked name rows Replay (Generate s j) a b = let e : codes "replay" ≡ codes "gen" = sym a ∙ b.0 in cc
-one-asked name rows Replay (RunGenerated s j v) a b = let e : codes "replay" ≡ codes "gen" = sym a ∙ b.0 in cc
-one-asked name rows (Generate s j) (Run v) a b = absurd (run-gen (sym (sym a.0 ∙ b.0)))
-one-asked name rows (Generate s j) Check a b = let e : codes "gen" ≡ codes "check" = sym a.0 ∙ b in cc
-one-asked name rows (Generate s j) Replay a b = let e : codes "gen" ≡ codes "replay" = sym a.0 ∙ b in cc
-one-asked name rows (Generate s j) (Generate t k) a b = ap₂ (λ m n. Generate m n) (one-number 0 2147483647 s t _ (omega arith) a.2 b.2) (one-number 1 256 j k _ (omega arith) a.3 b.3)
-one-asked name rows (Generate s j) (RunGenerated t k v) a b = absurd (some-number 1 64 v _ a.1 b.1)
-one-asked name rows (RunGenerated s j w) (Run v) a b = absurd (run-gen (sym (sym a.0 ∙ b.0)))
-one-asked name rows (RunGenerated s j w) Check a b = let e : codes "gen" ≡ codes "check" = sym a.0 ∙ b in cc
-one-asked name rows (RunGenerated s j w) Replay a b = let e : codes "gen" ≡ codes "replay" = sym a.0 ∙ b in cc
-one-asked name rows (RunGenerated s j w) (Generate t k) a b = absurd (some-number 1 64 w _ b.1 a.1)
-one-asked name rows (RunGenerated s j w) (RunGenerated t k v) a b =
-    ap (λ n. RunGenerated n j w) (one-number 0 2147483647 s t _ (omega arith) a.2 b.2)
-    ∙ (ap (λ n. RunGenerated t n w) (one-number 1 256 j k _ (omega arith) a.3 b.3) ∙ ap (λ n. RunGenerated t k n) (one-number 1 64 w v _ (omega arith) a.1 b.1))
-
-inner-is : (p q : Text × List Row) → ◌≡◌ {A = Option (Text × List Row)} (Some p) (Some q) → p ≡ q
-inner-is p q e = cc
-
 pub one_meaning : OneMeaning
-one_meaning words r q m n =
-    let same : ◌≡◌ {A = Text × List Row} (m.name, m.rows) (n.name, n.rows) = inner-is (m.name, m.rows) (n.name, n.rows) (sym m.named ∙ n.named) in
-    one-asked n.name n.rows r q (subst (λ (p : Text × List Row). Asks p.0 p.1 r) same m.asks) n.asks
+one_meaning words r q m n = some-is r q (sym (meant words r m) ∙ meant words q n)

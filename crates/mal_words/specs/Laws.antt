@@ -1,7 +1,11 @@
-use Rattle.std.specs.Prelude.{◌≡◌, List}
-use Rattle.clap.specs.Walk.{Text}
-use Rattle.mal_words.specs.Requests.{Means}
+use Rattle.std.specs.Prelude.{◌≡◌, ◌↔◌, List, Some}
+use Rattle.clap.specs.Walk.{Row, Text}
+use Rattle.mal_words.specs.Requests.{Asks, Means, asked}
 use Rattle.mal_words.specs.declared.request.Request.{Request}
+
+-- what a subcommand asks for is what the table of commands gives
+abbrev pub AskedIsAsks : Type 0
+AskedIsAsks = (name : Text) (rows : List Row) (r : Request) → (asked name rows ≡ Some r) ↔ Asks name rows r
 
 -- words ask for one thing at most
 abbrev pub OneMeaning : Type 0

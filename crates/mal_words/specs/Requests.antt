@@ -1,7 +1,8 @@
 -- What the program's words ask for.
-use Rattle.std.specs.Prelude.{◌≡◌, ℕ, ◌<◌, ◌≤◌, ◌^◌, List, [], codes, decimal, Option, Some, None}
+use Rattle.std.specs.Prelude.{◌≡◌, ℕ, ◌<◌, ◌≤◌, ◌^◌, List, [], ◌∷◌, bytes_eq, codes, decimal, if◌then◌else◌, Option, Some, None, option_and_then}
 use Rattle.clap.specs.Walk.{Row, Text, first_of}
 use Rattle.mal_words.specs.CommandLine.{refusals, subcommand}
+use Rattle.mal_words.specs.Forms.{Form, forms}
 use Rattle.mal_words.specs.declared.request.Request.{Request}
 use Rattle.mal_words.specs.declared.request.Request.TheVariants.{Run, Check, Replay, Generate, RunGenerated}
 
@@ -19,6 +20,18 @@ Asks name rows (Generate seed jobs) =
     (name ≡ codes "gen") × (first_of (codes "workers") rows ≡ None) × IsNumber 0 2147483647 seed (first_of (codes "seed") rows) × IsNumber 1 256 jobs (first_of (codes "jobs") rows)
 Asks name rows (RunGenerated seed jobs workers) =
     (name ≡ codes "gen") × IsNumber 1 64 workers (first_of (codes "workers") rows) × IsNumber 0 2147483647 seed (first_of (codes "seed") rows) × IsNumber 1 256 jobs (first_of (codes "jobs") rows)
+
+-- the request that it asks for, by the form of this name
+abbrev pub asked_by : List Form → Text → List Row → Option Request
+asked_by [] name rows = None
+asked_by (f ∷ fs) name rows = if bytes_eq name f.name then f.asks rows else asked_by fs name rows
+
+abbrev pub asked : Text → List Row → Option Request
+asked name rows = asked_by forms name rows
+
+-- the request of the subcommand that was found, if one was
+abbrev pub asked_in : Option (Text × List Row) → Option Request
+asked_in found = option_and_then (λ f. asked f.0 f.1) found
 
 -- the words, the first of which is the program's name, ask for this: clap takes them, and their subcommand asks for it
 pub record Means (words : List Text) (r : Request) : Type 0 where

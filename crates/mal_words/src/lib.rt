@@ -6,6 +6,8 @@ pub mod laws;
 mod number;
 mod reading;
 mod request;
+mod usage;
 
 pub use reading::request_of;
 pub use request::Request;
+pub use usage::usage_line;

@@ -1,14 +1,14 @@
 //! Numbers among the words: decimal digits without a sign and without a leading zero.
 
-ghost use Rattle.std.specs.Prelude.{◌≡◌, ◌↔◌, ◌<◌, Some, IsTrue, decimal};
-ghost use Rattle.mal_words.specs.Found.{IsDecimalOf, IsNumberOf, IsWithin};
+ghost use Rattle.std.specs.Prelude.{◌≡◌, ◌↔◌, ◌<◌, IsTrue, decimal};
+ghost use Rattle.mal_words.specs.{Forms.{number_by}, Found.{IsDecimalOf, IsWithin}};
 
 use itoa::Buffer;
 
 /// The number from `least` to `most` that a word is.
 #[tactic(auto, using(crate::proofs::Decimals::number_lemmas))]
 pub fn number(word: &str, least: u32, most: u32) -> Option<u32>
-    ensures { IsNumberOf least most result (Some word.now) }
+    ensures { result ≡ number_by least most word.now }
 {
     match decimal(word) {
         Some(number) => within(number, least, most),

@@ -1,8 +1,8 @@
 //! Reading the words.
 
-ghost use Rattle.std.specs.Prelude.{◌≡◌, IfOk, IfSome, codes, map, option_map, string_bytes};
+ghost use Rattle.std.specs.Prelude.{◌≡◌, IfOk, IfSome, Some, codes, map, option_map, string_bytes};
 ghost use Rattle.clap.specs.Words.{first_of, found_of, rows_of, subcommand_rows_of};
-ghost use Rattle.mal_words.specs.{Requests.{IsNumber, IsRequest}, Found.{IsAsked, IsAskedIn, IsMeaning, IsNumberOf}};
+ghost use Rattle.mal_words.specs.{Forms.{gen_form, generate_of, number_in, run_form}, Requests.{IsRequest, asked, asked_in}, Found.{IsMeaning}};
 
 use crate::command::command;
 use crate::number::number;
@@ -30,7 +30,7 @@ pub fn request_of(alloc: Global, words: &[String]) -> Result<Option<Request>, Al
 
 /// What the subcommand that was found asks for.
 fn request_in(matches: &ArgMatches<'_>) -> Option<Request>
-    ensures { IsAskedIn result (subcommand_rows_of matches.now) }
+    ensures { result ≡ asked_in (subcommand_rows_of matches.now) }
 {
     match matches.subcommand() {
         Some((name, options)) => request_named(name, options),
@@ -40,7 +40,7 @@ fn request_in(matches: &ArgMatches<'_>) -> Option<Request>
 
 /// What the subcommand of this name asks for with these options.
 fn request_named(name: &str, options: &ArgMatches<'_>) -> Option<Request>
-    ensures { IsAsked result name.now (rows_of (found_of options.now)) }
+    ensures { result ≡ asked name.now (rows_of (found_of options.now)) }
 {
     if name == "run" {
         return run_with(options);
@@ -58,9 +58,8 @@ fn request_named(name: &str, options: &ArgMatches<'_>) -> Option<Request>
 }
 
 /// What `run` asks for with these options.
-#[tactic(auto, using(crate::proofs::Meanings::asking_lemmas))]
 fn run_with(options: &ArgMatches<'_>) -> Option<Request>
-    ensures { IsAsked result (codes "run") (rows_of (found_of options.now)) }
+    ensures { result ≡ run_form.asks (rows_of (found_of options.now)) }
 {
     match number_in(options, "workers", 1, 64) {
         Some(workers) => Some(Request::Run { workers }),
@@ -69,9 +68,8 @@ fn run_with(options: &ArgMatches<'_>) -> Option<Request>
 }
 
 /// What `gen` asks for with these options.
-#[tactic(auto, using(crate::proofs::Meanings::asking_lemmas))]
 fn generate_with(options: &ArgMatches<'_>) -> Option<Request>
-    ensures { IsAsked result (codes "gen") (rows_of (found_of options.now)) }
+    ensures { result ≡ gen_form.asks (rows_of (found_of options.now)) }
 {
     match number_in(options, "seed", 0, 2_147_483_647) {
         Some(seed) => match number_in(options, "jobs", 1, 256) {
@@ -83,11 +81,8 @@ fn generate_with(options: &ArgMatches<'_>) -> Option<Request>
 }
 
 /// What `gen` asks for with these options, of which the seed and the number of jobs are known.
-#[tactic(auto, using(crate::proofs::Meanings::asking_lemmas))]
 fn generate_by(options: &ArgMatches<'_>, seed: u32, jobs: u32) -> Option<Request>
-    requires seed { IsNumber 0 2147483647 seed (first_of (codes "seed") (rows_of (found_of options.now))) }
-    requires jobs { IsNumber 1 256 jobs (first_of (codes "jobs") (rows_of (found_of options.now))) }
-    ensures { IsAsked result (codes "gen") (rows_of (found_of options.now)) }
+    ensures { result ≡ generate_of (Some seed) (Some jobs) (first_of (codes "workers") (rows_of (found_of options.now))) }
 {
     match value_of(options, "workers") {
         None => Some(Request::Generate { seed, jobs }),
@@ -104,7 +99,7 @@ fn generate_by(options: &ArgMatches<'_>, seed: u32, jobs: u32) -> Option<Request
 
 /// The number from `least` to `most` that an option was given.
 fn number_in(options: &ArgMatches<'_>, name: &str, least: u32, most: u32) -> Option<u32>
-    ensures { IsNumberOf least most result (first_of name.now (rows_of (found_of options.now))) }
+    ensures { result ≡ number_in least most (first_of name.now (rows_of (found_of options.now))) }
 {
     match value_of(options, name) {
         Some(word) => number(word, least, most),
