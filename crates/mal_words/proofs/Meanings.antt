@@ -11,7 +11,7 @@ use Rattle.mal_words.specs.CommandLine.{mal_app, refusals, subcommand}
 use Rattle.mal_words.specs.Forms.{Form, check_form, gen_form, generate_of, number_by, number_in, replay_form, run_form}
 use Rattle.mal_words.specs.Found.{IsMeaning}
 use Rattle.mal_words.specs.Laws.{AskedIsAsks, OneMeaning}
-use Rattle.mal_words.specs.Requests.{Asks, IsNumber, IsRequest, Means, MeansNothing, asked, asked_by, asked_in}
+use Rattle.mal_words.specs.Requests.{Asks, IsAskedBy, IsNumber, IsRequest, Means, MeansNothing, asked, asked_by, asked_in}
 use Rattle.mal_words.specs.declared.request.Request.{Request}
 use Rattle.mal_words.specs.declared.request.Request.TheVariants.{Run, Check, Replay, Generate, RunGenerated}
 use Rattle.mal_words.proofs.Decimals.{is-number, is-value, number-is, value-is}
@@ -79,17 +79,32 @@ as-named name form rows r same is = subst (λ (t : Text). asked t rows ≡ Some 
 generates : (rows : List Row) (r : Request) (seed jobs : Option ℕ) (word : Option Text) → number_in 0 2147483647 (first_of (codes "seed") rows) ≡ seed → number_in 1 256 (first_of (codes "jobs") rows) ≡ jobs → first_of (codes "workers") rows ≡ word → generate_of seed jobs word ≡ Some r → gen_form.asks rows ≡ Some r
 generates rows r seed jobs word s j w e = rw (s, j, w) e
 
-asks-asked : (name : Text) (rows : List Row) (r : Request) → Asks name rows r → asked name rows ≡ Some r
-asks-asked name rows (Run w) a = as-named name (codes "run") rows (Run w) a.0 (ap (λ (o : Option ℕ). option_map (λ n. Run n) o) (value-is 1 64 w (first_of (codes "workers") rows) (omega arith) a.1))
-asks-asked name rows Check a = as-named name (codes "check") rows Check a refl
-asks-asked name rows Replay a = as-named name (codes "replay") rows Replay a refl
-asks-asked name rows (Generate s j) a =
-    as-named name (codes "gen") rows (Generate s j) a.0 (generates rows (Generate s j) (Some s) (Some j) None (value-is 0 2147483647 s _ (omega arith) a.2) (value-is 1 256 j _ (omega arith) a.3) a.1 refl)
-asks-asked name rows (RunGenerated s j w) a = as-named name (codes "gen") rows (RunGenerated s j w) a.0 (by-workers (first_of (codes "workers") rows) refl a.1)
+pub run-words : (w : ℕ) → IsAskedBy run_form (Run w)
+run-words w name rows a = (a.0, ap (λ (o : Option ℕ). option_map (λ n. Run n) o) (value-is 1 64 w (first_of (codes "workers") rows) (omega arith) a.1))
+
+pub check-words : IsAskedBy check_form Check
+check-words name rows a = (a, refl)
+
+pub replay-words : IsAskedBy replay_form Replay
+replay-words name rows a = (a, refl)
+
+pub gen-words : (s j : ℕ) → IsAskedBy gen_form (Generate s j)
+gen-words s j name rows a =
+    (a.0, generates rows (Generate s j) (Some s) (Some j) None (value-is 0 2147483647 s _ (omega arith) a.2) (value-is 1 256 j _ (omega arith) a.3) a.1 refl)
+
+pub gen_run-words : (s j w : ℕ) → IsAskedBy gen_form (RunGenerated s j w)
+gen_run-words s j w name rows a = (a.0, by-workers (first_of (codes "workers") rows) refl a.1)
   where
     by-workers : (word : Option Text) → first_of (codes "workers") rows ≡ word → IsNumber 1 64 w word → gen_form.asks rows ≡ Some (RunGenerated s j w)
     by-workers None is h = absurd h
     by-workers (Some word) is h = generates rows (RunGenerated s j w) (Some s) (Some j) (Some word) (value-is 0 2147483647 s _ (omega arith) a.2) (value-is 1 256 j _ (omega arith) a.3) is (ap (λ (o : Option ℕ). option_map (λ n. RunGenerated s j n) o) (number-is 1 64 w word (omega arith) h))
+
+asks-asked : (name : Text) (rows : List Row) (r : Request) → Asks name rows r → asked name rows ≡ Some r
+asks-asked name rows (Run w) a = let own = run-words w name rows a in as-named name (codes "run") rows (Run w) own.0 own.1
+asks-asked name rows Check a = as-named name (codes "check") rows Check a refl
+asks-asked name rows Replay a = as-named name (codes "replay") rows Replay a refl
+asks-asked name rows (Generate s j) a = let own = gen-words s j name rows a in as-named name (codes "gen") rows (Generate s j) own.0 own.1
+asks-asked name rows (RunGenerated s j w) a = let own = gen_run-words s j w name rows a in as-named name (codes "gen") rows (RunGenerated s j w) own.0 own.1
 
 pub asked-is_asks : AskedIsAsks
 asked-is_asks name rows r = (asked-asks name rows r, asks-asked name rows r)

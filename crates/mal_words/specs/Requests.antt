@@ -21,6 +21,10 @@ Asks name rows (Generate seed jobs) =
 Asks name rows (RunGenerated seed jobs workers) =
     (name ≡ codes "gen") × IsNumber 1 64 workers (first_of (codes "workers") rows) × IsNumber 0 2147483647 seed (first_of (codes "seed") rows) × IsNumber 1 256 jobs (first_of (codes "jobs") rows)
 
+-- a request is asked for by the words of this command alone
+abbrev pub IsAskedBy : Form → Request → Type 0
+IsAskedBy f r = (name : Text) (rows : List Row) → Asks name rows r → (name ≡ f.name) × (f.asks rows ≡ Some r)
+
 -- the request that it asks for, by the form of this name
 abbrev pub asked_by : List Form → Text → List Row → Option Request
 asked_by [] name rows = None
