@@ -1,12 +1,23 @@
-//! The command line as clap takes it: four subcommands with their options. There is no help and no version flag, no
-//! abbreviation, and no option twice.
+//! The command line as clap takes it, a subcommand a command with its options, and the line of usage. There is no help and
+//! no version flag, no abbreviation, and no option twice.
 
 ghost use Rattle.std.specs.Prelude.{◌≡◌, false, IfOk};
 ghost use Rattle.clap.specs.{Words.{app_of, rule_of}, declared.builder.command.Command.TheViews.{out-Command as fields_of}};
-ghost use Rattle.mal_words.specs.CommandLine.{bare_app, bare_mal, gen_app, mal_app, option_rule, run_app};
+ghost use Rattle.mal_words.specs.{CommandLine.{bare_app, bare_mal, gen_app, mal_app, option_rule, run_app}, Usage.{usage_line}};
 
 use clap::{Arg, Command};
 use std::alloc::{AllocError, Global};
+
+/// The commands with their options.
+const USAGE: &[u8] =
+    b"usage: mal run --workers N, check, replay, gen --seed S --jobs N [--workers W]\n";
+
+/// The line for words that ask for nothing: each command with its options.
+pub fn usage_line() -> &'static [u8]
+    ensures { result.now ≡ usage_line }
+{
+    USAGE
+}
 
 /// The program's command line.
 pub fn command<'a>(alloc: Global) -> Result<Command<'a>, AllocError>

@@ -6,8 +6,7 @@ pub mod laws;
 mod number;
 mod reading;
 mod request;
-mod usage;
 
+pub use command::usage_line;
 pub use reading::request_of;
 pub use request::Request;
-pub use usage::usage_line;
