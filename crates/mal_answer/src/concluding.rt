@@ -101,7 +101,7 @@ fn write_history<L: Sink>(log: &mut L, hall: &Hall) -> Result<(), WriteFault>
     ensures front { GainedFront (device L.got L.faults log.old log.new) (hall_text hall.now) }
     ensures cause { OnErr result (Failed (device L.got L.faults log.old log.new)) }
 {
-    mal_log::write(log, hall.history())
+    mal_history::write_to(log, hall.history())
 }
 
 /// Writes a line to the log, as far as the log takes it.

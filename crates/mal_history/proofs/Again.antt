@@ -1,5 +1,6 @@
 -- A history that is written is read again.
-use Rattle.std.proofs.Common.{◌≡◌, ℕ, suc, ◌+◌, ◌<◌, ◌≤◌, ◌^◌, Bool, true, false, cond, ◌==◌, List, [], ◌∷◌, map, flat_map, length, pos, Result, Ok, refl, ap, ◌∙◌, arith}
+use Rattle.std.proofs.Common.{◌≡◌, ℕ, suc, ◌+◌, ◌<◌, ◌≤◌, ◌^◌, Bool, true, false, cond, ◌==◌, List, [], ◌∷◌, map, flat_map, length, codes, pos, Result, Ok, refl, ap, ◌∙◌, arith}
+use Rattle.std.specs.Fmt.{digits}
 use Rattle.std.specs.List.{AllByRecursion}
 use Rattle.std.proofs.lemmas.Bool.Decides.{nat_tests}
 use Rattle.std.proofs.lemmas.List.Concat.{flat_map-cons}
@@ -14,7 +15,7 @@ use Rattle.mal_history.specs.declared.event.Event.{Event}
 use Rattle.mal_history.specs.declared.event.Event.TheVariants.{Open, Revise, Close, Balance, Start, Finish, Exchange}
 use Rattle.mal_history.specs.declared.event.Share.{Share}
 use Rattle.mal_history.specs.Differ.{IsShare, IsWritable}
-use Rattle.mal_history.specs.Text.{share_words, event_words, header_words, history_text}
+use Rattle.mal_history.specs.Text.{share_words, event_words, version_of, header_words, history_text}
 use Rattle.mal_history.specs.Reading.{Fault, header_of, on_line, events_from, read_rows, most_events}
 use Rattle.mal_history.specs.Grammar.{Says, SayProfile, SayShares, SpellsEvent}
 use Rattle.mal_history.specs.Formed.{IsVolume, IsSeat, IsEvent, IsHistory, lines_from}
@@ -95,14 +96,25 @@ events-again max workers line count (e ∷ events) low h few =
     (events-again max workers (suc line) (suc count) events low h.1 (omega (arith, few)))
 
 -- the lines can be written
-pub history-rows : (workers : ℕ) (events : List Event) → IsHistory workers events → AreRows (header_words workers ∷ map event_words events)
-history-rows workers events h = (header-row workers, event-rows events (all-writable workers events h.bound h.formed))
+pub history-rows : (workers : ℕ) (events : List Event) → IsHistory workers events → AreRows (header_words (version_of events) workers ∷ map event_words events)
+history-rows workers events h = (header-row (version_of events) workers, event-rows events (all-writable workers events h.bound h.formed))
+
+-- the version is the one that is read
+pub version-read : (events : List Event) → version_of events ≡ 1
+version-read [] = refl
+version-read (e ∷ events) = version-read events
+
+version-word : decimal_word 1 ≡ codes "1"
+unfolding digits
+version-word = refl
 
 pub written-read : WrittenIsRead
 unfolding history_text
 written-read workers events h =
-    let rows : List (List (List ℕ)) = header_words workers ∷ map event_words events in
-    let header : header_of (header_words workers) ≡ Ok workers = says-read 1 64 (decimal_word workers) workers (says 1 64 workers h.some h.bound (omega arith)) in
+    let rows : List (List (List ℕ)) = header_words (version_of events) workers ∷ map event_words events in
+    let header : header_of (header_words 1 workers) ≡ Ok workers =
+    ap (λ (version : List ℕ). header_of (codes "h" ∷ codes "mal" ∷ version ∷ decimal_word workers ∷ [])) version-word ∙ says-read 1 64 (decimal_word workers) workers (says 1 64 workers h.some h.bound (omega arith)) in
     ap read_rows (rows_again rows (history-rows workers events h))
+    ∙ ap (λ (version : ℕ). read_rows (header_words version workers ∷ map event_words events)) (version-read events)
     ∙ ap (λ (r : Result ℕ Fault). on_line 1 r >>= λ n. events_from most_events n 1 0 (map event_words events)) header
     ∙ events-again most_events workers 1 0 events h.bound h.formed (omega (arith, h.few))

@@ -15,7 +15,7 @@ use Rattle.spec_text.proofs.Names.{profile-clean}
 use Rattle.mal_history.specs.declared.event.Event.{Event}
 use Rattle.mal_history.specs.declared.event.Event.TheVariants.{Open, Revise, Close, Balance, Start, Finish, Exchange}
 use Rattle.mal_history.specs.declared.event.Share.{Share}
-use Rattle.mal_history.specs.Text.{outcome_word, share_words, event_words, header_words, history_text}
+use Rattle.mal_history.specs.Text.{outcome_word, share_words, event_words, version_of, header_words, history_text}
 use Rattle.mal_history.specs.Differ.{IsNumber, IsShare, IsWritable, one_start, one_open, HistoriesDiffer, HaveOtherTexts}
 
 -- the parts of a list
@@ -55,8 +55,8 @@ pub event-rows : (es : List Event) → AllByRecursion IsWritable es → AreRows 
 event-rows [] h = tt
 event-rows (e ∷ es) h = (event-row e h.0, event-rows es h.1)
 
-pub header-row : (workers : ℕ) → IsRow (header_words workers)
-header-row workers = (omega arith, ((omega arith, (omega arith, tt)), ((omega arith, (omega arith, (omega arith, (omega arith, tt)))), ((omega arith, (omega arith, tt)), (decimals_are_clean workers, tt)))))
+pub header-row : (version workers : ℕ) → IsRow (header_words version workers)
+header-row version workers = (omega arith, ((omega arith, (omega arith, tt)), ((omega arith, (omega arith, (omega arith, (omega arith, tt)))), (decimals_are_clean version, (decimals_are_clean workers, tt)))))
 
 -- an outcome is told by its word
 outcomes-differ : (a b : Outcome) → outcome_word a ≡ outcome_word b → a ≡ b
@@ -206,10 +206,12 @@ all-differ (x ∷ xs) (y ∷ ys) h k e =
 pub histories-differ : HistoriesDiffer
 unfolding history_text
 histories-differ workers others one other m n h k e =
-    let rows : header_words workers ∷ map event_words one ≡ header_words others ∷ map event_words other = texts_differ (header_words workers ∷ map event_words one) (header_words others ∷ map event_words other) (header-row workers, event-rows one h) (header-row others, event-rows other k) e in
-    let header : header_words workers ≡ header_words others = head-same (header_words workers) (header_words others) (map event_words one) (map event_words other) rows in
+    let head : List (List ℕ) = header_words (version_of one) workers in
+    let other_head : List (List ℕ) = header_words (version_of other) others in
+    let rows : head ∷ map event_words one ≡ other_head ∷ map event_words other = texts_differ (head ∷ map event_words one) (other_head ∷ map event_words other) (header-row (version_of one) workers, event-rows one h) (header-row (version_of other) others, event-rows other k) e in
+    let header : header_words (version_of one) workers ≡ header_words (version_of other) others = head-same head other_head (map event_words one) (map event_words other) rows in
     let word : decimal_word workers ≡ decimal_word others = cc in
-    record { workers_are = decimals_differ workers others m n word; events = all-differ one other h k (tail-same (header_words workers) (header_words others) (map event_words one) (map event_words other) rows) }
+    record { workers_are = decimals_differ workers others m n word; events = all-differ one other h k (tail-same head other_head (map event_words one) (map event_words other) rows) }
 
 word-clean : IsClean (codes "a") × IsClean (codes "p")
 word-clean = ((omega arith, (omega arith, tt)), (omega arith, (omega arith, tt)))

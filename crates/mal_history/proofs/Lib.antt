@@ -2,8 +2,7 @@
 pub mod Rows
 pub mod Again
 -- what this crate alone cites
-mod Balance
-mod Events
+mod Texts
 mod Differ
 pub mod ExampleLemmas
 mod Behind

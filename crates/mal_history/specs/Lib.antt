@@ -9,3 +9,4 @@ pub mod Laws
 pub mod Examples
 pub mod Own
 pub mod ReadResult
+pub mod Pieced

@@ -1,4 +1,5 @@
-use Rattle.std.specs.Prelude.{ℕ, List, [], ◌∷◌, map, flat_map, codes}
+use Rattle.std.specs.Prelude.{ℕ, Bool, false, List, [], ◌∷◌, map, flat_map, codes, if◌then◌else◌}
+use Rattle.std.specs.List.{list_any}
 use Rattle.mal_base.specs.declared.verdict.Outcome.{Outcome}
 use Rattle.mal_base.specs.declared.verdict.Outcome.TheVariants.{Ran, Starved, Lost}
 use Rattle.mal_history.specs.declared.event.Event.{Event}
@@ -33,10 +34,18 @@ event_words (Start tenant job index worker) = codes "s" ∷ tenant ∷ job ∷ d
 event_words (Finish tenant job index worker outcome) = codes "f" ∷ tenant ∷ job ∷ decimal_word index ∷ decimal_word worker ∷ outcome_word outcome ∷ []
 event_words (Exchange tenant job) = codes "x" ∷ tenant ∷ job ∷ []
 
+-- an event that only version 2 of the format has: there is none yet
+abbrev pub is_of_version_2 : Event → Bool
+is_of_version_2 event = false
+
+-- the version of the format in which events are told, which is known before the first byte
+abbrev pub version_of : List Event → ℕ
+version_of events = if list_any is_of_version_2 events then 2 else 1
+
 -- the words of the first line: the version and the number of workers
-abbrev pub header_words : ℕ → List (List ℕ)
-header_words workers = codes "h" ∷ codes "mal" ∷ codes "1" ∷ decimal_word workers ∷ []
+abbrev pub header_words : ℕ → ℕ → List (List ℕ)
+header_words version workers = codes "h" ∷ codes "mal" ∷ decimal_word version ∷ decimal_word workers ∷ []
 
 -- the text of a history: the first line, then a line an event
 unfoldable pub history_text : ℕ → List Event → List ℕ
-history_text workers events = text_of (header_words workers ∷ map event_words events)
+history_text workers events = text_of (header_words (version_of events) workers ∷ map event_words events)

@@ -1,4 +1,4 @@
-//! The events of a hall and its history.
+//! The events of a hall, its history, and the history's text, in memory or handed to a sink.
 #![tactic(auto)]
 
 mod event;
@@ -8,13 +8,14 @@ mod laws;
 mod line;
 mod numbers;
 mod owned;
+mod pieced;
 mod reading;
 mod writing;
 
-pub use event::{Assignment, Event, Share, Shares};
+pub use event::{Event, Share, Shares};
 pub use fault::HistoryFault;
 pub use history::History;
 pub use laws::{histories_differ, reading_examples, spelled_is_read, written_is_read};
 pub use owned::own;
 pub use reading::read;
-pub use writing::{outcome_word, write};
+pub use writing::{write, write_to};

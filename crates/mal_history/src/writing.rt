@@ -1,44 +1,98 @@
-//! Writing a history: a first line with the number of workers, then a line an event.
+//! Writing a history: a first line with the version of the format and the number of workers, then a line an event.
 
-ghost use Rattle.std.specs.Prelude.{◌≡◌, [], ◌∷◌, ◌++◌, map, flat_map, codes, IfOk, OnOk};
+ghost use Rattle.std.specs.Prelude.{◌≡◌, ◌≤◌, List, ℕ, ◌∷◌, ◌++◌, map, flat_map, codes, IfOk, OnOk, OnErr};
+ghost use Rattle.std.specs.Io.KnownBytes.{Appends};
 ghost use Rattle.spec_text.specs.Lines.{line_of};
-ghost use Rattle.mal_history.specs.{Shared.{shared}, Text.{outcome_word, assignment_words, share_words, event_words, header_words, history_text}, declared.event.Event.TheVariants.{Open, Revise, Start, Finish}};
+ghost use Rattle.mal_io.specs.Moves.{Rose, GotFront};
+ghost use Rattle.mal_history.specs.{Shared.{shared}, Text.{outcome_word, assignment_words, share_words, event_words, is_of_version_2, version_of, header_words, history_text}, declared.event.Event.TheVariants.{Open, Revise}};
 
 use crate::event::{Assignment, Event, Share};
 use crate::history::History;
+use crate::pieced::Pieced;
 use itoa::Buffer;
 use mal_base::{Ask, Name, Outcome};
-use mal_text::{end_line, put_ask, put_decimal, put_line, put_word};
+use mal_io::{Sink, WriteFault};
+use mal_text::put_ask;
+use mal_text::taker::{Taker, put_line, put_words};
 use std::alloc::{AllocError, Global};
 use std::sync::Arc;
 
 /// The text of a history.
-#[tactic(auto, unfolding(crate::specs::Text::history_text))]
 pub fn write(alloc: Global, history: &History) -> Result<Vec<u8>, AllocError>
     ensures { IfOk result (λ v. v.items ≡ history_text history.now.workers history.now.events) }
 {
     let mut out = Vec::new(alloc);
-    put_header(&mut out, history.workers())?;
-    put_events(&mut out, history.events())?;
+    put_history(&mut out, history)?;
     Ok(out)
 }
 
-/// Writes the first line: the version of the format and the number of workers.
-fn put_header(out: &mut Vec<u8>, workers: u32) -> Result<(), AllocError>
-    ensures { OnOk result (out.new.items ≡ out.old.items ++ line_of (header_words workers)) }
+/// Hands the text of a history to `sink`, some 16,000 bytes at a time; its count of faults then stays. After a fault the
+/// sink got a front of the text. It takes no memory.
+pub fn write_to<K: Sink>(sink: &mut K, history: &History) -> Result<(), WriteFault>
+    ensures all { OnOk result
+        (Appends (K.got sink.old) (K.got sink.new) (history_text history.now.workers history.now.events)) }
+    ensures front { (front : List ℕ)
+        × GotFront (K.got sink.old) (K.got sink.new) (history_text history.now.workers history.now.events) front }
+    ensures later { K.faults sink.old ≤ K.faults sink.new }
+    ensures cause { OnErr result (Rose (K.faults sink.old) (K.faults sink.new)) }
+    ensures counted { OnOk result (K.faults sink.new ≡ K.faults sink.old) }
 {
-    let mut buffer = Buffer::new();
-    put_line(
-        out,
-        b"h",
-        &[b"mal", b"1", buffer.format(workers).as_bytes()],
-    )?;
+    let mut out = Pieced::new(sink);
+    match put_history(&mut out, history) {
+        Ok(()) => {}
+        Err(never) => match never {},
+    }
+    if out.end() {
+        return Err(WriteFault);
+    }
     Ok(())
 }
 
-/// Writes a line an event.
-fn put_events(out: &mut Vec<u8>, events: &[Event]) -> Result<(), AllocError>
-    ensures { OnOk result (out.new.items ≡ out.old.items ++ flat_map line_of (map event_words events.now)) }
+/// Puts the text of a history.
+fn put_history<T: Taker>(out: &mut T, history: &History) -> Result<(), T::Fault>
+    ensures { OnOk result (T.took out.old out.new (history_text history.now.workers history.now.events)) }
+{
+    let events = history.events();
+    put_header(out, version_of(events), history.workers())?;
+    put_events(out, events)?;
+    Ok(())
+}
+
+/// The version of the format in which events are told, which is known before the first byte.
+fn version_of(events: &[Event]) -> u32
+    ensures { result ≡ version_of events.now }
+{
+    if events.iter().any(|e| is_of_version_2(e)) {
+        2
+    } else {
+        1
+    }
+}
+
+/// Whether only version 2 of the format has an event. There is none yet.
+fn is_of_version_2(_event: &Event) -> bool
+    ensures { result ≡ is_of_version_2 _event.now }
+{
+    false
+}
+
+/// Puts the first line: the version of the format and the number of workers.
+fn put_header<T: Taker>(out: &mut T, version: u32, workers: u32) -> Result<(), T::Fault>
+    ensures { OnOk result (T.took out.old out.new (line_of (header_words version workers))) }
+{
+    let mut first = Buffer::new();
+    let mut second = Buffer::new();
+    let words = [
+        b"mal".as_slice(),
+        first.format(version).as_bytes(),
+        second.format(workers).as_bytes(),
+    ];
+    put_line(out, b"h", &words)
+}
+
+/// Puts a line an event.
+fn put_events<T: Taker>(out: &mut T, events: &[Event]) -> Result<(), T::Fault>
+    ensures { OnOk result (T.took out.old out.new (flat_map line_of (map event_words events.now))) }
 {
     for event in events {
         put_event(out, event)?;
@@ -46,9 +100,9 @@ fn put_events(out: &mut Vec<u8>, events: &[Event]) -> Result<(), AllocError>
     Ok(())
 }
 
-/// Writes the line of an event.
-fn put_event(out: &mut Vec<u8>, event: &Event) -> Result<(), AllocError>
-    ensures { OnOk result (out.new.items ≡ out.old.items ++ line_of (event_words event.now)) }
+/// Puts the line of an event.
+fn put_event<T: Taker>(out: &mut T, event: &Event) -> Result<(), T::Fault>
+    ensures { OnOk result (T.took out.old out.new (line_of (event_words event.now))) }
 {
     match event {
         Event::Open { tenant, job, ask } => put_open(out, tenant, job, *ask),
@@ -64,117 +118,111 @@ fn put_event(out: &mut Vec<u8>, event: &Event) -> Result<(), AllocError>
             job,
             index,
             worker,
-        } => put_start(out, Assignment::of(*tenant, *job, *index, *worker)),
+        } => {
+            let assigned = Assignment::of(*tenant, *job, *index, *worker);
+            put_node(out, b"s", assigned, &[])
+        }
         Event::Finish {
             tenant,
             job,
             index,
             worker,
             outcome,
-        } => put_finish(
-            out,
-            Assignment::of(*tenant, *job, *index, *worker),
-            *outcome,
-        ),
-        Event::Exchange { tenant, job } => put_line(
-            out,
-            b"x",
-            &[tenant.as_bytes(), job.as_bytes()],
-        ),
+        } => {
+            let assigned = Assignment::of(*tenant, *job, *index, *worker);
+            put_node(out, b"f", assigned, &[outcome_word(*outcome)])
+        }
+        Event::Exchange { tenant, job } => {
+            put_line(out, b"x", &[tenant.as_bytes(), job.as_bytes()])
+        }
     }
 }
 
-/// Writes the line of the opening of a job.
-fn put_open(out: &mut Vec<u8>, tenant: &Name, job: &Name, ask: Ask) -> Result<(), AllocError>
-    ensures { OnOk result (out.new.items ≡ out.old.items ++ line_of (event_words (Open tenant.now job.now ask))) }
+/// Puts the line of the opening of a job.
+fn put_open<T: Taker>(out: &mut T, tenant: &Name, job: &Name, ask: Ask) -> Result<(), T::Fault>
+    ensures { OnOk result (T.took out.old out.new (line_of (event_words (Open tenant.now job.now ask)))) }
 {
-    out.push(b'o')?;
-    put_names(out, tenant, job)?;
+    out.put(b"o")?;
+    put_words(out, &[tenant.as_bytes(), job.as_bytes()])?;
     put_ask(out, ask)?;
-    end_line(out)?;
+    out.put(b"\n")?;
     Ok(())
 }
 
-/// Writes the names of a tenant and of a job, each behind a space.
-fn put_names(out: &mut Vec<u8>, tenant: &Name, job: &Name) -> Result<(), AllocError>
-    ensures { OnOk result (out.new.items ≡ out.old.items ++ flat_map (λ w. 32 ∷ w) (tenant.now ∷ job.now ∷ [])) }
+/// Puts the line of a revision of a job.
+fn put_revise<T: Taker>(out: &mut T, tenant: &Name, job: &Name, number: u32) -> Result<(), T::Fault>
+    ensures { OnOk result (T.took out.old out.new (line_of (event_words (Revise tenant.now job.now number)))) }
 {
-    put_word(out, tenant.as_bytes())?;
-    put_word(out, job.as_bytes())?;
-    Ok(())
+    let mut buffer = Buffer::new();
+    let words = [
+        tenant.as_bytes(),
+        job.as_bytes(),
+        buffer.format(number).as_bytes(),
+    ];
+    put_line(out, b"r", &words)
 }
 
-/// Writes the line of a revision of a job.
-fn put_revise(out: &mut Vec<u8>, tenant: &Name, job: &Name, number: u32) -> Result<(), AllocError>
-    ensures { OnOk result (out.new.items ≡ out.old.items ++ line_of (event_words (Revise tenant.now job.now number))) }
-{
-    out.push(b'r')?;
-    put_names(out, tenant, job)?;
-    put_decimal(out, u64::from(number))?;
-    end_line(out)?;
-    Ok(())
-}
-
-/// Writes the line of a balancing.
-fn put_balance(out: &mut Vec<u8>, shares: &[Arc<Share>]) -> Result<(), AllocError>
+/// Puts the line of a balancing.
+fn put_balance<T: Taker>(out: &mut T, shares: &[Arc<Share>]) -> Result<(), T::Fault>
     ensures { OnOk result
-        (out.new.items ≡ out.old.items ++ line_of (codes "b" ∷ flat_map share_words (shared shares.now))) }
+        (T.took out.old out.new (line_of (codes "b" ∷ flat_map share_words (shared shares.now)))) }
 {
-    out.push(b'b')?;
+    out.put(b"b")?;
     for share in shares {
         put_share(out, share)?;
     }
-    end_line(out)?;
+    out.put(b"\n")?;
     Ok(())
 }
 
-/// Writes the words of a volume, each behind a space.
-fn put_share(out: &mut Vec<u8>, share: &Share) -> Result<(), AllocError>
-    ensures { OnOk result (out.new.items ≡ out.old.items ++ flat_map (λ w. 32 ∷ w) (share_words share.now)) }
+/// Puts the words of a volume, each behind a space.
+fn put_share<T: Taker>(out: &mut T, share: &Share) -> Result<(), T::Fault>
+    ensures { OnOk result (T.took out.old out.new (flat_map (λ w. 32 ∷ w) (share_words share.now))) }
 {
-    put_names(out, &share.tenant, &share.job)?;
-    put_decimal(out, u64::from(share.volume))?;
-    Ok(())
+    let mut buffer = Buffer::new();
+    let words = [
+        share.tenant.as_bytes(),
+        share.job.as_bytes(),
+        buffer.format(share.volume).as_bytes(),
+    ];
+    put_words(out, &words)
 }
 
-/// Writes the line of a start of a node on a worker.
-fn put_start(out: &mut Vec<u8>, assigned: Assignment) -> Result<(), AllocError>
-    ensures { OnOk result
-        (out.new.items
-        ≡ out.old.items ++ line_of (event_words (Start assigned.tenant assigned.job assigned.index assigned.worker))) }
+/// Puts the line of a start of a node on a worker, or of its end: the word `first`, the words of the node and its worker,
+/// and the words `others`.
+fn put_node<T: Taker>(
+    out: &mut T,
+    first: &[u8],
+    assigned: Assignment,
+    others: &[&[u8]],
+) -> Result<(), T::Fault>
+    ensures { OnOk result (T.took out.old out.new
+        (line_of (first.now ∷ (assignment_words assigned ++ map (λ w. w.now) others.now)))) }
 {
-    out.push(b's')?;
+    out.put(first)?;
     put_assignment(out, assigned)?;
-    end_line(out)?;
+    put_words(out, others)?;
+    out.put(b"\n")?;
     Ok(())
 }
 
-/// Writes the line of the end of a start.
-fn put_finish(out: &mut Vec<u8>, assigned: Assignment, outcome: Outcome) -> Result<(), AllocError>
-    ensures { OnOk result
-        (out.new.items
-        ≡ out.old.items
-        ++ line_of (event_words (Finish assigned.tenant assigned.job assigned.index assigned.worker outcome))) }
+/// Puts the words of a node and its worker, each behind a space.
+fn put_assignment<T: Taker>(out: &mut T, assigned: Assignment) -> Result<(), T::Fault>
+    ensures { OnOk result (T.took out.old out.new (flat_map (λ w. 32 ∷ w) (assignment_words assigned))) }
 {
-    out.push(b'f')?;
-    put_assignment(out, assigned)?;
-    put_word(out, outcome_word(outcome))?;
-    end_line(out)?;
-    Ok(())
-}
-
-/// Writes the words of a node and its worker, each behind a space.
-fn put_assignment(out: &mut Vec<u8>, assigned: Assignment) -> Result<(), AllocError>
-    ensures { OnOk result (out.new.items ≡ out.old.items ++ flat_map (λ w. 32 ∷ w) (assignment_words assigned)) }
-{
-    put_names(out, &assigned.tenant, &assigned.job)?;
-    put_decimal(out, u64::from(assigned.index))?;
-    put_decimal(out, u64::from(assigned.worker))?;
-    Ok(())
+    let mut at = Buffer::new();
+    let mut by = Buffer::new();
+    let words = [
+        assigned.tenant.as_bytes(),
+        assigned.job.as_bytes(),
+        at.format(assigned.index).as_bytes(),
+        by.format(assigned.worker).as_bytes(),
+    ];
+    put_words(out, &words)
 }
 
 /// The word of an outcome.
-pub fn outcome_word(outcome: Outcome) -> &'static [u8]
+fn outcome_word(outcome: Outcome) -> &'static [u8]
     ensures { result.now ≡ outcome_word outcome }
 {
     match outcome {

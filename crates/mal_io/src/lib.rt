@@ -6,10 +6,12 @@
 
 pub mod device;
 pub mod memory;
+pub mod pieces;
 pub mod standard;
 pub mod whole;
 
 pub use device::{Failed, Sink, Source};
 pub use memory::{MemSink, MemSource};
+pub use pieces::Pieces;
 pub use standard::{StdSink, StdSource};
 pub use whole::{ReadAllError, WriteFault, read_all, write_all};

@@ -1,4 +1,5 @@
+-- what crates above cite
+pub mod Written
 -- what this crate alone cites
-mod Written
 mod Values
 mod Cuts

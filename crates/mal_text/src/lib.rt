@@ -4,9 +4,11 @@
 mod asks;
 pub mod numbers;
 pub mod read;
+pub mod taker;
 pub mod write;
 
 pub use asks::put_ask;
 pub use numbers::{NumberFault, magnitude, number};
 pub use read::{first_line, first_word, is_word_line, words};
+pub use taker::Taker;
 pub use write::{end_line, put_decimal, put_line, put_number, put_word};

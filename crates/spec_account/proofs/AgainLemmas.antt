@@ -14,7 +14,7 @@ use Rattle.spec_script.specs.Reading as script
 use Rattle.spec_script.specs.Script.{ScriptedJob, revision_rows, job_rows, rows_of, spelling}
 use Rattle.spec_script.proofs.Again.{written-read}
 use Rattle.spec_script.proofs.Written.{Stands, jobs-stand}
-use Rattle.mal_history.specs.Text.{event_words, header_words, history_text}
+use Rattle.mal_history.specs.Text.{event_words, version_of, header_words, history_text}
 use Rattle.mal_history.specs.Formed.{written_read}
 use Rattle.mal_history.specs.Reading as history
 use Rattle.mal_history.proofs.Again as histories
@@ -71,7 +71,7 @@ lines-again script told h k =
 pub written-is-read : WrittenIsRead
 unfolding spelling history_text
 written-is-read s workers events is h =
-    let told : List (List (List ℕ)) = header_words workers ∷ map event_words events in
+    let told : List (List (List ℕ)) = header_words (version_of events) workers ∷ map event_words events in
     let script_lines : dimacs.rows_of (spelling s) ≡ rows_of s = rows_again (rows_of s) (all (rows_of s) (jobs-stand served [] s.jobs is)) in
     let told_lines : dimacs.rows_of (history_text workers events) ≡ told = rows_again told (histories.history-rows workers events h) in
     rows-read (spelling s ++ (codes "history\n" ++ history_text workers events)) (rows_of s) told (codes "history" ∷ []) (record { script = s; history = written_read workers events })

@@ -1,7 +1,7 @@
 //! The text of a history that is handed to a sink piece by piece.
 
 use mal_base::Name;
-use mal_history::{Event, History, write};
+use mal_history::{Event, History, write, write_to};
 use mal_io::MemSink;
 use std::alloc::Global;
 use std::test::Fail;
@@ -25,7 +25,7 @@ fn sunk<'a>(
     failing: &'a [u64],
 ) -> Result<(MemSink<'a>, bool), Fail> {
     let mut sink = MemSink::new(alloc, 40_000, 40_000, failing)?;
-    let is_whole = mal_log::write(&mut sink, history).is_ok();
+    let is_whole = write_to(&mut sink, history).is_ok();
     Ok((sink, is_whole))
 }
 

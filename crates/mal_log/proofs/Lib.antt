@@ -1,3 +1,0 @@
--- what this crate alone cites
-mod Moved
-mod Texts
