@@ -8,7 +8,7 @@ use mal_tree::Index;
 use std::alloc::{AllocError, Global};
 
 /// A buffer takes 1,500 literals.
-const MOST_LITERALS: usize = 1500;
+pub const MOST_LITERALS: usize = 1500;
 
 /// What is told to all solvers of a job: the union of what they export, each list of literals once with the least
 /// number, cut to its longest front of at most 1,500 literals. The buffers are those of the tree's places from 0 on, at

@@ -2,5 +2,7 @@
 #![tactic(auto)]
 
 mod climbing;
+mod telling;
 
 pub use climbing::up;
+pub use telling::told;
