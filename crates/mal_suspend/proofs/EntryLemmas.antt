@@ -6,11 +6,12 @@ use Rattle.std.proofs.lemmas.List.Sums.{fold-append, sum_by-append, sum_by-cons}
 use Rattle.mal_base.specs.NumberedClause.{NumberedClause}
 use Rattle.mal_revision.specs.Posted.{Posted}
 use Rattle.spec_search.specs.Slice.{Sliced}
-use Rattle.spec_job.specs.Journal.{JournalEntry, Load, Import, Run, after_entry}
+use Rattle.spec_job.specs.Journal.{JournalEntry, Load, Import, Run, after_entry, is_load, is_import, loads_in, imports_in}
 use Rattle.mal_suspend.specs.declared.entry.Counted.{Counted}
 use Rattle.mal_suspend.specs.declared.entry.Entry.{Entry}
 use Rattle.mal_suspend.specs.declared.entry.Entry.TheVariants as code
 use Rattle.mal_suspend.specs.Starting.{load_entries, import_entries, start_entries}
+use Rattle.mal_suspend.specs.Counting.{AreCounts}
 use Rattle.mal_suspend.specs.Entries.{entry_of, slices_of, counted_of, entries_of}
 use Rattle.mal_suspend.specs.Replaying.{MayAllReplay, variables_with, variables_after}
 use Rattle.mal_suspend.proofs.ReplayLemmas.{may-front, may-behind, variables-append}
@@ -139,17 +140,67 @@ counts p no_run (c ∷ cs) n =
     let all : count_by (λ (c : Counted). p (entry_of c.entry)) (c ∷ cs) ≡ cond (p (entry_of c.entry)) 1 0 + count_by (λ (c : Counted). p (entry_of c.entry)) cs = sum_by-cons (λ (c : Counted). cond (p (entry_of c.entry)) 1 0) c cs in
     ap (λ (es : List JournalEntry). count_by p es) (parted c cs (slices_of n)) ∙ (parts ∙ omega (arith, none, first, more, all))
 
+pub counts-behind : (p : JournalEntry → Bool) → p Run ≡ false → (cs : List Counted) (n : ℕ) → count_by p (entries_of cs) ≡ count_by p (entries_of cs ++ slices_of n)
+counts-behind p no_run cs n = ap (λ (es : List JournalEntry). count_by p es) (sym (append-nil (entries_of cs))) ∙ (counts p no_run cs 0 ∙ sym (counts p no_run cs n))
+
+-- the entries with one more
+pub entries-push : (cs : List Counted) (c : Counted) → entries_of (cs ++ c ∷ []) ≡ entries_of cs ++ counted_of c
+entries-push [] c = append-nil (counted_of c)
+entries-push (y ∷ ys) c = ap (λ (es : List JournalEntry). counted_of y ++ es) (entries-push ys c) ∙ sym (append_assoc (counted_of y) (entries_of ys) (counted_of c))
+
+pub counts-push : (p : JournalEntry → Bool) → p Run ≡ false → (cs : List Counted) (c : Counted) → count_by p (entries_of (cs ++ c ∷ [])) ≡ count_by p (entries_of cs) + cond (p (entry_of c.entry)) 1 0
+counts-push p no_run cs c =
+    let q = λ (x : Counted). p (entry_of x.entry) in
+    let all : count_by p (entries_of (cs ++ c ∷ [])) ≡ count_by q (cs ++ c ∷ []) = counts-behind p no_run (cs ++ c ∷ []) 0 ∙ counts p no_run (cs ++ c ∷ []) 0 in
+    let front : count_by p (entries_of cs) ≡ count_by q cs = counts-behind p no_run cs 0 ∙ counts p no_run cs 0 in
+    let parts : count_by q (cs ++ c ∷ []) ≡ count_by q cs + count_by q (c ∷ []) = sum_by-append (λ (x : Counted). cond (q x) 1 0) cs (c ∷ []) in
+    let last : count_by q (c ∷ []) ≡ cond (p (entry_of c.entry)) 1 0 + count_by q [] = sum_by-cons (λ (x : Counted). cond (q x) 1 0) c [] in
+    let none : count_by q [] ≡ 0 = refl in
+    all ∙ omega (arith, parts, front, last, none)
+
+-- each entry that is no slice is a load or an import
+one-kind : (e : Entry) → cond (is_load (entry_of e)) 1 0 + cond (is_import (entry_of e)) 1 0 ≡ 1
+one-kind (code.Load r first) = refl
+one-kind (code.Import told) = refl
+
+kinds : (cs : List Counted) → count_by (λ (c : Counted). is_load (entry_of c.entry)) cs + count_by (λ (c : Counted). is_import (entry_of c.entry)) cs ≡ length cs
+kinds [] = refl
+kinds (c ∷ cs) =
+    let loads : count_by (λ (c : Counted). is_load (entry_of c.entry)) (c ∷ cs) ≡ cond (is_load (entry_of c.entry)) 1 0 + count_by (λ (c : Counted). is_load (entry_of c.entry)) cs = sum_by-cons (λ (c : Counted). cond (is_load (entry_of c.entry)) 1 0) c cs in
+    let imports : count_by (λ (c : Counted). is_import (entry_of c.entry)) (c ∷ cs) ≡ cond (is_import (entry_of c.entry)) 1 0 + count_by (λ (c : Counted). is_import (entry_of c.entry)) cs = sum_by-cons (λ (c : Counted). cond (is_import (entry_of c.entry)) 1 0) c cs in
+    let more : count_by (λ (c : Counted). is_load (entry_of c.entry)) cs + count_by (λ (c : Counted). is_import (entry_of c.entry)) cs ≡ length cs = kinds cs in
+    let one : cond (is_load (entry_of c.entry)) 1 0 + cond (is_import (entry_of c.entry)) 1 0 ≡ 1 = one-kind c.entry in
+    omega (arith, loads, imports, more, one)
+
+pub loads-imports : (cs : List Counted) → loads_in (entries_of cs) + imports_in (entries_of cs) ≡ length cs
+loads-imports cs =
+    let loads : loads_in (entries_of cs) ≡ count_by (λ (c : Counted). is_load (entry_of c.entry)) cs = counts-behind is_load refl cs 0 ∙ counts is_load refl cs 0 in
+    let imports : imports_in (entries_of cs) ≡ count_by (λ (c : Counted). is_import (entry_of c.entry)) cs = counts-behind is_import refl cs 0 ∙ counts is_import refl cs 0 in
+    let all : count_by (λ (c : Counted). is_load (entry_of c.entry)) cs + count_by (λ (c : Counted). is_import (entry_of c.entry)) cs ≡ length cs = kinds cs in
+    omega (arith, loads, imports, all)
+
 -- slices bring no variables
 variables-slices : (most n : ℕ) → variables_after most (slices_of n) ≡ most
 variables-slices most zero = refl
 variables-slices most (suc n) = variables-slices most n
 
-pub variables-take : (most : ℕ) (cs : List Counted) (k : ℕ) (x d : Counted) → k < length cs → x ≡ get_or cs k d → variables_after most (entries_of (take (k + 1) cs)) ≡ variables_with (variables_after most (entries_of (take k cs))) (entry_of x.entry)
-variables-take most cs k x d l e =
-    let before : ℕ = variables_after most (entries_of (take k cs)) in
-    let first : variables_after most (entries_of (take (k + 1) cs)) ≡ variables_after before (counted_of x) = ap (λ (es : List JournalEntry). variables_after most es) (entries-take cs k x d l e) ∙ variables-append most (entries_of (take k cs)) (counted_of x) in
-    let second : variables_after before (counted_of x) ≡ variables_after (variables_after before (slices_of x.slices)) (entry_of x.entry ∷ []) = variables-append before (slices_of x.slices) (entry_of x.entry ∷ []) in
-    first ∙ (second ∙ ap (λ (v : ℕ). variables_with v (entry_of x.entry)) (variables-slices before x.slices))
+pub variables-push : (cs : List Counted) (c : Counted) → variables_after 0 (entries_of (cs ++ c ∷ [])) ≡ variables_with (variables_after 0 (entries_of cs)) (entry_of c.entry)
+variables-push cs c =
+    let before : ℕ = variables_after 0 (entries_of cs) in
+    let first : variables_after 0 (entries_of (cs ++ c ∷ [])) ≡ variables_after before (counted_of c) = ap (λ (es : List JournalEntry). variables_after 0 es) (entries-push cs c) ∙ variables-append 0 (entries_of cs) (counted_of c) in
+    let second : variables_after before (counted_of c) ≡ variables_after (variables_after before (slices_of c.slices)) (entry_of c.entry ∷ []) = variables-append before (slices_of c.slices) (entry_of c.entry ∷ []) in
+    first ∙ (second ∙ ap (λ (v : ℕ). variables_with v (entry_of c.entry)) (variables-slices before c.slices))
+
+-- what is kept beside counted entries, with one more
+pub counts-with : (cs : List Counted) (c : Counted) (loads variables more most : ℕ) → AreCounts cs loads variables → more ≡ cond (is_load (entry_of c.entry)) (loads + 1) loads → most ≡ variables_with variables (entry_of c.entry) → AreCounts (cs ++ c ∷ []) more most
+counts-with cs c loads variables more most before e f = record {
+  are_loads = e ∙ (by_test (is_load (entry_of c.entry)) ∙ (ap (λ (n : ℕ). n + cond (is_load (entry_of c.entry)) 1 0) before.are_loads ∙ sym (counts-push is_load refl cs c)));
+  are_most = f ∙ (ap (λ (v : ℕ). variables_with v (entry_of c.entry)) before.are_most ∙ sym (variables-push cs c));
+}
+  where
+    by_test : (b : Bool) → cond b (loads + 1) loads ≡ loads + cond b 1 0
+    by_test true = refl
+    by_test false = omega arith
 
 pub variables-behind : (most : ℕ) (es : List JournalEntry) (n : ℕ) → variables_after most (es ++ slices_of n) ≡ variables_after most es
 variables-behind most es n = variables-append most es (slices_of n) ∙ variables-slices (variables_after most es) n

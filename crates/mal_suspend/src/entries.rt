@@ -1,30 +1,36 @@
 //! What a node did, with slices in a row counted.
 
-ghost use Rattle.std.specs.Prelude.{◌≡◌, ◌↔◌, [], ◌∷◌, ◌++◌, map, IsTrue, IfOk, OnOk};
+ghost use Rattle.std.specs.Prelude.{◌≡◌, ◌+◌, ◌↔◌, [], ◌∷◌, ◌++◌, map, IsTrue, IfOk};
+ghost use Rattle.std.specs.Arc.{arc_value};
 ghost use Rattle.spec_job.specs.Journal.{Run, loads_in, imports_in};
-ghost use Rattle.mal_suspend.specs.{Entries.{entry_of, slices_of, counted_of, entries_of}, Replaying.{variables_after}};
+ghost use Rattle.mal_suspend.specs.{Entries.{slices_of, counted_of, entries_of}, Counting.{listed_in}, Replaying.{variables_after}};
 
-use crate::entry::{Counted, Entry};
+use crate::entry::Counted;
+use crate::growing::Growing;
+use crate::listed::Listed;
 use std::alloc::{AllocError, Global};
 use std::marker::Model;
+use std::sync::Arc;
 
 /// What a node did, in order: the entries that are no slices, each with the number of slices before it, and the number
 /// of slices behind the last. Contracts see the list, in which each slice is an entry of its own; two lists are equal
-/// exactly where these are. So a slice more takes no memory, and a list costs what its loads and imports do.
+/// exactly where these are. So a slice more takes no memory, and a list costs what its loads and imports do. A copy
+/// shares them, and a list that has one slice more does; what was counted of them is kept beside them.
 #[derive(Drop)]
 pub struct Entries {
-    counted: Vec<Counted>,
+    alloc: Global,
+    listed: Option<Arc<Listed>>,
     slices: u64,
 }
 
 impl Model for Entries {
     ghost use Rattle.std.specs.Prelude.{List, ◌++◌};
     ghost use Rattle.spec_job.specs.Journal.{JournalEntry};
-    ghost use Rattle.mal_suspend.specs.Entries.{slices_of, entries_of};
+    ghost use Rattle.mal_suspend.specs.{Entries.{slices_of, entries_of}, Counting.{listed_in}};
 
     ghost Value = { List JournalEntry };
 
-    ghost view = { λ e. entries_of e.counted.items ++ slices_of e.slices };
+    ghost view = { λ e. entries_of (listed_in e.listed) ++ slices_of e.slices };
 }
 
 impl Entries {
@@ -33,8 +39,20 @@ impl Entries {
         ensures { result ≡ [] }
     {
         Entries {
-            counted: Vec::new(alloc),
+            alloc,
+            listed: None,
             slices: 0,
+        }
+    }
+
+    /// Entries that may be shared, and so many slices behind them. Takes no memory.
+    pub(crate) fn of(alloc: Global, listed: Arc<Listed>, slices: u64) -> Entries
+        ensures { result ≡ entries_of (arc_value listed) ++ slices_of slices }
+    {
+        Entries {
+            alloc,
+            listed: Some(listed),
+            slices,
         }
     }
 
@@ -43,47 +61,74 @@ impl Entries {
     pub fn parts(&self) -> (&[Counted], u64)
         ensures { entries_of result.0.now ++ slices_of result.1 ≡ self.now }
     {
-        (self.counted.as_slice(), self.slices)
+        (counted_in(&self.listed), self.slices)
     }
 
     /// The allocator that the list takes memory from.
     pub fn allocator(&self) -> Global {
-        *self.counted.allocator()
+        self.alloc
     }
 
     /// How many revisions were loaded.
     pub fn loads(&self) -> usize
         ensures { result ≡ loads_in self.now }
     {
-        self.counted.iter().filter(|c| c.entry.is_load()).count()
+        match &self.listed {
+            None => 0,
+            Some(listed) => listed.loads(),
+        }
     }
 
     /// How much of what was told was imported.
     pub fn imports(&self) -> usize
         ensures { result ≡ imports_in self.now }
     {
-        self.counted.iter().filter(|c| c.entry.is_import()).count()
+        match &self.listed {
+            None => 0,
+            Some(listed) => listed.imports(),
+        }
     }
 
     /// The greatest number of variables of the revisions that were loaded.
     pub fn variables(&self) -> u32
         ensures { result ≡ variables_after 0 self.now }
     {
-        let mut most = 0;
-        for counted in self.counted.as_slice() {
-            most = counted.entry.variables_with(most);
+        match &self.listed {
+            None => 0,
+            Some(listed) => listed.variables(),
         }
-        most
     }
 
-    /// An equal list, with room for so many entries more that are no slices. It shares the revisions and what was told.
-    pub fn copy_with(&self, more: usize) -> Result<Entries, AllocError>
+    /// An equal list, which shares the entries that are no slices.
+    pub fn copy(&self) -> Result<Entries, AllocError>
         ensures { IfOk result (λ e. e ≡ self.now) }
     {
         Ok(Entries {
-            counted: copies(self.allocator(), self.counted.as_slice(), more)?,
+            alloc: self.alloc,
+            listed: shared(&self.listed)?,
             slices: self.slices,
         })
+    }
+
+    /// The list with a slice behind it, which shares the entries that are no slices. Is refused where the count would
+    /// pass its type's end.
+    pub(crate) fn and_slice(&self) -> Result<Entries, AllocError>
+        ensures { IfOk result (λ e. e ≡ self.now ++ Run ∷ []) }
+    {
+        Ok(Entries {
+            alloc: self.alloc,
+            listed: shared(&self.listed)?,
+            slices: next(self.slices)?,
+        })
+    }
+
+    /// An equal list that is put together further, with room for so many entries more that are no slices. It shares the
+    /// revisions and what was told.
+    pub(crate) fn growing(&self, more: usize) -> Result<Growing, AllocError>
+        ensures { IfOk result (λ g. g ≡ self.now) }
+    {
+        let listed = copied(self.alloc, &self.listed, more)?;
+        Ok(Growing::of(listed, self.slices))
     }
 
     /// Whether these are the same entries in the same order.
@@ -93,44 +138,48 @@ impl Entries {
         if self.slices != other.slices {
             return false;
         }
-        are_same(self.counted.as_slice(), other.counted.as_slice())
-    }
-
-    /// Puts an entry behind the others.
-    pub(crate) fn push(&mut self, entry: Entry) -> Result<(), AllocError>
-        ensures { OnOk result (self.new ≡ self.old ++ entry_of entry ∷ []) }
-    {
-        let slices = self.slices;
-        self.counted.push(Counted { slices, entry })?;
-        self.slices = 0;
-        Ok(())
-    }
-
-    /// Puts a slice behind the others. Takes no memory; is refused where the count would pass its type's end.
-    pub(crate) fn push_slice(&mut self) -> Result<(), AllocError>
-        ensures { OnOk result (self.new ≡ self.old ++ Run ∷ []) }
-    {
-        match self.slices.checked_add(1) {
-            None => Err(AllocError),
-            Some(slices) => {
-                self.slices = slices;
-                Ok(())
-            }
-        }
+        are_same(counted_in(&self.listed), counted_in(&other.listed))
     }
 }
 
-/// Equal entries, with room for so many more.
-fn copies(alloc: Global, counted: &[Counted], more: usize) -> Result<Vec<Counted>, AllocError>
-    ensures { IfOk result (λ v. entries_of v.items ≡ entries_of counted.now) }
+/// The entries that are shared; none where there is nothing to share.
+fn counted_in(listed: &Option<Arc<Listed>>) -> &[Counted]
+    ensures { result.now ≡ listed_in listed.now }
 {
-    let mut all = Vec::new(alloc);
-    all.reserve(counted.len())?;
-    for one in counted {
-        all.push(one.copy()?)?;
+    match listed {
+        None => &[],
+        Some(listed) => listed.counted(),
     }
-    all.reserve(more)?;
-    Ok(all)
+}
+
+/// The same entries, shared once more.
+fn shared(listed: &Option<Arc<Listed>>) -> Result<Option<Arc<Listed>>, AllocError>
+    ensures { IfOk result (λ copy. listed_in copy ≡ listed_in listed.now) }
+{
+    match listed {
+        None => Ok(None),
+        Some(listed) => Ok(Some(Arc::try_clone(listed)?)),
+    }
+}
+
+/// Equal entries that are not shared, with room for so many more.
+fn copied(alloc: Global, listed: &Option<Arc<Listed>>, more: usize) -> Result<Listed, AllocError>
+    ensures { IfOk result (λ copy. entries_of copy ≡ entries_of (listed_in listed.now)) }
+{
+    match listed {
+        None => Ok(Listed::new(alloc)),
+        Some(listed) => listed.copy_with(more),
+    }
+}
+
+/// One slice more. It is refused where the count would pass its type's end.
+pub(crate) fn next(slices: u64) -> Result<u64, AllocError>
+    ensures { IfOk result (λ n. n ≡ slices + 1) }
+{
+    match slices.checked_add(1) {
+        None => Err(AllocError),
+        Some(more) => Ok(more),
+    }
 }
 
 /// Whether these stand for the same entries, one by one.

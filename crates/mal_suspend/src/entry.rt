@@ -1,7 +1,7 @@
 //! The entries of a journal.
 
-ghost use Rattle.std.specs.Prelude.{◌≡◌, ◌↔◌, IsTrue, IfOk};
-ghost use Rattle.spec_job.specs.Journal.{is_load, is_import};
+ghost use Rattle.std.specs.Prelude.{◌≡◌, ◌+◌, ◌↔◌, if◌then◌else◌, IsTrue, IfOk};
+ghost use Rattle.spec_job.specs.Journal.{is_load};
 ghost use Rattle.mal_suspend.specs.{Entries.{entry_of, counted_of}, Replaying.{variables_with}};
 
 use mal_base::{Lit, NumberedClause};
@@ -43,23 +43,17 @@ impl Entry {
         }
     }
 
-    /// Whether the entry loads a revision.
-    pub fn is_load(&self) -> bool
-        ensures { result ≡ is_load (entry_of self.now) }
+    /// How many loads there are with this entry, where there were so many before it. A count that its type does not hold
+    /// is want of memory.
+    pub fn loads_with(&self, loads: usize) -> Result<usize, AllocError>
+        ensures { IfOk result (λ n. n ≡ (if is_load (entry_of self.now) then loads + 1 else loads)) }
     {
         match self {
-            Entry::Load(_, _) => true,
-            Entry::Import(_) => false,
-        }
-    }
-
-    /// Whether the entry imports what was told.
-    pub fn is_import(&self) -> bool
-        ensures { result ≡ is_import (entry_of self.now) }
-    {
-        match self {
-            Entry::Load(_, _) => false,
-            Entry::Import(_) => true,
+            Entry::Load(_, _) => match loads.checked_add(1) {
+                None => Err(AllocError),
+                Some(more) => Ok(more),
+            },
+            Entry::Import(_) => Ok(loads),
         }
     }
 

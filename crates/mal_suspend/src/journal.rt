@@ -6,6 +6,7 @@ ghost use Rattle.mal_suspend.specs.{Replaying.{IsJournal, MayAllReplay, variable
 
 use crate::entries::Entries;
 use crate::entry::Entry;
+use crate::growing::Growing;
 use mal_buffer::Buffer;
 use mal_revision::Revision;
 use std::alloc::{AllocError, Global};
@@ -113,7 +114,7 @@ impl Journal {
         self.entries.allocator()
     }
 
-    /// An equal journal. It shares the revisions and what was told.
+    /// An equal journal. It shares the loads and the imports.
     pub fn copy(&self) -> Result<Journal, AllocError>
         ensures { IfOk result (λ j. j ≡ self.now) }
     {
@@ -122,7 +123,7 @@ impl Journal {
             profile: self.profile,
             index: self.index,
             start: self.start,
-            entries: self.entries.copy_with(0)?,
+            entries: self.entries.copy()?,
         })
     }
 
@@ -161,10 +162,7 @@ impl Journal {
             (start_entries (shared_loads loads.now) (shared_tolds imports.now))) }
         ensures keeps { IfOk result (λ j. IsJournal j.profile j.index j.entries) }
     {
-        let mut entries = self.entries.copy_with(loads.len() + imports.len())?;
-        push_loads(&mut entries, loads)?;
-        push_imports(&mut entries, imports)?;
-        entries.push_slice()?;
+        let entries = and_start(&self.entries, loads, imports)?;
         Ok(Journal {
             job: self.job,
             profile: self.profile,
@@ -182,8 +180,28 @@ impl Journal {
     }
 }
 
+/// The entries with those of a start behind them: loads of these revisions, then imports of what was told, then a
+/// slice. Where it loads and imports nothing, the entries that are no slices are shared.
+fn and_start(
+    before: &Entries,
+    loads: &[(Arc<Revision>, u32)],
+    imports: &[Arc<Buffer>],
+) -> Result<Entries, AllocError>
+    ensures { IfOk result
+        (λ e. e ≡ before.now ++ start_entries (shared_loads loads.now) (shared_tolds imports.now)) }
+{
+    if loads.is_empty() && imports.is_empty() {
+        return before.and_slice();
+    }
+    let mut entries = before.growing(loads.len() + imports.len())?;
+    push_loads(&mut entries, loads)?;
+    push_imports(&mut entries, imports)?;
+    entries.push_slice()?;
+    entries.share(before.allocator())
+}
+
 /// Puts loads of these revisions behind the entries.
-fn push_loads(entries: &mut Entries, loads: &[(Arc<Revision>, u32)]) -> Result<(), AllocError>
+fn push_loads(entries: &mut Growing, loads: &[(Arc<Revision>, u32)]) -> Result<(), AllocError>
     ensures { OnOk result (entries.new ≡ entries.old ++ load_entries (shared_loads loads.now)) }
 {
     for load in loads {
@@ -194,7 +212,7 @@ fn push_loads(entries: &mut Entries, loads: &[(Arc<Revision>, u32)]) -> Result<(
 }
 
 /// Puts imports of what was told behind the entries.
-fn push_imports(entries: &mut Entries, imports: &[Arc<Buffer>]) -> Result<(), AllocError>
+fn push_imports(entries: &mut Growing, imports: &[Arc<Buffer>]) -> Result<(), AllocError>
     ensures { OnOk result (entries.new ≡ entries.old ++ import_entries (shared_tolds imports.now)) }
 {
     for told in imports {

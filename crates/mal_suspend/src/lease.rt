@@ -2,7 +2,7 @@
 
 ghost use Rattle.std.specs.Prelude.{◌≡◌, IfOk, IfErr};
 ghost use Rattle.mal_base.specs.declared.verdict.Outcome.TheVariants.{Starved};
-ghost use Rattle.spec_job.specs.{Journaled.{replayed, started}, Leased.{Becomes, Tells}};
+ghost use Rattle.spec_job.specs.{Journaled.{replayed, started, and_entries}, Leased.{Becomes, Tells}};
 ghost use Rattle.mal_suspend.specs.{Kept.{journal_of, is_gone}, Replaying.{MayAllReplay}, Starting.{shared_loads, shared_tolds, start_entries}};
 
 use crate::done::Done;
@@ -64,11 +64,22 @@ impl Lease {
     {
         match Start::new(kept.journal(), loads, imports, start) {
             Err(error) => Err((kept, error)),
-            Ok(begun) => Ok(Lease {
-                kept: kept.started(start),
-                start: begun,
-                worker,
-            }),
+            Ok(begun) => Ok(Lease::of(kept, begun, worker)),
+        }
+    }
+
+    /// Hands a node out to a worker for a start of its journal. Takes no memory.
+    pub fn of(kept: Kept, start: Start, worker: u32) -> Lease
+        requires { start.grown ≡ and_entries (started start.grown.start (journal_of kept)) start.adds }
+        ensures journal { result.journal ≡ started start.grown.start (journal_of kept) }
+        ensures gone { result.gone ≡ is_gone kept }
+        ensures adds { result.adds ≡ start.adds }
+        ensures worker { result.worker ≡ worker }
+    {
+        Lease {
+            kept: kept.started(start.grown().start()),
+            start,
+            worker,
         }
     }
 

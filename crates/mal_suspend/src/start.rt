@@ -74,6 +74,13 @@ impl Start {
         })
     }
 
+    /// The journal after the start.
+    pub fn grown(&self) -> &Journal
+        ensures { result.now ≡ self.now.grown }
+    {
+        &self.grown
+    }
+
     /// Starts a node with its journal, and gives it back to this worker's account with what came of it. The scratch
     /// lends the room for the lines and gets it back.
     pub fn run(self, suspended: Suspended, worker: u32, scratch: &mut Scratch) -> Done

@@ -151,7 +151,7 @@ fn counts_of(journal: &Journal) -> (usize, u64) {
 
 /// Whether a copy of a journal's entries is the same, and is not without entries.
 fn are_copied(alloc: Global, journal: &Journal) -> Result<bool, AllocError> {
-    let entries = journal.entries().copy_with(0)?;
+    let entries = journal.entries().copy()?;
     Ok(entries.same(journal.entries()) && !Entries::new(alloc).same(&entries))
 }
 

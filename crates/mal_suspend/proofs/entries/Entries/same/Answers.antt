@@ -1,5 +1,6 @@
 use Rattle.std.proofs.Common.{◌≡◌, ◌++◌, ℕ, List, sym, ◌∙◌, ap}
 use Rattle.spec_job.specs.Journal.{JournalEntry}
+use Rattle.mal_suspend.specs.Counting.{listed_in}
 use Rattle.mal_suspend.specs.Entries.{slices_of, entries_of}
 use Rattle.mal_suspend.proofs.EntryLemmas.{AreKnown, differ, all-known, counted-entries}
 use Rattle.mal_suspend.proofs.entries.Entries.same.Goals as goal
@@ -10,7 +11,7 @@ returns-then-self-other c =
     let other = c.other.inside in (
       λ h. differ h,
       λ same.
-          let known : AreKnown one.counted.items other.counted.items one.slices other.slices = all-known one.counted.items other.counted.items one.slices other.slices (c.self.view_is ∙ (same ∙ sym c.other.view_is)) in
+          let known : AreKnown (listed_in one.listed) (listed_in other.listed) one.slices other.slices = all-known (listed_in one.listed) (listed_in other.listed) one.slices other.slices (c.self.view_is ∙ (same ∙ sym c.other.view_is)) in
           absurd (c.if-self-other.true known.slices),
     )
 
@@ -18,12 +19,12 @@ pub returns : goal.returns
 returns c =
     let one = c.self.inside in
     let other = c.other.inside in
-    let first = c.as_slice.ensures.value in
-    let second = c.as_slice-2.ensures.value in (
+    let first = c.counted_in.ensures in
+    let second = c.counted_in-2.ensures in (
       λ test.
-          let entries : entries_of one.counted.items ≡ entries_of other.counted.items = counted-entries one.counted.items other.counted.items (rw (first, second) at (c.are_same.ensures.0 test)) in
-          sym c.self.view_is ∙ (ap (λ (es : List JournalEntry). es ++ slices_of one.slices) entries ∙ (ap (λ (n : ℕ). entries_of other.counted.items ++ slices_of n) c.if-self-other.false ∙ c.other.view_is)),
+          let entries : entries_of (listed_in one.listed) ≡ entries_of (listed_in other.listed) = counted-entries (listed_in one.listed) (listed_in other.listed) (rw (first, second) at (c.are_same.ensures.0 test)) in
+          sym c.self.view_is ∙ (ap (λ (es : List JournalEntry). es ++ slices_of one.slices) entries ∙ (ap (λ (n : ℕ). entries_of (listed_in other.listed) ++ slices_of n) c.if-self-other.false ∙ c.other.view_is)),
       λ same.
-          let known : AreKnown one.counted.items other.counted.items one.slices other.slices = all-known one.counted.items other.counted.items one.slices other.slices (c.self.view_is ∙ (same ∙ sym c.other.view_is)) in
+          let known : AreKnown (listed_in one.listed) (listed_in other.listed) one.slices other.slices = all-known (listed_in one.listed) (listed_in other.listed) one.slices other.slices (c.self.view_is ∙ (same ∙ sym c.other.view_is)) in
           c.are_same.ensures.1 (rw (first, second) known.counted),
     )

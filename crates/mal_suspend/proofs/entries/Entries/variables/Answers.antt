@@ -1,18 +1,12 @@
-use Rattle.std.proofs.Common.{ℕ, sym, ◌∙◌, ap, take_all, arith}
-use Rattle.mal_suspend.specs.Entries.{entry_of, entries_of}
-use Rattle.mal_suspend.specs.Replaying.{variables_with}
-use Rattle.mal_suspend.proofs.EntryLemmas.{variables-take, variables-behind}
+use Rattle.std.proofs.Common.{[], sym, ◌∙◌, ap}
+use Rattle.std.specs.Arc.{arc_value}
+use Rattle.mal_suspend.specs.Entries.{entries_of}
+use Rattle.mal_suspend.specs.Replaying.{variables_after}
+use Rattle.mal_suspend.proofs.EntryLemmas.{variables-behind}
 use Rattle.mal_suspend.proofs.entries.Entries.variables.Goals as goal
 
-pub loop-counted-preserved : goal.loop-counted-preserved
-loop-counted-preserved c =
-    let items = c.as_slice-counted-items.result.now in
-    c.variables_with-most.ensures
-    ∙ (ap (λ (v : ℕ). variables_with v (entry_of c.counted-item.result.entry)) c.loop-counted.invariant
-    ∙ sym (variables-take 0 items c.loop-counted.counted-index c.counted-item.result c.counted-item.result (omega (arith, c.loop-counted-test.true)) c.counted-item.is))
+pub returns-in-None : goal.returns-in-None
+returns-in-None c = rw (← c.self.view_is, c.in-None.is) (sym (variables-behind 0 [] c.self.inside.slices))
 
-pub returns : goal.returns
-returns c =
-    let inside = c.self.inside in
-    let all = take_all c.loop-counted.counted-index c.as_slice-counted-items.result.now (omega arith) in
-    rw (← c.self.view_is) (rw (all, c.as_slice-counted-items.ensures.value) at c.loop-counted.invariant ∙ sym (variables-behind 0 (entries_of inside.counted.items) inside.slices))
+pub returns-in-Some : goal.returns-in-Some
+returns-in-Some c = rw (← c.self.view_is, c.in-Some.is) (c.variables.ensures ∙ (ap (λ cs. variables_after 0 (entries_of cs)) c.deref.ensures ∙ sym (variables-behind 0 (entries_of (arc_value c.in-Some.listed)) c.self.inside.slices)))
