@@ -1,11 +1,10 @@
--- What a node exports of a stretch of the log, and the marks that are moved one by one.
-use Rattle.std.proofs.Common.{◌≡◌, ℕ, zero, suc, ◌+◌, ◌-◌, ◌<◌, ◌≤◌, Bool, true, false, cond, List, [], ◌∷◌, ◌++◌, length, map, take, drop, get_or, slice_get, Some, refl, sym, ◌∙◌, ap, arith, take-add}
-use Rattle.std.specs.Prelude.{All, filter, slice_set}
+-- What a node exports of the log, line by line, and the marks that are moved one by one.
+use Rattle.std.proofs.Common.{◌≡◌, ℕ, zero, suc, ◌+◌, ◌%◌, ◌<◌, ◌≤◌, Bool, true, false, cond, ◌==◌, ◌&&◌, List, [], ◌∷◌, ◌++◌, length, map, take, drop, get_or, slice_get, Some, refl, sym, ◌∙◌, ap, arith, append_assoc}
+use Rattle.std.specs.Prelude.{All, filter, slice_set, nat_le}
+use Rattle.std.proofs.lemmas.List.{append-nil}
 use Rattle.std.proofs.lemmas.List.Elements.{All-head, All-tail}
 use Rattle.mal_base.specs.Clauses.{rises}
 use Rattle.mal_base.specs.NumberedClause.{NumberedClause, Line}
-use Rattle.spec_exchange.specs.Exchange.{union}
-use Rattle.spec_exchange.proofs.UnionLemmas.{order-free, of-unions}
 use Rattle.spec_job.specs.SoloMachine.{is_exported}
 use Rattle.mal_job.specs.Viewed.{PlaceView}
 use Rattle.mal_job.specs.Exports.{exported_by, marked_at, marked}
@@ -19,45 +18,57 @@ exported-append i (x ∷ xs) ys = by_test (is_exported i x) (exported-append i x
     by_test true e = ap (λ (cs : List NumberedClause). record { id = x.id; lits = x.lits } ∷ cs) e
     by_test false e = e
 
-union-both : (xs ys : List NumberedClause) → union (union xs ++ union ys) ≡ union (xs ++ ys)
-union-both xs ys = of-unions xs (union ys) ∙ (order-free xs (union ys) ∙ (of-unions ys xs ∙ order-free ys xs))
-
 drop-both : (n m : ℕ) (xs : List Line) → drop m (drop n xs) ≡ drop (n + m) xs
 drop-both zero m xs = let same : m ≡ 0 + m = omega arith in ap (λ (k : ℕ). drop k xs) same
 drop-both (suc n) zero [] = let same : suc n ≡ suc n + 0 = omega arith in ap (λ (k : ℕ). drop k []) same
 drop-both (suc n) (suc m) [] = let same : suc (n + suc m) ≡ suc n + suc m = omega arith in ap (λ (k : ℕ). drop k []) same
 drop-both (suc n) m (x ∷ xs) = let same : suc (n + m) ≡ suc n + m = omega arith in drop-both n m xs ∙ ap (λ (k : ℕ). drop k (x ∷ xs)) same
 
-pub exported-halves : (i from middle to : ℕ) (log : List Line) (front back : List NumberedClause) → from ≤ middle → middle ≤ to → front ≡ union (exported_by i (take (middle - from) (drop from log))) → back ≡ union (exported_by i (take (to - middle) (drop middle log))) → union (front ++ back) ≡ union (exported_by i (take (to - from) (drop from log)))
-exported-halves i from middle to log front back low high e f =
-    let n : ℕ = middle - from in
-    let m : ℕ = to - middle in
-    let sum : n + m ≡ to - from = omega arith in
-    let here : from + n ≡ middle = omega arith in
-    let rest : drop n (drop from log) ≡ drop middle log = drop-both from n log ∙ ap (λ (k : ℕ). drop k log) here in
-    let split : take (to - from) (drop from log) ≡ take n (drop from log) ++ take m (drop middle log) = ap (λ (k : ℕ). take k (drop from log)) (sym sum) ∙ (take-add n m (drop from log) ∙ ap (λ (xs : List Line). take n (drop from log) ++ take m xs) rest) in
-    ap (λ (xs : List NumberedClause). union (xs ++ back)) e
-    ∙ (ap (λ (xs : List NumberedClause). union (union (exported_by i (take n (drop from log))) ++ xs)) f
-    ∙ (union-both (exported_by i (take n (drop from log))) (exported_by i (take m (drop middle log)))
-    ∙ ap union (sym (ap (exported_by i) split ∙ exported-append i (take n (drop from log)) (take m (drop middle log))))))
+-- one line more
+exported-next : (i : ℕ) (xs : List Line) → exported_by i (take 1 xs) ++ exported_by i (drop 1 xs) ≡ exported_by i xs
+exported-next i [] = refl
+exported-next i (x ∷ xs) = sym (exported-append i (x ∷ []) xs)
 
--- one line
-one-exported : (i : ℕ) (x : Line) (b : Bool) → is_exported i (record { id = x.id; lits = x.lits; hints = [] }) ≡ b → union (exported_by i (x ∷ [])) ≡ cond b (record { id = x.id; lits = x.lits } ∷ []) []
-one-exported i x b e = by_test (is_exported i x) b e
-  where
-    by_test : (c d : Bool) → c ≡ d → union (map (λ (l : Line). let h : NumberedClause = record { id = l.id; lits = l.lits } in h) (cond c (x ∷ []) [])) ≡ cond d (record { id = x.id; lits = x.lits } ∷ []) []
-    by_test true true f = refl
-    by_test false false f = refl
-    by_test true false f = absurd (cc)
-    by_test false true f = absurd (cc)
+pub exported-step : (i n : ℕ) (log : List Line) (before after all : List NumberedClause) → before ++ exported_by i (drop n log) ≡ all → after ≡ before ++ exported_by i (take 1 (drop n log)) → after ++ exported_by i (drop (n + 1) log) ≡ all
+exported-step i n log before after all e f =
+    let rest : List Line = drop n log in
+    ap (λ (cs : List NumberedClause). cs ++ exported_by i (drop (n + 1) log)) f
+    ∙ (ap (λ (ls : List Line). (before ++ exported_by i (take 1 rest)) ++ exported_by i ls) (sym (drop-both n 1 log))
+    ∙ (append_assoc before (exported_by i (take 1 rest)) (exported_by i (drop 1 rest))
+    ∙ (ap (λ (cs : List NumberedClause). before ++ cs) (exported-next i rest) ∙ e)))
 
-pub exported-one : (i n id : ℕ) (log : List Line) (lits : List ℕ) (b : Bool) → n < length log → ((line : Line) → slice_get log n ≡ Some line → id ≡ line.id) → ((line : Line) → slice_get log n ≡ Some line → lits ≡ line.lits) → is_exported i (record { id = id; lits = lits; hints = [] }) ≡ b → cond b (record { id = id; lits = lits } ∷ []) [] ≡ union (exported_by i (take 1 (drop n log)))
-exported-one i n id [] lits b low same_id same_lits e = absurd (omega arith)
-exported-one i zero id (x ∷ xs) lits b low same_id same_lits e = by_line (same_id x refl) (same_lits x refl) e
+-- no line is left
+pub exported-end : (i n : ℕ) (log : List Line) (all clauses : List NumberedClause) → length log ≤ n → clauses ++ exported_by i (drop n log) ≡ all → clauses ≡ all
+exported-end i n log all clauses low e = sym (append-nil clauses) ∙ (ap (λ (ls : List Line). clauses ++ exported_by i ls) (sym (none n log low)) ∙ e)
   where
-    by_line : id ≡ x.id → lits ≡ x.lits → is_exported i (record { id = id; lits = lits; hints = [] }) ≡ b → cond b (record { id = id; lits = lits } ∷ []) [] ≡ union (exported_by i (x ∷ []))
-    by_line f g k = rw (f, g) (sym (one-exported i x b (rw (f, g) at k)))
-exported-one i (suc n) id (x ∷ xs) lits b low same_id same_lits e = exported-one i n id xs lits b (omega arith) (λ line f. same_id line f) (λ line f. same_lits line f) e
+    none : (n : ℕ) (xs : List Line) → length xs ≤ n → drop n xs ≡ []
+    none zero [] low = refl
+    none (suc n) [] low = refl
+    none zero (x ∷ xs) low = absurd (omega arith)
+    none (suc n) (x ∷ xs) low = none n xs (omega arith)
+
+-- one line: its number tells whose it is, and its length whether it is told
+one-exported : (i : ℕ) (x : Line) (own told : Bool) → (x.id % 64 == i) ≡ own → (nat_le 1 (length x.lits) && nat_le (length x.lits) 16) ≡ told → exported_by i (x ∷ []) ≡ cond (own && told) (record { id = x.id; lits = x.lits } ∷ []) []
+one-exported i x own told e f = ap (λ (b : Bool). map (λ (l : Line). let h : NumberedClause = record { id = l.id; lits = l.lits } in h) (cond b (x ∷ []) [])) (ap (λ (b : Bool). b && (nat_le 1 (length x.lits) && nat_le (length x.lits) 16)) e ∙ ap (λ (b : Bool). own && b) f) ∙ by_test (own && told)
+  where
+    by_test : (b : Bool) → map (λ (l : Line). let h : NumberedClause = record { id = l.id; lits = l.lits } in h) (cond b (x ∷ []) []) ≡ cond b (record { id = x.id; lits = x.lits } ∷ []) []
+    by_test true = refl
+    by_test false = refl
+
+-- a line of another node
+pub exported-none : (i n id : ℕ) (log : List Line) → n < length log → ((line : Line) → slice_get log n ≡ Some line → id ≡ line.id) → (id % 64 == i) ≡ false → exported_by i (take 1 (drop n log)) ≡ []
+exported-none i n id [] low same_id e = absurd (omega arith)
+exported-none i zero id (x ∷ xs) low same_id e = one-exported i x false (nat_le 1 (length x.lits) && nat_le (length x.lits) 16) (ap (λ (k : ℕ). k % 64 == i) (sym (same_id x refl)) ∙ e) refl
+exported-none i (suc n) id (x ∷ xs) low same_id e = exported-none i n id xs (omega arith) (λ line f. same_id line f) e
+
+-- a line of its own
+pub exported-one : (i n id : ℕ) (log : List Line) (lits : List ℕ) (told : Bool) → n < length log → ((line : Line) → slice_get log n ≡ Some line → id ≡ line.id) → ((line : Line) → slice_get log n ≡ Some line → lits ≡ line.lits) → (id % 64 == i) ≡ true → (nat_le 1 (length lits) && nat_le (length lits) 16) ≡ told → exported_by i (take 1 (drop n log)) ≡ cond told (record { id = id; lits = lits } ∷ []) []
+exported-one i n id [] lits told low same_id same_lits e f = absurd (omega arith)
+exported-one i zero id (x ∷ xs) lits told low same_id same_lits e f = by_line (same_id x refl) (same_lits x refl)
+  where
+    by_line : id ≡ x.id → lits ≡ x.lits → exported_by i (x ∷ []) ≡ cond told (record { id = id; lits = lits } ∷ []) []
+    by_line g h = one-exported i x true told (ap (λ (k : ℕ). k % 64 == i) (sym g) ∙ e) (ap (λ (ls : List ℕ). nat_le 1 (length ls) && nat_le (length ls) 16) (sym h) ∙ f) ∙ rw (g, h) refl
+exported-one i (suc n) id (x ∷ xs) lits told low same_id same_lits e f = exported-one i n id xs lits told (omega arith) (λ line g. same_id line g) (λ line g. same_lits line g) e f
 
 -- where the literals of each line rise by variable, so do those of the line at a place
 pub rising-at : (n : ℕ) (log : List Line) (lits : List ℕ) → n < length log → ((line : Line) → slice_get log n ≡ Some line → lits ≡ line.lits) → All (λ line. rises line.lits ≡ true) log → rises lits ≡ true

@@ -1,6 +1,6 @@
 use Rattle.std.specs.Prelude.{ℕ, zero, suc, ◌+◌, List, [], ◌∷◌, map, filter, drop, is_none, if◌then◌else◌}
 use Rattle.mal_base.specs.NumberedClause.{NumberedClause, Line}
-use Rattle.spec_exchange.specs.Exchange.{union}
+use Rattle.spec_exchange.specs.Exchange.{broadcast}
 use Rattle.spec_job.specs.SoloMachine.{is_exported}
 use Rattle.mal_job.specs.Viewed.{PlaceView}
 
@@ -12,10 +12,10 @@ exported_by i lines = map (λ l. record { id = l.id; lits = l.lits }) (filter (i
 abbrev pub exports_at : List Line → ℕ → PlaceView → List NumberedClause
 exports_at log i p = if is_none p.out then exported_by i (drop p.mark log) else []
 
--- what each of these places exports, united; the first has this index
-abbrev pub unions_from : List Line → ℕ → List PlaceView → List (List NumberedClause)
-unions_from log i [] = []
-unions_from log i (p ∷ ps) = union (exports_at log i p) ∷ unions_from log (i + 1) ps
+-- what each of these places tells for itself; the first has this index
+abbrev pub told_from : List Line → ℕ → List PlaceView → List (List NumberedClause)
+told_from log i [] = []
+told_from log i (p ∷ ps) = broadcast (exports_at log i p) ∷ told_from log (i + 1) ps
 
 -- a place with its mark moved, where it is at home
 abbrev pub marked_at : ℕ → PlaceView → PlaceView

@@ -1,14 +1,14 @@
 //! What the nodes of a job export.
 
-ghost use Rattle.std.specs.Prelude.{◌≡◌, ◌-◌, ◌<◌, ◌≤◌, true, All, [], length, take, drop, IfOk};
+ghost use Rattle.std.specs.Prelude.{◌≡◌, ◌%◌, ◌<◌, ◌≤◌, ◌==◌, ◌&&◌, ◌++◌, nat_le, true, All, length, take, drop, IfOk, OnOk};
 ghost use Rattle.mal_base.specs.Clauses.{rises};
-ghost use Rattle.spec_exchange.specs.Exchange.{union};
-ghost use Rattle.spec_job.specs.SoloMachine.{is_exported};
-ghost use Rattle.mal_job.specs.Exports.{exported_by, exports_at, unions_from, marked, marked_at};
+ghost use Rattle.spec_exchange.specs.Exchange.{broadcast};
+ghost use Rattle.mal_job.specs.Exports.{exported_by, exports_at, told_from, marked, marked_at};
 
 use crate::node_slot::NodeSlot;
-use mal_base::{Clause, ClauseId, Lit};
+use mal_base::{Clause, ClauseId, Lit, NumberedClause};
 use mal_buffer::Buffer;
+use mal_exchange::told;
 use mal_proof::Log;
 use std::alloc::{AllocError, Global};
 
@@ -18,83 +18,87 @@ const MOST_LITERALS: usize = 16;
 /// A tree has 64 places.
 const PLACES: u64 = 64;
 
-/// What these places, the first ones of a job, export of the lines behind their marks, and nothing of those that are
-/// out; the literals of each line rise by variable.
+/// What these places, the first ones of a job, tell of the lines behind their marks, each for itself, and nothing of
+/// those that are out; the literals of each line rise by variable.
 pub fn exports(alloc: Global, places: &[NodeSlot], log: &Log) -> Result<Vec<Buffer>, AllocError>
     requires { All (λ line. rises line.lits ≡ true) log.now.lines }
-    ensures { IfOk result (λ v. v.items ≡ unions_from log.now.lines 0 places.now) }
+    ensures { IfOk result (λ v. v.items ≡ told_from log.now.lines 0 places.now) }
 {
-    let count = log.count();
     let mut buffers = Vec::with_capacity(alloc, places.len())?;
     for index in 0..places.len() {
-        buffers.push(exported_of(alloc, &places[index], log, index as u64, count)?)?;
+        buffers.push(told_of(alloc, &places[index], log, index as u64)?)?;
     }
     Ok(buffers)
 }
 
-/// What a place of this index exports of a log of so many lines.
-fn exported_of(
-    alloc: Global,
-    place: &NodeSlot,
-    log: &Log,
-    index: u64,
-    count: usize,
-) -> Result<Buffer, AllocError>
-    requires count { count ≡ length log.now.lines }
-    requires rising { All (λ line. rises line.lits ≡ true) log.now.lines }
-    ensures { IfOk result (λ b. b ≡ union (exports_at log.now.lines index place.now)) }
+/// What a place of this index tells of a log.
+fn told_of(alloc: Global, place: &NodeSlot, log: &Log, index: u64) -> Result<Buffer, AllocError>
+    requires { All (λ line. rises line.lits ≡ true) log.now.lines }
+    ensures { IfOk result (λ b. b ≡ broadcast (exports_at log.now.lines index place.now)) }
 {
     if place.is_out() {
         return Ok(Buffer::new(alloc));
     }
-    exported(alloc, log, index, place.mark(), count)
+    let clauses = exported(alloc, log, index, place.mark())?;
+    told(alloc, clauses.as_slice())
 }
 
-/// What a node exports of a log's lines from one place to another, in halves that are merged.
+/// What a node exports of a log's lines, from this place on.
 fn exported(
     alloc: Global,
     log: &Log,
     node: u64,
     from: usize,
-    to: usize,
-) -> Result<Buffer, AllocError>
-    requires within { to ≤ length log.now.lines }
-    requires rising { All (λ line. rises line.lits ≡ true) log.now.lines }
-    ensures { IfOk result (λ b. b ≡ union (exported_by node (take (to - from) (drop from log.now.lines)))) }
+) -> Result<Vec<NumberedClause>, AllocError>
+    requires { All (λ line. rises line.lits ≡ true) log.now.lines }
+    ensures { IfOk result (λ v. v.items ≡ exported_by node (drop from log.now.lines)) }
 {
-    if to <= from {
-        return Ok(Buffer::new(alloc));
+    let count = log.count();
+    let mut clauses = Vec::new(alloc);
+    for n in from..count {
+        push_exported(alloc, &mut clauses, log, node, n)?;
     }
-    if to - from == 1 {
-        return exported_line(alloc, log, node, from);
-    }
-    let middle = from + (to - from) / 2;
-    let front = exported(alloc, log, node, from, middle)?;
-    let back = exported(alloc, log, node, middle, to)?;
-    Buffer::merge(alloc, &front, &back)
+    Ok(clauses)
 }
 
-/// What a node exports of one line: its clause, where it is one of its own, of 1 to 16 literals.
-fn exported_line(alloc: Global, log: &Log, node: u64, n: usize) -> Result<Buffer, AllocError>
+/// Puts what a node exports of one line behind other clauses: the line's clause, where it is one of its own, of 1 to 16
+/// literals.
+fn push_exported(
+    alloc: Global,
+    clauses: &mut Vec<NumberedClause>,
+    log: &Log,
+    node: u64,
+    n: usize,
+) -> Result<(), AllocError>
     requires within { n < length log.now.lines }
     requires rising { All (λ line. rises line.lits ≡ true) log.now.lines }
-    ensures { IfOk result (λ b. b ≡ union (exported_by node (take 1 (drop n log.now.lines)))) }
+    ensures { OnOk result
+        (clauses.new.items ≡ clauses.old.items ++ exported_by node (take 1 (drop n log.now.lines))) }
 {
-    let (id, lits) = (log.id(n), log.lits(n));
-    if !is_exported(node, id, lits) {
-        return Ok(Buffer::new(alloc));
+    let id = log.id(n);
+    if !is_own(node, id) {
+        return Ok(());
+    }
+    let lits = log.lits(n);
+    if !is_told(lits) {
+        return Ok(());
     }
     let clause = clause_of(alloc, lits)?;
-    Buffer::single(alloc, clause, id)
+    clauses.push(NumberedClause::new(id, clause))?;
+    Ok(())
 }
 
-/// Whether a node exports a line of this number with these literals.
-fn is_exported(node: u64, id: ClauseId, lits: &[Lit]) -> bool
-    ensures { result ≡ is_exported node (record { id = id; lits = lits.now; hints = [] }) }
+/// Whether a node derived the clause of this number.
+fn is_own(node: u64, id: ClauseId) -> bool
+    ensures { result ≡ (id % 64 == node) }
 {
-    if id.number() % PLACES != node {
-        return false;
-    }
+    id.number() % PLACES == node
+}
+
+/// Whether a clause of these literals is told.
+fn is_told(lits: &[Lit]) -> bool
+    ensures { result ≡ (nat_le 1 (length lits.now) && nat_le (length lits.now) 16) }
+{
     if lits.is_empty() {
         return false;
     }
