@@ -51,6 +51,9 @@ pub fn missing_loads(
     ensures { IfOk result (λ v. shared_loads v.items ≡ lacking loaded questions.now) }
 {
     let current = questions.answers().len();
+    if loaded > current {
+        return Ok(Vec::new(questions.allocator()));
+    }
     let (before, later) = questions.revisions().split_at(loaded);
     let missing = &later[..current + 1 - loaded];
     loads_of(questions.allocator(), missing, count_clauses(before) + 1)

@@ -9,7 +9,7 @@ ghost use Rattle.mal_job.specs.Placing.{fresh_place, sent, ran_home, came_home, 
 use mal_base::Outcome;
 use mal_buffer::Buffer;
 use mal_revision::Revision;
-use mal_suspend::{Done, Frozen, Journal, Kept, Lease, Suspended};
+use mal_suspend::{Done, Frozen, Journal, Kept, Lease, Start, Suspended};
 use std::alloc::{AllocError, Global};
 use std::marker::Model;
 use std::mem;
@@ -145,43 +145,16 @@ impl NodeSlot {
         ensures own_index { self.new.journal.index ≡ self.old.journal.index }
         ensures own_profile { self.new.journal.profile ≡ self.old.journal.profile }
     {
-        let (starts, grown) = self.following(start, loads.as_slice(), imports.as_slice())?;
-        let kept = self.hand_out()?;
-        match Lease::new(kept, loads, imports, start, worker) {
-            Err((kept, error)) => {
-                reseat(&mut self.seat, seat_of(kept));
-                Err(error)
-            }
-            Ok(lease) => {
-                reseat(&mut self.seat, Seat::Out(revision, grown));
-                self.journal.set_start(start);
-                self.starts = starts;
-                Ok(lease)
-            }
-        }
-    }
-
-    /// How often the node was started once it is started again, and the journal that it has once that start ran.
-    fn following(
-        &self,
-        start: u64,
-        loads: &[(Arc<Revision>, u32)],
-        imports: &[Arc<Buffer>],
-    ) -> Result<(u64, Journal), AllocError>
-        requires { MayAllReplay (replayed self.now.journal)
-            (start_entries (shared_loads loads.now) (shared_tolds imports.now)) }
-        ensures starts { IfOk result (λ r. r.0 ≡ self.now.starts + 1) }
-        ensures grown { IfOk result
-            (λ r. r.1
-            ≡ and_entries (started start self.now.journal)
-            (start_entries (shared_loads loads.now) (shared_tolds imports.now))) }
-    {
-        let starts = match self.starts.checked_add(1) {
-            Some(starts) => starts,
-            None => return Err(AllocError),
+        let Some(starts) = self.starts.checked_add(1) else {
+            return Err(AllocError);
         };
-        let grown = self.journal.grown(start, loads, imports)?;
-        Ok((starts, grown))
+        let begun = Start::new(&self.journal, loads, imports, start)?;
+        let grown = begun.grown().copy()?;
+        let kept = self.hand_out()?;
+        reseat(&mut self.seat, Seat::Out(revision, grown));
+        self.journal.set_start(start);
+        self.starts = starts;
+        Ok(Lease::of(kept, begun, worker))
     }
 
     /// Takes the node out of its seat, or a copy of the journal where it is gone.
