@@ -17,11 +17,13 @@ use Rattle.spec_hall.specs.Legal.{Legal}
 use Rattle.spec_hall.specs.Own.{is_text}
 use Rattle.spec_hall.specs.States.{states}
 use Rattle.spec_hall.proofs.DressedLemmas.{legal-is_dressed}
-use Rattle.spec_run.specs.Complete.{is_post_of, key_of_job, job_events, open_events, revise_events, jobs_of_tenant}
+use Rattle.spec_run.specs.Complete.{is_post_of, key_of_job, job_events, open_events, step_events, jobs_of_tenant}
 use Rattle.spec_replay.specs.Posts.{HavePosts, is_post_line, post_lines}
 use Rattle.spec_run.specs.Losses as losses
 use Rattle.spec_run.proofs.PostingLemmas.{take-one}
-use Rattle.spec_script.specs.Script.{ScriptedJob, Scripted}
+use Rattle.spec_script.specs.Script.{ScriptedJob, Scripted, revisions, revisions_in}
+use Rattle.spec_script.specs.declared.step.Step.{Step}
+use Rattle.spec_script.specs.declared.step.Step.TheVariants as steps
 
 -- the losses that are written down
 pub bare-losses : (h : List Event) → list_any testing.is_loss (map bare h) ≡ list_any losses.is_loss h
@@ -52,18 +54,15 @@ contents-at h (x ∷ xs) zero j have low is = subst (HasContents h) (sym is) hav
 contents-at h (x ∷ xs) (suc i) j have low is = contents-at h xs i j have.1 (omega arith) is
 
 -- a revision that is there, compared with another
-pub revision-at : (n i : ℕ) (rs all : List Posted) (r q : Posted) → n ≡ i + 1 → Some r ≡ among n rs → i < length all → q ≡ get_or all i q → (b : Bool) → (b ≡ true ↔ r ≡ q) → (b ≡ true ↔ slice_get rs i ≡ slice_get all i)
-revision-at zero i rs all r q is e low there b same = absurd (omega (arith, is))
-revision-at (suc k) i rs all r q is e low there b same = (
-  λ t. mine ∙ (ap (λ (x : Posted). Some x) (same.0 t) ∙ sym theirs),
-  λ t. same.1 (inner r q (sym mine ∙ t ∙ theirs)),
+pub revision-at : (n i : ℕ) (rs all : List Posted) (r q : Posted) → n ≡ i + 1 → Some r ≡ among n rs → Some q ≡ slice_get all i → (b : Bool) → (b ≡ true ↔ r ≡ q) → (b ≡ true ↔ slice_get rs i ≡ slice_get all i)
+revision-at zero i rs all r q is e there b same = absurd (omega (arith, is))
+revision-at (suc k) i rs all r q is e there b same = (
+  λ t. mine ∙ (ap (λ (x : Posted). Some x) (same.0 t) ∙ there),
+  λ t. same.1 (inner r q (sym mine ∙ t ∙ sym there)),
 )
   where
     mine : slice_get rs i ≡ Some r
     mine = ap (slice_get rs) (omega (arith, is)) ∙ sym e
-
-    theirs : slice_get all i ≡ Some q
-    theirs = slice_get_read all (length all) i q refl low there
 
     inner : (x y : Posted) → ◌≡◌ {A = Option Posted} (Some x) (Some y) → x ≡ y
     inner x y e = cc
@@ -75,6 +74,12 @@ get_or-same (x ∷ xs) (suc k) low = get_or-same xs k (omega arith)
 
 there-at : (all : List Posted) (i : ℕ) → i < length all → slice_get all i ≡ Some (get_or all i no_revision)
 there-at all i low = slice_get_read all (length all) i (get_or all i no_revision) refl low (get_or-same all i low)
+
+pub lacking : (all : List Posted) (i : ℕ) → i < length all → None ≡ slice_get all i → ⊥
+lacking all i low e = differ (get_or all i no_revision) (e ∙ there-at all i low)
+  where
+    differ : (x : Posted) → ◌≡◌ {A = Option Posted} None (Some x) → ⊥
+    differ x q = cc
 
 -- one that is not there
 pub revision-none : (n i : ℕ) (rs all : List Posted) → n ≡ i + 1 → None ≡ among n rs → i < length all → slice_get rs i ≡ slice_get all i → ⊥
@@ -113,14 +118,15 @@ opened-dressed : (ts : List KeyedJob) (js : List ScriptedJob) → map (dressed t
 opened-dressed ts [] = refl
 opened-dressed ts (j ∷ js) = ap (λ (x : List Event). Open (key_of_job j) j.ask ∷ x) (opened-dressed ts js)
 
-revised-dressed : (ts : List KeyedJob) (k : Key) (all front rs : List Posted) (n : ℕ) → all ≡ front ++ rs → n ≡ length front + 1 → ((i : ℕ) → i < length all → get_or (revisions_of k ts) i no_revision ≡ get_or all i no_revision) → map (dressed ts) (map bare (revise_events k n rs)) ≡ revise_events k n rs
-revised-dressed ts k all front [] n is count has = refl
-revised-dressed ts k all front (r ∷ rs) n is count has =
+stepped-dressed : (ts : List KeyedJob) (k : Key) (all front : List Posted) (ss : List Step) (n : ℕ) → all ≡ front ++ revisions_in ss → n ≡ length front + 1 → ((i : ℕ) → i < length all → get_or (revisions_of k ts) i no_revision ≡ get_or all i no_revision) → map (dressed ts) (map bare (step_events k n ss)) ≡ step_events k n ss
+stepped-dressed ts k all front [] n is count has = refl
+stepped-dressed ts k all front (steps.Revise r ∷ ss) n is count has =
+    let rs : List Posted = revisions_in ss in
     let place : n - 1 ≡ length front = omega (arith, count) in
     let low : length front < length all = low-in all front r rs is in
     let here : get_or (revisions_of k ts) (n - 1) no_revision ≡ r = ap (λ (m : ℕ). get_or (revisions_of k ts) m no_revision) place ∙ (has (length front) low ∙ (ap (λ (x : List Posted). get_or x (length front) no_revision) is ∙ at-front front r rs)) in
-    ap (λ (q : Posted). Revise k n q ∷ map (dressed ts) (map bare (revise_events k (n + 1) rs))) here
-    ∙ ap (λ (x : List Event). Revise k n r ∷ x) (revised-dressed ts k all (front ++ r ∷ []) rs (n + 1) (is ∙ sym (append_assoc front (r ∷ []) rs)) (ap (λ (m : ℕ). m + 1) (count ∙ sym (one-more front r))) has)
+    ap (λ (q : Posted). Revise k n q ∷ map (dressed ts) (map bare (step_events k (n + 1) ss))) here
+    ∙ ap (λ (x : List Event). Revise k n r ∷ x) (stepped-dressed ts k all (front ++ r ∷ []) ss (n + 1) (is ∙ sym (append_assoc front (r ∷ []) rs)) (ap (λ (m : ℕ). m + 1) (count ∙ sym (one-more front r))) has)
   where
     one-more : (xs : List Posted) (x : Posted) → length (xs ++ x ∷ []) ≡ length xs + 1
     one-more xs x = length-append xs (x ∷ [])
@@ -136,10 +142,10 @@ job-dressed : (h : List Event) (j : ScriptedJob) → HasContents h j → map (dr
 job-dressed h j has =
     let ts : List KeyedJob = states h in
     let k : Key = key_of_job j in
-    let revised : List Event = revise_events k 1 j.revisions in
-    ap (map (dressed ts)) (map-append bare revised (Close k ∷ []))
-    ∙ (map-append (dressed ts) (map bare revised) (map bare (Close k ∷ []))
-    ∙ ap (λ (x : List Event). x ++ Close k ∷ []) (revised-dressed ts k j.revisions [] j.revisions 1 refl refl (λ i low. at-place (revisions_of k ts) j.revisions i low (has i low))))
+    let stepped : List Event = step_events k 1 j.steps in
+    ap (map (dressed ts)) (map-append bare stepped (Close k ∷ []))
+    ∙ (map-append (dressed ts) (map bare stepped) (map bare (Close k ∷ []))
+    ∙ ap (λ (x : List Event). x ++ Close k ∷ []) (stepped-dressed ts k (revisions j) [] j.steps 1 refl refl (λ i low. at-place (revisions_of k ts) (revisions j) i low (has i low))))
 
 jobs-dressed : (h : List Event) (js : List ScriptedJob) → HaveContents h js → map (dressed (states h)) (map bare (flat_map job_events js)) ≡ flat_map job_events js
 jobs-dressed h [] have = refl

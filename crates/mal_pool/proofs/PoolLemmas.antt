@@ -6,6 +6,7 @@ use Rattle.std.specs.Option.{option_map_or}
 use Rattle.std.proofs.lemmas.List.{take_all, take_more, length-take-le}
 use Rattle.mal_hall.specs.HallView.{HallView, next_number}
 use Rattle.mal_pool.specs.Posts.{IsKnown, AreKnown, HasRun}
+use Rattle.mal_pool.specs.Steps.{MayStep}
 use Rattle.mal_revision.specs.Posted.{Posted}
 use Rattle.spec_job.specs.Replies.{reply}
 use Rattle.spec_job.specs.SoloMachine.{SoloMachine, solo}
@@ -16,23 +17,24 @@ use Rattle.spec_hall.specs.Own.{own, is_key}
 use Rattle.spec_hall.specs.States.{keys_of, states, titled, lives, leases}
 use Rattle.spec_hall.specs.Legal.{Legal, job_of}
 use Rattle.spec_hall.proofs.RunnableLemmas.{find-titled}
-use Rattle.spec_run.specs.Complete.{key_of_job, job_events, open_events, script_events}
+use Rattle.spec_run.specs.Complete.{key_of_job, job_events, open_events, script_events, step_events}
 use Rattle.spec_run.specs.Posting.{IsOpen}
 use Rattle.spec_run.specs.Run.{text_or_none, replies_from, job_replies, replies}
 use Rattle.spec_run.proofs.KeyLemmas.{among-keys, among-parts, job-found}
 use Rattle.spec_run.proofs.OpenLemmas.{open-found, revised-is_open}
-use Rattle.spec_run.proofs.PostingLemmas.{take-one}
+use Rattle.spec_run.proofs.PostingLemmas.{next-may_revise, revised-more, revision-more}
 use Rattle.spec_run.proofs.CompleteLemmas.{grown-keys, grown-complete}
-use Rattle.spec_script.specs.Script.{ScriptedJob, Scripted}
+use Rattle.spec_script.specs.Formed.{IsJob}
+use Rattle.spec_script.specs.Limits.{served}
+use Rattle.spec_script.specs.Script.{ScriptedJob, Scripted, revisions_in}
+use Rattle.spec_script.specs.declared.step.Step.{Step}
+use Rattle.spec_script.specs.declared.step.Step.TheVariants as steps
 
 -- the number of the next revision of a job that is open
 pub next-number : (k : Key) (rs : List Posted) (h : List Event) → IsOpen k rs h → next_number k h ≡ length rs + 1
 next-number k rs h is =
     ap (λ (o : Option KeyedJob). option_map_or (λ t. length t.state.revisions + 1) o 1) (open-found k rs h is)
     ∙ ap (λ (x : List Posted). length x + 1) is.posted
-
-pub next-place : (k : Key) (rs : List Posted) (i : ℕ) (h : List Event) → IsOpen k (take i rs) h → i < length rs → next_number k h ≡ i + 1
-next-place k rs i h is low = next-number k (take i rs) h is ∙ ap (λ (n : ℕ). n + 1) (length-take-le i rs (omega arith))
 
 -- a job that is open is neither missing nor closed
 pub open-not_missing : (k : Key) (rs : List Posted) (h : List Event) → IsOpen k rs h → job_of k (states h) ≡ None → ⊥
@@ -49,9 +51,22 @@ open-not_closed k rs h is t found closed =
     true-not-false e = cc
 
 -- the job of a key after one revision more
-pub revised-on : (k : Key) (rs : List Posted) (h after : List Event) (i n : ℕ) (r : Posted) → IsOpen k (take i rs) h → after ≡ h ++ Revise k n r ∷ [] → i < length rs → r ≡ get_or rs i r → IsOpen k (take (i + 1) rs) after
-revised-on k rs h after i n r is step low at =
-    subst (λ (x : List Posted). IsOpen k x after) (sym (take-one rs i r low at)) (subst (λ (x : List Event). IsOpen k (take i rs ++ r ∷ []) x) (sym step) (revised-is_open k (take i rs) h n r is))
+revised-on : (k : Key) (ss : List Step) (h after : List Event) (i n : ℕ) (r : Posted) → IsOpen k (revisions_in (take i ss)) h → after ≡ h ++ Revise k n r ∷ [] → i < length ss → steps.Revise r ≡ get_or ss i (steps.Revise r) → IsOpen k (revisions_in (take (i + 1) ss)) after
+revised-on k ss h after i n r is step low at =
+    let rs : List Posted = revisions_in (take i ss) in
+    subst (λ (x : List Posted). IsOpen k x after) (sym (revision-more ss i r low at)) (subst (λ (x : List Event). IsOpen k (rs ++ r ∷ []) x) (sym step) (revised-is_open k rs h n r is))
+
+-- the step of a job at a place may be posted where those before it are
+pub may-step : (j : ScriptedJob) (h : List Event) (i : ℕ) (s : Step) → IsJob served j → IsOpen (key_of_job j) (revisions_in (take i j.steps)) h → i < length j.steps → s ≡ get_or j.steps i s → MayStep h (key_of_job j) s
+may-step j h i (steps.Revise r) formed opened low is =
+    (titled h (key_of_job j), next-may_revise j h i (next_number (key_of_job j) h) r formed opened low is (next-number (key_of_job j) (revisions_in (take i j.steps)) h opened))
+
+-- then one step more is posted
+pub stepped-more : (k : Key) (h after start : List Event) (ss : List Step) (i : ℕ) (s : Step) → IsOpen k (revisions_in (take i ss)) h → h ≡ start ++ step_events k 1 (take i ss) → after ≡ h ++ step_events k (next_number k h) (s ∷ []) → i < length ss → s ≡ get_or ss i s → after ≡ start ++ step_events k 1 (take (i + 1) ss)
+stepped-more k h after start ss i (steps.Revise r) opened e step low is = revised-more k h after start ss i (next_number k h) r e step (next-number k (revisions_in (take i ss)) h opened) low is
+
+pub stepped-on : (k : Key) (h after : List Event) (ss : List Step) (i : ℕ) (s : Step) → IsOpen k (revisions_in (take i ss)) h → after ≡ h ++ step_events k (next_number k h) (s ∷ []) → i < length ss → s ≡ get_or ss i s → IsOpen k (revisions_in (take (i + 1) ss)) after
+stepped-on k h after ss i (steps.Revise r) opened step low is = revised-on k ss h after i (next_number k h) r opened step low is
 
 -- a script was posted whose jobs were opened and then posted
 pub all-posted : {E : Type 0} (s : Scripted) (opening posting : List ScriptedJob) (opened now : List Event) (r : Result (Unit {0}) E) → opening ≡ s.jobs → posting ≡ s.jobs → opened ≡ open_events opening → OnOk r (now ≡ opened ++ flat_map job_events posting) → OnOk r (now ≡ script_events s)

@@ -5,16 +5,15 @@ use Rattle.std.proofs.lemmas.List.{map-append, take_all}
 use Rattle.std.proofs.lemmas.List.Concat.{flat_map-append}
 use Rattle.std.proofs.lemmas.List.Elements.{filter-append}
 use Rattle.mal_hall.specs.declared.desk.Post.{Post}
-use Rattle.mal_hall.specs.declared.desk.Post.TheVariants as posts
 use Rattle.mal_hall.specs.declared.desk.PostFault.{PostFault}
 use Rattle.mal_hall.specs.Desks as desks
 use Rattle.mal_hall.specs.Desks.{DeskCall}
 use Rattle.mal_pool.specs.declared.posting.Left.{Left}
-use Rattle.mal_pool.specs.Runs.{open_post, revise_posts, job_posts, of_tenant, taken, IsRefusal, HasPostedOf, HasPostedFor, HasPosted}
-use Rattle.mal_revision.specs.Posted.{Posted}
+use Rattle.mal_pool.specs.Runs.{open_post, step_post, step_posts, job_posts, of_tenant, taken, IsRefusal, HasPostedOf, HasPostedFor, HasPosted}
 use Rattle.spec_hall.specs.Own.{is_text}
 use Rattle.spec_run.proofs.PostingLemmas.{take-one}
 use Rattle.spec_script.specs.Script.{ScriptedJob}
+use Rattle.spec_script.specs.declared.step.Step.{Step}
 
 taken-parts : (a b : List Post) → taken (a ++ b) ≡ taken a ++ taken b
 taken-parts a b = map-append (λ (p : Post). desks.Posted p (Ok tt)) a b
@@ -38,19 +37,19 @@ opened-more js i j old before after b a low is =
 pub opened-all : (js : List ScriptedJob) (i : ℕ) (old now : List DeskCall) → now ≡ old ++ taken (map open_post (take i js)) → length js ≤ i → now ≡ old ++ taken (map open_post js)
 opened-all js i old now e all = e ∙ ap (λ (xs : List ScriptedJob). old ++ taken (map open_post xs)) (take_all i js all)
 
--- one more revision is posted
-pub revised-more : (j : ScriptedJob) (rs : List Posted) (i : ℕ) (r : Posted) (old before after : List DeskCall) → before ≡ old ++ taken (revise_posts j (take i rs)) → after ≡ before ++ taken (posts.Revise j.tenant j.name r ∷ []) → i < length rs → r ≡ get_or rs i r → after ≡ old ++ taken (revise_posts j (take (i + 1) rs))
-revised-more j rs i r old before after b a low is =
-    further old before after (taken (revise_posts j (take i rs))) (taken (posts.Revise j.tenant j.name r ∷ [])) b a
-    ∙ ap (λ (cs : List DeskCall). old ++ cs) (sym (taken-parts (revise_posts j (take i rs)) (posts.Revise j.tenant j.name r ∷ []))
-    ∙ ap taken (sym (map-append (λ (q : Posted). posts.Revise j.tenant j.name q) (take i rs) (r ∷ [])) ∙ ap (revise_posts j) (sym (take-one rs i r low is))))
+-- one more step is posted
+pub stepped-more : (j : ScriptedJob) (ss : List Step) (i : ℕ) (s : Step) (old before after : List DeskCall) → before ≡ old ++ taken (step_posts j (take i ss)) → after ≡ before ++ taken (step_post j s ∷ []) → i < length ss → s ≡ get_or ss i s → after ≡ old ++ taken (step_posts j (take (i + 1) ss))
+stepped-more j ss i s old before after b a low is =
+    further old before after (taken (step_posts j (take i ss))) (taken (step_post j s ∷ [])) b a
+    ∙ ap (λ (cs : List DeskCall). old ++ cs) (sym (taken-parts (step_posts j (take i ss)) (step_post j s ∷ []))
+    ∙ ap taken (sym (map-append (step_post j) (take i ss) (s ∷ [])) ∙ ap (step_posts j) (sym (take-one ss i s low is))))
 
--- a refusal behind so many revisions
-pub refused-of : (j : ScriptedJob) (n i : ℕ) (old before after last : List DeskCall) → before ≡ old ++ taken (revise_posts j (take i j.revisions)) → after ≡ before ++ last → IsRefusal last → n ≡ i → i ≤ length j.revisions → (mine : List DeskCall) × (after ≡ old ++ mine) × HasPostedOf j (Some n) mine
+-- a refusal behind so many steps
+pub refused-of : (j : ScriptedJob) (n i : ℕ) (old before after last : List DeskCall) → before ≡ old ++ taken (step_posts j (take i j.steps)) → after ≡ before ++ last → IsRefusal last → n ≡ i → i ≤ length j.steps → (mine : List DeskCall) × (after ≡ old ++ mine) × HasPostedOf j (Some n) mine
 refused-of j n i old before after last b a is same low = (
-  taken (revise_posts j (take i j.revisions)) ++ last,
-  further old before after (taken (revise_posts j (take i j.revisions))) last b a,
-  (omega (arith, same, low), last, is, ap (λ (m : ℕ). taken (revise_posts j (take m j.revisions)) ++ last) (sym same)),
+  taken (step_posts j (take i j.steps)) ++ last,
+  further old before after (taken (step_posts j (take i j.steps))) last b a,
+  (omega (arith, same, low), last, is, ap (λ (m : ℕ). taken (step_posts j (take m j.steps)) ++ last) (sym same)),
 )
 
 -- a job that is the tenant's, or another's

@@ -1,12 +1,13 @@
 use Rattle.std.specs.Prelude.{◌≡◌, ◌⊎◌, ℕ, ◌+◌, ◌≤◌, ◌<◌, true, List, [], ◌∷◌, ◌++◌, length, map, flat_map, filter, fold, sum_by, take, drop, slice_get, Option, Some, None, Ok, Err}
 use Rattle.std.specs.Option.{option_map_or}
-use Rattle.mal_revision.specs.Posted.{Posted}
 use Rattle.spec_hall.specs.Calls.{recalled}
 use Rattle.spec_hall.specs.Driven.{GrowsByTurns}
 use Rattle.spec_hall.specs.Events.{Event}
 use Rattle.spec_hall.specs.Own.{is_text}
 use Rattle.spec_hall.specs.States.{lives, states, leases}
 use Rattle.spec_script.specs.Script.{ScriptedJob}
+use Rattle.spec_script.specs.declared.step.Step.{Step}
+use Rattle.spec_script.specs.declared.step.Step.TheVariants as steps
 use Rattle.mal_hall.specs.declared.desk.Post.{Post}
 use Rattle.mal_hall.specs.declared.desk.Post.TheVariants as posts
 use Rattle.mal_hall.specs.declared.desk.PostFault.{PostFault}
@@ -20,17 +21,21 @@ use Rattle.mal_pool.specs.declared.role.Part.TheVariants as parts
 abbrev pub open_post : ScriptedJob → Post
 open_post j = posts.Open j.tenant j.name j.ask
 
--- the posts of a job's revisions
-abbrev pub revise_posts : ScriptedJob → List Posted → List Post
-revise_posts j rs = map (λ r. posts.Revise j.tenant j.name r) rs
+-- the post of a job's step
+abbrev pub step_post : ScriptedJob → Step → Post
+step_post j (steps.Revise r) = posts.Revise j.tenant j.name r
 
--- the posts of a job behind its first revisions, of which there are so many
+-- the posts of a job's steps
+abbrev pub step_posts : ScriptedJob → List Step → List Post
+step_posts j ss = map (step_post j) ss
+
+-- the posts of a job behind its first steps, of which there are so many
 abbrev pub posts_behind : ℕ → ScriptedJob → List Post
-posts_behind n j = revise_posts j (drop n j.revisions) ++ posts.Close j.tenant j.name ∷ []
+posts_behind n j = step_posts j (drop n j.steps) ++ posts.Close j.tenant j.name ∷ []
 
--- the posts of a job: its revisions and its closing
+-- the posts of a job: its steps and its closing
 abbrev pub job_posts : ScriptedJob → List Post
-job_posts j = revise_posts j j.revisions ++ posts.Close j.tenant j.name ∷ []
+job_posts j = step_posts j j.steps ++ posts.Close j.tenant j.name ∷ []
 
 -- the jobs of a tenant
 abbrev pub of_tenant : List ℕ → List ScriptedJob → List ScriptedJob
@@ -44,10 +49,10 @@ taken ps = map (λ p. desks.Posted p (Ok tt)) ps
 abbrev pub IsRefusal : List DeskCall → Type 0
 IsRefusal calls = (calls ≡ []) ⊎ ((p : Post) × (fault : PostFault) × (calls ≡ desks.Posted p (Err fault) ∷ []))
 
--- what was posted of a job: all of it, or so many revisions, and then no more
+-- what was posted of a job: all of it, or so many steps, and then no more
 abbrev pub HasPostedOf : ScriptedJob → Option ℕ → List DeskCall → Type 0
 HasPostedOf j None mine = mine ≡ taken (job_posts j)
-HasPostedOf j (Some n) mine = (n ≤ length j.revisions) × (last : List DeskCall) × IsRefusal last × (mine ≡ taken (revise_posts j (take n j.revisions)) ++ last)
+HasPostedOf j (Some n) mine = (n ≤ length j.steps) × (last : List DeskCall) × IsRefusal last × (mine ≡ taken (step_posts j (take n j.steps)) ++ last)
 
 -- what the poster of a tenant posted of a job: nothing where it is another tenant's
 abbrev pub HasPostedFor : List ℕ → ScriptedJob → Option ℕ → List DeskCall → Type 0

@@ -7,7 +7,7 @@ use Rattle.spec_hall.specs.Events.{Event, bare}
 use Rattle.spec_hall.specs.States.{states}
 use Rattle.spec_replay.specs.Posts.{HavePosts}
 use Rattle.spec_run.specs.Complete.{is_post_of, key_of_job, posts_of}
-use Rattle.spec_script.specs.Script.{ScriptedJob, Scripted}
+use Rattle.spec_script.specs.Script.{ScriptedJob, Scripted, revisions}
 
 -- whether an event that is written down is the loss of a lease
 abbrev pub is_loss : written.Event → Bool
@@ -21,7 +21,7 @@ is_loss (of.Exchange tenant job) = false
 
 -- the job of a hall has the revisions of the script's, as far as the script's go
 abbrev pub HasContents : List Event → ScriptedJob → Type 0
-HasContents history j = (i : ℕ) → i < length j.revisions → slice_get (revisions_of (key_of_job j) (states history)) i ≡ slice_get j.revisions i
+HasContents history j = (i : ℕ) → i < length (revisions j) → slice_get (revisions_of (key_of_job j) (states history)) i ≡ slice_get (revisions j) i
 
 -- so do the jobs of these
 abbrev pub HaveContents : List Event → List ScriptedJob → Type 0

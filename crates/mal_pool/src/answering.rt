@@ -3,6 +3,7 @@
 ghost use Rattle.std.specs.Prelude.{◌≡◌, ℕ, ◌++◌, ◌≤◌, length, IfOk, OnOk};
 ghost use Rattle.mal_pool.specs.Posts.{HasRun, IsKnown, reply_to};
 ghost use Rattle.spec_run.specs.Run.{replies, job_replies};
+ghost use Rattle.spec_script.specs.Script.{revisions};
 
 use mal_hall::{Hall, ReplyFault};
 use mal_script::{Script, ScriptJob};
@@ -27,11 +28,11 @@ fn put_replies(
     job: &ScriptJob,
     text: &mut Vec<u8>,
 ) -> Result<(), AllocError>
-    requires few { length job.now.revisions ≤ 256 }
+    requires few { length (revisions job.now) ≤ 256 }
     requires known { IsKnown hall.now.events job.now }
     ensures { OnOk result (text.new.items ≡ text.old.items ++ job_replies hall.now.events job.now) }
 {
-    for posted in 0..job.revisions().len() {
+    for posted in 0..job.revision_count() {
         let reply = reply_to(alloc, hall, job, posted as u32 + 1)?;
         text.extend_from_slice(reply.as_slice())?;
     }

@@ -2,9 +2,9 @@
 
 ghost use Rattle.std.specs.Prelude.{◌≡◌, ◌≤◌, [], ◌∷◌, ◌++◌, length, flat_map, drop, true, false, IfOk};
 ghost use Rattle.mal_hall.specs.Desks.{event_of};
-ghost use Rattle.mal_pool.specs.{Refusals.{IsOneRefused, is_want}, Runs.{job_posts, left_by, of_tenant, posted_on, posts_behind, revise_posts}};
+ghost use Rattle.mal_pool.specs.{Refusals.{IsOneRefused, is_want}, Runs.{job_posts, left_by, of_tenant, posted_on, posts_behind, step_posts}};
 
-use crate::posting::Left;
+use crate::posting::{Left, step_post};
 use mal_base::Name;
 use mal_hall::{CloseFault, Hall, OpenFault, Post, PostFault, ReviseFault};
 use mal_script::ScriptJob;
@@ -69,7 +69,7 @@ fn post_later(
     Ok(true)
 }
 
-/// Posts the revisions and the closing of a job, if it is the tenant's.
+/// Posts the steps and the closing of a job, if it is the tenant's.
 fn post_for(hall: &mut Hall, tenant: Name, job: &ScriptJob) -> Result<bool, AllocError>
     ensures workers { hall.new.workers ≡ hall.old.workers }
     ensures events { IfOk result
@@ -85,7 +85,7 @@ fn post_for(hall: &mut Hall, tenant: Name, job: &ScriptJob) -> Result<bool, Allo
     Ok(true)
 }
 
-/// Posts the revisions of a job behind the first ones, of which there are so many, and its closing.
+/// Posts the steps of a job behind the first ones, of which there are so many, and its closing.
 fn post_rest(hall: &mut Hall, job: &ScriptJob, posted: usize) -> Result<bool, AllocError>
     ensures workers { hall.new.workers ≡ hall.old.workers }
     ensures events { IfOk result
@@ -93,7 +93,7 @@ fn post_rest(hall: &mut Hall, job: &ScriptJob, posted: usize) -> Result<bool, Al
     ensures refused { IfOk result
         (λ done. done ≡ false → IsOneRefused hall.old.workers hall.old.events (posts_behind posted job.now)) }
 {
-    if !post_revisions(hall, job, posted)? {
+    if !post_steps(hall, job, posted)? {
         return Ok(false);
     }
     let closing = Post::Close {
@@ -103,23 +103,18 @@ fn post_rest(hall: &mut Hall, job: &ScriptJob, posted: usize) -> Result<bool, Al
     post_one(hall, closing)
 }
 
-/// Posts the revisions of a job behind the first ones, of which there are so many.
-fn post_revisions(hall: &mut Hall, job: &ScriptJob, posted: usize) -> Result<bool, AllocError>
+/// Posts the steps of a job behind the first ones, of which there are so many.
+fn post_steps(hall: &mut Hall, job: &ScriptJob, posted: usize) -> Result<bool, AllocError>
     ensures workers { hall.new.workers ≡ hall.old.workers }
     ensures events { IfOk result
         (λ done. done ≡ true
-        → hall.new.events ≡ posted_on hall.old.events (revise_posts job.now (drop posted job.now.revisions))) }
+        → hall.new.events ≡ posted_on hall.old.events (step_posts job.now (drop posted job.now.steps))) }
     ensures refused { IfOk result
         (λ done. done ≡ false
-        → IsOneRefused hall.old.workers hall.old.events (revise_posts job.now (drop posted job.now.revisions))) }
+        → IsOneRefused hall.old.workers hall.old.events (step_posts job.now (drop posted job.now.steps))) }
 {
-    for at in posted..job.revisions().len() {
-        let revision = job.revisions()[at].copy()?;
-        let post = Post::Revise {
-            tenant: job.tenant(),
-            job: job.name(),
-            revision,
-        };
+    for at in posted..job.steps().len() {
+        let post = step_post(job, &job.steps()[at])?;
         if !post_one(hall, post)? {
             return Ok(false);
         }

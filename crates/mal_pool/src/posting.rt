@@ -1,19 +1,18 @@
 //! Posting: by a tenant's poster while workers work, and afterwards of what is left.
 
-ghost use Rattle.std.specs.Prelude.{◌≡◌, ◌<◌, List, [], ◌∷◌, ◌++◌, length, map, get_or, true, false, OnOk};
+ghost use Rattle.std.specs.Prelude.{◌≡◌, List, [], ◌∷◌, ◌++◌, map, true, false, OnOk, IfOk};
 ghost use Rattle.mal_hall.specs.Desks.{DeskCall};
 ghost use Rattle.mal_hall.specs.declared.desk.Post.TheVariants as posts;
-ghost use Rattle.mal_pool.specs.Runs.{HasPosted, HasPostedFor, HasPostedOf, IsRefusal, open_post, taken};
-ghost use Rattle.spec_hall.specs.Dressed.{no_revision};
+ghost use Rattle.mal_pool.specs.Runs.{HasPosted, HasPostedFor, HasPostedOf, IsRefusal, open_post, step_post, taken};
 
 use crate::board::Board;
 use mal_base::Name;
 use mal_hall::Post;
-use mal_script::ScriptJob;
+use mal_script::{ScriptJob, Step};
 use std::alloc::AllocError;
 use std::sync::Wait;
 
-/// What a poster hands back: of the job at this place of the script so many revisions are posted, and no later job of
+/// What a poster hands back: of the job at this place of the script so many steps are posted, and no later job of
 /// its tenant.
 #[derive(Clone, Copy, PartialEq, Eq, Debug)]
 pub struct Left {
@@ -48,7 +47,7 @@ pub fn open_all<R: Wait, B: Board>(
     (pass, Ok(()))
 }
 
-/// Posts the revisions and the closing of a tenant's jobs, job by job. Stops at a post that is refused, or for which
+/// Posts the steps and the closing of a tenant's jobs, job by job. Stops at a post that is refused, or for which
 /// memory is wanting, and hands back the place.
 pub fn post_all<R: Wait, B: Board>(
     rt: &R,
@@ -74,8 +73,7 @@ pub fn post_all<R: Wait, B: Board>(
     (pass, None)
 }
 
-/// Posts the revisions and the closing of a job, if it is the tenant's. Where it stops, it tells how many revisions are
-/// posted.
+/// Posts the steps and the closing of a job, if it is the tenant's. Where it stops, it tells how many steps are posted.
 fn post_for<R: Wait, B: Board>(
     rt: &R,
     board: &B,
@@ -94,7 +92,7 @@ fn post_for<R: Wait, B: Board>(
     (pass, None)
 }
 
-/// Posts the revisions and the closing of a job. Where it stops, it tells how many revisions are posted.
+/// Posts the steps and the closing of a job. Where it stops, it tells how many steps are posted.
 fn post_job<R: Wait, B: Board>(
     rt: &R,
     board: &B,
@@ -107,8 +105,8 @@ fn post_job<R: Wait, B: Board>(
         × HasPostedOf job.now result.1 mine }
 {
     let mut pass = pass;
-    for posted in 0..job.revisions().len() {
-        let (back, done) = post_revision(rt, board, pass, job, posted);
+    for posted in 0..job.steps().len() {
+        let (back, done) = post_step(rt, board, pass, job, &job.steps()[posted]);
         pass = back;
         if !done {
             return (pass, Some(posted));
@@ -116,38 +114,42 @@ fn post_job<R: Wait, B: Board>(
     }
     let (pass, done) = post_closing(rt, board, pass, job);
     if !done {
-        return (pass, Some(job.revisions().len()));
+        return (pass, Some(job.steps().len()));
     }
     (pass, None)
 }
 
-/// Posts a revision of a job, a copy that is made before the hall is asked. False where memory was wanting or the post
-/// was refused.
-fn post_revision<R: Wait, B: Board>(
+/// The post of a job's step, of which a copy is made.
+pub fn step_post(job: &ScriptJob, step: &Step) -> Result<Post, AllocError>
+    ensures { IfOk result (λ post. post ≡ step_post job.now step.now) }
+{
+    match step {
+        Step::Revise(revision) => Ok(Post::Revise {
+            tenant: job.tenant(),
+            job: job.name(),
+            revision: revision.copy()?,
+        }),
+    }
+}
+
+/// Posts a step of a job, a copy that is made before the hall is asked. False where memory was wanting or the post was
+/// refused.
+fn post_step<R: Wait, B: Board>(
     rt: &R,
     board: &B,
     pass: B::Pass,
     job: &ScriptJob,
-    at: usize,
+    step: &Step,
 ) -> (B::Pass, bool)
     requires of { B.is_of board.now pass }
-    requires low { at < length job.now.revisions }
     ensures of { B.is_of board.now result.0 }
-    ensures taken { result.1 ≡ true
-        → B.calls result.0
-        ≡ B.calls pass
-        ++ taken (posts.Revise job.now.tenant job.now.name (get_or job.now.revisions at no_revision) ∷ []) }
+    ensures taken { result.1 ≡ true → B.calls result.0 ≡ B.calls pass ++ taken (step_post job.now step.now ∷ []) }
     ensures refused { result.1 ≡ false
         → (last : List DeskCall) × IsRefusal last × (B.calls result.0 ≡ B.calls pass ++ last) }
 {
-    let revision = match job.revisions()[at].copy() {
-        Ok(revision) => revision,
+    let post = match step_post(job, step) {
+        Ok(post) => post,
         Err(_) => return (pass, false),
-    };
-    let post = Post::Revise {
-        tenant: job.tenant(),
-        job: job.name(),
-        revision,
     };
     let (pass, answer) = board.post(rt, pass, post);
     (pass, answer.is_ok())

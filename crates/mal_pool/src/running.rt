@@ -2,20 +2,20 @@
 
 ghost use Rattle.std.specs.Prelude.{◌≡◌, ◌≤◌, List, ◌++◌, [], ◌∷◌, flat_map, IfOk, OnOk};
 ghost use Rattle.mal_hall.specs.HallView.{next_number};
-ghost use Rattle.mal_pool.specs.Posts.{HasRun};
+ghost use Rattle.mal_pool.specs.{Posts.{HasRun}, Steps.{MayStep}};
 ghost use Rattle.mal_revision.specs.Posted.{Posted};
 ghost use Rattle.spec_hall.specs.{Driven.{GrowsByTurns, IsDriven}, Events.{Open, Revise, Close}, Legal.{MayOpen, MayRevise}, States.{leases, lives, states}};
 ghost use Rattle.spec_job.specs.KeyedJob.{KeyedJob};
-ghost use Rattle.spec_run.specs.{Complete.{key_of_job, job_events, open_events, revise_events, script_events}, Losses.{NoneIsLost}, Posting.{IsOpen}};
-ghost use Rattle.spec_script.specs.{Formed.{IsJob, MayAllFollow}, Limits.{served}};
+ghost use Rattle.spec_run.specs.{Complete.{key_of_job, job_events, open_events, script_events, step_events}, Losses.{NoneIsLost}, Posting.{IsOpen}};
+ghost use Rattle.spec_script.specs.{Formed.{IsJob, MayAllFollow}, Limits.{served}, Script.{revisions}};
 
 use mal_hall::{CloseFault, Hall, OpenFault, ReviseFault};
 use mal_learn::Scratch;
 use mal_revision::Revision;
-use mal_script::{Script, ScriptJob};
+use mal_script::{Script, ScriptJob, Step};
 use std::alloc::{AllocError, Global};
 
-/// Runs a script with 1 to 64 workers on this thread: all jobs are opened, and then job by job its revisions and its
+/// Runs a script with 1 to 64 workers on this thread: all jobs are opened, and then job by job its steps and its
 /// closing are posted, in the order of the script. The hall is driven as its first worker until every revision is
 /// answered, so its history comes by turns, and no lease is lost.
 pub fn run_alone(alloc: Global, script: &Script, workers: u32) -> Result<Hall, AllocError>
@@ -96,7 +96,7 @@ fn open(hall: &mut Hall, job: &ScriptJob) -> Result<(), AllocError>
     }
 }
 
-/// Posts the revisions and the closings of a script's jobs, all of which were just opened.
+/// Posts the steps and the closings of a script's jobs, all of which were just opened.
 fn post_all(hall: &mut Hall, jobs: &[ScriptJob]) -> Result<(), AllocError>
     requires opened { hall.old.events ≡ open_events jobs.now }
     requires follow { MayAllFollow served [] jobs.now }
@@ -109,31 +109,45 @@ fn post_all(hall: &mut Hall, jobs: &[ScriptJob]) -> Result<(), AllocError>
     Ok(())
 }
 
-/// Posts the revisions and the closing of a job.
+/// Posts the steps and the closing of a job.
 fn post(hall: &mut Hall, job: &ScriptJob) -> Result<(), AllocError>
     requires opened { IsOpen (key_of_job job.now) [] hall.old.events }
     requires formed { IsJob served job.now }
     ensures workers { hall.new.workers ≡ hall.old.workers }
     ensures events { OnOk result (hall.new.events ≡ hall.old.events ++ job_events job.now) }
 {
-    revise_all(hall, job)?;
+    step_all(hall, job)?;
     close(hall, job);
     Ok(())
 }
 
-/// Posts the revisions of a job that has none.
-fn revise_all(hall: &mut Hall, job: &ScriptJob) -> Result<(), AllocError>
+/// Posts the steps of a job that has no revision.
+fn step_all(hall: &mut Hall, job: &ScriptJob) -> Result<(), AllocError>
     requires opened { IsOpen (key_of_job job.now) [] hall.old.events }
     requires formed { IsJob served job.now }
     ensures workers { hall.new.workers ≡ hall.old.workers }
     ensures events { OnOk result
-        (hall.new.events ≡ hall.old.events ++ revise_events (key_of_job job.now) 1 job.now.revisions) }
-    ensures opened { OnOk result (IsOpen (key_of_job job.now) job.now.revisions hall.new.events) }
+        (hall.new.events ≡ hall.old.events ++ step_events (key_of_job job.now) 1 job.now.steps) }
+    ensures opened { OnOk result (IsOpen (key_of_job job.now) (revisions job.now) hall.new.events) }
 {
-    for revision in job.revisions() {
-        revise(hall, job, revision)?;
+    for step in job.steps() {
+        post_step(hall, job, step)?;
     }
     Ok(())
+}
+
+/// Posts the next step of a job.
+fn post_step(hall: &mut Hall, job: &ScriptJob, step: &Step) -> Result<(), AllocError>
+    requires { MayStep hall.old.events (key_of_job job.now) step.now }
+    ensures workers { hall.new.workers ≡ hall.old.workers }
+    ensures events { OnOk result
+        (hall.new.events
+        ≡ hall.old.events
+        ++ step_events (key_of_job job.now) (next_number (key_of_job job.now) hall.old.events) (step.now ∷ [])) }
+{
+    match step {
+        Step::Revise(revision) => revise(hall, job, revision),
+    }
 }
 
 /// Posts the next revision of a job.
@@ -160,7 +174,7 @@ fn revise(hall: &mut Hall, job: &ScriptJob, revision: &Revision) -> Result<(), A
 
 /// Closes a job that is open.
 fn close(hall: &mut Hall, job: &ScriptJob)
-    requires { (revisions : List Posted) × IsOpen (key_of_job job.now) revisions hall.old.events }
+    requires { (posted : List Posted) × IsOpen (key_of_job job.now) posted hall.old.events }
     ensures workers { hall.new.workers ≡ hall.old.workers }
     ensures events { hall.new.events ≡ hall.old.events ++ Close (key_of_job job.now) ∷ [] }
 {

@@ -5,7 +5,7 @@ ghost use Rattle.std.specs.List.{list_any};
 ghost use Rattle.mal_pool.specs.Testing.{AreThePosts, HasContents, HaveContents, HasPosts, is_loss};
 ghost use Rattle.spec_hall.specs.{Dressed.{revisions_of}, Driven.{was_lost}, Own.{is_text}, States.{states}};
 ghost use Rattle.spec_run.specs.Complete.{key_of_job};
-ghost use Rattle.spec_script.specs.{Formed.{MayAllFollow}, Limits.{served}};
+ghost use Rattle.spec_script.specs.{Formed.{MayAllFollow}, Limits.{served}, Script.{revisions}};
 
 use mal_base::{Name, Outcome};
 use mal_hall::Hall;
@@ -82,10 +82,10 @@ fn have_contents(hall: &Hall, jobs: &[ScriptJob]) -> bool
 
 /// Whether the job of a hall has the revisions of the script's.
 fn has_contents(hall: &Hall, job: &ScriptJob) -> bool
-    requires { length job.now.revisions ≤ 256 }
+    requires { length (revisions job.now) ≤ 256 }
     ensures { IsTrue result ↔ HasContents hall.now.events job.now }
 {
-    for at in 0..job.revisions().len() {
+    for at in 0..job.revision_count() {
         if !has_revision(hall, job, at) {
             return false;
         }
@@ -95,13 +95,16 @@ fn has_contents(hall: &Hall, job: &ScriptJob) -> bool
 
 /// Whether the job of a hall has the revision of the script's at this place.
 fn has_revision(hall: &Hall, job: &ScriptJob, at: usize) -> bool
-    requires few { length job.now.revisions ≤ 256 }
-    requires low { at < length job.now.revisions }
+    requires few { length (revisions job.now) ≤ 256 }
+    requires low { at < length (revisions job.now) }
     ensures { IsTrue result
-        ↔ (slice_get (revisions_of (key_of_job job.now) (states hall.now.events)) at ≡ slice_get job.now.revisions at) }
+        ↔ (slice_get (revisions_of (key_of_job job.now) (states hall.now.events)) at ≡ slice_get (revisions job.now) at) }
 {
     match hall.revision(&job.tenant(), &job.name(), at as u32 + 1) {
-        Some(posted) => posted.same(&job.revisions()[at]),
+        Some(posted) => match job.revision(at) {
+            Some(revision) => posted.same(revision),
+            None => false,
+        },
         None => false,
     }
 }

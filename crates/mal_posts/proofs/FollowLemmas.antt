@@ -1,23 +1,26 @@
 -- A tenant's posts that are gone through beside what a script says of it.
-use Rattle.std.proofs.Common.{◌≡◌, ℕ, zero, suc, ◌+◌, ◌<◌, ◌≤◌, Bool, true, false, cond, List, [], ◌∷◌, ◌++◌, length, map, filter, flat_map, take, drop, get_or, slice_get, None, refl, sym, ◌∙◌, ap, subst, arith, append_assoc}
+use Rattle.std.proofs.Common.{◌≡◌, ℕ, zero, suc, ◌+◌, ◌<◌, ◌≤◌, Bool, true, false, cond, List, [], ◌∷◌, ◌++◌, length, map, filter, flat_map, take, drop, get_or, slice_get, None, refl, sym, ◌∙◌, ap, subst, arith, append_assoc, append-nil, length-append}
 use Rattle.std.specs.Prelude.{IsTrue, ◌↔◌}
 use Rattle.std.proofs.lemmas.List.{drop_more, map-append, take_more, length-take-le}
+use Rattle.std.proofs.lemmas.List.Folds.{length-flat_map-take}
+use Rattle.std.proofs.lemmas.Grind.{flat_map-append}
 use Rattle.std.proofs.lemmas.List.Elements.{All-cons, All-head, All-nil, All-tail, filter-append}
 use Rattle.mal_history.specs.declared.event.Event as written
 use Rattle.mal_history.specs.declared.event.Event.TheVariants as of
 use Rattle.mal_posts.specs.Expected.{AreFew, GoesOn, Leaves, job_lines, line_of, lines_of, opening_lines}
 use Rattle.mal_posts.specs.declared.expected.Post.{Post}
-use Rattle.mal_revision.specs.Posted.{Posted}
 use Rattle.spec_job.specs.KeyedJob.{Key}
 use Rattle.spec_hall.specs.Events.{Event, Revise, bare}
 use Rattle.spec_hall.specs.Own.{is_text}
 use Rattle.spec_replay.specs.Posts.{is_post_line, post_lines}
 use Rattle.spec_run.proofs.OpenLemmas.{revise-more}
 use Rattle.spec_run.proofs.PostingLemmas.{take-one}
-use Rattle.spec_run.specs.Complete.{job_events, open_events, revise_events}
+use Rattle.spec_run.specs.Complete.{job_events, open_events, step_events}
 use Rattle.spec_script.specs.Formed.{IsScript, MayAllFollow}
 use Rattle.spec_script.specs.Limits.{served}
-use Rattle.spec_script.specs.Script.{ScriptedJob, Scripted}
+use Rattle.spec_script.specs.Script.{ScriptedJob, Scripted, revisions, revisions_at, revisions_in}
+use Rattle.spec_script.specs.declared.step.Step.{Step}
+use Rattle.spec_script.specs.declared.step.Step.TheVariants as steps
 
 drop-none : (posts : List Post) (n : ℕ) → slice_get posts n ≡ None → drop n posts ≡ []
 drop-none [] zero e = refl
@@ -84,24 +87,38 @@ more f append js i j old text after is step low read =
 pub job-more : (tenant : List ℕ) (js : List ScriptedJob) (i : ℕ) (j : ScriptedJob) (old text after : List written.Event) → text ≡ old ++ job_lines tenant (take i js) → after ≡ text ++ job_lines tenant (j ∷ []) → i < length js → j ≡ get_or js i j → after ≡ old ++ job_lines tenant (take (i + 1) js)
 job-more tenant js i j old text after is step low read = more (job_lines tenant) (job-append tenant) js i j old text after is step low read
 
-pub few-at : (js : List ScriptedJob) (i : ℕ) (j : ScriptedJob) → AreFew js → i < length js → j ≡ get_or js i j → length j.revisions ≤ 256
+pub few-at : (js : List ScriptedJob) (i : ℕ) (j : ScriptedJob) → AreFew js → i < length js → j ≡ get_or js i j → length (revisions j) ≤ 256
 few-at [] i j few low read = absurd (omega (arith, low))
-few-at (k ∷ ks) zero j few low read = subst (λ (x : ScriptedJob). length x.revisions ≤ 256) (sym read) (All-head (λ (x : ScriptedJob). length x.revisions ≤ 256) k ks few)
-few-at (k ∷ ks) (suc i) j few low read = few-at ks i j (All-tail (λ (x : ScriptedJob). length x.revisions ≤ 256) k ks few) (omega (arith, low)) read
+few-at (k ∷ ks) zero j few low read = subst (λ (x : ScriptedJob). length (revisions x) ≤ 256) (sym read) (All-head (λ (x : ScriptedJob). length (revisions x) ≤ 256) k ks few)
+few-at (k ∷ ks) (suc i) j few low read = few-at ks i j (All-tail (λ (x : ScriptedJob). length (revisions x) ≤ 256) k ks few) (omega (arith, low)) read
 
--- one revision more
-pub revision-more : (k : Key) (rs : List Posted) (i : ℕ) (old text after : List written.Event) (line : written.Event) → text ≡ old ++ map bare (revise_events k 1 (take i rs)) → after ≡ text ++ line ∷ [] → i < length rs → line ≡ bare (Revise k (i + 1) (record { variables = 0; clauses = []; assumptions = [] })) → after ≡ old ++ map bare (revise_events k 1 (take (i + 1) rs))
-revision-more k rs i old text after line is step low line_is =
-    let d : Posted = record { variables = 0; clauses = []; assumptions = [] } in
-    let r : Posted = get_or rs i d in
-    let number : 1 + length (take i rs) ≡ i + 1 = omega (arith, length-take-le i rs (omega (arith, low))) in
-    let whole : map bare (revise_events k 1 (take (i + 1) rs)) ≡ map bare (revise_events k 1 (take i rs)) ++ line ∷ [] =
-    ap (λ (x : List Posted). map bare (revise_events k 1 x)) (take_more rs i d low)
-    ∙ (ap (map bare) (revise-more k 1 (take i rs) r)
-    ∙ (map-append bare (revise_events k 1 (take i rs)) (Revise k (1 + length (take i rs)) r ∷ [])
-    ∙ ap (λ (n : ℕ). map bare (revise_events k 1 (take i rs)) ++ bare (Revise k n r) ∷ []) number
-    ∙ ap (λ (x : written.Event). map bare (revise_events k 1 (take i rs)) ++ x ∷ []) (sym line_is))) in
-    step ∙ (ap (λ (x : List written.Event). x ++ line ∷ []) is ∙ (append_assoc old (map bare (revise_events k 1 (take i rs))) (line ∷ []) ∙ ap (λ (x : List written.Event). old ++ x) (sym whole)))
+-- one step more
+step-more : (k : Key) (ss : List Step) (s : Step) → step_events k 1 (ss ++ s ∷ []) ≡ step_events k 1 ss ++ step_events k (1 + length (revisions_in ss)) (s ∷ [])
+step-more k ss (steps.Revise r) = revise-more k 1 ss r
+
+pub stepped-more : (k : Key) (ss : List Step) (i n : ℕ) (s : Step) (old text after : List written.Event) → text ≡ old ++ map bare (step_events k 1 (take i ss)) → after ≡ text ++ map bare (step_events k n (s ∷ [])) → i < length ss → s ≡ get_or ss i s → n ≡ 1 + length (revisions_in (take i ss)) → after ≡ old ++ map bare (step_events k 1 (take (i + 1) ss))
+stepped-more k ss i n s old text after is step low here number =
+    let front : List Step = take i ss in
+    let one : List written.Event = map bare (step_events k n (s ∷ [])) in
+    let whole : map bare (step_events k 1 (take (i + 1) ss)) ≡ map bare (step_events k 1 front) ++ one =
+    ap (λ (x : List Step). map bare (step_events k 1 x)) (take-one ss i s low here)
+    ∙ (ap (map bare) (step-more k front s)
+    ∙ (map-append bare (step_events k 1 front) (step_events k (1 + length (revisions_in front)) (s ∷ []))
+    ∙ ap (λ (m : ℕ). map bare (step_events k 1 front) ++ map bare (step_events k m (s ∷ []))) (sym number))) in
+    step ∙ (ap (λ (x : List written.Event). x ++ one) is ∙ (append_assoc old (map bare (step_events k 1 front)) one ∙ ap (λ (x : List written.Event). old ++ x) (sym whole)))
+
+-- the number of the next revision behind it
+pub next-more : (ss : List Step) (i n later : ℕ) (s : Step) → n ≡ 1 + length (revisions_in (take i ss)) → later ≡ n + length (revisions_at s) → i < length ss → s ≡ get_or ss i s → later ≡ 1 + length (revisions_in (take (i + 1) ss))
+next-more ss i n later s number step low here =
+    let more : length (revisions_in (take (i + 1) ss)) ≡ length (revisions_in (take i ss)) + length (revisions_in (s ∷ [])) = ap (λ (x : List Step). length (revisions_in x)) (take-one ss i s low here) ∙ (ap length (flat_map-append revisions_at (take i ss) (s ∷ [])) ∙ length-append (revisions_in (take i ss)) (revisions_in (s ∷ []))) in
+    let one : length (revisions_in (s ∷ [])) ≡ length (revisions_at s) = ap length (append-nil (revisions_at s)) in
+    omega arith
+
+pub next-low : (ss : List Step) (i n : ℕ) (s : Step) → n ≡ 1 + length (revisions_in (take i ss)) → i < length ss → s ≡ get_or ss i s → length (revisions_in ss) ≤ 256 → n + length (revisions_at s) ≤ 257
+next-low ss i n s number low here few =
+    let all : length (revisions_in (take i ss)) + length (revisions_at (get_or ss i s)) ≤ length (revisions_in ss) = length-flat_map-take revisions_at ss i s low in
+    let one : length (revisions_at s) ≡ length (revisions_at (get_or ss i s)) = ap (λ (x : Step). length (revisions_at x)) here in
+    omega arith
 
 -- the lines of one job
 pub opening-one : (tenant : List ℕ) (j : ScriptedJob) (old after : List Post) (p : Post) → is_text tenant j.tenant ≡ true → after ≡ old ++ p ∷ [] → line_of p ≡ of.Open j.tenant j.name j.ask → lines_of after ≡ lines_of old ++ opening_lines tenant (j ∷ [])
@@ -116,8 +133,8 @@ lines-more old after p step = ap lines_of step ∙ map-append line_of old (p ∷
 
 -- the jobs of a script in form have few revisions
 few-from : (done js : List ScriptedJob) → MayAllFollow served done js → AreFew js
-few-from done [] h = All-nil (λ (j : ScriptedJob). length j.revisions ≤ 256)
-few-from done (j ∷ js) h = All-cons (λ (x : ScriptedJob). length x.revisions ≤ 256) j js h.0.formed.few (few-from (done ++ j ∷ []) js h.1)
+few-from done [] h = All-nil (λ (j : ScriptedJob). length (revisions j) ≤ 256)
+few-from done (j ∷ js) h = All-cons (λ (x : ScriptedJob). length (revisions x) ≤ 256) j js h.0.formed.few (few-from (done ++ j ∷ []) js h.1)
 
 pub few-jobs : (s : Scripted) → IsScript served s → AreFew s.jobs
 few-jobs s h = few-from [] s.jobs h

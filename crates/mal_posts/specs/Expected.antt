@@ -10,7 +10,7 @@ use Rattle.spec_hall.specs.Events.{bare}
 use Rattle.spec_hall.specs.Own.{is_text}
 use Rattle.spec_replay.specs.Posts.{post_lines}
 use Rattle.spec_run.specs.Complete.{job_events, open_events}
-use Rattle.spec_script.specs.Script.{ScriptedJob}
+use Rattle.spec_script.specs.Script.{ScriptedJob, revisions}
 
 -- the line of what is posted about a job
 abbrev pub line_about : List ℕ → List ℕ → What → written.Event
@@ -28,7 +28,7 @@ lines_of posts = map line_of posts
 
 -- these jobs have 256 revisions each at most
 abbrev pub AreFew : List ScriptedJob → Type 0
-AreFew jobs = All (λ j. length j.revisions ≤ 256) jobs
+AreFew jobs = All (λ j. length (revisions j) ≤ 256) jobs
 
 -- whether an event that is written down was posted by one of these tenants, or by none
 abbrev pub is_known : List (List ℕ) → written.Event → Bool
@@ -44,7 +44,7 @@ is_known tenants (of.Exchange tenant job) = true
 abbrev pub opening_lines : List ℕ → List ScriptedJob → List written.Event
 opening_lines tenant jobs = map bare (open_events (filter (λ j. is_text tenant j.tenant) jobs))
 
--- the lines of the revisions and the closings of a tenant's jobs
+-- the lines of the steps and the closings of a tenant's jobs
 abbrev pub job_lines : List ℕ → List ScriptedJob → List written.Event
 job_lines tenant jobs = map bare (flat_map job_events (filter (λ j. is_text tenant j.tenant) jobs))
 

@@ -1,14 +1,15 @@
 //! What a script posts of a tenant.
 
-ghost use Rattle.std.specs.Prelude.{◌≡◌, ◌↔◌, ◌++◌, ◌∷◌, [], ◌≤◌, IsTrue, length, map, IfOk, OnOk};
+ghost use Rattle.std.specs.Prelude.{◌≡◌, ◌↔◌, ◌+◌, ◌++◌, ◌∷◌, [], ◌≤◌, IsTrue, length, map, IfOk, OnOk};
 ghost use Rattle.mal_history.specs.declared.event.Event.TheVariants as of;
 ghost use Rattle.mal_posts.specs.Expected.{AreFew, job_lines, line_about, line_of, lines_of, opening_lines};
 ghost use Rattle.spec_hall.specs.{Events.{bare}, Own.{is_text}};
-ghost use Rattle.spec_run.specs.Complete.{job_events, posts_of};
+ghost use Rattle.spec_run.specs.Complete.{job_events, key_of_job, posts_of, step_events};
+ghost use Rattle.spec_script.specs.Script.{revisions, revisions_at};
 
 use mal_base::{Ask, Name};
 use mal_history::Event;
-use mal_script::{Script, ScriptJob};
+use mal_script::{Script, ScriptJob, Step};
 use std::alloc::{AllocError, Global};
 
 /// A post about a job.
@@ -38,7 +39,7 @@ fn about(job: &ScriptJob, what: What) -> Post
     }
 }
 
-/// What a script posts of a tenant, in its order: the openings, then job by job the revisions and the closing. A job
+/// What a script posts of a tenant, in its order: the openings, then job by job the steps and the closing. A job
 /// has 256 revisions at most.
 pub fn posts_of(alloc: Global, script: &Script, tenant: Name) -> Result<Vec<Post>, AllocError>
     requires { AreFew script.now.jobs }
@@ -71,7 +72,7 @@ fn put_opening(posts: &mut Vec<Post>, job: &ScriptJob, tenant: Name) -> Result<(
     Ok(())
 }
 
-/// Puts the revisions and the closings of a tenant's jobs behind the posts.
+/// Puts the steps and the closings of a tenant's jobs behind the posts.
 fn put_jobs(posts: &mut Vec<Post>, jobs: &[ScriptJob], tenant: Name) -> Result<(), AllocError>
     requires { AreFew jobs.now }
     ensures { OnOk result (lines_of posts.new.items ≡ lines_of posts.old.items ++ job_lines tenant jobs.now) }
@@ -82,9 +83,9 @@ fn put_jobs(posts: &mut Vec<Post>, jobs: &[ScriptJob], tenant: Name) -> Result<(
     Ok(())
 }
 
-/// Puts the revisions and the closing of a job behind the posts, where it is of this tenant.
+/// Puts the steps and the closing of a job behind the posts, where it is of this tenant.
 fn put_job_of(posts: &mut Vec<Post>, job: &ScriptJob, tenant: Name) -> Result<(), AllocError>
-    requires { length job.now.revisions ≤ 256 }
+    requires { length (revisions job.now) ≤ 256 }
     ensures { OnOk result (lines_of posts.new.items ≡ lines_of posts.old.items ++ job_lines tenant (job.now ∷ [])) }
 {
     if !is_of(job, tenant) {
@@ -100,16 +101,39 @@ fn is_of(job: &ScriptJob, tenant: Name) -> bool
     tenant == job.tenant()
 }
 
-/// Puts the revisions and the closing of a job behind the posts.
+/// Puts the steps and the closing of a job behind the posts.
 fn put_job(posts: &mut Vec<Post>, job: &ScriptJob) -> Result<(), AllocError>
-    requires { length job.now.revisions ≤ 256 }
+    requires { length (revisions job.now) ≤ 256 }
     ensures { OnOk result (lines_of posts.new.items ≡ lines_of posts.old.items ++ map bare (job_events job.now)) }
 {
-    for posted in 0..job.revisions().len() {
-        posts.push(about(job, What::Revision(posted as u32 + 1)))?;
+    let mut next = 1;
+    for step in job.steps() {
+        next = put_step(posts, job, step, next)?;
     }
     posts.push(about(job, What::Closing))?;
     Ok(())
+}
+
+/// Puts a step of a job behind the posts, where the job's next revision has this number. What it gives is the number of
+/// the next revision behind the step.
+fn put_step(
+    posts: &mut Vec<Post>,
+    job: &ScriptJob,
+    step: &Step,
+    next: u32,
+) -> Result<u32, AllocError>
+    requires { next + length (revisions_at step.now) ≤ 257 }
+    ensures next { IfOk result (λ later. later ≡ next + length (revisions_at step.now)) }
+    ensures posts { OnOk result
+        (lines_of posts.new.items
+        ≡ lines_of posts.old.items ++ map bare (step_events (key_of_job job.now) next (step.now ∷ []))) }
+{
+    match step {
+        Step::Revise(_) => {
+            posts.push(about(job, What::Revision(next)))?;
+            Ok(next + 1)
+        }
+    }
 }
 
 /// Whether an event is this post.

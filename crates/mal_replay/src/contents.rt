@@ -5,6 +5,7 @@ ghost use Rattle.std.specs.Option.{option_copied};
 ghost use Rattle.spec_hall.specs.{Dressed.{keyed}, Own.{is_key}};
 ghost use Rattle.spec_run.specs.Complete.{key_of_job};
 ghost use Rattle.spec_replay.specs.Scripted.{job_under, numbered, posted_in, revision_in};
+ghost use Rattle.spec_script.specs.Script.{revisions};
 
 use mal_base::Name;
 use mal_history::Event;
@@ -53,18 +54,18 @@ fn revision_in(script: &Script, tenant: Name, job: Name, number: u32) -> Option<
 {
     match job_under(script.jobs(), tenant, job) {
         None => None,
-        Some(job) => numbered(job.revisions(), number),
+        Some(job) => numbered(job, number),
     }
 }
 
-/// The revision of this number, counted from 1.
-fn numbered(revisions: &[Revision], number: u32) -> Option<&Revision>
-    ensures { option_copied result ≡ numbered number revisions.now }
+/// The revision of this number, counted from 1, of a job.
+fn numbered(job: &ScriptJob, number: u32) -> Option<&Revision>
+    ensures { option_copied result ≡ numbered number (revisions job.now) }
 {
     if number == 0 {
         return None;
     }
-    revisions.get(number as usize - 1)
+    job.revision(number as usize - 1)
 }
 
 /// The job of this name of a tenant.

@@ -2,4 +2,5 @@
 mod Texts
 mod Steps
 mod Found
+mod Counted
 pub mod GenerateSteps

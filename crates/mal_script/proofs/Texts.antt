@@ -6,7 +6,8 @@ use Rattle.mal_revision.specs.Posted.{Posted}
 use Rattle.mal_base.specs.Formulas.{Formulated}
 use Rattle.spec_dimacs.specs.Written.{closed_words, formula_rows}
 use Rattle.spec_dimacs.proofs.Texts.{before_line, closed_some}
-use Rattle.spec_script.specs.Script.{ScriptedJob, Scripted, revision_rows, tenant_words, job_words, job_rows, rows_of}
+use Rattle.spec_script.specs.Script.{ScriptedJob, Scripted, revision_rows, step_rows, tenant_words, job_words, job_rows, rows_of}
+use Rattle.spec_script.specs.declared.step.Step.{Step}
 
 -- the line of assumptions is an a, a space and the line of its literals
 pub assumed_line : (lits : List ℕ) → line_of (codes "a" ∷ closed_words lits) ≡ codes "a " ++ line_of (closed_words lits)
@@ -53,13 +54,13 @@ revision_written old one two r v cs lits p q k e f =
     ∙ append_assoc old (text_of rows) (line_of last)
     ∙ ap (λ (bytes : List ℕ). old ++ bytes) (sym (with_last rows last))
 
--- the tenant, the terms, the revisions and the end
-pub job_written : (old one two three four : List ℕ) (j : ScriptedJob) (first second : List (List ℕ)) (revisions : List Posted) → first ≡ tenant_words j.tenant → second ≡ job_words j.name j.ask → revisions ≡ j.revisions → one ≡ old ++ line_of first → two ≡ one ++ line_of second → three ≡ two ++ flat_map (λ r. text_of (revision_rows r)) revisions → four ≡ three ++ line_of (codes "e" ∷ []) → four ≡ old ++ text_of (job_rows j)
-job_written old one two three all j first second revisions p q r e f g h =
-    h ∙ ap (λ (bytes : List ℕ). bytes ++ line_of (codes "e" ∷ [])) (g ∙ ap (λ (bytes : List ℕ). bytes ++ flat_map (λ r. text_of (revision_rows r)) revisions) (f ∙ ap (λ (bytes : List ℕ). bytes ++ line_of second) e))
-    ∙ ap₂ (λ (a b : List (List ℕ)). (((old ++ line_of a) ++ line_of b) ++ flat_map (λ r. text_of (revision_rows r)) revisions) ++ line_of (codes "e" ∷ [])) p q
-    ∙ ap (λ (rs : List Posted). (((old ++ line_of (tenant_words j.tenant)) ++ line_of (job_words j.name j.ask)) ++ flat_map (λ r. text_of (revision_rows r)) rs) ++ line_of (codes "e" ∷ [])) r
-    ∙ job_text old (tenant_words j.tenant) (job_words j.name j.ask) revision_rows j.revisions (codes "e" ∷ [])
+-- the tenant, the terms, the steps and the end
+pub job_written : (old one two three four : List ℕ) (j : ScriptedJob) (first second : List (List ℕ)) (steps : List Step) → first ≡ tenant_words j.tenant → second ≡ job_words j.name j.ask → steps ≡ j.steps → one ≡ old ++ line_of first → two ≡ one ++ line_of second → three ≡ two ++ flat_map (λ s. text_of (step_rows s)) steps → four ≡ three ++ line_of (codes "e" ∷ []) → four ≡ old ++ text_of (job_rows j)
+job_written old one two three all j first second steps p q r e f g h =
+    h ∙ ap (λ (bytes : List ℕ). bytes ++ line_of (codes "e" ∷ [])) (g ∙ ap (λ (bytes : List ℕ). bytes ++ flat_map (λ s. text_of (step_rows s)) steps) (f ∙ ap (λ (bytes : List ℕ). bytes ++ line_of second) e))
+    ∙ ap₂ (λ (a b : List (List ℕ)). (((old ++ line_of a) ++ line_of b) ++ flat_map (λ s. text_of (step_rows s)) steps) ++ line_of (codes "e" ∷ [])) p q
+    ∙ ap (λ (xs : List Step). (((old ++ line_of (tenant_words j.tenant)) ++ line_of (job_words j.name j.ask)) ++ flat_map (λ s. text_of (step_rows s)) xs) ++ line_of (codes "e" ∷ [])) r
+    ∙ job_text old (tenant_words j.tenant) (job_words j.name j.ask) step_rows j.steps (codes "e" ∷ [])
 
 -- the jobs
 pub script_written : (out : List ℕ) (s : Scripted) (jobs : List ScriptedJob) (i : ℕ) → jobs ≡ s.jobs → length jobs ≤ i → out ≡ flat_map (λ j. text_of (job_rows j)) (take i jobs) → out ≡ text_of (rows_of s)

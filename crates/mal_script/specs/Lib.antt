@@ -1,1 +1,2 @@
 pub mod ReadResult
+pub mod Counting

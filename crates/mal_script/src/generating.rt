@@ -12,6 +12,7 @@ use itoa::Buffer;
 use mal_base::{Ask, Clause, Lit, Name, Var};
 use mal_revision::{Revision, RevisionFault};
 use mal_seq::Draws;
+use spec_script::Step;
 use std::alloc::{AllocError, Global};
 
 /// The variables of a generated formula.
@@ -50,9 +51,9 @@ fn job(alloc: Global, number: u32, draws: &mut Draws) -> Result<ScriptJob, Alloc
     let name = numbered(alloc, b'j', number)?;
     let ask = ask(draws);
     let revision = revision(alloc, draws)?;
-    let mut revisions = Vec::new(alloc);
-    revisions.push(revision)?;
-    Ok(ScriptJob::new(tenant, name, ask, revisions))
+    let mut steps = Vec::new(alloc);
+    steps.push(Step::Revise(revision))?;
+    Ok(ScriptJob::new(tenant, name, ask, steps))
 }
 
 /// The name of this letter and number.

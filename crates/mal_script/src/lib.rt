@@ -19,5 +19,6 @@ pub use fault::{AssumptionFault, ScriptFault};
 pub use generating::generate;
 pub use reading::read;
 pub use script::{Script, ScriptJob};
+pub use spec_script::Step;
 pub use telling::{fault_line, line_fault_line};
 pub use writing::write;

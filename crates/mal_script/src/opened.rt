@@ -15,6 +15,7 @@ use mal_base::{Ask, Formula, LimitKind, LineFault, Lit, Name};
 use mal_dimacs::BlockReader;
 use mal_revision::Revision;
 use mal_text::first_word;
+use spec_script::Step;
 use std::alloc::Global;
 use std::marker::Model;
 
@@ -64,7 +65,7 @@ impl OpenJob {
     pub fn after_header(self, limits: Limits, line: &[u8]) -> Result<OpenJob, LineRefusal>
         ensures { Gives (λ o. o) result (after_header limits (words_of line.now) self) }
     {
-        if self.job.revisions().len() >= limits.revisions {
+        if self.job.revision_count() >= limits.revisions {
             return Err(LineRefusal::Fault(LineFault::Limit {
                 which: LimitKind::Revisions,
             }));
@@ -126,7 +127,7 @@ impl OpenJob {
         let alloc = self.job.allocator();
         match Revision::new(alloc, variables, formula.into_clauses(), assumptions) {
             Ok(revision) => Ok(OpenJob {
-                job: self.job.with_revision(revision)?,
+                job: self.job.with_step(Step::Revise(revision))?,
                 clauses,
                 literals,
                 block: None,

@@ -1,21 +1,23 @@
 //! A script and its jobs.
 
-ghost use Rattle.std.specs.Prelude.{◌≡◌, ◌++◌, ◌∷◌, [], IfOk};
-ghost use Rattle.mal_script.specs.ReadResult.{of_jobs};
-ghost use Rattle.spec_script.specs.{Formed.{IsScript}, Limits.{served}};
+ghost use Rattle.std.specs.Prelude.{◌≡◌, ◌++◌, ◌∷◌, [], length, slice_get, IfOk};
+ghost use Rattle.std.specs.{List.{count_by}, Option.{option_copied}};
+ghost use Rattle.mal_script.specs.{Counting.{is_revision, revision_of}, ReadResult.{of_jobs}};
+ghost use Rattle.spec_script.specs.{Formed.{IsScript}, Limits.{served}, Script.{revisions}};
 
 use mal_base::{Ask, Name};
 use mal_revision::Revision;
+use spec_script::Step;
 use std::alloc::{AllocError, Global};
 use std::marker::Model;
 
-/// A job of a script: its tenant, its name, its ask and its revisions. Contracts see the four.
+/// A job of a script: its tenant, its name, its ask and its steps. Contracts see the four.
 #[derive(Drop)]
 pub struct ScriptJob {
     tenant: Name,
     name: Name,
     ask: Ask,
-    revisions: Vec<Revision>,
+    steps: Vec<Step>,
 }
 
 impl Model for ScriptJob {
@@ -23,47 +25,47 @@ impl Model for ScriptJob {
 
     ghost Value = { ScriptedJob };
 
-    ghost view = { λ j. record { tenant = j.tenant; name = j.name; ask = j.ask; revisions = j.revisions.items } };
+    ghost view = { λ j. record { tenant = j.tenant; name = j.name; ask = j.ask; steps = j.steps.items } };
 }
 
 impl ScriptJob {
-    /// The job of a tenant under a name, with its ask and its revisions. Takes no memory.
-    pub fn new(tenant: Name, name: Name, ask: Ask, revisions: Vec<Revision>) -> ScriptJob
-        ensures { result ≡ record { tenant = tenant; name = name; ask = ask; revisions = revisions.items } }
+    /// The job of a tenant under a name, with its ask and its steps. Takes no memory.
+    pub fn new(tenant: Name, name: Name, ask: Ask, steps: Vec<Step>) -> ScriptJob
+        ensures { result ≡ record { tenant = tenant; name = name; ask = ask; steps = steps.items } }
     {
         ScriptJob {
             tenant,
             name,
             ask,
-            revisions,
+            steps,
         }
     }
 
-    /// The job with one revision more, behind the others.
-    pub fn with_revision(self, revision: Revision) -> Result<ScriptJob, AllocError>
+    /// The job with one step more, behind the others.
+    pub fn with_step(self, step: Step) -> Result<ScriptJob, AllocError>
         ensures { IfOk result
             (λ j. j
             ≡ record {
               tenant = self.tenant;
               name = self.name;
               ask = self.ask;
-              revisions = self.revisions ++ revision
+              steps = self.steps ++ step
                   ∷ [];
             }) }
     {
-        let mut revisions = self.revisions;
-        revisions.push(revision)?;
+        let mut steps = self.steps;
+        steps.push(step)?;
         Ok(ScriptJob {
             tenant: self.tenant,
             name: self.name,
             ask: self.ask,
-            revisions,
+            steps,
         })
     }
 
     /// Where its memory comes from.
     pub(crate) fn allocator(&self) -> Global {
-        *self.revisions.allocator()
+        *self.steps.allocator()
     }
 
     /// The tenant's name.
@@ -87,11 +89,62 @@ impl ScriptJob {
         self.ask
     }
 
-    /// The revisions, in the order of the text.
-    pub fn revisions(&self) -> &[Revision]
-        ensures { result.now ≡ self.now.revisions }
+    /// The steps, in the order of the text.
+    pub fn steps(&self) -> &[Step]
+        ensures { result.now ≡ self.now.steps }
     {
-        self.revisions.as_slice()
+        self.steps.as_slice()
+    }
+
+    /// How many revisions are among the steps.
+    pub fn revision_count(&self) -> usize
+        ensures { result ≡ length (revisions self.now) }
+    {
+        count_revisions(self.steps())
+    }
+
+    /// The revision at this place among the revisions, counted from 0.
+    pub fn revision(&self, at: usize) -> Option<&Revision>
+        ensures { option_copied result ≡ slice_get (revisions self.now) at }
+    {
+        let mut left = at;
+        for step in self.steps() {
+            match revision_of(step) {
+                None => {}
+                Some(revision) => {
+                    if left == 0 {
+                        return Some(revision);
+                    }
+                    left -= 1;
+                }
+            }
+        }
+        None
+    }
+}
+
+/// How many of these steps post revisions.
+fn count_revisions(steps: &[Step]) -> usize
+    ensures { result ≡ count_by is_revision steps.now }
+{
+    steps.iter().filter(|step| is_revision(step)).count()
+}
+
+/// The revision that a step posts.
+fn revision_of(step: &Step) -> Option<&Revision>
+    ensures { option_copied result ≡ revision_of step.now }
+{
+    match step {
+        Step::Revise(revision) => Some(revision),
+    }
+}
+
+/// Whether a step posts a revision.
+fn is_revision(step: &Step) -> bool
+    ensures { result ≡ is_revision step.now }
+{
+    match step {
+        Step::Revise(_) => true,
     }
 }
 

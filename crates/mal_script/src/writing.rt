@@ -3,17 +3,18 @@
 ghost use Rattle.std.specs.Prelude.{◌≡◌, ◌∷◌, ◌++◌, [], flat_map, codes, IfOk, OnOk};
 ghost use Rattle.spec_text.specs.Lines.{line_of, text_of};
 ghost use Rattle.spec_dimacs.specs.Written.{closed_words};
-ghost use Rattle.spec_script.specs.Script.{job_rows, job_words, revision_rows, spelling, tenant_words};
+ghost use Rattle.spec_script.specs.Script.{job_rows, job_words, revision_rows, spelling, step_rows, tenant_words};
 
 use crate::script::{Script, ScriptJob};
 use mal_base::{Ask, Lit, Name};
 use mal_dimacs::{put_block, put_closed};
 use mal_revision::Revision;
 use mal_text::{end_line, put_ask, put_line, put_word};
+use spec_script::Step;
 use std::alloc::{AllocError, Global};
 
-/// The one text of a script: for each job the line of its tenant, the line of its name and its ask, for each revision a
-/// header, a line a clause and the line of its assumptions, and the line that ends the job. A tautology is written as
+/// The one text of a script: for each job the line of its tenant, the line of its name and its ask, for each step its lines
+/// (for a revision a header, a line a clause and the line of its assumptions), and the line that ends the job. A tautology is written as
 /// the literals 1 and -1.
 pub fn write(alloc: Global, script: &Script) -> Result<Vec<u8>, AllocError>
     ensures { IfOk result (λ text. text.items ≡ spelling script.now) }
@@ -32,7 +33,7 @@ fn put_job(out: &mut Vec<u8>, job: &ScriptJob) -> Result<(), AllocError>
 {
     put_tenant(out, job.tenant())?;
     put_terms(out, job.name(), job.ask())?;
-    put_revisions(out, job.revisions())?;
+    put_steps(out, job.steps())?;
     put_line(out, b"e", &[])?;
     Ok(())
 }
@@ -56,14 +57,23 @@ fn put_terms(out: &mut Vec<u8>, name: Name, ask: Ask) -> Result<(), AllocError>
     Ok(())
 }
 
-/// Writes the lines of some revisions.
-fn put_revisions(out: &mut Vec<u8>, revisions: &[Revision]) -> Result<(), AllocError>
-    ensures { OnOk result (out.new.items ≡ out.old.items ++ flat_map (λ r. text_of (revision_rows r)) revisions.now) }
+/// Writes the lines of some steps.
+fn put_steps(out: &mut Vec<u8>, steps: &[Step]) -> Result<(), AllocError>
+    ensures { OnOk result (out.new.items ≡ out.old.items ++ flat_map (λ s. text_of (step_rows s)) steps.now) }
 {
-    for revision in revisions {
-        put_revision(out, revision)?;
+    for step in steps {
+        put_step(out, step)?;
     }
     Ok(())
+}
+
+/// Writes the lines of a step.
+fn put_step(out: &mut Vec<u8>, step: &Step) -> Result<(), AllocError>
+    ensures { OnOk result (out.new.items ≡ out.old.items ++ text_of (step_rows step.now)) }
+{
+    match step {
+        Step::Revise(revision) => put_revision(out, revision),
+    }
 }
 
 /// Writes the lines of a revision.

@@ -11,7 +11,9 @@ use Rattle.spec_dimacs.specs.Written.{closed_words, clause_words}
 use Rattle.spec_dimacs.proofs.Again.{rows_again}
 use Rattle.spec_script.specs.Limits.{served}
 use Rattle.spec_script.specs.Reading as script
-use Rattle.spec_script.specs.Script.{ScriptedJob, revision_rows, job_rows, rows_of, spelling}
+use Rattle.spec_script.specs.Script.{ScriptedJob, revision_rows, step_rows, job_rows, rows_of, spelling}
+use Rattle.spec_script.specs.declared.step.Step.{Step}
+use Rattle.spec_script.specs.declared.step.Step.TheVariants.{Revise}
 use Rattle.spec_script.proofs.Again.{written-read}
 use Rattle.spec_script.proofs.Written.{Stands, jobs-stand}
 use Rattle.mal_history.specs.Text.{event_words, version_of, header_words, history_text}
@@ -43,17 +45,20 @@ assumed-none : (lits : List ℕ) → is_history_line (codes "a" ∷ closed_words
 assumed-none [] = refl
 assumed-none (l ∷ ls) = refl
 
-revisions-none : (rs : List Posted) → list_any is_history_line (flat_map revision_rows rs) ≡ false
-revisions-none [] = refl
-revisions-none (r ∷ rs) =
-    any-none (revision_rows r) (flat_map revision_rows rs)
-    (any-none (map clause_words r.clauses) ((codes "a" ∷ closed_words r.assumptions) ∷ []) (clauses-none r.clauses) (or_from (is_history_line (codes "a" ∷ closed_words r.assumptions)) false (assumed-none r.assumptions) refl))
-    (revisions-none rs)
+revision-none : (r : Posted) → list_any is_history_line (revision_rows r) ≡ false
+revision-none r = any-none (map clause_words r.clauses) ((codes "a" ∷ closed_words r.assumptions) ∷ []) (clauses-none r.clauses) (or_from (is_history_line (codes "a" ∷ closed_words r.assumptions)) false (assumed-none r.assumptions) refl)
+
+step-none : (step : Step) → list_any is_history_line (step_rows step) ≡ false
+step-none (Revise r) = revision-none r
+
+steps-none : (ss : List Step) → list_any is_history_line (flat_map step_rows ss) ≡ false
+steps-none [] = refl
+steps-none (step ∷ ss) = any-none (step_rows step) (flat_map step_rows ss) (step-none step) (steps-none ss)
 
 jobs-none : (js : List ScriptedJob) → list_any is_history_line (flat_map job_rows js) ≡ false
 jobs-none [] = refl
 jobs-none (j ∷ js) =
-    any-none (job_rows j) (flat_map job_rows js) (any-none (flat_map revision_rows j.revisions) ((codes "e" ∷ []) ∷ []) (revisions-none j.revisions) refl) (jobs-none js)
+    any-none (job_rows j) (flat_map job_rows js) (any-none (flat_map step_rows j.steps) ((codes "e" ∷ []) ∷ []) (steps-none j.steps) refl) (jobs-none js)
 
 -- the lines of three texts
 stand-rows : (rows others : List (List (List ℕ))) → AllByRecursion Stands rows → AreRows others → AreRows (rows ++ others)

@@ -7,6 +7,7 @@ use Rattle.mal_revision.specs.Posted.{Posted}
 use Rattle.spec_seq.specs.Draws.{next, drawn}
 use Rattle.spec_dimacs.specs.Merged.{clause_of}
 use Rattle.spec_script.specs.Script.{ScriptedJob, Scripted}
+use Rattle.spec_script.specs.declared.step.Step.TheVariants.{Revise}
 
 -- what is picked of so many, 0 included, where the generator's number is x: the next draw modulo this
 abbrev pub pick : ℕ → ℕ → ℕ
@@ -76,7 +77,7 @@ ask_from x = record { priority = 1 + pick 8 x; demand = 1; slices = 64; profile 
 
 -- the job of this number
 abbrev pub job_from : ℕ → ℕ → ScriptedJob
-job_from i x = record { tenant = tenant_of i; name = name_of i; ask = ask_from x; revisions = revision_from (next x) ∷ [] }
+job_from i x = record { tenant = tenant_of i; name = name_of i; ask = ask_from x; steps = Revise (revision_from (next x)) ∷ [] }
 
 -- so many jobs, numbered from this one on
 abbrev pub jobs_from : ℕ → ℕ → ℕ → List ScriptedJob

@@ -12,11 +12,13 @@ use Rattle.spec_hall.specs.Own.{is_key, is_text}
 use Rattle.spec_hall.proofs.KeyLemmas.{is_key-same}
 use Rattle.spec_replay.specs.Posts.{HavePosts, is_post_line, post_lines}
 use Rattle.spec_replay.specs.Scripted.{AreWritten, event_by, job_under, numbered, revision_in}
-use Rattle.spec_run.specs.Complete.{is_post_of, job_events, jobs_of_tenant, key_of_job, open_events, posts_of, revise_events}
+use Rattle.spec_run.specs.Complete.{is_post_of, job_events, jobs_of_tenant, key_of_job, open_events, posts_of, step_events}
 use Rattle.spec_run.proofs.OpenLemmas.{IsApart, IsPart, part-of}
 use Rattle.spec_script.specs.Formed.{IsScript, MayAllFollow}
 use Rattle.spec_script.specs.Limits.{served}
-use Rattle.spec_script.specs.Script.{ScriptedJob, Scripted}
+use Rattle.spec_script.specs.Script.{ScriptedJob, Scripted, revisions, revisions_in}
+use Rattle.spec_script.specs.declared.step.Step.{Step}
+use Rattle.spec_script.specs.declared.step.Step.TheVariants as steps
 
 -- lists are the same where they are under Some
 pub some-same : (one other : List Event) → map Some one ≡ map Some other → one ≡ other
@@ -101,16 +103,16 @@ numbered-behind front r back = ap (λ (n : ℕ). numbered n (front ++ r ∷ back
     at [] = refl
     at (x ∷ xs) = at xs
 
-revised-scripted : (s : Scripted) (j : ScriptedJob) (front rs : List Posted) → job_under (key_of_job j) s.jobs ≡ Some j → j.revisions ≡ front ++ rs → AreScripted s (revise_events (key_of_job j) (length front + 1) rs)
-revised-scripted s j front [] under is = refl
-revised-scripted s j front (r ∷ rs) under is =
-    ap (λ (o : Option Event). o ∷ map (event_by s) (map bare (revise_events (key_of_job j) (length front + 1 + 1) rs))) head
-    ∙ ap (λ (os : List (Option Event)). Some (Revise (key_of_job j) (length front + 1) r) ∷ os) (rest (revised-scripted s j (front ++ r ∷ []) rs under (is ∙ sym (append_assoc front (r ∷ []) rs))))
+stepped-scripted : (s : Scripted) (j : ScriptedJob) (front : List Posted) (ss : List Step) → job_under (key_of_job j) s.jobs ≡ Some j → revisions j ≡ front ++ revisions_in ss → AreScripted s (step_events (key_of_job j) (length front + 1) ss)
+stepped-scripted s j front [] under is = refl
+stepped-scripted s j front (steps.Revise r ∷ ss) under is =
+    ap (λ (o : Option Event). o ∷ map (event_by s) (map bare (step_events (key_of_job j) (length front + 1 + 1) ss))) head
+    ∙ ap (λ (os : List (Option Event)). Some (Revise (key_of_job j) (length front + 1) r) ∷ os) (rest (stepped-scripted s j (front ++ r ∷ []) ss under (is ∙ sym (append_assoc front (r ∷ []) (revisions_in ss)))))
   where
     found : revision_in s (key_of_job j) (length front + 1) ≡ Some r
     found =
-        ap (λ (o : Option ScriptedJob). option_map_or (λ (i : ScriptedJob). numbered (length front + 1) i.revisions) o None) under
-        ∙ (ap (numbered (length front + 1)) is ∙ numbered-behind front r rs)
+        ap (λ (o : Option ScriptedJob). option_map_or (λ (i : ScriptedJob). numbered (length front + 1) (revisions i)) o None) under
+        ∙ (ap (numbered (length front + 1)) is ∙ numbered-behind front r (revisions_in ss))
 
     head : event_by s (bare (Revise (key_of_job j) (length front + 1) r)) ≡ Some (Revise (key_of_job j) (length front + 1) r)
     head = ap (λ (o : Option Posted). option_map (λ p. Revise (key_of_job j) (length front + 1) p) o) found
@@ -118,11 +120,11 @@ revised-scripted s j front (r ∷ rs) under is =
     long : length (front ++ r ∷ []) ≡ length front + 1
     long = length-append front (r ∷ [])
 
-    rest : AreScripted s (revise_events (key_of_job j) (length (front ++ r ∷ []) + 1) rs) → AreScripted s (revise_events (key_of_job j) (length front + 1 + 1) rs)
-    rest again = subst (λ (n : ℕ). AreScripted s (revise_events (key_of_job j) (n + 1) rs)) long again
+    rest : AreScripted s (step_events (key_of_job j) (length (front ++ r ∷ []) + 1) ss) → AreScripted s (step_events (key_of_job j) (length front + 1 + 1) ss)
+    rest again = subst (λ (n : ℕ). AreScripted s (step_events (key_of_job j) (n + 1) ss)) long again
 
 job-scripted : (s : Scripted) (j : ScriptedJob) → job_under (key_of_job j) s.jobs ≡ Some j → AreScripted s (job_events j)
-job-scripted s j under = scripted-append s (revise_events (key_of_job j) 1 j.revisions) (Close (key_of_job j) ∷ []) (revised-scripted s j [] j.revisions under refl) refl
+job-scripted s j under = scripted-append s (step_events (key_of_job j) 1 j.steps) (Close (key_of_job j) ∷ []) (stepped-scripted s j [] j.steps under refl) refl
 
 -- each of these jobs is under its key
 abbrev AreUnder : Scripted → List ScriptedJob → Type 0

@@ -6,6 +6,7 @@ use Rattle.spec_hall.specs.Dressed.{keyed}
 use Rattle.spec_hall.specs.Events.{Close, Revise}
 use Rattle.spec_replay.specs.Scripted.{event_by}
 use Rattle.spec_script.specs.Script.{Scripted}
+use Rattle.spec_script.specs.declared.step.Step.TheVariants as steps
 
 -- a revision of no clauses over two variables
 abbrev pub free : Posted
@@ -13,7 +14,7 @@ free = record { variables = 2; clauses = []; assumptions = [] }
 
 -- a script with the job p of the tenant a, which has that one revision
 abbrev pub one_job : Scripted
-one_job = record { jobs = record { tenant = codes "a"; name = codes "p"; ask = record { priority = 1; demand = 1; slices = 4; profile = 1 }; revisions = free ∷ [] } ∷ [] }
+one_job = record { jobs = record { tenant = codes "a"; name = codes "p"; ask = record { priority = 1; demand = 1; slices = 4; profile = 1 }; steps = steps.Revise free ∷ [] } ∷ [] }
 
 -- the first revision of that job is the script's; it lacks a second one, and the revisions of other jobs; a closing
 -- needs none

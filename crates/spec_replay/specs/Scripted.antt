@@ -10,12 +10,12 @@ use Rattle.spec_hall.specs.Events.{Event}
 use Rattle.spec_hall.specs.Given.{given}
 use Rattle.spec_hall.specs.Own.{is_key}
 use Rattle.spec_run.specs.Complete.{key_of_job}
-use Rattle.spec_script.specs.Script.{ScriptedJob, Scripted}
+use Rattle.spec_script.specs.Script.{ScriptedJob, Scripted, revisions}
 
 -- the revision of this number, counted from 1
 abbrev pub numbered : ℕ → List Posted → Option Posted
-numbered zero revisions = None
-numbered (suc n) revisions = slice_get revisions n
+numbered zero rs = None
+numbered (suc n) rs = slice_get rs n
 
 -- the job of a script under a key
 abbrev pub job_under : Key → List ScriptedJob → Option ScriptedJob
@@ -23,7 +23,7 @@ job_under k jobs = find (λ j. is_key k (key_of_job j)) jobs
 
 -- the revision of this number that a script has for the job of a key
 abbrev pub revision_in : Scripted → Key → ℕ → Option Posted
-revision_in s k number = option_map_or (λ j. numbered number j.revisions) (job_under k s.jobs) None
+revision_in s k number = option_map_or (λ j. numbered number (revisions j)) (job_under k s.jobs) None
 
 -- what a script posts in an event that is written down
 abbrev pub posted_in : Scripted → written.Event → Option Posted

@@ -4,7 +4,6 @@ use Rattle.std.specs.List.{list_all}
 use Rattle.std.proofs.lemmas.Bool.{and_parts}
 use Rattle.std.proofs.lemmas.List.Sums.{fold-append}
 use Rattle.std.proofs.lemmas.List.Elements.{filter-append}
-use Rattle.mal_revision.specs.Posted.{Posted}
 use Rattle.spec_job.specs.SoloMachine.{Own, Opened, Revised, Closed, Volume, Started, Finished, Exchanged, SoloMachine, solo, solo_step, is_live}
 use Rattle.spec_job.specs.KeyedJob.{Key, KeyedJob}
 use Rattle.spec_job.proofs.StepLemmas.{start-keeps, finish-keeps}
@@ -14,9 +13,11 @@ use Rattle.spec_hall.specs.Own.{own, own_step, adds, is_key, is_text, volume_in}
 use Rattle.spec_hall.specs.States.{keys_of, keys_step, states, titled, lives, live_of, live_ones, leases}
 use Rattle.spec_hall.proofs.PushLemmas.{solo-push}
 use Rattle.spec_hall.proofs.VolumeLemmas.{revise-keeps}
-use Rattle.spec_run.specs.Complete.{IsComplete, is_post_of, key_of_job, job_events, open_events, revise_events, jobs_of_tenant, posts_of, script_events}
+use Rattle.spec_run.specs.Complete.{IsComplete, is_post_of, key_of_job, job_events, open_events, step_events, jobs_of_tenant, posts_of, script_events}
 use Rattle.spec_run.proofs.KeyLemmas.{adds-mine, begun-keys, posted-keys, turned-keys}
 use Rattle.spec_script.specs.Script.{ScriptedJob, Scripted}
+use Rattle.spec_script.specs.declared.step.Step.{Step}
+use Rattle.spec_script.specs.declared.step.Step.TheVariants as steps
 
 -- a job that is closed stays closed
 step-closed : (s : SoloMachine) (o : Own) → s.closed ≡ true → (solo_step s o).closed ≡ true
@@ -59,8 +60,8 @@ closing-closed k os = ap (λ (x : List Own). (solo x).closed) (adds-mine k os Cl
 -- after all postings of a job it is closed
 posted-closed : (j : ScriptedJob) (os : List Own) → (solo (fold (own_step (key_of_job j)) os (job_events j))).closed ≡ true
 posted-closed j os =
-    ap (λ (x : List Own). (solo x).closed) (fold-append (own_step (key_of_job j)) os (revise_events (key_of_job j) 1 j.revisions) (Close (key_of_job j) ∷ []))
-    ∙ closing-closed (key_of_job j) (fold (own_step (key_of_job j)) os (revise_events (key_of_job j) 1 j.revisions))
+    ap (λ (x : List Own). (solo x).closed) (fold-append (own_step (key_of_job j)) os (step_events (key_of_job j) 1 j.steps) (Close (key_of_job j) ∷ []))
+    ∙ closing-closed (key_of_job j) (fold (own_step (key_of_job j)) os (step_events (key_of_job j) 1 j.steps))
 
 -- so are all jobs that are posted, whatever follows
 own-parts : (k : Key) (past es : List Event) → own k (past ++ es) ≡ fold (own_step k) (own k past) es
@@ -100,7 +101,7 @@ closed-done (t ∷ ts) closed none = by_test (is_live t.state) (closed-done ts p
     by_test true rest e = absurd (cc)
     by_test false rest e = rw (parts.0, rest e) refl
 
--- what a tenant posts of openings, of revisions and of all of a job
+-- what a tenant posts of openings, of steps and of all of a job
 opened-posts : (tenant : List ℕ) (js : List ScriptedJob) → filter (is_post_of tenant) (open_events js) ≡ open_events (filter (λ j. is_text tenant j.tenant) js)
 opened-posts tenant [] = refl
 opened-posts tenant (j ∷ js) = by_test (is_text tenant j.tenant) (opened-posts tenant js)
@@ -109,25 +110,25 @@ opened-posts tenant (j ∷ js) = by_test (is_text tenant j.tenant) (opened-posts
     by_test true e = ap (λ (x : List Event). Open (key_of_job j) j.ask ∷ x) e
     by_test false e = e
 
-revised-posts : (tenant : List ℕ) (k : Key) (n : ℕ) (rs : List Posted) → filter (is_post_of tenant) (revise_events k n rs) ≡ cond (is_text tenant k.tenant) (revise_events k n rs) []
-revised-posts tenant k n [] = by_test (is_text tenant k.tenant)
+stepped-posts : (tenant : List ℕ) (k : Key) (n : ℕ) (ss : List Step) → filter (is_post_of tenant) (step_events k n ss) ≡ cond (is_text tenant k.tenant) (step_events k n ss) []
+stepped-posts tenant k n [] = by_test (is_text tenant k.tenant)
   where
     by_test : (b : Bool) → ◌≡◌ {A = List Event} [] (cond b [] [])
     by_test true = refl
     by_test false = refl
-revised-posts tenant k n (r ∷ rs) = by_test (is_text tenant k.tenant) (revised-posts tenant k (n + 1) rs)
+stepped-posts tenant k n (steps.Revise r ∷ ss) = by_test (is_text tenant k.tenant) (stepped-posts tenant k (n + 1) ss)
   where
-    by_test : (b : Bool) → filter (is_post_of tenant) (revise_events k (n + 1) rs) ≡ cond b (revise_events k (n + 1) rs) [] → cond b (Revise k n r ∷ filter (is_post_of tenant) (revise_events k (n + 1) rs)) (filter (is_post_of tenant) (revise_events k (n + 1) rs)) ≡ cond b (Revise k n r ∷ revise_events k (n + 1) rs) []
+    by_test : (b : Bool) → filter (is_post_of tenant) (step_events k (n + 1) ss) ≡ cond b (step_events k (n + 1) ss) [] → cond b (Revise k n r ∷ filter (is_post_of tenant) (step_events k (n + 1) ss)) (filter (is_post_of tenant) (step_events k (n + 1) ss)) ≡ cond b (Revise k n r ∷ step_events k (n + 1) ss) []
     by_test true e = ap (λ (x : List Event). Revise k n r ∷ x) e
     by_test false e = e
 
 job-posts : (tenant : List ℕ) (j : ScriptedJob) → filter (is_post_of tenant) (job_events j) ≡ cond (is_text tenant j.tenant) (job_events j) []
 job-posts tenant j =
-    filter-append (is_post_of tenant) (revise_events (key_of_job j) 1 j.revisions) (Close (key_of_job j) ∷ [])
-    ∙ (ap (λ (x : List Event). x ++ filter (is_post_of tenant) (Close (key_of_job j) ∷ [])) (revised-posts tenant (key_of_job j) 1 j.revisions)
+    filter-append (is_post_of tenant) (step_events (key_of_job j) 1 j.steps) (Close (key_of_job j) ∷ [])
+    ∙ (ap (λ (x : List Event). x ++ filter (is_post_of tenant) (Close (key_of_job j) ∷ [])) (stepped-posts tenant (key_of_job j) 1 j.steps)
     ∙ by_test (is_text tenant j.tenant))
   where
-    by_test : (b : Bool) → cond b (revise_events (key_of_job j) 1 j.revisions) [] ++ cond b (Close (key_of_job j) ∷ []) [] ≡ cond b (job_events j) []
+    by_test : (b : Bool) → cond b (step_events (key_of_job j) 1 j.steps) [] ++ cond b (Close (key_of_job j) ∷ []) [] ≡ cond b (job_events j) []
     by_test true = refl
     by_test false = refl
 

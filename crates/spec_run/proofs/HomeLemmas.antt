@@ -1,25 +1,26 @@
 -- What a script posts hands no lease out.
 use Rattle.std.proofs.Common.{◌≡◌, ℕ, ◌+◌, List, [], ◌∷◌, flat_map, fold, refl, ◌∙◌}
 use Rattle.std.proofs.lemmas.List.Sums.{fold-append}
-use Rattle.mal_revision.specs.Posted.{Posted}
 use Rattle.spec_job.specs.KeyedJob.{Key}
 use Rattle.spec_hall.specs.Events.{Close}
 use Rattle.spec_hall.specs.States.{LeaseOut, leases, leases_step}
-use Rattle.spec_run.specs.Complete.{key_of_job, job_events, open_events, revise_events, script_events}
+use Rattle.spec_run.specs.Complete.{key_of_job, job_events, open_events, step_events, script_events}
 use Rattle.spec_script.specs.Script.{ScriptedJob, Scripted}
+use Rattle.spec_script.specs.declared.step.Step.{Step}
+use Rattle.spec_script.specs.declared.step.Step.TheVariants as steps
 
 opened-home : (js : List ScriptedJob) (out : List LeaseOut) → fold leases_step out (open_events js) ≡ out
 opened-home [] out = refl
 opened-home (j ∷ js) out = opened-home js out
 
-revised-home : (k : Key) (n : ℕ) (rs : List Posted) (out : List LeaseOut) → fold leases_step out (revise_events k n rs) ≡ out
-revised-home k n [] out = refl
-revised-home k n (r ∷ rs) out = revised-home k (n + 1) rs out
+stepped-home : (k : Key) (n : ℕ) (ss : List Step) (out : List LeaseOut) → fold leases_step out (step_events k n ss) ≡ out
+stepped-home k n [] out = refl
+stepped-home k n (steps.Revise r ∷ ss) out = stepped-home k (n + 1) ss out
 
 job-home : (j : ScriptedJob) (out : List LeaseOut) → fold leases_step out (job_events j) ≡ out
 job-home j out =
-    fold-append leases_step out (revise_events (key_of_job j) 1 j.revisions) (Close (key_of_job j) ∷ [])
-    ∙ revised-home (key_of_job j) 1 j.revisions out
+    fold-append leases_step out (step_events (key_of_job j) 1 j.steps) (Close (key_of_job j) ∷ [])
+    ∙ stepped-home (key_of_job j) 1 j.steps out
 
 posted-home : (js : List ScriptedJob) (out : List LeaseOut) → fold leases_step out (flat_map job_events js) ≡ out
 posted-home [] out = refl

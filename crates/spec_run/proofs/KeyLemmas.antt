@@ -2,7 +2,6 @@
 use Rattle.std.proofs.Common.{◌≡◌, ℕ, ◌+◌, Bool, true, false, ◌||◌, cond, List, [], ◌∷◌, ◌++◌, map, flat_map, fold, Some, None, refl, sym, ◌∙◌, ap, append-nil, append_assoc}
 use Rattle.std.specs.List.{list_any}
 use Rattle.std.proofs.lemmas.List.Sums.{fold-append}
-use Rattle.mal_revision.specs.Posted.{Posted}
 use Rattle.spec_job.specs.SoloMachine.{Own}
 use Rattle.spec_job.specs.KeyedJob.{Key}
 use Rattle.spec_hall.specs.Events.{Event, Close}
@@ -12,21 +11,23 @@ use Rattle.spec_hall.specs.States.{keys_of, keys_step, states, titled}
 use Rattle.spec_hall.specs.Legal.{job_of}
 use Rattle.spec_hall.proofs.KeyLemmas.{is_key-same}
 use Rattle.spec_hall.proofs.StatesLemmas.{job_of-states}
-use Rattle.spec_run.specs.Complete.{key_of_job, job_events, open_events, revise_events}
+use Rattle.spec_run.specs.Complete.{key_of_job, job_events, open_events, step_events}
 use Rattle.spec_script.specs.Script.{ScriptedJob}
+use Rattle.spec_script.specs.declared.step.Step.{Step}
+use Rattle.spec_script.specs.declared.step.Step.TheVariants as steps
 
 -- openings open their keys
 pub opened-keys : (js : List ScriptedJob) (keys : List Key) → fold keys_step keys (open_events js) ≡ keys ++ map key_of_job js
 opened-keys [] keys = sym (append-nil keys)
 opened-keys (j ∷ js) keys = opened-keys js (keys ++ key_of_job j ∷ []) ∙ append_assoc keys (key_of_job j ∷ []) (map key_of_job js)
 
--- revisions and closings open none
-revised-keys : (k : Key) (n : ℕ) (rs : List Posted) (keys : List Key) → fold keys_step keys (revise_events k n rs) ≡ keys
-revised-keys k n [] keys = refl
-revised-keys k n (r ∷ rs) keys = revised-keys k (n + 1) rs keys
+-- steps and closings open none
+stepped-keys : (k : Key) (n : ℕ) (ss : List Step) (keys : List Key) → fold keys_step keys (step_events k n ss) ≡ keys
+stepped-keys k n [] keys = refl
+stepped-keys k n (steps.Revise r ∷ ss) keys = stepped-keys k (n + 1) ss keys
 
 job-keys : (j : ScriptedJob) (keys : List Key) → fold keys_step keys (job_events j) ≡ keys
-job-keys j keys = fold-append keys_step keys (revise_events (key_of_job j) 1 j.revisions) (Close (key_of_job j) ∷ []) ∙ revised-keys (key_of_job j) 1 j.revisions keys
+job-keys j keys = fold-append keys_step keys (step_events (key_of_job j) 1 j.steps) (Close (key_of_job j) ∷ []) ∙ stepped-keys (key_of_job j) 1 j.steps keys
 
 pub posted-keys : (js : List ScriptedJob) (keys : List Key) → fold keys_step keys (flat_map job_events js) ≡ keys
 posted-keys [] keys = refl

@@ -3,16 +3,17 @@ use Rattle.std.proofs.Common.{◌≡◌, ℕ, ◌+◌, Bool, true, false, ◌||�
 use Rattle.std.specs.List.{list_all, list_any}
 use Rattle.std.specs.Option.{option_map_or}
 use Rattle.mal_base.specs.declared.verdict.Outcome.TheVariants.{Lost}
-use Rattle.mal_revision.specs.Posted.{Posted}
 use Rattle.spec_job.specs.KeyedJob.{Key}
 use Rattle.spec_hall.specs.Calls.{lost_of, recalled}
 use Rattle.spec_hall.specs.Driven.{Turn, Balances, Exchanges, Slices, events_in, was_lost, AreTurns, GrowsByTurns}
 use Rattle.spec_hall.specs.Events.{Event, Close, Finish}
 use Rattle.spec_hall.specs.States.{LeaseOut, leases, lease_of}
 use Rattle.spec_node.specs.Load.{counted}
-use Rattle.spec_run.specs.Complete.{key_of_job, job_events, open_events, revise_events, script_events}
+use Rattle.spec_run.specs.Complete.{key_of_job, job_events, open_events, step_events, script_events}
 use Rattle.spec_run.specs.Losses.{is_loss, NoneIsLost, is_not_by_others, LosesLate}
 use Rattle.spec_script.specs.Script.{ScriptedJob, Scripted}
+use Rattle.spec_script.specs.declared.step.Step.{Step}
+use Rattle.spec_script.specs.declared.step.Step.TheVariants as steps
 
 -- none is lost in two parts where none is in either
 pub parts-lose-none : (a b : List Event) → NoneIsLost a → NoneIsLost b → NoneIsLost (a ++ b)
@@ -28,12 +29,12 @@ opened-lose-none : (js : List ScriptedJob) → NoneIsLost (open_events js)
 opened-lose-none [] = refl
 opened-lose-none (j ∷ js) = opened-lose-none js
 
-revised-lose-none : (k : Key) (n : ℕ) (rs : List Posted) → NoneIsLost (revise_events k n rs)
-revised-lose-none k n [] = refl
-revised-lose-none k n (r ∷ rs) = revised-lose-none k (n + 1) rs
+stepped-lose-none : (k : Key) (n : ℕ) (ss : List Step) → NoneIsLost (step_events k n ss)
+stepped-lose-none k n [] = refl
+stepped-lose-none k n (steps.Revise r ∷ ss) = stepped-lose-none k (n + 1) ss
 
 pub job-loses-none : (j : ScriptedJob) → NoneIsLost (job_events j)
-job-loses-none j = parts-lose-none (revise_events (key_of_job j) 1 j.revisions) (Close (key_of_job j) ∷ []) (revised-lose-none (key_of_job j) 1 j.revisions) refl
+job-loses-none j = parts-lose-none (step_events (key_of_job j) 1 j.steps) (Close (key_of_job j) ∷ []) (stepped-lose-none (key_of_job j) 1 j.steps) refl
 
 pub jobs-lose-none : (js : List ScriptedJob) → NoneIsLost (flat_map job_events js)
 jobs-lose-none [] = refl

@@ -16,13 +16,15 @@ use Rattle.spec_hall.specs.Legal.{MayOpen, MayRevise, job_of, jobs_of, tenant_co
 use Rattle.spec_hall.proofs.KeyLemmas.{is_key-Decides}
 use Rattle.spec_hall.proofs.PushLemmas.{own-push, solo-push, keys-push}
 use Rattle.spec_hall.proofs.VolumeLemmas.{revise-keeps}
-use Rattle.spec_run.specs.Complete.{key_of_job, job_events, open_events, revise_events}
+use Rattle.spec_run.specs.Complete.{key_of_job, job_events, open_events, step_events}
 use Rattle.spec_run.specs.Posting.{IsOpen}
 use Rattle.spec_run.proofs.KeyLemmas.{posted-keys, begun-keys, job-found, job-absent, among-keys, among-parts, adds-mine}
 use Rattle.spec_run.proofs.TenantLemmas.{titles, jobs-counted, tenant-fits}
 use Rattle.spec_script.specs.Formed.{MayFollow, MayAllFollow}
 use Rattle.spec_script.specs.Limits.{Limits, served}
-use Rattle.spec_script.specs.Script.{ScriptedJob}
+use Rattle.spec_script.specs.Script.{ScriptedJob, revisions_in}
+use Rattle.spec_script.specs.declared.step.Step.{Step}
+use Rattle.spec_script.specs.declared.step.Step.TheVariants as steps
 
 -- no job of these has the key
 abbrev pub IsApart : Key → List ScriptedJob → Type 0
@@ -80,15 +82,15 @@ others-opened k (j ∷ js) os apart =
     let parts = or_parts (is_key k (key_of_job j)) (list_any (λ i. is_key k (key_of_job i)) js) apart in
     ap (λ (b : Bool). fold (own_step k) (cond b (os ++ Opened j.ask ∷ []) os) (open_events js)) parts.0 ∙ others-opened k js os parts.1
 
-others-revised : (k i : Key) (n : ℕ) (rs : List Posted) (os : List Own) → is_key k i ≡ false → fold (own_step k) os (revise_events i n rs) ≡ os
-others-revised k i n [] os other = refl
-others-revised k i n (r ∷ rs) os other =
-    ap (λ (b : Bool). fold (own_step k) (cond b (os ++ Revised r ∷ []) os) (revise_events i (n + 1) rs)) other ∙ others-revised k i (n + 1) rs os other
+others-stepped : (k i : Key) (n : ℕ) (ss : List Step) (os : List Own) → is_key k i ≡ false → fold (own_step k) os (step_events i n ss) ≡ os
+others-stepped k i n [] os other = refl
+others-stepped k i n (steps.Revise r ∷ ss) os other =
+    ap (λ (b : Bool). fold (own_step k) (cond b (os ++ Revised r ∷ []) os) (step_events i (n + 1) ss)) other ∙ others-stepped k i (n + 1) ss os other
 
 other-posted : (k : Key) (j : ScriptedJob) (os : List Own) → is_key k (key_of_job j) ≡ false → fold (own_step k) os (job_events j) ≡ os
 other-posted k j os other =
-    fold-append (own_step k) os (revise_events (key_of_job j) 1 j.revisions) (Close (key_of_job j) ∷ [])
-    ∙ (ap (λ (x : List Own). own_step k x (Close (key_of_job j))) (others-revised k (key_of_job j) 1 j.revisions os other)
+    fold-append (own_step k) os (step_events (key_of_job j) 1 j.steps) (Close (key_of_job j) ∷ [])
+    ∙ (ap (λ (x : List Own). own_step k x (Close (key_of_job j))) (others-stepped k (key_of_job j) 1 j.steps os other)
     ∙ ap (λ (b : Bool). cond b (os ++ Closed ∷ []) os) other)
 
 others-posted : (k : Key) (js : List ScriptedJob) (os : List Own) → IsApart k js → fold (own_step k) os (flat_map job_events js) ≡ os
@@ -150,13 +152,13 @@ open-may_revise k rs h n r is formed number few clauses literals = record {
   literal_room = subst (λ (x : List Posted). literals_in x + literals_of r.clauses ≤ 16777216) (sym is.posted) literals;
 }
 
--- revisions that are posted one by one
-pub revise-more : (k : Key) (n : ℕ) (rs : List Posted) (r : Posted) → revise_events k n (rs ++ r ∷ []) ≡ revise_events k n rs ++ Revise k (n + length rs) r ∷ []
+-- steps that are posted one by one
+pub revise-more : (k : Key) (n : ℕ) (ss : List Step) (r : Posted) → step_events k n (ss ++ steps.Revise r ∷ []) ≡ step_events k n ss ++ Revise k (n + length (revisions_in ss)) r ∷ []
 revise-more k n [] r = ap (λ (m : ℕ). Revise k m r ∷ []) (plus-zero n)
   where
     plus-zero : (m : ℕ) → m ≡ m + 0
     plus-zero m = omega arith
-revise-more k n (q ∷ qs) r = ap (λ (x : List Event). Revise k n q ∷ x) (revise-more k (n + 1) qs r ∙ ap (λ (m : ℕ). revise_events k (n + 1) qs ++ Revise k m r ∷ []) (plus-one n (length qs)))
+revise-more k n (steps.Revise q ∷ ss) r = ap (λ (x : List Event). Revise k n q ∷ x) (revise-more k (n + 1) ss r ∙ ap (λ (m : ℕ). step_events k (n + 1) ss ++ Revise k m r ∷ []) (plus-one n (length (revisions_in ss))))
   where
     plus-one : (m l : ℕ) → (m + 1) + l ≡ m + suc l
     plus-one m l = omega arith

@@ -1,9 +1,10 @@
 -- A script that is posted job by job: what is true before each step, and after it.
-use Rattle.std.proofs.Common.{◌≡◌, ℕ, zero, suc, ◌+◌, ◌<◌, ◌≤◌, Bool, true, List, [], ◌∷◌, ◌++◌, length, take, drop, get_or, flat_map, sym, ◌∙◌, ap, arith, append_assoc, subst}
+use Rattle.std.proofs.Common.{◌≡◌, ℕ, zero, suc, ◌+◌, ◌<◌, ◌≤◌, Bool, true, List, [], ◌∷◌, ◌++◌, length, take, drop, get_or, flat_map, sum_by, length-append, sym, ◌∙◌, ap, arith, append_assoc, subst}
 use Rattle.std.specs.List.{list_all}
 use Rattle.std.proofs.lemmas.Bool.{and_parts}
-use Rattle.std.proofs.lemmas.List.{map-append, take-append-drop, drop_more, take_more, take_all, length-take-le, flat_map_more}
-use Rattle.std.proofs.lemmas.List.Sums.{sum_by_more_le}
+use Rattle.std.proofs.lemmas.List.{map-append, take-append-drop, drop_more, take_more, take_all, flat_map_more}
+use Rattle.std.proofs.lemmas.List.Sums.{sum_by-append, sum_by-cons}
+use Rattle.std.proofs.lemmas.Grind.{flat_map-append}
 use Rattle.mal_base.specs.Formulas.{literals_of}
 use Rattle.mal_revision.specs.Posted.{Posted, is_posted}
 use Rattle.spec_job.specs.SoloMachine.{clauses_in, literals_in}
@@ -11,13 +12,15 @@ use Rattle.spec_job.specs.KeyedJob.{Key}
 use Rattle.spec_hall.specs.Events.{Event, Open, Revise}
 use Rattle.spec_hall.specs.States.{keys_of, titled}
 use Rattle.spec_hall.specs.Legal.{MayOpen, MayRevise}
-use Rattle.spec_run.specs.Complete.{key_of_job, job_events, open_events, revise_events}
+use Rattle.spec_run.specs.Complete.{key_of_job, job_events, open_events, step_events}
 use Rattle.spec_run.specs.Posting.{IsOpen}
 use Rattle.spec_run.proofs.KeyLemmas.{opened-keys}
 use Rattle.spec_run.proofs.OpenLemmas.{IsPart, follow-split, part-of, next-may_open, next-is_open, open-may_revise, revise-more}
-use Rattle.spec_script.specs.Formed.{IsJob, MayFollow, MayAllFollow}
+use Rattle.spec_script.specs.Formed.{IsJob, is_step, MayFollow, MayAllFollow}
 use Rattle.spec_script.specs.Limits.{served}
-use Rattle.spec_script.specs.Script.{ScriptedJob}
+use Rattle.spec_script.specs.Script.{ScriptedJob, revisions, revisions_at, revisions_in}
+use Rattle.spec_script.specs.declared.step.Step.{Step}
+use Rattle.spec_script.specs.declared.step.Step.TheVariants as steps
 
 -- a list at one of its items: those before it, it, and those behind it
 pub at-parts : {A : Type 0} (xs : List A) (i : ℕ) (x : A) → i < length xs → x ≡ get_or xs i x → xs ≡ take i xs ++ x ∷ drop (i + 1) xs
@@ -69,28 +72,43 @@ passes-at p [] i x all low is = absurd (omega arith)
 passes-at p (y ∷ ys) zero x all low is = ap p is ∙ (and_parts (p y) (list_all p ys) all).0
 passes-at p (y ∷ ys) (suc i) x all low is = passes-at p ys i x (and_parts (p y) (list_all p ys) all).1 (omega arith) is
 
--- the revision of a job at a place may be posted where those before it are
-pub next-may_revise : (j : ScriptedJob) (h : List Event) (i n : ℕ) (r : Posted) → IsJob served j → IsOpen (key_of_job j) (take i j.revisions) h → i < length j.revisions → r ≡ get_or j.revisions i r → n ≡ i + 1 → MayRevise h (key_of_job j) n r (titled h (key_of_job j))
+-- the revisions among steps at one of them: those before it, it, and those behind it
+pub revision-parts : (ss : List Step) (i : ℕ) (r : Posted) → i < length ss → steps.Revise r ≡ get_or ss i (steps.Revise r) → revisions_in ss ≡ revisions_in (take i ss) ++ r ∷ revisions_in (drop (i + 1) ss)
+revision-parts ss i r low is = ap revisions_in (at-parts ss i (steps.Revise r) low is) ∙ flat_map-append revisions_at (take i ss) (steps.Revise r ∷ drop (i + 1) ss)
+
+-- one revision more
+pub revision-more : (ss : List Step) (i : ℕ) (r : Posted) → i < length ss → steps.Revise r ≡ get_or ss i (steps.Revise r) → revisions_in (take (i + 1) ss) ≡ revisions_in (take i ss) ++ r ∷ []
+revision-more ss i r low is = ap revisions_in (take-one ss i (steps.Revise r) low is) ∙ flat_map-append revisions_at (take i ss) (steps.Revise r ∷ [])
+
+-- a sum over revisions at one of them
+sum-parts : (f : Posted → ℕ) (all front : List Posted) (r : Posted) (back : List Posted) → all ≡ front ++ r ∷ back → sum_by f front + f r ≤ sum_by f all
+sum-parts f all front r back e =
+    let whole : sum_by f all ≡ sum_by f front + sum_by f (r ∷ back) = ap (sum_by f) e ∙ sum_by-append f front (r ∷ back) in
+    let first : sum_by f (r ∷ back) ≡ f r + sum_by f back = sum_by-cons f r back in
+    omega arith
+
+-- the revision that a job's step at a place posts may be posted where the steps before it are
+pub next-may_revise : (j : ScriptedJob) (h : List Event) (i n : ℕ) (r : Posted) → IsJob served j → IsOpen (key_of_job j) (revisions_in (take i j.steps)) h → i < length j.steps → steps.Revise r ≡ get_or j.steps i (steps.Revise r) → n ≡ length (revisions_in (take i j.steps)) + 1 → MayRevise h (key_of_job j) n r (titled h (key_of_job j))
 next-may_revise j h i n r formed opened low is number =
-    let rs : List Posted = j.revisions in
-    let count : length (take i rs) ≡ i = length-take-le i rs (omega arith) in
-    let posted : is_posted r ≡ true = passes-at is_posted rs i r formed.formed low is in
+    let rs : List Posted = revisions j in
+    let front : List Posted = revisions_in (take i j.steps) in
+    let back : List Posted = revisions_in (drop (i + 1) j.steps) in
+    let parts : rs ≡ front ++ r ∷ back = revision-parts j.steps i r low is in
+    let posted : is_posted r ≡ true = passes-at is_step j.steps i (steps.Revise r) formed.formed low is in
+    let count : length rs ≡ length front + length (r ∷ back) = ap length parts ∙ length-append front (r ∷ back) in
     let few : length rs ≤ 256 = formed.few in
-    let clauses : clauses_in (take i rs) + length (get_or rs i r).clauses ≤ clauses_in rs = sum_by_more_le (λ (x : Posted). length x.clauses) rs i r low in
-    let literals : literals_in (take i rs) + literals_of (get_or rs i r).clauses ≤ literals_in rs = sum_by_more_le (λ (x : Posted). literals_of x.clauses) rs i r low in
-    let clause_room : clauses_in (take i rs) + length r.clauses ≤ clauses_in rs = subst (λ (x : Posted). clauses_in (take i rs) + length x.clauses ≤ clauses_in rs) (sym is) clauses in
-    let literal_room : literals_in (take i rs) + literals_of r.clauses ≤ literals_in rs = subst (λ (x : Posted). literals_in (take i rs) + literals_of x.clauses ≤ literals_in rs) (sym is) literals in
-    open-may_revise (key_of_job j) (take i rs) h n r opened posted (omega arith) (omega arith) (within _ (clauses_in rs) 1048576 clause_room formed.clauses) (within _ (literals_in rs) 16777216 literal_room formed.literals)
+    let clause_room : clauses_in front + length r.clauses ≤ clauses_in rs = sum-parts (λ (x : Posted). length x.clauses) rs front r back parts in
+    let literal_room : literals_in front + literals_of r.clauses ≤ literals_in rs = sum-parts (λ (x : Posted). literals_of x.clauses) rs front r back parts in
+    open-may_revise (key_of_job j) front h n r opened posted number (omega arith) (within _ (clauses_in rs) 1048576 clause_room formed.clauses) (within _ (literals_in rs) 16777216 literal_room formed.literals)
   where
     within : (a b c : ℕ) → a ≤ b → b ≤ c → a ≤ c
     within a b c p q = omega arith
 
 -- then one revision more is posted
-pub revised-more : (k : Key) (h after start : List Event) (rs : List Posted) (i n : ℕ) (r : Posted) → h ≡ start ++ revise_events k 1 (take i rs) → after ≡ h ++ Revise k n r ∷ [] → n ≡ i + 1 → i < length rs → r ≡ get_or rs i r → after ≡ start ++ revise_events k 1 (take (i + 1) rs)
-revised-more k h after start rs i n r e step number low is =
-    let count : length (take i rs) ≡ i = length-take-le i rs (omega arith) in
-    let place : n ≡ 1 + length (take i rs) = omega arith in
+pub revised-more : (k : Key) (h after start : List Event) (ss : List Step) (i n : ℕ) (r : Posted) → h ≡ start ++ step_events k 1 (take i ss) → after ≡ h ++ Revise k n r ∷ [] → n ≡ length (revisions_in (take i ss)) + 1 → i < length ss → steps.Revise r ≡ get_or ss i (steps.Revise r) → after ≡ start ++ step_events k 1 (take (i + 1) ss)
+revised-more k h after start ss i n r e step number low is =
+    let place : n ≡ 1 + length (revisions_in (take i ss)) = omega arith in
     step ∙ (ap (λ (x : List Event). x ++ Revise k n r ∷ []) e
-    ∙ (append_assoc start (revise_events k 1 (take i rs)) (Revise k n r ∷ [])
-    ∙ ap (λ (x : List Event). start ++ x) (ap (λ (m : ℕ). revise_events k 1 (take i rs) ++ Revise k m r ∷ []) place
-    ∙ (sym (revise-more k 1 (take i rs) r) ∙ ap (revise_events k 1) (sym (take-one rs i r low is))))))
+    ∙ (append_assoc start (step_events k 1 (take i ss)) (Revise k n r ∷ [])
+    ∙ ap (λ (x : List Event). start ++ x) (ap (λ (m : ℕ). step_events k 1 (take i ss) ++ Revise k m r ∷ []) place
+    ∙ (sym (revise-more k 1 (take i ss) r) ∙ ap (step_events k 1) (sym (take-one ss i (steps.Revise r) low is))))))

@@ -1,10 +1,11 @@
 use Rattle.std.specs.Prelude.{◌≡◌, ℕ, ◌+◌, Bool, false, List, [], ◌∷◌, ◌++◌, map, filter, flat_map}
-use Rattle.mal_revision.specs.Posted.{Posted}
 use Rattle.spec_job.specs.KeyedJob.{Key}
 use Rattle.spec_hall.specs.Events.{Event, Open, Revise, Close}
 use Rattle.spec_hall.specs.Own.{is_text}
 use Rattle.spec_hall.specs.States.{states, lives, leases}
 use Rattle.spec_script.specs.Script.{ScriptedJob, Scripted}
+use Rattle.spec_script.specs.declared.step.Step.{Step}
+use Rattle.spec_script.specs.declared.step.Step.TheVariants as steps
 
 -- whether a tenant posted the event
 abbrev pub is_post_of : List ℕ → Event → Bool
@@ -17,14 +18,14 @@ is_post_of tenant event = false
 abbrev pub key_of_job : ScriptedJob → Key
 key_of_job j = record { tenant = j.tenant; job = j.name }
 
--- the revisions of a job, numbered from this one on
-abbrev pub revise_events : Key → ℕ → List Posted → List Event
-revise_events k number [] = []
-revise_events k number (r ∷ rs) = Revise k number r ∷ revise_events k (number + 1) rs
+-- the events of a job's steps, of which the next revision has this number
+abbrev pub step_events : Key → ℕ → List Step → List Event
+step_events k number [] = []
+step_events k number (steps.Revise r ∷ rest) = Revise k number r ∷ step_events k (number + 1) rest
 
--- a job's revisions and its closing
+-- a job's steps and its closing
 abbrev pub job_events : ScriptedJob → List Event
-job_events j = revise_events (key_of_job j) 1 j.revisions ++ Close (key_of_job j) ∷ []
+job_events j = step_events (key_of_job j) 1 j.steps ++ Close (key_of_job j) ∷ []
 
 -- the openings of jobs
 abbrev pub open_events : List ScriptedJob → List Event
@@ -34,11 +35,11 @@ open_events jobs = map (λ j. Open (key_of_job j) j.ask) jobs
 abbrev pub jobs_of_tenant : List ℕ → Scripted → List ScriptedJob
 jobs_of_tenant tenant s = filter (λ j. is_text tenant j.tenant) s.jobs
 
--- what a tenant posts by a script: its openings, then job by job the revisions and the closing
+-- what a tenant posts by a script: its openings, then job by job the steps and the closing
 abbrev pub posts_of : List ℕ → Scripted → List Event
 posts_of tenant s = open_events (jobs_of_tenant tenant s) ++ flat_map job_events (jobs_of_tenant tenant s)
 
--- all that a script posts: the openings, then job by job the revisions and the closing
+-- all that a script posts: the openings, then job by job the steps and the closing
 abbrev pub script_events : Scripted → List Event
 script_events s = open_events s.jobs ++ flat_map job_events s.jobs
 

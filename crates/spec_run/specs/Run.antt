@@ -13,7 +13,7 @@ use Rattle.spec_job.specs.Models.{AnswersSolve}
 use Rattle.spec_job.specs.Proofs.{AnswersRefute}
 use Rattle.spec_job.specs.Replies.{reply}
 use Rattle.spec_job.specs.Unknown.{AnswersAccountedFor, FedAnswersDecide}
-use Rattle.spec_script.specs.Script.{ScriptedJob, Scripted}
+use Rattle.spec_script.specs.Script.{ScriptedJob, Scripted, revisions}
 use Rattle.spec_run.specs.Complete.{IsComplete, key_of_job, script_events}
 
 -- the text of a reply, nothing where there is none
@@ -28,7 +28,7 @@ replies_from k r s (p ∷ ps) = text_or_none (reply k r s) ++ replies_from k (r 
 
 -- the replies to a job: those of its machine run alone on the job's own events
 abbrev pub job_replies : List Event → ScriptedJob → List ℕ
-job_replies history j = replies_from (key_of_job j) 1 (solo (own (key_of_job j) history)) j.revisions
+job_replies history j = replies_from (key_of_job j) 1 (solo (own (key_of_job j) history)) (revisions j)
 
 -- the replies to a script, job by job in its order
 unfoldable pub replies : Scripted → List Event → List ℕ

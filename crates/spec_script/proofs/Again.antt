@@ -3,6 +3,7 @@ use Rattle.std.proofs.Common.{◌≡◌, ℕ, ◌+◌, ◌<◌, ◌≤◌, ◌^�
 use Rattle.std.specs.List.{list_all, list_any}
 use Rattle.std.specs.Str.{bytes_eq}
 use Rattle.std.proofs.lemmas.Bool.Decides.{nat_tests}
+use Rattle.std.proofs.lemmas.Grind.{flat_map-append}
 use Rattle.std.proofs.lemmas.List.Sums.{sum_by-cons, fold-append}
 use Rattle.mal_base.specs.Asks.{Terms, IsAsk}
 use Rattle.mal_base.specs.Formulas.{Formulated, is_within, is_clause_of, is_within_limits, is_formula, literals_of}
@@ -22,15 +23,17 @@ use Rattle.spec_dimacs.proofs.Behind.{Leads, whole_leads}
 use Rattle.spec_dimacs.proofs.Again.{written_rows}
 use Rattle.spec_dimacs.proofs.Laws.{written_is_read}
 use Rattle.spec_script.specs.Limits.{Limits}
-use Rattle.spec_script.specs.Script.{ScriptedJob, rows_of, spelling}
+use Rattle.spec_script.specs.Script.{ScriptedJob, revisions, revisions_at, revisions_in, rows_of, spelling}
+use Rattle.spec_script.specs.declared.step.Step.{Step}
+use Rattle.spec_script.specs.declared.step.Step.TheVariants.{Revise}
 use Rattle.spec_script.specs.Reading.{OpenJob, Reading, begun, with_revision}
-use Rattle.spec_script.specs.Formed.{with_name, tenants_of, clauses_of, clause_literals, IsJob, MayFollow, MayAllFollow}
-use Rattle.spec_script.specs.Grammar.{Asks, SayProfile, SaysUpTo, formula_of, Revises, ReviseAll, Runs, MakeAll}
+use Rattle.spec_script.specs.Formed.{with_name, tenants_of, clauses_of, clause_literals, is_step, IsJob, MayFollow, MayAllFollow}
+use Rattle.spec_script.specs.Grammar.{Asks, SayProfile, SaysUpTo, formula_of, Revises, StepAll, Runs, MakeAll}
 use Rattle.spec_script.specs.Laws.{WrittenIsSpelled, WrittenIsRead}
 use Rattle.spec_script.proofs.Assumed.{assumptions-again}
 use Rattle.spec_script.proofs.Words.{room-admits}
 use Rattle.spec_script.proofs.Reading.{spelled-read}
-use Rattle.spec_script.proofs.Written.{text-rows, jobs-stand, revision-formula, few-variables, lines_of, job_lines_of, parts_of, parts-lines, clauses-inside}
+use Rattle.spec_script.proofs.Written.{text-rows, jobs-stand, revision-formula, few-variables, lines_of, step_lines_of, job_lines_of, parts_of, parts-lines, clauses-inside}
 
 -- ---- a block
 
@@ -65,7 +68,7 @@ block-again r h = leads-read (formula_rows (formula_in r)) (formula_in r) (writt
 
 -- ---- the revisions of a job
 
-revises : (limits : Limits) (o : OpenJob) (r : Posted) → is_posted r ≡ true → length o.job.revisions < limits.revisions → o.clauses + length r.clauses ≤ 1048576 → o.literals + literals_of r.clauses ≤ 16777216 → Revises limits o (lines_of r) (with_revision o (formula_in r) r.assumptions)
+revises : (limits : Limits) (o : OpenJob) (r : Posted) → is_posted r ≡ true → length (revisions o.job) < limits.revisions → o.clauses + length r.clauses ≤ 1048576 → o.literals + literals_of r.clauses ≤ 16777216 → Revises limits o (lines_of r) (with_revision o (formula_in r) r.assumptions)
 revises limits o r h room few little =
     let form : is_formula (formula_in r) ≡ true = revision-formula r h in
     let low : r.variables ≤ 65536 = few-variables r.variables r.clauses (and-left _ _ form) in
@@ -82,28 +85,29 @@ revises limits o r h room few little =
       revised = refl;
     }
 
--- a job with revisions behind its own
-abbrev with_rest : ScriptedJob → List Posted → ScriptedJob
-with_rest j rs = record { tenant = j.tenant; name = j.name; ask = j.ask; revisions = rs }
+-- a job with these steps in place of its own
+abbrev with_steps : ScriptedJob → List Step → ScriptedJob
+with_steps j steps = record { tenant = j.tenant; name = j.name; ask = j.ask; steps = steps }
 
--- what the lines of revisions make of a job
-record Ended (limits : Limits) (o : OpenJob) (rs : List Posted) : Type 0 where
+-- what the lines of steps make of a job
+record Ended (limits : Limits) (o : OpenJob) (steps : List Step) : Type 0 where
   ended : OpenJob
-  revised : ReviseAll limits o (map lines_of rs) ended
-  job : ended.job ≡ with_rest o.job (o.job.revisions ++ rs)
+  stepped : StepAll limits o (map step_lines_of steps) ended
+  job : ended.job ≡ with_steps o.job (o.job.steps ++ steps)
 
-revise-all : (limits : Limits) (rs : List Posted) (o : OpenJob) → list_all is_posted rs ≡ true → length o.job.revisions + length rs ≤ limits.revisions → o.clauses + clauses_of rs ≤ 1048576 → o.literals + clause_literals rs ≤ 16777216 → Ended limits o rs
-revise-all limits [] o h room few little = record { ended = o; revised = refl; job = ap (with_rest o.job) (sym (append-nil o.job.revisions)) }
-revise-all limits (r ∷ rs) o h room few little =
+step-all : (limits : Limits) (steps : List Step) (o : OpenJob) → list_all is_step steps ≡ true → length (revisions o.job) + length (revisions_in steps) ≤ limits.revisions → o.clauses + clauses_of (revisions_in steps) ≤ 1048576 → o.literals + clause_literals (revisions_in steps) ≤ 16777216 → Ended limits o steps
+step-all limits [] o h room few little = record { ended = o; stepped = refl; job = ap (with_steps o.job) (sym (append-nil o.job.steps)) }
+step-all limits (Revise r ∷ steps) o h room few little =
+    let rs : List Posted = revisions_in steps in
     let next : OpenJob = with_revision o (formula_in r) r.assumptions in
     let more : clauses_of (r ∷ rs) ≡ length r.clauses + clauses_of rs = sum_by-cons (λ (r : Posted). length r.clauses) r rs in
     let longer : clause_literals (r ∷ rs) ≡ literals_of r.clauses + clause_literals rs = sum_by-cons (λ (r : Posted). literals_of r.clauses) r rs in
-    let one : length (o.job.revisions ++ r ∷ []) ≡ length o.job.revisions + 1 = length-append o.job.revisions (r ∷ []) in
-    let rest : Ended limits next rs = revise-all limits rs next (and-right (is_posted r) _ h) (omega arith) (omega arith) (omega arith) in
+    let one : length (revisions next.job) ≡ length (revisions o.job) + 1 = ap length (flat_map-append revisions_at o.job.steps (Revise r ∷ [])) ∙ length-append (revisions o.job) (r ∷ []) in
+    let rest : Ended limits next steps = step-all limits steps next (and-right (is_step (Revise r)) _ h) (omega arith) (omega arith) (omega arith) in
     record {
       ended = rest.ended;
-      revised = (next, revises limits o r (and-left _ _ h) (omega arith) (omega arith) (omega arith), rest.revised);
-      job = rest.job ∙ ap (with_rest o.job) (append_assoc o.job.revisions (r ∷ []) rs);
+      stepped = (next, revises limits o r (and-left _ _ h) (omega arith) (omega arith) (omega arith), rest.stepped);
+      job = rest.job ∙ ap (with_steps o.job) (append_assoc o.job.steps (Revise r ∷ []) steps);
     }
 
 -- ---- the first lines of a job
@@ -148,13 +152,13 @@ tenants-more jobs j = fold-append (λ (names : List (List ℕ)) (j : ScriptedJob
 runs : (limits : Limits) (jobs : List ScriptedJob) (j : ScriptedJob) → MayFollow limits jobs j → Runs limits (reading jobs (with_name (tenants_of jobs) j.tenant) (Some j.tenant)) (job_lines_of j) (reading (jobs ++ j ∷ []) (tenants_of (jobs ++ j ∷ [])) (Some j.tenant))
 runs limits jobs j is =
     let form : IsJob limits j = is.formed in
-    let some : clauses_of j.revisions ≤ 1048576 = form.clauses in
-    let short : clause_literals j.revisions ≤ 16777216 = form.literals in
-    let few : 0 + clauses_of j.revisions ≤ 1048576 = omega arith in
-    let little : 0 + clause_literals j.revisions ≤ 16777216 = omega arith in
-    let free : length j.revisions ≤ limits.revisions = form.few in
-    let room : 0 + length j.revisions ≤ limits.revisions = omega arith in
-    let e : Ended limits (begun j.tenant j.name j.ask) j.revisions = revise-all limits j.revisions (begun j.tenant j.name j.ask) form.formed room few little in
+    let some : clauses_of (revisions j) ≤ 1048576 = form.clauses in
+    let short : clause_literals (revisions j) ≤ 16777216 = form.literals in
+    let few : 0 + clauses_of (revisions j) ≤ 1048576 = omega arith in
+    let little : 0 + clause_literals (revisions j) ≤ 16777216 = omega arith in
+    let free : length (revisions j) ≤ limits.revisions = form.few in
+    let room : 0 + length (revisions j) ≤ limits.revisions = omega arith in
+    let e : Ended limits (begun j.tenant j.name j.ask) j.steps = step-all limits j.steps (begun j.tenant j.name j.ask) form.formed room few little in
     record {
       tenant = j.tenant;
       ask = j.ask;
@@ -163,7 +167,7 @@ runs limits jobs j is =
       name = form.name;
       asks = asked-again j.ask form.ask;
       admitted = room-admits limits j.tenant j.name jobs is.new is.room;
-      revised = e.revised;
+      stepped = e.stepped;
       left = ap₂ (λ (names : List (List ℕ)) (x : ScriptedJob). reading (jobs ++ x ∷ []) names (Some j.tenant)) (tenants-more jobs j) (sym e.job);
     }
 

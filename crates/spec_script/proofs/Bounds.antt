@@ -1,24 +1,27 @@
 -- What is spelled is within the limits.
 use Rattle.std.proofs.Common.{ℕ, ◌<◌, ◌≤◌, List, [], ◌∷◌, ◌++◌, length, sym, subst, arith, length-append}
 use Rattle.std.specs.List.{AllByRecursion}
+use Rattle.std.proofs.lemmas.Grind.{flat_map-append}
 use Rattle.mal_revision.specs.Posted.{Posted}
 use Rattle.spec_script.specs.Limits.{Limits}
-use Rattle.spec_script.specs.Script.{ScriptedJob, Scripted}
+use Rattle.spec_script.specs.Script.{ScriptedJob, Scripted, revisions, revisions_in, revisions_at}
+use Rattle.spec_script.specs.declared.step.Step.{Step}
+use Rattle.spec_script.specs.declared.step.Step.TheVariants.{Revise}
 use Rattle.spec_script.specs.Reading.{Reading, OpenJob, unread, begun, with_job}
-use Rattle.spec_script.specs.Grammar.{RevisionLines, Part, Tenant, Job, ReviseAll, MakeAll, Spells}
+use Rattle.spec_script.specs.Grammar.{StepLines, Revision, Part, Tenant, Job, StepAll, MakeAll, Spells}
 use Rattle.spec_script.specs.Within.{IsWithin}
 
 -- a script as it is after some lines
 abbrev pub script_of : Reading → Scripted
 script_of s = record { jobs = s.jobs }
 
-one-more : (m : ℕ) (xs : List Posted) (x : Posted) → length xs < m → length (xs ++ x ∷ []) ≤ m
-one-more m xs x low = omega (arith, length-append xs (x ∷ []))
+one-more : (m : ℕ) (steps : List Step) (r : Posted) → length (revisions_in steps) < m → length (revisions_in (steps ++ Revise r ∷ [])) ≤ m
+one-more m steps r low = subst (λ (rs : List Posted). length rs ≤ m) (sym (flat_map-append revisions_at steps (Revise r ∷ []))) (omega (arith, length-append (revisions_in steps) (r ∷ [])))
 
-revised-within : (limits : Limits) (rs : List RevisionLines) (o after : OpenJob) → length o.job.revisions ≤ limits.revisions → ReviseAll limits o rs after → length after.job.revisions ≤ limits.revisions
-revised-within limits [] o after low is = subst (λ (x : OpenJob). length x.job.revisions ≤ limits.revisions) is low
-revised-within limits (r ∷ rs) o after low (next, first, others) =
-    revised-within limits rs next after (subst (λ (x : OpenJob). length x.job.revisions ≤ limits.revisions) (sym first.revised) (one-more limits.revisions o.job.revisions _ first.room)) others
+stepped-within : (limits : Limits) (steps : List StepLines) (o after : OpenJob) → length (revisions o.job) ≤ limits.revisions → StepAll limits o steps after → length (revisions after.job) ≤ limits.revisions
+stepped-within limits [] o after low is = subst (λ (x : OpenJob). length (revisions x.job) ≤ limits.revisions) is low
+stepped-within limits (Revision r ∷ steps) o after low (next, first, others) =
+    stepped-within limits steps next after (subst (λ (x : OpenJob). length (revisions x.job) ≤ limits.revisions) (sym first.revised) (one-more limits.revisions o.job.steps _ first.room)) others
 
 all-more : (P : ScriptedJob → Type 0) (js : List ScriptedJob) (j : ScriptedJob) → AllByRecursion P js → P j → AllByRecursion P (js ++ j ∷ [])
 all-more P [] j all own = (own, tt)
@@ -30,8 +33,8 @@ made-within limits (Tenant name ∷ parts) s after low (next, h, others) =
     made-within limits parts next after (subst (λ (x : Reading). IsWithin limits (script_of x)) (sym h.left) low) others
 made-within limits (Job j ∷ parts) s after low (next, is, others) =
     let room : length s.jobs < limits.jobs = is.admitted.few in
-    let few : length is.ended.job.revisions ≤ limits.revisions = revised-within limits j.revisions (begun is.tenant j.name is.ask) is.ended (omega arith) is.revised in
-    let more : IsWithin limits (script_of (with_job s is.ended.job)) = record { jobs = omega (arith, length-append s.jobs (is.ended.job ∷ [])); revisions = all-more (λ j. length j.revisions ≤ limits.revisions) s.jobs is.ended.job low.revisions few } in
+    let few : length (revisions is.ended.job) ≤ limits.revisions = stepped-within limits j.steps (begun is.tenant j.name is.ask) is.ended (omega arith) is.stepped in
+    let more : IsWithin limits (script_of (with_job s is.ended.job)) = record { jobs = omega (arith, length-append s.jobs (is.ended.job ∷ [])); revisions = all-more (λ j. length (revisions j) ≤ limits.revisions) s.jobs is.ended.job low.revisions few } in
     made-within limits parts next after (subst (λ (x : Reading). IsWithin limits (script_of x)) (sym is.left) more) others
 
 pub spelled-within : (limits : Limits) (text : List ℕ) (s : Scripted) → Spells limits text s → IsWithin limits s

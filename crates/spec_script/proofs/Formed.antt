@@ -4,6 +4,7 @@ use Rattle.std.specs.List.{AllByRecursion, list_all, list_any}
 use Rattle.std.specs.Str.{bytes_eq}
 use Rattle.std.proofs.lemmas.List.Folds.{list_all-append}
 use Rattle.std.proofs.lemmas.List.Sums.{sum_by_push}
+use Rattle.std.proofs.lemmas.Grind.{flat_map-append}
 use Rattle.mal_base.specs.Asks.{Terms, IsAsk}
 use Rattle.mal_base.specs.Formulas.{Formulated, is_formula, is_within, literals_of}
 use Rattle.mal_base.specs.Clauses.{rises}
@@ -14,10 +15,12 @@ use Rattle.spec_dimacs.specs.Rows.{is_passed}
 use Rattle.spec_dimacs.specs.Reading.{◌>>=◌, opened, after_rows, ended}
 use Rattle.spec_dimacs.proofs.Led.{led_formula}
 use Rattle.spec_script.specs.Limits.{Limits}
-use Rattle.spec_script.specs.Script.{ScriptedJob}
+use Rattle.spec_script.specs.Script.{ScriptedJob, revisions, revisions_at, revisions_in}
+use Rattle.spec_script.specs.declared.step.Step.{Step}
+use Rattle.spec_script.specs.declared.step.Step.TheVariants.{Revise}
 use Rattle.spec_script.specs.Reading.{OpenJob, Reading, unread, named, is_job, has_room, begun, with_revision}
-use Rattle.spec_script.specs.Formed.{with_name, tenants_of, clauses_of, clause_literals, IsJob, MayFollow, MayAllFollow}
-use Rattle.spec_script.specs.Grammar.{RevisionLines, JobLines, Part, Tenant, Job, Asks, HasRoomFor, Names, is_inside, formula_of, ReviseAll, Runs, MakeAll}
+use Rattle.spec_script.specs.Formed.{with_name, tenants_of, clauses_of, clause_literals, is_step, IsJob, MayFollow, MayAllFollow}
+use Rattle.spec_script.specs.Grammar.{StepLines, Revision, JobLines, Part, Tenant, Job, Asks, HasRoomFor, Names, is_inside, formula_of, StepAll, Runs, MakeAll}
 use Rattle.spec_script.specs.Laws.{SpelledIsScript, SpelledAgain}
 use Rattle.spec_script.proofs.Inversions.{bind_ok}
 use Rattle.spec_script.proofs.Words.{admits-room, profile-read}
@@ -45,40 +48,44 @@ posted f lits = record { variables = f.variables; clauses = f.clauses; assumptio
 revision-formed : (f : Formulated) (lits : List ℕ) → is_formula f ≡ true → (rises lits && is_within f.variables lits) ≡ true → is_posted (posted f lits) ≡ true
 revision-formed f lits form formed = and-both _ _ form formed
 
--- ---- the revisions of a job
+-- ---- the steps of a job
 
--- a job of which some revisions are read
+-- a job of which some steps are read
 record Fits (limits : Limits) (tenant name : List ℕ) (ask : Terms) (o : OpenJob) : Type 0 where
   tenant_is : o.job.tenant ≡ tenant
   name_is : o.job.name ≡ name
   ask_is : o.job.ask ≡ ask
-  few : length o.job.revisions ≤ limits.revisions
-  formed : list_all is_posted o.job.revisions ≡ true
-  clauses : o.clauses ≡ clauses_of o.job.revisions
-  literals : o.literals ≡ clause_literals o.job.revisions
+  few : length (revisions o.job) ≤ limits.revisions
+  formed : list_all is_step o.job.steps ≡ true
+  clauses : o.clauses ≡ clauses_of (revisions o.job)
+  literals : o.literals ≡ clause_literals (revisions o.job)
   few_clauses : o.clauses ≤ 1048576
   few_literals : o.literals ≤ 16777216
 
-fits-more : (limits : Limits) (tenant name : List ℕ) (ask : Terms) (o : OpenJob) (f : Formulated) (lits : List ℕ) → Fits limits tenant name ask o → length o.job.revisions < limits.revisions → is_posted (posted f lits) ≡ true → HasRoomFor o f → Fits limits tenant name ask (with_revision o f lits)
+-- the revisions of a job with one more behind its steps
+with-one : (j : ScriptedJob) (r : Posted) → revisions_in (j.steps ++ Revise r ∷ []) ≡ revisions j ++ r ∷ []
+with-one j r = flat_map-append revisions_at j.steps (Revise r ∷ [])
+
+fits-more : (limits : Limits) (tenant name : List ℕ) (ask : Terms) (o : OpenJob) (f : Formulated) (lits : List ℕ) → Fits limits tenant name ask o → length (revisions o.job) < limits.revisions → is_posted (posted f lits) ≡ true → HasRoomFor o f → Fits limits tenant name ask (with_revision o f lits)
 fits-more limits tenant name ask o f lits is room form low = record {
   tenant_is = is.tenant_is;
   name_is = is.name_is;
   ask_is = is.ask_is;
-  few = let one : length (o.job.revisions ++ posted f lits ∷ []) ≡ length o.job.revisions + 1 = length-append o.job.revisions (posted f lits ∷ []) in omega arith;
-  formed = list_all-append is_posted o.job.revisions (posted f lits ∷ []) ∙ and-both _ _ is.formed (and-both _ _ form refl);
-  clauses = ap (λ (n : ℕ). n + length f.clauses) is.clauses ∙ sym (sum_by_push (λ (r : Posted). length r.clauses) o.job.revisions (posted f lits));
-  literals = ap (λ (n : ℕ). n + literals_of f.clauses) is.literals ∙ sym (sum_by_push (λ (r : Posted). literals_of r.clauses) o.job.revisions (posted f lits));
+  few = let one : length (revisions (with_revision o f lits).job) ≡ length (revisions o.job) + 1 = ap length (with-one o.job (posted f lits)) ∙ length-append (revisions o.job) (posted f lits ∷ []) in omega arith;
+  formed = list_all-append is_step o.job.steps (Revise (posted f lits) ∷ []) ∙ and-both _ _ is.formed (and-both _ _ form refl);
+  clauses = ap (λ (n : ℕ). n + length f.clauses) is.clauses ∙ sym (ap clauses_of (with-one o.job (posted f lits)) ∙ sum_by_push (λ (r : Posted). length r.clauses) (revisions o.job) (posted f lits));
+  literals = ap (λ (n : ℕ). n + literals_of f.clauses) is.literals ∙ sym (ap clause_literals (with-one o.job (posted f lits)) ∙ sum_by_push (λ (r : Posted). literals_of r.clauses) (revisions o.job) (posted f lits));
   few_clauses = low.clauses;
   few_literals = low.literals;
 }
 
-all-fit : (limits : Limits) (tenant name : List ℕ) (ask : Terms) (rs : List RevisionLines) (o after : OpenJob) → Fits limits tenant name ask o → ReviseAll limits o rs after → Fits limits tenant name ask after
+all-fit : (limits : Limits) (tenant name : List ℕ) (ask : Terms) (steps : List StepLines) (o after : OpenJob) → Fits limits tenant name ask o → StepAll limits o steps after → Fits limits tenant name ask after
 all-fit limits tenant name ask [] o after is same = subst (Fits limits tenant name ask) same is
-all-fit limits tenant name ask (r ∷ rs) o after is (next, one, others) =
+all-fit limits tenant name ask (Revision r ∷ steps) o after is (next, one, others) =
     let form : is_formula one.formula ≡ true = block-formed r.header r.body one.formula one.inside one.spelled in
     let revision : is_posted (posted one.formula one.assumptions) ≡ true = revision-formed one.formula one.assumptions form (assumed-formed one.formula.variables r.assumed one.assumptions one.assumed) in
     let more : Fits limits tenant name ask (with_revision o one.formula one.assumptions) = fits-more limits tenant name ask o one.formula one.assumptions is one.room revision one.fits in
-    all-fit limits tenant name ask rs next after (subst (Fits limits tenant name ask) (sym one.revised) more) others
+    all-fit limits tenant name ask steps next after (subst (Fits limits tenant name ask) (sym one.revised) more) others
 
 -- ---- the ask of a job
 
@@ -142,7 +149,7 @@ follows-last limits jobs (i ∷ js) j h k = (h.0, follows-last limits (jobs ++ i
 job-stands : (limits : Limits) (s : Reading) (j : JobLines) (next : Reading) → Stood limits s → Runs limits s j next → Stood limits next
 job-stands limits s j next is run =
     let start : Fits limits run.tenant j.name run.ask (begun run.tenant j.name run.ask) = record { tenant_is = refl; name_is = refl; ask_is = refl; few = omega arith; formed = refl; clauses = refl; literals = refl; few_clauses = omega arith; few_literals = omega arith } in
-    let fits : Fits limits run.tenant j.name run.ask run.ended = all-fit limits run.tenant j.name run.ask j.revisions (begun run.tenant j.name run.ask) run.ended start run.revised in
+    let fits : Fits limits run.tenant j.name run.ask run.ended = all-fit limits run.tenant j.name run.ask j.steps (begun run.tenant j.name run.ask) run.ended start run.stepped in
     let owner : (is_name run.tenant ≡ true) × (list_any (bytes_eq run.tenant) s.tenants ≡ true) = subst (λ (t : Option (List ℕ)). Owned t s.tenants) run.owned is.last in
     let own : list_any (bytes_eq run.ended.job.tenant) s.tenants ≡ true = ap (λ (t : List ℕ). list_any (bytes_eq t) s.tenants) fits.tenant_is ∙ owner.1 in
     let owners : AreNamed s.tenants (s.jobs ++ run.ended.job ∷ []) = all-named s.tenants s.jobs run.ended.job is.owners own in

@@ -16,9 +16,9 @@ use Rattle.mal_base.specs.declared.line_fault.LineFault.{LineFault}
 use Rattle.mal_base.specs.declared.line_fault.LineFault.TheVariants.{BadLine, Limit}
 use Rattle.spec_script.specs.Limits.{Limits}
 use Rattle.spec_script.specs.Assumptions.{assumptions_in}
-use Rattle.spec_script.specs.Script.{Scripted}
+use Rattle.spec_script.specs.Script.{Scripted, revisions}
 use Rattle.spec_script.specs.Reading.{Reading, OpenJob, in_block, named, asked, profile_in, admitted, going_on, begun, with_block, with_job, with_revision, revised, after_header, after_assumptions, inside_block, inside_job, inside, outside, after_tenant, of_tenant, after_job, after_end, after_counted, after_row, unended, at_end}
-use Rattle.spec_script.specs.Grammar.{RevisionLines, Part, Tenant, Job, revision_lines, job_lines, part_lines, is_inside, ReviseAll, MakeAll}
+use Rattle.spec_script.specs.Grammar.{StepLines, Revision, Part, Tenant, Job, step_lines, job_lines, part_lines, is_inside, StepAll, MakeAll}
 use Rattle.spec_script.proofs.Inversions.{bind_ok, in_block_ok, chosen, passed, same_bytes, ok_is, named_opened, admitted_is, revised_is}
 use Rattle.spec_script.proofs.AssumedForms.{read-assumes}
 use Rattle.spec_script.proofs.Words.{read-admits, read-asks, read-names, read-room}
@@ -31,13 +31,13 @@ pub record Outside (limits : Limits) (rows : List (List (List ℕ))) (s : Readin
   pub made : MakeAll limits s parts after
   pub jobs : r.jobs ≡ after.jobs
 
--- the lines that are left are those of revisions of this job, of its end and of parts
+-- the lines that are left are those of steps of this job, of its end and of parts
 pub record InJob (limits : Limits) (rows : List (List (List ℕ))) (s : Reading) (o : OpenJob) (r : Scripted) : Type 0 where
-  pub revisions : List RevisionLines
+  pub steps : List StepLines
   pub ended : OpenJob
   pub rest : List (List (List ℕ))
-  pub lines : rows ≡ job_lines revisions ++ rest
-  pub revised : ReviseAll limits o revisions ended
+  pub lines : rows ≡ job_lines steps ++ rest
+  pub stepped : StepAll limits o steps ended
   pub outside : Outside limits rest (with_job s ended.job) r
 
 -- the lines that are left are those of this block, of its assumptions, and of the job
@@ -97,10 +97,10 @@ owned-parsed limits (Some tenant) name p d k q rows s t r own e rest =
     let is : going_on s (begun tenant name a.0) ≡ t = admitted_is limits tenant name s a.0 t a.2 in
     let job : InJob limits rows (going_on s (begun tenant name a.0)) (begun tenant name a.0) r = subst (λ (x : Reading). Parsed limits rows x x.opened r) (sym is) rest in
     record {
-      parts = Job (record { name = name; priority = p; demand = d; slices = k; profile = q; revisions = job.revisions }) ∷ job.outside.parts;
+      parts = Job (record { name = name; priority = p; demand = d; slices = k; profile = q; steps = job.steps }) ∷ job.outside.parts;
       after = job.outside.after;
-      lines = ap (λ (x : List (List (List ℕ))). (codes "j" ∷ name ∷ p ∷ d ∷ k ∷ q) ∷ x) (job.lines ∙ ap (λ (x : List (List (List ℕ))). job_lines job.revisions ++ x) job.outside.lines);
-      made = (with_job s job.ended.job, record { tenant = tenant; ask = a.0; ended = job.ended; owned = own; name = h.0; asks = read-asks p d k q a.0 a.1; admitted = read-admits limits tenant name s a.0 t a.2; revised = job.revised; left = refl }, job.outside.made);
+      lines = ap (λ (x : List (List (List ℕ))). (codes "j" ∷ name ∷ p ∷ d ∷ k ∷ q) ∷ x) (job.lines ∙ ap (λ (x : List (List (List ℕ))). job_lines job.steps ++ x) job.outside.lines);
+      made = (with_job s job.ended.job, record { tenant = tenant; ask = a.0; ended = job.ended; owned = own; name = h.0; asks = read-asks p d k q a.0 a.1; admitted = read-admits limits tenant name s a.0 t a.2; stepped = job.stepped; left = refl }, job.outside.made);
       jobs = job.outside.jobs;
     }
 
@@ -126,17 +126,17 @@ regroup body a flat end rest = simp append_assoc
 header-parsed : (limits : Limits) (others : List (List ℕ)) (rows : List (List (List ℕ))) (s t : Reading) (o : OpenJob) (r : Scripted) → (after_header limits (codes "p" ∷ others) o >>= λ after. Ok (going_on s after)) ≡ Ok t → Parsed limits rows t t.opened r → InJob limits ((codes "p" ∷ others) ∷ rows) s o r
 header-parsed limits others rows s t o r e rest =
     let a = bind_ok (after_header limits (codes "p" ∷ others) o) (λ after. Ok (going_on s after)) t e in
-    let c = passed (nat_lt (length o.job.revisions) limits.revisions) (in_block (block.opened (codes "p" ∷ others)) >>= (λ b. Ok (with_block o b))) (Limit Revisions) a.0 a.1 in
+    let c = passed (nat_lt (length (revisions o.job)) limits.revisions) (in_block (block.opened (codes "p" ∷ others)) >>= (λ b. Ok (with_block o b))) (Limit Revisions) a.0 a.1 in
     let d = bind_ok (in_block (block.opened (codes "p" ∷ others))) (λ b. Ok (with_block o b)) a.0 c.1 in
     let is : going_on s (with_block o d.0) ≡ t = ap (λ (x : OpenJob). going_on s x) (ok_is (with_block o d.0) a.0 d.2) ∙ ok_is (going_on s a.0) t a.2 in
     let left : InBlock limits rows (going_on s (with_block o d.0)) (with_block o d.0) d.0 r = subst (λ (x : Reading). Parsed limits rows x x.opened r) (sym is) rest in
     let opened : block.opened (codes "p" ∷ others) ≡ Ok d.0 = in_block_ok (block.opened (codes "p" ∷ others)) d.0 d.1 in
     record {
-      revisions = record { header = others; body = left.body; assumed = left.words } ∷ left.job.revisions;
+      steps = Revision (record { header = others; body = left.body; assumed = left.words }) ∷ left.job.steps;
       ended = left.job.ended;
       rest = left.job.rest;
-      lines = ap (λ (x : List (List (List ℕ))). (codes "p" ∷ others) ∷ x) (left.lines ∙ ap (λ (x : List (List (List ℕ))). left.body ++ (codes "a" ∷ left.words) ∷ x) left.job.lines ∙ sym (regroup left.body (codes "a" ∷ left.words) (flat_map revision_lines left.job.revisions) ((codes "e" ∷ []) ∷ []) left.job.rest));
-      revised = (left.next, record { formula = left.formula; assumptions = left.assumptions; room = ltb-true (length o.job.revisions) limits.revisions c.0; inside = left.inside; spelled = ap (λ (x : Result Block BlockFault). x >>= λ b. after_rows left.body b >>= block.ended) opened ∙ left.spelled; assumed = read-assumes left.formula.variables left.words left.assumptions left.assumed; fits = read-room o left.formula left.assumptions left.next left.revised; revised = sym (revised_is o left.formula left.assumptions left.next left.revised) }, left.job.revised);
+      lines = ap (λ (x : List (List (List ℕ))). (codes "p" ∷ others) ∷ x) (left.lines ∙ ap (λ (x : List (List (List ℕ))). left.body ++ (codes "a" ∷ left.words) ∷ x) left.job.lines ∙ sym (regroup left.body (codes "a" ∷ left.words) (flat_map step_lines left.job.steps) ((codes "e" ∷ []) ∷ []) left.job.rest));
+      stepped = (left.next, record { formula = left.formula; assumptions = left.assumptions; room = ltb-true (length (revisions o.job)) limits.revisions c.0; inside = left.inside; spelled = ap (λ (x : Result Block BlockFault). x >>= λ b. after_rows left.body b >>= block.ended) opened ∙ left.spelled; assumed = read-assumes left.formula.variables left.words left.assumptions left.assumed; fits = read-room o left.formula left.assumptions left.next left.revised; revised = sym (revised_is o left.formula left.assumptions left.next left.revised) }, left.job.stepped);
       outside = left.job.outside;
     }
 
@@ -144,7 +144,7 @@ end-of-job : (limits : Limits) (others : List (List ℕ)) (rows : List (List (Li
 end-of-job limits (word ∷ words) rows s t o r e rest = absurd (cc)
 end-of-job limits [] rows s t o r e rest =
     let is : with_job s o.job ≡ t = ok_is (with_job s o.job) t e in
-    record { revisions = []; ended = o; rest = rows; lines = refl; revised = refl; outside = subst (λ (x : Reading). Parsed limits rows x x.opened r) (sym is) rest }
+    record { steps = []; ended = o; rest = rows; lines = refl; stepped = refl; outside = subst (λ (x : Reading). Parsed limits rows x x.opened r) (sym is) rest }
 
 job-goes-on : (limits : Limits) (first : List ℕ) (others : List (List ℕ)) (rows : List (List (List ℕ))) (s t : Reading) (o : OpenJob) (r : Scripted) → inside_job limits first others o s ≡ Ok t → Parsed limits rows t t.opened r → InJob limits ((first ∷ others) ∷ rows) s o r
 job-goes-on limits first others rows s t o r e rest = elim (chosen (bytes_eq first (codes "p")) (after_header limits (first ∷ others) o >>= (λ after. Ok (going_on s after))) (cond (bytes_eq first (codes "e")) (after_end others o s) (Err BadLine)) (Ok t) e) [
@@ -179,7 +179,7 @@ block-ended limits others rows s t o b r e rest =
       spelled = in_block_ok (block.ended b) c.0 c.1;
       assumed = d.1;
       revised = d.2 ∙ ap (λ (x : OpenJob). Ok x) (sym next);
-      job = record { revisions = job.revisions; ended = job.ended; rest = job.rest; lines = job.lines; revised = job.revised; outside = job.outside };
+      job = record { steps = job.steps; ended = job.ended; rest = job.rest; lines = job.lines; stepped = job.stepped; outside = job.outside };
     }
 
 block-goes-on : (limits : Limits) (first : List ℕ) (others : List (List ℕ)) (rows : List (List (List ℕ))) (s t : Reading) (o : OpenJob) (b : Block) (r : Scripted) → is_passed (first ∷ others) ≡ false → bytes_eq first (codes "a") ≡ false
@@ -203,7 +203,7 @@ block-goes-on limits first others rows s t o b r counts other e rest =
       spelled = ap (λ (x : Result Block BlockFault). (x >>= after_rows left.body) >>= block.ended) after ∙ left.spelled;
       assumed = left.assumed;
       revised = left.revised;
-      job = record { revisions = left.job.revisions; ended = left.job.ended; rest = left.job.rest; lines = left.job.lines; revised = left.job.revised; outside = left.job.outside };
+      job = record { steps = left.job.steps; ended = left.job.ended; rest = left.job.rest; lines = left.job.lines; stepped = left.job.stepped; outside = left.job.outside };
     }
 
 block-parsed : (limits : Limits) (first : List ℕ) (others : List (List ℕ)) (rows : List (List (List ℕ))) (s t : Reading) (o : OpenJob) (b : Block) (r : Scripted) → is_passed (first ∷ others) ≡ false

@@ -17,9 +17,9 @@ use Rattle.mal_base.specs.declared.line_fault.LineFault.{LineFault}
 use Rattle.mal_base.specs.declared.line_fault.LineFault.TheVariants.{BadLine, Limit}
 use Rattle.spec_script.specs.Limits.{Limits}
 use Rattle.spec_script.specs.Assumptions.{assumptions_in}
-use Rattle.spec_script.specs.Script.{ScriptedJob, Scripted}
+use Rattle.spec_script.specs.Script.{ScriptedJob, Scripted, revisions}
 use Rattle.spec_script.specs.Reading.{Reading, OpenJob, unread, in_block, named, asked, profile_in, admitted, going_on, begun, with_block, with_job, revised, after_assumptions, inside_block, inside, of_tenant, after_counted, after_row, at_end, on_line, read_rows, read_text}
-use Rattle.spec_script.specs.Grammar.{RevisionLines, JobLines, Part, Tenant, Job, revision_lines, job_lines, part_lines, is_inside, Revises, ReviseAll, Runs, MakeAll, Spells}
+use Rattle.spec_script.specs.Grammar.{RevisionLines, StepLines, Revision, JobLines, Part, Tenant, Job, revision_lines, step_lines, job_lines, part_lines, is_inside, Revises, Steps, StepAll, Runs, MakeAll, Spells}
 use Rattle.spec_script.specs.Laws.{SpelledIsRead}
 use Rattle.spec_script.proofs.Inversions.{bind_ok, on_line_ok, ok_is}
 use Rattle.spec_script.proofs.Assumed.{assumes-read}
@@ -96,11 +96,11 @@ run-assumed limits words s o next e f assumptions h k l =
     ∙ ap (λ (x : Result OpenJob LineFault). x >>= λ after. Ok (going_on s after)) l
 
 -- the line of a header
-run-header : (limits : Limits) (header : List (List ℕ)) (s : Reading) (o : OpenJob) (b : Block) → o.block ≡ None → length o.job.revisions < limits.revisions → block.opened (codes "p" ∷ header) ≡ Ok b
+run-header : (limits : Limits) (header : List (List ℕ)) (s : Reading) (o : OpenJob) (b : Block) → o.block ≡ None → length (revisions o.job) < limits.revisions → block.opened (codes "p" ∷ header) ≡ Ok b
     → after_row limits (codes "p" ∷ header) (going_on s o) ≡ Ok (going_on s (with_block o b))
 run-header limits header s o b none room h =
     ap (λ (x : Option Block). inside limits (codes "p") header o x (going_on s o)) none
-    ∙ ap (λ (x : Bool). cond x (in_block (block.opened (codes "p" ∷ header)) >>= (λ b. Ok (with_block o b))) (Err (Limit Revisions)) >>= λ after. Ok (going_on s after)) (lt-ltb (length o.job.revisions) limits.revisions room)
+    ∙ ap (λ (x : Bool). cond x (in_block (block.opened (codes "p" ∷ header)) >>= (λ b. Ok (with_block o b))) (Err (Limit Revisions)) >>= λ after. Ok (going_on s after)) (lt-ltb (length (revisions o.job)) limits.revisions room)
     ∙ ap (λ (x : Result Block BlockFault). (in_block x >>= (λ b. Ok (with_block o b))) >>= λ after. Ok (going_on s after)) h
 
 run-revision : (limits : Limits) (r : RevisionLines) (rest : List (List (List ℕ))) (s : Reading) (o next : OpenJob) → o.block ≡ None → Revises limits o r next
@@ -113,15 +113,21 @@ run-revision limits r rest s o next none is =
     ∙ run-body limits r.body ((codes "a" ∷ r.assumed) ∷ rest) s o a.0 c.0 is.inside c.1
     ∙ ap (λ (x : Result Reading LineFault). x >>= run limits rest) (run-assumed limits r.assumed s o next c.0 is.formula is.assumptions c.2 (assumes-read is.formula.variables r.assumed is.assumptions is.assumed) (room-read o is.formula is.assumptions is.fits ∙ ap (λ (x : OpenJob). Ok x) (sym is.revised)))
 
-run-revisions : (limits : Limits) (rs : List RevisionLines) (rest : List (List (List ℕ))) (s : Reading) (o ended : OpenJob) → o.block ≡ None → ReviseAll limits o rs ended
-    → run limits (job_lines rs ++ rest) (going_on s o) ≡ run limits rest (with_job s ended.job)
-run-revisions limits [] rest s o ended none is =
+-- a step, behind which no block has begun
+run-step : (limits : Limits) (step : StepLines) (rest : List (List (List ℕ))) (s : Reading) (o next : OpenJob) → o.block ≡ None → Steps limits o step next
+    → (run limits (step_lines step ++ rest) (going_on s o) ≡ run limits rest (going_on s next)) × (next.block ≡ None)
+run-step limits (Revision r) rest s o next none is = (run-revision limits r rest s o next none is, ap (λ (x : OpenJob). x.block) is.revised)
+
+run-steps : (limits : Limits) (steps : List StepLines) (rest : List (List (List ℕ))) (s : Reading) (o ended : OpenJob) → o.block ≡ None → StepAll limits o steps ended
+    → run limits (job_lines steps ++ rest) (going_on s o) ≡ run limits rest (with_job s ended.job)
+run-steps limits [] rest s o ended none is =
     ap (λ (x : Option Block). inside limits (codes "e") [] o x (going_on s o) >>= run limits rest) none
     ∙ ap (λ (x : OpenJob). run limits rest (with_job s x.job)) is
-run-revisions limits (r ∷ rs) rest s o ended none (next, first, others) =
-    ap (λ (x : List (List (List ℕ))). run limits x (going_on s o)) (shape (revision_lines r) (flat_map revision_lines rs) ((codes "e" ∷ []) ∷ []) rest)
-    ∙ run-revision limits r (job_lines rs ++ rest) s o next none first
-    ∙ run-revisions limits rs rest s next ended (ap (λ (x : OpenJob). x.block) first.revised) others
+run-steps limits (step ∷ steps) rest s o ended none (next, first, others) =
+    let one = run-step limits step (job_lines steps ++ rest) s o next none first in
+    ap (λ (x : List (List (List ℕ))). run limits x (going_on s o)) (shape (step_lines step) (flat_map step_lines steps) ((codes "e" ∷ []) ∷ []) rest)
+    ∙ one.0
+    ∙ run-steps limits steps rest s next ended one.1 others
   where
     shape : (a b c d : List (List (List ℕ))) → ((a ++ b) ++ c) ++ d ≡ a ++ ((b ++ c) ++ d)
     shape a b c d = simp append_assoc
@@ -151,8 +157,8 @@ run-parts limits (Tenant name ∷ parts) s after r none (next, h, others) jobs =
     ap (λ (x : Result Reading LineFault). x >>= run limits (flat_map part_lines parts)) (run-tenant limits s name next none h.formed (names-read limits name s next h))
     ∙ run-parts limits parts next after r (ap (λ (x : Reading). x.opened) h.left ∙ none) others jobs
 run-parts limits (Job j ∷ parts) s after r none (next, is, others) jobs =
-    ap (λ (x : Result Reading LineFault). x >>= run limits (job_lines j.revisions ++ flat_map part_lines parts)) (run-job limits s j next none is)
-    ∙ run-revisions limits j.revisions (flat_map part_lines parts) s (begun is.tenant j.name is.ask) is.ended refl is.revised
+    ap (λ (x : Result Reading LineFault). x >>= run limits (job_lines j.steps ++ flat_map part_lines parts)) (run-job limits s j next none is)
+    ∙ run-steps limits j.steps (flat_map part_lines parts) s (begun is.tenant j.name is.ask) is.ended refl is.stepped
     ∙ ap (λ (x : Reading). run limits (flat_map part_lines parts) x) (sym is.left)
     ∙ run-parts limits parts next after r (ap (λ (x : Reading). x.opened) is.left) others jobs
 

@@ -17,9 +17,11 @@ use Rattle.spec_dimacs.proofs.Numbers.{number-not_word}
 use Rattle.spec_dimacs.proofs.Behind.{counted_of, keeps_row}
 use Rattle.spec_dimacs.proofs.Again.{rows_again, clause_lits, words-lits, lits_within, closed_row, header_row, closed_counts, literal_again}
 use Rattle.spec_script.specs.Limits.{Limits}
-use Rattle.spec_script.specs.Script.{ScriptedJob, revision_rows, tenant_words, job_words, job_rows}
-use Rattle.spec_script.specs.Formed.{IsJob, MayAllFollow}
-use Rattle.spec_script.specs.Grammar.{RevisionLines, JobLines, Part, Tenant, Job, revision_lines, part_lines, is_inside}
+use Rattle.spec_script.specs.Script.{ScriptedJob, revision_rows, step_rows, tenant_words, job_words, job_rows}
+use Rattle.spec_script.specs.declared.step.Step.{Step}
+use Rattle.spec_script.specs.declared.step.Step.TheVariants.{Revise}
+use Rattle.spec_script.specs.Formed.{is_step, IsJob, MayAllFollow}
+use Rattle.spec_script.specs.Grammar.{RevisionLines, StepLines, Revision, JobLines, Part, Tenant, Job, step_lines, part_lines, is_inside}
 
 -- a line that can be written, and that counts
 abbrev pub Stands : List (List ℕ) → Type 0
@@ -68,9 +70,12 @@ revision-stands r h =
           (((omega arith, ((omega arith, (omega arith, tt)), words.1)), refl), tt),
     )
 
-revisions-stand : (rs : List Posted) → list_all is_posted rs ≡ true → AllByRecursion Stands (flat_map revision_rows rs)
-revisions-stand [] h = tt
-revisions-stand (r ∷ rs) h = all-both (revision_rows r) (flat_map revision_rows rs) (revision-stands r (and-left _ _ h)) (revisions-stand rs (and-right (is_posted r) _ h))
+step-stands : (step : Step) → is_step step ≡ true → AllByRecursion Stands (step_rows step)
+step-stands (Revise r) h = revision-stands r h
+
+steps-stand : (steps : List Step) → list_all is_step steps ≡ true → AllByRecursion Stands (flat_map step_rows steps)
+steps-stand [] h = tt
+steps-stand (step ∷ steps) h = all-both (step_rows step) (flat_map step_rows steps) (step-stands step (and-left _ _ h)) (steps-stand steps (and-right (is_step step) _ h))
 
 -- ---- the lines of a job
 
@@ -84,7 +89,7 @@ end-stands : Stands (codes "e" ∷ [])
 end-stands = ((omega arith, ((omega arith, (omega arith, tt)), tt)), refl)
 
 job-stands : (limits : Limits) (j : ScriptedJob) → IsJob limits j → AllByRecursion Stands (job_rows j)
-job-stands limits j is = (tenant-stands j.tenant is.tenant, (terms-stand limits j is.name, all-both (flat_map revision_rows j.revisions) ((codes "e" ∷ []) ∷ []) (revisions-stand j.revisions is.formed) (end-stands, tt)))
+job-stands limits j is = (tenant-stands j.tenant is.tenant, (terms-stand limits j is.name, all-both (flat_map step_rows j.steps) ((codes "e" ∷ []) ∷ []) (steps-stand j.steps is.formed) (end-stands, tt)))
 
 pub jobs-stand : (limits : Limits) (jobs js : List ScriptedJob) → MayAllFollow limits jobs js → AllByRecursion Stands (flat_map job_rows js)
 jobs-stand limits jobs [] h = tt
@@ -95,20 +100,26 @@ jobs-stand limits jobs (j ∷ js) (first, others) = all-both (job_rows j) (flat_
 abbrev pub lines_of : Posted → RevisionLines
 lines_of r = record { header = codes "cnf" ∷ decimal_word r.variables ∷ decimal_word (length r.clauses) ∷ []; body = map clause_words r.clauses; assumed = closed_words r.assumptions }
 
+abbrev pub step_lines_of : Step → StepLines
+step_lines_of (Revise r) = Revision (lines_of r)
+
 abbrev pub job_lines_of : ScriptedJob → JobLines
-job_lines_of j = record { name = j.name; priority = decimal_word j.ask.priority; demand = decimal_word j.ask.demand; slices = decimal_word j.ask.slices; profile = profile_words j.ask.profile; revisions = map lines_of j.revisions }
+job_lines_of j = record { name = j.name; priority = decimal_word j.ask.priority; demand = decimal_word j.ask.demand; slices = decimal_word j.ask.slices; profile = profile_words j.ask.profile; steps = map step_lines_of j.steps }
 
 abbrev pub parts_of : List ScriptedJob → List Part
 parts_of [] = []
 parts_of (j ∷ js) = Tenant j.tenant ∷ Job (job_lines_of j) ∷ parts_of js
 
-revisions-lines : (rs : List Posted) → flat_map revision_lines (map lines_of rs) ≡ flat_map revision_rows rs
-revisions-lines [] = refl
-revisions-lines (r ∷ rs) = ap (λ (rest : List (List (List ℕ))). revision_rows r ++ rest) (revisions-lines rs)
+step-lines : (step : Step) → step_lines (step_lines_of step) ≡ step_rows step
+step-lines (Revise r) = refl
+
+steps-lines : (steps : List Step) → flat_map step_lines (map step_lines_of steps) ≡ flat_map step_rows steps
+steps-lines [] = refl
+steps-lines (step ∷ steps) = ap₂ (λ (first rest : List (List (List ℕ))). first ++ rest) (step-lines step) (steps-lines steps)
 
 pub parts-lines : (js : List ScriptedJob) → flat_map part_lines (parts_of js) ≡ flat_map job_rows js
 parts-lines [] = refl
-parts-lines (j ∷ js) = ap₂ (λ (x y : List (List (List ℕ))). tenant_words j.tenant ∷ job_words j.name j.ask ∷ ((x ++ (codes "e" ∷ []) ∷ []) ++ y)) (revisions-lines j.revisions) (parts-lines js)
+parts-lines (j ∷ js) = ap₂ (λ (x y : List (List (List ℕ))). tenant_words j.tenant ∷ job_words j.name j.ask ∷ ((x ++ (codes "e" ∷ []) ∷ []) ++ y)) (steps-lines j.steps) (parts-lines js)
 
 -- ---- the lines of clauses stand in a block
 

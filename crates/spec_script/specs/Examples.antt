@@ -1,4 +1,4 @@
-use Rattle.std.specs.Prelude.{◌≡◌, ℕ, List, [], ◌∷◌, ◌++◌, codes, Some, None, Ok, Err}
+use Rattle.std.specs.Prelude.{◌≡◌, ℕ, List, [], ◌∷◌, ◌++◌, map, codes, Some, None, Ok, Err}
 use Rattle.mal_base.specs.declared.limit_kind.LimitKind.TheVariants.{Tenants, Jobs, Revisions}
 use Rattle.mal_revision.specs.Posted.{Posted}
 use Rattle.mal_base.specs.declared.block_fault.BlockFault.TheVariants.{VarTooLarge, ClauseCount}
@@ -6,18 +6,19 @@ use Rattle.mal_base.specs.declared.line_fault.LineFault.TheVariants.{BadLine, Di
 use Rattle.spec_script.specs.Limits.{Limits, served}
 use Rattle.spec_script.specs.Reading.{read_text}
 use Rattle.spec_script.specs.Script.{ScriptedJob, Scripted, spelling}
+use Rattle.spec_script.specs.declared.step.Step.TheVariants.{Revise}
 
 -- the job of tenant a with this profile, this name and these revisions
 abbrev pub job_under : ℕ → List ℕ → List Posted → ScriptedJob
-job_under profile name revisions = record { tenant = codes "a"; name = name; ask = record { priority = 1; demand = 1; slices = 4; profile = profile }; revisions = revisions }
+job_under profile name rs = record { tenant = codes "a"; name = name; ask = record { priority = 1; demand = 1; slices = 4; profile = profile }; steps = map Revise rs }
 
 -- that of profile 1
 abbrev pub job_named : List ℕ → List Posted → ScriptedJob
-job_named name revisions = job_under 1 name revisions
+job_named name rs = job_under 1 name rs
 
 -- the job p of tenant a with these revisions
 abbrev pub job_with : List Posted → Scripted
-job_with revisions = record { jobs = job_named (codes "p") revisions ∷ [] }
+job_with rs = record { jobs = job_named (codes "p") rs ∷ [] }
 
 -- the job p of tenant a with profile 2 and no revision
 abbrev pub second_profile : Scripted

@@ -1,12 +1,14 @@
 -- Scripts in form: those that are read from a text.
-use Rattle.std.specs.Prelude.{◌≡◌, ℕ, ◌≤◌, true, false, List, [], ◌∷◌, ◌++◌, length, bytes_eq, if◌then◌else◌, fold, sum_by}
+use Rattle.std.specs.Prelude.{◌≡◌, ℕ, ◌≤◌, Bool, true, false, List, [], ◌∷◌, ◌++◌, length, bytes_eq, if◌then◌else◌, fold, sum_by}
 use Rattle.std.specs.List.{list_all, list_any}
 use Rattle.mal_base.specs.Asks.{IsAsk}
 use Rattle.mal_base.specs.Formulas.{literals_of}
 use Rattle.mal_base.specs.Names.{is_name}
 use Rattle.mal_revision.specs.Posted.{Posted, is_posted}
 use Rattle.spec_script.specs.Limits.{Limits}
-use Rattle.spec_script.specs.Script.{ScriptedJob, Scripted}
+use Rattle.spec_script.specs.Script.{ScriptedJob, Scripted, revisions}
+use Rattle.spec_script.specs.declared.step.Step.{Step}
+use Rattle.spec_script.specs.declared.step.Step.TheVariants.{Revise}
 use Rattle.spec_script.specs.Reading.{is_job, has_room}
 
 -- names with one more, where it is not among them
@@ -19,22 +21,26 @@ tenants_of jobs = fold (λ names j. with_name names j.tenant) [] jobs
 
 -- the clauses of revisions
 abbrev pub clauses_of : List Posted → ℕ
-clauses_of revisions = sum_by (λ r. length r.clauses) revisions
+clauses_of rs = sum_by (λ r. length r.clauses) rs
 
 -- the literals of the clauses of revisions
 abbrev pub clause_literals : List Posted → ℕ
-clause_literals revisions = sum_by (λ r. literals_of r.clauses) revisions
+clause_literals rs = sum_by (λ r. literals_of r.clauses) rs
 
--- a job in form: both names and the ask are, and its revisions are as many as there may be, with 2^20 clauses and 2^24
--- literals in all
+-- a step in form
+abbrev pub is_step : Step → Bool
+is_step (Revise r) = is_posted r
+
+-- a job in form: both names, the ask and the steps are, and its revisions are as many as there may be, with 2^20 clauses
+-- and 2^24 literals in all
 pub record IsJob (limits : Limits) (j : ScriptedJob) : Type 0 where
   pub tenant : is_name j.tenant ≡ true
   pub name : is_name j.name ≡ true
   pub ask : IsAsk j.ask
-  pub few : length j.revisions ≤ limits.revisions
-  pub formed : list_all is_posted j.revisions ≡ true
-  pub clauses : clauses_of j.revisions ≤ 1048576
-  pub literals : clause_literals j.revisions ≤ 16777216
+  pub few : length (revisions j) ≤ limits.revisions
+  pub formed : list_all is_step j.steps ≡ true
+  pub clauses : clauses_of (revisions j) ≤ 1048576
+  pub literals : clause_literals (revisions j) ≤ 16777216
 
 -- a job that may follow these: it is in form, its tenant has no job of this name, and with it there are not too many
 -- jobs, jobs of the tenant and tenants

@@ -13,7 +13,7 @@ use Rattle.spec_dimacs.specs.Rows.{is_passed, counted_rows}
 use Rattle.spec_dimacs.specs.Reading as block
 use Rattle.spec_dimacs.specs.Reading.{◌>>=◌}
 use Rattle.spec_script.specs.Limits.{Limits}
-use Rattle.spec_script.specs.Script.{ScriptedJob, Scripted}
+use Rattle.spec_script.specs.Script.{ScriptedJob, Scripted, revisions}
 use Rattle.spec_script.specs.Formed.{with_name}
 use Rattle.spec_script.specs.Reading.{OpenJob, Reading, unread, is_of, is_job, begun, with_revision, with_job}
 
@@ -23,15 +23,19 @@ pub record RevisionLines : Type 0 where
   pub body : List (List (List ℕ))
   pub assumed : List (List ℕ)
 
+-- the lines of a step: those of a revision
+pub data StepLines : Type 0 where
+  Revision : RevisionLines → StepLines
+
 -- the lines of a job: the words of its first line, of which that of the profile may be left out, and the lines of its
--- revisions
+-- steps
 pub record JobLines : Type 0 where
   pub name : List ℕ
   pub priority : List ℕ
   pub demand : List ℕ
   pub slices : List ℕ
   pub profile : List (List ℕ)
-  pub revisions : List RevisionLines
+  pub steps : List StepLines
 
 -- a part of a script: the line of a tenant's name, or the lines of a job
 pub data Part : Type 0 where
@@ -42,14 +46,18 @@ pub data Part : Type 0 where
 abbrev pub revision_lines : RevisionLines → List (List (List ℕ))
 revision_lines r = (codes "p" ∷ r.header) ∷ (r.body ++ (codes "a" ∷ r.assumed) ∷ [])
 
--- the words of the lines of a job's revisions and of its end
-abbrev pub job_lines : List RevisionLines → List (List (List ℕ))
-job_lines rs = flat_map revision_lines rs ++ (codes "e" ∷ []) ∷ []
+-- the words of the lines of a step
+abbrev pub step_lines : StepLines → List (List (List ℕ))
+step_lines (Revision r) = revision_lines r
+
+-- the words of the lines of a job's steps and of its end
+abbrev pub job_lines : List StepLines → List (List (List ℕ))
+job_lines steps = flat_map step_lines steps ++ (codes "e" ∷ []) ∷ []
 
 -- the words of the lines of a part
 abbrev pub part_lines : Part → List (List (List ℕ))
 part_lines (Tenant name) = (codes "t" ∷ name ∷ []) ∷ []
-part_lines (Job j) = (codes "j" ∷ j.name ∷ j.priority ∷ j.demand ∷ j.slices ∷ j.profile) ∷ job_lines j.revisions
+part_lines (Job j) = (codes "j" ∷ j.name ∷ j.priority ∷ j.demand ∷ j.slices ∷ j.profile) ∷ job_lines j.steps
 
 -- a line begins with the word `a`
 abbrev pub is_assumed : List (List ℕ) → Bool
@@ -111,17 +119,21 @@ pub record HasRoomFor (o : OpenJob) (formula : Formulated) : Type 0 where
 pub record Revises (limits : Limits) (o : OpenJob) (r : RevisionLines) (after : OpenJob) : Type 0 where
   pub formula : Formulated
   pub assumptions : List ℕ
-  pub room : length o.job.revisions < limits.revisions
+  pub room : length (revisions o.job) < limits.revisions
   pub inside : list_all is_inside r.body ≡ true
   pub spelled : formula_of r.header r.body ≡ Ok formula
   pub assumed : Assumes formula.variables r.assumed assumptions
   pub fits : HasRoomFor o formula
   pub revised : after ≡ with_revision o formula assumptions
 
--- lines of several revisions, one behind another
-abbrev pub ReviseAll : Limits → OpenJob → List RevisionLines → OpenJob → Type 0
-ReviseAll limits o [] after = o ≡ after
-ReviseAll limits o (r ∷ rs) after = (next : OpenJob) × Revises limits o r next × ReviseAll limits next rs after
+-- what the lines of a step make of a job
+abbrev pub Steps : Limits → OpenJob → StepLines → OpenJob → Type 0
+Steps limits o (Revision r) after = Revises limits o r after
+
+-- what the lines of several steps make of a job, one behind another
+abbrev pub StepAll : Limits → OpenJob → List StepLines → OpenJob → Type 0
+StepAll limits o [] after = o ≡ after
+StepAll limits o (step ∷ steps) after = (next : OpenJob) × Steps limits o step next × StepAll limits next steps after
 
 -- the lines of a job make one more job, of the tenant that was named last
 pub record Runs (limits : Limits) (s : Reading) (j : JobLines) (after : Reading) : Type 0 where
@@ -132,7 +144,7 @@ pub record Runs (limits : Limits) (s : Reading) (j : JobLines) (after : Reading)
   pub name : is_name j.name ≡ true
   pub asks : Asks j.priority j.demand j.slices j.profile ask
   pub admitted : Admits limits tenant j.name s.jobs
-  pub revised : ReviseAll limits (begun tenant j.name ask) j.revisions ended
+  pub stepped : StepAll limits (begun tenant j.name ask) j.steps ended
   pub left : after ≡ with_job s ended.job
 
 -- what the lines of a part make of a script

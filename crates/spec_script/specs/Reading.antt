@@ -14,7 +14,8 @@ use Rattle.spec_dimacs.specs.Reading.{Block, ◌>>=◌}
 use Rattle.mal_base.specs.declared.line_fault.LineFault.{LineFault}
 use Rattle.mal_base.specs.declared.line_fault.LineFault.TheVariants.{BadLine, Dimacs, Duplicate, Range, Limit}
 use Rattle.spec_script.specs.Limits.{Limits}
-use Rattle.spec_script.specs.Script.{ScriptedJob, Scripted}
+use Rattle.spec_script.specs.Script.{ScriptedJob, Scripted, revisions}
+use Rattle.spec_script.specs.declared.step.Step.TheVariants.{Revise}
 use Rattle.spec_script.specs.Assumptions.{assumptions_in}
 
 -- a job that has begun: what is read of it, the clauses and the literals of its revisions, and the block that has begun
@@ -94,7 +95,7 @@ has_room limits tenant jobs = nat_lt (count_by (is_of tenant) jobs) limits.jobs_
 
 -- a job that begins
 abbrev pub begun : List ℕ → List ℕ → Terms → OpenJob
-begun tenant name ask = record { job = record { tenant = tenant; name = name; ask = ask; revisions = [] }; clauses = 0; literals = 0; block = None }
+begun tenant name ask = record { job = record { tenant = tenant; name = name; ask = ask; steps = [] }; clauses = 0; literals = 0; block = None }
 
 -- this job is the one that has begun
 abbrev pub going_on : Reading → OpenJob → Reading
@@ -136,7 +137,7 @@ with_block o b = record o { block = Some b }
 -- after the header of a block
 abbrev pub after_header : Limits → List (List ℕ) → OpenJob → Result OpenJob LineFault
 after_header limits words o =
-    if nat_lt (length o.job.revisions) limits.revisions then in_block (block.opened words) >>= (λ b. Ok (with_block o b)) else
+    if nat_lt (length (revisions o.job)) limits.revisions then in_block (block.opened words) >>= (λ b. Ok (with_block o b)) else
     Err (Limit Revisions)
 
 -- the job with one revision more
@@ -146,7 +147,7 @@ with_revision o f assumptions = record {
     tenant = o.job.tenant;
     name = o.job.name;
     ask = o.job.ask;
-    revisions = o.job.revisions ++ (record { variables = f.variables; clauses = f.clauses; assumptions = assumptions }) ∷ [];
+    steps = o.job.steps ++ Revise (record { variables = f.variables; clauses = f.clauses; assumptions = assumptions }) ∷ [];
   };
   clauses = o.clauses + length f.clauses;
   literals = o.literals + literals_of f.clauses;

@@ -4,13 +4,27 @@ use Rattle.mal_revision.specs.Posted.{Posted}
 use Rattle.spec_text.specs.Asks.{ask_words}
 use Rattle.spec_text.specs.Lines.{text_of}
 use Rattle.spec_dimacs.specs.Written.{closed_words, clause_words, header_words}
+use Rattle.spec_script.specs.declared.step.Step.{Step}
+use Rattle.spec_script.specs.declared.step.Step.TheVariants.{Revise}
 
--- a job of a script: its tenant, its name, its ask and its revisions
+-- a job of a script: its tenant, its name, its ask and its steps
 pub record ScriptedJob : Type 0 where
   pub tenant : List ℕ
   pub name : List ℕ
   pub ask : Terms
-  pub revisions : List Posted
+  pub steps : List Step
+
+-- the revisions that a step posts
+abbrev pub revisions_at : Step → List Posted
+revisions_at (Revise r) = r ∷ []
+
+-- the revisions among steps
+abbrev pub revisions_in : List Step → List Posted
+revisions_in steps = flat_map revisions_at steps
+
+-- the revisions of a job
+abbrev pub revisions : ScriptedJob → List Posted
+revisions j = revisions_in j.steps
 
 -- a script: its jobs, in the order of the text
 pub record Scripted : Type 0 where
@@ -19,6 +33,10 @@ pub record Scripted : Type 0 where
 -- the words of the lines of a revision: the header, a line a clause, and the assumptions
 abbrev pub revision_rows : Posted → List (List (List ℕ))
 revision_rows r = header_words r.variables (length r.clauses) ∷ (map clause_words r.clauses ++ (codes "a" ∷ closed_words r.assumptions) ∷ [])
+
+-- the words of the lines of a step
+abbrev pub step_rows : Step → List (List (List ℕ))
+step_rows (Revise r) = revision_rows r
 
 -- the words of a tenant's line
 abbrev pub tenant_words : List ℕ → List (List ℕ)
@@ -30,7 +48,7 @@ job_words name ask = codes "j" ∷ name ∷ ask_words ask
 
 -- the words of the lines of a job
 abbrev pub job_rows : ScriptedJob → List (List (List ℕ))
-job_rows j = tenant_words j.tenant ∷ job_words j.name j.ask ∷ (flat_map revision_rows j.revisions ++ (codes "e" ∷ []) ∷ [])
+job_rows j = tenant_words j.tenant ∷ job_words j.name j.ask ∷ (flat_map step_rows j.steps ++ (codes "e" ∷ []) ∷ [])
 
 -- the words of the lines of a script
 abbrev pub rows_of : Scripted → List (List (List ℕ))

@@ -1,9 +1,9 @@
 use Rattle.std.specs.Prelude.{◌≤◌, length}
 use Rattle.std.specs.List.{AllByRecursion}
 use Rattle.spec_script.specs.Limits.{Limits}
-use Rattle.spec_script.specs.Script.{Scripted}
+use Rattle.spec_script.specs.Script.{Scripted, revisions}
 
 -- a script has no more jobs, and no job of it more revisions, than the limits say
 pub record IsWithin (limits : Limits) (s : Scripted) : Type 0 where
   pub jobs : length s.jobs ≤ limits.jobs
-  pub revisions : AllByRecursion (λ j. length j.revisions ≤ limits.revisions) s.jobs
+  pub revisions : AllByRecursion (λ j. length (revisions j) ≤ limits.revisions) s.jobs

@@ -2,7 +2,11 @@
 //! text is the first one. Definitions, and the laws about them as the contracts of functions without a body.
 #![tactic(auto)]
 
+mod step;
+
 ghost use Rattle.spec_script.specs.{Differ.{HaveOtherTexts, ScriptsDiffer}, Examples.{HasExamples, ReadingExamples, FaultExamples, LimitExamples}, WordExamples.{WordExamples}, Laws.{SpelledIsRead, SpelledIsWithin, WrittenIsSpelled, WrittenIsRead, SpelledIsScript, SpelledAgain, AskIsRead, AssumptionsAreRead, FaultIsFirst, JobIsAdmitted, RevisionIsRead, TenantIsRead}};
+
+pub use step::Step;
 
 /// The worked examples of a script's text compute to the texts that are known.
 pub fn script_examples()

@@ -11,7 +11,7 @@ fn revisions_of(alloc: Global, text: &[u8]) -> Result<Vec<usize>, Fail> {
     let script = read(alloc, text)?;
     let mut counts = Vec::new(alloc);
     for job in script.jobs() {
-        counts.push(job.revisions().len())?;
+        counts.push(job.revision_count())?;
     }
     Ok(counts)
 }
