@@ -7,7 +7,7 @@ use Rattle.spec_check.specs.Proofs.{Verdict, verdict_of}
 use Rattle.spec_check.specs.Proofs.Verdict.{Verified}
 use Rattle.spec_check.proofs.VerdictLemmas.{verified-refutation}
 use Rattle.spec_claim.specs.Claims.{Claim, read_text}
-use Rattle.spec_claim.specs.FaultLines.{fault_line, verdict_line}
+use Rattle.spec_claim.specs.FaultLines.{verdict_line}
 use Rattle.spec_claim.specs.Grammar.{Spells}
 use Rattle.spec_claim.proofs.ReadLemmas.{spelled-is-read}
 use Rattle.mal_claim.specs.declared.checking.VerifyFault.{VerifyFault}
@@ -17,14 +17,16 @@ use Rattle.mal_claim.specs.declared.fault.ClaimFault.{ClaimFault}
 use Rattle.mal_claim.specs.ReadResult.{TellsVerdict, fault_of, refused, verdict_in}
 use Rattle.mal_answer.specs.Answers.{IsAnswerTo, NoLine}
 use Rattle.mal_answer.specs.Claims.{TellsFault, TellsRefusal, TellsUnproved, IsUnverified}
-use Rattle.mal_answer.specs.Commands.{IsProved, Refuses, Denies}
+use Rattle.mal_answer.specs.Command.{Refuses, Denies}
+use Rattle.mal_answer.specs.Commands.{IsProved, checking, claims}
 use Rattle.mal_answer.specs.declared.answer.Complaint.{Complaint}
 use Rattle.mal_words.specs.declared.request.Request.TheVariants.{Check}
-use Rattle.mal_answer.proofs.Complaints.{fault-refused, denied-as, read-faulty, read-once}
+use Rattle.mal_answer.proofs.Complaints.{denied-as, read-once}
+use Rattle.mal_answer.proofs.Lawful.{are-lawful, fault-answered}
 
 -- a text with a first fault is no claim, and the line tells it
-pub refused-text : (text : List ℕ) (e : ClaimFault) (d : Complaint) → Fails (fault_of e) (read_text text) → TellsFault e d → IsAnswerTo Check text (Err d)
-refused-text text e d h k = fault-refused fault_line (read_text text) (Refuses Check text) (Denies Check text) (λ line fault f t. record { outside = λ is. read-faulty (read_text text) is.0 fault ((spelled-is-read text is.0).0 is.1) f; told = (fault, f, t) }) (fault_of e) d h k
+pub refused-text : (text : List ℕ) (e : ClaimFault) (d : Complaint) → Fails (fault_of e) (read_text text) → TellsFault e d → IsAnswerTo checking text (Err d)
+refused-text text e d h k = fault-answered checking claims (are-lawful Check) (λ text line told. told) text (fault_of e) d h k
 
 -- the verdict that a refusal is
 said-so : Option Verdict → Verdict → Type 0
@@ -58,10 +60,10 @@ proved-claim c e = (verified-refutation c.formula.clauses c.assumptions c.lines)
 one-claim : (text : List ℕ) (c d : Claim) → Spells text c → Spells text d → c ≡ d
 one-claim text c d s t = read-once (read_text text) c d ((spelled-is-read text c).0 s) ((spelled-is-read text d).0 t)
 
-denied-line : (text line : List ℕ) (c : Claim) → Spells text c → TellsUnproved c line → Denies Check text line
+denied-line : (text line : List ℕ) (c : Claim) → Spells text c → TellsUnproved c line → Denies checking text line
 denied-line text line c s h = record { inside = (c, s); unmet = λ m. h.0 (subst IsProved (one-claim text m.0 c m.1 s) m.2); told = (c, s, h.1) }
 
-pub denied-as-text : (text : List ℕ) (c : Claim) (d : Complaint) → Spells text c → IsUnverified c d → IsAnswerTo Check text (Err d)
-denied-as-text text c d s h = denied-as (TellsUnproved c) (Refuses Check text) (Denies Check text) (λ line k. denied-line text line c s k) d h
+pub denied-as-text : (text : List ℕ) (c : Claim) (d : Complaint) → Spells text c → IsUnverified c d → IsAnswerTo checking text (Err d)
+denied-as-text text c d s h = denied-as (TellsUnproved c) (Refuses checking text) (Denies checking text) (λ line k. denied-line text line c s k) d h
 
 pub ruleset denial_lemmas = (refused-text, denied-claim, proved-claim, denied-as-text)

@@ -1,8 +1,10 @@
 -- what crates above cite
 pub mod Complaints
+pub mod Lawful
 pub mod Serving
 pub mod ScriptLemmas
 -- what this crate alone cites
 pub mod Denials
+mod Fronts
 pub mod Counting
 mod Replaying

@@ -4,21 +4,22 @@ use Rattle.mal_base.specs.declared.line_fault.LineFault.{LineFault}
 use Rattle.spec_script.specs.FaultLines.{fault_line}
 use Rattle.spec_script.specs.Limits.{served}
 use Rattle.spec_script.specs.Reading.{read_text}
-use Rattle.spec_script.proofs.Reading.{spelled-read}
 use Rattle.mal_script.specs.declared.fault.ScriptFault.{ScriptFault}
 use Rattle.mal_script.specs.declared.fault.ScriptFault.TheVariants as script
 use Rattle.mal_script.specs.ReadResult.{FailsAt, Tells}
 use Rattle.mal_answer.specs.Answers.{IsAnswerTo, IsScriptRefusal, NoLine, TellsScriptFault}
-use Rattle.mal_answer.specs.Commands.{Refuses, Denies}
+use Rattle.mal_answer.specs.Command.{Refuses, Denies}
+use Rattle.mal_answer.specs.Commands.{running}
 use Rattle.mal_answer.specs.declared.answer.Complaint.{Complaint}
-use Rattle.mal_answer.proofs.Complaints.{refused-as, read-faulty}
+use Rattle.mal_answer.proofs.Complaints.{refused-as}
+use Rattle.mal_answer.proofs.Lawful.{are-lawful, refuses}
 use Rattle.mal_words.specs.declared.request.Request.TheVariants.{Run}
 
 -- a text that has a first fault spells no script, and a line that tells the fault of reading tells the first one
-told : (text line : List ℕ) (n : ℕ) (fault : LineFault) → read_text served text ≡ Err (n, fault) → line ≡ fault_line n fault → Refuses (Run 1) text line
-told text line n fault e f = record { outside = λ is. read-faulty (read_text served text) is.0 (n, fault) (spelled-read served text is.0 is.1) e; told = (n, fault, e, f) }
+told : (text line : List ℕ) (n : ℕ) (fault : LineFault) → read_text served text ≡ Err (n, fault) → line ≡ fault_line n fault → Refuses (running 1) text line
+told text line n fault e f = refuses (running 1) (are-lawful (Run 1)) text line ((n, fault), e, f)
 
-pub told-first : (text line : List ℕ) (e : ScriptFault) → FailsAt e (read_text served text) → Tells e line → Refuses (Run 1) text line
+pub told-first : (text line : List ℕ) (e : ScriptFault) → FailsAt e (read_text served text) → Tells e line → Refuses (running 1) text line
 told-first text line (script.BadLine n) h k = told text line n _ h k
 told-first text line (script.Dimacs n fault) h k = told text line n _ h k
 told-first text line (script.Opposite n var) h k = told text line n _ h k
@@ -29,10 +30,10 @@ told-first text line script.OutOfMemory h k = absurd k
 
 -- what is refused is told
 pub script-refused : (text : List ℕ) (e : ScriptFault) (c : Complaint) → FailsAt e (read_text served text) → TellsScriptFault e c → IsScriptRefusal text c
-script-refused text e c h k = refused-as (Tells e) (Refuses (Run 1) text) NoLine (λ line t. told-first text line e h t) c k
+script-refused text e c h k = refused-as (Tells e) (Refuses (running 1) text) NoLine (λ line t. told-first text line e h t) c k
 
 -- so is a run of it
-pub run-refused : (workers : ℕ) (text : List ℕ) (c : Complaint) → IsScriptRefusal text c → IsAnswerTo (Run workers) text (Err c)
-run-refused workers text c h = refused-as (Refuses (Run 1) text) (Refuses (Run workers) text) (Denies (Run workers) text) (λ line r. record { outside = r.outside; told = r.told }) c h
+pub run-refused : (workers : ℕ) (text : List ℕ) (c : Complaint) → IsScriptRefusal text c → IsAnswerTo (running workers) text (Err c)
+run-refused workers text c h = refused-as (Refuses (running 1) text) (Refuses (running workers) text) (Denies (running workers) text) (λ line r. record { outside = r.outside; told = r.told }) c h
 
 pub ruleset script_lemmas = (script-refused, run-refused)

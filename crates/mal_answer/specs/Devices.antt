@@ -55,10 +55,6 @@ pub record Complained (log out : Device) (line : List ℕ) : Type 0 where
   pub whole : (Failed log → ⊥) → Gained log line
   pub unanswered : Gained out []
 
--- the line for refused words
-abbrev pub usage_line : List ℕ
-usage_line = codes "usage: mal run --workers N, check, replay, gen --seed S --jobs N [--workers W]" ++ 10 ∷ []
-
 -- the line for an input above the limit
 abbrev pub too_long_line : List ℕ
 too_long_line = codes "fault: input too long" ++ 10 ∷ []

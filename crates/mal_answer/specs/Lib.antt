@@ -1,5 +1,6 @@
 pub mod Devices
 pub mod Summaries
+pub mod Command
 pub mod Commands
 pub mod Served
 pub mod Answers

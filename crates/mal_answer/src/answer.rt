@@ -2,19 +2,11 @@
 
 use mal_hall::Hall;
 
-/// The text for the log: the bytes of a history are not made before they are written.
-#[derive(Drop)]
-pub enum LogText {
-    /// No byte.
-    Empty,
-    /// The text of the history of a hall.
-    History(Hall),
-}
-
-/// What a command gives: the text for the log and the text for the output.
+/// What a command gives: the halls whose histories go to the log, one behind the other, and the text for the output. The
+/// bytes of a history are not made before they are written.
 #[derive(Drop)]
 pub struct Texts {
-    pub log: LogText,
+    pub log: Vec<Hall>,
     pub out: Vec<u8>,
 }
 

@@ -1,35 +1,25 @@
 //! Checking the proof of a claim.
 
-ghost use Rattle.std.specs.Prelude.{◌≡◌, ◌<◌, ◌^◌, [], length, IfOk, IfErr, OnOk};
+ghost use Rattle.std.specs.Prelude.{◌≡◌, [], IfOk, IfErr, OnOk};
 ghost use Rattle.mal_claim.specs.ReadResult.{seen};
-ghost use Rattle.mal_answer.specs.{Answers.{IsAnswer, IsAnswerTo, logged}, Commands.{IsProved}, Claims.{TellsFault, TellsRefusal, IsUnverified}, Devices.{device}};
-ghost use Rattle.mal_words.specs.declared.request.Request.TheVariants.{Check};
+ghost use Rattle.mal_answer.specs.{Answers.{IsAnswerTo, logged}, Commands.{IsProved, checking}, Claims.{TellsFault, TellsRefusal, IsUnverified}};
 ghost use Rattle.spec_claim.specs.FaultLines.{verified_line};
 ghost use Rattle.spec_logic.specs.Logic.{IsUnsatisfiable};
 
-use crate::answer::{Complaint, LogText, Texts};
-use crate::reading::input;
+use crate::answer::{Complaint, Texts};
 use mal_claim::{ClaimFault, VerifyFault, fault_line, read, verdict_line, verify};
-use mal_io::Source;
 use std::alloc::{AllocError, Global};
-
-/// Checks the proof of the claim that `source` gives.
-#[tactic(auto, using(crate::proofs::Serving::answer_lemmas))]
-pub fn check_source<S: Source>(alloc: Global, source: &mut S) -> Result<Texts, Complaint>
-    ensures { IsAnswer Check (device S.left S.faults source.old source.new) result }
-{
-    let text = input(alloc, source)?;
-    check_text(alloc, text.as_slice())
-}
 
 /// Checks the proof of the claim that a text spells: nothing for the log, and the line `s VERIFIED` for the output.
 #[tactic(auto, using(crate::proofs::Denials::denial_lemmas))]
-fn check_text(alloc: Global, text: &[u8]) -> Result<Texts, Complaint>
-    requires { length text.now < 2 ^ 63 }
-    ensures { IsAnswerTo Check text.now result }
+pub fn check(alloc: Global, text: Vec<u8>) -> Result<Texts, Complaint>
+    ensures { IsAnswerTo checking text.items result }
 {
-    match read(alloc, text) {
-        Ok(claim) => judge(alloc, claim),
+    match read(alloc, text.as_slice()) {
+        Ok(claim) => {
+            drop(text);
+            judge(alloc, claim)
+        }
         Err(fault) => Err(no_claim(alloc, fault)),
     }
 }
@@ -39,7 +29,7 @@ fn check_text(alloc: Global, text: &[u8]) -> Result<Texts, Complaint>
 fn judge(alloc: Global, claim: mal_claim::Claim) -> Result<Texts, Complaint>
     ensures proved { OnOk result (IsProved (seen claim)) }
     ensures unsatisfiable { OnOk result (IsUnsatisfiable claim.formula.clauses claim.assumptions.items) }
-    ensures texts { IfOk result (λ t. (logged t.log ≡ []) × (t.out.items ≡ verified_line)) }
+    ensures texts { IfOk result (λ t. (logged t.log.items ≡ []) × (t.out.items ≡ verified_line)) }
     ensures denied { IfErr result (λ e. IsUnverified (seen claim) e) }
 {
     let mal_claim::Claim {
@@ -58,10 +48,10 @@ fn judge(alloc: Global, claim: mal_claim::Claim) -> Result<Texts, Complaint>
 
 /// The texts of a verified claim.
 fn verified(alloc: Global) -> Result<Texts, AllocError>
-    ensures { IfOk result (λ t. (logged t.log ≡ []) × (t.out.items ≡ verified_line)) }
+    ensures { IfOk result (λ t. (logged t.log.items ≡ []) × (t.out.items ≡ verified_line)) }
 {
     Ok(Texts {
-        log: LogText::Empty,
+        log: Vec::new(alloc),
         out: Vec::from_slice(alloc, b"s VERIFIED\n")?,
     })
 }

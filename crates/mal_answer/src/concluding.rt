@@ -1,9 +1,9 @@
 //! The statuses, and what is written with each.
 
-ghost use Rattle.std.specs.Prelude.{◌⊎◌, OnOk, OnErr};
+ghost use Rattle.std.specs.Prelude.{◌≡◌, ◌⊎◌, OnOk, OnErr};
 ghost use Rattle.mal_answer.specs.{Answers.{IsConcluded, IsFinished, hall_text, logged}, Devices.{Failed, Gained, GainedFront, WroteWhole, WrotePart, device}};
 
-use crate::answer::{Complaint, LogText, Texts};
+use crate::answer::{Complaint, Texts};
 use mal_hall::Hall;
 use mal_io::{Sink, WriteFault, write_all};
 
@@ -60,7 +60,7 @@ pub fn conclude<K: Sink, L: Sink>(answer: Result<Texts, Complaint>, out: &mut K,
 /// Writes what a command gives: status 0, or 5 where a sink failed.
 fn finish<K: Sink, L: Sink>(texts: &Texts, out: &mut K, log: &mut L) -> u8
     ensures { IsFinished (device L.got L.faults log.old log.new) (device K.got K.faults out.old out.new)
-        (logged texts.now.log) texts.now.out.items result }
+        (logged texts.now.log.items) texts.now.out.items result }
 {
     match write_both(texts, out, log) {
         Ok(()) => DONE,
@@ -72,27 +72,27 @@ fn finish<K: Sink, L: Sink>(texts: &Texts, out: &mut K, log: &mut L) -> u8
 fn write_both<K: Sink, L: Sink>(texts: &Texts, out: &mut K, log: &mut L) -> Result<(), WriteFault>
     ensures whole { OnOk result
         (WroteWhole (device L.got L.faults log.old log.new) (device K.got K.faults out.old out.new)
-        (logged texts.now.log) texts.now.out.items) }
+        (logged texts.now.log.items) texts.now.out.items) }
     ensures part { OnErr result
         (WrotePart (device L.got L.faults log.old log.new) (device K.got K.faults out.old out.new)
-        (logged texts.now.log) texts.now.out.items) }
+        (logged texts.now.log.items) texts.now.out.items) }
     ensures cause { OnErr result
         (Failed (device L.got L.faults log.old log.new) ⊎ Failed (device K.got K.faults out.old out.new)) }
 {
-    write_log(log, &texts.log)?;
+    write_log(log, texts.log.as_slice())?;
     write_all(out, texts.out.as_slice())
 }
 
-/// Writes the text for the log, that of a history line by line.
-fn write_log<L: Sink>(log: &mut L, text: &LogText) -> Result<(), WriteFault>
-    ensures whole { OnOk result (Gained (device L.got L.faults log.old log.new) (logged text.now)) }
-    ensures front { GainedFront (device L.got L.faults log.old log.new) (logged text.now) }
+/// Writes the text for the log, that of each history behind that of the one before it.
+fn write_log<L: Sink>(log: &mut L, halls: &[Hall]) -> Result<(), WriteFault>
+    ensures whole { OnOk result (Gained (device L.got L.faults log.old log.new) (logged halls.now)) }
+    ensures front { GainedFront (device L.got L.faults log.old log.new) (logged halls.now) }
     ensures cause { OnErr result (Failed (device L.got L.faults log.old log.new)) }
 {
-    match text {
-        LogText::Empty => Ok(()),
-        LogText::History(hall) => write_history(log, hall),
+    for hall in halls {
+        write_history(log, hall)?;
     }
+    Ok(())
 }
 
 /// Writes the text of the history of a hall.
@@ -100,6 +100,7 @@ fn write_history<L: Sink>(log: &mut L, hall: &Hall) -> Result<(), WriteFault>
     ensures whole { OnOk result (Gained (device L.got L.faults log.old log.new) (hall_text hall.now)) }
     ensures front { GainedFront (device L.got L.faults log.old log.new) (hall_text hall.now) }
     ensures cause { OnErr result (Failed (device L.got L.faults log.old log.new)) }
+    ensures counted { OnOk result (L.faults log.new ≡ L.faults log.old) }
 {
     mal_history::write_to(log, hall.history())
 }

@@ -11,11 +11,11 @@ mod reading;
 mod scripts;
 mod summary;
 
-pub use answer::{Complaint, LogText, Texts};
-pub use checking::check_source;
+pub use answer::{Complaint, Texts};
+pub use checking::check;
 pub use concluding::{BAD_WORDS, OUT_OF_MEMORY, complain, conclude};
-pub use generating::generated;
-pub use laws::run_replays;
+pub use generating::generate_text;
+pub use laws::{commands_are_lawful, commands_have_own_words, run_replays};
 pub use reading::input;
 pub use scripts::script_of;
 pub use summary::summarized;

@@ -8,17 +8,17 @@ use crate::answer::Complaint;
 use mal_script::{Script, ScriptFault, fault_line, read};
 use std::alloc::Global;
 
-/// The script that a text spells.
+/// The script that a text spells; the text is let go.
 ///
 /// Errors: `Refused` with the line that tells the first fault, exactly where the text spells no script; `OutOfMemory`
 /// at any time.
 #[tactic(auto, using(crate::proofs::ScriptLemmas::script_lemmas))]
-pub fn script_of(alloc: Global, text: &[u8]) -> Result<Script, Complaint>
-    ensures spelled { IfOk result (λ s. Spells served text.now s) }
+pub fn script_of(alloc: Global, text: Vec<u8>) -> Result<Script, Complaint>
+    ensures spelled { IfOk result (λ s. Spells served text.items s) }
     ensures formed { IfOk result (λ s. IsScript served s) }
-    ensures refused { IfErr result (λ e. IsScriptRefusal text.now e) }
+    ensures refused { IfErr result (λ e. IsScriptRefusal text.items e) }
 {
-    match read(alloc, text) {
+    match read(alloc, text.as_slice()) {
         Ok(script) => Ok(script),
         Err(fault) => Err(refusal_of(alloc, fault)),
     }

@@ -10,7 +10,7 @@ use std::alloc::{AllocError, Global};
 
 /// The texts of a run with the summary of its replies in their place.
 pub fn summarized(alloc: Global, jobs: u32, ran: Texts) -> Result<Texts, Complaint>
-    ensures { IsSummaryOf jobs (logged ran.log) ran.out.items result }
+    ensures { IsSummaryOf jobs (logged ran.log.items) ran.out.items result }
 {
     match summary(alloc, jobs, ran.out.as_slice()) {
         Ok(out) => Ok(Texts { log: ran.log, out }),

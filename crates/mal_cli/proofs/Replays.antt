@@ -5,13 +5,14 @@ use Rattle.mal_account.specs.declared.fault.AccountFault.{AccountFault}
 use Rattle.mal_account.specs.ReadResult.{fault_of}
 use Rattle.mal_cli.specs.Accounts.{IsReplayText, IsUnsound, TellsFault, TellsReplay}
 use Rattle.mal_answer.specs.Answers.{IsAnswerTo, NoLine}
-use Rattle.mal_answer.specs.Commands.{IsSound, Refuses, Denies, TellsUnsound}
+use Rattle.mal_answer.specs.Command.{Refuses, Denies}
+use Rattle.mal_answer.specs.Commands.{IsSound, TellsUnsound, accounts, replaying}
 use Rattle.mal_answer.specs.declared.answer.Complaint.{Complaint}
-use Rattle.mal_answer.proofs.Complaints.{fault-refused, denied-as, read-faulty, read-once}
+use Rattle.mal_answer.proofs.Complaints.{denied-as, read-once}
+use Rattle.mal_answer.proofs.Lawful.{are-lawful, fault-answered}
 use Rattle.mal_history.specs.Written.{line_at}
 use Rattle.mal_words.specs.declared.request.Request.TheVariants.{Replay}
 use Rattle.spec_account.specs.Accounts.{Account, read_text}
-use Rattle.spec_account.specs.FaultLines.{fault_line}
 use Rattle.spec_account.specs.Grammar.{Spells}
 use Rattle.spec_account.proofs.ReadLemmas.{spelled-is-read}
 use Rattle.mal_base.specs.declared.replay_fault.ReplayFault.{ReplayFault}
@@ -21,8 +22,8 @@ use Rattle.spec_replay.proofs.ReplayLemmas.{replay-is_decided}
 use Rattle.spec_run.specs.Run.{replies}
 
 -- a text with a first fault is no account, and the line tells it
-pub account-refused : (text : List ℕ) (e : AccountFault) (c : Complaint) → Fails (fault_of e) (read_text text) → TellsFault e c → IsAnswerTo Replay text (Err c)
-account-refused text e c h k = fault-refused fault_line (read_text text) (Refuses Replay text) (Denies Replay text) (λ line fault f t. record { outside = λ is. read-faulty (read_text text) is.0 fault ((spelled-is-read text is.0).0 is.1) f; told = (fault, f, t) }) (fault_of e) c h k
+pub account-refused : (text : List ℕ) (e : AccountFault) (c : Complaint) → Fails (fault_of e) (read_text text) → TellsFault e c → IsAnswerTo replaying text (Err c)
+account-refused text e c h k = fault-answered replaying accounts (are-lawful Replay) (λ text line told. told) text (fault_of e) c h k
 
 -- an account with a fault is not sound
 unsound : (a : Account) (fault : ReplayFault) → IsReplay a.history.workers a.script a.history.events (line_at a.history.lines) (Err fault) → (fault ≡ OutOfMemory → ⊥) → IsSound a → ⊥
@@ -50,13 +51,13 @@ pub replay-denied : (a : Account) (fault : ReplayFault) (c : Complaint) → IsRe
 replay-denied a fault c is t = denied-as (IsReplayText fault) NoLine (TellsUnsound a) (λ line k. told-replay a fault line is k) c t
 
 -- the complaint about an account is that about its text
-denied-line : (text line : List ℕ) (a : Account) → Spells text a → TellsUnsound a line → Denies Replay text line
+denied-line : (text line : List ℕ) (a : Account) → Spells text a → TellsUnsound a line → Denies replaying text line
 denied-line text line a s h =
     let one = λ (b : Account) (t : Spells text b). read-once (read_text text) b a ((spelled-is-read text b).0 t) ((spelled-is-read text a).0 s) in
     record { inside = (a, s); unmet = λ m. unsound-told a line h (subst IsSound (one m.0 m.1) m.2); told = (a, s, h) }
 
-pub denied-as-text : (text : List ℕ) (a : Account) (c : Complaint) → Spells text a → IsUnsound a c → IsAnswerTo Replay text (Err c)
-denied-as-text text a c s h = denied-as (TellsUnsound a) (Refuses Replay text) (Denies Replay text) (λ line k. denied-line text line a s k) c h
+pub denied-as-text : (text : List ℕ) (a : Account) (c : Complaint) → Spells text a → IsUnsound a c → IsAnswerTo replaying text (Err c)
+denied-as-text text a c s h = denied-as (TellsUnsound a) (Refuses replaying text) (Denies replaying text) (λ line k. denied-line text line a s k) c h
 
 pub ruleset judge_lemmas = (replay-denied)
 

@@ -1,10 +1,9 @@
 //! Running the script of a seed.
 
-ghost use Rattle.std.specs.Prelude.{◌<◌, ◌≤◌, ◌^◌, []};
-ghost use Rattle.mal_answer.specs.Answers.{IsAnswerTo};
-ghost use Rattle.mal_words.specs.declared.request.Request.TheVariants.{RunGenerated};
+ghost use Rattle.std.specs.Prelude.{◌<◌, ◌≤◌, ◌^◌, List, ℕ};
+ghost use Rattle.mal_answer.specs.{Answers.{IsAnswerTo}, Commands.{running_generated}};
 
-use crate::running::{run_script, run_script_alone};
+use crate::running::run_script;
 use mal_answer::{Complaint, Texts, summarized};
 use mal_pool::Gate;
 use mal_script::generate;
@@ -12,23 +11,7 @@ use std::alloc::Global;
 use std::sync::Wait;
 use std::thread::Threads;
 
-/// Runs the script of a seed with so many jobs with one worker.
-pub fn run_generated_alone(alloc: Global, seed: u32, jobs: u32) -> Result<Texts, Complaint>
-    requires seed { seed < 2 ^ 31 }
-    requires some { 1 ≤ jobs }
-    requires bound { jobs ≤ 256 }
-    ensures { IsAnswerTo (RunGenerated seed jobs 1) [] result }
-{
-    let Ok(script) = generate(alloc, seed, jobs) else {
-        return Err(Complaint::OutOfMemory);
-    };
-    match run_script_alone(alloc, &script) {
-        Ok(ran) => summarized(alloc, jobs, ran),
-        Err(_) => Err(Complaint::OutOfMemory),
-    }
-}
-
-/// Runs the script of a seed with so many jobs with 2 to 64 workers.
+/// Runs the script of a seed with so many jobs with 1 to 64 workers. It has no input: what it is given stays unread.
 pub fn run_generated<R: Threads + Wait + Sync, G: Gate>(
     rt: &R,
     alloc: Global,
@@ -40,9 +23,9 @@ pub fn run_generated<R: Threads + Wait + Sync, G: Gate>(
     requires seed { seed < 2 ^ 31 }
     requires some { 1 ≤ jobs }
     requires bound { jobs ≤ 256 }
-    requires some_workers { 2 ≤ workers }
+    requires some_workers { 1 ≤ workers }
     requires workers_bound { workers ≤ 64 }
-    ensures { IsAnswerTo (RunGenerated seed jobs workers) [] result }
+    ensures { (text : List ℕ) → IsAnswerTo (running_generated seed jobs workers) text result }
 {
     let Ok(script) = generate(alloc, seed, jobs) else {
         return Err(Complaint::OutOfMemory);

@@ -1,25 +1,21 @@
 //! The program from its words and its devices to its exit status.
 
 ghost use Rattle.std.specs.Prelude.{◌≡◌, ◌⊎◌, map, string_bytes};
-ghost use Rattle.mal_answer.specs.{Devices.{AreSilent, Complained, device, usage_line}, Served.{HasDone, ReadsNothing}};
-ghost use Rattle.mal_cli.specs.Answering.{HasAnswered};
-ghost use Rattle.mal_words.specs.{Requests.{IsRequest, Means, MeansNothing}, declared.request.Request.{Request}};
+ghost use Rattle.mal_answer.specs.{Answers.{IsAnswer, IsAnswerTo}, Commands.{command_of}, Devices.{AreSilent, Complained, device}, Served.{HasDone, ReadsNothing}};
+ghost use Rattle.mal_words.specs.{Requests.{IsRequest, Means, MeansNothing}, Usage.{usage_line}, declared.request.Request.{Request}};
 
-use crate::generating::{run_generated, run_generated_alone};
-use crate::replaying::replay_source;
-use crate::running::{run_source, run_source_alone};
+use crate::generating::run_generated;
+use crate::replaying::replay_text;
+use crate::running::run_text;
 use mal_answer::{
-    BAD_WORDS, Complaint, OUT_OF_MEMORY, Texts, check_source, complain, conclude, generated,
+    BAD_WORDS, Complaint, OUT_OF_MEMORY, Texts, check, complain, conclude, generate_text, input,
 };
 use mal_io::{Sink, Source};
 use mal_pool::Gate;
-use mal_words::{Request, request_of};
+use mal_words::{Request, request_of, usage_line};
 use std::alloc::Global;
 use std::sync::Wait;
 use std::thread::Threads;
-
-const USAGE: &[u8] =
-    b"usage: mal run --workers N, check, replay, gen --seed S --jobs N [--workers W]\n";
 
 /// The program. `words` are its name and its arguments.
 ///
@@ -53,7 +49,7 @@ pub fn top<R: Threads + Wait + Sync, S: Source, K: Sink, L: Sink, G: Gate>(
 ) -> u8
     // What the words ask for is done, and the status says how far.
     ensures done { (r : Request) → Means (map string_bytes words.now) r
-        → HasDone r (device S.left S.faults source.old source.new) (device L.got L.faults log.old log.new)
+        → HasDone (command_of r) (device S.left S.faults source.old source.new) (device L.got L.faults log.old log.new)
         (device K.got K.faults out.old out.new) result }
     // Status 2 comes only where the words ask for nothing, and there nothing else comes, unless memory runs out.
     ensures usage { result ≡ 2 → MeansNothing (map string_bytes words.now) }
@@ -64,13 +60,13 @@ pub fn top<R: Threads + Wait + Sync, S: Source, K: Sink, L: Sink, G: Gate>(
         → AreSilent (device L.got L.faults log.old log.new) (device K.got K.faults out.old out.new) }
     // The source is as before where the words ask for nothing, and where they ask for a script that is made.
     ensures unread { MeansNothing (map string_bytes words.now) → source.new ≡ source.old }
-    ensures made_unread { (r : Request) → Means (map string_bytes words.now) r → ReadsNothing r
+    ensures made_unread { (r : Request) → Means (map string_bytes words.now) r → ReadsNothing (command_of r)
         → source.new ≡ source.old }
 {
     match request_of(alloc, words) {
         Ok(Some(request)) => serve(rt, alloc, request, source, out, log, gate),
         Ok(None) => {
-            complain(log, USAGE);
+            complain(log, usage_line());
             BAD_WORDS
         }
         Err(_) => OUT_OF_MEMORY,
@@ -88,14 +84,15 @@ fn serve<R: Threads + Wait + Sync, S: Source, K: Sink, L: Sink, G: Gate>(
     gate: &G,
 ) -> u8
     requires { IsRequest request }
-    ensures done { HasDone request (device S.left S.faults source.old source.new)
+    ensures done { HasDone (command_of request) (device S.left S.faults source.old source.new)
         (device L.got L.faults log.old log.new) (device K.got K.faults out.old out.new) result }
-    ensures made_unread { ReadsNothing request → source.new ≡ source.old }
+    ensures made_unread { ReadsNothing (command_of request) → source.new ≡ source.old }
 {
     conclude(answer_to(rt, alloc, request, source, gate), out, log)
 }
 
-/// What a command answers.
+/// What a command answers to its input.
+#[tactic(auto, using(crate::proofs::Rules::answer_lemmas))]
 fn answer_to<R: Threads + Wait + Sync, S: Source, G: Gate>(
     rt: &R,
     alloc: Global,
@@ -104,28 +101,33 @@ fn answer_to<R: Threads + Wait + Sync, S: Source, G: Gate>(
     gate: &G,
 ) -> Result<Texts, Complaint>
     requires { IsRequest request }
-    ensures answer { HasAnswered request (device S.left S.faults source.old source.new) result }
-    ensures made_unread { ReadsNothing request → source.new ≡ source.old }
+    ensures answer { IsAnswer (command_of request) (device S.left S.faults source.old source.new) result }
+    ensures made_unread { ReadsNothing (command_of request) → source.new ≡ source.old }
+{
+    let text = input(alloc, request, source)?;
+    answer(rt, alloc, request, text, gate)
+}
+
+/// What a command answers to a text: a line a command.
+fn answer<R: Threads + Wait + Sync, G: Gate>(
+    rt: &R,
+    alloc: Global,
+    request: Request,
+    text: Vec<u8>,
+    gate: &G,
+) -> Result<Texts, Complaint>
+    requires { IsRequest request }
+    ensures { IsAnswerTo (command_of request) text.items result }
 {
     match request {
-        Request::Run { workers } => {
-            if workers == 1 {
-                return run_source_alone(alloc, source);
-            }
-            run_source(rt, alloc, workers, source, gate)
-        }
-        Request::Check => check_source(alloc, source),
-        Request::Replay => replay_source(alloc, source),
-        Request::Generate { seed, jobs } => generated(alloc, seed, jobs),
+        Request::Run { workers } => run_text(rt, alloc, workers, text, gate),
+        Request::Check => check(alloc, text),
+        Request::Replay => replay_text(alloc, text),
+        Request::Generate { seed, jobs } => generate_text(alloc, seed, jobs),
         Request::RunGenerated {
             seed,
             jobs,
             workers,
-        } => {
-            if workers == 1 {
-                return run_generated_alone(alloc, seed, jobs);
-            }
-            run_generated(rt, alloc, seed, jobs, workers, gate)
-        }
+        } => run_generated(rt, alloc, seed, jobs, workers, gate),
     }
 }

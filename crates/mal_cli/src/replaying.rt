@@ -3,36 +3,28 @@
 ghost use Rattle.std.specs.Prelude.{◌≡◌, ◌∷◌, [], codes, IfOk, IfErr, MatchOption};
 ghost use Rattle.mal_account.specs.ReadResult.{seen};
 ghost use Rattle.mal_cli.specs.Accounts.{IsReplayText, IsUnsound, TellsFault, TellsReplay};
-ghost use Rattle.mal_answer.specs.{Answers.{IsAnswer, IsAnswerTo, logged}, Commands.{AreReplies}, Devices.{device}};
-ghost use Rattle.mal_words.specs.declared.request.Request.TheVariants.{Replay};
+ghost use Rattle.mal_answer.specs.{Answers.{IsAnswerTo, logged}, Commands.{AreReplies, replaying}};
 ghost use Rattle.spec_account.specs.FaultLines.{history_line};
 ghost use Rattle.mal_base.specs.declared.replay_fault.ReplayFault.TheVariants.{OutOfMemory};
 ghost use Rattle.spec_text.specs.Lines.{line_of};
 
 use itoa::Buffer;
 use mal_account::{Account, AccountFault, fault_line, read};
-use mal_answer::{Complaint, LogText, Texts, input};
-use mal_io::Source;
+use mal_answer::{Complaint, Texts};
 use mal_replay::{ReplayFault, replay};
 use mal_text::put_line;
 use std::alloc::{AllocError, Global};
 
-/// Replays the history that `source` gives behind its script.
-#[tactic(auto, using(crate::proofs::Rules::answer_lemmas))]
-pub fn replay_source<S: Source>(alloc: Global, source: &mut S) -> Result<Texts, Complaint>
-    ensures { IsAnswer Replay (device S.left S.faults source.old source.new) result }
-{
-    let text = input(alloc, source)?;
-    replay_text(alloc, text.as_slice())
-}
-
 /// Replays the history of the account that a text spells: nothing for the log, and the replies for the output.
 #[tactic(auto, using(crate::proofs::Replays::replay_lemmas))]
-fn replay_text(alloc: Global, text: &[u8]) -> Result<Texts, Complaint>
-    ensures { IsAnswerTo Replay text.now result }
+pub fn replay_text(alloc: Global, text: Vec<u8>) -> Result<Texts, Complaint>
+    ensures { IsAnswerTo replaying text.items result }
 {
-    match read(alloc, text) {
-        Ok(account) => judge(alloc, &account),
+    match read(alloc, text.as_slice()) {
+        Ok(account) => {
+            drop(text);
+            judge(alloc, &account)
+        }
         Err(fault) => Err(no_account(alloc, fault)),
     }
 }
@@ -41,12 +33,12 @@ fn replay_text(alloc: Global, text: &[u8]) -> Result<Texts, Complaint>
 #[tactic(auto, using(crate::proofs::Replays::judge_lemmas))]
 fn judge(alloc: Global, account: &Account) -> Result<Texts, Complaint>
     ensures replies { IfOk result (λ t. AreReplies (seen account.now) t.out.items) }
-    ensures silent { IfOk result (λ t. logged t.log ≡ []) }
+    ensures silent { IfOk result (λ t. logged t.log.items ≡ []) }
     ensures denied { IfErr result (λ e. IsUnsound (seen account.now) e) }
 {
     match replay(alloc, &account.script, &account.history) {
         Ok(out) => Ok(Texts {
-            log: LogText::Empty,
+            log: Vec::new(alloc),
             out,
         }),
         Err(fault) => Err(no_replay(alloc, fault)),

@@ -4,6 +4,7 @@
 use mal_cli::top;
 use mal_io::{MemSink, MemSource, Source, read_all};
 use mal_pool::PlainGate;
+use mal_words::usage_line;
 use std::alloc::{AllocError, Global};
 use std::process::Abort;
 use std::sync::Wait;
@@ -69,10 +70,6 @@ const NONE: Sinks<'static> = Sinks {
     log: WHOLE,
 };
 
-/// The line for refused words.
-const USAGE: &[u8] =
-    b"usage: mal run --workers N, check, replay, gen --seed S --jobs N [--workers W]\n";
-
 /// A script of one job with a revision of no clauses, its log and its reply.
 const SCRIPT: &[u8] = b"t a\nj p 1 1 4\np cnf 0 0\na 0\ne\n";
 
@@ -128,7 +125,7 @@ fn refused_words_leave_the_source_unread(rt: HostRuntime) -> Result<(), Fail> {
     let alloc = rt.alloc();
     let mut source = MemSource::new(SCRIPT, 4, &[]);
     let told = answer_to(&rt, alloc, &["mal", "fly"], &mut source, &NONE)?;
-    told.check(&rt, 2, b"", USAGE)?;
+    told.check(&rt, 2, b"", usage_line())?;
     let left = read_all(alloc, &mut source, 100).expect(&rt, "left");
     assert_eq!(rt; left.as_slice(), SCRIPT);
     Ok(())

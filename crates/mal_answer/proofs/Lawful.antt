@@ -1,0 +1,79 @@
+-- What is known of every command, by its kind.
+use Rattle.std.proofs.Common.{◌≡◌, ℕ, List, true≢false, Err}
+use Rattle.std.specs.Prelude.{Option}
+use Rattle.spec_account.proofs.ReadLemmas.{spelled-is-read as account-read}
+use Rattle.spec_claim.proofs.ReadLemmas.{spelled-is-read as claim-read}
+use Rattle.spec_script.proofs.Reading.{spelled-read as script-read}
+use Rattle.spec_script.specs.Limits.{served}
+use Rattle.spec_text.specs.Faults.{Fails, TellsBy}
+use Rattle.mal_answer.specs.Answers.{Complains, IsAnswerTo, NoLine}
+use Rattle.mal_answer.specs.Command.{Command, Denies, Grammar, IsLawful, IsRead, Refuses, TellsFaultOf, judging, making, reading}
+use Rattle.mal_answer.specs.Commands.{accounts, claims, scripts}
+use Rattle.mal_answer.specs.Laws.{AreLawful, HaveOwnWords}
+use Rattle.mal_answer.specs.declared.answer.Complaint.{Complaint}
+use Rattle.mal_words.proofs.Meanings.{check-words, gen-words, gen_run-words, replay-words, run-words}
+use Rattle.mal_words.specs.Forms.{Form}
+use Rattle.mal_words.specs.declared.request.Request.TheVariants.{Run, Check, Replay, Generate, RunGenerated}
+use Rattle.mal_answer.proofs.Complaints.{fault-refused, read-faulty}
+
+-- a text with a fault spells nothing
+faulty : {V E : Type 0} (g : Grammar V E) → IsRead g → (text line : List ℕ) → TellsFaultOf g text line → (v : V) × g.Spells text v → ⊥
+faulty g law text line told is = read-faulty (g.read text) is.0 told.0 (law text is.0 is.1) told.1
+
+pub reading-lawful : {V E : Type 0} (words : Form) (g : Grammar V E) (Answers : V → List ℕ → List ℕ → Type 0) → IsRead g → IsLawful (reading words g Answers)
+reading-lawful words g Answers law = record {
+  meets = λ text log out a. (a.0, a.1);
+  inside = λ text m. m;
+  outside = λ text line told is. faulty g law text line told is;
+  made = λ e. absurd (true≢false e);
+}
+
+pub judging-lawful : {V E : Type 0} (words : Form) (g : Grammar V E) (IsRight : V → Type 0) (TellsWrong : V → List ℕ → Type 0) (Gives : List ℕ → List ℕ → List ℕ → Type 0) → IsRead g → ((text log out : List ℕ) → Gives text log out → (v : V) × g.Spells text v × IsRight v) → IsLawful (judging words g IsRight TellsWrong Gives)
+judging-lawful words g IsRight TellsWrong Gives law right = record {
+  meets = right;
+  inside = λ text m. (m.0, m.1);
+  outside = λ text line told is. faulty g law text line told is;
+  made = λ e. absurd (true≢false e);
+}
+
+pub making-lawful : (words : Form) (Answers : List ℕ → List ℕ → Type 0) → IsLawful (making words Answers)
+making-lawful words Answers = record {
+  meets = λ text log out a. tt;
+  inside = λ text m. tt;
+  outside = λ text line told is. told;
+  made = λ e. tt;
+}
+
+-- what texts spell is what reading them gives
+pub scripts-read : IsRead scripts
+scripts-read text s is = script-read served text s is
+
+pub claims-read : IsRead claims
+claims-read text c is = (claim-read text c).0 is
+
+pub accounts-read : IsRead accounts
+accounts-read text a is = (account-read text a).0 is
+
+-- so it is for each command of the program
+pub are-lawful : AreLawful
+are-lawful (Run workers) = reading-lawful _ _ _ scripts-read
+are-lawful Check = judging-lawful _ _ _ _ _ claims-read (λ text log out g. (g.0.claim, g.0.spelled, g.0.proved))
+are-lawful Replay = judging-lawful _ _ _ _ _ accounts-read (λ text log out g. (g.0, g.1, (g.2.events, g.2.legal, g.2.complete)))
+are-lawful (Generate seed jobs) = making-lawful _ _
+are-lawful (RunGenerated seed jobs workers) = making-lawful _ _
+
+pub have-own_words : HaveOwnWords
+have-own_words (Run workers) = run-words workers
+have-own_words Check = check-words
+have-own_words Replay = replay-words
+have-own_words (Generate seed jobs) = gen-words seed jobs
+have-own_words (RunGenerated seed jobs workers) = gen_run-words seed jobs workers
+
+-- a line that tells the first fault of a text refuses it
+pub refuses : (c : Command) → IsLawful c → (text line : List ℕ) → c.TellsFirst text line → Refuses c text line
+refuses c law text line told = record { outside = law.outside text line told; told = told }
+
+-- a command answers to a text with a fault by telling it
+pub fault-answered : {V E : Type 0} (c : Command) (g : Grammar V E) → IsLawful c → ((text line : List ℕ) → TellsFaultOf g text line → c.TellsFirst text line) → (text : List ℕ) (fault : Option E) (e : Complaint) → Fails fault (g.read text) → Complains (TellsBy g.line_of fault) NoLine e → IsAnswerTo c text (Err e)
+fault-answered c g law tells text fault e h k =
+    fault-refused g.line_of (g.read text) (Refuses c text) (Denies c text) (λ line f r t. refuses c law text line (tells text line (f, r, t))) fault e h k
