@@ -1,5 +1,5 @@
 -- What is known of every command, by its kind.
-use Rattle.std.proofs.Common.{◌≡◌, ℕ, List, true≢false, Err}
+use Rattle.std.proofs.Common.{ℕ, List, true≢false, Err}
 use Rattle.std.specs.Prelude.{Option}
 use Rattle.spec_account.proofs.ReadLemmas.{spelled-is-read as account-read}
 use Rattle.spec_claim.proofs.ReadLemmas.{spelled-is-read as claim-read}

@@ -4,7 +4,7 @@ use Rattle.std.specs.Prelude.{Option, Some, None}
 use Rattle.std.specs.Io.KnownBytes.{Consumes, IsAtEnd}
 use Rattle.mal_answer.specs.Answers.{IsAnswer, IsAnswerTo, IsConcluded, IsInput, IsMissed, answer_by, logged}
 use Rattle.mal_answer.specs.Command.{Command, IsLawful, Refuses, Denies}
-use Rattle.mal_answer.specs.Devices.{Device, Failed, Gave, GaveTooMuch, AreSilent}
+use Rattle.mal_answer.specs.Devices.{Device, Failed, Gave, GaveTooMuch}
 use Rattle.mal_answer.specs.Served.{Says, IsGiven, IsWithin, IsMet, IsUnmet, IsOutside, HasServed, SaysMade, HasMade, HasDone, done_by}
 use Rattle.mal_answer.specs.declared.answer.Complaint.{Complaint}
 use Rattle.mal_answer.specs.declared.answer.Complaint.TheVariants as complaint
