@@ -1,4 +1,6 @@
-use Rattle.std.proofs.Common.{List, ℕ, map, subst, ap}
+use Rattle.std.proofs.Common.{◌≡◌, List, ℕ, [], ◌∷◌, ◌++◌, ◌∙◌, append-nil, map, subst, ap}
+use Rattle.mal_answer.specs.Answers.{hall_text, logged}
+use Rattle.mal_hall.specs.HallView.{HallView}
 use Rattle.mal_history.specs.Text.{history_text}
 use Rattle.spec_hall.specs.Events.{Event, bare}
 use Rattle.spec_hall.specs.Legal.{Legal}
@@ -7,12 +9,14 @@ use Rattle.mal_cli.proofs.running.texts_of.Goals as goal
 
 pub returns : goal.returns
 returns c = λ workers ran.
-    let history : List Event = c.args.hall.events in
+    let hall : HallView = c.args.hall in
+    let history : List Event = hall.events in
     let legal : Legal workers history = subst (λ (w : ℕ). Legal w history) ran.workers_are ran.legal in
+    let one : c.push_reserved.new.self.items ≡ hall ∷ [] = c.push_reserved.ensures.items ∙ ap (λ (halls : List HallView). halls ++ hall ∷ []) (c.in_ok-reserve.ensures.items ∙ c.new-log.ensures.items) in
     record {
       legal = legal;
       complete = ran.complete;
-      log_text = ap (λ (w : ℕ). history_text w (map bare history)) ran.workers_are;
+      log_text = ap (λ (halls : List HallView). logged halls) one ∙ (append-nil (hall_text hall) ∙ ap (λ (w : ℕ). history_text w (map bare history)) ran.workers_are);
       out_text = c.in_ok-out.ensures;
       evident = evident_by_law workers history legal;
     }
