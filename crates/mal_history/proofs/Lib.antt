@@ -1,6 +1,7 @@
 -- what crates above cite
 pub mod Rows
 pub mod Again
+pub mod PostLemmas
 -- what this crate alone cites
 mod Texts
 mod Differ

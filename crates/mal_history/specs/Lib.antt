@@ -10,3 +10,4 @@ pub mod Examples
 pub mod Own
 pub mod ReadResult
 pub mod Pieced
+pub mod Posts

@@ -9,6 +9,7 @@ mod line;
 mod numbers;
 mod owned;
 mod pieced;
+mod post;
 mod reading;
 mod writing;
 
@@ -17,5 +18,6 @@ pub use fault::HistoryFault;
 pub use history::History;
 pub use laws::{histories_differ, reading_examples, spelled_is_read, written_is_read};
 pub use owned::own;
+pub use post::{PostKind, PostLine};
 pub use reading::read;
 pub use writing::{write, write_to};

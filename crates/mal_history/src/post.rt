@@ -1,0 +1,52 @@
+//! Which post of a tenant an event is.
+
+ghost use Rattle.std.specs.Prelude.{◌≡◌, ◌↔◌, IsTrue};
+ghost use Rattle.mal_history.specs.Posts.{event_of, post_of};
+
+use crate::event::Event;
+use mal_base::{Ask, Name};
+
+/// What a tenant posts of a job, as it is written down: without its contents.
+#[derive(Clone, Copy, Debug, PartialEq, Eq)]
+pub struct PostLine {
+    pub tenant: Name,
+    pub job: Name,
+    pub kind: PostKind,
+}
+
+/// What is posted of a job: it is opened, its revision of a number is posted, or it is closed.
+#[derive(Clone, Copy, Debug, PartialEq, Eq)]
+pub enum PostKind {
+    Opening(Ask),
+    Revision(u32),
+    Closing,
+}
+
+impl Event {
+    /// Which post the event is: None for what the hall does by itself.
+    pub fn post(&self) -> Option<PostLine>
+        ensures { result ≡ post_of self.now }
+    {
+        let (tenant, job, kind) = match self {
+            Event::Open { tenant, job, ask } => (*tenant, *job, PostKind::Opening(*ask)),
+            Event::Revise {
+                tenant,
+                job,
+                number,
+            } => (*tenant, *job, PostKind::Revision(*number)),
+            Event::Close { tenant, job } => (*tenant, *job, PostKind::Closing),
+            _ => return None,
+        };
+        Some(PostLine { tenant, job, kind })
+    }
+
+    /// Whether the event is this post.
+    pub fn is_post(&self, post: PostLine) -> bool
+        ensures { IsTrue result ↔ (self.now ≡ event_of post) }
+    {
+        match self.post() {
+            Some(own) => own == post,
+            None => false,
+        }
+    }
+}
