@@ -7,7 +7,7 @@ use Rattle.mal_base.specs.declared.hall_fault.ReviseFault.TheVariants as revisin
 use Rattle.mal_hall.specs.declared.desk.Post.{Post}
 use Rattle.mal_hall.specs.declared.desk.PostFault.{PostFault}
 use Rattle.mal_hall.specs.declared.desk.PostFault.TheVariants as faults
-use Rattle.mal_hall.specs.Desks.{HasPosted, event_of}
+use Rattle.mal_hall.specs.Desks.{DeskCall, Posted, HasPosted, event_of}
 use Rattle.spec_hall.specs.Events.{Event}
 
 -- whether a job is not opened for want of memory
@@ -39,3 +39,7 @@ IsRefused workers past p = (fault : PostFault) × (is_want fault ≡ false) × H
 abbrev pub IsOneRefused : ℕ → List Event → List Post → Type 0
 IsOneRefused workers past [] = ⊥
 IsOneRefused workers past (p ∷ ps) = IsRefused workers past p ⊎ IsOneRefused workers (past ++ event_of past p ∷ []) ps
+
+-- the last of these calls is a post that was refused: for want of memory, or for another cause
+abbrev pub EndsRefused : Bool → List DeskCall → Type 0
+EndsRefused want calls = (before : List DeskCall) × (p : Post) × (fault : PostFault) × (is_want fault ≡ want) × (calls ≡ before ++ Posted p (Err fault) ∷ [])

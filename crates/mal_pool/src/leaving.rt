@@ -2,11 +2,11 @@
 
 ghost use Rattle.std.specs.Prelude.{◌≡◌, ◌≤◌, [], ◌∷◌, ◌++◌, length, flat_map, drop, true, false, IfOk};
 ghost use Rattle.mal_hall.specs.Desks.{event_of};
-ghost use Rattle.mal_pool.specs.{Refusals.{IsOneRefused, is_want}, Runs.{job_posts, left_by, of_tenant, posted_on, posts_behind, step_posts}};
+ghost use Rattle.mal_pool.specs.{Refusals.{IsOneRefused}, Runs.{job_posts, left_by, of_tenant, posted_on, posts_behind, step_posts}};
 
-use crate::posting::{Left, step_post};
+use crate::posting::{Left, refused, step_post};
 use mal_base::Name;
-use mal_hall::{CloseFault, Hall, OpenFault, Post, PostFault, ReviseFault};
+use mal_hall::{Hall, Post};
 use mal_script::ScriptJob;
 use std::alloc::AllocError;
 
@@ -131,22 +131,6 @@ fn post_one(hall: &mut Hall, post: Post) -> Result<bool, AllocError>
 {
     match hall.post(post) {
         Ok(()) => Ok(true),
-        Err(fault) => {
-            if wanted(fault) {
-                return Err(AllocError);
-            }
-            Ok(false)
-        }
-    }
-}
-
-/// Whether a post was refused for want of memory.
-fn wanted(fault: PostFault) -> bool
-    ensures { result ≡ is_want fault }
-{
-    match fault {
-        PostFault::Open(OpenFault::OutOfMemory) => true,
-        PostFault::Revise(ReviseFault::OutOfMemory) => true,
-        _ => false,
+        Err(fault) => refused(fault),
     }
 }

@@ -1,13 +1,13 @@
 //! Posting: by a tenant's poster while workers work, and afterwards of what is left.
 
-ghost use Rattle.std.specs.Prelude.{◌≡◌, List, [], ◌∷◌, ◌++◌, map, true, false, OnOk, IfOk};
+ghost use Rattle.std.specs.Prelude.{◌≡◌, List, [], ◌∷◌, ◌++◌, map, true, false, OnOk, OnErr, IfOk};
 ghost use Rattle.mal_hall.specs.Desks.{DeskCall};
 ghost use Rattle.mal_hall.specs.declared.desk.Post.TheVariants as posts;
-ghost use Rattle.mal_pool.specs.Runs.{HasPosted, HasPostedFor, HasPostedOf, IsRefusal, open_post, step_post, taken};
+ghost use Rattle.mal_pool.specs.{Refusals.{EndsRefused, is_want}, Runs.{HasPosted, HasPostedFor, HasPostedOf, IsRefusal, open_post, step_post, taken}};
 
 use crate::board::Board;
 use mal_base::Name;
-use mal_hall::Post;
+use mal_hall::{OpenFault, Post, PostFault, ReviseFault};
 use mal_script::{ScriptJob, Step};
 use std::alloc::AllocError;
 use std::sync::Wait;
@@ -20,16 +20,20 @@ pub struct Left {
     pub posted: usize,
 }
 
-/// Opens all jobs, in the order of the script.
+/// Opens all jobs, in the order of the script: true where each is opened, false where one is refused for another cause
+/// than want of memory.
 pub fn open_all<R: Wait, B: Board>(
     rt: &R,
     board: &B,
     pass: B::Pass,
     jobs: &[ScriptJob],
-) -> (B::Pass, Result<(), AllocError>)
+) -> (B::Pass, Result<bool, AllocError>)
     requires of { B.is_of board.now pass }
     ensures of { B.is_of board.now result.0 }
-    ensures calls { OnOk result.1 (B.calls result.0 ≡ B.calls pass ++ taken (map open_post jobs.now)) }
+    ensures opened { IfOk result.1
+        (λ done. done ≡ true → B.calls result.0 ≡ B.calls pass ++ taken (map open_post jobs.now)) }
+    ensures refused { IfOk result.1 (λ done. done ≡ false → EndsRefused false (B.calls result.0)) }
+    ensures wanting { OnErr result.1 (EndsRefused true (B.calls result.0)) }
 {
     let mut pass = pass;
     for job in jobs {
@@ -40,11 +44,34 @@ pub fn open_all<R: Wait, B: Board>(
         };
         let (back, answer) = board.post(rt, pass, post);
         pass = back;
-        if answer.is_err() {
-            return (pass, Err(AllocError));
+        match answer {
+            Ok(()) => {}
+            Err(fault) => return (pass, refused(fault)),
         }
     }
-    (pass, Ok(()))
+    (pass, Ok(true))
+}
+
+/// What a refused post comes to: want of memory, or false where it was refused for another cause.
+pub fn refused(fault: PostFault) -> Result<bool, AllocError>
+    ensures other { IfOk result (λ done. (done ≡ false) × (is_want fault ≡ false)) }
+    ensures wanting { OnErr result (is_want fault ≡ true) }
+{
+    if wanted(fault) {
+        return Err(AllocError);
+    }
+    Ok(false)
+}
+
+/// Whether a post was refused for want of memory.
+fn wanted(fault: PostFault) -> bool
+    ensures { result ≡ is_want fault }
+{
+    match fault {
+        PostFault::Open(OpenFault::OutOfMemory) => true,
+        PostFault::Revise(ReviseFault::OutOfMemory) => true,
+        _ => false,
+    }
 }
 
 /// Posts the steps and the closing of a tenant's jobs, job by job. Stops at a post that is refused, or for which

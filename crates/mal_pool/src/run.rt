@@ -63,10 +63,9 @@ fn run_locked<S: Size + Send + Sync, R: Threads + Wait + Sync, G: Gate>(
     run_with(rt, alloc, board, OwnCalls::new(), script, workers, gate)
 }
 
-/// Runs a script in threads that share a board, whose hall has so many workers, 1 to 64, and no event yet. Tenants post
-/// and workers work at the same time; what a tenant did not post is posted afterwards, what is out is recalled, and the
-/// hall is driven to its end. A new hall is run on this thread in its place where the board was in use, where a lease
-/// was lost though the gate stopped no worker, and where the history is not complete for the script.
+/// Runs a script over a board, whose hall has so many workers, 1 to 64, and no event yet. With one worker no thread is
+/// made, and the board is given up. With more, tenants post and workers work at the same time, each in a thread where one
+/// can be had. Where what they bring about does not serve, a new hall is run on this thread in its place.
 pub fn run_with<R: Threads + Wait + Sync, B: Board, G: Gate>(
     rt: &R,
     alloc: Global,
@@ -81,22 +80,55 @@ pub fn run_with<R: Threads + Wait + Sync, B: Board, G: Gate>(
     requires bound { workers ≤ 64 }
     requires size { B.workers board ≡ workers }
     ensures run { IfOk result (λ h. HasRun workers script.now h) }
+    ensures sequential { workers ≡ 1 → IfOk result (λ h. IsDriven workers (script_events script.now) h.events) }
     ensures lost { IfOk result (λ h. LosesByStops (G.stops gate.now) h.events) }
 {
-    let (pass, played) = share(rt, alloc, &board, pass, script.jobs(), workers, gate)?;
+    if workers == 1 {
+        drop(pass);
+        drop(board);
+        return run_alone(alloc, script, workers);
+    }
+    match run_shared(rt, alloc, board, pass, script, workers, gate)? {
+        Some(hall) => Ok(hall),
+        None => run_alone(alloc, script, workers),
+    }
+}
+
+/// Lets posters and workers share a board. What a tenant did not post is posted afterwards, what is out is recalled, and
+/// the hall is driven to its end. None where the hall does not serve: where a job was refused, where the board was in
+/// use, where a lease was lost though the gate stopped no worker, and where the history is not complete for the script.
+fn run_shared<R: Threads + Wait + Sync, B: Board, G: Gate>(
+    rt: &R,
+    alloc: Global,
+    board: B,
+    pass: B::Pass,
+    script: &Script,
+    workers: u32,
+    gate: &G,
+) -> Result<Option<Hall>, AllocError>
+    requires of { B.is_of board pass }
+    requires bound { workers ≤ 64 }
+    requires size { B.workers board ≡ workers }
+    ensures run { IfOk result (λ o. IfSome o (λ h. HasRun workers script.now h)) }
+    ensures lost { IfOk result (λ o. IfSome o (λ h. LosesByStops (G.stops gate.now) h.events)) }
+{
+    let Some((pass, played)) = share(rt, alloc, &board, pass, script.jobs(), workers, gate)? else {
+        drop(board);
+        return Ok(None);
+    };
     let stopped = is_stopped(&played);
     let Some(hall) = take_down(alloc, board, pass, played, script.jobs())? else {
-        return run_alone(alloc, script, workers);
+        return Ok(None);
     };
     if has_lost_unasked(hall.history(), stopped) {
         drop(hall);
-        return run_alone(alloc, script, workers);
+        return Ok(None);
     }
     if !has_posts(alloc, &hall, script)? {
         drop(hall);
-        return run_alone(alloc, script, workers);
+        return Ok(None);
     }
-    Ok(hall)
+    Ok(Some(hall))
 }
 
 /// Whether the gate stopped a worker.
@@ -164,7 +196,8 @@ fn drive_twice(alloc: Global, hall: &mut Hall) -> Result<(), AllocError>
     }
 }
 
-/// Opens all jobs, and lets posters and workers play their parts.
+/// Opens all jobs, and lets posters and workers play their parts. None where a job is refused for another cause than want
+/// of memory.
 fn share<R: Threads + Wait + Sync, B: Board, G: Gate>(
     rt: &R,
     alloc: Global,
@@ -173,16 +206,19 @@ fn share<R: Threads + Wait + Sync, B: Board, G: Gate>(
     jobs: &[ScriptJob],
     workers: u32,
     gate: &G,
-) -> Result<(B::Pass, Vec<Played<B::Pass>>), AllocError>
+) -> Result<Option<(B::Pass, Vec<Played<B::Pass>>)>, AllocError>
     requires of { B.is_of board.now pass }
     requires size { B.workers board.now ≡ workers }
     requires bound { workers ≤ 64 }
-    ensures of { IfOk result (λ r. B.is_of board.now r.0) }
+    ensures of { IfOk result (λ o. IfSome o (λ r. B.is_of board.now r.0)) }
     ensures all { IfOk result
-        (λ r. All (λ x. B.is_of board.now x.pass × (x.stopped ≡ true → StopsSomewhere (G.stops gate.now))) r.1.items) }
+        (λ o. IfSome o
+        (λ r. All (λ x. B.is_of board.now x.pass × (x.stopped ≡ true → StopsSomewhere (G.stops gate.now))) r.1.items)) }
 {
     let (pass, opened) = open_all(rt, board, pass, jobs);
-    opened?;
+    if !opened? {
+        return Ok(None);
+    }
     let parts = parts_of(alloc, jobs, workers)?;
     let (pass, roles) = deal(alloc, board, pass, jobs, parts.as_slice())?;
     let played = thread::map_vec(
@@ -195,7 +231,7 @@ fn share<R: Threads + Wait + Sync, B: Board, G: Gate>(
             ensures stopped { result.stopped ≡ true → StopsSomewhere (G.stops gate.entry.now) }
         { play(rt, alloc, board, jobs, gate, role) },
     )?;
-    Ok((pass, played))
+    Ok(Some((pass, played)))
 }
 
 /// A poster for each tenant, and the workers, but no more of them than all jobs together ask for.
