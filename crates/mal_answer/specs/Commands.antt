@@ -13,7 +13,7 @@ use Rattle.spec_claim.specs.Claims.{Claim}
 use Rattle.spec_claim.specs.Claims as claim
 use Rattle.spec_claim.specs.FaultLines as claim_lines
 use Rattle.spec_claim.specs.Grammar as claim_texts
-use Rattle.spec_gen.specs.Generated.{generated}
+use Rattle.spec_script.specs.Generated.{generated}
 use Rattle.spec_hall.specs.Driven.{IsDriven}
 use Rattle.spec_hall.specs.Events.{Event}
 use Rattle.spec_logic.specs.Logic.{IsUnsatisfiable}

@@ -2,7 +2,7 @@
 
 ghost use Rattle.std.specs.Prelude.{◌≡◌, ◌<◌, ◌≤◌, ◌^◌, List, ℕ, IfOk};
 ghost use Rattle.mal_answer.specs.{Answers.{IsAnswerTo}, Commands.{generating}};
-ghost use Rattle.spec_gen.specs.Generated.{generated};
+ghost use Rattle.spec_script.specs.Generated.{generated};
 ghost use Rattle.spec_script.specs.Script.{spelling};
 
 use crate::answer::{Complaint, Texts};

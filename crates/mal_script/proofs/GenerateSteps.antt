@@ -1,13 +1,13 @@
 -- The steps by which a generated script is made.
 use Rattle.std.proofs.Common.{◌≡◌, ℕ, ◌<◌, ◌≤◌, ◌^◌, List, ap, sym, subst}
 use Rattle.mal_script.specs.ReadResult.{of_jobs}
-use Rattle.spec_gen.specs.Generated.{jobs_from}
+use Rattle.spec_script.specs.Generated.{jobs_from}
 use Rattle.spec_script.specs.Formed.{IsScript}
 use Rattle.spec_script.specs.Limits.{served}
 use Rattle.spec_script.specs.Script.{ScriptedJob, Scripted}
-use Rattle.spec_gen.proofs.StepLemmas.{variables-begin, variables-more, variables-end, clauses-more, clauses-end, after-next, after-clauses-end, jobs-more, jobs-end}
-use Rattle.spec_gen.proofs.ScriptLemmas.{generated_script}
-use Rattle.spec_gen.proofs.FormedLemmas.{revision-formed, tenant-formed, name-formed}
+use Rattle.spec_script.proofs.GeneratedSteps.{variables-begin, variables-more, variables-end, clauses-more, clauses-end, after-next, after-clauses-end, jobs-more, jobs-end}
+use Rattle.spec_script.proofs.GeneratedScript.{generated_script}
+use Rattle.spec_script.proofs.GeneratedFormed.{revision-formed, tenant-formed, name-formed}
 
 pub ruleset variable_lemmas = (variables-begin, variables-more, variables-end)
 

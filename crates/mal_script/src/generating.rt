@@ -3,7 +3,7 @@
 ghost use Rattle.std.specs.Prelude.{◌≡◌, ◌<◌, ◌≤◌, ◌^◌, ◌∷◌, true, decimal, length, IfOk, OnOk};
 ghost use Rattle.std.specs.List.{remove, slice_index};
 ghost use Rattle.mal_base.specs.Names.{is_name};
-ghost use Rattle.spec_gen.specs.Generated.{after_clause, after_clauses, after_literals, after_revision, ask_from, clause_from, clauses_from, generated, job_from, literals_from, pick, revision_from, signed, variables};
+ghost use Rattle.spec_script.specs.Generated.{after_clause, after_clauses, after_literals, after_revision, ask_from, clause_from, clauses_from, generated, job_from, literals_from, pick, revision_from, signed, variables};
 ghost use Rattle.spec_script.specs.{Formed.{IsScript}, Limits.{served}};
 ghost use Rattle.spec_seq.specs.Draws.{next};
 

@@ -16,7 +16,6 @@ use Rattle.spec_dimacs.specs.Reading.{◌>>=◌, opened, after_rows, ended}
 use Rattle.spec_dimacs.proofs.Led.{led_formula}
 use Rattle.spec_script.specs.Limits.{Limits}
 use Rattle.spec_script.specs.Script.{ScriptedJob, revisions, revisions_at, revisions_in}
-use Rattle.spec_script.specs.declared.step.Step.{Step}
 use Rattle.spec_script.specs.declared.step.Step.TheVariants.{Revise}
 use Rattle.spec_script.specs.Reading.{OpenJob, Reading, unread, named, is_job, has_room, begun, with_revision}
 use Rattle.spec_script.specs.Formed.{with_name, tenants_of, clauses_of, clause_literals, is_step, IsJob, MayFollow, MayAllFollow}

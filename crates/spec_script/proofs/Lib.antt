@@ -8,6 +8,9 @@ pub mod Written
 pub mod Again
 pub mod AssumedForms
 pub mod Formed
+pub mod GeneratedSteps
+pub mod GeneratedFormed
+pub mod GeneratedScript
 -- what this crate alone cites
 pub mod ExampleLemmas
 mod Words

@@ -10,3 +10,5 @@ pub mod Laws
 pub mod Examples
 pub mod WordExamples
 pub mod Differ
+pub mod Generated
+pub mod GeneratedLaws

@@ -1,11 +1,14 @@
-//! Scripts: their jobs and revisions, the one text that a script is written as, what a text spells and which fault of a
-//! text is the first one. Definitions, and the laws about them as the contracts of functions without a body.
+//! Scripts: their jobs and revisions, the one text that a script is written as, what a text spells, which fault of a text
+//! is the first one, and the scripts that a seed decides. Definitions, and the laws about them as the contracts of
+//! functions without a body.
 #![tactic(auto)]
 
+mod generated;
 mod step;
 
 ghost use Rattle.spec_script.specs.{Differ.{HaveOtherTexts, ScriptsDiffer}, Examples.{HasExamples, ReadingExamples, FaultExamples, LimitExamples}, WordExamples.{WordExamples}, Laws.{SpelledIsRead, SpelledIsWithin, WrittenIsSpelled, WrittenIsRead, SpelledIsScript, SpelledAgain, AskIsRead, AssumptionsAreRead, FaultIsFirst, JobIsAdmitted, RevisionIsRead, TenantIsRead}};
 
+pub use generated::{generated_is_script, generator_examples};
 pub use step::Step;
 
 /// The worked examples of a script's text compute to the texts that are known.

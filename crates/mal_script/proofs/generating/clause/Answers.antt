@@ -1,5 +1,5 @@
 use Rattle.std.proofs.Common.{◌∙◌}
-use Rattle.spec_gen.proofs.FormedLemmas.{clause-value, after-three}
+use Rattle.spec_script.proofs.GeneratedFormed.{clause-value, after-three}
 use Rattle.mal_script.proofs.generating.clause.Goals as goal
 
 pub returns-clause-value : goal.returns-clause-value

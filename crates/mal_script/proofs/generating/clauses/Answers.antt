@@ -1,5 +1,5 @@
 use Rattle.std.proofs.Common.{arith}
-use Rattle.spec_gen.proofs.StepLemmas.{clauses-end}
+use Rattle.spec_script.proofs.GeneratedSteps.{clauses-end}
 use Rattle.mal_script.proofs.generating.clauses.Goals as goal
 
 pub returns-clause-value : goal.returns-clause-value

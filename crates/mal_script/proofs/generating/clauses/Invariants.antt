@@ -1,5 +1,5 @@
 use Rattle.std.proofs.Common.{◌≡◌, ◌-◌, ◌++◌}
-use Rattle.spec_gen.specs.Generated.{clauses_from, after_clauses}
+use Rattle.spec_script.specs.Generated.{clauses_from, after_clauses}
 use Rattle.mal_script.proofs.generating.clauses.Given as goal
 
 abbrev pub invariant-loop-made : goal.invariant-loop-made

@@ -1,6 +1,6 @@
 use Rattle.std.proofs.Common.{◌≡◌, ◌+◌, sym, subst, arith}
-use Rattle.spec_gen.specs.Generated.{jobs_from}
-use Rattle.spec_gen.proofs.StepLemmas.{jobs-end}
+use Rattle.spec_script.specs.Generated.{jobs_from}
+use Rattle.spec_script.proofs.GeneratedSteps.{jobs-end}
 use Rattle.spec_script.specs.Formed.{IsScript}
 use Rattle.spec_script.specs.Limits.{served}
 use Rattle.spec_script.specs.Script.{Scripted}

@@ -1,5 +1,5 @@
 use Rattle.std.proofs.Common.{◌≡◌, ◌+◌, ◌-◌, ◌++◌}
-use Rattle.spec_gen.specs.Generated.{jobs_from}
+use Rattle.spec_script.specs.Generated.{jobs_from}
 use Rattle.mal_script.proofs.generating.generate.Given as goal
 
 abbrev pub invariant-loop-number : goal.invariant-loop-number

@@ -1,6 +1,6 @@
 use Rattle.std.proofs.Common.{arith}
-use Rattle.spec_gen.proofs.FormedLemmas.{left-begin, left-step}
-use Rattle.spec_gen.proofs.StepLemmas.{after-begin, after-literals-end, after-step, literals-begin, literals-end, literals-step}
+use Rattle.spec_script.proofs.GeneratedFormed.{left-begin, left-step}
+use Rattle.spec_script.proofs.GeneratedSteps.{after-begin, after-literals-end, after-step, literals-begin, literals-end, literals-step}
 use Rattle.mal_script.proofs.generating.literals.Goals as goal
 
 pub loop-made-init : goal.loop-made-init

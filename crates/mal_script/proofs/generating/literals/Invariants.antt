@@ -1,5 +1,5 @@
 use Rattle.std.proofs.Common.{◌≡◌, ◌+◌, ◌-◌, ◌++◌, length}
-use Rattle.spec_gen.specs.Generated.{variables, literals_from, after_literals}
+use Rattle.spec_script.specs.Generated.{variables, literals_from, after_literals}
 use Rattle.mal_script.proofs.generating.literals.Given as goal
 
 abbrev pub invariant-loop-made : goal.invariant-loop-made

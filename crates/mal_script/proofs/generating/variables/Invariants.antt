@@ -1,5 +1,5 @@
 use Rattle.std.proofs.Common.{◌≡◌, ◌-◌, ◌++◌}
-use Rattle.spec_gen.specs.Generated.{variables, variables_from}
+use Rattle.spec_script.specs.Generated.{variables, variables_from}
 use Rattle.mal_script.proofs.generating.variables.Given as goal
 
 abbrev pub invariant-loop-number : goal.invariant-loop-number

@@ -17,8 +17,8 @@ use Rattle.spec_dimacs.proofs.Merging.{clause_of-made, clause_of-unique, clause_
 use Rattle.spec_seq.specs.Draws.{next, drawn}
 use Rattle.spec_text.specs.Numbers.{is_digit}
 use Rattle.spec_text.proofs.Numerals.{is_numeral-decimal}
-use Rattle.spec_gen.specs.Generated.{pick, variables, signed, literals_from, after_literals, clause_from, after_clause, clauses_from, revision_from}
-use Rattle.spec_gen.proofs.StepLemmas.{clauses-none, clauses-suc}
+use Rattle.spec_script.specs.Generated.{pick, variables, signed, literals_from, after_literals, clause_from, after_clause, clauses_from, revision_from}
+use Rattle.spec_script.proofs.GeneratedSteps.{clauses-none, clauses-suc}
 
 -- a letter with a number behind it is a name
 or-middle : (p q r : Bool) → q ≡ true → (p || q || r) ≡ true

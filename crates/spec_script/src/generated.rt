@@ -1,8 +1,7 @@
 //! The scripts of the generator, which a seed decides: random formulas of three literals a clause. Definitions, and the
 //! laws about them as the contracts of functions without a body.
-#![tactic(auto)]
 
-ghost use Rattle.spec_gen.specs.Laws.{GeneratedIsScript, HasExamples};
+ghost use Rattle.spec_script.specs.GeneratedLaws.{GeneratedIsScript, HasExamples};
 
 /// The worked examples compute to the values that are known.
 pub fn generator_examples()
@@ -10,7 +9,7 @@ pub fn generator_examples()
 {}
 
 /// A generated script is in form: it is one that is read from a text.
-#[tactic(auto, using(crate::proofs::ScriptLemmas::generated_script))]
+#[tactic(auto, using(crate::proofs::GeneratedScript::generated_script))]
 pub fn generated_is_script()
     ensures { GeneratedIsScript }
 {}

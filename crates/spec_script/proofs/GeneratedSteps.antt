@@ -4,7 +4,7 @@ use Rattle.std.specs.Prelude.{Option}
 use Rattle.std.specs.List.{remove, slice_index}
 use Rattle.spec_script.specs.Script.{ScriptedJob}
 use Rattle.spec_seq.specs.Draws.{next}
-use Rattle.spec_gen.specs.Generated.{pick, variables, variables_from, signed, literals_from, after_literals, clause_from, after_clause, clauses_from, after_clauses, job_from, jobs_from, after_revision}
+use Rattle.spec_script.specs.Generated.{pick, variables, variables_from, signed, literals_from, after_literals, clause_from, after_clause, clauses_from, after_clauses, job_from, jobs_from, after_revision}
 
 pub clauses-none : (x : ℕ) → clauses_from 0 x ≡ []
 unfolding clauses_from

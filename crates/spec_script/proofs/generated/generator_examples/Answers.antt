@@ -1,7 +1,7 @@
 use Rattle.std.proofs.Common.{refl}
 use Rattle.std.specs.Fmt.{digits}
-use Rattle.spec_gen.specs.Generated.{variables}
-use Rattle.spec_gen.proofs.generator_examples.Goals as goal
+use Rattle.spec_script.specs.Generated.{variables}
+use Rattle.spec_script.proofs.generated.generator_examples.Goals as goal
 
 pub returns : goal.returns
 unfolding variables digits

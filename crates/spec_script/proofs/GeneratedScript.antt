@@ -13,9 +13,9 @@ use Rattle.spec_script.specs.Limits.{served}
 use Rattle.spec_script.specs.Reading.{is_of, is_job}
 use Rattle.spec_script.specs.Script.{ScriptedJob}
 use Rattle.spec_seq.specs.Draws.{next}
-use Rattle.spec_gen.specs.Generated.{pick, tenant_of, name_of, ask_from, after_revision, job_from, jobs_from}
-use Rattle.spec_gen.specs.Laws.{GeneratedIsScript}
-use Rattle.spec_gen.proofs.FormedLemmas.{tenant-formed, name-formed, revision-formed, revision-length, revision-literals, pick-below}
+use Rattle.spec_script.specs.Generated.{pick, tenant_of, name_of, ask_from, after_revision, job_from, jobs_from}
+use Rattle.spec_script.specs.GeneratedLaws.{GeneratedIsScript}
+use Rattle.spec_script.proofs.GeneratedFormed.{tenant-formed, name-formed, revision-formed, revision-length, revision-literals, pick-below}
 
 -- the name of a tenant, counted from 0
 abbrev tenant : ℕ → List ℕ

@@ -1,7 +1,7 @@
 use Rattle.std.specs.Prelude.{◌≡◌, ℕ, ◌≤◌, ◌^◌, ◌<◌, [], ◌∷◌, codes}
 use Rattle.spec_script.specs.Formed.{IsScript}
 use Rattle.spec_script.specs.Limits.{served}
-use Rattle.spec_gen.specs.Generated.{generated, literals_from, variables, tenant_of, name_of, ask_from}
+use Rattle.spec_script.specs.Generated.{generated, literals_from, variables, tenant_of, name_of, ask_from}
 use Rattle.spec_seq.specs.Draws.{next}
 
 -- the script of a seed is in form, with 1 to 256 jobs
