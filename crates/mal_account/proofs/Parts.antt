@@ -22,14 +22,14 @@ use Rattle.mal_history.specs.Reading as history
 use Rattle.mal_history.specs.ReadResult as history_given
 use Rattle.mal_history.specs.declared.fault.HistoryFault.{HistoryFault}
 use Rattle.mal_history.specs.declared.fault.HistoryFault.TheVariants as history_fault
-use Rattle.spec_account.specs.Accounts as account
-use Rattle.spec_account.specs.Accounts.{is_history_line, script_rows, history_rows, read_lines, read_text}
-use Rattle.spec_account.specs.Accounts.Fault.{NoHistory}
-use Rattle.spec_account.specs.Grammar.{Spells}
-use Rattle.spec_account.proofs.LineLemmas.{unlines, front-lines, front-taken, front-line, front-more}
-use Rattle.spec_account.proofs.RowLemmas.{some-line, script-front, history-behind, rows-whole}
-use Rattle.spec_account.proofs.ReadLemmas.{spelled-is-read}
-use Rattle.spec_account.proofs.AgainLemmas.{written-is-read}
+use Rattle.mal_account.specs.Accounts as account
+use Rattle.mal_account.specs.Accounts.{is_history_line, script_rows, history_rows, read_lines, read_text}
+use Rattle.mal_account.specs.Accounts.Fault.{NoHistory}
+use Rattle.mal_account.specs.Grammar.{Spells}
+use Rattle.mal_account.proofs.LineLemmas.{unlines, front-lines, front-taken, front-line, front-more}
+use Rattle.mal_account.proofs.RowLemmas.{some-line, script-front, history-behind, rows-whole}
+use Rattle.mal_account.proofs.ReadLemmas.{spelled-is-read}
+use Rattle.mal_account.proofs.AgainLemmas.{written-is-read}
 use Rattle.mal_account.specs.declared.account.Account.{Account}
 use Rattle.mal_account.specs.declared.fault.AccountFault.{AccountFault}
 use Rattle.mal_account.specs.ReadResult.{seen, in_script, in_history, fault_of, Gives}

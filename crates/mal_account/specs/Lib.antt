@@ -1,1 +1,6 @@
+pub mod Accounts
+pub mod Grammar
+pub mod FaultLines
+pub mod Laws
+pub mod Examples
 pub mod ReadResult

@@ -11,8 +11,8 @@ use Rattle.mal_history.specs.Reading as reading
 use Rattle.mal_history.specs.ReadResult as history_given
 use Rattle.mal_history.specs.declared.fault.HistoryFault.{HistoryFault}
 use Rattle.mal_history.specs.declared.fault.HistoryFault.TheVariants as history
-use Rattle.spec_account.specs.Accounts as account
-use Rattle.spec_account.specs.Accounts.Fault.{NoHistory, InScript, InHistory}
+use Rattle.mal_account.specs.Accounts as account
+use Rattle.mal_account.specs.Accounts.Fault.{NoHistory, InScript, InHistory}
 use Rattle.mal_account.specs.declared.account.Account.{Account}
 use Rattle.mal_account.specs.declared.fault.AccountFault.{AccountFault}
 use Rattle.mal_account.specs.declared.fault.AccountFault.TheVariants as answer

@@ -7,8 +7,8 @@ ghost use Rattle.spec_script.specs.Reading as script;
 ghost use Rattle.mal_history.specs.{declared.event.Event.{Event}, Formed.{IsHistory}, Text.{history_text}};
 ghost use Rattle.mal_history.specs.ReadResult as history_given;
 ghost use Rattle.mal_history.specs.Reading as history;
-ghost use Rattle.spec_account.specs.Accounts as spelled;
-ghost use Rattle.spec_account.specs.{Accounts.{in_history, in_script, read_text}, Grammar.{Spells}};
+ghost use Rattle.mal_account.specs.Accounts as spelled;
+ghost use Rattle.mal_account.specs.{Accounts.{in_history, in_script, read_text}, Grammar.{Spells}};
 ghost use Rattle.mal_account.specs.ReadResult.{Gives, IsCut, fault_of, seen};
 
 use crate::account::Account;

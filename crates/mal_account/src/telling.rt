@@ -3,7 +3,7 @@
 ghost use Rattle.std.specs.Prelude.{◌≡◌, [], ◌∷◌, None, codes, IfOk, MatchOption};
 ghost use Rattle.mal_account.specs.ReadResult.{fault_of, in_history, in_script};
 ghost use Rattle.spec_text.specs.{Faults.{TellsBy}, Lines.{line_of}};
-ghost use Rattle.spec_account.specs.FaultLines.{fault_line, history_line};
+ghost use Rattle.mal_account.specs.FaultLines.{fault_line, history_line};
 
 use crate::fault::AccountFault;
 use itoa::Buffer;

@@ -3,13 +3,13 @@ use Rattle.std.proofs.Common.{◌≡◌, ℕ, List, ◌∙◌, ap, sym, subst, E
 use Rattle.std.specs.Prelude.{Option, Some, None}
 use Rattle.spec_text.specs.Faults.{Fails}
 use Rattle.spec_logic.specs.Refutation.{Refusal}
-use Rattle.spec_check.specs.Proofs.{Verdict, verdict_of}
-use Rattle.spec_check.specs.Proofs.Verdict.{Verified}
-use Rattle.spec_check.proofs.VerdictLemmas.{verified-refutation}
-use Rattle.spec_claim.specs.Claims.{Claim, read_text}
-use Rattle.spec_claim.specs.FaultLines.{verdict_line}
-use Rattle.spec_claim.specs.Grammar.{Spells}
-use Rattle.spec_claim.proofs.ReadLemmas.{spelled-is-read}
+use Rattle.mal_claim.specs.Proofs.{Verdict, verdict_of}
+use Rattle.mal_claim.specs.Proofs.Verdict.{Verified}
+use Rattle.mal_claim.proofs.VerdictLemmas.{verified-refutation}
+use Rattle.mal_claim.specs.Claims.{Claim, read_text}
+use Rattle.mal_claim.specs.FaultLines.{verdict_line}
+use Rattle.mal_claim.specs.Grammar.{Spells}
+use Rattle.mal_claim.proofs.ReadLemmas.{spelled-is-read}
 use Rattle.mal_claim.specs.declared.checking.VerifyFault.{VerifyFault}
 use Rattle.mal_claim.specs.declared.checking.VerifyFault.TheVariants as verify
 use Rattle.mal_claim.specs.Verdicts as verdicts

@@ -1,8 +1,8 @@
 -- What is known of every command, by its kind.
 use Rattle.std.proofs.Common.{ℕ, List, true≢false, Err}
 use Rattle.std.specs.Prelude.{Option}
-use Rattle.spec_account.proofs.ReadLemmas.{spelled-is-read as account-read}
-use Rattle.spec_claim.proofs.ReadLemmas.{spelled-is-read as claim-read}
+use Rattle.mal_account.proofs.ReadLemmas.{spelled-is-read as account-read}
+use Rattle.mal_claim.proofs.ReadLemmas.{spelled-is-read as claim-read}
 use Rattle.spec_script.proofs.Reading.{spelled-read as script-read}
 use Rattle.spec_script.specs.Limits.{served}
 use Rattle.spec_text.specs.Faults.{Fails, TellsBy}

@@ -3,10 +3,10 @@ use Rattle.std.proofs.Common.{ℕ, List, ◌++◌, map, codes, refl, sym, subst}
 use Rattle.mal_answer.specs.Laws.{RunReplays}
 use Rattle.mal_history.specs.Formed.{written_read}
 use Rattle.mal_history.specs.Text.{history_text}
-use Rattle.spec_account.specs.Accounts.{Account}
-use Rattle.spec_account.specs.Grammar.{Spells}
-use Rattle.spec_account.proofs.AgainLemmas.{written-is-read}
-use Rattle.spec_account.proofs.ReadLemmas.{spelled-is-read}
+use Rattle.mal_account.specs.Accounts.{Account}
+use Rattle.mal_account.specs.Grammar.{Spells}
+use Rattle.mal_account.proofs.AgainLemmas.{written-is-read}
+use Rattle.mal_account.proofs.ReadLemmas.{spelled-is-read}
 use Rattle.spec_hall.specs.Events.{bare}
 use Rattle.spec_replay.proofs.RunLemmas.{run-is_replied}
 use Rattle.spec_script.specs.Script.{spelling}

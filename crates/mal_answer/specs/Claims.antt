@@ -7,9 +7,9 @@ use Rattle.mal_answer.specs.Answers.{Complains, NoLine}
 use Rattle.mal_answer.specs.Commands.{IsProved}
 use Rattle.mal_answer.specs.declared.answer.Complaint.{Complaint}
 use Rattle.mal_claim.specs.declared.checking.VerifyFault.{VerifyFault}
-use Rattle.spec_check.specs.Proofs.{verdict_of}
-use Rattle.spec_claim.specs.Claims.{Claim}
-use Rattle.spec_claim.specs.FaultLines.{fault_line, verdict_line}
+use Rattle.mal_claim.specs.Proofs.{verdict_of}
+use Rattle.mal_claim.specs.Claims.{Claim}
+use Rattle.mal_claim.specs.FaultLines.{fault_line, verdict_line}
 
 -- the complaint tells the fault of a text, or memory ran out
 abbrev pub TellsFault : ClaimFault → Complaint → Type 0

@@ -4,15 +4,15 @@ use Rattle.mal_history.specs.Written.{line_at}
 use Rattle.mal_words.specs.Forms.{check_form, gen_form, replay_form, run_form}
 use Rattle.mal_words.specs.declared.request.Request.{Request}
 use Rattle.mal_words.specs.declared.request.Request.TheVariants.{Run, Check, Replay, Generate, RunGenerated}
-use Rattle.spec_account.specs.Accounts.{Account}
-use Rattle.spec_account.specs.Accounts as account
-use Rattle.spec_account.specs.FaultLines as account_lines
-use Rattle.spec_account.specs.Grammar as account_texts
-use Rattle.spec_check.specs.Proofs.{bare, verdict_of}
-use Rattle.spec_claim.specs.Claims.{Claim}
-use Rattle.spec_claim.specs.Claims as claim
-use Rattle.spec_claim.specs.FaultLines as claim_lines
-use Rattle.spec_claim.specs.Grammar as claim_texts
+use Rattle.mal_account.specs.Accounts.{Account}
+use Rattle.mal_account.specs.Accounts as account
+use Rattle.mal_account.specs.FaultLines as account_lines
+use Rattle.mal_account.specs.Grammar as account_texts
+use Rattle.mal_claim.specs.Proofs.{bare, verdict_of}
+use Rattle.mal_claim.specs.Claims.{Claim}
+use Rattle.mal_claim.specs.Claims as claim
+use Rattle.mal_claim.specs.FaultLines as claim_lines
+use Rattle.mal_claim.specs.Grammar as claim_texts
 use Rattle.spec_script.specs.Generated.{generated}
 use Rattle.spec_hall.specs.Driven.{IsDriven}
 use Rattle.spec_hall.specs.Events.{Event}

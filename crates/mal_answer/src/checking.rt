@@ -3,7 +3,7 @@
 ghost use Rattle.std.specs.Prelude.{◌≡◌, [], IfOk, IfErr, OnOk};
 ghost use Rattle.mal_claim.specs.ReadResult.{seen};
 ghost use Rattle.mal_answer.specs.{Answers.{IsAnswerTo, logged}, Commands.{IsProved, checking}, Claims.{TellsFault, TellsRefusal, IsUnverified}};
-ghost use Rattle.spec_claim.specs.FaultLines.{verified_line};
+ghost use Rattle.mal_claim.specs.FaultLines.{verified_line};
 ghost use Rattle.spec_logic.specs.Logic.{IsUnsatisfiable};
 
 use crate::answer::{Complaint, Texts};

@@ -2,18 +2,18 @@
 use Rattle.std.proofs.Common.{◌≡◌, ℕ, List, [], ◌∷◌, ◌++◌, refl, ap, ◌∙◌, subst, Option, Some, Result, Ok, Err}
 use Rattle.std.specs.List.{cons_option, filter_map}
 use Rattle.std.proofs.lemmas.List.Elements.{filter_map-append}
-use Rattle.spec_turn.specs.declared.view.View.{View}
-use Rattle.spec_turn.specs.declared.view.Numbers.{Numbers}
-use Rattle.spec_turn.specs.Numbers.{part}
-use Rattle.spec_turn.specs.Rule.{splitting}
+use Rattle.mal_turn.specs.declared.view.View.{View}
+use Rattle.mal_turn.specs.declared.view.Numbers.{Numbers}
+use Rattle.mal_turn.specs.Numbers.{part}
+use Rattle.mal_turn.specs.Rule.{splitting}
 use Rattle.spec_job.specs.Leased.{Finished}
 use Rattle.mal_base.specs.declared.hall_fault.PickFault.{PickFault}
 use Rattle.spec_hall.specs.Calls.{Offer, Return}
 use Rattle.spec_hall.specs.Dressed.{keyed}
-use Rattle.spec_service.specs.Passes.{Enters}
-use Rattle.spec_service.specs.Record as service
-use Rattle.spec_service.specs.Record.{Answered, Opened, Revised, Closed, AreAnsweredFrom, Entry, entry, events_of}
-use Rattle.spec_service.proofs.OpenedLemmas.{calls-parts}
+use Rattle.mal_service.specs.Passes.{Enters}
+use Rattle.mal_service.specs.Record as service
+use Rattle.mal_service.specs.Record.{Answered, Opened, Revised, Closed, AreAnsweredFrom, Entry, entry, events_of}
+use Rattle.mal_service.proofs.OpenedLemmas.{calls-parts}
 use Rattle.mal_hall.specs.declared.desk.Post.{Post}
 use Rattle.mal_hall.specs.declared.desk.Post.TheVariants as posts
 use Rattle.mal_hall.specs.declared.desk.PostFault.{PostFault}

@@ -11,7 +11,7 @@ use Rattle.mal_service.specs.contracts.noted.NotedHall as NotedHall
 use Rattle.mal_service.specs.contracts.service.Service as Service
 use Rattle.mal_hall.specs.declared.size.Size as Size
 use Rattle.mal_service.specs.Entries.{noted_in}
-use Rattle.spec_service.specs.Record.{StandsFor}
+use Rattle.mal_service.specs.Record.{StandsFor}
 use Rattle.mal_turn.specs.contracts.table.SeatOf as SeatOf
 use Rattle.mal_turn.proofs.table.Turn.TheSendSync as turn
 use Rattle.mal_board.specs.contracts.served.Served as Served

@@ -1,11 +1,11 @@
 -- No call of a service loses a lease.
 use Rattle.std.proofs.Common.{◌≡◌, ℕ, List, [], ◌∷◌, ◌++◌, Ok, Err, refl, sym, ap, ◌∙◌, subst, append_assoc, append-nil}
-use Rattle.spec_turn.specs.declared.view.View.{View}
+use Rattle.mal_turn.specs.declared.view.View.{View}
 use Rattle.mal_base.specs.declared.hall_fault.ReplyFault.TheVariants as asking
 use Rattle.spec_hall.specs.Events.{Event}
 use Rattle.spec_run.specs.Losses.{NoneIsLost}
-use Rattle.spec_service.specs.Passes.{LeavesHall}
-use Rattle.spec_service.specs.Record.{Answered, Opened, Revised, Closed, Asked, Picked, Gave, AreAnsweredFrom, Entry, IsAnswered, Record, events_of}
+use Rattle.mal_service.specs.Passes.{LeavesHall}
+use Rattle.mal_service.specs.Record.{Answered, Opened, Revised, Closed, Asked, Picked, Gave, AreAnsweredFrom, Entry, IsAnswered, Record, events_of}
 use Rattle.mal_hall.specs.declared.desk.Post.TheVariants as posts
 use Rattle.mal_hall.specs.declared.desk.PostFault.TheVariants as faults
 use Rattle.mal_pool.proofs.CallLosses.{finish_loses_none, pick_loses_none, post_loses_none}

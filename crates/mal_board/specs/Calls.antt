@@ -1,10 +1,10 @@
 -- The calls that a pass of a service tells.
 use Rattle.std.specs.Prelude.{ℕ, List, Option, Some, None, Ok, Err}
 use Rattle.std.specs.List.{filter_map}
-use Rattle.spec_turn.specs.declared.view.View.{View}
-use Rattle.spec_turn.specs.Numbers.{part}
-use Rattle.spec_service.specs.Record as service
-use Rattle.spec_service.specs.Record.{Answered, Opened, Revised, Closed, Asked, Entry}
+use Rattle.mal_turn.specs.declared.view.View.{View}
+use Rattle.mal_turn.specs.Numbers.{part}
+use Rattle.mal_service.specs.Record as service
+use Rattle.mal_service.specs.Record.{Answered, Opened, Revised, Closed, Asked, Entry}
 use Rattle.mal_hall.specs.declared.desk.Post.TheVariants as posts
 use Rattle.mal_hall.specs.declared.desk.PostFault.TheVariants as faults
 use Rattle.mal_hall.specs.Desks.{DeskCall, Picked, Gave, Posted}

@@ -1,7 +1,7 @@
 -- Laws of records, as they stand on the functions of `laws.rt`.
 use Rattle.std.specs.Prelude.{ℕ}
 use Rattle.spec_run.specs.Losses.{NoneIsLost}
-use Rattle.spec_service.specs.Record.{IsLegal, Record, events_of}
+use Rattle.mal_service.specs.Record.{IsLegal, Record, events_of}
 
 -- no lease is lost in a legal record
 abbrev pub RecordsLoseNone : Type 0

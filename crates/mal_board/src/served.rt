@@ -46,7 +46,7 @@ impl<S: Size + Send + Sync> Desk for Served<S> {
 
 impl<S: Size + Send + Sync> Board for Served<S> {
     ghost use Rattle.mal_turn.specs.Seats.{view};
-    ghost use Rattle.spec_turn.specs.Rule.{IsWhole};
+    ghost use Rattle.mal_turn.specs.Rule.{IsWhole};
 
     ghost is_whole = { λ pass. IsWhole (view pass).of };
 

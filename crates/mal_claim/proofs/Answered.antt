@@ -3,9 +3,9 @@ use Rattle.std.proofs.Common.{ℕ, List, Result, Ok, Err, ap}
 use Rattle.std.specs.Prelude.{IfOk}
 use Rattle.spec_text.specs.Faults.{Fails}
 use Rattle.spec_lrat.specs.Reading as proof
-use Rattle.spec_claim.specs.Claims.{in_proof, read_text}
-use Rattle.spec_claim.specs.Grammar.{Spells}
-use Rattle.spec_claim.proofs.ReadLemmas.{spelled-is-read}
+use Rattle.mal_claim.specs.Claims.{in_proof, read_text}
+use Rattle.mal_claim.specs.Grammar.{Spells}
+use Rattle.mal_claim.proofs.ReadLemmas.{spelled-is-read}
 use Rattle.mal_lrat.specs.declared.fault.LineFault.{LineFault}
 use Rattle.mal_lrat.specs.declared.fault.LineFault.TheVariants as lrat
 use Rattle.mal_claim.specs.Answers as verify

@@ -1,7 +1,7 @@
 -- What the rows that are left give, behind the lines before.
 use Rattle.std.proofs.Common.{ℕ, List, ◌++◌, Result, Ok, Err}
 use Rattle.spec_lrat.specs.Reading.{Fault}
-use Rattle.spec_check.specs.Proofs.{Numbered}
+use Rattle.mal_claim.specs.Proofs.{Numbered}
 
 abbrev pub behind : List Numbered → Result (List Numbered) (ℕ × Fault) → Result (List Numbered) (ℕ × Fault)
 behind front (Ok others) = Ok (front ++ others)

@@ -4,7 +4,7 @@ use Rattle.mal_lrat.specs.declared.fault.LineFault.{LineFault}
 use Rattle.mal_lrat.specs.declared.fault.LineFault.TheVariants as answer
 use Rattle.spec_lrat.specs.Reading.{Fault}
 use Rattle.spec_lrat.specs.Reading.Fault.{BadNumber, MissingZero, IdNotRising, NegativeHint}
-use Rattle.spec_check.specs.Proofs.{Numbered, Read}
+use Rattle.mal_claim.specs.Proofs.{Numbered, Read}
 use Rattle.mal_claim.specs.declared.proof_reading.ProofFault.{ProofFault}
 
 -- an answer other than want of memory is this fault of this line

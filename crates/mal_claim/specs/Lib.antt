@@ -1,3 +1,12 @@
+pub mod Proofs
+pub mod ProofGrammar
+pub mod VerdictLaws
+pub mod VerdictExamples
+pub mod Claims
+pub mod Grammar
+pub mod FaultLines
+pub mod Laws
+pub mod Examples
 pub mod Views
 pub mod Answers
 pub mod Verdicts

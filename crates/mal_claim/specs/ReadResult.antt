@@ -9,11 +9,11 @@ use Rattle.mal_dimacs.specs.declared.fault.DimacsError.TheVariants as error
 use Rattle.mal_script.specs.declared.fault.AssumptionFault.{AssumptionFault}
 use Rattle.mal_script.specs.declared.fault.AssumptionFault.TheVariants as assumption
 use Rattle.spec_lrat.specs.Reading as proof
-use Rattle.spec_check.specs.Proofs.{Verdict}
-use Rattle.spec_check.specs.Proofs.Verdict.{Refused, NoGoal}
-use Rattle.spec_claim.specs.Claims as claim
-use Rattle.spec_claim.specs.Claims.Fault.{NoProof, InFormula, InProof}
-use Rattle.spec_claim.specs.FaultLines.{verdict_line}
+use Rattle.mal_claim.specs.Proofs.{Verdict}
+use Rattle.mal_claim.specs.Proofs.Verdict.{Refused, NoGoal}
+use Rattle.mal_claim.specs.Claims as claim
+use Rattle.mal_claim.specs.Claims.Fault.{NoProof, InFormula, InProof}
+use Rattle.mal_claim.specs.FaultLines.{verdict_line}
 use Rattle.mal_lrat.specs.declared.fault.LineFault.TheVariants as lrat
 use Rattle.mal_lrat.specs.declared.fault.LineFault as declared
 use Rattle.mal_claim.specs.declared.checking.VerifyFault.{VerifyFault}

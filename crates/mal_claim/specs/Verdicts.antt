@@ -4,8 +4,8 @@ use Rattle.mal_check.specs.declared.fault.CheckFault.{CheckFault}
 use Rattle.mal_check.specs.declared.fault.CheckFault.TheVariants as fault
 use Rattle.spec_logic.specs.Refutation.{Refusal}
 use Rattle.spec_logic.specs.Refutation.Refusal.{IdUsed, UnknownHint, HintNotUnit, NoContradiction}
-use Rattle.spec_check.specs.Proofs.{Verdict}
-use Rattle.spec_check.specs.Proofs.Verdict.{Verified, Refused, NoGoal}
+use Rattle.mal_claim.specs.Proofs.{Verdict}
+use Rattle.mal_claim.specs.Proofs.Verdict.{Verified, Refused, NoGoal}
 use Rattle.mal_claim.specs.declared.checking.VerifyFault.{VerifyFault}
 use Rattle.mal_claim.specs.declared.checking.VerifyFault.TheVariants as answer
 

@@ -1,7 +1,7 @@
 -- Lines with their numbers, without where they lie in memory.
 use Rattle.std.specs.Prelude.{List, map}
 use Rattle.mal_lrat.specs.LineView.{seen}
-use Rattle.spec_check.specs.Proofs.{Numbered}
+use Rattle.mal_claim.specs.Proofs.{Numbered}
 use Rattle.mal_claim.specs.declared.proof_reading.NumberedLine.{NumberedLine}
 
 abbrev pub view : NumberedLine → Numbered

@@ -2,7 +2,7 @@
 
 ghost use Rattle.std.specs.Prelude.{◌≡◌, ◌++◌, OnOk};
 ghost use Rattle.spec_logic.specs.{Logic.{IsUnsatisfiable}, Refutation.{added_by}};
-ghost use Rattle.spec_check.specs.Proofs.{bare, first_refused, verdict_of};
+ghost use Rattle.mal_claim.specs.Proofs.{bare, first_refused, verdict_of};
 ghost use Rattle.mal_check.specs.Checked.{held};
 ghost use Rattle.mal_claim.specs.{Views.{views}, Verdicts.{Says, SaysLine, IsFault}, declared.checking.VerifyFault.TheVariants.{OutOfMemory}};
 

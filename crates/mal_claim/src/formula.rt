@@ -3,7 +3,7 @@
 ghost use Rattle.std.specs.Prelude.{◌≡◌, ◌≤◌, ◌+◌, None, length, max, IfOk};
 ghost use Rattle.spec_text.specs.Inputs.{words_of};
 ghost use Rattle.spec_dimacs.specs.{Rows.{rows_of}, Reading.{at_end, on_line, read_rows}};
-ghost use Rattle.spec_claim.specs.Claims.{is_formula_line, formula_rows, behind_formula, in_formula};
+ghost use Rattle.mal_claim.specs.Claims.{is_formula_line, formula_rows, behind_formula, in_formula};
 ghost use Rattle.mal_claim.specs.ReadResult.{Gives, IsOnLine};
 
 use crate::fault::ClaimFault;

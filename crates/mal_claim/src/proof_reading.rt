@@ -2,7 +2,7 @@
 
 ghost use Rattle.std.specs.Prelude.{◌≡◌, ◌<◌, ◌+◌, ◌^◌, Ok, length, map};
 ghost use Rattle.spec_text.specs.Inputs.{lines_of, words_of};
-ghost use Rattle.spec_check.specs.Proofs.{last_after, with_number, row_at, lines_from};
+ghost use Rattle.mal_claim.specs.Proofs.{last_after, with_number, row_at, lines_from};
 ghost use Rattle.mal_lrat.specs.LineView.{seen};
 ghost use Rattle.mal_claim.specs.{Views.{views}, Answers.{Gives, GivesRow}};
 

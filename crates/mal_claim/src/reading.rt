@@ -3,8 +3,8 @@
 ghost use Rattle.std.specs.Prelude.{◌≡◌, ◌≤◌, ◌<◌, ◌+◌, ◌^◌, length, IfOk};
 ghost use Rattle.std.specs.List.{list_any};
 ghost use Rattle.spec_dimacs.specs.Rows.{rows_of};
-ghost use Rattle.spec_check.specs.Proofs.{lines_from};
-ghost use Rattle.spec_claim.specs.{Claims.{is_proof_line, assumed, to_proof, in_proof, read_lines, read_text}, Grammar.{Spells}};
+ghost use Rattle.mal_claim.specs.Proofs.{lines_from};
+ghost use Rattle.mal_claim.specs.{Claims.{is_proof_line, assumed, to_proof, in_proof, read_lines, read_text}, Grammar.{Spells}};
 ghost use Rattle.mal_claim.specs.{Views.{views}, ReadResult.{Gives, IsAssumed, seen, seen_assumed}};
 
 use crate::claim::Claim;

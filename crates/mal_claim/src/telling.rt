@@ -2,7 +2,7 @@
 
 ghost use Rattle.std.specs.Prelude.{◌≡◌, ◌∷◌, ◌++◌, [], None, codes, IfOk, MatchOption};
 ghost use Rattle.spec_text.specs.{Faults.{TellsBy}, Lines.{line_of}, Numbers.{decimal_word}};
-ghost use Rattle.spec_claim.specs.FaultLines.{fault_line, proof_line};
+ghost use Rattle.mal_claim.specs.FaultLines.{fault_line, proof_line};
 ghost use Rattle.mal_claim.specs.{ReadResult.{TellsVerdict, fault_of, in_line, refused, verdict_in}, Verdicts.{refusal_of}};
 
 use crate::VerifyFault;

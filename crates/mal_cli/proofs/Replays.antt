@@ -12,9 +12,9 @@ use Rattle.mal_answer.proofs.Complaints.{denied-as, read-once}
 use Rattle.mal_answer.proofs.Lawful.{are-lawful, fault-answered}
 use Rattle.mal_history.specs.Written.{line_at}
 use Rattle.mal_words.specs.declared.request.Request.TheVariants.{Replay}
-use Rattle.spec_account.specs.Accounts.{Account, read_text}
-use Rattle.spec_account.specs.Grammar.{Spells}
-use Rattle.spec_account.proofs.ReadLemmas.{spelled-is-read}
+use Rattle.mal_account.specs.Accounts.{Account, read_text}
+use Rattle.mal_account.specs.Grammar.{Spells}
+use Rattle.mal_account.proofs.ReadLemmas.{spelled-is-read}
 use Rattle.mal_base.specs.declared.replay_fault.ReplayFault.{ReplayFault}
 use Rattle.mal_base.specs.declared.replay_fault.ReplayFault.TheVariants.{NotLegal, NotComplete, OutOfMemory}
 use Rattle.spec_replay.specs.Replayed.{IsReplay}

@@ -6,8 +6,8 @@ use Rattle.mal_account.specs.declared.fault.AccountFault.{AccountFault}
 use Rattle.mal_answer.specs.Answers.{Complains, NoLine}
 use Rattle.mal_answer.specs.Commands.{TellsUnsound}
 use Rattle.mal_answer.specs.declared.answer.Complaint.{Complaint}
-use Rattle.spec_account.specs.Accounts.{Account}
-use Rattle.spec_account.specs.FaultLines.{fault_line, history_line}
+use Rattle.mal_account.specs.Accounts.{Account}
+use Rattle.mal_account.specs.FaultLines.{fault_line, history_line}
 use Rattle.mal_base.specs.declared.replay_fault.ReplayFault.{ReplayFault}
 use Rattle.mal_base.specs.declared.replay_fault.ReplayFault.TheVariants.{NotLegal, NotComplete, OutOfMemory}
 use Rattle.spec_text.specs.Lines.{line_of}

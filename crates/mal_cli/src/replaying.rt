@@ -4,7 +4,7 @@ ghost use Rattle.std.specs.Prelude.{◌≡◌, ◌∷◌, [], codes, IfOk, IfErr
 ghost use Rattle.mal_account.specs.ReadResult.{seen};
 ghost use Rattle.mal_cli.specs.Accounts.{IsReplayText, IsUnsound, TellsFault, TellsReplay};
 ghost use Rattle.mal_answer.specs.{Answers.{IsAnswerTo, logged}, Commands.{AreReplies, replaying}};
-ghost use Rattle.spec_account.specs.FaultLines.{history_line};
+ghost use Rattle.mal_account.specs.FaultLines.{history_line};
 ghost use Rattle.mal_base.specs.declared.replay_fault.ReplayFault.TheVariants.{OutOfMemory};
 ghost use Rattle.spec_text.specs.Lines.{line_of};
 

@@ -1,3 +1,6 @@
+-- what crates above cite
+pub mod RecordLemmas
+pub mod OpenedLemmas
 -- what this crate alone cites
 mod NotedLemmas
 mod PostLemmas

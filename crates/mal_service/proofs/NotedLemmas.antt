@@ -1,12 +1,12 @@
 -- What is noted of a call of the hall.
 use Rattle.std.proofs.Common.{◌≡◌, ℕ, ◌≤◌, List, [], ◌∷◌, ◌++◌, ap, ◌∙◌}
 use Rattle.spec_hall.specs.Events.{Event}
-use Rattle.spec_service.specs.Passes.{Enters, HasNoted}
-use Rattle.spec_service.specs.Record.{Answered, Entry, StandsFor}
-use Rattle.spec_service.proofs.RecordLemmas.{noted-enters}
-use Rattle.spec_turn.specs.declared.view.View.{View}
-use Rattle.spec_turn.specs.declared.view.Numbers.{Numbers}
-use Rattle.spec_turn.specs.Rule.{Begins, Has}
+use Rattle.mal_service.specs.Passes.{Enters, HasNoted}
+use Rattle.mal_service.specs.Record.{Answered, Entry, StandsFor}
+use Rattle.mal_service.proofs.RecordLemmas.{noted-enters}
+use Rattle.mal_turn.specs.declared.view.View.{View}
+use Rattle.mal_turn.specs.declared.view.Numbers.{Numbers}
+use Rattle.mal_turn.specs.Rule.{Begins, Has}
 
 module _ (w : ℕ) (some : 1 ≤ w) (bound : w ≤ 64) (v h after : View Entry) (past now : List Event) (c : Answered) (e : Entry) where
   -- a pass took the turn, its call was noted, and it put the hall back

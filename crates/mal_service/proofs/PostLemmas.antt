@@ -7,8 +7,8 @@ use Rattle.mal_hall.specs.declared.desk.PostFault.{PostFault}
 use Rattle.mal_hall.specs.declared.desk.PostFault.TheVariants as faults
 use Rattle.mal_hall.specs.Desks.{HasPosted}
 use Rattle.spec_hall.specs.Events.{Event}
-use Rattle.spec_service.specs.Passes.{HasNoted}
-use Rattle.spec_service.specs.Record.{Answered, IsAnswered, entry}
+use Rattle.mal_service.specs.Passes.{HasNoted}
+use Rattle.mal_service.specs.Record.{Answered, IsAnswered, entry}
 use Rattle.mal_service.specs.Posts.{HoldsOfPost, call_of}
 
 -- what follows of any call follows of that one

@@ -4,7 +4,7 @@ use Rattle.mal_service.specs.declared.hall_call.HallCall.TheVariants as told
 use Rattle.mal_hall.specs.Offered.{offered, replied, returned}
 use Rattle.mal_service.specs.Posts.{call_of, no_call}
 use Rattle.spec_hall.specs.Dressed.{keyed}
-use Rattle.spec_service.specs.Record.{Answered, Asked, Picked, Gave, Entry, entry}
+use Rattle.mal_service.specs.Record.{Answered, Asked, Picked, Gave, Entry, entry}
 
 -- a call with its arguments and its answer
 abbrev pub answered : HallCall → Answered

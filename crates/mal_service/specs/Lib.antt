@@ -1,2 +1,5 @@
+pub mod Record
+pub mod Passes
+pub mod Laws
 pub mod Entries
 pub mod Posts

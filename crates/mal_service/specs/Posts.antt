@@ -5,7 +5,7 @@ use Rattle.mal_hall.specs.declared.desk.PostFault.{PostFault}
 use Rattle.mal_hall.specs.declared.desk.PostFault.TheVariants as faults
 use Rattle.spec_hall.specs.Calls.{Idle}
 use Rattle.spec_hall.specs.Dressed.{keyed}
-use Rattle.spec_service.specs.Record.{Answered, Opened, Revised, Closed, Picked}
+use Rattle.mal_service.specs.Record.{Answered, Opened, Revised, Closed, Picked}
 
 -- it holds of the hall's call that a post is, with the answer to the post
 abbrev pub HoldsOfPost : Post → Result (Unit {0}) PostFault → (Answered → Type 0) → Type 0

@@ -1,7 +1,7 @@
 //! Entries of the record.
 ghost use Rattle.std.specs.Prelude.{◌≡◌, drop, length};
 ghost use Rattle.mal_service.specs.Entries.{answered};
-ghost use Rattle.spec_service.specs.Record.{entry};
+ghost use Rattle.mal_service.specs.Record.{entry};
 
 use crate::hall_call::HallCall;
 use mal_hall::Hall;
@@ -19,7 +19,7 @@ pub struct Entry {
 
 impl Model for Entry {
     ghost use Rattle.std.specs.Prelude.{drop, length};
-    ghost use Rattle.spec_service.specs.Record.{Entry as Entered, entry};
+    ghost use Rattle.mal_service.specs.Record.{Entry as Entered, entry};
     ghost use Rattle.mal_service.specs.Entries.{answered};
 
     ghost Value = { Entered };

@@ -1,12 +1,15 @@
-//! The shared service: a hall that many threads call in turns, each call being one entry of one legal record.
+//! The shared service: a hall that many threads call in turns, each call being one entry of one legal record; what a
+//! record is, and what a call does to a pass.
 #![tactic(auto)]
 
 mod entry;
 mod hall_call;
+mod laws;
 mod noted;
 mod service;
 
 pub use entry::Entry;
+pub use laws::{answers_make_a_legal_record, opened_job_is_found, replies_are_solo};
 pub use mal_hall::Size;
 pub use mal_turn::InUse;
 pub use noted::NotedHall;

@@ -2,7 +2,7 @@
 ghost use Rattle.std.specs.Prelude.{◌≡◌, ◌≤◌, [], IfOk, IfErr};
 ghost use Rattle.mal_hall.specs.Offered.{offered, replied, returned};
 ghost use Rattle.spec_hall.specs.Dressed.{keyed};
-ghost use Rattle.spec_service.specs.{Passes.{HasNoted}, Record.{Asked, Picked, Gave}};
+ghost use Rattle.mal_service.specs.{Passes.{HasNoted}, Record.{Asked, Picked, Gave}};
 ghost use Rattle.mal_service.specs.{Entries.{noted_in}, Posts.{HoldsOfPost}};
 
 use crate::entry::Entry;
@@ -10,7 +10,7 @@ use crate::hall_call::HallCall;
 use mal_base::Name;
 use mal_hall::{Back, Hall, Pick, PickFault, Post, PostFault, ReplyFault, Size, Strange};
 use mal_suspend::Done;
-use spec_turn::Recorded;
+use mal_turn::Recorded;
 use std::alloc::{AllocError, Global};
 use std::marker::PhantomData;
 use std::snapshot::Snapshot;
@@ -27,7 +27,7 @@ pub struct NotedHall<S: Size> {
 }
 
 impl<S: Size> Recorded for NotedHall<S> {
-    ghost use Rattle.spec_service.specs.Record.{StandsFor};
+    ghost use Rattle.mal_service.specs.Record.{StandsFor};
     ghost use Rattle.mal_service.specs.Entries.{noted_in};
 
     type Entry = Entry;

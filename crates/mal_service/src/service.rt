@@ -4,8 +4,8 @@ ghost use Rattle.mal_hall.specs.Offered.{offered, replied, returned};
 ghost use Rattle.mal_service.specs.Posts.{HoldsOfPost};
 ghost use Rattle.mal_turn.specs.Seats.{IsOf, view};
 ghost use Rattle.spec_hall.specs.Dressed.{keyed};
-ghost use Rattle.spec_service.specs.{Passes.{Enters, LeavesHall}, Record.{Asked, Picked, Gave}};
-ghost use Rattle.spec_turn.specs.Rule.{Begins, IsWhole, child, joined, opener, splitting};
+ghost use Rattle.mal_service.specs.{Passes.{Enters, LeavesHall}, Record.{Asked, Picked, Gave}};
+ghost use Rattle.mal_turn.specs.Rule.{Begins, IsWhole, child, joined, opener, splitting};
 
 use crate::noted::NotedHall;
 use mal_base::Name;

@@ -1,6 +1,6 @@
 -- What clauses say of a turn, its seats and what is held.
 use Rattle.std.specs.Prelude.{◌≡◌}
-use Rattle.spec_turn.specs.declared.view.View.{View}
+use Rattle.mal_turn.specs.declared.view.View.{View}
 use Rattle.mal_turn.specs.declared.table.SeatOf.{SeatOf}
 use Rattle.mal_turn.specs.declared.table.HeldOf.{HeldOf}
 use Rattle.mal_turn.specs.declared.table.Turn.{Turn}

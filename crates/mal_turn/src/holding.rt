@@ -1,10 +1,10 @@
 //! What a holder does as it gives the turn up.
 ghost use Rattle.std.specs.Prelude.{◌≡◌, ◌+◌, ◌^◌, ◌<◌, ◌++◌, [], ◌∷◌, None, Some};
-ghost use Rattle.spec_turn.specs.{declared.view.Stage.TheVariants.{Idle, Holds, Entered}, Rule.{at_stage, seeing}};
+ghost use Rattle.mal_turn.specs.{declared.view.Stage.TheVariants.{Idle, Holds, Entered}, Rule.{at_stage, seeing}};
 
 use crate::steps::{Enter, Pass};
 use crate::table::{HISTORY, Place, SERVING, Turn};
-use spec_turn::Recorded;
+use crate::view::Recorded;
 
 impl<T: Recorded + Drop> Turn<T> {
     /// Puts the value into its slot, and enters its last entry.

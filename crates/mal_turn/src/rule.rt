@@ -1,7 +1,7 @@
 //! The rule that the table of a turn keeps.
 //! The words are the next ticket, the ticket that is served, and the length of the record.
+use crate::view::{Recorded, View};
 use atomic_table::TableRule;
-use spec_turn::{Recorded, View};
 use std::marker::PhantomData;
 
 /// The rule of the turn, for values of this type.
@@ -10,7 +10,7 @@ pub struct TurnRule<T> {
 }
 
 impl<T: Recorded> TableRule<Option<T>, View<T::Entry>, ()> for TurnRule<T> {
-    ghost use Rattle.spec_turn.specs.Rule.{TurnRule, opener};
+    ghost use Rattle.mal_turn.specs.Rule.{TurnRule, opener};
 
     ghost holds = { λ _. TurnRule T.stands };
 

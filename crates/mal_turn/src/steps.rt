@@ -1,8 +1,8 @@
 //! What each kind of step tells.
-ghost use Rattle.spec_turn.specs.{Steps.{draws, looks, enters, passes}, Rule.{split_left, split_right, join_both, nobody}};
+ghost use Rattle.mal_turn.specs.{Steps.{draws, looks, enters, passes}, Rule.{split_left, split_right, join_both, nobody}};
 
+use crate::view::{Recorded, View};
 use atomic_table::{Join, Play, Split};
-use spec_turn::{Recorded, View};
 
 /// The next ticket is drawn.
 pub(crate) struct Draw;

@@ -1,11 +1,11 @@
 //! The turn, its seats, and what a holder has.
 ghost use Rattle.std.specs.Prelude.{◌≡◌, ◌+◌, ◌^◌, ◌<◌, [], ◌∷◌, None, true};
-ghost use Rattle.spec_turn.specs.{declared.view.Stage.TheVariants.{Idle, Holds}, Numbers.{among}, Rule.{at_stage}};
+ghost use Rattle.mal_turn.specs.{declared.view.Stage.TheVariants.{Idle, Holds}, Numbers.{among}, Rule.{at_stage}};
 
 use crate::rule::TurnRule;
+use crate::view::{Recorded, View};
 use crate::waiting::Waiting;
 use atomic_table::Table;
-use spec_turn::{Recorded, View};
 use std::alloc::Global;
 
 // Indexes of words.

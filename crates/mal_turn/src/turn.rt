@@ -1,13 +1,13 @@
 //! The calls of a turn.
 ghost use Rattle.std.specs.Prelude.{IfErr, IfOk, true, false, ◌≡◌, ◌≢◌, ◌<◌, ◌++◌, [], ◌∷◌};
-ghost use Rattle.spec_turn.specs.Rule.{Begins, Has, IsWhole, Leaves, opener, splitting, child, joined};
+ghost use Rattle.mal_turn.specs.Rule.{Begins, Has, IsWhole, Leaves, opener, splitting, child, joined};
 ghost use Rattle.mal_turn.specs.Seats.{view, held_view, IsOf, IsHeldOf};
 
 use crate::steps::{Cut, Glue, Look};
 use crate::table::{Held, HeldOf, InUse, SERVING, Seat, SeatOf, TICKET, Turn};
+use crate::view::Recorded;
 use crate::waiting::Waiting;
 use atomic_table::Table;
-use spec_turn::Recorded;
 use std::alloc::{AllocError, Global};
 use std::sync::Wait;
 

@@ -1,10 +1,10 @@
 //! Waiting for the turn. Who waits has drawn no ticket yet: a ticket is drawn where the turn is free.
 ghost use Rattle.std.specs.Prelude.{◌≡◌, ◌+◌, ◌^◌, ◌<◌, [], ◌∷◌, length, IfSome, IfNone, Some};
-ghost use Rattle.spec_turn.specs.{declared.view.Stage.TheVariants.{Idle, Drawn, Holds}, Rule.{Begins, Has, at_stage, seeing}};
+ghost use Rattle.mal_turn.specs.{declared.view.Stage.TheVariants.{Idle, Drawn, Holds}, Rule.{Begins, Has, at_stage, seeing}};
 
 use crate::steps::{Draw, Look};
 use crate::table::{Place, SERVING, TICKET, Turn};
-use spec_turn::Recorded;
+use crate::view::Recorded;
 use std::sync::Wait;
 use std::sync::atomic::{AtomicU64, Ordering};
 use std::{hint, thread};

@@ -2,7 +2,7 @@
 
 ghost use Rattle.std.specs.Prelude.{ℕ, ◌≡◌, ◌<◌};
 ghost use Rattle.std.specs.Thread.{IsSync};
-ghost use Rattle.spec_turn.specs.{Rule.{Extends, IsWhole}, Many.{IsBack}};
+ghost use Rattle.mal_turn.specs.{Rule.{Extends, IsWhole}, Many.{IsBack}};
 ghost use Rattle.mal_turn.specs.Seats.{view, IsOf};
 
 use mal_turn::{Seat, Turn};

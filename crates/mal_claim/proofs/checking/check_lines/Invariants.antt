@@ -1,6 +1,6 @@
 use Rattle.std.proofs.Common.{◌≡◌, ◌++◌, reverse, length}
 use Rattle.spec_logic.specs.Refutation.{added_by}
-use Rattle.spec_check.specs.Proofs.{bare, first_refused}
+use Rattle.mal_claim.specs.Proofs.{bare, first_refused}
 use Rattle.mal_check.specs.Checked.{held}
 use Rattle.mal_claim.specs.Views.{views}
 use Rattle.mal_claim.proofs.checking.check_lines.Given as goal

@@ -1,7 +1,7 @@
 use Rattle.std.proofs.Common.{◌≡◌, ◌+◌, ◌≤◌, None, length}
 use Rattle.spec_dimacs.specs.Rows.{rows_of}
 use Rattle.spec_dimacs.specs.Reading.{read_rows}
-use Rattle.spec_claim.specs.Claims.{formula_rows, behind_formula}
+use Rattle.mal_claim.specs.Claims.{formula_rows, behind_formula}
 use Rattle.mal_claim.proofs.formula.read_formula.Given as goal
 
 abbrev pub invariant-loop-row : goal.invariant-loop-row

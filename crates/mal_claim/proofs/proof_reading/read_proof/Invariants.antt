@@ -1,6 +1,6 @@
 use Rattle.std.proofs.Common.{◌≡◌, ◌≤◌, ◌+◌, map, length}
 use Rattle.spec_text.specs.Inputs.{lines_of, words_of}
-use Rattle.spec_check.specs.Proofs.{lines_from}
+use Rattle.mal_claim.specs.Proofs.{lines_from}
 use Rattle.mal_claim.specs.Views.{views}
 use Rattle.mal_claim.proofs.Behind.{behind}
 use Rattle.mal_claim.proofs.proof_reading.read_proof.Given as goal

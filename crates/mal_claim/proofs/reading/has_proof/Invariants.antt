@@ -1,7 +1,7 @@
 use Rattle.std.proofs.Common.{◌≡◌, length}
 use Rattle.std.specs.List.{list_any}
 use Rattle.spec_dimacs.specs.Rows.{rows_of}
-use Rattle.spec_claim.specs.Claims.{is_proof_line}
+use Rattle.mal_claim.specs.Claims.{is_proof_line}
 use Rattle.mal_claim.proofs.reading.has_proof.Given as goal
 
 abbrev pub invariant-loop-row : goal.invariant-loop-row

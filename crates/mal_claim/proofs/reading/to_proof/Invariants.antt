@@ -1,6 +1,6 @@
 use Rattle.std.proofs.Common.{◌≡◌, ◌+◌, ◌≤◌, length}
 use Rattle.spec_dimacs.specs.Rows.{rows_of}
-use Rattle.spec_claim.specs.Claims.{to_proof}
+use Rattle.mal_claim.specs.Claims.{to_proof}
 use Rattle.mal_claim.proofs.reading.to_proof.Given as goal
 
 abbrev pub invariant-loop-row : goal.invariant-loop-row

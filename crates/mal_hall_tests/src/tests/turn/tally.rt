@@ -1,7 +1,7 @@
 //! A total.
 ghost use Rattle.std.specs.Prelude.{◌≡◌, ◌+◌, map, sum};
 
-use spec_turn::Recorded;
+use mal_turn::Recorded;
 
 /// A total, with the amount that was added last.
 #[derive(Drop)]

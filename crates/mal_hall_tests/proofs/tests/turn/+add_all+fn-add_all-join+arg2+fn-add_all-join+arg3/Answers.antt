@@ -1,7 +1,7 @@
 use Rattle.std.proofs.Common.{sym, subst}
-use Rattle.spec_turn.specs.declared.view.Numbers.{Numbers}
-use Rattle.spec_turn.specs.Many.{IsBack}
-use Rattle.spec_turn.proofs.Wholes.{back_joined}
+use Rattle.mal_turn.specs.declared.view.Numbers.{Numbers}
+use Rattle.mal_turn.specs.Many.{IsBack}
+use Rattle.mal_turn.proofs.Wholes.{back_joined}
 use Rattle.mal_turn.specs.Seats.{view}
 use Rattle.mal_hall_tests.proofs.tests.turn.+add_all+fn-add_all-join+arg2+fn-add_all-join+arg3.Goals as goal
 

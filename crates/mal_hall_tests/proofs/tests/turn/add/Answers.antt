@@ -1,6 +1,6 @@
 use Rattle.std.proofs.Common.{[], ◌∷◌, ◌++◌, ap, ◌∙◌}
-use Rattle.spec_turn.specs.declared.view.Numbers.{Numbers}
-use Rattle.spec_turn.proofs.Wholes.{extends}
+use Rattle.mal_turn.specs.declared.view.Numbers.{Numbers}
+use Rattle.mal_turn.proofs.Wholes.{extends}
 use Rattle.mal_turn.specs.Seats.{view, held_view}
 use Rattle.mal_hall_tests.proofs.tests.turn.add.Goals as goal
 

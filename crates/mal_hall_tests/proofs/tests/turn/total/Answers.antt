@@ -1,7 +1,7 @@
 use Rattle.std.proofs.Common.{refl, sym, subst}
-use Rattle.spec_turn.specs.declared.view.View.{View}
-use Rattle.spec_turn.specs.Rule.{IsWhole}
-use Rattle.spec_turn.proofs.Wholes.{back_whole}
+use Rattle.mal_turn.specs.declared.view.View.{View}
+use Rattle.mal_turn.specs.Rule.{IsWhole}
+use Rattle.mal_turn.proofs.Wholes.{back_whole}
 use Rattle.mal_turn.specs.Seats.{view}
 use Rattle.mal_hall_tests.proofs.tests.turn.total.Goals as goal
 

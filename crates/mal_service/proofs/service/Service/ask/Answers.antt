@@ -1,8 +1,8 @@
 use Rattle.mal_turn.specs.Seats.{view, held_view}
 use Rattle.mal_hall.specs.Offered.{replied}
 use Rattle.spec_hall.specs.Dressed.{keyed}
-use Rattle.spec_service.specs.Record.{Asked}
-use Rattle.spec_service.proofs.RecordLemmas.{noted-stands}
+use Rattle.mal_service.specs.Record.{Asked}
+use Rattle.mal_service.proofs.RecordLemmas.{noted-stands}
 use Rattle.mal_service.specs.Entries.{noted_in}
 use Rattle.mal_service.proofs.NotedLemmas.{entered}
 use Rattle.mal_service.proofs.service.Service.ask.Goals as goal

@@ -1,7 +1,7 @@
 use Rattle.mal_turn.specs.Seats.{view, held_view}
 use Rattle.mal_hall.specs.Offered.{offered}
-use Rattle.spec_service.specs.Record.{Picked}
-use Rattle.spec_service.proofs.RecordLemmas.{noted-stands}
+use Rattle.mal_service.specs.Record.{Picked}
+use Rattle.mal_service.proofs.RecordLemmas.{noted-stands}
 use Rattle.mal_service.specs.Entries.{noted_in}
 use Rattle.mal_service.proofs.NotedLemmas.{entered}
 use Rattle.mal_service.proofs.service.Service.pick.Goals as goal

@@ -1,8 +1,8 @@
 use Rattle.std.proofs.Common.{[], ◌∷◌, ◌++◌}
 use Rattle.mal_turn.specs.Seats.{view, held_view}
-use Rattle.spec_service.specs.Passes.{Enters, HasNoted}
-use Rattle.spec_service.specs.Record.{Answered, StandsFor}
-use Rattle.spec_service.proofs.RecordLemmas.{noted-stands}
+use Rattle.mal_service.specs.Passes.{Enters, HasNoted}
+use Rattle.mal_service.specs.Record.{Answered, StandsFor}
+use Rattle.mal_service.proofs.RecordLemmas.{noted-stands}
 use Rattle.mal_service.specs.Entries.{noted_in}
 use Rattle.mal_service.proofs.NotedLemmas.{entered}
 use Rattle.mal_service.proofs.PostLemmas.{post-follows, post-tells}

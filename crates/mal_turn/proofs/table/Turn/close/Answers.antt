@@ -3,11 +3,11 @@ use mathlib.Core.Option as lean
 use lib.ListN.{get_elem?}
 use Rattle.std.specs.Slots.{slots_items}
 use Rattle.atomic_table.specs.Table.{Final, Seen}
-use Rattle.spec_turn.specs.declared.view.Stage.TheVariants.{Idle}
-use Rattle.spec_turn.specs.declared.view.View.{View}
-use Rattle.spec_turn.specs.Rule.{Has, IsWhole, Leaves, TurnRule, at_stage}
-use Rattle.spec_turn.proofs.Keeps.{idle_ends}
-use Rattle.spec_turn.specs.Steps.{Sat}
+use Rattle.mal_turn.specs.declared.view.Stage.TheVariants.{Idle}
+use Rattle.mal_turn.specs.declared.view.View.{View}
+use Rattle.mal_turn.specs.Rule.{Has, IsWhole, Leaves, TurnRule, at_stage}
+use Rattle.mal_turn.proofs.Keeps.{idle_ends}
+use Rattle.mal_turn.specs.Steps.{Sat}
 use Rattle.mal_turn.proofs.table.Turn.close.Given.{Over}
 use Rattle.mal_turn.proofs.table.Turn.close.Goals as goal
 

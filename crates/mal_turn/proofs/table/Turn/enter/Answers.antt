@@ -2,10 +2,10 @@ use Rattle.std.proofs.Common.{rules, ◌≡◌, ◌+◌, [], ◌∷◌, refl, sy
 use prog.Atomic.{either}
 use mathlib.Core.Option as lean
 use Rattle.atomic_table.specs.Table.{Allows, step, rest}
-use Rattle.spec_turn.specs.declared.view.Stage.TheVariants.{Holds}
-use Rattle.spec_turn.specs.Rule.{at_stage, TurnRule}
-use Rattle.spec_turn.specs.Steps.{Sat, enters}
-use Rattle.spec_turn.proofs.Keeps.{enters_keep}
+use Rattle.mal_turn.specs.declared.view.Stage.TheVariants.{Holds}
+use Rattle.mal_turn.specs.Rule.{at_stage, TurnRule}
+use Rattle.mal_turn.specs.Steps.{Sat, enters}
+use Rattle.mal_turn.proofs.Keeps.{enters_keep}
 use Rattle.mal_turn.proofs.table.Turn.enter.Goals as goal
 
 pub compare_exchange-requires : goal.compare_exchange-requires

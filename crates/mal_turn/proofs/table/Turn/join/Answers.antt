@@ -1,12 +1,12 @@
 use Rattle.std.proofs.Common.{rules, ◌≡◌, ℕ, List, [], refl, sym, ap, ◌∙◌, subst}
 use mathlib.Core.Option as lean
 use Rattle.atomic_table.specs.Table.{Allows, Joins, step}
-use Rattle.spec_turn.specs.declared.view.View.{View}
-use Rattle.spec_turn.specs.declared.view.Stage.TheVariants.{Idle}
-use Rattle.spec_turn.specs.Rule.{At, Begins, Log, TurnRule, Has, at_stage, join_both, nobody}
-use Rattle.spec_turn.specs.Steps.{Sat, learns, looks}
-use Rattle.spec_turn.proofs.Paths.{has_left}
-use Rattle.spec_turn.proofs.Keeps.{joins_keep, learns_keep}
+use Rattle.mal_turn.specs.declared.view.View.{View}
+use Rattle.mal_turn.specs.declared.view.Stage.TheVariants.{Idle}
+use Rattle.mal_turn.specs.Rule.{At, Begins, Log, TurnRule, Has, at_stage, join_both, nobody}
+use Rattle.mal_turn.specs.Steps.{Sat, learns, looks}
+use Rattle.mal_turn.proofs.Paths.{has_left}
+use Rattle.mal_turn.proofs.Keeps.{joins_keep, learns_keep}
 use Rattle.mal_turn.proofs.table.Turn.join.Given.{Over}
 use Rattle.mal_turn.proofs.table.Turn.join.Goals as goal
 

@@ -1,5 +1,5 @@
 use Rattle.std.proofs.Common.{rules}
-use Rattle.spec_turn.proofs.Keeps.{opens}
+use Rattle.mal_turn.proofs.Keeps.{opens}
 use Rattle.mal_turn.proofs.table.Turn.new.Goals as goal
 
 pub new-requires : goal.new-requires

@@ -1,9 +1,9 @@
 use Rattle.std.proofs.Common.{rules, ◌+◌, refl, sym, subst}
 use mathlib.Core.Option as lean
 use Rattle.atomic_table.specs.Table.{Allows, step}
-use Rattle.spec_turn.specs.Rule.{TurnRule}
-use Rattle.spec_turn.specs.Steps.{Sat, passes}
-use Rattle.spec_turn.proofs.Keeps.{passes_keep}
+use Rattle.mal_turn.specs.Rule.{TurnRule}
+use Rattle.mal_turn.specs.Steps.{Sat, passes}
+use Rattle.mal_turn.proofs.Keeps.{passes_keep}
 use Rattle.mal_turn.proofs.table.Turn.pass_on.Goals as goal
 
 pub store-requires : goal.store-requires

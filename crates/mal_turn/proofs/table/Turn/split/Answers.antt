@@ -1,12 +1,12 @@
 use Rattle.std.proofs.Common.{rules, ◌≡◌, [], false, sym, ap, ◌∙◌, subst}
 use Rattle.atomic_table.specs.Table.{Splits}
-use Rattle.spec_turn.specs.declared.view.View.{View}
-use Rattle.spec_turn.specs.declared.view.Stage.TheVariants.{Idle}
-use Rattle.spec_turn.specs.Numbers.{same}
-use Rattle.spec_turn.specs.Rule.{TurnRule, Has, at_stage, split_left, split_right, next_number}
-use Rattle.spec_turn.specs.Steps.{Sat}
-use Rattle.spec_turn.proofs.Paths.{same_refl, or_left}
-use Rattle.spec_turn.proofs.Keeps.{splits_keep}
+use Rattle.mal_turn.specs.declared.view.View.{View}
+use Rattle.mal_turn.specs.declared.view.Stage.TheVariants.{Idle}
+use Rattle.mal_turn.specs.Numbers.{same}
+use Rattle.mal_turn.specs.Rule.{TurnRule, Has, at_stage, split_left, split_right, next_number}
+use Rattle.mal_turn.specs.Steps.{Sat}
+use Rattle.mal_turn.proofs.Paths.{same_refl, or_left}
+use Rattle.mal_turn.proofs.Keeps.{splits_keep}
 use Rattle.mal_turn.proofs.table.Turn.split.Goals as goal
 
 pub split_seat-new-requires : goal.split_seat-new-requires

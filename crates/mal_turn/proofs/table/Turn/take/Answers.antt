@@ -1,6 +1,6 @@
 use Rattle.std.proofs.Common.{rules, ◌∷◌, Some, sym, ap, ◌∙◌}
 use Rattle.atomic_table.specs.Table.{rest}
-use Rattle.spec_turn.specs.Steps.{Sat}
+use Rattle.mal_turn.specs.Steps.{Sat}
 use Rattle.mal_turn.proofs.table.Turn.take.Goals as goal
 
 pub exchange-requires : goal.exchange-requires

@@ -2,9 +2,9 @@ use Rattle.std.proofs.Common.{rules, ◌+◌, refl, sym, subst, eqb}
 use prog.Atomic.{either}
 use mathlib.Core.Option as lean
 use Rattle.atomic_table.specs.Table.{Allows, step}
-use Rattle.spec_turn.specs.Rule.{TurnRule}
-use Rattle.spec_turn.specs.Steps.{Sat, draws}
-use Rattle.spec_turn.proofs.Keeps.{draws_keep}
+use Rattle.mal_turn.specs.Rule.{TurnRule}
+use Rattle.mal_turn.specs.Steps.{Sat, draws}
+use Rattle.mal_turn.proofs.Keeps.{draws_keep}
 use Rattle.mal_turn.proofs.table.Turn.try_draw.Goals as goal
 
 pub compare_exchange-found-requires : goal.compare_exchange-found-requires

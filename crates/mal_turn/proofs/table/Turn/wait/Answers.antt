@@ -1,9 +1,9 @@
 use Rattle.std.proofs.Common.{rules, sym, subst, ◌∙◌}
 use mathlib.Core.Option as lean
 use Rattle.atomic_table.specs.Table.{Allows, step}
-use Rattle.spec_turn.specs.Rule.{TurnRule}
-use Rattle.spec_turn.specs.Steps.{Sat, looks}
-use Rattle.spec_turn.proofs.Keeps.{looks_keep}
+use Rattle.mal_turn.specs.Rule.{TurnRule}
+use Rattle.mal_turn.specs.Steps.{Sat, looks}
+use Rattle.mal_turn.proofs.Keeps.{looks_keep}
 use Rattle.mal_turn.proofs.table.Turn.wait.Goals as goal
 
 pub load-requires : goal.load-requires

@@ -1,0 +1,18 @@
+-- The grammar of accounts: which account a text spells.
+use Rattle.std.specs.Prelude.{◌≡◌, ℕ, false, List, [], ◌∷◌, ◌++◌, codes}
+use Rattle.std.specs.List.{list_any}
+use Rattle.spec_dimacs.specs.Rows.{rows_of}
+use Rattle.spec_script.specs.Limits.{served}
+use Rattle.spec_script.specs.Grammar as script
+use Rattle.mal_history.specs.Grammar as history
+use Rattle.mal_account.specs.Accounts.{Account, is_history_line}
+
+-- a text spells an account: its lines are those of a text that spells the script, of which none is the line `history`,
+-- that line, and those of a text that spells the history
+pub record Spells (text : List ℕ) (a : Account) : Type 0 where
+  pub front : List ℕ
+  pub behind : List ℕ
+  pub rows : rows_of text ≡ rows_of front ++ (codes "history" ∷ []) ∷ rows_of behind
+  pub inside : list_any is_history_line (rows_of front) ≡ false
+  pub script : script.Spells served front a.script
+  pub history : history.Spells behind a.history

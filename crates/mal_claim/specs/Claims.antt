@@ -1,0 +1,94 @@
+-- Reading a claim that nothing satisfies a formula and assumptions, with its proof: the claim, or the first fault.
+use Rattle.std.specs.Prelude.{ℕ, suc, Bool, true, not, ◌||◌, List, [], ◌∷◌, length, codes, bytes_eq, if◌then◌else◌, None, Result, Ok, Err}
+use Rattle.std.specs.List.{list_any}
+use Rattle.mal_base.specs.Formulas.{Formulated}
+use Rattle.mal_base.specs.declared.block_fault.BlockFault.{BlockFault}
+use Rattle.spec_text.specs.Inputs.{is_word_line}
+use Rattle.spec_dimacs.specs.Rows.{is_passed, rows_of}
+use Rattle.spec_dimacs.specs.Reading.{◌>>=◌, read_rows}
+use Rattle.mal_base.specs.declared.line_fault.LineFault.{LineFault}
+use Rattle.mal_base.specs.declared.line_fault.LineFault.TheVariants.{BadLine, Dimacs}
+use Rattle.spec_script.specs.Assumptions.{assumptions_of}
+use Rattle.spec_lrat.specs.Reading as proof
+use Rattle.mal_claim.specs.Proofs.{Numbered, lines_from}
+
+-- a formula, assumptions, and the lines of a proof that nothing satisfies both
+pub record Claim : Type 0 where
+  pub formula : Formulated
+  pub assumptions : List ℕ
+  pub lines : List Numbered
+
+-- the first fault of a text: no line says `proof`, a line before that one is wrong, or a line of the proof, which are
+-- numbered from 1 on behind it
+pub data Fault : Type 0 where
+  NoProof : Fault
+  InFormula : (line : ℕ) → (fault : LineFault) → Fault
+  InProof : (line : ℕ) → (fault : proof.Fault) → Fault
+
+-- the line of the one word `proof`
+abbrev pub is_proof_line : List (List ℕ) → Bool
+is_proof_line row = is_word_line (codes "proof") row
+
+-- a line of the formula: its first word is neither `a` nor `proof`
+abbrev pub is_formula_line : List (List ℕ) → Bool
+is_formula_line [] = true
+is_formula_line (first ∷ others) = not (bytes_eq first (codes "a") || bytes_eq first (codes "proof"))
+
+-- the lines of the formula: those before the first line that is none
+abbrev pub formula_rows : List (List (List ℕ)) → List (List (List ℕ))
+formula_rows [] = []
+formula_rows (row ∷ rows) = if is_formula_line row then row ∷ formula_rows rows else []
+
+-- the lines behind them
+abbrev pub behind_formula : List (List (List ℕ)) → List (List (List ℕ))
+behind_formula [] = []
+behind_formula (row ∷ rows) = if is_formula_line row then behind_formula rows else row ∷ rows
+
+-- a fault of the formula, and one of a line before the line `proof`
+abbrev pub in_formula : {A : Type 0} → Result A (ℕ × BlockFault) → Result A Fault
+in_formula (Ok x) = Ok x
+in_formula (Err (line, fault)) = Err (InFormula line (Dimacs fault))
+
+abbrev pub in_line : {A : Type 0} → ℕ → Result A LineFault → Result A Fault
+in_line line (Ok x) = Ok x
+in_line line (Err fault) = Err (InFormula line fault)
+
+-- a fault of the proof
+abbrev pub in_proof : {A : Type 0} → Result A (ℕ × proof.Fault) → Result A Fault
+in_proof (Ok x) = Ok x
+in_proof (Err (line, fault)) = Err (InProof line fault)
+
+-- the assumptions, and the lines behind the line `proof`
+pub record Assumed : Type 0 where
+  pub assumptions : List ℕ
+  pub rows : List (List (List ℕ))
+
+-- between the line of the assumptions and the line `proof` only such lines stand as are passed over
+abbrev pub to_proof : List ℕ → ℕ → List (List (List ℕ)) → Result Assumed Fault
+to_proof lits line [] = Err NoProof
+to_proof lits line (row ∷ rows) =
+    if is_proof_line row then Ok (record { assumptions = lits; rows = rows })
+    else if is_passed row then to_proof lits (suc line) rows
+    else Err (InFormula (suc line) BadLine)
+
+-- behind so many lines of the formula stands the line `proof`, or the line of the assumptions
+abbrev pub assumed : ℕ → ℕ → List (List (List ℕ)) → Result Assumed Fault
+assumed variables line [] = Err NoProof
+assumed variables line (row ∷ rows) =
+    if is_proof_line row then Ok (record { assumptions = []; rows = rows })
+    else in_line (suc line) (assumptions_of variables row) >>= λ lits. to_proof lits (suc line) rows
+
+-- the claim of this formula and what stands behind it
+abbrev pub claim_of : Formulated → Assumed → Result Claim Fault
+claim_of f a = in_proof (lines_from 1 (length f.clauses) a.rows) >>= λ lines. Ok (record { formula = f; assumptions = a.assumptions; lines = lines })
+
+-- the lines of a text in which a line says `proof`
+abbrev pub read_lines : List (List (List ℕ)) → Result Claim Fault
+read_lines rows =
+    in_formula (read_rows (formula_rows rows) 0 None)
+    >>= λ f. assumed f.variables (length (formula_rows rows)) (behind_formula rows)
+    >>= claim_of f
+
+-- the claim of a text, or its first fault; the line `proof` is looked for before anything else is read
+abbrev pub read_text : List ℕ → Result Claim Fault
+read_text text = if list_any is_proof_line (rows_of text) then read_lines (rows_of text) else Err NoProof

@@ -1,5 +1,0 @@
-pub mod Accounts
-pub mod Grammar
-pub mod FaultLines
-pub mod Laws
-pub mod Examples

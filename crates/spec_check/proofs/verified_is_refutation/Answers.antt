@@ -1,8 +1,0 @@
-use Rattle.spec_check.proofs.VerdictLemmas.{verified-refutation, verified-unsatisfiable}
-use Rattle.spec_check.proofs.verified_is_refutation.Goals as goal
-
-pub returns-clause-refutation : goal.returns-clause-refutation
-returns-clause-refutation c = verified-refutation
-
-pub returns-clause-unsatisfiable : goal.returns-clause-unsatisfiable
-returns-clause-unsatisfiable c = verified-unsatisfiable

@@ -1,4 +1,0 @@
-pub mod Proofs
-pub mod Grammar
-pub mod Laws
-pub mod Examples

@@ -1,3 +1,0 @@
--- what crates above cite
-pub mod RecordLemmas
-pub mod OpenedLemmas

@@ -1,5 +1,0 @@
-use Rattle.spec_service.proofs.OpenedLemmas.{opened-is_found}
-use Rattle.spec_service.proofs.opened_job_is_found.Goals as goal
-
-pub returns : goal.returns
-returns c = opened-is_found

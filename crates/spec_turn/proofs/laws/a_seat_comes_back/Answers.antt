@@ -1,5 +1,0 @@
-use Rattle.spec_turn.proofs.Wholes.{back_joined, back_whole}
-use Rattle.spec_turn.proofs.laws.a_seat_comes_back.Goals as goal
-
-pub returns : goal.returns
-returns c = record { joined = back_joined; whole = back_whole }

@@ -1,5 +1,0 @@
-use Rattle.spec_turn.proofs.Wholes.{extends}
-use Rattle.spec_turn.proofs.laws.a_turn_adds_one_entry.Goals as goal
-
-pub returns : goal.returns
-returns g c = extends

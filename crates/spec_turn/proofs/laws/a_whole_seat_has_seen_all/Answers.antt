@@ -1,5 +1,0 @@
-use Rattle.spec_turn.proofs.Wholes.{whole_sees}
-use Rattle.spec_turn.proofs.laws.a_whole_seat_has_seen_all.Goals as goal
-
-pub returns : goal.returns
-returns g c = whole_sees g.T.Recorded.stands

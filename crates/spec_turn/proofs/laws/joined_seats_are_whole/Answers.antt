@@ -1,5 +1,0 @@
-use Rattle.spec_turn.proofs.Wholes.{many_whole, joined_whole}
-use Rattle.spec_turn.proofs.laws.joined_seats_are_whole.Goals as goal
-
-pub returns : goal.returns
-returns c = record { many = many_whole; all = joined_whole }

@@ -1,6 +1,0 @@
-use Rattle.spec_turn.proofs.Lists.{part-begins}
-use Rattle.spec_turn.proofs.Wholes.{begins_later}
-use Rattle.spec_turn.proofs.laws.what_was_seen_stays.Goals as goal
-
-pub returns : goal.returns
-returns g c = record { later = begins_later; part = part-begins }

@@ -1,5 +1,0 @@
-pub mod Numbers
-pub mod Rule
-pub mod Steps
-pub mod Many
-pub mod Laws
