@@ -20,7 +20,7 @@ use Rattle.mal_answer.specs.Claims.{TellsFault, TellsRefusal, TellsUnproved, IsU
 use Rattle.mal_answer.specs.Command.{Refuses, Denies}
 use Rattle.mal_answer.specs.Commands.{IsProved, checking, claims}
 use Rattle.mal_answer.specs.declared.answer.Complaint.{Complaint}
-use Rattle.mal_words.specs.declared.request.Request.TheVariants.{Check}
+use Rattle.mal_answer.specs.declared.words.request.Request.TheVariants.{Check}
 use Rattle.mal_answer.proofs.Complaints.{denied-as, read-once}
 use Rattle.mal_answer.proofs.Lawful.{are-lawful, fault-answered}
 

@@ -11,9 +11,9 @@ use Rattle.mal_answer.specs.Command.{Command, Denies, Grammar, IsLawful, IsRead,
 use Rattle.mal_answer.specs.Commands.{accounts, claims, scripts}
 use Rattle.mal_answer.specs.Laws.{AreLawful, HaveOwnWords}
 use Rattle.mal_answer.specs.declared.answer.Complaint.{Complaint}
-use Rattle.mal_words.proofs.Meanings.{check-words, gen-words, gen_run-words, replay-words, run-words}
-use Rattle.mal_words.specs.Forms.{Form}
-use Rattle.mal_words.specs.declared.request.Request.TheVariants.{Run, Check, Replay, Generate, RunGenerated}
+use Rattle.mal_answer.proofs.Meanings.{check-words, gen-words, gen_run-words, replay-words, run-words}
+use Rattle.mal_answer.specs.Forms.{Form}
+use Rattle.mal_answer.specs.declared.words.request.Request.TheVariants.{Run, Check, Replay, Generate, RunGenerated}
 use Rattle.mal_answer.proofs.Complaints.{fault-refused, read-faulty}
 
 -- a text with a fault spells nothing

@@ -1,9 +1,11 @@
 -- what crates above cite
+pub mod Meanings
 pub mod Complaints
 pub mod Lawful
 pub mod Serving
 pub mod ScriptLemmas
 -- what this crate alone cites
+pub mod Decimals
 pub mod Denials
 mod Fronts
 pub mod Counting

@@ -13,7 +13,7 @@ use Rattle.mal_answer.specs.Commands.{running}
 use Rattle.mal_answer.specs.declared.answer.Complaint.{Complaint}
 use Rattle.mal_answer.proofs.Complaints.{refused-as}
 use Rattle.mal_answer.proofs.Lawful.{are-lawful, refuses}
-use Rattle.mal_words.specs.declared.request.Request.TheVariants.{Run}
+use Rattle.mal_answer.specs.declared.words.request.Request.TheVariants.{Run}
 
 -- a text that has a first fault spells no script, and a line that tells the fault of reading tells the first one
 told : (text line : List ℕ) (n : ℕ) (fault : LineFault) → read_text served text ≡ Err (n, fault) → line ≡ fault_line n fault → Refuses (running 1) text line

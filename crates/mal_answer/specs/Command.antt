@@ -1,6 +1,6 @@
 -- What a command of the program is, as one value.
 use Rattle.std.specs.Prelude.{◌≡◌, ℕ, List, [], Bool, true, false, Result, Ok, Err}
-use Rattle.mal_words.specs.Forms.{Form}
+use Rattle.mal_answer.specs.Forms.{Form}
 
 -- a grammar: what a text spells, what reading it gives, which is the value or the first fault, and the line that tells
 -- the fault

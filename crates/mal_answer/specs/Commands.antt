@@ -1,9 +1,9 @@
 -- The commands of the program, each a value.
 use Rattle.std.specs.Prelude.{◌≡◌, ◌⊎◌, ℕ, List, [], ◌∷◌, codes}
 use Rattle.mal_history.specs.Written.{line_at}
-use Rattle.mal_words.specs.Forms.{check_form, gen_form, replay_form, run_form}
-use Rattle.mal_words.specs.declared.request.Request.{Request}
-use Rattle.mal_words.specs.declared.request.Request.TheVariants.{Run, Check, Replay, Generate, RunGenerated}
+use Rattle.mal_answer.specs.Forms.{check_form, gen_form, replay_form, run_form}
+use Rattle.mal_answer.specs.declared.words.request.Request.{Request}
+use Rattle.mal_answer.specs.declared.words.request.Request.TheVariants.{Run, Check, Replay, Generate, RunGenerated}
 use Rattle.mal_account.specs.Accounts.{Account}
 use Rattle.mal_account.specs.Accounts as account
 use Rattle.mal_account.specs.FaultLines as account_lines

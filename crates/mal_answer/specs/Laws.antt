@@ -3,8 +3,8 @@ use Rattle.std.specs.Prelude.{ℕ, List, [], ◌++◌, map, codes}
 use Rattle.mal_answer.specs.Command.{IsLawful}
 use Rattle.mal_answer.specs.Commands.{IsRunOf, command_of, replaying}
 use Rattle.mal_history.specs.Formed.{IsHistory}
-use Rattle.mal_words.specs.Requests.{IsAskedBy}
-use Rattle.mal_words.specs.declared.request.Request.{Request}
+use Rattle.mal_answer.specs.Requests.{IsAskedBy}
+use Rattle.mal_answer.specs.declared.words.request.Request.{Request}
 use Rattle.spec_hall.specs.Events.{bare}
 use Rattle.spec_script.specs.Formed.{IsScript}
 use Rattle.spec_script.specs.Limits.{served}

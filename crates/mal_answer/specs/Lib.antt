@@ -1,3 +1,10 @@
+pub mod Forms
+pub mod CommandLine
+pub mod Usage
+pub mod Requests
+pub mod Found
+pub mod WordExamples
+pub mod WordLaws
 pub mod Devices
 pub mod Summaries
 pub mod Command

@@ -1,5 +1,5 @@
-//! What the commands of the program answer, what is written for it, and what the statuses say: each command but those
-//! that run slices.
+//! What the words of the command line ask for, what the commands answer, what is written for it, and what the statuses
+//! say: each command but those that run slices.
 #![tactic(auto)]
 
 mod answer;
@@ -10,6 +10,7 @@ mod laws;
 mod reading;
 mod scripts;
 mod summary;
+mod words;
 
 pub use answer::{Complaint, Texts};
 pub use checking::check;
@@ -19,3 +20,6 @@ pub use laws::{commands_are_lawful, commands_have_own_words, run_replays};
 pub use reading::input;
 pub use scripts::script_of;
 pub use summary::summarized;
+pub use words::{
+    Request, request_of, usage_line, what_is_asked, word_examples, words_have_one_meaning,
+};

@@ -4,8 +4,8 @@ ghost use Rattle.std.specs.Prelude.{◌≡◌, IfOk, IfErr};
 ghost use Rattle.mal_answer.specs.{Answers.{IsInput, IsMissed, IsUnread}, Commands.{command_of}, Devices.{Gave, device}, Served.{ReadsNothing}};
 
 use crate::answer::Complaint;
+use crate::words::Request;
 use mal_io::{ReadAllError, Source, read_all};
-use mal_words::Request;
 use std::alloc::Global;
 
 /// The most bytes of an input.

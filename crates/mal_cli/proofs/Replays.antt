@@ -11,7 +11,7 @@ use Rattle.mal_answer.specs.declared.answer.Complaint.{Complaint}
 use Rattle.mal_answer.proofs.Complaints.{denied-as, read-once}
 use Rattle.mal_answer.proofs.Lawful.{are-lawful, fault-answered}
 use Rattle.mal_history.specs.Written.{line_at}
-use Rattle.mal_words.specs.declared.request.Request.TheVariants.{Replay}
+use Rattle.mal_answer.specs.declared.words.request.Request.TheVariants.{Replay}
 use Rattle.mal_account.specs.Accounts.{Account, read_text}
 use Rattle.mal_account.specs.Grammar.{Spells}
 use Rattle.mal_account.proofs.ReadLemmas.{spelled-is-read}

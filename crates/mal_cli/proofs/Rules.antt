@@ -8,11 +8,11 @@ use Rattle.mal_answer.specs.Answers.{IsAnswer, IsConcluded}
 use Rattle.mal_answer.specs.Commands.{command_of}
 use Rattle.mal_answer.specs.Devices.{Device}
 use Rattle.mal_answer.specs.Served.{HasDone}
-use Rattle.mal_words.specs.Requests.{Means}
+use Rattle.mal_answer.specs.Requests.{Means}
 use Rattle.mal_answer.specs.declared.answer.Complaint.{Complaint}
 use Rattle.mal_answer.specs.declared.answer.Texts.{Texts}
-use Rattle.mal_words.specs.declared.request.Request.{Request}
-use Rattle.mal_words.proofs.Meanings.{one_meaning}
+use Rattle.mal_answer.specs.declared.words.request.Request.{Request}
+use Rattle.mal_answer.proofs.Meanings.{one_meaning}
 
 pub ruleset answer_lemmas = (answered, unanswered)
 

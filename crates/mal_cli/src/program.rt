@@ -2,17 +2,17 @@
 
 ghost use Rattle.std.specs.Prelude.{◌≡◌, ◌⊎◌, map, string_bytes};
 ghost use Rattle.mal_answer.specs.{Answers.{IsAnswer, IsAnswerTo}, Commands.{command_of}, Devices.{AreSilent, Complained, device}, Served.{HasDone, ReadsNothing}};
-ghost use Rattle.mal_words.specs.{Requests.{IsRequest, Means, MeansNothing}, Usage.{usage_line}, declared.request.Request.{Request}};
+ghost use Rattle.mal_answer.specs.{Requests.{IsRequest, Means, MeansNothing}, Usage.{usage_line}, declared.request.Request.{Request}};
 
 use crate::generating::run_generated;
 use crate::replaying::replay_text;
 use crate::running::run_text;
 use mal_answer::{
-    BAD_WORDS, Complaint, OUT_OF_MEMORY, Texts, check, complain, conclude, generate_text, input,
+    BAD_WORDS, Complaint, OUT_OF_MEMORY, Request, Texts, check, complain, conclude, generate_text,
+    input, request_of, usage_line,
 };
 use mal_io::{Sink, Source};
 use mal_pool::Gate;
-use mal_words::{Request, request_of, usage_line};
 use std::alloc::Global;
 use std::sync::Wait;
 use std::thread::Threads;

@@ -5,8 +5,8 @@ ghost use Rattle.mal_answer.specs.{Answers.{IsAnswerTo, logged}, Commands.{IsRun
 ghost use Rattle.mal_pool.specs.Posts.{HasRun};
 ghost use Rattle.spec_run.specs.Run.{IsRun};
 
+use crate::run::run_served;
 use mal_answer::{Complaint, Texts, script_of};
-use mal_board::run_served;
 use mal_hall::Hall;
 use mal_pool::{Gate, replies, run_alone};
 use mal_script::Script;

@@ -5,7 +5,7 @@ ghost use Rattle.mal_pool.specs.Posts.{HasRun};
 
 use super::gates::{Together, check_replies};
 use super::scripts::{FOUR_REPLIES, FOUR_TENANTS, single_jobs};
-use mal_board::run_served;
+use mal_cli::run_served;
 use mal_hall::Hall;
 use mal_pool::{Gate, PlainGate, run_all};
 use mal_script::{Script, read};

@@ -1,10 +1,10 @@
 //! The program over devices that fail, that are full, and that give what no command takes: what is left of the source,
 //! and what was written.
 
+use mal_answer::usage_line;
 use mal_cli::top;
 use mal_io::{MemSink, MemSource, Source, read_all};
 use mal_pool::PlainGate;
-use mal_words::usage_line;
 use std::alloc::{AllocError, Global};
 use std::process::Abort;
 use std::sync::Wait;

@@ -1,7 +1,7 @@
 use Rattle.std.proofs.Common.{sym, subst}
 use Rattle.mal_answer.specs.Answers.{IsAnswerTo}
 use Rattle.mal_answer.specs.Commands.{command_of}
-use Rattle.mal_words.specs.declared.request.Request.{Request}
+use Rattle.mal_answer.specs.declared.words.request.Request.{Request}
 use Rattle.mal_cli.proofs.program.answer.Goals as goal
 
 pub returns-in-Generate : goal.returns-in-Generate

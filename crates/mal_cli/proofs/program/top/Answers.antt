@@ -1,7 +1,7 @@
 use Rattle.std.proofs.Common.{map, string_bytes, subst}
 use Rattle.std.specs.Prelude.{Option}
-use Rattle.mal_words.specs.Found.{IsMeaning}
-use Rattle.mal_words.specs.declared.request.Request.{Request}
+use Rattle.mal_answer.specs.Found.{IsMeaning}
+use Rattle.mal_answer.specs.declared.words.request.Request.{Request}
 use Rattle.mal_cli.proofs.Rules.{done-for}
 use Rattle.mal_cli.proofs.program.top.Goals as goal
 
