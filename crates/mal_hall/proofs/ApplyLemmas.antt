@@ -11,7 +11,7 @@ use Rattle.mal_base.specs.declared.verdict.Outcome.{Outcome}
 use Rattle.mal_base.specs.declared.verdict.Outcome.TheVariants.{Ran, Starved, Lost}
 use Rattle.mal_hall.specs.Applied.{Enters, HasEntered, IsBackOf, StartsAt, listed_in, listed_last}
 use Rattle.mal_hall.specs.Offered.{HasBalanced, HasEnded, HasExchanged, HasStarted, IsFirst, MayEnd, handed_of}
-use Rattle.mal_hall.specs.HallView.{Inside, IsHall, HallView, events_in, next_number, out_in}
+use Rattle.mal_hall.specs.HallView.{Inside, IsHall, HallView, next_number, out_in}
 use Rattle.mal_history.specs.declared.event.Event as written
 use Rattle.mal_history.specs.declared.event.Event.TheVariants as of
 use Rattle.mal_history.specs.declared.event.Share.{Share}
@@ -31,7 +31,6 @@ use Rattle.mal_base.specs.declared.hall_fault.OpenFault.{OpenFault}
 use Rattle.mal_base.specs.declared.hall_fault.ReviseFault.{ReviseFault}
 use Rattle.spec_hall.proofs.DecidedCallLemmas.{call-is_decided}
 use Rattle.spec_hall.proofs.DrivenLemmas.{balances-decided, nodes-decided}
-use Rattle.mal_hall.proofs.HallLemmas.{hall-bare, hall-seated, hall-spots}
 use Rattle.mal_hall.proofs.InsideLemmas.{Stands, inside-finish, inside-start}
 use Rattle.spec_hall.proofs.KeyLemmas.{is_key-Decides}
 use Rattle.spec_hall.proofs.LeasesLemmas.{lease-worker}
@@ -195,23 +194,22 @@ finish-entered w past now k index worker l outcome back out came ended =
 no-test : {P : Type 0} → (P → ⊥) → IsTrue false ↔ P
 no-test other = (λ t. absurd (cc), λ p. absurd (other p))
 
--- the volumes that the last event of a hall lists
-pub listed-test : (x : Inside) (es : List written.Event) (e : written.Event) (b : Bool) (vs : List Share) → IsHall x → es ≡ x.history.events → slice_get es (length es - 1) ≡ Some e → IsTrue b ↔ (listed_in e ≡ Some vs) → IsTrue b ↔ (listed_last (map bare (events_in x)) ≡ Some vs)
-listed-test x es e b vs hall same got test =
-    let whole : listed_last (map bare (events_in x)) ≡ listed_in e =
-    ap listed_last (hall-bare x hall ∙ sym same) ∙ ap (λ (o : Option written.Event). option_map_or listed_in o None) got in
+-- the volumes that the last event of a history lists
+pub listed-test : (past : List Event) (es : List written.Event) (e : written.Event) (b : Bool) (vs : List Share) → es ≡ map bare past → slice_get es (length es - 1) ≡ Some e → IsTrue b ↔ (listed_in e ≡ Some vs) → IsTrue b ↔ (listed_last (map bare past) ≡ Some vs)
+listed-test past es e b vs same got test =
+    let whole : listed_last (map bare past) ≡ listed_in e = ap listed_last (sym same) ∙ ap (λ (o : Option written.Event). option_map_or listed_in o None) got in
     subst (λ (o : Option (List Share)). IsTrue b ↔ (o ≡ Some vs)) (sym whole) test
 
 -- the key of the job in a seat
-keys-at : (x : Inside) (at : ℕ) → IsHall x → slice_get (keys_of (events_in x)) at ≡ option_map (λ (s : Seat). s.job.titled.key) (slice_get x.seats at)
+keys-at : (x : Inside) (at : ℕ) → IsHall x → slice_get (keys_of x.entries.events) at ≡ option_map (λ (s : Seat). s.job.titled.key) (slice_get x.seats at)
 keys-at x at hall =
-    ap (λ (ks : List Key). slice_get ks at) (seated-keys (events_in x) x.seats (hall-seated x hall).jobs)
+    ap (λ (ks : List Key). slice_get ks at) (seated-keys x.entries.events x.seats hall.seated.jobs)
     ∙ slice_get-map (λ (s : Seat). s.job.titled.key) x.seats at
 
-pub named-none : (x : Inside) (at : ℕ) (k : Key) → IsHall x → length x.seats ≤ at → IsTrue false ↔ (slice_get (keys_of (events_in x)) at ≡ Some k)
+pub named-none : (x : Inside) (at : ℕ) (k : Key) → IsHall x → length x.seats ≤ at → IsTrue false ↔ (slice_get (keys_of x.entries.events) at ≡ Some k)
 named-none x at k hall past = no-test (λ e. other e)
   where
-    gone : slice_get (keys_of (events_in x)) at ≡ None
+    gone : slice_get (keys_of x.entries.events) at ≡ None
     gone = keys-at x at hall ∙ ap (option_map (λ (s : Seat). s.job.titled.key)) (behind x.seats at past)
       where
         behind : (xs : List Seat) (n : ℕ) → length xs ≤ n → slice_get xs n ≡ None
@@ -219,16 +217,16 @@ named-none x at k hall past = no-test (λ e. other e)
         behind (x ∷ xs) zero long = absurd (omega (arith, long))
         behind (x ∷ xs) (suc n) long = behind xs n (omega (arith, long))
 
-    other : slice_get (keys_of (events_in x)) at ≡ Some k → ⊥
+    other : slice_get (keys_of x.entries.events) at ≡ Some k → ⊥
     other e = let both : None ≡ Some k = sym gone ∙ e in absurd (cc)
 
-pub named-some : (x : Inside) (at : ℕ) (k : Key) (s : Seat) (b : Bool) → IsHall x → at < length x.seats → s ≡ get_or x.seats at s → b ≡ is_key k s.job.titled.key → IsTrue b ↔ (slice_get (keys_of (events_in x)) at ≡ Some k)
+pub named-some : (x : Inside) (at : ℕ) (k : Key) (s : Seat) (b : Bool) → IsHall x → at < length x.seats → s ≡ get_or x.seats at s → b ≡ is_key k s.job.titled.key → IsTrue b ↔ (slice_get (keys_of x.entries.events) at ≡ Some k)
 named-some x at k s b hall low read test = (
   λ t. here ∙ ap Some (sym ((is_key-Decides k s.job.titled.key).0 (sym test ∙ t))),
   λ e. test ∙ (is_key-Decides k s.job.titled.key).1 (equal (sym e ∙ here)),
 )
   where
-    here : slice_get (keys_of (events_in x)) at ≡ Some s.job.titled.key
+    here : slice_get (keys_of x.entries.events) at ≡ Some s.job.titled.key
     here = keys-at x at hall ∙ ap (option_map (λ (t : Seat). t.job.titled.key)) (slice_get_read x.seats (length x.seats) at s refl low read)
 
     equal : Some k ≡ Some s.job.titled.key → k ≡ s.job.titled.key
@@ -241,10 +239,10 @@ held-none past worker index k none = no-test (λ e. other e)
     other : lease_of worker (leases past) ≡ Some (record { worker = worker; key = k; index = index }) → ⊥
     other e = let both : None ≡ Some (record { worker = worker; key = k; index = index }) = sym none ∙ e in absurd (cc)
 
-pub held-other : (x : Inside) (worker index : ℕ) (k : Key) (spot : Spot) → IsHall x → IsAt (events_in x) (tags_of x.seats) worker spot → (spot.index ≡ index → ⊥) → IsTrue false ↔ (lease_of worker (leases (events_in x)) ≡ Some (record { worker = worker; key = k; index = index }))
+pub held-other : (x : Inside) (worker index : ℕ) (k : Key) (spot : Spot) → IsHall x → IsAt x.entries.events (tags_of x.seats) worker spot → (spot.index ≡ index → ⊥) → IsTrue false ↔ (lease_of worker (leases x.entries.events) ≡ Some (record { worker = worker; key = k; index = index }))
 held-other x worker index k spot hall is apart = no-test (λ e. other e)
   where
-    other : lease_of worker (leases (events_in x)) ≡ Some (record { worker = worker; key = k; index = index }) → ⊥
+    other : lease_of worker (leases x.entries.events) ≡ Some (record { worker = worker; key = k; index = index }) → ⊥
     other e =
         let one : LeaseOut = record { worker = worker; key = is.tag.key; index = spot.index } in
         let two : LeaseOut = record { worker = worker; key = k; index = index } in
@@ -253,28 +251,28 @@ held-other x worker index k spot hall is apart = no-test (λ e. other e)
         apart (ap (λ (h : LeaseOut). h.index) same)
 
 -- the key of the job at a spot
-spot-key : (x : Inside) (worker : ℕ) (spot : Spot) → IsHall x → (is : IsAt (events_in x) (tags_of x.seats) worker spot) → slice_get (keys_of (events_in x)) spot.job ≡ Some is.tag.key
+spot-key : (x : Inside) (worker : ℕ) (spot : Spot) → IsHall x → (is : IsAt x.entries.events (tags_of x.seats) worker spot) → slice_get (keys_of x.entries.events) spot.job ≡ Some is.tag.key
 spot-key x worker spot hall is =
-    ap (λ (ks : List Key). slice_get ks spot.job) (seated-keys (events_in x) x.seats (hall-seated x hall).jobs ∙ tags-keys x.seats)
+    ap (λ (ks : List Key). slice_get ks spot.job) (seated-keys x.entries.events x.seats hall.seated.jobs ∙ tags-keys x.seats)
     ∙ (slice_get-map (λ (t : Tag). t.key) (tags_of x.seats) spot.job ∙ ap (option_map (λ (t : Tag). t.key)) is.at)
   where
     tags-keys : (ss : List Seat) → seat_keys ss ≡ map (λ (t : Tag). t.key) (tags_of ss)
     tags-keys [] = refl
     tags-keys (s ∷ ss) = ap (λ (ks : List Key). s.job.titled.key ∷ ks) (tags-keys ss)
 
-pub held-test : (x : Inside) (worker index : ℕ) (k : Key) (spot : Spot) (b : Bool) → IsHall x → IsAt (events_in x) (tags_of x.seats) worker spot → spot.index ≡ index → IsTrue b ↔ (slice_get (keys_of (events_in x)) spot.job ≡ Some k) → IsTrue b ↔ (lease_of worker (leases (events_in x)) ≡ Some (record { worker = worker; key = k; index = index }))
+pub held-test : (x : Inside) (worker index : ℕ) (k : Key) (spot : Spot) (b : Bool) → IsHall x → IsAt x.entries.events (tags_of x.seats) worker spot → spot.index ≡ index → IsTrue b ↔ (slice_get (keys_of x.entries.events) spot.job ≡ Some k) → IsTrue b ↔ (lease_of worker (leases x.entries.events) ≡ Some (record { worker = worker; key = k; index = index }))
 held-test x worker index k spot b hall is same test = (λ t. yes (test.0 t), λ e. test.1 (no e))
   where
-    here : slice_get (keys_of (events_in x)) spot.job ≡ Some is.tag.key
+    here : slice_get (keys_of x.entries.events) spot.job ≡ Some is.tag.key
     here = spot-key x worker spot hall is
 
-    yes : slice_get (keys_of (events_in x)) spot.job ≡ Some k → lease_of worker (leases (events_in x)) ≡ Some (record { worker = worker; key = k; index = index })
+    yes : slice_get (keys_of x.entries.events) spot.job ≡ Some k → lease_of worker (leases x.entries.events) ≡ Some (record { worker = worker; key = k; index = index })
     yes e =
         let both : Some is.tag.key ≡ Some k = sym here ∙ e in
         let key : is.tag.key ≡ k = cc in
         is.out ∙ (ap (λ (j : Key). let o : Option LeaseOut = Some (record { worker = worker; key = j; index = spot.index }) in o) key ∙ ap (λ (n : ℕ). let o : Option LeaseOut = Some (record { worker = worker; key = k; index = n }) in o) same)
 
-    no : lease_of worker (leases (events_in x)) ≡ Some (record { worker = worker; key = k; index = index }) → slice_get (keys_of (events_in x)) spot.job ≡ Some k
+    no : lease_of worker (leases x.entries.events) ≡ Some (record { worker = worker; key = k; index = index }) → slice_get (keys_of x.entries.events) spot.job ≡ Some k
     no e =
         let one : LeaseOut = record { worker = worker; key = is.tag.key; index = spot.index } in
         let two : LeaseOut = record { worker = worker; key = k; index = index } in
@@ -366,23 +364,23 @@ live-none (s ∷ ss) e = by_test (is_live_seat s) e (live-none ss)
     by_test true f rest = absurd (cc)
     by_test false f rest = rest f
 
-pub answered-test : (x : Inside) (b : Bool) → IsHall x → b ≡ list_all (λ (s : Seat). not (is_live_seat s)) x.seats → IsTrue b ↔ (lives (states (events_in x)) ≡ [])
+pub answered-test : (x : Inside) (b : Bool) → IsHall x → b ≡ list_all (λ (s : Seat). not (is_live_seat s)) x.seats → IsTrue b ↔ (lives (states x.entries.events) ≡ [])
 answered-test x b hall scan = (
   λ t. jobs ∙ none-live x.seats (sym scan ∙ t),
   λ e. scan ∙ live-none x.seats (sym jobs ∙ e),
 )
   where
-    jobs : lives (states (events_in x)) ≡ lives (jobs_in x.seats)
-    jobs = ap lives (hall-seated x hall).jobs
+    jobs : lives (states x.entries.events) ≡ lives (jobs_in x.seats)
+    jobs = ap lives hall.seated.jobs
 
 -- no lease is out
-pub home-test : (x : Inside) (sp : List (Option Spot)) (n : ℕ) → IsHall x → sp ≡ x.spots → n ≡ out_in sp → IsTrue (nat_eq n 0) ↔ (leases (events_in x) ≡ [])
-home-test x sp n hall same scan = (λ t. none (leases (events_in x)) (sym is ∙ t), λ e. is ∙ ap (λ (ls : List LeaseOut). length ls == 0) e)
+pub home-test : (x : Inside) (sp : List (Option Spot)) (n : ℕ) → IsHall x → sp ≡ x.spots → n ≡ out_in sp → IsTrue (nat_eq n 0) ↔ (leases x.entries.events ≡ [])
+home-test x sp n hall same scan = (λ t. none (leases x.entries.events) (sym is ∙ t), λ e. is ∙ ap (λ (ls : List LeaseOut). length ls == 0) e)
   where
-    is : nat_eq n 0 ≡ (length (leases (events_in x)) == 0)
+    is : nat_eq n 0 ≡ (length (leases x.entries.events) == 0)
     is =
         ap (λ (m : ℕ). m == 0) (scan ∙ ap out_in same)
-        ∙ spots-home x.history.workers (events_in x) (tags_of x.seats) x.spots (hall-seated x hall).some_worker hall.bound (hall-seated x hall).legal (hall-spots x hall)
+        ∙ spots-home x.entries.workers x.entries.events (tags_of x.seats) x.spots hall.seated.some_worker hall.bound hall.seated.legal hall.spots
 
     none : (ls : List LeaseOut) → (length ls == 0) ≡ true → ls ≡ []
     none [] e = refl

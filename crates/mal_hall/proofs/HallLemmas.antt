@@ -1,15 +1,11 @@
-use Rattle.std.proofs.Common.{◌≡◌, ℕ, zero, ◌+◌, ◌-◌, ◌<◌, ◌≤◌, true, false, List, [], ◌∷◌, ◌++◌, map, length, get_or, slice_get, slice_set, suc, Bool, cond, Option, Some, None, option_map, is_some, refl, sym, ◌∙◌, ap, subst, arith, append-nil}
+use Rattle.std.proofs.Common.{◌≡◌, ℕ, zero, ◌+◌, ◌-◌, ◌<◌, ◌≤◌, true, false, List, [], ◌∷◌, ◌++◌, length, get_or, slice_get, slice_set, suc, Bool, cond, Option, Some, None, option_map, is_some, refl, sym, ◌∙◌, ap, subst, arith, append-nil}
 use Rattle.std.specs.Prelude.{replicate}
 use Rattle.std.specs.Option.{option_map_or}
 use Rattle.std.proofs.lemmas.List.{map-append}
-use Rattle.std.proofs.lemmas.List.Concat.{flat_map-append}
 use Rattle.std.proofs.lemmas.List.Sums.{sum_by-cons}
 use Rattle.std.proofs.lemmas.Option.{slice_get_read}
 use Rattle.mal_base.specs.Asks.{Terms, IsAsk}
 use Rattle.mal_base.specs.Names.{is_name}
-use Rattle.mal_history.specs.declared.event.Event as written
-use Rattle.mal_history.specs.declared.event.Event.TheVariants as of
-use Rattle.mal_history.specs.Written.{Written}
 use Rattle.mal_revision.specs.Posted.{Posted, is_posted}
 use Rattle.spec_balance.specs.Fair.{IsFair}
 use Rattle.spec_job.specs.Models.{AnswersSolve}
@@ -18,7 +14,7 @@ use Rattle.spec_job.specs.Provenance.{ClausesAreOwn}
 use Rattle.spec_job.specs.SoloMachine.{Own, SoloMachine, Revised, Closed, Exchanged, solo}
 use Rattle.spec_job.specs.KeyedJob.{Key, KeyedJob}
 use Rattle.spec_job.specs.Viewed.{JobView, and_own}
-use Rattle.spec_hall.specs.Events.{Event, Open, Revise, Close, Balance, Start, Finish, Exchange, bare}
+use Rattle.spec_hall.specs.Events.{Event, Open, Revise, Close, Balance, Exchange}
 use Rattle.spec_hall.specs.Calls.{AnswerTo, Call, HasCalled, IsCall}
 use Rattle.spec_hall.specs.Leases.{start_number, starts_in}
 use Rattle.spec_hall.specs.Own.{own, is_key}
@@ -36,119 +32,64 @@ use Rattle.spec_hall.proofs.SeatLemmas.{reseated, seats-touch, seated-none, seat
 use Rattle.spec_hall.proofs.SpotLemmas.{numbered-push, starts-push, spots-stay, spots-open, spots-none}
 use Rattle.spec_hall.proofs.VolumeLemmas.{revise-keeps}
 use Rattle.mal_seats.specs.Changed.{OfSeat}
-use Rattle.mal_hall.specs.Contents.{posted_by, posted_in, with_posted}
+use Rattle.mal_hall.specs.Entered.{Entered}
 use Rattle.mal_hall.specs.Replying.{AnswersRightly}
 use Rattle.mal_hall.specs.Turned.{HasWaited}
 use Rattle.mal_hall.proofs.Parts.{and_seats}
-use Rattle.mal_hall.specs.HallView.{Inside, IsHall, events_in, out_in, unclosed_in, next_number}
+use Rattle.mal_hall.specs.HallView.{Inside, IsHall, out_in, unclosed_in, next_number}
 use Rattle.mal_hall.proofs.KeptLemmas.{first_of, tenants-push, tenants-set, tenants-balanced, unclosed-open, unclosed-same, unclosed-closed, unclosed-balanced}
-
--- a history is what is written down of it, with what was posted in it
-posted-back : (es : List Event) → with_posted (map bare es) (posted_in es) ≡ es
-posted-back [] = refl
-posted-back (Open k ask ∷ es) = ap (λ (xs : List Event). Open k ask ∷ xs) (posted-back es)
-posted-back (Revise k number r ∷ es) = ap (λ (xs : List Event). Revise k number r ∷ xs) (posted-back es)
-posted-back (Close k ∷ es) = ap (λ (xs : List Event). Close k ∷ xs) (posted-back es)
-posted-back (Balance shares ∷ es) = ap (λ (xs : List Event). Balance shares ∷ xs) (posted-back es)
-posted-back (Start k index worker ∷ es) = ap (λ (xs : List Event). Start k index worker ∷ xs) (posted-back es)
-posted-back (Finish k index worker outcome ∷ es) = ap (λ (xs : List Event). Finish k index worker outcome ∷ xs) (posted-back es)
-posted-back (Exchange k ∷ es) = ap (λ (xs : List Event). Exchange k ∷ xs) (posted-back es)
-
--- the events of a hall are its past
-pub hall-events : (x : Inside) (hall : IsHall x) → events_in x ≡ hall.past
-hall-events x hall =
-    ap (λ (es : List written.Event). with_posted es x.posted) hall.written
-    ∙ (ap (with_posted (map bare hall.past)) hall.posted_is ∙ posted-back hall.past)
-
--- what a hall keeps as posted is what was posted in its events
-hall-posted : (x : Inside) → IsHall x → x.posted ≡ posted_in (events_in x)
-hall-posted x hall = hall.posted_is ∙ ap posted_in (sym (hall-events x hall))
-
--- the jobs of a hall are those of its events
-pub hall-seated : (x : Inside) → IsHall x → IsSeated x.history.workers (events_in x) x.seats
-hall-seated x hall = subst (λ (es : List Event). IsSeated x.history.workers es x.seats) (sym (hall-events x hall)) hall.seated
-
--- so are its leases
-pub hall-spots : (x : Inside) → IsHall x → AreSpots x.history.workers (events_in x) (tags_of x.seats) x.spots
-hall-spots x hall = subst (λ (es : List Event). AreSpots x.history.workers es (tags_of x.seats) x.spots) (sym (hall-events x hall)) hall.spots
-
--- and its starts
-pub hall-starts : (x : Inside) → IsHall x → x.starts ≡ starts_in (events_in x)
-hall-starts x hall = hall.starts_is ∙ ap starts_in (sym (hall-events x hall))
-
--- what is written down is the hall's events without what was posted
-pub hall-bare : (x : Inside) → IsHall x → map bare (events_in x) ≡ x.history.events
-hall-bare x hall = ap (map bare) (hall-events x hall) ∙ sym hall.written
 
 count-none : (n : ℕ) → out_in (replicate n None) ≡ 0
 count-none zero = refl
 count-none (suc n) = omega (arith, sum_by-cons (λ (o : Option Spot). cond (is_some o) 1 0) None (replicate n None), count-none n)
 
 -- a hall without jobs
-pub hall-none : (h : Written) (w : ℕ) (rs : List Posted) (ss : List Seat) (sp : List (Option Spot)) → h.workers ≡ w → 1 ≤ w → w ≤ 64 → h.events ≡ [] → rs ≡ [] → ss ≡ [] → sp ≡ replicate w None → IsHall (record { history = h; posted = rs; seats = ss; spots = sp; starts = 0; unclosed = 0; tenants = 0 })
-hall-none h w rs ss sp workers some bound events posted seats spots = rw (seats, spots) (record {
-  past = [];
-  written = events;
-  posted_is = posted;
+pub hall-none : (h : Entered) (w : ℕ) (ss : List Seat) (sp : List (Option Spot)) → h.workers ≡ w → 1 ≤ w → w ≤ 64 → h.events ≡ [] → ss ≡ [] → sp ≡ replicate w None → IsHall (record { entries = h; seats = ss; spots = sp; starts = 0; unclosed = 0; tenants = 0 })
+hall-none h w ss sp workers some bound events seats spots = rw (seats, spots) (record {
   bound = omega (arith, workers, bound);
-  seated = seated-none h.workers (omega (arith, workers, some));
-  spots = subst (λ (n : ℕ). AreSpots n [] [] (replicate w None)) (sym workers) (spots-none w);
-  starts_is = refl;
+  seated = rw events (seated-none h.workers (omega (arith, workers, some)));
+  spots = rw (events, workers) (spots-none w);
+  starts_is = rw events refl;
   unclosed_is = refl;
   tenants_is = refl;
   room = omega (arith, count-none w);
 })
 
 -- a hall in which nothing was entered
-pub hall-waits : (x y : Inside) → IsHall x → y.history.workers ≡ x.history.workers → y.history.events ≡ x.history.events → y.posted ≡ x.posted → y.seats ≡ x.seats → y.spots ≡ x.spots → y.starts ≡ x.starts → y.unclosed ≡ x.unclosed → y.tenants ≡ x.tenants → x.history.room ≤ y.history.room → IsHall y
-hall-waits x y hall workers events posted seats spots starts unclosed tenants room = record {
-  past = hall.past;
-  written = events ∙ hall.written;
-  posted_is = posted ∙ hall.posted_is;
-  bound = omega (arith, workers, hall.bound);
-  seated = rw (seats, workers) hall.seated;
-  spots = rw (seats, spots, workers) hall.spots;
-  starts_is = starts ∙ hall.starts_is;
-  unclosed_is = unclosed ∙ (hall.unclosed_is ∙ ap unclosed_in (sym seats));
-  tenants_is = tenants ∙ (hall.tenants_is ∙ ap (λ (ss : List Seat). tenant_count (jobs_in ss)) (sym seats));
-  room = omega (arith, hall.room, room, unclosed, ap out_in spots);
+pub hall-waited : (x : Inside) (entries : Entered) (seats : List Seat) → IsHall x → HasWaited x.entries entries x.seats seats → IsHall (and_seats x entries seats)
+hall-waited x entries seats hall e = record {
+  bound = omega (arith, e.workers, hall.bound);
+  seated = rw (e.seats, e.workers, e.events) hall.seated;
+  spots = rw (e.seats, e.workers, e.events) hall.spots;
+  starts_is = hall.starts_is ∙ ap starts_in (sym e.events);
+  unclosed_is = hall.unclosed_is ∙ ap unclosed_in (sym e.seats);
+  tenants_is = hall.tenants_is ∙ ap (λ (ss : List Seat). tenant_count (jobs_in ss)) (sym e.seats);
+  room = omega (arith, hall.room, e.room);
 }
-
--- the same of a hall in which nothing was entered
-pub hall-waited : (x : Inside) (history : Written) (seats : List Seat) → IsHall x → HasWaited x.history history x.seats seats → IsHall (and_seats x history seats)
-hall-waited x history seats hall e = hall-waits x (and_seats x history seats) hall e.workers e.events refl e.seats refl refl refl refl e.room
 
 -- a hall in which events were entered
 pub record Grown (x y : Inside) (es : List Event) : Type 0 where
   pub hall : IsHall y
-  pub events : events_in y ≡ events_in x ++ es
+  pub events : y.entries.events ≡ x.entries.events ++ es
 
-pub grown : (x y : Inside) (es : List Event) → IsHall x → y.history.workers ≡ x.history.workers → y.history.events ≡ x.history.events ++ map bare es → y.posted ≡ x.posted ++ posted_in es → IsSeated x.history.workers (events_in x ++ es) y.seats → AreSpots x.history.workers (events_in x ++ es) (tags_of y.seats) y.spots → y.starts ≡ starts_in (events_in x ++ es) → y.unclosed ≡ unclosed_in y.seats → y.tenants ≡ tenant_count (jobs_in y.seats) → y.unclosed + out_in y.spots ≤ y.history.room → Grown x y es
-grown x y es hall workers events posted seated spots starts unclosed tenants room =
-    let past : List Event = events_in x ++ es in
-    let whole : y.history.events ≡ map bare past = events ∙ (ap (λ (xs : List written.Event). xs ++ map bare es) (sym (hall-bare x hall)) ∙ sym (map-append bare (events_in x) es)) in
-    let here : IsHall y = record {
-      past = past;
-      written = whole;
-      posted_is = posted ∙ (ap (λ (rs : List Posted). rs ++ posted_in es) (hall-posted x hall) ∙ sym (flat_map-append posted_by (events_in x) es));
-      bound = omega (arith, workers, hall.bound);
-      seated = subst (λ (w : ℕ). IsSeated w past y.seats) (sym workers) seated;
-      spots = subst (λ (w : ℕ). AreSpots w past (tags_of y.seats) y.spots) (sym workers) spots;
-      starts_is = starts;
-      unclosed_is = unclosed;
-      tenants_is = tenants;
-      room = room;
-    } in
-    record { hall = here; events = hall-events y here }
-
--- an event that posts nothing
-pub none-posted : (x y : Inside) → y.posted ≡ x.posted → y.posted ≡ x.posted ++ []
-none-posted x y same = same ∙ sym (append-nil x.posted)
+pub grown : (x y : Inside) (es : List Event) → IsHall x → y.entries.workers ≡ x.entries.workers → y.entries.events ≡ x.entries.events ++ es → IsSeated x.entries.workers (x.entries.events ++ es) y.seats → AreSpots x.entries.workers (x.entries.events ++ es) (tags_of y.seats) y.spots → y.starts ≡ starts_in (x.entries.events ++ es) → y.unclosed ≡ unclosed_in y.seats → y.tenants ≡ tenant_count (jobs_in y.seats) → y.unclosed + out_in y.spots ≤ y.entries.room → Grown x y es
+grown x y es hall workers events seated spots starts unclosed tenants room = record {
+  hall = record {
+    bound = omega (arith, workers, hall.bound);
+    seated = rw (workers, events) seated;
+    spots = rw (workers, events) spots;
+    starts_is = starts ∙ ap starts_in (sym events);
+    unclosed_is = unclosed;
+    tenants_is = tenants;
+    room = room;
+  };
+  events = events;
+}
 
 -- an event that leaves the leases
-stay : (x : Inside) (e : Event) (tags : List Tag) → IsHall x → tags ≡ tags_of x.seats → leases (events_in x ++ e ∷ []) ≡ leases (events_in x) → ((worker : ℕ) → start_number worker (events_in x ++ e ∷ []) ≡ start_number worker (events_in x)) → AreSpots x.history.workers (events_in x ++ e ∷ []) tags x.spots
+stay : (x : Inside) (e : Event) (tags : List Tag) → IsHall x → tags ≡ tags_of x.seats → leases (x.entries.events ++ e ∷ []) ≡ leases x.entries.events → ((worker : ℕ) → start_number worker (x.entries.events ++ e ∷ []) ≡ start_number worker x.entries.events) → AreSpots x.entries.workers (x.entries.events ++ e ∷ []) tags x.spots
 stay x e tags hall same out numbers =
-    subst (λ (ts : List Tag). AreSpots x.history.workers (events_in x ++ e ∷ []) ts x.spots) (sym same) (spots-stay x.history.workers (events_in x) (events_in x ++ e ∷ []) (tags_of x.seats) x.spots out numbers (hall-spots x hall))
+    subst (λ (ts : List Tag). AreSpots x.entries.workers (x.entries.events ++ e ∷ []) ts x.spots) (sym same) (spots-stay x.entries.workers x.entries.events (x.entries.events ++ e ∷ []) (tags_of x.seats) x.spots out numbers hall.spots)
 
 -- the tags of seats of which one has another job with the same tag
 set-tags : (ss : List Seat) (n : ℕ) (s : Seat) (v : JobView) → slice_get ss n ≡ Some s → tag_of (reseated s v) ≡ tag_of s → tags_of (slice_set ss n (reseated s v)) ≡ tags_of ss
@@ -169,35 +110,35 @@ abbrev pub with_job : Inside → ℕ → Key → Terms → List Seat
 with_job x number k ask = x.seats ++ opened_seat number k ask ∷ []
 
 -- a job is opened
-pub may-open : (x : Inside) (k : Key) (ask : Terms) → IsHall x → is_name k.tenant ≡ true → is_name k.job ≡ true → IsAsk ask → place_of k x.seats ≡ None → jobs_of k.tenant (jobs_in x.seats) < 64 → (jobs_of k.tenant (jobs_in x.seats) ≡ 0 → x.tenants < 64) → MayOpen (events_in x) k ask
+pub may-open : (x : Inside) (k : Key) (ask : Terms) → IsHall x → is_name k.tenant ≡ true → is_name k.job ≡ true → IsAsk ask → place_of k x.seats ≡ None → jobs_of k.tenant (jobs_in x.seats) < 64 → (jobs_of k.tenant (jobs_in x.seats) ≡ 0 → x.tenants < 64) → MayOpen x.entries.events k ask
 may-open x k ask hall tenant job asked absent few others =
-    let past : List Event = events_in x in
-    let seated = hall-seated x hall in
+    let past : List Event = x.entries.events in
+    let seated = hall.seated in
     record {
       tenant = tenant;
       job = job;
       asked = asked;
-      fresh = seated-absent x.history.workers past x.seats k seated absent;
+      fresh = seated-absent x.entries.workers past x.seats k seated absent;
       tenant_room = rw seated.jobs few;
       hall_room = λ none. rw (seated.jobs, ← hall.tenants_is) (others (ap (jobs_of k.tenant) (sym seated.jobs) ∙ none));
     }
 
-pub hall-open : (x y : Inside) (number : ℕ) (k : Key) (ask : Terms) → IsHall x → y.history.workers ≡ x.history.workers → y.history.events ≡ x.history.events ++ of.Open k.tenant k.job ask ∷ [] → y.posted ≡ x.posted → y.seats ≡ with_job x number k ask → y.spots ≡ x.spots → y.starts ≡ x.starts → number ≡ length x.seats → MayOpen (events_in x) k ask → y.unclosed ≡ x.unclosed + 1 → y.tenants ≡ x.tenants + first_of (jobs_of k.tenant (jobs_in x.seats)) → y.unclosed + out_in x.spots ≤ y.history.room → Grown x y (Open k ask ∷ [])
-hall-open x y number k ask hall workers events posted seats spots starts numbered may unclosed tenants room =
-    let past : List Event = events_in x in
+pub hall-open : (x y : Inside) (number : ℕ) (k : Key) (ask : Terms) → IsHall x → y.entries.workers ≡ x.entries.workers → y.entries.events ≡ x.entries.events ++ Open k ask ∷ [] → y.seats ≡ with_job x number k ask → y.spots ≡ x.spots → y.starts ≡ x.starts → number ≡ length x.seats → MayOpen x.entries.events k ask → y.unclosed ≡ x.unclosed + 1 → y.tenants ≡ x.tenants + first_of (jobs_of k.tenant (jobs_in x.seats)) → y.unclosed + out_in x.spots ≤ y.entries.room → Grown x y (Open k ask ∷ [])
+hall-open x y number k ask hall workers events seats spots starts numbered may unclosed tenants room =
+    let past : List Event = x.entries.events in
     let now : List Event = past ++ Open k ask ∷ [] in
     let seat : Seat = opened_seat number k ask in
     let tags : tags_of y.seats ≡ tags_of x.seats ++ tag_of seat ∷ [] = ap tags_of seats ∙ map-append tag_of x.seats (seat ∷ []) in
-    let here = spots-open x.history.workers past (tags_of x.seats) x.spots (tag_of seat) (numbered ∙ sym (length-tags x.seats)) refl (hall-spots x hall) in
-    let kept = spots-stay x.history.workers past now (tags_of x.seats ++ tag_of seat ∷ []) x.spots (leases-push past (Open k ask)) (λ v. ap (λ n. n.last) (numbered-push v past (Open k ask))) here in
-    grown x y (Open k ask ∷ []) hall workers events (none-posted x y posted) (rw seats (seated-open x.history.workers past x.seats number k ask (hall-seated x hall) may)) (rw (tags, spots) kept) (starts ∙ (hall-starts x hall ∙ sym (starts-push past (Open k ask)))) (unclosed ∙ (ap (λ (n : ℕ). n + 1) hall.unclosed_is ∙ (sym (unclosed-open x.seats number k ask) ∙ ap unclosed_in (sym seats)))) (tenants ∙ (ap (λ (n : ℕ). n + first_of (jobs_of k.tenant (jobs_in x.seats))) hall.tenants_is ∙ (sym (tenants-push (jobs_in x.seats) seat.job.titled) ∙ ap tenant_count (sym (map-append (λ (s : Seat). s.job.titled) x.seats (seat ∷ [])) ∙ ap jobs_in (sym seats))))) (omega (arith, room, ap out_in spots))
+    let here = spots-open x.entries.workers past (tags_of x.seats) x.spots (tag_of seat) (numbered ∙ sym (length-tags x.seats)) refl hall.spots in
+    let kept = spots-stay x.entries.workers past now (tags_of x.seats ++ tag_of seat ∷ []) x.spots (leases-push past (Open k ask)) (λ v. ap (λ n. n.last) (numbered-push v past (Open k ask))) here in
+    grown x y (Open k ask ∷ []) hall workers events (rw seats (seated-open x.entries.workers past x.seats number k ask hall.seated may)) (rw (tags, spots) kept) (starts ∙ (hall.starts_is ∙ sym (starts-push past (Open k ask)))) (unclosed ∙ (ap (λ (n : ℕ). n + 1) hall.unclosed_is ∙ (sym (unclosed-open x.seats number k ask) ∙ ap unclosed_in (sym seats)))) (tenants ∙ (ap (λ (n : ℕ). n + first_of (jobs_of k.tenant (jobs_in x.seats))) hall.tenants_is ∙ (sym (tenants-push (jobs_in x.seats) seat.job.titled) ∙ ap tenant_count (sym (map-append (λ (s : Seat). s.job.titled) x.seats (seat ∷ [])) ∙ ap jobs_in (sym seats))))) (omega (arith, room, ap out_in spots))
 
 -- an event of one job that starts none and closes none
-own-grown : (x y : Inside) (at : ℕ) (s : Seat) (e : Event) (o : Own) → IsHall x → slice_get x.seats at ≡ Some s → y.history.workers ≡ x.history.workers → y.history.events ≡ x.history.events ++ bare e ∷ [] → y.posted ≡ x.posted ++ posted_in (e ∷ []) → y.seats ≡ slice_set x.seats at (reseated s (and_own s.job o)) → y.spots ≡ x.spots → y.starts ≡ x.starts → y.tenants ≡ x.tenants → IsSeated x.history.workers (events_in x ++ e ∷ []) (slice_set x.seats at (reseated s (and_own s.job o))) → leases (events_in x ++ e ∷ []) ≡ leases (events_in x) → ((worker : ℕ) → start_number worker (events_in x ++ e ∷ []) ≡ start_number worker (events_in x)) → starts_in (events_in x ++ e ∷ []) ≡ starts_in (events_in x) → y.unclosed ≡ unclosed_in (slice_set x.seats at (reseated s (and_own s.job o))) → y.unclosed + out_in x.spots ≤ y.history.room → Grown x y (e ∷ [])
-own-grown x y at s e o hall sits workers events posted seats spots starts tenants seated out numbers count unclosed room =
+own-grown : (x y : Inside) (at : ℕ) (s : Seat) (e : Event) (o : Own) → IsHall x → slice_get x.seats at ≡ Some s → y.entries.workers ≡ x.entries.workers → y.entries.events ≡ x.entries.events ++ e ∷ [] → y.seats ≡ slice_set x.seats at (reseated s (and_own s.job o)) → y.spots ≡ x.spots → y.starts ≡ x.starts → y.tenants ≡ x.tenants → IsSeated x.entries.workers (x.entries.events ++ e ∷ []) (slice_set x.seats at (reseated s (and_own s.job o))) → leases (x.entries.events ++ e ∷ []) ≡ leases x.entries.events → ((worker : ℕ) → start_number worker (x.entries.events ++ e ∷ []) ≡ start_number worker x.entries.events) → starts_in (x.entries.events ++ e ∷ []) ≡ starts_in x.entries.events → y.unclosed ≡ unclosed_in (slice_set x.seats at (reseated s (and_own s.job o))) → y.unclosed + out_in x.spots ≤ y.entries.room → Grown x y (e ∷ [])
+own-grown x y at s e o hall sits workers events seats spots starts tenants seated out numbers count unclosed room =
     let now : Seat = reseated s (and_own s.job o) in
     let kept = stay x e (tags_of (slice_set x.seats at now)) hall (set-tags x.seats at s (and_own s.job o) sits refl) out numbers in
-    grown x y (e ∷ []) hall workers events posted (rw seats seated) (rw (seats, spots) kept) (starts ∙ (hall-starts x hall ∙ sym count)) (unclosed ∙ ap unclosed_in (sym seats)) (tenants ∙ (hall.tenants_is ∙ (tenants-set x.seats at s now sits refl ∙ ap (λ (ss : List Seat). tenant_count (jobs_in ss)) (sym seats)))) (omega (arith, room, ap out_in spots))
+    grown x y (e ∷ []) hall workers events (rw seats seated) (rw (seats, spots) kept) (starts ∙ (hall.starts_is ∙ sym count)) (unclosed ∙ ap unclosed_in (sym seats)) (tenants ∙ (hall.tenants_is ∙ (tenants-set x.seats at s now sits refl ∙ ap (λ (ss : List Seat). tenant_count (jobs_in ss)) (sym seats)))) (omega (arith, room, ap out_in spots))
 
 -- the seat at the place of a key
 pub record Sits (ss : List Seat) (k : Key) (at : ℕ) (s : Seat) : Type 0 where
@@ -228,11 +169,11 @@ of-seat P ss at s there holds t other =
 -- a job that is found
 pub record Found (x : Inside) (k : Key) (t : KeyedJob) : Type 0 where
   pub key : t.key ≡ k
-  pub job : job_of k (states (events_in x)) ≡ Some t
+  pub job : job_of k (states x.entries.events) ≡ Some t
 
 pub hall-found : (x : Inside) (k : Key) (at : ℕ) (s : Seat) → IsHall x → Sits x.seats k at s → Found x k s.job.titled
 hall-found x k at s hall sits =
-    let both = seated-found x.history.workers (events_in x) x.seats k at s (hall-seated x hall) sits.place sits.seat in
+    let both = seated-found x.entries.workers x.entries.events x.seats k at s hall.seated sits.place sits.seat in
     record { key = both.0; job = both.1 }
 
 -- what holds of a job that is found holds of its machine run alone on the job's own events, in whatever history has
@@ -242,8 +183,8 @@ found-alone past k t P found holds other same =
     let is : titled past k ≡ t = find-titled past k (keys_of past) t found in
     subst P (sym (ap (λ (u : KeyedJob). u.state) is) ∙ ap solo (sym same)) holds
 
-pub hall-absent : (x : Inside) (k : Key) → IsHall x → place_of k x.seats ≡ None → job_of k (states (events_in x)) ≡ None
-hall-absent x k hall place = seated-absent x.history.workers (events_in x) x.seats k (hall-seated x hall) place
+pub hall-absent : (x : Inside) (k : Key) → IsHall x → place_of k x.seats ≡ None → job_of k (states x.entries.events) ≡ None
+hall-absent x k hall place = seated-absent x.entries.workers x.entries.events x.seats k hall.seated place
 
 -- a key has a place where it has a job
 place-some : (k : Key) (ss : List Seat) → is_some (place_of k ss) ≡ is_some (job_of k (jobs_in ss))
@@ -258,19 +199,19 @@ place-some k (s ∷ ss) = by_test (is_key k s.job.titled.key) (same_some (place_
     by_test true rest = refl
     by_test false rest = rest
 
-pub hall-some_job : (x : Inside) (k : Key) (r : Option ℕ) → IsHall x → r ≡ place_of k x.seats → is_some (job_of k (states (events_in x))) ≡ is_some r
-hall-some_job x k r hall scan = ap (λ (ts : List KeyedJob). is_some (job_of k ts)) (hall-seated x hall).jobs ∙ (sym (place-some k x.seats) ∙ ap is_some (sym scan))
+pub hall-some_job : (x : Inside) (k : Key) (r : Option ℕ) → IsHall x → r ≡ place_of k x.seats → is_some (job_of k (states x.entries.events)) ≡ is_some r
+hall-some_job x k r hall scan = ap (λ (ts : List KeyedJob). is_some (job_of k ts)) hall.seated.jobs ∙ (sym (place-some k x.seats) ∙ ap is_some (sym scan))
 
 -- the jobs of a tenant that were counted
-pub hall-jobs : (x : Inside) (tenant : List ℕ) (count : ℕ) → IsHall x → count ≡ jobs_of tenant (jobs_in x.seats) → count ≡ jobs_of tenant (states (events_in x))
-hall-jobs x tenant count hall scan = scan ∙ ap (jobs_of tenant) (sym (hall-seated x hall).jobs)
+pub hall-jobs : (x : Inside) (tenant : List ℕ) (count : ℕ) → IsHall x → count ≡ jobs_of tenant (jobs_in x.seats) → count ≡ jobs_of tenant (states x.entries.events)
+hall-jobs x tenant count hall scan = scan ∙ ap (jobs_of tenant) (sym hall.seated.jobs)
 
 -- the tenants of a hall
-pub hall-tenants : (x : Inside) → IsHall x → x.tenants ≡ tenant_count (states (events_in x))
-hall-tenants x hall = hall.tenants_is ∙ ap tenant_count (sym (hall-seated x hall).jobs)
+pub hall-tenants : (x : Inside) → IsHall x → x.tenants ≡ tenant_count (states x.entries.events)
+hall-tenants x hall = hall.tenants_is ∙ ap tenant_count (sym hall.seated.jobs)
 
 -- the number of a job's next revision
-pub hall-next : (x : Inside) (k : Key) (t : KeyedJob) (number : ℕ) → Found x k t → number ≡ length t.state.revisions + 1 → number ≡ next_number k (events_in x)
+pub hall-next : (x : Inside) (k : Key) (t : KeyedJob) (number : ℕ) → Found x k t → number ≡ length t.state.revisions + 1 → number ≡ next_number k x.entries.events
 hall-next x k t number found next = next ∙ ap (λ (o : Option KeyedJob). option_map_or (λ (u : KeyedJob). length u.state.revisions + 1) o 1) (sym found.job)
 
 -- a test that is not passed
@@ -279,7 +220,7 @@ none-from None b e f = refl
 none-from (Some n) b e f = absurd (cc)
 
 -- a revision may be posted
-pub may-revise : (x : Inside) (k : Key) (at : ℕ) (s : Seat) (r : Posted) → IsHall x → Sits x.seats k at s → s.job.titled.state.closed ≡ false → length s.job.titled.state.revisions < 256 → HasRoomFor s.job.titled.state.revisions r → is_posted r ≡ true → MayRevise (events_in x) k (length s.job.titled.state.revisions + 1) r s.job.titled
+pub may-revise : (x : Inside) (k : Key) (at : ℕ) (s : Seat) (r : Posted) → IsHall x → Sits x.seats k at s → s.job.titled.state.closed ≡ false → length s.job.titled.state.revisions < 256 → HasRoomFor s.job.titled.state.revisions r → is_posted r ≡ true → MayRevise x.entries.events k (length s.job.titled.state.revisions + 1) r s.job.titled
 may-revise x k at s r hall sits still few fits posted = record {
   job = (hall-found x k at s hall sits).job;
   open_still = still;
@@ -291,69 +232,69 @@ may-revise x k at s r hall sits still few fits posted = record {
 }
 
 -- a revision is posted
-pub hall-revise : (x y : Inside) (k : Key) (at : ℕ) (s : Seat) (number : ℕ) (r : Posted) → IsHall x → Sits x.seats k at s → y.history.workers ≡ x.history.workers → y.history.events ≡ x.history.events ++ of.Revise s.job.titled.key.tenant s.job.titled.key.job number ∷ [] → y.posted ≡ x.posted ++ r ∷ [] → y.seats ≡ slice_set x.seats at (reseated s (and_own s.job (Revised r))) → y.spots ≡ x.spots → y.starts ≡ x.starts → y.unclosed ≡ x.unclosed → y.tenants ≡ x.tenants → number ≡ length s.job.titled.state.revisions + 1 → MayRevise (events_in x) k (length s.job.titled.state.revisions + 1) r s.job.titled → y.unclosed + out_in x.spots ≤ y.history.room → Grown x y (Revise k number r ∷ [])
-hall-revise x y k at s number r hall sits workers events posted seats spots starts unclosed tenants next may room =
-    let past : List Event = events_in x in
+pub hall-revise : (x y : Inside) (k : Key) (at : ℕ) (s : Seat) (number : ℕ) (r : Posted) → IsHall x → Sits x.seats k at s → y.entries.workers ≡ x.entries.workers → y.entries.events ≡ x.entries.events ++ Revise s.job.titled.key number r ∷ [] → y.seats ≡ slice_set x.seats at (reseated s (and_own s.job (Revised r))) → y.spots ≡ x.spots → y.starts ≡ x.starts → y.unclosed ≡ x.unclosed → y.tenants ≡ x.tenants → number ≡ length s.job.titled.state.revisions + 1 → MayRevise x.entries.events k (length s.job.titled.state.revisions + 1) r s.job.titled → y.unclosed + out_in x.spots ≤ y.entries.room → Grown x y (Revise k number r ∷ [])
+hall-revise x y k at s number r hall sits workers events seats spots starts unclosed tenants next may room =
+    let past : List Event = x.entries.events in
     let found = hall-found x k at s hall sits in
-    let written = subst (λ (j : Key). y.history.events ≡ x.history.events ++ of.Revise j.tenant j.job number ∷ []) found.key events in
+    let entered = subst (λ (j : Key). y.entries.events ≡ x.entries.events ++ Revise j number r ∷ []) found.key events in
     let now : Seat = reseated s (and_own s.job (Revised r)) in
     let mine : MayRevise past s.job.titled.key number r s.job.titled = rw next (subst (λ (j : Key). MayRevise past j (length s.job.titled.state.revisions + 1) r s.job.titled) (sym found.key) may) in
-    let seated = subst (λ (j : Key). IsSeated x.history.workers (past ++ Revise j number r ∷ []) (slice_set x.seats at now)) found.key (seated-revise x.history.workers past x.seats at s number r (hall-seated x hall) sits.seat mine) in
-    own-grown x y at s (Revise k number r) (Revised r) hall sits.seat workers written posted seats spots starts tenants seated (leases-push past (Revise k number r)) (λ v. ap (λ n. n.last) (numbered-push v past (Revise k number r))) (starts-push past (Revise k number r)) (unclosed ∙ (hall.unclosed_is ∙ unclosed-same x.seats at s now sits.seat (revise-keeps s.job.titled.state r).closed)) room
+    let seated = subst (λ (j : Key). IsSeated x.entries.workers (past ++ Revise j number r ∷ []) (slice_set x.seats at now)) found.key (seated-revise x.entries.workers past x.seats at s number r hall.seated sits.seat mine) in
+    own-grown x y at s (Revise k number r) (Revised r) hall sits.seat workers entered seats spots starts tenants seated (leases-push past (Revise k number r)) (λ v. ap (λ n. n.last) (numbered-push v past (Revise k number r))) (starts-push past (Revise k number r)) (unclosed ∙ (hall.unclosed_is ∙ unclosed-same x.seats at s now sits.seat (revise-keeps s.job.titled.state r).closed)) room
 
 -- where a job is open some are not closed
 pub hall-some : (x : Inside) (k : Key) (at : ℕ) (s : Seat) → IsHall x → Sits x.seats k at s → s.job.titled.state.closed ≡ false → 1 ≤ x.unclosed
 hall-some x k at s hall sits still = omega (arith, hall.unclosed_is, unclosed-closed x.seats at s (reseated s (and_own s.job Closed)) sits.seat still refl)
 
 -- a job is closed
-pub hall-close : (x y : Inside) (k : Key) (at : ℕ) (s : Seat) → IsHall x → Sits x.seats k at s → y.history.workers ≡ x.history.workers → y.history.events ≡ x.history.events ++ of.Close k.tenant k.job ∷ [] → y.posted ≡ x.posted → y.seats ≡ slice_set x.seats at (reseated s (and_own s.job Closed)) → y.spots ≡ x.spots → y.starts ≡ x.starts → y.unclosed ≡ x.unclosed - 1 → y.tenants ≡ x.tenants → s.job.titled.state.closed ≡ false → y.history.room + 1 ≡ x.history.room → Grown x y (Close k ∷ [])
-hall-close x y k at s hall sits workers events posted seats spots starts unclosed tenants still room =
-    let past : List Event = events_in x in
+pub hall-close : (x y : Inside) (k : Key) (at : ℕ) (s : Seat) → IsHall x → Sits x.seats k at s → y.entries.workers ≡ x.entries.workers → y.entries.events ≡ x.entries.events ++ Close k ∷ [] → y.seats ≡ slice_set x.seats at (reseated s (and_own s.job Closed)) → y.spots ≡ x.spots → y.starts ≡ x.starts → y.unclosed ≡ x.unclosed - 1 → y.tenants ≡ x.tenants → s.job.titled.state.closed ≡ false → y.entries.room + 1 ≡ x.entries.room → Grown x y (Close k ∷ [])
+hall-close x y k at s hall sits workers events seats spots starts unclosed tenants still room =
+    let past : List Event = x.entries.events in
     let found = hall-found x k at s hall sits in
     let now : Seat = reseated s (and_own s.job Closed) in
     let may : MayClose past s.job.titled.key s.job.titled = record { job = subst (λ (j : Key). job_of j (states past) ≡ Some s.job.titled) (sym found.key) found.job; open_still = still } in
-    let seated = subst (λ (j : Key). IsSeated x.history.workers (past ++ Close j ∷ []) (slice_set x.seats at now)) found.key (seated-close x.history.workers past x.seats at s (hall-seated x hall) sits.seat may) in
-    own-grown x y at s (Close k) Closed hall sits.seat workers events (none-posted x y posted) seats spots starts tenants seated (leases-push past (Close k)) (λ v. ap (λ n. n.last) (numbered-push v past (Close k))) (starts-push past (Close k)) (omega (arith, unclosed, hall.unclosed_is, unclosed-closed x.seats at s now sits.seat still refl)) (omega (arith, unclosed, hall.room, room, hall-some x k at s hall sits still))
+    let seated = subst (λ (j : Key). IsSeated x.entries.workers (past ++ Close j ∷ []) (slice_set x.seats at now)) found.key (seated-close x.entries.workers past x.seats at s hall.seated sits.seat may) in
+    own-grown x y at s (Close k) Closed hall sits.seat workers events seats spots starts tenants seated (leases-push past (Close k)) (λ v. ap (λ n. n.last) (numbered-push v past (Close k))) (starts-push past (Close k)) (omega (arith, unclosed, hall.unclosed_is, unclosed-closed x.seats at s now sits.seat still refl)) (omega (arith, unclosed, hall.room, room, hall-some x k at s hall sits still))
 
 -- a balancing that is due is entered
-pub hall-balance : (x y : Inside) (vs : List ℕ) → IsHall x → is_due x.seats ≡ true → IsFair x.history.workers (live_asks (jobs_in x.seats)) vs → y.history.workers ≡ x.history.workers → y.history.events ≡ x.history.events ++ of.Balance (shares_by vs x.seats) ∷ [] → y.posted ≡ x.posted → y.seats ≡ balanced_by vs x.seats → y.spots ≡ x.spots → y.starts ≡ x.starts → y.unclosed ≡ x.unclosed → y.tenants ≡ x.tenants → x.unclosed + out_in x.spots ≤ y.history.room → Grown x y (Balance (shares_by vs x.seats) ∷ [])
-hall-balance x y vs hall due fair workers events posted seats spots starts unclosed tenants room =
-    let past : List Event = events_in x in
+pub hall-balance : (x y : Inside) (vs : List ℕ) → IsHall x → is_due x.seats ≡ true → IsFair x.entries.workers (live_asks (jobs_in x.seats)) vs → y.entries.workers ≡ x.entries.workers → y.entries.events ≡ x.entries.events ++ Balance (shares_by vs x.seats) ∷ [] → y.seats ≡ balanced_by vs x.seats → y.spots ≡ x.spots → y.starts ≡ x.starts → y.unclosed ≡ x.unclosed → y.tenants ≡ x.tenants → x.unclosed + out_in x.spots ≤ y.entries.room → Grown x y (Balance (shares_by vs x.seats) ∷ [])
+hall-balance x y vs hall due fair workers events seats spots starts unclosed tenants room =
+    let past : List Event = x.entries.events in
     let e : Event = Balance (shares_by vs x.seats) in
     let kept = stay x e (tags_of (balanced_by vs x.seats)) hall (balanced-tags 0 vs x.seats) (leases-push past e) (λ v. ap (λ n. n.last) (numbered-push v past e)) in
-    grown x y (e ∷ []) hall workers events (none-posted x y posted) (rw seats (seated-balance x.history.workers past x.seats vs (hall-seated x hall) fair due)) (rw (seats, spots) kept) (starts ∙ (hall-starts x hall ∙ sym (starts-push past e))) (unclosed ∙ (hall.unclosed_is ∙ (unclosed-balanced 0 vs x.seats ∙ ap unclosed_in (sym seats)))) (tenants ∙ (hall.tenants_is ∙ (tenants-balanced vs x.seats ∙ ap (λ (ss : List Seat). tenant_count (jobs_in ss)) (sym seats)))) (omega (arith, room, unclosed, ap out_in spots))
+    grown x y (e ∷ []) hall workers events (rw seats (seated-balance x.entries.workers past x.seats vs hall.seated fair due)) (rw (seats, spots) kept) (starts ∙ (hall.starts_is ∙ sym (starts-push past e))) (unclosed ∙ (hall.unclosed_is ∙ (unclosed-balanced 0 vs x.seats ∙ ap unclosed_in (sym seats)))) (tenants ∙ (hall.tenants_is ∙ (tenants-balanced vs x.seats ∙ ap (λ (ss : List Seat). tenant_count (jobs_in ss)) (sym seats)))) (omega (arith, room, unclosed, ap out_in spots))
 
 -- an exchange that is allowed is entered
-pub hall-exchange : (x y : Inside) (at : ℕ) (s : Seat) → IsHall x → Allowed x.history.workers (events_in x) (Exchange s.job.titled.key) → slice_get x.seats at ≡ Some s → y.history.workers ≡ x.history.workers → y.history.events ≡ x.history.events ++ of.Exchange s.job.titled.key.tenant s.job.titled.key.job ∷ [] → y.posted ≡ x.posted → y.seats ≡ slice_set x.seats at (reseated s (and_own s.job Exchanged)) → y.spots ≡ x.spots → y.starts ≡ x.starts → y.unclosed ≡ x.unclosed → y.tenants ≡ x.tenants → x.unclosed + out_in x.spots ≤ y.history.room → Grown x y (Exchange s.job.titled.key ∷ [])
-hall-exchange x y at s hall may sits workers events posted seats spots starts unclosed tenants room =
-    let past : List Event = events_in x in
+pub hall-exchange : (x y : Inside) (at : ℕ) (s : Seat) → IsHall x → Allowed x.entries.workers x.entries.events (Exchange s.job.titled.key) → slice_get x.seats at ≡ Some s → y.entries.workers ≡ x.entries.workers → y.entries.events ≡ x.entries.events ++ Exchange s.job.titled.key ∷ [] → y.seats ≡ slice_set x.seats at (reseated s (and_own s.job Exchanged)) → y.spots ≡ x.spots → y.starts ≡ x.starts → y.unclosed ≡ x.unclosed → y.tenants ≡ x.tenants → x.unclosed + out_in x.spots ≤ y.entries.room → Grown x y (Exchange s.job.titled.key ∷ [])
+hall-exchange x y at s hall may sits workers events seats spots starts unclosed tenants room =
+    let past : List Event = x.entries.events in
     let now : Seat = reseated s (and_own s.job Exchanged) in
     let e : Event = Exchange s.job.titled.key in
-    let seated = seats-touch x.history.workers past x.seats at s e Exchanged (and_own s.job Exchanged) (hall-seated x hall) sits may (exchange-touches s.job.titled.key) refl refl in
-    own-grown x y at s e Exchanged hall sits workers events (none-posted x y posted) seats spots starts tenants seated (leases-push past e) (λ v. ap (λ n. n.last) (numbered-push v past e)) (starts-push past e) (unclosed ∙ (hall.unclosed_is ∙ unclosed-same x.seats at s now sits refl)) (omega (arith, room, unclosed))
+    let seated = seats-touch x.entries.workers past x.seats at s e Exchanged (and_own s.job Exchanged) hall.seated sits may (exchange-touches s.job.titled.key) refl refl in
+    own-grown x y at s e Exchanged hall sits workers events seats spots starts tenants seated (leases-push past e) (λ v. ap (λ n. n.last) (numbered-push v past e)) (starts-push past e) (unclosed ∙ (hall.unclosed_is ∙ unclosed-same x.seats at s now sits refl)) (omega (arith, room, unclosed))
 
 -- the answers of a job of a hall carry models
-hall-solves : (x : Inside) → IsHall x → (k : Key) (t : KeyedJob) → job_of k (states (events_in x)) ≡ Some t → AnswersSolve t.state
+hall-solves : (x : Inside) → IsHall x → (k : Key) (t : KeyedJob) → job_of k (states x.entries.events) ≡ Some t → AnswersSolve t.state
 hall-solves x hall k t found =
-    let past : List Event = events_in x in
+    let past : List Event = x.entries.events in
     let same : titled past k ≡ t = find-titled past k (keys_of past) t found in
-    subst (λ (u : KeyedJob). AnswersSolve u.state) same (legal-answers_solve x.history.workers past (hall-seated x hall).legal k)
+    subst (λ (u : KeyedJob). AnswersSolve u.state) same (legal-answers_solve x.entries.workers past hall.seated.legal k)
 
 -- and proofs
-hall-refutes : (x : Inside) → IsHall x → (k : Key) (t : KeyedJob) → job_of k (states (events_in x)) ≡ Some t → AnswersRefute t.state
+hall-refutes : (x : Inside) → IsHall x → (k : Key) (t : KeyedJob) → job_of k (states x.entries.events) ≡ Some t → AnswersRefute t.state
 hall-refutes x hall k t found =
-    let past : List Event = events_in x in
+    let past : List Event = x.entries.events in
     let same : titled past k ≡ t = find-titled past k (keys_of past) t found in
-    subst (λ (u : KeyedJob). AnswersRefute u.state) same (legal-answers_refute x.history.workers past (hall-seated x hall).legal k)
+    subst (λ (u : KeyedJob). AnswersRefute u.state) same (legal-answers_refute x.entries.workers past hall.seated.legal k)
 
 -- and its clauses are its own
-hall-owns : (x : Inside) → IsHall x → (k : Key) (t : KeyedJob) → job_of k (states (events_in x)) ≡ Some t → ClausesAreOwn t.state
+hall-owns : (x : Inside) → IsHall x → (k : Key) (t : KeyedJob) → job_of k (states x.entries.events) ≡ Some t → ClausesAreOwn t.state
 hall-owns x hall k t found =
-    let past : List Event = events_in x in
+    let past : List Event = x.entries.events in
     let same : titled past k ≡ t = find-titled past k (keys_of past) t found in
-    subst (λ (u : KeyedJob). ClausesAreOwn u.state) same (legal-clauses_own x.history.workers past (hall-seated x hall).legal k)
+    subst (λ (u : KeyedJob). ClausesAreOwn u.state) same (legal-clauses_own x.entries.workers past hall.seated.legal k)
 
-pub hall-right : (x : Inside) → IsHall x → (k : Key) → AnswersRightly k (events_in x)
+pub hall-right : (x : Inside) → IsHall x → (k : Key) → AnswersRightly k x.entries.events
 hall-right x hall k = record { models = hall-solves x hall k; proofs = hall-refutes x hall k; own_clauses = hall-owns x hall k }
 
 -- a call that enters nothing

@@ -5,7 +5,6 @@ use Rattle.std.proofs.lemmas.List.Sums.{sum_by-cons}
 use Rattle.std.proofs.lemmas.Option.{slice_get-map}
 use Rattle.std.specs.Option.{option_map}
 use Rattle.mal_base.specs.declared.verdict.Outcome.{Outcome}
-use Rattle.mal_history.specs.declared.event.Event.TheVariants as of
 use Rattle.spec_job.specs.SoloMachine.{Finished}
 use Rattle.spec_job.specs.KeyedJob.{Key}
 use Rattle.spec_job.specs.Viewed.{and_own, and_start}
@@ -18,8 +17,8 @@ use Rattle.spec_hall.specs.Spots.{Spot, Tag, tag_of, tags_of}
 use Rattle.spec_hall.proofs.LeasesLemmas.{IsFree, start-free}
 use Rattle.spec_hall.proofs.SeatLemmas.{reseated, seated-start, seated-finish}
 use Rattle.spec_hall.proofs.SpotLemmas.{and_started, starts-push, spots-start, spots-finish}
-use Rattle.mal_hall.specs.HallView.{Inside, IsHall, events_in, out_in, unclosed_in}
-use Rattle.mal_hall.proofs.HallLemmas.{Grown, grown, hall-seated, hall-spots, hall-starts, none-posted}
+use Rattle.mal_hall.specs.HallView.{Inside, IsHall, out_in, unclosed_in}
+use Rattle.mal_hall.proofs.HallLemmas.{Grown, grown}
 use Rattle.mal_hall.proofs.KeptLemmas.{tenants-set, unclosed-same}
 
 -- how many leases are out where a spot is taken
@@ -44,27 +43,27 @@ seat-tag : (ss : List Seat) (n : ℕ) (s : Seat) → slice_get ss n ≡ Some s �
 seat-tag ss n s at = slice_get-map tag_of ss n ∙ ap (option_map tag_of) at
 
 -- a start was entered
-pub hall-start : (x y : Inside) (at : ℕ) (s : Seat) (index w start : ℕ) → IsHall x → slice_get x.seats at ≡ Some s → w < x.history.workers → Allowed x.history.workers (events_in x) (Start s.job.titled.key index (suc w)) → start ≡ x.starts + 1 → y.history.workers ≡ x.history.workers → y.history.events ≡ x.history.events ++ of.Start s.job.titled.key.tenant s.job.titled.key.job index (suc w) ∷ [] → y.posted ≡ x.posted → y.seats ≡ slice_set x.seats at (reseated s (and_start s.job index start)) → y.spots ≡ slice_set x.spots w (Some (record { job = at; index = index; start = start })) → y.starts ≡ start → y.unclosed ≡ x.unclosed → y.tenants ≡ x.tenants → x.unclosed + out_in x.spots + 1 ≤ y.history.room → Grown x y (Start s.job.titled.key index (suc w) ∷ [])
-hall-start x y at s index w start hall sits low may next workers events posted seats spots starts unclosed tenants room =
-    let past : List Event = events_in x in
+pub hall-start : (x y : Inside) (at : ℕ) (s : Seat) (index w start : ℕ) → IsHall x → slice_get x.seats at ≡ Some s → w < x.entries.workers → Allowed x.entries.workers x.entries.events (Start s.job.titled.key index (suc w)) → start ≡ x.starts + 1 → y.entries.workers ≡ x.entries.workers → y.entries.events ≡ x.entries.events ++ Start s.job.titled.key index (suc w) ∷ [] → y.seats ≡ slice_set x.seats at (reseated s (and_start s.job index start)) → y.spots ≡ slice_set x.spots w (Some (record { job = at; index = index; start = start })) → y.starts ≡ start → y.unclosed ≡ x.unclosed → y.tenants ≡ x.tenants → x.unclosed + out_in x.spots + 1 ≤ y.entries.room → Grown x y (Start s.job.titled.key index (suc w) ∷ [])
+hall-start x y at s index w start hall sits low may next workers events seats spots starts unclosed tenants room =
+    let past : List Event = x.entries.events in
     let k : Key = s.job.titled.key in
     let now : Seat = reseated s (and_start s.job index start) in
-    let seated = hall-seated x hall in
-    let free : IsFree past k index = start-free x.history.workers past k index (suc w) seated.some_worker hall.bound seated.legal may in
+    let seated = hall.seated in
+    let free : IsFree past k index = start-free x.entries.workers past k index (suc w) seated.some_worker hall.bound seated.legal may in
     let tags : tags_of y.seats ≡ slice_set (tags_of x.seats) at (and_started (tag_of s) index start) = ap tags_of seats ∙ map-set tag_of x.seats at now in
-    let count : start ≡ starts_in past + 1 = next ∙ ap (λ (n : ℕ). n + 1) (hall-starts x hall) in
-    let here = spots-start x.history.workers past (tags_of x.seats) x.spots w at index start (tag_of s) (seat-tag x.seats at s sits) free.low low may.1.idle count free.home (hall-spots x hall) in
-    grown x y (Start k index (suc w) ∷ []) hall workers events (none-posted x y posted) (rw seats (seated-start x.history.workers past x.seats at s index (suc w) start seated sits may)) (rw (tags, spots) here) (starts ∙ (count ∙ sym (starts-push past (Start k index (suc w))))) (unclosed ∙ (hall.unclosed_is ∙ (unclosed-same x.seats at s now sits (start-keeps s.job.titled.state index).closed ∙ ap unclosed_in (sym seats)))) (tenants ∙ (hall.tenants_is ∙ (tenants-set x.seats at s now sits refl ∙ ap (λ (ss : List Seat). tenant_count (jobs_in ss)) (sym seats)))) (omega (arith, room, unclosed, ap out_in spots, out-taken x.spots w (record { job = at; index = index; start = start })))
+    let count : start ≡ starts_in past + 1 = next ∙ ap (λ (n : ℕ). n + 1) hall.starts_is in
+    let here = spots-start x.entries.workers past (tags_of x.seats) x.spots w at index start (tag_of s) (seat-tag x.seats at s sits) free.low low may.1.idle count free.home hall.spots in
+    grown x y (Start k index (suc w) ∷ []) hall workers events (rw seats (seated-start x.entries.workers past x.seats at s index (suc w) start seated sits may)) (rw (tags, spots) here) (starts ∙ (count ∙ sym (starts-push past (Start k index (suc w))))) (unclosed ∙ (hall.unclosed_is ∙ (unclosed-same x.seats at s now sits (start-keeps s.job.titled.state index).closed ∙ ap unclosed_in (sym seats)))) (tenants ∙ (hall.tenants_is ∙ (tenants-set x.seats at s now sits refl ∙ ap (λ (ss : List Seat). tenant_count (jobs_in ss)) (sym seats)))) (omega (arith, room, unclosed, ap out_in spots, out-taken x.spots w (record { job = at; index = index; start = start })))
 
 -- a finish was entered
-pub hall-finish : (x y : Inside) (at : ℕ) (s : Seat) (index w : ℕ) (outcome : Outcome) (spot : Spot) → IsHall x → slice_get x.seats at ≡ Some s → Allowed x.history.workers (events_in x) (Finish s.job.titled.key index (suc w) outcome) → get_or x.spots w None ≡ Some spot → y.history.workers ≡ x.history.workers → y.history.events ≡ x.history.events ++ of.Finish s.job.titled.key.tenant s.job.titled.key.job index (suc w) outcome ∷ [] → y.posted ≡ x.posted → y.seats ≡ slice_set x.seats at (reseated s (and_own s.job (Finished index outcome))) → y.spots ≡ slice_set x.spots w None → y.starts ≡ x.starts → y.unclosed ≡ x.unclosed → y.tenants ≡ x.tenants → y.history.room + 1 ≡ x.history.room → Grown x y (Finish s.job.titled.key index (suc w) outcome ∷ [])
-hall-finish x y at s index w outcome spot hall sits may taken workers events posted seats spots starts unclosed tenants room =
-    let past : List Event = events_in x in
+pub hall-finish : (x y : Inside) (at : ℕ) (s : Seat) (index w : ℕ) (outcome : Outcome) (spot : Spot) → IsHall x → slice_get x.seats at ≡ Some s → Allowed x.entries.workers x.entries.events (Finish s.job.titled.key index (suc w) outcome) → get_or x.spots w None ≡ Some spot → y.entries.workers ≡ x.entries.workers → y.entries.events ≡ x.entries.events ++ Finish s.job.titled.key index (suc w) outcome ∷ [] → y.seats ≡ slice_set x.seats at (reseated s (and_own s.job (Finished index outcome))) → y.spots ≡ slice_set x.spots w None → y.starts ≡ x.starts → y.unclosed ≡ x.unclosed → y.tenants ≡ x.tenants → y.entries.room + 1 ≡ x.entries.room → Grown x y (Finish s.job.titled.key index (suc w) outcome ∷ [])
+hall-finish x y at s index w outcome spot hall sits may taken workers events seats spots starts unclosed tenants room =
+    let past : List Event = x.entries.events in
     let k : Key = s.job.titled.key in
     let now : Seat = reseated s (and_own s.job (Finished index outcome)) in
     let tags : tags_of y.seats ≡ tags_of x.seats = ap tags_of seats ∙ (map-set tag_of x.seats at now ∙ set-back (tags_of x.seats) at (tag_of s) (seat-tag x.seats at s sits)) in
-    let here = spots-finish x.history.workers past (tags_of x.seats) x.spots w index k outcome (hall-spots x hall) in
-    grown x y (Finish k index (suc w) outcome ∷ []) hall workers events (none-posted x y posted) (rw seats (seated-finish x.history.workers past x.seats at s index (suc w) outcome (hall-seated x hall) sits may)) (rw (tags, spots) here) (starts ∙ (hall-starts x hall ∙ sym (starts-push past (Finish k index (suc w) outcome)))) (unclosed ∙ (hall.unclosed_is ∙ (unclosed-same x.seats at s now sits (finish-keeps s.job.titled.state index outcome).closed ∙ ap unclosed_in (sym seats)))) (tenants ∙ (hall.tenants_is ∙ (tenants-set x.seats at s now sits refl ∙ ap (λ (ss : List Seat). tenant_count (jobs_in ss)) (sym seats)))) (omega (arith, hall.room, room, unclosed, ap out_in spots, out-left x.spots w spot taken))
+    let here = spots-finish x.entries.workers past (tags_of x.seats) x.spots w index k outcome hall.spots in
+    grown x y (Finish k index (suc w) outcome ∷ []) hall workers events (rw seats (seated-finish x.entries.workers past x.seats at s index (suc w) outcome hall.seated sits may)) (rw (tags, spots) here) (starts ∙ (hall.starts_is ∙ sym (starts-push past (Finish k index (suc w) outcome)))) (unclosed ∙ (hall.unclosed_is ∙ (unclosed-same x.seats at s now sits (finish-keeps s.job.titled.state index outcome).closed ∙ ap unclosed_in (sym seats)))) (tenants ∙ (hall.tenants_is ∙ (tenants-set x.seats at s now sits refl ∙ ap (λ (ss : List Seat). tenant_count (jobs_in ss)) (sym seats)))) (omega (arith, hall.room, room, unclosed, ap out_in spots, out-left x.spots w spot taken))
   where
     set-back : (ts : List Tag) (n : ℕ) (t : Tag) → slice_get ts n ≡ Some t → slice_set ts n t ≡ ts
     set-back [] n t e = refl

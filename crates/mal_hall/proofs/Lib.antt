@@ -3,6 +3,7 @@ pub mod DriveLemmas
 -- what this crate alone cites
 mod Parts
 mod RoomLemmas
+mod EntryLemmas
 mod KeptLemmas
 mod HallLemmas
 mod LeaseLemmas

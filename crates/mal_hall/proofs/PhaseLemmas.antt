@@ -6,7 +6,6 @@ use Rattle.std.proofs.lemmas.Bool.{both_ways}
 use Rattle.std.proofs.lemmas.Bool.Decides.{Decides-eqb}
 use Rattle.std.proofs.lemmas.Option.{get_or_from_slice_get, slice_get-map, slice_get_read}
 use Rattle.mal_base.specs.declared.verdict.Outcome.{Outcome}
-use Rattle.mal_history.specs.declared.event.Event.TheVariants as of
 use Rattle.mal_job.specs.Finishing.{MayFinish}
 use Rattle.spec_job.specs.Journaled.{Journaled}
 use Rattle.spec_job.specs.Journal.{JournalEntry}
@@ -48,18 +47,18 @@ use Rattle.spec_hall.specs.Measure.{left_in}
 use Rattle.spec_hall.proofs.ArrangeLemmas.{balance-calm, due-more, exchange-calm}
 use Rattle.spec_hall.proofs.TurnLemmas.{arranged-left, due-leases, due-none}
 use Rattle.mal_hall.specs.Offered.{HasArranged, HasBalanced, HasEnded, HasExchanged, HasStarted, IsFirst, MayEnd, MayStartAt, handed_of}
-use Rattle.mal_hall.specs.HallView.{Inside, IsHall, events_in, out_in}
+use Rattle.mal_hall.specs.HallView.{Inside, IsHall, out_in}
 use Rattle.mal_hall.specs.Turned.{IsBalancing}
-use Rattle.mal_hall.proofs.HallLemmas.{Grown, hall-balance, hall-exchange, hall-seated, hall-spots, of-seat}
+use Rattle.mal_hall.proofs.HallLemmas.{Grown, hall-balance, hall-exchange, of-seat}
 use Rattle.mal_seats.specs.Changed.{OfSeat}
 use Rattle.mal_hall.proofs.LeaseLemmas.{hall-finish, hall-start, out-left}
 
 -- whether a balancing is due
-pub phase-due : (x : Inside) (b : Bool) → IsHall x → b ≡ is_due x.seats → b ≡ true → IsBalanceDue (events_in x)
-phase-due x b hall scan is = seated-due x.history.workers (events_in x) x.seats (hall-seated x hall) (sym scan ∙ is)
+pub phase-due : (x : Inside) (b : Bool) → IsHall x → b ≡ is_due x.seats → b ≡ true → IsBalanceDue x.entries.events
+phase-due x b hall scan is = seated-due x.entries.workers x.entries.events x.seats hall.seated (sym scan ∙ is)
 
-pub phase-calm : (x : Inside) (b : Bool) → IsHall x → b ≡ is_due x.seats → b ≡ false → lives (states (events_in x)) ≡ balanced (events_in x)
-phase-calm x b hall scan is = seated-calm x.history.workers (events_in x) x.seats (hall-seated x hall) (sym scan ∙ is)
+pub phase-calm : (x : Inside) (b : Bool) → IsHall x → b ≡ is_due x.seats → b ≡ false → lives (states x.entries.events) ≡ balanced x.entries.events
+phase-calm x b hall scan is = seated-calm x.entries.workers x.entries.events x.seats hall.seated (sym scan ∙ is)
 
 -- a seat that there is
 pub seat-there : (ss : List Seat) (n : ℕ) → n < length ss → (s : Seat) × (slice_get ss n ≡ Some s)
@@ -67,62 +66,62 @@ seat-there [] n low = absurd (omega (arith, low))
 seat-there (s ∷ ss) zero low = (s, refl)
 seat-there (s ∷ ss) (suc n) low = seat-there ss n (omega (arith, low))
 
-job-there : (x : Inside) (n : ℕ) (s : Seat) → IsHall x → slice_get x.seats n ≡ Some s → slice_get (states (events_in x)) n ≡ Some s.job.titled
-job-there x n s hall at = ap (λ (ts : List KeyedJob). slice_get ts n) (hall-seated x hall).jobs ∙ (slice_get-map (λ (t : Seat). t.job.titled) x.seats n ∙ ap (option_map (λ (t : Seat). t.job.titled)) at)
+job-there : (x : Inside) (n : ℕ) (s : Seat) → IsHall x → slice_get x.seats n ≡ Some s → slice_get (states x.entries.events) n ≡ Some s.job.titled
+job-there x n s hall at = ap (λ (ts : List KeyedJob). slice_get ts n) hall.seated.jobs ∙ (slice_get-map (λ (t : Seat). t.job.titled) x.seats n ∙ ap (option_map (λ (t : Seat). t.job.titled)) at)
 
 -- the first job of which an exchange is due
-pub phase-first : (x : Inside) (o : Option ℕ) → IsHall x → o ≡ first_exchange x.seats → MatchOption o (exchange_due (states (events_in x)) ≡ None) (λ at. IsFirst (events_in x) at)
-phase-first x None hall scan = seated-no_exchange x.history.workers (events_in x) x.seats (hall-seated x hall) (sym scan)
+pub phase-first : (x : Inside) (o : Option ℕ) → IsHall x → o ≡ first_exchange x.seats → MatchOption o (exchange_due (states x.entries.events) ≡ None) (λ at. IsFirst x.entries.events at)
+phase-first x None hall scan = seated-no_exchange x.entries.workers x.entries.events x.seats hall.seated (sym scan)
 phase-first x (Some n) hall scan =
     let first : first_exchange x.seats ≡ Some n = sym scan in
     let there = seat-there x.seats n (first-within x.seats n first) in
-    record { job = there.0.job.titled; first = ap exchange_due (hall-seated x hall).jobs ∙ first-found x.seats n there.0 first there.1; place = job-there x n there.0 hall there.1 }
+    record { job = there.0.job.titled; first = ap exchange_due hall.seated.jobs ∙ first-found x.seats n there.0 first there.1; place = job-there x n there.0 hall there.1 }
 
 -- the node that starts next
-pub phase-next : (x : Inside) (o : Option Candidate) → IsHall x → o ≡ pick x.seats → o ≡ picked (states (events_in x))
-phase-next x o hall scan = scan ∙ sym (seated-picked x.history.workers (events_in x) x.seats (hall-seated x hall))
+pub phase-next : (x : Inside) (o : Option Candidate) → IsHall x → o ≡ pick x.seats → o ≡ picked (states x.entries.events)
+phase-next x o hall scan = scan ∙ sym (seated-picked x.entries.workers x.entries.events x.seats hall.seated)
 
 -- whether a worker has a lease
-pub phase-lease : (x : Inside) (sp : List (Option Spot)) (worker : ℕ) (o : Option Spot) → IsHall x → sp ≡ x.spots → 1 ≤ worker → o ≡ get_or sp (worker - 1) None → is_some o ≡ is_some (lease_of worker (leases (events_in x)))
+pub phase-lease : (x : Inside) (sp : List (Option Spot)) (worker : ℕ) (o : Option Spot) → IsHall x → sp ≡ x.spots → 1 ≤ worker → o ≡ get_or sp (worker - 1) None → is_some o ≡ is_some (lease_of worker (leases x.entries.events))
 phase-lease x sp worker o hall same low scan =
     let n : worker ≡ suc (worker - 1) = omega (arith, low) in
     ap (λ (p : Option Spot). is_some p) (scan ∙ ap (λ (ps : List (Option Spot)). get_or ps (worker - 1) None) same)
-    ∙ (spot-lease x.history.workers (events_in x) (tags_of x.seats) x.spots (worker - 1) (hall-seated x hall).some_worker hall.bound (hall-seated x hall).legal (hall-spots x hall)
-    ∙ ap (λ (v : ℕ). is_some (lease_of v (leases (events_in x)))) (sym n))
+    ∙ (spot-lease x.entries.workers x.entries.events (tags_of x.seats) x.spots (worker - 1) hall.seated.some_worker hall.bound hall.seated.legal hall.spots
+    ∙ ap (λ (v : ℕ). is_some (lease_of v (leases x.entries.events))) (sym n))
 
 -- whether nothing is left
-pub phase-over : (x : Inside) (sp : List (Option Spot)) (n : ℕ) → IsHall x → is_done (jobs_in x.seats) ≡ true → sp ≡ x.spots → n ≡ out_in sp → nat_eq n 0 ≡ is_over (events_in x)
+pub phase-over : (x : Inside) (sp : List (Option Spot)) (n : ℕ) → IsHall x → is_done (jobs_in x.seats) ≡ true → sp ≡ x.spots → n ≡ out_in sp → nat_eq n 0 ≡ is_over x.entries.events
 phase-over x sp n hall done same scan =
-    let seated = hall-seated x hall in
+    let seated = hall.seated in
     ap (λ (m : ℕ). m == 0) (scan ∙ ap out_in same)
-    ∙ (spots-home x.history.workers (events_in x) (tags_of x.seats) x.spots seated.some_worker hall.bound seated.legal (hall-spots x hall)
-    ∙ sym (ap (λ (b : Bool). b && length (leases (events_in x)) == 0) (ap is_done seated.jobs ∙ done)))
+    ∙ (spots-home x.entries.workers x.entries.events (tags_of x.seats) x.spots seated.some_worker hall.bound seated.legal hall.spots
+    ∙ sym (ap (λ (b : Bool). b && length (leases x.entries.events) == 0) (ap is_done seated.jobs ∙ done)))
 
-pub phase-left : (x : Inside) (b : Bool) → IsHall x → b ≡ is_done (jobs_in x.seats) → b ≡ false → b ≡ is_over (events_in x)
-phase-left x b hall scan is = is ∙ sym (ap (λ (c : Bool). c && length (leases (events_in x)) == 0) (ap is_done (hall-seated x hall).jobs ∙ (sym scan ∙ is)))
+pub phase-left : (x : Inside) (b : Bool) → IsHall x → b ≡ is_done (jobs_in x.seats) → b ≡ false → b ≡ is_over x.entries.events
+phase-left x b hall scan is = is ∙ sym (ap (λ (c : Bool). c && length (leases x.entries.events) == 0) (ap is_done hall.seated.jobs ∙ (sym scan ∙ is)))
 
 -- a balancing that is due
-due-is : (x : Inside) → IsHall x → IsBalanceDue (events_in x) → is_due x.seats ≡ true
+due-is : (x : Inside) → IsHall x → IsBalanceDue x.entries.events → is_due x.seats ≡ true
 due-is x hall due = by_test (is_due x.seats) refl
   where
     by_test : (b : Bool) → is_due x.seats ≡ b → b ≡ true
     by_test true e = refl
-    by_test false e = absurd (due (seated-calm x.history.workers (events_in x) x.seats (hall-seated x hall) e))
+    by_test false e = absurd (due (seated-calm x.entries.workers x.entries.events x.seats hall.seated e))
 
 pub record Balanced (x y : Inside) : Type 0 where
   pub hall : IsHall y
-  pub has : HasBalanced x.history.workers (events_in x) (events_in y)
+  pub has : HasBalanced x.entries.workers x.entries.events y.entries.events
 
-pub phase-balance : (x y : Inside) → IsHall x → IsBalanceDue (events_in x) → y.history.workers ≡ x.history.workers → IsBalancing x.history y.history x.seats y.seats → y.posted ≡ x.posted → y.spots ≡ x.spots → y.starts ≡ x.starts → y.unclosed ≡ x.unclosed → y.tenants ≡ x.tenants → x.unclosed + out_in x.spots ≤ y.history.room → Balanced x y
-phase-balance x y hall due workers b posted spots starts unclosed tenants room =
+pub phase-balance : (x y : Inside) → IsHall x → IsBalanceDue x.entries.events → y.entries.workers ≡ x.entries.workers → IsBalancing x.entries y.entries x.seats y.seats → y.spots ≡ x.spots → y.starts ≡ x.starts → y.unclosed ≡ x.unclosed → y.tenants ≡ x.tenants → x.unclosed + out_in x.spots ≤ y.entries.room → Balanced x y
+phase-balance x y hall due workers b spots starts unclosed tenants room =
     let vs : List ℕ = b.volumes in
     let is : is_due x.seats ≡ true = due-is x hall due in
-    let grown = hall-balance x y vs hall is b.fair workers b.events posted b.seats spots starts unclosed tenants room in
-    record { hall = grown.hall; has = record { shares = shares_by vs x.seats; grown = grown.events; allowed = balance-allowed x.history.workers (events_in x) x.seats vs (hall-seated x hall) b.fair is } }
+    let grown = hall-balance x y vs hall is b.fair workers b.events b.seats spots starts unclosed tenants room in
+    record { hall = grown.hall; has = record { shares = shares_by vs x.seats; grown = grown.events; allowed = balance-allowed x.entries.workers x.entries.events x.seats vs hall.seated b.fair is } }
 
 -- a job's place is one of the seats
-pub within-first : (x : Inside) (at : ℕ) (t : KeyedJob) → IsHall x → slice_get (states (events_in x)) at ≡ Some t → at < length x.seats
-within-first x at t hall e = below x.seats at (sym (slice_get-map (λ (s : Seat). s.job.titled) x.seats at) ∙ (ap (λ (ts : List KeyedJob). slice_get ts at) (sym (hall-seated x hall).jobs) ∙ e))
+pub within-first : (x : Inside) (at : ℕ) (t : KeyedJob) → IsHall x → slice_get (states x.entries.events) at ≡ Some t → at < length x.seats
+within-first x at t hall e = below x.seats at (sym (slice_get-map (λ (s : Seat). s.job.titled) x.seats at) ∙ (ap (λ (ts : List KeyedJob). slice_get ts at) (sym hall.seated.jobs) ∙ e))
   where
     below : (ss : List Seat) (n : ℕ) → option_map (λ (s : Seat). s.job.titled) (slice_get ss n) ≡ Some t → n < length ss
     below [] n f = absurd (cc)
@@ -130,7 +129,7 @@ within-first x at t hall e = below x.seats at (sym (slice_get-map (λ (s : Seat)
     below (s ∷ ss) (suc n) f = omega (arith, below ss n f)
 
 -- the seat of a job at a place
-pub job-seat : (x : Inside) (at : ℕ) (t : KeyedJob) (s : Seat) → IsHall x → slice_get (states (events_in x)) at ≡ Some t → slice_get x.seats at ≡ Some s → s.job.titled ≡ t
+pub job-seat : (x : Inside) (at : ℕ) (t : KeyedJob) (s : Seat) → IsHall x → slice_get (states x.entries.events) at ≡ Some t → slice_get x.seats at ≡ Some s → s.job.titled ≡ t
 job-seat x at t s hall e f = let both : Some s.job.titled ≡ Some t = sym (job-there x at s hall f) ∙ e in cc
 
 pub read-seat : (x : Inside) (at : ℕ) (s : Seat) → at < length x.seats → s ≡ get_or x.seats at s → slice_get x.seats at ≡ Some s
@@ -138,57 +137,57 @@ read-seat x at s low read = slice_get_read x.seats (length x.seats) at s refl lo
 
 pub record Exchanges (x y : Inside) : Type 0 where
   pub hall : IsHall y
-  pub has : HasExchanged x.history.workers (events_in x) (events_in y)
+  pub has : HasExchanged x.entries.workers x.entries.events y.entries.events
 
-pub phase-exchange : (x y : Inside) (at : ℕ) (s : Seat) → IsHall x → lives (states (events_in x)) ≡ balanced (events_in x) → IsFirst (events_in x) at → slice_get x.seats at ≡ Some s → y.history.workers ≡ x.history.workers → y.history.events ≡ x.history.events ++ of.Exchange s.job.titled.key.tenant s.job.titled.key.job ∷ [] → y.posted ≡ x.posted → y.seats ≡ slice_set x.seats at (record s { job = and_own s.job Exchanged }) → y.spots ≡ x.spots → y.starts ≡ x.starts → y.unclosed ≡ x.unclosed → y.tenants ≡ x.tenants → x.unclosed + out_in x.spots ≤ y.history.room → Exchanges x y
-phase-exchange x y at s hall calm first sits workers events posted seats spots starts unclosed tenants room =
+pub phase-exchange : (x y : Inside) (at : ℕ) (s : Seat) → IsHall x → lives (states x.entries.events) ≡ balanced x.entries.events → IsFirst x.entries.events at → slice_get x.seats at ≡ Some s → y.entries.workers ≡ x.entries.workers → y.entries.events ≡ x.entries.events ++ Exchange s.job.titled.key ∷ [] → y.seats ≡ slice_set x.seats at (record s { job = and_own s.job Exchanged }) → y.spots ≡ x.spots → y.starts ≡ x.starts → y.unclosed ≡ x.unclosed → y.tenants ≡ x.tenants → x.unclosed + out_in x.spots ≤ y.entries.room → Exchanges x y
+phase-exchange x y at s hall calm first sits workers events seats spots starts unclosed tenants room =
     let same : s.job.titled ≡ first.job = job-seat x at first.job s hall first.place sits in
-    let may : Allowed x.history.workers (events_in x) (Exchange s.job.titled.key) = (first.job, record { balance = calm; first = first.first; key = ap (λ (t : KeyedJob). t.key) (sym same) }) in
-    let grown = hall-exchange x y at s hall may sits workers events posted seats spots starts unclosed tenants room in
+    let may : Allowed x.entries.workers x.entries.events (Exchange s.job.titled.key) = (first.job, record { balance = calm; first = first.first; key = ap (λ (t : KeyedJob). t.key) (sym same) }) in
+    let grown = hall-exchange x y at s hall may sits workers events seats spots starts unclosed tenants room in
     record { hall = grown.hall; has = record { key = s.job.titled.key; grown = grown.events; allowed = may } }
 
 -- the seat of a node that may be started
 pub record CanStart (x : Inside) (at index worker : ℕ) (s : Seat) : Type 0 where
   pub seat : slice_get x.seats at ≡ Some s
-  pub allowed : Allowed x.history.workers (events_in x) (Start s.job.titled.key index worker)
+  pub allowed : Allowed x.entries.workers x.entries.events (Start s.job.titled.key index worker)
   pub startable : startable s.job.titled.state index ≡ true
   pub low : index ≤ 63
 
-pub within-key : (x : Inside) (at : ℕ) (k : Key) → IsHall x → slice_get (keys_of (events_in x)) at ≡ Some k → at < length x.seats
-within-key x at k hall e = below (states-at (keys_of (events_in x)) at e)
+pub within-key : (x : Inside) (at : ℕ) (k : Key) → IsHall x → slice_get (keys_of x.entries.events) at ≡ Some k → at < length x.seats
+within-key x at k hall e = below (states-at (keys_of x.entries.events) at e)
   where
     states-at : (ks : List Key) (n : ℕ) → slice_get ks n ≡ Some k → n < length ks
     states-at [] n f = absurd (cc)
     states-at (j ∷ ks) zero f = omega arith
     states-at (j ∷ ks) (suc n) f = omega (arith, states-at ks n f)
 
-    below : at < length (keys_of (events_in x)) → at < length x.seats
-    below low = omega (arith, low, ap (λ (ks : List Key). length ks) (seated-keys (events_in x) x.seats (hall-seated x hall).jobs), length-keys x.seats)
+    below : at < length (keys_of x.entries.events) → at < length x.seats
+    below low = omega (arith, low, ap (λ (ks : List Key). length ks) (seated-keys x.entries.events x.seats hall.seated.jobs), length-keys x.seats)
       where
         length-keys : (ss : List Seat) → length (seat_keys ss) ≡ length ss
         length-keys [] = refl
         length-keys (s ∷ ss) = ap suc (length-keys ss)
 
-pub can-start : (x : Inside) (at index worker : ℕ) (s : Seat) → IsHall x → MayStartAt x.history.workers (events_in x) at index worker → slice_get x.seats at ≡ Some s → CanStart x at index worker s
+pub can-start : (x : Inside) (at index worker : ℕ) (s : Seat) → IsHall x → MayStartAt x.entries.workers x.entries.events at index worker → slice_get x.seats at ≡ Some s → CanStart x at index worker s
 can-start x at index worker s hall may sits =
-    let seated = hall-seated x hall in
-    let here : SitsAt (events_in x) at s.job.titled = sits-at (events_in x) x.seats at s seated.jobs sits in
+    let seated = hall.seated in
+    let here : SitsAt x.entries.events at s.job.titled = sits-at x.entries.events x.seats at s seated.jobs sits in
     let both : Some s.job.titled.key ≡ Some may.key = sym here.place ∙ may.place in
     let key : may.key ≡ s.job.titled.key = cc in
-    let mine : Allowed x.history.workers (events_in x) (Start s.job.titled.key index worker) = subst (λ (k : Key). Allowed x.history.workers (events_in x) (Start k index worker)) key may.allowed in
+    let mine : Allowed x.entries.workers x.entries.events (Start s.job.titled.key index worker) = subst (λ (k : Key). Allowed x.entries.workers x.entries.events (Start k index worker)) key may.allowed in
     record {
       seat = sits;
       allowed = mine;
-      startable = subst (λ (t : KeyedJob). startable t.state index ≡ true) here.machine (picked-may x.history.workers (events_in x) s.job.titled.key index worker mine.0 mine.1);
-      low = (start-free x.history.workers (events_in x) s.job.titled.key index worker seated.some_worker hall.bound seated.legal mine).low;
+      startable = subst (λ (t : KeyedJob). startable t.state index ≡ true) here.machine (picked-may x.entries.workers x.entries.events s.job.titled.key index worker mine.0 mine.1);
+      low = (start-free x.entries.workers x.entries.events s.job.titled.key index worker seated.some_worker hall.bound seated.legal mine).low;
     }
 
 pub record HasBegun (x y : Inside) (index worker : ℕ) (lease : Leased) : Type 0 where
   pub hall : IsHall y
-  pub has : HasStarted x.history.workers (events_in x) (events_in y) index worker lease
+  pub has : HasStarted x.entries.workers x.entries.events y.entries.events index worker lease
 
-spot-at : (x : Inside) (w : ℕ) (spot : Spot) → IsHall x → w < x.history.workers → get_or x.spots w None ≡ Some spot → IsAt (events_in x) (tags_of x.seats) (suc w) spot
-spot-at x w spot hall low e = subst (λ (o : Option Spot). IsSpot (events_in x) (tags_of x.seats) (suc w) o) e ((hall-spots x hall).each w low)
+spot-at : (x : Inside) (w : ℕ) (spot : Spot) → IsHall x → w < x.entries.workers → get_or x.spots w None ≡ Some spot → IsAt x.entries.events (tags_of x.seats) (suc w) spot
+spot-at x w spot hall low e = subst (λ (o : Option Spot). IsSpot x.entries.events (tags_of x.seats) (suc w) o) e (hall.spots.each w low)
 
 set-spot : (os : List (Option Spot)) (n : ℕ) (spot : Spot) → n < length os → get_or (slice_set os n (Some spot)) n None ≡ Some spot
 set-spot [] n spot low = absurd (omega (arith, low))
@@ -200,8 +199,8 @@ set-seat [] n s t e = absurd (cc)
 set-seat (x ∷ xs) zero s t e = refl
 set-seat (x ∷ xs) (suc n) s t e = set-seat xs n s t e
 
-pub phase-start : (x y : Inside) (at index worker start : ℕ) (s : Seat) (lease : Leased) → IsHall x → CanStart x at index worker s → IsLeaseOf s.job index start worker lease → start ≡ x.starts + 1 → y.history.workers ≡ x.history.workers → y.history.events ≡ x.history.events ++ of.Start s.job.titled.key.tenant s.job.titled.key.job index worker ∷ [] → y.posted ≡ x.posted → y.seats ≡ slice_set x.seats at (record s { job = and_start s.job index start }) → y.spots ≡ slice_set x.spots (worker - 1) (Some (record { job = at; index = index; start = start })) → y.starts ≡ start → y.unclosed ≡ x.unclosed → y.tenants ≡ x.tenants → x.unclosed + out_in x.spots + 1 ≤ y.history.room → HasBegun x y index worker lease
-phase-start x y at index worker start s lease hall can mine next workers events posted seats spots starts unclosed tenants room =
+pub phase-start : (x y : Inside) (at index worker start : ℕ) (s : Seat) (lease : Leased) → IsHall x → CanStart x at index worker s → IsLeaseOf s.job index start worker lease → start ≡ x.starts + 1 → y.entries.workers ≡ x.entries.workers → y.entries.events ≡ x.entries.events ++ Start s.job.titled.key index worker ∷ [] → y.seats ≡ slice_set x.seats at (record s { job = and_start s.job index start }) → y.spots ≡ slice_set x.spots (worker - 1) (Some (record { job = at; index = index; start = start })) → y.starts ≡ start → y.unclosed ≡ x.unclosed → y.tenants ≡ x.tenants → x.unclosed + out_in x.spots + 1 ≤ y.entries.room → HasBegun x y index worker lease
+phase-start x y at index worker start s lease hall can mine next workers events seats spots starts unclosed tenants room =
     record { hall = grown.hall; has = record { key = s.job.titled.key; grown = events_are; allowed = can.allowed; lease_is = lease_is } }
   where
     w : ℕ
@@ -210,7 +209,7 @@ phase-start x y at index worker start s lease hall can mine next workers events 
     some : worker ≡ suc w
     some = omega (arith, can.allowed.1.some_worker)
 
-    low : w < x.history.workers
+    low : w < x.entries.workers
     low = omega (arith, can.allowed.1.some_worker, can.allowed.1.worker_bound)
 
     spot : Spot
@@ -220,61 +219,61 @@ phase-start x y at index worker start s lease hall can mine next workers events 
     after = reseated s (and_start s.job index start)
 
     grown : Grown x y (Start s.job.titled.key index (suc w) ∷ [])
-    grown = hall-start x y at s index w start hall can.seat low (subst (λ (v : ℕ). Allowed x.history.workers (events_in x) (Start s.job.titled.key index v)) some can.allowed) next workers (subst (λ (v : ℕ). y.history.events ≡ x.history.events ++ of.Start s.job.titled.key.tenant s.job.titled.key.job index v ∷ []) some events) posted seats spots starts unclosed tenants room
+    grown = hall-start x y at s index w start hall can.seat low (subst (λ (v : ℕ). Allowed x.entries.workers x.entries.events (Start s.job.titled.key index v)) some can.allowed) next workers (subst (λ (v : ℕ). y.entries.events ≡ x.entries.events ++ Start s.job.titled.key index v ∷ []) some events) seats spots starts unclosed tenants room
 
-    events_are : events_in y ≡ events_in x ++ Start s.job.titled.key index worker ∷ []
-    events_are = subst (λ (v : ℕ). events_in y ≡ events_in x ++ Start s.job.titled.key index v ∷ []) (sym some) grown.events
+    events_are : y.entries.events ≡ x.entries.events ++ Start s.job.titled.key index worker ∷ []
+    events_are = subst (λ (v : ℕ). y.entries.events ≡ x.entries.events ++ Start s.job.titled.key index v ∷ []) (sym some) grown.events
 
     seat : slice_get y.seats at ≡ Some after
     seat = ap (λ (ss : List Seat). slice_get ss at) seats ∙ set-seat x.seats at s after can.seat
 
     taken : get_or y.spots w None ≡ Some spot
-    taken = ap (λ (os : List (Option Spot)). get_or os w None) spots ∙ set-spot x.spots w spot (omega (arith, low, (hall-spots x hall).count))
+    taken = ap (λ (os : List (Option Spot)). get_or os w None) spots ∙ set-spot x.spots w spot (omega (arith, low, hall.spots.count))
 
-    here : IsAt (events_in y) (tags_of y.seats) worker spot
-    here = subst (λ (v : ℕ). IsAt (events_in y) (tags_of y.seats) v spot) (sym some) (spot-at y w spot grown.hall (omega (arith, low, workers)) taken)
+    here : IsAt y.entries.events (tags_of y.seats) worker spot
+    here = subst (λ (v : ℕ). IsAt y.entries.events (tags_of y.seats) v spot) (sym some) (spot-at y w spot grown.hall (omega (arith, low, workers)) taken)
 
     held : LeaseOut
     held = record { worker = worker; key = s.job.titled.key; index = index }
 
-    journal : lease.journal ≡ lease_journal (events_in y) held
-    journal = mine.journal ∙ journal-of y.history.workers (events_in y) y.seats y.spots after worker spot (hall-seated y grown.hall) (hall-spots y grown.hall) seat here
+    journal : lease.journal ≡ lease_journal y.entries.events held
+    journal = mine.journal ∙ journal-of y.entries.workers y.entries.events y.seats y.spots after worker spot grown.hall.seated grown.hall.spots seat here
 
     out : (place_at after.job.titled.state index).out ≡ Some (record { revision = current s.job.titled.state; adds = start_entries s.job.titled.state (place_at s.job.titled.state index) })
-    out = ap (λ (p : NodeSlot). p.out) (places.set-here s.job.titled.state.places index _ (within (sits-at (events_in x) x.seats at s (hall-seated x hall).jobs can.seat)))
+    out = ap (λ (p : NodeSlot). p.out) (places.set-here s.job.titled.state.places index _ (within (sits-at x.entries.events x.seats at s hall.seated.jobs can.seat)))
       where
-        within : SitsAt (events_in x) at s.job.titled → index < length s.job.titled.state.places
-        within sits = omega (arith, can.low, ap (λ (t : KeyedJob). length t.state.places) sits.machine, (solo-tidy (own s.job.titled.key (events_in x))).places.count)
+        within : SitsAt x.entries.events at s.job.titled → index < length s.job.titled.state.places
+        within sits = omega (arith, can.low, ap (λ (t : KeyedJob). length t.state.places) sits.machine, (solo-tidy (own s.job.titled.key x.entries.events)).places.count)
 
-    adds : lease.adds ≡ lease_adds (events_in y) held
-    adds = mine.adds ∙ sym (adds-of y.history.workers (events_in y) y.seats after at worker index _ (hall-seated y grown.hall) seat out)
+    adds : lease.adds ≡ lease_adds y.entries.events held
+    adds = mine.adds ∙ sym (adds-of y.entries.workers y.entries.events y.seats after at worker index _ grown.hall.seated seat out)
 
-    lease_is : handed_of lease ≡ handed (events_in y) held
+    lease_is : handed_of lease ≡ handed y.entries.events held
     lease_is =
         ap (λ (j : Journaled). let h : Handed = record { journal = j; adds = lease.adds; worker = lease.worker } in h) journal
-        ∙ (ap (λ (es : List JournalEntry). let h : Handed = record { journal = lease_journal (events_in y) held; adds = es; worker = lease.worker } in h) adds
-        ∙ ap (λ (v : ℕ). let h : Handed = record { journal = lease_journal (events_in y) held; adds = lease_adds (events_in y) held; worker = v } in h) mine.worker)
+        ∙ (ap (λ (es : List JournalEntry). let h : Handed = record { journal = lease_journal y.entries.events held; adds = es; worker = lease.worker } in h) adds
+        ∙ ap (λ (v : ℕ). let h : Handed = record { journal = lease_journal y.entries.events held; adds = lease_adds y.entries.events held; worker = v } in h) mine.worker)
 
 -- the seat of the lease at a spot
 pub record SpotSeat (x : Inside) (worker : ℕ) (spot : Spot) (s : Seat) : Type 0 where
   pub seat : slice_get x.seats spot.job ≡ Some s
-  pub is : IsAt (events_in x) (tags_of x.seats) worker spot
+  pub is : IsAt x.entries.events (tags_of x.seats) worker spot
   pub taken : get_or x.spots (worker - 1) None ≡ Some spot
-  pub worker_is : IsWorker x.history.workers worker
+  pub worker_is : IsWorker x.entries.workers worker
 
 taken-low : (os : List (Option Spot)) (n : ℕ) (spot : Spot) → get_or os n None ≡ Some spot → n < length os
 taken-low [] n spot e = absurd (cc)
 taken-low (o ∷ os) zero spot e = omega arith
 taken-low (o ∷ os) (suc n) spot e = omega (arith, taken-low os n spot e)
 
-pub spot-is : (x : Inside) (sp : List (Option Spot)) (worker : ℕ) (o : Option Spot) (spot : Spot) → IsHall x → sp ≡ x.spots → 1 ≤ worker → o ≡ get_or sp (worker - 1) None → o ≡ Some spot → IsAt (events_in x) (tags_of x.seats) worker spot
+pub spot-is : (x : Inside) (sp : List (Option Spot)) (worker : ℕ) (o : Option Spot) (spot : Spot) → IsHall x → sp ≡ x.spots → 1 ≤ worker → o ≡ get_or sp (worker - 1) None → o ≡ Some spot → IsAt x.entries.events (tags_of x.seats) worker spot
 spot-is x sp worker o spot hall same low scan is =
     let taken : get_or x.spots (worker - 1) None ≡ Some spot = ap (λ (os : List (Option Spot)). get_or os (worker - 1) None) (sym same) ∙ (sym scan ∙ is) in
     let some : worker ≡ suc (worker - 1) = omega (arith, low) in
-    let within : worker - 1 < x.history.workers = omega (arith, taken-low x.spots (worker - 1) spot taken, (hall-spots x hall).count) in
-    subst (λ (v : ℕ). IsAt (events_in x) (tags_of x.seats) v spot) (sym some) (spot-at x (worker - 1) spot hall within taken)
+    let within : worker - 1 < x.entries.workers = omega (arith, taken-low x.spots (worker - 1) spot taken, hall.spots.count) in
+    subst (λ (v : ℕ). IsAt x.entries.events (tags_of x.seats) v spot) (sym some) (spot-at x (worker - 1) spot hall within taken)
 
-pub spot-within : (x : Inside) (worker : ℕ) (spot : Spot) → IsHall x → IsAt (events_in x) (tags_of x.seats) worker spot → spot.job < length x.seats
+pub spot-within : (x : Inside) (worker : ℕ) (spot : Spot) → IsHall x → IsAt x.entries.events (tags_of x.seats) worker spot → spot.job < length x.seats
 spot-within x worker spot hall is = below x.seats spot.job is.at
   where
     below : (ss : List Seat) (n : ℕ) → slice_get (tags_of ss) n ≡ Some is.tag → n < length ss
@@ -286,22 +285,22 @@ pub spot-seat : (x : Inside) (sp : List (Option Spot)) (worker : ℕ) (o : Optio
 spot-seat x sp worker o spot s hall same low scan found read =
     let is = spot-is x sp worker o spot hall same low scan found in
     let taken : get_or x.spots (worker - 1) None ≡ Some spot = ap (λ (os : List (Option Spot)). get_or os (worker - 1) None) (sym same) ∙ (sym scan ∙ found) in
-    let within : worker - 1 < x.history.workers = omega (arith, taken-low x.spots (worker - 1) spot taken, (hall-spots x hall).count) in
+    let within : worker - 1 < x.entries.workers = omega (arith, taken-low x.spots (worker - 1) spot taken, hall.spots.count) in
     record { seat = read-seat x spot.job s (spot-within x worker spot hall is) read; is = is; taken = taken; worker_is = record { low = low; high = omega (arith, within, low) } }
 
 -- what came back is of the lease at a spot, or is strange
-pub back-is : (x : Inside) (spot : Spot) (s : Seat) (d : Finished) → IsHall x → SpotSeat x d.worker spot s → IsBack s.job spot.index d → (l : LeaseOut) × IsOfLease (events_in x) d l
-back-is x spot s d hall at back = (held_at s d.worker spot.index, back-lease x.history.workers (events_in x) x.seats x.spots s spot d (hall-seated x hall) (hall-spots x hall) at.seat at.is back)
+pub back-is : (x : Inside) (spot : Spot) (s : Seat) (d : Finished) → IsHall x → SpotSeat x d.worker spot s → IsBack s.job spot.index d → (l : LeaseOut) × IsOfLease x.entries.events d l
+back-is x spot s d hall at back = (held_at s d.worker spot.index, back-lease x.entries.workers x.entries.events x.seats x.spots s spot d hall.seated hall.spots at.seat at.is back)
 
-pub back-not : (x : Inside) (spot : Spot) (s : Seat) (d : Finished) → IsHall x → SpotSeat x d.worker spot s → (IsBack s.job spot.index d → ⊥) → (l : LeaseOut) → IsOfLease (events_in x) d l → ⊥
-back-not x spot s d hall at other l of = other (lease-back x.history.workers (events_in x) x.seats x.spots s spot d l (hall-seated x hall).some_worker hall.bound (hall-seated x hall) (hall-spots x hall) at.seat at.is of)
+pub back-not : (x : Inside) (spot : Spot) (s : Seat) (d : Finished) → IsHall x → SpotSeat x d.worker spot s → (IsBack s.job spot.index d → ⊥) → (l : LeaseOut) → IsOfLease x.entries.events d l → ⊥
+back-not x spot s d hall at other l of = other (lease-back x.entries.workers x.entries.events x.seats x.spots s spot d l hall.seated.some_worker hall.bound hall.seated hall.spots at.seat at.is of)
 
-pub kept-is : (x : Inside) (spot : Spot) (s : Seat) (worker : ℕ) → IsHall x → SpotSeat x worker spot s → Some spot.start ≡ option_map (λ (l : LeaseOut). start_number l.worker (events_in x)) (lease_of worker (leases (events_in x)))
-kept-is x spot s worker hall at = ap (λ (n : ℕ). let o : Option ℕ = Some n in o) at.is.number ∙ sym (ap (option_map (λ (l : LeaseOut). start_number l.worker (events_in x))) at.is.out)
+pub kept-is : (x : Inside) (spot : Spot) (s : Seat) (worker : ℕ) → IsHall x → SpotSeat x worker spot s → Some spot.start ≡ option_map (λ (l : LeaseOut). start_number l.worker x.entries.events) (lease_of worker (leases x.entries.events))
+kept-is x spot s worker hall at = ap (λ (n : ℕ). let o : Option ℕ = Some n in o) at.is.number ∙ sym (ap (option_map (λ (l : LeaseOut). start_number l.worker x.entries.events)) at.is.out)
 
 -- a worker without a spot has no lease
-pub none-out : (x : Inside) (sp : List (Option Spot)) (worker : ℕ) (o : Option Spot) → IsHall x → sp ≡ x.spots → 1 ≤ worker → o ≡ get_or sp (worker - 1) None → o ≡ None → lease_of worker (leases (events_in x)) ≡ None
-none-out x sp worker o hall same low scan none = by_lease (lease_of worker (leases (events_in x))) (sym (phase-lease x sp worker o hall same low scan) ∙ ap (λ (p : Option Spot). is_some p) none)
+pub none-out : (x : Inside) (sp : List (Option Spot)) (worker : ℕ) (o : Option Spot) → IsHall x → sp ≡ x.spots → 1 ≤ worker → o ≡ get_or sp (worker - 1) None → o ≡ None → lease_of worker (leases x.entries.events) ≡ None
+none-out x sp worker o hall same low scan none = by_lease (lease_of worker (leases x.entries.events)) (sym (phase-lease x sp worker o hall same low scan) ∙ ap (λ (p : Option Spot). is_some p) none)
   where
     by_lease : (l : Option LeaseOut) → is_some l ≡ false → l ≡ None
     by_lease None e = refl
@@ -310,17 +309,17 @@ none-out x sp worker o hall same low scan none = by_lease (lease_of worker (leas
 pub strange-none : (past : List Event) (d : Finished) → lease_of d.worker (leases past) ≡ None → (l : LeaseOut) → IsOfLease past d l → ⊥
 strange-none past d none l of = let both : None ≡ Some l = sym none ∙ of.out in absurd (cc)
 
-pub zero-out : (x : Inside) → IsHall x → lease_of 0 (leases (events_in x)) ≡ None
-zero-out x hall = zero-lease x.history.workers (events_in x) (hall-seated x hall).some_worker hall.bound (hall-seated x hall).legal
+pub zero-out : (x : Inside) → IsHall x → lease_of 0 (leases x.entries.events) ≡ None
+zero-out x hall = zero-lease x.entries.workers x.entries.events hall.seated.some_worker hall.bound hall.seated.legal
 
-may-finish : (x : Inside) (worker : ℕ) (spot : Spot) (s : Seat) (back : Option Finished) → IsHall x → SpotSeat x worker spot s → MayEnd (events_in x) worker back → MayFinish s.job spot.index back
-may-finish x worker spot s None hall at may = spot-out x.history.workers (events_in x) x.seats s worker spot (hall-seated x hall).some_worker hall.bound (hall-seated x hall) at.seat at.is
+may-finish : (x : Inside) (worker : ℕ) (spot : Spot) (s : Seat) (back : Option Finished) → IsHall x → SpotSeat x worker spot s → MayEnd x.entries.events worker back → MayFinish s.job spot.index back
+may-finish x worker spot s None hall at may = spot-out x.entries.workers x.entries.events x.seats s worker spot hall.seated.some_worker hall.bound hall.seated at.seat at.is
 may-finish x worker spot s (Some d) hall at may =
     let same : d.worker ≡ worker = may.belongs.0 ∙ may.worker_is in
-    lease-back x.history.workers (events_in x) x.seats x.spots s spot d may.lease (hall-seated x hall).some_worker hall.bound (hall-seated x hall) (hall-spots x hall) at.seat (subst (λ (v : ℕ). IsAt (events_in x) (tags_of x.seats) v spot) (sym same) at.is) may.belongs.1
+    lease-back x.entries.workers x.entries.events x.seats x.spots s spot d may.lease hall.seated.some_worker hall.bound hall.seated hall.spots at.seat (subst (λ (v : ℕ). IsAt x.entries.events (tags_of x.seats) v spot) (sym same) at.is) may.belongs.1
 
 -- there is room for a finish
-end-room : (x : Inside) (worker : ℕ) (spot : Spot) (s : Seat) → IsHall x → SpotSeat x worker spot s → 1 ≤ x.history.room
+end-room : (x : Inside) (worker : ℕ) (spot : Spot) (s : Seat) → IsHall x → SpotSeat x worker spot s → 1 ≤ x.entries.room
 end-room x worker spot s hall at = omega (arith, hall.room, out-left x.spots (worker - 1) spot at.taken)
 
 -- the lease of a worker at a spot may end so
@@ -329,9 +328,9 @@ pub record EndsAt (x : Inside) (worker : ℕ) (spot : Spot) (back : Option Finis
   pub sits : SpotSeat x worker spot seat
   pub place : spot.job < length x.seats
   pub may : OfSeat x.seats spot.job (λ s. MayFinish s.job spot.index back)
-  pub room : 1 ≤ x.history.room
+  pub room : 1 ≤ x.entries.room
 
-pub ends-at : (x : Inside) (sp : List (Option Spot)) (worker : ℕ) (o : Option Spot) (spot : Spot) (back : Option Finished) → IsHall x → sp ≡ x.spots → 1 ≤ worker → o ≡ get_or sp (worker - 1) None → o ≡ Some spot → MayEnd (events_in x) worker back → EndsAt x worker spot back
+pub ends-at : (x : Inside) (sp : List (Option Spot)) (worker : ℕ) (o : Option Spot) (spot : Spot) (back : Option Finished) → IsHall x → sp ≡ x.spots → 1 ≤ worker → o ≡ get_or sp (worker - 1) None → o ≡ Some spot → MayEnd x.entries.events worker back → EndsAt x worker spot back
 ends-at x sp worker o spot back hall same low scan found may =
     let within = spot-within x worker spot hall (spot-is x sp worker o spot hall same low scan found) in
     let there = seat-there x.seats spot.job within in
@@ -348,15 +347,15 @@ ends-at x sp worker o spot back hall same low scan found may =
 -- a lease ends
 pub record Ended (x y : Inside) (worker : ℕ) (outcome : Outcome) : Type 0 where
   pub hall : IsHall y
-  pub has : HasEnded (events_in x) (events_in y) worker outcome
+  pub has : HasEnded x.entries.events y.entries.events worker outcome
 
-pub phase-end : (x y : Inside) (worker : ℕ) (spot : Spot) (s : Seat) (outcome : Outcome) → IsHall x → SpotSeat x worker spot s → y.history.workers ≡ x.history.workers → y.history.events ≡ x.history.events ++ of.Finish s.job.titled.key.tenant s.job.titled.key.job spot.index worker outcome ∷ [] → y.posted ≡ x.posted → y.seats ≡ slice_set x.seats spot.job (record s { job = and_own s.job (Done spot.index outcome) }) → y.spots ≡ slice_set x.spots (worker - 1) None → y.starts ≡ x.starts → y.unclosed ≡ x.unclosed → y.tenants ≡ x.tenants → y.history.room + 1 ≡ x.history.room → Ended x y worker outcome
-phase-end x y worker spot s outcome hall at workers events posted seats spots starts unclosed tenants room =
+pub phase-end : (x y : Inside) (worker : ℕ) (spot : Spot) (s : Seat) (outcome : Outcome) → IsHall x → SpotSeat x worker spot s → y.entries.workers ≡ x.entries.workers → y.entries.events ≡ x.entries.events ++ Finish s.job.titled.key spot.index worker outcome ∷ [] → y.seats ≡ slice_set x.seats spot.job (record s { job = and_own s.job (Done spot.index outcome) }) → y.spots ≡ slice_set x.spots (worker - 1) None → y.starts ≡ x.starts → y.unclosed ≡ x.unclosed → y.tenants ≡ x.tenants → y.entries.room + 1 ≡ x.entries.room → Ended x y worker outcome
+phase-end x y worker spot s outcome hall at workers events seats spots starts unclosed tenants room =
     let w : ℕ = worker - 1 in
     let some : worker ≡ suc w = omega (arith, at.worker_is.low) in
-    let held : lease_of worker (leases (events_in x)) ≡ Some (held_at s worker spot.index) = spot-held (events_in x) x.seats s worker spot at.seat at.is in
-    let grown = hall-finish x y spot.job s spot.index w outcome spot hall at.seat (subst (λ (v : ℕ). Allowed x.history.workers (events_in x) (Finish s.job.titled.key spot.index v outcome)) some held) at.taken workers (subst (λ (v : ℕ). y.history.events ≡ x.history.events ++ of.Finish s.job.titled.key.tenant s.job.titled.key.job spot.index v outcome ∷ []) some events) posted seats spots starts unclosed tenants room in
-    record { hall = grown.hall; has = record { lease = held_at s worker spot.index; out = held; grown = subst (λ (v : ℕ). events_in y ≡ events_in x ++ Finish s.job.titled.key spot.index v outcome ∷ []) (sym some) grown.events } }
+    let held : lease_of worker (leases x.entries.events) ≡ Some (held_at s worker spot.index) = spot-held x.entries.events x.seats s worker spot at.seat at.is in
+    let grown = hall-finish x y spot.job s spot.index w outcome spot hall at.seat (subst (λ (v : ℕ). Allowed x.entries.workers x.entries.events (Finish s.job.titled.key spot.index v outcome)) some held) at.taken workers (subst (λ (v : ℕ). y.entries.events ≡ x.entries.events ++ Finish s.job.titled.key spot.index v outcome ∷ []) some events) seats spots starts unclosed tenants room in
+    record { hall = grown.hall; has = record { lease = held_at s worker spot.index; out = held; grown = subst (λ (v : ℕ). y.entries.events ≡ x.entries.events ++ Finish s.job.titled.key spot.index v outcome ∷ []) (sym some) grown.events } }
 
 -- the worker of a lease that is found
 found-worker : (worker : ℕ) (ls : List LeaseOut) (l : LeaseOut) → lease_of worker ls ≡ Some l → l.worker ≡ worker
@@ -378,10 +377,10 @@ may-lose past worker some = by_lease (lease_of worker (leases past)) refl some
         record { lease = l; worker_is = same; belongs = ap (λ (v : ℕ). lease_of v (leases past)) same ∙ e }
 
 -- one that came back may end
-pub may-return : (x : Inside) (spot : Spot) (s : Seat) (d : Finished) → IsHall x → SpotSeat x d.worker spot s → IsBack s.job spot.index d → MayEnd (events_in x) d.worker (Some d)
+pub may-return : (x : Inside) (spot : Spot) (s : Seat) (d : Finished) → IsHall x → SpotSeat x d.worker spot s → IsBack s.job spot.index d → MayEnd x.entries.events d.worker (Some d)
 may-return x spot s d hall at back =
     let of = back-is x spot s d hall at back in
-    let same : of.0.worker ≡ d.worker = found-worker d.worker (leases (events_in x)) of.0 of.1.out in
+    let same : of.0.worker ≡ d.worker = found-worker d.worker (leases x.entries.events) of.0 of.1.out in
     record { lease = of.0; worker_is = same; belongs = (sym same, of.1) }
 
 -- the lease that may end is out
@@ -390,14 +389,14 @@ end-held past worker None may = ap (λ (v : ℕ). lease_of v (leases past)) (sym
 end-held past worker (Some d) may = ap (λ (v : ℕ). lease_of v (leases past)) (sym may.worker_is ∙ sym may.belongs.0) ∙ may.belongs.1.out
 
 -- where a lease may end its worker has a spot
-pub end-spot : (x : Inside) (sp : List (Option Spot)) (worker : ℕ) (o : Option Spot) (back : Option Finished) → IsHall x → sp ≡ x.spots → 1 ≤ worker → o ≡ get_or sp (worker - 1) None → o ≡ None → MayEnd (events_in x) worker back → ⊥
+pub end-spot : (x : Inside) (sp : List (Option Spot)) (worker : ℕ) (o : Option Spot) (back : Option Finished) → IsHall x → sp ≡ x.spots → 1 ≤ worker → o ≡ get_or sp (worker - 1) None → o ≡ None → MayEnd x.entries.events worker back → ⊥
 end-spot x sp worker o back hall same low scan none may =
-    let both : None ≡ Some may.lease = sym (none-out x sp worker o hall same low scan none) ∙ end-held (events_in x) worker back may in
+    let both : None ≡ Some may.lease = sym (none-out x sp worker o hall same low scan none) ∙ end-held x.entries.events worker back may in
     absurd (cc)
 
 -- worker 0 has no lease
-pub zero-none : (x : Inside) (worker v : ℕ) → IsHall x → v ≡ worker → v ≡ 0 → lease_of worker (leases (events_in x)) ≡ None
-zero-none x worker v hall same zero_is = ap (λ (n : ℕ). lease_of n (leases (events_in x))) (sym same ∙ zero_is) ∙ zero-out x hall
+pub zero-none : (x : Inside) (worker v : ℕ) → IsHall x → v ≡ worker → v ≡ 0 → lease_of worker (leases x.entries.events) ≡ None
+zero-none x worker v hall same zero_is = ap (λ (n : ℕ). lease_of n (leases x.entries.events)) (sym same ∙ zero_is) ∙ zero-out x hall
 
 pub kept-none : (past : List Event) (worker : ℕ) → lease_of worker (leases past) ≡ None → None ≡ option_map (λ (l : LeaseOut). start_number l.worker past) (lease_of worker (leases past))
 kept-none past worker none = sym (ap (option_map (λ (l : LeaseOut). start_number l.worker past)) none)

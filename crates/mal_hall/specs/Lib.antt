@@ -1,4 +1,4 @@
-pub mod Contents
+pub mod Entered
 pub mod HallView
 pub mod Offered
 pub mod Replying

@@ -1,15 +1,16 @@
-//! Entering events: what is written down, and what that does to the jobs.
+//! Entering events: what is entered, and what that does to the jobs.
 
-ghost use Rattle.std.specs.Prelude.{◌≡◌, ◌+◌, ◌<◌, ◌≤◌, ◌^◌, [], ◌∷◌, ◌++◌, true, length, None, IfOk, OnOk, OnErr, vec_len, vec_capacity};
+ghost use Rattle.std.specs.Prelude.{◌≡◌, ◌+◌, ◌<◌, ◌≤◌, ◌^◌, [], ◌∷◌, ◌++◌, true, length, None, IfOk, OnOk, OnErr};
 ghost use Rattle.mal_hall.specs.Turned.{HasWaited, IsBalancing};
 ghost use Rattle.mal_job.specs.Finishing.{outcome_of, MayFinish};
 ghost use Rattle.mal_seats.specs.Changed.{OfSeat, IsChanged};
 ghost use Rattle.spec_job.specs.{SoloMachine.{Exchanged, Finished, Revised, clauses_in, startable}, Viewed.{and_own, and_start, IsLeaseOf}};
-ghost use Rattle.spec_hall.specs.{Dressed.{keyed}, Seats.{opened_seat, place_of}};
+ghost use Rattle.spec_hall.specs.{Dressed.{keyed}, Events.{Open, Revise, Start, Finish, Exchange}, Seats.{opened_seat, place_of}};
 
+use crate::entries::Entries;
 use crate::spots::Spot;
 use mal_base::{Ask, Name, Outcome};
-use mal_history::{Event, History};
+use mal_history::Event;
 use mal_revision::Revision;
 use mal_seats::Seats;
 use mal_suspend::{Done, Lease};
@@ -17,7 +18,7 @@ use std::alloc::AllocError;
 
 /// Enters the opening of a job with a key that no other has, and leaves room for as many events as are owed.
 pub fn enter_open(
-    history: &mut History,
+    entries: &mut Entries,
     seats: &mut Seats,
     tenant: Name,
     job: Name,
@@ -26,23 +27,22 @@ pub fn enter_open(
 ) -> Result<(), AllocError>
     requires new { place_of (keyed tenant job) seats.old ≡ None }
     requires owed { owed < 2 ^ 63 + 65 }
-    ensures workers { history.new.workers ≡ history.old.workers }
-    ensures events { OnOk result (history.new.events ≡ history.old.events ++ Event.Open tenant job ask ∷ []) }
+    ensures workers { entries.new.workers ≡ entries.old.workers }
+    ensures events { OnOk result (entries.new.events ≡ entries.old.events ++ Open (keyed tenant job) ask ∷ []) }
     ensures seats { OnOk result (seats.new ≡ seats.old ++ opened_seat (length seats.old) (keyed tenant job) ask ∷ []) }
-    ensures room { OnOk result (owed ≤ history.new.room) }
-    ensures err { OnErr result (HasWaited history.old history.new seats.old seats.new) }
+    ensures room { OnOk result (owed ≤ entries.new.room) }
+    ensures err { OnErr result (HasWaited entries.old entries.new seats.old seats.new) }
 {
-    history.reserve(owed + 1)?;
+    entries.reserve(owed + 1)?;
     seats.open(tenant, job, ask)?;
-    history.push_reserved(Event::Open { tenant, job, ask });
+    entries.push_reserved(Event::Open { tenant, job, ask });
     Ok(())
 }
 
-/// Enters a revision of the job at a place, as the one of this number, keeps it behind those that were posted, and
-/// leaves room for as many events as are owed.
+/// Enters a revision of the job at a place, as the one of this number, with a copy of it, and leaves room for as many
+/// events as are owed.
 pub fn enter_revise(
-    history: &mut History,
-    posted: &mut Vec<Revision>,
+    entries: &mut Entries,
     seats: &mut Seats,
     at: usize,
     number: u32,
@@ -54,65 +54,47 @@ pub fn enter_revise(
     requires clauses { OfSeat seats.old at
         (λ s. clauses_in s.job.titled.state.revisions + length revision.clauses ≤ 1048576) }
     requires owed { owed < 2 ^ 63 + 65 }
-    ensures workers { history.new.workers ≡ history.old.workers }
+    ensures workers { entries.new.workers ≡ entries.old.workers }
     ensures events { OnOk result
         (OfSeat seats.old at
-        (λ s. history.new.events
-        ≡ history.old.events ++ Event.Revise s.job.titled.key.tenant s.job.titled.key.job number ∷ [])) }
-    ensures posted { OnOk result (posted.new.items ≡ posted.old.items ++ revision ∷ []) }
+        (λ s. entries.new.events ≡ entries.old.events ++ Revise s.job.titled.key number revision ∷ [])) }
     ensures seats { OnOk result
         (IsChanged (λ s. record s { job = and_own s.job (Revised revision) }) at seats.old seats.new) }
-    ensures room { OnOk result (owed ≤ history.new.room) }
-    ensures err { OnErr result (HasWaited history.old history.new seats.old seats.new) }
-    ensures same { OnErr result (posted.new.items ≡ posted.old.items) }
+    ensures room { OnOk result (owed ≤ entries.new.room) }
+    ensures err { OnErr result (HasWaited entries.old entries.new seats.old seats.new) }
 {
     let seat = seats.at(at);
     let (tenant, job) = (seat.job().tenant(), seat.job().name());
-    let kept = kept_for(posted, &revision)?;
-    history.reserve(owed + 1)?;
+    let kept = entries.copy_of(&revision)?;
+    entries.reserve(owed + 1)?;
     seats.revise(at, revision)?;
-    history.push_reserved(Event::Revise {
-        tenant,
-        job,
-        number,
-    });
-    posted.push_reserved(kept);
+    entries.push_revise(tenant, job, number, kept);
     Ok(())
-}
-
-/// A revision to be kept behind those that were posted, for which there is room then.
-fn kept_for(posted: &mut Vec<Revision>, revision: &Revision) -> Result<Revision, AllocError>
-    ensures same { posted.new.items ≡ posted.old.items }
-    ensures kept { IfOk result (λ r. r ≡ revision.now) }
-    ensures room { OnOk result (vec_len posted.new < vec_capacity posted.new) }
-{
-    posted.reserve(1)?;
-    revision.copy()
 }
 
 /// Enters a balancing with fair volumes, and leaves room for as many events as are owed.
 pub fn enter_balance(
-    history: &mut History,
+    entries: &mut Entries,
     seats: &mut Seats,
     owed: usize,
 ) -> Result<(), AllocError>
     requires { owed < 2 ^ 63 + 64 }
-    ensures workers { history.new.workers ≡ history.old.workers }
-    ensures balancing { OnOk result (IsBalancing history.old history.new seats.old seats.new) }
-    ensures room { OnOk result (owed ≤ history.new.room) }
-    ensures err { OnErr result (HasWaited history.old history.new seats.old seats.new) }
+    ensures workers { entries.new.workers ≡ entries.old.workers }
+    ensures balancing { OnOk result (IsBalancing entries.old entries.new seats.old seats.new) }
+    ensures room { OnOk result (owed ≤ entries.new.room) }
+    ensures err { OnErr result (HasWaited entries.old entries.new seats.old seats.new) }
 {
-    let volumes = seats.volumes(history.workers())?;
+    let volumes = seats.volumes(entries.workers())?;
     let shares = seats.shares(volumes.as_slice())?;
-    history.reserve(owed + 1)?;
+    entries.reserve(owed + 1)?;
     seats.balance(volumes.as_slice())?;
-    history.push_reserved(Event::Balance { volumes: shares });
+    entries.push_reserved(Event::Balance { volumes: shares });
     Ok(())
 }
 
 /// Enters the start of a node by a worker, as the lease at this spot, and leaves room for as many events as are owed.
 pub fn enter_start(
-    history: &mut History,
+    entries: &mut Entries,
     seats: &mut Seats,
     spot: Spot,
     worker: u32,
@@ -121,24 +103,23 @@ pub fn enter_start(
     requires place { spot.job < length seats.old }
     requires startable { OfSeat seats.old spot.job (λ s. startable s.job.titled.state spot.index ≡ true) }
     requires owed { owed < 2 ^ 63 + 65 }
-    ensures workers { history.new.workers ≡ history.old.workers }
+    ensures workers { entries.new.workers ≡ entries.old.workers }
     ensures events { OnOk result
         (OfSeat seats.old spot.job
-        (λ s. history.new.events
-        ≡ history.old.events ++ Event.Start s.job.titled.key.tenant s.job.titled.key.job spot.index worker ∷ [])) }
+        (λ s. entries.new.events ≡ entries.old.events ++ Start s.job.titled.key spot.index worker ∷ [])) }
     ensures seats { OnOk result
         (IsChanged (λ s. record s { job = and_start s.job spot.index spot.start }) spot.job seats.old seats.new) }
     ensures lease { IfOk result
         (λ l. OfSeat seats.old spot.job (λ s. IsLeaseOf s.job spot.index spot.start worker l)) }
-    ensures room { OnOk result (owed ≤ history.new.room) }
-    ensures err { OnErr result (HasWaited history.old history.new seats.old seats.new) }
+    ensures room { OnOk result (owed ≤ entries.new.room) }
+    ensures err { OnErr result (HasWaited entries.old entries.new seats.old seats.new) }
 {
     let seat = seats.at(spot.job());
     let (tenant, job) = (seat.job().tenant(), seat.job().name());
     let index = spot.index();
-    history.reserve(owed + 1)?;
+    entries.reserve(owed + 1)?;
     let lease = seats.start(spot.job(), index, worker, spot.start())?;
-    history.push_reserved(Event::Start {
+    entries.push_reserved(Event::Start {
         tenant,
         job,
         index,
@@ -149,7 +130,7 @@ pub fn enter_start(
 
 /// Enters the end of the lease of a worker at this spot: it is lost where nothing came back. Takes no memory.
 pub fn enter_finish(
-    history: &mut History,
+    entries: &mut Entries,
     seats: &mut Seats,
     spot: Spot,
     worker: u32,
@@ -158,22 +139,21 @@ pub fn enter_finish(
     requires place { spot.job < length seats.old }
     requires index { spot.index ≤ 63 }
     requires back { OfSeat seats.old spot.job (λ s. MayFinish s.job spot.index back) }
-    requires room { 1 ≤ history.old.room }
-    ensures workers { history.new.workers ≡ history.old.workers }
+    requires room { 1 ≤ entries.old.room }
+    ensures workers { entries.new.workers ≡ entries.old.workers }
     ensures events { OfSeat seats.old spot.job
-        (λ s. history.new.events
-        ≡ history.old.events
-        ++ Event.Finish s.job.titled.key.tenant s.job.titled.key.job spot.index worker (outcome_of back) ∷ []) }
+        (λ s. entries.new.events
+        ≡ entries.old.events ++ Finish s.job.titled.key spot.index worker (outcome_of back) ∷ []) }
     ensures seats { IsChanged
         (λ s. record s { job = and_own s.job (Finished spot.index (outcome_of back)) }) spot.job seats.old seats.new }
-    ensures room { history.new.room + 1 ≡ history.old.room }
+    ensures room { entries.new.room + 1 ≡ entries.old.room }
 {
     let seat = seats.at(spot.job());
     let (tenant, job) = (seat.job().tenant(), seat.job().name());
     let index = spot.index();
     let outcome = outcome_of(&back);
     seats.finish(spot.job(), index, back);
-    history.push_reserved(Event::Finish {
+    entries.push_reserved(Event::Finish {
         tenant,
         job,
         index,
@@ -194,26 +174,25 @@ fn outcome_of(back: &Option<Done>) -> Outcome
 
 /// Enters an exchange of the job at a place, and leaves room for as many events as are owed.
 pub fn enter_exchange(
-    history: &mut History,
+    entries: &mut Entries,
     seats: &mut Seats,
     at: usize,
     owed: usize,
 ) -> Result<(), AllocError>
     requires place { at < length seats.old }
     requires owed { owed < 2 ^ 63 + 64 }
-    ensures workers { history.new.workers ≡ history.old.workers }
+    ensures workers { entries.new.workers ≡ entries.old.workers }
     ensures events { OnOk result
         (OfSeat seats.old at
-        (λ s. history.new.events
-        ≡ history.old.events ++ Event.Exchange s.job.titled.key.tenant s.job.titled.key.job ∷ [])) }
+        (λ s. entries.new.events ≡ entries.old.events ++ Exchange s.job.titled.key ∷ [])) }
     ensures seats { OnOk result (IsChanged (λ s. record s { job = and_own s.job Exchanged }) at seats.old seats.new) }
-    ensures room { OnOk result (owed ≤ history.new.room) }
-    ensures err { OnErr result (HasWaited history.old history.new seats.old seats.new) }
+    ensures room { OnOk result (owed ≤ entries.new.room) }
+    ensures err { OnErr result (HasWaited entries.old entries.new seats.old seats.new) }
 {
     let seat = seats.at(at);
     let (tenant, job) = (seat.job().tenant(), seat.job().name());
-    history.reserve(owed + 1)?;
+    entries.reserve(owed + 1)?;
     seats.exchange(at)?;
-    history.push_reserved(Event::Exchange { tenant, job });
+    entries.push_reserved(Event::Exchange { tenant, job });
     Ok(())
 }

@@ -12,6 +12,7 @@ ghost use Rattle.spec_hall.specs.States as states_of;
 use crate::enter::{
     enter_balance, enter_exchange, enter_finish, enter_open, enter_revise, enter_start,
 };
+use crate::entries::Entries;
 use crate::lodging::{let_done_go, let_lease_go, lists};
 use crate::offer::{Back, Pick, Strange};
 use crate::room::{next_number, tenants_after};
@@ -32,11 +33,9 @@ use std::mem;
 /// the events are a legal history, that each job is its machine run alone on its own events, and which leases are out.
 #[derive(Drop)]
 pub struct Hall {
-    history: History,
-    /// The revisions that were posted, in that order: the n-th is that of the history's n-th Revise, which is written
-    /// down without it. So the events are told by what was entered alone, and by no job. A revision shares its lists
-    /// with the one that its job has.
-    posted: Vec<Revision>,
+    /// What was entered: the events are told by it alone, and by no job. A revision there shares its lists with the one
+    /// that its job has.
+    entries: Entries,
     seats: Seats,
     spots: Vec<Option<Spot>>,
     starts: u64,
@@ -47,19 +46,19 @@ pub struct Hall {
 
 impl Model for Hall {
     ghost use Rattle.std.specs.Prelude.{map, option_map};
-    ghost use Rattle.mal_hall.specs.{Offered.{handed_of}, Contents.{with_posted}, HallView.{HallView, IsHall}};
+    ghost use Rattle.mal_hall.specs.{Offered.{handed_of}, HallView.{HallView, IsHall}};
 
     ghost Value = { HallView };
 
     ghost view = { λ h. record {
-      workers = h.history.workers;
-      events = with_posted h.history.events h.posted.items;
+      workers = h.entries.workers;
+      events = h.entries.events;
       inside = map
           (option_map handed_of) h.lodged.items;
     } };
 
     ghost invariant = { λ h. IsHall
-        (record { history = h.history; posted = h.posted.items; seats = h.seats; spots = h.spots.items; starts = h.starts; unclosed = h.unclosed; tenants = h.tenants }) };
+        (record { entries = h.entries; seats = h.seats; spots = h.spots.items; starts = h.starts; unclosed = h.unclosed; tenants = h.tenants }) };
 }
 
 impl Hall {
@@ -72,8 +71,7 @@ impl Hall {
         ensures inside { IfOk result (λ h. IsInside h) }
     {
         Ok(Hall {
-            history: History::new(alloc, workers),
-            posted: Vec::new(alloc),
+            entries: Entries::new(alloc, workers),
             seats: Seats::new(alloc),
             spots: no_leases(alloc, workers)?,
             starts: 0,
@@ -100,7 +98,7 @@ impl Hall {
         are_in_form(&tenant, &job, ask);
         let owed = owed(&self.seats, self.unclosed, &self.spots);
         match enter_open(
-            &mut self.history,
+            &mut self.entries,
             &mut self.seats,
             tenant,
             job,
@@ -140,8 +138,7 @@ impl Hall {
         let number = next_number(self.seats.at(at).job(), &revision)?;
         let owed = owed(&self.seats, self.unclosed, &self.spots);
         match enter_revise(
-            &mut self.history,
-            &mut self.posted,
+            &mut self.entries,
             &mut self.seats,
             at,
             number,
@@ -171,7 +168,7 @@ impl Hall {
         }
         self.seats.close(at);
         self.unclosed -= 1;
-        self.history.push_reserved(Event::Close {
+        self.entries.push_reserved(Event::Close {
             tenant: *tenant,
             job: *job,
         });
@@ -214,7 +211,7 @@ impl Hall {
         ensures events { result.now.events ≡ map bare self.now.events }
         ensures legal { Legal self.now.workers self.now.events }
     {
-        &self.history
+        self.entries.history()
     }
 
     /// A revision of a job, numbered from 1: None exactly where the job is not there or has no such revision.
@@ -284,7 +281,7 @@ impl Hall {
         ensures err { OnErr result (self.new.events ≡ self.old.events) }
     {
         let owed = owed(&self.seats, self.unclosed, &self.spots);
-        enter_balance(&mut self.history, &mut self.seats, owed)?;
+        enter_balance(&mut self.entries, &mut self.seats, owed)?;
         Ok(())
     }
 
@@ -299,7 +296,7 @@ impl Hall {
         ensures err { OnErr result (self.new.events ≡ self.old.events) }
     {
         let owed = owed(&self.seats, self.unclosed, &self.spots);
-        match enter_exchange(&mut self.history, &mut self.seats, at, owed) {
+        match enter_exchange(&mut self.entries, &mut self.seats, at, owed) {
             Ok(()) => {}
             Err(_) => return Err(AllocError),
         }
@@ -379,7 +376,7 @@ impl Hall {
         let start = self.starts + 1;
         let spot = Spot::new(at, index, start);
         let owed = owed(&self.seats, self.unclosed, &self.spots);
-        let lease = match enter_start(&mut self.history, &mut self.seats, spot, worker, owed + 1) {
+        let lease = match enter_start(&mut self.entries, &mut self.seats, spot, worker, owed + 1) {
             Ok(lease) => lease,
             Err(_) => return Err(AllocError),
         };
@@ -459,7 +456,7 @@ impl Hall {
         let Some(spot) = spot_of(&self.spots, worker) else {
             unreachable!();
         };
-        enter_finish(&mut self.history, &mut self.seats, spot, worker, back);
+        enter_finish(&mut self.entries, &mut self.seats, spot, worker, back);
         self.spots[worker as usize - 1] = None;
     }
 
@@ -486,7 +483,7 @@ impl Hall {
         ensures home { leases self.new.events ≡ [] }
     {
         let _ = self.is_due();
-        for worker in 1..self.history.workers() + 1 {
+        for worker in 1..self.entries.workers() + 1 {
             if self.has_lease(worker) {
                 self.end(worker, None);
             }
@@ -595,7 +592,7 @@ impl Hall {
     pub(crate) fn has_listed(&self, volumes: &Shares) -> bool
         ensures { IsTrue result ↔ (listed_last (map bare self.now.events) ≡ Some volumes.now) }
     {
-        match self.history.events().last() {
+        match self.entries.history().events().last() {
             None => false,
             Some(event) => lists(event, volumes),
         }

@@ -5,6 +5,7 @@
 mod apply;
 mod desk;
 mod enter;
+mod entries;
 mod hall;
 mod lodging;
 mod offer;

@@ -37,20 +37,20 @@ pub invariant_of-self : goal.invariant_of-self
 invariant_of-self c =
     let here = sits c.self.inside.seats (keyed c.args.tenant.now c.args.job.now) _ _ _ c.place_of.ensures c.in-Some.is c.at.ensures in
     let still = sym (rw (c.job.ensures, c.if-is_closed.false) at c.is_closed.ensures) in
-    let now = hall-close _ (record { history = c.push_reserved.new.self; posted = c.self.inside.posted.items; seats = c.close.new.self; spots = c.self.inside.spots.items; starts = c.self.inside.starts; unclosed = c.self.inside.unclosed - 1; tenants = c.self.inside.tenants }) _ _ _ c.self.invariant here c.push_reserved.ensures.workers c.push_reserved.ensures.events refl (c.close.ensures _ here.seat) refl refl refl refl still c.push_reserved.ensures.room in
+    let now = hall-close _ (record { entries = c.push_reserved.new.self; seats = c.close.new.self; spots = c.self.inside.spots.items; starts = c.self.inside.starts; unclosed = c.self.inside.unclosed - 1; tenants = c.self.inside.tenants }) _ _ _ c.self.invariant here c.push_reserved.ensures.workers c.push_reserved.ensures.events (c.close.ensures _ here.seat) refl refl refl refl still c.push_reserved.ensures.room in
     now.hall
 
 pub returns-clause-ok : goal.returns-clause-ok
 returns-clause-ok c =
     let here = sits c.self.inside.seats (keyed c.args.tenant.now c.args.job.now) _ _ _ c.place_of.ensures c.in-Some.is c.at.ensures in
     let still = sym (rw (c.job.ensures, c.if-is_closed.false) at c.is_closed.ensures) in
-    let now = hall-close _ (record { history = c.push_reserved.new.self; posted = c.self.inside.posted.items; seats = c.close.new.self; spots = c.self.inside.spots.items; starts = c.self.inside.starts; unclosed = c.self.inside.unclosed - 1; tenants = c.self.inside.tenants }) _ _ _ c.self.invariant here c.push_reserved.ensures.workers c.push_reserved.ensures.events refl (c.close.ensures _ here.seat) refl refl refl refl still c.push_reserved.ensures.room in
+    let now = hall-close _ (record { entries = c.push_reserved.new.self; seats = c.close.new.self; spots = c.self.inside.spots.items; starts = c.self.inside.starts; unclosed = c.self.inside.unclosed - 1; tenants = c.self.inside.tenants }) _ _ _ c.self.invariant here c.push_reserved.ensures.workers c.push_reserved.ensures.events (c.close.ensures _ here.seat) refl refl refl refl still c.push_reserved.ensures.room in
     rw (← c.self.view_is) now.events
 
 pub returns-clause-call : goal.returns-clause-call
 returns-clause-call c =
     let here = sits c.self.inside.seats (keyed c.args.tenant.now c.args.job.now) _ _ _ c.place_of.ensures c.in-Some.is c.at.ensures in
     let still = sym (rw (c.job.ensures, c.if-is_closed.false) at c.is_closed.ensures) in
-    let now = hall-close _ (record { history = c.push_reserved.new.self; posted = c.self.inside.posted.items; seats = c.close.new.self; spots = c.self.inside.spots.items; starts = c.self.inside.starts; unclosed = c.self.inside.unclosed - 1; tenants = c.self.inside.tenants }) _ _ _ c.self.invariant here c.push_reserved.ensures.workers c.push_reserved.ensures.events refl (c.close.ensures _ here.seat) refl refl refl refl still c.push_reserved.ensures.room in
+    let now = hall-close _ (record { entries = c.push_reserved.new.self; seats = c.close.new.self; spots = c.self.inside.spots.items; starts = c.self.inside.starts; unclosed = c.self.inside.unclosed - 1; tenants = c.self.inside.tenants }) _ _ _ c.self.invariant here c.push_reserved.ensures.workers c.push_reserved.ensures.events (c.close.ensures _ here.seat) refl refl refl refl still c.push_reserved.ensures.room in
     let may : MayClose _ (keyed c.args.tenant.now c.args.job.now) c.at.result.now.job.titled = record { job = (hall-found _ _ _ _ c.self.invariant here).job; open_still = still } in
     rw (← c.self.view_is) (called-one _ _ _ (Closes (keyed c.args.tenant.now c.args.job.now)) _ _ now.events (c.at.result.now.job.titled, may, refl))

@@ -1,13 +1,12 @@
 use Rattle.std.proofs.Common.{◌≤◌, arith}
 use Rattle.mal_hall.proofs.PhaseLemmas.{back-not, kept-is, kept-none, may-return, none-out, spot-is, spot-seat, spot-within, strange-none, test-not, test-yes, zero-none}
-use Rattle.mal_hall.specs.Contents.{with_posted}
 use Rattle.mal_hall.proofs.hall.Hall.compare.Goals as goal
 
 pub returns-then-worker-eq0-clause-strange : goal.returns-then-worker-eq0-clause-strange
 returns-then-worker-eq0-clause-strange c = rw (← c.self.view_is) (strange-none _ c.args.back.now (zero-none _ c.args.back.now.worker _ c.self.invariant c.worker-worker.ensures c.if-worker-eq0.true))
 
 pub returns-then-worker-eq0-clause-kept : goal.returns-then-worker-eq0-clause-kept
-returns-then-worker-eq0-clause-kept c = rw (← c.self.view_is) (kept-none (with_posted c.self.inside.history.events c.self.inside.posted.items) c.args.back.now.worker (zero-none _ c.args.back.now.worker _ c.self.invariant c.worker-worker.ensures c.if-worker-eq0.true))
+returns-then-worker-eq0-clause-kept c = rw (← c.self.view_is) (kept-none c.self.inside.entries.events c.args.back.now.worker (zero-none _ c.args.back.now.worker _ c.self.invariant c.worker-worker.ensures c.if-worker-eq0.true))
 
 pub returns-in_default-clause-strange : goal.returns-in_default-clause-strange
 returns-in_default-clause-strange c =
@@ -19,7 +18,7 @@ pub returns-in_default-clause-kept : goal.returns-in_default-clause-kept
 returns-in_default-clause-kept c =
     let low : 1 ≤ c.worker-worker.result = omega (arith, c.if-worker-eq0.false) in
     let none = rw c.worker-worker.ensures at (none-out _ _ c.worker-worker.result _ c.self.invariant c.deref.ensures.value low c.spot_of.ensures c.in_default.is) in
-    rw (← c.self.view_is) (kept-none (with_posted c.self.inside.history.events c.self.inside.posted.items) c.args.back.now.worker none)
+    rw (← c.self.view_is) (kept-none c.self.inside.entries.events c.args.back.now.worker none)
 
 pub at-requires : goal.at-requires
 at-requires c =

@@ -23,12 +23,12 @@ pub invariant_of-self : goal.invariant_of-self
 invariant_of-self c =
     let at = ends-at (parts c.self.inside) _ c.args.worker _ c.in-Some.spot c.args.back c.self.invariant c.deref.ensures.value c.requires.some c.spot_of.ensures c.in-Some.is (rw (← c.self.view_is) at c.requires.may) in
     let e = c.enter_finish.ensures in
-    let now : Ended (parts c.self.inside) (record { history = c.enter_finish.new.history; posted = c.self.inside.posted.items; seats = c.enter_finish.new.seats; spots = slice_set c.self.inside.spots.items (c.args.worker - 1) None; starts = c.self.inside.starts; unclosed = c.self.inside.unclosed; tenants = c.self.inside.tenants }) c.args.worker (outcome_of c.args.back) = phase-end (parts c.self.inside) _ c.args.worker c.in-Some.spot at.seat (outcome_of c.args.back) c.self.invariant at.sits e.workers (e.events at.seat at.sits.seat) refl (e.seats at.seat at.sits.seat) refl refl refl refl e.room in
+    let now : Ended (parts c.self.inside) (record { entries = c.enter_finish.new.entries; seats = c.enter_finish.new.seats; spots = slice_set c.self.inside.spots.items (c.args.worker - 1) None; starts = c.self.inside.starts; unclosed = c.self.inside.unclosed; tenants = c.self.inside.tenants }) c.args.worker (outcome_of c.args.back) = phase-end (parts c.self.inside) _ c.args.worker c.in-Some.spot at.seat (outcome_of c.args.back) c.self.invariant at.sits e.workers (e.events at.seat at.sits.seat) (e.seats at.seat at.sits.seat) refl refl refl refl e.room in
     now.hall
 
 pub returns-clause-ended : goal.returns-clause-ended
 returns-clause-ended c =
     let at = ends-at (parts c.self.inside) _ c.args.worker _ c.in-Some.spot c.args.back c.self.invariant c.deref.ensures.value c.requires.some c.spot_of.ensures c.in-Some.is (rw (← c.self.view_is) at c.requires.may) in
     let e = c.enter_finish.ensures in
-    let now : Ended (parts c.self.inside) (record { history = c.enter_finish.new.history; posted = c.self.inside.posted.items; seats = c.enter_finish.new.seats; spots = slice_set c.self.inside.spots.items (c.args.worker - 1) None; starts = c.self.inside.starts; unclosed = c.self.inside.unclosed; tenants = c.self.inside.tenants }) c.args.worker (outcome_of c.args.back) = phase-end (parts c.self.inside) _ c.args.worker c.in-Some.spot at.seat (outcome_of c.args.back) c.self.invariant at.sits e.workers (e.events at.seat at.sits.seat) refl (e.seats at.seat at.sits.seat) refl refl refl refl e.room in
+    let now : Ended (parts c.self.inside) (record { entries = c.enter_finish.new.entries; seats = c.enter_finish.new.seats; spots = slice_set c.self.inside.spots.items (c.args.worker - 1) None; starts = c.self.inside.starts; unclosed = c.self.inside.unclosed; tenants = c.self.inside.tenants }) c.args.worker (outcome_of c.args.back) = phase-end (parts c.self.inside) _ c.args.worker c.in-Some.spot at.seat (outcome_of c.args.back) c.self.invariant at.sits e.workers (e.events at.seat at.sits.seat) (e.seats at.seat at.sits.seat) refl refl refl refl e.room in
     rw (← c.self.view_is) now.has

@@ -18,17 +18,17 @@ pub returns-in-Err-clause-err : goal.returns-in-Err-clause-err
 returns-in-Err-clause-err c = rw (← c.self.view_is, c.in-Err.ensures.err.events) refl
 
 pub invariant_of-self : goal.invariant_of-self
-invariant_of-self c = hall-waited (parts c.self.inside) c.enter_exchange.new.history c.enter_exchange.new.seats c.self.invariant c.in-Err.ensures.err
+invariant_of-self c = hall-waited (parts c.self.inside) c.enter_exchange.new.entries c.enter_exchange.new.seats c.self.invariant c.in-Err.ensures.err
 
 -- the exchange was entered
-exchanged : (c : In-Ok) → Exchanges (parts c.self.inside) (and_seats (parts c.self.inside) c.enter_exchange.new.history c.enter_exchange.new.seats)
+exchanged : (c : In-Ok) → Exchanges (parts c.self.inside) (and_seats (parts c.self.inside) c.enter_exchange.new.entries c.enter_exchange.new.seats)
 exchanged c =
     let e = c.in-Ok.ensures in
     let owing = rw c.deref.ensures.value at c.owed-owed.ensures.value in
     let calm = rw (← c.self.view_is) at c.requires.calm in
     let first = rw (← c.self.view_is) at c.requires.first in
     let there = seat-there c.self.inside.seats c.args.at (within-first (parts c.self.inside) c.args.at first.job c.self.invariant first.place) in
-    phase-exchange (parts c.self.inside) (and_seats (parts c.self.inside) c.enter_exchange.new.history c.enter_exchange.new.seats) c.args.at there.0 c.self.invariant calm first there.1 e.workers (e.events there.0 there.1) refl (e.seats there.0 there.1) refl refl refl refl (omega (arith, owing, e.room))
+    phase-exchange (parts c.self.inside) (and_seats (parts c.self.inside) c.enter_exchange.new.entries c.enter_exchange.new.seats) c.args.at there.0 c.self.invariant calm first there.1 e.workers (e.events there.0 there.1) (e.seats there.0 there.1) refl refl refl refl (omega (arith, owing, e.room))
 
 pub invariant_of-self-2 : goal.invariant_of-self-2
 invariant_of-self-2 c = (exchanged c).hall

@@ -1,17 +1,16 @@
 use Rattle.std.proofs.Common.{◌≤◌, arith, refl, sym, ◌∙◌}
 use Rattle.spec_hall.specs.Dressed.{keyed}
-use Rattle.mal_hall.specs.Contents.{with_posted}
 use Rattle.mal_hall.proofs.ApplyLemmas.{held-none, held-other, held-test}
 use Rattle.mal_hall.proofs.PhaseLemmas.{none-out, spot-is, zero-none}
 use Rattle.mal_hall.proofs.hall.Hall.holds.Goals as goal
 
 pub returns-then-worker-eq0-clause-value : goal.returns-then-worker-eq0-clause-value
-returns-then-worker-eq0-clause-value c = rw (← c.self.view_is) (held-none (with_posted c.self.inside.history.events c.self.inside.posted.items) c.args.worker c.args.index (keyed c.args.tenant.now c.args.job.now) (zero-none _ c.args.worker c.args.worker c.self.invariant refl c.if-worker-eq0.true))
+returns-then-worker-eq0-clause-value c = rw (← c.self.view_is) (held-none c.self.inside.entries.events c.args.worker c.args.index (keyed c.args.tenant.now c.args.job.now) (zero-none _ c.args.worker c.args.worker c.self.invariant refl c.if-worker-eq0.true))
 
 pub returns-in_default-clause-value : goal.returns-in_default-clause-value
 returns-in_default-clause-value c =
     let low : 1 ≤ c.args.worker = omega (arith, c.if-worker-eq0.false) in
-    rw (← c.self.view_is) (held-none (with_posted c.self.inside.history.events c.self.inside.posted.items) c.args.worker c.args.index (keyed c.args.tenant.now c.args.job.now) (none-out _ _ c.args.worker _ c.self.invariant c.deref.ensures.value low c.spot_of.ensures c.in_default.is))
+    rw (← c.self.view_is) (held-none c.self.inside.entries.events c.args.worker c.args.index (keyed c.args.tenant.now c.args.job.now) (none-out _ _ c.args.worker _ c.self.invariant c.deref.ensures.value low c.spot_of.ensures c.in_default.is))
 
 pub returns-then-index-clause-value : goal.returns-then-index-clause-value
 returns-then-index-clause-value c =

@@ -1,12 +1,10 @@
-use Rattle.std.proofs.Common.{List, ap, refl}
-use Rattle.mal_history.specs.declared.event.Event.{Event}
-use Rattle.mal_hall.specs.Contents.{with_posted}
+use Rattle.std.proofs.Common.{refl}
 use Rattle.mal_hall.proofs.HallLemmas.{hall-none}
 use Rattle.mal_hall.proofs.InsideLemmas.{inside-none}
 use Rattle.mal_hall.proofs.hall.Hall.new.Goals as goal
 
 pub invariant_of-result : goal.invariant_of-result
-invariant_of-result c = hall-none c.new.result c.args.workers c.new-2.result.items c.new-3.result c.in_ok-no_leases.field-0.items c.new.ensures.workers c.requires.some c.requires.bound c.new.ensures.events c.new-2.ensures.items c.new-3.ensures c.in_ok-no_leases.ensures
+invariant_of-result c = hall-none c.new.result c.args.workers c.new-2.result c.in_ok-no_leases.field-0.items c.new.ensures.workers c.requires.some c.requires.bound c.new.ensures.events c.new-2.ensures c.in_ok-no_leases.ensures
 
 pub returns-clause-inside : goal.returns-clause-inside
-returns-clause-inside c = inside-none _ c.args.workers c.in_ok-no_leases-2.field-0.items c.new.ensures.workers (ap (λ (es : List Event). with_posted es c.new-2.result.items) c.new.ensures.events) refl c.in_ok-no_leases-2.ensures
+returns-clause-inside c = inside-none _ c.args.workers c.in_ok-no_leases-2.field-0.items c.new.ensures.workers c.new.ensures.events refl c.in_ok-no_leases-2.ensures

@@ -5,8 +5,6 @@ use Rattle.spec_hall.specs.Calls.{Opens}
 use Rattle.spec_hall.specs.Dressed.{keyed}
 use Rattle.spec_hall.specs.Events.{Open}
 use Rattle.spec_hall.specs.Legal.{MayOpen}
-use Rattle.mal_hall.specs.HallView.{events_in}
-use Rattle.mal_hall.specs.Contents.{with_posted}
 use Rattle.mal_hall.proofs.HallLemmas.{Grown, placed, none-from, hall-absent, hall-some_job, hall-jobs, hall-tenants, hall-open, hall-waited, may-open, called-none, called-one}
 use Rattle.mal_hall.proofs.Parts.{parts}
 use Rattle.mal_hall.proofs.RoomLemmas.{unclosed-few}
@@ -28,14 +26,14 @@ returns-in_err-tenants-clause-call c =
     let jobs = hall-jobs _ c.args.tenant _ c.self.invariant c.jobs_of-jobs.ensures in
     let tenants = hall-tenants _ c.self.invariant in
     let p = err_from_is_err_and c.from_residual.result c.from_residual.ensures.1 in
-    let cause = c.in_err-tenants.ensures.refusal (keyed c.args.tenant c.args.job) c.args.ask (with_posted c.self.inside.history.events c.self.inside.posted.items) none jobs tenants in
+    let cause = c.in_err-tenants.ensures.refusal (keyed c.args.tenant c.args.job) c.args.ask c.self.inside.entries.events none jobs tenants in
     rw (p.1, p.2) (rw (← c.self.view_is) (called-none _ _ (Opens (keyed c.args.tenant c.args.job) c.args.ask) (Err c.in_err-tenants.field-0.0) cause))
 
 pub enter_open-requires-clause-new : goal.enter_open-requires-clause-new
 enter_open-requires-clause-new c = placed c.self.inside.seats (keyed c.args.tenant c.args.job) _ _ c.place_of.ensures (none-from _ _ c.is_some.ensures c.if-is_some.false)
 
 pub invariant_of-self : goal.invariant_of-self
-invariant_of-self c = hall-waited (parts c.self.inside) c.enter_open.new.history c.enter_open.new.seats c.self.invariant c.in-Err.ensures.err
+invariant_of-self c = hall-waited (parts c.self.inside) c.enter_open.new.entries c.enter_open.new.seats c.self.invariant c.in-Err.ensures.err
 
 pub returns-in-Err-clause-err : goal.returns-in-Err-clause-err
 returns-in-Err-clause-err c = rw (← c.self.view_is, c.in-Err.ensures.err.events) refl
@@ -48,19 +46,19 @@ returns-in-Err-clause-call c =
     rw (← c.self.view_is, c.in-Err.ensures.err.events) (called-none _ _ (Opens (keyed c.args.tenant c.args.job) c.args.ask) (Err OutOfMemory) (may, refl))
 
 -- the opening was allowed
-may : (c : After-self-2-1) → MayOpen (events_in (parts c.self.inside)) (keyed c.args.tenant c.args.job) c.args.ask
+may : (c : After-self-2-1) → MayOpen c.self.inside.entries.events (keyed c.args.tenant c.args.job) c.args.ask
 may c =
     let absent = placed c.self.inside.seats (keyed c.args.tenant c.args.job) _ _ c.place_of.ensures (none-from _ _ c.is_some.ensures c.if-is_some.false) in
     let fits = rw c.jobs_of-jobs.ensures at c.in_ok-tenants.ensures in
     may-open (parts c.self.inside) (keyed c.args.tenant c.args.job) c.args.ask c.self.invariant c.are_in_form.ensures.tenant c.are_in_form.ensures.job c.are_in_form.ensures.ask absent fits.few fits.others
 
 -- it was entered
-opened : (c : After-self-2-1) → Grown (parts c.self.inside) (record { history = c.enter_open.new.history; posted = c.self.inside.posted.items; seats = c.enter_open.new.seats; spots = c.self.inside.spots.items; starts = c.self.inside.starts; unclosed = c.self.inside.unclosed + 1; tenants = c.in_ok-tenants.tenants }) (Open (keyed c.args.tenant c.args.job) c.args.ask ∷ [])
+opened : (c : After-self-2-1) → Grown (parts c.self.inside) (record { entries = c.enter_open.new.entries; seats = c.enter_open.new.seats; spots = c.self.inside.spots.items; starts = c.self.inside.starts; unclosed = c.self.inside.unclosed + 1; tenants = c.in_ok-tenants.tenants }) (Open (keyed c.args.tenant c.args.job) c.args.ask ∷ [])
 opened c =
     let fits = rw c.jobs_of-jobs.ensures at c.in_ok-tenants.ensures in
     let owing = rw c.deref.ensures.value at c.owed-owed.ensures.value in
     let e = c.in-Ok.ensures in
-    hall-open (parts c.self.inside) _ (length c.self.inside.seats) (keyed c.args.tenant c.args.job) c.args.ask c.self.invariant e.workers e.events refl e.seats refl refl refl (may c) refl fits.count (omega (arith, owing, e.room))
+    hall-open (parts c.self.inside) _ (length c.self.inside.seats) (keyed c.args.tenant c.args.job) c.args.ask c.self.invariant e.workers e.events e.seats refl refl refl (may c) refl fits.count (omega (arith, owing, e.room))
 
 pub invariant_of-self-2 : goal.invariant_of-self-2
 invariant_of-self-2 c = (opened c).hall

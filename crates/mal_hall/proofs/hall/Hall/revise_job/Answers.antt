@@ -6,8 +6,7 @@ use Rattle.spec_hall.specs.Dressed.{keyed}
 use Rattle.spec_hall.specs.Events.{Revise}
 use Rattle.spec_hall.specs.Seats.{Seat}
 use Rattle.mal_base.specs.declared.hall_fault.ReviseFault.TheVariants.{OutOfMemory}
-use Rattle.mal_hall.specs.Contents.{with_posted}
-use Rattle.mal_hall.proofs.HallLemmas.{Grown, placed, placed-below, sits, hall-absent, hall-found, hall-next, hall-revise, hall-waits, may-revise, called-none, called-one, of-seat}
+use Rattle.mal_hall.proofs.HallLemmas.{Grown, placed, placed-below, sits, hall-absent, hall-found, hall-next, hall-revise, hall-waited, may-revise, called-none, called-one, of-seat}
 use Rattle.mal_hall.proofs.Parts.{parts}
 use Rattle.mal_hall.proofs.RoomLemmas.{unclosed-few}
 use Rattle.mal_hall.proofs.hall.Hall.revise_job.Goals as goal
@@ -32,7 +31,7 @@ returns-in_err-number-clause-call c =
     let found = hall-found _ _ _ _ c.self.invariant here in
     let cause = rw c.job.ensures at c.in_err-number.ensures.refusal in
     let p = err_from_is_err_and c.from_residual.result c.from_residual.ensures.1 in
-    let mine = cause (keyed c.args.tenant.now c.args.job.now) (with_posted c.self.inside.history.events c.self.inside.posted.items) found.job in
+    let mine = cause (keyed c.args.tenant.now c.args.job.now) c.self.inside.entries.events found.job in
     rw (p.1, p.2) (rw (← c.self.view_is) (called-none _ _ (Revises (keyed c.args.tenant.now c.args.job.now) c.args.revision) (Err c.in_err-number.field-0.0) mine))
 
 pub enter_revise-requires-clause-few : goal.enter_revise-requires-clause-few
@@ -48,28 +47,26 @@ enter_revise-requires-clause-clauses c =
     of-seat (λ (s : Seat). clauses_in s.job.titled.state.revisions + length c.args.revision.clauses ≤ 1048576) c.self.inside.seats c.in-Some.at c.at.result.now here.seat e.room.clauses
 
 pub invariant_of-self : goal.invariant_of-self
-invariant_of-self c =
-    let e = c.in-Err.ensures in
-    hall-waits (parts c.self.inside) _ c.self.invariant e.err.workers e.err.events e.same e.err.seats refl refl refl refl e.err.room
+invariant_of-self c = hall-waited (parts c.self.inside) c.enter_revise.new.entries c.enter_revise.new.seats c.self.invariant c.in-Err.ensures.err
 
 pub returns-in-Err-clause-err : goal.returns-in-Err-clause-err
-returns-in-Err-clause-err c = rw (← c.self.view_is, c.in-Err.ensures.err.events, c.in-Err.ensures.same) refl
+returns-in-Err-clause-err c = rw (← c.self.view_is, c.in-Err.ensures.err.events) refl
 
 pub returns-in-Err-clause-call : goal.returns-in-Err-clause-call
 returns-in-Err-clause-call c =
     let here = sits c.self.inside.seats (keyed c.args.tenant.now c.args.job.now) _ _ _ c.place_of.ensures c.in-Some.is c.at.ensures in
     let e = rw c.job.ensures at c.in_ok-number.ensures in
     let may = may-revise _ (keyed c.args.tenant.now c.args.job.now) _ _ c.args.revision c.self.invariant here e.open e.few e.room e.form in
-    rw (← c.self.view_is, c.in-Err.ensures.err.events, c.in-Err.ensures.same) (called-none _ _ (Revises (keyed c.args.tenant.now c.args.job.now) c.args.revision) (Err OutOfMemory) (c.at.result.now.job.titled, may, refl))
+    rw (← c.self.view_is, c.in-Err.ensures.err.events) (called-none _ _ (Revises (keyed c.args.tenant.now c.args.job.now) c.args.revision) (Err OutOfMemory) (c.at.result.now.job.titled, may, refl))
 
 -- the revision was entered
-revised : (c : In-Ok) → Grown (parts c.self.inside) (record { history = c.enter_revise.new.history; posted = c.enter_revise.new.posted.items; seats = c.enter_revise.new.seats; spots = c.self.inside.spots.items; starts = c.self.inside.starts; unclosed = c.self.inside.unclosed; tenants = c.self.inside.tenants }) (Revise (keyed c.args.tenant.now c.args.job.now) c.in_ok-number.number c.args.revision ∷ [])
+revised : (c : In-Ok) → Grown (parts c.self.inside) (record { entries = c.enter_revise.new.entries; seats = c.enter_revise.new.seats; spots = c.self.inside.spots.items; starts = c.self.inside.starts; unclosed = c.self.inside.unclosed; tenants = c.self.inside.tenants }) (Revise (keyed c.args.tenant.now c.args.job.now) c.in_ok-number.number c.args.revision ∷ [])
 revised c =
     let here = sits c.self.inside.seats (keyed c.args.tenant.now c.args.job.now) _ _ _ c.place_of.ensures c.in-Some.is c.at.ensures in
     let f = rw c.job.ensures at c.in_ok-number.ensures in
     let owing = rw c.deref.ensures.value at c.owed-owed.ensures.value in
     let e = c.in-Ok.ensures in
-    hall-revise (parts c.self.inside) _ (keyed c.args.tenant.now c.args.job.now) _ _ c.in_ok-number.number c.args.revision c.self.invariant here e.workers (e.events _ here.seat) e.posted (e.seats _ here.seat) refl refl refl refl f.number (may-revise (parts c.self.inside) (keyed c.args.tenant.now c.args.job.now) _ _ c.args.revision c.self.invariant here f.open f.few f.room f.form) (omega (arith, owing, e.room))
+    hall-revise (parts c.self.inside) _ (keyed c.args.tenant.now c.args.job.now) _ _ c.in_ok-number.number c.args.revision c.self.invariant here e.workers (e.events _ here.seat) (e.seats _ here.seat) refl refl refl refl f.number (may-revise (parts c.self.inside) (keyed c.args.tenant.now c.args.job.now) _ _ c.args.revision c.self.invariant here f.open f.few f.room f.form) (omega (arith, owing, e.room))
 
 pub invariant_of-self-2 : goal.invariant_of-self-2
 invariant_of-self-2 c = (revised c).hall

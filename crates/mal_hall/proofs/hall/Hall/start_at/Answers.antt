@@ -25,10 +25,10 @@ pub returns-in-Err-clause-err : goal.returns-in-Err-clause-err
 returns-in-Err-clause-err c = rw (← c.self.view_is, c.in-Err.ensures.err.events) refl
 
 pub invariant_of-self : goal.invariant_of-self
-invariant_of-self c = hall-waited (parts c.self.inside) c.enter_start.new.history c.enter_start.new.seats c.self.invariant c.in-Err.ensures.err
+invariant_of-self c = hall-waited (parts c.self.inside) c.enter_start.new.entries c.enter_start.new.seats c.self.invariant c.in-Err.ensures.err
 
 -- the start was entered
-begun : (c : After-self-2-1) → HasBegun (parts c.self.inside) (record { history = c.enter_start.new.history; posted = c.self.inside.posted.items; seats = c.enter_start.new.seats; spots = slice_set c.self.inside.spots.items (c.args.worker - 1) (Some c.new-spot.result); starts = c.self.inside.starts + 1; unclosed = c.self.inside.unclosed; tenants = c.self.inside.tenants }) c.args.index c.args.worker c.in-Ok.lease
+begun : (c : After-self-2-1) → HasBegun (parts c.self.inside) (record { entries = c.enter_start.new.entries; seats = c.enter_start.new.seats; spots = slice_set c.self.inside.spots.items (c.args.worker - 1) (Some c.new-spot.result); starts = c.self.inside.starts + 1; unclosed = c.self.inside.unclosed; tenants = c.self.inside.tenants }) c.args.index c.args.worker c.in-Ok.lease
 begun c =
     let may = rw (← c.self.view_is) at c.requires in
     let there = seat-there c.self.inside.seats c.args.at (within-key (parts c.self.inside) c.args.at may.key c.self.invariant may.place) in
@@ -37,7 +37,7 @@ begun c =
     let owing = rw c.deref.ensures.value at c.owed-owed.ensures.value in
     let e = rw c.new-spot.ensures at c.in-Ok.ensures in
     let spots = ap (λ (sp : Spot). slice_set c.self.inside.spots.items (c.args.worker - 1) (Some sp)) c.new-spot.ensures in
-    phase-start (parts c.self.inside) _ c.args.at c.args.index c.args.worker (c.self.inside.starts + 1) s c.in-Ok.lease c.self.invariant can (e.lease s there.1) refl e.workers (e.events s there.1) refl (e.seats s there.1) spots refl refl refl (omega (arith, owing, e.room))
+    phase-start (parts c.self.inside) _ c.args.at c.args.index c.args.worker (c.self.inside.starts + 1) s c.in-Ok.lease c.self.invariant can (e.lease s there.1) refl e.workers (e.events s there.1) (e.seats s there.1) spots refl refl refl (omega (arith, owing, e.room))
 
 pub invariant_of-self-2 : goal.invariant_of-self-2
 invariant_of-self-2 c = (begun c).hall
