@@ -63,13 +63,8 @@ pub record IsBackOf (l : Leased) (outcome : Outcome) (back : Option Finished) : 
 
 -- the volumes that an event lists, where it is a balancing
 abbrev pub listed_in : written.Event → Option (List Share)
-listed_in (of.Open tenant job ask) = None
-listed_in (of.Revise tenant job number) = None
-listed_in (of.Close tenant job) = None
 listed_in (of.Balance volumes) = Some volumes
-listed_in (of.Start tenant job index worker) = None
-listed_in (of.Finish tenant job index worker outcome) = None
-listed_in (of.Exchange tenant job) = None
+listed_in other = None
 
 -- the volumes that the last event lists
 abbrev pub listed_last : List written.Event → Option (List Share)

@@ -73,13 +73,8 @@ pub fn lists(event: &Event, volumes: &Shares) -> bool
     ensures { IsTrue result ↔ (listed_in event.now ≡ Some volumes.now) }
 {
     match event {
-        Event::Open { .. } => false,
-        Event::Revise { .. } => false,
-        Event::Close { .. } => false,
         Event::Balance { volumes: listed } => are_same(listed.as_slice(), volumes.as_slice()),
-        Event::Start { .. } => false,
-        Event::Finish { .. } => false,
-        Event::Exchange { .. } => false,
+        _ => false,
     }
 }
 
