@@ -89,6 +89,7 @@ impl Hall {
         ensures entered { OnOk result (Enters self.old (Open (keyed tenant job) ask) self.new) }
         ensures refused { IsErrOf result ApplyFault.NotAllowed → MayNotEnter self.old (Open (keyed tenant job) ask) }
     {
+        // For the proof.
         let _ = self.history().workers();
         match self.open_job(tenant, job, ask) {
             Ok(()) => Ok(()),
@@ -109,6 +110,7 @@ impl Hall {
         ensures refused { IsErrOf result ApplyFault.NotAllowed
             → MayNotEnter self.old (Revise (keyed tenant.now job.now) number revision) }
     {
+        // For the proof.
         let _ = self.history().workers();
         if self.next_of(tenant, job) != number as usize {
             return Err(ApplyFault::NotAllowed);
@@ -126,7 +128,6 @@ impl Hall {
         ensures refused { IsErrOf result ApplyFault.NotAllowed
             → MayNotEnter self.old (Close (keyed tenant.now job.now)) }
     {
-        let _ = self.history().workers();
         match self.close_job(tenant, job) {
             Ok(()) => Ok(()),
             Err(_) => Err(ApplyFault::NotAllowed),
@@ -165,6 +166,7 @@ impl Hall {
         ensures refused { IsErrOf result ApplyFault.NotAllowed
             → MayNotEnter self.old (Start (keyed tenant.now job.now) index worker) }
     {
+        // For the proof.
         let _ = self.history().workers();
         let Some(at) = self.startable_at(tenant, job, index, worker) else {
             return Err(ApplyFault::NotAllowed);
@@ -225,6 +227,7 @@ impl Hall {
         ensures refused { IsErrOf result ApplyFault.NotAllowed
             → MayNotEnter self.old (Finish (keyed tenant.now job.now) index worker outcome) }
     {
+        // For the proof.
         let _ = self.history().workers();
         if !self.holds(worker, tenant, job, index) {
             return Err(ApplyFault::NotAllowed);
