@@ -36,12 +36,7 @@ use Rattle.mal_account.specs.ReadResult.{seen, in_script, in_history, fault_of, 
 
 -- a fault of the script's text, and of the history's, is one of the whole text
 pub script_fails : {Y : Type 0} (fault : ScriptFault) (read : Result Y (ℕ × LineFault)) → script_given.FailsAt fault read → Fails (in_script fault) (account.in_script read)
-script_fails (script_fault.BadLine n) read h = ap account.in_script h
-script_fails (script_fault.Dimacs n fault) read h = ap account.in_script h
-script_fails (script_fault.Opposite n var) read h = ap account.in_script h
-script_fails (script_fault.Duplicate n tenant job) read h = ap account.in_script h
-script_fails (script_fault.Range n) read h = ap account.in_script h
-script_fails (script_fault.Limit n which) read h = ap account.in_script h
+script_fails (script_fault.Line n fault) read h = ap account.in_script h
 script_fails script_fault.OutOfMemory read h = tt
 
 pub history_fails : {Y : Type 0} (fault : HistoryFault) (read : Result Y (ℕ × history.Fault)) → history_given.FailsAt fault read → Fails (in_history fault) (account.in_history read)

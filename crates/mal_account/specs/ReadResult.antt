@@ -4,7 +4,6 @@ use Rattle.std.specs.Borrow.{Bor}
 use Rattle.std.specs.List.{list_any}
 use Rattle.spec_text.specs.Faults.{GivesBy}
 use Rattle.spec_dimacs.specs.Rows.{rows_of}
-use Rattle.mal_base.specs.declared.line_fault.LineFault.TheVariants as line
 use Rattle.mal_script.specs.declared.fault.ScriptFault.{ScriptFault}
 use Rattle.mal_script.specs.declared.fault.ScriptFault.TheVariants as script
 use Rattle.mal_history.specs.Reading as reading
@@ -23,12 +22,7 @@ seen a = record { script = a.script; history = history_given.seen a.history }
 
 -- the fault of a script's line, none for want of memory
 abbrev pub in_script : ScriptFault → Option account.Fault
-in_script (script.BadLine n) = Some (InScript n line.BadLine)
-in_script (script.Dimacs n fault) = Some (InScript n (line.Dimacs fault))
-in_script (script.Opposite n var) = Some (InScript n (line.Opposite var))
-in_script (script.Duplicate n tenant job) = Some (InScript n (line.Duplicate tenant job))
-in_script (script.Range n) = Some (InScript n line.Range)
-in_script (script.Limit n which) = Some (InScript n (line.Limit which))
+in_script (script.Line n fault) = Some (InScript n fault)
 in_script script.OutOfMemory = None
 
 -- the fault of a history's line, none for want of memory

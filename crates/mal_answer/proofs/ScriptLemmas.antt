@@ -20,12 +20,7 @@ told : (text line : List ℕ) (n : ℕ) (fault : LineFault) → read_text served
 told text line n fault e f = refuses (running 1) (are-lawful (Run 1)) text line ((n, fault), e, f)
 
 pub told-first : (text line : List ℕ) (e : ScriptFault) → FailsAt e (read_text served text) → Tells e line → Refuses (running 1) text line
-told-first text line (script.BadLine n) h k = told text line n _ h k
-told-first text line (script.Dimacs n fault) h k = told text line n _ h k
-told-first text line (script.Opposite n var) h k = told text line n _ h k
-told-first text line (script.Duplicate n tenant job) h k = told text line n _ h k
-told-first text line (script.Range n) h k = told text line n _ h k
-told-first text line (script.Limit n which) h k = told text line n _ h k
+told-first text line (script.Line n fault) h k = told text line n fault h k
 told-first text line script.OutOfMemory h k = absurd k
 
 -- what is refused is told

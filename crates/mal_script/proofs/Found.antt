@@ -34,12 +34,7 @@ jobs-formed view limits text (Err e) h = tt
 
 -- a fault is not told where a script is read
 no-fault : (e : ScriptFault) (read : Result Scripted (ℕ × LineFault)) (s : Scripted) → read ≡ Ok s → FailsAt e read → e ≡ script.OutOfMemory
-no-fault (script.BadLine n) read s h k = absurd (cc)
-no-fault (script.Dimacs n fault) read s h k = absurd (cc)
-no-fault (script.Opposite n var) read s h k = absurd (cc)
-no-fault (script.Duplicate n tenant job) read s h k = absurd (cc)
-no-fault (script.Range n) read s h k = absurd (cc)
-no-fault (script.Limit n which) read s h k = absurd (cc)
+no-fault (script.Line n fault) read s h k = absurd (cc)
 no-fault script.OutOfMemory read s h k = refl
 
 pub only-spelled : (limits : Limits) (text : List ℕ) (result : Result Scripted ScriptFault) → GivesAt (λ s. s) result (read_text limits text) → (s : Scripted) → Spells limits text s → MatchResult result (λ x. x ≡ s) (λ e. e ≡ script.OutOfMemory)

@@ -27,12 +27,7 @@ Gives view (Err e) read = Fails e read
 
 -- the same with the fault's line
 abbrev pub FailsAt : {Y : Type 0} → ScriptFault → Result Y (ℕ × LineFault) → Type 0
-FailsAt (script.BadLine n) read = read ≡ Err (n, line.BadLine)
-FailsAt (script.Dimacs n fault) read = read ≡ Err (n, line.Dimacs fault)
-FailsAt (script.Opposite n var) read = read ≡ Err (n, line.Opposite var)
-FailsAt (script.Duplicate n tenant job) read = read ≡ Err (n, line.Duplicate tenant job)
-FailsAt (script.Range n) read = read ≡ Err (n, line.Range)
-FailsAt (script.Limit n which) read = read ≡ Err (n, line.Limit which)
+FailsAt (script.Line n fault) read = read ≡ Err (n, fault)
 FailsAt script.OutOfMemory read = Unit {0}
 
 abbrev pub GivesAt : {X Y : Type 0} → (X → Y) → Result X ScriptFault → Result Y (ℕ × LineFault) → Type 0
@@ -64,10 +59,5 @@ OfAssumptions (assumption.Opposite var) refused = refused ≡ refusal.Fault (lin
 
 -- the text is the line that tells the fault
 abbrev pub Tells : ScriptFault → List ℕ → Type 0
-Tells (script.BadLine n) text = text ≡ fault_line n line.BadLine
-Tells (script.Dimacs n fault) text = text ≡ fault_line n (line.Dimacs fault)
-Tells (script.Opposite n var) text = text ≡ fault_line n (line.Opposite var)
-Tells (script.Duplicate n tenant job) text = text ≡ fault_line n (line.Duplicate tenant job)
-Tells (script.Range n) text = text ≡ fault_line n line.Range
-Tells (script.Limit n which) text = text ≡ fault_line n (line.Limit which)
+Tells (script.Line n fault) text = text ≡ fault_line n fault
 Tells script.OutOfMemory text = ⊥

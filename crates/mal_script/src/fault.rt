@@ -4,31 +4,16 @@ ghost use Rattle.std.specs.Prelude.{◌≡◌};
 ghost use Rattle.mal_script.specs.{declared.fault.LineRefusal.TheVariants.{OutOfMemory}, ReadResult.{OfAssumptions}};
 ghost use Rattle.mal_script.specs.declared.fault.AssumptionFault.TheVariants as assumption;
 
-use mal_base::{BlockFault, LimitKind, LineFault, Name, Var};
+use mal_base::{LineFault, Var};
 use std::alloc::AllocError;
 use thiserror::Error;
 
 /// Why a text is not read as a script: the first fault of the text with its line, counted from 1, or want of memory.
 #[derive(Clone, Copy, Debug, PartialEq, Eq, Drop, Error)]
 pub enum ScriptFault {
-    /// The line has another form, or stands where none of its form may stand; or the text ends inside a job.
-    #[error("line {line}: bad line")]
-    BadLine { line: u64 },
-    /// The line is one of a block, and wrong in it.
+    /// This line has this fault, and no line before it has one. A text that ends inside a job is told with its last line.
     #[error("line {line}: {fault}")]
-    Dimacs { line: u64, fault: BlockFault },
-    /// The line assumes this variable with both signs, and none below it.
-    #[error("line {line}: variable {} is assumed with both signs", .var.number())]
-    Opposite { line: u64, var: Var },
-    /// The tenant has a job of this name.
-    #[error("line {line}: the tenant has a job of this name")]
-    Duplicate { line: u64, tenant: Name, job: Name },
-    /// A number of the line is outside its limits.
-    #[error("line {line}: number out of range")]
-    Range { line: u64 },
-    /// With the line there are more of these than may be.
-    #[error("line {line}: too many {which:?}")]
-    Limit { line: u64, which: LimitKind },
+    Line { line: u64, fault: LineFault },
     /// Memory ran out.
     #[error("out of memory")]
     OutOfMemory,

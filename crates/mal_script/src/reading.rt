@@ -1,14 +1,13 @@
 //! Reading scripts.
 
-ghost use Rattle.std.specs.Prelude.{◌≡◌, ℕ, List, Err, IfOk, MatchResult};
+ghost use Rattle.std.specs.Prelude.{◌≡◌, IfOk, MatchResult};
 ghost use Rattle.spec_script.specs.{Limits.{served}, Grammar.{Spells}, Reading.{read_text}, Formed.{IsScript}, Script.{Scripted, spelling}, Within.{IsWithin}};
-ghost use Rattle.mal_script.specs.{declared.fault.ScriptFault.TheVariants.{OutOfMemory}, ReadResult.{FailsAt, GivesAt, RefusedAt, of_jobs}};
+ghost use Rattle.mal_script.specs.{declared.fault.ScriptFault.TheVariants.{OutOfMemory}, ReadResult.{GivesAt, RefusedAt, of_jobs}};
 
 use crate::fault::{LineRefusal, ScriptFault};
 use crate::limits::Limits;
 use crate::reader::Reader;
 use crate::script::{Script, ScriptJob};
-use mal_base::LineFault;
 use mal_text::first_line;
 use std::alloc::Global;
 
@@ -74,21 +73,7 @@ fn refused(line: u64, refusal: LineRefusal) -> ScriptFault
     ensures { RefusedAt line refusal result }
 {
     match refusal {
-        LineRefusal::Fault(fault) => on_line(line, fault),
+        LineRefusal::Fault(fault) => ScriptFault::Line { line, fault },
         LineRefusal::OutOfMemory => ScriptFault::OutOfMemory,
-    }
-}
-
-/// The fault of this line as that of the text.
-fn on_line(line: u64, fault: LineFault) -> ScriptFault
-    ensures { FailsAt {Y = List ℕ} result (Err (line, fault)) }
-{
-    match fault {
-        LineFault::BadLine => ScriptFault::BadLine { line },
-        LineFault::Dimacs { fault } => ScriptFault::Dimacs { line, fault },
-        LineFault::Opposite { var } => ScriptFault::Opposite { line, var },
-        LineFault::Duplicate { tenant, job } => ScriptFault::Duplicate { line, tenant, job },
-        LineFault::Range => ScriptFault::Range { line },
-        LineFault::Limit { which } => ScriptFault::Limit { line, which },
     }
 }

@@ -17,14 +17,7 @@ pub fn fault_line(alloc: Global, fault: ScriptFault) -> Result<Option<Vec<u8>>, 
     ensures { IfOk result (λ o. MatchOption o (fault ≡ OutOfMemory) (λ text. Tells fault text.items)) }
 {
     match fault {
-        ScriptFault::BadLine { line } => in_script(alloc, line, LineFault::BadLine),
-        ScriptFault::Dimacs { line, fault } => in_script(alloc, line, LineFault::Dimacs { fault }),
-        ScriptFault::Opposite { line, var } => in_script(alloc, line, LineFault::Opposite { var }),
-        ScriptFault::Duplicate { line, tenant, job } => {
-            in_script(alloc, line, LineFault::Duplicate { tenant, job })
-        }
-        ScriptFault::Range { line } => in_script(alloc, line, LineFault::Range),
-        ScriptFault::Limit { line, which } => in_script(alloc, line, LineFault::Limit { which }),
+        ScriptFault::Line { line, fault } => in_script(alloc, line, fault),
         ScriptFault::OutOfMemory => Ok(None),
     }
 }

@@ -1,4 +1,4 @@
-use Rattle.std.proofs.Common.{refl, sym, arith}
+use Rattle.std.proofs.Common.{refl, arith}
 use Rattle.mal_script.proofs.Counted.{sought-here, sought-later, sought-past, sought-none}
 use Rattle.mal_script.proofs.script.ScriptJob.revision.Goals as goal
 use Rattle.mal_script.proofs.script.ScriptJob.revision.Goals.{in-None, in-Some+else-left-eq0}
