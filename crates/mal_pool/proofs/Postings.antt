@@ -1,11 +1,10 @@
 -- What a poster has posted, one post further.
-use Rattle.std.proofs.Common.{◌≡◌, ℕ, ◌+◌, ◌<◌, ◌≤◌, Bool, true, false, cond, List, [], ◌∷◌, ◌++◌, length, map, take, get_or, flat_map, Option, Some, None, Result, Ok, Err, is_err, refl, sym, ◌∙◌, ap, subst, append-nil, append_assoc, arith}
+use Rattle.std.proofs.Common.{◌≡◌, ℕ, ◌+◌, ◌<◌, ◌≤◌, Bool, true, false, cond, List, [], ◌∷◌, ◌++◌, length, map, take, get_or, flat_map, Option, Some, None, Ok, refl, sym, ◌∙◌, ap, subst, append-nil, append_assoc, arith}
 use Rattle.std.specs.Prelude.{slice_get}
 use Rattle.std.proofs.lemmas.List.{map-append, take_all}
 use Rattle.std.proofs.lemmas.List.Concat.{flat_map-append}
 use Rattle.std.proofs.lemmas.List.Elements.{filter-append}
 use Rattle.mal_hall.specs.declared.desk.Post.{Post}
-use Rattle.mal_hall.specs.declared.desk.PostFault.{PostFault}
 use Rattle.mal_hall.specs.Desks as desks
 use Rattle.mal_hall.specs.Desks.{DeskCall}
 use Rattle.mal_pool.specs.declared.posting.Left.{Left}
@@ -17,11 +16,6 @@ use Rattle.spec_script.specs.declared.step.Step.{Step}
 
 taken-parts : (a b : List Post) → taken (a ++ b) ≡ taken a ++ taken b
 taken-parts a b = map-append (λ (p : Post). desks.Posted p (Ok tt)) a b
-
--- an answer that is no refusal
-pub no-refusal : (answer : Result (Unit {0}) PostFault) → is_err answer ≡ false → answer ≡ Ok tt
-no-refusal (Ok done) e = refl
-no-refusal (Err fault) e = absurd (let no : true ≡ false = e in cc)
 
 -- calls behind calls
 further : (old before after x y : List DeskCall) → before ≡ old ++ x → after ≡ before ++ y → after ≡ old ++ (x ++ y)

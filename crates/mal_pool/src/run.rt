@@ -66,6 +66,7 @@ fn run_locked<S: Size + Send + Sync, R: Threads + Wait + Sync, G: Gate>(
 /// Runs a script over a board, whose hall has so many workers, 1 to 64, and no event yet. With one worker no thread is
 /// made, and the board is given up. With more, tenants post and workers work at the same time, each in a thread where one
 /// can be had. Where what they bring about does not serve, a new hall is run on this thread in its place.
+#[tactic(auto, using(crate::proofs::RunLosses::alone_by_stops))]
 pub fn run_with<R: Threads + Wait + Sync, B: Board, G: Gate>(
     rt: &R,
     alloc: Global,
