@@ -13,7 +13,7 @@ use crate::enter::{
     enter_balance, enter_exchange, enter_finish, enter_open, enter_revise, enter_start,
 };
 use crate::entries::Entries;
-use crate::lodging::{let_done_go, let_lease_go, lists};
+use crate::lodging::lists;
 use crate::offer::{Back, Pick, Strange};
 use crate::room::{next_number, tenants_after};
 use crate::spots::{Spot, count_out, no_leases, owed, spot_of};
@@ -530,7 +530,7 @@ impl Hall {
     {
         match self.finish(lease.work(scratch)) {
             Ok(_) => {}
-            Err(strange) => let_done_go(strange.back),
+            Err(strange) => drop(strange),
         }
     }
 
@@ -607,7 +607,7 @@ impl Hall {
         ensures inside { self.new.inside ≡ slice_set self.old.inside (worker - 1) (Some (handed_of lease)) }
     {
         let before = mem::replace(&mut self.lodged[worker as usize - 1], Some(lease));
-        let_lease_go(before);
+        drop(before);
     }
 
     /// Takes the lease of a worker that is kept inside, none where it is not.

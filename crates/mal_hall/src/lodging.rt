@@ -37,7 +37,7 @@ fn ran(lease: Lease, scratch: &mut Scratch) -> Result<Done, AllocError>
 {
     let done = lease.work(scratch);
     if !has_run(&done) {
-        let_done_go(done);
+        drop(done);
         return Err(AllocError);
     }
     Ok(done)
@@ -47,15 +47,9 @@ fn ran(lease: Lease, scratch: &mut Scratch) -> Result<Done, AllocError>
 fn lost(lease: Lease) -> Option<Done>
     ensures { result ≡ None }
 {
-    let_lease_go(Some(lease));
+    drop(lease);
     None
 }
-
-/// Lets a lease go, if there is one.
-pub fn let_lease_go(_lease: Option<Lease>) {}
-
-/// Lets go what came of a lease.
-pub fn let_done_go(_back: Done) {}
 
 /// Whether a start ran of which this came.
 fn has_run(done: &Done) -> bool
