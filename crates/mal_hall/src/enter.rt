@@ -7,7 +7,7 @@ ghost use Rattle.mal_seats.specs.Changed.{OfSeat, IsChanged};
 ghost use Rattle.spec_job.specs.{SoloMachine.{Exchanged, Finished, Revised, clauses_in, startable}, Viewed.{and_own, and_start, IsLeaseOf}};
 ghost use Rattle.spec_hall.specs.{Dressed.{keyed}, Events.{Open, Revise, Start, Finish, Exchange}, Seats.{opened_seat, place_of}};
 
-use crate::entries::Entries;
+use crate::event_list::EventList;
 use crate::spots::Spot;
 use mal_base::{Ask, Name, Outcome};
 use mal_history::Event;
@@ -18,7 +18,7 @@ use std::alloc::AllocError;
 
 /// Enters the opening of a job with a key that no other has, and leaves room for as many events as are owed.
 pub fn enter_open(
-    entries: &mut Entries,
+    entries: &mut EventList,
     seats: &mut Seats,
     tenant: Name,
     job: Name,
@@ -42,7 +42,7 @@ pub fn enter_open(
 /// Enters a revision of the job at a place, as the one of this number, with a copy of it, and leaves room for as many
 /// events as are owed.
 pub fn enter_revise(
-    entries: &mut Entries,
+    entries: &mut EventList,
     seats: &mut Seats,
     at: usize,
     number: u32,
@@ -74,7 +74,7 @@ pub fn enter_revise(
 
 /// Enters a balancing with fair volumes, and leaves room for as many events as are owed.
 pub fn enter_balance(
-    entries: &mut Entries,
+    entries: &mut EventList,
     seats: &mut Seats,
     owed: usize,
 ) -> Result<(), AllocError>
@@ -94,7 +94,7 @@ pub fn enter_balance(
 
 /// Enters the start of a node by a worker, as the lease at this spot, and leaves room for as many events as are owed.
 pub fn enter_start(
-    entries: &mut Entries,
+    entries: &mut EventList,
     seats: &mut Seats,
     spot: Spot,
     worker: u32,
@@ -130,7 +130,7 @@ pub fn enter_start(
 
 /// Enters the end of the lease of a worker at this spot: it is lost where nothing came back. Takes no memory.
 pub fn enter_finish(
-    entries: &mut Entries,
+    entries: &mut EventList,
     seats: &mut Seats,
     spot: Spot,
     worker: u32,
@@ -174,7 +174,7 @@ fn outcome_of(back: &Option<Done>) -> Outcome
 
 /// Enters an exchange of the job at a place, and leaves room for as many events as are owed.
 pub fn enter_exchange(
-    entries: &mut Entries,
+    entries: &mut EventList,
     seats: &mut Seats,
     at: usize,
     owed: usize,

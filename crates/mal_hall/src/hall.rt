@@ -12,7 +12,7 @@ ghost use Rattle.spec_hall.specs.States as states_of;
 use crate::enter::{
     enter_balance, enter_exchange, enter_finish, enter_open, enter_revise, enter_start,
 };
-use crate::entries::Entries;
+use crate::event_list::EventList;
 use crate::lodging::lists;
 use crate::offer::{Back, Pick, Strange};
 use crate::room::{next_number, tenants_after};
@@ -35,7 +35,7 @@ use std::mem;
 pub struct Hall {
     /// What was entered: the events are told by it alone, and by no job. A revision there shares its lists with the one
     /// that its job has.
-    entries: Entries,
+    entries: EventList,
     seats: Seats,
     spots: Vec<Option<Spot>>,
     starts: u64,
@@ -71,7 +71,7 @@ impl Hall {
         ensures inside { IfOk result (λ h. IsInside h) }
     {
         Ok(Hall {
-            entries: Entries::new(alloc, workers),
+            entries: EventList::new(alloc, workers),
             seats: Seats::new(alloc),
             spots: no_leases(alloc, workers)?,
             starts: 0,

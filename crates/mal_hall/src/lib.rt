@@ -5,7 +5,7 @@
 mod apply;
 mod desk;
 mod enter;
-mod entries;
+mod event_list;
 mod hall;
 mod lodging;
 mod offer;

@@ -13,14 +13,14 @@ use std::marker::Model;
 /// The events that a hall of so many workers (1 to 64) entered, in their order, each with what was posted by it.
 /// Contracts see the number of workers, the events, and the room: for how many more events there is memory.
 #[derive(Drop)]
-pub struct Entries {
+pub struct EventList {
     history: History,
     /// What stands at each event, at the event's place: the revision that was posted where it is a Revise. It is in a
     /// box, so that an event at which nothing stands takes little.
     contents: Vec<Option<Box<Revision>>>,
 }
 
-impl Model for Entries {
+impl Model for EventList {
     ghost use Rattle.std.specs.Prelude.{◌≡◌, ◌-◌, length, min, vec_len, vec_capacity};
     ghost use Rattle.mal_hall.specs.Entered.{Entered, filled, unboxed};
 
@@ -35,15 +35,15 @@ impl Model for Entries {
     ghost invariant = { λ e. length e.contents.items ≡ length e.history.events };
 }
 
-impl Entries {
+impl EventList {
     /// The entries of a hall of so many workers, 1 to 64, in which nothing was entered.
-    pub fn new(alloc: Global, workers: u32) -> Entries
+    pub fn new(alloc: Global, workers: u32) -> EventList
         requires some { 1 ≤ workers }
         requires bound { workers ≤ 64 }
         ensures workers { result.workers ≡ workers }
         ensures events { result.events ≡ [] }
     {
-        Entries {
+        EventList {
             history: History::new(alloc, workers),
             contents: Vec::new(alloc),
         }
