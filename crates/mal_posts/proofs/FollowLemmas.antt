@@ -1,16 +1,17 @@
 -- A tenant's posts that are gone through beside what a script says of it.
 use Rattle.std.proofs.Common.{◌≡◌, ℕ, zero, suc, ◌+◌, ◌<◌, ◌≤◌, Bool, true, false, cond, List, [], ◌∷◌, ◌++◌, length, map, filter, flat_map, take, drop, get_or, slice_get, None, refl, sym, ◌∙◌, ap, subst, arith, append_assoc, append-nil, length-append}
 use Rattle.std.specs.Prelude.{IsTrue, ◌↔◌}
-use Rattle.std.proofs.lemmas.List.{drop_more, map-append, take_more, length-take-le}
+use Rattle.std.proofs.lemmas.List.{drop_more, map-append}
 use Rattle.std.proofs.lemmas.List.Folds.{length-flat_map-take}
 use Rattle.std.proofs.lemmas.Grind.{flat_map-append}
 use Rattle.std.proofs.lemmas.List.Elements.{All-cons, All-head, All-nil, All-tail, filter-append}
 use Rattle.mal_history.specs.declared.event.Event as written
 use Rattle.mal_history.specs.declared.event.Event.TheVariants as of
-use Rattle.mal_posts.specs.Expected.{AreFew, GoesOn, Leaves, job_lines, line_of, lines_of, opening_lines}
-use Rattle.mal_posts.specs.declared.expected.Post.{Post}
+use Rattle.mal_history.specs.declared.post.PostLine.{PostLine}
+use Rattle.mal_history.specs.Posts.{event_of}
+use Rattle.mal_posts.specs.Expected.{AreFew, GoesOn, Leaves, job_lines, lines_of, opening_lines}
 use Rattle.spec_job.specs.KeyedJob.{Key}
-use Rattle.spec_hall.specs.Events.{Event, Revise, bare}
+use Rattle.spec_hall.specs.Events.{Event, bare}
 use Rattle.spec_hall.specs.Own.{is_text}
 use Rattle.spec_replay.specs.Posts.{is_post_line, post_lines}
 use Rattle.spec_run.proofs.OpenLemmas.{revise-more}
@@ -22,7 +23,7 @@ use Rattle.spec_script.specs.Script.{ScriptedJob, Scripted, revisions, revisions
 use Rattle.spec_script.specs.declared.step.Step.{Step}
 use Rattle.spec_script.specs.declared.step.Step.TheVariants as steps
 
-drop-none : (posts : List Post) (n : ℕ) → slice_get posts n ≡ None → drop n posts ≡ []
+drop-none : (posts : List PostLine) (n : ℕ) → slice_get posts n ≡ None → drop n posts ≡ []
 drop-none [] zero e = refl
 drop-none [] (suc n) e = refl
 drop-none (x ∷ xs) zero e = absurd (cc)
@@ -33,13 +34,13 @@ mine : (tenant : List ℕ) (event : written.Event) (lines : List written.Event) 
 mine tenant event lines posted = ap (λ (b : Bool). cond b (event ∷ post_lines tenant lines) (post_lines tenant lines)) posted
 
 -- all events up to a place
-abbrev pub IsLeft : List ℕ → List written.Event → List Post → ℕ → ℕ → Type 0
+abbrev pub IsLeft : List ℕ → List written.Event → List PostLine → ℕ → ℕ → Type 0
 IsLeft tenant events posts i n = (post_lines tenant events ≡ lines_of posts) ↔ (post_lines tenant (drop i events) ≡ lines_of (drop n posts))
 
 drop-one : (xs : List written.Event) (i : ℕ) (x : written.Event) → i < length xs → x ≡ get_or xs i x → drop i xs ≡ x ∷ drop (i + 1) xs
 drop-one xs i x low is = drop_more xs i x low ∙ ap (λ (y : written.Event). y ∷ drop (i + 1) xs) (sym is)
 
-pub left-more : (tenant : List ℕ) (events : List written.Event) (posts : List Post) (i n m : ℕ) (event : written.Event) → IsLeft tenant events posts i n → i < length events → event ≡ get_or events i event → GoesOn tenant event posts n m → IsLeft tenant events posts (i + 1) m
+pub left-more : (tenant : List ℕ) (events : List written.Event) (posts : List PostLine) (i n m : ℕ) (event : written.Event) → IsLeft tenant events posts i n → i < length events → event ≡ get_or events i event → GoesOn tenant event posts n m → IsLeft tenant events posts (i + 1) m
 left-more tenant events posts i n m event left low read goes = (λ e. (goes rest).0 (sym here ∙ left.0 e), λ e. left.1 (here ∙ (goes rest).1 e))
   where
     rest : List written.Event
@@ -48,7 +49,7 @@ left-more tenant events posts i n m event left low read goes = (λ e. (goes rest
     here : post_lines tenant (drop i events) ≡ post_lines tenant (event ∷ rest)
     here = ap (post_lines tenant) (drop-one events i event low read)
 
-pub left-false : (tenant : List ℕ) (events : List written.Event) (posts : List Post) (i n : ℕ) (event : written.Event) → IsLeft tenant events posts i n → i < length events → event ≡ get_or events i event → Leaves tenant event posts n → IsTrue false ↔ (post_lines tenant events ≡ lines_of posts)
+pub left-false : (tenant : List ℕ) (events : List written.Event) (posts : List PostLine) (i n : ℕ) (event : written.Event) → IsLeft tenant events posts i n → i < length events → event ≡ get_or events i event → Leaves tenant event posts n → IsTrue false ↔ (post_lines tenant events ≡ lines_of posts)
 left-false tenant events posts i n event left low read leaves = (λ t. absurd (cc), λ e. absurd (leaves (drop (i + 1) events) (sym (ap (post_lines tenant) (drop-one events i event low read)) ∙ left.0 e)))
 
 drop-all : {A : Type 0} (xs : List A) (i : ℕ) → length xs ≤ i → drop i xs ≡ []
@@ -57,15 +58,15 @@ drop-all [] (suc i) all = refl
 drop-all (x ∷ xs) zero all = absurd (omega (arith, all))
 drop-all (x ∷ xs) (suc i) all = drop-all xs i (omega (arith, all))
 
-drop-left : (posts : List Post) (n : ℕ) → n < length posts → [] ≡ lines_of (drop n posts) → ⊥
+drop-left : (posts : List PostLine) (n : ℕ) → n < length posts → [] ≡ lines_of (drop n posts) → ⊥
 drop-left [] n low e = omega (arith, low)
 drop-left (x ∷ xs) zero low e = absurd (cc)
 drop-left (x ∷ xs) (suc n) low e = drop-left xs n (omega (arith, low)) e
 
-pub left-end : (tenant : List ℕ) (events : List written.Event) (posts : List Post) (i n : ℕ) → IsLeft tenant events posts i n → length events ≤ i → length posts ≤ n → IsTrue true ↔ (post_lines tenant events ≡ lines_of posts)
+pub left-end : (tenant : List ℕ) (events : List written.Event) (posts : List PostLine) (i n : ℕ) → IsLeft tenant events posts i n → length events ≤ i → length posts ≤ n → IsTrue true ↔ (post_lines tenant events ≡ lines_of posts)
 left-end tenant events posts i n left all end = (λ t. left.1 (ap (post_lines tenant) (drop-all events i all) ∙ sym (ap lines_of (drop-all posts n end))), λ e. refl)
 
-pub left-short : (tenant : List ℕ) (events : List written.Event) (posts : List Post) (i n : ℕ) → IsLeft tenant events posts i n → length events ≤ i → n < length posts → IsTrue false ↔ (post_lines tenant events ≡ lines_of posts)
+pub left-short : (tenant : List ℕ) (events : List written.Event) (posts : List PostLine) (i n : ℕ) → IsLeft tenant events posts i n → length events ≤ i → n < length posts → IsTrue false ↔ (post_lines tenant events ≡ lines_of posts)
 left-short tenant events posts i n left all low = (λ t. absurd (cc), λ e. absurd (drop-left posts n low (sym (ap (post_lines tenant) (drop-all events i all)) ∙ left.0 e)))
 
 job-append : (tenant : List ℕ) (xs ys : List ScriptedJob) → job_lines tenant (xs ++ ys) ≡ job_lines tenant xs ++ job_lines tenant ys
@@ -121,15 +122,15 @@ next-low ss i n s number low here few =
     omega arith
 
 -- the lines of one job
-pub opening-one : (tenant : List ℕ) (j : ScriptedJob) (old after : List Post) (p : Post) → is_text tenant j.tenant ≡ true → after ≡ old ++ p ∷ [] → line_of p ≡ of.Open j.tenant j.name j.ask → lines_of after ≡ lines_of old ++ opening_lines tenant (j ∷ [])
+pub opening-one : (tenant : List ℕ) (j : ScriptedJob) (old after : List PostLine) (p : PostLine) → is_text tenant j.tenant ≡ true → after ≡ old ++ p ∷ [] → event_of p ≡ of.Open j.tenant j.name j.ask → lines_of after ≡ lines_of old ++ opening_lines tenant (j ∷ [])
 opening-one tenant j old after p mine_is step line_is =
     ap lines_of step
-    ∙ (map-append line_of old (p ∷ [])
+    ∙ (map-append event_of old (p ∷ [])
     ∙ (ap (λ (x : written.Event). lines_of old ++ x ∷ []) line_is
     ∙ ap (λ (b : Bool). lines_of old ++ map bare (open_events (cond b (j ∷ []) []))) (sym mine_is)))
 
-pub lines-more : (old after : List Post) (p : Post) → after ≡ old ++ p ∷ [] → lines_of after ≡ lines_of old ++ line_of p ∷ []
-lines-more old after p step = ap lines_of step ∙ map-append line_of old (p ∷ [])
+pub lines-more : (old after : List PostLine) (p : PostLine) → after ≡ old ++ p ∷ [] → lines_of after ≡ lines_of old ++ event_of p ∷ []
+lines-more old after p step = ap lines_of step ∙ map-append event_of old (p ∷ [])
 
 -- the jobs of a script in form have few revisions
 few-from : (done js : List ScriptedJob) → MayAllFollow served done js → AreFew js

@@ -6,9 +6,9 @@ ghost use Rattle.mal_posts.specs.Expected.{AreFew, GoesOn, Leaves, is_known, lin
 ghost use Rattle.spec_replay.specs.Posts.{HasPosts, HavePosts, is_post_line, post_lines};
 ghost use Rattle.spec_script.specs.Formed.{tenants_of};
 
-use crate::expected::{Post, is_post, posts_of};
+use crate::expected::posts_of;
 use mal_base::Name;
-use mal_history::Event;
+use mal_history::{Event, PostLine};
 use mal_script::{Script, ScriptJob};
 use std::alloc::{AllocError, Global};
 
@@ -43,7 +43,7 @@ fn has_posts(
 }
 
 /// Whether what a tenant posted is just this, in this order.
-fn follows(events: &[Event], tenant: Name, posts: &[Post]) -> bool
+fn follows(events: &[Event], tenant: Name, posts: &[PostLine]) -> bool
     ensures { IsTrue result ↔ (post_lines tenant events.now ≡ lines_of posts.now) }
 {
     let mut next = 0;
@@ -61,7 +61,7 @@ fn follows(events: &[Event], tenant: Name, posts: &[Post]) -> bool
 
 /// The place in a tenant's posts behind an event, which is reached at a place: none where it is another post of the
 /// tenant.
-fn after(event: &Event, tenant: Name, posts: &[Post], next: usize) -> Option<usize>
+fn after(event: &Event, tenant: Name, posts: &[PostLine], next: usize) -> Option<usize>
     ensures { MatchOption result (Leaves tenant event.now posts.now next)
         (λ later. GoesOn tenant event.now posts.now next later) }
 {
@@ -71,7 +71,7 @@ fn after(event: &Event, tenant: Name, posts: &[Post], next: usize) -> Option<usi
     match posts.get(next) {
         None => None,
         Some(post) => {
-            if !is_post(event, *post) {
+            if !event.is_post(*post) {
                 return None;
             }
             Some(next + 1)
@@ -83,14 +83,9 @@ fn after(event: &Event, tenant: Name, posts: &[Post], next: usize) -> Option<usi
 fn is_post_of(event: &Event, tenant: Name) -> bool
     ensures { result ≡ is_post_line tenant event.now }
 {
-    match event {
-        Event::Open { tenant: by, .. } => tenant == *by,
-        Event::Revise { tenant: by, .. } => tenant == *by,
-        Event::Close { tenant: by, .. } => tenant == *by,
-        Event::Balance { .. } => false,
-        Event::Start { .. } => false,
-        Event::Finish { .. } => false,
-        Event::Exchange { .. } => false,
+    match event.post() {
+        Some(post) => tenant == post.tenant,
+        None => false,
     }
 }
 
@@ -125,13 +120,8 @@ fn are_known(events: &[Event], tenants: &[Name]) -> bool
 fn is_known(event: &Event, tenants: &[Name]) -> bool
     ensures { result ≡ is_known tenants.now event.now }
 {
-    match event {
-        Event::Open { tenant, .. } => has_name(tenants, *tenant),
-        Event::Revise { tenant, .. } => has_name(tenants, *tenant),
-        Event::Close { tenant, .. } => has_name(tenants, *tenant),
-        Event::Balance { .. } => true,
-        Event::Start { .. } => true,
-        Event::Finish { .. } => true,
-        Event::Exchange { .. } => true,
+    match event.post() {
+        Some(post) => has_name(tenants, post.tenant),
+        None => true,
     }
 }

@@ -8,7 +8,7 @@ ghost use Rattle.spec_replay.specs.Scripted.{job_under, numbered, posted_in, rev
 ghost use Rattle.spec_script.specs.Script.{revisions};
 
 use mal_base::Name;
-use mal_history::Event;
+use mal_history::{Event, PostKind, PostLine};
 use mal_revision::Revision;
 use mal_script::{Script, ScriptJob};
 use std::alloc::AllocError;
@@ -18,18 +18,15 @@ use std::alloc::AllocError;
 pub fn posted_in(script: &Script, event: &Event) -> Result<Option<Revision>, AllocError>
     ensures { IfOk result (λ o. o ≡ posted_in script.now event.now) }
 {
-    match event {
-        Event::Open { .. } => Ok(None),
-        Event::Revise {
-            tenant,
-            job,
-            number,
-        } => copied(script, *tenant, *job, *number),
-        Event::Close { .. } => Ok(None),
-        Event::Balance { .. } => Ok(None),
-        Event::Start { .. } => Ok(None),
-        Event::Finish { .. } => Ok(None),
-        Event::Exchange { .. } => Ok(None),
+    match event.post() {
+        Some(
+            PostLine {
+                tenant,
+                job,
+                kind: PostKind::Revision(number),
+            },
+        ) => copied(script, tenant, job, number),
+        _ => Ok(None),
     }
 }
 

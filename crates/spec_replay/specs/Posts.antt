@@ -1,7 +1,8 @@
 -- What a history that is written down posts.
 use Rattle.std.specs.Prelude.{◌≡◌, ℕ, Bool, false, List, map, filter}
+use Rattle.std.specs.Option.{option_map_or}
 use Rattle.mal_history.specs.declared.event.Event as written
-use Rattle.mal_history.specs.declared.event.Event.TheVariants as of
+use Rattle.mal_history.specs.Posts.{post_of}
 use Rattle.spec_hall.specs.Events.{bare}
 use Rattle.spec_hall.specs.Own.{is_text}
 use Rattle.spec_run.specs.Complete.{posts_of}
@@ -9,13 +10,7 @@ use Rattle.spec_script.specs.Script.{Scripted}
 
 -- whether a tenant posted the event that is written down
 abbrev pub is_post_line : List ℕ → written.Event → Bool
-is_post_line tenant (of.Open name job ask) = is_text tenant name
-is_post_line tenant (of.Revise name job number) = is_text tenant name
-is_post_line tenant (of.Close name job) = is_text tenant name
-is_post_line tenant (of.Balance volumes) = false
-is_post_line tenant (of.Start name job index worker) = false
-is_post_line tenant (of.Finish name job index worker outcome) = false
-is_post_line tenant (of.Exchange name job) = false
+is_post_line tenant event = option_map_or (λ p. is_text tenant p.tenant) (post_of event) false
 
 -- what a tenant posts in what is written down
 abbrev pub post_lines : List ℕ → List written.Event → List written.Event
