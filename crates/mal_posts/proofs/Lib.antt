@@ -1,3 +1,4 @@
 -- what this crate alone cites
+mod CursorLemmas
 mod FollowLemmas
 mod TenantLemmas

@@ -1,8 +1,11 @@
-//! Whether what is posted in a history that is written down is what a script says. Contents are not compared: a
-//! `Revise` of a history that is written down has the number of its revision alone.
+//! What tenants post by a script, one after the other, and whether what is posted in a history that is written down is
+//! just that. Contents are not compared: a `Revise` of a history that is written down has the number of its revision
+//! alone.
 #![tactic(auto)]
 
-mod expected;
+mod cursor;
+mod lines;
 mod posts;
 
+pub use cursor::{Cursor, Due, Left};
 pub use posts::have_posts;

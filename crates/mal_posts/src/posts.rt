@@ -1,14 +1,15 @@
 //! Whether what is posted is what a script says.
 
-ghost use Rattle.std.specs.Prelude.{◌≡◌, ◌↔◌, bytes_eq, IsTrue, MatchOption, IfOk};
+ghost use Rattle.std.specs.Prelude.{◌≡◌, ◌↔◌, bytes_eq, IsTrue, MatchBool, IfOk};
 ghost use Rattle.std.specs.List.{list_all, list_any};
-ghost use Rattle.mal_posts.specs.Expected.{AreFew, GoesOn, Leaves, is_known, lines_of};
-ghost use Rattle.spec_replay.specs.Posts.{HasPosts, HavePosts, is_post_line, post_lines};
+ghost use Rattle.mal_posts.specs.{Dues.{due}, Expected.{GoesOn, Leaves, is_known}};
+ghost use Rattle.spec_replay.specs.Posts.{HasPosts, HavePosts, is_post_line};
 ghost use Rattle.spec_script.specs.Formed.{tenants_of};
 
-use crate::expected::posts_of;
+use crate::cursor::Cursor;
+use crate::lines::is_due;
 use mal_base::Name;
-use mal_history::{Event, PostLine};
+use mal_history::Event;
 use mal_script::{Script, ScriptJob};
 use std::alloc::{AllocError, Global};
 
@@ -21,7 +22,7 @@ pub fn have_posts(alloc: Global, script: &Script, events: &[Event]) -> Result<bo
         return Ok(false);
     }
     for tenant in tenants.as_slice() {
-        if !has_posts(alloc, script, events, *tenant)? {
+        if !has_posts(script, events, *tenant) {
             return Ok(false);
         }
     }
@@ -29,53 +30,29 @@ pub fn have_posts(alloc: Global, script: &Script, events: &[Event]) -> Result<bo
 }
 
 /// Whether a tenant posted just what the script says, in its order.
-fn has_posts(
-    alloc: Global,
-    script: &Script,
-    events: &[Event],
-    tenant: Name,
-) -> Result<bool, AllocError>
-    requires { AreFew script.now.jobs }
-    ensures { IfOk result (λ b. IsTrue b ↔ HasPosts script.now events.now tenant) }
+fn has_posts(script: &Script, events: &[Event], tenant: Name) -> bool
+    ensures { IsTrue result ↔ HasPosts script.now events.now tenant }
 {
-    let posts = posts_of(alloc, script, tenant)?;
-    Ok(follows(events, tenant, &posts))
-}
-
-/// Whether what a tenant posted is just this, in this order.
-fn follows(events: &[Event], tenant: Name, posts: &[PostLine]) -> bool
-    ensures { IsTrue result ↔ (post_lines tenant events.now ≡ lines_of posts.now) }
-{
-    let mut next = 0;
+    let mut cursor = Cursor::of_tenant(script.jobs(), tenant);
     for event in events {
-        match after(event, tenant, posts, next) {
-            None => return false,
-            Some(later) => next = later,
+        if !goes_on(event, tenant, &mut cursor) {
+            return false;
         }
     }
-    if next < posts.len() {
-        return false;
-    }
-    true
+    cursor.next().is_none()
 }
 
-/// The place in a tenant's posts behind an event, which is reached at a place: none where it is another post of the
-/// tenant.
-fn after(event: &Event, tenant: Name, posts: &[PostLine], next: usize) -> Option<usize>
-    ensures { MatchOption result (Leaves tenant event.now posts.now next)
-        (λ later. GoesOn tenant event.now posts.now next later) }
+/// Whether a tenant goes on with an event in what is due: the event is none of its posts, or the next one.
+fn goes_on(event: &Event, tenant: Name, cursor: &mut Cursor<'_>) -> bool
+    ensures { MatchBool result (GoesOn tenant event.now (due cursor.old) (due cursor.new))
+        (Leaves tenant event.now (due cursor.old)) }
 {
     if !is_post_of(event, tenant) {
-        return Some(next);
+        return true;
     }
-    match posts.get(next) {
-        None => None,
-        Some(post) => {
-            if !event.is_post(*post) {
-                return None;
-            }
-            Some(next + 1)
-        }
+    match cursor.next() {
+        None => false,
+        Some(due) => is_due(event, &due),
     }
 }
 

@@ -1,10 +1,6 @@
 use Rattle.std.proofs.Common.{◌<◌, ◌≤◌, length, arith, sym, ◌∙◌}
-use Rattle.mal_posts.proofs.FollowLemmas.{few-jobs}
 use Rattle.mal_posts.proofs.TenantLemmas.{posted-all, posted-more, test-false, test-true, unknown-not}
 use Rattle.mal_posts.proofs.posts.have_posts.Goals as goal
-
-pub has_posts-requires : goal.has_posts-requires
-has_posts-requires c = few-jobs c.args.script.now c.jobs.ensures.formed
 
 pub returns-then-not-are_known : goal.returns-then-not-are_known
 returns-then-not-are_known c =
@@ -14,7 +10,7 @@ returns-then-not-are_known c =
 pub loop-tenant-preserved : goal.loop-tenant-preserved
 loop-tenant-preserved c =
     let low : c.loop-tenant.tenant-index < length c.as_slice-tenant-items.result.now = omega arith in
-    posted-more c.args.script.now c.args.events.now c.as_slice-tenant-items.result.now c.loop-tenant.tenant-index c.tenant-item.result c.loop-tenant.invariant low c.tenant-item.is (c.in_ok-has_posts.ensures.0 c.if-not-branch.false)
+    posted-more c.args.script.now c.args.events.now c.as_slice-tenant-items.result.now c.loop-tenant.tenant-index c.tenant-item.result c.loop-tenant.invariant low c.tenant-item.is (c.has_posts.ensures.0 c.if-not-has_posts.false)
 
 pub returns : goal.returns
 returns c =
