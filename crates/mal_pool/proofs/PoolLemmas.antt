@@ -1,72 +1,69 @@
 -- What the hall's calls say, for a script that is posted and answered.
-use Rattle.std.proofs.Common.{◌≡◌, ℕ, zero, suc, ◌+◌, ◌<◌, ◌≤◌, true, false, List, [], ◌∷◌, ◌++◌, length, map, take, get_or, flat_map, Option, Some, None, Result, Ok, Err, sym, ◌∙◌, ap, arith, append-nil, append_assoc, subst}
+use Rattle.std.proofs.Common.{◌≡◌, ℕ, zero, suc, ◌+◌, ◌<◌, ◌≤◌, List, [], ◌∷◌, ◌++◌, length, map, take, get_or, flat_map, Option, Some, Result, Ok, Err, sym, ◌∙◌, ap, arith, append-nil, append_assoc, length-append, refl, subst}
 use Rattle.std.specs.Prelude.{OnOk}
 use Rattle.std.specs.List.{list_any}
-use Rattle.std.specs.Option.{option_map_or}
+use Rattle.std.proofs.lemmas.Grind.{flat_map-append}
 use Rattle.std.proofs.lemmas.List.{take_all, take_more, length-take-le}
-use Rattle.mal_hall.specs.HallView.{HallView, next_number}
+use Rattle.mal_hall.specs.HallView.{HallView}
 use Rattle.mal_pool.specs.Posts.{IsKnown, AreKnown, HasRun}
-use Rattle.mal_pool.specs.Steps.{MayStep}
 use Rattle.mal_revision.specs.Posted.{Posted}
 use Rattle.spec_job.specs.Replies.{reply}
 use Rattle.spec_job.specs.SoloMachine.{SoloMachine, solo}
 use Rattle.spec_job.specs.KeyedJob.{Key, KeyedJob}
-use Rattle.spec_hall.specs.Events.{Event, Revise}
+use Rattle.spec_hall.specs.Events.{Event, Close, Revise}
 use Rattle.spec_hall.specs.Driven.{GrowsByTurns}
 use Rattle.spec_hall.specs.Own.{own, is_key}
 use Rattle.spec_hall.specs.States.{keys_of, states, titled, lives, leases}
-use Rattle.spec_hall.specs.Legal.{Legal, job_of}
+use Rattle.spec_hall.specs.Legal.{Legal, LegalFrom, job_of}
 use Rattle.spec_hall.proofs.RunnableLemmas.{find-titled}
 use Rattle.spec_run.specs.Complete.{key_of_job, job_events, open_events, script_events, step_events}
 use Rattle.spec_run.specs.Posting.{IsOpen}
 use Rattle.spec_run.specs.Run.{text_or_none, replies_from, job_replies, replies}
 use Rattle.spec_run.proofs.KeyLemmas.{among-keys, among-parts, job-found}
 use Rattle.spec_run.proofs.OpenLemmas.{open-found, revised-is_open}
-use Rattle.spec_run.proofs.PostingLemmas.{next-may_revise, revised-more, revision-more}
+use Rattle.spec_run.proofs.PostingLemmas.{next-may_revise}
 use Rattle.spec_run.proofs.CompleteLemmas.{grown-keys, grown-complete}
 use Rattle.spec_script.specs.Formed.{IsJob}
 use Rattle.spec_script.specs.Limits.{served}
-use Rattle.spec_script.specs.Script.{ScriptedJob, Scripted, revisions_in}
+use Rattle.spec_script.specs.Script.{ScriptedJob, Scripted, revisions_at, revisions_in}
 use Rattle.spec_script.specs.declared.step.Step.{Step}
 use Rattle.spec_script.specs.declared.step.Step.TheVariants as steps
 
--- the number of the next revision of a job that is open
-pub next-number : (k : Key) (rs : List Posted) (h : List Event) → IsOpen k rs h → next_number k h ≡ length rs + 1
-next-number k rs h is =
-    ap (λ (o : Option KeyedJob). option_map_or (λ t. length t.state.revisions + 1) o 1) (open-found k rs h is)
-    ∙ ap (λ (x : List Posted). length x + 1) is.posted
+take-front : {A : Type 0} (xs ys : List A) → take (length xs) (xs ++ ys) ≡ xs
+take-front [] ys = refl
+take-front (x ∷ xs) ys = ap (λ zs. x ∷ zs) (take-front xs ys)
 
--- a job that is open is neither missing nor closed
-pub open-not_missing : (k : Key) (rs : List Posted) (h : List Event) → IsOpen k rs h → job_of k (states h) ≡ None → ⊥
-open-not_missing k rs h is none = some-not-none (titled h k) (sym (open-found k rs h is) ∙ none)
+read-front : {A : Type 0} (xs : List A) (y : A) (ys : List A) → y ≡ get_or (xs ++ y ∷ ys) (length xs) y
+read-front [] y ys = refl
+read-front (x ∷ xs) y ys = read-front xs y ys
+
+-- what a job posts behind some of its steps is legal where they are posted
+rest-legal : (w : ℕ) (j : ScriptedJob) (front back : List Step) (h : List Event) (n : ℕ) → IsJob served j → j.steps ≡ front ++ back → n ≡ length (revisions_in front) + 1 → IsOpen (key_of_job j) (revisions_in front) h → LegalFrom w h (step_events (key_of_job j) n back ++ Close (key_of_job j) ∷ [])
+rest-legal w j front [] h n formed are number opened =
+    ((titled h (key_of_job j), record { job = open-found (key_of_job j) (revisions_in front) h opened; open_still = opened.unclosed }), tt)
+rest-legal w j front (steps.Revise r ∷ back) h n formed are number opened = (
+  (titled h k, next-may_revise j h (length front) n r formed (subst (λ (ss : List Step). IsOpen k (revisions_in ss) h) (sym before) opened) low (subst (λ (ss : List Step). steps.Revise r ≡ get_or ss (length front) (steps.Revise r)) (sym are) (read-front front (steps.Revise r) back)) (number ∙ ap (λ (ss : List Step). length (revisions_in ss) + 1) (sym before))),
+  rest-legal w j (front ++ steps.Revise r ∷ []) back (h ++ Revise k n r ∷ []) (n + 1) formed (are ∙ sym (append_assoc front (steps.Revise r ∷ []) back)) later (subst (λ (rs : List Posted). IsOpen k rs (h ++ Revise k n r ∷ [])) (sym more) (revised-is_open k (revisions_in front) h n r opened)),
+)
   where
-    some-not-none : (t : KeyedJob) → Some t ≡ None → ⊥
-    some-not-none t e = cc
+    k : Key
+    k = key_of_job j
 
-pub open-not_closed : (k : Key) (rs : List Posted) (h : List Event) → IsOpen k rs h → (t : KeyedJob) → job_of k (states h) ≡ Some t → t.state.closed ≡ true → ⊥
-open-not_closed k rs h is t found closed =
-    true-not-false (sym closed ∙ (ap (λ (x : KeyedJob). x.state.closed) (sym (find-titled h k (keys_of h) t found)) ∙ is.unclosed))
-  where
-    true-not-false : true ≡ false → ⊥
-    true-not-false e = cc
+    before : take (length front) j.steps ≡ front
+    before = ap (take (length front)) are ∙ take-front front (steps.Revise r ∷ back)
 
--- the job of a key after one revision more
-revised-on : (k : Key) (ss : List Step) (h after : List Event) (i n : ℕ) (r : Posted) → IsOpen k (revisions_in (take i ss)) h → after ≡ h ++ Revise k n r ∷ [] → i < length ss → steps.Revise r ≡ get_or ss i (steps.Revise r) → IsOpen k (revisions_in (take (i + 1) ss)) after
-revised-on k ss h after i n r is step low at =
-    let rs : List Posted = revisions_in (take i ss) in
-    subst (λ (x : List Posted). IsOpen k x after) (sym (revision-more ss i r low at)) (subst (λ (x : List Event). IsOpen k (rs ++ r ∷ []) x) (sym step) (revised-is_open k rs h n r is))
+    low : length front < length j.steps
+    low = omega (arith, ap length are, length-append front (steps.Revise r ∷ back))
 
--- the step of a job at a place may be posted where those before it are
-pub may-step : (j : ScriptedJob) (h : List Event) (i : ℕ) (s : Step) → IsJob served j → IsOpen (key_of_job j) (revisions_in (take i j.steps)) h → i < length j.steps → s ≡ get_or j.steps i s → MayStep h (key_of_job j) s
-may-step j h i (steps.Revise r) formed opened low is =
-    (titled h (key_of_job j), next-may_revise j h i (next_number (key_of_job j) h) r formed opened low is (next-number (key_of_job j) (revisions_in (take i j.steps)) h opened))
+    more : revisions_in (front ++ steps.Revise r ∷ []) ≡ revisions_in front ++ r ∷ []
+    more = flat_map-append revisions_at front (steps.Revise r ∷ [])
 
--- then one step more is posted
-pub stepped-more : (k : Key) (h after start : List Event) (ss : List Step) (i : ℕ) (s : Step) → IsOpen k (revisions_in (take i ss)) h → h ≡ start ++ step_events k 1 (take i ss) → after ≡ h ++ step_events k (next_number k h) (s ∷ []) → i < length ss → s ≡ get_or ss i s → after ≡ start ++ step_events k 1 (take (i + 1) ss)
-stepped-more k h after start ss i (steps.Revise r) opened e step low is = revised-more k h after start ss i (next_number k h) r e step (next-number k (revisions_in (take i ss)) h opened) low is
+    later : n + 1 ≡ length (revisions_in (front ++ steps.Revise r ∷ [])) + 1
+    later = omega (arith, number, ap length more, length-append (revisions_in front) (r ∷ []))
 
-pub stepped-on : (k : Key) (h after : List Event) (ss : List Step) (i : ℕ) (s : Step) → IsOpen k (revisions_in (take i ss)) h → after ≡ h ++ step_events k (next_number k h) (s ∷ []) → i < length ss → s ≡ get_or ss i s → IsOpen k (revisions_in (take (i + 1) ss)) after
-stepped-on k h after ss i (steps.Revise r) opened step low is = revised-on k ss h after i (next_number k h) r opened step low is
+-- all that a job posts is legal where it is open and has no revision
+pub job-legal : (w : ℕ) (h : List Event) (j : ScriptedJob) → IsOpen (key_of_job j) [] h → IsJob served j → LegalFrom w h (job_events j)
+job-legal w h j opened formed = rest-legal w j [] j.steps h 1 formed refl refl opened
 
 -- a script was posted whose jobs were opened and then posted
 pub all-posted : {E : Type 0} (s : Scripted) (opening posting : List ScriptedJob) (opened now : List Event) (r : Result (Unit {0}) E) → opening ≡ s.jobs → posting ≡ s.jobs → opened ≡ open_events opening → OnOk r (now ≡ opened ++ flat_map job_events posting) → OnOk r (now ≡ script_events s)

@@ -4,7 +4,7 @@ use Rattle.std.specs.List.{All, list_any}
 use Rattle.std.proofs.lemmas.List.Elements.{All-head, All-tail}
 use Rattle.mal_hall.specs.HallView.{HallView}
 use Rattle.mal_history.specs.declared.event.Event as written
-use Rattle.mal_pool.specs.declared.posting.Left.{Left}
+use Rattle.mal_posts.specs.declared.cursor.Left.{Left}
 use Rattle.mal_pool.specs.Gates.{Stops, StopsSomewhere, LosesByStops}
 use Rattle.mal_pool.specs.Posts.{HasRun}
 use Rattle.mal_pool.specs.Runs.{IsSettled, left_by}

@@ -1,19 +1,17 @@
-use Rattle.std.specs.Prelude.{◌≡◌, ◌⊎◌, ℕ, ◌+◌, ◌≤◌, ◌<◌, true, List, [], ◌∷◌, ◌++◌, length, map, flat_map, filter, fold, sum_by, take, drop, slice_get, Option, Some, None, Ok, Err}
-use Rattle.std.specs.Option.{option_map_or}
+use Rattle.std.specs.Prelude.{◌≡◌, ◌⊎◌, ℕ, ◌≤◌, ◌<◌, List, [], ◌∷◌, ◌++◌, length, map, flat_map, fold, sum_by, slice_get, Option, Some, None, Ok, Err}
 use Rattle.spec_hall.specs.Calls.{recalled}
 use Rattle.spec_hall.specs.Driven.{GrowsByTurns}
-use Rattle.spec_hall.specs.Events.{Event}
-use Rattle.spec_hall.specs.Own.{is_text}
+use Rattle.spec_hall.specs.Events.{Event, Open, Revise, Close}
 use Rattle.spec_hall.specs.States.{lives, states, leases}
+use Rattle.spec_run.specs.Complete.{job_events}
 use Rattle.spec_script.specs.Script.{ScriptedJob}
-use Rattle.spec_script.specs.declared.step.Step.{Step}
-use Rattle.spec_script.specs.declared.step.Step.TheVariants as steps
 use Rattle.mal_hall.specs.declared.desk.Post.{Post}
 use Rattle.mal_hall.specs.declared.desk.Post.TheVariants as posts
 use Rattle.mal_hall.specs.declared.desk.PostFault.{PostFault}
 use Rattle.mal_hall.specs.Desks as desks
 use Rattle.mal_hall.specs.Desks.{DeskCall, event_of}
-use Rattle.mal_pool.specs.declared.posting.Left.{Left}
+use Rattle.mal_posts.specs.Dues.{left_in, of_tenant}
+use Rattle.mal_posts.specs.declared.cursor.Left.{Left}
 use Rattle.mal_pool.specs.declared.role.Part.{Part}
 use Rattle.mal_pool.specs.declared.role.Part.TheVariants as parts
 
@@ -21,25 +19,20 @@ use Rattle.mal_pool.specs.declared.role.Part.TheVariants as parts
 abbrev pub open_post : ScriptedJob → Post
 open_post j = posts.Open j.tenant j.name j.ask
 
--- the post of a job's step
-abbrev pub step_post : ScriptedJob → Step → Post
-step_post j (steps.Revise r) = posts.Revise j.tenant j.name r
+-- the post that enters an event, where a tenant posts it
+abbrev pub posts_at : Event → List Post
+posts_at (Open k ask) = posts.Open k.tenant k.job ask ∷ []
+posts_at (Revise k number r) = posts.Revise k.tenant k.job r ∷ []
+posts_at (Close k) = posts.Close k.tenant k.job ∷ []
+posts_at event = []
 
--- the posts of a job's steps
-abbrev pub step_posts : ScriptedJob → List Step → List Post
-step_posts j ss = map (step_post j) ss
+-- the posts that enter events
+abbrev pub posts_in : List Event → List Post
+posts_in events = flat_map posts_at events
 
--- the posts of a job behind its first steps, of which there are so many
-abbrev pub posts_behind : ℕ → ScriptedJob → List Post
-posts_behind n j = step_posts j (drop n j.steps) ++ posts.Close j.tenant j.name ∷ []
-
--- the posts of a job: its steps and its closing
-abbrev pub job_posts : ScriptedJob → List Post
-job_posts j = step_posts j j.steps ++ posts.Close j.tenant j.name ∷ []
-
--- the jobs of a tenant
-abbrev pub of_tenant : List ℕ → List ScriptedJob → List ScriptedJob
-of_tenant tenant jobs = filter (λ j. is_text tenant j.tenant) jobs
+-- what a tenant posts behind its openings
+abbrev pub behind_openings : List ℕ → List ScriptedJob → List Event
+behind_openings tenant jobs = flat_map job_events (of_tenant tenant jobs)
 
 -- calls that post, each taken
 abbrev pub taken : List Post → List DeskCall
@@ -49,26 +42,17 @@ taken ps = map (λ p. desks.Posted p (Ok tt)) ps
 abbrev pub IsRefusal : List DeskCall → Type 0
 IsRefusal calls = (calls ≡ []) ⊎ ((p : Post) × (fault : PostFault) × (calls ≡ desks.Posted p (Err fault) ∷ []))
 
--- what was posted of a job: all of it, or so many steps, and then no more
-abbrev pub HasPostedOf : ScriptedJob → Option ℕ → List DeskCall → Type 0
-HasPostedOf j None mine = mine ≡ taken (job_posts j)
-HasPostedOf j (Some n) mine = (n ≤ length j.steps) × (last : List DeskCall) × IsRefusal last × (mine ≡ taken (step_posts j (take n j.steps)) ++ last)
-
--- what the poster of a tenant posted of a job: nothing where it is another tenant's
-abbrev pub HasPostedFor : List ℕ → ScriptedJob → Option ℕ → List DeskCall → Type 0
-HasPostedFor tenant j None mine = mine ≡ taken (flat_map job_posts (of_tenant tenant (j ∷ [])))
-HasPostedFor tenant j (Some n) mine = (is_text tenant j.tenant ≡ true) × HasPostedOf j (Some n) mine
-
--- the poster of a tenant has posted all of the tenant's jobs, or those before a place, and of the job there so much
+-- the poster of a tenant has posted all behind the openings, or what was posted and what is left make that, and the next
+-- post was refused
 abbrev pub HasPosted : List ℕ → List ScriptedJob → Option Left → List DeskCall → Type 0
-HasPosted tenant jobs None mine = mine ≡ taken (flat_map job_posts (of_tenant tenant jobs))
+HasPosted tenant jobs None mine = mine ≡ taken (posts_in (behind_openings tenant jobs))
 HasPosted tenant jobs (Some l) mine =
-    (j : ScriptedJob) × (last : List DeskCall) × (slice_get jobs l.job ≡ Some j) × (is_text tenant j.tenant ≡ true) × HasPostedOf j (Some l.posted) last
-    × (mine ≡ taken (flat_map job_posts (of_tenant tenant (take l.job jobs))) ++ last)
+    (done : List Event) × (last : List DeskCall) × (behind_openings tenant jobs ≡ done ++ left_in jobs l) × IsRefusal last
+    × (mine ≡ taken (posts_in done) ++ last)
 
 -- what a poster left: the rest of the job at a place, and the later jobs of its tenant
 abbrev pub left_by : List ScriptedJob → Left → List Post
-left_by jobs l = option_map_or (λ j. posts_behind l.posted j ++ flat_map job_posts (of_tenant j.tenant (drop (l.job + 1) jobs))) (slice_get jobs l.job) []
+left_by jobs l = posts_in (left_in jobs l)
 
 -- a history behind which these were posted, each taken
 abbrev pub posted_on : List Event → List Post → List Event

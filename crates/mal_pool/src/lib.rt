@@ -4,6 +4,7 @@
 
 mod answering;
 mod board;
+mod due;
 mod gate;
 mod laws;
 mod leaving;

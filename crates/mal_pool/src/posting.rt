@@ -1,24 +1,19 @@
-//! Posting: by a tenant's poster while workers work, and afterwards of what is left.
+//! Posting: by a tenant's poster while workers work.
 
-ghost use Rattle.std.specs.Prelude.{◌≡◌, List, [], ◌∷◌, ◌++◌, map, true, false, OnOk, OnErr, IfOk};
+ghost use Rattle.std.specs.Prelude.{◌≡◌, List, ◌++◌, map, true, false, OnOk, OnErr, IfOk};
 ghost use Rattle.mal_hall.specs.Desks.{DeskCall};
-ghost use Rattle.mal_hall.specs.declared.desk.Post.TheVariants as posts;
-ghost use Rattle.mal_pool.specs.{Refusals.{EndsRefused, is_want}, Runs.{HasPosted, HasPostedFor, HasPostedOf, IsRefusal, open_post, step_post, taken}};
+ghost use Rattle.mal_pool.specs.{Refusals.{EndsRefused, is_want}, Runs.{HasPosted, IsRefusal, open_post, posts_at, taken}};
+ghost use Rattle.mal_posts.specs.Dues.{event_of};
 
 use crate::board::Board;
+use crate::due::post_of;
 use mal_base::Name;
 use mal_hall::{OpenFault, Post, PostFault, ReviseFault};
-use mal_script::{ScriptJob, Step};
+pub use mal_posts::Left;
+use mal_posts::{Cursor, Due};
+use mal_script::ScriptJob;
 use std::alloc::AllocError;
 use std::sync::Wait;
-
-/// What a poster hands back: of the job at this place of the script so many steps are posted, and no later job of
-/// its tenant.
-#[derive(Clone, Copy, PartialEq, Eq, Debug)]
-pub struct Left {
-    pub job: usize,
-    pub posted: usize,
-}
 
 /// Opens all jobs, in the order of the script: true where each is opened, false where one is refused for another cause
 /// than want of memory.
@@ -89,116 +84,31 @@ pub fn post_all<R: Wait, B: Board>(
         × HasPosted tenant jobs.now result.1 mine }
 {
     let mut pass = pass;
-    for place in 0..jobs.len() {
-        let (back, stopped) = post_for(rt, board, pass, tenant, &jobs[place]);
-        pass = back;
-        match stopped {
-            Some(posted) => return (pass, Some(Left { job: place, posted })),
-            None => {}
-        }
-    }
-    (pass, None)
-}
-
-/// Posts the steps and the closing of a job, if it is the tenant's. Where it stops, it tells how many steps are posted.
-fn post_for<R: Wait, B: Board>(
-    rt: &R,
-    board: &B,
-    pass: B::Pass,
-    tenant: Name,
-    job: &ScriptJob,
-) -> (B::Pass, Option<usize>)
-    requires of { B.is_of board.now pass }
-    ensures of { B.is_of board.now result.0 }
-    ensures calls { (mine : List DeskCall) × (B.calls result.0 ≡ B.calls pass ++ mine)
-        × HasPostedFor tenant job.now result.1 mine }
-{
-    if tenant == job.tenant() {
-        return post_job(rt, board, pass, job);
-    }
-    (pass, None)
-}
-
-/// Posts the steps and the closing of a job. Where it stops, it tells how many steps are posted.
-fn post_job<R: Wait, B: Board>(
-    rt: &R,
-    board: &B,
-    pass: B::Pass,
-    job: &ScriptJob,
-) -> (B::Pass, Option<usize>)
-    requires of { B.is_of board.now pass }
-    ensures of { B.is_of board.now result.0 }
-    ensures calls { (mine : List DeskCall) × (B.calls result.0 ≡ B.calls pass ++ mine)
-        × HasPostedOf job.now result.1 mine }
-{
-    let mut pass = pass;
-    for posted in 0..job.steps().len() {
-        let (back, done) = post_step(rt, board, pass, job, &job.steps()[posted]);
+    let mut cursor = Cursor::opened(jobs, tenant);
+    let mut left = cursor.left();
+    while let Some(due) = cursor.next() {
+        let (back, done) = post_due(rt, board, pass, &due);
         pass = back;
         if !done {
-            return (pass, Some(posted));
+            return (pass, Some(left));
         }
-    }
-    let (pass, done) = post_closing(rt, board, pass, job);
-    if !done {
-        return (pass, Some(job.steps().len()));
+        left = cursor.left();
     }
     (pass, None)
 }
 
-/// The post of a job's step, of which a copy is made.
-pub fn step_post(job: &ScriptJob, step: &Step) -> Result<Post, AllocError>
-    ensures { IfOk result (λ post. post ≡ step_post job.now step.now) }
-{
-    match step {
-        Step::Revise(revision) => Ok(Post::Revise {
-            tenant: job.tenant(),
-            job: job.name(),
-            revision: revision.copy()?,
-        }),
-    }
-}
-
-/// Posts a step of a job, a copy that is made before the hall is asked. False where memory was wanting or the post was
+/// Posts what is due, a copy that is made before the hall is asked. False where memory was wanting or the post was
 /// refused.
-fn post_step<R: Wait, B: Board>(
-    rt: &R,
-    board: &B,
-    pass: B::Pass,
-    job: &ScriptJob,
-    step: &Step,
-) -> (B::Pass, bool)
+fn post_due<R: Wait, B: Board>(rt: &R, board: &B, pass: B::Pass, due: &Due<'_>) -> (B::Pass, bool)
     requires of { B.is_of board.now pass }
     ensures of { B.is_of board.now result.0 }
-    ensures taken { result.1 ≡ true → B.calls result.0 ≡ B.calls pass ++ taken (step_post job.now step.now ∷ []) }
+    ensures taken { result.1 ≡ true → B.calls result.0 ≡ B.calls pass ++ taken (posts_at (event_of due.now)) }
     ensures refused { result.1 ≡ false
         → (last : List DeskCall) × IsRefusal last × (B.calls result.0 ≡ B.calls pass ++ last) }
 {
-    let post = match step_post(job, step) {
+    let post = match post_of(due) {
         Ok(post) => post,
         Err(_) => return (pass, false),
-    };
-    let (pass, answer) = board.post(rt, pass, post);
-    (pass, answer.is_ok())
-}
-
-/// Posts the closing of a job. False where the post was refused.
-fn post_closing<R: Wait, B: Board>(
-    rt: &R,
-    board: &B,
-    pass: B::Pass,
-    job: &ScriptJob,
-) -> (B::Pass, bool)
-    requires of { B.is_of board.now pass }
-    ensures of { B.is_of board.now result.0 }
-    ensures taken { result.1 ≡ true
-        → B.calls result.0 ≡ B.calls pass ++ taken (posts.Close job.now.tenant job.now.name ∷ []) }
-    ensures refused { result.1 ≡ false
-        → (last : List DeskCall) × IsRefusal last × (B.calls result.0 ≡ B.calls pass ++ last) }
-{
-    let post = Post::Close {
-        tenant: job.tenant(),
-        job: job.name(),
     };
     let (pass, answer) = board.post(rt, pass, post);
     (pass, answer.is_ok())

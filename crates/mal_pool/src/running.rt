@@ -1,18 +1,18 @@
 //! Running a script on one thread.
 
-ghost use Rattle.std.specs.Prelude.{◌≡◌, ◌≤◌, List, ◌++◌, [], ◌∷◌, flat_map, IfOk, OnOk};
-ghost use Rattle.mal_hall.specs.HallView.{next_number};
-ghost use Rattle.mal_pool.specs.{Posts.{HasRun}, Steps.{MayStep}};
-ghost use Rattle.mal_revision.specs.Posted.{Posted};
-ghost use Rattle.spec_hall.specs.{Driven.{GrowsByTurns, IsDriven}, Events.{Open, Revise, Close}, Legal.{MayOpen, MayRevise}, States.{leases, lives, states}};
-ghost use Rattle.spec_job.specs.KeyedJob.{KeyedJob};
-ghost use Rattle.spec_run.specs.{Complete.{key_of_job, job_events, open_events, script_events, step_events}, Losses.{NoneIsLost}, Posting.{IsOpen}};
-ghost use Rattle.spec_script.specs.{Formed.{IsJob, MayAllFollow}, Limits.{served}, Script.{revisions}};
+ghost use Rattle.std.specs.Prelude.{◌≡◌, ◌≤◌, ◌++◌, [], ◌∷◌, flat_map, IfOk, OnOk};
+ghost use Rattle.mal_pool.specs.Posts.{HasRun};
+ghost use Rattle.mal_posts.specs.Dues.{event_of};
+ghost use Rattle.spec_hall.specs.{Driven.{GrowsByTurns, IsDriven}, Legal.{Allowed}, States.{leases, lives, states}};
+ghost use Rattle.spec_run.specs.{Complete.{key_of_job, job_events, open_events, script_events}, Losses.{NoneIsLost}, Posting.{IsOpen}};
+ghost use Rattle.spec_script.specs.{Formed.{IsJob, MayAllFollow}, Limits.{served}};
 
-use mal_hall::{CloseFault, Hall, OpenFault, ReviseFault};
+use crate::due::post_of;
+use crate::posting::refused;
+use mal_hall::Hall;
 use mal_learn::Scratch;
-use mal_revision::Revision;
-use mal_script::{Script, ScriptJob, Step};
+use mal_posts::{Cursor, Due};
+use mal_script::{Script, ScriptJob};
 use std::alloc::{AllocError, Global};
 
 /// Runs a script with 1 to 64 workers on this thread: all jobs are opened, and then job by job its steps and its
@@ -76,24 +76,9 @@ fn open_all(hall: &mut Hall, jobs: &[ScriptJob]) -> Result<(), AllocError>
     ensures events { OnOk result (hall.new.events ≡ open_events jobs.now) }
 {
     for job in jobs {
-        open(hall, job)?;
+        post_due(hall, &Due::Opening(job))?;
     }
     Ok(())
-}
-
-/// Opens a job.
-fn open(hall: &mut Hall, job: &ScriptJob) -> Result<(), AllocError>
-    requires { MayOpen hall.old.events (key_of_job job.now) job.now.ask }
-    ensures workers { hall.new.workers ≡ hall.old.workers }
-    ensures events { OnOk result (hall.new.events ≡ hall.old.events ++ Open (key_of_job job.now) job.now.ask ∷ []) }
-{
-    match hall.open_job(job.tenant(), job.name(), job.ask()) {
-        Ok(()) => Ok(()),
-        Err(OpenFault::Duplicate) => unreachable!(),
-        Err(OpenFault::TenantFull) => unreachable!(),
-        Err(OpenFault::HallFull) => unreachable!(),
-        Err(OpenFault::OutOfMemory) => Err(AllocError),
-    }
 }
 
 /// Posts the steps and the closings of a script's jobs, all of which were just opened.
@@ -104,83 +89,36 @@ fn post_all(hall: &mut Hall, jobs: &[ScriptJob]) -> Result<(), AllocError>
     ensures events { OnOk result (hall.new.events ≡ hall.old.events ++ flat_map job_events jobs.now) }
 {
     for job in jobs {
-        post(hall, job)?;
+        post_job(hall, job)?;
     }
     Ok(())
 }
 
-/// Posts the steps and the closing of a job.
-fn post(hall: &mut Hall, job: &ScriptJob) -> Result<(), AllocError>
+/// Posts the steps and the closing of a job that has no revision.
+fn post_job(hall: &mut Hall, job: &ScriptJob) -> Result<(), AllocError>
     requires opened { IsOpen (key_of_job job.now) [] hall.old.events }
     requires formed { IsJob served job.now }
     ensures workers { hall.new.workers ≡ hall.old.workers }
     ensures events { OnOk result (hall.new.events ≡ hall.old.events ++ job_events job.now) }
 {
-    step_all(hall, job)?;
-    close(hall, job);
-    Ok(())
-}
-
-/// Posts the steps of a job that has no revision.
-fn step_all(hall: &mut Hall, job: &ScriptJob) -> Result<(), AllocError>
-    requires opened { IsOpen (key_of_job job.now) [] hall.old.events }
-    requires formed { IsJob served job.now }
-    ensures workers { hall.new.workers ≡ hall.old.workers }
-    ensures events { OnOk result
-        (hall.new.events ≡ hall.old.events ++ step_events (key_of_job job.now) 1 job.now.steps) }
-    ensures opened { OnOk result (IsOpen (key_of_job job.now) (revisions job.now) hall.new.events) }
-{
-    for step in job.steps() {
-        post_step(hall, job, step)?;
+    let mut cursor = Cursor::of_job(job);
+    while let Some(due) = cursor.next() {
+        post_due(hall, &due)?;
     }
     Ok(())
 }
 
-/// Posts the next step of a job.
-fn post_step(hall: &mut Hall, job: &ScriptJob, step: &Step) -> Result<(), AllocError>
-    requires { MayStep hall.old.events (key_of_job job.now) step.now }
+/// Posts what is due, where the hall allows it.
+fn post_due(hall: &mut Hall, due: &Due<'_>) -> Result<(), AllocError>
+    requires { Allowed hall.old.workers hall.old.events (event_of due.now) }
     ensures workers { hall.new.workers ≡ hall.old.workers }
-    ensures events { OnOk result
-        (hall.new.events
-        ≡ hall.old.events
-        ++ step_events (key_of_job job.now) (next_number (key_of_job job.now) hall.old.events) (step.now ∷ [])) }
+    ensures events { OnOk result (hall.new.events ≡ hall.old.events ++ event_of due.now ∷ []) }
 {
-    match step {
-        Step::Revise(revision) => revise(hall, job, revision),
-    }
-}
-
-/// Posts the next revision of a job.
-fn revise(hall: &mut Hall, job: &ScriptJob, revision: &Revision) -> Result<(), AllocError>
-    requires { (t : KeyedJob)
-        × MayRevise hall.old.events (key_of_job job.now)
-        (next_number (key_of_job job.now) hall.old.events) revision.now t }
-    ensures workers { hall.new.workers ≡ hall.old.workers }
-    ensures events { OnOk result
-        (hall.new.events
-        ≡ hall.old.events ++ Revise (key_of_job job.now) (next_number (key_of_job job.now) hall.old.events) revision.now
-        ∷ []) }
-{
-    let revision = revision.copy()?;
-    match hall.revise_job(&job.tenant(), &job.name(), revision) {
+    match hall.post(post_of(due)?) {
         Ok(()) => Ok(()),
-        Err(ReviseFault::NoJob) => unreachable!(),
-        Err(ReviseFault::Closed) => unreachable!(),
-        Err(ReviseFault::RevisionsFull) => unreachable!(),
-        Err(ReviseFault::JobFull { .. }) => unreachable!(),
-        Err(ReviseFault::OutOfMemory) => Err(AllocError),
-    }
-}
-
-/// Closes a job that is open.
-fn close(hall: &mut Hall, job: &ScriptJob)
-    requires { (posted : List Posted) × IsOpen (key_of_job job.now) posted hall.old.events }
-    ensures workers { hall.new.workers ≡ hall.old.workers }
-    ensures events { hall.new.events ≡ hall.old.events ++ Close (key_of_job job.now) ∷ [] }
-{
-    match hall.close_job(&job.tenant(), &job.name()) {
-        Ok(()) => {}
-        Err(CloseFault::NoJob) => unreachable!(),
-        Err(CloseFault::Closed) => unreachable!(),
+        Err(fault) => match refused(fault) {
+            Ok(_) => unreachable!(),
+            Err(error) => Err(error),
+        },
     }
 }

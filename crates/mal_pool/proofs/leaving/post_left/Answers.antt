@@ -1,6 +1,6 @@
 use Rattle.std.proofs.Common.{◌+◌, ◌∙◌, List, drop, get_or, flat_map}
 use Rattle.mal_hall.specs.declared.desk.Post.{Post}
-use Rattle.mal_pool.specs.declared.posting.Left.{Left}
+use Rattle.mal_posts.specs.declared.cursor.Left.{Left}
 use Rattle.mal_pool.specs.Runs.{left_by}
 use Rattle.mal_pool.proofs.Refused.{more-posted, parts-one, refused-first, refused-later}
 use Rattle.mal_pool.proofs.leaving.post_left.Goals as goal
