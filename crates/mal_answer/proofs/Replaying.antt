@@ -8,7 +8,7 @@ use Rattle.mal_account.specs.Grammar.{Spells}
 use Rattle.mal_account.proofs.AgainLemmas.{written-is-read}
 use Rattle.mal_account.proofs.ReadLemmas.{spelled-is-read}
 use Rattle.spec_hall.specs.Events.{bare}
-use Rattle.spec_replay.proofs.RunLemmas.{run-is_replied}
+use Rattle.spec_run.proofs.RunLemmas.{run-is_replied}
 use Rattle.spec_script.specs.Script.{spelling}
 
 pub run-replays : RunReplays

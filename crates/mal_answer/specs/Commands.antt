@@ -18,7 +18,7 @@ use Rattle.spec_hall.specs.Driven.{IsDriven}
 use Rattle.spec_hall.specs.Events.{Event}
 use Rattle.spec_logic.specs.Logic.{IsUnsatisfiable}
 use Rattle.spec_logic.specs.Refutation.{IsRefutation}
-use Rattle.spec_replay.specs.Replayed.{IsLegal, IsLacking, IsRefusedAt, IsReplied}
+use Rattle.spec_run.specs.Replayed.{IsLegal, IsLacking, IsRefusedAt, IsReplied}
 use Rattle.spec_run.specs.Complete.{IsComplete, script_events}
 use Rattle.spec_run.specs.Run.{IsRun}
 use Rattle.mal_base.specs.declared.line_fault.LineFault.{LineFault}

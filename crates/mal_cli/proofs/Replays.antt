@@ -17,8 +17,8 @@ use Rattle.mal_account.specs.Grammar.{Spells}
 use Rattle.mal_account.proofs.ReadLemmas.{spelled-is-read}
 use Rattle.mal_base.specs.declared.replay_fault.ReplayFault.{ReplayFault}
 use Rattle.mal_base.specs.declared.replay_fault.ReplayFault.TheVariants.{NotLegal, NotComplete, OutOfMemory}
-use Rattle.spec_replay.specs.Replayed.{IsReplay}
-use Rattle.spec_replay.proofs.ReplayLemmas.{replay-is_decided}
+use Rattle.spec_run.specs.Replayed.{IsReplay}
+use Rattle.spec_run.proofs.ReplayLemmas.{replay-is_decided}
 use Rattle.spec_run.specs.Run.{replies}
 
 -- a text with a first fault is no account, and the line tells it

@@ -18,7 +18,7 @@ use Rattle.spec_hall.specs.Own.{is_text}
 use Rattle.spec_hall.specs.States.{states}
 use Rattle.spec_hall.proofs.DressedLemmas.{legal-is_dressed}
 use Rattle.spec_run.specs.Complete.{is_post_of, key_of_job, job_events, open_events, step_events, jobs_of_tenant}
-use Rattle.spec_replay.specs.Posts.{HavePosts, is_post_line, post_lines}
+use Rattle.spec_run.specs.PostLines.{HavePosts, is_post_line, post_lines}
 use Rattle.spec_run.specs.Losses as losses
 use Rattle.spec_run.proofs.PostingLemmas.{take-one}
 use Rattle.spec_script.specs.Script.{ScriptedJob, Scripted, revisions, revisions_in}

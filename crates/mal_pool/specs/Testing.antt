@@ -5,7 +5,7 @@ use Rattle.spec_hall.specs.Driven.{was_lost}
 use Rattle.spec_hall.specs.Dressed.{revisions_of}
 use Rattle.spec_hall.specs.Events.{Event, bare}
 use Rattle.spec_hall.specs.States.{states}
-use Rattle.spec_replay.specs.Posts.{HavePosts}
+use Rattle.spec_run.specs.PostLines.{HavePosts}
 use Rattle.spec_run.specs.Complete.{is_post_of, key_of_job, posts_of}
 use Rattle.spec_script.specs.Script.{ScriptedJob, Scripted, revisions}
 

@@ -12,7 +12,7 @@ use Rattle.mal_posts.specs.Expected.{is_known}
 use Rattle.spec_hall.specs.Events.{bare}
 use Rattle.spec_hall.specs.Own.{is_text}
 use Rattle.spec_hall.proofs.KeyLemmas.{is_text-Decides}
-use Rattle.spec_replay.specs.Posts.{HasPosts, HavePosts, is_post_line, post_lines}
+use Rattle.spec_run.specs.PostLines.{HasPosts, HavePosts, is_post_line, post_lines}
 use Rattle.spec_run.proofs.PostingLemmas.{take-one}
 use Rattle.spec_run.specs.Complete.{job_events, jobs_of_tenant, open_events, posts_of}
 use Rattle.spec_script.specs.Formed.{tenants_of, with_name}

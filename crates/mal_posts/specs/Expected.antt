@@ -5,7 +5,7 @@ use Rattle.std.specs.Option.{option_map_or}
 use Rattle.mal_history.specs.declared.event.Event as written
 use Rattle.mal_history.specs.Posts.{post_of}
 use Rattle.spec_hall.specs.Events.{Event, bare}
-use Rattle.spec_replay.specs.Posts.{post_lines}
+use Rattle.spec_run.specs.PostLines.{post_lines}
 
 -- whether an event that is written down was posted by one of these tenants, or by none
 abbrev pub is_known : List (List ℕ) → written.Event → Bool

@@ -3,7 +3,7 @@
 ghost use Rattle.std.specs.Prelude.{◌≡◌, ◌↔◌, bytes_eq, IsTrue, MatchBool, IfOk};
 ghost use Rattle.std.specs.List.{list_all, list_any};
 ghost use Rattle.mal_posts.specs.{Dues.{due}, Expected.{GoesOn, Leaves, is_known}};
-ghost use Rattle.spec_replay.specs.Posts.{HasPosts, HavePosts, is_post_line};
+ghost use Rattle.spec_run.specs.PostLines.{HasPosts, HavePosts, is_post_line};
 ghost use Rattle.spec_script.specs.Formed.{tenants_of};
 
 use crate::cursor::Cursor;

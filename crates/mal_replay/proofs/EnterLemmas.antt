@@ -14,10 +14,10 @@ use Rattle.mal_replay.specs.Replaying.{HasReplayed}
 use Rattle.spec_hall.specs.Events.{Event}
 use Rattle.spec_hall.specs.Legal.{Allowed, Legal}
 use Rattle.spec_hall.specs.States.{leases, lives, states}
-use Rattle.spec_replay.proofs.PostLemmas.{lines-posted, posted-lines}
-use Rattle.spec_replay.specs.Posts.{HavePosts}
-use Rattle.spec_replay.specs.Replayed.{IsFirstRefused, IsLacking, IsLegal, IsRefusedAt, IsReplied}
-use Rattle.spec_replay.specs.Scripted.{AreWritten, event_by, posted_in}
+use Rattle.spec_run.proofs.PostLemmas.{lines-posted, posted-lines}
+use Rattle.spec_run.specs.PostLines.{HavePosts}
+use Rattle.spec_run.specs.Replayed.{IsFirstRefused, IsLacking, IsLegal, IsRefusedAt, IsReplied}
+use Rattle.spec_run.specs.Accounted.{AreWritten, event_by, posted_in}
 use Rattle.spec_run.proofs.PostingLemmas.{take-one}
 use Rattle.spec_run.specs.Complete.{IsComplete}
 use Rattle.spec_run.specs.Run.{replies}

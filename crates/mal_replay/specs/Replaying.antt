@@ -3,7 +3,7 @@ use Rattle.std.specs.Prelude.{◌≡◌, ℕ, take}
 use Rattle.mal_hall.specs.Applied.{IsInside}
 use Rattle.mal_hall.specs.HallView.{HallView}
 use Rattle.mal_history.specs.Written.{Written}
-use Rattle.spec_replay.specs.Scripted.{AreWritten}
+use Rattle.spec_run.specs.Accounted.{AreWritten}
 use Rattle.spec_script.specs.Script.{Scripted}
 
 -- a hall has entered the first events of a history, each Revise with the script's revision, and has each lease inside

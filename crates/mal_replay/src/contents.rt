@@ -4,7 +4,7 @@ ghost use Rattle.std.specs.Prelude.{◌≡◌, IfOk};
 ghost use Rattle.std.specs.Option.{option_copied};
 ghost use Rattle.spec_hall.specs.{Dressed.{keyed}, Own.{is_key}};
 ghost use Rattle.spec_run.specs.Complete.{key_of_job};
-ghost use Rattle.spec_replay.specs.Scripted.{job_under, numbered, posted_in, revision_in};
+ghost use Rattle.spec_run.specs.Accounted.{job_under, numbered, posted_in, revision_in};
 ghost use Rattle.spec_script.specs.Script.{revisions};
 
 use mal_base::Name;

@@ -3,7 +3,7 @@
 ghost use Rattle.std.specs.Prelude.{◌+◌, ◌<◌, Ok, Err, length, IfOk, IfErr};
 ghost use Rattle.mal_history.specs.Written.{line_at};
 ghost use Rattle.mal_replay.specs.Replaying.{HasReplayed};
-ghost use Rattle.spec_replay.specs.Replayed.{IsReplay};
+ghost use Rattle.spec_run.specs.Replayed.{IsReplay};
 
 use crate::contents::posted_in;
 use mal_base::ReplayFault;

@@ -6,6 +6,9 @@ pub mod PostingLemmas
 pub mod CompleteLemmas
 pub mod HomeLemmas
 pub mod LossLemmas
+pub mod PostLemmas
+pub mod ReplayLemmas
+pub mod RunLemmas
 -- what this crate alone cites
 mod TenantLemmas
 mod DecidedLemmas

@@ -2,3 +2,8 @@ pub mod Complete
 pub mod Posting
 pub mod Run
 pub mod Losses
+pub mod Accounted
+pub mod PostLines
+pub mod Replayed
+pub mod ReplayLaws
+pub mod ReplayExamples

@@ -1,5 +1,5 @@
 use Rattle.std.proofs.Common.{subst, sym}
-use Rattle.spec_replay.specs.Posts.{HavePosts}
+use Rattle.spec_run.specs.PostLines.{HavePosts}
 use Rattle.mal_pool.specs.Testing.{HaveContents}
 use Rattle.mal_pool.proofs.Agreements.{have-posts}
 use Rattle.mal_pool.proofs.testing.has_posts.Goals as goal

@@ -1,6 +1,6 @@
 use Rattle.std.proofs.Common.{◌≡◌, drop}
 use Rattle.spec_hall.specs.Dressed.{keyed}
-use Rattle.spec_replay.specs.Scripted.{job_under}
+use Rattle.spec_run.specs.Accounted.{job_under}
 use Rattle.mal_replay.proofs.contents.job_under.Given as goal
 
 abbrev pub invariant-loop-job : goal.invariant-loop-job

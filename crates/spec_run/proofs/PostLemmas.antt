@@ -10,8 +10,8 @@ use Rattle.spec_hall.specs.Events.{Event, Open, Revise, Close, Balance, Start, F
 use Rattle.spec_hall.specs.Dressed.{keyed}
 use Rattle.spec_hall.specs.Own.{is_key, is_text}
 use Rattle.spec_hall.proofs.KeyLemmas.{is_key-same}
-use Rattle.spec_replay.specs.Posts.{HavePosts, is_post_line, post_lines}
-use Rattle.spec_replay.specs.Scripted.{AreWritten, event_by, job_under, numbered, revision_in}
+use Rattle.spec_run.specs.PostLines.{HavePosts, is_post_line, post_lines}
+use Rattle.spec_run.specs.Accounted.{AreWritten, event_by, job_under, numbered, revision_in}
 use Rattle.spec_run.specs.Complete.{is_post_of, job_events, jobs_of_tenant, key_of_job, open_events, posts_of, step_events}
 use Rattle.spec_run.proofs.OpenLemmas.{IsApart, IsPart, part-of}
 use Rattle.spec_script.specs.Formed.{IsScript, MayAllFollow}

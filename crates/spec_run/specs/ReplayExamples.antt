@@ -4,7 +4,7 @@ use Rattle.mal_history.specs.declared.event.Event.TheVariants as of
 use Rattle.mal_revision.specs.Posted.{Posted}
 use Rattle.spec_hall.specs.Dressed.{keyed}
 use Rattle.spec_hall.specs.Events.{Close, Revise}
-use Rattle.spec_replay.specs.Scripted.{event_by}
+use Rattle.spec_run.specs.Accounted.{event_by}
 use Rattle.spec_script.specs.Script.{Scripted}
 use Rattle.spec_script.specs.declared.step.Step.TheVariants as steps
 

@@ -1,8 +1,6 @@
-//! A history that is replayed for a script. Definitions, and the laws about them as the contracts of functions without
-//! a body.
-#![tactic(auto)]
+//! Laws about a history that is replayed for a script, as the contracts of functions without a body.
 
-ghost use Rattle.spec_replay.specs.{Examples.{HasEvents}, Laws.{ReplayIsDecided, RunIsReplayed, RunIsReplied}};
+ghost use Rattle.spec_run.specs.{ReplayExamples.{HasEvents}, ReplayLaws.{ReplayIsDecided, RunIsReplayed, RunIsReplied}};
 
 /// There is one answer to a replay at most, where memory was not wanting.
 pub fn replay_is_decided()

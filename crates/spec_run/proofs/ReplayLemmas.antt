@@ -5,10 +5,10 @@ use Rattle.mal_history.specs.declared.event.Event as written
 use Rattle.spec_hall.specs.Events.{Event}
 use Rattle.spec_hall.specs.Legal.{Allowed, LegalFrom}
 use Rattle.mal_base.specs.declared.replay_fault.ReplayFault.TheVariants.{NotLegal, NotComplete, OutOfMemory}
-use Rattle.spec_replay.specs.Laws.{ReplayIsDecided}
-use Rattle.spec_replay.specs.Replayed.{IsLegal, IsFirstRefused}
-use Rattle.spec_replay.specs.Scripted.{AreWritten, event_by}
-use Rattle.spec_replay.proofs.PostLemmas.{some-same}
+use Rattle.spec_run.specs.ReplayLaws.{ReplayIsDecided}
+use Rattle.spec_run.specs.Replayed.{IsLegal, IsFirstRefused}
+use Rattle.spec_run.specs.Accounted.{AreWritten, event_by}
+use Rattle.spec_run.proofs.PostLemmas.{some-same}
 use Rattle.spec_run.specs.Run.{replies}
 use Rattle.spec_script.specs.Script.{Scripted}
 

@@ -3,11 +3,11 @@ use Rattle.std.proofs.Common.{◌≡◌, ℕ, Bool, true, false, cond, List, [],
 use Rattle.spec_hall.specs.Events.{Event, Open, Revise, Close, Balance, Start, Finish, Exchange, bare}
 use Rattle.spec_hall.proofs.KeyLemmas.{is_text-Decides}
 use Rattle.mal_base.specs.declared.replay_fault.ReplayFault.TheVariants.{OutOfMemory}
-use Rattle.spec_replay.specs.Laws.{RunIsReplied, RunIsReplayed}
-use Rattle.spec_replay.specs.Replayed.{IsReplay}
-use Rattle.spec_replay.specs.Scripted.{event_by}
-use Rattle.spec_replay.proofs.PostLemmas.{AreScripted, posts-scripted}
-use Rattle.spec_replay.proofs.ReplayLemmas.{replay-is_decided}
+use Rattle.spec_run.specs.ReplayLaws.{RunIsReplied, RunIsReplayed}
+use Rattle.spec_run.specs.Replayed.{IsReplay}
+use Rattle.spec_run.specs.Accounted.{event_by}
+use Rattle.spec_run.proofs.PostLemmas.{AreScripted, posts-scripted}
+use Rattle.spec_run.proofs.ReplayLemmas.{replay-is_decided}
 use Rattle.spec_run.specs.Complete.{is_post_of}
 use Rattle.spec_script.specs.Script.{Scripted}
 

@@ -5,7 +5,7 @@ use Rattle.spec_hall.specs.Events.{Event}
 use Rattle.spec_hall.specs.Legal.{Allowed, Legal}
 use Rattle.mal_base.specs.declared.replay_fault.ReplayFault.{ReplayFault}
 use Rattle.mal_base.specs.declared.replay_fault.ReplayFault.TheVariants.{NotLegal, NotComplete, OutOfMemory}
-use Rattle.spec_replay.specs.Scripted.{AreWritten, event_by}
+use Rattle.spec_run.specs.Accounted.{AreWritten, event_by}
 use Rattle.spec_run.specs.Complete.{IsComplete}
 use Rattle.spec_run.specs.Run.{replies}
 use Rattle.spec_script.specs.Script.{Scripted}

@@ -3,7 +3,7 @@ use Rattle.mal_history.specs.declared.event.Event as written
 use Rattle.spec_hall.specs.Events.{Event, bare}
 use Rattle.mal_base.specs.declared.replay_fault.ReplayFault.{ReplayFault}
 use Rattle.mal_base.specs.declared.replay_fault.ReplayFault.TheVariants.{OutOfMemory}
-use Rattle.spec_replay.specs.Replayed.{IsReplay, IsReplied}
+use Rattle.spec_run.specs.Replayed.{IsReplay, IsReplied}
 use Rattle.spec_run.specs.Run.{IsRun}
 use Rattle.spec_script.specs.Formed.{IsScript}
 use Rattle.spec_script.specs.Limits.{served}

@@ -1,5 +1,0 @@
-use Rattle.spec_replay.proofs.ReplayLemmas.{replay-is_decided}
-use Rattle.spec_replay.proofs.replay_is_decided.Goals as goal
-
-pub returns : goal.returns
-returns c = replay-is_decided
