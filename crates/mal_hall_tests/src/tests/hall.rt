@@ -570,27 +570,32 @@ const UNCLOSED: Play = &[
     (Call::Pick(1), Told::Idle),
 ];
 
-/// All plays, each behind the number of workers that its hall has.
-const PLAYS: [(u32, Play); 13] = [
-    (1, OPENINGS),
-    (1, JOBS_OF_A_TENANT),
-    (1, TENANTS),
-    (1, REVISIONS_AND_CLOSINGS),
-    (1, REVISIONS_OF_A_JOB),
-    (1, CLAUSES_OF_A_JOB),
-    (1, ABSENT_JOBS),
-    (1, THREE_REVISIONS),
-    (2, BUSY),
-    (1, RECALLED),
-    (1, STARVED),
-    (1, EQUAL_JOURNALS),
-    (1, UNCLOSED),
+/// All plays by their names, each behind the number of workers that its hall has.
+const PLAYS: [(&str, u32, Play); 13] = [
+    ("OPENINGS", 1, OPENINGS),
+    ("JOBS_OF_A_TENANT", 1, JOBS_OF_A_TENANT),
+    ("TENANTS", 1, TENANTS),
+    ("REVISIONS_AND_CLOSINGS", 1, REVISIONS_AND_CLOSINGS),
+    ("REVISIONS_OF_A_JOB", 1, REVISIONS_OF_A_JOB),
+    ("CLAUSES_OF_A_JOB", 1, CLAUSES_OF_A_JOB),
+    ("ABSENT_JOBS", 1, ABSENT_JOBS),
+    ("THREE_REVISIONS", 1, THREE_REVISIONS),
+    ("BUSY", 2, BUSY),
+    ("RECALLED", 1, RECALLED),
+    ("STARVED", 1, STARVED),
+    ("EQUAL_JOURNALS", 1, EQUAL_JOURNALS),
+    ("UNCLOSED", 1, UNCLOSED),
 ];
 
 #[test]
 fn calls_are_answered_as_known(rt: HostRuntime) {
-    for (workers, play) in PLAYS {
-        assert_eq!(rt; tried(rt.alloc(), workers, play), play.len());
+    for (play_name, workers, play) in PLAYS {
+        let known = tried(rt.alloc(), workers, play);
+        assert_eq!(rt;
+            known,
+            play.len(),
+            "{play_name}: its call {known}, from 0, is answered otherwise"
+        );
     }
 }
 
