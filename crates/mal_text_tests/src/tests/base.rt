@@ -40,7 +40,12 @@ fn is_name(alloc: Global, bytes: &[u8]) -> Result<bool, Fail> {
 #[test]
 fn names_are_small_letters_digits_and_underlines(rt: HostRuntime) -> Result<(), Fail> {
     for (bytes, known) in NAMES {
-        assert_eq!(rt; is_name(rt.alloc(), bytes)?, known);
+        assert_eq!(rt;
+            is_name(rt.alloc(), bytes)?,
+            known,
+            "of {:?}",
+            str::from_utf8(bytes)
+        );
     }
     Ok(())
 }
@@ -122,7 +127,10 @@ fn terms_of(ask: Ask) -> [i64; 4] {
 #[test]
 fn an_ask_names_the_profile_of_its_solvers(rt: HostRuntime) -> Result<(), Fail> {
     for (terms, is_ask) in ASKS {
-        assert!(rt; ask_of(terms).map(terms_of) == if is_ask { Some(terms) } else { None });
+        assert!(rt;
+            ask_of(terms).map(terms_of) == if is_ask { Some(terms) } else { None },
+            "of {terms:?}"
+        );
     }
     assert!(rt; Ask::of(1000, 64, 4096) == ask_of([1000, 64, 4096, 1]));
     Ok(())

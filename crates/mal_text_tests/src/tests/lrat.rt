@@ -36,7 +36,11 @@ const FAULTS: [(&[u8], LineFault); 2] = [
 #[test]
 fn the_first_fault_is_told(rt: HostRuntime) -> Result<(), Fail> {
     for (line, fault) in FAULTS {
-        assert!(rt; read_line(rt.alloc(), line, 4).err() == Some(fault));
+        assert!(rt;
+            read_line(rt.alloc(), line, 4).err() == Some(fault),
+            "of {:?}",
+            str::from_utf8(line)
+        );
     }
     Ok(())
 }

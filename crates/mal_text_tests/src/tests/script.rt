@@ -46,7 +46,11 @@ fn assumptions_stand_once_by_variable(rt: HostRuntime) -> Result<(), Fail> {
 #[test]
 fn other_assumptions_are_refused(rt: HostRuntime) -> Result<(), Fail> {
     for (line, fault) in REFUSED {
-        assert!(rt; refusal(rt.alloc(), line) == Some(fault));
+        assert!(rt;
+            refusal(rt.alloc(), line) == Some(fault),
+            "of {:?}",
+            str::from_utf8(line)
+        );
     }
     let opposite = AssumptionFault::Opposite { var: lit(1)?.var() };
     assert!(rt; refusal(rt.alloc(), b"a 2 1 -2 -1 0") == Some(opposite));

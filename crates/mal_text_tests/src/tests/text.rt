@@ -15,7 +15,7 @@ const NUMBERS: [(&[u8], Result<i64, NumberFault>); 3] = [
 #[test]
 fn number_words_are_told_apart(rt: HostRuntime) -> Result<(), Fail> {
     for (word, known) in NUMBERS {
-        assert!(rt; number(word, 12) == known);
+        assert!(rt; number(word, 12) == known, "of {:?}", str::from_utf8(word));
     }
     Ok(())
 }

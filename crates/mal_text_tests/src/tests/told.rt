@@ -253,7 +253,7 @@ const TOLD: [(Grammar, &[u8], &[u8]); 32] = [
 fn texts_are_told(rt: HostRuntime) -> Result<(), Fail> {
     for (grammar, text, known) in TOLD {
         let told = told(rt.alloc(), grammar, text)?;
-        assert_eq!(rt; told.as_slice(), known);
+        assert_eq!(rt; told.as_slice(), known, "of {:?}", str::from_utf8(text));
     }
     Ok(())
 }
