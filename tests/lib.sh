@@ -1,0 +1,37 @@
+# shellcheck shell=bash
+# What the scripts of this folder share; each of them that is in bash sources it first. The program is MAL, where that is set, and
+# else crates/mal/out/mal, which `./mal` and `rt ci` build. `folder` is there for a script's files, and is removed behind it.
+root=$(cd "$(dirname "${BASH_SOURCE[0]}")/.." && pwd)
+mal=${MAL:-$root/crates/mal/out/mal}
+suite=${0##*/run_}
+passed=0
+failed=0
+
+# Counts a test by its name and whether it passed.
+count() {
+    if [ "$2" -eq 0 ]; then
+        passed=$((passed + 1))
+    else
+        failed=$((failed + 1))
+        echo "failed: $1"
+    fi
+}
+
+# Says the last line, with what was left out, if something was. Whether no test failed, and some passed or were left out.
+finish() {
+    echo "$suite: $passed passed, $failed failed${1:+ ($1)}"
+    [ "$failed" -eq 0 ] && { [ "$passed" -gt 0 ] || [ $# -gt 0 ]; }
+}
+
+# Runs the program for 10 s at most; what takes longer ends with status 124.
+run_mal() {
+    timeout 10 "$mal" "$@"
+}
+
+if [ ! -x "$mal" ]; then
+    count "the program $mal is not there" 1
+    finish
+    exit 1
+fi
+folder=$(mktemp -d) || exit 1
+trap 'rm -rf "$folder"' EXIT
