@@ -6,10 +6,11 @@ ghost use Rattle.mal_pool.specs.Posts.{HasRun};
 use super::gates::{Together, check_replies};
 use super::scripts::{FOUR_REPLIES, FOUR_TENANTS, single_jobs};
 use mal_cli::run_served;
-use mal_hall::Hall;
-use mal_pool::{Gate, PlainGate, run_all};
+use mal_hall::{Hall, Post};
+use mal_pool::{Gate, HallBox, OwnCalls, PlainGate, Shared, Size, run_all, run_with};
 use mal_script::{Script, read};
 use std::alloc::{AllocError, Global};
+use std::marker::Brand;
 use std::process::Abort;
 use std::sync::Wait;
 use std::test::Fail;
@@ -148,4 +149,52 @@ fn any_number_of_workers_of_a_service_replies_alike(rt: HostRuntime) -> Result<(
     reply_alike(&rt, rt.alloc(), Team::serving(2), THREE)?;
     reply_alike(&rt, rt.alloc(), Team::serving(4), THREE)?;
     reply_alike(&rt, rt.alloc(), Team::serving(64), THREE)
+}
+
+/// Runs a script over a hall under a lock that has its first job already, and so refuses it.
+fn run_refused<S: Size + Send + Sync, R: Threads + Wait + Sync>(
+    rt: &R,
+    alloc: Global,
+    script: &Script,
+    workers: u32,
+) -> Result<Hall, AllocError>
+    requires some { 1 ≤ workers }
+    requires bound { workers ≤ 64 }
+    requires size { workers ≡ S.workers }
+    ensures { IfOk result (λ h. HasRun workers script.now h) }
+{
+    let mut kept: HallBox<S> = HallBox::new(Hall::new(alloc, workers)?);
+    match script.jobs().first() {
+        Some(job) => {
+            let _ = kept.post(Post::Open {
+                tenant: job.tenant(),
+                job: job.name(),
+                ask: job.ask(),
+            });
+        }
+        None => {}
+    }
+    let board = Shared::new(kept);
+    run_with(
+        rt,
+        alloc,
+        board,
+        OwnCalls::new(),
+        script,
+        workers,
+        &PlainGate,
+    )
+}
+
+/// A hall that refuses a job is given up, and a new one replies.
+fn reply_refused<R: Threads + Wait + Sync + Abort>(rt: &R, alloc: Global) -> Result<(), Fail> {
+    let workers = 4;
+    let script = read(alloc, FOUR_TENANTS)?;
+    let hall = run_refused::<Brand, R>(rt, alloc, &script, workers)?;
+    check_replies(rt, alloc, &hall, &script, FOUR_REPLIES)
+}
+
+#[test]
+fn a_refused_job_is_no_want_of_memory(rt: HostRuntime) -> Result<(), Fail> {
+    reply_refused(&rt, rt.alloc())
 }

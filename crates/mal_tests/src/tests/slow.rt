@@ -6,7 +6,7 @@ ghost use Rattle.mal_pool.specs.Posts.{HasRun};
 use super::gates::check_replies;
 use super::scripts::{FOUR_REPLIES, FOUR_TENANTS};
 use mal_hall::{Desk, FinishAnswer, Hall, PickAnswer, Post, PostFault};
-use mal_pool::{Board, HallBox, InUse, OwnCalls, PlainGate, Shared, Size, run_with};
+use mal_pool::{Board, HallBox, InUse, OwnCalls, PlainGate, Shared, Size, run_alone, run_with};
 use mal_script::Script;
 use mal_suspend::Done;
 use std::alloc::{AllocError, Global};
@@ -107,4 +107,21 @@ fn reply_slowly<R: Threads + Wait + Sync + Abort>(
 fn slow_posters_are_waited_for(rt: HostRuntime) -> Result<(), Fail> {
     reply_slowly(&rt, rt.alloc(), 50)?;
     reply_slowly(&rt, rt.alloc(), 20_000)
+}
+
+/// One worker, for whom no thread is made, waits for no poster: the history is that of a run without a board.
+fn run_one_slowly<R: Threads + Wait + Sync + Abort>(rt: &R, alloc: Global) -> Result<(), Fail> {
+    let workers = 1;
+    let script = mal_script::read(alloc, FOUR_TENANTS)?;
+    let hall = run_slowly::<Brand, R>(rt, alloc, &script, workers, 50)?;
+    let alone = run_alone(alloc, &script, workers)?;
+    let text = mal_history::write(alloc, hall.history())?;
+    let known = mal_history::write(alloc, alone.history())?;
+    assert_eq!(rt; text.as_slice(), known.as_slice());
+    Ok(())
+}
+
+#[test]
+fn one_worker_waits_for_no_poster(rt: HostRuntime) -> Result<(), Fail> {
+    run_one_slowly(&rt, rt.alloc())
 }
