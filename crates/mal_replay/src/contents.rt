@@ -8,7 +8,7 @@ ghost use Rattle.spec_run.specs.Accounted.{job_under, numbered, posted_in, revis
 ghost use Rattle.spec_script.specs.Script.{revisions};
 
 use mal_base::Name;
-use mal_history::{Event, PostKind, PostLine};
+use mal_history::{Event, PostKind};
 use mal_revision::Revision;
 use mal_script::{Script, ScriptJob};
 use std::alloc::AllocError;
@@ -18,14 +18,11 @@ use std::alloc::AllocError;
 pub fn posted_in(script: &Script, event: &Event) -> Result<Option<Revision>, AllocError>
     ensures { IfOk result (λ o. o ≡ posted_in script.now event.now) }
 {
-    match event.post() {
-        Some(
-            PostLine {
-                tenant,
-                job,
-                kind: PostKind::Revision(number),
-            },
-        ) => copied(script, tenant, job, number),
+    let Some(post) = event.post() else {
+        return Ok(None);
+    };
+    match post.kind {
+        PostKind::Revision(number) => copied(script, post.tenant, post.job, number),
         _ => Ok(None),
     }
 }
