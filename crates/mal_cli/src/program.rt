@@ -1,8 +1,7 @@
 //! The program from its words and its devices to its exit status.
 
 ghost use Rattle.std.specs.Prelude.{◌≡◌, ◌⊎◌, map, string_bytes};
-ghost use Rattle.mal_answer.specs.{Answers.{IsAnswer, IsAnswerTo}, Commands.{command_of}, Devices.{AreSilent, Complained, device}, Served.{HasDone, ReadsNothing}};
-ghost use Rattle.mal_answer.specs.{Requests.{IsRequest, Means, MeansNothing}, Usage.{usage_line}, declared.request.Request.{Request}};
+ghost use Rattle.mal_answer.specs.{Answers.{IsAnswer, IsAnswerTo}, Commands.{command_of}, Devices.{AreSilent, Complained, device}, Requests.{IsRequest, Means, MeansNothing}, Served.{HasDone, ReadsNothing}, Usage.{usage_line}, declared.words.request.Request.{Request}};
 
 use crate::generating::run_generated;
 use crate::replaying::replay_text;
