@@ -38,15 +38,24 @@ def read(path: str) -> bytes:
     return content if content.endswith(b"\n") else content + b"\n"
 
 
-def end_with_parent() -> None:
-    """Has the process killed where its parent ends first."""
-    ctypes.CDLL(None).prctl(PR_SET_PDEATHSIG, signal.SIGKILL)
+def end_with_parent(number: int = signal.SIGKILL) -> None:
+    """Has the process killed, by this signal, where its parent ends first."""
+    ctypes.CDLL(None).prctl(PR_SET_PDEATHSIG, number)
+
+
+def find_program() -> str:
+    """MAL, or else the path of the repository's program, which is built where there is none; how far that is shows on the terminal."""
+    if os.environ.get("MAL"):
+        return os.environ["MAL"]
+    command = [str(ROOT / "mal"), "--path"]
+    ran = subprocess.run(command, stdout=subprocess.PIPE, text=True, preexec_fn=lambda: end_with_parent(signal.SIGTERM), check=False)
+    return ran.stdout.strip() if ran.returncode == 0 else sys.exit(1)  # what it lacks it has said
 
 
 def call(words: list[str], parts: Iterable[bytes]) -> IO[bytes]:
     """A file of what the program writes to standard output, with these words and the parts, one behind another, as its
     input. A status that is not 0 is a failure, with the program's own line where it has one."""
-    program = os.environ.get("MAL") or str(ROOT / "mal")
+    program = find_program()
     out = tempfile.TemporaryFile()
     try:
         with tempfile.TemporaryFile() as source:
