@@ -1,6 +1,6 @@
 # shellcheck shell=bash
 # What the scripts of this folder share; each of them that is in bash sources it first. The program is MAL, where that is set, and
-# else crates/mal/out/mal, which `./mal` and `rt ci` build. `folder` is there for a script's files, and is removed behind it.
+# else crates/mal/out/mal, which `./mal --build` and `rt ci` build. `folder` is there for a script's files, and is removed behind it.
 root=$(cd "$(dirname "${BASH_SOURCE[0]}")/.." && pwd)
 mal=${MAL:-$root/crates/mal/out/mal}
 suite=${0##*/run_}
