@@ -4,3 +4,4 @@ pub mod Tautologies
 -- what this crate alone cites
 mod Padding
 mod LinesLemmas
+mod LaidLemmas

@@ -12,6 +12,11 @@ pub both-from_climbs : (lits : List ℕ) → climbs lits ≡ true → rises lits
 both-from_climbs [] up bad = absurd (bad refl)
 both-from_climbs (l ∷ ls) up bad = both-cases l ls (clash_after (l / 2) ls) refl up bad
 
+pub tautology-from_sorted : (lits sorted : List ℕ) → HaveSame lits sorted → climbs sorted ≡ true → rises sorted ≢ true → IsTautology lits
+tautology-from_sorted lits sorted same up bad =
+    let both : IsTautology sorted = both-from_climbs sorted up bad in
+    (both.0, same.back _ both.1, same.back _ both.2)
+
 -- what a clause of the sorted literals is to the literals
 pub lits-none : {E : Type 0} (r : Result (Option (List ℕ)) E) (lits sorted : List ℕ) → HaveSame lits sorted → climbs sorted ≡ true → IfOk r (λ o. MatchOption o (rises sorted ≢ true) (λ c. (c ≡ sorted) × (rises sorted ≡ true))) → IfOk r (λ o. MatchOption o (IsTautology lits) (λ c. IsTautology lits → ⊥))
 lits-none (Err e) lits sorted same up is = tt

@@ -1,5 +1,6 @@
 pub mod Literals
 pub mod Clauses
+pub mod ClauseLists
 pub mod Names
 pub mod Asks
 pub mod NameFields

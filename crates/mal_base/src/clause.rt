@@ -47,6 +47,17 @@ impl Clause {
         Clause::of_rising(alloc, sorted.as_slice())
     }
 
+    /// Puts these literals, in any order and with repeats, in clause order, where each stands once. Whether their
+    /// variables then rise strictly; they do not exactly where one stands with both signs. Takes no memory.
+    pub fn merge(lits: &mut Vec<Lit>) -> bool
+        ensures value { result ≡ rises lits.new.items }
+        ensures tautology { rises lits.new.items ≢ true → IsTautology lits.old.items }
+        ensures same { HaveSame lits.old.items lits.new.items }
+    {
+        Lit::sort(lits);
+        is_rising(lits.as_slice())
+    }
+
     /// An equal clause.
     pub fn copy(&self) -> Result<Clause, AllocError>
         ensures { IfOk result (λ c. c ≡ self.now) }

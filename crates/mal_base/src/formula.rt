@@ -1,10 +1,10 @@
 //! Formulas in conjunctive normal form.
 
-ghost use Rattle.std.specs.Prelude.{◌≡◌, ◌≢◌, ◌<◌, ◌≤◌, true, nat_le, IfSome, MatchOption};
+ghost use Rattle.std.specs.Prelude.{◌≡◌, ◌≢◌, ◌<◌, ◌≤◌, true, length, get_or, None, MatchOption};
 ghost use Rattle.std.specs.List.{list_all};
-ghost use Rattle.mal_base.specs.Formulas.{is_formula, is_within, is_clause_of, is_within_limits, size_of, literals_of};
+ghost use Rattle.mal_base.specs.Formulas.{is_formula, is_within, is_clause_of, is_within_limits, literals_of};
 
-use crate::clause::Clause;
+use crate::clause_list::ClauseList;
 use crate::literal::{Lit, Var};
 use std::marker::Model;
 
@@ -14,7 +14,7 @@ use std::marker::Model;
 #[derive(Drop)]
 pub struct Formula {
     variables: u32,
-    clauses: Vec<Option<Clause>>,
+    clauses: ClauseList,
 }
 
 impl Model for Formula {
@@ -23,19 +23,19 @@ impl Model for Formula {
 
     ghost Value = { Formulated };
 
-    ghost view = { λ f. record { variables = f.variables; clauses = f.clauses.items } };
+    ghost view = { λ f. record { variables = f.variables; clauses = f.clauses } };
 
-    ghost invariant = { λ f. is_formula (record { variables = f.variables; clauses = f.clauses.items }) ≡ true };
+    ghost invariant = { λ f. is_formula (record { variables = f.variables; clauses = f.clauses }) ≡ true };
 }
 
 impl Formula {
     /// The formula of so many variables and these clauses. None exactly where a limit is passed, a literal is above the
     /// variables, or a tautology stands where there is no variable. Takes no memory.
-    pub fn new(variables: u32, clauses: Vec<Option<Clause>>) -> Option<Formula>
-        ensures { MatchOption result (is_formula (record { variables = variables; clauses = clauses.items }) ≢ true)
-            (λ f. (f ≡ record { variables = variables; clauses = clauses.items }) × (is_formula f ≡ true)) }
+    pub fn new(variables: u32, clauses: ClauseList) -> Option<Formula>
+        ensures { MatchOption result (is_formula (record { variables = variables; clauses = clauses }) ≢ true)
+            (λ f. (f ≡ record { variables = variables; clauses = clauses }) × (is_formula f ≡ true)) }
     {
-        if is_formula(variables, clauses.as_slice()) {
+        if is_formula(variables, &clauses) {
             Some(Formula { variables, clauses })
         } else {
             None
@@ -51,11 +51,11 @@ impl Formula {
     }
 
     /// The clauses, in the order of their numbers from 1 on; None stands for a tautology.
-    pub fn clauses(&self) -> &[Option<Clause>]
+    pub fn clauses(&self) -> &ClauseList
         ensures value { result.now ≡ self.now.clauses }
         ensures form { is_formula self.now ≡ true }
     {
-        self.clauses.as_slice()
+        &self.clauses
     }
 
     /// The number of the literals of the clauses, at most 2^24.
@@ -63,81 +63,51 @@ impl Formula {
         ensures value { result ≡ literals_of self.now.clauses }
         ensures bound { result ≤ 16777216 }
     {
-        match literals_of(self.clauses.as_slice()) {
-            None => 1 << 24,
-            Some(literals) => literals,
-        }
+        self.clauses.literals() as u32
     }
 
     /// The clauses themselves; the formula is given up. Takes no memory.
-    pub fn into_clauses(self) -> Vec<Option<Clause>>
-        ensures { result.items ≡ self.clauses }
+    pub fn into_clauses(self) -> ClauseList
+        ensures { result ≡ self.clauses }
     {
         self.clauses
     }
 }
 
 /// Whether so many variables and these clauses are a formula.
-fn is_formula(variables: u32, clauses: &[Option<Clause>]) -> bool
+fn is_formula(variables: u32, clauses: &ClauseList) -> bool
     ensures { result ≡ is_formula (record { variables = variables; clauses = clauses.now }) }
 {
     is_within_limits(variables, clauses) && are_clauses_of(variables, clauses)
 }
 
-/// Whether each of these clauses is of so many variables.
-fn are_clauses_of(variables: u32, clauses: &[Option<Clause>]) -> bool
-    ensures { result ≡ list_all (is_clause_of variables) clauses.now }
-{
-    clauses.iter().all(|c| is_clause_of(variables, c))
-}
-
 /// Whether so many variables and these clauses are within the limits.
-fn is_within_limits(variables: u32, clauses: &[Option<Clause>]) -> bool
+fn is_within_limits(variables: u32, clauses: &ClauseList) -> bool
     ensures { result ≡ is_within_limits variables clauses.now }
 {
-    variables <= Var::MAX && clauses.len() <= 1 << 20 && has_few_literals(clauses)
+    variables <= Var::MAX && clauses.len() <= 1 << 20 && clauses.literals() <= 1 << 24
 }
 
-/// Whether the clauses have at most 2^24 literals.
-fn has_few_literals(clauses: &[Option<Clause>]) -> bool
-    ensures { result ≡ nat_le (literals_of clauses.now) 16777216 }
+/// Whether each of these clauses is of so many variables.
+fn are_clauses_of(variables: u32, clauses: &ClauseList) -> bool
+    ensures { result ≡ list_all (is_clause_of variables) clauses.now }
 {
-    literals_of(clauses).is_some()
-}
-
-/// The number of the literals of the clauses. None exactly where they have more than 2^24.
-pub fn literals_of(clauses: &[Option<Clause>]) -> Option<u32>
-    ensures value { MatchOption result (16777216 < literals_of clauses.now) (λ n. n ≡ literals_of clauses.now) }
-    ensures bound { IfSome result (λ n. n ≤ 16777216) }
-{
-    let mut left: usize = 1 << 24;
-    for clause in clauses {
-        let size = size_of(clause);
-        if left < size {
-            return None;
+    for place in 0..clauses.len() {
+        if !is_clause_of(variables, clauses, place) {
+            return false;
         }
-        left -= size;
     }
-    Some((1 << 24) - left as u32)
+    true
 }
 
-/// The number of the literals of a clause; a tautology counts none.
-pub fn size_of(clause: &Option<Clause>) -> usize
-    ensures { result ≡ size_of clause.now }
+/// Whether the clause at a place is of so many variables; a tautology needs one.
+fn is_clause_of(variables: u32, clauses: &ClauseList, place: usize) -> bool
+    requires { place < length clauses.now }
+    ensures { result ≡ is_clause_of variables (get_or clauses.now place None) }
 {
-    match clause {
-        None => 0,
-        Some(clause) => clause.lits().len(),
-    }
-}
-
-/// Whether a clause is of so many variables; a tautology needs one.
-fn is_clause_of(variables: u32, clause: &Option<Clause>) -> bool
-    ensures { result ≡ is_clause_of variables clause.now }
-{
-    match clause {
+    match clauses.at(place) {
         None => 1 <= variables,
-        Some(clause) => is_within(variables, clause.lits()),
+        Some(lits) => is_within(variables, lits),
     }
 }
 

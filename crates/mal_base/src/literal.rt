@@ -1,6 +1,6 @@
 //! Variables and literals, as DIMACS CNF numbers them.
 
-ghost use Rattle.std.specs.Prelude.{◌≡◌, ℕ, ◌+◌, ◌-◌, ◌*◌, ◌/◌, ◌%◌, ◌<◌, ◌≤◌, ◌↔◌, ◌==◌, true, IfOk, IsSome, IfSome, pos, int_lt, nat_abs};
+ghost use Rattle.std.specs.Prelude.{◌≡◌, ℕ, ◌+◌, ◌-◌, ◌*◌, ◌/◌, ◌%◌, ◌<◌, ◌≤◌, ◌↔◌, ◌==◌, true, IsTrue, IfOk, IsSome, IfSome, pos, int_lt, nat_abs};
 ghost use Rattle.mal_base.specs.{Literals.{var_of, dimacs_of, negated, literal, has_plus, IsLiteral}, Clauses.{climbs, HaveSame}};
 
 use std::alloc::{AllocError, Global};
@@ -150,14 +150,30 @@ impl Lit {
     {
         self.code
     }
+
     /// These literals by strictly rising code, so each stands once.
     pub fn sorted(alloc: Global, lits: &[Lit]) -> Result<Vec<Lit>, AllocError>
         ensures rising { IfOk result (λ v. climbs v.items ≡ true) }
         ensures same { IfOk result (λ v. HaveSame lits.now v.items) }
     {
         let mut sorted = Vec::from_slice(alloc, lits)?;
-        sorted.sort_unstable();
-        sorted.dedup();
+        Lit::sort(&mut sorted);
         Ok(sorted)
+    }
+
+    /// Puts these literals in the order of strictly rising code, so each stands once. Takes no memory.
+    pub fn sort(lits: &mut Vec<Lit>)
+        ensures rising { climbs lits.new.items ≡ true }
+        ensures same { HaveSame lits.old.items lits.new.items }
+    {
+        lits.sort_unstable();
+        lits.dedup();
+    }
+
+    /// Whether these are the same literals in the same order.
+    pub fn are_same(lits: &[Lit], others: &[Lit]) -> bool
+        ensures { IsTrue result ↔ (lits.now ≡ others.now) }
+    {
+        lits == others
     }
 }

@@ -3,7 +3,7 @@ use Rattle.std.proofs.lemmas.List.Kept.{Contains-dedup_nat, Contains-from_dedup}
 use Rattle.std.proofs.lemmas.List.Sorted.{Contains-permutation, IsPermutation-sym}
 use Rattle.std.proofs.lemmas.Map.Keys.{IsStrictlyIncreasing-dedup}
 use Rattle.mal_base.proofs.Sorting.{climbs-from_increasing}
-use Rattle.mal_base.proofs.literal.Lit.sorted.Goals as goal
+use Rattle.mal_base.proofs.literal.Lit.sort.Goals as goal
 
 pub returns : goal.returns
 returns c =
@@ -12,7 +12,7 @@ returns c =
     record {
       rising = rw is (climbs-from_increasing _ (IsStrictlyIncreasing-dedup _ c.sort_unstable.ensures.sorted));
       same = record {
-        there = λ x h. rw is (Contains-dedup_nat _ x (Contains-permutation _ _ x moved (rw c.in_ok-sorted.ensures.items h)));
-        back = λ x h. rw (← c.in_ok-sorted.ensures.items) (Contains-permutation _ _ x (IsPermutation-sym _ _ moved) (Contains-from_dedup _ _ x (rw is at h)));
+        there = λ x h. rw is (Contains-dedup_nat _ x (Contains-permutation _ _ x moved h));
+        back = λ x h. Contains-permutation _ _ x (IsPermutation-sym _ _ moved) (Contains-from_dedup _ _ x (rw is at h));
       };
     }
