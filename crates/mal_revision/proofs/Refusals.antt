@@ -5,7 +5,6 @@ use Rattle.std.proofs.lemmas.Bool.Decides.{nat_tests}
 use Rattle.mal_base.specs.Clauses.{rises, climbs, HaveSame, IsTautology, clash}
 use Rattle.mal_base.proofs.Sorting.{Contains-head, Contains-later, Contains-cases, and-left, and-right, and-both, rises-apart}
 use Rattle.mal_base.proofs.Tautologies.{rises-from_sorted, rising-unique, consistent-from_sorted}
-use Rattle.mal_base.specs.declared.limit_kind.LimitKind.{LimitKind}
 use Rattle.mal_base.specs.declared.limit_kind.LimitKind.TheVariants.{Variables, Clauses, Literals}
 use Rattle.mal_base.specs.Formulas.{literals_of, is_within, is_clause_of, is_within_limits}
 use Rattle.mal_revision.specs.Posted.{Posted, is_posted}
@@ -96,17 +95,7 @@ pub made-shared : (r : Result Posted RevisionFault) (p : Posted) (v : ℕ) (cs :
 made-shared (Ok x) p v cs lits is made = rw is made
 made-shared (Err e) p v cs lits is made = search
 
--- a number of literals says that no limit is passed, and a limit that it is the one
-pub limited-within : (r : Result ℕ LimitKind) (n v : ℕ) (ds cs : List (Option (List ℕ))) → ds ≡ cs → r ≡ Ok n → IfOk r (λ x. limit_passed v ds ≡ None) → limit_passed v cs ≡ None
-limited-within (Ok x) n v ds cs same is limited = rw (← same) limited
-limited-within (Err e) n v ds cs same is limited = absurd (cc is)
-
-pub passed-within : (r : Result ℕ LimitKind) (which : LimitKind) (v : ℕ) (ds cs : List (Option (List ℕ))) → ds ≡ cs → r ≡ Err which → IfErr r (λ x. limit_passed v ds ≡ Some x) → limit_passed v cs ≡ Some which
-passed-within (Ok x) which v ds cs same is passed = absurd (cc is)
-passed-within (Err e) which v ds cs same is passed =
-    let own : limit_passed v ds ≡ Some e = passed in
-    cc (own, same, is)
-
+-- sorted literals without a clash are of no tautology
 pub consistent-from_tests : (lits sorted : List ℕ) → HaveSame lits sorted → climbs sorted ≡ true → clash sorted ≡ None → IsTautology lits → ⊥
 consistent-from_tests lits sorted same up none = consistent-from_sorted lits sorted same (rises-from_sorted sorted up none)
 

@@ -6,37 +6,34 @@ ghost use Rattle.mal_revision.specs.{Posted.{Posted, is_posted}, Refused.{IsMade
 
 use crate::fault::RevisionFault;
 use crate::scan;
-use mal_base::{Clause, Lit};
+use mal_base::{ClauseList, Lit};
 use std::alloc::{AllocError, Global};
 use std::marker::Model;
 use std::sync::Arc;
 
 /// A revision of a job: the number of its variables (at most 65,536), its clauses (at most 2^20 with at most 2^24
 /// literals; None stands for a tautology, which keeps its number and counts no literal) and its assumptions, by
-/// strictly rising variable. Contracts see the three. Copies share the lists, and the number of the literals is kept
-/// beside them, so that a copy and the limits take no walk over the clauses.
+/// strictly rising variable. Contracts see the three. Copies share the lists, so that a copy takes no walk over the
+/// clauses.
 #[derive(Drop)]
 pub struct Revision {
     variables: u32,
-    literals: u32,
-    clauses: Arc<Vec<Option<Clause>>>,
+    clauses: Arc<ClauseList>,
     assumptions: Arc<Vec<Lit>>,
 }
 
 impl Model for Revision {
     ghost use Rattle.std.specs.Prelude.{◌≡◌, true};
     ghost use Rattle.std.specs.Arc.{arc_value};
-    ghost use Rattle.mal_base.specs.Formulas.{literals_of};
     ghost use Rattle.mal_revision.specs.Posted.{Posted, is_posted};
 
     ghost Value = { Posted };
 
-    ghost view = { λ r. record { variables = r.variables; clauses = (arc_value r.clauses).items; assumptions = (arc_value r.assumptions).items } };
+    ghost view = { λ r. record { variables = r.variables; clauses = arc_value r.clauses; assumptions = (arc_value r.assumptions).items } };
 
-    ghost invariant = { λ r. (is_posted
-        (record { variables = r.variables; clauses = (arc_value r.clauses).items; assumptions = (arc_value r.assumptions).items })
-        ≡ true)
-        × (r.literals ≡ literals_of (arc_value r.clauses).items) };
+    ghost invariant = { λ r. is_posted
+        (record { variables = r.variables; clauses = arc_value r.clauses; assumptions = (arc_value r.assumptions).items })
+        ≡ true };
 }
 
 impl Revision {
@@ -49,15 +46,15 @@ impl Revision {
     pub fn new(
         alloc: Global,
         variables: u32,
-        clauses: Vec<Option<Clause>>,
+        clauses: ClauseList,
         assumptions: &[Lit],
     ) -> Result<Revision, RevisionFault>
-        ensures made { IfOk result (λ r. IsMadeOf variables clauses.items assumptions.now r) }
-        ensures refused { IfErr result (λ e. IsRefused variables clauses.items assumptions.now e) }
+        ensures made { IfOk result (λ r. IsMadeOf variables clauses assumptions.now r) }
+        ensures refused { IfErr result (λ e. IsRefused variables clauses assumptions.now e) }
         ensures fits { is_posted
-            (record { variables = variables; clauses = clauses.items; assumptions = assumptions.now }) ≡ true
+            (record { variables = variables; clauses = clauses; assumptions = assumptions.now }) ≡ true
             → MatchResult result
-            (λ r. r ≡ record { variables = variables; clauses = clauses.items; assumptions = assumptions.now })
+            (λ r. r ≡ record { variables = variables; clauses = clauses; assumptions = assumptions.now })
             (λ e. e ≡ OutOfMemory) }
     {
         let Ok(sorted) = Lit::sorted(alloc, assumptions) else {
@@ -70,42 +67,40 @@ impl Revision {
     fn of_sorted(
         alloc: Global,
         variables: u32,
-        clauses: Vec<Option<Clause>>,
+        clauses: ClauseList,
         assumptions: &[Lit],
         sorted: Vec<Lit>,
     ) -> Result<Revision, RevisionFault>
         requires rising { climbs sorted.items ≡ true }
         requires same { HaveSame assumptions.now sorted.items }
-        ensures made { IfOk result (λ r. IsMadeOf variables clauses.items assumptions.now r) }
-        ensures refused { IfErr result (λ e. IsRefused variables clauses.items assumptions.now e) }
+        ensures made { IfOk result (λ r. IsMadeOf variables clauses assumptions.now r) }
+        ensures refused { IfErr result (λ e. IsRefused variables clauses assumptions.now e) }
     {
         match scan::opposite(sorted.as_slice()) {
             Some(var) => return Err(RevisionFault::Opposite { var }),
             None => {}
         }
-        match scan::above_parts(variables, clauses.as_slice(), assumptions) {
+        match scan::above_parts(variables, &clauses, assumptions) {
             Some(var) => return Err(RevisionFault::VarTooLarge { var }),
             None => {}
         }
-        match scan::literals_within(variables, clauses.as_slice()) {
-            Err(which) => Err(RevisionFault::Limit { which }),
-            Ok(literals) => Revision::shared(alloc, variables, literals, clauses, sorted),
+        match scan::limit_passed(variables, &clauses) {
+            Some(which) => Err(RevisionFault::Limit { which }),
+            None => Revision::shared(alloc, variables, clauses, sorted),
         }
     }
 
-    /// The revision of these parts, of which the clauses have so many literals. Its lists are shared from now on.
+    /// The revision of these parts. Its lists are shared from now on.
     fn shared(
         alloc: Global,
         variables: u32,
-        literals: u32,
-        clauses: Vec<Option<Clause>>,
+        clauses: ClauseList,
         assumptions: Vec<Lit>,
     ) -> Result<Revision, RevisionFault>
-        requires form { is_posted
-            (record { variables = variables; clauses = clauses.items; assumptions = assumptions.items }) ≡ true }
-        requires sum { literals ≡ literals_of clauses.items }
+        requires { is_posted (record { variables = variables; clauses = clauses; assumptions = assumptions.items })
+            ≡ true }
         ensures { MatchResult result
-            (λ r. r ≡ record { variables = variables; clauses = clauses.items; assumptions = assumptions.items })
+            (λ r. r ≡ record { variables = variables; clauses = clauses; assumptions = assumptions.items })
             (λ e. e ≡ OutOfMemory) }
     {
         let Ok(clauses) = Arc::new(alloc, clauses) else {
@@ -116,7 +111,6 @@ impl Revision {
         };
         Ok(Revision {
             variables,
-            literals,
             clauses,
             assumptions,
         })
@@ -129,7 +123,6 @@ impl Revision {
     {
         Ok(Revision {
             variables: self.variables,
-            literals: self.literals,
             clauses: Arc::try_clone(&self.clauses)?,
             assumptions: Arc::try_clone(&self.assumptions)?,
         })
@@ -142,10 +135,10 @@ impl Revision {
         if self.variables != other.variables {
             return false;
         }
-        if !have_same(self.assumptions.as_slice(), other.assumptions.as_slice()) {
+        if !Lit::are_same(self.assumptions.as_slice(), other.assumptions.as_slice()) {
             return false;
         }
-        are_same(self.clauses.as_slice(), other.clauses.as_slice())
+        self.clauses.same(&other.clauses)
     }
 
     /// The number of variables, at most 65,536.
@@ -156,20 +149,20 @@ impl Revision {
         self.variables
     }
 
-    /// The number of the literals of the clauses, at most 2^24. It is kept, and takes no count.
+    /// The number of the literals of the clauses, at most 2^24. It takes no count.
     pub fn literals(&self) -> u32
         ensures value { result ≡ literals_of self.now.clauses }
         ensures bound { result ≤ 2 ^ 24 }
     {
-        self.literals
+        self.clauses.literals() as u32
     }
 
     /// The clauses, in the order of their numbers; None stands for a tautology.
-    pub fn clauses(&self) -> &[Option<Clause>]
+    pub fn clauses(&self) -> &ClauseList
         ensures value { result.now ≡ self.now.clauses }
         ensures form { is_posted self.now ≡ true }
     {
-        self.clauses.as_slice()
+        &self.clauses
     }
 
     /// The assumptions, by strictly rising variable.
@@ -179,37 +172,4 @@ impl Revision {
     {
         self.assumptions.as_slice()
     }
-}
-
-/// Whether these are the same clauses in the same order.
-fn are_same(clauses: &[Option<Clause>], others: &[Option<Clause>]) -> bool
-    ensures { IsTrue result ↔ (clauses.now ≡ others.now) }
-{
-    if clauses.len() != others.len() {
-        return false;
-    }
-    for i in 0..clauses.len() {
-        if !is_same(&clauses[i], &others[i]) {
-            return false;
-        }
-    }
-    true
-}
-
-/// Whether these are the same clause, or both none.
-fn is_same(clause: &Option<Clause>, other: &Option<Clause>) -> bool
-    ensures { IsTrue result ↔ (clause.now ≡ other.now) }
-{
-    match (clause, other) {
-        (None, None) => true,
-        (Some(clause), Some(other)) => have_same(clause.lits(), other.lits()),
-        _ => false,
-    }
-}
-
-/// Whether these are the same literals in the same order.
-fn have_same(lits: &[Lit], others: &[Lit]) -> bool
-    ensures { IsTrue result ↔ (lits.now ≡ others.now) }
-{
-    lits == others
 }

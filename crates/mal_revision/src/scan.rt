@@ -1,11 +1,11 @@
 //! What a revision's parts are tested for.
 
-ghost use Rattle.std.specs.Prelude.{◌≡◌, ◌<◌, true, Some, None, IfOk, IfErr};
+ghost use Rattle.std.specs.Prelude.{◌≡◌, ◌<◌, true, length, get_or, None};
 ghost use Rattle.std.specs.List.{list_all};
-ghost use Rattle.mal_base.specs.{Clauses.{clash}, Formulas.{is_within, is_clause_of, literals_of}};
+ghost use Rattle.mal_base.specs.{Clauses.{clash}, Formulas.{is_within, is_clause_of}};
 ghost use Rattle.mal_revision.specs.Refused.{above, above_in, first_above, or_else, limit_passed};
 
-use mal_base::{Clause, LimitKind, Lit, Var, literals_of};
+use mal_base::{ClauseList, LimitKind, Lit, Var};
 
 /// The first variable that two literals in a row have.
 pub fn opposite(lits: &[Lit]) -> Option<Var>
@@ -37,25 +37,26 @@ fn above(variables: u32, lits: &[Lit]) -> Option<Var>
     None
 }
 
-/// The variable of the first literal of a clause that is above this one; a tautology needs one variable.
-fn above_in(variables: u32, clause: &Option<Clause>) -> Option<Var>
-    ensures value { result ≡ above_in variables clause.now }
-    ensures form { result ≡ None → is_clause_of variables clause.now ≡ true }
+/// The variable of the first literal of the clause at a place that is above this one; a tautology needs one variable.
+fn above_at(variables: u32, clauses: &ClauseList, place: usize) -> Option<Var>
+    requires { place < length clauses.now }
+    ensures value { result ≡ above_in variables (get_or clauses.now place None) }
+    ensures form { result ≡ None → is_clause_of variables (get_or clauses.now place None) ≡ true }
 {
-    match clause {
+    match clauses.at(place) {
         None if variables < 1 => Some(Var::of(1)),
         None => None,
-        Some(clause) => above(variables, clause.lits()),
+        Some(lits) => above(variables, lits),
     }
 }
 
 /// The variable of the first literal of the clauses that is above this one.
-fn first_above(variables: u32, clauses: &[Option<Clause>]) -> Option<Var>
+fn first_above(variables: u32, clauses: &ClauseList) -> Option<Var>
     ensures value { result ≡ first_above variables clauses.now }
     ensures form { result ≡ None → list_all (is_clause_of variables) clauses.now ≡ true }
 {
-    for clause in clauses {
-        match above_in(variables, clause) {
+    for place in 0..clauses.len() {
+        match above_at(variables, clauses, place) {
             Some(var) => return Some(var),
             None => {}
         }
@@ -64,7 +65,7 @@ fn first_above(variables: u32, clauses: &[Option<Clause>]) -> Option<Var>
 }
 
 /// The variable of the first literal of the clauses, and then of the assumptions, that is above this one.
-pub fn above_parts(variables: u32, clauses: &[Option<Clause>], assumptions: &[Lit]) -> Option<Var>
+pub fn above_parts(variables: u32, clauses: &ClauseList, assumptions: &[Lit]) -> Option<Var>
     ensures value { result ≡ or_else (first_above variables clauses.now) (above variables assumptions.now) }
     ensures form { result ≡ None → list_all (is_clause_of variables) clauses.now ≡ true }
     ensures assumed { result ≡ None → is_within variables assumptions.now ≡ true }
@@ -75,20 +76,18 @@ pub fn above_parts(variables: u32, clauses: &[Option<Clause>], assumptions: &[Li
     }
 }
 
-/// The number of the literals of the clauses, or the first limit that these variables and clauses pass.
-pub fn literals_within(variables: u32, clauses: &[Option<Clause>]) -> Result<u32, LimitKind>
-    ensures within { IfOk result (λ n. limit_passed variables clauses.now ≡ None) }
-    ensures number { IfOk result (λ n. n ≡ literals_of clauses.now) }
-    ensures passed { IfErr result (λ which. limit_passed variables clauses.now ≡ Some which) }
+/// The first limit that these variables and clauses pass.
+pub fn limit_passed(variables: u32, clauses: &ClauseList) -> Option<LimitKind>
+    ensures { result ≡ limit_passed variables clauses.now }
 {
     if variables > Var::MAX {
-        return Err(LimitKind::Variables);
+        return Some(LimitKind::Variables);
     }
     if clauses.len() > 1 << 20 {
-        return Err(LimitKind::Clauses);
+        return Some(LimitKind::Clauses);
     }
-    match literals_of(clauses) {
-        None => Err(LimitKind::Literals),
-        Some(literals) => Ok(literals),
+    if clauses.literals() > 1 << 24 {
+        return Some(LimitKind::Literals);
     }
+    None
 }

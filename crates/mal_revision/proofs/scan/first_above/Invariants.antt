@@ -4,5 +4,5 @@ use Rattle.mal_base.specs.Formulas.{is_clause_of}
 use Rattle.mal_revision.specs.Refused.{first_above}
 use Rattle.mal_revision.proofs.scan.first_above.Given as goal
 
-abbrev pub invariant-loop-clause : goal.invariant-loop-clause
-invariant-loop-clause l = record { rest : first_above l.variables (drop l.clause-index l.clauses) ≡ first_above l.variables l.clauses; passed : list_all (is_clause_of l.variables) (take l.clause-index l.clauses) ≡ true }
+abbrev pub invariant-loop-place : goal.invariant-loop-place
+invariant-loop-place l = record { rest : first_above l.variables (drop l.place l.clauses) ≡ first_above l.variables l.clauses; passed : list_all (is_clause_of l.variables) (take l.place l.clauses) ≡ true }

@@ -4,7 +4,7 @@ use Rattle.mal_base.specs.Clauses.{clash}
 use Rattle.mal_base.proofs.Tautologies.{opposite-from_sorted}
 use Rattle.mal_base.specs.Formulas.{is_within, is_clause_of}
 use Rattle.mal_revision.specs.Refused.{or_else, first_above, above, limit_passed}
-use Rattle.mal_revision.proofs.Refusals.{posted-from_tests, made-from_tests, made-shared, limited-within, passed-within, consistent-from_tests}
+use Rattle.mal_revision.proofs.Refusals.{posted-from_tests, made-from_tests, made-shared, consistent-from_tests}
 use Rattle.mal_revision.proofs.revision.Revision.of_sorted.Goals as goal
 
 pub returns-in-Some-clause-refused : goal.returns-in-Some-clause-refused
@@ -17,29 +17,29 @@ returns-in-Some-above_parts-clause-refused c =
     let none : clash c.args.sorted.items ≡ None = cc (c.as_slice.ensures.value, c.opposite.ensures, c.in-None.is) in
     record {
       consistent = consistent-from_tests _ _ c.requires.same c.requires.rising none;
-      first = cc (c.as_slice-2.ensures.value, c.above_parts.ensures.value, c.in-Some-above_parts.is);
+      first = cc (c.above_parts.ensures.value, c.in-Some-above_parts.is);
     }
 
-pub returns-in-Err-clause-refused : goal.returns-in-Err-clause-refused
-returns-in-Err-clause-refused c =
+pub returns-in-Some-limit_passed-clause-refused : goal.returns-in-Some-limit_passed-clause-refused
+returns-in-Some-limit_passed-clause-refused c =
     let none : clash c.args.sorted.items ≡ None = cc (c.as_slice.ensures.value, c.opposite.ensures, c.in-None.is) in
     record {
       consistent = consistent-from_tests _ _ c.requires.same c.requires.rising none;
-      within = cc (c.as_slice-2.ensures.value, c.above_parts.ensures.value, c.in-None-above_parts.is);
-      first = passed-within _ _ _ _ _ c.as_slice-3.ensures.value c.in-Err.is c.literals_within.ensures.passed;
+      within = cc (c.above_parts.ensures.value, c.in-None-above_parts.is);
+      first = cc (c.limit_passed.ensures, c.in-Some-limit_passed.is);
     }
 
-pub shared-requires-clause-form : goal.shared-requires-clause-form
-shared-requires-clause-form c =
+pub shared-requires : goal.shared-requires
+shared-requires c =
     let none : clash c.args.sorted.items ≡ None = cc (c.as_slice.ensures.value, c.opposite.ensures, c.in-None.is) in
     let assumed : is_within c.args.variables c.args.assumptions.now ≡ true = c.above_parts.ensures.assumed c.in-None-above_parts.is in
-    let forms : list_all (is_clause_of c.args.variables) c.args.clauses.items ≡ true = rw (← c.as_slice-2.ensures.value) (c.above_parts.ensures.form c.in-None-above_parts.is) in
-    let limited : limit_passed c.args.variables c.args.clauses.items ≡ None = limited-within _ _ _ _ _ c.as_slice-3.ensures.value c.in-Ok.is c.literals_within.ensures.within in
-    posted-from_tests c.args.variables c.args.clauses.items c.args.assumptions.now c.args.sorted.items c.requires.same c.requires.rising none assumed forms limited
+    let forms : list_all (is_clause_of c.args.variables) c.args.clauses ≡ true = c.above_parts.ensures.form c.in-None-above_parts.is in
+    let limited : limit_passed c.args.variables c.args.clauses ≡ None = cc (c.limit_passed.ensures, c.in-None-limit_passed.is) in
+    posted-from_tests c.args.variables c.args.clauses c.args.assumptions.now c.args.sorted.items c.requires.same c.requires.rising none assumed forms limited
 
-pub returns-in-Ok-clause-made : goal.returns-in-Ok-clause-made
-returns-in-Ok-clause-made c =
+pub returns-in-None-limit_passed-clause-made : goal.returns-in-None-limit_passed-clause-made
+returns-in-None-limit_passed-clause-made c =
     let none : clash c.args.sorted.items ≡ None = cc (c.as_slice.ensures.value, c.opposite.ensures, c.in-None.is) in
-    let within : or_else (first_above c.args.variables c.args.clauses.items) (above c.args.variables c.args.assumptions.now) ≡ None = cc (c.as_slice-2.ensures.value, c.above_parts.ensures.value, c.in-None-above_parts.is) in
-    let limited : limit_passed c.args.variables c.args.clauses.items ≡ None = limited-within _ _ _ _ _ c.as_slice-3.ensures.value c.in-Ok.is c.literals_within.ensures.within in
-    made-shared _ _ _ _ _ c.shared.ensures (made-from_tests c.args.variables c.args.clauses.items c.args.assumptions.now c.args.sorted.items c.requires.same c.requires.rising none within limited)
+    let within : or_else (first_above c.args.variables c.args.clauses) (above c.args.variables c.args.assumptions.now) ≡ None = cc (c.above_parts.ensures.value, c.in-None-above_parts.is) in
+    let limited : limit_passed c.args.variables c.args.clauses ≡ None = cc (c.limit_passed.ensures, c.in-None-limit_passed.is) in
+    made-shared _ _ _ _ _ c.shared.ensures (made-from_tests c.args.variables c.args.clauses c.args.assumptions.now c.args.sorted.items c.requires.same c.requires.rising none within limited)
