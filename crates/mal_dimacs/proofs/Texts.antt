@@ -35,10 +35,11 @@ abbrev pub formula_of : ℕ → List (Option (List ℕ)) → Formulated
 formula_of variables clauses = record { variables = variables; clauses = clauses }
 
 -- the header and then the clauses
-pub block_written : (old one two : List ℕ) (v : ℕ) (cs : List (Option (List ℕ))) → one ≡ old ++ line_of (header_words v (length cs)) → two ≡ one ++ flat_map (λ c. line_of (clause_words c)) cs → two ≡ old ++ text_of (formula_rows (formula_of v cs))
-block_written old one two v cs e g =
+pub block_written : (old one two : List ℕ) (v n : ℕ) (cs : List (Option (List ℕ))) → n ≡ length cs → one ≡ old ++ line_of (header_words v n) → two ≡ one ++ flat_map (λ c. line_of (clause_words c)) cs → two ≡ old ++ text_of (formula_rows (formula_of v cs))
+block_written old one two v n cs count e g =
     g ∙ ap (λ (bytes : List ℕ). bytes ++ flat_map (λ c. line_of (clause_words c)) cs) e
-    ∙ append_assoc old (line_of (header_words v (length cs))) (flat_map (λ c. line_of (clause_words c)) cs)
+    ∙ append_assoc old (line_of (header_words v n)) (flat_map (λ c. line_of (clause_words c)) cs)
+    ∙ ap (λ (m : ℕ). old ++ (line_of (header_words v m) ++ flat_map (λ c. line_of (clause_words c)) cs)) count
     ∙ ap (λ (bytes : List ℕ). old ++ (line_of (header_words v (length cs)) ++ bytes)) (sym (flat_map-map line_of clause_words cs))
 
 pub formula_written : (old out : List ℕ) (f : Formulated) (v : ℕ) (cs : List (Option (List ℕ))) → v ≡ f.variables → cs ≡ f.clauses → old ≡ [] → out ≡ old ++ text_of (formula_rows (formula_of v cs)) → out ≡ spelling f

@@ -1,3 +1,4 @@
 pub mod Reads
 pub mod Counts
 pub mod Spaced
+pub mod Merged

@@ -1,28 +1,27 @@
 //! A reader of one block: a header and the lines of clauses behind it.
 
-ghost use Rattle.std.specs.Prelude.{◌≡◌, ◌≤◌, ◌∷◌, ◌++◌, [], true, nat_abs, Ok};
-ghost use Rattle.mal_base.specs.Formulas.{is_clause_of, size_of};
+ghost use Rattle.std.specs.Prelude.{◌≡◌, ◌≤◌, ◌∷◌, ◌++◌, [], true, nat_abs, Ok, OnOk, OnErr};
+ghost use Rattle.mal_base.specs.{Clauses.{rises}, Formulas.{is_clause_of, size_of}};
 ghost use Rattle.spec_text.specs.{Inputs.{words_of}, Numbers.{number_in}};
 ghost use Rattle.spec_dimacs.specs.{Merged.{clause_of}, Blocks.{IsBlock}, Reading.{Block, after_counted, after_number, after_percent, after_row, after_words, after_zero, closed, code_of, ended, opened}};
-ghost use Rattle.mal_dimacs.specs.Reads.{Gives, Leaves};
+ghost use Rattle.mal_dimacs.specs.{Merged.{merged}, Reads.{Gives, Leaves}};
 ghost use Rattle.mal_base.specs.declared.stage.Stage.TheVariants as stage;
 
 use crate::fault::DimacsError;
 use crate::header::counts;
-use crate::words::{clause_of, is_comment, literal};
-use mal_base::{BlockFault, Clause, Formula, LimitKind, Lit, Stage, size_of};
+use crate::words::{is_comment, literal, merge};
+use mal_base::{BlockFault, ClauseList, Formula, LimitKind, Lit, Stage};
 use mal_text::{NumberFault, first_word, number};
-use std::alloc::Global;
+use std::alloc::{AllocError, Global};
 use std::marker::Model;
 
 /// A block of which some lines are read: the header, and then lines of clauses. Contracts see the numbers of the
 /// header, the clauses that are closed, and the literals that wait for a 0.
 #[derive(Drop)]
 pub struct BlockReader {
-    alloc: Global,
     variables: u32,
     declared: u32,
-    clauses: Vec<Option<Clause>>,
+    clauses: ClauseList,
     found: u64,
     literals: u32,
     pending: Vec<Lit>,
@@ -34,10 +33,10 @@ impl Model for BlockReader {
 
     ghost Value = { Block };
 
-    ghost view = { λ b. record { variables = b.variables; declared = b.declared; clauses = b.clauses.items; found = b.found; literals = b.literals; pending = b.pending.items; stage = b.stage } };
+    ghost view = { λ b. record { variables = b.variables; declared = b.declared; clauses = b.clauses; found = b.found; literals = b.literals; pending = b.pending.items; stage = b.stage } };
 
     ghost invariant = { λ b. IsBlock
-        (record { variables = b.variables; declared = b.declared; clauses = b.clauses.items; found = b.found; literals = b.literals; pending = b.pending.items; stage = b.stage }) };
+        (record { variables = b.variables; declared = b.declared; clauses = b.clauses; found = b.found; literals = b.literals; pending = b.pending.items; stage = b.stage }) };
 }
 
 impl BlockReader {
@@ -50,10 +49,9 @@ impl BlockReader {
     {
         match counts(line) {
             Ok((variables, declared)) => Ok(BlockReader {
-                alloc,
                 variables,
                 declared,
-                clauses: Vec::new(alloc),
+                clauses: ClauseList::new(alloc),
                 found: 0,
                 literals: 0,
                 pending: Vec::new(alloc),
@@ -183,16 +181,17 @@ impl BlockReader {
     fn close(&mut self) -> Result<(), DimacsError>
         ensures { Leaves result self.new (closed (clause_of self.old.pending) self.old) }
     {
-        let clause = clause_of(self.alloc, self.variables, self.pending.as_slice())?;
-        self.add(clause)
+        let is_clause = merge(self.variables, &mut self.pending);
+        self.add(is_clause)
     }
 
-    /// Adds a closed clause, where the limit of the literals allows it. It is kept where it is one of those declared.
-    fn add(&mut self, clause: Option<Clause>) -> Result<(), DimacsError>
-        requires { is_clause_of self.old.variables clause ≡ true }
-        ensures { Leaves result self.new (closed clause self.old) }
+    /// Adds the clause of the literals that wait for a 0, or a tautology, where the limit of the literals allows it. It
+    /// is kept where it is one of those declared.
+    fn add(&mut self, is_clause: bool) -> Result<(), DimacsError>
+        requires { is_clause_of self.old.variables (merged is_clause self.old.pending) ≡ true }
+        ensures { Leaves result self.new (closed (merged is_clause self.old.pending) self.old) }
     {
-        let size = size_of(&clause);
+        let size = size_of(is_clause, self.pending.as_slice());
         let left = (1 << 24) - self.literals as usize;
         if size > left {
             return Err(DimacsError::Fault(BlockFault::Limit {
@@ -200,8 +199,7 @@ impl BlockReader {
             }));
         }
         if self.clauses.len() < self.declared as usize {
-            self.clauses.reserve(1)?;
-            self.clauses.push_reserved(clause);
+            keep(&mut self.clauses, is_clause, self.pending.as_slice())?;
         }
         self.found = self.found.saturating_add(1);
         self.literals += size as u32;
@@ -229,5 +227,25 @@ impl BlockReader {
             Some(formula) => Ok(formula),
             None => unreachable!(),
         }
+    }
+}
+
+/// The number of the literals of a clause; a tautology counts none.
+fn size_of(is_clause: bool, lits: &[Lit]) -> usize
+    ensures { result ≡ size_of (merged is_clause lits.now) }
+{
+    if is_clause { lits.len() } else { 0 }
+}
+
+/// Puts the clause of these literals, or a tautology, behind the others.
+fn keep(clauses: &mut ClauseList, is_clause: bool, lits: &[Lit]) -> Result<(), AllocError>
+    requires { is_clause ≡ true → rises lits.now ≡ true }
+    ensures ok { OnOk result (clauses.new ≡ clauses.old ++ merged is_clause lits.now ∷ []) }
+    ensures err { OnErr result (clauses.new ≡ clauses.old) }
+{
+    if is_clause {
+        clauses.push_rising(lits)
+    } else {
+        clauses.push_tautology()
     }
 }

@@ -1,13 +1,13 @@
 //! What a word is, and the literal that a number stands for.
 
-ghost use Rattle.std.specs.Prelude.{◌≡◌, ◌≤◌, true, nat_abs, IfOk};
+ghost use Rattle.std.specs.Prelude.{◌≡◌, ◌≤◌, true, nat_abs};
 ghost use Rattle.mal_base.specs.Formulas.{is_clause_of, is_within};
 ghost use Rattle.spec_text.specs.Inputs.{words_of};
 ghost use Rattle.spec_dimacs.specs.{Merged.{clause_of}, Rows.{is_comment, is_passed}, Reading.{code_of}};
+ghost use Rattle.mal_dimacs.specs.Merged.{merged};
 
 use mal_base::{Clause, Lit};
 use mal_text::first_word;
-use std::alloc::{AllocError, Global};
 
 /// Whether a word begins a comment.
 pub fn is_comment(word: &[u8]) -> bool
@@ -31,13 +31,15 @@ pub fn literal(number: i64) -> Lit
     }
 }
 
-/// The clause that literals of the first variables make, each once and by rising variable; none for a tautology.
-pub fn clause_of(alloc: Global, variables: u32, lits: &[Lit]) -> Result<Option<Clause>, AllocError>
-    requires { is_within variables lits.now ≡ true }
-    ensures made { IfOk result (λ c. c ≡ clause_of lits.now) }
-    ensures form { IfOk result (λ c. is_clause_of variables c ≡ true) }
+/// Puts literals of the first variables in the order of the clause that they make, each once. Whether they make one:
+/// else they are a tautology. Takes no memory.
+pub fn merge(variables: u32, lits: &mut Vec<Lit>) -> bool
+    requires { is_within variables lits.old.items ≡ true }
+    ensures made { merged result lits.new.items ≡ clause_of lits.old.items }
+    ensures form { is_clause_of variables (merged result lits.new.items) ≡ true }
+    ensures within { is_within variables lits.new.items ≡ true }
 {
-    Clause::of_lits(alloc, lits)
+    Clause::merge(lits)
 }
 
 /// Whether a line is passed over: it has no word, or is a comment.

@@ -1,11 +1,11 @@
 //! Writing formulas as DIMACS CNF.
 
-ghost use Rattle.std.specs.Prelude.{◌≡◌, ◌++◌, flat_map, IfOk, OnOk};
+ghost use Rattle.std.specs.Prelude.{◌≡◌, ◌<◌, ◌++◌, flat_map, length, get_or, None, IfOk, OnOk};
 ghost use Rattle.spec_text.specs.Lines.{line_of, text_of};
 ghost use Rattle.spec_dimacs.specs.Written.{clause_words, closed_words, formula_rows, header_words, spelling};
 ghost use Rattle.mal_dimacs.specs.Spaced.{spaced};
 
-use mal_base::{Clause, Formula, Lit};
+use mal_base::{ClauseList, Formula, Lit};
 use mal_text::{end_line, put_decimal, put_line, put_number};
 use std::alloc::{AllocError, Global};
 
@@ -21,11 +21,7 @@ pub fn write(alloc: Global, formula: &Formula) -> Result<Vec<u8>, AllocError>
 
 /// Writes the lines of the formula of these variables and clauses behind a text, as `write` does. Where memory is
 /// refused, some of the lines are written.
-pub fn put_block(
-    out: &mut Vec<u8>,
-    variables: u32,
-    clauses: &[Option<Clause>],
-) -> Result<(), AllocError>
+pub fn put_block(out: &mut Vec<u8>, variables: u32, clauses: &ClauseList) -> Result<(), AllocError>
     ensures { OnOk result
         (out.new.items
         ≡ out.old.items ++ text_of (formula_rows (record { variables = variables; clauses = clauses.now }))) }
@@ -47,26 +43,27 @@ fn put_header(out: &mut Vec<u8>, variables: u32, clauses: usize) -> Result<(), A
 }
 
 /// Writes a line for each clause.
-fn put_clauses(out: &mut Vec<u8>, clauses: &[Option<Clause>]) -> Result<(), AllocError>
+fn put_clauses(out: &mut Vec<u8>, clauses: &ClauseList) -> Result<(), AllocError>
     ensures { OnOk result (out.new.items ≡ out.old.items ++ flat_map (λ c. line_of (clause_words c)) clauses.now) }
 {
-    for clause in clauses {
-        put_clause(out, clause)?;
+    for place in 0..clauses.len() {
+        put_clause(out, clauses, place)?;
     }
     Ok(())
 }
 
-/// Writes the line of a clause, or of a tautology.
-fn put_clause(out: &mut Vec<u8>, clause: &Option<Clause>) -> Result<(), AllocError>
-    ensures { OnOk result (out.new.items ≡ out.old.items ++ line_of (clause_words clause.now)) }
+/// Writes the line of the clause at a place, or of a tautology.
+fn put_clause(out: &mut Vec<u8>, clauses: &ClauseList, place: usize) -> Result<(), AllocError>
+    requires { place < length clauses.now }
+    ensures { OnOk result (out.new.items ≡ out.old.items ++ line_of (clause_words (get_or clauses.now place None))) }
 {
-    match clause {
+    match clauses.at(place) {
         None => {
             put_line(out, b"1", &[b"-1", b"0"])?;
             Ok(())
         }
-        Some(clause) => {
-            put_closed(out, clause.lits())?;
+        Some(lits) => {
+            put_closed(out, lits)?;
             Ok(())
         }
     }

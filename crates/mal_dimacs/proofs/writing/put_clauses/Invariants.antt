@@ -3,5 +3,5 @@ use Rattle.spec_text.specs.Lines.{line_of}
 use Rattle.spec_dimacs.specs.Written.{clause_words}
 use Rattle.mal_dimacs.proofs.writing.put_clauses.Given as goal
 
-abbrev pub invariant-loop-clause : goal.invariant-loop-clause
-invariant-loop-clause l = l.out.items ≡ l.fn.out.items ++ flat_map (λ c. line_of (clause_words c)) (take l.clause-index l.clauses)
+abbrev pub invariant-loop-place : goal.invariant-loop-place
+invariant-loop-place l = l.out.items ≡ l.fn.out.items ++ flat_map (λ c. line_of (clause_words c)) (take l.place l.clauses)
