@@ -1,11 +1,11 @@
 //! Whether an assignment satisfies a formula and assumptions.
 #![tactic(auto)]
 
-ghost use Rattle.std.specs.Prelude.{◌≡◌};
+ghost use Rattle.std.specs.Prelude.{◌≡◌, ◌<◌, length, get_or, None};
 ghost use Rattle.std.specs.List.{list_all, list_any};
 ghost use Rattle.spec_logic.specs.Logic.{value_of, is_true_in, satisfies_clause, satisfies, satisfies_with};
 
-use mal_base::{Clause, Formula, Lit, Var};
+use mal_base::{ClauseList, Formula, Lit, Var};
 
 /// Whether every clause of the formula has a true literal and every assumption is true, where `model` lists the truth
 /// values of the variables from 1 on. A variable past its end is false, and a tautology has a true literal. Takes no
@@ -17,19 +17,25 @@ pub fn satisfies(formula: &Formula, assumptions: &[Lit], model: &[bool]) -> bool
 }
 
 /// Whether every clause is satisfied.
-fn are_satisfied(model: &[bool], clauses: &[Option<Clause>]) -> bool
+fn are_satisfied(model: &[bool], clauses: &ClauseList) -> bool
     ensures { result ≡ satisfies model.now clauses.now }
 {
-    clauses.iter().all(|clause| is_satisfied(model, clause))
+    for place in 0..clauses.len() {
+        if !is_satisfied(model, clauses, place) {
+            return false;
+        }
+    }
+    true
 }
 
-/// Whether a clause has a true literal; a tautology has one.
-fn is_satisfied(model: &[bool], clause: &Option<Clause>) -> bool
-    ensures { result ≡ satisfies_clause model.now clause.now }
+/// Whether the clause at a place has a true literal; a tautology has one.
+fn is_satisfied(model: &[bool], clauses: &ClauseList, place: usize) -> bool
+    requires { place < length clauses.now }
+    ensures { result ≡ satisfies_clause model.now (get_or clauses.now place None) }
 {
-    match clause {
+    match clauses.at(place) {
         None => true,
-        Some(clause) => has_true(model, clause.lits()),
+        Some(lits) => has_true(model, lits),
     }
 }
 
