@@ -1,5 +1,5 @@
 -- Literals among those that rise.
-use Rattle.std.proofs.Common.{◌≡◌, ◌≢◌, ℕ, ◌<◌, ◌≤◌, Bool, true, false, List, ◌==◌, length, get_or, refl, sym, ◌⊎◌, inl, inr, true≢false, arith}
+use Rattle.std.proofs.Common.{◌≡◌, ◌≢◌, ℕ, ◌<◌, ◌≤◌, Bool, true, false, List, ◌==◌, length, get_or, sym, ◌⊎◌, inl, inr, true≢false, arith}
 use Rattle.std.specs.Prelude.{MatchBool, MatchResult, Result, Ok, Err, is_ok}
 use Rattle.std.specs.List.{list_any}
 use Rattle.std.specs.List.Sorted.{IsNonDecreasing, IsBinarySearchResult}

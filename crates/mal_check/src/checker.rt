@@ -1,6 +1,6 @@
 //! The checker.
 
-ghost use Rattle.std.specs.Prelude.{◌≡◌, ◌∷◌, ◌++◌, [], map, IsTrue, IfOk, OnOk, OnErr, All};
+ghost use Rattle.std.specs.Prelude.{◌≡◌, ◌∷◌, ◌++◌, ◌<◌, [], None, length, get_or, map, IsTrue, IfOk, OnOk, OnErr, All};
 ghost use Rattle.std.specs.List.{list_any};
 ghost use Rattle.mal_base.specs.Literals.{negated};
 ghost use Rattle.mal_lrat.specs.LineView.{seen};
@@ -12,7 +12,7 @@ use crate::effect::{Effect, effect_of};
 use crate::fault::CheckFault;
 use crate::held::Clauses;
 use crate::trues::Trues;
-use mal_base::{Clause, ClauseId, Formula, Lit};
+use mal_base::{Clause, ClauseId, ClauseList, Formula, Lit};
 use mal_lrat::Line;
 use std::alloc::{AllocError, Global};
 use std::marker::Model;
@@ -56,8 +56,8 @@ impl Checker {
     {
         let clauses = formula.clauses();
         let mut checker = Checker::new(alloc);
-        for (index, clause) in clauses.iter().enumerate() {
-            let clause = copy(clause)?;
+        for index in 0..clauses.len() {
+            let clause = copy(alloc, clauses, index)?;
             checker.original(ClauseId::original(index as u32 + 1), clause)?;
         }
         Ok(checker)
@@ -128,13 +128,14 @@ impl Checker {
     }
 }
 
-/// An equal clause.
-fn copy(clause: &Option<Clause>) -> Result<Option<Clause>, AllocError>
-    ensures { IfOk result (λ c. c ≡ clause.now) }
+/// The clause at a place, as one of its own.
+fn copy(alloc: Global, clauses: &ClauseList, place: usize) -> Result<Option<Clause>, AllocError>
+    requires { place < length clauses.now }
+    ensures { IfOk result (λ c. c ≡ get_or clauses.now place None) }
 {
-    match clause {
+    match clauses.at(place) {
         None => Ok(None),
-        Some(clause) => Ok(Some(clause.copy()?)),
+        Some(lits) => Clause::of_rising(alloc, lits),
     }
 }
 

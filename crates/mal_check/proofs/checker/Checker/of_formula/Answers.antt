@@ -1,4 +1,4 @@
-use Rattle.std.proofs.Common.{◌<◌, ◌∙◌, ap, arith, length, take}
+use Rattle.std.proofs.Common.{◌<◌, None, ◌∙◌, ap, arith, length, take}
 use Rattle.std.proofs.lemmas.List.{length-take-le}
 use Rattle.spec_logic.specs.Derivation.{Holding}
 use Rattle.mal_check.specs.Checked.{held}
@@ -14,4 +14,4 @@ original-requires-in-loop-index c =
 pub loop-index-preserved : goal.loop-index-preserved
 loop-index-preserved c =
     let low : c.loop-index.index < length c.clauses-clauses.result.now = omega arith in
-    (originals-next c.clauses-clauses.result.now c.loop-index.checker.originals c.original-in-loop-index.new.self.originals c.loop-index.index c.in_ok-clause.clause c.index-clauses-index.result low c.loop-index.invariant.0 c.in_ok-original.ensures.originals (c.in_ok-clause.ensures ∙ c.index-clauses-index.is), c.in_ok-original.ensures.added ∙ c.loop-index.invariant.1, c.in_ok-original.ensures.held ∙ numbered-next (held c.loop-index.checker) c.clauses-clauses.result.now c.loop-index.index c.original.result c.in_ok-clause.clause c.index-clauses-index.result low c.loop-index.invariant.2 c.original.ensures (c.in_ok-clause.ensures ∙ c.index-clauses-index.is))
+    (originals-next c.clauses-clauses.result.now c.loop-index.checker.originals c.original-in-loop-index.new.self.originals c.loop-index.index c.in_ok-clause.clause None low c.loop-index.invariant.0 c.in_ok-original.ensures.originals c.in_ok-clause.ensures, c.in_ok-original.ensures.added ∙ c.loop-index.invariant.1, c.in_ok-original.ensures.held ∙ numbered-next (held c.loop-index.checker) c.clauses-clauses.result.now c.loop-index.index c.original.result c.in_ok-clause.clause None low c.loop-index.invariant.2 c.original.ensures c.in_ok-clause.ensures)
