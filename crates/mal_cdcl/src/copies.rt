@@ -62,7 +62,7 @@ pub fn engine_of<E: Engine>(
     let literals = count_held(clauses)?;
     engine.reserve(variables, clauses.len(), literals)?;
     for held in clauses {
-        engine.load(held.id(), held.clause(), trail);
+        engine.load(held.id(), held.clause().lits(), trail);
     }
     Ok(engine)
 }

@@ -6,7 +6,7 @@ ghost use Rattle.mal_filter.specs.Noted.{is_noted};
 ghost use Rattle.spec_node.specs.{Import.{has_lits}, State.{Node}};
 ghost use Rattle.mal_cdcl.specs.{Ready.{posted, readied}, Importing.{Sees, lent, picked, is_told_in, is_posted_in, is_loaded_in}};
 
-use mal_base::{Clause, Lit, NumberedClause};
+use mal_base::{ClauseList, Lit, NumberedClause};
 use mal_buffer::Buffer;
 use mal_filter::ClauseSet;
 use mal_revision::Revision;
@@ -173,16 +173,16 @@ fn note_loads(
 fn note_posted(
     seen: &mut ClauseSet,
     told: &ClauseSet,
-    clauses: &[Option<Clause>],
+    clauses: &ClauseList,
 ) -> Result<(), AllocError>
     ensures { OnOk result
         ((lits : List ℕ) → is_noted lits told.now ≡ true
         → is_noted lits seen.new ≡ (is_posted_in lits clauses.now || is_noted lits seen.old)) }
 {
-    for clause in clauses {
-        match clause {
+    for place in 0..clauses.len() {
+        match clauses.at(place) {
             None => {}
-            Some(clause) => note_if_told(seen, told, clause.lits())?,
+            Some(lits) => note_if_told(seen, told, lits)?,
         }
     }
     Ok(())

@@ -7,7 +7,7 @@ ghost use Rattle.spec_node.specs.{Cut.{saved}, Load.{numbered, with_originals}, 
 ghost use Rattle.mal_cdcl.specs.{ImportSizes.{lits_in}, Importing.{AreNewTo}};
 ghost use Rattle.mal_trail.specs.Rooms.{IsLeft};
 
-use mal_base::{Clause, ClauseId, Lit, NumberedClause, TrailEntry, Var};
+use mal_base::{ClauseId, ClauseList, Lit, NumberedClause, TrailEntry, Var};
 use mal_trail::{Engine, Trail};
 
 /// Appends the phases of so many new variables.
@@ -58,7 +58,7 @@ pub fn replace(assumptions: &mut Vec<Lit>, lits: &[Lit])
 
 /// Adds the clauses under rising numbers from the first on, without the tautologies, which keep their numbers. The
 /// originals that are held have smaller numbers.
-pub fn add_clauses<E: Engine>(engine: &mut E, trail: &Trail, first: u32, clauses: &[Option<Clause>])
+pub fn add_clauses<E: Engine>(engine: &mut E, trail: &Trail, first: u32, clauses: &ClauseList)
     requires some { 1 ≤ first }
     requires bound { first + length clauses.now ≤ 2 ^ 32 }
     requires above { All (λ (c : NumberedClause). c.id < 2 ^ 32 → c.id < first) (E.clauses engine.old) }
@@ -72,11 +72,11 @@ pub fn add_clauses<E: Engine>(engine: &mut E, trail: &Trail, first: u32, clauses
     ensures fits { E.fits engine.new trail.now.entries trail.now.processed }
 {
     for place in 0..clauses.len() {
-        match &clauses[place] {
+        match clauses.at(place) {
             None => {}
-            Some(clause) => {
+            Some(lits) => {
                 let id = ClauseId::original(first + place as u32);
-                engine.load(id, clause, trail);
+                engine.load(id, lits, trail);
             }
         }
     }

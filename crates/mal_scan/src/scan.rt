@@ -1,7 +1,7 @@
 //! The engine.
 
 use crate::batch;
-use mal_base::{Clause, ClauseId, ClauseView, Lit};
+use mal_base::{ClauseId, ClauseView, Lit};
 use mal_store::Store;
 use mal_trail::{Engine, Listed, Trail};
 use std::alloc::{AllocError, Global};
@@ -40,8 +40,8 @@ impl Engine for Scan {
         self.store.reserve(clauses, literals)
     }
 
-    fn load(&mut self, id: ClauseId, clause: &Clause, _trail: &Trail) {
-        self.store.add_reserved(id, clause.lits());
+    fn load(&mut self, id: ClauseId, lits: &[Lit], _trail: &Trail) {
+        self.store.add_reserved(id, lits);
     }
 
     fn learn(&mut self, id: ClauseId, lits: &[Lit], _trail: &Trail) {

@@ -6,7 +6,7 @@ ghost use Rattle.spec_node.specs.{Adding.{with_clause, forgetting}, Batch.{after
 ghost use Rattle.mal_trail.specs.Rooms.{Room, HasRoom, IsRoomFor, IsLeft, are_within};
 
 use crate::trail::Trail;
-use mal_base::{Clause, ClauseId, ClauseView, Lit};
+use mal_base::{ClauseId, ClauseView, Lit};
 use std::alloc::{AllocError, Global};
 
 /// What holds the clauses of a node and propagates with them. It sees its clauses by rising number.
@@ -33,14 +33,15 @@ pub trait Engine: ClauseView + Drop {
         ensures fits { (entries : List TrailEntry) (processed : ℕ) → fits self.old entries processed
             → fits self.new entries processed };
 
-    /// Adds a clause under a number that is not held. Takes no memory.
-    fn load(&mut self, id: ClauseId, clause: &Clause, trail: &Trail)
+    /// Adds a clause, whose literals rise by variable, under a number that is not held. Takes no memory.
+    fn load(&mut self, id: ClauseId, lits: &[Lit], trail: &Trail)
         requires new { lits_under id (Self.clauses self.old) ≡ None }
-        requires room { IsRoomFor clause.now (room self.old) }
+        requires form { rises lits.now ≡ true }
+        requires room { IsRoomFor lits.now (room self.old) }
         requires fits { fits self.old trail.now.entries trail.now.processed }
         ensures clauses { Self.clauses self.new ≡ with_clause
-            (record { id = id; lits = clause.now }) (Self.clauses self.old) }
-        ensures room { IsLeft 1 (length clause.now) (room self.old) (room self.new) }
+            (record { id = id; lits = lits.now }) (Self.clauses self.old) }
+        ensures room { IsLeft 1 (length lits.now) (room self.old) (room self.new) }
         ensures fits { fits self.new trail.now.entries trail.now.processed };
 
     /// Adds a clause that was derived, whose literals rise by variable, under a number that is not held. Takes no

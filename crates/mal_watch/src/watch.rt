@@ -9,7 +9,7 @@ ghost use Rattle.mal_watch.specs.{Finding.{pending}, Fitting.{room_in, Fits}, Fo
 use crate::found::Found;
 use crate::watch_lists::WatchLists;
 use crate::{batch, found, pair, walk};
-use mal_base::{Clause, ClauseId, ClauseView, Lit};
+use mal_base::{ClauseId, ClauseView, Lit};
 use mal_store::{Store, sort_ids};
 use mal_trail::{Engine, Listed, Trail};
 use std::alloc::{AllocError, Global};
@@ -141,8 +141,8 @@ impl Engine for Watch {
         self.found.reserve(total)
     }
 
-    fn load(&mut self, id: ClauseId, clause: &Clause, trail: &Trail) {
-        self.add(id, clause.lits(), trail);
+    fn load(&mut self, id: ClauseId, lits: &[Lit], trail: &Trail) {
+        self.add(id, lits, trail);
     }
 
     fn learn(&mut self, id: ClauseId, lits: &[Lit], trail: &Trail) {

@@ -11,7 +11,7 @@ pub load-requires-clause-room : goal.load-requires-clause-room
 load-requires-clause-room g c =
     let within = within-at c.args.variables c.args.clauses.now c.loop-held.held-index c.held-item.result c.held-item.result c.requires.form (omega arith) c.held-item.is in
     let after = lits-after c.args.clauses.now c.loop-held.held-index c.held-item.result c.held-item.result (omega arith) c.held-item.is in
-    rw c.clause.ensures (record {
+    rw (c.lits.ensures.value, c.clause.ensures) (record {
       within = lits_more c.args.variables (g.E.Engine.room c.loop-held.engine).variables c.held-item.result.lits c.loop-held.invariant.for_variables within;
       clauses = omega (arith, c.loop-held.invariant.for_clauses);
       literals = omega (arith, c.loop-held.invariant.for_literals, after);
@@ -20,9 +20,9 @@ load-requires-clause-room g c =
 pub loop-held-preserved : goal.loop-held-preserved
 loop-held-preserved g c =
     let after = lits-after c.args.clauses.now c.loop-held.held-index c.held-item.result c.held-item.result (omega arith) c.held-item.is in
-    let left = rw c.clause.ensures at c.load.ensures.room in
+    let left = rw (c.lits.ensures.value, c.clause.ensures) at c.load.ensures.room in
     record {
-      clauses_are = rw (c.load.ensures.clauses, c.id.ensures, c.clause.ensures, c.loop-held.invariant.clauses_are) (one_more c.args.clauses.now c.loop-held.held-index c.held-item.result c.held-item.result c.requires.rising (omega arith) c.held-item.is);
+      clauses_are = rw (c.load.ensures.clauses, c.id.ensures, c.lits.ensures.value, c.clause.ensures, c.loop-held.invariant.clauses_are) (one_more c.args.clauses.now c.loop-held.held-index c.held-item.result c.held-item.result c.requires.rising (omega arith) c.held-item.is);
       fits = c.load.ensures.fits;
       for_variables = omega (arith, c.loop-held.invariant.for_variables, left.variables);
       for_clauses = omega (arith, c.loop-held.invariant.for_clauses, left.clauses);

@@ -1,4 +1,5 @@
-use Rattle.std.proofs.Common.{◌∙◌, sym, arith}
+use Rattle.std.proofs.Common.{None, sym, arith}
+use Rattle.std.proofs.lemmas.Option.{get_or_from_slice_get}
 use Rattle.mal_cdcl.proofs.OriginalLemmas.{adding-begins, adding-none, adding-some, adding-ends, may-add}
 use Rattle.mal_cdcl.proofs.node_load.add_clauses.Goals as goal
 use Rattle.mal_cdcl.proofs.node_load.add_clauses.Goals.{in-None, in-Some}
@@ -12,25 +13,25 @@ loop-place-init g c =
 
 pub load-requires-clause-new : goal.load-requires-clause-new
 load-requires-clause-new g c =
-    let found = sym c.in-Some.is ∙ c.index-clauses-place.is in
-    rw c.original-id.ensures ((may-add c.args.first c.loop-place.place c.args.clauses.now _ _ _ _ c.in-Some.clause c.index-clauses-place.result c.requires.bound c.requires.clause_room c.requires.literal_room (omega arith) found c.loop-place.invariant.adding).new)
+    let found = sym (get_or_from_slice_get c.args.clauses.now c.loop-place.place _ None (rw c.in-Some.is at c.at.ensures.value)) in
+    rw c.original-id.ensures ((may-add c.args.first c.loop-place.place c.args.clauses.now _ _ _ _ c.in-Some.lits.now None c.requires.bound c.requires.clause_room c.requires.literal_room (omega arith) found c.loop-place.invariant.adding).new)
 
 pub load-requires-clause-room : goal.load-requires-clause-room
 load-requires-clause-room g c =
-    let found = sym c.in-Some.is ∙ c.index-clauses-place.is in
-    (may-add c.args.first c.loop-place.place c.args.clauses.now _ _ _ _ c.in-Some.clause c.index-clauses-place.result c.requires.bound c.requires.clause_room c.requires.literal_room (omega arith) found c.loop-place.invariant.adding).room
+    let found = sym (get_or_from_slice_get c.args.clauses.now c.loop-place.place _ None (rw c.in-Some.is at c.at.ensures.value)) in
+    (may-add c.args.first c.loop-place.place c.args.clauses.now _ _ _ _ c.in-Some.lits.now None c.requires.bound c.requires.clause_room c.requires.literal_room (omega arith) found c.loop-place.invariant.adding).room
 
 pub loop-place-preserved : goal.loop-place-preserved
 loop-place-preserved g c =
-    elim c.match-clauses-place.branch [
+    elim c.match-at.branch [
       | in-None w ↦
           rw w.engine-is (record {
-            adding = adding-none c.args.first c.loop-place.place c.args.clauses.now _ _ _ _ c.index-clauses-place.result (omega arith) (sym w.in-None.is ∙ c.index-clauses-place.is) c.loop-place.invariant.adding;
+            adding = adding-none c.args.first c.loop-place.place c.args.clauses.now _ _ _ _ None (omega arith) (sym (get_or_from_slice_get c.args.clauses.now c.loop-place.place _ None (rw w.in-None.is at c.at.ensures.value))) c.loop-place.invariant.adding;
             fits = c.loop-place.invariant.fits;
           })
       | in-Some w ↦
           rw (w.engine-is, w.load.ensures.clauses, w.original-id.ensures) (record {
-            adding = adding-some c.args.first c.loop-place.place c.args.clauses.now _ _ _ _ _ w.in-Some.clause c.index-clauses-place.result c.requires.some c.requires.bound (omega arith) (sym w.in-Some.is ∙ c.index-clauses-place.is) w.load.ensures.room c.loop-place.invariant.adding;
+            adding = adding-some c.args.first c.loop-place.place c.args.clauses.now _ _ _ _ _ w.in-Some.lits.now None c.requires.some c.requires.bound (omega arith) (sym (get_or_from_slice_get c.args.clauses.now c.loop-place.place _ None (rw w.in-Some.is at c.at.ensures.value))) w.load.ensures.room c.loop-place.invariant.adding;
             fits = w.load.ensures.fits;
           })
     ]

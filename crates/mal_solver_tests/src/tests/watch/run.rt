@@ -41,7 +41,7 @@ impl<E: Engine> Run<E> {
     pub fn add(&mut self, id: ClauseId, clause: &Clause) -> Result<(), Fail> {
         check_new(&self.engine, id, clause)?;
         self.engine.reserve(16, 1, clause.lits().len())?;
-        self.engine.load(id, clause, &self.trail);
+        self.engine.load(id, clause.lits(), &self.trail);
         Ok(())
     }
 
