@@ -9,7 +9,7 @@ ghost use Rattle.spec_seq.specs.Draws.{next};
 
 use crate::script::{Script, ScriptJob};
 use itoa::Buffer;
-use mal_base::{Ask, Clause, Lit, Name, Var};
+use mal_base::{Ask, Clause, ClauseList, Lit, Name, Var};
 use mal_revision::{Revision, RevisionFault};
 use mal_seq::Draws;
 use spec_script::Step;
@@ -100,13 +100,13 @@ fn revision(alloc: Global, draws: &mut Draws) -> Result<Revision, AllocError>
 
 /// So many clauses.
 #[tactic(auto, using(crate::proofs::GenerateSteps::clause_lemmas))]
-fn clauses(alloc: Global, count: u32, draws: &mut Draws) -> Result<Vec<Option<Clause>>, AllocError>
-    ensures value { IfOk result (λ v. v.items ≡ clauses_from count draws.old) }
+fn clauses(alloc: Global, count: u32, draws: &mut Draws) -> Result<ClauseList, AllocError>
+    ensures value { IfOk result (λ v. v ≡ clauses_from count draws.old) }
     ensures state { OnOk result (draws.new ≡ after_clauses count draws.old) }
 {
-    let mut clauses = Vec::new(alloc);
+    let mut clauses = ClauseList::new(alloc);
     for made in 0..count {
-        clauses.push(clause(alloc, draws)?)?;
+        clauses.push(&clause(alloc, draws)?)?;
     }
     Ok(clauses)
 }

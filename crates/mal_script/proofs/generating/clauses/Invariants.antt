@@ -4,6 +4,6 @@ use Rattle.mal_script.proofs.generating.clauses.Given as goal
 
 abbrev pub invariant-loop-made : goal.invariant-loop-made
 invariant-loop-made l = record {
-  made : l.clauses.items ++ clauses_from (l.count - l.made) l.draws ≡ clauses_from l.count l.fn.draws;
+  made : l.clauses ++ clauses_from (l.count - l.made) l.draws ≡ clauses_from l.count l.fn.draws;
   state : after_clauses (l.count - l.made) l.draws ≡ after_clauses l.count l.fn.draws;
 }
