@@ -2,6 +2,7 @@
 
 ghost use Rattle.std.specs.Prelude.{◌≤◌};
 
+use mal_base::ClauseList;
 use mal_revision::Revision;
 use mal_suspend::{Entry, Journal, Suspended, rebuild};
 use std::alloc::{AllocError, Global};
@@ -72,7 +73,7 @@ fn a_rebuilt_node_has_the_profile_of_its_journal(rt: HostRuntime) -> Result<(), 
 
 /// The load of a revision of two variables without clauses.
 fn load(alloc: Global) -> Result<Entry, Fail> {
-    let revision = Revision::new(alloc, 2, Vec::new(alloc), &[])?;
+    let revision = Revision::new(alloc, 2, ClauseList::new(alloc), &[])?;
     Ok(Entry::Load(Arc::new(alloc, revision)?, 1))
 }
 

@@ -1,7 +1,7 @@
 //! A node that is thawed from its bytes goes on like the one that stayed live, over either engine.
 
 use super::going::Going;
-use mal_base::{Clause, Lines, Lit};
+use mal_base::{Clause, ClauseList, Lines, Lit};
 use mal_learn::Scratch;
 use mal_lrat::put_added;
 use mal_revision::Revision;
@@ -37,13 +37,13 @@ fn not_both(alloc: Global, one: i32, other: i32, hole: i32) -> Result<Option<Cla
 }
 
 /// The clauses that each pigeon has a hole of its own.
-fn pigeons(alloc: Global) -> Result<Vec<Option<Clause>>, Fail> {
-    let mut clauses = Vec::new(alloc);
+fn pigeons(alloc: Global) -> Result<ClauseList, Fail> {
+    let mut clauses = ClauseList::new(alloc);
     for one in 0..PIGEONS {
-        clauses.push(some_hole(alloc, one)?)?;
+        clauses.push(&some_hole(alloc, one)?)?;
         for other in 0..one {
             for hole in 0..PIGEONS - 1 {
-                clauses.push(not_both(alloc, one, other, hole)?)?;
+                clauses.push(&not_both(alloc, one, other, hole)?)?;
             }
         }
     }

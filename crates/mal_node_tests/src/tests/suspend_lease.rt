@@ -6,6 +6,7 @@ ghost use Rattle.spec_job.specs.Journal.{replay};
 ghost use Rattle.mal_suspend.specs.{Kept.{journal_of}, Replaying.{MayAllReplay}, Starting.{shared_loads, start_entries}};
 
 use super::suspend::frozen_len;
+use mal_base::ClauseList;
 use mal_learn::Scratch;
 use mal_revision::Revision;
 use mal_suspend::{Entries, FROZEN_BYTES, Frozen, Journal, Kept, Lease, Suspended};
@@ -72,7 +73,7 @@ fn first_bytes(
 
 /// A shared revision of so many variables without clauses.
 fn shared(alloc: Global, variables: u32) -> Result<Arc<Revision>, Fail> {
-    let revision = Revision::new(alloc, variables, Vec::new(alloc), &[])?;
+    let revision = Revision::new(alloc, variables, ClauseList::new(alloc), &[])?;
     Ok(Arc::new(alloc, revision)?)
 }
 

@@ -1,7 +1,7 @@
 //! Checkers whose answers are known.
 
 use super::values::{clause, id};
-use mal_base::Formula;
+use mal_base::{ClauseList, Formula};
 use mal_check::{CheckFault, Checker};
 use mal_lrat::read_line;
 use std::alloc::Global;
@@ -9,9 +9,9 @@ use std::test::Fail;
 
 /// The formula of these clauses over two variables.
 fn formula(alloc: Global, clauses: &[&[i32]]) -> Result<Formula, Fail> {
-    let mut all = Vec::new(alloc);
+    let mut all = ClauseList::new(alloc);
     for numbers in clauses {
-        all.push(clause(alloc, numbers)?)?;
+        all.push(&clause(alloc, numbers)?)?;
     }
     Ok(Formula::new(2, all).ok_or("no formula")?)
 }
