@@ -12,7 +12,7 @@ use Rattle.mal_service.specs.contracts.service.Service as Service
 use Rattle.mal_hall.specs.declared.size.Size as Size
 use Rattle.mal_service.specs.Entries.{noted_in}
 use Rattle.mal_service.specs.Record.{StandsFor}
-use Rattle.mal_turn.specs.contracts.table.SeatOf as SeatOf
+use Rattle.mal_turn.specs.contracts.table.TokenOf as TokenOf
 use Rattle.mal_turn.proofs.table.Turn.TheSendSync as turn
 use Rattle.mal_cli.specs.contracts.served.Served as Served
 
@@ -26,7 +26,7 @@ module _ (S : RattleType) (g : Size.Ghosts S.Denot) where
   noted-send : IsSend S → IsSend (NotedHall.the_row S g)
   noted-send s = search (hall-send, entry-send, sendable, crosses) depth 40
 
-  pub pass-send : IsSend S → IsSend (SeatOf.the_row (NotedHall.the_row S g) Entry.the_row)
+  pub pass-send : IsSend S → IsSend (TokenOf.the_row (NotedHall.the_row S g) Entry.the_row)
   pass-send s = search (noted-send, seat.the_send, sendable, crosses) depth 40
 
   service-sync : IsSend S → IsSync (Service.the_field S g).row

@@ -25,7 +25,7 @@ impl<S: Size> Served<S> {
 
 impl<S: Size + Send + Sync> Desk for Served<S> {
     ghost use Rattle.mal_cli.specs.Calls.{calls_of};
-    ghost use Rattle.mal_turn.specs.Seats.{IsOf, view};
+    ghost use Rattle.mal_turn.specs.Tokens.{IsOf, view};
 
     type Pass = Pass<S>;
 
@@ -45,7 +45,7 @@ impl<S: Size + Send + Sync> Desk for Served<S> {
 }
 
 impl<S: Size + Send + Sync> Board for Served<S> {
-    ghost use Rattle.mal_turn.specs.Seats.{view};
+    ghost use Rattle.mal_turn.specs.Tokens.{view};
     ghost use Rattle.mal_turn.specs.Rule.{IsWhole};
 
     ghost is_whole = { λ pass. IsWhole (view pass).of };

@@ -4,31 +4,31 @@ use Rattle.spec_job.specs.Journaled.{Journaled, and_entries, started}
 use Rattle.spec_job.specs.Leased.{Finished}
 use Rattle.spec_job.specs.SoloMachine.{Lease}
 use Rattle.spec_job.specs.Viewed.{IsGrownBy}
-use Rattle.mal_job.specs.declared.node_slot.Seat.{Seat}
-use Rattle.mal_job.specs.declared.node_slot.Seat.TheVariants.{Home, Cold, Gone, Out}
+use Rattle.mal_job.specs.declared.node_slot.Whereabouts.{Whereabouts}
+use Rattle.mal_job.specs.declared.node_slot.Whereabouts.TheVariants.{Home, Cold, Gone, Out}
 use Rattle.mal_job.specs.Viewed.{PlaceView, TreeView}
 
 -- the start that is out of a place with these entries
-abbrev pub out_of : List JournalEntry → Seat → Option Lease
+abbrev pub out_of : List JournalEntry → Whereabouts → Option Lease
 out_of entries (Home s) = None
 out_of entries (Cold s) = None
 out_of entries Gone = None
 out_of entries (Out revision grown) = Some (record { revision = revision; adds = drop (length entries) grown.entries })
 
--- what stands at a place with this journal: its node, live or as bytes, nothing, or the journal that the start will
--- leave, where it runs
-abbrev pub IsSeated : Journaled → Seat → Type 0
-IsSeated j (Home s) = s ≡ j
-IsSeated j (Cold s) = s ≡ j
-IsSeated j Gone = Unit {0}
-IsSeated j (Out revision grown) = grown ≡ and_entries j (drop (length j.entries) grown.entries)
+-- where the node of a place with this journal may be: at home, live or as bytes, gone, or out, with the journal that the
+-- start will leave
+abbrev pub IsNodeAt : Journaled → Whereabouts → Type 0
+IsNodeAt j (Home s) = s ≡ j
+IsNodeAt j (Cold s) = s ≡ j
+IsNodeAt j Gone = Unit {0}
+IsNodeAt j (Out revision grown) = grown ≡ and_entries j (drop (length j.entries) grown.entries)
 
--- the seat of what is kept of a node with this journal: none is out
-abbrev pub IsSeatOf : Journaled → Seat → Type 0
-IsSeatOf j (Home s) = s ≡ j
-IsSeatOf j (Cold s) = s ≡ j
-IsSeatOf j Gone = Unit {0}
-IsSeatOf j (Out revision grown) = ⊥
+-- where it is by what is kept of it: not out
+abbrev pub IsKeptAt : Journaled → Whereabouts → Type 0
+IsKeptAt j (Home s) = s ≡ j
+IsKeptAt j (Cold s) = s ≡ j
+IsKeptAt j Gone = Unit {0}
+IsKeptAt j (Out revision grown) = ⊥
 
 -- for which revision a start is out, and what it adds to the journal
 abbrev pub revision_of : Option Lease → ℕ

@@ -4,7 +4,7 @@ ghost use Rattle.std.specs.Prelude.{◌≡◌, ◌↔◌, ◌+◌, ◌≤◌, Is
 ghost use Rattle.std.specs.Option.{option_map};
 ghost use Rattle.spec_job.specs.Journaled.{replayed, started, and_entries};
 ghost use Rattle.mal_suspend.specs.{Kept.{journal_of}, Replaying.{MayAllReplay}, Starting.{shared_loads, shared_tolds, start_entries}};
-ghost use Rattle.mal_job.specs.Placing.{fresh_place, sent, ran_home, came_home, IsBackAt, IsSeatOf, adds_of};
+ghost use Rattle.mal_job.specs.Placing.{fresh_place, sent, ran_home, came_home, IsBackAt, IsKeptAt, adds_of};
 
 use mal_base::Outcome;
 use mal_buffer::Buffer;
@@ -15,11 +15,10 @@ use std::marker::Model;
 use std::mem;
 use std::sync::Arc;
 
-/// What stands at a place: the node with its journal; its bytes with its journal; nothing, where the node is gone, or
-/// was never started; or, where the node is out, the revision that it was started for and the journal that it has once
-/// its slice ran.
+/// Where the node of a place is: at home, with its journal; there as bytes, with its journal; gone, or never started; or
+/// out, with the revision that it was started for and the journal that it has once its slice ran.
 #[derive(Drop)]
-pub enum Seat {
+pub enum Whereabouts {
     Home(Suspended),
     Cold(Frozen),
     Gone,
@@ -30,24 +29,24 @@ pub enum Seat {
 #[derive(Drop)]
 pub struct NodeSlot {
     journal: Journal,
-    seat: Seat,
+    whereabouts: Whereabouts,
     starts: u64,
     mark: usize,
 }
 
 impl Model for NodeSlot {
-    ghost use Rattle.mal_job.specs.{Viewed.{PlaceView}, Placing.{out_of, IsSeated}};
+    ghost use Rattle.mal_job.specs.{Viewed.{PlaceView}, Placing.{out_of, IsNodeAt}};
 
     ghost Value = { PlaceView };
 
     ghost view = { λ p. record {
       journal = p.journal;
-      out = out_of p.journal.entries p.seat;
+      out = out_of p.journal.entries p.whereabouts;
       starts = p.starts;
       mark = p.mark;
     } };
 
-    ghost invariant = { λ p. IsSeated p.journal p.seat };
+    ghost invariant = { λ p. IsNodeAt p.journal p.whereabouts };
 }
 
 impl NodeSlot {
@@ -61,7 +60,7 @@ impl NodeSlot {
     {
         NodeSlot {
             journal: Journal::new(alloc, job, profile, index),
-            seat: Seat::Gone,
+            whereabouts: Whereabouts::Gone,
             starts: 0,
             mark: 0,
         }
@@ -78,11 +77,11 @@ impl NodeSlot {
     pub fn is_out(&self) -> bool
         ensures { result ≡ is_some self.now.out }
     {
-        match &self.seat {
-            Seat::Home(_) => false,
-            Seat::Cold(_) => false,
-            Seat::Gone => false,
-            Seat::Out(_, _) => true,
+        match &self.whereabouts {
+            Whereabouts::Home(_) => false,
+            Whereabouts::Cold(_) => false,
+            Whereabouts::Gone => false,
+            Whereabouts::Out(_, _) => true,
         }
     }
 
@@ -90,11 +89,11 @@ impl NodeSlot {
     pub fn revision(&self) -> Option<usize>
         ensures { result ≡ option_map (λ l. l.revision) self.now.out }
     {
-        match &self.seat {
-            Seat::Home(_) => None,
-            Seat::Cold(_) => None,
-            Seat::Gone => None,
-            Seat::Out(revision, _) => Some(*revision),
+        match &self.whereabouts {
+            Whereabouts::Home(_) => None,
+            Whereabouts::Cold(_) => None,
+            Whereabouts::Gone => None,
+            Whereabouts::Out(revision, _) => Some(*revision),
         }
     }
 
@@ -151,23 +150,23 @@ impl NodeSlot {
         let begun = Start::new(&self.journal, loads, imports, start)?;
         let grown = begun.grown().copy()?;
         let kept = self.hand_out()?;
-        reseat(&mut self.seat, Seat::Out(revision, grown));
+        move_to(&mut self.whereabouts, Whereabouts::Out(revision, grown));
         self.journal.set_start(start);
         self.starts = starts;
         Ok(Lease::of(kept, begun, worker))
     }
 
-    /// Takes the node out of its seat, or a copy of the journal where it is gone.
+    /// Takes the node from where it is, or a copy of the journal where it is gone.
     fn hand_out(&mut self) -> Result<Kept, AllocError>
         requires home { self.old.out ≡ None }
         ensures kept { IfOk result (λ k. journal_of k ≡ self.old.journal) }
         ensures same { self.new ≡ self.old }
     {
-        match mem::replace(&mut self.seat, Seat::Gone) {
-            Seat::Home(suspended) => Ok(Kept::Live(suspended)),
-            Seat::Cold(frozen) => Ok(Kept::Cold(frozen)),
-            Seat::Gone => Ok(Kept::Gone(self.journal.copy()?)),
-            Seat::Out(_, _) => unreachable!(),
+        match mem::replace(&mut self.whereabouts, Whereabouts::Gone) {
+            Whereabouts::Home(suspended) => Ok(Kept::Live(suspended)),
+            Whereabouts::Cold(frozen) => Ok(Kept::Cold(frozen)),
+            Whereabouts::Gone => Ok(Kept::Gone(self.journal.copy()?)),
+            Whereabouts::Out(_, _) => unreachable!(),
         }
     }
 
@@ -175,11 +174,11 @@ impl NodeSlot {
     pub fn is_back(&self, back: &Done) -> bool
         ensures { IsTrue result ↔ IsBackAt self.now back.now }
     {
-        match &self.seat {
-            Seat::Home(_) => false,
-            Seat::Cold(_) => false,
-            Seat::Gone => false,
-            Seat::Out(_, grown) => match back.outcome() {
+        match &self.whereabouts {
+            Whereabouts::Home(_) => false,
+            Whereabouts::Cold(_) => false,
+            Whereabouts::Gone => false,
+            Whereabouts::Out(_, grown) => match back.outcome() {
                 Outcome::Ran => grown.same(back.journal()),
                 Outcome::Starved => self.journal.same(back.journal()),
                 Outcome::Lost => false,
@@ -193,11 +192,11 @@ impl NodeSlot {
         requires back { journal_of kept ≡ and_entries self.old.journal (adds_of self.old.out) }
         ensures { self.new ≡ ran_home self.old }
     {
-        match mem::replace(&mut self.seat, seat_of(kept)) {
-            Seat::Home(_) => {}
-            Seat::Cold(_) => {}
-            Seat::Gone => {}
-            Seat::Out(_, grown) => self.journal = grown,
+        match mem::replace(&mut self.whereabouts, whereabouts_of(kept)) {
+            Whereabouts::Home(_) => {}
+            Whereabouts::Cold(_) => {}
+            Whereabouts::Gone => {}
+            Whereabouts::Out(_, grown) => self.journal = grown,
         }
     }
 
@@ -206,7 +205,7 @@ impl NodeSlot {
         requires { journal_of kept ≡ self.old.journal }
         ensures { self.new ≡ came_home self.old }
     {
-        reseat(&mut self.seat, seat_of(kept));
+        move_to(&mut self.whereabouts, whereabouts_of(kept));
     }
 
     /// Gives the node up, live or as bytes, where it is at home: from now on its journal alone is kept. A node that is
@@ -223,24 +222,24 @@ impl NodeSlot {
     pub fn lose(&mut self)
         ensures { self.new ≡ came_home self.old }
     {
-        reseat(&mut self.seat, Seat::Gone);
+        move_to(&mut self.whereabouts, Whereabouts::Gone);
     }
 }
 
-/// Puts another in a seat's place. What stood there is let go.
-fn reseat(seat: &mut Seat, next: Seat)
-    ensures { seat.new ≡ next }
+/// Sets where a node is. What stood there is let go.
+fn move_to(whereabouts: &mut Whereabouts, next: Whereabouts)
+    ensures { whereabouts.new ≡ next }
 {
-    *seat = next;
+    *whereabouts = next;
 }
 
-/// The seat of what is kept of a node.
-fn seat_of(kept: Kept) -> Seat
-    ensures { IsSeatOf (journal_of kept) result }
+/// Where a node is of which this is kept.
+fn whereabouts_of(kept: Kept) -> Whereabouts
+    ensures { IsKeptAt (journal_of kept) result }
 {
     match kept {
-        Kept::Live(suspended) => Seat::Home(suspended),
-        Kept::Cold(frozen) => Seat::Cold(frozen),
-        Kept::Gone(_) => Seat::Gone,
+        Kept::Live(suspended) => Whereabouts::Home(suspended),
+        Kept::Cold(frozen) => Whereabouts::Cold(frozen),
+        Kept::Gone(_) => Whereabouts::Gone,
     }
 }

@@ -2,7 +2,7 @@
 ghost use Rattle.std.specs.Prelude.{◌≡◌, ◌≤◌, ◌<◌, IfOk, IfErr};
 ghost use Rattle.mal_hall.specs.Offered.{offered, replied, returned};
 ghost use Rattle.mal_service.specs.Posts.{HoldsOfPost};
-ghost use Rattle.mal_turn.specs.Seats.{IsOf, view};
+ghost use Rattle.mal_turn.specs.Tokens.{IsOf, view};
 ghost use Rattle.spec_hall.specs.Dressed.{keyed};
 ghost use Rattle.mal_service.specs.{Passes.{Enters, LeavesHall}, Record.{Asked, Picked, Gave}};
 ghost use Rattle.mal_turn.specs.Rule.{Begins, IsWhole, child, joined, opener, splitting};
@@ -11,13 +11,13 @@ use crate::noted::NotedHall;
 use mal_base::Name;
 use mal_hall::{FinishAnswer, Hall, PickAnswer, Post, PostFault, ReplyFault, Size};
 use mal_suspend::Done;
-use mal_turn::{InUse, Seat, Turn};
+use mal_turn::{InUse, Token, Turn};
 use std::alloc::{AllocError, Global};
 use std::sync::Wait;
 
 /// The right to call a service: it goes in with a call and comes back with the answer. Contracts see the record that it
 /// has seen, and its numbers.
-pub type Pass<S> = Seat<NotedHall<S>>;
+pub type Pass<S> = Token<NotedHall<S>>;
 
 /// A hall of so many workers that threads share, each with a pass. Whoever calls waits for the turn; the call is then
 /// one entry of the one record, and is answered as the hall answers at that point.

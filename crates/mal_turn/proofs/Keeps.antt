@@ -14,19 +14,19 @@ use Rattle.mal_turn.specs.declared.view.Stage.{Stage}
 use Rattle.mal_turn.specs.declared.view.Stage.TheVariants.{Idle, Drawn, Holds, Entered}
 use Rattle.mal_turn.specs.Numbers.{same, among, part}
 use Rattle.mal_turn.specs.Rule.{Log, At, HasTicket, is_inside, Has, IsSpent, opening, opener, at_stage, seeing, numbers, Olds, Begins, Former, Stands, Fits, NumberRule, Home, Away, TurnRule, Leaves, spent, next_number, splitting, child, joined, IsWhole, split_left, split_right, join_both, nobody}
-use Rattle.mal_turn.specs.Steps.{Sat, draws, looks, enters, passes}
+use Rattle.mal_turn.specs.Steps.{Tabled, draws, looks, enters, passes}
 use Rattle.mal_turn.proofs.Lists.{stay, one_view, behind, begins_whole, begins_longer}
 use Rattle.mal_turn.proofs.Paths.{same_equal, has_left, has_right, part_none, part_both, part_later}
-use Rattle.mal_turn.proofs.Records.{at_end, seat_split, new_is_fresh, numbered_split, seat_join, numbered_join, whole_has}
+use Rattle.mal_turn.proofs.Records.{at_end, token_split, new_is_fresh, numbered_split, token_join, numbered_join, whole_has}
 use mathlib.Core.List.{map-append}
 use Rattle.std.proofs.lemmas.Bool.Decides.{nat_tests}
 
 not_both : (b : Bool) → b ≡ true → b ≡ false → ⊥
 not_both b t f = absurd (cc)
 
--- a number that this seat has is another seat's only if the two are one
-other_numbers : (seat : List ℕ → ℕ) (me j : ℕ) (n : Numbers) (x : List ℕ) → ((y : List ℕ) → Has n y → j ≡ seat y) → me ≡ seat x → j ≢ me → among x n.all ≡ false
-other_numbers seat me j n x own mine other = by_test (among x n.all) refl where
+-- a number that this token has is another token's only if the two are one
+other_numbers : (token : List ℕ → ℕ) (me j : ℕ) (n : Numbers) (x : List ℕ) → ((y : List ℕ) → Has n y → j ≡ token y) → me ≡ token x → j ≢ me → among x n.all ≡ false
+other_numbers token me j n x own mine other = by_test (among x n.all) refl where
   by_test : (b : Bool) → among x n.all ≡ b → b ≡ false
   by_test true e = absurd (other (own x e ∙ sym mine))
   by_test false e = refl
@@ -36,14 +36,14 @@ not_among x ns all sub out true e = absurd (not_both (among x all) (sub x e) out
 not_among x ns all sub out false e = refl
 
 module _ {E : Type 0} where
-  -- a seat that has the slot has the ticket that is served
+  -- a token that has the slot has the ticket that is served
   inside_is_served : (log : Log E) (ticket serving : ℕ) (owner : ℕ → ℕ) (j : ℕ) (seen : Log E) (st : Stage) → Stands log ticket serving owner j seen st → is_inside st ≡ true → j ≡ owner serving
   inside_is_served log ticket serving owner j seen Idle s i = absurd (cc)
   inside_is_served log ticket serving owner j seen (Drawn t) s i = absurd (cc)
   inside_is_served log ticket serving owner j seen (Holds t) s i = s.2 ∙ ap owner s.0
   inside_is_served log ticket serving owner j seen (Entered t) s i = s.2 ∙ ap owner s.0
 
-  -- what the others know when one seat draws the next ticket
+  -- what the others know when one token draws the next ticket
   stands_drawn : (log : Log E) (ticket serving : ℕ) (owner : ℕ → ℕ) (me j : ℕ) (seen : Log E) (st : Stage) → Stands log ticket serving owner j seen st
       → Stands log (ticket + 1) serving (λ t. if eqb t ticket then me else owner t) j seen st
   stands_drawn log ticket serving owner me j seen Idle s = tt
@@ -51,7 +51,7 @@ module _ {E : Type 0} where
   stands_drawn log ticket serving owner me j seen (Holds t) s = let lt : t < ticket = s.1 in (s.0, omega arith, rw (ne_eqb t ticket (λ (e : t ≡ ticket). omega arith)) s.2, s.3, s.4)
   stands_drawn log ticket serving owner me j seen (Entered t) s = let lt : t < ticket = s.1 in (s.0, omega arith, rw (ne_eqb t ticket (λ (e : t ≡ ticket). omega arith)) s.2, s.3, s.4)
 
-  -- when the holder, which is not this seat, enters an entry
+  -- when the holder, which is not this token, enters an entry
   stands_entered : (log log' : Log E) (ticket serving : ℕ) (owner : ℕ → ℕ) (j : ℕ) (seen : Log E) (st : Stage) → j ≢ owner serving → Stands log ticket serving owner j seen st → Stands log' ticket serving owner j seen st
   stands_entered log log' ticket serving owner j seen Idle other s = tt
   stands_entered log log' ticket serving owner j seen (Drawn t) other s = s
@@ -66,16 +66,16 @@ module _ {E : Type 0} where
   stands_passed log ticket serving owner j seen (Holds t) other s = absurd (other (s.2 ∙ ap owner s.0))
   stands_passed log ticket serving owner j seen (Entered t) other s = absurd (other (s.2 ∙ ap owner s.0))
 
-  -- a seat that is not served is not inside
+  -- a token that is not served is not inside
   outside : (log : Log E) (ticket serving : ℕ) (owner : ℕ → ℕ) (j : ℕ) (seen : Log E) (st : Stage) → j ≢ owner serving → Stands log ticket serving owner j seen st → is_inside st ≡ false
   outside log ticket serving owner j seen Idle other s = refl
   outside log ticket serving owner j seen (Drawn t) other s = refl
   outside log ticket serving owner j seen (Holds t) other s = absurd (other (s.2 ∙ ap owner s.0))
   outside log ticket serving owner j seen (Entered t) other s = absurd (other (s.2 ∙ ap owner s.0))
 
-  -- the numbers stay where one seat's stage or history changes
-  same_numbers : (log : Log E) (seat : List ℕ → ℕ) (vs : List (View E)) (me : ℕ) (v w : View E) → At vs me v → w.of ≡ v.of → NumberRule log seat (map numbers vs) → NumberRule log seat (map numbers (set vs me w))
-  same_numbers log seat vs me v w at e = subst (NumberRule log seat) (sym (map-set numbers vs me w ∙ (ap (set (map numbers vs) me) e ∙ set_again (map numbers vs) me v.of (at_map numbers vs me v at))))
+  -- the numbers stay where one token's stage or history changes
+  same_numbers : (log : Log E) (token : List ℕ → ℕ) (vs : List (View E)) (me : ℕ) (v w : View E) → At vs me v → w.of ≡ v.of → NumberRule log token (map numbers vs) → NumberRule log token (map numbers (set vs me w))
+  same_numbers log token vs me v w at e = subst (NumberRule log token) (sym (map-set numbers vs me w ∙ (ap (set (map numbers vs) me) e ∙ set_again (map numbers vs) me v.of (at_map numbers vs me v at))))
 
   no_former : (log : Log E) (all : List (List ℕ)) → Former log all []
   no_former log all i o p = absurd (lean.some-ne-none o (sym p))
@@ -84,14 +84,14 @@ module _ {E : Type 0} where
   former_longer log all olds e f out i o p = let q = f i o p in (begins_longer log o.1 o.0 e q.0 (not_among e.0 o.0 all q.1 out (among e.0 o.0) refl), q.1)
 
   -- a longer history
-  numbered_longer : (log : Log E) (seat : List ℕ → ℕ) (ns : List Numbers) (me : ℕ) (n : Numbers) (e : List ℕ × E) → At ns me n → Has n e.0 → me ≡ seat e.0 → NumberRule log seat ns → NumberRule (log ++ e ∷ []) seat ns
-  numbered_longer log seat ns me n e at has mine r = record {
+  numbered_longer : (log : Log E) (token : List ℕ → ℕ) (ns : List Numbers) (me : ℕ) (n : Numbers) (e : List ℕ × E) → At ns me n → Has n e.0 → me ≡ token e.0 → NumberRule log token ns → NumberRule (log ++ e ∷ []) token ns
+  numbered_longer log token ns me n e at has mine r = record {
     own = r.own;
     rooted = r.rooted;
     fresh = r.fresh;
     parent = r.parent;
     entered = λ i d p. ⊎_elim (λ (q : At log i d). r.entered i d q)
-        (λ (q : e ≡ d). subst (λ (z : List ℕ × E). (m : Numbers) × At ns (seat z.0) m × Has m z.0) q (n, subst (λ (k : ℕ). At ns k n) mine at, has)) (at_snoc log e d i p);
+        (λ (q : e ≡ d). subst (λ (z : List ℕ × E). (m : Numbers) × At ns (token z.0) m × Has m z.0) q (n, subst (λ (k : ℕ). At ns k n) mine at, has)) (at_snoc log e d i p);
   }
 
 module _ {T E : Type 0} (stands : T → Log E → Type 0) where
@@ -99,7 +99,7 @@ module _ {T E : Type 0} (stands : T → Log E → Type 0) where
   St = State (Option T) (View E)
 
   abbrev M : Type 0
-  M = Sat T E
+  M = Tabled T E
 
   abbrev Rule : St → Type 0
   Rule = TurnRule stands
@@ -138,7 +138,7 @@ module _ {T E : Type 0} (stands : T → Log E → Type 0) where
           serving = r.serving;
           log = r.log;
           owner = next;
-          seat = r.seat;
+          token = r.token;
           words = ap (λ (l : List ℕ). set l 0 k) r.words ∙ (let e : k ≡ r.ticket + 1 = omega arith in ap (λ (z : ℕ). z ∷ r.serving ∷ length r.log ∷ []) e);
           below = omega arith;
           drawn = λ t lo hi. dite (ℕ_discrete t r.ticket)
@@ -149,7 +149,7 @@ module _ {T E : Type 0} (stands : T → Log E → Type 0) where
           each = stay (Fits r.log (r.ticket + 1) r.serving next) s.views id w
               (record { staged = (omega arith, omega arith, rw (eq-eqb n r.ticket (omega arith)) refl); begins = fit.begins; former = fit.former; live = inr has })
               (λ j d _ p. let f = r.each j d p in record { staged = stands_drawn r.log r.ticket r.serving r.owner id j d.seen d.stage f.staged; begins = f.begins; former = f.former; live = f.live });
-          numbered = same_numbers r.log r.seat s.views id was w at refl r.numbered;
+          numbered = same_numbers r.log r.token s.views id was w at refl r.numbered;
         },
         ((λ _. refl), λ miss. absurd (miss hit)),
       ))
@@ -161,7 +161,7 @@ module _ {T E : Type 0} (stands : T → Log E → Type 0) where
         ((λ hit. absurd (miss hit)), λ _. refl),
       ))
 
-  -- a step at which only this seat's stage and history change, and it keeps its ticket
+  -- a step at which only this token's stage and history change, and it keeps its ticket
   drawn_stay : (ticket serving : ℕ) (owner : ℕ → ℕ) (vs : List (View E)) (me : ℕ) (v w : View E) → At vs me v → ((t : ℕ) → HasTicket t v.stage → HasTicket t w.stage)
       → ((t : ℕ) → serving ≤ t → t < ticket → (d : View E) × At vs (owner t) d × HasTicket t d.stage)
       → (t : ℕ) → serving ≤ t → t < ticket → (d : View E) × At (set vs me w) (owner t) d × HasTicket t d.stage
@@ -169,26 +169,26 @@ module _ {T E : Type 0} (stands : T → Log E → Type 0) where
       (λ e. (w, subst (λ (k : ℕ). At (set vs me w) k w) (sym e) (set_here vs me w (long_enough vs me v at)), same t (subst (λ (z : View E). HasTicket t z.stage) (one_view vs (owner t) me d.0 v d.1 at e) d.2)))
       (λ other. (d.0, set_else vs me (owner t) w other ∙ d.1, d.2))
 
-  -- the seat that is served finds the slot at home
+  -- the token that is served finds the slot at home
   served_home : (s : St) (r : Rule s) (id t : ℕ) (v : View E) → At s.views id (at_stage (Drawn t) v) → r.serving ≡ t → Home stands r.log r.serving s.homes s.views
   served_home s r id t v at is = ⊎_elim (λ h. h) (λ a. let f = r.each a.1.0 a.1.1 a.1.2 in let m = r.each id (at_stage (Drawn t) v) at in
       let here : a.1.0 ≡ id = inside_is_served r.log r.ticket r.serving r.owner a.1.0 a.1.1.seen a.1.1.stage f.staged a.1.3 ∙ (ap r.owner is ∙ sym m.staged.2) in
       absurd (not_both (is_inside a.1.1.stage) a.1.3 (ap (λ (z : View E). is_inside z.stage) (one_view s.views a.1.0 id a.1.1 (at_stage (Drawn t) v) a.1.2 at here)))) r.slot
 
   -- other views that fit what the words and the record say keep the rule
-  viewed : (s : St) (r : Rule s) (words : List ℕ) (homes : List (lean.Option (Option T))) (vs : List (View E)) (seat : List ℕ → ℕ) → words ≡ r.ticket ∷ r.serving ∷ length r.log ∷ []
+  viewed : (s : St) (r : Rule s) (words : List ℕ) (homes : List (lean.Option (Option T))) (vs : List (View E)) (token : List ℕ → ℕ) → words ≡ r.ticket ∷ r.serving ∷ length r.log ∷ []
       → ((t : ℕ) → r.serving ≤ t → t < r.ticket → (d : View E) × At vs (r.owner t) d × HasTicket t d.stage) → Home stands r.log r.serving homes vs ⊎ Away stands homes vs
-      → ((j : ℕ) (d : View E) → At vs j d → Fits r.log r.ticket r.serving r.owner j d) → NumberRule r.log seat (map numbers vs) → Rule record { words = words; homes = homes; views = vs }
-  viewed s r words homes vs seat same drawn slot each numbered = record { ticket = r.ticket; serving = r.serving; log = r.log; owner = r.owner; seat = seat; words = same; below = r.below; drawn = drawn; slot = slot; each = each; numbered = numbered }
+      → ((j : ℕ) (d : View E) → At vs j d → Fits r.log r.ticket r.serving r.owner j d) → NumberRule r.log token (map numbers vs) → Rule record { words = words; homes = homes; views = vs }
+  viewed s r words homes vs token same drawn slot each numbered = record { ticket = r.ticket; serving = r.serving; log = r.log; owner = r.owner; token = token; words = same; below = r.below; drawn = drawn; slot = slot; each = each; numbered = numbered }
 
-  -- a seat that looks has seen the record so far; the words, its numbers and what the others know stay
+  -- a token that looks has seen the record so far; the words, its numbers and what the others know stay
   looked : (s : St) (r : Rule s) (id : ℕ) (v : View E) (before after : Stage) (homes : List (lean.Option (Option T))) → At s.views id (at_stage before v) → ((t : ℕ) → HasTicket t before → HasTicket t after)
       → Stands r.log r.ticket r.serving r.owner id r.log after → ((after ≡ Idle) ⊎ Has v.of v.of.first) → Home stands r.log r.serving homes (set s.views id (seeing after r.log v)) ⊎ Away stands homes (set s.views id (seeing after r.log v))
       → Rule record { words = set s.words 1 (get_or s.words 1 0); homes = homes; views = set s.views id (seeing after r.log v) }
   looked s r id v before after homes at same staged live slot = let was : View E = at_stage before v in let w : View E = seeing after r.log v in
-      viewed s r (set s.words 1 (get_or s.words 1 0)) homes (set s.views id w) r.seat (set-get_or s.words 1 0 ∙ r.words) (drawn_stay r.ticket r.serving r.owner s.views id was w at same r.drawn) slot
+      viewed s r (set s.words 1 (get_or s.words 1 0)) homes (set s.views id w) r.token (set-get_or s.words 1 0 ∙ r.words) (drawn_stay r.ticket r.serving r.owner s.views id was w at same r.drawn) slot
       (stay (Fits r.log r.ticket r.serving r.owner) s.views id w (record { staged = staged; begins = begins_whole r.log r.log v.of.all refl; former = no_former r.log v.of.all; live = live }) (λ j d _ p. r.each j d p))
-      (same_numbers r.log r.seat s.views id was w at refl r.numbered)
+      (same_numbers r.log r.token s.views id was w at refl r.numbered)
 
   pub looks_keep : (slots id t : ℕ) (v : View E)
       → Allows Rule slots id (at_stage (Drawn t) v, []) 1 (λ x. x) (looks stands (step slots 1 0 0 lean.none) (at_stage (Drawn t) v, []))
@@ -221,7 +221,7 @@ module _ {T E : Type 0} (stands : T → Log E → Type 0) where
       let w : View E = seeing (Entered t) (v.seen ++ entry ∷ []) v in
       let whole : v.seen ++ entry ∷ [] ≡ log = ap (λ (l : Log E). l ++ entry ∷ []) mine.3 in
       let has : Has v.of v.of.first = ⊎_elim (λ (idle : Holds t ≡ Idle). absurd (cc)) (λ h. h) fit.live in
-      let owns : id ≡ r.seat v.of.first = r.numbered.own id v.of v.of.first (at_map numbers s.views id was at) has in
+      let owns : id ≡ r.token v.of.first = r.numbered.own id v.of v.of.first (at_map numbers s.views id was at) has in
       let served : id ≡ r.owner r.serving = mine.2 ∙ ap r.owner mine.0 in
       let longer : length log ≡ t + 1 = length-append r.log (entry ∷ []) ∙ omega arith in (
         w,
@@ -232,7 +232,7 @@ module _ {T E : Type 0} (stands : T → Log E → Type 0) where
           serving = r.serving;
           log = log;
           owner = r.owner;
-          seat = r.seat;
+          token = r.token;
           words = ap (λ (l : List ℕ). set l 2 k) r.words ∙ (let e : k ≡ length log = omega arith in ap (λ (z : ℕ). r.ticket ∷ r.serving ∷ z ∷ []) e);
           below = r.below;
           drawn = drawn_stay r.ticket r.serving r.owner s.views id was w at (λ t h. h) r.drawn;
@@ -241,12 +241,12 @@ module _ {T E : Type 0} (stands : T → Log E → Type 0) where
               (record { staged = (mine.0, mine.1, mine.2, whole, longer); begins = begins_whole log (v.seen ++ entry ∷ []) v.of.all whole; former = no_former log v.of.all; live = inr has })
               (λ j d other p. let f = r.each j d p in record {
                 staged = stands_entered r.log log r.ticket r.serving r.owner j d.seen d.stage (λ is. other (is ∙ sym served)) f.staged;
-                begins = begins_longer r.log d.seen d.of.all entry f.begins (other_numbers r.seat id j d.of v.of.first (λ y h. r.numbered.own j d.of y (at_map numbers s.views j d p) h) owns other);
-                former = former_longer r.log d.of.all d.old entry f.former (other_numbers r.seat id j d.of v.of.first (λ y h. r.numbered.own j d.of y (at_map numbers s.views j d p) h) owns other);
+                begins = begins_longer r.log d.seen d.of.all entry f.begins (other_numbers r.token id j d.of v.of.first (λ y h. r.numbered.own j d.of y (at_map numbers s.views j d p) h) owns other);
+                former = former_longer r.log d.of.all d.old entry f.former (other_numbers r.token id j d.of v.of.first (λ y h. r.numbered.own j d.of y (at_map numbers s.views j d p) h) owns other);
                 live = f.live;
               });
-          numbered = numbered_longer r.log r.seat (map numbers (set s.views id w)) id v.of entry (at_map numbers (set s.views id w) id w (set_here s.views id w (long_enough s.views id was at))) has owns
-              (same_numbers r.log r.seat s.views id was w at refl r.numbered);
+          numbered = numbered_longer r.log r.token (map numbers (set s.views id w)) id v.of entry (at_map numbers (set s.views id w) id w (set_here s.views id w (long_enough s.views id was at))) has owns
+              (same_numbers r.log r.token s.views id was w at refl r.numbered);
         },
         (λ (z : T) (q : ◌≡◌ {A = List (ℕ × Option T)} ((0, Some y) ∷ []) ((0, Some z) ∷ [])). let same : y ≡ z = one_value y z q in ap (λ (u : T). (seeing (Entered t) (v.seen ++ (v.of.first, last u) ∷ []) v, (0, Some y) ∷ [])) same),
       )
@@ -267,7 +267,7 @@ module _ {T E : Type 0} (stands : T → Log E → Type 0) where
           serving = r.serving + 1;
           log = r.log;
           owner = r.owner;
-          seat = r.seat;
+          token = r.token;
           words = ap (λ (l : List ℕ). set l 1 k) r.words ∙ (let e : k ≡ r.serving + 1 = omega arith in ap (λ (z : ℕ). r.ticket ∷ z ∷ length r.log ∷ []) e);
           below = omega arith;
           drawn = λ u lo hi. let d = r.drawn u (omega arith) hi in
@@ -290,7 +290,7 @@ module _ {T E : Type 0} (stands : T → Log E → Type 0) where
                 former = f.former;
                 live = f.live;
               });
-          numbered = same_numbers r.log r.seat s.views id was w at refl r.numbered;
+          numbered = same_numbers r.log r.token s.views id was w at refl r.numbered;
         },
         refl,
       )
@@ -301,7 +301,7 @@ module _ {T E : Type 0} (stands : T → Log E → Type 0) where
     serving = 0;
     log = [];
     owner = λ _. 0;
-    seat = λ _. 0;
+    token = λ _. 0;
     words = refl;
     below = le_refl 0;
     drawn = λ t lo hi. absurd (omega arith);
@@ -328,7 +328,7 @@ module _ {T E : Type 0} (stands : T → Log E → Type 0) where
     no_child [] i h = absurd (cc)
     no_child (x ∷ p) i h = absurd (cc)
 
-  -- what a seat knows but for its numbers
+  -- what a token knows but for its numbers
   abbrev Knows : Log E → ℕ → ℕ → (ℕ → ℕ) → ℕ → View E → Type 0
   Knows log ticket serving owner j v = Stands log ticket serving owner j v.seen v.stage × Begins log v.of.all v.seen × Former log v.of.all v.old × ((v.stage ≡ Idle) ⊎ Has v.of v.of.first)
 
@@ -348,7 +348,7 @@ module _ {T E : Type 0} (stands : T → Log E → Type 0) where
     b.0,
     b.1,
     part_none (next_number v.of ∷ []) b.0 (λ i e p. let q = behind seen b.0 i e p in
-        let d = r.numbered.entered q.0 e (subst (λ (l : Log E). At l q.0 e) (sym b.1) q.1) in by_test e.0 d.0 (new_is_fresh r.log r.seat (map numbers s.views) r.numbered id v.of (at_map numbers s.views id v at) has (r.seat e.0) d.0 d.1) d.2 (same e.0 (next_number v.of)) refl),
+        let d = r.numbered.entered q.0 e (subst (λ (l : Log E). At l q.0 e) (sym b.1) q.1) in by_test e.0 d.0 (new_is_fresh r.log r.token (map numbers s.views) r.numbered id v.of (at_map numbers s.views id v at) has (r.token e.0) d.0 d.1) d.2 (same e.0 (next_number v.of)) refl),
   ) where
     by_test : (x : List ℕ) (n : Numbers) → among (next_number v.of) n.all ≡ false → Has n x → (b : Bool) → same x (next_number v.of) ≡ b → (b || false) ≡ false
     by_test x n f h true e = absurd (not_both (among (next_number v.of) n.all) (subst (λ (z : List ℕ). Has n z) (same_equal x (next_number v.of) e) h) f)
@@ -360,7 +360,7 @@ module _ {T E : Type 0} (stands : T → Log E → Type 0) where
       let ns : List Numbers = map numbers s.views in let vs : List (View E) = set s.views id left ++ right ∷ [] in
       let fit = r.each id was at in let at' : At ns id v.of = at_map numbers s.views id was at in
       let nums : map numbers vs ≡ set ns id (splitting v.of) ++ child v.of ∷ [] = map-append numbers (set s.views id left) (right ∷ []) ∙ ap (λ (l : List Numbers). l ++ child v.of ∷ []) (map-set numbers s.views id left) in
-      let next : List ℕ → ℕ = seat_split r.log r.seat ns r.numbered id v.of at' has in
+      let next : List ℕ → ℕ = token_split r.log r.token ns r.numbered id v.of at' has in
       let known = stay_more (Knows r.log r.ticket r.serving r.owner) s.views id left right (tt, fit.begins, fit.former, inr has) (λ j d _ p. knows s r j d p) (λ j. (tt, none_new s r id was at has v.seen fit.begins, no_former r.log (next_number v.of ∷ []), inl refl)) in
       viewed s r s.words s.homes vs next r.words
       (λ t lo hi. let d = r.drawn t lo hi in let other : r.owner t ≢ id = λ e. subst (λ (z : View E). HasTicket t z.stage) (one_view s.views (r.owner t) id d.0 was d.1 at e) d.2 in
@@ -368,7 +368,7 @@ module _ {T E : Type 0} (stands : T → Log E → Type 0) where
       (⊎_elim (λ h. inl (h.0, h.1, h.2, h.3, stay_more (λ j z. is_inside z.stage ≡ false) s.views id left right refl (λ j d _ p. h.4 j d p) (λ _. refl)))
       (λ a. let b = away_stays s.homes s.views id was left at refl a in inr (b.0, (b.1.0, b.1.1, at_longer (set s.views id left) (right ∷ []) b.1.0 b.1.1 b.1.2, b.1.3))) r.slot)
       (λ j d p. fits r.log r.ticket r.serving r.owner j d (known j d p))
-      (subst (NumberRule r.log next) (sym nums) (numbered_split r.log r.seat ns r.numbered id v.of at' has))
+      (subst (NumberRule r.log next) (sym nums) (numbered_split r.log r.token ns r.numbered id v.of at' has))
 
   part_nil : (es : Log E) → part [] es ≡ []
   part_nil [] = refl
@@ -391,7 +391,7 @@ module _ {T E : Type 0} (stands : T → Log E → Type 0) where
       let fit = r.each id was at in let fit2 = r.each other their there in
       let at1 : At ns id v.of = at_map numbers s.views id was at in let at2 : At ns other w.of = at_map numbers s.views other their there in
       let nums : map numbers vs ≡ set (set ns id (joined v.of w.of)) other spent = map-set numbers (set s.views id both) other nobody ∙ ap (λ (l : List Numbers). set l other spent) (map-set numbers s.views id both) in
-      let next : List ℕ → ℕ = seat_join r.log r.seat ns r.numbered id other v.of w.of at1 at2 apart has in
+      let next : List ℕ → ℕ = token_join r.log r.token ns r.numbered id other v.of w.of at1 at2 apart has in
       let seen = join_seen r.log v.seen w.seen v.of.all w.of.all fit.begins fit2.begins (nat_le (length v.seen) (length w.seen)) refl in
       let K = Knows r.log r.ticket r.serving r.owner in
       let known = stay K (set s.views id both) other nobody (tt, (r.log, refl, part_nil r.log), no_former r.log [], inl refl)
@@ -404,7 +404,7 @@ module _ {T E : Type 0} (stands : T → Log E → Type 0) where
       (⊎_elim (λ h. inl (home_stays r.log r.serving s.homes (set s.views id both) other nobody refl (home_stays r.log r.serving s.homes s.views id both refl h)))
       (λ a. inr (away_stays s.homes (set s.views id both) other their nobody there' refl (away_stays s.homes s.views id was both at refl a))) r.slot)
       (λ j d p. fits r.log r.ticket r.serving r.owner j d (known j d p))
-      (subst (NumberRule r.log next) (sym nums) (numbered_join r.log r.seat ns r.numbered id other v.of w.of at1 at2 apart has))
+      (subst (NumberRule r.log next) (sym nums) (numbered_join r.log r.token ns r.numbered id other v.of w.of at1 at2 apart has))
 
   pub learns_keep : (slots id : ℕ) (v : View E) → Has v.of v.of.first
       → Allows Rule slots id (at_stage Idle v, []) 1 (λ x. x) (looks stands (step slots 1 0 0 lean.none) (at_stage Idle v, []))
@@ -422,7 +422,7 @@ module _ {T E : Type 0} (stands : T → Log E → Type 0) where
   inside_below log ticket serving owner j seen (Holds t) s i = let e = s.0 in let l = s.1 in omega arith
   inside_below log ticket serving owner j seen (Entered t) s i = let e = s.0 in let l = s.1 in omega arith
 
-  -- what a table that its last seat closes shows
+  -- what a table that its last token closes shows
   abbrev pub Ends : View E → List ℕ → List (Option T) → Type 0
   Ends v ws xs = (get_or ws 0 0 ≡ get_or ws 1 0 → (x : T) × (get_elem? xs 0 ≡ lean.some (Some x)) × Leaves stands x v)
       × (get_or ws 0 0 ≢ get_or ws 1 0 → (get_or ws 1 0 < get_or ws 0 0) × ¬ IsWhole v.of)
@@ -434,12 +434,12 @@ module _ {T E : Type 0} (stands : T → Log E → Type 0) where
       let t0 : get_or ws 0 0 ≡ r.ticket = ap (λ (l : List ℕ). get_or l 0 0) same_words in
       let s0 : get_or ws 1 0 ≡ r.serving = ap (λ (l : List ℕ). get_or l 1 0) same_words in
       let below = r.below in let fit = r.each id was at in
-      let all : IsWhole v.of → (k : ℕ) (m : Numbers) (x : List ℕ) → At ns k m → Has m x → Has v.of x = λ whole k m x p h. whole_has r.log r.seat ns r.numbered id v.of (at_map numbers s.views id was at) whole (length x) x (le_refl (length x)) k m p h in (
+      let all : IsWhole v.of → (k : ℕ) (m : Numbers) (x : List ℕ) → At ns k m → Has m x → Has v.of x = λ whole k m x p h. whole_has r.log r.token ns r.numbered id v.of (at_map numbers s.views id was at) whole (length x) x (le_refl (length x)) k m p h in (
         (λ e. ⊎_elim
             (λ (h : Home stands r.log r.serving s.homes s.views). (
               h.0,
               f.4 0 (Some h.0) (ap (λ (l : List (lean.Option (Option T))). get_elem? l 0) h.1),
-              record { log = r.log; value = h.2; begins = fit.begins; own = λ whole i e p. let d = r.numbered.entered i e p in all whole (r.seat e.0) d.0 e.0 d.1 d.2 },
+              record { log = r.log; value = h.2; begins = fit.begins; own = λ whole i e p. let d = r.numbered.entered i e p in all whole (r.token e.0) d.0 e.0 d.1 d.2 },
             ))
             (λ (a : Away stands s.homes s.views). let q = (r.each a.1.0 a.1.1 a.1.2).staged in let l = inside_below r.log r.ticket r.serving r.owner a.1.0 a.1.1.seen a.1.1.stage q a.1.3 in absurd (omega arith))
             r.slot),
@@ -454,21 +454,21 @@ module _ {T E : Type 0} (stands : T → Log E → Type 0) where
         )),
       )
 
-  -- the same of a seat that is known to be idle
+  -- the same of a token that is known to be idle
   pub idle_ends : (id : ℕ) (v : View E) (ws : List ℕ) (xs : List (Option T)) → v ≡ at_stage Idle v → Has v.of v.of.first → Final (Seen Rule id v) ws xs → Ends v ws xs
   idle_ends id v ws xs is has f = ends id v ws xs has (subst (λ (z : View E). Final (Seen Rule id z) ws xs) is f)
 
-  -- two seats that hold the value are one
+  -- two tokens that hold the value are one
   pub one_holds : (s : St) → Rule s → (j k : ℕ) (v w : View E) → At s.views j v → At s.views k w → is_inside v.stage ≡ true → is_inside w.stage ≡ true → j ≡ k
   one_holds s r j k v w p q a b = inside_is_served r.log r.ticket r.serving r.owner j v.seen v.stage (r.each j v p).staged a ∙ sym (inside_is_served r.log r.ticket r.serving r.owner k w.seen w.stage (r.each k w q).staged b)
 
-  -- two seats with one number are one
+  -- two tokens with one number are one
   pub one_has : (s : St) → Rule s → (j k : ℕ) (v w : View E) (x : List ℕ) → At s.views j v → At s.views k w → Has v.of x → Has w.of x → j ≡ k
   one_has s r j k v w x p q a b = r.numbered.own j v.of x (at_map numbers s.views j v p) a ∙ sym (r.numbered.own k w.of x (at_map numbers s.views k w q) b)
 
-  -- beside a whole seat there are spent ones alone
+  -- beside a whole token there are spent ones alone
   pub whole_alone : (s : St) → Rule s → (j k : ℕ) (v w : View E) → At s.views j v → At s.views k w → IsWhole v.of → IsSpent w.of ⊎ (j ≡ k)
   whole_alone s r j k v w p q whole = ⊎_elim inl
       (λ (h : Has w.of w.of.first). inr (one_has s r j k v w w.of.first p q
-      (whole_has r.log r.seat (map numbers s.views) r.numbered j v.of (at_map numbers s.views j v p) whole (length w.of.first) w.of.first (le_refl (length w.of.first)) k w.of (at_map numbers s.views k w q) h) h))
+      (whole_has r.log r.token (map numbers s.views) r.numbered j v.of (at_map numbers s.views j v p) whole (length w.of.first) w.of.first (le_refl (length w.of.first)) k w.of (at_map numbers s.views k w q) h) h))
       (r.numbered.rooted k w.of (at_map numbers s.views k w q))

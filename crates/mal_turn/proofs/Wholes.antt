@@ -1,4 +1,4 @@
--- Why many seats that are joined are whole, and what a whole seat has seen.
+-- Why many tokens that are joined are whole, and what a whole token has seen.
 use Rattle.std.proofs.Common.{◌≡◌, ℕ, zero, suc, ◌<◌, Bool, true, false, ◌||◌, List, [], ◌∷◌, ◌++◌, length, if◌then◌else◌, refl, sym, ap, ◌∙◌, subst, inl, inr, ◌⊎◌, ⊎_elim, append_assoc, arith, get_or}
 use Rattle.std.specs.List.{Contains}
 use Rattle.std.specs.List.Sorted.{IsPermutation}
@@ -34,7 +34,7 @@ none_left : (xs : List (List ℕ)) → ((x : List ℕ) → among x xs ≡ true �
 none_left [] f = refl
 none_left (x ∷ xs) f = absurd (f x (or_left (same x x) (among x xs) (same_refl x)))
 
--- seats that are joined have all their numbers
+-- tokens that are joined have all their numbers
 joined_has : (n : Numbers) (ms : List Numbers) → (join_all n ms).all ≡ n.all ++ numbers_of ms
 joined_has n [] = sym (append-nil n.all)
 joined_has n (m ∷ ms) = joined_has (joined n m) ms ∙ append_assoc n.all m.all (numbers_of ms)
@@ -50,7 +50,7 @@ joined_others : (n : Numbers) (ms : List Numbers) → AwaitsOthers n → AwaitsO
 joined_others n [] f = f
 joined_others n (m ∷ ms) f = joined_others (joined n m) ms (λ x a h. without_lacks x (n.awaited ++ m.awaited) (n.all ++ m.all) a h)
 
--- where each number that some seat awaits is some seat's
+-- where each number that some token awaits is some token's
 pub joined_whole : (n : Numbers) (ms : List Numbers) → Has n [] → AwaitsOthers n → ((x : List ℕ) → among x (n.awaited ++ awaited_of ms) ≡ true → among x (n.all ++ numbers_of ms) ≡ true) → IsWhole (join_all n ms)
 joined_whole n ms first others all = (
   subst (λ (z : List (List ℕ)). among [] z ≡ true) (sym (joined_has n ms)) (has_left [] n.all (numbers_of ms) first),
@@ -100,7 +100,7 @@ split_awaits (suc k) n x h = ⊎_elim
     (λ (b : (among x (numbers_of (children k (splitting n))) ≡ true) × ((i : ℕ) × (x ≡ n.first ++ i ∷ []))). inr (has_right x (next_number n ∷ []) (numbers_of (children k (splitting n))) b.0, b.1))
     (split_awaits k (splitting n) x h)
 
--- after so many splits of the first seat, and joins in any order
+-- after so many splits of the first token, and joins in any order
 pub many_whole : (k : ℕ) (ms : List Numbers) → IsPermutation (children k opening) ms → IsWhole (join_all (split_times k opening) ms)
 many_whole k ms p = joined_whole (split_times k opening) ms
     (subst (λ (z : List (List ℕ)). among [] z ≡ true) (sym (split_all k opening)) refl)
@@ -118,7 +118,7 @@ many_whole k ms p = joined_whole (split_times k opening) ms
     let w = among_waiter x (children k opening) o.0 there.0 there.1 there.2 o.2 in let q = subst (λ (z : List (List ℕ)). among x z ≡ true) (children_await_none k opening) w in absurd (cc))
     (has_either x (split_times k opening).awaited (awaited_of ms) a))
 
--- both parts of a seat that was split are back and joined
+-- both parts of a token that was split are back and joined
 pub back_joined : (n a b : Numbers) → IsBack (splitting n) a → IsBack (child n) b → IsBack n (joined a b)
 back_joined n a b one two = record {
   kept = λ x h. has_left x a.all b.all (one.kept x h);

@@ -3,4 +3,4 @@ pub mod Rule
 pub mod Steps
 pub mod Many
 pub mod Laws
-pub mod Seats
+pub mod Tokens

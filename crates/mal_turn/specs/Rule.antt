@@ -1,4 +1,4 @@
--- The rule of the turn: of the words, the slot and what each seat knows.
+-- The rule of the turn: of the words, the slot and what each token knows.
 use Rattle.std.specs.Prelude.{◌≡◌, ℕ, ◌+◌, ◌<◌, ◌≤◌, Bool, true, false, List, [], ◌∷◌, ◌++◌, map, length, nat_le, if◌then◌else◌, ◌⊎◌, Option, Some}
 use mathlib.Core.Option as lean
 use lib.ListN.{get_elem?}
@@ -9,11 +9,11 @@ use Rattle.mal_turn.specs.declared.view.Stage.{Stage}
 use Rattle.mal_turn.specs.declared.view.Stage.TheVariants.{Idle, Drawn, Holds, Entered}
 use Rattle.mal_turn.specs.Numbers.{among, without, part}
 
--- a record: entries, each with the number of the seat that made it
+-- a record: entries, each with the number of the token that made it
 abbrev pub Log : Type 0 → Type 0
 Log E = List (List ℕ × E)
 
--- numbers, with what was seen when they were one seat's
+-- numbers, with what was seen when they were one token's
 abbrev pub Olds : Type 0 → Type 0
 Olds E = List (List (List ℕ) × Log E)
 
@@ -21,33 +21,33 @@ Olds E = List (List (List ℕ) × Log E)
 abbrev pub At : {V : Type 0} → List V → ℕ → V → Type 0
 At views j v = get_elem? views j ≡ lean.some v
 
--- the ticket that the seat has drawn
+-- the ticket that the token has drawn
 abbrev pub HasTicket : ℕ → Stage → Type 0
 HasTicket t Idle = ⊥
 HasTicket t (Drawn u) = u ≡ t
 HasTicket t (Holds u) = u ≡ t
 HasTicket t (Entered u) = u ≡ t
 
--- the seat has the slot
+-- the token has the slot
 abbrev pub is_inside : Stage → Bool
 is_inside Idle = false
 is_inside (Drawn t) = false
 is_inside (Holds t) = true
 is_inside (Entered t) = true
 
--- the numbers of the first seat
+-- the numbers of the first token
 abbrev pub opening : Numbers
 opening = record { first = []; count = 0; all = [] ∷ []; awaited = [] }
 
--- the numbers of a seat that another took in: none
+-- the numbers of a token that another took in: none
 abbrev pub spent : Numbers
 spent = record { first = []; count = 0; all = []; awaited = [] }
 
--- the seat has the number
+-- the token has the number
 abbrev pub Has : Numbers → List ℕ → Type 0
 Has n x = among x n.all ≡ true
 
--- another seat took it in
+-- another token took it in
 abbrev pub IsSpent : Numbers → Type 0
 IsSpent n = n.all ≡ []
 
@@ -55,19 +55,19 @@ IsSpent n = n.all ≡ []
 abbrev pub next_number : Numbers → List ℕ
 next_number n = n.first ++ n.count ∷ []
 
--- the numbers of the old seat after a split
+-- the numbers of the old token after a split
 abbrev pub splitting : Numbers → Numbers
 splitting n = record { first = n.first; count = n.count + 1; all = n.all; awaited = next_number n ∷ n.awaited }
 
--- the numbers of the new seat after a split
+-- the numbers of the new token after a split
 abbrev pub child : Numbers → Numbers
 child n = record { first = next_number n; count = 0; all = next_number n ∷ []; awaited = [] }
 
--- the numbers of a seat that took in another
+-- the numbers of a token that took in another
 abbrev pub joined : Numbers → Numbers → Numbers
 joined n m = record { first = n.first; count = n.count; all = n.all ++ m.all; awaited = without (n.awaited ++ m.awaited) (n.all ++ m.all) }
 
--- it has the first seat's number and awaits nothing: no other seat is left
+-- it has the first token's number and awaits nothing: no other token is left
 abbrev pub IsWhole : Numbers → Type 0
 IsWhole n = Has n [] × (n.awaited ≡ [])
 
@@ -76,11 +76,11 @@ module _ {E : Type 0} where
   abbrev pub viewing : Stage → Log E → Olds E → Numbers → View E
   viewing s seen old n = record { stage = s; seen = seen; old = old; of = n }
 
-  -- the view of the first seat
+  -- the view of the first token
   abbrev pub opener : View E
   opener = viewing Idle [] [] opening
 
-  -- the view of a seat that another took in
+  -- the view of a token that another took in
   abbrev pub nobody : View E
   nobody = viewing Idle [] [] spent
 
@@ -96,15 +96,15 @@ module _ {E : Type 0} where
   abbrev pub longer : Log E → Log E → Log E
   longer a b = if nat_le (length a) (length b) then b else a
 
-  -- the old seat's view after a split
+  -- the old token's view after a split
   abbrev pub split_left : View E → View E
   split_left v = viewing v.stage v.seen v.old (splitting v.of)
 
-  -- the new seat's view after a split
+  -- the new token's view after a split
   abbrev pub split_right : View E → View E
   split_right v = viewing Idle v.seen [] (child v.of)
 
-  -- the view of a seat that took in another: the longer record seen, and what both had seen
+  -- the view of a token that took in another: the longer record seen, and what both had seen
   abbrev pub join_both : View E → View E → View E
   join_both v w = viewing v.stage (longer v.seen w.seen) ((v.of.all, v.seen) ∷ (w.of.all, w.seen) ∷ []) (joined v.of w.of)
 
@@ -116,11 +116,11 @@ module _ {E : Type 0} where
   abbrev pub Begins : Log E → List (List ℕ) → Log E → Type 0
   Begins log ns seen = (rest : Log E) × (log ≡ seen ++ rest) × (part ns rest ≡ [])
 
-  -- the same of each seat that this one was, or took in
+  -- the same of each token that this one was, or took in
   abbrev pub Former : Log E → List (List ℕ) → Olds E → Type 0
   Former log all olds = (i : ℕ) (o : List (List ℕ) × Log E) → At olds i o → Begins log o.0 o.1 × ((x : List ℕ) → among x o.0 ≡ true → among x all ≡ true)
 
-  -- What a seat that took the turn and put the value back knows: all that it had seen, what others entered since, and
+  -- What a token that took the turn and put the value back knows: all that it had seen, what others entered since, and
   -- then its own entry. Of its numbers the record has the entries that it had and this one.
   pub record Extends (v : View E) (e : E) (w : View E) : Type 0 where
     pub earlier : Log E
@@ -130,7 +130,7 @@ module _ {E : Type 0} where
     pub numbers : w.of ≡ v.of
 
   module _ (log : Log E) (ticket serving : ℕ) (owner : ℕ → ℕ) (j : ℕ) (seen : Log E) where
-    -- what a seat at this stage may rely on: its ticket is drawn and not passed on, and whoever holds the value has
+    -- what a token at this stage may rely on: its ticket is drawn and not passed on, and whoever holds the value has
     -- seen the whole record
     abbrev pub Stands : Stage → Type 0
     Stands Idle = Unit {0}
@@ -138,7 +138,7 @@ module _ {E : Type 0} where
     Stands (Holds t) = (t ≡ serving) × (t < ticket) × (j ≡ owner t) × (seen ≡ log) × (length log ≡ t)
     Stands (Entered t) = (t ≡ serving) × (t < ticket) × (j ≡ owner t) × (seen ≡ log) × (length log ≡ t + 1)
 
-  -- what one seat knows is so, and whoever has a ticket is not spent
+  -- what one token knows is so, and whoever has a ticket is not spent
   pub record Fits (log : Log E) (ticket serving : ℕ) (owner : ℕ → ℕ) (j : ℕ) (v : View E) : Type 0 where
     pub staged : Stands log ticket serving owner j v.seen v.stage
     pub begins : Begins log v.of.all v.seen
@@ -149,13 +149,13 @@ module _ {E : Type 0} where
   -- a view's first with k put behind it has k below that view's count; of each number in a view, but for the empty one,
   -- some view has the number without its last element, and has the number itself or awaits it; and the number of each
   -- entry is in some view.
-  pub record NumberRule (log : Log E) (seat : List ℕ → ℕ) (ns : List Numbers) : Type 0 where
-    pub own : (j : ℕ) (n : Numbers) (x : List ℕ) → At ns j n → Has n x → j ≡ seat x
+  pub record NumberRule (log : Log E) (token : List ℕ → ℕ) (ns : List Numbers) : Type 0 where
+    pub own : (j : ℕ) (n : Numbers) (x : List ℕ) → At ns j n → Has n x → j ≡ token x
     pub rooted : (j : ℕ) (n : Numbers) → At ns j n → IsSpent n ⊎ Has n n.first
     pub fresh : (j k i : ℕ) (n m : Numbers) → At ns j n → At ns k m → Has n n.first → Has m (n.first ++ i ∷ []) → i < n.count
     pub parent : (k i : ℕ) (m : Numbers) (p : List ℕ) → At ns k m → Has m (p ++ i ∷ [])
-        → (n : Numbers) × At ns (seat p) n × Has n p × (Has n (p ++ i ∷ []) ⊎ (among (p ++ i ∷ []) n.awaited ≡ true))
-    pub entered : (i : ℕ) (e : List ℕ × E) → At log i e → (n : Numbers) × At ns (seat e.0) n × Has n e.0
+        → (n : Numbers) × At ns (token p) n × Has n p × (Has n (p ++ i ∷ []) ⊎ (among (p ++ i ∷ []) n.awaited ≡ true))
+    pub entered : (i : ℕ) (e : List ℕ × E) → At log i e → (n : Numbers) × At ns (token e.0) n × Has n e.0
 
 module _ {T E : Type 0} (stands : T → Log E → Type 0) where
   -- the value is at home, stands for the record, and nobody holds it
@@ -166,23 +166,23 @@ module _ {T E : Type 0} (stands : T → Log E → Type 0) where
   abbrev pub Away : List (lean.Option (Option T)) → List (View E) → Type 0
   Away homes views = (homes ≡ lean.none ∷ []) × ((j : ℕ) × (v : View E) × At views j v × (is_inside v.stage ≡ true))
 
-  -- The rule of the turn. There is a record, whose length is the third word; `owner` says whose a ticket is, `seat`
+  -- The rule of the turn. There is a record, whose length is the third word; `owner` says whose a ticket is, `token`
   -- whose a number is.
   pub record TurnRule (s : State (Option T) (View E)) : Type 0 where
     pub ticket : ℕ
     pub serving : ℕ
     pub log : Log E
     pub owner : ℕ → ℕ
-    pub seat : List ℕ → ℕ
+    pub token : List ℕ → ℕ
     pub words : s.words ≡ ticket ∷ serving ∷ length log ∷ []
     pub below : serving ≤ ticket
     pub drawn : (t : ℕ) → serving ≤ t → t < ticket → (v : View E) × At s.views (owner t) v × HasTicket t v.stage
     pub slot : Home log serving s.homes s.views ⊎ Away s.homes s.views
     pub each : (j : ℕ) (v : View E) → At s.views j v → Fits log ticket serving owner j v
-    pub numbered : NumberRule log seat (map numbers s.views)
+    pub numbered : NumberRule log token (map numbers s.views)
 
-  -- What a closed turn leaves: a value that stands for a record, which begins with what the seat had seen and goes on
-  -- with entries of other numbers alone. Each entry is of a whole seat's numbers.
+  -- What a closed turn leaves: a value that stands for a record, which begins with what the token had seen and goes on
+  -- with entries of other numbers alone. Each entry is of a whole token's numbers.
   pub record Leaves (x : T) (v : View E) : Type 0 where
     pub log : Log E
     pub value : stands x log

@@ -16,9 +16,9 @@ pub fn each_step_keeps_the_rule<T: Recorded>()
     ensures pass { PassingKeeps T.stands }
 {}
 
-/// At every moment at most one seat holds the value, a number is at most one seat's, and beside a whole seat no other
-/// is left.
-pub fn one_seat_holds<T: Recorded>()
+/// At every moment at most one token holds the value, a number is at most one token's, and beside a whole token no
+/// other is left.
+pub fn one_token_holds<T: Recorded>()
     ensures holds { OneHolds T.stands }
     ensures number { OneHas T.stands }
     ensures whole { WholeIsAlone T.stands }
@@ -30,27 +30,27 @@ pub fn a_turn_adds_one_entry<T: Recorded>()
     ensures { TurnExtends T.Entry }
 {}
 
-/// What a seat has seen stays a beginning of the record, after which nothing of its numbers comes, also over joins.
+/// What a token has seen stays a beginning of the record, after which nothing of its numbers comes, also over joins.
 pub fn what_was_seen_stays<T: Recorded>()
     ensures later { SeenStays T.Entry }
     ensures part { PartIsSeen T.Entry }
 {}
 
-/// A whole seat that closes the turn has seen the whole record, and the record is its part.
-pub fn a_whole_seat_has_seen_all<T: Recorded>()
+/// A whole token that closes the turn has seen the whole record, and the record is its part.
+pub fn a_whole_token_has_seen_all<T: Recorded>()
     ensures { WholeSeesAll T.stands }
 {}
 
-/// One seat that was split n times and took the n new seats in, in any order, is whole; and so is one that took in
-/// seats that were split further, once each number that is awaited is there.
-pub fn joined_seats_are_whole()
+/// One token that was split n times and took the n new tokens in, in any order, is whole; and so is one that took in
+/// tokens that were split further, once each number that is awaited is there.
+pub fn joined_tokens_are_whole()
     ensures many { ManyAreWhole }
     ensures all { AllAreWhole }
 {}
 
-/// A seat that is split, both parts of which are used, split and joined at will and joined at last, has what it had and
-/// awaits no more. So a whole seat is whole again.
-pub fn a_seat_comes_back()
+/// A token that is split, both parts of which are used, split and joined at will and joined at last, has what it had
+/// and awaits no more. So a whole token is whole again.
+pub fn a_token_comes_back()
     ensures joined { BothAreBack }
     ensures whole { BackIsWhole }
 {}

@@ -1,5 +1,5 @@
 //! A value that threads take in turns, by a ticket over an atomic table, with one record of what its holders did: what
-//! seats know, the rule, and the laws about them as the contracts of functions without a body.
+//! tokens know, the rule, and the laws about them as the contracts of functions without a body.
 #![tactic(auto)]
 
 mod holding;
@@ -12,8 +12,8 @@ mod view;
 mod waiting;
 
 pub use laws::{
-    a_seat_comes_back, a_turn_adds_one_entry, a_whole_seat_has_seen_all, each_step_keeps_the_rule,
-    joined_seats_are_whole, one_seat_holds, what_was_seen_stays,
+    a_token_comes_back, a_turn_adds_one_entry, a_whole_token_has_seen_all,
+    each_step_keeps_the_rule, joined_tokens_are_whole, one_token_holds, what_was_seen_stays,
 };
-pub use table::{Held, HeldOf, InUse, Seat, SeatOf, Turn};
+pub use table::{Held, HeldOf, InUse, Token, TokenOf, Turn};
 pub use view::{Numbers, Recorded, Stage, View};

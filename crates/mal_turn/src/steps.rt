@@ -32,7 +32,7 @@ impl<T, E> Play<Option<T>, View<E>> for Pass {
     ghost then = { passes };
 }
 
-/// A seat is cut in two.
+/// A token is cut in two.
 pub(crate) struct Cut;
 
 impl<E> Split<View<E>> for Cut {
@@ -41,7 +41,7 @@ impl<E> Split<View<E>> for Cut {
     ghost right = { split_right };
 }
 
-/// A seat takes in another.
+/// A token takes in another.
 pub(crate) struct Glue;
 
 impl<E> Join<View<E>> for Glue {

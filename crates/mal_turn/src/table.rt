@@ -1,4 +1,4 @@
-//! The turn, its seats, and what a holder has.
+//! The turn, its tokens, and what a holder has.
 ghost use Rattle.std.specs.Prelude.{◌≡◌, ◌+◌, ◌^◌, ◌<◌, [], ◌∷◌, None, true};
 ghost use Rattle.mal_turn.specs.{declared.view.Stage.TheVariants.{Idle, Holds}, Numbers.{among}, Rule.{at_stage}};
 
@@ -18,7 +18,7 @@ pub(crate) const HISTORY: usize = 2;
 /// The table of a turn: three words, and one slot in which the value lies.
 type Board<T> = Table<Option<T>, View<<T as Recorded>::Entry>, (), TurnRule<T>, Global>;
 
-/// A seat at the table.
+/// What a token is at that table.
 pub(crate) type Place<T, E> = atomic_table::Seat<Option<T>, View<E>>;
 
 /// A value that threads take in turns.
@@ -29,12 +29,12 @@ pub struct Turn<T: Recorded + Drop> {
     ghost wide: { (table.shared.table_id.words ≡ 3) × (table.shared.table_id.slots ≡ 1) },
 }
 
-/// The right to wait for the turn.
-pub type Seat<T> = SeatOf<T, <T as Recorded>::Entry>;
+/// The right to wait for the turn, which is split and joined.
+pub type Token<T> = TokenOf<T, <T as Recorded>::Entry>;
 
-/// A seat of values of a type, with the type of their entries.
+/// A token of values of a type, with the type of their entries.
 #[derive(Drop)]
-pub struct SeatOf<T, E> {
+pub struct TokenOf<T, E> {
     pub(crate) place: Place<T, E>,
     ghost idle: { place.me ≡ (at_stage Idle place.me.0, []) },
     ghost live: { among place.me.0.of.first place.me.0.of.all ≡ true },

@@ -1,10 +1,10 @@
 //! The calls of a turn.
 ghost use Rattle.std.specs.Prelude.{IfErr, IfOk, true, false, ◌≡◌, ◌≢◌, ◌<◌, ◌++◌, [], ◌∷◌};
 ghost use Rattle.mal_turn.specs.Rule.{Begins, Has, IsWhole, Leaves, opener, splitting, child, joined};
-ghost use Rattle.mal_turn.specs.Seats.{view, held_view, IsOf, IsHeldOf};
+ghost use Rattle.mal_turn.specs.Tokens.{view, held_view, IsOf, IsHeldOf};
 
 use crate::steps::{Cut, Glue, Look};
-use crate::table::{Held, HeldOf, InUse, SERVING, Seat, SeatOf, TICKET, Turn};
+use crate::table::{Held, HeldOf, InUse, SERVING, TICKET, Token, TokenOf, Turn};
 use crate::view::Recorded;
 use crate::waiting::Waiting;
 use atomic_table::Table;
@@ -12,8 +12,8 @@ use std::alloc::{AllocError, Global};
 use std::sync::Wait;
 
 impl<T: Recorded + Drop> Turn<T> {
-    /// The seat is whole. The value stands for no entries.
-    pub fn new(alloc: Global, value: T) -> Result<(Turn<T>, Seat<T>), AllocError>
+    /// The token is whole. The value stands for no entries.
+    pub fn new(alloc: Global, value: T) -> Result<(Turn<T>, Token<T>), AllocError>
         requires { T.stands value [] }
         ensures { IfOk result (λ r. IsOf r.0 r.1 × (view r.1 ≡ opener)) }
     {
@@ -25,22 +25,22 @@ impl<T: Recorded + Drop> Turn<T> {
                     table,
                     waiting: Waiting::new(),
                 },
-                SeatOf { place },
+                TokenOf { place },
             )),
             Err(_) => Err(AllocError),
         }
     }
 
     /// Waits for the turn, and takes the value.
-    pub fn take<R: Wait>(&self, rt: &R, seat: Seat<T>) -> Held<T>
-        requires { IsOf self.now seat }
+    pub fn take<R: Wait>(&self, rt: &R, token: Token<T>) -> Held<T>
+        requires { IsOf self.now token }
         ensures turn { IsHeldOf self.now result }
         ensures value { T.stands result.value (held_view result).seen }
-        ensures seen { Begins (held_view result).seen (view seat).of.all (view seat).seen }
-        ensures numbers { (held_view result).of ≡ (view seat).of }
-        ensures first { Has (view seat).of (view seat).of.first }
+        ensures seen { Begins (held_view result).seen (view token).of.all (view token).seen }
+        ensures numbers { (held_view result).of ≡ (view token).of }
+        ensures first { Has (view token).of (view token).of.first }
     {
-        let SeatOf { mut place } = seat;
+        let TokenOf { mut place } = token;
         let ticket = self.draw(rt, &mut place);
         self.wait(rt, &mut place, ticket);
         let Some(value) = self.table.shared.exchange(&mut place, 0, None) else {
@@ -54,7 +54,7 @@ impl<T: Recorded + Drop> Turn<T> {
     }
 
     /// Puts the value back, with its last entry as one entry more, and passes the turn on.
-    pub fn put(&self, held: Held<T>) -> Seat<T>
+    pub fn put(&self, held: Held<T>) -> Token<T>
         requires turn { IsHeldOf self.now held }
         requires value { T.stands held.value
             ((held_view held).seen ++ ((held_view held).of.first, T.last held.value) ∷ []) }
@@ -70,45 +70,45 @@ impl<T: Recorded + Drop> Turn<T> {
         } = held;
         self.enter(&mut place, value, ticket);
         self.pass_on(&mut place, ticket);
-        SeatOf { place }
+        TokenOf { place }
     }
 
-    /// The second seat is new. It has seen the same, and has a number of its own.
-    pub fn split(&self, seat: Seat<T>) -> (Seat<T>, Seat<T>)
-        requires { IsOf self.now seat }
+    /// The second token is new. It has seen the same, and has a number of its own.
+    pub fn split(&self, token: Token<T>) -> (Token<T>, Token<T>)
+        requires { IsOf self.now token }
         ensures turn { IsOf self.now result.0 × IsOf self.now result.1 }
-        ensures seen { ((view result.0).seen ≡ (view seat).seen) × ((view result.1).seen ≡ (view seat).seen) }
-        ensures old { (view result.0).of ≡ splitting (view seat).of }
-        ensures new { (view result.1).of ≡ child (view seat).of }
+        ensures seen { ((view result.0).seen ≡ (view token).seen) × ((view result.1).seen ≡ (view token).seen) }
+        ensures old { (view result.0).of ≡ splitting (view token).of }
+        ensures new { (view result.1).of ≡ child (view token).of }
     {
-        let SeatOf { mut place } = seat;
+        let TokenOf { mut place } = token;
         let new = self.table.shared.split_seat::<Cut>(&mut place);
-        (SeatOf { place }, SeatOf { place: new })
+        (TokenOf { place }, TokenOf { place: new })
     }
 
-    /// One seat with the numbers of both, which has seen what both had seen.
-    pub fn join(&self, seat: Seat<T>, other: Seat<T>) -> Seat<T>
-        requires one { IsOf self.now seat }
+    /// One token with the numbers of both, which has seen what both had seen.
+    pub fn join(&self, token: Token<T>, other: Token<T>) -> Token<T>
+        requires one { IsOf self.now token }
         requires other { IsOf self.now other }
         ensures turn { IsOf self.now result }
-        ensures numbers { (view result).of ≡ joined (view seat).of (view other).of }
-        ensures one { Begins (view result).seen (view seat).of.all (view seat).seen }
+        ensures numbers { (view result).of ≡ joined (view token).of (view other).of }
+        ensures one { Begins (view result).seen (view token).of.all (view token).seen }
         ensures other { Begins (view result).seen (view other).of.all (view other).seen }
     {
-        let SeatOf { mut place } = seat;
-        let SeatOf { place: other } = other;
+        let TokenOf { mut place } = token;
+        let TokenOf { place: other } = other;
         self.table.shared.join_seat::<Glue>(&mut place, other);
         self.table.shared.load::<Look>(&mut place, SERVING);
-        SeatOf { place }
+        TokenOf { place }
     }
 
     /// Gives the value back, unless a ticket was drawn and not passed on.
-    pub fn close(self, seat: Seat<T>) -> Result<T, InUse>
-        requires { IsOf self seat }
-        ensures value { IfOk result (λ x. Leaves T.stands x (view seat)) }
-        ensures in_use { IfErr result (λ u. (u.serving < u.ticket) × ¬ IsWhole (view seat).of) }
+    pub fn close(self, token: Token<T>) -> Result<T, InUse>
+        requires { IsOf self token }
+        ensures value { IfOk result (λ x. Leaves T.stands x (view token)) }
+        ensures in_use { IfErr result (λ u. (u.serving < u.ticket) × ¬ IsWhole (view token).of) }
     {
-        let SeatOf { place } = seat;
+        let TokenOf { place } = token;
         let Turn { table, waiting: _ } = self;
         let mut closed = table.close_with(place);
         let ticket = closed.word(TICKET);

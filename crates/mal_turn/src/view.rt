@@ -1,4 +1,4 @@
-//! What a seat knows. No value of these types is made, but for `Recorded`'s own.
+//! What a token knows. No value of these types is made, but for `Recorded`'s own.
 use std::collections::LinkedList;
 
 /// A value that stands for lists of entries.
@@ -7,14 +7,14 @@ pub trait Recorded {
 
     type Entry;
 
-    // For which lists of entries, each with the number of the seat that made it.
+    // For which lists of entries, each with the number of the token that made it.
     ghost stands: { Self → List (List ℕ × Self.Entry) → Type 0 };
 
     // The entry that was made last.
     ghost last: { Self → Self.Entry };
 }
 
-/// How far a seat has come with its turn.
+/// How far a token has come with its turn.
 pub enum Stage {
     Idle,
     Drawn(u64),
@@ -22,7 +22,7 @@ pub enum Stage {
     Entered(u64),
 }
 
-/// The numbers of a seat, one of which is its first, how often it was split, and the numbers that it awaits.
+/// The numbers of a token, one of which is its first, how often it was split, and the numbers that it awaits.
 pub struct Numbers {
     pub first: LinkedList<u64>,
     pub count: u64,
@@ -30,7 +30,7 @@ pub struct Numbers {
     pub awaited: LinkedList<LinkedList<u64>>,
 }
 
-/// What a seat knows: its stage, the record that it has seen, what the seats had seen that it was joined of, and its
+/// What a token knows: its stage, the record that it has seen, what the tokens had seen that it was joined of, and its
 /// numbers.
 pub struct View<E> {
     pub stage: Stage,

@@ -1,7 +1,7 @@
 //! A service whose answers and whose history are known.
 
 ghost use Rattle.std.specs.Prelude.{◌≡◌, ◌≤◌};
-ghost use Rattle.mal_turn.specs.Seats.{IsOf};
+ghost use Rattle.mal_turn.specs.Tokens.{IsOf};
 
 use super::hall::{FREE_REPLY, Told, ask, given, heard, name, pick, write};
 use mal_base::ReplyFault;

@@ -2,7 +2,7 @@
 
 ghost use Rattle.std.specs.Prelude.{◌≤◌, IfOk};
 ghost use Rattle.std.specs.List.{All};
-ghost use Rattle.mal_turn.specs.Seats.{IsOf};
+ghost use Rattle.mal_turn.specs.Tokens.{IsOf};
 
 use super::{Caller, opening, post_to, revising};
 use crate::tests::hall::{Told, drive, hear, name};

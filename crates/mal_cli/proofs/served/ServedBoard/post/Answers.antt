@@ -1,4 +1,4 @@
-use Rattle.mal_turn.specs.Seats.{view}
+use Rattle.mal_turn.specs.Tokens.{view}
 use Rattle.mal_cli.proofs.CallLemmas.{posted_calls}
 use Rattle.mal_cli.proofs.served.ServedBoard.post.Goals as goal
 

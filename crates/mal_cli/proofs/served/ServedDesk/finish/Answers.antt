@@ -1,4 +1,4 @@
-use Rattle.mal_turn.specs.Seats.{view}
+use Rattle.mal_turn.specs.Tokens.{view}
 use Rattle.mal_hall.specs.Offered.{returned}
 use Rattle.mal_cli.proofs.CallLemmas.{given_calls}
 use Rattle.mal_cli.proofs.served.ServedDesk.finish.Goals as goal

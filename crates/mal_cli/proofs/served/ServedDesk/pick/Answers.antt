@@ -1,4 +1,4 @@
-use Rattle.mal_turn.specs.Seats.{view}
+use Rattle.mal_turn.specs.Tokens.{view}
 use Rattle.mal_hall.specs.Offered.{offered}
 use Rattle.mal_cli.proofs.CallLemmas.{picked_calls, picked_is_own}
 use Rattle.mal_cli.proofs.served.ServedDesk.pick.Goals as goal

@@ -1,4 +1,4 @@
-use Rattle.mal_turn.specs.Seats.{view, held_view}
+use Rattle.mal_turn.specs.Tokens.{view, held_view}
 use Rattle.mal_hall.specs.Offered.{returned}
 use Rattle.mal_service.specs.Record.{Gave}
 use Rattle.mal_service.proofs.RecordLemmas.{noted-stands}

@@ -1,5 +1,5 @@
 use Rattle.std.proofs.Common.{[], ◌∷◌, ◌++◌}
-use Rattle.mal_turn.specs.Seats.{view, held_view}
+use Rattle.mal_turn.specs.Tokens.{view, held_view}
 use Rattle.mal_service.specs.Passes.{Enters, HasNoted}
 use Rattle.mal_service.specs.Record.{Answered, StandsFor}
 use Rattle.mal_service.proofs.RecordLemmas.{noted-stands}

@@ -1,4 +1,4 @@
-use Rattle.mal_turn.specs.Seats.{IsOf}
+use Rattle.mal_turn.specs.Tokens.{IsOf}
 use Rattle.mal_hall_tests.proofs.tests.service.many.Caller+R+Sixteen.listen_for_all.Given as goal
 
 abbrev pub invariant-loop-tenant : goal.invariant-loop-tenant

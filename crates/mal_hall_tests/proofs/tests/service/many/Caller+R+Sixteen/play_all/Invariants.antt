@@ -1,5 +1,5 @@
 use Rattle.std.specs.List.{All}
-use Rattle.mal_turn.specs.Seats.{IsOf}
+use Rattle.mal_turn.specs.Tokens.{IsOf}
 use Rattle.mal_hall_tests.proofs.tests.service.many.Caller+R+Sixteen.play_all.Given as goal
 
 abbrev pub invariant-loop-round : goal.invariant-loop-round
