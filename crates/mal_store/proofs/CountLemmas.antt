@@ -6,7 +6,7 @@ use Rattle.mal_base.specs.NumberedClause.{NumberedClause}
 use Rattle.spec_node.specs.Adding.{with_clause, forgetting}
 use Rattle.mal_store.specs.declared.entry.Entry.{Entry}
 use Rattle.mal_store.specs.Indexed.{EntriesRise}
-use Rattle.mal_store.specs.Rowed.{is_left, listed_len, listed_count}
+use Rattle.mal_store.specs.Arena.{is_left, listed_len, listed_count}
 use Rattle.mal_store.specs.Stored.{Among, entry_clause, held_in, literal_count, is_long, if_long, with_long, AreLong}
 
 -- a clause more

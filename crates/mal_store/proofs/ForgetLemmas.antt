@@ -5,7 +5,7 @@ use Rattle.std.proofs.lemmas.Bool.{false≢true}
 use Rattle.std.proofs.lemmas.List.Sorted.{list_any-IsPermutation}
 use Rattle.mal_base.specs.NumberedClause.{NumberedClause}
 use Rattle.spec_node.specs.Adding.{forgetting}
-use Rattle.mal_store.specs.Rowed.{is_left}
+use Rattle.mal_store.specs.Arena.{is_left}
 
 -- what is given up does not depend on the order of the numbers
 pub forgetting-order : (ids now : List ℕ) → IsPermutation ids now → (cs : List NumberedClause) → forgetting ids cs ≡ forgetting now cs

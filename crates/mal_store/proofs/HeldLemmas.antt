@@ -8,7 +8,7 @@ use Rattle.mal_store.specs.declared.entry.Entry.{Entry}
 use Rattle.mal_store.specs.declared.entry.Held.{Held}
 use Rattle.mal_store.specs.declared.entry.Held.TheVariants.{Empty, One, Long}
 use Rattle.mal_store.specs.Indexed.{entry_under, with_entry}
-use Rattle.mal_store.specs.Rowed.{no_row}
+use Rattle.mal_store.specs.Arena.{no_clause}
 use Rattle.mal_store.specs.Stored.{lits_held, entry_clause, held_in, IsPlaced, ArePlaced, is_long, with_long}
 
 pub held-length : (long : List NumberedClause) (es : List Entry) → length (held_in long es) ≡ length es
@@ -18,12 +18,12 @@ held-length long es = length-map es (entry_clause long)
 lits-more : (long more : List NumberedClause) (id : ℕ) (h : Held) → IsPlaced long id h → lits_held (long ++ more) h ≡ lits_held long h
 lits-more long more id Empty p = refl
 lits-more long more id (One lits) p = refl
-lits-more long more id (Long place) p = ap (λ (c : NumberedClause). c.lits) (get_or_append_left long more no_row place p.0)
+lits-more long more id (Long place) p = ap (λ (c : NumberedClause). c.lits) (get_or_append_left long more no_clause place p.0)
 
 placed-more : (long more : List NumberedClause) (id : ℕ) (h : Held) → IsPlaced long id h → IsPlaced (long ++ more) id h
 placed-more long more id Empty p = tt
 placed-more long more id (One lits) p = tt
-placed-more long more id (Long place) p = (omega (arith, p.0, length-append long more), ap (λ (c : NumberedClause). c.id) (get_or_append_left long more no_row place p.0) ∙ p.1)
+placed-more long more id (Long place) p = (omega (arith, p.0, length-append long more), ap (λ (c : NumberedClause). c.id) (get_or_append_left long more no_clause place p.0) ∙ p.1)
 
 all-placed-more : (long more : List NumberedClause) (es : List Entry) → ArePlaced long es → ArePlaced (long ++ more) es
 all-placed-more long more [] p = tt

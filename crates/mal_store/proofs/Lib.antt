@@ -4,7 +4,7 @@ pub mod ForgetLemmas
 -- what this crate alone cites
 mod IdLemmas
 mod EntryLemmas
-mod RowLemmas
+mod HeaderLemmas
 mod LaidLemmas
 mod WonLemmas
 mod HeldLemmas

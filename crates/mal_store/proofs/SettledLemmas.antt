@@ -7,7 +7,7 @@ use Rattle.mal_store.specs.declared.entry.Entry.{Entry}
 use Rattle.mal_store.specs.declared.entry.Held.{Held}
 use Rattle.mal_store.specs.declared.entry.Held.TheVariants.{Empty, One, Long}
 use Rattle.mal_store.specs.Indexed.{is_kept, settled}
-use Rattle.mal_store.specs.Rowed.{no_row, is_left}
+use Rattle.mal_store.specs.Arena.{no_clause, is_left}
 use Rattle.mal_store.specs.Stored.{Among, entry_clause, held_in, IsPlaced, ArePlaced, settled_in}
 use Rattle.mal_store.proofs.AmongLemmas.{among-at, among-place, among-passed, among-passes}
 use Rattle.mal_store.proofs.EntryLemmas.{test_lt, test_not, yes_eq}
@@ -15,7 +15,7 @@ use Rattle.mal_store.proofs.CountLemmas.{has_number, same-number}
 
 -- the number of the long clause at a place
 abbrev id_at : List NumberedClause → ℕ → ℕ
-id_at long k = (get_or long k no_row).id
+id_at long k = (get_or long k no_clause).id
 
 eq_not : (a b : ℕ) → nat_eq a b ≡ false → a ≡ b → ⊥
 eq_not a b = grind (arith, nat_tests)
@@ -76,14 +76,14 @@ entry-settled ids long u id Empty p t = rw (settled-empty (forgetting ids long) 
 entry-settled ids long u id (One lits) p t = rw (settled-one (forgetting ids long) (length (forgetting ids long)) id lits) (refl, tt)
 entry-settled ids long u id (Long was) p t =
     let now = forgetting ids long in
-    let c : NumberedClause = get_or long was no_row in
-    let there : Among c long = among-at long was no_row p.0 in
+    let c : NumberedClause = get_or long was no_clause in
+    let there : Among c long = among-at long was no_clause p.0 in
     let kept : is_left ids c ≡ true = rw p.1 t in
-    let at = among-place c now no_row (among-passes (is_left ids) c long there kept) in
+    let at = among-place c now no_clause (among-passes (is_left ids) c long there kept) in
     let q = place_in now (length now) id was in
     let found = place-found now (length now) id was at.place (omega arith) at.inside (ap (λ (x : NumberedClause). x.id) at.is ∙ p.1) in
-    let old : Among (get_or now q no_row) long = (among-passed (is_left ids) (get_or now q no_row) long (among-at now q no_row found.0)).0 in
-    let same : get_or now q no_row ≡ c = same-number long (get_or now q no_row) c u old there (found.1 ∙ sym p.1) in
+    let old : Among (get_or now q no_clause) long = (among-passed (is_left ids) (get_or now q no_clause) long (among-at now q no_clause found.0)).0 in
+    let same : get_or now q no_clause ≡ c = same-number long (get_or now q no_clause) c u old there (found.1 ∙ sym p.1) in
     rw (settled-long now (length now) id was) (ap (λ (x : NumberedClause). let d : NumberedClause = record { id = id; lits = x.lits } in d) same, found)
 
 -- and so have all

@@ -8,7 +8,7 @@ use Rattle.std.proofs.lemmas.List.{length-map}
 use Rattle.mal_base.specs.NumberedClause.{NumberedClause, lits_under}
 use Rattle.spec_node.specs.Adding.{with_clause, forgetting}
 use Rattle.spec_node.specs.Sound.{NumbersRise}
-use Rattle.mal_store.specs.Rowed.{is_left}
+use Rattle.mal_store.specs.Arena.{is_left}
 use Rattle.mal_store.specs.Stored.{Among, is_short, short_clauses, short_ids, with_number, with_short}
 use Rattle.mal_store.proofs.EntryLemmas.{test_lt, lt_test, test_not}
 use Rattle.mal_store.proofs.AmongLemmas.{among-get, among-passed, rise-passed, rise-under, under-none}

@@ -6,7 +6,7 @@ use Rattle.std.specs.Prelude.{filter, map}
 use Rattle.mal_store.specs.declared.entry.Entry.{Entry}
 use Rattle.mal_store.specs.declared.entry.Held.{Held}
 use Rattle.mal_store.specs.Indexed.{EntriesRise, with_entry, is_kept}
-use Rattle.mal_store.specs.Rowed.{is_left, listed_count}
+use Rattle.mal_store.specs.Arena.{is_left, listed_count}
 use Rattle.mal_store.specs.Stored.{lits_held, held_in, IsPlaced, settled_in, literal_count, with_long, short_ids, AreLong, IsStore}
 use Rattle.mal_store.proofs.AmongLemmas.{rise-with, rise-passed, under-none}
 use Rattle.mal_store.proofs.ShortLemmas.{is_other, short-fewer}

@@ -1,3 +1,3 @@
-pub mod Rowed
+pub mod Arena
 pub mod Indexed
 pub mod Stored

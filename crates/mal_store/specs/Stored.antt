@@ -5,7 +5,7 @@ use Rattle.mal_store.specs.declared.entry.Entry.{Entry}
 use Rattle.mal_store.specs.declared.entry.Held.{Held}
 use Rattle.mal_store.specs.declared.entry.Held.TheVariants.{Empty, One, Long}
 use Rattle.mal_store.specs.Indexed.{settled}
-use Rattle.mal_store.specs.Rowed.{no_row, listed_count}
+use Rattle.mal_store.specs.Arena.{no_clause, listed_count}
 
 -- a store: the clauses by rising number, those of two and more literals in the order in which they came, and how many
 -- clauses and literals it has room for
@@ -24,7 +24,7 @@ Among c (d ∷ ds) = (c ≡ d) ⊎ Among c ds
 abbrev pub lits_held : List NumberedClause → Held → List ℕ
 lits_held long Empty = []
 lits_held long (One lits) = lits
-lits_held long (Long place) = (slice_index_or long place no_row).lits
+lits_held long (Long place) = (slice_index_or long place no_clause).lits
 
 -- the clause of an entry
 abbrev pub entry_clause : List NumberedClause → Entry → NumberedClause
@@ -38,7 +38,7 @@ held_in long entries = map (entry_clause long) entries
 abbrev pub IsPlaced : List NumberedClause → ℕ → Held → Type 0
 IsPlaced long id Empty = Unit {0}
 IsPlaced long id (One lits) = Unit {0}
-IsPlaced long id (Long place) = (place < length long) × ((slice_index_or long place no_row).id ≡ id)
+IsPlaced long id (Long place) = (place < length long) × ((slice_index_or long place no_clause).id ≡ id)
 
 abbrev pub ArePlaced : List NumberedClause → List Entry → Type 0
 ArePlaced long [] = Unit {0}
@@ -47,7 +47,7 @@ ArePlaced long (e ∷ es) = IsPlaced long e.id e.held × ArePlaced long es
 -- an entry where the first long clauses, so many, stand at their places
 abbrev pub settled_in : List NumberedClause → ℕ → Entry → Entry
 settled_in long zero e = e
-settled_in long (suc n) e = settled (slice_index_or long n no_row).id n (settled_in long n e)
+settled_in long (suc n) e = settled (slice_index_or long n no_clause).id n (settled_in long n e)
 
 -- how many literals clauses have
 abbrev pub literal_count : List NumberedClause → ℕ

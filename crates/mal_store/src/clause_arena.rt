@@ -3,7 +3,7 @@
 ghost use Rattle.std.specs.Prelude.{◌≡◌, ◌≢◌, ℕ, ◌+◌, ◌≤◌, ◌<◌, List, [], ◌∷◌, ◌++◌, length, take, drop, filter, slice_index_or, sum_by, OnOk, vec_len, vec_capacity};
 ghost use Rattle.std.specs.{List.{SameBelow, SameFrom}, List.Sorted.{IsNonDecreasing}};
 ghost use Rattle.spec_node.specs.Adding.{forgetting};
-ghost use Rattle.mal_store.specs.{Rowed.{no_row, is_left, listed, lits_in, clause_in, IsBody, AreRows, clauses_in, IsFrom, end_of, AreLaid, IsFit, AreFit, len_of, listed_count}, declared.clause_arena.Row.{Row}};
+ghost use Rattle.mal_store.specs.{Arena.{no_clause, is_left, listed, lits_in, clause_in, IsBody, AreHeaders, clauses_in, IsFrom, end_of, AreLaid, IsFit, AreFit, len_of, listed_count}, declared.clause_arena.Header.{Header}};
 
 use crate::ids::is_among;
 use mal_base::{ClauseId, Lit};
@@ -18,12 +18,16 @@ const MOST: usize = 4_294_967_295;
 #[derive(Clone, Copy)]
 enum Body {
     Three([Lit; 3]),
-    Listed { start: u32, len: u32, hint: u32 },
+    Listed {
+        start: u32,
+        len: u32,
+        search_start: u32,
+    },
 }
 
-/// A clause: its number, and where its literals stand.
+/// What stands of a clause beside its literals: its number, and where they are.
 #[derive(Clone, Copy)]
-struct Row {
+struct Header {
     id: ClauseId,
     body: Body,
 }
@@ -33,25 +37,25 @@ struct Row {
 /// contract speaks of it.
 #[derive(Drop)]
 pub struct ClauseArena {
-    rows: Vec<Row>,
+    headers: Vec<Header>,
     literals: Vec<Lit>,
 }
 
 impl Model for ClauseArena {
     ghost use Rattle.std.specs.Prelude.{◌-◌, ◌≤◌, length, min};
     ghost use Rattle.std.specs.Vec.{vec_len, vec_capacity};
-    ghost use Rattle.mal_store.specs.Rowed.{Rowed, AreLaid, AreFit, clauses_in};
+    ghost use Rattle.mal_store.specs.Arena.{Arena, AreLaid, AreFit, clauses_in};
 
-    ghost Value = { Rowed };
+    ghost Value = { Arena };
 
     ghost view = { λ s. record {
-      clauses = clauses_in s.literals.items s.rows.items;
-      clause_room = min (vec_capacity s.rows - vec_len s.rows) (4294967295 - vec_len s.rows);
+      clauses = clauses_in s.literals.items s.headers.items;
+      clause_room = min (vec_capacity s.headers - vec_len s.headers) (4294967295 - vec_len s.headers);
       literal_room = min (vec_capacity s.literals - vec_len s.literals) (4294967295 - vec_len s.literals);
     } };
 
-    ghost invariant = { λ s. AreLaid 0 (length s.literals.items) s.rows.items × (length s.literals.items ≤ 4294967295)
-        × AreFit s.rows.items × (length s.rows.items ≤ 4294967295) };
+    ghost invariant = { λ s. AreLaid 0 (length s.literals.items) s.headers.items × (length s.literals.items ≤ 4294967295)
+        × AreFit s.headers.items × (length s.headers.items ≤ 4294967295) };
 }
 
 impl ClauseArena {
@@ -60,7 +64,7 @@ impl ClauseArena {
         ensures { result ≡ record { clauses = []; clause_room = 0; literal_room = 0 } }
     {
         ClauseArena {
-            rows: Vec::new(alloc),
+            headers: Vec::new(alloc),
             literals: Vec::new(alloc),
         }
     }
@@ -73,13 +77,13 @@ impl ClauseArena {
         ensures more_clauses { self.old.clause_room ≤ self.new.clause_room }
         ensures more_literals { self.old.literal_room ≤ self.new.literal_room }
     {
-        if MOST - self.rows.len().min(MOST) < clauses {
+        if MOST - self.headers.len().min(MOST) < clauses {
             return Err(AllocError);
         }
         if MOST - self.literals.len().min(MOST) < literals {
             return Err(AllocError);
         }
-        self.rows.reserve(clauses)?;
+        self.headers.reserve(clauses)?;
         self.literals.reserve(literals)?;
         Ok(())
     }
@@ -89,7 +93,7 @@ impl ClauseArena {
         ensures value { result ≡ length self.now.clauses }
         ensures few { result ≤ 4294967295 }
     {
-        self.rows.len()
+        self.headers.len()
     }
 
     /// Adds a clause behind the others, where there is room for it. Takes no memory.
@@ -101,7 +105,7 @@ impl ClauseArena {
         ensures literal_room { self.old.literal_room ≤ self.new.literal_room + listed lits.now }
     {
         let body = body_of(&mut self.literals, lits);
-        self.rows.push_reserved(Row { id, body });
+        self.headers.push_reserved(Header { id, body });
     }
 
     /// Gives up the clauses of these numbers, which rise, and closes the gaps: the room of the clauses, and of those of
@@ -116,78 +120,81 @@ impl ClauseArena {
         ensures won { listed_count self.old.clauses + self.old.literal_room
             ≤ listed_count self.new.clauses + self.new.literal_room }
     {
-        take_away(&mut self.rows, ids);
-        close_up(&mut self.rows, &mut self.literals);
+        take_away(&mut self.headers, ids);
+        close_up(&mut self.headers, &mut self.literals);
     }
 
     /// The number of the clause at a place, counted from 0.
     pub fn id(&self, place: usize) -> ClauseId
         requires { place < length self.now.clauses }
-        ensures { result ≡ (slice_index_or self.now.clauses place no_row).id }
+        ensures { result ≡ (slice_index_or self.now.clauses place no_clause).id }
     {
-        self.rows[place].id
+        self.headers[place].id
     }
 
     /// The literals of the clause at a place, counted from 0.
     pub fn lits(&self, place: usize) -> &[Lit]
         requires { place < length self.now.clauses }
-        ensures { result.now ≡ (slice_index_or self.now.clauses place no_row).lits }
+        ensures { result.now ≡ (slice_index_or self.now.clauses place no_clause).lits }
     {
-        lits_of(self.literals.as_slice(), &self.rows[place].body)
+        lits_of(self.literals.as_slice(), &self.headers[place].body)
     }
 
     /// At which of its literals a search in the clause at a place begins, as it was kept last; the first of a clause of
     /// three.
-    pub fn hint(&self, place: usize) -> usize
+    pub fn search_start(&self, place: usize) -> usize
         requires { place < length self.now.clauses }
     {
-        match self.rows[place].body {
+        match self.headers[place].body {
             Body::Three(_) => 0,
-            Body::Listed { hint, .. } => hint as usize,
+            Body::Listed { search_start, .. } => search_start as usize,
         }
     }
 
     /// Keeps at which of its literals the next search in the clause at a place begins. Nothing is kept of a clause of
     /// three.
-    pub fn keep_hint(&mut self, place: usize, hint: usize)
+    pub fn keep_search_start(&mut self, place: usize, search_start: usize)
         requires { place < length self.old.clauses }
         ensures { self.new ≡ self.old }
     {
-        let row = self.rows[place];
-        self.rows[place] = with_hint(row, hint);
+        let header = self.headers[place];
+        self.headers[place] = with_search_start(header, search_start);
     }
 }
 
-/// Takes the rows of these numbers, which rise, away. Takes no memory.
-fn take_away(rows: &mut Vec<Row>, ids: &[ClauseId])
+/// Takes the headers of these numbers, which rise, away. Takes no memory.
+fn take_away(headers: &mut Vec<Header>, ids: &[ClauseId])
     requires { IsNonDecreasing ids.now }
     ensures items { (literals : List ℕ)
-        → rows.new.items ≡ filter (λ r. is_left ids.now (clause_in literals r)) rows.old.items }
-    ensures capacity { vec_capacity rows.new ≡ vec_capacity rows.old }
-    ensures len { vec_len rows.new ≤ vec_len rows.old }
+        → headers.new.items ≡ filter (λ r. is_left ids.now (clause_in literals r)) headers.old.items }
+    ensures capacity { vec_capacity headers.new ≡ vec_capacity headers.old }
+    ensures len { vec_len headers.new ≤ vec_len headers.old }
 {
-    rows.retain(|row| !is_among(ids, row.id));
+    headers.retain(|header| !is_among(ids, header.id));
 }
 
-/// Moves the literals of rows down, until there is no gap between them. Takes no memory.
-fn close_up(rows: &mut Vec<Row>, literals: &mut Vec<Lit>)
-    requires laid { AreLaid 0 (length literals.old.items) rows.old.items }
+/// Moves the literals of headers down, until there is no gap between them. Takes no memory.
+fn close_up(headers: &mut Vec<Header>, literals: &mut Vec<Lit>)
+    requires laid { AreLaid 0 (length literals.old.items) headers.old.items }
     requires few { length literals.old.items ≤ 4294967295 }
-    requires fit { AreFit rows.old.items }
-    ensures clauses { clauses_in literals.new.items rows.new.items ≡ clauses_in literals.old.items rows.old.items }
-    ensures laid { AreLaid 0 (length literals.new.items) rows.new.items }
-    ensures fit { AreFit rows.new.items }
-    ensures total { vec_len literals.new ≡ sum_by (λ r. len_of r.body) rows.new.items }
-    ensures rows { vec_len rows.new ≡ vec_len rows.old }
-    ensures row_room { vec_capacity rows.new ≡ vec_capacity rows.old }
+    requires fit { AreFit headers.old.items }
+    ensures clauses { clauses_in literals.new.items headers.new.items ≡ clauses_in literals.old.items headers.old.items }
+    ensures laid { AreLaid 0 (length literals.new.items) headers.new.items }
+    ensures fit { AreFit headers.new.items }
+    ensures total { vec_len literals.new ≡ sum_by (λ r. len_of r.body) headers.new.items }
+    ensures headers { vec_len headers.new ≡ vec_len headers.old }
+    ensures header_room { vec_capacity headers.new ≡ vec_capacity headers.old }
     ensures literals { vec_len literals.new ≤ vec_len literals.old }
     ensures room { vec_capacity literals.new ≡ vec_capacity literals.old }
 {
     let mut end = 0;
-    for place in 0..rows.len() {
-        let row = rows[place];
-        let (body, behind) = move_down(literals, row.body, end);
-        rows[place] = Row { id: row.id, body };
+    for place in 0..headers.len() {
+        let header = headers[place];
+        let (body, behind) = move_down(literals, header.body, end);
+        headers[place] = Header {
+            id: header.id,
+            body,
+        };
         end = behind;
     }
     literals.truncate(end);
@@ -212,14 +219,18 @@ fn move_down(literals: &mut Vec<Lit>, body: Body, place: usize) -> (Body, usize)
 {
     match body {
         Body::Three(_) => (body, place),
-        Body::Listed { start, len, hint } => {
+        Body::Listed {
+            start,
+            len,
+            search_start,
+        } => {
             let first = start as usize;
             let count = len as usize;
             literals.copy_within(first..first + count, place);
             let moved = Body::Listed {
                 start: place as u32,
                 len,
-                hint,
+                search_start,
             };
             (moved, place + count)
         }
@@ -233,8 +244,8 @@ fn body_of(literals: &mut Vec<Lit>, lits: &[Lit]) -> Body
     ensures lits { lits_in literals.new.items result ≡ lits.now }
     ensures from { IsFrom (length literals.old.items) result }
     ensures end { end_of (length literals.old.items) result ≡ length literals.new.items }
-    ensures rows { (rs : List Row) → AreRows (length literals.old.items) rs
-        → AreRows (length literals.new.items) rs
+    ensures headers { (rs : List Header) → AreHeaders (length literals.old.items) rs
+        → AreHeaders (length literals.new.items) rs
         × (clauses_in literals.new.items rs ≡ clauses_in literals.old.items rs) }
     ensures fit { IsFit result }
     ensures len { vec_len literals.new ≡ vec_len literals.old + listed lits.now }
@@ -248,7 +259,7 @@ fn body_of(literals: &mut Vec<Lit>, lits: &[Lit]) -> Body
             Body::Listed {
                 start,
                 len: lits.len() as u32,
-                hint: 0,
+                search_start: 0,
             }
         }
     }
@@ -266,21 +277,21 @@ fn lits_of<'a>(literals: &'a [Lit], body: &'a Body) -> &'a [Lit]
 }
 
 /// The same clause, in which a search begins at this literal, unless it has three.
-fn with_hint(row: Row, hint: usize) -> Row
-    ensures id { result.id ≡ row.id }
-    ensures lits { (literals : List ℕ) → lits_in literals result.body ≡ lits_in literals row.body }
-    ensures from { (low : ℕ) → IsFrom low row.body → IsFrom low result.body }
-    ensures end { (low : ℕ) → end_of low result.body ≡ end_of low row.body }
-    ensures fit { IsFit row.body → IsFit result.body }
+fn with_search_start(header: Header, search_start: usize) -> Header
+    ensures id { result.id ≡ header.id }
+    ensures lits { (literals : List ℕ) → lits_in literals result.body ≡ lits_in literals header.body }
+    ensures from { (low : ℕ) → IsFrom low header.body → IsFrom low result.body }
+    ensures end { (low : ℕ) → end_of low result.body ≡ end_of low header.body }
+    ensures fit { IsFit header.body → IsFit result.body }
 {
-    match row.body {
-        Body::Three(_) => row,
-        Body::Listed { start, len, .. } => Row {
-            id: row.id,
+    match header.body {
+        Body::Three(_) => header,
+        Body::Listed { start, len, .. } => Header {
+            id: header.id,
             body: Body::Listed {
                 start,
                 len,
-                hint: hint.min(MOST) as u32,
+                search_start: search_start.min(MOST) as u32,
             },
         },
     }

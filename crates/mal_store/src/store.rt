@@ -4,7 +4,7 @@ ghost use Rattle.std.specs.Prelude.{◌≡◌, ℕ, ◌+◌, ◌≤◌, ◌<◌,
 ghost use Rattle.std.specs.List.Sorted.{IsNonDecreasing, IsPermutation};
 ghost use Rattle.mal_base.specs.NumberedClause.{lits_under};
 ghost use Rattle.spec_node.specs.Adding.{with_clause, forgetting};
-ghost use Rattle.mal_store.specs.{Rowed.{no_row, listed_count}, Stored.{lits_held, IsPlaced, settled_in, literal_count, with_long, with_short, short_clauses}};
+ghost use Rattle.mal_store.specs.{Arena.{no_clause, listed_count}, Stored.{lits_held, IsPlaced, settled_in, literal_count, with_long, with_short, short_clauses}};
 
 use crate::clause_arena::ClauseArena;
 use crate::entry::{Entry, Held};
@@ -29,7 +29,7 @@ pub struct Store {
 impl Model for Store {
     ghost use Rattle.std.specs.Prelude.{◌+◌, ◌-◌, min};
     ghost use Rattle.std.specs.Vec.{vec_len, vec_capacity};
-    ghost use Rattle.mal_store.specs.{Rowed.{listed_count}, Stored.{Stored, IsStore, held_in, literal_count}};
+    ghost use Rattle.mal_store.specs.{Arena.{listed_count}, Stored.{Stored, IsStore, held_in, literal_count}};
 
     ghost Value = { Stored };
 
@@ -169,7 +169,7 @@ impl Store {
     /// The number of the long clause at a place, counted from 0 in the order in which they came.
     pub fn long_id(&self, place: usize) -> ClauseId
         requires { place < length self.now.long }
-        ensures { result ≡ (slice_index_or self.now.long place no_row).id }
+        ensures { result ≡ (slice_index_or self.now.long place no_clause).id }
     {
         self.long.id(place)
     }
@@ -177,26 +177,26 @@ impl Store {
     /// The literals of the long clause at a place.
     pub fn long_lits(&self, place: usize) -> &[Lit]
         requires { place < length self.now.long }
-        ensures { result.now ≡ (slice_index_or self.now.long place no_row).lits }
+        ensures { result.now ≡ (slice_index_or self.now.long place no_clause).lits }
     {
         self.long.lits(place)
     }
 
     /// At which of its literals a search in the long clause at a place begins, as it was kept last; the first of a
     /// clause of three.
-    pub fn hint(&self, place: usize) -> usize
+    pub fn search_start(&self, place: usize) -> usize
         requires { place < length self.now.long }
     {
-        self.long.hint(place)
+        self.long.search_start(place)
     }
 
     /// Keeps at which of its literals the next search in the long clause at a place begins. Nothing is kept of a clause
     /// of three.
-    pub fn keep_hint(&mut self, place: usize, hint: usize)
+    pub fn keep_search_start(&mut self, place: usize, search_start: usize)
         requires { place < length self.old.long }
         ensures { self.new ≡ self.old }
     {
-        self.long.keep_hint(place, hint);
+        self.long.keep_search_start(place, search_start);
     }
 }
 

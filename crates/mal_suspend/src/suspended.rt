@@ -9,12 +9,12 @@ use crate::frozen::Frozen;
 use crate::journal::Journal;
 use mal_cdcl::Node;
 use mal_freeze::freeze;
-use mal_watch::Watch;
+use mal_watch::Watcher;
 use std::alloc::{AllocError, Global};
 use std::marker::Model;
 
 /// The nodes that are handed out, over the engine with two watched literals a clause.
-pub type Solver = Node<Watch>;
+pub type Solver = Node<Watcher>;
 
 /// A node with its journal. Contracts see the journal; the type keeps that the node is that of the journal.
 #[derive(Drop)]

@@ -5,19 +5,19 @@ use Rattle.std.proofs.lemmas.List.{get_or_past}
 use Rattle.mal_base.specs.NumberedClause.{NumberedClause}
 use Rattle.mal_base.specs.declared.trail_entry.TrailEntry.{TrailEntry}
 use Rattle.spec_node.specs.Adding.{forgetting}
-use Rattle.mal_store.specs.Rowed.{is_left}
+use Rattle.mal_store.specs.Arena.{is_left}
 use Rattle.mal_watch.specs.Leaving.{pairs_left}
 use Rattle.mal_watch.specs.WatchLists.{Has}
-use Rattle.mal_store.specs.Rowed.{no_row}
-use Rattle.mal_watch.specs.Watching.{row_at, partner, other_key}
+use Rattle.mal_store.specs.Arena.{no_clause}
+use Rattle.mal_watch.specs.Watching.{clause_of, partner, other_key}
 use Rattle.mal_store.specs.Stored.{Among}
 use Rattle.mal_watch.specs.Following.{AreSingle, Follows}
 use Rattle.mal_watch.proofs.HasLemmas.{has-none}
 use Rattle.mal_store.proofs.AmongLemmas.{among-at, among-place, among-passed, among-passes, rise-passed}
 
--- two nodes further, and a clause further
-shift-row : (c : NumberedClause) (rows : List NumberedClause) (k : ℕ) → row_at (c ∷ rows) (suc (suc k)) ≡ row_at rows k
-shift-row c rows k = let e : suc (suc k) / 2 ≡ suc (k / 2) = omega arith in ap (λ (n : ℕ). get_or (c ∷ rows) n no_row) e
+-- two watches further, and a clause further
+shift-clause : (c : NumberedClause) (watched : List NumberedClause) (k : ℕ) → clause_of (c ∷ watched) (suc (suc k)) ≡ clause_of watched k
+shift-clause c watched k = let e : suc (suc k) / 2 ≡ suc (k / 2) = omega arith in ap (λ (n : ℕ). get_or (c ∷ watched) n no_clause) e
 
 shift-partner : (k : ℕ) → partner (suc (suc k)) ≡ suc (suc (partner k))
 shift-partner zero = refl
@@ -36,19 +36,19 @@ shift-partner (suc k) = by_even (suc k % 2 == 0)
 shift-other : (a b : ℕ) (keys : List ℕ) (k : ℕ) → other_key (a ∷ (b ∷ keys)) (suc (suc k)) ≡ other_key keys k
 shift-other a b keys k = ap (λ (n : ℕ). get_or (a ∷ (b ∷ keys)) n 0) (shift-partner k)
 
--- a node stands for one that was there
-record IsOld (rows now : List NumberedClause) (keys left : List ℕ) (k : ℕ) : Type 0 where
+-- a watch stands for one that was there
+record IsOld (watched now : List NumberedClause) (keys left : List ℕ) (k : ℕ) : Type 0 where
   was : ℕ
   inside : was < length keys
-  row : row_at now k ≡ row_at rows was
+  clause : clause_of now k ≡ clause_of watched was
   key : slice_index left k ≡ slice_index keys was
   other : other_key left k ≡ other_key keys was
 
-old-node : (ids : List ℕ) (rows : List NumberedClause) (keys : List ℕ) → length keys ≡ length rows + length rows → (k : ℕ) → k < length (pairs_left ids rows keys) → IsOld rows (forgetting ids rows) keys (pairs_left ids rows keys) k
-old-node ids [] keys p k l = absurd (omega arith)
-old-node ids (c ∷ cs) [] p k l = absurd (omega arith)
-old-node ids (c ∷ cs) (a ∷ []) p k l = absurd (omega arith)
-old-node ids (c ∷ cs) (a ∷ (b ∷ ks)) p k l = by_test (old-node ids cs ks (omega arith)) (is_left ids c) k l
+old-watch : (ids : List ℕ) (watched : List NumberedClause) (keys : List ℕ) → length keys ≡ length watched + length watched → (k : ℕ) → k < length (pairs_left ids watched keys) → IsOld watched (forgetting ids watched) keys (pairs_left ids watched keys) k
+old-watch ids [] keys p k l = absurd (omega arith)
+old-watch ids (c ∷ cs) [] p k l = absurd (omega arith)
+old-watch ids (c ∷ cs) (a ∷ []) p k l = absurd (omega arith)
+old-watch ids (c ∷ cs) (a ∷ (b ∷ ks)) p k l = by_test (old-watch ids cs ks (omega arith)) (is_left ids c) k l
   where
     left : List ℕ
     left = pairs_left ids cs ks
@@ -57,16 +57,16 @@ old-node ids (c ∷ cs) (a ∷ (b ∷ ks)) p k l = by_test (old-node ids cs ks (
     now = forgetting ids cs
 
     by_test : ((k : ℕ) → k < length left → IsOld cs now ks left k) → (t : Bool) → (k : ℕ) → k < length (cond t (a ∷ (b ∷ left)) left) → IsOld (c ∷ cs) (cond t (c ∷ now) now) (a ∷ (b ∷ ks)) (cond t (a ∷ (b ∷ left)) left) k
-    by_test f true zero l = record { was = 0; inside = omega arith; row = refl; key = refl; other = refl }
-    by_test f true (suc zero) l = record { was = 1; inside = omega arith; row = refl; key = refl; other = refl }
+    by_test f true zero l = record { was = 0; inside = omega arith; clause = refl; key = refl; other = refl }
+    by_test f true (suc zero) l = record { was = 1; inside = omega arith; clause = refl; key = refl; other = refl }
     by_test f true (suc (suc k)) l =
         let o = f k (omega arith) in
-        record { was = suc (suc o.was); inside = omega (arith, o.inside); row = shift-row c now k ∙ (o.row ∙ sym (shift-row c cs o.was)); key = o.key; other = shift-other a b left k ∙ (o.other ∙ sym (shift-other a b ks o.was)) }
+        record { was = suc (suc o.was); inside = omega (arith, o.inside); clause = shift-clause c now k ∙ (o.clause ∙ sym (shift-clause c cs o.was)); key = o.key; other = shift-other a b left k ∙ (o.other ∙ sym (shift-other a b ks o.was)) }
     by_test f false k l =
         let o = f k l in
-        record { was = suc (suc o.was); inside = omega (arith, o.inside); row = o.row ∙ sym (shift-row c cs o.was); key = o.key; other = o.other ∙ sym (shift-other a b ks o.was) }
+        record { was = suc (suc o.was); inside = omega (arith, o.inside); clause = o.clause ∙ sym (shift-clause c cs o.was); key = o.key; other = o.other ∙ sym (shift-other a b ks o.was) }
 
-pairs-paired : (ids : List ℕ) (rows : List NumberedClause) (keys : List ℕ) → length keys ≡ length rows + length rows → length (pairs_left ids rows keys) ≡ length (forgetting ids rows) + length (forgetting ids rows)
+pairs-paired : (ids : List ℕ) (watched : List NumberedClause) (keys : List ℕ) → length keys ≡ length watched + length watched → length (pairs_left ids watched keys) ≡ length (forgetting ids watched) + length (forgetting ids watched)
 pairs-paired ids [] keys p = refl
 pairs-paired ids (c ∷ cs) [] p = absurd (omega arith)
 pairs-paired ids (c ∷ cs) (a ∷ []) p = absurd (omega arith)
@@ -88,7 +88,7 @@ fewer-length test (c ∷ cs) = by_test (fewer-length test cs) (test c)
 -- the first of clauses has another number than each behind it
 single-apart : (c : NumberedClause) (cs : List NumberedClause) (d : NumberedClause) → AreSingle (c ∷ cs) → Among d cs → c.id ≢ d.id
 single-apart c cs d h m e =
-    let p = among-place d cs no_row m in
+    let p = among-place d cs no_clause m in
     absurd (omega (arith, h 0 (suc p.place) (omega arith) (omega (arith, p.inside)) (e ∙ ap (λ (x : NumberedClause). x.id) (sym p.is))))
 
 single-tail : (c : NumberedClause) (cs : List NumberedClause) → AreSingle (c ∷ cs) → AreSingle cs
@@ -101,8 +101,8 @@ single-fewer test (c ∷ cs) h = by_test (single-fewer test cs (single-tail c cs
     left : List NumberedClause
     left = filter test cs
 
-    apart : (i : ℕ) → i < length left → c.id ≢ (get_or left i no_row).id
-    apart i l = single-apart c cs (get_or left i no_row) h (among-passed test (get_or left i no_row) cs (among-at left i no_row l)).0
+    apart : (i : ℕ) → i < length left → c.id ≢ (get_or left i no_clause).id
+    apart i l = single-apart c cs (get_or left i no_clause) h (among-passed test (get_or left i no_clause) cs (among-at left i no_clause l)).0
 
     by_test : AreSingle left → (t : Bool) → AreSingle (cond t (c ∷ left) left)
     by_test f false i j l m e = f i j l m e
@@ -112,37 +112,37 @@ single-fewer test (c ∷ cs) h = by_test (single-fewer test cs (single-tail c cs
     by_test f true (suc i) (suc j) l m e = ap suc (f i j (omega arith) (omega arith) e)
 
 -- what follows a trail follows it where clauses are given up
-pub follows-fewer : (ids : List ℕ) (clauses rows : List NumberedClause) (keys out : List ℕ) (lists capacity : ℕ) (entries : List TrailEntry) (processed : ℕ) → Follows clauses rows keys out lists capacity entries processed → Follows (forgetting ids clauses) (forgetting ids rows) (pairs_left ids rows keys) [] lists capacity entries processed
-follows-fewer ids clauses rows keys out lists capacity entries processed f =
-    let old = old-node ids rows keys f.watching.paired in
+pub follows-fewer : (ids : List ℕ) (clauses watched : List NumberedClause) (keys out : List ℕ) (lists capacity : ℕ) (entries : List TrailEntry) (processed : ℕ) → Follows clauses watched keys out lists capacity entries processed → Follows (forgetting ids clauses) (forgetting ids watched) (pairs_left ids watched keys) [] lists capacity entries processed
+follows-fewer ids clauses watched keys out lists capacity entries processed f =
+    let old = old-watch ids watched keys f.watching.paired in
     record {
       numbers = rise-passed (is_left ids) 0 clauses f.numbers;
-      held = λ c m. let a = among-passed (is_left ids) c rows m in among-passes (is_left ids) c clauses (f.held c a.0) a.1;
+      held = λ c m. let a = among-passed (is_left ids) c watched m in among-passes (is_left ids) c clauses (f.held c a.0) a.1;
       each = λ c m. let a = among-passed (is_left ids) c clauses m in either c a.1 (f.each c a.0);
-      single = single-fewer (is_left ids) rows f.single;
-      form = λ c m. f.form c (among-passed (is_left ids) c rows m).0;
+      single = single-fewer (is_left ids) watched f.single;
+      form = λ c m. f.form c (among-passed (is_left ids) c watched m).0;
       watching = record {
-        paired = pairs-paired ids rows keys f.watching.paired;
-        own = λ k l. let o = old k l in rw (o.row, o.key) (f.watching.own o.was o.inside);
-        below = λ k l h. below k l h (nat_lt (k / 2) (length (forgetting ids rows))) refl;
+        paired = pairs-paired ids watched keys f.watching.paired;
+        own = λ k l. let o = old k l in rw (o.clause, o.key) (f.watching.own o.was o.inside);
+        below = λ k l h. below k l h (nat_lt (k / 2) (length (forgetting ids watched))) refl;
       };
       apart = λ k l e. let o = old k l in f.apart o.was o.inside (sym o.key ∙ (e ∙ o.other));
       idle = refl;
-      room = omega (arith, f.room, fewer-length (is_left ids) rows);
-      kept = λ n k h l. let o = old k l in rw (o.row, o.key, o.other) (f.kept n o.was h o.inside);
+      room = omega (arith, f.room, fewer-length (is_left ids) watched);
+      kept = λ n k h l. let o = old k l in rw (o.clause, o.key, o.other) (f.kept n o.was h o.inside);
     }
   where
-    either : (c : NumberedClause) → is_left ids c ≡ true → (length c.lits ≤ 1) ⊎ Among c rows → (length c.lits ≤ 1) ⊎ Among c (forgetting ids rows)
+    either : (c : NumberedClause) → is_left ids c ≡ true → (length c.lits ≤ 1) ⊎ Among c watched → (length c.lits ≤ 1) ⊎ Among c (forgetting ids watched)
     either c t (inl l) = inl l
-    either c t (inr m) = inr (among-passes (is_left ids) c rows m t)
+    either c t (inr m) = inr (among-passes (is_left ids) c watched m t)
 
-    below : (k l : ℕ) → Has (row_at (forgetting ids rows) k).lits l → (b : Bool) → nat_lt (k / 2) (length (forgetting ids rows)) ≡ b → l < lists
+    below : (k l : ℕ) → Has (clause_of (forgetting ids watched) k).lits l → (b : Bool) → nat_lt (k / 2) (length (forgetting ids watched)) ≡ b → l < lists
     below k l h true q =
-        let m = among-passed (is_left ids) (row_at (forgetting ids rows) k) rows (among-at (forgetting ids rows) (k / 2) no_row (ltb-true (k / 2) (length (forgetting ids rows)) q)) in
-        let p = among-place (row_at (forgetting ids rows) k) rows no_row m.0 in
+        let m = among-passed (is_left ids) (clause_of (forgetting ids watched) k) watched (among-at (forgetting ids watched) (k / 2) no_clause (ltb-true (k / 2) (length (forgetting ids watched)) q)) in
+        let p = among-place (clause_of (forgetting ids watched) k) watched no_clause m.0 in
         let half : (p.place + p.place) / 2 ≡ p.place = omega arith in
-        let is : row_at (forgetting ids rows) k ≡ row_at rows (p.place + p.place) = sym p.is ∙ ap (λ (n : ℕ). get_or rows n no_row) (sym half) in
+        let is : clause_of (forgetting ids watched) k ≡ clause_of watched (p.place + p.place) = sym p.is ∙ ap (λ (n : ℕ). get_or watched n no_clause) (sym half) in
         f.watching.below (p.place + p.place) l (subst (λ (c : NumberedClause). Has c.lits l) is h)
     below k l h false q =
-        let none : row_at (forgetting ids rows) k ≡ no_row = get_or_past (forgetting ids rows) (k / 2) no_row (ltb-false (k / 2) (length (forgetting ids rows)) q) in
+        let none : clause_of (forgetting ids watched) k ≡ no_clause = get_or_past (forgetting ids watched) (k / 2) no_clause (ltb-false (k / 2) (length (forgetting ids watched)) q) in
         absurd (has-none l (subst (λ (c : NumberedClause). Has c.lits l) none h))

@@ -14,8 +14,8 @@ use Rattle.spec_node.specs.Batch.{is_in_batch}
 use Rattle.spec_node.specs.Value.{is_true, is_false, open_count}
 use Rattle.mal_watch.specs.WatchLists.{Has, AreOnce, IsAt}
 use Rattle.mal_watch.specs.Pairs.{ArePicked}
-use Rattle.mal_store.specs.Rowed.{no_row}
-use Rattle.mal_watch.specs.Watching.{row_at, partner, other_key, AreOthersFalse, IsWatchKept}
+use Rattle.mal_store.specs.Arena.{no_clause}
+use Rattle.mal_watch.specs.Watching.{clause_of, partner, other_key, AreOthersFalse, IsWatchKept}
 use Rattle.mal_watch.specs.Going.{Turns, Goes}
 use Rattle.mal_watch.specs.Finding.{is_pending, found_of, pending, found_in}
 use Rattle.mal_watch.specs.declared.found.Found.{Found}
@@ -31,8 +31,8 @@ use Rattle.mal_watch.proofs.WalkLemmas.{partner-below}
 use Rattle.mal_watch.proofs.CountLemmas.{count-same, batch-before, batch-no}
 
 -- what follows a trail follows it with more room for the numbers found and more lists
-pub follows-more : (clauses rows : List NumberedClause) (keys out : List ℕ) (lists more capacity wider : ℕ) (entries : List TrailEntry) (processed : ℕ) → lists ≤ more → length rows ≤ wider → Follows clauses rows keys out lists capacity entries processed → Follows clauses rows keys out more wider entries processed
-follows-more clauses rows keys out lists more capacity wider entries processed l c f = follows-with clauses rows keys out keys out lists more capacity wider entries entries processed processed f (record { paired = f.watching.paired; own = f.watching.own; below = λ k x h. omega (arith, f.watching.below k x h, l) }) f.apart f.idle c f.kept
+pub follows-more : (clauses watched : List NumberedClause) (keys out : List ℕ) (lists more capacity wider : ℕ) (entries : List TrailEntry) (processed : ℕ) → lists ≤ more → length watched ≤ wider → Follows clauses watched keys out lists capacity entries processed → Follows clauses watched keys out more wider entries processed
+follows-more clauses watched keys out lists more capacity wider entries processed l c f = follows-with clauses watched keys out keys out lists more capacity wider entries entries processed processed f (record { paired = f.watching.paired; own = f.watching.own; below = λ k x h. omega (arith, f.watching.below k x h, l) }) f.apart f.idle c f.kept
 
 -- a clause of at most one literal more
 pub with-short : (c : NumberedClause) (long : List NumberedClause) → length c.lits ≤ 1 → with_long c long ≡ long
@@ -51,8 +51,8 @@ with-behind c long l =
     ltb-yes : (a b : ℕ) → a < b → nat_lt a b ≡ true
     ltb-yes a b = grind (arith, nat_tests)
 
-pub follows-short : (clauses rows : List NumberedClause) (keys out : List ℕ) (lists capacity : ℕ) (entries : List TrailEntry) (processed : ℕ) (c : NumberedClause) → lits_under c.id clauses ≡ None → length c.lits ≤ 1 → Follows clauses rows keys out lists capacity entries processed → Follows (with_clause c clauses) rows keys out lists capacity entries processed
-follows-short clauses rows keys out lists capacity entries processed c n s f =
+pub follows-short : (clauses watched : List NumberedClause) (keys out : List ℕ) (lists capacity : ℕ) (entries : List TrailEntry) (processed : ℕ) (c : NumberedClause) → lits_under c.id clauses ≡ None → length c.lits ≤ 1 → Follows clauses watched keys out lists capacity entries processed → Follows (with_clause c clauses) watched keys out lists capacity entries processed
+follows-short clauses watched keys out lists capacity entries processed c n s f =
     record {
       numbers = rise-with 0 c clauses (omega arith) (λ d h. under-none c.id clauses d n h) f.numbers;
       held = λ d h. with-among d c clauses (inr (f.held d h));
@@ -87,36 +87,36 @@ push-last : (d : NumberedClause) (cs : List NumberedClause) → Among d (cs ++ d
 push-last d [] = inl refl
 push-last d (x ∷ xs) = inr (push-last d xs)
 
--- the rows with one more
-row-old : (rows : List NumberedClause) (c : NumberedClause) (i : ℕ) → i < length rows → get_or (rows ++ c ∷ []) i no_row ≡ get_or rows i no_row
-row-old rows c i l = get_or_append_left rows (c ∷ []) no_row i l
+-- the watched with one more
+clause-old : (watched : List NumberedClause) (c : NumberedClause) (i : ℕ) → i < length watched → get_or (watched ++ c ∷ []) i no_clause ≡ get_or watched i no_clause
+clause-old watched c i l = get_or_append_left watched (c ∷ []) no_clause i l
 
-row-new : (rows : List NumberedClause) (c : NumberedClause) (i : ℕ) → length rows ≡ i → get_or (rows ++ c ∷ []) i no_row ≡ c
-row-new rows c i e = get_or_at rows c [] no_row i e
+clause-new : (watched : List NumberedClause) (c : NumberedClause) (i : ℕ) → length watched ≡ i → get_or (watched ++ c ∷ []) i no_clause ≡ c
+clause-new watched c i e = get_or_at watched c [] no_clause i e
 
-single-push : (rows : List NumberedClause) (c : NumberedClause) → ((d : NumberedClause) → Among d rows → d.id ≢ c.id) → AreSingle rows → AreSingle (rows ++ c ∷ [])
-single-push rows c n s i j a b e = by_places (cases_eq i (length rows)) (cases_eq j (length rows))
+single-push : (watched : List NumberedClause) (c : NumberedClause) → ((d : NumberedClause) → Among d watched → d.id ≢ c.id) → AreSingle watched → AreSingle (watched ++ c ∷ [])
+single-push watched c n s i j a b e = by_places (cases_eq i (length watched)) (cases_eq j (length watched))
   where
-    long : length (rows ++ c ∷ []) ≡ length rows + 1
-    long = length_push rows c
+    long : length (watched ++ c ∷ []) ≡ length watched + 1
+    long = length_push watched c
 
-    same : (x y : NumberedClause) → get_or (rows ++ c ∷ []) i no_row ≡ x → get_or (rows ++ c ∷ []) j no_row ≡ y → x.id ≡ y.id
+    same : (x y : NumberedClause) → get_or (watched ++ c ∷ []) i no_clause ≡ x → get_or (watched ++ c ∷ []) j no_clause ≡ y → x.id ≡ y.id
     same x y p q = ap (λ (h : NumberedClause). h.id) (sym p) ∙ (e ∙ ap (λ (h : NumberedClause). h.id) q)
 
-    by_places : (i ≡ length rows) ⊎ (i ≡ length rows → ⊥) → (j ≡ length rows) ⊎ (j ≡ length rows → ⊥) → i ≡ j
+    by_places : (i ≡ length watched) ⊎ (i ≡ length watched → ⊥) → (j ≡ length watched) ⊎ (j ≡ length watched → ⊥) → i ≡ j
     by_places (inl p) (inl q) = p ∙ sym q
     by_places (inl p) (inr q) =
-        let l : j < length rows = omega (arith, b, long, q) in
-        absurd (n (get_or rows j no_row) (among-at rows j no_row l) (sym (same c (get_or rows j no_row) (row-new rows c i (sym p)) (row-old rows c j l))))
+        let l : j < length watched = omega (arith, b, long, q) in
+        absurd (n (get_or watched j no_clause) (among-at watched j no_clause l) (sym (same c (get_or watched j no_clause) (clause-new watched c i (sym p)) (clause-old watched c j l))))
     by_places (inr p) (inl q) =
-        let l : i < length rows = omega (arith, a, long, p) in
-        absurd (n (get_or rows i no_row) (among-at rows i no_row l) (same (get_or rows i no_row) c (row-old rows c i l) (row-new rows c j (sym q))))
+        let l : i < length watched = omega (arith, a, long, p) in
+        absurd (n (get_or watched i no_clause) (among-at watched i no_clause l) (same (get_or watched i no_clause) c (clause-old watched c i l) (clause-new watched c j (sym q))))
     by_places (inr p) (inr q) =
-        let l : i < length rows = omega (arith, a, long, p) in
-        let m : j < length rows = omega (arith, b, long, q) in
-        s i j l m (same (get_or rows i no_row) (get_or rows j no_row) (row-old rows c i l) (row-old rows c j m))
+        let l : i < length watched = omega (arith, a, long, p) in
+        let m : j < length watched = omega (arith, b, long, q) in
+        s i j l m (same (get_or watched i no_clause) (get_or watched j no_clause) (clause-old watched c i l) (clause-old watched c j m))
 
--- the nodes with two more
+-- the watches with two more
 pub record HasPair (keys now : List ℕ) (first second : ℕ) : Type 0 where
   pub long : length now ≡ length keys + 2
   pub old : (k : ℕ) → k < length keys → get_or now k 0 ≡ get_or keys k 0
@@ -134,11 +134,11 @@ pair-push keys first second =
       second_is = get_or_at (keys ++ first ∷ []) second [] 0 (length keys + 1) one;
     }
 
--- what holds of a node, by what it and its partner watch and by its clause
-kept-as : (prefix : List TrailEntry) (rows : List NumberedClause) (keys : List ℕ) (k a b : ℕ) (c : NumberedClause) → get_or keys k 0 ≡ a → other_key keys k ≡ b → row_at rows k ≡ c → (is_false prefix a ≡ true → AreOthersFalse prefix b c.lits ⊎ (is_true prefix b ≡ true)) → IsWatchKept prefix rows keys k
-kept-as prefix rows keys k a b c e f g h = rw (e, f, g) h
+-- what holds of a watch, by what it and its partner watch and by its clause
+kept-as : (prefix : List TrailEntry) (watched : List NumberedClause) (keys : List ℕ) (k a b : ℕ) (c : NumberedClause) → get_or keys k 0 ≡ a → other_key keys k ≡ b → clause_of watched k ≡ c → (is_false prefix a ≡ true → AreOthersFalse prefix b c.lits ⊎ (is_true prefix b ≡ true)) → IsWatchKept prefix watched keys k
+kept-as prefix watched keys k a b c e f g h = rw (e, f, g) h
 
--- a node is an old one, or one of the two new ones
+-- a watch is an old one, or one of the two new ones
 split : (n k : ℕ) → k < n + 2 → (k < n) ⊎ ((k ≡ n) ⊎ (k ≡ n + 1))
 split n k l = by_case (cases_eq k n) (cases_eq k (n + 1))
   where
@@ -148,61 +148,61 @@ split n k l = by_case (cases_eq k n) (cases_eq k (n + 1))
     by_case (inr d) (inr c) = inl (omega arith)
 
 -- each literal of a clause that there is room for has a list
-below-push : (lists : ℕ) (rows : List NumberedClause) (c : NumberedClause) → ((k l : ℕ) → Has (row_at rows k).lits l → l < lists) → ((l : ℕ) → Has c.lits l → l < lists) → (k l : ℕ) → Has (row_at (rows ++ c ∷ []) k).lits l → l < lists
-below-push lists rows c old new k l h = by_place (cases_eq (k / 2) (length rows)) (nat_lt (k / 2) (length rows)) refl
+below-push : (lists : ℕ) (watched : List NumberedClause) (c : NumberedClause) → ((k l : ℕ) → Has (clause_of watched k).lits l → l < lists) → ((l : ℕ) → Has c.lits l → l < lists) → (k l : ℕ) → Has (clause_of (watched ++ c ∷ []) k).lits l → l < lists
+below-push lists watched c old new k l h = by_place (cases_eq (k / 2) (length watched)) (nat_lt (k / 2) (length watched)) refl
   where
-    by_place : (k / 2 ≡ length rows) ⊎ (k / 2 ≡ length rows → ⊥) → (b : Bool) → nat_lt (k / 2) (length rows) ≡ b → l < lists
-    by_place (inl e) b t = new l (rw (row-new rows c (k / 2) (sym e)) at h)
-    by_place (inr d) true t = old k l (rw (row-old rows c (k / 2) (ltb-true (k / 2) (length rows) t)) at h)
+    by_place : (k / 2 ≡ length watched) ⊎ (k / 2 ≡ length watched → ⊥) → (b : Bool) → nat_lt (k / 2) (length watched) ≡ b → l < lists
+    by_place (inl e) b t = new l (rw (clause-new watched c (k / 2) (sym e)) at h)
+    by_place (inr d) true t = old k l (rw (clause-old watched c (k / 2) (ltb-true (k / 2) (length watched) t)) at h)
     by_place (inr d) false t =
-        let beyond : length (rows ++ c ∷ []) ≤ k / 2 = omega (arith, length_push rows c, ltb-false (k / 2) (length rows) t, d) in
-        absurd (has-none l (rw (get_or_past (rows ++ c ∷ []) (k / 2) no_row beyond) at h))
+        let beyond : length (watched ++ c ∷ []) ≤ k / 2 = omega (arith, length_push watched c, ltb-false (k / 2) (length watched) t, d) in
+        absurd (has-none l (rw (get_or_past (watched ++ c ∷ []) (k / 2) no_clause beyond) at h))
 
 -- a clause of two or more literals more, which watches the two that were picked
-pub follows-long : (clauses rows : List NumberedClause) (keys out : List ℕ) (lists capacity : ℕ) (entries : List TrailEntry) (processed : ℕ) (c : NumberedClause) (first second : ℕ) → lits_under c.id clauses ≡ None → AreOnce c.lits → ArePicked entries (processed - 1) c.lits first second → ((l : ℕ) → Has c.lits l → l < lists) → length rows + 1 ≤ capacity → Follows clauses rows keys out lists capacity entries processed → Follows (with_clause c clauses) (rows ++ c ∷ []) ((keys ++ first ∷ []) ++ second ∷ []) out lists capacity entries processed
-follows-long clauses rows keys out lists capacity entries processed c first second fresh once p below room f =
+pub follows-long : (clauses watched : List NumberedClause) (keys out : List ℕ) (lists capacity : ℕ) (entries : List TrailEntry) (processed : ℕ) (c : NumberedClause) (first second : ℕ) → lits_under c.id clauses ≡ None → AreOnce c.lits → ArePicked entries (processed - 1) c.lits first second → ((l : ℕ) → Has c.lits l → l < lists) → length watched + 1 ≤ capacity → Follows clauses watched keys out lists capacity entries processed → Follows (with_clause c clauses) (watched ++ c ∷ []) ((keys ++ first ∷ []) ++ second ∷ []) out lists capacity entries processed
+follows-long clauses watched keys out lists capacity entries processed c first second fresh once p below room f =
     let n = length keys in
     let now = (keys ++ first ∷ []) ++ second ∷ [] in
-    let next = rows ++ c ∷ [] in
+    let next = watched ++ c ∷ [] in
     let pair = pair-push keys first second in
-    let paired : n ≡ length rows + length rows = f.watching.paired in
+    let paired : n ≡ length watched + length watched = f.watching.paired in
     let even : n % 2 ≡ 0 = omega arith in
     let odd : (n + 1) % 2 ≡ 1 = omega arith in
     let other_n : partner n ≡ n + 1 = partner-even n even in
     let other_m : partner (n + 1) ≡ n = let e = partner-odd (n + 1) odd in omega arith in
-    let row_n : row_at next n ≡ c = row-new rows c (n / 2) (omega arith) in
-    let row_m : row_at next (n + 1) ≡ c = row-new rows c ((n + 1) / 2) (omega arith) in
-    let row_k : (k : ℕ) → k < n → row_at next k ≡ row_at rows k = λ k l. row-old rows c (k / 2) (omega (arith, l, paired)) in
+    let row_n : clause_of next n ≡ c = clause-new watched c (n / 2) (omega arith) in
+    let row_m : clause_of next (n + 1) ≡ c = clause-new watched c ((n + 1) / 2) (omega arith) in
+    let row_k : (k : ℕ) → k < n → clause_of next k ≡ clause_of watched k = λ k l. clause-old watched c (k / 2) (omega (arith, l, paired)) in
     let key_other_n : other_key now n ≡ second = ap (λ (i : ℕ). get_or now i 0) other_n ∙ pair.second_is in
     let key_other_m : other_key now (n + 1) ≡ first = ap (λ (i : ℕ). get_or now i 0) other_m ∙ pair.first_is in
-    let key_other_k : (k : ℕ) → k < n → other_key now k ≡ other_key keys k = λ k l. pair.old (partner k) (partner-below lists rows keys k f.watching l) in
+    let key_other_k : (k : ℕ) → k < n → other_key now k ≡ other_key keys k = λ k l. pair.old (partner k) (partner-below lists watched keys k f.watching l) in
     let places : (k : ℕ) → k < length now → (k < n) ⊎ ((k ≡ n) ⊎ (k ≡ n + 1)) = λ k l. split n k (omega (arith, l, pair.long)) in
     record {
       numbers = rise-with 0 c clauses (omega arith) (λ d h. under-none c.id clauses d fresh h) f.numbers;
-      held = λ d h. elim (among-push d c rows h) [
+      held = λ d h. elim (among-push d c watched h) [
         | inl m ↦ with-among d c clauses (inr (f.held d m))
         | inr e ↦ with-among d c clauses (inl e)
       ];
       each = λ d h. elim (among-with d c clauses h) [
-        | inl e ↦ inr (rw e (push-last c rows))
+        | inl e ↦ inr (rw e (push-last c watched))
         | inr m ↦ elim (f.each d m) [
           | inl s ↦ inl s
-          | inr r ↦ inr (push-among d c rows r)
+          | inr r ↦ inr (push-among d c watched r)
         ]
       ];
-      single = single-push rows c (λ d h. under-none c.id clauses d fresh (f.held d h)) f.single;
-      form = λ d h. elim (among-push d c rows h) [
+      single = single-push watched c (λ d h. under-none c.id clauses d fresh (f.held d h)) f.single;
+      form = λ d h. elim (among-push d c watched h) [
         | inl m ↦ f.form d m
         | inr e ↦ rw e once
       ];
       watching = record {
-        paired = omega (arith, pair.long, paired, length_push rows c);
+        paired = omega (arith, pair.long, paired, length_push watched c);
         own = λ k l. elim (places k l) [
           | inl o ↦ rw (row_k k o, pair.old k o) (f.watching.own k o)
           | inr (inl e) ↦ rw e (rw (row_n, pair.first_is) p.first_in)
           | inr (inr e) ↦ rw e (rw (row_m, pair.second_is) p.second_in)
         ];
-        below = below-push lists rows c f.watching.below below;
+        below = below-push lists watched c f.watching.below below;
       };
       apart = λ k l. elim (places k l) [
         | inl o ↦ rw (pair.old k o, key_other_k k o) (f.apart k o)
@@ -210,9 +210,9 @@ follows-long clauses rows keys out lists capacity entries processed c first seco
         | inr (inr e) ↦ rw e (rw (pair.second_is, key_other_m) (λ s. p.apart (sym s)))
       ];
       idle = f.idle;
-      room = omega (arith, room, length_push rows c);
+      room = omega (arith, room, length_push watched c);
       kept = λ m k h l. elim (places k l) [
-        | inl o ↦ kept-as (take m entries) next now k (get_or keys k 0) (other_key keys k) (row_at rows k) (pair.old k o) (key_other_k k o) (row_k k o) (f.kept m k h o)
+        | inl o ↦ kept-as (take m entries) next now k (get_or keys k 0) (other_key keys k) (clause_of watched k) (pair.old k o) (key_other_k k o) (row_k k o) (f.kept m k h o)
         | inr (inl e) ↦ rw e (kept-as (take m entries) next now n first second c pair.first_is key_other_n row_n (λ z. inl (λ x i d. elim (cases_eq x first) [
           | inl s ↦ rw s z
           | inr u ↦ p.others x i u m h (p.order m h z)
@@ -241,37 +241,37 @@ lists-within lists (x ∷ xs) w l h =
       | inr m ↦ lists-within lists xs parts.1 l m
     ]
 
--- the rows' literals stand once each
-pub rows-once : (rows : List NumberedClause) → ((c : NumberedClause) → Among c rows → AreOnce c.lits) → (k : ℕ) → AreOnce (row_at rows k).lits
-rows-once rows form k = by_place (nat_lt (k / 2) (length rows)) refl
+-- the watched' literals stand once each
+pub watched-once : (watched : List NumberedClause) → ((c : NumberedClause) → Among c watched → AreOnce c.lits) → (k : ℕ) → AreOnce (clause_of watched k).lits
+watched-once watched form k = by_place (nat_lt (k / 2) (length watched)) refl
   where
-    by_place : (b : Bool) → nat_lt (k / 2) (length rows) ≡ b → AreOnce (row_at rows k).lits
-    by_place true t = form (row_at rows k) (among-at rows (k / 2) no_row (ltb-true (k / 2) (length rows) t))
-    by_place false t = rw (get_or_past rows (k / 2) no_row (ltb-false (k / 2) (length rows) t)) tt
+    by_place : (b : Bool) → nat_lt (k / 2) (length watched) ≡ b → AreOnce (clause_of watched k).lits
+    by_place true t = form (clause_of watched k) (among-at watched (k / 2) no_clause (ltb-true (k / 2) (length watched) t))
+    by_place false t = rw (get_or_past watched (k / 2) no_clause (ltb-false (k / 2) (length watched) t)) tt
 
--- the batch is of rows alone
-pub batch-rows : (clauses rows : List NumberedClause) (entries : List TrailEntry) (q : ℕ) → 1 ≤ q → q ≤ length entries → ((c : NumberedClause) → Among c clauses → (length c.lits ≤ 1) ⊎ Among c rows) → (c : NumberedClause) → Among c clauses → is_in_batch (take q entries) c ≡ true → Among c rows
-batch-rows clauses rows entries q s l each c h t = elim (each c h) [
+-- the batch is of watched alone
+pub batch-watched : (clauses watched : List NumberedClause) (entries : List TrailEntry) (q : ℕ) → 1 ≤ q → q ≤ length entries → ((c : NumberedClause) → Among c clauses → (length c.lits ≤ 1) ⊎ Among c watched) → (c : NumberedClause) → Among c clauses → is_in_batch (take q entries) c ≡ true → Among c watched
+batch-watched clauses watched entries q s l each c h t = elim (each c h) [
   | inl short ↦
       let few : open_count (take (q - 1) entries) c.lits ≤ 1 = omega (arith, short, count_by-le-length (λ x. not (is_false (take (q - 1) entries) x)) c.lits) in
       absurd (false≢true (sym (batch-before entries q c s l few) ∙ t))
   | inr m ↦ m
 ]
 
--- before the walk the nodes that watch the literal are left
-pub before-walk : (clauses rows : List NumberedClause) (keys out idle : List ℕ) (lists capacity : ℕ) (entries : List TrailEntry) (count f : ℕ) → Follows clauses rows keys idle lists capacity entries count → Turns entries count f → ((k : ℕ) → Has out k ↔ IsAt keys k f) → AreOnce out → Goes entries count f lists rows keys out
-before-walk clauses rows keys out idle lists capacity entries count f w t nodes once = goes-start entries count f lists rows keys out t w.watching w.apart (rows-once rows w.form) w.kept nodes once
+-- before the walk the watches of the literal are left
+pub before-walk : (clauses watched : List NumberedClause) (keys out idle : List ℕ) (lists capacity : ℕ) (entries : List TrailEntry) (count f : ℕ) → Follows clauses watched keys idle lists capacity entries count → Turns entries count f → ((k : ℕ) → Has out k ↔ IsAt keys k f) → AreOnce out → Goes entries count f lists watched keys out
+before-walk clauses watched keys out idle lists capacity entries count f w t watches once = goes-start entries count f lists watched keys out t w.watching w.apart (watched-once watched w.form) w.kept watches once
 
--- after the walk: what the nodes watch follows the trail with one batch more, and what was found is what is pending
-pub record IsFound (clauses rows : List NumberedClause) (keys : List ℕ) (found : List Found) (lists capacity : ℕ) (entries : List TrailEntry) (count : ℕ) : Type 0 where
-  pub follows : Follows clauses rows keys [] lists capacity entries (count + 1)
+-- after the walk: what is watched follows the trail with one batch more, and what was found is what is pending
+pub record IsFound (clauses watched : List NumberedClause) (keys : List ℕ) (found : List Found) (lists capacity : ℕ) (entries : List TrailEntry) (count : ℕ) : Type 0 where
+  pub follows : Follows clauses watched keys [] lists capacity entries (count + 1)
   pub found_is : found ≡ pending (take count entries) entries clauses
 
-pub after-walk : (clauses rows : List NumberedClause) (keys out idle now : List ℕ) (found : List Found) (lists capacity : ℕ) (entries : List TrailEntry) (count : ℕ) (f : ℕ) → Follows clauses rows keys idle lists capacity entries count → Turns entries count f → ((k : ℕ) → Has out k ↔ IsAt keys k f) → AreOnce out → Goes entries count f lists rows now [] → IsPermutation (found_in (take count entries) entries rows out) found → IsNonDecreasingBy (λ (x : Found). x.id) found → IsFound clauses rows now found lists capacity entries count
-after-walk clauses rows keys out idle now found lists capacity entries count f w t nodes once goes moved s =
+pub after-walk : (clauses watched : List NumberedClause) (keys out idle now : List ℕ) (found : List Found) (lists capacity : ℕ) (entries : List TrailEntry) (count : ℕ) (f : ℕ) → Follows clauses watched keys idle lists capacity entries count → Turns entries count f → ((k : ℕ) → Has out k ↔ IsAt keys k f) → AreOnce out → Goes entries count f lists watched now [] → IsPermutation (found_in (take count entries) entries watched out) found → IsNonDecreasingBy (λ (x : Found). x.id) found → IsFound clauses watched now found lists capacity entries count
+after-walk clauses watched keys out idle now found lists capacity entries count f w t watches once goes moved s =
     record {
-      follows = follows-with clauses rows keys idle now [] lists lists capacity capacity entries entries count (count + 1) w goes.watching goes.apart refl w.room (goes-end entries count f lists rows now goes);
-      found_is = found-is (take count entries) entries f lists clauses rows keys out found w.numbers w.held w.single w.watching w.apart nodes once (batch-rows clauses rows entries count t.some t.within w.each) (λ k l d e. goes-apart entries count f lists rows keys k t w.watching w.apart (rows-once rows w.form) w.kept l d e) moved s;
+      follows = follows-with clauses watched keys idle now [] lists lists capacity capacity entries entries count (count + 1) w goes.watching goes.apart refl w.room (goes-end entries count f lists watched now goes);
+      found_is = found-is (take count entries) entries f lists clauses watched keys out found w.numbers w.held w.single w.watching w.apart watches once (batch-watched clauses watched entries count t.some t.within w.each) (λ k l d e. goes-apart entries count f lists watched keys k t w.watching w.apart (watched-once watched w.form) w.kept l d e) moved s;
     }
 
 passed-none : (p : NumberedClause → Bool) → ((c : NumberedClause) → p c ≡ false) → (cs : List NumberedClause) → filter p cs ≡ []
@@ -279,9 +279,9 @@ passed-none p h [] = refl
 passed-none p h (c ∷ cs) = rw (h c) (passed-none p h cs)
 
 -- an entry whose literal was true before makes no batch
-pub no-walk : (clauses rows : List NumberedClause) (keys : List ℕ) (lists capacity : ℕ) (entries : List TrailEntry) (count : ℕ) (e : TrailEntry) (idle : List ℕ) → 1 ≤ count → count ≤ length entries → e ≡ get_or entries (count - 1) e → is_false (take (count - 1) entries) (negated e.lit) ≡ true → Follows clauses rows keys idle lists capacity entries count → Follows clauses rows keys idle lists capacity entries (count + 1) × ([] ≡ pending (take count entries) entries clauses)
-no-walk clauses rows keys lists capacity entries count e idle s l is was f = (
-  follows-with clauses rows keys idle keys idle lists lists capacity capacity entries entries count (count + 1) f f.watching f.apart f.idle f.room (λ n k h m. elim (cases_eq n count) [
+pub no-walk : (clauses watched : List NumberedClause) (keys : List ℕ) (lists capacity : ℕ) (entries : List TrailEntry) (count : ℕ) (e : TrailEntry) (idle : List ℕ) → 1 ≤ count → count ≤ length entries → e ≡ get_or entries (count - 1) e → is_false (take (count - 1) entries) (negated e.lit) ≡ true → Follows clauses watched keys idle lists capacity entries count → Follows clauses watched keys idle lists capacity entries (count + 1) × ([] ≡ pending (take count entries) entries clauses)
+no-walk clauses watched keys lists capacity entries count e idle s l is was f = (
+  follows-with clauses watched keys idle keys idle lists lists capacity capacity entries entries count (count + 1) f f.watching f.apart f.idle f.room (λ n k h m. elim (cases_eq n count) [
     | inl q ↦ rw q (λ z. elim (f.kept (count - 1) k (omega arith) m (back (get_or keys k 0) z)) [
       | inl closed ↦ inl (λ x i d. false-more (count - 1) count entries x (omega arith) (closed x i d))
       | inr holds ↦ inr (true-more (count - 1) count entries (other_key keys k) (omega arith) holds)

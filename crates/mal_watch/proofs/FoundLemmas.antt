@@ -14,14 +14,14 @@ use Rattle.spec_node.specs.Sound.{NumbersRise, left_is_true}
 use Rattle.mal_watch.specs.WatchLists.{Has, AreOnce, IsAt}
 use Rattle.mal_store.specs.Stored.{Among}
 use Rattle.mal_watch.specs.Following.{AreSingle}
-use Rattle.mal_store.specs.Rowed.{no_row}
-use Rattle.mal_watch.specs.Watching.{row_at, partner, other_key, IsWatching}
+use Rattle.mal_store.specs.Arena.{no_clause}
+use Rattle.mal_watch.specs.Watching.{clause_of, partner, other_key, IsWatching}
 use Rattle.mal_watch.specs.declared.found.Found.{Found}
 use Rattle.mal_watch.specs.Finding.{is_pending, found_of, pending, found_in}
 use Rattle.mal_watch.proofs.HasLemmas.{has-none, has-head, has-tail, has-cases, has-contains, contains-has, distinct-from, long-below}
 use Rattle.mal_store.proofs.AmongLemmas.{among-passed, among-passes, among-place, among-at, rise-passed, rise-under}
-use Rattle.mal_watch.proofs.WalkLemmas.{partner-below, row-below}
-use Rattle.mal_watch.proofs.TurnLemmas.{same-row, partner-other, partner-half}
+use Rattle.mal_watch.proofs.WalkLemmas.{partner-below, clause-below}
+use Rattle.mal_watch.proofs.TurnLemmas.{same-clause, partner-other, partner-half}
 
 eqb_flips : (a b : ℕ) → eqb a b ≡ eqb b a
 eqb_flips a b = by_case (cases_eq a b)
@@ -96,60 +96,60 @@ numbered-has c [] h = absurd h
 numbered-has c (d ∷ ds) (inl e) = has-head c.id d.id (map (λ (x : NumberedClause). x.id) ds) (ap (λ (x : NumberedClause). x.id) e)
 numbered-has c (d ∷ ds) (inr h) = has-tail c.id d.id (map (λ (x : NumberedClause). x.id) ds) (numbered-has c ds h)
 
--- the number of a node's clause, where it passes a test
+-- the number of a watch's clause, where it passes a test
 abbrev pub id_at : (NumberedClause → Bool) → List NumberedClause → ℕ → List ℕ
-id_at p rows k = cond (p (row_at rows k)) ((row_at rows k).id ∷ []) []
+id_at p watched k = cond (p (clause_of watched k)) ((clause_of watched k).id ∷ []) []
 
--- the numbers of the clauses of nodes that pass a test
+-- the numbers of the clauses of watches that pass a test
 abbrev pub ids_in : (NumberedClause → Bool) → List NumberedClause → List ℕ → List ℕ
-ids_in p rows [] = []
-ids_in p rows (k ∷ ks) = id_at p rows k ++ ids_in p rows ks
+ids_in p watched [] = []
+ids_in p watched (k ∷ ks) = id_at p watched k ++ ids_in p watched ks
 
--- a node whose clause passes a test
-pub record IsFrom (p : NumberedClause → Bool) (rows : List NumberedClause) (ks : List ℕ) (x : ℕ) : Type 0 where
-  pub node : ℕ
-  pub there : Has ks node
-  pub inside : p (row_at rows node) ≡ true
-  pub is : (row_at rows node).id ≡ x
+-- a watch whose clause passes a test
+pub record IsFrom (p : NumberedClause → Bool) (watched : List NumberedClause) (ks : List ℕ) (x : ℕ) : Type 0 where
+  pub watch : ℕ
+  pub there : Has ks watch
+  pub inside : p (clause_of watched watch) ≡ true
+  pub is : (clause_of watched watch).id ≡ x
 
-ids-from : (p : NumberedClause → Bool) (rows : List NumberedClause) (ks : List ℕ) (x : ℕ) → Has (ids_in p rows ks) x → IsFrom p rows ks x
-ids-from p rows [] x h = absurd (has-none x h)
-ids-from p rows (k ∷ ks) x h = by_test (p (row_at rows k)) refl (λ m. let f = ids-from p rows ks x m in record { node = f.node; there = has-tail f.node k ks f.there; inside = f.inside; is = f.is }) h
+ids-from : (p : NumberedClause → Bool) (watched : List NumberedClause) (ks : List ℕ) (x : ℕ) → Has (ids_in p watched ks) x → IsFrom p watched ks x
+ids-from p watched [] x h = absurd (has-none x h)
+ids-from p watched (k ∷ ks) x h = by_test (p (clause_of watched k)) refl (λ m. let f = ids-from p watched ks x m in record { watch = f.watch; there = has-tail f.watch k ks f.there; inside = f.inside; is = f.is }) h
   where
-    by_side : p (row_at rows k) ≡ true → (Has (ids_in p rows ks) x → IsFrom p rows (k ∷ ks) x) → (x ≡ (row_at rows k).id) ⊎ Has (ids_in p rows ks) x → IsFrom p rows (k ∷ ks) x
-    by_side e rest (inl s) = record { node = k; there = has-head k k ks refl; inside = e; is = sym s }
+    by_side : p (clause_of watched k) ≡ true → (Has (ids_in p watched ks) x → IsFrom p watched (k ∷ ks) x) → (x ≡ (clause_of watched k).id) ⊎ Has (ids_in p watched ks) x → IsFrom p watched (k ∷ ks) x
+    by_side e rest (inl s) = record { watch = k; there = has-head k k ks refl; inside = e; is = sym s }
     by_side e rest (inr m) = rest m
 
-    by_test : (b : Bool) → p (row_at rows k) ≡ b → (Has (ids_in p rows ks) x → IsFrom p rows (k ∷ ks) x) → Has (cond b ((row_at rows k).id ∷ []) [] ++ ids_in p rows ks) x → IsFrom p rows (k ∷ ks) x
-    by_test true e rest m = by_side e rest (has-cases x (row_at rows k).id (ids_in p rows ks) m)
+    by_test : (b : Bool) → p (clause_of watched k) ≡ b → (Has (ids_in p watched ks) x → IsFrom p watched (k ∷ ks) x) → Has (cond b ((clause_of watched k).id ∷ []) [] ++ ids_in p watched ks) x → IsFrom p watched (k ∷ ks) x
+    by_test true e rest m = by_side e rest (has-cases x (clause_of watched k).id (ids_in p watched ks) m)
     by_test false e rest m = rest m
 
-has-ids : (p : NumberedClause → Bool) (rows : List NumberedClause) (ks : List ℕ) (k : ℕ) → Has ks k → p (row_at rows k) ≡ true → Has (ids_in p rows ks) (row_at rows k).id
-has-ids p rows [] k h t = absurd (has-none k h)
-has-ids p rows (j ∷ ks) k h t = by_test (p (row_at rows j)) refl (λ m. has-ids p rows ks k m t) (has-cases k j ks h)
+has-ids : (p : NumberedClause → Bool) (watched : List NumberedClause) (ks : List ℕ) (k : ℕ) → Has ks k → p (clause_of watched k) ≡ true → Has (ids_in p watched ks) (clause_of watched k).id
+has-ids p watched [] k h t = absurd (has-none k h)
+has-ids p watched (j ∷ ks) k h t = by_test (p (clause_of watched j)) refl (λ m. has-ids p watched ks k m t) (has-cases k j ks h)
   where
-    by_test : (b : Bool) → p (row_at rows j) ≡ b → (Has ks k → Has (ids_in p rows ks) (row_at rows k).id) → (k ≡ j) ⊎ Has ks k → Has (cond b ((row_at rows j).id ∷ []) [] ++ ids_in p rows ks) (row_at rows k).id
-    by_test true e rest (inl s) = has-head (row_at rows k).id (row_at rows j).id (ids_in p rows ks) (ap (λ (i : ℕ). (row_at rows i).id) s)
-    by_test true e rest (inr m) = has-tail (row_at rows k).id (row_at rows j).id (ids_in p rows ks) (rest m)
+    by_test : (b : Bool) → p (clause_of watched j) ≡ b → (Has ks k → Has (ids_in p watched ks) (clause_of watched k).id) → (k ≡ j) ⊎ Has ks k → Has (cond b ((clause_of watched j).id ∷ []) [] ++ ids_in p watched ks) (clause_of watched k).id
+    by_test true e rest (inl s) = has-head (clause_of watched k).id (clause_of watched j).id (ids_in p watched ks) (ap (λ (i : ℕ). (clause_of watched i).id) s)
+    by_test true e rest (inr m) = has-tail (clause_of watched k).id (clause_of watched j).id (ids_in p watched ks) (rest m)
     by_test false e rest (inl s) = absurd (false≢true (sym e ∙ rw s at t))
     by_test false e rest (inr m) = rest m
 
--- numbers of clauses of different nodes stand once, where nodes of the same number are the same
-ids-once : (p : NumberedClause → Bool) (rows : List NumberedClause) (ks : List ℕ) → AreOnce ks → ((i j : ℕ) → Has ks i → Has ks j → (row_at rows i).id ≡ (row_at rows j).id → i ≡ j) → AreOnce (ids_in p rows ks)
-ids-once p rows [] o h = tt
-ids-once p rows (k ∷ ks) o h = by_test (p (row_at rows k)) (ids-once p rows ks o.1 (λ i j m n. h i j (has-tail i k ks m) (has-tail j k ks n)))
+-- numbers of clauses of different watches stand once, where watches of the same number are the same
+ids-once : (p : NumberedClause → Bool) (watched : List NumberedClause) (ks : List ℕ) → AreOnce ks → ((i j : ℕ) → Has ks i → Has ks j → (clause_of watched i).id ≡ (clause_of watched j).id → i ≡ j) → AreOnce (ids_in p watched ks)
+ids-once p watched [] o h = tt
+ids-once p watched (k ∷ ks) o h = by_test (p (clause_of watched k)) (ids-once p watched ks o.1 (λ i j m n. h i j (has-tail i k ks m) (has-tail j k ks n)))
   where
-    apart : Has (ids_in p rows ks) (row_at rows k).id → ⊥
+    apart : Has (ids_in p watched ks) (clause_of watched k).id → ⊥
     apart m =
-        let f = ids-from p rows ks (row_at rows k).id m in
-        let same : f.node ≡ k = h f.node k (has-tail f.node k ks f.there) (has-head k k ks refl) f.is in
+        let f = ids-from p watched ks (clause_of watched k).id m in
+        let same : f.watch ≡ k = h f.watch k (has-tail f.watch k ks f.there) (has-head k k ks refl) f.is in
         o.0 (rw same at f.there)
 
-    by_test : (b : Bool) → AreOnce (ids_in p rows ks) → AreOnce (cond b ((row_at rows k).id ∷ []) [] ++ ids_in p rows ks)
+    by_test : (b : Bool) → AreOnce (ids_in p watched ks) → AreOnce (cond b ((clause_of watched k).id ∷ []) [] ++ ids_in p watched ks)
     by_test true rest = (apart, rest)
     by_test false rest = rest
 
--- two nodes of one clause are the same or partners
+-- two watches of one clause are the same or partners
 halves : (i j : ℕ) → i / 2 ≡ j / 2 → (i ≡ j) ⊎ (i ≡ partner j)
 halves i j e = by_case (cases_eq i j)
   where
@@ -157,13 +157,13 @@ halves i j e = by_case (cases_eq i j)
     by_case (inl s) = inl s
     by_case (inr d) = inr (let h = partner-half j in let n = partner-other j in omega arith)
 
--- nodes that watch one literal are of different clauses
-pub node-half : (f lists : ℕ) (rows : List NumberedClause) (keys out : List ℕ) → ((k : ℕ) → k < length keys → get_or keys k 0 ≢ other_key keys k) → ((k : ℕ) → Has out k ↔ IsAt keys k f) → (i j : ℕ) → Has out i → Has out j → i / 2 ≡ j / 2 → i ≡ j
-node-half f lists rows keys out a nodes i j m n e = elim (halves i j e) [
+-- watches of one literal are of different clauses
+pub watch-half : (f lists : ℕ) (watched : List NumberedClause) (keys out : List ℕ) → ((k : ℕ) → k < length keys → get_or keys k 0 ≢ other_key keys k) → ((k : ℕ) → Has out k ↔ IsAt keys k f) → (i j : ℕ) → Has out i → Has out j → i / 2 ≡ j / 2 → i ≡ j
+watch-half f lists watched keys out a watches i j m n e = elim (halves i j e) [
   | inl s ↦ s
   | inr p ↦
-      let at_j = (nodes j).0 n in
-      let at_i = (nodes i).0 m in
+      let at_j = (watches j).0 n in
+      let at_i = (watches i).0 m in
       let other : other_key keys j ≡ f = ap (λ (x : ℕ). get_or keys x 0) (sym p) ∙ at_i.1 in
       absurd (a j at_j.0 (at_j.1 ∙ sym other))
 ]
@@ -190,43 +190,43 @@ map-length : (ks : List ℕ) → length (map (λ (k : ℕ). k / 2) ks) ≡ lengt
 map-length [] = refl
 map-length (k ∷ ks) = ap suc (map-length ks)
 
--- there are at most as many nodes of a literal as clauses
-pub out-length : (f lists : ℕ) (rows : List NumberedClause) (keys out : List ℕ) → IsWatching lists rows keys → ((k : ℕ) → k < length keys → get_or keys k 0 ≢ other_key keys k) → ((k : ℕ) → Has out k ↔ IsAt keys k f) → AreOnce out → length out ≤ length rows
-out-length f lists rows keys out w a nodes o =
-    let most = long-below (length rows) (map (λ (k : ℕ). k / 2) out) (map-once out o (node-half f lists rows keys out a nodes)) (λ x m. map-below (length rows) x out (λ k n. row-below lists rows keys k w ((nodes k).0 n).0) m) in
+-- there are at most as many watches of a literal as clauses
+pub out-length : (f lists : ℕ) (watched : List NumberedClause) (keys out : List ℕ) → IsWatching lists watched keys → ((k : ℕ) → k < length keys → get_or keys k 0 ≢ other_key keys k) → ((k : ℕ) → Has out k ↔ IsAt keys k f) → AreOnce out → length out ≤ length watched
+out-length f lists watched keys out w a watches o =
+    let most = long-below (length watched) (map (λ (k : ℕ). k / 2) out) (map-once out o (watch-half f lists watched keys out a watches)) (λ x m. map-below (length watched) x out (λ k n. clause-below lists watched keys k w ((watches k).0 n).0) m) in
     rw (map-length out) at most
 
 -- numbers found, in order, are those of all clauses that pass a test
-ids-are : (p : NumberedClause → Bool) (f lists : ℕ) (clauses rows : List NumberedClause) (keys out found : List ℕ) → NumbersRise 0 clauses → ((c : NumberedClause) → Among c rows → Among c clauses) → AreSingle rows → IsWatching lists rows keys → ((k : ℕ) → k < length keys → get_or keys k 0 ≢ other_key keys k) → ((k : ℕ) → Has out k ↔ IsAt keys k f) → AreOnce out → ((c : NumberedClause) → Among c clauses → p c ≡ true → Among c rows) → ((k : ℕ) → k < length keys → get_or keys k 0 ≢ f → other_key keys k ≢ f → p (row_at rows k) ≡ false) → IsPermutation (ids_in p rows out) found → IsNonDecreasing found → found ≡ map (λ (c : NumberedClause). c.id) (filter p clauses)
-ids-are p f lists clauses rows keys out found r held single w a nodes once rowed apart moved s =
-    let ids = ids_in p rows out in
-    let below : (k : ℕ) → Has out k → k / 2 < length rows = λ k h. row-below lists rows keys k w ((nodes k).0 h).0 in
-    let ids_once : AreOnce ids = ids-once p rows out once (λ i j m n e. node-half f lists rows keys out a nodes i j m n (single (i / 2) (j / 2) (below i m) (below j n) e)) in
+ids-are : (p : NumberedClause → Bool) (f lists : ℕ) (clauses watched : List NumberedClause) (keys out found : List ℕ) → NumbersRise 0 clauses → ((c : NumberedClause) → Among c watched → Among c clauses) → AreSingle watched → IsWatching lists watched keys → ((k : ℕ) → k < length keys → get_or keys k 0 ≢ other_key keys k) → ((k : ℕ) → Has out k ↔ IsAt keys k f) → AreOnce out → ((c : NumberedClause) → Among c clauses → p c ≡ true → Among c watched) → ((k : ℕ) → k < length keys → get_or keys k 0 ≢ f → other_key keys k ≢ f → p (clause_of watched k) ≡ false) → IsPermutation (ids_in p watched out) found → IsNonDecreasing found → found ≡ map (λ (c : NumberedClause). c.id) (filter p clauses)
+ids-are p f lists clauses watched keys out found r held single w a watches once rowed apart moved s =
+    let ids = ids_in p watched out in
+    let below : (k : ℕ) → Has out k → k / 2 < length watched = λ k h. clause-below lists watched keys k w ((watches k).0 h).0 in
+    let ids_once : AreOnce ids = ids-once p watched out once (λ i j m n e. watch-half f lists watched keys out a watches i j m n (single (i / 2) (j / 2) (below i m) (below j n) e)) in
     let rising : RisesFrom 0 found = rises-from 0 found (λ l. omega arith) (IsStrictlyIncreasing-from_distinct found s (IsDistinct-IsPermutation eqb eqb_flips ids found moved (distinct-from ids ids_once))) in
     let there : (x : ℕ) → Has found x → Has (map (λ (c : NumberedClause). c.id) (filter p clauses)) x = λ x m.
-    let from = ids-from p rows out x (contains-has ids x (Contains-permutation found ids x (IsPermutation-sym ids found moved) (has-contains found x m))) in
-    let among : Among (row_at rows from.node) clauses = held (row_at rows from.node) (among-at rows (from.node / 2) no_row (below from.node from.there)) in
-    rw from.is at (numbered-has (row_at rows from.node) (filter p clauses) (among-passes p (row_at rows from.node) clauses among from.inside)) in
+    let from = ids-from p watched out x (contains-has ids x (Contains-permutation found ids x (IsPermutation-sym ids found moved) (has-contains found x m))) in
+    let among : Among (clause_of watched from.watch) clauses = held (clause_of watched from.watch) (among-at watched (from.watch / 2) no_clause (below from.watch from.there)) in
+    rw from.is at (numbered-has (clause_of watched from.watch) (filter p clauses) (among-passes p (clause_of watched from.watch) clauses among from.inside)) in
     let back : (x : ℕ) → Has (map (λ (c : NumberedClause). c.id) (filter p clauses)) x → Has found x = λ x m.
     let numbered = has-numbered x (filter p clauses) m in
     let passed = among-passed p numbered.clause clauses numbered.among in
-    let place = among-place numbered.clause rows no_row (rowed numbered.clause passed.0 passed.1) in
-    let node = place.place * 2 in
-    let half : node / 2 ≡ place.place = omega arith in
-    let row : row_at rows node ≡ numbered.clause = rw half place.is in
-    let inside : p (row_at rows node) ≡ true = rw row passed.1 in
-    let here : node < length keys = omega (arith, w.paired, place.inside) in
-    let has : Has ids x = rw (← numbered.is, ← row) (watching-has node here inside) in
+    let place = among-place numbered.clause watched no_clause (rowed numbered.clause passed.0 passed.1) in
+    let watch = place.place * 2 in
+    let half : watch / 2 ≡ place.place = omega arith in
+    let clause : clause_of watched watch ≡ numbered.clause = rw half place.is in
+    let inside : p (clause_of watched watch) ≡ true = rw clause passed.1 in
+    let here : watch < length keys = omega (arith, w.paired, place.inside) in
+    let has : Has ids x = rw (← numbered.is, ← clause) (watching-has watch here inside) in
     contains-has found x (Contains-permutation ids found x moved (has-contains ids x has)) in
     rises-same 0 0 found (map (λ (c : NumberedClause). c.id) (filter p clauses)) rising (rises-ids 0 (filter p clauses) (rise-passed p 0 clauses r)) there back
   where
-    watching-has : (k : ℕ) → k < length keys → p (row_at rows k) ≡ true → Has (ids_in p rows out) (row_at rows k).id
+    watching-has : (k : ℕ) → k < length keys → p (clause_of watched k) ≡ true → Has (ids_in p watched out) (clause_of watched k).id
     watching-has k l t = elim (cases_eq (get_or keys k 0) f) [
-      | inl e ↦ has-ids p rows out k ((nodes k).1 (l, e)) t
+      | inl e ↦ has-ids p watched out k ((watches k).1 (l, e)) t
       | inr d ↦ elim (cases_eq (other_key keys k) f) [
         | inl e ↦
-            let same : row_at rows (partner k) ≡ row_at rows k = same-row rows k in
-            let m = has-ids p rows out (partner k) ((nodes (partner k)).1 (partner-below lists rows keys k w l, e)) (rw same t) in
+            let same : clause_of watched (partner k) ≡ clause_of watched k = same-clause watched k in
+            let m = has-ids p watched out (partner k) ((watches (partner k)).1 (partner-below lists watched keys k w l, e)) (rw same t) in
             rw same at m
         | inr n ↦ absurd (false≢true (sym (apart k l d n) ∙ t))
       ]
@@ -269,22 +269,22 @@ found-same prefix clauses (c ∷ cs) (f ∷ fs) r a o e =
     let first : f ≡ found_of prefix c = o.0.is ∙ ap (found_of prefix) same in
     rw (first, found-same prefix clauses cs fs r (λ d h. a d (inr h)) o.1 heads.1) refl
 
--- what is found of nodes is found of their clauses
-each-found : (prefix trail : List TrailEntry) (clauses rows : List NumberedClause) (ks : List ℕ) → ((k : ℕ) → Has ks k → Among (row_at rows k) clauses) → AllByRecursion (IsFoundOf prefix clauses) (found_in prefix trail rows ks)
-each-found prefix trail clauses rows [] h = tt
-each-found prefix trail clauses rows (k ∷ ks) h = by_test (is_pending prefix trail (row_at rows k)) (each-found prefix trail clauses rows ks (λ j m. h j (has-tail j k ks m)))
+-- what is found of watches is found of their clauses
+each-found : (prefix trail : List TrailEntry) (clauses watched : List NumberedClause) (ks : List ℕ) → ((k : ℕ) → Has ks k → Among (clause_of watched k) clauses) → AllByRecursion (IsFoundOf prefix clauses) (found_in prefix trail watched ks)
+each-found prefix trail clauses watched [] h = tt
+each-found prefix trail clauses watched (k ∷ ks) h = by_test (is_pending prefix trail (clause_of watched k)) (each-found prefix trail clauses watched ks (λ j m. h j (has-tail j k ks m)))
   where
-    by_test : (b : Bool) → AllByRecursion (IsFoundOf prefix clauses) (found_in prefix trail rows ks) → AllByRecursion (IsFoundOf prefix clauses) (cond b (found_of prefix (row_at rows k) ∷ []) [] ++ found_in prefix trail rows ks)
-    by_test true rest = (record { clause = row_at rows k; among = h k (has-head k k ks refl); is = refl }, rest)
+    by_test : (b : Bool) → AllByRecursion (IsFoundOf prefix clauses) (found_in prefix trail watched ks) → AllByRecursion (IsFoundOf prefix clauses) (cond b (found_of prefix (clause_of watched k) ∷ []) [] ++ found_in prefix trail watched ks)
+    by_test true rest = (record { clause = clause_of watched k; among = h k (has-head k k ks refl); is = refl }, rest)
     by_test false rest = rest
 
 -- and their numbers are those of the pending ones
-found-ids : (prefix trail : List TrailEntry) (rows : List NumberedClause) (ks : List ℕ) → map (λ (f : Found). f.id) (found_in prefix trail rows ks) ≡ ids_in (is_pending prefix trail) rows ks
-found-ids prefix trail rows [] = refl
-found-ids prefix trail rows (k ∷ ks) = by_test (is_pending prefix trail (row_at rows k)) (found-ids prefix trail rows ks)
+found-ids : (prefix trail : List TrailEntry) (watched : List NumberedClause) (ks : List ℕ) → map (λ (f : Found). f.id) (found_in prefix trail watched ks) ≡ ids_in (is_pending prefix trail) watched ks
+found-ids prefix trail watched [] = refl
+found-ids prefix trail watched (k ∷ ks) = by_test (is_pending prefix trail (clause_of watched k)) (found-ids prefix trail watched ks)
   where
-    by_test : (b : Bool) → map (λ (f : Found). f.id) (found_in prefix trail rows ks) ≡ ids_in (is_pending prefix trail) rows ks → map (λ (f : Found). f.id) (cond b (found_of prefix (row_at rows k) ∷ []) [] ++ found_in prefix trail rows ks) ≡ cond b ((row_at rows k).id ∷ []) [] ++ ids_in (is_pending prefix trail) rows ks
-    by_test true rest = ap (λ (xs : List ℕ). (row_at rows k).id ∷ xs) rest
+    by_test : (b : Bool) → map (λ (f : Found). f.id) (found_in prefix trail watched ks) ≡ ids_in (is_pending prefix trail) watched ks → map (λ (f : Found). f.id) (cond b (found_of prefix (clause_of watched k) ∷ []) [] ++ found_in prefix trail watched ks) ≡ cond b ((clause_of watched k).id ∷ []) [] ++ ids_in (is_pending prefix trail) watched ks
+    by_test true rest = ap (λ (xs : List ℕ). (clause_of watched k).id ∷ xs) rest
     by_test false rest = rest
 
 ids-order : (fs : List Found) → IsNonDecreasingBy (λ (f : Found). f.id) fs → IsNonDecreasing (map (λ (f : Found). f.id) fs)
@@ -306,13 +306,13 @@ pending-batch prefix trail c h = by_test (is_in_batch prefix c) (left_is_true pr
     by_test false b q = q
 
 -- what was found, in order, is what is pending
-pub found-is : (prefix trail : List TrailEntry) (f lists : ℕ) (clauses rows : List NumberedClause) (keys out : List ℕ) (found : List Found) → NumbersRise 0 clauses → ((c : NumberedClause) → Among c rows → Among c clauses) → AreSingle rows → IsWatching lists rows keys → ((k : ℕ) → k < length keys → get_or keys k 0 ≢ other_key keys k) → ((k : ℕ) → Has out k ↔ IsAt keys k f) → AreOnce out → ((c : NumberedClause) → Among c clauses → is_in_batch prefix c ≡ true → Among c rows) → ((k : ℕ) → k < length keys → get_or keys k 0 ≢ f → other_key keys k ≢ f → is_pending prefix trail (row_at rows k) ≡ false) → IsPermutation (found_in prefix trail rows out) found → IsNonDecreasingBy (λ (x : Found). x.id) found → found ≡ pending prefix trail clauses
-found-is prefix trail f lists clauses rows keys out found r held single w a nodes once rowed apart moved s =
+pub found-is : (prefix trail : List TrailEntry) (f lists : ℕ) (clauses watched : List NumberedClause) (keys out : List ℕ) (found : List Found) → NumbersRise 0 clauses → ((c : NumberedClause) → Among c watched → Among c clauses) → AreSingle watched → IsWatching lists watched keys → ((k : ℕ) → k < length keys → get_or keys k 0 ≢ other_key keys k) → ((k : ℕ) → Has out k ↔ IsAt keys k f) → AreOnce out → ((c : NumberedClause) → Among c clauses → is_in_batch prefix c ≡ true → Among c watched) → ((k : ℕ) → k < length keys → get_or keys k 0 ≢ f → other_key keys k ≢ f → is_pending prefix trail (clause_of watched k) ≡ false) → IsPermutation (found_in prefix trail watched out) found → IsNonDecreasingBy (λ (x : Found). x.id) found → found ≡ pending prefix trail clauses
+found-is prefix trail f lists clauses watched keys out found r held single w a watches once rowed apart moved s =
     let p : NumberedClause → Bool = is_pending prefix trail in
     let number : Found → ℕ = λ x. x.id in
-    let below : (k : ℕ) → Has out k → k / 2 < length rows = λ k h. row-below lists rows keys k w ((nodes k).0 h).0 in
-    let each = each-found prefix trail clauses rows out (λ k h. held (row_at rows k) (among-at rows (k / 2) no_row (below k h))) in
-    let now : AllByRecursion (IsFoundOf prefix clauses) found = recursion_from_All (IsFoundOf prefix clauses) found (All-permutation (IsFoundOf prefix clauses) (found_in prefix trail rows out) found moved (All-from_recursion (IsFoundOf prefix clauses) (found_in prefix trail rows out) each)) in
-    let ids : IsPermutation (ids_in p rows out) (map number found) = subst (λ (xs : List ℕ). IsPermutation xs (map number found)) (found-ids prefix trail rows out) (IsPermutation-map number (found_in prefix trail rows out) found moved) in
-    let same = ids-are p f lists clauses rows keys out (map number found) r held single w a nodes once (λ c h t. rowed c h (pending-batch prefix trail c t)) apart ids (ids-order found s) in
+    let below : (k : ℕ) → Has out k → k / 2 < length watched = λ k h. clause-below lists watched keys k w ((watches k).0 h).0 in
+    let each = each-found prefix trail clauses watched out (λ k h. held (clause_of watched k) (among-at watched (k / 2) no_clause (below k h))) in
+    let now : AllByRecursion (IsFoundOf prefix clauses) found = recursion_from_All (IsFoundOf prefix clauses) found (All-permutation (IsFoundOf prefix clauses) (found_in prefix trail watched out) found moved (All-from_recursion (IsFoundOf prefix clauses) (found_in prefix trail watched out) each)) in
+    let ids : IsPermutation (ids_in p watched out) (map number found) = subst (λ (xs : List ℕ). IsPermutation xs (map number found)) (found-ids prefix trail watched out) (IsPermutation-map number (found_in prefix trail watched out) found moved) in
+    let same = ids-are p f lists clauses watched keys out (map number found) r held single w a watches once (λ c h t. rowed c h (pending-batch prefix trail c t)) apart ids (ids-order found s) in
     found-same prefix clauses (filter p clauses) found r (λ c h. (among-passed p c clauses h).0) now same

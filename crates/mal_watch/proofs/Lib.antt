@@ -1,6 +1,6 @@
 -- what this crate alone cites
 mod HasLemmas
-mod ChainLemmas
+mod LinkedLemmas
 mod FalseLemmas
 mod BatchLemmas
 mod WalkLemmas
@@ -9,6 +9,6 @@ mod TurnLemmas
 mod FoundLemmas
 mod FollowLemmas
 mod WiderLemmas
-mod NodeLemmas
+mod WatchLemmas
 mod ListedLemmas
 mod FewerLemmas

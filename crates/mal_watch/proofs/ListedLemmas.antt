@@ -3,18 +3,18 @@ use Rattle.std.specs.Prelude.{All}
 use Rattle.std.proofs.lemmas.List.{length_push, length-set, length-drop, length-take-le, take_more_set, drop-set-lt, drop_more, drop-drop, drop_all}
 use Rattle.std.proofs.lemmas.List.Elements.{All-nil, All-cons, All-head, All-tail, All-push, All-set, All-weaker}
 use Rattle.mal_base.specs.NumberedClause.{NumberedClause}
-use Rattle.mal_watch.specs.declared.watch_lists.Node.{Node}
-use Rattle.mal_store.specs.Rowed.{is_left}
+use Rattle.mal_watch.specs.declared.watch_lists.Watch.{Watch}
+use Rattle.mal_store.specs.Arena.{is_left}
 use Rattle.mal_watch.specs.Leaving.{pairs_left}
 use Rattle.mal_watch.specs.Links.{nowhere}
-use Rattle.mal_watch.specs.Nodes.{links_of, keys_of}
-use Rattle.mal_watch.specs.WatchLists.{link_at, IsChained, AreListed}
+use Rattle.mal_watch.specs.Watches.{links_of, keys_of}
+use Rattle.mal_watch.specs.WatchLists.{link_at, AreLinked, AreListed}
 use Rattle.mal_watch.proofs.HasLemmas.{has-none}
 use Rattle.mal_watch.proofs.WiderLemmas.{wider}
-use Rattle.mal_watch.proofs.ChainLemmas.{added}
-use Rattle.mal_watch.proofs.NodeLemmas.{links-length, keys-length, links-push, keys-push, key-at}
+use Rattle.mal_watch.proofs.LinkedLemmas.{added}
+use Rattle.mal_watch.proofs.WatchLemmas.{links-length, keys-length, links-push, keys-push, key-at}
 
--- one node more, another literal of a node, more lists
+-- one watch more, another literal of a watch, more lists
 pub listed-push : (lists : ℕ) (keys : List ℕ) (key : ℕ) → key < lists → length keys + 1 ≤ nowhere → AreListed lists keys → AreListed lists (keys ++ key ∷ [])
 listed-push lists keys key l n h = record { few = omega (arith, n, length_push keys key); below = All-push (λ (k : ℕ). k < lists) keys key h.below l }
 
@@ -24,9 +24,9 @@ listed-set lists keys k key l h = record { few = omega (arith, h.few, length-set
 pub listed-more : (lists more : ℕ) (keys : List ℕ) → lists ≤ more → AreListed lists keys → AreListed more keys
 listed-more lists more keys l h = record { few = h.few; below = All-weaker (λ (k : ℕ). k < lists) (λ (k : ℕ). k < more) (λ k q. omega (arith, l, q)) keys h.below }
 
--- no node in empty lists
-pub none-chained : (n : ℕ) → IsChained (replicate n None) [] [] None
-none-chained n =
+-- no watch in empty lists
+pub none-linked : (n : ℕ) → AreLinked (replicate n None) [] [] None
+none-linked n =
     wider [] [] [] None n
     (record {
       lists = λ key. [];
@@ -51,7 +51,7 @@ pairs-none {X} ids cs xs m (inr l) = by_rest (drop m cs) (drop (m + m) xs) (omeg
     by_rest (d ∷ ds) (y ∷ []) s = refl
     by_rest (d ∷ ds) (y ∷ (z ∷ zs)) s = absurd (omega arith)
 
-pub keys-pairs : (ids : List ℕ) (cs : List NumberedClause) (ns : List Node) → keys_of (pairs_left ids cs ns) ≡ pairs_left ids cs (keys_of ns)
+pub keys-pairs : (ids : List ℕ) (cs : List NumberedClause) (ns : List Watch) → keys_of (pairs_left ids cs ns) ≡ pairs_left ids cs (keys_of ns)
 keys-pairs ids [] ns = refl
 keys-pairs ids (c ∷ cs) [] = refl
 keys-pairs ids (c ∷ cs) (a ∷ []) = refl
@@ -111,27 +111,27 @@ pairs-pass {X} ids cs xs place d l m t = by_rest (drop (place + place) xs) (drop
     by_rest (y ∷ []) zs q n = absurd (omega arith)
     by_rest (y ∷ (z ∷ ys)) zs q n = rw (q, head, t) refl
 
--- a node of as many, of which each literal has a list
-pub node-listed : (lists : ℕ) (nodes first : List Node) (place : ℕ) (n : Node) → keys_of nodes ≡ keys_of first → AreListed lists (keys_of first) → place < length nodes → n ≡ get_or nodes place n → (n.key < lists) × (place < nowhere)
-node-listed lists nodes first place n q h l e =
-    let same : length (keys_of nodes) ≡ length (keys_of first) = ap (λ (ks : List ℕ). length ks) q in
-    let inside : place < length (keys_of first) = omega (arith, l, same, keys-length nodes) in
-    let key : n.key ≡ get_or (keys_of first) place 0 = key-at nodes place n l e ∙ ap (λ (ks : List ℕ). get_or ks place 0) q in
+-- a watch of as many, of which each literal has a list
+pub watch-listed : (lists : ℕ) (watches first : List Watch) (place : ℕ) (n : Watch) → keys_of watches ≡ keys_of first → AreListed lists (keys_of first) → place < length watches → n ≡ get_or watches place n → (n.key < lists) × (place < nowhere)
+watch-listed lists watches first place n q h l e =
+    let same : length (keys_of watches) ≡ length (keys_of first) = ap (λ (ks : List ℕ). length ks) q in
+    let inside : place < length (keys_of first) = omega (arith, l, same, keys-length watches) in
+    let key : n.key ≡ get_or (keys_of first) place 0 = key-at watches place n l e ∙ ap (λ (ks : List ℕ). get_or ks place 0) q in
     let below : get_or (keys_of first) place 0 < lists = h.below place 0 inside in
     (omega (arith, key, below), omega (arith, inside, h.few))
 
 -- the keys stay where a link changes
-pub keys-kept : (nodes : List Node) (place : ℕ) (n m : Node) → place < length nodes → n ≡ get_or nodes place n → m.key ≡ n.key → keys_of (set nodes place m) ≡ keys_of nodes
+pub keys-kept : (watches : List Watch) (place : ℕ) (n m : Watch) → place < length watches → n ≡ get_or watches place n → m.key ≡ n.key → keys_of (set watches place m) ≡ keys_of watches
 keys-kept [] place n m l e k = absurd (omega arith)
-keys-kept (x ∷ xs) zero n m l e k = ap (λ (y : ℕ). y ∷ keys_of xs) (k ∙ ap (λ (y : Node). y.key) e)
+keys-kept (x ∷ xs) zero n m l e k = ap (λ (y : ℕ). y ∷ keys_of xs) (k ∙ ap (λ (y : Watch). y.key) e)
 keys-kept (x ∷ xs) (suc place) n m l e k = ap (λ (ks : List ℕ). x.key ∷ ks) (keys-kept xs place n m (omega arith) e k)
 
--- one node more is linked
-pub link-more : (heads : List (Option ℕ)) (nodes : List Node) (place list : ℕ) (m : Node) → place < length nodes → list ≡ m.key → m.key < length heads → m.link ≡ link_at heads list → IsChained heads (links_of (take place nodes)) (keys_of (take place nodes)) None → IsChained (set heads list (Some place)) (links_of (take (place + 1) (set nodes place m))) (keys_of (take (place + 1) (set nodes place m))) None
-link-more heads nodes place list m l e k t c =
-    let now : take (place + 1) (set nodes place m) ≡ take place nodes ++ m ∷ [] = take_more_set nodes place m l in
-    let count : place ≡ length (links_of (take place nodes)) = omega (arith, l, links-length (take place nodes), length-take-le place nodes (omega arith)) in
-    (added heads (links_of (take place nodes)) _ (keys_of (take place nodes)) _ None m.key list place m.link c e count k t (ap links_of now ∙ links-push (take place nodes) m) (ap keys_of now ∙ keys-push (take place nodes) m)).0
+-- one watch more is linked
+pub link-more : (heads : List (Option ℕ)) (watches : List Watch) (place list : ℕ) (m : Watch) → place < length watches → list ≡ m.key → m.key < length heads → m.next ≡ link_at heads list → AreLinked heads (links_of (take place watches)) (keys_of (take place watches)) None → AreLinked (set heads list (Some place)) (links_of (take (place + 1) (set watches place m))) (keys_of (take (place + 1) (set watches place m))) None
+link-more heads watches place list m l e k t c =
+    let now : take (place + 1) (set watches place m) ≡ take place watches ++ m ∷ [] = take_more_set watches place m l in
+    let count : place ≡ length (links_of (take place watches)) = omega (arith, l, links-length (take place watches), length-take-le place watches (omega arith)) in
+    (added heads (links_of (take place watches)) _ (keys_of (take place watches)) _ None m.key list place m.next c e count k t (ap links_of now ∙ links-push (take place watches) m) (ap keys_of now ∙ keys-push (take place watches) m)).0
 
 -- how far the two of each clause were gone over: these are kept in front, and those behind are still to come
 pub record IsKeeping {X : Type 0} (ids : List ℕ) (cs : List NumberedClause) (first xs : List X) (kept place : ℕ) : Type 0 where

@@ -9,8 +9,8 @@ use Rattle.mal_base.specs.declared.trail_entry.TrailEntry.{TrailEntry}
 use Rattle.spec_node.specs.Value.{is_true, is_false, open_count, left_literal}
 use Rattle.spec_node.specs.Batch.{is_in_batch}
 use Rattle.mal_watch.specs.WatchLists.{Has, AreOnce, IsAt}
-use Rattle.mal_store.specs.Rowed.{no_row}
-use Rattle.mal_watch.specs.Watching.{row_at, partner, IsOther, AreOthersFalse, IsSettled, other_key, IsWatching, IsWatchKept}
+use Rattle.mal_store.specs.Arena.{no_clause}
+use Rattle.mal_watch.specs.Watching.{clause_of, partner, IsOther, AreOthersFalse, IsSettled, other_key, IsWatching, IsWatchKept}
 use Rattle.mal_watch.specs.Going.{Turns, Goes}
 use Rattle.mal_watch.specs.Finding.{is_pending, found_at}
 use Rattle.mal_watch.specs.declared.found.Found.{Found}
@@ -41,7 +41,7 @@ test_zero n = grind (arith, nat_tests)
 test_one : (n : ℕ) → n ≡ 1 → nat_eq n 0 ≡ false
 test_one n = grind (arith, nat_tests)
 
--- the partner of an even node is the next, that of an odd one the one before
+-- the partner of an even watch is the next, that of an odd one the one before
 pub partner-even : (k : ℕ) → k % 2 ≡ 0 → partner k ≡ k + 1
 partner-even k e = rw (test_zero (k % 2) e) refl
 
@@ -80,8 +80,8 @@ partner-back k = by_side (parity k)
 pub negated-back : (l : ℕ) → negated (negated l) ≡ l
 negated-back l = partner-back l
 
-pub same-row : (rows : List NumberedClause) (k : ℕ) → row_at rows (partner k) ≡ row_at rows k
-same-row rows k = ap (λ (i : ℕ). get_or rows i no_row) (partner-half k)
+pub same-clause : (watched : List NumberedClause) (k : ℕ) → clause_of watched (partner k) ≡ clause_of watched k
+same-clause watched k = ap (λ (i : ℕ). get_or watched i no_clause) (partner-half k)
 
 -- what is true under one entry more is its literal or was true before
 push-cases : (es : List TrailEntry) (e : TrailEntry) (l : ℕ) → is_true (es ++ e ∷ []) l ≡ true → (e.lit ≡ l) ⊎ (is_true es l ≡ true)
@@ -152,43 +152,43 @@ not-true : (b : Bool) → b ≡ true → not b ≡ false
 not-true true h = refl
 not-true false h = absurd (false≢true h)
 
--- a node keeps what holds of it where it and its partner watch what they did
-kept-same : (prefix : List TrailEntry) (rows : List NumberedClause) (keys now : List ℕ) (k : ℕ) → get_or now k 0 ≡ get_or keys k 0 → other_key now k ≡ other_key keys k → IsWatchKept prefix rows keys k → IsWatchKept prefix rows now k
-kept-same prefix rows keys now k a b h = rw (a, b) h
+-- a watch keeps what holds of it where it and its partner watch what they did
+kept-same : (prefix : List TrailEntry) (watched : List NumberedClause) (keys now : List ℕ) (k : ℕ) → get_or now k 0 ≡ get_or keys k 0 → other_key now k ≡ other_key keys k → IsWatchKept prefix watched keys k → IsWatchKept prefix watched now k
+kept-same prefix watched keys now k a b h = rw (a, b) h
 
--- a node whose literal is not false keeps it
-kept-open : (prefix : List TrailEntry) (rows : List NumberedClause) (keys : List ℕ) (k : ℕ) → is_false prefix (get_or keys k 0) ≡ false → IsWatchKept prefix rows keys k
-kept-open prefix rows keys k o = λ f. absurd (false≢true (sym o ∙ f))
+-- a watch whose literal is not false keeps it
+kept-open : (prefix : List TrailEntry) (watched : List NumberedClause) (keys : List ℕ) (k : ℕ) → is_false prefix (get_or keys k 0) ≡ false → IsWatchKept prefix watched keys k
+kept-open prefix watched keys k o = λ f. absurd (false≢true (sym o ∙ f))
 
--- what is left of the nodes once the first is done
-pub record Goes-next (es : List TrailEntry) (q f lists : ℕ) (rows : List NumberedClause) (keys now rest : List ℕ) (k : ℕ) (found : Bool) : Type 0 where
-  pub goes : Goes es q f lists rows now rest
-  pub batch : is_in_batch (take q es) (row_at rows k) ≡ found
+-- what is left of the watches once the first is done
+pub record Goes-next (es : List TrailEntry) (q f lists : ℕ) (watched : List NumberedClause) (keys now rest : List ℕ) (k : ℕ) (found : Bool) : Type 0 where
+  pub goes : Goes es q f lists watched now rest
+  pub batch : is_in_batch (take q es) (clause_of watched k) ≡ found
 
-other-has : (lists : ℕ) (rows : List NumberedClause) (keys : List ℕ) (k : ℕ) → IsWatching lists rows keys → k < length keys → Has (row_at rows k).lits (other_key keys k)
-other-has lists rows keys k w l = subst (λ (c : NumberedClause). Has c.lits (other_key keys k)) (same-row rows k) (w.own (partner k) (partner-below lists rows keys k w l))
+other-has : (lists : ℕ) (watched : List NumberedClause) (keys : List ℕ) (k : ℕ) → IsWatching lists watched keys → k < length keys → Has (clause_of watched k).lits (other_key keys k)
+other-has lists watched keys k w l = subst (λ (c : NumberedClause). Has c.lits (other_key keys k)) (same-clause watched k) (w.own (partner k) (partner-below lists watched keys k w l))
 
--- the partner of the first node that is left is not left
-partner-done : (es : List TrailEntry) (q f lists : ℕ) (rows : List NumberedClause) (keys rest : List ℕ) (k : ℕ) → Goes es q f lists rows keys (k ∷ rest) → Has (k ∷ rest) (partner k) → ⊥
-partner-done es q f lists rows keys rest k g h =
+-- the partner of the first watch that is left is not left
+partner-done : (es : List TrailEntry) (q f lists : ℕ) (watched : List NumberedClause) (keys rest : List ℕ) (k : ℕ) → Goes es q f lists watched keys (k ∷ rest) → Has (k ∷ rest) (partner k) → ⊥
+partner-done es q f lists watched keys rest k g h =
     let here = g.left_is k (has-head k k rest refl) in
     let there = g.left_is (partner k) h in
     g.apart k here.0 (here.1 ∙ sym there.1)
 
 -- a clause that another literal of is open
-pub goes-moved : (es : List TrailEntry) (q f lists : ℕ) (rows : List NumberedClause) (keys rest : List ℕ) (k r : ℕ) → Turns es q f → Goes es q f lists rows keys (k ∷ rest) → IsOther (take q es) (other_key keys k) (row_at rows k).lits r → Goes-next es q f lists rows keys (set keys k r) rest k false
-goes-moved es q f lists rows keys rest k r t g found =
+pub goes-moved : (es : List TrailEntry) (q f lists : ℕ) (watched : List NumberedClause) (keys rest : List ℕ) (k r : ℕ) → Turns es q f → Goes es q f lists watched keys (k ∷ rest) → IsOther (take q es) (other_key keys k) (clause_of watched k).lits r → Goes-next es q f lists watched keys (set keys k r) rest k false
+goes-moved es q f lists watched keys rest k r t g found =
     let j = partner k in
-    let lits = (row_at rows k).lits in
+    let lits = (clause_of watched k).lits in
     let o = other_key keys k in
     let now = set keys k r in
     let here = g.left_is k (has-head k k rest refl) in
-    let below : j < length keys = partner-below lists rows keys k g.watching here.0 in
+    let below : j < length keys = partner-below lists watched keys k g.watching here.0 in
     let back : other_key keys j ≡ f = ap (λ (i : ℕ). get_or keys i 0) (partner-back k) ∙ here.1 in
     let r_other : r ≢ f = λ s. false≢true (sym found.free ∙ rw (sym s) at t.now) in
-    let kept_o : IsWatchKept (take q es) rows keys j = g.done j below (partner-done es q f lists rows keys rest k g) in
+    let kept_o : IsWatchKept (take q es) watched keys j = g.done j below (partner-done es q f lists watched keys rest k g) in
     let free_o : is_false (take q es) o ≡ false = none-of (is_false (take q es) o) (λ h. elim (kept_o h) [
-      | inl closed ↦ false≢true (sym found.free ∙ closed r (subst (λ (c : NumberedClause). Has c.lits r) (sym (same-row rows k)) found.there) (λ s. r_other (s ∙ back)))
+      | inl closed ↦ false≢true (sym found.free ∙ closed r (subst (λ (c : NumberedClause). Has c.lits r) (sym (same-clause watched k)) found.there) (λ s. r_other (s ∙ back)))
       | inr true_f ↦ false≢true (sym (t.clear f (rw back at true_f)) ∙ t.now)
     ]) in
     let long : length now ≡ length keys = length-set keys k r in
@@ -202,7 +202,7 @@ goes-moved es q f lists rows keys rest k r t g found =
     let open_j : (n : ℕ) → n ≤ q → is_false (take n es) (get_or now j 0) ≡ false = λ n h. rw key_j (open-less n q es o h free_o) in
     record {
       goes = record {
-        watching = watching-set lists rows keys k r g.watching here.0 found.there;
+        watching = watching-set lists watched keys k r g.watching here.0 found.there;
         apart = λ m l. elim (cases_eq m k) [
           | inl s ↦ rw (s, key_k, other_k) found.apart
           | inr d ↦ elim (cases_eq m j) [
@@ -217,28 +217,28 @@ goes-moved es q f lists rows keys rest k r t g found =
             (omega (arith, was.0, long), key_other m d ∙ was.1);
         once = g.once.1;
         kept = λ n m h l. elim (cases_eq m k) [
-          | inl s ↦ rw s (kept-open (take n es) rows now k (open_k n (omega (arith, h))))
+          | inl s ↦ rw s (kept-open (take n es) watched now k (open_k n (omega (arith, h))))
           | inr d ↦ elim (cases_eq m j) [
-            | inl s ↦ rw s (kept-open (take n es) rows now j (open_j n (omega (arith, h))))
-            | inr u ↦ kept-same (take n es) rows keys now m (key_other m d) (other_m m u) (g.kept n m h (omega (arith, l, long)))
+            | inl s ↦ rw s (kept-open (take n es) watched now j (open_j n (omega (arith, h))))
+            | inr u ↦ kept-same (take n es) watched keys now m (key_other m d) (other_m m u) (g.kept n m h (omega (arith, l, long)))
           ]
         ];
         done = λ m l h. elim (cases_eq m k) [
-          | inl s ↦ rw s (kept-open (take q es) rows now k (open_k q (omega arith)))
+          | inl s ↦ rw s (kept-open (take q es) watched now k (open_k q (omega arith)))
           | inr d ↦ elim (cases_eq m j) [
-            | inl s ↦ rw s (kept-open (take q es) rows now j (open_j q (omega arith)))
-            | inr u ↦ kept-same (take q es) rows keys now m (key_other m d) (other_m m u) (g.done m (omega (arith, l, long)) (λ i. elim (has-cases m k rest i) [ inl s ↦ d s | inr x ↦ h x ]))
+            | inl s ↦ rw s (kept-open (take q es) watched now j (open_j q (omega arith)))
+            | inr u ↦ kept-same (take q es) watched keys now m (key_other m d) (other_m m u) (g.done m (omega (arith, l, long)) (λ i. elim (has-cases m k rest i) [ inl s ↦ d s | inr x ↦ h x ]))
           ]
         ];
       };
       batch =
-          let two : 2 ≤ open_count (take q es) lits = count-two (λ l. not (is_false (take q es) l)) lits r o found.there (other-has lists rows keys k g.watching here.0) found.apart (not-false (is_false (take q es) r) found.free) (not-false (is_false (take q es) o) free_o) in
-          batch-no es q (row_at rows k) t.some t.within (λ s. omega (arith, two, s));
+          let two : 2 ≤ open_count (take q es) lits = count-two (λ l. not (is_false (take q es) l)) lits r o found.there (other-has lists watched keys k g.watching here.0) found.apart (not-false (is_false (take q es) r) found.free) (not-false (is_false (take q es) o) free_o) in
+          batch-no es q (clause_of watched k) t.some t.within (λ s. omega (arith, two, s));
     }
 
--- the first node that is left is done where it watches as it may
-goes-done : (es : List TrailEntry) (q f lists : ℕ) (rows : List NumberedClause) (keys rest : List ℕ) (k : ℕ) → Goes es q f lists rows keys (k ∷ rest) → IsWatchKept (take q es) rows keys k → Goes es q f lists rows keys rest
-goes-done es q f lists rows keys rest k g w =
+-- the first watch that is left is done where it watches as it may
+goes-done : (es : List TrailEntry) (q f lists : ℕ) (watched : List NumberedClause) (keys rest : List ℕ) (k : ℕ) → Goes es q f lists watched keys (k ∷ rest) → IsWatchKept (take q es) watched keys k → Goes es q f lists watched keys rest
+goes-done es q f lists watched keys rest k g w =
     record {
       watching = g.watching;
       apart = g.apart;
@@ -253,29 +253,29 @@ goes-done es q f lists rows keys rest k g w =
     }
 
 -- a clause whose other literals are false but for the other watched one
-pub goes-stays : (es : List TrailEntry) (q f lists : ℕ) (rows : List NumberedClause) (keys rest : List ℕ) (k : ℕ) → Turns es q f → Goes es q f lists rows keys (k ∷ rest) → AreOthersFalse (take q es) (other_key keys k) (row_at rows k).lits → Goes-next es q f lists rows keys keys rest k (not (is_false (take q es) (other_key keys k)))
-goes-stays es q f lists rows keys rest k t g others =
-    let lits = (row_at rows k).lits in
+pub goes-stays : (es : List TrailEntry) (q f lists : ℕ) (watched : List NumberedClause) (keys rest : List ℕ) (k : ℕ) → Turns es q f → Goes es q f lists watched keys (k ∷ rest) → AreOthersFalse (take q es) (other_key keys k) (clause_of watched k).lits → Goes-next es q f lists watched keys keys rest k (not (is_false (take q es) (other_key keys k)))
+goes-stays es q f lists watched keys rest k t g others =
+    let lits = (clause_of watched k).lits in
     let o = other_key keys k in
     let here = g.left_is k (has-head k k rest refl) in
-    let has_o : Has lits o = other-has lists rows keys k g.watching here.0 in
+    let has_o : Has lits o = other-has lists watched keys k g.watching here.0 in
     let has_f : Has lits f = rw here.1 at (g.watching.own k here.0) in
     let f_other : f ≢ o = rw here.1 at (g.apart k here.0) in
     record {
-      goes = goes-done es q f lists rows keys rest k g (λ z. inl others);
+      goes = goes-done es q f lists watched keys rest k g (λ z. inl others);
       batch = by_value others has_o has_f f_other (g.form k) (is_false (take q es) o) refl;
     }
   where
-    by_value : ((x : ℕ) → Has (row_at rows k).lits x → x ≢ other_key keys k → is_false (take q es) x ≡ true) → Has (row_at rows k).lits (other_key keys k) → Has (row_at rows k).lits f → f ≢ other_key keys k → AreOnce (row_at rows k).lits → (b : Bool) → is_false (take q es) (other_key keys k) ≡ b → is_in_batch (take q es) (row_at rows k) ≡ not b
+    by_value : ((x : ℕ) → Has (clause_of watched k).lits x → x ≢ other_key keys k → is_false (take q es) x ≡ true) → Has (clause_of watched k).lits (other_key keys k) → Has (clause_of watched k).lits f → f ≢ other_key keys k → AreOnce (clause_of watched k).lits → (b : Bool) → is_false (take q es) (other_key keys k) ≡ b → is_in_batch (take q es) (clause_of watched k) ≡ not b
     by_value others has_o has_f f_other once true u =
-        let none : open_count (take q es) (row_at rows k).lits ≡ 0 = count-none (λ l. not (is_false (take q es) l)) (row_at rows k).lits (λ x m. elim (cases_eq x (other_key keys k)) [ inl s ↦ not-true (is_false (take q es) x) (rw s u) | inr d ↦ not-true (is_false (take q es) x) (others x m d) ]) in
-        batch-no es q (row_at rows k) t.some t.within (λ s. omega (arith, none, s))
+        let none : open_count (take q es) (clause_of watched k).lits ≡ 0 = count-none (λ l. not (is_false (take q es) l)) (clause_of watched k).lits (λ x m. elim (cases_eq x (other_key keys k)) [ inl s ↦ not-true (is_false (take q es) x) (rw s u) | inr d ↦ not-true (is_false (take q es) x) (others x m d) ]) in
+        batch-no es q (clause_of watched k) t.some t.within (λ s. omega (arith, none, s))
     by_value others has_o has_f f_other once false u =
-        let most : open_count (take q es) (row_at rows k).lits ≤ 1 = count-most (λ l. not (is_false (take q es) l)) (row_at rows k).lits (other_key keys k) once (λ x m d. not-true (is_false (take q es) x) (others x m d)) in
-        let least : 1 ≤ open_count (take q es) (row_at rows k).lits = count-one (λ l. not (is_false (take q es) l)) (row_at rows k).lits (other_key keys k) has_o (not-false (is_false (take q es) (other_key keys k)) u) in
+        let most : open_count (take q es) (clause_of watched k).lits ≤ 1 = count-most (λ l. not (is_false (take q es) l)) (clause_of watched k).lits (other_key keys k) once (λ x m d. not-true (is_false (take q es) x) (others x m d)) in
+        let least : 1 ≤ open_count (take q es) (clause_of watched k).lits = count-one (λ l. not (is_false (take q es) l)) (clause_of watched k).lits (other_key keys k) has_o (not-false (is_false (take q es) (other_key keys k)) u) in
         let before : is_false (take (q - 1) es) (other_key keys k) ≡ false = open-less (q - 1) q es (other_key keys k) (omega arith) u in
-        let two : 2 ≤ open_count (take (q - 1) es) (row_at rows k).lits = count-two (λ l. not (is_false (take (q - 1) es) l)) (row_at rows k).lits f (other_key keys k) has_f has_o f_other (not-false (is_false (take (q - 1) es) f) t.fresh) (not-false (is_false (take (q - 1) es) (other_key keys k)) before) in
-        batch-yes es q (row_at rows k) t.some t.within (omega arith) two
+        let two : 2 ≤ open_count (take (q - 1) es) (clause_of watched k).lits = count-two (λ l. not (is_false (take (q - 1) es) l)) (clause_of watched k).lits f (other_key keys k) has_f has_o f_other (not-false (is_false (take (q - 1) es) f) t.fresh) (not-false (is_false (take (q - 1) es) (other_key keys k)) before) in
+        batch-yes es q (clause_of watched k) t.some t.within (omega arith) two
 
 -- where all literals of a clause are false but one, that one is left
 pub left-only : (prefix : List TrailEntry) (o : ℕ) (lits : List ℕ) → AreOthersFalse prefix o lits → Has lits o → is_false prefix o ≡ false → left_literal prefix lits ≡ Some o
@@ -307,88 +307,88 @@ true-not-pending es q c o s l h u e = by_batch (is_in_batch (take q es) c) refl
         rw (b, left, now) refl
     by_batch false b = rw b refl
 
--- a visit to the first node that is left: what is left then, and what is found
-pub record Visited (es : List TrailEntry) (q f lists : ℕ) (rows : List NumberedClause) (now rest : List ℕ) (k : ℕ) (found : List Found) : Type 0 where
-  pub goes : Goes es q f lists rows now rest
-  pub finds : found_at (take q es) es rows k ≡ found
+-- a visit to the first watch that is left: what is left then, and what is found
+pub record Visited (es : List TrailEntry) (q f lists : ℕ) (watched : List NumberedClause) (now rest : List ℕ) (k : ℕ) (found : List Found) : Type 0 where
+  pub goes : Goes es q f lists watched now rest
+  pub finds : found_at (take q es) es watched k ≡ found
 
-pub visit-moved : (es : List TrailEntry) (q f lists : ℕ) (rows : List NumberedClause) (keys rest : List ℕ) (k r : ℕ) → Turns es q f → Goes es q f lists rows keys (k ∷ rest) → IsOther (take q es) (other_key keys k) (row_at rows k).lits r → Visited es q f lists rows (set keys k r) rest k []
-visit-moved es q f lists rows keys rest k r t g o =
-    let next = goes-moved es q f lists rows keys rest k r t g o in
+pub visit-moved : (es : List TrailEntry) (q f lists : ℕ) (watched : List NumberedClause) (keys rest : List ℕ) (k r : ℕ) → Turns es q f → Goes es q f lists watched keys (k ∷ rest) → IsOther (take q es) (other_key keys k) (clause_of watched k).lits r → Visited es q f lists watched (set keys k r) rest k []
+visit-moved es q f lists watched keys rest k r t g o =
+    let next = goes-moved es q f lists watched keys rest k r t g o in
     record { goes = next.goes; finds = rw next.batch refl }
 
-stays : (es : List TrailEntry) (q f lists : ℕ) (rows : List NumberedClause) (keys rest : List ℕ) (k : ℕ) → Goes es q f lists rows keys (k ∷ rest) → set keys k f ≡ keys
-stays es q f lists rows keys rest k g = let here = g.left_is k (has-head k k rest refl) in ap (λ (x : ℕ). set keys k x) (sym here.1) ∙ set-get_or keys k 0
+stays : (es : List TrailEntry) (q f lists : ℕ) (watched : List NumberedClause) (keys rest : List ℕ) (k : ℕ) → Goes es q f lists watched keys (k ∷ rest) → set keys k f ≡ keys
+stays es q f lists watched keys rest k g = let here = g.left_is k (has-head k k rest refl) in ap (λ (x : ℕ). set keys k x) (sym here.1) ∙ set-get_or keys k 0
 
 -- the other watched literal is true
-visit-spared : (es : List TrailEntry) (q f lists : ℕ) (rows : List NumberedClause) (keys rest : List ℕ) (k : ℕ) → Turns es q f → Goes es q f lists rows keys (k ∷ rest) → is_true (take q es) (other_key keys k) ≡ true → Visited es q f lists rows (set keys k f) rest k []
-visit-spared es q f lists rows keys rest k t g u =
+visit-spared : (es : List TrailEntry) (q f lists : ℕ) (watched : List NumberedClause) (keys rest : List ℕ) (k : ℕ) → Turns es q f → Goes es q f lists watched keys (k ∷ rest) → is_true (take q es) (other_key keys k) ≡ true → Visited es q f lists watched (set keys k f) rest k []
+visit-spared es q f lists watched keys rest k t g u =
     let here = g.left_is k (has-head k k rest refl) in
-    let has_o : Has (row_at rows k).lits (other_key keys k) = other-has lists rows keys k g.watching here.0 in
-    let no = true-not-pending es q (row_at rows k) (other_key keys k) t.some t.within has_o u (t.clear (other_key keys k) u) in
-    record { goes = rw (stays es q f lists rows keys rest k g) (goes-done es q f lists rows keys rest k g (λ z. inr u)); finds = rw no refl }
+    let has_o : Has (clause_of watched k).lits (other_key keys k) = other-has lists watched keys k g.watching here.0 in
+    let no = true-not-pending es q (clause_of watched k) (other_key keys k) t.some t.within has_o u (t.clear (other_key keys k) u) in
+    record { goes = rw (stays es q f lists watched keys rest k g) (goes-done es q f lists watched keys rest k g (λ z. inr u)); finds = rw no refl }
 
-visit-false : (es : List TrailEntry) (q f lists : ℕ) (rows : List NumberedClause) (keys rest : List ℕ) (k : ℕ) → Turns es q f → Goes es q f lists rows keys (k ∷ rest) → AreOthersFalse (take q es) (other_key keys k) (row_at rows k).lits → is_false (take q es) (other_key keys k) ≡ true → Visited es q f lists rows (set keys k f) rest k []
-visit-false es q f lists rows keys rest k t g o e =
-    let next = goes-stays es q f lists rows keys rest k t g o in
-    let no : is_in_batch (take q es) (row_at rows k) ≡ false = next.batch ∙ ap not e in
-    record { goes = rw (stays es q f lists rows keys rest k g) next.goes; finds = rw no refl }
+visit-false : (es : List TrailEntry) (q f lists : ℕ) (watched : List NumberedClause) (keys rest : List ℕ) (k : ℕ) → Turns es q f → Goes es q f lists watched keys (k ∷ rest) → AreOthersFalse (take q es) (other_key keys k) (clause_of watched k).lits → is_false (take q es) (other_key keys k) ≡ true → Visited es q f lists watched (set keys k f) rest k []
+visit-false es q f lists watched keys rest k t g o e =
+    let next = goes-stays es q f lists watched keys rest k t g o in
+    let no : is_in_batch (take q es) (clause_of watched k) ≡ false = next.batch ∙ ap not e in
+    record { goes = rw (stays es q f lists watched keys rest k g) next.goes; finds = rw no refl }
 
 -- the other watched literal alone is left
-record IsOnly (es : List TrailEntry) (q f lists : ℕ) (rows : List NumberedClause) (keys rest : List ℕ) (k : ℕ) : Type 0 where
-  pub goes : Goes es q f lists rows (set keys k f) rest
-  pub batch : is_in_batch (take q es) (row_at rows k) ≡ true
-  pub left : left_literal (take q es) (row_at rows k).lits ≡ Some (other_key keys k)
+record IsOnly (es : List TrailEntry) (q f lists : ℕ) (watched : List NumberedClause) (keys rest : List ℕ) (k : ℕ) : Type 0 where
+  pub goes : Goes es q f lists watched (set keys k f) rest
+  pub batch : is_in_batch (take q es) (clause_of watched k) ≡ true
+  pub left : left_literal (take q es) (clause_of watched k).lits ≡ Some (other_key keys k)
 
-only-left : (es : List TrailEntry) (q f lists : ℕ) (rows : List NumberedClause) (keys rest : List ℕ) (k : ℕ) → Goes es q f lists rows keys (k ∷ rest) → AreOthersFalse (take q es) (other_key keys k) (row_at rows k).lits → Turns es q f → is_false (take q es) (other_key keys k) ≡ false → IsOnly es q f lists rows keys rest k
-only-left es q f lists rows keys rest k g o t e =
-    let next = goes-stays es q f lists rows keys rest k t g o in
+only-left : (es : List TrailEntry) (q f lists : ℕ) (watched : List NumberedClause) (keys rest : List ℕ) (k : ℕ) → Goes es q f lists watched keys (k ∷ rest) → AreOthersFalse (take q es) (other_key keys k) (clause_of watched k).lits → Turns es q f → is_false (take q es) (other_key keys k) ≡ false → IsOnly es q f lists watched keys rest k
+only-left es q f lists watched keys rest k g o t e =
+    let next = goes-stays es q f lists watched keys rest k t g o in
     let here = g.left_is k (has-head k k rest refl) in
     record {
-      goes = rw (stays es q f lists rows keys rest k g) next.goes;
+      goes = rw (stays es q f lists watched keys rest k g) next.goes;
       batch = next.batch ∙ ap not e;
-      left = left-only (take q es) (other_key keys k) (row_at rows k).lits o (other-has lists rows keys k g.watching here.0) e;
+      left = left-only (take q es) (other_key keys k) (clause_of watched k).lits o (other-has lists watched keys k g.watching here.0) e;
     }
 
-visit-true : (es : List TrailEntry) (q f lists : ℕ) (rows : List NumberedClause) (keys rest : List ℕ) (k : ℕ) → IsOnly es q f lists rows keys rest k → is_true es (other_key keys k) ≡ true → Visited es q f lists rows (set keys k f) rest k []
-visit-true es q f lists rows keys rest k only u = record { goes = only.goes; finds = rw (only.batch, only.left, u) refl }
+visit-true : (es : List TrailEntry) (q f lists : ℕ) (watched : List NumberedClause) (keys rest : List ℕ) (k : ℕ) → IsOnly es q f lists watched keys rest k → is_true es (other_key keys k) ≡ true → Visited es q f lists watched (set keys k f) rest k []
+visit-true es q f lists watched keys rest k only u = record { goes = only.goes; finds = rw (only.batch, only.left, u) refl }
 
-visit-found : (es : List TrailEntry) (q f lists : ℕ) (rows : List NumberedClause) (keys rest : List ℕ) (k : ℕ) → IsOnly es q f lists rows keys rest k → is_true es (other_key keys k) ≡ false → Visited es q f lists rows (set keys k f) rest k (record { id = (row_at rows k).id; lit = other_key keys k } ∷ [])
-visit-found es q f lists rows keys rest k only u = record { goes = only.goes; finds = rw (only.batch, only.left, u) refl }
+visit-found : (es : List TrailEntry) (q f lists : ℕ) (watched : List NumberedClause) (keys rest : List ℕ) (k : ℕ) → IsOnly es q f lists watched keys rest k → is_true es (other_key keys k) ≡ false → Visited es q f lists watched (set keys k f) rest k (record { id = (clause_of watched k).id; lit = other_key keys k } ∷ [])
+visit-found es q f lists watched keys rest k only u = record { goes = only.goes; finds = rw (only.batch, only.left, u) refl }
 
 -- nothing else is to be watched: the clause is found where the other literal alone is left, and not true on the trail
-pub visit-settled : (es : List TrailEntry) (q f lists : ℕ) (rows : List NumberedClause) (keys rest : List ℕ) (k : ℕ) → Turns es q f → Goes es q f lists rows keys (k ∷ rest) → IsSettled (take q es) (other_key keys k) (row_at rows k).lits → (is_false (take q es) (other_key keys k) ≡ true) ⊎ ((is_false (take q es) (other_key keys k) ≡ false) × (is_true es (other_key keys k) ≡ true)) → Visited es q f lists rows (set keys k f) rest k []
-visit-settled es q f lists rows keys rest k t g (inr u) v = visit-spared es q f lists rows keys rest k t g u
-visit-settled es q f lists rows keys rest k t g (inl o) (inl e) = visit-false es q f lists rows keys rest k t g o e
-visit-settled es q f lists rows keys rest k t g (inl o) (inr v) = visit-true es q f lists rows keys rest k (only-left es q f lists rows keys rest k g o t v.0) v.1
+pub visit-settled : (es : List TrailEntry) (q f lists : ℕ) (watched : List NumberedClause) (keys rest : List ℕ) (k : ℕ) → Turns es q f → Goes es q f lists watched keys (k ∷ rest) → IsSettled (take q es) (other_key keys k) (clause_of watched k).lits → (is_false (take q es) (other_key keys k) ≡ true) ⊎ ((is_false (take q es) (other_key keys k) ≡ false) × (is_true es (other_key keys k) ≡ true)) → Visited es q f lists watched (set keys k f) rest k []
+visit-settled es q f lists watched keys rest k t g (inr u) v = visit-spared es q f lists watched keys rest k t g u
+visit-settled es q f lists watched keys rest k t g (inl o) (inl e) = visit-false es q f lists watched keys rest k t g o e
+visit-settled es q f lists watched keys rest k t g (inl o) (inr v) = visit-true es q f lists watched keys rest k (only-left es q f lists watched keys rest k g o t v.0) v.1
 
-pub visit-left : (es : List TrailEntry) (q f lists : ℕ) (rows : List NumberedClause) (keys rest : List ℕ) (k : ℕ) → Turns es q f → Goes es q f lists rows keys (k ∷ rest) → IsSettled (take q es) (other_key keys k) (row_at rows k).lits → is_false (take q es) (other_key keys k) ≡ false → is_true es (other_key keys k) ≡ false → Visited es q f lists rows (set keys k f) rest k (record { id = (row_at rows k).id; lit = other_key keys k } ∷ [])
-visit-left es q f lists rows keys rest k t g (inl o) e u = visit-found es q f lists rows keys rest k (only-left es q f lists rows keys rest k g o t e) u
-visit-left es q f lists rows keys rest k t g (inr v) e u = absurd (false≢true (sym u ∙ true-all q es (other_key keys k) v))
+pub visit-left : (es : List TrailEntry) (q f lists : ℕ) (watched : List NumberedClause) (keys rest : List ℕ) (k : ℕ) → Turns es q f → Goes es q f lists watched keys (k ∷ rest) → IsSettled (take q es) (other_key keys k) (clause_of watched k).lits → is_false (take q es) (other_key keys k) ≡ false → is_true es (other_key keys k) ≡ false → Visited es q f lists watched (set keys k f) rest k (record { id = (clause_of watched k).id; lit = other_key keys k } ∷ [])
+visit-left es q f lists watched keys rest k t g (inl o) e u = visit-found es q f lists watched keys rest k (only-left es q f lists watched keys rest k g o t e) u
+visit-left es q f lists watched keys rest k t g (inr v) e u = absurd (false≢true (sym u ∙ true-all q es (other_key keys k) v))
 
--- the nodes of the literal are left at the start
-pub goes-start : (es : List TrailEntry) (q f lists : ℕ) (rows : List NumberedClause) (keys out : List ℕ) → Turns es q f → IsWatching lists rows keys → ((k : ℕ) → k < length keys → get_or keys k 0 ≢ other_key keys k) → ((k : ℕ) → AreOnce (row_at rows k).lits) → ((n k : ℕ) → n ≤ q - 1 → k < length keys → IsWatchKept (take n es) rows keys k) → ((k : ℕ) → Has out k ↔ IsAt keys k f) → AreOnce out → Goes es q f lists rows keys out
-goes-start es q f lists rows keys out t w a form kept nodes once =
+-- the watches of the literal are left at the start
+pub goes-start : (es : List TrailEntry) (q f lists : ℕ) (watched : List NumberedClause) (keys out : List ℕ) → Turns es q f → IsWatching lists watched keys → ((k : ℕ) → k < length keys → get_or keys k 0 ≢ other_key keys k) → ((k : ℕ) → AreOnce (clause_of watched k).lits) → ((n k : ℕ) → n ≤ q - 1 → k < length keys → IsWatchKept (take n es) watched keys k) → ((k : ℕ) → Has out k ↔ IsAt keys k f) → AreOnce out → Goes es q f lists watched keys out
+goes-start es q f lists watched keys out t w a form kept watches once =
     record {
       watching = w;
       apart = a;
       form = form;
-      left_is = λ k h. (nodes k).0 h;
+      left_is = λ k h. (watches k).0 h;
       once = once;
       kept = kept;
       done = λ k l h z.
-          let other : get_or keys k 0 ≢ f = λ s. h ((nodes k).1 (l, s)) in
+          let other : get_or keys k 0 ≢ f = λ s. h ((watches k).1 (l, s)) in
           elim (kept (q - 1) k (omega arith) l (t.others (get_or keys k 0) z other)) [
             | inl closed ↦ inl (λ x m d. false-more (q - 1) q es x (omega arith) (closed x m d))
             | inr holds ↦ inr (true-more (q - 1) q es (other_key keys k) (omega arith) holds)
           ];
     }
 
--- at the end each node keeps under one entry more
-pub goes-end : (es : List TrailEntry) (q f lists : ℕ) (rows : List NumberedClause) (keys : List ℕ) → Goes es q f lists rows keys [] → (n k : ℕ) → n ≤ q + 1 - 1 → k < length keys → IsWatchKept (take n es) rows keys k
-goes-end es q f lists rows keys g n k h l = by_place (cases_eq n q)
+-- at the end each watch keeps under one entry more
+pub goes-end : (es : List TrailEntry) (q f lists : ℕ) (watched : List NumberedClause) (keys : List ℕ) → Goes es q f lists watched keys [] → (n k : ℕ) → n ≤ q + 1 - 1 → k < length keys → IsWatchKept (take n es) watched keys k
+goes-end es q f lists watched keys g n k h l = by_place (cases_eq n q)
   where
-    by_place : (n ≡ q) ⊎ (n ≡ q → ⊥) → IsWatchKept (take n es) rows keys k
+    by_place : (n ≡ q) ⊎ (n ≡ q → ⊥) → IsWatchKept (take n es) watched keys k
     by_place (inl e) = rw e (g.done k l (has-none k))
     by_place (inr d) = g.kept n k (omega arith) l
 
@@ -396,33 +396,33 @@ not-pending : (prefix trail : List TrailEntry) (c : NumberedClause) → is_in_ba
 not-pending prefix trail c h = rw h refl
 
 -- a clause that does not watch the literal is not pending
-pub goes-apart : (es : List TrailEntry) (q f lists : ℕ) (rows : List NumberedClause) (keys : List ℕ) (k : ℕ) → Turns es q f → IsWatching lists rows keys → ((k : ℕ) → k < length keys → get_or keys k 0 ≢ other_key keys k) → ((k : ℕ) → AreOnce (row_at rows k).lits) → ((n k : ℕ) → n ≤ q - 1 → k < length keys → IsWatchKept (take n es) rows keys k) → k < length keys → get_or keys k 0 ≢ f → other_key keys k ≢ f → is_pending (take q es) es (row_at rows k) ≡ false
-goes-apart es q f lists rows keys k t w a form kept l d e =
+pub goes-apart : (es : List TrailEntry) (q f lists : ℕ) (watched : List NumberedClause) (keys : List ℕ) (k : ℕ) → Turns es q f → IsWatching lists watched keys → ((k : ℕ) → k < length keys → get_or keys k 0 ≢ other_key keys k) → ((k : ℕ) → AreOnce (clause_of watched k).lits) → ((n k : ℕ) → n ≤ q - 1 → k < length keys → IsWatchKept (take n es) watched keys k) → k < length keys → get_or keys k 0 ≢ f → other_key keys k ≢ f → is_pending (take q es) es (clause_of watched k) ≡ false
+goes-apart es q f lists watched keys k t w a form kept l d e =
     let j = partner k in
-    let below : j < length keys = partner-below lists rows keys k w l in
-    let own : Has (row_at rows k).lits (get_or keys k 0) = w.own k l in
-    let other : Has (row_at rows k).lits (other_key keys k) = other-has lists rows keys k w l in
+    let below : j < length keys = partner-below lists watched keys k w l in
+    let own : Has (clause_of watched k).lits (get_or keys k 0) = w.own k l in
+    let other : Has (clause_of watched k).lits (other_key keys k) = other-has lists watched keys k w l in
     let back : other_key keys j ≡ get_or keys k 0 = ap (λ (i : ℕ). get_or keys i 0) (partner-back k) in
-    let by_own : is_false (take (q - 1) es) (get_or keys k 0) ≡ true → IsSettled (take (q - 1) es) (other_key keys k) (row_at rows k).lits = kept (q - 1) k (omega arith) l in
-    let by_other : is_false (take (q - 1) es) (other_key keys k) ≡ true → IsSettled (take (q - 1) es) (get_or keys k 0) (row_at rows k).lits = λ z. elim (kept (q - 1) j (omega arith) below z) [
-      | inl closed ↦ inl (λ x m n. closed x (subst (λ (c : NumberedClause). Has c.lits x) (sym (same-row rows k)) m) (λ s. n (s ∙ back)))
+    let by_own : is_false (take (q - 1) es) (get_or keys k 0) ≡ true → IsSettled (take (q - 1) es) (other_key keys k) (clause_of watched k).lits = kept (q - 1) k (omega arith) l in
+    let by_other : is_false (take (q - 1) es) (other_key keys k) ≡ true → IsSettled (take (q - 1) es) (get_or keys k 0) (clause_of watched k).lits = λ z. elim (kept (q - 1) j (omega arith) below z) [
+      | inl closed ↦ inl (λ x m n. closed x (subst (λ (c : NumberedClause). Has c.lits x) (sym (same-clause watched k)) m) (λ s. n (s ∙ back)))
       | inr holds ↦ inr (rw back at holds)
     ] in
     by_values own other by_own by_other (is_false (take q es) (get_or keys k 0)) refl (is_false (take q es) (other_key keys k)) refl
   where
-    by_side : (o : ℕ) → Has (row_at rows k).lits o → IsSettled (take (q - 1) es) o (row_at rows k).lits → is_pending (take q es) es (row_at rows k) ≡ false
+    by_side : (o : ℕ) → Has (clause_of watched k).lits o → IsSettled (take (q - 1) es) o (clause_of watched k).lits → is_pending (take q es) es (clause_of watched k) ≡ false
     by_side o h (inl closed) =
-        not-pending (take q es) es (row_at rows k) (batch-before es q (row_at rows k) t.some t.within (count-most (λ l. not (is_false (take (q - 1) es) l)) (row_at rows k).lits o (form k) (λ x m n. not-true (is_false (take (q - 1) es) x) (closed x m n))))
+        not-pending (take q es) es (clause_of watched k) (batch-before es q (clause_of watched k) t.some t.within (count-most (λ l. not (is_false (take (q - 1) es) l)) (clause_of watched k).lits o (form k) (λ x m n. not-true (is_false (take (q - 1) es) x) (closed x m n))))
     by_side o h (inr holds) =
         let now : is_true (take q es) o ≡ true = true-more (q - 1) q es o (omega arith) holds in
-        true-not-pending es q (row_at rows k) o t.some t.within h now (t.clear o now)
+        true-not-pending es q (clause_of watched k) o t.some t.within h now (t.clear o now)
 
-    by_values : Has (row_at rows k).lits (get_or keys k 0) → Has (row_at rows k).lits (other_key keys k) → (is_false (take (q - 1) es) (get_or keys k 0) ≡ true → IsSettled (take (q - 1) es) (other_key keys k) (row_at rows k).lits) → (is_false (take (q - 1) es) (other_key keys k) ≡ true → IsSettled (take (q - 1) es) (get_or keys k 0) (row_at rows k).lits) → (b : Bool) → is_false (take q es) (get_or keys k 0) ≡ b → (c : Bool) → is_false (take q es) (other_key keys k) ≡ c → is_pending (take q es) es (row_at rows k) ≡ false
+    by_values : Has (clause_of watched k).lits (get_or keys k 0) → Has (clause_of watched k).lits (other_key keys k) → (is_false (take (q - 1) es) (get_or keys k 0) ≡ true → IsSettled (take (q - 1) es) (other_key keys k) (clause_of watched k).lits) → (is_false (take (q - 1) es) (other_key keys k) ≡ true → IsSettled (take (q - 1) es) (get_or keys k 0) (clause_of watched k).lits) → (b : Bool) → is_false (take q es) (get_or keys k 0) ≡ b → (c : Bool) → is_false (take q es) (other_key keys k) ≡ c → is_pending (take q es) es (clause_of watched k) ≡ false
     by_values own other by_own by_other true u c v = by_side (other_key keys k) other (by_own (t.others (get_or keys k 0) u d))
     by_values own other by_own by_other false u true v = by_side (get_or keys k 0) own (by_other (t.others (other_key keys k) v e))
     by_values own other by_own by_other false u false v =
-        let two : 2 ≤ open_count (take q es) (row_at rows k).lits = count-two (λ l. not (is_false (take q es) l)) (row_at rows k).lits (get_or keys k 0) (other_key keys k) own other (a k l) (not-false (is_false (take q es) (get_or keys k 0)) u) (not-false (is_false (take q es) (other_key keys k)) v) in
-        not-pending (take q es) es (row_at rows k) (batch-no es q (row_at rows k) t.some t.within (λ s. omega (arith, two, s)))
+        let two : 2 ≤ open_count (take q es) (clause_of watched k).lits = count-two (λ l. not (is_false (take q es) l)) (clause_of watched k).lits (get_or keys k 0) (other_key keys k) own other (a k l) (not-false (is_false (take q es) (get_or keys k 0)) u) (not-false (is_false (take q es) (other_key keys k)) v) in
+        not-pending (take q es) es (clause_of watched k) (batch-no es q (clause_of watched k) t.some t.within (λ s. omega (arith, two, s)))
 
 -- of two places two different numbers take both
 both-places : (p q a b x : ℕ) → (a ≡ p) ⊎ (a ≡ q) → (b ≡ p) ⊎ (b ≡ q) → a ≢ b → (x ≡ p) ⊎ (x ≡ q) → (x ≡ a) ⊎ (x ≡ b)
@@ -450,13 +450,13 @@ two-only (p ∷ (q ∷ [])) a b x l h g d m = both-places p q a b x (has-two p q
 two-only (p ∷ (q ∷ (r ∷ rs))) a b x l h g d m = absurd (omega arith)
 
 -- so where a watched one has become false, each is but the other
-pub two-watched : (es : List TrailEntry) (q f lists : ℕ) (rows : List NumberedClause) (keys rest : List ℕ) (k : ℕ) → Turns es q f → Goes es q f lists rows keys (k ∷ rest) → length (row_at rows k).lits ≡ 2 → AreOthersFalse (take q es) (other_key keys k) (row_at rows k).lits
-two-watched es q f lists rows keys rest k t g l =
+pub two-watched : (es : List TrailEntry) (q f lists : ℕ) (watched : List NumberedClause) (keys rest : List ℕ) (k : ℕ) → Turns es q f → Goes es q f lists watched keys (k ∷ rest) → length (clause_of watched k).lits ≡ 2 → AreOthersFalse (take q es) (other_key keys k) (clause_of watched k).lits
+two-watched es q f lists watched keys rest k t g l =
     let here = g.left_is k (has-head k k rest refl) in
-    let has_f : Has (row_at rows k).lits f = rw here.1 at (g.watching.own k here.0) in
-    let has_o = other-has lists rows keys k g.watching here.0 in
+    let has_f : Has (clause_of watched k).lits f = rw here.1 at (g.watching.own k here.0) in
+    let has_o = other-has lists watched keys k g.watching here.0 in
     let apart : f ≢ other_key keys k = rw here.1 at (g.apart k here.0) in
-    λ x m d. elim (two-only (row_at rows k).lits f (other_key keys k) x l has_f has_o apart m) [
+    λ x m d. elim (two-only (clause_of watched k).lits f (other_key keys k) x l has_f has_o apart m) [
       | inl e ↦ rw e t.now
       | inr e ↦ absurd (d e)
     ]

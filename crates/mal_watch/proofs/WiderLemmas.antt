@@ -1,5 +1,5 @@
 use Rattle.std.proofs.Common.{◌≡◌, ℕ, zero, suc, List, [], ◌∷◌, ◌++◌, replicate, Option, None, refl}
-use Rattle.mal_watch.specs.WatchLists.{link_at, IsChained}
+use Rattle.mal_watch.specs.WatchLists.{link_at, AreLinked}
 
 none-more : (m k : ℕ) → ◌≡◌ {A = Option ℕ} (link_at (replicate m None) k) None
 none-more zero k = refl
@@ -11,8 +11,8 @@ head-more [] m k = none-more m k
 head-more (x ∷ xs) m zero = refl
 head-more (x ∷ xs) m (suc k) = head-more xs m k
 
--- lists stay as they are where there are more of them, without a node
-pub wider : (heads links : List (Option ℕ)) (keys : List ℕ) (taken : Option ℕ) (m : ℕ) → IsChained heads links keys taken → IsChained (heads ++ replicate m None) links keys taken
+-- lists stay as they are where there are more of them, without a watch
+pub wider : (heads links : List (Option ℕ)) (keys : List ℕ) (taken : Option ℕ) (m : ℕ) → AreLinked heads links keys taken → AreLinked (heads ++ replicate m None) links keys taken
 wider heads links keys taken m c =
     record {
       lists = c.lists;

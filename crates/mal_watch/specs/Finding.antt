@@ -6,7 +6,7 @@ use Rattle.spec_node.specs.Value.{left_literal}
 use Rattle.spec_node.specs.Batch.{Progress, is_in_batch, after_literal}
 use Rattle.spec_node.specs.Sound.{left_is_true}
 use Rattle.mal_watch.specs.declared.found.Found.{Found}
-use Rattle.mal_watch.specs.Watching.{row_at}
+use Rattle.mal_watch.specs.Watching.{clause_of}
 
 -- a clause of the batch of a prefix is pending where the literal left of it is not true on the trail
 abbrev pub is_pending : List TrailEntry → List TrailEntry → NumberedClause → Bool
@@ -20,14 +20,14 @@ found_of prefix c = record { id = c.id; lit = unwrap_or (left_literal prefix c.l
 abbrev pub pending : List TrailEntry → List TrailEntry → List NumberedClause → List Found
 pending prefix trail clauses = map (found_of prefix) (filter (is_pending prefix trail) clauses)
 
--- what is found of the clause that a node watches a literal of
+-- what is found of the clause of a watch
 abbrev pub found_at : List TrailEntry → List TrailEntry → List NumberedClause → ℕ → List Found
-found_at prefix trail rows node = if is_pending prefix trail (row_at rows node) then found_of prefix (row_at rows node) ∷ [] else []
+found_at prefix trail watched watch = if is_pending prefix trail (clause_of watched watch) then found_of prefix (clause_of watched watch) ∷ [] else []
 
--- and of the clauses of nodes, one after another
+-- and of the clauses of watches, one after another
 abbrev pub found_in : List TrailEntry → List TrailEntry → List NumberedClause → List ℕ → List Found
-found_in prefix trail rows [] = []
-found_in prefix trail rows (k ∷ ks) = found_at prefix trail rows k ++ found_in prefix trail rows ks
+found_in prefix trail watched [] = []
+found_in prefix trail watched (k ∷ ks) = found_at prefix trail watched k ++ found_in prefix trail watched ks
 
 -- after what was found is handled, one after another, until one is the conflict
 abbrev pub after_found : Progress → List Found → Progress

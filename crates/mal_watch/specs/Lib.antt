@@ -1,7 +1,7 @@
 pub mod Links
 pub mod LinkLaws
 pub mod WatchLists
-pub mod Nodes
+pub mod Watches
 pub mod Pairs
 pub mod Watching
 pub mod Finding

@@ -6,7 +6,7 @@ mod found;
 mod link;
 mod pair;
 mod walk;
-mod watch;
 mod watch_lists;
+mod watcher;
 
-pub use watch::Watch;
+pub use watcher::Watcher;

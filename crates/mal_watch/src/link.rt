@@ -1,11 +1,11 @@
-//! Links from node to node.
+//! Links from watch to watch.
 
 ghost use Rattle.std.specs.Prelude.{◌≡◌, ◌<◌, Some, None};
 ghost use Rattle.mal_watch.specs.Links.{nowhere};
 
 use std::marker::Model;
 
-/// A node, or none: in four bytes. Contracts see it as an option.
+/// A watch, or none: in four bytes. Contracts see it as an option.
 #[derive(Clone, Copy, Drop)]
 pub struct Link {
     code: u32,
@@ -14,11 +14,11 @@ pub struct Link {
 impl Model for Link {
     ghost use Rattle.std.specs.Prelude.{ℕ, Option};
     ghost use Rattle.std.proofs.Common.{refl};
-    ghost use Rattle.mal_watch.specs.{Links.{node_of, code_of}, LinkLaws.{code-back}};
+    ghost use Rattle.mal_watch.specs.{Links.{watch_of, code_of}, LinkLaws.{code-back}};
 
     ghost Value = { Option ℕ };
 
-    ghost view = { λ l. node_of l.code };
+    ghost view = { λ l. watch_of l.code };
 
     ghost inverse = { λ n. record { code = code_of n } };
 
@@ -26,23 +26,23 @@ impl Model for Link {
 }
 
 impl Link {
-    /// No node.
+    /// No watch.
     pub fn none() -> Link
         ensures { result ≡ None }
     {
         Link { code: u32::MAX }
     }
 
-    /// A node below 2^32 - 1.
-    pub fn to(node: usize) -> Link
-        requires { node < nowhere }
-        ensures { result ≡ Some node }
+    /// A watch below 2^32 - 1.
+    pub fn to(watch: usize) -> Link
+        requires { watch < nowhere }
+        ensures { result ≡ Some watch }
     {
-        Link { code: node as u32 }
+        Link { code: watch as u32 }
     }
 
-    /// The node, if there is one.
-    pub fn node(self) -> Option<usize>
+    /// The watch, if there is one.
+    pub fn watch(self) -> Option<usize>
         ensures { result ≡ self }
     {
         if self.code == u32::MAX {

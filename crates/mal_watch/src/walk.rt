@@ -2,7 +2,7 @@
 
 ghost use Rattle.std.specs.Prelude.{◌≡◌, ◌+◌, ◌≤◌, ◌<◌, [], ◌++◌, length, take, drop, ◌∷◌, slice_index, slice_index_or, MatchOption, vec_len, vec_capacity};
 ghost use Rattle.std.specs.Option.{option_to_list};
-ghost use Rattle.mal_store.specs.Rowed.{no_row};
+ghost use Rattle.mal_store.specs.Arena.{no_clause};
 ghost use Rattle.mal_watch.specs.{Watching.{partner, IsOther, AreOthersFalse, IsSettled}, Going.{Turns, Goes}, Finding.{found_at, found_in}};
 
 use crate::found::Found;
@@ -11,15 +11,16 @@ use mal_base::Lit;
 use mal_store::Store;
 use mal_trail::Trail;
 
-/// The other of the two nodes of a clause.
-fn partner(node: usize) -> usize
-    ensures { result ≡ partner node }
+/// The other of the two watches of a clause.
+fn partner(watch: usize) -> usize
+    ensures { result ≡ partner watch }
 {
-    if node % 2 == 0 { node + 1 } else { node - 1 }
+    if watch % 2 == 0 { watch + 1 } else { watch - 1 }
 }
 
-/// The place of a literal other than this one that is not false under the first entries of the trail, so many.
-fn first_open(trail: &Trail, count: usize, lits: &[Lit], other: Lit) -> Option<usize>
+/// The place of the first literal that may be watched in another's place: not this one, and not false under the first
+/// entries of the trail, so many.
+fn first_replacement(trail: &Trail, count: usize, lits: &[Lit], other: Lit) -> Option<usize>
     requires { count ≤ length trail.now.entries }
     ensures { MatchOption result (AreOthersFalse (take count trail.now.entries) other lits.now)
         (λ i. (i < length lits.now) × IsOther (take count trail.now.entries) other lits.now (slice_index lits.now i)) }
@@ -34,81 +35,93 @@ fn first_open(trail: &Trail, count: usize, lits: &[Lit], other: Lit) -> Option<u
 }
 
 /// The same, sought from a place on and round to it.
-fn next_open(trail: &Trail, count: usize, lits: &[Lit], other: Lit, from: usize) -> Option<usize>
+fn replacement_from(
+    trail: &Trail,
+    count: usize,
+    lits: &[Lit],
+    other: Lit,
+    from: usize,
+) -> Option<usize>
     requires { count ≤ length trail.now.entries }
     ensures { MatchOption result (AreOthersFalse (take count trail.now.entries) other lits.now)
         (λ i. (i < length lits.now) × IsOther (take count trail.now.entries) other lits.now (slice_index lits.now i)) }
 {
     let start = from.min(lits.len());
-    let (front, back) = lits.split_at(start);
-    match first_open(trail, count, back, other) {
+    let (before, after) = lits.split_at(start);
+    match first_replacement(trail, count, after, other) {
         Some(place) => return Some(start + place),
         None => {}
     }
-    first_open(trail, count, front, other)
+    first_replacement(trail, count, before, other)
 }
 
 /// The place of a literal of a long clause that may be watched in the place of one that is false: not false under the
 /// first entries of the trail, so many, and not the other watched one. None is sought where that one is true under
 /// these entries; a clause of two literals has no other. Neither is looked at.
-fn to_watch(store: &Store, trail: &Trail, count: usize, row: usize, other: Lit) -> Option<usize>
+fn replacement(
+    store: &Store,
+    trail: &Trail,
+    count: usize,
+    clause: usize,
+    other: Lit,
+) -> Option<usize>
     requires count { count ≤ length trail.now.entries }
-    requires row { row < length store.now.long }
-    requires two { length (slice_index_or store.now.long row no_row).lits ≡ 2
-        → AreOthersFalse (take count trail.now.entries) other (slice_index_or store.now.long row no_row).lits }
+    requires clause { clause < length store.now.long }
+    requires two { length (slice_index_or store.now.long clause no_clause).lits ≡ 2
+        → AreOthersFalse (take count trail.now.entries) other (slice_index_or store.now.long clause no_clause).lits }
     ensures { MatchOption result
-        (IsSettled (take count trail.now.entries) other (slice_index_or store.now.long row no_row).lits)
-        (λ i. (i < length (slice_index_or store.now.long row no_row).lits)
-        × IsOther (take count trail.now.entries) other (slice_index_or store.now.long row no_row).lits
-        (slice_index (slice_index_or store.now.long row no_row).lits i)) }
+        (IsSettled (take count trail.now.entries) other (slice_index_or store.now.long clause no_clause).lits)
+        (λ i. (i < length (slice_index_or store.now.long clause no_clause).lits)
+        × IsOther (take count trail.now.entries) other (slice_index_or store.now.long clause no_clause).lits
+        (slice_index (slice_index_or store.now.long clause no_clause).lits i)) }
 {
     if trail.is_true_before(count, other) {
         return None;
     }
-    let lits = store.long_lits(row);
+    let lits = store.long_lits(clause);
     if lits.len() == 2 {
         return None;
     }
-    next_open(trail, count, lits, other, store.hint(row))
+    replacement_from(trail, count, lits, other, store.search_start(clause))
 }
 
-/// Visits the first node that is out, which watches the literal that became false by the last of the first entries, so
-/// many: the node goes to another literal that is not false, or back. It goes back too where the other watched literal
+/// Visits the first watch that is out, which is of the literal that became false by the last of the first entries, so
+/// many: it goes to another literal that is not false, or back. It goes back too where the other watched literal
 /// is true under the first entries. Where that one alone is left, and not true, the clause is found.
 fn visit(
-    chains: &mut WatchLists,
+    lists: &mut WatchLists,
     store: &mut Store,
     trail: &Trail,
     count: usize,
     lit: Lit,
-    node: usize,
+    watch: usize,
 ) -> Option<Found>
     requires turns { Turns trail.now.entries count lit }
-    requires first { chains.old.out ≡ node ∷ drop 1 chains.old.out }
-    requires goes { Goes trail.now.entries count lit chains.old.lists store.old.long chains.old.keys
-        (node ∷ drop 1 chains.old.out) }
-    ensures goes { Goes trail.now.entries count lit chains.new.lists store.old.long chains.new.keys
-        (drop 1 chains.old.out) }
+    requires first { lists.old.out ≡ watch ∷ drop 1 lists.old.out }
+    requires goes { Goes trail.now.entries count lit lists.old.count store.old.long lists.old.keys
+        (watch ∷ drop 1 lists.old.out) }
+    ensures goes { Goes trail.now.entries count lit lists.new.count store.old.long lists.new.keys
+        (drop 1 lists.old.out) }
     ensures found { option_to_list result
-        ≡ found_at (take count trail.now.entries) trail.now.entries store.old.long node }
-    ensures out { chains.new.out ≡ drop 1 chains.old.out }
+        ≡ found_at (take count trail.now.entries) trail.now.entries store.old.long watch }
+    ensures out { lists.new.out ≡ drop 1 lists.old.out }
     ensures store { store.new ≡ store.old }
-    ensures lists { chains.new.lists ≡ chains.old.lists }
-    ensures chains_room { chains.new.room ≡ chains.old.room }
+    ensures lists { lists.new.count ≡ lists.old.count }
+    ensures lists_room { lists.new.room ≡ lists.old.room }
 {
-    let row = node / 2;
-    let other = chains.key(partner(node));
-    match to_watch(store, trail, count, row, other) {
+    let clause = watch / 2;
+    let other = lists.key(partner(watch));
+    match replacement(store, trail, count, clause, other) {
         Some(place) => {
-            chains.put(node, store.long_lits(row)[place]);
-            store.keep_hint(row, place);
+            lists.put(watch, store.long_lits(clause)[place]);
+            store.keep_search_start(clause, place);
             None
         }
         None => {
-            chains.put(node, lit);
+            lists.put(watch, lit);
             if !trail.is_false_before(count, other) && !trail.is_true(other) {
                 Some(Found {
-                    id: store.long_id(row),
+                    id: store.long_id(clause),
                     lit: other,
                 })
             } else {
@@ -118,10 +131,10 @@ fn visit(
     }
 }
 
-/// Visits the clauses of all nodes that are out, which watch the literal that became false by the last of the first
-/// entries, so many. What is found of them is put behind the rest.
+/// Visits all watches that are out, which are of the literal that became false by the last of the first entries, so
+/// many. What is found of them is put behind the rest.
 pub fn walk(
-    chains: &mut WatchLists,
+    lists: &mut WatchLists,
     found: &mut Vec<Found>,
     store: &mut Store,
     trail: &Trail,
@@ -129,19 +142,19 @@ pub fn walk(
     lit: Lit,
 )
     requires turns { Turns trail.now.entries count lit }
-    requires goes { Goes trail.now.entries count lit chains.old.lists store.old.long chains.old.keys chains.old.out }
-    requires room { vec_len found.old + length chains.old.out ≤ vec_capacity found.old }
-    ensures goes { Goes trail.now.entries count lit chains.new.lists store.old.long chains.new.keys [] }
+    requires goes { Goes trail.now.entries count lit lists.old.count store.old.long lists.old.keys lists.old.out }
+    requires room { vec_len found.old + length lists.old.out ≤ vec_capacity found.old }
+    ensures goes { Goes trail.now.entries count lit lists.new.count store.old.long lists.new.keys [] }
     ensures found { found.new.items
-        ≡ found.old.items ++ found_in (take count trail.now.entries) trail.now.entries store.old.long chains.old.out }
-    ensures out { chains.new.out ≡ [] }
+        ≡ found.old.items ++ found_in (take count trail.now.entries) trail.now.entries store.old.long lists.old.out }
+    ensures out { lists.new.out ≡ [] }
     ensures store { store.new ≡ store.old }
-    ensures lists { chains.new.lists ≡ chains.old.lists }
-    ensures chains_room { chains.new.room ≡ chains.old.room }
+    ensures lists { lists.new.count ≡ lists.old.count }
+    ensures lists_room { lists.new.room ≡ lists.old.room }
     ensures capacity { vec_capacity found.new ≡ vec_capacity found.old }
 {
-    while let Some(node) = chains.first() {
-        match visit(chains, store, trail, count, lit, node) {
+    while let Some(watch) = lists.first() {
+        match visit(lists, store, trail, count, lit, watch) {
             Some(clause) => found.push_reserved(clause),
             None => {}
         }

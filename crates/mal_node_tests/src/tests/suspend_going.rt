@@ -7,7 +7,7 @@ use mal_lrat::put_added;
 use mal_revision::Revision;
 use mal_scan::Scan;
 use mal_trail::Listed;
-use mal_watch::Watch;
+use mal_watch::Watcher;
 use std::alloc::Global;
 use std::test::Fail;
 
@@ -130,6 +130,6 @@ fn a_thawed_node_goes_on_over_clauses_that_are_scanned(rt: HostRuntime) -> Resul
 
 #[test]
 fn a_thawed_node_goes_on_over_clauses_that_are_watched(rt: HostRuntime) -> Result<(), Fail> {
-    assert!(rt; goes_on::<Watch>(rt.alloc())?);
+    assert!(rt; goes_on::<Watcher>(rt.alloc())?);
     Ok(())
 }

@@ -4,7 +4,7 @@ use super::values::{id, lit, lits, some_clause};
 use both::Both;
 use mal_base::{ClauseId, ClauseView, TrailEntry};
 use mal_trail::Listed;
-use mal_watch::Watch;
+use mal_watch::Watcher;
 use run::Run;
 use std::alloc::Global;
 use std::test::Fail;
@@ -122,21 +122,21 @@ fn a_clause_behind_a_trail_is_found_after_a_cut(rt: HostRuntime) -> Result<(), F
 }
 
 /// Adds the clause of these literals under a number.
-fn add(run: &mut Run<Watch>, alloc: Global, number: u64, numbers: &[i32]) -> Result<(), Fail> {
+fn add(run: &mut Run<Watcher>, alloc: Global, number: u64, numbers: &[i32]) -> Result<(), Fail> {
     let id = id(number)?;
     let clause = some_clause(alloc, numbers)?;
     run.add(id, &clause)
 }
 
 /// Whether an engine lends the clause of these literals under a number.
-fn is_lent(run: &Run<Watch>, alloc: Global, number: u64, numbers: &[i32]) -> Result<bool, Fail> {
+fn is_lent(run: &Run<Watcher>, alloc: Global, number: u64, numbers: &[i32]) -> Result<bool, Fail> {
     let id = id(number)?;
     let lits = lits(alloc, numbers)?;
     Ok(run.engine().get(id) == Some(lits.as_slice()))
 }
 
 /// Adds the clauses 1 -2 and 4 under the numbers 9 and 3, and tells whether the first is lent so.
-fn are_lent(run: &mut Run<Watch>, alloc: Global) -> Result<bool, Fail> {
+fn are_lent(run: &mut Run<Watcher>, alloc: Global) -> Result<bool, Fail> {
     add(run, alloc, 9, &[1, -2])?;
     add(run, alloc, 3, &[4])?;
     let is_lent = is_lent(run, alloc, 9, &[1, -2])?;
@@ -145,7 +145,7 @@ fn are_lent(run: &mut Run<Watch>, alloc: Global) -> Result<bool, Fail> {
 
 #[test]
 fn clauses_are_lent_by_their_numbers(rt: HostRuntime) -> Result<(), Fail> {
-    let mut run: Run<Watch> = Run::new(rt.alloc())?;
+    let mut run: Run<Watcher> = Run::new(rt.alloc())?;
     assert!(rt; are_lent(&mut run, rt.alloc())?);
     Ok(())
 }

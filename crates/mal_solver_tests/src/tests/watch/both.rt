@@ -3,7 +3,7 @@
 use super::run::Run;
 use mal_base::{Clause, ClauseId, Lit, TrailEntry, Var};
 use mal_scan::Scan;
-use mal_watch::Watch;
+use mal_watch::Watcher;
 use std::alloc::{AllocError, Global};
 use std::test::Fail;
 
@@ -11,7 +11,7 @@ use std::test::Fail;
 #[derive(Drop)]
 pub struct Both {
     scanned: Run<Scan>,
-    watched: Run<Watch>,
+    watched: Run<Watcher>,
 }
 
 impl Both {

@@ -1,5 +1,5 @@
 use Rattle.std.proofs.Common.{◌-◌, ◌+◌, ◌≤◌, length, ◌∙◌, arith}
-use Rattle.mal_store.specs.Rowed.{listed_count}
+use Rattle.mal_store.specs.Arena.{listed_count}
 use Rattle.mal_store.specs.Stored.{held_in, literal_count}
 use Rattle.mal_store.proofs.HeldLemmas.{none-under, held-added}
 use Rattle.mal_store.proofs.CountLemmas.{listed-fewer}

@@ -1,6 +1,6 @@
 use Rattle.std.proofs.Common.{◌+◌, ◌-◌, ◌≤◌, Result, Ok, Err, arith}
 use Rattle.std.specs.Prelude.{OnOk}
-use Rattle.mal_store.specs.Rowed.{listed_count}
+use Rattle.mal_store.specs.Arena.{listed_count}
 use Rattle.mal_store.specs.Stored.{held_in, literal_count}
 use Rattle.mal_store.proofs.HeldLemmas.{held-length}
 use Rattle.mal_store.proofs.CountLemmas.{count-listed}

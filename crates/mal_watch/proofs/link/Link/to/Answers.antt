@@ -1,5 +1,5 @@
-use Rattle.mal_watch.specs.LinkLaws.{node-some}
+use Rattle.mal_watch.specs.LinkLaws.{watch-some}
 use Rattle.mal_watch.proofs.link.Link.to.Goals as goal
 
 pub returns : goal.returns
-returns c = node-some c.args.node c.requires
+returns c = watch-some c.args.watch c.requires

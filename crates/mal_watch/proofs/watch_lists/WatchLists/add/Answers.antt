@@ -1,27 +1,27 @@
 use Rattle.std.proofs.Common.{◌≡◌, ◌+◌, ◌<◌, ◌≤◌, length, None, arith}
 use Rattle.std.proofs.lemmas.List.{get_or_read, length-set}
-use Rattle.mal_watch.specs.declared.watch_lists.Node.{Node}
+use Rattle.mal_watch.specs.declared.watch_lists.Watch.{Watch}
 use Rattle.mal_watch.specs.WatchLists.{link_at}
-use Rattle.mal_watch.specs.Nodes.{links_of, keys_of}
-use Rattle.mal_watch.proofs.ChainLemmas.{added}
+use Rattle.mal_watch.specs.Watches.{links_of, keys_of}
+use Rattle.mal_watch.proofs.LinkedLemmas.{added}
 use Rattle.mal_watch.proofs.ListedLemmas.{listed-push}
 use Rattle.mal_watch.specs.Links.{nowhere}
-use Rattle.mal_watch.proofs.NodeLemmas.{keys-length, links-length, links-push, keys-push}
+use Rattle.mal_watch.proofs.WatchLemmas.{keys-length, links-length, links-push, keys-push}
 use Rattle.mal_watch.proofs.watch_lists.WatchLists.add.Goals as goal
 
 pub invariant_of-self : goal.invariant_of-self
 invariant_of-self c =
     let s = c.self.inside in
-    let node : Node = record { link = c.index-link.result.now; key = c.args.key } in
+    let watch : Watch = record { next = c.index-next.result.now; key = c.args.key } in
     let inside : c.args.key < length s.heads.items = rw (← c.self.view_is) at c.requires.list in
-    let head : c.index-link.result.now ≡ link_at s.heads.items c.code-list.result = get_or_read s.heads.items c.code-list.result c.index-link.result.now (omega (arith, inside, c.code-list.ensures.value)) c.index-link.ensures None in
-    let room : length (keys_of s.nodes.items) + 1 ≤ nowhere = omega (arith, rw (← c.self.view_is) at c.requires.room, keys-length s.nodes.items) in
-    (rw (c.to.ensures, c.push_reserved.ensures.items) (added s.heads.items (links_of s.nodes.items) _ (keys_of s.nodes.items) _ s.taken c.args.key c.code-list.result c.len-node.result c.index-link.result.now c.self.invariant.0 c.code-list.ensures.value (omega (arith, c.len-node.ensures, links-length s.nodes.items)) inside head (links-push s.nodes.items node) (keys-push s.nodes.items node)).0, rw (c.push_reserved.ensures.items, keys-push s.nodes.items node, length-set s.heads.items c.code-list.result c.to.result) (listed-push (length s.heads.items) (keys_of s.nodes.items) c.args.key inside room c.self.invariant.1))
+    let head : c.index-next.result.now ≡ link_at s.heads.items c.code-list.result = get_or_read s.heads.items c.code-list.result c.index-next.result.now (omega (arith, inside, c.code-list.ensures.value)) c.index-next.ensures None in
+    let room : length (keys_of s.watches.items) + 1 ≤ nowhere = omega (arith, rw (← c.self.view_is) at c.requires.room, keys-length s.watches.items) in
+    (rw (c.to.ensures, c.push_reserved.ensures.items) (added s.heads.items (links_of s.watches.items) _ (keys_of s.watches.items) _ s.taken c.args.key c.code-list.result c.len-watch.result c.index-next.result.now c.self.invariant.0 c.code-list.ensures.value (omega (arith, c.len-watch.ensures, links-length s.watches.items)) inside head (links-push s.watches.items watch) (keys-push s.watches.items watch)).0, rw (c.push_reserved.ensures.items, keys-push s.watches.items watch, length-set s.heads.items c.code-list.result c.to.result) (listed-push (length s.heads.items) (keys_of s.watches.items) c.args.key inside room c.self.invariant.1))
 
 pub returns-clause-out : goal.returns-clause-out
 returns-clause-out c =
     let s = c.self.inside in
-    let node : Node = record { link = c.index-link.result.now; key = c.args.key } in
+    let watch : Watch = record { next = c.index-next.result.now; key = c.args.key } in
     let inside : c.args.key < length s.heads.items = rw (← c.self.view_is) at c.requires.list in
-    let head : c.index-link.result.now ≡ link_at s.heads.items c.code-list.result = get_or_read s.heads.items c.code-list.result c.index-link.result.now (omega (arith, inside, c.code-list.ensures.value)) c.index-link.ensures None in
-    rw (← c.self.view_is, c.push_reserved.ensures.items) (added s.heads.items (links_of s.nodes.items) _ (keys_of s.nodes.items) _ s.taken c.args.key c.code-list.result c.len-node.result c.index-link.result.now c.self.invariant.0 c.code-list.ensures.value (omega (arith, c.len-node.ensures, links-length s.nodes.items)) inside head (links-push s.nodes.items node) (keys-push s.nodes.items node)).1
+    let head : c.index-next.result.now ≡ link_at s.heads.items c.code-list.result = get_or_read s.heads.items c.code-list.result c.index-next.result.now (omega (arith, inside, c.code-list.ensures.value)) c.index-next.ensures None in
+    rw (← c.self.view_is, c.push_reserved.ensures.items) (added s.heads.items (links_of s.watches.items) _ (keys_of s.watches.items) _ s.taken c.args.key c.code-list.result c.len-watch.result c.index-next.result.now c.self.invariant.0 c.code-list.ensures.value (omega (arith, c.len-watch.ensures, links-length s.watches.items)) inside head (links-push s.watches.items watch) (keys-push s.watches.items watch)).1

@@ -15,16 +15,16 @@ use mal_trail::{Engine, Listed, Trail};
 use std::alloc::{AllocError, Global};
 
 /// The clauses, and for each of two or more literals, in the order in which these came, the two literals that it
-/// watches. It fits a trail where, under each front of the handled entries, a watched literal is false only where the
-/// other watched one of its clause is true, or all others are false but that one.
+/// watches. It fits a trail where, under each beginning of the handled entries, a watched literal is false only where
+/// the other watched one of its clause is true, or all others are false but that one.
 #[derive(Drop)]
-pub struct Watch {
+pub struct Watcher {
     store: Store,
-    chains: WatchLists,
+    lists: WatchLists,
     found: Vec<Found>,
 }
 
-impl Watch {
+impl Watcher {
     /// Adds a clause, whose literals rise by variable. Takes no memory.
     fn add(&mut self, id: ClauseId, lits: &[Lit], trail: &Trail)
         requires new { lits_under id self.old.store.clauses ≡ None }
@@ -42,8 +42,8 @@ impl Watch {
         }
         let handled = trail.processed().saturating_sub(1) as usize;
         let (first, second) = pair::pick(trail, handled, lits);
-        self.chains.add(first);
-        self.chains.add(second);
+        self.lists.add(first);
+        self.lists.add(second);
     }
 
     /// Finds what is pending of the batch of the first entries of the trail, so many: its clauses whose literal left is
@@ -55,8 +55,8 @@ impl Watch {
         ensures found { self.new.found.items
             ≡ pending (take count trail.now.entries) trail.now.entries self.old.store.clauses }
         ensures store { self.new.store ≡ self.old.store }
-        ensures lists { self.new.chains.lists ≡ self.old.chains.lists }
-        ensures nodes { self.new.chains.room ≡ self.old.chains.room }
+        ensures lists { self.new.lists.count ≡ self.old.lists.count }
+        ensures watches { self.new.lists.room ≡ self.old.lists.room }
         ensures capacity { vec_capacity self.new.found ≡ vec_capacity self.old.found }
         ensures fits { Fits self.new trail.now.entries (count + 1) }
     {
@@ -67,9 +67,9 @@ impl Watch {
             return;
         }
         trail.is_consistent();
-        self.chains.take(lit);
+        self.lists.take(lit);
         walk::walk(
-            &mut self.chains,
+            &mut self.lists,
             &mut self.found,
             &mut self.store,
             trail,
@@ -88,8 +88,8 @@ impl Watch {
             ≡ record { trail = trail.new.entries; conflict = result } }
         ensures grows { Grows trail.old trail.new }
         ensures store { self.new.store ≡ self.old.store }
-        ensures lists { self.new.chains.lists ≡ self.old.chains.lists }
-        ensures nodes { self.new.chains.room ≡ self.old.chains.room }
+        ensures lists { self.new.lists.count ≡ self.old.lists.count }
+        ensures watches { self.new.lists.room ≡ self.old.lists.room }
         ensures capacity { vec_capacity self.new.found ≡ vec_capacity self.old.found }
         ensures fits { Fits self.new trail.new.entries (trail.old.processed + 1) }
     {
@@ -102,7 +102,7 @@ impl Watch {
     }
 }
 
-impl ClauseView for Watch {
+impl ClauseView for Watcher {
     ghost clauses = { λ s. s.store.clauses };
 
     fn get(&self, id: ClauseId) -> Option<&[Lit]> {
@@ -110,15 +110,15 @@ impl ClauseView for Watch {
     }
 }
 
-impl Engine for Watch {
+impl Engine for Watcher {
     ghost room = { room_in };
 
     ghost fits = { Fits };
 
-    fn new(alloc: Global) -> Watch {
-        Watch {
+    fn new(alloc: Global) -> Watcher {
+        Watcher {
             store: Store::new(alloc),
-            chains: WatchLists::new(alloc),
+            lists: WatchLists::new(alloc),
             found: Vec::new(alloc),
         }
     }
@@ -129,14 +129,14 @@ impl Engine for Watch {
         clauses: usize,
         literals: usize,
     ) -> Result<(), AllocError> {
-        let Some(nodes) = clauses.checked_mul(2) else {
+        let Some(watches) = clauses.checked_mul(2) else {
             return Err(AllocError);
         };
         let Some(total) = clauses.checked_add(self.store.count_long()) else {
             return Err(AllocError);
         };
         self.store.reserve(clauses, literals)?;
-        self.chains.reserve(2 * variables as usize + 2, nodes)?;
+        self.lists.reserve(2 * variables as usize + 2, watches)?;
         self.found.clear();
         self.found.reserve(total)
     }
@@ -151,7 +151,7 @@ impl Engine for Watch {
 
     fn forget(&mut self, ids: &mut [ClauseId]) {
         sort_ids(ids);
-        self.chains.forget(&self.store, ids);
+        self.lists.forget(&self.store, ids);
         self.store.forget(ids);
     }
 
@@ -169,7 +169,7 @@ impl Engine for Watch {
     ghost fits_less = { λ engine entries processed less bound fits. follows-less _ _ _ _ _ _ entries processed less bound fits };
 }
 
-impl Listed for Watch {
+impl Listed for Watcher {
     fn count(&self) -> usize {
         self.store.len()
     }

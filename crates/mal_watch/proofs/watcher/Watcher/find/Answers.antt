@@ -9,18 +9,18 @@ use Rattle.mal_watch.specs.Following.{Follows}
 use Rattle.mal_watch.proofs.TurnLemmas.{turns-is}
 use Rattle.mal_watch.proofs.FoundLemmas.{out-length}
 use Rattle.mal_watch.proofs.FollowLemmas.{before-walk, after-walk, no-walk, IsFound}
-use Rattle.mal_watch.proofs.watch.Watch.find.Goals as goal
-use Rattle.mal_watch.proofs.watch.Watch.find.Goals.{Then-is_false_before, Else-is_false_before, After-sort}
+use Rattle.mal_watch.proofs.watch.Watcher.find.Goals as goal
+use Rattle.mal_watch.proofs.watch.Watcher.find.Goals.{Then-is_false_before, Else-is_false_before, After-sort}
 
 -- an entry whose literal was true before
-skipped : (c : Then-is_false_before) → Follows c.args.self.now.store.clauses c.args.self.now.store.long c.args.self.now.chains.keys c.args.self.now.chains.out c.args.self.now.chains.lists (vec_capacity c.args.self.now.found) c.args.trail.now.entries (c.args.count + 1) × ([] ≡ pending (take c.args.count c.args.trail.now.entries) c.args.trail.now.entries c.args.self.now.store.clauses)
+skipped : (c : Then-is_false_before) → Follows c.args.self.now.store.clauses c.args.self.now.store.long c.args.self.now.lists.keys c.args.self.now.lists.out c.args.self.now.lists.count (vec_capacity c.args.self.now.found) c.args.trail.now.entries (c.args.count + 1) × ([] ≡ pending (take c.args.count c.args.trail.now.entries) c.args.trail.now.entries c.args.self.now.store.clauses)
 skipped c =
     let s = c.args.self.now in
     let entries = c.args.trail.now.entries in
     let last = c.index-entries-count.result in
     let is : last ≡ get_or entries (c.args.count - 1) last = rw c.entries.ensures at c.index-entries-count.is in
     let was : is_false (take (c.args.count - 1) entries) (negated last.lit) ≡ true = rw (← c.negate-lit.ensures) (sym c.is_false_before.ensures ∙ c.if-is_false_before.true) in
-    no-walk s.store.clauses s.store.long s.chains.keys s.chains.lists _ entries c.args.count last s.chains.out c.requires.some c.requires.count is was c.requires.fits
+    no-walk s.store.clauses s.store.long s.lists.keys s.lists.count _ entries c.args.count last s.lists.out c.requires.some c.requires.count is was c.requires.fits
 
 pub returns-then-is_false_before-clause-found : goal.returns-then-is_false_before-clause-found
 returns-then-is_false_before-clause-found c = rw c.clear.ensures.items (skipped c).1
@@ -44,28 +44,28 @@ pub walk-requires-clause-goes : goal.walk-requires-clause-goes
 walk-requires-clause-goes c =
     let s = c.args.self.now in
     let key = negated c.index-entries-count.result.lit in
-    let nodes : (k : ℕ) → Has c.take.new.self.out k ↔ IsAt s.chains.keys k key = rw (c.take.ensures.keys, c.negate-lit.ensures) at c.take.ensures.nodes in
+    let watches : (k : ℕ) → Has c.take.new.self.out k ↔ IsAt s.lists.keys k key = rw (c.take.ensures.keys, c.negate-lit.ensures) at c.take.ensures.watches in
     let now = turns (goal.at.walk-requires-clause-goes c).Else-is_false_before c.is_consistent.ensures in
-    rw (c.negate-lit.ensures, c.take.ensures.lists, c.take.ensures.keys) (before-walk s.store.clauses s.store.long s.chains.keys c.take.new.self.out s.chains.out s.chains.lists _ c.args.trail.now.entries c.args.count key c.requires.fits now nodes c.take.ensures.once)
+    rw (c.negate-lit.ensures, c.take.ensures.lists, c.take.ensures.keys) (before-walk s.store.clauses s.store.long s.lists.keys c.take.new.self.out s.lists.out s.lists.count _ c.args.trail.now.entries c.args.count key c.requires.fits now watches c.take.ensures.once)
 
 pub walk-requires-clause-room : goal.walk-requires-clause-room
 walk-requires-clause-room c =
     let s = c.args.self.now in
     let w = c.requires.fits in
-    let nodes : (k : ℕ) → Has c.take.new.self.out k ↔ IsAt s.chains.keys k c.negate-lit.result = rw c.take.ensures.keys at c.take.ensures.nodes in
-    let few : length c.take.new.self.out ≤ length s.store.long = out-length c.negate-lit.result s.chains.lists s.store.long s.chains.keys c.take.new.self.out w.watching w.apart nodes c.take.ensures.once in
+    let watches : (k : ℕ) → Has c.take.new.self.out k ↔ IsAt s.lists.keys k c.negate-lit.result = rw c.take.ensures.keys at c.take.ensures.watches in
+    let few : length c.take.new.self.out ≤ length s.store.long = out-length c.negate-lit.result s.lists.count s.store.long s.lists.keys c.take.new.self.out w.watching w.apart watches c.take.ensures.once in
     omega (arith, few, w.room, c.clear.ensures.len, c.clear.ensures.capacity)
 
 -- what was found, and that the rest follows
-walked : (c : After-sort) → Turns c.args.trail.now.entries c.args.count (negated c.index-entries-count.result.lit) → IsFound c.args.self.now.store.clauses c.args.self.now.store.long c.walk.new.chains.keys c.sort.new.found.items c.args.self.now.chains.lists (vec_capacity c.args.self.now.found) c.args.trail.now.entries c.args.count
+walked : (c : After-sort) → Turns c.args.trail.now.entries c.args.count (negated c.index-entries-count.result.lit) → IsFound c.args.self.now.store.clauses c.args.self.now.store.long c.walk.new.lists.keys c.sort.new.found.items c.args.self.now.lists.count (vec_capacity c.args.self.now.found) c.args.trail.now.entries c.args.count
 walked c now =
     let s = c.args.self.now in
     let entries = c.args.trail.now.entries in
     let key = negated c.index-entries-count.result.lit in
-    let nodes : (k : ℕ) → Has c.take.new.self.out k ↔ IsAt s.chains.keys k key = rw (c.take.ensures.keys, c.negate-lit.ensures) at c.take.ensures.nodes in
-    let goes : Goes entries c.args.count key s.chains.lists s.store.long c.walk.new.chains.keys [] = rw (c.walk.ensures.lists, c.take.ensures.lists, c.negate-lit.ensures) at c.walk.ensures.goes in
+    let watches : (k : ℕ) → Has c.take.new.self.out k ↔ IsAt s.lists.keys k key = rw (c.take.ensures.keys, c.negate-lit.ensures) at c.take.ensures.watches in
+    let goes : Goes entries c.args.count key s.lists.count s.store.long c.walk.new.lists.keys [] = rw (c.walk.ensures.lists, c.take.ensures.lists, c.negate-lit.ensures) at c.walk.ensures.goes in
     let moved : IsPermutation (found_in (take c.args.count entries) entries s.store.long c.take.new.self.out) c.sort.new.found.items = rw (c.walk.ensures.found, c.clear.ensures.items) at c.sort.ensures.same in
-    after-walk s.store.clauses s.store.long s.chains.keys c.take.new.self.out s.chains.out c.walk.new.chains.keys c.sort.new.found.items s.chains.lists _ entries c.args.count key c.requires.fits now nodes c.take.ensures.once goes moved c.sort.ensures.order
+    after-walk s.store.clauses s.store.long s.lists.keys c.take.new.self.out s.lists.out c.walk.new.lists.keys c.sort.new.found.items s.lists.count _ entries c.args.count key c.requires.fits now watches c.take.ensures.once goes moved c.sort.ensures.order
 
 pub returns-clause-found : goal.returns-clause-found
 returns-clause-found c = (walked c (turns (goal.at.returns-clause-found c).Else-is_false_before c.is_consistent.ensures)).found_is

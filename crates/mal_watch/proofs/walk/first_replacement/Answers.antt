@@ -1,6 +1,6 @@
 use Rattle.std.proofs.Common.{◌<◌, inl, inr, arith, sym, ◌∙◌}
 use Rattle.mal_watch.proofs.HasLemmas.{has-place}
-use Rattle.mal_watch.proofs.walk.first_open.Goals as goal
+use Rattle.mal_watch.proofs.walk.first_replacement.Goals as goal
 
 pub returns : goal.returns
 returns c = λ x m d.

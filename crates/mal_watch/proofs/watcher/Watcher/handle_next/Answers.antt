@@ -5,7 +5,7 @@ use Rattle.mal_base.specs.Literals.{var_of}
 use Rattle.mal_watch.specs.declared.found.Found.{Found}
 use Rattle.mal_watch.specs.FollowLaws.{follows-same}
 use Rattle.mal_watch.proofs.BatchLemmas.{pending-handled, pending-within}
-use Rattle.mal_watch.proofs.watch.Watch.handle_next.Goals as goal
+use Rattle.mal_watch.proofs.watch.Watcher.handle_next.Goals as goal
 
 pub handle-requires : goal.handle-requires
 handle-requires c =
@@ -25,4 +25,4 @@ pub returns-clause-fits : goal.returns-clause-fits
 returns-clause-fits c =
     let entries = c.args.trail.now.entries in
     let s = c.find.new.self in
-    follows-same s.store.clauses s.store.long s.chains.keys s.chains.out s.chains.lists _ entries c.handle.new.trail.entries (c.processed-count.result + 1) (c.args.trail.now.processed + 1) (omega (arith, c.processed-count.ensures.value)) (λ n h. c.handle.ensures.prefix n (omega (arith, h, c.requires.left))) c.find.ensures.fits
+    follows-same s.store.clauses s.store.long s.lists.keys s.lists.out s.lists.count _ entries c.handle.new.trail.entries (c.processed-count.result + 1) (c.args.trail.now.processed + 1) (omega (arith, c.processed-count.ensures.value)) (λ n h. c.handle.ensures.prefix n (omega (arith, h, c.requires.left))) c.find.ensures.fits

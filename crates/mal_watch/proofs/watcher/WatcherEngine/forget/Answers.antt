@@ -1,8 +1,8 @@
 use Rattle.std.proofs.Common.{◌≤◌, length, sym, ◌∙◌, arith}
-use Rattle.mal_store.specs.Rowed.{is_left}
+use Rattle.mal_store.specs.Arena.{is_left}
 use Rattle.mal_store.proofs.ForgetLemmas.{forgetting-order}
 use Rattle.mal_watch.proofs.FewerLemmas.{follows-fewer, fewer-length}
-use Rattle.mal_watch.proofs.watch.WatchEngine.forget.Goals as goal
+use Rattle.mal_watch.proofs.watch.WatcherEngine.forget.Goals as goal
 
 pub returns-clause-clauses : goal.returns-clause-clauses
 returns-clause-clauses c = c.forget-2.ensures.clauses ∙ sym (forgetting-order c.args.ids.now c.sort_ids.new.ids c.sort_ids.ensures.same c.args.self.now.store.clauses)
@@ -10,7 +10,7 @@ returns-clause-clauses c = c.forget-2.ensures.clauses ∙ sym (forgetting-order 
 pub returns-clause-fits : goal.returns-clause-fits
 returns-clause-fits c =
     let s = c.args.self.now in
-    λ entries processed f. rw (c.forget.ensures.keys, c.forget.ensures.out, c.forget.ensures.lists, c.forget-2.ensures.clauses, c.forget-2.ensures.long) (follows-fewer c.sort_ids.new.ids s.store.clauses s.store.long s.chains.keys s.chains.out s.chains.lists _ entries processed f)
+    λ entries processed f. rw (c.forget.ensures.keys, c.forget.ensures.out, c.forget.ensures.lists, c.forget-2.ensures.clauses, c.forget-2.ensures.long) (follows-fewer c.sort_ids.new.ids s.store.clauses s.store.long s.lists.keys s.lists.out s.lists.count _ entries processed f)
 
 pub returns-clause-room : goal.returns-clause-room
 returns-clause-room c =
