@@ -6,8 +6,8 @@ use Rattle.std.proofs.lemmas.List.Folds.{list_any_more, list_any_at}
 use Rattle.std.proofs.lemmas.Option.{slice_get_within, get_or_from_slice_get}
 use Rattle.mal_base.specs.NumberedClause.{NumberedClause}
 use Rattle.mal_base.specs.declared.trail_entry.TrailEntry.{TrailEntry}
-use Rattle.mal_learn.specs.declared.dropping.Candidate.{Candidate}
-use Rattle.mal_learn.specs.Choosing.{candidate_of, has_reason}
+use Rattle.mal_learn.specs.declared.dropping.Droppable.{Droppable}
+use Rattle.mal_learn.specs.Choosing.{droppable_of, has_reason}
 use Rattle.spec_learn.specs.Dropping.{is_reason, may_go}
 
 pub reason-found : (es : List TrailEntry) (place : ℕ) (e : TrailEntry) (c : NumberedClause) → slice_get es place ≡ Some e → has_reason c.id e ≡ true → is_reason es c ≡ true
@@ -20,18 +20,18 @@ reason-more es place e c at h none =
     more ∙ rw (none, here) refl
 
 -- one more clause is gathered where it may go
-gathered-more : (es : List TrailEntry) (cs : List NumberedClause) (place : ℕ) (c : NumberedClause) → slice_get cs place ≡ Some c → map candidate_of (filter (may_go es) (take (place + 1) cs)) ≡ map candidate_of (filter (may_go es) (take place cs)) ++ cond (may_go es c) (candidate_of c ∷ []) []
+gathered-more : (es : List TrailEntry) (cs : List NumberedClause) (place : ℕ) (c : NumberedClause) → slice_get cs place ≡ Some c → map droppable_of (filter (may_go es) (take (place + 1) cs)) ≡ map droppable_of (filter (may_go es) (take place cs)) ++ cond (may_go es c) (droppable_of c ∷ []) []
 gathered-more es cs place c at =
     let same : get_or cs place c ≡ c = get_or_from_slice_get cs place c c at in
     let more : filter (may_go es) (take (place + 1) cs) ≡ filter (may_go es) (take place cs) ++ cond (may_go es (get_or cs place c)) (get_or cs place c ∷ []) [] = filter_more (may_go es) cs place c (slice_get_within cs place c at) in
-    ap (map candidate_of) (more ∙ ap (λ (d : NumberedClause). filter (may_go es) (take place cs) ++ cond (may_go es d) (d ∷ []) []) same) ∙ (map-append candidate_of (filter (may_go es) (take place cs)) (cond (may_go es c) (c ∷ []) []) ∙ ap (λ (ds : List Candidate). map candidate_of (filter (may_go es) (take place cs)) ++ ds) (by_test (may_go es c)))
+    ap (map droppable_of) (more ∙ ap (λ (d : NumberedClause). filter (may_go es) (take place cs) ++ cond (may_go es d) (d ∷ []) []) same) ∙ (map-append droppable_of (filter (may_go es) (take place cs)) (cond (may_go es c) (c ∷ []) []) ∙ ap (λ (ds : List Droppable). map droppable_of (filter (may_go es) (take place cs)) ++ ds) (by_test (may_go es c)))
   where
-    by_test : (b : Bool) → map candidate_of (cond b (c ∷ []) []) ≡ cond b (candidate_of c ∷ []) []
+    by_test : (b : Bool) → map droppable_of (cond b (c ∷ []) []) ≡ cond b (droppable_of c ∷ []) []
     by_test true = refl
     by_test false = refl
 
-pub gathered-then : (es : List TrailEntry) (cs : List NumberedClause) (place : ℕ) (c : NumberedClause) → slice_get cs place ≡ Some c → true ≡ may_go es c → map candidate_of (filter (may_go es) (take place cs)) ++ candidate_of c ∷ [] ≡ map candidate_of (filter (may_go es) (take (place + 1) cs))
-gathered-then es cs place c at h = sym (gathered-more es cs place c at ∙ ap (λ (b : Bool). map candidate_of (filter (may_go es) (take place cs)) ++ cond b (candidate_of c ∷ []) []) (sym h))
+pub gathered-then : (es : List TrailEntry) (cs : List NumberedClause) (place : ℕ) (c : NumberedClause) → slice_get cs place ≡ Some c → true ≡ may_go es c → map droppable_of (filter (may_go es) (take place cs)) ++ droppable_of c ∷ [] ≡ map droppable_of (filter (may_go es) (take (place + 1) cs))
+gathered-then es cs place c at h = sym (gathered-more es cs place c at ∙ ap (λ (b : Bool). map droppable_of (filter (may_go es) (take place cs)) ++ cond b (droppable_of c ∷ []) []) (sym h))
 
-pub gathered-else : (es : List TrailEntry) (cs : List NumberedClause) (place : ℕ) (c : NumberedClause) → slice_get cs place ≡ Some c → false ≡ may_go es c → map candidate_of (filter (may_go es) (take place cs)) ≡ map candidate_of (filter (may_go es) (take (place + 1) cs))
-gathered-else es cs place c at h = sym (gathered-more es cs place c at ∙ (ap (λ (b : Bool). map candidate_of (filter (may_go es) (take place cs)) ++ cond b (candidate_of c ∷ []) []) (sym h) ∙ append-nil (map candidate_of (filter (may_go es) (take place cs)))))
+pub gathered-else : (es : List TrailEntry) (cs : List NumberedClause) (place : ℕ) (c : NumberedClause) → slice_get cs place ≡ Some c → false ≡ may_go es c → map droppable_of (filter (may_go es) (take place cs)) ≡ map droppable_of (filter (may_go es) (take (place + 1) cs))
+gathered-else es cs place c at h = sym (gathered-more es cs place c at ∙ (ap (λ (b : Bool). map droppable_of (filter (may_go es) (take place cs)) ++ cond b (droppable_of c ∷ []) []) (sym h) ∙ append-nil (map droppable_of (filter (may_go es) (take place cs)))))

@@ -3,7 +3,7 @@
 ghost use Rattle.std.specs.Prelude.{◌≡◌, ◌≤◌, List, [], length, map, filter, vec_len, vec_capacity, OnOk};
 ghost use Rattle.mal_base.specs.NumberedClause.{NumberedClause};
 ghost use Rattle.spec_learn.specs.Dropping.{is_reason, may_go, longer_half, to_drop};
-ghost use Rattle.mal_learn.specs.Choosing.{candidate_of, has_reason};
+ghost use Rattle.mal_learn.specs.Choosing.{droppable_of, has_reason};
 
 use crate::scratch::Scratch;
 use mal_base::{ClauseId, Lit, TrailEntry, TrailView};
@@ -11,9 +11,9 @@ use mal_trail::Listed;
 use std::alloc::{AllocError, Global};
 use std::marker::Model;
 
-/// A clause that may be dropped. Candidates compare by their number of literals, then by their own number.
+/// A clause that may be dropped. They compare by their number of literals, then by their own number.
 #[derive(Clone, Copy, Debug, PartialEq, Eq, PartialOrd, Ord)]
-struct Candidate {
+struct Droppable {
     len: usize,
     id: ClauseId,
 }
@@ -22,7 +22,7 @@ struct Candidate {
 /// there is room to choose, and these numbers.
 #[derive(Drop)]
 pub struct Choice {
-    candidates: Vec<Candidate>,
+    droppables: Vec<Droppable>,
     chosen: Vec<ClauseId>,
 }
 
@@ -34,7 +34,7 @@ impl Model for Choice {
     ghost Value = { Choice };
 
     ghost view = { λ c. record {
-      ids = min (vec_capacity c.candidates)
+      ids = min (vec_capacity c.droppables)
           (vec_capacity c.chosen);
       chosen = c.chosen.items;
     } };
@@ -49,7 +49,7 @@ impl Choice {
         ensures { result.chosen ≡ [] }
     {
         Choice {
-            candidates: Vec::new(alloc),
+            droppables: Vec::new(alloc),
             chosen: Vec::new(alloc),
         }
     }
@@ -60,9 +60,9 @@ impl Choice {
         ensures more { self.old.ids ≤ self.new.ids }
         ensures chosen { self.new.chosen ≡ [] }
     {
-        self.candidates.clear();
+        self.droppables.clear();
         self.chosen.clear();
-        self.candidates.reserve(ids)?;
+        self.droppables.reserve(ids)?;
         self.chosen.reserve(ids)?;
         Ok(())
     }
@@ -81,8 +81,8 @@ impl Choice {
         ensures chosen { self.new.chosen ≡ to_drop (T.entries trail.now) (E.clauses engine.now) }
         ensures ids { self.new.ids ≡ self.old.ids }
     {
-        gather(trail, engine, &mut self.candidates);
-        take_longer_half(&mut self.candidates, &mut self.chosen);
+        gather(trail, engine, &mut self.droppables);
+        take_longer_half(&mut self.droppables, &mut self.chosen);
     }
 }
 
@@ -126,18 +126,18 @@ fn may_go<T: TrailView>(trail: &T, id: ClauseId, lits: &[Lit]) -> bool
 }
 
 /// Gathers the clauses that may go.
-fn gather<T: TrailView, E: Listed>(trail: &T, engine: &E, candidates: &mut Vec<Candidate>)
-    requires { length (E.clauses engine.now) ≤ vec_capacity candidates.old }
-    ensures candidates { candidates.new.items
-        ≡ map candidate_of (filter (may_go (T.entries trail.now)) (E.clauses engine.now)) }
-    ensures capacity { vec_capacity candidates.new ≡ vec_capacity candidates.old }
-    ensures short { vec_len candidates.new ≤ length (E.clauses engine.now) }
+fn gather<T: TrailView, E: Listed>(trail: &T, engine: &E, droppables: &mut Vec<Droppable>)
+    requires { length (E.clauses engine.now) ≤ vec_capacity droppables.old }
+    ensures droppables { droppables.new.items
+        ≡ map droppable_of (filter (may_go (T.entries trail.now)) (E.clauses engine.now)) }
+    ensures capacity { vec_capacity droppables.new ≡ vec_capacity droppables.old }
+    ensures short { vec_len droppables.new ≤ length (E.clauses engine.now) }
 {
-    candidates.clear();
+    droppables.clear();
     for place in 0..engine.count() {
         let (id, lits) = engine.clause_at(place);
         if may_go(trail, id, lits) {
-            candidates.push_reserved(Candidate {
+            droppables.push_reserved(Droppable {
                 len: lits.len(),
                 id,
             });
@@ -145,18 +145,18 @@ fn gather<T: TrailView, E: Listed>(trail: &T, engine: &E, candidates: &mut Vec<C
     }
 }
 
-/// Takes the numbers of the longer half of candidates, the longest first.
-fn take_longer_half(candidates: &mut Vec<Candidate>, chosen: &mut Vec<ClauseId>)
-    requires { vec_len candidates.old ≤ vec_capacity chosen.old }
-    ensures chosen { (clauses : List NumberedClause) → candidates.old.items ≡ map candidate_of clauses
+/// Takes the numbers of the longer half of those that may be dropped, the longest first.
+fn take_longer_half(droppables: &mut Vec<Droppable>, chosen: &mut Vec<ClauseId>)
+    requires { vec_len droppables.old ≤ vec_capacity chosen.old }
+    ensures chosen { (clauses : List NumberedClause) → droppables.old.items ≡ map droppable_of clauses
         → chosen.new.items ≡ map (λ c. c.id) (longer_half clauses) }
-    ensures candidate_capacity { vec_capacity candidates.new ≡ vec_capacity candidates.old }
+    ensures droppable_capacity { vec_capacity droppables.new ≡ vec_capacity droppables.old }
     ensures capacity { vec_capacity chosen.new ≡ vec_capacity chosen.old }
 {
-    candidates.sort_unstable();
-    candidates.as_mut_slice().reverse();
+    droppables.sort_unstable();
+    droppables.as_mut_slice().reverse();
     chosen.clear();
-    for place in 0..candidates.len() / 2 {
-        chosen.push_reserved(candidates[place].id);
+    for place in 0..droppables.len() / 2 {
+        chosen.push_reserved(droppables[place].id);
     }
 }
