@@ -6,7 +6,7 @@ use Rattle.std.proofs.lemmas.List.Folds.{list_all-append, list_any-append}
 use Rattle.mal_base.specs.Literals.{var_of}
 use Rattle.mal_base.specs.NumberedClause.{NumberedClause}
 use Rattle.mal_base.specs.declared.trail_entry.TrailEntry.{TrailEntry}
-use Rattle.spec_node.specs.Value.{is_true, has_value, first_open}
+use Rattle.spec_node.specs.Value.{is_true, has_value, next_assumption}
 use Rattle.spec_node.specs.Batch.{Progress, after_batch, batch}
 use Rattle.spec_node.proofs.BatchLemmas.{after_all-extends}
 use Rattle.spec_node.proofs.TrailLemmas.{is_true-more}
@@ -42,11 +42,11 @@ past-batch q trail now clauses o order assumptions passed e h =
     subst (λ (t : List TrailEntry). IsPast t order assumptions passed) (sym is) (past-more trail k.rest order assumptions passed h)
 
 -- the first assumption that is not true
-pub open-here : (trail : List TrailEntry) (list : List ℕ) (p l : ℕ) → p < length list → l ≡ get_or list p 0 → not (is_true trail l) ≡ true → first_open trail (drop p list) ≡ Some l
+pub open-here : (trail : List TrailEntry) (list : List ℕ) (p l : ℕ) → p < length list → l ≡ get_or list p 0 → not (is_true trail l) ≡ true → next_assumption trail (drop p list) ≡ Some l
 open-here trail list p l low q f = rw (drop_more list p 0 low, ← q, f) refl
 
 pub open-more : (trail : List TrailEntry) (list : List ℕ) (p l : ℕ) → p < length list → l ≡ get_or list p 0 → is_true trail l ≡ true → list_all (is_true trail) (take p list) ≡ true → list_all (is_true trail) (take (p + 1) list) ≡ true
 open-more trail list p l low q t h = rw (take_more list p 0 low, ← q, list_all-append, h, t) refl
 
-pub open-ends : (trail : List TrailEntry) (list : List ℕ) (p : ℕ) → length list ≤ p → first_open trail (drop p list) ≡ None
+pub open-ends : (trail : List TrailEntry) (list : List ℕ) (p : ℕ) → length list ≤ p → next_assumption trail (drop p list) ≡ None
 open-ends trail list p h = rw (drop_all p list h) refl

@@ -4,7 +4,7 @@ use Rattle.std.proofs.lemmas.Bool.Decides.{nat_tests}
 use Rattle.mal_base.specs.Literals.{literal, var_of}
 use Rattle.mal_base.specs.Formulas.{is_within}
 use Rattle.mal_base.specs.declared.trail_entry.TrailEntry.{TrailEntry}
-use Rattle.spec_node.specs.Value.{is_true, has_value, first_open, first_free}
+use Rattle.spec_node.specs.Value.{is_true, has_value, next_assumption, first_free}
 use Rattle.mal_cdcl.specs.Within.{is_order_of}
 use Rattle.mal_trail.proofs.FoundLemmas.{and_true, found_passes}
 use Rattle.mal_cdcl.proofs.FillLemmas.{found_holds}
@@ -17,10 +17,10 @@ pub test_le : (a b : ℕ) → nat_le a b ≡ true → a ≤ b
 test_le a b = grind (arith, nat_tests)
 
 -- an open assumption is of a node's variables, and not true
-pub open_within : (n : ℕ) (trail : List TrailEntry) (assumptions : List ℕ) (l : ℕ) → is_within n assumptions ≡ true → first_open trail assumptions ≡ Some l → var_of l ≤ n
+pub open_within : (n : ℕ) (trail : List TrailEntry) (assumptions : List ℕ) (l : ℕ) → is_within n assumptions ≡ true → next_assumption trail assumptions ≡ Some l → var_of l ≤ n
 open_within n trail assumptions l w e = test_le (var_of l) n (and_true (nat_le 1 (var_of l)) (nat_le (var_of l) n) (found_passes (λ (a : ℕ). not (is_true trail a)) (λ (a : ℕ). nat_le 1 (a / 2) && nat_le (a / 2) n) assumptions l w e)).1
 
-pub open_is : (trail : List TrailEntry) (assumptions : List ℕ) (l : ℕ) → first_open trail assumptions ≡ Some l → is_true trail l ≡ false
+pub open_is : (trail : List TrailEntry) (assumptions : List ℕ) (l : ℕ) → next_assumption trail assumptions ≡ Some l → is_true trail l ≡ false
 open_is trail assumptions l e = not_true (is_true trail l) (found_holds (λ (a : ℕ). not (is_true trail a)) assumptions l e)
 
 -- a free variable is a node's, and has no value

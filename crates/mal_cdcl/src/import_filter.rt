@@ -14,13 +14,13 @@ use mal_trail::Listed;
 use std::alloc::{AllocError, Global};
 use std::marker::Model;
 
-/// The clauses that are taken of one import. Contracts see the list of them.
+/// The clauses of one import that are new to the node, and are taken. Contracts see the list of them.
 #[derive(Drop)]
-pub struct Pick {
+pub struct NewClauses {
     entries: Vec<NumberedClause>,
 }
 
-impl Model for Pick {
+impl Model for NewClauses {
     ghost use Rattle.std.specs.Prelude.{List};
     ghost use Rattle.mal_base.specs.NumberedClause.{NumberedClause};
 
@@ -29,7 +29,7 @@ impl Model for Pick {
     ghost view = { λ p. p.entries.items };
 }
 
-impl Pick {
+impl NewClauses {
     /// The clauses that are taken.
     pub fn entries(&self) -> &[NumberedClause]
         ensures { result.now ≡ self.now }
@@ -38,7 +38,11 @@ impl Pick {
     }
 
     /// Those of the entries that a filter lets pass.
-    fn of(alloc: Global, seen: &ClauseSet, entries: &[NumberedClause]) -> Result<Pick, AllocError>
+    fn of(
+        alloc: Global,
+        seen: &ClauseSet,
+        entries: &[NumberedClause],
+    ) -> Result<NewClauses, AllocError>
         ensures { IfOk result (λ p. p ≡ filter (λ c. not (is_noted c.lits seen.now)) entries.now) }
     {
         let mut taken = Vec::new(alloc);
@@ -47,17 +51,17 @@ impl Pick {
                 taken.push(entry.copy()?)?;
             }
         }
-        Ok(Pick { entries: taken })
+        Ok(NewClauses { entries: taken })
     }
 }
 
 /// What a node with this engine takes of each import, after these loads.
-pub fn picks_of<E: Listed>(
+pub fn new_clauses_of<E: Listed>(
     alloc: Global,
     engine: &E,
     loads: &[(&Revision, u32)],
     imports: &[&Buffer],
-) -> Result<Vec<Pick>, AllocError>
+) -> Result<Vec<NewClauses>, AllocError>
     ensures { IfOk result
         (λ v. (n : Node) → n.clauses ≡ E.clauses engine.now
         → v.items ≡ picked (lent imports.now) (readied (posted loads.now) n).clauses) }
@@ -97,7 +101,7 @@ fn note_all<E: Listed>(
 /// Picks what is taken of each import by a node whose clauses a filter has seen.
 fn pick_past(
     alloc: Global,
-    picks: &mut Vec<Pick>,
+    picks: &mut Vec<NewClauses>,
     seen: &mut ClauseSet,
     imports: &[&Buffer],
 ) -> Result<(), AllocError>
@@ -107,7 +111,7 @@ fn pick_past(
         → picks.new.items ≡ picked (lent imports.now) clauses) }
 {
     for told in imports {
-        picks.push(Pick::of(alloc, seen, told.entries())?)?;
+        picks.push(NewClauses::of(alloc, seen, told.entries())?)?;
         note_entries(seen, told.entries())?;
     }
     Ok(())

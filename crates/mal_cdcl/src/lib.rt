@@ -1,6 +1,7 @@
 //! A solver node: conflict-driven search over the clauses and assumptions of a job, a slice of steps at a time.
 #![tactic(auto)]
 
+mod assuming;
 mod copies;
 mod dropping;
 mod import_filter;
@@ -8,7 +9,6 @@ mod learning;
 mod needs;
 mod node;
 mod node_load;
-mod open;
 mod restart;
 mod source;
 

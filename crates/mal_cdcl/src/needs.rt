@@ -6,7 +6,7 @@ ghost use Rattle.mal_trail.specs.Rooms.{HasRoom};
 ghost use Rattle.spec_search.specs.Slice.{most_numbers};
 ghost use Rattle.mal_cdcl.specs.{ImportSizes.{lits_in, told_clauses, told_literals}, Ready.{posted, greatest, clauses_in, literals_in, most_assumptions}};
 
-use crate::import_filter::Pick;
+use crate::import_filter::NewClauses;
 use mal_base::{Lit, NumberedClause};
 use mal_order::Order;
 use mal_revision::Revision;
@@ -55,7 +55,7 @@ fn needs_of(loads: &[(&Revision, u32)], variables: u32) -> Result<Needs, AllocEr
 /// What these loads, the clauses taken and then a slice need at a node of so many variables, at most 65,536.
 pub fn needs_in_all(
     loads: &[(&Revision, u32)],
-    picks: &[Pick],
+    picks: &[NewClauses],
     variables: u32,
 ) -> Result<Needs, AllocError>
     requires { variables ≤ 65536 }

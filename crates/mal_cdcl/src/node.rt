@@ -2,7 +2,7 @@
 
 ghost use Rattle.std.specs.Prelude.{◌≡◌, ◌+◌, ◌-◌, ◌^◌, ◌<◌, ◌≤◌, length, Some, None, [], ◌∷◌, ◌++◌, OnOk, OnErr, IfOk, MatchOption, vec_capacity};
 ghost use Rattle.mal_base.specs.Trails.{value_on};
-ghost use Rattle.spec_node.specs.{State.{fresh, fresh_with}, Value.{first_open, first_free, level_of}, Batch.{propagated}, Cut.{cut}, Load.{loaded}, Laws.{AreNewNumbers}, Model.{model_of}, Sound.{IsSound}};
+ghost use Rattle.spec_node.specs.{State.{fresh, fresh_with}, Value.{next_assumption, first_free, level_of}, Batch.{propagated}, Cut.{cut}, Load.{loaded}, Laws.{AreNewNumbers}, Model.{model_of}, Sound.{IsSound}};
 ghost use Rattle.mal_cdcl.specs.{ImportSizes.{lits_in, told_clauses}, Importing.{AreNewTo, lent, MayImportAll, all_imported, with_pick}, Ready.{posted, readied, greatest, clauses_in, AreNew, HasRoomFor, IsSpared}, Sliced.{HasSliceRoom, HasStepRoom, HasIdRoom, HasLowCounts, MayCount, Keeps, IsShown, IsEnded, IsStepped, IsSearched, IsFailing, HasClauseRoom, HasLineRoom, IsLineLess}, Sourced.{IsSource, analysis_from, line_from}};
 ghost use Rattle.mal_trail.specs.Rooms.{HasRoom};
 ghost use Rattle.spec_learn.specs.{Learning.{analysis, derived_id, learned}, Refuting.{refuted}};
@@ -10,10 +10,10 @@ ghost use Rattle.spec_search.specs.{Step.{step, restarting, branching, case_of, 
 ghost use Rattle.mal_learn.specs.Shown.{HasLeft};
 ghost use Rattle.mal_freeze.specs.Imaged.{IsImage};
 
-use crate::import_filter::{self, Pick};
+use crate::import_filter::{self, NewClauses};
 use crate::needs::{self, Needs, SLICE_STEPS, most_numbers};
 use crate::source::Source;
-use crate::{copies, dropping, learning, node_load, open, restart};
+use crate::{assuming, copies, dropping, learning, node_load, restart};
 use mal_base::{ClauseId, Lines, Lit, NumberedClause, Var, Verdict};
 use mal_buffer::Buffer;
 use mal_freeze::{Image, Parts};
@@ -231,7 +231,7 @@ impl<E: Listed> Node<E> {
     fn make_room(
         &mut self,
         loads: &[(&Revision, u32)],
-        picks: &[Pick],
+        picks: &[NewClauses],
         scratch: &mut Scratch,
     ) -> Result<(), AllocError>
         ensures room { OnOk result (HasRoomFor (posted loads.now) picks.now self.new) }
@@ -449,7 +449,7 @@ impl<E: Listed> Node<E> {
         ensures { MatchOption result (IsSearched (branching self.old.state) self.old self.new)
             (λ a. IsFailing (branching self.old.state) a self.old self.new) }
     {
-        match self.first_open() {
+        match self.next_assumption() {
             None => {
                 self.decide();
                 None
@@ -459,16 +459,16 @@ impl<E: Listed> Node<E> {
     }
 
     /// The first assumption that is not true. Those in front of it are passed.
-    fn first_open(&mut self) -> Option<Lit>
-        ensures value { result ≡ first_open self.old.state.trail self.old.state.assumptions }
+    fn next_assumption(&mut self) -> Option<Lit>
+        ensures value { result ≡ next_assumption self.old.state.trail self.old.state.assumptions }
         ensures same { self.new ≡ self.old }
     {
-        open::first_open(&self.trail, self.assumptions.as_slice(), &mut self.passed)
+        assuming::next_assumption(&self.trail, self.assumptions.as_slice(), &mut self.passed)
     }
 
     /// Assumes this assumption, the first that is not true, at a new level, unless it is false: then gives it back.
     fn assume(&mut self, lit: Lit) -> Option<Lit>
-        requires found { first_open self.old.state.trail self.old.state.assumptions ≡ Some lit }
+        requires found { next_assumption self.old.state.trail self.old.state.assumptions ≡ Some lit }
         requires handled { self.old.state.processed ≤ length self.old.state.trail + 1 }
         ensures { MatchOption result (IsSearched (branching self.old.state) self.old self.new)
             (λ a. IsFailing (branching self.old.state) a self.old self.new) }
@@ -484,7 +484,7 @@ impl<E: Listed> Node<E> {
     /// Decides the first variable without a value with its phase, at a new level. Where each has a value the search
     /// ends.
     fn decide(&mut self)
-        requires found { first_open self.old.state.trail self.old.state.assumptions ≡ None }
+        requires found { next_assumption self.old.state.trail self.old.state.assumptions ≡ None }
         requires handled { self.old.state.processed ≤ length self.old.state.trail + 1 }
         ensures state { self.new.state ≡ after_case (branching self.old.state) self.old.state }
         ensures keeps { Keeps 0 0 self.old self.new }
@@ -653,7 +653,7 @@ impl<E: Listed> Node<E> {
         ensures more_ids { scratch.old.ids ≤ scratch.new.ids }
     {
         let alloc = *self.phases.allocator();
-        let picks = import_filter::picks_of(alloc, &self.engine, loads, imports)?;
+        let picks = import_filter::new_clauses_of(alloc, &self.engine, loads, imports)?;
         self.make_room(loads, picks.as_slice(), scratch)?;
         for load in loads {
             let (revision, first) = load;

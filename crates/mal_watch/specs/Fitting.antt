@@ -2,7 +2,7 @@ use Rattle.std.specs.Prelude.{ℕ, ◌-◌, ◌/◌, min, List, length}
 use Rattle.std.specs.Vec.{vec_capacity}
 use Rattle.mal_base.specs.declared.trail_entry.TrailEntry.{TrailEntry}
 use Rattle.mal_trail.specs.Rooms.{Room}
-use Rattle.mal_watch.specs.declared.watch.Watcher.{Watcher}
+use Rattle.mal_watch.specs.declared.watcher.Watcher.{Watcher}
 use Rattle.mal_watch.specs.Following.{Follows}
 
 -- what an engine has room for: two lists for each variable, two watches for each clause, and its number among those

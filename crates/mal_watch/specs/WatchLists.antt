@@ -7,7 +7,7 @@ use Rattle.mal_watch.specs.Links.{nowhere}
 pub record ListedWatches : Type 0 where
   pub keys : List ℕ
   pub out : List ℕ
-  pub lists : ℕ
+  pub count : ℕ
   pub room : ℕ
 
 -- a number stands in a list

@@ -33,8 +33,8 @@ abbrev pub vars_of : List TrailEntry → List ℕ
 vars_of trail = map (λ e. var_of e.lit) trail
 
 -- the first assumption by variable that is not true
-abbrev pub first_open : List TrailEntry → List ℕ → Option ℕ
-first_open trail assumptions = find (λ a. not (is_true trail a)) assumptions
+abbrev pub next_assumption : List TrailEntry → List ℕ → Option ℕ
+next_assumption trail assumptions = find (λ a. not (is_true trail a)) assumptions
 
 -- the first variable of the decision order without a value
 abbrev pub first_free : List TrailEntry → List ℕ → Option ℕ

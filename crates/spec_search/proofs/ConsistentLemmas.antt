@@ -9,7 +9,7 @@ use Rattle.mal_base.specs.Literals.{var_of}
 use Rattle.mal_base.specs.declared.trail_entry.TrailEntry.{TrailEntry}
 use Rattle.mal_base.specs.NumberedClause.{NumberedClause}
 use Rattle.spec_node.specs.State.{Node}
-use Rattle.spec_node.specs.Value.{is_true, is_false, has_value, level_of, first_open, first_free}
+use Rattle.spec_node.specs.Value.{is_true, is_false, has_value, level_of, next_assumption, first_free}
 use Rattle.spec_node.specs.Batch.{Progress, batch, is_in_batch, after_batch, propagated}
 use Rattle.spec_node.specs.Cut.{kept, removed, cut}
 use Rattle.spec_node.specs.Load.{counted}
@@ -110,7 +110,7 @@ decided-consistent n h idle l f =
     }
 
 -- the literals that a step decides may be decided
-pub open-free : (n : Node) → IsConsistent n → (a : ℕ) → first_open n.trail n.assumptions ≡ Some a → is_false n.trail a ≡ false → IsFree n a
+pub open-free : (n : Node) → IsConsistent n → (a : ℕ) → next_assumption n.trail n.assumptions ≡ Some a → is_false n.trail a ≡ false → IsFree n a
 open-free n h a e f = record {
   range = find-All (IsLiteralOf n.variables) (λ x. not (is_true n.trail x)) n.assumptions a h.assumptions.within e;
   free = free_from_open n.trail a (not-true (is_true n.trail a) (find-passes (λ x. not (is_true n.trail x)) n.assumptions a e)) f;

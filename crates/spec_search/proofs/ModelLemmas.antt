@@ -9,7 +9,7 @@ use Rattle.mal_base.specs.Literals.{var_of, literal, has_plus}
 use Rattle.spec_logic.specs.Logic.{satisfies, satisfies_clause, is_true_in, value_of}
 use Rattle.mal_base.specs.NumberedClause.{NumberedClause}
 use Rattle.spec_node.specs.State.{Node}
-use Rattle.spec_node.specs.Value.{is_true, is_false, has_value, open_count, first_open, first_free}
+use Rattle.spec_node.specs.Value.{is_true, is_false, has_value, open_count, next_assumption, first_free}
 use Rattle.spec_node.specs.Batch.{is_in_batch}
 use Rattle.spec_node.specs.Load.{counted}
 use Rattle.spec_node.specs.Load.{numbered}
@@ -98,7 +98,7 @@ assumed-from_none n [] h k = refl
 assumed-from_none n (x ∷ xs) h k = and_from _ _ (true_in-model n x h (not-false (is_true n.trail x) (All-head (λ l. not (is_true n.trail l) ≡ false) x xs k))) (assumed-from_none n xs h (All-tail (λ l. not (is_true n.trail l) ≡ false) x xs k))
 
 -- where the search ends the trail is a model
-pub ended-model : (n : Node) → IsConsistent n → IsIdle n → first_open n.trail n.assumptions ≡ None → first_free n.trail n.order ≡ None → IsModel (model_of n) n.clauses n.assumptions
+pub ended-model : (n : Node) → IsConsistent n → IsIdle n → next_assumption n.trail n.assumptions ≡ None → first_free n.trail n.order ≡ None → IsModel (model_of n) n.clauses n.assumptions
 ended-model n h idle o f = record {
   satisfied = satisfied-from_all (model_of n) n.clauses (All-weaker (λ c. list_any (is_true n.trail) c.lits ≡ true) (λ c. list_any (is_true_in (model_of n)) c.lits ≡ true) (λ c k. any_in-model n c.lits h.placed k) n.clauses (clauses-true n h idle f));
   assumed = assumed-from_none n n.assumptions h.placed (find-none (λ l. not (is_true n.trail l)) n.assumptions o);

@@ -4,7 +4,7 @@ use Rattle.std.proofs.lemmas.Bool.{leb-true, leb-false, eqb-true, eqb-false}
 use Rattle.mal_base.specs.Literals.{literal}
 use Rattle.mal_base.specs.declared.verdict.Verdict.TheVariants.{Satisfiable}
 use Rattle.spec_node.specs.State.{Node}
-use Rattle.spec_node.specs.Value.{is_false, level_of, first_open, first_free}
+use Rattle.spec_node.specs.Value.{is_false, level_of, next_assumption, first_free}
 use Rattle.spec_node.specs.Cut.{cut}
 use Rattle.spec_seq.specs.Luby.{luby}
 use Rattle.spec_search.specs.Step.{Case, Learns, Refutes, Propagates, Drops, Restarts, Contradicts, Assumes, Decides, Ends, deciding, assuming, is_false_some, branching, restarting, case_by, case_of}
@@ -34,29 +34,29 @@ pub record HasCases (P : Case → Type 0) (n : Node) : Type 0 where
   pub propagates : n.conflict ≡ None → n.processed ≤ length n.trail → P Propagates
   pub drops : IsIdle n → P Drops
   pub restarts : IsIdle n → P Restarts
-  pub contradicts : IsIdle n → (a : ℕ) → first_open n.trail n.assumptions ≡ Some a → is_false n.trail a ≡ true → P (Contradicts a)
-  pub assumes : IsIdle n → (a : ℕ) → first_open n.trail n.assumptions ≡ Some a → is_false n.trail a ≡ false → P (Assumes a)
-  pub decides : IsIdle n → (v : ℕ) → first_open n.trail n.assumptions ≡ None → first_free n.trail n.order ≡ Some v → P (Decides v)
-  pub ends : IsIdle n → first_open n.trail n.assumptions ≡ None → first_free n.trail n.order ≡ None → P Ends
+  pub contradicts : IsIdle n → (a : ℕ) → next_assumption n.trail n.assumptions ≡ Some a → is_false n.trail a ≡ true → P (Contradicts a)
+  pub assumes : IsIdle n → (a : ℕ) → next_assumption n.trail n.assumptions ≡ Some a → is_false n.trail a ≡ false → P (Assumes a)
+  pub decides : IsIdle n → (v : ℕ) → next_assumption n.trail n.assumptions ≡ None → first_free n.trail n.order ≡ Some v → P (Decides v)
+  pub ends : IsIdle n → next_assumption n.trail n.assumptions ≡ None → first_free n.trail n.order ≡ None → P Ends
 
 pub by_cases : (P : Case → Type 0) (n : Node) → HasCases P n → P (case_of n)
 by_cases P n h = by_conflict n.conflict refl
   where
-    by_free : IsIdle n → first_open n.trail n.assumptions ≡ None → (o : Option ℕ) → first_free n.trail n.order ≡ o → P (deciding o)
+    by_free : IsIdle n → next_assumption n.trail n.assumptions ≡ None → (o : Option ℕ) → first_free n.trail n.order ≡ o → P (deciding o)
     by_free idle e None f = h.ends idle e f
     by_free idle e (Some v) f = h.decides idle v e f
 
-    by_false : IsIdle n → (a : ℕ) → first_open n.trail n.assumptions ≡ Some a → (b : Bool) → is_false n.trail a ≡ b → P (assuming (Some a) b (deciding (first_free n.trail n.order)))
+    by_false : IsIdle n → (a : ℕ) → next_assumption n.trail n.assumptions ≡ Some a → (b : Bool) → is_false n.trail a ≡ b → P (assuming (Some a) b (deciding (first_free n.trail n.order)))
     by_false idle a e true f = h.contradicts idle a e f
     by_false idle a e false f = h.assumes idle a e f
 
-    by_open : IsIdle n → (o : Option ℕ) → first_open n.trail n.assumptions ≡ o → P (assuming o (is_false_some n.trail o) (deciding (first_free n.trail n.order)))
+    by_open : IsIdle n → (o : Option ℕ) → next_assumption n.trail n.assumptions ≡ o → P (assuming o (is_false_some n.trail o) (deciding (first_free n.trail n.order)))
     by_open idle None e = by_free idle e (first_free n.trail n.order) refl
     by_open idle (Some a) e = by_false idle a e (is_false n.trail a) refl
 
     by_restart : IsIdle n → (b : Bool) → P (cond {A = Case} b Restarts (branching n))
     by_restart idle true = h.restarts idle
-    by_restart idle false = by_open idle (first_open n.trail n.assumptions) refl
+    by_restart idle false = by_open idle (next_assumption n.trail n.assumptions) refl
 
     by_due : IsIdle n → (b : Bool) → P (cond {A = Case} b Drops (restarting n))
     by_due idle true = h.drops idle

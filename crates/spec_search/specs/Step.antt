@@ -5,7 +5,7 @@ use Rattle.mal_base.specs.declared.trail_entry.TrailEntry.{TrailEntry}
 use Rattle.mal_base.specs.declared.verdict.Verdict.TheVariants.{Satisfiable}
 use Rattle.spec_seq.specs.Luby.{luby}
 use Rattle.spec_node.specs.State.{Node}
-use Rattle.spec_node.specs.Value.{is_false, level_of, first_open, first_free}
+use Rattle.spec_node.specs.Value.{is_false, level_of, next_assumption, first_free}
 use Rattle.spec_node.specs.Batch.{propagated}
 use Rattle.spec_node.specs.Cut.{cut}
 use Rattle.spec_learn.specs.Learning.{line_of, learned}
@@ -46,7 +46,7 @@ is_false_some trail (Some a) = is_false trail a
 
 -- the case where no batch is left and neither a dropping nor a restart is due
 abbrev pub branching : Node → Case
-branching n = let a = first_open n.trail n.assumptions in assuming a (is_false_some n.trail a) (deciding (first_free n.trail n.order))
+branching n = let a = next_assumption n.trail n.assumptions in assuming a (is_false_some n.trail a) (deciding (first_free n.trail n.order))
 
 -- the case where no batch is left and no dropping is due
 abbrev pub restarting : Node → Case

@@ -22,7 +22,7 @@ pub replacement-requires-clause-two : goal.replacement-requires-clause-two
 replacement-requires-clause-two c =
     let s = c.args.lists.now in
     let other : c.key-other.result ≡ other_key s.keys c.args.watch = rw c.partner.ensures at c.key-other.ensures in
-    rw other (two-watched c.args.trail.now.entries c.args.count c.args.lit s.lists c.args.store.now.long s.keys (drop 1 s.out) c.args.watch c.requires.turns c.requires.goes)
+    rw other (two-watched c.args.trail.now.entries c.args.count c.args.lit s.count c.args.store.now.long s.keys (drop 1 s.out) c.args.watch c.requires.turns c.requires.goes)
 
 pub put-requires-in-None-clause-list : goal.put-requires-in-None-clause-list
 put-requires-in-None-clause-list c =
@@ -38,7 +38,7 @@ moved c =
     let clause : c.long_lits.result.now ≡ (clause_of watched c.args.watch).lits = c.long_lits.ensures in
     let is = get_or_read (clause_of watched c.args.watch).lits c.in-Some.place c.index-long_lits-place.result c.in-Some.ensures.0 (rw clause at c.index-long_lits-place.is) 0 in
     let free : IsOther (take c.args.count c.args.trail.now.entries) (other_key s.keys c.args.watch) (clause_of watched c.args.watch).lits c.index-long_lits-place.result = rw (← other) (rw (← is) at c.in-Some.ensures.1) in
-    visit-moved c.args.trail.now.entries c.args.count c.args.lit s.lists watched s.keys (drop 1 s.out) c.args.watch c.index-long_lits-place.result c.requires.turns c.requires.goes free
+    visit-moved c.args.trail.now.entries c.args.count c.args.lit s.count watched s.keys (drop 1 s.out) c.args.watch c.index-long_lits-place.result c.requires.turns c.requires.goes free
 
 pub returns-in-Some-clause-goes : goal.returns-in-Some-clause-goes
 returns-in-Some-clause-goes c = rw (c.put.ensures.keys, c.put.ensures.lists) (moved c).goes
@@ -55,7 +55,7 @@ left c =
     let settled : IsSettled prefix (other_key s.keys c.args.watch) (clause_of c.args.store.now.long c.args.watch).lits = rw (← other) c.in-None.ensures in
     let free : is_false prefix (other_key s.keys c.args.watch) ≡ false = rw (← other) (sym c.is_false_before.ensures ∙ c.if-not-is_false_before.true) in
     let fresh : is_true c.args.trail.now.entries (other_key s.keys c.args.watch) ≡ false = rw (← other) (sym c.is_true.ensures ∙ c.if-not-is_true.true) in
-    visit-left c.args.trail.now.entries c.args.count c.args.lit s.lists c.args.store.now.long s.keys (drop 1 s.out) c.args.watch c.requires.turns c.requires.goes settled free fresh
+    visit-left c.args.trail.now.entries c.args.count c.args.lit s.count c.args.store.now.long s.keys (drop 1 s.out) c.args.watch c.requires.turns c.requires.goes settled free fresh
 
 pub returns-then-not-is_true-clause-goes : goal.returns-then-not-is_true-clause-goes
 returns-then-not-is_true-clause-goes c = rw (c.put-in-None.ensures.keys, c.put-in-None.ensures.lists) (left c).goes
@@ -79,7 +79,7 @@ none c =
       | else-not-is_false_before-via-then-not-is_false_before+else-not-is_true w ↦ inr (rw (← other) (sym c.is_false_before.ensures ∙ w.if-not-is_false_before.true), rw (← other) (sym w.is_true.ensures ∙ w.if-not-is_true.false))
       | else-not-is_false_before-via-else-not-is_false_before w ↦ inl (rw (← other) (sym c.is_false_before.ensures ∙ w.if-not-is_false_before.false))
     ] in
-    visit-settled es c.args.count c.args.lit s.lists c.args.store.now.long s.keys (drop 1 s.out) c.args.watch c.requires.turns c.requires.goes settled value
+    visit-settled es c.args.count c.args.lit s.count c.args.store.now.long s.keys (drop 1 s.out) c.args.watch c.requires.turns c.requires.goes settled value
 
 pub returns-else-not-is_false_before-clause-goes : goal.returns-else-not-is_false_before-clause-goes
 returns-else-not-is_false_before-clause-goes c = rw (c.put-in-None.ensures.keys, c.put-in-None.ensures.lists) (none c).goes

@@ -2,7 +2,7 @@ use Rattle.std.proofs.Common.{◌≡◌, ◌-◌, ◌≤◌, ◌+◌, length, ar
 use Rattle.mal_base.specs.NumberedClause.{NumberedClause}
 use Rattle.mal_watch.proofs.HasLemmas.{rises-once}
 use Rattle.mal_watch.proofs.FollowLemmas.{follows-short, follows-long, lists-within, with-short, with-behind}
-use Rattle.mal_watch.proofs.watch.Watcher.add.Goals as goal
+use Rattle.mal_watch.proofs.watcher.Watcher.add.Goals as goal
 
 pub returns-then-lits-lt2-clause-fits : goal.returns-then-lits-lt2-clause-fits
 returns-then-lits-lt2-clause-fits c =

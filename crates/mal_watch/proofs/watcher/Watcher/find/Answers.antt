@@ -9,8 +9,8 @@ use Rattle.mal_watch.specs.Following.{Follows}
 use Rattle.mal_watch.proofs.TurnLemmas.{turns-is}
 use Rattle.mal_watch.proofs.FoundLemmas.{out-length}
 use Rattle.mal_watch.proofs.FollowLemmas.{before-walk, after-walk, no-walk, IsFound}
-use Rattle.mal_watch.proofs.watch.Watcher.find.Goals as goal
-use Rattle.mal_watch.proofs.watch.Watcher.find.Goals.{Then-is_false_before, Else-is_false_before, After-sort}
+use Rattle.mal_watch.proofs.watcher.Watcher.find.Goals as goal
+use Rattle.mal_watch.proofs.watcher.Watcher.find.Goals.{Then-is_false_before, Else-is_false_before, After-sort}
 
 -- an entry whose literal was true before
 skipped : (c : Then-is_false_before) → Follows c.args.self.now.store.clauses c.args.self.now.store.long c.args.self.now.lists.keys c.args.self.now.lists.out c.args.self.now.lists.count (vec_capacity c.args.self.now.found) c.args.trail.now.entries (c.args.count + 1) × ([] ≡ pending (take c.args.count c.args.trail.now.entries) c.args.trail.now.entries c.args.self.now.store.clauses)

@@ -5,7 +5,7 @@ use Rattle.mal_base.specs.Literals.{var_of}
 use Rattle.mal_watch.specs.declared.found.Found.{Found}
 use Rattle.mal_watch.specs.FollowLaws.{follows-same}
 use Rattle.mal_watch.proofs.BatchLemmas.{pending-handled, pending-within}
-use Rattle.mal_watch.proofs.watch.Watcher.handle_next.Goals as goal
+use Rattle.mal_watch.proofs.watcher.Watcher.handle_next.Goals as goal
 
 pub handle-requires : goal.handle-requires
 handle-requires c =

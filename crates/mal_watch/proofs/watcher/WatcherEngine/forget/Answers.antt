@@ -2,7 +2,7 @@ use Rattle.std.proofs.Common.{◌≤◌, length, sym, ◌∙◌, arith}
 use Rattle.mal_store.specs.Arena.{is_left}
 use Rattle.mal_store.proofs.ForgetLemmas.{forgetting-order}
 use Rattle.mal_watch.proofs.FewerLemmas.{follows-fewer, fewer-length}
-use Rattle.mal_watch.proofs.watch.WatcherEngine.forget.Goals as goal
+use Rattle.mal_watch.proofs.watcher.WatcherEngine.forget.Goals as goal
 
 pub returns-clause-clauses : goal.returns-clause-clauses
 returns-clause-clauses c = c.forget-2.ensures.clauses ∙ sym (forgetting-order c.args.ids.now c.sort_ids.new.ids c.sort_ids.ensures.same c.args.self.now.store.clauses)

@@ -1,6 +1,6 @@
 use Rattle.std.proofs.Common.{arith}
 use Rattle.mal_watch.proofs.FollowLemmas.{follows-more}
-use Rattle.mal_watch.proofs.watch.WatcherEngine.reserve.Goals as goal
+use Rattle.mal_watch.proofs.watcher.WatcherEngine.reserve.Goals as goal
 
 pub returns-in_err-reserve-2-clause-fits : goal.returns-in_err-reserve-2-clause-fits
 returns-in_err-reserve-2-clause-fits c =

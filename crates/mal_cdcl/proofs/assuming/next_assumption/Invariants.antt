@@ -1,7 +1,7 @@
 use Rattle.std.proofs.Common.{◌≡◌, true, take}
 use Rattle.std.specs.List.{list_all}
 use Rattle.spec_node.specs.Value.{is_true}
-use Rattle.mal_cdcl.proofs.open.first_open.Given as goal
+use Rattle.mal_cdcl.proofs.assuming.next_assumption.Given as goal
 
 abbrev pub invariant-loop-place : goal.invariant-loop-place
 invariant-loop-place l =

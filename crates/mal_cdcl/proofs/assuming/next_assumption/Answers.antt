@@ -3,7 +3,7 @@ use Rattle.std.proofs.lemmas.List.{get_or_read}
 use Rattle.spec_node.specs.Value.{is_true}
 use Rattle.mal_order.proofs.FreeLemmas.{find-passed}
 use Rattle.mal_cdcl.proofs.PastLemmas.{open-here, open-ends}
-use Rattle.mal_cdcl.proofs.open.first_open.Goals as goal
+use Rattle.mal_cdcl.proofs.assuming.next_assumption.Goals as goal
 
 pub returns-then-not-is_true-clause-value : goal.returns-then-not-is_true-clause-value
 returns-then-not-is_true-clause-value c =
