@@ -19,9 +19,9 @@ use spec_script::Step;
 use std::alloc::Global;
 use std::marker::Model;
 
-/// A line that has a word, its first word, and the line behind it.
+/// A line that has a word, split there: its first word, and what is after it.
 #[derive(Clone, Copy)]
-pub struct Row<'a> {
+pub struct SplitLine<'a> {
     pub line: &'a [u8],
     pub first: &'a [u8],
     pub others: &'a [u8],
@@ -166,14 +166,14 @@ impl OpenJob {
     }
 
     /// After a line in this block, which is its first word and the others.
-    pub fn inside_block(self, row: Row, block: BlockReader) -> Result<OpenJob, LineRefusal>
-        requires { words_of row.line.now ≡ row.first.now ∷ words_of row.others.now }
-        ensures { Gives (λ o. o) result (inside_block row.entry.first.now (words_of row.entry.others.now) self block) }
+    pub fn inside_block(self, split: SplitLine, block: BlockReader) -> Result<OpenJob, LineRefusal>
+        requires { words_of split.line.now ≡ split.first.now ∷ words_of split.others.now }
+        ensures { Gives (λ o. o) result (inside_block split.entry.first.now (words_of split.entry.others.now) self block) }
     {
-        if row.first == b"a".as_slice() {
-            return self.after_assumptions(row.others, block);
+        if split.first == b"a".as_slice() {
+            return self.after_assumptions(split.others, block);
         }
-        let block = blocks::after_row(block, row.line)?;
+        let block = blocks::after_row(block, split.line)?;
         Ok(self.with_block(block))
     }
 

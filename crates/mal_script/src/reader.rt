@@ -9,7 +9,7 @@ ghost use Rattle.mal_script.specs.ReadResult.{Gives, of_jobs};
 use crate::asks::asked;
 use crate::fault::LineRefusal;
 use crate::limits::Limits;
-use crate::opened::{OpenJob, Row};
+use crate::opened::{OpenJob, SplitLine};
 use crate::script::ScriptJob;
 use mal_base::{Ask, LimitKind, LineFault, Name};
 use mal_dimacs::is_comment;
@@ -174,47 +174,52 @@ impl Reader {
     }
 
     /// After a line in this job and in no block, which is its first word and the others.
-    fn inside_job(self, limits: Limits, row: Row, job: OpenJob) -> Result<Reader, LineRefusal>
-        requires { words_of row.line.now ≡ row.first.now ∷ words_of row.others.now }
+    fn inside_job(
+        self,
+        limits: Limits,
+        split: SplitLine,
+        job: OpenJob,
+    ) -> Result<Reader, LineRefusal>
+        requires { words_of split.line.now ≡ split.first.now ∷ words_of split.others.now }
         ensures { Gives
-            (λ r. r) result (inside_job limits row.entry.first.now (words_of row.entry.others.now) job self) }
+            (λ r. r) result (inside_job limits split.entry.first.now (words_of split.entry.others.now) job self) }
     {
-        if row.first == b"p".as_slice() {
-            let job = job.after_header(limits, row.line)?;
+        if split.first == b"p".as_slice() {
+            let job = job.after_header(limits, split.line)?;
             return Ok(self.goes_on(job));
         }
-        if row.first == b"e".as_slice() {
-            return self.after_end(job, row.others);
+        if split.first == b"e".as_slice() {
+            return self.after_end(job, split.others);
         }
         Err(LineRefusal::Fault(LineFault::BadLine))
     }
 
     /// After a line in this job, which is its first word and the others.
-    fn inside(self, limits: Limits, row: Row, job: OpenJob) -> Result<Reader, LineRefusal>
-        requires { words_of row.line.now ≡ row.first.now ∷ words_of row.others.now }
+    fn inside(self, limits: Limits, split: SplitLine, job: OpenJob) -> Result<Reader, LineRefusal>
+        requires { words_of split.line.now ≡ split.first.now ∷ words_of split.others.now }
         ensures { Gives
-            (λ r. r) result (inside limits row.entry.first.now (words_of row.entry.others.now) job job.block self) }
+            (λ r. r) result (inside limits split.entry.first.now (words_of split.entry.others.now) job job.block self) }
     {
         let (job, block) = job.without_block();
         match block {
-            None => self.inside_job(limits, row, job),
+            None => self.inside_job(limits, split, job),
             Some(block) => {
-                let job = job.inside_block(row, block)?;
+                let job = job.inside_block(split, block)?;
                 Ok(self.goes_on(job))
             }
         }
     }
 
     /// After a line, which is its first word and the others and no comment.
-    fn after_counted(mut self, limits: Limits, row: Row) -> Result<Reader, LineRefusal>
-        requires { words_of row.line.now ≡ row.first.now ∷ words_of row.others.now }
+    fn after_counted(mut self, limits: Limits, split: SplitLine) -> Result<Reader, LineRefusal>
+        requires { words_of split.line.now ≡ split.first.now ∷ words_of split.others.now }
         ensures { Gives
             (λ r. r) result
-            (after_counted limits row.entry.first.now (words_of row.entry.others.now) self.opened self) }
+            (after_counted limits split.entry.first.now (words_of split.entry.others.now) self.opened self) }
     {
         match self.opened.take() {
-            None => self.outside(limits, row.first, row.others),
-            Some(job) => self.inside(limits, row, job),
+            None => self.outside(limits, split.first, split.others),
+            Some(job) => self.inside(limits, split, job),
         }
     }
 
@@ -228,12 +233,12 @@ impl Reader {
         if is_comment(first) {
             return Ok(self);
         }
-        let row = Row {
+        let split = SplitLine {
             line,
             first,
             others,
         };
-        self.after_counted(limits, row)
+        self.after_counted(limits, split)
     }
 
     /// The jobs of the script, where no job has begun that has not ended.
