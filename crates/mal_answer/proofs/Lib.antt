@@ -7,6 +7,6 @@ pub mod ScriptLemmas
 -- what this crate alone cites
 pub mod Decimals
 pub mod Denials
-mod Fronts
+mod Prefixes
 pub mod Counting
 mod Replaying

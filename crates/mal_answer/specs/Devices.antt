@@ -1,7 +1,7 @@
 -- What a call of the program does to its source, its log and its output.
 use Rattle.std.specs.Prelude.{◌≡◌, ◌+◌, ◌^◌, ◌≤◌, ℕ, List, [], ◌∷◌, ◌++◌, ◌⊎◌, length, codes, Option}
 use Rattle.std.specs.Io.KnownBytes.{Consumes, Appends, IsAtEnd}
-use Rattle.mal_io.specs.Moves.{GotFront, Rose}
+use Rattle.mal_io.specs.Moves.{GotPrefix, Rose}
 
 -- what a device tells of a call: its bytes before and after (those that a source has left, those that a sink has got;
 -- maybe none are told), and how many faults it has counted
@@ -29,12 +29,12 @@ pub record Gave (source : Device) (text : List ℕ) : Type 0 where
 abbrev pub GaveTooMuch : Device → Type 0
 GaveTooMuch source = (taken : List ℕ) × Consumes source.bytes source.bytes_now taken × (length taken ≡ 2 ^ 26 + 1)
 
--- a sink gained a text; it gained a front of a text, and nothing else
+-- a sink gained a text; it gained a prefix of a text, and nothing else
 abbrev pub Gained : Device → List ℕ → Type 0
 Gained sink text = Appends sink.bytes sink.bytes_now text
 
-abbrev pub GainedFront : Device → List ℕ → Type 0
-GainedFront sink text = (front : List ℕ) × GotFront sink.bytes sink.bytes_now text front
+abbrev pub GainedPrefix : Device → List ℕ → Type 0
+GainedPrefix sink text = (prefix : List ℕ) × GotPrefix sink.bytes sink.bytes_now text prefix
 
 -- both sinks gained nothing
 abbrev pub AreSilent : Device → Device → Type 0
@@ -44,14 +44,14 @@ AreSilent log out = Gained log [] × Gained out []
 abbrev pub WroteWhole : Device → Device → List ℕ → List ℕ → Type 0
 WroteWhole log out log_text out_text = Gained log log_text × Gained out out_text
 
--- a front of the log's text and nothing else was written, or the log's text and a front of the output's
+-- a prefix of the log's text and nothing else was written, or the log's text and a prefix of the output's
 abbrev pub WrotePart : Device → Device → List ℕ → List ℕ → Type 0
 WrotePart log out log_text out_text =
-    (GainedFront log log_text × Gained out []) ⊎ (Gained log log_text × GainedFront out out_text)
+    (GainedPrefix log log_text × Gained out []) ⊎ (Gained log log_text × GainedPrefix out out_text)
 
--- the log gained a front of a line, all of it where its count of faults did not rise; the output gained nothing
+-- the log gained a prefix of a line, all of it where its count of faults did not rise; the output gained nothing
 pub record Complained (log out : Device) (line : List ℕ) : Type 0 where
-  pub front : GainedFront log line
+  pub prefix : GainedPrefix log line
   pub whole : (Failed log → ⊥) → Gained log line
   pub unanswered : Gained out []
 

@@ -16,7 +16,7 @@ pub record IsDone (c : Command) (source log out : Device) : Type 0 where
   pub given : IsGiven c source
   pub wrote : WroteWhole log out given.log_text given.out_text
 
--- status 5: the same, but a sink failed, and what was written is a front of the log's text and then of the output's
+-- status 5: the same, but a sink failed, and what was written is a prefix of the log's text and then of the output's
 pub record IsCutShort (c : Command) (source log out : Device) : Type 0 where
   pub given : IsGiven c source
   pub wrote : WrotePart log out given.log_text given.out_text

@@ -1,7 +1,7 @@
 //! The statuses, and what is written with each.
 
 ghost use Rattle.std.specs.Prelude.{◌≡◌, ◌⊎◌, OnOk, OnErr};
-ghost use Rattle.mal_answer.specs.{Answers.{IsConcluded, IsFinished, hall_text, logged}, Devices.{Failed, Gained, GainedFront, WroteWhole, WrotePart, device}};
+ghost use Rattle.mal_answer.specs.{Answers.{IsConcluded, IsFinished, hall_text, logged}, Devices.{Failed, Gained, GainedPrefix, WroteWhole, WrotePart, device}};
 
 use crate::answer::{Complaint, Texts};
 use mal_hall::Hall;
@@ -86,7 +86,7 @@ fn write_both<K: Sink, L: Sink>(texts: &Texts, out: &mut K, log: &mut L) -> Resu
 /// Writes the text for the log, that of each history behind that of the one before it.
 fn write_log<L: Sink>(log: &mut L, halls: &[Hall]) -> Result<(), WriteFault>
     ensures whole { OnOk result (Gained (device L.got L.faults log.old log.new) (logged halls.now)) }
-    ensures front { GainedFront (device L.got L.faults log.old log.new) (logged halls.now) }
+    ensures prefix { GainedPrefix (device L.got L.faults log.old log.new) (logged halls.now) }
     ensures cause { OnErr result (Failed (device L.got L.faults log.old log.new)) }
 {
     for hall in halls {
@@ -98,7 +98,7 @@ fn write_log<L: Sink>(log: &mut L, halls: &[Hall]) -> Result<(), WriteFault>
 /// Writes the text of the history of a hall.
 fn write_history<L: Sink>(log: &mut L, hall: &Hall) -> Result<(), WriteFault>
     ensures whole { OnOk result (Gained (device L.got L.faults log.old log.new) (hall_text hall.now)) }
-    ensures front { GainedFront (device L.got L.faults log.old log.new) (hall_text hall.now) }
+    ensures prefix { GainedPrefix (device L.got L.faults log.old log.new) (hall_text hall.now) }
     ensures cause { OnErr result (Failed (device L.got L.faults log.old log.new)) }
     ensures counted { OnOk result (L.faults log.new ≡ L.faults log.old) }
 {
@@ -107,7 +107,7 @@ fn write_history<L: Sink>(log: &mut L, hall: &Hall) -> Result<(), WriteFault>
 
 /// Writes a line to the log, as far as the log takes it.
 pub fn complain<L: Sink>(log: &mut L, line: &[u8])
-    ensures front { GainedFront (device L.got L.faults log.old log.new) line.now }
+    ensures prefix { GainedPrefix (device L.got L.faults log.old log.new) line.now }
     ensures whole { (Failed (device L.got L.faults log.old log.new) → ⊥)
         → Gained (device L.got L.faults log.old log.new) line.now }
 {

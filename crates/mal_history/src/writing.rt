@@ -3,7 +3,7 @@
 ghost use Rattle.std.specs.Prelude.{◌≡◌, ◌≤◌, List, ℕ, ◌∷◌, ◌++◌, map, flat_map, codes, IfOk, OnOk, OnErr};
 ghost use Rattle.std.specs.Io.KnownBytes.{Appends};
 ghost use Rattle.spec_text.specs.Lines.{line_of};
-ghost use Rattle.mal_io.specs.Moves.{Rose, GotFront};
+ghost use Rattle.mal_io.specs.Moves.{Rose, GotPrefix};
 ghost use Rattle.mal_history.specs.{Shared.{shared}, Text.{outcome_word, assignment_words, share_words, event_words, is_of_version_2, version_of, header_words, history_text}, declared.event.Event.TheVariants.{Open, Revise}};
 
 use crate::event::{Assignment, Event, Share};
@@ -26,13 +26,13 @@ pub fn write(alloc: Global, history: &History) -> Result<Vec<u8>, AllocError>
     Ok(out)
 }
 
-/// Hands the text of a history to `sink`, some 16,000 bytes at a time; its count of faults then stays. After a fault the
-/// sink got a front of the text. It takes no memory.
+/// Hands the text of a history to `sink`, some 16,000 bytes at a time; its count of faults then stays. After a fault
+/// the sink got a prefix of the text. It takes no memory.
 pub fn write_to<K: Sink>(sink: &mut K, history: &History) -> Result<(), WriteFault>
     ensures all { OnOk result
         (Appends (K.got sink.old) (K.got sink.new) (history_text history.now.workers history.now.events)) }
-    ensures front { (front : List ℕ)
-        × GotFront (K.got sink.old) (K.got sink.new) (history_text history.now.workers history.now.events) front }
+    ensures prefix { (prefix : List ℕ)
+        × GotPrefix (K.got sink.old) (K.got sink.new) (history_text history.now.workers history.now.events) prefix }
     ensures later { K.faults sink.old ≤ K.faults sink.new }
     ensures cause { OnErr result (Rose (K.faults sink.old) (K.faults sink.new)) }
     ensures counted { OnOk result (K.faults sink.new ≡ K.faults sink.old) }
@@ -188,8 +188,8 @@ fn put_share<T: Taker>(out: &mut T, share: &Share) -> Result<(), T::Fault>
     put_words(out, &words)
 }
 
-/// Puts the line of a start of a node on a worker, or of its end: the word `first`, the words of the node and its worker,
-/// and the words `others`.
+/// Puts the line of a start of a node on a worker, or of its end: the word `first`, the words of the node and its
+/// worker, and the words `others`.
 fn put_node<T: Taker>(
     out: &mut T,
     first: &[u8],

@@ -5,14 +5,14 @@ use Rattle.std.specs.declared.option.Option.{Option}
 use Rattle.std.specs.Io.KnownBytes.{Appends, Consumes}
 
 -- two gains, one after the other
-pub gains_more : (old mid new : Option (List ℕ)) (front rest : List ℕ) → Appends old mid front → Appends mid new rest → Appends old new (front ++ rest)
+pub gains_more : (old mid new : Option (List ℕ)) (prefix rest : List ℕ) → Appends old mid prefix → Appends mid new rest → Appends old new (prefix ++ rest)
 gains_more = Appends-trans
 
 -- two pieces taken, one after the other
-pub takes_more : (old mid new : Option (List ℕ)) (front rest : List ℕ) → Consumes old mid front → Consumes mid new rest → Consumes old new (front ++ rest)
+pub takes_more : (old mid new : Option (List ℕ)) (prefix rest : List ℕ) → Consumes old mid prefix → Consumes mid new rest → Consumes old new (prefix ++ rest)
 takes_more = Consumes-trans
 
--- cutting a piece off what is left of a text moves it to the front that was seen
-pub front_grows : (text front rest : List ℕ) (count : ℕ) → text ≡ front ++ rest → text ≡ (front ++ take count rest) ++ drop count rest
-front_grows text front rest count split =
-    split ∙ ap (λ (left : List ℕ). front ++ left) (sym (take-append-drop count rest)) ∙ sym (append_assoc front (take count rest) (drop count rest))
+-- cutting a piece off what is left of a text moves it to the prefix that was seen
+pub prefix_grows : (text prefix rest : List ℕ) (count : ℕ) → text ≡ prefix ++ rest → text ≡ (prefix ++ take count rest) ++ drop count rest
+prefix_grows text prefix rest count split =
+    split ∙ ap (λ (left : List ℕ). prefix ++ left) (sym (take-append-drop count rest)) ∙ sym (append_assoc prefix (take count rest) (drop count rest))

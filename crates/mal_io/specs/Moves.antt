@@ -13,10 +13,10 @@ pub record HasTaken (before now : Option (List ℕ)) (max : ℕ) (too_long : Typ
   pub bounded : length taken ≤ max + 1
   pub exact : too_long ↔ (length taken ≡ max + 1)
 
--- a sink gained a front of the text, and nothing else
-pub record GotFront (old new : Option (List ℕ)) (text front : List ℕ) : Type 0 where
-  pub gained : Appends old new front
-  pub split : (rest : List ℕ) × (text ≡ front ++ rest)
+-- a sink gained a prefix of the text, and nothing else
+pub record GotPrefix (old new : Option (List ℕ)) (text prefix : List ℕ) : Type 0 where
+  pub gained : Appends old new prefix
+  pub split : (rest : List ℕ) × (text ≡ prefix ++ rest)
 
 -- the call after so many calls is one of those that are told to fail
 abbrev pub FailsNext : List ℕ → ℕ → Type 0

@@ -1,7 +1,7 @@
 //! Reading a source to its end, and writing the whole of a text.
 ghost use Rattle.std.specs.Prelude.{◌≡◌, ◌≤◌, ◌+◌, ℕ, List, length, IfOk, OnOk, OnErr, IsErrOf};
 ghost use Rattle.std.specs.Io.KnownBytes.{Consumes, Appends, IsAtEnd};
-ghost use Rattle.mal_io.specs.Moves.{Rose, HasTaken, GotFront};
+ghost use Rattle.mal_io.specs.Moves.{Rose, HasTaken, GotPrefix};
 
 use crate::device::{Sink, Source};
 use std::alloc::Global;
@@ -59,11 +59,11 @@ pub fn read_all<S: Source>(alloc: Global, source: &mut S, max: u32) -> Result<Ve
     }
 }
 
-/// Hands all of `bytes` to `sink`, whose count of faults then stays. After a fault the sink got a front of them. It
+/// Hands all of `bytes` to `sink`, whose count of faults then stays. After a fault the sink got a prefix of them. It
 /// takes no memory.
 pub fn write_all<K: Sink>(sink: &mut K, bytes: &[u8]) -> Result<(), WriteFault>
     ensures all { OnOk result (Appends (K.got sink.old) (K.got sink.new) bytes.now) }
-    ensures front { (front : List ℕ) × GotFront (K.got sink.old) (K.got sink.new) bytes.now front }
+    ensures prefix { (prefix : List ℕ) × GotPrefix (K.got sink.old) (K.got sink.new) bytes.now prefix }
     ensures later { K.faults sink.old ≤ K.faults sink.new }
     ensures cause { OnErr result (Rose (K.faults sink.old) (K.faults sink.new)) }
     ensures counted { OnOk result (K.faults sink.new ≡ K.faults sink.old) }

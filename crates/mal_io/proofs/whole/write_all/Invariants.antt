@@ -4,7 +4,7 @@ use Rattle.mal_io.proofs.whole.write_all.Given as goal
 
 abbrev pub invariant-pieces : goal.invariant-pieces
 invariant-pieces g l = let sink = g.K.Sink in record {
-  gained : (front : List ℕ) × (l.bytes ≡ front ++ l.rest) × Appends (sink.got l.fn.sink) (sink.got l.sink) front;
+  gained : (prefix : List ℕ) × (l.bytes ≡ prefix ++ l.rest) × Appends (sink.got l.fn.sink) (sink.got l.sink) prefix;
   counted : sink.faults l.sink ≡ sink.faults l.fn.sink;
 }
 
