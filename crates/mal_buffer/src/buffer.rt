@@ -1,7 +1,7 @@
 //! Buffers, merging and cutting.
 
 ghost use Rattle.std.specs.Prelude.{◌≡◌, ◌+◌, ◌-◌, ◌<◌, ◌≤◌, List, [], ◌∷◌, ◌++◌, length, take, IfOk, OnOk};
-ghost use Rattle.spec_exchange.specs.{Exchange.{union, front, lesser, merged}, Order.{IsSorted}};
+ghost use Rattle.spec_exchange.specs.{Exchange.{union, prefix, lesser, merged}, Order.{IsSorted}};
 
 use crate::order::clause_order;
 use mal_base::{Clause, ClauseId, NumberedClause};
@@ -71,12 +71,12 @@ impl Buffer {
         Ok(Buffer { entries })
     }
 
-    /// Keeps the longest front that has at most so many literals. Takes no memory.
+    /// Keeps the longest prefix that has at most so many literals. Takes no memory.
     pub fn cut(&mut self, literals: usize)
-        ensures front { self.new ≡ front literals self.old }
+        ensures prefix { self.new ≡ prefix literals self.old }
         ensures was_sorted { IsSorted self.old }
     {
-        let kept = front_len(self.entries.as_slice(), literals);
+        let kept = prefix_len(self.entries.as_slice(), literals);
         self.entries.truncate(kept);
     }
 }
@@ -136,10 +136,10 @@ fn lesser<'a>(x: &'a NumberedClause, y: &'a NumberedClause) -> &'a NumberedClaus
     }
 }
 
-/// How many entries the longest front of at most so many literals has.
-fn front_len(entries: &[NumberedClause], literals: usize) -> usize
+/// How many entries the longest prefix of at most so many literals has.
+fn prefix_len(entries: &[NumberedClause], literals: usize) -> usize
     ensures within { result ≤ length entries.now }
-    ensures front { take result entries.now ≡ front literals entries.now }
+    ensures prefix { take result entries.now ≡ prefix literals entries.now }
 {
     let mut room = literals;
     for place in 0..entries.len() {

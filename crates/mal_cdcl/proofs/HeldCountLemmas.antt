@@ -20,7 +20,7 @@ use Rattle.spec_learn.specs.Learning.{analysis, derived_id}
 use Rattle.spec_learn.specs.Refuting.{core_analysis}
 use Rattle.spec_learn.specs.Dropping.{to_drop}
 use Rattle.spec_search.specs.Step.{Case, Learns, Refutes, Propagates, Drops, Restarts, Contradicts, Assumes, Decides, Ends, after_case}
-use Rattle.mal_cdcl.specs.ImportSizes.{told_clauses}
+use Rattle.mal_cdcl.specs.ImportSizes.{import_clauses}
 use Rattle.mal_cdcl.specs.Ready.{readied, clauses_in}
 use Rattle.mal_cdcl.specs.Importing.{with_pick, with_picks, all_imported}
 use Rattle.mal_cdcl.specs.Sliced.{IsProfile}
@@ -128,7 +128,7 @@ pick-leaves new n = by-pick (λ m. PickLeaves n m) new n (record { profile = ref
 -- lists that are imported one after another leave a node its profile
 pub imports-has_profile : (imports : List (List NumberedClause)) (n : Node) → has_profile n ≡ true → has_profile (all_imported imports n) ≡ true
 imports-has_profile [] n h = h
-imports-has_profile (told ∷ more) n h = imports-has_profile more (imported told n) (by-pick (λ (m : Node). has_profile m ≡ true) (taken told n.clauses) n h h)
+imports-has_profile (exported ∷ more) n h = imports-has_profile more (imported exported n) (by-pick (λ (m : Node). has_profile m ≡ true) (taken exported n.clauses) n h h)
 
 -- a first node has the profile that it is made with
 pub fresh-has_profile : (index profile : ℕ) → IsProfile profile → has_profile (fresh_with index profile) ≡ true
@@ -137,7 +137,7 @@ fresh-has_profile index (suc zero) h = refl
 fresh-has_profile index (suc (suc zero)) h = refl
 fresh-has_profile index (suc (suc (suc p))) h = absurd (omega (arith, h.1))
 
-picks-held : (ps : List (List NumberedClause)) (n : Node) → length (with_picks ps n).clauses ≤ length n.clauses + told_clauses ps
+picks-held : (ps : List (List NumberedClause)) (n : Node) → length (with_picks ps n).clauses ≤ length n.clauses + import_clauses ps
 picks-held [] n = omega arith
 picks-held (new ∷ more) n =
     let here : length (with_pick new n).clauses ≡ length (with_clauses new n.clauses) = ap (λ (cs : List NumberedClause). length cs) (pick-clauses new n) in
@@ -149,7 +149,7 @@ picks-profile (new ∷ more) n = picks-profile more (with_pick new n) ∙ (pick-
 
 -- room for the numbers of the clauses held before loads and imports, of theirs, and of so many more is room for those
 -- held after
-pub ready-ids : (loads : List (Posted × ℕ)) (picks : List (List NumberedClause)) (start end : Node) (ids : ℕ) → end ≡ with_picks picks (readied loads start) → (start.profile ≡ 2 → length start.clauses + (clauses_in loads + told_clauses picks + 1000) ≤ ids) → end.profile ≡ 2 → length end.clauses + 1000 ≤ ids
+pub ready-ids : (loads : List (Posted × ℕ)) (picks : List (List NumberedClause)) (start end : Node) (ids : ℕ) → end ≡ with_picks picks (readied loads start) → (start.profile ≡ 2 → length start.clauses + (clauses_in loads + import_clauses picks + 1000) ≤ ids) → end.profile ≡ 2 → length end.clauses + 1000 ≤ ids
 ready-ids loads picks start end ids is room two =
     let profile : end.profile ≡ start.profile = ap (λ (n : Node). n.profile) is ∙ (picks-profile picks (readied loads start) ∙ readied-profile loads start) in
     let held : length end.clauses ≡ length (with_picks picks (readied loads start)).clauses = ap (λ (n : Node). length n.clauses) is in

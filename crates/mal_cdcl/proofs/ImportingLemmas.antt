@@ -13,7 +13,7 @@ use Rattle.spec_node.specs.Sound.{AreLiteralsOf, NumbersRise}
 use Rattle.spec_node.specs.Laws.{MayImport}
 use Rattle.spec_node.proofs.ImportLemmas.{All-passed, All-with_clauses, own-passed, taken-apart, numbers-with_clauses}
 use Rattle.mal_cdcl.specs.Within.{NodeWithRoom, NodeRoom}
-use Rattle.mal_cdcl.specs.ImportSizes.{lits_in, told_clauses}
+use Rattle.mal_cdcl.specs.ImportSizes.{lits_in, import_clauses}
 use Rattle.mal_cdcl.specs.Ready.{readied, clauses_in, HasRoomFor}
 use Rattle.mal_cdcl.specs.Sliced.{HasSliceRoom, Keeps}
 use Rattle.mal_cdcl.specs.Importing.{all_imported, MayImportAll, picked, with_pick, with_picks, AreNewTo, AreAllNew}
@@ -39,24 +39,24 @@ within-new v new held h w = all-within v (with_clauses new held) (All-with_claus
 pub rising-new : (v : ℕ) (new held : List NumberedClause) → AreNewTo held v new → NumbersRise 1 held → NumbersRise 1 (with_clauses new held)
 rising-new v new held h r = numbers-with_clauses 1 new held h.some h.own h.apart r
 
--- what is taken of what may be told is new
-taken-new : (told : List NumberedClause) (n : Node) → MayImport told n → AreNewTo n.clauses n.variables (taken told n.clauses)
-taken-new told n h =
+-- what is taken of what may be imported is new
+taken-new : (exported : List NumberedClause) (n : Node) → MayImport exported n → AreNewTo n.clauses n.variables (taken exported n.clauses)
+taken-new exported n h =
     let test : NumberedClause → Bool = λ x. not (has_lits x.lits n.clauses) in
     record {
-      some = All-passed (λ x. 1 ≤ x.id) test told (All-weaker (λ x. is_derived x ≡ true) (λ x. 1 ≤ x.id) (λ x k. let high : 2 ^ 32 ≤ x.id = leb-true (2 ^ 32) x.id k in omega arith) told h.derived);
-      within = All-passed (λ x. AreLiteralsOf n.variables x.lits) test told h.within;
-      own = own-passed test told h.apart;
-      apart = taken-apart told n.clauses h.agree;
+      some = All-passed (λ x. 1 ≤ x.id) test exported (All-weaker (λ x. is_derived x ≡ true) (λ x. 1 ≤ x.id) (λ x k. let high : 2 ^ 32 ≤ x.id = leb-true (2 ^ 32) x.id k in omega arith) exported h.derived);
+      within = All-passed (λ x. AreLiteralsOf n.variables x.lits) test exported h.within;
+      own = own-passed test exported h.apart;
+      apart = taken-apart exported n.clauses h.agree;
     }
 
 picked-new : (imports : List (List NumberedClause)) (n : Node) → MayImportAll imports n → AreAllNew (picked imports n.clauses) n
 picked-new [] n h = tt
-picked-new (told ∷ more) n h = (taken-new told n h.0, subst (λ (cs : List NumberedClause). AreAllNew (picked more cs) (imported told n)) (pick-clauses (taken told n.clauses) n) (picked-new more (imported told n) h.1))
+picked-new (exported ∷ more) n h = (taken-new exported n h.0, subst (λ (cs : List NumberedClause). AreAllNew (picked more cs) (imported exported n)) (pick-clauses (taken exported n.clauses) n) (picked-new more (imported exported n) h.1))
 
 picked-done : (imports : List (List NumberedClause)) (n : Node) → with_picks (picked imports n.clauses) n ≡ all_imported imports n
 picked-done [] n = refl
-picked-done (told ∷ more) n = ap (λ (cs : List NumberedClause). with_picks (picked more cs) (imported told n)) (sym (pick-clauses (taken told n.clauses) n)) ∙ picked-done more (imported told n)
+picked-done (exported ∷ more) n = ap (λ (cs : List NumberedClause). with_picks (picked more cs) (imported exported n)) (sym (pick-clauses (taken exported n.clauses) n)) ∙ picked-done more (imported exported n)
 
 -- what is left to import of some picks: this node is reached with them, they are new, and there is room for them, in a
 -- scratch of this bound too
@@ -157,7 +157,7 @@ importing-ends picks i target bound now l h =
     }
 
 -- the scratch has room for the numbers of all clauses that are held then
-pub importing-ids : (loads : List (Posted × ℕ)) (imports picks : List (List NumberedClause)) (start end : Node) (ids : ℕ) → picks ≡ picked imports (readied loads start).clauses → end ≡ all_imported imports (readied loads start) → (start.profile ≡ 2 → length start.clauses + (clauses_in loads + told_clauses picks + 1000) ≤ ids) → end.profile ≡ 2 → length end.clauses + 1000 ≤ ids
+pub importing-ids : (loads : List (Posted × ℕ)) (imports picks : List (List NumberedClause)) (start end : Node) (ids : ℕ) → picks ≡ picked imports (readied loads start).clauses → end ≡ all_imported imports (readied loads start) → (start.profile ≡ 2 → length start.clauses + (clauses_in loads + import_clauses picks + 1000) ≤ ids) → end.profile ≡ 2 → length end.clauses + 1000 ≤ ids
 importing-ids loads imports picks start end ids is done room =
     let same : end ≡ with_picks picks (readied loads start) = done ∙ (sym (picked-done imports (readied loads start)) ∙ ap (λ (ps : List (List NumberedClause)). with_picks ps (readied loads start)) (sym is)) in
     ready-ids loads picks start end ids same room

@@ -28,8 +28,8 @@ most-more [] a b h = h
 most-more (l ∷ ls) a b h = most-more ls (max a (length l.0.assumptions)) (max b (length l.0.assumptions)) (omega arith)
 
 -- room for loads is room for the first
-pub room-head : (l : Posted × ℕ) (ls : List (Posted × ℕ)) (told : List (List NumberedClause)) (n : NodeWithRoom) → HasRoomFor (l ∷ ls) told n → HasRoomFor (l ∷ []) [] n
-room-head l ls told n h =
+pub room-head : (l : Posted × ℕ) (ls : List (Posted × ℕ)) (exported : List (List NumberedClause)) (n : NodeWithRoom) → HasRoomFor (l ∷ ls) exported n → HasRoomFor (l ∷ []) [] n
+room-head l ls exported n h =
     let g = greatest-least ls (max n.state.variables l.0.variables) in
     record {
       trail = omega (arith, g, h.trail);
@@ -47,14 +47,14 @@ room-head l ls told n h =
 
 -- what is left to do of some loads: the node is ready after it, its numbers are new, and there is room for it, in a
 -- scratch of this bound too
-pub record IsReadying (left all : List (Posted × ℕ)) (told : List (List NumberedClause)) (start : Node) (bound : ℕ) (now : NodeWithRoom) : Type 0 where
+pub record IsReadying (left all : List (Posted × ℕ)) (exported : List (List NumberedClause)) (start : Node) (bound : ℕ) (now : NodeWithRoom) : Type 0 where
   pub done : readied left now.state ≡ readied all start
   pub new : AreNew left now.state
-  pub room : HasRoomFor left told now
+  pub room : HasRoomFor left exported now
   pub fitted : greatest left now.state.variables < bound
 
-pub readying-next : (l : Posted × ℕ) (ls all : List (Posted × ℕ)) (told : List (List NumberedClause)) (start : Node) (bound : ℕ) (now next : NodeWithRoom) → IsReadying (l ∷ ls) all told start bound now → next.state ≡ loaded l.0 l.1 now.state → IsSpared l.0 now next → IsReadying ls all told start bound next
-readying-next l ls all told start bound now next h is s =
+pub readying-next : (l : Posted × ℕ) (ls all : List (Posted × ℕ)) (exported : List (List NumberedClause)) (start : Node) (bound : ℕ) (now next : NodeWithRoom) → IsReadying (l ∷ ls) all exported start bound now → next.state ≡ loaded l.0 l.1 now.state → IsSpared l.0 now next → IsReadying ls all exported start bound next
+readying-next l ls all exported start bound now next h is s =
     let v : next.state.variables ≡ max now.state.variables l.0.variables = ap (λ (n : Node). n.variables) is in
     record {
       done = rw is h.done;

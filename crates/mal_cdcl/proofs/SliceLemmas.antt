@@ -3,9 +3,9 @@ use Rattle.mal_base.specs.NumberedClause.{Line}
 use Rattle.spec_node.specs.State.{Node}
 use Rattle.spec_node.specs.Sound.{IsSound}
 use Rattle.spec_search.specs.Step.{case_of, step, next_line}
-use Rattle.spec_search.specs.Slice.{Sliced, behind, steps_from, is_over, used_after}
+use Rattle.spec_search.specs.Slice.{Sliced, after_line, steps_from, is_over, used_after}
 use Rattle.spec_search.proofs.CountLemmas.{Rise, case-rise}
-use Rattle.spec_search.proofs.SliceLemmas.{behind-node}
+use Rattle.spec_search.proofs.SliceLemmas.{after_line-node}
 use Rattle.spec_search.proofs.SoundLemmas.{step-sound}
 use Rattle.spec_search.proofs.ModelLemmas.{step-leaves}
 use Rattle.mal_learn.specs.Shown.{Shown}
@@ -13,16 +13,16 @@ use Rattle.mal_cdcl.specs.Within.{NodeWithRoom}
 use Rattle.mal_cdcl.proofs.HeldCountLemmas.{case-held}
 use Rattle.mal_cdcl.specs.Sliced.{HasStepRoom, HasIdRoom, and_line, IsStepped}
 
-steps-next : (k used : ℕ) (n : Node) → is_over used n ≡ false → steps_from (suc k) used n ≡ behind (next_line n) (steps_from k (used_after used (next_line n)) (step n))
+steps-next : (k used : ℕ) (n : Node) → is_over used n ≡ false → steps_from (suc k) used n ≡ after_line (next_line n) (steps_from k (used_after used (next_line n)) (step n))
 steps-next k used n h = rw h refl
 
 steps-ended : (k used : ℕ) (n : Node) → is_over used n ≡ true → steps_from k used n ≡ record { node = n; lines = [] }
 steps-ended zero used n h = refl
 steps-ended (suc k) used n h = rw h refl
 
-behind-lines : (ls : List Line) (o : Option Line) (s : Sliced) → ls ++ (behind o s).lines ≡ and_line ls o ++ s.lines
-behind-lines ls None s = refl
-behind-lines ls (Some l) s = sym (append_assoc ls (l ∷ []) s.lines)
+after_line-lines : (ls : List Line) (o : Option Line) (s : Sliced) → ls ++ (after_line o s).lines ≡ and_line ls o ++ s.lines
+after_line-lines ls None s = refl
+after_line-lines ls (Some l) s = sym (append_assoc ls (l ∷ []) s.lines)
 
 -- what is left of a slice: so many steps, before which so many literals and hints were derived, give what the whole
 -- gives
@@ -43,12 +43,12 @@ pub slicing-next : (k used u : ℕ) (start now next : NodeWithRoom) → IsSlicin
 slicing-next k used u start now next h s =
     let line : Option Line = next_line now.state in
     let rest : Sliced = steps_from k (used_after used line) (step now.state) in
-    let whole : steps_from (suc k) used now.state ≡ behind line rest = steps-next k used now.state s.on in
+    let whole : steps_from (suc k) used now.state ≡ after_line line rest = steps-next k used now.state s.on in
     let after : steps_from k u next.state ≡ rest = rw (s.numbers, s.state) refl in
     let rises : Rise 1 now.state (step now.state) = case-rise (case_of now.state) now.state in
     record {
-      node = rw after (sym (behind-node line rest) ∙ (sym (ap (λ (x : Sliced). x.node) whole) ∙ h.node));
-      lines = rw (after, s.lines) (sym (behind-lines now.lines line rest) ∙ (sym (ap (λ (x : Sliced). now.lines ++ x.lines) whole) ∙ h.lines));
+      node = rw after (sym (after_line-node line rest) ∙ (sym (ap (λ (x : Sliced). x.node) whole) ∙ h.node));
+      lines = rw (after, s.lines) (sym (after_line-lines now.lines line rest) ∙ (sym (ap (λ (x : Sliced). now.lines ++ x.lines) whole) ∙ h.lines));
       sound = rw s.state (step-sound now.state h.sound);
       room = s.room k h.room;
       variables = ap (λ (n : Node). n.variables) s.state ∙ ((step-leaves now.state).variables ∙ h.variables);

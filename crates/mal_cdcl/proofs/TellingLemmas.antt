@@ -45,15 +45,15 @@ new-rest c cs held v h =
     }
 
 -- what is left to do of some clauses that are added to those held
-pub record IsTelling (left told start held : List NumberedClause) (made now : Room) : Type 0 where
-  pub done : with_clauses left held ≡ with_clauses told start
+pub record IsTelling (left exported start held : List NumberedClause) (made now : Room) : Type 0 where
+  pub done : with_clauses left held ≡ with_clauses exported start
   pub new : AreNewTo held made.variables left
   pub variables : made.variables ≤ now.variables
-  pub clause_room : made.clauses + length left ≤ now.clauses + length told
-  pub literal_room : made.literals + lits_in left ≤ now.literals + lits_in told
+  pub clause_room : made.clauses + length left ≤ now.clauses + length exported
+  pub literal_room : made.literals + lits_in left ≤ now.literals + lits_in exported
 
-pub telling-begins : (told held : List NumberedClause) (room : Room) → AreNewTo held room.variables told → IsTelling told told held held room room
-telling-begins told held room h = record { done = refl; new = h; variables = omega arith; clause_room = omega arith; literal_room = omega arith }
+pub telling-begins : (exported held : List NumberedClause) (room : Room) → AreNewTo held room.variables exported → IsTelling exported exported held held room room
+telling-begins exported held room h = record { done = refl; new = h; variables = omega arith; clause_room = omega arith; literal_room = omega arith }
 
 -- a clause that is left can be added
 pub record MayTell (c : NumberedClause) (held : List NumberedClause) (now : Room) : Type 0 where
@@ -61,15 +61,15 @@ pub record MayTell (c : NumberedClause) (held : List NumberedClause) (now : Room
   pub form : rises c.lits ≡ true
   pub room : IsRoomFor c.lits now
 
-drop-at : (told : List NumberedClause) (i : ℕ) (c d : NumberedClause) → i < length told → c ≡ get_or told i d → drop i told ≡ c ∷ drop (i + 1) told
+drop-at : (exported : List NumberedClause) (i : ℕ) (c d : NumberedClause) → i < length exported → c ≡ get_or exported i d → drop i exported ≡ c ∷ drop (i + 1) exported
 drop-at [] i c d l e = absurd (omega arith)
 drop-at (x ∷ xs) zero c d l e = rw e refl
 drop-at (x ∷ xs) (suc i) c d l e =
     let more : suc i + 1 ≡ suc (i + 1) = omega arith in
     rw more (drop-at xs i c d (omega arith) e)
 
-may-tell_first : (c : NumberedClause) (cs told start held : List NumberedClause) (made now : Room) → length told ≤ made.clauses → lits_in told ≤ made.literals → IsTelling (c ∷ cs) told start held made now → MayTell c held now
-may-tell_first c cs told start held made now cr lr h =
+may-tell_first : (c : NumberedClause) (cs exported start held : List NumberedClause) (made now : Room) → length exported ≤ made.clauses → lits_in exported ≤ made.literals → IsTelling (c ∷ cs) exported start held made now → MayTell c held now
+may-tell_first c cs exported start held made now cr lr h =
     let lits : AreLiteralsOf made.variables c.lits = All-head (λ x. AreLiteralsOf made.variables x.lits) c cs h.new.within in
     record {
       new = not-under c.id held (All-head (λ x. All (λ d. x.id ≢ d.id) held) c cs h.new.apart);
@@ -81,11 +81,11 @@ may-tell_first c cs told start held made now cr lr h =
       };
     }
 
-pub may-tell : (i : ℕ) (c d : NumberedClause) (told start held : List NumberedClause) (made now : Room) → i < length told → c ≡ get_or told i d → length told ≤ made.clauses → lits_in told ≤ made.literals → IsTelling (drop i told) told start held made now → MayTell c held now
-may-tell i c d told start held made now l e cr lr h = may-tell_first c (drop (i + 1) told) told start held made now cr lr (rw (drop-at told i c d l e) at h)
+pub may-tell : (i : ℕ) (c d : NumberedClause) (exported start held : List NumberedClause) (made now : Room) → i < length exported → c ≡ get_or exported i d → length exported ≤ made.clauses → lits_in exported ≤ made.literals → IsTelling (drop i exported) exported start held made now → MayTell c held now
+may-tell i c d exported start held made now l e cr lr h = may-tell_first c (drop (i + 1) exported) exported start held made now cr lr (rw (drop-at exported i c d l e) at h)
 
-telling-first : (c : NumberedClause) (cs told start held : List NumberedClause) (made now next : Room) → IsLeft 1 (length c.lits) now next → IsTelling (c ∷ cs) told start held made now → IsTelling cs told start (with_clause c held) made next
-telling-first c cs told start held made now next left h =
+telling-first : (c : NumberedClause) (cs exported start held : List NumberedClause) (made now next : Room) → IsLeft 1 (length c.lits) now next → IsTelling (c ∷ cs) exported start held made now → IsTelling cs exported start (with_clause c held) made next
+telling-first c cs exported start held made now next left h =
     record {
       done = h.done;
       new = new-rest c cs held made.variables h.new;
@@ -94,5 +94,5 @@ telling-first c cs told start held made now next left h =
       literal_room = omega (arith, h.literal_room, left.literals);
     }
 
-pub telling-next : (i : ℕ) (c d : NumberedClause) (told start held : List NumberedClause) (made now next : Room) → i < length told → c ≡ get_or told i d → IsLeft 1 (length c.lits) now next → IsTelling (drop i told) told start held made now → IsTelling (drop (i + 1) told) told start (with_clause c held) made next
-telling-next i c d told start held made now next l e left h = telling-first c (drop (i + 1) told) told start held made now next left (rw (drop-at told i c d l e) at h)
+pub telling-next : (i : ℕ) (c d : NumberedClause) (exported start held : List NumberedClause) (made now next : Room) → i < length exported → c ≡ get_or exported i d → IsLeft 1 (length c.lits) now next → IsTelling (drop i exported) exported start held made now → IsTelling (drop (i + 1) exported) exported start (with_clause c held) made next
+telling-next i c d exported start held made now next l e left h = telling-first c (drop (i + 1) exported) exported start held made now next left (rw (drop-at exported i c d l e) at h)

@@ -7,11 +7,11 @@ lits_in [] = 0
 lits_in (c ∷ cs) = length c.lits + lits_in cs
 
 -- the clauses of lists, counted
-abbrev pub told_clauses : List (List NumberedClause) → ℕ
-told_clauses [] = 0
-told_clauses (told ∷ more) = length told + told_clauses more
+abbrev pub import_clauses : List (List NumberedClause) → ℕ
+import_clauses [] = 0
+import_clauses (exported ∷ more) = length exported + import_clauses more
 
 -- their literals
-abbrev pub told_literals : List (List NumberedClause) → ℕ
-told_literals [] = 0
-told_literals (told ∷ more) = lits_in told + told_literals more
+abbrev pub import_literals : List (List NumberedClause) → ℕ
+import_literals [] = 0
+import_literals (exported ∷ more) = lits_in exported + import_literals more

@@ -17,25 +17,25 @@ lent imports = map (λ b. b.now) imports
 -- a node after importing these lists one after another
 abbrev pub all_imported : List (List NumberedClause) → Node → Node
 all_imported [] n = n
-all_imported (told ∷ more) n = all_imported more (imported told n)
+all_imported (exported ∷ more) n = all_imported more (imported exported n)
 
--- list by list they may be told to the node
+-- list by list the node may import them
 abbrev pub MayImportAll : List (List NumberedClause) → Node → Type 0
 MayImportAll [] n = Unit {0}
-MayImportAll (told ∷ more) n = MayImport told n × MayImportAll more (imported told n)
+MayImportAll (exported ∷ more) n = MayImport exported n × MayImportAll more (imported exported n)
 
 -- what a node that holds these clauses takes of each list
 abbrev pub picked : List (List NumberedClause) → List NumberedClause → List (List NumberedClause)
 picked [] clauses = []
-picked (told ∷ more) clauses = taken told clauses ∷ picked more (with_clauses (taken told clauses) clauses)
+picked (exported ∷ more) clauses = taken exported clauses ∷ picked more (with_clauses (taken exported clauses) clauses)
 
 -- a filter has seen the clauses of these literals that are held
 abbrev pub Sees : List (List ℕ) → List NumberedClause → Type 0
 Sees seen clauses = (lits : List ℕ) → is_noted lits seen ≡ has_lits lits clauses
 
 -- whether an entry of the lists has these literals
-abbrev pub is_told_in : List ℕ → List (List NumberedClause) → Bool
-is_told_in lits tolds = list_any (has_lits lits) tolds
+abbrev pub is_exported_in : List ℕ → List (List NumberedClause) → Bool
+is_exported_in lits exports = list_any (has_lits lits) exports
 
 -- whether a clause of a revision has these literals
 abbrev pub is_posted_in : List ℕ → List (Option (List ℕ)) → Bool

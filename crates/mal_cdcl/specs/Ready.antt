@@ -8,7 +8,7 @@ use Rattle.spec_node.specs.Laws.{AreNewNumbers}
 use Rattle.spec_search.specs.Slice.{most_numbers}
 use Rattle.mal_base.specs.NumberedClause.{NumberedClause}
 use Rattle.mal_cdcl.specs.Within.{NodeWithRoom}
-use Rattle.mal_cdcl.specs.ImportSizes.{told_clauses, told_literals}
+use Rattle.mal_cdcl.specs.ImportSizes.{import_clauses, import_literals}
 
 -- revisions, each with the number of its first clause, as they are lent
 abbrev pub posted : List (Bor Posted × ℕ) → List (Posted × ℕ)
@@ -45,14 +45,14 @@ most_assumptions [] most = most
 most_assumptions (l ∷ ls) most = most_assumptions ls (max most (length l.0.assumptions))
 
 -- a node has room for these loads, for the clauses of these lists and a slice after them, and has no lines
-pub record HasRoomFor (loads : List (Posted × ℕ)) (told : List (List NumberedClause)) (n : NodeWithRoom) : Type 0 where
+pub record HasRoomFor (loads : List (Posted × ℕ)) (exported : List (List NumberedClause)) (n : NodeWithRoom) : Type 0 where
   pub trail : greatest loads n.state.variables ≤ n.spare.trail
   pub order : greatest loads n.state.variables ≤ n.spare.order + n.state.variables
   pub phases : greatest loads n.state.variables ≤ n.spare.phases + n.state.variables
   pub assumptions : most_assumptions loads 0 ≤ n.spare.assumptions
   pub variables : greatest loads n.state.variables ≤ n.spare.engine.variables
-  pub clauses : clauses_in loads + told_clauses told + 1000 ≤ n.spare.engine.clauses
-  pub literals : literals_in loads + told_literals told + most_numbers (greatest loads n.state.variables) ≤ n.spare.engine.literals
+  pub clauses : clauses_in loads + import_clauses exported + 1000 ≤ n.spare.engine.clauses
+  pub literals : literals_in loads + import_literals exported + most_numbers (greatest loads n.state.variables) ≤ n.spare.engine.literals
   pub none : n.lines ≡ []
   pub lines : 1000 ≤ n.spare.lines
   pub line_literals : most_numbers (greatest loads n.state.variables) ≤ n.spare.line_literals

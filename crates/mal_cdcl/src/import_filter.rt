@@ -1,10 +1,10 @@
-//! What a node takes of the clauses that it is told: those whose literals no clause held has.
+//! What a node takes of the clauses that others exported: those whose literals no clause held has.
 
 ghost use Rattle.std.specs.Prelude.{◌≡◌, ℕ, ◌||◌, true, not, bytes_eq, List, [], filter, IfOk, OnOk};
 ghost use Rattle.mal_base.specs.NumberedClause.{NumberedClause};
 ghost use Rattle.mal_filter.specs.Noted.{is_noted};
 ghost use Rattle.spec_node.specs.{Import.{has_lits}, State.{Node}};
-ghost use Rattle.mal_cdcl.specs.{Ready.{posted, readied}, Importing.{Sees, lent, picked, is_told_in, is_posted_in, is_loaded_in}};
+ghost use Rattle.mal_cdcl.specs.{Ready.{posted, readied}, Importing.{Sees, lent, picked, is_exported_in, is_posted_in, is_loaded_in}};
 
 use mal_base::{ClauseList, Lit, NumberedClause};
 use mal_buffer::Buffer;
@@ -70,32 +70,32 @@ pub fn new_clauses_of<E: Listed>(
     if imports.is_empty() {
         return Ok(picks);
     }
-    let mut told = ClauseSet::new(alloc);
+    let mut exported = ClauseSet::new(alloc);
     let mut seen = ClauseSet::new(alloc);
-    note_all(&mut told, &mut seen, engine, loads, imports)?;
+    note_all(&mut exported, &mut seen, engine, loads, imports)?;
     pick_past(alloc, &mut picks, &mut seen, imports)?;
     Ok(picks)
 }
 
-/// Notes the entries of imports in one filter, and in another those clauses of an engine and of loads that are told
+/// Notes the entries of imports in one filter, and in another those clauses of an engine and of loads that are exported
 /// too.
 fn note_all<E: Listed>(
-    told: &mut ClauseSet,
+    exported: &mut ClauseSet,
     seen: &mut ClauseSet,
     engine: &E,
     loads: &[(&Revision, u32)],
     imports: &[&Buffer],
 ) -> Result<(), AllocError>
-    ensures told { OnOk result
-        ((lits : List ℕ) → is_noted lits told.new ≡ (is_told_in lits (lent imports.now) || is_noted lits told.old)) }
+    ensures exported { OnOk result
+        ((lits : List ℕ) → is_noted lits exported.new ≡ (is_exported_in lits (lent imports.now) || is_noted lits exported.old)) }
     ensures seen { OnOk result
-        ((lits : List ℕ) → is_noted lits told.new ≡ true
+        ((lits : List ℕ) → is_noted lits exported.new ≡ true
         → is_noted lits seen.new
         ≡ (is_loaded_in lits (posted loads.now) || (has_lits lits (E.clauses engine.now) || is_noted lits seen.old))) }
 {
-    note_told(told, imports)?;
-    note_held(seen, told, engine)?;
-    note_loads(seen, told, loads)
+    note_exported(exported, imports)?;
+    note_held(seen, exported, engine)?;
+    note_loads(seen, exported, loads)
 }
 
 /// Picks what is taken of each import by a node whose clauses a filter has seen.
@@ -110,9 +110,9 @@ fn pick_past(
         ((clauses : List NumberedClause) → Sees seen.old clauses
         → picks.new.items ≡ picked (lent imports.now) clauses) }
 {
-    for told in imports {
-        picks.push(NewClauses::of(alloc, seen, told.entries())?)?;
-        note_entries(seen, told.entries())?;
+    for exported in imports {
+        picks.push(NewClauses::of(alloc, seen, exported.entries())?)?;
+        note_entries(seen, exported.entries())?;
     }
     Ok(())
 }
@@ -129,76 +129,80 @@ fn note_entries(seen: &mut ClauseSet, entries: &[NumberedClause]) -> Result<(), 
 }
 
 /// Notes the entries of imports.
-fn note_told(told: &mut ClauseSet, imports: &[&Buffer]) -> Result<(), AllocError>
+fn note_exported(exported: &mut ClauseSet, imports: &[&Buffer]) -> Result<(), AllocError>
     ensures { OnOk result
-        ((lits : List ℕ) → is_noted lits told.new ≡ (is_told_in lits (lent imports.now) || is_noted lits told.old)) }
+        ((lits : List ℕ) → is_noted lits exported.new ≡ (is_exported_in lits (lent imports.now) || is_noted lits exported.old)) }
 {
     for buffer in imports {
-        note_entries(told, buffer.entries())?;
+        note_entries(exported, buffer.entries())?;
     }
     Ok(())
 }
 
-/// Notes those clauses of an engine that are told too.
+/// Notes those clauses of an engine that are exported too.
 fn note_held<E: Listed>(
     seen: &mut ClauseSet,
-    told: &ClauseSet,
+    exported: &ClauseSet,
     engine: &E,
 ) -> Result<(), AllocError>
     ensures { OnOk result
-        ((lits : List ℕ) → is_noted lits told.now ≡ true
+        ((lits : List ℕ) → is_noted lits exported.now ≡ true
         → is_noted lits seen.new ≡ (has_lits lits (E.clauses engine.now) || is_noted lits seen.old)) }
 {
     for place in 0..engine.count() {
         let (_id, lits) = engine.clause_at(place);
-        note_if_told(seen, told, lits)?;
+        note_if_exported(seen, exported, lits)?;
     }
     Ok(())
 }
 
-/// Notes those clauses of loads that are told too.
+/// Notes those clauses of loads that are exported too.
 fn note_loads(
     seen: &mut ClauseSet,
-    told: &ClauseSet,
+    exported: &ClauseSet,
     loads: &[(&Revision, u32)],
 ) -> Result<(), AllocError>
     ensures { OnOk result
-        ((lits : List ℕ) → is_noted lits told.now ≡ true
+        ((lits : List ℕ) → is_noted lits exported.now ≡ true
         → is_noted lits seen.new ≡ (is_loaded_in lits (posted loads.now) || is_noted lits seen.old)) }
 {
     for load in loads {
         let (revision, _first) = load;
-        note_posted(seen, told, revision.clauses())?;
+        note_posted(seen, exported, revision.clauses())?;
     }
     Ok(())
 }
 
-/// Notes those clauses of a revision that are told too.
+/// Notes those clauses of a revision that are exported too.
 fn note_posted(
     seen: &mut ClauseSet,
-    told: &ClauseSet,
+    exported: &ClauseSet,
     clauses: &ClauseList,
 ) -> Result<(), AllocError>
     ensures { OnOk result
-        ((lits : List ℕ) → is_noted lits told.now ≡ true
+        ((lits : List ℕ) → is_noted lits exported.now ≡ true
         → is_noted lits seen.new ≡ (is_posted_in lits clauses.now || is_noted lits seen.old)) }
 {
     for place in 0..clauses.len() {
         match clauses.at(place) {
             None => {}
-            Some(lits) => note_if_told(seen, told, lits)?,
+            Some(lits) => note_if_exported(seen, exported, lits)?,
         }
     }
     Ok(())
 }
 
-/// Notes these literals where they are told too.
-fn note_if_told(seen: &mut ClauseSet, told: &ClauseSet, lits: &[Lit]) -> Result<(), AllocError>
+/// Notes these literals where they are exported too.
+fn note_if_exported(
+    seen: &mut ClauseSet,
+    exported: &ClauseSet,
+    lits: &[Lit],
+) -> Result<(), AllocError>
     ensures { OnOk result
-        ((others : List ℕ) → is_noted others told.now ≡ true
+        ((others : List ℕ) → is_noted others exported.now ≡ true
         → is_noted others seen.new ≡ (bytes_eq others lits.now || is_noted others seen.old)) }
 {
-    if told.passes_lits(lits) {
+    if exported.passes_lits(lits) {
         return Ok(());
     }
     seen.note_lits(lits)

@@ -4,7 +4,7 @@ ghost use Rattle.std.specs.Prelude.{◌≡◌, ℕ, ◌+◌, ◌-◌, ◌≤◌,
 ghost use Rattle.mal_base.specs.declared.trail_entry.TrailEntry.{TrailEntry};
 ghost use Rattle.mal_trail.specs.Rooms.{HasRoom};
 ghost use Rattle.spec_search.specs.Slice.{most_numbers};
-ghost use Rattle.mal_cdcl.specs.{ImportSizes.{lits_in, told_clauses, told_literals}, Ready.{posted, greatest, clauses_in, literals_in, most_assumptions}};
+ghost use Rattle.mal_cdcl.specs.{ImportSizes.{lits_in, import_clauses, import_literals}, Ready.{posted, greatest, clauses_in, literals_in, most_assumptions}};
 
 use crate::import_filter::NewClauses;
 use mal_base::{Lit, NumberedClause};
@@ -62,9 +62,9 @@ pub fn needs_in_all(
     ensures variables { IfOk result (λ n. n.variables ≡ greatest (posted loads.now) variables) }
     ensures least { IfOk result (λ n. variables ≤ n.variables) }
     ensures bound { IfOk result (λ n. n.variables ≤ 65536) }
-    ensures clauses { IfOk result (λ n. n.clauses ≡ clauses_in (posted loads.now) + told_clauses picks.now + 1000) }
+    ensures clauses { IfOk result (λ n. n.clauses ≡ clauses_in (posted loads.now) + import_clauses picks.now + 1000) }
     ensures literals { IfOk result
-        (λ n. n.literals ≡ literals_in (posted loads.now) + told_literals picks.now + most_numbers n.variables) }
+        (λ n. n.literals ≡ literals_in (posted loads.now) + import_literals picks.now + most_numbers n.variables) }
     ensures assumptions { IfOk result (λ n. n.assumptions ≡ most_assumptions (posted loads.now) 0) }
 {
     let mut needs = needs_of(loads, variables)?;

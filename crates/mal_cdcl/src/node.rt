@@ -3,7 +3,7 @@
 ghost use Rattle.std.specs.Prelude.{◌≡◌, ◌+◌, ◌-◌, ◌^◌, ◌<◌, ◌≤◌, length, Some, None, [], ◌∷◌, ◌++◌, OnOk, OnErr, IfOk, MatchOption, vec_capacity};
 ghost use Rattle.mal_base.specs.Trails.{value_on};
 ghost use Rattle.spec_node.specs.{State.{fresh, fresh_with}, Value.{next_assumption, first_free, level_of}, Batch.{propagated}, Cut.{cut}, Load.{loaded}, Laws.{AreNewNumbers}, Model.{model_of}, Sound.{IsSound}};
-ghost use Rattle.mal_cdcl.specs.{ImportSizes.{lits_in, told_clauses}, Importing.{AreNewTo, lent, MayImportAll, all_imported, with_pick}, Ready.{posted, readied, greatest, clauses_in, AreNew, HasRoomFor, IsSpared}, Sliced.{HasSliceRoom, HasStepRoom, HasIdRoom, HasLowCounts, MayCount, Keeps, IsShown, IsEnded, IsStepped, IsSearched, IsFailing, HasClauseRoom, HasLineRoom, IsLineLess}, Sourced.{IsSource, analysis_from, line_from}};
+ghost use Rattle.mal_cdcl.specs.{ImportSizes.{lits_in, import_clauses}, Importing.{AreNewTo, lent, MayImportAll, all_imported, with_pick}, Ready.{posted, readied, greatest, clauses_in, AreNew, HasRoomFor, IsSpared}, Sliced.{HasSliceRoom, HasStepRoom, HasIdRoom, HasLowCounts, MayCount, Keeps, IsShown, IsEnded, IsStepped, IsSearched, IsFailing, HasClauseRoom, HasLineRoom, IsLineLess}, Sourced.{IsSource, analysis_from, line_from}};
 ghost use Rattle.mal_trail.specs.Rooms.{HasRoom};
 ghost use Rattle.spec_learn.specs.{Learning.{analysis, derived_id, learned}, Refuting.{refuted}};
 ghost use Rattle.spec_search.specs.{Step.{step, restarting, branching, case_of, after_case}, Dropping.{dropped}, Step.Case.{Decides, Restarts}, Slice.{slice, numbers_of, most_numbers}};
@@ -238,7 +238,7 @@ impl<E: Listed> Node<E> {
         ensures fitted { OnOk result (greatest (posted loads.now) self.old.state.variables < scratch.new.room) }
         ensures ids { OnOk result
             (self.old.state.profile ≡ 2
-            → length self.old.state.clauses + (clauses_in (posted loads.now) + told_clauses picks.now + 1000)
+            → length self.old.state.clauses + (clauses_in (posted loads.now) + import_clauses picks.now + 1000)
             ≤ scratch.new.ids) }
         ensures more { scratch.old.room ≤ scratch.new.room }
         ensures more_ids { scratch.old.ids ≤ scratch.new.ids }
@@ -302,19 +302,19 @@ impl<E: Listed> Node<E> {
 
     /// Imports what was taken of a list, where there is room for it: under profile 2 a list of which nothing was taken
     /// changes nothing. Takes no memory.
-    fn take_pick(&mut self, told: &[NumberedClause])
-        requires new { AreNewTo self.old.state.clauses self.old.state.variables told.now }
-        requires room { HasRoom self.old.state.variables (length told.now) (lits_in told.now) self.old.spare.engine }
-        ensures state { self.new.state ≡ with_pick told.now self.old.state }
-        ensures keeps { Keeps (length told.now) (lits_in told.now) self.old self.new }
+    fn take_pick(&mut self, exported: &[NumberedClause])
+        requires new { AreNewTo self.old.state.clauses self.old.state.variables exported.now }
+        requires room { HasRoom self.old.state.variables (length exported.now) (lits_in exported.now) self.old.spare.engine }
+        ensures state { self.new.state ≡ with_pick exported.now self.old.state }
+        ensures keeps { Keeps (length exported.now) (lits_in exported.now) self.old self.new }
     {
-        if dropping::is_left_off(self.profile, told) {
+        if dropping::is_left_off(self.profile, exported) {
             return;
         }
         self.cut(0);
         self.trail.set_processed(0);
-        node_load::add_told(&mut self.engine, &self.trail, told);
-        self.serial = node_load::serial_above(self.serial, told);
+        node_load::add_imported(&mut self.engine, &self.trail, exported);
+        self.serial = node_load::serial_above(self.serial, exported);
         self.conflict = None;
     }
 
@@ -630,9 +630,9 @@ impl<E: Listed> Node<E> {
 }
 
 impl<E: Listed> Node<E> {
-    /// Loads revisions, each with the number of its first clause, one after another, then imports what was told, one
-    /// list after another, and makes room for a slice in the node and in a scratch. The room for the slice's lines is
-    /// that of the scratch's spare lines. Where memory is wanting the node's state and its lines stay as they were;
+    /// Loads revisions, each with the number of its first clause, one after another, then imports what others exported,
+    /// one list after another, and makes room for a slice in the node and in a scratch. The room for the slice's lines
+    /// is that of the scratch's spare lines. Where memory is wanting the node's state and its lines stay as they were;
     /// else the lines of the last slice are taken away.
     pub fn ready(
         &mut self,
@@ -641,7 +641,7 @@ impl<E: Listed> Node<E> {
         scratch: &mut Scratch,
     ) -> Result<(), AllocError>
         requires new { AreNew (posted loads.now) self.old.state }
-        requires told { MayImportAll (lent imports.now) (readied (posted loads.now) self.old.state) }
+        requires exported { MayImportAll (lent imports.now) (readied (posted loads.now) self.old.state) }
         ensures loaded { OnOk result
             (self.new.state ≡ all_imported (lent imports.now) (readied (posted loads.now) self.old.state)) }
         ensures unchanged { OnErr result (self.new.state ≡ self.old.state) }

@@ -83,26 +83,26 @@ pub fn add_clauses<E: Engine>(engine: &mut E, trail: &Trail, first: u32, clauses
 }
 
 /// Adds clauses of the variables that there is room for, under numbers that differ and are not held.
-pub fn add_told<E: Engine>(engine: &mut E, trail: &Trail, told: &[NumberedClause])
-    requires new { AreNewTo (E.clauses engine.old) (E.room engine.old).variables told.now }
-    requires clause_room { length told.now ≤ (E.room engine.old).clauses }
-    requires literal_room { lits_in told.now ≤ (E.room engine.old).literals }
+pub fn add_imported<E: Engine>(engine: &mut E, trail: &Trail, exported: &[NumberedClause])
+    requires new { AreNewTo (E.clauses engine.old) (E.room engine.old).variables exported.now }
+    requires clause_room { length exported.now ≤ (E.room engine.old).clauses }
+    requires literal_room { lits_in exported.now ≤ (E.room engine.old).literals }
     requires fits { E.fits engine.old trail.now.entries trail.now.processed }
-    ensures clauses { E.clauses engine.new ≡ with_clauses told.now (E.clauses engine.old) }
-    ensures room { IsLeft (length told.now) (lits_in told.now) (E.room engine.old) (E.room engine.new) }
+    ensures clauses { E.clauses engine.new ≡ with_clauses exported.now (E.clauses engine.old) }
+    ensures room { IsLeft (length exported.now) (lits_in exported.now) (E.room engine.old) (E.room engine.new) }
     ensures fits { E.fits engine.new trail.now.entries trail.now.processed }
 {
-    for entry in told {
+    for entry in exported {
         engine.learn(entry.id(), entry.lits(), trail);
     }
 }
 
 /// The least serial from this one on that is above those of derived clauses.
-pub fn serial_above(serial: u64, told: &[NumberedClause]) -> u64
-    ensures { result ≡ serial_above serial told.now }
+pub fn serial_above(serial: u64, exported: &[NumberedClause]) -> u64
+    ensures { result ≡ serial_above serial exported.now }
 {
     let mut above = serial;
-    for entry in told {
+    for entry in exported {
         let own = entry.id().number().saturating_sub(1 << 32) / 64;
         above = above.max(own + 1);
     }

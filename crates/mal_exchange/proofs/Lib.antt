@@ -1,3 +1,3 @@
 -- what this crate alone cites
 mod LastLemmas
-mod ToldLemmas
+mod BroadcastLemmas

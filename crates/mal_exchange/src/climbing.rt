@@ -10,9 +10,9 @@ use std::alloc::{AllocError, Global};
 /// A buffer takes 1,500 literals.
 pub const MOST_LITERALS: usize = 1500;
 
-/// What is told to all solvers of a job: the union of what they export, each list of literals once with the least
-/// number, cut to its longest front of at most 1,500 literals. The buffers are those of the tree's places from 0 on, at
-/// most 64, empty where a solver takes no part. They climb the tree (as in Mallob 2021): from the greatest index on
+/// What is broadcast to all solvers of a job: the union of what they export, each list of literals once with the least
+/// number, cut to its longest prefix of at most 1,500 literals. The buffers are those of the tree's places from 0 on,
+/// at most 64, empty where a solver takes no part. They climb the tree (as in Mallob 2021): from the greatest index on
 /// each is merged into the one above and cut there, which loses nothing.
 pub fn up(alloc: Global, buffers: &[Buffer]) -> Result<Buffer, AllocError>
     requires { length buffers.now ≤ 64 }
@@ -47,7 +47,7 @@ fn climb(alloc: Global, tops: &mut Vec<Buffer>) -> Result<(), AllocError>
     requires some { 2 ≤ length tops.old.items }
     requires bound { length tops.old.items ≤ 64 }
     ensures len { OnOk result (length tops.new.items + 1 ≡ length tops.old.items) }
-    ensures told { OnOk result (broadcast (entries_of tops.new.items) ≡ broadcast (entries_of tops.old.items)) }
+    ensures same { OnOk result (broadcast (entries_of tops.new.items) ≡ broadcast (entries_of tops.old.items)) }
 {
     let last = tops.len() - 1;
     let Some(above) = Index::of(last as u32).parent() else {

@@ -1,8 +1,8 @@
 //! What the solvers of a job tell each other, merged along their tree.
 #![tactic(auto)]
 
+mod broadcasting;
 mod climbing;
-mod telling;
 
+pub use broadcasting::broadcast;
 pub use climbing::up;
-pub use telling::told;

@@ -13,7 +13,7 @@ use Rattle.spec_job.specs.Leased.{Finished}
 use Rattle.spec_job.specs.SoloMachine.{Lease, exports_from}
 use Rattle.spec_job.specs.Viewed.{IsGrownBy}
 use Rattle.mal_job.specs.Among.{among}
-use Rattle.mal_job.specs.Exports.{told_from, marked}
+use Rattle.mal_job.specs.Exports.{broadcasts_from, marked}
 use Rattle.mal_job.specs.Placing.{IsBackAt, IsGrown, IsTree, with_placed}
 use Rattle.mal_job.specs.Viewed.{PlaceView, TreeView, shared, places_of}
 use Rattle.mal_job.proofs.PlaceLemmas.{length-set, own-at, own-set, grown-own}
@@ -45,7 +45,7 @@ tree-exchanged t n mark tolds ps e k = subst (λ (xs : List PlaceView). IsTree (
   own = own-marked t.number t.profile 0 n mark t.places k.own;
 })
 
-pub exchanged-is : (t : TreeView) (log : List Line) (ps : List PlaceView) (tolds us : List (List NumberedClause)) (told : List NumberedClause) (mark : ℕ) → ps ≡ marked t.volume mark t.places → mark ≡ length log → tolds ≡ t.broadcasts ++ told ∷ [] → told ≡ broadcast (entries_of us) → us ≡ told_from log 0 (take t.volume t.places) → t.volume ≤ length t.places → record { number = t.number; profile = t.profile; volume = t.volume; places = ps; broadcasts = tolds; ran = 0 } ≡ record t { broadcasts = t.broadcasts ++ broadcast (exports_from t.volume log 0 (places_of t.places)) ∷ []; places = marked t.volume (length log) t.places; ran = 0 }
+pub exchanged-is : (t : TreeView) (log : List Line) (ps : List PlaceView) (tolds us : List (List NumberedClause)) (told : List NumberedClause) (mark : ℕ) → ps ≡ marked t.volume mark t.places → mark ≡ length log → tolds ≡ t.broadcasts ++ told ∷ [] → told ≡ broadcast (entries_of us) → us ≡ broadcasts_from log 0 (take t.volume t.places) → t.volume ≤ length t.places → record { number = t.number; profile = t.profile; volume = t.volume; places = ps; broadcasts = tolds; ran = 0 } ≡ record t { broadcasts = t.broadcasts ++ broadcast (exports_from t.volume log 0 (places_of t.places)) ∷ []; places = marked t.volume (length log) t.places; ran = 0 }
 exchanged-is t log ps tolds us told mark a b c d e low = rw (a, b, c, d, e, told-is t.volume log t.places low) refl
 
 module _ {X Z : Type 0} where

@@ -12,10 +12,10 @@ exported_by i lines = map (λ l. record { id = l.id; lits = l.lits }) (filter (i
 abbrev pub exports_at : List Line → ℕ → PlaceView → List NumberedClause
 exports_at log i p = if is_none p.out then exported_by i (drop p.mark log) else []
 
--- what each of these places tells for itself; the first has this index
-abbrev pub told_from : List Line → ℕ → List PlaceView → List (List NumberedClause)
-told_from log i [] = []
-told_from log i (p ∷ ps) = broadcast (exports_at log i p) ∷ told_from log (i + 1) ps
+-- what is broadcast of each of these places for itself; the first has this index
+abbrev pub broadcasts_from : List Line → ℕ → List PlaceView → List (List NumberedClause)
+broadcasts_from log i [] = []
+broadcasts_from log i (p ∷ ps) = broadcast (exports_at log i p) ∷ broadcasts_from log (i + 1) ps
 
 -- a place with its mark moved, where it is at home
 abbrev pub marked_at : ℕ → PlaceView → PlaceView

@@ -15,8 +15,8 @@ out_of entries (Cold s) = None
 out_of entries Gone = None
 out_of entries (Out revision grown) = Some (record { revision = revision; adds = drop (length entries) grown.entries })
 
--- where the node of a place with this journal may be: at home, live or as bytes, gone, or out, with the journal that the
--- start will leave
+-- where the node of a place with this journal may be: at home, live or as bytes, gone, or out, with the journal that
+-- the start will leave
 abbrev pub IsNodeAt : Journaled → Whereabouts → Type 0
 IsNodeAt j (Home s) = s ≡ j
 IsNodeAt j (Cold s) = s ≡ j

@@ -36,7 +36,7 @@ pub record PlaceView : Type 0 where
   pub mark : ℕ
 
 -- the tree of a job: the job's number, the profile of its solvers, the volume, the first places, as many as were ever
--- used, what was told to all, and how many slices were run since the last exchange
+-- used, what was broadcast to all, and how many slices were run since the last exchange
 pub record TreeView : Type 0 where
   pub number : ℕ
   pub profile : ℕ

@@ -3,36 +3,41 @@
 ghost use Rattle.std.specs.Prelude.{◌≡◌, ◌%◌, ◌<◌, ◌≤◌, ◌==◌, ◌&&◌, ◌++◌, nat_le, true, All, length, take, drop, IfOk, OnOk};
 ghost use Rattle.mal_base.specs.Clauses.{rises};
 ghost use Rattle.spec_exchange.specs.Exchange.{broadcast};
-ghost use Rattle.mal_job.specs.Exports.{exported_by, exports_at, told_from, marked, marked_at};
+ghost use Rattle.mal_job.specs.Exports.{exported_by, exports_at, broadcasts_from, marked, marked_at};
 
 use crate::node_slot::NodeSlot;
 use mal_base::{Clause, ClauseId, Lit, NumberedClause};
 use mal_buffer::Buffer;
-use mal_exchange::told;
+use mal_exchange::broadcast;
 use mal_proof::Log;
 use std::alloc::{AllocError, Global};
 
-/// A clause that is told has 16 literals at the most.
+/// A clause that is exported has 16 literals at the most.
 const MOST_LITERALS: usize = 16;
 
 /// A tree has 64 places.
 const PLACES: u64 = 64;
 
-/// What these places, the first ones of a job, tell of the lines behind their marks, each for itself, and nothing of
-/// those that are out; the literals of each line rise by variable.
+/// What is broadcast of the lines behind the marks of these places, the first ones of a job, each for itself, and
+/// nothing of those that are out; the literals of each line rise by variable.
 pub fn exports(alloc: Global, places: &[NodeSlot], log: &Log) -> Result<Vec<Buffer>, AllocError>
     requires { All (λ line. rises line.lits ≡ true) log.now.lines }
-    ensures { IfOk result (λ v. v.items ≡ told_from log.now.lines 0 places.now) }
+    ensures { IfOk result (λ v. v.items ≡ broadcasts_from log.now.lines 0 places.now) }
 {
     let mut buffers = Vec::with_capacity(alloc, places.len())?;
     for index in 0..places.len() {
-        buffers.push(told_of(alloc, &places[index], log, index as u64)?)?;
+        buffers.push(broadcast_of(alloc, &places[index], log, index as u64)?)?;
     }
     Ok(buffers)
 }
 
-/// What a place of this index tells of a log.
-fn told_of(alloc: Global, place: &NodeSlot, log: &Log, index: u64) -> Result<Buffer, AllocError>
+/// What is broadcast of a log for a place of this index.
+fn broadcast_of(
+    alloc: Global,
+    place: &NodeSlot,
+    log: &Log,
+    index: u64,
+) -> Result<Buffer, AllocError>
     requires { All (λ line. rises line.lits ≡ true) log.now.lines }
     ensures { IfOk result (λ b. b ≡ broadcast (exports_at log.now.lines index place.now)) }
 {
@@ -40,7 +45,7 @@ fn told_of(alloc: Global, place: &NodeSlot, log: &Log, index: u64) -> Result<Buf
         return Ok(Buffer::new(alloc));
     }
     let clauses = exported(alloc, log, index, place.mark())?;
-    told(alloc, clauses.as_slice())
+    broadcast(alloc, clauses.as_slice())
 }
 
 /// What a node exports of a log's lines, from this place on.
@@ -80,7 +85,7 @@ fn push_exported(
         return Ok(());
     }
     let lits = log.lits(n);
-    if !is_told(lits) {
+    if !may_export(lits) {
         return Ok(());
     }
     let clause = clause_of(alloc, lits)?;
@@ -95,8 +100,8 @@ fn is_own(node: u64, id: ClauseId) -> bool
     id.number() % PLACES == node
 }
 
-/// Whether a clause of these literals is told.
-fn is_told(lits: &[Lit]) -> bool
+/// Whether a clause of these literals may be exported.
+fn may_export(lits: &[Lit]) -> bool
     ensures { result ≡ (nat_le 1 (length lits.now) && nat_le (length lits.now) 16) }
 {
     if lits.is_empty() {

@@ -3,7 +3,7 @@
 ghost use Rattle.std.specs.Prelude.{◌≡◌, ◌↔◌, ◌+◌, ◌-◌, ◌<◌, ◌≤◌, ◌^◌, true, length, is_some, IsTrue, Some, None, OnOk, OnErr, IfOk};
 ghost use Rattle.std.specs.Option.{option_copied};
 ghost use Rattle.mal_base.specs.declared.verdict.Outcome.TheVariants.{Ran, Starved, Lost};
-ghost use Rattle.spec_job.specs.{SoloMachine.{Opened, Revised, Closed, Volume, Finished, Exchanged, unopened, solo_step, is_live, startable, is_exchange_due, place_at, clauses_in, literals_in}, Viewed.{unstarted, and_own, and_start, IsLeaseOf, IsBack}, Proofs.{failed, proof_lines}, Replies.{told_by}};
+ghost use Rattle.spec_job.specs.{SoloMachine.{Opened, Revised, Closed, Volume, Finished, Exchanged, unopened, solo_step, is_live, startable, is_exchange_due, place_at, clauses_in, literals_in}, Viewed.{unstarted, and_own, and_start, IsLeaseOf, IsBack}, Proofs.{failed, proof_lines}, Replies.{body_by}};
 ghost use Rattle.spec_report.specs.Replies.{Proof, reply_text};
 ghost use Rattle.mal_job.specs.{Among.{among}, Finishing.{outcome_of, MayFinish}, Replying.{TellsReply}, Viewed.{shared}};
 
@@ -181,7 +181,7 @@ impl Job {
         ensures { IfOk result
             (λ text. text.items
             ≡ reply_text self.now.titled.key.tenant self.now.titled.key.job r self.now.titled.state.ask.profile
-            (told_by self.now.titled.state (r - 1) answer.now)) }
+            (body_by self.now.titled.state (r - 1) answer.now)) }
     {
         let alloc = self.questions.allocator();
         let profile = self.questions.ask().profile();

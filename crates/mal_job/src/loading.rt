@@ -2,7 +2,7 @@
 
 ghost use Rattle.std.specs.Prelude.{◌≡◌, ◌+◌, ◌<◌, ◌≤◌, ◌^◌, length, IfOk};
 ghost use Rattle.spec_job.specs.SoloMachine.{clauses_in};
-ghost use Rattle.mal_suspend.specs.Starting.{shared_loads, shared_tolds};
+ghost use Rattle.mal_suspend.specs.Starting.{shared_loads, shared_imports};
 ghost use Rattle.mal_job.specs.{Loads.{paired, lacking}, Viewed.{shared}};
 
 use crate::questions::Questions;
@@ -59,13 +59,16 @@ pub fn missing_loads(
     loads_of(questions.allocator(), missing, count_clauses(before) + 1)
 }
 
-/// What was told, shared.
-pub fn tolds_of(alloc: Global, tolds: &[Arc<Buffer>]) -> Result<Vec<Arc<Buffer>>, AllocError>
-    ensures { IfOk result (λ v. shared_tolds v.items ≡ shared_tolds tolds.now) }
+/// What was broadcast, shared.
+pub fn broadcasts_of(
+    alloc: Global,
+    broadcasts: &[Arc<Buffer>],
+) -> Result<Vec<Arc<Buffer>>, AllocError>
+    ensures { IfOk result (λ v. shared_imports v.items ≡ shared_imports broadcasts.now) }
 {
     let mut all = Vec::new(alloc);
-    for told in tolds {
-        all.push(Arc::try_clone(told)?)?;
+    for broadcast in broadcasts {
+        all.push(Arc::try_clone(broadcast)?)?;
     }
     Ok(all)
 }

@@ -3,7 +3,7 @@
 ghost use Rattle.std.specs.Prelude.{◌≡◌, ◌↔◌, ◌+◌, ◌≤◌, IsTrue, is_some, true, None, IfOk, OnOk, OnErr};
 ghost use Rattle.std.specs.Option.{option_map};
 ghost use Rattle.spec_job.specs.Journaled.{replayed, started, and_entries};
-ghost use Rattle.mal_suspend.specs.{Kept.{journal_of}, Replaying.{MayAllReplay}, Starting.{shared_loads, shared_tolds, start_entries}};
+ghost use Rattle.mal_suspend.specs.{Kept.{journal_of}, Replaying.{MayAllReplay}, Starting.{shared_loads, shared_imports, start_entries}};
 ghost use Rattle.mal_job.specs.Placing.{fresh_place, sent, ran_home, came_home, IsBackAt, IsKeptAt, adds_of};
 
 use mal_base::Outcome;
@@ -15,8 +15,8 @@ use std::marker::Model;
 use std::mem;
 use std::sync::Arc;
 
-/// Where the node of a place is: at home, with its journal; there as bytes, with its journal; gone, or never started; or
-/// out, with the revision that it was started for and the journal that it has once its slice ran.
+/// Where the node of a place is: at home, with its journal; there as bytes, with its journal; gone, or never started;
+/// or out, with the revision that it was started for and the journal that it has once its slice ran.
 #[derive(Drop)]
 pub enum Whereabouts {
     Home(Suspended),
@@ -119,8 +119,8 @@ impl NodeSlot {
     }
 
     /// Hands the node, which is at home, out to a worker for the start of this number and for a revision: it loads
-    /// these revisions, each with the number of its first clause, then imports what was told, then runs a slice. After
-    /// want of memory, and where the count of starts would pass its end, the place is as before.
+    /// these revisions, each with the number of its first clause, then imports what was broadcast, then runs a slice.
+    /// After want of memory, and where the count of starts would pass its end, the place is as before.
     pub fn start(
         &mut self,
         revision: usize,
@@ -131,13 +131,13 @@ impl NodeSlot {
     ) -> Result<Lease, AllocError>
         requires home { self.old.out ≡ None }
         requires replays { MayAllReplay (replayed self.old.journal)
-            (start_entries (shared_loads loads.items) (shared_tolds imports.items)) }
+            (start_entries (shared_loads loads.items) (shared_imports imports.items)) }
         ensures ok { OnOk result
             (self.new
-            ≡ sent revision (start_entries (shared_loads loads.items) (shared_tolds imports.items)) start self.old) }
+            ≡ sent revision (start_entries (shared_loads loads.items) (shared_imports imports.items)) start self.old) }
         ensures journal { IfOk result (λ l. l.journal ≡ started start self.old.journal) }
         ensures adds { IfOk result
-            (λ l. l.adds ≡ start_entries (shared_loads loads.items) (shared_tolds imports.items)) }
+            (λ l. l.adds ≡ start_entries (shared_loads loads.items) (shared_imports imports.items)) }
         ensures worker { IfOk result (λ l. l.worker ≡ worker) }
         ensures err { OnErr result (self.new ≡ self.old) }
         ensures own_job { self.new.journal.job ≡ self.old.journal.job }

@@ -1,14 +1,14 @@
-//! The tree of a job: its nodes at home and out, and what they were told.
+//! The tree of a job: its nodes at home and out, and what was broadcast to them.
 
 ghost use Rattle.std.specs.Prelude.{◌≡◌, ◌↔◌, ◌+◌, ◌<◌, ◌≤◌, ◌^◌, true, [], ◌++◌, ◌∷◌, length, drop, count_by, get_or, is_some, All, Some, None, IsTrue, IfOk, OnOk, OnErr};
 ghost use Rattle.mal_base.specs.Clauses.{rises};
 ghost use Rattle.spec_exchange.specs.Exchange.{broadcast};
 ghost use Rattle.spec_job.specs.{Counts.{starts_out}, Journal.{loads_in, imports_in}, Journaled.{replayed, started, and_entries}, SoloMachine.{vacant, is_for, exports_from}};
-ghost use Rattle.mal_suspend.specs.{Kept.{journal_of}, Replaying.{MayAllReplay}, Starting.{shared_loads, shared_tolds, start_entries}};
+ghost use Rattle.mal_suspend.specs.{Kept.{journal_of}, Replaying.{MayAllReplay}, Starting.{shared_loads, shared_imports, start_entries}};
 ghost use Rattle.mal_job.specs.{Exports.{marked}, Placing.{IsGrown, IsTree, IsBackAt, placed, with_placed, sent, ran_home, came_home, one_more_ran, revision_of, adds_of}, Viewed.{places_of}};
 
 use crate::exchange::{exports, move_marks};
-use crate::loading::tolds_of;
+use crate::loading::broadcasts_of;
 use crate::node_slot::NodeSlot;
 use mal_buffer::Buffer;
 use mal_exchange::up;
@@ -20,7 +20,7 @@ use std::marker::Model;
 use std::sync::Arc;
 
 /// The first places of a job's tree, as many as were ever used, the job's number, the profile of its solvers, its
-/// volume, what its nodes were told, and how many slices were run since the last exchange.
+/// volume, what was broadcast to its nodes, and how many slices were run since the last exchange.
 #[derive(Drop)]
 pub struct Tree {
     number: u64,
@@ -164,7 +164,7 @@ impl Tree {
 
     /// Hands the node of this index, which is at home, out to a worker for the start of this number and for a revision,
     /// counted from 0: it loads these revisions, each with the number of its first clause, imports what it lacks of
-    /// what was told, and runs a slice. After want of memory the tree is as before.
+    /// what was broadcast, and runs a slice. After want of memory the tree is as before.
     pub fn start(
         &mut self,
         index: u32,
@@ -292,8 +292,8 @@ impl Tree {
         let alloc = *self.places.allocator();
         let count = self.volume as usize;
         let exported = exports(alloc, &self.places[..count], log)?;
-        let told = Arc::new(alloc, up(alloc, exported.as_slice())?)?;
-        self.broadcasts.push(told)?;
+        let broadcast = Arc::new(alloc, up(alloc, exported.as_slice())?)?;
+        self.broadcasts.push(broadcast)?;
         move_marks(&mut self.places, count, log.count());
         self.ran = 0;
         Ok(())
@@ -309,18 +309,18 @@ fn give_up(places: &mut Vec<NodeSlot>)
     }
 }
 
-/// What was told behind the first so many, shared.
+/// What was broadcast after the first so many, shared.
 fn missing(
     alloc: Global,
-    told: &[Arc<Buffer>],
+    broadcasts: &[Arc<Buffer>],
     imported: usize,
 ) -> Result<Vec<Arc<Buffer>>, AllocError>
-    ensures { IfOk result (λ v. shared_tolds v.items ≡ drop imported (shared_tolds told.now)) }
+    ensures { IfOk result (λ v. shared_imports v.items ≡ drop imported (shared_imports broadcasts.now)) }
 {
-    if imported >= told.len() {
+    if imported >= broadcasts.len() {
         return Ok(Vec::new(alloc));
     }
-    tolds_of(alloc, &told[imported..])
+    broadcasts_of(alloc, &broadcasts[imported..])
 }
 
 /// Makes the first so many places of a job of this number, whose solvers have this profile, where they are not there

@@ -11,7 +11,7 @@ use Rattle.spec_learn.specs.Analysis.{Walk, Analysed, has_var, vars_in, vars_und
 use Rattle.spec_learn.specs.Analysis.Aim.{Final}
 use Rattle.spec_learn.proofs.CoreLemmas.{assumed, with_base, base-walked, clause-turned}
 use Rattle.mal_learn.specs.Working.{State, see_all, lits_of, resolved}
-use Rattle.mal_learn.specs.Tracing.{begun_with, by_cause, traced, traced_all, traced_behind, traced_from}
+use Rattle.mal_learn.specs.Tracing.{begun_with, by_cause, traced, traced_all, traced_after, traced_from}
 use Rattle.mal_learn.specs.Shown.{Work, IsFitted, IsFinished, HasRoom, EntriesWithin}
 use Rattle.mal_learn.proofs.SortLemmas.{negations, turned, turned-back, sorted-clause}
 use Rattle.mal_learn.proofs.ShowsLemmas.{IsSeen, same-seen, see_all-shows, vars-of, AreBelow}
@@ -38,14 +38,14 @@ trace-step clauses made n es e s m l q =
     rw (one, two) (ap (λ (xs : List TrailEntry). traced_all clauses xs s) (reverse-got es (n - 1 - made) e (omega arith) q))
 
 -- from the last of the first entries on
-from-last : (clauses : List NumberedClause) (n : ℕ) (es : List TrailEntry) (e : TrailEntry) (s : State) → 0 < n → n ≤ length es → slice_get es (n - 1) ≡ Some e → traced_from clauses (reverse (take n es)) s ≡ traced_behind clauses (reverse (take (n - 1) es)) s e.reason
+from-last : (clauses : List NumberedClause) (n : ℕ) (es : List TrailEntry) (e : TrailEntry) (s : State) → 0 < n → n ≤ length es → slice_get es (n - 1) ≡ Some e → traced_from clauses (reverse (take n es)) s ≡ traced_after clauses (reverse (take (n - 1) es)) s e.reason
 from-last clauses n es e s l m q =
     let one : n ≡ n - 1 + 1 = omega arith in
     ap (λ (k : ℕ). traced_from clauses (reverse (take k es)) s) one ∙ ap (λ (xs : List TrailEntry). traced_from clauses xs s) (reverse-got es (n - 1) e (omega arith) q)
 
 -- and so by what its reason is
-pub from-cause : (clauses : List NumberedClause) (n : ℕ) (es : List TrailEntry) (e : TrailEntry) (s : State) (cause : Option ℕ) → 0 < n → n ≤ length es → slice_get es (n - 1) ≡ Some e → e.reason ≡ cause → traced_from clauses (reverse (take n es)) s ≡ traced_behind clauses (reverse (take (n - 1) es)) s cause
-from-cause clauses n es e s cause l m q is = from-last clauses n es e s l m q ∙ ap (traced_behind clauses (reverse (take (n - 1) es)) s) is
+pub from-cause : (clauses : List NumberedClause) (n : ℕ) (es : List TrailEntry) (e : TrailEntry) (s : State) (cause : Option ℕ) → 0 < n → n ≤ length es → slice_get es (n - 1) ≡ Some e → e.reason ≡ cause → traced_from clauses (reverse (take n es)) s ≡ traced_after clauses (reverse (take (n - 1) es)) s cause
+from-cause clauses n es e s cause l m q is = from-last clauses n es e s l m q ∙ ap (traced_after clauses (reverse (take (n - 1) es)) s) is
 
 -- where a literal is reached
 pub reached-here : (l n made : ℕ) (es : List TrailEntry) (e : TrailEntry) → n ≡ length es → made < n → slice_get es (n - 1 - made) ≡ Some e → (e.lit == l) ≡ true → reached l (reverse (take (n - made) es)) ≡ reverse (take (n - made) es)
@@ -142,7 +142,7 @@ found : (n a b x : ℕ) (clauses : List NumberedClause) (past : List TrailEntry)
 found n a b x clauses [] p q below small = record { es = assumed x ∷ []; lits = refl; clause = refl; hints = refl; level = refl }
 found n a b x clauses (e ∷ past) p q below small = by_reason e.reason
   where
-    by_reason : (o : Option ℕ) → HasFound clauses x (record e { reason = o } ∷ past) (traced_behind clauses past (begun_with a b (negated x)) o)
+    by_reason : (o : Option ℕ) → HasFound clauses x (record e { reason = o } ∷ past) (traced_after clauses past (begun_with a b (negated x)) o)
     by_reason None = record { es = assumed x ∷ []; lits = refl; clause = refl; hints = refl; level = refl }
     by_reason (Some r) =
         let s : State = begun_with a b (negated x) in

@@ -24,11 +24,11 @@ traced_all clauses [] s = s
 traced_all clauses (e ∷ past) s = traced_all clauses past (traced clauses e s)
 
 -- the entries before one, from its reason on
-abbrev pub traced_behind : List NumberedClause → List TrailEntry → State → Option ℕ → State
-traced_behind clauses past s None = s
-traced_behind clauses past s (Some r) = traced_all clauses past (resolved clauses r s)
+abbrev pub traced_after : List NumberedClause → List TrailEntry → State → Option ℕ → State
+traced_after clauses past s None = s
+traced_after clauses past s (Some r) = traced_all clauses past (resolved clauses r s)
 
 -- from an entry on, latest first
 abbrev pub traced_from : List NumberedClause → List TrailEntry → State → State
 traced_from clauses [] s = s
-traced_from clauses (e ∷ past) s = traced_behind clauses past s e.reason
+traced_from clauses (e ∷ past) s = traced_after clauses past s e.reason

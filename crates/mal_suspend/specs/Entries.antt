@@ -9,7 +9,7 @@ use Rattle.mal_suspend.specs.declared.entry.Entry.TheVariants.{Load, Import}
 -- the entry of a journal that the code's entry stands for
 abbrev pub entry_of : Entry → JournalEntry
 entry_of (Load r first) = journal.Load (arc_value r) first
-entry_of (Import told) = journal.Import (arc_value told)
+entry_of (Import exported) = journal.Import (arc_value exported)
 
 -- so many slices in a row
 abbrev pub slices_of : ℕ → List JournalEntry

@@ -16,7 +16,7 @@ after_entries n es = fold after_entry (alone n) es
 -- where an entry runs a slice, the counts of its node are low enough
 abbrev pub IsLowAt : JournalEntry → Node → Type 0
 IsLowAt (Load r first) n = Unit {0}
-IsLowAt (Import told) n = Unit {0}
+IsLowAt (Import exported) n = Unit {0}
 IsLowAt Run n = HasLowCounts n
 
 -- an entry may be replayed where its node stands: it may follow, and the counts are low enough for a slice
@@ -45,7 +45,7 @@ pub record IsJournal (profile index : ℕ) (entries : List JournalEntry) : Type 
 -- the greatest number of variables after an entry, where this was the greatest before
 abbrev pub variables_with : ℕ → JournalEntry → ℕ
 variables_with most (Load r first) = max most r.variables
-variables_with most (Import told) = most
+variables_with most (Import exported) = most
 variables_with most Run = most
 
 -- the greatest number of variables after these entries

@@ -79,7 +79,7 @@ impl Entries {
         }
     }
 
-    /// How much of what was told was imported.
+    /// How much of what was broadcast was imported.
     pub fn imports(&self) -> usize
         ensures { result ≡ imports_in self.now }
     {
@@ -123,7 +123,7 @@ impl Entries {
     }
 
     /// An equal list that is put together further, with room for so many entries more that are no slices. It shares the
-    /// revisions and what was told.
+    /// revisions and what was broadcast.
     pub(crate) fn growing(&self, more: usize) -> Result<Growing, AllocError>
         ensures { IfOk result (λ g. g ≡ self.now) }
     {

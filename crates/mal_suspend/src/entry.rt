@@ -10,8 +10,8 @@ use mal_revision::Revision;
 use std::alloc::AllocError;
 use std::sync::Arc;
 
-/// What a node took: it loaded a revision, of which the first clause has this number, or it imported what was told. The
-/// slices that it ran are counted beside these, as `Counted` has them.
+/// What a node took: it loaded a revision, of which the first clause has this number, or it imported what was
+/// broadcast. The slices that it ran are counted beside these, as `Counted` has them.
 #[derive(Drop)]
 pub enum Entry {
     Load(Arc<Revision>, u32),
@@ -19,7 +19,7 @@ pub enum Entry {
 }
 
 impl Entry {
-    /// An equal entry. It shares the revision or what was told.
+    /// An equal entry. It shares the revision or what was broadcast.
     pub fn copy(&self) -> Result<Entry, AllocError>
         ensures { IfOk result (λ e. entry_of e ≡ entry_of self.now) }
     {
@@ -38,7 +38,7 @@ impl Entry {
             (Entry::Load(revision, first), Entry::Load(posted, number)) => {
                 is_same_load(revision, *first, posted, *number)
             }
-            (Entry::Import(told), Entry::Import(others)) => is_same_told(told, others),
+            (Entry::Import(told), Entry::Import(others)) => is_same_buffer(told, others),
             _ => false,
         }
     }
@@ -77,7 +77,7 @@ pub struct Counted {
 }
 
 impl Counted {
-    /// As many slices before an equal entry. It shares the revision or what was told.
+    /// As many slices before an equal entry. It shares the revision or what was broadcast.
     pub fn copy(&self) -> Result<Counted, AllocError>
         ensures { IfOk result (λ c. counted_of c ≡ counted_of self.now) }
     {
@@ -109,10 +109,10 @@ fn is_same_load(revision: &Revision, first: u32, other: &Revision, number: u32) 
 }
 
 /// Whether these are the same clauses under the same numbers, in the same order.
-fn is_same_told(told: &Buffer, other: &Buffer) -> bool
-    ensures { IsTrue result ↔ (told.now ≡ other.now) }
+fn is_same_buffer(one: &Buffer, other: &Buffer) -> bool
+    ensures { IsTrue result ↔ (one.now ≡ other.now) }
 {
-    let entries = told.entries();
+    let entries = one.entries();
     let others = other.entries();
     if entries.len() != others.len() {
         return false;

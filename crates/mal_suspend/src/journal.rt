@@ -2,7 +2,7 @@
 
 ghost use Rattle.std.specs.Prelude.{◌≡◌, ◌↔◌, ◌≤◌, [], ◌++◌, IsTrue, IfOk, OnOk};
 ghost use Rattle.spec_job.specs.{Journal.{loads_in, imports_in}, Journaled.{replayed, and_entries, started}};
-ghost use Rattle.mal_suspend.specs.{Replaying.{IsJournal, MayAllReplay, variables_after}, Starting.{shared_loads, shared_tolds, load_entries, import_entries, start_entries}};
+ghost use Rattle.mal_suspend.specs.{Replaying.{IsJournal, MayAllReplay, variables_after}, Starting.{shared_loads, shared_imports, load_entries, import_entries, start_entries}};
 
 use crate::entries::Entries;
 use crate::entry::Entry;
@@ -100,7 +100,7 @@ impl Journal {
         self.entries.loads()
     }
 
-    /// How much of what was told the node has imported.
+    /// How much of what was broadcast the node has imported.
     pub fn imports(&self) -> usize
         ensures { result ≡ imports_in self.now.entries }
     {
@@ -155,11 +155,11 @@ impl Journal {
         imports: &[Arc<Buffer>],
     ) -> Result<Journal, AllocError>
         requires { MayAllReplay (replayed self.now)
-            (start_entries (shared_loads loads.now) (shared_tolds imports.now)) }
+            (start_entries (shared_loads loads.now) (shared_imports imports.now)) }
         ensures value { IfOk result
             (λ j. j
             ≡ and_entries (started start self.now)
-            (start_entries (shared_loads loads.now) (shared_tolds imports.now))) }
+            (start_entries (shared_loads loads.now) (shared_imports imports.now))) }
         ensures keeps { IfOk result (λ j. IsJournal j.profile j.index j.entries) }
     {
         let entries = and_start(&self.entries, loads, imports)?;
@@ -180,7 +180,7 @@ impl Journal {
     }
 }
 
-/// The entries with those of a start behind them: loads of these revisions, then imports of what was told, then a
+/// The entries with those of a start behind them: loads of these revisions, then imports of what was broadcast, then a
 /// slice. Where it loads and imports nothing, the entries that are no slices are shared.
 fn and_start(
     before: &Entries,
@@ -188,7 +188,7 @@ fn and_start(
     imports: &[Arc<Buffer>],
 ) -> Result<Entries, AllocError>
     ensures { IfOk result
-        (λ e. e ≡ before.now ++ start_entries (shared_loads loads.now) (shared_tolds imports.now)) }
+        (λ e. e ≡ before.now ++ start_entries (shared_loads loads.now) (shared_imports imports.now)) }
 {
     if loads.is_empty() && imports.is_empty() {
         return before.and_slice();
@@ -211,9 +211,9 @@ fn push_loads(entries: &mut Growing, loads: &[(Arc<Revision>, u32)]) -> Result<(
     Ok(())
 }
 
-/// Puts imports of what was told behind the entries.
+/// Puts imports of what was broadcast behind the entries.
 fn push_imports(entries: &mut Growing, imports: &[Arc<Buffer>]) -> Result<(), AllocError>
-    ensures { OnOk result (entries.new ≡ entries.old ++ import_entries (shared_tolds imports.now)) }
+    ensures { OnOk result (entries.new ≡ entries.old ++ import_entries (shared_imports imports.now)) }
 {
     for told in imports {
         entries.push(Entry::Import(Arc::try_clone(told)?))?;

@@ -3,7 +3,7 @@
 ghost use Rattle.std.specs.Prelude.{◌≡◌, IfOk, IfErr};
 ghost use Rattle.mal_base.specs.declared.verdict.Outcome.TheVariants.{Starved};
 ghost use Rattle.spec_job.specs.{Journaled.{replayed, started, and_entries}, Leased.{Becomes, Tells}};
-ghost use Rattle.mal_suspend.specs.{Kept.{journal_of, is_gone}, Replaying.{MayAllReplay}, Starting.{shared_loads, shared_tolds, start_entries}};
+ghost use Rattle.mal_suspend.specs.{Kept.{journal_of, is_gone}, Replaying.{MayAllReplay}, Starting.{shared_loads, shared_imports, start_entries}};
 
 use crate::done::Done;
 use crate::journal::Journal;
@@ -44,8 +44,8 @@ impl Model for Lease {
 
 impl Lease {
     /// Hands a node out to a worker for the start of this number: it loads these revisions, each with the number of its
-    /// first clause, then imports what was told, then runs a slice. After want of memory gives back what is kept of the
-    /// node, as it was.
+    /// first clause, then imports what was broadcast, then runs a slice. After want of memory gives back what is kept
+    /// of the node, as it was.
     pub fn new(
         kept: Kept,
         loads: Vec<(Arc<Revision>, u32)>,
@@ -54,11 +54,11 @@ impl Lease {
         worker: u32,
     ) -> Result<Lease, (Kept, AllocError)>
         requires { MayAllReplay (replayed (journal_of kept))
-            (start_entries (shared_loads loads.items) (shared_tolds imports.items)) }
+            (start_entries (shared_loads loads.items) (shared_imports imports.items)) }
         ensures journal { IfOk result (λ l. l.journal ≡ started start (journal_of kept)) }
         ensures gone { IfOk result (λ l. l.gone ≡ is_gone kept) }
         ensures adds { IfOk result
-            (λ l. l.adds ≡ start_entries (shared_loads loads.items) (shared_tolds imports.items)) }
+            (λ l. l.adds ≡ start_entries (shared_loads loads.items) (shared_imports imports.items)) }
         ensures worker { IfOk result (λ l. l.worker ≡ worker) }
         ensures refused { IfErr result (λ e. e.0 ≡ kept) }
     {

@@ -2,7 +2,7 @@
 
 ghost use Rattle.std.specs.Prelude.{◌≡◌, IfOk};
 ghost use Rattle.mal_cdcl.specs.{Importing.{lent}, Ready.{posted}};
-ghost use Rattle.mal_suspend.specs.Starting.{shared_loads, shared_tolds};
+ghost use Rattle.mal_suspend.specs.Starting.{shared_loads, shared_imports};
 
 use mal_buffer::Buffer;
 use mal_revision::Revision;
@@ -24,12 +24,12 @@ pub fn lend_loads<'a>(
     Ok(lent)
 }
 
-/// Shared lists of what was told, lent.
-pub fn lend_tolds<'a>(
+/// Shared lists of what was broadcast, lent.
+pub fn lend_imports<'a>(
     alloc: Global,
     imports: &'a [Arc<Buffer>],
 ) -> Result<Vec<&'a Buffer>, AllocError>
-    ensures { IfOk result (λ v. lent v.items ≡ shared_tolds imports.now) }
+    ensures { IfOk result (λ v. lent v.items ≡ shared_imports imports.now) }
 {
     let mut lent = Vec::new(alloc);
     for told in imports {

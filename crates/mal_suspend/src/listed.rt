@@ -56,7 +56,7 @@ impl Listed {
         self.loads
     }
 
-    /// How many of them import what was told.
+    /// How many of them import what was broadcast.
     pub fn imports(&self) -> usize
         ensures { result ≡ imports_in (entries_of self.now) }
     {
@@ -70,7 +70,7 @@ impl Listed {
         self.variables
     }
 
-    /// An equal list, with room for so many entries more. It shares the revisions and what was told.
+    /// An equal list, with room for so many entries more. It shares the revisions and what was broadcast.
     pub fn copy_with(&self, more: usize) -> Result<Listed, AllocError>
         ensures { IfOk result (λ l. entries_of l ≡ entries_of self.now) }
     {

@@ -5,12 +5,12 @@ ghost use Rattle.spec_node.specs.Sound.{IsSound};
 ghost use Rattle.spec_search.specs.Slice.{slice};
 ghost use Rattle.mal_cdcl.specs.Sliced.{HasIdRoom, HasLowCounts, HasSliceRoom};
 ghost use Rattle.spec_job.specs.{Journaled.{replayed, and_entries, started}, Leased.{HasBecome}};
-ghost use Rattle.mal_suspend.specs.{Replaying.{MayAllReplay, after_entries, alone}, Starting.{shared_loads, shared_tolds, start_entries}};
+ghost use Rattle.mal_suspend.specs.{Replaying.{MayAllReplay, after_entries, alone}, Starting.{shared_loads, shared_imports, start_entries}};
 
 use crate::done::Done;
 use crate::journal::Journal;
 use crate::kept::Kept;
-use crate::lending::{lend_loads, lend_tolds};
+use crate::lending::{lend_imports, lend_loads};
 use crate::suspended::{Solver, Suspended};
 use mal_buffer::Buffer;
 use mal_learn::Scratch;
@@ -32,14 +32,14 @@ pub struct Start {
 impl Model for Start {
     ghost use Rattle.std.specs.Prelude.{◌≡◌, ◌≤◌, [], vec_capacity};
     ghost use Rattle.spec_job.specs.Leased.{Begun};
-    ghost use Rattle.mal_suspend.specs.{Replaying.{IsJournal, variables_after}, Starting.{shared_loads, shared_tolds, start_entries}};
+    ghost use Rattle.mal_suspend.specs.{Replaying.{IsJournal, variables_after}, Starting.{shared_loads, shared_imports, start_entries}};
 
     ghost Value = { Begun };
 
     ghost view = { λ s. record {
       grown = s.grown;
       adds = start_entries (shared_loads s.loads.items)
-          (shared_tolds s.imports.items);
+          (shared_imports s.imports.items);
     } };
 
     ghost invariant = { λ s. IsJournal s.grown.profile s.grown.index s.grown.entries × (s.values.items ≡ [])
@@ -47,8 +47,8 @@ impl Model for Start {
 }
 
 impl Start {
-    /// The start of this number behind a journal that loads these revisions, then imports what was told, then runs a
-    /// slice.
+    /// The start of this number behind a journal that loads these revisions, then imports what was broadcast, then runs
+    /// a slice.
     pub fn new(
         journal: &Journal,
         loads: Vec<(Arc<Revision>, u32)>,
@@ -56,13 +56,13 @@ impl Start {
         start: u64,
     ) -> Result<Start, AllocError>
         requires { MayAllReplay (replayed journal.now)
-            (start_entries (shared_loads loads.items) (shared_tolds imports.items)) }
+            (start_entries (shared_loads loads.items) (shared_imports imports.items)) }
         ensures adds { IfOk result
-            (λ s. s.adds ≡ start_entries (shared_loads loads.items) (shared_tolds imports.items)) }
+            (λ s. s.adds ≡ start_entries (shared_loads loads.items) (shared_imports imports.items)) }
         ensures grown { IfOk result
             (λ s. s.grown
             ≡ and_entries (started start journal.now)
-            (start_entries (shared_loads loads.items) (shared_tolds imports.items))) }
+            (start_entries (shared_loads loads.items) (shared_imports imports.items))) }
     {
         let grown = journal.grown(start, loads.as_slice(), imports.as_slice())?;
         let values = Vec::with_capacity(journal.allocator(), grown.variables() as usize)?;
@@ -111,7 +111,7 @@ impl Start {
     {
         let alloc = self.grown.allocator();
         let loads = lend_loads(alloc, self.loads.as_slice())?;
-        let imports = lend_tolds(alloc, self.imports.as_slice())?;
+        let imports = lend_imports(alloc, self.imports.as_slice())?;
         node.ready(loads.as_slice(), imports.as_slice(), scratch)?;
         Ok(())
     }

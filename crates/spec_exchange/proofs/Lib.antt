@@ -1,7 +1,7 @@
 -- what crates above cite
 pub mod OrderLemmas
 pub mod UnionLemmas
-pub mod FrontLemmas
+pub mod PrefixLemmas
 pub mod TreeLemmas
 -- what this crate alone cites
 mod Examples

@@ -1,11 +1,11 @@
 use Rattle.std.proofs.Common.{◌≡◌, ℕ, zero, suc, ◌<◌, List, [], ◌∷◌, ◌++◌, length, get_or, Option, sym, ap, ◌∙◌, arith}
 use Rattle.std.specs.Prelude.{slice_set}
 use Rattle.mal_base.specs.NumberedClause.{NumberedClause}
-use Rattle.spec_exchange.specs.Exchange.{union, merged, front, most_literals, broadcast, entries_of}
+use Rattle.spec_exchange.specs.Exchange.{union, merged, prefix, most_literals, broadcast, entries_of}
 use Rattle.spec_exchange.specs.Order.{IsSorted, least_of, least_id}
 use Rattle.spec_exchange.proofs.OrderLemmas.{least-comm, least-assoc, least-swap}
 use Rattle.spec_exchange.proofs.UnionLemmas.{union-sorted, union-least, append-least, decided, merged-least, merged-sorted}
-use Rattle.spec_exchange.proofs.FrontLemmas.{early, front-sorted}
+use Rattle.spec_exchange.proofs.PrefixLemmas.{early, prefix-sorted}
 
 -- where the buffer at a place is another one, only its own entries change
 set-least : (a : List ℕ) (ts : List (List NumberedClause)) (p : ℕ) (t : List NumberedClause) → p < length ts → least_id a (entries_of (slice_set ts p t)) ≡ least_of (least_id a t) (least_id a (entries_of (slice_set ts p [])))
@@ -37,13 +37,13 @@ push-least a (x ∷ xs) t =
 
 -- the last buffer merged into that at a place and cut there: what is told to all stays
 pub climb : (ts : List (List NumberedClause)) (p : ℕ) (last : List NumberedClause) → p < length ts
-    → broadcast (entries_of (slice_set ts p (front most_literals (union (get_or ts p [] ++ last))))) ≡ broadcast (entries_of (ts ++ last ∷ []))
+    → broadcast (entries_of (slice_set ts p (prefix most_literals (union (get_or ts p [] ++ last))))) ≡ broadcast (entries_of (ts ++ last ∷ []))
 climb ts p last h =
     let m : List NumberedClause = union (get_or ts p [] ++ last) in
-    let c : List NumberedClause = front most_literals m in
+    let c : List NumberedClause = prefix most_literals m in
     let r : List NumberedClause = entries_of (slice_set ts p []) in
     let sm : IsSorted m = union-sorted (get_or ts p [] ++ last) in
-    let sc : IsSorted c = front-sorted most_literals m sm in
+    let sc : IsSorted c = prefix-sorted most_literals m sm in
     let su : IsSorted (union r) = union-sorted r in
     let one : union (entries_of (slice_set ts p c)) ≡ merged c (union r) =
     decided (union (entries_of (slice_set ts p c))) (merged c (union r)) (union-sorted (entries_of (slice_set ts p c))) (merged-sorted c (union r) sc su) (λ a.
@@ -60,11 +60,11 @@ climb ts p last h =
     let turn : least_of (least_of own theirs) others ≡ least_of (least_of own others) theirs =
     least-assoc own theirs others ∙ (ap (least_of own) (least-comm theirs others) ∙ sym (least-assoc own others theirs)) in
     left ∙ (turn ∙ sym right)) in
-    ap (front most_literals) one ∙ (early most_literals most_literals m (union r) (omega arith) ∙ ap (front most_literals) two)
+    ap (prefix most_literals) one ∙ (early most_literals most_literals m (union r) (omega arith) ∙ ap (prefix most_literals) two)
 
 -- what the one buffer that is left tells
-pub top : (t : List NumberedClause) → IsSorted t → front most_literals t ≡ broadcast (entries_of (t ∷ []))
+pub top : (t : List NumberedClause) → IsSorted t → prefix most_literals t ≡ broadcast (entries_of (t ∷ []))
 top t s =
     let same : union (t ++ []) ≡ t =
     decided (union (t ++ [])) t (union-sorted (t ++ [])) s (λ a. union-least (t ++ []) a ∙ (append-least t [] a ∙ least-comm (least_id a t) (least_id a []))) in
-    ap (front most_literals) (sym same)
+    ap (prefix most_literals) (sym same)

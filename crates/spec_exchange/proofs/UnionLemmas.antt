@@ -159,8 +159,8 @@ merged-union xs ys s t = decided (merged xs ys) (union (xs ++ ys)) (merged-sorte
     merged-least xs ys a ∙ (sym (append-least xs ys a) ∙ sym (union-least (xs ++ ys) a)))
 
 -- of a sorted list and some entries
-pub union-front : (xs ys : List NumberedClause) → IsSorted xs → union (xs ++ ys) ≡ merged xs (union ys)
-union-front xs ys s = decided (union (xs ++ ys)) (merged xs (union ys)) (union-sorted (xs ++ ys)) (merged-sorted xs (union ys) s (union-sorted ys)) (λ a.
+pub union-prefix : (xs ys : List NumberedClause) → IsSorted xs → union (xs ++ ys) ≡ merged xs (union ys)
+union-prefix xs ys s = decided (union (xs ++ ys)) (merged xs (union ys)) (union-sorted (xs ++ ys)) (merged-sorted xs (union ys) s (union-sorted ys)) (λ a.
     union-least (xs ++ ys) a ∙ (append-least xs ys a ∙ (ap (least_of (least_id a xs)) (sym (union-least ys a)) ∙ sym (merged-least xs (union ys) a))))
 
 -- merging with nothing

@@ -48,18 +48,18 @@ abbrev pub merged : List NumberedClause → List NumberedClause → List Numbere
 merged [] ys = ys
 merged (x ∷ xs) ys = merged_from x (merged xs) ys
 
--- the longest front of entries that has at most so many literals
-abbrev pub front : ℕ → List NumberedClause → List NumberedClause
-front room [] = []
-front room (e ∷ es) = if nat_le (length e.lits) room then e ∷ front (room - length e.lits) es else []
+-- the longest prefix of entries that has at most so many literals
+abbrev pub prefix : ℕ → List NumberedClause → List NumberedClause
+prefix room [] = []
+prefix room (e ∷ es) = if nat_le (length e.lits) room then e ∷ prefix (room - length e.lits) es else []
 
 -- a buffer takes 1,500 literals
 abbrev pub most_literals : ℕ
 most_literals = 1500
 
--- what is told to all solvers of a job when these entries are exported
+-- what is broadcast to all solvers of a job when these entries are exported
 abbrev pub broadcast : List NumberedClause → List NumberedClause
-broadcast exports = front most_literals (union exports)
+broadcast exports = prefix most_literals (union exports)
 
 -- all entries of the buffers of a tree's nodes, by index
 abbrev pub entries_of : List (List NumberedClause) → List NumberedClause

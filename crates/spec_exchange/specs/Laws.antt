@@ -1,8 +1,8 @@
--- What holds of unions and fronts, in the form in which the law functions state it.
+-- What holds of unions and prefixes, in the form in which the law functions state it.
 use Rattle.std.specs.Prelude.{◌≡◌, ℕ, ◌+◌, ◌<◌, ◌≤◌, List, [], ◌∷◌, ◌++◌, length, sum_by, get_or}
 use Rattle.std.specs.Prelude.{slice_set}
 use Rattle.mal_base.specs.NumberedClause.{NumberedClause}
-use Rattle.spec_exchange.specs.Exchange.{union, front, most_literals, broadcast, entries_of}
+use Rattle.spec_exchange.specs.Exchange.{union, prefix, most_literals, broadcast, entries_of}
 use Rattle.spec_exchange.specs.Order.{IsSorted, least_id}
 
 -- the literals of entries, counted
@@ -31,18 +31,18 @@ UnionOfUnions = (xs ys : List NumberedClause) → union (union xs ++ ys) ≡ uni
 
 -- what is cut off early would be cut off at the end
 abbrev pub CutsEarly : Type 0
-CutsEarly = (room : ℕ) (xs ys : List NumberedClause) → front room (union (front room (union xs) ++ ys)) ≡ front room (union (xs ++ ys))
+CutsEarly = (room : ℕ) (xs ys : List NumberedClause) → prefix room (union (prefix room (union xs) ++ ys)) ≡ prefix room (union (xs ++ ys))
 
--- what is told to all stays where the last of several buffers is merged into any other one and cut there
+-- what is broadcast stays where the last of several buffers is merged into any other one and cut there
 abbrev pub MergesUp : Type 0
 MergesUp =
     (buffers : List (List NumberedClause)) (place : ℕ) (last : List NumberedClause) → place < length buffers
-    → broadcast (entries_of (slice_set buffers place (front most_literals (union (get_or buffers place [] ++ last))))) ≡ broadcast (entries_of (buffers ++ last ∷ []))
+    → broadcast (entries_of (slice_set buffers place (prefix most_literals (union (get_or buffers place [] ++ last))))) ≡ broadcast (entries_of (buffers ++ last ∷ []))
 
--- a front is a front that fits, and the entry behind it does not fit any more
-pub record IsLongestFront (room : ℕ) (es : List NumberedClause) : Type 0 where
-  pub fits : literals_in (front room es) ≤ room
-  pub is_front : (rest : List NumberedClause) × (es ≡ front room es ++ rest) × ((e : NumberedClause) (others : List NumberedClause) → rest ≡ e ∷ others → room < literals_in (front room es) + length e.lits)
+-- it is a prefix that fits, and the entry behind it does not fit any more
+pub record IsLongestPrefix (room : ℕ) (es : List NumberedClause) : Type 0 where
+  pub fits : literals_in (prefix room es) ≤ room
+  pub is_prefix : (rest : List NumberedClause) × (es ≡ prefix room es ++ rest) × ((e : NumberedClause) (others : List NumberedClause) → rest ≡ e ∷ others → room < literals_in (prefix room es) + length e.lits)
 
-abbrev pub FrontIsLongest : Type 0
-FrontIsLongest = (room : ℕ) (es : List NumberedClause) → IsLongestFront room es
+abbrev pub PrefixIsLongest : Type 0
+PrefixIsLongest = (room : ℕ) (es : List NumberedClause) → IsLongestPrefix room es

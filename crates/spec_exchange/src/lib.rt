@@ -1,8 +1,8 @@
 //! What the solvers of one job tell each other: unions of clauses in one order, each clause once, and their longest
-//! fronts. Definitions, and the laws about them as the contracts of functions without a body.
+//! prefixes. Definitions, and the laws about them as the contracts of functions without a body.
 #![tactic(auto)]
 
-ghost use Rattle.spec_exchange.specs.{Laws.{UnionIsSorted, UnionKeepsTheLeast, SortedAreDecided, OrderDoesNotMatter, UnionOfUnions, CutsEarly, FrontIsLongest, MergesUp}, Examples.{HasExamples}};
+ghost use Rattle.spec_exchange.specs.{Laws.{UnionIsSorted, UnionKeepsTheLeast, SortedAreDecided, OrderDoesNotMatter, UnionOfUnions, CutsEarly, PrefixIsLongest, MergesUp}, Examples.{HasExamples}};
 
 /// A union is sorted, has just the lists of literals that the entries have, each with the least of its numbers, and is
 /// the only such list.
@@ -25,9 +25,9 @@ pub fn cutting_early_loses_nothing()
     ensures up { MergesUp }
 {}
 
-/// A front fits its room, and the entry behind it does not fit any more.
-pub fn front_is_longest()
-    ensures { FrontIsLongest }
+/// A prefix fits its room, and the entry behind it does not fit any more.
+pub fn prefix_is_longest()
+    ensures { PrefixIsLongest }
 {}
 
 /// Worked examples.

@@ -42,7 +42,7 @@ pub record IsAlone (profile slices : ℕ) (ask : Terms) (volume : ℕ) (broadcas
   pub budget : ask.slices ≡ slices
   pub solvers : ask.profile ≡ profile
   pub low : volume ≤ 1
-  pub untold : broadcasts ≡ []
+  pub unexported : broadcasts ≡ []
   pub some : 1 ≤ length places
   pub others : (i : ℕ) → (get_or places (suc i) vacant).out ≡ None
 
@@ -80,7 +80,7 @@ lease-with s es = record { revision = length s.answers; adds = missing_loads s (
 
 start-next : (s : SoloMachine) (c : Course) → s.broadcasts ≡ [] → course_of s ≡ c → lease_of s 0 ≡ lease_from s.revisions c
 unfolding lease-with
-start-next s c untold same = ap (lease-with s) (no-imports (imports_in (place_at s 0).entries) s.broadcasts untold) ∙ ap (lease_from s.revisions) same
+start-next s c unexported same = ap (lease-with s) (no-imports (imports_in (place_at s 0).entries) s.broadcasts unexported) ∙ ap (lease_from s.revisions) same
 
 -- the machine stands at the end of a slice, before what an empty clause answers
 pub record IsThere (profile slices : ℕ) (t : SoloMachine) (n : ℕ) : Type 0 where
@@ -124,7 +124,7 @@ alone-set profile slices s q h = record {
   budget = h.budget;
   solvers = h.solvers;
   low = h.low;
-  untold = h.untold;
+  unexported = h.unexported;
   some = subst (λ (n : ℕ). 1 ≤ n) (sym (length-set s.places 0 q)) h.some;
   others = λ i. ap (λ (p : NodeSlot). p.out) (set-others s.places q i) ∙ h.others i;
 }
@@ -156,7 +156,7 @@ started-along profile slices n s live h = record {
       leased = λ l e.
           let out : Some (lease_of s 0) ≡ Some l = sym (ap (λ (p : NodeSlot). p.out) here) ∙ e in
           let same : lease_of s 0 ≡ l = cc in
-          (subst (λ (x : Course). length x.answers < length s.revisions) k.same live, sym same ∙ start-next s c h.alone.untold k.same);
+          (subst (λ (x : Course). length x.answers < length s.revisions) k.same live, sym same ∙ start-next s c h.alone.unexported k.same);
     }
 
     by_stand : IsOpen s c ⊎ ((goal : ℕ) × IsSettled s c goal) → IsOpen (solo_step s (Started 0)) c ⊎ ((goal : ℕ) × IsSettled (solo_step s (Started 0)) c goal)

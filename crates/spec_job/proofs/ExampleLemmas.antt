@@ -10,7 +10,7 @@ examples = record { answered = refl; whole = refl; second_node = refl; budget_sp
 
 pub refutations : HasRefutations
 unfolding luby slice analysed_in
-refutations = record { refuted_at_once = refl; one_line = refl; numbered = refl; none_failed = refl; two_lines = refl; answered_at_once = refl; behind_both = refl; both_refuted = refl; both_failed = refl; core = refl; not_settled = refl }
+refutations = record { refuted_at_once = refl; one_line = refl; numbered = refl; none_failed = refl; two_lines = refl; answered_at_once = refl; after_both = refl; both_refuted = refl; both_failed = refl; core = refl; not_settled = refl }
 
 pub exchanges : HasExchanges
 unfolding luby slice analysed_in

@@ -6,7 +6,7 @@ use Rattle.std.specs.declared.cmp.Ordering.TheVariants.{Less, Equal, Greater}
 use Rattle.std.proofs.lemmas.List.Elements.{All-nil, All-cons, All-head, All-tail, All-append}
 use Rattle.mal_base.specs.NumberedClause.{NumberedClause, Line}
 use Rattle.spec_node.specs.Laws.{HaveOwnNumbers}
-use Rattle.spec_exchange.specs.Exchange.{lits_cmp, lesser, put_by, put, union, front, most_literals, broadcast}
+use Rattle.spec_exchange.specs.Exchange.{lits_cmp, lesser, put_by, put, union, prefix, most_literals, broadcast}
 use Rattle.spec_exchange.specs.Order.{IsBefore, IsSorted}
 use Rattle.spec_exchange.proofs.OrderLemmas.{cmp_itself, before-trans}
 use Rattle.spec_exchange.proofs.UnionLemmas.{union-sorted}
@@ -34,25 +34,25 @@ All-union : (P : NumberedClause → Type 0) (es : List NumberedClause) → All P
 All-union P [] h = h
 All-union P (e ∷ es) h = All-put P e (union es) (All-head P e es h) (All-union P es (All-tail P e es h))
 
--- what holds of all entries holds of those of a front
-All-front : (P : NumberedClause → Type 0) (room : ℕ) (es : List NumberedClause) → All P es → All P (front room es)
-All-front P room [] h = h
-All-front P room (e ∷ es) h = by_fit (nat_le (length e.lits) room) (All-front P (room - length e.lits) es (All-tail P e es h))
+-- what holds of all entries holds of those of a prefix
+All-prefix : (P : NumberedClause → Type 0) (room : ℕ) (es : List NumberedClause) → All P es → All P (prefix room es)
+All-prefix P room [] h = h
+All-prefix P room (e ∷ es) h = by_fit (nat_le (length e.lits) room) (All-prefix P (room - length e.lits) es (All-tail P e es h))
   where
-    by_fit : (b : Bool) → All P (front (room - length e.lits) es) → All P (cond b (e ∷ front (room - length e.lits) es) [])
-    by_fit true rest = All-cons P e (front (room - length e.lits) es) (All-head P e es h) rest
+    by_fit : (b : Bool) → All P (prefix (room - length e.lits) es) → All P (cond b (e ∷ prefix (room - length e.lits) es) [])
+    by_fit true rest = All-cons P e (prefix (room - length e.lits) es) (All-head P e es h) rest
     by_fit false rest = All-nil P
 
 -- what holds of all exports holds of what is told to all
 pub All-broadcast : (P : NumberedClause → Type 0) (exports : List NumberedClause) → All P exports → All P (broadcast exports)
-All-broadcast P exports h = All-front P most_literals (union exports) (All-union P exports h)
+All-broadcast P exports h = All-prefix P most_literals (union exports) (All-union P exports h)
 
-own-front : (room : ℕ) (es : List NumberedClause) → HaveOwnNumbers es → HaveOwnNumbers (front room es)
-own-front room [] h = h
-own-front room (e ∷ es) h = by_fit (nat_le (length e.lits) room) (own-front (room - length e.lits) es h.1)
+own-prefix : (room : ℕ) (es : List NumberedClause) → HaveOwnNumbers es → HaveOwnNumbers (prefix room es)
+own-prefix room [] h = h
+own-prefix room (e ∷ es) h = by_fit (nat_le (length e.lits) room) (own-prefix (room - length e.lits) es h.1)
   where
-    by_fit : (b : Bool) → HaveOwnNumbers (front (room - length e.lits) es) → HaveOwnNumbers (cond b (e ∷ front (room - length e.lits) es) [])
-    by_fit true rest = (All-front (λ d. e.id ≢ d.id) (room - length e.lits) es h.0, rest)
+    by_fit : (b : Bool) → HaveOwnNumbers (prefix (room - length e.lits) es) → HaveOwnNumbers (cond b (e ∷ prefix (room - length e.lits) es) [])
+    by_fit true rest = (All-prefix (λ d. e.id ≢ d.id) (room - length e.lits) es h.0, rest)
     by_fit false rest = tt
 
 -- the first of sorted entries comes before each other
@@ -80,7 +80,7 @@ own-sorted log (x ∷ xs) apart h (b, s) = (others xs (All-tail (IsOfLine log) x
 pub broadcast-said : (log : List Line) (exports : List NumberedClause) → AreApart log → All (IsOfLine log) exports → IsSaid log (broadcast exports)
 broadcast-said log exports apart h =
     let all : All (IsOfLine log) (union exports) = All-union (IsOfLine log) exports h in
-    record { lines = All-front (IsOfLine log) most_literals (union exports) all; apart = own-front most_literals (union exports) (own-sorted log (union exports) apart all (union-sorted exports)) }
+    record { lines = All-prefix (IsOfLine log) most_literals (union exports) all; apart = own-prefix most_literals (union exports) (own-sorted log (union exports) apart all (union-sorted exports)) }
 
 among-dropped : (k : ℕ) (log : List Line) (line : Line) → Among line (drop k log) → Among line log
 among-dropped zero log line m = m

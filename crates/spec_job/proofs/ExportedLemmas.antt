@@ -19,7 +19,7 @@ use Rattle.spec_search.specs.Slice.{Sliced, slice}
 use Rattle.spec_search.specs.Laws.{AreNumbered}
 use Rattle.spec_search.proofs.LineLemmas.{lines-counted}
 use Rattle.spec_job.specs.Counts.{runs_in, runs_of, is_opening}
-use Rattle.spec_job.specs.Exported.{derived_from, told_step, told_from, journal_told, is_short, exported_by, IsOpenedFirst, ExportsAreDerived, ExchangesTellDerived}
+use Rattle.spec_job.specs.Exported.{derived_from, exchanged_step, exchanged_from, journal_exchanged, is_short, exported_by, IsOpenedFirst, ExportsAreDerived, ExchangesTellDerived}
 use Rattle.spec_job.specs.Journal.{JournalEntry, Load, Import, Run, after_entry, replay}
 use Rattle.spec_job.specs.SoloMachine.{Own, Opened, Revised, Closed, Volume, Started, Finished, Exchanged, Lease, NodeSlot, vacant, SoloMachine, unopened, solo, solo_step, place_at, first_empty, settled_by, finished, exports_of, takes_part, exports_from, marked_from, exchanged}
 use Rattle.spec_job.proofs.CountLemmas.{runs_in-cons, replay-index, replay-runs}
@@ -208,8 +208,8 @@ drop-all : (ls : List Line) → drop (length ls) ls ≡ []
 drop-all [] = refl
 drop-all (l ∷ ls) = drop-all ls
 
-exchanged-known : (i : ℕ) (last : List JournalEntry) (s : SoloMachine) → i < length s.places → IsKnownIn i last s → IsKnownIn i (told_step i s last Exchanged) (exchanged s)
-exchanged-known i last s within h = subst (IsKnown s.ask.profile i (told_step i s last Exchanged) s.log) (sym (marked-at s.volume (length s.log) 0 s.places i within ∙ ap (λ (n : ℕ). cond (takes_part s.volume n p) (record p { mark = length s.log }) p) zero_is)) (by_part (takes_part s.volume i p))
+exchanged-known : (i : ℕ) (last : List JournalEntry) (s : SoloMachine) → i < length s.places → IsKnownIn i last s → IsKnownIn i (exchanged_step i s last Exchanged) (exchanged s)
+exchanged-known i last s within h = subst (IsKnown s.ask.profile i (exchanged_step i s last Exchanged) s.log) (sym (marked-at s.volume (length s.log) 0 s.places i within ∙ ap (λ (n : ℕ). cond (takes_part s.volume n p) (record p { mark = length s.log }) p) zero_is)) (by_part (takes_part s.volume i p))
   where
     p : NodeSlot
     p = place_at s i
@@ -221,7 +221,7 @@ exchanged-known i last s within h = subst (IsKnown s.ask.profile i (told_step i 
     by_part true = record { more = []; grown = sym (append-nil p.entries); mark = omega arith; own = ap (filter (is_of i)) (drop-all s.log) }
     by_part false = h
 
-step-known : (i : ℕ) (last : List JournalEntry) (s : SoloMachine) (o : Own) → is_opening o ≡ false → i ≤ 63 → IsTidy s → IsLowSolo s → IsKnownIn i last s → IsKnownIn i (told_step i s last o) (solo_step s o)
+step-known : (i : ℕ) (last : List JournalEntry) (s : SoloMachine) (o : Own) → is_opening o ≡ false → i ≤ 63 → IsTidy s → IsLowSolo s → IsKnownIn i last s → IsKnownIn i (exchanged_step i s last o) (solo_step s o)
 step-known i last s (Opened ask) none few tidy low h = absurd (true≢false none)
 step-known i last s (Revised r) none few tidy low h = settled-known i last (first_empty s.log) (record s { revisions = s.revisions ++ r ∷ [] }) h
 step-known i last s Closed none few tidy low h = h
@@ -230,17 +230,17 @@ step-known i last s (Started j) none few tidy low h = same-known i j last s (rec
 step-known i last s (Finished j o) none few tidy low h = finished-known i j last s (place_at s j).out o few refl low h
 step-known i last s Exchanged none few tidy low h = exchanged-known i last s (omega (arith, few, tidy.places.count)) h
 
-events-known : (i : ℕ) (last : List JournalEntry) (s : SoloMachine) (os : List Own) → list_any is_opening os ≡ false → i ≤ 63 → IsTidy s → IsLowSolo s → IsKnownIn i last s → IsKnownIn i (told_from i s last os) (fold solo_step s os)
+events-known : (i : ℕ) (last : List JournalEntry) (s : SoloMachine) (os : List Own) → list_any is_opening os ≡ false → i ≤ 63 → IsTidy s → IsLowSolo s → IsKnownIn i last s → IsKnownIn i (exchanged_from i s last os) (fold solo_step s os)
 events-known i last s [] none few tidy low h = h
 events-known i last s (o ∷ os) none few tidy low h =
     let parts = or_parts (is_opening o) (list_any is_opening os) none in
-    events-known i (told_step i s last o) (solo_step s o) os parts.1 few (step-tidy s o tidy) (step-low s o low) (step-known i last s o parts.0 few tidy low h)
+    events-known i (exchanged_step i s last o) (solo_step s o) os parts.1 few (step-tidy s o tidy) (step-low s o low) (step-known i last s o parts.0 few tidy low h)
 
 -- nothing has run before the first event, nor behind an opening
 opened-known : (i : ℕ) (ask : Terms) → IsKnownIn i [] (record unopened { ask = ask })
 opened-known i ask = subst (IsKnown ask.profile i [] []) (sym (get-vacant 64 i)) (record { more = []; grown = refl; mark = omega arith; own = refl })
 
-run-known : (i : ℕ) (events : List Own) → IsOpenedFirst events → i ≤ 63 → IsKnownIn i (journal_told i events) (solo events)
+run-known : (i : ℕ) (events : List Own) → IsOpenedFirst events → i ≤ 63 → IsKnownIn i (journal_exchanged i events) (solo events)
 run-known i [] none few = opened-known i unopened.ask
 run-known i (Opened ask ∷ os) none few = events-known i [] (solo_step unopened (Opened ask)) os none few (step-tidy unopened (Opened ask) (solo-tidy [])) (step-low unopened (Opened ask) unopened-low) (opened-known i ask)
 run-known i (Revised r ∷ os) none few = events-known i [] unopened (Revised r ∷ os) none few (solo-tidy []) unopened-low (opened-known i unopened.ask)
@@ -253,9 +253,9 @@ run-known i (Exchanged ∷ os) none few = events-known i [] unopened (Exchanged 
 pub exports-are_derived : ExportsAreDerived
 exports-are_derived events i none few =
     let s : SoloMachine = solo events in
-    let k : IsKnownIn i (journal_told i events) s = run-known i events none few in
+    let k : IsKnownIn i (journal_exchanged i events) s = run-known i events none few in
     let p : NodeSlot = place_at s i in
-    let last : List JournalEntry = journal_told i events in
+    let last : List JournalEntry = journal_exchanged i events in
     let later : k.more ≡ drop (length last) p.entries = sym (ap (drop (length last)) k.grown ∙ drop-append_seam last k.more) in
     ap (map (λ (l : Line). held l)) (filter-both (is_of i) is_short (drop p.mark s.log) ∙ ap (filter is_short) (k.own ∙ ap (derived_from (replay s.ask.profile i last)) later))
   where

@@ -18,7 +18,7 @@ use Rattle.spec_job.specs.SoloMachine.{SoloMachine}
 use Rattle.spec_job.specs.Models.{clauses_of}
 use Rattle.spec_job.specs.Proofs.{lits_at}
 use Rattle.spec_job.specs.KeyedJob.{Key}
-use Rattle.spec_job.specs.Replies.{told_by, reply}
+use Rattle.spec_job.specs.Replies.{body_by, reply}
 use Rattle.spec_job.specs.DemandOne.{Agree}
 use Rattle.spec_job.proofs.ReachedLemmas.{among-left, among-right, reached-stays, lits-found}
 use Rattle.spec_job.proofs.DerivingLemmas.{IsRefuted}
@@ -66,7 +66,7 @@ proof-same : (xs ys : List ℕ) (ps rs : List Posted) (ls ms : List Line) → xs
 proof-same xs ys ps rs ls ms a b c = rw (a, b, c) refl
 
 -- what is told of one answer
-pub told-same : (s t : SoloMachine) (r : ℕ) (x : Answer) → MachineInvariant s → MachineInvariant t → IsFront s.log t.log ⊎ IsFront t.log s.log → take (r + 1) s.revisions ≡ take (r + 1) t.revisions → slice_get s.answers r ≡ Some x → slice_get t.answers r ≡ Some x → told_by s r x ≡ told_by t r x
+pub told-same : (s t : SoloMachine) (r : ℕ) (x : Answer) → MachineInvariant s → MachineInvariant t → IsFront s.log t.log ⊎ IsFront t.log s.log → take (r + 1) s.revisions ≡ take (r + 1) t.revisions → slice_get s.answers r ≡ Some x → slice_get t.answers r ≡ Some x → body_by s r x ≡ body_by t r x
 told-same s t r (Satisfied model) h k logs front e f = refl
 told-same s t r (Refuted goal) h k logs front e f =
     let same : MeansSame goal s.log t.log = goal-same s t r goal h k logs e f in
@@ -75,10 +75,10 @@ told-same s t r (Spent n) h k logs front e f = refl
 told-same s t r OutOfStarts h k logs front e f = refl
 
 -- a reply tells of an answer
-pub reply-at : (k : Key) (s : SoloMachine) (r : ℕ) (a : List ℕ) → reply k (suc r) s ≡ Some a → (x : Answer) × (slice_get s.answers r ≡ Some x) × (reply_text k.tenant k.job (suc r) s.ask.profile (told_by s r x) ≡ a)
+pub reply-at : (k : Key) (s : SoloMachine) (r : ℕ) (a : List ℕ) → reply k (suc r) s ≡ Some a → (x : Answer) × (slice_get s.answers r ≡ Some x) × (reply_text k.tenant k.job (suc r) s.ask.profile (body_by s r x) ≡ a)
 reply-at k s r a e = by_answer (slice_get s.answers r) refl e
   where
-    by_answer : (o : Option Answer) → slice_get s.answers r ≡ o → option_map (reply_text k.tenant k.job (suc r) s.ask.profile) (option_map (told_by s r) o) ≡ Some a → (x : Answer) × (slice_get s.answers r ≡ Some x) × (reply_text k.tenant k.job (suc r) s.ask.profile (told_by s r x) ≡ a)
+    by_answer : (o : Option Answer) → slice_get s.answers r ≡ o → option_map (reply_text k.tenant k.job (suc r) s.ask.profile) (option_map (body_by s r) o) ≡ Some a → (x : Answer) × (slice_get s.answers r ≡ Some x) × (reply_text k.tenant k.job (suc r) s.ask.profile (body_by s r x) ≡ a)
     by_answer None q f = absurd (cc)
     by_answer (Some x) q f = (x, q, cc)
 
@@ -89,10 +89,10 @@ pub replies-agree : (s t : SoloMachine) (more : List Posted) → t.revisions ≡
 replies-agree s t more front solvers h k logs agree key zero a b e f = absurd (cc)
 replies-agree s t more front solvers h k logs agree key (suc r) a b e f = by_answers (reply-at key s r a e) (reply-at key t r b f)
   where
-    by_answers : (x : Answer) × (slice_get s.answers r ≡ Some x) × (reply_text key.tenant key.job (suc r) s.ask.profile (told_by s r x) ≡ a) → (y : Answer) × (slice_get t.answers r ≡ Some y) × (reply_text key.tenant key.job (suc r) t.ask.profile (told_by t r y) ≡ b) → a ≡ b
+    by_answers : (x : Answer) × (slice_get s.answers r ≡ Some x) × (reply_text key.tenant key.job (suc r) s.ask.profile (body_by s r x) ≡ a) → (y : Answer) × (slice_get t.answers r ≡ Some y) × (reply_text key.tenant key.job (suc r) t.ask.profile (body_by t r y) ≡ b) → a ≡ b
     by_answers (x, p, i) (y, q, j) =
         let same : x ≡ y = agree r x y p q in
         let within : r < length s.answers = slice_get_within s.answers r x p in
         let order : length s.answers ≤ length s.revisions = h.solving.order in
-        let told : told_by s r x ≡ told_by t r x = told-same s t r x h k logs (front-same s t r more front (omega arith)) p (subst (λ (z : Answer). slice_get t.answers r ≡ Some z) (sym same) q) in
-        sym i ∙ (ap (reply_text key.tenant key.job (suc r) s.ask.profile) told ∙ (ap (λ (p : ℕ). reply_text key.tenant key.job (suc r) p (told_by t r x)) solvers ∙ (ap (λ (z : Answer). reply_text key.tenant key.job (suc r) t.ask.profile (told_by t r z)) same ∙ j)))
+        let told : body_by s r x ≡ body_by t r x = told-same s t r x h k logs (front-same s t r more front (omega arith)) p (subst (λ (z : Answer). slice_get t.answers r ≡ Some z) (sym same) q) in
+        sym i ∙ (ap (reply_text key.tenant key.job (suc r) s.ask.profile) told ∙ (ap (λ (p : ℕ). reply_text key.tenant key.job (suc r) p (body_by t r x)) solvers ∙ (ap (λ (z : Answer). reply_text key.tenant key.job (suc r) t.ask.profile (body_by t r z)) same ∙ j)))

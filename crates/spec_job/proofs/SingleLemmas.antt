@@ -128,7 +128,7 @@ step-on profile slices n s Closed may single k after h = (n, omega arith, record
     same-stand : IsOpen s (course profile slices s.revisions n) ⊎ ((goal : ℕ) × IsSettled s (course profile slices s.revisions n) goal) → IsOpen (record s { closed = true }) (course profile slices s.revisions n) ⊎ ((goal : ℕ) × IsSettled (record s { closed = true }) (course profile slices s.revisions n) goal)
     same-stand (inl x) = inl (record { none = x.none; same = x.same; leased = x.leased })
     same-stand (inr (goal, x)) = inr (goal, record { found = x.found; log = x.log; idle = x.idle; all = x.all; come = x.come })
-step-on profile slices n s (Volume v) may single k after h = (n, omega arith, record { alone = record { budget = h.alone.budget; solvers = h.alone.solvers; low = leb-true v 1 single; untold = h.alone.untold; some = h.alone.some; others = h.alone.others }; went = h.went; stands = same-stand h.stands })
+step-on profile slices n s (Volume v) may single k after h = (n, omega arith, record { alone = record { budget = h.alone.budget; solvers = h.alone.solvers; low = leb-true v 1 single; unexported = h.alone.unexported; some = h.alone.some; others = h.alone.others }; went = h.went; stands = same-stand h.stands })
   where
     same-stand : IsOpen s (course profile slices s.revisions n) ⊎ ((goal : ℕ) × IsSettled s (course profile slices s.revisions n) goal) → IsOpen (record s { volume = v }) (course profile slices s.revisions n) ⊎ ((goal : ℕ) × IsSettled (record s { volume = v }) (course profile slices s.revisions n) goal)
     same-stand (inl x) = inl (record { none = x.none; same = x.same; leased = x.leased })
@@ -155,7 +155,7 @@ opened-follows ask = record {
   on = (
     0,
     record {
-      alone = record { budget = refl; solvers = refl; low = omega arith; untold = refl; some = omega arith; others = λ i. ap (λ (p : NodeSlot). p.out) (get-vacant 64 (suc i)) };
+      alone = record { budget = refl; solvers = refl; low = omega arith; unexported = refl; some = omega arith; others = λ i. ap (λ (p : NodeSlot). p.out) (get-vacant 64 (suc i)) };
       went = tt;
       stands = inl (record { none = refl; same = refl; leased = λ l e. absurd (cc) });
     },

@@ -17,7 +17,7 @@ use Rattle.spec_job.specs.DemandOne.{is_single, IsSingle, Agree}
 use Rattle.spec_job.specs.DemandOneUpTo.{AgreeOn, SinglesAgreeUpTo}
 use Rattle.spec_job.specs.Journal.{Run, replay, loads_in, loads_of}
 use Rattle.spec_job.specs.Models.{KeepsAnswers}
-use Rattle.spec_job.specs.Replies.{told_by, reply}
+use Rattle.spec_job.specs.Replies.{body_by, reply}
 use Rattle.spec_job.specs.Runnable.{MayHappen, IsRunnable}
 use Rattle.spec_job.specs.SoloMachine.{Own, Opened, Revised, Closed, Volume, Started, Finished, Exchanged, Lease, NodeSlot, SoloMachine, solo, solo_step, place_at, first_empty, settled_by, clauses_in, finished_home, finished}
 use Rattle.spec_job.specs.KeyedJob.{Key}
@@ -279,7 +279,7 @@ was-answered profile slices r s a (inl few) e = let within : r < length s.answer
 was-answered profile slices r s a (inr w) e = w
 
 -- what was told then is what is told now
-told-then : (profile slices r : ℕ) (s : SoloMachine) (v : WasAnswered profile slices r s) (a : Answer) → MachineInvariant s → slice_get s.answers r ≡ Some a → told_by s r a ≡ told_by v.was r a
+told-then : (profile slices r : ℕ) (s : SoloMachine) (v : WasAnswered profile slices r s) (a : Answer) → MachineInvariant s → slice_get s.answers r ≡ Some a → body_by s r a ≡ body_by v.was r a
 told-then profile slices r s v a kept e = sym (told-same v.was s r a v.kept kept (inl (v.lines, v.log)) (sym v.same) (answer-then profile slices r s v a e) e)
 
 traced-agree : (profile slices r : ℕ) (s t : SoloMachine) → IsTraced profile slices r s → IsTraced profile slices r t → take (r + 1) s.revisions ≡ take (r + 1) t.revisions → AgreeOn r s t
@@ -294,15 +294,15 @@ traced-agree profile slices r s t h k alike = record { answers = answers; replie
         let w : WasAnswered profile slices r t = was-answered profile slices r t b k.stands f in
         were-agreed profile slices r s t v w alike r a b (answer-then profile slices r s v a e) (answer-then profile slices r t w b f)
 
-    by_answers : (key : Key) (a b : List ℕ) → (x : Answer) × (slice_get s.answers r ≡ Some x) × (reply_text key.tenant key.job (suc r) s.ask.profile (told_by s r x) ≡ a) → (y : Answer) × (slice_get t.answers r ≡ Some y) × (reply_text key.tenant key.job (suc r) t.ask.profile (told_by t r y) ≡ b) → a ≡ b
+    by_answers : (key : Key) (a b : List ℕ) → (x : Answer) × (slice_get s.answers r ≡ Some x) × (reply_text key.tenant key.job (suc r) s.ask.profile (body_by s r x) ≡ a) → (y : Answer) × (slice_get t.answers r ≡ Some y) × (reply_text key.tenant key.job (suc r) t.ask.profile (body_by t r y) ≡ b) → a ≡ b
     by_answers key a b (x, p, i) (y, q, j) =
         let v : WasAnswered profile slices r s = was-answered profile slices r s x h.stands p in
         let w : WasAnswered profile slices r t = was-answered profile slices r t y k.stands q in
         let same : x ≡ y = answers x y p q in
         let theirs : slice_get w.was.answers r ≡ Some x = subst (λ (z : Answer). slice_get w.was.answers r ≡ Some z) (sym same) (answer-then profile slices r t w y q) in
-        let between : told_by v.was r x ≡ told_by w.was r x = told-same v.was w.was r x v.kept w.kept (were-fronts profile slices r s t v w alike) (sym v.same ∙ (alike ∙ w.same)) (answer-then profile slices r s v x p) theirs in
-        let all : told_by s r x ≡ told_by t r y = told-then profile slices r s v x h.kept p ∙ (between ∙ (ap (told_by w.was r) same ∙ sym (told-then profile slices r t w y k.kept q))) in
-        sym i ∙ (ap (reply_text key.tenant key.job (suc r) s.ask.profile) all ∙ (ap (λ (p : ℕ). reply_text key.tenant key.job (suc r) p (told_by t r y)) (h.on.1.alone.solvers ∙ sym k.on.1.alone.solvers) ∙ j))
+        let between : body_by v.was r x ≡ body_by w.was r x = told-same v.was w.was r x v.kept w.kept (were-fronts profile slices r s t v w alike) (sym v.same ∙ (alike ∙ w.same)) (answer-then profile slices r s v x p) theirs in
+        let all : body_by s r x ≡ body_by t r y = told-then profile slices r s v x h.kept p ∙ (between ∙ (ap (body_by w.was r) same ∙ sym (told-then profile slices r t w y k.kept q))) in
+        sym i ∙ (ap (reply_text key.tenant key.job (suc r) s.ask.profile) all ∙ (ap (λ (p : ℕ). reply_text key.tenant key.job (suc r) p (body_by t r y)) (h.on.1.alone.solvers ∙ sym k.on.1.alone.solvers) ∙ j))
 
     replies : (key : Key) (a b : List ℕ) → reply key (suc r) s ≡ Some a → reply key (suc r) t ≡ Some b → a ≡ b
     replies key a b e f = by_answers key a b (reply-at key s r a e) (reply-at key t r b f)

@@ -76,7 +76,7 @@ pub record HasExamples : Type 0 where
   pub not_when_answered : startable (solo (Opened (ask 1 4) ∷ Revised one_of_two ∷ Volume 1 ∷ Started 0 ∷ Finished 0 Ran ∷ [])) 0 ≡ false
 
 -- worked examples of refutations: a job that its first slice refutes, with its log and its proof; a proof of two lines;
--- a revision that is posted behind an empty clause; and assumptions that fail
+-- a revision that is posted after an empty clause; and assumptions that fail
 pub record HasRefutations : Type 0 where
   pub refuted_at_once : (ran_once at_odds).answers ≡ Refuted 4294967296 ∷ []
   pub one_line : (ran_once at_odds).log ≡ line 4294967296 [] (1 ∷ 2 ∷ []) ∷ []
@@ -84,14 +84,14 @@ pub record HasRefutations : Type 0 where
   pub none_failed : failed 4294967296 (ran_once at_odds).log ≡ []
   pub two_lines : proof_for (ran_once four) 0 4294967360 ≡ line 5 (2 ∷ []) (1 ∷ 2 ∷ []) ∷ line 6 [] (5 ∷ 3 ∷ 4 ∷ []) ∷ []
   pub answered_at_once : (ran_before at_odds one_of_two).answers ≡ Refuted 4294967296 ∷ Refuted 4294967296 ∷ []
-  pub behind_both : proof_for (ran_before at_odds one_of_two) 1 4294967296 ≡ line 4 [] (1 ∷ 2 ∷ []) ∷ []
+  pub after_both : proof_for (ran_before at_odds one_of_two) 1 4294967296 ≡ line 4 [] (1 ∷ 2 ∷ []) ∷ []
   pub both_refuted : (ran_once both_assumed).answers ≡ Refuted 4294967296 ∷ []
   pub both_failed : failed 4294967296 (ran_once both_assumed).log ≡ 2 ∷ 4 ∷ []
   pub core : proof_for (ran_once both_assumed) 0 4294967296 ≡ line 2 (3 ∷ 5 ∷ []) (1 ∷ []) ∷ []
   pub not_settled : (ran_before both_assumed one_of_two).answers ≡ Refuted 4294967296 ∷ []
 
-abbrev pub told : ℕ → List ℕ → NumberedClause
-told id lits = record { id = id; lits = lits }
+abbrev pub numbered_clause : ℕ → List ℕ → NumberedClause
+numbered_clause id lits = record { id = id; lits = lits }
 
 -- a job with a volume of two, of which the first node has derived a clause, and then another revision was posted
 abbrev pub derived_before : Posted → List Own → SoloMachine
@@ -101,24 +101,24 @@ derived_before later own = solo (Opened (ask 2 4) ∷ Revised both_assumed ∷ V
 abbrev pub exchanged_once : SoloMachine
 exchanged_once = derived_before one_of_two (Exchanged ∷ [])
 
--- worked examples of exchanges: what is told, which marks move, what is told once alone, what the next starts import,
--- and the clauses of a node that has imported
+-- worked examples of exchanges: what is broadcast, which marks move, what is broadcast once alone, what the next starts
+-- import, and the clauses of a node that has imported
 pub record HasExchanges : Type 0 where
   pub not_due : is_exchange_due (derived_before one_of_two []) ≡ false
   pub ran : (derived_before one_of_two []).ran ≡ 1
-  pub broadcast : exchanged_once.broadcasts ≡ (told 4294967296 (3 ∷ 5 ∷ []) ∷ []) ∷ []
+  pub broadcast : exchanged_once.broadcasts ≡ (numbered_clause 4294967296 (3 ∷ 5 ∷ []) ∷ []) ∷ []
   pub ran_after : exchanged_once.ran ≡ 0
   pub moved : (place_at exchanged_once 0).mark ≡ 1
   pub moved_too : (place_at exchanged_once 1).mark ≡ 1
   pub above_volume : (place_at exchanged_once 2).mark ≡ 0
   pub while_out : (place_at (derived_before one_of_two (Started 0 ∷ Exchanged ∷ [])) 0).mark ≡ 0
   pub not_while_out : (derived_before one_of_two (Started 0 ∷ Exchanged ∷ [])).broadcasts ≡ [] ∷ []
-  pub once : (derived_before one_of_two (Exchanged ∷ Exchanged ∷ [])).broadcasts ≡ (told 4294967296 (3 ∷ 5 ∷ []) ∷ []) ∷ [] ∷ []
-  pub own : start_entries exchanged_once (place_at exchanged_once 0) ≡ Load one_of_two 2 ∷ Import (told 4294967296 (3 ∷ 5 ∷ []) ∷ []) ∷ Run ∷ []
-  pub other : start_entries exchanged_once (place_at exchanged_once 1) ≡ Load both_assumed 1 ∷ Load one_of_two 2 ∷ Import (told 4294967296 (3 ∷ 5 ∷ []) ∷ []) ∷ Run ∷ []
-  pub imported : (replay 1 1 (Load four 1 ∷ Import (told 4294967296 (3 ∷ []) ∷ []) ∷ [])).node.clauses ≡ told 1 (2 ∷ 4 ∷ []) ∷ told 2 (2 ∷ 5 ∷ []) ∷ told 3 (3 ∷ 4 ∷ []) ∷ told 4 (3 ∷ 5 ∷ []) ∷ told 4294967296 (3 ∷ []) ∷ []
-  pub serial : (replay 1 1 (Load four 1 ∷ Import (told 4294967296 (3 ∷ []) ∷ []) ∷ [])).node.serial ≡ 1
-  pub line_after : (replay 1 1 (Load four 1 ∷ Import (told 4294967296 (3 ∷ []) ∷ []) ∷ Run ∷ [])).lines ≡ line 4294967361 [] (4294967296 ∷ 1 ∷ 2 ∷ []) ∷ []
+  pub once : (derived_before one_of_two (Exchanged ∷ Exchanged ∷ [])).broadcasts ≡ (numbered_clause 4294967296 (3 ∷ 5 ∷ []) ∷ []) ∷ [] ∷ []
+  pub own : start_entries exchanged_once (place_at exchanged_once 0) ≡ Load one_of_two 2 ∷ Import (numbered_clause 4294967296 (3 ∷ 5 ∷ []) ∷ []) ∷ Run ∷ []
+  pub other : start_entries exchanged_once (place_at exchanged_once 1) ≡ Load both_assumed 1 ∷ Load one_of_two 2 ∷ Import (numbered_clause 4294967296 (3 ∷ 5 ∷ []) ∷ []) ∷ Run ∷ []
+  pub imported : (replay 1 1 (Load four 1 ∷ Import (numbered_clause 4294967296 (3 ∷ []) ∷ []) ∷ [])).node.clauses ≡ numbered_clause 1 (2 ∷ 4 ∷ []) ∷ numbered_clause 2 (2 ∷ 5 ∷ []) ∷ numbered_clause 3 (3 ∷ 4 ∷ []) ∷ numbered_clause 4 (3 ∷ 5 ∷ []) ∷ numbered_clause 4294967296 (3 ∷ []) ∷ []
+  pub serial : (replay 1 1 (Load four 1 ∷ Import (numbered_clause 4294967296 (3 ∷ []) ∷ []) ∷ [])).node.serial ≡ 1
+  pub line_after : (replay 1 1 (Load four 1 ∷ Import (numbered_clause 4294967296 (3 ∷ []) ∷ []) ∷ Run ∷ [])).lines ≡ line 4294967361 [] (4294967296 ∷ 1 ∷ 2 ∷ []) ∷ []
 
 -- worked examples of own events that may happen: two nodes with an exchange between their starts, and one node alone
 pub record HasRunnable : Type 0 where

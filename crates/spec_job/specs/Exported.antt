@@ -10,57 +10,57 @@ use Rattle.spec_exchange.specs.Exchange.{broadcast}
 use Rattle.spec_job.specs.Journal.{JournalEntry, after_entry, replay}
 use Rattle.spec_job.specs.SoloMachine.{Own, Opened, Revised, Closed, Volume, Started, Finished, Exchanged, SoloMachine, unopened, solo, solo_step, place_at, takes_part, exports_of}
 use Rattle.spec_job.specs.Counts.{is_opening}
-use Rattle.spec_job.specs.Examples.{ask, both_assumed, one_of_two, told}
+use Rattle.spec_job.specs.Examples.{ask, both_assumed, one_of_two, numbered_clause}
 
 -- the lines that these entries of a journal derive, from a replay on
 abbrev pub derived_from : Sliced → List JournalEntry → List Line
 derived_from s [] = []
 derived_from s (e ∷ es) = (after_entry s e).lines ++ derived_from (after_entry s e) es
 
--- the lines that the journal of a node of this profile and index derives behind its first entries
-abbrev pub derived_behind : ℕ → ℕ → List JournalEntry → List JournalEntry → List Line
-derived_behind profile i first entries = derived_from (replay profile i first) (drop (length first) entries)
+-- the lines that the journal of a node of this profile and index derives after its first entries
+abbrev pub derived_after : ℕ → ℕ → List JournalEntry → List JournalEntry → List Line
+derived_after profile i first entries = derived_from (replay profile i first) (drop (length first) entries)
 
 -- the journal with which a node last took part in an exchange, after one more event
-abbrev pub told_step : ℕ → SoloMachine → List JournalEntry → Own → List JournalEntry
-told_step i s last (Opened ask) = last
-told_step i s last (Revised r) = last
-told_step i s last Closed = last
-told_step i s last (Volume v) = last
-told_step i s last (Started j) = last
-told_step i s last (Finished j outcome) = last
-told_step i s last Exchanged = if takes_part s.volume i (place_at s i) then (place_at s i).entries else last
+abbrev pub exchanged_step : ℕ → SoloMachine → List JournalEntry → Own → List JournalEntry
+exchanged_step i s last (Opened ask) = last
+exchanged_step i s last (Revised r) = last
+exchanged_step i s last Closed = last
+exchanged_step i s last (Volume v) = last
+exchanged_step i s last (Started j) = last
+exchanged_step i s last (Finished j outcome) = last
+exchanged_step i s last Exchanged = if takes_part s.volume i (place_at s i) then (place_at s i).entries else last
 
 -- the same after the events that follow
-abbrev pub told_from : ℕ → SoloMachine → List JournalEntry → List Own → List JournalEntry
-told_from i s last [] = last
-told_from i s last (o ∷ os) = told_from i (solo_step s o) (told_step i s last o) os
+abbrev pub exchanged_from : ℕ → SoloMachine → List JournalEntry → List Own → List JournalEntry
+exchanged_from i s last [] = last
+exchanged_from i s last (o ∷ os) = exchanged_from i (solo_step s o) (exchanged_step i s last o) os
 
 -- the journal with which a node last took part in an exchange, empty before it first did
-abbrev pub journal_told : ℕ → List Own → List JournalEntry
-journal_told i events = told_from i unopened [] events
+abbrev pub journal_exchanged : ℕ → List Own → List JournalEntry
+journal_exchanged i events = exchanged_from i unopened [] events
 
 -- a line is short: it has 1 to 16 literals
 abbrev pub is_short : Line → Bool
 is_short l = nat_le 1 (length l.lits) && nat_le (length l.lits) 16
 
 -- what a node has derived since then, as it is exported: the short lines, without their hints
-abbrev pub untold : ℕ → List Own → List NumberedClause
-untold i events = map (λ l. record { id = l.id; lits = l.lits }) (filter is_short (derived_behind (solo events).ask.profile i (journal_told i events) (place_at (solo events) i).entries))
+abbrev pub unexported : ℕ → List Own → List NumberedClause
+unexported i events = map (λ l. record { id = l.id; lits = l.lits }) (filter is_short (derived_after (solo events).ask.profile i (journal_exchanged i events) (place_at (solo events) i).entries))
 
--- no event behind the first opens the job
+-- no event after the first opens the job
 abbrev pub IsOpenedFirst : List Own → Type 0
 IsOpenedFirst events = list_any is_opening (drop 1 events) ≡ false
 
 -- this is what a node exports
 abbrev pub ExportsAreDerived : Type 0
-ExportsAreDerived = (events : List Own) (i : ℕ) → IsOpenedFirst events → i ≤ 63 → exports_of (solo events).log i (place_at (solo events) i) ≡ untold i events
+ExportsAreDerived = (events : List Own) (i : ℕ) → IsOpenedFirst events → i ≤ 63 → exports_of (solo events).log i (place_at (solo events) i) ≡ unexported i events
 
 -- what the nodes export that take part
 abbrev pub exported_by : List Own → ℕ → List NumberedClause
-exported_by events i = if takes_part (solo events).volume i (place_at (solo events) i) then untold i events else []
+exported_by events i = if takes_part (solo events).volume i (place_at (solo events) i) then unexported i events else []
 
--- an exchange tells all of it to all
+-- an exchange broadcasts all of it
 abbrev pub ExchangesTellDerived : Type 0
 ExchangesTellDerived = (events : List Own) → IsOpenedFirst events → (solo (events ++ Exchanged ∷ [])).broadcasts ≡ (solo events).broadcasts ++ broadcast (flat_map (exported_by events) (counted 0 64)) ∷ []
 
@@ -68,10 +68,10 @@ ExchangesTellDerived = (events : List Own) → IsOpenedFirst events → (solo (e
 abbrev pub derived_one : List Own
 derived_one = Opened (ask 2 4) ∷ Revised both_assumed ∷ Volume 2 ∷ Started 0 ∷ Finished 0 Ran ∷ Revised one_of_two ∷ []
 
--- worked examples: a clause that is not told yet, which is none of the other node's; it is none any more behind an
+-- worked examples: a clause that is not exported yet, which is none of the other node's; it is none any more after an
 -- exchange, and is still one where the node was out then
-pub record HasUntold : Type 0 where
-  pub first : untold 0 derived_one ≡ told 4294967296 (3 ∷ 5 ∷ []) ∷ []
-  pub other : untold 1 derived_one ≡ []
-  pub behind : untold 0 (derived_one ++ Exchanged ∷ []) ≡ []
-  pub while_out : untold 0 (derived_one ++ (Started 0 ∷ Exchanged ∷ [])) ≡ told 4294967296 (3 ∷ 5 ∷ []) ∷ []
+pub record HasUnexported : Type 0 where
+  pub first : unexported 0 derived_one ≡ numbered_clause 4294967296 (3 ∷ 5 ∷ []) ∷ []
+  pub other : unexported 1 derived_one ≡ []
+  pub after : unexported 0 (derived_one ++ Exchanged ∷ []) ≡ []
+  pub while_out : unexported 0 (derived_one ++ (Started 0 ∷ Exchanged ∷ [])) ≡ numbered_clause 4294967296 (3 ∷ 5 ∷ []) ∷ []

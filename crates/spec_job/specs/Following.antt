@@ -8,11 +8,11 @@ use Rattle.spec_job.specs.Journal.{JournalEntry, Load, Import, Run, after_entry,
 use Rattle.spec_job.specs.SoloMachine.{Own, Lease, SoloMachine, solo, place_at}
 use Rattle.spec_job.specs.Runnable.{IsRunnable}
 
--- an entry may follow where its node stands: a posted revision of which the numbers are new, clauses that may be told
--- to the node, or a slice of a sound node without a verdict
+-- an entry may follow where its node stands: a posted revision of which the numbers are new, clauses that the node may
+-- import, or a slice of a sound node without a verdict
 abbrev pub MayFollow : JournalEntry → Node → Type 0
 MayFollow (Load r first) n = (is_posted r ≡ true) × AreNewNumbers r first n
-MayFollow (Import told) n = MayImport told n
+MayFollow (Import exported) n = MayImport exported n
 MayFollow Run n = IsSound n × (n.verdict ≡ None)
 
 -- each of these entries may follow those before it

@@ -6,8 +6,8 @@ use Rattle.spec_node.specs.Load.{loaded}
 use Rattle.spec_node.specs.Import.{imported}
 use Rattle.mal_base.specs.NumberedClause.{NumberedClause}
 
--- an entry of a node's journal: a revision is loaded under the number of its first clause, what was told is imported,
--- or a slice is run
+-- an entry of a node's journal: a revision is loaded under the number of its first clause, what was broadcast is
+-- imported, or a slice is run
 pub data JournalEntry : Type 0 where
   Load : Posted → ℕ → JournalEntry
   Import : List NumberedClause → JournalEntry
@@ -16,7 +16,7 @@ pub data JournalEntry : Type 0 where
 -- a node after one more entry, with the lines of its last slice
 abbrev pub after_entry : Sliced → JournalEntry → Sliced
 after_entry s (Load r first) = record { node = loaded r first s.node; lines = [] }
-after_entry s (Import told) = record { node = imported told s.node; lines = [] }
+after_entry s (Import exported) = record { node = imported exported s.node; lines = [] }
 after_entry s Run = slice s.node
 
 -- the replay of a journal: the fresh node of the profile and the index, then each entry in turn
@@ -28,9 +28,9 @@ abbrev pub is_load : JournalEntry → Bool
 is_load (Load r first) = true
 is_load entry = false
 
--- whether an entry imports what was told
+-- whether an entry imports what was broadcast
 abbrev pub is_import : JournalEntry → Bool
-is_import (Import told) = true
+is_import (Import exported) = true
 is_import entry = false
 
 -- whether an entry runs a slice
@@ -42,7 +42,7 @@ is_run entry = false
 abbrev pub loads_in : List JournalEntry → ℕ
 loads_in entries = count_by is_load entries
 
--- how much of what was told a journal has imported
+-- how many broadcasts a journal has imported
 abbrev pub imports_in : List JournalEntry → ℕ
 imports_in entries = count_by is_import entries
 

@@ -24,12 +24,12 @@ covered = record { variables = 4; clauses = Some (2 ∷ 5 ∷ []) ∷ Some (2 �
 abbrev pub a_p : Key
 a_p = record { tenant = codes "a"; job = codes "p" }
 
--- a node of this profile that has its model, before and behind an import of nothing
+-- a node of this profile that has its model, before and after an import of nothing
 abbrev pub before_import : ℕ → Node
 before_import profile = (replay profile 0 (Load one_of_two 1 ∷ Run ∷ [])).node
 
-abbrev pub behind_import : ℕ → Node
-behind_import profile = (replay profile 0 (Load one_of_two 1 ∷ Run ∷ Import [] ∷ [])).node
+abbrev pub after_import : ℕ → Node
+after_import profile = (replay profile 0 (Load one_of_two 1 ∷ Run ∷ Import [] ∷ [])).node
 
 -- both profiles refute the clauses 1 2, 1 -2, -1 2 and -1 -2 by the same lines, and the reply names the second alone;
 -- the first clause that is learned is shorter under profile 2; and an import of nothing leaves a node of profile 2 as
@@ -42,7 +42,7 @@ pub record HasProfiles : Type 0 where
   pub not_named : reply a_p 1 (ran_once four) ≡ Some (codes "r a p 1\ns UNSATISFIABLE\nk 0\nl 5 1 0 1 2 0\nl 6 0 5 3 4 0\n")
   pub longer : take 1 (ran_once covered).log ≡ line 4294967296 (2 ∷ 4 ∷ 6 ∷ []) (2 ∷ 3 ∷ []) ∷ []
   pub shorter : take 1 (second_once covered).log ≡ line 4294967296 (2 ∷ 6 ∷ []) (1 ∷ 2 ∷ 3 ∷ []) ∷ []
-  pub left : behind_import 2 ≡ before_import 2
+  pub left : after_import 2 ≡ before_import 2
   pub assigned : length (before_import 1).trail ≡ 2
-  pub cut : length (behind_import 1).trail ≡ 0
+  pub cut : length (after_import 1).trail ≡ 0
   pub single : IsSingle (second_ask 1 4) (Revised four ∷ Closed ∷ Volume 1 ∷ Started 0 ∷ Finished 0 Ran ∷ [])

@@ -25,7 +25,7 @@ pub record IsOutOwn (s : SoloMachine) (index : ℕ) (entries : List JournalEntry
   pub ran : All (λ c. IsOwn s c ⊎ IsLineOf (replay s.ask.profile index (entries ++ l.adds)).lines c) (replay s.ask.profile index (entries ++ l.adds)).node.clauses
 
 -- where a job's clauses come from: each node at home, and each that is out but for the new lines of its slice, holds
--- clauses of the job's own alone, what is exported and what was told to all are lines of the log, the log is derived
+-- clauses of the job's own alone, what is exported and what was broadcast are lines of the log, the log is derived
 -- from the job's clauses, and the literals of each line rise by variable
 pub record ClausesAreOwn (s : SoloMachine) : Type 0 where
   pub home : (i : ℕ) → i ≤ 63 → All (IsOwn s) (replay s.ask.profile i (place_at s i).entries).node.clauses

@@ -181,7 +181,7 @@ abbrev pub marked_from : ℕ → ℕ → ℕ → List NodeSlot → List NodeSlot
 marked_from volume mark i [] = []
 marked_from volume mark i (p ∷ ps) = (if takes_part volume i p then record p { mark = mark } else p) ∷ marked_from volume mark (i + 1) ps
 
--- an exchange: what is exported is told to all, and the marks of those that took part move
+-- an exchange: what is exported is broadcast, and the marks of those that took part move
 abbrev pub exchanged : SoloMachine → SoloMachine
 exchanged s = record s { broadcasts = s.broadcasts ++ broadcast (exports_from s.volume s.log 0 s.places) ∷ []; places = marked_from s.volume (length s.log) 0 s.places; ran = 0 }
 

@@ -2,7 +2,7 @@
 //! and the laws about them as the contracts of functions without a body.
 #![tactic(auto)]
 
-ghost use Rattle.spec_job.specs.{Counts.{ReplaysCount, RunsAreFew}, DemandOne.{NoneIsDue, SinglesAgree}, DemandOneUpTo.{HasUpTo, SinglesAgreeUpTo}, Examples.{HasExamples, HasExchanges, HasRefutations, HasRunnable}, Exported.{ExchangesTellDerived, ExportsAreDerived, HasUntold}, Following.{RunnableJournalsFollow}, Left.{LeftFalls}, ProfileExamples.{HasProfiles}, Provenance.{RunnableClausesOwn}, Runnable.{AnswersStay, RunnableAnswersFollow, RunnableAnswersRefute, RunnableAnswersSolve, RunnableLogsDerived}, Unknown.{RunnableAnswersAccountedFor, RunnableFedAnswersDecide}, UnknownExamples.{HasEndings}};
+ghost use Rattle.spec_job.specs.{Counts.{ReplaysCount, RunsAreFew}, DemandOne.{NoneIsDue, SinglesAgree}, DemandOneUpTo.{HasUpTo, SinglesAgreeUpTo}, Examples.{HasExamples, HasExchanges, HasRefutations, HasRunnable}, Exported.{ExchangesTellDerived, ExportsAreDerived, HasUnexported}, Following.{RunnableJournalsFollow}, Left.{LeftFalls}, ProfileExamples.{HasProfiles}, Provenance.{RunnableClausesOwn}, Runnable.{AnswersStay, RunnableAnswersFollow, RunnableAnswersRefute, RunnableAnswersSolve, RunnableLogsDerived}, Unknown.{RunnableAnswersAccountedFor, RunnableFedAnswersDecide}, UnknownExamples.{HasEndings}};
 
 /// The worked examples of a job's machine compute to the answers that are known, under either profile of its solvers,
 /// and own events may happen as they should.
@@ -44,7 +44,7 @@ pub fn runs_are_few()
 {}
 
 /// Where each own event may happen after those before it, each clause that a node holds, that is exported or that was
-/// told to all is an original of the job or a line of its log, which is derived from the job's clauses; the literals of
+/// broadcast is an original of the job or a line of its log, which is derived from the job's clauses; the literals of
 /// each line rise by variable.
 pub fn clauses_are_own()
     ensures { RunnableClausesOwn }
@@ -58,7 +58,7 @@ pub fn singles_agree()
 {}
 
 /// Where each own event may happen after those before it, the journals of a job's nodes can be replayed: each revision
-/// is loaded under new numbers, what is imported may be told to the node, and each slice is run on a sound node without
+/// is loaded under new numbers, the node may import what is imported, and each slice is run on a sound node without
 /// a verdict.
 pub fn journals_follow()
     ensures { RunnableJournalsFollow }
@@ -80,11 +80,11 @@ pub fn unknowns_are_accounted_for()
 {}
 
 /// Where a job is opened before all else, what a node exports are the short lines that the slices of its journal
-/// derived since it last took part in an exchange; an exchange tells all that the nodes export that take part.
+/// derived since it last took part in an exchange; an exchange broadcasts all that the nodes export that take part.
 pub fn exports_are_derived()
     ensures exports { ExportsAreDerived }
     ensures exchanges { ExchangesTellDerived }
-    ensures examples { HasUntold }
+    ensures examples { HasUnexported }
 {}
 
 /// The answer and the reply to a revision of a job that one node runs are decided by its name, its budget, its solvers'

@@ -97,8 +97,8 @@ not-held lits id (d ∷ ds) h k =
     differ : bytes_eq lits d.lits ≡ false → lits ≡ d.lits → false ≡ true
     differ f same = sym f ∙ (bytes_eq-Decides lits d.lits).1 same
 
-pub taken-apart : (told cs : List NumberedClause) → ((c d : NumberedClause) → Contains told c → Contains cs d → c.id ≡ d.id → c.lits ≡ d.lits) → AreApart (taken told cs) cs
-taken-apart told cs agree = All-weaker (λ c. Contains told c × (not (has_lits c.lits cs) ≡ true)) (λ c. All (λ d. c.id ≢ d.id) cs) (λ c k. not-held c.lits c.id cs (All-weaker (Contains cs) (λ d. c.id ≡ d.id → c.lits ≡ d.lits) (λ d m same. agree c d k.0 m same) cs (All-contains_itself cs)) (not-true (has_lits c.lits cs) k.1)) (taken told cs) (All-filtered (Contains told) (λ c. not (has_lits c.lits cs)) told (All-contains_itself told))
+pub taken-apart : (exported cs : List NumberedClause) → ((c d : NumberedClause) → Contains exported c → Contains cs d → c.id ≡ d.id → c.lits ≡ d.lits) → AreApart (taken exported cs) cs
+taken-apart exported cs agree = All-weaker (λ c. Contains exported c × (not (has_lits c.lits cs) ≡ true)) (λ c. All (λ d. c.id ≢ d.id) cs) (λ c k. not-held c.lits c.id cs (All-weaker (Contains cs) (λ d. c.id ≡ d.id → c.lits ≡ d.lits) (λ d m same. agree c d k.0 m same) cs (All-contains_itself cs)) (not-true (has_lits c.lits cs) k.1)) (taken exported cs) (All-filtered (Contains exported) (λ c. not (has_lits c.lits cs)) exported (All-contains_itself exported))
 
 -- the serial above clauses is at least the one before, and above that of each
 pub serial-least : (serial : ℕ) (new : List NumberedClause) → serial ≤ serial_above serial new
@@ -133,23 +133,23 @@ originals-with_clauses [] cs h = refl
 originals-with_clauses (c ∷ new) cs h = originals-with_clauses new (with_clause c cs) (All-tail (λ x. is_derived x ≡ true) c new h) ∙ originals-with c cs (All-head (λ x. is_derived x ≡ true) c new h)
 
 -- what holds of a node, and of the node with the clauses that are taken, holds after an import
-pub by-taking : (P : Node → Type 0) (told : List NumberedClause) (n : Node) → P n → P (with_new (taken told n.clauses) n) → P (imported told n)
-by-taking P told n h k = by_test (is_left_off n.profile (taken told n.clauses))
+pub by-taking : (P : Node → Type 0) (exported : List NumberedClause) (n : Node) → P n → P (with_new (taken exported n.clauses) n) → P (imported exported n)
+by-taking P exported n h k = by_test (is_left_off n.profile (taken exported n.clauses))
   where
-    by_test : (b : Bool) → P (cond b n (with_new (taken told n.clauses) n))
+    by_test : (b : Bool) → P (cond b n (with_new (taken exported n.clauses) n))
     by_test true = h
     by_test false = k
 
 -- taking clauses keeps the search consistent
-taken-consistent : (told : List NumberedClause) (n : Node) → All (λ c. AreLiteralsOf n.variables c.lits) told → IsConsistent n → IsConsistent (with_new (taken told n.clauses) n)
-taken-consistent told n within h =
+taken-consistent : (exported : List NumberedClause) (n : Node) → All (λ c. AreLiteralsOf n.variables c.lits) exported → IsConsistent n → IsConsistent (with_new (taken exported n.clauses) n)
+taken-consistent exported n within h =
     let t : List TrailEntry = kept 0 n.trail in
     let front : t ++ removed 0 n.trail ≡ n.trail = kept-front 0 n.trail in
     let levels : EachAfter IsLevelled [] t = each-front IsLevelled t (removed 0 n.trail) [] (rw front h.levels) in
-    let new : List NumberedClause = taken told n.clauses in
+    let new : List NumberedClause = taken exported n.clauses in
     record {
       order = h.order;
-      clauses = All-with_clauses (λ c. AreLiteralsOf n.variables c.lits) new n.clauses (All-passed (λ c. AreLiteralsOf n.variables c.lits) (λ c. not (has_lits c.lits n.clauses)) told within) h.clauses;
+      clauses = All-with_clauses (λ c. AreLiteralsOf n.variables c.lits) new n.clauses (All-passed (λ c. AreLiteralsOf n.variables c.lits) (λ c. not (has_lits c.lits n.clauses)) exported within) h.clauses;
       assumptions = h.assumptions;
       placed = each-front (IsPlaced n.variables) t (removed 0 n.trail) [] (rw front h.placed);
       levels = levels;
@@ -159,15 +159,15 @@ taken-consistent told n within h =
     }
 
 -- taking clauses that may be told keeps a node sound
-taken-sound : (told : List NumberedClause) (n : Node) → MayImport told n → IsSound n → IsSound (with_new (taken told n.clauses) n)
-taken-sound told n may h =
+taken-sound : (exported : List NumberedClause) (n : Node) → MayImport exported n → IsSound n → IsSound (with_new (taken exported n.clauses) n)
+taken-sound exported n may h =
     let q : IsRanged n = h.ranged in
-    let c : IsConsistent (with_new (taken told n.clauses) n) = taken-consistent told n may.within h.consistent in
+    let c : IsConsistent (with_new (taken exported n.clauses) n) = taken-consistent exported n may.within h.consistent in
     let t : List TrailEntry = kept 0 n.trail in
     let front : t ++ removed 0 n.trail ≡ n.trail = kept-front 0 n.trail in
     let low : level_of t ≤ 0 = kept-level 0 n.trail [] (omega arith) in
     let test : NumberedClause → Bool = λ x. not (has_lits x.lits n.clauses) in
-    let new : List NumberedClause = taken told n.clauses in
+    let new : List NumberedClause = taken exported n.clauses in
     let clauses : List NumberedClause = with_clauses new n.clauses in
     let serial : ℕ = serial_above n.serial new in
     let least : n.serial ≤ serial = serial-least n.serial new in
@@ -177,7 +177,7 @@ taken-sound told n may h =
         variables = q.variables;
         restart_number = q.restart_number;
         phases = length-saved n.phases (removed 0 n.trail) ∙ q.phases;
-        numbers = numbers-with_clauses 1 new n.clauses (All-passed (λ x. 1 ≤ x.id) test told (All-weaker (λ x. is_derived x ≡ true) (λ x. 1 ≤ x.id) (λ x k. let high : 2 ^ 32 ≤ x.id = leb-true (2 ^ 32) x.id k in omega arith) told may.derived)) (own-passed test told may.apart) (taken-apart told n.clauses may.agree) q.numbers;
+        numbers = numbers-with_clauses 1 new n.clauses (All-passed (λ x. 1 ≤ x.id) test exported (All-weaker (λ x. is_derived x ≡ true) (λ x. 1 ≤ x.id) (λ x k. let high : 2 ^ 32 ≤ x.id = leb-true (2 ^ 32) x.id k in omega arith) exported may.derived)) (own-passed test exported may.apart) (taken-apart exported n.clauses may.agree) q.numbers;
         serial = All-with_clauses (λ x. is_derived x ≡ true → serial_of x < serial) new n.clauses (All-weaker (λ x. serial_of x < serial) (λ x. is_derived x ≡ true → serial_of x < serial) (λ x k m. k) new (serial-over n.serial new)) (All-weaker (λ x. is_derived x ≡ true → serial_of x < n.serial) (λ x. is_derived x ≡ true → serial_of x < serial) (λ x k m. let below : serial_of x < n.serial = k m in omega arith) n.clauses q.serial);
       };
       consistent = c;
@@ -189,28 +189,28 @@ taken-sound told n may h =
     }
 
 -- importing clauses that may be told keeps a node sound
-pub import-keeps_sound : (told : List NumberedClause) (n : Node) → MayImport told n → IsSound n → IsSound (imported told n)
-import-keeps_sound told n may h = by-taking IsSound told n h (taken-sound told n may h)
+pub import-keeps_sound : (exported : List NumberedClause) (n : Node) → MayImport exported n → IsSound n → IsSound (imported exported n)
+import-keeps_sound exported n may h = by-taking IsSound exported n h (taken-sound exported n may h)
 
-held-or_told : (told : List NumberedClause) (n : Node) (c : NumberedClause) → Contains (imported told n).clauses c → Contains (n.clauses ++ told) c
-held-or_told told n c h =
-    let all : List NumberedClause = n.clauses ++ told in
+held-or_exported : (exported : List NumberedClause) (n : Node) (c : NumberedClause) → Contains (imported exported n).clauses c → Contains (n.clauses ++ exported) c
+held-or_exported exported n c h =
+    let all : List NumberedClause = n.clauses ++ exported in
     let itself : All (Contains all) all = All-contains_itself all in
-    let behind : All (Contains all) told = All-weaker (Contains told) (Contains all) (λ x k. Contains-append_right n.clauses told x k) told (All-contains_itself told) in
-    let before : All (Contains all) n.clauses = All-weaker (Contains n.clauses) (Contains all) (λ x k. Contains-append_left n.clauses told x k) n.clauses (All-contains_itself n.clauses) in
-    let with_taken : All (Contains all) (with_clauses (taken told n.clauses) n.clauses) = All-with_clauses (Contains all) (taken told n.clauses) n.clauses (All-passed (Contains all) (λ x. not (has_lits x.lits n.clauses)) told behind) before in
-    All-contains (Contains all) (imported told n).clauses c (by-taking (λ m. All (Contains all) m.clauses) told n before with_taken) h
+    let behind : All (Contains all) exported = All-weaker (Contains exported) (Contains all) (λ x k. Contains-append_right n.clauses exported x k) exported (All-contains_itself exported) in
+    let before : All (Contains all) n.clauses = All-weaker (Contains n.clauses) (Contains all) (λ x k. Contains-append_left n.clauses exported x k) n.clauses (All-contains_itself n.clauses) in
+    let with_taken : All (Contains all) (with_clauses (taken exported n.clauses) n.clauses) = All-with_clauses (Contains all) (taken exported n.clauses) n.clauses (All-passed (Contains all) (λ x. not (has_lits x.lits n.clauses)) exported behind) before in
+    All-contains (Contains all) (imported exported n).clauses c (by-taking (λ m. All (Contains all) m.clauses) exported n before with_taken) h
 
 pub import-holds : ImportHolds
 import-holds = record {
-  originals = λ told n h. by-taking (λ m. originals m.clauses ≡ originals n.clauses) told n refl (originals-with_clauses (taken told n.clauses) n.clauses (All-passed (λ c. is_derived c ≡ true) (λ c. not (has_lits c.lits n.clauses)) told h));
-  assumptions = λ told n. by-taking (λ m. m.assumptions ≡ n.assumptions) told n refl refl;
-  variables = λ told n. by-taking (λ m. m.variables ≡ n.variables) told n refl refl;
-  verdict = λ told n. by-taking (λ m. m.verdict ≡ n.verdict) told n refl refl;
-  index = λ told n. by-taking (λ m. m.index ≡ n.index) told n refl refl;
-  profile = λ told n. by-taking (λ m. m.profile ≡ n.profile) told n refl refl;
-  held = held-or_told;
-  kept = λ told n c h. by-taking (λ m. Contains m.clauses c) told n h (contains-with_clauses (taken told n.clauses) n.clauses c h);
+  originals = λ exported n h. by-taking (λ m. originals m.clauses ≡ originals n.clauses) exported n refl (originals-with_clauses (taken exported n.clauses) n.clauses (All-passed (λ c. is_derived c ≡ true) (λ c. not (has_lits c.lits n.clauses)) exported h));
+  assumptions = λ exported n. by-taking (λ m. m.assumptions ≡ n.assumptions) exported n refl refl;
+  variables = λ exported n. by-taking (λ m. m.variables ≡ n.variables) exported n refl refl;
+  verdict = λ exported n. by-taking (λ m. m.verdict ≡ n.verdict) exported n refl refl;
+  index = λ exported n. by-taking (λ m. m.index ≡ n.index) exported n refl refl;
+  profile = λ exported n. by-taking (λ m. m.profile ≡ n.profile) exported n refl refl;
+  held = held-or_exported;
+  kept = λ exported n c h. by-taking (λ m. Contains m.clauses c) exported n h (contains-with_clauses (taken exported n.clauses) n.clauses c h);
 }
 
 -- an import is left off exactly under profile 2 where no clause is taken
@@ -226,7 +226,7 @@ other-profile profile new h = ap (λ (b : Bool). b && (length new == 0)) (ne_eqb
 
 pub import-may_leave : ImportMayLeave
 import-may_leave = record {
-  left = λ told n p e. ap (λ (b : Bool). cond b n (with_new (taken told n.clauses) n)) (left-off n.profile (taken told n.clauses) p e);
-  takes = λ told n h. ap (λ (b : Bool). cond b n (with_new (taken told n.clauses) n)) (takes-some n.profile (taken told n.clauses) h);
-  other = λ told n h. ap (λ (b : Bool). cond b n (with_new (taken told n.clauses) n)) (other-profile n.profile (taken told n.clauses) h);
+  left = λ exported n p e. ap (λ (b : Bool). cond b n (with_new (taken exported n.clauses) n)) (left-off n.profile (taken exported n.clauses) p e);
+  takes = λ exported n h. ap (λ (b : Bool). cond b n (with_new (taken exported n.clauses) n)) (takes-some n.profile (taken exported n.clauses) h);
+  other = λ exported n h. ap (λ (b : Bool). cond b n (with_new (taken exported n.clauses) n)) (other-profile n.profile (taken exported n.clauses) h);
 }

@@ -11,23 +11,23 @@ derived serial index = record { id = 2 ^ 32 + 64 * serial + index; lits = [] }
 abbrev pub held : NumberedClause
 held = record { id = 1; lits = 2 ∷ 4 ∷ [] }
 
-abbrev pub told_again : NumberedClause
-told_again = record { id = 4294967299; lits = 2 ∷ 4 ∷ [] }
+abbrev pub exported_again : NumberedClause
+exported_again = record { id = 4294967299; lits = 2 ∷ 4 ∷ [] }
 
-abbrev pub told_new : NumberedClause
-told_new = record { id = 4294967363; lits = 2 ∷ 5 ∷ [] }
+abbrev pub exported_new : NumberedClause
+exported_new = record { id = 4294967363; lits = 2 ∷ 5 ∷ [] }
 
 -- a node of this profile that holds 1 2 and has decided -1 for true phases
 abbrev pub searching : ℕ → Node
 searching profile = record (fresh_with 0 profile) { variables = 2; processed = 1; order = 1 ∷ 2 ∷ []; phases = true ∷ true ∷ []; trail = record { lit = 3; reason = None; level = 1 } ∷ []; clauses = held ∷ [] }
 
 -- worked examples of imports: node 0 that has derived nothing and imports the second clause of node 3 derives its own
--- clause of serial 2 next; where only a held clause is told, a node of profile 1 goes back to level 0 with the phase of
--- what it had decided, and one of profile 2 stays as it is; what is new is taken under either
+-- clause of serial 2 next; where it imports only a held clause, a node of profile 1 goes back to level 0 with the phase
+-- of what it had decided, and one of profile 2 stays as it is; what is new is taken under either
 pub record HasExamples : Type 0 where
-  pub told : (derived 1 3).id ≡ 4294967363
+  pub exported : (derived 1 3).id ≡ 4294967363
   pub serial : serial_above 0 (derived 1 3 ∷ []) ≡ 2
   pub next : (derived 2 0).id ≡ 4294967424
-  pub cut : imported (told_again ∷ []) (searching 1) ≡ record (searching 1) { processed = 0; phases = false ∷ true ∷ []; trail = [] }
-  pub left : imported (told_again ∷ []) (searching 2) ≡ searching 2
-  pub took : imported (told_again ∷ told_new ∷ []) (searching 2) ≡ record (searching 2) { serial = 2; processed = 0; phases = false ∷ true ∷ []; trail = []; clauses = held ∷ told_new ∷ [] }
+  pub cut : imported (exported_again ∷ []) (searching 1) ≡ record (searching 1) { processed = 0; phases = false ∷ true ∷ []; trail = [] }
+  pub left : imported (exported_again ∷ []) (searching 2) ≡ searching 2
+  pub took : imported (exported_again ∷ exported_new ∷ []) (searching 2) ≡ record (searching 2) { serial = 2; processed = 0; phases = false ∷ true ∷ []; trail = []; clauses = held ∷ exported_new ∷ [] }

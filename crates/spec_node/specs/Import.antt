@@ -10,9 +10,9 @@ use Rattle.spec_node.specs.Sound.{serial_of}
 abbrev pub has_lits : List ℕ → List NumberedClause → Bool
 has_lits lits clauses = list_any (λ c. bytes_eq lits c.lits) clauses
 
--- of what is told, the clauses whose literals no clause held has
+-- of what others exported, the clauses whose literals no clause held has
 abbrev pub taken : List NumberedClause → List NumberedClause → List NumberedClause
-taken told clauses = filter (λ c. not (has_lits c.lits clauses)) told
+taken exported clauses = filter (λ c. not (has_lits c.lits clauses)) exported
 
 -- clauses with these among them, each at its place
 abbrev pub with_clauses : List NumberedClause → List NumberedClause → List NumberedClause
@@ -38,6 +38,6 @@ with_new new n =
 abbrev pub is_left_off : ℕ → List NumberedClause → Bool
 is_left_off profile new = (profile == 2) && (length new == 0)
 
--- a node after importing what is told: with the clauses that are taken
+-- a node after importing what others exported: with the clauses that are taken
 abbrev pub imported : List NumberedClause → Node → Node
-imported told n = let new = taken told n.clauses in if is_left_off n.profile new then n else with_new new n
+imported exported n = let new = taken exported n.clauses in if is_left_off n.profile new then n else with_new new n

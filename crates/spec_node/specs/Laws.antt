@@ -90,36 +90,36 @@ abbrev pub HaveOwnNumbers : List NumberedClause → Type 0
 HaveOwnNumbers [] = Unit {0}
 HaveOwnNumbers (c ∷ cs) = All (λ d. c.id ≢ d.id) cs × HaveOwnNumbers cs
 
--- clauses may be told to a node: they are derived ones of its variables, no two have one number, and one whose number
+-- a node may import clauses: they are derived ones of its variables, no two have one number, and one whose number
 -- is held has the literals that are held under it
-pub record MayImport (told : List NumberedClause) (n : Node) : Type 0 where
-  pub derived : All (λ c. is_derived c ≡ true) told
-  pub within : All (λ c. AreLiteralsOf n.variables c.lits) told
-  pub apart : HaveOwnNumbers told
-  pub agree : (c d : NumberedClause) → Contains told c → Contains n.clauses d → c.id ≡ d.id → c.lits ≡ d.lits
+pub record MayImport (exported : List NumberedClause) (n : Node) : Type 0 where
+  pub derived : All (λ c. is_derived c ≡ true) exported
+  pub within : All (λ c. AreLiteralsOf n.variables c.lits) exported
+  pub apart : HaveOwnNumbers exported
+  pub agree : (c d : NumberedClause) → Contains exported c → Contains n.clauses d → c.id ≡ d.id → c.lits ≡ d.lits
 
--- importing clauses that may be told to it keeps a node sound
+-- importing clauses that it may import keeps a node sound
 abbrev pub ImportKeepsSound : Type 0
-ImportKeepsSound = (told : List NumberedClause) (n : Node) → MayImport told n → IsSound n → IsSound (imported told n)
+ImportKeepsSound = (exported : List NumberedClause) (n : Node) → MayImport exported n → IsSound n → IsSound (imported exported n)
 
 -- what importing leaves in a node: its originals, its assumptions, its variables, its verdict, its index and its
--- profile; and what it holds, it held before or was told
+-- profile; and what it holds, it held before or imported
 pub record ImportHolds : Type 0 where
-  pub originals : (told : List NumberedClause) (n : Node) → All (λ c. is_derived c ≡ true) told → originals (imported told n).clauses ≡ originals n.clauses
-  pub assumptions : (told : List NumberedClause) (n : Node) → (imported told n).assumptions ≡ n.assumptions
-  pub variables : (told : List NumberedClause) (n : Node) → (imported told n).variables ≡ n.variables
-  pub verdict : (told : List NumberedClause) (n : Node) → (imported told n).verdict ≡ n.verdict
-  pub index : (told : List NumberedClause) (n : Node) → (imported told n).index ≡ n.index
-  pub profile : (told : List NumberedClause) (n : Node) → (imported told n).profile ≡ n.profile
-  pub held : (told : List NumberedClause) (n : Node) (c : NumberedClause) → Contains (imported told n).clauses c → Contains (n.clauses ++ told) c
-  pub kept : (told : List NumberedClause) (n : Node) (c : NumberedClause) → Contains n.clauses c → Contains (imported told n).clauses c
+  pub originals : (exported : List NumberedClause) (n : Node) → All (λ c. is_derived c ≡ true) exported → originals (imported exported n).clauses ≡ originals n.clauses
+  pub assumptions : (exported : List NumberedClause) (n : Node) → (imported exported n).assumptions ≡ n.assumptions
+  pub variables : (exported : List NumberedClause) (n : Node) → (imported exported n).variables ≡ n.variables
+  pub verdict : (exported : List NumberedClause) (n : Node) → (imported exported n).verdict ≡ n.verdict
+  pub index : (exported : List NumberedClause) (n : Node) → (imported exported n).index ≡ n.index
+  pub profile : (exported : List NumberedClause) (n : Node) → (imported exported n).profile ≡ n.profile
+  pub held : (exported : List NumberedClause) (n : Node) (c : NumberedClause) → Contains (imported exported n).clauses c → Contains (n.clauses ++ exported) c
+  pub kept : (exported : List NumberedClause) (n : Node) (c : NumberedClause) → Contains n.clauses c → Contains (imported exported n).clauses c
 
 -- under profile 2 an import that takes no clause leaves a node as it is; any other import cuts it, whether it takes
 -- clauses or not
 pub record ImportMayLeave : Type 0 where
-  pub left : (told : List NumberedClause) (n : Node) → n.profile ≡ 2 → taken told n.clauses ≡ [] → imported told n ≡ n
-  pub takes : (told : List NumberedClause) (n : Node) → taken told n.clauses ≢ [] → imported told n ≡ with_new (taken told n.clauses) n
-  pub other : (told : List NumberedClause) (n : Node) → n.profile ≢ 2 → imported told n ≡ with_new (taken told n.clauses) n
+  pub left : (exported : List NumberedClause) (n : Node) → n.profile ≡ 2 → taken exported n.clauses ≡ [] → imported exported n ≡ n
+  pub takes : (exported : List NumberedClause) (n : Node) → taken exported n.clauses ≢ [] → imported exported n ≡ with_new (taken exported n.clauses) n
+  pub other : (exported : List NumberedClause) (n : Node) → n.profile ≢ 2 → imported exported n ≡ with_new (taken exported n.clauses) n
 
 -- in a sound node without a waiting conflict each clause of a batch that was handled has a true literal
 abbrev pub HandledAreTrue : Type 0

@@ -28,7 +28,7 @@ pub fn handled_are_true()
     ensures { HandledAreTrue }
 {}
 
-/// Imports of clauses that may be told to a node keep it sound.
+/// Imports of clauses that a node may import keep it sound.
 pub fn imports_keep_sound()
     ensures { ImportKeepsSound }
 {}

@@ -11,9 +11,9 @@ use Rattle.spec_learn.specs.Refuting.{core_line}
 use Rattle.spec_learn.proofs.ProfileLemmas.{sound-small}
 use Rattle.spec_learn.proofs.CoreClauseLemmas.{core-small}
 use Rattle.spec_search.specs.Step.{Case, Learns, Refutes, Propagates, Drops, Restarts, Contradicts, Assumes, Decides, Ends, case_of, line_by, next_line, after_case, step}
-use Rattle.spec_search.specs.Slice.{Sliced, slice, steps_unless, is_over, behind, used_after, numbers_of, most_numbers}
+use Rattle.spec_search.specs.Slice.{Sliced, slice, steps_unless, is_over, after_line, used_after, numbers_of, most_numbers}
 use Rattle.spec_search.specs.Laws.{CountsRise, LinesFit, SliceGoesOn, StepKeepsProfile, SliceKeepsProfile}
-use Rattle.spec_search.proofs.SliceLemmas.{behind-node, going, steps-keep}
+use Rattle.spec_search.proofs.SliceLemmas.{after_line-node, going, steps-keep}
 use Rattle.spec_search.proofs.ModelLemmas.{step-leaves}
 
 -- the counts of a node rise by so much at the most
@@ -50,7 +50,7 @@ steps-rise (suc k) true used n = record { serial = omega arith; conflicts_since_
 steps-rise (suc k) false used n =
     let u : ℕ = used_after used (next_line n) in
     let m : Node = step n in
-    subst (Rise (suc k) n) (sym (behind-node (next_line n) (steps_unless k (is_over u m) u m))) (rise-more k n m (steps_unless k (is_over u m) u m).node (case-rise (case_of n) n) (steps-rise k (is_over u m) u m))
+    subst (Rise (suc k) n) (sym (after_line-node (next_line n) (steps_unless k (is_over u m) u m))) (rise-more k n m (steps_unless k (is_over u m) u m).node (case-rise (case_of n) n) (steps-rise k (is_over u m) u m))
 
 -- a slice raises each count by 1,000 at the most
 pub slice-counts : (n : Node) → CountsRise n
@@ -88,20 +88,20 @@ unfolding slice
 slice-has_profile n h = steps-keep (λ m. has_profile m ≡ true) (λ m none k. step-has_profile m k) 1000 (is_over 0 n) 0 n refl h
 
 -- a line with so many lines
-behind-few : (k : ℕ) (o : Option Line) (s : Sliced) → length s.lines ≤ k → length (behind o s).lines ≤ suc k
-behind-few k None s h = omega arith
-behind-few k (Some l) s h = omega arith
+after_line-few : (k : ℕ) (o : Option Line) (s : Sliced) → length s.lines ≤ k → length (after_line o s).lines ≤ suc k
+after_line-few k None s h = omega arith
+after_line-few k (Some l) s h = omega arith
 
 steps-few : (k : ℕ) (over : Bool) (used : ℕ) (n : Node) → length (steps_unless k over used n).lines ≤ k
 steps-few zero over used n = omega arith
 steps-few (suc k) true used n = omega arith
 steps-few (suc k) false used n =
     let u : ℕ = used_after used (next_line n) in
-    behind-few k (next_line n) (steps_unless k (is_over u (step n)) u (step n)) (steps-few k (is_over u (step n)) u (step n))
+    after_line-few k (next_line n) (steps_unless k (is_over u (step n)) u (step n)) (steps-few k (is_over u (step n)) u (step n))
 
-behind-numbers : (used most : ℕ) (o : Option Line) (s : Sliced) → used_after used o + sum_by numbers_of s.lines ≤ most → used + sum_by numbers_of (behind o s).lines ≤ most
-behind-numbers used most None s h = omega arith
-behind-numbers used most (Some l) s h = omega (arith, sum_by-cons numbers_of l s.lines)
+after_line-numbers : (used most : ℕ) (o : Option Line) (s : Sliced) → used_after used o + sum_by numbers_of s.lines ≤ most → used + sum_by numbers_of (after_line o s).lines ≤ most
+after_line-numbers used most None s h = omega arith
+after_line-numbers used most (Some l) s h = omega (arith, sum_by-cons numbers_of l s.lines)
 
 used-fits : (used most : ℕ) (o : Option Line) → used ≤ most → ((l : Line) → o ≡ Some l → used + numbers_of l ≤ most) → used_after used o ≤ most
 used-fits used most None b f = omega arith
@@ -114,7 +114,7 @@ steps-numbers (suc k) false used n e b =
     let u : ℕ = used_after used (next_line n) in
     let same : (step n).variables ≡ n.variables = (step-leaves n).variables in
     let low : u ≤ most_numbers n.variables = used-fits used (most_numbers n.variables) (next_line n) b (going used n e).fits in
-    behind-numbers used (most_numbers n.variables) (next_line n) (steps_unless k (is_over u (step n)) u (step n))
+    after_line-numbers used (most_numbers n.variables) (next_line n) (steps_unless k (is_over u (step n)) u (step n))
     (subst (λ (v : ℕ). u + sum_by numbers_of (steps_unless k (is_over u (step n)) u (step n)).lines ≤ most_numbers v) same (steps-numbers k (is_over u (step n)) u (step n) refl (subst (λ (v : ℕ). u ≤ most_numbers v) (sym same) low)))
 
 -- the lines of a slice have room

@@ -10,10 +10,10 @@ use Rattle.spec_node.specs.Sound.{level_in, IsSound}
 use Rattle.spec_learn.specs.Learning.{derived_id, analysis, line_of}
 use Rattle.spec_learn.proofs.ProfileLemmas.{sound-asserts}
 use Rattle.spec_search.specs.Step.{Case, case_of, line_by, next_line, after_case, step}
-use Rattle.spec_search.specs.Slice.{Sliced, slice, steps_unless, is_over, behind, used_after}
+use Rattle.spec_search.specs.Slice.{Sliced, slice, steps_unless, is_over, after_line, used_after}
 use Rattle.spec_search.specs.Laws.{EmptyRefutes}
 use Rattle.spec_search.proofs.StepLemmas.{by_cases}
-use Rattle.spec_search.proofs.SliceLemmas.{behind-node}
+use Rattle.spec_search.proofs.SliceLemmas.{after_line-node}
 use Rattle.spec_search.proofs.SoundLemmas.{step-sound}
 use Rattle.spec_search.proofs.LineLemmas.{over-node, over-some}
 
@@ -55,14 +55,14 @@ step-full n h = by_cases (StepIsFull n) n (record {
   ends = λ idle o free f. none-full;
 })
 
-behind-full : (o : Option Line) (s : Sliced) → IsFull o → All (λ l. 1 ≤ length l.lits) s.lines → All (λ l. 1 ≤ length l.lits) (behind o s).lines
-behind-full None s f h = h
-behind-full (Some l) s f h = All-cons (λ x. 1 ≤ length x.lits) l s.lines (f l refl) h
+after_line-full : (o : Option Line) (s : Sliced) → IsFull o → All (λ l. 1 ≤ length l.lits) s.lines → All (λ l. 1 ≤ length l.lits) (after_line o s).lines
+after_line-full None s f h = h
+after_line-full (Some l) s f h = All-cons (λ x. 1 ≤ length x.lits) l s.lines (f l refl) h
 
 steps-full : (k : ℕ) (over : Bool) (used : ℕ) (n : Node) → is_over used n ≡ over → IsSound n → RefutesNothing (steps_unless k over used n).node → All (λ l. 1 ≤ length l.lits) (steps_unless k over used n).lines
 steps-full zero over used n e h f = All-nil (λ l. 1 ≤ length l.lits)
 steps-full (suc k) true used n e h f = All-nil (λ l. 1 ≤ length l.lits)
-steps-full (suc k) false used n e h f = behind-full (next_line n) rest (step-full n h nothing) (steps-full k (is_over u (step n)) u (step n) refl (step-sound n h) rest-nothing)
+steps-full (suc k) false used n e h f = after_line-full (next_line n) rest (step-full n h nothing) (steps-full k (is_over u (step n)) u (step n) refl (step-sound n h) rest-nothing)
   where
     u : ℕ
     u = used_after used (next_line n)
@@ -71,7 +71,7 @@ steps-full (suc k) false used n e h f = behind-full (next_line n) rest (step-ful
     rest = steps_unless k (is_over u (step n)) u (step n)
 
     rest-nothing : RefutesNothing rest.node
-    rest-nothing goal v = f goal (ap (λ (m : Node). m.verdict) (behind-node (next_line n) rest) ∙ v)
+    rest-nothing goal v = f goal (ap (λ (m : Node). m.verdict) (after_line-node (next_line n) rest) ∙ v)
 
     nothing : RefutesNothing (step n)
     nothing goal v =

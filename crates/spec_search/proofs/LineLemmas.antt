@@ -10,11 +10,11 @@ use Rattle.spec_learn.specs.Learning.{derived_id, line_of}
 use Rattle.spec_learn.proofs.ProfileLemmas.{sound-derived, sound-empty}
 use Rattle.spec_learn.proofs.SoundParts.{with-last, below-derived}
 use Rattle.spec_search.specs.Step.{Case, Learns, Refutes, Propagates, Drops, Restarts, Contradicts, Assumes, Decides, Ends, case_of, line_by, next_line, after_case, step}
-use Rattle.spec_search.specs.Slice.{Sliced, slice, steps_unless, is_over, behind, used_after}
+use Rattle.spec_search.specs.Slice.{Sliced, slice, steps_unless, is_over, after_line, used_after}
 use Rattle.spec_search.specs.Derived.{with_line, with_lines, IsDerivedFrom, AreDerivedFrom}
 use Rattle.spec_search.specs.Laws.{LinesAreDerived, HeldAreOfLines, LinesStayWithin, IsRefutedBy, SliceRefutes, AreNumbered, LinesAreCounted}
 use Rattle.spec_search.proofs.StepLemmas.{by_cases}
-use Rattle.spec_search.proofs.SliceLemmas.{behind-node}
+use Rattle.spec_search.proofs.SliceLemmas.{after_line-node}
 use Rattle.spec_search.proofs.SoundLemmas.{step-sound}
 use Rattle.spec_search.proofs.HintLemmas.{sound-hints, core-hints}
 use Rattle.spec_search.proofs.ModelLemmas.{step-leaves}
@@ -50,10 +50,10 @@ step-derives n h = by_cases (λ c. Stepped n (after_case c n) (line_by c n)) n (
 })
 
 -- what holds at the end of a slice over all clauses held, and with each line behind them, holds of the whole
-module _ (P : List NumberedClause → Sliced → Type 0) (end : (held : List NumberedClause) (n : Node) → IsOver held n → P held (record { node = n; lines = [] })) (more : (held : List NumberedClause) (n : Node) (l : Line) (s : Sliced) → IsOver held n → l.id ≡ derived_id n → IsDerivedFrom n.clauses l → P (with_line held l) s → P held (behind (Some l) s)) where
-  behind-over : (held : List NumberedClause) (n m : Node) (o : Option Line) (s : Sliced) → IsSound n → IsOver held n → Stepped n m o → ((cs : List NumberedClause) → IsOver cs m → P cs s) → P held (behind o s)
-  behind-over held n m None s h v k f = f held (over-without_line held n m v k)
-  behind-over held n m (Some l) s h v k f = more held n l s v k.1 k.0 (f (with_line held l) (over-with_line held n m l h v k))
+module _ (P : List NumberedClause → Sliced → Type 0) (end : (held : List NumberedClause) (n : Node) → IsOver held n → P held (record { node = n; lines = [] })) (more : (held : List NumberedClause) (n : Node) (l : Line) (s : Sliced) → IsOver held n → l.id ≡ derived_id n → IsDerivedFrom n.clauses l → P (with_line held l) s → P held (after_line (Some l) s)) where
+  after_line-over : (held : List NumberedClause) (n m : Node) (o : Option Line) (s : Sliced) → IsSound n → IsOver held n → Stepped n m o → ((cs : List NumberedClause) → IsOver cs m → P cs s) → P held (after_line o s)
+  after_line-over held n m None s h v k f = f held (over-without_line held n m v k)
+  after_line-over held n m (Some l) s h v k f = more held n l s v k.1 k.0 (f (with_line held l) (over-with_line held n m l h v k))
 
   steps-over : (k : ℕ) (over : Bool) (used : ℕ) (n : Node) (held : List NumberedClause) → IsSound n → IsOver held n → P held (steps_unless k over used n)
   steps-over zero over used n held h v = end held n v
@@ -61,7 +61,7 @@ module _ (P : List NumberedClause → Sliced → Type 0) (end : (held : List Num
   steps-over (suc k) false used n held h v =
       let u : ℕ = used_after used (next_line n) in
       let m : Node = step n in
-      behind-over held n m (next_line n) (steps_unless k (is_over u m) u m) h v (step-derives n h) (λ cs w. steps-over k (is_over u m) u m cs (step-sound n h) w)
+      after_line-over held n m (next_line n) (steps_unless k (is_over u m) u m) h v (step-derives n h) (λ cs w. steps-over k (is_over u m) u m cs (step-sound n h) w)
 
 pub lines-derived : LinesAreDerived
 unfolding slice
@@ -79,9 +79,9 @@ line-within n m l h k v s =
     let is : m.clauses ≡ n.clauses ++ new ∷ [] = s.2 ∙ with-last new n.clauses (All-weaker (λ c. c.id < derived_id n) (λ c. c.id < l.id) (λ c q. omega arith) n.clauses (below-derived n.serial n.index n.clauses h.ranged.serial)) in
     subst (λ (x : ℕ). AreLiteralsOf x l.lits) v (All-contains (λ c. AreLiteralsOf m.variables c.lits) m.clauses new k.consistent.clauses (subst (λ (cs : List NumberedClause). Contains cs new) (sym is) (Contains-push n.clauses new)))
 
-behind-within : (n m : Node) (o : Option Line) (s : Sliced) → IsSound n → IsSound m → m.variables ≡ n.variables → Stepped n m o → All (λ l. AreLiteralsOf m.variables l.lits) s.lines → All (λ l. AreLiteralsOf n.variables l.lits) (behind o s).lines
-behind-within n m None s h k v d a = subst (λ (x : ℕ). All (λ (l : Line). AreLiteralsOf x l.lits) s.lines) v a
-behind-within n m (Some l) s h k v d a = All-cons (λ x. AreLiteralsOf n.variables x.lits) l s.lines (line-within n m l h k v d) (subst (λ (x : ℕ). All (λ (y : Line). AreLiteralsOf x y.lits) s.lines) v a)
+after_line-within : (n m : Node) (o : Option Line) (s : Sliced) → IsSound n → IsSound m → m.variables ≡ n.variables → Stepped n m o → All (λ l. AreLiteralsOf m.variables l.lits) s.lines → All (λ l. AreLiteralsOf n.variables l.lits) (after_line o s).lines
+after_line-within n m None s h k v d a = subst (λ (x : ℕ). All (λ (l : Line). AreLiteralsOf x l.lits) s.lines) v a
+after_line-within n m (Some l) s h k v d a = All-cons (λ x. AreLiteralsOf n.variables x.lits) l s.lines (line-within n m l h k v d) (subst (λ (x : ℕ). All (λ (y : Line). AreLiteralsOf x y.lits) s.lines) v a)
 
 steps-within : (k : ℕ) (over : Bool) (used : ℕ) (n : Node) → IsSound n → All (λ l. AreLiteralsOf n.variables l.lits) (steps_unless k over used n).lines
 steps-within zero over used n h = All-nil (λ l. AreLiteralsOf n.variables l.lits)
@@ -89,7 +89,7 @@ steps-within (suc k) true used n h = All-nil (λ l. AreLiteralsOf n.variables l.
 steps-within (suc k) false used n h =
     let u : ℕ = used_after used (next_line n) in
     let m : Node = step n in
-    behind-within n m (next_line n) (steps_unless k (is_over u m) u m) h (step-sound n h) (step-leaves n).variables (step-derives n h) (steps-within k (is_over u m) u m (step-sound n h))
+    after_line-within n m (next_line n) (steps_unless k (is_over u m) u m) h (step-sound n h) (step-leaves n).variables (step-derives n h) (steps-within k (is_over u m) u m (step-sound n h))
 
 pub lines-stay_within : LinesStayWithin
 unfolding slice
@@ -120,9 +120,9 @@ step-refutes n goal h none = by_cases (Refuting goal n) n (record {
   ends = λ idle o f v. absurd (cc);
 })
 
-behind-refuted : (assumptions : List ℕ) (goal : ℕ) (o : Option Line) (s : Sliced) → IsRefutedBy assumptions goal s.lines → IsRefutedBy assumptions goal (behind o s).lines
-behind-refuted assumptions goal None s h = h
-behind-refuted assumptions goal (Some l) s h = record { before = l ∷ h.before; line = h.line; last = ap (λ (ls : List Line). l ∷ ls) h.last; number = h.number; contradicted = h.contradicted }
+after_line-refuted : (assumptions : List ℕ) (goal : ℕ) (o : Option Line) (s : Sliced) → IsRefutedBy assumptions goal s.lines → IsRefutedBy assumptions goal (after_line o s).lines
+after_line-refuted assumptions goal None s h = h
+after_line-refuted assumptions goal (Some l) s h = record { before = l ∷ h.before; line = h.line; last = ap (λ (ls : List Line). l ∷ ls) h.last; number = h.number; contradicted = h.contradicted }
 
 -- a slice that is over derives nothing more
 pub over-lines : (k used : ℕ) (n : Node) → (steps_unless k true used n).lines ≡ []
@@ -133,7 +133,7 @@ pub over-node : (k used : ℕ) (n : Node) → (steps_unless k true used n).node 
 over-node zero used n = refl
 over-node (suc k) used n = refl
 
-last-refuted : (assumptions : List ℕ) (goal : ℕ) (l : Line) (s : Sliced) (o : Option Line) → o ≡ Some l → s.lines ≡ [] → IsGoal assumptions goal l → IsRefutedBy assumptions goal (behind o s).lines
+last-refuted : (assumptions : List ℕ) (goal : ℕ) (l : Line) (s : Sliced) (o : Option Line) → o ≡ Some l → s.lines ≡ [] → IsGoal assumptions goal l → IsRefutedBy assumptions goal (after_line o s).lines
 last-refuted assumptions goal l s None e f g = absurd (cc)
 last-refuted assumptions goal l s (Some m) e f g = record { before = []; line = l; last = first m (let same : m ≡ l = cc in same) f; number = g.number; contradicted = g.contradicted }
   where
@@ -156,10 +156,10 @@ steps-refute (suc k) false used n goal e h none v = by_verdict (λ q w. steps-re
     rest = steps_unless k (is_over u (step n)) u (step n)
 
     ends : rest.node.verdict ≡ Some (Unsatisfiable goal)
-    ends = sym (ap (λ (m : Node). m.verdict) (behind-node (next_line n) rest)) ∙ v
+    ends = sym (ap (λ (m : Node). m.verdict) (after_line-node (next_line n) rest)) ∙ v
 
-    by_verdict : ((step n).verdict ≡ None → rest.node.verdict ≡ Some (Unsatisfiable goal) → IsRefutedBy (step n).assumptions goal rest.lines) → (w : Option Verdict) → (step n).verdict ≡ w → IsRefutedBy n.assumptions goal (behind (next_line n) rest).lines
-    by_verdict f None q = behind-refuted n.assumptions goal (next_line n) rest (subst (λ (xs : List ℕ). IsRefutedBy xs goal rest.lines) (step-leaves n).assumptions (f q ends))
+    by_verdict : ((step n).verdict ≡ None → rest.node.verdict ≡ Some (Unsatisfiable goal) → IsRefutedBy (step n).assumptions goal rest.lines) → (w : Option Verdict) → (step n).verdict ≡ w → IsRefutedBy n.assumptions goal (after_line (next_line n) rest).lines
+    by_verdict f None q = after_line-refuted n.assumptions goal (next_line n) rest (subst (λ (xs : List ℕ). IsRefutedBy xs goal rest.lines) (step-leaves n).assumptions (f q ends))
     by_verdict f (Some x) q =
         let over : is_over u (step n) ≡ true = over-some (step n).verdict x _ q in
         let node : rest.node ≡ step n = subst (λ (b : Bool). (steps_unless k b u (step n)).node ≡ step n) (sym over) (over-node k u (step n)) in
@@ -195,12 +195,12 @@ record AreCounted (n : Node) (s : Sliced) : Type 0 where
   pub numbered : AreNumbered n.serial n.index s.lines
   pub serial : s.node.serial ≡ n.serial + length s.lines
 
-behind-counted : (n m : Node) (o : Option Line) (s : Sliced) → IsNumbered n m o → AreCounted m s → AreCounted n (behind o s)
-behind-counted n m None s h k = record {
+after_line-counted : (n m : Node) (o : Option Line) (s : Sliced) → IsNumbered n m o → AreCounted m s → AreCounted n (after_line o s)
+after_line-counted n m None s h k = record {
   numbered = subst (λ (i : ℕ). AreNumbered n.serial i s.lines) h.index (subst (λ (x : ℕ). AreNumbered x m.index s.lines) (let same : m.serial ≡ n.serial = omega (arith, h.serial) in same) k.numbered);
   serial = omega (arith, h.serial, k.serial);
 }
-behind-counted n m (Some l) s h k = record {
+after_line-counted n m (Some l) s h k = record {
   numbered = (h.number l refl, subst (λ (i : ℕ). AreNumbered (n.serial + 1) i s.lines) h.index (subst (λ (x : ℕ). AreNumbered x m.index s.lines) h.serial k.numbered));
   serial = omega (arith, h.serial, k.serial);
 }
@@ -210,7 +210,7 @@ steps-counted zero over used n = record { numbered = tt; serial = omega arith }
 steps-counted (suc k) true used n = record { numbered = tt; serial = omega arith }
 steps-counted (suc k) false used n =
     let u : ℕ = used_after used (next_line n) in
-    behind-counted n (step n) (next_line n) (steps_unless k (is_over u (step n)) u (step n)) (case-numbered (case_of n) n) (steps-counted k (is_over u (step n)) u (step n))
+    after_line-counted n (step n) (next_line n) (steps_unless k (is_over u (step n)) u (step n)) (case-numbered (case_of n) n) (steps-counted k (is_over u (step n)) u (step n))
 
 pub lines-counted : LinesAreCounted
 unfolding slice

@@ -6,12 +6,12 @@ use Rattle.mal_base.specs.NumberedClause.{Line}
 use Rattle.mal_base.specs.declared.verdict.Verdict.{Verdict}
 use Rattle.spec_node.specs.State.{Node}
 use Rattle.spec_search.specs.Step.{next_line, step}
-use Rattle.spec_search.specs.Slice.{Sliced, steps_unless, is_over, behind, used_after, numbers_of, most_numbers}
+use Rattle.spec_search.specs.Slice.{Sliced, steps_unless, is_over, after_line, used_after, numbers_of, most_numbers}
 
 -- the node that comes with a line is the node
-pub behind-node : (o : Option Line) (s : Sliced) → (behind o s).node ≡ s.node
-behind-node None s = refl
-behind-node (Some l) s = refl
+pub after_line-node : (o : Option Line) (s : Sliced) → (after_line o s).node ≡ s.node
+after_line-node None s = refl
+after_line-node (Some l) s = refl
 
 -- a slice that goes on has no verdict, and its next line fits
 pub record GoesOn (used : ℕ) (n : Node) : Type 0 where
@@ -38,4 +38,4 @@ steps-keep P f (suc k) true used n e h = h
 steps-keep P f (suc k) false used n e h =
     let u : ℕ = used_after used (next_line n) in
     let m : Node = step n in
-    subst P (sym (behind-node (next_line n) (steps_unless k (is_over u m) u m))) (steps-keep P f k (is_over u m) u m refl (f n (going used n e).none h))
+    subst P (sym (after_line-node (next_line n) (steps_unless k (is_over u m) u m))) (steps-keep P f k (is_over u m) u m refl (f n (going used n e).none h))

@@ -23,9 +23,9 @@ pub record Sliced : Type 0 where
   pub lines : List Line
 
 -- with a line derived before the others
-abbrev pub behind : Option Line → Sliced → Sliced
-behind None s = s
-behind (Some l) s = record { node = s.node; lines = l ∷ s.lines }
+abbrev pub after_line : Option Line → Sliced → Sliced
+after_line None s = s
+after_line (Some l) s = record { node = s.node; lines = l ∷ s.lines }
 
 -- the literals and hints used after a step
 abbrev pub used_after : ℕ → Option Line → ℕ
@@ -35,7 +35,7 @@ used_after used line = used + option_map_or numbers_of line 0
 abbrev pub steps_unless : ℕ → Bool → ℕ → Node → Sliced
 steps_unless zero over used n = record { node = n; lines = [] }
 steps_unless (suc k) true used n = record { node = n; lines = [] }
-steps_unless (suc k) false used n = let line = next_line n in let u = used_after used line in let m = step n in behind line (steps_unless k (is_over u m) u m)
+steps_unless (suc k) false used n = let line = next_line n in let u = used_after used line in let m = step n in after_line line (steps_unless k (is_over u m) u m)
 
 -- up to this many steps from a node, where so many literals and hints were derived before in the slice
 abbrev pub steps_from : ℕ → ℕ → Node → Sliced

@@ -1,4 +1,4 @@
-use Rattle.spec_exchange.proofs.FrontLemmas.{cuts-early}
+use Rattle.spec_exchange.proofs.PrefixLemmas.{cuts-early}
 use Rattle.spec_exchange.proofs.TreeLemmas.{climb}
 use Rattle.spec_exchange.proofs.cutting_early_loses_nothing.Goals as goal
 

@@ -5,4 +5,4 @@ use Rattle.mal_cdcl.specs.Importing.{is_loaded_in}
 use Rattle.mal_cdcl.proofs.import_filter.note_loads.Given as goal
 
 abbrev pub invariant-loop-load : goal.invariant-loop-load
-invariant-loop-load l = (lits : List ℕ) → is_noted lits l.told ≡ true → is_noted lits l.seen ≡ (is_loaded_in lits (posted (take l.load-index l.loads)) || is_noted lits l.fn.seen)
+invariant-loop-load l = (lits : List ℕ) → is_noted lits l.exported ≡ true → is_noted lits l.seen ≡ (is_loaded_in lits (posted (take l.load-index l.loads)) || is_noted lits l.fn.seen)

@@ -4,5 +4,5 @@ use Rattle.mal_cdcl.specs.Importing.{Sees, lent}
 use Rattle.mal_cdcl.proofs.PickLemmas.{IsPicking}
 use Rattle.mal_cdcl.proofs.import_filter.pick_past.Given as goal
 
-abbrev pub invariant-loop-told : goal.invariant-loop-told
-invariant-loop-told l = (clauses : List NumberedClause) → Sees l.fn.seen clauses → IsPicking (lent (drop l.told-index l.imports)) (lent l.imports) clauses l.picks.items l.seen
+abbrev pub invariant-loop-exported : goal.invariant-loop-exported
+invariant-loop-exported l = (clauses : List NumberedClause) → Sees l.fn.seen clauses → IsPicking (lent (drop l.exported-index l.imports)) (lent l.imports) clauses l.picks.items l.seen

@@ -9,4 +9,4 @@ pub returns : goal.returns
 returns c =
     let few : length c.loop-tops.tops.items ≤ 1 = search rules in
     let only : c.loop-tops.tops.items ≡ c.in-Some.top ∷ [] = alone c.loop-tops.tops.items c.pop.new.self.items c.in-Some.top c.in-Some.ensures.items few in
-    c.cut.ensures.front ∙ (top c.in-Some.top c.cut.ensures.was_sorted ∙ (ap (λ (ts : List (List NumberedClause)). broadcast (entries_of ts)) (sym only) ∙ c.loop-tops.invariant.told))
+    c.cut.ensures.prefix ∙ (top c.in-Some.top c.cut.ensures.was_sorted ∙ (ap (λ (ts : List (List NumberedClause)). broadcast (entries_of ts)) (sym only) ∙ c.loop-tops.invariant.same))

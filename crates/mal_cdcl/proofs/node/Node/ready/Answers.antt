@@ -37,7 +37,7 @@ loop-pick-init g c =
     let none : posted (drop c.loop-load.load-index c.args.loads.now) ≡ [] = posted-end c.args.loads.now c.loop-load.load-index (omega arith) in
     let ready = rw none at c.loop-load.invariant in
     let is : c.in_ok-picks.picks.items ≡ picked (lent c.args.imports.now) (readied (posted c.args.loads.now) c.args.self.now.state).clauses = c.in_ok-picks.ensures c.args.self.now.state (sym (ap (λ (s : NodeWithRoom). s.state.clauses) c.self.view_is)) in
-    rw c.as_slice-pick-items.ensures.value (importing-begins (posted c.args.loads.now) (lent c.args.imports.now) c.in_ok-picks.picks.items c.args.self.now.state _ c.loop-load.self is c.requires.told ready)
+    rw c.as_slice-pick-items.ensures.value (importing-begins (posted c.args.loads.now) (lent c.args.imports.now) c.in_ok-picks.picks.items c.args.self.now.state _ c.loop-load.self is c.requires.exported ready)
 
 pub take_pick-requires-clause-new : goal.take_pick-requires-clause-new
 take_pick-requires-clause-new g c =

@@ -13,7 +13,7 @@ invariant_of-self g c =
     let held : List NumberedClause = g.E.ClauseView.clauses n.engine in
     let same : held ≡ c.args.self.now.state.clauses = ap (λ (s : NodeWithRoom). s.state.clauses) c.self-2.view_is ∙ ap (λ (m : Node). m.clauses) c.cut.ensures.state in
     let variables : n.variables ≡ c.args.self.now.state.variables = ap (λ (s : NodeWithRoom). s.state.variables) c.self-2.view_is ∙ ap (λ (m : Node). m.variables) c.cut.ensures.state in
-    let new : AreNewTo held n.variables c.args.told.now = rw (same, variables) c.requires.new in (
+    let new : AreNewTo held n.variables c.args.exported.now = rw (same, variables) c.requires.new in (
       record {
         place = inv.place;
         small = inv.small;
@@ -23,9 +23,9 @@ invariant_of-self g c =
         ordered = inv.ordered;
         complete = inv.complete;
         phased = inv.phased;
-        claused = rw c.add_told.ensures.clauses (within-new n.variables c.args.told.now held new inv.claused);
-        rising = rw c.add_told.ensures.clauses (rising-new n.variables c.args.told.now held new inv.rising);
+        claused = rw c.add_imported.ensures.clauses (within-new n.variables c.args.exported.now held new inv.claused);
+        rising = rw c.add_imported.ensures.clauses (rising-new n.variables c.args.exported.now held new inv.rising);
       },
-      c.add_told.ensures.fits,
+      c.add_imported.ensures.fits,
       rw c.set_processed.ensures.entries c.self-2.invariant.2,
     )

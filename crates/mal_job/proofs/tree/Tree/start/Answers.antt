@@ -3,7 +3,7 @@ use Rattle.mal_base.specs.NumberedClause.{NumberedClause}
 use Rattle.spec_job.specs.Journal.{imports_in}
 use Rattle.spec_job.specs.Journaled.{Journaled, replayed}
 use Rattle.mal_suspend.specs.Replaying.{MayAllReplay}
-use Rattle.mal_suspend.specs.Starting.{shared_loads, shared_tolds, start_entries}
+use Rattle.mal_suspend.specs.Starting.{shared_loads, shared_imports, start_entries}
 use Rattle.mal_job.specs.Placing.{placed, fresh_place}
 use Rattle.mal_job.specs.Viewed.{PlaceView, TreeView, shared}
 use Rattle.mal_job.proofs.PlaceLemmas.{get-within}
@@ -17,8 +17,8 @@ start-requires-clause-replays c =
     let here : c.index_mut.result.now ≡ placed t c.args.index = c.index_mut.ensures.value ∙ get-within c.self.inside.places.items c.args.index c.index_mut.result.now (fresh_place 0 1 0) (rw (← c.self.view_is) at c.requires.place) in
     let first : c.index.result.now ≡ placed t c.args.index = c.index.ensures ∙ get-within c.self.inside.places.items c.args.index c.index.result.now (fresh_place 0 1 0) (rw (← c.self.view_is) at c.requires.place) in
     let count : c.imports-imported.result ≡ imports_in (placed t c.args.index).journal.entries = c.imports-imported.ensures ∙ (ap (λ (j : Journaled). imports_in j.entries) c.journal.ensures ∙ ap (λ (p : PlaceView). imports_in p.journal.entries) first) in
-    let tolds : shared_tolds c.in_ok-imports.imports.items ≡ drop (imports_in (placed t c.args.index).journal.entries) t.broadcasts = c.in_ok-imports.ensures ∙ (ap (λ (n : ℕ). drop n (shared_tolds c.as_slice.result.now)) count ∙ ap (λ ts. drop (imports_in (placed t c.args.index).journal.entries) (shared_tolds ts)) c.as_slice.ensures.value) in
-    subst (λ (p : PlaceView). MayAllReplay (replayed p.journal) (start_entries (shared_loads c.args.loads.items) (shared_tolds c.in_ok-imports.imports.items))) (sym here) (subst (λ (ts : List (List NumberedClause)). MayAllReplay (replayed (placed t c.args.index).journal) (start_entries (shared_loads c.args.loads.items) ts)) (sym tolds) may)
+    let tolds : shared_imports c.in_ok-imports.imports.items ≡ drop (imports_in (placed t c.args.index).journal.entries) t.broadcasts = c.in_ok-imports.ensures ∙ (ap (λ (n : ℕ). drop n (shared_imports c.as_slice.result.now)) count ∙ ap (λ ts. drop (imports_in (placed t c.args.index).journal.entries) (shared_imports ts)) c.as_slice.ensures.value) in
+    subst (λ (p : PlaceView). MayAllReplay (replayed p.journal) (start_entries (shared_loads c.args.loads.items) (shared_imports c.in_ok-imports.imports.items))) (sym here) (subst (λ (ts : List (List NumberedClause)). MayAllReplay (replayed (placed t c.args.index).journal) (start_entries (shared_loads c.args.loads.items) ts)) (sym tolds) may)
 
 pub invariant_of-self : goal.invariant_of-self
 invariant_of-self c =
@@ -31,7 +31,7 @@ returns-clause-adds c =
     let t : TreeView = record { number = c.self.inside.number; profile = c.self.inside.profile; volume = c.self.inside.volume; places = c.self.inside.places.items; broadcasts = shared c.self.inside.broadcasts.items; ran = c.self.inside.ran } in
     let first : c.index.result.now ≡ placed t c.args.index = c.index.ensures ∙ get-within c.self.inside.places.items c.args.index c.index.result.now (fresh_place 0 1 0) (rw (← c.self.view_is) at c.requires.place) in
     let count : c.imports-imported.result ≡ imports_in (placed t c.args.index).journal.entries = c.imports-imported.ensures ∙ (ap (λ (j : Journaled). imports_in j.entries) c.journal.ensures ∙ ap (λ (p : PlaceView). imports_in p.journal.entries) first) in
-    let tolds : shared_tolds c.in_ok-imports.imports.items ≡ drop (imports_in (placed t c.args.index).journal.entries) t.broadcasts = c.in_ok-imports.ensures ∙ (ap (λ (n : ℕ). drop n (shared_tolds c.as_slice.result.now)) count ∙ ap (λ ts. drop (imports_in (placed t c.args.index).journal.entries) (shared_tolds ts)) c.as_slice.ensures.value) in
+    let tolds : shared_imports c.in_ok-imports.imports.items ≡ drop (imports_in (placed t c.args.index).journal.entries) t.broadcasts = c.in_ok-imports.ensures ∙ (ap (λ (n : ℕ). drop n (shared_imports c.as_slice.result.now)) count ∙ ap (λ ts. drop (imports_in (placed t c.args.index).journal.entries) (shared_imports ts)) c.as_slice.ensures.value) in
     rw (← c.self.view_is) (subst (λ (ts : List (List NumberedClause)). IfOk c.start.result (λ l. l.adds ≡ start_entries (shared_loads c.args.loads.items) ts)) tolds c.start.ensures.adds)
 
 pub returns-clause-kept : goal.returns-clause-kept

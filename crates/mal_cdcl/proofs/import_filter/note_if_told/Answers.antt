@@ -1,6 +1,0 @@
-use Rattle.std.proofs.Common.{sym, ◌∙◌}
-use Rattle.mal_cdcl.proofs.PickLemmas.{untold}
-use Rattle.mal_cdcl.proofs.import_filter.note_if_told.Goals as goal
-
-pub returns-then-passes_lits : goal.returns-then-passes_lits
-returns-then-passes_lits c = λ others told. untold c.args.told.now c.args.lits.now others c.args.seen.now (sym c.passes_lits.ensures ∙ c.if-passes_lits.true) told
