@@ -28,6 +28,7 @@ fn summary(alloc: Global, jobs: u32, replies: &[u8]) -> Result<Vec<u8>, AllocErr
     let mut satisfiable = Buffer::new();
     let mut unsatisfiable = Buffer::new();
     let mut unknown = Buffer::new();
+    // Replies are told apart by their line `s ..`, of which each has one.
     let words = [
         number.format(jobs).as_bytes(),
         b"sat",

@@ -16,7 +16,8 @@ size_of (Some lits) = length lits
 abbrev pub literals_of : List (Option (List ℕ)) → ℕ
 literals_of clauses = sum_by size_of clauses
 
--- each literal is of a variable from 1 to this one
+-- each literal is of a variable from 1 to this one: here it is a number, and code 0 or 1 would be of a variable 0 that
+-- no assignment lists
 abbrev pub is_within : ℕ → List ℕ → Bool
 is_within variables lits = list_all (λ l. nat_le 1 (l / 2) && nat_le (l / 2) variables) lits
 

@@ -8,6 +8,8 @@ use std::marker::Model;
 /// The values of the variables from 1 on, 65,536 at most. Contracts see the list.
 #[derive(Debug, Drop)]
 pub struct Values {
+    // 65,536 is the greatest number of variables, so each literal of a model is made and written without a further
+    // test.
     items: Vec<bool>,
 }
 

@@ -10,6 +10,7 @@ pub enum OpenFault {
     Duplicate,
     #[error("the tenant has 64 jobs")]
     TenantFull,
+    // No number of jobs is too many by itself: a tenant's 65th job is TenantFull before.
     #[error("the hall has 64 tenants")]
     HallFull,
     #[error("out of memory")]

@@ -47,7 +47,9 @@ impl Eq for Name {
 }
 
 impl Name {
-    /// The name of these bytes. None exactly where they are no name.
+    /// The name of these bytes. None exactly where they are no name. Takes an allocator and answers a Result as makers
+    /// of collections do, and never asks for memory: a name is held inline, so that events carry names without taking
+    /// any.
     pub fn of(_alloc: Global, text: &[u8]) -> Result<Option<Name>, AllocError>
         ensures { IfOk result
             (λ o. MatchOption o (is_name text.now ≢ true) (λ n. (n ≡ text.now) × (is_name text.now ≡ true))) }

@@ -94,6 +94,7 @@ fn note_all<E: Listed>(
         ≡ (is_loaded_in lits (posted loads.now) || (has_lits lits (E.clauses engine.now) || is_noted lits seen.old))) }
 {
     note_exported(exported, imports)?;
+    // A node holds many clauses and imports few: of those held only the ones that are imported too are noted.
     note_held(seen, exported, engine)?;
     note_loads(seen, exported, loads)
 }

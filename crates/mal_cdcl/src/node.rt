@@ -601,6 +601,7 @@ impl<E: Listed> Node<E> {
     {
         self.engine.learn(number, scratch.clause(), &self.trail);
         self.serial += 1;
+        // A conflict stays after the empty clause: the node has its verdict and makes no step; a load clears both.
         self.verdict = Some(Verdict::Unsatisfiable { goal: number });
     }
 

@@ -8,5 +8,6 @@ pub fn is_due(conflicts_since_restart: u32, restart_number: u32) -> bool
     requires { 1 ≤ restart_number }
     ensures { result ≡ nat_le (64 * luby restart_number) conflicts_since_restart }
 {
+    // Compared with the conflicts divided by 64, so no product can pass the machine word.
     mal_seq::luby(u64::from(restart_number)) <= u64::from(conflicts_since_restart) / 64
 }

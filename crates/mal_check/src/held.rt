@@ -17,7 +17,8 @@ pub enum Place {
     Added(usize),
 }
 
-/// The original clauses and those that lines added. A deleted clause stays in its list and is held no more.
+/// The original clauses and those that lines added. A deleted clause stays in its list and is held no more: the goal
+/// counts an accepted clause also where it was deleted later, and nothing is copied.
 #[derive(Drop)]
 pub struct Clauses {
     originals: Vec<Option<Clause>>,

@@ -67,7 +67,7 @@ impl Trues {
         Ok(())
     }
 
-    /// Forgets the literals, each by its own mark.
+    /// Forgets the literals, each by its own mark, so that a line costs what its hints cost.
     pub fn clear(&mut self)
         ensures { self.new ≡ [] }
     {

@@ -58,6 +58,7 @@ fn finish(
 {
     match at_end(reader) {
         Ok(formula) => Ok((formula, line, rest)),
+        // On the last line before the assumptions or the line `proof`, line 1 where there is none.
         Err(fault) => Err(ClaimFault::Formula {
             line: line.max(1),
             fault: LineFault::Dimacs { fault },

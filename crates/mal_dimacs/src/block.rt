@@ -16,7 +16,8 @@ use std::alloc::{AllocError, Global};
 use std::marker::Model;
 
 /// A block of which some lines are read: the header, and then lines of clauses. Contracts see the numbers of the
-/// header, the clauses that are closed, and the literals that wait for a 0.
+/// header, the clauses that are closed, and the literals that wait for a 0. It is passed by value: after a fault
+/// nothing of it is left, so no state has to be described.
 #[derive(Drop)]
 pub struct BlockReader {
     variables: u32,
@@ -119,6 +120,7 @@ impl BlockReader {
         ensures { Gives result (after_zero first.now (words_of rest.now) self) }
     {
         match first_word(rest) {
+            // Numbers count by value, but behind % only the word 0 itself may stand.
             None if first == b"0".as_slice() => Ok(self.at(Stage::Zero)),
             _ => Err(DimacsError::Fault(BlockFault::Trailing)),
         }
@@ -198,6 +200,8 @@ impl BlockReader {
                 which: LimitKind::Literals,
             }));
         }
+        // Clauses beyond those declared are counted, up to 2^64 - 1, and not kept; they are a fault at the end anyway.
+        // Their literals count.
         if self.clauses.len() < self.declared as usize {
             keep(&mut self.clauses, is_clause, self.pending.as_slice())?;
         }

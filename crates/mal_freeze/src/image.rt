@@ -14,7 +14,7 @@ use std::marker::Model;
 /// profile 1 no conflicts count for a dropping; no more batches count as handled than the trail has prefixes; the
 /// assumptions and the literals of a clause rise by variable; the order has each variable once; each variable has a
 /// phase; no variable stands twice on the trail, whose levels rise by one at most; the numbers of the clauses rise.
-/// Contracts see the node.
+/// Contracts see the node. An image copies, so that after want of memory node and image are both as before.
 #[derive(Drop)]
 pub struct Image {
     parts: Parts,

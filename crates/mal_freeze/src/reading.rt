@@ -22,6 +22,7 @@ fn bad_field(total: usize, bytes: &[u8]) -> ThawFault
     ensures { result ≡ BadField (place_of total bytes.now) }
 {
     ThawFault::BadField {
+        // The length of the whole text less that of what is left from the field on; no place is counted.
         place: total.saturating_sub(bytes.len()),
     }
 }

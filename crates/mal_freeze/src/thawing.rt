@@ -47,6 +47,7 @@ fn image_at(alloc: Global, bytes: &[u8]) -> Result<Image, ThawFault>
     ensures { Gives (λ i. i) result (image_in bytes.now) }
 {
     let fields = reading::fields(alloc, bytes)?;
+    // Orders are tested once all fields are read, so every fault of a range or of the end comes before.
     match image_of(alloc, fields)? {
         None => Err(ThawFault::NotCanonical),
         Some(image) => Ok(image),

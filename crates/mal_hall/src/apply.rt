@@ -54,6 +54,7 @@ impl Hall {
         ensures refused { IsErrOf result ApplyFault.NotAllowed
             → IsRefused self.old.workers self.old.events revision event.now }
     {
+        // A revision that is given with another event is passed over: only a Revise has contents.
         match event {
             Event::Open { tenant, job, ask } => self.enter_open(*tenant, *job, *ask),
             Event::Revise {
@@ -143,6 +144,8 @@ impl Hall {
         if !self.is_due() {
             return Err(ApplyFault::NotAllowed);
         }
+        // Enters the fair volumes and compares: they are unique, so they differ exactly where the event is not allowed,
+        // and the hall is given up then.
         match self.balance() {
             Ok(()) => {}
             Err(_) => return Err(ApplyFault::OutOfMemory),

@@ -398,6 +398,8 @@ impl Hall {
         if self.has_lease(worker) {
             return Err(PickFault::Busy);
         }
+        // After the last answer of a closed job no balancing is entered, though one would be legal: nothing is left to
+        // do.
         if self.is_over() {
             return Ok(Pick::AllDone);
         }

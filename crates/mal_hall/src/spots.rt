@@ -59,6 +59,7 @@ impl Spot {
 pub fn no_leases<T: Drop>(alloc: Global, workers: u32) -> Result<Vec<Option<T>>, AllocError>
     ensures { IfOk result (λ v. v.items ≡ replicate workers None) }
 {
+    // A place for each worker, so recall goes over it by rising worker and no lease needs memory of its own.
     let mut leases = Vec::new(alloc);
     for worker in 0..workers {
         let _ = worker;

@@ -30,6 +30,8 @@ impl Share {
 /// the list.
 #[derive(Debug, Drop)]
 pub struct Shares {
+    // Shared behind an Arc: of 4,096 jobs answered one by one there are as many balancings with eight million volumes,
+    // nearly all 0.
     items: Vec<Arc<Share>>,
 }
 

@@ -58,6 +58,7 @@ pub fn next_event(
 ) -> Result<Event, EventFault>
     ensures { Gives result (next_event max workers (length events.now) (first.now ∷ words_of line.now)) }
 {
+    // TooLong comes behind the line's own faults.
     let event = read_event(alloc, first, line, workers, events)?;
     if events.len() < max {
         Ok(event)
@@ -146,6 +147,8 @@ fn profile_in(line: &[u8]) -> Result<u32, EventFault>
         return Ok(1);
     };
     match first_word(behind) {
+        // One spelling for each opening: only 2 may stand here, so 1 is BadNumber, and a word that is no number is no
+        // word of this line.
         None => profile_said(word),
         Some(_) => Err(EventFault::BadLine),
     }

@@ -90,6 +90,7 @@ impl Pieces {
             self.keep(bytes);
             return;
         }
+        // What finds no room is handed on as it is, so nothing has to be known of how long a line is.
         self.failed = handed(self.failed, sink, bytes);
     }
 

@@ -22,7 +22,8 @@ impl<D> Counted<D> {
     }
 }
 
-/// A source over a reader. Each error of the reader is a fault, and nothing else is one.
+/// A source over a reader. Each error of the reader is a fault, and nothing else is one. Interrupted is not tried
+/// again: what the contract says of a failure is the same for each cause.
 pub type StdSource<R> = Counted<R>;
 
 impl<R: Read> Source for StdSource<R> {

@@ -97,6 +97,8 @@ fn push_exported(
 fn is_own(node: u64, id: ClauseId) -> bool
     ensures { result ≡ (id % 64 == node) }
 {
+    // The index of the node that derived a clause is what is left of its number divided by 64, so an exchange looks
+    // into no node; its cost is the volume times the new lines.
     id.number() % PLACES == node
 }
 

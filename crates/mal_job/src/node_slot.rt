@@ -60,6 +60,7 @@ impl NodeSlot {
     {
         NodeSlot {
             journal: Journal::new(alloc, job, profile, index),
+            // A gone node of an empty journal: there is nothing to rebuild.
             whereabouts: Whereabouts::Gone,
             starts: 0,
             mark: 0,

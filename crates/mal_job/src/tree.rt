@@ -291,6 +291,7 @@ impl Tree {
     {
         let alloc = *self.places.allocator();
         let count = self.volume as usize;
+        // A place below the volume that was never started takes part: it exports nothing, and its mark is moved.
         let exported = exports(alloc, &self.places[..count], log)?;
         let broadcast = Arc::new(alloc, up(alloc, exported.as_slice())?)?;
         self.broadcasts.push(broadcast)?;

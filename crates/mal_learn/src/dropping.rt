@@ -103,6 +103,7 @@ pub fn choose_longer_half<T: TrailView, E: Listed>(trail: &T, engine: &E, scratc
 fn is_reason<T: TrailView>(trail: &T, id: ClauseId, lits: &[Lit]) -> bool
     ensures { result ≡ is_reason (T.entries trail.now) (record { id = id; lits = lits.now }) }
 {
+    // Asked of the trail, which has level 0 alone in a dropping and is short; marks would need a place for each number.
     for place in 0..trail.len() {
         if has_reason(trail.at(place), id) {
             return true;

@@ -70,6 +70,7 @@ impl Scratch {
         ensures id_room { self.new.ids ≡ self.old.ids }
     {
         self.base.fit(variables as usize + 1)?;
+        // Each entry of a trail gives one literal or one hint at most, so this is room for every analysis.
         self.work.fit(variables + 1)
     }
 
@@ -174,6 +175,7 @@ pub fn shorten<T: TrailView, C: ClauseView>(trail: &T, clauses: &C, scratch: &mu
         (shortened (C.clauses clauses.now) (reverse (T.entries trail.now))
         (last_of scratch.old.hints)) scratch.old scratch.new }
 {
+    // Walks again: it reads the conflict off the last hint, and asks for no more of the scratch than that hint.
     let conflict = scratch.work.last_hint();
     let level = current_level(trail);
     scratch.work.begin(trail, clauses, conflict, level);
@@ -199,6 +201,9 @@ pub fn final_core<T: TrailView, C: ClauseView>(
         (core (C.clauses clauses.now) (reverse (T.entries trail.now)) assumption) scratch.old scratch.new }
 {
     let negation = assumption.negate();
+    // Of any literal: where the negation is not on the trail, or was decided, the clause is the negation alone, without
+    // hints. At level 0 the negation may stand too: the clause is not made empty, since without the assumption the
+    // clauses need not be refuted.
     let count = count_to(trail, negation);
     scratch.work.begin_with(negation);
     scratch.work.trace_from(trail, clauses, count);

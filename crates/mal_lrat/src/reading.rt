@@ -103,6 +103,8 @@ fn deletion(alloc: Global, words: &[u8]) -> Result<Line, LineFault>
 fn addition(alloc: Global, id: ClauseId, words: &[u8], last: u64) -> Result<Line, LineFault>
     ensures { Gives seen result (added last id (words_of words.now)) }
 {
+    // Judged word by word first: words up to the first 0 are literals, those behind it hints, also where the line has
+    // no right form.
     let (lits, hint_words) = literals(alloc, words)?;
     let hints = id_list(alloc, hint_words)?;
     added(alloc, id, lits.as_slice(), hints, last)

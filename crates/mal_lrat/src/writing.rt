@@ -48,7 +48,9 @@ fn addition(
     Ok(out)
 }
 
-/// Writes the line that adds the clause of these literals, with its line end and without a leading `l`.
+/// Writes the line that adds the clause of these literals, with its line end and without a leading `l`. The one place
+/// where such a line is written; mal_dimacs has a writer of literals of its own, since neither crate stands on the
+/// other.
 pub fn put_added(
     out: &mut Vec<u8>,
     id: ClauseId,

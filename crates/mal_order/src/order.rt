@@ -176,6 +176,8 @@ impl Order {
         ensures room { self.new.room ≡ self.old.room }
         ensures passed { self.new.passed ≡ 0 }
     {
+        // To the front, not as far as needed: the learned variables come to the front after each cut, and the walk is
+        // short beside the batches of a conflict. Stamps would pay where many variables have values for good.
         self.passed = 0;
         self.mark = 0;
     }

@@ -106,6 +106,7 @@ fn post_due<R: Wait, B: Board>(rt: &R, board: &B, pass: B::Pass, due: &Due<'_>) 
     ensures refused { result.1 ≡ false
         → (last : List DeskCall) × IsRefusal last × (B.calls result.0 ≡ B.calls pass ++ last) }
 {
+    // Made before the lock is asked for: what the hall does with it under the lock does not grow with its clauses.
     let post = match post_of(due) {
         Ok(post) => post,
         Err(_) => return (pass, false),

@@ -78,6 +78,7 @@ pub fn work_loop<R: Wait, D: Desk, G: Gate>(
             Turned::Worked => idles = 0,
             Turned::Idle => {
                 idles += 1;
+                // A worker that no node is left for ends, and one that waits for a poster lets the others run.
                 thread::yield_now();
                 if idles == PATIENCE {
                     return (pass, End::Idle);

@@ -17,6 +17,8 @@ use std::alloc::{AllocError, Global};
 pub fn have_posts(alloc: Global, script: &Script, events: &[Event]) -> Result<bool, AllocError>
     ensures { IfOk result (λ b. IsTrue b ↔ HavePosts script.now events.now) }
 {
+    // Each tenant's posts are compared with what the script says of it: the events times the tenants. A post by a
+    // tenant of no job is found first.
     let tenants = tenants_of(alloc, script.jobs())?;
     if !are_known(events, &tenants) {
         return Ok(false);

@@ -62,8 +62,9 @@ impl Log {
     }
 
     /// Makes room for so many more lines with so many literals and hints. Where there is not enough, a new chunk is
-    /// begun that has room for twice as many, and for some at least. After want of memory the lines and the room for
-    /// more are as before.
+    /// begun that has room for twice as many, and for some at least. The room in one respect may be less than before:
+    /// each time all that is still to come is to be asked for. After want of memory the lines and the room for more are
+    /// as before.
     pub fn reserve(&mut self, lines: usize, numbers: usize) -> Result<(), AllocError>
         ensures lines { self.new.lines ≡ self.old.lines }
         ensures room { OnOk result (lines ≤ self.new.room) }
@@ -191,6 +192,7 @@ impl Log {
         ensures goal { IfOk result (λ out. last_lits out.lines ≡ goal_lits goal self.now.lines) }
     {
         let mut lines = self.lend_up_to(goal)?;
+        // Lines of several nodes are entered in the order of their slices, not of their numbers.
         sort(&mut lines);
         trimmed(*self.full.allocator(), lines.as_slice(), goal)
     }

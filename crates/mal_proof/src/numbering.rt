@@ -62,6 +62,7 @@ fn new_id(ids: &[ClauseId], m: u64, id: ClauseId) -> ClauseId
     ensures { result ≡ new_id m ids.now id }
 {
     match place_of(ids, id) {
+        // No condition on hints: what no line has stays as it is. That hints are held is a part of being derived.
         None => id,
         Some(place) => numbered(m + place as u64 + 1),
     }

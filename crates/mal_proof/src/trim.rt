@@ -39,6 +39,7 @@ fn mark_needed(lines: &[LentLine<'_>], ids: &[ClauseId], marks: &mut [bool], goa
     ensures { AreMarks (is_needed goal (reached_in goal lines.now)) ids.now marks.new }
 {
     mark(ids, marks, goal);
+    // A hint has a lesser number than its line, so one pass is enough.
     for n in (0..lines.len()).rev() {
         if marks[n] {
             let line = &lines[n];

@@ -65,6 +65,8 @@ impl OpenJob {
     pub fn after_header(self, limits: Limits, line: &[u8]) -> Result<OpenJob, LineRefusal>
         ensures { Gives (λ o. o) result (after_header limits (words_of line.now) self) }
     {
+        // Counted where a block begins, not kept: a number beside the list would have to be bounded by what the text
+        // does not bound.
         if self.job.revision_count() >= limits.revisions {
             return Err(LineRefusal::Fault(LineFault::Limit {
                 which: LimitKind::Revisions,
@@ -160,6 +162,7 @@ impl OpenJob {
     fn after_assumptions(self, words: &[u8], block: BlockReader) -> Result<OpenJob, LineRefusal>
         ensures { Gives (λ o. o) result (after_assumptions (words_of words.now) self block) }
     {
+        // The faults of the block's end come before the line's own.
         let formula = blocks::ended(block)?;
         let assumptions = assumed(self.job.allocator(), words, formula.variables())?;
         self.revised(formula, assumptions.as_slice())

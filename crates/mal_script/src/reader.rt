@@ -278,6 +278,8 @@ fn is_job(tenant: Name, name: Name, job: &ScriptJob) -> bool
 fn has_job(jobs: &[ScriptJob], tenant: Name, name: Name) -> bool
     ensures { result ≡ list_any (is_job tenant name) jobs.now }
 {
+    // Along the list, names of jobs only where the tenant is the same: 64 tenants with 64 jobs each cost some eight
+    // million comparisons.
     jobs.iter().any(|job| is_job(tenant, name, job))
 }
 

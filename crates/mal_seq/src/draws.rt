@@ -43,7 +43,7 @@ impl Draws {
         self.state / 65_536
     }
 
-    /// The next draw modulo n, which is at least 1.
+    /// The next draw modulo n, which is at least 1. It is not even for an n that does not divide 32,768.
     pub fn pick(&mut self, n: u32) -> u32
         requires { 1 ≤ n }
         ensures state { self.new ≡ next self.old }

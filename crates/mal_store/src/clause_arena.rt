@@ -14,7 +14,8 @@ use std::marker::Model;
 const MOST: usize = 4_294_967_295;
 
 /// Where the literals of a clause stand: here, where they are three; else in the list of all, from a place on, so many,
-/// and at which of them a search begins.
+/// and at which of them a search begins. A visit costs what it misses in the caches: the watch, the header, the
+/// literals. A clause of three is spared the last.
 #[derive(Clone, Copy)]
 enum Body {
     Three([Lit; 3]),

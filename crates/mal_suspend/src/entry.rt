@@ -69,7 +69,8 @@ impl Entry {
 }
 
 /// An entry with the number of slices that were run in a row right before it. It stands for as many entries of a
-/// journal that each run a slice, and for itself behind them.
+/// journal that each run a slice, and for itself behind them. Each count stands before the entry that ends the row, so
+/// no two counts stand side by side and no row can be told in two ways.
 #[derive(Drop)]
 pub struct Counted {
     pub slices: u64,

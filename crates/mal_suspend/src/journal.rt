@@ -137,6 +137,7 @@ impl Journal {
         if self.index != other.index || self.start != other.start {
             return false;
         }
+        // By contents: std cannot tell whether two shared values are one.
         self.entries.same(&other.entries)
     }
 

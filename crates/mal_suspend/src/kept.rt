@@ -10,7 +10,10 @@ use crate::rebuilding::replay;
 use crate::suspended::{Solver, Suspended};
 use mal_learn::Scratch;
 
-/// The greatest length of an image of which the node is kept frozen between two starts.
+/// The greatest length of an image of which the node is kept frozen between two starts: the greatest power of two at
+/// which freezing and thawing cost less than the slice between them. Of a slice they cost 0.49 at an image of 10,012
+/// bytes, 0.65 at 13,742, 0.72 at 14,845, 0.77 at 18,495, 1.25 at 28,709 (random formulas of three literals a clause,
+/// first slice to second).
 pub const FROZEN_BYTES: usize = 1 << 14;
 
 /// What is kept of a node: the node with its journal, its bytes with its journal, or its journal alone, since it never
@@ -104,6 +107,7 @@ fn cool(suspended: Suspended) -> Kept
     ensures there { is_gone result ≡ false }
     ensures small { IsSmall result }
 {
+    // Such a node is not even tried.
     if is_large(suspended.node()) {
         return Kept::Live(suspended);
     }

@@ -8,7 +8,7 @@ use mal_learn::Scratch;
 use std::alloc::{AllocError, Global};
 
 /// Equal lines, in no more room than they need where memory for them is there; a scratch keeps the room that the lines
-/// had, for the next slice.
+/// had, for the next slice. A slice may have 800 kilobytes of room and derive little.
 pub fn packed(alloc: Global, lines: Lines, scratch: &mut Scratch) -> Lines
     ensures { result.lines ≡ lines.lines }
 {

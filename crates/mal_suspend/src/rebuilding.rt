@@ -76,6 +76,7 @@ fn run_once(node: &mut Solver, scratch: &mut Scratch) -> Result<(), AllocError>
     requires { MayReplay Run node.old.state }
     ensures { OnOk result (node.new.state ≡ (slice node.old.state).node) }
 {
+    // Room that was made stays, so most calls of ready find it.
     node.ready(&[], &[], scratch)?;
     node.run(scratch);
     Ok(())

@@ -30,7 +30,8 @@ pub fn words(alloc: Global, line: &[u8]) -> Result<Vec<&[u8]>, AllocError>
         .collect(alloc)
 }
 
-/// The first word of a line, and the line behind it. A line of blanks alone has no word.
+/// The first word of a line, and the line behind it. A line of blanks alone has no word. A line may be the whole input,
+/// and a list of its words would take many times its size; so it is cut word by word.
 pub fn first_word(line: &[u8]) -> Option<(&[u8], &[u8])>
     ensures words { MatchOption result (words_of line.now ≡ [])
         (λ cut. words_of line.now ≡ cut.0.now ∷ words_of cut.1.now) }

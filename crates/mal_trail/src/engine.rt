@@ -45,7 +45,8 @@ pub trait Engine: ClauseView + Drop {
         ensures fits { fits self.new trail.now.entries trail.now.processed };
 
     /// Adds a clause that was derived, whose literals rise by variable, under a number that is not held. Takes no
-    /// memory.
+    /// memory. Its conditions say what the node has made sure before, so an engine tests none of it again and refuses
+    /// nothing.
     fn learn(&mut self, id: ClauseId, lits: &[Lit], trail: &Trail)
         requires new { lits_under id (Self.clauses self.old) ≡ None }
         requires form { rises lits.now ≡ true }

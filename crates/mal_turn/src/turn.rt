@@ -68,6 +68,8 @@ impl<T: Recorded + Drop> Turn<T> {
             mut place,
             ticket,
         } = held;
+        // The entry is read off the value: a ghost that a call names is picked from its arguments alone, so an entry
+        // that stands nowhere in them could not be named.
         self.enter(&mut place, value, ticket);
         self.pass_on(&mut place, ticket);
         TokenOf { place }
@@ -97,6 +99,8 @@ impl<T: Recorded + Drop> Turn<T> {
     {
         let TokenOf { mut place } = token;
         let TokenOf { place: other } = other;
+        // Keeps what both had seen until the next look: the longer of the two alone would not do, since entries of the
+        // other's numbers could stand in it that this token never saw.
         self.table.shared.join_seat::<Glue>(&mut place, other);
         self.table.shared.load::<Look>(&mut place, SERVING);
         TokenOf { place }

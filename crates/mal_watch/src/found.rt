@@ -5,7 +5,7 @@ ghost use Rattle.std.specs.List.Sorted.{IsPermutation, IsNonDecreasingBy};
 
 use mal_base::{ClauseId, Lit};
 
-/// A clause of a batch: its number, and the literal of it that is left.
+/// A clause of a batch: its number, and the literal of it that is left, so handling it needs no look at the clause.
 #[derive(Clone, Copy, Debug, PartialEq, Eq)]
 pub struct Found {
     pub id: ClauseId,

@@ -82,6 +82,7 @@ fn replacement(
     if lits.len() == 2 {
         return None;
     }
+    // From where the last one was found on; the place is a hint of which no contract speaks.
     replacement_from(trail, count, lits, other, store.search_start(clause))
 }
 
@@ -118,6 +119,8 @@ fn visit(
             None
         }
         None => {
+            // Where the other watched literal is true, the watch stays: a cut that takes that literal away takes the
+            // false one away first.
             lists.put(watch, lit);
             if !trail.is_false_before(count, other) && !trail.is_true(other) {
                 Some(Found {

@@ -13,7 +13,8 @@ use std::marker::Model;
 /// So many watches there may be.
 const MOST: usize = 4_294_967_295;
 
-/// The watch after this one in its list, and the literal whose list it is.
+/// The watch after this one in its list, and the literal whose list it is. The literal stands beside the link: whether
+/// the other watched one is true is seen without the clause.
 #[derive(Clone, Copy)]
 struct Watch {
     next: Link,

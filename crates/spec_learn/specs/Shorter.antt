@@ -13,7 +13,8 @@ use Rattle.spec_node.specs.Sound.{level_in}
 use Rattle.spec_learn.specs.Analysis.{Walk, Analysed, begun, vars_under, walked, clause_of, jump, top, analysed}
 use Rattle.spec_learn.specs.Analysis.Aim.{Shortened}
 
--- the walk from the clause of a conflict to the shorter clause
+-- the walk from the clause of a conflict to the shorter clause: no second pass, since when the walk comes to an entry
+-- below the current level, the seen variables of the entries to come are the clause as it stands
 abbrev pub shorter_walk : List NumberedClause → List TrailEntry → ℕ → Walk
 shorter_walk clauses past id = walked (Shortened (top past) clauses) clauses past (begun (vars_under clauses id))
 

@@ -1,6 +1,6 @@
 use Rattle.std.specs.Prelude.{ℕ, zero, suc, ◌+◌, ◌*◌, ◌/◌, ◌%◌, ◌^◌, List, [], ◌∷◌}
 
--- the next number of the generator
+-- the next number of the generator, that of the example in the C standard
 abbrev pub next : ℕ → ℕ
 next x = (x * 1103515245 + 12345) % 2 ^ 31
 

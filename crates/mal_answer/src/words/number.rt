@@ -36,6 +36,7 @@ fn decimal(word: &str) -> Option<u32>
     let Ok(number) = word.parse::<u32>() else {
         return None;
     };
+    // One spelling for one meaning: 04 and +4 are refused.
     if is_decimal(word, number) {
         Some(number)
     } else {
