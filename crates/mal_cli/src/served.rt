@@ -68,10 +68,7 @@ impl<S: Size + Send + Sync> Board for Served<S> {
         let Served { service } = self;
         match service.close(pass) {
             Ok(hall) => Ok(hall),
-            Err(in_use) => Err(InUse {
-                ticket: in_use.ticket,
-                serving: in_use.serving,
-            }),
+            Err(in_use) => Err(in_use),
         }
     }
 }

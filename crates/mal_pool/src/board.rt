@@ -1,14 +1,8 @@
 //! Boards: desks at which tenants post, and which give their hall back in the end.
 
 use mal_hall::{Desk, Hall, Post, PostFault};
+use mal_turn::InUse;
 use std::sync::Wait;
-
-/// A holder never passed its turn on: the ticket that was drawn last, and the one that is served.
-#[derive(Clone, Copy, Debug, PartialEq, Eq, Drop)]
-pub struct InUse {
-    pub ticket: u64,
-    pub serving: u64,
-}
 
 /// A desk at which tenants post, with passes that are split and joined. In the end it gives its hall, of which no lease
 /// was lost.

@@ -19,10 +19,11 @@ mod trace;
 mod working;
 
 pub use answering::replies;
-pub use board::{Board, InUse};
+pub use board::Board;
 pub use gate::{Gate, PlainGate, Point, Step};
 pub use laws::loops_end_so;
 pub use mal_hall::Size;
+pub use mal_turn::InUse;
 pub use mutex::{Noted, OwnCalls, Shared};
 pub use run::{run_all, run_with};
 pub use running::run_alone;

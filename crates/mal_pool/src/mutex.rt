@@ -3,11 +3,12 @@
 ghost use Rattle.std.specs.Prelude.{◌≡◌, []};
 ghost use Rattle.mal_pool.specs.Traces.{traced};
 
-use crate::board::{Board, InUse};
+use crate::board::Board;
 use crate::shared::HallBox;
 use crate::trace::Trace;
 use mal_hall::{Desk, FinishAnswer, Hall, PickAnswer, Post, PostFault, Size};
 use mal_suspend::Done;
+use mal_turn::InUse;
 use std::snapshot::Snapshot;
 use std::sync::{Mutex, Wait};
 

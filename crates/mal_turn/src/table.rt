@@ -53,8 +53,8 @@ pub struct HeldOf<T, E> {
     ghost live: { among place.me.0.of.first place.me.0.of.all ≡ true },
 }
 
-/// Why a turn was not closed: a ticket was drawn that its holder never passed on.
-#[derive(Debug, Drop)]
+/// Why a turn was not closed: a ticket was drawn that its holder never passed on, the last one; and the one that is served.
+#[derive(Clone, Copy, Debug, PartialEq, Eq, Drop)]
 pub struct InUse {
     pub ticket: u64,
     pub serving: u64,
