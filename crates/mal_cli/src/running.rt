@@ -1,14 +1,15 @@
 //! Running a script.
 
-ghost use Rattle.std.specs.Prelude.{◌≤◌, ℕ, IfOk};
+ghost use Rattle.std.specs.Prelude.{◌≡◌, ◌≤◌, ℕ, IfOk};
 ghost use Rattle.mal_answer.specs.{Answers.{IsAnswerTo, logged}, Commands.{IsRunOf, running}};
 ghost use Rattle.mal_pool.specs.Posts.{HasRun};
-ghost use Rattle.spec_run.specs.Run.{IsRun};
+ghost use Rattle.spec_run.specs.Run.{IsRun, replies};
+ghost use Rattle.spec_script.specs.Script.{Scripted};
 
 use crate::run::run_served;
 use mal_answer::{Complaint, Texts, script_of};
 use mal_hall::Hall;
-use mal_pool::{Gate, replies, run_alone};
+use mal_pool::{Gate, replies, replies_by, run_alone};
 use mal_script::Script;
 use std::alloc::{AllocError, Global};
 use std::sync::Wait;
@@ -57,10 +58,11 @@ fn run_script_alone(alloc: Global, script: &Script) -> Result<Texts, AllocError>
     ensures { IfOk result (λ t. IsRunOf 1 script.now (logged t.log.items) t.out.items) }
 {
     let hall = run_alone(alloc, script, 1)?;
-    texts_of(alloc, script, hall)
+    let out = replies(alloc, &hall, script)?;
+    texts_of(alloc, hall, out)
 }
 
-/// Runs a script with 2 to 64 workers, and makes the texts of its history and its replies.
+/// Runs a script with 2 to 64 workers, and makes the texts of its history and, with as many threads, of its replies.
 fn run_script_served<R: Threads + Wait + Sync, G: Gate>(
     rt: &R,
     alloc: Global,
@@ -73,19 +75,17 @@ fn run_script_served<R: Threads + Wait + Sync, G: Gate>(
     ensures { IfOk result (λ t. IsRunOf workers script.now (logged t.log.items) t.out.items) }
 {
     let hall = run_served(rt, alloc, script, workers, gate)?;
-    texts_of(alloc, script, hall)
+    let out = replies_by(rt, alloc, &hall, script, workers)?;
+    texts_of(alloc, hall, out)
 }
 
 /// The texts of the history and of the replies of a hall that has run a script: the replies stand in memory before
 /// anything is written, the history's text is made while it is written, without memory.
-fn texts_of(alloc: Global, script: &Script, hall: Hall) -> Result<Texts, AllocError>
-    requires run { (workers : ℕ) × HasRun workers script.now hall }
-    ensures { (workers : ℕ) → HasRun workers script.now hall
-        → IfOk result (λ t. IsRun workers script.now hall.events (logged t.log.items) t.out.items) }
+fn texts_of(alloc: Global, hall: Hall, out: Vec<u8>) -> Result<Texts, AllocError>
+    ensures { (workers : ℕ) (s : Scripted) → HasRun workers s hall → out.items ≡ replies s hall.events
+        → IfOk result (λ t. IsRun workers s hall.events (logged t.log.items) t.out.items) }
 {
     let mut log = Vec::new(alloc);
-    log.reserve(1)?;
-    let out = replies(alloc, &hall, script)?;
-    log.push_reserved(hall);
+    log.push(hall)?;
     Ok(Texts { log, out })
 }

@@ -1,11 +1,13 @@
 -- What the hall's calls say, for a script that is posted and answered.
 use Rattle.std.proofs.Common.{◌≡◌, ℕ, zero, suc, ◌+◌, ◌<◌, ◌≤◌, List, [], ◌∷◌, ◌++◌, length, map, take, get_or, flat_map, Option, Some, Result, Ok, Err, sym, ◌∙◌, ap, arith, append-nil, append_assoc, length-append, refl, subst}
 use Rattle.std.specs.Prelude.{OnOk}
-use Rattle.std.specs.List.{list_any}
+use Rattle.std.specs.List.{All, list_any}
 use Rattle.std.proofs.lemmas.Grind.{flat_map-append}
+use Rattle.std.proofs.lemmas.List.Elements.{All-nil, All-head, All-tail, All-append}
 use Rattle.std.proofs.lemmas.List.{take_all, take_more, length-take-le}
+use native.Mathlib.Numerals.{unary_clauses}
 use Rattle.mal_hall.specs.HallView.{HallView}
-use Rattle.mal_pool.specs.Posts.{IsKnown, AreKnown, HasRun}
+use Rattle.mal_pool.specs.Posts.{IsKnown, AreKnown, HasRun, replies_at}
 use Rattle.mal_revision.specs.Posted.{Posted}
 use Rattle.spec_job.specs.Replies.{reply}
 use Rattle.spec_job.specs.SoloMachine.{SoloMachine, solo}
@@ -124,6 +126,22 @@ put-more k s rs i n old text after e step number low =
 
 pub put-all : (k : Key) (s : SoloMachine) (rs : List Posted) (i : ℕ) (old text : List ℕ) → text ≡ old ++ replies_from k 1 s (take i rs) → length rs ≤ i → text ≡ old ++ replies_from k 1 s rs
 put-all k s rs i old text e all = e ∙ ap (λ (x : List Posted). old ++ replies_from k 1 s x) (take_all i rs all)
+
+-- the replies to one job more
+replied-next : (h : List Event) (js : List ScriptedJob) (i : ℕ) → i < length js → flat_map (job_replies h) (take (suc i) js) ≡ flat_map (job_replies h) (take i js) ++ replies_at h js i
+replied-next h [] i low = absurd (omega arith)
+replied-next h (j ∷ js) zero low = append-nil (job_replies h j)
+replied-next h (j ∷ js) (suc i) low =
+    ap (λ (x : List ℕ). job_replies h j ++ x) (replied-next h js i (omega arith))
+    ∙ sym (append_assoc (job_replies h j) (flat_map (job_replies h) (take i js)) (replies_at h js i))
+
+pub replied-more : (h : List Event) (js : List ScriptedJob) (i : ℕ) (old text : List ℕ) → old ≡ flat_map (job_replies h) (take i js) → i < length js → text ≡ old ++ replies_at h js i → text ≡ flat_map (job_replies h) (take (i + 1) js)
+replied-more h js i old text before low more = simp unary_clauses (more ∙ (ap (λ (x : List ℕ). x ++ replies_at h js i) before ∙ sym (replied-next h js i low)))
+
+-- what holds of all in each list holds of all in the lists put together
+pub all-in : {X Y : Type 0} (P : X → Type 0) (f : Y → List X) (ys : List Y) → All (λ y. All P (f y)) ys → All P (flat_map f ys)
+all-in P f [] all = All-nil P
+all-in P f (y ∷ ys) all = All-append P (f y) (flat_map f ys) (All-head (λ z. All P (f z)) y ys all) (all-in P f ys (All-tail (λ z. All P (f z)) y ys all))
 
 pub replied-all : (s : Scripted) (h : List Event) (js : List ScriptedJob) (i : ℕ) (text : List ℕ) → js ≡ s.jobs → text ≡ flat_map (job_replies h) (take i js) → length js ≤ i → text ≡ replies s h
 unfolding replies

@@ -1,5 +1,7 @@
-use Rattle.std.specs.Prelude.{◌≡◌, ℕ, List, [], ◌∷◌, Some}
+use Rattle.std.specs.Prelude.{◌≡◌, ℕ, List, [], ◌∷◌, map, get_or, Some}
+use Rattle.std.specs.List.{All}
 use Rattle.mal_hall.specs.HallView.{HallView}
+use Rattle.mal_pool.specs.declared.answering.Made.{Made}
 use Rattle.spec_job.specs.Replies.{reply}
 use Rattle.spec_job.specs.SoloMachine.{solo}
 use Rattle.spec_job.specs.KeyedJob.{KeyedJob}
@@ -7,7 +9,7 @@ use Rattle.spec_hall.specs.Events.{Event}
 use Rattle.spec_hall.specs.Legal.{Legal, job_of}
 use Rattle.spec_hall.specs.Own.{own}
 use Rattle.spec_hall.specs.States.{states}
-use Rattle.spec_run.specs.Run.{text_or_none}
+use Rattle.spec_run.specs.Run.{text_or_none, job_replies}
 use Rattle.spec_run.specs.Complete.{IsComplete, key_of_job}
 use Rattle.spec_script.specs.Script.{ScriptedJob, Scripted}
 
@@ -30,3 +32,11 @@ pub record HasRun (workers : ℕ) (s : Scripted) (h : HallView) : Type 0 where
 -- the reply to a job's revision of this number
 abbrev pub reply_to : List Event → ScriptedJob → ℕ → List ℕ
 reply_to history j number = text_or_none (reply (key_of_job j) number (solo (own (key_of_job j) history)))
+
+-- the replies to the job at a place of a script, nothing behind its last
+abbrev pub replies_at : List Event → List ScriptedJob → ℕ → List ℕ
+replies_at history jobs place = get_or (map (job_replies history) jobs) place []
+
+-- what was made of the replies to a script: each text is the replies to the job at its place
+abbrev pub AreMade : List Event → List ScriptedJob → List Made → Type 0
+AreMade history jobs made = All (λ m. m.text.items ≡ replies_at history jobs m.place) made

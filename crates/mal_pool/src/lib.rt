@@ -18,7 +18,7 @@ mod testing;
 mod trace;
 mod working;
 
-pub use answering::replies;
+pub use answering::{replies, replies_by};
 pub use board::Board;
 pub use gate::{Gate, PlainGate, Point, Step};
 pub use laws::loops_end_so;

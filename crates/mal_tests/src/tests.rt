@@ -10,7 +10,7 @@ mod slow;
 mod stops;
 
 use gates::{Together, last_worker, losses};
-use mal_pool::{PlainGate, replies, run_alone};
+use mal_pool::{PlainGate, replies, replies_by, run_alone};
 use programs::{replayed, run};
 use scripts::{FOUR_REPLIES, FOUR_TENANTS, mixed_jobs, single_jobs};
 use std::alloc::Global;
@@ -89,4 +89,17 @@ fn logs_of_any_number_of_workers_replay(rt: HostRuntime) -> Result<(), Fail> {
     run_often(&rt, rt.alloc(), 4)?;
     run_often(&rt, rt.alloc(), 16)?;
     run_often(&rt, rt.alloc(), 64)
+}
+
+#[test]
+fn threads_reply_as_one_does(rt: HostRuntime) -> Result<(), Fail> {
+    let text = mixed_jobs(rt.alloc(), 4)?;
+    let script = mal_script::read(rt.alloc(), text.as_slice())?;
+    let hall = run_alone(rt.alloc(), &script, 1)?;
+    let known = replies(rt.alloc(), &hall, &script)?;
+    for threads in [1, 4, 64] {
+        let text = replies_by(&rt, rt.alloc(), &hall, &script, threads)?;
+        assert_eq!(rt; text.as_slice(), known.as_slice());
+    }
+    Ok(())
 }
