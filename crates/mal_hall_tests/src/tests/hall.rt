@@ -1,6 +1,6 @@
 //! Halls whose answers and histories are known.
 
-use mal_base::{Ask, Clause, LimitKind, Lit, Name};
+use mal_base::{Ask, Clause, ClauseList, LimitKind, Lit, Name};
 use mal_hall::{
     Back, CloseFault, Hall, OpenFault, Pick, PickFault, ReplyFault, ReviseFault, Strange,
 };
@@ -106,22 +106,30 @@ fn lits(alloc: Global, numbers: &[i32]) -> Option<Vec<Lit>> {
     Some(lits)
 }
 
-fn clause(alloc: Global, numbers: &[i32]) -> Option<Vec<Option<Clause>>> {
+fn clause(alloc: Global, numbers: &[i32]) -> Option<ClauseList> {
     let lits = lits(alloc, numbers)?;
-    vec![in alloc; Clause::of_lits(alloc, lits.as_slice()).ok()?].ok()
+    let clause = Clause::of_lits(alloc, lits.as_slice()).ok()?;
+    let mut clauses = ClauseList::new(alloc);
+    clauses.push(&clause).ok()?;
+    Some(clauses)
 }
 
-fn tautologies(alloc: Global, count: usize) -> Option<Vec<Option<Clause>>> {
-    let mut clauses = Vec::new(alloc);
+fn tautologies(alloc: Global, count: usize) -> Option<ClauseList> {
+    let mut clauses = ClauseList::new(alloc);
     for _ in 0..count {
-        clauses.push(None).ok()?;
+        clauses.push_tautology().ok()?;
     }
     Some(clauses)
 }
 
 fn revision(alloc: Global, posted: Posted) -> Option<Revision> {
     match posted {
-        Posted::Free(variables) => Revision::new(alloc, variables, Vec::new(alloc), &[]).ok(),
+        Posted::Free(variables) => Revision::new(
+            alloc,
+            variables,
+            ClauseList::new(alloc),
+            &[],
+        ).ok(),
         Posted::Tautologies(count) => {
             Revision::new(alloc, 1, tautologies(alloc, count)?, &[]).ok()
         }

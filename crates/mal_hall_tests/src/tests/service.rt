@@ -4,7 +4,7 @@ ghost use Rattle.std.specs.Prelude.{◌≡◌, ◌≤◌};
 ghost use Rattle.mal_turn.specs.Tokens.{IsOf};
 
 use super::hall::{FREE_REPLY, Told, ask, given, heard, name, pick, write};
-use mal_base::ReplyFault;
+use mal_base::{ClauseList, ReplyFault};
 use mal_hall::{Hall, Pick, PickFault, Post};
 use mal_learn::Scratch;
 use mal_revision::Revision;
@@ -58,7 +58,7 @@ fn revising(alloc: Global, tenant: &[u8], revision: Option<Revision>) -> Option<
 
 /// A revision without variables.
 fn free(alloc: Global) -> Option<Revision> {
-    Revision::new(alloc, 0, Vec::new(alloc), &[]).ok()
+    Revision::new(alloc, 0, ClauseList::new(alloc), &[]).ok()
 }
 
 /// What came of the lease of a pick that is worked off, if there is one.

@@ -82,6 +82,17 @@ fn counts_of(alloc: Global, variables: u32, rows: &[&[i32]]) -> Result<Option<[u
 }
 
 #[test]
+fn a_tautology_is_not_the_empty_clause(rt: HostRuntime) -> Result<(), Fail> {
+    let tautology = clauses(rt.alloc(), &[&[2], &[1, -1]])?;
+    let empty = clauses(rt.alloc(), &[&[2], &[]])?;
+    assert!(rt; tautology.len() == 2 && tautology.literals() == 1);
+    assert!(rt; tautology.same(&clauses(rt.alloc(), &[&[2, 2], &[-1, 1]])?));
+    assert!(rt; !tautology.same(&empty));
+    assert!(rt; !tautology.same(&clauses(rt.alloc(), &[&[2]])?));
+    Ok(())
+}
+
+#[test]
 fn a_formula_is_of_its_variables(rt: HostRuntime) -> Result<(), Fail> {
     for (variables, rows, known) in FORMULAS {
         let counts = counts_of(rt.alloc(), variables, rows)?;

@@ -1,6 +1,6 @@
 //! Values by their numbers in texts.
 
-use mal_base::{Clause, ClauseId, Lines, Lit};
+use mal_base::{Clause, ClauseId, ClauseList, Lines, Lit};
 use std::alloc::Global;
 use std::test::Fail;
 
@@ -21,8 +21,12 @@ pub fn clause(alloc: Global, numbers: &[i32]) -> Result<Option<Clause>, Fail> {
 }
 
 /// These clauses.
-pub fn clauses(alloc: Global, rows: &[&[i32]]) -> Result<Vec<Option<Clause>>, Fail> {
-    rows.iter().map(|row| clause(alloc, row)).try_collect(alloc)
+pub fn clauses(alloc: Global, rows: &[&[i32]]) -> Result<ClauseList, Fail> {
+    let mut clauses = ClauseList::new(alloc);
+    for row in rows {
+        clauses.push(&clause(alloc, row)?)?;
+    }
+    Ok(clauses)
 }
 
 /// The number of a clause.

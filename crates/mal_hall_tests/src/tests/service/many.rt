@@ -6,7 +6,7 @@ ghost use Rattle.mal_turn.specs.Tokens.{IsOf};
 
 use super::{Caller, opening, post_to, revising};
 use crate::tests::hall::{Told, drive, hear, name};
-use mal_base::{Clause, Lit, ReplyFault};
+use mal_base::{Clause, ClauseList, Lit, ReplyFault};
 use mal_hall::Hall;
 use mal_revision::Revision;
 use mal_service::{Pass, Service, Size};
@@ -121,7 +121,8 @@ fn lit(variable: i32, drawn: u64) -> Option<Lit> {
 fn revision_of(alloc: Global, seed: u64) -> Option<Revision> {
     let lits = [lit(1, seed / 2)?, lit(3, seed / 4)?];
     let clause = Clause::of_lits(alloc, &lits).ok()?;
-    let clauses = vec![in alloc; clause].ok()?;
+    let mut clauses = ClauseList::new(alloc);
+    clauses.push(&clause).ok()?;
     Revision::new(alloc, 3, clauses, &[]).ok()
 }
 
