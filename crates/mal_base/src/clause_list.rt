@@ -42,17 +42,6 @@ impl ClauseList {
         }
     }
 
-    /// These clauses.
-    pub fn of_clauses(alloc: Global, clauses: &[Option<Clause>]) -> Result<ClauseList, AllocError>
-        ensures { IfOk result (λ c. c ≡ clauses.now) }
-    {
-        let mut list = ClauseList::new(alloc);
-        for clause in clauses {
-            list.push(clause)?;
-        }
-        Ok(list)
-    }
-
     /// Puts a clause behind the others.
     pub fn push(&mut self, clause: &Option<Clause>) -> Result<(), AllocError>
         ensures ok { OnOk result (self.new ≡ self.old ++ clause.now ∷ []) }
