@@ -1,11 +1,12 @@
 //! The names of tenants and jobs.
 
-ghost use Rattle.std.specs.Prelude.{◌≡◌, ◌≢◌, ℕ, ◌-◌, ◌<◌, ◌++◌, List, true, length, take, replicate, IfOk, MatchOption};
-ghost use Rattle.std.specs.{List.{list_all}, Str.{bytes_eq}, Cmp.Rules.{comparing}};
+ghost use Rattle.std.specs.Prelude.{◌≡◌, ◌≢◌, ℕ, ◌-◌, ◌<◌, ◌++◌, List, Some, true, length, take, refl, replicate, IfOk, MatchOption};
+ghost use Rattle.std.specs.{List.{list_all}, Str.{bytes_eq}, Cmp.Rules.{comparing}, Cmp.Lexicographic.{slice_cmp, nat_list_cmp_total, texts_ties, texts_po}, Ordering.{nat_cmp}};
 ghost use Rattle.std.proofs.Common.{rules};
 ghost use Rattle.mal_base.specs.Names.{is_name, is_name_byte};
 
 use std::alloc::{AllocError, Global};
+use std::cmp::Ordering;
 use std::marker::Model;
 
 /// The name of a tenant or of a job: 1 to 32 bytes, each a small letter, a digit or an underline. Contracts see the
@@ -44,6 +45,31 @@ impl PartialEq for Name {
 
 impl Eq for Name {
     ghost laws = { Prim.search (comparing, rules) };
+}
+
+/// Names are ordered as their bytes are.
+impl PartialOrd for Name {
+    ghost partial_cmp = { λ x y. Some (slice_cmp nat_cmp x y) };
+
+    ghost laws = { texts_po };
+
+    fn partial_cmp(&self, other: &Name) -> Option<Ordering> {
+        Some(self.cmp(other))
+    }
+}
+
+impl Ord for Name {
+    ghost cmp = { slice_cmp nat_cmp };
+
+    ghost total = { nat_list_cmp_total };
+
+    ghost matches_partial_cmp = { λ x y. refl };
+
+    ghost matches_eq = { texts_ties };
+
+    fn cmp(&self, other: &Name) -> Ordering {
+        self.as_bytes().cmp(other.as_bytes())
+    }
 }
 
 impl Name {

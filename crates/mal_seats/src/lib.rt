@@ -8,7 +8,6 @@ mod scheduler;
 mod seat;
 mod seats;
 mod volumes;
-mod word;
 
 pub use scheduler::Candidate;
 pub use seat::Seat;

@@ -5,7 +5,6 @@ ghost use Rattle.mal_seats.specs.Named.{found, jobs_at};
 ghost use Rattle.spec_hall.specs.{Dressed.{keyed}, Own.{is_key, is_text}};
 ghost use Rattle.spec_job.specs.KeyedJob.{Key};
 
-use crate::word::Word;
 use mal_base::Name;
 use std::alloc::{AllocError, Global};
 use std::collections::BTreeMap;
@@ -13,8 +12,8 @@ use std::collections::BTreeMap;
 /// The places of jobs by their tenants and names, and how many jobs each tenant has.
 #[derive(Drop)]
 pub struct Names {
-    places: BTreeMap<(Word, Word), usize>,
-    tenants: BTreeMap<Word, usize>,
+    places: BTreeMap<(Name, Name), usize>,
+    tenants: BTreeMap<Name, usize>,
 }
 
 impl Names {
@@ -33,14 +32,14 @@ impl Names {
     pub fn place_of(&self, tenant: Name, job: Name) -> Option<usize>
         ensures { result ≡ found self.now.places (keyed tenant job) }
     {
-        self.places.get(&(Word::of(tenant), Word::of(job))).copied()
+        self.places.get(&(tenant, job)).copied()
     }
 
     /// How many jobs a tenant has.
     pub fn jobs_of(&self, tenant: Name) -> usize
         ensures { result ≡ jobs_at self.now.tenants tenant }
     {
-        match self.tenants.get(&Word::of(tenant)).copied() {
+        match self.tenants.get(&tenant).copied() {
             None => 0,
             Some(jobs) => jobs,
         }
@@ -60,17 +59,16 @@ impl Names {
         ensures same_jobs { OnErr result
             ((other : List ℕ) → jobs_at self.new.tenants other ≡ jobs_at self.old.tenants other) }
     {
-        let word = Word::of(tenant);
         let jobs = self.jobs_of(tenant);
-        match self.tenants.insert(word, jobs) {
+        match self.tenants.insert(tenant, jobs) {
             Ok(_) => {}
             Err(_) => return Err(AllocError),
         }
-        match self.places.insert((word, Word::of(job)), place) {
+        match self.places.insert((tenant, job), place) {
             Ok(_) => {}
             Err(_) => return Err(AllocError),
         }
-        match self.tenants.insert(word, jobs + 1) {
+        match self.tenants.insert(tenant, jobs + 1) {
             Ok(_) => Ok(()),
             Err(_) => unreachable!(),
         }
