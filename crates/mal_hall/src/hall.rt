@@ -484,6 +484,7 @@ impl Hall {
         ensures call { HasCalled self.old.workers self.old.events Recalls tt self.new.events }
         ensures home { leases self.new.events ≡ [] }
     {
+        // For the proof.
         let _ = self.is_due();
         for worker in 1..self.entries.workers() + 1 {
             if self.has_lease(worker) {
@@ -513,6 +514,7 @@ impl Hall {
         ensures workers { self.new.workers ≡ self.old.workers }
         ensures turned { IsTurn self.old.workers self.old.events result self.new.events }
     {
+        // For the proof.
         let _ = self.is_due();
         match self.pick(1) {
             Err(_) => Err(AllocError),
@@ -631,6 +633,7 @@ fn are_in_form(tenant: &Name, job: &Name, ask: Ask)
     ensures job { is_name job.now ≡ true }
     ensures ask { IsAsk ask }
 {
+    // For the proof.
     let _ = tenant.as_bytes();
     let _ = job.as_bytes();
     let _ = ask.priority();

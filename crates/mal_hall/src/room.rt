@@ -45,6 +45,7 @@ pub fn next_number(job: &Job, revision: &Revision) -> Result<u32, ReviseFault>
         (λ fault. (k : Key) (past : List Event) → job_of k (states past) ≡ Some job.now.titled
         → IsRevising past k revision.now (Err fault) []) }
 {
+    // For the proof.
     let _ = revision.clauses();
     if job.is_closed() {
         return Err(ReviseFault::Closed);

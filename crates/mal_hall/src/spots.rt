@@ -62,6 +62,7 @@ pub fn no_leases<T: Drop>(alloc: Global, workers: u32) -> Result<Vec<Option<T>>,
     // A place for each worker, so recall goes over it by rising worker and no lease needs memory of its own.
     let mut leases = Vec::new(alloc);
     for worker in 0..workers {
+        // For the proof.
         let _ = worker;
         leases.push(None)?;
     }

@@ -234,6 +234,7 @@ impl Job {
         ensures ok { OnOk result (self.new ≡ and_own self.old (Revised revision)) }
         ensures err { OnErr result (self.new ≡ self.old) }
     {
+        // For the proof.
         let _ = revision.clauses();
         self.questions.revise(revision, self.log.empty())
     }
@@ -294,6 +295,7 @@ impl Job {
         ensures lease { IfOk result (λ l. IsLeaseOf self.old index start worker l) }
         ensures err { OnErr result (self.new ≡ self.old) }
     {
+        // For the proof.
         let _ = self.tree.volume();
         self.tree.grow(index as usize + 1)?;
         self.log.reserve(self.tree.starts_out() + 1)?;
@@ -341,6 +343,7 @@ impl Job {
         requires back { IsBack self.old index back }
         ensures { self.new ≡ and_own self.old (Finished index Ran) }
     {
+        // For the proof.
         let _ = back.lines();
         finish_run(
             &mut self.questions,

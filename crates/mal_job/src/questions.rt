@@ -50,6 +50,7 @@ impl Questions {
             ≡ record { ask = ask; closed = false; revisions = []; answers = []; spent = 0; starved = 0 } }
         ensures kept { IsAsked result }
     {
+        // For the proof.
         let _ = ask.slices();
         Questions {
             ask,

@@ -286,6 +286,7 @@ fn deal<B: Board>(
     ensures roles { IfOk result
         (λ r. All (λ x. B.is_of board.now x.pass × Fits (B.workers board.now) jobs.now x.part) r.1.items) }
 {
+    // For the proof.
     let _ = jobs.len();
     let mut pass = pass;
     let mut roles = Vec::new(alloc);

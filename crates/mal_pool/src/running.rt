@@ -42,6 +42,7 @@ fn run_in(alloc: Global, hall: &mut Hall, script: &Script) -> Result<(), AllocEr
 {
     post_script(hall, script)?;
     drive_once(alloc, hall)?;
+    // For the proof.
     let _ = hall.history();
     Ok(())
 }

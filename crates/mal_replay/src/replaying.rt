@@ -46,6 +46,7 @@ fn answer(
     ensures err { IfErr result
         (λ fault. IsReplay history.now.workers script.now history.now.events (line_at history.now.lines) (Err fault)) }
 {
+    // For the proof.
     let _ = hall.history();
     let _ = script.jobs();
     if !hall.is_answered() {
@@ -98,6 +99,7 @@ fn enter(
     ensures err { IfErr result
         (λ fault. IsReplay history.now.workers script.now history.now.events (line_at history.now.lines) (Err fault)) }
 {
+    // For the proof.
     let _ = hall.history();
     let event = &history.events()[n];
     let posted = match posted_in(script, event) {

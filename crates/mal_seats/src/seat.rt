@@ -91,6 +91,7 @@ impl Seat {
         ensures value { result ≡ self.now.job.titled.state.ask }
         ensures form { IsAsk self.now.job.titled.state.ask }
     {
+        // For the proof.
         let _ = self.job.ask().priority();
         self.job.ask()
     }
