@@ -40,8 +40,9 @@ impl<E: Engine> Run<E> {
     /// Adds a clause of the variables 1 to 16 under a number that is not held.
     pub fn add(&mut self, id: ClauseId, clause: &Clause) -> Result<(), Fail> {
         check_new(&self.engine, id, clause)?;
-        self.engine.reserve(16, 1, clause.lits().len())?;
-        self.engine.load(id, clause.lits(), &self.trail);
+        let lits = clause.lits();
+        self.engine.reserve(16, 1, lits.len())?;
+        self.engine.load(id, lits, &self.trail);
         Ok(())
     }
 
