@@ -8,5 +8,5 @@ use Rattle.mal_node_tests.proofs.tests.suspend_lease.loads_of.Goals as goal
 pub returns : goal.returns
 returns c =
     let same = ap (λ (xs : List (Option (List ℕ))). length xs) c.clauses.ensures.value in
-    let may = first-may 0 c.deref.result.now (omega arith) c.clauses.ensures.form (omega (arith, same, c.if-clauses-gt1000.false)) in
+    let may = first-may 0 c.deref.result.now (omega arith) c.clauses.ensures.form (omega (arith, same, c.len.ensures, c.if-len-gt1000.false)) in
     rw c.in_ok-loads.ensures.items (subst (λ (r : Posted). MayAllReplay (replay 1 0 []) (Load r 1 ∷ Run ∷ [])) c.deref.ensures may)
