@@ -1,8 +1,9 @@
 //! What a job asks for.
 
 ghost use Rattle.std.specs.Prelude.{◌≡◌, ◌≤◌, ◌↔◌, pos, IsSome, IfSome};
-ghost use Rattle.mal_base.specs.Asks.{InRange, IsAsk, IsProfile};
+ghost use Rattle.mal_base.specs.Asks.{InRange, IsAsk, IsProfile, reasked};
 
+use crate::weight::Weight;
 use std::marker::Model;
 
 /// A job's priority (1 to 1,000), its demand (the most solvers that it can use at a time, 1 to 64), the slices that
@@ -70,6 +71,17 @@ impl Ask {
             profile: profile as u32,
             ..self
         })
+    }
+
+    /// The same ask, with this priority and this demand in place of its own.
+    pub fn reasked(self, weight: Weight) -> Ask
+        ensures value { result ≡ reasked self weight }
+    {
+        Ask {
+            priority: weight.priority(),
+            demand: weight.demand(),
+            ..self
+        }
     }
 
     /// The priority, from 1 to 1,000.

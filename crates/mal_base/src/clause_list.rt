@@ -63,8 +63,8 @@ impl ClauseList {
         Ok(())
     }
 
-    /// Puts the clause of these literals, whose variables rise strictly, behind the others. There are fewer than 2^31
-    /// literals in all.
+    /// Puts the clause of these literals, whose variables rise strictly, behind the others. A list holds fewer than 2^31
+    /// literals: a clause beyond them is told as want of memory.
     pub fn push_rising(&mut self, lits: &[Lit]) -> Result<(), AllocError>
         requires { rises lits.now ≡ true }
         ensures ok { OnOk result (self.new ≡ self.old ++ Some lits.now ∷ []) }

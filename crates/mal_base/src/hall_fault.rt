@@ -32,6 +32,17 @@ pub enum ReviseFault {
     OutOfMemory,
 }
 
+/// Why a job's ask is not changed.
+#[derive(Clone, Copy, Debug, PartialEq, Eq, Drop, Error)]
+pub enum ReaskFault {
+    #[error("no such job")]
+    NoJob,
+    #[error("the job is closed")]
+    Closed,
+    #[error("out of memory")]
+    OutOfMemory,
+}
+
 /// Why a job is not closed.
 #[derive(Clone, Copy, Debug, PartialEq, Eq, Drop, Error)]
 pub enum CloseFault {

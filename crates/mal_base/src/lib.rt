@@ -21,6 +21,7 @@ mod stage;
 mod trail_entry;
 mod verdict;
 mod views;
+mod weight;
 
 pub use answer::{Answer, Values};
 pub use ask::Ask;
@@ -29,7 +30,9 @@ pub use clause::Clause;
 pub use clause_id::ClauseId;
 pub use clause_list::ClauseList;
 pub use formula::Formula;
-pub use hall_fault::{ApplyFault, CloseFault, OpenFault, PickFault, ReplyFault, ReviseFault};
+pub use hall_fault::{
+    ApplyFault, CloseFault, OpenFault, PickFault, ReaskFault, ReplyFault, ReviseFault,
+};
 pub use limit_kind::LimitKind;
 pub use line_fault::LineFault;
 pub use lines::Lines;
@@ -41,3 +44,4 @@ pub use stage::Stage;
 pub use trail_entry::TrailEntry;
 pub use verdict::{Outcome, Verdict};
 pub use views::{ClauseView, TrailView};
+pub use weight::Weight;
