@@ -12,7 +12,7 @@ use Rattle.spec_hall.specs.Calls.{Offer, Return}
 use Rattle.spec_hall.specs.Dressed.{keyed}
 use Rattle.mal_service.specs.Passes.{Enters}
 use Rattle.mal_service.specs.Record as service
-use Rattle.mal_service.specs.Record.{Answered, Opened, Revised, Closed, AreAnsweredFrom, Entry, entry, events_of}
+use Rattle.mal_service.specs.Record.{Answered, Opened, Revised, Reasked, Closed, AreAnsweredFrom, Entry, entry, events_of}
 use Rattle.mal_service.proofs.OpenedLemmas.{calls-parts}
 use Rattle.mal_hall.specs.declared.desk.Post.{Post}
 use Rattle.mal_hall.specs.declared.desk.Post.TheVariants as posts
@@ -41,14 +41,22 @@ pub posted_calls : (w : ℕ) (v after : View Entry) (p : Post) (r : Result (Unit
 posted_calls w v after (posts.Open tenant job ask) (Ok done) h = entered-calls w v after (Opened (keyed tenant job) ask (Ok done)) (Posted (posts.Open tenant job ask) (Ok done)) refl h
 posted_calls w v after (posts.Open tenant job ask) (Err (faults.Open fault)) h = entered-calls w v after (Opened (keyed tenant job) ask (Err fault)) (Posted (posts.Open tenant job ask) (Err (faults.Open fault))) refl h
 posted_calls w v after (posts.Open tenant job ask) (Err (faults.Revise fault)) h = absurd h
+posted_calls w v after (posts.Open tenant job ask) (Err (faults.Reask fault)) h = absurd h
 posted_calls w v after (posts.Open tenant job ask) (Err (faults.Close fault)) h = absurd h
 posted_calls w v after (posts.Revise tenant job r) (Ok done) h = entered-calls w v after (Revised (keyed tenant job) r (Ok done)) (Posted (posts.Revise tenant job r) (Ok done)) refl h
 posted_calls w v after (posts.Revise tenant job r) (Err (faults.Open fault)) h = absurd h
 posted_calls w v after (posts.Revise tenant job r) (Err (faults.Revise fault)) h = entered-calls w v after (Revised (keyed tenant job) r (Err fault)) (Posted (posts.Revise tenant job r) (Err (faults.Revise fault))) refl h
+posted_calls w v after (posts.Revise tenant job r) (Err (faults.Reask fault)) h = absurd h
 posted_calls w v after (posts.Revise tenant job r) (Err (faults.Close fault)) h = absurd h
+posted_calls w v after (posts.Reask tenant job weight) (Ok done) h = entered-calls w v after (Reasked (keyed tenant job) weight (Ok done)) (Posted (posts.Reask tenant job weight) (Ok done)) refl h
+posted_calls w v after (posts.Reask tenant job weight) (Err (faults.Open fault)) h = absurd h
+posted_calls w v after (posts.Reask tenant job weight) (Err (faults.Revise fault)) h = absurd h
+posted_calls w v after (posts.Reask tenant job weight) (Err (faults.Reask fault)) h = entered-calls w v after (Reasked (keyed tenant job) weight (Err fault)) (Posted (posts.Reask tenant job weight) (Err (faults.Reask fault))) refl h
+posted_calls w v after (posts.Reask tenant job weight) (Err (faults.Close fault)) h = absurd h
 posted_calls w v after (posts.Close tenant job) (Ok done) h = entered-calls w v after (Closed (keyed tenant job) (Ok done)) (Posted (posts.Close tenant job) (Ok done)) refl h
 posted_calls w v after (posts.Close tenant job) (Err (faults.Open fault)) h = absurd h
 posted_calls w v after (posts.Close tenant job) (Err (faults.Revise fault)) h = absurd h
+posted_calls w v after (posts.Close tenant job) (Err (faults.Reask fault)) h = absurd h
 posted_calls w v after (posts.Close tenant job) (Err (faults.Close fault)) h = entered-calls w v after (Closed (keyed tenant job) (Err fault)) (Posted (posts.Close tenant job) (Err (faults.Close fault))) refl h
 
 -- a pass that is split tells what it told

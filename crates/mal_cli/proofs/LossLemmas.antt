@@ -5,7 +5,7 @@ use Rattle.mal_base.specs.declared.hall_fault.ReplyFault.TheVariants as asking
 use Rattle.spec_hall.specs.Events.{Event}
 use Rattle.spec_run.specs.Losses.{NoneIsLost}
 use Rattle.mal_service.specs.Passes.{LeavesHall}
-use Rattle.mal_service.specs.Record.{Answered, Opened, Revised, Closed, Asked, Picked, Gave, AreAnsweredFrom, Entry, IsAnswered, Record, events_of}
+use Rattle.mal_service.specs.Record.{Answered, Opened, Revised, Reasked, Closed, Asked, Picked, Gave, AreAnsweredFrom, Entry, IsAnswered, Record, events_of}
 use Rattle.mal_hall.specs.declared.desk.Post.TheVariants as posts
 use Rattle.mal_hall.specs.declared.desk.PostFault.TheVariants as faults
 use Rattle.mal_pool.proofs.CallLosses.{finish_loses_none, pick_loses_none, post_loses_none}
@@ -20,6 +20,8 @@ answered-loses-none w past es (Opened k ask (Ok done)) call none = post_loses_no
 answered-loses-none w past es (Opened k ask (Err fault)) call none = post_loses_none w past (posts.Open k.tenant k.job ask) (Err (faults.Open fault)) (past ++ es) (record { events = es; grown = refl; call = call }) none
 answered-loses-none w past es (Revised k r (Ok done)) call none = post_loses_none w past (posts.Revise k.tenant k.job r) (Ok done) (past ++ es) (record { events = es; grown = refl; call = call }) none
 answered-loses-none w past es (Revised k r (Err fault)) call none = post_loses_none w past (posts.Revise k.tenant k.job r) (Err (faults.Revise fault)) (past ++ es) (record { events = es; grown = refl; call = call }) none
+answered-loses-none w past es (Reasked k weight (Ok done)) call none = post_loses_none w past (posts.Reask k.tenant k.job weight) (Ok done) (past ++ es) (record { events = es; grown = refl; call = call }) none
+answered-loses-none w past es (Reasked k weight (Err fault)) call none = post_loses_none w past (posts.Reask k.tenant k.job weight) (Err (faults.Reask fault)) (past ++ es) (record { events = es; grown = refl; call = call }) none
 answered-loses-none w past es (Closed k (Ok done)) call none = post_loses_none w past (posts.Close k.tenant k.job) (Ok done) (past ++ es) (record { events = es; grown = refl; call = call }) none
 answered-loses-none w past es (Closed k (Err fault)) call none = post_loses_none w past (posts.Close k.tenant k.job) (Err (faults.Close fault)) (past ++ es) (record { events = es; grown = refl; call = call }) none
 answered-loses-none w past es (Asked k r (Ok text)) call none = entered-nothing past es call.3 none

@@ -4,7 +4,7 @@ use Rattle.std.specs.List.{filter_map}
 use Rattle.mal_turn.specs.declared.view.View.{View}
 use Rattle.mal_turn.specs.Numbers.{part}
 use Rattle.mal_service.specs.Record as service
-use Rattle.mal_service.specs.Record.{Answered, Opened, Revised, Closed, Asked, Entry}
+use Rattle.mal_service.specs.Record.{Answered, Opened, Revised, Reasked, Closed, Asked, Entry}
 use Rattle.mal_hall.specs.declared.desk.Post.TheVariants as posts
 use Rattle.mal_hall.specs.declared.desk.PostFault.TheVariants as faults
 use Rattle.mal_hall.specs.Desks.{DeskCall, Picked, Gave, Posted}
@@ -15,6 +15,8 @@ told (Opened k ask (Ok done)) = Some (Posted (posts.Open k.tenant k.job ask) (Ok
 told (Opened k ask (Err fault)) = Some (Posted (posts.Open k.tenant k.job ask) (Err (faults.Open fault)))
 told (Revised k r (Ok done)) = Some (Posted (posts.Revise k.tenant k.job r) (Ok done))
 told (Revised k r (Err fault)) = Some (Posted (posts.Revise k.tenant k.job r) (Err (faults.Revise fault)))
+told (Reasked k weight (Ok done)) = Some (Posted (posts.Reask k.tenant k.job weight) (Ok done))
+told (Reasked k weight (Err fault)) = Some (Posted (posts.Reask k.tenant k.job weight) (Err (faults.Reask fault)))
 told (Closed k (Ok done)) = Some (Posted (posts.Close k.tenant k.job) (Ok done))
 told (Closed k (Err fault)) = Some (Posted (posts.Close k.tenant k.job) (Err (faults.Close fault)))
 told (Asked k r answer) = None

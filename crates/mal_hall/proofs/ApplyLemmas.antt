@@ -6,7 +6,7 @@ use Rattle.std.specs.Prelude.{IsTrue, nat_eq, ◌↔◌}
 use Rattle.std.proofs.lemmas.Bool.Decides.{Decides-eqb}
 use Rattle.std.proofs.lemmas.List.{map-append, map-set}
 use Rattle.std.proofs.lemmas.Option.{slice_get-map, slice_get_read}
-use Rattle.mal_base.specs.Asks.{Terms}
+use Rattle.mal_base.specs.Asks.{Terms, Weighed}
 use Rattle.mal_base.specs.declared.verdict.Outcome.{Outcome}
 use Rattle.mal_base.specs.declared.verdict.Outcome.TheVariants.{Ran, Starved, Lost}
 use Rattle.mal_hall.specs.Applied.{Enters, HasEntered, IsBackOf, StartsAt, listed_in, listed_last}
@@ -22,13 +22,14 @@ use Rattle.spec_job.specs.Journaled.{Journaled}
 use Rattle.spec_job.specs.Leased.{Becomes, Finished, Leased}
 use Rattle.spec_job.specs.KeyedJob.{Key, KeyedJob}
 use Rattle.spec_job.specs.Viewed.{IsGrownBy}
-use Rattle.spec_hall.specs.Calls.{AnswerTo, Call, Handed, HasCalled, IsCall, Opens, Revises, handed, wanted}
-use Rattle.spec_hall.specs.Events.{Event, Open, Revise, Balance, Start, Finish, Exchange, bare}
+use Rattle.spec_hall.specs.Calls.{AnswerTo, Call, Handed, HasCalled, IsCall, Opens, Revises, Reasks, handed, wanted}
+use Rattle.spec_hall.specs.Events.{Event, Open, Revise, Reask, Balance, Start, Finish, Exchange, bare}
 use Rattle.spec_hall.specs.Legal.{Allowed, MayExchange, MayRevise, job_of}
 use Rattle.spec_hall.specs.Leases.{lease_adds, lease_journal}
 use Rattle.spec_hall.specs.States.{Candidate, LeaseOut, balanced, exchange_due, keys_of, lease_of, leases, live_of, live_ones, lives, picked, states, titled}
 use Rattle.mal_base.specs.declared.hall_fault.OpenFault.{OpenFault}
 use Rattle.mal_base.specs.declared.hall_fault.ReviseFault.{ReviseFault}
+use Rattle.mal_base.specs.declared.hall_fault.ReaskFault.{ReaskFault}
 use Rattle.spec_hall.proofs.DecidedCallLemmas.{call-is_decided}
 use Rattle.spec_hall.proofs.DrivenLemmas.{balances-decided, nodes-decided}
 use Rattle.mal_hall.proofs.InsideLemmas.{Stands, inside-finish, inside-start}
@@ -60,6 +61,14 @@ revise-refused w past now k number r fault has refused may =
     let here : MayRevise past k (length t.state.revisions + 1) r t = subst (λ (n : ℕ). MayRevise past k n r t) may.1.next may.1 in
     let same : Ok tt ≡ Err fault = otherwise w past now (Revises k r) (Err fault) (Ok tt) (Revise k (length t.state.revisions + 1) r ∷ []) has (t, here, refl) refl refused in
     absurd (cc)
+
+pub reask-refused : (w : ℕ) (past now : List Event) (k : Key) (weight : Weighed) (fault : ReaskFault) → HasCalled w past (Reasks k weight) (Err fault) now → wanted (Reasks k weight) (Err fault) ≡ false → Allowed w past (Reask k weight) → ⊥
+reask-refused w past now k weight fault has refused may =
+    let same : Ok tt ≡ Err fault = otherwise w past now (Reasks k weight) (Err fault) (Ok tt) (Reask k weight ∷ []) has (may.0, may.1, refl) refl refused in
+    absurd (cc)
+
+pub reask-entered : (w : ℕ) (past now : List Event) (k : Key) (weight : Weighed) → HasCalled w past (Reasks k weight) (Ok tt) now → HasEntered w past (Reask k weight) now
+reask-entered w past now k weight has = record { allowed = (has.call.0, has.call.1); grown = has.grown ∙ ap (λ (es : List Event). past ++ es) has.call.2 }
 
 -- the last event of a hall in which a balancing was entered lists its volumes
 last-get : (es : List written.Event) (e : written.Event) → slice_get (es ++ e ∷ []) (length (es ++ e ∷ []) - 1) ≡ Some e

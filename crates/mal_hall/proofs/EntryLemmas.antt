@@ -11,6 +11,7 @@ use Rattle.mal_hall.specs.Entered.{filled, full, unboxed}
 bare-full : (e : written.Event) (content : Option Posted) → bare (full e content) ≡ e
 bare-full (of.Open tenant job ask) content = refl
 bare-full (of.Revise tenant job number) content = refl
+bare-full (of.Reask tenant job weight) content = refl
 bare-full (of.Close tenant job) content = refl
 bare-full (of.Balance volumes) content = refl
 bare-full (of.Start tenant job index worker) content = refl

@@ -14,12 +14,12 @@ use Rattle.spec_job.specs.Provenance.{ClausesAreOwn}
 use Rattle.spec_job.specs.SoloMachine.{Own, SoloMachine, Revised, Closed, Exchanged, solo}
 use Rattle.spec_job.specs.KeyedJob.{Key, KeyedJob}
 use Rattle.spec_job.specs.Viewed.{JobView, and_own}
-use Rattle.spec_hall.specs.Events.{Event, Open, Revise, Close, Balance, Exchange}
+use Rattle.spec_hall.specs.Events.{Event, Open, Revise, Reask, Close, Balance, Exchange}
 use Rattle.spec_hall.specs.Calls.{AnswerTo, Call, HasCalled, IsCall}
 use Rattle.spec_hall.specs.Leases.{start_number, starts_in}
 use Rattle.spec_hall.specs.Own.{own, is_key}
 use Rattle.spec_hall.specs.States.{keys_of, states, live_asks, titled, leases}
-use Rattle.spec_hall.specs.Legal.{Allowed, MayOpen, MayRevise, MayClose, job_of, jobs_of, tenant_count}
+use Rattle.spec_hall.specs.Legal.{Allowed, MayOpen, MayRevise, MayReask, MayClose, job_of, jobs_of, tenant_count}
 use Rattle.spec_hall.specs.Room.{HasRoomFor}
 use Rattle.spec_hall.specs.Seats.{Seat, IsSeated, jobs_in, place_of, is_due, opened_seat, shares_by, balanced_from, balanced_by, is_live_seat}
 use Rattle.spec_hall.specs.Spots.{Spot, Tag, AreSpots, tag_of, tags_of}
@@ -28,7 +28,7 @@ use Rattle.spec_hall.proofs.TouchLemmas.{exchange-touches}
 use Rattle.spec_hall.proofs.PlaceLemmas.{seated-found, seated-absent, placed-within}
 use Rattle.spec_hall.proofs.PushLemmas.{leases-push}
 use Rattle.spec_hall.proofs.RunnableLemmas.{find-titled, legal-answers_solve, legal-answers_refute, legal-clauses_own}
-use Rattle.spec_hall.proofs.SeatLemmas.{reseated, seats-touch, seated-none, seated-open, seated-revise, seated-close}
+use Rattle.spec_hall.proofs.SeatLemmas.{reseated, seats-touch, seated-none, seated-open, seated-revise, seated-reask, seated-close}
 use Rattle.spec_hall.proofs.SpotLemmas.{numbered-push, starts-push, spots-stay, spots-open, spots-none}
 use Rattle.spec_hall.proofs.VolumeLemmas.{revise-keeps}
 use Rattle.mal_seats.specs.Changed.{OfSeat}
@@ -241,6 +241,17 @@ hall-revise x y k at s number r hall sits workers events seats spots starts uncl
     let mine : MayRevise past s.job.titled.key number r s.job.titled = rw next (subst (λ (j : Key). MayRevise past j (length s.job.titled.state.revisions + 1) r s.job.titled) (sym found.key) may) in
     let seated = subst (λ (j : Key). IsSeated x.entries.workers (past ++ Revise j number r ∷ []) (slice_set x.seats at now)) found.key (seated-revise x.entries.workers past x.seats at s number r hall.seated sits.seat mine) in
     own-grown x y at s (Revise k number r) (Revised r) hall sits.seat workers entered seats spots starts tenants seated (leases-push past (Revise k number r)) (λ v. ap (λ n. n.last) (numbered-push v past (Revise k number r))) (starts-push past (Revise k number r)) (unclosed ∙ (hall.unclosed_is ∙ unclosed-same x.seats at s now sits.seat (revise-keeps s.job.titled.state r).closed)) room
+
+-- a job asks anew
+pub hall-reask : (x y : Inside) (k : Key) (at : ℕ) (s : Seat) (weight : Weighed) → IsHall x → Sits x.seats k at s → y.entries.workers ≡ x.entries.workers → y.entries.events ≡ x.entries.events ++ Reask s.job.titled.key weight ∷ [] → y.seats ≡ slice_set x.seats at (reseated s (and_own s.job (Reasked weight))) → y.spots ≡ x.spots → y.starts ≡ x.starts → y.unclosed ≡ x.unclosed → y.tenants ≡ x.tenants → MayReask x.entries.events k weight s.job.titled → y.unclosed + out_in x.spots ≤ y.entries.room → Grown x y (Reask k weight ∷ [])
+hall-reask x y k at s weight hall sits workers events seats spots starts unclosed tenants may room =
+    let past : List Event = x.entries.events in
+    let found = hall-found x k at s hall sits in
+    let entered = subst (λ (j : Key). y.entries.events ≡ x.entries.events ++ Reask j weight ∷ []) found.key events in
+    let now : Seat = reseated s (and_own s.job (Reasked weight)) in
+    let mine : MayReask past s.job.titled.key weight s.job.titled = subst (λ (j : Key). MayReask past j weight s.job.titled) (sym found.key) may in
+    let seated = subst (λ (j : Key). IsSeated x.entries.workers (past ++ Reask j weight ∷ []) (slice_set x.seats at now)) found.key (seated-reask x.entries.workers past x.seats at s weight hall.seated sits.seat mine) in
+    own-grown x y at s (Reask k weight) (Reasked weight) hall sits.seat workers entered seats spots starts tenants seated (leases-push past (Reask k weight)) (λ v. ap (λ n. n.last) (numbered-push v past (Reask k weight))) (starts-push past (Reask k weight)) (unclosed ∙ (hall.unclosed_is ∙ unclosed-same x.seats at s now sits.seat refl)) room
 
 -- where a job is open some are not closed
 pub hall-some : (x : Inside) (k : Key) (at : ℕ) (s : Seat) → IsHall x → Sits x.seats k at s → s.job.titled.state.closed ≡ false → 1 ≤ x.unclosed

@@ -6,7 +6,7 @@ use Rattle.mal_revision.specs.Posted.{Posted}
 use Rattle.mal_history.specs.declared.event.Event as written
 use Rattle.mal_history.specs.declared.event.Event.TheVariants as of
 use Rattle.spec_hall.specs.Dressed.{keyed, no_revision}
-use Rattle.spec_hall.specs.Events.{Event, Open, Revise, Close, Balance, Start, Finish, Exchange}
+use Rattle.spec_hall.specs.Events.{Event, Open, Revise, Reask, Close, Balance, Start, Finish, Exchange}
 
 -- entries as contracts see them: the number of workers, the events, and for how many more there is room
 pub record Entered : Type 0 where
@@ -19,6 +19,7 @@ pub record Entered : Type 0 where
 abbrev pub full : written.Event → Option Posted → Event
 full (of.Open tenant job ask) content = Open (keyed tenant job) ask
 full (of.Revise tenant job number) content = Revise (keyed tenant job) number (unwrap_or content no_revision)
+full (of.Reask tenant job weight) content = Reask (keyed tenant job) weight
 full (of.Close tenant job) content = Close (keyed tenant job)
 full (of.Balance volumes) content = Balance volumes
 full (of.Start tenant job index worker) content = Start (keyed tenant job) index worker

@@ -1,15 +1,15 @@
 //! Entering an event that was written down.
 
 ghost use Rattle.std.specs.Prelude.{◌≡◌, false, Some, Err, MatchOption, IfOk, OnOk, IsErrOf};
-ghost use Rattle.mal_base.specs.Asks.{Terms};
+ghost use Rattle.mal_base.specs.Asks.{Terms, Weighed};
 ghost use Rattle.mal_hall.specs.Applied.{Enters, HasApplied, IsInside, IsRefused, MayNotEnter, StartsAt};
 ghost use Rattle.mal_revision.specs.Posted.{Posted};
-ghost use Rattle.spec_hall.specs.{Calls.{Opens, Revises, wanted}, Dressed.{keyed}, Events.{Open, Revise, Close, Balance, Start, Finish, Exchange}, Legal.{Allowed}};
+ghost use Rattle.spec_hall.specs.{Calls.{Opens, Revises, Reasks, wanted}, Dressed.{keyed}, Events.{Open, Revise, Reask, Close, Balance, Start, Finish, Exchange}, Legal.{Allowed}};
 ghost use Rattle.spec_job.specs.KeyedJob.{Key};
 
 use crate::hall::Hall;
 use crate::lodging::back_of;
-use mal_base::{ApplyFault, Ask, Name, OpenFault, Outcome, ReviseFault};
+use mal_base::{ApplyFault, Ask, Name, OpenFault, Outcome, ReaskFault, ReviseFault, Weight};
 use mal_history::{Event, Shares};
 use mal_learn::Scratch;
 use mal_revision::Revision;
@@ -65,6 +65,11 @@ impl Hall {
                 None => Err(ApplyFault::NotAllowed),
                 Some(revision) => self.enter_revise(tenant, job, *number, revision),
             },
+            Event::Reask {
+                tenant,
+                job,
+                weight,
+            } => self.enter_reask(tenant, job, *weight),
             Event::Close { tenant, job } => self.enter_close(tenant, job),
             Event::Balance { volumes } => self.enter_balance(volumes),
             Event::Start {
@@ -119,6 +124,19 @@ impl Hall {
         match self.revise_job(tenant, job, revision) {
             Ok(()) => Ok(()),
             Err(fault) => Err(refusal_to_revise(fault)),
+        }
+    }
+
+    /// Enters that a job asks anew.
+    fn enter_reask(&mut self, tenant: &Name, job: &Name, weight: Weight) -> Result<(), ApplyFault>
+        requires { IsInside self.old }
+        ensures entered { OnOk result (Enters self.old (Reask (keyed tenant.now job.now) weight) self.new) }
+        ensures refused { IsErrOf result ApplyFault.NotAllowed
+            → MayNotEnter self.old (Reask (keyed tenant.now job.now) weight) }
+    {
+        match self.reask_job(tenant, job, weight) {
+            Ok(()) => Ok(()),
+            Err(fault) => Err(refusal_to_reask(fault)),
         }
     }
 
@@ -291,5 +309,16 @@ fn refusal_to_revise(fault: ReviseFault) -> ApplyFault
         ReviseFault::RevisionsFull => ApplyFault::NotAllowed,
         ReviseFault::JobFull { .. } => ApplyFault::NotAllowed,
         ReviseFault::OutOfMemory => ApplyFault::OutOfMemory,
+    }
+}
+
+/// Why it is not entered that a job asks anew, which is refused so.
+fn refusal_to_reask(fault: ReaskFault) -> ApplyFault
+    ensures { result ≡ ApplyFault.NotAllowed → (k : Key) (w : Weighed) → wanted (Reasks k w) (Err fault) ≡ false }
+{
+    match fault {
+        ReaskFault::NoJob => ApplyFault::NotAllowed,
+        ReaskFault::Closed => ApplyFault::NotAllowed,
+        ReaskFault::OutOfMemory => ApplyFault::OutOfMemory,
     }
 }

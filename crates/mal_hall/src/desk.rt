@@ -5,12 +5,12 @@ ghost use Rattle.mal_hall.specs.Desks.{HasPosted, event_of};
 
 use crate::hall::Hall;
 use crate::offer::{FinishAnswer, PickAnswer};
-use mal_base::{Ask, CloseFault, Name, OpenFault, ReviseFault};
+use mal_base::{Ask, CloseFault, Name, OpenFault, ReaskFault, ReviseFault, Weight};
 use mal_revision::Revision;
 use mal_suspend::Done;
 use std::sync::Wait;
 
-/// What a tenant posts: it opens a job, posts the next revision of one, or closes one.
+/// What a tenant posts: it opens a job, posts the next revision of one, changes what one asks for, or closes one.
 #[derive(Drop)]
 pub enum Post {
     Open {
@@ -23,6 +23,11 @@ pub enum Post {
         job: Name,
         revision: Revision,
     },
+    Reask {
+        tenant: Name,
+        job: Name,
+        weight: Weight,
+    },
     Close {
         tenant: Name,
         job: Name,
@@ -34,6 +39,7 @@ pub enum Post {
 pub enum PostFault {
     Open(OpenFault),
     Revise(ReviseFault),
+    Reask(ReaskFault),
     Close(CloseFault),
 }
 
@@ -57,6 +63,14 @@ impl Hall {
             } => match self.revise_job(&tenant, &job, revision) {
                 Ok(()) => Ok(()),
                 Err(fault) => Err(PostFault::Revise(fault)),
+            },
+            Post::Reask {
+                tenant,
+                job,
+                weight,
+            } => match self.reask_job(&tenant, &job, weight) {
+                Ok(()) => Ok(()),
+                Err(fault) => Err(PostFault::Reask(fault)),
             },
             Post::Close { tenant, job } => match self.close_job(&tenant, &job) {
                 Ok(()) => Ok(()),

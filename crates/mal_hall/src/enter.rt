@@ -4,12 +4,12 @@ ghost use Rattle.std.specs.Prelude.{◌≡◌, ◌+◌, ◌<◌, ◌≤◌, ◌^
 ghost use Rattle.mal_hall.specs.Turned.{HasWaited, IsBalancing};
 ghost use Rattle.mal_job.specs.Finishing.{outcome_of, MayFinish};
 ghost use Rattle.mal_seats.specs.Changed.{OfSeat, IsChanged};
-ghost use Rattle.spec_job.specs.{SoloMachine.{Exchanged, Finished, Revised, clauses_in, startable}, Viewed.{and_own, and_start, IsLeaseOf}};
-ghost use Rattle.spec_hall.specs.{Dressed.{keyed}, Events.{Open, Revise, Start, Finish, Exchange}, Seats.{opened_seat, place_of}};
+ghost use Rattle.spec_job.specs.{SoloMachine.{Exchanged, Finished, Reasked, Revised, clauses_in, startable}, Viewed.{and_own, and_start, IsLeaseOf}};
+ghost use Rattle.spec_hall.specs.{Dressed.{keyed}, Events.{Open, Revise, Reask, Start, Finish, Exchange}, Seats.{opened_seat, place_of}};
 
 use crate::event_list::EventList;
 use crate::spots::Spot;
-use mal_base::{Ask, Name, Outcome};
+use mal_base::{Ask, Name, Outcome, Weight};
 use mal_history::Event;
 use mal_revision::Revision;
 use mal_seats::Seats;
@@ -69,6 +69,37 @@ pub fn enter_revise(
     entries.reserve(owed + 1)?;
     seats.revise(at, revision)?;
     entries.push_revise(tenant, job, number, kept);
+    Ok(())
+}
+
+/// Enters that the job at a place asks anew, and leaves room for as many events as are owed.
+pub fn enter_reask(
+    entries: &mut EventList,
+    seats: &mut Seats,
+    at: usize,
+    weight: Weight,
+    owed: usize,
+) -> Result<(), AllocError>
+    requires place { at < length seats.old }
+    requires owed { owed < 2 ^ 63 + 65 }
+    ensures workers { entries.new.workers ≡ entries.old.workers }
+    ensures events { OnOk result
+        (OfSeat seats.old at
+        (λ s. entries.new.events ≡ entries.old.events ++ Reask s.job.titled.key weight ∷ [])) }
+    ensures seats { OnOk result
+        (IsChanged (λ s. record s { job = and_own s.job (Reasked weight) }) at seats.old seats.new) }
+    ensures room { OnOk result (owed ≤ entries.new.room) }
+    ensures err { OnErr result (HasWaited entries.old entries.new seats.old seats.new) }
+{
+    let seat = seats.at(at);
+    let (tenant, job) = (seat.job().tenant(), seat.job().name());
+    entries.reserve(owed + 1)?;
+    seats.reask(at, weight);
+    entries.push_reserved(Event::Reask {
+        tenant,
+        job,
+        weight,
+    });
     Ok(())
 }
 

@@ -5,19 +5,22 @@ ghost use Rattle.std.specs.Option.{option_copied};
 ghost use Rattle.mal_base.specs.{Asks.{IsAsk}, Names.{is_name}};
 ghost use Rattle.mal_hall.specs.{Applied.{IsInside, listed_last}, Offered.{HasArranged, HasBalanced, HasEnded, HasExchanged, HasStarted, IsFirst, MayEnd, MayStartAt, handed_of, offered, replied, returned}, HallView.{next_number}, Driven.{HasWorkedOff, IsTurn}, Replying.{AnswersRightly, HasJob, OfAlone, OfJob}};
 ghost use Rattle.mal_job.specs.{Among.{among}, Finishing.{outcome_of}, Replying.{TellsReply}};
-ghost use Rattle.spec_hall.specs.{Calls.{HasCalled, IsOfLease, Opens, Revises, Closes, Picks, Finishes, Recalls, Asks, is_over}, Dressed.{keyed, revisions_of}, Driven.{GrowsByTurns, IsAtEnd, IsCalm}, Events.{Open, Revise, Close, bare}, Leases.{start_number}, States.{LeaseOut, keys_of, states, lives, leases, lease_of, balanced, exchange_due}, Legal.{IsBalanceDue, Legal, job_of}, Measure.{left_in}};
+ghost use Rattle.spec_hall.specs.{Calls.{HasCalled, IsOfLease, Opens, Revises, Reasks, Closes, Picks, Finishes, Recalls, Asks, is_over}, Dressed.{keyed, revisions_of}, Driven.{GrowsByTurns, IsAtEnd, IsCalm}, Events.{Open, Revise, Reask, Close, bare}, Leases.{start_number}, States.{LeaseOut, keys_of, states, lives, leases, lease_of, balanced, exchange_due}, Legal.{IsBalanceDue, Legal, job_of}, Measure.{left_in}};
 ghost use Rattle.spec_job.specs.{Models.{AnswersSolve}, Proofs.{AnswersRefute}, Provenance.{ClausesAreOwn}, KeyedJob.{KeyedJob}};
 ghost use Rattle.spec_hall.specs.States as states_of;
 
 use crate::enter::{
-    enter_balance, enter_exchange, enter_finish, enter_open, enter_revise, enter_start,
+    enter_balance, enter_exchange, enter_finish, enter_open, enter_reask, enter_revise,
+    enter_start,
 };
 use crate::event_list::EventList;
 use crate::lodging::lists;
 use crate::offer::{Back, Pick, Strange};
 use crate::room::{next_number, tenants_after};
 use crate::spots::{Spot, count_out, no_leases, owed, spot_of};
-use mal_base::{Ask, CloseFault, Name, OpenFault, PickFault, ReplyFault, ReviseFault};
+use mal_base::{
+    Ask, CloseFault, Name, OpenFault, PickFault, ReaskFault, ReplyFault, ReviseFault, Weight,
+};
 use mal_history::{Event, History, Shares};
 use mal_job::Job;
 use mal_learn::Scratch;
@@ -149,6 +152,34 @@ impl Hall {
             Err(_) => return Err(ReviseFault::OutOfMemory),
         }
         Ok(())
+    }
+
+    /// Changes the priority and the demand of a job's ask: the next balancing goes by them. After a refusal the hall is
+    /// as before.
+    pub fn reask_job(
+        &mut self,
+        tenant: &Name,
+        job: &Name,
+        weight: Weight,
+    ) -> Result<(), ReaskFault>
+        ensures workers { self.new.workers ≡ self.old.workers }
+        ensures inside { self.new.inside ≡ self.old.inside }
+        ensures ok { OnOk result (self.new.events ≡ self.old.events ++ Reask (keyed tenant.now job.now) weight ∷ []) }
+        ensures err { OnErr result (self.new.events ≡ self.old.events) }
+        ensures call { HasCalled self.old.workers self.old.events
+            (Reasks (keyed tenant.now job.now) weight) result self.new.events }
+    {
+        let Some(at) = self.seats.place_of(*tenant, *job) else {
+            return Err(ReaskFault::NoJob);
+        };
+        if self.seats.at(at).job().is_closed() {
+            return Err(ReaskFault::Closed);
+        }
+        let owed = owed(&self.seats, self.unclosed, &self.spots);
+        match enter_reask(&mut self.entries, &mut self.seats, at, weight, owed) {
+            Ok(()) => Ok(()),
+            Err(_) => Err(ReaskFault::OutOfMemory),
+        }
     }
 
     /// Closes a job: no revision of it follows. Takes no memory; after a refusal the hall is as before.

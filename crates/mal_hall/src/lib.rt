@@ -15,6 +15,8 @@ mod spots;
 
 pub use desk::{Desk, Post, PostFault};
 pub use hall::Hall;
-pub use mal_base::{ApplyFault, CloseFault, OpenFault, PickFault, ReplyFault, ReviseFault};
+pub use mal_base::{
+    ApplyFault, CloseFault, OpenFault, PickFault, ReaskFault, ReplyFault, ReviseFault,
+};
 pub use offer::{Back, FinishAnswer, Pick, PickAnswer, Strange};
 pub use size::Size;

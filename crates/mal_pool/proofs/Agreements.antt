@@ -12,7 +12,7 @@ use Rattle.mal_pool.specs.Testing.{HasContents, HaveContents, HasPosts}
 use Rattle.mal_revision.specs.Posted.{Posted}
 use Rattle.spec_job.specs.KeyedJob.{Key, KeyedJob}
 use Rattle.spec_hall.specs.Dressed.{dressed, no_revision, revisions_of}
-use Rattle.spec_hall.specs.Events.{Event, Open, Revise, Close, Balance, Start, Finish, Exchange, bare}
+use Rattle.spec_hall.specs.Events.{Event, Open, Revise, Reask, Close, Balance, Start, Finish, Exchange, bare}
 use Rattle.spec_hall.specs.Legal.{Legal}
 use Rattle.spec_hall.specs.Own.{is_text}
 use Rattle.spec_hall.specs.States.{states}
@@ -30,6 +30,7 @@ pub bare-losses : (h : List Event) → list_any testing.is_loss (map bare h) ≡
 bare-losses [] = refl
 bare-losses (Open k ask ∷ es) = bare-losses es
 bare-losses (Revise k number r ∷ es) = bare-losses es
+bare-losses (Reask k w ∷ es) = bare-losses es
 bare-losses (Close k ∷ es) = bare-losses es
 bare-losses (Balance shares ∷ es) = bare-losses es
 bare-losses (Start k index worker ∷ es) = bare-losses es
@@ -97,6 +98,7 @@ at-place rs all i low same = get_or_from_slice_get rs i (get_or all i no_revisio
 dressed-by : (ts : List KeyedJob) (t : List ℕ) (e : written.Event) → is_post_of t (dressed ts e) ≡ is_post_line t e
 dressed-by ts t (of.Open tenant job ask) = refl
 dressed-by ts t (of.Revise tenant job number) = refl
+dressed-by ts t (of.Reask tenant job weight) = refl
 dressed-by ts t (of.Close tenant job) = refl
 dressed-by ts t (of.Balance volumes) = refl
 dressed-by ts t (of.Start tenant job index worker) = refl
@@ -137,6 +139,7 @@ stepped-dressed ts k all front (steps.Revise r ∷ ss) n is count has =
     at-front : (xs : List Posted) (x : Posted) (ys : List Posted) → get_or (xs ++ x ∷ ys) (length xs) no_revision ≡ x
     at-front [] x ys = refl
     at-front (z ∷ zs) x ys = at-front zs x ys
+stepped-dressed ts k all front (steps.Reask w ∷ ss) n is count has = ap (λ (x : List Event). Reask k w ∷ x) (stepped-dressed ts k all front ss n is count has)
 
 job-dressed : (h : List Event) (j : ScriptedJob) → HasContents h j → map (dressed (states h)) (map bare (job_events j)) ≡ job_events j
 job-dressed h j has =

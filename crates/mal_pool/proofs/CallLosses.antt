@@ -16,14 +16,16 @@ use Rattle.mal_base.specs.declared.hall_fault.OpenFault.{OpenFault}
 use Rattle.mal_base.specs.declared.hall_fault.OpenFault.TheVariants as opening
 use Rattle.mal_base.specs.declared.hall_fault.ReviseFault.{ReviseFault}
 use Rattle.mal_base.specs.declared.hall_fault.ReviseFault.TheVariants as revising
+use Rattle.mal_base.specs.declared.hall_fault.ReaskFault.{ReaskFault}
+use Rattle.mal_base.specs.declared.hall_fault.ReaskFault.TheVariants as reasking
 use Rattle.mal_base.specs.declared.hall_fault.CloseFault.{CloseFault}
 use Rattle.mal_base.specs.declared.hall_fault.CloseFault.TheVariants as closing
 use Rattle.mal_base.specs.declared.hall_fault.PickFault.{PickFault}
 use Rattle.mal_base.specs.declared.hall_fault.PickFault.TheVariants as picking
 use Rattle.spec_hall.specs.Calls as calls
-use Rattle.spec_hall.specs.Calls.{HasCalled, Opens, Revises, Closes, Picks, Finishes, Offer, Leased, Idle, AllDone, Return, IsOpening, IsRevising, IsClosing, IsPicking, IsReturning, AreDue, arranges}
+use Rattle.spec_hall.specs.Calls.{HasCalled, Opens, Revises, Reasks, Closes, Picks, Finishes, Offer, Leased, Idle, AllDone, Return, IsOpening, IsRevising, IsReasking, IsClosing, IsPicking, IsReturning, AreDue, arranges}
 use Rattle.spec_hall.specs.Driven.{was_lost}
-use Rattle.spec_hall.specs.Events.{Event, Open, Revise, Close, Balance, Start, Finish, Exchange}
+use Rattle.spec_hall.specs.Events.{Event, Open, Revise, Reask, Close, Balance, Start, Finish, Exchange}
 use Rattle.spec_run.specs.Losses.{is_loss, NoneIsLost}
 use Rattle.spec_run.proofs.LossLemmas.{parts-lose-none}
 
@@ -31,6 +33,7 @@ use Rattle.spec_run.proofs.LossLemmas.{parts-lose-none}
 arranged-loses : (e : Event) → arranges e ≡ true → is_loss e ≡ false
 arranged-loses (Open k ask) h = refl
 arranged-loses (Revise k number r) h = refl
+arranged-loses (Reask k weight) h = refl
 arranged-loses (Close k) h = refl
 arranged-loses (Balance shares) h = refl
 arranged-loses (Start k index worker) h = refl
@@ -79,6 +82,12 @@ revising-loses past k r (Err revising.RevisionsFull) es is = nothing es is.4
 revising-loses past k r (Err (revising.JobFull which)) es is = nothing es is.5
 revising-loses past k r (Err revising.OutOfMemory) es is = nothing es is.2
 
+reasking-loses : (past : List Event) (k : _) (weight : _) (answer : Result (Unit {0}) ReaskFault) (es : List Event) → IsReasking past k weight answer es → NoneIsLost es
+reasking-loses past k weight (Ok done) es is = ap (list_any is_loss) is.2
+reasking-loses past k weight (Err reasking.NoJob) es is = nothing es is.1
+reasking-loses past k weight (Err reasking.Closed) es is = nothing es is.3
+reasking-loses past k weight (Err reasking.OutOfMemory) es is = nothing es is.2
+
 closing-loses : (past : List Event) (k : _) (answer : Result (Unit {0}) CloseFault) (es : List Event) → IsClosing past k answer es → NoneIsLost es
 closing-loses past k (Ok done) es is = ap (list_any is_loss) is.2
 closing-loses past k (Err closing.NoJob) es is = nothing es is.1
@@ -96,6 +105,9 @@ open-loses-none w past k ask answer now called none = ap (list_any is_loss) call
 revise-loses-none : (w : ℕ) (past : List Event) (k : _) (r : _) (answer : Result (Unit {0}) ReviseFault) (now : List Event) → HasCalled w past (Revises k r) answer now → NoneIsLost past → NoneIsLost now
 revise-loses-none w past k r answer now called none = ap (list_any is_loss) called.grown ∙ parts-lose-none past called.events none (revising-loses past k r answer called.events called.call)
 
+reask-loses-none : (w : ℕ) (past : List Event) (k : _) (weight : _) (answer : Result (Unit {0}) ReaskFault) (now : List Event) → HasCalled w past (Reasks k weight) answer now → NoneIsLost past → NoneIsLost now
+reask-loses-none w past k weight answer now called none = ap (list_any is_loss) called.grown ∙ parts-lose-none past called.events none (reasking-loses past k weight answer called.events called.call)
+
 close-loses-none : (w : ℕ) (past : List Event) (k : _) (answer : Result (Unit {0}) CloseFault) (now : List Event) → HasCalled w past (Closes k) answer now → NoneIsLost past → NoneIsLost now
 close-loses-none w past k answer now called none = ap (list_any is_loss) called.grown ∙ parts-lose-none past called.events none (closing-loses past k answer called.events called.call)
 
@@ -103,14 +115,22 @@ pub post_loses_none : (w : ℕ) (past : List Event) (post : Post) (answer : Resu
 post_loses_none w past (posts.Open tenant job ask) (Ok done) now called none = open-loses-none w past _ ask (Ok done) now called none
 post_loses_none w past (posts.Open tenant job ask) (Err (faults.Open fault)) now called none = open-loses-none w past _ ask (Err fault) now called none
 post_loses_none w past (posts.Open tenant job ask) (Err (faults.Revise fault)) now called none = absurd called
+post_loses_none w past (posts.Open tenant job ask) (Err (faults.Reask fault)) now called none = absurd called
 post_loses_none w past (posts.Open tenant job ask) (Err (faults.Close fault)) now called none = absurd called
 post_loses_none w past (posts.Revise tenant job r) (Ok done) now called none = revise-loses-none w past _ r (Ok done) now called none
 post_loses_none w past (posts.Revise tenant job r) (Err (faults.Open fault)) now called none = absurd called
 post_loses_none w past (posts.Revise tenant job r) (Err (faults.Revise fault)) now called none = revise-loses-none w past _ r (Err fault) now called none
+post_loses_none w past (posts.Revise tenant job r) (Err (faults.Reask fault)) now called none = absurd called
 post_loses_none w past (posts.Revise tenant job r) (Err (faults.Close fault)) now called none = absurd called
+post_loses_none w past (posts.Reask tenant job weight) (Ok done) now called none = reask-loses-none w past _ weight (Ok done) now called none
+post_loses_none w past (posts.Reask tenant job weight) (Err (faults.Open fault)) now called none = absurd called
+post_loses_none w past (posts.Reask tenant job weight) (Err (faults.Revise fault)) now called none = absurd called
+post_loses_none w past (posts.Reask tenant job weight) (Err (faults.Reask fault)) now called none = reask-loses-none w past _ weight (Err fault) now called none
+post_loses_none w past (posts.Reask tenant job weight) (Err (faults.Close fault)) now called none = absurd called
 post_loses_none w past (posts.Close tenant job) (Ok done) now called none = close-loses-none w past _ (Ok done) now called none
 post_loses_none w past (posts.Close tenant job) (Err (faults.Open fault)) now called none = absurd called
 post_loses_none w past (posts.Close tenant job) (Err (faults.Revise fault)) now called none = absurd called
+post_loses_none w past (posts.Close tenant job) (Err (faults.Reask fault)) now called none = absurd called
 post_loses_none w past (posts.Close tenant job) (Err (faults.Close fault)) now called none = close-loses-none w past _ (Err fault) now called none
 
 -- a lease that is picked is its worker's

@@ -7,7 +7,7 @@ use Rattle.std.proofs.lemmas.List.Folds.{list_any-append}
 use Rattle.mal_pool.specs.Posts.{AreKnown}
 use Rattle.mal_pool.specs.Testing.{HasPosts}
 use Rattle.spec_job.specs.KeyedJob.{Key}
-use Rattle.spec_hall.specs.Events.{Event, Open, Revise, Close, Balance, Start, Finish, Exchange}
+use Rattle.spec_hall.specs.Events.{Event, Open, Revise, Reask, Close, Balance, Start, Finish, Exchange}
 use Rattle.spec_hall.specs.Own.{is_text, is_key}
 use Rattle.spec_hall.specs.States.{keys_step, titled}
 use Rattle.spec_hall.proofs.KeyLemmas.{is_text-Decides, is_key-same}
@@ -26,6 +26,7 @@ true-not-false e = cc
 key-step : (k : Key) (keys : List Key) (e : Event) → list_any (is_key k) (keys_step keys e) ≡ (list_any (is_key k) keys || opens-key k e)
 key-step k keys (Open i ask) = list_any-append (is_key k) keys (i ∷ [])
 key-step k keys (Revise i number r) = sym (or-false (list_any (is_key k) keys))
+key-step k keys (Reask i w) = sym (or-false (list_any (is_key k) keys))
 key-step k keys (Close i) = sym (or-false (list_any (is_key k) keys))
 key-step k keys (Balance shares) = sym (or-false (list_any (is_key k) keys))
 key-step k keys (Start i index worker) = sym (or-false (list_any (is_key k) keys))

@@ -17,6 +17,7 @@ posted_on-parts h a b = fold-append (λ (now : List Event) (p : Post). now ++ ev
 event-loses : (h : List Event) (p : Post) → is_loss (event_of h p) ≡ false
 event-loses h (posts.Open tenant job ask) = refl
 event-loses h (posts.Revise tenant job r) = refl
+event-loses h (posts.Reask tenant job weight) = refl
 event-loses h (posts.Close tenant job) = refl
 
 pub posts-lose-none : (h : List Event) (ps : List Post) → NoneIsLost h → NoneIsLost (posted_on h ps)

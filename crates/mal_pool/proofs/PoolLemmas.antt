@@ -12,7 +12,7 @@ use Rattle.mal_revision.specs.Posted.{Posted}
 use Rattle.spec_job.specs.Replies.{reply}
 use Rattle.spec_job.specs.SoloMachine.{SoloMachine, solo}
 use Rattle.spec_job.specs.KeyedJob.{Key, KeyedJob}
-use Rattle.spec_hall.specs.Events.{Event, Close, Revise}
+use Rattle.spec_hall.specs.Events.{Event, Close, Reask, Revise}
 use Rattle.spec_hall.specs.Driven.{GrowsByTurns}
 use Rattle.spec_hall.specs.Own.{own, is_key}
 use Rattle.spec_hall.specs.States.{keys_of, states, titled, lives, leases}
@@ -22,7 +22,7 @@ use Rattle.spec_run.specs.Complete.{key_of_job, job_events, open_events, script_
 use Rattle.spec_run.specs.Posting.{IsOpen}
 use Rattle.spec_run.specs.Run.{text_or_none, replies_from, job_replies, replies}
 use Rattle.spec_run.proofs.KeyLemmas.{among-keys, among-parts, job-found}
-use Rattle.spec_run.proofs.OpenLemmas.{open-found, revised-is_open}
+use Rattle.spec_run.proofs.OpenLemmas.{open-found, open-may_reask, reasked-is_open, revised-is_open}
 use Rattle.spec_run.proofs.PostingLemmas.{next-may_revise}
 use Rattle.spec_run.proofs.CompleteLemmas.{grown-keys, grown-complete}
 use Rattle.spec_script.specs.Formed.{IsJob}
@@ -62,6 +62,22 @@ rest-legal w j front (steps.Revise r ∷ back) h n formed are number opened = (
 
     later : n + 1 ≡ length (revisions_in (front ++ steps.Revise r ∷ [])) + 1
     later = omega (arith, number, ap length more, length-append (revisions_in front) (r ∷ []))
+rest-legal w j front (steps.Reask weight ∷ back) h n formed are number opened = (
+  (titled h k, open-may_reask k (revisions_in front) h weight opened (next-weighed j (length front) weight formed low at)),
+  rest-legal w j (front ++ steps.Reask weight ∷ []) back (h ++ Reask k weight ∷ []) n formed (are ∙ sym (append_assoc front (steps.Reask weight ∷ []) back)) (number ∙ ap (λ (rs : List Posted). length rs + 1) (sym same)) (subst (λ (rs : List Posted). IsOpen k rs (h ++ Reask k weight ∷ [])) (sym same) (reasked-is_open k (revisions_in front) h weight opened)),
+)
+  where
+    k : Key
+    k = key_of_job j
+
+    low : length front < length j.steps
+    low = omega (arith, ap length are, length-append front (steps.Reask weight ∷ back))
+
+    at : steps.Reask weight ≡ get_or j.steps (length front) (steps.Reask weight)
+    at = subst (λ (ss : List Step). steps.Reask weight ≡ get_or ss (length front) (steps.Reask weight)) (sym are) (read-front front (steps.Reask weight) back)
+
+    same : revisions_in (front ++ steps.Reask weight ∷ []) ≡ revisions_in front
+    same = flat_map-append revisions_at front (steps.Reask weight ∷ []) ∙ append-nil (revisions_in front)
 
 -- all that a job posts is legal where it is open and has no revision
 pub job-legal : (w : ℕ) (h : List Event) (j : ScriptedJob) → IsOpen (key_of_job j) [] h → IsJob served j → LegalFrom w h (job_events j)

@@ -4,6 +4,8 @@ use Rattle.mal_base.specs.declared.hall_fault.OpenFault.{OpenFault}
 use Rattle.mal_base.specs.declared.hall_fault.OpenFault.TheVariants as opening
 use Rattle.mal_base.specs.declared.hall_fault.ReviseFault.{ReviseFault}
 use Rattle.mal_base.specs.declared.hall_fault.ReviseFault.TheVariants as revising
+use Rattle.mal_base.specs.declared.hall_fault.ReaskFault.{ReaskFault}
+use Rattle.mal_base.specs.declared.hall_fault.ReaskFault.TheVariants as reasking
 use Rattle.mal_hall.specs.declared.desk.Post.{Post}
 use Rattle.mal_hall.specs.declared.desk.PostFault.{PostFault}
 use Rattle.mal_hall.specs.declared.desk.PostFault.TheVariants as faults
@@ -25,10 +27,17 @@ is_revising_want revising.RevisionsFull = false
 is_revising_want (revising.JobFull which) = false
 is_revising_want revising.OutOfMemory = true
 
+-- whether an ask is not changed for want of memory
+abbrev pub is_reasking_want : ReaskFault → Bool
+is_reasking_want reasking.NoJob = false
+is_reasking_want reasking.Closed = false
+is_reasking_want reasking.OutOfMemory = true
+
 -- whether a post is refused for want of memory
 abbrev pub is_want : PostFault → Bool
 is_want (faults.Open fault) = is_opening_want fault
 is_want (faults.Revise fault) = is_revising_want fault
+is_want (faults.Reask fault) = is_reasking_want fault
 is_want (faults.Close fault) = false
 
 -- behind a history a post is refused for another cause

@@ -1,7 +1,7 @@
 use Rattle.std.specs.Prelude.{◌≡◌, ◌⊎◌, ℕ, ◌≤◌, ◌<◌, List, [], ◌∷◌, ◌++◌, length, map, flat_map, fold, sum_by, slice_get, Option, Some, None, Ok, Err}
 use Rattle.spec_hall.specs.Calls.{recalled}
 use Rattle.spec_hall.specs.Driven.{GrowsByTurns}
-use Rattle.spec_hall.specs.Events.{Event, Open, Revise, Close}
+use Rattle.spec_hall.specs.Events.{Event, Open, Revise, Reask, Close}
 use Rattle.spec_hall.specs.States.{lives, states, leases}
 use Rattle.spec_run.specs.Complete.{job_events}
 use Rattle.spec_script.specs.Script.{ScriptedJob}
@@ -23,6 +23,7 @@ open_post j = posts.Open j.tenant j.name j.ask
 abbrev pub posts_at : Event → List Post
 posts_at (Open k ask) = posts.Open k.tenant k.job ask ∷ []
 posts_at (Revise k number r) = posts.Revise k.tenant k.job r ∷ []
+posts_at (Reask k weight) = posts.Reask k.tenant k.job weight ∷ []
 posts_at (Close k) = posts.Close k.tenant k.job ∷ []
 posts_at event = []
 

@@ -13,6 +13,7 @@ use Rattle.spec_script.specs.Script.{ScriptedJob, Scripted, revisions}
 abbrev pub is_loss : written.Event → Bool
 is_loss (of.Open tenant job ask) = false
 is_loss (of.Revise tenant job number) = false
+is_loss (of.Reask tenant job weight) = false
 is_loss (of.Close tenant job) = false
 is_loss (of.Balance volumes) = false
 is_loss (of.Start tenant job index worker) = false

@@ -39,5 +39,10 @@ fn step_post(job: &ScriptJob, step: &Step) -> Result<Post, AllocError>
             job: job.name(),
             revision: revision.copy()?,
         }),
+        Step::Reask(weight) => Ok(Post::Reask {
+            tenant: job.tenant(),
+            job: job.name(),
+            weight: *weight,
+        }),
     }
 }

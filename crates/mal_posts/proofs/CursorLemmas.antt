@@ -6,7 +6,7 @@ use Rattle.std.proofs.lemmas.List.{drop_more, take_all}
 use Rattle.std.proofs.lemmas.Grind.{flat_map-append}
 use Rattle.mal_posts.specs.Dues.{IsNumbered, events_behind, jobs_from, left_in, number_behind, of_tenant, step_event}
 use Rattle.mal_posts.specs.declared.cursor.Left.{Left}
-use Rattle.spec_hall.specs.Events.{Event, Close}
+use Rattle.spec_hall.specs.Events.{Event, Reask, Close}
 use Rattle.spec_hall.specs.Own.{is_text}
 use Rattle.spec_hall.proofs.KeyLemmas.{is_text-Decides}
 use Rattle.spec_job.specs.KeyedJob.{Key}
@@ -54,6 +54,7 @@ place-none tenant js i n jobs so_far past end =
 -- the number of the next revision behind one step more
 few-revisions : (s : Step) → length (revisions_at s) ≤ 1
 few-revisions (steps.Revise r) = omega arith
+few-revisions (steps.Reask w) = omega arith
 
 few-before : (ss : List Step) (n : ℕ) → length (revisions_in (take n ss)) ≤ n
 few-before [] zero = omega arith
@@ -106,6 +107,10 @@ left-first js i = by_job (slice_get js i) refl
 -- the next step of a job
 stepped : (k : Key) (n : ℕ) (s : Step) (ss : List Step) → step_events k n (s ∷ ss) ≡ step_event k n s ∷ step_events k (n + length (revisions_at s)) ss
 stepped k n (steps.Revise r) ss = refl
+stepped k n (steps.Reask w) ss = ap (λ (m : ℕ). Reask k w ∷ step_events k m ss) (plus-none n)
+  where
+    plus-none : (m : ℕ) → m ≡ m + 0
+    plus-none m = omega arith
 
 behind-step : (j : ScriptedJob) (n : ℕ) (s : Step) → slice_get j.steps n ≡ Some s → events_behind n j ≡ step_event (key_of_job j) (number_behind n j) s ∷ events_behind (n + 1) j
 behind-step j n s at =

@@ -77,6 +77,7 @@ poster-is n names e known none = by_test (is_post_line n e) refl
     refuses : (x : written.Event) → is_known names x ≡ true → is_post_line n x ≡ true → ⊥
     refuses (of.Open tenant job ask) k p = named tenant k p
     refuses (of.Revise tenant job number) k p = named tenant k p
+    refuses (of.Reask tenant job weight) k p = named tenant k p
     refuses (of.Close tenant job) k p = named tenant k p
     refuses (of.Balance volumes) k p = cc
     refuses (of.Start tenant job index worker) k p = cc
@@ -140,6 +141,7 @@ stranger s names (x ∷ xs) e = by_known (is_known names x) refl e (stranger s n
     here : (e : written.Event) → is_known names e ≡ false → (n : List ℕ) × (list_any (bytes_eq n) names ≡ false) × (is_post_line n e ≡ true)
     here (of.Open tenant job ask) k = (tenant, k, (is_text-Decides tenant tenant).1 refl)
     here (of.Revise tenant job number) k = (tenant, k, (is_text-Decides tenant tenant).1 refl)
+    here (of.Reask tenant job weight) k = (tenant, k, (is_text-Decides tenant tenant).1 refl)
     here (of.Close tenant job) k = (tenant, k, (is_text-Decides tenant tenant).1 refl)
     here (of.Balance volumes) k = absurd (cc)
     here (of.Start tenant job index worker) k = absurd (cc)

@@ -7,7 +7,7 @@ use Rattle.mal_posts.specs.Course.{Course}
 use Rattle.mal_posts.specs.declared.cursor.Due.{Due}
 use Rattle.mal_posts.specs.declared.cursor.Due.TheVariants.{Opening, Step, Closing}
 use Rattle.mal_posts.specs.declared.cursor.Left.{Left}
-use Rattle.spec_hall.specs.Events.{Event, Open, Revise, Close}
+use Rattle.spec_hall.specs.Events.{Event, Open, Revise, Reask, Close}
 use Rattle.spec_hall.specs.Own.{is_text}
 use Rattle.spec_job.specs.KeyedJob.{Key}
 use Rattle.spec_run.specs.Complete.{job_events, key_of_job, step_events}
@@ -22,6 +22,7 @@ due c = c.openings ++ c.others
 -- the event of a job's step, where the job's next revision has this number
 abbrev pub step_event : Key → ℕ → script.Step → Event
 step_event k number (steps.Revise r) = Revise k number r
+step_event k number (steps.Reask weight) = Reask k weight
 
 -- the event of what is due
 abbrev pub event_of : Due → Event
@@ -38,6 +39,7 @@ job_of (Closing j) = j.now
 -- what is posted of the job by a step
 abbrev pub step_kind : ℕ → script.Step → PostKind
 step_kind number (steps.Revise r) = kinds.Revision number
+step_kind number (steps.Reask weight) = kinds.Reasking weight
 
 -- what is posted of the job by what is due
 abbrev pub kind_of : Due → PostKind

@@ -234,5 +234,6 @@ fn number_after(step: &Step, number: usize) -> usize
 {
     match step {
         Step::Revise(_) => number + 1,
+        Step::Reask(_) => number,
     }
 }

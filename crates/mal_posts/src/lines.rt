@@ -48,5 +48,7 @@ fn is_of_step(kind: PostKind, step: &Step, number: usize) -> bool
     match (step, kind) {
         (Step::Revise(_), PostKind::Revision(own)) => own as usize == number,
         (Step::Revise(_), _) => false,
+        (Step::Reask(weight), PostKind::Reasking(own)) => own == *weight,
+        (Step::Reask(_), _) => false,
     }
 }

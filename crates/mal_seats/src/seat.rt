@@ -3,13 +3,13 @@
 ghost use Rattle.std.specs.Prelude.{◌≡◌, ◌↔◌, ◌+◌, ◌<◌, ◌≤◌, [], ◌∷◌, ◌++◌, true, IfOk, IsTrue, OnOk, OnErr, length};
 ghost use Rattle.mal_base.specs.Asks.{IsAsk};
 ghost use Rattle.mal_job.specs.Finishing.{outcome_of, MayFinish};
-ghost use Rattle.spec_job.specs.{SoloMachine.{Revised, Closed, Finished, Exchanged, is_exchange_due, place_at, startable, clauses_in}, Viewed.{and_own, and_start, IsLeaseOf, IsBack}};
+ghost use Rattle.spec_job.specs.{SoloMachine.{Revised, Reasked, Closed, Finished, Exchanged, is_exchange_due, place_at, startable, clauses_in}, Viewed.{and_own, and_start, IsLeaseOf, IsBack}};
 ghost use Rattle.spec_hall.specs.{Dressed.{keyed}, Own.{is_key}};
 ghost use Rattle.spec_hall.specs.Seats as spec;
 ghost use Rattle.mal_seats.specs.Counted.{is_unfinished, marks_of};
 
 use crate::counts::Marks;
-use mal_base::{Ask, Name};
+use mal_base::{Ask, Name, Weight};
 use mal_history::{Share, Shares};
 use mal_job::Job;
 use mal_revision::Revision;
@@ -145,6 +145,13 @@ impl Seat {
         ensures err { OnErr result (self.new ≡ self.old) }
     {
         self.job.revise(revision)
+    }
+
+    /// Changes the job's ask.
+    pub(crate) fn reask(&mut self, weight: Weight)
+        ensures { self.new ≡ record self.old { job = and_own self.old.job (Reasked weight) } }
+    {
+        self.job.reask(weight);
     }
 
     /// Closes the job.

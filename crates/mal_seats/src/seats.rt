@@ -5,7 +5,7 @@ ghost use Rattle.std.specs.{Fn.{FnOnceReturnsAtMut, FnOnceTakesAtMut}, List.{lis
 ghost use Rattle.mal_job.specs.Finishing.{outcome_of, MayFinish};
 ghost use Rattle.mal_seats.specs.Changed.{OfSeat, IsChanged, IsSteady, HasStepped};
 ghost use Rattle.spec_balance.specs.Fair.{IsFair, volume_at};
-ghost use Rattle.spec_job.specs.{SoloMachine.{Revised, Closed, Finished, Exchanged, startable, clauses_in}, Viewed.{and_own, and_start, IsLeaseOf}};
+ghost use Rattle.spec_job.specs.{SoloMachine.{Revised, Reasked, Closed, Finished, Exchanged, startable, clauses_in}, Viewed.{and_own, and_start, IsLeaseOf}};
 ghost use Rattle.spec_hall.specs.{Dressed.{keyed}, States.{live_asks}};
 ghost use Rattle.spec_hall.specs.Driven as driven;
 ghost use Rattle.spec_hall.specs.Legal as legal;
@@ -17,7 +17,7 @@ use crate::names::Names;
 use crate::scheduler::{Candidate, pick_among};
 use crate::seat::Seat;
 use crate::volumes::{balance, filled_by, shares, volumes};
-use mal_base::{Ask, Name};
+use mal_base::{Ask, Name, Weight};
 use mal_history::Shares;
 use mal_revision::Revision;
 use mal_suspend::{Done, Lease};
@@ -214,6 +214,14 @@ impl Seats {
         ensures err { OnErr result (self.new ≡ self.old) }
     {
         self.change(at, |seat| seat.revise(revision))
+    }
+
+    /// Changes the ask of the job at a place. Takes no memory.
+    pub fn reask(&mut self, at: usize, weight: Weight)
+        requires { at < length self.old }
+        ensures { IsChanged (λ s. record s { job = and_own s.job (Reasked weight) }) at self.old self.new }
+    {
+        self.change(at, |seat| seat.reask(weight));
     }
 
     /// Closes the job at a place. Takes no memory.

@@ -11,12 +11,14 @@ use Rattle.spec_job.specs.Replies.{reply}
 use Rattle.spec_job.specs.SoloMachine.{solo}
 use Rattle.spec_job.specs.KeyedJob.{Key, KeyedJob}
 use Rattle.mal_base.specs.declared.hall_fault.ReviseFault.TheVariants as revising
+use Rattle.mal_base.specs.declared.hall_fault.ReaskFault.TheVariants as reasking
 use Rattle.mal_base.specs.declared.hall_fault.CloseFault.TheVariants as closing
 use Rattle.mal_base.specs.declared.hall_fault.ReplyFault.TheVariants as asking
 use Rattle.mal_base.specs.declared.hall_fault.ReviseFault.{ReviseFault}
+use Rattle.mal_base.specs.declared.hall_fault.ReaskFault.{ReaskFault}
 use Rattle.mal_base.specs.declared.hall_fault.CloseFault.{CloseFault}
 use Rattle.mal_base.specs.declared.hall_fault.ReplyFault.{ReplyFault}
-use Rattle.spec_hall.specs.Calls.{IsAsking, IsClosing, IsOpening, IsRevising}
+use Rattle.spec_hall.specs.Calls.{IsAsking, IsClosing, IsOpening, IsReasking, IsRevising}
 use Rattle.spec_hall.specs.Events.{Event, Open}
 use Rattle.spec_hall.specs.Own.{own, is_key}
 use Rattle.spec_hall.specs.States.{keys_of}
@@ -26,7 +28,7 @@ use Rattle.spec_hall.proofs.RunnableLemmas.{legal-answers_refute, legal-answers_
 use Rattle.spec_hall.proofs.StatesLemmas.{job_of-absent, job_of-found, keys-stay}
 use Rattle.mal_service.specs.Laws.{AgreeingTellEqual, OpenedIsFound, RepliesAreSolo, TellsNoJob, machine}
 use Rattle.mal_service.specs.Passes.{Enters}
-use Rattle.mal_service.specs.Record.{Answered, Opened, Revised, Closed, Asked, Picked, Gave, AreAnsweredFrom, Entry, IsAnswered, Record, entry, events_of}
+use Rattle.mal_service.specs.Record.{Answered, Opened, Revised, Reasked, Closed, Asked, Picked, Gave, AreAnsweredFrom, Entry, IsAnswered, Record, entry, events_of}
 use Rattle.mal_service.proofs.RecordLemmas.{events-append, events-push}
 
 -- a key was opened in a past
@@ -70,6 +72,9 @@ told-unopened : (w : ℕ) (past es : List Event) (k : Key) (c : Answered) → Is
 told-unopened w past es k (Opened j ask a) call tells opened = tells
 told-unopened w past es k (Revised j r a) call tells opened =
     let none = subst (λ (x : Key). IsRevising past x r (Err revising.NoJob) es) tells.0 (subst (λ (b : Result (Unit {0}) ReviseFault). IsRevising past j r b es) tells.1 call) in
+    both_ways (list_any (is_key k) (keys_of past)) (job_of-absent past k none.0) opened
+told-unopened w past es k (Reasked j weight a) call tells opened =
+    let none = subst (λ (x : Key). IsReasking past x weight (Err reasking.NoJob) es) tells.0 (subst (λ (b : Result (Unit {0}) ReaskFault). IsReasking past j weight b es) tells.1 call) in
     both_ways (list_any (is_key k) (keys_of past)) (job_of-absent past k none.0) opened
 told-unopened w past es k (Closed j a) call tells opened =
     let none = subst (λ (x : Key). IsClosing past x (Err closing.NoJob) es) tells.0 (subst (λ (b : Result (Unit {0}) CloseFault). IsClosing past j b es) tells.1 call) in

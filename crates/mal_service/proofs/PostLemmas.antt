@@ -16,14 +16,22 @@ pub post-follows : (P Q : Answered → Type 0) (p : Post) (r : Result (Unit {0})
 post-follows P Q (posts.Open tenant job ask) (Ok done) f h = f _ h
 post-follows P Q (posts.Open tenant job ask) (Err (faults.Open fault)) f h = f _ h
 post-follows P Q (posts.Open tenant job ask) (Err (faults.Revise fault)) f h = h
+post-follows P Q (posts.Open tenant job ask) (Err (faults.Reask fault)) f h = h
 post-follows P Q (posts.Open tenant job ask) (Err (faults.Close fault)) f h = h
 post-follows P Q (posts.Revise tenant job r) (Ok done) f h = f _ h
 post-follows P Q (posts.Revise tenant job r) (Err (faults.Open fault)) f h = h
 post-follows P Q (posts.Revise tenant job r) (Err (faults.Revise fault)) f h = f _ h
+post-follows P Q (posts.Revise tenant job r) (Err (faults.Reask fault)) f h = h
 post-follows P Q (posts.Revise tenant job r) (Err (faults.Close fault)) f h = h
+post-follows P Q (posts.Reask tenant job weight) (Ok done) f h = f _ h
+post-follows P Q (posts.Reask tenant job weight) (Err (faults.Open fault)) f h = h
+post-follows P Q (posts.Reask tenant job weight) (Err (faults.Revise fault)) f h = h
+post-follows P Q (posts.Reask tenant job weight) (Err (faults.Reask fault)) f h = f _ h
+post-follows P Q (posts.Reask tenant job weight) (Err (faults.Close fault)) f h = h
 post-follows P Q (posts.Close tenant job) (Ok done) f h = f _ h
 post-follows P Q (posts.Close tenant job) (Err (faults.Open fault)) f h = h
 post-follows P Q (posts.Close tenant job) (Err (faults.Revise fault)) f h = h
+post-follows P Q (posts.Close tenant job) (Err (faults.Reask fault)) f h = h
 post-follows P Q (posts.Close tenant job) (Err (faults.Close fault)) f h = f _ h
 
 -- and so does what does not speak of the call
@@ -31,14 +39,22 @@ pub post-tells : (P : Answered → Type 0) (X : Type 0) (p : Post) (r : Result (
 post-tells P X (posts.Open tenant job ask) (Ok done) f h = f _ h
 post-tells P X (posts.Open tenant job ask) (Err (faults.Open fault)) f h = f _ h
 post-tells P X (posts.Open tenant job ask) (Err (faults.Revise fault)) f h = absurd h
+post-tells P X (posts.Open tenant job ask) (Err (faults.Reask fault)) f h = absurd h
 post-tells P X (posts.Open tenant job ask) (Err (faults.Close fault)) f h = absurd h
 post-tells P X (posts.Revise tenant job r) (Ok done) f h = f _ h
 post-tells P X (posts.Revise tenant job r) (Err (faults.Open fault)) f h = absurd h
 post-tells P X (posts.Revise tenant job r) (Err (faults.Revise fault)) f h = f _ h
+post-tells P X (posts.Revise tenant job r) (Err (faults.Reask fault)) f h = absurd h
 post-tells P X (posts.Revise tenant job r) (Err (faults.Close fault)) f h = absurd h
+post-tells P X (posts.Reask tenant job weight) (Ok done) f h = f _ h
+post-tells P X (posts.Reask tenant job weight) (Err (faults.Open fault)) f h = absurd h
+post-tells P X (posts.Reask tenant job weight) (Err (faults.Revise fault)) f h = absurd h
+post-tells P X (posts.Reask tenant job weight) (Err (faults.Reask fault)) f h = f _ h
+post-tells P X (posts.Reask tenant job weight) (Err (faults.Close fault)) f h = absurd h
 post-tells P X (posts.Close tenant job) (Ok done) f h = f _ h
 post-tells P X (posts.Close tenant job) (Err (faults.Open fault)) f h = absurd h
 post-tells P X (posts.Close tenant job) (Err (faults.Revise fault)) f h = absurd h
+post-tells P X (posts.Close tenant job) (Err (faults.Reask fault)) f h = absurd h
 post-tells P X (posts.Close tenant job) (Err (faults.Close fault)) f h = f _ h
 
 -- what is noted of a call that was answered so
@@ -55,12 +71,20 @@ pub post_noted : (w : ℕ) (past now : List Event) (p : Post) (r : Result (Unit 
 post_noted w past now (posts.Open tenant job ask) (Ok done) h = noted w past now _ h.events h.grown h.call
 post_noted w past now (posts.Open tenant job ask) (Err (faults.Open fault)) h = noted w past now _ h.events h.grown h.call
 post_noted w past now (posts.Open tenant job ask) (Err (faults.Revise fault)) h = h
+post_noted w past now (posts.Open tenant job ask) (Err (faults.Reask fault)) h = h
 post_noted w past now (posts.Open tenant job ask) (Err (faults.Close fault)) h = h
 post_noted w past now (posts.Revise tenant job r) (Ok done) h = noted w past now _ h.events h.grown h.call
 post_noted w past now (posts.Revise tenant job r) (Err (faults.Open fault)) h = h
 post_noted w past now (posts.Revise tenant job r) (Err (faults.Revise fault)) h = noted w past now _ h.events h.grown h.call
+post_noted w past now (posts.Revise tenant job r) (Err (faults.Reask fault)) h = h
 post_noted w past now (posts.Revise tenant job r) (Err (faults.Close fault)) h = h
+post_noted w past now (posts.Reask tenant job weight) (Ok done) h = noted w past now _ h.events h.grown h.call
+post_noted w past now (posts.Reask tenant job weight) (Err (faults.Open fault)) h = h
+post_noted w past now (posts.Reask tenant job weight) (Err (faults.Revise fault)) h = h
+post_noted w past now (posts.Reask tenant job weight) (Err (faults.Reask fault)) h = noted w past now _ h.events h.grown h.call
+post_noted w past now (posts.Reask tenant job weight) (Err (faults.Close fault)) h = h
 post_noted w past now (posts.Close tenant job) (Ok done) h = noted w past now _ h.events h.grown h.call
 post_noted w past now (posts.Close tenant job) (Err (faults.Open fault)) h = h
 post_noted w past now (posts.Close tenant job) (Err (faults.Revise fault)) h = h
+post_noted w past now (posts.Close tenant job) (Err (faults.Reask fault)) h = h
 post_noted w past now (posts.Close tenant job) (Err (faults.Close fault)) h = noted w past now _ h.events h.grown h.call

@@ -4,13 +4,13 @@ use Rattle.std.proofs.lemmas.Grind.{flat_map-append}
 use Rattle.mal_turn.specs.declared.view.View.{View}
 use Rattle.mal_turn.specs.Rule.{Begins, Has}
 use Rattle.mal_turn.proofs.Wholes.{extends}
-use Rattle.spec_hall.specs.Calls.{Opens, Revises, Closes, Asks, Picks, Finishes}
+use Rattle.spec_hall.specs.Calls.{Opens, Revises, Reasks, Closes, Asks, Picks, Finishes}
 use Rattle.spec_hall.specs.Events.{Event}
 use Rattle.spec_hall.specs.Legal.{Legal}
 use Rattle.spec_hall.proofs.CallLemmas.{call-is_legal}
 use Rattle.mal_service.specs.Laws.{AnswersAreLegal}
 use Rattle.mal_service.specs.Passes.{Enters, HasNoted}
-use Rattle.mal_service.specs.Record.{Answered, Opened, Revised, Closed, Asked, Picked, Gave, AreAnsweredFrom, Entry, IsAnswered, IsLegal, Record, StandsFor, entry, events_of}
+use Rattle.mal_service.specs.Record.{Answered, Opened, Revised, Reasked, Closed, Asked, Picked, Gave, AreAnsweredFrom, Entry, IsAnswered, IsLegal, Record, StandsFor, entry, events_of}
 
 -- the events of a record that goes on
 pub events-append : (a b : Record) → events_of (a ++ b) ≡ events_of a ++ events_of b
@@ -29,6 +29,7 @@ answers-push w past (d ∷ log) n e calls call =
 answered-legal : (w : ℕ) (past : List Event) (c : Answered) (es : List Event) → 1 ≤ w → w ≤ 64 → Legal w past → IsAnswered w past c es → Legal w (past ++ es)
 answered-legal w past (Opened k ask answer) es some bound legal call = call-is_legal w past (Opens k ask) answer es some bound legal call
 answered-legal w past (Revised k r answer) es some bound legal call = call-is_legal w past (Revises k r) answer es some bound legal call
+answered-legal w past (Reasked k weight answer) es some bound legal call = call-is_legal w past (Reasks k weight) answer es some bound legal call
 answered-legal w past (Closed k answer) es some bound legal call = call-is_legal w past (Closes k) answer es some bound legal call
 answered-legal w past (Asked k r answer) es some bound legal call = call-is_legal w past (Asks k r) answer es some bound legal call
 answered-legal w past (Picked worker answer) es some bound legal call = call-is_legal w past (Picks worker) answer es some bound legal call

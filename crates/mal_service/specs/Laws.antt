@@ -10,11 +10,12 @@ use Rattle.spec_job.specs.Replies.{reply}
 use Rattle.spec_job.specs.SoloMachine.{SoloMachine, solo}
 use Rattle.spec_job.specs.KeyedJob.{Key}
 use Rattle.mal_base.specs.declared.hall_fault.ReviseFault.TheVariants as revising
+use Rattle.mal_base.specs.declared.hall_fault.ReaskFault.TheVariants as reasking
 use Rattle.mal_base.specs.declared.hall_fault.CloseFault.TheVariants as closing
 use Rattle.mal_base.specs.declared.hall_fault.ReplyFault.TheVariants as asking
 use Rattle.spec_hall.specs.Events.{Event}
 use Rattle.spec_hall.specs.Own.{own}
-use Rattle.mal_service.specs.Record.{Answered, Opened, Revised, Closed, Asked, Picked, Gave, AreAnsweredFrom, Entry, IsLegal, Record, entry, events_of}
+use Rattle.mal_service.specs.Record.{Answered, Opened, Revised, Reasked, Closed, Asked, Picked, Gave, AreAnsweredFrom, Entry, IsLegal, Record, entry, events_of}
 use Rattle.mal_service.specs.Passes.{Enters}
 
 -- a record of which each answer and its events are those of the hall's call at that point is legal
@@ -25,6 +26,7 @@ AnswersAreLegal = (workers : ℕ) (log : Record) → 1 ≤ workers → workers �
 abbrev pub TellsNoJob : Key → Answered → Type 0
 TellsNoJob k (Opened j ask answer) = ⊥
 TellsNoJob k (Revised j r answer) = (j ≡ k) × (answer ≡ Err revising.NoJob)
+TellsNoJob k (Reasked j weight answer) = (j ≡ k) × (answer ≡ Err reasking.NoJob)
 TellsNoJob k (Closed j answer) = (j ≡ k) × (answer ≡ Err closing.NoJob)
 TellsNoJob k (Asked j r answer) = (j ≡ k) × (answer ≡ Err asking.NoJob)
 TellsNoJob k (Picked worker answer) = ⊥

@@ -7,7 +7,7 @@ use Rattle.std.proofs.lemmas.List.Elements.{filter-append}
 use Rattle.spec_job.specs.SoloMachine.{Own, Opened, Revised, Closed, Volume, Started, Finished, Exchanged, SoloMachine, solo, solo_step, is_live}
 use Rattle.spec_job.specs.KeyedJob.{Key, KeyedJob}
 use Rattle.spec_job.proofs.StepLemmas.{start-keeps, finish-keeps}
-use Rattle.spec_hall.specs.Events.{Event, Open, Revise, Close, Balance, Start, Finish, Exchange}
+use Rattle.spec_hall.specs.Events.{Event, Open, Revise, Reask, Close, Balance, Start, Finish, Exchange}
 use Rattle.spec_hall.specs.Driven.{Turn, Balances, Exchanges, Slices, events_in, is_done, GrowsByTurns, IsDriven}
 use Rattle.spec_hall.specs.Own.{own, own_step, adds, is_key, is_text, volume_in}
 use Rattle.spec_hall.specs.States.{keys_of, keys_step, states, titled, lives, live_of, live_ones, leases}
@@ -23,6 +23,7 @@ use Rattle.spec_script.specs.declared.step.Step.TheVariants as steps
 step-closed : (s : SoloMachine) (o : Own) → s.closed ≡ true → (solo_step s o).closed ≡ true
 step-closed s (Opened ask) e = e
 step-closed s (Revised r) e = (revise-keeps s r).closed ∙ e
+step-closed s (Reasked w) e = e
 step-closed s Closed e = refl
 step-closed s (Volume v) e = e
 step-closed s (Started i) e = (start-keeps s i).closed ∙ e
@@ -43,6 +44,7 @@ volume-closed false os v e = push-closed os (Volume v) e
 event-closed : (k : Key) (os : List Own) (e : Event) → (solo os).closed ≡ true → (solo (own_step k os e)).closed ≡ true
 event-closed k os (Open i ask) h = adds-closed (is_key k i) os (Opened ask) h
 event-closed k os (Revise i n r) h = adds-closed (is_key k i) os (Revised r) h
+event-closed k os (Reask i w) h = adds-closed (is_key k i) os (Reasked w) h
 event-closed k os (Close i) h = adds-closed (is_key k i) os Closed h
 event-closed k os (Balance shares) h = volume-closed _ os (volume_in k shares) h
 event-closed k os (Start i index worker) h = adds-closed (is_key k i) os (Started index) h
@@ -120,6 +122,11 @@ stepped-posts tenant k n (steps.Revise r ∷ ss) = by_test (is_text tenant k.ten
   where
     by_test : (b : Bool) → filter (is_post_of tenant) (step_events k (n + 1) ss) ≡ cond b (step_events k (n + 1) ss) [] → cond b (Revise k n r ∷ filter (is_post_of tenant) (step_events k (n + 1) ss)) (filter (is_post_of tenant) (step_events k (n + 1) ss)) ≡ cond b (Revise k n r ∷ step_events k (n + 1) ss) []
     by_test true e = ap (λ (x : List Event). Revise k n r ∷ x) e
+    by_test false e = e
+stepped-posts tenant k n (steps.Reask w ∷ ss) = by_test (is_text tenant k.tenant) (stepped-posts tenant k n ss)
+  where
+    by_test : (b : Bool) → filter (is_post_of tenant) (step_events k n ss) ≡ cond b (step_events k n ss) [] → cond b (Reask k w ∷ filter (is_post_of tenant) (step_events k n ss)) (filter (is_post_of tenant) (step_events k n ss)) ≡ cond b (Reask k w ∷ step_events k n ss) []
+    by_test true e = ap (λ (x : List Event). Reask k w ∷ x) e
     by_test false e = e
 
 job-posts : (tenant : List ℕ) (j : ScriptedJob) → filter (is_post_of tenant) (job_events j) ≡ cond (is_text tenant j.tenant) (job_events j) []

@@ -16,6 +16,7 @@ opened-home (j ∷ js) out = opened-home js out
 stepped-home : (k : Key) (n : ℕ) (ss : List Step) (out : List LeaseOut) → fold leases_step out (step_events k n ss) ≡ out
 stepped-home k n [] out = refl
 stepped-home k n (steps.Revise r ∷ ss) out = stepped-home k (n + 1) ss out
+stepped-home k n (steps.Reask w ∷ ss) out = stepped-home k n ss out
 
 job-home : (j : ScriptedJob) (out : List LeaseOut) → fold leases_step out (job_events j) ≡ out
 job-home j out =

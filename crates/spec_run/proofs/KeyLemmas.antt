@@ -25,6 +25,7 @@ opened-keys (j ∷ js) keys = opened-keys js (keys ++ key_of_job j ∷ []) ∙ a
 stepped-keys : (k : Key) (n : ℕ) (ss : List Step) (keys : List Key) → fold keys_step keys (step_events k n ss) ≡ keys
 stepped-keys k n [] keys = refl
 stepped-keys k n (steps.Revise r ∷ ss) keys = stepped-keys k (n + 1) ss keys
+stepped-keys k n (steps.Reask w ∷ ss) keys = stepped-keys k n ss keys
 
 job-keys : (j : ScriptedJob) (keys : List Key) → fold keys_step keys (job_events j) ≡ keys
 job-keys j keys = fold-append keys_step keys (step_events (key_of_job j) 1 j.steps) (Close (key_of_job j) ∷ []) ∙ stepped-keys (key_of_job j) 1 j.steps keys

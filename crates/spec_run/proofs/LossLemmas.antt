@@ -32,6 +32,7 @@ opened-lose-none (j ∷ js) = opened-lose-none js
 stepped-lose-none : (k : Key) (n : ℕ) (ss : List Step) → NoneIsLost (step_events k n ss)
 stepped-lose-none k n [] = refl
 stepped-lose-none k n (steps.Revise r ∷ ss) = stepped-lose-none k (n + 1) ss
+stepped-lose-none k n (steps.Reask w ∷ ss) = stepped-lose-none k n ss
 
 pub job-loses-none : (j : ScriptedJob) → NoneIsLost (job_events j)
 job-loses-none j = parts-lose-none (step_events (key_of_job j) 1 j.steps) (Close (key_of_job j) ∷ []) (stepped-lose-none (key_of_job j) 1 j.steps) refl

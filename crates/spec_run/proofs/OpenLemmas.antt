@@ -9,10 +9,10 @@ use Rattle.mal_base.specs.Formulas.{literals_of}
 use Rattle.mal_revision.specs.Posted.{Posted, is_posted}
 use Rattle.spec_job.specs.SoloMachine.{Own, Opened, Revised, Closed, SoloMachine, solo, solo_step, clauses_in, literals_in}
 use Rattle.spec_job.specs.KeyedJob.{Key}
-use Rattle.spec_hall.specs.Events.{Event, Open, Revise, Close}
+use Rattle.spec_hall.specs.Events.{Event, Open, Revise, Reask, Close}
 use Rattle.spec_hall.specs.Own.{own, own_step, is_key}
 use Rattle.spec_hall.specs.States.{keys_of, states, titled}
-use Rattle.spec_hall.specs.Legal.{MayOpen, MayRevise, job_of, jobs_of, tenant_count}
+use Rattle.spec_hall.specs.Legal.{MayOpen, MayRevise, MayReask, job_of, jobs_of, tenant_count}
 use Rattle.spec_hall.proofs.KeyLemmas.{is_key-Decides}
 use Rattle.spec_hall.proofs.PushLemmas.{own-push, solo-push, keys-push}
 use Rattle.spec_hall.proofs.VolumeLemmas.{revise-keeps}
@@ -86,6 +86,8 @@ others-stepped : (k i : Key) (n : ℕ) (ss : List Step) (os : List Own) → is_k
 others-stepped k i n [] os other = refl
 others-stepped k i n (steps.Revise r ∷ ss) os other =
     ap (λ (b : Bool). fold (own_step k) (cond b (os ++ Revised r ∷ []) os) (step_events i (n + 1) ss)) other ∙ others-stepped k i (n + 1) ss os other
+others-stepped k i n (steps.Reask w ∷ ss) os other =
+    ap (λ (b : Bool). fold (own_step k) (cond b (os ++ Reasked w ∷ []) os) (step_events i n ss)) other ∙ others-stepped k i n ss os other
 
 other-posted : (k : Key) (j : ScriptedJob) (os : List Own) → is_key k (key_of_job j) ≡ false → fold (own_step k) os (job_events j) ≡ os
 other-posted k j os other =
@@ -136,6 +138,16 @@ revised-is_open k rs h n r is =
       posted = ap (λ (s : SoloMachine). s.revisions) step ∙ (keeps.revisions ∙ ap (λ (x : List Posted). x ++ r ∷ []) is.posted);
     }
 
+-- an ask that changes
+pub reasked-is_open : (k : Key) (rs : List Posted) (h : List Event) (w : Weighed) → IsOpen k rs h → IsOpen k rs (h ++ Reask k w ∷ [])
+reasked-is_open k rs h w is =
+    let step : solo (own k (h ++ Reask k w ∷ [])) ≡ solo_step (solo (own k h)) (Reasked w) = ap solo (own-push k h (Reask k w) ∙ adds-mine k (own k h) (Reasked w)) ∙ solo-push (own k h) (Reasked w) in
+    record {
+      known = ap (list_any (is_key k)) (keys-push h (Reask k w)) ∙ is.known;
+      unclosed = ap (λ (s : SoloMachine). s.closed) step ∙ is.unclosed;
+      posted = ap (λ (s : SoloMachine). s.revisions) step ∙ is.posted;
+    }
+
 -- the job that is open is found
 pub open-found : (k : Key) (rs : List Posted) (h : List Event) → IsOpen k rs h → job_of k (states h) ≡ Some (titled h k)
 open-found k rs h is = job-found h k is.known
@@ -152,6 +164,10 @@ open-may_revise k rs h n r is formed number few clauses literals = record {
   literal_room = subst (λ (x : List Posted). literals_in x + literals_of r.clauses ≤ 16777216) (sym is.posted) literals;
 }
 
+-- its ask may change
+pub open-may_reask : (k : Key) (rs : List Posted) (h : List Event) (w : Weighed) → IsOpen k rs h → IsWeight w → MayReask h k w (titled h k)
+open-may_reask k rs h w is weighed = record { job = open-found k rs h is; open_still = is.unclosed; weighed = weighed }
+
 -- steps that are posted one by one
 pub revise-more : (k : Key) (n : ℕ) (ss : List Step) (r : Posted) → step_events k n (ss ++ steps.Revise r ∷ []) ≡ step_events k n ss ++ Revise k (n + length (revisions_in ss)) r ∷ []
 revise-more k n [] r = ap (λ (m : ℕ). Revise k m r ∷ []) (plus-zero n)
@@ -162,3 +178,4 @@ revise-more k n (steps.Revise q ∷ ss) r = ap (λ (x : List Event). Revise k n 
   where
     plus-one : (m l : ℕ) → (m + 1) + l ≡ m + suc l
     plus-one m l = omega arith
+revise-more k n (steps.Reask w ∷ ss) r = ap (λ (x : List Event). Reask k w ∷ x) (revise-more k n ss r)

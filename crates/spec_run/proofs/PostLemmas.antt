@@ -6,7 +6,7 @@ use Rattle.std.proofs.lemmas.Bool.{or_parts}
 use Rattle.mal_history.specs.declared.event.Event as written
 use Rattle.mal_history.specs.declared.event.Event.TheVariants as of
 use Rattle.mal_revision.specs.Posted.{Posted}
-use Rattle.spec_hall.specs.Events.{Event, Open, Revise, Close, Balance, Start, Finish, Exchange, bare}
+use Rattle.spec_hall.specs.Events.{Event, Open, Revise, Reask, Close, Balance, Start, Finish, Exchange, bare}
 use Rattle.spec_hall.specs.Dressed.{keyed}
 use Rattle.spec_hall.specs.Own.{is_key, is_text}
 use Rattle.spec_hall.proofs.KeyLemmas.{is_key-same}
@@ -41,6 +41,7 @@ bare-given s (of.Revise tenant job number) e is = by_revision (revision_in s (ke
     by_revision : (o : Option Posted) → option_map (λ r. Revise (keyed tenant job) number r) o ≡ Some e → bare e ≡ of.Revise tenant job number
     by_revision None q = absurd (cc)
     by_revision (Some r) q = as-written (Revise (keyed tenant job) number r) e (of.Revise tenant job number) q refl
+bare-given s (of.Reask tenant job w) e is = as-written (Reask (keyed tenant job) w) e (of.Reask tenant job w) is refl
 bare-given s (of.Close tenant job) e is = as-written (Close (keyed tenant job)) e (of.Close tenant job) is refl
 bare-given s (of.Balance volumes) e is = as-written (Balance volumes) e (of.Balance volumes) is refl
 bare-given s (of.Start tenant job index worker) e is = as-written (Start (keyed tenant job) index worker) e (of.Start tenant job index worker) is refl
@@ -122,6 +123,7 @@ stepped-scripted s j front (steps.Revise r ∷ ss) under is =
 
     rest : AreScripted s (step_events (key_of_job j) (length (front ++ r ∷ []) + 1) ss) → AreScripted s (step_events (key_of_job j) (length front + 1 + 1) ss)
     rest again = subst (λ (n : ℕ). AreScripted s (step_events (key_of_job j) (n + 1) ss)) long again
+stepped-scripted s j front (steps.Reask w ∷ ss) under is = ap (λ (os : List (Option Event)). Some (Reask (key_of_job j) w) ∷ os) (stepped-scripted s j front ss under is)
 
 job-scripted : (s : Scripted) (j : ScriptedJob) → job_under (key_of_job j) s.jobs ≡ Some j → AreScripted s (job_events j)
 job-scripted s j under = scripted-append s (step_events (key_of_job j) 1 j.steps) (Close (key_of_job j) ∷ []) (stepped-scripted s j [] j.steps under refl) refl
@@ -164,6 +166,7 @@ posts-scripted s tenant formed =
 post-bare : (tenant : List ℕ) (e : Event) → is_post_line tenant (bare e) ≡ is_post_of tenant e
 post-bare tenant (Open k ask) = refl
 post-bare tenant (Revise k number r) = refl
+post-bare tenant (Reask k w) = refl
 post-bare tenant (Close k) = refl
 post-bare tenant (Balance shares) = refl
 post-bare tenant (Start k index worker) = refl

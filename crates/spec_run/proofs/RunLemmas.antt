@@ -1,6 +1,6 @@
 -- A run's own history replays to its output.
 use Rattle.std.proofs.Common.{◌≡◌, ℕ, Bool, true, false, cond, List, [], ◌∷◌, map, filter, Option, Some, Ok, Err, refl, sym, ◌∙◌, ap, subst}
-use Rattle.spec_hall.specs.Events.{Event, Open, Revise, Close, Balance, Start, Finish, Exchange, bare}
+use Rattle.spec_hall.specs.Events.{Event, Open, Revise, Reask, Close, Balance, Start, Finish, Exchange, bare}
 use Rattle.spec_hall.proofs.KeyLemmas.{is_text-Decides}
 use Rattle.mal_base.specs.declared.replay_fault.ReplayFault.TheVariants.{OutOfMemory}
 use Rattle.spec_run.specs.ReplayLaws.{RunIsReplied, RunIsReplayed}
@@ -30,6 +30,7 @@ first-scripted s (Revise k number r) es are =
     let mine : AreScripted s (Revise k number r ∷ filter (is_post_of k.tenant) es) =
     subst (λ (b : Bool). AreScripted s (cond b (Revise k number r ∷ filter (is_post_of k.tenant) es) (filter (is_post_of k.tenant) es))) ((is_text-Decides k.tenant k.tenant).1 refl) (are k.tenant) in
     cc
+first-scripted s (Reask k w) es are = refl
 first-scripted s (Close k) es are = refl
 first-scripted s (Balance shares) es are = refl
 first-scripted s (Start k index worker) es are = refl

@@ -29,6 +29,7 @@ revision_in s k number = option_map_or (λ j. numbered number (revisions j)) (jo
 abbrev pub posted_in : Scripted → written.Event → Option Posted
 posted_in s (of.Open tenant job ask) = None
 posted_in s (of.Revise tenant job number) = revision_in s (keyed tenant job) number
+posted_in s (of.Reask tenant job weight) = None
 posted_in s (of.Close tenant job) = None
 posted_in s (of.Balance volumes) = None
 posted_in s (of.Start tenant job index worker) = None

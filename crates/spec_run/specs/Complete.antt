@@ -1,6 +1,6 @@
 use Rattle.std.specs.Prelude.{◌≡◌, ℕ, ◌+◌, Bool, false, List, [], ◌∷◌, ◌++◌, map, filter, flat_map}
 use Rattle.spec_job.specs.KeyedJob.{Key}
-use Rattle.spec_hall.specs.Events.{Event, Open, Revise, Close}
+use Rattle.spec_hall.specs.Events.{Event, Open, Revise, Reask, Close}
 use Rattle.spec_hall.specs.Own.{is_text}
 use Rattle.spec_hall.specs.States.{states, lives, leases}
 use Rattle.spec_script.specs.Script.{ScriptedJob, Scripted}
@@ -11,6 +11,7 @@ use Rattle.spec_script.specs.declared.step.Step.TheVariants as steps
 abbrev pub is_post_of : List ℕ → Event → Bool
 is_post_of tenant (Open k ask) = is_text tenant k.tenant
 is_post_of tenant (Revise k number r) = is_text tenant k.tenant
+is_post_of tenant (Reask k weight) = is_text tenant k.tenant
 is_post_of tenant (Close k) = is_text tenant k.tenant
 is_post_of tenant event = false
 
@@ -22,6 +23,7 @@ key_of_job j = record { tenant = j.tenant; job = j.name }
 abbrev pub step_events : Key → ℕ → List Step → List Event
 step_events k number [] = []
 step_events k number (steps.Revise r ∷ rest) = Revise k number r ∷ step_events k (number + 1) rest
+step_events k number (steps.Reask weight ∷ rest) = Reask k weight ∷ step_events k number rest
 
 -- a job's steps and its closing
 abbrev pub job_events : ScriptedJob → List Event

@@ -1,0 +1,44 @@
+use Rattle.std.proofs.Common.{◌+◌, ◌∷◌, [], Err, refl, sym, arith}
+use Rattle.mal_base.specs.Asks.{IsWeight}
+use Rattle.spec_hall.specs.Calls.{Reasks}
+use Rattle.spec_hall.specs.Dressed.{keyed}
+use Rattle.spec_hall.specs.Events.{Reask}
+use Rattle.spec_hall.specs.Legal.{MayReask}
+use Rattle.mal_base.specs.declared.hall_fault.ReaskFault.TheVariants.{OutOfMemory}
+use Rattle.mal_hall.proofs.HallLemmas.{Grown, placed, placed-below, sits, hall-absent, hall-found, hall-reask, hall-waited, called-none, called-one}
+use Rattle.mal_hall.proofs.Parts.{parts}
+use Rattle.mal_hall.proofs.RoomLemmas.{unclosed-few}
+use Rattle.mal_hall.proofs.hall.Hall.reask_job.Goals as goal
+use Rattle.mal_hall.proofs.hall.Hall.reask_job.Goals.{In-Ok}
+
+pub owed-owed-requires-clause-few : goal.owed-owed-requires-clause-few
+owed-owed-requires-clause-few c = omega (arith, unclosed-few (parts c.self.inside) c.self.invariant)
+
+pub returns-in_default-clause-call : goal.returns-in_default-clause-call
+returns-in_default-clause-call c =
+    rw (← c.self.view_is) (called-none _ _ (Reasks (keyed c.args.tenant.now c.args.job.now) c.args.weight) _ (hall-absent _ _ c.self.invariant (placed c.self.inside.seats (keyed c.args.tenant.now c.args.job.now) _ _ c.place_of.ensures c.in_default.is), refl))
+
+pub at-requires : goal.at-requires
+at-requires c = omega (arith, placed-below c.self.inside.seats (keyed c.args.tenant.now c.args.job.now) _ _ c.place_of.ensures c.in-Some.is)
+
+pub enter_reask-requires-clause-place : goal.enter_reask-requires-clause-place
+enter_reask-requires-clause-place c = omega (arith, placed-below c.self.inside.seats (keyed c.args.tenant.now c.args.job.now) _ _ c.place_of.ensures c.in-Some.is)
+
+pub returns-then-is_closed-clause-call : goal.returns-then-is_closed-clause-call
+returns-then-is_closed-clause-call c =
+    let here = sits c.self.inside.seats (keyed c.args.tenant.now c.args.job.now) _ _ _ c.place_of.ensures c.in-Some.is c.at.ensures in
+    let closed = rw (c.job.ensures, c.if-is_closed.true) at c.is_closed.ensures in
+    rw (← c.self.view_is) (called-none _ _ (Reasks (keyed c.args.tenant.now c.args.job.now) c.args.weight) _ (c.at.result.now.job.titled, (hall-found _ _ _ _ c.self.invariant here).job, sym closed, refl))
+
+pub invariant_of-self : goal.invariant_of-self
+invariant_of-self c = hall-waited (parts c.self.inside) c.enter_reask.new.entries c.enter_reask.new.seats c.self.invariant c.in-Err.ensures.err
+
+pub returns-in-Err-clause-err : goal.returns-in-Err-clause-err
+returns-in-Err-clause-err c = rw (← c.self.view_is, c.in-Err.ensures.err.events) refl
+
+pub returns-in-Err-clause-call : goal.returns-in-Err-clause-call
+returns-in-Err-clause-call c =
+    let here = sits c.self.inside.seats (keyed c.args.tenant.now c.args.job.now) _ _ _ c.place_of.ensures c.in-Some.is c.at.ensures in
+    let still = sym (rw (c.job.ensures, c.if-is_closed.false) at c.is_closed.ensures) in
+    let may : MayReask _ (keyed c.args.tenant.now c.args.job.now) c.args.weight c.at.result.now.job.titled = record { job = (hall-found _ _ _ _ c.self.invariant here).job; open_still = still; weighed = c.args.weight-invariant } in
+    rw (← c.self.view_is, c.in-Err.ensures.err.events) (called-none _ _ (Reasks (keyed c.args.tenant.now c.args.job.now) c.args.weight) (Err OutOfMemory) (c.at.result.now.job.titled, may, refl))
