@@ -1,11 +1,12 @@
 -- A script in form is spelled by the text that it is written as.
-use Rattle.std.proofs.Common.{◌≡◌, ℕ, ◌+◌, ◌<◌, ◌≤◌, ◌^◌, Bool, true, false, cond, ◌==◌, ◌&&◌, List, [], ◌∷◌, ◌++◌, map, length, Option, Some, None, Result, Ok, Err, refl, sym, ap, ap₂, ◌∙◌, ◌⊎◌, inl, inr, subst, arith, append_assoc, append-nil, length-append}
+use Rattle.std.proofs.Common.{◌≡◌, ℕ, ◌+◌, ◌<◌, ◌≤◌, ◌^◌, Bool, true, false, cond, ◌==◌, ◌&&◌, List, [], ◌∷◌, ◌++◌, map, length, nat_le, Option, Some, None, Result, Ok, Err, refl, sym, ap, ap₂, ◌∙◌, ◌⊎◌, inl, inr, subst, arith, append_assoc, append-nil, length-append}
 use Rattle.std.specs.List.{list_all, list_any}
 use Rattle.std.specs.Str.{bytes_eq}
+use Rattle.std.proofs.lemmas.Bool.{leb-true}
 use Rattle.std.proofs.lemmas.Bool.Decides.{nat_tests}
 use Rattle.std.proofs.lemmas.Grind.{flat_map-append}
 use Rattle.std.proofs.lemmas.List.Sums.{sum_by-cons, fold-append}
-use Rattle.mal_base.specs.Asks.{Terms, IsAsk}
+use Rattle.mal_base.specs.Asks.{Terms, IsAsk, Weighed}
 use Rattle.mal_base.specs.Formulas.{Formulated, is_within, is_clause_of, is_within_limits, is_formula, literals_of}
 use Rattle.mal_base.specs.Clauses.{rises}
 use Rattle.mal_base.proofs.Sorting.{and-left, and-right}
@@ -25,10 +26,10 @@ use Rattle.spec_dimacs.proofs.Laws.{written_is_read}
 use Rattle.spec_script.specs.Limits.{Limits}
 use Rattle.spec_script.specs.Script.{ScriptedJob, revisions, revisions_at, revisions_in, rows_of, spelling}
 use Rattle.spec_script.specs.declared.step.Step.{Step}
-use Rattle.spec_script.specs.declared.step.Step.TheVariants.{Revise}
-use Rattle.spec_script.specs.Reading.{OpenJob, Reading, begun, with_revision}
-use Rattle.spec_script.specs.Formed.{with_name, tenants_of, clauses_of, clause_literals, is_step, IsJob, MayFollow, MayAllFollow}
-use Rattle.spec_script.specs.Grammar.{Asks, SayProfile, SaysUpTo, formula_of, Revises, StepAll, Runs, MakeAll}
+use Rattle.spec_script.specs.declared.step.Step.TheVariants.{Revise, Reask}
+use Rattle.spec_script.specs.Reading.{OpenJob, Reading, begun, with_revision, with_weight}
+use Rattle.spec_script.specs.Formed.{with_name, tenants_of, clauses_of, clause_literals, is_up_to, is_weight, is_step, IsJob, MayFollow, MayAllFollow}
+use Rattle.spec_script.specs.Grammar.{Asks, SayProfile, SaysUpTo, formula_of, Weighs, Reasks, Revises, StepAll, Runs, MakeAll}
 use Rattle.spec_script.specs.Laws.{WrittenIsSpelled, WrittenIsRead}
 use Rattle.spec_script.proofs.Assumed.{assumptions-again}
 use Rattle.spec_script.proofs.Words.{room-admits}
@@ -66,7 +67,7 @@ block-again : (r : Posted) → is_formula (formula_in r) ≡ true → formula_of
 unfolding block_read
 block-again r h = leads-read (formula_rows (formula_in r)) (formula_in r) (written-leads (formula_in r) h)
 
--- ---- the revisions of a job
+-- ---- a revision
 
 revises : (limits : Limits) (o : OpenJob) (r : Posted) → is_posted r ≡ true → length (revisions o.job) < limits.revisions → o.clauses + length r.clauses ≤ 1048576 → o.literals + literals_of r.clauses ≤ 16777216 → Revises limits o (lines_of r) (with_revision o (formula_in r) r.assumptions)
 revises limits o r h room few little =
@@ -84,6 +85,25 @@ revises limits o r h room few little =
       fits = record { clauses = few; literals = little };
       revised = refl;
     }
+
+-- ---- a priority and a demand
+
+number-again : (n max : ℕ) → 1 ≤ n → n ≤ max → max < 2 ^ 63 → SaysUpTo max (decimal_word n) n
+number-again n max some low bound =
+    let short : n < 2 ^ 64 = omega arith in
+    ((is_numeral-decimal n short, value_of-decimal n short), some, low)
+
+up_to-again : (n max : ℕ) → is_up_to max n ≡ true → max < 2 ^ 63 → SaysUpTo max (decimal_word n) n
+up_to-again n max h bound = number-again n max (leb-true 1 n (and-left _ _ h)) (leb-true n max (and-right (nat_le 1 n) _ h)) bound
+
+reasks : (o : OpenJob) (w : Weighed) → is_weight w ≡ true → Reasks o (decimal_word w.priority) (decimal_word w.demand) (with_weight o w)
+reasks o w h = record {
+  weight = w;
+  weighs = record { priority_says = up_to-again w.priority 1000 (and-left _ _ h) (omega arith); demand_says = up_to-again w.demand 64 (and-right (is_up_to 1000 w.priority) _ h) (omega arith) };
+  reasked = refl;
+}
+
+-- ---- the steps of a job
 
 -- a job with these steps in place of its own
 abbrev with_steps : ScriptedJob → List Step → ScriptedJob
@@ -109,6 +129,15 @@ step-all limits (Revise r ∷ steps) o h room few little =
       stepped = (next, revises limits o r (and-left _ _ h) (omega arith) (omega arith) (omega arith), rest.stepped);
       job = rest.job ∙ ap (with_steps o.job) (append_assoc o.job.steps (Revise r ∷ []) steps);
     }
+step-all limits (Reask w ∷ steps) o h room few little =
+    let next : OpenJob = with_weight o w in
+    let none : length (revisions next.job) ≡ length (revisions o.job) + 0 = ap length (flat_map-append revisions_at o.job.steps (Reask w ∷ [])) ∙ length-append (revisions o.job) [] in
+    let rest : Ended limits next steps = step-all limits steps next (and-right (is_step (Reask w)) _ h) (omega arith) few little in
+    record {
+      ended = rest.ended;
+      stepped = (next, reasks o w (and-left _ _ h), rest.stepped);
+      job = rest.job ∙ ap (with_steps o.job) (append_assoc o.job.steps (Reask w ∷ []) steps);
+    }
 
 -- ---- the first lines of a job
 
@@ -122,11 +151,6 @@ named-room limits names name few = by_test (list_any (bytes_eq name) names) refl
     by_test : (b : Bool) → list_any (bytes_eq name) names ≡ b → length (cond b names (names ++ name ∷ [])) ≤ limits.tenants → (list_any (bytes_eq name) names ≡ true) ⊎ (length names < limits.tenants)
     by_test true q few = inl q
     by_test false q few = let one : length (names ++ name ∷ []) ≡ length names + 1 = length-append names (name ∷ []) in inr (omega arith)
-
-number-again : (n max : ℕ) → 1 ≤ n → n ≤ max → max < 2 ^ 63 → SaysUpTo max (decimal_word n) n
-number-again n max some low bound =
-    let short : n < 2 ^ 64 = omega arith in
-    ((is_numeral-decimal n short, value_of-decimal n short), some, low)
 
 -- the words of a profile say it
 profile-again : (n : ℕ) → 1 ≤ n → n ≤ 2 → SayProfile (profile_words n) n

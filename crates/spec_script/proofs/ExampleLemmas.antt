@@ -10,13 +10,13 @@ use Rattle.spec_script.proofs.AssumedForms.{read-assumes}
 
 pub examples : HasExamples
 unfolding spelling digits
-examples = record { no_job = refl; one_clause = refl; profile = refl; assumed = refl }
+examples = record { no_job = refl; one_clause = refl; profile = refl; assumed = refl; anew = refl }
 
 pub reading_examples : ReadingExamples
-reading_examples = record { empty = refl; no_revision = refl; of_profile_2 = refl; profile_by_value = refl; of_profile_1 = refl; tautology_keeps_its_number = refl; from_a_tool = refl; repeated_literal = refl; assumptions_in_order = refl; second_job = refl; fewer_variables_later = refl }
+reading_examples = record { empty = refl; no_revision = refl; of_profile_2 = refl; profile_by_value = refl; of_profile_1 = refl; tautology_keeps_its_number = refl; from_a_tool = refl; repeated_literal = refl; assumptions_in_order = refl; second_job = refl; fewer_variables_later = refl; asked_anew = refl; asked_first = refl }
 
 pub fault_examples : FaultExamples
-fault_examples = record { end_alone = refl; compressed = refl; no_tenant = refl; priority_zero = refl; word_before_range = refl; profile_zero = refl; profile_three = refl; profile_is_no_number = refl; profile_word_before_range = refl; two_profiles = refl; job_not_ended = refl; variable_too_large = refl; block_cut_short = refl; block_not_whole = refl; block_not_ended = refl; opposite = refl; above_the_variables = refl; duplicate = refl }
+fault_examples = record { end_alone = refl; compressed = refl; no_tenant = refl; priority_zero = refl; word_before_range = refl; profile_zero = refl; profile_three = refl; profile_is_no_number = refl; profile_word_before_range = refl; two_profiles = refl; job_not_ended = refl; variable_too_large = refl; block_cut_short = refl; block_not_whole = refl; block_not_ended = refl; opposite = refl; above_the_variables = refl; duplicate = refl; new_priority_zero = refl; new_demand_too_large = refl; new_demand_missing = refl; three_new_numbers = refl; new_priority_is_no_number = refl; new_word_before_range = refl; asked_outside_a_job = refl; asked_in_a_block = refl }
 
 pub limit_examples : LimitExamples
 limit_examples = record { third_tenant = refl; second_job_of_tenant = refl; second_job = refl; second_revision = refl }

@@ -2,10 +2,11 @@
 use Rattle.std.proofs.Common.{◌≡◌, ℕ, ◌+◌, ◌<◌, ◌≤◌, Bool, true, false, cond, ◌&&◌, List, [], ◌∷◌, ◌++◌, length, codes, Option, Some, None, Ok, refl, sym, ap, ap₂, ◌∙◌, ◌⊎◌, inl, inr, subst, arith, length-append, append-nil, append_assoc}
 use Rattle.std.specs.List.{AllByRecursion, list_all, list_any}
 use Rattle.std.specs.Str.{bytes_eq}
+use Rattle.std.proofs.lemmas.Bool.{le-leb}
 use Rattle.std.proofs.lemmas.List.Folds.{list_all-append}
 use Rattle.std.proofs.lemmas.List.Sums.{sum_by_push}
 use Rattle.std.proofs.lemmas.Grind.{flat_map-append}
-use Rattle.mal_base.specs.Asks.{Terms, IsAsk}
+use Rattle.mal_base.specs.Asks.{Terms, IsAsk, Weighed}
 use Rattle.mal_base.specs.Formulas.{Formulated, is_formula, is_within, literals_of}
 use Rattle.mal_base.specs.Clauses.{rises}
 use Rattle.mal_base.specs.Names.{is_name}
@@ -16,10 +17,10 @@ use Rattle.spec_dimacs.specs.Reading.{◌>>=◌, opened, after_rows, ended}
 use Rattle.spec_dimacs.proofs.Led.{led_formula}
 use Rattle.spec_script.specs.Limits.{Limits}
 use Rattle.spec_script.specs.Script.{ScriptedJob, revisions, revisions_at, revisions_in}
-use Rattle.spec_script.specs.declared.step.Step.TheVariants.{Revise}
-use Rattle.spec_script.specs.Reading.{OpenJob, Reading, unread, named, is_job, has_room, begun, with_revision}
-use Rattle.spec_script.specs.Formed.{with_name, tenants_of, clauses_of, clause_literals, is_step, IsJob, MayFollow, MayAllFollow}
-use Rattle.spec_script.specs.Grammar.{StepLines, Revision, JobLines, Part, Tenant, Job, Asks, HasRoomFor, Names, is_inside, formula_of, StepAll, Runs, MakeAll}
+use Rattle.spec_script.specs.declared.step.Step.TheVariants.{Revise, Reask}
+use Rattle.spec_script.specs.Reading.{OpenJob, Reading, unread, named, is_job, has_room, begun, with_revision, with_weight}
+use Rattle.spec_script.specs.Formed.{with_name, tenants_of, clauses_of, clause_literals, is_up_to, is_weight, is_step, IsJob, MayFollow, MayAllFollow}
+use Rattle.spec_script.specs.Grammar.{StepLines, Revision, Weight, JobLines, Part, Tenant, Job, Asks, Weighs, SaysUpTo, HasRoomFor, Names, is_inside, formula_of, StepAll, Runs, MakeAll}
 use Rattle.spec_script.specs.Laws.{SpelledIsScript, SpelledAgain}
 use Rattle.spec_script.proofs.Inversions.{bind_ok}
 use Rattle.spec_script.proofs.Words.{admits-room, profile-read}
@@ -78,6 +79,29 @@ fits-more limits tenant name ask o f lits is room form low = record {
   few_literals = low.literals;
 }
 
+-- the revisions of a job with a change of its ask behind its steps
+with-none : (j : ScriptedJob) (w : Weighed) → revisions_in (j.steps ++ Reask w ∷ []) ≡ revisions j
+with-none j w = flat_map-append revisions_at j.steps (Reask w ∷ []) ∙ append-nil (revisions j)
+
+says-up_to : (max : ℕ) (word : List ℕ) (n : ℕ) → SaysUpTo max word n → is_up_to max n ≡ true
+says-up_to max word n is = and-both _ _ (le-leb 1 n is.1) (le-leb n max is.2)
+
+weight-formed : (p d : List ℕ) (w : Weighed) → Weighs p d w → is_weight w ≡ true
+weight-formed p d w is = and-both _ _ (says-up_to 1000 p w.priority is.priority_says) (says-up_to 64 d w.demand is.demand_says)
+
+fits-weight : (limits : Limits) (tenant name : List ℕ) (ask : Terms) (o : OpenJob) (w : Weighed) → Fits limits tenant name ask o → is_weight w ≡ true → Fits limits tenant name ask (with_weight o w)
+fits-weight limits tenant name ask o w is form = record {
+  tenant_is = is.tenant_is;
+  name_is = is.name_is;
+  ask_is = is.ask_is;
+  few = subst (λ (rs : List Posted). length rs ≤ limits.revisions) (sym (with-none o.job w)) is.few;
+  formed = list_all-append is_step o.job.steps (Reask w ∷ []) ∙ and-both _ _ is.formed (and-both _ _ form refl);
+  clauses = is.clauses ∙ sym (ap clauses_of (with-none o.job w));
+  literals = is.literals ∙ sym (ap clause_literals (with-none o.job w));
+  few_clauses = is.few_clauses;
+  few_literals = is.few_literals;
+}
+
 all-fit : (limits : Limits) (tenant name : List ℕ) (ask : Terms) (steps : List StepLines) (o after : OpenJob) → Fits limits tenant name ask o → StepAll limits o steps after → Fits limits tenant name ask after
 all-fit limits tenant name ask [] o after is same = subst (Fits limits tenant name ask) same is
 all-fit limits tenant name ask (Revision r ∷ steps) o after is (next, one, others) =
@@ -85,6 +109,9 @@ all-fit limits tenant name ask (Revision r ∷ steps) o after is (next, one, oth
     let revision : is_posted (posted one.formula one.assumptions) ≡ true = revision-formed one.formula one.assumptions form (assumed-formed one.formula.variables r.assumed one.assumptions one.assumed) in
     let more : Fits limits tenant name ask (with_revision o one.formula one.assumptions) = fits-more limits tenant name ask o one.formula one.assumptions is one.room revision one.fits in
     all-fit limits tenant name ask steps next after (subst (Fits limits tenant name ask) (sym one.revised) more) others
+all-fit limits tenant name ask (Weight p d ∷ steps) o after is (next, one, others) =
+    let more : Fits limits tenant name ask (with_weight o one.weight) = fits-weight limits tenant name ask o one.weight is (weight-formed p d one.weight one.weighs) in
+    all-fit limits tenant name ask steps next after (subst (Fits limits tenant name ask) (sym one.reasked) more) others
 
 -- ---- the ask of a job
 

@@ -17,11 +17,11 @@ use Rattle.mal_base.specs.declared.line_fault.LineFault.TheVariants.{BadLine, Li
 use Rattle.spec_script.specs.Limits.{Limits}
 use Rattle.spec_script.specs.Assumptions.{assumptions_in}
 use Rattle.spec_script.specs.Script.{Scripted, revisions}
-use Rattle.spec_script.specs.Reading.{Reading, OpenJob, in_block, named, asked, profile_in, admitted, going_on, begun, with_block, with_job, with_revision, revised, after_header, after_assumptions, inside_block, inside_job, inside, outside, after_tenant, of_tenant, after_job, after_end, after_counted, after_row, unended, at_end}
-use Rattle.spec_script.specs.Grammar.{StepLines, Revision, Part, Tenant, Job, step_lines, job_lines, part_lines, is_inside, StepAll, MakeAll}
+use Rattle.spec_script.specs.Reading.{Reading, OpenJob, in_block, named, asked, profile_in, admitted, going_on, begun, with_block, with_job, with_revision, with_weight, weighed, revised, after_header, after_weight, after_assumptions, inside_block, inside_job, inside, outside, after_tenant, of_tenant, after_job, after_end, after_counted, after_row, unended, at_end}
+use Rattle.spec_script.specs.Grammar.{StepLines, Revision, Weight, Part, Tenant, Job, step_lines, job_lines, part_lines, is_inside, StepAll, MakeAll}
 use Rattle.spec_script.proofs.Inversions.{bind_ok, in_block_ok, chosen, passed, same_bytes, ok_is, named_opened, admitted_is, revised_is}
 use Rattle.spec_script.proofs.AssumedForms.{read-assumes}
-use Rattle.spec_script.proofs.Words.{read-admits, read-asks, read-names, read-room}
+use Rattle.spec_script.proofs.Words.{read-admits, read-asks, read-names, read-room, read-weighs}
 
 -- the lines that are left are those of parts, which make these jobs
 pub record Outside (limits : Limits) (rows : List (List (List ℕ))) (s : Reading) (r : Scripted) : Type 0 where
@@ -140,21 +140,45 @@ header-parsed limits others rows s t o r e rest =
       outside = left.job.outside;
     }
 
+weight-parsed : (limits : Limits) (others : List (List ℕ)) (rows : List (List (List ℕ))) (s t : Reading) (o : OpenJob) (r : Scripted) → (after_weight others o >>= λ after. Ok (going_on s after)) ≡ Ok t → Parsed limits rows t t.opened r → InJob limits ((codes "q" ∷ others) ∷ rows) s o r
+weight-parsed limits [] rows s t o r e rest = absurd (cc)
+weight-parsed limits (p ∷ []) rows s t o r e rest = absurd (cc)
+weight-parsed limits (p ∷ d ∷ word ∷ words) rows s t o r e rest = absurd (cc)
+weight-parsed limits (p ∷ d ∷ []) rows s t o r e rest =
+    let a = bind_ok (after_weight (p ∷ d ∷ []) o) (λ after. Ok (going_on s after)) t e in
+    let c = bind_ok (weighed (number_in p 1000) (number_in d 64)) (λ w. Ok (with_weight o w)) a.0 a.1 in
+    let is : going_on s (with_weight o c.0) ≡ t = ap (λ (x : OpenJob). going_on s x) (ok_is (with_weight o c.0) a.0 c.2) ∙ ok_is (going_on s a.0) t a.2 in
+    let left : InJob limits rows (going_on s (with_weight o c.0)) (with_weight o c.0) r = subst (λ (x : Reading). Parsed limits rows x x.opened r) (sym is) rest in
+    record {
+      steps = Weight p d ∷ left.steps;
+      ended = left.ended;
+      rest = left.rest;
+      lines = ap (λ (x : List (List (List ℕ))). (codes "q" ∷ p ∷ d ∷ []) ∷ x) left.lines;
+      stepped = (with_weight o c.0, record { weight = c.0; weighs = read-weighs p d c.0 c.1; reasked = refl }, left.stepped);
+      outside = left.outside;
+    }
+
 end-of-job : (limits : Limits) (others : List (List ℕ)) (rows : List (List (List ℕ))) (s t : Reading) (o : OpenJob) (r : Scripted) → after_end others o s ≡ Ok t → Parsed limits rows t t.opened r → InJob limits ((codes "e" ∷ others) ∷ rows) s o r
 end-of-job limits (word ∷ words) rows s t o r e rest = absurd (cc)
 end-of-job limits [] rows s t o r e rest =
     let is : with_job s o.job ≡ t = ok_is (with_job s o.job) t e in
     record { steps = []; ended = o; rest = rows; lines = refl; stepped = refl; outside = subst (λ (x : Reading). Parsed limits rows x x.opened r) (sym is) rest }
 
+without-header : (limits : Limits) (first : List ℕ) (others : List (List ℕ)) (rows : List (List (List ℕ))) (s t : Reading) (o : OpenJob) (r : Scripted) → cond (bytes_eq first (codes "q")) (after_weight others o >>= (λ after. Ok (going_on s after))) (cond (bytes_eq first (codes "e")) (after_end others o s) (Err BadLine)) ≡ Ok t → Parsed limits rows t t.opened r → InJob limits ((first ∷ others) ∷ rows) s o r
+without-header limits first others rows s t o r e rest = elim (chosen (bytes_eq first (codes "q")) (after_weight others o >>= (λ after. Ok (going_on s after))) (cond (bytes_eq first (codes "e")) (after_end others o s) (Err BadLine)) (Ok t) e) [
+  | inl h ↦ subst (λ (x : List ℕ). InJob limits ((x ∷ others) ∷ rows) s o r) (sym (same_bytes first (codes "q") h.0)) (weight-parsed limits others rows s t o r h.1 rest)
+  | inr h ↦
+      let k = passed (bytes_eq first (codes "e")) (after_end others o s) BadLine t h.1 in
+      subst (λ (x : List ℕ). InJob limits ((x ∷ others) ∷ rows) s o r) (sym (same_bytes first (codes "e") k.0)) (end-of-job limits others rows s t o r k.1 rest)
+]
+
 job-goes-on : (limits : Limits) (first : List ℕ) (others : List (List ℕ)) (rows : List (List (List ℕ))) (s t : Reading) (o : OpenJob) (r : Scripted) → inside_job limits first others o s ≡ Ok t → Parsed limits rows t t.opened r → InJob limits ((first ∷ others) ∷ rows) s o r
-job-goes-on limits first others rows s t o r e rest = elim (chosen (bytes_eq first (codes "p")) (after_header limits (first ∷ others) o >>= (λ after. Ok (going_on s after))) (cond (bytes_eq first (codes "e")) (after_end others o s) (Err BadLine)) (Ok t) e) [
+job-goes-on limits first others rows s t o r e rest = elim (chosen (bytes_eq first (codes "p")) (after_header limits (first ∷ others) o >>= (λ after. Ok (going_on s after))) (cond (bytes_eq first (codes "q")) (after_weight others o >>= (λ after. Ok (going_on s after))) (cond (bytes_eq first (codes "e")) (after_end others o s) (Err BadLine))) (Ok t) e) [
   | inl h ↦
       let same : first ≡ codes "p" = same_bytes first (codes "p") h.0 in
       let k : (after_header limits (codes "p" ∷ others) o >>= λ after. Ok (going_on s after)) ≡ Ok t = subst (λ (x : List ℕ). (after_header limits (x ∷ others) o >>= λ after. Ok (going_on s after)) ≡ Ok t) same h.1 in
       subst (λ (x : List ℕ). InJob limits ((x ∷ others) ∷ rows) s o r) (sym same) (header-parsed limits others rows s t o r k rest)
-  | inr h ↦
-      let k = passed (bytes_eq first (codes "e")) (after_end others o s) BadLine t h.1 in
-      subst (λ (x : List ℕ). InJob limits ((x ∷ others) ∷ rows) s o r) (sym (same_bytes first (codes "e") k.0)) (end-of-job limits others rows s t o r k.1 rest)
+  | inr h ↦ without-header limits first others rows s t o r h.1 rest
 ]
 
 -- ---- in a block

@@ -3,7 +3,7 @@ use Rattle.std.proofs.Common.{◌≡◌, ℕ, ◌<◌, suc, max, Bool, true, fal
 use Rattle.std.specs.Str.{bytes_eq}
 use Rattle.std.specs.List.{list_all}
 use Rattle.std.proofs.lemmas.Bool.{lt-ltb}
-use Rattle.mal_base.specs.Asks.{Terms}
+use Rattle.mal_base.specs.Asks.{Terms, Weighed}
 use Rattle.mal_base.specs.Formulas.{Formulated}
 use Rattle.mal_base.specs.Names.{is_name}
 use Rattle.mal_base.specs.declared.limit_kind.LimitKind.TheVariants.{Revisions}
@@ -18,12 +18,12 @@ use Rattle.mal_base.specs.declared.line_fault.LineFault.TheVariants.{BadLine, Li
 use Rattle.spec_script.specs.Limits.{Limits}
 use Rattle.spec_script.specs.Assumptions.{assumptions_in}
 use Rattle.spec_script.specs.Script.{ScriptedJob, Scripted, revisions}
-use Rattle.spec_script.specs.Reading.{Reading, OpenJob, unread, in_block, named, asked, profile_in, admitted, going_on, begun, with_block, with_job, revised, after_assumptions, inside_block, inside, of_tenant, after_counted, after_row, at_end, on_line, read_rows, read_text}
-use Rattle.spec_script.specs.Grammar.{RevisionLines, StepLines, Revision, JobLines, Part, Tenant, Job, revision_lines, step_lines, job_lines, part_lines, is_inside, Revises, Steps, StepAll, Runs, MakeAll, Spells}
+use Rattle.spec_script.specs.Reading.{Reading, OpenJob, unread, in_block, named, asked, profile_in, admitted, going_on, begun, with_block, with_job, revised, after_assumptions, inside_block, inside, with_weight, weighed, of_tenant, after_counted, after_row, at_end, on_line, read_rows, read_text}
+use Rattle.spec_script.specs.Grammar.{RevisionLines, StepLines, Revision, Weight, JobLines, Part, Tenant, Job, revision_lines, step_lines, job_lines, part_lines, is_inside, Revises, Reasks, Steps, StepAll, Runs, MakeAll, Spells}
 use Rattle.spec_script.specs.Laws.{SpelledIsRead}
 use Rattle.spec_script.proofs.Inversions.{bind_ok, on_line_ok, ok_is}
 use Rattle.spec_script.proofs.Assumed.{assumes-read}
-use Rattle.spec_script.proofs.Words.{admits-read, asks-read, names-read, room-read}
+use Rattle.spec_script.proofs.Words.{admits-read, asks-read, names-read, room-read, weighs-read}
 use Rattle.spec_script.proofs.Parsing.{run, counted, parsed, Outside, not_true}
 
 -- ---- lines and their numbers
@@ -113,10 +113,18 @@ run-revision limits r rest s o next none is =
     ∙ run-body limits r.body ((codes "a" ∷ r.assumed) ∷ rest) s o a.0 c.0 is.inside c.1
     ∙ ap (λ (x : Result Reading LineFault). x >>= run limits rest) (run-assumed limits r.assumed s o next c.0 is.formula is.assumptions c.2 (assumes-read is.formula.variables r.assumed is.assumptions is.assumed) (room-read o is.formula is.assumptions is.fits ∙ ap (λ (x : OpenJob). Ok x) (sym is.revised)))
 
+-- the line of a priority and a demand
+run-weight : (limits : Limits) (p d : List ℕ) (s : Reading) (o next : OpenJob) → o.block ≡ None → Reasks o p d next → after_row limits (codes "q" ∷ p ∷ d ∷ []) (going_on s o) ≡ Ok (going_on s next)
+run-weight limits p d s o next none is =
+    ap (λ (x : Option Block). inside limits (codes "q") (p ∷ d ∷ []) o x (going_on s o)) none
+    ∙ ap (λ (x : Result Weighed LineFault). (x >>= λ w. Ok (with_weight o w)) >>= λ after. Ok (going_on s after)) (weighs-read p d is.weight is.weighs)
+    ∙ ap (λ (x : OpenJob). Ok (going_on s x)) (sym is.reasked)
+
 -- a step, behind which no block has begun
 run-step : (limits : Limits) (step : StepLines) (rest : List (List (List ℕ))) (s : Reading) (o next : OpenJob) → o.block ≡ None → Steps limits o step next
     → (run limits (step_lines step ++ rest) (going_on s o) ≡ run limits rest (going_on s next)) × (next.block ≡ None)
 run-step limits (Revision r) rest s o next none is = (run-revision limits r rest s o next none is, ap (λ (x : OpenJob). x.block) is.revised)
+run-step limits (Weight p d) rest s o next none is = (ap (λ (x : Result Reading LineFault). x >>= run limits rest) (run-weight limits p d s o next none is), ap (λ (x : OpenJob). x.block) is.reasked)
 
 run-steps : (limits : Limits) (steps : List StepLines) (rest : List (List (List ℕ))) (s : Reading) (o ended : OpenJob) → o.block ≡ None → StepAll limits o steps ended
     → run limits (job_lines steps ++ rest) (going_on s o) ≡ run limits rest (with_job s ended.job)

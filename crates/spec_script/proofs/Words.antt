@@ -5,7 +5,7 @@ use Rattle.std.specs.List.{list_any}
 use Rattle.std.specs.Str.{bytes_eq}
 use Rattle.std.proofs.lemmas.Bool.{lt-ltb, le-ltb, le-leb, leb-true, ltb-true, ltb-false}
 use Rattle.std.proofs.lemmas.Bool.Decides.{nat_tests}
-use Rattle.mal_base.specs.Asks.{Terms}
+use Rattle.mal_base.specs.Asks.{Terms, Weighed}
 use Rattle.mal_base.specs.Formulas.{Formulated, literals_of}
 use Rattle.mal_base.specs.Names.{is_name}
 use Rattle.mal_base.specs.declared.limit_kind.LimitKind.TheVariants.{Clauses, Literals, Tenants, Jobs}
@@ -19,9 +19,9 @@ use Rattle.spec_dimacs.specs.Reading.{◌>>=◌}
 use Rattle.spec_dimacs.proofs.Numbers.{same_number}
 use Rattle.spec_script.specs.Limits.{Limits}
 use Rattle.spec_script.specs.Script.{ScriptedJob}
-use Rattle.spec_script.specs.Reading.{OpenJob, Reading, after_tenant, named, is_number, ranged, in_range, asked, profile_in, is_of, is_job, has_room, begun, going_on, admitted, with_revision, revised}
-use Rattle.spec_script.specs.Grammar.{SaysUpTo, SayProfile, Asks, Names, Admits, HasRoomFor}
-use Rattle.spec_script.specs.Laws.{AskIsRead, TenantIsRead, JobIsAdmitted, RevisionIsRead}
+use Rattle.spec_script.specs.Reading.{OpenJob, Reading, after_tenant, named, is_number, ranged, in_range, asked, profile_in, is_of, is_job, has_room, begun, going_on, admitted, with_revision, revised, weight_in_range, weighed}
+use Rattle.spec_script.specs.Grammar.{SaysUpTo, SayProfile, Asks, Weighs, Names, Admits, HasRoomFor}
+use Rattle.spec_script.specs.Laws.{AskIsRead, TenantIsRead, JobIsAdmitted, RevisionIsRead, WeightIsRead}
 use Rattle.spec_script.proofs.Inversions.{bind_ok, passed, not_refused, ok_is, admitted_is, revised_is}
 
 -- ---- numbers
@@ -138,6 +138,30 @@ read-asks p d k q ask e =
 
 pub ask_is_read : AskIsRead
 ask_is_read p d k q ask = (asks-read p d k q ask, read-asks p d k q ask)
+
+-- ---- a priority and a demand
+
+abbrev weight_of : ℕ → ℕ → Weighed
+weight_of p d = record { priority = p; demand = d }
+
+pub weighs-read : (p d : List ℕ) (w : Weighed) → Weighs p d w → weighed (number_in p 1000) (number_in d 64) ≡ Ok w
+weighs-read p d w is =
+    let x = is.priority_says in
+    let y = is.demand_says in
+    ap (λ (a : NumberWord). weighed a (number_in d 64)) (says-number p 1000 w.priority x.0 x.2)
+    ∙ ap (λ (a : NumberWord). weighed (Number (pos w.priority)) a) (says-number d 64 w.demand y.0 y.2)
+    ∙ ap (λ (r : Result ℕ LineFault). r >>= λ priority. ranged 64 (Number (pos w.demand)) >>= λ demand. Ok (weight_of priority demand)) (ranged-again w.priority 1000 x.1 x.2)
+    ∙ ap (λ (r : Result ℕ LineFault). r >>= λ demand. Ok (weight_of w.priority demand)) (ranged-again w.demand 64 y.1 y.2)
+
+pub read-weighs : (p d : List ℕ) (w : Weighed) → weighed (number_in p 1000) (number_in d 64) ≡ Ok w → Weighs p d w
+read-weighs p d w e =
+    let h = passed (is_number (number_in p 1000) && is_number (number_in d 64)) (weight_in_range (number_in p 1000) (number_in d 64)) BadLine w e in
+    let a = bind_ok (ranged 1000 (number_in p 1000)) (λ priority. ranged 64 (number_in d 64) >>= λ demand. Ok (weight_of priority demand)) w h.1 in
+    let b = bind_ok (ranged 64 (number_in d 64)) (λ demand. Ok (weight_of a.0 demand)) w a.2 in
+    subst (Weighs p d) (ok_is (weight_of a.0 b.0) w b.2) (record { priority_says = ranged-says p 1000 a.0 a.1; demand_says = ranged-says d 64 b.0 b.1 })
+
+pub weight_is_read : WeightIsRead
+weight_is_read p d w = (weighs-read p d w, read-weighs p d w)
 
 -- ---- the name of a tenant
 

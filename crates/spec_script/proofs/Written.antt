@@ -2,6 +2,7 @@
 use Rattle.std.proofs.Common.{◌≡◌, ℕ, ◌≤◌, true, false, not, List, [], ◌∷◌, ◌++◌, map, flat_map, length, codes, Option, refl, sym, ap, ap₂, ◌∙◌, subst, arith}
 use Rattle.std.specs.List.{list_all, AllByRecursion}
 use Rattle.std.proofs.lemmas.Bool.{leb-true}
+use Rattle.mal_base.specs.Asks.{Weighed}
 use Rattle.mal_base.specs.Formulas.{is_within, is_clause_of, is_within_limits, is_formula}
 use Rattle.mal_base.specs.Names.{is_name}
 use Rattle.mal_base.proofs.Sorting.{and-left, and-right, and-both}
@@ -17,11 +18,11 @@ use Rattle.spec_dimacs.proofs.Numbers.{number-not_word}
 use Rattle.spec_dimacs.proofs.Behind.{counted_of, keeps_row}
 use Rattle.spec_dimacs.proofs.Again.{rows_again, clause_lits, words-lits, lits_within, closed_row, header_row, closed_counts, literal_again}
 use Rattle.spec_script.specs.Limits.{Limits}
-use Rattle.spec_script.specs.Script.{ScriptedJob, revision_rows, step_rows, tenant_words, job_words, job_rows}
+use Rattle.spec_script.specs.Script.{ScriptedJob, revision_rows, step_rows, weight_words, tenant_words, job_words, job_rows}
 use Rattle.spec_script.specs.declared.step.Step.{Step}
-use Rattle.spec_script.specs.declared.step.Step.TheVariants.{Revise}
+use Rattle.spec_script.specs.declared.step.Step.TheVariants.{Revise, Reask}
 use Rattle.spec_script.specs.Formed.{is_step, IsJob, MayAllFollow}
-use Rattle.spec_script.specs.Grammar.{RevisionLines, StepLines, Revision, JobLines, Part, Tenant, Job, step_lines, part_lines, is_inside}
+use Rattle.spec_script.specs.Grammar.{RevisionLines, StepLines, Revision, Weight, JobLines, Part, Tenant, Job, step_lines, part_lines, is_inside}
 
 -- a line that can be written, and that counts
 abbrev pub Stands : List (List ℕ) → Type 0
@@ -70,8 +71,12 @@ revision-stands r h =
           (((omega arith, ((omega arith, (omega arith, tt)), words.1)), refl), tt),
     )
 
+weight-stands : (w : Weighed) → Stands (weight_words w)
+weight-stands w = ((omega arith, ((omega arith, (omega arith, tt)), (decimals_are_clean w.priority, (decimals_are_clean w.demand, tt)))), refl)
+
 step-stands : (step : Step) → is_step step ≡ true → AllByRecursion Stands (step_rows step)
 step-stands (Revise r) h = revision-stands r h
+step-stands (Reask w) h = (weight-stands w, tt)
 
 steps-stand : (steps : List Step) → list_all is_step steps ≡ true → AllByRecursion Stands (flat_map step_rows steps)
 steps-stand [] h = tt
@@ -102,6 +107,7 @@ lines_of r = record { header = codes "cnf" ∷ decimal_word r.variables ∷ deci
 
 abbrev pub step_lines_of : Step → StepLines
 step_lines_of (Revise r) = Revision (lines_of r)
+step_lines_of (Reask w) = Weight (decimal_word w.priority) (decimal_word w.demand)
 
 abbrev pub job_lines_of : ScriptedJob → JobLines
 job_lines_of j = record { name = j.name; priority = decimal_word j.ask.priority; demand = decimal_word j.ask.demand; slices = decimal_word j.ask.slices; profile = profile_words j.ask.profile; steps = map step_lines_of j.steps }
@@ -112,6 +118,7 @@ parts_of (j ∷ js) = Tenant j.tenant ∷ Job (job_lines_of j) ∷ parts_of js
 
 step-lines : (step : Step) → step_lines (step_lines_of step) ≡ step_rows step
 step-lines (Revise r) = refl
+step-lines (Reask w) = refl
 
 steps-lines : (steps : List Step) → flat_map step_lines (map step_lines_of steps) ≡ flat_map step_rows steps
 steps-lines [] = refl

@@ -3,7 +3,7 @@ use Rattle.std.specs.Prelude.{◌≡◌, ◌≢◌, [], ◌∷◌, codes}
 use Rattle.spec_script.specs.Limits.{Limits}
 use Rattle.spec_script.specs.Script.{Scripted, spelling}
 use Rattle.spec_script.specs.Formed.{IsScript}
-use Rattle.spec_script.specs.Examples.{job_named, job_with, second_profile}
+use Rattle.spec_script.specs.Examples.{asks_anew, asks_first, job_named, job_with, second_profile}
 
 -- two scripts in form with one text are equal
 abbrev pub ScriptsDiffer : Type 0
@@ -16,8 +16,9 @@ first_p = record { jobs = job_named (codes "p") [] ∷ job_named (codes "q") [] 
 abbrev pub first_q : Scripted
 first_q = record { jobs = job_named (codes "q") [] ∷ job_named (codes "p") [] ∷ [] }
 
--- worked examples: another order of jobs, a job less, and another profile are other texts
+-- worked examples: another order of jobs or of steps, a job less, and another profile are other texts
 pub record HaveOtherTexts : Type 0 where
   pub order : spelling first_p ≢ spelling first_q
   pub less : spelling first_p ≢ spelling (job_with [])
   pub profile : spelling second_profile ≢ spelling (job_with [])
+  pub steps : spelling asks_anew ≢ spelling asks_first

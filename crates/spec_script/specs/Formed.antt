@@ -1,14 +1,14 @@
 -- Scripts in form: those that are read from a text.
-use Rattle.std.specs.Prelude.{◌≡◌, ℕ, ◌≤◌, Bool, true, false, List, [], ◌∷◌, ◌++◌, length, bytes_eq, if◌then◌else◌, fold, sum_by}
+use Rattle.std.specs.Prelude.{◌≡◌, ℕ, ◌≤◌, Bool, true, false, List, [], ◌∷◌, ◌++◌, length, bytes_eq, if◌then◌else◌, nat_le, ◌&&◌, fold, sum_by}
 use Rattle.std.specs.List.{list_all, list_any}
-use Rattle.mal_base.specs.Asks.{IsAsk}
+use Rattle.mal_base.specs.Asks.{IsAsk, Weighed}
 use Rattle.mal_base.specs.Formulas.{literals_of}
 use Rattle.mal_base.specs.Names.{is_name}
 use Rattle.mal_revision.specs.Posted.{Posted, is_posted}
 use Rattle.spec_script.specs.Limits.{Limits}
 use Rattle.spec_script.specs.Script.{ScriptedJob, Scripted, revisions}
 use Rattle.spec_script.specs.declared.step.Step.{Step}
-use Rattle.spec_script.specs.declared.step.Step.TheVariants.{Revise}
+use Rattle.spec_script.specs.declared.step.Step.TheVariants.{Revise, Reask}
 use Rattle.spec_script.specs.Reading.{is_job, has_room}
 
 -- names with one more, where it is not among them
@@ -27,9 +27,18 @@ clauses_of rs = sum_by (λ r. length r.clauses) rs
 abbrev pub clause_literals : List Posted → ℕ
 clause_literals rs = sum_by (λ r. literals_of r.clauses) rs
 
+-- a number from 1 to this one
+abbrev pub is_up_to : ℕ → ℕ → Bool
+is_up_to max n = nat_le 1 n && nat_le n max
+
+-- a priority up to 1,000 and a demand up to 64
+abbrev pub is_weight : Weighed → Bool
+is_weight w = is_up_to 1000 w.priority && is_up_to 64 w.demand
+
 -- a step in form
 abbrev pub is_step : Step → Bool
 is_step (Revise r) = is_posted r
+is_step (Reask w) = is_weight w
 
 -- a job in form: both names, the ask and the steps are, and its revisions are as many as there may be, with 2^20 clauses
 -- and 2^24 literals in all

@@ -1,7 +1,7 @@
 -- The grammar of scripts: which script a text spells.
 use Rattle.std.specs.Prelude.{◌≡◌, ℕ, ◌+◌, ◌<◌, ◌≤◌, Bool, true, false, not, ◌&&◌, ◌⊎◌, List, [], ◌∷◌, ◌++◌, length, map, flat_map, count_by, codes, bytes_eq, Some, Result, Ok}
 use Rattle.std.specs.List.{list_all, list_any}
-use Rattle.mal_base.specs.Asks.{Terms}
+use Rattle.mal_base.specs.Asks.{Terms, Weighed}
 use Rattle.mal_base.specs.Formulas.{Formulated, is_within, literals_of}
 use Rattle.mal_base.specs.Names.{is_name}
 use Rattle.spec_text.specs.Numbers.{number_in}
@@ -15,7 +15,7 @@ use Rattle.spec_dimacs.specs.Reading.{◌>>=◌}
 use Rattle.spec_script.specs.Limits.{Limits}
 use Rattle.spec_script.specs.Script.{ScriptedJob, Scripted, revisions}
 use Rattle.spec_script.specs.Formed.{with_name}
-use Rattle.spec_script.specs.Reading.{OpenJob, Reading, unread, is_of, is_job, begun, with_revision, with_job}
+use Rattle.spec_script.specs.Reading.{OpenJob, Reading, unread, is_of, is_job, begun, with_revision, with_weight, with_job}
 
 -- the lines of a revision: those of its block, and the line of its assumptions, of which the words behind the `a`
 pub record RevisionLines : Type 0 where
@@ -23,9 +23,10 @@ pub record RevisionLines : Type 0 where
   pub body : List (List (List ℕ))
   pub assumed : List (List ℕ)
 
--- the lines of a step: those of a revision
+-- the lines of a step: those of a revision, or the line of a priority and a demand, of which these two words
 pub data StepLines : Type 0 where
   Revision : RevisionLines → StepLines
+  Weight : List ℕ → List ℕ → StepLines
 
 -- the lines of a job: the words of its first line, of which that of the profile may be left out, and the lines of its
 -- steps
@@ -49,6 +50,7 @@ revision_lines r = (codes "p" ∷ r.header) ∷ (r.body ++ (codes "a" ∷ r.assu
 -- the words of the lines of a step
 abbrev pub step_lines : StepLines → List (List (List ℕ))
 step_lines (Revision r) = revision_lines r
+step_lines (Weight p d) = (codes "q" ∷ p ∷ d ∷ []) ∷ []
 
 -- the words of the lines of a job's steps and of its end
 abbrev pub job_lines : List StepLines → List (List (List ℕ))
@@ -89,6 +91,11 @@ pub record Asks (priority demand slices : List ℕ) (profile : List (List ℕ)) 
   pub slices_says : SaysUpTo 4096 slices ask.slices
   pub profile_say : SayProfile profile ask.profile
 
+-- words say a weight: a priority up to 1,000 and a demand up to 64
+pub record Weighs (priority demand : List ℕ) (weight : Weighed) : Type 0 where
+  pub priority_says : SaysUpTo 1000 priority weight.priority
+  pub demand_says : SaysUpTo 64 demand weight.demand
+
 -- a tenant is named: its word is a name, which was named before or is one more than may have been named
 pub record Names (limits : Limits) (s : Reading) (name : List ℕ) (after : Reading) : Type 0 where
   pub formed : is_name name ≡ true
@@ -126,9 +133,16 @@ pub record Revises (limits : Limits) (o : OpenJob) (r : RevisionLines) (after : 
   pub fits : HasRoomFor o formula
   pub revised : after ≡ with_revision o formula assumptions
 
+-- the line of a priority and a demand makes one more change of what a job asks for: its words say a weight
+pub record Reasks (o : OpenJob) (priority demand : List ℕ) (after : OpenJob) : Type 0 where
+  pub weight : Weighed
+  pub weighs : Weighs priority demand weight
+  pub reasked : after ≡ with_weight o weight
+
 -- what the lines of a step make of a job
 abbrev pub Steps : Limits → OpenJob → StepLines → OpenJob → Type 0
 Steps limits o (Revision r) after = Revises limits o r after
+Steps limits o (Weight p d) after = Reasks o p d after
 
 -- what the lines of several steps make of a job, one behind another
 abbrev pub StepAll : Limits → OpenJob → List StepLines → OpenJob → Type 0

@@ -1,6 +1,6 @@
 -- What holds of every text, in the form in which the law functions state it.
 use Rattle.std.specs.Prelude.{◌≡◌, ℕ, ◌<◌, ◌↔◌, List, [], ◌∷◌, length, take, Ok, Err}
-use Rattle.mal_base.specs.Asks.{Terms}
+use Rattle.mal_base.specs.Asks.{Terms, Weighed}
 use Rattle.mal_base.specs.Formulas.{Formulated}
 use Rattle.mal_base.specs.declared.line_fault.LineFault.{LineFault}
 use Rattle.spec_text.specs.Inputs.{lines_of}
@@ -8,8 +8,8 @@ use Rattle.spec_text.specs.Numbers.{number_in}
 use Rattle.spec_script.specs.Limits.{Limits}
 use Rattle.spec_script.specs.Script.{Scripted, spelling}
 use Rattle.spec_script.specs.Assumptions.{assumptions_in}
-use Rattle.spec_script.specs.Reading.{OpenJob, Reading, admitted, after_tenant, asked, begun, going_on, profile_in, read_text, revised, with_revision}
-use Rattle.spec_script.specs.Grammar.{Admits, Asks, Assumes, HasRoomFor, Names, Spells}
+use Rattle.spec_script.specs.Reading.{OpenJob, Reading, admitted, after_tenant, asked, begun, going_on, profile_in, read_text, revised, weighed, with_revision}
+use Rattle.spec_script.specs.Grammar.{Admits, Asks, Assumes, HasRoomFor, Names, Spells, Weighs}
 use Rattle.spec_script.specs.Within.{IsWithin}
 use Rattle.spec_script.specs.Formed.{IsScript}
 
@@ -21,6 +21,10 @@ SpelledIsRead = (limits : Limits) (text : List ℕ) (s : Scripted) → Spells li
 -- reading words gives just the ask that they say
 abbrev pub AskIsRead : Type 0
 AskIsRead = (p d k : List ℕ) (q : List (List ℕ)) (ask : Terms) → Asks p d k q ask ↔ (asked (number_in p 1000) (number_in d 64) (number_in k 4096) (profile_in q) ≡ Ok ask)
+
+-- reading words gives just the weight that they say
+abbrev pub WeightIsRead : Type 0
+WeightIsRead = (p d : List ℕ) (weight : Weighed) → Weighs p d weight ↔ (weighed (number_in p 1000) (number_in d 64) ≡ Ok weight)
 
 -- a tenant's line is read exactly where its word names a tenant
 abbrev pub TenantIsRead : Type 0

@@ -1,7 +1,7 @@
 -- Reading a script line by line: the script, or the first fault with its line.
 use Rattle.std.specs.Prelude.{ℕ, suc, ◌+◌, max, Bool, true, false, ◌&&◌, List, [], ◌∷◌, ◌++◌, length, codes, bytes_eq, nat_lt, nat_le, if◌then◌else◌, pos, Option, Some, None, Result, Ok, Err, count_by}
 use Rattle.std.specs.List.{list_any}
-use Rattle.mal_base.specs.Asks.{Terms}
+use Rattle.mal_base.specs.Asks.{Terms, Weighed}
 use Rattle.mal_base.specs.Formulas.{Formulated, literals_of}
 use Rattle.mal_base.specs.Names.{is_name}
 use Rattle.mal_base.specs.declared.limit_kind.LimitKind.TheVariants.{Clauses, Literals, Tenants, Jobs, Revisions}
@@ -15,7 +15,7 @@ use Rattle.mal_base.specs.declared.line_fault.LineFault.{LineFault}
 use Rattle.mal_base.specs.declared.line_fault.LineFault.TheVariants.{BadLine, Dimacs, Duplicate, Range, Limit}
 use Rattle.spec_script.specs.Limits.{Limits}
 use Rattle.spec_script.specs.Script.{ScriptedJob, Scripted, revisions}
-use Rattle.spec_script.specs.declared.step.Step.TheVariants.{Revise}
+use Rattle.spec_script.specs.declared.step.Step.TheVariants.{Revise, Reask}
 use Rattle.spec_script.specs.Assumptions.{assumptions_in}
 
 -- a job that has begun: what is read of it, the clauses and the literals of its revisions, and the block that has begun
@@ -74,6 +74,14 @@ in_range p d s q =
 -- the ask of four words that are to be numbers
 abbrev pub asked : NumberWord → NumberWord → NumberWord → NumberWord → Result Terms LineFault
 asked p d s q = if is_number p && is_number d && is_number s && is_number q then in_range p d s q else Err BadLine
+
+-- the weight of two numbers: a priority up to 1,000 and a demand up to 64
+abbrev pub weight_in_range : NumberWord → NumberWord → Result Weighed LineFault
+weight_in_range p d = ranged 1000 p >>= λ priority. ranged 64 d >>= λ demand. Ok (record { priority = priority; demand = demand })
+
+-- the weight of two words that are to be numbers
+abbrev pub weighed : NumberWord → NumberWord → Result Weighed LineFault
+weighed p d = if is_number p && is_number d then weight_in_range p d else Err BadLine
 
 -- what the words behind the slices say for the profile: no word says 1, and more than one say no number
 abbrev pub profile_in : List (List ℕ) → NumberWord
@@ -171,6 +179,20 @@ inside_block first others o b =
     if bytes_eq first (codes "a") then after_assumptions others o b else
     in_block (block.after_row (first ∷ others) b) >>= λ after. Ok (with_block o after)
 
+-- the job with one more change of what it asks for
+abbrev pub with_weight : OpenJob → Weighed → OpenJob
+with_weight o w = record {
+  job = record { tenant = o.job.tenant; name = o.job.name; ask = o.job.ask; steps = o.job.steps ++ Reask w ∷ [] };
+  clauses = o.clauses;
+  literals = o.literals;
+  block = None;
+}
+
+-- after the words behind the `q` of a line that changes what a job asks for
+abbrev pub after_weight : List (List ℕ) → OpenJob → Result OpenJob LineFault
+after_weight (p ∷ d ∷ []) o = weighed (number_in p 1000) (number_in d 64) >>= λ w. Ok (with_weight o w)
+after_weight others o = Err BadLine
+
 -- the job that these words behind an `e` end
 abbrev pub ended_job : List (List ℕ) → OpenJob → Result ScriptedJob LineFault
 ended_job [] o = Ok o.job
@@ -188,6 +210,7 @@ after_end words o s = ended_job words o >>= λ j. Ok (with_job s j)
 abbrev pub inside_job : Limits → List ℕ → List (List ℕ) → OpenJob → Reading → Result Reading LineFault
 inside_job limits first others o s =
     if bytes_eq first (codes "p") then after_header limits (first ∷ others) o >>= (λ after. Ok (going_on s after)) else
+    if bytes_eq first (codes "q") then after_weight others o >>= (λ after. Ok (going_on s after)) else
     if bytes_eq first (codes "e") then after_end others o s else
     Err BadLine
 

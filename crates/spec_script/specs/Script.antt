@@ -1,11 +1,12 @@
 use Rattle.std.specs.Prelude.{ℕ, List, [], ◌∷◌, ◌++◌, length, map, flat_map, codes}
-use Rattle.mal_base.specs.Asks.{Terms}
+use Rattle.mal_base.specs.Asks.{Terms, Weighed}
 use Rattle.mal_revision.specs.Posted.{Posted}
 use Rattle.spec_text.specs.Asks.{ask_words}
 use Rattle.spec_text.specs.Lines.{text_of}
+use Rattle.spec_text.specs.Numbers.{decimal_word}
 use Rattle.spec_dimacs.specs.Written.{closed_words, clause_words, header_words}
 use Rattle.spec_script.specs.declared.step.Step.{Step}
-use Rattle.spec_script.specs.declared.step.Step.TheVariants.{Revise}
+use Rattle.spec_script.specs.declared.step.Step.TheVariants.{Revise, Reask}
 
 -- a job of a script: its tenant, its name, its ask and its steps
 pub record ScriptedJob : Type 0 where
@@ -17,6 +18,7 @@ pub record ScriptedJob : Type 0 where
 -- the revisions that a step posts
 abbrev pub revisions_at : Step → List Posted
 revisions_at (Revise r) = r ∷ []
+revisions_at (Reask w) = []
 
 -- the revisions among steps
 abbrev pub revisions_in : List Step → List Posted
@@ -34,9 +36,14 @@ pub record Scripted : Type 0 where
 abbrev pub revision_rows : Posted → List (List (List ℕ))
 revision_rows r = header_words r.variables (length r.clauses) ∷ (map clause_words r.clauses ++ (codes "a" ∷ closed_words r.assumptions) ∷ [])
 
+-- the words of the line that changes what a job asks for
+abbrev pub weight_words : Weighed → List (List ℕ)
+weight_words w = codes "q" ∷ decimal_word w.priority ∷ decimal_word w.demand ∷ []
+
 -- the words of the lines of a step
 abbrev pub step_rows : Step → List (List (List ℕ))
 step_rows (Revise r) = revision_rows r
+step_rows (Reask w) = weight_words w ∷ []
 
 -- the words of a tenant's line
 abbrev pub tenant_words : List ℕ → List (List ℕ)

@@ -6,7 +6,7 @@
 mod generated;
 mod step;
 
-ghost use Rattle.spec_script.specs.{Differ.{HaveOtherTexts, ScriptsDiffer}, Examples.{HasExamples, ReadingExamples, FaultExamples, LimitExamples}, WordExamples.{WordExamples}, Laws.{SpelledIsRead, SpelledIsWithin, WrittenIsSpelled, WrittenIsRead, SpelledIsScript, SpelledAgain, AskIsRead, AssumptionsAreRead, FaultIsFirst, JobIsAdmitted, RevisionIsRead, TenantIsRead}};
+ghost use Rattle.spec_script.specs.{Differ.{HaveOtherTexts, ScriptsDiffer}, Examples.{HasExamples, ReadingExamples, FaultExamples, LimitExamples}, WordExamples.{WordExamples}, Laws.{SpelledIsRead, SpelledIsWithin, WrittenIsSpelled, WrittenIsRead, SpelledIsScript, SpelledAgain, AskIsRead, AssumptionsAreRead, FaultIsFirst, JobIsAdmitted, RevisionIsRead, TenantIsRead, WeightIsRead}};
 
 pub use generated::{generated_is_script, generator_examples};
 pub use step::Step;
@@ -40,10 +40,11 @@ pub fn word_examples()
     ensures { WordExamples }
 {}
 
-/// The words of the grammar say what reading takes of them: an ask, the name of a tenant, a job that may begin,
-/// assumptions, and a revision for which there is room.
+/// The words of the grammar say what reading takes of them: an ask, a priority and a demand, the name of a tenant, a
+/// job that may begin, assumptions, and a revision for which there is room.
 pub fn words_are_read()
     ensures ask { AskIsRead }
+    ensures weight { WeightIsRead }
     ensures tenant { TenantIsRead }
     ensures job { JobIsAdmitted }
     ensures assumptions { AssumptionsAreRead }

@@ -1,5 +1,6 @@
 //! What a tenant posts of a job between its opening and its closing.
 
+use mal_base::Weight;
 use mal_revision::Revision;
 
 /// A step of a job of a script. Contracts see what it posts.
@@ -7,4 +8,6 @@ use mal_revision::Revision;
 pub enum Step {
     /// A revision is posted.
     Revise(Revision),
+    /// The job's priority and demand become these.
+    Reask(Weight),
 }
