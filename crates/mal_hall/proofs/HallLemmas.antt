@@ -4,14 +4,14 @@ use Rattle.std.specs.Option.{option_map_or}
 use Rattle.std.proofs.lemmas.List.{map-append}
 use Rattle.std.proofs.lemmas.List.Sums.{sum_by-cons}
 use Rattle.std.proofs.lemmas.Option.{slice_get_read}
-use Rattle.mal_base.specs.Asks.{Terms, IsAsk}
+use Rattle.mal_base.specs.Asks.{Terms, Weighed, IsAsk}
 use Rattle.mal_base.specs.Names.{is_name}
 use Rattle.mal_revision.specs.Posted.{Posted, is_posted}
 use Rattle.spec_balance.specs.Fair.{IsFair}
 use Rattle.spec_job.specs.Models.{AnswersSolve}
 use Rattle.spec_job.specs.Proofs.{AnswersRefute}
 use Rattle.spec_job.specs.Provenance.{ClausesAreOwn}
-use Rattle.spec_job.specs.SoloMachine.{Own, SoloMachine, Revised, Closed, Exchanged, solo}
+use Rattle.spec_job.specs.SoloMachine.{Own, SoloMachine, Revised, Reasked, Closed, Exchanged, solo}
 use Rattle.spec_job.specs.KeyedJob.{Key, KeyedJob}
 use Rattle.spec_job.specs.Viewed.{JobView, and_own}
 use Rattle.spec_hall.specs.Events.{Event, Open, Revise, Reask, Close, Balance, Exchange}

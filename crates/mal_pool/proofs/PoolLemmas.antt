@@ -23,7 +23,7 @@ use Rattle.spec_run.specs.Posting.{IsOpen}
 use Rattle.spec_run.specs.Run.{text_or_none, replies_from, job_replies, replies}
 use Rattle.spec_run.proofs.KeyLemmas.{among-keys, among-parts, job-found}
 use Rattle.spec_run.proofs.OpenLemmas.{open-found, open-may_reask, reasked-is_open, revised-is_open}
-use Rattle.spec_run.proofs.PostingLemmas.{next-may_revise}
+use Rattle.spec_run.proofs.PostingLemmas.{next-may_revise, next-weighed}
 use Rattle.spec_run.proofs.CompleteLemmas.{grown-keys, grown-complete}
 use Rattle.spec_script.specs.Formed.{IsJob}
 use Rattle.spec_script.specs.Limits.{served}

@@ -7,7 +7,7 @@ use Rattle.std.proofs.lemmas.List.Sums.{fold-append}
 use Rattle.std.proofs.lemmas.List.Folds.{list_any-append}
 use Rattle.mal_base.specs.Formulas.{literals_of}
 use Rattle.mal_revision.specs.Posted.{Posted, is_posted}
-use Rattle.spec_job.specs.SoloMachine.{Own, Opened, Revised, Closed, SoloMachine, solo, solo_step, clauses_in, literals_in}
+use Rattle.spec_job.specs.SoloMachine.{Own, Opened, Revised, Reasked, Closed, SoloMachine, solo, solo_step, clauses_in, literals_in}
 use Rattle.spec_job.specs.KeyedJob.{Key}
 use Rattle.spec_hall.specs.Events.{Event, Open, Revise, Reask, Close}
 use Rattle.spec_hall.specs.Own.{own, own_step, is_key}

@@ -5,6 +5,7 @@ use Rattle.std.proofs.lemmas.Bool.{and_parts}
 use Rattle.std.proofs.lemmas.List.{map-append, take-append-drop, drop_more, take_more, take_all, flat_map_more}
 use Rattle.std.proofs.lemmas.List.Sums.{sum_by-append, sum_by-cons}
 use Rattle.std.proofs.lemmas.Grind.{flat_map-append}
+use Rattle.mal_base.specs.Asks.{IsWeight, Weighed}
 use Rattle.mal_base.specs.Formulas.{literals_of}
 use Rattle.mal_revision.specs.Posted.{Posted, is_posted}
 use Rattle.spec_job.specs.SoloMachine.{clauses_in, literals_in}
@@ -16,7 +17,7 @@ use Rattle.spec_run.specs.Complete.{key_of_job, job_events, open_events, step_ev
 use Rattle.spec_run.specs.Posting.{IsOpen}
 use Rattle.spec_run.proofs.KeyLemmas.{opened-keys}
 use Rattle.spec_run.proofs.OpenLemmas.{IsPart, follow-split, part-of, next-may_open, next-is_open, open-may_revise, revise-more}
-use Rattle.spec_script.specs.Formed.{IsJob, is_step, MayFollow, MayAllFollow}
+use Rattle.spec_script.specs.Formed.{IsJob, is_step, is_up_to, is_weight, MayFollow, MayAllFollow}
 use Rattle.spec_script.specs.Limits.{served}
 use Rattle.spec_script.specs.Script.{ScriptedJob, revisions, revisions_at, revisions_in}
 use Rattle.spec_script.specs.declared.step.Step.{Step}
@@ -103,6 +104,17 @@ next-may_revise j h i n r formed opened low is number =
   where
     within : (a b c : ℕ) → a ≤ b → b ≤ c → a ≤ c
     within a b c p q = omega arith
+
+-- a step that changes what a job asks for says a weight
+weight-says : (w : Weighed) → is_weight w ≡ true → IsWeight w
+weight-says w h =
+    let both = and_parts (is_up_to 1000 w.priority) (is_up_to 64 w.demand) h in
+    let priority = and_parts (nat_le 1 w.priority) (nat_le w.priority 1000) both.0 in
+    let demand = and_parts (nat_le 1 w.demand) (nat_le w.demand 64) both.1 in
+    record { some_priority = leb-true 1 w.priority priority.0; priority_bound = leb-true w.priority 1000 priority.1; some_demand = leb-true 1 w.demand demand.0; demand_bound = leb-true w.demand 64 demand.1 }
+
+pub next-weighed : (j : ScriptedJob) (i : ℕ) (w : Weighed) → IsJob served j → i < length j.steps → steps.Reask w ≡ get_or j.steps i (steps.Reask w) → IsWeight w
+next-weighed j i w formed low is = weight-says w (passes-at is_step j.steps i (steps.Reask w) formed.formed low is)
 
 -- then one revision more is posted
 pub revised-more : (k : Key) (h after start : List Event) (ss : List Step) (i n : ℕ) (r : Posted) → h ≡ start ++ step_events k 1 (take i ss) → after ≡ h ++ Revise k n r ∷ [] → n ≡ length (revisions_in (take i ss)) + 1 → i < length ss → steps.Revise r ≡ get_or ss i (steps.Revise r) → after ≡ start ++ step_events k 1 (take (i + 1) ss)
