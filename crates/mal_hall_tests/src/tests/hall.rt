@@ -1,8 +1,9 @@
 //! Halls whose answers and histories are known.
 
-use mal_base::{Ask, Clause, ClauseList, LimitKind, Lit, Name};
+use mal_base::{Ask, Clause, ClauseList, LimitKind, Lit, Name, Weight};
 use mal_hall::{
-    Back, CloseFault, Hall, OpenFault, Pick, PickFault, ReplyFault, ReviseFault, Strange,
+    Back, CloseFault, Hall, OpenFault, Pick, PickFault, ReaskFault, ReplyFault, ReviseFault,
+    Strange,
 };
 use mal_learn::Scratch;
 use mal_revision::Revision;
@@ -36,6 +37,8 @@ enum Call<'a> {
     OneJob(i64, i64, i64, u32),
     /// Opens the job p of tenant a with this demand, so many slices and this profile.
     OpenFor(i64, i64, i64),
+    /// Opens a job with this priority and this demand, and 4 slices, and posts a revision without variables.
+    OpenAt(Key<'a>, i64, i64),
     /// Opens so many jobs of tenant a.
     OpenJobs(u8),
     /// Opens a job of each of so many tenants.
@@ -43,6 +46,8 @@ enum Call<'a> {
     Revise(Key<'a>, Posted<'a>),
     /// Posts so many revisions of the job p of tenant a.
     ReviseOften(u32),
+    /// Gives a job this priority and this demand.
+    Reask(Key<'a>, i64, i64),
     Close(Key<'a>),
     /// A worker picks.
     Pick(u32),
@@ -69,6 +74,7 @@ pub(crate) enum Told {
     Done,
     NotOpened(OpenFault),
     NotPosted(ReviseFault),
+    NotReasked(ReaskFault),
     NotClosed(CloseFault),
     Leased,
     Idle,
@@ -194,6 +200,27 @@ fn revise_often(alloc: Global, hall: &mut Hall, times: u32) -> Told {
         }
     }
     Told::Done
+}
+
+fn reask(alloc: Global, hall: &mut Hall, key: Key, weight: Option<Weight>) -> Told {
+    let (Some(tenant), Some(job)) = (name(alloc, key.0), name(alloc, key.1)) else {
+        return Told::Wanting;
+    };
+    let Some(weight) = weight else {
+        return Told::Absent;
+    };
+    match hall.reask_job(&tenant, &job, weight) {
+        Ok(()) => Told::Done,
+        Err(fault) => Told::NotReasked(fault),
+    }
+}
+
+/// Opens a job with this ask, and posts a revision without variables.
+fn open_at(alloc: Global, hall: &mut Hall, key: Key, ask: Option<Ask>) -> Told {
+    match open(alloc, hall, key, ask) {
+        Told::Done => revise(alloc, hall, key, Posted::Free(0)),
+        told => told,
+    }
 }
 
 fn close(alloc: Global, hall: &mut Hall, key: Key) -> Told {
@@ -347,10 +374,16 @@ fn answer(alloc: Global, hall: &mut Hall, kept: &mut Vec<Done>, call: Call) -> T
         Call::OpenFor(demand, slices, profile) => {
             open(alloc, hall, P, ask(demand, slices, profile))
         }
+        Call::OpenAt(key, priority, demand) => {
+            open_at(alloc, hall, key, Ask::of(priority, demand, 4))
+        }
         Call::OpenJobs(jobs) => open_jobs(alloc, hall, jobs),
         Call::OpenTenants(tenants) => open_tenants(alloc, hall, tenants),
         Call::Revise(key, posted) => revise(alloc, hall, key, posted),
         Call::ReviseOften(times) => revise_often(alloc, hall, times),
+        Call::Reask(key, priority, demand) => {
+            reask(alloc, hall, key, Weight::of(priority, demand))
+        }
         Call::Close(key) => close(alloc, hall, key),
         Call::Pick(worker) => picked(hall, worker),
         Call::Work(worker) => work(alloc, hall, worker, kept),
@@ -435,6 +468,56 @@ const REVISIONS_AND_CLOSINGS: Play = &[
         Told::NotPosted(ReviseFault::Closed),
     ),
     (Call::Close(P), Told::NotClosed(CloseFault::Closed)),
+];
+
+/// The ask of an absent job does not change, nor that of one that is closed.
+const REASKS: Play = &[
+    (Call::Open(P), Told::Done),
+    (
+        Call::Reask((b"a", b"q"), 1, 1),
+        Told::NotReasked(ReaskFault::NoJob),
+    ),
+    (Call::Reask(P, 1000, 64), Told::Done),
+    (Call::Close(P), Told::Done),
+    (Call::Reask(P, 1, 1), Told::NotReasked(ReaskFault::Closed)),
+    (
+        Call::Write(b"h mal 2 1\no a p 1 1 4\nq a p 1000 64\nc a p\n"),
+        Told::Done,
+    ),
+];
+
+/// The shares of eight workers follow a new priority with the next pick.
+const SHARES_FOLLOW: Play = &[
+    (Call::OpenAt(P, 4, 8), Told::Done),
+    (Call::OpenAt((b"a", b"q"), 2, 8), Told::Done),
+    (Call::OpenAt((b"a", b"r"), 1, 8), Told::Done),
+    (Call::Pick(1), Told::Leased),
+    (Call::Reask((b"a", b"r"), 4, 8), Told::Done),
+    (Call::Pick(2), Told::Leased),
+    (
+        Call::Write(
+            b"h mal 2 8\no a p 4 8 4\nr a p 1\no a q 2 8 4\nr a q 1\no a r 1 8 4\nr a r 1\nb a p 5 a q 2 a r 1\ns a p 0 1\nq a r 4 8\nb a p 3 a q 2 a r 3\ns a p 1 2\n",
+        ),
+        Told::Done,
+    ),
+];
+
+/// A job that wants one worker in place of two has both nodes out: they come home, and only the first starts again.
+const FEWER_WANTED: Play = &[
+    (Call::OpenFor(2, 8, 2), Told::Done),
+    (Call::Revise(P, Posted::Free(1000)), Told::Done),
+    (Call::Work(1), Told::Done),
+    (Call::Work(2), Told::Done),
+    (Call::Reask(P, 1, 1), Told::Done),
+    (Call::Close(P), Told::Done),
+    (Call::Give(0), Told::Done),
+    (Call::Give(0), Told::Done),
+    (
+        Call::Drive(
+            b"h mal 2 2\no a p 1 2 8 2\nr a p 1\nb a p 2\ns a p 0 1\ns a p 1 2\nq a p 1 1\nc a p\nf a p 0 1 ran\nf a p 1 2 ran\nb a p 1\ns a p 0 1\nf a p 0 1 ran\ns a p 0 1\nf a p 0 1 ran\n",
+        ),
+        Told::Done,
+    ),
 ];
 
 /// A job has room for 256 revisions.
@@ -579,11 +662,14 @@ const UNCLOSED: Play = &[
 ];
 
 /// All plays by their names, each behind the number of workers that its hall has.
-const PLAYS: [(&str, u32, Play); 13] = [
+const PLAYS: [(&str, u32, Play); 16] = [
     ("OPENINGS", 1, OPENINGS),
     ("JOBS_OF_A_TENANT", 1, JOBS_OF_A_TENANT),
     ("TENANTS", 1, TENANTS),
     ("REVISIONS_AND_CLOSINGS", 1, REVISIONS_AND_CLOSINGS),
+    ("REASKS", 1, REASKS),
+    ("SHARES_FOLLOW", 8, SHARES_FOLLOW),
+    ("FEWER_WANTED", 2, FEWER_WANTED),
     ("REVISIONS_OF_A_JOB", 1, REVISIONS_OF_A_JOB),
     ("CLAUSES_OF_A_JOB", 1, CLAUSES_OF_A_JOB),
     ("ABSENT_JOBS", 1, ABSENT_JOBS),
