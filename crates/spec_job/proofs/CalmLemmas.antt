@@ -13,7 +13,7 @@ use Rattle.mal_revision.specs.Posted.{Posted}
 use Rattle.spec_node.specs.State.{Node}
 use Rattle.spec_node.specs.Model.{model_of}
 use Rattle.spec_job.specs.Journal.{replay, loads_in}
-use Rattle.spec_job.specs.SoloMachine.{Own, Opened, Revised, Closed, Volume, Started, Finished, Exchanged, Lease, NodeSlot, vacant, SoloMachine, unopened, solo_step, place_at, start_entries, answered, spend, starve, conclude, first_empty, settled_by, settled, is_late, finished_ran, finished_home, finished_lease, finished}
+use Rattle.spec_job.specs.SoloMachine.{Own, Opened, Revised, Reasked, Closed, Volume, Started, Finished, Exchanged, Lease, NodeSlot, vacant, SoloMachine, unopened, solo_step, place_at, start_entries, answered, spend, starve, conclude, first_empty, settled_by, settled, is_late, finished_ran, finished_home, finished_lease, finished}
 use Rattle.spec_job.specs.Runnable.{MayHappen}
 use Rattle.spec_job.proofs.FinishLemmas.{with_entries, slice_of, ran_home, ran_now, by-ran, by-starved, by-outcome, by-lease}
 use Rattle.spec_job.proofs.PlacesLemmas.{all-marked, get-vacant, set-place}
@@ -115,6 +115,7 @@ opened-calm ask i low e = subst (λ (p : NodeSlot). (replay ask.profile i p.entr
 pub step-calm : (s : SoloMachine) (o : Own) → MayHappen s o → IsSolvingSolo s → AreCalmIn s → AreCalmIn (solo_step s o)
 step-calm s (Opened ask) may k h = subst (λ (x : SoloMachine). AreCalmIn (record x { ask = ask })) (sym may) (opened-calm ask)
 step-calm s (Revised r) may k h = settled-calm (first_empty s.log) (record s { revisions = s.revisions ++ r ∷ [] }) (early-of s.ask.profile s.revisions s.answers s.places k) h
+step-calm s (Reasked w) may k h = h
 step-calm s Closed may k h = h
 step-calm s (Volume v) may k h = h
 step-calm s (Started i) may k h = calm-placed s.ask.profile (length s.answers) i s.places (record (place_at s i) { out = Some (record { revision = length s.answers; adds = start_entries s (place_at s i) }); starts = (place_at s i).starts + 1 }) (h i) h

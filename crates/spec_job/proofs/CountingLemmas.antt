@@ -11,7 +11,7 @@ use Rattle.spec_search.specs.Laws.{IsCounted, AreNumbered}
 use Rattle.spec_search.proofs.LineLemmas.{lines-counted}
 use Rattle.spec_proof.proofs.Among.{Among, among-append}
 use Rattle.spec_job.specs.Journal.{JournalEntry, replay}
-use Rattle.spec_job.specs.SoloMachine.{Own, Opened, Revised, Closed, Volume, Started, Finished, Exchanged, Lease, NodeSlot, SoloMachine, unopened, solo, solo_step, place_at, first_empty, settled_by, finished, exports_from, exchanged}
+use Rattle.spec_job.specs.SoloMachine.{Own, Opened, Revised, Reasked, Closed, Volume, Started, Finished, Exchanged, Lease, NodeSlot, SoloMachine, unopened, solo, solo_step, place_at, first_empty, settled_by, finished, exports_from, exchanged}
 use Rattle.spec_job.specs.Counts.{runs_in, runs_of, HasCounts, PlaceCounts, ReplaysCount}
 use Rattle.spec_job.proofs.PushLemmas.{events-keep}
 use Rattle.spec_job.proofs.FinishLemmas.{settled-leaves, finished-leaves}
@@ -109,6 +109,7 @@ exchanged-low s h =
 pub step-low : (s : SoloMachine) (o : Own) → IsLowSolo s → IsLowSolo (solo_step s o)
 step-low s (Opened ask) h = h
 step-low s (Revised r) h = settled-low (first_empty s.log) (record s { revisions = s.revisions ++ r ∷ [] }) h
+step-low s (Reasked w) h = h
 step-low s Closed h = h
 step-low s (Volume v) h = h
 step-low s (Started i) h = started-low s i h

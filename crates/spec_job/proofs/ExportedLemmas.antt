@@ -21,7 +21,7 @@ use Rattle.spec_search.proofs.LineLemmas.{lines-counted}
 use Rattle.spec_job.specs.Counts.{runs_in, runs_of, is_opening}
 use Rattle.spec_job.specs.Exported.{derived_from, exchanged_step, exchanged_from, journal_exchanged, is_short, exported_by, IsOpenedFirst, ExportsAreDerived, ExchangesTellDerived}
 use Rattle.spec_job.specs.Journal.{JournalEntry, Load, Import, Run, after_entry, replay}
-use Rattle.spec_job.specs.SoloMachine.{Own, Opened, Revised, Closed, Volume, Started, Finished, Exchanged, Lease, NodeSlot, vacant, SoloMachine, unopened, solo, solo_step, place_at, first_empty, settled_by, finished, exports_of, takes_part, exports_from, marked_from, exchanged}
+use Rattle.spec_job.specs.SoloMachine.{Own, Opened, Revised, Reasked, Closed, Volume, Started, Finished, Exchanged, Lease, NodeSlot, vacant, SoloMachine, unopened, solo, solo_step, place_at, first_empty, settled_by, finished, exports_of, takes_part, exports_from, marked_from, exchanged}
 use Rattle.spec_job.proofs.CountLemmas.{runs_in-cons, replay-index, replay-runs}
 use Rattle.spec_job.proofs.CountingLemmas.{step-low, unopened-low}
 use Rattle.spec_job.proofs.FinishLemmas.{settled-leaves, finished-leaves}
@@ -224,6 +224,7 @@ exchanged-known i last s within h = subst (IsKnown s.ask.profile i (exchanged_st
 step-known : (i : ℕ) (last : List JournalEntry) (s : SoloMachine) (o : Own) → is_opening o ≡ false → i ≤ 63 → IsTidy s → IsLowSolo s → IsKnownIn i last s → IsKnownIn i (exchanged_step i s last o) (solo_step s o)
 step-known i last s (Opened ask) none few tidy low h = absurd (true≢false none)
 step-known i last s (Revised r) none few tidy low h = settled-known i last (first_empty s.log) (record s { revisions = s.revisions ++ r ∷ [] }) h
+step-known i last s (Reasked w) none few tidy low h = h
 step-known i last s Closed none few tidy low h = h
 step-known i last s (Volume v) none few tidy low h = h
 step-known i last s (Started j) none few tidy low h = same-known i j last s (record (place_at s j) { out = Some (lease_of s j); starts = (place_at s j).starts + 1 }) refl refl h
@@ -244,6 +245,7 @@ run-known : (i : ℕ) (events : List Own) → IsOpenedFirst events → i ≤ 63 
 run-known i [] none few = opened-known i unopened.ask
 run-known i (Opened ask ∷ os) none few = events-known i [] (solo_step unopened (Opened ask)) os none few (step-tidy unopened (Opened ask) (solo-tidy [])) (step-low unopened (Opened ask) unopened-low) (opened-known i ask)
 run-known i (Revised r ∷ os) none few = events-known i [] unopened (Revised r ∷ os) none few (solo-tidy []) unopened-low (opened-known i unopened.ask)
+run-known i (Reasked w ∷ os) none few = events-known i [] unopened (Reasked w ∷ os) none few (solo-tidy []) unopened-low (opened-known i unopened.ask)
 run-known i (Closed ∷ os) none few = events-known i [] unopened (Closed ∷ os) none few (solo-tidy []) unopened-low (opened-known i unopened.ask)
 run-known i (Volume v ∷ os) none few = events-known i [] unopened (Volume v ∷ os) none few (solo-tidy []) unopened-low (opened-known i unopened.ask)
 run-known i (Started j ∷ os) none few = events-known i [] unopened (Started j ∷ os) none few (solo-tidy []) unopened-low (opened-known i unopened.ask)

@@ -15,7 +15,7 @@ use Rattle.spec_search.proofs.LineLemmas.{slice-refutes}
 use Rattle.spec_proof.proofs.Among.{Among}
 use Rattle.spec_proof.proofs.LogLemmas.{log-empty}
 use Rattle.spec_job.specs.Journal.{replay}
-use Rattle.spec_job.specs.SoloMachine.{Own, Opened, Revised, Closed, Volume, Started, Finished, Exchanged, Lease, NodeSlot, SoloMachine, unopened, solo_step, place_at, first_empty, settled, finished_ran, finished_home, finished_lease, finished}
+use Rattle.spec_job.specs.SoloMachine.{Own, Opened, Revised, Reasked, Closed, Volume, Started, Finished, Exchanged, Lease, NodeSlot, SoloMachine, unopened, solo_step, place_at, first_empty, settled, finished_ran, finished_home, finished_lease, finished}
 use Rattle.spec_job.specs.Runnable.{MayHappen}
 use Rattle.spec_job.proofs.LoadedLemmas.{last_assumed}
 use Rattle.spec_job.proofs.FinishLemmas.{slice_of, ran_home, by-ran, by-starved, by-outcome, by-lease}
@@ -97,6 +97,7 @@ opened-deriving ask = record {
 pub step-deriving : (s : SoloMachine) (o : Own) → MayHappen s o → IsSolvingSolo s → AreCalm s.ask.profile (length s.answers) s.places → IsDerivingSolo s → IsDerivingSolo (solo_step s o)
 step-deriving s (Opened ask) may k calm h = subst (λ (x : SoloMachine). IsDerivingSolo (record x { ask = ask })) (sym may) (opened-deriving ask)
 step-deriving s (Revised r) may k calm h = settled-deriving (first_empty s.log) (record s { revisions = s.revisions ++ r ∷ [] }) refl (posted-solving s r may k).room (posted-deriving s r may k h)
+step-deriving s (Reasked w) may k calm h = h
 step-deriving s Closed may k calm h = h
 step-deriving s (Volume v) may k calm h = h
 step-deriving s (Started i) may k calm h = started-deriving s i may k calm h

@@ -4,7 +4,7 @@ use Rattle.std.specs.Prelude.{slice_set}
 use Rattle.mal_base.specs.Asks.{Terms}
 use Rattle.mal_base.specs.declared.verdict.Outcome.{Outcome}
 use Rattle.spec_job.specs.Journal.{replay}
-use Rattle.spec_job.specs.SoloMachine.{Own, Opened, Revised, Closed, Volume, Started, Finished, Exchanged, Lease, NodeSlot, vacant, SoloMachine, unopened, solo, solo_step, place_at, startable, first_empty, settled_by, finished_home, finished}
+use Rattle.spec_job.specs.SoloMachine.{Own, Opened, Revised, Reasked, Closed, Volume, Started, Finished, Exchanged, Lease, NodeSlot, vacant, SoloMachine, unopened, solo, solo_step, place_at, startable, first_empty, settled_by, finished_home, finished}
 use Rattle.spec_job.specs.Runnable.{MayHappen, IsRunnable}
 use Rattle.spec_job.specs.Following.{MayAllFollow, JournalsFollow, RunnableJournalsFollow}
 use Rattle.spec_job.proofs.PushLemmas.{events-keep}
@@ -58,6 +58,7 @@ opened-followed ask i low = subst (λ (p : NodeSlot). IsFollowed ask.profile i p
 step-followed : (s : SoloMachine) (o : Own) → MayHappen s o → MachineInvariant s → AreFollowedIn s → AreFollowedIn (solo_step s o)
 step-followed s (Opened ask) may k h = subst (λ (x : SoloMachine). AreFollowedIn (record x { ask = ask })) (sym may) (opened-followed ask)
 step-followed s (Revised r) may k h = settled-followed (first_empty s.log) (record s { revisions = s.revisions ++ r ∷ [] }) h
+step-followed s (Reasked w) may k h = h
 step-followed s Closed may k h = h
 step-followed s (Volume v) may k h = h
 step-followed s (Started i) may k h = started-followed s i may k h

@@ -13,7 +13,7 @@ use Rattle.spec_node.specs.Model.{model_of}
 use Rattle.spec_search.specs.Slice.{Sliced}
 use Rattle.spec_job.specs.Journal.{replay}
 use Rattle.spec_job.specs.Left.{left_of, after_start, StartsLeaveLess, LeftFalls}
-use Rattle.spec_job.specs.SoloMachine.{Own, Opened, Revised, Closed, Volume, Started, Finished, Exchanged, Lease, NodeSlot, SoloMachine, solo, solo_step, place_at, with_place, answered, spend, starve, conclude, first_empty, settled_by, settled, is_late, finished_ran, finished_home, finished_lease, finished, startable, vacant, out_count, is_live}
+use Rattle.spec_job.specs.SoloMachine.{Own, Opened, Revised, Reasked, Closed, Volume, Started, Finished, Exchanged, Lease, NodeSlot, SoloMachine, solo, solo_step, place_at, with_place, answered, spend, starve, conclude, first_empty, settled_by, settled, is_late, finished_ran, finished_home, finished_lease, finished, startable, vacant, out_count, is_live}
 use Rattle.spec_job.proofs.PushLemmas.{events-keep}
 use Rattle.spec_job.proofs.FinishLemmas.{with_entries, slice_of, ran_home, by-ran, by-starved, by-outcome}
 use Rattle.spec_job.proofs.FewLemmas.{next-budget}
@@ -93,6 +93,7 @@ finished-tidy s i p (Some l) o h = settled-tidy (finished_lease s i p l o) (leas
 pub step-tidy : (s : SoloMachine) (o : Own) → IsTidy s → IsTidy (solo_step s o)
 step-tidy s (Opened ask) h = record { places = record { count = h.places.count; starved = h.places.starved }; settled = h.settled }
 step-tidy s (Revised r) h = settled-tidy (record s { revisions = s.revisions ++ r ∷ [] }) (record { count = h.places.count; starved = h.places.starved })
+step-tidy s (Reasked w) h = record { places = record { count = h.places.count; starved = h.places.starved }; settled = h.settled }
 step-tidy s Closed h = record { places = record { count = h.places.count; starved = h.places.starved }; settled = h.settled }
 step-tidy s (Volume v) h = record { places = record { count = h.places.count; starved = h.places.starved }; settled = h.settled }
 step-tidy s (Started i) h = record { places = placed s i (record (place_at s i) { out = Some (lease_of s i); starts = (place_at s i).starts + 1 }) h.places; settled = h.settled }

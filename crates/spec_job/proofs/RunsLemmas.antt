@@ -6,7 +6,7 @@ use Rattle.mal_base.specs.Asks.{Terms}
 use Rattle.mal_base.specs.declared.verdict.Outcome.{Outcome}
 use Rattle.mal_base.specs.declared.verdict.Outcome.TheVariants.{Ran, Starved, Lost}
 use Rattle.spec_search.specs.Slice.{Sliced}
-use Rattle.spec_job.specs.SoloMachine.{Own, Opened, Revised, Closed, Volume, Started, Finished, Exchanged, Lease, NodeSlot, SoloMachine, solo, solo_step, place_at, first_empty, is_late, finished_home, finished_lease, finished, exchanged, marked_from}
+use Rattle.spec_job.specs.SoloMachine.{Own, Opened, Revised, Reasked, Closed, Volume, Started, Finished, Exchanged, Lease, NodeSlot, SoloMachine, solo, solo_step, place_at, first_empty, is_late, finished_home, finished_lease, finished, exchanged, marked_from}
 use Rattle.spec_job.specs.Runnable.{MayHappen, IsRunnable}
 use Rattle.spec_job.specs.Counts.{runs_in, runs_of, starts_out, is_opening, RunsAreFew}
 use Rattle.spec_job.proofs.PushLemmas.{events-keep}
@@ -106,6 +106,7 @@ posted-few slices s r k h =
 step-few : (slices : ℕ) (s : SoloMachine) (o : Own) → MayHappen s o → is_opening o ≡ false → MachineInvariant s → IsLowSolo s → IsFew slices s → IsFew slices (solo_step s o)
 step-few slices s (Opened ask) may once k low h = absurd (cc)
 step-few slices s (Revised r) may once k low h = settled-few slices (first_empty s.log) (record s { revisions = s.revisions ++ r ∷ [] }) (posted-solving s r may k.solving) (posted-few slices s r k.solving h)
+step-few slices s (Reasked w) may once k low h = record { budget = h.budget; shared = h.shared; few = h.few; idle = h.idle }
 step-few slices s Closed may once k low h = record { budget = h.budget; shared = h.shared; few = h.few; idle = h.idle }
 step-few slices s (Volume v) may once k low h = record { budget = h.budget; shared = h.shared; few = h.few; idle = h.idle }
 step-few slices s (Started i) may once k low h = started-few slices s i may h

@@ -3,12 +3,12 @@ use Rattle.std.proofs.Common.{◌≡◌, ℕ, zero, suc, ◌+◌, ◌-◌, ◌<�
 use Rattle.std.specs.List.{list_all}
 use Rattle.std.proofs.lemmas.Bool.{and_parts, ltb-true, leb-true, lt-leb, false≢true}
 use Rattle.std.proofs.lemmas.List.{length-replicate}
-use Rattle.mal_base.specs.Asks.{Terms}
+use Rattle.mal_base.specs.Asks.{Terms, reasked}
 use Rattle.mal_base.specs.declared.answer.Answer.TheVariants.{Refuted}
 use Rattle.mal_base.specs.declared.verdict.Outcome.{Outcome}
 use Rattle.mal_base.specs.declared.verdict.Outcome.TheVariants.{Ran, Starved, Lost}
 use Rattle.mal_revision.specs.Posted.{Posted}
-use Rattle.spec_job.specs.SoloMachine.{Own, Opened, Revised, Closed, Volume, Started, Finished, Exchanged, Lease, NodeSlot, SoloMachine, solo, solo_step, place_at, is_live, startable, first_empty, settled_by, settled, finished_lease, finished}
+use Rattle.spec_job.specs.SoloMachine.{Own, Opened, Revised, Reasked, Closed, Volume, Started, Finished, Exchanged, Lease, NodeSlot, SoloMachine, solo, solo_step, place_at, is_live, startable, first_empty, settled_by, settled, finished_lease, finished}
 use Rattle.spec_job.specs.Journal.{JournalEntry, loads_in}
 use Rattle.spec_job.specs.Runnable.{MayHappen, IsRunnable}
 use Rattle.spec_job.specs.DemandOne.{is_single, had_memory, IsSingle, Agree, AgreeAll, NoneIsDue, SinglesAgree}
@@ -123,6 +123,11 @@ finish-on profile slices n (suc i) s o m k after h = subst (λ (out : Option Lea
 pub step-on : (profile slices n : ℕ) (s : SoloMachine) (o : Own) → MayHappen s o → is_single o ≡ true → MachineInvariant s → MachineInvariant (solo_step s o) → IsAlong profile slices s n → GoesOneOn profile slices n (solo_step s o)
 step-on profile slices n s (Opened ask) may single k after h = absurd (false≢true single)
 step-on profile slices n s (Revised r) may single k after h = (n, omega arith, revised-along profile slices n s r k.solving h)
+step-on profile slices n s (Reasked w) may single k after h = (n, omega arith, record { alone = record { budget = h.alone.budget; solvers = h.alone.solvers; low = h.alone.low; unexported = h.alone.unexported; some = h.alone.some; others = h.alone.others }; went = h.went; stands = same-stand h.stands })
+  where
+    same-stand : IsOpen s (course profile slices s.revisions n) ⊎ ((goal : ℕ) × IsSettled s (course profile slices s.revisions n) goal) → IsOpen (record s { ask = reasked s.ask w }) (course profile slices s.revisions n) ⊎ ((goal : ℕ) × IsSettled (record s { ask = reasked s.ask w }) (course profile slices s.revisions n) goal)
+    same-stand (inl x) = inl (record { none = x.none; same = x.same; leased = x.leased })
+    same-stand (inr (goal, x)) = inr (goal, record { found = x.found; log = x.log; idle = x.idle; all = x.all; come = x.come })
 step-on profile slices n s Closed may single k after h = (n, omega arith, record { alone = h.alone; went = h.went; stands = same-stand h.stands })
   where
     same-stand : IsOpen s (course profile slices s.revisions n) ⊎ ((goal : ℕ) × IsSettled s (course profile slices s.revisions n) goal) → IsOpen (record s { closed = true }) (course profile slices s.revisions n) ⊎ ((goal : ℕ) × IsSettled (record s { closed = true }) (course profile slices s.revisions n) goal)

@@ -15,7 +15,7 @@ use Rattle.spec_logic.specs.Logic.{satisfies, is_true_in}
 use Rattle.spec_node.specs.State.{Node}
 use Rattle.spec_node.specs.Model.{model_of}
 use Rattle.spec_job.specs.Journal.{replay, loads_in}
-use Rattle.spec_job.specs.SoloMachine.{Own, Opened, Revised, Closed, Volume, Started, Finished, Exchanged, Lease, NodeSlot, SoloMachine, unopened, solo_step, place_at, answered, spend, starve, conclude, first_empty, is_late, finished_ran, finished_home, finished_lease, finished}
+use Rattle.spec_job.specs.SoloMachine.{Own, Opened, Revised, Reasked, Closed, Volume, Started, Finished, Exchanged, Lease, NodeSlot, SoloMachine, unopened, solo_step, place_at, answered, spend, starve, conclude, first_empty, is_late, finished_ran, finished_home, finished_lease, finished}
 use Rattle.spec_job.specs.Models.{clauses_of, AnswersSolve}
 use Rattle.spec_job.specs.Runnable.{MayHappen}
 use Rattle.spec_job.proofs.LoadedLemmas.{IsLoadable, last_assumed, Solves, HasLoaded, fresh-loaded, loaded-solves, last-at}
@@ -128,6 +128,7 @@ opened-solving ask = record {
 pub step-solving : (s : SoloMachine) (o : Own) → MayHappen s o → MayLease s → IsSolvingSolo s → IsSolvingSolo (solo_step s o)
 step-solving s (Opened ask) may leases h = subst (λ (x : SoloMachine). IsSolvingSolo (record x { ask = ask })) (sym may) (opened-solving ask)
 step-solving s (Revised r) may leases h = revised-solving s r may h
+step-solving s (Reasked w) may leases h = h
 step-solving s Closed may leases h = h
 step-solving s (Volume v) may leases h = h
 step-solving s (Started i) may leases h = started-solving s i may leases h

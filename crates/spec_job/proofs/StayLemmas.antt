@@ -2,7 +2,7 @@ use Rattle.std.proofs.Common.{ℕ, List, [], ◌∷◌, ◌++◌, Option, sym, �
 use Rattle.std.proofs.lemmas.List.Sums.{fold_push}
 use Rattle.mal_base.specs.declared.answer.Answer.{Answer}
 use Rattle.mal_base.specs.declared.verdict.Outcome.{Outcome}
-use Rattle.spec_job.specs.SoloMachine.{Own, Opened, Revised, Closed, Volume, Started, Finished, Exchanged, Lease, NodeSlot, SoloMachine, unopened, solo, solo_step, place_at, first_empty, settled_by, settled, finished}
+use Rattle.spec_job.specs.SoloMachine.{Own, Opened, Revised, Reasked, Closed, Volume, Started, Finished, Exchanged, Lease, NodeSlot, SoloMachine, unopened, solo, solo_step, place_at, first_empty, settled_by, settled, finished}
 use Rattle.spec_job.specs.Models.{KeepsAnswers}
 use Rattle.spec_job.specs.Runnable.{AnswersStay}
 use Rattle.spec_job.proofs.FinishLemmas.{settled-leaves, finished-leaves}
@@ -32,6 +32,7 @@ step-stays s (Opened ask) = record { more = []; kept = sym (append-nil s.answers
 step-stays s (Revised r) =
     let longer : SoloMachine = record s { revisions = s.revisions ++ r ∷ [] } in
     stays-on s longer (settled longer) (record { more = []; kept = sym (append-nil s.answers) }) (settled-stays (first_empty s.log) longer)
+step-stays s (Reasked w) = record { more = []; kept = sym (append-nil s.answers) }
 step-stays s Closed = record { more = []; kept = sym (append-nil s.answers) }
 step-stays s (Volume v) = record { more = []; kept = sym (append-nil s.answers) }
 step-stays s (Started i) = record { more = []; kept = sym (append-nil s.answers) }

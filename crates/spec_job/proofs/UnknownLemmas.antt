@@ -16,7 +16,7 @@ use Rattle.mal_base.specs.declared.verdict.Verdict.TheVariants.{Satisfiable, Uns
 use Rattle.mal_base.specs.declared.verdict.Outcome.{Outcome}
 use Rattle.mal_base.specs.declared.verdict.Outcome.TheVariants.{Ran, Starved, Lost}
 use Rattle.spec_node.specs.Model.{model_of}
-use Rattle.spec_job.specs.SoloMachine.{Own, Opened, Revised, Closed, Volume, Started, Finished, Exchanged, Lease, NodeSlot, SoloMachine, unopened, solo, solo_step, place_at, answered, spend, starve, conclude, first_empty, settled, is_for, is_late, finished_lease, finished}
+use Rattle.spec_job.specs.SoloMachine.{Own, Opened, Revised, Reasked, Closed, Volume, Started, Finished, Exchanged, Lease, NodeSlot, SoloMachine, unopened, solo, solo_step, place_at, answered, spend, starve, conclude, first_empty, settled, is_for, is_late, finished_lease, finished}
 use Rattle.spec_job.specs.Counts.{is_opening}
 use Rattle.spec_job.specs.DemandOne.{had_memory}
 use Rattle.spec_job.specs.Runnable.{MayHappen, IsRunnable}
@@ -247,6 +247,7 @@ step-tally slices es s (Revised r) once may w h =
     let longer : SoloMachine = record s { revisions = s.revisions ++ r ∷ [] } in
     let long : length (s.revisions ++ r ∷ []) ≡ length s.revisions + 1 = length-append s.revisions (r ∷ []) in
     subst (λ (xs : List Ending). HasTally slices xs (settled longer)) (sym (append-nil es)) (settled-tally slices es (first_empty s.log) longer (omega (arith, long, w.kept.solving.order)) (revised-tally slices es s longer refl refl (omega (arith, long)) refl refl h))
+step-tally slices es s (Reasked q) once may w h = subst (λ (xs : List Ending). HasTally slices xs (solo_step s (Reasked q))) (sym (append-nil es)) (revised-tally slices es s (solo_step s (Reasked q)) refl refl (omega arith) refl refl h)
 step-tally slices es s Closed once may w h = subst (λ (xs : List Ending). HasTally slices xs (solo_step s Closed)) (sym (append-nil es)) (revised-tally slices es s (solo_step s Closed) refl refl (omega arith) refl refl h)
 step-tally slices es s (Volume v) once may w h = subst (λ (xs : List Ending). HasTally slices xs (solo_step s (Volume v))) (sym (append-nil es)) (revised-tally slices es s (solo_step s (Volume v)) refl refl (omega arith) refl refl h)
 step-tally slices es s (Started i) once may w h = subst (λ (xs : List Ending). HasTally slices xs (solo_step s (Started i))) (sym (append-nil es)) (started-tally slices es s i h)
@@ -298,6 +299,7 @@ none-starved s r (o ∷ os) h =
     fed-ending : (o : Own) → is_fed o ≡ true → (e : Ending) → ended_by s o ≡ Some e → had_memory e.outcome ≡ true
     fed-ending (Opened ask) fed e is = absurd (cc)
     fed-ending (Revised p) fed e is = absurd (cc)
+    fed-ending (Reasked w) fed e is = absurd (cc)
     fed-ending Closed fed e is = absurd (cc)
     fed-ending (Volume v) fed e is = absurd (cc)
     fed-ending (Started i) fed e is = absurd (cc)

@@ -19,7 +19,7 @@ use Rattle.spec_job.specs.Journal.{Run, replay, loads_in, loads_of}
 use Rattle.spec_job.specs.Models.{KeepsAnswers}
 use Rattle.spec_job.specs.Replies.{body_by, reply}
 use Rattle.spec_job.specs.Runnable.{MayHappen, IsRunnable}
-use Rattle.spec_job.specs.SoloMachine.{Own, Opened, Revised, Closed, Volume, Started, Finished, Exchanged, Lease, NodeSlot, SoloMachine, solo, solo_step, place_at, first_empty, settled_by, clauses_in, finished_home, finished}
+use Rattle.spec_job.specs.SoloMachine.{Own, Opened, Revised, Reasked, Closed, Volume, Started, Finished, Exchanged, Lease, NodeSlot, SoloMachine, solo, solo_step, place_at, first_empty, settled_by, clauses_in, finished_home, finished}
 use Rattle.spec_job.specs.KeyedJob.{Key}
 use Rattle.spec_job.proofs.PushLemmas.{events-keep}
 use Rattle.spec_job.proofs.AgreeLemmas.{ComeFrom, courses-agree, le-or_lt, IsFront, courses-logs}
@@ -58,6 +58,7 @@ finished-grown s i p out o = finished-leaves (HasGrown s) (told-grown s) (counte
 step-grown : (s : SoloMachine) (o : Own) → HasGrown s (solo_step s o)
 step-grown s (Opened ask) = unchanged s (solo_step s (Opened ask)) refl refl
 step-grown s (Revised r) = settled-grown s (record s { revisions = s.revisions ++ r ∷ [] }) (first_empty s.log) (record { lines = []; log = sym (append-nil s.log); more = r ∷ []; revisions = refl })
+step-grown s (Reasked w) = unchanged s (solo_step s (Reasked w)) refl refl
 step-grown s Closed = unchanged s (solo_step s Closed) refl refl
 step-grown s (Volume v) = unchanged s (solo_step s (Volume v)) refl refl
 step-grown s (Started i) = unchanged s (solo_step s (Started i)) refl refl

@@ -1,11 +1,11 @@
-use Rattle.std.specs.Prelude.{◌≡◌, ℕ, ◌≤◌, Bool, true, false, nat_le, List, [], ◌∷◌, ◌++◌, slice_get, Some}
+use Rattle.std.specs.Prelude.{◌≡◌, ℕ, ◌≤◌, Bool, true, false, ◌==◌, nat_le, List, [], ◌∷◌, ◌++◌, slice_get, Some}
 use Rattle.std.specs.List.{list_all}
 use Rattle.mal_base.specs.Asks.{Terms}
 use Rattle.mal_base.specs.declared.answer.Answer.{Answer}
 use Rattle.mal_base.specs.declared.verdict.Outcome.{Outcome}
 use Rattle.mal_base.specs.declared.verdict.Outcome.TheVariants.{Ran, Starved, Lost}
 use Rattle.mal_revision.specs.Posted.{Posted}
-use Rattle.spec_job.specs.SoloMachine.{Own, Opened, Revised, Closed, Volume, Started, Finished, Exchanged, SoloMachine, solo, is_exchange_due}
+use Rattle.spec_job.specs.SoloMachine.{Own, Opened, Revised, Reasked, Closed, Volume, Started, Finished, Exchanged, SoloMachine, solo, is_exchange_due}
 use Rattle.spec_job.specs.KeyedJob.{Key}
 use Rattle.spec_job.specs.Replies.{reply}
 use Rattle.spec_job.specs.Runnable.{IsRunnable}
@@ -20,11 +20,18 @@ had_memory Ran = true
 had_memory Starved = false
 had_memory Lost = true
 
--- an own event of a job of demand 1 behind its opening: no volume is above 1, so that no exchange is due, and no start
--- wants for memory
+-- whether an own event leaves a job's demand at 1: an opening and an ask that changes have that demand
+abbrev pub asks_for_one : Own → Bool
+asks_for_one (Opened ask) = ask.demand == 1
+asks_for_one (Reasked w) = w.demand == 1
+asks_for_one event = true
+
+-- an own event of a job whose demand is always 1, behind its opening: an ask that changes keeps that demand, no volume
+-- is above 1, so that no exchange is due, and no start wants for memory
 abbrev pub is_single : Own → Bool
 is_single (Opened ask) = false
 is_single (Revised r) = true
+is_single (Reasked w) = w.demand == 1
 is_single Closed = true
 is_single (Volume v) = nat_le v 1
 is_single (Started i) = true
@@ -46,8 +53,8 @@ pub record AgreeAll (s t : SoloMachine) : Type 0 where
   pub replies : (k : Key) (r : ℕ) (a b : List ℕ) → reply k r s ≡ Some a → reply k r t ≡ Some b → a ≡ b
 
 -- each answer and each reply of a job that one node runs is decided by its name, its budget, its solvers' profile and
--- its revisions up to that one: where the revisions of one run begin with those of another, with the same budget and
--- the same profile, they agree
+-- its revisions up to that one, not by its priority, which may change: where the revisions of one run begin with those
+-- of another, with the same budget and the same profile, they agree
 abbrev pub SinglesAgree : Type 0
 SinglesAgree =
     (ask asked : Terms) (own others : List Own) (more : List Posted) → ask.slices ≡ asked.slices → ask.profile ≡ asked.profile → IsSingle ask own → IsSingle asked others

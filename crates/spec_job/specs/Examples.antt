@@ -1,5 +1,5 @@
 use Rattle.std.specs.Prelude.{◌≡◌, ℕ, true, false, List, [], ◌∷◌, Some, None}
-use Rattle.mal_base.specs.Asks.{Terms}
+use Rattle.mal_base.specs.Asks.{Terms, Weighed}
 use Rattle.mal_base.specs.NumberedClause.{NumberedClause, Line}
 use Rattle.mal_base.specs.declared.answer.Answer.TheVariants.{Satisfied, Refuted, Spent, OutOfStarts}
 use Rattle.mal_base.specs.declared.verdict.Outcome.TheVariants.{Ran, Starved, Lost}
@@ -8,11 +8,11 @@ use Rattle.spec_node.specs.State.{fresh}
 use Rattle.spec_search.specs.Examples as searched
 use Rattle.spec_search.specs.Examples.{at_odds, four}
 use Rattle.spec_job.specs.Journal.{Load, Import, Run, replay}
-use Rattle.spec_job.specs.SoloMachine.{Own, Opened, Revised, Closed, Volume, Started, Finished, Exchanged, SoloMachine, unopened, solo, startable, start_entries, is_exchange_due, place_at, conclude}
+use Rattle.spec_job.specs.SoloMachine.{Own, Opened, Revised, Reasked, Closed, Volume, Started, Finished, Exchanged, SoloMachine, unopened, solo, startable, start_entries, is_exchange_due, place_at, conclude}
 use Rattle.spec_job.specs.Proofs.{failed, proof_lines}
 use Rattle.spec_job.specs.Runnable.{IsRunnable}
 use Rattle.spec_job.specs.Counts.{IsOpenedOnce}
-use Rattle.spec_job.specs.DemandOne.{IsSingle}
+use Rattle.spec_job.specs.DemandOne.{is_single, IsSingle}
 
 -- an ask of this demand with these slices, for solvers of profile 1
 abbrev pub ask : ℕ → ℕ → Terms
@@ -21,6 +21,10 @@ ask demand slices = record { priority = 1; demand = demand; slices = slices; pro
 -- the same for solvers of profile 2
 abbrev pub second_ask : ℕ → ℕ → Terms
 second_ask demand slices = record { priority = 1; demand = demand; slices = slices; profile = 2 }
+
+-- this priority and this demand in place of those of an ask
+abbrev pub weight : ℕ → ℕ → Weighed
+weight priority demand = record { priority = priority; demand = demand }
 
 -- the revision of the examples of a slice of which one of two variables has to be true
 abbrev pub one_of_two : Posted
@@ -45,6 +49,14 @@ ran_once r = solo (Opened (ask 1 4) ∷ Revised r ∷ Closed ∷ Volume 1 ∷ St
 -- a job whose first revision one node ran a slice of, and then another one was posted
 abbrev pub ran_before : Posted → Posted → SoloMachine
 ran_before r later = solo (Opened (ask 1 4) ∷ Revised r ∷ Volume 1 ∷ Started 0 ∷ Finished 0 Ran ∷ Revised later ∷ [])
+
+-- a job with two places, whose first node is out
+abbrev pub started_first : SoloMachine
+started_first = solo (Opened (ask 2 4) ∷ Revised one_of_two ∷ Volume 2 ∷ Started 0 ∷ [])
+
+-- the same job, whose ask then changes
+abbrev pub reasked_out : SoloMachine
+reasked_out = solo (Opened (ask 2 4) ∷ Revised one_of_two ∷ Volume 2 ∷ Started 0 ∷ Reasked (weight 5 1) ∷ [])
 
 -- a job with a budget of two slices, of which so many are spent
 abbrev pub with_spent : ℕ → SoloMachine
@@ -120,8 +132,20 @@ pub record HasExchanges : Type 0 where
   pub serial : (replay 1 1 (Load four 1 ∷ Import (numbered_clause 4294967296 (3 ∷ []) ∷ []) ∷ [])).node.serial ≡ 1
   pub line_after : (replay 1 1 (Load four 1 ∷ Import (numbered_clause 4294967296 (3 ∷ []) ∷ []) ∷ Run ∷ [])).lines ≡ line 4294967361 [] (4294967296 ∷ 1 ∷ 2 ∷ []) ∷ []
 
--- worked examples of own events that may happen: two nodes with an exchange between their starts, and one node alone
+-- worked examples of an ask that changes: the priority and the demand are the new ones, all else is as before, also what
+-- is out, and the answer is the same
+pub record HasReasked : Type 0 where
+  pub changed : reasked_out.ask ≡ record { priority = 5; demand = 1; slices = 4; profile = 1 }
+  pub rest : record reasked_out { ask = started_first.ask } ≡ started_first
+  pub twice : (solo (Opened (ask 2 4) ∷ Reasked (weight 5 1) ∷ Reasked (weight 3 64) ∷ [])).ask ≡ record { priority = 3; demand = 64; slices = 4; profile = 1 }
+  pub before : (solo (Opened (ask 2 4) ∷ Reasked (weight 5 1) ∷ Revised one_of_two ∷ Volume 1 ∷ Started 0 ∷ Finished 0 Ran ∷ [])).answers ≡ Satisfied (false ∷ true ∷ []) ∷ []
+  pub while_out : (solo (Opened (ask 2 4) ∷ Revised one_of_two ∷ Volume 2 ∷ Started 0 ∷ Reasked (weight 5 1) ∷ Finished 0 Ran ∷ [])).answers ≡ Satisfied (false ∷ true ∷ []) ∷ []
+
+-- worked examples of own events that may happen: two nodes with an exchange between their starts, and one node alone,
+-- also where its priority changes
 pub record HasRunnable : Type 0 where
   pub two : IsRunnable [] (Opened (ask 2 4) ∷ Revised both_assumed ∷ Volume 2 ∷ Started 0 ∷ Finished 0 Ran ∷ Revised one_of_two ∷ Exchanged ∷ Started 1 ∷ Started 0 ∷ Finished 1 Ran ∷ Finished 0 Lost ∷ [])
   pub one : IsSingle (ask 1 4) (Revised one_of_two ∷ Closed ∷ Volume 1 ∷ Started 0 ∷ Finished 0 Ran ∷ [])
+  pub reasked : IsSingle (ask 1 4) (Revised one_of_two ∷ Reasked (weight 7 1) ∷ Volume 1 ∷ Started 0 ∷ Reasked (weight 2 1) ∷ Finished 0 Ran ∷ [])
+  pub not_single : is_single (Reasked (weight 1 2)) ≡ false
   pub once : IsOpenedOnce (ask 1 4) (Revised one_of_two ∷ Volume 1 ∷ Started 0 ∷ Finished 0 Starved ∷ [])

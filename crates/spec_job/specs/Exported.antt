@@ -8,7 +8,7 @@ use Rattle.spec_node.specs.Load.{counted}
 use Rattle.spec_search.specs.Slice.{Sliced}
 use Rattle.spec_exchange.specs.Exchange.{broadcast}
 use Rattle.spec_job.specs.Journal.{JournalEntry, after_entry, replay}
-use Rattle.spec_job.specs.SoloMachine.{Own, Opened, Revised, Closed, Volume, Started, Finished, Exchanged, SoloMachine, unopened, solo, solo_step, place_at, takes_part, exports_of}
+use Rattle.spec_job.specs.SoloMachine.{Own, Opened, Revised, Reasked, Closed, Volume, Started, Finished, Exchanged, SoloMachine, unopened, solo, solo_step, place_at, takes_part, exports_of}
 use Rattle.spec_job.specs.Counts.{is_opening}
 use Rattle.spec_job.specs.Examples.{ask, both_assumed, one_of_two, numbered_clause}
 
@@ -25,6 +25,7 @@ derived_after profile i first entries = derived_from (replay profile i first) (d
 abbrev pub exchanged_step : ℕ → SoloMachine → List JournalEntry → Own → List JournalEntry
 exchanged_step i s last (Opened ask) = last
 exchanged_step i s last (Revised r) = last
+exchanged_step i s last (Reasked w) = last
 exchanged_step i s last Closed = last
 exchanged_step i s last (Volume v) = last
 exchanged_step i s last (Started j) = last

@@ -1,6 +1,6 @@
 use Rattle.std.specs.Prelude.{◌≡◌, ◌+◌, ◌<◌, ◌^◌, true, List, [], ◌∷◌, ◌++◌, length}
 use Rattle.mal_revision.specs.Posted.{Posted, is_posted}
-use Rattle.spec_job.specs.SoloMachine.{Own, Opened, Revised, Closed, Volume, Started, Finished, Exchanged, SoloMachine, unopened, solo, startable, clauses_in}
+use Rattle.spec_job.specs.SoloMachine.{Own, Opened, Revised, Reasked, Closed, Volume, Started, Finished, Exchanged, SoloMachine, unopened, solo, startable, clauses_in}
 use Rattle.spec_job.specs.Models.{AnswersFollow, AnswersSolve, KeepsAnswers}
 use Rattle.spec_job.specs.Proofs.{AnswersRefute, LogIsDerived}
 
@@ -14,6 +14,7 @@ pub record MayCome (s : SoloMachine) (r : Posted) : Type 0 where
 abbrev pub MayHappen : SoloMachine → Own → Type 0
 MayHappen s (Opened ask) = s ≡ unopened
 MayHappen s (Revised r) = MayCome s r
+MayHappen s (Reasked w) = Unit {0}
 MayHappen s Closed = Unit {0}
 MayHappen s (Volume v) = Unit {0}
 MayHappen s (Started i) = startable s i ≡ true

@@ -1,5 +1,5 @@
 use Rattle.std.specs.Prelude.{find, option_map, ℕ, ◌+◌, ◌-◌, ◌*◌, ◌%◌, Bool, true, false, ◌&&◌, ◌==◌, nat_lt, nat_le, List, [], ◌∷◌, ◌++◌, map, filter, length, take, drop, replicate, sum_by, count_by, fold, get_or, slice_set, Option, Some, None, is_none, if◌then◌else◌}
-use Rattle.mal_base.specs.Asks.{Terms}
+use Rattle.mal_base.specs.Asks.{Terms, Weighed, reasked}
 use Rattle.mal_base.specs.Formulas.{literals_of}
 use Rattle.mal_base.specs.declared.answer.Answer.{Answer}
 use Rattle.mal_base.specs.declared.answer.Answer.TheVariants.{Satisfied, Refuted, Spent, OutOfStarts}
@@ -18,6 +18,7 @@ use Rattle.spec_job.specs.Journal.{JournalEntry, Import, Run, replay, loads_in, 
 pub data Own : Type 0 where
   Opened : Terms → Own
   Revised : Posted → Own
+  Reasked : Weighed → Own
   Closed : Own
   Volume : ℕ → Own
   Started : ℕ → Own
@@ -189,6 +190,7 @@ exchanged s = record s { broadcasts = s.broadcasts ++ broadcast (exports_from s.
 abbrev pub solo_step : SoloMachine → Own → SoloMachine
 solo_step s (Opened ask) = record s { ask = ask }
 solo_step s (Revised r) = settled (record s { revisions = s.revisions ++ r ∷ [] })
+solo_step s (Reasked w) = record s { ask = reasked s.ask w }
 solo_step s Closed = record s { closed = true }
 solo_step s (Volume v) = record s { volume = v }
 solo_step s (Started i) = started s i (place_at s i)

@@ -8,7 +8,7 @@ use Rattle.mal_base.specs.declared.verdict.Outcome.{Outcome}
 use Rattle.mal_base.specs.declared.verdict.Outcome.TheVariants.{Ran, Starved, Lost}
 use Rattle.spec_node.specs.State.{Node}
 use Rattle.spec_job.specs.Journal.{replay}
-use Rattle.spec_job.specs.SoloMachine.{Own, Opened, Revised, Closed, Volume, Started, Finished, Exchanged, Lease, SoloMachine, unopened, solo, solo_step, place_at, is_late}
+use Rattle.spec_job.specs.SoloMachine.{Own, Opened, Revised, Reasked, Closed, Volume, Started, Finished, Exchanged, Lease, SoloMachine, unopened, solo, solo_step, place_at, is_late}
 use Rattle.spec_job.specs.Counts.{IsOpenedOnce}
 use Rattle.spec_job.specs.DemandOne.{had_memory}
 
@@ -28,6 +28,7 @@ ending_of s i outcome l = record { revision = l.revision; late = is_late s l; ou
 abbrev pub ended_by : SoloMachine → Own → Option Ending
 ended_by s (Opened ask) = None
 ended_by s (Revised r) = None
+ended_by s (Reasked w) = None
 ended_by s Closed = None
 ended_by s (Volume v) = None
 ended_by s (Started i) = None

@@ -2,7 +2,7 @@
 //! and the laws about them as the contracts of functions without a body.
 #![tactic(auto)]
 
-ghost use Rattle.spec_job.specs.{Counts.{ReplaysCount, RunsAreFew}, DemandOne.{NoneIsDue, SinglesAgree}, DemandOneUpTo.{HasUpTo, SinglesAgreeUpTo}, Examples.{HasExamples, HasExchanges, HasRefutations, HasRunnable}, Exported.{ExchangesTellDerived, ExportsAreDerived, HasUnexported}, Following.{RunnableJournalsFollow}, Left.{LeftFalls}, ProfileExamples.{HasProfiles}, Provenance.{RunnableClausesOwn}, Runnable.{AnswersStay, RunnableAnswersFollow, RunnableAnswersRefute, RunnableAnswersSolve, RunnableLogsDerived}, Unknown.{RunnableAnswersAccountedFor, RunnableFedAnswersDecide}, UnknownExamples.{HasEndings}};
+ghost use Rattle.spec_job.specs.{Counts.{ReplaysCount, RunsAreFew}, DemandOne.{NoneIsDue, SinglesAgree}, DemandOneUpTo.{HasUpTo, SinglesAgreeUpTo}, Examples.{HasExamples, HasExchanges, HasReasked, HasRefutations, HasRunnable}, Exported.{ExchangesTellDerived, ExportsAreDerived, HasUnexported}, Following.{RunnableJournalsFollow}, Left.{LeftFalls}, ProfileExamples.{HasProfiles}, Provenance.{RunnableClausesOwn}, Runnable.{AnswersStay, RunnableAnswersFollow, RunnableAnswersRefute, RunnableAnswersSolve, RunnableLogsDerived}, Unknown.{RunnableAnswersAccountedFor, RunnableFedAnswersDecide}, UnknownExamples.{HasEndings}};
 
 /// The worked examples of a job's machine compute to the answers that are known, under either profile of its solvers,
 /// and own events may happen as they should.
@@ -10,6 +10,7 @@ pub fn job_examples()
     ensures machines { HasExamples }
     ensures refutations { HasRefutations }
     ensures exchanges { HasExchanges }
+    ensures reasked { HasReasked }
     ensures runnable { HasRunnable }
     ensures profiles { HasProfiles }
 {}
