@@ -1,7 +1,7 @@
 -- A history that is written is read again.
-use Rattle.std.proofs.Common.{◌≡◌, ℕ, suc, ◌+◌, ◌<◌, ◌≤◌, ◌^◌, Bool, true, false, cond, ◌==◌, List, [], ◌∷◌, map, flat_map, length, codes, pos, Result, Ok, refl, ap, ◌∙◌, arith}
+use Rattle.std.proofs.Common.{◌≡◌, ℕ, suc, ◌+◌, ◌<◌, ◌≤◌, ◌^◌, Bool, true, false, cond, ◌||◌, ◌==◌, List, [], ◌∷◌, map, flat_map, length, codes, pos, Result, Ok, refl, ap, ◌∙◌, arith}
 use Rattle.std.specs.Fmt.{digits}
-use Rattle.std.specs.List.{AllByRecursion}
+use Rattle.std.specs.List.{AllByRecursion, list_any}
 use Rattle.std.proofs.lemmas.Bool.Decides.{nat_tests}
 use Rattle.std.proofs.lemmas.List.Concat.{flat_map-cons}
 use Rattle.spec_text.specs.Asks.{profile_words}
@@ -12,10 +12,10 @@ use Rattle.spec_text.proofs.Numerals.{numbers_read_again}
 use Rattle.spec_dimacs.specs.Reading.{◌>>=◌}
 use Rattle.spec_dimacs.proofs.Again.{rows_again}
 use Rattle.mal_history.specs.declared.event.Event.{Event}
-use Rattle.mal_history.specs.declared.event.Event.TheVariants.{Open, Revise, Close, Balance, Start, Finish, Exchange}
+use Rattle.mal_history.specs.declared.event.Event.TheVariants.{Open, Revise, Reask, Close, Balance, Start, Finish, Exchange}
 use Rattle.mal_history.specs.declared.event.Share.{Share}
 use Rattle.mal_history.specs.Differ.{IsShare, IsWritable}
-use Rattle.mal_history.specs.Text.{share_words, event_words, version_of, header_words, history_text}
+use Rattle.mal_history.specs.Text.{share_words, event_words, is_of_version_2, version_of, header_words, history_text}
 use Rattle.mal_history.specs.Reading.{Fault, header_of, on_line, events_from, read_rows, most_events}
 use Rattle.mal_history.specs.Grammar.{Says, SayProfile, SayShares, SpellsEvent}
 use Rattle.mal_history.specs.Formed.{IsVolume, IsSeat, IsEvent, IsHistory, lines_from}
@@ -34,6 +34,7 @@ shares-writable (s ∷ ss) h =
 writable : (workers : ℕ) (e : Event) → workers ≤ 64 → IsEvent workers e → IsWritable e
 writable workers (Open tenant job ask) low h = (name-clean tenant h.0.0, name-clean job h.0.1, omega (arith, h.1.priority_bound), omega (arith, h.1.demand_bound), omega (arith, h.1.slices_bound), omega (arith, h.1.profile_bound))
 writable workers (Revise tenant job number) low h = (name-clean tenant h.0.0, name-clean job h.0.1, omega (arith, h.2))
+writable workers (Reask tenant job weight) low h = absurd h
 writable workers (Close tenant job) low h = (name-clean tenant h.0, name-clean job h.1)
 writable workers (Balance volumes) low h = shares-writable volumes h
 writable workers (Start tenant job index worker) low h = (name-clean tenant h.0.0, name-clean job h.0.1, omega (arith, h.1.index_bound), omega (arith, h.1.worker_bound, low))
@@ -77,6 +78,7 @@ spelled workers (Open tenant job ask) low h = record {
   say_profile = profile-says ask.profile h.1.some_profile h.1.profile_bound;
 }
 spelled workers (Revise tenant job number) low h = record { word = decimal_word number; row = refl; names = h.0; says_number = says 1 256 number h.1 h.2 (omega arith) }
+spelled workers (Reask tenant job weight) low h = absurd h
 spelled workers (Close tenant job) low h = (refl, h)
 spelled workers (Balance volumes) low h = record { behind = flat_map share_words volumes; row = refl; says_volumes = shares-say volumes h }
 spelled workers (Start tenant job index worker) low h =
@@ -100,9 +102,22 @@ pub history-rows : (workers : ℕ) (events : List Event) → IsHistory workers e
 history-rows workers events h = (header-row (version_of events) workers, event-rows events (all-writable workers events h.bound h.formed))
 
 -- the version is the one that is read
-pub version-read : (events : List Event) → version_of events ≡ 1
-version-read [] = refl
-version-read (e ∷ events) = version-read events
+is-of-version-1 : (workers : ℕ) (e : Event) → IsEvent workers e → is_of_version_2 e ≡ false
+is-of-version-1 workers (Open tenant job ask) h = refl
+is-of-version-1 workers (Revise tenant job number) h = refl
+is-of-version-1 workers (Reask tenant job weight) h = absurd h
+is-of-version-1 workers (Close tenant job) h = refl
+is-of-version-1 workers (Balance volumes) h = refl
+is-of-version-1 workers (Start tenant job index worker) h = refl
+is-of-version-1 workers (Finish tenant job index worker outcome) h = refl
+is-of-version-1 workers (Exchange tenant job) h = refl
+
+abbrev version-for : Bool → ℕ
+version-for b = cond b 2 1
+
+version-read : (workers : ℕ) (events : List Event) → AllByRecursion (IsEvent workers) events → version_of events ≡ 1
+version-read workers [] h = refl
+version-read workers (e ∷ events) h = ap (λ (b : Bool). version-for (b || list_any is_of_version_2 events)) (is-of-version-1 workers e h.0) ∙ version-read workers events h.1
 
 version-word : decimal_word 1 ≡ codes "1"
 unfolding digits
@@ -115,6 +130,6 @@ written-read workers events h =
     let header : header_of (header_words 1 workers) ≡ Ok workers =
     ap (λ (version : List ℕ). header_of (codes "h" ∷ codes "mal" ∷ version ∷ decimal_word workers ∷ [])) version-word ∙ says-read 1 64 (decimal_word workers) workers (says 1 64 workers h.some h.bound (omega arith)) in
     ap read_rows (rows_again rows (history-rows workers events h))
-    ∙ ap (λ (version : ℕ). read_rows (header_words version workers ∷ map event_words events)) (version-read events)
+    ∙ ap (λ (version : ℕ). read_rows (header_words version workers ∷ map event_words events)) (version-read workers events h.formed)
     ∙ ap (λ (r : Result ℕ Fault). on_line 1 r >>= λ n. events_from most_events n 1 0 (map event_words events)) header
     ∙ events-again most_events workers 1 0 events h.bound h.formed (omega (arith, h.few))

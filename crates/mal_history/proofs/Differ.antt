@@ -3,7 +3,7 @@ use Rattle.std.proofs.Common.{◌≡◌, ◌==◌, ℕ, Bool, true, false, cond,
 use Rattle.std.specs.List.{AllByRecursion}
 use Rattle.std.proofs.lemmas.Bool.Decides.{nat_tests}
 use Rattle.std.proofs.lemmas.List.Concat.{flat_map-cons}
-use Rattle.mal_base.specs.Asks.{Terms}
+use Rattle.mal_base.specs.Asks.{Terms, Weighed}
 use Rattle.mal_base.specs.declared.verdict.Outcome.{Outcome}
 use Rattle.mal_base.specs.declared.verdict.Outcome.TheVariants.{Ran, Starved, Lost}
 use Rattle.spec_text.specs.Asks.{profile_words}
@@ -13,7 +13,7 @@ use Rattle.spec_text.proofs.Again.{texts_differ}
 use Rattle.spec_text.proofs.Clean.{decimals_are_clean, decimals_differ}
 use Rattle.spec_text.proofs.Names.{profile-clean}
 use Rattle.mal_history.specs.declared.event.Event.{Event}
-use Rattle.mal_history.specs.declared.event.Event.TheVariants.{Open, Revise, Close, Balance, Start, Finish, Exchange}
+use Rattle.mal_history.specs.declared.event.Event.TheVariants.{Open, Revise, Reask, Close, Balance, Start, Finish, Exchange}
 use Rattle.mal_history.specs.declared.event.Share.{Share}
 use Rattle.mal_history.specs.Text.{outcome_word, share_words, event_words, version_of, header_words, history_text}
 use Rattle.mal_history.specs.Differ.{IsNumber, IsShare, IsWritable, one_start, one_open, HistoriesDiffer, HaveOtherTexts}
@@ -45,6 +45,7 @@ outcome-clean Lost = (omega arith, (omega arith, (omega arith, (omega arith, (om
 event-row : (e : Event) → IsWritable e → IsRow (event_words e)
 event-row (Open t j ask) h = (omega arith, ((omega arith, (omega arith, tt)), (h.0, (h.1, (decimals_are_clean ask.priority, (decimals_are_clean ask.demand, (decimals_are_clean ask.slices, profile-clean ask.profile)))))))
 event-row (Revise t j n) h = (omega arith, ((omega arith, (omega arith, tt)), (h.0, (h.1, (decimals_are_clean n, tt)))))
+event-row (Reask t j w) h = (omega arith, ((omega arith, (omega arith, tt)), (h.0, (h.1, (decimals_are_clean w.priority, (decimals_are_clean w.demand, tt))))))
 event-row (Close t j) h = (omega arith, ((omega arith, (omega arith, tt)), (h.0, (h.1, tt))))
 event-row (Balance ss) h = one-row (codes "b") (flat_map share_words ss) (omega arith, (omega arith, tt)) (shares-clean ss h)
 event-row (Start t j i w) h = (omega arith, ((omega arith, (omega arith, tt)), (h.0, (h.1, (decimals_are_clean i, (decimals_are_clean w, tt))))))
@@ -100,6 +101,7 @@ shares-differ (s ∷ ss) (t ∷ ts) h k e =
 letter_of : Event → ℕ
 letter_of (Open t j ask) = 111
 letter_of (Revise t j n) = 114
+letter_of (Reask t j w) = 113
 letter_of (Close t j) = 99
 letter_of (Balance ss) = 98
 letter_of (Start t j i w) = 115
@@ -116,6 +118,7 @@ letter-first : (e : Event) → first_byte (event_words e) ≡ letter_of e
 unfolding letter_of first_byte
 letter-first (Open t j ask) = refl
 letter-first (Revise t j n) = refl
+letter-first (Reask t j w) = refl
 letter-first (Close t j) = refl
 letter-first (Balance ss) = refl
 letter-first (Start t j i w) = refl
@@ -149,6 +152,21 @@ revise-differ t u j k m n x y e =
     let word : decimal_word m ≡ decimal_word n = cc in
     let number : m ≡ n = decimals_differ m n x y word in
     rw (tenant, job, number) refl
+
+weight-same : (v w : Weighed) → v.priority ≡ w.priority → v.demand ≡ w.demand → v ≡ w
+weight-same v w x y = ap (λ (n : ℕ). weight n v.demand) x ∙ ap (λ (n : ℕ). weight w.priority n) y
+  where
+    weight : ℕ → ℕ → Weighed
+    weight priority demand = record { priority = priority; demand = demand }
+
+reask-differ : (t u j k : List ℕ) (v w : Weighed) → IsNumber v.priority → IsNumber w.priority → IsNumber v.demand → IsNumber w.demand → event_words (Reask t j v) ≡ event_words (Reask u k w) → Reask t j v ≡ Reask u k w
+reask-differ t u j k v w p q d f e =
+    let tenant : t ≡ u = cc in
+    let job : j ≡ k = cc in
+    let priority : decimal_word v.priority ≡ decimal_word w.priority = cc in
+    let demand : decimal_word v.demand ≡ decimal_word w.demand = cc in
+    let weight : v ≡ w = weight-same v w (decimals_differ v.priority w.priority p q priority) (decimals_differ v.demand w.demand d f demand) in
+    rw (tenant, job, weight) refl
 
 close-differ : (t u j k : List ℕ) → event_words (Close t j) ≡ event_words (Close u k) → Close t j ≡ Close u k
 close-differ t u j k e = let tenant : t ≡ u = cc in let job : j ≡ k = cc in rw (tenant, job) refl
@@ -186,6 +204,7 @@ events-differ : (e f : Event) → IsWritable e → IsWritable f → letter_of e 
 unfolding letter_of
 events-differ (Open t j a) (Open u k b) h i same e = open-differ t u j k a b h.2 i.2 h.3 i.3 h.4 i.4 h.5 i.5 e
 events-differ (Revise t j m) (Revise u k n) h i same e = revise-differ t u j k m n h.2 i.2 e
+events-differ (Reask t j v) (Reask u k w) h i same e = reask-differ t u j k v w h.2 i.2 h.3 i.3 e
 events-differ (Close t j) (Close u k) h i same e = close-differ t u j k e
 events-differ (Balance ss) (Balance ts) h i same e = balance-differ ss ts h i e
 events-differ (Start t j m v) (Start u k n w) h i same e = start-differ t u j k m n v w h.2 i.2 h.3 i.3 e
@@ -235,6 +254,7 @@ index-of : List Event → ℕ
 index-of [] = 9
 index-of (Open t j ask ∷ es) = 9
 index-of (Revise t j n ∷ es) = 9
+index-of (Reask t j w ∷ es) = 9
 index-of (Close t j ∷ es) = 9
 index-of (Balance ss ∷ es) = 9
 index-of (Start t j i w ∷ es) = i

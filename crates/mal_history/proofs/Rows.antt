@@ -5,7 +5,7 @@ use Rattle.std.specs.List.{AllByRecursion}
 use Rattle.std.proofs.lemmas.Bool.{lt-ltb, ltb-true}
 use Rattle.spec_dimacs.specs.Reading.{◌>>=◌}
 use Rattle.mal_history.specs.declared.event.Event.{Event}
-use Rattle.mal_history.specs.declared.event.Event.TheVariants.{Open, Revise, Close, Balance, Start, Finish, Exchange}
+use Rattle.mal_history.specs.declared.event.Event.TheVariants.{Open, Revise, Reask, Close, Balance, Start, Finish, Exchange}
 use Rattle.mal_history.specs.declared.event.Share.{Share}
 use Rattle.mal_history.specs.Reading.{Read, Fault, header_of, event_of, next_event, on_line, with_event, events_from, history_from, most_events}
 use Rattle.mal_history.specs.Reading.Fault.{TooLong}
@@ -155,6 +155,7 @@ shares-formed words (s ∷ ss) h = (record { names = h.1.names; bound = h.1.says
 event-formed : (workers : ℕ) (words : List (List ℕ)) (e : Event) → SpellsEvent workers words e → IsEvent workers e
 event-formed workers words (Open tenant job ask) h = (h.names, asks-formed h.priority h.demand h.slices h.profile ask h.says_priority h.says_demand h.says_slices h.say_profile)
 event-formed workers words (Revise tenant job number) h = (h.names, h.says_number.1, h.says_number.2)
+event-formed workers words (Reask tenant job weight) h = absurd h
 event-formed workers words (Close tenant job) h = h.1
 event-formed workers words (Balance volumes) h = shares-formed h.behind volumes h.says_volumes
 event-formed workers words (Start tenant job index worker) h = (h.names, record { index_bound = h.says_index.2; some_worker = h.says_worker.1; worker_bound = h.says_worker.2 })

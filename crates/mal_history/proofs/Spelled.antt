@@ -8,7 +8,7 @@ use Rattle.mal_base.specs.Names.{is_name}
 use Rattle.mal_base.specs.declared.verdict.Outcome.{Outcome}
 use Rattle.spec_dimacs.specs.Reading.{◌>>=◌}
 use Rattle.mal_history.specs.declared.event.Event.{Event}
-use Rattle.mal_history.specs.declared.event.Event.TheVariants.{Open, Revise, Close, Balance, Start, Finish, Exchange}
+use Rattle.mal_history.specs.declared.event.Event.TheVariants.{Open, Revise, Reask, Close, Balance, Start, Finish, Exchange}
 use Rattle.mal_history.specs.declared.event.Share.{Share}
 use Rattle.mal_history.specs.Text.{outcome_word}
 use Rattle.mal_history.specs.Reading.{Fault, in_range, ask_of, profile_of, outcome_of, opened, revised, closed, started, finished, exchanged, event_of_job, named_event, are_shares, shares_of, balanced, event_of}
@@ -33,6 +33,7 @@ spelled-read workers words (Open tenant job ask) h =
 spelled-read workers words (Revise tenant job number) h =
     ap (event_of workers) h.row ∙ named workers (codes "r") tenant job (h.word ∷ []) h.names
     ∙ ap (λ (r : Result ℕ Fault). r >>= λ n. Ok (Revise tenant job n)) (says-read 1 256 h.word number h.says_number)
+spelled-read workers words (Reask tenant job weight) h = absurd h
 spelled-read workers words (Close tenant job) h = ap (event_of workers) h.0 ∙ named workers (codes "c") tenant job [] h.1
 spelled-read workers words (Balance volumes) h =
     ap (event_of workers) h.row

@@ -5,7 +5,7 @@ use Rattle.mal_base.specs.declared.verdict.Outcome.{Outcome}
 use Rattle.mal_base.specs.declared.verdict.Outcome.TheVariants.{Ran, Lost}
 use Rattle.spec_text.specs.Lines.{IsClean}
 use Rattle.mal_history.specs.declared.event.Event.{Event}
-use Rattle.mal_history.specs.declared.event.Event.TheVariants.{Open, Revise, Close, Balance, Start, Finish, Exchange}
+use Rattle.mal_history.specs.declared.event.Event.TheVariants.{Open, Revise, Reask, Close, Balance, Start, Finish, Exchange}
 use Rattle.mal_history.specs.declared.event.Share.{Share}
 use Rattle.mal_history.specs.Text.{history_text}
 
@@ -23,6 +23,7 @@ pub record IsShare (s : Share) : Type 0 where
 abbrev pub IsWritable : Event → Type 0
 IsWritable (Open tenant job ask) = IsClean tenant × IsClean job × IsNumber ask.priority × IsNumber ask.demand × IsNumber ask.slices × IsNumber ask.profile
 IsWritable (Revise tenant job number) = IsClean tenant × IsClean job × IsNumber number
+IsWritable (Reask tenant job weight) = IsClean tenant × IsClean job × IsNumber weight.priority × IsNumber weight.demand
 IsWritable (Close tenant job) = IsClean tenant × IsClean job
 IsWritable (Balance volumes) = AllByRecursion IsShare volumes
 IsWritable (Start tenant job index worker) = IsClean tenant × IsClean job × IsNumber index × IsNumber worker

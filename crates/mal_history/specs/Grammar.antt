@@ -7,7 +7,7 @@ use Rattle.spec_text.specs.Numbers.{number_in}
 use Rattle.spec_text.specs.Numbers.NumberWord.{Number}
 use Rattle.spec_dimacs.specs.Rows.{rows_of}
 use Rattle.mal_history.specs.declared.event.Event.{Event}
-use Rattle.mal_history.specs.declared.event.Event.TheVariants.{Open, Revise, Close, Balance, Start, Finish, Exchange}
+use Rattle.mal_history.specs.declared.event.Event.TheVariants.{Open, Revise, Reask, Close, Balance, Start, Finish, Exchange}
 use Rattle.mal_history.specs.declared.event.Share.{Share}
 use Rattle.mal_history.specs.Text.{outcome_word}
 use Rattle.mal_history.specs.Reading.{Read, most_events}
@@ -86,6 +86,7 @@ pub record SpellsFinish (workers : ℕ) (words : List (List ℕ)) (tenant job : 
 abbrev pub SpellsEvent : ℕ → List (List ℕ) → Event → Type 0
 SpellsEvent workers words (Open tenant job ask) = SpellsOpen words tenant job ask
 SpellsEvent workers words (Revise tenant job number) = SpellsRevise words tenant job number
+SpellsEvent workers words (Reask tenant job weight) = ⊥
 SpellsEvent workers words (Close tenant job) = (words ≡ codes "c" ∷ tenant ∷ job ∷ []) × AreNames tenant job
 SpellsEvent workers words (Balance volumes) = SpellsBalance words volumes
 SpellsEvent workers words (Start tenant job index worker) = SpellsStart workers words tenant job index worker

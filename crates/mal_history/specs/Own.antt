@@ -2,7 +2,7 @@
 use Rattle.std.specs.Prelude.{ℕ, Bool, ◌&&◌, true, false, ◌==◌, bytes_eq, List, [], ◌∷◌, ◌++◌, fold, find, if◌then◌else◌}
 use Rattle.std.specs.Option.{option_map_or}
 use Rattle.mal_history.specs.declared.event.Event.{Event}
-use Rattle.mal_history.specs.declared.event.Event.TheVariants.{Open, Revise, Close, Balance, Start, Finish, Exchange}
+use Rattle.mal_history.specs.declared.event.Event.TheVariants.{Open, Revise, Reask, Close, Balance, Start, Finish, Exchange}
 use Rattle.mal_history.specs.declared.event.Share.{Share}
 
 -- a job of a tenant is the one of these names
@@ -35,6 +35,7 @@ tells_volume tenant job volume told =
 abbrev pub own_step : List ℕ → List ℕ → OwnSoFar → Event → OwnSoFar
 own_step tenant job told (Open t j ask) = tells (is_of tenant job t j) (Open tenant job ask) told
 own_step tenant job told (Revise t j number) = tells (is_of tenant job t j) (Revise tenant job number) told
+own_step tenant job told (Reask t j weight) = tells (is_of tenant job t j) (Reask tenant job weight) told
 own_step tenant job told (Close t j) = tells (is_of tenant job t j) (Close tenant job) told
 own_step tenant job told (Balance volumes) = tells_volume tenant job (volume_in tenant job volumes) told
 own_step tenant job told (Start t j index worker) = tells (is_of tenant job t j) (Start tenant job index 1) told

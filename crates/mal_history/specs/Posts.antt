@@ -4,12 +4,13 @@ use Rattle.mal_history.specs.declared.event.Event.{Event}
 use Rattle.mal_history.specs.declared.event.Event.TheVariants as of
 use Rattle.mal_history.specs.declared.post.PostLine.{PostLine}
 use Rattle.mal_history.specs.declared.post.PostKind.{PostKind}
-use Rattle.mal_history.specs.declared.post.PostKind.TheVariants.{Opening, Revision, Closing}
+use Rattle.mal_history.specs.declared.post.PostKind.TheVariants.{Opening, Revision, Reasking, Closing}
 
 -- which post an event is: none for what the hall does by itself
 abbrev pub post_of : Event → Option PostLine
 post_of (of.Open tenant job ask) = Some (record { tenant = tenant; job = job; kind = Opening ask })
 post_of (of.Revise tenant job number) = Some (record { tenant = tenant; job = job; kind = Revision number })
+post_of (of.Reask tenant job weight) = Some (record { tenant = tenant; job = job; kind = Reasking weight })
 post_of (of.Close tenant job) = Some (record { tenant = tenant; job = job; kind = Closing })
 post_of (of.Balance volumes) = None
 post_of (of.Start tenant job index worker) = None
@@ -20,6 +21,7 @@ post_of (of.Exchange tenant job) = None
 abbrev pub event_about : List ℕ → List ℕ → PostKind → Event
 event_about tenant job (Opening ask) = of.Open tenant job ask
 event_about tenant job (Revision number) = of.Revise tenant job number
+event_about tenant job (Reasking weight) = of.Reask tenant job weight
 event_about tenant job Closing = of.Close tenant job
 
 -- the event of a post

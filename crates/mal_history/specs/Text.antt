@@ -1,9 +1,9 @@
-use Rattle.std.specs.Prelude.{ℕ, Bool, false, List, [], ◌∷◌, map, flat_map, codes, if◌then◌else◌}
+use Rattle.std.specs.Prelude.{ℕ, Bool, true, false, List, [], ◌∷◌, map, flat_map, codes, if◌then◌else◌}
 use Rattle.std.specs.List.{list_any}
 use Rattle.mal_base.specs.declared.verdict.Outcome.{Outcome}
 use Rattle.mal_base.specs.declared.verdict.Outcome.TheVariants.{Ran, Starved, Lost}
 use Rattle.mal_history.specs.declared.event.Event.{Event}
-use Rattle.mal_history.specs.declared.event.Event.TheVariants.{Open, Revise, Close, Balance, Start, Finish, Exchange}
+use Rattle.mal_history.specs.declared.event.Event.TheVariants.{Open, Revise, Reask, Close, Balance, Start, Finish, Exchange}
 use Rattle.mal_history.specs.declared.event.Assignment.{Assignment}
 use Rattle.mal_history.specs.declared.event.Share.{Share}
 use Rattle.spec_text.specs.Asks.{ask_words}
@@ -28,14 +28,16 @@ assignment_words a = a.tenant ∷ a.job ∷ decimal_word a.index ∷ decimal_wor
 abbrev pub event_words : Event → List (List ℕ)
 event_words (Open tenant job ask) = codes "o" ∷ tenant ∷ job ∷ ask_words ask
 event_words (Revise tenant job number) = codes "r" ∷ tenant ∷ job ∷ decimal_word number ∷ []
+event_words (Reask tenant job weight) = codes "q" ∷ tenant ∷ job ∷ decimal_word weight.priority ∷ decimal_word weight.demand ∷ []
 event_words (Close tenant job) = codes "c" ∷ tenant ∷ job ∷ []
 event_words (Balance volumes) = codes "b" ∷ flat_map share_words volumes
 event_words (Start tenant job index worker) = codes "s" ∷ tenant ∷ job ∷ decimal_word index ∷ decimal_word worker ∷ []
 event_words (Finish tenant job index worker outcome) = codes "f" ∷ tenant ∷ job ∷ decimal_word index ∷ decimal_word worker ∷ outcome_word outcome ∷ []
 event_words (Exchange tenant job) = codes "x" ∷ tenant ∷ job ∷ []
 
--- an event that only version 2 of the format has: there is none yet
+-- an event that only version 2 of the format has
 abbrev pub is_of_version_2 : Event → Bool
+is_of_version_2 (Reask tenant job weight) = true
 is_of_version_2 event = false
 
 -- the version of the format in which events are told, which is known before the first byte

@@ -4,7 +4,7 @@ ghost use Rattle.std.specs.Prelude.{◌≡◌, ◌↔◌, [], ◌∷◌, ◌++�
 ghost use Rattle.std.specs.Arc.{arc_value};
 ghost use Rattle.mal_history.specs.Shared.{shared};
 
-use mal_base::{Ask, Name, Outcome};
+use mal_base::{Ask, Name, Outcome, Weight};
 use std::alloc::{AllocError, Global};
 use std::marker::Model;
 use std::sync::Arc;
@@ -125,6 +125,11 @@ pub enum Event {
         tenant: Name,
         job: Name,
         number: u32,
+    },
+    Reask {
+        tenant: Name,
+        job: Name,
+        weight: Weight,
     },
     Close {
         tenant: Name,

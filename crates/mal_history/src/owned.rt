@@ -71,6 +71,19 @@ fn tell(
                 number: *number,
             },
         )?,
+        Event::Reask {
+            tenant: t,
+            job: j,
+            weight,
+        } => put(
+            own,
+            is_of(tenant, job, *t, *j),
+            Event::Reask {
+                tenant,
+                job,
+                weight: *weight,
+            },
+        )?,
         Event::Close { tenant: t, job: j } => put(
             own,
             is_of(tenant, job, *t, *j),

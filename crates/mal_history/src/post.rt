@@ -4,7 +4,7 @@ ghost use Rattle.std.specs.Prelude.{◌≡◌, ◌↔◌, IsTrue};
 ghost use Rattle.mal_history.specs.Posts.{event_of, post_of};
 
 use crate::event::Event;
-use mal_base::{Ask, Name};
+use mal_base::{Ask, Name, Weight};
 
 /// What a tenant posts of a job, as it is written down: without its contents.
 #[derive(Clone, Copy, Debug, PartialEq, Eq)]
@@ -14,11 +14,12 @@ pub struct PostLine {
     pub kind: PostKind,
 }
 
-/// What is posted of a job: it is opened, its revision of a number is posted, or it is closed.
+/// What is posted of a job: it is opened, its revision of a number is posted, its weight is changed, or it is closed.
 #[derive(Clone, Copy, Debug, PartialEq, Eq)]
 pub enum PostKind {
     Opening(Ask),
     Revision(u32),
+    Reasking(Weight),
     Closing,
 }
 
@@ -34,6 +35,11 @@ impl Event {
                 job,
                 number,
             } => (*tenant, *job, PostKind::Revision(*number)),
+            Event::Reask {
+                tenant,
+                job,
+                weight,
+            } => (*tenant, *job, PostKind::Reasking(*weight)),
             Event::Close { tenant, job } => (*tenant, *job, PostKind::Closing),
             _ => return None,
         };

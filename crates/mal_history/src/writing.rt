@@ -1,16 +1,17 @@
 //! Writing a history: a first line with the version of the format and the number of workers, then a line an event.
 
 ghost use Rattle.std.specs.Prelude.{◌≡◌, ◌≤◌, List, ℕ, ◌∷◌, ◌++◌, map, flat_map, codes, IfOk, OnOk, OnErr};
+ghost use Rattle.std.specs.List.{list_any};
 ghost use Rattle.std.specs.Io.KnownBytes.{Appends};
 ghost use Rattle.spec_text.specs.Lines.{line_of};
 ghost use Rattle.mal_io.specs.Moves.{Rose, GotPrefix};
-ghost use Rattle.mal_history.specs.{Shared.{shared}, Text.{outcome_word, assignment_words, share_words, event_words, is_of_version_2, version_of, header_words, history_text}, declared.event.Event.TheVariants.{Open, Revise}};
+ghost use Rattle.mal_history.specs.{Shared.{shared}, Text.{outcome_word, assignment_words, share_words, event_words, is_of_version_2, version_of, header_words, history_text}, declared.event.Event.TheVariants.{Open, Revise, Reask}};
 
 use crate::event::{Assignment, Event, Share};
 use crate::history::History;
 use crate::pieced::Pieced;
 use itoa::Buffer;
-use mal_base::{Ask, Name, Outcome};
+use mal_base::{Ask, Name, Outcome, Weight};
 use mal_io::{Sink, WriteFault};
 use mal_text::put_ask;
 use mal_text::taker::{Taker, put_line, put_words};
@@ -62,18 +63,21 @@ fn put_history<T: Taker>(out: &mut T, history: &History) -> Result<(), T::Fault>
 fn version_of(events: &[Event]) -> u32
     ensures { result ≡ version_of events.now }
 {
-    if events.iter().any(|e| is_of_version_2(e)) {
-        2
-    } else {
-        1
-    }
+    if are_of_version_2(events) { 2 } else { 1 }
 }
 
-/// Whether only version 2 of the format has an event. There is none yet.
-fn is_of_version_2(_event: &Event) -> bool
-    ensures { result ≡ is_of_version_2 _event.now }
+/// Whether only version 2 of the format has one of the events.
+fn are_of_version_2(events: &[Event]) -> bool
+    ensures { result ≡ list_any is_of_version_2 events.now }
 {
-    false
+    events.iter().any(|e| is_of_version_2(e))
+}
+
+/// Whether only version 2 of the format has an event.
+fn is_of_version_2(event: &Event) -> bool
+    ensures { result ≡ is_of_version_2 event.now }
+{
+    matches!(event, Event::Reask { .. })
 }
 
 /// Puts the first line: the version of the format and the number of workers.
@@ -111,6 +115,11 @@ fn put_event<T: Taker>(out: &mut T, event: &Event) -> Result<(), T::Fault>
             job,
             number,
         } => put_revise(out, tenant, job, *number),
+        Event::Reask {
+            tenant,
+            job,
+            weight,
+        } => put_reask(out, tenant, job, *weight),
         Event::Close { tenant, job } => put_line(out, b"c", &[tenant.as_bytes(), job.as_bytes()]),
         Event::Balance { volumes } => put_balance(out, volumes.as_slice()),
         Event::Start {
@@ -160,6 +169,26 @@ fn put_revise<T: Taker>(out: &mut T, tenant: &Name, job: &Name, number: u32) -> 
         buffer.format(number).as_bytes(),
     ];
     put_line(out, b"r", &words)
+}
+
+/// Puts the line of a change of a job's weight.
+fn put_reask<T: Taker>(
+    out: &mut T,
+    tenant: &Name,
+    job: &Name,
+    weight: Weight,
+) -> Result<(), T::Fault>
+    ensures { OnOk result (T.took out.old out.new (line_of (event_words (Reask tenant.now job.now weight)))) }
+{
+    let mut first = Buffer::new();
+    let mut second = Buffer::new();
+    let words = [
+        tenant.as_bytes(),
+        job.as_bytes(),
+        first.format(weight.priority()).as_bytes(),
+        second.format(weight.demand()).as_bytes(),
+    ];
+    put_line(out, b"q", &words)
 }
 
 /// Puts the line of a balancing.
