@@ -1,5 +1,5 @@
 -- A history that is written is read again.
-use Rattle.std.proofs.Common.{◌≡◌, ℕ, suc, ◌+◌, ◌<◌, ◌≤◌, ◌^◌, Bool, true, false, cond, ◌||◌, ◌==◌, List, [], ◌∷◌, map, flat_map, length, codes, pos, Result, Ok, refl, ap, ◌∙◌, arith}
+use Rattle.std.proofs.Common.{inl, inr, ◌≡◌, ℕ, suc, ◌+◌, ◌<◌, ◌≤◌, ◌^◌, Bool, true, false, cond, ◌||◌, ◌==◌, List, [], ◌∷◌, map, flat_map, length, codes, pos, Result, Ok, refl, ap, ◌∙◌, arith}
 use Rattle.std.specs.Fmt.{digits}
 use Rattle.std.specs.List.{AllByRecursion, list_any}
 use Rattle.std.proofs.lemmas.Bool.Decides.{nat_tests}
@@ -14,14 +14,15 @@ use Rattle.spec_dimacs.proofs.Again.{rows_again}
 use Rattle.mal_history.specs.declared.event.Event.{Event}
 use Rattle.mal_history.specs.declared.event.Event.TheVariants.{Open, Revise, Reask, Close, Balance, Start, Finish, Exchange}
 use Rattle.mal_history.specs.declared.event.Share.{Share}
+use Rattle.mal_history.specs.declared.line.Header.{Header}
 use Rattle.mal_history.specs.Differ.{IsShare, IsWritable}
 use Rattle.mal_history.specs.Text.{share_words, event_words, is_of_version_2, version_of, header_words, history_text}
 use Rattle.mal_history.specs.Reading.{Fault, header_of, on_line, events_from, read_rows, most_events}
-use Rattle.mal_history.specs.Grammar.{Says, SayProfile, SayShares, SpellsEvent}
+use Rattle.mal_history.specs.Grammar.{Says, SayProfile, SayShares, SaysVersion, SpellsEvent}
 use Rattle.mal_history.specs.Formed.{IsVolume, IsSeat, IsEvent, IsHistory, lines_from}
 use Rattle.mal_history.specs.Laws.{WrittenIsRead}
 use Rattle.mal_history.proofs.Differ.{event-rows, header-row}
-use Rattle.mal_history.proofs.Words.{says-read}
+use Rattle.mal_history.proofs.Words.{header-read}
 use Rattle.mal_history.proofs.Spelled.{spelled-read}
 use Rattle.mal_history.proofs.Rows.{one-more}
 
@@ -34,7 +35,7 @@ shares-writable (s ∷ ss) h =
 writable : (workers : ℕ) (e : Event) → workers ≤ 64 → IsEvent workers e → IsWritable e
 writable workers (Open tenant job ask) low h = (name-clean tenant h.0.0, name-clean job h.0.1, omega (arith, h.1.priority_bound), omega (arith, h.1.demand_bound), omega (arith, h.1.slices_bound), omega (arith, h.1.profile_bound))
 writable workers (Revise tenant job number) low h = (name-clean tenant h.0.0, name-clean job h.0.1, omega (arith, h.2))
-writable workers (Reask tenant job weight) low h = absurd h
+writable workers (Reask tenant job weight) low h = (name-clean tenant h.0.0, name-clean job h.0.1, omega (arith, h.1.priority_bound), omega (arith, h.1.demand_bound))
 writable workers (Close tenant job) low h = (name-clean tenant h.0, name-clean job h.1)
 writable workers (Balance volumes) low h = shares-writable volumes h
 writable workers (Start tenant job index worker) low h = (name-clean tenant h.0.0, name-clean job h.0.1, omega (arith, h.1.index_bound), omega (arith, h.1.worker_bound, low))
@@ -64,8 +65,8 @@ profile-says n some low = by_test (n == 1) refl
 seat-says : (workers index worker : ℕ) → workers ≤ 64 → IsSeat workers index worker → Says 0 63 (decimal_word index) index × Says 1 workers (decimal_word worker) worker
 seat-says workers index worker low h = (says 0 63 index (omega arith) h.index_bound (omega arith), says 1 workers worker h.some_worker h.worker_bound (omega (arith, low)))
 
-spelled : (workers : ℕ) (e : Event) → workers ≤ 64 → IsEvent workers e → SpellsEvent workers (event_words e) e
-spelled workers (Open tenant job ask) low h = record {
+spelled : (version workers : ℕ) (e : Event) → workers ≤ 64 → (is_of_version_2 e ≡ true → version ≡ 2) → IsEvent workers e → SpellsEvent version workers (event_words e) e
+spelled version workers (Open tenant job ask) low told h = record {
   priority = decimal_word ask.priority;
   demand = decimal_word ask.demand;
   slices = decimal_word ask.slices;
@@ -77,59 +78,76 @@ spelled workers (Open tenant job ask) low h = record {
   says_slices = says 1 4096 ask.slices h.1.some_slices h.1.slices_bound (omega arith);
   say_profile = profile-says ask.profile h.1.some_profile h.1.profile_bound;
 }
-spelled workers (Revise tenant job number) low h = record { word = decimal_word number; row = refl; names = h.0; says_number = says 1 256 number h.1 h.2 (omega arith) }
-spelled workers (Reask tenant job weight) low h = absurd h
-spelled workers (Close tenant job) low h = (refl, h)
-spelled workers (Balance volumes) low h = record { behind = flat_map share_words volumes; row = refl; says_volumes = shares-say volumes h }
-spelled workers (Start tenant job index worker) low h =
+spelled version workers (Revise tenant job number) low told h = record { word = decimal_word number; row = refl; names = h.0; says_number = says 1 256 number h.1 h.2 (omega arith) }
+spelled version workers (Reask tenant job weight) low told h = record {
+  priority = decimal_word weight.priority;
+  demand = decimal_word weight.demand;
+  row = refl;
+  version_is = told refl;
+  names = h.0;
+  says_priority = says 1 1000 weight.priority h.1.some_priority h.1.priority_bound (omega arith);
+  says_demand = says 1 64 weight.demand h.1.some_demand h.1.demand_bound (omega arith);
+}
+spelled version workers (Close tenant job) low told h = (refl, h)
+spelled version workers (Balance volumes) low told h = record { behind = flat_map share_words volumes; row = refl; says_volumes = shares-say volumes h }
+spelled version workers (Start tenant job index worker) low told h =
     let seat = seat-says workers index worker low h.1 in
     record { at = decimal_word index; by = decimal_word worker; row = refl; names = h.0; says_index = seat.0; says_worker = seat.1 }
-spelled workers (Finish tenant job index worker outcome) low h =
+spelled version workers (Finish tenant job index worker outcome) low told h =
     let seat = seat-says workers index worker low h.1 in
     record { at = decimal_word index; by = decimal_word worker; row = refl; names = h.0; says_index = seat.0; says_worker = seat.1 }
-spelled workers (Exchange tenant job) low h = (refl, h)
+spelled version workers (Exchange tenant job) low told h = (refl, h)
 
--- the lines of events are read again
-events-again : (max workers line count : ℕ) (events : List Event) → workers ≤ 64 → AllByRecursion (IsEvent workers) events → count + length events ≤ max
-    → events_from max workers line count (map event_words events) ≡ Ok (record { workers = workers; events = events; lines = lines_from (suc line) events })
-events-again max workers line count [] low h few = refl
-events-again max workers line count (e ∷ events) low h few =
-    one-more max workers line count (event_words e) (map event_words events) e (record { workers = workers; events = events; lines = lines_from (suc (suc line)) events }) (spelled-read workers (event_words e) e (spelled workers e low h.0)) (omega (arith, few))
-    (events-again max workers (suc line) (suc count) events low h.1 (omega (arith, few)))
+-- the lines of events are read again in a version that has them
+or-left : (a b : Bool) → a ≡ true → (a || b) ≡ true
+or-left true b e = refl
+or-left false b e = absurd (cc)
+
+or-right : (a b : Bool) → b ≡ true → (a || b) ≡ true
+or-right true b e = refl
+or-right false b e = e
+
+events-again : (max version workers line count : ℕ) (events : List Event) → workers ≤ 64 → (list_any is_of_version_2 events ≡ true → version ≡ 2) → AllByRecursion (IsEvent workers) events → count + length events ≤ max
+    → events_from max version workers line count (map event_words events) ≡ Ok (record { workers = workers; events = events; lines = lines_from (suc line) events })
+events-again max version workers line count [] low told h few = refl
+events-again max version workers line count (e ∷ events) low told h few =
+    let one : SpellsEvent version workers (event_words e) e = spelled version workers e low (λ is. told (or-left (is_of_version_2 e) (list_any is_of_version_2 events) is)) h.0 in
+    one-more max version workers line count (event_words e) (map event_words events) e (record { workers = workers; events = events; lines = lines_from (suc (suc line)) events }) (spelled-read version workers (event_words e) e one) (omega (arith, few))
+    (events-again max version workers (suc line) (suc count) events low (λ are. told (or-right (is_of_version_2 e) (list_any is_of_version_2 events) are)) h.1 (omega (arith, few)))
 
 -- the lines can be written
 pub history-rows : (workers : ℕ) (events : List Event) → IsHistory workers events → AreRows (header_words (version_of events) workers ∷ map event_words events)
 history-rows workers events h = (header-row (version_of events) workers, event-rows events (all-writable workers events h.bound h.formed))
 
--- the version is the one that is read
-is-of-version-1 : (workers : ℕ) (e : Event) → IsEvent workers e → is_of_version_2 e ≡ false
-is-of-version-1 workers (Open tenant job ask) h = refl
-is-of-version-1 workers (Revise tenant job number) h = refl
-is-of-version-1 workers (Reask tenant job weight) h = absurd h
-is-of-version-1 workers (Close tenant job) h = refl
-is-of-version-1 workers (Balance volumes) h = refl
-is-of-version-1 workers (Start tenant job index worker) h = refl
-is-of-version-1 workers (Finish tenant job index worker outcome) h = refl
-is-of-version-1 workers (Exchange tenant job) h = refl
-
+-- the version that is written is one that is read
 abbrev version-for : Bool → ℕ
 version-for b = cond b 2 1
 
-version-read : (workers : ℕ) (events : List Event) → AllByRecursion (IsEvent workers) events → version_of events ≡ 1
-version-read workers [] h = refl
-version-read workers (e ∷ events) h = ap (λ (b : Bool). version-for (b || list_any is_of_version_2 events)) (is-of-version-1 workers e h.0) ∙ version-read workers events h.1
-
-version-word : decimal_word 1 ≡ codes "1"
+one-word : decimal_word 1 ≡ codes "1"
 unfolding digits
-version-word = refl
+one-word = refl
+
+two-word : decimal_word 2 ≡ codes "2"
+unfolding digits
+two-word = refl
+
+version-says : (events : List Event) → SaysVersion (decimal_word (version_of events)) (version_of events)
+version-says events = by_test (list_any is_of_version_2 events)
+  where
+    by_test : (b : Bool) → SaysVersion (decimal_word (version-for b)) (version-for b)
+    by_test true = inr (two-word, refl)
+    by_test false = inl (one-word, refl)
+
+header-again : (workers : ℕ) (events : List Event) → 1 ≤ workers → workers ≤ 64 → header_of (header_words (version_of events) workers) ≡ Ok (record { version = version_of events; workers = workers })
+header-again workers events some low =
+    header-read (header_words (version_of events) workers) (version_of events) workers
+    (record { version_word = decimal_word (version_of events); workers_word = decimal_word workers; row = refl; says_version = version-says events; says_workers = says 1 64 workers some low (omega arith) })
 
 pub written-read : WrittenIsRead
 unfolding history_text
 written-read workers events h =
-    let rows : List (List (List ℕ)) = header_words (version_of events) workers ∷ map event_words events in
-    let header : header_of (header_words 1 workers) ≡ Ok workers =
-    ap (λ (version : List ℕ). header_of (codes "h" ∷ codes "mal" ∷ version ∷ decimal_word workers ∷ [])) version-word ∙ says-read 1 64 (decimal_word workers) workers (says 1 64 workers h.some h.bound (omega arith)) in
+    let version : ℕ = version_of events in
+    let rows : List (List (List ℕ)) = header_words version workers ∷ map event_words events in
     ap read_rows (rows_again rows (history-rows workers events h))
-    ∙ ap (λ (version : ℕ). read_rows (header_words version workers ∷ map event_words events)) (version-read workers events h.formed)
-    ∙ ap (λ (r : Result ℕ Fault). on_line 1 r >>= λ n. events_from most_events n 1 0 (map event_words events)) header
-    ∙ events-again most_events workers 1 0 events h.bound h.formed (omega (arith, h.few))
+    ∙ ap (λ (r : Result Header Fault). on_line 1 r >>= λ x. events_from most_events x.version x.workers 1 0 (map event_words events)) (header-again workers events h.some h.bound)
+    ∙ events-again most_events version workers 1 0 events h.bound (λ has. ap version-for has) h.formed (omega (arith, h.few))

@@ -83,34 +83,33 @@ more-behind events lines e line (Err fault) = refl
 more-behind events lines e line (Ok h) = ap₂ (λ (es : List Event) (ls : List ℕ). Ok (record { workers = h.workers; events = es; lines = ls })) (sym (append_assoc events (e ∷ []) h.events)) (sym (append_assoc lines (line ∷ []) h.lines))
 
 -- the event of a line that was read
-pub next-read : (max workers line : ℕ) (events now : List Event) (lines numbers : List ℕ) (word : List ℕ) (words : List (List ℕ)) (rows : List (List (List ℕ))) (e : Event)
-    → on_line (suc line) (next_event max workers (length events) (word ∷ words)) ≡ Ok e → now ≡ events ++ e ∷ [] → numbers ≡ lines ++ suc line ∷ []
-    → behind now numbers (events_from max workers (suc line) (length now) rows) ≡ behind events lines (events_from max workers line (length events) ((word ∷ words) ∷ rows))
-next-read max workers line events now lines numbers word words rows e read es ls =
-    ap₂ (λ (xs : List Event) (ns : List ℕ). behind xs ns (events_from max workers (suc line) (length xs) rows)) es ls
-    ∙ ap (λ (n : ℕ). behind (events ++ e ∷ []) (lines ++ suc line ∷ []) (events_from max workers (suc line) n rows)) (omega (arith, length-append events (e ∷ [])))
-    ∙ sym (more-behind events lines e (suc line) (events_from max workers (suc line) (suc (length events)) rows))
-    ∙ ap (λ (r : Result Event (ℕ × Fault)). behind events lines (r >>= λ x. events_from max workers (suc line) (suc (length events)) rows >>= λ h. Ok (with_event (suc line) x h))) (sym read)
+pub next-read : (max version workers line : ℕ) (events now : List Event) (lines numbers : List ℕ) (word : List ℕ) (words : List (List ℕ)) (rows : List (List (List ℕ))) (e : Event)
+    → on_line (suc line) (next_event max version workers (length events) (word ∷ words)) ≡ Ok e → now ≡ events ++ e ∷ [] → numbers ≡ lines ++ suc line ∷ []
+    → behind now numbers (events_from max version workers (suc line) (length now) rows) ≡ behind events lines (events_from max version workers line (length events) ((word ∷ words) ∷ rows))
+next-read max version workers line events now lines numbers word words rows e read es ls =
+    ap₂ (λ (xs : List Event) (ns : List ℕ). behind xs ns (events_from max version workers (suc line) (length xs) rows)) es ls
+    ∙ ap (λ (n : ℕ). behind (events ++ e ∷ []) (lines ++ suc line ∷ []) (events_from max version workers (suc line) n rows)) (omega (arith, length-append events (e ∷ [])))
+    ∙ sym (more-behind events lines e (suc line) (events_from max version workers (suc line) (suc (length events)) rows))
+    ∙ ap (λ (r : Result Event (ℕ × Fault)). behind events lines (r >>= λ x. events_from max version workers (suc line) (suc (length events)) rows >>= λ h. Ok (with_event (suc line) x h))) (sym read)
 
 -- an event was put behind those before
-pub record Grown (old new : Written) (max workers line : ℕ) (words : List (List ℕ)) : Type 0 where
+pub record Grown (old new : Written) (max version workers line : ℕ) (words : List (List ℕ)) : Type 0 where
   pub event : Event
-  pub read : on_line line (next_event max workers (length old.events) words) ≡ Ok event
-  pub workers_same : new.workers ≡ old.workers
+  pub read : on_line line (next_event max version workers (length old.events) words) ≡ Ok event
   pub events : new.events ≡ old.events ++ event ∷ []
   pub lines : new.lines ≡ old.lines ++ line ∷ []
 
-pub grown-read : (max workers line after : ℕ) (old new : Written) (word : List ℕ) (words : List (List ℕ)) (rows left : List (List (List ℕ))) (all : Result Read (ℕ × Fault))
-    → Grown old new max old.workers after (word ∷ words) → after ≡ suc line → rows ≡ (word ∷ words) ∷ left → old.workers ≡ workers
-    → behind old.events old.lines (events_from max workers line (length old.events) rows) ≡ all → behind new.events new.lines (events_from max workers after (length new.events) left) ≡ all
-grown-read max workers line after old new word words rows left all g a r w h =
-    ap (λ (n : ℕ). behind new.events new.lines (events_from max workers n (length new.events) left)) a
-    ∙ next-read max workers line old.events new.events old.lines new.lines word words left g.event (subst (λ (n : ℕ). on_line n (next_event max workers (length old.events) (word ∷ words)) ≡ Ok g.event) a (subst (λ (n : ℕ). on_line after (next_event max n (length old.events) (word ∷ words)) ≡ Ok g.event) w g.read)) g.events (subst (λ (n : ℕ). new.lines ≡ old.lines ++ n ∷ []) a g.lines)
-    ∙ ap (λ (rs : List (List (List ℕ))). behind old.events old.lines (events_from max workers line (length old.events) rs)) (sym r)
+pub grown-read : (max version workers line after : ℕ) (old new : Written) (word : List ℕ) (words : List (List ℕ)) (rows left : List (List (List ℕ))) (all : Result Read (ℕ × Fault))
+    → Grown old new max version workers after (word ∷ words) → after ≡ suc line → rows ≡ (word ∷ words) ∷ left
+    → behind old.events old.lines (events_from max version workers line (length old.events) rows) ≡ all → behind new.events new.lines (events_from max version workers after (length new.events) left) ≡ all
+grown-read max version workers line after old new word words rows left all g a r h =
+    ap (λ (n : ℕ). behind new.events new.lines (events_from max version workers n (length new.events) left)) a
+    ∙ next-read max version workers line old.events new.events old.lines new.lines word words left g.event (subst (λ (n : ℕ). on_line n (next_event max version workers (length old.events) (word ∷ words)) ≡ Ok g.event) a g.read) g.events (subst (λ (n : ℕ). new.lines ≡ old.lines ++ n ∷ []) a g.lines)
+    ∙ ap (λ (rs : List (List (List ℕ))). behind old.events old.lines (events_from max version workers line (length old.events) rs)) (sym r)
     ∙ h
 
-pub grown-lengths : (max workers line : ℕ) (old new : Written) (words : List (List ℕ)) → Grown old new max workers line words → length old.lines ≡ length old.events → length new.lines ≡ length new.events
-grown-lengths max workers line old new words g e =
+pub grown-lengths : (max version workers line : ℕ) (old new : Written) (words : List (List ℕ)) → Grown old new max version workers line words → length old.lines ≡ length old.events → length new.lines ≡ length new.events
+grown-lengths max version workers line old new words g e =
     ap length g.lines ∙ length-append old.lines (line ∷ []) ∙ ap (λ (n : ℕ). n + 1) e ∙ sym (length-append old.events (g.event ∷ [])) ∙ sym (ap length g.events)
 
 pub row-first : (rest behind row others : List ℕ) (word : List ℕ) → lines_of rest ≡ row ∷ lines_of behind → words_of row ≡ word ∷ words_of others → rows_of rest ≡ (word ∷ words_of others) ∷ rows_of behind

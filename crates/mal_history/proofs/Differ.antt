@@ -16,7 +16,7 @@ use Rattle.mal_history.specs.declared.event.Event.{Event}
 use Rattle.mal_history.specs.declared.event.Event.TheVariants.{Open, Revise, Reask, Close, Balance, Start, Finish, Exchange}
 use Rattle.mal_history.specs.declared.event.Share.{Share}
 use Rattle.mal_history.specs.Text.{outcome_word, share_words, event_words, version_of, header_words, history_text}
-use Rattle.mal_history.specs.Differ.{IsNumber, IsShare, IsWritable, one_start, one_open, HistoriesDiffer, HaveOtherTexts}
+use Rattle.mal_history.specs.Differ.{IsNumber, IsShare, IsWritable, one_start, one_open, one_reask, HistoriesDiffer, HaveOtherTexts}
 
 -- the parts of a list
 head-same : {X : Type 0} (x y : X) (xs ys : List X) → x ∷ xs ≡ y ∷ ys → x ≡ y
@@ -241,6 +241,9 @@ start-writable index worker o i w = ((word-clean.0, word-clean.1, i, w), ((word-
 open-writable : (profile : ℕ) → IsNumber profile → AllByRecursion IsWritable (one_open profile)
 open-writable profile n = ((word-clean.0, word-clean.1, omega arith, omega arith, omega arith, n), tt)
 
+reask-writable : (priority : ℕ) → IsNumber priority → AllByRecursion IsWritable (one_reask priority)
+reask-writable priority n = ((word-clean.0, word-clean.1, n, omega arith), tt)
+
 profile-of : List Event → ℕ
 profile-of [] = 0
 profile-of (Open t j ask ∷ es) = ask.profile
@@ -249,6 +252,15 @@ profile-of (e ∷ es) = 0
 other-profile : profile-of (one_open 1) ≡ profile-of (one_open 2) → ⊥
 unfolding profile-of
 other-profile e = let same : 1 ≡ 2 = e in absurd (omega (arith, same))
+
+priority-of : List Event → ℕ
+priority-of [] = 0
+priority-of (Reask t j w ∷ es) = w.priority
+priority-of (e ∷ es) = 0
+
+other-priority : priority-of (one_reask 1) ≡ priority-of (one_reask 2) → ⊥
+unfolding priority-of
+other-priority e = let same : 1 ≡ 2 = e in absurd (omega (arith, same))
 
 index-of : List Event → ℕ
 index-of [] = 9
@@ -272,4 +284,5 @@ other-texts = record {
   exchanged = λ e. other-index (ap index-of (histories-differ 2 2 (one_start 2 1 Ran) (one_start 1 2 Ran) (omega arith) (omega arith) (start-writable 2 1 Ran (omega arith) (omega arith)) (start-writable 1 2 Ran (omega arith) (omega arith)) e).events);
   less = λ e. let same : one_start 0 1 Ran ≡ [] = (histories-differ 2 2 (one_start 0 1 Ran) [] (omega arith) (omega arith) (start-writable 0 1 Ran (omega arith) (omega arith)) tt e).events in absurd (cc);
   profile = λ e. other-profile (ap profile-of (histories-differ 2 2 (one_open 1) (one_open 2) (omega arith) (omega arith) (open-writable 1 (omega arith)) (open-writable 2 (omega arith)) e).events);
+  priority = λ e. other-priority (ap priority-of (histories-differ 2 2 (one_reask 1) (one_reask 2) (omega arith) (omega arith) (reask-writable 1 (omega arith)) (reask-writable 2 (omega arith)) e).events);
 }

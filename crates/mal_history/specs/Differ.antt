@@ -49,11 +49,16 @@ one_start index worker outcome = Start (codes "a") (codes "p") index worker ∷ 
 abbrev pub one_open : ℕ → List Event
 one_open profile = Open (codes "a") (codes "p") (record { priority = 1; demand = 1; slices = 4; profile = profile }) ∷ []
 
+-- a change of a job's weight to this priority
+abbrev pub one_reask : ℕ → List Event
+one_reask priority = Reask (codes "a") (codes "p") (record { priority = priority; demand = 1 }) ∷ []
+
 -- worked examples: another outcome, another number of workers, the node's index and the worker exchanged, an event
--- less, and another profile are other texts
+-- less, another profile, and another priority of a job that runs are other texts
 pub record HaveOtherTexts : Type 0 where
   pub outcome : history_text 2 (one_start 0 1 Ran) ≢ history_text 2 (one_start 0 1 Lost)
   pub workers : history_text 2 (one_start 0 1 Ran) ≢ history_text 3 (one_start 0 1 Ran)
   pub exchanged : history_text 2 (one_start 2 1 Ran) ≢ history_text 2 (one_start 1 2 Ran)
   pub less : history_text 2 (one_start 0 1 Ran) ≢ history_text 2 []
   pub profile : history_text 2 (one_open 1) ≢ history_text 2 (one_open 2)
+  pub priority : history_text 2 (one_reask 1) ≢ history_text 2 (one_reask 2)

@@ -3,7 +3,8 @@ use Rattle.std.specs.Prelude.{◌≡◌, ℕ, List, [], ◌∷◌, codes, Ok, Er
 use Rattle.mal_base.specs.declared.verdict.Outcome.TheVariants.{Ran, Starved}
 use Rattle.spec_dimacs.specs.Rows.{rows_of}
 use Rattle.mal_history.specs.declared.event.Event.{Event}
-use Rattle.mal_history.specs.declared.event.Event.TheVariants.{Open, Revise, Close, Balance, Start, Finish, Exchange}
+use Rattle.mal_history.specs.declared.event.Event.TheVariants.{Open, Revise, Reask, Close, Balance, Start, Finish, Exchange}
+use Rattle.mal_history.specs.Text.{history_text}
 use Rattle.mal_history.specs.Reading.{history_from, read_text}
 use Rattle.mal_history.specs.Reading.Fault.{BadLine, BadNumber, TooLong}
 
@@ -25,14 +26,37 @@ first_events =
 abbrev pub first_text : List ℕ
 first_text = codes "h mal 1 1\no a p 1 1 4\nr a p 1\nc a p\nb a p 1\ns a p 0 1\nf a p 0 1 ran\n"
 
+-- the same with a change of the job's weight, in version 2
+abbrev pub second_events : List Event
+second_events =
+    open_under 1
+    ∷ Revise (codes "a") (codes "p") 1
+    ∷ Reask (codes "a") (codes "p") (record { priority = 5; demand = 2 })
+    ∷ Close (codes "a") (codes "p")
+    ∷ Balance (record { tenant = codes "a"; job = codes "p"; volume = 1 } ∷ [])
+    ∷ Start (codes "a") (codes "p") 0 1
+    ∷ Finish (codes "a") (codes "p") 0 1 Ran
+    ∷ []
+
+abbrev pub second_text : List ℕ
+second_text = codes "h mal 2 1\no a p 1 1 4\nr a p 1\nq a p 5 2\nc a p\nb a p 1\ns a p 0 1\nf a p 0 1 ran\n"
+
 -- texts that spell histories
 pub record HaveHistories : Type 0 where
   pub first : read_text first_text ≡ Ok (record { workers = 1; events = first_events; lines = 2 ∷ 3 ∷ 4 ∷ 5 ∷ 6 ∷ 7 ∷ [] })
+  pub second : read_text second_text ≡ Ok (record { workers = 1; events = second_events; lines = 2 ∷ 3 ∷ 4 ∷ 5 ∷ 6 ∷ 7 ∷ 8 ∷ [] })
+  pub version_2_without_reask : read_text (codes "h mal 2 1\nx a p\n") ≡ Ok (record { workers = 1; events = Exchange (codes "a") (codes "p") ∷ []; lines = 2 ∷ [] })
   pub of_profile_2 : read_text (codes "h mal 1 1\no a p 1 1 4 2") ≡ Ok (record { workers = 1; events = open_under 2 ∷ []; lines = 2 ∷ [] })
   pub profile_by_value : read_text (codes "h mal 1 1\no a p 1 1 4 02") ≡ Ok (record { workers = 1; events = open_under 2 ∷ []; lines = 2 ∷ [] })
   pub no_event : read_text (codes "h mal 1 64") ≡ Ok (record { workers = 64; events = []; lines = [] })
   pub empty_lines : read_text (codes "\n \t\nh mal 1 002\r\n\n\nb\r\n x  a\tp") ≡ Ok (record { workers = 2; events = Balance [] ∷ Exchange (codes "a") (codes "p") ∷ []; lines = 6 ∷ 7 ∷ [] })
   pub last_worker : read_text (codes "h mal 1 3\nf a p 63 3 starved") ≡ Ok (record { workers = 3; events = Finish (codes "a") (codes "p") 63 3 Starved ∷ []; lines = 2 ∷ [] })
+
+-- histories and their texts: one without a change of a weight is written in version 1
+pub record HaveTexts : Type 0 where
+  pub first : history_text 1 first_events ≡ first_text
+  pub second : history_text 1 second_events ≡ second_text
+  pub version_2_again : history_text 1 (Exchange (codes "a") (codes "p") ∷ []) ≡ codes "h mal 1 1\nx a p\n"
 
 -- texts with their first fault
 pub record HaveFaults : Type 0 where
@@ -41,7 +65,10 @@ pub record HaveFaults : Type 0 where
   pub no_worker : read_text (codes "h mal 1 0") ≡ Err (1, BadNumber)
   pub workers_above : read_text (codes "h mal 1 65") ≡ Err (1, BadNumber)
   pub other_version : read_text (codes "h mal 9 1") ≡ Err (1, BadLine)
+  pub version_above : read_text (codes "h mal 3 1") ≡ Err (1, BadLine)
   pub version_is_literal : read_text (codes "h mal 01 1") ≡ Err (1, BadLine)
+  pub version_before_workers : read_text (codes "h mal 3 0") ≡ Err (1, BadLine)
+  pub no_worker_of_version_2 : read_text (codes "h mal 2 0") ≡ Err (1, BadNumber)
   pub header_missing : read_text (codes "\ns a p 0 1\n") ≡ Err (2, BadLine)
   pub comment : read_text (codes "h mal 1 1\nc made by a tool") ≡ Err (2, BadLine)
   pub other_outcome : read_text (codes "h mal 1 1\nf a p 0 1 done") ≡ Err (2, BadLine)
@@ -60,6 +87,16 @@ pub record HaveFaults : Type 0 where
   pub third_word_missing : read_text (codes "h mal 1 1\nb a p 1 a q") ≡ Err (2, BadLine)
   pub revision_zero : read_text (codes "h mal 1 1\nr a p 0") ≡ Err (2, BadNumber)
   pub word_more : read_text (codes "h mal 1 1\nr a p 0 0") ≡ Err (2, BadLine)
+  pub reask_in_version_1 : read_text (codes "h mal 1 1\nx a p\nq a p 5 2") ≡ Err (3, BadLine)
+  pub reask_in_version_1_before_number : read_text (codes "h mal 1 1\nq a p 0 1") ≡ Err (2, BadLine)
+  pub priority_zero : read_text (codes "h mal 2 1\nq a p 0 1") ≡ Err (2, BadNumber)
+  pub priority_above : read_text (codes "h mal 2 1\nq a p 1001 1") ≡ Err (2, BadNumber)
+  pub demand_zero : read_text (codes "h mal 2 1\nq a p 1 0") ≡ Err (2, BadNumber)
+  pub demand_above : read_text (codes "h mal 2 1\nq a p 1 65") ≡ Err (2, BadNumber)
+  pub demand_is_no_number : read_text (codes "h mal 2 1\nq a p 1 x") ≡ Err (2, BadNumber)
+  pub demand_missing : read_text (codes "h mal 2 1\nq a p 0") ≡ Err (2, BadLine)
+  pub slices_do_not_change : read_text (codes "h mal 2 1\nq a p 5 2 4") ≡ Err (2, BadLine)
+  pub name_before_priority : read_text (codes "h mal 2 1\nq a P 0 1") ≡ Err (2, BadLine)
   pub second_header : read_text (codes "h mal 1 1\nh mal 1 1") ≡ Err (2, BadLine)
 
 -- where there may be two events: the third one's own faults come first

@@ -1,7 +1,7 @@
 -- Histories in form: those that are read from a text.
 use Rattle.std.specs.Prelude.{ℕ, suc, ◌≤◌, List, [], ◌∷◌, length}
 use Rattle.std.specs.List.{AllByRecursion}
-use Rattle.mal_base.specs.Asks.{IsAsk}
+use Rattle.mal_base.specs.Asks.{IsAsk, IsWeight}
 use Rattle.mal_history.specs.declared.event.Event.{Event}
 use Rattle.mal_history.specs.declared.event.Event.TheVariants.{Open, Revise, Reask, Close, Balance, Start, Finish, Exchange}
 use Rattle.mal_history.specs.declared.event.Share.{Share}
@@ -23,7 +23,7 @@ pub record IsSeat (workers index worker : ℕ) : Type 0 where
 abbrev pub IsEvent : ℕ → Event → Type 0
 IsEvent workers (Open tenant job ask) = AreNames tenant job × IsAsk ask
 IsEvent workers (Revise tenant job number) = AreNames tenant job × (1 ≤ number) × (number ≤ 256)
-IsEvent workers (Reask tenant job weight) = ⊥
+IsEvent workers (Reask tenant job weight) = AreNames tenant job × IsWeight weight
 IsEvent workers (Close tenant job) = AreNames tenant job
 IsEvent workers (Balance volumes) = AllByRecursion IsVolume volumes
 IsEvent workers (Start tenant job index worker) = AreNames tenant job × IsSeat workers index worker

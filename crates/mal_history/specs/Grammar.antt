@@ -1,6 +1,6 @@
 -- The grammar of histories: which history a text spells.
-use Rattle.std.specs.Prelude.{◌≡◌, ℕ, suc, ◌≤◌, true, List, [], ◌∷◌, length, map, codes, pos}
-use Rattle.mal_base.specs.Asks.{Terms}
+use Rattle.std.specs.Prelude.{◌≡◌, ℕ, suc, ◌≤◌, true, List, [], ◌∷◌, ◌⊎◌, length, map, codes, pos}
+use Rattle.mal_base.specs.Asks.{Terms, Weighed}
 use Rattle.mal_base.specs.Names.{is_name}
 use Rattle.mal_base.specs.declared.verdict.Outcome.{Outcome}
 use Rattle.spec_text.specs.Numbers.{number_in}
@@ -46,6 +46,16 @@ pub record SpellsRevise (words : List (List ℕ)) (tenant job : List ℕ) (numbe
   pub names : AreNames tenant job
   pub says_number : Says 1 256 word number
 
+-- of a change of a job's weight, which only version 2 has: `q`, the names, and the job's priority and demand
+pub record SpellsReask (version : ℕ) (words : List (List ℕ)) (tenant job : List ℕ) (weight : Weighed) : Type 0 where
+  pub priority : List ℕ
+  pub demand : List ℕ
+  pub row : words ≡ codes "q" ∷ tenant ∷ job ∷ priority ∷ demand ∷ []
+  pub version_is : version ≡ 2
+  pub names : AreNames tenant job
+  pub says_priority : Says 1 1000 priority weight.priority
+  pub says_demand : Says 1 64 demand weight.demand
+
 -- words say volumes: the names of each one's job, and its volume
 pub record SayShare (words : List (List ℕ)) (share : Share) (behind : List (List ℕ)) : Type 0 where
   pub volume : List ℕ
@@ -81,21 +91,29 @@ pub record SpellsFinish (workers : ℕ) (words : List (List ℕ)) (tenant job : 
   pub says_index : Says 0 63 at index
   pub says_worker : Says 1 workers by worker
 
--- the words of a line spell an event of a history of so many workers; those of a closing are `c` and the names, those
--- of an exchange `x` and the names
-abbrev pub SpellsEvent : ℕ → List (List ℕ) → Event → Type 0
-SpellsEvent workers words (Open tenant job ask) = SpellsOpen words tenant job ask
-SpellsEvent workers words (Revise tenant job number) = SpellsRevise words tenant job number
-SpellsEvent workers words (Reask tenant job weight) = ⊥
-SpellsEvent workers words (Close tenant job) = (words ≡ codes "c" ∷ tenant ∷ job ∷ []) × AreNames tenant job
-SpellsEvent workers words (Balance volumes) = SpellsBalance words volumes
-SpellsEvent workers words (Start tenant job index worker) = SpellsStart workers words tenant job index worker
-SpellsEvent workers words (Finish tenant job index worker outcome) = SpellsFinish workers words tenant job index worker outcome
-SpellsEvent workers words (Exchange tenant job) = (words ≡ codes "x" ∷ tenant ∷ job ∷ []) × AreNames tenant job
+-- the words of a line spell an event, in this version of the format, of a history of so many workers; those of a closing
+-- are `c` and the names, those of an exchange `x` and the names
+abbrev pub SpellsEvent : ℕ → ℕ → List (List ℕ) → Event → Type 0
+SpellsEvent version workers words (Open tenant job ask) = SpellsOpen words tenant job ask
+SpellsEvent version workers words (Revise tenant job number) = SpellsRevise words tenant job number
+SpellsEvent version workers words (Reask tenant job weight) = SpellsReask version words tenant job weight
+SpellsEvent version workers words (Close tenant job) = (words ≡ codes "c" ∷ tenant ∷ job ∷ []) × AreNames tenant job
+SpellsEvent version workers words (Balance volumes) = SpellsBalance words volumes
+SpellsEvent version workers words (Start tenant job index worker) = SpellsStart workers words tenant job index worker
+SpellsEvent version workers words (Finish tenant job index worker outcome) = SpellsFinish workers words tenant job index worker outcome
+SpellsEvent version workers words (Exchange tenant job) = (words ≡ codes "x" ∷ tenant ∷ job ∷ []) × AreNames tenant job
 
--- the words of the first line: `h`, `mal`, the version 1, and the number of workers
-abbrev pub SpellsHeader : List (List ℕ) → ℕ → Type 0
-SpellsHeader words workers = (word : List ℕ) × (words ≡ codes "h" ∷ codes "mal" ∷ codes "1" ∷ word ∷ []) × Says 1 64 word workers
+-- a word says a version of the format, each in one spelling
+abbrev pub SaysVersion : List ℕ → ℕ → Type 0
+SaysVersion word version = ((word ≡ codes "1") × (version ≡ 1)) ⊎ ((word ≡ codes "2") × (version ≡ 2))
+
+-- the words of the first line: `h`, `mal`, the version, and the number of workers
+pub record SpellsHeader (words : List (List ℕ)) (version workers : ℕ) : Type 0 where
+  pub version_word : List ℕ
+  pub workers_word : List ℕ
+  pub row : words ≡ codes "h" ∷ codes "mal" ∷ version_word ∷ workers_word ∷ []
+  pub says_version : SaysVersion version_word version
+  pub says_workers : Says 1 64 workers_word workers
 
 -- a line that is not empty, with its number
 pub record Row : Type 0 where
@@ -109,19 +127,20 @@ numbered line ([] ∷ rows) = numbered (suc line) rows
 numbered line ((word ∷ words) ∷ rows) = record { line = suc line; words = word ∷ words } ∷ numbered (suc line) rows
 
 -- lines spell events, one each
-abbrev pub AllSpell : ℕ → List Row → List Event → Type 0
-AllSpell workers [] events = events ≡ []
-AllSpell workers (row ∷ rows) [] = ⊥
-AllSpell workers (row ∷ rows) (e ∷ events) = SpellsEvent workers row.words e × AllSpell workers rows events
+abbrev pub AllSpell : ℕ → ℕ → List Row → List Event → Type 0
+AllSpell version workers [] events = events ≡ []
+AllSpell version workers (row ∷ rows) [] = ⊥
+AllSpell version workers (row ∷ rows) (e ∷ events) = SpellsEvent version workers row.words e × AllSpell version workers rows events
 
--- the lines of a text spell a history: the first one that is not empty spells the number of workers, the others an
--- event each, of which there are at most 2^24
+-- the lines of a text spell a history: the first one that is not empty spells the version and the number of workers,
+-- the others an event each, of which there are at most 2^24
 pub record SpellRows (rows : List (List (List ℕ))) (h : Read) : Type 0 where
   pub first : Row
   pub others : List Row
   pub lines_are : numbered 0 rows ≡ first ∷ others
-  pub header : SpellsHeader first.words h.workers
-  pub says_events : AllSpell h.workers others h.events
+  pub version : ℕ
+  pub header : SpellsHeader first.words version h.workers
+  pub says_events : AllSpell version h.workers others h.events
   pub lines : h.lines ≡ map (λ row. row.line) others
   pub few : length h.events ≤ most_events
 

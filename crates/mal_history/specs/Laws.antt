@@ -8,7 +8,7 @@ use Rattle.mal_history.specs.Text.{history_text}
 
 -- the words of a line spell an event exactly where reading gives it
 abbrev pub SpelledEventIsRead : Type 0
-SpelledEventIsRead = (workers : ℕ) (words : List (List ℕ)) (e : Event) → SpellsEvent workers words e ↔ (event_of workers words ≡ Ok e)
+SpelledEventIsRead = (version workers : ℕ) (words : List (List ℕ)) (e : Event) → SpellsEvent version workers words e ↔ (event_of version workers words ≡ Ok e)
 
 -- the lines of a text spell a history exactly where reading gives it: no text spells two histories, or has a first
 -- fault and spells one

@@ -1,6 +1,6 @@
 -- Reading a history line by line: the history, or the first fault with its line.
-use Rattle.std.specs.Prelude.{ℕ, suc, ◌^◌, Bool, true, false, ◌&&◌, List, [], ◌∷◌, codes, bytes_eq, nat_lt, nat_le, if◌then◌else◌, pos, Result, Ok, Err}
-use Rattle.mal_base.specs.Asks.{Terms}
+use Rattle.std.specs.Prelude.{ℕ, suc, ◌^◌, Bool, true, false, ◌&&◌, List, [], ◌∷◌, codes, bytes_eq, ◌==◌, nat_lt, nat_le, if◌then◌else◌, pos, Result, Ok, Err}
+use Rattle.mal_base.specs.Asks.{Terms, Weighed}
 use Rattle.mal_base.specs.Names.{is_name}
 use Rattle.mal_base.specs.declared.verdict.Outcome.{Outcome}
 use Rattle.mal_base.specs.declared.verdict.Outcome.TheVariants.{Ran, Starved, Lost}
@@ -9,8 +9,9 @@ use Rattle.spec_text.specs.Numbers.NumberWord.{NotANumber, Number}
 use Rattle.spec_dimacs.specs.Rows.{rows_of}
 use Rattle.spec_dimacs.specs.Reading.{◌>>=◌}
 use Rattle.mal_history.specs.declared.event.Event.{Event}
-use Rattle.mal_history.specs.declared.event.Event.TheVariants.{Open, Revise, Close, Balance, Start, Finish, Exchange}
+use Rattle.mal_history.specs.declared.event.Event.TheVariants.{Open, Revise, Reask, Close, Balance, Start, Finish, Exchange}
 use Rattle.mal_history.specs.declared.event.Share.{Share}
+use Rattle.mal_history.specs.declared.line.Header.{Header}
 
 -- what can be wrong with a line of a history
 pub data Fault : Type 0 where
@@ -33,10 +34,19 @@ ranged low high word = Err BadNumber
 abbrev pub in_range : ℕ → ℕ → List ℕ → Result ℕ Fault
 in_range low high word = ranged low high (number_in word high)
 
--- the number of workers that the words of the first line say
-abbrev pub header_of : List (List ℕ) → Result ℕ Fault
+-- the version of the format that a word says, each in one spelling
+abbrev pub version_said : List ℕ → Result ℕ Fault
+version_said word =
+    if bytes_eq word (codes "1") then Ok 1 else
+    if bytes_eq word (codes "2") then Ok 2 else
+    Err BadLine
+
+-- the version and the number of workers that the words of the first line say
+abbrev pub header_of : List (List ℕ) → Result Header Fault
 header_of (h ∷ mal ∷ version ∷ workers ∷ []) =
-    if bytes_eq h (codes "h") && bytes_eq mal (codes "mal") && bytes_eq version (codes "1") then in_range 1 64 workers else Err BadLine
+    if bytes_eq h (codes "h") && bytes_eq mal (codes "mal")
+    then version_said version >>= (λ v. in_range 1 64 workers >>= λ w. Ok (record { version = v; workers = w }))
+    else Err BadLine
 header_of others = Err BadLine
 
 -- the ask of three words and of a profile
@@ -44,6 +54,10 @@ abbrev pub ask_of : List ℕ → List ℕ → List ℕ → ℕ → Result Terms 
 ask_of p d s profile =
     in_range 1 1000 p >>= λ priority. in_range 1 64 d >>= λ demand. in_range 1 4096 s >>= λ slices.
     Ok (record { priority = priority; demand = demand; slices = slices; profile = profile })
+
+-- the weight of two words
+abbrev pub weight_of : List ℕ → List ℕ → Result Weighed Fault
+weight_of p d = in_range 1 1000 p >>= λ priority. in_range 1 64 d >>= λ demand. Ok (record { priority = priority; demand = demand })
 
 -- the profile that a word says behind an ask, where 2 alone is written: another number is out of range, and a word that
 -- is no number is none that stands there
@@ -74,6 +88,10 @@ abbrev pub revised : List ℕ → List ℕ → List (List ℕ) → Result Event 
 revised tenant job (number ∷ []) = in_range 1 256 number >>= λ r. Ok (Revise tenant job r)
 revised tenant job words = Err BadLine
 
+abbrev pub reasked : List ℕ → List ℕ → List (List ℕ) → Result Event Fault
+reasked tenant job (priority ∷ demand ∷ []) = weight_of priority demand >>= λ weight. Ok (Reask tenant job weight)
+reasked tenant job words = Err BadLine
+
 abbrev pub closed : List ℕ → List ℕ → List (List ℕ) → Result Event Fault
 closed tenant job [] = Ok (Close tenant job)
 closed tenant job (word ∷ words) = Err BadLine
@@ -91,11 +109,12 @@ abbrev pub exchanged : List ℕ → List ℕ → List (List ℕ) → Result Even
 exchanged tenant job [] = Ok (Exchange tenant job)
 exchanged tenant job (word ∷ words) = Err BadLine
 
--- the event of this kind, by its letter
-abbrev pub event_of_job : ℕ → List ℕ → List ℕ → List ℕ → List (List ℕ) → Result Event Fault
-event_of_job workers kind tenant job words =
+-- the event of this kind, by its letter; only version 2 has a `q` line
+abbrev pub event_of_job : ℕ → ℕ → List ℕ → List ℕ → List ℕ → List (List ℕ) → Result Event Fault
+event_of_job version workers kind tenant job words =
     if bytes_eq kind (codes "o") then opened tenant job words else
     if bytes_eq kind (codes "r") then revised tenant job words else
+    if bytes_eq kind (codes "q") && version == 2 then reasked tenant job words else
     if bytes_eq kind (codes "c") then closed tenant job words else
     if bytes_eq kind (codes "s") then started workers tenant job words else
     if bytes_eq kind (codes "f") then finished workers tenant job words else
@@ -103,9 +122,9 @@ event_of_job workers kind tenant job words =
     Err BadLine
 
 -- behind the letter stand the names of a tenant and of a job
-abbrev pub named_event : ℕ → List ℕ → List (List ℕ) → Result Event Fault
-named_event workers kind (tenant ∷ job ∷ words) = if is_name tenant && is_name job then event_of_job workers kind tenant job words else Err BadLine
-named_event workers kind words = Err BadLine
+abbrev pub named_event : ℕ → ℕ → List ℕ → List (List ℕ) → Result Event Fault
+named_event version workers kind (tenant ∷ job ∷ words) = if is_name tenant && is_name job then event_of_job version workers kind tenant job words else Err BadLine
+named_event version workers kind words = Err BadLine
 
 -- words that are a tenant's name, a job's name and a word for its volume, and so on
 abbrev pub are_shares : List (List ℕ) → Bool
@@ -122,14 +141,14 @@ shares_of words = Ok []
 abbrev pub balanced : List (List ℕ) → Result Event Fault
 balanced words = if are_shares words then shares_of words >>= (λ shares. Ok (Balance shares)) else Err BadLine
 
--- the event that the words of a line say, in a history of so many workers
-abbrev pub event_of : ℕ → List (List ℕ) → Result Event Fault
-event_of workers [] = Err BadLine
-event_of workers (kind ∷ words) = if bytes_eq kind (codes "b") then balanced words else named_event workers kind words
+-- the event that the words of a line say, in this version of the format, in a history of so many workers
+abbrev pub event_of : ℕ → ℕ → List (List ℕ) → Result Event Fault
+event_of version workers [] = Err BadLine
+event_of version workers (kind ∷ words) = if bytes_eq kind (codes "b") then balanced words else named_event version workers kind words
 
 -- the event of a line behind so many events, of which there may be `max`
-abbrev pub next_event : ℕ → ℕ → ℕ → List (List ℕ) → Result Event Fault
-next_event max workers count words = event_of workers words >>= λ e. if nat_lt count max then Ok e else Err TooLong
+abbrev pub next_event : ℕ → ℕ → ℕ → ℕ → List (List ℕ) → Result Event Fault
+next_event max version workers count words = event_of version workers words >>= λ e. if nat_lt count max then Ok e else Err TooLong
 
 -- a fault with its line
 abbrev pub on_line : {A : Type 0} → ℕ → Result A Fault → Result A (ℕ × Fault)
@@ -141,17 +160,17 @@ abbrev pub with_event : ℕ → Event → Read → Read
 with_event line e h = record { workers = h.workers; events = e ∷ h.events; lines = line ∷ h.lines }
 
 -- the events of the lines that are left, behind so many lines and so many events; empty lines are passed over
-abbrev pub events_from : ℕ → ℕ → ℕ → ℕ → List (List (List ℕ)) → Result Read (ℕ × Fault)
-events_from max workers line count [] = Ok (record { workers = workers; events = []; lines = [] })
-events_from max workers line count ([] ∷ rows) = events_from max workers (suc line) count rows
-events_from max workers line count ((word ∷ words) ∷ rows) =
-    on_line (suc line) (next_event max workers count (word ∷ words)) >>= λ e. events_from max workers (suc line) (suc count) rows >>= λ h. Ok (with_event (suc line) e h)
+abbrev pub events_from : ℕ → ℕ → ℕ → ℕ → ℕ → List (List (List ℕ)) → Result Read (ℕ × Fault)
+events_from max version workers line count [] = Ok (record { workers = workers; events = []; lines = [] })
+events_from max version workers line count ([] ∷ rows) = events_from max version workers (suc line) count rows
+events_from max version workers line count ((word ∷ words) ∷ rows) =
+    on_line (suc line) (next_event max version workers count (word ∷ words)) >>= λ e. events_from max version workers (suc line) (suc count) rows >>= λ h. Ok (with_event (suc line) e h)
 
 -- the history of the lines that are left, behind so many empty lines; where no line has words, line 1 is wrong
 abbrev pub history_from : ℕ → ℕ → List (List (List ℕ)) → Result Read (ℕ × Fault)
 history_from max line [] = Err (1, BadLine)
 history_from max line ([] ∷ rows) = history_from max (suc line) rows
-history_from max line ((word ∷ words) ∷ rows) = on_line (suc line) (header_of (word ∷ words)) >>= λ workers. events_from max workers (suc line) 0 rows
+history_from max line ((word ∷ words) ∷ rows) = on_line (suc line) (header_of (word ∷ words)) >>= λ header. events_from max header.version header.workers (suc line) 0 rows
 
 -- a history has at most 2^24 events
 abbrev pub most_events : ℕ

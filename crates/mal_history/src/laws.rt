@@ -1,6 +1,6 @@
 //! What is known of histories and of their texts, as the contracts of functions without a body.
 
-ghost use Rattle.mal_history.specs.{Differ.{HaveOtherTexts, HistoriesDiffer}, Laws.{SpelledEventIsRead, SpelledIsFormed, SpelledIsRead, WrittenIsRead}, Examples.{HaveHistories, HaveFaults, HaveLimits}};
+ghost use Rattle.mal_history.specs.{Differ.{HaveOtherTexts, HistoriesDiffer}, Laws.{SpelledEventIsRead, SpelledIsFormed, SpelledIsRead, WrittenIsRead}, Examples.{HaveHistories, HaveTexts, HaveFaults, HaveLimits}};
 
 /// Two histories with one text have as many workers and the same events in the same order.
 pub fn histories_differ()
@@ -8,10 +8,11 @@ pub fn histories_differ()
     ensures examples { HaveOtherTexts }
 {}
 
-/// What small texts are read as, and what is wrong with others.
-#[tactic(auto, using(crate::proofs::ExampleLemmas::histories, crate::proofs::ExampleLemmas::faults, crate::proofs::ExampleLemmas::limits))]
+/// What small texts are read as, how histories are written, and what is wrong with other texts.
+#[tactic(auto, using(crate::proofs::ExampleLemmas::histories, crate::proofs::ExampleLemmas::texts, crate::proofs::ExampleLemmas::faults, crate::proofs::ExampleLemmas::limits))]
 pub fn reading_examples()
     ensures histories { HaveHistories }
+    ensures texts { HaveTexts }
     ensures faults { HaveFaults }
     ensures limits { HaveLimits }
 {}

@@ -3,21 +3,28 @@
 ghost use Rattle.std.specs.Prelude.{◌≡◌, ◌≤◌, ◌<◌, [], ◌∷◌, ◌++◌, length, IfOk, IfSome, OnOk};
 ghost use Rattle.std.specs.Arc.{arc_value};
 ghost use Rattle.spec_text.specs.Inputs.{words_of};
-ghost use Rattle.mal_history.specs.{Reading.{header_of, outcome_of, profile_of, opened, revised, closed, started, finished, exchanged, event_of_job, named_event, balanced, event_of, next_event}, ReadResult.{AreNamed, AreTwo, Gives, IsOnly}};
+ghost use Rattle.mal_history.specs.{Reading.{header_of, version_said, outcome_of, profile_of, opened, revised, reasked, closed, started, finished, exchanged, event_of_job, named_event, balanced, event_of, next_event}, ReadResult.{AreNamed, AreTwo, Gives, IsOnly}};
 
 use crate::event::{Event, Share, Shares};
 use crate::fault::EventFault;
-use crate::numbers::{ask_in, in_range, profile_said};
+use crate::numbers::{ask_in, in_range, profile_said, weight_in};
 use mal_base::{Name, Outcome};
 use mal_text::first_word;
 use std::alloc::{AllocError, Global};
 use std::sync::Arc;
 
-/// The number of workers that a header says, from 1 to 64: its first word, and the line behind it.
-pub fn read_header(first: &[u8], line: &[u8]) -> Result<u32, EventFault>
+/// What the first line of a history says: the version of the format, 1 or 2, and the number of workers, from 1 to 64.
+#[derive(Clone, Copy, Debug)]
+pub struct Header {
+    pub version: u32,
+    pub workers: u32,
+}
+
+/// What a header says: its first word, and the line behind it.
+pub fn read_header(first: &[u8], line: &[u8]) -> Result<Header, EventFault>
     ensures value { Gives result (header_of (first.now ∷ words_of line.now)) }
-    ensures some { IfOk result (λ n. 1 ≤ n) }
-    ensures bound { IfOk result (λ n. n ≤ 64) }
+    ensures some { IfOk result (λ h. 1 ≤ h.workers) }
+    ensures bound { IfOk result (λ h. h.workers ≤ 64) }
 {
     let Some((mal, version, line)) = two_words(line) else {
         return Err(EventFault::BadLine);
@@ -25,13 +32,25 @@ pub fn read_header(first: &[u8], line: &[u8]) -> Result<u32, EventFault>
     let Some(workers) = only_word(line) else {
         return Err(EventFault::BadLine);
     };
-    let is_header = first == b"h".as_slice()
-        && mal == b"mal".as_slice()
-        && version == b"1".as_slice();
-    if !is_header {
+    if first != b"h".as_slice() || mal != b"mal".as_slice() {
         return Err(EventFault::BadLine);
     }
-    in_range(workers, 1, 64).ok_or(EventFault::BadNumber)
+    let version = version_said(version)?;
+    let workers = in_range(workers, 1, 64).ok_or(EventFault::BadNumber)?;
+    Ok(Header { version, workers })
+}
+
+/// The version of the format that a word says, 1 or 2, each in one spelling.
+fn version_said(word: &[u8]) -> Result<u32, EventFault>
+    ensures { Gives result (version_said word.now) }
+{
+    if word == b"1".as_slice() {
+        Ok(1)
+    } else if word == b"2".as_slice() {
+        Ok(2)
+    } else {
+        Err(EventFault::BadLine)
+    }
 }
 
 /// The one word of a line, none where it has none or more.
@@ -52,14 +71,15 @@ pub fn next_event(
     alloc: Global,
     first: &[u8],
     line: &[u8],
-    workers: u32,
+    header: Header,
     events: &[Event],
     max: usize,
 ) -> Result<Event, EventFault>
-    ensures { Gives result (next_event max workers (length events.now) (first.now ∷ words_of line.now)) }
+    ensures { Gives result
+        (next_event max header.version header.workers (length events.now) (first.now ∷ words_of line.now)) }
 {
     // TooLong comes behind the line's own faults.
-    let event = read_event(alloc, first, line, workers, events)?;
+    let event = read_event(alloc, first, line, header, events)?;
     if events.len() < max {
         Ok(event)
     } else {
@@ -72,49 +92,52 @@ fn read_event(
     alloc: Global,
     first: &[u8],
     line: &[u8],
-    workers: u32,
+    header: Header,
     events: &[Event],
 ) -> Result<Event, EventFault>
-    ensures { Gives result (event_of workers (first.now ∷ words_of line.now)) }
+    ensures { Gives result (event_of header.version header.workers (first.now ∷ words_of line.now)) }
 {
     if first == b"b".as_slice() {
         read_balance(alloc, line, last_shares(events))
     } else {
-        read_named(alloc, first, line, workers)
+        read_named(alloc, first, line, header)
     }
 }
 
 /// The event of this kind, of a line that begins with the names of a tenant and of a job.
-fn read_named(alloc: Global, kind: &[u8], line: &[u8], workers: u32) -> Result<Event, EventFault>
-    ensures { Gives result (named_event workers kind.now (words_of line.now)) }
+fn read_named(alloc: Global, kind: &[u8], line: &[u8], header: Header) -> Result<Event, EventFault>
+    ensures { Gives result (named_event header.version header.workers kind.now (words_of line.now)) }
 {
     let Some((tenant, job, line)) = two_words(line) else {
         return Err(EventFault::BadLine);
     };
     let (tenant, job) = names_in(alloc, tenant, job)?;
-    read_kind(kind, tenant, job, line, workers)
+    read_kind(kind, tenant, job, line, header)
 }
 
-/// The event of this kind, of a job of a tenant, of the line behind their names.
+/// The event of this kind, of a job of a tenant, of the line behind their names. Only version 2 has a `q` line.
 fn read_kind(
     kind: &[u8],
     tenant: Name,
     job: Name,
     line: &[u8],
-    workers: u32,
+    header: Header,
 ) -> Result<Event, EventFault>
-    ensures { Gives result (event_of_job workers kind.now tenant job (words_of line.now)) }
+    ensures { Gives result
+        (event_of_job header.version header.workers kind.now tenant job (words_of line.now)) }
 {
     if kind == b"o".as_slice() {
         read_open(tenant, job, line)
     } else if kind == b"r".as_slice() {
         read_revise(tenant, job, line)
+    } else if kind == b"q".as_slice() && header.version == 2 {
+        read_reask(tenant, job, line)
     } else if kind == b"c".as_slice() {
         read_close(tenant, job, line)
     } else if kind == b"s".as_slice() {
-        read_start(tenant, job, line, workers)
+        read_start(tenant, job, line, header.workers)
     } else if kind == b"f".as_slice() {
-        read_finish(tenant, job, line, workers)
+        read_finish(tenant, job, line, header.workers)
     } else if kind == b"x".as_slice() {
         read_exchange(tenant, job, line)
     } else {
@@ -166,6 +189,24 @@ fn read_revise(tenant: Name, job: Name, line: &[u8]) -> Result<Event, EventFault
         tenant,
         job,
         number,
+    })
+}
+
+/// A change of a job's weight, of the words of its priority and its demand.
+fn read_reask(tenant: Name, job: Name, line: &[u8]) -> Result<Event, EventFault>
+    ensures { Gives result (reasked tenant job (words_of line.now)) }
+{
+    let Some((priority, line)) = first_word(line) else {
+        return Err(EventFault::BadLine);
+    };
+    let Some(demand) = only_word(line) else {
+        return Err(EventFault::BadLine);
+    };
+    let weight = weight_in(priority, demand)?;
+    Ok(Event::Reask {
+        tenant,
+        job,
+        weight,
     })
 }
 
