@@ -29,7 +29,7 @@ use Rattle.spec_script.specs.declared.step.Step.{Step}
 use Rattle.spec_script.specs.declared.step.Step.TheVariants.{Revise, Reask}
 use Rattle.spec_script.specs.Reading.{OpenJob, Reading, begun, with_revision, with_weight}
 use Rattle.spec_script.specs.Formed.{with_name, tenants_of, clauses_of, clause_literals, is_up_to, is_weight, is_step, IsJob, MayFollow, MayAllFollow}
-use Rattle.spec_script.specs.Grammar.{Asks, SayProfile, SaysUpTo, formula_of, Weighs, Reasks, Revises, StepAll, Runs, MakeAll}
+use Rattle.spec_script.specs.Grammar.{Asks, SayProfile, SaysUpTo, formula_of, Reasks, Revises, StepAll, Runs, MakeAll}
 use Rattle.spec_script.specs.Laws.{WrittenIsSpelled, WrittenIsRead}
 use Rattle.spec_script.proofs.Assumed.{assumptions-again}
 use Rattle.spec_script.proofs.Words.{room-admits}

@@ -18,7 +18,7 @@ use Rattle.mal_base.specs.declared.line_fault.LineFault.TheVariants.{BadLine, Li
 use Rattle.spec_script.specs.Limits.{Limits}
 use Rattle.spec_script.specs.Assumptions.{assumptions_in}
 use Rattle.spec_script.specs.Script.{ScriptedJob, Scripted, revisions}
-use Rattle.spec_script.specs.Reading.{Reading, OpenJob, unread, in_block, named, asked, profile_in, admitted, going_on, begun, with_block, with_job, revised, after_assumptions, inside_block, inside, with_weight, weighed, of_tenant, after_counted, after_row, at_end, on_line, read_rows, read_text}
+use Rattle.spec_script.specs.Reading.{Reading, OpenJob, unread, in_block, named, asked, profile_in, admitted, going_on, begun, with_block, with_job, revised, after_assumptions, inside_block, inside, with_weight, of_tenant, after_counted, after_row, at_end, on_line, read_rows, read_text}
 use Rattle.spec_script.specs.Grammar.{RevisionLines, StepLines, Revision, Weight, JobLines, Part, Tenant, Job, revision_lines, step_lines, job_lines, part_lines, is_inside, Revises, Reasks, Steps, StepAll, Runs, MakeAll, Spells}
 use Rattle.spec_script.specs.Laws.{SpelledIsRead}
 use Rattle.spec_script.proofs.Inversions.{bind_ok, on_line_ok, ok_is}

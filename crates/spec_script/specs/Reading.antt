@@ -83,6 +83,11 @@ weight_in_range p d = ranged 1000 p >>= λ priority. ranged 64 d >>= λ demand. 
 abbrev pub weighed : NumberWord → NumberWord → Result Weighed LineFault
 weighed p d = if is_number p && is_number d then weight_in_range p d else Err BadLine
 
+-- the weight that the words of a line say: there are two
+abbrev pub weight_in : List (List ℕ) → Result Weighed LineFault
+weight_in (p ∷ d ∷ []) = weighed (number_in p 1000) (number_in d 64)
+weight_in others = Err BadLine
+
 -- what the words behind the slices say for the profile: no word says 1, and more than one say no number
 abbrev pub profile_in : List (List ℕ) → NumberWord
 profile_in [] = Number (pos 1)
@@ -190,8 +195,7 @@ with_weight o w = record {
 
 -- after the words behind the `q` of a line that changes what a job asks for
 abbrev pub after_weight : List (List ℕ) → OpenJob → Result OpenJob LineFault
-after_weight (p ∷ d ∷ []) o = weighed (number_in p 1000) (number_in d 64) >>= λ w. Ok (with_weight o w)
-after_weight others o = Err BadLine
+after_weight words o = weight_in words >>= λ w. Ok (with_weight o w)
 
 -- the job that these words behind an `e` end
 abbrev pub ended_job : List (List ℕ) → OpenJob → Result ScriptedJob LineFault
