@@ -7,7 +7,7 @@ use Rattle.mal_revision.specs.Posted.{Posted}
 use Rattle.mal_script.specs.Counting.{is_revision, revision_of}
 use Rattle.spec_script.specs.Script.{revisions_in}
 use Rattle.spec_script.specs.declared.step.Step.{Step}
-use Rattle.spec_script.specs.declared.step.Step.TheVariants.{Revise}
+use Rattle.spec_script.specs.declared.step.Step.TheVariants.{Revise, Reask}
 
 -- the steps that post revisions are as many as their revisions
 pub revisions-counted : (steps : List Step) → count_by is_revision steps ≡ length (revisions_in steps)
@@ -16,6 +16,10 @@ revisions-counted (Revise r ∷ steps) = sum_by-cons (λ (s : Step). cond (is_re
   where
     one-more : (m n : ℕ) → m ≡ n → 1 + m ≡ suc n
     one-more m n e = omega (arith, e)
+revisions-counted (Reask w ∷ steps) = sum_by-cons (λ (s : Step). cond (is_revision s) 1 0) (Reask w) steps ∙ no-more (count_by is_revision steps) (length (revisions_in steps)) (revisions-counted steps)
+  where
+    no-more : (m n : ℕ) → m ≡ n → 0 + m ≡ n
+    no-more m n e = omega (arith, e)
 
 -- the revision that is looked for, with so many to go from a step on
 abbrev pub IsSought : List Step → ℕ → ℕ → ℕ → Type 0
@@ -30,12 +34,17 @@ first-of (Revise q) r rest e = ap (λ (x : Posted). x ∷ revisions_in rest) (sa
   where
     same : (x y : Posted) → ◌≡◌ {A = Option Posted} (Some y) (Some x) → x ≡ y
     same x y e = cc
+first-of (Reask w) r rest e = absurd (differ r e)
+  where
+    differ : (x : Posted) → ◌≡◌ {A = Option Posted} (Some x) None → ⊥
+    differ x e = cc
 
 none-of : (s : Step) (rest : List Step) → None ≡ revision_of s → revisions_in (s ∷ rest) ≡ revisions_in rest
 none-of (Revise q) rest e = absurd (differ q e)
   where
     differ : (x : Posted) → ◌≡◌ {A = Option Posted} None (Some x) → ⊥
     differ x e = cc
+none-of (Reask w) rest e = refl
 
 pub sought-here : (steps : List Step) (at i left : ℕ) (s : Step) (r : Posted) → IsSought steps at i left → i < length steps → s ≡ get_or steps i s → Some r ≡ revision_of s → left ≡ 0 → Some r ≡ slice_get (revisions_in steps) at
 sought-here steps at i left s r is low here posts none =

@@ -1,11 +1,11 @@
-//! The asks of jobs, as they are read.
+//! The asks of jobs, and what is changed of them, as they are read.
 
-ghost use Rattle.std.specs.Prelude.{◌≡◌, ◌≤◌, ◌<◌, IfOk};
+ghost use Rattle.std.specs.Prelude.{◌≡◌, ◌≢◌, ◌∷◌, [], ℕ, List, ◌≤◌, ◌<◌, IfOk, MatchOption};
 ghost use Rattle.spec_text.specs.{Inputs.{words_of}, Numbers.{number_in}};
 ghost use Rattle.mal_text.specs.Numbers.{word_of};
-ghost use Rattle.spec_script.specs.Reading.{is_number, ranged, in_range, asked, profile_in};
+ghost use Rattle.spec_script.specs.Reading.{is_number, ranged, in_range, asked, profile_in, weight_in, weight_in_range, weighed};
 
-use mal_base::{Ask, LineFault};
+use mal_base::{Ask, LineFault, Weight};
 use mal_text::{NumberFault, first_word, number};
 
 /// Whether a word that was read as this says a number.
@@ -84,4 +84,54 @@ pub fn asked(priority: &[u8], demand: &[u8], slices: &[u8], behind: &[u8]) -> Re
         return Err(LineFault::BadLine);
     }
     in_range(priority, demand, slices, profile)
+}
+
+/// The weight of words that were read as these.
+fn weight_in_range(
+    priority: Result<i64, NumberFault>,
+    demand: Result<i64, NumberFault>,
+) -> Result<Weight, LineFault>
+    ensures { result ≡ weight_in_range (word_of priority) (word_of demand) }
+{
+    let priority = ranged(priority, 1000)?;
+    let demand = ranged(demand, 64)?;
+    match Weight::of(i64::from(priority), i64::from(demand)) {
+        Some(weight) => Ok(weight),
+        None => unreachable!(),
+    }
+}
+
+/// The weight of the words of a priority and a demand.
+fn weighed(priority: &[u8], demand: &[u8]) -> Result<Weight, LineFault>
+    ensures { result ≡ weighed (number_in priority.now 1000) (number_in demand.now 64) }
+{
+    let priority = number(priority, 1000);
+    let demand = number(demand, 64);
+    if !is_number(priority) || !is_number(demand) {
+        return Err(LineFault::BadLine);
+    }
+    weight_in_range(priority, demand)
+}
+
+/// The weight of the words of a line, which are those of a priority and a demand.
+pub fn weight_in(words: &[u8]) -> Result<Weight, LineFault>
+    ensures { result ≡ weight_in (words_of words.now) }
+{
+    match two_words(words) {
+        Some((priority, demand)) => weighed(priority, demand),
+        None => Err(LineFault::BadLine),
+    }
+}
+
+/// The two words of a line. None exactly where the line has fewer or more.
+fn two_words(line: &[u8]) -> Option<(&[u8], &[u8])>
+    ensures { MatchOption result ((a b : List ℕ) → words_of line.now ≢ a ∷ b ∷ [])
+        (λ w. words_of line.now ≡ w.0.now ∷ w.1.now ∷ []) }
+{
+    let (first, others) = first_word(line)?;
+    let (second, others) = first_word(others)?;
+    match first_word(others) {
+        None => Some((first, second)),
+        Some(_) => None,
+    }
 }

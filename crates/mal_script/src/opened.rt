@@ -3,15 +3,16 @@
 ghost use Rattle.std.specs.Prelude.{◌≡◌, ◌+◌, ◌≤◌, ◌∷◌, length, true, Some, Ok, IfOk};
 ghost use Rattle.mal_base.specs.{Clauses.{rises}, Formulas.{is_formula, is_within, literals_of}};
 ghost use Rattle.spec_text.specs.Inputs.{words_of};
-ghost use Rattle.spec_script.specs.{Assumptions.{assumptions_in}, Reading.{begun, with_block, after_header, revised, after_assumptions, inside_block, with_revision, ended_job, unended, without_block}};
+ghost use Rattle.spec_script.specs.{Assumptions.{assumptions_in}, Reading.{begun, with_block, after_header, revised, after_assumptions, after_weight, inside_block, with_revision, with_weight, ended_job, unended, without_block}};
 ghost use Rattle.mal_script.specs.ReadResult.{Fails, Gives};
 
+use crate::asks::weight_in;
 use crate::assuming::assumptions_in;
 use crate::blocks;
 use crate::fault::LineRefusal;
 use crate::limits::Limits;
 use crate::script::ScriptJob;
-use mal_base::{Ask, Formula, LimitKind, LineFault, Lit, Name};
+use mal_base::{Ask, Formula, LimitKind, LineFault, Lit, Name, Weight};
 use mal_dimacs::BlockReader;
 use mal_revision::Revision;
 use mal_text::first_word;
@@ -178,6 +179,28 @@ impl OpenJob {
         }
         let block = blocks::after_row(block, split.line)?;
         Ok(self.with_block(block))
+    }
+
+    /// The job with one more change of what it asks for, and without its block.
+    fn with_weight(self, weight: Weight) -> Result<OpenJob, LineRefusal>
+        ensures { Gives (λ o. o) result (Ok (with_weight self weight)) }
+    {
+        Ok(OpenJob {
+            job: self.job.with_step(Step::Reask(weight))?,
+            clauses: self.clauses,
+            literals: self.literals,
+            block: None,
+        })
+    }
+
+    /// After the words behind the `q` of a line that changes what the job asks for.
+    pub fn after_weight(self, words: &[u8]) -> Result<OpenJob, LineRefusal>
+        ensures { Gives (λ o. o) result (after_weight (words_of words.now) self) }
+    {
+        match weight_in(words) {
+            Ok(weight) => self.with_weight(weight),
+            Err(fault) => Err(LineRefusal::Fault(fault)),
+        }
     }
 
     /// The job that is ended by these words behind an `e`.

@@ -188,6 +188,10 @@ impl Reader {
             let job = job.after_header(limits, split.line)?;
             return Ok(self.goes_on(job));
         }
+        if split.first == b"q".as_slice() {
+            let job = job.after_weight(split.others)?;
+            return Ok(self.goes_on(job));
+        }
         if split.first == b"e".as_slice() {
             return self.after_end(job, split.others);
         }

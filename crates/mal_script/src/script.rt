@@ -136,6 +136,7 @@ fn revision_of(step: &Step) -> Option<&Revision>
 {
     match step {
         Step::Revise(revision) => Some(revision),
+        Step::Reask(_) => None,
     }
 }
 
@@ -145,6 +146,7 @@ fn is_revision(step: &Step) -> bool
 {
     match step {
         Step::Revise(_) => true,
+        Step::Reask(_) => false,
     }
 }
 

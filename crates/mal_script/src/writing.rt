@@ -3,19 +3,19 @@
 ghost use Rattle.std.specs.Prelude.{◌≡◌, ◌∷◌, ◌++◌, [], flat_map, codes, IfOk, OnOk};
 ghost use Rattle.spec_text.specs.Lines.{line_of, text_of};
 ghost use Rattle.spec_dimacs.specs.Written.{closed_words};
-ghost use Rattle.spec_script.specs.Script.{job_rows, job_words, revision_rows, spelling, step_rows, tenant_words};
+ghost use Rattle.spec_script.specs.Script.{job_rows, job_words, revision_rows, spelling, step_rows, tenant_words, weight_words};
 
 use crate::script::{Script, ScriptJob};
-use mal_base::{Ask, Lit, Name};
+use mal_base::{Ask, Lit, Name, Weight};
 use mal_dimacs::{put_block, put_closed};
 use mal_revision::Revision;
-use mal_text::{end_line, put_ask, put_line, put_word};
+use mal_text::{end_line, put_ask, put_decimal, put_line, put_word};
 use spec_script::Step;
 use std::alloc::{AllocError, Global};
 
-/// The one text of a script: for each job the line of its tenant, the line of its name and its ask, for each step its lines
-/// (for a revision a header, a line a clause and the line of its assumptions), and the line that ends the job. A tautology is written as
-/// the literals 1 and -1.
+/// The one text of a script: for each job the line of its tenant, the line of its name and its ask, for each step its
+/// lines, and the line that ends the job. The lines of a revision are a header, a line a clause and that of its
+/// assumptions; a tautology is written as the literals 1 and -1. A change of the ask is one line.
 pub fn write(alloc: Global, script: &Script) -> Result<Vec<u8>, AllocError>
     ensures { IfOk result (λ text. text.items ≡ spelling script.now) }
 {
@@ -73,6 +73,7 @@ fn put_step(out: &mut Vec<u8>, step: &Step) -> Result<(), AllocError>
 {
     match step {
         Step::Revise(revision) => put_revision(out, revision),
+        Step::Reask(weight) => put_weight(out, *weight),
     }
 }
 
@@ -82,6 +83,17 @@ fn put_revision(out: &mut Vec<u8>, revision: &Revision) -> Result<(), AllocError
 {
     put_block(out, revision.variables(), revision.clauses())?;
     put_assumptions(out, revision.assumptions())?;
+    Ok(())
+}
+
+/// Writes the line that changes what a job asks for.
+fn put_weight(out: &mut Vec<u8>, weight: Weight) -> Result<(), AllocError>
+    ensures { OnOk result (out.new.items ≡ out.old.items ++ line_of (weight_words weight)) }
+{
+    out.push(b'q')?;
+    put_decimal(out, u64::from(weight.priority()))?;
+    put_decimal(out, u64::from(weight.demand()))?;
+    end_line(out)?;
     Ok(())
 }
 
