@@ -139,7 +139,7 @@ def write_formulas(out: TextIO, source: str, folder: str) -> None:
                     file.writelines(clauses)
                     file.writelines(units)
                 print(name, file=out)
-            elif words[0] not in ("t", "e"):
+            elif words[0] not in ("t", "q", "e"):
                 clauses.append(line)
 
 
