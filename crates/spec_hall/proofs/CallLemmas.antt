@@ -2,7 +2,7 @@
 use Rattle.std.proofs.Common.{◌≡◌, ℕ, zero, suc, ◌+◌, ◌≤◌, List, [], ◌∷◌, ◌++◌, flat_map, Option, Some, None, Result, Ok, Err, refl, sym, ◌∙◌, ap, subst, arith, append_assoc, append-nil}
 use Rattle.std.specs.Option.{option_map_or}
 use Rattle.mal_base.specs.declared.verdict.Outcome.TheVariants.{Lost}
-use Rattle.mal_base.specs.Asks.{Terms}
+use Rattle.mal_base.specs.Asks.{Terms, Weighed}
 use Rattle.mal_revision.specs.Posted.{Posted}
 use Rattle.spec_node.specs.Load.{counted}
 use Rattle.spec_job.specs.Leased.{Finished}
@@ -11,14 +11,16 @@ use Rattle.mal_base.specs.declared.hall_fault.OpenFault.{OpenFault}
 use Rattle.mal_base.specs.declared.hall_fault.OpenFault.TheVariants as opening
 use Rattle.mal_base.specs.declared.hall_fault.ReviseFault.{ReviseFault}
 use Rattle.mal_base.specs.declared.hall_fault.ReviseFault.TheVariants as revising
+use Rattle.mal_base.specs.declared.hall_fault.ReaskFault.{ReaskFault}
+use Rattle.mal_base.specs.declared.hall_fault.ReaskFault.TheVariants as reasking
 use Rattle.mal_base.specs.declared.hall_fault.CloseFault.{CloseFault}
 use Rattle.mal_base.specs.declared.hall_fault.CloseFault.TheVariants as closing
 use Rattle.mal_base.specs.declared.hall_fault.PickFault.{PickFault}
 use Rattle.mal_base.specs.declared.hall_fault.PickFault.TheVariants as picking
 use Rattle.mal_base.specs.declared.hall_fault.ReplyFault.{ReplyFault}
 use Rattle.mal_base.specs.declared.hall_fault.ReplyFault.TheVariants as asking
-use Rattle.spec_hall.specs.Calls.{Back, CallIsLegal, Closes, Finishes, Idle, AllDone, Leased, Opens, Asks, Picks, Recalls, Revises, Offer, Return, Strange, lost_of, IsOpening, IsRevising, IsClosing, IsPicking, IsReturning, IsAsking}
-use Rattle.spec_hall.specs.Events.{Event, Open, Revise, Close, Start, Finish}
+use Rattle.spec_hall.specs.Calls.{Back, CallIsLegal, Closes, Finishes, Idle, AllDone, Leased, Opens, Asks, Picks, Recalls, Revises, Reasks, Offer, Return, Strange, lost_of, IsOpening, IsRevising, IsReasking, IsClosing, IsPicking, IsReturning, IsAsking}
+use Rattle.spec_hall.specs.Events.{Event, Open, Revise, Reask, Close, Start, Finish}
 use Rattle.spec_hall.specs.Legal.{Allowed, Legal}
 use Rattle.spec_hall.specs.States.{LeaseOut, leases, lease_of}
 use Rattle.spec_hall.proofs.PushLemmas.{Legal-push, leases-push}
@@ -46,6 +48,12 @@ revise-legal w past k p (Err revising.Closed) es legal (t, a, b, is) = none-lega
 revise-legal w past k p (Err revising.RevisionsFull) es legal (t, a, b, c, is) = none-legal w past es legal is
 revise-legal w past k p (Err (revising.JobFull which)) es legal (t, a, b, c, d, is) = none-legal w past es legal is
 revise-legal w past k p (Err revising.OutOfMemory) es legal (t, a, is) = none-legal w past es legal is
+
+reask-legal : (w : ℕ) (past : List Event) (k : Key) (weight : Weighed) (r : Result (Unit {0}) ReaskFault) (es : List Event) → Legal w past → IsReasking past k weight r es → Legal w (past ++ es)
+reask-legal w past k weight (Ok done) es legal (t, may, is) = one-legal w past es (Reask k weight) legal (t, may) is
+reask-legal w past k weight (Err reasking.NoJob) es legal is = none-legal w past es legal is.1
+reask-legal w past k weight (Err reasking.Closed) es legal (t, a, b, is) = none-legal w past es legal is
+reask-legal w past k weight (Err reasking.OutOfMemory) es legal (t, may, is) = none-legal w past es legal is
 
 close-legal : (w : ℕ) (past : List Event) (k : Key) (r : Result (Unit {0}) CloseFault) (es : List Event) → Legal w past → IsClosing past k r es → Legal w (past ++ es)
 close-legal w past k (Ok done) es legal (t, may, is) = one-legal w past es (Close k) legal (t, may) is
@@ -99,6 +107,7 @@ ask-legal w past k n (Err asking.OutOfMemory) es legal (t, a, is) = none-legal w
 pub call-is_legal : CallIsLegal
 call-is_legal w past (Opens k ask) answer es some bound legal is = open-legal w past k ask answer es legal is
 call-is_legal w past (Revises k r) answer es some bound legal is = revise-legal w past k r answer es legal is
+call-is_legal w past (Reasks k weight) answer es some bound legal is = reask-legal w past k weight answer es legal is
 call-is_legal w past (Closes k) answer es some bound legal is = close-legal w past k answer es legal is
 call-is_legal w past (Picks worker) answer es some bound legal is = pick-legal w past worker answer es legal is
 call-is_legal w past (Finishes d) answer es some bound legal is = return-legal w past d answer es some bound legal is

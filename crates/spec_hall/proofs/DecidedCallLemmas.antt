@@ -3,7 +3,7 @@ use Rattle.std.proofs.Common.{◌≡◌, ℕ, ◌+◌, ◌<◌, ◌≤◌, true,
 use Rattle.std.specs.Prelude.{Result, Ok, Err}
 use Rattle.std.specs.List.{list_all}
 use Rattle.std.proofs.lemmas.Bool.{and_parts, both_ways, eqb-true}
-use Rattle.mal_base.specs.Asks.{Terms}
+use Rattle.mal_base.specs.Asks.{Terms, Weighed}
 use Rattle.mal_base.specs.declared.limit_kind.LimitKind.{LimitKind}
 use Rattle.mal_base.specs.declared.limit_kind.LimitKind.TheVariants.{Variables, Clauses, Literals, Tenants, Jobs, Revisions}
 use Rattle.mal_revision.specs.Posted.{Posted}
@@ -14,15 +14,17 @@ use Rattle.mal_base.specs.declared.hall_fault.OpenFault.{OpenFault}
 use Rattle.mal_base.specs.declared.hall_fault.OpenFault.TheVariants as opening
 use Rattle.mal_base.specs.declared.hall_fault.ReviseFault.{ReviseFault}
 use Rattle.mal_base.specs.declared.hall_fault.ReviseFault.TheVariants as revising
+use Rattle.mal_base.specs.declared.hall_fault.ReaskFault.{ReaskFault}
+use Rattle.mal_base.specs.declared.hall_fault.ReaskFault.TheVariants as reasking
 use Rattle.mal_base.specs.declared.hall_fault.CloseFault.{CloseFault}
 use Rattle.mal_base.specs.declared.hall_fault.CloseFault.TheVariants as closing
 use Rattle.mal_base.specs.declared.hall_fault.PickFault.{PickFault}
 use Rattle.mal_base.specs.declared.hall_fault.PickFault.TheVariants as picking
 use Rattle.mal_base.specs.declared.hall_fault.ReplyFault.{ReplyFault}
 use Rattle.mal_base.specs.declared.hall_fault.ReplyFault.TheVariants as asking
-use Rattle.spec_hall.specs.Calls.{Call, AnswerTo, Opens, Revises, Closes, Picks, Finishes, Recalls, Asks, Handed, Offer, Leased, Idle, AllDone, Return, Back, Strange, AreDue, arranges, is_over, handed, IsStarting, IsWaiting, IsOpening, IsRevising, IsClosing, IsPicking, IsReturning, IsAsking, CallIsDecided, wanted}
+use Rattle.spec_hall.specs.Calls.{Call, AnswerTo, Opens, Revises, Reasks, Closes, Picks, Finishes, Recalls, Asks, Handed, Offer, Leased, Idle, AllDone, Return, Back, Strange, AreDue, arranges, is_over, handed, IsStarting, IsWaiting, IsOpening, IsRevising, IsReasking, IsClosing, IsPicking, IsReturning, IsAsking, CallIsDecided, wanted}
 use Rattle.spec_hall.specs.Driven.{IsCalm, is_done}
-use Rattle.spec_hall.specs.Events.{Event, Open, Revise, Close, Balance, Start, Finish, Exchange}
+use Rattle.spec_hall.specs.Events.{Event, Open, Revise, Reask, Close, Balance, Start, Finish, Exchange}
 use Rattle.spec_hall.specs.Legal.{Allowed, LegalFrom, MayRevise, job_of}
 use Rattle.spec_hall.specs.Room.{IsOver}
 use Rattle.spec_hall.specs.States.{LeaseOut, leases, lease_of, picked, states}
@@ -45,11 +47,13 @@ found-same o x y found also = let both : Some x ≡ Some y = sym found ∙ also 
 arranged-decided : (w : ℕ) (past : List Event) (e f : Event) → arranges e ≡ true → arranges f ≡ true → Allowed w past e → Allowed w past f → e ≡ f
 arranged-decided w past (Open k ask) f kind other may might = absurd (cc)
 arranged-decided w past (Revise k number r) f kind other may might = absurd (cc)
+arranged-decided w past (Reask k weight) f kind other may might = absurd (cc)
 arranged-decided w past (Close k) f kind other may might = absurd (cc)
 arranged-decided w past (Start k index worker) f kind other may might = absurd (cc)
 arranged-decided w past (Finish k index worker outcome) f kind other may might = absurd (cc)
 arranged-decided w past (Balance shares) (Open k ask) kind other may might = absurd (cc)
 arranged-decided w past (Balance shares) (Revise k number r) kind other may might = absurd (cc)
+arranged-decided w past (Balance shares) (Reask k weight) kind other may might = absurd (cc)
 arranged-decided w past (Balance shares) (Close k) kind other may might = absurd (cc)
 arranged-decided w past (Balance shares) (Balance given) kind other may might = ap Balance (balances-decided w past shares given may might)
 arranged-decided w past (Balance shares) (Start k index worker) kind other may might = absurd (cc)
@@ -57,6 +61,7 @@ arranged-decided w past (Balance shares) (Finish k index worker outcome) kind ot
 arranged-decided w past (Balance shares) (Exchange k) kind other may might = absurd (may.due might.1.balance)
 arranged-decided w past (Exchange j) (Open k ask) kind other may might = absurd (cc)
 arranged-decided w past (Exchange j) (Revise k number r) kind other may might = absurd (cc)
+arranged-decided w past (Exchange j) (Reask k weight) kind other may might = absurd (cc)
 arranged-decided w past (Exchange j) (Close k) kind other may might = absurd (cc)
 arranged-decided w past (Exchange j) (Balance given) kind other may might = absurd (might.due may.1.balance)
 arranged-decided w past (Exchange j) (Start k index worker) kind other may might = absurd (cc)
@@ -67,6 +72,7 @@ arranged-decided w past (Exchange j) (Exchange k) kind other may might = ap Exch
 calm-none : (w : ℕ) (past : List Event) (e : Event) → IsCalm past → arranges e ≡ true → Allowed w past e → ⊥
 calm-none w past (Open k ask) calm kind may = absurd (cc)
 calm-none w past (Revise k number r) calm kind may = absurd (cc)
+calm-none w past (Reask k weight) calm kind may = absurd (cc)
 calm-none w past (Close k) calm kind may = absurd (cc)
 calm-none w past (Balance shares) calm kind may = may.due calm.balance
 calm-none w past (Start k index worker) calm kind may = absurd (cc)
@@ -207,6 +213,27 @@ closes-decided w past k (Err closing.Closed) (Ok made) es fs a b =
 closes-decided w past k (Err closing.Closed) (Err closing.NoJob) es fs a b = absurd (found-not (job_of k (states past)) a.0 a.1 b.0)
 closes-decided w past k (Err closing.Closed) (Err closing.Closed) es fs a b = (refl, λ m. no-events es fs a.3 b.3)
 
+-- so is an ask that changes
+reasks-decided : (w : ℕ) (past : List Event) (k : Key) (weight : Weighed) (one other : Result (Unit {0}) ReaskFault) (es fs : List Event) → IsReasking past k weight one es → IsReasking past k weight other fs → wanted (Reasks k weight) one ≡ wanted (Reasks k weight) other → Decided (Reasks k weight) one other es fs
+reasks-decided w past k weight (Ok done) (Ok made) es fs a b same = (refl, λ m. a.2 ∙ sym b.2)
+reasks-decided w past k weight (Ok done) (Err reasking.NoJob) es fs a b same = absurd (found-not (job_of k (states past)) a.0 a.1.job b.0)
+reasks-decided w past k weight (Ok done) (Err reasking.Closed) es fs a b same =
+    absurd (closed-open b.0 a.0 (found-same (job_of k (states past)) b.0 a.0 b.1 a.1.job) b.2 a.1.open_still)
+reasks-decided w past k weight (Ok done) (Err reasking.OutOfMemory) es fs a b same = absurd (cc)
+reasks-decided w past k weight (Err reasking.NoJob) (Ok made) es fs a b same = absurd (found-not (job_of k (states past)) b.0 b.1.job a.0)
+reasks-decided w past k weight (Err reasking.NoJob) (Err reasking.NoJob) es fs a b same = (refl, λ m. no-events es fs a.1 b.1)
+reasks-decided w past k weight (Err reasking.NoJob) (Err reasking.Closed) es fs a b same = absurd (found-not (job_of k (states past)) b.0 b.1 a.0)
+reasks-decided w past k weight (Err reasking.NoJob) (Err reasking.OutOfMemory) es fs a b same = absurd (cc)
+reasks-decided w past k weight (Err reasking.Closed) (Ok made) es fs a b same =
+    absurd (closed-open a.0 b.0 (found-same (job_of k (states past)) a.0 b.0 a.1 b.1.job) a.2 b.1.open_still)
+reasks-decided w past k weight (Err reasking.Closed) (Err reasking.NoJob) es fs a b same = absurd (found-not (job_of k (states past)) a.0 a.1 b.0)
+reasks-decided w past k weight (Err reasking.Closed) (Err reasking.Closed) es fs a b same = (refl, λ m. no-events es fs a.3 b.3)
+reasks-decided w past k weight (Err reasking.Closed) (Err reasking.OutOfMemory) es fs a b same = absurd (cc)
+reasks-decided w past k weight (Err reasking.OutOfMemory) (Ok made) es fs a b same = absurd (cc)
+reasks-decided w past k weight (Err reasking.OutOfMemory) (Err reasking.NoJob) es fs a b same = absurd (cc)
+reasks-decided w past k weight (Err reasking.OutOfMemory) (Err reasking.Closed) es fs a b same = absurd (cc)
+reasks-decided w past k weight (Err reasking.OutOfMemory) (Err reasking.OutOfMemory) es fs a b same = (refl, λ m. absurd (cc))
+
 -- so is an open
 opens-decided : (w : ℕ) (past : List Event) (k : Key) (ask : Terms) (one other : Result (Unit {0}) OpenFault) (es fs : List Event) → IsOpening past k ask one es → IsOpening past k ask other fs → wanted (Opens k ask) one ≡ wanted (Opens k ask) other → Decided (Opens k ask) one other es fs
 opens-decided w past k ask (Ok done) (Ok made) es fs a b same = (refl, λ m. a.1 ∙ sym b.1)
@@ -325,6 +352,7 @@ revises-decided w past k r one other es fs a b same = by_answers one other a b s
 pub call-is_decided : CallIsDecided
 call-is_decided w past (Opens k ask) one other es fs a b same = opens-decided w past k ask one other es fs a b same
 call-is_decided w past (Revises k r) one other es fs a b same = revises-decided w past k r one other es fs a b same
+call-is_decided w past (Reasks k weight) one other es fs a b same = reasks-decided w past k weight one other es fs a b same
 call-is_decided w past (Closes k) one other es fs a b same = closes-decided w past k one other es fs a b
 call-is_decided w past (Picks worker) one other es fs a b same = picks-decided w past worker one other es fs a b same
 call-is_decided w past (Finishes d) one other es fs a b same = returns-decided w past d one other es fs a b

@@ -5,10 +5,10 @@ use Rattle.std.specs.Option.{option_map_or}
 use Rattle.std.proofs.lemmas.List.Elements.{All-nil, All-head, All-tail, All-weaker, All-push}
 use Rattle.std.proofs.lemmas.Option.{get_or_from_slice_get}
 use Rattle.mal_revision.specs.Posted.{Posted}
-use Rattle.spec_job.specs.SoloMachine.{Own, Opened, Revised, Closed, Volume, Started, Finished, Exchanged, SoloMachine, solo, solo_step}
+use Rattle.spec_job.specs.SoloMachine.{Own, Opened, Revised, Reasked, Closed, Volume, Started, Finished, Exchanged, SoloMachine, solo, solo_step}
 use Rattle.spec_job.specs.KeyedJob.{Key, KeyedJob}
 use Rattle.spec_job.proofs.StepLemmas.{start-keeps, finish-keeps}
-use Rattle.spec_hall.specs.Events.{Event, Open, Revise, Close, Balance, Start, Finish, Exchange, bare}
+use Rattle.spec_hall.specs.Events.{Event, Open, Revise, Reask, Close, Balance, Start, Finish, Exchange, bare}
 use Rattle.spec_hall.specs.Own.{own, own_step, adds, is_key}
 use Rattle.spec_hall.specs.States.{keys_of, states, titled}
 use Rattle.spec_hall.specs.Legal.{Allowed, MayRevise}
@@ -31,6 +31,7 @@ grows-same xs ys e = record { more = []; is = e ∙ sym (append-nil xs) }
 step-grows : (s : SoloMachine) (o : Own) → Grows s.revisions (solo_step s o).revisions
 step-grows s (Opened ask) = grows-same s.revisions s.revisions refl
 step-grows s (Revised r) = record { more = r ∷ []; is = (revise-keeps s r).revisions }
+step-grows s (Reasked w) = grows-same s.revisions s.revisions refl
 step-grows s Closed = grows-same s.revisions s.revisions refl
 step-grows s (Volume v) = grows-same s.revisions s.revisions refl
 step-grows s (Started i) = grows-same s.revisions (solo_step s (Started i)).revisions (start-keeps s i).revisions
@@ -67,6 +68,7 @@ revisions-grow past e k =
 abbrev IsHeld : List Event → Event → Type 0
 IsHeld past (Open k ask) = Unit {0}
 IsHeld past (Revise k number r) = slice_get (revisions_of k (states past)) (number - 1) ≡ Some r
+IsHeld past (Reask k w) = Unit {0}
 IsHeld past (Close k) = Unit {0}
 IsHeld past (Balance shares) = Unit {0}
 IsHeld past (Start k index worker) = Unit {0}
@@ -88,6 +90,7 @@ held-stays past e (Open k ask) h = tt
 held-stays past e (Revise k number r) h =
     let g = revisions-grow past e k in
     ap (λ (xs : List Posted). slice_get xs (number - 1)) g.is ∙ slice_get-more (revisions_of k (states past)) g.more (number - 1) r h
+held-stays past e (Reask k w) h = tt
 held-stays past e (Close k) h = tt
 held-stays past e (Balance shares) h = tt
 held-stays past e (Start k index worker) h = tt
@@ -110,6 +113,7 @@ revise-held past k number r t may =
 allowed-held : (w : ℕ) (past : List Event) (e : Event) → Allowed w past e → IsHeld (past ++ e ∷ []) e
 allowed-held w past (Open k ask) may = tt
 allowed-held w past (Revise k number r) may = revise-held past k number r may.0 may.1
+allowed-held w past (Reask k weight) may = tt
 allowed-held w past (Close k) may = tt
 allowed-held w past (Balance shares) may = tt
 allowed-held w past (Start k index worker) may = tt
@@ -123,6 +127,7 @@ held-push w past e may h = All-push (IsHeld (past ++ e ∷ [])) past e (All-weak
 event-dressed : (past : List Event) (e : Event) → IsHeld past e → dressed (states past) (bare e) ≡ e
 event-dressed past (Open k ask) h = refl
 event-dressed past (Revise k number r) h = ap (Revise k number) (get_or_from_slice_get (revisions_of k (states past)) (number - 1) r no_revision h)
+event-dressed past (Reask k w) h = refl
 event-dressed past (Close k) h = refl
 event-dressed past (Balance shares) h = refl
 event-dressed past (Start k index worker) h = refl

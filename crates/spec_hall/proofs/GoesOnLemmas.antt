@@ -14,10 +14,10 @@ use Rattle.mal_base.specs.declared.verdict.Verdict.TheVariants.{Satisfiable, Uns
 use Rattle.mal_base.specs.declared.verdict.Outcome.{Outcome}
 use Rattle.spec_node.specs.State.{Node}
 use Rattle.spec_node.specs.Model.{model_of}
-use Rattle.spec_job.specs.SoloMachine.{Own, Opened, Revised, Closed, Volume, Started, Finished, Exchanged, SoloMachine, NodeSlot, Lease, vacant, current, is_live, is_for, out_count, place_at, solo, solo_step, startable, answered, spend, starve, conclude, first_empty, settled_by, finished_home, finished_lease, finished}
+use Rattle.spec_job.specs.SoloMachine.{Own, Opened, Revised, Reasked, Closed, Volume, Started, Finished, Exchanged, SoloMachine, NodeSlot, Lease, vacant, current, is_live, is_for, out_count, place_at, solo, solo_step, startable, answered, spend, starve, conclude, first_empty, settled_by, finished_home, finished_lease, finished}
 use Rattle.spec_job.specs.KeyedJob.{Key, KeyedJob}
 use Rattle.spec_hall.specs.Driven.{IsAtEnd, is_done}
-use Rattle.spec_hall.specs.Events.{Event, Open, Revise, Close, Balance, Start, Finish, Exchange}
+use Rattle.spec_hall.specs.Events.{Event, Open, Revise, Reask, Close, Balance, Start, Finish, Exchange}
 use Rattle.spec_hall.specs.Own.{own, own_step, adds, adds_volume, is_key, volume_in}
 use Rattle.spec_hall.specs.States.{Candidate, keys_of, states, lives, live_of, live_ones, balanced, leases, picked}
 use Rattle.spec_hall.specs.Legal.{Allowed, Legal}
@@ -110,6 +110,7 @@ event-budget w past (Open k ask) may h j opened = subst (λ (es : List Own). Has
         subst (λ (es : List Own). HasBudget (solo (es ++ Opened ask ∷ []))) (sym none) (omega (arith, may.asked.some_slices))
     by_key false e = h.budgets j (before e)
 event-budget w past (Revise k number r) may h x opened = stays past (Revise k number r) (keys-push past (Revise k number r)) (λ j b. adds-budget (is_key j k) (own j past) (Revised r) (λ s c. settled-budget (first_empty s.log) (record s { revisions = s.revisions ++ r ∷ [] }) c) b) h.budgets x opened
+event-budget w past (Reask k weight) may h x opened = stays past (Reask k weight) (keys-push past (Reask k weight)) (λ j b. adds-budget (is_key j k) (own j past) (Reasked weight) (λ s c. c) b) h.budgets x opened
 event-budget w past (Close k) may h x opened = stays past (Close k) (keys-push past (Close k)) (λ j b. adds-budget (is_key j k) (own j past) Closed (λ s c. c) b) h.budgets x opened
 event-budget w past (Balance shares) may h x opened = stays past (Balance shares) (keys-push past (Balance shares)) (λ j b. adds_volume-budget (volume_in j shares) (own j past) b) h.budgets x opened
 event-budget w past (Start k index worker) may h x opened = stays past (Start k index worker) (keys-push past (Start k index worker)) (λ j b. adds-budget (is_key j k) (own j past) (Started index) (λ s c. c) b) h.budgets x opened

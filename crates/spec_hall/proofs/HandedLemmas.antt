@@ -8,12 +8,12 @@ use Rattle.mal_base.specs.Asks.{Terms}
 use Rattle.mal_base.specs.declared.verdict.Outcome.{Outcome}
 use Rattle.mal_revision.specs.Posted.{Posted}
 use Rattle.spec_job.specs.Journal.{JournalEntry}
-use Rattle.spec_job.specs.SoloMachine.{Own, Opened, Revised, Closed, Volume, Started, Finished, Exchanged, SoloMachine, NodeSlot, Lease, vacant, place_at, solo, solo_step, start_entries, current, first_empty, finished_lease, finished, exchanged}
+use Rattle.spec_job.specs.SoloMachine.{Own, Opened, Revised, Reasked, Closed, Volume, Started, Finished, Exchanged, SoloMachine, NodeSlot, Lease, vacant, place_at, solo, solo_step, start_entries, current, first_empty, finished_lease, finished, exchanged}
 use Rattle.spec_job.specs.KeyedJob.{Key}
 use Rattle.spec_job.proofs.PlacesLemmas.{marked-place, set-place}
 use Rattle.spec_job.proofs.StepLemmas.{finish-keeps}
 use Rattle.spec_hall.specs.Calls.{Handed, handed}
-use Rattle.spec_hall.specs.Events.{Event, Open, Revise, Close, Balance, Start, Finish, Exchange}
+use Rattle.spec_hall.specs.Events.{Event, Open, Revise, Reask, Close, Balance, Start, Finish, Exchange}
 use Rattle.spec_hall.specs.Leases.{Numbered, job_number, numbered, place_among, start_number}
 use Rattle.spec_hall.specs.Legal.{Allowed, Legal}
 use Rattle.spec_hall.specs.Own.{own, own_step, adds, adds_volume, is_key, volume_in}
@@ -149,31 +149,33 @@ finish-other w past k index v o worker l is mine same = both_ways (is_out (solo 
 event-left : (w : ℕ) (past : List Event) (e : Event) (worker : ℕ) (l : LeaseOut) → IsOutStill w past e worker l → left_at (solo (own_step l.key (own l.key past) e)) l.index ≡ left_at (solo (own l.key past)) l.index
 event-left w past (Open k ask) worker l is = adds-left (is_key l.key k) (own l.key past) (Opened ask) l.index (λ s. refl)
 event-left w past (Revise k number r) worker l is = adds-left (is_key l.key k) (own l.key past) (Revised r) l.index (λ s. revised-left s r l.index)
+event-left w past (Reask k weight) worker l is = adds-left (is_key l.key k) (own l.key past) (Reasked weight) l.index (λ s. refl)
 event-left w past (Close k) worker l is = adds-left (is_key l.key k) (own l.key past) Closed l.index (λ s. refl)
 event-left w past (Balance shares) worker l is = volume-left (volume_in l.key shares) (own l.key past) l.index
 event-left w past (Start k index v) worker l is = other-left (is_key l.key k) (own l.key past) (Started index) l.index (λ mine s. started-left s index l.index (start-other w past k index v worker l is mine))
 event-left w past (Finish k index v o) worker l is = other-left (is_key l.key k) (own l.key past) (Finished index o) l.index (λ mine s. finished-left s index l.index o (finish-other w past k index v o worker l is mine))
 event-left w past (Exchange k) worker l is = adds-left (is_key l.key k) (own l.key past) Exchanged l.index (λ s. exchanged-left s l.index)
 
--- what a job asks for is left by an own event that is no opening
-adds-ask : (mine : Bool) (es : List Own) (o : Own) → (solo_step (solo es) o).ask ≡ (solo es).ask → (solo (adds mine es o)).ask ≡ (solo es).ask
-adds-ask mine es o same = adds-keeps (λ os. (solo os).ask ≡ (solo es).ask) mine es o refl (λ joins. ap (λ (s : SoloMachine). s.ask) (solo-push es o) ∙ same)
+-- the profile that a job asks for is left by an own event that is no opening
+adds-profile : (mine : Bool) (es : List Own) (o : Own) → (solo_step (solo es) o).ask.profile ≡ (solo es).ask.profile → (solo (adds mine es o)).ask.profile ≡ (solo es).ask.profile
+adds-profile mine es o same = adds-keeps (λ os. (solo os).ask.profile ≡ (solo es).ask.profile) mine es o refl (λ joins. ap (λ (s : SoloMachine). s.ask.profile) (solo-push es o) ∙ same)
 
-volume-ask : (v : ℕ) (es : List Own) → (solo (adds_volume v es)).ask ≡ (solo es).ask
-volume-ask v es = adds_volume-keeps (λ os. (solo os).ask ≡ (solo es).ask) v es refl (ap (λ (s : SoloMachine). s.ask) (solo-push es (Volume v)))
+volume-profile : (v : ℕ) (es : List Own) → (solo (adds_volume v es)).ask.profile ≡ (solo es).ask.profile
+volume-profile v es = adds_volume-keeps (λ os. (solo os).ask.profile ≡ (solo es).ask.profile) v es refl (ap (λ (s : SoloMachine). s.ask.profile) (solo-push es (Volume v)))
 
--- its job asks for what it asked for
-event-ask : (w : ℕ) (past : List Event) (e : Event) (worker : ℕ) (l : LeaseOut) → IsOutStill w past e worker l → (solo (own_step l.key (own l.key past) e)).ask ≡ (solo (own l.key past)).ask
-event-ask w past (Open k ask) worker l is =
+-- its job asks for the profile that it asked for
+event-profile : (w : ℕ) (past : List Event) (e : Event) (worker : ℕ) (l : LeaseOut) → IsOutStill w past e worker l → (solo (own_step l.key (own l.key past) e)).ask.profile ≡ (solo (own l.key past)).ask.profile
+event-profile w past (Open k ask) worker l is =
     let held : lease_of worker (leases past) ≡ Some (record { worker = worker; key = l.key; index = l.index }) = held-as past worker l (mine-is w past (Open k ask) worker l is) is.out in
     let other : is_key l.key k ≡ false = open-other past k l.key (lease-opened past worker l.index l.key (legal-orderly w past is.legal) held) (job_of-absent past k is.allowed.fresh) in
-    ap (λ (b : Bool). (solo (adds b (own l.key past) (Opened ask))).ask) other
-event-ask w past (Revise k number r) worker l is = adds-ask (is_key l.key k) (own l.key past) (Revised r) (revise-keeps (solo (own l.key past)) r).ask
-event-ask w past (Close k) worker l is = adds-ask (is_key l.key k) (own l.key past) Closed refl
-event-ask w past (Balance shares) worker l is = volume-ask (volume_in l.key shares) (own l.key past)
-event-ask w past (Start k index v) worker l is = adds-ask (is_key l.key k) (own l.key past) (Started index) refl
-event-ask w past (Finish k index v o) worker l is = adds-ask (is_key l.key k) (own l.key past) (Finished index o) (finish-keeps (solo (own l.key past)) index o).ask
-event-ask w past (Exchange k) worker l is = adds-ask (is_key l.key k) (own l.key past) Exchanged refl
+    ap (λ (b : Bool). (solo (adds b (own l.key past) (Opened ask))).ask.profile) other
+event-profile w past (Revise k number r) worker l is = adds-profile (is_key l.key k) (own l.key past) (Revised r) (ap (λ (a : Terms). a.profile) (revise-keeps (solo (own l.key past)) r).ask)
+event-profile w past (Reask k weight) worker l is = adds-profile (is_key l.key k) (own l.key past) (Reasked weight) refl
+event-profile w past (Close k) worker l is = adds-profile (is_key l.key k) (own l.key past) Closed refl
+event-profile w past (Balance shares) worker l is = volume-profile (volume_in l.key shares) (own l.key past)
+event-profile w past (Start k index v) worker l is = adds-profile (is_key l.key k) (own l.key past) (Started index) refl
+event-profile w past (Finish k index v o) worker l is = adds-profile (is_key l.key k) (own l.key past) (Finished index o) (ap (λ (a : Terms). a.profile) (finish-keeps (solo (own l.key past)) index o).ask)
+event-profile w past (Exchange k) worker l is = adds-profile (is_key l.key k) (own l.key past) Exchanged refl
 
 -- its job keeps its number
 among-push : (k j : Key) (ks : List Key) → list_any (is_key k) ks ≡ true → place_among k (ks ++ j ∷ []) ≡ place_among k ks
@@ -189,6 +191,7 @@ number-stays w past (Open k ask) worker l is =
     ap (place_among l.key) (keys-push past (Open k ask))
     ∙ among-push l.key k (keys_of past) (lease-opened past worker l.index l.key (legal-orderly w past is.legal) (held-as past worker l (mine-is w past (Open k ask) worker l is) is.out))
 number-stays w past (Revise k number r) worker l is = ap (place_among l.key) (keys-push past (Revise k number r))
+number-stays w past (Reask k weight) worker l is = ap (place_among l.key) (keys-push past (Reask k weight))
 number-stays w past (Close k) worker l is = ap (place_among l.key) (keys-push past (Close k))
 number-stays w past (Balance shares) worker l is = ap (place_among l.key) (keys-push past (Balance shares))
 number-stays w past (Start k index v) worker l is = ap (place_among l.key) (keys-push past (Start k index v))
@@ -199,6 +202,7 @@ number-stays w past (Exchange k) worker l is = ap (place_among l.key) (keys-push
 starts-stay : (w : ℕ) (past : List Event) (e : Event) (worker : ℕ) (l : LeaseOut) → IsOutStill w past e worker l → start_number worker (past ++ e ∷ []) ≡ start_number worker past
 starts-stay w past (Open k ask) worker l is = ap (λ (n : Numbered). n.last) (numbered-push worker past (Open k ask))
 starts-stay w past (Revise k number r) worker l is = ap (λ (n : Numbered). n.last) (numbered-push worker past (Revise k number r))
+starts-stay w past (Reask k weight) worker l is = ap (λ (n : Numbered). n.last) (numbered-push worker past (Reask k weight))
 starts-stay w past (Close k) worker l is = ap (λ (n : Numbered). n.last) (numbered-push worker past (Close k))
 starts-stay w past (Balance shares) worker l is = ap (λ (n : Numbered). n.last) (numbered-push worker past (Balance shares))
 starts-stay w past (Start k index v) worker l is =
@@ -224,9 +228,9 @@ handed-stays w past e worker l is =
     let same : l.worker ≡ worker = mine-is w past e worker l is in
     let start : start_number l.worker now ≡ start_number l.worker past = subst (λ (v : ℕ). start_number v now ≡ start_number v past) (sym same) (starts-stay w past e worker l is) in
     let left : left_at (solo (own l.key now)) l.index ≡ left_at (solo (own l.key past)) l.index = ap (λ (es : List Own). left_at (solo es) l.index) (own-push l.key past e) ∙ event-left w past e worker l is in
-    let ask : (solo (own l.key now)).ask ≡ (solo (own l.key past)).ask = ap (λ (es : List Own). (solo es).ask) (own-push l.key past e) ∙ event-ask w past e worker l is in
+    let profile : (solo (own l.key now)).ask.profile ≡ (solo (own l.key past)).ask.profile = ap (λ (es : List Own). (solo es).ask.profile) (own-push l.key past e) ∙ event-profile w past e worker l is in
     ap (λ (n : ℕ). handed_by l n (solo (own l.key now)).ask.profile (start_number l.worker now) (left_at (solo (own l.key now)) l.index)) (number-stays w past e worker l is)
-    ∙ (ap (λ (a : Terms). handed_by l (job_number l.key past) a.profile (start_number l.worker now) (left_at (solo (own l.key now)) l.index)) ask
+    ∙ (ap (λ (n : ℕ). handed_by l (job_number l.key past) n (start_number l.worker now) (left_at (solo (own l.key now)) l.index)) profile
     ∙ (ap (λ (n : ℕ). handed_by l (job_number l.key past) (solo (own l.key past)).ask.profile n (left_at (solo (own l.key now)) l.index)) start
     ∙ ap (λ (p : Left). handed_by l (job_number l.key past) (solo (own l.key past)).ask.profile (start_number l.worker past) p) left))
 

@@ -1,12 +1,12 @@
 use Rattle.std.proofs.Common.{◌≡◌, ◌≢◌, List, [], ◌∷◌, ◌++◌, Some, refl, sym, ◌∙◌, ap, subst, append_assoc, append-nil}
 use Rattle.std.proofs.lemmas.Bool.{false_from_ne_true}
 use Rattle.std.proofs.lemmas.Bool.Decides.{Decides-eqb}
-use Rattle.spec_job.specs.SoloMachine.{Own, Opened, Revised, Closed, Started, Finished, Exchanged, solo}
+use Rattle.spec_job.specs.SoloMachine.{Own, Opened, Revised, Reasked, Closed, Started, Finished, Exchanged, solo}
 use Rattle.spec_job.specs.KeyedJob.{Key}
 use Rattle.spec_job.specs.Models.{KeepsAnswers}
 use Rattle.spec_job.specs.Replies.{reply}
 use Rattle.spec_job.proofs.StayLemmas.{push-stays, stays-on, stays-self}
-use Rattle.spec_hall.specs.Events.{Event, Open, Revise, Close, Balance, Start, Finish, Exchange}
+use Rattle.spec_hall.specs.Events.{Event, Open, Revise, Reask, Close, Balance, Start, Finish, Exchange}
 use Rattle.spec_hall.specs.Own.{own, own_step, adds, is_key, volume_in, volume_after}
 use Rattle.spec_hall.specs.Laws.{JobAnswersStay, OthersLeaveOwn, OwnEventsAnswer, OwnEventsReply, SameVolumeLeavesOwn, job_in}
 use Rattle.spec_hall.proofs.KeyLemmas.{is_key-Decides}
@@ -37,6 +37,7 @@ adds-other j k es o other = rw (false_from_ne_true (is_key j k) (λ q. other ((i
 step-other : (j k : Key) (es : List Own) (e : Event) → job_in e ≡ Some k → j ≢ k → own_step j es e ≡ es
 step-other j k es (Open i ask) e other = adds-other j i es (Opened ask) (subst (λ (x : Key). j ≢ x) (sym (let same : i ≡ k = cc in same)) other)
 step-other j k es (Revise i number r) e other = adds-other j i es (Revised r) (subst (λ (x : Key). j ≢ x) (sym (let same : i ≡ k = cc in same)) other)
+step-other j k es (Reask i w) e other = adds-other j i es (Reasked w) (subst (λ (x : Key). j ≢ x) (sym (let same : i ≡ k = cc in same)) other)
 step-other j k es (Close i) e other = adds-other j i es Closed (subst (λ (x : Key). j ≢ x) (sym (let same : i ≡ k = cc in same)) other)
 step-other j k es (Balance shares) e other = absurd (cc)
 step-other j k es (Start i index worker) e other = adds-other j i es (Started index) (subst (λ (x : Key). j ≢ x) (sym (let same : i ≡ k = cc in same)) other)

@@ -6,7 +6,7 @@ use Rattle.std.proofs.lemmas.List.Folds.{list_any-append}
 use Rattle.mal_base.specs.Asks.{Terms, IsAsk}
 use Rattle.spec_job.specs.SoloMachine.{Own, Opened}
 use Rattle.spec_job.specs.KeyedJob.{Key}
-use Rattle.spec_hall.specs.Events.{Event, Open, Revise, Close, Balance, Start, Finish, Exchange}
+use Rattle.spec_hall.specs.Events.{Event, Open, Revise, Reask, Close, Balance, Start, Finish, Exchange}
 use Rattle.spec_hall.specs.Own.{own, own_step, adds, is_key}
 use Rattle.spec_hall.specs.States.{keys_of, keys_step}
 use Rattle.spec_hall.specs.Legal.{Allowed, Legal}
@@ -36,6 +36,7 @@ module _ (w : ℕ) (k : Key) (P : List Own → Type 0) (begins : Begins P) (last
       by_test false true p q = subst (λ (es : List Own). P (es ++ Opened ask ∷ [])) (sym (is.orderly.absent k p)) (begins ask may.asked)
       by_test false false p q = absurd (both_ways (list_any (is_key k) (keys_of past ++ j ∷ [])) (list_any-append (is_key k) (keys_of past) (j ∷ []) ∙ rw (p, q) refl) opened)
   opened-step past (Revise j number r) may is opened = lasts past (Revise j number r) may opened (is.has opened)
+  opened-step past (Reask j weight) may is opened = lasts past (Reask j weight) may opened (is.has opened)
   opened-step past (Close j) may is opened = lasts past (Close j) may opened (is.has opened)
   opened-step past (Balance shares) may is opened = lasts past (Balance shares) may opened (is.has opened)
   opened-step past (Start j index worker) may is opened = lasts past (Start j index worker) may opened (is.has opened)

@@ -9,11 +9,11 @@ use Rattle.std.proofs.lemmas.Bool.Decides.{Decides-eqb, Decides-ltb}
 use Rattle.std.proofs.lemmas.List.Elements.{All-nil, All-filter, All-head, All-push, All-tail}
 use Rattle.std.proofs.lemmas.List.Folds.{find-append}
 use Rattle.mal_base.specs.declared.verdict.Outcome.{Outcome}
-use Rattle.spec_job.specs.SoloMachine.{Own, Opened, Revised, Closed, Volume, Started, Finished, Exchanged, SoloMachine, NodeSlot, Lease, vacant, is_live, out_count, place_at, solo, solo_step, startable}
+use Rattle.spec_job.specs.SoloMachine.{Own, Opened, Revised, Reasked, Closed, Volume, Started, Finished, Exchanged, SoloMachine, NodeSlot, Lease, vacant, is_live, out_count, place_at, solo, solo_step, startable}
 use Rattle.spec_job.specs.KeyedJob.{Key, KeyedJob}
 use Rattle.spec_job.proofs.LeftLemmas.{solo-tidy}
 use Rattle.spec_job.proofs.PlacesLemmas.{get-vacant}
-use Rattle.spec_hall.specs.Events.{Event, Open, Revise, Close, Balance, Start, Finish, Exchange}
+use Rattle.spec_hall.specs.Events.{Event, Open, Revise, Reask, Close, Balance, Start, Finish, Exchange}
 use Rattle.spec_hall.specs.Own.{own, own_step, adds, adds_volume, is_key, volume_in}
 use Rattle.spec_hall.specs.States.{Candidate, LeaseOut, keys_of, titled, leases, leases_step, lease_of}
 use Rattle.spec_hall.specs.Legal.{Allowed, Legal, MayStart}
@@ -326,6 +326,7 @@ finish-leases w past k i worker outcome may are = record {
 event-leases : (w : ℕ) (past : List Event) (e : Event) → w ≤ 64 → Allowed w past e → HasSeats w past → AreLeases w past → AreLeases w (past ++ e ∷ [])
 event-leases w past (Open k ask) bound may has are = same-leases w past (Open k ask) refl (λ j i. adds-out (is_key j k) (own j past) (Opened ask) i (λ s. refl)) are
 event-leases w past (Revise k number r) bound may has are = same-leases w past (Revise k number r) refl (λ j i. adds-out (is_key j k) (own j past) (Revised r) i (λ s. revised-out s r i)) are
+event-leases w past (Reask k weight) bound may has are = same-leases w past (Reask k weight) refl (λ j i. adds-out (is_key j k) (own j past) (Reasked weight) i (λ s. refl)) are
 event-leases w past (Close k) bound may has are = same-leases w past (Close k) refl (λ j i. adds-out (is_key j k) (own j past) Closed i (λ s. refl)) are
 event-leases w past (Balance shares) bound may has are = same-leases w past (Balance shares) refl (λ j i. adds_volume-out (volume_in j shares) (own j past) i) are
 event-leases w past (Start k index worker) bound may has are = start-leases w past k index worker may.0 bound has may.1 are

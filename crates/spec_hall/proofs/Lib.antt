@@ -35,4 +35,5 @@ mod SeatedLemmas
 mod OutLemmas
 mod IsolationLemmas
 mod PickedLemmas
+mod ExampleLemmas
 mod UpToLemmas

@@ -5,12 +5,12 @@ use Rattle.std.proofs.lemmas.Bool.{both_ways}
 use Rattle.std.proofs.lemmas.List.Folds.{list_any-append}
 use Rattle.mal_base.specs.Asks.{Terms}
 use Rattle.spec_job.specs.Counts.{is_opening}
-use Rattle.spec_job.specs.SoloMachine.{Own, Opened, Revised, Closed, Volume, Started, Finished, Exchanged}
+use Rattle.spec_job.specs.SoloMachine.{Own, Opened, Revised, Reasked, Closed, Volume, Started, Finished, Exchanged}
 use Rattle.spec_job.specs.KeyedJob.{Key}
 use Rattle.spec_job.specs.Runnable.{IsRunnable}
 use Rattle.spec_job.specs.Unknown.{AnswersAccountedFor}
 use Rattle.spec_job.proofs.UnknownLemmas.{answers-accounted_for, accounted-decides}
-use Rattle.spec_hall.specs.Events.{Event, Open, Revise, Close, Balance, Start, Finish, Exchange}
+use Rattle.spec_hall.specs.Events.{Event, Open, Revise, Reask, Close, Balance, Start, Finish, Exchange}
 use Rattle.spec_hall.specs.Own.{own, own_step, adds, adds_volume, is_key, volume_in}
 use Rattle.spec_hall.specs.States.{keys_of, keys_step}
 use Rattle.spec_hall.specs.Legal.{Allowed, Legal}
@@ -50,6 +50,7 @@ step-opened w past k (Open j ask) may tidy there = by_test (list_any (is_key k) 
     by_test false true p q = subst (λ (es : List Own). IsOpened (es ++ Opened ask ∷ [])) (sym (tidy.orderly.absent k p)) (record { ask = ask; rest = []; is = refl; once = refl })
     by_test false false p q = absurd (both_ways (list_any (is_key k) (keys_of past ++ j ∷ [])) (list_any-append (is_key k) (keys_of past) (j ∷ []) ∙ rw (p, q) refl) there)
 step-opened w past k (Revise j number r) may tidy there = adds-opened (is_key k j) (own k past) (Revised r) refl (tidy.opened there)
+step-opened w past k (Reask j weight) may tidy there = adds-opened (is_key k j) (own k past) (Reasked weight) refl (tidy.opened there)
 step-opened w past k (Close j) may tidy there = adds-opened (is_key k j) (own k past) Closed refl (tidy.opened there)
 step-opened w past k (Balance shares) may tidy there = volume-opened (volume_in k shares) (own k past) (tidy.opened there)
 step-opened w past k (Start j index worker) may tidy there = adds-opened (is_key k j) (own k past) (Started index) refl (tidy.opened there)

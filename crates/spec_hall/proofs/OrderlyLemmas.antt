@@ -6,9 +6,9 @@ use Rattle.std.proofs.lemmas.Bool.{or_parts, or_from}
 use Rattle.std.proofs.lemmas.List.Folds.{list_any-append}
 use Rattle.std.proofs.lemmas.List.Elements.{All-nil, All-head, All-tail, All-weaker, All-push, All-filter}
 use Rattle.mal_history.specs.declared.event.Share.{Share}
-use Rattle.spec_job.specs.SoloMachine.{Own, Opened, Revised, Closed, Started, Finished, Exchanged, solo, is_live, is_exchange_due}
+use Rattle.spec_job.specs.SoloMachine.{Own, Opened, Revised, Reasked, Closed, Started, Finished, Exchanged, solo, is_live, is_exchange_due}
 use Rattle.spec_job.specs.KeyedJob.{Key, KeyedJob}
-use Rattle.spec_hall.specs.Events.{Event, Open, Revise, Close, Balance, Start, Finish, Exchange, key_of}
+use Rattle.spec_hall.specs.Events.{Event, Open, Revise, Reask, Close, Balance, Start, Finish, Exchange, key_of}
 use Rattle.spec_hall.specs.Own.{own, own_step, adds, adds_volume, is_key, volume_in}
 use Rattle.spec_hall.specs.States.{LeaseOut, Live, keys_of, keys_step, titled, lives, live_of, leases, leases_step, lease_of}
 use Rattle.spec_hall.specs.Legal.{Allowed, Legal}
@@ -92,6 +92,7 @@ event-absent w past (Open k ask) may orderly j absent =
     let other = or_parts (is_key j k) false parts.1 in
     ap (λ (b : Bool). adds b (own j past) (Opened ask)) other.0 ∙ orderly.absent j parts.0
 event-absent w past (Revise k number r) may orderly j absent = other-absent past j k (Revised r) orderly (job_of-found past k may.0 may.1.job).opened absent
+event-absent w past (Reask k weight) may orderly j absent = other-absent past j k (Reasked weight) orderly (job_of-found past k may.0 may.1.job).opened absent
 event-absent w past (Close k) may orderly j absent = other-absent past j k Closed orderly (job_of-found past k may.0 may.1.job).opened absent
 event-absent w past (Balance shares) may orderly j absent =
     let unlisted : list_any (is_key j) (map key_of shares) ≡ false = ap (list_any (is_key j)) may.keys ∙ lives-absent past j (keys_of past) absent in
@@ -106,6 +107,7 @@ event-absent w past (Exchange k) may orderly j absent =
 event-leased : (w : ℕ) (past : List Event) (e : Event) → Allowed w past e → (P : LeaseOut → Type 0) → All P (leases past) → ((k : Key) (index worker : ℕ) → was_opened past k ≡ true → P (record { worker = worker; key = k; index = index })) → All P (leases_step (leases past) e)
 event-leased w past (Open k ask) may P h new = h
 event-leased w past (Revise k number r) may P h new = h
+event-leased w past (Reask k weight) may P h new = h
 event-leased w past (Close k) may P h new = h
 event-leased w past (Balance shares) may P h new = h
 event-leased w past (Start k index worker) may P h new = All-push P (leases past) (record { worker = worker; key = k; index = index }) h (new k index worker (key-stands (keys_of past) may.0.job k may.1.key))
@@ -115,6 +117,7 @@ event-leased w past (Exchange k) may P h new = h
 event-apart : (w : ℕ) (past : List Event) (e : Event) → Allowed w past e → AreApart (keys_of past) → AreApart (keys_step (keys_of past) e)
 event-apart w past (Open k ask) may h = apart-push (keys_of past) k h (job_of-absent past k may.fresh)
 event-apart w past (Revise k number r) may h = h
+event-apart w past (Reask k weight) may h = h
 event-apart w past (Close k) may h = h
 event-apart w past (Balance shares) may h = h
 event-apart w past (Start k index worker) may h = h

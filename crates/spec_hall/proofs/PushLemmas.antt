@@ -1,8 +1,8 @@
 use Rattle.std.proofs.Common.{◌≡◌, ℕ, Bool, true, false, cond, ◌==◌, List, [], ◌∷◌, ◌++◌, if◌then◌else◌, refl, sym, ◌∙◌, ap, append_assoc, append-nil}
 use Rattle.std.proofs.lemmas.List.Sums.{fold_push}
 use Rattle.spec_job.specs.KeyedJob.{Key}
-use Rattle.spec_job.specs.SoloMachine.{Own, Opened, Revised, Closed, Volume, Started, Finished, Exchanged, solo, solo_step, unopened}
-use Rattle.spec_hall.specs.Events.{Event, Open, Revise, Close, Balance, Start, Finish, Exchange}
+use Rattle.spec_job.specs.SoloMachine.{Own, Opened, Revised, Reasked, Closed, Volume, Started, Finished, Exchanged, solo, solo_step, unopened}
+use Rattle.spec_hall.specs.Events.{Event, Open, Revise, Reask, Close, Balance, Start, Finish, Exchange}
 use Rattle.spec_hall.specs.Own.{own, own_step, adds, adds_volume, is_key, volume_in, volume_after}
 use Rattle.spec_hall.specs.States.{Live, keys_of, keys_step, states, lives, is_balance, balanced, balanced_from, leases, leases_step}
 use Rattle.spec_hall.specs.Legal.{Allowed, LegalFrom, Legal}
@@ -32,6 +32,7 @@ adds_volume-keeps P v es h more = by_test (v == volume_after es)
 pub own_step-keeps : (P : List Own → Type 0) (j : Key) (es : List Own) (e : Event) → P es → ((o : Own) → P (es ++ o ∷ [])) → P (own_step j es e)
 own_step-keeps P j es (Open k ask) h more = adds-keeps P (is_key j k) es (Opened ask) h (λ mine. more (Opened ask))
 own_step-keeps P j es (Revise k number r) h more = adds-keeps P (is_key j k) es (Revised r) h (λ mine. more (Revised r))
+own_step-keeps P j es (Reask k w) h more = adds-keeps P (is_key j k) es (Reasked w) h (λ mine. more (Reasked w))
 own_step-keeps P j es (Close k) h more = adds-keeps P (is_key j k) es Closed h (λ mine. more Closed)
 own_step-keeps P j es (Balance shares) h more = adds_volume-keeps P (volume_in j shares) es h (more (Volume (volume_in j shares)))
 own_step-keeps P j es (Start k index worker) h more = adds-keeps P (is_key j k) es (Started index) h (λ mine. more (Started index))

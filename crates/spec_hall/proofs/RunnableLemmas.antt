@@ -6,12 +6,12 @@ use Rattle.std.proofs.lemmas.List.Elements.{All-nil, All-head, All-tail, All-wea
 use Rattle.mal_revision.specs.Posted.{Posted}
 use Rattle.spec_node.specs.Load.{counted}
 use Rattle.spec_node.proofs.BatchLemmas.{All-filtered, all-of}
-use Rattle.spec_job.specs.SoloMachine.{Own, Opened, Revised, Closed, Volume, Started, Finished, Exchanged, unopened, solo, startable, place_at, clauses_in}
+use Rattle.spec_job.specs.SoloMachine.{Own, Opened, Revised, Reasked, Closed, Volume, Started, Finished, Exchanged, unopened, solo, startable, place_at, clauses_in}
 use Rattle.spec_job.specs.KeyedJob.{Key, KeyedJob}
 use Rattle.spec_job.specs.Runnable.{MayCome, MayHappen, IsRunnable}
 use Rattle.spec_job.proofs.OwnLemmas.{runnable-clauses_own}
 use Rattle.spec_job.proofs.RefutingLemmas.{runnable-answers_follow, runnable-answers_refute, runnable-answers_solve, runnable-logs_derived}
-use Rattle.spec_hall.specs.Events.{Event, Open, Revise, Close, Balance, Start, Finish, Exchange}
+use Rattle.spec_hall.specs.Events.{Event, Open, Revise, Reask, Close, Balance, Start, Finish, Exchange}
 use Rattle.spec_hall.specs.Own.{own, own_step, adds, adds_volume, is_key, volume_in}
 use Rattle.spec_hall.specs.States.{Candidate, keys_of, states, titled, candidates_of, candidates_from, fewer}
 use Rattle.spec_hall.specs.Legal.{LegalFrom, Allowed, MayRevise, MayStart}
@@ -112,6 +112,7 @@ event-runnable : (w : ℕ) (past : List Event) (e : Event) (j : Key) → Allowed
 event-runnable w past (Open k ask) j may orderly h =
     adds-runnable (is_key j k) (own j past) (Opened ask) h (λ q. subst (λ (x : Key). solo (own x past) ≡ unopened) (sym ((is_key-Decides j k).0 q)) (ap solo (orderly.absent k (job_of-absent past k may.fresh))))
 event-runnable w past (Revise k number r) j may orderly h = adds-runnable (is_key j k) (own j past) (Revised r) h (λ q. subst (λ (x : Key). MayCome (solo (own x past)) r) (sym ((is_key-Decides j k).0 q)) (revised-may past k number r may.0 may.1))
+event-runnable w past (Reask k weight) j may orderly h = adds-runnable (is_key j k) (own j past) (Reasked weight) h (λ _. tt)
 event-runnable w past (Close k) j may orderly h = adds-runnable (is_key j k) (own j past) Closed h (λ _. tt)
 event-runnable w past (Balance shares) j may orderly h = adds_volume-runnable (volume_in j shares) (own j past) h
 event-runnable w past (Start k index worker) j may orderly h = adds-runnable (is_key j k) (own j past) (Started index) h (λ q. subst (λ (x : Key). startable (solo (own x past)) index ≡ true) (sym ((is_key-Decides j k).0 q)) (picked-may w past k index worker may.0 may.1))

@@ -4,23 +4,23 @@ use Rattle.std.specs.Option.{option_map}
 use Rattle.std.proofs.lemmas.List.{map-append, map-set}
 use Rattle.std.proofs.lemmas.List.Elements.{All-nil, All-cons, All-head, All-tail, All-push, filter-append}
 use Rattle.std.proofs.lemmas.Option.{slice_get-map}
-use Rattle.mal_base.specs.Asks.{Terms}
+use Rattle.mal_base.specs.Asks.{Terms, Weighed}
 use Rattle.mal_revision.specs.Posted.{Posted}
 use Rattle.spec_balance.specs.Fair.{IsFair}
 use Rattle.spec_job.specs.Keeps.{KeepsTerms}
 use Rattle.mal_base.specs.declared.verdict.Outcome.{Outcome}
-use Rattle.spec_job.specs.SoloMachine.{Own, Revised, Closed, Started, Finished, solo_step}
+use Rattle.spec_job.specs.SoloMachine.{Own, Revised, Reasked, Closed, Started, Finished, solo_step}
 use Rattle.spec_job.specs.KeyedJob.{Key, KeyedJob, stepped}
 use Rattle.spec_job.specs.Viewed.{JobView, and_own, and_start}
 use Rattle.spec_job.proofs.StepLemmas.{finish-keeps}
-use Rattle.spec_hall.specs.Events.{Event, Open, Revise, Close, Start, Finish}
+use Rattle.spec_hall.specs.Events.{Event, Open, Revise, Reask, Close, Start, Finish}
 use Rattle.spec_hall.specs.States.{Live, keys_of, lives, states, titled, balanced}
-use Rattle.spec_hall.specs.Legal.{Allowed, MayOpen, MayRevise, MayClose}
+use Rattle.spec_hall.specs.Legal.{Allowed, MayOpen, MayRevise, MayReask, MayClose}
 use Rattle.spec_hall.specs.Seats.{Seat, HasNoneUnlisted, HaveVolumes, IsSeated, jobs_in, listed_seats, noted_of, listed_asks, listed_volumes, opened_seat}
 use Rattle.spec_hall.proofs.PushLemmas.{balanced-push, Legal-push}
 use Rattle.spec_hall.proofs.StatesLemmas.{job_of-absent}
 use Rattle.spec_hall.proofs.OrderlyLemmas.{IsOrderly, legal-orderly}
-use Rattle.spec_hall.proofs.TouchLemmas.{Touches, revise-touches, close-touches, start-touches, finish-touches, states-touch, states-open}
+use Rattle.spec_hall.proofs.TouchLemmas.{Touches, revise-touches, reask-touches, close-touches, start-touches, finish-touches, states-touch, states-open}
 use Rattle.spec_hall.proofs.VolumeLemmas.{revise-keeps}
 
 -- nothing is listed where there are no jobs
@@ -123,6 +123,11 @@ pub seated-revise : (w : ℕ) (h : List Event) (ss : List Seat) (n : ℕ) (s : S
 seated-revise w h ss n s number r seated at may =
     let keeps : KeepsTerms (record s.job.titled.state { revisions = s.job.titled.state.revisions ++ r ∷ [] }) (solo_step s.job.titled.state (Revised r)) = revise-keeps s.job.titled.state r in
     seats-touch w h ss n s (Revise s.job.titled.key number r) (Revised r) (and_own s.job (Revised r)) seated at (s.job.titled, may) (revise-touches s.job.titled.key number r) refl keeps.volume
+
+-- the ask of a job changes
+pub seated-reask : (w : ℕ) (h : List Event) (ss : List Seat) (n : ℕ) (s : Seat) (weight : Weighed) → IsSeated w h ss → slice_get ss n ≡ Some s → MayReask h s.job.titled.key weight s.job.titled → IsSeated w (h ++ Reask s.job.titled.key weight ∷ []) (slice_set ss n (reseated s (and_own s.job (Reasked weight))))
+seated-reask w h ss n s weight seated at may =
+    seats-touch w h ss n s (Reask s.job.titled.key weight) (Reasked weight) (and_own s.job (Reasked weight)) seated at (s.job.titled, may) (reask-touches s.job.titled.key weight) refl refl
 
 -- a job is closed
 pub seated-close : (w : ℕ) (h : List Event) (ss : List Seat) (n : ℕ) (s : Seat) → IsSeated w h ss → slice_get ss n ≡ Some s → MayClose h s.job.titled.key s.job.titled → IsSeated w (h ++ Close s.job.titled.key ∷ []) (slice_set ss n (reseated s (and_own s.job Closed)))

@@ -1,11 +1,11 @@
 use Rattle.std.proofs.Common.{◌≡◌, ℕ, suc, ◌≤◌, Bool, true, false, ◌||◌, List, [], ◌∷◌, ◌++◌, map, slice_get, slice_set, Some, refl, sym, ◌∙◌, ap, subst}
 use Rattle.std.specs.List.{list_any}
 use Rattle.mal_history.specs.declared.event.Share.{Share}
-use Rattle.spec_job.specs.SoloMachine.{Own, Revised, Closed, Started, Finished, Exchanged, SoloMachine, is_exchange_due, solo_step}
+use Rattle.spec_job.specs.SoloMachine.{Own, Revised, Reasked, Closed, Started, Finished, Exchanged, SoloMachine, is_exchange_due, solo_step}
 use Rattle.spec_job.specs.KeyedJob.{Key, KeyedJob}
 use Rattle.spec_job.specs.Viewed.{and_own}
 use Rattle.spec_job.proofs.StepLemmas.{finish-keeps}
-use Rattle.spec_hall.specs.Events.{Event, Open, Revise, Close, Balance, Start, Finish, Exchange}
+use Rattle.spec_hall.specs.Events.{Event, Open, Revise, Reask, Close, Balance, Start, Finish, Exchange}
 use Rattle.spec_hall.specs.Own.{is_key}
 use Rattle.spec_hall.specs.States.{keys_of, lives, live_asks}
 use Rattle.spec_hall.specs.Legal.{Allowed, Legal, MayBalance}
@@ -15,7 +15,7 @@ use Rattle.spec_hall.proofs.KeyLemmas.{is_key-Decides, key-stands}
 use Rattle.spec_hall.proofs.VolumeLemmas.{revise-keeps}
 use Rattle.spec_hall.proofs.StatesLemmas.{job_of-found, legal_from-keeps}
 use Rattle.spec_hall.proofs.OrderlyLemmas.{legal-orderly, lease-opened, titled-opened}
-use Rattle.spec_hall.proofs.TouchLemmas.{Touches, revise-touches, close-touches, start-touches, finish-touches, exchange-touches}
+use Rattle.spec_hall.proofs.TouchLemmas.{Touches, revise-touches, reask-touches, close-touches, start-touches, finish-touches, exchange-touches}
 use Rattle.spec_hall.proofs.SeatLemmas.{reseated, seat_keys, seated-keys, seated-none, seated-open, seats-touch}
 use Rattle.spec_hall.proofs.DueLemmas.{live_keys, seated-calm}
 use Rattle.spec_hall.proofs.BalanceLemmas.{shares-keys, shares-fair, seated-balance}
@@ -90,6 +90,7 @@ balance-seats w h shares may has =
 pub event-seats : (w : ℕ) (h : List Event) (e : Event) → Allowed w h e → HasSeats w h → HasSeats w (h ++ e ∷ [])
 event-seats w h (Open k ask) may has = record { seats = has.seats ++ opened_seat 0 k ask ∷ []; are = seated-open w h has.seats 0 k ask has.are may }
 event-seats w h (Revise k number r) may has = touch-seats w h k (Revise k number r) (Revised r) (job_of-found h k may.0 may.1.job).opened may (revise-touches k number r) (λ s. (revise-keeps s r).volume) has
+event-seats w h (Reask k weight) may has = touch-seats w h k (Reask k weight) (Reasked weight) (job_of-found h k may.0 may.1.job).opened may (reask-touches k weight) (λ s. refl) has
 event-seats w h (Close k) may has = touch-seats w h k (Close k) Closed (job_of-found h k may.0 may.1.job).opened may (close-touches k) (λ s. refl) has
 event-seats w h (Balance shares) may has = balance-seats w h shares may has
 event-seats w h (Start k index worker) may has = touch-seats w h k (Start k index worker) (Started index) (key-stands (keys_of h) may.0.job k may.1.key) may (start-touches k index worker) (λ s. refl) has

@@ -8,7 +8,7 @@ use Rattle.std.proofs.lemmas.List.Folds.{find-append}
 use Rattle.std.proofs.lemmas.List.Sums.{fold_push}
 use Rattle.mal_base.specs.declared.verdict.Outcome.{Outcome}
 use Rattle.spec_job.specs.KeyedJob.{Key}
-use Rattle.spec_hall.specs.Events.{Event, Open, Revise, Close, Balance, Start, Finish, Exchange}
+use Rattle.spec_hall.specs.Events.{Event, Open, Revise, Reask, Close, Balance, Start, Finish, Exchange}
 use Rattle.spec_hall.specs.Leases.{start_number, numbered, numbered_step, starts_in, starts_step}
 use Rattle.spec_hall.specs.Spots.{Spot, Tag, IsAt, IsSpot, IsTagged, AreSpots}
 use Rattle.spec_hall.specs.States.{LeaseOut, leases, lease_of}
@@ -27,6 +27,7 @@ pub numbered-all : (worker n : ℕ) (last : ℕ) (es : List Event) → (fold (nu
 numbered-all worker n last [] = refl
 numbered-all worker n last (Open k ask ∷ es) = numbered-all worker n last es
 numbered-all worker n last (Revise k number r ∷ es) = numbered-all worker n last es
+numbered-all worker n last (Reask k weight ∷ es) = numbered-all worker n last es
 numbered-all worker n last (Close k ∷ es) = numbered-all worker n last es
 numbered-all worker n last (Balance shares ∷ es) = numbered-all worker n last es
 numbered-all worker n last (Start k index w ∷ es) = numbered-all worker (n + 1) (cond (w == worker) (n + 1) last) es

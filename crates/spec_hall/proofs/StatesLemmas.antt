@@ -3,7 +3,7 @@ use Rattle.std.specs.List.{list_any}
 use Rattle.std.proofs.lemmas.Bool.{or_left}
 use Rattle.std.proofs.lemmas.List.Folds.{list_any-append}
 use Rattle.spec_job.specs.KeyedJob.{Key, KeyedJob}
-use Rattle.spec_hall.specs.Events.{Event, Open, Revise, Close, Balance, Start, Finish, Exchange}
+use Rattle.spec_hall.specs.Events.{Event, Open, Revise, Reask, Close, Balance, Start, Finish, Exchange}
 use Rattle.spec_hall.specs.Own.{is_key}
 use Rattle.spec_hall.specs.States.{keys_of, keys_step, states, titled}
 use Rattle.spec_hall.specs.Legal.{Allowed, LegalFrom, job_of}
@@ -18,6 +18,7 @@ legal_from-keeps w P step past (e ∷ es) legal h = subst P (append_assoc past (
 pub keys-stay : (k : Key) (ks : List Key) (e : Event) → list_any (is_key k) ks ≡ true → list_any (is_key k) (keys_step ks e) ≡ true
 keys-stay k ks (Open i ask) h = list_any-append (is_key k) ks (i ∷ []) ∙ or_left (list_any (is_key k) ks) (list_any (is_key k) (i ∷ [])) h
 keys-stay k ks (Revise i number r) h = h
+keys-stay k ks (Reask i w) h = h
 keys-stay k ks (Close i) h = h
 keys-stay k ks (Balance shares) h = h
 keys-stay k ks (Start i index worker) h = h

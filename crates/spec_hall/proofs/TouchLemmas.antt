@@ -3,13 +3,13 @@ use Rattle.std.specs.List.{list_any}
 use Rattle.std.proofs.lemmas.Bool.{or_parts}
 use Rattle.std.proofs.lemmas.Bool.Decides.{Decides-eqb}
 use Rattle.std.proofs.lemmas.List.{map-append}
-use Rattle.mal_base.specs.Asks.{Terms}
+use Rattle.mal_base.specs.Asks.{Terms, Weighed}
 use Rattle.mal_base.specs.declared.verdict.Outcome.{Outcome}
 use Rattle.mal_history.specs.declared.event.Share.{Share}
 use Rattle.mal_revision.specs.Posted.{Posted}
-use Rattle.spec_job.specs.SoloMachine.{Own, Opened, Revised, Closed, Volume, Started, Finished, Exchanged, SoloMachine, solo, solo_step, unopened}
+use Rattle.spec_job.specs.SoloMachine.{Own, Opened, Revised, Reasked, Closed, Volume, Started, Finished, Exchanged, SoloMachine, solo, solo_step, unopened}
 use Rattle.spec_job.specs.KeyedJob.{Key, KeyedJob, stepped}
-use Rattle.spec_hall.specs.Events.{Event, Open, Revise, Close, Balance, Start, Finish, Exchange}
+use Rattle.spec_hall.specs.Events.{Event, Open, Revise, Reask, Close, Balance, Start, Finish, Exchange}
 use Rattle.spec_hall.specs.Own.{own, own_step, adds, is_key, volume_in, volume_after}
 use Rattle.spec_hall.specs.States.{keys_of, keys_step, states, titled, is_balance}
 use Rattle.spec_hall.proofs.KeyLemmas.{AreApart, is_key-back, is_key-same, key-differs, key-stands}
@@ -24,6 +24,9 @@ pub record Touches (e : Event) (k : Key) (o : Own) : Type 0 where
 
 pub revise-touches : (k : Key) (number : ℕ) (r : Posted) → Touches (Revise k number r) k (Revised r)
 revise-touches k number r = record { owns = λ j es. refl; keys = λ ks. refl; other_kind = refl }
+
+pub reask-touches : (k : Key) (weight : Weighed) → Touches (Reask k weight) k (Reasked weight)
+reask-touches k weight = record { owns = λ j es. refl; keys = λ ks. refl; other_kind = refl }
 
 pub close-touches : (k : Key) → Touches (Close k) k Closed
 close-touches k = record { owns = λ j es. refl; keys = λ ks. refl; other_kind = refl }

@@ -13,7 +13,7 @@ use Rattle.spec_job.specs.Viewed.{and_own}
 use Rattle.spec_job.proofs.LeftLemmas.{left-falls}
 use Rattle.spec_hall.specs.Calls.{AreDue, arranges}
 use Rattle.spec_hall.specs.Driven.{Turn, Balances, Exchanges, Slices, AreTurns, GrowsByTurns, events_in, is_done, loses, was_lost}
-use Rattle.spec_hall.specs.Events.{Event, Open, Revise, Close, Balance, Start, Finish, Exchange}
+use Rattle.spec_hall.specs.Events.{Event, Open, Revise, Reask, Close, Balance, Start, Finish, Exchange}
 use Rattle.spec_hall.specs.Legal.{Allowed, Legal, LegalFrom}
 use Rattle.spec_hall.specs.Measure.{left_in}
 use Rattle.spec_hall.specs.Own.{own}
@@ -44,6 +44,7 @@ due-none w past = record { kinds = refl; legal = tt }
 arranged-leases : (ls : List Event) (e : Event) → arranges e ≡ true → leases (ls ++ e ∷ []) ≡ leases ls
 arranged-leases h (Open k ask) e = absurd (cc)
 arranged-leases h (Revise k number r) e = absurd (cc)
+arranged-leases h (Reask k weight) e = absurd (cc)
 arranged-leases h (Close k) e = absurd (cc)
 arranged-leases h (Balance shares) e = leases-push h (Balance shares)
 arranged-leases h (Start k index worker) e = absurd (cc)
@@ -101,6 +102,7 @@ exchange-seat w h ss k seated may = by_first (first_exchange ss) refl
 arranged-done : (w : ℕ) (h : List Event) (e : Event) → 1 ≤ w → Legal w h → arranges e ≡ true → Allowed w h e → is_done (states (h ++ e ∷ [])) ≡ is_done (states h)
 arranged-done w h (Open k ask) some legal a may = absurd (cc)
 arranged-done w h (Revise k number r) some legal a may = absurd (cc)
+arranged-done w h (Reask k weight) some legal a may = absurd (cc)
 arranged-done w h (Close k) some legal a may = absurd (cc)
 arranged-done w h (Balance shares) some legal a may = ap is_done (states-balance h shares) ∙ given-done shares (states h)
 arranged-done w h (Start k index worker) some legal a may = absurd (cc)
@@ -116,6 +118,7 @@ arranged-done w h (Exchange k) some legal a may =
 pub arranged-left : (w : ℕ) (h : List Event) (e : Event) → 1 ≤ w → Legal w h → arranges e ≡ true → Allowed w h e → left_in (h ++ e ∷ []) < left_in h
 arranged-left w h (Open k ask) some legal a may = absurd (cc)
 arranged-left w h (Revise k number r) some legal a may = absurd (cc)
+arranged-left w h (Reask k weight) some legal a may = absurd (cc)
 arranged-left w h (Close k) some legal a may = absurd (cc)
 arranged-left w h (Balance shares) some legal a may =
     let has : HasSeats w h = legal-seats w h some legal in
@@ -164,6 +167,7 @@ turns-one workers h t left kept legal = record { turns = t ∷ []; grown = ap (�
 arranged-turn : (w : ℕ) (h : List Event) (e : Event) → arranges e ≡ true → Allowed w h e → is_done (states h) ≡ false → GrowsByTurns w h (h ++ e ∷ [])
 arranged-turn w h (Open k ask) a may left = absurd (cc)
 arranged-turn w h (Revise k number r) a may left = absurd (cc)
+arranged-turn w h (Reask k weight) a may left = absurd (cc)
 arranged-turn w h (Close k) a may left = absurd (cc)
 arranged-turn w h (Balance shares) a may left = turns-one w h (Balances shares) left refl (may, tt)
 arranged-turn w h (Start k index worker) a may left = absurd (cc)

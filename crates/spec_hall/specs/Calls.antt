@@ -1,7 +1,7 @@
 use Rattle.std.specs.Prelude.{◌≡◌, ℕ, ◌+◌, ◌<◌, ◌≤◌, Bool, true, false, ◌&&◌, ◌==◌, List, [], ◌∷◌, ◌++◌, length, flat_map, Option, Some, None, is_some, Result, Ok, Err}
 use Rattle.std.specs.Option.{option_map_or, option_map}
 use Rattle.std.specs.List.{list_all}
-use Rattle.mal_base.specs.Asks.{Terms}
+use Rattle.mal_base.specs.Asks.{Terms, Weighed}
 use Rattle.mal_base.specs.declared.verdict.Outcome.TheVariants.{Lost}
 use Rattle.mal_revision.specs.Posted.{Posted}
 use Rattle.spec_node.specs.Load.{counted}
@@ -15,6 +15,8 @@ use Rattle.mal_base.specs.declared.hall_fault.OpenFault.{OpenFault}
 use Rattle.mal_base.specs.declared.hall_fault.OpenFault.TheVariants as opening
 use Rattle.mal_base.specs.declared.hall_fault.ReviseFault.{ReviseFault}
 use Rattle.mal_base.specs.declared.hall_fault.ReviseFault.TheVariants as revising
+use Rattle.mal_base.specs.declared.hall_fault.ReaskFault.{ReaskFault}
+use Rattle.mal_base.specs.declared.hall_fault.ReaskFault.TheVariants as reasking
 use Rattle.mal_base.specs.declared.hall_fault.CloseFault.{CloseFault}
 use Rattle.mal_base.specs.declared.hall_fault.CloseFault.TheVariants as closing
 use Rattle.mal_base.specs.declared.hall_fault.PickFault.{PickFault}
@@ -22,17 +24,18 @@ use Rattle.mal_base.specs.declared.hall_fault.PickFault.TheVariants as picking
 use Rattle.mal_base.specs.declared.hall_fault.ReplyFault.{ReplyFault}
 use Rattle.mal_base.specs.declared.hall_fault.ReplyFault.TheVariants as asking
 use Rattle.spec_hall.specs.Driven.{IsIdle, is_done}
-use Rattle.spec_hall.specs.Events.{Event, Open, Revise, Close, Balance, Start, Finish, Exchange}
+use Rattle.spec_hall.specs.Events.{Event, Open, Revise, Reask, Close, Balance, Start, Finish, Exchange}
 use Rattle.spec_hall.specs.Leases.{lease_journal, lease_adds, start_number}
-use Rattle.spec_hall.specs.Legal.{Allowed, Legal, LegalFrom, MayOpen, MayRevise, MayClose, job_of, jobs_of, tenant_count}
+use Rattle.spec_hall.specs.Legal.{Allowed, Legal, LegalFrom, MayOpen, MayRevise, MayReask, MayClose, job_of, jobs_of, tenant_count}
 use Rattle.spec_hall.specs.Room.{IsOver}
 use Rattle.spec_hall.specs.States.{LeaseOut, leases, lease_of, states}
 
--- a call of a hall: a job is opened, revised or closed, a worker picks, what came of a lease is given back, all leases
--- are recalled, or the reply to a revision is asked for
+-- a call of a hall: a job is opened, revised or closed, or its ask changes, a worker picks, what came of a lease is
+-- given back, all leases are recalled, or the reply to a revision is asked for
 pub data Call : Type 0 where
   Opens : Key → Terms → Call
   Revises : Key → Posted → Call
+  Reasks : Key → Weighed → Call
   Closes : Key → Call
   Picks : ℕ → Call
   Finishes : Finished → Call
@@ -61,6 +64,7 @@ pub data Return : Type 0 where
 abbrev pub AnswerTo : Call → Type 0
 AnswerTo (Opens k ask) = Result (Unit {0}) OpenFault
 AnswerTo (Revises k r) = Result (Unit {0}) ReviseFault
+AnswerTo (Reasks k w) = Result (Unit {0}) ReaskFault
 AnswerTo (Closes k) = Result (Unit {0}) CloseFault
 AnswerTo (Picks worker) = Result Offer PickFault
 AnswerTo (Finishes d) = Return
@@ -85,6 +89,13 @@ IsRevising past k r (Err revising.Closed) es = (t : KeyedJob) × (job_of k (stat
 IsRevising past k r (Err revising.RevisionsFull) es = (t : KeyedJob) × (job_of k (states past) ≡ Some t) × (t.state.closed ≡ false) × (256 ≤ length t.state.revisions) × (es ≡ [])
 IsRevising past k r (Err (revising.JobFull which)) es = (t : KeyedJob) × (job_of k (states past) ≡ Some t) × (t.state.closed ≡ false) × (length t.state.revisions < 256) × IsOver which t.state.revisions r × (es ≡ [])
 IsRevising past k r (Err revising.OutOfMemory) es = (t : KeyedJob) × MayRevise past k (length t.state.revisions + 1) r t × (es ≡ [])
+
+-- the ask of a job changes where it may, or that is refused: there is no such job, or it is closed
+abbrev pub IsReasking : List Event → Key → Weighed → Result (Unit {0}) ReaskFault → List Event → Type 0
+IsReasking past k w (Ok done) es = (t : KeyedJob) × MayReask past k w t × (es ≡ Reask k w ∷ [])
+IsReasking past k w (Err reasking.NoJob) es = (job_of k (states past) ≡ None) × (es ≡ [])
+IsReasking past k w (Err reasking.Closed) es = (t : KeyedJob) × (job_of k (states past) ≡ Some t) × (t.state.closed ≡ true) × (es ≡ [])
+IsReasking past k w (Err reasking.OutOfMemory) es = (t : KeyedJob) × MayReask past k w t × (es ≡ [])
 
 -- a job is closed where it may be, or is refused: there is no such job, or it is closed
 abbrev pub IsClosing : List Event → Key → Result (Unit {0}) CloseFault → List Event → Type 0
@@ -176,6 +187,7 @@ IsAsking past k r (Err asking.OutOfMemory) es = (t : KeyedJob) × (job_of k (sta
 abbrev pub IsCall : ℕ → List Event → (c : Call) → AnswerTo c → List Event → Type 0
 IsCall workers past (Opens k ask) answer es = IsOpening past k ask answer es
 IsCall workers past (Revises k r) answer es = IsRevising past k r answer es
+IsCall workers past (Reasks k w) answer es = IsReasking past k w answer es
 IsCall workers past (Closes k) answer es = IsClosing past k answer es
 IsCall workers past (Picks worker) answer es = IsPicking workers past worker answer es
 IsCall workers past (Finishes d) answer es = IsReturning past d answer es
@@ -201,6 +213,10 @@ wanted (Revises k r) (Err revising.Closed) = false
 wanted (Revises k r) (Err revising.RevisionsFull) = false
 wanted (Revises k r) (Err (revising.JobFull which)) = false
 wanted (Revises k r) (Err revising.OutOfMemory) = true
+wanted (Reasks k w) (Ok done) = false
+wanted (Reasks k w) (Err reasking.NoJob) = false
+wanted (Reasks k w) (Err reasking.Closed) = false
+wanted (Reasks k w) (Err reasking.OutOfMemory) = true
 wanted (Closes k) answer = false
 wanted (Picks worker) (Ok offer) = false
 wanted (Picks worker) (Err picking.Busy) = false

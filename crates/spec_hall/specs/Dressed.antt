@@ -4,7 +4,7 @@ use Rattle.mal_revision.specs.Posted.{Posted}
 use Rattle.mal_history.specs.declared.event.Event as written
 use Rattle.mal_history.specs.declared.event.Event.TheVariants as of
 use Rattle.spec_job.specs.KeyedJob.{Key, KeyedJob}
-use Rattle.spec_hall.specs.Events.{Event, Open, Revise, Close, Balance, Start, Finish, Exchange, bare}
+use Rattle.spec_hall.specs.Events.{Event, Open, Revise, Reask, Close, Balance, Start, Finish, Exchange, bare}
 use Rattle.spec_hall.specs.States.{states}
 use Rattle.spec_hall.specs.Legal.{Legal, job_of}
 
@@ -24,6 +24,7 @@ revisions_of k jobs = option_map_or (λ t. t.state.revisions) (job_of k jobs) []
 abbrev pub dressed : List KeyedJob → written.Event → Event
 dressed jobs (of.Open tenant job ask) = Open (keyed tenant job) ask
 dressed jobs (of.Revise tenant job number) = Revise (keyed tenant job) number (get_or (revisions_of (keyed tenant job) jobs) (number - 1) no_revision)
+dressed jobs (of.Reask tenant job w) = Reask (keyed tenant job) w
 dressed jobs (of.Close tenant job) = Close (keyed tenant job)
 dressed jobs (of.Balance volumes) = Balance volumes
 dressed jobs (of.Start tenant job index worker) = Start (keyed tenant job) index worker

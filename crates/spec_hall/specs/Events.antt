@@ -1,5 +1,5 @@
 use Rattle.std.specs.Prelude.{ℕ, List}
-use Rattle.mal_base.specs.Asks.{Terms}
+use Rattle.mal_base.specs.Asks.{Terms, Weighed}
 use Rattle.mal_base.specs.declared.verdict.Outcome.{Outcome}
 use Rattle.mal_revision.specs.Posted.{Posted}
 use Rattle.mal_history.specs.declared.event.Share.{Share}
@@ -11,6 +11,7 @@ use Rattle.mal_history.specs.declared.event.Event.TheVariants as of
 pub data Event : Type 0 where
   Open : Key → Terms → Event
   Revise : Key → ℕ → Posted → Event
+  Reask : Key → Weighed → Event
   Close : Key → Event
   Balance : List Share → Event
   Start : Key → ℕ → ℕ → Event
@@ -21,6 +22,7 @@ pub data Event : Type 0 where
 abbrev pub bare : Event → written.Event
 bare (Open k ask) = of.Open k.tenant k.job ask
 bare (Revise k number r) = of.Revise k.tenant k.job number
+bare (Reask k w) = of.Reask k.tenant k.job w
 bare (Close k) = of.Close k.tenant k.job
 bare (Balance shares) = of.Balance shares
 bare (Start k index worker) = of.Start k.tenant k.job index worker

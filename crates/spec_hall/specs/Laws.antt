@@ -6,12 +6,12 @@ use Rattle.spec_job.specs.SoloMachine.{solo}
 use Rattle.spec_job.specs.KeyedJob.{Key}
 use Rattle.spec_job.specs.Models.{AnswersFollow, AnswersSolve, KeepsAnswers}
 use Rattle.spec_job.specs.Proofs.{AnswersRefute, LogIsDerived}
-use Rattle.spec_job.specs.DemandOne.{AgreeAll}
+use Rattle.spec_job.specs.DemandOne.{asks_for_one, AgreeAll}
 use Rattle.spec_job.specs.Provenance.{ClausesAreOwn}
 use Rattle.spec_job.specs.Replies.{reply}
 use Rattle.spec_job.specs.Runnable.{IsRunnable}
 use Rattle.spec_job.specs.Unknown.{is_fed}
-use Rattle.spec_hall.specs.Events.{Event, Open, Revise, Close, Balance, Start, Finish, Exchange}
+use Rattle.spec_hall.specs.Events.{Event, Open, Revise, Reask, Close, Balance, Start, Finish, Exchange}
 use Rattle.spec_hall.specs.Own.{own, volume_in, volume_after}
 use Rattle.spec_hall.specs.Legal.{Legal}
 
@@ -43,6 +43,7 @@ JobAnswersStay = (k : Key) (past later : List Event) → KeepsAnswers (solo (own
 abbrev pub job_in : Event → Option Key
 job_in (Open k ask) = Some k
 job_in (Revise k number r) = Some k
+job_in (Reask k w) = Some k
 job_in (Close k) = Some k
 job_in (Balance shares) = None
 job_in (Start k index worker) = Some k
@@ -69,15 +70,17 @@ SameVolumeLeavesOwn = (j : Key) (history : List Event) (shares : List Share) →
 abbrev pub LegalClausesOwn : Type 0
 LegalClausesOwn = (workers : ℕ) (history : List Event) → Legal workers history → (k : Key) → ClausesAreOwn (solo (own k history))
 
--- a job asks for one worker, and no start of it wanted for memory
+-- a job asks for one worker, as it did at its opening and wherever its ask changed, and no start of it wanted for
+-- memory
 pub record AsksForOne (history : List Event) (k : Key) : Type 0 where
   pub demand : (solo (own k history)).ask.demand ≡ 1
+  pub always : list_all asks_for_one (own k history) ≡ true
   pub fed : list_all is_fed (own k history) ≡ true
 
--- the answers and the replies of a job that asks for one worker are decided by its name, its budget, its solvers'
--- profile and its revisions up to that one: in any two legal histories, whatever the numbers of workers and the other
--- jobs, in which it has the same budget and the same profile and its revisions in one begin with those in the other,
--- they agree as far as both go
+-- the answers and the replies of a job that always asks for one worker are decided by its name, its budget, its
+-- solvers' profile and its revisions up to that one, not by its priority, which may change: in any two legal histories,
+-- whatever the numbers of workers and the other jobs, in which it has the same budget and the same profile and its
+-- revisions in one begin with those in the other, they agree as far as both go
 abbrev pub LegalSinglesAgree : Type 0
 LegalSinglesAgree =
     (k : Key) (workers others : ℕ) (one other : List Event) (more : List Posted) → Legal workers one → Legal others other → AsksForOne one k → AsksForOne other k

@@ -1,5 +1,5 @@
 use Rattle.std.specs.Prelude.{◌≡◌, ◌≢◌, ℕ, ◌+◌, ◌<◌, ◌≤◌, true, false, ◌==◌, List, [], ◌∷◌, ◌++◌, length, map, find, count_by, slice_get, Option, Some, None, if◌then◌else◌}
-use Rattle.mal_base.specs.Asks.{Terms, IsAsk}
+use Rattle.mal_base.specs.Asks.{Terms, Weighed, IsAsk, IsWeight}
 use Rattle.mal_base.specs.Names.{is_name}
 use Rattle.mal_history.specs.declared.event.Share.{Share}
 use Rattle.mal_base.specs.Formulas.{literals_of}
@@ -7,7 +7,7 @@ use Rattle.mal_revision.specs.Posted.{Posted, is_posted}
 use Rattle.spec_balance.specs.Fair.{IsFair}
 use Rattle.spec_job.specs.SoloMachine.{clauses_in, literals_in}
 use Rattle.spec_job.specs.KeyedJob.{Key, KeyedJob}
-use Rattle.spec_hall.specs.Events.{Event, Open, Revise, Close, Balance, Start, Finish, Exchange, key_of}
+use Rattle.spec_hall.specs.Events.{Event, Open, Revise, Reask, Close, Balance, Start, Finish, Exchange, key_of}
 use Rattle.spec_hall.specs.Own.{is_text, is_key}
 use Rattle.spec_hall.specs.States.{Candidate, keys_of, states, lives, live_asks, balanced, leases, lease_of, exchange_due, picked}
 
@@ -43,6 +43,12 @@ pub record MayRevise (past : List Event) (k : Key) (number : ℕ) (r : Posted) (
   pub room : number ≤ 256
   pub clause_room : clauses_in t.state.revisions + length r.clauses ≤ 1048576
   pub literal_room : literals_in t.state.revisions + literals_of r.clauses ≤ 16777216
+
+-- a job that is open may change what it asks for to a priority and a demand in form
+pub record MayReask (past : List Event) (k : Key) (w : Weighed) (t : KeyedJob) : Type 0 where
+  pub job : job_of k (states past) ≡ Some t
+  pub open_still : t.state.closed ≡ false
+  pub weighed : IsWeight w
 
 -- a job that is open may be closed
 pub record MayClose (past : List Event) (k : Key) (t : KeyedJob) : Type 0 where
@@ -81,6 +87,7 @@ pub record MayExchange (past : List Event) (k : Key) (t : KeyedJob) : Type 0 whe
 abbrev pub Allowed : ℕ → List Event → Event → Type 0
 Allowed workers past (Open k ask) = MayOpen past k ask
 Allowed workers past (Revise k number r) = (t : KeyedJob) × MayRevise past k number r t
+Allowed workers past (Reask k w) = (t : KeyedJob) × MayReask past k w t
 Allowed workers past (Close k) = (t : KeyedJob) × MayClose past k t
 Allowed workers past (Balance shares) = MayBalance workers past shares
 Allowed workers past (Start k index worker) = (choice : Candidate) × MayStart workers past k index worker choice

@@ -14,4 +14,5 @@ pub mod Driven
 pub mod Laws
 pub mod Unknowns
 pub mod Picked
+pub mod Examples
 pub mod SinglesUpTo

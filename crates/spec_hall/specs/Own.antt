@@ -4,8 +4,8 @@ use Rattle.std.specs.Prelude.{find}
 use Rattle.std.specs.Cmp.Lexicographic.{pointwise}
 use Rattle.mal_history.specs.declared.event.Share.{Share}
 use Rattle.spec_job.specs.KeyedJob.{Key}
-use Rattle.spec_hall.specs.Events.{Event, Open, Revise, Close, Balance, Start, Finish, Exchange, key_of}
-use Rattle.spec_job.specs.SoloMachine.{Own, Opened, Revised, Closed, Volume, Started, Finished, Exchanged}
+use Rattle.spec_hall.specs.Events.{Event, Open, Revise, Reask, Close, Balance, Start, Finish, Exchange, key_of}
+use Rattle.spec_job.specs.SoloMachine.{Own, Opened, Revised, Reasked, Closed, Volume, Started, Finished, Exchanged}
 
 -- two texts are equal
 abbrev pub is_text : List ℕ → List ℕ → Bool
@@ -40,6 +40,7 @@ adds_volume v own = if v == volume_after own then own else own ++ Volume v ∷ [
 abbrev pub own_step : Key → List Own → Event → List Own
 own_step j own (Open k ask) = adds (is_key j k) own (Opened ask)
 own_step j own (Revise k number r) = adds (is_key j k) own (Revised r)
+own_step j own (Reask k w) = adds (is_key j k) own (Reasked w)
 own_step j own (Close k) = adds (is_key j k) own Closed
 own_step j own (Balance shares) = adds_volume (volume_in j shares) own
 own_step j own (Start k index worker) = adds (is_key j k) own (Started index)

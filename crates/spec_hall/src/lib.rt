@@ -2,7 +2,7 @@
 //! functions without a body.
 #![tactic(auto)]
 
-ghost use Rattle.spec_hall.specs.{Laws.{JobAnswersStay, LegalAnswersFollow, LegalAnswersRefute, LegalAnswersSolve, LegalClausesOwn, LegalIsRunnable, LegalLogsDerived, LegalSinglesAgree, OwnEventsAnswer, OwnEventsReply, OthersLeaveOwn, SameVolumeLeavesOwn}, Dressed.{LegalIsDressed}, Driven.{DrivenIsDecided}, Picked.{HasPicks, PicksFirst, PicksNone}, SinglesUpTo.{LegalSinglesAgreeUpTo}, Unknowns.{LegalAnswersAccountedFor, LegalFedAnswersDecide}, Leases.{LegalLeases, LegalGoesOn}, Calls.{CallIsDecided, CallIsLegal}};
+ghost use Rattle.spec_hall.specs.{Laws.{JobAnswersStay, LegalAnswersFollow, LegalAnswersRefute, LegalAnswersSolve, LegalClausesOwn, LegalIsRunnable, LegalLogsDerived, LegalSinglesAgree, OwnEventsAnswer, OwnEventsReply, OthersLeaveOwn, SameVolumeLeavesOwn}, Dressed.{LegalIsDressed}, Driven.{DrivenIsDecided}, Examples.{HasReasks}, Picked.{HasPicks, PicksFirst, PicksNone}, SinglesUpTo.{LegalSinglesAgreeUpTo}, Unknowns.{LegalAnswersAccountedFor, LegalFedAnswersDecide}, Leases.{LegalLeases, LegalGoesOn}, Calls.{CallIsDecided, CallIsLegal}};
 
 /// A job's answers and replies come from its own events alone, and events of other jobs are none of these.
 pub fn jobs_are_isolated()
@@ -33,9 +33,9 @@ pub fn legal_clauses_are_own()
     ensures { LegalClausesOwn }
 {}
 
-/// The answers and the replies of a job that asks for one worker and never wanted for memory are decided by its name,
-/// its budget, the profile of its solvers and its revisions, whatever the number of workers and whatever other jobs
-/// there are.
+/// The answers and the replies of a job that always asks for one worker, whatever its priority, and never wanted for
+/// memory are decided by its name, its budget, the profile of its solvers and its revisions, whatever the number of
+/// workers and whatever other jobs there are.
 pub fn legal_singles_agree()
     ensures { LegalSinglesAgree }
 {}
@@ -93,8 +93,13 @@ pub fn call_is_legal()
     ensures { CallIsLegal }
 {}
 
-/// The answer and the reply to a revision of a job that asks for one worker and never wanted for memory are decided by
-/// its name, its budget, the profile of its solvers and its revisions up to that one.
+/// The answer and the reply to a revision of a job that always asks for one worker and never wanted for memory are
+/// decided by its name, its budget, the profile of its solvers and its revisions up to that one.
 pub fn legal_singles_agree_up_to()
     ensures { LegalSinglesAgreeUpTo }
+{}
+
+/// The worked examples of an ask that changes: what becomes due by it, and the volumes after it.
+pub fn hall_examples()
+    ensures { HasReasks }
 {}
