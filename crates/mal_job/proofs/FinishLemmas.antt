@@ -17,6 +17,7 @@ use Rattle.spec_job.specs.Leased.{Finished, HasRun, model_with}
 use Rattle.spec_job.specs.Models.{clauses_of}
 use Rattle.spec_job.specs.SoloMachine.{Own, Opened, NodeSlot, Lease, SoloMachine, solo, solo_step, place_at, vacant, first_empty, settled_by}
 use Rattle.spec_job.specs.SoloMachine as own
+use Rattle.spec_job.proofs.StepLemmas.{finish-keeps}
 use Rattle.spec_job.specs.Viewed.{IsBack, IsGrownBy, and_own}
 use Rattle.spec_job.proofs.CountLemmas.{runs_in-append, runs-set, runs-same}
 use Rattle.spec_job.proofs.DerivingLemmas.{IsRunning}
@@ -26,7 +27,7 @@ use Rattle.mal_job.specs.Asking.{IsAsked, concluded_by, starved_by, settled_with
 use Rattle.mal_job.specs.JobInvariant.{IsOwn, JobInvariant}
 use Rattle.mal_job.specs.Placing.{IsBackAt, IsTree, placed, with_placed, ran_home, came_home, one_more_ran, fresh_place, revision_of, adds_of}
 use Rattle.mal_job.specs.Viewed.{PlaceView, TreeView, LogView, QuestionsView, Parts, place_of, places_of, starts_of, state_of, viewed}
-use Rattle.mal_job.proofs.KeptLemmas.{own-next, own-kept, step-ask, few-runs, outs-less}
+use Rattle.mal_job.proofs.KeptLemmas.{own-next, own-kept, few-runs, outs-less}
 use Rattle.mal_job.proofs.PartLemmas.{starts-same, journal-same, view-same}
 use Rattle.mal_job.proofs.PlaceLemmas.{placed-at, out-within, out-same, own-at, set-placed, length-filled}
 use Rattle.mal_job.proofs.StateLemmas.{settled-state, with_run, ran-state, starved-state, lost-state}
@@ -207,7 +208,7 @@ module _ (q : Parts) (i : ℕ) (k : JobInvariant q) (is_out : is_some (placed q.
           own = subst (λ (y : Parts). IsOwn (state_of y)) (sym same) (run-own log.chunk_room);
           asked = ha;
           tree = ht;
-          solvers = ap (λ (y : TreeView). y.profile) t ∙ (k.solvers ∙ sym (ap (λ (a : Terms). a.profile) (ap (λ (y : Parts). y.asked.ask) same ∙ (sym (ap (λ (y : SoloMachine). y.ask) (run-step log.chunk_room)) ∙ step-ask s (own.Finished i Ran) refl))));
+          solvers = ap (λ (y : TreeView). y.profile) t ∙ (k.solvers ∙ sym (ap (λ (a : Terms). a.profile) (ap (λ (y : Parts). y.asked.ask) same ∙ (sym (ap (λ (y : SoloMachine). y.ask) (run-step log.chunk_room)) ∙ (finish-keeps s i Ran).ask))));
           ran = omega (arith, count, runs, some-runs, k.ran);
           few_lines = omega (arith, long, runs, some-runs, few-new, k.few_lines);
           chunks = omega (arith, less, room, k.chunks);
@@ -237,7 +238,7 @@ module _ (q : Parts) (i : ℕ) (k : JobInvariant q) (is_out : is_some (placed q.
           own = own-next s (state_of home) (own.Finished i o) k.own tt refl home-state;
           asked = ha;
           tree = ht;
-          solvers = ap (λ (y : TreeView). y.profile) t ∙ (k.solvers ∙ sym (ap (λ (a : Terms). a.profile) (sym (ap (λ (y : SoloMachine). y.ask) home-state) ∙ step-ask s (own.Finished i o) refl)));
+          solvers = ap (λ (y : TreeView). y.profile) t ∙ (k.solvers ∙ sym (ap (λ (a : Terms). a.profile) (sym (ap (λ (y : SoloMachine). y.ask) home-state) ∙ (finish-keeps s i o).ask)));
           ran = omega (arith, count, runs, k.ran);
           few_lines = omega (arith, runs, k.few_lines);
           chunks = omega (arith, less, k.chunks);

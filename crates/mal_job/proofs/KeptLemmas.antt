@@ -5,12 +5,12 @@ use Rattle.std.specs.List.{list_any}
 use Rattle.std.proofs.lemmas.Bool.{or_parts}
 use Rattle.std.proofs.lemmas.Nat.{mul-le}
 use Rattle.std.proofs.lemmas.List.Folds.{list_any-append}
-use Rattle.mal_base.specs.Asks.{Terms}
+use Rattle.mal_base.specs.Asks.{Terms, Weighed, reasked}
 use Rattle.mal_base.specs.Clauses.{rises}
 use Rattle.mal_base.specs.NumberedClause.{Line}
 use Rattle.mal_revision.specs.Posted.{Posted, is_posted}
 use Rattle.spec_job.specs.Counts.{runs_of, starts_out, is_opening}
-use Rattle.spec_job.specs.SoloMachine.{Own, Opened, Revised, Closed, Volume, Started, Finished, Exchanged, NodeSlot, SoloMachine, solo, solo_step, vacant, clauses_in, first_empty, settled_by, marked_from, Lease}
+use Rattle.spec_job.specs.SoloMachine.{Own, Opened, Revised, Reasked, Closed, Volume, Started, Finished, Exchanged, NodeSlot, SoloMachine, solo, solo_step, vacant, clauses_in, first_empty, settled_by, marked_from, Lease}
 use Rattle.spec_job.specs.Runnable.{MayHappen}
 use Rattle.spec_job.proofs.KeptLemmas as machine
 use Rattle.spec_job.proofs.OwnLemmas.{runnable-clauses_own}
@@ -44,34 +44,43 @@ own-kept s k = subst (λ (x : SoloMachine). machine.MachineInvariant x) (sym k.i
 pub own-rising : (s : SoloMachine) → IsOwn s → All (λ line. rises line.lits ≡ true) s.log
 own-rising s k = subst (λ (x : SoloMachine). All (λ line. rises line.lits ≡ true) x.log) (sym k.is) (runnable-clauses_own (Opened k.ask ∷ k.own) k.once.runnable).rising
 
--- the ask of a job stays
+-- the ask of a job stays but for its weight
 settled-ask : (o : Option ℕ) (s : SoloMachine) → (settled_by o s).ask ≡ s.ask
 settled-ask None s = refl
 settled-ask (Some goal) s = refl
 
-pub step-ask : (s : SoloMachine) (o : Own) → is_opening o ≡ false → (solo_step s o).ask ≡ s.ask
-step-ask s (Opened ask) other = absurd (cc)
-step-ask s (Revised r) other = settled-ask (first_empty s.log) (record s { revisions = s.revisions ++ r ∷ [] })
-step-ask s Closed other = refl
-step-ask s (Volume v) other = refl
-step-ask s (Started i) other = (start-keeps s i).ask
-step-ask s (Finished i o) other = (finish-keeps s i o).ask
-step-ask s Exchanged other = refl
+-- a later ask has the budget and the profile of an earlier one
+pub record KeepsBudget (before after : Terms) : Type 0 where
+  pub slices : after.slices ≡ before.slices
+  pub profile : after.profile ≡ before.profile
 
-fold-ask : (s : SoloMachine) (own : List Own) → list_any is_opening own ≡ false → (fold solo_step s own).ask ≡ s.ask
-fold-ask s [] other = refl
-fold-ask s (o ∷ os) other =
+same-budget : {before after : Terms} → after ≡ before → KeepsBudget before after
+same-budget e = record { slices = ap (λ (a : Terms). a.slices) e; profile = ap (λ (a : Terms). a.profile) e }
+
+pub step-budget : (s : SoloMachine) (o : Own) → is_opening o ≡ false → KeepsBudget s.ask (solo_step s o).ask
+step-budget s (Opened ask) other = absurd (cc)
+step-budget s (Revised r) other = same-budget (settled-ask (first_empty s.log) (record s { revisions = s.revisions ++ r ∷ [] }))
+step-budget s (Reasked w) other = record { slices = refl; profile = refl }
+step-budget s Closed other = same-budget refl
+step-budget s (Volume v) other = same-budget refl
+step-budget s (Started i) other = same-budget (start-keeps s i).ask
+step-budget s (Finished i o) other = same-budget (finish-keeps s i o).ask
+step-budget s Exchanged other = same-budget refl
+
+fold-slices : (s : SoloMachine) (own : List Own) → list_any is_opening own ≡ false → (fold solo_step s own).ask.slices ≡ s.ask.slices
+fold-slices s [] other = refl
+fold-slices s (o ∷ os) other =
     let parts = or_parts (is_opening o) (list_any is_opening os) other in
-    fold-ask (solo_step s o) os parts.1 ∙ step-ask s o parts.0
+    fold-slices (solo_step s o) os parts.1 ∙ (step-budget s o parts.0).slices
 
-own-ask : (s : SoloMachine) (k : IsOwn s) → s.ask ≡ k.ask
-own-ask s k = ap (λ (x : SoloMachine). x.ask) k.is ∙ fold-ask (solo (Opened k.ask ∷ [])) k.own k.once.once
+own-slices : (s : SoloMachine) (k : IsOwn s) → s.ask.slices ≡ k.ask.slices
+own-slices s k = ap (λ (x : SoloMachine). x.ask.slices) k.is ∙ fold-slices (solo (Opened k.ask ∷ [])) k.own k.once.once
 
 -- the slices that were run, and those that are out, are few
 pub few-runs : (q : Parts) → IsOwn (state_of q) → IsAsked q.asked → runs_of (places_of q.tree.places) + starts_out (places_of q.tree.places) ≤ 1052672
 few-runs q k h =
     let few : runs_of (places_of q.tree.places) + starts_out (places_of q.tree.places) ≤ (length q.asked.answers + 1) * k.ask.slices = subst (λ (x : SoloMachine). runs_of x.places + starts_out x.places ≤ (length x.answers + 1) * k.ask.slices) (sym k.is) (runs-are_few k.ask k.own k.once) in
-    let same : q.asked.ask.slices ≡ k.ask.slices = ap (λ (a : Terms). a.slices) (own-ask (state_of q) k) in
+    let same : q.asked.ask.slices ≡ k.ask.slices = own-slices (state_of q) k in
     let short : k.ask.slices ≤ 4096 = omega (arith, same, h.few_slices) in
     let most : (length q.asked.answers + 1) * k.ask.slices ≤ 257 * 4096 = mul-le (length q.asked.answers + 1) k.ask.slices 257 4096 (omega (arith, h.order, h.few)) short in
     omega arith
@@ -97,7 +106,7 @@ kept-answered q asked o may other e h k = record {
   own = own-next (state_of q) (state_of (record q { asked = asked })) o k.own may other e;
   asked = h;
   tree = k.tree;
-  solvers = k.solvers ∙ sym (ap (λ (a : Terms). a.profile) (sym (ap (λ (s : SoloMachine). s.ask) e) ∙ step-ask (state_of q) o (or_parts (is_opening o) false other).0));
+  solvers = k.solvers ∙ sym (sym (ap (λ (s : SoloMachine). s.ask.profile) e) ∙ (step-budget (state_of q) o (or_parts (is_opening o) false other).0).profile);
   ran = k.ran;
   few_lines = k.few_lines;
   chunks = k.chunks;
@@ -105,6 +114,9 @@ kept-answered q asked o may other e h k = record {
 
 pub kept-closed : (q : Parts) → JobInvariant q → JobInvariant (record q { asked = record q.asked { closed = true } })
 kept-closed q k = kept-answered q (record q.asked { closed = true }) Closed tt refl refl (record { left = k.asked.left; few_slices = k.asked.few_slices; few_starved = k.asked.few_starved; order = k.asked.order; few = k.asked.few; clauses = k.asked.clauses }) k
+
+pub kept-reasked : (q : Parts) (w : Weighed) → JobInvariant q → JobInvariant (record q { asked = record q.asked { ask = reasked q.asked.ask w } })
+kept-reasked q w k = kept-answered q (record q.asked { ask = reasked q.asked.ask w }) (Reasked w) tt refl refl (record { left = k.asked.left; few_slices = k.asked.few_slices; few_starved = k.asked.few_starved; order = k.asked.order; few = k.asked.few; clauses = k.asked.clauses }) k
 
 pub kept-volume : (q : Parts) (t : TreeView) (v : ℕ) → t ≡ record q.tree { volume = v } → IsTree t → JobInvariant q → JobInvariant (record q { tree = t })
 kept-volume q t v e h k = record {

@@ -3,7 +3,7 @@
 ghost use Rattle.std.specs.Prelude.{◌≡◌, ◌↔◌, ◌+◌, ◌-◌, ◌<◌, ◌≤◌, ◌^◌, true, length, is_some, IsTrue, Some, None, OnOk, OnErr, IfOk};
 ghost use Rattle.std.specs.Option.{option_copied};
 ghost use Rattle.mal_base.specs.declared.verdict.Outcome.TheVariants.{Ran, Starved, Lost};
-ghost use Rattle.spec_job.specs.{SoloMachine.{Opened, Revised, Closed, Volume, Finished, Exchanged, unopened, solo_step, is_live, startable, is_exchange_due, place_at, clauses_in, literals_in}, Viewed.{unstarted, and_own, and_start, IsLeaseOf, IsBack}, Proofs.{failed, proof_lines}, Replies.{body_by}};
+ghost use Rattle.spec_job.specs.{SoloMachine.{Opened, Revised, Reasked, Closed, Volume, Finished, Exchanged, unopened, solo_step, is_live, startable, is_exchange_due, place_at, clauses_in, literals_in}, Viewed.{unstarted, and_own, and_start, IsLeaseOf, IsBack}, Proofs.{failed, proof_lines}, Replies.{body_by}};
 ghost use Rattle.spec_report.specs.Replies.{Proof, reply_text};
 ghost use Rattle.mal_job.specs.{Among.{among}, Finishing.{outcome_of, MayFinish}, Replying.{TellsReply}, Viewed.{shared}};
 
@@ -13,7 +13,7 @@ use crate::loading::{count_clauses, missing_loads};
 use crate::questions::Questions;
 use crate::told::{answer_at, last_lits, negations, revision_at};
 use crate::tree::Tree;
-use mal_base::{Answer, Ask, ClauseId, Name, Outcome};
+use mal_base::{Answer, Ask, ClauseId, Name, Outcome, Weight};
 use mal_proof::renumber;
 use mal_report::{Cause, satisfiable, unknown, unsatisfiable};
 use mal_revision::Revision;
@@ -237,6 +237,14 @@ impl Job {
         // For the proof.
         let _ = revision.clauses();
         self.questions.revise(revision, self.log.empty())
+    }
+
+    /// Puts this priority and this demand in place of those that the job asked for. Its slices, its profile and its
+    /// nodes are as before. Takes no memory.
+    pub fn reask(&mut self, weight: Weight)
+        ensures { self.new ≡ and_own self.old (Reasked weight) }
+    {
+        self.questions.reask(weight);
     }
 
     /// Closes the job: no revision follows. Once each has its answer the job keeps its nodes' journals alone.

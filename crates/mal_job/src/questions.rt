@@ -1,11 +1,11 @@
 //! What was asked of a job, and what was answered.
 
 ghost use Rattle.std.specs.Prelude.{◌≡◌, ◌+◌, ◌-◌, ◌<◌, ◌≤◌, ◌^◌, [], ◌++◌, true, false, length, replicate, vec_len, vec_capacity, OnOk, OnErr};
-ghost use Rattle.mal_base.specs.declared.answer.Answer.TheVariants.{Refuted};
+ghost use Rattle.mal_base.specs.{Asks.{reasked}, declared.answer.Answer.TheVariants.{Refuted}};
 ghost use Rattle.spec_job.specs.SoloMachine.{clauses_in, literals_in};
 ghost use Rattle.mal_job.specs.{Viewed.{shared}, Asking.{IsAsked, and_revision, replied, answer_by, spent_once, concluded, starved_once, settled_with}};
 
-use mal_base::{Answer, Ask, ClauseId, Values, Verdict};
+use mal_base::{Answer, Ask, ClauseId, Values, Verdict, Weight};
 use mal_revision::Revision;
 use std::alloc::{AllocError, Global};
 use std::marker::Model;
@@ -121,6 +121,13 @@ impl Questions {
     /// The allocator that these take memory from.
     pub fn allocator(&self) -> Global {
         *self.answers.allocator()
+    }
+
+    /// Puts this priority and this demand in place of those of the ask.
+    pub fn reask(&mut self, weight: Weight)
+        ensures { self.new ≡ record self.old { ask = reasked self.old.ask weight } }
+    {
+        self.ask = self.ask.reasked(weight);
     }
 
     /// Closes the job.
