@@ -1,3 +1,4 @@
 -- what this crate alone cites
+mod Bodies
 mod Models
 mod Refutations

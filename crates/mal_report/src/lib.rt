@@ -1,6 +1,8 @@
-//! The replies to the revisions of a job: the text that tells an answer.
+//! The replies to the revisions of a job: what they tell, and its text.
 #![tactic(auto)]
 
 mod replies;
+mod told;
 
-pub use replies::{Cause, satisfiable, unknown, unsatisfiable};
+pub use replies::{put_cause, put_failed, put_model, put_proof, reply};
+pub use told::{Cause, Told};

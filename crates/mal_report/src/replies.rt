@@ -1,104 +1,35 @@
 //! Writing replies.
 
-ghost use Rattle.std.specs.Prelude.{◌≡◌, ◌<◌, ◌≤◌, [], ◌∷◌, ◌++◌, codes, length, map, slice_get, Some, IfOk, OnOk};
+ghost use Rattle.std.specs.Prelude.{◌≡◌, ◌<◌, ◌≤◌, [], ◌∷◌, ◌++◌, codes, length, slice_get, Some, IfOk, OnOk};
 ghost use Rattle.mal_base.specs.{NumberedClause.{Line}, Literals.{literal}};
 ghost use Rattle.spec_text.specs.{Lines.{line_of, text_of}, Numbers.{literal_word}};
-ghost use Rattle.spec_report.specs.Replies.{Model, Proof, head_words, model_words, proof_row, reply_text};
-ghost use Rattle.mal_report.specs.Causes.{told_of, cause_words};
+ghost use Rattle.spec_report.specs.Replies.{head_words, proof_row, reply_text, told_rows};
+ghost use Rattle.mal_report.specs.{Rows.{cause_row, failed_row, model_row, proof_rows}, Told.{body_of}};
 
+use crate::told::{Cause, Told};
 use itoa::Buffer;
 use mal_base::{Lines, Lit, Name};
 use mal_lrat::{put_added, put_lits};
 use mal_text::{end_line, put_line, put_word};
 use std::alloc::{AllocError, Global};
 
-/// Why the answer to a revision is unknown: the budget of so many slices is spent, or three starts reported want of
-/// memory.
-#[derive(Clone, Copy, Debug, PartialEq, Eq)]
-pub enum Cause {
-    Spent(u32),
-    Starved,
-}
-
-/// The reply to a job's revision, numbered from 1, that has this model: the values of variable 1 and the next ones, at
-/// most 65,536. The job's solvers have this profile, 1 or 2.
+/// The reply to a job's revision, numbered from 1, that tells this. The job's solvers have this profile, 1 or 2.
 #[tactic(auto, unfolding(spec_report::specs::Replies::reply_text))]
-pub fn satisfiable(
+pub fn reply(
     alloc: Global,
     tenant: &Name,
     job: &Name,
     r: u32,
     profile: u32,
-    model: &[bool],
+    told: &Told,
 ) -> Result<Vec<u8>, AllocError>
     requires some { 1 ≤ profile }
     requires bound { profile ≤ 2 }
-    requires length { length model.now ≤ 65536 }
-    ensures { IfOk result (λ v. v.items ≡ reply_text tenant.now job.now r profile (Model model.now)) }
-{
-    let mut out = begun(alloc, tenant, job, r, profile, b"SATISFIABLE")?;
-    put_model(&mut out, model)?;
-    Ok(out)
-}
-
-/// The reply to a job's revision, numbered from 1, whose clauses no assignment satisfies where the assumptions hold:
-/// the assumptions that fail, and the lines of the proof. The job's solvers have this profile, 1 or 2.
-#[tactic(auto, unfolding(spec_report::specs::Replies::reply_text))]
-pub fn unsatisfiable(
-    alloc: Global,
-    tenant: &Name,
-    job: &Name,
-    r: u32,
-    profile: u32,
-    failed: &[Lit],
-    lines: &Lines,
-) -> Result<Vec<u8>, AllocError>
-    requires some { 1 ≤ profile }
-    requires bound { profile ≤ 2 }
-    ensures { IfOk result (λ v. v.items ≡ reply_text tenant.now job.now r profile (Proof failed.now lines.now.lines)) }
-{
-    let mut out = begun(alloc, tenant, job, r, profile, b"UNSATISFIABLE")?;
-    put_failed(&mut out, failed)?;
-    put_proof(&mut out, lines)?;
-    Ok(out)
-}
-
-/// The reply to a job's revision, numbered from 1, that has neither a model nor a refutation. The job's solvers have
-/// this profile, 1 or 2.
-#[tactic(auto, unfolding(spec_report::specs::Replies::reply_text))]
-pub fn unknown(
-    alloc: Global,
-    tenant: &Name,
-    job: &Name,
-    r: u32,
-    profile: u32,
-    cause: Cause,
-) -> Result<Vec<u8>, AllocError>
-    requires some { 1 ≤ profile }
-    requires bound { profile ≤ 2 }
-    ensures { IfOk result (λ v. v.items ≡ reply_text tenant.now job.now r profile (told_of cause)) }
-{
-    let mut out = begun(alloc, tenant, job, r, profile, b"UNKNOWN")?;
-    put_cause(&mut out, cause)?;
-    Ok(out)
-}
-
-/// The first two lines of a reply, of which the second tells this word.
-fn begun(
-    alloc: Global,
-    tenant: &Name,
-    job: &Name,
-    r: u32,
-    profile: u32,
-    word: &[u8],
-) -> Result<Vec<u8>, AllocError>
-    ensures { IfOk result
-        (λ v. v.items
-        ≡ line_of (codes "r" ∷ head_words tenant.now job.now r profile) ++ line_of (codes "s" ∷ word.now ∷ [])) }
+    ensures { IfOk result (λ v. v.items ≡ reply_text tenant.now job.now r profile (body_of told.now)) }
 {
     let mut out = Vec::new(alloc);
     put_head(&mut out, tenant, job, r, profile)?;
-    put_line(&mut out, b"s", &[word])?;
+    put_told(&mut out, told)?;
     Ok(out)
 }
 
@@ -127,9 +58,37 @@ fn put_head(
     }
 }
 
+/// Writes the lines behind the first: the word of what is told, and what is told.
+fn put_told(out: &mut Vec<u8>, told: &Told) -> Result<(), AllocError>
+    ensures { OnOk result (out.new.items ≡ out.old.items ++ text_of (told_rows (body_of told.now))) }
+{
+    match told {
+        Told::Model(model) => {
+            put_line(out, b"s", &[b"SATISFIABLE"])?;
+            put_model(out, model.as_slice())?;
+        }
+        Told::Proof { failed, lines } => {
+            put_line(out, b"s", &[b"UNSATISFIABLE"])?;
+            put_failed(out, failed.as_slice())?;
+            put_proof(out, lines)?;
+        }
+        Told::Spent(slices) => put_unknown(out, Cause::Spent(*slices))?,
+        Told::Starved => put_unknown(out, Cause::Starved)?,
+    }
+    Ok(())
+}
+
+/// Writes that the answer is unknown, and the cause.
+fn put_unknown(out: &mut Vec<u8>, cause: Cause) -> Result<(), AllocError>
+    ensures { OnOk result (out.new.items ≡ out.old.items ++ text_of ((codes "s" ∷ codes "UNKNOWN" ∷ []) ∷ cause_row cause ∷ [])) }
+{
+    put_line(out, b"s", &[b"UNKNOWN"])?;
+    put_cause(out, cause)
+}
+
 /// Writes the line of a cause.
-fn put_cause(out: &mut Vec<u8>, cause: Cause) -> Result<(), AllocError>
-    ensures { OnOk result (out.new.items ≡ out.old.items ++ line_of (cause_words cause)) }
+pub fn put_cause(out: &mut Vec<u8>, cause: Cause) -> Result<(), AllocError>
+    ensures { OnOk result (out.new.items ≡ out.old.items ++ line_of (cause_row cause)) }
 {
     match cause {
         Cause::Spent(slices) => {
@@ -141,11 +100,10 @@ fn put_cause(out: &mut Vec<u8>, cause: Cause) -> Result<(), AllocError>
     Ok(())
 }
 
-/// Writes the line of a model.
-fn put_model(out: &mut Vec<u8>, model: &[bool]) -> Result<(), AllocError>
+/// Writes the line of a model: the values of variable 1 and the next ones, at most 65,536.
+pub fn put_model(out: &mut Vec<u8>, model: &[bool]) -> Result<(), AllocError>
     requires { length model.now ≤ 65536 }
-    ensures { OnOk result
-        (out.new.items ≡ out.old.items ++ line_of (codes "v" ∷ (model_words 1 model.now ++ codes "0" ∷ []))) }
+    ensures { OnOk result (out.new.items ≡ out.old.items ++ line_of (model_row model.now)) }
 {
     out.push(b'v')?;
     let mut number = 0;
@@ -172,9 +130,8 @@ fn put_literal(out: &mut Vec<u8>, number: u32, value: bool) -> Result<(), AllocE
 }
 
 /// Writes the line of the assumptions that fail.
-fn put_failed(out: &mut Vec<u8>, failed: &[Lit]) -> Result<(), AllocError>
-    ensures { OnOk result
-        (out.new.items ≡ out.old.items ++ line_of (codes "k" ∷ (map literal_word failed.now ++ codes "0" ∷ []))) }
+pub fn put_failed(out: &mut Vec<u8>, failed: &[Lit]) -> Result<(), AllocError>
+    ensures { OnOk result (out.new.items ≡ out.old.items ++ line_of (failed_row failed.now)) }
 {
     out.push(b'k')?;
     put_lits(out, failed)?;
@@ -183,8 +140,8 @@ fn put_failed(out: &mut Vec<u8>, failed: &[Lit]) -> Result<(), AllocError>
 }
 
 /// Writes the lines of a proof.
-fn put_proof(out: &mut Vec<u8>, lines: &Lines) -> Result<(), AllocError>
-    ensures { OnOk result (out.new.items ≡ out.old.items ++ text_of (map proof_row lines.now.lines)) }
+pub fn put_proof(out: &mut Vec<u8>, lines: &Lines) -> Result<(), AllocError>
+    ensures { OnOk result (out.new.items ≡ out.old.items ++ text_of (proof_rows lines.now.lines)) }
 {
     for n in 0..lines.count() {
         put_row(out, lines, n)?;
