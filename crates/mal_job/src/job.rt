@@ -5,17 +5,18 @@ ghost use Rattle.std.specs.Option.{option_copied};
 ghost use Rattle.mal_base.specs.declared.verdict.Outcome.TheVariants.{Ran, Starved, Lost};
 ghost use Rattle.spec_job.specs.{SoloMachine.{Opened, Revised, Reasked, Closed, Volume, Finished, Exchanged, unopened, solo_step, is_live, startable, is_exchange_due, place_at, clauses_in, literals_in}, Viewed.{unstarted, and_own, and_start, IsLeaseOf, IsBack}, Proofs.{failed, proof_lines}, Replies.{body_by}};
 ghost use Rattle.spec_report.specs.Replies.{Proof, reply_text};
-ghost use Rattle.mal_job.specs.{Among.{among}, Finishing.{outcome_of, MayFinish}, Replying.{TellsReply}, Viewed.{shared}};
+ghost use Rattle.mal_report.specs.Told.{body_of};
+ghost use Rattle.mal_job.specs.{Among.{among}, Finishing.{outcome_of, MayFinish}, Replying.{Tells, TellsReply}, Viewed.{shared}};
 
 use crate::derivation::Derivation;
 use crate::finishing::{finish_lost, finish_run, finish_starved, give_up};
 use crate::loading::{count_clauses, missing_loads};
 use crate::questions::Questions;
-use crate::told::{answer_at, last_lits, negations, revision_at};
+use crate::told::{answer_at, copied, last_lits, negations, revision_at};
 use crate::tree::Tree;
 use mal_base::{Answer, Ask, ClauseId, Name, Outcome, Weight};
 use mal_proof::renumber;
-use mal_report::{Cause, satisfiable, unknown, unsatisfiable};
+use mal_report::{Told, reply};
 use mal_revision::Revision;
 use mal_suspend::{Done, Lease};
 use std::alloc::{AllocError, Global};
@@ -164,9 +165,9 @@ impl Job {
         1 <= r && r as usize <= self.questions.answers().len()
     }
 
-    /// The reply to a revision, numbered from 1: None exactly where it is not answered.
-    pub fn reply(&self, r: u32) -> Result<Option<Vec<u8>>, AllocError>
-        ensures { IfOk result (λ told. TellsReply self.now.titled.key r told self.now.titled.state) }
+    /// What the reply to a revision, numbered from 1, tells: None exactly where it is not answered.
+    pub fn told(&self, r: u32) -> Result<Option<Told>, AllocError>
+        ensures { IfOk result (λ told. Tells r told self.now.titled.state) }
     {
         match answer_at(self.questions.answers(), r) {
             None => Ok(None),
@@ -174,40 +175,52 @@ impl Job {
         }
     }
 
-    /// The text that tells an answer to a revision, numbered from 1.
-    fn tell(&self, r: u32, answer: &Answer) -> Result<Vec<u8>, AllocError>
-        requires first { 1 ≤ r }
-        requires posted { r ≤ length self.now.titled.state.revisions }
-        ensures { IfOk result
-            (λ text. text.items
-            ≡ reply_text self.now.titled.key.tenant self.now.titled.key.job r self.now.titled.state.ask.profile
-            (body_by self.now.titled.state (r - 1) answer.now)) }
+    /// The reply to a revision, numbered from 1: None exactly where it is not answered.
+    pub fn reply(&self, r: u32) -> Result<Option<Vec<u8>>, AllocError>
+        ensures { IfOk result (λ text. TellsReply self.now.titled.key r text self.now.titled.state) }
     {
-        let alloc = self.questions.allocator();
-        let profile = self.questions.ask().profile();
-        let (tenant, job) = (&self.tenant, &self.name);
-        match answer {
-            Answer::Satisfied(model) => {
-                satisfiable(alloc, tenant, job, r, profile, model.as_slice())
-            }
-            Answer::Refuted { goal } => self.tell_proof(r, *goal),
-            Answer::Spent(slices) => {
-                unknown(alloc, tenant, job, r, profile, Cause::Spent(*slices))
-            }
-            Answer::OutOfStarts => unknown(alloc, tenant, job, r, profile, Cause::Starved),
+        match self.told(r)? {
+            None => Ok(None),
+            Some(told) => Ok(Some(self.text(r, &told)?)),
         }
     }
 
-    /// The text that tells of a refuted revision, numbered from 1: the assumptions that fail, and of the log the lines
-    /// that the goal needs, numbered behind the clauses of the revisions up to this one.
-    fn tell_proof(&self, r: u32, goal: ClauseId) -> Result<Vec<u8>, AllocError>
-        requires first { 1 ≤ r }
-        requires posted { r ≤ length self.now.titled.state.revisions }
+    /// The text of the reply to a revision, numbered from 1, that tells this.
+    fn text(&self, r: u32, told: &Told) -> Result<Vec<u8>, AllocError>
         ensures { IfOk result
             (λ text. text.items
             ≡ reply_text self.now.titled.key.tenant self.now.titled.key.job r self.now.titled.state.ask.profile
-            (Proof (failed goal self.now.titled.state.log)
-            (proof_lines self.now.titled.state.revisions self.now.titled.state.log (r - 1) goal))) }
+            (body_of told.now)) }
+    {
+        let alloc = self.questions.allocator();
+        let profile = self.questions.ask().profile();
+        reply(alloc, &self.tenant, &self.name, r, profile, told)
+    }
+
+    /// What an answer to a revision, numbered from 1, tells.
+    fn tell(&self, r: u32, answer: &Answer) -> Result<Told, AllocError>
+        requires first { 1 ≤ r }
+        requires posted { r ≤ length self.now.titled.state.revisions }
+        ensures { IfOk result (λ told. body_of told ≡ body_by self.now.titled.state (r - 1) answer.now) }
+    {
+        match answer {
+            Answer::Satisfied(model) => {
+                Ok(Told::Model(copied(self.questions.allocator(), model)?))
+            }
+            Answer::Refuted { goal } => self.tell_proof(r, *goal),
+            Answer::Spent(slices) => Ok(Told::Spent(*slices)),
+            Answer::OutOfStarts => Ok(Told::Starved),
+        }
+    }
+
+    /// What is told of a refuted revision, numbered from 1: the assumptions that fail, and of the log the lines that
+    /// the goal needs, numbered behind the clauses of the revisions up to this one.
+    fn tell_proof(&self, r: u32, goal: ClauseId) -> Result<Told, AllocError>
+        requires first { 1 ≤ r }
+        requires posted { r ≤ length self.now.titled.state.revisions }
+        ensures { IfOk result
+            (λ told. body_of told ≡ Proof (failed goal self.now.titled.state.log)
+            (proof_lines self.now.titled.state.revisions self.now.titled.state.log (r - 1) goal)) }
     {
         let alloc = self.questions.allocator();
         let needed = self.log.log().trim(goal)?;
@@ -215,15 +228,7 @@ impl Job {
         let count = count_clauses(&revisions[..r as usize]);
         let lines = renumber(alloc, &needed, count as u64)?;
         let failed = negations(alloc, last_lits(&needed))?;
-        unsatisfiable(
-            alloc,
-            &self.tenant,
-            &self.name,
-            r,
-            self.questions.ask().profile(),
-            failed.as_slice(),
-            &lines,
-        )
+        Ok(Told::Proof { failed, lines })
     }
 
     /// Posts the job's next revision, and makes room for its answer. It is answered at once where the log holds an

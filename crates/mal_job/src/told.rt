@@ -6,7 +6,7 @@ ghost use Rattle.mal_base.specs.Literals.{negated};
 ghost use Rattle.mal_proof.specs.Goals.{last_lits};
 ghost use Rattle.mal_job.specs.{Among.{among}, Viewed.{shared}};
 
-use mal_base::{Answer, Lines, Lit};
+use mal_base::{Answer, Lines, Lit, Values};
 use mal_revision::Revision;
 use std::alloc::{AllocError, Global};
 use std::sync::Arc;
@@ -49,4 +49,13 @@ pub fn negations(alloc: Global, lits: &[Lit]) -> Result<Vec<Lit>, AllocError>
     ensures { IfOk result (λ out. out.items ≡ map negated lits.now) }
 {
     lits.iter().map(|lit| lit.negate()).collect(alloc)
+}
+
+/// The same values once more.
+pub fn copied(alloc: Global, values: &Values) -> Result<Values, AllocError>
+    ensures { IfOk result (λ copy. copy ≡ values.now) }
+{
+    let mut items = Vec::new(alloc);
+    items.extend_from_slice(values.as_slice())?;
+    Ok(Values::of(items))
 }

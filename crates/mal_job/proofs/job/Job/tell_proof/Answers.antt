@@ -1,10 +1,9 @@
-use Rattle.std.proofs.Common.{◌≡◌, ◌∙◌, List, take, IfOk, subst, ap, arith}
+use Rattle.std.proofs.Common.{◌≡◌, ◌∙◌, List, take, ap, arith}
 use Rattle.mal_base.specs.NumberedClause.{Line}
 use Rattle.mal_revision.specs.Posted.{Posted}
 use Rattle.spec_job.specs.SoloMachine.{clauses_in}
 use Rattle.spec_job.specs.Proofs.{lits_at}
 use Rattle.spec_proof.specs.Trimmed.{reached}
-use Rattle.spec_report.specs.Replies.{ReplyBody, reply_text}
 use Rattle.mal_job.specs.Viewed.{shared}
 use Rattle.mal_job.proofs.LoadingLemmas.{few-front}
 use Rattle.mal_job.proofs.ToldLemmas.{proof-told}
@@ -22,6 +21,4 @@ pub returns : goal.returns
 returns c =
     let rs : List Posted = c.self.inside.questions.revisions in
     let front : shared (take c.args.r c.revisions-revisions.result.now) ≡ take c.args.r rs = shared-take c.args.r c.revisions-revisions.result.now ∙ ap (λ (xs : List Posted). take c.args.r xs) c.revisions-revisions.ensures.value in
-    let same = proof-told rs c.self.inside.log.lines c.args.r c.args.goal c.count_clauses-count.result c.last_lits.result.now c.as_slice.result.now c.in_ok-needed.needed.lines c.in_ok-lines.lines.lines c.requires.first (c.last_lits.ensures ∙ (c.in_ok-needed.ensures.goal ∙ ap (λ (ls : List Line). lits_at c.args.goal ls) c.log.ensures)) (c.as_slice.ensures.value ∙ c.in_ok-failed.ensures) (c.in_ok-needed.ensures.reached ∙ ap (λ (ls : List Line). reached c.args.goal ls) c.log.ensures) (c.count_clauses-count.ensures ∙ ap clauses_in front) c.in_ok-lines.ensures in
-    let told = rw (c.profile.ensures.value, c.ask.ensures) at c.unsatisfiable.ensures in
-    rw (← c.self.view_is) (subst (λ (t : ReplyBody). IfOk c.unsatisfiable.result (λ text. text.items ≡ reply_text c.self.inside.tenant c.self.inside.name c.args.r c.self.inside.questions.ask.profile t)) same told)
+    rw (← c.self.view_is) (proof-told rs c.self.inside.log.lines c.args.r c.args.goal c.count_clauses-count.result c.last_lits.result.now c.in_ok-failed.failed.items c.in_ok-needed.needed.lines c.in_ok-lines.lines.lines c.requires.first (c.last_lits.ensures ∙ (c.in_ok-needed.ensures.goal ∙ ap (λ (ls : List Line). lits_at c.args.goal ls) c.log.ensures)) c.in_ok-failed.ensures (c.in_ok-needed.ensures.reached ∙ ap (λ (ls : List Line). reached c.args.goal ls) c.log.ensures) (c.count_clauses-count.ensures ∙ ap clauses_in front) c.in_ok-lines.ensures)
