@@ -4,7 +4,7 @@ ghost use Rattle.std.specs.Prelude.{◌≡◌, ◌↔◌, ◌+◌, ◌-◌, ◌<
 ghost use Rattle.std.specs.Option.{option_copied};
 ghost use Rattle.mal_base.specs.{Asks.{IsAsk}, Names.{is_name}};
 ghost use Rattle.mal_hall.specs.{Applied.{IsInside, listed_last}, Offered.{HasArranged, HasBalanced, HasEnded, HasExchanged, HasStarted, IsFirst, MayEnd, MayStartAt, handed_of, offered, replied, returned}, HallView.{next_number}, Driven.{HasWorkedOff, IsTurn}, Replying.{AnswersRightly, HasJob, OfAlone, OfJob}};
-ghost use Rattle.mal_job.specs.{Among.{among}, Finishing.{outcome_of}, Replying.{TellsReply}};
+ghost use Rattle.mal_job.specs.{Among.{among}, Finishing.{outcome_of}, Replying.{Tells, TellsReply}};
 ghost use Rattle.spec_hall.specs.{Calls.{HasCalled, IsOfLease, Opens, Revises, Reasks, Closes, Picks, Finishes, Recalls, Asks, is_over}, Dressed.{keyed, revisions_of}, Driven.{GrowsByTurns, IsAtEnd, IsCalm}, Events.{Open, Revise, Reask, Close, bare}, Leases.{start_number}, States.{LeaseOut, keys_of, states, lives, leases, lease_of, balanced, exchange_due}, Legal.{IsBalanceDue, Legal, job_of}, Measure.{left_in}};
 ghost use Rattle.spec_job.specs.{Models.{AnswersSolve}, Proofs.{AnswersRefute}, Provenance.{ClausesAreOwn}, KeyedJob.{KeyedJob}};
 ghost use Rattle.spec_hall.specs.States as states_of;
@@ -24,6 +24,7 @@ use mal_base::{
 use mal_history::{Event, History, Shares};
 use mal_job::Job;
 use mal_learn::Scratch;
+use mal_report::Told;
 use mal_revision::Revision;
 use mal_seats::{Candidate, Seats};
 use mal_suspend::{Done, Lease};
@@ -232,6 +233,32 @@ impl Hall {
         };
         match job.reply(r) {
             Ok(text) => Ok(text),
+            Err(_) => Err(ReplyFault::OutOfMemory),
+        }
+    }
+
+    /// What the reply to a revision of a job, numbered from 1, tells: None exactly where it is not answered. It is what
+    /// the job's machine tells run alone on the job's own events, and the same in each history that has these. A model
+    /// is one of the revision, a proof one from the job's clauses alone; each clause that the job's nodes hold or tell
+    /// one another is the job's own. A job that is not there is `NoJob`, however much memory there is.
+    pub fn answer(&self, tenant: &Name, job: &Name, r: u32) -> Result<Option<Told>, ReplyFault>
+        ensures answer { IfOk result
+            (λ told. HasJob (keyed tenant.now job.now) self.now.events (Tells r told)) }
+        ensures alone { IfOk result
+            (λ told. OfAlone (keyed tenant.now job.now) self.now.events (Tells r told)) }
+        ensures no_job { IsErrOf result ReplyFault.NoJob
+            → job_of (keyed tenant.now job.now) (states self.now.events) ≡ None }
+        ensures out_of_memory { IsErrOf result ReplyFault.OutOfMemory
+            → (t : KeyedJob) × (job_of (keyed tenant.now job.now) (states self.now.events) ≡ Some t) }
+        ensures models { OfJob (keyed tenant.now job.now) self.now.events AnswersSolve }
+        ensures proofs { OfJob (keyed tenant.now job.now) self.now.events AnswersRefute }
+        ensures own { OfJob (keyed tenant.now job.now) self.now.events ClausesAreOwn }
+    {
+        let Some(job) = self.job_named(tenant, job) else {
+            return Err(ReplyFault::NoJob);
+        };
+        match job.told(r) {
+            Ok(told) => Ok(told),
             Err(_) => Err(ReplyFault::OutOfMemory),
         }
     }
