@@ -13,7 +13,7 @@ use Rattle.spec_script.specs.Limits.{served}
 use Rattle.spec_script.specs.Reading as script
 use Rattle.spec_script.specs.Script.{ScriptedJob, revision_rows, step_rows, job_rows, rows_of, spelling}
 use Rattle.spec_script.specs.declared.step.Step.{Step}
-use Rattle.spec_script.specs.declared.step.Step.TheVariants.{Revise}
+use Rattle.spec_script.specs.declared.step.Step.TheVariants.{Revise, Reask}
 use Rattle.spec_script.proofs.Again.{written-read}
 use Rattle.spec_script.proofs.Written.{Stands, jobs-stand}
 use Rattle.mal_history.specs.Text.{event_words, version_of, header_words, history_text}
@@ -50,6 +50,7 @@ revision-none r = any-none (map clause_words r.clauses) ((codes "a" ∷ closed_w
 
 step-none : (step : Step) → list_any is_history_line (step_rows step) ≡ false
 step-none (Revise r) = revision-none r
+step-none (Reask w) = refl
 
 steps-none : (ss : List Step) → list_any is_history_line (flat_map step_rows ss) ≡ false
 steps-none [] = refl
