@@ -1,11 +1,12 @@
 -- The revisions among the steps of a job, step by step.
-use Rattle.std.proofs.Common.{◌≡◌, ℕ, suc, ◌+◌, ◌<◌, ◌≤◌, cond, List, [], ◌∷◌, length, drop, get_or, slice_get, Option, Some, None, refl, sym, ap, ◌∙◌, arith}
+use Rattle.std.proofs.Common.{◌≡◌, ℕ, suc, ◌+◌, ◌<◌, ◌≤◌, ◌==◌, cond, List, [], ◌∷◌, ◌++◌, length, length-append, append-nil, drop, get_or, slice_get, Option, Some, None, refl, sym, ap, ◌∙◌, arith}
 use Rattle.std.specs.List.{count_by}
 use Rattle.std.proofs.lemmas.List.{drop_more, drop_all}
+use Rattle.std.proofs.lemmas.Grind.{flat_map-append}
 use Rattle.std.proofs.lemmas.List.Sums.{sum_by-cons}
 use Rattle.mal_revision.specs.Posted.{Posted}
 use Rattle.mal_script.specs.Counting.{is_revision, revision_of}
-use Rattle.spec_script.specs.Script.{revisions_in}
+use Rattle.spec_script.specs.Script.{revisions_at, revisions_in}
 use Rattle.spec_script.specs.declared.step.Step.{Step}
 use Rattle.spec_script.specs.declared.step.Step.TheVariants.{Revise, Reask}
 
@@ -20,6 +21,18 @@ revisions-counted (Reask w ∷ steps) = sum_by-cons (λ (s : Step). cond (is_rev
   where
     no-more : (m n : ℕ) → m ≡ n → 0 + m ≡ n
     no-more m n e = omega (arith, e)
+
+-- with a step behind others there are as many revisions more as it posts
+pub counted-more : (steps : List Step) (s : Step) → length (revisions_in (steps ++ s ∷ [])) ≡ length (revisions_in steps) + length (revisions_at s)
+counted-more steps s =
+    ap length (flat_map-append revisions_at steps (s ∷ []))
+    ∙ length-append (revisions_in steps) (revisions_in (s ∷ []))
+    ∙ ap (λ (rs : List Posted). length (revisions_in steps) + length rs) (append-nil (revisions_at s))
+
+-- whether a step posts a revision, by the number of those that it posts
+pub one-posted : (s : Step) → is_revision s ≡ (length (revisions_at s) == 1)
+one-posted (Revise r) = refl
+one-posted (Reask w) = refl
 
 -- the revision that is looked for, with so many to go from a step on
 abbrev pub IsSought : List Step → ℕ → ℕ → ℕ → Type 0

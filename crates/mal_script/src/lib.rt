@@ -18,7 +18,7 @@ pub use assuming::assumptions;
 pub use fault::{AssumptionFault, ScriptFault};
 pub use generating::generate;
 pub use reading::read;
-pub use script::{Script, ScriptJob};
+pub use script::{Script, ScriptJob, revisions_of};
 pub use spec_script::Step;
 pub use telling::{fault_line, line_fault_line};
 pub use writing::write;

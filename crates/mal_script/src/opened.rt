@@ -28,25 +28,27 @@ pub struct SplitLine<'a> {
     pub others: &'a [u8],
 }
 
-/// A job that has begun and not ended: what was read of it, the clauses and the literals of its revisions, and its
-/// block that has begun and not ended. Contracts see the four.
+/// A job that has begun and not ended: what was read of it, the number of its revisions, their clauses and literals, and
+/// its block that has begun and not ended. Contracts see all but the number, which the steps say.
 #[derive(Drop)]
 pub struct OpenJob {
     job: ScriptJob,
+    posted: usize,
     clauses: usize,
     literals: usize,
     block: Option<BlockReader>,
 }
 
 impl Model for OpenJob {
-    ghost use Rattle.std.specs.Prelude.{◌≤◌};
+    ghost use Rattle.std.specs.Prelude.{◌≡◌, ◌≤◌, length};
     ghost use Rattle.spec_script.specs.Reading as reading;
+    ghost use Rattle.spec_script.specs.Script.{revisions};
 
     ghost Value = { reading.OpenJob };
 
     ghost view = { λ o. record { job = o.job; clauses = o.clauses; literals = o.literals; block = o.block } };
 
-    ghost invariant = { λ o. (o.clauses ≤ 1048576) × (o.literals ≤ 16777216) };
+    ghost invariant = { λ o. (o.posted ≡ length (revisions o.job)) × (o.clauses ≤ 1048576) × (o.literals ≤ 16777216) };
 }
 
 impl OpenJob {
@@ -56,6 +58,7 @@ impl OpenJob {
     {
         OpenJob {
             job: ScriptJob::new(tenant, name, ask, Vec::new(alloc)),
+            posted: 0,
             clauses: 0,
             literals: 0,
             block: None,
@@ -66,9 +69,7 @@ impl OpenJob {
     pub fn after_header(self, limits: Limits, line: &[u8]) -> Result<OpenJob, LineRefusal>
         ensures { Gives (λ o. o) result (after_header limits (words_of line.now) self) }
     {
-        // Counted where a block begins, not kept: a number beside the list would have to be bounded by what the text
-        // does not bound.
-        if self.job.revision_count() >= limits.revisions {
+        if self.posted >= limits.revisions {
             return Err(LineRefusal::Fault(LineFault::Limit {
                 which: LimitKind::Revisions,
             }));
@@ -103,6 +104,7 @@ impl OpenJob {
     {
         OpenJob {
             job: self.job,
+            posted: self.posted,
             clauses: self.clauses,
             literals: self.literals,
             block: Some(block),
@@ -124,6 +126,10 @@ impl OpenJob {
         requires within { is_within formula.variables assumptions.now ≡ true }
         ensures { Gives (λ o. o) result (Ok (with_revision self formula assumptions.now)) }
     {
+        // No memory holds more revisions than a number of this size says.
+        let Some(posted) = self.posted.checked_add(1) else {
+            return Err(LineRefusal::OutOfMemory);
+        };
         let variables = formula.variables();
         let clauses = self.clauses + formula.clauses().len();
         let literals = self.literals + literals;
@@ -131,6 +137,7 @@ impl OpenJob {
         match Revision::new(alloc, variables, formula.into_clauses(), assumptions) {
             Ok(revision) => Ok(OpenJob {
                 job: self.job.with_step(Step::Revise(revision))?,
+                posted,
                 clauses,
                 literals,
                 block: None,
@@ -187,6 +194,7 @@ impl OpenJob {
     {
         Ok(OpenJob {
             job: self.job.with_step(Step::Reask(weight))?,
+            posted: self.posted,
             clauses: self.clauses,
             literals: self.literals,
             block: None,

@@ -1,9 +1,9 @@
 //! A script and its jobs.
 
-ghost use Rattle.std.specs.Prelude.{◌≡◌, ◌++◌, ◌∷◌, [], length, slice_get, IfOk};
+ghost use Rattle.std.specs.Prelude.{◌≡◌, ◌+◌, ◌≤◌, ◌++◌, ◌∷◌, [], length, slice_get, IfOk};
 ghost use Rattle.std.specs.{List.{count_by}, Option.{option_copied}};
 ghost use Rattle.mal_script.specs.{Counting.{is_revision, revision_of}, ReadResult.{of_jobs}};
-ghost use Rattle.spec_script.specs.{Formed.{IsScript}, Limits.{served}, Script.{revisions}};
+ghost use Rattle.spec_script.specs.{Formed.{IsScript}, Limits.{served}, Script.{revisions, revisions_at}};
 
 use mal_base::{Ask, Name};
 use mal_revision::Revision;
@@ -43,7 +43,7 @@ impl ScriptJob {
 
     /// The job with one step more, behind the others.
     pub fn with_step(self, step: Step) -> Result<ScriptJob, AllocError>
-        ensures { IfOk result
+        ensures job { IfOk result
             (λ j. j
             ≡ record {
               tenant = self.tenant;
@@ -52,6 +52,8 @@ impl ScriptJob {
               steps = self.steps ++ step
                   ∷ [];
             }) }
+        ensures count { IfOk result
+            (λ j. length (revisions j) ≡ length (revisions self) + length (revisions_at step)) }
     {
         let mut steps = self.steps;
         steps.push(step)?;
@@ -123,6 +125,17 @@ impl ScriptJob {
     }
 }
 
+/// How many revisions a step posts: one or none.
+pub fn revisions_of(step: &Step) -> usize
+    ensures count { result ≡ length (revisions_at step.now) }
+    ensures bound { result ≤ 1 }
+{
+    match step {
+        Step::Revise(_) => 1,
+        Step::Reask(_) => 0,
+    }
+}
+
 /// How many of these steps post revisions.
 fn count_revisions(steps: &[Step]) -> usize
     ensures { result ≡ count_by is_revision steps.now }
@@ -144,10 +157,7 @@ fn revision_of(step: &Step) -> Option<&Revision>
 fn is_revision(step: &Step) -> bool
     ensures { result ≡ is_revision step.now }
 {
-    match step {
-        Step::Revise(_) => true,
-        Step::Reask(_) => false,
-    }
+    revisions_of(step) == 1
 }
 
 /// A script: its jobs, which are in form and within the limits that are served. Contracts see the list.
