@@ -8,7 +8,7 @@ ghost use Rattle.spec_run.specs.Complete.{job_events, key_of_job, open_events};
 ghost use Rattle.spec_script.specs.Script.{revisions_at, revisions_in};
 
 use mal_base::Name;
-use mal_script::{ScriptJob, Step};
+use mal_script::{ScriptJob, Step, revisions_of};
 use std::marker::Model;
 use std::slice;
 
@@ -232,8 +232,5 @@ fn number_after(step: &Step, number: usize) -> usize
     ensures number { result ≡ number + length (revisions_at step.now) }
     ensures bound { result ≤ number + 1 }
 {
-    match step {
-        Step::Revise(_) => number + 1,
-        Step::Reask(_) => number,
-    }
+    number + revisions_of(step)
 }
