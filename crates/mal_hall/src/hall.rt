@@ -170,6 +170,8 @@ impl Hall {
         ensures call { HasCalled self.old.workers self.old.events
             (Reasks (keyed tenant.now job.now) weight) result self.new.events }
     {
+        // For the proof.
+        let _ = weight.priority();
         let Some(at) = self.seats.place_of(*tenant, *job) else {
             return Err(ReaskFault::NoJob);
         };
@@ -178,9 +180,10 @@ impl Hall {
         }
         let owed = owed(&self.seats, self.unclosed, &self.spots);
         match enter_reask(&mut self.entries, &mut self.seats, at, weight, owed) {
-            Ok(()) => Ok(()),
-            Err(_) => Err(ReaskFault::OutOfMemory),
+            Ok(()) => {}
+            Err(_) => return Err(ReaskFault::OutOfMemory),
         }
+        Ok(())
     }
 
     /// Closes a job: no revision of it follows. Takes no memory; after a refusal the hall is as before.

@@ -40,5 +40,28 @@ pub returns-in-Err-clause-call : goal.returns-in-Err-clause-call
 returns-in-Err-clause-call c =
     let here = sits c.self.inside.seats (keyed c.args.tenant.now c.args.job.now) _ _ _ c.place_of.ensures c.in-Some.is c.at.ensures in
     let still = sym (rw (c.job.ensures, c.if-is_closed.false) at c.is_closed.ensures) in
-    let may : MayReask _ (keyed c.args.tenant.now c.args.job.now) c.args.weight c.at.result.now.job.titled = record { job = (hall-found _ _ _ _ c.self.invariant here).job; open_still = still; weighed = c.args.weight-invariant } in
+    let may : MayReask _ (keyed c.args.tenant.now c.args.job.now) c.args.weight c.at.result.now.job.titled = record { job = (hall-found _ _ _ _ c.self.invariant here).job; open_still = still; weighed = c.priority.ensures.form } in
     rw (← c.self.view_is, c.in-Err.ensures.err.events) (called-none _ _ (Reasks (keyed c.args.tenant.now c.args.job.now) c.args.weight) (Err OutOfMemory) (c.at.result.now.job.titled, may, refl))
+
+-- it was entered that the job asks anew
+reasked : (c : In-Ok) → Grown (parts c.self.inside) (record { entries = c.enter_reask.new.entries; seats = c.enter_reask.new.seats; spots = c.self.inside.spots.items; starts = c.self.inside.starts; unclosed = c.self.inside.unclosed; tenants = c.self.inside.tenants }) (Reask (keyed c.args.tenant.now c.args.job.now) c.args.weight ∷ [])
+reasked c =
+    let here = sits c.self.inside.seats (keyed c.args.tenant.now c.args.job.now) _ _ _ c.place_of.ensures c.in-Some.is c.at.ensures in
+    let still = sym (rw (c.job.ensures, c.if-is_closed.false) at c.is_closed.ensures) in
+    let may : MayReask _ (keyed c.args.tenant.now c.args.job.now) c.args.weight c.at.result.now.job.titled = record { job = (hall-found _ _ _ _ c.self.invariant here).job; open_still = still; weighed = c.priority.ensures.form } in
+    let owing = rw c.deref.ensures.value at c.owed-owed.ensures.value in
+    let e = c.in-Ok.ensures in
+    hall-reask (parts c.self.inside) _ (keyed c.args.tenant.now c.args.job.now) _ _ c.args.weight c.self.invariant here e.workers (e.events _ here.seat) (e.seats _ here.seat) refl refl refl refl may (omega (arith, owing, e.room))
+
+pub invariant_of-self-2 : goal.invariant_of-self-2
+invariant_of-self-2 c = (reasked c).hall
+
+pub returns-clause-ok : goal.returns-clause-ok
+returns-clause-ok c = rw (← c.self.view_is) (reasked c).events
+
+pub returns-clause-call : goal.returns-clause-call
+returns-clause-call c =
+    let here = sits c.self.inside.seats (keyed c.args.tenant.now c.args.job.now) _ _ _ c.place_of.ensures c.in-Some.is c.at.ensures in
+    let still = sym (rw (c.job.ensures, c.if-is_closed.false) at c.is_closed.ensures) in
+    let may : MayReask _ (keyed c.args.tenant.now c.args.job.now) c.args.weight c.at.result.now.job.titled = record { job = (hall-found _ _ _ _ c.self.invariant here).job; open_still = still; weighed = c.priority.ensures.form } in
+    rw (← c.self.view_is) (called-one _ _ _ (Reasks (keyed c.args.tenant.now c.args.job.now) c.args.weight) _ _ (reasked c).events (c.at.result.now.job.titled, may, refl))
