@@ -10,8 +10,7 @@ ghost use Rattle.spec_job.specs.{Models.{AnswersSolve}, Proofs.{AnswersRefute}, 
 ghost use Rattle.spec_hall.specs.States as states_of;
 
 use crate::enter::{
-    enter_balance, enter_exchange, enter_finish, enter_open, enter_reask, enter_revise,
-    enter_start,
+    enter_balance, enter_exchange, enter_finish, enter_open, enter_reask, enter_revise, enter_start,
 };
 use crate::event_list::EventList;
 use crate::lodging::lists;
@@ -157,12 +156,7 @@ impl Hall {
 
     /// Changes the priority and the demand of a job's ask: the next balancing goes by them. After a refusal the hall is
     /// as before.
-    pub fn reask_job(
-        &mut self,
-        tenant: &Name,
-        job: &Name,
-        weight: Weight,
-    ) -> Result<(), ReaskFault>
+    pub fn reask_job(&mut self, tenant: &Name, job: &Name, weight: Weight) -> Result<(), ReaskFault>
         ensures workers { self.new.workers ≡ self.old.workers }
         ensures inside { self.new.inside ≡ self.old.inside }
         ensures ok { OnOk result (self.new.events ≡ self.old.events ++ Reask (keyed tenant.now job.now) weight ∷ []) }

@@ -8,7 +8,7 @@ ghost use Rattle.mal_posts.specs.Dues.{event_of};
 use crate::board::Board;
 use crate::due::post_of;
 use mal_base::Name;
-use mal_hall::{OpenFault, Post, PostFault, ReviseFault};
+use mal_hall::{OpenFault, Post, PostFault, ReaskFault, ReviseFault};
 pub use mal_posts::Left;
 use mal_posts::{Cursor, Due};
 use mal_script::ScriptJob;
@@ -65,6 +65,7 @@ fn wanted(fault: PostFault) -> bool
     match fault {
         PostFault::Open(OpenFault::OutOfMemory) => true,
         PostFault::Revise(ReviseFault::OutOfMemory) => true,
+        PostFault::Reask(ReaskFault::OutOfMemory) => true,
         _ => false,
     }
 }
