@@ -1,0 +1,4 @@
+pub mod Counter
+pub mod Cost
+pub mod Laws
+pub mod Examples
