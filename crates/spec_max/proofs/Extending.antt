@@ -4,9 +4,9 @@ use Rattle.std.proofs.lemmas.Bool.{leb-true, and_parts, and_from, not_from_false
 use Rattle.std.proofs.lemmas.List.{get_or-append-add, get_or_append_left}
 use Rattle.mal_base.specs.Formulas.{is_within}
 use Rattle.spec_logic.specs.Logic.{value_of, is_true_in, satisfies, satisfies_clause}
-use Rattle.spec_max.specs.Counter.{counted, starts, rows, counter}
-use Rattle.spec_max.specs.Cost.{cost, cost_below}
-use Rattle.spec_max.specs.Laws.{Counts, CostExtends}
+use Rattle.spec_max.specs.Counter.{counted, starts, rows}
+use Rattle.spec_max.specs.Cost.{cost}
+use Rattle.spec_max.specs.Laws.{CostExtends}
 use Rattle.spec_max.proofs.Rows.{Says, after, Count, count-first, rows-true, starts-true, true-minus}
 use Rattle.spec_max.proofs.Totals.{total, total-cost, Same, same-cost, same-take, take-whole}
 

@@ -1,11 +1,11 @@
-use Rattle.std.proofs.Common.{◌≡◌, ℕ, zero, suc, ◌+◌, ◌-◌, ◌*◌, ◌/◌, ◌≤◌, ◌<◌, Bool, true, false, ◌&&◌, nat_le, nat_lt, List, [], ◌∷◌, ◌++◌, length, Option, Some, refl, sym, ap, subst, ◌∙◌, arith}
+use Rattle.std.proofs.Common.{◌≡◌, ℕ, zero, suc, ◌+◌, ◌-◌, ◌*◌, ◌/◌, ◌≤◌, ◌<◌, true, false, ◌&&◌, nat_le, nat_lt, List, [], ◌∷◌, ◌++◌, length, Some, refl, ap, ◌∙◌, arith}
 use Rattle.std.specs.List.{list_all}
 use Rattle.std.proofs.lemmas.Bool.{and_parts, and_from, leb-true, le-leb, lt-ltb}
 use Rattle.std.proofs.lemmas.List.Folds.{list_all-append}
 use Rattle.std.proofs.Math.Nat.{mul-le-mul_right}
 use Rattle.mal_base.specs.Literals.{literal}
 use Rattle.mal_base.specs.Formulas.{is_within, is_clause_of}
-use Rattle.spec_max.specs.Counter.{counted, starts, carries, adds, row, rows, counter, variables_with}
+use Rattle.spec_max.specs.Counter.{counted, starts, carries, adds, row, rows}
 use Rattle.spec_max.specs.Laws.{CounterIsInForm, CostBelowIsWithin}
 use Rattle.spec_max.proofs.Extending.{row-behind}
 

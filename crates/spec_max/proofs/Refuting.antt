@@ -5,12 +5,11 @@ use Rattle.std.proofs.lemmas.Bool.{and_parts, and_from, leb-true, leb-false}
 use Rattle.std.proofs.lemmas.List.Folds.{list_all-append}
 use Rattle.mal_base.specs.Clauses.{rises}
 use Rattle.mal_base.specs.Formulas.{Formulated, is_formula, is_within, is_clause_of, is_within_limits}
-use Rattle.spec_logic.specs.Logic.{value_of, is_true_in, satisfies, satisfies_clause, satisfies_with}
-use Rattle.spec_logic.specs.Refutation.{ProofLine, IsRefutation}
+use Rattle.spec_logic.specs.Logic.{is_true_in, satisfies, satisfies_clause}
 use Rattle.spec_logic.proofs.RefutationLemmas.{refuted-unsatisfiable}
 use Rattle.spec_max.specs.Counter.{counter}
 use Rattle.spec_max.specs.Cost.{cost, cost_below}
-use Rattle.spec_max.specs.Laws.{Counts, NothingIsCheaper, NothingSatisfies}
+use Rattle.spec_max.specs.Laws.{NothingIsCheaper, NothingSatisfies}
 use Rattle.spec_max.proofs.Totals.{Same, same-cost}
 use Rattle.spec_max.proofs.Extending.{cost_extends, same-kept}
 

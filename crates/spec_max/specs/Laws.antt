@@ -1,5 +1,5 @@
 -- What holds of counters and costs, in the form in which the law functions state it.
-use Rattle.std.specs.Prelude.{◌≡◌, ℕ, ◌+◌, ◌*◌, ◌<◌, ◌≤◌, Bool, true, nat_le, List, [], ◌∷◌, ◌++◌, length, take}
+use Rattle.std.specs.Prelude.{◌≡◌, ℕ, ◌*◌, ◌<◌, ◌≤◌, Bool, true, nat_le, List, [], ◌∷◌, ◌++◌, length, take}
 use Rattle.std.specs.List.{list_all}
 use Rattle.mal_base.specs.Formulas.{Formulated, is_formula, is_within, is_clause_of}
 use Rattle.spec_logic.specs.Logic.{value_of, is_true_in, satisfies, IsUnsatisfiable}
