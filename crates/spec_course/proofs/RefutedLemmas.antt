@@ -9,7 +9,7 @@ use Rattle.spec_logic.specs.Refutation.{contradicts, added_by}
 use Rattle.spec_course.specs.Laws.{RefutedUnderMore}
 
 -- members of a list, by test
-member-there : (xs : List ℕ) (x : ℕ) → Contains xs x → list_any (λ y. y == x) xs ≡ true
+pub member-there : (xs : List ℕ) (x : ℕ) → Contains xs x → list_any (λ y. y == x) xs ≡ true
 member-there [] x (k, h, e) = absurd (omega arith)
 member-there (y ∷ ys) x k = by_first (Contains-cases y ys x k) (λ m. member-there ys x m)
   where
@@ -17,7 +17,7 @@ member-there (y ∷ ys) x k = by_first (Contains-cases y ys x k) (λ m. member-t
     by_first (inl e) rest = or_left (y == x) _ (eq-eqb y x e)
     by_first (inr m) rest = or_right (y == x) _ (rest m)
 
-member-found : (xs : List ℕ) (x : ℕ) → list_any (λ y. y == x) xs ≡ true → Contains xs x
+pub member-found : (xs : List ℕ) (x : ℕ) → list_any (λ y. y == x) xs ≡ true → Contains xs x
 member-found [] x e = absurd (cc)
 member-found (y ∷ ys) x e = by_first (or_cases (y == x) (list_any (λ y. y == x) ys) e) (λ m. member-found ys x m)
   where

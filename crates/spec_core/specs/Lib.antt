@@ -1,0 +1,4 @@
+pub mod Core
+pub mod Right
+pub mod Laws
+pub mod Examples
