@@ -1,0 +1,4 @@
+pub mod Rounds
+pub mod Evidence
+pub mod Asking
+pub mod Laws

@@ -1,0 +1,26 @@
+//! Inquiries: one job that is asked revision by revision, alone in a hall of one worker, and the evidence of what is
+//! told. Definitions, and the laws about them as the contracts of functions without a body.
+#![tactic(auto)]
+
+ghost use Rattle.spec_inquiry.specs.Laws.{AssumingMayAsk, FirstHasAll, InquiryGrows, InquiryIsLegal, InquiryIsOpen, InquiryIsSupported, LegalIsEvident, ToldIsEvident};
+
+/// The history of an inquiry is legal, its job is open, and one more round may follow.
+pub fn inquiry_is_legal()
+    ensures legal { InquiryIsLegal }
+    ensures opened { InquiryIsOpen }
+    ensures grows { InquiryGrows }
+{}
+
+/// What is told of a revision has its evidence, in an inquiry as in any legal history.
+pub fn told_is_evident()
+    ensures legal { LegalIsEvident }
+    ensures evident { ToldIsEvident }
+{}
+
+/// Where the revisions behind the first only assume, all have the variables and the clauses of the first, there is room
+/// for 256 of them, and what is told has its evidence of these clauses.
+pub fn first_has_all()
+    ensures first { FirstHasAll }
+    ensures room { AssumingMayAsk }
+    ensures supported { InquiryIsSupported }
+{}
