@@ -12,7 +12,9 @@ use Rattle.mal_revision.specs.Posted.{Posted}
 use Rattle.spec_job.specs.KeyedJob.{Key}
 use Rattle.spec_job.specs.Models.{clauses_of, clauses_through, variables_of}
 use Rattle.spec_job.specs.SoloMachine.{clauses_in, literals_in}
-use Rattle.spec_course.specs.Course.{Asked}
+use Rattle.spec_report.specs.Replies.{ReplyBody}
+use Rattle.spec_course.specs.Course.{Asked, Next, Leads}
+use Rattle.spec_course.specs.Course.Next.{Asks, Ends}
 use Rattle.spec_course.specs.Supported.{IsSupported, AreSupported}
 use Rattle.spec_hall.specs.Events.{Event}
 use Rattle.spec_inquiry.specs.Asking.{MayAsk}
@@ -84,11 +86,49 @@ first-literals v cs (p ∷ ps) b =
     omega (arith, all, first, rest)
 
 pub assuming-may_ask : AssumingMayAsk
-assuming-may_ask v cs rounds p b only few clauses literals = record {
-  room = few;
-  clause_room = (let all = first-clauses v cs (revisions_in rounds) b in let none : length p.clauses ≡ 0 = ap (λ (xs : List (Option (List ℕ))). length xs) only.has_none in omega (arith, all, none, clauses));
-  literal_room = (let all = first-literals v cs (revisions_in rounds) b in let none : literals_of p.clauses ≡ 0 = ap literals_of only.has_none in omega (arith, all, none, literals));
-}
+assuming-may_ask v cs rs p b only few clauses literals =
+    let none : length p.clauses ≡ 0 = ap (λ (xs : List (Option (List ℕ))). length xs) only.has_none in
+    let short : literals_of p.clauses ≡ 0 = ap literals_of only.has_none in
+    record {
+      room = few;
+      clause_room = omega (arith, first-clauses v cs rs b, none, clauses);
+      literal_room = omega (arith, first-literals v cs rs b, short, literals);
+    }
+
+-- where each question behind the first only assumes, so do the revisions of a course
+abbrev pub AsksOnly : {S O : Type 0} → ℕ → Next S O → Type 0
+AsksOnly v (Asks s r) = OnlyAssumes v r
+AsksOnly v (Ends o) = Unit {0}
+
+abbrev pub CourseOnlyAssumes : {S O : Type 0} → (S → ReplyBody → Next S O) → Type 0
+CourseOnlyAssumes {S} {O} step =
+    (v : ℕ) → ((s : S) (told : ReplyBody) → AsksOnly v (step s told))
+    → (now : Next S O) (asked : List Asked) (end : Next S O) → AsksOnly v now → Leads step now asked end
+    → All (OnlyAssumes v) (map (λ x. x.revision) asked)
+
+course-only : {S O : Type 0} (step : S → ReplyBody → Next S O) → CourseOnlyAssumes step
+course-only step v only now [] end h l = All-nil (OnlyAssumes v)
+course-only step v only (Ends o) (x ∷ xs) end h l = absurd l
+course-only step v only (Asks s r) (x ∷ xs) end h l =
+    All-cons (OnlyAssumes v) x.revision (map (λ (y : Asked). y.revision) xs) (subst (OnlyAssumes v) (sym l.0) h) (course-only step v only (step s x.told) xs end (only s x.told) l.1)
+
+abbrev pub CourseBegins : {S O : Type 0} → (S → ReplyBody → Next S O) → Type 0
+CourseBegins {S} {O} step =
+    (v : ℕ) (cs : List (Option (List ℕ))) (s : S) (r : Posted) (rounds : List Round) (end : Next S O)
+    → r.variables ≡ v → r.clauses ≡ cs → ((t : S) (told : ReplyBody) → AsksOnly v (step t told))
+    → Leads step (Asks s r) (asked_in rounds) end → BeginWith v cs (revisions_in rounds)
+
+asked-revisions : (xs : List Round) → map (λ (x : Asked). x.revision) (asked_in xs) ≡ revisions_in xs
+asked-revisions [] = refl
+asked-revisions (x ∷ xs) = ap (λ (ps : List Posted). x.asked.revision ∷ ps) (asked-revisions xs)
+
+pub course-begins : {S O : Type 0} (step : S → ReplyBody → Next S O) → CourseBegins step
+course-begins step v cs s r [] end e f only l = tt
+course-begins step v cs s r (x ∷ xs) end e f only l = (
+  ap (λ (p : Posted). p.variables) l.0 ∙ e,
+  ap (λ (p : Posted). p.clauses) l.0 ∙ f,
+  subst (All (OnlyAssumes v)) (asked-revisions xs) (course-only step v only (step s x.asked.told) (asked_in xs) end (only s x.asked.told) l.1),
+)
 
 -- what holds of each place holds of all
 all-asked : (P : Asked → Type 0) (rounds : List Round) → ((r : ℕ) (x : Round) → slice_get rounds r ≡ Some x → P x.asked) → All P (asked_in rounds)

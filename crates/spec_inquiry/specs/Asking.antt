@@ -1,9 +1,8 @@
 -- Asking once more.
-use Rattle.std.specs.Prelude.{◌≡◌, ℕ, ◌+◌, ◌<◌, ◌≤◌, List, [], ◌∷◌, ◌++◌, length}
+use Rattle.std.specs.Prelude.{◌+◌, ◌<◌, ◌≤◌, List, [], ◌∷◌, ◌++◌, length}
 use Rattle.mal_base.specs.Asks.{Terms}
 use Rattle.mal_base.specs.Formulas.{literals_of}
 use Rattle.mal_revision.specs.Posted.{Posted}
-use Rattle.spec_report.specs.Replies.{ReplyBody}
 use Rattle.spec_job.specs.KeyedJob.{Key}
 use Rattle.spec_job.specs.SoloMachine.{clauses_in, literals_in}
 use Rattle.spec_course.specs.Course.{Asked}
@@ -12,11 +11,11 @@ use Rattle.spec_hall.specs.Events.{Event}
 use Rattle.spec_inquiry.specs.Evidence.{IsEvidence}
 use Rattle.spec_inquiry.specs.Rounds.{Round, IsInquiry, revisions_in}
 
--- behind these rounds there is room for one more revision: a job has at most 256, with 2^20 clauses and 2^24 literals
-pub record MayAsk (rounds : List Round) (revision : Posted) : Type 0 where
-  pub room : length rounds < 256
-  pub clause_room : clauses_in (revisions_in rounds) + length revision.clauses ≤ 1048576
-  pub literal_room : literals_in (revisions_in rounds) + literals_of revision.clauses ≤ 16777216
+-- behind these revisions there is room for one more: a job has at most 256, with 2^20 clauses and 2^24 literals
+pub record MayAsk (revisions : List Posted) (revision : Posted) : Type 0 where
+  pub room : length revisions < 256
+  pub clause_room : clauses_in revisions + length revision.clauses ≤ 1048576
+  pub literal_room : literals_in revisions + literals_of revision.clauses ≤ 16777216
 
 -- the round of a question, with these turns
 abbrev pub round_of : Asked → List Turn → Round

@@ -62,6 +62,6 @@ InquiryIsSupported =
 -- and there is room for a revision that only assumes behind fewer than 256
 abbrev pub AssumingMayAsk : Type 0
 AssumingMayAsk =
-    (variables : ℕ) (clauses : List (Option (List ℕ))) (rounds : List Round) (revision : Posted)
-    → BeginWith variables clauses (revisions_in rounds) → OnlyAssumes variables revision
-    → length rounds < 256 → length clauses ≤ 1048576 → literals_of clauses ≤ 16777216 → MayAsk rounds revision
+    (variables : ℕ) (clauses : List (Option (List ℕ))) (revisions : List Posted) (revision : Posted)
+    → BeginWith variables clauses revisions → OnlyAssumes variables revision
+    → length revisions < 256 → length clauses ≤ 1048576 → literals_of clauses ≤ 16777216 → MayAsk revisions revision

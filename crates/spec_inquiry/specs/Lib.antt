@@ -2,3 +2,4 @@ pub mod Rounds
 pub mod Evidence
 pub mod Asking
 pub mod Laws
+pub mod Examples

@@ -2,7 +2,7 @@
 //! told. Definitions, and the laws about them as the contracts of functions without a body.
 #![tactic(auto)]
 
-ghost use Rattle.spec_inquiry.specs.Laws.{AssumingMayAsk, FirstHasAll, InquiryGrows, InquiryIsLegal, InquiryIsOpen, InquiryIsSupported, LegalIsEvident, ToldIsEvident};
+ghost use Rattle.spec_inquiry.specs.{Examples.{HasRounds}, Laws.{AssumingMayAsk, FirstHasAll, InquiryGrows, InquiryIsLegal, InquiryIsOpen, InquiryIsSupported, LegalIsEvident, ToldIsEvident}};
 
 /// The history of an inquiry is legal, its job is open, and one more round may follow.
 pub fn inquiry_is_legal()
@@ -23,4 +23,9 @@ pub fn first_has_all()
     ensures first { FirstHasAll }
     ensures room { AssumingMayAsk }
     ensures supported { InquiryIsSupported }
+{}
+
+/// A worked example of an inquiry: a model is told first, and then that the assumptions fail.
+pub fn inquiry_examples()
+    ensures { HasRounds }
 {}
