@@ -45,7 +45,7 @@ open-wanted k ask opening.TenantFull es h = absurd (let bad : 64 ≤ 0 = h.1 in 
 open-wanted k ask opening.HallFull es h = absurd (let bad : 64 ≤ 0 = h.2 in omega (arith, bad))
 open-wanted k ask opening.OutOfMemory es h = refl
 
-found-is : (k : Key) (rs : List Posted) (h : List Event) (t : KeyedJob) → IsOpen k rs h → job_of k (states h) ≡ Some t → t ≡ titled h k
+pub found-is : (k : Key) (rs : List Posted) (h : List Event) (t : KeyedJob) → IsOpen k rs h → job_of k (states h) ≡ Some t → t ≡ titled h k
 found-is k rs h t is e = some-same t (titled h k) (sym e ∙ open-found k rs h is)
 
 not-over : (which : LimitKind) (rs : List Posted) (r : Posted) → MayAsk rs r → IsOver which rs r → ⊥
