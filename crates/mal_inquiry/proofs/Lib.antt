@@ -1,0 +1,2 @@
+-- what this crate alone cites
+mod InquiryLemmas

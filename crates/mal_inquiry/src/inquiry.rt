@@ -1,0 +1,160 @@
+//! An inquiry.
+
+ghost use Rattle.std.specs.Prelude.{◌≡◌, ◌≤◌, List, [], Err, Some, length, IfOk, OnOk};
+ghost use Rattle.mal_base.specs.Asks.{Terms};
+ghost use Rattle.mal_inquiry.specs.InquiryView.{IsAnswered, HasPosted, TellsLast, machine};
+ghost use Rattle.mal_report.specs.Told.{body_of};
+ghost use Rattle.mal_revision.specs.Posted.{Posted};
+ghost use Rattle.spec_hall.specs.{Calls.{Opens, Revises, wanted}, Dressed.{keyed}, Driven.{GrowsByTurns}};
+ghost use Rattle.spec_inquiry.specs.{Asking.{HasAsked, MayAsk}, Rounds.{IsInquiry, Round, revisions_in}};
+ghost use Rattle.spec_job.specs.KeyedJob.{Key};
+
+use mal_base::{Ask, Name};
+use mal_hall::{Hall, OpenFault, ReplyFault, ReviseFault};
+use mal_learn::Scratch;
+use mal_report::Told;
+use mal_revision::Revision;
+use std::alloc::{AllocError, Global};
+use std::marker::Model;
+
+/// A job that is asked revision by revision, alone in a hall of one worker, which is driven on this thread. Contracts
+/// see the key of the job and the events of the hall. The type keeps that nothing is out and that the job is open, at
+/// every moment, after want of memory too.
+#[derive(Drop)]
+pub struct Inquiry {
+    hall: Hall,
+    tenant: Name,
+    job: Name,
+    /// How many revisions were posted.
+    asked: u32,
+}
+
+impl Model for Inquiry {
+    ghost use Rattle.spec_hall.specs.Dressed.{keyed};
+    ghost use Rattle.mal_inquiry.specs.InquiryView.{InquiryView, IsKept};
+
+    ghost Value = { InquiryView };
+
+    ghost view = { λ i. record { key = keyed i.tenant i.job; events = i.hall.events } };
+
+    ghost invariant = { λ i. IsKept i.hall (keyed i.tenant i.job) i.asked };
+}
+
+impl Inquiry {
+    /// The inquiry of a job of these names with this ask, of which nothing was asked yet.
+    pub fn new(alloc: Global, tenant: Name, job: Name, ask: Ask) -> Result<Inquiry, AllocError>
+        ensures key { IfOk result (λ i. i.key ≡ keyed tenant job) }
+        ensures inquiry { IfOk result (λ i. IsInquiry (keyed tenant job) ask [] i.events) }
+    {
+        let mut hall = Hall::new(alloc, 1)?;
+        match open(&mut hall, tenant, job, ask) {
+            Ok(()) => Ok(Inquiry {
+                hall,
+                tenant,
+                job,
+                asked: 0,
+            }),
+            Err(error) => Err(error),
+        }
+    }
+
+    /// Asks the next revision, for which there is room behind those that were asked, and gives what is told of it, with
+    /// its evidence: the revision is posted, and the hall is driven until no node may start. After want of memory the
+    /// events that were entered stay, and no more rounds may be asked.
+    pub fn ask(&mut self, revision: Revision, scratch: &mut Scratch) -> Result<Told, AllocError>
+        requires may { (terms : Terms) × (rounds : List Round)
+            × IsInquiry self.old.key terms rounds self.old.events × MayAsk (revisions_in rounds) revision }
+        ensures key { self.new.key ≡ self.old.key }
+        ensures asked { (terms : Terms) (rounds : List Round) → IsInquiry self.old.key terms rounds self.old.events
+            → IfOk result
+            (λ told. HasAsked self.old.key terms rounds (record { revision = revision; told = body_of told }) self.new.events) }
+    {
+        self.post(revision)?;
+        self.drive(scratch)?;
+        self.told()
+    }
+
+    /// Posts the next revision, for which there is room. After want of memory nothing is entered.
+    fn post(&mut self, revision: Revision) -> Result<(), AllocError>
+        requires { MayAsk (machine self.old).revisions revision }
+        ensures key { self.new.key ≡ self.old.key }
+        ensures posted { OnOk result (HasPosted self.old revision self.new) }
+    {
+        match self.hall.revise_job(&self.tenant, &self.job, revision) {
+            Ok(()) => {}
+            Err(fault) => {
+                if !was_wanting_to_revise(fault) {
+                    unreachable!();
+                }
+                return Err(AllocError);
+            }
+        }
+        self.asked += 1;
+        Ok(())
+    }
+
+    /// Runs the job until no node may start. After want of memory what was entered stays.
+    fn drive(&mut self, scratch: &mut Scratch) -> Result<(), AllocError>
+        ensures key { self.new.key ≡ self.old.key }
+        ensures turns { GrowsByTurns 1 self.old.events self.new.events }
+        ensures answered { OnOk result (IsAnswered self.new) }
+    {
+        self.hall.drive(scratch)
+    }
+
+    /// What is told of the last revision, where all are answered.
+    fn told(&self) -> Result<Told, AllocError>
+        requires answered { IsAnswered self.now }
+        requires some { 1 ≤ length (machine self.now).revisions }
+        ensures { IfOk result (λ told. TellsLast self.now (body_of told)) }
+    {
+        match self.hall.answer(&self.tenant, &self.job, self.asked) {
+            Ok(Some(told)) => Ok(told),
+            Ok(None) => unreachable!(),
+            Err(ReplyFault::NoJob) => unreachable!(),
+            Err(ReplyFault::OutOfMemory) => Err(AllocError),
+        }
+    }
+}
+
+/// Opens a job in a hall of one worker without events.
+fn open(hall: &mut Hall, tenant: Name, job: Name, ask: Ask) -> Result<(), AllocError>
+    requires new { hall.old.events ≡ [] }
+    ensures workers { hall.new.workers ≡ hall.old.workers }
+    ensures inquiry { OnOk result (IsInquiry (keyed tenant job) ask [] hall.new.events) }
+{
+    match hall.open_job(tenant, job, ask) {
+        Ok(()) => Ok(()),
+        Err(fault) => {
+            if !was_wanting_to_open(fault) {
+                unreachable!();
+            }
+            Err(AllocError)
+        }
+    }
+}
+
+/// Whether memory was wanting where a job was not opened.
+fn was_wanting_to_open(fault: OpenFault) -> bool
+    ensures { (k : Key) (ask : Terms) → result ≡ wanted (Opens k ask) (Err fault) }
+{
+    match fault {
+        OpenFault::Duplicate => false,
+        OpenFault::TenantFull => false,
+        OpenFault::HallFull => false,
+        OpenFault::OutOfMemory => true,
+    }
+}
+
+/// Whether memory was wanting where a revision was not posted.
+fn was_wanting_to_revise(fault: ReviseFault) -> bool
+    ensures { (k : Key) (r : Posted) → result ≡ wanted (Revises k r) (Err fault) }
+{
+    match fault {
+        ReviseFault::NoJob => false,
+        ReviseFault::Closed => false,
+        ReviseFault::RevisionsFull => false,
+        ReviseFault::JobFull { .. } => false,
+        ReviseFault::OutOfMemory => true,
+    }
+}
