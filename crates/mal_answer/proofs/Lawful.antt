@@ -3,17 +3,18 @@ use Rattle.std.proofs.Common.{ℕ, List, true≢false, Err}
 use Rattle.std.specs.Prelude.{Option}
 use Rattle.mal_account.proofs.ReadLemmas.{spelled-is-read as account-read}
 use Rattle.mal_claim.proofs.ReadLemmas.{spelled-is-read as claim-read}
+use Rattle.spec_json.proofs.Reading.{spelled-is-read as json-read}
 use Rattle.spec_script.proofs.Reading.{spelled-read as script-read}
 use Rattle.spec_script.specs.Limits.{served}
 use Rattle.spec_text.specs.Faults.{Fails, TellsBy}
 use Rattle.mal_answer.specs.Answers.{Complains, IsAnswerTo, NoLine}
 use Rattle.mal_answer.specs.Command.{Command, Denies, Grammar, IsLawful, IsRead, Refuses, TellsFaultOf, judging, making, reading}
-use Rattle.mal_answer.specs.Commands.{accounts, claims, scripts}
+use Rattle.mal_answer.specs.Commands.{accounts, claims, descriptions, scripts}
 use Rattle.mal_answer.specs.Laws.{AreLawful, HaveOwnWords}
 use Rattle.mal_answer.specs.declared.answer.Complaint.{Complaint}
-use Rattle.mal_answer.proofs.Meanings.{check-words, gen-words, gen_run-words, replay-words, run-words}
+use Rattle.mal_answer.proofs.Meanings.{check-words, gen-words, gen_run-words, json-words, replay-words, run-words}
 use Rattle.mal_answer.specs.Forms.{Form}
-use Rattle.mal_answer.specs.declared.words.request.Request.TheVariants.{Run, Check, Replay, Generate, RunGenerated}
+use Rattle.mal_answer.specs.declared.words.request.Request.TheVariants.{Run, Check, Replay, Generate, RunGenerated, Json}
 use Rattle.mal_answer.proofs.Complaints.{fault-refused, read-faulty}
 
 -- a text with a fault spells nothing
@@ -54,6 +55,9 @@ claims-read text c is = (claim-read text c).0 is
 pub accounts-read : IsRead accounts
 accounts-read text a is = (account-read text a).0 is
 
+pub descriptions-read : IsRead descriptions
+descriptions-read text s is = (json-read served text s).0 is
+
 -- so it is for each command of the program
 pub are-lawful : AreLawful
 are-lawful (Run workers) = reading-lawful _ _ _ scripts-read
@@ -61,6 +65,7 @@ are-lawful Check = judging-lawful _ _ _ _ _ claims-read (λ text log out g. (g.0
 are-lawful Replay = judging-lawful _ _ _ _ _ accounts-read (λ text log out g. (g.0, g.1, (g.2.events, g.2.legal, g.2.complete)))
 are-lawful (Generate seed jobs) = making-lawful _ _
 are-lawful (RunGenerated seed jobs workers) = making-lawful _ _
+are-lawful Json = reading-lawful _ _ _ descriptions-read
 
 pub have-own_words : HaveOwnWords
 have-own_words (Run workers) = run-words workers
@@ -68,6 +73,7 @@ have-own_words Check = check-words
 have-own_words Replay = replay-words
 have-own_words (Generate seed jobs) = gen-words seed jobs
 have-own_words (RunGenerated seed jobs workers) = gen_run-words seed jobs workers
+have-own_words Json = json-words
 
 -- a line that tells the first fault of a text refuses it
 pub refuses : (c : Command) → IsLawful c → (text line : List ℕ) → c.TellsFirst text line → Refuses c text line

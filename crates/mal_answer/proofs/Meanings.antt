@@ -8,12 +8,12 @@ use Rattle.clap.specs.Words.{App, HasKind, IsAmong, Kinds, Row, Text, fault_of, 
 use Rattle.clap.specs.declared.error.Error.{Error}
 use Rattle.clap.specs.declared.error.kind.ErrorKind.TheVariants as kind
 use Rattle.mal_answer.specs.CommandLine.{mal_app, refusals, subcommand}
-use Rattle.mal_answer.specs.Forms.{Form, check_form, gen_form, generate_of, number_by, number_in, replay_form, run_form}
+use Rattle.mal_answer.specs.Forms.{Form, check_form, gen_form, generate_of, json_form, number_by, number_in, replay_form, run_form}
 use Rattle.mal_answer.specs.Found.{IsMeaning}
 use Rattle.mal_answer.specs.WordLaws.{AskedIsAsks, OneMeaning}
 use Rattle.mal_answer.specs.Requests.{Asks, IsAskedBy, IsNumber, IsRequest, Means, MeansNothing, asked, asked_by, asked_in}
 use Rattle.mal_answer.specs.declared.words.request.Request.{Request}
-use Rattle.mal_answer.specs.declared.words.request.Request.TheVariants.{Run, Check, Replay, Generate, RunGenerated}
+use Rattle.mal_answer.specs.declared.words.request.Request.TheVariants.{Run, Check, Replay, Generate, RunGenerated, Json}
 use Rattle.mal_answer.proofs.Decimals.{is-number, is-value, number-is, value-is}
 
 pub ruleset value_lemmas = (first_value-rows)
@@ -67,10 +67,11 @@ named name form rows r same asks = subst (λ (t : Text). Asks t rows r) (sym sam
 
 asked-asks : (name : Text) (rows : List Row) (r : Request) → asked name rows ≡ Some r → Asks name rows r
 asked-asks name rows r e =
-    by-form run_form (check_form ∷ replay_form ∷ gen_form ∷ []) name rows r (Asks name rows r) e (λ n a. named name (codes "run") rows r n (run-asks rows r a)) (λ e.
-    by-form check_form (replay_form ∷ gen_form ∷ []) name rows r (Asks name rows r) e (λ n a. subst (λ (q : Request). Asks name rows q) (some-is Check r a) n) (λ e.
-    by-form replay_form (gen_form ∷ []) name rows r (Asks name rows r) e (λ n a. subst (λ (q : Request). Asks name rows q) (some-is Replay r a) n) (λ e.
-    by-form gen_form [] name rows r (Asks name rows r) e (λ n a. named name (codes "gen") rows r n (gen-asks rows r _ _ _ refl refl refl a)) (λ e. cc))))
+    by-form run_form (check_form ∷ replay_form ∷ gen_form ∷ json_form ∷ []) name rows r (Asks name rows r) e (λ n a. named name (codes "run") rows r n (run-asks rows r a)) (λ e.
+    by-form check_form (replay_form ∷ gen_form ∷ json_form ∷ []) name rows r (Asks name rows r) e (λ n a. subst (λ (q : Request). Asks name rows q) (some-is Check r a) n) (λ e.
+    by-form replay_form (gen_form ∷ json_form ∷ []) name rows r (Asks name rows r) e (λ n a. subst (λ (q : Request). Asks name rows q) (some-is Replay r a) n) (λ e.
+    by-form gen_form (json_form ∷ []) name rows r (Asks name rows r) e (λ n a. named name (codes "gen") rows r n (gen-asks rows r _ _ _ refl refl refl a)) (λ e.
+    by-form json_form [] name rows r (Asks name rows r) e (λ n a. subst (λ (q : Request). Asks name rows q) (some-is Json r a) n) (λ e. cc)))))
 
 -- what a subcommand asks for is its form's
 as-named : (name form : Text) (rows : List Row) (r : Request) → name ≡ form → asked form rows ≡ Some r → asked name rows ≡ Some r
@@ -99,12 +100,16 @@ gen_run-words s j w name rows a = (a.0, by-workers (first_of (codes "workers") r
     by-workers None is h = absurd h
     by-workers (Some word) is h = generates rows (RunGenerated s j w) (Some s) (Some j) (Some word) (value-is 0 2147483647 s _ (omega arith) a.2) (value-is 1 256 j _ (omega arith) a.3) is (ap (λ (o : Option ℕ). option_map (λ n. RunGenerated s j n) o) (number-is 1 64 w word (omega arith) h))
 
+pub json-words : IsAskedBy json_form Json
+json-words name rows a = (a, refl)
+
 asks-asked : (name : Text) (rows : List Row) (r : Request) → Asks name rows r → asked name rows ≡ Some r
 asks-asked name rows (Run w) a = let own = run-words w name rows a in as-named name (codes "run") rows (Run w) own.0 own.1
 asks-asked name rows Check a = as-named name (codes "check") rows Check a refl
 asks-asked name rows Replay a = as-named name (codes "replay") rows Replay a refl
 asks-asked name rows (Generate s j) a = let own = gen-words s j name rows a in as-named name (codes "gen") rows (Generate s j) own.0 own.1
 asks-asked name rows (RunGenerated s j w) a = let own = gen_run-words s j w name rows a in as-named name (codes "gen") rows (RunGenerated s j w) own.0 own.1
+asks-asked name rows Json a = as-named name (codes "json") rows Json a refl
 
 pub asked-is_asks : AskedIsAsks
 asked-is_asks name rows r = (asked-asks name rows r, asks-asked name rows r)
@@ -151,6 +156,7 @@ asks-request name rows (Generate seed jobs) a =
     let s = in-range 0 2147483647 seed _ a.2 in let high = s.1 in let j = in-range 1 256 jobs _ a.3 in (omega arith, j.0, j.1)
 asks-request name rows (RunGenerated seed jobs workers) a =
     let w = in-range 1 64 workers _ a.1 in let s = in-range 0 2147483647 seed _ a.2 in let high = s.1 in let j = in-range 1 256 jobs _ a.3 in (omega arith, j.0, j.1, w.0, w.1)
+asks-request name rows Json a = tt
 
 pub means-request : (words : List Text) (o : Option Request) → IsMeaning o words → IfSome o (λ r. IsRequest r)
 means-request words None m = tt

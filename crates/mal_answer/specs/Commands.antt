@@ -1,9 +1,9 @@
 -- The commands of the program, each a value.
-use Rattle.std.specs.Prelude.{◌≡◌, ◌⊎◌, ℕ, List, [], ◌∷◌, codes}
+use Rattle.std.specs.Prelude.{◌≡◌, ◌⊎◌, ℕ, List, [], ◌∷◌, codes, Ok}
 use Rattle.mal_history.specs.Written.{line_at}
-use Rattle.mal_answer.specs.Forms.{check_form, gen_form, replay_form, run_form}
+use Rattle.mal_answer.specs.Forms.{check_form, gen_form, json_form, replay_form, run_form}
 use Rattle.mal_answer.specs.declared.words.request.Request.{Request}
-use Rattle.mal_answer.specs.declared.words.request.Request.TheVariants.{Run, Check, Replay, Generate, RunGenerated}
+use Rattle.mal_answer.specs.declared.words.request.Request.TheVariants.{Run, Check, Replay, Generate, RunGenerated, Json}
 use Rattle.mal_account.specs.Accounts.{Account}
 use Rattle.mal_account.specs.Accounts as account
 use Rattle.mal_account.specs.FaultLines as account_lines
@@ -13,6 +13,10 @@ use Rattle.mal_claim.specs.Claims.{Claim}
 use Rattle.mal_claim.specs.Claims as claim
 use Rattle.mal_claim.specs.FaultLines as claim_lines
 use Rattle.mal_claim.specs.Grammar as claim_texts
+use Rattle.spec_json.specs.FaultLines as json_lines
+use Rattle.spec_json.specs.Grammar as json_texts
+use Rattle.spec_json.specs.Reading as json
+use Rattle.spec_json.specs.declared.fault.JsonFault.{JsonFault}
 use Rattle.spec_script.specs.Generated.{generated}
 use Rattle.spec_hall.specs.Driven.{IsDriven}
 use Rattle.spec_hall.specs.Events.{Event}
@@ -63,7 +67,7 @@ pub record Verifies (text : List ℕ) : Type 0 where
   pub proved : IsProved claim
   pub unsatisfiable : IsUnsatisfiable claim.formula.clauses claim.assumptions
 
--- the grammars of inputs: scripts, claims, and accounts
+-- the grammars of inputs: scripts, claims, accounts, and descriptions
 abbrev pub scripts : Grammar Scripted (ℕ × LineFault)
 scripts = record { Spells = Spells served; read = read_text served; line_of = λ e. fault_line e.0 e.1 }
 
@@ -72,6 +76,15 @@ claims = record { Spells = claim_texts.Spells; read = claim.read_text; line_of =
 
 abbrev pub accounts : Grammar Account account.Fault
 accounts = record { Spells = account_texts.Spells; read = account.read_text; line_of = account_lines.fault_line }
+
+abbrev pub descriptions : Grammar Scripted JsonFault
+descriptions = record { Spells = json_texts.Spells served; read = json.read_text served; line_of = json_lines.fault_line }
+
+-- the script that a description spells is written, and is read again from what is written
+pub record IsWritten (s : Scripted) (log out : List ℕ) : Type 0 where
+  pub silent : log ≡ []
+  pub written : out ≡ spelling s
+  pub again : read_text served out ≡ Ok s
 
 -- `run`: a script is run with so many workers
 abbrev pub running : ℕ → Command
@@ -97,6 +110,10 @@ abbrev pub running_generated : ℕ → ℕ → ℕ → Command
 running_generated seed jobs workers = making gen_form (λ log out.
     (replies : List ℕ) × IsRunOf workers (generated seed jobs) log replies × (out ≡ summary_line jobs replies))
 
+-- `json`: the script that a description spells is written
+abbrev pub describing : Command
+describing = reading json_form descriptions IsWritten
+
 -- the command that is asked for
 abbrev pub command_of : Request → Command
 command_of (Run workers) = running workers
@@ -104,3 +121,4 @@ command_of Check = checking
 command_of Replay = replaying
 command_of (Generate seed jobs) = generating seed jobs
 command_of (RunGenerated seed jobs workers) = running_generated seed jobs workers
+command_of Json = describing

@@ -4,7 +4,7 @@ use Rattle.std.specs.Prelude.{ℕ, Bool, true, false, ◌&&◌, nat_le, List, []
 use Rattle.std.specs.Str.Parse.{digits_value}
 use Rattle.clap.specs.Walk.{Row, Text, first_of}
 use Rattle.mal_answer.specs.declared.words.request.Request.{Request}
-use Rattle.mal_answer.specs.declared.words.request.Request.TheVariants.{Run, Check, Replay, Generate, RunGenerated}
+use Rattle.mal_answer.specs.declared.words.request.Request.TheVariants.{Run, Check, Replay, Generate, RunGenerated, Json}
 
 -- an option `--name VALUE`: the letter that stands for its value, and whether it has to be given
 pub record Opt : Type 0 where
@@ -59,6 +59,9 @@ gen_form = record {
       (number_in 0 2147483647 (first_of (codes "seed") rows)) (number_in 1 256 (first_of (codes "jobs") rows)) (first_of (codes "workers") rows);
 }
 
+abbrev pub json_form : Form
+json_form = record { name = codes "json"; options = []; asks = λ rows. Some Json }
+
 -- the commands, in the order in which the line of usage lists them
 abbrev pub forms : List Form
-forms = run_form ∷ check_form ∷ replay_form ∷ gen_form ∷ []
+forms = run_form ∷ check_form ∷ replay_form ∷ gen_form ∷ json_form ∷ []

@@ -4,7 +4,7 @@ use Rattle.clap.specs.Walk.{Row, Text, first_of}
 use Rattle.mal_answer.specs.CommandLine.{refusals, subcommand}
 use Rattle.mal_answer.specs.Forms.{Form, forms}
 use Rattle.mal_answer.specs.declared.words.request.Request.{Request}
-use Rattle.mal_answer.specs.declared.words.request.Request.TheVariants.{Run, Check, Replay, Generate, RunGenerated}
+use Rattle.mal_answer.specs.declared.words.request.Request.TheVariants.{Run, Check, Replay, Generate, RunGenerated, Json}
 
 -- the value of an option is a number in decimal digits, without a sign and without a leading zero
 abbrev pub IsNumber : ℕ → ℕ → ℕ → Option Text → Type 0
@@ -20,6 +20,7 @@ Asks name rows (Generate seed jobs) =
     (name ≡ codes "gen") × (first_of (codes "workers") rows ≡ None) × IsNumber 0 2147483647 seed (first_of (codes "seed") rows) × IsNumber 1 256 jobs (first_of (codes "jobs") rows)
 Asks name rows (RunGenerated seed jobs workers) =
     (name ≡ codes "gen") × IsNumber 1 64 workers (first_of (codes "workers") rows) × IsNumber 0 2147483647 seed (first_of (codes "seed") rows) × IsNumber 1 256 jobs (first_of (codes "jobs") rows)
+Asks name rows Json = name ≡ codes "json"
 
 -- a request is asked for by the words of this command alone
 abbrev pub IsAskedBy : Form → Request → Type 0
@@ -56,3 +57,4 @@ IsRequest Check = Unit {0}
 IsRequest Replay = Unit {0}
 IsRequest (Generate seed jobs) = (seed < 2 ^ 31) × (1 ≤ jobs) × (jobs ≤ 256)
 IsRequest (RunGenerated seed jobs workers) = (seed < 2 ^ 31) × (1 ≤ jobs) × (jobs ≤ 256) × (1 ≤ workers) × (workers ≤ 64)
+IsRequest Json = Unit {0}

@@ -1,7 +1,7 @@
 -- What words ask for.
 use Rattle.std.specs.Prelude.{[], ◌∷◌, codes}
 use Rattle.mal_answer.specs.Requests.{Means, MeansNothing}
-use Rattle.mal_answer.specs.declared.words.request.Request.TheVariants.{Run, Check, Replay, Generate, RunGenerated}
+use Rattle.mal_answer.specs.declared.words.request.Request.TheVariants.{Run, Check, Replay, Generate, RunGenerated, Json}
 
 -- worked examples
 pub record HasExamples : Type 0 where
@@ -11,6 +11,7 @@ pub record HasExamples : Type 0 where
   pub replay : Means (codes "mal" ∷ codes "replay" ∷ []) Replay
   pub gen : Means (codes "mal" ∷ codes "gen" ∷ codes "--jobs" ∷ codes "4" ∷ codes "--seed" ∷ codes "0" ∷ []) (Generate 0 4)
   pub gen_run : Means (codes "mal" ∷ codes "gen" ∷ codes "--seed=1" ∷ codes "--workers" ∷ codes "2" ∷ codes "--jobs=4" ∷ []) (RunGenerated 1 4 2)
+  pub json : Means (codes "mal" ∷ codes "json" ∷ []) Json
   pub nothing : MeansNothing (codes "mal" ∷ [])
   pub unknown : MeansNothing (codes "mal" ∷ codes "fly" ∷ [])
   pub repeated : MeansNothing (codes "mal" ∷ codes "run" ∷ codes "--workers=1" ∷ codes "--workers=1" ∷ [])

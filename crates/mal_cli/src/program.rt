@@ -7,7 +7,7 @@ use crate::generating::run_generated;
 use crate::replaying::replay_text;
 use crate::running::run_text;
 use mal_answer::{
-    BAD_WORDS, Complaint, OUT_OF_MEMORY, Request, Texts, check, complain, conclude, generate_text,
+    BAD_WORDS, Complaint, OUT_OF_MEMORY, Request, Texts, check, complain, conclude, describe, generate_text,
     input, request_of, usage_line,
 };
 use mal_io::{Sink, Source};
@@ -24,6 +24,7 @@ use std::thread::Threads;
 /// | `check` | The proof of the claim that `source` gives is checked. The line `s VERIFIED` goes to `out`. |
 /// | `replay` | The history that `source` gives behind its script is replayed. The replies go to `out`. |
 /// | `gen --seed S --jobs N` | The script of the seed S with N jobs goes to `out`. |
+/// | `json` | The script that the description that `source` gives spells goes to `out`. |
 /// | `gen --seed S --jobs N --workers W` | That script is run with W workers. The text of the history goes to `log`, a summary of the replies to `out`. |
 ///
 /// | Status | Comes |
@@ -122,6 +123,7 @@ fn answer<R: Threads + Wait + Sync, G: Gate>(
         Request::Run { workers } => run_text(rt, alloc, workers, text, gate),
         Request::Check => check(alloc, text),
         Request::Replay => replay_text(alloc, text),
+        Request::Json => describe(alloc, text),
         Request::Generate { seed, jobs } => generate_text(alloc, seed, jobs),
         Request::RunGenerated {
             seed,

@@ -10,7 +10,7 @@ use std::alloc::{AllocError, Global};
 
 /// The commands with their options.
 const USAGE: &[u8] =
-    b"usage: mal run --workers N, check, replay, gen --seed S --jobs N [--workers W]\n";
+    b"usage: mal run --workers N, check, replay, gen --seed S --jobs N [--workers W], json\n";
 
 /// The line for words that ask for nothing: each command with its options.
 pub fn usage_line() -> &'static [u8]
@@ -27,7 +27,8 @@ pub fn command<'a>(alloc: Global) -> Result<Command<'a>, AllocError>
         .subcommand(run(alloc)?)?
         .subcommand(bare(alloc, "check"))?
         .subcommand(bare(alloc, "replay"))?
-        .subcommand(generate(alloc)?)
+        .subcommand(generate(alloc)?)?
+        .subcommand(bare(alloc, "json"))
 }
 
 /// The program itself, of which a subcommand has to follow.

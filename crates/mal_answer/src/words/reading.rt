@@ -54,6 +54,9 @@ fn request_named(name: &str, options: &ArgMatches<'_>) -> Option<Request>
     if name == "gen" {
         return generate_with(options);
     }
+    if name == "json" {
+        return Some(Request::Json);
+    }
     None
 }
 

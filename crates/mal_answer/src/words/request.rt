@@ -13,4 +13,6 @@ pub enum Request {
     Generate { seed: u32, jobs: u32 },
     /// Runs that script with so many workers, 1 to 64.
     RunGenerated { seed: u32, jobs: u32, workers: u32 },
+    /// Writes the script that a description spells.
+    Json,
 }
