@@ -7,7 +7,7 @@ use Rattle.clap.specs.declared.error.kind.ErrorKind.{ErrorKind}
 use Rattle.mal_answer.specs.CommandLine.{refusals, subcommand}
 use Rattle.mal_answer.specs.Requests.{Asks, Means, MeansNothing}
 use Rattle.mal_answer.specs.declared.words.request.Request.{Request}
-use Rattle.mal_answer.specs.declared.words.request.Request.TheVariants.{Run, Check, Replay, Generate, RunGenerated}
+use Rattle.mal_answer.specs.declared.words.request.Request.TheVariants.{Run, Check, Replay, Generate, RunGenerated, Json}
 use Rattle.mal_answer.proofs.words.laws.word_examples.Goals as goal
 
 abbrev the : Option (Text × List Row) → Text × List Row
@@ -30,6 +30,7 @@ returns c = record {
   attached = by _ (Run 64) refl refl (refl, (omega arith, omega arith, refl));
   check = by _ Check refl refl refl;
   replay = by _ Replay refl refl refl;
+  json = by _ Json refl refl refl;
   gen = by _ (Generate 0 4) refl refl (refl, refl, (omega arith, omega arith, refl), (omega arith, omega arith, refl));
   gen_run = by _ (RunGenerated 1 4 2) refl refl (refl, (omega arith, omega arith, refl), (omega arith, omega arith, refl), (omega arith, omega arith, refl));
   nothing = refused _ _ _ refl;
