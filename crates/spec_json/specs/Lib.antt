@@ -1,0 +1,7 @@
+pub mod Shape
+pub mod Numbers
+pub mod Reading
+pub mod Grammar
+pub mod FaultLines
+pub mod Laws
+pub mod Examples
