@@ -1,8 +1,9 @@
 -- Small texts, with the scripts that they spell or their first faults.
-use Rattle.std.specs.Prelude.{◌≡◌, [], ◌∷◌, codes, Some, Ok, Err}
+use Rattle.std.specs.Prelude.{◌≡◌, [], ◌∷◌, ◌++◌, codes, Some, Ok, Err}
 use Rattle.mal_base.specs.declared.limit_kind.LimitKind.TheVariants.{Variables, Jobs, Revisions}
 use Rattle.spec_script.specs.Limits.{served}
-use Rattle.spec_script.specs.Examples.{job_with, second_profile, few}
+use Rattle.spec_script.specs.Examples.{asks_anew, few, job_with, second_profile}
+use Rattle.spec_json.specs.FaultLines.{job_words, line_of_words}
 use Rattle.spec_json.specs.Reading.{read_text}
 use Rattle.spec_json.specs.declared.fault.JsonFault.TheVariants.{NotJson, Shape, Range, Duplicate, VarTooLarge, Opposite, Limit}
 
@@ -12,6 +13,7 @@ pub record ReadingExamples : Type 0 where
       ≡ Ok (job_with (record { variables = 2; clauses = Some (2 ∷ 4 ∷ []) ∷ []; assumptions = 5 ∷ [] } ∷ []))
   pub other_order : read_text served (codes "{\"jobs\":[{\"steps\":[],\"slices\":4,\"profile\":2,\"demand\":1,\"priority\":1,\"name\":\"p\",\"tenant\":\"a\"}]}") ≡ Ok second_profile
   pub last_of_a_key : read_text served (codes "{\"jobs\":[{\"tenant\":\"b\",\"tenant\":\"a\",\"name\":\"p\",\"priority\":1,\"demand\":1,\"slices\":4,\"steps\":[]}]}") ≡ Ok (job_with [])
+  pub changed_ask : read_text served (codes "{\"jobs\":[{\"tenant\":\"a\",\"name\":\"p\",\"priority\":1,\"demand\":1,\"slices\":4,\"steps\":[{\"variables\":0,\"clauses\":[],\"assumptions\":[]},{\"demand\":2,\"priority\":5}]}]}") ≡ Ok asks_anew
 
 pub record FaultExamples : Type 0 where
   pub cut_short : read_text served (codes "{") ≡ Err NotJson
@@ -31,6 +33,9 @@ pub record FaultExamples : Type 0 where
   pub variable_too_large : read_text served (codes "{\"jobs\":[{\"tenant\":\"a\",\"name\":\"p\",\"priority\":1,\"demand\":1,\"slices\":4,\"steps\":[{\"variables\":1,\"clauses\":[[2,-2]],\"assumptions\":[1,-1]}]}]}") ≡ Err (VarTooLarge 1)
   pub assumption_too_large : read_text served (codes "{\"jobs\":[{\"tenant\":\"a\",\"name\":\"p\",\"priority\":1,\"demand\":1,\"slices\":4,\"steps\":[{\"variables\":1,\"clauses\":[],\"assumptions\":[-2]}]}]}") ≡ Err (VarTooLarge 1)
   pub opposite : read_text served (codes "{\"jobs\":[{\"tenant\":\"a\",\"name\":\"p\",\"priority\":1,\"demand\":1,\"slices\":4,\"steps\":[{\"variables\":3,\"clauses\":[],\"assumptions\":[3,2,-3,-2]}]}]}") ≡ Err (Opposite 1 2)
+  pub change_out_of_range : read_text served (codes "{\"jobs\":[{\"tenant\":\"a\",\"name\":\"p\",\"priority\":1,\"demand\":1,\"slices\":4,\"steps\":[{\"priority\":5,\"demand\":65}]}]}") ≡ Err (Range 1)
+  pub step_of_both : read_text served (codes "{\"jobs\":[{\"tenant\":\"a\",\"name\":\"p\",\"priority\":1,\"demand\":1,\"slices\":4,\"steps\":[{\"priority\":5,\"demand\":6,\"variables\":1}]}]}") ≡ Err (Shape 1)
+  pub line : line_of_words (job_words 1 (codes "Opposite" ∷ codes "2" ∷ [])) ≡ codes "fault: json job 1 Opposite 2" ++ 10 ∷ []
 
 -- small texts that pass limits
 pub record LimitExamples : Type 0 where

@@ -1,6 +1,6 @@
 -- Which script a description spells.
 use Rattle.std.specs.Prelude.{◌≡◌, ℕ, ◌≤◌, true, ℤ, pos, List, [], ◌∷◌, ◌++◌, map, codes, Option, Some}
-use Rattle.mal_base.specs.Asks.{Terms}
+use Rattle.mal_base.specs.Asks.{IsWeight, Terms, Weighed}
 use Rattle.mal_base.specs.Formulas.{is_within}
 use Rattle.mal_revision.specs.Posted.{Posted}
 use Rattle.spec_text.specs.Numbers.{number_of}
@@ -8,11 +8,11 @@ use Rattle.spec_dimacs.specs.Merged.{IsClauseOf}
 use Rattle.spec_script.specs.Limits.{Limits}
 use Rattle.spec_script.specs.Script.{ScriptedJob, Scripted}
 use Rattle.spec_script.specs.declared.step.Step.{Step}
-use Rattle.spec_script.specs.declared.step.Step.TheVariants.{Revise}
+use Rattle.spec_script.specs.declared.step.Step.TheVariants.{Revise, Reask}
 use Rattle.spec_script.specs.Formed.{MayFollow}
 use Rattle.serde_json.specs.Data.{Data, string}
 use Rattle.serde_json.specs.Find.{get}
-use Rattle.spec_json.specs.Shape.{at, is_document_shape, is_job_shape, is_revision_shape, json_in, jobs_in, steps_in, whole_in, whole_or}
+use Rattle.spec_json.specs.Shape.{at, is_document_shape, is_job_shape, is_revision_shape, is_weight_shape, json_in, jobs_in, steps_in, whole_in, whole_or}
 use Rattle.spec_json.specs.Numbers.{assumptions_in, clauses_in, variables_in}
 
 -- numbers say a clause, None where it is a tautology: they stand for literals of the variables up to this one, and the
@@ -38,9 +38,17 @@ pub record SaysRevision (d : Data) (r : Posted) : Type 0 where
   pub clauses : SayClauses r.variables (clauses_in d) r.clauses
   pub assumptions : SayClause r.variables (assumptions_in d) (Some r.assumptions)
 
+-- a value says a priority from 1 to 1,000 and a demand from 1 to 64
+pub record SaysWeight (d : Data) (w : Weighed) : Type 0 where
+  pub shape : is_weight_shape d ≡ true
+  pub priority : whole_in (at (codes "priority") d) ≡ pos w.priority
+  pub demand : whole_in (at (codes "demand") d) ≡ pos w.demand
+  pub formed : IsWeight w
+
 -- a value says a step
 abbrev pub SaysStep : Data → Step → Type 0
 SaysStep d (Revise r) = SaysRevision d r
+SaysStep d (Reask w) = SaysWeight d w
 
 -- each value says the step at its place
 abbrev pub SaySteps : List Data → List Step → Type 0

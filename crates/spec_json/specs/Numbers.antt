@@ -6,12 +6,12 @@ use Rattle.serde_json.specs.Data.{Data}
 use Rattle.spec_json.specs.Shape.{at, items_in, numbers_in, whole_in, whole_or}
 
 -- a number is 1 to this one
-abbrev pub is_up_to : ℕ → ℤ → Bool
-is_up_to max z = int_le (pos 1) z && int_le z (pos max)
+abbrev pub is_number_up_to : ℕ → ℤ → Bool
+is_number_up_to max z = int_le (pos 1) z && int_le z (pos max)
 
 -- the priority is 1 to 1,000 and the demand 1 to 64
 abbrev pub has_weight_range : Data → Bool
-has_weight_range d = is_up_to 1000 (whole_in (at (codes "priority") d)) && is_up_to 64 (whole_in (at (codes "demand") d))
+has_weight_range d = is_number_up_to 1000 (whole_in (at (codes "priority") d)) && is_number_up_to 64 (whole_in (at (codes "demand") d))
 
 -- of a step the priority and the demand
 abbrev pub weight_in : Data → Weighed
@@ -19,7 +19,7 @@ weight_in d = record { priority = nat_abs (whole_in (at (codes "priority") d)); 
 
 -- so they are, the slices are 1 to 4,096 and the profile, where there is one, 1 or 2
 abbrev pub has_ask_range : Data → Bool
-has_ask_range d = has_weight_range d && (is_up_to 4096 (whole_in (at (codes "slices") d)) && is_up_to 2 (whole_or (pos 1) (at (codes "profile") d)))
+has_ask_range d = has_weight_range d && (is_number_up_to 4096 (whole_in (at (codes "slices") d)) && is_number_up_to 2 (whole_or (pos 1) (at (codes "profile") d)))
 
 -- what a job asks for; its profile is 1 where it names none
 abbrev pub ask_in : Data → Terms

@@ -10,12 +10,12 @@ use Rattle.spec_dimacs.specs.Reading.{◌>>=◌, code_of}
 use Rattle.spec_script.specs.Limits.{Limits}
 use Rattle.spec_script.specs.Script.{ScriptedJob, Scripted, revisions_in}
 use Rattle.spec_script.specs.declared.step.Step.{Step}
-use Rattle.spec_script.specs.declared.step.Step.TheVariants.{Revise}
+use Rattle.spec_script.specs.declared.step.Step.TheVariants.{Revise, Reask}
 use Rattle.spec_script.specs.Reading.{is_job, has_room}
 use Rattle.spec_script.specs.Formed.{with_name, tenants_of, clauses_of, clause_literals}
 use Rattle.serde_json.specs.Data.{Data}
 use Rattle.spec_json.specs.Shape.{at, is_document_shape, is_job_shape, is_revision, json_in, jobs_in, steps_in, text_in}
-use Rattle.spec_json.specs.Numbers.{ask_in, assumptions_in, clauses_in, has_ask_range, has_number, is_above, is_none, variables_in}
+use Rattle.spec_json.specs.Numbers.{ask_in, assumptions_in, clauses_in, has_ask_range, has_number, has_weight_range, is_above, is_none, variables_in, weight_in}
 use Rattle.spec_json.specs.declared.fault.JsonFault.{JsonFault}
 use Rattle.spec_json.specs.declared.fault.JsonFault.TheVariants.{NotJson, Shape, Range, Duplicate, VarTooLarge, Opposite, Limit}
 
@@ -51,9 +51,13 @@ revised job steps d =
     if has_number (is_above (nat_abs (variables_in d))) (clauses_in d) (assumptions_in d) then Err (VarTooLarge job) else
     with_consistent job steps (revision_in d) (clash (sorted (literals (assumptions_in d))))
 
+-- the steps of a job with a change of its priority and its demand more
+abbrev pub reasked : ℕ → List Step → Data → Result (List Step) JsonFault
+reasked job steps d = if not (has_weight_range d) then Err (Range job) else Ok (steps ++ Reask (weight_in d) ∷ [])
+
 -- the steps of a job with the step of a value more
 abbrev pub stepped : ℕ → List Step → Data → Result (List Step) JsonFault
-stepped job steps d = revised job steps d
+stepped job steps d = if is_revision d then revised job steps d else reasked job steps d
 
 -- the same with the steps of several values, one behind another
 abbrev pub all_stepped : ℕ → List Step → List Data → Result (List Step) JsonFault
