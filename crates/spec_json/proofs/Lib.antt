@@ -1,1 +1,7 @@
 pub mod ExampleLemmas
+pub mod Numbering
+pub mod Saying
+pub mod StepsRead
+pub mod Steps
+pub mod Jobs
+pub mod Firsts

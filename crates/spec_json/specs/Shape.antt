@@ -60,9 +60,12 @@ is_whole d = is_some (whole d)
 abbrev pub is_name_text : Data → Bool
 is_name_text d = option_map_or is_name (as_str d) false
 
+abbrev pub is_list : Data → Bool
+is_list d = is_some (as_array d)
+
 -- a list, each value of which passes a test
 abbrev pub is_list_of : (Data → Bool) → Data → Bool
-is_list_of test d = option_map_or (λ items. list_all test (list_of items)) (as_array d) false
+is_list_of test d = is_list d && list_all test (items_in d)
 
 -- a list of whole numbers
 abbrev pub is_numbers : Data → Bool
@@ -102,7 +105,7 @@ is_job_shape d = (key_count d == (if is_some (get (codes "profile") d) then 7 el
 
 -- exactly jobs, a list
 abbrev pub is_document_shape : Data → Bool
-is_document_shape d = (key_count d == 1) && has (λ jobs. is_some (as_array jobs)) (codes "jobs") d
+is_document_shape d = (key_count d == 1) && has is_list (codes "jobs") d
 
 -- the jobs of a document
 abbrev pub jobs_in : Data → List Data

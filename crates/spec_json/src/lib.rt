@@ -4,7 +4,7 @@
 
 mod fault;
 
-ghost use Rattle.spec_json.specs.Examples.{FaultExamples, LimitExamples, ReadingExamples};
+ghost use Rattle.spec_json.specs.{Examples.{FaultExamples, LimitExamples, ReadingExamples}, Laws.{FaultIsFirst, SpelledIsRead, SpelledIsReadAgain, SpelledIsScript}};
 
 pub use fault::JsonFault;
 
@@ -24,4 +24,26 @@ pub fn fault_examples()
 #[tactic(auto, using(crate::proofs::ExampleLemmas::limit_examples))]
 pub fn limit_examples()
     ensures { LimitExamples }
+{}
+
+/// A text spells a script exactly where reading gives the script. So no text spells two, and none that has a first
+/// fault spells one.
+pub fn spelled_is_read()
+    ensures { SpelledIsRead }
+{}
+
+/// What a text spells is a script in form.
+pub fn spelled_is_script()
+    ensures { SpelledIsScript }
+{}
+
+/// What a text spells is read again from the one text that it is written as.
+pub fn spelled_is_read_again()
+    ensures { SpelledIsReadAgain }
+{}
+
+/// Nothing behind the first faulty job of a description counts.
+#[tactic(auto, using(crate::proofs::Firsts::fault_is_first))]
+pub fn fault_is_first()
+    ensures { FaultIsFirst }
 {}
