@@ -3,7 +3,7 @@ use Rattle.std.specs.Prelude.{◌≡◌, [], ◌∷◌, ◌++◌, codes, Some, O
 use Rattle.mal_base.specs.declared.limit_kind.LimitKind.TheVariants.{Variables, Jobs, Revisions}
 use Rattle.spec_script.specs.Limits.{served}
 use Rattle.spec_script.specs.Examples.{asks_anew, few, job_with, second_profile}
-use Rattle.spec_json.specs.FaultLines.{job_words, line_of_words}
+use Rattle.spec_json.specs.FaultLines.{fault_line}
 use Rattle.spec_json.specs.Reading.{read_text}
 use Rattle.spec_json.specs.declared.fault.JsonFault.TheVariants.{NotJson, Shape, Range, Duplicate, VarTooLarge, Opposite, Limit}
 
@@ -35,7 +35,7 @@ pub record FaultExamples : Type 0 where
   pub opposite : read_text served (codes "{\"jobs\":[{\"tenant\":\"a\",\"name\":\"p\",\"priority\":1,\"demand\":1,\"slices\":4,\"steps\":[{\"variables\":3,\"clauses\":[],\"assumptions\":[3,2,-3,-2]}]}]}") ≡ Err (Opposite 1 2)
   pub change_out_of_range : read_text served (codes "{\"jobs\":[{\"tenant\":\"a\",\"name\":\"p\",\"priority\":1,\"demand\":1,\"slices\":4,\"steps\":[{\"priority\":5,\"demand\":65}]}]}") ≡ Err (Range 1)
   pub step_of_both : read_text served (codes "{\"jobs\":[{\"tenant\":\"a\",\"name\":\"p\",\"priority\":1,\"demand\":1,\"slices\":4,\"steps\":[{\"priority\":5,\"demand\":6,\"variables\":1}]}]}") ≡ Err (Shape 1)
-  pub line : line_of_words (job_words 1 (codes "Opposite" ∷ codes "2" ∷ [])) ≡ codes "fault: json job 1 Opposite 2" ++ 10 ∷ []
+  pub line : fault_line (Opposite 1 2) ≡ codes "fault: json job 1 Opposite 2" ++ 10 ∷ []
 
 -- small texts that pass limits
 pub record LimitExamples : Type 0 where

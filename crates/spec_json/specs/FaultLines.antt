@@ -1,5 +1,6 @@
 -- The lines that tell a fault of a description.
 use Rattle.std.specs.Prelude.{ℕ, List, [], ◌∷◌, codes, Option, Some, None}
+use Rattle.std.specs.Option.{option_map_or}
 use Rattle.spec_text.specs.Lines.{line_of}
 use Rattle.spec_text.specs.Numbers.{decimal_word}
 use Rattle.spec_script.specs.FaultLines.{which_word}
@@ -24,3 +25,7 @@ fault_words OutOfMemory = None
 -- the line of these words
 abbrev pub line_of_words : List (List ℕ) → List ℕ
 line_of_words words = line_of (codes "fault:" ∷ codes "json" ∷ words)
+
+-- the line that tells a fault, nothing for want of memory
+abbrev pub fault_line : JsonFault → List ℕ
+fault_line fault = option_map_or line_of_words (fault_words fault) []
