@@ -3,5 +3,5 @@ pub mod Numbering
 pub mod Saying
 pub mod StepsRead
 pub mod Steps
-pub mod Jobs
+pub mod Reading
 pub mod Firsts

@@ -94,14 +94,17 @@ is_weight_shape d = (key_count d == 2) && (has is_whole (codes "priority") d && 
 abbrev pub is_step_shape : Data → Bool
 is_step_shape d = is_revision_shape d || is_weight_shape d
 
--- the names and the numbers of a job
-abbrev pub is_head_shape : Data → Bool
-is_head_shape d = (has is_name_text (codes "tenant") d && has is_name_text (codes "name") d)
-    && ((has is_whole (codes "priority") d && has is_whole (codes "demand") d) && (has is_whole (codes "slices") d && may_have is_whole (codes "profile") d))
+-- priority, demand and slices, and if wanted profile
+abbrev pub has_ask_shape : Data → Bool
+has_ask_shape d = (has is_whole (codes "priority") d && has is_whole (codes "demand") d) && (has is_whole (codes "slices") d && may_have is_whole (codes "profile") d)
+
+-- as many keys as a job has, and those that are no names
+abbrev pub has_job_frame : Data → Bool
+has_job_frame d = (key_count d == (if is_some (get (codes "profile") d) then 7 else 6)) && (has_ask_shape d && has (is_list_of is_step_shape) (codes "steps") d)
 
 -- exactly tenant, name, priority, demand, slices and steps, and if wanted profile
 abbrev pub is_job_shape : Data → Bool
-is_job_shape d = (key_count d == (if is_some (get (codes "profile") d) then 7 else 6)) && (is_head_shape d && has (is_list_of is_step_shape) (codes "steps") d)
+is_job_shape d = has_job_frame d && (has is_name_text (codes "tenant") d && has is_name_text (codes "name") d)
 
 -- exactly jobs, a list
 abbrev pub is_document_shape : Data → Bool

@@ -1,6 +1,10 @@
 //! Why a text is no description of jobs.
 
+ghost use Rattle.std.specs.Prelude.{◌≡◌};
+ghost use Rattle.spec_json.specs.declared.fault.JsonFault.TheVariants.{OutOfMemory};
+
 use mal_base::{LimitKind, Var};
+use std::alloc::AllocError;
 use thiserror::Error;
 
 /// Why a text is not read as a description of jobs: the first thing that is wrong with it, or want of memory. Jobs count
@@ -31,4 +35,12 @@ pub enum JsonFault {
     /// Memory ran out.
     #[error("out of memory")]
     OutOfMemory,
+}
+
+impl From<AllocError> for JsonFault {
+    ghost from_gives = { λ _ e. e ≡ OutOfMemory };
+
+    fn from(_error: AllocError) -> JsonFault {
+        JsonFault::OutOfMemory
+    }
 }

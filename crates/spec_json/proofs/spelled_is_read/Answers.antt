@@ -1,5 +1,5 @@
-use Rattle.spec_json.proofs.Jobs.{spelled_is_read}
+use Rattle.spec_json.proofs.Reading.{spelled-is-read}
 use Rattle.spec_json.proofs.spelled_is_read.Goals as goal
 
 pub returns : goal.returns
-returns c = spelled_is_read
+returns c = spelled-is-read

@@ -1,5 +1,5 @@
-use Rattle.spec_json.proofs.Jobs.{spelled_is_script}
+use Rattle.spec_json.proofs.Reading.{spelled-is-script}
 use Rattle.spec_json.proofs.spelled_is_script.Goals as goal
 
 pub returns : goal.returns
-returns c = spelled_is_script
+returns c = spelled-is-script

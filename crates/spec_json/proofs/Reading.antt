@@ -17,7 +17,7 @@ use Rattle.spec_script.proofs.Inversions.{bind_ok, not_refused, ok_is}
 use Rattle.spec_script.proofs.Again.{written-read}
 use Rattle.serde_json.specs.Data.{Data, null, boolean, number, string, array, object}
 use Rattle.serde_json.specs.Find.{get}
-use Rattle.spec_json.specs.Shape.{at, has, is_document_shape, is_head_shape, is_job_shape, is_list, is_list_of, is_name_text, is_revision, is_step_shape, items_in, jobs_in, json_in, key_count, steps_in, text_in, whole_in, whole_or}
+use Rattle.spec_json.specs.Shape.{at, has, is_document_shape, has_ask_shape, has_job_frame, is_job_shape, is_list, is_list_of, is_name_text, is_revision, is_step_shape, items_in, jobs_in, json_in, key_count, steps_in, text_in, whole_in, whole_or}
 use Rattle.spec_json.specs.Numbers.{ask_in, has_ask_range, has_weight_range, is_number_up_to}
 use Rattle.spec_json.specs.Reading.{admitted, all_stepped, job_of, of_jobs, read_json, read_text, with_job, with_jobs}
 use Rattle.spec_json.specs.Grammar.{SaysAsk, SaysJob, SayJobs, SaySteps, Spells}
@@ -98,9 +98,10 @@ record HasParts (d : Data) : Type 0 where
 
 parts-of : (d : Data) → is_job_shape d ≡ true → HasParts d
 parts-of d h =
-    let both : (is_head_shape d && has (is_list_of is_step_shape) (codes "steps") d) ≡ true = and-right (key_count d == cond (is_some (get (codes "profile") d)) 7 6) _ h in
-    let names : (has is_name_text (codes "tenant") d && has is_name_text (codes "name") d) ≡ true = and-left _ _ (and-left _ _ both) in
-    record { tenant = and-left _ _ names; name = and-right (has is_name_text (codes "tenant") d) _ names; steps = and-right (is_head_shape d) _ both }
+    let frame : has_job_frame d ≡ true = and-left _ _ h in
+    let names : (has is_name_text (codes "tenant") d && has is_name_text (codes "name") d) ≡ true = and-right (has_job_frame d) _ h in
+    let both : (has_ask_shape d && has (is_list_of is_step_shape) (codes "steps") d) ≡ true = and-right (key_count d == cond (is_some (get (codes "profile") d)) 7 6) _ frame in
+    record { tenant = and-left _ _ names; name = and-right (has is_name_text (codes "tenant") d) _ names; steps = and-right (has_ask_shape d) _ both }
 
 job-said : (limits : Limits) (jobs : List ScriptedJob) (d : Data) (after : List ScriptedJob) → with_job limits jobs d ≡ Ok after → OneJob limits jobs d after
 job-said limits jobs d after e =
@@ -203,8 +204,8 @@ spelled-read limits text s is =
     ap (λ (o : Option Data). read_json limits o >>= λ jobs. Ok (of_jobs jobs)) is.is_json
     ∙ ap (λ (x : Result (List ScriptedJob) JsonFault). x >>= λ jobs. Ok (of_jobs jobs)) (goes _ _ _ (holds (is_document_shape is.document) is.shape) ∙ jobs-read limits [] (jobs_in is.document) s.jobs is.jobs)
 
-pub spelled_is_read : SpelledIsRead
-spelled_is_read limits text s = (spelled-read limits text s, read-spelled limits text s)
+pub spelled-is-read : SpelledIsRead
+spelled-is-read limits text s = (spelled-read limits text s, read-spelled limits text s)
 
 -- ---- a script in form
 
@@ -214,8 +215,8 @@ all-follow limits jobs [] (j ∷ js) is = absurd is
 all-follow limits jobs (d ∷ ds) [] is = absurd is
 all-follow limits jobs (d ∷ ds) (j ∷ js) is = (is.1, all-follow limits (jobs ++ j ∷ []) ds js is.2)
 
-pub spelled_is_script : SpelledIsScript
-spelled_is_script limits text s is = all-follow limits [] (jobs_in is.document) s.jobs is.jobs
+pub spelled-is-script : SpelledIsScript
+spelled-is-script limits text s is = all-follow limits [] (jobs_in is.document) s.jobs is.jobs
 
-pub spelled_is_read_again : SpelledIsReadAgain
-spelled_is_read_again limits text s is = written-read limits s (spelled_is_script limits text s is)
+pub spelled-is-read-again : SpelledIsReadAgain
+spelled-is-read-again limits text s is = written-read limits s (spelled-is-script limits text s is)
