@@ -43,13 +43,18 @@ abbrev pub with_consistent : ℕ → List Step → Posted → Option ℕ → Res
 with_consistent job steps r None = with_revision job steps r
 with_consistent job steps r (Some var) = Err (Opposite job var)
 
+-- the same where each literal is of one of the variables
+abbrev pub bounded : ℕ → List Step → Data → Result (List Step) JsonFault
+bounded job steps d =
+    if has_number (is_above (nat_abs (variables_in d))) (clauses_in d) (assumptions_in d) then Err (VarTooLarge job) else
+    with_consistent job steps (revision_in d) (clash (sorted (literals (assumptions_in d))))
+
 -- the steps of a job with a revision more
 abbrev pub revised : ℕ → List Step → Data → Result (List Step) JsonFault
 revised job steps d =
     if int_lt (variables_in d) (pos 0) || has_number is_none (clauses_in d) (assumptions_in d) then Err (Range job) else
     if nat_lt 65536 (nat_abs (variables_in d)) then Err (Limit job Variables) else
-    if has_number (is_above (nat_abs (variables_in d))) (clauses_in d) (assumptions_in d) then Err (VarTooLarge job) else
-    with_consistent job steps (revision_in d) (clash (sorted (literals (assumptions_in d))))
+    bounded job steps d
 
 -- the steps of a job with a change of its priority and its demand more
 abbrev pub reasked : ℕ → List Step → Data → Result (List Step) JsonFault

@@ -1,0 +1,7 @@
+use Rattle.std.proofs.Common.{sym, ◌∙◌}
+use Rattle.spec_json.specs.Shape.{is_whole}
+use Rattle.mal_json.proofs.Items.{list_passes}
+use Rattle.mal_json.proofs.shape.is_numbers.Goals as goal
+
+pub returns-then-is_list : goal.returns-then-is_list
+returns-then-is_list c = list_passes is_whole _ _ _ c.items.ensures (sym c.is_list.ensures ∙ c.if-is_list.true) c.are_whole.ensures

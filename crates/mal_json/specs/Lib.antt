@@ -1,0 +1,3 @@
+pub mod ReadResult
+pub mod Values
+pub mod Counted
