@@ -1,3 +1,4 @@
 pub mod Parsed
 pub mod Items
 pub mod Merged
+pub mod Found

@@ -1,5 +1,5 @@
 -- Clauses of literals, and lists of them piece by piece.
-use Rattle.std.proofs.Common.{◌≡◌, ℕ, ◌≤◌, Bool, true, false, ◌&&◌, nat_lt, ℤ, nat_abs, List, [], ◌∷◌, map, Option, Some, None, refl, arith}
+use Rattle.std.proofs.Common.{◌≡◌, ℕ, ◌≤◌, true, false, ◌&&◌, nat_lt, ℤ, nat_abs, List, [], ◌∷◌, map, Some, None, refl, arith}
 use Rattle.std.specs.List.{list_all, list_any}
 use Rattle.mal_base.specs.Clauses.{IsTautology, HaveSame, clash, rises}
 use Rattle.mal_base.specs.Formulas.{is_clause_of, is_within}

@@ -1,7 +1,7 @@
 -- What the answers of the readers of a description's parts say.
-use Rattle.std.specs.Prelude.{◌≡◌, ◌≢◌, List, Option, Some, None, Result, Ok, Err}
+use Rattle.std.specs.Prelude.{◌≡◌, ◌≢◌, ℕ, List, Option, Some, None, Result, Ok, Err}
 use Rattle.serde_json.specs.Data.{Data}
-use Rattle.spec_json.specs.FaultLines.{fault_words, line_of_words}
+use Rattle.spec_json.specs.FaultLines.{fault_line}
 use Rattle.spec_json.specs.declared.fault.JsonFault.{JsonFault}
 use Rattle.spec_json.specs.declared.fault.JsonFault.TheVariants.{NotJson, OutOfMemory}
 
@@ -14,3 +14,8 @@ Gives view (Err e) read = e ≢ OutOfMemory → read ≡ Err e
 abbrev pub Parses : {X : Type 0} → (X → Data) → Result X JsonFault → Option Data → Type 0
 Parses view (Ok x) read = read ≡ Some (view x)
 Parses view (Err e) read = e ≢ OutOfMemory → (e ≡ NotJson) × (read ≡ None)
+
+-- the text is the line that tells the fault
+abbrev pub Tells : JsonFault → List ℕ → Type 0
+Tells OutOfMemory text = ⊥
+Tells fault text = text ≡ fault_line fault

@@ -2,9 +2,14 @@
 #![tactic(auto)]
 
 mod clauses;
+mod jobs;
 mod numbers;
 mod parsing;
+mod reading;
 mod shape;
 mod steps;
+mod telling;
 
+pub use reading::read;
 pub use spec_json::JsonFault;
+pub use telling::fault_line;

@@ -73,21 +73,30 @@ all_stepped job steps (d ∷ ds) = stepped job steps d >>= λ after. all_stepped
 abbrev pub job_of : Data → List Step → ScriptedJob
 job_of d steps = record { tenant = text_in (at (codes "tenant") d); name = text_in (at (codes "name") d); ask = ask_in d; steps = steps }
 
--- behind jobs stands one more, which may follow them
+-- behind jobs stands that of a value, where its steps are read
+abbrev pub with_steps : List ScriptedJob → Data → Result (List ScriptedJob) JsonFault
+with_steps jobs d = all_stepped (length jobs + 1) [] (steps_in d) >>= λ steps. Ok (jobs ++ job_of d steps ∷ [])
+
+-- the same where the job may follow them
 abbrev pub admitted : Limits → List ScriptedJob → List ℕ → List ℕ → Data → Result (List ScriptedJob) JsonFault
 admitted limits jobs tenant name d =
     if nat_lt limits.tenants (length (with_name (tenants_of jobs) tenant)) then Err (Limit (length jobs + 1) Tenants) else
     if list_any (is_job tenant name) jobs then Err (Duplicate (length jobs + 1)) else
     if not (has_room limits tenant jobs) then Err (Limit (length jobs + 1) Jobs) else
     if nat_lt limits.revisions (count_by is_revision (steps_in d)) then Err (Limit (length jobs + 1) Revisions) else
-    all_stepped (length jobs + 1) [] (steps_in d) >>= λ steps. Ok (jobs ++ job_of d steps ∷ [])
+    with_steps jobs d
+
+-- the same where its numbers are in range
+abbrev pub asked : Limits → List ScriptedJob → Data → Result (List ScriptedJob) JsonFault
+asked limits jobs d =
+    if not (has_ask_range d) then Err (Range (length jobs + 1)) else
+    admitted limits jobs (text_in (at (codes "tenant") d)) (text_in (at (codes "name") d)) d
 
 -- the jobs with the job of a value more
 abbrev pub with_job : Limits → List ScriptedJob → Data → Result (List ScriptedJob) JsonFault
 with_job limits jobs d =
     if not (is_job_shape d) then Err (Shape (length jobs + 1)) else
-    if not (has_ask_range d) then Err (Range (length jobs + 1)) else
-    admitted limits jobs (text_in (at (codes "tenant") d)) (text_in (at (codes "name") d)) d
+    asked limits jobs d
 
 -- the same with the jobs of several values, one behind another
 abbrev pub with_jobs : Limits → List ScriptedJob → List Data → Result (List ScriptedJob) JsonFault

@@ -1,4 +1,4 @@
-use Rattle.std.proofs.Common.{◌≡◌, ◌∷◌, ◌++◌, [], ℕ, List, Option, Some, OnOk, true, true≢false, sym, ap, ◌∙◌, subst}
+use Rattle.std.proofs.Common.{◌≡◌, ◌∷◌, ◌++◌, [], ℕ, List, Option, Some, OnOk, true≢false, sym, ap, ◌∙◌, subst}
 use Rattle.spec_dimacs.specs.Merged.{clause_of}
 use Rattle.mal_json.proofs.Merged.{merged_rising, merged_tautology}
 use Rattle.mal_json.proofs.clauses.push.Goals as goal

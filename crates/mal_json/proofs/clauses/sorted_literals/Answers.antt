@@ -1,4 +1,4 @@
-use Rattle.std.proofs.Common.{◌≡◌, ◌++◌, ℕ, List, ap, ◌∙◌}
+use Rattle.std.proofs.Common.{◌++◌, ℕ, List, ap, ◌∙◌}
 use Rattle.spec_dimacs.specs.Merged.{sorted}
 use Rattle.spec_json.specs.Reading.{literals}
 use Rattle.spec_script.proofs.Sorted.{sorted-unique}

@@ -1,4 +1,4 @@
-use Rattle.std.proofs.Common.{◌≡◌, ◌&&◌, ℕ, ℤ, true, List, Option, None, map, sym, ap, ◌∙◌, subst}
+use Rattle.std.proofs.Common.{◌≡◌, ◌&&◌, ℕ, List, None, map, sym, ap, ◌∙◌}
 use Rattle.std.specs.List.{list_all, list_any}
 use Rattle.mal_base.specs.Clauses.{clash, rises}
 use Rattle.mal_base.specs.Formulas.{is_clause_of, is_within}

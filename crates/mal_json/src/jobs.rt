@@ -1,0 +1,232 @@
+//! The jobs of a description, as they are read.
+
+ghost use Rattle.std.specs.Prelude.{◌≡◌, ◌+◌, ◌∷◌, ◌++◌, [], codes, count_by, length, map, true, Ok};
+ghost use Rattle.std.specs.{List.{list_any}, Str.{bytes_eq}};
+ghost use Rattle.serde_json.specs.View.{view};
+ghost use Rattle.spec_script.specs.{Formed.{tenants_of, with_name}, Limits.{served}, Reading.{has_room, is_job, is_of}};
+ghost use Rattle.spec_json.specs.{Numbers.{has_ask_range}, Reading.{admitted, asked, with_job, with_jobs, with_steps}, Shape.{at, is_revision, steps_in, text_in}};
+ghost use Rattle.mal_json.specs.ReadResult.{Gives};
+
+use crate::numbers;
+use crate::shape::{is_revision, names};
+use crate::steps::{all_stepped, limit};
+use mal_base::{LimitKind, Name};
+use mal_script::ScriptJob;
+use serde_json::Value;
+use spec_json::JsonFault;
+use std::alloc::Global;
+use std::marker::Model;
+
+/// The most tenants.
+const TENANTS: usize = 64;
+
+/// The most jobs of a tenant.
+const JOBS_OF_TENANT: usize = 64;
+
+/// The most jobs.
+const JOBS: usize = 4096;
+
+/// The most revisions of a job.
+const REVISIONS: usize = 256;
+
+/// The jobs of a description that are read, and their tenants, each once. Contracts see the jobs.
+#[derive(Drop)]
+pub struct Jobs {
+    jobs: Vec<ScriptJob>,
+    tenants: Vec<Name>,
+}
+
+impl Model for Jobs {
+    ghost use Rattle.std.specs.Prelude.{◌≡◌, List};
+    ghost use Rattle.spec_script.specs.{Formed.{tenants_of}, Script.{ScriptedJob}};
+
+    ghost Value = { List ScriptedJob };
+
+    ghost view = { λ j. j.jobs.items };
+
+    ghost invariant = { λ j. j.tenants.items ≡ tenants_of j.jobs.items };
+}
+
+impl Jobs {
+    /// No job.
+    pub fn new(alloc: Global) -> Jobs
+        ensures { result ≡ [] }
+    {
+        Jobs {
+            jobs: Vec::new(alloc),
+            tenants: Vec::new(alloc),
+        }
+    }
+
+    /// The jobs themselves.
+    pub fn finish(self) -> Vec<ScriptJob>
+        ensures { result.items ≡ self }
+    {
+        self.jobs
+    }
+
+    /// The number of the job that is read next, from 1 on.
+    fn next_number(&self) -> usize
+        ensures { result ≡ length self.now + 1 }
+    {
+        self.jobs.len() + 1
+    }
+
+    /// How many tenants there are with this one.
+    fn tenants_with(&self, tenant: Name) -> usize
+        ensures { result ≡ length (with_name (tenants_of self.now) tenant) }
+    {
+        if is_among(tenant, self.tenants.as_slice()) {
+            self.tenants.len()
+        } else {
+            self.tenants.len() + 1
+        }
+    }
+
+    /// The jobs with one more.
+    fn push(mut self, job: ScriptJob) -> Result<Jobs, JsonFault>
+        ensures { Gives (λ j. j) result (Ok (self ++ job ∷ [])) }
+    {
+        let tenant = job.tenant();
+        self.jobs.reserve(1)?;
+        if !is_among(tenant, self.tenants.as_slice()) {
+            self.tenants.reserve(1)?;
+            self.tenants.push_reserved(tenant);
+        }
+        self.jobs.push_reserved(job);
+        Ok(self)
+    }
+
+    /// The jobs with the job of a value more, whose steps are read now.
+    fn with_steps(self, tenant: Name, name: Name, value: &Value) -> Result<Jobs, JsonFault>
+        requires tenant { tenant ≡ text_in (at (codes "tenant") (view value.now)) }
+        requires name { name ≡ text_in (at (codes "name") (view value.now)) }
+        requires range { has_ask_range (view value.now) ≡ true }
+        ensures { Gives
+            (λ j. j) result
+            (with_steps self (view value.now)) }
+    {
+        let alloc = *self.jobs.allocator();
+        let steps = all_stepped(alloc, self.next_number(), numbers::items_at(value, "steps"))?;
+        let job = ScriptJob::new(tenant, name, numbers::ask(value), steps);
+        self.push(job)
+    }
+
+    /// The jobs with the job of a value more, where it may follow them.
+    fn admitted(self, tenant: Name, name: Name, value: &Value) -> Result<Jobs, JsonFault>
+        requires tenant { tenant ≡ text_in (at (codes "tenant") (view value.now)) }
+        requires name { name ≡ text_in (at (codes "name") (view value.now)) }
+        requires range { has_ask_range (view value.now) ≡ true }
+        ensures { Gives (λ j. j) result (admitted served self tenant name (view value.now)) }
+    {
+        let number = self.next_number();
+        if self.tenants_with(tenant) > TENANTS {
+            return Err(limit(number, LimitKind::Tenants));
+        }
+        if has_job(self.jobs.as_slice(), tenant, name) {
+            return Err(JsonFault::Duplicate { job: number });
+        }
+        if !has_room(self.jobs.as_slice(), tenant) {
+            return Err(limit(number, LimitKind::Jobs));
+        }
+        if revisions_in(value) > REVISIONS {
+            return Err(limit(number, LimitKind::Revisions));
+        }
+        self.with_steps(tenant, name, value)
+    }
+
+    /// The same where its numbers are in range.
+    fn asked(self, tenant: Name, name: Name, value: &Value) -> Result<Jobs, JsonFault>
+        requires tenant { tenant ≡ text_in (at (codes "tenant") (view value.now)) }
+        requires name { name ≡ text_in (at (codes "name") (view value.now)) }
+        ensures { Gives (λ j. j) result (asked served self (view value.now)) }
+    {
+        if !numbers::has_ask_range(value) {
+            return Err(JsonFault::Range {
+                job: self.next_number(),
+            });
+        }
+        self.admitted(tenant, name, value)
+    }
+
+    /// The jobs with the job of a value more.
+    pub fn with_job(self, value: &Value) -> Result<Jobs, JsonFault>
+        ensures { Gives (λ j. j) result (with_job served self (view value.now)) }
+    {
+        match names(*self.jobs.allocator(), value)? {
+            Some((tenant, name)) => self.asked(tenant, name, value),
+            None => Err(JsonFault::Shape {
+                job: self.next_number(),
+            }),
+        }
+    }
+}
+
+/// Whether a name is among these.
+fn is_among(name: Name, names: &[Name]) -> bool
+    ensures { result ≡ list_any (bytes_eq name) names.now }
+{
+    names.iter().any(|other| name == *other)
+}
+
+/// Whether a job is of this tenant.
+fn is_of(tenant: Name, job: &ScriptJob) -> bool
+    ensures { result ≡ is_of tenant job.now }
+{
+    tenant == job.tenant()
+}
+
+/// Whether a job is that of this tenant under this name.
+fn is_job(tenant: Name, name: Name, job: &ScriptJob) -> bool
+    ensures { result ≡ is_job tenant name job.now }
+{
+    is_of(tenant, job) && name == job.name()
+}
+
+/// Whether a tenant has a job of this name.
+fn has_job(jobs: &[ScriptJob], tenant: Name, name: Name) -> bool
+    ensures { result ≡ list_any (is_job tenant name) jobs.now }
+{
+    jobs.iter().any(|job| is_job(tenant, name, job))
+}
+
+/// The number of a tenant's jobs.
+fn jobs_of(jobs: &[ScriptJob], tenant: Name) -> usize
+    ensures { result ≡ count_by (is_of tenant) jobs.now }
+{
+    jobs.iter().filter(|job| is_of(tenant, job)).count()
+}
+
+/// Whether one job more of this tenant may begin.
+fn has_room(jobs: &[ScriptJob], tenant: Name) -> bool
+    ensures { result ≡ has_room served tenant jobs.now }
+{
+    jobs_of(jobs, tenant) < JOBS_OF_TENANT && jobs.len() < JOBS
+}
+
+/// How many of these values are revisions.
+fn count_revisions(values: &[Value]) -> usize
+    ensures { result ≡ count_by (λ v. is_revision (view v)) values.now }
+{
+    values.iter().filter(|value| is_revision(value)).count()
+}
+
+/// How many revisions a job has.
+fn revisions_in(value: &Value) -> usize
+    ensures { result ≡ count_by is_revision (steps_in (view value.now)) }
+{
+    count_revisions(numbers::items_at(value, "steps"))
+}
+
+/// The jobs that these values are, or the first fault of them.
+pub fn all_jobs(alloc: Global, values: &[Value]) -> Result<Vec<ScriptJob>, JsonFault>
+    ensures { Gives (λ v. v.items) result (with_jobs served [] (map view values.now)) }
+{
+    let mut jobs = Jobs::new(alloc);
+    let mut rest = values;
+    while let Some((value, behind)) = rest.split_first() {
+        jobs = jobs.with_job(value)?;
+        rest = behind;
+    }
+    Ok(jobs.finish())
+}
