@@ -4,6 +4,7 @@ pub mod Complaints
 pub mod Lawful
 pub mod Serving
 pub mod ScriptLemmas
+pub mod Descriptions
 -- what this crate alone cites
 pub mod Decimals
 pub mod Denials

@@ -9,6 +9,8 @@ use Rattle.mal_answer.specs.declared.answer.Texts.{Texts}
 use Rattle.mal_answer.specs.Summaries.{summary_line}
 use Rattle.mal_hall.specs.HallView.{HallView}
 use Rattle.mal_history.specs.Text.{history_text}
+use Rattle.mal_json.specs.ReadResult as json
+use Rattle.spec_json.specs.declared.fault.JsonFault.{JsonFault}
 use Rattle.mal_script.specs.declared.fault.ScriptFault.{ScriptFault}
 use Rattle.mal_script.specs.ReadResult.{Tells}
 use Rattle.spec_hall.specs.Events.{bare}
@@ -90,6 +92,10 @@ IsScriptRefusal text complaint = Complains (Refuses (running 1) text) NoLine com
 -- the complaint tells a fault of a script, or memory ran out
 abbrev pub TellsScriptFault : ScriptFault → Complaint → Type 0
 TellsScriptFault fault complaint = Complains (Tells fault) NoLine complaint
+
+-- the complaint tells a fault of a description, or memory ran out
+abbrev pub TellsDescriptionFault : JsonFault → Complaint → Type 0
+TellsDescriptionFault fault complaint = Complains (json.Tells fault) NoLine complaint
 
 -- the log of a run, with the summary of its replies for the output
 abbrev pub IsSummaryOf : ℕ → List ℕ → List ℕ → Result Texts Complaint → Type 0

@@ -5,6 +5,7 @@
 mod answer;
 mod checking;
 mod concluding;
+mod describing;
 mod generating;
 mod laws;
 mod reading;
@@ -15,6 +16,7 @@ mod words;
 pub use answer::{Complaint, Texts};
 pub use checking::check;
 pub use concluding::{BAD_WORDS, OUT_OF_MEMORY, complain, conclude};
+pub use describing::describe;
 pub use generating::generate_text;
 pub use laws::{commands_are_lawful, commands_have_own_words, run_replays};
 pub use reading::input;

@@ -7,8 +7,8 @@ use crate::generating::run_generated;
 use crate::replaying::replay_text;
 use crate::running::run_text;
 use mal_answer::{
-    BAD_WORDS, Complaint, OUT_OF_MEMORY, Request, Texts, check, complain, conclude, describe, generate_text,
-    input, request_of, usage_line,
+    BAD_WORDS, Complaint, OUT_OF_MEMORY, Request, Texts, check, complain, conclude, describe,
+    generate_text, input, request_of, usage_line,
 };
 use mal_io::{Sink, Source};
 use mal_pool::Gate;
