@@ -1,9 +1,8 @@
 //! The jobs of a description, as they are read.
 
 ghost use Rattle.std.specs.Prelude.{◌≡◌, ◌+◌, ◌∷◌, ◌++◌, [], codes, count_by, length, map, true, Ok};
-ghost use Rattle.std.specs.{List.{list_any}, Str.{bytes_eq}};
 ghost use Rattle.serde_json.specs.View.{view};
-ghost use Rattle.spec_script.specs.{Formed.{tenants_of, with_name}, Limits.{served}, Reading.{has_room, is_job, is_of}};
+ghost use Rattle.spec_script.specs.{Formed.{tenants_of, with_name}, Limits.{served}};
 ghost use Rattle.spec_json.specs.{Numbers.{has_ask_range}, Reading.{admitted, asked, with_job, with_jobs, with_steps}, Shape.{at, is_revision, steps_in, text_in}};
 ghost use Rattle.mal_json.specs.ReadResult.{Gives};
 
@@ -11,23 +10,11 @@ use crate::numbers;
 use crate::shape::{is_revision, names};
 use crate::steps::{all_stepped, limit};
 use mal_base::{LimitKind, Name};
-use mal_script::ScriptJob;
+use mal_script::{Limits, ScriptJob, has_job, has_room, is_among};
 use serde_json::Value;
 use spec_json::JsonFault;
 use std::alloc::Global;
 use std::marker::Model;
-
-/// The most tenants.
-const TENANTS: usize = 64;
-
-/// The most jobs of a tenant.
-const JOBS_OF_TENANT: usize = 64;
-
-/// The most jobs.
-const JOBS: usize = 4096;
-
-/// The most revisions of a job.
-const REVISIONS: usize = 256;
 
 /// The jobs of a description that are read, and their tenants, each once. Contracts see the jobs.
 #[derive(Drop)]
@@ -120,16 +107,17 @@ impl Jobs {
         ensures { Gives (λ j. j) result (admitted served self tenant name (view value.now)) }
     {
         let number = self.next_number();
-        if self.tenants_with(tenant) > TENANTS {
+        let limits = Limits::served();
+        if self.tenants_with(tenant) > limits.tenants {
             return Err(limit(number, LimitKind::Tenants));
         }
         if has_job(self.jobs.as_slice(), tenant, name) {
             return Err(JsonFault::Duplicate { job: number });
         }
-        if !has_room(self.jobs.as_slice(), tenant) {
+        if !has_room(self.jobs.as_slice(), limits, tenant) {
             return Err(limit(number, LimitKind::Jobs));
         }
-        if revisions_in(value) > REVISIONS {
+        if revisions_in(value) > limits.revisions {
             return Err(limit(number, LimitKind::Revisions));
         }
         self.with_steps(tenant, name, value)
@@ -160,48 +148,6 @@ impl Jobs {
             }),
         }
     }
-}
-
-/// Whether a name is among these.
-fn is_among(name: Name, names: &[Name]) -> bool
-    ensures { result ≡ list_any (bytes_eq name) names.now }
-{
-    names.iter().any(|other| name == *other)
-}
-
-/// Whether a job is of this tenant.
-fn is_of(tenant: Name, job: &ScriptJob) -> bool
-    ensures { result ≡ is_of tenant job.now }
-{
-    tenant == job.tenant()
-}
-
-/// Whether a job is that of this tenant under this name.
-fn is_job(tenant: Name, name: Name, job: &ScriptJob) -> bool
-    ensures { result ≡ is_job tenant name job.now }
-{
-    is_of(tenant, job) && name == job.name()
-}
-
-/// Whether a tenant has a job of this name.
-fn has_job(jobs: &[ScriptJob], tenant: Name, name: Name) -> bool
-    ensures { result ≡ list_any (is_job tenant name) jobs.now }
-{
-    jobs.iter().any(|job| is_job(tenant, name, job))
-}
-
-/// The number of a tenant's jobs.
-fn jobs_of(jobs: &[ScriptJob], tenant: Name) -> usize
-    ensures { result ≡ count_by (is_of tenant) jobs.now }
-{
-    jobs.iter().filter(|job| is_of(tenant, job)).count()
-}
-
-/// Whether one job more of this tenant may begin.
-fn has_room(jobs: &[ScriptJob], tenant: Name) -> bool
-    ensures { result ≡ has_room served tenant jobs.now }
-{
-    jobs_of(jobs, tenant) < JOBS_OF_TENANT && jobs.len() < JOBS
 }
 
 /// How many of these values are revisions.

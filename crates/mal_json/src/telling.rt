@@ -8,6 +8,7 @@ ghost use Rattle.mal_json.specs.ReadResult.{Tells};
 
 use itoa::Buffer;
 use mal_base::{LimitKind, Var};
+use mal_script::which_word;
 use mal_text::put_line;
 use spec_json::JsonFault;
 use std::alloc::{AllocError, Global};
@@ -67,18 +68,4 @@ fn told(alloc: Global, job: usize, words: &[&[u8]]) -> Result<Vec<u8>, AllocErro
     text.extend_from_slice(b"fault: json job ")?;
     put_line(&mut text, Buffer::new().format(job).as_bytes(), words)?;
     Ok(text)
-}
-
-/// The word of a limit.
-fn which_word(which: LimitKind) -> &'static [u8]
-    ensures { result.now ≡ which_word which }
-{
-    match which {
-        LimitKind::Variables => b"Variables",
-        LimitKind::Clauses => b"Clauses",
-        LimitKind::Literals => b"Literals",
-        LimitKind::Tenants => b"Tenants",
-        LimitKind::Jobs => b"Jobs",
-        LimitKind::Revisions => b"Revisions",
-    }
 }

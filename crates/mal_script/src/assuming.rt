@@ -38,8 +38,12 @@ fn closed(lits: Vec<Lit>, above: bool, behind: &[u8]) -> Result<Vec<Lit>, Assump
     Ok(lits)
 }
 
-/// The literals of a line's words up to the 0 that ends it, in their order and with repeats.
-fn literals(alloc: Global, line: &[u8], variables: u32) -> Result<Vec<Lit>, AssumptionFault>
+/// The literals of a line's words, of variables up to this one (at most 65,536), in their order and with repeats, up to
+/// the 0 that ends the line.
+///
+/// Errors, the first that holds: `BadLine` where the words have another form, `Range` where a literal is above the
+/// variables. `OutOfMemory` may come at any time.
+pub fn literals(alloc: Global, line: &[u8], variables: u32) -> Result<Vec<Lit>, AssumptionFault>
     requires { variables ≤ 65536 }
     ensures value { GivesAssumed
         (λ v. v.items) result (literals_from [] false (map (λ word. number_in word variables) (words_of line.now))) }

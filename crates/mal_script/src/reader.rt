@@ -1,9 +1,8 @@
 //! A script of which some lines were read.
 
-ghost use Rattle.std.specs.Prelude.{◌≡◌, ◌≢◌, ◌∷◌, [], ℕ, List, MatchOption, count_by};
-ghost use Rattle.std.specs.{List.{list_any}, Str.{bytes_eq}};
+ghost use Rattle.std.specs.Prelude.{◌≡◌, ◌≢◌, ◌∷◌, [], ℕ, List, MatchOption};
 ghost use Rattle.spec_text.specs.Inputs.{words_of};
-ghost use Rattle.spec_script.specs.Reading.{unread, named, after_tenant, is_of, is_job, has_room, admitted, of_tenant, after_job, outside, inside_job, inside, after_counted, after_row, at_end, after_end, going_on};
+ghost use Rattle.spec_script.specs.Reading.{unread, named, after_tenant, admitted, of_tenant, after_job, outside, inside_job, inside, after_counted, after_row, at_end, after_end, going_on};
 ghost use Rattle.mal_script.specs.ReadResult.{Gives, of_jobs};
 
 use crate::asks::asked;
@@ -11,6 +10,7 @@ use crate::fault::LineRefusal;
 use crate::limits::Limits;
 use crate::opened::{OpenJob, SplitLine};
 use crate::script::ScriptJob;
+use crate::taken::{has_job, has_room, is_among};
 use mal_base::{Ask, LimitKind, LineFault, Name};
 use mal_dimacs::is_comment;
 use mal_text::first_word;
@@ -255,50 +255,6 @@ impl Reader {
             Some(job) => Err(job.unended()),
         }
     }
-}
-
-/// Whether a name is among these.
-fn is_among(name: Name, names: &[Name]) -> bool
-    ensures { result ≡ list_any (bytes_eq name) names.now }
-{
-    names.iter().any(|other| name == *other)
-}
-
-/// Whether a job is of this tenant.
-fn is_of(tenant: Name, job: &ScriptJob) -> bool
-    ensures { result ≡ is_of tenant job.now }
-{
-    tenant == job.tenant()
-}
-
-/// Whether a job is that of this tenant under this name.
-fn is_job(tenant: Name, name: Name, job: &ScriptJob) -> bool
-    ensures { result ≡ is_job tenant name job.now }
-{
-    is_of(tenant, job) && name == job.name()
-}
-
-/// Whether a tenant has a job of this name.
-fn has_job(jobs: &[ScriptJob], tenant: Name, name: Name) -> bool
-    ensures { result ≡ list_any (is_job tenant name) jobs.now }
-{
-    // Along the list, names of jobs only where the tenant is the same: 64 tenants with 64 jobs each cost some eight
-    // million comparisons.
-    jobs.iter().any(|job| is_job(tenant, name, job))
-}
-
-/// The number of a tenant's jobs.
-fn jobs_of(jobs: &[ScriptJob], tenant: Name) -> usize
-    ensures { result ≡ count_by (is_of tenant) jobs.now }
-{
-    jobs.iter().filter(|job| is_of(tenant, job)).count()
-}
-
-/// Whether one job more of this tenant may begin.
-fn has_room(jobs: &[ScriptJob], limits: Limits, tenant: Name) -> bool
-    ensures { result ≡ has_room limits tenant jobs.now }
-{
-    jobs_of(jobs, tenant) < limits.jobs_of_tenant && jobs.len() < limits.jobs
 }
 
 /// The only word of a line. None exactly where the line has no word or more than one.

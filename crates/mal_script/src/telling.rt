@@ -121,7 +121,7 @@ fn block_line(alloc: Global, at: Place, fault: BlockFault) -> Result<Vec<u8>, Al
 }
 
 /// The word of a limit.
-fn which_word(which: LimitKind) -> &'static [u8]
+pub fn which_word(which: LimitKind) -> &'static [u8]
     ensures { result.now ≡ which_word which }
 {
     match which {
