@@ -20,6 +20,7 @@ pub mod FollowLemmas
 pub mod LeftLemmas
 pub mod UnknownLemmas
 pub mod UpToLemmas
+pub mod ReplyLemmas
 -- what this crate alone cites
 mod ExampleLemmas
 mod ProfileExampleLemmas
@@ -42,7 +43,6 @@ mod TurnLemmas
 mod CourseLemmas
 mod AlongLemmas
 mod SliceLemmas
-mod ReplyLemmas
 mod FollowingLemmas
 mod TallyLemmas
 mod UnknownExampleLemmas
