@@ -1,0 +1,16 @@
+-- A search: what is asked next follows from what was told, until an outcome is reached.
+use Rattle.std.specs.Prelude.{List}
+use Rattle.mal_base.specs.Asks.{Terms}
+use Rattle.spec_report.specs.Replies.{ReplyBody}
+use Rattle.spec_course.specs.Course.{Next, Leads}
+use Rattle.spec_course.specs.Course.Next.{Ends}
+use Rattle.spec_job.specs.KeyedJob.{Key}
+use Rattle.spec_hall.specs.Events.{Event}
+use Rattle.spec_inquiry.specs.Rounds.{Round, IsInquiry, asked_in}
+
+-- a search came to this outcome: a job of this key and ask was asked in rounds, whose questions lead from the first to it
+pub record IsSearch {S O : Type 0} (k : Key) (ask : Terms) (step : S → ReplyBody → Next S O) (first : Next S O) (outcome : O) : Type 0 where
+  pub rounds : List Round
+  pub history : List Event
+  pub inquiry : IsInquiry k ask rounds history
+  pub leads : Leads step first (asked_in rounds) (Ends outcome)
