@@ -1,6 +1,5 @@
 -- The worked example of an inquiry.
 use Rattle.std.proofs.Common.{◌≡◌, ℕ, zero, suc, ◌<◌, ◌≤◌, List, [], ◌∷◌, ◌++◌, length, refl, sym, ◌∙◌, ap, arith}
-use Rattle.mal_base.specs.Asks.{Terms}
 use Rattle.mal_base.specs.declared.verdict.Outcome.TheVariants.{Ran}
 use Rattle.mal_revision.specs.Posted.{Posted}
 use Rattle.spec_seq.specs.Luby.{luby}
@@ -8,16 +7,13 @@ use Rattle.spec_learn.specs.Learning.{analysed_in}
 use Rattle.spec_search.specs.Slice.{slice}
 use Rattle.spec_balance.specs.Fair.{IsFair, demand_at, volume_at}
 use Rattle.spec_job.specs.Examples.{ask, one_of_two}
-use Rattle.spec_job.specs.KeyedJob.{KeyedJob}
-use Rattle.spec_job.specs.SoloMachine.{solo}
-use Rattle.spec_hall.specs.Driven.{AreTurns, IsIdle}
+use Rattle.spec_hall.specs.Driven.{AreTurns}
 use Rattle.spec_hall.specs.Events.{Event, Open, Revise, Balance, Start, Finish}
 use Rattle.spec_hall.specs.Examples.{share}
-use Rattle.spec_hall.specs.Legal.{IsBalanceDue, MayBalance, MayOpen, MayRevise}
-use Rattle.spec_hall.specs.Own.{own}
+use Rattle.spec_hall.specs.Legal.{IsBalanceDue, MayOpen}
 use Rattle.spec_hall.specs.States.{Live, balanced, lives, states, titled}
 use Rattle.spec_inquiry.specs.Rounds.{IsRound, round_events}
-use Rattle.spec_inquiry.specs.Examples.{HasRounds, key, first, second, none_of_two, one_slice}
+use Rattle.spec_inquiry.specs.Examples.{HasRounds, TellsOfBoth, key, first, second, none_of_two, one_slice}
 
 may-open : MayOpen [] key (ask 1 4)
 may-open = record {
@@ -142,3 +138,7 @@ second-round = record {
 
 pub rounds : HasRounds
 rounds = record { opened = may-open; asked = (first-round, (second-round, refl)) }
+
+pub tells-of_both : TellsOfBoth
+unfolding luby slice analysed_in
+tells-of_both = (refl, refl)

@@ -5,5 +5,7 @@ pub mod FirstLemmas
 pub mod OpenLemmas
 pub mod RoundLemmas
 pub mod StayLemmas
+pub mod ToldLemmas
 -- what this crate alone cites
+mod GrowLemmas
 mod ExampleLemmas

@@ -1,5 +1,5 @@
 -- Evidence stays where more revisions are posted, so what was told in a round keeps it.
-use Rattle.std.proofs.Common.{◌≡◌, ℕ, zero, suc, ◌+◌, ◌<◌, List, [], ◌∷◌, ◌++◌, append_assoc, append-nil, length, take, Option, Some, refl, sym, ap, subst, ◌∙◌, arith}
+use Rattle.std.proofs.Common.{◌≡◌, ℕ, zero, suc, ◌+◌, ◌<◌, List, [], ◌∷◌, ◌++◌, append_assoc, length, take, Option, Some, refl, sym, ap, subst, arith}
 use Rattle.std.specs.Prelude.{slice_get}
 use Rattle.std.proofs.lemmas.List.{take-append-le}
 use Rattle.std.proofs.lemmas.Option.{slice_get_within}
@@ -19,7 +19,7 @@ use Rattle.spec_inquiry.proofs.OpenLemmas.{opened-open, round-open}
 use Rattle.spec_inquiry.proofs.RoundLemmas.{round-legal}
 
 -- what stands in a list stands in a longer one
-get-front : {X : Type 0} (xs ys : List X) (n : ℕ) (x : X) → slice_get xs n ≡ Some x → slice_get (xs ++ ys) n ≡ Some x
+pub get-front : {X : Type 0} (xs ys : List X) (n : ℕ) (x : X) → slice_get xs n ≡ Some x → slice_get (xs ++ ys) n ≡ Some x
 get-front [] ys n x e = absurd (cc)
 get-front (y ∷ xs) ys zero x e = e
 get-front (y ∷ xs) ys (suc n) x e = get-front xs ys n x e
@@ -41,7 +41,7 @@ round-evident k rs past x is legal round =
     subst (λ (ps : List Posted). IsEvidence ps (length rs) x.asked.told) (round-open k rs past (suc (length rs)) x is).posted
     (legal-is_evident 1 now k (length rs) x.asked.told (round-legal k past (suc (length rs)) x round legal) round.told)
 
-some-same : {X : Type 0} (x y : X) → ◌≡◌ {A = Option X} (Some x) (Some y) → x ≡ y
+pub some-same : {X : Type 0} (x y : X) → ◌≡◌ {A = Option X} (Some x) (Some y) → x ≡ y
 some-same x y e = cc
 
 length-more : (rs : List Posted) (p : Posted) (n : ℕ) → length (rs ++ p ∷ []) + n ≡ length rs + suc n
@@ -52,7 +52,7 @@ one-more : (rs : List Posted) (p : Posted) → suc (length rs) ≡ length (rs ++
 one-more [] p = refl
 one-more (q ∷ rs) p = ap suc (one-more rs p)
 
-plus-none : (n : ℕ) → n ≡ n + 0
+pub plus-none : (n : ℕ) → n ≡ n + 0
 plus-none n = omega arith
 
 rounds-evident : (k : Key) (rs : List Posted) (past : List Event) (xs : List Round) (history : List Event) (r : ℕ) (x : Round) → IsOpen k rs past → Legal 1 past → AreRounds k past (suc (length rs)) xs history → slice_get xs r ≡ Some x → IsEvidence (rs ++ revisions_in xs) (length rs + r) x.asked.told

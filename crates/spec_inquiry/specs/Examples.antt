@@ -1,14 +1,17 @@
 -- A job is asked twice: for a model of a clause, and then under assumptions at odds with it.
-use Rattle.std.specs.Prelude.{ℕ, true, false, List, [], ◌∷◌}
+use Rattle.std.specs.Prelude.{◌≡◌, ℕ, true, false, List, [], ◌∷◌, Some}
 use Rattle.mal_base.specs.declared.verdict.Outcome.TheVariants.{Ran}
 use Rattle.mal_revision.specs.Posted.{Posted}
 use Rattle.spec_report.specs.Replies.{Model, Proof}
 use Rattle.spec_job.specs.Examples.{ask, line, one_of_two}
 use Rattle.spec_job.specs.KeyedJob.{Key}
+use Rattle.spec_job.specs.Replies.{body_of}
+use Rattle.spec_job.specs.SoloMachine.{solo}
 use Rattle.spec_hall.specs.Driven.{Turn, Balances, Slices}
 use Rattle.spec_hall.specs.Events.{Event, Open, Revise, Balance, Start, Finish}
 use Rattle.spec_hall.specs.Examples.{share}
 use Rattle.spec_hall.specs.Examples as hall
+use Rattle.spec_hall.specs.Own.{own}
 use Rattle.spec_inquiry.specs.Asking.{round_of}
 use Rattle.spec_inquiry.specs.Rounds.{Round, IsInquiry}
 
@@ -41,3 +44,7 @@ history = Open key (ask 1 4) ∷ round 1 one_of_two (round 2 none_of_two [])
 -- a worked example of an inquiry of two rounds, with its whole history
 abbrev pub HasRounds : Type 0
 HasRounds = IsInquiry key (ask 1 4) (first ∷ second ∷ []) history
+
+-- at its end the job's machine tells of both revisions what was told in their rounds
+abbrev pub TellsOfBoth : Type 0
+TellsOfBoth = (body_of 1 (solo (own key history)) ≡ Some first.asked.told) × (body_of 2 (solo (own key history)) ≡ Some second.asked.told)

@@ -1,5 +1,5 @@
 -- What holds of inquiries, in the form in which the law functions state it.
-use Rattle.std.specs.Prelude.{◌≡◌, ℕ, suc, ◌+◌, ◌<◌, ◌≤◌, true, List, [], ◌∷◌, ◌++◌, length, Option, Some, slice_get}
+use Rattle.std.specs.Prelude.{◌≡◌, ℕ, suc, ◌<◌, ◌≤◌, List, [], ◌∷◌, ◌++◌, length, Option, Some, slice_get}
 use Rattle.mal_base.specs.Asks.{Terms}
 use Rattle.mal_base.specs.Formulas.{literals_of}
 use Rattle.mal_revision.specs.Posted.{Posted}
@@ -45,6 +45,18 @@ abbrev pub ToldIsEvident : Type 0
 ToldIsEvident =
     (k : Key) (ask : Terms) (rounds : List Round) (history : List Event) (r : ℕ) (x : Round) → IsInquiry k ask rounds history
     → slice_get rounds r ≡ Some x → IsEvidence (revisions_in rounds) r x.asked.told
+
+-- what a job's machine tells of a revision in a legal history, it tells whatever follows
+abbrev pub LegalToldStays : Type 0
+LegalToldStays =
+    (workers : ℕ) (past later : List Event) (k : Key) (n : ℕ) (told : ReplyBody) → Legal workers (past ++ later)
+    → body_of n (solo (own k past)) ≡ Some told → body_of n (solo (own k (past ++ later))) ≡ Some told
+
+-- so the machine of the whole history of an inquiry tells of each revision what was told in its round
+abbrev pub ToldStays : Type 0
+ToldStays =
+    (k : Key) (ask : Terms) (rounds : List Round) (history : List Event) (r : ℕ) (x : Round) → IsInquiry k ask rounds history
+    → slice_get rounds r ≡ Some x → body_of (suc r) (solo (own k history)) ≡ Some x.asked.told
 
 -- where the revisions behind the first only assume, each has the variables and the clauses of the first
 abbrev pub FirstHasAll : Type 0

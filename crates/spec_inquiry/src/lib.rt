@@ -2,7 +2,7 @@
 //! told. Definitions, and the laws about them as the contracts of functions without a body.
 #![tactic(auto)]
 
-ghost use Rattle.spec_inquiry.specs.{Examples.{HasRounds}, Laws.{AssumingMayAsk, FirstHasAll, InquiryGrows, InquiryIsLegal, InquiryIsOpen, InquiryIsSupported, LegalIsEvident, ToldIsEvident}};
+ghost use Rattle.spec_inquiry.specs.{Examples.{HasRounds, TellsOfBoth}, Laws.{AssumingMayAsk, FirstHasAll, InquiryGrows, InquiryIsLegal, InquiryIsOpen, InquiryIsSupported, LegalIsEvident, LegalToldStays, ToldIsEvident, ToldStays}};
 
 /// The history of an inquiry is legal, its job is open, and one more round may follow.
 pub fn inquiry_is_legal()
@@ -17,6 +17,13 @@ pub fn told_is_evident()
     ensures evident { ToldIsEvident }
 {}
 
+/// What is told of a revision stays, whatever follows in a legal history: the replies to all revisions of an inquiry can
+/// be read off its end.
+pub fn told_stays()
+    ensures legal { LegalToldStays }
+    ensures told { ToldStays }
+{}
+
 /// Where the revisions behind the first only assume, all have the variables and the clauses of the first, there is room
 /// for 256 of them, and what is told has its evidence of these clauses.
 pub fn first_has_all()
@@ -25,7 +32,8 @@ pub fn first_has_all()
     ensures supported { InquiryIsSupported }
 {}
 
-/// A worked example of an inquiry: a model is told first, and then that the assumptions fail.
+/// A worked example of an inquiry: a model is told first, and then that the assumptions fail. At its end both are told.
 pub fn inquiry_examples()
-    ensures { HasRounds }
+    ensures rounds { HasRounds }
+    ensures told { TellsOfBoth }
 {}

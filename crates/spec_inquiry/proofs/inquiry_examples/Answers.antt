@@ -1,5 +1,5 @@
-use Rattle.spec_inquiry.proofs.ExampleLemmas.{rounds}
+use Rattle.spec_inquiry.proofs.ExampleLemmas.{rounds, tells-of_both}
 use Rattle.spec_inquiry.proofs.inquiry_examples.Goals as goal
 
 pub returns : goal.returns
-returns c = rounds
+returns c = record { rounds = rounds; told = tells-of_both }
