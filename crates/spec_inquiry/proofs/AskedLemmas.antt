@@ -1,5 +1,5 @@
 -- Asking once more: why a hall refuses, and the round that came.
-use Rattle.std.proofs.Common.{◌≡◌, ℕ, zero, suc, ◌+◌, ◌<◌, ◌≤◌, Bool, true, false, ◌&&◌, not, cond, List, [], ◌∷◌, ◌++◌, append_assoc, length, map, flat_map, Option, Some, None, Err, inl, inr, ◌⊎◌, refl, sym, ap, subst, ◌∙◌, arith}
+use Rattle.std.proofs.Common.{◌≡◌, ℕ, zero, suc, ◌<◌, ◌≤◌, Bool, true, false, ◌&&◌, not, cond, List, [], ◌∷◌, ◌++◌, append_assoc, length, map, flat_map, Option, Some, None, Err, inl, inr, ◌⊎◌, refl, sym, ap, subst, ◌∙◌, arith}
 use Rattle.std.specs.Prelude.{slice_get, get_or}
 use Rattle.std.specs.Option.{option_map}
 use Rattle.std.proofs.lemmas.Bool.{and_parts, ltb-false}
@@ -18,7 +18,6 @@ use Rattle.spec_report.specs.Replies.{ReplyBody}
 use Rattle.spec_job.specs.KeyedJob.{Key, KeyedJob}
 use Rattle.spec_job.specs.Replies.{body_by, body_of}
 use Rattle.spec_job.specs.SoloMachine.{SoloMachine, solo, is_live}
-use Rattle.spec_course.specs.Course.{Asked}
 use Rattle.spec_hall.specs.Calls.{Opens, Revises, IsOpening, IsRevising, wanted}
 use Rattle.spec_hall.specs.Driven.{GrowsByTurns, IsAtEnd, IsIdle, events_in, is_done}
 use Rattle.spec_hall.specs.Events.{Event, Revise}
@@ -30,7 +29,7 @@ use Rattle.spec_run.specs.Posting.{IsOpen}
 use Rattle.spec_run.proofs.OpenLemmas.{open-found}
 use Rattle.spec_inquiry.specs.Asking.{MayAsk, HasAsked, round_of}
 use Rattle.spec_inquiry.specs.Evidence.{IsEvidence}
-use Rattle.spec_inquiry.specs.Rounds.{Round, IsRound, IsInquiry, round_events, revisions_in}
+use Rattle.spec_inquiry.specs.Rounds.{Round, IsRound, IsInquiry, round_events}
 use Rattle.spec_inquiry.proofs.OpenLemmas.{inquiry-is_open}
 use Rattle.spec_inquiry.proofs.RoundLemmas.{inquiry-grows}
 use Rattle.spec_inquiry.proofs.StayLemmas.{told-is_evident}

@@ -1,26 +1,22 @@
 -- Revisions behind the first that only assume.
-use Rattle.std.proofs.Common.{◌≡◌, ℕ, zero, suc, ◌+◌, ◌<◌, ◌≤◌, List, [], ◌∷◌, ◌++◌, append-nil, length, map, max, take, fold, Option, Some, None, refl, sym, ap, ap₂, subst, ◌∙◌, arith}
+use Rattle.std.proofs.Common.{◌≡◌, ℕ, zero, suc, ◌+◌, ◌≤◌, List, [], ◌∷◌, ◌++◌, append-nil, length, map, max, take, fold, Option, Some, refl, sym, ap, ap₂, subst, ◌∙◌, arith}
 use Rattle.std.specs.Prelude.{All, slice_get}
 use Rattle.std.specs.Option.{option_map}
 use Rattle.std.proofs.lemmas.List.Concat.{flat_map-cons}
 use Rattle.std.proofs.lemmas.List.Elements.{All-nil, All-cons, All-head, All-tail}
 use Rattle.std.proofs.lemmas.List.Sums.{sum_by-cons}
 use Rattle.std.proofs.lemmas.Option.{slice_get-map, slice_get_within}
-use Rattle.mal_base.specs.Asks.{Terms}
 use Rattle.mal_base.specs.Formulas.{literals_of}
 use Rattle.mal_revision.specs.Posted.{Posted}
-use Rattle.spec_job.specs.KeyedJob.{Key}
 use Rattle.spec_job.specs.Models.{clauses_of, clauses_through, variables_of}
 use Rattle.spec_job.specs.SoloMachine.{clauses_in, literals_in}
 use Rattle.spec_report.specs.Replies.{ReplyBody}
 use Rattle.spec_course.specs.Course.{Asked, Next, Leads}
 use Rattle.spec_course.specs.Course.Next.{Asks, Ends}
-use Rattle.spec_course.specs.Supported.{IsSupported, AreSupported}
-use Rattle.spec_hall.specs.Events.{Event}
-use Rattle.spec_inquiry.specs.Asking.{MayAsk}
+use Rattle.spec_course.specs.Supported.{IsSupported}
 use Rattle.spec_inquiry.specs.Evidence.{IsEvidence, OnlyAssumes, BeginWith}
 use Rattle.spec_inquiry.specs.Laws.{AssumingMayAsk, FirstHasAll, InquiryIsSupported}
-use Rattle.spec_inquiry.specs.Rounds.{Round, IsInquiry, asked_in, revisions_in}
+use Rattle.spec_inquiry.specs.Rounds.{Round, asked_in, revisions_in}
 use Rattle.spec_inquiry.proofs.StayLemmas.{told-is_evident}
 
 max-same : (v : ℕ) → max v v ≡ v
