@@ -1,0 +1,6 @@
+-- what crates above cite
+pub mod FirstLines
+pub mod FormulaLemmas
+pub mod ReadLemmas
+-- what this crate alone cites
+mod ExampleLemmas
