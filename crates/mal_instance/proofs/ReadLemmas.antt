@@ -1,5 +1,5 @@
 -- What a text spells is what is read of it.
-use Rattle.std.proofs.Common.{◌≡◌, ℕ, suc, Bool, true, false, cond, ◌&&◌, not, List, [], ◌∷◌, ◌++◌, drop, length, take, None, Result, Ok, Err, refl, sym, ap, ap₂, subst, ◌∙◌}
+use Rattle.std.proofs.Common.{◌≡◌, ℕ, suc, Bool, true, false, cond, ◌&&◌, not, List, [], ◌∷◌, ◌++◌, drop, length, None, Result, Ok, Err, refl, sym, ap, ap₂, subst, ◌∙◌}
 use Rattle.std.specs.List.{list_any, list_all}
 use Rattle.mal_base.specs.Formulas.{Formulated}
 use Rattle.mal_base.specs.declared.block_fault.BlockFault.{BlockFault}
@@ -24,8 +24,8 @@ pub on_line_ok : {A : Type 0} (line : ℕ) (r : Result A LitsFault) (x : A) → 
 on_line_ok line (Ok y) x e = let h : y ≡ x = cc in rw h refl
 on_line_ok line (Err d) x e = absurd (cc)
 
-abbrev lits_read : List ℕ → Result (List ℕ) Fault
-lits_read lits = Ok lits
+abbrev formula_read : Formulated → Result Formulated (ℕ × BlockFault)
+formula_read f = Ok f
 
 -- literals behind which only such lines stand as are passed over
 pub passed-end : (lits : List ℕ) (line : ℕ) (rows : List (List (List ℕ))) → list_all is_passed rows ≡ true → ended lits line rows ≡ Ok lits
@@ -87,19 +87,16 @@ read-spelled Say read says word text w e =
         let line = begins-word word at.0 (after-begins words rows o.rows at.0 at.1) in
         let here : o.words ≡ line.0 = at.2 ∙ ap (drop 1) line.1 in
         let spelled : Spells word Say text (record { formula = o.formula; literals = found }) = record {
-              first = first.0;
-              words = o.words;
-              others = o.rows;
-              rows = formula-parts words rows ∙ ap₂ (λ (xs ys : List (List (List ℕ))). xs ++ ys) (sym firsts) (at.1 ∙ ap (λ (r : List (List ℕ)). r ∷ o.rows) (line.1 ∙ ap (λ (ws : List (List ℕ)). word ∷ ws) (sym here)));
-              inside = ap (list_all (is_formula_row words)) firsts ∙ formula-all words rows;
-              formula = read_is_spelled first.0 o.formula (ap (λ (xs : List (List (List ℕ))). read_rows xs 0 None) firsts ∙ is ∙ ap formula_read (sym at.3));
-              literals = subst (λ (ls : List ℕ). Say o.formula o.words ls) rest.1 ((says o.formula o.words lits).1 said);
-              passed = rest.0;
-            } in
+          first = first.0;
+          words = o.words;
+          others = o.rows;
+          rows = formula-parts words rows ∙ ap₂ (λ (xs ys : List (List (List ℕ))). xs ++ ys) (sym firsts) (at.1 ∙ ap (λ (r : List (List ℕ)). r ∷ o.rows) (line.1 ∙ ap (λ (ws : List (List ℕ)). word ∷ ws) (sym here)));
+          inside = ap (list_all (is_formula_row words)) firsts ∙ formula-all words rows;
+          formula = read_is_spelled first.0 o.formula (ap (λ (xs : List (List (List ℕ))). read_rows xs 0 None) firsts ∙ is ∙ ap formula_read (sym at.3));
+          literals = subst (λ (ls : List ℕ). Say o.formula o.words ls) rest.1 ((says o.formula o.words lits).1 said);
+          passed = rest.0;
+        } in
         subst (λ (x : Instance). Spells word Say text x) same spelled
-      where
-        abbrev formula_read : Formulated → Result Formulated (ℕ × BlockFault)
-        formula_read f = Ok f
 
 pub spelled-is-read : SpelledIsRead
 spelled-is-read Say read says word text w = (spelled-read Say read says word text w, read-spelled Say read says word text w)

@@ -1,6 +1,5 @@
 -- What small texts say.
 use Rattle.std.specs.Prelude.{◌≡◌, ℕ, List, [], ◌∷◌, ◌++◌, Some, codes, Result, Ok, Err}
-use Rattle.mal_base.specs.Formulas.{Formulated}
 use Rattle.mal_base.specs.declared.block_fault.BlockFault.TheVariants as block
 use Rattle.mal_base.specs.declared.line_fault.LineFault.TheVariants as line
 use Rattle.spec_dimacs.specs.Reading.{◌>>=◌}

@@ -5,4 +5,4 @@
 
 mod laws;
 
-pub use laws::{instance_examples, spelled_is_read};
+pub use laws::instance_examples;
