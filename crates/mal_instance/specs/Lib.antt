@@ -4,3 +4,4 @@ pub mod Grammar
 pub mod FaultLines
 pub mod Laws
 pub mod Examples
+pub mod ReadResult

@@ -3,6 +3,16 @@
 //! may say is of the crates above.
 #![tactic(auto)]
 
+mod fault;
+mod formula;
 mod laws;
+mod opened;
+mod reading;
+mod telling;
 
+pub use fault::{InputFault, LitsError};
+pub use formula::{begins, read_formula};
 pub use laws::instance_examples;
+pub use opened::Opened;
+pub use reading::{ended, has_line, read_opening};
+pub use telling::fault_line;
