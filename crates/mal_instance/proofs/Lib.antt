@@ -2,5 +2,6 @@
 pub mod FirstLines
 pub mod FormulaLemmas
 pub mod ReadLemmas
+pub mod LitsLemmas
 -- what this crate alone cites
 mod ExampleLemmas
