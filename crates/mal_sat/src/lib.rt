@@ -53,8 +53,9 @@ fn are_true(model: &[bool], lits: &[Lit]) -> bool
     lits.iter().all(|lit| is_true(model, *lit))
 }
 
-/// Whether a literal is true.
-fn is_true(model: &[bool], lit: Lit) -> bool
+/// Whether a literal is true, where `model` lists the truth values of the variables from 1 on, and a variable past its end
+/// is false. Takes no memory.
+pub fn is_true(model: &[bool], lit: Lit) -> bool
     ensures { result ≡ is_true_in model.now lit }
 {
     if lit.is_positive() {

@@ -1,5 +1,5 @@
 -- A search: what is asked next follows from what was told, until an outcome is reached.
-use Rattle.std.specs.Prelude.{List}
+use Rattle.std.specs.Prelude.{◌≡◌, ℕ, List, length}
 use Rattle.mal_base.specs.Asks.{Terms}
 use Rattle.spec_report.specs.Replies.{ReplyBody}
 use Rattle.spec_course.specs.Course.{Next, Leads}
@@ -14,3 +14,10 @@ pub record IsSearch {S O : Type 0} (k : Key) (ask : Terms) (step : S → ReplyBo
   pub history : List Event
   pub inquiry : IsInquiry k ask rounds history
   pub leads : Leads step first (asked_in rounds) (Ends outcome)
+
+-- a search is under way: the job was asked in so many rounds, whose questions lead from the first to what comes now
+pub record IsUnderway {S O : Type 0} (k : Key) (ask : Terms) (step : S → ReplyBody → Next S O) (first : Next S O) (n : ℕ) (history : List Event) (now : Next S O) : Type 0 where
+  pub rounds : List Round
+  pub inquiry : IsInquiry k ask rounds history
+  pub leads : Leads step first (asked_in rounds) now
+  pub counted : length rounds ≡ n

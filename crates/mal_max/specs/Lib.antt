@@ -1,0 +1,4 @@
+pub mod Seen
+pub mod Found
+pub mod Texts
+pub mod Examples

@@ -1,0 +1,33 @@
+-- Instances, solutions, optima and what follows a reply, as contracts see them.
+use Rattle.std.specs.Prelude.{ℕ, List, Option, Some}
+use Rattle.std.specs.Option.{option_map}
+use Rattle.mal_base.specs.Formulas.{Formulated}
+use Rattle.mal_max.specs.declared.following.Next.{Next}
+use Rattle.mal_max.specs.declared.following.Next.TheVariants as next
+use Rattle.mal_max.specs.declared.optimum.Optimum.{Optimum}
+use Rattle.mal_max.specs.declared.optimum.Optimum.TheVariants as optimum
+use Rattle.mal_max.specs.declared.optimum.Solution.{Solution}
+use Rattle.mal_report.specs.declared.told.Cause.{Cause}
+use Rattle.mal_report.specs.declared.told.Cause.TheVariants as cause
+use Rattle.spec_course.specs.Course as course
+use Rattle.spec_max.specs.Optimum as max
+
+-- the instance of a formula and soft literals
+abbrev pub instance : Formulated → List ℕ → max.Instance
+instance formula softs = record { formula = formula; softs = softs }
+
+abbrev pub solution_of : Solution → max.Solution
+solution_of found = record { model = found.model; cost = found.cost }
+
+abbrev pub cause_of : Cause → course.Cause
+cause_of (cause.Spent n) = course.Spent n
+cause_of cause.Starved = course.Starved
+
+abbrev pub seen : Optimum → max.Optimum
+seen (optimum.Best found lines) = max.Best (solution_of found) lines.lines
+seen (optimum.NoModel lines) = max.NoModel lines.lines
+seen (optimum.Unknown best why) = max.Unknown (option_map solution_of best) (cause_of why)
+
+abbrev pub next_of : Next → course.Next (Option max.Solution) max.Optimum
+next_of (next.Asks best question) = course.Asks (Some (solution_of best)) question
+next_of (next.Ends optimum) = course.Ends (seen optimum)
