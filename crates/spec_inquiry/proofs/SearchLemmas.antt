@@ -52,10 +52,13 @@ last-only v step (Asks s r) (x ∷ xs) end only h l = last-only v step (step s x
 
 -- and there is room for the next question, fewer than 256 behind the first
 pub search-may_ask : {S O : Type 0} (step : S → ReplyBody → Next S O) (s : S) (r : Posted) (rounds : List Round) (t : S) (q : Posted) → StepAssumes r.variables step → Leads step (Asks s r) (asked_in rounds) (Asks t q) → length rounds < 256 → length r.clauses ≤ 1048576 → literals_of r.clauses ≤ 16777216 → MayAsk (revisions_in rounds) q
-search-may_ask {S} {O} step s r [] t q only l few clauses literals = subst (MayAsk []) (same s r l) (record { room = few; clause_room = clauses; literal_room = literals })
+search-may_ask {S} {O} step s r [] t q only l few clauses literals = subst (MayAsk []) (same s r l) (record { room = few; clause_room = none-plus (length r.clauses) 1048576 clauses; literal_room = none-plus (literals_of r.clauses) 16777216 literals })
   where
     same : (a : S) (p : Posted) → ◌≡◌ {A = Next S O} (Asks a p) (Asks t q) → p ≡ q
     same a p e = cc
+
+    none-plus : (n m : ℕ) → n ≤ m → 0 + n ≤ m
+    none-plus n m h = omega (arith, h)
 search-may_ask {S} {O} step s r (x ∷ xs) t q only l few clauses literals =
     assuming-may_ask r.variables r.clauses (revisions_in (x ∷ xs)) q (course-begins step r.variables r.clauses s r (x ∷ xs) (Asks t q) refl refl only l)
     (last-only r.variables step (step s x.asked.told) (asked_in xs) (Asks t q) only (only s x.asked.told) l.1)
