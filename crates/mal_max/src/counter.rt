@@ -1,6 +1,6 @@
 //! The counter of the soft literals that are false, behind the clauses of a formula.
 
-ghost use Rattle.std.specs.Prelude.{◌≡◌, ◌+◌, ◌-◌, ◌*◌, ◌/◌, ◌<◌, ◌≤◌, true, ◌∷◌, ◌++◌, [], length, get_or, None, IfOk, OnOk};
+ghost use Rattle.std.specs.Prelude.{◌≡◌, ◌+◌, ◌-◌, ◌*◌, ◌/◌, ◌<◌, ◌≤◌, false, true, ◌∷◌, ◌++◌, [], length, get_or, None, IfOk, OnOk};
 ghost use Rattle.mal_base.specs.{Formulas.{is_within}, Literals.{literal}};
 ghost use Rattle.spec_max.specs.{Counter.{adds, carries, counted, counter, row, starts, variables_with}, Optimum.{clauses_in}};
 ghost use Rattle.mal_max.specs.Seen.{instance};
@@ -48,11 +48,7 @@ fn push_copy(copy: &mut ClauseList, clauses: &ClauseList, place: usize) -> Resul
 }
 
 /// Puts the counter of these literals of so many variables behind other clauses.
-fn push_counter(
-    clauses: &mut ClauseList,
-    variables: u32,
-    softs: &[Lit],
-) -> Result<(), AllocError>
+fn push_counter(clauses: &mut ClauseList, variables: u32, softs: &[Lit]) -> Result<(), AllocError>
     requires within { is_within variables softs.now ≡ true }
     requires few { length softs.now ≤ 128 }
     requires bound { variables_with variables softs.now ≤ 65536 }

@@ -16,7 +16,7 @@ use std::alloc::{AllocError, Global};
 /// The text of an optimum: the line `s OPTIMUM FOUND`, the lines of its cost and of its model, and those of the proof;
 /// the line `s UNSATISFIABLE` and those of the proof; or the line `s UNKNOWN`, that of the cause, and those of the best
 /// solution so far, if there is one.
-#[tactic(auto, unfolding(mal_max::specs::Texts::optimum_text))]
+#[tactic(auto, unfolding(crate::specs::Texts::optimum_text))]
 pub fn optimum_text(alloc: Global, optimum: &Optimum) -> Result<Vec<u8>, AllocError>
     ensures { IfOk result (λ v. v.items ≡ optimum_text (seen optimum.now)) }
 {

@@ -1,0 +1,5 @@
+-- what this crate alone cites
+mod CounterLemmas
+mod ExampleLemmas
+mod QuestionLemmas
+mod TextLemmas
