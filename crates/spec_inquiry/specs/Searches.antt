@@ -8,6 +8,10 @@ use Rattle.spec_job.specs.KeyedJob.{Key}
 use Rattle.spec_hall.specs.Events.{Event}
 use Rattle.spec_inquiry.specs.Rounds.{Round, IsInquiry, asked_in}
 
+-- what the job of a search asks for: so many slices a revision, on one solver of profile 1
+abbrev pub one_solver : ℕ → Terms
+one_solver slices = record { priority = 1; demand = 1; slices = slices; profile = 1 }
+
 -- a search came to this outcome: a job of this key and ask was asked in rounds, whose questions lead from the first to it
 pub record IsSearch {S O : Type 0} (k : Key) (ask : Terms) (step : S → ReplyBody → Next S O) (first : Next S O) (outcome : O) : Type 0 where
   pub rounds : List Round
