@@ -3,3 +3,5 @@ mod CounterLemmas
 mod ExampleLemmas
 mod QuestionLemmas
 mod TextLemmas
+mod InputLemmas
+mod InputExampleLemmas

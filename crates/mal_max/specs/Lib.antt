@@ -2,3 +2,9 @@ pub mod Seen
 pub mod Found
 pub mod Texts
 pub mod Examples
+pub mod Reading
+pub mod Grammar
+pub mod FaultLines
+pub mod InputLaws
+pub mod InputExamples
+pub mod ReadResult
