@@ -5,7 +5,6 @@ pub mod ReadLemmas
 -- what this crate alone cites
 mod VerdictExampleLemmas
 mod ClaimExampleLemmas
-mod FrontLemmas
 mod RowLemmas
-mod Behind
+mod Gathered
 pub mod Answered

@@ -1,4 +1,4 @@
--- The lines that rows spell are those that are read of them, and nothing behind a faulty row counts.
+-- The lines that rows spell are those that are read of them, and nothing after a faulty row counts.
 use Rattle.std.proofs.Common.{◌≡◌, ℕ, zero, suc, ◌+◌, ◌≤◌, Bool, true, false, cond, List, [], ◌∷◌, ◌++◌, take, drop, get_or, Result, Ok, Err, inl, inr, refl, sym, ap, subst, ◌∙◌, arith}
 use Rattle.spec_logic.specs.Refutation.{ProofLine}
 use Rattle.spec_dimacs.specs.Rows.{is_passed}
@@ -78,13 +78,13 @@ same_line : (m n : ℕ) (x y : Fault) → fault_at m x ≡ fault_at n y → m �
 unfolding line_in fault_at
 same_line m n x y e = ap (line_in m) e
 
--- a fault behind a row is told as it is
-behind-err : (r : Result (List Numbered) (ℕ × Fault)) (before : List Numbered) (line : ℕ) (fault : Fault) → (r >>= λ others. Ok (before ++ others)) ≡ Err (line, fault) → r ≡ Err (line, fault)
-behind-err (Ok ls) before line fault e = absurd (cc)
-behind-err (Err d) before line fault e = let same : d ≡ (line, fault) = cc in ap (λ (x : ℕ × Fault). Err x) same
+-- a fault after a row is told as it is
+others-err : (r : Result (List Numbered) (ℕ × Fault)) (before : List Numbered) (line : ℕ) (fault : Fault) → (r >>= λ others. Ok (before ++ others)) ≡ Err (line, fault) → r ≡ Err (line, fault)
+others-err (Ok ls) before line fault e = absurd (cc)
+others-err (Err d) before line fault e = let same : d ≡ (line, fault) = cc in ap (λ (x : ℕ × Fault). Err x) same
 
-err-behind : (r : Result (List Numbered) (ℕ × Fault)) (before : List Numbered) (line : ℕ) (fault : Fault) → r ≡ Err (line, fault) → (r >>= λ others. Ok (before ++ others)) ≡ Err (line, fault)
-err-behind r before line fault e = ap (λ (x : Result (List Numbered) (ℕ × Fault)). x >>= λ others. Ok (before ++ others)) e
+err-others : (r : Result (List Numbered) (ℕ × Fault)) (before : List Numbered) (line : ℕ) (fault : Fault) → r ≡ Err (line, fault) → (r >>= λ others. Ok (before ++ others)) ≡ Err (line, fault)
+err-others r before line fault e = ap (λ (x : Result (List Numbered) (ℕ × Fault)). x >>= λ others. Ok (before ++ others)) e
 
 -- a row's fault has its number
 row-line : (number last line : ℕ) (row : List (List ℕ)) (d : ℕ × Fault) → row_at number last row ≡ Err d → d.0 ≡ number
@@ -105,7 +105,7 @@ not-before number last (row ∷ rows) line fault e = by_row (λ k f. not-before 
         let same : d ≡ (line, fault) = cc in
         let here : line ≡ number = ap (λ (x : ℕ × Fault). x.0) (sym same) ∙ row-line number last line row d q in
         omega arith
-    by_row ih (Ok read) q e = let low : suc number ≤ line = ih read.last (behind-err (lines_from (suc number) read.last rows) read.lines line fault e) in omega arith
+    by_row ih (Ok read) q e = let low : suc number ≤ line = ih read.last (others-err (lines_from (suc number) read.last rows) read.lines line fault e) in omega arith
 
 head_same : (x y : List (List ℕ)) (xs ys : List (List (List ℕ))) → x ∷ xs ≡ y ∷ ys → x ≡ y
 head_same x y xs ys e = ap (λ (zs : List (List (List ℕ))). get_or zs 0 []) e
@@ -138,7 +138,7 @@ first-row number last d (row ∷ rows) (other ∷ others) line fault e place sam
         ap (λ (r : Result Read (ℕ × Fault)). r >>= λ read. lines_from (suc number) read.last others >>= λ more. Ok (read.lines ++ more)) (ap (row_at number last) head ∙ q) ∙ told x e
     by_row ih (Ok read) q e =
         ap (λ (r : Result Read (ℕ × Fault)). r >>= λ read. lines_from (suc number) read.last others >>= λ more. Ok (read.lines ++ more)) (ap (row_at number last) head ∙ q)
-        ∙ err-behind (lines_from (suc number) read.last others) read.lines line fault (by_depth ih d refl read (behind-err (lines_from (suc number) read.last rows) read.lines line fault e))
+        ∙ err-others (lines_from (suc number) read.last others) read.lines line fault (by_depth ih d refl read (others-err (lines_from (suc number) read.last rows) read.lines line fault e))
 
 pub row_fault_is_first : RowFaultIsFirst
 row_fault_is_first last rows others line fault e same =

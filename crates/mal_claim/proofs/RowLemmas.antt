@@ -1,5 +1,5 @@
 -- What the words of a line are and are not.
-use Rattle.std.proofs.Common.{◌≡◌, ℕ, Bool, true, false, cond, ◌||◌, ◌&&◌, List, [], ◌∷◌, ◌++◌, codes, Ok, Err, refl, sym, ap, ◌∙◌}
+use Rattle.std.proofs.Common.{◌≡◌, ℕ, Bool, true, false, cond, ◌||◌, List, [], ◌∷◌, ◌++◌, codes, Ok, Err, refl, sym, ap, ◌∙◌}
 use Rattle.std.specs.Str.{bytes_eq}
 use Rattle.std.specs.List.{list_any}
 use Rattle.std.proofs.lemmas.Slice.Eq.{bytes_eq-Decides}
@@ -8,7 +8,8 @@ use Rattle.mal_base.specs.declared.line_fault.LineFault.TheVariants.{BadLine}
 use Rattle.spec_script.specs.Assumptions.{assumptions_in, assumptions_of}
 use Rattle.spec_script.specs.Grammar.{Assumes}
 use Rattle.spec_script.proofs.AssumedForms.{read-assumes}
-use Rattle.mal_claim.specs.Claims.{is_proof_line, is_formula_line}
+use Rattle.mal_instance.specs.Rows.{is_formula_row}
+use Rattle.mal_claim.specs.Claims.{is_proof_line, ending}
 
 -- the line `proof` is that word
 pub proof-line : (row : List (List ℕ)) → is_proof_line row ≡ true → row ≡ codes "proof" ∷ []
@@ -25,7 +26,7 @@ assumed-first variables (first ∷ others) lits e = by_word (bytes_eq first (cod
     by_word true q e = (others, ap (λ (w : List ℕ). w ∷ others) ((bytes_eq-Decides first (codes "a")).0 q))
     by_word false q e = absurd (cc)
 
--- what is read of a line of assumptions, the words behind its first say
+-- what is read of a line of assumptions, the words after its first say
 pub assumed-says : (variables : ℕ) (row : List (List ℕ)) (lits : List ℕ) → assumptions_of variables row ≡ Ok lits → (words : List (List ℕ)) × (row ≡ codes "a" ∷ words) × Assumes variables words lits
 assumed-says variables row lits e =
     let first = assumed-first variables row lits e in
@@ -40,8 +41,8 @@ assumed-no-proof variables row lits e =
     let first = assumed-first variables row lits e in
     ap is_proof_line first.1 ∙ a-no-proof first.0
 
-pub assumed-behind : (variables : ℕ) (row : List (List ℕ)) (lits : List ℕ) → assumptions_of variables row ≡ Ok lits → is_formula_line row ≡ false
-assumed-behind variables row lits e = ap is_formula_line (assumed-first variables row lits e).1
+pub assumed-ends : (variables : ℕ) (row : List (List ℕ)) (lits : List ℕ) → assumptions_of variables row ≡ Ok lits → is_formula_row ending row ≡ false
+assumed-ends variables row lits e = ap (is_formula_row ending) (assumed-first variables row lits e).1
 
 -- a line that is passed over is not the line `proof`
 pub passed-no-proof : (row : List (List ℕ)) → is_passed row ≡ true → is_proof_line row ≡ false
@@ -57,11 +58,7 @@ or-right : (a b : Bool) → b ≡ true → (a || b) ≡ true
 or-right true b e = refl
 or-right false b e = e
 
-pub and-left : (a b : Bool) → (a && b) ≡ true → (a ≡ true) × (b ≡ true)
-and-left true b e = (refl, e)
-and-left false b e = absurd (cc)
-
 -- where the line `proof` stands among others
-pub some-proof : (rows behind : List (List (List ℕ))) → list_any is_proof_line (rows ++ (codes "proof" ∷ []) ∷ behind) ≡ true
-some-proof [] behind = refl
-some-proof (row ∷ rows) behind = or-right (is_proof_line row) (list_any is_proof_line (rows ++ (codes "proof" ∷ []) ∷ behind)) (some-proof rows behind)
+pub some-proof : (rows last : List (List (List ℕ))) → list_any is_proof_line (rows ++ (codes "proof" ∷ []) ∷ last) ≡ true
+some-proof [] last = refl
+some-proof (row ∷ rows) last = or-right (is_proof_line row) (list_any is_proof_line (rows ++ (codes "proof" ∷ []) ∷ last)) (some-proof rows last)

@@ -5,7 +5,7 @@ use Rattle.mal_claim.specs.Proofs.{Numbered}
 use Rattle.mal_claim.proofs.LineLemmas.{lines_are_read}
 
 pub verdicts : HasVerdicts
-verdicts = record { verified = refl; from_reply = refl; not_unit = refl; unknown = refl; no_contradiction = refl; no_goal = refl; assumed = refl; negative_hint = refl; not_rising = refl; whatever_is_behind = refl; faults_first = refl }
+verdicts = record { verified = refl; from_reply = refl; not_unit = refl; unknown = refl; no_contradiction = refl; no_goal = refl; assumed = refl; negative_hint = refl; not_rising = refl; whatever_is_after = refl; faults_first = refl }
 
 no_fault : (r : Result (List Numbered) (ℕ × Fault)) (d : ℕ × Fault) (lines : List Numbered) → r ≡ Err d → r ≡ Ok lines → ⊥
 no_fault (Ok ls) d lines e f = absurd (cc)

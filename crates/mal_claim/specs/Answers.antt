@@ -23,7 +23,7 @@ abbrev pub Gives : {X Y : Type 0} → (X → Y) → Result X ProofFault → Resu
 Gives view (Ok x) read = read ≡ Ok (view x)
 Gives view (Err e) read = Fails e read
 
--- the answer is the last id behind a row, and its line, if it spells one, stands behind the lines before
+-- the answer is the last id after a row, and its line, if it spells one, stands after the lines before
 abbrev pub GivesRow : List Numbered → List Numbered → Result ℕ ProofFault → Result Read (ℕ × Fault) → Type 0
 GivesRow old new (Ok last) read = (lines : List Numbered) × (read ≡ Ok (record { last = last; lines = lines })) × (new ≡ old ++ lines)
 GivesRow old new (Err e) read = Fails e read

@@ -1,15 +1,16 @@
 -- Reading a claim that nothing satisfies a formula and assumptions, with its proof: the claim, or the first fault.
-use Rattle.std.specs.Prelude.{ℕ, suc, Bool, true, not, ◌||◌, List, [], ◌∷◌, length, codes, bytes_eq, if◌then◌else◌, None, Result, Ok, Err}
+use Rattle.std.specs.Prelude.{ℕ, suc, Bool, List, [], ◌∷◌, length, codes, if◌then◌else◌, Result, Ok, Err}
 use Rattle.std.specs.List.{list_any}
 use Rattle.mal_base.specs.Formulas.{Formulated}
 use Rattle.mal_base.specs.declared.block_fault.BlockFault.{BlockFault}
 use Rattle.spec_text.specs.Inputs.{is_word_line}
 use Rattle.spec_dimacs.specs.Rows.{is_passed, rows_of}
-use Rattle.spec_dimacs.specs.Reading.{◌>>=◌, read_rows}
+use Rattle.spec_dimacs.specs.Reading.{◌>>=◌}
 use Rattle.mal_base.specs.declared.line_fault.LineFault.{LineFault}
 use Rattle.mal_base.specs.declared.line_fault.LineFault.TheVariants.{BadLine, Dimacs}
 use Rattle.spec_script.specs.Assumptions.{assumptions_of}
 use Rattle.spec_lrat.specs.Reading as proof
+use Rattle.mal_instance.specs.Rows.{formula_of, formula_rows, rows_after}
 use Rattle.mal_claim.specs.Proofs.{Numbered, lines_from}
 
 -- a formula, assumptions, and the lines of a proof that nothing satisfies both
@@ -19,7 +20,7 @@ pub record Claim : Type 0 where
   pub lines : List Numbered
 
 -- the first fault of a text: no line says `proof`, a line before that one is wrong, or a line of the proof, which are
--- numbered from 1 on behind it
+-- numbered from 1 on after it
 pub data Fault : Type 0 where
   NoProof : Fault
   InFormula : (line : ℕ) → (fault : LineFault) → Fault
@@ -29,20 +30,9 @@ pub data Fault : Type 0 where
 abbrev pub is_proof_line : List (List ℕ) → Bool
 is_proof_line row = is_word_line (codes "proof") row
 
--- a line of the formula: its first word is neither `a` nor `proof`
-abbrev pub is_formula_line : List (List ℕ) → Bool
-is_formula_line [] = true
-is_formula_line (first ∷ others) = not (bytes_eq first (codes "a") || bytes_eq first (codes "proof"))
-
--- the lines of the formula: those before the first line that is none
-abbrev pub formula_rows : List (List (List ℕ)) → List (List (List ℕ))
-formula_rows [] = []
-formula_rows (row ∷ rows) = if is_formula_line row then row ∷ formula_rows rows else []
-
--- the lines behind them
-abbrev pub behind_formula : List (List (List ℕ)) → List (List (List ℕ))
-behind_formula [] = []
-behind_formula (row ∷ rows) = if is_formula_line row then behind_formula rows else row ∷ rows
+-- the words that a line of the formula does not begin with
+abbrev pub ending : List (List ℕ)
+ending = codes "a" ∷ codes "proof" ∷ []
 
 -- a fault of the formula, and one of a line before the line `proof`
 abbrev pub in_formula : {A : Type 0} → Result A (ℕ × BlockFault) → Result A Fault
@@ -58,7 +48,7 @@ abbrev pub in_proof : {A : Type 0} → Result A (ℕ × proof.Fault) → Result 
 in_proof (Ok x) = Ok x
 in_proof (Err (line, fault)) = Err (InProof line fault)
 
--- the assumptions, and the lines behind the line `proof`
+-- the assumptions, and the lines after the line `proof`
 pub record Assumed : Type 0 where
   pub assumptions : List ℕ
   pub rows : List (List (List ℕ))
@@ -71,22 +61,22 @@ to_proof lits line (row ∷ rows) =
     else if is_passed row then to_proof lits (suc line) rows
     else Err (InFormula (suc line) BadLine)
 
--- behind so many lines of the formula stands the line `proof`, or the line of the assumptions
+-- after so many lines of the formula stands the line `proof`, or the line of the assumptions
 abbrev pub assumed : ℕ → ℕ → List (List (List ℕ)) → Result Assumed Fault
 assumed variables line [] = Err NoProof
 assumed variables line (row ∷ rows) =
     if is_proof_line row then Ok (record { assumptions = []; rows = rows })
     else in_line (suc line) (assumptions_of variables row) >>= λ lits. to_proof lits (suc line) rows
 
--- the claim of this formula and what stands behind it
+-- the claim of this formula and what stands after it
 abbrev pub claim_of : Formulated → Assumed → Result Claim Fault
 claim_of f a = in_proof (lines_from 1 (length f.clauses) a.rows) >>= λ lines. Ok (record { formula = f; assumptions = a.assumptions; lines = lines })
 
 -- the lines of a text in which a line says `proof`
 abbrev pub read_lines : List (List (List ℕ)) → Result Claim Fault
 read_lines rows =
-    in_formula (read_rows (formula_rows rows) 0 None)
-    >>= λ f. assumed f.variables (length (formula_rows rows)) (behind_formula rows)
+    in_formula (formula_of ending rows)
+    >>= λ f. assumed f.variables (length (formula_rows ending rows)) (rows_after ending rows)
     >>= claim_of f
 
 -- the claim of a text, or its first fault; the line `proof` is looked for before anything else is read

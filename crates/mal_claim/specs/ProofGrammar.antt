@@ -5,7 +5,7 @@ use Rattle.spec_dimacs.specs.Rows.{is_passed}
 use Rattle.spec_lrat.specs.Grammar.{Spells}
 use Rattle.mal_claim.specs.Proofs.{Numbered, last_after}
 
--- the rows of a proof, of which the first is line `number` of it, spell these lines behind the id `last`: a row is
+-- the rows of a proof, of which the first is line `number` of it, spell these lines after the id `last`: a row is
 -- passed over, or spells the next line, whose number is that of its row
 abbrev pub SpellLines : ℕ → ℕ → List (List (List ℕ)) → List Numbered → Type 0
 SpellLines number last [] lines = lines ≡ []

@@ -18,7 +18,7 @@ abbrev pub last_after : ℕ → ProofLine → ℕ
 last_after last (Add id clause hints) = id
 last_after last (Delete ids) = last
 
--- the last id behind a row, and the line that it spells, if it spells one
+-- the last id after a row, and the line that it spells, if it spells one
 pub record Read : Type 0 where
   pub last : ℕ
   pub lines : List Numbered

@@ -4,8 +4,8 @@ use Rattle.spec_logic.specs.Refutation.{Refusal}
 use Rattle.mal_base.specs.declared.line_fault.LineFault.TheVariants.{BadLine, Dimacs, Opposite, Range}
 use Rattle.spec_text.specs.Faults.{GivesBy, TellsBy}
 use Rattle.spec_dimacs.specs.Rows.{rows_of}
-use Rattle.mal_dimacs.specs.declared.fault.DimacsError.{DimacsError}
-use Rattle.mal_dimacs.specs.declared.fault.DimacsError.TheVariants as error
+use Rattle.mal_dimacs.specs.declared.fault.DimacsFault.{DimacsFault}
+use Rattle.mal_dimacs.specs.declared.fault.DimacsFault.TheVariants as located
 use Rattle.mal_script.specs.declared.fault.AssumptionFault.{AssumptionFault}
 use Rattle.mal_script.specs.declared.fault.AssumptionFault.TheVariants as assumption
 use Rattle.spec_lrat.specs.Reading as proof
@@ -61,10 +61,10 @@ verdict_in verify.OutOfMemory = None
 abbrev pub TellsVerdict : Option Verdict → List ℕ → Type 0
 TellsVerdict verdict text = TellsBy verdict_line verdict text
 
--- an error of a block's reader as the fault of this line
-abbrev pub IsOnLine : ℕ → DimacsError → ClaimFault → Type 0
-IsOnLine line (error.Fault fault) e = e ≡ claimed.Formula line (Dimacs fault)
-IsOnLine line error.OutOfMemory e = e ≡ claimed.OutOfMemory
+-- the fault of a formula as that of its text
+abbrev pub of_formula : DimacsFault → ClaimFault
+of_formula (located.Fault line fault) = claimed.Formula line (Dimacs fault)
+of_formula located.OutOfMemory = claimed.OutOfMemory
 
 -- the refusal of assumptions as the fault of this line
 abbrev pub IsAssumed : ℕ → AssumptionFault → ClaimFault → Type 0
@@ -73,6 +73,6 @@ IsAssumed line assumption.Range e = e ≡ claimed.Formula line Range
 IsAssumed line (assumption.Opposite var) e = e ≡ claimed.Formula line (Opposite var)
 IsAssumed line assumption.OutOfMemory e = e ≡ claimed.OutOfMemory
 
--- what was answered behind the formula: the assumptions, and the text of the proof
+-- what was answered after the formula: the assumptions, and the text of the proof
 abbrev pub seen_assumed : List ℕ → List ℕ → claim.Assumed
 seen_assumed lits text = record { assumptions = lits; rows = rows_of text }

@@ -30,7 +30,7 @@ pub record HasVerdicts : Type 0 where
   pub assumed : said (3 ∷ []) (codes "5 1 0 1 2 0\n") ≡ Ok Verified
   pub negative_hint : said [] (codes "5 1 0 -1 2 0\n") ≡ Err (1, NegativeHint)
   pub not_rising : said [] (codes "5 1 0 1 2 0\n5 0 5 3 4 0\n") ≡ Err (2, IdNotRising 5 5)
-  pub whatever_is_behind : said [] (codes "5 1 0 -1 2 0\nx\n4\n") ≡ Err (1, NegativeHint)
+  pub whatever_is_after : said [] (codes "5 1 0 -1 2 0\nx\n4\n") ≡ Err (1, NegativeHint)
   pub faults_first : said [] (codes "5 0 1 0\n4 1 0 1 2 0\n") ≡ Err (2, IdNotRising 5 4)
 
 -- the rows of the text of a proof
@@ -41,7 +41,7 @@ rows_in text = map words_of (lines_of text)
 abbrev pub unit_at : ℕ → Numbered
 unit_at number = record { number = number; line = Add 5 (Some (2 ∷ [])) (1 ∷ 2 ∷ []) }
 
--- which lines small proofs behind four clauses spell
+-- which lines small proofs after four clauses spell
 pub record HasSpelled : Type 0 where
   pub one_line : SpellLines 1 4 (rows_in (codes "c comment\n\nl 5 1 0 1 2 0\n")) (unit_at 3 ∷ [])
   pub no_line : SpellLines 1 4 (rows_in (codes "c 5 1 0 1 2 0\n")) []

@@ -11,7 +11,7 @@ use Rattle.mal_claim.specs.Proofs.Verdict.{Verified}
 abbrev pub LinesAreRead : Type 0
 LinesAreRead = (number last : ℕ) (rows : List (List (List ℕ))) (lines : List Numbered) → SpellLines number last rows lines ↔ (lines_from number last rows ≡ Ok lines)
 
--- nothing behind a faulty row counts: rows that begin with the same ones, up to it, have the same first fault
+-- nothing after a faulty row counts: rows that begin with the same ones, up to it, have the same first fault
 abbrev pub RowFaultIsFirst : Type 0
 RowFaultIsFirst = (last : ℕ) (rows others : List (List (List ℕ))) (line : ℕ) (fault : Fault) → lines_from 1 last rows ≡ Err (line, fault) → take line others ≡ take line rows → lines_from 1 last others ≡ Err (line, fault)
 

@@ -1,10 +1,11 @@
 //! Why a text is no claim.
 
 ghost use Rattle.std.specs.Prelude.{◌≡◌};
-ghost use Rattle.mal_claim.specs.declared.fault.ClaimFault.TheVariants.{OutOfMemory};
+ghost use Rattle.mal_claim.specs.{declared.fault.ClaimFault.TheVariants.{OutOfMemory}, ReadResult.{of_formula}};
 
 use crate::ProofFault;
 use mal_base::LineFault;
+use mal_dimacs::DimacsFault;
 use std::alloc::AllocError;
 
 /// Why a text is no claim: its first fault, or want of memory.
@@ -14,7 +15,7 @@ pub enum ClaimFault {
     NoProof,
     /// This line before the line `proof` is wrong, counted from 1.
     Formula { line: u64, fault: LineFault },
-    /// A line behind the line `proof` is wrong.
+    /// A line after the line `proof` is wrong.
     Proof { fault: ProofFault },
     /// Memory ran out.
     OutOfMemory,
@@ -25,5 +26,19 @@ impl From<AllocError> for ClaimFault {
 
     fn from(_error: AllocError) -> ClaimFault {
         ClaimFault::OutOfMemory
+    }
+}
+
+impl From<DimacsFault> for ClaimFault {
+    ghost from_gives = { λ fault e. e ≡ of_formula fault };
+
+    fn from(fault: DimacsFault) -> ClaimFault {
+        match fault {
+            DimacsFault::Fault { line, fault } => ClaimFault::Formula {
+                line,
+                fault: LineFault::Dimacs { fault },
+            },
+            DimacsFault::OutOfMemory => ClaimFault::OutOfMemory,
+        }
     }
 }

@@ -7,7 +7,6 @@ mod checking;
 mod claim;
 mod claim_laws;
 mod fault;
-mod formula;
 mod proof_reading;
 mod reading;
 mod telling;

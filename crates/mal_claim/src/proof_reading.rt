@@ -35,15 +35,15 @@ pub fn read_proof(alloc: Global, text: &[u8], last: u64) -> Result<Vec<NumberedL
     let mut last = last;
     let mut number: u64 = 1;
     let mut rest = text;
-    while let Some((line, behind)) = first_line(rest) {
+    while let Some((line, after)) = first_line(rest) {
         last = read_row(alloc, &mut lines, number, line, last)?;
         number += 1;
-        rest = behind;
+        rest = after;
     }
     Ok(lines)
 }
 
-/// Reads a line of the text, and puts what it spells behind the lines before. Answers the last id behind it.
+/// Reads a line of the text, and puts what it spells after the lines before. Answers the last id after it.
 fn read_row(
     alloc: Global,
     lines: &mut Vec<NumberedLine>,
@@ -65,7 +65,7 @@ fn read_row(
     }
 }
 
-/// Puts a line behind the lines before. Answers the last id behind it.
+/// Puts a line after the lines before. Answers the last id after it.
 fn put_line(lines: &mut Vec<NumberedLine>, line: NumberedLine, last: u64) -> Result<u64, ProofFault>
     ensures { GivesRow (views lines.old.items) (views lines.new.items) result
         (with_number line.number last (Ok (seen line.line))) }

@@ -9,10 +9,10 @@ ghost use Rattle.mal_claim.specs.{Views.{views}, ReadResult.{Gives, IsAssumed, s
 
 use crate::claim::Claim;
 use crate::fault::ClaimFault;
-use crate::formula::read_formula;
 use crate::{NumberedLine, read_proof};
 use mal_base::{LineFault, Lit};
 use mal_dimacs::is_passed;
+use mal_instance::read_formula;
 use mal_script::{AssumptionFault, assumptions};
 use mal_text::{first_line, is_word_line};
 use std::alloc::Global;
@@ -21,7 +21,7 @@ use std::alloc::Global;
 /// the lines of a proof.
 ///
 /// Errors: `NoProof` where no line is the one word `proof`; else the first fault of the text, from its beginning, with
-/// its line. Lines of the proof are counted from 1 behind the line `proof`. `OutOfMemory` may come at any time.
+/// its line. Lines of the proof are counted from 1 after the line `proof`. `OutOfMemory` may come at any time.
 pub fn read(alloc: Global, text: &[u8]) -> Result<Claim, ClaimFault>
     requires { length text.now < 2 ^ 63 }
     // Which claim or which fault it is.
@@ -49,11 +49,11 @@ fn has_proof(text: &[u8]) -> bool
     ensures { result ≡ list_any is_proof_line (rows_of text.now) }
 {
     let mut rest = text;
-    while let Some((row, behind)) = first_line(rest) {
+    while let Some((row, after)) = first_line(rest) {
         if is_word_line(row, b"proof") {
             return true;
         }
-        rest = behind;
+        rest = after;
     }
     false
 }
@@ -63,7 +63,7 @@ fn read_lines(alloc: Global, text: &[u8]) -> Result<Claim, ClaimFault>
     requires { length text.now < 2 ^ 63 }
     ensures { Gives seen result (read_lines (rows_of text.now)) }
 {
-    let (formula, line, rest) = read_formula(alloc, text)?;
+    let (formula, line, rest) = read_formula(alloc, text, &[b"a".as_slice(), b"proof"])?;
     let (assumptions, rest) = read_assumptions(alloc, rest, line, formula.variables())?;
     let lines = proof_lines(alloc, rest, formula.clauses().len() as u64)?;
     Ok(Claim {
@@ -73,7 +73,7 @@ fn read_lines(alloc: Global, text: &[u8]) -> Result<Claim, ClaimFault>
     })
 }
 
-/// The assumptions behind so many lines of a formula of these variables, and the text behind the line `proof`.
+/// The assumptions after so many lines of a formula of these variables, and the text after the line `proof`.
 fn read_assumptions(
     alloc: Global,
     text: &[u8],
@@ -85,19 +85,19 @@ fn read_assumptions(
     ensures value { Gives (λ t. seen_assumed t.0.items t.1.now) result (assumed variables line (rows_of text.now)) }
     ensures shorter { IfOk result (λ t. length t.1.now ≤ length text.now) }
 {
-    let Some((row, behind)) = first_line(text) else {
+    let Some((row, after)) = first_line(text) else {
         return Err(ClaimFault::NoProof);
     };
     if is_word_line(row, b"proof") {
-        return Ok((Vec::new(alloc), behind));
+        return Ok((Vec::new(alloc), after));
     }
     match assumptions(alloc, row, variables) {
-        Ok(lits) => to_proof(lits, line + 1, behind),
+        Ok(lits) => to_proof(lits, line + 1, after),
         Err(fault) => Err(on_line(line + 1, fault)),
     }
 }
 
-/// These assumptions, and the text behind the line `proof`, before which only such lines stand as are passed over.
+/// These assumptions, and the text after the line `proof`, before which only such lines stand as are passed over.
 fn to_proof(lits: Vec<Lit>, line: u64, text: &[u8]) -> Result<(Vec<Lit>, &[u8]), ClaimFault>
     requires short { line + length text.now < 2 ^ 63 }
     ensures value { Gives (λ t. seen_assumed t.0.items t.1.now) result (to_proof lits.items line (rows_of text.now)) }
@@ -105,9 +105,9 @@ fn to_proof(lits: Vec<Lit>, line: u64, text: &[u8]) -> Result<(Vec<Lit>, &[u8]),
 {
     let mut rest = text;
     let mut line = line;
-    while let Some((row, behind)) = first_line(rest) {
+    while let Some((row, after)) = first_line(rest) {
         if is_word_line(row, b"proof") {
-            return Ok((lits, behind));
+            return Ok((lits, after));
         }
         line += 1;
         if !is_passed(row) {
@@ -116,7 +116,7 @@ fn to_proof(lits: Vec<Lit>, line: u64, text: &[u8]) -> Result<(Vec<Lit>, &[u8]),
                 fault: LineFault::BadLine,
             });
         }
-        rest = behind;
+        rest = after;
     }
     Err(ClaimFault::NoProof)
 }
