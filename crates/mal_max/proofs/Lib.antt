@@ -2,6 +2,7 @@
 mod CounterLemmas
 mod ExampleLemmas
 mod QuestionLemmas
+mod SearchLemmas
 mod TextLemmas
 mod InputLemmas
 mod InputExampleLemmas

@@ -6,9 +6,9 @@ ghost use Rattle.mal_base.specs.Asks.{Terms};
 ghost use Rattle.mal_report.specs.Told.{body_of};
 ghost use Rattle.mal_revision.specs.Posted.{Posted};
 ghost use Rattle.spec_course.specs.{Course.Next.{Asks}, Supported.{IsSupported}};
-ghost use Rattle.spec_inquiry.specs.{Rounds.{IsInquiry}, Searches.{IsUnderway}};
+ghost use Rattle.spec_inquiry.specs.{Rounds.{IsInquiry}, Searches.{IsUnderway, one_solver}};
 ghost use Rattle.spec_max.specs.{Optimum.{clauses_in, first, opening, step, variables_in}, Right.{IsServed}};
-ghost use Rattle.mal_max.specs.{Found.{IsFound, ask, key}, Seen.{instance, next_of, seen, solution_of}};
+ghost use Rattle.mal_max.specs.{Found.{IsFound, key}, Seen.{instance, next_of, seen, solution_of}};
 
 use crate::following::{Next, after};
 use crate::optimum::{Optimum, Solution};
@@ -44,7 +44,7 @@ fn begin(alloc: Global, slices: u32) -> Result<Inquiry, AllocError>
     requires some { 1 ≤ slices }
     requires bound { slices ≤ 4096 }
     ensures key { IfOk result (λ i. i.key ≡ key) }
-    ensures inquiry { IfOk result (λ i. IsInquiry key (ask slices) [] i.events) }
+    ensures inquiry { IfOk result (λ i. IsInquiry key (one_solver slices) [] i.events) }
 {
     let Some(name) = Name::of(alloc, b"max")? else {
         unreachable!();
@@ -65,8 +65,8 @@ fn search(
 ) -> Result<Optimum, AllocError>
     requires served { IsServed (instance formula.now softs.now) }
     requires key { inquiry.old.key ≡ key }
-    requires new { (slices : ℕ) × IsInquiry key (ask slices) [] inquiry.old.events }
-    ensures { (slices : ℕ) → IsInquiry key (ask slices) [] inquiry.old.events
+    requires new { (slices : ℕ) × IsInquiry key (one_solver slices) [] inquiry.old.events }
+    ensures { (slices : ℕ) → IsInquiry key (one_solver slices) [] inquiry.old.events
         → IfOk result (λ o. IsFound slices (instance formula.now softs.now) (seen o)) }
 {
     let mut best = None;
