@@ -1,5 +1,5 @@
 -- The counter is made clause by clause and row by row.
-use Rattle.std.proofs.Common.{◌≡◌, ℕ, suc, ◌+◌, ◌-◌, ◌<◌, ◌≤◌, true, false, List, [], ◌∷◌, ◌++◌, append_assoc, drop, Option, Some, refl, sym, ap, ap₂, ◌∙◌, arith}
+use Rattle.std.proofs.Common.{◌≡◌, ℕ, suc, ◌+◌, ◌-◌, ◌<◌, true, false, List, [], ◌∷◌, ◌++◌, append_assoc, Option, Some, sym, ap, ap₂, ◌∙◌, arith}
 use Rattle.mal_base.specs.Literals.{literal}
 use Rattle.spec_max.specs.Counter.{adds, carries, counted, row, rows}
 

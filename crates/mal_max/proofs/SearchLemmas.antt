@@ -1,5 +1,5 @@
 -- A search goes on question by question, to what is right.
-use Rattle.std.proofs.Common.{◌≡◌, ℕ, ◌+◌, ◌<◌, ◌≤◌, nat_le, Bool, true, false, cond, ◌==◌, ◌&&◌, List, [], ◌∷◌, ◌++◌, length, Option, Some, None, refl, sym, ap, subst, ◌∙◌, arith}
+use Rattle.std.proofs.Common.{◌≡◌, ℕ, ◌+◌, ◌≤◌, nat_le, Bool, true, false, cond, ◌==◌, ◌&&◌, List, [], length, Option, Some, None, refl, sym, subst, ◌∙◌, arith}
 use Rattle.std.proofs.lemmas.Bool.{and_parts, leb-true}
 use Rattle.std.proofs.lemmas.List.{length-map}
 use Rattle.mal_base.specs.Asks.{Terms}
@@ -7,15 +7,15 @@ use Rattle.mal_base.specs.Formulas.{literals_of}
 use Rattle.mal_revision.specs.Posted.{Posted}
 use Rattle.spec_report.specs.Replies.{ReplyBody, Model, Proof, AllSpent, AllStarved}
 use Rattle.spec_job.specs.KeyedJob.{Key}
-use Rattle.spec_course.specs.Course.{Asked, Next, Leads, Cause}
+use Rattle.spec_course.specs.Course.{Asked, Next, Leads}
 use Rattle.spec_course.specs.Course.Next.{Asks, Ends}
 use Rattle.spec_course.specs.Supported.{IsSupported, AreSupported}
 use Rattle.spec_hall.specs.Events.{Event}
 use Rattle.spec_inquiry.specs.Asking.{MayAsk, HasAsked}
-use Rattle.spec_inquiry.specs.Rounds.{Round, asked_in, revisions_in}
+use Rattle.spec_inquiry.specs.Rounds.{Round, IsInquiry, asked_in, revisions_in}
 use Rattle.spec_inquiry.specs.Searches.{IsUnderway, one_solver}
 use Rattle.spec_inquiry.proofs.FirstLemmas.{AsksOnly}
-use Rattle.spec_inquiry.proofs.SearchLemmas.{StepAssumes, search-may_ask, search-supported, search-told, underway-asked}
+use Rattle.spec_inquiry.proofs.SearchLemmas.{StepAssumes, search-may_ask, search-supported, search-told, underway-asked, underway-begins}
 use Rattle.spec_max.specs.Optimum.{Instance, Solution, Optimum, Best, variables_in, clauses_in, cheaper, first, opening, solution_in, step}
 use Rattle.spec_max.specs.OptimumLaws.{IsQuestion}
 use Rattle.spec_max.specs.Right.{IsServed}
@@ -25,6 +25,10 @@ use Rattle.mal_max.specs.Found.{IsFound, key}
 -- the search for the optimum of an instance is under way
 abbrev pub Searching : Key → Terms → Instance → ℕ → List Event → Next (Option Solution) Optimum → Type 0
 Searching k ask w n history now = IsUnderway k ask (step w) (first w) n history now
+
+-- nothing was asked yet
+pub searching-begins : (k : Key) (ask : Terms) (w : Instance) (history : List Event) (r : Posted) → r ≡ opening w → IsInquiry k ask [] history → Searching k ask w 0 history (Asks None r)
+searching-begins k ask w history r e i = subst (λ (q : Posted). Searching k ask w 0 history (Asks None q)) (sym e) (underway-begins k ask (step w) (first w) history i)
 
 -- each question behind the first only assumes
 step-assumes : (w : Instance) → StepAssumes (variables_in w) (step w)
@@ -66,6 +70,12 @@ searching-told k ask w n before after best r told u h = search-told k ask (step 
 -- and the search goes on to what follows
 pub searching-next : (k : Key) (ask : Terms) (w : Instance) (n : ℕ) (before after : List Event) (best : Option Solution) (r : Posted) (told : ReplyBody) (next : Next (Option Solution) Optimum) → (u : Searching k ask w n before (Asks best r)) → HasAsked k ask u.rounds (record { revision = r; told = told }) after → next ≡ step w best told → Searching k ask w (n + 1) after next
 searching-next k ask w n before after best r told next u h e = subst (Searching k ask w (n + 1) after) (sym e) (underway-asked k ask (step w) (first w) n before after best r told u h)
+
+-- the same of a job under the key of a search
+pub goes-on : (k : Key) (ask : Terms) (w : Instance) (n : ℕ) (before after : List Event) (now next later : Next (Option Solution) Optimum) → k ≡ key → ((t : Terms) (m : ℕ) → Searching k t w m before now → Searching k t w (m + 1) after next) → next ≡ later → Searching key ask w n before now → Searching key ask w (n + 1) after later
+goes-on k ask w n before after now next later e f q u =
+    subst (λ (j : Key). Searching j ask w (n + 1) after later) e
+    (subst (Searching k ask w (n + 1) after) q (f ask n (subst (λ (j : Key). Searching j ask w n before now) (sym e) u)))
 
 -- where it ends, the optimum is found
 pub searching-found : (slices : ℕ) (w : Instance) (n : ℕ) (history : List Event) (optimum : Optimum) → IsServed w → Searching key (one_solver slices) w n history (Ends optimum) → IsFound slices w optimum

@@ -1,5 +1,5 @@
 -- What small optima are written as.
-use Rattle.std.specs.Prelude.{◌≡◌, ℕ, true, false, List, [], ◌∷◌, codes, Some, None}
+use Rattle.std.specs.Prelude.{◌≡◌, true, false, List, [], ◌∷◌, codes, Some, None}
 use Rattle.mal_base.specs.NumberedClause.{Line}
 use Rattle.spec_course.specs.Course.{Spent, Starved}
 use Rattle.spec_max.specs.Optimum.{Solution, Best, NoModel, Unknown}

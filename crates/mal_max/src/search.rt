@@ -1,13 +1,11 @@
 //! The search for an optimum.
 
-ghost use Rattle.std.specs.Prelude.{◌≡◌, ◌≤◌, ℕ, true, [], ◌∷◌, codes, length, IfOk};
+ghost use Rattle.std.specs.Prelude.{◌≡◌, ◌+◌, ◌≤◌, ℕ, [], IfOk};
 ghost use Rattle.std.specs.Option.{option_map};
 ghost use Rattle.mal_base.specs.Asks.{Terms};
-ghost use Rattle.mal_report.specs.Told.{body_of};
-ghost use Rattle.mal_revision.specs.Posted.{Posted};
-ghost use Rattle.spec_course.specs.{Course.Next.{Asks}, Supported.{IsSupported}};
+ghost use Rattle.spec_course.specs.Course.Next.{Asks};
 ghost use Rattle.spec_inquiry.specs.{Rounds.{IsInquiry}, Searches.{IsUnderway, one_solver}};
-ghost use Rattle.spec_max.specs.{Optimum.{clauses_in, first, opening, step, variables_in}, Right.{IsServed}};
+ghost use Rattle.spec_max.specs.{Optimum.{first, step}, Right.{IsServed}};
 ghost use Rattle.mal_max.specs.{Found.{IsFound, key}, Seen.{instance, next_of, seen, solution_of}};
 
 use crate::following::{Next, after};
@@ -71,7 +69,7 @@ fn search(
 {
     let mut best = None;
     let mut question = opening(alloc, formula, softs)?;
-    for _ in 0..129 {
+    for _ in 0..129_u32 {
         match follow(alloc, inquiry, formula, softs, best, question, scratch)? {
             Next::Asks {
                 best: found,

@@ -1,4 +1,4 @@
-use Rattle.std.proofs.Common.{◌≡◌, ◌+◌, ◌-◌, ◌≤◌, ◌++◌}
+use Rattle.std.proofs.Common.{◌≡◌, ◌-◌, ◌≤◌, ◌++◌}
 use Rattle.spec_max.specs.Counter.{adds}
 use Rattle.mal_max.proofs.counter.Counter.push_adds.Given as goal
 
