@@ -4,8 +4,8 @@ ghost use Rattle.std.specs.Prelude.{◌≡◌, ◌≤◌, ℕ, List, length, IfO
 ghost use Rattle.std.specs.Option.{option_map};
 ghost use Rattle.mal_report.specs.Told.{body_of};
 ghost use Rattle.spec_course.specs.Supported.{IsSupported};
-ghost use Rattle.spec_max.specs.{Optimum.{clauses_in, concluded, improved, step, variables_in}, Right.{IsServed}};
-ghost use Rattle.mal_max.specs.Seen.{instance, next_of, seen, solution_of};
+ghost use Rattle.spec_max.specs.{Optimum.{Unknown, clauses_in, concluded, improved, step, variables_in}, Right.{IsServed}};
+ghost use Rattle.mal_max.specs.Seen.{cause_of, instance, next_of, seen, solution_of};
 
 use crate::optimum::{Optimum, Solution};
 use crate::questions::cheaper;
@@ -42,14 +42,8 @@ pub fn after(
             improved(alloc, formula, softs, found)
         }
         Told::Proof { failed: _, lines } => Ok(Next::Ends(concluded(best, lines))),
-        Told::Spent(slices) => Ok(Next::Ends(Optimum::Unknown {
-            best,
-            cause: Cause::Spent(slices),
-        })),
-        Told::Starved => Ok(Next::Ends(Optimum::Unknown {
-            best,
-            cause: Cause::Starved,
-        })),
+        Told::Spent(slices) => Ok(Next::Ends(unknown(best, Cause::Spent(slices)))),
+        Told::Starved => Ok(Next::Ends(unknown(best, Cause::Starved))),
     }
 }
 
@@ -86,4 +80,11 @@ fn concluded(best: Option<Solution>, lines: Lines) -> Optimum
         None => Optimum::NoModel { lines },
         Some(solution) => Optimum::Best { solution, lines },
     }
+}
+
+/// The optimum that is unknown, with the best solution so far and the cause.
+fn unknown(best: Option<Solution>, cause: Cause) -> Optimum
+    ensures { seen result ≡ Unknown (option_map solution_of best) (cause_of cause) }
+{
+    Optimum::Unknown { best, cause }
 }
