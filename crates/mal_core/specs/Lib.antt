@@ -4,3 +4,7 @@ pub mod FaultLines
 pub mod InputLaws
 pub mod InputExamples
 pub mod ReadResult
+pub mod Seen
+pub mod Found
+pub mod Texts
+pub mod Examples

@@ -1,4 +1,4 @@
-//! The optimum of a formula with soft literals: the search over one job, its text.
+//! The optimum of a formula with soft literals: reading both, the search over one job, and its text.
 #![tactic(auto)]
 
 mod counter;
@@ -20,6 +20,6 @@ pub use input_laws::{input_examples, spelled_is_read, spelled_is_served};
 pub use max_laws::text_examples;
 pub use optimum::{Optimum, Solution};
 pub use reading::read;
-pub use telling::fault_line;
 pub use search::solve;
+pub use telling::fault_line;
 pub use text::optimum_text;
