@@ -48,7 +48,11 @@ fn push_copy(copy: &mut ClauseList, clauses: &ClauseList, place: usize) -> Resul
 }
 
 /// Puts the counter of these literals of so many variables behind other clauses.
-pub fn push_counter(clauses: &mut ClauseList, variables: u32, softs: &[Lit]) -> Result<(), AllocError>
+pub fn push_counter(
+    clauses: &mut ClauseList,
+    variables: u32,
+    softs: &[Lit],
+) -> Result<(), AllocError>
     requires within { is_within variables softs.now ≡ true }
     requires few { length softs.now ≤ 128 }
     requires bound { variables_with variables softs.now ≤ 65536 }
