@@ -14,7 +14,7 @@ use Rattle.mal_answer.specs.Laws.{AreLawful, HaveOwnWords}
 use Rattle.mal_answer.specs.declared.answer.Complaint.{Complaint}
 use Rattle.mal_answer.proofs.Meanings.{check-words, gen-words, gen_run-words, json-words, replay-words, run-words}
 use Rattle.mal_answer.specs.Forms.{Form}
-use Rattle.mal_answer.specs.declared.words.request.Request.TheVariants.{Run, Check, Replay, Generate, RunGenerated, Json}
+use Rattle.mal_answer.specs.declared.words.request.Request.TheVariants.{Run, Check, Replay, Generate, RunGenerated, Json, Max, Core}
 use Rattle.mal_answer.proofs.Complaints.{fault-refused, read-faulty}
 
 -- a text with a fault spells nothing

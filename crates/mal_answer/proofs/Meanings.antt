@@ -8,12 +8,12 @@ use Rattle.clap.specs.Words.{App, HasKind, IsAmong, Kinds, Row, Text, fault_of, 
 use Rattle.clap.specs.declared.error.Error.{Error}
 use Rattle.clap.specs.declared.error.kind.ErrorKind.TheVariants as kind
 use Rattle.mal_answer.specs.CommandLine.{mal_app, refusals, subcommand}
-use Rattle.mal_answer.specs.Forms.{Form, check_form, gen_form, generate_of, json_form, number_by, number_in, replay_form, run_form}
+use Rattle.mal_answer.specs.Forms.{Form, check_form, core_form, gen_form, generate_of, json_form, max_form, number_by, number_in, replay_form, run_form, slices_in}
 use Rattle.mal_answer.specs.Found.{IsMeaning}
 use Rattle.mal_answer.specs.WordLaws.{AskedIsAsks, OneMeaning}
 use Rattle.mal_answer.specs.Requests.{Asks, IsAskedBy, IsNumber, IsRequest, Means, MeansNothing, asked, asked_by, asked_in}
 use Rattle.mal_answer.specs.declared.words.request.Request.{Request}
-use Rattle.mal_answer.specs.declared.words.request.Request.TheVariants.{Run, Check, Replay, Generate, RunGenerated, Json}
+use Rattle.mal_answer.specs.declared.words.request.Request.TheVariants.{Run, Check, Replay, Generate, RunGenerated, Json, Max, Core}
 use Rattle.mal_answer.proofs.Decimals.{is-number, is-value, number-is, value-is}
 
 pub ruleset value_lemmas = (first_value-rows)
@@ -47,6 +47,16 @@ run-asks rows r e =
     let m = mapped (λ w. Run w) (number_in 1 64 word) r e in
     subst (λ (q : Request). Asks (codes "run") rows q) m.2 (refl, is-value 1 64 m.0 word m.1)
 
+max-asks : (rows : List Row) (r : Request) → max_form.asks rows ≡ Some r → Asks (codes "max") rows r
+max-asks rows r e =
+    let m = mapped (λ n. Max n) (slices_in rows) r e in
+    subst (λ (q : Request). Asks (codes "max") rows q) m.2 (refl, is-value 1 4096 m.0 (first_of (codes "slices") rows) m.1)
+
+core-asks : (rows : List Row) (r : Request) → core_form.asks rows ≡ Some r → Asks (codes "core") rows r
+core-asks rows r e =
+    let m = mapped (λ n. Core n) (slices_in rows) r e in
+    subst (λ (q : Request). Asks (codes "core") rows q) m.2 (refl, is-value 1 4096 m.0 (first_of (codes "slices") rows) m.1)
+
 gen-asks : (rows : List Row) (r : Request) (seed jobs : Option ℕ) (word : Option Text) → number_in 0 2147483647 (first_of (codes "seed") rows) ≡ seed → number_in 1 256 (first_of (codes "jobs") rows) ≡ jobs → first_of (codes "workers") rows ≡ word → generate_of seed jobs word ≡ Some r → Asks (codes "gen") rows r
 gen-asks rows r None jobs word s j w e = cc
 gen-asks rows r (Some seed) None word s j w e = cc
@@ -67,11 +77,13 @@ named name form rows r same asks = subst (λ (t : Text). Asks t rows r) (sym sam
 
 asked-asks : (name : Text) (rows : List Row) (r : Request) → asked name rows ≡ Some r → Asks name rows r
 asked-asks name rows r e =
-    by-form run_form (check_form ∷ replay_form ∷ gen_form ∷ json_form ∷ []) name rows r (Asks name rows r) e (λ n a. named name (codes "run") rows r n (run-asks rows r a)) (λ e.
-    by-form check_form (replay_form ∷ gen_form ∷ json_form ∷ []) name rows r (Asks name rows r) e (λ n a. subst (λ (q : Request). Asks name rows q) (some-is Check r a) n) (λ e.
-    by-form replay_form (gen_form ∷ json_form ∷ []) name rows r (Asks name rows r) e (λ n a. subst (λ (q : Request). Asks name rows q) (some-is Replay r a) n) (λ e.
-    by-form gen_form (json_form ∷ []) name rows r (Asks name rows r) e (λ n a. named name (codes "gen") rows r n (gen-asks rows r _ _ _ refl refl refl a)) (λ e.
-    by-form json_form [] name rows r (Asks name rows r) e (λ n a. subst (λ (q : Request). Asks name rows q) (some-is Json r a) n) (λ e. cc)))))
+    by-form run_form (check_form ∷ replay_form ∷ gen_form ∷ json_form ∷ max_form ∷ core_form ∷ []) name rows r (Asks name rows r) e (λ n a. named name (codes "run") rows r n (run-asks rows r a)) (λ e.
+    by-form check_form (replay_form ∷ gen_form ∷ json_form ∷ max_form ∷ core_form ∷ []) name rows r (Asks name rows r) e (λ n a. subst (λ (q : Request). Asks name rows q) (some-is Check r a) n) (λ e.
+    by-form replay_form (gen_form ∷ json_form ∷ max_form ∷ core_form ∷ []) name rows r (Asks name rows r) e (λ n a. subst (λ (q : Request). Asks name rows q) (some-is Replay r a) n) (λ e.
+    by-form gen_form (json_form ∷ max_form ∷ core_form ∷ []) name rows r (Asks name rows r) e (λ n a. named name (codes "gen") rows r n (gen-asks rows r _ _ _ refl refl refl a)) (λ e.
+    by-form json_form (max_form ∷ core_form ∷ []) name rows r (Asks name rows r) e (λ n a. subst (λ (q : Request). Asks name rows q) (some-is Json r a) n) (λ e.
+    by-form max_form (core_form ∷ []) name rows r (Asks name rows r) e (λ n a. named name (codes "max") rows r n (max-asks rows r a)) (λ e.
+    by-form core_form [] name rows r (Asks name rows r) e (λ n a. named name (codes "core") rows r n (core-asks rows r a)) (λ e. cc)))))))
 
 -- what a subcommand asks for is its form's
 as-named : (name form : Text) (rows : List Row) (r : Request) → name ≡ form → asked form rows ≡ Some r → asked name rows ≡ Some r
@@ -103,6 +115,12 @@ gen_run-words s j w name rows a = (a.0, by-workers (first_of (codes "workers") r
 pub json-words : IsAskedBy json_form Json
 json-words name rows a = (a, refl)
 
+pub max-words : (n : ℕ) → IsAskedBy max_form (Max n)
+max-words n name rows a = (a.0, ap (λ (o : Option ℕ). option_map (λ m. Max m) o) (value-is 1 4096 n (first_of (codes "slices") rows) (omega arith) a.1))
+
+pub core-words : (n : ℕ) → IsAskedBy core_form (Core n)
+core-words n name rows a = (a.0, ap (λ (o : Option ℕ). option_map (λ m. Core m) o) (value-is 1 4096 n (first_of (codes "slices") rows) (omega arith) a.1))
+
 asks-asked : (name : Text) (rows : List Row) (r : Request) → Asks name rows r → asked name rows ≡ Some r
 asks-asked name rows (Run w) a = let own = run-words w name rows a in as-named name (codes "run") rows (Run w) own.0 own.1
 asks-asked name rows Check a = as-named name (codes "check") rows Check a refl
@@ -110,6 +128,8 @@ asks-asked name rows Replay a = as-named name (codes "replay") rows Replay a ref
 asks-asked name rows (Generate s j) a = let own = gen-words s j name rows a in as-named name (codes "gen") rows (Generate s j) own.0 own.1
 asks-asked name rows (RunGenerated s j w) a = let own = gen_run-words s j w name rows a in as-named name (codes "gen") rows (RunGenerated s j w) own.0 own.1
 asks-asked name rows Json a = as-named name (codes "json") rows Json a refl
+asks-asked name rows (Max n) a = let own = max-words n name rows a in as-named name (codes "max") rows (Max n) own.0 own.1
+asks-asked name rows (Core n) a = let own = core-words n name rows a in as-named name (codes "core") rows (Core n) own.0 own.1
 
 pub asked-is_asks : AskedIsAsks
 asked-is_asks name rows r = (asked-asks name rows r, asks-asked name rows r)
@@ -157,6 +177,8 @@ asks-request name rows (Generate seed jobs) a =
 asks-request name rows (RunGenerated seed jobs workers) a =
     let w = in-range 1 64 workers _ a.1 in let s = in-range 0 2147483647 seed _ a.2 in let high = s.1 in let j = in-range 1 256 jobs _ a.3 in (omega arith, j.0, j.1, w.0, w.1)
 asks-request name rows Json a = tt
+asks-request name rows (Max slices) a = in-range 1 4096 slices _ a.1
+asks-request name rows (Core slices) a = in-range 1 4096 slices _ a.1
 
 pub means-request : (words : List Text) (o : Option Request) → IsMeaning o words → IfSome o (λ r. IsRequest r)
 means-request words None m = tt

@@ -4,7 +4,7 @@ use Rattle.clap.specs.Faults.{fault_of}
 use Rattle.clap.specs.Kinds.{Kinds}
 use Rattle.clap.specs.Simple.{App, new_app, new_rule, on_top, with_rule, with_subcommand, subcommand_of}
 use Rattle.clap.specs.Walk.{Row, Rule, Text}
-use Rattle.mal_answer.specs.Forms.{Form, Opt, forms, run_form, gen_form}
+use Rattle.mal_answer.specs.Forms.{Form, Opt, forms, gen_form}
 
 -- an option `--name` that takes one value, at most once
 abbrev pub option_rule : Text → Bool → Rule
@@ -22,8 +22,9 @@ with_options app (o ∷ os) = with_options (with_rule app (option_rule o.name o.
 abbrev pub app_of_form : Form → App
 app_of_form f = with_options (bare_app f.name) f.options
 
-abbrev pub run_app : App
-run_app = app_of_form run_form
+-- a command with one option, which has to be given
+abbrev pub app_with : Text → Text → App
+app_with name option = with_rule (bare_app name) (option_rule option true)
 
 abbrev pub gen_app : App
 gen_app = app_of_form gen_form

@@ -3,7 +3,7 @@ use Rattle.std.specs.Prelude.{◌≡◌, ◌⊎◌, ℕ, List, [], ◌∷◌, co
 use Rattle.mal_history.specs.Written.{line_at}
 use Rattle.mal_answer.specs.Forms.{check_form, gen_form, json_form, replay_form, run_form}
 use Rattle.mal_answer.specs.declared.words.request.Request.{Request}
-use Rattle.mal_answer.specs.declared.words.request.Request.TheVariants.{Run, Check, Replay, Generate, RunGenerated, Json}
+use Rattle.mal_answer.specs.declared.words.request.Request.TheVariants.{Run, Check, Replay, Generate, RunGenerated, Json, Max, Core}
 use Rattle.mal_account.specs.Accounts.{Account}
 use Rattle.mal_account.specs.Accounts as account
 use Rattle.mal_account.specs.FaultLines as account_lines

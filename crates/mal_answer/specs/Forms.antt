@@ -4,7 +4,7 @@ use Rattle.std.specs.Prelude.{ℕ, Bool, true, false, ◌&&◌, nat_le, List, []
 use Rattle.std.specs.Str.Parse.{digits_value}
 use Rattle.clap.specs.Walk.{Row, Text, first_of}
 use Rattle.mal_answer.specs.declared.words.request.Request.{Request}
-use Rattle.mal_answer.specs.declared.words.request.Request.TheVariants.{Run, Check, Replay, Generate, RunGenerated, Json}
+use Rattle.mal_answer.specs.declared.words.request.Request.TheVariants.{Run, Check, Replay, Generate, RunGenerated, Json, Max, Core}
 
 -- an option `--name VALUE`: the letter that stands for its value, and whether it has to be given
 pub record Opt : Type 0 where
@@ -62,6 +62,24 @@ gen_form = record {
 abbrev pub json_form : Form
 json_form = record { name = codes "json"; options = []; asks = λ rows. Some Json }
 
+-- the value of the option `slices`
+abbrev pub slices_in : List Row → Option ℕ
+slices_in rows = number_in 1 4096 (first_of (codes "slices") rows)
+
+abbrev pub max_form : Form
+max_form = record {
+  name = codes "max";
+  options = record { name = codes "slices"; value = codes "N"; required = true } ∷ [];
+  asks = λ rows. option_map (λ slices. Max slices) (slices_in rows);
+}
+
+abbrev pub core_form : Form
+core_form = record {
+  name = codes "core";
+  options = record { name = codes "slices"; value = codes "N"; required = true } ∷ [];
+  asks = λ rows. option_map (λ slices. Core slices) (slices_in rows);
+}
+
 -- the commands, in the order in which the line of usage lists them
 abbrev pub forms : List Form
-forms = run_form ∷ check_form ∷ replay_form ∷ gen_form ∷ json_form ∷ []
+forms = run_form ∷ check_form ∷ replay_form ∷ gen_form ∷ json_form ∷ max_form ∷ core_form ∷ []

@@ -1,7 +1,7 @@
 -- What words ask for.
 use Rattle.std.specs.Prelude.{[], ◌∷◌, codes}
 use Rattle.mal_answer.specs.Requests.{Means, MeansNothing}
-use Rattle.mal_answer.specs.declared.words.request.Request.TheVariants.{Run, Check, Replay, Generate, RunGenerated, Json}
+use Rattle.mal_answer.specs.declared.words.request.Request.TheVariants.{Run, Check, Replay, Generate, RunGenerated, Json, Max, Core}
 
 -- worked examples
 pub record HasExamples : Type 0 where
@@ -12,8 +12,12 @@ pub record HasExamples : Type 0 where
   pub gen : Means (codes "mal" ∷ codes "gen" ∷ codes "--jobs" ∷ codes "4" ∷ codes "--seed" ∷ codes "0" ∷ []) (Generate 0 4)
   pub gen_run : Means (codes "mal" ∷ codes "gen" ∷ codes "--seed=1" ∷ codes "--workers" ∷ codes "2" ∷ codes "--jobs=4" ∷ []) (RunGenerated 1 4 2)
   pub json : Means (codes "mal" ∷ codes "json" ∷ []) Json
+  pub max : Means (codes "mal" ∷ codes "max" ∷ codes "--slices" ∷ codes "4096" ∷ []) (Max 4096)
+  pub core : Means (codes "mal" ∷ codes "core" ∷ codes "--slices=1" ∷ []) (Core 1)
   pub nothing : MeansNothing (codes "mal" ∷ [])
   pub unknown : MeansNothing (codes "mal" ∷ codes "fly" ∷ [])
+  pub no_slices : MeansNothing (codes "mal" ∷ codes "max" ∷ [])
+  pub other_option : MeansNothing (codes "mal" ∷ codes "core" ∷ codes "--workers=1" ∷ [])
   pub repeated : MeansNothing (codes "mal" ∷ codes "run" ∷ codes "--workers=1" ∷ codes "--workers=1" ∷ [])
   pub abbreviated : MeansNothing (codes "mal" ∷ codes "run" ∷ codes "--work" ∷ codes "1" ∷ [])
   pub help : MeansNothing (codes "mal" ∷ codes "help" ∷ [])

@@ -3,14 +3,14 @@
 
 ghost use Rattle.std.specs.Prelude.{◌≡◌, false, IfOk};
 ghost use Rattle.clap.specs.{Words.{app_of, rule_of}, declared.builder.command.Command.TheViews.{out-Command as fields_of}};
-ghost use Rattle.mal_answer.specs.{CommandLine.{bare_app, bare_mal, gen_app, mal_app, option_rule, run_app}, Usage.{usage_line}};
+ghost use Rattle.mal_answer.specs.{CommandLine.{app_with, bare_app, bare_mal, gen_app, mal_app, option_rule}, Usage.{usage_line}};
 
 use clap::{Arg, Command};
 use std::alloc::{AllocError, Global};
 
 /// The commands with their options.
 const USAGE: &[u8] =
-    b"usage: mal run --workers N, check, replay, gen --seed S --jobs N [--workers W], json\n";
+    b"usage: mal run --workers N, check, replay, gen --seed S --jobs N [--workers W], json, max --slices N, core --slices N\n";
 
 /// The line for words that ask for nothing: each command with its options.
 pub fn usage_line() -> &'static [u8]
@@ -24,11 +24,13 @@ pub fn command<'a>(alloc: Global) -> Result<Command<'a>, AllocError>
     ensures { IfOk result (λ c. app_of c ≡ mal_app) }
 {
     program(alloc)
-        .subcommand(run(alloc)?)?
+        .subcommand(with_number(alloc, "run", "workers")?)?
         .subcommand(bare(alloc, "check"))?
         .subcommand(bare(alloc, "replay"))?
         .subcommand(generate(alloc)?)?
-        .subcommand(bare(alloc, "json"))
+        .subcommand(bare(alloc, "json"))?
+        .subcommand(with_number(alloc, "max", "slices")?)?
+        .subcommand(with_number(alloc, "core", "slices")?)
 }
 
 /// The program itself, of which a subcommand has to follow.
@@ -41,12 +43,12 @@ fn program<'a>(alloc: Global) -> Command<'a>
         .subcommand_required(true)
 }
 
-/// `run --workers N`.
-fn run<'a>(alloc: Global) -> Result<Command<'a>, AllocError>
-    ensures app { IfOk result (λ c. app_of c ≡ run_app) }
+/// `NAME --NUMBER N`: a command of this name with the one option of that name, which has to be given.
+fn with_number<'a>(alloc: Global, name: &'a str, number: &'a str) -> Result<Command<'a>, AllocError>
+    ensures app { IfOk result (λ c. app_of c ≡ app_with name.entry.now number.entry.now) }
     ensures local { IfOk result (λ c. (fields_of c).has_globals ≡ false) }
 {
-    bare(alloc, "run").arg(option(alloc, "workers", true))
+    bare(alloc, name).arg(option(alloc, number, true))
 }
 
 /// `gen --seed S --jobs N`, with or without `--workers W`.

@@ -2,7 +2,7 @@
 
 ghost use Rattle.std.specs.Prelude.{◌≡◌, IfOk, IfSome, Some, codes, map, option_map, string_bytes};
 ghost use Rattle.clap.specs.Words.{first_of, found_of, rows_of, subcommand_rows_of};
-ghost use Rattle.mal_answer.specs.{Forms.{gen_form, generate_of, number_in, run_form}, Requests.{IsRequest, asked, asked_in}, Found.{IsMeaning}};
+ghost use Rattle.mal_answer.specs.{Forms.{core_form, gen_form, generate_of, max_form, number_in, run_form}, Requests.{IsRequest, asked, asked_in}, Found.{IsMeaning}};
 
 use crate::words::command::command;
 use crate::words::number::number;
@@ -57,6 +57,12 @@ fn request_named(name: &str, options: &ArgMatches<'_>) -> Option<Request>
     if name == "json" {
         return Some(Request::Json);
     }
+    if name == "max" {
+        return max_with(options);
+    }
+    if name == "core" {
+        return core_with(options);
+    }
     None
 }
 
@@ -66,6 +72,26 @@ fn run_with(options: &ArgMatches<'_>) -> Option<Request>
 {
     match number_in(options, "workers", 1, 64) {
         Some(workers) => Some(Request::Run { workers }),
+        None => None,
+    }
+}
+
+/// What `max` asks for with these options.
+fn max_with(options: &ArgMatches<'_>) -> Option<Request>
+    ensures { result ≡ max_form.asks (rows_of (found_of options.now)) }
+{
+    match number_in(options, "slices", 1, 4096) {
+        Some(slices) => Some(Request::Max { slices }),
+        None => None,
+    }
+}
+
+/// What `core` asks for with these options.
+fn core_with(options: &ArgMatches<'_>) -> Option<Request>
+    ensures { result ≡ core_form.asks (rows_of (found_of options.now)) }
+{
+    match number_in(options, "slices", 1, 4096) {
+        Some(slices) => Some(Request::Core { slices }),
         None => None,
     }
 }

@@ -15,4 +15,8 @@ pub enum Request {
     RunGenerated { seed: u32, jobs: u32, workers: u32 },
     /// Writes the script that a description spells.
     Json,
+    /// Finds the optimum of a formula with soft literals, each question with a budget of so many slices, 1 to 4,096.
+    Max { slices: u32 },
+    /// Finds a minimal core of a formula and assumptions, each question with a budget of so many slices, 1 to 4,096.
+    Core { slices: u32 },
 }

@@ -7,7 +7,7 @@ use Rattle.clap.specs.declared.error.kind.ErrorKind.{ErrorKind}
 use Rattle.mal_answer.specs.CommandLine.{refusals, subcommand}
 use Rattle.mal_answer.specs.Requests.{Asks, Means, MeansNothing}
 use Rattle.mal_answer.specs.declared.words.request.Request.{Request}
-use Rattle.mal_answer.specs.declared.words.request.Request.TheVariants.{Run, Check, Replay, Generate, RunGenerated, Json}
+use Rattle.mal_answer.specs.declared.words.request.Request.TheVariants.{Run, Check, Replay, Generate, RunGenerated, Json, Max, Core}
 use Rattle.mal_answer.proofs.words.laws.word_examples.Goals as goal
 
 abbrev the : Option (Text × List Row) → Text × List Row
@@ -31,10 +31,14 @@ returns c = record {
   check = by _ Check refl refl refl;
   replay = by _ Replay refl refl refl;
   json = by _ Json refl refl refl;
+  max = by _ (Max 4096) refl refl (refl, (omega arith, omega arith, refl));
+  core = by _ (Core 1) refl refl (refl, (omega arith, omega arith, refl));
   gen = by _ (Generate 0 4) refl refl (refl, refl, (omega arith, omega arith, refl), (omega arith, omega arith, refl));
   gen_run = by _ (RunGenerated 1 4 2) refl refl (refl, (omega arith, omega arith, refl), (omega arith, omega arith, refl), (omega arith, omega arith, refl));
   nothing = refused _ _ _ refl;
   unknown = refused _ _ _ refl;
+  no_slices = refused _ _ _ refl;
+  other_option = refused _ _ _ refl;
   repeated = refused _ _ _ refl;
   abbreviated = refused _ _ _ refl;
   help = refused _ _ _ refl;
