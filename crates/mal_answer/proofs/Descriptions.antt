@@ -1,5 +1,5 @@
 -- What is written of a description, and what is refused of one.
-use Rattle.std.proofs.Common.{◌≡◌, ◌≢◌, ℕ, List, [], Ok, Err, sym, ◌∙◌, ap}
+use Rattle.std.proofs.Common.{◌≡◌, ◌≢◌, ℕ, List, [], Ok, Err, ◌∙◌, ap}
 use Rattle.spec_json.specs.Grammar.{Spells}
 use Rattle.spec_json.specs.Reading as json
 use Rattle.spec_json.specs.FaultLines.{fault_line}

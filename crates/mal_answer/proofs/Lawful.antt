@@ -3,16 +3,18 @@ use Rattle.std.proofs.Common.{ℕ, List, true≢false, Err}
 use Rattle.std.specs.Prelude.{Option}
 use Rattle.mal_account.proofs.ReadLemmas.{spelled-is-read as account-read}
 use Rattle.mal_claim.proofs.ReadLemmas.{spelled-is-read as claim-read}
+use Rattle.mal_core.proofs.InputLemmas.{spelled_read as core-read}
+use Rattle.mal_max.proofs.InputLemmas.{spelled_read as max-read}
 use Rattle.spec_json.proofs.Reading.{spelled-is-read as json-read}
 use Rattle.spec_script.proofs.Reading.{spelled-read as script-read}
 use Rattle.spec_script.specs.Limits.{served}
 use Rattle.spec_text.specs.Faults.{Fails, TellsBy}
 use Rattle.mal_answer.specs.Answers.{Complains, IsAnswerTo, NoLine}
 use Rattle.mal_answer.specs.Command.{Command, Denies, Grammar, IsLawful, IsRead, Refuses, TellsFaultOf, judging, making, reading}
-use Rattle.mal_answer.specs.Commands.{accounts, claims, descriptions, scripts}
+use Rattle.mal_answer.specs.Commands.{accounts, claims, core_inputs, descriptions, max_inputs, scripts}
 use Rattle.mal_answer.specs.Laws.{AreLawful, HaveOwnWords}
 use Rattle.mal_answer.specs.declared.answer.Complaint.{Complaint}
-use Rattle.mal_answer.proofs.Meanings.{check-words, gen-words, gen_run-words, json-words, replay-words, run-words}
+use Rattle.mal_answer.proofs.Meanings.{check-words, core-words, gen-words, gen_run-words, json-words, max-words, replay-words, run-words}
 use Rattle.mal_answer.specs.Forms.{Form}
 use Rattle.mal_answer.specs.declared.words.request.Request.TheVariants.{Run, Check, Replay, Generate, RunGenerated, Json, Max, Core}
 use Rattle.mal_answer.proofs.Complaints.{fault-refused, read-faulty}
@@ -58,6 +60,12 @@ accounts-read text a is = (account-read text a).0 is
 pub descriptions-read : IsRead descriptions
 descriptions-read text s is = (json-read served text s).0 is
 
+pub max_inputs-read : IsRead max_inputs
+max_inputs-read text w is = (max-read text w).0 is
+
+pub core_inputs-read : IsRead core_inputs
+core_inputs-read text w is = (core-read text w).0 is
+
 -- so it is for each command of the program
 pub are-lawful : AreLawful
 are-lawful (Run workers) = reading-lawful _ _ _ scripts-read
@@ -66,6 +74,8 @@ are-lawful Replay = judging-lawful _ _ _ _ _ accounts-read (λ text log out g. (
 are-lawful (Generate seed jobs) = making-lawful _ _
 are-lawful (RunGenerated seed jobs workers) = making-lawful _ _
 are-lawful Json = reading-lawful _ _ _ descriptions-read
+are-lawful (Max slices) = reading-lawful _ _ _ max_inputs-read
+are-lawful (Core slices) = reading-lawful _ _ _ core_inputs-read
 
 pub have-own_words : HaveOwnWords
 have-own_words (Run workers) = run-words workers
@@ -74,6 +84,8 @@ have-own_words Replay = replay-words
 have-own_words (Generate seed jobs) = gen-words seed jobs
 have-own_words (RunGenerated seed jobs workers) = gen_run-words seed jobs workers
 have-own_words Json = json-words
+have-own_words (Max slices) = max-words slices
+have-own_words (Core slices) = core-words slices
 
 -- a line that tells the first fault of a text refuses it
 pub refuses : (c : Command) → IsLawful c → (text line : List ℕ) → c.TellsFirst text line → Refuses c text line

@@ -1,7 +1,7 @@
 -- The commands of the program, each a value.
 use Rattle.std.specs.Prelude.{◌≡◌, ◌⊎◌, ℕ, List, [], ◌∷◌, codes, Ok}
 use Rattle.mal_history.specs.Written.{line_at}
-use Rattle.mal_answer.specs.Forms.{check_form, gen_form, json_form, replay_form, run_form}
+use Rattle.mal_answer.specs.Forms.{check_form, core_form, gen_form, json_form, max_form, replay_form, run_form}
 use Rattle.mal_answer.specs.declared.words.request.Request.{Request}
 use Rattle.mal_answer.specs.declared.words.request.Request.TheVariants.{Run, Check, Replay, Generate, RunGenerated, Json, Max, Core}
 use Rattle.mal_account.specs.Accounts.{Account}
@@ -13,6 +13,18 @@ use Rattle.mal_claim.specs.Claims.{Claim}
 use Rattle.mal_claim.specs.Claims as claim
 use Rattle.mal_claim.specs.FaultLines as claim_lines
 use Rattle.mal_claim.specs.Grammar as claim_texts
+use Rattle.mal_core.specs.FaultLines as core_lines
+use Rattle.mal_core.specs.Found as core
+use Rattle.mal_core.specs.Grammar as core_texts
+use Rattle.mal_core.specs.Reading as core_reading
+use Rattle.mal_core.specs.Texts.{minimal_text}
+use Rattle.mal_instance.specs.Reading.{Fault}
+use Rattle.mal_max.specs.FaultLines as max_lines
+use Rattle.mal_max.specs.Found as max
+use Rattle.mal_max.specs.Grammar as max_texts
+use Rattle.mal_max.specs.Reading as max_reading
+use Rattle.mal_max.specs.Texts.{optimum_text}
+use Rattle.spec_core.specs.Core as spec_core
 use Rattle.spec_json.specs.FaultLines as json_lines
 use Rattle.spec_json.specs.Grammar as json_texts
 use Rattle.spec_json.specs.Reading as json
@@ -22,6 +34,7 @@ use Rattle.spec_hall.specs.Driven.{IsDriven}
 use Rattle.spec_hall.specs.Events.{Event}
 use Rattle.spec_logic.specs.Logic.{IsUnsatisfiable}
 use Rattle.spec_logic.specs.Refutation.{IsRefutation}
+use Rattle.spec_max.specs.Optimum as spec_max
 use Rattle.spec_run.specs.Replayed.{IsLegal, IsLacking, IsRefusedAt, IsReplied}
 use Rattle.spec_run.specs.Complete.{IsComplete, script_events}
 use Rattle.spec_run.specs.Run.{IsRun}
@@ -67,7 +80,8 @@ pub record Verifies (text : List ℕ) : Type 0 where
   pub proved : IsProved claim
   pub unsatisfiable : IsUnsatisfiable claim.formula.clauses claim.assumptions
 
--- the grammars of inputs: scripts, claims, accounts, and descriptions
+-- the grammars of inputs: scripts, claims, accounts, descriptions, formulas with soft literals, and formulas with
+-- assumptions
 abbrev pub scripts : Grammar Scripted (ℕ × LineFault)
 scripts = record { Spells = Spells served; read = read_text served; line_of = λ e. fault_line e.0 e.1 }
 
@@ -80,11 +94,31 @@ accounts = record { Spells = account_texts.Spells; read = account.read_text; lin
 abbrev pub descriptions : Grammar Scripted JsonFault
 descriptions = record { Spells = json_texts.Spells served; read = json.read_text served; line_of = json_lines.fault_line }
 
+abbrev pub max_inputs : Grammar spec_max.Instance Fault
+max_inputs = record { Spells = max_texts.Spells; read = max_reading.read_text; line_of = max_lines.fault_line }
+
+abbrev pub core_inputs : Grammar spec_core.Instance Fault
+core_inputs = record { Spells = core_texts.Spells; read = core_reading.read_text; line_of = core_lines.fault_line }
+
 -- the script that a description spells is written, and is read again from what is written
 pub record IsWritten (s : Scripted) (log out : List ℕ) : Type 0 where
   pub silent : log ≡ []
   pub written : out ≡ spelling s
   pub again : read_text served out ≡ Ok s
+
+-- an optimum that a search finds for an instance is written, each question of which may spend so many slices
+pub record IsOptimized (slices : ℕ) (w : spec_max.Instance) (log out : List ℕ) : Type 0 where
+  pub optimum : spec_max.Optimum
+  pub found : max.IsFound slices w optimum
+  pub silent : log ≡ []
+  pub written : out ≡ optimum_text optimum
+
+-- so is what a search for a minimal core finds
+pub record IsMinimized (slices : ℕ) (w : spec_core.Instance) (log out : List ℕ) : Type 0 where
+  pub minimal : spec_core.Minimal
+  pub found : core.IsFound slices w minimal
+  pub silent : log ≡ []
+  pub written : out ≡ minimal_text minimal
 
 -- `run`: a script is run with so many workers
 abbrev pub running : ℕ → Command
@@ -114,6 +148,14 @@ running_generated seed jobs workers = making gen_form (λ log out.
 abbrev pub describing : Command
 describing = reading json_form descriptions IsWritten
 
+-- `max`: the optimum of a formula with soft literals is found
+abbrev pub optimizing : ℕ → Command
+optimizing slices = reading max_form max_inputs (IsOptimized slices)
+
+-- `core`: a minimal core of a formula and assumptions is found
+abbrev pub minimizing : ℕ → Command
+minimizing slices = reading core_form core_inputs (IsMinimized slices)
+
 -- the command that is asked for
 abbrev pub command_of : Request → Command
 command_of (Run workers) = running workers
@@ -122,3 +164,5 @@ command_of Replay = replaying
 command_of (Generate seed jobs) = generating seed jobs
 command_of (RunGenerated seed jobs workers) = running_generated seed jobs workers
 command_of Json = describing
+command_of (Max slices) = optimizing slices
+command_of (Core slices) = minimizing slices

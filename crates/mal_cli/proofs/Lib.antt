@@ -1,6 +1,8 @@
 -- what this crate alone cites
 pub mod CallLemmas
+pub mod CoreLemmas
 mod Crossings
 pub mod LossLemmas
+pub mod OptimumLemmas
 pub mod Replays
 pub mod Rules

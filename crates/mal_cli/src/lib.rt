@@ -2,8 +2,10 @@
 //! every call of theirs is one entry of one legal record.
 #![tactic(auto)]
 
+mod cores;
 mod generating;
 mod laws;
+mod optima;
 mod program;
 mod replaying;
 mod run;
