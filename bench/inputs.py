@@ -73,6 +73,46 @@ def implications() -> Iterator[Clause]:
     return ([-i, i + 1] for i in range(1, MOST_VARIABLES))
 
 
+def planted(draw: random.Random, variables: int, count: int) -> Iterator[Clause]:
+    """So many clauses of three different variables, each with a literal that is true in one assignment for all of them."""
+    true = {draw.choice((v, -v)) for v in range(1, variables + 1)}
+    made = 0
+    while made < count:
+        clause = [draw.choice((v, -v)) for v in sorted(draw.sample(range(1, variables + 1), 3))]
+        if true.intersection(clause):
+            made += 1
+            yield clause
+
+
+def counter(variables: int, soft: Clause) -> Iterator[Clause]:
+    """The counter of soft literals: variable s(i, j) follows where j of the first i are false."""
+    count = len(soft)
+    for i, lit in enumerate(soft):
+        before, here = variables + (i - 1) * count, variables + i * count
+        yield [lit, here + 1]
+        if i > 0:
+            yield from ([-before - j, here + j] for j in range(1, count + 1))
+            yield from ([lit, -before - j, here + j + 1] for j in range(1, count))
+
+
+def asked(source: str) -> tuple[int, list[Clause], Clause]:
+    """The variables and the clauses of an input of `max` or `core` that was written here, and the literals behind them."""
+    with open(source, encoding="ascii") as lines:
+        variables = int(next(lines).split()[2])
+        *clauses, last = (line.split() for line in lines)
+    return variables, [[int(word) for word in clause[:-1]] for clause in clauses], [int(word) for word in last[1:-1]]
+
+
+def questions(out: TextIO, variables: int, clauses: list[Clause], slices: int, assumptions: Iterable[Clause]) -> None:
+    """A job whose first revision has all clauses, and which is asked under one list of assumptions after the other."""
+    print(f"t t\nj p 1 1 {slices}", file=out)
+    for assumed in assumptions:
+        block(out, variables, len(clauses), clauses)
+        print("a " + literals(assumed), file=out)
+        clauses = []
+    print("e", file=out)
+
+
 def write_hard(out: TextIO, variables: str = "150", seed: str = "1") -> None:
     """A job of a random formula with 4.26 times as many clauses as variables, about half of which are satisfiable."""
     count = round(4.26 * int(variables))
@@ -119,6 +159,49 @@ def write_many(out: TextIO) -> None:
             print(f"j j{job} {1 + job % 9} 1 64\np cnf 2 1\n1 2 0\na 0\ne", file=out)
 
 
+def write_optimum(out: TextIO, seed: str = "1") -> None:
+    """800 clauses of three literals over 200 variables, which are satisfiable, and 128 soft literals."""
+    draw = random.Random(int(seed))
+    block(out, 200, 800, planted(draw, 200, 800))
+    print("w " + literals([draw.choice((v, -v)) for v in draw.sample(range(1, 201), 128)]), file=out)
+
+
+def write_cheaper(out: TextIO, source: str, slices: str, *costs: str) -> None:
+    """A job that asks for a model of formula and counter, and then for one below each of these costs."""
+    variables, clauses, soft = asked(source)
+    last = variables + (len(soft) - 1) * len(soft)
+    every = [*clauses, *counter(variables, soft)]
+    questions(out, variables + len(soft) ** 2, every, int(slices), [[], *([-last - int(cost)] for cost in costs)])
+
+
+def write_options(out: TextIO, seed: str = "1") -> None:
+    """900 clauses of three literals over 45 variables, each of which holds under one of 255 assumptions."""
+    draw = random.Random(int(seed))
+    chosen = (sorted(draw.sample(range(1, 46), 3)) for _ in range(900))
+    block(out, 300, 900, ([draw.choice((v, -v)) for v in three] + [-46 - at % 255] for at, three in enumerate(chosen)))
+    print("a " + literals(list(range(46, 301))), file=out)
+
+
+def write_needed(out: TextIO, seed: str = "1") -> None:
+    """255 assumptions that are all needed: each of 45 variables follows from 5 or 6 of them, and one has to be false. Beside these
+    854 clauses of three literals, two of which are assumed, so that they hold without any one assumption."""
+    draw = random.Random(int(seed))
+    parts = [list(range(part, 256, 45)) for part in range(1, 46)]
+    clauses = [[-lit for lit in part] + [255 + at] for at, part in enumerate(parts, 1)] + [[-255 - at for at in range(1, 46)]]
+    for _ in range(900 - len(clauses)):
+        pair = draw.sample(range(1, 256), 2)
+        third = draw.choice([v for v in range(1, 301) if v not in pair])
+        clauses.append([*pair, draw.choice((third, -third))])
+    block(out, 300, 900, clauses)
+    print("a " + literals(list(range(1, 256))), file=out)
+
+
+def write_without(out: TextIO, source: str) -> None:
+    """A job that asks a formula under all assumptions, and then without each of them."""
+    variables, clauses, assumed = asked(source)
+    questions(out, variables, clauses, SLICES, [assumed, *([other for other in assumed if other != lit] for lit in assumed)])
+
+
 def write_formulas(out: TextIO, source: str, folder: str) -> None:
     """Each revision of a script as a file of its own in DIMACS CNF: the clauses of its job so far, and its assumptions
     as unit clauses. Writes the files' names, in the order of the script."""
@@ -152,6 +235,11 @@ WRITERS: dict[str, tuple[Callable[..., None], str]] = {
     "assumptions": (write_assumptions, ": 65,536 assumptions and no clause, a job"),
     "revisions": (write_revisions, "[SEED [REVISIONS [CLAUSES]]]: 256 revisions of 2,000 easy clauses each, a job"),
     "many": (write_many, ": 4,096 jobs of one clause each"),
+    "optimum": (write_optimum, "[SEED]: 128 soft literals and 800 clauses over 200 variables, an input of max"),
+    "cheaper": (write_cheaper, "INPUT SLICES COST..: an input of max as a job, asked for a model below each cost"),
+    "options": (write_options, "[SEED]: 255 assumptions for 900 clauses over 45 variables, an input of core"),
+    "needed": (write_needed, "[SEED]: 255 assumptions that are all needed, an input of core"),
+    "without": (write_without, "INPUT: an input of core as a job, asked without each assumption"),
     "formulas": (write_formulas, "SCRIPT FOLDER: a script's revisions as files of their own, whose names are written"),
 }
 
