@@ -1,5 +1,5 @@
 -- What small texts say.
-use Rattle.std.specs.Prelude.{◌≡◌, ℕ, List, [], ◌∷◌, ◌++◌, Some, codes, Result, Ok, Err}
+use Rattle.std.specs.Prelude.{◌≡◌, ℕ, List, [], ◌∷◌, ◌++◌, flat_map, replicate, Some, codes, Result, Ok, Err}
 use Rattle.mal_base.specs.declared.block_fault.BlockFault.TheVariants as block
 use Rattle.mal_base.specs.declared.limit_kind.LimitKind.TheVariants as limit
 use Rattle.mal_base.specs.declared.line_fault.LineFault.TheVariants as line
@@ -24,6 +24,7 @@ pub record HasInputs : Type 0 where
   pub formula_first : read_text (codes "p cnf 3 2\n1 0\nw x\n") ≡ Err (InFormula 2 (line.Dimacs (block.ClauseCount 2 1)))
   pub not_closed : read_text (one ++ codes "w 1 -1 4\n") ≡ Err (InFormula 3 line.BadLine)
   pub out_of_range : read_text (one ++ codes "w 1 -1 4 0\n") ≡ Err (InFormula 3 line.Range)
+  pub too_many : read_text (one ++ codes "w" ++ flat_map (λ lit. codes " " ++ lit) (replicate 129 (codes "-2")) ++ codes " 0\nx\n") ≡ Err (TooMany 3)
   pub variables : read_text (codes "p cnf 65536 0\nw 1 0\nx\n") ≡ Err (InFormula 2 (line.Limit limit.Variables))
   pub second_line : read_text (one ++ codes "w 1 0\nw 1 0\n") ≡ Err (InFormula 4 line.BadLine)
   pub no_line_told : fault_line NoLine ≡ codes "fault: no soft\n"
