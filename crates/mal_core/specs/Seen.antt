@@ -1,8 +1,7 @@
 -- What the types of this crate stand for.
 use Rattle.std.specs.Prelude.{ℕ, List, Option, Some, None}
 use Rattle.mal_base.specs.Formulas.{Formulated}
-use Rattle.mal_report.specs.declared.told.Cause.{Cause}
-use Rattle.mal_report.specs.declared.told.Cause.TheVariants as cause
+use Rattle.mal_inquiry.specs.Causes.{cause_of}
 use Rattle.mal_revision.specs.Posted.{Posted}
 use Rattle.spec_course.specs.Course as course
 use Rattle.spec_course.specs.Course.Next.{Asks, Ends}
@@ -15,11 +14,6 @@ use Rattle.mal_core.specs.declared.outcome.Minimal.TheVariants as minimal
 -- the instance of a formula and assumptions
 abbrev pub instance : Formulated → List ℕ → core.Instance
 instance formula assumptions = record { formula = formula; assumptions = assumptions }
-
--- why an answer is unknown
-abbrev pub cause_of : Cause → course.Cause
-cause_of (cause.Spent n) = course.Spent n
-cause_of cause.Starved = course.Starved
 
 -- what a search comes to
 abbrev pub seen : Minimal → core.Minimal

@@ -1,10 +1,11 @@
 //! What follows what is told.
 
 ghost use Rattle.std.specs.Prelude.{◌≡◌, IfOk};
+ghost use Rattle.mal_inquiry.specs.Causes.{cause_of};
 ghost use Rattle.mal_report.specs.Told.{body_of};
 ghost use Rattle.spec_course.specs.Course.Next.{Ends};
 ghost use Rattle.spec_core.specs.Core.{Instance, Unknown, going, models_of, satisfied, step};
-ghost use Rattle.mal_core.specs.Seen.{cause_of, next_of};
+ghost use Rattle.mal_core.specs.Seen.{next_of};
 
 use crate::outcome::{Minimal, Narrowed};
 use mal_base::{Lines, Lit, Values};

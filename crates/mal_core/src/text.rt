@@ -2,15 +2,14 @@
 
 ghost use Rattle.std.specs.Prelude.{◌≡◌, [], ◌∷◌, ◌++◌, codes, IfOk, OnOk};
 ghost use Rattle.spec_text.specs.{Lines.{text_of}, Numbers.{literal_word}};
-ghost use Rattle.spec_report.specs.Replies.{Proof, told_rows};
 ghost use Rattle.mal_report.specs.Rows.{model_row};
-ghost use Rattle.spec_course.specs.Course.{unknown};
-ghost use Rattle.mal_core.specs.{Seen.{cause_of, seen}, Texts.{core_rows, minimal_rows, minimal_text, witness_rows}};
+ghost use Rattle.mal_core.specs.{Seen.{seen}, Texts.{core_rows, minimal_rows, minimal_text, witness_rows}};
 
 use crate::outcome::{Minimal, Narrowed};
 use itoa::Buffer;
 use mal_base::{Lit, Values};
-use mal_report::{Cause, put_cause, put_failed, put_model, put_proof};
+use mal_inquiry::put_unknown;
+use mal_report::{put_failed, put_model, put_proof};
 use mal_text::put_line;
 use std::alloc::{AllocError, Global};
 
@@ -36,14 +35,6 @@ fn put_minimal(out: &mut Vec<u8>, minimal: &Minimal) -> Result<(), AllocError>
         }
         Minimal::Unknown { cause } => put_unknown(out, *cause),
     }
-}
-
-/// Writes that it is unknown, and the cause.
-fn put_unknown(out: &mut Vec<u8>, cause: Cause) -> Result<(), AllocError>
-    ensures { OnOk result (out.new.items ≡ out.old.items ++ text_of (told_rows (unknown (cause_of cause)))) }
-{
-    put_line(out, b"s", &[b"UNKNOWN"])?;
-    put_cause(out, cause)
 }
 
 /// Writes the lines of a core: its literals, the lines that refute the formula under them, and its witnesses.

@@ -2,13 +2,12 @@
 use Rattle.std.specs.Prelude.{ℕ, List, Option, Some}
 use Rattle.std.specs.Option.{option_map}
 use Rattle.mal_base.specs.Formulas.{Formulated}
+use Rattle.mal_inquiry.specs.Causes.{cause_of}
 use Rattle.mal_max.specs.declared.following.Next.{Next}
 use Rattle.mal_max.specs.declared.following.Next.TheVariants as next
 use Rattle.mal_max.specs.declared.optimum.Optimum.{Optimum}
 use Rattle.mal_max.specs.declared.optimum.Optimum.TheVariants as optimum
 use Rattle.mal_max.specs.declared.optimum.Solution.{Solution}
-use Rattle.mal_report.specs.declared.told.Cause.{Cause}
-use Rattle.mal_report.specs.declared.told.Cause.TheVariants as cause
 use Rattle.spec_course.specs.Course as course
 use Rattle.spec_max.specs.Optimum as max
 
@@ -18,10 +17,6 @@ instance formula softs = record { formula = formula; softs = softs }
 
 abbrev pub solution_of : Solution → max.Solution
 solution_of found = record { model = found.model; cost = found.cost }
-
-abbrev pub cause_of : Cause → course.Cause
-cause_of (cause.Spent n) = course.Spent n
-cause_of cause.Starved = course.Starved
 
 abbrev pub seen : Optimum → max.Optimum
 seen (optimum.Best found lines) = max.Best (solution_of found) lines.lines

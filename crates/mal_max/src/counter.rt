@@ -1,11 +1,12 @@
 //! The counter of the soft literals that are false, behind the clauses of a formula.
 
-ghost use Rattle.std.specs.Prelude.{◌≡◌, ◌+◌, ◌-◌, ◌*◌, ◌/◌, ◌<◌, ◌≤◌, false, true, ◌∷◌, ◌++◌, [], length, get_or, None, IfOk, OnOk};
+ghost use Rattle.std.specs.Prelude.{◌≡◌, ◌+◌, ◌-◌, ◌*◌, ◌/◌, ◌<◌, ◌≤◌, false, true, ◌∷◌, ◌++◌, [], length, IfOk, OnOk};
 ghost use Rattle.mal_base.specs.{Formulas.{is_within}, Literals.{literal}};
 ghost use Rattle.spec_max.specs.{Counter.{adds, carries, counted, counter, row, starts, variables_with}, Optimum.{clauses_in}};
 ghost use Rattle.mal_max.specs.Seen.{instance};
 
 use mal_base::{ClauseList, Formula, Lit, Var};
+use mal_inquiry::copied;
 use std::alloc::{AllocError, Global};
 
 /// The clauses of a formula, and behind them those of the counter of soft literals, 128 at most, which are of its
@@ -23,28 +24,6 @@ pub fn with_counter(
     let mut clauses = copied(alloc, formula.clauses())?;
     push_counter(&mut clauses, formula.variables(), softs)?;
     Ok(clauses)
-}
-
-/// The same clauses once more.
-fn copied(alloc: Global, clauses: &ClauseList) -> Result<ClauseList, AllocError>
-    ensures { IfOk result (λ c. c ≡ clauses.now) }
-{
-    let mut copy = ClauseList::new(alloc);
-    for place in 0..clauses.len() {
-        push_copy(&mut copy, clauses, place)?;
-    }
-    Ok(copy)
-}
-
-/// Puts the clause at a place behind others.
-fn push_copy(copy: &mut ClauseList, clauses: &ClauseList, place: usize) -> Result<(), AllocError>
-    requires { place < length clauses.now }
-    ensures { OnOk result (copy.new ≡ copy.old ++ get_or clauses.now place None ∷ []) }
-{
-    match clauses.at(place) {
-        None => copy.push_tautology(),
-        Some(lits) => copy.push_rising(lits),
-    }
 }
 
 /// Puts the counter of these literals of so many variables behind other clauses.

@@ -2,10 +2,11 @@
 
 ghost use Rattle.std.specs.Prelude.{◌≡◌, ◌≤◌, ℕ, List, length, IfOk};
 ghost use Rattle.std.specs.Option.{option_map};
+ghost use Rattle.mal_inquiry.specs.Causes.{cause_of};
 ghost use Rattle.mal_report.specs.Told.{body_of};
 ghost use Rattle.spec_course.specs.Supported.{IsSupported};
 ghost use Rattle.spec_max.specs.{Optimum.{Unknown, clauses_in, concluded, improved, step, variables_in}, Right.{IsServed}};
-ghost use Rattle.mal_max.specs.Seen.{cause_of, instance, next_of, seen, solution_of};
+ghost use Rattle.mal_max.specs.Seen.{instance, next_of, seen, solution_of};
 
 use crate::optimum::{Optimum, Solution};
 use crate::questions::cheaper;

@@ -1,12 +1,12 @@
 //! The questions of a search.
 
-ghost use Rattle.std.specs.Prelude.{◌≡◌, ◌≤◌, true, length, IfOk};
-ghost use Rattle.mal_revision.specs.Posted.{is_posted};
+ghost use Rattle.std.specs.Prelude.{◌≡◌, ◌≤◌, length, IfOk};
 ghost use Rattle.spec_max.specs.{Optimum.{cheaper, opening}, Right.{IsServed}};
 ghost use Rattle.mal_max.specs.Seen.{instance};
 
 use crate::counter::{Counter, with_counter};
 use mal_base::{ClauseList, Formula, Lit};
+use mal_inquiry::posted;
 use mal_revision::Revision;
 use std::alloc::{AllocError, Global};
 
@@ -35,21 +35,4 @@ pub fn cheaper(
     let counter = Counter::of(formula.variables(), softs);
     let less = counter.costs_less(cost);
     posted(alloc, counter.last(), ClauseList::new(alloc), &[less])
-}
-
-/// The revision of these parts, which may be posted.
-fn posted(
-    alloc: Global,
-    variables: u32,
-    clauses: ClauseList,
-    assumptions: &[Lit],
-) -> Result<Revision, AllocError>
-    requires { is_posted (record { variables = variables; clauses = clauses; assumptions = assumptions.now }) ≡ true }
-    ensures { IfOk result
-        (λ r. r ≡ record { variables = variables; clauses = clauses; assumptions = assumptions.now }) }
-{
-    match Revision::new(alloc, variables, clauses, assumptions) {
-        Ok(revision) => Ok(revision),
-        Err(_) => Err(AllocError),
-    }
 }

@@ -2,14 +2,13 @@
 
 ghost use Rattle.std.specs.Prelude.{◌≡◌, ◌∷◌, ◌++◌, [], codes, IfOk, OnOk};
 ghost use Rattle.std.specs.Option.{option_map};
-ghost use Rattle.spec_report.specs.Replies.{told_rows};
 ghost use Rattle.spec_text.specs.Lines.{text_of};
-ghost use Rattle.spec_course.specs.Course.{unknown};
-ghost use Rattle.mal_max.specs.{Seen.{seen, cause_of, solution_of}, Texts.{best_rows, optimum_rows, optimum_text, solution_rows}};
+ghost use Rattle.mal_max.specs.{Seen.{seen, solution_of}, Texts.{best_rows, optimum_rows, optimum_text, solution_rows}};
 
 use crate::optimum::{Optimum, Solution};
 use itoa::Buffer;
-use mal_report::{Cause, put_cause, put_model, put_proof};
+use mal_inquiry::put_unknown;
+use mal_report::{put_model, put_proof};
 use mal_text::put_line;
 use std::alloc::{AllocError, Global};
 
@@ -45,14 +44,6 @@ fn put_optimum(out: &mut Vec<u8>, optimum: &Optimum) -> Result<(), AllocError>
         }
     }
     Ok(())
-}
-
-/// Writes that the optimum is unknown, and the cause.
-fn put_unknown(out: &mut Vec<u8>, cause: Cause) -> Result<(), AllocError>
-    ensures { OnOk result (out.new.items ≡ out.old.items ++ text_of (told_rows (unknown (cause_of cause)))) }
-{
-    put_line(out, b"s", &[b"UNKNOWN"])?;
-    put_cause(out, cause)
 }
 
 /// Writes the lines of the best solution so far, if there is one.
