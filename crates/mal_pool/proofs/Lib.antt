@@ -10,4 +10,5 @@ mod Postings
 mod Leavings
 mod Refused
 mod Agreements
+mod Stepping
 mod Gating

@@ -1,4 +1,4 @@
-use Rattle.std.specs.Prelude.{◌≡◌, ℕ, ◌<◌, Bool, false, List, [], ◌∷◌, length, map, filter, slice_get}
+use Rattle.std.specs.Prelude.{◌≡◌, ℕ, ◌+◌, ◌<◌, Bool, false, List, [], ◌∷◌, length, map, filter, slice_get, Some}
 use Rattle.mal_history.specs.declared.event.Event as written
 use Rattle.mal_history.specs.declared.event.Event.TheVariants as of
 use Rattle.spec_hall.specs.Driven.{was_lost}
@@ -7,7 +7,10 @@ use Rattle.spec_hall.specs.Events.{Event, bare}
 use Rattle.spec_hall.specs.States.{states}
 use Rattle.spec_run.specs.PostLines.{HavePosts}
 use Rattle.spec_run.specs.Complete.{is_post_of, key_of_job, posts_of}
-use Rattle.spec_script.specs.Script.{ScriptedJob, Scripted, revisions}
+use Rattle.mal_revision.specs.Posted.{Posted}
+use Rattle.spec_script.specs.Script.{ScriptedJob, Scripted, revisions, revisions_at}
+use Rattle.spec_script.specs.declared.step.Step.{Step}
+use Rattle.spec_script.specs.declared.step.Step.TheVariants.{Revise, Reask}
 
 -- whether an event that is written down is the loss of a lease
 abbrev pub is_loss : written.Event → Bool
@@ -36,3 +39,13 @@ HasPosts s history = (tenant : List ℕ) → filter (is_post_of tenant) history 
 -- what is written down of a history's posts is just what the script says, and its jobs have the script's contents
 abbrev pub AreThePosts : Scripted → List Event → Type 0
 AreThePosts s history = HavePosts s (map bare history) × HaveContents history s.jobs
+
+-- these revisions have at a place what a step posts, if it posts one
+abbrev pub HasStep : List Posted → ℕ → Step → Type 0
+HasStep posted at (Revise r) = slice_get posted at ≡ Some r
+HasStep posted at (Reask w) = Unit {0}
+
+-- so they have what steps post, from a place on
+abbrev pub HasSteps : List Posted → ℕ → List Step → Type 0
+HasSteps posted at [] = Unit {0}
+HasSteps posted at (s ∷ ss) = HasStep posted at s × HasSteps posted (at + length (revisions_at s)) ss

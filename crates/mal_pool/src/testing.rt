@@ -1,17 +1,17 @@
 //! Tests of a hall's history: whether a lease was lost, and whether tenants posted what a script says.
 
-ghost use Rattle.std.specs.Prelude.{◌≡◌, ◌↔◌, ◌≤◌, ◌<◌, true, ◌&&◌, not, [], length, slice_get, IfOk, IsTrue};
+ghost use Rattle.std.specs.Prelude.{◌≡◌, ◌↔◌, ◌≤◌, true, ◌&&◌, not, [], length, IfOk, IsTrue};
 ghost use Rattle.std.specs.List.{list_any};
-ghost use Rattle.mal_pool.specs.Testing.{AreThePosts, HasContents, HaveContents, HasPosts, is_loss};
+ghost use Rattle.mal_pool.specs.Testing.{AreThePosts, HasStep, HasSteps, HaveContents, HasPosts, is_loss};
 ghost use Rattle.spec_hall.specs.{Dressed.{revisions_of}, Driven.{was_lost}, Own.{is_text}, States.{states}};
 ghost use Rattle.spec_run.specs.Complete.{key_of_job};
-ghost use Rattle.spec_script.specs.{Formed.{MayAllFollow}, Limits.{served}, Script.{revisions}};
+ghost use Rattle.spec_script.specs.{Formed.{MayAllFollow}, Limits.{served}, Script.{revisions_in}};
 
 use mal_base::{Name, Outcome};
 use mal_hall::Hall;
 use mal_history::{Event, History};
 use mal_posts::have_posts;
-use mal_script::{Script, ScriptJob};
+use mal_script::{Script, ScriptJob, Step, revisions_of};
 use std::alloc::{AllocError, Global};
 
 /// Whether a lease was lost though the gate stopped nobody.
@@ -73,38 +73,38 @@ fn have_contents(hall: &Hall, jobs: &[ScriptJob]) -> bool
     ensures { IsTrue result ↔ HaveContents hall.now.events jobs.now }
 {
     for job in jobs {
-        if !has_contents(hall, job) {
+        if !has_contents(hall, job, job.steps()) {
             return false;
         }
     }
     true
 }
 
-/// Whether the job of a hall has the revisions of the script's.
-fn has_contents(hall: &Hall, job: &ScriptJob) -> bool
-    requires { length (revisions job.now) ≤ 256 }
-    ensures { IsTrue result ↔ HasContents hall.now.events job.now }
+/// Whether the job of a hall has the revisions of these steps, in their order.
+fn has_contents(hall: &Hall, job: &ScriptJob, steps: &[Step]) -> bool
+    requires { length (revisions_in steps.now) ≤ 256 }
+    ensures { IsTrue result ↔ HasSteps (revisions_of (key_of_job job.now) (states hall.now.events)) 0 steps.now }
 {
-    for at in 0..job.revision_count() {
-        if !has_revision(hall, job, at) {
+    let mut at = 0;
+    for step in steps {
+        if !has_step(hall, job, at, step) {
             return false;
         }
+        at += revisions_of(step);
     }
     true
 }
 
-/// Whether the job of a hall has the revision of the script's at this place.
-fn has_revision(hall: &Hall, job: &ScriptJob, at: usize) -> bool
-    requires few { length (revisions job.now) ≤ 256 }
-    requires low { at < length (revisions job.now) }
-    ensures { IsTrue result
-        ↔ (slice_get (revisions_of (key_of_job job.now) (states hall.now.events)) at ≡ slice_get (revisions job.now) at) }
+/// Whether the job of a hall has the revision of a step, if it has one, at this place.
+fn has_step(hall: &Hall, job: &ScriptJob, at: usize, step: &Step) -> bool
+    requires { at ≤ 256 }
+    ensures { IsTrue result ↔ HasStep (revisions_of (key_of_job job.now) (states hall.now.events)) at step.now }
 {
-    match hall.revision(&job.tenant(), &job.name(), at as u32 + 1) {
-        Some(posted) => match job.revision(at) {
-            Some(revision) => posted.same(revision),
+    match step {
+        Step::Revise(revision) => match hall.revision(&job.tenant(), &job.name(), at as u32 + 1) {
+            Some(posted) => posted.same(revision),
             None => false,
         },
-        None => false,
+        Step::Reask(_) => true,
     }
 }
