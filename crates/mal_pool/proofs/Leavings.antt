@@ -1,5 +1,8 @@
 -- Posts behind posts, and that they lose no lease.
-use Rattle.std.proofs.Common.{◌≡◌, false, List, [], ◌∷◌, ◌++◌, refl}
+use Rattle.std.proofs.Common.{◌≡◌, ℕ, ◌+◌, ◌<◌, false, List, [], ◌∷◌, ◌++◌, length, take, get_or, Option, None, refl, sym, ◌∙◌, ap, append-nil}
+use Rattle.std.specs.List.{filter_map}
+use Rattle.std.proofs.lemmas.List.{take_more}
+use Rattle.std.proofs.lemmas.List.Elements.{filter_map-append}
 use Rattle.std.proofs.lemmas.List.Sums.{fold-append}
 use Rattle.mal_hall.specs.declared.desk.Post.{Post}
 use Rattle.mal_hall.specs.declared.desk.Post.TheVariants as posts
@@ -23,3 +26,10 @@ event-loses h (posts.Close tenant job) = refl
 pub posts-lose-none : (h : List Event) (ps : List Post) → NoneIsLost h → NoneIsLost (posted_on h ps)
 posts-lose-none h [] none = none
 posts-lose-none h (p ∷ ps) none = posts-lose-none (h ++ event_of h p ∷ []) ps (parts-lose-none h (event_of h p ∷ []) none (rw (event-loses h p) refl))
+
+-- where one more left nothing, no more is left
+pub none-left : {X Y : Type 0} (f : X → Option Y) (xs : List X) (i : ℕ) (x : X) (ys : List Y) → i < length xs → x ≡ get_or xs i x → f x ≡ None → ys ≡ filter_map f (take i xs) → ys ≡ filter_map f (take (i + 1) xs)
+none-left {X = X} {Y = Y} f xs i x ys low is none e =
+    let nothing : filter_map f (x ∷ []) ≡ [] = rw none refl in
+    let here : take (i + 1) xs ≡ take i xs ++ x ∷ [] = take_more xs i x low ∙ ap (λ (z : X). take i xs ++ z ∷ []) (sym is) in
+    e ∙ sym (ap (filter_map f) here ∙ (filter_map-append f (take i xs) (x ∷ []) ∙ (ap (λ (zs : List Y). filter_map f (take i xs) ++ zs) nothing ∙ append-nil (filter_map f (take i xs)))))

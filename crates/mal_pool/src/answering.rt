@@ -77,7 +77,9 @@ fn last_first(alloc: Global, parts: Vec<Vec<Made>>) -> Result<Vec<Made>, AllocEr
     let mut all = Vec::new(alloc);
     for part in parts {
         let mut part = part;
-        all.append(&mut part)?;
+        let appended = all.append(&mut part);
+        drop(part);
+        appended?;
     }
     all.sort_unstable_by(|one, other| other.place.cmp(&one.place));
     Ok(all)

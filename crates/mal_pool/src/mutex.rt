@@ -102,7 +102,8 @@ impl<S: Size + Send + Sync> Board for Shared<S> {
         pass
     }
 
-    fn close(self, _pass: OwnCalls) -> Result<Hall, InUse> {
+    fn close(self, pass: OwnCalls) -> Result<Hall, InUse> {
+        drop(pass);
         let Shared { kept } = self;
         Ok(kept.into_inner().into_hall())
     }

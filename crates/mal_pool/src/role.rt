@@ -15,7 +15,7 @@ use std::sync::Wait;
 
 /// What a thread is to do: post for the tenant of the job at this place of the script, or work as a worker of this
 /// number.
-#[derive(Clone, Copy, PartialEq, Eq, Debug)]
+#[derive(Clone, Copy)]
 pub enum Part {
     Poster(usize),
     Worker(u32),

@@ -156,7 +156,8 @@ fn take_down<B: Board>(
         (λ h. (before : List Event) × NoneIsLost before
         × IsSettled h.workers jobs.now (filter_map (λ x. x.left) played.items) before h.events)) }
 {
-    let (pass, left) = gather(alloc, &board, pass, played)?;
+    let left = left_of(alloc, &played)?;
+    let pass = join_all(&board, pass, played);
     let Ok(hall) = board.close(pass) else {
         return Ok(None);
     };
@@ -175,12 +176,37 @@ fn settle(
     ensures settled { IfOk result (λ o. IfSome o (λ h. IsSettled hall.workers jobs.now left.now hall.events h.events)) }
 {
     let mut hall = hall;
-    if !post_left(&mut hall, jobs, left)? {
-        return Ok(None);
+    match bring_to_end(alloc, &mut hall, jobs, left) {
+        Ok(true) => Ok(Some(hall)),
+        Ok(false) => {
+            drop(hall);
+            Ok(None)
+        }
+        Err(error) => {
+            drop(hall);
+            Err(error)
+        }
+    }
+}
+
+/// Posts what was left, recalls what is out, and drives the hall to its end: false where a post was refused for another
+/// cause than want of memory.
+fn bring_to_end(
+    alloc: Global,
+    hall: &mut Hall,
+    jobs: &[ScriptJob],
+    left: &[Left],
+) -> Result<bool, AllocError>
+    ensures workers { hall.new.workers ≡ hall.old.workers }
+    ensures settled { IfOk result
+        (λ done. done ≡ true → IsSettled hall.old.workers jobs.now left.now hall.old.events hall.new.events) }
+{
+    if !post_left(hall, jobs, left)? {
+        return Ok(false);
     }
     hall.recall();
-    drive_twice(alloc, &mut hall)?;
-    Ok(Some(hall))
+    drive_twice(alloc, hall)?;
+    Ok(true)
 }
 
 /// Drives a hall to its end. Where memory is wanting, the scratch is given up and it is driven once more.
@@ -301,26 +327,29 @@ fn deal<B: Board>(
     Ok((pass, roles))
 }
 
-/// Puts the passes together, and lists what was left.
-fn gather<B: Board>(
-    alloc: Global,
-    board: &B,
-    pass: B::Pass,
-    played: Vec<Played<B::Pass>>,
-) -> Result<(B::Pass, Vec<Left>), AllocError>
-    requires of { B.is_of board.now pass }
-    requires all { All (λ x. B.is_of board.now x.pass) played.items }
-    ensures of { IfOk result (λ r. B.is_of board.now r.0) }
-    ensures left { IfOk result (λ r. r.1.items ≡ filter_map (λ x. x.left) played.items) }
+/// Lists what was left.
+fn left_of<P: Drop>(alloc: Global, played: &[Played<P>]) -> Result<Vec<Left>, AllocError>
+    ensures { IfOk result (λ v. v.items ≡ filter_map (λ x. x.left) played.now) }
 {
-    let mut pass = pass;
     let mut left = Vec::new(alloc);
     for one in played {
-        pass = board.join(pass, one.pass);
         match one.left {
             Some(place) => left.push(place)?,
             None => {}
         }
     }
-    Ok((pass, left))
+    Ok(left)
+}
+
+/// Puts the passes together.
+fn join_all<B: Board>(board: &B, pass: B::Pass, played: Vec<Played<B::Pass>>) -> B::Pass
+    requires of { B.is_of board.now pass }
+    requires all { All (λ x. B.is_of board.now x.pass) played.items }
+    ensures { B.is_of board.now result }
+{
+    let mut pass = pass;
+    for one in played {
+        pass = board.join(pass, one.pass);
+    }
+    pass
 }

@@ -28,7 +28,10 @@ pub fn run_alone(alloc: Global, script: &Script, workers: u32) -> Result<Hall, A
     let mut hall = Hall::new(alloc, workers)?;
     match run_in(alloc, &mut hall, script) {
         Ok(()) => Ok(hall),
-        Err(error) => Err(error),
+        Err(error) => {
+            drop(hall);
+            Err(error)
+        }
     }
 }
 
@@ -66,7 +69,9 @@ pub fn drive_once(alloc: Global, hall: &mut Hall) -> Result<(), AllocError>
     ensures answered { OnOk result (lives (states hall.new.events) ≡ []) }
 {
     let mut scratch = Scratch::new(alloc);
-    hall.drive(&mut scratch)
+    let driven = hall.drive(&mut scratch);
+    drop(scratch);
+    driven
 }
 
 /// Opens the jobs of a script in a hall without events.

@@ -36,7 +36,7 @@ pub enum End {
 }
 
 /// What one turn of the loop came to.
-#[derive(Clone, Copy, PartialEq, Eq, Debug)]
+#[derive(Clone, Copy)]
 pub enum Turned {
     Worked,
     Idle,
