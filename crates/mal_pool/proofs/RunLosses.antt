@@ -16,7 +16,7 @@ use Rattle.mal_pool.proofs.Leavings.{posts-lose-none}
 use Rattle.spec_hall.specs.Events.{Event, bare}
 use Rattle.spec_hall.specs.Legal.{Legal}
 use Rattle.spec_hall.specs.States.{leases, lives, states}
-use Rattle.spec_run.specs.Losses.{NoneIsLost, LosesLate}
+use Rattle.spec_run.specs.Losses.{NoneIsLost, LosesLate, is_loss}
 use Rattle.spec_run.proofs.LossLemmas.{none-late, recalled-late}
 use Rattle.spec_script.specs.Script.{ScriptedJob, Scripted}
 
@@ -46,13 +46,14 @@ asked true true e h = refl
 asked true false e h = absurd (let no : true ≡ false = e in cc)
 asked false stopped e h = absurd (let no : false ≡ true = h in cc)
 
--- where leases are lost though nobody tells of a stop the hall is given up; so here they are lost by stops
-pub run-loses : {X : Type 0} (stops : Stops) (A : X → Type 0) (f : X → Bool) (xs ys : List X) (stopped unasked : Bool) (h : List Event) (es : List written.Event) → All (λ x. A x × (f x ≡ true → StopsSomewhere stops)) xs → ys ≡ xs → stopped ≡ list_any f ys → es ≡ map bare h → unasked ≡ (list_any testing.is_loss es && not stopped) → unasked ≡ false → LosesLate h → LosesByStops stops h
-run-loses stops A f xs ys stopped unasked h es all same tells bares is none late = record {
-  stopped = λ some.
-      let lost : list_any testing.is_loss es ≡ true = ap (list_any testing.is_loss) bares ∙ (bare-losses h ∙ some) in
-      let told : stopped ≡ true = asked (list_any testing.is_loss es) stopped (sym is ∙ none) lost in
-      some-stopped f A (StopsSomewhere stops) xs all (ap (list_any f) (sym same) ∙ (sym tells ∙ told));
+-- where leases are lost though nobody tells of a stop a hall does not serve; so in one that serves they are lost by stops
+pub lost-asked : {E : Type 0} (r : Result Bool E) (h : List Event) (es : List written.Event) (stopped unasked : Bool) → es ≡ map bare h → unasked ≡ (list_any testing.is_loss es && not stopped) → unasked ≡ false → IfOk r (λ yes. yes ≡ true → list_any is_loss h ≡ true → stopped ≡ true)
+lost-asked (Ok yes) h es stopped unasked bares is none = λ _ some. asked (list_any testing.is_loss es) stopped (sym is ∙ none) (ap (list_any testing.is_loss) bares ∙ (bare-losses h ∙ some))
+lost-asked (Err e) h es stopped unasked bares is none = tt
+
+pub run-loses : {X : Type 0} (stops : Stops) (A : X → Type 0) (f : X → Bool) (xs ys : List X) (stopped : Bool) (h : List Event) → All (λ x. A x × (f x ≡ true → StopsSomewhere stops)) xs → ys ≡ xs → stopped ≡ list_any f ys → (list_any is_loss h ≡ true → stopped ≡ true) → LosesLate h → LosesByStops stops h
+run-loses stops A f xs ys stopped h all same tells told late = record {
+  stopped = λ some. some-stopped f A (StopsSomewhere stops) xs all (ap (list_any f) (sym same) ∙ (sym tells ∙ told some));
   late = late;
 }
 

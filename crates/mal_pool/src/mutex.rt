@@ -98,7 +98,8 @@ impl<S: Size + Send + Sync> Board for Shared<S> {
         (pass, OwnCalls::new())
     }
 
-    fn join(&self, pass: OwnCalls, _other: OwnCalls) -> OwnCalls {
+    fn join(&self, pass: OwnCalls, other: OwnCalls) -> OwnCalls {
+        drop(other);
         pass
     }
 

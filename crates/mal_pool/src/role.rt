@@ -71,6 +71,7 @@ pub fn play<R: Wait, B: Board, G: Gate>(
         Part::Worker(number) => {
             let mut scratch = Scratch::new(alloc);
             let (pass, stopped) = work(rt, board, role.pass, number, &mut scratch, gate);
+            drop(scratch);
             Played {
                 pass,
                 left: None,

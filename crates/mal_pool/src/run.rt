@@ -2,9 +2,9 @@
 
 ghost use Rattle.std.specs.Prelude.{◌≡◌, ◌≤◌, min, true, List, [], IfOk, IfSome, OnOk};
 ghost use Rattle.std.specs.List.{All, filter_map, list_any};
-ghost use Rattle.mal_pool.specs.{Gates.{LosesByStops, StopsSomewhere}, Posts.{HasRun}, Runs.{Fits, IsSettled, demand_of}};
-ghost use Rattle.spec_hall.specs.{Driven.{GrowsByTurns, IsDriven}, Events.{Event}, States.{leases, lives, states}};
-ghost use Rattle.spec_run.specs.{Complete.{script_events}, Losses.{NoneIsLost}};
+ghost use Rattle.mal_pool.specs.{Gates.{LosesByStops, StopsSomewhere}, Posts.{HasRun}, Runs.{Fits, IsSettled, demand_of}, Testing.{HasPosts}};
+ghost use Rattle.spec_hall.specs.{Driven.{GrowsByTurns, IsDriven}, Events.{Event}, Legal.{Legal}, States.{leases, lives, states}};
+ghost use Rattle.spec_run.specs.{Complete.{script_events}, Losses.{NoneIsLost, is_loss}};
 
 use crate::board::Board;
 use crate::gate::Gate;
@@ -121,15 +121,29 @@ fn run_shared<R: Threads + Wait + Sync, B: Board, G: Gate>(
     let Some(hall) = take_down(alloc, board, pass, played, script.jobs())? else {
         return Ok(None);
     };
+    match serves(alloc, &hall, script, stopped) {
+        Ok(true) => Ok(Some(hall)),
+        Ok(false) => {
+            drop(hall);
+            Ok(None)
+        }
+        Err(error) => {
+            drop(hall);
+            Err(error)
+        }
+    }
+}
+
+/// Whether a hall serves: no lease was lost in it, unless the gate stopped a worker, and it has just a script's posts.
+fn serves(alloc: Global, hall: &Hall, script: &Script, stopped: bool) -> Result<bool, AllocError>
+    ensures legal { Legal hall.now.workers hall.now.events }
+    ensures posts { IfOk result (λ yes. yes ≡ true → HasPosts script.now hall.now.events) }
+    ensures lost { IfOk result (λ yes. yes ≡ true → list_any is_loss hall.now.events ≡ true → stopped ≡ true) }
+{
     if has_lost_unasked(hall.history(), stopped) {
-        drop(hall);
-        return Ok(None);
+        return Ok(false);
     }
-    if !has_posts(alloc, &hall, script)? {
-        drop(hall);
-        return Ok(None);
-    }
-    Ok(Some(hall))
+    has_posts(alloc, hall, script)
 }
 
 /// Whether the gate stopped a worker.
@@ -242,10 +256,40 @@ fn share<R: Threads + Wait + Sync, B: Board, G: Gate>(
         (λ o. IfSome o
         (λ r. All (λ x. B.is_of board.now x.pass × (x.stopped ≡ true → StopsSomewhere (G.stops gate.now))) r.1.items)) }
 {
-    let (pass, opened) = open_all(rt, board, pass, jobs);
-    if !opened? {
-        return Ok(None);
+    let (back, opened) = open_all(rt, board, pass, jobs);
+    match opened {
+        Ok(true) => match play_all(rt, alloc, board, back, jobs, workers, gate) {
+            Ok(shared) => Ok(Some(shared)),
+            Err(error) => Err(error),
+        },
+        Ok(false) => {
+            drop(back);
+            Ok(None)
+        }
+        Err(error) => {
+            drop(back);
+            Err(error)
+        }
     }
+}
+
+/// Lets posters and workers play their parts.
+fn play_all<R: Threads + Wait + Sync, B: Board, G: Gate>(
+    rt: &R,
+    alloc: Global,
+    board: &B,
+    pass: B::Pass,
+    jobs: &[ScriptJob],
+    workers: u32,
+    gate: &G,
+) -> Result<(B::Pass, Vec<Played<B::Pass>>), AllocError>
+    requires of { B.is_of board.now pass }
+    requires size { B.workers board.now ≡ workers }
+    requires bound { workers ≤ 64 }
+    ensures of { IfOk result (λ r. B.is_of board.now r.0) }
+    ensures all { IfOk result
+        (λ r. All (λ x. B.is_of board.now x.pass × (x.stopped ≡ true → StopsSomewhere (G.stops gate.now))) r.1.items) }
+{
     let parts = parts_of(alloc, jobs, workers)?;
     let (pass, roles) = deal(alloc, board, pass, jobs, parts.as_slice())?;
     let played = thread::map_vec(
@@ -258,7 +302,7 @@ fn share<R: Threads + Wait + Sync, B: Board, G: Gate>(
             ensures stopped { result.stopped ≡ true → StopsSomewhere (G.stops gate.entry.now) }
         { play(rt, alloc, board, jobs, gate, role) },
     )?;
-    Ok(Some((pass, played)))
+    Ok((pass, played))
 }
 
 /// A poster for each tenant, and the workers, but no more of them than all jobs together ask for.
