@@ -47,8 +47,8 @@ asked true false e h = absurd (let no : true ≡ false = e in cc)
 asked false stopped e h = absurd (let no : false ≡ true = h in cc)
 
 -- where leases are lost though nobody tells of a stop a hall does not serve; so in one that serves they are lost by stops
-pub lost-asked : {E : Type 0} (r : Result Bool E) (h : List Event) (es : List written.Event) (stopped unasked : Bool) → es ≡ map bare h → unasked ≡ (list_any testing.is_loss es && not stopped) → unasked ≡ false → IfOk r (λ yes. yes ≡ true → list_any is_loss h ≡ true → stopped ≡ true)
-lost-asked (Ok yes) h es stopped unasked bares is none = λ _ some. asked (list_any testing.is_loss es) stopped (sym is ∙ none) (ap (list_any testing.is_loss) bares ∙ (bare-losses h ∙ some))
+pub lost-asked : {E : Type 0} (r : Result Bool E) (h : List Event) (es : List written.Event) (stopped unasked : Bool) → es ≡ map bare h → unasked ≡ (list_any testing.is_loss es && not stopped) → unasked ≡ false → IfOk r (λ serves. serves ≡ true → list_any is_loss h ≡ true → stopped ≡ true)
+lost-asked (Ok serves) h es stopped unasked bares is none = λ _ some. asked (list_any testing.is_loss es) stopped (sym is ∙ none) (ap (list_any testing.is_loss) bares ∙ (bare-losses h ∙ some))
 lost-asked (Err e) h es stopped unasked bares is none = tt
 
 pub run-loses : {X : Type 0} (stops : Stops) (A : X → Type 0) (f : X → Bool) (xs ys : List X) (stopped : Bool) (h : List Event) → All (λ x. A x × (f x ≡ true → StopsSomewhere stops)) xs → ys ≡ xs → stopped ≡ list_any f ys → (list_any is_loss h ≡ true → stopped ≡ true) → LosesLate h → LosesByStops stops h

@@ -1,5 +1,7 @@
-use Rattle.mal_pool.proofs.Leavings.{none-left}
+use Rattle.std.proofs.Common.{arith}
+use Rattle.std.proofs.lemmas.Grind.{common_steps}
+use Rattle.std.proofs.lemmas.List.Elements.{filter_map-append}
 use Rattle.mal_pool.proofs.run.left_of.Goals as goal
 
 pub loop-one-preserved : goal.loop-one-preserved
-loop-one-preserved g c = none-left (λ x. x.left) c.args.played.now c.loop-one.one-index c.one-item.result c.loop-one.left.items c.loop-one-test.true c.one-item.is c.in-None.is c.loop-one.invariant
+loop-one-preserved g c = grind (arith, common_steps, filter_map-append)
