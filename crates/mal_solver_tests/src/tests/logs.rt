@@ -3,20 +3,10 @@
 ghost use Rattle.std.specs.Prelude.{◌≢◌, IsTrue, All};
 ghost use Rattle.spec_proof.specs.Log.{IsAbove};
 
-use super::values::{id, lits};
+use super::values::{ids, lits};
 use mal_base::{ClauseId, Lines, Lit};
 use mal_proof::{Log, renumber};
 use std::alloc::Global;
-use std::test::Fail;
-
-/// The clauses of these numbers.
-fn ids(alloc: Global, numbers: &[u64]) -> Result<Vec<ClauseId>, Fail> {
-    let mut ids = Vec::new(alloc);
-    for number in numbers {
-        ids.push(id(*number)?)?;
-    }
-    Ok(ids)
-}
 
 /// Whether no line of a log has a number.
 fn is_fresh(log: &Log, id: ClauseId) -> bool
@@ -37,46 +27,52 @@ fn is_above(id: ClauseId, lits: &[Lit], hints: &[ClauseId]) -> bool
     id.number() >= 1 << 32 && hints.iter().all(|hint| *hint < id)
 }
 
+/// Enters a line whose number is free, derived and above its hints.
+fn append(log: &mut Log, id: ClauseId, lits: &[Lit], hints: &[ClauseId]) -> Option<()> {
+    if !is_fresh(log, id) || !is_above(id, lits, hints) {
+        return None;
+    }
+    log.reserve(1, lits.len().saturating_add(hints.len())).ok()?;
+    log.append_reserved(id, lits, hints);
+    Some(())
+}
+
 /// Enters a line with this number, these literals and these hints.
-fn enter(
-    alloc: Global,
-    log: &mut Log,
-    number: u64,
-    numbers: &[i32],
-    hints: &[u64],
-) -> Result<(), Fail> {
-    let id = id(number)?;
+fn enter(alloc: Global, log: &mut Log, number: u64, numbers: &[i32], hints: &[u64]) -> Option<()> {
+    let id = ClauseId::of(number)?;
     let lits = lits(alloc, numbers)?;
     let hints = ids(alloc, hints)?;
-    if !is_fresh(log, id) || !is_above(id, lits.as_slice(), hints.as_slice()) {
-        return Err(Fail::from("no line for this log"));
-    }
-    log.reserve(1, lits.len().saturating_add(hints.len()))?;
-    log.append_reserved(id, lits.as_slice(), hints.as_slice());
-    Ok(())
+    append(log, id, lits.as_slice(), hints.as_slice())
 }
 
 /// What is trimmed of a log for a goal, numbered behind so many original clauses.
-fn proof(alloc: Global, log: &Log, goal: u64, originals: u64) -> Result<Lines, Fail> {
+fn proof(alloc: Global, log: &Log, goal: u64, originals: u64) -> Option<Lines> {
     if originals >= 1 << 32 {
-        return Err("many originals".into());
+        return None;
     }
-    let lines = log.trim(id(goal)?)?;
-    Ok(renumber(alloc, &lines, originals)?)
+    let lines = log.trim(ClauseId::of(goal)?).ok()?;
+    renumber(alloc, &lines, originals).ok()
 }
 
 /// The number of the first line.
 const FIRST: u64 = 1 << 32;
 
-/// Enters 1,000 lines of 500 literals and 500 hints each, the first of which is the line before.
-fn enter_all(alloc: Global, log: &mut Log) -> Result<(), Fail> {
-    let numbers: Vec<i32> = (1..501).collect(alloc)?;
-    let mut hints = vec![in alloc; 1; 500]?;
+/// Enters 1,000 lines of these literals and as many hints, the first of which is the line before.
+fn enter_all(alloc: Global, log: &mut Log, numbers: &[i32]) -> Option<()> {
+    let mut hints = vec![in alloc; 1; 500].ok()?;
     for n in 0..1_000 {
-        enter(alloc, log, FIRST + n, numbers.as_slice(), hints.as_slice())?;
+        enter(alloc, log, FIRST + n, numbers, hints.as_slice())?;
         hints[0] = FIRST + n;
     }
-    Ok(())
+    Some(())
+}
+
+/// A log of 1,000 lines of 500 literals and 500 hints each.
+fn filled(alloc: Global) -> Option<Log> {
+    let mut log = Log::new(alloc);
+    let numbers: Vec<i32> = (1..501).collect(alloc).ok()?;
+    enter_all(alloc, &mut log, numbers.as_slice())?;
+    Some(log)
 }
 
 /// Of a log of 1,000 lines the numbers of the first one and the last, and of line 500 the count of the literals and the
@@ -103,18 +99,20 @@ fn last_shown(lines: &Lines) -> Option<[u64; 2]> {
     Some([lines.id(999).number(), hint.number()])
 }
 
-/// What a log shows to which 1,000 lines were entered, and what is shown of them as a proof.
-fn entered(alloc: Global, log: &mut Log) -> Result<(Option<[u64; 4]>, Option<[u64; 2]>), Fail> {
-    enter_all(alloc, log)?;
+/// What is shown of the lines of a log as a proof.
+fn trimmed(alloc: Global, log: &Log) -> Option<[u64; 2]> {
     let lines = proof(alloc, log, FIRST + 999, 1)?;
-    Ok((shown(log), last_shown(&lines)))
+    last_shown(&lines)
+}
+
+/// What that log shows, and what is shown of its lines as a proof.
+fn all_shown(alloc: Global) -> Option<(Option<[u64; 4]>, Option<[u64; 2]>)> {
+    let log = filled(alloc)?;
+    Some((shown(&log), trimmed(alloc, &log)))
 }
 
 #[test]
-fn a_log_takes_a_million_numbers(rt: HostRuntime) -> Result<(), Fail> {
-    let mut log = Log::new(rt.alloc());
-    let (entered, trimmed) = entered(rt.alloc(), &mut log)?;
-    assert!(rt; entered == Some([FIRST, FIRST + 999, 500, FIRST + 499]));
-    assert!(rt; trimmed == Some([1_001, 1_000]));
-    Ok(())
+fn a_log_takes_a_million_numbers(rt: HostRuntime) {
+    let known = Some([FIRST, FIRST + 999, 500, FIRST + 499]);
+    assert!(rt; all_shown(rt.alloc()) == Some((known, Some([1_001, 1_000]))));
 }

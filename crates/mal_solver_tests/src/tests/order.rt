@@ -4,7 +4,6 @@ use mal_base::Var;
 use mal_order::Order;
 use mal_trail::Trail;
 use std::alloc::Global;
-use std::test::Fail;
 
 /// The number of a variable, 0 for none.
 fn number_of(var: Option<Var>) -> u32 {
@@ -24,77 +23,76 @@ fn first(order: &mut Order, trail: &Trail) -> [u32; 2] {
 }
 
 /// Appends variables to an order that has few.
-fn append(order: &mut Order, n: u32) -> Result<(), Fail> {
-    if order.len() > 100 {
-        return Err("many variables".into());
+fn append(order: &mut Order, n: u32) -> Option<()> {
+    if order.len() > 100 || n > 100 {
+        return None;
     }
-    if n > 100 {
-        return Err("many more".into());
-    }
-    order.append(n)?;
-    Ok(())
+    order.append(n).ok()
 }
 
 /// Moves a variable of the order to the front.
-fn bump(order: &mut Order, var: Var) -> Result<(), Fail> {
-    let list = order.variables()?;
+fn bump(order: &mut Order, var: Var) -> Option<()> {
+    let list = order.variables().ok()?;
     if !list.iter().any(|w| *w == var) {
-        return Err("no such variable".into());
+        return None;
     }
     order.bump(var);
-    Ok(())
+    Some(())
 }
 
 /// A trail on which 4 is false.
-fn without_four(alloc: Global) -> Result<Trail, Fail> {
+fn without_four(alloc: Global) -> Option<Trail> {
     let mut trail = Trail::new(alloc);
-    trail.reserve(5)?;
+    trail.reserve(5).ok()?;
     trail.push(Var::of(4).literal(false), None, 1);
-    Ok(trail)
+    Some(trail)
 }
 
 /// Appends five variables in two parts, and moves 2 and then 4 to the front.
-fn append_and_move(order: &mut Order) -> Result<(), Fail> {
+fn append_and_move(order: &mut Order) -> Option<()> {
     append(order, 3)?;
     append(order, 2)?;
     bump(order, Var::of(2))?;
     bump(order, Var::of(4))
 }
 
-/// The variables that are free first in such an order, where none has a value and where 4 has one.
-fn firsts(order: &mut Order, none: &Trail, four: &Trail) -> Result<[[u32; 2]; 2], Fail> {
-    append_and_move(order)?;
-    Ok([first(order, none), first(order, four)])
+/// The variables that are free first in an order, where none has a value and where 4 has one.
+fn firsts(order: &mut Order, alloc: Global) -> Option<[[u32; 2]; 2]> {
+    let four = without_four(alloc)?;
+    let free = first(order, &Trail::new(alloc));
+    Some([free, first(order, &four)])
 }
 
 #[test]
-fn a_moved_variable_is_decided_next(rt: HostRuntime) -> Result<(), Fail> {
-    let four = without_four(rt.alloc())?;
-    let none = Trail::new(rt.alloc());
+fn a_moved_variable_is_decided_next(rt: HostRuntime) {
     let mut order = Order::new(rt.alloc(), 0);
-    assert!(rt; firsts(&mut order, &none, &four)? == [[4, 4], [2, 2]]);
-    Ok(())
+    assert!(rt; append_and_move(&mut order).is_some());
+    assert!(rt; firsts(&mut order, rt.alloc()) == Some([[4, 4], [2, 2]]));
 }
 
 #[test]
-fn an_order_without_variables_has_no_first(rt: HostRuntime) -> Result<(), Fail> {
+fn an_order_without_variables_has_no_first(rt: HostRuntime) {
     let mut order = Order::new(rt.alloc(), 0);
     assert!(rt; first(&mut order, &Trail::new(rt.alloc())) == [0, 0]);
-    Ok(())
 }
 
-/// Whether an order has this list, and the variables that are free first where none has a value.
-fn shown(order: &mut Order, alloc: Global, list: &[Var]) -> Result<(bool, [u32; 2]), Fail> {
-    let again = order.variables()?;
-    let is_same = again.as_slice() == list;
-    let none = Trail::new(alloc);
-    Ok((is_same, first(order, &none)))
+/// Whether an order has this list.
+fn has_list(order: &Order, list: &[Var]) -> bool {
+    match order.variables() {
+        Err(_) => false,
+        Ok(again) => again.as_slice() == list,
+    }
+}
+
+/// Whether the order of a list has it, and the variables that are free first where none has a value.
+fn shown(alloc: Global, list: &[Var; 3]) -> Option<(bool, [u32; 2])> {
+    let mut order = Order::of_list(alloc, 5, list).ok()?;
+    let has_list = has_list(&order, list);
+    Some((has_list, first(&mut order, &Trail::new(alloc))))
 }
 
 #[test]
-fn a_list_comes_back_in_its_order(rt: HostRuntime) -> Result<(), Fail> {
+fn a_list_comes_back_in_its_order(rt: HostRuntime) {
     let list = [Var::of(2), Var::of(3), Var::of(1)];
-    let mut order = Order::of_list(rt.alloc(), 5, &list)?;
-    assert!(rt; shown(&mut order, rt.alloc(), &list)? == (true, [2, 2]));
-    Ok(())
+    assert!(rt; shown(rt.alloc(), &list) == Some((true, [2, 2])));
 }

@@ -1,99 +1,106 @@
 //! Stores whose clauses are known.
 
-use super::values::{id, lits};
-use mal_base::{ClauseId, ClauseView};
+use super::values::{has_lits, ids, lits};
+use mal_base::{ClauseId, ClauseView, Lit};
 use mal_store::Store;
-use std::alloc::Global;
-use std::test::Fail;
+use std::alloc::{AllocError, Global};
 
-/// Adds the clause of these literals under a number that is not held.
-fn add(store: &mut Store, alloc: Global, number: u64, numbers: &[i32]) -> Result<(), Fail> {
-    let id = id(number)?;
-    let lits = lits(alloc, numbers)?;
+/// Adds a clause under a number that is not held.
+fn enter(store: &mut Store, id: ClauseId, lits: &[Lit]) -> Result<(), AllocError> {
     if store.get(id).is_some() {
-        return Err("a number twice".into());
+        return Err(AllocError);
     }
     store.reserve(1, lits.len())?;
-    store.add_reserved(id, lits.as_slice());
+    store.add_reserved(id, lits);
     Ok(())
 }
 
-/// The store of these clauses under their numbers.
-fn filled(alloc: Global, clauses: &[(u64, &[i32])]) -> Result<Store, Fail> {
-    let mut store = Store::new(alloc);
-    for (number, numbers) in clauses {
-        add(&mut store, alloc, *number, numbers)?;
-    }
-    Ok(store)
+/// A clause by its number and its literals.
+type Row<'a> = (u64, &'a [i32]);
+
+/// Adds a clause.
+fn add(store: &mut Store, alloc: Global, row: Row) -> Option<()> {
+    let (number, numbers) = row;
+    let id = ClauseId::of(number)?;
+    let lits = lits(alloc, numbers)?;
+    enter(store, id, lits.as_slice()).ok()
 }
 
-/// Whether a store has as many clauses as these, and these under their numbers.
-fn holds(alloc: Global, store: &Store, clauses: &[(u64, &[i32])]) -> Result<bool, Fail> {
-    if store.len() != clauses.len() {
-        return Ok(false);
+/// The store of these clauses.
+fn filled(alloc: Global, rows: &[Row]) -> Option<Store> {
+    let mut store = Store::new(alloc);
+    for row in rows {
+        add(&mut store, alloc, *row)?;
     }
-    for place in 0..clauses.len() {
-        let (number, numbers) = clauses[place];
-        let id = id(number)?;
-        let lits = lits(alloc, numbers)?;
-        if store.get(id) != Some(lits.as_slice())
-            || ClauseView::get(store, id) != Some(lits.as_slice())
-        {
-            return Ok(false);
+    Some(store)
+}
+
+/// The literals of a clause, by the store and by its view, if it is held under this number.
+fn found(store: &Store, number: u64) -> Option<[&[Lit]; 2]> {
+    let id = ClauseId::of(number)?;
+    Some([store.get(id)?, ClauseView::get(store, id)?])
+}
+
+/// Whether a store has a clause.
+fn holds_one(store: &Store, row: Row) -> bool {
+    let (number, numbers) = row;
+    match found(store, number) {
+        None => false,
+        Some([lits, view]) => has_lits(lits, numbers) && has_lits(view, numbers),
+    }
+}
+
+/// Whether a store has these clauses alone.
+fn holds(store: &Store, rows: &[Row]) -> bool {
+    for row in rows {
+        if !holds_one(store, *row) {
+            return false;
         }
     }
-    Ok(true)
+    store.len() == rows.len()
 }
 
-/// Whether a clause is held under this number.
-fn is_held(store: &Store, number: u64) -> Result<bool, Fail> {
-    let id = id(number)?;
-    Ok(store.get(id).is_some())
-}
-
-/// Whether a store has these clauses, and one under the number 4.
-fn shown(alloc: Global, store: &Store, clauses: &[(u64, &[i32])]) -> Result<(bool, bool), Fail> {
-    let stand = holds(alloc, store, clauses)?;
-    let more = is_held(store, 4)?;
-    Ok((stand, more))
+/// Whether the store of these clauses has them alone, and none under the number 4.
+fn stand(alloc: Global, rows: &[Row]) -> Option<[bool; 2]> {
+    let store = filled(alloc, rows)?;
+    Some([holds(&store, rows), found(&store, 4).is_none()])
 }
 
 #[test]
-fn clauses_stand_by_rising_number(rt: HostRuntime) -> Result<(), Fail> {
-    assert!(rt; ClauseId::derived(0, 3) == id(4_294_967_299)?);
-    let clauses: &[(u64, &[i32])] = &[(4_294_967_299, &[-2]), (5, &[1, -2])];
-    let store = filled(rt.alloc(), clauses)?;
-    assert!(rt; shown(rt.alloc(), &store, clauses)? == (true, false));
-    Ok(())
+fn clauses_stand_by_rising_number(rt: HostRuntime) {
+    assert!(rt; ClauseId::derived(0, 3).number() == 4_294_967_299);
+    let rows: [Row; 2] = [(4_294_967_299, &[-2]), (5, &[1, -2])];
+    assert!(rt; stand(rt.alloc(), &rows) == Some([true; 2]));
 }
 
-/// The store of four clauses, of which two are forgotten, whose literals stand before, between and behind those of the
-/// others.
-fn forgetful(alloc: Global) -> Result<Store, Fail> {
-    let mut gone = [id(4_294_967_360)?, id(7)?, id(4_294_967_299)?];
-    let mut store = filled(
-        alloc,
-        &[
-            (4_294_967_299, &[1, -2]),
-            (5, &[-2, 3]),
-            (4_294_967_360, &[3]),
-            (2, &[1, 3]),
-        ],
-    )?;
-    store.forget(&mut gone);
-    Ok(store)
+/// Four clauses, of which two are forgotten, whose literals stand before, between and behind those of the others.
+const FOUR: [Row<'static>; 4] = [
+    (4_294_967_299, &[1, -2]),
+    (5, &[-2, 3]),
+    (4_294_967_360, &[3]),
+    (2, &[1, 3]),
+];
+
+/// Forgets these clauses.
+fn forget(store: &mut Store, alloc: Global, numbers: &[u64]) -> Option<()> {
+    let mut gone = ids(alloc, numbers)?;
+    store.forget(gone.as_mut_slice());
+    Some(())
 }
 
-/// Whether a store has the two that stay alone, and one of those that were forgotten.
-fn has_forgotten(alloc: Global, store: &Store) -> Result<(bool, bool), Fail> {
-    let stay = holds(alloc, store, &[(2, &[1, 3]), (5, &[-2, 3])])?;
-    let gone = is_held(store, 4_294_967_299)? || is_held(store, 4_294_967_360)?;
-    Ok((stay, gone))
+/// Whether a store of four has the two that stay alone when two are forgotten.
+fn forgets(store: &mut Store, alloc: Global) -> Option<bool> {
+    forget(store, alloc, &[4_294_967_360, 7, 4_294_967_299])?;
+    Some(holds(store, &[(2, &[1, 3]), (5, &[-2, 3])]))
+}
+
+/// The same of a store that is new.
+fn four_forgets(alloc: Global) -> Option<bool> {
+    let mut store = filled(alloc, &FOUR)?;
+    forgets(&mut store, alloc)
 }
 
 #[test]
-fn a_store_forgets_the_clauses_of_some_numbers(rt: HostRuntime) -> Result<(), Fail> {
-    let store = forgetful(rt.alloc())?;
-    assert!(rt; has_forgotten(rt.alloc(), &store)? == (true, false));
-    Ok(())
+fn a_store_forgets_the_clauses_of_some_numbers(rt: HostRuntime) {
+    assert!(rt; four_forgets(rt.alloc()) == Some(true));
 }

@@ -3,7 +3,6 @@
 use mal_base::{ClauseId, TrailView, Var};
 use mal_trail::Trail;
 use std::alloc::Global;
-use std::test::Fail;
 
 /// Makes a variable from 1 to 3 true or false, by a clause or by a decision, at a level that the trail may have then.
 fn push(
@@ -12,30 +11,28 @@ fn push(
     positive: bool,
     reason: Option<ClauseId>,
     level: u32,
-) -> Result<(), Fail> {
+) -> Option<()> {
     if number < 1 || number > 3 || trail.has_value(Var::of(number)) {
-        return Err("no free variable".into());
+        return None;
     }
     if level < trail.level() || level > trail.level() + 1 {
-        return Err("no such level".into());
+        return None;
     }
-    trail.reserve(3)?;
+    trail.reserve(3).ok()?;
     trail.push(Var::of(number).literal(positive), reason, level);
-    Ok(())
+    Some(())
 }
 
-/// A trail on which 2 was decided, -1 was forced at the same level, and -3 was decided at the next one. All its batches
-/// count as handled.
-fn filled(alloc: Global) -> Result<Trail, Fail> {
-    let mut trail = Trail::new(alloc);
-    push(&mut trail, 2, true, None, 1)?;
-    push(&mut trail, 1, false, Some(ClauseId::original(7)), 1)?;
-    push(&mut trail, 3, false, None, 2)?;
+/// Decides 2, forces -1 at the same level, and decides -3 at the next one. All batches count as handled then.
+fn fill(trail: &mut Trail) -> Option<()> {
+    push(trail, 2, true, None, 1)?;
+    push(trail, 1, false, Some(ClauseId::original(7)), 1)?;
+    push(trail, 3, false, None, 2)?;
     if trail.len() != 3 {
-        return Err("not three entries".into());
+        return None;
     }
     trail.set_processed(4);
-    Ok(trail)
+    Some(())
 }
 
 /// What a trail shows: its length, its level, the batches handled, and how many entries are above level 1.
@@ -63,17 +60,29 @@ fn is_first(trail: &Trail, positive: bool) -> bool {
     trail.len() > 0 && trail.is_true_before(1, Var::of(1).literal(positive))
 }
 
-#[test]
-fn a_cut_takes_levels_away_and_lowers_what_is_handled(rt: HostRuntime) -> Result<(), Fail> {
-    let mut trail = filled(rt.alloc())?;
-    assert!(rt; counts(&trail) == [3, 2, 4, 1]);
-    assert!(rt; values(&trail) == [Some(false), Some(true), Some(false)]);
+/// What a trail shows, the values, and whether -1 is true before the second entry.
+fn shown(trail: &Trail) -> ([u32; 4], [Option<bool>; 3], bool) {
+    (counts(trail), values(trail), is_first(trail, false))
+}
+
+/// What a filled trail shows, and again when it was cut to level 1.
+fn cut(trail: &mut Trail) -> Option<[([u32; 4], [Option<bool>; 3], bool); 2]> {
+    fill(trail)?;
+    let before = shown(trail);
     trail.back_to(1);
-    assert!(rt; counts(&trail) == [2, 1, 3, 0]);
-    assert!(rt; values(&trail) == [Some(false), Some(true), None]);
-    assert!(rt; !is_first(&trail, false));
+    Some([before, shown(trail)])
+}
+
+/// What a trail shows that is filled and cut to level 1.
+const CUT: [([u32; 4], [Option<bool>; 3], bool); 2] = [
+    ([3, 2, 4, 1], [Some(false), Some(true), Some(false)], false),
+    ([2, 1, 3, 0], [Some(false), Some(true), None], false),
+];
+
+#[test]
+fn a_cut_takes_levels_away_and_lowers_what_is_handled(rt: HostRuntime) {
+    let mut trail = Trail::new(rt.alloc());
+    assert!(rt; cut(&mut trail) == Some(CUT));
     trail.back_to(0);
-    assert!(rt; trail.level() == 0);
-    assert!(rt; TrailView::len(&trail) == 0);
-    Ok(())
+    assert!(rt; trail.level() == 0 && TrailView::len(&trail) == 0);
 }

@@ -1,14 +1,13 @@
 //! Places of a tree, their neighbours, and whether they are active.
 
 use mal_tree::Index;
-use std::test::Fail;
 
 /// The place of this number.
-fn place(number: u32) -> Result<Index, Fail> {
+fn place(number: u32) -> Option<Index> {
     if number > 63 {
-        return Err("no place".into());
+        return None;
     }
-    Ok(Index::of(number))
+    Some(Index::of(number))
 }
 
 /// The number of a place, if there is one.
@@ -17,11 +16,11 @@ fn number_of(place: Option<Index>) -> Option<u32> {
 }
 
 /// The numbers of the place above, and of those below on the left and on the right.
-fn around(number: u32) -> Result<[Option<u32>; 3], Fail> {
+fn around(number: u32) -> Option<[Option<u32>; 3]> {
     let place = place(number)?;
     let (left, right) = place.children();
     let above = number_of(place.parent());
-    Ok([above, number_of(left), number_of(right)])
+    Some([above, number_of(left), number_of(right)])
 }
 
 /// Places at the edges of the tree, and the places around them.
@@ -33,11 +32,10 @@ const EDGES: [(u32, [Option<u32>; 3]); 4] = [
 ];
 
 #[test]
-fn places_at_the_edges_of_the_tree(rt: HostRuntime) -> Result<(), Fail> {
-    for (number, known) in EDGES {
-        assert!(rt; around(number)? == known);
+fn places_at_the_edges_of_the_tree(rt: HostRuntime) {
+    for (number, known) in &EDGES {
+        assert!(rt; around(*number) == Some(*known));
     }
-    Ok(())
 }
 
 /// Places, volumes, and whether the place is active.
@@ -48,11 +46,15 @@ const ACTIVE: [(u32, u32, bool); 4] = [
     (63, 63, false),
 ];
 
+/// Whether a place is active at a volume.
+fn is_active(number: u32, volume: u32) -> Option<bool> {
+    Some(place(number)?.is_active(volume))
+}
+
 #[test]
-fn places_below_the_volume_are_active(rt: HostRuntime) -> Result<(), Fail> {
-    for (number, volume, known) in ACTIVE {
-        assert!(rt; place(number)?.is_active(volume) == known);
+fn places_below_the_volume_are_active(rt: HostRuntime) {
+    for (number, volume, known) in &ACTIVE {
+        assert!(rt; is_active(*number, *volume) == Some(*known));
     }
-    assert!(rt; place(7)?.number() == 7);
-    Ok(())
+    assert!(rt; number_of(place(7)) == Some(7));
 }

@@ -1,151 +1,207 @@
 //! Trails that are known, and trails on which both engines agree.
 
-use super::values::{id, lit, lits, some_clause};
+use super::values::{has_lits, ids, number_of, some_clause};
 use both::Both;
-use mal_base::{ClauseId, ClauseView, TrailEntry};
+use mal_base::{ClauseId, ClauseView, Lit, TrailEntry};
 use mal_trail::Listed;
-use mal_watch::Watcher;
-use run::Run;
+use random::walk;
 use std::alloc::Global;
-use std::test::Fail;
 
 mod both;
 mod random;
 mod run;
 
-/// Adds the clauses of these literals under their numbers.
-fn add_all(both: &mut Both, alloc: Global, clauses: &[(u64, &[i32])]) -> Result<(), Fail> {
-    for (number, numbers) in clauses {
-        let id = id(*number)?;
-        let clause = some_clause(alloc, numbers)?;
-        both.add(id, &clause)?;
+/// A clause by its number and its literals.
+type Row<'a> = (u64, &'a [i32]);
+
+/// Adds a clause.
+fn add(both: &mut Both, alloc: Global, row: Row) -> Option<()> {
+    let (number, numbers) = row;
+    let id = ClauseId::of(number)?;
+    let clause = some_clause(alloc, numbers)?;
+    both.add(id, &clause).ok()
+}
+
+/// Adds these clauses.
+fn add_all(both: &mut Both, alloc: Global, rows: &[Row]) -> Option<()> {
+    for row in rows {
+        add(both, alloc, *row)?;
     }
-    Ok(())
+    Some(())
 }
 
 /// Decides a literal, and propagates. The conflict, if there is one.
-fn decide(both: &mut Both, number: i32) -> Result<Option<ClauseId>, Fail> {
-    both.decide(lit(number)?)?;
+fn decide(both: &mut Both, number: i32) -> Option<Option<ClauseId>> {
+    both.decide(Lit::of_dimacs(number)?).ok()?;
     both.propagate()
 }
 
 /// Gives up the clauses of these numbers.
-fn give_up(both: &mut Both, alloc: Global, numbers: &[u64]) -> Result<(), Fail> {
-    let mut ids = Vec::new(alloc);
-    for number in numbers {
-        ids.push(id(*number)?)?;
-    }
-    both.give_up(ids.as_slice(), alloc)
+fn give_up(both: &mut Both, alloc: Global, numbers: &[u64]) -> Option<()> {
+    let ids = ids(alloc, numbers)?;
+    both.give_up(ids.as_slice(), alloc).ok()
 }
 
-/// The number of a reason, 0 for none.
-fn number_of(reason: Option<ClauseId>) -> u64 {
-    match reason {
-        None => 0,
-        Some(id) => id.number(),
+/// An entry of a trail: the literal as DIMACS CNF writes it, the number of the reason, 0 for none, and the level.
+type Entry = (i32, u64, u32);
+
+/// How many entries of a trail are as they are known, from the first on.
+fn count_known(entries: &[TrailEntry], known: &[Entry]) -> usize {
+    for n in 0..entries.len() {
+        let entry = entries[n];
+        let shown = (entry.lit.dimacs(), number_of(entry.reason), entry.level);
+        if known.get(n) != Some(&shown) {
+            return n;
+        }
     }
+    entries.len()
 }
 
-/// The entries of a trail: the literal as DIMACS CNF writes it, the number of the reason, 0 for none, and the level.
-fn told(alloc: Global, entries: &[TrailEntry]) -> Result<Vec<(i32, u64, u32)>, Fail> {
-    let mut told = Vec::new(alloc);
-    for entry in entries {
-        told.push((entry.lit.dimacs(), number_of(entry.reason), entry.level))?;
-    }
-    Ok(told)
-}
-
-/// Adds these clauses under their numbers, gives some up, decides 1, and tells whether this is the trail then.
-fn has_trail(
+/// Adds these clauses, gives some up and decides 1. How many entries of the trail are as they are known then, and how many
+/// there are.
+fn decide_one(
     both: &mut Both,
     alloc: Global,
-    clauses: &[(u64, &[i32])],
+    rows: &[Row],
     given_up: &[u64],
-    known: &[(i32, u64, u32)],
-) -> Result<bool, Fail> {
-    add_all(both, alloc, clauses)?;
+    known: &[Entry],
+) -> Option<(usize, usize)> {
+    add_all(both, alloc, rows)?;
     give_up(both, alloc, given_up)?;
     decide(both, 1)?;
-    let told = told(alloc, both.entries())?;
-    Ok(told.as_slice() == known)
+    let entries = both.entries();
+    Some((count_known(entries, known), entries.len()))
 }
 
-/// Whether this is the trail of both engines after decision 1 over these clauses, of which some were given up.
-fn is_after_one(
-    alloc: Global,
-    clauses: &[(u64, &[i32])],
-    given_up: &[u64],
-    known: &[(i32, u64, u32)],
-) -> Result<bool, Fail> {
-    let mut both = Both::new(alloc)?;
-    has_trail(&mut both, alloc, clauses, given_up, known)
+/// Adds one clause behind a trail and one after a cut, and takes the decision that was cut away again. The conflict, if
+/// there is one.
+fn decide_behind(both: &mut Both, alloc: Global) -> Option<Option<ClauseId>> {
+    decide(both, -1)?;
+    decide(both, -2)?;
+    add(both, alloc, (5, &[1, 2, 3]))?;
+    both.back(1);
+    add(both, alloc, (6, &[1, 2, -3]))?;
+    decide(both, -2)
+}
+
+/// The number of the conflict then, 0 for none, and how many entries the trail has.
+fn shown_behind(both: &mut Both, alloc: Global) -> Option<(usize, usize)> {
+    let conflict = decide_behind(both, alloc)?;
+    Some((number_of(conflict) as usize, both.entries().len()))
+}
+
+/// Whether the engine that watches lends the clause of these literals under a number.
+fn is_lent(both: &Both, row: Row) -> bool {
+    let (number, numbers) = row;
+    match ClauseId::of(number) {
+        None => false,
+        Some(id) => match both.watcher().get(id) {
+            None => false,
+            Some(lits) => has_lits(lits, numbers),
+        },
+    }
+}
+
+/// Adds the clauses 1 -2 and 4 under the numbers 9 and 3. How many of them the engine that watches lends so, and how many
+/// clauses it has.
+fn lend(both: &mut Both, alloc: Global) -> Option<(usize, usize)> {
+    add(both, alloc, (9, &[1, -2]))?;
+    add(both, alloc, (3, &[4]))?;
+    let first = is_lent(both, (9, &[1, -2]));
+    let second = is_lent(both, (3, &[4]));
+    if both.holds(ClauseId::original(4)) {
+        return None;
+    }
+    Some((
+        usize::from(first) + usize::from(second),
+        both.watcher().count(),
+    ))
+}
+
+/// What is done with engines that are new, and the two numbers that are told of it.
+#[derive(Clone, Copy)]
+enum Play<'a> {
+    /// Adds clauses, gives some up and decides 1: how many entries of the trail are as they are known, and how many there
+    /// are.
+    DecideOne(&'a [Row<'a>], &'a [u64], &'a [Entry]),
+    /// Adds a clause behind a trail: the number of the conflict, and how many entries there are.
+    Behind,
+    /// Has clauses lent: how many are, and how many are held.
+    Lend,
+    /// Takes random steps of this seed: how many conflicts there are, and how many entries behind all steps.
+    Walk(u16),
+}
+
+/// What is told where engines differ is none.
+fn play_with(both: &mut Both, alloc: Global, play: Play) -> Option<(usize, usize)> {
+    match play {
+        Play::DecideOne(rows, given_up, known) => decide_one(both, alloc, rows, given_up, known),
+        Play::Behind => shown_behind(both, alloc),
+        Play::Lend => lend(both, alloc),
+        Play::Walk(seed) => walk(both, alloc, seed),
+    }
+}
+
+/// The same over engines that are new.
+fn played(alloc: Global, play: Play) -> Option<(usize, usize)> {
+    match Both::new(alloc) {
+        Err(_) => None,
+        Ok(both) => {
+            let mut both = both;
+            play_with(&mut both, alloc, play)
+        }
+    }
 }
 
 #[test]
-fn literals_are_forced_by_rising_number(rt: HostRuntime) -> Result<(), Fail> {
+fn literals_are_forced_by_rising_number(rt: HostRuntime) {
+    let rows: [Row; 2] = [(1, &[-1, 3]), (2, &[-1, 2])];
     let known = [(1, 0, 1), (3, 1, 1), (2, 2, 1)];
-    assert!(rt; is_after_one(rt.alloc(), &[(1, &[-1, 3]), (2, &[-1, 2])], &[], &known)?);
+    assert!(rt; played(rt.alloc(), Play::DecideOne(&rows, &[], &known)) == Some((3, 3)));
+    let rows: [Row; 2] = [(2, &[-1, 3]), (1, &[-1, 2])];
     let known = [(1, 0, 1), (2, 1, 1), (3, 2, 1)];
-    assert!(rt; is_after_one(rt.alloc(), &[(2, &[-1, 3]), (1, &[-1, 2])], &[], &known)?);
-    Ok(())
+    assert!(rt; played(rt.alloc(), Play::DecideOne(&rows, &[], &known)) == Some((3, 3)));
 }
 
 /// The clauses `-1 2`, `-1 3 -4` and `-1 4` under the numbers 1, 2 and 3.
-const THREE: &[(u64, &[i32])] = &[(1, &[-1, 2]), (2, &[-1, 3, -4]), (3, &[-1, 4])];
+const THREE: &[Row<'static>] = &[(1, &[-1, 2]), (2, &[-1, 3, -4]), (3, &[-1, 4])];
 
 #[test]
-fn clauses_that_are_given_up_force_nothing(rt: HostRuntime) -> Result<(), Fail> {
+fn clauses_that_are_given_up_force_nothing(rt: HostRuntime) {
     let known = [(1, 0, 1), (4, 3, 1), (3, 2, 1)];
-    assert!(rt; is_after_one(rt.alloc(), THREE, &[4, 1], &known)?);
+    assert!(rt; played(rt.alloc(), Play::DecideOne(THREE, &[4, 1], &known)) == Some((3, 3)));
     let known = [(1, 0, 1), (4, 3, 1)];
-    assert!(rt; is_after_one(rt.alloc(), THREE, &[2, 1], &known)?);
-    Ok(())
-}
-
-/// Adds one clause behind a trail and one after a cut, and takes the decision that was cut away again. The number of the
-/// conflict, 0 for none, and the length of the trail.
-fn behind_a_trail(both: &mut Both, alloc: Global) -> Result<(u64, usize), Fail> {
-    decide(both, -1)?;
-    decide(both, -2)?;
-    add_all(both, alloc, &[(5, &[1, 2, 3])])?;
-    both.back(1);
-    add_all(both, alloc, &[(6, &[1, 2, -3])])?;
-    let conflict = decide(both, -2)?;
-    Ok((number_of(conflict), both.entries().len()))
+    assert!(rt; played(rt.alloc(), Play::DecideOne(THREE, &[2, 1], &known)) == Some((2, 2)));
 }
 
 #[test]
-fn a_clause_behind_a_trail_is_found_after_a_cut(rt: HostRuntime) -> Result<(), Fail> {
-    let mut both = Both::new(rt.alloc())?;
-    assert!(rt; behind_a_trail(&mut both, rt.alloc())? == (6, 3));
-    Ok(())
-}
-
-/// Adds the clause of these literals under a number.
-fn add(run: &mut Run<Watcher>, alloc: Global, number: u64, numbers: &[i32]) -> Result<(), Fail> {
-    let id = id(number)?;
-    let clause = some_clause(alloc, numbers)?;
-    run.add(id, &clause)
-}
-
-/// Whether an engine lends the clause of these literals under a number.
-fn is_lent(run: &Run<Watcher>, alloc: Global, number: u64, numbers: &[i32]) -> Result<bool, Fail> {
-    let id = id(number)?;
-    let lits = lits(alloc, numbers)?;
-    Ok(run.engine().get(id) == Some(lits.as_slice()))
-}
-
-/// Adds the clauses 1 -2 and 4 under the numbers 9 and 3, and tells whether the first is lent so.
-fn are_lent(run: &mut Run<Watcher>, alloc: Global) -> Result<bool, Fail> {
-    add(run, alloc, 9, &[1, -2])?;
-    add(run, alloc, 3, &[4])?;
-    let is_lent = is_lent(run, alloc, 9, &[1, -2])?;
-    Ok(is_lent && run.engine().count() == 2 && !run.holds(id(4)?))
+fn a_clause_behind_a_trail_is_found_after_a_cut(rt: HostRuntime) {
+    assert!(rt; played(rt.alloc(), Play::Behind) == Some((6, 3)));
 }
 
 #[test]
-fn clauses_are_lent_by_their_numbers(rt: HostRuntime) -> Result<(), Fail> {
-    let mut run: Run<Watcher> = Run::new(rt.alloc())?;
-    assert!(rt; are_lent(&mut run, rt.alloc())?);
-    Ok(())
+fn clauses_are_lent_by_their_numbers(rt: HostRuntime) {
+    assert!(rt; played(rt.alloc(), Play::Lend) == Some((2, 2)));
+}
+
+/// How many sets of random clauses are tried.
+const SETS: u16 = 300;
+
+/// How many conflicts and entries there are over all sets.
+fn all_walked(alloc: Global) -> Option<(usize, usize)> {
+    let mut conflicts: usize = 0;
+    let mut entries: usize = 0;
+    for seed in 0..SETS {
+        let (more, longer) = played(alloc, Play::Walk(seed))?;
+        conflicts = conflicts.saturating_add(more);
+        entries = entries.saturating_add(longer);
+    }
+    Some((conflicts, entries))
+}
+
+#[test]
+fn both_engines_agree_on_random_clauses(rt: HostRuntime) {
+    let (conflicts, entries) = all_walked(rt.alloc()).unwrap_or((0, 0));
+    assert!(rt; conflicts > 20);
+    assert!(rt; entries > 30_000);
 }

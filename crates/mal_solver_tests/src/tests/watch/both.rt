@@ -5,7 +5,6 @@ use mal_base::{Clause, ClauseId, Lit, TrailEntry, Var};
 use mal_scan::Scan;
 use mal_watch::Watcher;
 use std::alloc::{AllocError, Global};
-use std::test::Fail;
 
 /// The engine that scans its clauses and the one that watches two literals of each.
 #[derive(Drop)]
@@ -23,19 +22,19 @@ impl Both {
     }
 
     /// Adds a clause of the variables 1 to 16 under a number that is not held.
-    pub fn add(&mut self, id: ClauseId, clause: &Clause) -> Result<(), Fail> {
+    pub fn add(&mut self, id: ClauseId, clause: &Clause) -> Result<(), AllocError> {
         self.scanned.add(id, clause)?;
         self.watched.add(id, clause)
     }
 
     /// Adds a clause of the variables 1 to 16 as one that was derived, under a number that is not held.
-    pub fn learn(&mut self, id: ClauseId, clause: &Clause) -> Result<(), Fail> {
+    pub fn learn(&mut self, id: ClauseId, clause: &Clause) -> Result<(), AllocError> {
         self.scanned.learn(id, clause)?;
         self.watched.learn(id, clause)
     }
 
     /// Gives up the clauses of these numbers.
-    pub fn give_up(&mut self, ids: &[ClauseId], alloc: Global) -> Result<(), Fail> {
+    pub fn give_up(&mut self, ids: &[ClauseId], alloc: Global) -> Result<(), AllocError> {
         let mut ids = Vec::from_slice(alloc, ids)?;
         self.scanned.give_up(ids.as_mut_slice());
         self.watched.give_up(ids.as_mut_slice());
@@ -43,7 +42,7 @@ impl Both {
     }
 
     /// Decides a literal of the variables 1 to 16 that has no value.
-    pub fn decide(&mut self, lit: Lit) -> Result<(), Fail> {
+    pub fn decide(&mut self, lit: Lit) -> Result<(), AllocError> {
         self.scanned.decide(lit)?;
         self.watched.decide(lit)
     }
@@ -54,27 +53,27 @@ impl Both {
         self.watched.back(level);
     }
 
-    /// Handles the next batch with both engines, and gives its conflict. None where all are handled. Fails where the
-    /// conflicts or the trails differ then.
-    pub fn batch(&mut self) -> Result<Option<Option<ClauseId>>, Fail> {
+    /// Handles the next batch with both engines, and gives its conflict. None where all are handled. No answer
+    /// where the conflicts or the trails differ then.
+    fn batch(&mut self) -> Option<Option<Option<ClauseId>>> {
         let scanned = self.scanned.batch();
         let watched = self.watched.batch();
         if scanned != watched || self.scanned.entries() != self.watched.entries() {
-            return Err("the engines differ".into());
+            return None;
         }
-        Ok(watched)
+        Some(watched)
     }
 
-    /// Handles batches until all are handled or one has a conflict, which it gives.
-    pub fn propagate(&mut self) -> Result<Option<ClauseId>, Fail> {
+    /// Handles batches until all are handled or one has a conflict, which it gives. No answer where the engines differ.
+    pub fn propagate(&mut self) -> Option<Option<ClauseId>> {
         for _ in 0..20 {
             match self.batch()? {
-                None => return Ok(None),
+                None => return Some(None),
                 Some(None) => {}
-                Some(conflict) => return Ok(conflict),
+                Some(conflict) => return Some(conflict),
             }
         }
-        Ok(None)
+        Some(None)
     }
 
     /// Whether a clause is held under a number.
@@ -85,6 +84,11 @@ impl Both {
     /// Whether the variable has a value.
     pub fn has_value(&self, var: Var) -> bool {
         self.watched.has_value(var)
+    }
+
+    /// The engine that watches.
+    pub fn watcher(&self) -> &Watcher {
+        self.watched.engine()
     }
 
     /// The entries of the trail.

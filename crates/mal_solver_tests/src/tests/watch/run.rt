@@ -7,9 +7,9 @@ use mal_base::{Clause, ClauseId, Lit, TrailEntry, Var};
 use mal_trail::{Engine, Trail};
 use std::alloc::{AllocError, Global};
 use std::marker::Model;
-use std::test::Fail;
 
-/// An engine, and a trail that it has followed. The trail has room for 16 variables, and for those of all clauses.
+/// An engine, and a trail that it has followed. The trail has room for 16 variables, and for those of all clauses. Who asks
+/// for what it has no room for is told want of memory too.
 #[derive(Drop)]
 pub struct Run<E: Engine> {
     engine: E,
@@ -38,7 +38,7 @@ impl<E: Engine> Run<E> {
     }
 
     /// Adds a clause of the variables 1 to 16 under a number that is not held.
-    pub fn add(&mut self, id: ClauseId, clause: &Clause) -> Result<(), Fail> {
+    pub fn add(&mut self, id: ClauseId, clause: &Clause) -> Result<(), AllocError> {
         check_new(&self.engine, id, clause)?;
         let lits = clause.lits();
         self.engine.reserve(16, 1, lits.len())?;
@@ -47,7 +47,7 @@ impl<E: Engine> Run<E> {
     }
 
     /// Adds a clause of the variables 1 to 16 as one that was derived, under a number that is not held.
-    pub fn learn(&mut self, id: ClauseId, clause: &Clause) -> Result<(), Fail> {
+    pub fn learn(&mut self, id: ClauseId, clause: &Clause) -> Result<(), AllocError> {
         check_new(&self.engine, id, clause)?;
         let lits = clause.lits();
         self.engine.reserve(16, 1, lits.len())?;
@@ -61,9 +61,9 @@ impl<E: Engine> Run<E> {
     }
 
     /// Decides a literal of the variables 1 to 16 that has no value.
-    pub fn decide(&mut self, lit: Lit) -> Result<(), Fail> {
+    pub fn decide(&mut self, lit: Lit) -> Result<(), AllocError> {
         if lit.var().number() > 16 || self.trail.has_value(lit.var()) {
-            return Err("no free variable".into());
+            return Err(AllocError);
         }
         let _handled = self.trail.processed();
         let level = self.trail.level() + 1;
@@ -106,15 +106,15 @@ impl<E: Engine> Run<E> {
 }
 
 /// A clause is of the variables 1 to 16, and its number is not held.
-fn check_new<E: Engine>(engine: &E, id: ClauseId, clause: &Clause) -> Result<(), Fail>
+fn check_new<E: Engine>(engine: &E, id: ClauseId, clause: &Clause) -> Result<(), AllocError>
     ensures few { OnOk result (is_within 16 clause.now ≡ true) }
     ensures new { OnOk result (lits_under id (E.clauses engine.now) ≡ None) }
 {
     if !are_few(clause.lits()) {
-        return Err("a variable above 16".into());
+        return Err(AllocError);
     }
     match engine.get(id) {
-        Some(_) => Err("a number twice".into()),
+        Some(_) => Err(AllocError),
         None => Ok(()),
     }
 }
