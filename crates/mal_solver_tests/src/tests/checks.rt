@@ -31,8 +31,12 @@ fn four(alloc: Global) -> Option<Checker> {
 type Row<'a> = (&'a [u8], Option<CheckFault>);
 
 /// Whether a checker answers so to a line.
-fn answers_one(alloc: Global, checker: &mut Checker, row: Row) -> bool {
-    let (text, known) = row;
+fn answers_one(
+    alloc: Global,
+    checker: &mut Checker,
+    text: &[u8],
+    known: Option<CheckFault>,
+) -> bool {
     match read_line(alloc, text, 0) {
         Err(_) => false,
         Ok(line) => checker.line(line).err() == known,
@@ -41,8 +45,8 @@ fn answers_one(alloc: Global, checker: &mut Checker, row: Row) -> bool {
 
 /// Whether a checker answers so to one line after another.
 fn answers(alloc: Global, checker: &mut Checker, rows: &[Row]) -> bool {
-    for row in rows {
-        if !answers_one(alloc, checker, *row) {
+    for (text, known) in rows {
+        if !answers_one(alloc, checker, text, *known) {
             return false;
         }
     }
@@ -101,22 +105,28 @@ fn an_original_clause_is_held(rt: HostRuntime) {
 
 /// What a checker of the four clauses answers to two clauses whose numbers are far apart, which it takes, and to two
 /// lines behind them.
-fn far_apart_answer(alloc: Global, third: Row, fourth: Row) -> Option<(bool, bool)> {
+fn far_apart_answer(
+    alloc: Global,
+    lines: [&[u8]; 2],
+    known: [Option<CheckFault>; 2],
+) -> Option<(bool, bool)> {
+    let [third, fourth] = lines;
+    let [told, last] = known;
     let rows: [Row; 4] = [
         (b"5000000000 1 0 1 2 0", None),
         (b"70 -1 0 3 4 0", None),
-        third,
-        fourth,
+        (third, told),
+        (fourth, last),
     ];
     four_answer(alloc, &rows)
 }
 
 #[test]
 fn numbers_far_apart_are_held_and_deleted(rt: HostRuntime) {
-    let again: Row = (b"5000000000 2 0 1 2 0", used(5_000_000_000));
-    let held = far_apart_answer(rt.alloc(), again, (b"75 0 5000000000 70 0", None));
+    let lines: [&[u8]; 2] = [b"5000000000 2 0 1 2 0", b"75 0 5000000000 70 0"];
+    let held = far_apart_answer(rt.alloc(), lines, [used(5_000_000_000), None]);
     assert!(rt; held == Some((true, true)));
-    let gone: Row = (b"76 0 70 0", unknown(70));
-    let deleted = far_apart_answer(rt.alloc(), (b"1 d 5000000000 70 0", None), gone);
+    let lines: [&[u8]; 2] = [b"1 d 5000000000 70 0", b"76 0 70 0"];
+    let deleted = far_apart_answer(rt.alloc(), lines, [None, unknown(70)]);
     assert!(rt; deleted == Some((true, false)));
 }

@@ -84,15 +84,20 @@ fn has_list(order: &Order, list: &[Var]) -> bool {
     }
 }
 
-/// Whether the order of a list has it, and the variables that are free first where none has a value.
-fn shown(alloc: Global, list: &[Var; 3]) -> Option<(bool, [u32; 2])> {
-    let mut order = Order::of_list(alloc, 5, list).ok()?;
-    let has_list = has_list(&order, list);
-    Some((has_list, first(&mut order, &Trail::new(alloc))))
+/// Whether an order has this list, and the variables that are free first where none has a value.
+fn shown(order: &mut Order, alloc: Global, list: &[Var]) -> (bool, [u32; 2]) {
+    let has_list = has_list(order, list);
+    (has_list, first(order, &Trail::new(alloc)))
+}
+
+/// The same of the order of a list.
+fn listed(alloc: Global) -> Option<(bool, [u32; 2])> {
+    let list = [Var::of(2), Var::of(3), Var::of(1)];
+    let mut order = Order::of_list(alloc, 5, &list).ok()?;
+    Some(shown(&mut order, alloc, &list))
 }
 
 #[test]
 fn a_list_comes_back_in_its_order(rt: HostRuntime) {
-    let list = [Var::of(2), Var::of(3), Var::of(1)];
-    assert!(rt; shown(rt.alloc(), &list) == Some((true, [2, 2])));
+    assert!(rt; listed(rt.alloc()) == Some((true, [2, 2])));
 }

@@ -35,25 +35,34 @@ fn filled(alloc: Global, rows: &[Row]) -> Option<Store> {
     Some(store)
 }
 
-/// The literals of a clause, by the store and by its view, if it is held under this number.
-fn found(store: &Store, number: u64) -> Option<[&[Lit]; 2]> {
-    let id = ClauseId::of(number)?;
-    Some([store.get(id)?, ClauseView::get(store, id)?])
+/// Whether these are the literals of a clause that is held.
+fn are(found: Option<&[Lit]>, numbers: &[i32]) -> bool {
+    match found {
+        None => false,
+        Some(lits) => has_lits(lits, numbers),
+    }
 }
 
-/// Whether a store has a clause.
-fn holds_one(store: &Store, row: Row) -> bool {
-    let (number, numbers) = row;
-    match found(store, number) {
+/// Whether a store has the clause of these literals under a number, by itself and by its view.
+fn holds_one(store: &Store, number: u64, numbers: &[i32]) -> bool {
+    match ClauseId::of(number) {
         None => false,
-        Some([lits, view]) => has_lits(lits, numbers) && has_lits(view, numbers),
+        Some(id) => are(store.get(id), numbers) && are(ClauseView::get(store, id), numbers),
+    }
+}
+
+/// Whether a clause is held under this number.
+fn is_held(store: &Store, number: u64) -> bool {
+    match ClauseId::of(number) {
+        None => false,
+        Some(id) => store.get(id).is_some(),
     }
 }
 
 /// Whether a store has these clauses alone.
 fn holds(store: &Store, rows: &[Row]) -> bool {
-    for row in rows {
-        if !holds_one(store, *row) {
+    for (number, numbers) in rows {
+        if !holds_one(store, *number, numbers) {
             return false;
         }
     }
@@ -63,7 +72,7 @@ fn holds(store: &Store, rows: &[Row]) -> bool {
 /// Whether the store of these clauses has them alone, and none under the number 4.
 fn stand(alloc: Global, rows: &[Row]) -> Option<[bool; 2]> {
     let store = filled(alloc, rows)?;
-    Some([holds(&store, rows), found(&store, 4).is_none()])
+    Some([holds(&store, rows), !is_held(&store, 4)])
 }
 
 #[test]

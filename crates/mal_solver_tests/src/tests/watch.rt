@@ -153,14 +153,17 @@ fn played(alloc: Global, play: Play) -> Option<(usize, usize)> {
     }
 }
 
+/// The clauses `-1 3` and `-1 2` under the numbers 1 and 2, and under 2 and 1.
+const RISING: &[Row<'static>] = &[(1, &[-1, 3]), (2, &[-1, 2])];
+
+const FALLING: &[Row<'static>] = &[(2, &[-1, 3]), (1, &[-1, 2])];
+
 #[test]
 fn literals_are_forced_by_rising_number(rt: HostRuntime) {
-    let rows: [Row; 2] = [(1, &[-1, 3]), (2, &[-1, 2])];
     let known = [(1, 0, 1), (3, 1, 1), (2, 2, 1)];
-    assert!(rt; played(rt.alloc(), Play::DecideOne(&rows, &[], &known)) == Some((3, 3)));
-    let rows: [Row; 2] = [(2, &[-1, 3]), (1, &[-1, 2])];
+    assert!(rt; played(rt.alloc(), Play::DecideOne(RISING, &[], &known)) == Some((3, 3)));
     let known = [(1, 0, 1), (2, 1, 1), (3, 2, 1)];
-    assert!(rt; played(rt.alloc(), Play::DecideOne(&rows, &[], &known)) == Some((3, 3)));
+    assert!(rt; played(rt.alloc(), Play::DecideOne(FALLING, &[], &known)) == Some((3, 3)));
 }
 
 /// The clauses `-1 2`, `-1 3 -4` and `-1 4` under the numbers 1, 2 and 3.
