@@ -1,24 +1,43 @@
 //! Values that are made, and what they are made of.
 
-use super::values::{clause, clauses, has_lines, lines, lit, lits};
-use mal_base::{Ask, ClauseId, Formula, Lit, Name};
+use super::values::{LineRow, clauses, has_lines, has_lits, lines, lits};
+use mal_base::{Ask, Clause, ClauseId, ClauseList, Formula, Lit, Name};
 use std::alloc::Global;
-use std::test::Fail;
 
-#[test]
-fn a_clause_has_each_literal_once_in_order(rt: HostRuntime) -> Result<(), Fail> {
-    let known = lits(rt.alloc(), &[-1, 2, 3])?;
-    let clause = clause(rt.alloc(), &[3, -1, 3, 2])?.ok_or("a tautology")?;
-    assert_eq!(rt; clause.lits(), known.as_slice());
-    let again = clause.copy()?;
-    assert_eq!(rt; again.lits(), known.as_slice());
-    Ok(())
+/// The clause of these literals. None for a tautology.
+fn clause(alloc: Global, numbers: &[i32]) -> Option<Option<Clause>> {
+    let lits = lits(alloc, numbers)?;
+    Clause::of_lits(alloc, lits.as_slice()).ok()
+}
+
+/// Whether a clause and a copy of it have these literals.
+fn have(clause: &Clause, known: &[i32]) -> Option<[bool; 2]> {
+    let again = clause.copy().ok()?;
+    Some([
+        has_lits(clause.lits(), known),
+        has_lits(again.lits(), known),
+    ])
+}
+
+/// Whether the clause of these literals, and a copy of it, have those.
+fn made_have(alloc: Global, numbers: &[i32], known: &[i32]) -> Option<[bool; 2]> {
+    let clause = clause(alloc, numbers)??;
+    have(&clause, known)
 }
 
 #[test]
-fn both_signs_of_a_variable_make_a_tautology(rt: HostRuntime) -> Result<(), Fail> {
-    assert!(rt; clause(rt.alloc(), &[2, 1, -2])?.is_none());
-    Ok(())
+fn a_clause_has_each_literal_once_in_order(rt: HostRuntime) {
+    assert!(rt; made_have(rt.alloc(), &[3, -1, 3, 2], &[-1, 2, 3]) == Some([true; 2]));
+}
+
+/// Whether these literals make a tautology.
+fn is_tautology(alloc: Global, numbers: &[i32]) -> Option<bool> {
+    Some(clause(alloc, numbers)?.is_none())
+}
+
+#[test]
+fn both_signs_of_a_variable_make_a_tautology(rt: HostRuntime) {
+    assert!(rt; is_tautology(rt.alloc(), &[2, 1, -2]) == Some(true));
 }
 
 /// Bytes, and whether they are a name.
@@ -30,35 +49,33 @@ const NAMES: [(&[u8], bool); 4] = [
 ];
 
 /// Whether these bytes are a name, which then has them.
-fn is_name(alloc: Global, bytes: &[u8]) -> Result<bool, Fail> {
-    match Name::of(alloc, bytes)? {
-        None => Ok(false),
-        Some(name) => Ok(name.as_bytes() == bytes),
+fn is_name(alloc: Global, bytes: &[u8]) -> Option<bool> {
+    match Name::of(alloc, bytes).ok()? {
+        None => Some(false),
+        Some(name) => Some(name.as_bytes() == bytes),
     }
 }
 
 #[test]
-fn names_are_small_letters_digits_and_underlines(rt: HostRuntime) -> Result<(), Fail> {
-    for (bytes, known) in NAMES {
-        assert_eq!(rt;
-            is_name(rt.alloc(), bytes)?,
-            known,
-            "of {:?}",
-            str::from_utf8(bytes)
-        );
+fn names_are_small_letters_digits_and_underlines(rt: HostRuntime) {
+    for (bytes, known) in &NAMES {
+        assert!(rt; is_name(rt.alloc(), bytes) == Some(*known));
     }
-    Ok(())
+}
+
+/// The variable, the code and the number of the literal that DIMACS CNF writes as this number, and the number of its
+/// opposite.
+fn parts_of(number: i32) -> Option<(u32, u32, [i32; 2])> {
+    let lit = Lit::of_dimacs(number)?;
+    let numbers = [lit.dimacs(), lit.negate().dimacs()];
+    Some((lit.var().number(), lit.code(), numbers))
 }
 
 #[test]
-fn literals_are_those_of_dimacs(rt: HostRuntime) -> Result<(), Fail> {
-    assert!(rt; Lit::of_dimacs(0).is_none());
-    assert!(rt; Lit::of_dimacs(65_537).is_none());
-    assert_eq!(rt; lit(65_536)?.var().number(), 65_536);
-    assert_eq!(rt; lit(-1)?.code(), 3);
-    assert_eq!(rt; lit(-1)?.negate(), lit(1)?);
-    assert_eq!(rt; lit(-1)?.dimacs(), -1);
-    Ok(())
+fn literals_are_those_of_dimacs(rt: HostRuntime) {
+    assert!(rt; parts_of(0).is_none() && parts_of(65_537).is_none());
+    assert!(rt; parts_of(65_536) == Some((65_536, 131_072, [65_536, -65_536])));
+    assert!(rt; parts_of(-1) == Some((1, 3, [-1, 1])));
 }
 
 /// Variables and clauses, and what their formula counts, if there is one: its variables, its clauses and the literals.
@@ -70,42 +87,56 @@ const FORMULAS: [(u32, &[&[i32]], Option<[usize; 3]>); 4] = [
 ];
 
 /// What a formula of these clauses counts, if there is one.
-fn counts_of(alloc: Global, variables: u32, rows: &[&[i32]]) -> Result<Option<[usize; 3]>, Fail> {
-    match Formula::new(variables, clauses(alloc, rows)?) {
-        None => Ok(None),
-        Some(formula) => Ok(Some([
-            formula.variables() as usize,
-            formula.clauses().len(),
-            formula.literals() as usize,
-        ])),
+fn counts_of(variables: u32, clauses: ClauseList) -> Option<[usize; 3]> {
+    let formula = Formula::new(variables, clauses)?;
+    Some([
+        formula.variables() as usize,
+        formula.clauses().len(),
+        formula.literals() as usize,
+    ])
+}
+
+/// What the formula of these counts, if there is one. None where memory is wanting.
+fn counted(alloc: Global, variables: u32, rows: &[&[i32]]) -> Option<Option<[usize; 3]>> {
+    Some(counts_of(variables, clauses(alloc, rows)?))
+}
+
+#[test]
+fn a_formula_is_of_its_variables(rt: HostRuntime) {
+    for (variables, rows, known) in &FORMULAS {
+        assert!(rt; counted(rt.alloc(), *variables, rows) == Some(*known));
     }
 }
 
-#[test]
-fn a_tautology_is_not_the_empty_clause(rt: HostRuntime) -> Result<(), Fail> {
-    let tautology = clauses(rt.alloc(), &[&[2], &[1, -1]])?;
-    let empty = clauses(rt.alloc(), &[&[2], &[]])?;
-    assert!(rt; tautology.len() == 2 && tautology.literals() == 1);
-    assert!(rt; tautology.same(&clauses(rt.alloc(), &[&[2, 2], &[-1, 1]])?));
-    assert!(rt; !tautology.same(&empty));
-    assert!(rt; !tautology.same(&clauses(rt.alloc(), &[&[2]])?));
-    Ok(())
+/// Whether clauses are the same as these.
+fn are(alloc: Global, all: &ClauseList, rows: &[&[i32]]) -> Option<bool> {
+    Some(all.same(&clauses(alloc, rows)?))
+}
+
+/// How many clauses and literals the clause 2 and a tautology have.
+fn counts_of_both(alloc: Global) -> Option<[usize; 2]> {
+    let all = clauses(alloc, &[&[2], &[1, -1]])?;
+    Some([all.len(), all.literals()])
+}
+
+/// Whether the clause 2 and a tautology are the same as these.
+fn both_are(alloc: Global, rows: &[&[i32]]) -> Option<bool> {
+    let all = clauses(alloc, &[&[2], &[1, -1]])?;
+    are(alloc, &all, rows)
 }
 
 #[test]
-fn a_formula_is_of_its_variables(rt: HostRuntime) -> Result<(), Fail> {
-    for (variables, rows, known) in FORMULAS {
-        let counts = counts_of(rt.alloc(), variables, rows)?;
-        assert!(rt; counts == known);
-    }
-    Ok(())
+fn a_tautology_is_not_the_empty_clause(rt: HostRuntime) {
+    assert!(rt; counts_of_both(rt.alloc()) == Some([2, 1]));
+    assert!(rt; both_are(rt.alloc(), &[&[2, 2], &[-1, 1]]) == Some(true));
+    assert!(rt; both_are(rt.alloc(), &[&[2], &[]]) == Some(false));
+    assert!(rt; both_are(rt.alloc(), &[&[2]]) == Some(false));
 }
 
 #[test]
-fn a_clause_number_is_at_least_one(rt: HostRuntime) -> Result<(), Fail> {
+fn a_clause_number_is_at_least_one(rt: HostRuntime) {
     assert!(rt; ClauseId::of(0).is_none());
-    assert_eq!(rt; ClauseId::of(7), Some(ClauseId::original(7)));
-    Ok(())
+    assert!(rt; ClauseId::of(7) == Some(ClauseId::original(7)));
 }
 
 /// Priorities, demands, slices and profiles, and whether there is an ask of them.
@@ -125,35 +156,44 @@ fn ask_of(terms: [i64; 4]) -> Option<Ask> {
     Ask::of(priority, demand, slices)?.with_profile(profile)
 }
 
-/// The priority, the demand, the slices and the profile of an ask.
-fn terms_of(ask: Ask) -> [i64; 4] {
-    [
+/// The priority, the demand, the slices and the profile of the ask of these, if there is one.
+fn terms_of(terms: [i64; 4]) -> Option<[i64; 4]> {
+    let ask = ask_of(terms)?;
+    Some([
         i64::from(ask.priority()),
         i64::from(ask.demand()),
         i64::from(ask.slices()),
         i64::from(ask.profile()),
-    ]
+    ])
+}
+
+/// Whether there is an ask of these, which then has them, or none.
+fn is_as_known(terms: [i64; 4], is_ask: bool) -> bool {
+    match terms_of(terms) {
+        None => !is_ask,
+        Some(found) => is_ask && found == terms,
+    }
 }
 
 #[test]
-fn an_ask_names_the_profile_of_its_solvers(rt: HostRuntime) -> Result<(), Fail> {
-    for (terms, is_ask) in ASKS {
-        assert!(rt;
-            ask_of(terms).map(terms_of) == if is_ask { Some(terms) } else { None },
-            "of {terms:?}"
-        );
+fn an_ask_names_the_profile_of_its_solvers(rt: HostRuntime) {
+    for (terms, is_ask) in &ASKS {
+        assert!(rt; is_as_known(*terms, *is_ask));
     }
     assert!(rt; Ask::of(1000, 64, 4096) == ask_of([1000, 64, 4096, 1]));
-    Ok(())
+}
+
+/// How many lines there are of these, whether they are these, and how many are left when they are cleared.
+fn lined(alloc: Global, rows: &[LineRow]) -> Option<(usize, bool, usize)> {
+    let mut lines = lines(alloc, rows)?;
+    let count = lines.count();
+    let has_lines = has_lines(&lines, rows);
+    lines.clear();
+    Some((count, has_lines, lines.count()))
 }
 
 #[test]
-fn lines_stand_one_behind_another(rt: HostRuntime) -> Result<(), Fail> {
-    let rows: [(u64, &[i32], &[u64]); 2] = [(7, &[1, -2], &[4]), (8, &[3], &[4, 5])];
-    let mut lines = lines(rt.alloc(), &rows)?;
-    assert_eq!(rt; lines.count(), 2);
-    assert!(rt; has_lines(rt.alloc(), &lines, &rows)?);
-    lines.clear();
-    assert_eq!(rt; lines.count(), 0);
-    Ok(())
+fn lines_stand_one_behind_another(rt: HostRuntime) {
+    let rows: [LineRow; 2] = [(7, &[1, -2], &[4]), (8, &[3], &[4, 5])];
+    assert!(rt; lined(rt.alloc(), &rows) == Some((2, true, 0)));
 }

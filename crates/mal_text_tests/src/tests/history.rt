@@ -1,58 +1,79 @@
 //! The lines of events, and the events of one job.
 
-use mal_base::Name;
-use mal_history::{History, own, read, write};
+use super::values::name;
+use mal_history::{Event, History, own, read, write};
 use std::alloc::Global;
-use std::test::Fail;
 
-/// The history of a text.
-fn history_of(alloc: Global, text: &[u8]) -> Result<History, Fail> {
-    match read(alloc, text) {
-        Err(_) => Err("no history".into()),
-        Ok(history) => Ok(history),
-    }
-}
-
-/// The lines of the first two events.
-fn first_lines(history: &History) -> Option<[u64; 2]> {
+/// The workers of a history, and the lines of its first two events.
+fn lines_of(history: &History) -> Option<(u32, [u64; 2])> {
     if history.events().len() < 2 {
         return None;
     }
-    Some([history.line(0), history.line(1)])
+    Some((history.workers(), [history.line(0), history.line(1)]))
+}
+
+/// The same of the history of a text.
+fn lines_in(alloc: Global, text: &[u8]) -> Option<(u32, [u64; 2])> {
+    let history = read(alloc, text).ok()?;
+    lines_of(&history)
 }
 
 #[test]
-fn empty_lines_are_counted(rt: HostRuntime) -> Result<(), Fail> {
-    let history = history_of(rt.alloc(), b"h mal 1 2\n\nc a p\n\n\nc a p")?;
-    assert!(rt; history.workers() == 2);
-    assert!(rt; first_lines(&history) == Some([3, 6]));
-    Ok(())
+fn empty_lines_are_counted(rt: HostRuntime) {
+    let found = lines_in(rt.alloc(), b"h mal 1 2\n\nc a p\n\n\nc a p");
+    assert!(rt; found == Some((2, [3, 6])));
 }
 
-/// The name of these bytes.
-fn name(alloc: Global, bytes: &[u8]) -> Result<Name, Fail> {
-    Ok(Name::of(alloc, bytes)?.ok_or("no name")?)
+/// The events of the job p of the tenant a.
+fn own_events(alloc: Global, history: &History) -> Option<Vec<Event>> {
+    let tenant = name(alloc, b"a")?;
+    let job = name(alloc, b"p")?;
+    own(alloc, history, &tenant, &job).ok()
 }
 
-/// The history of the events of the job p of the tenant a alone.
-fn own_history(alloc: Global, history: &History) -> Result<History, Fail> {
-    let (a, p) = (name(alloc, b"a")?, name(alloc, b"p")?);
-    let mut told = History::new(alloc, 3);
-    for event in own(alloc, history, &a, &p)? {
-        told.reserve(1)?;
-        told.push_reserved(event);
+/// Enters events.
+fn enter_all(history: &mut History, events: Vec<Event>) -> Option<()> {
+    for event in events {
+        history.reserve(1).ok()?;
+        history.push_reserved(event);
     }
-    Ok(told)
+    Some(())
+}
+
+/// Whether a history with these events is written so.
+fn is_entered(
+    history: &mut History,
+    alloc: Global,
+    events: Vec<Event>,
+    known: &[u8],
+) -> Option<bool> {
+    enter_all(history, events)?;
+    let text = write(alloc, history).ok()?;
+    Some(text.as_slice() == known)
+}
+
+/// Whether the history of three workers with these events is written so.
+fn is_written(alloc: Global, events: Vec<Event>, known: &[u8]) -> Option<bool> {
+    let mut history = History::new(alloc, 3);
+    is_entered(&mut history, alloc, events, known)
+}
+
+/// Whether the own events of the job are written so.
+fn are_own(alloc: Global, history: &History, known: &[u8]) -> Option<bool> {
+    let events = own_events(alloc, history)?;
+    is_written(alloc, events, known)
+}
+
+/// Whether the events of the job in the history of a text are written so.
+fn is_own(alloc: Global, text: &[u8], known: &[u8]) -> Option<bool> {
+    let history = read(alloc, text).ok()?;
+    are_own(alloc, &history, known)
 }
 
 #[test]
-fn own_events_are_those_of_the_job(rt: HostRuntime) -> Result<(), Fail> {
-    let history = history_of(
-        rt.alloc(),
-        b"h mal 1 3\no a p 1 1 4\no b p 1 1 4\nb a p 1 b p 1\ns b p 0 3\ns a p 0 2\nb a p 1\nf a p 0 2 ran\nb b p 1\n",
-    )?;
-    let told = own_history(rt.alloc(), &history)?;
-    let known = b"h mal 1 3\no a p 1 1 4\nb a p 1\ns a p 0 1\nf a p 0 1 ran\nb a p 0\n".as_slice();
-    assert!(rt; write(rt.alloc(), &told)?.as_slice() == known);
-    Ok(())
+fn own_events_are_those_of_the_job(rt: HostRuntime) {
+    let text =
+        b"h mal 1 3\no a p 1 1 4\no b p 1 1 4\nb a p 1 b p 1\ns b p 0 3\ns a p 0 2\nb a p 1\nf a p 0 2 ran\nb b p 1\n";
+    let known = b"h mal 1 3\no a p 1 1 4\nb a p 1\ns a p 0 1\nf a p 0 1 ran\nb a p 0\n";
+    assert!(rt; is_own(rt.alloc(), text, known) == Some(true));
 }

@@ -1,45 +1,55 @@
 //! The text of a history that is handed to a sink piece by piece.
 
-use mal_base::Name;
+use super::values::name;
 use mal_history::{Event, History, write, write_to};
 use mal_io::MemSink;
 use std::alloc::Global;
-use std::test::Fail;
 
-/// A history of a thousand events of 34 bytes, more than two pieces.
-fn long_history(alloc: Global) -> Result<History, Fail> {
-    let tenant = Name::of(alloc, b"abcdefghijklmno")?.ok_or("no name")?;
-    let job = Name::of(alloc, b"pqrstuvwxyzabcd")?.ok_or("no name")?;
-    let mut history = History::new(alloc, 1);
+/// Enters a thousand events of 34 bytes.
+fn enter_all(history: &mut History, alloc: Global) -> Option<()> {
+    let tenant = name(alloc, b"abcdefghijklmno")?;
+    let job = name(alloc, b"pqrstuvwxyzabcd")?;
     for _ in 0..1000 {
-        history.reserve(1)?;
+        history.reserve(1).ok()?;
         history.push_reserved(Event::Exchange { tenant, job });
     }
-    Ok(history)
+    Some(())
 }
 
-/// A sink whose calls of these numbers fail, with what it took of a history, and whether it took it all.
-fn sunk<'a>(
+/// Whether a history is taken whole by a sink whose calls of these numbers fail, how many bytes the sink got, and whether
+/// they are the first of a text.
+fn sunk(
     alloc: Global,
     history: &History,
-    failing: &'a [u64],
-) -> Result<(MemSink<'a>, bool), Fail> {
-    let mut sink = MemSink::new(alloc, 40_000, 40_000, failing)?;
+    text: &[u8],
+    failing: &[u64],
+) -> Option<(bool, usize, bool)> {
+    let mut sink = MemSink::new(alloc, 40_000, 40_000, failing).ok()?;
     let is_whole = write_to(&mut sink, history).is_ok();
-    Ok((sink, is_whole))
+    let kept = sink.bytes();
+    Some((is_whole, kept.len(), text.starts_with(kept)))
+}
+
+/// Whether a history of this text is taken whole by a sink whose fourth call fails, and by its first piece alone where the
+/// second fails.
+fn are_cut(alloc: Global, history: &History, text: &[u8]) -> Option<[bool; 2]> {
+    let whole = sunk(alloc, history, text, &[4])?;
+    let (is_whole, kept, is_front) = sunk(alloc, history, text, &[2])?;
+    Some([
+        whole == (true, text.len(), true),
+        !is_whole && 16_300 < kept && kept <= 16_384 && is_front,
+    ])
+}
+
+/// The same of a history with a thousand events more.
+fn is_cut(history: &mut History, alloc: Global) -> Option<[bool; 2]> {
+    enter_all(history, alloc)?;
+    let text = write(alloc, history).ok()?;
+    are_cut(alloc, history, text.as_slice())
 }
 
 #[test]
-fn a_long_history_is_written_in_pieces(rt: HostRuntime) -> Result<(), Fail> {
-    let history = long_history(rt.alloc())?;
-    let text = write(rt.alloc(), &history)?;
-    let (sink, is_whole) = sunk(rt.alloc(), &history, &[4])?;
-    assert_eq!(rt; is_whole, true);
-    assert_eq!(rt; sink.bytes(), text.as_slice());
-    let (sink, is_whole) = sunk(rt.alloc(), &history, &[2])?;
-    assert_eq!(rt; is_whole, false);
-    let front = sink.bytes();
-    assert_eq!(rt; 16_300 < front.len() && front.len() <= 16_384, true);
-    assert_eq!(rt; text.as_slice().starts_with(front), true);
-    Ok(())
+fn a_long_history_is_written_in_pieces(rt: HostRuntime) {
+    let mut history = History::new(rt.alloc(), 1);
+    assert!(rt; is_cut(&mut history, rt.alloc()) == Some([true; 2]));
 }

@@ -1,38 +1,58 @@
 //! Events whose text no script leads to.
 
+use super::values::name;
 use mal_base::{Name, Outcome};
 use mal_history::{Event, History, Shares, write};
-use std::test::Fail;
+use std::alloc::Global;
+
+/// Enters an event.
+fn enter(history: &mut History, event: Event) -> Option<()> {
+    history.reserve(1).ok()?;
+    history.push_reserved(event);
+    Some(())
+}
+
+/// The end of a start of the job p of the tenant a.
+fn finish(tenant: Name, job: Name, index: u32, worker: u32, outcome: Outcome) -> Event {
+    Event::Finish {
+        tenant,
+        job,
+        index,
+        worker,
+        outcome,
+    }
+}
+
+/// Enters a balancing of no job, two ends and an exchange.
+fn enter_all(history: &mut History, alloc: Global) -> Option<()> {
+    let tenant = name(alloc, b"a")?;
+    let job = name(alloc, b"p")?;
+    let volumes = Shares::new(alloc);
+    enter(history, Event::Balance { volumes })?;
+    enter(history, finish(tenant, job, 3, 2, Outcome::Starved))?;
+    enter(history, finish(tenant, job, 4, 5, Outcome::Lost))?;
+    enter(history, Event::Exchange { tenant, job })
+}
+
+/// The line of the fourth event.
+fn fourth_line(history: &History) -> Option<u64> {
+    if history.events().len() < 4 {
+        return None;
+    }
+    Some(history.line(3))
+}
+
+/// The line of the last of those events, which is the fourth, and whether this is the text of their history.
+fn entered(history: &mut History, alloc: Global, known: &[u8]) -> Option<(u64, bool)> {
+    enter_all(history, alloc)?;
+    let line = fourth_line(history)?;
+    let text = write(alloc, history).ok()?;
+    Some((line, text.as_slice() == known))
+}
 
 #[test]
-fn other_outcomes_are_written(rt: HostRuntime) -> Result<(), Fail> {
-    let tenant = Name::of(rt.alloc(), b"a")?.ok_or("no name")?;
-    let job = Name::of(rt.alloc(), b"p")?.ok_or("no name")?;
+fn other_outcomes_are_written(rt: HostRuntime) {
+    let known = b"h mal 1 64\nb\nf a p 3 2 starved\nf a p 4 5 lost\nx a p\n";
     let mut history = History::new(rt.alloc(), 64);
-    history.reserve(4)?;
-    history.push_reserved(Event::Balance {
-        volumes: Shares::new(rt.alloc()),
-    });
-    history.push_reserved(Event::Finish {
-        tenant,
-        job,
-        index: 3,
-        worker: 2,
-        outcome: Outcome::Starved,
-    });
-    history.push_reserved(Event::Finish {
-        tenant,
-        job,
-        index: 4,
-        worker: 5,
-        outcome: Outcome::Lost,
-    });
-    history.push_reserved(Event::Exchange { tenant, job });
-    assert_eq!(rt; history.line(3), 5);
-    let text = write(rt.alloc(), &history)?;
-    assert_eq!(rt;
-        text.as_slice(),
-        b"h mal 1 64\nb\nf a p 3 2 starved\nf a p 4 5 lost\nx a p\n".as_slice()
-    );
-    Ok(())
+    assert!(rt; entered(&mut history, rt.alloc(), known) == Some((5, true)));
 }

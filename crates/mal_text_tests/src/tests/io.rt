@@ -7,7 +7,6 @@ use mal_io::{
 };
 use std::alloc::Global;
 use std::io::{self, Read, Write};
-use std::test::Fail;
 
 /// What a source has, how many bytes it gives a call, the calls of it that fail, how many bytes are read at most, and the
 /// fault; where there is none the whole source is read. A fault in mid-stream, a byte a call, and as many bytes as the
@@ -25,75 +24,73 @@ const READ: [(&[u8], usize, &[u64], u32, Option<ReadAllError>); 4] = [
     (b"123456", 4, &[], 5, Some(ReadAllError::TooLong)),
 ];
 
-/// The fault where the bytes of a source are read, none where all of them are.
-fn fault_of<S: Source>(
+/// Whether the bytes of a source are read, or else this fault is told.
+fn is_read<S: Source>(
     alloc: Global,
     source: &mut S,
     bytes: &[u8],
     most: u32,
-) -> Result<Option<ReadAllError>, Fail> {
+    known: Option<ReadAllError>,
+) -> bool {
     match read_all(alloc, source, most) {
-        Err(fault) => Ok(Some(fault)),
-        Ok(read) => {
-            if read.as_slice() != bytes {
-                return Err("other bytes".into());
-            }
-            Ok(None)
-        }
+        Err(fault) => known == Some(fault),
+        Ok(read) => known.is_none() && read.as_slice() == bytes,
     }
 }
 
 #[test]
-fn a_source_is_read_whole_or_its_fault_is_told(rt: HostRuntime) -> Result<(), Fail> {
-    for (bytes, piece, failing, most, known) in READ {
-        if piece == 0 {
-            return Err("no piece".into());
-        }
-        let mut source = MemSource::new(bytes, piece, failing);
-        assert!(rt; fault_of(rt.alloc(), &mut source, bytes, most)? == known);
+fn a_source_is_read_whole_or_its_fault_is_told(rt: HostRuntime) {
+    for (bytes, piece, failing, most, known) in &READ {
+        let mut source = MemSource::new(bytes, (*piece).max(1), failing);
+        assert!(rt; is_read(rt.alloc(), &mut source, bytes, *most, *known));
     }
-    Ok(())
 }
 
 /// How many bytes a sink has room for, the calls of it that fail, and how many bytes of nine it keeps; it takes four a
 /// call.
 const KEPT: [(usize, &[u64], usize); 3] = [(9, &[2], 4), (6, &[], 6), (9, &[], 9)];
 
-/// How many bytes a sink of this room keeps of these bytes, where these calls of it fail. Fails unless they are the first
-/// bytes, and unless the fault is told exactly where bytes are lost.
-fn kept_of(alloc: Global, room: usize, failing: &[u64], bytes: &[u8]) -> Result<usize, Fail> {
-    let mut sink = MemSink::new(alloc, room, 4, failing)?;
-    let is_whole = write_all(&mut sink, bytes).is_ok();
+/// How many bytes a sink keeps of these, where it keeps the first ones, and tells a fault exactly where bytes are lost.
+fn kept_by(sink: &mut MemSink, bytes: &[u8]) -> Option<usize> {
+    let is_whole = write_all(sink, bytes).is_ok();
     let kept = sink.bytes();
     if !bytes.starts_with(kept) || is_whole != (kept.len() == bytes.len()) {
-        return Err("another answer".into());
+        return None;
     }
-    Ok(kept.len())
+    Some(kept.len())
+}
+
+/// How many bytes a sink of this room keeps of these bytes, where these calls of it fail.
+fn kept_of(alloc: Global, room: usize, failing: &[u64], bytes: &[u8]) -> Option<usize> {
+    let mut sink = MemSink::new(alloc, room, 4, failing).ok()?;
+    kept_by(&mut sink, bytes)
 }
 
 #[test]
-fn a_sink_keeps_what_it_got_before_its_fault(rt: HostRuntime) -> Result<(), Fail> {
-    for (room, failing, known) in KEPT {
-        assert_eq!(rt; kept_of(rt.alloc(), room, failing, b"123456789")?, known);
+fn a_sink_keeps_what_it_got_before_its_fault(rt: HostRuntime) {
+    for (room, failing, known) in &KEPT {
+        assert!(rt; kept_of(rt.alloc(), *room, failing, b"123456789") == Some(*known));
     }
-    Ok(())
 }
 
 #[test]
-fn a_reader_of_std_is_a_source(rt: HostRuntime) -> Result<(), Fail> {
+fn a_reader_of_std_is_a_source(rt: HostRuntime) {
     let bytes = b"from a slice".as_slice();
     let mut source = StdSource::new(bytes);
-    assert!(rt; fault_of(rt.alloc(), &mut source, bytes, 100)?.is_none());
-    Ok(())
+    assert!(rt; is_read(rt.alloc(), &mut source, bytes, 100, None));
+}
+
+/// Whether these bytes are written by a sink over a writer.
+fn is_written(alloc: Global, bytes: &[u8]) -> bool {
+    let mut written: Vec<u8> = Vec::new(alloc);
+    let mut sink = StdSink::new(&mut written);
+    let is_whole = write_all(&mut sink, bytes).is_ok();
+    is_whole && written.as_slice() == bytes
 }
 
 #[test]
-fn a_writer_of_std_is_a_sink(rt: HostRuntime) -> Result<(), Fail> {
-    let mut written: Vec<u8> = Vec::new(rt.alloc());
-    let mut sink = StdSink::new(&mut written);
-    assert!(rt; write_all(&mut sink, b"from a slice").is_ok());
-    assert_eq!(rt; written.as_slice(), b"from a slice".as_slice());
-    Ok(())
+fn a_writer_of_std_is_a_sink(rt: HostRuntime) {
+    assert!(rt; is_written(rt.alloc(), b"from a slice"));
 }
 
 /// A reader and a writer of a byte a call that fails in every second call, and counts its calls.
@@ -140,9 +137,9 @@ fn a_source_asks_its_reader_once_in_each_call(rt: HostRuntime) {
     let mut source = StdSource::new(&mut reader);
     let mut into = [0; 3];
     for (length, known) in MOVED {
-        assert_eq!(rt; source.take(&mut into[..length]).ok(), known);
+        assert!(rt; source.take(&mut into[..length]).ok() == known);
     }
-    assert_eq!(rt; reader.calls, 4);
+    assert!(rt; reader.calls == 4);
 }
 
 #[test]
@@ -151,7 +148,7 @@ fn a_sink_asks_its_writer_once_in_each_call(rt: HostRuntime) {
     let mut sink = StdSink::new(&mut writer);
     let bytes = [97; 3];
     for (length, known) in MOVED {
-        assert_eq!(rt; sink.put(&bytes[..length]).ok(), known);
+        assert!(rt; sink.put(&bytes[..length]).ok() == known);
     }
-    assert_eq!(rt; writer.calls, 4);
+    assert!(rt; writer.calls == 4);
 }

@@ -1,30 +1,38 @@
 //! Lines of proofs that are read and written, and texts that are none.
 
-use super::values::{clause, id, ids, lit, lits};
+use super::values::{has_ids, has_lits, ids, lits};
 use mal_base::{Clause, ClauseId};
 use mal_lrat::{Line, LineFault, put_added, put_lits, read_line, write_line};
 use std::alloc::Global;
-use std::test::Fail;
 
-/// The number, the literals and the hints of the addition of this text. None for another line.
-fn addition(alloc: Global, text: &[u8]) -> Result<Option<(ClauseId, Clause, Vec<ClauseId>)>, Fail> {
-    match read_line(alloc, text, 4)? {
-        Line::Add { id, clause, hints } => match clause {
-            None => Ok(None),
-            Some(clause) => Ok(Some((id, clause, hints))),
-        },
-        Line::Delete { .. } => Ok(None),
+/// The number of an addition, and whether it has these literals and these hints. None for another line.
+fn shown(line: &Line, numbers: &[i32], known: &[u64]) -> Option<(u64, [bool; 2])> {
+    match line {
+        Line::Add {
+            id,
+            clause: Some(clause),
+            hints,
+        } => Some((
+            id.number(),
+            [
+                has_lits(clause.lits(), numbers),
+                has_ids(hints.as_slice(), known),
+            ],
+        )),
+        _ => None,
     }
 }
 
+/// The same of the line of a text behind the number 4.
+fn read_so(alloc: Global, text: &[u8], numbers: &[i32], known: &[u64]) -> Option<(u64, [bool; 2])> {
+    let line = read_line(alloc, text, 4).ok()?;
+    shown(&line, numbers, known)
+}
+
 #[test]
-fn a_line_has_an_id_literals_and_hints(rt: HostRuntime) -> Result<(), Fail> {
-    let found = addition(rt.alloc(), b"l 5 2 -1 02 0 1 2 0\r")?;
-    let (added, clause, hints) = found.ok_or("no addition")?;
-    assert!(rt; added == id(5)?);
-    assert!(rt; clause.lits() == lits(rt.alloc(), &[-1, 2])?.as_slice());
-    assert!(rt; hints.as_slice() == ids(rt.alloc(), &[1, 2])?.as_slice());
-    Ok(())
+fn a_line_has_an_id_literals_and_hints(rt: HostRuntime) {
+    let found = read_so(rt.alloc(), b"l 5 2 -1 02 0 1 2 0\r", &[-1, 2], &[1, 2]);
+    assert!(rt; found == Some((5, [true; 2])));
 }
 
 /// Lines behind one of the number 4, with their first faults.
@@ -34,48 +42,79 @@ const FAULTS: [(&[u8], LineFault); 2] = [
 ];
 
 #[test]
-fn the_first_fault_is_told(rt: HostRuntime) -> Result<(), Fail> {
-    for (line, fault) in FAULTS {
-        assert!(rt;
-            read_line(rt.alloc(), line, 4).err() == Some(fault),
-            "of {:?}",
-            str::from_utf8(line)
-        );
+fn the_first_fault_is_told(rt: HostRuntime) {
+    for (line, fault) in &FAULTS {
+        assert!(rt; read_line(rt.alloc(), line, 4).err() == Some(*fault));
     }
-    Ok(())
 }
 
-/// The text of the addition of the clause of these literals by these hints.
-fn added(alloc: Global, number: u64, numbers: &[i32], hints: &[u64]) -> Result<Vec<u8>, Fail> {
-    let clause = clause(alloc, numbers)?;
+/// The addition of the clause of these literals by these hints.
+fn addition(alloc: Global, number: u64, numbers: &[i32], hints: &[u64]) -> Option<Line> {
+    let id = ClauseId::of(number)?;
     let hints = ids(alloc, hints)?;
-    let id = id(number)?;
-    Ok(write_line(alloc, &Line::Add { id, clause, hints })?)
+    let lits = lits(alloc, numbers)?;
+    let clause = Clause::of_lits(alloc, lits.as_slice()).ok()?;
+    Some(Line::Add { id, clause, hints })
 }
 
-/// The text of a deletion.
-fn deleted(alloc: Global, numbers: &[u64]) -> Result<Vec<u8>, Fail> {
+/// A deletion.
+fn deletion(alloc: Global, numbers: &[u64]) -> Option<Line> {
     let ids = ids(alloc, numbers)?;
-    Ok(write_line(alloc, &Line::Delete { ids })?)
+    Some(Line::Delete { ids })
+}
+
+/// Whether this is the text of a line.
+fn is_written(alloc: Global, line: Option<Line>, known: &[u8]) -> Option<bool> {
+    let line = line?;
+    let text = write_line(alloc, &line).ok()?;
+    Some(text.as_slice() == known)
 }
 
 #[test]
-fn lines_are_written_with_their_line_end(rt: HostRuntime) -> Result<(), Fail> {
-    let text = added(rt.alloc(), 7, &[2, -1], &[1, 4_611_686_018_427_387_904])?;
-    assert!(rt; text.as_slice() == b"7 -1 2 0 1 4611686018427387904 0\n".as_slice());
-    let tautology = added(rt.alloc(), 8, &[1, -1], &[])?;
-    assert!(rt; tautology.as_slice() == b"8 1 -1 0 0\n".as_slice());
-    let deletion = deleted(rt.alloc(), &[7])?;
-    assert!(rt; deletion.as_slice() == b"1 d 7 0\n".as_slice());
-    Ok(())
+fn lines_are_written_with_their_line_end(rt: HostRuntime) {
+    let alloc = rt.alloc();
+    let hints = [1, 4_611_686_018_427_387_904];
+    let line = addition(alloc, 7, &[2, -1], &hints);
+    assert!(rt; is_written(alloc, line, b"7 -1 2 0 1 4611686018427387904 0\n") == Some(true));
+    let tautology = addition(alloc, 8, &[1, -1], &[]);
+    assert!(rt; is_written(alloc, tautology, b"8 1 -1 0 0\n") == Some(true));
+    assert!(rt; is_written(alloc, deletion(alloc, &[7]), b"1 d 7 0\n") == Some(true));
+}
+
+/// Writes literals.
+fn put_some(out: &mut Vec<u8>, alloc: Global, numbers: &[i32]) -> Option<()> {
+    let lits = lits(alloc, numbers)?;
+    put_lits(out, lits.as_slice()).ok()
+}
+
+/// Writes an addition.
+fn put_line(
+    out: &mut Vec<u8>,
+    alloc: Global,
+    id: ClauseId,
+    numbers: &[i32],
+    hints: &[u64],
+) -> Option<()> {
+    let lits = lits(alloc, numbers)?;
+    let hints = ids(alloc, hints)?;
+    put_added(out, id, lits.as_slice(), hints.as_slice()).ok()
+}
+
+/// Writes literals behind a text, and an addition behind them.
+fn put_behind(out: &mut Vec<u8>, alloc: Global) -> Option<()> {
+    put_some(out, alloc, &[2, -1])?;
+    out.extend_from_slice(b"\nl ").ok()?;
+    put_line(out, alloc, ClauseId::original(5), &[-3], &[1, 4])
+}
+
+/// Whether this is the text then.
+fn are_put(alloc: Global, known: &[u8]) -> Option<bool> {
+    let mut out = Vec::from_slice(alloc, b"k").ok()?;
+    let is_put = put_behind(&mut out, alloc).is_some();
+    Some(is_put && out.as_slice() == known)
 }
 
 #[test]
-fn an_addition_is_written_behind_a_text(rt: HostRuntime) -> Result<(), Fail> {
-    let mut out = Vec::from_slice(rt.alloc(), b"k")?;
-    put_lits(&mut out, &[lit(2)?, lit(-1)?])?;
-    out.extend_from_slice(b"\nl ")?;
-    put_added(&mut out, id(5)?, &[lit(-3)?], &[id(1)?, id(4)?])?;
-    assert_eq!(rt; out.as_slice(), b"k 2 -1 0\nl 5 -3 0 1 4 0\n".as_slice());
-    Ok(())
+fn an_addition_is_written_behind_a_text(rt: HostRuntime) {
+    assert!(rt; are_put(rt.alloc(), b"k 2 -1 0\nl 5 -3 0 1 4 0\n") == Some(true));
 }

@@ -3,7 +3,7 @@
 use mal_text::{
     NumberFault, end_line, first_line, first_word, number, put_line, put_number, put_word, words,
 };
-use std::test::Fail;
+use std::alloc::{AllocError, Global};
 
 /// Words as numbers of a magnitude up to 12.
 const NUMBERS: [(&[u8], Result<i64, NumberFault>); 3] = [
@@ -13,30 +13,42 @@ const NUMBERS: [(&[u8], Result<i64, NumberFault>); 3] = [
 ];
 
 #[test]
-fn number_words_are_told_apart(rt: HostRuntime) -> Result<(), Fail> {
-    for (word, known) in NUMBERS {
-        assert!(rt; number(word, 12) == known, "of {:?}", str::from_utf8(word));
+fn number_words_are_told_apart(rt: HostRuntime) {
+    for (word, known) in &NUMBERS {
+        assert!(rt; number(word, 12) == *known);
     }
-    Ok(())
+}
+
+/// Writes a line by one call, and one word by word.
+fn put_two_lines(out: &mut Vec<u8>) -> Result<(), AllocError> {
+    put_line(out, b"p", &[b"cnf", b"3"])?;
+    put_number(out, -17)?;
+    put_word(out, b"0")?;
+    end_line(out)
+}
+
+/// Whether this is the text of both.
+fn are_written(alloc: Global, known: &[u8]) -> bool {
+    let mut out = Vec::new(alloc);
+    put_two_lines(&mut out).is_ok() && out.as_slice() == known
 }
 
 #[test]
-fn lines_are_written_with_one_space(rt: HostRuntime) -> Result<(), Fail> {
-    let mut out = Vec::new(rt.alloc());
-    put_line(&mut out, b"p", &[b"cnf", b"3"])?;
-    put_number(&mut out, -17)?;
-    put_word(&mut out, b"0")?;
-    end_line(&mut out)?;
-    assert_eq!(rt; out.as_slice(), b"p cnf 3\n-17 0\n".as_slice());
-    Ok(())
+fn lines_are_written_with_one_space(rt: HostRuntime) {
+    assert!(rt; are_written(rt.alloc(), b"p cnf 3\n-17 0\n"));
+}
+
+/// Whether a line has these words.
+fn has_words(alloc: Global, line: &[u8], known: &[&[u8]]) -> bool {
+    match words(alloc, line) {
+        Err(_) => false,
+        Ok(found) => found.as_slice() == known,
+    }
 }
 
 #[test]
-fn a_line_with_tabs_is_cut_into_words(rt: HostRuntime) -> Result<(), Fail> {
-    let found = words(rt.alloc(), b" 1\t-2  0\r")?;
-    let known: [&[u8]; 3] = [b"1", b"-2", b"0"];
-    assert!(rt; found.as_slice() == known.as_slice());
-    Ok(())
+fn a_line_with_tabs_is_cut_into_words(rt: HostRuntime) {
+    assert!(rt; has_words(rt.alloc(), b" 1\t-2  0\r", &[b"1", b"-2", b"0"]));
 }
 
 /// The first line of a text and what is behind it, or its first word.
@@ -48,6 +60,13 @@ fn first(is_line: bool, text: &[u8]) -> Option<(&[u8], &[u8])> {
     }
 }
 
+/// Whether a text is cut into these two lines or words alone.
+fn is_cut(is_line: bool, text: &[u8], pieces: [&[u8]; 2]) -> Option<bool> {
+    let (one, behind) = first(is_line, text)?;
+    let (other, rest) = first(is_line, behind)?;
+    Some([one, other] == pieces && first(is_line, rest).is_none())
+}
+
 /// Texts that are cut into lines, the last of which has no end, and into words.
 const CUTS: [(bool, &[u8], [&[u8]; 2]); 2] = [
     (true, b"a b\nc", [b"a b", b"c"]),
@@ -55,15 +74,8 @@ const CUTS: [(bool, &[u8], [&[u8]; 2]); 2] = [
 ];
 
 #[test]
-fn lines_and_words_are_cut_one_by_one(rt: HostRuntime) -> Result<(), Fail> {
-    for (is_line, text, pieces) in CUTS {
-        let mut rest = text;
-        for known in pieces {
-            let (piece, behind) = first(is_line, rest).ok_or("too few")?;
-            assert_eq!(rt; piece, known);
-            rest = behind;
-        }
-        assert!(rt; first(is_line, rest).is_none());
+fn lines_and_words_are_cut_one_by_one(rt: HostRuntime) {
+    for (is_line, text, pieces) in &CUTS {
+        assert!(rt; is_cut(*is_line, text, *pieces) == Some(true));
     }
-    Ok(())
 }

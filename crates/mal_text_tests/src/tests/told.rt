@@ -1,11 +1,11 @@
 //! Texts of each grammar, with what is told of them.
 
+use mal_account::Account;
 use mal_base::LineFault;
 use mal_claim::{Claim, verdict_line, verify};
 use mal_dimacs::DimacsFault;
 use mal_script::line_fault_line;
 use std::alloc::Global;
-use std::test::Fail;
 
 /// What a text is read as.
 #[derive(Clone, Copy)]
@@ -18,8 +18,8 @@ pub enum Grammar {
 }
 
 /// What is told of a text: what was read, written again, or the line that tells its first fault. Of a claim it is the
-/// line that tells the verdict on its proof, none where it is verified.
-pub fn told(alloc: Global, grammar: Grammar, text: &[u8]) -> Result<Vec<u8>, Fail> {
+/// line that tells the verdict on its proof, empty where it is verified. None where memory is wanting.
+fn told(alloc: Global, grammar: Grammar, text: &[u8]) -> Option<Vec<u8>> {
     match grammar {
         Grammar::Formula => formula(alloc, text),
         Grammar::Script => script(alloc, text),
@@ -29,60 +29,61 @@ pub fn told(alloc: Global, grammar: Grammar, text: &[u8]) -> Result<Vec<u8>, Fai
     }
 }
 
-fn formula(alloc: Global, text: &[u8]) -> Result<Vec<u8>, Fail> {
+fn formula(alloc: Global, text: &[u8]) -> Option<Vec<u8>> {
     match mal_dimacs::read(alloc, text) {
-        Ok(formula) => Ok(mal_dimacs::write(alloc, &formula)?),
+        Ok(formula) => mal_dimacs::write(alloc, &formula).ok(),
         Err(DimacsFault::Fault { line, fault }) => {
-            let fault = LineFault::Dimacs { fault };
-            Ok(line_fault_line(alloc, b"formula", line, fault)?)
+            line_fault_line(alloc, b"formula", line, LineFault::Dimacs { fault }).ok()
         }
-        Err(DimacsFault::OutOfMemory) => Err("no memory".into()),
+        Err(DimacsFault::OutOfMemory) => None,
     }
 }
 
-fn script(alloc: Global, text: &[u8]) -> Result<Vec<u8>, Fail> {
+fn script(alloc: Global, text: &[u8]) -> Option<Vec<u8>> {
     match mal_script::read(alloc, text) {
-        Ok(script) => Ok(mal_script::write(alloc, &script)?),
-        Err(fault) => Ok(mal_script::fault_line(alloc, fault)?.ok_or("no memory")?),
+        Ok(script) => mal_script::write(alloc, &script).ok(),
+        Err(fault) => mal_script::fault_line(alloc, fault).ok()?,
     }
 }
 
-fn history(alloc: Global, text: &[u8]) -> Result<Vec<u8>, Fail> {
+fn history(alloc: Global, text: &[u8]) -> Option<Vec<u8>> {
     match mal_history::read(alloc, text) {
-        Ok(history) => Ok(mal_history::write(alloc, &history)?),
-        Err(_) => Err("no history".into()),
+        Ok(history) => mal_history::write(alloc, &history).ok(),
+        Err(_) => None,
     }
 }
 
 /// The script and the history of an account are written one behind another.
-fn account(alloc: Global, text: &[u8]) -> Result<Vec<u8>, Fail> {
+fn account(alloc: Global, text: &[u8]) -> Option<Vec<u8>> {
     match mal_account::read(alloc, text) {
-        Ok(account) => {
-            let mut text = mal_script::write(alloc, &account.script)?;
-            let history = mal_history::write(alloc, &account.history)?;
-            text.extend_from_slice(history.as_slice())?;
-            Ok(text)
-        }
-        Err(fault) => Ok(mal_account::fault_line(alloc, fault)?.ok_or("no memory")?),
+        Ok(account) => both(alloc, &account),
+        Err(fault) => mal_account::fault_line(alloc, fault).ok()?,
     }
 }
 
-fn claim(alloc: Global, text: &[u8]) -> Result<Vec<u8>, Fail> {
+fn both(alloc: Global, account: &Account) -> Option<Vec<u8>> {
+    let mut text = mal_script::write(alloc, &account.script).ok()?;
+    let history = mal_history::write(alloc, &account.history).ok()?;
+    text.extend_from_slice(history.as_slice()).ok()?;
+    Some(text)
+}
+
+fn claim(alloc: Global, text: &[u8]) -> Option<Vec<u8>> {
     match mal_claim::read(alloc, text) {
         Ok(claim) => verdict(alloc, claim),
-        Err(fault) => Ok(mal_claim::fault_line(alloc, fault)?.ok_or("no memory")?),
+        Err(fault) => mal_claim::fault_line(alloc, fault).ok()?,
     }
 }
 
-fn verdict(alloc: Global, claim: Claim) -> Result<Vec<u8>, Fail> {
+fn verdict(alloc: Global, claim: Claim) -> Option<Vec<u8>> {
     let Claim {
         formula,
         assumptions,
         lines,
     } = claim;
     match verify(alloc, &formula, assumptions.as_slice(), lines) {
-        Ok(()) => Ok(Vec::new(alloc)),
-        Err(fault) => Ok(verdict_line(alloc, fault)?.ok_or("no memory")?),
+        Ok(()) => Some(Vec::new(alloc)),
+        Err(fault) => verdict_line(alloc, fault).ok()?,
     }
 }
 
@@ -249,11 +250,21 @@ const TOLD: [(Grammar, &[u8], &[u8]); 32] = [
     ),
 ];
 
-#[test]
-fn texts_are_told(rt: HostRuntime) -> Result<(), Fail> {
-    for (grammar, text, known) in TOLD {
-        let told = told(rt.alloc(), grammar, text)?;
-        assert_eq!(rt; told.as_slice(), known, "of {:?}", str::from_utf8(text));
+/// Whether this is told of a text.
+pub fn is_told(alloc: Global, grammar: Grammar, text: &[u8], known: &[u8]) -> bool {
+    match told(alloc, grammar, text) {
+        None => false,
+        Some(told) => told.as_slice() == known,
     }
-    Ok(())
+}
+
+#[test]
+fn texts_are_told(rt: HostRuntime) {
+    for (grammar, text, known) in &TOLD {
+        assert!(rt;
+            is_told(rt.alloc(), *grammar, text, known),
+            "of {:?}",
+            str::from_utf8(text)
+        );
+    }
 }

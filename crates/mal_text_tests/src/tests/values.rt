@@ -1,75 +1,119 @@
-//! Values by their numbers in texts.
+//! Values by their numbers in texts, none where a number is out of range or memory is wanting.
 
-use mal_base::{Clause, ClauseId, ClauseList, Lines, Lit};
-use std::alloc::Global;
-use std::test::Fail;
-
-/// The literal that DIMACS CNF writes as this number.
-pub fn lit(number: i32) -> Result<Lit, Fail> {
-    Ok(Lit::of_dimacs(number).ok_or("no literal")?)
-}
+use mal_base::{Clause, ClauseId, ClauseList, Lines, Lit, Name};
+use std::alloc::{AllocError, Global};
 
 /// The literals that DIMACS CNF writes as these numbers.
-pub fn lits(alloc: Global, numbers: &[i32]) -> Result<Vec<Lit>, Fail> {
-    numbers.iter().map(|n| lit(*n)).try_collect(alloc)
+pub fn lits(alloc: Global, numbers: &[i32]) -> Option<Vec<Lit>> {
+    let mut lits = Vec::new(alloc);
+    for number in numbers {
+        lits.push(Lit::of_dimacs(*number)?).ok()?;
+    }
+    Some(lits)
 }
 
-/// The clause of these literals. None for a tautology.
-pub fn clause(alloc: Global, numbers: &[i32]) -> Result<Option<Clause>, Fail> {
+/// Whether literals are those that DIMACS CNF writes as these numbers.
+pub fn has_lits(lits: &[Lit], numbers: &[i32]) -> bool {
+    if lits.len() != numbers.len() {
+        return false;
+    }
+    for n in 0..lits.len() {
+        if lits[n].dimacs() != numbers[n] {
+            return false;
+        }
+    }
+    true
+}
+
+/// Adds the clause of these literals.
+fn push_clause(clauses: &mut ClauseList, alloc: Global, numbers: &[i32]) -> Option<()> {
     let lits = lits(alloc, numbers)?;
-    Ok(Clause::of_lits(alloc, lits.as_slice())?)
+    let clause = Clause::of_lits(alloc, lits.as_slice()).ok()?;
+    clauses.push(&clause).ok()
 }
 
 /// These clauses.
-pub fn clauses(alloc: Global, rows: &[&[i32]]) -> Result<ClauseList, Fail> {
+pub fn clauses(alloc: Global, rows: &[&[i32]]) -> Option<ClauseList> {
     let mut clauses = ClauseList::new(alloc);
     for row in rows {
-        clauses.push(&clause(alloc, row)?)?;
+        push_clause(&mut clauses, alloc, row)?;
     }
-    Ok(clauses)
-}
-
-/// The number of a clause.
-pub fn id(number: u64) -> Result<ClauseId, Fail> {
-    Ok(ClauseId::of(number).ok_or("no id")?)
+    Some(clauses)
 }
 
 /// The clauses of these numbers.
-pub fn ids(alloc: Global, numbers: &[u64]) -> Result<Vec<ClauseId>, Fail> {
-    numbers.iter().map(|n| id(*n)).try_collect(alloc)
-}
-
-/// Lines by their numbers, literals and hints.
-pub fn lines(alloc: Global, rows: &[(u64, &[i32], &[u64])]) -> Result<Lines, Fail> {
-    let mut lines = Lines::new(alloc);
-    for (number, numbers, hints) in rows {
-        let lits = lits(alloc, numbers)?;
-        let hints = ids(alloc, hints)?;
-        lines.reserve(1, lits.len(), hints.len())?;
-        lines.push_reserved(id(*number)?, lits.as_slice(), hints.as_slice());
+pub fn ids(alloc: Global, numbers: &[u64]) -> Option<Vec<ClauseId>> {
+    let mut ids = Vec::new(alloc);
+    for number in numbers {
+        ids.push(ClauseId::of(*number)?).ok()?;
     }
-    Ok(lines)
+    Some(ids)
 }
 
-/// Whether lines are those of these numbers, literals and hints.
-pub fn has_lines(
-    alloc: Global,
-    lines: &Lines,
-    rows: &[(u64, &[i32], &[u64])],
-) -> Result<bool, Fail> {
+/// Whether clauses are those of these numbers.
+pub fn has_ids(ids: &[ClauseId], numbers: &[u64]) -> bool {
+    if ids.len() != numbers.len() {
+        return false;
+    }
+    for n in 0..ids.len() {
+        if ids[n].number() != numbers[n] {
+            return false;
+        }
+    }
+    true
+}
+
+/// A line by its number, its literals and its hints.
+pub type LineRow<'a> = (u64, &'a [i32], &'a [u64]);
+
+/// Adds a line of this number.
+fn push(
+    lines: &mut Lines,
+    id: ClauseId,
+    lits: &[Lit],
+    hints: &[ClauseId],
+) -> Result<(), AllocError> {
+    lines.reserve(1, lits.len(), hints.len())?;
+    lines.push_reserved(id, lits, hints);
+    Ok(())
+}
+
+/// Adds a line.
+fn push_line(lines: &mut Lines, alloc: Global, row: LineRow) -> Option<()> {
+    let (number, numbers, hints) = row;
+    let id = ClauseId::of(number)?;
+    let lits = lits(alloc, numbers)?;
+    let hints = ids(alloc, hints)?;
+    push(lines, id, lits.as_slice(), hints.as_slice()).ok()
+}
+
+/// These lines.
+pub fn lines(alloc: Global, rows: &[LineRow]) -> Option<Lines> {
+    let mut lines = Lines::new(alloc);
+    for row in rows {
+        push_line(&mut lines, alloc, *row)?;
+    }
+    Some(lines)
+}
+
+/// Whether lines are these.
+pub fn has_lines(lines: &Lines, rows: &[LineRow]) -> bool {
     if lines.count() != rows.len() {
-        return Ok(false);
+        return false;
     }
     for n in 0..rows.len() {
         let (number, numbers, hints) = rows[n];
-        let lits = lits(alloc, numbers)?;
-        let hints = ids(alloc, hints)?;
         if lines.id(n).number() != number
-            || lines.lits(n) != lits.as_slice()
-            || lines.hints(n) != hints.as_slice()
+            || !has_lits(lines.lits(n), numbers)
+            || !has_ids(lines.hints(n), hints)
         {
-            return Ok(false);
+            return false;
         }
     }
-    Ok(true)
+    true
+}
+
+/// The name of these bytes.
+pub fn name(alloc: Global, bytes: &[u8]) -> Option<Name> {
+    Name::of(alloc, bytes).ok()?
 }
