@@ -1,4 +1,4 @@
-//! Tests of the hall and of the shared service from outside, which see no more of a type than its contracts say.
+//! Tests of the hall, of inquiries and of the shared service from outside, which see no more of a type than its contracts say.
 #![tactic(auto)]
 
 #[cfg(test)]

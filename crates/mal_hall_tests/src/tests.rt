@@ -2,5 +2,6 @@
 
 mod balance;
 mod hall;
+mod inquiry;
 mod service;
 mod turn;

@@ -18,13 +18,15 @@ const P: Key = (b"a", b"p");
 
 /// What is posted.
 #[derive(Clone, Copy)]
-enum Posted<'a> {
+pub(crate) enum Posted<'a> {
     /// No clause over so many variables.
     Free(u32),
     /// So many clauses over one variable that are always true.
     Tautologies(usize),
     /// A clause over two variables, and assumptions, by their DIMACS numbers.
     Clause(&'a [i32], &'a [i32]),
+    /// No clause over two variables, and assumptions.
+    Assuming(&'a [i32]),
 }
 
 /// A call of a hall.
@@ -128,7 +130,7 @@ fn tautologies(alloc: Global, count: usize) -> Option<ClauseList> {
     Some(clauses)
 }
 
-fn revision(alloc: Global, posted: Posted) -> Option<Revision> {
+pub(crate) fn revision(alloc: Global, posted: Posted) -> Option<Revision> {
     match posted {
         Posted::Free(variables) => Revision::new(
             alloc,
@@ -142,6 +144,10 @@ fn revision(alloc: Global, posted: Posted) -> Option<Revision> {
         Posted::Clause(numbers, assumptions) => {
             let assumptions = lits(alloc, assumptions)?;
             Revision::new(alloc, 2, clause(alloc, numbers)?, assumptions.as_slice()).ok()
+        }
+        Posted::Assuming(assumptions) => {
+            let assumptions = lits(alloc, assumptions)?;
+            Revision::new(alloc, 2, ClauseList::new(alloc), assumptions.as_slice()).ok()
         }
     }
 }
