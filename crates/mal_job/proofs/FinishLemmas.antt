@@ -1,8 +1,9 @@
 -- A start that is out ends.
-use Rattle.std.proofs.Common.{◌≡◌, ℕ, ◌+◌, ◌<◌, ◌≤◌, ◌^◌, true, List, [], ◌∷◌, ◌++◌, length, Option, Some, None, Bool, refl, sym, ◌∙◌, ap, subst, arith, length-append}
+use Rattle.std.proofs.Common.{◌≡◌, ℕ, ◌+◌, ◌<◌, ◌≤◌, ◌^◌, true, List, [], ◌∷◌, ◌++◌, length, Option, Some, None, Bool, false, cond, not, ◌&&◌, refl, sym, ◌∙◌, ap, subst, arith, length-append}
 use Rattle.std.specs.Prelude.{is_some, slice_set}
 use Rattle.mal_base.specs.Asks.{Terms}
 use Rattle.mal_base.specs.NumberedClause.{Line}
+use Rattle.mal_base.specs.declared.answer.Answer.{Answer}
 use Rattle.mal_base.specs.declared.verdict.Outcome.{Outcome}
 use Rattle.mal_base.specs.declared.verdict.Outcome.TheVariants.{Ran, Starved, Lost}
 use Rattle.mal_base.specs.declared.verdict.Verdict.{Verdict}
@@ -15,7 +16,7 @@ use Rattle.spec_job.specs.Journal.{JournalEntry, Run, replay}
 use Rattle.spec_job.specs.Journaled.{Journaled, replayed, node_of, and_entries}
 use Rattle.spec_job.specs.Leased.{Finished, HasRun, model_with}
 use Rattle.spec_job.specs.Models.{clauses_of}
-use Rattle.spec_job.specs.SoloMachine.{Own, Opened, NodeSlot, Lease, SoloMachine, solo, solo_step, place_at, vacant, first_empty, settled_by}
+use Rattle.spec_job.specs.SoloMachine.{Own, Opened, NodeSlot, Lease, Slice, SoloMachine, solo, solo_step, place_at, vacant, is_late, remembered, first_empty, settled_by}
 use Rattle.spec_job.specs.SoloMachine as own
 use Rattle.spec_job.proofs.StepLemmas.{finish-keeps}
 use Rattle.spec_job.specs.Viewed.{IsBack, IsGrownBy, and_own}
@@ -23,7 +24,8 @@ use Rattle.spec_job.proofs.CountLemmas.{runs_in-append, runs-set, runs-same}
 use Rattle.spec_job.proofs.DerivingLemmas.{IsRunning}
 use Rattle.spec_job.proofs.RefutingLemmas.{runnable-logs_derived}
 use Rattle.spec_job.proofs.SolvingLemmas.{IsLeased, out-leased}
-use Rattle.mal_job.specs.Asking.{IsAsked, concluded_by, starved_by, settled_with}
+use Rattle.mal_job.specs.Asking.{IsAsked, answer_with, concluded, concluded_by, ends_by, starved_by, settled_with}
+use Rattle.mal_job.specs.Finishing.{MayFollow, slice_out, answer_of}
 use Rattle.mal_job.specs.JobInvariant.{IsOwn, JobInvariant}
 use Rattle.mal_job.specs.Placing.{IsBackAt, IsTree, placed, with_placed, ran_home, came_home, one_more_ran, fresh_place, revision_of, adds_of}
 use Rattle.mal_job.specs.Viewed.{PlaceView, TreeView, LogView, QuestionsView, Parts, place_of, places_of, starts_of, state_of, viewed}
@@ -64,6 +66,20 @@ pub record Ended (tenant job : List ℕ) (q r : Parts) (i : ℕ) (o : Outcome) :
   pub view : viewed tenant job r ≡ and_own (viewed tenant job q) (own.Finished i o)
   pub kept : JobInvariant r
 
+-- a start is out that a job may follow
+pub follow-out : (tenant job : List ℕ) (q : Parts) (i : ℕ) (lines : List Line) (answer : Option Answer) → MayFollow (viewed tenant job q) i lines answer → is_some (placed q.tree i).out ≡ true
+follow-out tenant job q i lines answer m = ap (λ (o : Option Lease). is_some o) (sym (out-same q.tree.places i 0 0) ∙ m.out)
+
+-- the lease of a start that is out
+abbrev lease_in : Option Lease → Lease
+lease_in None = record { revision = 0; adds = [] }
+lease_in (Some l) = l
+
+-- a slice answers where it has a verdict
+some-answer : (v : Option Verdict) (model : List Bool) → is_some (answer_with v model) ≡ is_some v
+some-answer None model = refl
+some-answer (Some v) model = refl
+
 module _ (q : Parts) (i : ℕ) (k : JobInvariant q) (is_out : is_some (placed q.tree i).out ≡ true) where
   abbrev p : PlaceView
   p = placed q.tree i
@@ -89,7 +105,7 @@ module _ (q : Parts) (i : ℕ) (k : JobInvariant q) (is_out : is_some (placed q.
   machine-out : (place_at s i).out ≡ Some l
   machine-out = out-same q.tree.places i 0 0 ∙ out
 
-  here : place_at s i ≡ place_of p
+  pub here : place_at s i ≡ place_of p
   here = placed-at q.tree.places i (fresh_place 0 1 0) low
 
   -- the revision of the start is posted
@@ -129,9 +145,9 @@ module _ (q : Parts) (i : ℕ) (k : JobInvariant q) (is_out : is_some (placed q.
   pub lines-is : (d : Finished) → d.journal ≡ and_entries p.journal (adds_of p.out) → HasRun d → d.lines ≡ x.lines
   lines-is d e h = h.lines ∙ ap (λ (y : Sliced). y.lines) (replay-is d e)
 
-  pub countable : (d : Finished) → d.journal ≡ and_entries p.journal (adds_of p.out) → HasRun d → length q.log.lines + length d.lines < 2 ^ 64
-  countable d e h =
-      let same : length d.lines ≡ length x.lines = ap (λ (ls : List Line). length ls) (lines-is d e h) in
+  pub countable : (lines : List Line) → lines ≡ x.lines → length q.log.lines + length lines < 2 ^ 64
+  countable lines told =
+      let same : length lines ≡ length x.lines = ap (λ (ls : List Line). length ls) told in
       omega (arith, same, few-new, k.few_lines, few-runs q k.own k.asked)
 
   -- the job after a start that ran
@@ -144,12 +160,12 @@ module _ (q : Parts) (i : ℕ) (k : JobInvariant q) (is_out : is_some (placed q.
   run-own : (room : ℕ) → IsOwn (state_of (after_run room))
   run-own room = own-next s (state_of (after_run room)) (own.Finished i Ran) k.own tt refl (run-step room)
 
-  pub orderly : (d : Finished) → d.journal ≡ and_entries p.journal (adds_of p.out) → HasRun d → IsOrderly (q.log.lines ++ d.lines)
-  orderly d e h =
+  pub orderly : (lines : List Line) → lines ≡ x.lines → IsOrderly (q.log.lines ++ lines)
+  orderly lines told =
       let o : IsOwn (state_of (after_run 0)) = run-own 0 in
       let derived : IsLog (clauses_of (solo (Opened o.ask ∷ o.own)).revisions) (solo (Opened o.ask ∷ o.own)).log = runnable-logs_derived (Opened o.ask ∷ o.own) o.once.runnable in
       let all : IsLog (clauses_of (state_of (after_run 0)).revisions) (q.log.lines ++ x.lines) = subst (λ (y : SoloMachine). IsLog (clauses_of y.revisions) y.log) (sym o.is) derived in
-      subst (λ (ls : List Line). IsOrderly (q.log.lines ++ ls)) (sym (lines-is d e h)) (log-orderly (clauses_of (state_of (after_run 0)).revisions) (q.log.lines ++ x.lines) all)
+      subst (λ (ls : List Line). IsOrderly (q.log.lines ++ ls)) (sym told) (log-orderly (clauses_of (state_of (after_run 0)).revisions) (q.log.lines ++ x.lines) all)
 
   more-runs : runs_of (places_of (slice_set q.tree.places i (ran_home p))) ≡ runs_of (places_of q.tree.places) + runs_in l.adds
   more-runs =
@@ -166,27 +182,55 @@ module _ (q : Parts) (i : ℕ) (k : JobInvariant q) (is_out : is_some (placed q.
   outs : (y : PlaceView) → y.out ≡ None → starts_out (places_of (slice_set q.tree.places i y)) + 1 ≡ starts_out (places_of q.tree.places)
   outs y none = ap (λ (ps : List NodeSlot). starts_out ps + 1) (sym (set-placed q.tree.places i y low)) ∙ outs-less (places_of q.tree.places) i (place_of y) there (ap (λ (o : Option Lease). is_some o) machine-out) none
 
-  -- what is kept after a start that ran
-  module _ (d : Finished) (e : d.journal ≡ and_entries p.journal (adds_of p.out)) (h : HasRun d) (asked : QuestionsView) (tree : TreeView) (log : LogView) (a : asked ≡ settled_with (first_empty log.lines) (concluded_by (revision_of p.out) d.verdict d.model q.asked)) (t : tree ≡ one_more_ran (with_placed q.tree i (ran_home p))) (ls : log.lines ≡ q.log.lines ++ d.lines) (room : log.chunk_room + 1 ≡ q.log.chunk_room) where
-    verdict-is : d.verdict ≡ x.node.verdict
-    verdict-is = h.verdict ∙ ap (λ (y : Sliced). y.node.verdict) (replay-is d e)
+  -- what came back of a start that ran answers as the replay does
+  pub answer-is : (d : Finished) → d.journal ≡ and_entries p.journal (adds_of p.out) → HasRun d → answer_with d.verdict d.model ≡ answer_with x.node.verdict (model_with x.node.verdict x.node)
+  answer-is d e h =
+      let verdict-is : d.verdict ≡ x.node.verdict = h.verdict ∙ ap (λ (y : Sliced). y.node.verdict) (replay-is d e) in
+      let model-is : d.model ≡ model_with x.node.verdict x.node = h.model ∙ (ap (λ (v : Option Verdict). model_with v (node_of d.journal)) verdict-is ∙ ap (λ (y : Sliced). model_with x.node.verdict y.node) (replay-is d e)) in
+      ap (λ (v : Option Verdict). answer_with v d.model) verdict-is ∙ ap (λ (m : List Bool). answer_with x.node.verdict m) model-is
 
-    model-is : d.model ≡ model_with x.node.verdict x.node
-    model-is = h.model ∙ (ap (λ (v : Option Verdict). model_with v (node_of d.journal)) verdict-is ∙ ap (λ (y : Sliced). model_with x.node.verdict y.node) (replay-is d e))
+  -- the slice that a job may follow is that of the replay
+  pub slice-is : (tenant job : List ℕ) (lines : List Line) (answer : Option Answer) (m : MayFollow (viewed tenant job q) i lines answer) → slice_out s i m.lease ≡ x
+  slice-is tenant job lines answer m =
+      let same : m.lease ≡ l = ap (λ (o : Option Lease). lease_in o) (sym m.out ∙ machine-out) in
+      ap (λ (y : Lease). slice_out s i y) same ∙ ap (λ (y : NodeSlot). replay s.ask.profile i (y.entries ++ l.adds)) here
 
+  pub follow-told : (tenant job : List ℕ) (lines : List Line) (answer : Option Answer) → MayFollow (viewed tenant job q) i lines answer → lines ≡ x.lines
+  follow-told tenant job lines answer m = m.told ∙ ap (λ (y : Sliced). y.lines) (slice-is tenant job lines answer m)
+
+  pub follow-fits : (tenant job : List ℕ) (lines : List Line) (answer : Option Answer) → MayFollow (viewed tenant job q) i lines answer → is_late s l ≡ false → answer ≡ answer_of x.node
+  follow-fits tenant job lines answer m now =
+      let same : l ≡ m.lease = ap (λ (o : Option Lease). lease_in o) (sym machine-out ∙ m.out) in
+      m.fits (ap (λ (y : Lease). is_late s y) (sym same) ∙ now) ∙ ap (λ (y : Sliced). answer_of y.node) (slice-is tenant job lines answer m)
+
+  -- what is kept after a start that ran, with these lines and, unless it is late, this answer
+  module _ (lines : List Line) (answer : Option Answer) (told : lines ≡ x.lines) (fits : is_late s l ≡ false → answer ≡ answer_with x.node.verdict (model_with x.node.verdict x.node)) (asked : QuestionsView) (tree : TreeView) (log : LogView) (a : asked ≡ settled_with (first_empty log.lines) (concluded_by (revision_of p.out) answer q.asked)) (t : tree ≡ one_more_ran (with_placed q.tree i (ran_home p))) (ls : log.lines ≡ q.log.lines ++ lines) (cs : log.slices ≡ q.log.slices ++ record { lines = lines; ends = ends_by (revision_of p.out) answer q.asked } ∷ []) (room : log.chunk_room + 1 ≡ q.log.chunk_room) where
     lines-all : log.lines ≡ q.log.lines ++ x.lines
-    lines-all = ls ∙ ap (λ (ys : List Line). q.log.lines ++ ys) (lines-is d e h)
+    lines-all = ls ∙ ap (λ (ys : List Line). q.log.lines ++ ys) told
 
-    log-is : log ≡ record { lines = q.log.lines ++ x.lines; chunk_room = log.chunk_room }
-    log-is = ap (λ (ys : List Line). let y : LogView = record { lines = ys; chunk_room = log.chunk_room } in y) lines-all
+    -- late or not, the answer is as good as that of the replay
+    by-late : {X : Type 0} (f : Bool → Option Answer → X) → ((o : Option Answer) → f true o ≡ f true answer) → f (is_late s l) answer ≡ f (is_late s l) (answer_with x.node.verdict (model_with x.node.verdict x.node))
+    by-late f late = by_test (is_late s l) refl
+      where
+        by_test : (b : Bool) → is_late s l ≡ b → f b answer ≡ f b (answer_with x.node.verdict (model_with x.node.verdict x.node))
+        by_test true e = sym (late (answer_with x.node.verdict (model_with x.node.verdict x.node)))
+        by_test false e = ap (f false) (fits e)
+
+    ends-is : ends_by (revision_of p.out) answer q.asked ≡ (not (is_late s l) && is_some x.node.verdict)
+    ends-is = ap (λ (o : Option Lease). ends_by (revision_of o) answer q.asked) out ∙ (by-late (λ b o. not b && is_some o) (λ o. refl) ∙ ap (λ (b : Bool). not (is_late s l) && b) (some-answer x.node.verdict (model_with x.node.verdict x.node)))
+
+    slices-all : log.slices ≡ q.log.slices ++ remembered s l x ∷ []
+    slices-all = cs ∙ (ap (λ (ys : List Line). q.log.slices ++ record { lines = ys; ends = ends_by (revision_of p.out) answer q.asked } ∷ []) told ∙ ap (λ (b : Bool). q.log.slices ++ record { lines = x.lines; ends = b } ∷ []) ends-is)
+
+    log-is : log ≡ record { lines = q.log.lines ++ x.lines; slices = q.log.slices ++ remembered s l x ∷ []; chunk_room = log.chunk_room }
+    log-is = ap (λ (ys : List Line). let y : LogView = record { lines = ys; slices = log.slices; chunk_room = log.chunk_room } in y) lines-all ∙ ap (λ (ys : List Slice). let y : LogView = record { lines = q.log.lines ++ x.lines; slices = ys; chunk_room = log.chunk_room } in y) slices-all
 
     asked-is : asked ≡ (after_run log.chunk_room).asked
     asked-is =
         a
-        ∙ (ap (λ (ys : List Line). settled_with (first_empty ys) (concluded_by (revision_of p.out) d.verdict d.model q.asked)) lines-all
-        ∙ (ap (λ (o : Option Lease). settled_with (first_empty (q.log.lines ++ x.lines)) (concluded_by (revision_of o) d.verdict d.model q.asked)) out
-        ∙ (ap (λ (v : Option Verdict). settled_with (first_empty (q.log.lines ++ x.lines)) (concluded_by l.revision v d.model q.asked)) verdict-is
-        ∙ ap (λ (m : List Bool). settled_with (first_empty (q.log.lines ++ x.lines)) (concluded_by l.revision x.node.verdict m q.asked)) model-is)))
+        ∙ (ap (λ (ys : List Line). settled_with (first_empty ys) (concluded_by (revision_of p.out) answer q.asked)) lines-all
+        ∙ (ap (λ (o : Option Lease). settled_with (first_empty (q.log.lines ++ x.lines)) (concluded_by (revision_of o) answer q.asked)) out
+        ∙ by-late (λ b o. settled_with (first_empty (q.log.lines ++ x.lines)) (cond b q.asked (concluded o q.asked))) (λ o. refl)))
 
     abbrev r : Parts
     r = record { asked = asked; tree = tree; log = log }

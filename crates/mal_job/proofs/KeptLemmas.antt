@@ -86,8 +86,8 @@ few-runs q k h =
     omega arith
 
 -- a job that was just opened
-pub kept-fresh : (q : QuestionsView) (t : TreeView) (l : LogView) (number : ℕ) (ask : Terms) → q ≡ record { ask = ask; closed = false; revisions = []; answers = []; spent = 0; starved = 0 } → t ≡ record { number = number; profile = ask.profile; volume = 0; places = []; broadcasts = []; ran = 0 } → l.lines ≡ [] → IsAsked q → IsTree t → JobInvariant (record { asked = q; tree = t; log = l })
-kept-fresh q t l number ask a b c h k = record {
+pub kept-fresh : (q : QuestionsView) (t : TreeView) (l : LogView) (number : ℕ) (ask : Terms) → q ≡ record { ask = ask; closed = false; revisions = []; answers = []; spent = 0; starved = 0 } → t ≡ record { number = number; profile = ask.profile; volume = 0; places = []; broadcasts = []; ran = 0 } → l.lines ≡ [] → l.slices ≡ [] → IsAsked q → IsTree t → JobInvariant (record { asked = q; tree = t; log = l })
+kept-fresh q t l number ask a b c d h k = record {
   own = subst IsOwn same (record { ask = ask; own = []; once = record { runnable = (refl, tt); once = refl }; is = refl });
   asked = h;
   tree = k;
@@ -98,7 +98,7 @@ kept-fresh q t l number ask a b c h k = record {
 }
   where
     same : solo (Opened ask ∷ []) ≡ state_of (record { asked = q; tree = t; log = l })
-    same = rw (a, b, c) refl
+    same = rw (a, b, c, d) refl
 
 -- what stays while the places, the log and the count of slices do
 pub kept-answered : (q : Parts) (asked : QuestionsView) (o : Own) → MayHappen (state_of q) o → list_any is_opening (o ∷ []) ≡ false → solo_step (state_of q) o ≡ state_of (record q { asked = asked }) → IsAsked asked → JobInvariant q → JobInvariant (record q { asked = asked })

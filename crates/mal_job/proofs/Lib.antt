@@ -1,3 +1,5 @@
+-- what crates above cite
+pub mod FollowLemmas
 -- what this crate alone cites
 mod Parts
 mod LogLemmas

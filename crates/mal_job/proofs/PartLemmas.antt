@@ -5,7 +5,7 @@ use Rattle.mal_base.specs.NumberedClause.{NumberedClause, Line}
 use Rattle.spec_job.specs.Counts.{runs_of, starts_out}
 use Rattle.spec_job.specs.Journal.{JournalEntry}
 use Rattle.spec_job.specs.Journaled.{Journaled}
-use Rattle.spec_job.specs.SoloMachine.{NodeSlot, SoloMachine, place_at}
+use Rattle.spec_job.specs.SoloMachine.{NodeSlot, Slice, SoloMachine, place_at}
 use Rattle.spec_job.specs.Viewed.{JobView, journal_at}
 use Rattle.mal_job.specs.JobInvariant.{IsOwn, JobInvariant}
 use Rattle.mal_job.specs.Placing.{IsGrown, IsTree, placed, fresh_place}
@@ -84,6 +84,7 @@ pub record HasGrown (q : Parts) (t : TreeView) (l : LogView) : Type 0 where
   pub rest : (let x : TreeView = record t { places = [] } in x) ≡ record q.tree { places = [] }
   pub tree : IsTree t
   pub lines : l.lines ≡ q.log.lines
+  pub slices : l.slices ≡ q.log.slices
   pub room : q.log.chunk_room ≤ l.chunk_room
 
 module _ (q : Parts) (t : TreeView) (l : LogView) (g : HasGrown q t l) where
@@ -99,10 +100,10 @@ module _ (q : Parts) (t : TreeView) (l : LogView) (g : HasGrown q t l) where
       parts-same places volume tolds ran
     where
       parts-same : places_of t.places ≡ places_of q.tree.places → t.volume ≡ q.tree.volume → t.broadcasts ≡ q.tree.broadcasts → t.ran ≡ q.tree.ran → state_of grown ≡ state_of q
-      parts-same a b c d = by_parts (places_of t.places) t.volume t.broadcasts t.ran l.lines a b c d g.lines
+      parts-same a b c d = by_parts (places_of t.places) t.volume t.broadcasts t.ran l.lines l.slices a b c d g.lines g.slices
         where
-          by_parts : (ps : List NodeSlot) (v : ℕ) (ts : List (List NumberedClause)) (n : ℕ) (ls : List Line) → ps ≡ places_of q.tree.places → v ≡ q.tree.volume → ts ≡ q.tree.broadcasts → n ≡ q.tree.ran → ls ≡ q.log.lines → (let s : SoloMachine = record (state_of q) { places = ps; volume = v; broadcasts = ts; ran = n; log = ls } in s) ≡ state_of q
-          by_parts ps v ts n ls a b c d e = rw (a, b, c, d, e) refl
+          by_parts : (ps : List NodeSlot) (v : ℕ) (ts : List (List NumberedClause)) (n : ℕ) (ls : List Line) (cs : List Slice) → ps ≡ places_of q.tree.places → v ≡ q.tree.volume → ts ≡ q.tree.broadcasts → n ≡ q.tree.ran → ls ≡ q.log.lines → cs ≡ q.log.slices → (let s : SoloMachine = record (state_of q) { places = ps; volume = v; broadcasts = ts; ran = n; log = ls; slices = cs } in s) ≡ state_of q
+          by_parts ps v ts n ls cs a b c d e f = rw (a, b, c, d, e, f) refl
 
   pub grown-view : (tenant job : List ℕ) → viewed tenant job grown ≡ viewed tenant job q
   grown-view tenant job = view-same tenant job t.number q.tree.number (state_of grown) (state_of q) (starts_of t.places) (starts_of q.tree.places) (ap (λ (x : TreeView). x.number) g.rest) grown-state (grown-starts q.tree.number q.tree.profile q.tree.places t.places g.places g.tree.few)

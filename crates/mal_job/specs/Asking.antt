@@ -1,4 +1,4 @@
-use Rattle.std.specs.Prelude.{◌≡◌, ℕ, ◌+◌, ◌-◌, ◌*◌, ◌<◌, ◌≤◌, ◌^◌, ◌==◌, nat_lt, Bool, List, [], ◌∷◌, ◌++◌, length, replicate, Option, Some, None, if◌then◌else◌}
+use Rattle.std.specs.Prelude.{◌≡◌, ℕ, ◌+◌, ◌-◌, ◌*◌, ◌<◌, ◌≤◌, ◌^◌, ◌==◌, nat_lt, not, ◌&&◌, Bool, List, [], ◌∷◌, ◌++◌, length, replicate, Option, Some, None, is_some, if◌then◌else◌}
 use Rattle.mal_base.specs.declared.answer.Answer.{Answer}
 use Rattle.mal_base.specs.declared.answer.Answer.TheVariants.{Satisfied, Refuted, Spent, OutOfStarts}
 use Rattle.mal_base.specs.declared.verdict.Verdict.{Verdict}
@@ -30,18 +30,28 @@ abbrev pub answer_by : Verdict → List Bool → Answer
 answer_by Satisfiable model = Satisfied model
 answer_by (Unsatisfiable goal) model = Refuted goal
 
--- a slice ended with this verdict and the model that goes with it
-abbrev pub concluded : Option Verdict → List Bool → QuestionsView → QuestionsView
-concluded None model q = spent_once q
-concluded (Some v) model q = replied q (answer_by v model)
+-- what a slice answers that ended with this verdict and the model that goes with it
+abbrev pub answer_with : Option Verdict → List Bool → Option Answer
+answer_with None model = None
+answer_with (Some v) model = Some (answer_by v model)
+
+-- a slice ended with this answer, or with none
+abbrev pub concluded : Option Answer → QuestionsView → QuestionsView
+concluded None q = spent_once q
+concluded (Some a) q = replied q a
 
 -- the third start of a revision that wanted for memory answers unknown
 abbrev pub starved_once : QuestionsView → QuestionsView
 starved_once q = if q.starved + 1 == 3 then replied q OutOfStarts else record q { starved = q.starved + 1 }
 
--- a slice for this revision ended with this verdict: where the revision has its answer it came late and answers nothing
-abbrev pub concluded_by : ℕ → Option Verdict → List Bool → QuestionsView → QuestionsView
-concluded_by revision verdict model q = if nat_lt revision (length q.answers) then q else concluded verdict model q
+-- a slice for this revision ended with this answer, or with none: where the revision has its answer it came late and
+-- answers nothing
+abbrev pub concluded_by : ℕ → Option Answer → QuestionsView → QuestionsView
+concluded_by revision answer q = if nat_lt revision (length q.answers) then q else concluded answer q
+
+-- whether it answers the revision
+abbrev pub ends_by : ℕ → Option Answer → QuestionsView → Bool
+ends_by revision answer q = not (nat_lt revision (length q.answers)) && is_some answer
 
 -- a start for this revision wanted for memory: where the revision has its answer it is not counted
 abbrev pub starved_by : ℕ → QuestionsView → QuestionsView

@@ -1,9 +1,15 @@
-use Rattle.std.specs.Prelude.{◌≡◌, ℕ, true, is_some, Option, Some, None}
+use Rattle.std.specs.Prelude.{◌≡◌, ℕ, true, false, List, ◌++◌, is_some, Option, Some, None}
+use Rattle.mal_base.specs.NumberedClause.{Line}
+use Rattle.mal_base.specs.declared.answer.Answer.{Answer}
 use Rattle.mal_base.specs.declared.verdict.Outcome.{Outcome}
 use Rattle.mal_base.specs.declared.verdict.Outcome.TheVariants.{Lost}
-use Rattle.spec_job.specs.Leased.{Finished}
-use Rattle.spec_job.specs.SoloMachine.{place_at}
+use Rattle.spec_node.specs.State.{Node}
+use Rattle.spec_search.specs.Slice.{Sliced}
+use Rattle.spec_job.specs.Journal.{replay}
+use Rattle.spec_job.specs.Leased.{Finished, model_with}
+use Rattle.spec_job.specs.SoloMachine.{SoloMachine, Lease, place_at, is_late}
 use Rattle.spec_job.specs.Viewed.{JobView, IsBack}
+use Rattle.mal_job.specs.Asking.{answer_with}
 
 -- how a start ended of which this came back: it is lost where nothing came
 abbrev pub outcome_of : Option Finished → Outcome
@@ -14,3 +20,18 @@ outcome_of (Some d) = d.outcome
 abbrev pub MayFinish : JobView → ℕ → Option Finished → Type 0
 MayFinish v index None = is_some (place_at v.titled.state index).out ≡ true
 MayFinish v index (Some d) = IsBack v index d
+
+-- the slice of a start that is out at an index
+abbrev pub slice_out : SoloMachine → ℕ → Lease → Sliced
+slice_out s index l = replay s.ask.profile index ((place_at s index).entries ++ l.adds)
+
+-- what a node answers where it has a verdict
+abbrev pub answer_of : Node → Option Answer
+answer_of n = answer_with n.verdict (model_with n.verdict n)
+
+-- the start that is out at an index runs a slice of these lines and, unless it is late, of this answer
+pub record MayFollow (v : JobView) (index : ℕ) (lines : List Line) (answer : Option Answer) : Type 0 where
+  pub lease : Lease
+  pub out : (place_at v.titled.state index).out ≡ Some lease
+  pub told : lines ≡ (slice_out v.titled.state index lease).lines
+  pub fits : is_late v.titled.state lease ≡ false → answer ≡ answer_of (slice_out v.titled.state index lease).node

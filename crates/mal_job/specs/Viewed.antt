@@ -6,8 +6,9 @@ use Rattle.mal_base.specs.NumberedClause.{NumberedClause, Line}
 use Rattle.mal_base.specs.declared.answer.Answer.{Answer}
 use Rattle.mal_revision.specs.Posted.{Posted}
 use Rattle.spec_proof.specs.Log.{IsOrderly}
+use Rattle.mal_proof.specs.Logged.{Part}
 use Rattle.spec_job.specs.Journaled.{Journaled}
-use Rattle.spec_job.specs.SoloMachine.{SoloMachine, NodeSlot, Lease, vacant}
+use Rattle.spec_job.specs.SoloMachine.{SoloMachine, NodeSlot, Lease, Slice, vacant}
 use Rattle.spec_job.specs.Viewed.{JobView}
 
 -- what is shared
@@ -45,9 +46,14 @@ pub record TreeView : Type 0 where
   pub broadcasts : List (List NumberedClause)
   pub ran : ℕ
 
--- the log of a job: its lines, and for how many more chunks of them there is room
+-- a part of a log is a slice
+abbrev pub slice_of : Part → Slice
+slice_of part = record { lines = part.lines; ends = part.ends }
+
+-- the log of a job: its lines, the slices that they are of, and for how many more slices there is room
 pub record LogView : Type 0 where
   pub lines : List Line
+  pub slices : List Slice
   pub chunk_room : ℕ
 
 -- these lines may stand behind those of a log: there is room for them, and with those before them they can be counted
@@ -89,6 +95,7 @@ state_of q = record {
   answers = q.asked.answers;
   places = places_of q.tree.places;
   log = q.log.lines;
+  slices = q.log.slices;
   broadcasts = q.tree.broadcasts;
   ran = q.tree.ran;
   spent = q.asked.spent;

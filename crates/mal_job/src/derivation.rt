@@ -1,6 +1,6 @@
 //! The log of a job.
 
-ghost use Rattle.std.specs.Prelude.{◌≡◌, ◌+◌, ◌≤◌, [], ◌++◌, OnOk};
+ghost use Rattle.std.specs.Prelude.{◌≡◌, ◌+◌, ◌≤◌, [], ◌∷◌, ◌++◌, OnOk};
 ghost use Rattle.spec_job.specs.SoloMachine.{first_empty};
 ghost use Rattle.mal_job.specs.Viewed.{MayAppend};
 
@@ -17,13 +17,13 @@ pub struct Derivation {
 }
 
 impl Model for Derivation {
-    ghost use Rattle.std.specs.Prelude.{◌≡◌};
+    ghost use Rattle.std.specs.Prelude.{◌≡◌, map};
     ghost use Rattle.spec_job.specs.SoloMachine.{first_empty};
-    ghost use Rattle.mal_job.specs.Viewed.{LogView};
+    ghost use Rattle.mal_job.specs.Viewed.{LogView, slice_of};
 
     ghost Value = { LogView };
 
-    ghost view = { λ d. record { lines = d.log.lines; chunk_room = d.log.chunk_room } };
+    ghost view = { λ d. record { lines = d.log.lines; slices = map slice_of d.log.parts; chunk_room = d.log.chunk_room } };
 
     ghost invariant = { λ d. d.empty ≡ first_empty d.log.lines };
 }
@@ -31,7 +31,8 @@ impl Model for Derivation {
 impl Derivation {
     /// No lines. Takes no memory.
     pub fn new(alloc: Global) -> Derivation
-        ensures { result.lines ≡ [] }
+        ensures lines { result.lines ≡ [] }
+        ensures slices { result.slices ≡ [] }
     {
         Derivation {
             log: Log::new(alloc),
@@ -56,21 +57,24 @@ impl Derivation {
     /// Makes room for the lines of so many slices.
     pub fn reserve(&mut self, slices: usize) -> Result<(), AllocError>
         ensures lines { self.new.lines ≡ self.old.lines }
+        ensures slices { self.new.slices ≡ self.old.slices }
         ensures room { OnOk result (slices ≤ self.new.chunk_room) }
         ensures more { self.old.chunk_room ≤ self.new.chunk_room }
     {
         self.log.reserve_chunks(slices)
     }
 
-    /// Puts the lines of a slice behind the others, for which there is room. With those before them they have numbers
-    /// of derived clauses, each once and above all its hints. Takes no memory.
-    pub fn append(&mut self, lines: Lines)
+    /// Puts the lines of a slice behind the others, for which there is room, with whether the slice answered a
+    /// revision. With those before them they have numbers of derived clauses, each once and above all its hints. Takes
+    /// no memory.
+    pub fn append(&mut self, lines: Lines, ends: bool)
         requires { MayAppend self.old lines.lines }
         ensures lines { self.new.lines ≡ self.old.lines ++ lines.lines }
+        ensures slices { self.new.slices ≡ self.old.slices ++ record { lines = lines.lines; ends = ends } ∷ [] }
         ensures less { self.new.chunk_room + 1 ≡ self.old.chunk_room }
     {
         self.empty = self.empty.or(empty_among(&lines));
-        self.log.append_chunk(lines);
+        self.log.append_chunk(lines, ends);
     }
 }
 

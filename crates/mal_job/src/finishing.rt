@@ -1,45 +1,56 @@
 //! How a start ends that came back, and when the nodes of a job are given up.
 
-ghost use Rattle.std.specs.Prelude.{◌≡◌, ◌+◌, ◌<◌, ◌≤◌, ◌^◌, true, ◌++◌, length, is_some};
-ghost use Rattle.mal_base.specs.declared.verdict.Outcome.TheVariants.{Ran, Starved};
-ghost use Rattle.spec_job.specs.SoloMachine.{first_empty};
-ghost use Rattle.mal_job.specs.{Asking.{IsAsked, concluded_by, starved_by, settled_with}, Placing.{IsBackAt, IsTree, placed, with_placed, ran_home, came_home, one_more_ran, revision_of}, Viewed.{MayAppend}};
+ghost use Rattle.std.specs.Prelude.{◌≡◌, ◌+◌, ◌<◌, ◌≤◌, ◌^◌, true, ◌∷◌, [], ◌++◌, length, is_some};
+ghost use Rattle.mal_base.specs.declared.verdict.Outcome.TheVariants.{Starved};
+ghost use Rattle.spec_job.specs.{Journaled.{and_entries}, SoloMachine.{first_empty}};
+ghost use Rattle.mal_suspend.specs.Kept.{journal_of};
+ghost use Rattle.mal_job.specs.{Asking.{IsAsked, concluded_by, ends_by, starved_by, settled_with}, Placing.{IsBackAt, IsTree, placed, with_placed, ran_home, came_home, one_more_ran, revision_of, adds_of}, Viewed.{MayAppend}};
 
 use crate::derivation::Derivation;
 use crate::questions::Questions;
 use crate::tree::Tree;
-use mal_suspend::Done;
+use mal_base::{Answer, Lines};
+use mal_suspend::{Done, Kept};
 
-/// Ends a start that ran: the node comes home with its journal, the lines enter the log, and unless the revision of the
-/// start has its answer, the slice answers it or counts as spent. Takes no memory.
+/// Ends a start that ran: the node comes home with its journal, the lines of its slice enter the log, and unless the
+/// revision of the start has its answer, the slice answers it or counts as spent. Takes no memory.
 pub fn finish_run(
     questions: &mut Questions,
     tree: &mut Tree,
     log: &mut Derivation,
     index: u32,
-    back: Done,
+    kept: Kept,
+    lines: Lines,
+    answer: Option<Answer>,
 )
-    requires ran { back.outcome ≡ Ran }
-    requires back { IsBackAt (placed tree.old index) back }
+    requires out { is_some (placed tree.old index).out ≡ true }
+    requires back { journal_of kept
+        ≡ and_entries (placed tree.old index).journal (adds_of (placed tree.old index).out) }
     requires few { tree.old.ran < 2 ^ 31 }
     requires live { length questions.old.answers ≤ revision_of (placed tree.old index).out
         → length questions.old.answers < length questions.old.revisions }
-    requires log { MayAppend log.old back.lines }
+    requires log { MayAppend log.old lines.lines }
     ensures tree { tree.new ≡ one_more_ran (with_placed tree.old index (ran_home (placed tree.old index))) }
     ensures questions { questions.new
         ≡ settled_with (first_empty log.new.lines)
-        (concluded_by (revision_of (placed tree.old index).out) back.verdict back.model questions.old) }
-    ensures log { log.new.lines ≡ log.old.lines ++ back.lines }
+        (concluded_by (revision_of (placed tree.old index).out) answer questions.old) }
+    ensures log { log.new.lines ≡ log.old.lines ++ lines.lines }
+    ensures slices { log.new.slices
+        ≡ log.old.slices
+        ++ record {
+          lines = lines.lines;
+          ends = ends_by (revision_of (placed tree.old index).out) answer questions.old;
+        }
+        ∷ [] }
     ensures less { log.new.chunk_room + 1 ≡ log.old.chunk_room }
     ensures asked { IsAsked questions.new }
     ensures kept { IsTree tree.new }
 {
-    let verdict = back.verdict();
-    let (kept, lines, model) = back.into_parts();
     let revision = tree.come_back(index, kept);
-    log.append(lines);
-    if questions.answers().len() <= revision {
-        questions.conclude(verdict, model);
+    let late = revision < questions.answers().len();
+    log.append(lines, !late && answer.is_some());
+    if !late {
+        questions.conclude(answer);
     }
     questions.settle(log.empty());
     give_up(questions, tree);

@@ -3,22 +3,23 @@
 ghost use Rattle.std.specs.Prelude.{◌≡◌, ◌↔◌, ◌+◌, ◌-◌, ◌<◌, ◌≤◌, ◌^◌, true, length, is_some, IsTrue, Some, None, OnOk, OnErr, IfOk};
 ghost use Rattle.std.specs.Option.{option_copied};
 ghost use Rattle.mal_base.specs.declared.verdict.Outcome.TheVariants.{Ran, Starved, Lost};
-ghost use Rattle.spec_job.specs.{SoloMachine.{Opened, Revised, Reasked, Closed, Volume, Finished, Exchanged, unopened, solo_step, is_live, startable, is_exchange_due, place_at, clauses_in, literals_in}, Viewed.{unstarted, and_own, and_start, IsLeaseOf, IsBack}, Proofs.{failed, proof_lines}, Replies.{body_by}};
+ghost use Rattle.spec_job.specs.{SoloMachine.{Opened, Revised, Reasked, Closed, Volume, Finished, Exchanged, unopened, solo_step, is_live, startable, is_exchange_due, place_at, clauses_in, literals_in}, Viewed.{unstarted, and_own, and_start, journal_at, IsLeaseOf, IsBack}, Proofs.{failed, proof_lines}, Replies.{body_by}};
+ghost use Rattle.mal_suspend.specs.Freezing.{IsFrozen};
 ghost use Rattle.spec_report.specs.Replies.{Proof, reply_text};
 ghost use Rattle.mal_report.specs.Told.{body_of};
-ghost use Rattle.mal_job.specs.{Among.{among}, Finishing.{outcome_of, MayFinish}, Replying.{Tells, TellsReply}, Viewed.{shared}};
+ghost use Rattle.mal_job.specs.{Among.{among}, Finishing.{outcome_of, MayFinish, MayFollow}, Replying.{Tells, TellsReply}, Viewed.{shared}};
 
 use crate::derivation::Derivation;
 use crate::finishing::{finish_lost, finish_run, finish_starved, give_up};
 use crate::loading::{count_clauses, missing_loads};
-use crate::questions::Questions;
+use crate::questions::{Questions, answer_of};
 use crate::told::{answer_at, copied, last_lits, negations, revision_at};
 use crate::tree::Tree;
-use mal_base::{Answer, Ask, ClauseId, Name, Outcome, Weight};
+use mal_base::{Answer, Ask, ClauseId, Lines, Name, Outcome, Weight};
 use mal_proof::renumber;
 use mal_report::{Told, reply};
 use mal_revision::Revision;
-use mal_suspend::{Done, Lease};
+use mal_suspend::{Done, Kept, Lease};
 use std::alloc::{AllocError, Global};
 use std::marker::Model;
 use std::sync::Arc;
@@ -338,6 +339,40 @@ impl Job {
         }
     }
 
+    /// Ends the start that is out at this index as its slice ended where it was run: with these lines and, unless it is
+    /// late, with this answer. The node is gone. After want of memory the job is as before.
+    pub fn follow(
+        &mut self,
+        index: u32,
+        lines: Lines,
+        answer: Option<Answer>,
+    ) -> Result<(), AllocError>
+        requires { MayFollow self.old index lines.lines answer }
+        ensures ok { OnOk result (self.new ≡ and_own self.old (Finished index Ran)) }
+        ensures err { OnErr result (self.new ≡ self.old) }
+    {
+        let kept = Kept::Gone(self.tree.grown(index)?);
+        finish_run(
+            &mut self.questions,
+            &mut self.tree,
+            &mut self.log,
+            index,
+            kept,
+            lines,
+            answer,
+        );
+        Ok(())
+    }
+
+    /// Puts the node of this index, where it is not out, where its journal is, from the bytes of its image, so that it
+    /// is not rebuilt. After want of memory the node is where it was.
+    pub fn wake(&mut self, index: u32, bytes: Vec<u8>) -> Result<(), AllocError>
+        requires { IsFrozen bytes.items (journal_at self.old index) }
+        ensures { self.new ≡ self.old }
+    {
+        self.tree.wake(index, bytes)
+    }
+
     /// Ends a start of which this came back.
     fn end_back(&mut self, index: u32, back: Done)
         requires back { IsBack self.old index back }
@@ -356,14 +391,16 @@ impl Job {
         requires back { IsBack self.old index back }
         ensures { self.new ≡ and_own self.old (Finished index Ran) }
     {
-        // For the proof.
-        let _ = back.lines();
+        let verdict = back.verdict();
+        let (kept, lines, model) = back.into_parts();
         finish_run(
             &mut self.questions,
             &mut self.tree,
             &mut self.log,
             index,
-            back,
+            kept,
+            lines,
+            answer_of(verdict, model),
         );
     }
 

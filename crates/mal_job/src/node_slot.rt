@@ -3,13 +3,13 @@
 ghost use Rattle.std.specs.Prelude.{◌≡◌, ◌↔◌, ◌+◌, ◌≤◌, IsTrue, is_some, true, None, IfOk, OnOk, OnErr};
 ghost use Rattle.std.specs.Option.{option_map};
 ghost use Rattle.spec_job.specs.Journaled.{replayed, started, and_entries};
-ghost use Rattle.mal_suspend.specs.{Kept.{journal_of}, Replaying.{MayAllReplay}, Starting.{shared_loads, shared_imports, start_entries}};
+ghost use Rattle.mal_suspend.specs.{Freezing.{IsFrozen}, Kept.{journal_of}, Replaying.{MayAllReplay}, Starting.{shared_loads, shared_imports, start_entries}};
 ghost use Rattle.mal_job.specs.Placing.{fresh_place, sent, ran_home, came_home, IsBackAt, IsKeptAt, adds_of};
 
 use mal_base::Outcome;
 use mal_buffer::Buffer;
 use mal_revision::Revision;
-use mal_suspend::{Done, Frozen, Journal, Kept, Lease, Start, Suspended};
+use mal_suspend::{Done, FROZEN_BYTES, Frozen, Journal, Kept, Lease, Start, Suspended};
 use std::alloc::{AllocError, Global};
 use std::marker::Model;
 use std::mem;
@@ -187,6 +187,34 @@ impl NodeSlot {
         }
     }
 
+    /// The journal that the start that is out leaves once its slice ran.
+    pub fn grown(&self) -> Result<Journal, AllocError>
+        requires { is_some self.now.out ≡ true }
+        ensures { IfOk result (λ j. j ≡ and_entries self.now.journal (adds_of self.now.out)) }
+    {
+        match &self.whereabouts {
+            Whereabouts::Home(_) => unreachable!(),
+            Whereabouts::Cold(_) => unreachable!(),
+            Whereabouts::Gone => unreachable!(),
+            Whereabouts::Out(_, grown) => grown.copy(),
+        }
+    }
+
+    /// Puts the node, where it is not out, where its journal is, from the bytes of its image. After want of memory the
+    /// node is where it was.
+    pub fn wake(&mut self, bytes: Vec<u8>) -> Result<(), AllocError>
+        requires { IsFrozen bytes.items self.old.journal }
+        ensures { self.new ≡ self.old }
+    {
+        if self.is_out() {
+            return Ok(());
+        }
+        let frozen = Frozen::of(bytes, self.journal.copy()?);
+        let awake = awake(frozen)?;
+        move_to(&mut self.whereabouts, awake);
+        Ok(())
+    }
+
     /// The node comes back from a start that ran. Takes no memory.
     pub fn come_back(&mut self, kept: Kept)
         requires out { is_some self.old.out ≡ true }
@@ -232,6 +260,19 @@ fn move_to(whereabouts: &mut Whereabouts, next: Whereabouts)
     ensures { whereabouts.new ≡ next }
 {
     *whereabouts = next;
+}
+
+/// Where a node is of which these bytes are there: as bytes where they are no more than `FROZEN_BYTES`, else live.
+fn awake(frozen: Frozen) -> Result<Whereabouts, AllocError>
+    ensures { IfOk result (λ w. IsKeptAt frozen w) }
+{
+    if frozen.bytes().len() <= FROZEN_BYTES {
+        return Ok(Whereabouts::Cold(frozen));
+    }
+    match frozen.thaw() {
+        Err((_, error)) => Err(error),
+        Ok(suspended) => Ok(Whereabouts::Home(suspended)),
+    }
 }
 
 /// Where a node is of which this is kept.

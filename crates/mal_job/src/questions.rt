@@ -3,7 +3,7 @@
 ghost use Rattle.std.specs.Prelude.{◌≡◌, ◌+◌, ◌-◌, ◌<◌, ◌≤◌, ◌^◌, [], ◌++◌, true, false, length, replicate, vec_len, vec_capacity, OnOk, OnErr};
 ghost use Rattle.mal_base.specs.{Asks.{reasked}, declared.answer.Answer.TheVariants.{Refuted}};
 ghost use Rattle.spec_job.specs.SoloMachine.{clauses_in, literals_in};
-ghost use Rattle.mal_job.specs.{Viewed.{shared}, Asking.{IsAsked, and_revision, replied, answer_by, spent_once, concluded, starved_once, settled_with}};
+ghost use Rattle.mal_job.specs.{Viewed.{shared}, Asking.{IsAsked, and_revision, replied, answer_with, spent_once, concluded, starved_once, settled_with}};
 
 use mal_base::{Answer, Ask, ClauseId, Values, Verdict, Weight};
 use mal_revision::Revision;
@@ -158,16 +158,15 @@ impl Questions {
         Ok(())
     }
 
-    /// A slice of the current revision ended with this verdict and the model that goes with it: they answer it, or the
-    /// slice counts as spent. Takes no memory.
-    pub fn conclude(&mut self, verdict: Option<Verdict>, model: Values)
+    /// A slice of the current revision ended with this answer, or with none and counts as spent. Takes no memory.
+    pub fn conclude(&mut self, answer: Option<Answer>)
         requires live { length self.old.answers < length self.old.revisions }
-        ensures value { self.new ≡ concluded verdict model self.old }
+        ensures value { self.new ≡ concluded answer self.old }
         ensures kept { IsAsked self.new }
     {
-        match verdict {
+        match answer {
             None => self.spend(),
-            Some(verdict) => self.reply(answer_of(verdict, model)),
+            Some(answer) => self.reply(answer),
         }
     }
 
@@ -226,13 +225,16 @@ impl Questions {
     }
 }
 
-/// The answer of a verdict with the model that goes with it.
-fn answer_of(verdict: Verdict, model: Values) -> Answer
-    ensures { result ≡ answer_by verdict model }
+/// What a slice answers that ended with this verdict and the model that goes with it.
+pub fn answer_of(verdict: Option<Verdict>, model: Values) -> Option<Answer>
+    ensures { result ≡ answer_with verdict model }
 {
     match verdict {
-        Verdict::Satisfiable => Answer::Satisfied(model),
-        Verdict::Unsatisfiable { goal } => Answer::Refuted { goal },
+        None => None,
+        Some(verdict) => match verdict {
+            Verdict::Satisfiable => Some(Answer::Satisfied(model)),
+            Verdict::Unsatisfiable { goal } => Some(Answer::Refuted { goal }),
+        },
     }
 }
 

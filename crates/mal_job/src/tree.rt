@@ -4,7 +4,7 @@ ghost use Rattle.std.specs.Prelude.{◌≡◌, ◌↔◌, ◌+◌, ◌<◌, ◌�
 ghost use Rattle.mal_base.specs.Clauses.{rises};
 ghost use Rattle.spec_exchange.specs.Exchange.{broadcast};
 ghost use Rattle.spec_job.specs.{Counts.{starts_out}, Journal.{loads_in, imports_in}, Journaled.{replayed, started, and_entries}, SoloMachine.{vacant, is_for, exports_from}};
-ghost use Rattle.mal_suspend.specs.{Kept.{journal_of}, Replaying.{MayAllReplay}, Starting.{shared_loads, shared_imports, start_entries}};
+ghost use Rattle.mal_suspend.specs.{Freezing.{IsFrozen}, Kept.{journal_of}, Replaying.{MayAllReplay}, Starting.{shared_loads, shared_imports, start_entries}};
 ghost use Rattle.mal_job.specs.{Exports.{marked}, Placing.{IsGrown, IsTree, IsBackAt, placed, with_placed, sent, ran_home, came_home, one_more_ran, revision_of, adds_of}, Viewed.{places_of}};
 
 use crate::exchange::{exports, move_marks};
@@ -14,7 +14,7 @@ use mal_buffer::Buffer;
 use mal_exchange::up;
 use mal_proof::Log;
 use mal_revision::Revision;
-use mal_suspend::{Done, Kept, Lease};
+use mal_suspend::{Done, Journal, Kept, Lease};
 use std::alloc::{AllocError, Global};
 use std::marker::Model;
 use std::sync::Arc;
@@ -208,6 +208,31 @@ impl Tree {
             None => false,
             Some(place) => place.is_back(back),
         }
+    }
+
+    /// The journal that the start that is out at this index leaves once its slice ran.
+    pub fn grown(&self, index: u32) -> Result<Journal, AllocError>
+        requires { is_some (placed self.now index).out ≡ true }
+        ensures { IfOk result
+            (λ j. j ≡ and_entries (placed self.now index).journal (adds_of (placed self.now index).out)) }
+    {
+        match self.places.get(index as usize) {
+            None => unreachable!(),
+            Some(place) => place.grown(),
+        }
+    }
+
+    /// Puts the node of this index, where it is not out, where its journal is, from the bytes of its image. After want
+    /// of memory the node is where it was.
+    pub fn wake(&mut self, index: u32, bytes: Vec<u8>) -> Result<(), AllocError>
+        requires { index < length self.old.places → IsFrozen bytes.items (placed self.old index).journal }
+        ensures value { self.new ≡ self.old }
+        ensures kept { IsTree self.new }
+    {
+        if index as usize >= self.places.len() {
+            return Ok(());
+        }
+        self.places[index as usize].wake(bytes)
     }
 
     /// The node of this index comes back from a start that ran. Gives the revision that the start was for, counted from

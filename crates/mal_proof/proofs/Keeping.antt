@@ -1,5 +1,5 @@
 -- What a log keeps.
-use Rattle.std.proofs.Common.{◌≡◌, ◌≢◌, ℕ, ◌+◌, ◌-◌, ◌<◌, ◌≤◌, ◌^◌, List, [], ◌∷◌, ◌++◌, length, append_assoc, length-append, sym, ◌∙◌, subst, ap, arith}
+use Rattle.std.proofs.Common.{◌≡◌, ◌≢◌, ℕ, ◌+◌, ◌-◌, ◌<◌, ◌≤◌, ◌^◌, Bool, List, [], ◌∷◌, ◌++◌, length, append_assoc, length-append, sym, ◌∙◌, subst, ap, arith}
 use Rattle.std.specs.Prelude.{All, flat_map}
 use Rattle.std.proofs.lemmas.List.{flat_map_more}
 use Rattle.mal_base.specs.NumberedClause.{Line}
@@ -46,12 +46,12 @@ lines-pushed : (full : List Chunk) (chunk : Chunk) (now : Lined) → lines_in (f
 lines-pushed full chunk now = ap (λ (ls : List Line). ls ++ now.lines) (sym (flat_map_more (λ (c : Chunk). c.lines.lines) [] full chunk))
 
 -- the last chunk becomes one of those before it, and a new one stands last
-pub kept-chunk : (full items : List Chunk) (last moved now : Lined) (count room number_room more_count more_room more_numbers : ℕ) → LogInvariant full last count room number_room
-    → moved ≡ last → items ≡ full ++ record { lines = moved; end = count } ∷ [] → IsOrderly (lines_in full last ++ now.lines) → more_count ≡ count + length now.lines
+pub kept-chunk : (full items : List Chunk) (last moved now : Lined) (count room number_room more_count more_room more_numbers : ℕ) (mark : Bool) → LogInvariant full last count room number_room
+    → moved ≡ last → items ≡ full ++ record { lines = moved; end = count; ends = mark } ∷ [] → IsOrderly (lines_in full last ++ now.lines) → more_count ≡ count + length now.lines
     → more_count + more_room < 2 ^ 64 → more_room ≤ now.room → more_numbers ≤ now.lit_room → more_numbers ≤ now.hint_room
     → LogInvariant items now more_count more_room more_numbers
-kept-chunk full items last moved now count room number_room more_count more_room more_numbers is same pushed orderly counted countable a b d =
-    let chunk : Chunk = record { lines = moved; end = count } in
+kept-chunk full items last moved now count room number_room more_count more_room more_numbers mark is same pushed orderly counted countable a b d =
+    let chunk : Chunk = record { lines = moved; end = count; ends = mark } in
     let all : lines_in items now ≡ lines_in full last ++ now.lines =
     ap (λ (cs : List Chunk). lines_in cs now) pushed ∙ (lines-pushed full chunk now ∙ ap (λ (l : Lined). lines_in full l ++ now.lines) same) in
     let whole : count ≡ 0 + length (lines_in full moved) = let old = is.counted in let moves : length (lines_in full moved) ≡ length (lines_in full last) = ap (λ (l : Lined). length (lines_in full l)) same in omega (arith, old, moves) in

@@ -1,5 +1,5 @@
 -- The chunk of a line.
-use Rattle.std.proofs.Common.{◌≡◌, ℕ, zero, suc, ◌+◌, ◌-◌, ◌<◌, ◌≤◌, List, [], ◌∷◌, ◌++◌, length, slice_get, get_or, append_assoc, length-append, refl, sym, subst, ◌∙◌, ap, arith}
+use Rattle.std.proofs.Common.{◌≡◌, ℕ, false, zero, suc, ◌+◌, ◌-◌, ◌<◌, ◌≤◌, List, [], ◌∷◌, ◌++◌, length, slice_get, get_or, append_assoc, length-append, refl, sym, subst, ◌∙◌, ap, arith}
 use Rattle.std.specs.Prelude.{flat_map}
 use Rattle.std.specs.List.Sorted.{IsNonDecreasingBy}
 use Rattle.mal_base.specs.NumberedClause.{Line}
@@ -92,7 +92,7 @@ module _ (full : List Chunk) (last : Lined) (n i : ℕ) (is : AreCounted 0 full)
 
   pub in-last : (count : ℕ) → length full ≤ i → count ≡ length (lines_in full last) → n < count → HasLine (lines_in full last) last.lines n n count
   in-last count high counted low =
-      let none : Chunk = record { lines = last; end = 0 } in
+      let none : Chunk = record { lines = last; end = 0; ends = false } in
       let found : HasLine (lines_in full last) last.lines n (n - 0) (0 + length (lines_in full last)) = found-last 0 full last n none is (omega arith) (omega (arith, counted, low)) (λ k h. before k none (omega (arith, h, high))) in
       let whole : 0 + length (lines_in full last) ≡ count = omega (arith, counted) in
       subst (λ (e : ℕ). HasLine (lines_in full last) last.lines n n e) whole (subst (λ (k : ℕ). HasLine (lines_in full last) last.lines n k (0 + length (lines_in full last))) from-front found)

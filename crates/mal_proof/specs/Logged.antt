@@ -1,12 +1,19 @@
-use Rattle.std.specs.Prelude.{◌≡◌, ℕ, ◌+◌, ◌<◌, ◌≤◌, ◌^◌, List, [], ◌∷◌, ◌++◌, length, flat_map}
+use Rattle.std.specs.Prelude.{◌≡◌, ℕ, ◌+◌, ◌<◌, ◌≤◌, ◌^◌, Bool, List, [], ◌∷◌, ◌++◌, length, drop, map, flat_map}
 use Rattle.mal_base.specs.NumberedClause.{Line}
 use Rattle.mal_base.specs.Lined.{Lined}
 use Rattle.spec_proof.specs.Log.{IsOrderly}
 use Rattle.mal_proof.specs.declared.chunk.Chunk.{Chunk}
 
--- the lines of a log, for how many more lines and numbers there is room, and for how many more chunks
+-- lines that entered a log together, and whether they are marked
+pub record Part : Type 0 where
+  pub lines : List Line
+  pub ends : Bool
+
+-- the lines of a log, the parts in which they entered, for how many more lines and numbers there is room, and for how
+-- many more chunks
 pub record Logged : Type 0 where
   pub lines : List Line
+  pub parts : List Part
   pub room : ℕ
   pub number_room : ℕ
   pub chunk_room : ℕ
@@ -14,6 +21,10 @@ pub record Logged : Type 0 where
 -- the lines of chunks and of the last one
 abbrev pub lines_in : List Chunk → Lined → List Line
 lines_in full last = flat_map (λ chunk. chunk.lines.lines) full ++ last.lines
+
+-- the parts of chunks and of the last one; the first is where a log begins, which has no lines
+abbrev pub parts_in : List Chunk → Lined → Bool → List Part
+parts_in full last ends = drop 1 (map (λ chunk. record { lines = chunk.lines.lines; ends = chunk.ends }) full ++ record { lines = last.lines; ends = ends } ∷ [])
 
 -- where so many lines stand before the first of these chunks, each knows how many there are up to its end
 abbrev pub AreCounted : ℕ → List Chunk → Type 0

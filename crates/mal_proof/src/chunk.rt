@@ -5,11 +5,12 @@ ghost use Rattle.mal_proof.specs.Logged.{AreCounted, HasPlace};
 
 use mal_base::Lines;
 
-/// Lines that stand in a log, and how many lines of the log there are up to the end of these.
+/// Lines that stand in a log, how many lines of the log there are up to the end of these, and whether they are marked.
 #[derive(Drop)]
 pub struct Chunk {
     pub lines: Lines,
     pub end: usize,
+    pub ends: bool,
 }
 
 /// How many of these chunks, which stand at the front of a log, end before a line or at it, the lines counted from 0:

@@ -20,12 +20,14 @@ const LEAST_LINES: usize = 64;
 const LEAST_NUMBERS: usize = 1_024;
 
 /// The derived lines of a job in the order in which they were entered. They stand in chunks, and what stands never
-/// moves. Contracts see the lines, for how many more lines and numbers, which are literals and hints, there is room,
-/// and for how many more chunks; the lines have the numbers of derived clauses, each once and above all its hints.
+/// moves. Contracts see the lines, the chunks in which they were entered, for how many more lines and numbers, which
+/// are literals and hints, there is room, and for how many more chunks; the lines have the numbers of derived clauses,
+/// each once and above all its hints.
 #[derive(Drop)]
 pub struct Log {
     full: Vec<Chunk>,
     last: Lines,
+    ends: bool,
     count: usize,
     room: usize,
     number_room: usize,
@@ -33,12 +35,13 @@ pub struct Log {
 
 impl Model for Log {
     ghost use Rattle.std.specs.Prelude.{◌-◌, vec_len, vec_capacity};
-    ghost use Rattle.mal_proof.specs.Logged.{Logged, lines_in, LogInvariant};
+    ghost use Rattle.mal_proof.specs.Logged.{Logged, lines_in, parts_in, LogInvariant};
 
     ghost Value = { Logged };
 
     ghost view = { λ l. record {
       lines = lines_in l.full.items l.last;
+      parts = parts_in l.full.items l.last l.ends;
       room = l.room;
       number_room = l.number_room;
       chunk_room = vec_capacity l.full - vec_len l.full;
@@ -50,11 +53,13 @@ impl Model for Log {
 impl Log {
     /// No lines. Takes no memory.
     pub fn new(alloc: Global) -> Log
-        ensures { result.lines ≡ [] }
+        ensures lines { result.lines ≡ [] }
+        ensures parts { result.parts ≡ [] }
     {
         Log {
             full: Vec::new(alloc),
             last: Lines::new(alloc),
+            ends: false,
             count: 0,
             room: 0,
             number_room: 0,
@@ -85,7 +90,9 @@ impl Log {
         self.full.push_reserved(Chunk {
             lines: mem::replace(&mut self.last, fresh),
             end: self.count,
+            ends: self.ends,
         });
+        self.ends = false;
         self.room = room;
         self.number_room = number_room;
         Ok(())
@@ -111,6 +118,7 @@ impl Log {
     /// Makes room for so many more chunks.
     pub fn reserve_chunks(&mut self, chunks: usize) -> Result<(), AllocError>
         ensures lines { self.new.lines ≡ self.old.lines }
+        ensures parts { self.new.parts ≡ self.old.parts }
         ensures room { OnOk result (chunks ≤ self.new.chunk_room) }
         ensures more { self.old.chunk_room ≤ self.new.chunk_room }
     {
@@ -118,21 +126,27 @@ impl Log {
         Ok(())
     }
 
-    /// Puts lines behind the others as a chunk of their own, for which there is room: they are moved. With those before
-    /// them they have numbers of derived clauses, each once and above all its hints, so that proofs can be trimmed of
-    /// them. No room is left for further single lines. A chunk without lines keeps no room. Takes no memory.
-    pub fn append_chunk(&mut self, lines: Lines)
+    /// Puts lines behind the others as a chunk of their own, for which there is room, with a mark: they are moved. With
+    /// those before them they have numbers of derived clauses, each once and above all its hints, so that proofs can be
+    /// trimmed of them. No room is left for further single lines. A chunk without lines keeps no room. Takes no memory.
+    pub fn append_chunk(&mut self, lines: Lines, ends: bool)
         requires room { 1 ≤ self.old.chunk_room }
         requires countable { length self.old.lines + length lines.lines < 2 ^ 64 }
         requires orderly { IsOrderly (self.old.lines ++ lines.lines) }
         ensures lines { self.new.lines ≡ self.old.lines ++ lines.lines }
+        ensures parts { self.new.parts ≡ self.old.parts ++ record { lines = lines.lines; ends = ends } ∷ [] }
         ensures less { self.new.chunk_room + 1 ≡ self.old.chunk_room }
     {
         let end = self.count;
         self.count += lines.count();
         let lines = kept(*self.full.allocator(), lines);
         let last = mem::replace(&mut self.last, lines);
-        self.full.push_reserved(Chunk { lines: last, end });
+        self.full.push_reserved(Chunk {
+            lines: last,
+            end,
+            ends: self.ends,
+        });
+        self.ends = ends;
         self.room = 0;
         self.number_room = 0;
     }

@@ -10,7 +10,7 @@ use Rattle.spec_node.specs.State.{Node}
 use Rattle.spec_node.specs.Model.{model_of}
 use Rattle.spec_search.specs.Slice.{Sliced}
 use Rattle.spec_job.specs.Journal.{replay}
-use Rattle.spec_job.specs.SoloMachine.{Lease, NodeSlot, SoloMachine, with_place, answered, spend, starve, conclude, settled_by, settled, first_empty, is_late, finished_ran, finished_home, finished_lease, finished}
+use Rattle.spec_job.specs.SoloMachine.{Lease, NodeSlot, SoloMachine, with_place, answered, spend, starve, conclude, settled_by, settled, first_empty, is_late, remembered, finished_ran, finished_home, finished_lease, finished}
 
 -- a place at home with the entries that its start added, and the slice that they ran
 abbrev pub with_entries : NodeSlot → Lease → NodeSlot
@@ -21,7 +21,7 @@ slice_of s i p l = replay s.ask.profile i (p.entries ++ l.adds)
 
 -- the machine with both, before the slice answers anything
 abbrev pub ran_home : SoloMachine → ℕ → NodeSlot → Lease → SoloMachine
-ran_home s i p l = record (with_place s i (with_entries p l)) { log = s.log ++ (slice_of s i p l).lines; ran = s.ran + 1 }
+ran_home s i p l = record (with_place s i (with_entries p l)) { log = s.log ++ (slice_of s i p l).lines; slices = s.slices ++ remembered s l (slice_of s i p l) ∷ []; ran = s.ran + 1 }
 
 -- what the slice answers then
 abbrev pub ran_now : SoloMachine → ℕ → NodeSlot → Lease → SoloMachine
@@ -61,7 +61,7 @@ module _ (P : SoloMachine → Type 0) (more : (s : SoloMachine) (answers : List 
   spend-leaves : (s : SoloMachine) → P s → P (spend s)
   spend-leaves s h = by-test (s.spent + 1 == s.ask.slices) (answered s (Spent s.ask.slices)) (record s { spent = s.spent + 1 }) (more s (Spent s.ask.slices ∷ []) h) (counted s (s.spent + 1) s.starved h)
 
-  starve-leaves : (s : SoloMachine) → P s → P (starve s)
+  pub starve-leaves : (s : SoloMachine) → P s → P (starve s)
   starve-leaves s h = by-test (s.starved + 1 == 3) (answered s OutOfStarts) (record s { starved = s.starved + 1 }) (more s (OutOfStarts ∷ []) h) (counted s s.spent (s.starved + 1) h)
 
   pub conclude-leaves : (v : Option Verdict) (n : Node) (s : SoloMachine) → P s → P (conclude v n s)

@@ -13,7 +13,7 @@ use Rattle.spec_node.specs.Model.{model_of}
 use Rattle.spec_search.specs.Slice.{Sliced}
 use Rattle.spec_job.specs.Journal.{replay}
 use Rattle.spec_job.specs.Left.{left_of, after_start, StartsLeaveLess, LeftFalls}
-use Rattle.spec_job.specs.SoloMachine.{Own, Opened, Revised, Reasked, Closed, Volume, Started, Finished, Exchanged, Lease, NodeSlot, SoloMachine, solo, solo_step, place_at, with_place, answered, spend, starve, conclude, first_empty, settled_by, settled, is_late, finished_ran, finished_home, finished_lease, finished, startable, vacant, out_count, is_live}
+use Rattle.spec_job.specs.SoloMachine.{Own, Opened, Revised, Reasked, Closed, Volume, Started, Finished, Exchanged, Lease, NodeSlot, SoloMachine, solo, solo_step, place_at, with_place, answered, spend, starve, conclude, first_empty, settled_by, settled, is_late, remembered, finished_ran, finished_home, finished_lease, finished, startable, vacant, out_count, is_live}
 use Rattle.spec_job.proofs.PushLemmas.{events-keep}
 use Rattle.spec_job.proofs.FinishLemmas.{with_entries, slice_of, ran_home, by-ran, by-starved, by-outcome}
 use Rattle.spec_job.proofs.FewLemmas.{next-budget}
@@ -189,7 +189,7 @@ module _ (s : SoloMachine) (i : ℕ) (h : IsTidy s) (low : i ≤ 63) (may : star
       slice = replay s.ask.profile i (q.entries ++ (lease_of s i).adds)
 
       home : SoloMachine
-      home = record (with_place begun i (record q { entries = q.entries ++ (lease_of s i).adds; out = None })) { log = s.log ++ slice.lines; ran = s.ran + 1 }
+      home = record (with_place begun i (record q { entries = q.entries ++ (lease_of s i).adds; out = None })) { log = s.log ++ slice.lines; slices = s.slices ++ remembered begun (lease_of s i) slice ∷ []; ran = s.ran + 1 }
 
       ended : SoloMachine
       ended = finished_lease begun i q (lease_of s i) Ran

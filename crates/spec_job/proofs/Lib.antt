@@ -5,7 +5,9 @@ pub mod LoadedLemmas
 pub mod PlacesLemmas
 pub mod SolvingLemmas
 pub mod StayLemmas
+pub mod SlicesLemmas
 pub mod CountLemmas
+pub mod LawfulLemmas
 pub mod PushLemmas
 pub mod DerivingLemmas
 pub mod KeptLemmas

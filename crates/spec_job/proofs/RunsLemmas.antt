@@ -55,16 +55,16 @@ module _ (slices i : ℕ) (s : SoloMachine) (l : Lease) (out : (place_at s i).ou
       same = omega arith
 
       by_late : (b : Bool) → is_late s l ≡ b → IsFew slices (finished_home s i (place_at s i))
-      by_late true e = late-few slices 0 i s l q s.log s.ran out refl same h (omega arith) (late-now s l e)
-      by_late false e = now-few slices 0 i s l q s.log s.ran out refl same h refl (current e)
+      by_late true e = late-few slices 0 i s l q s.log s.slices s.ran out refl same h (omega arith) (late-now s l e)
+      by_late false e = now-few slices 0 i s l q s.log s.slices s.ran out refl same h refl (current e)
 
   starved-few : IsFew slices (finished_lease s i (place_at s i) l Starved)
   starved-few =
       let same : runs_in (place_at s i).entries ≡ runs_in (place_at s i).entries + 0 = omega arith in
-      by-starved (IsFew slices) s i (place_at s i) l (λ late. home-few) (λ e. starve-few slices (finished_home s i (place_at s i)) (now-back slices 0 i s l (record (place_at s i) { out = None }) s.log s.ran out refl same h (omega arith) (current e) (open_now e) k) home-few)
+      by-starved (IsFew slices) s i (place_at s i) l (λ late. home-few) (λ e. starve-few slices (finished_home s i (place_at s i)) (now-back slices 0 i s l (record (place_at s i) { out = None }) s.log s.slices s.ran out refl same h (omega arith) (current e) (open_now e) k) home-few)
 
   ran-few : runs_in ((place_at s i).entries ++ l.adds) ≡ runs_in (place_at s i).entries + 1 → IsFew slices (finished_lease s i (place_at s i) l Ran)
-  ran-few one = by-ran (IsFew slices) s i (place_at s i) l (λ e. late-few slices 1 i s l q log (s.ran + 1) out refl one h (omega arith) (late-now s l e)) now
+  ran-few one = by-ran (IsFew slices) s i (place_at s i) l (λ e. late-few slices 1 i s l q log (ran_home s i (place_at s i) l).slices (s.ran + 1) out refl one h (omega arith) (late-now s l e)) now
     where
       q : NodeSlot
       q = with_entries (place_at s i) l
@@ -76,7 +76,7 @@ module _ (slices i : ℕ) (s : SoloMachine) (l : Lease) (out : (place_at s i).ou
       log = s.log ++ ran.lines
 
       now : is_late s l ≡ false → IsFew slices (ran_now s i (place_at s i) l)
-      now e = conclude-few slices ran.node.verdict ran.node (ran_home s i (place_at s i) l) (now-back slices 1 i s l q log (s.ran + 1) out refl one h (omega arith) (current e) (open_now e) k)
+      now e = conclude-few slices ran.node.verdict ran.node (ran_home s i (place_at s i) l) (now-back slices 1 i s l q log (ran_home s i (place_at s i) l).slices (s.ran + 1) out refl one h (omega arith) (current e) (open_now e) k)
 
 lease-few : (slices i : ℕ) (s : SoloMachine) (l : Lease) (o : Outcome) → (place_at s i).out ≡ Some l → IsSolvingSolo s → IsLowSolo s → IsFew slices s → IsFew slices (finished_lease s i (place_at s i) l o)
 lease-few slices i s l Ran out k low h =

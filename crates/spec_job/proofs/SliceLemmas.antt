@@ -10,7 +10,7 @@ use Rattle.mal_revision.specs.Posted.{Posted}
 use Rattle.spec_node.specs.State.{Node}
 use Rattle.spec_search.specs.Slice.{Sliced}
 use Rattle.spec_job.specs.Journal.{JournalEntry, replay, loads_in}
-use Rattle.spec_job.specs.SoloMachine.{Lease, NodeSlot, vacant, SoloMachine, place_at, with_place, answered, conclude, is_late, finished_ran, finished_home}
+use Rattle.spec_job.specs.SoloMachine.{Lease, NodeSlot, vacant, SoloMachine, place_at, with_place, answered, conclude, is_late, remembered, finished_ran, finished_home}
 use Rattle.spec_job.proofs.SolvingLemmas.{IsSolvingSolo}
 use Rattle.spec_job.proofs.CourseLemmas.{Course, concluded, next_adds, ran_on, course, GoesOn, WentOn}
 use Rattle.spec_job.proofs.AlongLemmas.{course_of, lease_from, IsOpen, IsAlong, IsAloneSolo, IsThere, alone-set, set-first}
@@ -50,7 +50,7 @@ module _ (profile slices n : ℕ) (s : SoloMachine) (k : IsSolvingSolo s) (h : I
   ran = replay s.ask.profile 0 (p.entries ++ adds)
 
   abbrev home : SoloMachine
-  home = record (with_place s 0 q) { log = s.log ++ ran.lines; ran = s.ran + 1 }
+  home = record (with_place s 0 q) { log = s.log ++ ran.lines; slices = s.slices ++ remembered s lease ran ∷ []; ran = s.ran + 1 }
 
   abbrev t : SoloMachine
   t = conclude ran.node.verdict ran.node home

@@ -2,7 +2,7 @@
 use Rattle.std.proofs.Common.{◌≡◌, ℕ, ◌+◌, ◌<◌, ◌≤◌, true, ◌&&◌, ◌==◌, nat_lt, List, length, Option, Some, None, inl, inr, ◌⊎◌, refl, sym, ap, subst, arith}
 use Rattle.std.specs.Prelude.{slice_set, is_some, is_none}
 use Rattle.std.proofs.lemmas.Bool.{and_parts, ltb-true, cases_lt, eq-eqb, ne_eqb}
-use Rattle.spec_job.specs.SoloMachine.{Started, Lease, NodeSlot, SoloMachine, solo_step, place_at, is_for, out_count, is_live, startable}
+use Rattle.spec_job.specs.SoloMachine.{Started, Lease, NodeSlot, Slice, SoloMachine, solo_step, place_at, is_for, out_count, is_live, startable}
 use Rattle.spec_job.specs.Counts.{runs_in, runs_of, starts_out}
 use Rattle.spec_job.proofs.PlacesLemmas.{out-within}
 use Rattle.spec_job.proofs.SolvingLemmas.{IsSolvingSolo, lease_of, live-parts}
@@ -50,9 +50,9 @@ started-few slices s i may h = by_place (cases_lt i (length s.places))
     by_place (inr high) = subst (λ (ps : List NodeSlot). IsFew slices (record s { places = ps })) (sym (set-beyond s.places i q high)) h
 
 -- a start that has come back, with so many slices run
-module _ (slices n i : ℕ) (s : SoloMachine) (l : Lease) (q : NodeSlot) (log : List Line) (ran : ℕ) (out : (place_at s i).out ≡ Some l) (none : q.out ≡ None) (more : runs_in q.entries ≡ runs_in (place_at s i).entries + n) (h : IsFew slices s) where
+module _ (slices n i : ℕ) (s : SoloMachine) (l : Lease) (q : NodeSlot) (log : List Line) (kept : List Slice) (ran : ℕ) (out : (place_at s i).out ≡ Some l) (none : q.out ≡ None) (more : runs_in q.entries ≡ runs_in (place_at s i).entries + n) (h : IsFew slices s) where
   abbrev pub t : SoloMachine
-  t = record s { places = slice_set s.places i q; log = log; ran = ran }
+  t = record s { places = slice_set s.places i q; log = log; slices = kept; ran = ran }
 
   within : i < length s.places
   within = out-within s.places i l out

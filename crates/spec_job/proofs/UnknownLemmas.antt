@@ -16,7 +16,7 @@ use Rattle.mal_base.specs.declared.verdict.Verdict.TheVariants.{Satisfiable, Uns
 use Rattle.mal_base.specs.declared.verdict.Outcome.{Outcome}
 use Rattle.mal_base.specs.declared.verdict.Outcome.TheVariants.{Ran, Starved, Lost}
 use Rattle.spec_node.specs.Model.{model_of}
-use Rattle.spec_job.specs.SoloMachine.{Own, Opened, Revised, Reasked, Closed, Volume, Started, Finished, Exchanged, Lease, NodeSlot, SoloMachine, unopened, solo, solo_step, place_at, answered, spend, starve, conclude, first_empty, settled, is_for, is_late, finished_lease, finished}
+use Rattle.spec_job.specs.SoloMachine.{Own, Opened, Revised, Reasked, Closed, Volume, Started, Finished, Exchanged, Lease, NodeSlot, Slice, SoloMachine, unopened, solo, solo_step, place_at, answered, spend, starve, conclude, first_empty, settled, is_for, is_late, finished_lease, finished}
 use Rattle.spec_job.specs.Counts.{is_opening}
 use Rattle.spec_job.specs.DemandOne.{had_memory}
 use Rattle.spec_job.specs.Runnable.{MayHappen, IsRunnable}
@@ -118,8 +118,8 @@ module _ (slices i : ℕ) (es : List Ending) (s : SoloMachine) (l : Lease) (o : 
       same = filter-same (is_slice_of r) es e (no-slice r e (other-spent r n a))
   still r OutOfStarts a good = ap (λ (xs : List Ending). length xs) (filter-same (is_starved_of r) es e (not-starved r (slice_get_within s.answers r OutOfStarts a))) ∙ good
 
-  home-tallied : (q : NodeSlot) (log : List Line) (ran : ℕ) → q.out ≡ None → IsTallied slices all (record s { places = slice_set s.places i q; log = log; ran = ran })
-  home-tallied q log ran none = record {
+  home-tallied : (q : NodeSlot) (log : List Line) (kept : List Slice) (ran : ℕ) → q.out ≡ None → IsTallied slices all (record s { places = slice_set s.places i q; log = log; slices = kept; ran = ran })
+  home-tallied q log kept ran none = record {
     reached = All-append (λ x. x.revision ≤ length s.answers) es (e ∷ []) h.tallied.reached (All-cons (λ x. x.revision ≤ length s.answers) e [] reached (All-nil (λ x. x.revision ≤ length s.answers)));
     posted = All-append (λ x. x.revision < length s.revisions) es (e ∷ []) h.tallied.posted (All-cons (λ x. x.revision < length s.revisions) e [] posted (All-nil (λ x. x.revision < length s.revisions)));
     accounted = λ r a is. still r a is (h.tallied.accounted r a is);
@@ -127,9 +127,9 @@ module _ (slices i : ℕ) (es : List Ending) (s : SoloMachine) (l : Lease) (o : 
   }
 
   -- it counts for nothing
-  home-tally : (q : NodeSlot) (log : List Line) (ran : ℕ) → q.out ≡ None → is_slice_of (length s.answers) e ≡ false → is_starved_of (length s.answers) e ≡ false → HasTally slices all (record s { places = slice_set s.places i q; log = log; ran = ran })
-  home-tally q log ran none slice starved = record {
-    tallied = home-tallied q log ran none;
+  home-tally : (q : NodeSlot) (log : List Line) (kept : List Slice) (ran : ℕ) → q.out ≡ None → is_slice_of (length s.answers) e ≡ false → is_starved_of (length s.answers) e ≡ false → HasTally slices all (record s { places = slice_set s.places i q; log = log; slices = kept; ran = ran })
+  home-tally q log kept ran none slice starved = record {
+    tallied = home-tallied q log kept ran none;
     spent = ap (λ (xs : List Ending). length xs) (filter-same (is_slice_of (length s.answers)) es e slice) ∙ h.spent;
     no_verdict = subst (λ (xs : List Ending). All (λ x. x.node.verdict ≡ None) xs) (sym (filter-same (is_slice_of (length s.answers)) es e slice)) h.no_verdict;
     starved = ap (λ (xs : List Ending). length xs) (filter-same (is_starved_of (length s.answers)) es e starved) ∙ h.starved;
@@ -138,8 +138,8 @@ module _ (slices i : ℕ) (es : List Ending) (s : SoloMachine) (l : Lease) (o : 
   late-other : is_late s l ≡ true → l.revision ≢ length s.answers
   late-other late same = let low : l.revision < length s.answers = ltb-true l.revision (length s.answers) late in absurd (omega (arith, low, same))
 
-  late-tally : (q : NodeSlot) (log : List Line) (ran : ℕ) → q.out ≡ None → is_late s l ≡ true → HasTally slices all (record s { places = slice_set s.places i q; log = log; ran = ran })
-  late-tally q log ran none late = home-tally q log ran none (no-slice (length s.answers) e (late-other late)) (no-starved (length s.answers) e (late-other late))
+  late-tally : (q : NodeSlot) (log : List Line) (kept : List Slice) (ran : ℕ) → q.out ≡ None → is_late s l ≡ true → HasTally slices all (record s { places = slice_set s.places i q; log = log; slices = kept; ran = ran })
+  late-tally q log kept ran none late = home-tally q log kept ran none (no-slice (length s.answers) e (late-other late)) (no-starved (length s.answers) e (late-other late))
 
   current : is_late s l ≡ false → l.revision ≡ length s.answers
   current now = in-time s l reached now
@@ -161,12 +161,12 @@ module _ (slices i : ℕ) (es : List Ending) (s : SoloMachine) (l : Lease) (o : 
   none-yet ran now none = subst (λ (xs : List Ending). All (λ x. x.node.verdict ≡ None) xs) (sym (sliced ran now)) (All-append (λ x. x.node.verdict ≡ None) (slices_of (length s.answers) es) (e ∷ []) h.no_verdict (All-cons (λ x. x.node.verdict ≡ None) e [] none (All-nil (λ x. x.node.verdict ≡ None))))
 
   -- the place at home
-  module _ (q : NodeSlot) (log : List Line) (count : ℕ) (none : q.out ≡ None) (now : is_late s l ≡ false) where
+  module _ (q : NodeSlot) (log : List Line) (kept : List Slice) (count : ℕ) (none : q.out ≡ None) (now : is_late s l ≡ false) where
     abbrev t : SoloMachine
-    t = record s { places = slice_set s.places i q; log = log; ran = count }
+    t = record s { places = slice_set s.places i q; log = log; slices = kept; ran = count }
 
     tallied : IsTallied slices all t
-    tallied = home-tallied q log count none
+    tallied = home-tallied q log kept count none
 
     last-out : s.spent + 1 ≡ s.ask.slices → outs_for (length s.answers) t.places ≡ 0
     last-out full =
@@ -221,15 +221,18 @@ module _ (slices i : ℕ) (es : List Ending) (s : SoloMachine) (l : Lease) (o : 
 
   -- the start that ended, by its outcome
   pub lease-tally : (x : Outcome) → o ≡ x → HasTally slices all (finished_lease s i (place_at s i) l x)
-  lease-tally Ran ran = by-ran (HasTally slices all) s i (place_at s i) l (λ late. late-tally q log (s.ran + 1) refl late) (λ now. conclude-tally q log (s.ran + 1) refl now ran e.node.verdict refl)
+  lease-tally Ran ran = by-ran (HasTally slices all) s i (place_at s i) l (λ late. late-tally q log kept (s.ran + 1) refl late) (λ now. conclude-tally q log kept (s.ran + 1) refl now ran e.node.verdict refl)
     where
       q : NodeSlot
       q = with_entries (place_at s i) l
 
       log : List Line
       log = (ran_home s i (place_at s i) l).log
-  lease-tally Starved starved = by-starved (HasTally slices all) s i (place_at s i) l (λ late. late-tally (record (place_at s i) { out = None }) s.log s.ran refl late) (λ now. starve-tally (record (place_at s i) { out = None }) s.log s.ran refl now starved)
-  lease-tally Lost lost = home-tally (record (place_at s i) { out = None }) s.log s.ran refl (and_right (l.revision == length s.answers) (has_run o) (ap has_run lost)) (and_right (l.revision == length s.answers) (not (is_late s l) && not (had_memory o)) (and_right (not (is_late s l)) (not (had_memory o)) (ap (λ (x : Outcome). not (had_memory x)) lost)))
+
+      kept : List Slice
+      kept = (ran_home s i (place_at s i) l).slices
+  lease-tally Starved starved = by-starved (HasTally slices all) s i (place_at s i) l (λ late. late-tally (record (place_at s i) { out = None }) s.log s.slices s.ran refl late) (λ now. starve-tally (record (place_at s i) { out = None }) s.log s.slices s.ran refl now starved)
+  lease-tally Lost lost = home-tally (record (place_at s i) { out = None }) s.log s.slices s.ran refl (and_right (l.revision == length s.answers) (has_run o) (ap has_run lost)) (and_right (l.revision == length s.answers) (not (is_late s l) && not (had_memory o)) (and_right (not (is_late s l)) (not (had_memory o)) (ap (λ (x : Outcome). not (had_memory x)) lost)))
 
 -- the starts that have ended, with what one more event ends
 abbrev pub and_ending : List Ending → Option Ending → List Ending

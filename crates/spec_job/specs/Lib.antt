@@ -2,6 +2,7 @@ pub mod Journal
 pub mod Journaled
 pub mod Leased
 pub mod SoloMachine
+pub mod Slices
 pub mod KeyedJob
 pub mod Viewed
 pub mod Left
@@ -11,6 +12,7 @@ pub mod Proofs
 pub mod Replies
 pub mod Runnable
 pub mod Counts
+pub mod Lawful
 pub mod Provenance
 pub mod Following
 pub mod DemandOne

@@ -1,4 +1,4 @@
-use Rattle.std.specs.Prelude.{find, option_map, ℕ, ◌+◌, ◌-◌, ◌*◌, ◌%◌, Bool, true, false, ◌&&◌, ◌==◌, nat_lt, nat_le, List, [], ◌∷◌, ◌++◌, map, filter, length, take, drop, replicate, sum_by, count_by, fold, get_or, slice_set, Option, Some, None, is_none, if◌then◌else◌}
+use Rattle.std.specs.Prelude.{find, option_map, ℕ, ◌+◌, ◌-◌, ◌*◌, ◌%◌, Bool, true, false, not, ◌&&◌, ◌==◌, nat_lt, nat_le, List, [], ◌∷◌, ◌++◌, map, filter, length, take, drop, replicate, sum_by, count_by, fold, get_or, slice_set, Option, Some, None, is_some, is_none, if◌then◌else◌}
 use Rattle.mal_base.specs.Asks.{Terms, Weighed, reasked}
 use Rattle.mal_base.specs.Formulas.{literals_of}
 use Rattle.mal_base.specs.declared.answer.Answer.{Answer}
@@ -11,6 +11,7 @@ use Rattle.mal_base.specs.NumberedClause.{NumberedClause, Line}
 use Rattle.mal_revision.specs.Posted.{Posted}
 use Rattle.spec_node.specs.State.{Node}
 use Rattle.spec_node.specs.Model.{model_of}
+use Rattle.spec_search.specs.Slice.{Sliced}
 use Rattle.spec_exchange.specs.Exchange.{broadcast}
 use Rattle.spec_job.specs.Journal.{JournalEntry, Import, Run, replay, loads_in, loads_of, imports_in}
 
@@ -42,7 +43,12 @@ pub record NodeSlot : Type 0 where
 abbrev pub vacant : NodeSlot
 vacant = record { entries = []; out = None; starts = 0; mark = 0 }
 
--- what a job's machine remembers
+-- a slice that was run: the lines that it logged, and whether its verdict answered a revision
+pub record Slice : Type 0 where
+  pub lines : List Line
+  pub ends : Bool
+
+-- what a job's machine remembers; no step reads the slices
 pub record SoloMachine : Type 0 where
   pub ask : Terms
   pub closed : Bool
@@ -51,6 +57,7 @@ pub record SoloMachine : Type 0 where
   pub answers : List Answer
   pub places : List NodeSlot
   pub log : List Line
+  pub slices : List Slice
   pub broadcasts : List (List NumberedClause)
   pub ran : ℕ
   pub spent : ℕ
@@ -58,7 +65,7 @@ pub record SoloMachine : Type 0 where
 
 -- the machine before its first event: 64 vacant places and nothing else
 abbrev pub unopened : SoloMachine
-unopened = record { ask = record { priority = 0; demand = 0; slices = 0; profile = 1 }; closed = false; volume = 0; revisions = []; answers = []; places = replicate 64 vacant; log = []; broadcasts = []; ran = 0; spent = 0; starved = 0 }
+unopened = record { ask = record { priority = 0; demand = 0; slices = 0; profile = 1 }; closed = false; volume = 0; revisions = []; answers = []; places = replicate 64 vacant; log = []; slices = []; broadcasts = []; ran = 0; spent = 0; starved = 0 }
 
 -- revisions are answered in order: the current one is the first without an answer
 abbrev pub current : SoloMachine → ℕ
@@ -136,13 +143,17 @@ settled s = settled_by (first_empty s.log) s
 abbrev pub is_late : SoloMachine → Lease → Bool
 is_late s l = nat_lt l.revision (current s)
 
+-- a slice that was run, as it is remembered: where it is not late its verdict answers
+abbrev pub remembered : SoloMachine → Lease → Sliced → Slice
+remembered s l slice = record { lines = slice.lines; ends = not (is_late s l) && is_some slice.node.verdict }
+
 -- a slice that was run: its entries join the journal, its lines the log, and unless it is late it answers or counts as
 -- spent
 abbrev pub finished_ran : SoloMachine → ℕ → NodeSlot → Lease → SoloMachine
 finished_ran s i p l =
     let entries = p.entries ++ l.adds in
     let slice = replay s.ask.profile i entries in
-    let home = record (with_place s i (record p { entries = entries; out = None })) { log = s.log ++ slice.lines; ran = s.ran + 1 } in
+    let home = record (with_place s i (record p { entries = entries; out = None })) { log = s.log ++ slice.lines; slices = s.slices ++ remembered s l slice ∷ []; ran = s.ran + 1 } in
     if is_late s l then home else conclude slice.node.verdict slice.node home
 
 -- a start that comes to nothing leaves the node as it was

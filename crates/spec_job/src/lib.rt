@@ -2,7 +2,7 @@
 //! and the laws about them as the contracts of functions without a body.
 #![tactic(auto)]
 
-ghost use Rattle.spec_job.specs.{Counts.{ReplaysCount, RunsAreFew}, DemandOne.{NoneIsDue, SinglesAgree}, DemandOneUpTo.{HasUpTo, SinglesAgreeUpTo}, Examples.{HasExamples, HasExchanges, HasReasked, HasRefutations, HasRunnable}, Exported.{ExchangesTellDerived, ExportsAreDerived, HasUnexported}, Following.{RunnableJournalsFollow}, Left.{LeftFalls}, ProfileExamples.{HasProfiles}, Provenance.{RunnableClausesOwn}, Runnable.{AnswersStay, RunnableAnswersFollow, RunnableAnswersRefute, RunnableAnswersSolve, RunnableLogsDerived}, Unknown.{RunnableAnswersAccountedFor, RunnableFedAnswersDecide}, UnknownExamples.{HasEndings}};
+ghost use Rattle.spec_job.specs.{Counts.{ReplaysCount, RunsAreFew}, DemandOne.{NoneIsDue, SinglesAgree}, DemandOneUpTo.{HasUpTo, SinglesAgreeUpTo}, Examples.{HasExamples, HasExchanges, HasReasked, HasRefutations, HasRunnable}, Exported.{ExchangesTellDerived, ExportsAreDerived, HasUnexported}, Following.{RunnableJournalsFollow}, Lawful.{LawfulIsOnce, LawfulIsRunnable}, Left.{LeftFalls}, ProfileExamples.{HasProfiles}, Provenance.{RunnableClausesOwn}, Runnable.{AnswersStay, RunnableAnswersFollow, RunnableAnswersRefute, RunnableAnswersSolve, RunnableLogsDerived}, Unknown.{RunnableAnswersAccountedFor, RunnableFedAnswersDecide}, UnknownExamples.{HasEndings}};
 
 /// The worked examples of a job's machine compute to the answers that are known, under either profile of its solvers,
 /// and own events may happen as they should.
@@ -93,4 +93,10 @@ pub fn exports_are_derived()
 pub fn singles_agree_up_to()
     ensures agree { SinglesAgreeUpTo }
     ensures example { HasUpTo }
+{}
+
+/// Lawful own events are those of a job that is opened once, and each may happen after those before it.
+pub fn lawful_is_once()
+    ensures once { LawfulIsOnce }
+    ensures runnable { LawfulIsRunnable }
 {}

@@ -19,7 +19,7 @@ pub exchange-requires-clause-rising : goal.exchange-requires-clause-rising
 exchange-requires-clause-rising c = subst (λ (ls : List Line). All (λ line. rises line.lits ≡ true) ls) (sym c.log.ensures) (own-rising _ c.self.invariant.own)
 
 made : (c : After-exchange) → HasGrown (record { asked = c.self.inside.questions; tree = c.self.inside.tree; log = c.self.inside.log }) c.grow.new.self c.self.inside.log
-made c = record { places = c.in_ok-grow.ensures.places; rest = c.in_ok-grow.ensures.rest; tree = c.in_ok-grow.ensures.kept; lines = refl; room = omega arith }
+made c = record { places = c.in_ok-grow.ensures.places; rest = c.in_ok-grow.ensures.rest; tree = c.in_ok-grow.ensures.kept; lines = refl; slices = refl; room = omega arith }
 
 pub invariant_of-self-2 : goal.invariant_of-self-2
 invariant_of-self-2 c =
