@@ -1,5 +1,5 @@
 -- A history that is written is read again.
-use Rattle.std.proofs.Common.{inl, inr, ◌≡◌, ℕ, suc, ◌+◌, ◌<◌, ◌≤◌, ◌^◌, Bool, true, false, cond, ◌||◌, ◌==◌, List, [], ◌∷◌, map, flat_map, length, codes, pos, Result, Ok, refl, ap, ◌∙◌, arith}
+use Rattle.std.proofs.Common.{inl, inr, ◌≡◌, ℕ, suc, ◌+◌, ◌<◌, ◌≤◌, ◌^◌, Bool, true, false, cond, ◌||◌, ◌==◌, List, [], ◌∷◌, map, flat_map, length, codes, pos, Result, Ok, refl, sym, ap, subst, ◌∙◌, arith}
 use Rattle.std.specs.Fmt.{digits}
 use Rattle.std.specs.List.{AllByRecursion, list_any}
 use Rattle.std.proofs.lemmas.Bool.Decides.{nat_tests}
@@ -12,11 +12,11 @@ use Rattle.spec_text.proofs.Numerals.{numbers_read_again}
 use Rattle.spec_dimacs.specs.Reading.{◌>>=◌}
 use Rattle.spec_dimacs.proofs.Again.{rows_again}
 use Rattle.mal_history.specs.declared.event.Event.{Event}
-use Rattle.mal_history.specs.declared.event.Event.TheVariants.{Open, Revise, Reask, Close, Balance, Start, Finish, Exchange}
+use Rattle.mal_history.specs.declared.event.Event.TheVariants.{Open, Revise, Reask, Close, Balance, Start, Finish, Exchange, Leave, Arrive}
 use Rattle.mal_history.specs.declared.event.Share.{Share}
 use Rattle.mal_history.specs.declared.line.Header.{Header}
 use Rattle.mal_history.specs.Differ.{IsShare, IsWritable}
-use Rattle.mal_history.specs.Text.{share_words, event_words, is_of_version_2, version_of, header_words, history_text}
+use Rattle.mal_history.specs.Text.{share_words, event_words, is_of_version_2, is_of_version_3, version_of, header_words, history_text}
 use Rattle.mal_history.specs.Reading.{Fault, header_of, on_line, events_from, read_rows, most_events}
 use Rattle.mal_history.specs.Grammar.{Says, SayProfile, SayShares, SaysVersion, SpellsEvent}
 use Rattle.mal_history.specs.Formed.{IsVolume, IsSeat, IsEvent, IsHistory, lines_from}
@@ -41,6 +41,8 @@ writable workers (Balance volumes) low h = shares-writable volumes h
 writable workers (Start tenant job index worker) low h = (name-clean tenant h.0.0, name-clean job h.0.1, omega (arith, h.1.index_bound), omega (arith, h.1.worker_bound, low))
 writable workers (Finish tenant job index worker outcome) low h = (name-clean tenant h.0.0, name-clean job h.0.1, omega (arith, h.1.index_bound), omega (arith, h.1.worker_bound, low))
 writable workers (Exchange tenant job) low h = (name-clean tenant h.0, name-clean job h.1)
+writable workers (Leave tenant job) low h = absurd h
+writable workers (Arrive tenant job) low h = absurd h
 
 all-writable : (workers : ℕ) (events : List Event) → workers ≤ 64 → AllByRecursion (IsEvent workers) events → AllByRecursion IsWritable events
 all-writable workers [] low h = tt
@@ -97,6 +99,8 @@ spelled version workers (Finish tenant job index worker outcome) low told h =
     let seat = seat-says workers index worker low h.1 in
     record { at = decimal_word index; by = decimal_word worker; row = refl; names = h.0; says_index = seat.0; says_worker = seat.1 }
 spelled version workers (Exchange tenant job) low told h = (refl, h)
+spelled version workers (Leave tenant job) low told h = absurd h
+spelled version workers (Arrive tenant job) low told h = absurd h
 
 -- the lines of events are read again in a version that has them
 or-left : (a b : Bool) → a ≡ true → (a || b) ≡ true
@@ -119,9 +123,28 @@ events-again max version workers line count (e ∷ events) low told h few =
 pub history-rows : (workers : ℕ) (events : List Event) → IsHistory workers events → AreRows (header_words (version_of events) workers ∷ map event_words events)
 history-rows workers events h = (header-row (version_of events) workers, event-rows events (all-writable workers events h.bound h.formed))
 
--- the version that is written is one that is read
+-- the version that is written is one that is read, since no move is in form
+no-move : (workers : ℕ) (e : Event) → IsEvent workers e → is_of_version_3 e ≡ false
+no-move workers (Open tenant job ask) h = refl
+no-move workers (Revise tenant job number) h = refl
+no-move workers (Reask tenant job weight) h = refl
+no-move workers (Close tenant job) h = refl
+no-move workers (Balance volumes) h = refl
+no-move workers (Start tenant job index worker) h = refl
+no-move workers (Finish tenant job index worker outcome) h = refl
+no-move workers (Exchange tenant job) h = refl
+no-move workers (Leave tenant job) h = absurd h
+no-move workers (Arrive tenant job) h = absurd h
+
+no-moves : (workers : ℕ) (events : List Event) → AllByRecursion (IsEvent workers) events → list_any is_of_version_3 events ≡ false
+no-moves workers [] h = refl
+no-moves workers (e ∷ events) h = ap (λ (b : Bool). b || list_any is_of_version_3 events) (no-move workers e h.0) ∙ no-moves workers events h.1
+
 abbrev version-for : Bool → ℕ
 version-for b = cond b 2 1
+
+version-is : (workers : ℕ) (events : List Event) → AllByRecursion (IsEvent workers) events → version_of events ≡ version-for (list_any is_of_version_2 events)
+version-is workers events h = ap (λ (b : Bool). cond b 3 (version-for (list_any is_of_version_2 events))) (no-moves workers events h)
 
 one-word : decimal_word 1 ≡ codes "1"
 unfolding digits
@@ -131,17 +154,17 @@ two-word : decimal_word 2 ≡ codes "2"
 unfolding digits
 two-word = refl
 
-version-says : (events : List Event) → SaysVersion (decimal_word (version_of events)) (version_of events)
-version-says events = by_test (list_any is_of_version_2 events)
+version-says : (workers : ℕ) (events : List Event) → AllByRecursion (IsEvent workers) events → SaysVersion (decimal_word (version_of events)) (version_of events)
+version-says workers events h = subst (λ (v : ℕ). SaysVersion (decimal_word v) v) (sym (version-is workers events h)) (by_test (list_any is_of_version_2 events))
   where
     by_test : (b : Bool) → SaysVersion (decimal_word (version-for b)) (version-for b)
     by_test true = inr (two-word, refl)
     by_test false = inl (one-word, refl)
 
-header-again : (workers : ℕ) (events : List Event) → 1 ≤ workers → workers ≤ 64 → header_of (header_words (version_of events) workers) ≡ Ok (record { version = version_of events; workers = workers })
-header-again workers events some low =
+header-again : (workers : ℕ) (events : List Event) → IsHistory workers events → header_of (header_words (version_of events) workers) ≡ Ok (record { version = version_of events; workers = workers })
+header-again workers events h =
     header-read (header_words (version_of events) workers) (version_of events) workers
-    (record { version_word = decimal_word (version_of events); workers_word = decimal_word workers; row = refl; says_version = version-says events; says_workers = says 1 64 workers some low (omega arith) })
+    (record { version_word = decimal_word (version_of events); workers_word = decimal_word workers; row = refl; says_version = version-says workers events h.formed; says_workers = says 1 64 workers h.some h.bound (omega arith) })
 
 pub written-read : WrittenIsRead
 unfolding history_text
@@ -149,5 +172,5 @@ written-read workers events h =
     let version : ℕ = version_of events in
     let rows : List (List (List ℕ)) = header_words version workers ∷ map event_words events in
     ap read_rows (rows_again rows (history-rows workers events h))
-    ∙ ap (λ (r : Result Header Fault). on_line 1 r >>= λ x. events_from most_events x.version x.workers 1 0 (map event_words events)) (header-again workers events h.some h.bound)
-    ∙ events-again most_events version workers 1 0 events h.bound (λ has. ap version-for has) h.formed (omega (arith, h.few))
+    ∙ ap (λ (r : Result Header Fault). on_line 1 r >>= λ x. events_from most_events x.version x.workers 1 0 (map event_words events)) (header-again workers events h)
+    ∙ events-again most_events version workers 1 0 events h.bound (λ has. version-is workers events h.formed ∙ ap version-for has) h.formed (omega (arith, h.few))

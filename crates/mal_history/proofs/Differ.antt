@@ -13,10 +13,10 @@ use Rattle.spec_text.proofs.Again.{texts_differ}
 use Rattle.spec_text.proofs.Clean.{decimals_are_clean, decimals_differ}
 use Rattle.spec_text.proofs.Names.{profile-clean}
 use Rattle.mal_history.specs.declared.event.Event.{Event}
-use Rattle.mal_history.specs.declared.event.Event.TheVariants.{Open, Revise, Reask, Close, Balance, Start, Finish, Exchange}
+use Rattle.mal_history.specs.declared.event.Event.TheVariants.{Open, Revise, Reask, Close, Balance, Start, Finish, Exchange, Leave, Arrive}
 use Rattle.mal_history.specs.declared.event.Share.{Share}
 use Rattle.mal_history.specs.Text.{outcome_word, share_words, event_words, version_of, header_words, history_text}
-use Rattle.mal_history.specs.Differ.{IsNumber, IsShare, IsWritable, one_start, one_open, one_reask, HistoriesDiffer, HaveOtherTexts}
+use Rattle.mal_history.specs.Differ.{IsNumber, IsShare, IsWritable, one_start, one_open, one_reask, one_leave, one_arrival, HistoriesDiffer, HaveOtherTexts}
 
 -- the parts of a list
 head-same : {X : Type 0} (x y : X) (xs ys : List X) → x ∷ xs ≡ y ∷ ys → x ≡ y
@@ -51,6 +51,8 @@ event-row (Balance ss) h = one-row (codes "b") (flat_map share_words ss) (omega 
 event-row (Start t j i w) h = (omega arith, ((omega arith, (omega arith, tt)), (h.0, (h.1, (decimals_are_clean i, (decimals_are_clean w, tt))))))
 event-row (Finish t j i w o) h = (omega arith, ((omega arith, (omega arith, tt)), (h.0, (h.1, (decimals_are_clean i, (decimals_are_clean w, (outcome-clean o, tt)))))))
 event-row (Exchange t j) h = (omega arith, ((omega arith, (omega arith, tt)), (h.0, (h.1, tt))))
+event-row (Leave t j) h = (omega arith, ((omega arith, (omega arith, tt)), (h.0, (h.1, tt))))
+event-row (Arrive t j) h = (omega arith, ((omega arith, (omega arith, tt)), (h.0, (h.1, tt))))
 
 pub event-rows : (es : List Event) → AllByRecursion IsWritable es → AreRows (map event_words es)
 event-rows [] h = tt
@@ -107,6 +109,8 @@ letter_of (Balance ss) = 98
 letter_of (Start t j i w) = 115
 letter_of (Finish t j i w o) = 102
 letter_of (Exchange t j) = 120
+letter_of (Leave t j) = 103
+letter_of (Arrive t j) = 110
 
 -- the first byte of the first word
 first_byte : List (List ℕ) → ℕ
@@ -124,6 +128,8 @@ letter-first (Balance ss) = refl
 letter-first (Start t j i w) = refl
 letter-first (Finish t j i w o) = refl
 letter-first (Exchange t j) = refl
+letter-first (Leave t j) = refl
+letter-first (Arrive t j) = refl
 
 terms-same : (a b : Terms) → a.priority ≡ b.priority → a.demand ≡ b.demand → a.slices ≡ b.slices → a.profile ≡ b.profile → a ≡ b
 terms-same a b x y z w =
@@ -174,6 +180,12 @@ close-differ t u j k e = let tenant : t ≡ u = cc in let job : j ≡ k = cc in 
 exchange-differ : (t u j k : List ℕ) → event_words (Exchange t j) ≡ event_words (Exchange u k) → Exchange t j ≡ Exchange u k
 exchange-differ t u j k e = let tenant : t ≡ u = cc in let job : j ≡ k = cc in rw (tenant, job) refl
 
+leave-differ : (t u j k : List ℕ) → event_words (Leave t j) ≡ event_words (Leave u k) → Leave t j ≡ Leave u k
+leave-differ t u j k e = let tenant : t ≡ u = cc in let job : j ≡ k = cc in rw (tenant, job) refl
+
+arrive-differ : (t u j k : List ℕ) → event_words (Arrive t j) ≡ event_words (Arrive u k) → Arrive t j ≡ Arrive u k
+arrive-differ t u j k e = let tenant : t ≡ u = cc in let job : j ≡ k = cc in rw (tenant, job) refl
+
 balance-differ : (ss ts : List Share) → AllByRecursion IsShare ss → AllByRecursion IsShare ts → event_words (Balance ss) ≡ event_words (Balance ts) → Balance ss ≡ Balance ts
 balance-differ ss ts h k e = let words : flat_map share_words ss ≡ flat_map share_words ts = cc in let same : ss ≡ ts = shares-differ ss ts h k words in rw same refl
 
@@ -210,6 +222,8 @@ events-differ (Balance ss) (Balance ts) h i same e = balance-differ ss ts h i e
 events-differ (Start t j m v) (Start u k n w) h i same e = start-differ t u j k m n v w h.2 i.2 h.3 i.3 e
 events-differ (Finish t j m v o) (Finish u k n w p) h i same e = finish-differ t u j k m n v w o p h.2 i.2 h.3 i.3 e
 events-differ (Exchange t j) (Exchange u k) h i same e = exchange-differ t u j k e
+events-differ (Leave t j) (Leave u k) h i same e = leave-differ t u j k e
+events-differ (Arrive t j) (Arrive u k) h i same e = arrive-differ t u j k e
 events-differ x y h i same e = absurd (omega (arith, same))
 
 all-differ : (es fs : List Event) → AllByRecursion IsWritable es → AllByRecursion IsWritable fs → map event_words es ≡ map event_words fs → es ≡ fs
@@ -272,6 +286,8 @@ index-of (Balance ss ∷ es) = 9
 index-of (Start t j i w ∷ es) = i
 index-of (Finish t j i w o ∷ es) = i
 index-of (Exchange t j ∷ es) = 9
+index-of (Leave t j ∷ es) = 9
+index-of (Arrive t j ∷ es) = 9
 
 other-index : index-of (one_start 2 1 Ran) ≡ index-of (one_start 1 2 Ran) → ⊥
 unfolding index-of
@@ -285,4 +301,5 @@ other-texts = record {
   less = λ e. let same : one_start 0 1 Ran ≡ [] = (histories-differ 2 2 (one_start 0 1 Ran) [] (omega arith) (omega arith) (start-writable 0 1 Ran (omega arith) (omega arith)) tt e).events in absurd (cc);
   profile = λ e. other-profile (ap profile-of (histories-differ 2 2 (one_open 1) (one_open 2) (omega arith) (omega arith) (open-writable 1 (omega arith)) (open-writable 2 (omega arith)) e).events);
   priority = λ e. other-priority (ap priority-of (histories-differ 2 2 (one_reask 1) (one_reask 2) (omega arith) (omega arith) (reask-writable 1 (omega arith)) (reask-writable 2 (omega arith)) e).events);
+  move = λ e. let same : one_leave ≡ one_arrival = (histories-differ 2 2 one_leave one_arrival (omega arith) (omega arith) (word-clean, tt) (word-clean, tt) e).events in absurd (cc);
 }

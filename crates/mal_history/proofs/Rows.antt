@@ -5,7 +5,7 @@ use Rattle.std.specs.List.{AllByRecursion}
 use Rattle.std.proofs.lemmas.Bool.{lt-ltb, ltb-true}
 use Rattle.spec_dimacs.specs.Reading.{◌>>=◌}
 use Rattle.mal_history.specs.declared.event.Event.{Event}
-use Rattle.mal_history.specs.declared.event.Event.TheVariants.{Open, Revise, Reask, Close, Balance, Start, Finish, Exchange}
+use Rattle.mal_history.specs.declared.event.Event.TheVariants.{Open, Revise, Reask, Close, Balance, Start, Finish, Exchange, Leave, Arrive}
 use Rattle.mal_history.specs.declared.event.Share.{Share}
 use Rattle.mal_history.specs.declared.line.Header.{Header}
 use Rattle.mal_history.specs.Reading.{Read, Fault, header_of, event_of, next_event, on_line, with_event, events_from, history_from, most_events}
@@ -164,6 +164,8 @@ event-formed version workers words (Balance volumes) h = shares-formed h.behind 
 event-formed version workers words (Start tenant job index worker) h = (h.names, record { index_bound = h.says_index.2; some_worker = h.says_worker.1; worker_bound = h.says_worker.2 })
 event-formed version workers words (Finish tenant job index worker outcome) h = (h.names, record { index_bound = h.says_index.2; some_worker = h.says_worker.1; worker_bound = h.says_worker.2 })
 event-formed version workers words (Exchange tenant job) h = h.1
+event-formed version workers words (Leave tenant job) h = absurd h
+event-formed version workers words (Arrive tenant job) h = absurd h
 
 all-formed : (version workers : ℕ) (rows : List Row) (events : List Event) → AllSpell version workers rows events → AllByRecursion (IsEvent workers) events × (length (map (λ row. row.line) rows) ≡ length events)
 all-formed version workers [] events h = subst (λ (es : List Event). AllByRecursion (IsEvent workers) es × (0 ≡ length es)) (sym h) (tt, refl)

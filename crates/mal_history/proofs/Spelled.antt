@@ -9,7 +9,7 @@ use Rattle.mal_base.specs.Names.{is_name}
 use Rattle.mal_base.specs.declared.verdict.Outcome.{Outcome}
 use Rattle.spec_dimacs.specs.Reading.{◌>>=◌}
 use Rattle.mal_history.specs.declared.event.Event.{Event}
-use Rattle.mal_history.specs.declared.event.Event.TheVariants.{Open, Revise, Reask, Close, Balance, Start, Finish, Exchange}
+use Rattle.mal_history.specs.declared.event.Event.TheVariants.{Open, Revise, Reask, Close, Balance, Start, Finish, Exchange, Leave, Arrive}
 use Rattle.mal_history.specs.declared.event.Share.{Share}
 use Rattle.mal_history.specs.Text.{outcome_word}
 use Rattle.mal_history.specs.Reading.{Fault, in_range, ask_of, weight_of, profile_of, outcome_of, opened, revised, reasked, closed, started, finished, exchanged, event_of_job, named_event, are_shares, shares_of, balanced, event_of}
@@ -51,6 +51,8 @@ spelled-read version workers words (Finish tenant job index worker outcome) h =
     ∙ ap (λ (r : Result Outcome Fault). r >>= λ o. in_range 0 63 h.at >>= λ i. in_range 1 workers h.by >>= λ w. Ok (Finish tenant job i w o)) (outcome-read outcome)
     ∙ seated index worker workers h.at h.by (λ i w. Finish tenant job i w outcome) (says-read 0 63 h.at index h.says_index) (says-read 1 workers h.by worker h.says_worker)
 spelled-read version workers words (Exchange tenant job) h = ap (event_of version workers) h.0 ∙ named version workers (codes "x") tenant job [] h.1
+spelled-read version workers words (Leave tenant job) h = absurd h
+spelled-read version workers words (Arrive tenant job) h = absurd h
 
 -- what is read of the words of a kind is spelled by them
 open-spelled : (version workers : ℕ) (tenant job : List ℕ) (words : List (List ℕ)) (e : Event) → AreNames tenant job → opened tenant job words ≡ Ok e → SpellsEvent version workers (codes "o" ∷ tenant ∷ job ∷ words) e

@@ -5,7 +5,7 @@ use Rattle.mal_base.specs.declared.verdict.Outcome.{Outcome}
 use Rattle.mal_base.specs.declared.verdict.Outcome.TheVariants.{Ran, Lost}
 use Rattle.spec_text.specs.Lines.{IsClean}
 use Rattle.mal_history.specs.declared.event.Event.{Event}
-use Rattle.mal_history.specs.declared.event.Event.TheVariants.{Open, Revise, Reask, Close, Balance, Start, Finish, Exchange}
+use Rattle.mal_history.specs.declared.event.Event.TheVariants.{Open, Revise, Reask, Close, Balance, Start, Finish, Exchange, Leave, Arrive}
 use Rattle.mal_history.specs.declared.event.Share.{Share}
 use Rattle.mal_history.specs.Text.{history_text}
 
@@ -29,6 +29,8 @@ IsWritable (Balance volumes) = AllByRecursion IsShare volumes
 IsWritable (Start tenant job index worker) = IsClean tenant × IsClean job × IsNumber index × IsNumber worker
 IsWritable (Finish tenant job index worker outcome) = IsClean tenant × IsClean job × IsNumber index × IsNumber worker
 IsWritable (Exchange tenant job) = IsClean tenant × IsClean job
+IsWritable (Leave tenant job) = IsClean tenant × IsClean job
+IsWritable (Arrive tenant job) = IsClean tenant × IsClean job
 
 -- two histories are the same: they have as many workers, and the same events in the same order
 pub record AreSame (workers others : ℕ) (one other : List Event) : Type 0 where
@@ -53,8 +55,15 @@ one_open profile = Open (codes "a") (codes "p") (record { priority = 1; demand =
 abbrev pub one_reask : ℕ → List Event
 one_reask priority = Reask (codes "a") (codes "p") (record { priority = priority; demand = 1 }) ∷ []
 
+-- a leave of a job, and its arrival
+abbrev pub one_leave : List Event
+one_leave = Leave (codes "a") (codes "p") ∷ []
+
+abbrev pub one_arrival : List Event
+one_arrival = Arrive (codes "a") (codes "p") ∷ []
+
 -- worked examples: another outcome, another number of workers, the node's index and the worker exchanged, an event
--- less, another profile, and another priority of a job that runs are other texts
+-- less, another profile, another priority of a job that runs, and an arrival in place of a leave are other texts
 pub record HaveOtherTexts : Type 0 where
   pub outcome : history_text 2 (one_start 0 1 Ran) ≢ history_text 2 (one_start 0 1 Lost)
   pub workers : history_text 2 (one_start 0 1 Ran) ≢ history_text 3 (one_start 0 1 Ran)
@@ -62,3 +71,4 @@ pub record HaveOtherTexts : Type 0 where
   pub less : history_text 2 (one_start 0 1 Ran) ≢ history_text 2 []
   pub profile : history_text 2 (one_open 1) ≢ history_text 2 (one_open 2)
   pub priority : history_text 2 (one_reask 1) ≢ history_text 2 (one_reask 2)
+  pub move : history_text 2 one_leave ≢ history_text 2 one_arrival

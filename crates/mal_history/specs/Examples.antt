@@ -3,7 +3,7 @@ use Rattle.std.specs.Prelude.{◌≡◌, ℕ, List, [], ◌∷◌, codes, Ok, Er
 use Rattle.mal_base.specs.declared.verdict.Outcome.TheVariants.{Ran, Starved}
 use Rattle.spec_dimacs.specs.Rows.{rows_of}
 use Rattle.mal_history.specs.declared.event.Event.{Event}
-use Rattle.mal_history.specs.declared.event.Event.TheVariants.{Open, Revise, Reask, Close, Balance, Start, Finish, Exchange}
+use Rattle.mal_history.specs.declared.event.Event.TheVariants.{Open, Revise, Reask, Close, Balance, Start, Finish, Exchange, Leave, Arrive}
 use Rattle.mal_history.specs.Text.{history_text}
 use Rattle.mal_history.specs.Reading.{history_from, read_text}
 use Rattle.mal_history.specs.Reading.Fault.{BadLine, BadNumber, TooLong}
@@ -41,6 +41,19 @@ second_events =
 abbrev pub second_text : List ℕ
 second_text = codes "h mal 2 1\no a p 1 1 4\nr a p 1\nq a p 5 2\nc a p\nb a p 1\ns a p 0 1\nf a p 0 1 ran\n"
 
+-- the job arrives in another hall, where it leaves after a slice: in version 3
+abbrev pub third_events : List Event
+third_events =
+    Arrive (codes "a") (codes "p")
+    ∷ Balance (record { tenant = codes "a"; job = codes "p"; volume = 1 } ∷ [])
+    ∷ Start (codes "a") (codes "p") 0 1
+    ∷ Finish (codes "a") (codes "p") 0 1 Ran
+    ∷ Leave (codes "a") (codes "p")
+    ∷ []
+
+abbrev pub third_text : List ℕ
+third_text = codes "h mal 3 1\nn a p\nb a p 1\ns a p 0 1\nf a p 0 1 ran\ng a p\n"
+
 -- texts that spell histories
 pub record HaveHistories : Type 0 where
   pub first : read_text first_text ≡ Ok (record { workers = 1; events = first_events; lines = 2 ∷ 3 ∷ 4 ∷ 5 ∷ 6 ∷ 7 ∷ [] })
@@ -52,11 +65,13 @@ pub record HaveHistories : Type 0 where
   pub empty_lines : read_text (codes "\n \t\nh mal 1 002\r\n\n\nb\r\n x  a\tp") ≡ Ok (record { workers = 2; events = Balance [] ∷ Exchange (codes "a") (codes "p") ∷ []; lines = 6 ∷ 7 ∷ [] })
   pub last_worker : read_text (codes "h mal 1 3\nf a p 63 3 starved") ≡ Ok (record { workers = 3; events = Finish (codes "a") (codes "p") 63 3 Starved ∷ []; lines = 2 ∷ [] })
 
--- histories and their texts: one without a change of a weight is written in version 1
+-- histories and their texts: one without a move is written in version 2 where a weight changes, and else in version 1
 pub record HaveTexts : Type 0 where
   pub first : history_text 1 first_events ≡ first_text
   pub second : history_text 1 second_events ≡ second_text
   pub version_2_again : history_text 1 (Exchange (codes "a") (codes "p") ∷ []) ≡ codes "h mal 1 1\nx a p\n"
+  pub third : history_text 1 third_events ≡ third_text
+  pub left_after_reask : history_text 1 (Reask (codes "a") (codes "p") (record { priority = 5; demand = 2 }) ∷ Leave (codes "a") (codes "p") ∷ []) ≡ codes "h mal 3 1\nq a p 5 2\ng a p\n"
 
 -- texts with their first fault
 pub record HaveFaults : Type 0 where
@@ -66,6 +81,9 @@ pub record HaveFaults : Type 0 where
   pub workers_above : read_text (codes "h mal 1 65") ≡ Err (1, BadNumber)
   pub other_version : read_text (codes "h mal 9 1") ≡ Err (1, BadLine)
   pub version_above : read_text (codes "h mal 3 1") ≡ Err (1, BadLine)
+  pub third_is_not_read : read_text third_text ≡ Err (1, BadLine)
+  pub arrival_in_version_1 : read_text (codes "h mal 1 1\nn a p\n") ≡ Err (2, BadLine)
+  pub leave_in_version_2 : read_text (codes "h mal 2 1\nx a p\ng a p\n") ≡ Err (3, BadLine)
   pub version_is_literal : read_text (codes "h mal 01 1") ≡ Err (1, BadLine)
   pub version_before_workers : read_text (codes "h mal 3 0") ≡ Err (1, BadLine)
   pub no_worker_of_version_2 : read_text (codes "h mal 2 0") ≡ Err (1, BadNumber)

@@ -3,7 +3,7 @@ use Rattle.std.specs.Prelude.{ℕ, suc, ◌≤◌, List, [], ◌∷◌, length}
 use Rattle.std.specs.List.{AllByRecursion}
 use Rattle.mal_base.specs.Asks.{IsAsk, IsWeight}
 use Rattle.mal_history.specs.declared.event.Event.{Event}
-use Rattle.mal_history.specs.declared.event.Event.TheVariants.{Open, Revise, Reask, Close, Balance, Start, Finish, Exchange}
+use Rattle.mal_history.specs.declared.event.Event.TheVariants.{Open, Revise, Reask, Close, Balance, Start, Finish, Exchange, Leave, Arrive}
 use Rattle.mal_history.specs.declared.event.Share.{Share}
 use Rattle.mal_history.specs.Grammar.{AreNames}
 use Rattle.mal_history.specs.Reading.{Read, most_events}
@@ -19,7 +19,8 @@ pub record IsSeat (workers index worker : ℕ) : Type 0 where
   pub some_worker : 1 ≤ worker
   pub worker_bound : worker ≤ workers
 
--- an event in form, in a history of so many workers: names are names, and numbers are in their ranges
+-- an event in form, in a history of so many workers: names are names, and numbers are in their ranges; no move is in
+-- form, since what a job brings is not in a text
 abbrev pub IsEvent : ℕ → Event → Type 0
 IsEvent workers (Open tenant job ask) = AreNames tenant job × IsAsk ask
 IsEvent workers (Revise tenant job number) = AreNames tenant job × (1 ≤ number) × (number ≤ 256)
@@ -29,6 +30,8 @@ IsEvent workers (Balance volumes) = AllByRecursion IsVolume volumes
 IsEvent workers (Start tenant job index worker) = AreNames tenant job × IsSeat workers index worker
 IsEvent workers (Finish tenant job index worker outcome) = AreNames tenant job × IsSeat workers index worker
 IsEvent workers (Exchange tenant job) = AreNames tenant job
+IsEvent workers (Leave tenant job) = ⊥
+IsEvent workers (Arrive tenant job) = ⊥
 
 -- a history in form: 1 to 64 workers, and at most 2^24 events, each in form
 pub record IsHistory (workers : ℕ) (events : List Event) : Type 0 where

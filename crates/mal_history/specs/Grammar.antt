@@ -7,7 +7,7 @@ use Rattle.spec_text.specs.Numbers.{number_in}
 use Rattle.spec_text.specs.Numbers.NumberWord.{Number}
 use Rattle.spec_dimacs.specs.Rows.{rows_of}
 use Rattle.mal_history.specs.declared.event.Event.{Event}
-use Rattle.mal_history.specs.declared.event.Event.TheVariants.{Open, Revise, Reask, Close, Balance, Start, Finish, Exchange}
+use Rattle.mal_history.specs.declared.event.Event.TheVariants.{Open, Revise, Reask, Close, Balance, Start, Finish, Exchange, Leave, Arrive}
 use Rattle.mal_history.specs.declared.event.Share.{Share}
 use Rattle.mal_history.specs.Text.{outcome_word}
 use Rattle.mal_history.specs.Reading.{Read, most_events}
@@ -92,7 +92,7 @@ pub record SpellsFinish (workers : ℕ) (words : List (List ℕ)) (tenant job : 
   pub says_worker : Says 1 workers by worker
 
 -- the words of a line spell an event, in this version of the format, of a history of so many workers; those of a closing
--- are `c` and the names, those of an exchange `x` and the names
+-- are `c` and the names, those of an exchange `x` and the names; no line spells a move
 abbrev pub SpellsEvent : ℕ → ℕ → List (List ℕ) → Event → Type 0
 SpellsEvent version workers words (Open tenant job ask) = SpellsOpen words tenant job ask
 SpellsEvent version workers words (Revise tenant job number) = SpellsRevise words tenant job number
@@ -102,6 +102,8 @@ SpellsEvent version workers words (Balance volumes) = SpellsBalance words volume
 SpellsEvent version workers words (Start tenant job index worker) = SpellsStart workers words tenant job index worker
 SpellsEvent version workers words (Finish tenant job index worker outcome) = SpellsFinish workers words tenant job index worker outcome
 SpellsEvent version workers words (Exchange tenant job) = (words ≡ codes "x" ∷ tenant ∷ job ∷ []) × AreNames tenant job
+SpellsEvent version workers words (Leave tenant job) = ⊥
+SpellsEvent version workers words (Arrive tenant job) = ⊥
 
 -- a word says a version of the format, each in one spelling
 abbrev pub SaysVersion : List ℕ → ℕ → Type 0

@@ -2,7 +2,7 @@
 use Rattle.std.specs.Prelude.{ℕ, Bool, ◌&&◌, true, false, ◌==◌, bytes_eq, List, [], ◌∷◌, ◌++◌, fold, find, if◌then◌else◌}
 use Rattle.std.specs.Option.{option_map_or}
 use Rattle.mal_history.specs.declared.event.Event.{Event}
-use Rattle.mal_history.specs.declared.event.Event.TheVariants.{Open, Revise, Reask, Close, Balance, Start, Finish, Exchange}
+use Rattle.mal_history.specs.declared.event.Event.TheVariants.{Open, Revise, Reask, Close, Balance, Start, Finish, Exchange, Leave, Arrive}
 use Rattle.mal_history.specs.declared.event.Share.{Share}
 
 -- a job of a tenant is the one of these names
@@ -31,6 +31,16 @@ abbrev pub tells_volume : List ℕ → List ℕ → ℕ → OwnSoFar → OwnSoFa
 tells_volume tenant job volume told =
     if volume == told.volume then told else told_of (told.own ++ Balance (record { tenant = tenant; job = job; volume = volume } ∷ []) ∷ []) volume
 
+-- at a leave the job's volume is 0
+abbrev pub tells_leave : List ℕ → List ℕ → Bool → OwnSoFar → OwnSoFar
+tells_leave tenant job true told = tells_volume tenant job 0 told
+tells_leave tenant job false told = told
+
+-- an arrival stands for what it brought, behind which the volume is 0, and for nothing else
+abbrev pub tells_arrival : List ℕ → List ℕ → Bool → OwnSoFar → OwnSoFar
+tells_arrival tenant job true told = told_of (Arrive tenant job ∷ []) 0
+tells_arrival tenant job false told = told
+
 -- after one more event; a start and a finish are told without their worker, as of worker 1
 abbrev pub own_step : List ℕ → List ℕ → OwnSoFar → Event → OwnSoFar
 own_step tenant job told (Open t j ask) = tells (is_of tenant job t j) (Open tenant job ask) told
@@ -41,6 +51,8 @@ own_step tenant job told (Balance volumes) = tells_volume tenant job (volume_in 
 own_step tenant job told (Start t j index worker) = tells (is_of tenant job t j) (Start tenant job index 1) told
 own_step tenant job told (Finish t j index worker outcome) = tells (is_of tenant job t j) (Finish tenant job index 1 outcome) told
 own_step tenant job told (Exchange t j) = tells (is_of tenant job t j) (Exchange tenant job) told
+own_step tenant job told (Leave t j) = tells_leave tenant job (is_of tenant job t j) told
+own_step tenant job told (Arrive t j) = tells_arrival tenant job (is_of tenant job t j) told
 
 -- the own events of a job in a history, whose volume is 0 at first
 abbrev pub own : List ℕ → List ℕ → List Event → List Event

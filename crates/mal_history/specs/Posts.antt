@@ -16,6 +16,8 @@ post_of (of.Balance volumes) = None
 post_of (of.Start tenant job index worker) = None
 post_of (of.Finish tenant job index worker outcome) = None
 post_of (of.Exchange tenant job) = None
+post_of (of.Leave tenant job) = None
+post_of (of.Arrive tenant job) = None
 
 -- the event of what is posted of a job
 abbrev pub event_about : List ℕ → List ℕ → PostKind → Event

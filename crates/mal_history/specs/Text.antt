@@ -3,7 +3,7 @@ use Rattle.std.specs.List.{list_any}
 use Rattle.mal_base.specs.declared.verdict.Outcome.{Outcome}
 use Rattle.mal_base.specs.declared.verdict.Outcome.TheVariants.{Ran, Starved, Lost}
 use Rattle.mal_history.specs.declared.event.Event.{Event}
-use Rattle.mal_history.specs.declared.event.Event.TheVariants.{Open, Revise, Reask, Close, Balance, Start, Finish, Exchange}
+use Rattle.mal_history.specs.declared.event.Event.TheVariants.{Open, Revise, Reask, Close, Balance, Start, Finish, Exchange, Leave, Arrive}
 use Rattle.mal_history.specs.declared.event.Assignment.{Assignment}
 use Rattle.mal_history.specs.declared.event.Share.{Share}
 use Rattle.spec_text.specs.Asks.{ask_words}
@@ -34,15 +34,26 @@ event_words (Balance volumes) = codes "b" ∷ flat_map share_words volumes
 event_words (Start tenant job index worker) = codes "s" ∷ tenant ∷ job ∷ decimal_word index ∷ decimal_word worker ∷ []
 event_words (Finish tenant job index worker outcome) = codes "f" ∷ tenant ∷ job ∷ decimal_word index ∷ decimal_word worker ∷ outcome_word outcome ∷ []
 event_words (Exchange tenant job) = codes "x" ∷ tenant ∷ job ∷ []
+event_words (Leave tenant job) = codes "g" ∷ tenant ∷ job ∷ []
+event_words (Arrive tenant job) = codes "n" ∷ tenant ∷ job ∷ []
 
--- an event that only version 2 of the format has
+-- an event that version 1 of the format does not have
 abbrev pub is_of_version_2 : Event → Bool
 is_of_version_2 (Reask tenant job weight) = true
 is_of_version_2 event = false
 
+-- an event that only version 3 of the format has: a job moves between halls
+abbrev pub is_of_version_3 : Event → Bool
+is_of_version_3 (Leave tenant job) = true
+is_of_version_3 (Arrive tenant job) = true
+is_of_version_3 event = false
+
 -- the version of the format in which events are told, which is known before the first byte
 abbrev pub version_of : List Event → ℕ
-version_of events = if list_any is_of_version_2 events then 2 else 1
+version_of events =
+    if list_any is_of_version_3 events then 3 else
+    if list_any is_of_version_2 events then 2 else
+    1
 
 -- the words of the first line: the version and the number of workers
 abbrev pub header_words : ℕ → ℕ → List (List ℕ)

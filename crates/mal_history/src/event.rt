@@ -155,4 +155,14 @@ pub enum Event {
         tenant: Name,
         job: Name,
     },
+    /// A job left this hall.
+    Leave {
+        tenant: Name,
+        job: Name,
+    },
+    /// A job arrived here with all that it did.
+    Arrive {
+        tenant: Name,
+        job: Name,
+    },
 }

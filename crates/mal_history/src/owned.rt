@@ -1,7 +1,7 @@
 //! The own events of a job.
 
-ghost use Rattle.std.specs.Prelude.{◌≡◌, ℕ, IfOk, OnOk};
-ghost use Rattle.mal_history.specs.{Own.{is_of, own, own_step, told_of, tells, tells_volume, volume_in}, Shared.{shared}};
+ghost use Rattle.std.specs.Prelude.{◌≡◌, ℕ, [], ◌∷◌, IfOk, OnOk};
+ghost use Rattle.mal_history.specs.{Own.{is_of, own, own_step, told_of, tells, tells_volume, volume_in}, Shared.{shared}, declared.event.Event.TheVariants.{Arrive}};
 
 use crate::event::{Event, Share, Shares};
 use crate::history::History;
@@ -11,7 +11,8 @@ use std::sync::Arc;
 
 /// What a history tells of one job: its events without those of other jobs, each start and finish as of worker 1, and
 /// of each balancing the job's volume (0 where it is not listed), only where it differs from the one before, which is 0
-/// at first.
+/// at first. A leave of the job tells volume 0, an arrival takes the place of all before it, since it stands for what it
+/// brought.
 pub fn own(
     alloc: Global,
     history: &History,
@@ -126,8 +127,27 @@ fn tell(
             is_of(tenant, job, *t, *j),
             Event::Exchange { tenant, job },
         )?,
+        Event::Leave { tenant: t, job: j } => {
+            if is_of(tenant, job, *t, *j) {
+                return tell_volume(alloc, own, volume, tenant, job, 0);
+            }
+        }
+        Event::Arrive { tenant: t, job: j } => {
+            if is_of(tenant, job, *t, *j) {
+                return tell_arrival(own, tenant, job);
+            }
+        }
     }
     Ok(volume)
+}
+
+/// Puts an arrival in the place of all that is told of the job so far. Answers the job's volume behind it.
+fn tell_arrival(own: &mut Vec<Event>, tenant: Name, job: Name) -> Result<u32, AllocError>
+    ensures { IfOk result (λ v. told_of own.new.items v ≡ told_of (Arrive tenant job ∷ []) 0) }
+{
+    own.clear();
+    own.push(Event::Arrive { tenant, job })?;
+    Ok(0)
 }
 
 /// Puts an event behind those told so far, where it is one of the job.

@@ -5,7 +5,7 @@ ghost use Rattle.std.specs.List.{list_any};
 ghost use Rattle.std.specs.Io.KnownBytes.{Appends};
 ghost use Rattle.spec_text.specs.Lines.{line_of};
 ghost use Rattle.mal_io.specs.Moves.{Rose, GotPrefix};
-ghost use Rattle.mal_history.specs.{Shared.{shared}, Text.{outcome_word, assignment_words, share_words, event_words, is_of_version_2, version_of, header_words, history_text}, declared.event.Event.TheVariants.{Open, Revise, Reask}};
+ghost use Rattle.mal_history.specs.{Shared.{shared}, Text.{outcome_word, assignment_words, share_words, event_words, is_of_version_2, is_of_version_3, version_of, header_words, history_text}, declared.event.Event.TheVariants.{Open, Revise, Reask}};
 
 use crate::event::{Assignment, Event, Share};
 use crate::history::History;
@@ -63,17 +63,37 @@ fn put_history<T: Taker>(out: &mut T, history: &History) -> Result<(), T::Fault>
 fn version_of(events: &[Event]) -> u32
     ensures { result ≡ version_of events.now }
 {
-    if are_of_version_2(events) { 2 } else { 1 }
+    if are_of_version_3(events) {
+        3
+    } else if are_of_version_2(events) {
+        2
+    } else {
+        1
+    }
 }
 
-/// Whether only version 2 of the format has one of the events.
+/// Whether only version 3 of the format has one of the events.
+fn are_of_version_3(events: &[Event]) -> bool
+    ensures { result ≡ list_any is_of_version_3 events.now }
+{
+    events.iter().any(|e| is_of_version_3(e))
+}
+
+/// Whether only version 3 of the format has an event: a job moves between halls.
+fn is_of_version_3(event: &Event) -> bool
+    ensures { result ≡ is_of_version_3 event.now }
+{
+    matches!(event, Event::Leave { .. } | Event::Arrive { .. })
+}
+
+/// Whether version 1 of the format does not have one of the events.
 fn are_of_version_2(events: &[Event]) -> bool
     ensures { result ≡ list_any is_of_version_2 events.now }
 {
     events.iter().any(|e| is_of_version_2(e))
 }
 
-/// Whether only version 2 of the format has an event.
+/// Whether version 1 of the format does not have an event.
 fn is_of_version_2(event: &Event) -> bool
     ensures { result ≡ is_of_version_2 event.now }
 {
@@ -144,6 +164,8 @@ fn put_event<T: Taker>(out: &mut T, event: &Event) -> Result<(), T::Fault>
         Event::Exchange { tenant, job } => {
             put_line(out, b"x", &[tenant.as_bytes(), job.as_bytes()])
         }
+        Event::Leave { tenant, job } => put_line(out, b"g", &[tenant.as_bytes(), job.as_bytes()]),
+        Event::Arrive { tenant, job } => put_line(out, b"n", &[tenant.as_bytes(), job.as_bytes()]),
     }
 }
 

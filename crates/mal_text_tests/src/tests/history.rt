@@ -31,11 +31,17 @@ fn own_events(alloc: Global, history: &History) -> Option<Vec<Event>> {
     own(alloc, history, &tenant, &job).ok()
 }
 
+/// Enters an event.
+fn enter(history: &mut History, event: Event) -> Option<()> {
+    history.reserve(1).ok()?;
+    history.push_reserved(event);
+    Some(())
+}
+
 /// Enters events.
 fn enter_all(history: &mut History, events: Vec<Event>) -> Option<()> {
     for event in events {
-        history.reserve(1).ok()?;
-        history.push_reserved(event);
+        enter(history, event)?;
     }
     Some(())
 }
@@ -76,4 +82,37 @@ fn own_events_are_those_of_the_job(rt: HostRuntime) {
         b"h mal 1 3\no a p 1 1 4\no b p 1 1 4\nb a p 1 b p 1\ns b p 0 3\ns a p 0 2\nb a p 1\nf a p 0 2 ran\nb b p 1\n";
     let known = b"h mal 1 3\no a p 1 1 4\nb a p 1\ns a p 0 1\nf a p 0 1 ran\nb a p 0\n";
     assert!(rt; is_own(rt.alloc(), text, known) == Some(true));
+}
+
+/// Enters a leave of the job q of the tenant a, then one of the job p, and, where it comes back, its arrival.
+fn enter_moves(history: &mut History, alloc: Global, is_back: bool) -> Option<()> {
+    let tenant = name(alloc, b"a")?;
+    let job = name(alloc, b"p")?;
+    let other = name(alloc, b"q")?;
+    enter(history, Event::Leave { tenant, job: other })?;
+    enter(history, Event::Leave { tenant, job })?;
+    if is_back {
+        enter(history, Event::Arrive { tenant, job })?;
+    }
+    Some(())
+}
+
+/// Whether the events of the job in the history of a text, behind which it moves so, are written so.
+fn is_moved(alloc: Global, text: &[u8], is_back: bool, known: &[u8]) -> Option<bool> {
+    let mut history = read(alloc, text).ok()?;
+    enter_moves(&mut history, alloc, is_back)?;
+    are_own(alloc, &history, known)
+}
+
+#[test]
+fn a_leave_tells_volume_0(rt: HostRuntime) {
+    let text = b"h mal 1 3\no a p 1 1 4\nb a p 1\n";
+    let known = b"h mal 1 3\no a p 1 1 4\nb a p 1\nb a p 0\n";
+    assert!(rt; is_moved(rt.alloc(), text, false, known) == Some(true));
+}
+
+#[test]
+fn an_arrival_stands_for_what_it_brought(rt: HostRuntime) {
+    let text = b"h mal 1 3\no a p 1 1 4\nb a p 1\n";
+    assert!(rt; is_moved(rt.alloc(), text, true, b"h mal 3 3\nn a p\n") == Some(true));
 }

@@ -2,7 +2,7 @@
 
 use super::values::name;
 use mal_base::{Name, Outcome};
-use mal_history::{Event, History, Shares, write};
+use mal_history::{Event, History, HistoryFault, Shares, read, write};
 use std::alloc::Global;
 
 /// Enters an event.
@@ -55,4 +55,35 @@ fn other_outcomes_are_written(rt: HostRuntime) {
     let known = b"h mal 1 64\nb\nf a p 3 2 starved\nf a p 4 5 lost\nx a p\n";
     let mut history = History::new(rt.alloc(), 64);
     assert!(rt; entered(&mut history, rt.alloc(), known) == Some((5, true)));
+}
+
+/// Enters an arrival of the job p of the tenant a, and its leave.
+fn enter_moves(history: &mut History, alloc: Global) -> Option<()> {
+    let tenant = name(alloc, b"a")?;
+    let job = name(alloc, b"p")?;
+    enter(history, Event::Arrive { tenant, job })?;
+    enter(history, Event::Leave { tenant, job })
+}
+
+/// Whether reading a text ends with a bad first line.
+fn is_refused(alloc: Global, text: &[u8]) -> bool {
+    match read(alloc, text) {
+        Ok(_) => false,
+        Err(fault) => fault == HistoryFault::BadLine { line: 1 },
+    }
+}
+
+/// Whether this is the text of a history with those moves, and whether it is refused when it is read.
+fn moved(history: &mut History, alloc: Global, known: &[u8]) -> Option<[bool; 2]> {
+    enter_moves(history, alloc)?;
+    let text = write(alloc, history).ok()?;
+    Some([text.as_slice() == known, is_refused(alloc, text.as_slice())])
+}
+
+#[test]
+fn moves_are_written_in_version_3_and_not_read(rt: HostRuntime) {
+    let mut history = History::new(rt.alloc(), 2);
+    assert!(rt;
+        moved(&mut history, rt.alloc(), b"h mal 3 2\nn a p\ng a p\n") == Some([true, true])
+    );
 }
