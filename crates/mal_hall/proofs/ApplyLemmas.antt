@@ -32,6 +32,7 @@ use Rattle.mal_base.specs.declared.hall_fault.ReviseFault.{ReviseFault}
 use Rattle.mal_base.specs.declared.hall_fault.ReaskFault.{ReaskFault}
 use Rattle.spec_hall.proofs.DecidedCallLemmas.{call-is_decided}
 use Rattle.spec_hall.proofs.DrivenLemmas.{balances-decided, nodes-decided}
+use Rattle.mal_hall.proofs.HallLemmas.{spot-tag}
 use Rattle.mal_hall.proofs.InsideLemmas.{Stands, inside-finish, inside-start}
 use Rattle.spec_hall.proofs.KeyLemmas.{is_key-Decides}
 use Rattle.spec_hall.proofs.LeasesLemmas.{lease-worker}
@@ -119,7 +120,7 @@ exchange-entered w past now at k first named has =
     record { allowed = subst (λ (j : Key). Allowed w past (Exchange j)) same has.allowed; grown = has.grown ∙ ap (λ (j : Key). past ++ Exchange j ∷ []) same }
 
 -- one that may be
-pub start-may : (w v : ℕ) (past : List Event) (k : Key) (index worker : ℕ) (b : Bool) (o : Option Candidate) (c : Candidate) → v ≡ w → 1 ≤ worker → worker ≤ v → b ≡ is_some (lease_of worker (leases past)) → b ≡ false → lives (states past) ≡ balanced past → exchange_due (states past) ≡ None → o ≡ picked (states past) → o ≡ Some c → c.index ≡ index → slice_get (keys_of past) c.job ≡ Some k → StartsAt w past k index worker c.job
+pub start-may : (w v : ℕ) (past : List Event) (k : Key) (index worker : ℕ) (b : Bool) (o : Option Candidate) (c : Candidate) → v ≡ w → 1 ≤ worker → worker ≤ v → b ≡ is_some (lease_of worker (leases past)) → b ≡ false → Some (lives (states past)) ≡ balanced past → exchange_due (states past) ≡ None → o ≡ picked (states past) → o ≡ Some c → c.index ≡ index → slice_get (keys_of past) c.job ≡ Some k → StartsAt w past k index worker c.job
 start-may w v past k index worker b o c same low high busy free calm exchange scan is place named = record {
   place = named;
   allowed = (
@@ -263,7 +264,7 @@ held-other x worker index k spot hall is apart = no-test (λ e. other e)
 spot-key : (x : Inside) (worker : ℕ) (spot : Spot) → IsHall x → (is : IsAt x.entries.events (tags_of x.seats) worker spot) → slice_get (keys_of x.entries.events) spot.job ≡ Some is.tag.key
 spot-key x worker spot hall is =
     ap (λ (ks : List Key). slice_get ks spot.job) (seated-keys x.entries.events x.seats hall.seated.jobs ∙ tags-keys x.seats)
-    ∙ (slice_get-map (λ (t : Tag). t.key) (tags_of x.seats) spot.job ∙ ap (option_map (λ (t : Tag). t.key)) is.at)
+    ∙ (slice_get-map (λ (t : Tag). t.key) (tags_of x.seats) spot.job ∙ ap (option_map (λ (t : Tag). t.key)) (spot-tag x worker spot hall is))
   where
     tags-keys : (ss : List Seat) → seat_keys ss ≡ map (λ (t : Tag). t.key) (tags_of ss)
     tags-keys [] = refl

@@ -17,6 +17,8 @@ bare-full (of.Balance volumes) content = refl
 bare-full (of.Start tenant job index worker) content = refl
 bare-full (of.Finish tenant job index worker outcome) content = refl
 bare-full (of.Exchange tenant job) content = refl
+bare-full (of.Leave tenant job) content = refl
+bare-full (of.Arrive tenant job) content = refl
 
 bare-filled : (es : List written.Event) (contents : List (Option Posted)) → length contents ≡ length es → map bare (filled es contents) ≡ es
 bare-filled [] contents long = refl

@@ -1,20 +1,20 @@
-use Rattle.std.proofs.Common.{◌≡◌, ℕ, zero, suc, ◌+◌, ◌≤◌, Bool, true, false, not, ◌==◌, if◌then◌else◌, List, [], ◌∷◌, ◌++◌, map, slice_get, slice_set, Some, refl, sym, ◌∙◌, ap, arith}
+use Rattle.std.proofs.Common.{◌≡◌, ℕ, ◌+◌, ◌≤◌, Bool, true, false, not, ◌==◌, if◌then◌else◌, List, [], ◌∷◌, ◌++◌, slice_get, slice_set, Some, refl, sym, ◌∙◌, ap, arith}
 use Rattle.std.proofs.lemmas.Bool.Decides.{Decides-eqb}
 use Rattle.std.proofs.lemmas.List.{set-get_or}
 use Rattle.std.proofs.lemmas.List.Sums.{sum_by-cons, sum_by-append, sum_by-set}
 use Rattle.std.proofs.lemmas.Option.{slice_get_within, get_or_from_slice_get}
 use Rattle.mal_base.specs.Asks.{Terms}
 use Rattle.spec_balance.specs.Fair.{volume_at}
-use Rattle.spec_job.specs.KeyedJob.{Key, KeyedJob}
+use Rattle.spec_job.specs.KeyedJob.{Key}
 use Rattle.spec_hall.specs.Legal.{jobs_of, tenant_count}
 use Rattle.spec_hall.specs.Own.{is_text}
-use Rattle.spec_hall.specs.Seats.{Seat, jobs_in, is_live_seat, opened_seat, balanced_seat, balanced_from, balanced_by}
+use Rattle.spec_hall.specs.Seats.{Seat, is_live_seat, opened_seat, balanced_seat, balanced_from}
 use Rattle.spec_hall.proofs.KeyLemmas.{is_text-Decides}
 use Rattle.mal_hall.specs.HallView.{unclosed_in}
 
 -- what a job counts among those of a tenant
-abbrev pub of_tenant : List ℕ → KeyedJob → ℕ
-of_tenant tenant t = if is_text tenant t.key.tenant then 1 else 0
+abbrev pub of_tenant : List ℕ → Key → ℕ
+of_tenant tenant k = if is_text tenant k.tenant then 1 else 0
 
 -- what a tenant counts that has so many later jobs
 abbrev pub first_of : ℕ → ℕ
@@ -27,98 +27,54 @@ first_of-some n some = by_test (0 == n) refl
     by_test true e = let none = (Decides-eqb 0 n).0 e in absurd (omega arith)
     by_test false e = rw e refl
 
--- the keys of jobs
-abbrev pub keys : List KeyedJob → List Key
-keys jobs = map (λ t. t.key) jobs
-
--- the jobs of a tenant are counted by their keys
-jobs_of-keys : (tenant : List ℕ) (xs ys : List KeyedJob) → keys xs ≡ keys ys → jobs_of tenant xs ≡ jobs_of tenant ys
-jobs_of-keys tenant [] [] e = refl
-jobs_of-keys tenant [] (y ∷ ys) e = absurd (cc)
-jobs_of-keys tenant (x ∷ xs) [] e = absurd (cc)
-jobs_of-keys tenant (x ∷ xs) (y ∷ ys) e =
-    let head : x.key ≡ y.key = cc in
-    let tail : keys xs ≡ keys ys = cc in
-    let one : of_tenant tenant x ≡ of_tenant tenant y = ap (λ (k : Key). if is_text tenant k.tenant then 1 else 0) head in
-    omega (arith, sum_by-cons (of_tenant tenant) x xs, sum_by-cons (of_tenant tenant) y ys, jobs_of-keys tenant xs ys tail)
-
--- and so are the tenants
-pub tenants-keys : (xs ys : List KeyedJob) → keys xs ≡ keys ys → tenant_count xs ≡ tenant_count ys
-tenants-keys [] [] e = refl
-tenants-keys [] (y ∷ ys) e = absurd (cc)
-tenants-keys (x ∷ xs) (y ∷ ys) e =
-    let head : x.key ≡ y.key = cc in
-    let tail : keys xs ≡ keys ys = cc in
-    let one : first_of (jobs_of x.key.tenant xs) ≡ first_of (jobs_of y.key.tenant ys) = ap (λ (k : Key). first_of (jobs_of k.tenant xs)) head ∙ ap first_of (jobs_of-keys y.key.tenant xs ys tail) in
-    omega (arith, tenants-keys xs ys tail)
-tenants-keys (x ∷ xs) [] e = absurd (cc)
-
 -- a further job is one more of its tenant
-jobs_of-push : (tenant : List ℕ) (ts : List KeyedJob) (u : KeyedJob) → jobs_of tenant (ts ++ u ∷ []) ≡ jobs_of tenant ts + of_tenant tenant u
+jobs_of-push : (tenant : List ℕ) (ts : List Key) (u : Key) → jobs_of tenant (ts ++ u ∷ []) ≡ jobs_of tenant ts + of_tenant tenant u
 jobs_of-push tenant ts u = omega (arith, sum_by-append (of_tenant tenant) ts (u ∷ []), sum_by-cons (of_tenant tenant) u [])
 
--- a further job is of a further tenant where its tenant has no jobs
-pub tenants-push : (ts : List KeyedJob) (u : KeyedJob) → tenant_count (ts ++ u ∷ []) ≡ tenant_count ts + first_of (jobs_of u.key.tenant ts)
+-- it is of a further tenant where its tenant has no jobs
+pub tenants-push : (ts : List Key) (u : Key) → tenant_count (ts ++ u ∷ []) ≡ tenant_count ts + first_of (jobs_of u.tenant ts)
 tenants-push [] u = refl
-tenants-push (t ∷ ts) u = by_test (tenants-push ts u) (is_text t.key.tenant u.key.tenant) (is_text u.key.tenant t.key.tenant) refl refl
+tenants-push (t ∷ ts) u = by_test (tenants-push ts u) (is_text t.tenant u.tenant) (is_text u.tenant t.tenant) refl refl
   where
     a : ℕ
-    a = jobs_of t.key.tenant ts
+    a = jobs_of t.tenant ts
 
     b : ℕ
-    b = jobs_of u.key.tenant ts
+    b = jobs_of u.tenant ts
 
     p : ℕ
-    p = jobs_of t.key.tenant (ts ++ u ∷ [])
+    p = jobs_of t.tenant (ts ++ u ∷ [])
 
     q : ℕ
-    q = jobs_of u.key.tenant (t ∷ ts)
+    q = jobs_of u.tenant (t ∷ ts)
 
-    p_is : p ≡ a + of_tenant t.key.tenant u
-    p_is = jobs_of-push t.key.tenant ts u
+    p_is : p ≡ a + of_tenant t.tenant u
+    p_is = jobs_of-push t.tenant ts u
 
-    q_is : q ≡ of_tenant u.key.tenant t + b
-    q_is = sum_by-cons (of_tenant u.key.tenant) t ts
+    q_is : q ≡ of_tenant u.tenant t + b
+    q_is = sum_by-cons (of_tenant u.tenant) t ts
 
-    by_test : tenant_count (ts ++ u ∷ []) ≡ tenant_count ts + first_of b → (x y : Bool) → is_text t.key.tenant u.key.tenant ≡ x → is_text u.key.tenant t.key.tenant ≡ y → first_of p + tenant_count (ts ++ u ∷ []) ≡ first_of a + tenant_count ts + first_of q
+    by_test : tenant_count (ts ++ u ∷ []) ≡ tenant_count ts + first_of b → (x y : Bool) → is_text t.tenant u.tenant ≡ x → is_text u.tenant t.tenant ≡ y → first_of p + tenant_count (ts ++ u ∷ []) ≡ first_of a + tenant_count ts + first_of q
     by_test rest true true e f =
-        let same : t.key.tenant ≡ u.key.tenant = (is_text-Decides t.key.tenant u.key.tenant).0 e in
-        let at_p : of_tenant t.key.tenant u ≡ 1 = ap (λ (b : Bool). if b then 1 else 0) e in
-        let at_q : of_tenant u.key.tenant t ≡ 1 = ap (λ (b : Bool). if b then 1 else 0) f in
+        let same : t.tenant ≡ u.tenant = (is_text-Decides t.tenant u.tenant).0 e in
+        let at_p : of_tenant t.tenant u ≡ 1 = ap (λ (b : Bool). if b then 1 else 0) e in
+        let at_q : of_tenant u.tenant t ≡ 1 = ap (λ (b : Bool). if b then 1 else 0) f in
         let counts : first_of a ≡ first_of b = ap (λ (x : List ℕ). first_of (jobs_of x ts)) same in
         omega (arith, first_of-some p (omega (arith, p_is)), first_of-some q (omega (arith, q_is)), rest)
     by_test rest false false e f =
-        let at_p : of_tenant t.key.tenant u ≡ 0 = ap (λ (b : Bool). if b then 1 else 0) e in
-        let at_q : of_tenant u.key.tenant t ≡ 0 = ap (λ (b : Bool). if b then 1 else 0) f in
+        let at_p : of_tenant t.tenant u ≡ 0 = ap (λ (b : Bool). if b then 1 else 0) e in
+        let at_q : of_tenant u.tenant t ≡ 0 = ap (λ (b : Bool). if b then 1 else 0) f in
         let counts : first_of p ≡ first_of a = ap first_of (omega (arith, p_is)) in
         let counts_q : first_of q ≡ first_of b = ap first_of (omega (arith, q_is)) in
         omega (arith, rest)
-    by_test rest true false e f = absurd (differ ((is_text-Decides t.key.tenant u.key.tenant).0 e))
+    by_test rest true false e f = absurd (differ ((is_text-Decides t.tenant u.tenant).0 e))
       where
-        differ : t.key.tenant ≡ u.key.tenant → ⊥
-        differ same = let back = (is_text-Decides u.key.tenant t.key.tenant).1 (sym same) in cc
-    by_test rest false true e f = absurd (differ ((is_text-Decides u.key.tenant t.key.tenant).0 f))
+        differ : t.tenant ≡ u.tenant → ⊥
+        differ same = let back = (is_text-Decides u.tenant t.tenant).1 (sym same) in cc
+    by_test rest false true e f = absurd (differ ((is_text-Decides u.tenant t.tenant).0 f))
       where
-        differ : u.key.tenant ≡ t.key.tenant → ⊥
-        differ same = let back = (is_text-Decides t.key.tenant u.key.tenant).1 (sym same) in cc
-
--- the keys stay where a job keeps its own
-seat-keys : (ss : List Seat) (n : ℕ) (s now : Seat) → slice_get ss n ≡ Some s → now.job.titled.key ≡ s.job.titled.key → keys (jobs_in (slice_set ss n now)) ≡ keys (jobs_in ss)
-seat-keys [] n s now at key = refl
-seat-keys (x ∷ xs) zero s now at key = let same : x ≡ s = cc in ap (λ (k : Key). k ∷ keys (jobs_in xs)) (key ∙ ap (λ (y : Seat). y.job.titled.key) (sym same))
-seat-keys (x ∷ xs) (suc n) s now at key = ap (λ (ks : List Key). x.job.titled.key ∷ ks) (seat-keys xs n s now at key)
-
--- and in a balancing
-balanced-keys : (n : ℕ) (vs : List ℕ) (ss : List Seat) → keys (jobs_in (balanced_from n vs ss)) ≡ keys (jobs_in ss)
-balanced-keys n vs [] = refl
-balanced-keys n vs (x ∷ xs) = ap (λ (ks : List Key). x.job.titled.key ∷ ks) (balanced-keys (if is_live_seat x then n + 1 else n) vs xs)
-
--- so do the tenants
-pub tenants-set : (ss : List Seat) (n : ℕ) (s now : Seat) → slice_get ss n ≡ Some s → now.job.titled.key ≡ s.job.titled.key → tenant_count (jobs_in ss) ≡ tenant_count (jobs_in (slice_set ss n now))
-tenants-set ss n s now at key = sym (tenants-keys (jobs_in (slice_set ss n now)) (jobs_in ss) (seat-keys ss n s now at key))
-
-pub tenants-balanced : (vs : List ℕ) (ss : List Seat) → tenant_count (jobs_in ss) ≡ tenant_count (jobs_in (balanced_by vs ss))
-tenants-balanced vs ss = sym (tenants-keys (jobs_in (balanced_by vs ss)) (jobs_in ss) (balanced-keys 0 vs ss))
+        differ : u.tenant ≡ t.tenant → ⊥
+        differ same = let back = (is_text-Decides t.tenant u.tenant).1 (sym same) in cc
 
 -- what a job counts among those that are not closed
 abbrev pub unclosed_at : Seat → ℕ

@@ -20,13 +20,13 @@ use Rattle.spec_hall.specs.Driven.{is_done}
 use Rattle.spec_hall.specs.Events.{Event, Balance, Start, Finish, Exchange}
 use Rattle.spec_hall.specs.Leases.{lease_adds, lease_journal, start_number}
 use Rattle.spec_hall.specs.Legal.{Allowed, IsBalanceDue}
-use Rattle.spec_hall.specs.Seats.{Seat, first_exchange, is_due, jobs_in, pick, shares_by}
+use Rattle.spec_hall.specs.Seats.{Seat, first_exchange, is_balancing_due, is_due, jobs_in, pick, shares_by}
 use Rattle.spec_hall.specs.Spots.{Spot, IsAt, IsSpot, tags_of}
 use Rattle.spec_hall.specs.States.{Candidate, LeaseOut, candidates_from, titled, balanced, exchange_due, keys_of, lease_of, leases, lives, picked, states}
 use Rattle.spec_hall.proofs.BalanceLemmas.{balance-allowed}
-use Rattle.spec_hall.proofs.DueLemmas.{seated-calm, seated-due}
+use Rattle.spec_hall.proofs.DueLemmas.{balancing-calm, seated-calm, seated-due}
 use Rattle.spec_hall.proofs.ExchangeLemmas.{first-found, seated-no_exchange}
-use Rattle.spec_hall.proofs.JournalLemmas.{adds-of, back-lease, held_at, journal-of, lease-back, spot-held, spot-lease, spot-out, spots-home, zero-lease}
+use Rattle.spec_hall.proofs.JournalLemmas.{IsSeatAt, adds-of, back-lease, held_at, journal-of, lease-back, spot-held, spot-lease, spot-out, spots-home, zero-lease}
 use Rattle.spec_hall.proofs.LeasesLemmas.{start-free}
 use Rattle.spec_hall.proofs.PickLemmas.{seated-picked}
 use Rattle.spec_hall.proofs.RunnableLemmas.{IsCandidate, candidates-may, fewest-All, picked-may}
@@ -49,7 +49,7 @@ use Rattle.spec_hall.proofs.TurnLemmas.{arranged-left, due-leases, due-none}
 use Rattle.mal_hall.specs.Offered.{HasArranged, HasBalanced, HasEnded, HasExchanged, HasStarted, IsFirst, MayEnd, MayStartAt, handed_of}
 use Rattle.mal_hall.specs.HallView.{Inside, IsHall, out_in}
 use Rattle.mal_hall.specs.Turned.{IsBalancing}
-use Rattle.mal_hall.proofs.HallLemmas.{Grown, hall-balance, hall-exchange, of-seat}
+use Rattle.mal_hall.proofs.HallLemmas.{Grown, hall-balance, hall-exchange, hall-number, hall-stayed, of-seat, spot-tag}
 use Rattle.mal_seats.specs.Changed.{OfSeat}
 use Rattle.mal_hall.proofs.LeaseLemmas.{hall-finish, hall-start, out-left}
 
@@ -57,8 +57,8 @@ use Rattle.mal_hall.proofs.LeaseLemmas.{hall-finish, hall-start, out-left}
 pub phase-due : (x : Inside) (b : Bool) → IsHall x → b ≡ is_due x.seats → b ≡ true → IsBalanceDue x.entries.events
 phase-due x b hall scan is = seated-due x.entries.workers x.entries.events x.seats hall.seated (sym scan ∙ is)
 
-pub phase-calm : (x : Inside) (b : Bool) → IsHall x → b ≡ is_due x.seats → b ≡ false → lives (states x.entries.events) ≡ balanced x.entries.events
-phase-calm x b hall scan is = seated-calm x.entries.workers x.entries.events x.seats hall.seated (sym scan ∙ is)
+pub phase-calm : (x : Inside) (b : Bool) → IsHall x → b ≡ is_due x.seats → b ≡ false → Some (lives (states x.entries.events)) ≡ balanced x.entries.events
+phase-calm x b hall scan is = let stayed = hall-stayed x hall in seated-calm x.entries.workers x.entries.events x.seats stayed.live hall.seated stayed.last (sym scan ∙ is)
 
 -- a seat that there is
 pub seat-there : (ss : List Seat) (n : ℕ) → n < length ss → (s : Seat) × (slice_get ss n ≡ Some s)
@@ -101,12 +101,12 @@ pub phase-left : (x : Inside) (b : Bool) → IsHall x → b ≡ is_done (jobs_in
 phase-left x b hall scan is = is ∙ sym (ap (λ (c : Bool). c && length (leases x.entries.events) == 0) (ap is_done hall.seated.jobs ∙ (sym scan ∙ is)))
 
 -- a balancing that is due
-due-is : (x : Inside) → IsHall x → IsBalanceDue x.entries.events → is_due x.seats ≡ true
-due-is x hall due = by_test (is_due x.seats) refl
+due-is : (x : Inside) → IsHall x → IsBalanceDue x.entries.events → is_balancing_due x.entries.events x.seats ≡ true
+due-is x hall due = by_test (is_balancing_due x.entries.events x.seats) refl
   where
-    by_test : (b : Bool) → is_due x.seats ≡ b → b ≡ true
+    by_test : (b : Bool) → is_balancing_due x.entries.events x.seats ≡ b → b ≡ true
     by_test true e = refl
-    by_test false e = absurd (due (seated-calm x.entries.workers x.entries.events x.seats hall.seated e))
+    by_test false e = absurd (due (balancing-calm x.entries.workers x.entries.events x.seats hall.seated e))
 
 pub record Balanced (x y : Inside) : Type 0 where
   pub hall : IsHall y
@@ -115,7 +115,7 @@ pub record Balanced (x y : Inside) : Type 0 where
 pub phase-balance : (x y : Inside) → IsHall x → IsBalanceDue x.entries.events → y.entries.workers ≡ x.entries.workers → IsBalancing x.entries y.entries x.seats y.seats → y.spots ≡ x.spots → y.starts ≡ x.starts → y.unclosed ≡ x.unclosed → y.tenants ≡ x.tenants → x.unclosed + out_in x.spots ≤ y.entries.room → Balanced x y
 phase-balance x y hall due workers b spots starts unclosed tenants room =
     let vs : List ℕ = b.volumes in
-    let is : is_due x.seats ≡ true = due-is x hall due in
+    let is : is_balancing_due x.entries.events x.seats ≡ true = due-is x hall due in
     let grown = hall-balance x y vs hall is b.fair workers b.events b.seats spots starts unclosed tenants room in
     record { hall = grown.hall; has = record { shares = shares_by vs x.seats; grown = grown.events; allowed = balance-allowed x.entries.workers x.entries.events x.seats vs hall.seated b.fair is } }
 
@@ -139,7 +139,7 @@ pub record Exchanges (x y : Inside) : Type 0 where
   pub hall : IsHall y
   pub has : HasExchanged x.entries.workers x.entries.events y.entries.events
 
-pub phase-exchange : (x y : Inside) (at : ℕ) (s : Seat) → IsHall x → lives (states x.entries.events) ≡ balanced x.entries.events → IsFirst x.entries.events at → slice_get x.seats at ≡ Some s → y.entries.workers ≡ x.entries.workers → y.entries.events ≡ x.entries.events ++ Exchange s.job.titled.key ∷ [] → y.seats ≡ slice_set x.seats at (record s { job = and_own s.job Exchanged }) → y.spots ≡ x.spots → y.starts ≡ x.starts → y.unclosed ≡ x.unclosed → y.tenants ≡ x.tenants → x.unclosed + out_in x.spots ≤ y.entries.room → Exchanges x y
+pub phase-exchange : (x y : Inside) (at : ℕ) (s : Seat) → IsHall x → Some (lives (states x.entries.events)) ≡ balanced x.entries.events → IsFirst x.entries.events at → slice_get x.seats at ≡ Some s → y.entries.workers ≡ x.entries.workers → y.entries.events ≡ x.entries.events ++ Exchange s.job.titled.key ∷ [] → y.seats ≡ slice_set x.seats at (record s { job = and_own s.job Exchanged }) → y.spots ≡ x.spots → y.starts ≡ x.starts → y.unclosed ≡ x.unclosed → y.tenants ≡ x.tenants → x.unclosed + out_in x.spots ≤ y.entries.room → Exchanges x y
 phase-exchange x y at s hall calm first sits workers events seats spots starts unclosed tenants room =
     let same : s.job.titled ≡ first.job = job-seat x at first.job s hall first.place sits in
     let may : Allowed x.entries.workers x.entries.events (Exchange s.job.titled.key) = (first.job, record { balance = calm; first = first.first; key = ap (λ (t : KeyedJob). t.key) (sym same) }) in
@@ -237,7 +237,7 @@ phase-start x y at index worker start s lease hall can mine next workers events 
     held = record { worker = worker; key = s.job.titled.key; index = index }
 
     journal : lease.journal ≡ lease_journal y.entries.events held
-    journal = mine.journal ∙ journal-of y.entries.workers y.entries.events y.seats y.spots after worker spot grown.hall.seated grown.hall.spots seat here
+    journal = mine.journal ∙ journal-of y.entries.workers y.entries.events y.seats y.spots at after worker spot grown.hall.seated grown.hall.spots (record { is = seat; number = hall-number x at s hall can.seat }) here
 
     out : (place_at after.job.titled.state index).out ≡ Some (record { revision = current s.job.titled.state; adds = start_entries s.job.titled.state (place_at s.job.titled.state index) })
     out = ap (λ (p : NodeSlot). p.out) (places.set-here s.job.titled.state.places index _ (within (sits-at x.entries.events x.seats at s hall.seated.jobs can.seat)))
@@ -274,7 +274,7 @@ spot-is x sp worker o spot hall same low scan is =
     subst (λ (v : ℕ). IsAt x.entries.events (tags_of x.seats) v spot) (sym some) (spot-at x (worker - 1) spot hall within taken)
 
 pub spot-within : (x : Inside) (worker : ℕ) (spot : Spot) → IsHall x → IsAt x.entries.events (tags_of x.seats) worker spot → spot.job < length x.seats
-spot-within x worker spot hall is = below x.seats spot.job is.at
+spot-within x worker spot hall is = below x.seats spot.job (spot-tag x worker spot hall is)
   where
     below : (ss : List Seat) (n : ℕ) → slice_get (tags_of ss) n ≡ Some is.tag → n < length ss
     below [] n f = absurd (cc)
@@ -288,12 +288,16 @@ spot-seat x sp worker o spot s hall same low scan found read =
     let within : worker - 1 < x.entries.workers = omega (arith, taken-low x.spots (worker - 1) spot taken, hall.spots.count) in
     record { seat = read-seat x spot.job s (spot-within x worker spot hall is) read; is = is; taken = taken; worker_is = record { low = low; high = omega (arith, within, low) } }
 
+-- the seat of a spot is that of the spot's number
+seat-of : (x : Inside) (worker : ℕ) (spot : Spot) (s : Seat) → IsHall x → SpotSeat x worker spot s → IsSeatAt x.seats spot spot.job s
+seat-of x worker spot s hall at = record { is = at.seat; number = hall-number x spot.job s hall at.seat }
+
 -- what came back is of the lease at a spot, or is strange
 pub back-is : (x : Inside) (spot : Spot) (s : Seat) (d : Finished) → IsHall x → SpotSeat x d.worker spot s → IsBack s.job spot.index d → (l : LeaseOut) × IsOfLease x.entries.events d l
-back-is x spot s d hall at back = (held_at s d.worker spot.index, back-lease x.entries.workers x.entries.events x.seats x.spots s spot d hall.seated hall.spots at.seat at.is back)
+back-is x spot s d hall at back = (held_at s d.worker spot.index, back-lease x.entries.workers x.entries.events x.seats x.spots spot.job s spot d hall.seated hall.spots (seat-of x d.worker spot s hall at) at.is back)
 
 pub back-not : (x : Inside) (spot : Spot) (s : Seat) (d : Finished) → IsHall x → SpotSeat x d.worker spot s → (IsBack s.job spot.index d → ⊥) → (l : LeaseOut) → IsOfLease x.entries.events d l → ⊥
-back-not x spot s d hall at other l of = other (lease-back x.entries.workers x.entries.events x.seats x.spots s spot d l hall.seated.some_worker hall.bound hall.seated hall.spots at.seat at.is of)
+back-not x spot s d hall at other l of = other (lease-back x.entries.workers x.entries.events x.seats x.spots spot.job s spot d l hall.seated.some_worker hall.bound hall.seated hall.spots (seat-of x d.worker spot s hall at) at.is of)
 
 pub kept-is : (x : Inside) (spot : Spot) (s : Seat) (worker : ℕ) → IsHall x → SpotSeat x worker spot s → Some spot.start ≡ option_map (λ (l : LeaseOut). start_number l.worker x.entries.events) (lease_of worker (leases x.entries.events))
 kept-is x spot s worker hall at = ap (λ (n : ℕ). let o : Option ℕ = Some n in o) at.is.number ∙ sym (ap (option_map (λ (l : LeaseOut). start_number l.worker x.entries.events)) at.is.out)
@@ -313,10 +317,10 @@ pub zero-out : (x : Inside) → IsHall x → lease_of 0 (leases x.entries.events
 zero-out x hall = zero-lease x.entries.workers x.entries.events hall.seated.some_worker hall.bound hall.seated.legal
 
 may-finish : (x : Inside) (worker : ℕ) (spot : Spot) (s : Seat) (back : Option Finished) → IsHall x → SpotSeat x worker spot s → MayEnd x.entries.events worker back → MayFinish s.job spot.index back
-may-finish x worker spot s None hall at may = spot-out x.entries.workers x.entries.events x.seats s worker spot hall.seated.some_worker hall.bound hall.seated at.seat at.is
+may-finish x worker spot s None hall at may = spot-out x.entries.workers x.entries.events x.seats x.spots spot.job s worker spot hall.seated.some_worker hall.bound hall.seated hall.spots (seat-of x worker spot s hall at) at.is
 may-finish x worker spot s (Some d) hall at may =
     let same : d.worker ≡ worker = may.belongs.0 ∙ may.worker_is in
-    lease-back x.entries.workers x.entries.events x.seats x.spots s spot d may.lease hall.seated.some_worker hall.bound hall.seated hall.spots at.seat (subst (λ (v : ℕ). IsAt x.entries.events (tags_of x.seats) v spot) (sym same) at.is) may.belongs.1
+    lease-back x.entries.workers x.entries.events x.seats x.spots spot.job s spot d may.lease hall.seated.some_worker hall.bound hall.seated hall.spots (seat-of x worker spot s hall at) (subst (λ (v : ℕ). IsAt x.entries.events (tags_of x.seats) v spot) (sym same) at.is) may.belongs.1
 
 -- there is room for a finish
 end-room : (x : Inside) (worker : ℕ) (spot : Spot) (s : Seat) → IsHall x → SpotSeat x worker spot s → 1 ≤ x.entries.room
@@ -353,7 +357,7 @@ pub phase-end : (x y : Inside) (worker : ℕ) (spot : Spot) (s : Seat) (outcome 
 phase-end x y worker spot s outcome hall at workers events seats spots starts unclosed tenants room =
     let w : ℕ = worker - 1 in
     let some : worker ≡ suc w = omega (arith, at.worker_is.low) in
-    let held : lease_of worker (leases x.entries.events) ≡ Some (held_at s worker spot.index) = spot-held x.entries.events x.seats s worker spot at.seat at.is in
+    let held : lease_of worker (leases x.entries.events) ≡ Some (held_at s worker spot.index) = spot-held x.entries.workers x.entries.events x.seats x.spots spot.job s worker spot hall.seated hall.spots (seat-of x worker spot s hall at) at.is in
     let grown = hall-finish x y spot.job s spot.index w outcome spot hall at.seat (subst (λ (v : ℕ). Allowed x.entries.workers x.entries.events (Finish s.job.titled.key spot.index v outcome)) some held) at.taken workers (subst (λ (v : ℕ). y.entries.events ≡ x.entries.events ++ Finish s.job.titled.key spot.index v outcome ∷ []) some events) seats spots starts unclosed tenants room in
     record { hall = grown.hall; has = record { lease = held_at s worker spot.index; out = held; grown = subst (λ (v : ℕ). y.entries.events ≡ x.entries.events ++ Finish s.job.titled.key spot.index v outcome ∷ []) (sym some) grown.events } }
 
@@ -416,15 +420,15 @@ arranged-none w past now same = record { events = []; grown = same ∙ sym (appe
 pub arranged-balance : (w : ℕ) (past now : List Event) → HasBalanced w past now → HasArranged w past now
 arranged-balance w past now has = record { events = Balance has.shares ∷ []; grown = has.grown; due = record { kinds = refl; legal = (has.allowed, tt) } }
 
-pub balance-after : (w : ℕ) (past now : List Event) → 1 ≤ w → Legal w past → HasBalanced w past now → lives (states now) ≡ balanced now
-balance-after w past now some legal has = subst (λ (h : List Event). lives (states h) ≡ balanced h) (sym has.grown) (balance-calm w past has.shares some legal has.allowed)
+pub balance-after : (w : ℕ) (past now : List Event) → 1 ≤ w → Legal w past → HasBalanced w past now → Some (lives (states now)) ≡ balanced now
+balance-after w past now some legal has = subst (λ (h : List Event). Some (lives (states h)) ≡ balanced h) (sym has.grown) (balance-calm w past has.shares some legal has.allowed)
 
 -- an exchange was entered
 pub arranged-exchange : (w : ℕ) (past now : List Event) → HasExchanged w past now → HasArranged w past now
 arranged-exchange w past now has = record { events = Exchange has.key ∷ []; grown = has.grown; due = record { kinds = refl; legal = (has.allowed, tt) } }
 
-pub exchange-after : (w : ℕ) (past now : List Event) → 1 ≤ w → Legal w past → HasExchanged w past now → lives (states now) ≡ balanced now
-exchange-after w past now some legal has = subst (λ (h : List Event). lives (states h) ≡ balanced h) (sym has.grown) (exchange-calm w past has.key some legal has.allowed)
+pub exchange-after : (w : ℕ) (past now : List Event) → 1 ≤ w → Legal w past → HasExchanged w past now → Some (lives (states now)) ≡ balanced now
+exchange-after w past now some legal has = subst (λ (h : List Event). Some (lives (states h)) ≡ balanced h) (sym has.grown) (exchange-calm w past has.key some legal has.allowed)
 
 pub exchange-left : (w : ℕ) (past now : List Event) → 1 ≤ w → Legal w past → HasExchanged w past now → left_in now < left_in past
 exchange-left w past now some legal has = subst (λ (h : List Event). left_in h < left_in past) (sym has.grown) (arranged-left w past (Exchange has.key) some legal refl has.allowed)

@@ -86,6 +86,9 @@ impl Hall {
                 outcome,
             } => self.enter_finish(tenant, job, *index, *worker, *outcome, scratch),
             Event::Exchange { tenant, job } => self.enter_exchange(tenant, job),
+            // What an arrival brings is not written down, so a history in which jobs move is not entered again.
+            Event::Leave { .. } => Err(ApplyFault::NotAllowed),
+            Event::Arrive { .. } => Err(ApplyFault::NotAllowed),
         }
     }
 

@@ -295,7 +295,7 @@ impl Hall {
     /// Whether a balancing is due.
     pub(crate) fn is_due(&self) -> bool
         ensures due { result ≡ true → IsBalanceDue self.now.events }
-        ensures calm { result ≡ false → lives (states self.now.events) ≡ balanced self.now.events }
+        ensures calm { result ≡ false → Some (lives (states self.now.events)) ≡ balanced self.now.events }
         ensures legal { Legal self.now.workers self.now.events }
         ensures some { 1 ≤ self.now.workers }
         ensures bound { self.now.workers ≤ 64 }
@@ -343,7 +343,7 @@ impl Hall {
     /// Enters an exchange of the first job of which it is due, where no balancing is. After want of memory nothing is
     /// entered.
     pub(crate) fn exchange_at(&mut self, at: usize) -> Result<(), AllocError>
-        requires calm { lives (states self.old.events) ≡ balanced self.old.events }
+        requires calm { Some (lives (states self.old.events)) ≡ balanced self.old.events }
         requires first { IsFirst self.old.events at }
         ensures workers { self.new.workers ≡ self.old.workers }
         ensures inside { self.new.inside ≡ self.old.inside }
@@ -363,7 +363,7 @@ impl Hall {
     fn balance_due(&mut self) -> Result<(), AllocError>
         ensures workers { self.new.workers ≡ self.old.workers }
         ensures due { HasArranged self.old.workers self.old.events self.new.events }
-        ensures calm { OnOk result (lives (states self.new.events) ≡ balanced self.new.events) }
+        ensures calm { OnOk result (Some (lives (states self.new.events)) ≡ balanced self.new.events) }
     {
         if !self.is_due() {
             return Ok(());
@@ -378,10 +378,10 @@ impl Hall {
     /// Enters the first exchange that is due, where no balancing is. False where none was due.
     #[tactic(auto, using(crate::proofs::PhaseLemmas::arranging))]
     fn exchange_due(&mut self) -> Result<bool, AllocError>
-        requires calm { lives (states self.old.events) ≡ balanced self.old.events }
+        requires calm { Some (lives (states self.old.events)) ≡ balanced self.old.events }
         ensures workers { self.new.workers ≡ self.old.workers }
         ensures due { HasArranged self.old.workers self.old.events self.new.events }
-        ensures calm { IfOk result (λ b. lives (states self.new.events) ≡ balanced self.new.events) }
+        ensures calm { IfOk result (λ b. Some (lives (states self.new.events)) ≡ balanced self.new.events) }
         ensures none { IfOk result (λ b. b ≡ false → exchange_due (states self.new.events) ≡ None) }
         ensures less { IfOk result (λ b. b ≡ true → left_in self.new.events < left_in self.old.events) }
     {

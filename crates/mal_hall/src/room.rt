@@ -1,8 +1,9 @@
 //! Whether a hall takes a further job, and a job a further revision.
 
 ghost use Rattle.std.specs.Prelude.{◌≡◌, ◌+◌, ◌<◌, true, false, ◌==◌, if◌then◌else◌, List, [], length, Some, None, Err, MatchOption, IfOk, IfErr};
+ghost use Rattle.std.specs.List.{list_any};
 ghost use Rattle.mal_revision.specs.Posted.{is_posted};
-ghost use Rattle.spec_hall.specs.{Calls.{IsOpening, IsRevising}, Events.{Event}, Room.{HasRoomFor, IsOver}, States.{states}, Legal.{job_of, jobs_of, tenant_count}};
+ghost use Rattle.spec_hall.specs.{Calls.{IsOpening, IsRevising}, Events.{Event}, Own.{is_key}, Room.{HasRoomFor, IsOver}, States.{names_of, states}, Legal.{job_of, jobs_of, tenant_count}};
 ghost use Rattle.mal_base.specs.Asks.{Terms};
 ghost use Rattle.spec_job.specs.KeyedJob.{Key};
 
@@ -17,8 +18,8 @@ pub fn tenants_after(tenants: usize, jobs: usize) -> Result<usize, OpenFault>
     ensures few { IfOk result (λ n. jobs < 64) }
     ensures others { IfOk result (λ n. jobs ≡ 0 → tenants < 64) }
     ensures refusal { IfErr result
-        (λ fault. (k : Key) (ask : Terms) (past : List Event) → job_of k (states past) ≡ None
-        → jobs ≡ jobs_of k.tenant (states past) → tenants ≡ tenant_count (states past)
+        (λ fault. (k : Key) (ask : Terms) (past : List Event) → list_any (is_key k) (names_of past) ≡ false
+        → jobs ≡ jobs_of k.tenant (names_of past) → tenants ≡ tenant_count (names_of past)
         → IsOpening past k ask (Err fault) []) }
 {
     if jobs >= 64 {

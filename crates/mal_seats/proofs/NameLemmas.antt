@@ -10,13 +10,13 @@ use Rattle.std.specs.Ordering.{is_eq, nat_cmp, ordering_then}
 use Rattle.std.proofs.lemmas.List.Sums.{sum_by-cons}
 use Rattle.mal_base.specs.Asks.{Terms}
 use Rattle.spec_balance.specs.Fair.{volume_at}
-use Rattle.spec_job.specs.KeyedJob.{Key, KeyedJob}
+use Rattle.spec_job.specs.KeyedJob.{Key}
 use Rattle.spec_hall.specs.Legal.{jobs_of}
 use Rattle.spec_hall.specs.Own.{is_key, is_text}
-use Rattle.spec_hall.specs.Seats.{Seat, balanced_from, balanced_seat, is_live_seat, jobs_in, opened_seat, place_of}
+use Rattle.spec_hall.specs.Seats.{Seat, balanced_from, balanced_seat, is_live_seat, opened_seat, place_of}
 use Rattle.spec_hall.proofs.KeyLemmas.{is_key-Decides, is_text-Decides}
 use Rattle.mal_seats.specs.Counted.{one}
-use Rattle.mal_seats.specs.Named.{AreNamed, found, jobs_at, name_cmp, pair_cmp}
+use Rattle.mal_seats.specs.Named.{AreNamed, found, jobs_at, keys_in, name_cmp, pair_cmp}
 
 -- the key of a job
 abbrev pub key_of : Seat → Key
@@ -106,14 +106,14 @@ place-balanced k n vs [] = refl
 place-balanced k n vs (x ∷ xs) = ap (λ (o : Option ℕ). cond (is_key k x.job.titled.key) (Some 0) (option_map suc o)) (place-balanced k (cond (is_live_seat x) (n + 1) n) vs xs)
 
 -- the jobs of a tenant
-jobs-cons : (tenant : List ℕ) (s : Seat) (ss : List Seat) → jobs_of tenant (jobs_in (s ∷ ss)) ≡ one (is_text tenant s.job.titled.key.tenant) + jobs_of tenant (jobs_in ss)
-jobs-cons tenant s ss = sum_by-cons (λ (t : KeyedJob). one (is_text tenant t.key.tenant)) s.job.titled (jobs_in ss)
+jobs-cons : (tenant : List ℕ) (s : Seat) (ss : List Seat) → jobs_of tenant (keys_in (s ∷ ss)) ≡ one (is_text tenant s.job.titled.key.tenant) + jobs_of tenant (keys_in ss)
+jobs-cons tenant s ss = sum_by-cons (λ (k : Key). one (is_text tenant k.tenant)) s.job.titled.key (keys_in ss)
 
-jobs-push : (tenant : List ℕ) (ss : List Seat) (s : Seat) → jobs_of tenant (jobs_in (ss ++ s ∷ [])) ≡ jobs_of tenant (jobs_in ss) + one (is_text tenant s.job.titled.key.tenant)
+jobs-push : (tenant : List ℕ) (ss : List Seat) (s : Seat) → jobs_of tenant (keys_in (ss ++ s ∷ [])) ≡ jobs_of tenant (keys_in ss) + one (is_text tenant s.job.titled.key.tenant)
 jobs-push tenant [] s = omega (arith, jobs-cons tenant s [])
 jobs-push tenant (x ∷ xs) s = omega (arith, jobs-cons tenant x (xs ++ s ∷ []), jobs-cons tenant x xs, jobs-push tenant xs s)
 
-jobs-set : (tenant : List ℕ) (ss : List Seat) (n : ℕ) (s now : Seat) → slice_get ss n ≡ Some s → now.job.titled.key ≡ s.job.titled.key → jobs_of tenant (jobs_in (slice_set ss n now)) ≡ jobs_of tenant (jobs_in ss)
+jobs-set : (tenant : List ℕ) (ss : List Seat) (n : ℕ) (s now : Seat) → slice_get ss n ≡ Some s → now.job.titled.key ≡ s.job.titled.key → jobs_of tenant (keys_in (slice_set ss n now)) ≡ jobs_of tenant (keys_in ss)
 jobs-set tenant [] n s now e key = absurd (cc)
 jobs-set tenant (x ∷ xs) zero s now e key =
     let same : x ≡ s = cc in
@@ -121,7 +121,7 @@ jobs-set tenant (x ∷ xs) zero s now e key =
     omega (arith, jobs-cons tenant now xs, jobs-cons tenant x xs)
 jobs-set tenant (x ∷ xs) (suc n) s now e key = omega (arith, jobs-cons tenant x (slice_set xs n now), jobs-cons tenant x xs, jobs-set tenant xs n s now e key)
 
-jobs-balanced : (tenant : List ℕ) (n : ℕ) (vs : List ℕ) (ss : List Seat) → jobs_of tenant (jobs_in (balanced_from n vs ss)) ≡ jobs_of tenant (jobs_in ss)
+jobs-balanced : (tenant : List ℕ) (n : ℕ) (vs : List ℕ) (ss : List Seat) → jobs_of tenant (keys_in (balanced_from n vs ss)) ≡ jobs_of tenant (keys_in ss)
 jobs-balanced tenant n vs [] = refl
 jobs-balanced tenant n vs (x ∷ xs) =
     let next : ℕ = cond (is_live_seat x) (n + 1) n in
@@ -130,11 +130,11 @@ jobs-balanced tenant n vs (x ∷ xs) =
     omega (arith, jobs-cons tenant now (balanced_from next vs xs), jobs-cons tenant x xs, jobs-balanced tenant next vs xs)
 
 -- a tenant has no more jobs than there are
-pub jobs-few : (tenant : List ℕ) (ss : List Seat) → jobs_of tenant (jobs_in ss) ≤ length ss
+pub jobs-few : (tenant : List ℕ) (ss : List Seat) → jobs_of tenant (keys_in ss) ≤ length ss
 jobs-few tenant [] = omega arith
 jobs-few tenant (x ∷ xs) = by_test (is_text tenant x.job.titled.key.tenant) refl (jobs-few tenant xs)
   where
-    by_test : (b : Bool) → is_text tenant x.job.titled.key.tenant ≡ b → jobs_of tenant (jobs_in xs) ≤ length xs → jobs_of tenant (jobs_in (x ∷ xs)) ≤ length (x ∷ xs)
+    by_test : (b : Bool) → is_text tenant x.job.titled.key.tenant ≡ b → jobs_of tenant (keys_in xs) ≤ length xs → jobs_of tenant (keys_in (x ∷ xs)) ≤ length (x ∷ xs)
     by_test true e rest = let here : one (is_text tenant x.job.titled.key.tenant) ≡ 1 = ap one e in omega (arith, jobs-cons tenant x xs)
     by_test false e rest = let here : one (is_text tenant x.job.titled.key.tenant) ≡ 0 = ap one e in omega (arith, jobs-cons tenant x xs)
 
@@ -187,7 +187,7 @@ named-open ss p q t u number key ask named fresh places tenants = record { place
             still None = refl
             still (Some n) = refl
 
-    jobs : (tenant : List ℕ) → jobs_at u tenant ≡ jobs_of tenant (jobs_in (ss ++ seat ∷ []))
+    jobs : (tenant : List ℕ) → jobs_at u tenant ≡ jobs_of tenant (keys_in (ss ++ seat ∷ []))
     jobs tenant = omega (arith, tenants tenant, named.jobs tenant, jobs-push tenant ss seat, turned (is_text key.tenant tenant) refl (is_text tenant key.tenant) refl)
       where
         turned : (b : Bool) → is_text key.tenant tenant ≡ b → (d : Bool) → is_text tenant key.tenant ≡ d → one (is_text key.tenant tenant) ≡ one (is_text tenant key.tenant)

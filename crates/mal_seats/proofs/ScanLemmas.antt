@@ -1,24 +1,9 @@
-use Rattle.std.proofs.Common.{◌≡◌, ℕ, ◌+◌, ◌-◌, ◌<◌, Bool, true, false, if◌then◌else◌, List, ◌∷◌, length, drop, fold, get_or, Option, sym, ◌∙◌, ap}
-use Rattle.std.proofs.lemmas.List.{drop_more}
-use Rattle.std.proofs.lemmas.List.Sums.{sum_by-cons}
+use Rattle.std.proofs.Common.{◌≡◌, ℕ, ◌+◌, ◌-◌, ◌<◌, Bool, true, false, if◌then◌else◌, fold, Option, sym, ◌∙◌, ap}
 use Rattle.spec_node.specs.Load.{counted}
 use Rattle.spec_job.specs.SoloMachine.{SoloMachine, place_at, startable}
-use Rattle.spec_job.specs.KeyedJob.{KeyedJob}
-use Rattle.spec_hall.specs.Legal.{jobs_of}
-use Rattle.spec_hall.specs.Own.{is_text}
-use Rattle.spec_hall.specs.Seats.{Seat, jobs_in, pick_node}
+use Rattle.spec_hall.specs.Seats.{pick_node}
 use Rattle.spec_hall.specs.States.{Candidate, fewer}
 use Rattle.spec_hall.proofs.PickLemmas.{pick-more}
-
--- the seats from a place on
-seats-from : (ss : List Seat) (i : ℕ) (s : Seat) → i < length ss → s ≡ get_or ss i s → drop i ss ≡ s ∷ drop (i + 1) ss
-seats-from ss i s within at = drop_more ss i s within ∙ ap (λ (x : Seat). x ∷ drop (i + 1) ss) (sym at)
-
--- a tenant's jobs from a place on
-pub jobs_of-from : (tenant : List ℕ) (ss : List Seat) (i : ℕ) (s : Seat) → i < length ss → s ≡ get_or ss i s → jobs_of tenant (jobs_in (drop i ss)) ≡ (if is_text tenant s.job.titled.key.tenant then 1 else 0) + jobs_of tenant (jobs_in (drop (i + 1) ss))
-jobs_of-from tenant ss i s within at =
-    ap (λ (xs : List Seat). jobs_of tenant (jobs_in xs)) (seats-from ss i s within at)
-    ∙ sum_by-cons (λ (t : KeyedJob). if is_text tenant t.key.tenant then 1 else 0) s.job.titled (jobs_in (drop (i + 1) ss))
 
 -- a node that may start
 pub picked-then : (job : ℕ) (s : SoloMachine) (best now : Option Candidate) (i starts : ℕ) (may : Bool) → may ≡ startable s i → may ≡ true → starts ≡ (place_at s i).starts → now ≡ fewer best (record { job = job; index = i; starts = starts }) → now ≡ pick_node job s best i

@@ -1,5 +1,5 @@
 -- Jobs by their names.
-use Rattle.std.specs.Prelude.{◌≡◌, ℕ, List, Option}
+use Rattle.std.specs.Prelude.{◌≡◌, ℕ, List, map, Option}
 use Rattle.std.specs.BTreeMap.{BTreeMap}
 use Rattle.std.specs.BTreeMap as tree
 use Rattle.std.specs.Cmp.Lexicographic.{slice_cmp}
@@ -8,7 +8,7 @@ use Rattle.std.specs.declared.cmp.Ordering.{Ordering}
 use Rattle.std.specs.Ordering.{nat_cmp, ordering_then}
 use Rattle.spec_job.specs.KeyedJob.{Key}
 use Rattle.spec_hall.specs.Legal.{jobs_of}
-use Rattle.spec_hall.specs.Seats.{Seat, jobs_in, place_of}
+use Rattle.spec_hall.specs.Seats.{Seat, place_of}
 
 -- how names are ordered
 abbrev pub name_cmp : List ℕ → List ℕ → Ordering
@@ -26,7 +26,11 @@ found places k = tree.get pair_cmp places (k.tenant, k.job)
 abbrev pub jobs_at : BTreeMap (List ℕ) ℕ → List ℕ → ℕ
 jobs_at tenants tenant = count_at (tree.get name_cmp tenants) tenant
 
+-- the keys of the jobs
+abbrev pub keys_in : List Seat → List Key
+keys_in seats = map (λ s. s.job.titled.key) seats
+
 -- each key leads to its job's place, and the jobs of each tenant are counted
 pub record AreNamed (seats : List Seat) (places : BTreeMap (List ℕ × List ℕ) ℕ) (tenants : BTreeMap (List ℕ) ℕ) : Type 0 where
   pub place : (k : Key) → found places k ≡ place_of k seats
-  pub jobs : (tenant : List ℕ) → jobs_at tenants tenant ≡ jobs_of tenant (jobs_in seats)
+  pub jobs : (tenant : List ℕ) → jobs_at tenants tenant ≡ jobs_of tenant (keys_in seats)

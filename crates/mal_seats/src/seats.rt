@@ -3,7 +3,7 @@
 ghost use Rattle.std.specs.Prelude.{◌≡◌, ℕ, ◌+◌, ◌<◌, ◌≤◌, ◌^◌, [], ◌∷◌, ◌++◌, true, not, length, slice_index_or, None, IfOk, OnOk, OnErr};
 ghost use Rattle.std.specs.{Fn.{FnOnceReturnsAtMut, FnOnceTakesAtMut}, List.{list_all}};
 ghost use Rattle.mal_job.specs.Finishing.{outcome_of, MayFinish};
-ghost use Rattle.mal_seats.specs.Changed.{OfSeat, IsChanged, IsSteady, HasStepped};
+ghost use Rattle.mal_seats.specs.{Changed.{OfSeat, IsChanged, IsSteady, HasStepped}, Named.{keys_in}};
 ghost use Rattle.spec_balance.specs.Fair.{IsFair, volume_at};
 ghost use Rattle.spec_job.specs.{SoloMachine.{Revised, Reasked, Closed, Finished, Exchanged, startable, clauses_in}, Viewed.{and_own, and_start, IsLeaseOf}};
 ghost use Rattle.spec_hall.specs.{Dressed.{keyed}, States.{live_asks}};
@@ -88,7 +88,7 @@ impl Seats {
 
     /// How many jobs a tenant has.
     pub fn jobs_of(&self, tenant: Name) -> usize
-        ensures { result ≡ legal.jobs_of tenant (spec.jobs_in self.now) }
+        ensures { result ≡ legal.jobs_of tenant (keys_in self.now) }
     {
         self.names.jobs_of(tenant)
     }

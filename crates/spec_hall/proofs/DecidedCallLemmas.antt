@@ -1,7 +1,7 @@
 -- A call's answer and its events are decided by the history and by whether memory was wanting.
 use Rattle.std.proofs.Common.{◌≡◌, ℕ, ◌+◌, ◌<◌, ◌≤◌, true, false, ◌==◌, List, [], ◌∷◌, ◌++◌, length, Option, Some, None, is_some, refl, sym, ◌∙◌, ap, subst, arith, append_assoc, append-nil}
 use Rattle.std.specs.Prelude.{Result, Ok, Err}
-use Rattle.std.specs.List.{list_all}
+use Rattle.std.specs.List.{list_all, list_any}
 use Rattle.std.proofs.lemmas.Bool.{and_parts, both_ways, eqb-true}
 use Rattle.mal_base.specs.Asks.{Terms, Weighed}
 use Rattle.mal_base.specs.declared.limit_kind.LimitKind.{LimitKind}
@@ -24,10 +24,11 @@ use Rattle.mal_base.specs.declared.hall_fault.ReplyFault.{ReplyFault}
 use Rattle.mal_base.specs.declared.hall_fault.ReplyFault.TheVariants as asking
 use Rattle.spec_hall.specs.Calls.{Call, AnswerTo, Opens, Revises, Reasks, Closes, Picks, Finishes, Recalls, Asks, Handed, Offer, Leased, Idle, AllDone, Return, Back, Strange, AreDue, arranges, is_over, handed, IsStarting, IsWaiting, IsOpening, IsRevising, IsReasking, IsClosing, IsPicking, IsReturning, IsAsking, CallIsDecided, wanted}
 use Rattle.spec_hall.specs.Driven.{IsCalm, is_done}
-use Rattle.spec_hall.specs.Events.{Event, Open, Revise, Reask, Close, Balance, Start, Finish, Exchange}
+use Rattle.spec_hall.specs.Events.{Event, Open, Revise, Reask, Close, Balance, Start, Finish, Exchange, Leave, Arrive}
 use Rattle.spec_hall.specs.Legal.{Allowed, LegalFrom, MayRevise, job_of}
+use Rattle.spec_hall.specs.Own.{is_key}
 use Rattle.spec_hall.specs.Room.{IsOver}
-use Rattle.spec_hall.specs.States.{LeaseOut, leases, lease_of, picked, states}
+use Rattle.spec_hall.specs.States.{LeaseOut, leases, lease_of, names_of, picked, states}
 use Rattle.spec_hall.proofs.DrivenLemmas.{balances-decided, exchanges-decided, nodes-decided}
 
 -- what is there is not absent
@@ -51,6 +52,8 @@ arranged-decided w past (Reask k weight) f kind other may might = absurd (cc)
 arranged-decided w past (Close k) f kind other may might = absurd (cc)
 arranged-decided w past (Start k index worker) f kind other may might = absurd (cc)
 arranged-decided w past (Finish k index worker outcome) f kind other may might = absurd (cc)
+arranged-decided w past (Leave k) f kind other may might = absurd (cc)
+arranged-decided w past (Arrive k brought) f kind other may might = absurd (cc)
 arranged-decided w past (Balance shares) (Open k ask) kind other may might = absurd (cc)
 arranged-decided w past (Balance shares) (Revise k number r) kind other may might = absurd (cc)
 arranged-decided w past (Balance shares) (Reask k weight) kind other may might = absurd (cc)
@@ -59,6 +62,8 @@ arranged-decided w past (Balance shares) (Balance given) kind other may might = 
 arranged-decided w past (Balance shares) (Start k index worker) kind other may might = absurd (cc)
 arranged-decided w past (Balance shares) (Finish k index worker outcome) kind other may might = absurd (cc)
 arranged-decided w past (Balance shares) (Exchange k) kind other may might = absurd (may.due might.1.balance)
+arranged-decided w past (Balance shares) (Leave k) kind other may might = absurd (cc)
+arranged-decided w past (Balance shares) (Arrive k brought) kind other may might = absurd (cc)
 arranged-decided w past (Exchange j) (Open k ask) kind other may might = absurd (cc)
 arranged-decided w past (Exchange j) (Revise k number r) kind other may might = absurd (cc)
 arranged-decided w past (Exchange j) (Reask k weight) kind other may might = absurd (cc)
@@ -67,6 +72,8 @@ arranged-decided w past (Exchange j) (Balance given) kind other may might = absu
 arranged-decided w past (Exchange j) (Start k index worker) kind other may might = absurd (cc)
 arranged-decided w past (Exchange j) (Finish k index worker outcome) kind other may might = absurd (cc)
 arranged-decided w past (Exchange j) (Exchange k) kind other may might = ap Exchange (exchanges-decided past j k may.0 might.0 may.1 might.1)
+arranged-decided w past (Exchange j) (Leave k) kind other may might = absurd (cc)
+arranged-decided w past (Exchange j) (Arrive k brought) kind other may might = absurd (cc)
 
 -- none is allowed where nothing is due
 calm-none : (w : ℕ) (past : List Event) (e : Event) → IsCalm past → arranges e ≡ true → Allowed w past e → ⊥
@@ -78,6 +85,8 @@ calm-none w past (Balance shares) calm kind may = may.due calm.balance
 calm-none w past (Start k index worker) calm kind may = absurd (cc)
 calm-none w past (Finish k index worker outcome) calm kind may = absurd (cc)
 calm-none w past (Exchange k) calm kind may = found-not _ may.0 may.1.first calm.exchange
+calm-none w past (Leave k) calm kind may = absurd (cc)
+calm-none w past (Arrive k brought) calm kind may = absurd (cc)
 
 -- what is due until nothing is due is decided by the past
 dues-decided : (w : ℕ) (past es fs : List Event) → list_all arranges es ≡ true → list_all arranges fs ≡ true → LegalFrom w past es → LegalFrom w past fs → IsCalm (past ++ es) → IsCalm (past ++ fs) → es ≡ fs
@@ -237,22 +246,22 @@ reasks-decided w past k weight (Err reasking.OutOfMemory) (Err reasking.OutOfMem
 -- so is an open
 opens-decided : (w : ℕ) (past : List Event) (k : Key) (ask : Terms) (one other : Result (Unit {0}) OpenFault) (es fs : List Event) → IsOpening past k ask one es → IsOpening past k ask other fs → wanted (Opens k ask) one ≡ wanted (Opens k ask) other → Decided (Opens k ask) one other es fs
 opens-decided w past k ask (Ok done) (Ok made) es fs a b same = (refl, λ m. a.1 ∙ sym b.1)
-opens-decided w past k ask (Ok done) (Err opening.Duplicate) es fs a b same = absurd (there-not (job_of k (states past)) b.0 a.0.fresh)
+opens-decided w past k ask (Ok done) (Err opening.Duplicate) es fs a b same = absurd (both_ways (list_any (is_key k) (names_of past)) a.0.fresh b.0)
 opens-decided w past k ask (Ok done) (Err opening.TenantFull) es fs a b same = absurd (omega (arith, a.0.tenant_room, b.1))
 opens-decided w past k ask (Ok done) (Err opening.HallFull) es fs a b same = absurd (omega (arith, a.0.hall_room b.1, b.2))
 opens-decided w past k ask (Ok done) (Err opening.OutOfMemory) es fs a b same = absurd (cc)
-opens-decided w past k ask (Err opening.Duplicate) (Ok made) es fs a b same = absurd (there-not (job_of k (states past)) a.0 b.0.fresh)
+opens-decided w past k ask (Err opening.Duplicate) (Ok made) es fs a b same = absurd (both_ways (list_any (is_key k) (names_of past)) b.0.fresh a.0)
 opens-decided w past k ask (Err opening.Duplicate) (Err opening.Duplicate) es fs a b same = (refl, λ m. no-events es fs a.1 b.1)
-opens-decided w past k ask (Err opening.Duplicate) (Err opening.TenantFull) es fs a b same = absurd (there-not (job_of k (states past)) a.0 b.0)
-opens-decided w past k ask (Err opening.Duplicate) (Err opening.HallFull) es fs a b same = absurd (there-not (job_of k (states past)) a.0 b.0)
+opens-decided w past k ask (Err opening.Duplicate) (Err opening.TenantFull) es fs a b same = absurd (both_ways (list_any (is_key k) (names_of past)) b.0 a.0)
+opens-decided w past k ask (Err opening.Duplicate) (Err opening.HallFull) es fs a b same = absurd (both_ways (list_any (is_key k) (names_of past)) b.0 a.0)
 opens-decided w past k ask (Err opening.Duplicate) (Err opening.OutOfMemory) es fs a b same = absurd (cc)
 opens-decided w past k ask (Err opening.TenantFull) (Ok made) es fs a b same = absurd (omega (arith, b.0.tenant_room, a.1))
-opens-decided w past k ask (Err opening.TenantFull) (Err opening.Duplicate) es fs a b same = absurd (there-not (job_of k (states past)) b.0 a.0)
+opens-decided w past k ask (Err opening.TenantFull) (Err opening.Duplicate) es fs a b same = absurd (both_ways (list_any (is_key k) (names_of past)) a.0 b.0)
 opens-decided w past k ask (Err opening.TenantFull) (Err opening.TenantFull) es fs a b same = (refl, λ m. no-events es fs a.2 b.2)
 opens-decided w past k ask (Err opening.TenantFull) (Err opening.HallFull) es fs a b same = absurd (omega (arith, a.1, b.1))
 opens-decided w past k ask (Err opening.TenantFull) (Err opening.OutOfMemory) es fs a b same = absurd (cc)
 opens-decided w past k ask (Err opening.HallFull) (Ok made) es fs a b same = absurd (omega (arith, b.0.hall_room a.1, a.2))
-opens-decided w past k ask (Err opening.HallFull) (Err opening.Duplicate) es fs a b same = absurd (there-not (job_of k (states past)) b.0 a.0)
+opens-decided w past k ask (Err opening.HallFull) (Err opening.Duplicate) es fs a b same = absurd (both_ways (list_any (is_key k) (names_of past)) a.0 b.0)
 opens-decided w past k ask (Err opening.HallFull) (Err opening.TenantFull) es fs a b same = absurd (omega (arith, a.1, b.1))
 opens-decided w past k ask (Err opening.HallFull) (Err opening.HallFull) es fs a b same = (refl, λ m. no-events es fs a.3 b.3)
 opens-decided w past k ask (Err opening.HallFull) (Err opening.OutOfMemory) es fs a b same = absurd (cc)

@@ -1,14 +1,17 @@
 -- The worked examples of an ask that changes.
-use Rattle.std.proofs.Common.{◌≡◌, ℕ, zero, suc, ◌<◌, ◌≤◌, true, false, List, [], ◌∷◌, ◌++◌, length, map, get_or, Option, Some, None, option_map, inl, inr, refl, ap, arith}
-use Rattle.mal_base.specs.Asks.{Terms, IsAsk}
+use Rattle.std.proofs.Common.{◌≡◌, ℕ, zero, suc, ◌<◌, ◌≤◌, true, false, List, [], ◌∷◌, ◌++◌, length, map, get_or, Option, Some, option_map, inl, inr, refl, ap, arith}
+use Rattle.std.specs.List.{list_any}
+use Rattle.std.specs.Option.{option_map_or}
+use Rattle.mal_base.specs.Asks.{Terms}
 use Rattle.mal_base.specs.Names.{is_name}
 use Rattle.spec_balance.specs.Fair.{IsFair, HasNoBetterClaim, demand_at, volume_at}
-use Rattle.spec_job.specs.Examples.{one_of_two, weight}
+use Rattle.spec_job.specs.Examples.{one_of_two}
 use Rattle.spec_job.specs.KeyedJob.{KeyedJob}
 use Rattle.spec_job.specs.SoloMachine.{Opened, Revised, Volume, solo}
 use Rattle.spec_hall.specs.Events.{Event, Open, Close}
 use Rattle.spec_hall.specs.Legal.{IsBalanceDue, Legal, MayOpen, MayRevise, job_of, jobs_of, tenant_count}
-use Rattle.spec_hall.specs.States.{Live, states}
+use Rattle.spec_hall.specs.Own.{is_key}
+use Rattle.spec_hall.specs.States.{Live, names_of, states}
 use Rattle.spec_hall.specs.Examples.{HasReasks, after, before, eight, key, posted, raised, three}
 
 -- what holds at each of three places
@@ -71,7 +74,7 @@ fair-after = record {
 abbrev opened : ℕ → ℕ → KeyedJob
 opened letter priority = record { key = key letter; state = solo (Opened (eight priority) ∷ []) }
 
-may-open : (past : List Event) (letter priority : ℕ) → is_name (letter ∷ []) ≡ true → 1 ≤ priority → priority ≤ 1000 → job_of (key letter) (states past) ≡ None → jobs_of (97 ∷ []) (states past) < 64 → tenant_count (states past) < 64 → MayOpen past (key letter) (eight priority)
+may-open : (past : List Event) (letter priority : ℕ) → is_name (letter ∷ []) ≡ true → 1 ≤ priority → priority ≤ 1000 → list_any (is_key (key letter)) (names_of past) ≡ false → jobs_of (97 ∷ []) (names_of past) < 64 → tenant_count (names_of past) < 64 → MayOpen past (key letter) (eight priority)
 may-open past letter priority name low high fresh jobs tenants = record {
   tenant = refl;
   job = name;
@@ -96,11 +99,11 @@ three_open = posted 112 4 ++ posted 113 2 ++ Open (key 114) (eight 1) ∷ []
 
 -- the jobs were not listed before the first balancing
 three-due : IsBalanceDue three
-three-due same = let many : 3 ≡ 0 = ap length same in absurd (omega (arith, many))
+three-due same = let many : 3 ≡ 0 = ap (λ (o : Option (List Live)). option_map_or (λ (ls : List Live). length ls) o 0) same in absurd (omega (arith, many))
 
 -- the last job had another priority
 raised-due : IsBalanceDue raised
-raised-due same = let last : 4 ≡ 1 = ap (λ (ls : List Live). get_or (map (λ (l : Live). l.priority) ls) 2 0) same in absurd (omega (arith, last))
+raised-due same = let last : 4 ≡ 1 = ap (λ (o : Option (List Live)). option_map_or (λ (ls : List Live). get_or (map (λ (l : Live). l.priority) ls) 2 0) o 0) same in absurd (omega (arith, last))
 
 legal-reask : Legal 8 after
 legal-reask = (

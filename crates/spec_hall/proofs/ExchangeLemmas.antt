@@ -5,10 +5,10 @@ use Rattle.spec_job.specs.Viewed.{and_own}
 use Rattle.spec_hall.specs.Events.{Event, Exchange}
 use Rattle.spec_hall.specs.States.{states, exchange_due}
 use Rattle.spec_hall.specs.Legal.{Allowed}
-use Rattle.spec_hall.specs.Seats.{Seat, IsSeated, jobs_in, is_due, first_exchange}
+use Rattle.spec_hall.specs.Seats.{Seat, IsSeated, jobs_in, is_balancing_due, first_exchange}
 use Rattle.spec_hall.proofs.TouchLemmas.{exchange-touches}
 use Rattle.spec_hall.proofs.SeatLemmas.{reseated, seats-touch}
-use Rattle.spec_hall.proofs.DueLemmas.{seated-calm}
+use Rattle.spec_hall.proofs.DueLemmas.{balancing-calm}
 
 -- the first seat of whose job an exchange is due
 pub first-found : (ss : List Seat) (n : ℕ) (s : Seat) → first_exchange ss ≡ Some n → slice_get ss n ≡ Some s → exchange_due (jobs_in ss) ≡ Some s.job.titled
@@ -43,18 +43,18 @@ first-none (x ∷ xs) none = by_test (is_exchange_due x.job.titled.state) none (
 pub seated-no_exchange : (w : ℕ) (h : List Event) (ss : List Seat) → IsSeated w h ss → first_exchange ss ≡ None → exchange_due (states h) ≡ None
 seated-no_exchange w h ss seated none = ap exchange_due seated.jobs ∙ first-none ss none
 
--- where no job has changed, the first exchange that is due is allowed
-pub exchange-allowed : (w : ℕ) (h : List Event) (ss : List Seat) (n : ℕ) (s : Seat) → IsSeated w h ss → is_due ss ≡ false → first_exchange ss ≡ Some n → slice_get ss n ≡ Some s → Allowed w h (Exchange s.job.titled.key)
+-- where no balancing is due, the first exchange that is due is allowed
+pub exchange-allowed : (w : ℕ) (h : List Event) (ss : List Seat) (n : ℕ) (s : Seat) → IsSeated w h ss → is_balancing_due h ss ≡ false → first_exchange ss ≡ Some n → slice_get ss n ≡ Some s → Allowed w h (Exchange s.job.titled.key)
 exchange-allowed w h ss n s seated calm first at = (
   s.job.titled,
   record {
-    balance = seated-calm w h ss seated calm;
+    balance = balancing-calm w h ss seated calm;
     first = ap exchange_due seated.jobs ∙ first-found ss n s first at;
     key = refl;
   },
 )
 
 -- and the job of that seat takes its step
-pub seated-exchange : (w : ℕ) (h : List Event) (ss : List Seat) (n : ℕ) (s : Seat) → IsSeated w h ss → is_due ss ≡ false → first_exchange ss ≡ Some n → slice_get ss n ≡ Some s → IsSeated w (h ++ Exchange s.job.titled.key ∷ []) (slice_set ss n (reseated s (and_own s.job Exchanged)))
+pub seated-exchange : (w : ℕ) (h : List Event) (ss : List Seat) (n : ℕ) (s : Seat) → IsSeated w h ss → is_balancing_due h ss ≡ false → first_exchange ss ≡ Some n → slice_get ss n ≡ Some s → IsSeated w (h ++ Exchange s.job.titled.key ∷ []) (slice_set ss n (reseated s (and_own s.job Exchanged)))
 seated-exchange w h ss n s seated calm first at =
     seats-touch w h ss n s (Exchange s.job.titled.key) Exchanged (and_own s.job Exchanged) seated at (exchange-allowed w h ss n s seated calm first at) (exchange-touches s.job.titled.key) refl refl

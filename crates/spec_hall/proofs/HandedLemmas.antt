@@ -1,6 +1,5 @@
 -- What a lease was handed out with stays, whatever happens while it is out.
-use Rattle.std.proofs.Common.{◌≡◌, ℕ, zero, suc, ◌+◌, ◌<◌, ◌≤◌, Bool, true, false, cond, not, ◌&&◌, ◌||◌, ◌==◌, List, [], ◌∷◌, ◌++◌, get_or, slice_set, length, Option, Some, None, option_map, is_some, inl, inr, ◌⊎◌, refl, sym, ◌∙◌, ap, subst, arith}
-use Rattle.std.specs.List.{list_any}
+use Rattle.std.proofs.Common.{◌≡◌, ℕ, zero, suc, ◌+◌, ◌<◌, ◌≤◌, Bool, true, false, cond, not, ◌&&◌, ◌==◌, List, [], ◌∷◌, ◌++◌, get_or, slice_set, length, Option, Some, None, option_map, is_some, inl, inr, ◌⊎◌, refl, sym, ◌∙◌, ap, subst, arith}
 use Rattle.std.specs.Option.{option_map_or}
 use Rattle.std.proofs.lemmas.Bool.{both_ways, false_from_ne_true}
 use Rattle.std.proofs.lemmas.Bool.Decides.{Decides-eqb}
@@ -13,16 +12,17 @@ use Rattle.spec_job.specs.KeyedJob.{Key}
 use Rattle.spec_job.proofs.PlacesLemmas.{marked-place, set-place}
 use Rattle.spec_job.proofs.StepLemmas.{finish-keeps}
 use Rattle.spec_hall.specs.Calls.{Handed, handed}
-use Rattle.spec_hall.specs.Events.{Event, Open, Revise, Reask, Close, Balance, Start, Finish, Exchange}
-use Rattle.spec_hall.specs.Leases.{Numbered, job_number, numbered, place_among, start_number}
+use Rattle.spec_hall.specs.Events.{Event, Open, Revise, Reask, Close, Balance, Start, Finish, Exchange, Leave, Arrive}
+use Rattle.spec_hall.specs.Leases.{Numbered, numbered, start_number}
 use Rattle.spec_hall.specs.Legal.{Allowed, Legal}
 use Rattle.spec_hall.specs.Own.{own, own_step, adds, adds_volume, is_key, volume_in}
-use Rattle.spec_hall.specs.States.{LeaseOut, keys_of, leases, lease_of}
+use Rattle.spec_hall.specs.States.{LeaseOut, job_number, leases, lease_of}
 use Rattle.spec_hall.proofs.KeyLemmas.{is_key-Decides}
 use Rattle.spec_hall.proofs.LeasesLemmas.{lease-out, lease-worker, start-free}
-use Rattle.spec_hall.proofs.OrderlyLemmas.{lease-opened, legal-orderly}
+use Rattle.spec_hall.proofs.ComingLemmas.{arrive-comes, number-other, number-stays, open-comes}
+use Rattle.spec_hall.proofs.OrderlyLemmas.{lease-opened, legal-orderly, open-absent, was_opened}
 use Rattle.spec_hall.proofs.OutLemmas.{EndsAt, finished-out, is_out, lease-ends, settled-same}
-use Rattle.spec_hall.proofs.PushLemmas.{Legal-push, adds-keeps, adds_volume-keeps, keys-push, own-push, solo-push}
+use Rattle.spec_hall.proofs.PushLemmas.{Legal-push, adds-keeps, adds_volume-keeps, own-push, solo-push}
 use Rattle.spec_hall.proofs.SpotLemmas.{numbered-push}
 use Rattle.spec_hall.proofs.StatesLemmas.{job_of-absent}
 use Rattle.spec_hall.proofs.OnceLemmas.{open-other}
@@ -146,6 +146,21 @@ finish-other w past k index v o worker l is mine same = both_ways (is_out (solo 
         ∙ (finished-out (solo (own k past)) index index o there (within (solo (own k past)).places index there)
         ∙ and-false (is_out (solo (own k past)) index) (index == index) ((Decides-eqb index index).1 refl)))
 
+-- it is of another job than one that comes
+there-still : (w : ℕ) (past : List Event) (e : Event) (worker : ℕ) (l : LeaseOut) → IsOutStill w past e worker l → was_opened past l.key ≡ true
+there-still w past e worker l is = lease-opened past worker l.index l.key (legal-orderly w past is.legal) (held-as past worker l (mine-is w past e worker l is) is.out)
+
+opened-other : (w : ℕ) (past : List Event) (k : Key) (ask : Terms) (worker : ℕ) (l : LeaseOut) → IsOutStill w past (Open k ask) worker l → is_key l.key k ≡ false
+opened-other w past k ask worker l is = open-other past k l.key (there-still w past (Open k ask) worker l is) (open-absent past k (legal-orderly w past is.legal) is.allowed.fresh)
+
+arrive-other : (w : ℕ) (past : List Event) (k : Key) (brought : List Own) (worker : ℕ) (l : LeaseOut) → IsOutStill w past (Arrive k brought) worker l → is_key l.key k ≡ false
+arrive-other w past k brought worker l is = open-other past k l.key (there-still w past (Arrive k brought) worker l is) (job_of-absent past k is.allowed.absent)
+
+-- a leave takes no more than the volume
+leave-keeps : (P : List Own → Type 0) (mine : Bool) (es : List Own) → P es → P (adds_volume 0 es) → P (cond mine (adds_volume 0 es) es)
+leave-keeps P true es h more = more
+leave-keeps P false es h more = h
+
 event-left : (w : ℕ) (past : List Event) (e : Event) (worker : ℕ) (l : LeaseOut) → IsOutStill w past e worker l → left_at (solo (own_step l.key (own l.key past) e)) l.index ≡ left_at (solo (own l.key past)) l.index
 event-left w past (Open k ask) worker l is = adds-left (is_key l.key k) (own l.key past) (Opened ask) l.index (λ s. refl)
 event-left w past (Revise k number r) worker l is = adds-left (is_key l.key k) (own l.key past) (Revised r) l.index (λ s. revised-left s r l.index)
@@ -155,6 +170,8 @@ event-left w past (Balance shares) worker l is = volume-left (volume_in l.key sh
 event-left w past (Start k index v) worker l is = other-left (is_key l.key k) (own l.key past) (Started index) l.index (λ mine s. started-left s index l.index (start-other w past k index v worker l is mine))
 event-left w past (Finish k index v o) worker l is = other-left (is_key l.key k) (own l.key past) (Finished index o) l.index (λ mine s. finished-left s index l.index o (finish-other w past k index v o worker l is mine))
 event-left w past (Exchange k) worker l is = adds-left (is_key l.key k) (own l.key past) Exchanged l.index (λ s. exchanged-left s l.index)
+event-left w past (Leave k) worker l is = leave-keeps (λ os. left_at (solo os) l.index ≡ left_at (solo (own l.key past)) l.index) (is_key l.key k) (own l.key past) refl (volume-left 0 (own l.key past) l.index)
+event-left w past (Arrive k brought) worker l is = ap (λ (b : Bool). left_at (solo (cond b brought (own l.key past))) l.index) (arrive-other w past k brought worker l is)
 
 -- the profile that a job asks for is left by an own event that is no opening
 adds-profile : (mine : Bool) (es : List Own) (o : Own) → (solo_step (solo es) o).ask.profile ≡ (solo es).ask.profile → (solo (adds mine es o)).ask.profile ≡ (solo es).ask.profile
@@ -166,9 +183,7 @@ volume-profile v es = adds_volume-keeps (λ os. (solo os).ask.profile ≡ (solo 
 -- its job asks for the profile that it asked for
 event-profile : (w : ℕ) (past : List Event) (e : Event) (worker : ℕ) (l : LeaseOut) → IsOutStill w past e worker l → (solo (own_step l.key (own l.key past) e)).ask.profile ≡ (solo (own l.key past)).ask.profile
 event-profile w past (Open k ask) worker l is =
-    let held : lease_of worker (leases past) ≡ Some (record { worker = worker; key = l.key; index = l.index }) = held-as past worker l (mine-is w past (Open k ask) worker l is) is.out in
-    let other : is_key l.key k ≡ false = open-other past k l.key (lease-opened past worker l.index l.key (legal-orderly w past is.legal) held) (job_of-absent past k is.allowed.fresh) in
-    ap (λ (b : Bool). (solo (adds b (own l.key past) (Opened ask))).ask.profile) other
+    ap (λ (b : Bool). (solo (adds b (own l.key past) (Opened ask))).ask.profile) (opened-other w past k ask worker l is)
 event-profile w past (Revise k number r) worker l is = adds-profile (is_key l.key k) (own l.key past) (Revised r) (ap (λ (a : Terms). a.profile) (revise-keeps (solo (own l.key past)) r).ask)
 event-profile w past (Reask k weight) worker l is = adds-profile (is_key l.key k) (own l.key past) (Reasked weight) refl
 event-profile w past (Close k) worker l is = adds-profile (is_key l.key k) (own l.key past) Closed refl
@@ -176,27 +191,21 @@ event-profile w past (Balance shares) worker l is = volume-profile (volume_in l.
 event-profile w past (Start k index v) worker l is = adds-profile (is_key l.key k) (own l.key past) (Started index) refl
 event-profile w past (Finish k index v o) worker l is = adds-profile (is_key l.key k) (own l.key past) (Finished index o) (ap (λ (a : Terms). a.profile) (finish-keeps (solo (own l.key past)) index o).ask)
 event-profile w past (Exchange k) worker l is = adds-profile (is_key l.key k) (own l.key past) Exchanged refl
+event-profile w past (Leave k) worker l is = leave-keeps (λ os. (solo os).ask.profile ≡ (solo (own l.key past)).ask.profile) (is_key l.key k) (own l.key past) refl (volume-profile 0 (own l.key past))
+event-profile w past (Arrive k brought) worker l is = ap (λ (b : Bool). (solo (cond b brought (own l.key past))).ask.profile) (arrive-other w past k brought worker l is)
 
 -- its job keeps its number
-among-push : (k j : Key) (ks : List Key) → list_any (is_key k) ks ≡ true → place_among k (ks ++ j ∷ []) ≡ place_among k ks
-among-push k j [] e = absurd (cc)
-among-push k j (x ∷ xs) e = by_test (is_key k x) e (among-push k j xs)
-  where
-    by_test : (b : Bool) → (b || list_any (is_key k) xs) ≡ true → (list_any (is_key k) xs ≡ true → place_among k (xs ++ j ∷ []) ≡ place_among k xs) → cond b 0 (suc (place_among k (xs ++ j ∷ []))) ≡ cond b 0 (suc (place_among k xs))
-    by_test true f rest = refl
-    by_test false f rest = ap suc (rest f)
-
-number-stays : (w : ℕ) (past : List Event) (e : Event) (worker : ℕ) (l : LeaseOut) → IsOutStill w past e worker l → job_number l.key (past ++ e ∷ []) ≡ job_number l.key past
-number-stays w past (Open k ask) worker l is =
-    ap (place_among l.key) (keys-push past (Open k ask))
-    ∙ among-push l.key k (keys_of past) (lease-opened past worker l.index l.key (legal-orderly w past is.legal) (held-as past worker l (mine-is w past (Open k ask) worker l is) is.out))
-number-stays w past (Revise k number r) worker l is = ap (place_among l.key) (keys-push past (Revise k number r))
-number-stays w past (Reask k weight) worker l is = ap (place_among l.key) (keys-push past (Reask k weight))
-number-stays w past (Close k) worker l is = ap (place_among l.key) (keys-push past (Close k))
-number-stays w past (Balance shares) worker l is = ap (place_among l.key) (keys-push past (Balance shares))
-number-stays w past (Start k index v) worker l is = ap (place_among l.key) (keys-push past (Start k index v))
-number-stays w past (Finish k index v o) worker l is = ap (place_among l.key) (keys-push past (Finish k index v o))
-number-stays w past (Exchange k) worker l is = ap (place_among l.key) (keys-push past (Exchange k))
+number-keeps : (w : ℕ) (past : List Event) (e : Event) (worker : ℕ) (l : LeaseOut) → IsOutStill w past e worker l → job_number l.key (past ++ e ∷ []) ≡ job_number l.key past
+number-keeps w past (Open k ask) worker l is = number-other l.key k past (Open k ask) (open-comes k ask) (opened-other w past k ask worker l is)
+number-keeps w past (Revise k number r) worker l is = number-stays l.key past (Revise k number r) (record { steps = λ j n. refl; counts = λ n. refl })
+number-keeps w past (Reask k weight) worker l is = number-stays l.key past (Reask k weight) (record { steps = λ j n. refl; counts = λ n. refl })
+number-keeps w past (Close k) worker l is = number-stays l.key past (Close k) (record { steps = λ j n. refl; counts = λ n. refl })
+number-keeps w past (Balance shares) worker l is = number-stays l.key past (Balance shares) (record { steps = λ j n. refl; counts = λ n. refl })
+number-keeps w past (Start k index v) worker l is = number-stays l.key past (Start k index v) (record { steps = λ j n. refl; counts = λ n. refl })
+number-keeps w past (Finish k index v o) worker l is = number-stays l.key past (Finish k index v o) (record { steps = λ j n. refl; counts = λ n. refl })
+number-keeps w past (Exchange k) worker l is = number-stays l.key past (Exchange k) (record { steps = λ j n. refl; counts = λ n. refl })
+number-keeps w past (Leave k) worker l is = number-stays l.key past (Leave k) (record { steps = λ j n. refl; counts = λ n. refl })
+number-keeps w past (Arrive k brought) worker l is = number-other l.key k past (Arrive k brought) (arrive-comes k brought) (arrive-other w past k brought worker l is)
 
 -- its worker has no later start
 starts-stay : (w : ℕ) (past : List Event) (e : Event) (worker : ℕ) (l : LeaseOut) → IsOutStill w past e worker l → start_number worker (past ++ e ∷ []) ≡ start_number worker past
@@ -216,6 +225,8 @@ starts-stay w past (Start k index v) worker l is =
         cc
 starts-stay w past (Finish k index v o) worker l is = ap (λ (n : Numbered). n.last) (numbered-push worker past (Finish k index v o))
 starts-stay w past (Exchange k) worker l is = ap (λ (n : Numbered). n.last) (numbered-push worker past (Exchange k))
+starts-stay w past (Leave k) worker l is = ap (λ (n : Numbered). n.last) (numbered-push worker past (Leave k))
+starts-stay w past (Arrive k brought) worker l is = ap (λ (n : Numbered). n.last) (numbered-push worker past (Arrive k brought))
 
 -- a lease from these parts
 abbrev handed_by : LeaseOut → ℕ → ℕ → ℕ → Left → Handed
@@ -229,7 +240,7 @@ handed-stays w past e worker l is =
     let start : start_number l.worker now ≡ start_number l.worker past = subst (λ (v : ℕ). start_number v now ≡ start_number v past) (sym same) (starts-stay w past e worker l is) in
     let left : left_at (solo (own l.key now)) l.index ≡ left_at (solo (own l.key past)) l.index = ap (λ (es : List Own). left_at (solo es) l.index) (own-push l.key past e) ∙ event-left w past e worker l is in
     let profile : (solo (own l.key now)).ask.profile ≡ (solo (own l.key past)).ask.profile = ap (λ (es : List Own). (solo es).ask.profile) (own-push l.key past e) ∙ event-profile w past e worker l is in
-    ap (λ (n : ℕ). handed_by l n (solo (own l.key now)).ask.profile (start_number l.worker now) (left_at (solo (own l.key now)) l.index)) (number-stays w past e worker l is)
+    ap (λ (n : ℕ). handed_by l n (solo (own l.key now)).ask.profile (start_number l.worker now) (left_at (solo (own l.key now)) l.index)) (number-keeps w past e worker l is)
     ∙ (ap (λ (n : ℕ). handed_by l (job_number l.key past) n (start_number l.worker now) (left_at (solo (own l.key now)) l.index)) profile
     ∙ (ap (λ (n : ℕ). handed_by l (job_number l.key past) (solo (own l.key past)).ask.profile n (left_at (solo (own l.key now)) l.index)) start
     ∙ ap (λ (p : Left). handed_by l (job_number l.key past) (solo (own l.key past)).ask.profile (start_number l.worker past) p) left))

@@ -8,15 +8,17 @@ use Rattle.std.proofs.lemmas.Bool.{and_from, and_parts, both_ways}
 use Rattle.std.proofs.lemmas.Bool.Decides.{Decides-eqb, Decides-ltb}
 use Rattle.std.proofs.lemmas.List.Elements.{All-nil, All-filter, All-head, All-push, All-tail}
 use Rattle.std.proofs.lemmas.List.Folds.{find-append}
+use Rattle.std.proofs.lemmas.List.Sums.{sum_by-cons}
 use Rattle.mal_base.specs.declared.verdict.Outcome.{Outcome}
+use Rattle.spec_job.specs.Counts.{starts_out}
 use Rattle.spec_job.specs.SoloMachine.{Own, Opened, Revised, Reasked, Closed, Volume, Started, Finished, Exchanged, SoloMachine, NodeSlot, Lease, vacant, is_live, out_count, place_at, solo, solo_step, startable}
 use Rattle.spec_job.specs.KeyedJob.{Key, KeyedJob}
 use Rattle.spec_job.proofs.LeftLemmas.{solo-tidy}
 use Rattle.spec_job.proofs.PlacesLemmas.{get-vacant}
-use Rattle.spec_hall.specs.Events.{Event, Open, Revise, Reask, Close, Balance, Start, Finish, Exchange}
+use Rattle.spec_hall.specs.Events.{Event, Open, Revise, Reask, Close, Balance, Start, Finish, Exchange, Leave, Arrive}
 use Rattle.spec_hall.specs.Own.{own, own_step, adds, adds_volume, is_key, volume_in}
-use Rattle.spec_hall.specs.States.{Candidate, LeaseOut, keys_of, titled, leases, leases_step, lease_of}
-use Rattle.spec_hall.specs.Legal.{Allowed, Legal, MayStart}
+use Rattle.spec_hall.specs.States.{Candidate, LeaseOut, keys_of, states, titled, lives, leases, leases_step, lease_of}
+use Rattle.spec_hall.specs.Legal.{Allowed, Legal, MayArrive, MayStart}
 use Rattle.spec_hall.specs.Leases.{AreApart, AreLeases, IsWorker, LegalLeases, is_of, lease_at}
 use Rattle.spec_hall.specs.Seats.{Seat}
 use Rattle.spec_hall.proofs.SeatLemmas.{seated-none, sits-at}
@@ -24,7 +26,8 @@ use Rattle.spec_hall.proofs.IdleLemmas.{seated-volumes}
 use Rattle.spec_hall.proofs.SeatedLemmas.{HasSeats, SeatOf, event-seats, legal-seats, opened-seat}
 use Rattle.spec_hall.proofs.KeyLemmas.{is_key-Decides, is_key-same, key-stands}
 use Rattle.spec_hall.proofs.PushLemmas.{own-push, solo-push, leases-push, adds-keeps, adds_volume-keeps}
-use Rattle.spec_hall.proofs.StatesLemmas.{legal_from-keeps}
+use Rattle.spec_hall.proofs.OrderlyLemmas.{HasOpened, IsOrderly, legal-orderly, was_opened}
+use Rattle.spec_hall.proofs.StatesLemmas.{job_of-absent, legal_from-keeps}
 use Rattle.spec_hall.proofs.RunnableLemmas.{picked-may}
 use Rattle.spec_hall.proofs.OutLemmas.{is_out, revised-out, exchanged-out, started-out, finished-out}
 
@@ -225,11 +228,11 @@ All-at P (y ∷ ys) zero x h e = let same : y ≡ x = cc in subst P same (All-he
 All-at P (y ∷ ys) (suc n) x h e = All-at P ys n x (All-tail P y ys h) e
 
 -- a node that starts is below the number of places, and at home
-record MayLeave (s : SoloMachine) (i : ℕ) : Type 0 where
+record MayGo (s : SoloMachine) (i : ℕ) : Type 0 where
   low : i < length s.places
   home : is_out s i ≡ false
 
-start-leaves : (w : ℕ) (past : List Event) (k : Key) (i worker : ℕ) (choice : Candidate) → w ≤ 64 → HasSeats w past → MayStart w past k i worker choice → MayLeave (solo (own k past)) i
+start-leaves : (w : ℕ) (past : List Event) (k : Key) (i worker : ℕ) (choice : Candidate) → w ≤ 64 → HasSeats w past → MayStart w past k i worker choice → MayGo (solo (own k past)) i
 start-leaves w past k i worker choice bound has may = record { low = omega (arith, below, most, count); home = at_home (place_at s i).out parts.1 }
   where
     s : SoloMachine
@@ -254,7 +257,7 @@ start-leaves w past k i worker choice bound has may = record { low = omega (arit
     below = (Decides-ltb i s.volume).0 (and_parts (is_live s) (nat_lt i s.volume) parts.0).1
 
     most : s.volume ≤ w
-    most = subst (λ (t : KeyedJob). t.state.volume ≤ w) (sym machine) (All-at (λ (x : Seat). x.job.titled.state.volume ≤ w) has.seats found.at found.seat (seated-volumes w past has.seats has.are) found.is)
+    most = subst (λ (t : KeyedJob). t.state.volume ≤ w) (sym machine) (All-at (λ (x : Seat). x.job.titled.state.volume ≤ w) has.seats found.at found.seat (seated-volumes w past has.seats (lives (states past)) has.are (sym may.balance)) found.is)
 
     count : length s.places ≡ 64
     count = (solo-tidy (own k past)).places.count
@@ -274,7 +277,7 @@ start-leases w past k i worker choice bound has may are = record {
     l : LeaseOut
     l = record { worker = worker; key = k; index = i }
 
-    leave : MayLeave (solo (own k past)) i
+    leave : MayGo (solo (own k past)) i
     leave = start-leaves w past k i worker choice bound has may
 
     now : leases (past ++ Start k i worker ∷ []) ≡ leases past ++ l ∷ []
@@ -323,6 +326,48 @@ finish-leases w past k i worker outcome may are = record {
         ap (λ (s : SoloMachine). is_out s n) (solo-push (own j past) (Finished i outcome)) ∙ finished-out (solo (own j past)) i n outcome there (within-out (solo (own j past)).places i there)
     outs j n false e = and-true (is_out (solo (own j past)) n)
 
+-- a leave takes no more than the volume
+leave-out : (mine : Bool) (es : List Own) (i : ℕ) → is_out (solo (cond mine (adds_volume 0 es) es)) i ≡ is_out (solo es) i
+leave-out true es i = adds_volume-out 0 es i
+leave-out false es i = refl
+
+-- what arrives has nothing out
+home-cons : (p : NodeSlot) (ps : List NodeSlot) → starts_out (p ∷ ps) ≡ 0 → (is_some p.out ≡ false) × (starts_out ps ≡ 0)
+home-cons p ps e = by_test (is_some p.out) (sym (sum_by-cons (λ (q : NodeSlot). cond (is_some q.out) 1 0) p ps) ∙ e)
+  where
+    by_test : (b : Bool) → cond b 1 0 + starts_out ps ≡ 0 → (b ≡ false) × (starts_out ps ≡ 0)
+    by_test true q = absurd (omega (arith, q))
+    by_test false q = (refl, omega (arith, q))
+
+none-home : (ps : List NodeSlot) (i : ℕ) → starts_out ps ≡ 0 → is_some (get_or ps i vacant).out ≡ false
+none-home [] i e = refl
+none-home (p ∷ ps) zero e = (home-cons p ps e).0
+none-home (p ∷ ps) (suc i) e = none-home ps i (home-cons p ps e).1
+
+-- and no lease is of a job that is not there
+none-at : (past : List Event) (k : Key) (i : ℕ) (ls : List LeaseOut) → was_opened past k ≡ false → All (HasOpened past) ls → is_some (lease_at k i ls) ≡ false
+none-at past k i [] absent h = refl
+none-at past k i (l ∷ ls) absent h = by_test (is_key k l.key) refl (none-at past k i ls absent (All-tail (HasOpened past) l ls h))
+  where
+    by_test : (b : Bool) → is_key k l.key ≡ b → is_some (lease_at k i ls) ≡ false → is_some (cond (b && i == l.index) (Some l) (lease_at k i ls)) ≡ false
+    by_test true q rest = absurd (both_ways (was_opened past k) absent (subst (λ (x : Key). was_opened past x ≡ true) (sym ((is_key-Decides k l.key).0 q)) (All-head (HasOpened past) l ls h)))
+    by_test false q rest = rest
+
+arrive-out : (w : ℕ) (past : List Event) (k : Key) (brought : List Own) → MayArrive past k brought → HasSeats w past → AreLeases w past → (j : Key) (i : ℕ) → is_out (solo (own_step j (own j past) (Arrive k brought))) i ≡ is_out (solo (own j past)) i
+arrive-out w past k brought may has are j i = by_test (is_key j k) refl
+  where
+    orderly : IsOrderly past
+    orderly = legal-orderly w past has.are.legal
+
+    away : is_out (solo (own k past)) i ≡ false
+    away = are.nodes k i ∙ none-at past k i (leases past) (job_of-absent past k may.absent) orderly.leased
+
+    by_test : (b : Bool) → is_key j k ≡ b → is_out (solo (cond b brought (own j past))) i ≡ is_out (solo (own j past)) i
+    by_test true q =
+        let mine : is_out (solo (own j past)) i ≡ false = subst (λ (x : Key). is_out (solo (own x past)) i ≡ false) (sym ((is_key-Decides j k).0 q)) away in
+        none-home (solo brought).places i may.home ∙ sym mine
+    by_test false q = refl
+
 event-leases : (w : ℕ) (past : List Event) (e : Event) → w ≤ 64 → Allowed w past e → HasSeats w past → AreLeases w past → AreLeases w (past ++ e ∷ [])
 event-leases w past (Open k ask) bound may has are = same-leases w past (Open k ask) refl (λ j i. adds-out (is_key j k) (own j past) (Opened ask) i (λ s. refl)) are
 event-leases w past (Revise k number r) bound may has are = same-leases w past (Revise k number r) refl (λ j i. adds-out (is_key j k) (own j past) (Revised r) i (λ s. revised-out s r i)) are
@@ -332,6 +377,8 @@ event-leases w past (Balance shares) bound may has are = same-leases w past (Bal
 event-leases w past (Start k index worker) bound may has are = start-leases w past k index worker may.0 bound has may.1 are
 event-leases w past (Finish k index worker outcome) bound may has are = finish-leases w past k index worker outcome may are
 event-leases w past (Exchange k) bound may has are = same-leases w past (Exchange k) refl (λ j i. adds-out (is_key j k) (own j past) Exchanged i (λ s. exchanged-out s i)) are
+event-leases w past (Leave k) bound may has are = same-leases w past (Leave k) refl (λ j i. leave-out (is_key j k) (own j past) i) are
+event-leases w past (Arrive k brought) bound may has are = same-leases w past (Arrive k brought) refl (λ j i. arrive-out w past k brought may has are j i) are
 
 -- the jobs have seats and the leases are in order
 record IsOrdered (w : ℕ) (past : List Event) : Type 0 where
@@ -355,7 +402,7 @@ pub record IsFree (past : List Event) (k : Key) (i : ℕ) : Type 0 where
 
 pub start-free : (w : ℕ) (past : List Event) (k : Key) (i worker : ℕ) → 1 ≤ w → w ≤ 64 → Legal w past → Allowed w past (Start k i worker) → IsFree past k i
 start-free w past k i worker some bound legal may =
-    let leave : MayLeave (solo (own k past)) i = start-leaves w past k i worker may.0 bound (legal-seats w past some legal) may.1 in
+    let leave : MayGo (solo (own k past)) i = start-leaves w past k i worker may.0 bound (legal-seats w past some legal) may.1 in
     let count : length (solo (own k past)).places ≡ 64 = (solo-tidy (own k past)).places.count in
     record { low = omega (arith, leave.low, count); home = λ v j e same. there v j e same leave.home }
   where

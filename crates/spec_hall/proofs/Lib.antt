@@ -14,7 +14,9 @@ pub mod RunnableLemmas
 pub mod PickLemmas
 pub mod ExchangeLemmas
 pub mod LeasesLemmas
+pub mod ComingLemmas
 pub mod SpotLemmas
+pub mod StayLemmas
 pub mod GoesOnLemmas
 pub mod JournalLemmas
 pub mod HandedLemmas
@@ -23,17 +25,20 @@ pub mod ArrangeLemmas
 pub mod CallLemmas
 pub mod DecidedCallLemmas
 pub mod OpenedLemmas
+pub mod OrderlyLemmas
+pub mod OnceLemmas
+pub mod MovedLemmas
+pub mod SingleLemmas
+pub mod IsolationLemmas
 -- what this crate alone cites
-mod OrderlyLemmas
-mod OnceLemmas
 mod LastingLemmas
-mod SingleLemmas
+mod LawfulLemmas
+mod OngoingLemmas
 mod IdleLemmas
 mod MeasureLemmas
 mod LeftLemmas
 mod SeatedLemmas
 mod OutLemmas
-mod IsolationLemmas
 mod PickedLemmas
 mod ExampleLemmas
 mod UpToLemmas

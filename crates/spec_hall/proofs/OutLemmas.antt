@@ -10,6 +10,7 @@ use Rattle.mal_revision.specs.Posted.{Posted}
 use Rattle.spec_node.specs.State.{Node}
 use Rattle.spec_job.specs.Journal.{replay}
 use Rattle.spec_job.specs.SoloMachine.{Revised, Started, Finished, Exchanged, SoloMachine, NodeSlot, Lease, vacant, place_at, with_place, start_entries, current, solo_step, answered, spend, conclude, starve, first_empty, settled_by, is_late, finished_home, finished_lease, finished, exchanged}
+use Rattle.spec_job.proofs.FinishLemmas.{ran_home}
 use Rattle.spec_job.proofs.PlacesLemmas.{marked-place, set-here, set-place}
 
 -- whether a place is out
@@ -93,7 +94,7 @@ lease-ends s i p l Ran = record { place = record p { entries = p.entries ++ l.ad
     n = (replay s.ask.profile i (p.entries ++ l.adds)).node
 
     back : SoloMachine
-    back = record (with_place s i (record p { entries = p.entries ++ l.adds; out = None })) { log = s.log ++ (replay s.ask.profile i (p.entries ++ l.adds)).lines; ran = s.ran + 1 }
+    back = ran_home s i p l
 
     by_late : (b : Bool) → (cond b back (conclude n.verdict n back)).places ≡ slice_set s.places i (record p { entries = p.entries ++ l.adds; out = None })
     by_late true = refl

@@ -9,16 +9,16 @@ use Rattle.spec_node.proofs.BatchLemmas.{All-filtered, all-of}
 use Rattle.spec_job.specs.SoloMachine.{Own, Opened, Revised, Reasked, Closed, Volume, Started, Finished, Exchanged, unopened, solo, startable, place_at, clauses_in}
 use Rattle.spec_job.specs.KeyedJob.{Key, KeyedJob}
 use Rattle.spec_job.specs.Runnable.{MayCome, MayHappen, IsRunnable}
+use Rattle.spec_job.proofs.LawfulLemmas.{lawful-runnable}
 use Rattle.spec_job.proofs.OwnLemmas.{runnable-clauses_own}
 use Rattle.spec_job.proofs.RefutingLemmas.{runnable-answers_follow, runnable-answers_refute, runnable-answers_solve, runnable-logs_derived}
-use Rattle.spec_hall.specs.Events.{Event, Open, Revise, Reask, Close, Balance, Start, Finish, Exchange}
+use Rattle.spec_hall.specs.Events.{Event, Open, Revise, Reask, Close, Balance, Start, Finish, Exchange, Leave, Arrive}
 use Rattle.spec_hall.specs.Own.{own, own_step, adds, adds_volume, is_key, volume_in}
 use Rattle.spec_hall.specs.States.{Candidate, keys_of, states, titled, candidates_of, candidates_from, fewer}
 use Rattle.spec_hall.specs.Legal.{LegalFrom, Allowed, MayRevise, MayStart}
 use Rattle.spec_hall.specs.Laws.{LegalAnswersFollow, LegalAnswersRefute, LegalAnswersSolve, LegalClausesOwn, LegalIsRunnable, LegalLogsDerived}
 use Rattle.spec_hall.proofs.KeyLemmas.{is_key-Decides}
 use Rattle.spec_hall.proofs.PushLemmas.{own-push, adds-keeps, adds_volume-keeps}
-use Rattle.spec_hall.proofs.StatesLemmas.{job_of-absent}
 use Rattle.spec_hall.proofs.OrderlyLemmas.{IsOrderly, empty-orderly, orderly-push}
 
 -- the job that is found under a key is its machine run alone
@@ -110,7 +110,7 @@ adds_volume-runnable v es h = adds_volume-keeps (IsRunnable []) v es h (runnable
 -- an event that is allowed leaves a job's own events runnable
 event-runnable : (w : ℕ) (past : List Event) (e : Event) (j : Key) → Allowed w past e → IsOrderly past → IsRunnable [] (own j past) → IsRunnable [] (own_step j (own j past) e)
 event-runnable w past (Open k ask) j may orderly h =
-    adds-runnable (is_key j k) (own j past) (Opened ask) h (λ q. subst (λ (x : Key). solo (own x past) ≡ unopened) (sym ((is_key-Decides j k).0 q)) (ap solo (orderly.absent k (job_of-absent past k may.fresh))))
+    adds-runnable (is_key j k) (own j past) (Opened ask) h (λ q. subst (λ (x : Key). solo (own x past) ≡ unopened) (sym ((is_key-Decides j k).0 q)) (ap solo (orderly.unknown k may.fresh)))
 event-runnable w past (Revise k number r) j may orderly h = adds-runnable (is_key j k) (own j past) (Revised r) h (λ q. subst (λ (x : Key). MayCome (solo (own x past)) r) (sym ((is_key-Decides j k).0 q)) (revised-may past k number r may.0 may.1))
 event-runnable w past (Reask k weight) j may orderly h = adds-runnable (is_key j k) (own j past) (Reasked weight) h (λ _. tt)
 event-runnable w past (Close k) j may orderly h = adds-runnable (is_key j k) (own j past) Closed h (λ _. tt)
@@ -118,6 +118,16 @@ event-runnable w past (Balance shares) j may orderly h = adds_volume-runnable (v
 event-runnable w past (Start k index worker) j may orderly h = adds-runnable (is_key j k) (own j past) (Started index) h (λ q. subst (λ (x : Key). startable (solo (own x past)) index ≡ true) (sym ((is_key-Decides j k).0 q)) (picked-may w past k index worker may.0 may.1))
 event-runnable w past (Finish k index worker outcome) j may orderly h = adds-runnable (is_key j k) (own j past) (Finished index outcome) h (λ _. tt)
 event-runnable w past (Exchange k) j may orderly h = adds-runnable (is_key j k) (own j past) Exchanged h (λ _. tt)
+event-runnable w past (Leave k) j may orderly h = by_test (is_key j k)
+  where
+    by_test : (b : Bool) → IsRunnable [] (cond b (adds_volume 0 (own j past)) (own j past))
+    by_test true = adds_volume-runnable 0 (own j past) h
+    by_test false = h
+event-runnable w past (Arrive k brought) j may orderly h = by_test (is_key j k)
+  where
+    by_test : (b : Bool) → IsRunnable [] (cond b brought (own j past))
+    by_test true = lawful-runnable brought may.lawful
+    by_test false = h
 
 legal_from-runnable : (w : ℕ) (past es : List Event) (j : Key) → LegalFrom w past es → IsOrderly past → IsRunnable [] (own j past) → IsRunnable [] (own j (past ++ es))
 legal_from-runnable w past [] j legal orderly h = subst (λ (xs : List Event). IsRunnable [] (own j xs)) (sym (append-nil past)) h

@@ -1,4 +1,4 @@
-use Rattle.std.proofs.Common.{◌≡◌, ℕ, zero, suc, ◌≤◌, Bool, true, false, cond, List, [], ◌∷◌, ◌++◌, map, slice_get, slice_set, Option, Some, None, refl, sym, ◌∙◌, ap, subst, arith, append-nil}
+use Rattle.std.proofs.Common.{◌≡◌, ℕ, zero, suc, ◌≤◌, Bool, true, false, cond, List, [], ◌∷◌, ◌++◌, map, not, slice_get, slice_set, Option, Some, None, refl, sym, ◌∙◌, ap, subst, arith, append-nil}
 use Rattle.std.specs.Prelude.{All}
 use Rattle.std.specs.Option.{option_map}
 use Rattle.std.proofs.lemmas.List.{map-append, map-set}
@@ -13,15 +13,16 @@ use Rattle.spec_job.specs.SoloMachine.{Own, Revised, Reasked, Closed, Started, F
 use Rattle.spec_job.specs.KeyedJob.{Key, KeyedJob, stepped}
 use Rattle.spec_job.specs.Viewed.{JobView, and_own, and_start}
 use Rattle.spec_job.proofs.StepLemmas.{finish-keeps}
-use Rattle.spec_hall.specs.Events.{Event, Open, Revise, Reask, Close, Start, Finish}
-use Rattle.spec_hall.specs.States.{Live, keys_of, lives, states, titled, balanced}
-use Rattle.spec_hall.specs.Legal.{Allowed, MayOpen, MayRevise, MayReask, MayClose}
-use Rattle.spec_hall.specs.Seats.{Seat, HasNoneUnlisted, HaveVolumes, IsSeated, jobs_in, listed_seats, noted_of, listed_asks, listed_volumes, opened_seat}
+use Rattle.spec_hall.specs.Events.{Event, Open, Revise, Reask, Close, Start, Finish, Leave, Arrive}
+use Rattle.spec_hall.specs.Own.{is_key}
+use Rattle.spec_hall.specs.States.{Live, keys_of, states, titled, balanced}
+use Rattle.spec_hall.specs.Legal.{Allowed, MayOpen, MayRevise, MayReask, MayClose, MayLeave, MayArrive}
+use Rattle.spec_hall.specs.Seats.{Seat, HasNoneUnlisted, HaveVolumes, IsSeated, jobs_in, listed_seats, noted_of, listed_asks, listed_volumes, arrived_seat, opened_seat, seats_without}
 use Rattle.spec_hall.proofs.PushLemmas.{balanced-push, Legal-push}
 use Rattle.spec_hall.proofs.StatesLemmas.{job_of-absent}
-use Rattle.spec_hall.proofs.OrderlyLemmas.{IsOrderly, legal-orderly}
-use Rattle.spec_hall.proofs.TouchLemmas.{Touches, revise-touches, reask-touches, close-touches, start-touches, finish-touches, states-touch, states-open}
-use Rattle.spec_hall.proofs.VolumeLemmas.{revise-keeps}
+use Rattle.spec_hall.proofs.OrderlyLemmas.{IsOrderly, legal-orderly, name-absent}
+use Rattle.spec_hall.proofs.TouchLemmas.{Touches, revise-touches, reask-touches, close-touches, start-touches, finish-touches, states-touch, states-open, states-arrive, states-leave, jobs_without}
+use Rattle.spec_hall.proofs.VolumeLemmas.{revise-keeps, solo-volume}
 
 -- nothing is listed where there are no jobs
 none-volumes : (w : ℕ) → HaveVolumes w []
@@ -32,7 +33,10 @@ none-volumes w = record {
 
 -- no jobs in a hall without events
 pub seated-none : (w : ℕ) → 1 ≤ w → IsSeated w [] []
-seated-none w some = record { some_worker = some; legal = tt; jobs = refl; last = refl; volumes = none-volumes w }
+seated-none w some = record { some_worker = some; legal = tt; jobs = refl; last = λ ls q. sym (none-listed ls q); volumes = λ ls q. none-volumes w }
+  where
+    none-listed : (ls : List Live) → Some [] ≡ Some ls → [] ≡ ls
+    none-listed ls q = cc
 
 -- the keys of the jobs in their seats
 abbrev pub seat_keys : List Seat → List Key
@@ -114,9 +118,12 @@ seats-touch w h ss n s e o v seated at may touches step volume =
       some_worker = seated.some_worker;
       legal = Legal-push w h e seated.legal may;
       jobs = moved ∙ (ap (λ (ts : List KeyedJob). slice_set ts n (stepped (titled h s.job.titled.key) o)) seated.jobs ∙ (ap (λ (t : KeyedJob). slice_set (jobs_in ss) n (stepped t o)) sits.machine ∙ (ap (slice_set (jobs_in ss) n) (sym step) ∙ sym (map-set (λ (x : Seat). x.job.titled) ss n (reseated s v)))));
-      last = balanced-push h e ∙ (ap (λ (b : Bool). cond b (lives (states h)) (balanced h)) touches.other_kind ∙ (seated.last ∙ sym (listed-set noted_of ss n s v at (ap (λ (k : Key). let l : Live = record { key = k; priority = s.noted.priority; demand = s.noted.demand } in l) key))));
-      volumes = volumes-set w ss n s v at (ap (λ (t : KeyedJob). t.state.volume) step ∙ volume) seated.volumes;
+      last = λ ls q. seated.last ls (before ls q) ∙ sym (listed-set noted_of ss n s v at (ap (λ (k : Key). let l : Live = record { key = k; priority = s.noted.priority; demand = s.noted.demand } in l) key));
+      volumes = λ ls q. volumes-set w ss n s v at (ap (λ (t : KeyedJob). t.state.volume) step ∙ volume) (seated.volumes ls (before ls q));
     }
+  where
+    before : (ls : List Live) → balanced (h ++ e ∷ []) ≡ Some ls → balanced h ≡ Some ls
+    before ls q = sym (balanced-push h e ∙ touches.quiet h (balanced h)) ∙ q
 
 -- a job gets a revision
 pub seated-revise : (w : ℕ) (h : List Event) (ss : List Seat) (n : ℕ) (s : Seat) (number : ℕ) (r : Posted) → IsSeated w h ss → slice_get ss n ≡ Some s → MayRevise h s.job.titled.key number r s.job.titled → IsSeated w (h ++ Revise s.job.titled.key number r ∷ []) (slice_set ss n (reseated s (and_own s.job (Revised r))))
@@ -155,16 +162,64 @@ volumes-push w ss s none unlisted h = record {
   others = All-push HasNoneUnlisted ss s h.others (λ _. none);
 }
 
+-- a seat that is not listed and whose job has no volume comes behind the others
+pub record Comes (h : List Event) (e : Event) (seat : Seat) : Type 0 where
+  pub states : states (h ++ e ∷ []) ≡ states h ++ seat.job.titled ∷ []
+  pub unlisted : seat.listed ≡ false
+  pub still : seat.job.titled.state.volume ≡ 0
+  pub last : (ls : List Live) → balanced (h ++ e ∷ []) ≡ Some ls → balanced h ≡ Some ls
+
+pub seated-comes : (w : ℕ) (h : List Event) (ss : List Seat) (e : Event) (seat : Seat) → IsSeated w h ss → Allowed w h e → Comes h e seat → IsSeated w (h ++ e ∷ []) (ss ++ seat ∷ [])
+seated-comes w h ss e seat seated may comes = record {
+  some_worker = seated.some_worker;
+  legal = Legal-push w h e seated.legal may;
+  jobs = comes.states ∙ (ap (λ (ts : List KeyedJob). ts ++ seat.job.titled ∷ []) seated.jobs ∙ sym (map-append (λ (s : Seat). s.job.titled) ss (seat ∷ [])));
+  last = λ ls q. seated.last ls (comes.last ls q) ∙ sym (ap (map noted_of) (listed-push ss seat comes.unlisted));
+  volumes = λ ls q. volumes-push w ss seat comes.still comes.unlisted (seated.volumes ls (comes.last ls q));
+}
+
 -- a job is opened
 pub seated-open : (w : ℕ) (h : List Event) (ss : List Seat) (number : ℕ) (k : Key) (ask : Terms) → IsSeated w h ss → MayOpen h k ask → IsSeated w (h ++ Open k ask ∷ []) (ss ++ opened_seat number k ask ∷ [])
 seated-open w h ss number k ask seated may =
     let orderly : IsOrderly h = legal-orderly w h seated.legal in
-    let fresh = job_of-absent h k may.fresh in
-    let seat : Seat = opened_seat number k ask in
-    record {
-      some_worker = seated.some_worker;
-      legal = Legal-push w h (Open k ask) seated.legal may;
-      jobs = states-open h k ask fresh (orderly.absent k fresh) ∙ (ap (λ (ts : List KeyedJob). ts ++ seat.job.titled ∷ []) seated.jobs ∙ sym (map-append (λ (s : Seat). s.job.titled) ss (seat ∷ [])));
-      last = balanced-push h (Open k ask) ∙ (seated.last ∙ sym (ap (map noted_of) (listed-push ss seat refl)));
-      volumes = volumes-push w ss seat refl refl seated.volumes;
-    }
+    seated-comes w h ss (Open k ask) (opened_seat number k ask) seated may (record {
+      states = states-open h k ask (name-absent h k orderly may.fresh) (orderly.unknown k may.fresh);
+      unlisted = refl;
+      still = refl;
+      last = λ ls q. sym (balanced-push h (Open k ask)) ∙ q;
+    })
+
+-- a job arrives
+pub seated-arrive : (w : ℕ) (h : List Event) (ss : List Seat) (number : ℕ) (k : Key) (brought : List Own) → IsSeated w h ss → MayArrive h k brought → IsSeated w (h ++ Arrive k brought ∷ []) (ss ++ arrived_seat number k brought ∷ [])
+seated-arrive w h ss number k brought seated may =
+    seated-comes w h ss (Arrive k brought) (arrived_seat number k brought) seated may (record {
+      states = states-arrive h k brought (job_of-absent h k may.absent);
+      unlisted = refl;
+      still = solo-volume brought ∙ may.still;
+      last = λ ls q. absurd (none-some ls (sym (balanced-push h (Arrive k brought)) ∙ q));
+    })
+  where
+    none-some : (ls : List Live) → None ≡ Some ls → ⊥
+    none-some ls q = cc
+
+-- the jobs in the seats without one
+jobs-without : (k : Key) (ss : List Seat) → jobs_without k (jobs_in ss) ≡ jobs_in (seats_without k ss)
+jobs-without k [] = refl
+jobs-without k (x ∷ xs) = by_test (is_key k x.job.titled.key) (jobs-without k xs)
+  where
+    by_test : (b : Bool) → jobs_without k (jobs_in xs) ≡ jobs_in (seats_without k xs) → cond (not b) (x.job.titled ∷ jobs_without k (jobs_in xs)) (jobs_without k (jobs_in xs)) ≡ jobs_in (cond (not b) (x ∷ seats_without k xs) (seats_without k xs))
+    by_test true rest = rest
+    by_test false rest = ap (λ (ts : List KeyedJob). x.job.titled ∷ ts) rest
+
+-- a job leaves
+pub seated-leave : (w : ℕ) (h : List Event) (ss : List Seat) (k : Key) (t : KeyedJob) → IsSeated w h ss → MayLeave h k t → IsSeated w (h ++ Leave k ∷ []) (seats_without k ss)
+seated-leave w h ss k t seated may = record {
+  some_worker = seated.some_worker;
+  legal = Legal-push w h (Leave k) seated.legal (t, may);
+  jobs = states-leave h k ∙ (ap (jobs_without k) seated.jobs ∙ jobs-without k ss);
+  last = λ ls q. absurd (none-some ls (sym (balanced-push h (Leave k)) ∙ q));
+  volumes = λ ls q. absurd (none-some ls (sym (balanced-push h (Leave k)) ∙ q));
+}
+  where
+    none-some : (ls : List Live) → None ≡ Some ls → ⊥
+    none-some ls q = cc

@@ -5,19 +5,19 @@ use Rattle.spec_job.specs.SoloMachine.{Own, Revised, Reasked, Closed, Started, F
 use Rattle.spec_job.specs.KeyedJob.{Key, KeyedJob}
 use Rattle.spec_job.specs.Viewed.{and_own}
 use Rattle.spec_job.proofs.StepLemmas.{finish-keeps}
-use Rattle.spec_hall.specs.Events.{Event, Open, Revise, Reask, Close, Balance, Start, Finish, Exchange}
+use Rattle.spec_hall.specs.Events.{Event, Open, Revise, Reask, Close, Balance, Start, Finish, Exchange, Leave, Arrive}
 use Rattle.spec_hall.specs.Own.{is_key}
 use Rattle.spec_hall.specs.States.{keys_of, lives, live_asks}
 use Rattle.spec_hall.specs.Legal.{Allowed, Legal, MayBalance}
 use Rattle.spec_balance.specs.Fair.{IsFair}
-use Rattle.spec_hall.specs.Seats.{Seat, IsSeated, jobs_in, is_due, opened_seat, shares_by, balanced_by}
+use Rattle.spec_hall.specs.Seats.{Seat, IsSeated, jobs_in, is_balancing_due, arrived_seat, opened_seat, seats_without, shares_by, balanced_by}
 use Rattle.spec_hall.proofs.KeyLemmas.{is_key-Decides, key-stands}
 use Rattle.spec_hall.proofs.VolumeLemmas.{revise-keeps}
 use Rattle.spec_hall.proofs.StatesLemmas.{job_of-found, legal_from-keeps}
 use Rattle.spec_hall.proofs.OrderlyLemmas.{legal-orderly, lease-opened, titled-opened}
 use Rattle.spec_hall.proofs.TouchLemmas.{Touches, revise-touches, reask-touches, close-touches, start-touches, finish-touches, exchange-touches}
-use Rattle.spec_hall.proofs.SeatLemmas.{reseated, seat_keys, seated-keys, seated-none, seated-open, seats-touch}
-use Rattle.spec_hall.proofs.DueLemmas.{live_keys, seated-calm}
+use Rattle.spec_hall.proofs.SeatLemmas.{reseated, seat_keys, seated-keys, seated-none, seated-arrive, seated-leave, seated-open, seats-touch}
+use Rattle.spec_hall.proofs.DueLemmas.{live_keys, balancing-calm}
 use Rattle.spec_hall.proofs.BalanceLemmas.{shares-keys, shares-fair, seated-balance}
 use Rattle.spec_hall.proofs.DrivenLemmas.{shares-same}
 
@@ -53,12 +53,12 @@ touch-seats w h k e o opened may touches keeps has =
     record { seats = slice_set has.seats found.at (reseated s (and_own s.job o)); are = seats-touch w h has.seats found.at s e o (and_own s.job o) has.are found.is may mine refl (keeps s.job.titled.state) }
 
 -- a balancing that is due has the shares of the seats with fair volumes
-pub record IsBalancedBy (w : ℕ) (shares : List Share) (ss : List Seat) : Type 0 where
+pub record IsBalancedBy (w : ℕ) (h : List Event) (shares : List Share) (ss : List Seat) : Type 0 where
   pub fair : IsFair w (live_asks (jobs_in ss)) (map (λ s. s.volume) shares)
   pub same : shares ≡ shares_by (map (λ s. s.volume) shares) ss
-  pub due : is_due ss ≡ true
+  pub due : is_balancing_due h ss ≡ true
 
-pub balance-facts : (w : ℕ) (h : List Event) (shares : List Share) → MayBalance w h shares → (has : HasSeats w h) → IsBalancedBy w shares has.seats
+pub balance-facts : (w : ℕ) (h : List Event) (shares : List Share) → MayBalance w h shares → (has : HasSeats w h) → IsBalancedBy w h shares has.seats
 balance-facts w h shares may has = record { fair = fair; same = same; due = due }
   where
     ss : List Seat
@@ -73,18 +73,18 @@ balance-facts w h shares may has = record { fair = fair; same = same; due = due 
     same : shares ≡ shares_by vs ss
     same = shares-same shares (shares_by vs ss) (may.keys ∙ (ap (λ (ts : List KeyedJob). live_keys (lives ts)) has.are.jobs ∙ sym (shares-keys 0 vs ss))) (sym (shares-fair w vs ss fair))
 
-    due : is_due ss ≡ true
-    due = by_test (is_due ss) refl
+    due : is_balancing_due h ss ≡ true
+    due = by_test (is_balancing_due h ss) refl
       where
-        by_test : (b : Bool) → is_due ss ≡ b → b ≡ true
+        by_test : (b : Bool) → is_balancing_due h ss ≡ b → b ≡ true
         by_test true e = refl
-        by_test false e = absurd (may.due (seated-calm w h ss has.are e))
+        by_test false e = absurd (may.due (balancing-calm w h ss has.are e))
 
 -- and after a balancing
 balance-seats : (w : ℕ) (h : List Event) (shares : List Share) → MayBalance w h shares → HasSeats w h → HasSeats w (h ++ Balance shares ∷ [])
 balance-seats w h shares may has =
     let vs : List ℕ = map (λ (s : Share). s.volume) shares in
-    let facts : IsBalancedBy w shares has.seats = balance-facts w h shares may has in
+    let facts : IsBalancedBy w h shares has.seats = balance-facts w h shares may has in
     record { seats = balanced_by vs has.seats; are = subst (λ (xs : List Share). IsSeated w (h ++ Balance xs ∷ []) (balanced_by vs has.seats)) (sym facts.same) (seated-balance w h has.seats vs has.are facts.fair facts.due) }
 
 pub event-seats : (w : ℕ) (h : List Event) (e : Event) → Allowed w h e → HasSeats w h → HasSeats w (h ++ e ∷ [])
@@ -98,6 +98,8 @@ event-seats w h (Finish k index worker outcome) may has = touch-seats w h k (Fin
 event-seats w h (Exchange k) may has =
     let opened : list_any (is_key may.0.key) (keys_of h) ≡ true = titled-opened h may.0.key (keys_of h) (λ (t : KeyedJob). is_exchange_due t.state) may.0 may.1.first in
     touch-seats w h k (Exchange k) Exchanged (subst (λ (x : Key). list_any (is_key x) (keys_of h) ≡ true) may.1.key opened) may (exchange-touches k) (λ s. refl) has
+event-seats w h (Leave k) may has = record { seats = seats_without k has.seats; are = seated-leave w h has.seats k may.0 has.are may.1 }
+event-seats w h (Arrive k brought) may has = record { seats = has.seats ++ arrived_seat 0 k brought ∷ []; are = seated-arrive w h has.seats 0 k brought has.are may }
 
 -- the jobs of a legal history have seats
 pub legal-seats : (w : ℕ) (h : List Event) → 1 ≤ w → Legal w h → HasSeats w h

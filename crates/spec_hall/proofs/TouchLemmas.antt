@@ -1,4 +1,4 @@
-use Rattle.std.proofs.Common.{◌≡◌, ℕ, zero, suc, Bool, true, false, cond, ◌==◌, List, [], ◌∷◌, ◌++◌, map, slice_get, slice_set, Some, refl, sym, ◌∙◌, ap, subst}
+use Rattle.std.proofs.Common.{◌≡◌, ℕ, zero, suc, Bool, true, false, cond, ◌==◌, List, [], ◌∷◌, ◌++◌, map, filter, not, Option, slice_get, slice_set, Some, refl, sym, ◌∙◌, ap, subst}
 use Rattle.std.specs.List.{list_any}
 use Rattle.std.proofs.lemmas.Bool.{or_parts}
 use Rattle.std.proofs.lemmas.Bool.Decides.{Decides-eqb}
@@ -9,9 +9,9 @@ use Rattle.mal_history.specs.declared.event.Share.{Share}
 use Rattle.mal_revision.specs.Posted.{Posted}
 use Rattle.spec_job.specs.SoloMachine.{Own, Opened, Revised, Reasked, Closed, Volume, Started, Finished, Exchanged, SoloMachine, solo, solo_step, unopened}
 use Rattle.spec_job.specs.KeyedJob.{Key, KeyedJob, stepped}
-use Rattle.spec_hall.specs.Events.{Event, Open, Revise, Reask, Close, Balance, Start, Finish, Exchange}
-use Rattle.spec_hall.specs.Own.{own, own_step, adds, is_key, volume_in, volume_after}
-use Rattle.spec_hall.specs.States.{keys_of, keys_step, states, titled, is_balance}
+use Rattle.spec_hall.specs.Events.{Event, Open, Revise, Reask, Close, Balance, Start, Finish, Exchange, Leave, Arrive}
+use Rattle.spec_hall.specs.Own.{own, own_step, adds, adds_volume, is_key, volume_in, volume_after}
+use Rattle.spec_hall.specs.States.{Live, keys_of, keys_step, last_after, states, titled}
 use Rattle.spec_hall.proofs.KeyLemmas.{AreApart, is_key-back, is_key-same, key-differs, key-stands}
 use Rattle.spec_hall.proofs.PushLemmas.{own-push, solo-push, keys-push}
 use Rattle.spec_hall.proofs.VolumeLemmas.{solo-volume}
@@ -20,25 +20,25 @@ use Rattle.spec_hall.proofs.VolumeLemmas.{solo-volume}
 pub record Touches (e : Event) (k : Key) (o : Own) : Type 0 where
   pub owns : (j : Key) (es : List Own) → own_step j es e ≡ adds (is_key j k) es o
   pub keys : (ks : List Key) → keys_step ks e ≡ ks
-  pub other_kind : is_balance e ≡ false
+  pub quiet : (past : List Event) (last : Option (List Live)) → last_after past last e ≡ last
 
 pub revise-touches : (k : Key) (number : ℕ) (r : Posted) → Touches (Revise k number r) k (Revised r)
-revise-touches k number r = record { owns = λ j es. refl; keys = λ ks. refl; other_kind = refl }
+revise-touches k number r = record { owns = λ j es. refl; keys = λ ks. refl; quiet = λ past last. refl }
 
 pub reask-touches : (k : Key) (weight : Weighed) → Touches (Reask k weight) k (Reasked weight)
-reask-touches k weight = record { owns = λ j es. refl; keys = λ ks. refl; other_kind = refl }
+reask-touches k weight = record { owns = λ j es. refl; keys = λ ks. refl; quiet = λ past last. refl }
 
 pub close-touches : (k : Key) → Touches (Close k) k Closed
-close-touches k = record { owns = λ j es. refl; keys = λ ks. refl; other_kind = refl }
+close-touches k = record { owns = λ j es. refl; keys = λ ks. refl; quiet = λ past last. refl }
 
 pub start-touches : (k : Key) (index worker : ℕ) → Touches (Start k index worker) k (Started index)
-start-touches k index worker = record { owns = λ j es. refl; keys = λ ks. refl; other_kind = refl }
+start-touches k index worker = record { owns = λ j es. refl; keys = λ ks. refl; quiet = λ past last. refl }
 
 pub finish-touches : (k : Key) (index worker : ℕ) (outcome : Outcome) → Touches (Finish k index worker outcome) k (Finished index outcome)
-finish-touches k index worker outcome = record { owns = λ j es. refl; keys = λ ks. refl; other_kind = refl }
+finish-touches k index worker outcome = record { owns = λ j es. refl; keys = λ ks. refl; quiet = λ past last. refl }
 
 pub exchange-touches : (k : Key) → Touches (Exchange k) k Exchanged
-exchange-touches k = record { owns = λ j es. refl; keys = λ ks. refl; other_kind = refl }
+exchange-touches k = record { owns = λ j es. refl; keys = λ ks. refl; quiet = λ past last. refl }
 
 -- the job that it is of takes a step
 titled-mine : (h : List Event) (e : Event) (k : Key) (o : Own) → Touches e k o → titled (h ++ e ∷ []) k ≡ stepped (titled h k) o
@@ -118,3 +118,39 @@ states-balance h shares = ap (map (titled (h ++ Balance shares ∷ []))) (keys-p
     over : (ks : List Key) → map (titled (h ++ Balance shares ∷ [])) ks ≡ map (given shares) (map (titled h) ks)
     over [] = refl
     over (k ∷ ks) = ap (λ (t : KeyedJob). t ∷ map (titled (h ++ Balance shares ∷ [])) ks) (titled-given h shares k) ∙ ap (λ (ts : List KeyedJob). given shares (titled h k) ∷ ts) (over ks)
+
+-- the jobs without that of a key
+abbrev pub jobs_without : Key → List KeyedJob → List KeyedJob
+jobs_without k jobs = filter (λ t. not (is_key k t.key)) jobs
+
+-- a job that leaves is taken out of the others
+pub states-leave : (h : List Event) (k : Key) → states (h ++ Leave k ∷ []) ≡ jobs_without k (states h)
+states-leave h k = ap (map (titled (h ++ Leave k ∷ []))) (keys-push h (Leave k)) ∙ over (keys_of h)
+  where
+    other : (j : Key) → is_key k j ≡ false → titled (h ++ Leave k ∷ []) j ≡ titled h j
+    other j q =
+        let same : own j (h ++ Leave k ∷ []) ≡ own j h = own-push j h (Leave k) ∙ ap (λ (b : Bool). cond b (adds_volume 0 (own j h)) (own j h)) (is_key-back k j q) in
+        ap (λ (es : List Own). let t : KeyedJob = record { key = j; state = solo es } in t) same
+
+    over : (ks : List Key) → map (titled (h ++ Leave k ∷ [])) (filter (λ j. not (is_key k j)) ks) ≡ jobs_without k (map (titled h) ks)
+    over [] = refl
+    over (x ∷ xs) = by_test (over xs) (is_key k x) refl
+      where
+        by_test : map (titled (h ++ Leave k ∷ [])) (filter (λ j. not (is_key k j)) xs) ≡ jobs_without k (map (titled h) xs) → (b : Bool) → is_key k x ≡ b → map (titled (h ++ Leave k ∷ [])) (cond (not b) (x ∷ filter (λ j. not (is_key k j)) xs) (filter (λ j. not (is_key k j)) xs)) ≡ cond (not b) (titled h x ∷ jobs_without k (map (titled h) xs)) (jobs_without k (map (titled h) xs))
+        by_test rest true q = rest
+        by_test rest false q = ap (λ (t : KeyedJob). t ∷ map (titled (h ++ Leave k ∷ [])) (filter (λ j. not (is_key k j)) xs)) (other x q) ∙ ap (λ (ts : List KeyedJob). titled h x ∷ ts) rest
+
+-- a job that arrives comes behind the others, as its machine run alone on what it brings
+pub states-arrive : (h : List Event) (k : Key) (brought : List Own) → list_any (is_key k) (keys_of h) ≡ false → states (h ++ Arrive k brought ∷ []) ≡ states h ++ record { key = k; state = solo brought } ∷ []
+states-arrive h k brought absent =
+    let first : own k (h ++ Arrive k brought ∷ []) ≡ brought = own-push k h (Arrive k brought) ∙ ap (λ (b : Bool). cond b brought (own k h)) (is_key-same k) in
+    let new : titled (h ++ Arrive k brought ∷ []) k ≡ record { key = k; state = solo brought } = ap (λ (es : List Own). let t : KeyedJob = record { key = k; state = solo es } in t) first in
+    ap (map (titled (h ++ Arrive k brought ∷ []))) (keys-push h (Arrive k brought))
+    ∙ (map-append (titled (h ++ Arrive k brought ∷ [])) (keys_of h) (k ∷ [])
+    ∙ (ap (λ (ts : List KeyedJob). ts ++ titled (h ++ Arrive k brought ∷ []) k ∷ []) (map-absent (titled h) (titled (h ++ Arrive k brought ∷ [])) k (keys_of h) absent others)
+    ∙ ap (λ (t : KeyedJob). states h ++ t ∷ []) new))
+  where
+    others : (j : Key) → is_key j k ≡ false → titled (h ++ Arrive k brought ∷ []) j ≡ titled h j
+    others j other =
+        let same : own j (h ++ Arrive k brought ∷ []) ≡ own j h = own-push j h (Arrive k brought) ∙ ap (λ (b : Bool). cond b brought (own j h)) other in
+        ap (λ (es : List Own). let t : KeyedJob = record { key = j; state = solo es } in t) same

@@ -13,12 +13,12 @@ use Rattle.spec_job.specs.Viewed.{and_own}
 use Rattle.spec_job.proofs.LeftLemmas.{left-falls}
 use Rattle.spec_hall.specs.Calls.{AreDue, arranges}
 use Rattle.spec_hall.specs.Driven.{Turn, Balances, Exchanges, Slices, AreTurns, GrowsByTurns, events_in, is_done, loses, was_lost}
-use Rattle.spec_hall.specs.Events.{Event, Open, Revise, Reask, Close, Balance, Start, Finish, Exchange}
+use Rattle.spec_hall.specs.Events.{Event, Open, Revise, Reask, Close, Balance, Start, Finish, Exchange, Leave, Arrive}
 use Rattle.spec_hall.specs.Legal.{Allowed, Legal, LegalFrom}
 use Rattle.spec_hall.specs.Measure.{left_in}
 use Rattle.spec_hall.specs.Own.{own}
 use Rattle.spec_hall.specs.Seats.{Seat, IsSeated, jobs_in, is_due, first_exchange}
-use Rattle.spec_hall.specs.States.{LeaseOut, keys_of, states, titled, leases, lease_of, exchange_due}
+use Rattle.spec_hall.specs.States.{LeaseOut, keys_of, lives, states, titled, leases, lease_of, exchange_due}
 use Rattle.spec_hall.proofs.PushLemmas.{Legal-push, leases-push}
 use Rattle.spec_hall.proofs.StatesLemmas.{legal_from-keeps}
 use Rattle.spec_hall.proofs.TouchLemmas.{given, states-balance, exchange-touches}
@@ -27,7 +27,7 @@ use Rattle.spec_hall.proofs.DueLemmas.{seated-due}
 use Rattle.spec_hall.proofs.ExchangeLemmas.{first-found, seated-no_exchange}
 use Rattle.spec_hall.proofs.PlaceLemmas.{first-within}
 use Rattle.spec_hall.proofs.RunnableLemmas.{picked-may}
-use Rattle.spec_hall.proofs.LeftLemmas.{left-balance, left-exchange, left-slice}
+use Rattle.spec_hall.proofs.LeftLemmas.{calm-due, left-balance, left-exchange, left-slice}
 use Rattle.spec_hall.proofs.SeatedLemmas.{HasSeats, SeatOf, IsBalancedBy, balance-facts, legal-seats, opened-seat}
 use Rattle.spec_hall.proofs.LeasesLemmas.{start-free, without}
 use Rattle.spec_hall.proofs.KeyLemmas.{key-stands}
@@ -49,6 +49,8 @@ arranged-leases h (Close k) e = absurd (cc)
 arranged-leases h (Balance shares) e = leases-push h (Balance shares)
 arranged-leases h (Start k index worker) e = absurd (cc)
 arranged-leases h (Finish k index worker outcome) e = absurd (cc)
+arranged-leases h (Leave k) e = absurd (cc)
+arranged-leases h (Arrive k brought) e = absurd (cc)
 arranged-leases h (Exchange k) e = leases-push h (Exchange k)
 
 pub due-leases : (past es : List Event) → list_all arranges es ≡ true → leases (past ++ es) ≡ leases past
@@ -107,6 +109,8 @@ arranged-done w h (Close k) some legal a may = absurd (cc)
 arranged-done w h (Balance shares) some legal a may = ap is_done (states-balance h shares) ∙ given-done shares (states h)
 arranged-done w h (Start k index worker) some legal a may = absurd (cc)
 arranged-done w h (Finish k index worker outcome) some legal a may = absurd (cc)
+arranged-done w h (Leave k) some legal a may = absurd (cc)
+arranged-done w h (Arrive k brought) some legal a may = absurd (cc)
 arranged-done w h (Exchange k) some legal a may =
     let has : HasSeats w h = legal-seats w h some legal in
     let x : IsExchangeOf w h has.seats k = exchange-seat w h has.seats k has.are may in
@@ -122,14 +126,16 @@ arranged-left w h (Reask k weight) some legal a may = absurd (cc)
 arranged-left w h (Close k) some legal a may = absurd (cc)
 arranged-left w h (Balance shares) some legal a may =
     let has : HasSeats w h = legal-seats w h some legal in
-    let facts : IsBalancedBy w shares has.seats = balance-facts w h shares may has in
+    let facts : IsBalancedBy w h shares has.seats = balance-facts w h shares may has in
     subst (λ (xs : List Share). left_in (h ++ Balance xs ∷ []) < left_in h) (sym facts.same) (left-balance w h has.seats (map (λ (s : Share). s.volume) shares) has.are facts.fair facts.due)
 arranged-left w h (Start k index worker) some legal a may = absurd (cc)
 arranged-left w h (Finish k index worker outcome) some legal a may = absurd (cc)
+arranged-left w h (Leave k) some legal a may = absurd (cc)
+arranged-left w h (Arrive k brought) some legal a may = absurd (cc)
 arranged-left w h (Exchange k) some legal a may =
     let has : HasSeats w h = legal-seats w h some legal in
     let x : IsExchangeOf w h has.seats k = exchange-seat w h has.seats k has.are may in
-    subst (λ (j : Key). left_in (h ++ Exchange j ∷ []) < left_in h) x.key (left-exchange w h has.seats x.at x.seat has.are x.calm x.first x.is)
+    subst (λ (j : Key). left_in (h ++ Exchange j ∷ []) < left_in h) x.key (left-exchange w h has.seats x.at x.seat has.are (calm-due h has.seats (lives (states h)) (sym may.1.balance) x.calm) x.first x.is)
 
 pub due-left : (w : ℕ) (past es : List Event) → 1 ≤ w → Legal w past → AreDue w past es → left_in (past ++ es) ≤ left_in past
 due-left w past [] some legal due = subst (λ (h : List Event). left_in h ≤ left_in past) (sym (append-nil past)) (omega arith)
@@ -172,6 +178,8 @@ arranged-turn w h (Close k) a may left = absurd (cc)
 arranged-turn w h (Balance shares) a may left = turns-one w h (Balances shares) left refl (may, tt)
 arranged-turn w h (Start k index worker) a may left = absurd (cc)
 arranged-turn w h (Finish k index worker outcome) a may left = absurd (cc)
+arranged-turn w h (Leave k) a may left = absurd (cc)
+arranged-turn w h (Arrive k brought) a may left = absurd (cc)
 arranged-turn w h (Exchange k) a may left = turns-one w h (Exchanges k) left refl (may, tt)
 
 -- so is what is due, and something is still left to do behind it
@@ -241,7 +249,7 @@ slice-worked w h k i o some bound legal home left kept may = record { turns = tu
     less =
         let mine : Allowed w h (Start found.seat.job.titled.key i 1) = subst (λ (x : Key). Allowed w h (Start x i 1)) (sym found.key) may in
         let over : Allowed w (h ++ Start found.seat.job.titled.key i 1 ∷ []) (Finish found.seat.job.titled.key i 1 o) = subst (λ (x : Key). Allowed w (h ++ Start x i 1 ∷ []) (Finish x i 1 o)) (sym found.key) ends in
-        subst (λ (x : Key). left_in ((h ++ Start x i 1 ∷ []) ++ Finish x i 1 o ∷ []) < left_in h) found.key (left-slice w h has.seats found.at found.seat i 1 o has.are found.is due mine over fewer)
+        subst (λ (x : Key). left_in ((h ++ Start x i 1 ∷ []) ++ Finish x i 1 o ∷ []) < left_in h) found.key (left-slice w h has.seats found.at found.seat i 1 o has.are found.is (calm-due h has.seats (lives (states h)) (sym may.1.balance) due) mine over fewer)
 
 -- the whole turn: what is due, the start and its end
 pub turn-worked : (w : ℕ) (past due : List Event) (k : Key) (i : ℕ) (o : Outcome) → 1 ≤ w → w ≤ 64 → Legal w past → leases past ≡ [] → is_done (states past) ≡ false → was_lost o ≡ false → AreDue w past due → Allowed w (past ++ due) (Start k i 1) → HasWorked w past (((past ++ due) ++ Start k i 1 ∷ []) ++ Finish k i 1 o ∷ [])

@@ -1,6 +1,6 @@
 use Rattle.std.specs.Prelude.{◌≡◌, ℕ, ◌+◌, ◌<◌, ◌≤◌, Bool, true, false, ◌&&◌, ◌==◌, List, [], ◌∷◌, ◌++◌, length, flat_map, Option, Some, None, is_some, Result, Ok, Err}
 use Rattle.std.specs.Option.{option_map_or, option_map}
-use Rattle.std.specs.List.{list_all}
+use Rattle.std.specs.List.{list_all, list_any}
 use Rattle.mal_base.specs.Asks.{Terms, Weighed}
 use Rattle.mal_base.specs.declared.verdict.Outcome.TheVariants.{Lost}
 use Rattle.mal_revision.specs.Posted.{Posted}
@@ -27,8 +27,9 @@ use Rattle.spec_hall.specs.Driven.{IsIdle, is_done}
 use Rattle.spec_hall.specs.Events.{Event, Open, Revise, Reask, Close, Balance, Start, Finish, Exchange}
 use Rattle.spec_hall.specs.Leases.{lease_journal, lease_adds, start_number}
 use Rattle.spec_hall.specs.Legal.{Allowed, Legal, LegalFrom, MayOpen, MayRevise, MayReask, MayClose, job_of, jobs_of, tenant_count}
+use Rattle.spec_hall.specs.Own.{is_key}
 use Rattle.spec_hall.specs.Room.{IsOver}
-use Rattle.spec_hall.specs.States.{LeaseOut, leases, lease_of, states}
+use Rattle.spec_hall.specs.States.{LeaseOut, leases, lease_of, states, names_of}
 
 -- a call of a hall: a job is opened, revised or closed, or its ask changes, a worker picks, what came of a lease is
 -- given back, all leases are recalled, or the reply to a revision is asked for
@@ -71,13 +72,13 @@ AnswerTo (Finishes d) = Return
 AnswerTo Recalls = Unit {0}
 AnswerTo (Asks k r) = Result (Option (List ℕ)) ReplyFault
 
--- a job is opened where it may be, or is refused: the job is there, its tenant has 64 jobs, or there are 64 other
+-- a job is opened where it may be, or is refused: its name was there, its tenant had 64 jobs, or there were 64 other
 -- tenants
 abbrev pub IsOpening : List Event → Key → Terms → Result (Unit {0}) OpenFault → List Event → Type 0
 IsOpening past k ask (Ok done) es = MayOpen past k ask × (es ≡ Open k ask ∷ [])
-IsOpening past k ask (Err opening.Duplicate) es = (is_some (job_of k (states past)) ≡ true) × (es ≡ [])
-IsOpening past k ask (Err opening.TenantFull) es = (job_of k (states past) ≡ None) × (64 ≤ jobs_of k.tenant (states past)) × (es ≡ [])
-IsOpening past k ask (Err opening.HallFull) es = (job_of k (states past) ≡ None) × (jobs_of k.tenant (states past) ≡ 0) × (64 ≤ tenant_count (states past)) × (es ≡ [])
+IsOpening past k ask (Err opening.Duplicate) es = (list_any (is_key k) (names_of past) ≡ true) × (es ≡ [])
+IsOpening past k ask (Err opening.TenantFull) es = (list_any (is_key k) (names_of past) ≡ false) × (64 ≤ jobs_of k.tenant (names_of past)) × (es ≡ [])
+IsOpening past k ask (Err opening.HallFull) es = (list_any (is_key k) (names_of past) ≡ false) × (jobs_of k.tenant (names_of past) ≡ 0) × (64 ≤ tenant_count (names_of past)) × (es ≡ [])
 IsOpening past k ask (Err opening.OutOfMemory) es = MayOpen past k ask × (es ≡ [])
 
 -- the next revision of a job is posted where it may be, or is refused: there is no such job, it is closed, it has 256

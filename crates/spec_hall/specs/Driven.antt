@@ -1,4 +1,4 @@
-use Rattle.std.specs.Prelude.{◌≡◌, ◌⊎◌, ℕ, Bool, true, false, ◌&&◌, not, List, [], ◌∷◌, ◌++◌, flat_map, None}
+use Rattle.std.specs.Prelude.{◌≡◌, ◌⊎◌, ℕ, Bool, true, false, ◌&&◌, not, List, [], ◌∷◌, ◌++◌, flat_map, Some, None}
 use Rattle.std.specs.List.{list_all}
 use Rattle.mal_base.specs.declared.verdict.Outcome.{Outcome}
 use Rattle.mal_base.specs.declared.verdict.Outcome.TheVariants.{Ran, Starved, Lost}
@@ -64,7 +64,7 @@ pub record GrowsByTurns (workers : ℕ) (past history : List Event) : Type 0 whe
 
 -- neither a balancing nor an exchange is due
 pub record IsCalm (history : List Event) : Type 0 where
-  pub balance : lives (states history) ≡ balanced history
+  pub balance : Some (lives (states history)) ≡ balanced history
   pub exchange : exchange_due (states history) ≡ None
 
 -- nothing is due, and no node may start

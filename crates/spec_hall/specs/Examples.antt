@@ -1,5 +1,6 @@
 -- Three live jobs share eight workers, and then the priority of the last one rises.
-use Rattle.std.specs.Prelude.{◌≡◌, ℕ, List, [], ◌∷◌, ◌++◌, map, None}
+use Rattle.std.specs.Prelude.{◌≡◌, ℕ, List, [], ◌∷◌, ◌++◌, map, Some, None}
+use Rattle.std.specs.Option.{option_map}
 use Rattle.mal_base.specs.Asks.{Terms}
 use Rattle.mal_history.specs.declared.event.Share.{Share}
 use Rattle.spec_balance.specs.Fair.{IsFair}
@@ -51,17 +52,17 @@ after = raised ++ shared 3 2 3 ∷ []
 -- jobs; none is due where the ask has the priority and the demand that the last balancing read, or the job is not live
 pub record HasReasks : Type 0 where
   pub fair : IsFair 8 (live_asks (states three)) (5 ∷ 2 ∷ 1 ∷ [])
-  pub calm : lives (states before) ≡ balanced before
-  pub read : map (λ l. l.priority) (balanced raised) ≡ 4 ∷ 2 ∷ 1 ∷ []
+  pub calm : Some (lives (states before)) ≡ balanced before
+  pub read : option_map (λ ls. map (λ l. l.priority) ls) (balanced raised) ≡ Some (4 ∷ 2 ∷ 1 ∷ [])
   pub now : map (λ l. l.priority) (lives (states raised)) ≡ 4 ∷ 2 ∷ 4 ∷ []
   pub due : IsBalanceDue raised
   pub fair_now : IsFair 8 (live_asks (states raised)) (3 ∷ 2 ∷ 3 ∷ [])
-  pub calm_now : lives (states after) ≡ balanced after
+  pub calm_now : Some (lives (states after)) ≡ balanced after
   pub legal : Legal 8 after
   pub mine : own (key 114) after ≡ Opened (eight 1) ∷ Revised one_of_two ∷ Volume 1 ∷ Reasked (weight 4 8) ∷ Volume 3 ∷ []
   pub others : own (key 112) raised ≡ own (key 112) before
-  pub same : lives (states (before ++ Reask (key 114) (weight 1 8) ∷ [])) ≡ balanced before
-  pub back : lives (states (raised ++ Reask (key 114) (weight 1 8) ∷ [])) ≡ balanced raised
-  pub idle : lives (states (before ++ Open (key 115) (eight 1) ∷ Reask (key 115) (weight 4 8) ∷ [])) ≡ balanced before
+  pub same : Some (lives (states (before ++ Reask (key 114) (weight 1 8) ∷ []))) ≡ balanced before
+  pub back : Some (lives (states (raised ++ Reask (key 114) (weight 1 8) ∷ []))) ≡ balanced raised
+  pub idle : Some (lives (states (before ++ Open (key 115) (eight 1) ∷ Reask (key 115) (weight 4 8) ∷ []))) ≡ balanced before
   pub closed : (t : KeyedJob) → MayReask (before ++ Close (key 114) ∷ []) (key 114) (weight 4 8) t → ⊥
   pub none : job_of (key 115) (states before) ≡ None

@@ -1,18 +1,20 @@
-use Rattle.std.specs.Prelude.{◌≡◌, ◌≢◌, ℕ, true, List, [], ◌∷◌, ◌++◌, Option, Some, None}
-use Rattle.std.specs.List.{list_all}
+use Rattle.std.specs.Prelude.{◌≡◌, ◌≢◌, ℕ, ◌≤◌, true, false, List, [], ◌∷◌, ◌++◌, drop, Option, Some, None}
+use Rattle.std.specs.List.{list_all, list_any}
 use Rattle.mal_revision.specs.Posted.{Posted}
 use Rattle.mal_history.specs.declared.event.Share.{Share}
-use Rattle.spec_job.specs.SoloMachine.{solo}
+use Rattle.spec_job.specs.SoloMachine.{Own, solo}
 use Rattle.spec_job.specs.KeyedJob.{Key}
+use Rattle.spec_job.specs.Lawful.{IsLawful}
 use Rattle.spec_job.specs.Models.{AnswersFollow, AnswersSolve, KeepsAnswers}
 use Rattle.spec_job.specs.Proofs.{AnswersRefute, LogIsDerived}
-use Rattle.spec_job.specs.DemandOne.{asks_for_one, AgreeAll}
+use Rattle.spec_job.specs.DemandOne.{asks_for_one, is_single, AgreeAll}
 use Rattle.spec_job.specs.Provenance.{ClausesAreOwn}
 use Rattle.spec_job.specs.Replies.{reply}
 use Rattle.spec_job.specs.Runnable.{IsRunnable}
 use Rattle.spec_job.specs.Unknown.{is_fed}
-use Rattle.spec_hall.specs.Events.{Event, Open, Revise, Reask, Close, Balance, Start, Finish, Exchange}
-use Rattle.spec_hall.specs.Own.{own, volume_in, volume_after}
+use Rattle.spec_hall.specs.Events.{Event, Open, Revise, Reask, Close, Balance, Start, Finish, Exchange, Leave, Arrive}
+use Rattle.spec_hall.specs.Own.{own, is_key, arrives, volume_in, volume_after}
+use Rattle.spec_hall.specs.States.{names_of}
 use Rattle.spec_hall.specs.Legal.{Legal}
 
 -- a job's own events in a legal history may each happen after those before them
@@ -35,9 +37,9 @@ LegalAnswersRefute = (workers : ℕ) (history : List Event) → Legal workers hi
 abbrev pub LegalLogsDerived : Type 0
 LegalLogsDerived = (workers : ℕ) (history : List Event) → Legal workers history → (k : Key) → LogIsDerived (solo (own k history))
 
--- an answer that was given stays, whatever events of the hall follow
+-- an answer that was given stays, whatever events of the hall follow but an arrival of the job
 abbrev pub JobAnswersStay : Type 0
-JobAnswersStay = (k : Key) (past later : List Event) → KeepsAnswers (solo (own k past)) (solo (own k (past ++ later)))
+JobAnswersStay = (k : Key) (past later : List Event) → list_any (arrives k) later ≡ false → KeepsAnswers (solo (own k past)) (solo (own k (past ++ later)))
 
 -- the job that an event is of; a balancing is of all
 abbrev pub job_in : Event → Option Key
@@ -49,6 +51,20 @@ job_in (Balance shares) = None
 job_in (Start k index worker) = Some k
 job_in (Finish k index worker outcome) = Some k
 job_in (Exchange k) = Some k
+job_in (Leave k) = Some k
+job_in (Arrive k brought) = Some k
+
+-- in a legal history the own events of a job whose name came are lawful
+abbrev pub LegalIsLawful : Type 0
+LegalIsLawful =
+    (workers : ℕ) (history : List Event) → 1 ≤ workers → workers ≤ 64 → Legal workers history
+    → (k : Key) → list_any (is_key k) (names_of history) ≡ true → IsLawful (own k history)
+
+-- a job goes on with what it brings, which leaves it no volume
+abbrev pub OwnGoesOn : Type 0
+OwnGoesOn =
+    (j : Key) (past later : List Event) (brought : List Own) → volume_after brought ≡ 0 → list_any (arrives j) later ≡ false
+    → own j (past ++ Arrive j brought ∷ later) ≡ brought ++ own j later
 
 -- two histories in which a job has the same own events give it the same answers
 abbrev pub OwnEventsAnswer : Type 0
@@ -70,12 +86,19 @@ SameVolumeLeavesOwn = (j : Key) (history : List Event) (shares : List Share) →
 abbrev pub LegalClausesOwn : Type 0
 LegalClausesOwn = (workers : ℕ) (history : List Event) → Legal workers history → (k : Key) → ClausesAreOwn (solo (own k history))
 
--- a job asks for one worker, as it did at its opening and wherever its ask changed, and no start of it wanted for
--- memory
+-- a job asks for one worker, as it did at its opening and wherever its ask changed, no start of it wanted for memory, and
+-- one node ran it
 pub record AsksForOne (history : List Event) (k : Key) : Type 0 where
   pub demand : (solo (own k history)).ask.demand ≡ 1
   pub always : list_all asks_for_one (own k history) ≡ true
   pub fed : list_all is_fed (own k history) ≡ true
+  pub single : list_all is_single (drop 1 (own k history)) ≡ true
+
+-- so it is in a legal history where the job never arrived, its demand was always 1 and no start of it wanted for memory
+abbrev pub LegalAsksForOne : Type 0
+LegalAsksForOne =
+    (workers : ℕ) (history : List Event) (k : Key) → Legal workers history → list_any (arrives k) history ≡ false
+    → (solo (own k history)).ask.demand ≡ 1 → list_all asks_for_one (own k history) ≡ true → list_all is_fed (own k history) ≡ true → AsksForOne history k
 
 -- the answers and the replies of a job that always asks for one worker are decided by its name, its budget, its
 -- solvers' profile and its revisions up to that one, not by its priority, which may change: in any two legal histories,

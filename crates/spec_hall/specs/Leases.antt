@@ -1,4 +1,4 @@
-use Rattle.std.specs.Prelude.{◌≡◌, ◌≢◌, ℕ, suc, ◌+◌, ◌≤◌, Bool, ◌&&◌, ◌==◌, All, List, [], ◌∷◌, find, fold, Option, Some, None, is_some, if◌then◌else◌}
+use Rattle.std.specs.Prelude.{◌≡◌, ◌≢◌, ℕ, ◌+◌, ◌≤◌, Bool, ◌&&◌, ◌==◌, All, List, [], ◌∷◌, find, fold, Option, Some, None, is_some, if◌then◌else◌}
 use Rattle.std.specs.Option.{option_map_or}
 use Rattle.spec_job.specs.Journal.{JournalEntry}
 use Rattle.spec_job.specs.Journaled.{Journaled}
@@ -6,7 +6,7 @@ use Rattle.spec_job.specs.SoloMachine.{solo, place_at}
 use Rattle.spec_job.specs.KeyedJob.{Key}
 use Rattle.spec_hall.specs.Events.{Event, Start}
 use Rattle.spec_hall.specs.Own.{own, is_key}
-use Rattle.spec_hall.specs.States.{LeaseOut, Candidate, keys_of, states, lives, balanced, leases, lease_of, picked}
+use Rattle.spec_hall.specs.States.{LeaseOut, Candidate, job_number, states, lives, balanced, leases, lease_of, picked}
 use Rattle.spec_hall.specs.Legal.{Legal}
 
 -- how many starts there were, and the number of the last one of a worker, 0 before it
@@ -35,15 +35,6 @@ starts_step n event = n
 -- how many starts a history has
 abbrev pub starts_in : List Event → ℕ
 starts_in history = fold starts_step 0 history
-
--- the place of a key among others, counted from 0
-abbrev pub place_among : Key → List Key → ℕ
-place_among k [] = 0
-place_among k (j ∷ ks) = if is_key k j then 0 else suc (place_among k ks)
-
--- the number of a job: its place by opening, counted from 0
-abbrev pub job_number : Key → List Event → ℕ
-job_number k history = place_among k (keys_of history)
 
 -- the journal of a lease that is out: that of its node, under the number of its job, the profile that the job asked for
 -- and the number of its start
@@ -93,4 +84,4 @@ LegalLeases = (workers : ℕ) (history : List Event) → 1 ≤ workers → worke
 abbrev pub LegalGoesOn : Type 0
 LegalGoesOn =
     (workers : ℕ) (history : List Event) → 1 ≤ workers → workers ≤ 64 → Legal workers history → leases history ≡ []
-    → lives (states history) ≢ [] → lives (states history) ≡ balanced history → (choice : Candidate) × (picked (states history) ≡ Some choice)
+    → lives (states history) ≢ [] → Some (lives (states history)) ≡ balanced history → (choice : Candidate) × (picked (states history) ≡ Some choice)

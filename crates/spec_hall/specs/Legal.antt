@@ -1,38 +1,41 @@
 use Rattle.std.specs.Prelude.{◌≡◌, ◌≢◌, ℕ, ◌+◌, ◌<◌, ◌≤◌, true, false, ◌==◌, List, [], ◌∷◌, ◌++◌, length, map, find, count_by, slice_get, Option, Some, None, if◌then◌else◌}
+use Rattle.std.specs.List.{list_any}
 use Rattle.mal_base.specs.Asks.{Terms, Weighed, IsAsk, IsWeight}
 use Rattle.mal_base.specs.Names.{is_name}
 use Rattle.mal_history.specs.declared.event.Share.{Share}
 use Rattle.mal_base.specs.Formulas.{literals_of}
 use Rattle.mal_revision.specs.Posted.{Posted, is_posted}
 use Rattle.spec_balance.specs.Fair.{IsFair}
-use Rattle.spec_job.specs.SoloMachine.{clauses_in, literals_in}
+use Rattle.spec_job.specs.Counts.{starts_out}
+use Rattle.spec_job.specs.Lawful.{IsLawful}
+use Rattle.spec_job.specs.SoloMachine.{Own, solo, clauses_in, literals_in}
 use Rattle.spec_job.specs.KeyedJob.{Key, KeyedJob}
-use Rattle.spec_hall.specs.Events.{Event, Open, Revise, Reask, Close, Balance, Start, Finish, Exchange, key_of}
-use Rattle.spec_hall.specs.Own.{is_text, is_key}
-use Rattle.spec_hall.specs.States.{Candidate, keys_of, states, lives, live_asks, balanced, leases, lease_of, exchange_due, picked}
+use Rattle.spec_hall.specs.Events.{Event, Open, Revise, Reask, Close, Balance, Start, Finish, Exchange, Leave, Arrive, key_of}
+use Rattle.spec_hall.specs.Own.{is_text, is_key, volume_after}
+use Rattle.spec_hall.specs.States.{Candidate, keys_of, names_of, states, lives, live_asks, balanced, leases, lease_of, exchange_due, picked}
 
 -- the job of a key
 abbrev pub job_of : Key → List KeyedJob → Option KeyedJob
 job_of k jobs = find (λ t. is_key k t.key) jobs
 
--- how many jobs a tenant has
-abbrev pub jobs_of : List ℕ → List KeyedJob → ℕ
-jobs_of tenant jobs = count_by (λ t. is_text tenant t.key.tenant) jobs
+-- how many names of jobs a tenant has
+abbrev pub jobs_of : List ℕ → List Key → ℕ
+jobs_of tenant names = count_by (λ k. is_text tenant k.tenant) names
 
--- how many tenants there are: a job counts where no later job has its tenant
-abbrev pub tenant_count : List KeyedJob → ℕ
+-- how many tenants there are: a name counts where no later name has its tenant
+abbrev pub tenant_count : List Key → ℕ
 tenant_count [] = 0
-tenant_count (t ∷ ts) = (if 0 == jobs_of t.key.tenant ts then 1 else 0) + tenant_count ts
+tenant_count (k ∷ ks) = (if 0 == jobs_of k.tenant ks then 1 else 0) + tenant_count ks
 
--- a job may be opened: it has a name and an ask in form, no job has its key, its tenant has fewer than 64 jobs, and
--- there are fewer than 64 other tenants
+-- a job may be opened: it has a name and an ask in form, no job ever had its key, its tenant had fewer than 64 jobs, and
+-- there were fewer than 64 other tenants
 pub record MayOpen (past : List Event) (k : Key) (ask : Terms) : Type 0 where
   pub tenant : is_name k.tenant ≡ true
   pub job : is_name k.job ≡ true
   pub asked : IsAsk ask
-  pub fresh : job_of k (states past) ≡ None
-  pub tenant_room : jobs_of k.tenant (states past) < 64
-  pub hall_room : (jobs_of k.tenant (states past) ≡ 0) → tenant_count (states past) < 64
+  pub fresh : list_any (is_key k) (names_of past) ≡ false
+  pub tenant_room : jobs_of k.tenant (names_of past) < 64
+  pub hall_room : (jobs_of k.tenant (names_of past) ≡ 0) → tenant_count (names_of past) < 64
 
 -- a job that is open may get its next revision, of which there are 256 at most with 2^20 clauses and 2^24 literals
 pub record MayRevise (past : List Event) (k : Key) (number : ℕ) (r : Posted) (t : KeyedJob) : Type 0 where
@@ -55,9 +58,9 @@ pub record MayClose (past : List Event) (k : Key) (t : KeyedJob) : Type 0 where
   pub job : job_of k (states past) ≡ Some t
   pub open_still : t.state.closed ≡ false
 
--- a balancing is due where the live jobs with their asks are not those of the last one
+-- a balancing is due where the live jobs with their asks are not those of the last one, or a job moved since
 abbrev pub IsBalanceDue : List Event → Type 0
-IsBalanceDue past = lives (states past) ≢ balanced past
+IsBalanceDue past = Some (lives (states past)) ≢ balanced past
 
 -- a balancing comes where it is due, and gives the live jobs, by opening, fair volumes
 pub record MayBalance (workers : ℕ) (past : List Event) (shares : List Share) : Type 0 where
@@ -68,7 +71,7 @@ pub record MayBalance (workers : ℕ) (past : List Event) (shares : List Share) 
 -- a start comes where neither a balancing nor an exchange is due, of the node that is picked, by a worker that has none
 -- out
 pub record MayStart (workers : ℕ) (past : List Event) (k : Key) (index worker : ℕ) (choice : Candidate) : Type 0 where
-  pub balance : lives (states past) ≡ balanced past
+  pub balance : Some (lives (states past)) ≡ balanced past
   pub exchange : exchange_due (states past) ≡ None
   pub first : picked (states past) ≡ Some choice
   pub key : slice_get (keys_of past) choice.job ≡ Some k
@@ -79,9 +82,26 @@ pub record MayStart (workers : ℕ) (past : List Event) (k : Key) (index worker 
 
 -- an exchange comes of the first job of which it is due, where no balancing is due
 pub record MayExchange (past : List Event) (k : Key) (t : KeyedJob) : Type 0 where
-  pub balance : lives (states past) ≡ balanced past
+  pub balance : Some (lives (states past)) ≡ balanced past
   pub first : exchange_due (states past) ≡ Some t
   pub key : t.key ≡ k
+
+-- a job that is there and has no node out may leave
+pub record MayLeave (past : List Event) (k : Key) (t : KeyedJob) : Type 0 where
+  pub job : job_of k (states past) ≡ Some t
+  pub home : list_any (λ l. is_key k l.key) (leases past) ≡ false
+
+-- a job that is not there may arrive with lawful own events, with no node out and no volume; a name that is new here
+-- has the room that an opening wants
+pub record MayArrive (past : List Event) (k : Key) (brought : List Own) : Type 0 where
+  pub tenant : is_name k.tenant ≡ true
+  pub job : is_name k.job ≡ true
+  pub absent : job_of k (states past) ≡ None
+  pub tenant_room : list_any (is_key k) (names_of past) ≡ false → jobs_of k.tenant (names_of past) < 64
+  pub hall_room : (jobs_of k.tenant (names_of past) ≡ 0) → tenant_count (names_of past) < 64
+  pub lawful : IsLawful brought
+  pub home : starts_out (solo brought).places ≡ 0
+  pub still : volume_after brought ≡ 0
 
 -- an event is allowed after a past
 abbrev pub Allowed : ℕ → List Event → Event → Type 0
@@ -93,6 +113,8 @@ Allowed workers past (Balance shares) = MayBalance workers past shares
 Allowed workers past (Start k index worker) = (choice : Candidate) × MayStart workers past k index worker choice
 Allowed workers past (Finish k index worker outcome) = lease_of worker (leases past) ≡ Some (record { worker = worker; key = k; index = index })
 Allowed workers past (Exchange k) = (t : KeyedJob) × MayExchange past k t
+Allowed workers past (Leave k) = (t : KeyedJob) × MayLeave past k t
+Allowed workers past (Arrive k brought) = MayArrive past k brought
 
 -- each event is allowed after the past and those before it
 abbrev pub LegalFrom : ℕ → List Event → List Event → Type 0

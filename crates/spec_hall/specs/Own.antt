@@ -1,10 +1,10 @@
-use Rattle.std.specs.Prelude.{ℕ, Bool, ◌&&◌, ◌==◌, List, [], ◌∷◌, ◌++◌, fold, if◌then◌else◌}
+use Rattle.std.specs.Prelude.{ℕ, Bool, false, ◌&&◌, ◌==◌, List, [], ◌∷◌, ◌++◌, fold, if◌then◌else◌}
 use Rattle.std.specs.Option.{option_map_or}
 use Rattle.std.specs.Prelude.{find}
 use Rattle.std.specs.Cmp.Lexicographic.{pointwise}
 use Rattle.mal_history.specs.declared.event.Share.{Share}
 use Rattle.spec_job.specs.KeyedJob.{Key}
-use Rattle.spec_hall.specs.Events.{Event, Open, Revise, Reask, Close, Balance, Start, Finish, Exchange, key_of}
+use Rattle.spec_hall.specs.Events.{Event, Open, Revise, Reask, Close, Balance, Start, Finish, Exchange, Leave, Arrive, key_of}
 use Rattle.spec_job.specs.SoloMachine.{Own, Opened, Revised, Reasked, Closed, Volume, Started, Finished, Exchanged}
 
 -- two texts are equal
@@ -36,7 +36,7 @@ adds mine own o = if mine then own ++ o ∷ [] else own
 abbrev pub adds_volume : ℕ → List Own → List Own
 adds_volume v own = if v == volume_after own then own else own ++ Volume v ∷ []
 
--- a job's own events after one more event of the hall
+-- a job's own events after one more event of the hall: a leave takes its volume, an arrival gives it those that it brings
 abbrev pub own_step : Key → List Own → Event → List Own
 own_step j own (Open k ask) = adds (is_key j k) own (Opened ask)
 own_step j own (Revise k number r) = adds (is_key j k) own (Revised r)
@@ -46,6 +46,18 @@ own_step j own (Balance shares) = adds_volume (volume_in j shares) own
 own_step j own (Start k index worker) = adds (is_key j k) own (Started index)
 own_step j own (Finish k index worker outcome) = adds (is_key j k) own (Finished index outcome)
 own_step j own (Exchange k) = adds (is_key j k) own Exchanged
+own_step j own (Leave k) = if is_key j k then adds_volume 0 own else own
+own_step j own (Arrive k brought) = if is_key j k then brought else own
+
+-- whether an event is the leave of a job
+abbrev pub leaves : Key → Event → Bool
+leaves j (Leave k) = is_key j k
+leaves j event = false
+
+-- whether an event is the arrival of a job
+abbrev pub arrives : Key → Event → Bool
+arrives j (Arrive k brought) = is_key j k
+arrives j event = false
 
 -- a job's own events in a history
 abbrev pub own : Key → List Event → List Own

@@ -2,7 +2,7 @@
 //! functions without a body.
 #![tactic(auto)]
 
-ghost use Rattle.spec_hall.specs.{Laws.{JobAnswersStay, LegalAnswersFollow, LegalAnswersRefute, LegalAnswersSolve, LegalClausesOwn, LegalIsRunnable, LegalLogsDerived, LegalSinglesAgree, OwnEventsAnswer, OwnEventsReply, OthersLeaveOwn, SameVolumeLeavesOwn}, Dressed.{LegalIsDressed}, Driven.{DrivenIsDecided}, Examples.{HasReasks}, Picked.{HasPicks, PicksFirst, PicksNone}, SinglesUpTo.{LegalSinglesAgreeUpTo}, Unknowns.{LegalAnswersAccountedFor, LegalFedAnswersDecide}, Leases.{LegalLeases, LegalGoesOn}, Calls.{CallIsDecided, CallIsLegal}};
+ghost use Rattle.spec_hall.specs.{Laws.{JobAnswersStay, LegalAnswersFollow, LegalAnswersRefute, LegalAnswersSolve, LegalAsksForOne, LegalClausesOwn, LegalIsLawful, LegalIsRunnable, LegalLogsDerived, LegalSinglesAgree, OwnEventsAnswer, OwnEventsReply, OwnGoesOn, OthersLeaveOwn, SameVolumeLeavesOwn}, Dressed.{LegalIsDressed}, Driven.{DrivenIsDecided}, Examples.{HasReasks}, Picked.{HasPicks, PicksFirst, PicksNone}, SinglesUpTo.{LegalSinglesAgreeUpTo}, Unknowns.{LegalAnswersAccountedFor, LegalFedAnswersDecide}, Leases.{LegalLeases, LegalGoesOn}, Calls.{CallIsDecided, CallIsLegal}};
 
 /// A job's answers and replies come from its own events alone, and events of other jobs are none of these.
 pub fn jobs_are_isolated()
@@ -35,17 +35,18 @@ pub fn legal_clauses_are_own()
 
 /// The answers and the replies of a job that always asks for one worker, whatever its priority, and never wanted for
 /// memory are decided by its name, its budget, the profile of its solvers and its revisions, whatever the number of
-/// workers and whatever other jobs there are.
+/// workers and whatever other jobs there are. A job that never arrived asks for one where its demand was always 1.
 pub fn legal_singles_agree()
-    ensures { LegalSinglesAgree }
+    ensures agree { LegalSinglesAgree }
+    ensures asks { LegalAsksForOne }
 {}
 
-/// An answer that was given stays, whatever events follow.
+/// An answer that was given stays, whatever events follow but an arrival of its job.
 pub fn job_answers_stay()
     ensures { JobAnswersStay }
 {}
 
-/// The events of a legal history are read off what is written down and off the jobs' revisions.
+/// The events of a legal history in which no job moves are read off what is written down and off the jobs' revisions.
 pub fn legal_is_dressed()
     ensures { LegalIsDressed }
 {}
@@ -102,4 +103,11 @@ pub fn legal_singles_agree_up_to()
 /// The worked examples of an ask that changes: what becomes due by it, and the volumes after it.
 pub fn hall_examples()
     ensures { HasReasks }
+{}
+
+/// In a legal history the own events of a job whose name came are lawful, so that the job may go on elsewhere; where it
+/// arrives it goes on with what it brings.
+pub fn legal_is_lawful()
+    ensures lawful { LegalIsLawful }
+    ensures goes { OwnGoesOn }
 {}

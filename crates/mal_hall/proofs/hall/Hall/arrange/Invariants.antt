@@ -1,4 +1,4 @@
-use Rattle.std.proofs.Common.{◌≡◌}
+use Rattle.std.proofs.Common.{◌≡◌, Some}
 use Rattle.spec_hall.specs.Measure.{left_in}
 use Rattle.spec_hall.specs.States.{balanced, lives, states}
 use Rattle.mal_hall.specs.Offered.{HasArranged}
@@ -8,7 +8,7 @@ abbrev pub invariant-loop : goal.invariant-loop
 invariant-loop l = record {
   workers : l.self.workers ≡ l.fn.self.workers;
   due : HasArranged l.fn.self.workers l.fn.self.events l.self.events;
-  calm : lives (states l.self.events) ≡ balanced l.self.events;
+  calm : Some (lives (states l.self.events)) ≡ balanced l.self.events;
 }
 
 abbrev pub decreases-loop : goal.decreases-loop

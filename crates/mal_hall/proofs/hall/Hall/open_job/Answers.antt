@@ -5,7 +5,7 @@ use Rattle.spec_hall.specs.Calls.{Opens}
 use Rattle.spec_hall.specs.Dressed.{keyed}
 use Rattle.spec_hall.specs.Events.{Open}
 use Rattle.spec_hall.specs.Legal.{MayOpen}
-use Rattle.mal_hall.proofs.HallLemmas.{Grown, placed, none-from, hall-absent, hall-some_job, hall-jobs, hall-tenants, hall-open, hall-waited, may-open, called-none, called-one}
+use Rattle.mal_hall.proofs.HallLemmas.{Grown, placed, none-from, hall-named, hall-new, hall-jobs, hall-open, hall-waited, may-open, called-none, called-one}
 use Rattle.mal_hall.proofs.Parts.{parts}
 use Rattle.mal_hall.proofs.RoomLemmas.{unclosed-few}
 use Rattle.mal_hall.proofs.hall.Hall.open_job.Goals as goal
@@ -17,16 +17,15 @@ owed-owed-requires-clause-few c = omega (arith, unclosed-few (parts c.self.insid
 pub returns-then-is_some-clause-call : goal.returns-then-is_some-clause-call
 returns-then-is_some-clause-call c =
     let found = sym c.is_some.ensures ∙ c.if-is_some.true in
-    rw (← c.self.view_is) (called-none _ _ (Opens (keyed c.args.tenant c.args.job) c.args.ask) (Err Duplicate) (hall-some_job _ (keyed c.args.tenant c.args.job) _ c.self.invariant c.place_of.ensures ∙ found, refl))
+    rw (← c.self.view_is) (called-none _ _ (Opens (keyed c.args.tenant c.args.job) c.args.ask) (Err Duplicate) (hall-named _ (keyed c.args.tenant c.args.job) _ c.self.invariant c.place_of.ensures ∙ found, refl))
 
 pub returns-in_err-tenants-clause-call : goal.returns-in_err-tenants-clause-call
 returns-in_err-tenants-clause-call c =
     let absent = placed c.self.inside.seats (keyed c.args.tenant c.args.job) _ _ c.place_of.ensures (none-from _ _ c.is_some.ensures c.if-is_some.false) in
-    let none = hall-absent _ _ c.self.invariant absent in
+    let none = hall-new _ (keyed c.args.tenant c.args.job) c.self.invariant absent in
     let jobs = hall-jobs _ c.args.tenant _ c.self.invariant c.jobs_of-jobs.ensures in
-    let tenants = hall-tenants _ c.self.invariant in
     let p = err_from_is_err_and c.from_residual.result c.from_residual.ensures.1 in
-    let cause = c.in_err-tenants.ensures.refusal (keyed c.args.tenant c.args.job) c.args.ask c.self.inside.entries.events none jobs tenants in
+    let cause = c.in_err-tenants.ensures.refusal (keyed c.args.tenant c.args.job) c.args.ask c.self.inside.entries.events none jobs c.self.invariant.tenants_is in
     rw (p.1, p.2) (rw (← c.self.view_is) (called-none _ _ (Opens (keyed c.args.tenant c.args.job) c.args.ask) (Err c.in_err-tenants.field-0.0) cause))
 
 pub enter_open-requires-clause-new : goal.enter_open-requires-clause-new
