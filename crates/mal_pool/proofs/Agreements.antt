@@ -12,12 +12,12 @@ use Rattle.mal_pool.specs.Testing.{HasContents, HaveContents, HasPosts}
 use Rattle.mal_revision.specs.Posted.{Posted}
 use Rattle.spec_job.specs.KeyedJob.{Key, KeyedJob}
 use Rattle.spec_hall.specs.Dressed.{dressed, no_revision, revisions_of}
-use Rattle.spec_hall.specs.Events.{Event, Open, Revise, Reask, Close, Balance, Start, Finish, Exchange, bare}
+use Rattle.spec_hall.specs.Events.{Event, Open, Revise, Reask, Close, Balance, Start, Finish, Exchange, Leave, Arrive, bare, moves}
 use Rattle.spec_hall.specs.Legal.{Legal}
 use Rattle.spec_hall.specs.Own.{is_text}
 use Rattle.spec_hall.specs.States.{states}
 use Rattle.spec_hall.proofs.DressedLemmas.{legal-is_dressed}
-use Rattle.spec_run.specs.Complete.{is_post_of, key_of_job, job_events, open_events, step_events, jobs_of_tenant}
+use Rattle.spec_run.specs.Complete.{is_post_of, key_of_job, job_events, open_events, posts_of, step_events, jobs_of_tenant}
 use Rattle.spec_run.specs.PostLines.{HavePosts, is_post_line, post_lines}
 use Rattle.spec_run.specs.Losses as losses
 use Rattle.spec_run.proofs.PostingLemmas.{take-one}
@@ -36,6 +36,25 @@ bare-losses (Balance shares ∷ es) = bare-losses es
 bare-losses (Start k index worker ∷ es) = bare-losses es
 bare-losses (Finish k index worker outcome ∷ es) = ap (λ (b : Bool). losses.is_loss (Finish k index worker outcome) || b) (bare-losses es)
 bare-losses (Exchange k ∷ es) = bare-losses es
+bare-losses (Leave k ∷ es) = bare-losses es
+bare-losses (Arrive k brought ∷ es) = bare-losses es
+
+-- and the moves
+pub bare-moves : (h : List Event) → list_any testing.is_move (map bare h) ≡ list_any moves h
+bare-moves [] = refl
+bare-moves (Open k ask ∷ es) = bare-moves es
+bare-moves (Revise k number r ∷ es) = bare-moves es
+bare-moves (Reask k w ∷ es) = bare-moves es
+bare-moves (Close k ∷ es) = bare-moves es
+bare-moves (Balance shares ∷ es) = bare-moves es
+bare-moves (Start k index worker ∷ es) = bare-moves es
+bare-moves (Finish k index worker outcome ∷ es) = bare-moves es
+bare-moves (Exchange k ∷ es) = bare-moves es
+bare-moves (Leave k ∷ es) = refl
+bare-moves (Arrive k brought ∷ es) = refl
+
+pub moves-told : (h : List Event) (es : List written.Event) (moved : Bool) → es ≡ map bare h → moved ≡ list_any testing.is_move es → list_any moves h ≡ moved
+moves-told h es moved bares is = sym (bare-moves h) ∙ (ap (list_any testing.is_move) (sym bares) ∙ sym is)
 
 -- one more job with its contents
 contents-behind : (h : List Event) (js : List ScriptedJob) (j : ScriptedJob) → HaveContents h js → HasContents h j → HaveContents h (js ++ j ∷ [])
@@ -104,6 +123,8 @@ dressed-by ts t (of.Balance volumes) = refl
 dressed-by ts t (of.Start tenant job index worker) = refl
 dressed-by ts t (of.Finish tenant job index worker outcome) = refl
 dressed-by ts t (of.Exchange tenant job) = refl
+dressed-by ts t (of.Leave tenant job) = refl
+dressed-by ts t (of.Arrive tenant job) = refl
 
 filter-dressed : (ts : List KeyedJob) (t : List ℕ) (es : List written.Event) → filter (is_post_of t) (map (dressed ts) es) ≡ map (dressed ts) (post_lines t es)
 filter-dressed ts t [] = refl
@@ -178,11 +199,13 @@ tenant-contents h t (j ∷ js) have = by_test (is_text t j.tenant) (tenant-conte
     by_test true rest = (have.0, rest)
     by_test false rest = rest
 
--- a legal history whose written posts are the script's, of jobs with its contents, has its posts
-pub have-posts : (w : ℕ) (s : Scripted) (h : List Event) → Legal w h → HavePosts s (map bare h) → HaveContents h s.jobs → HasPosts s h
-have-posts w s h legal posts have = λ t.
-    let ts : List KeyedJob = states h in
-    ap (filter (is_post_of t)) (sym (legal-is_dressed w h legal))
-    ∙ (filter-dressed ts t (map bare h)
-    ∙ (ap (map (dressed ts)) (posts t)
-    ∙ all-dressed h (jobs_of_tenant t s) (tenant-contents h t s.jobs have)))
+-- a legal history in which no job moves, whose written posts are the script's, of jobs with its contents, has its posts
+pub have-posts : (w : ℕ) (s : Scripted) (h : List Event) → Legal w h → list_any moves h ≡ false → HavePosts s (map bare h) → HaveContents h s.jobs → HasPosts s h
+have-posts w s h legal stay posts have = record { posts = tenant-posts; stay = stay }
+  where
+    tenant-posts : (t : List ℕ) → filter (is_post_of t) h ≡ posts_of t s
+    tenant-posts t =
+        ap (filter (is_post_of t)) (sym (legal-is_dressed w h legal stay))
+        ∙ (filter-dressed (states h) t (map bare h)
+        ∙ (ap (map (dressed (states h))) (posts t)
+        ∙ all-dressed h (jobs_of_tenant t s) (tenant-contents h t s.jobs have)))

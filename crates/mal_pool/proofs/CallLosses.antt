@@ -25,7 +25,7 @@ use Rattle.mal_base.specs.declared.hall_fault.PickFault.TheVariants as picking
 use Rattle.spec_hall.specs.Calls as calls
 use Rattle.spec_hall.specs.Calls.{HasCalled, Opens, Revises, Reasks, Closes, Picks, Finishes, Offer, Leased, Idle, AllDone, Return, IsOpening, IsRevising, IsReasking, IsClosing, IsPicking, IsReturning, AreDue, arranges}
 use Rattle.spec_hall.specs.Driven.{was_lost}
-use Rattle.spec_hall.specs.Events.{Event, Open, Revise, Reask, Close, Balance, Start, Finish, Exchange}
+use Rattle.spec_hall.specs.Events.{Event, Open, Revise, Reask, Close, Balance, Start, Finish, Exchange, Leave, Arrive}
 use Rattle.spec_run.specs.Losses.{is_loss, NoneIsLost}
 use Rattle.spec_run.proofs.LossLemmas.{parts-lose-none}
 
@@ -39,6 +39,8 @@ arranged-loses (Balance shares) h = refl
 arranged-loses (Start k index worker) h = refl
 arranged-loses (Finish k index worker outcome) h = absurd (cc)
 arranged-loses (Exchange k) h = refl
+arranged-loses (Leave k) h = refl
+arranged-loses (Arrive k brought) h = refl
 
 due-lose-none : (es : List Event) → list_all arranges es ≡ true → NoneIsLost es
 due-lose-none [] h = refl

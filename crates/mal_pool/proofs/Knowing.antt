@@ -2,12 +2,12 @@
 use Rattle.std.proofs.Common.{◌≡◌, Bool, true, false, ◌||◌, cond, List, [], ◌∷◌, ◌++◌, flat_map, filter, fold, refl, sym, ◌∙◌, ap, append_assoc}
 use Rattle.std.specs.List.{list_any}
 use Rattle.std.proofs.Math.Bool.{or-false, or_assoc}
-use Rattle.std.proofs.lemmas.Bool.{or_left, or_right}
+use Rattle.std.proofs.lemmas.Bool.{or_left, or_parts, or_right}
 use Rattle.std.proofs.lemmas.List.Folds.{list_any-append}
 use Rattle.mal_pool.specs.Posts.{AreKnown}
 use Rattle.mal_pool.specs.Testing.{HasPosts}
 use Rattle.spec_job.specs.KeyedJob.{Key}
-use Rattle.spec_hall.specs.Events.{Event, Open, Revise, Reask, Close, Balance, Start, Finish, Exchange}
+use Rattle.spec_hall.specs.Events.{Event, Open, Revise, Reask, Close, Balance, Start, Finish, Exchange, Leave, Arrive, moves}
 use Rattle.spec_hall.specs.Own.{is_text, is_key}
 use Rattle.spec_hall.specs.States.{keys_step, titled}
 use Rattle.spec_hall.proofs.KeyLemmas.{is_text-Decides, is_key-same}
@@ -22,23 +22,26 @@ opens-key k e = list_any (is_key k) (keys_step [] e)
 true-not-false : true ≡ false → ⊥
 true-not-false e = cc
 
--- after an event a key is there that was there before it, or that it opens
-key-step : (k : Key) (keys : List Key) (e : Event) → list_any (is_key k) (keys_step keys e) ≡ (list_any (is_key k) keys || opens-key k e)
-key-step k keys (Open i ask) = list_any-append (is_key k) keys (i ∷ [])
-key-step k keys (Revise i number r) = sym (or-false (list_any (is_key k) keys))
-key-step k keys (Reask i w) = sym (or-false (list_any (is_key k) keys))
-key-step k keys (Close i) = sym (or-false (list_any (is_key k) keys))
-key-step k keys (Balance shares) = sym (or-false (list_any (is_key k) keys))
-key-step k keys (Start i index worker) = sym (or-false (list_any (is_key k) keys))
-key-step k keys (Finish i index worker outcome) = sym (or-false (list_any (is_key k) keys))
-key-step k keys (Exchange i) = sym (or-false (list_any (is_key k) keys))
+-- after an event that moves no job a key is there that was there before it, or that it opens
+key-step : (k : Key) (keys : List Key) (e : Event) → moves e ≡ false → list_any (is_key k) (keys_step keys e) ≡ (list_any (is_key k) keys || opens-key k e)
+key-step k keys (Open i ask) stay = list_any-append (is_key k) keys (i ∷ [])
+key-step k keys (Revise i number r) stay = sym (or-false (list_any (is_key k) keys))
+key-step k keys (Reask i w) stay = sym (or-false (list_any (is_key k) keys))
+key-step k keys (Close i) stay = sym (or-false (list_any (is_key k) keys))
+key-step k keys (Balance shares) stay = sym (or-false (list_any (is_key k) keys))
+key-step k keys (Start i index worker) stay = sym (or-false (list_any (is_key k) keys))
+key-step k keys (Finish i index worker outcome) stay = sym (or-false (list_any (is_key k) keys))
+key-step k keys (Exchange i) stay = sym (or-false (list_any (is_key k) keys))
+key-step k keys (Leave i) stay = absurd (cc)
+key-step k keys (Arrive i brought) stay = absurd (cc)
 
--- so it is after a history
-key-there : (k : Key) (h : List Event) (keys : List Key) → list_any (is_key k) (fold keys_step keys h) ≡ (list_any (is_key k) keys || list_any (opens-key k) h)
-key-there k [] keys = sym (or-false (list_any (is_key k) keys))
-key-there k (e ∷ es) keys =
-    key-there k es (keys_step keys e)
-    ∙ (ap (λ (x : Bool). x || list_any (opens-key k) es) (key-step k keys e)
+-- so it is after a history in which no job moves
+key-there : (k : Key) (h : List Event) (keys : List Key) → list_any moves h ≡ false → list_any (is_key k) (fold keys_step keys h) ≡ (list_any (is_key k) keys || list_any (opens-key k) h)
+key-there k [] keys stay = sym (or-false (list_any (is_key k) keys))
+key-there k (e ∷ es) keys stay =
+    let parts = or_parts (moves e) (list_any moves es) stay in
+    key-there k es (keys_step keys e) parts.1
+    ∙ (ap (λ (x : Bool). x || list_any (opens-key k) es) (key-step k keys e parts.0)
     ∙ or_assoc (list_any (is_key k) keys) (opens-key k e) (list_any (opens-key k) es))
 
 -- what stands in a part of a list that was kept stands in the list
@@ -74,7 +77,7 @@ posts-open (i ∷ is) j after rest = by_test (is_text j.tenant i.tenant) (posts-
 known-from : (s : Scripted) (h : List Event) (before js : List ScriptedJob) → HasPosts s h → s.jobs ≡ before ++ js → AreKnown h js
 known-from s h before [] has is = tt
 known-from s h before (j ∷ js) has is = (
-  (titled h k, job-found h k (key-there k h [] ∙ (any-kept (opens-key k) (is_post_of j.tenant) h there))),
+  (titled h k, job-found h k (key-there k h [] has.stay ∙ (any-kept (opens-key k) (is_post_of j.tenant) h there))),
   known-from s h (before ++ j ∷ []) js has (is ∙ sym (append_assoc before (j ∷ []) js)),
 )
   where
@@ -83,7 +86,7 @@ known-from s h before (j ∷ js) has is = (
 
     there : list_any (opens-key k) (filter (is_post_of j.tenant) h) ≡ true
     there =
-        ap (list_any (opens-key k)) (has j.tenant)
+        ap (list_any (opens-key k)) (has.posts j.tenant)
         ∙ (ap (λ (x : List ScriptedJob). list_any (opens-key k) (open_events (filter (λ i. is_text j.tenant i.tenant) x) ++ flat_map job_events (jobs_of_tenant j.tenant s))) is
         ∙ posts-open before j js (flat_map job_events (jobs_of_tenant j.tenant s)))
 

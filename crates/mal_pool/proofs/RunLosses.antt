@@ -62,6 +62,6 @@ pub settled-run : (w : ℕ) (s : Scripted) (h : HallView) → h.workers ≡ w �
 settled-run w s h are legal posts answered home = record {
   workers_are = are;
   legal = legal;
-  complete = record { posts = posts; answered = answered; home = home };
+  complete = record { posts = posts.posts; answered = answered; home = home; stay = posts.stay };
   known = posts-known s h.events posts;
 }

@@ -1,9 +1,10 @@
-use Rattle.std.specs.Prelude.{◌≡◌, ℕ, ◌+◌, ◌<◌, Bool, false, List, [], ◌∷◌, length, map, filter, slice_get, Some}
+use Rattle.std.specs.Prelude.{◌≡◌, ℕ, ◌+◌, ◌<◌, Bool, true, false, List, [], ◌∷◌, length, map, filter, slice_get, Some}
+use Rattle.std.specs.List.{list_any}
 use Rattle.mal_history.specs.declared.event.Event as written
 use Rattle.mal_history.specs.declared.event.Event.TheVariants as of
 use Rattle.spec_hall.specs.Driven.{was_lost}
 use Rattle.spec_hall.specs.Dressed.{revisions_of}
-use Rattle.spec_hall.specs.Events.{Event, bare}
+use Rattle.spec_hall.specs.Events.{Event, bare, moves}
 use Rattle.spec_hall.specs.States.{states}
 use Rattle.spec_run.specs.PostLines.{HavePosts}
 use Rattle.spec_run.specs.Complete.{is_post_of, key_of_job, posts_of}
@@ -22,6 +23,14 @@ is_loss (of.Balance volumes) = false
 is_loss (of.Start tenant job index worker) = false
 is_loss (of.Finish tenant job index worker outcome) = was_lost outcome
 is_loss (of.Exchange tenant job) = false
+is_loss (of.Leave tenant job) = false
+is_loss (of.Arrive tenant job) = false
+
+-- whether an event that is written down is the leave or the arrival of a job
+abbrev pub is_move : written.Event → Bool
+is_move (of.Leave tenant job) = true
+is_move (of.Arrive tenant job) = true
+is_move event = false
 
 -- the job of a hall has the revisions of the script's, as far as the script's go
 abbrev pub HasContents : List Event → ScriptedJob → Type 0
@@ -32,13 +41,15 @@ abbrev pub HaveContents : List Event → List ScriptedJob → Type 0
 HaveContents history [] = Unit {0}
 HaveContents history (j ∷ js) = HasContents history j × HaveContents history js
 
--- each tenant posted just what the script says, in its order
-abbrev pub HasPosts : Scripted → List Event → Type 0
-HasPosts s history = (tenant : List ℕ) → filter (is_post_of tenant) history ≡ posts_of tenant s
+-- each tenant posted just what the script says, in its order, and no job has left or arrived
+pub record HasPosts (s : Scripted) (history : List Event) : Type 0 where
+  pub posts : (tenant : List ℕ) → filter (is_post_of tenant) history ≡ posts_of tenant s
+  pub stay : list_any moves history ≡ false
 
--- what is written down of a history's posts is just what the script says, and its jobs have the script's contents
+-- what is written down of a history's posts is just what the script says, no job has left or arrived, and the jobs have
+-- the script's contents
 abbrev pub AreThePosts : Scripted → List Event → Type 0
-AreThePosts s history = HavePosts s (map bare history) × HaveContents history s.jobs
+AreThePosts s history = HavePosts s (map bare history) × (list_any moves history ≡ false) × HaveContents history s.jobs
 
 -- these revisions have at a place what a step posts, if it posts one
 abbrev pub HasStep : List Posted → ℕ → Step → Type 0

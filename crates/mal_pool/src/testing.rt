@@ -1,8 +1,8 @@
-//! Tests of a hall's history: whether a lease was lost, and whether tenants posted what a script says.
+//! Tests of a hall's history: whether a lease was lost, and whether tenants posted what a script says and no job moved.
 
 ghost use Rattle.std.specs.Prelude.{◌≡◌, ◌↔◌, ◌≤◌, true, ◌&&◌, not, [], length, IfOk, IsTrue};
 ghost use Rattle.std.specs.List.{list_any};
-ghost use Rattle.mal_pool.specs.Testing.{AreThePosts, HasStep, HasSteps, HaveContents, HasPosts, is_loss};
+ghost use Rattle.mal_pool.specs.Testing.{AreThePosts, HasStep, HasSteps, HaveContents, HasPosts, is_loss, is_move};
 ghost use Rattle.spec_hall.specs.{Dressed.{revisions_of}, Driven.{was_lost}, Own.{is_text}, States.{states}};
 ghost use Rattle.spec_run.specs.Complete.{key_of_job};
 ghost use Rattle.spec_script.specs.{Formed.{MayAllFollow}, Limits.{served}, Script.{revisions_in}};
@@ -49,15 +49,34 @@ fn was_lost(outcome: Outcome) -> bool
     }
 }
 
-/// Whether each tenant posted in a hall just what a script says, in its order, and no other tenant anything.
+/// Whether each tenant posted in a hall just what a script says, in its order, and no other tenant anything, and no job
+/// has left or arrived.
 pub fn has_posts(alloc: Global, hall: &Hall, script: &Script) -> Result<bool, AllocError>
     ensures posts { IfOk result (λ b. b ≡ true → HasPosts script.now hall.now.events) }
     ensures exact { IfOk result (λ b. IsTrue b ↔ AreThePosts script.now hall.now.events) }
 {
-    if !have_posts(alloc, script, hall.history().events())? {
+    let history = hall.history();
+    if !have_posts(alloc, script, history.events())? {
+        return Ok(false);
+    }
+    if has_moved(history) {
         return Ok(false);
     }
     Ok(have_contents(hall, script.jobs()))
+}
+
+/// Whether a job has left or arrived.
+fn has_moved(history: &History) -> bool
+    ensures { result ≡ list_any is_move history.now.events }
+{
+    history.events().iter().any(|event| is_move(event))
+}
+
+/// Whether an event is the leave or the arrival of a job.
+fn is_move(event: &Event) -> bool
+    ensures { result ≡ is_move event.now }
+{
+    matches!(event, Event::Leave { .. } | Event::Arrive { .. })
 }
 
 /// Whether a name is among these.

@@ -83,6 +83,8 @@ poster-is n names e known none = by_test (is_post_line n e) refl
     refuses (of.Start tenant job index worker) k p = cc
     refuses (of.Finish tenant job index worker outcome) k p = cc
     refuses (of.Exchange tenant job) k p = cc
+    refuses (of.Leave tenant job) k p = cc
+    refuses (of.Arrive tenant job) k p = cc
 
     by_test : (b : Bool) → is_post_line n e ≡ b → b ≡ false
     by_test false p = refl
@@ -147,6 +149,8 @@ stranger s names (x ∷ xs) e = by_known (is_known names x) refl e (stranger s n
     here (of.Start tenant job index worker) k = absurd (cc)
     here (of.Finish tenant job index worker outcome) k = absurd (cc)
     here (of.Exchange tenant job) k = absurd (cc)
+    here (of.Leave tenant job) k = absurd (cc)
+    here (of.Arrive tenant job) k = absurd (cc)
 
     by_known : (b : Bool) → is_known names x ≡ b → (b && list_all (is_known names) xs) ≡ false → (list_all (is_known names) xs ≡ false → (n : List ℕ) × (list_any (bytes_eq n) names ≡ false) × (post_lines n xs ≡ [] → ⊥)) → (n : List ℕ) × (list_any (bytes_eq n) names ≡ false) × (post_lines n (x ∷ xs) ≡ [] → ⊥)
     by_known true p q rest = let r = rest q in (r.0, r.1, λ none. r.2 (kept r.0 (is_post_line r.0 x) none))

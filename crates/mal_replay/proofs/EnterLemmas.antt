@@ -14,7 +14,7 @@ use Rattle.mal_replay.specs.Replaying.{HasReplayed}
 use Rattle.spec_hall.specs.Events.{Event}
 use Rattle.spec_hall.specs.Legal.{Allowed, Legal}
 use Rattle.spec_hall.specs.States.{leases, lives, states}
-use Rattle.spec_run.proofs.PostLemmas.{lines-posted, posted-lines}
+use Rattle.spec_run.proofs.PostLemmas.{lines-posted, posted-lines, written-stays}
 use Rattle.spec_run.specs.PostLines.{HavePosts}
 use Rattle.spec_run.specs.Replayed.{IsFirstRefused, IsLacking, IsLegal, IsRefusedAt, IsReplied}
 use Rattle.spec_run.specs.Accounted.{AreWritten, event_by, posted_in}
@@ -63,10 +63,12 @@ lacks-posts s h hall is legal other =
     record { events = hall.events; legal = all; lacking = λ complete. other (posted-lines s h.events hall.events all.written complete.posts) }
 
 pub is-complete : (s : Scripted) (h : Written) (hall : HallView) → IsScript served s → HasReplayed s h (length h.events) hall → Legal hall.workers hall.events → lives (states hall.events) ≡ [] → leases hall.events ≡ [] → HavePosts s h.events → IsComplete s hall.events
-is-complete s h hall formed is legal answered home have = record { posts = lines-posted s h.events hall.events formed (all-legal s h hall is legal).written have; answered = answered; home = home }
+is-complete s h hall formed is legal answered home have =
+    let written = (all-legal s h hall is legal).written in
+    record { posts = lines-posted s h.events hall.events formed written have; answered = answered; home = home; stay = written-stays s h.events hall.events written }
 
 pub has-run : (s : Scripted) (hall : HallView) → Legal hall.workers hall.events → IsComplete s hall.events → (w : ℕ) × HasRun w s hall
-has-run s hall legal complete = (hall.workers, record { workers_are = refl; legal = legal; complete = complete; known = posts-known s hall.events complete.posts })
+has-run s hall legal complete = (hall.workers, record { workers_are = refl; legal = legal; complete = complete; known = posts-known s hall.events (record { posts = complete.posts; stay = complete.stay }) })
 
 pub replied : (s : Scripted) (h : Written) (hall : HallView) (text : List ℕ) → HasReplayed s h (length h.events) hall → Legal hall.workers hall.events → IsComplete s hall.events → text ≡ replies s hall.events → IsReplied h.workers s h.events text
 replied s h hall text is legal complete told = record { events = hall.events; legal = all-legal s h hall is legal; complete = complete; text_is = told }

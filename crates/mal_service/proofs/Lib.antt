@@ -4,3 +4,4 @@ pub mod OpenedLemmas
 -- what this crate alone cites
 mod NotedLemmas
 mod PostLemmas
+mod StayLemmas

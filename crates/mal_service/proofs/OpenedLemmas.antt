@@ -1,8 +1,8 @@
 -- What a legal record tells of the jobs that were opened in it, and of replies.
-use Rattle.std.proofs.Common.{◌≡◌, ℕ, zero, suc, true, false, List, [], ◌∷◌, ◌++◌, Option, Result, Ok, Err, sym, ap, ◌∙◌, subst, append_assoc, append-nil}
+use Rattle.std.proofs.Common.{◌≡◌, ℕ, zero, suc, true, false, List, [], ◌∷◌, ◌++◌, Option, Result, Ok, Err, refl, sym, ap, ◌∙◌, subst, append_assoc, append-nil}
 use mathlib.Core.Option as lean
 use Rattle.std.specs.List.{list_any}
-use Rattle.std.proofs.lemmas.Bool.{both_ways, or_right, or_left}
+use Rattle.std.proofs.lemmas.Bool.{both_ways, or_parts, or_right, or_left}
 use Rattle.std.proofs.lemmas.List.Folds.{list_any-append}
 use Rattle.mal_turn.specs.declared.view.View.{View}
 use Rattle.mal_turn.specs.Rule.{At}
@@ -19,8 +19,8 @@ use Rattle.mal_base.specs.declared.hall_fault.ReaskFault.{ReaskFault}
 use Rattle.mal_base.specs.declared.hall_fault.CloseFault.{CloseFault}
 use Rattle.mal_base.specs.declared.hall_fault.ReplyFault.{ReplyFault}
 use Rattle.spec_hall.specs.Calls.{IsAsking, IsClosing, IsOpening, IsReasking, IsRevising}
-use Rattle.spec_hall.specs.Events.{Event, Open}
-use Rattle.spec_hall.specs.Own.{own, is_key}
+use Rattle.spec_hall.specs.Events.{Event, Open, Revise, Reask, Close, Balance, Start, Finish, Exchange, Leave, Arrive, moves}
+use Rattle.spec_hall.specs.Own.{own, is_key, leaves}
 use Rattle.spec_hall.specs.States.{keys_of}
 use Rattle.spec_hall.proofs.KeyLemmas.{is_key-same}
 use Rattle.spec_hall.proofs.PushLemmas.{keys-push}
@@ -30,16 +30,31 @@ use Rattle.mal_service.specs.Laws.{AgreeingTellEqual, OpenedIsFound, RepliesAreS
 use Rattle.mal_service.specs.Passes.{Enters}
 use Rattle.mal_service.specs.Record.{Answered, Opened, Revised, Reasked, Closed, Asked, Picked, Gave, AreAnsweredFrom, Entry, IsAnswered, Record, entry, events_of}
 use Rattle.mal_service.proofs.RecordLemmas.{events-append, events-push}
+use Rattle.mal_service.proofs.StayLemmas.{answers-stay}
 
--- a key was opened in a past
+-- the job of a key is there after a past
 abbrev WasOpened : Key → List Event → Type 0
 WasOpened k past = list_any (is_key k) (keys_of past) ≡ true
 
-opened-stays : (k : Key) (past es : List Event) → WasOpened k past → WasOpened k (past ++ es)
-opened-stays k past [] h = subst (λ (p : List Event). list_any (is_key k) (keys_of p) ≡ true) (sym (append-nil past)) h
-opened-stays k past (e ∷ es) h =
-    let next : WasOpened k (past ++ e ∷ []) = subst (λ (ks : List Key). list_any (is_key k) ks ≡ true) (sym (keys-push past e)) (keys-stay k (keys_of past) e h) in
-    subst (λ (p : List Event). list_any (is_key k) (keys_of p) ≡ true) (append_assoc past (e ∷ []) es) (opened-stays k (past ++ e ∷ []) es next)
+-- an event that moves no job is no leave of one
+no-leave : (k : Key) (e : Event) → moves e ≡ false → leaves k e ≡ false
+no-leave k (Open i ask) stay = refl
+no-leave k (Revise i number r) stay = refl
+no-leave k (Reask i weight) stay = refl
+no-leave k (Close i) stay = refl
+no-leave k (Balance shares) stay = refl
+no-leave k (Start i index worker) stay = refl
+no-leave k (Finish i index worker outcome) stay = refl
+no-leave k (Exchange i) stay = refl
+no-leave k (Leave i) stay = absurd (cc)
+no-leave k (Arrive i brought) stay = refl
+
+opened-stays : (k : Key) (past es : List Event) → list_any moves es ≡ false → WasOpened k past → WasOpened k (past ++ es)
+opened-stays k past [] stay h = subst (λ (p : List Event). list_any (is_key k) (keys_of p) ≡ true) (sym (append-nil past)) h
+opened-stays k past (e ∷ es) stay h =
+    let parts = or_parts (moves e) (list_any moves es) stay in
+    let next : WasOpened k (past ++ e ∷ []) = subst (λ (ks : List Key). list_any (is_key k) ks ≡ true) (sym (keys-push past e)) (keys-stay k (keys_of past) e (no-leave k e parts.0) h) in
+    subst (λ (p : List Event). list_any (is_key k) (keys_of p) ≡ true) (append_assoc past (e ∷ []) es) (opened-stays k (past ++ e ∷ []) es parts.1 next)
 
 -- the job that an Open opens
 opened-here : (k : Key) (ask : Terms) (past : List Event) → WasOpened k (past ++ Open k ask ∷ [])
@@ -63,7 +78,7 @@ record-opened w past (e ∷ log) zero n k ask done es calls at =
     let call : IsOpening past k ask (Ok done) es = subst (λ (d : List ℕ × Entry). IsAnswered w past d.1.call d.1.events) is calls.0 in
     let one : e.1.events ≡ Open k ask ∷ [] = ap (λ (d : List ℕ × Entry). d.1.events) is ∙ call.1 in
     let here : WasOpened k (past ++ e.1.events) = subst (λ (xs : List Event). WasOpened k (past ++ xs)) (sym one) (opened-here k ask past) in
-    subst (WasOpened k) (append_assoc past e.1.events (events_of log)) (opened-stays k (past ++ e.1.events) (events_of log) here)
+    subst (WasOpened k) (append_assoc past e.1.events (events_of log)) (opened-stays k (past ++ e.1.events) (events_of log) (answers-stay w (past ++ e.1.events) log calls.1) here)
 record-opened w past (e ∷ log) (suc i) n k ask done es calls at =
     subst (WasOpened k) (append_assoc past e.1.events (events_of log)) (record-opened w (past ++ e.1.events) log i n k ask done es calls.1 at)
 
@@ -95,9 +110,9 @@ pub opened-is_found : OpenedIsFound
 opened-is_found w before after k ask done es i n c at h tells =
     let calls = entered-calls w before after c h in
     let b = h.extends.begins in
-    let seen = (calls-parts w [] before.seen b.0 (subst (AreAnsweredFrom w []) b.1 calls.0)).0 in
-    let opened : WasOpened k (events_of before.seen) = record-opened w [] before.seen i n k ask done es seen at in
-    let later : WasOpened k (events_of h.extends.earlier) = subst (WasOpened k) (sym (ap events_of b.1 ∙ events-append before.seen b.0)) (opened-stays k (events_of before.seen) (events_of b.0) opened) in
+    let parts = calls-parts w [] before.seen b.0 (subst (AreAnsweredFrom w []) b.1 calls.0) in
+    let opened : WasOpened k (events_of before.seen) = record-opened w [] before.seen i n k ask done es parts.0 at in
+    let later : WasOpened k (events_of h.extends.earlier) = subst (WasOpened k) (sym (ap events_of b.1 ∙ events-append before.seen b.0)) (opened-stays k (events_of before.seen) (events_of b.0) (answers-stay w (events_of before.seen) b.0 parts.1) opened) in
     told-unopened w (events_of h.extends.earlier) h.events k c calls.1 tells later
 
 -- a reply is that of the machine

@@ -1,5 +1,6 @@
 -- The worked example of an inquiry.
-use Rattle.std.proofs.Common.{◌≡◌, ℕ, zero, suc, ◌<◌, ◌≤◌, List, [], ◌∷◌, ◌++◌, length, refl, sym, ◌∙◌, ap, arith}
+use Rattle.std.proofs.Common.{◌≡◌, ℕ, zero, suc, ◌<◌, ◌≤◌, List, [], ◌∷◌, ◌++◌, length, Option, Some, refl, sym, ◌∙◌, ap, arith}
+use Rattle.std.specs.Option.{option_map_or}
 use Rattle.mal_base.specs.declared.verdict.Outcome.TheVariants.{Ran}
 use Rattle.mal_revision.specs.Posted.{Posted}
 use Rattle.spec_seq.specs.Luby.{luby}
@@ -73,12 +74,16 @@ asked_once = opened ++ round_events key 1 first
 abbrev live : Live
 live = record { key = key; priority = 1; demand = 1 }
 
--- a balancing is due where the job has become live, and where it is live no more
-became-live : (past : List Event) → lives (states past) ≡ live ∷ [] → balanced past ≡ [] → IsBalanceDue past
-became-live past one none same = let many : 1 ≡ 0 = ap (λ (ls : List Live). length ls) (sym one ∙ (same ∙ none)) in absurd (omega (arith, many))
+-- how many live jobs there were at a balancing
+abbrev count_of : Option (List Live) → ℕ
+count_of o = option_map_or (λ ls. length ls) o 0
 
-was-live : (past : List Event) → lives (states past) ≡ [] → balanced past ≡ live ∷ [] → IsBalanceDue past
-was-live past none one same = let many : 0 ≡ 1 = ap (λ (ls : List Live). length ls) (sym none ∙ (same ∙ one)) in absurd (omega (arith, many))
+-- a balancing is due where the job has become live, and where it is live no more
+became-live : (past : List Event) → lives (states past) ≡ live ∷ [] → balanced past ≡ Some [] → IsBalanceDue past
+became-live past one none same = let many : 1 ≡ 0 = ap count_of (sym (ap Some one) ∙ (same ∙ none)) in absurd (omega (arith, many))
+
+was-live : (past : List Event) → lives (states past) ≡ [] → balanced past ≡ Some (live ∷ []) → IsBalanceDue past
+was-live past none one same = let many : 0 ≡ 1 = ap count_of (sym (ap Some none) ∙ (same ∙ one)) in absurd (omega (arith, many))
 
 -- the events of a round up to a balancing, the slice behind it, and the last balancing
 abbrev posted : List Event → ℕ → Posted → List Event

@@ -1,5 +1,7 @@
 -- A job's machine only grows: answers, lines and revisions that it has stay where they are.
-use Rattle.std.proofs.Common.{◌≡◌, ℕ, List, [], ◌∷◌, ◌++◌, append_assoc, append-nil, Option, refl, sym, ap, subst, ◌∙◌}
+use Rattle.std.proofs.Common.{◌≡◌, ℕ, false, List, [], ◌∷◌, ◌++◌, append_assoc, append-nil, Option, refl, sym, ap, subst, ◌∙◌}
+use Rattle.std.specs.List.{list_any}
+use Rattle.std.proofs.lemmas.Bool.{both_ways, or_parts}
 use Rattle.mal_base.specs.NumberedClause.{Line}
 use Rattle.mal_base.specs.declared.answer.Answer.{Answer}
 use Rattle.mal_base.specs.declared.verdict.Outcome.{Outcome}
@@ -9,8 +11,9 @@ use Rattle.spec_job.specs.Models.{KeepsAnswers}
 use Rattle.spec_job.specs.SoloMachine.{Own, Opened, Revised, Reasked, Closed, Volume, Started, Finished, Exchanged, Lease, NodeSlot, SoloMachine, solo, solo_step, place_at, first_empty, finished}
 use Rattle.spec_job.proofs.FinishLemmas.{slice_of, finished-leaves, settled-leaves}
 use Rattle.spec_job.proofs.StayLemmas.{push-stays, stays-on, stays-self}
-use Rattle.spec_hall.specs.Events.{Event}
-use Rattle.spec_hall.specs.Own.{own}
+use Rattle.spec_hall.specs.Events.{Event, Arrive}
+use Rattle.spec_hall.specs.Own.{own, arrives}
+use Rattle.spec_hall.proofs.KeyLemmas.{is_key-same}
 use Rattle.spec_hall.proofs.PushLemmas.{solo-push, own-push, own_step-keeps}
 
 -- the log and the revisions of a machine begin with those of another
@@ -70,14 +73,18 @@ later-on s t u h k = record { answers = stays-on s t u h.answers k.answers; grow
 push-later : (os : List Own) (o : Own) → IsLater (solo os) (solo (os ++ o ∷ []))
 push-later os o = record { answers = push-stays os o; grown = subst (Grows (solo os)) (sym (solo-push os o)) (step-grows (solo os) o) }
 
-event-later : (k : Key) (past : List Event) (e : Event) → IsLater (solo (own k past)) (solo (own k (past ++ e ∷ [])))
-event-later k past e =
+event-later : (k : Key) (past : List Event) (e : Event) → arrives k e ≡ false → IsLater (solo (own k past)) (solo (own k (past ++ e ∷ [])))
+event-later k past e stays =
     subst (λ (os : List Own). IsLater (solo (own k past)) (solo os)) (sym (own-push k past e))
-    (own_step-keeps (λ (os : List Own). IsLater (solo (own k past)) (solo os)) k (own k past) e (later-self (solo (own k past))) (push-later (own k past)))
+    (own_step-keeps (λ (os : List Own). IsLater (solo (own k past)) (solo os)) k (own k past) e (later-self (solo (own k past))) (push-later (own k past)) brings)
+  where
+    brings : (brought : List Own) → e ≡ Arrive k brought → IsLater (solo (own k past)) (solo brought)
+    brings brought is = absurd (both_ways (arrives k e) stays (ap (arrives k) is ∙ is_key-same k))
 
--- so a job's machine grows with the history
-pub history-later : (k : Key) (past later : List Event) → IsLater (solo (own k past)) (solo (own k (past ++ later)))
-history-later k past [] = subst (λ (h : List Event). IsLater (solo (own k past)) (solo (own k h))) (sym (append-nil past)) (later-self (solo (own k past)))
-history-later k past (e ∷ es) =
+-- so a job's machine grows with the history, until the job arrives
+pub history-later : (k : Key) (past later : List Event) → list_any (arrives k) later ≡ false → IsLater (solo (own k past)) (solo (own k (past ++ later)))
+history-later k past [] stays = subst (λ (h : List Event). IsLater (solo (own k past)) (solo (own k h))) (sym (append-nil past)) (later-self (solo (own k past)))
+history-later k past (e ∷ es) stays =
+    let parts = or_parts (arrives k e) (list_any (arrives k) es) stays in
     subst (λ (h : List Event). IsLater (solo (own k past)) (solo (own k h))) (append_assoc past (e ∷ []) es)
-    (later-on (solo (own k past)) (solo (own k (past ++ e ∷ []))) (solo (own k ((past ++ e ∷ []) ++ es))) (event-later k past e) (history-later k (past ++ e ∷ []) es))
+    (later-on (solo (own k past)) (solo (own k (past ++ e ∷ []))) (solo (own k ((past ++ e ∷ []) ++ es))) (event-later k past e parts.0) (history-later k (past ++ e ∷ []) es parts.1))

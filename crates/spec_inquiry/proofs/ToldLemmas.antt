@@ -1,8 +1,11 @@
 -- What was told stays: the machine of the whole history tells it too.
-use Rattle.std.proofs.Common.{◌≡◌, ℕ, zero, suc, ◌+◌, ◌<◌, ◌≤◌, List, [], ◌∷◌, ◌++◌, append_assoc, append-nil, length, take, Some, inl, sym, ap, subst, ◌∙◌, arith}
+use Rattle.std.proofs.Common.{◌≡◌, ℕ, zero, suc, ◌+◌, ◌<◌, ◌≤◌, false, List, [], ◌∷◌, ◌++◌, append_assoc, append-nil, flat_map, length, take, Some, inl, refl, sym, ap, subst, ◌∙◌, arith}
 use Rattle.std.specs.Prelude.{slice_get}
+use Rattle.std.specs.List.{list_any}
 use Rattle.std.specs.Option.{option_map}
+use Rattle.std.proofs.lemmas.Bool.{or_from}
 use Rattle.std.proofs.lemmas.List.{take-append-le}
+use Rattle.std.proofs.lemmas.List.Folds.{list_any-append}
 use Rattle.std.proofs.lemmas.Option.{slice_get_within}
 use Rattle.mal_base.specs.declared.answer.Answer.{Answer}
 use Rattle.mal_revision.specs.Posted.{Posted}
@@ -12,9 +15,10 @@ use Rattle.spec_job.specs.Replies.{body_by, body_of}
 use Rattle.spec_job.specs.SoloMachine.{SoloMachine, solo}
 use Rattle.spec_job.proofs.KeptLemmas.{MachineInvariant, runnable-kept}
 use Rattle.spec_job.proofs.ReplyLemmas.{told-same}
+use Rattle.spec_hall.specs.Driven.{Turn, Balances, Exchanges, Slices, events_in}
 use Rattle.spec_hall.specs.Events.{Event, Open}
 use Rattle.spec_hall.specs.Legal.{Legal, LegalFrom}
-use Rattle.spec_hall.specs.Own.{own}
+use Rattle.spec_hall.specs.Own.{own, arrives}
 use Rattle.spec_hall.proofs.RunnableLemmas.{legal-is_runnable}
 use Rattle.spec_inquiry.specs.Laws.{LegalToldStays, ToldStays}
 use Rattle.spec_inquiry.specs.Rounds.{Round, AreRounds, round_events}
@@ -44,26 +48,42 @@ legal-kept : (w : ℕ) (h : List Event) (k : Key) → Legal w h → MachineInvar
 legal-kept w h k legal = runnable-kept (own k h) (legal-is_runnable w h legal k)
 
 pub legal-told_stays : LegalToldStays
-legal-told_stays w past later k n told legal e =
+legal-told_stays w past later k n told legal stays e =
     machine-tells (solo (own k past)) (solo (own k (past ++ later))) n told
     (legal-kept w past k (legal_from-before w [] past later legal))
     (legal-kept w (past ++ later) k legal)
-    (history-later k past later)
+    (history-later k past later stays)
     e
 
--- the events behind a past in which rounds were asked
-rounds-behind : (k : Key) (past : List Event) (n : ℕ) (xs : List Round) (history : List Event) → AreRounds k past n xs history → (later : List Event) × (history ≡ past ++ later)
-rounds-behind k past n [] history h = ([], h ∙ sym (append-nil past))
+-- no job arrives by turns
+turns-bring_none : (k : Key) (ts : List Turn) → list_any (arrives k) (flat_map events_in ts) ≡ false
+turns-bring_none k [] = refl
+turns-bring_none k (Balances shares ∷ ts) = turns-bring_none k ts
+turns-bring_none k (Exchanges i ∷ ts) = turns-bring_none k ts
+turns-bring_none k (Slices i index outcome ∷ ts) = turns-bring_none k ts
+
+-- the events behind a past in which rounds were asked, by which no job arrives
+record IsBehind (k : Key) (past history : List Event) : Type 0 where
+  later : List Event
+  is : history ≡ past ++ later
+  none : list_any (arrives k) later ≡ false
+
+rounds-behind : (k : Key) (past : List Event) (n : ℕ) (xs : List Round) (history : List Event) → AreRounds k past n xs history → IsBehind k past history
+rounds-behind k past n [] history h = record { later = []; is = h ∙ sym (append-nil past); none = refl }
 rounds-behind k past n (x ∷ xs) history h =
     let rest = rounds-behind k (past ++ round_events k n x) (suc n) xs history h.1 in
-    (round_events k n x ++ rest.0, rest.1 ∙ append_assoc past (round_events k n x) rest.0)
+    record {
+      later = round_events k n x ++ rest.later;
+      is = rest.is ∙ append_assoc past (round_events k n x) rest.later;
+      none = list_any-append (arrives k) (round_events k n x) rest.later ∙ or_from (list_any (arrives k) (round_events k n x)) (list_any (arrives k) rest.later) (turns-bring_none k x.turns) rest.none;
+    }
 
 -- the machine of the whole history tells what was told in the first of these rounds, and so in each
 first-told : (k : Key) (past : List Event) (n : ℕ) (x : Round) (xs : List Round) (history : List Event) → Legal 1 history → AreRounds k past n (x ∷ xs) history → body_of n (solo (own k history)) ≡ Some x.asked.told
 first-told k past n x xs history legal h =
     let now : List Event = past ++ round_events k n x in
     let rest = rounds-behind k now (suc n) xs history h.1 in
-    subst (λ (es : List Event). body_of n (solo (own k es)) ≡ Some x.asked.told) (sym rest.1) (legal-told_stays 1 now rest.0 k n x.asked.told (subst (Legal 1) rest.1 legal) h.0.told)
+    subst (λ (es : List Event). body_of n (solo (own k es)) ≡ Some x.asked.told) (sym rest.is) (legal-told_stays 1 now rest.later k n x.asked.told (subst (Legal 1) rest.is legal) rest.none h.0.told)
 
 rounds-told : (k : Key) (past : List Event) (n : ℕ) (xs : List Round) (history : List Event) (r : ℕ) (x : Round) → Legal 1 history → AreRounds k past n xs history → slice_get xs r ≡ Some x → body_of (n + r) (solo (own k history)) ≡ Some x.asked.told
 rounds-told k past n [] history r x legal h e = absurd (cc)

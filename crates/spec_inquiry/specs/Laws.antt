@@ -1,5 +1,6 @@
 -- What holds of inquiries, in the form in which the law functions state it.
-use Rattle.std.specs.Prelude.{◌≡◌, ℕ, suc, ◌<◌, ◌≤◌, List, [], ◌∷◌, ◌++◌, length, Option, Some, slice_get}
+use Rattle.std.specs.Prelude.{◌≡◌, ℕ, suc, ◌<◌, ◌≤◌, false, List, [], ◌∷◌, ◌++◌, length, Option, Some, slice_get}
+use Rattle.std.specs.List.{list_any}
 use Rattle.mal_base.specs.Asks.{Terms}
 use Rattle.mal_base.specs.Formulas.{literals_of}
 use Rattle.mal_revision.specs.Posted.{Posted}
@@ -11,7 +12,7 @@ use Rattle.spec_job.specs.SoloMachine.{solo}
 use Rattle.spec_course.specs.Supported.{AreSupported}
 use Rattle.spec_hall.specs.Events.{Event}
 use Rattle.spec_hall.specs.Legal.{Legal}
-use Rattle.spec_hall.specs.Own.{own}
+use Rattle.spec_hall.specs.Own.{own, arrives}
 use Rattle.spec_run.specs.Posting.{IsOpen}
 use Rattle.spec_inquiry.specs.Asking.{MayAsk}
 use Rattle.spec_inquiry.specs.Evidence.{IsEvidence, OnlyAssumes, BeginWith}
@@ -46,11 +47,11 @@ ToldIsEvident =
     (k : Key) (ask : Terms) (rounds : List Round) (history : List Event) (r : ℕ) (x : Round) → IsInquiry k ask rounds history
     → slice_get rounds r ≡ Some x → IsEvidence (revisions_in rounds) r x.asked.told
 
--- what a job's machine tells of a revision in a legal history, it tells whatever follows
+-- what a job's machine tells of a revision in a legal history, it tells whatever follows but an arrival of the job
 abbrev pub LegalToldStays : Type 0
 LegalToldStays =
     (workers : ℕ) (past later : List Event) (k : Key) (n : ℕ) (told : ReplyBody) → Legal workers (past ++ later)
-    → body_of n (solo (own k past)) ≡ Some told → body_of n (solo (own k (past ++ later))) ≡ Some told
+    → list_any (arrives k) later ≡ false → body_of n (solo (own k past)) ≡ Some told → body_of n (solo (own k (past ++ later))) ≡ Some told
 
 -- so the machine of the whole history of an inquiry tells of each revision what was told in its round
 abbrev pub ToldStays : Type 0

@@ -17,8 +17,8 @@ pub fn told_is_evident()
     ensures evident { ToldIsEvident }
 {}
 
-/// What is told of a revision stays, whatever follows in a legal history: the replies to all revisions of an inquiry can
-/// be read off its end.
+/// What is told of a revision stays, whatever follows in a legal history but an arrival of the job: the replies to all
+/// revisions of an inquiry can be read off its end.
 pub fn told_stays()
     ensures legal { LegalToldStays }
     ensures told { ToldStays }

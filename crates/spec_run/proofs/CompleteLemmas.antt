@@ -1,13 +1,13 @@
 -- A history that begins with all that a script posts, and goes on by turns: it is complete once no job is live.
 use Rattle.std.proofs.Common.{◌≡◌, ℕ, ◌+◌, Bool, true, false, ◌&&◌, not, cond, List, [], ◌∷◌, ◌++◌, map, filter, flat_map, fold, refl, sym, ◌∙◌, ap, append-nil, append_assoc}
-use Rattle.std.specs.List.{list_all}
-use Rattle.std.proofs.lemmas.Bool.{and_parts}
+use Rattle.std.specs.List.{list_all, list_any}
+use Rattle.std.proofs.lemmas.Bool.{and_parts, or_parts}
 use Rattle.std.proofs.lemmas.List.Sums.{fold-append}
 use Rattle.std.proofs.lemmas.List.Elements.{filter-append}
 use Rattle.spec_job.specs.SoloMachine.{Own, Opened, Revised, Reasked, Closed, Volume, Started, Finished, Exchanged, SoloMachine, solo, solo_step, is_live}
 use Rattle.spec_job.specs.KeyedJob.{Key, KeyedJob}
 use Rattle.spec_job.proofs.StepLemmas.{start-keeps, finish-keeps}
-use Rattle.spec_hall.specs.Events.{Event, Open, Revise, Reask, Close, Balance, Start, Finish, Exchange}
+use Rattle.spec_hall.specs.Events.{Event, Open, Revise, Reask, Close, Balance, Start, Finish, Exchange, Leave, Arrive, moves}
 use Rattle.spec_hall.specs.Driven.{Turn, Balances, Exchanges, Slices, events_in, is_done, GrowsByTurns, IsDriven}
 use Rattle.spec_hall.specs.Own.{own, own_step, adds, is_key, is_text, volume_in}
 use Rattle.spec_hall.specs.States.{keys_of, keys_step, states, titled, lives, live_of, live_ones, leases}
@@ -15,11 +15,12 @@ use Rattle.spec_hall.proofs.PushLemmas.{solo-push}
 use Rattle.spec_hall.proofs.VolumeLemmas.{revise-keeps}
 use Rattle.spec_run.specs.Complete.{IsComplete, is_post_of, key_of_job, job_events, open_events, step_events, jobs_of_tenant, posts_of, script_events}
 use Rattle.spec_run.proofs.KeyLemmas.{adds-mine, begun-keys, posted-keys, turned-keys}
+use Rattle.spec_run.proofs.StayLemmas.{jobs-stay, turns-stay, grown-stays}
 use Rattle.spec_script.specs.Script.{ScriptedJob, Scripted}
 use Rattle.spec_script.specs.declared.step.Step.{Step}
 use Rattle.spec_script.specs.declared.step.Step.TheVariants as steps
 
--- a job that is closed stays closed
+-- a job that is closed stays closed where none moves
 step-closed : (s : SoloMachine) (o : Own) → s.closed ≡ true → (solo_step s o).closed ≡ true
 step-closed s (Opened ask) e = e
 step-closed s (Revised r) e = (revise-keeps s r).closed ∙ e
@@ -41,19 +42,21 @@ volume-closed : (same : Bool) (os : List Own) (v : ℕ) → (solo os).closed ≡
 volume-closed true os v e = e
 volume-closed false os v e = push-closed os (Volume v) e
 
-event-closed : (k : Key) (os : List Own) (e : Event) → (solo os).closed ≡ true → (solo (own_step k os e)).closed ≡ true
-event-closed k os (Open i ask) h = adds-closed (is_key k i) os (Opened ask) h
-event-closed k os (Revise i n r) h = adds-closed (is_key k i) os (Revised r) h
-event-closed k os (Reask i w) h = adds-closed (is_key k i) os (Reasked w) h
-event-closed k os (Close i) h = adds-closed (is_key k i) os Closed h
-event-closed k os (Balance shares) h = volume-closed _ os (volume_in k shares) h
-event-closed k os (Start i index worker) h = adds-closed (is_key k i) os (Started index) h
-event-closed k os (Finish i index worker outcome) h = adds-closed (is_key k i) os (Finished index outcome) h
-event-closed k os (Exchange i) h = adds-closed (is_key k i) os Exchanged h
+event-closed : (k : Key) (os : List Own) (e : Event) → moves e ≡ false → (solo os).closed ≡ true → (solo (own_step k os e)).closed ≡ true
+event-closed k os (Open i ask) stay h = adds-closed (is_key k i) os (Opened ask) h
+event-closed k os (Revise i n r) stay h = adds-closed (is_key k i) os (Revised r) h
+event-closed k os (Reask i w) stay h = adds-closed (is_key k i) os (Reasked w) h
+event-closed k os (Close i) stay h = adds-closed (is_key k i) os Closed h
+event-closed k os (Balance shares) stay h = volume-closed _ os (volume_in k shares) h
+event-closed k os (Start i index worker) stay h = adds-closed (is_key k i) os (Started index) h
+event-closed k os (Finish i index worker outcome) stay h = adds-closed (is_key k i) os (Finished index outcome) h
+event-closed k os (Exchange i) stay h = adds-closed (is_key k i) os Exchanged h
+event-closed k os (Leave i) stay h = absurd (cc)
+event-closed k os (Arrive i brought) stay h = absurd (cc)
 
-events-closed : (k : Key) (es : List Event) (os : List Own) → (solo os).closed ≡ true → (solo (fold (own_step k) os es)).closed ≡ true
-events-closed k [] os h = h
-events-closed k (e ∷ es) os h = events-closed k es (own_step k os e) (event-closed k os e h)
+events-closed : (k : Key) (es : List Event) (os : List Own) → list_any moves es ≡ false → (solo os).closed ≡ true → (solo (fold (own_step k) os es)).closed ≡ true
+events-closed k [] os stay h = h
+events-closed k (e ∷ es) os stay h = let parts = or_parts (moves e) (list_any moves es) stay in events-closed k es (own_step k os e) parts.1 (event-closed k os e parts.0 h)
 
 -- a closing closes the job
 closing-closed : (k : Key) (os : List Own) → (solo (own_step k os (Close k))).closed ≡ true
@@ -65,13 +68,13 @@ posted-closed j os =
     ap (λ (x : List Own). (solo x).closed) (fold-append (own_step (key_of_job j)) os (step_events (key_of_job j) 1 j.steps) (Close (key_of_job j) ∷ []))
     ∙ closing-closed (key_of_job j) (fold (own_step (key_of_job j)) os (step_events (key_of_job j) 1 j.steps))
 
--- so are all jobs that are posted, whatever follows
+-- so are all jobs that are posted, whatever follows but a move
 own-parts : (k : Key) (past es : List Event) → own k (past ++ es) ≡ fold (own_step k) (own k past) es
 own-parts k past es = fold-append (own_step k) [] past es
 
-pub all-closed : (js : List ScriptedJob) (past later : List Event) (h : List Event) → h ≡ (past ++ flat_map job_events js) ++ later → list_all (λ t. t.state.closed) (map (titled h) (map key_of_job js)) ≡ true
-all-closed [] past later h e = refl
-all-closed (j ∷ js) past later h e = both (titled h (key_of_job j)).state.closed (list_all (λ t. t.state.closed) (map (titled h) (map key_of_job js))) first (all-closed js (past ++ job_events j) later h rest)
+pub all-closed : (js : List ScriptedJob) (past later : List Event) (h : List Event) → h ≡ (past ++ flat_map job_events js) ++ later → list_any moves later ≡ false → list_all (λ t. t.state.closed) (map (titled h) (map key_of_job js)) ≡ true
+all-closed [] past later h e stay = refl
+all-closed (j ∷ js) past later h e stay = both (titled h (key_of_job j)).state.closed (list_all (λ t. t.state.closed) (map (titled h) (map key_of_job js))) first (all-closed js (past ++ job_events j) later h rest stay)
   where
     both : (a b : Bool) → a ≡ true → b ≡ true → (a && b) ≡ true
     both a b p q = rw (p, q) refl
@@ -89,7 +92,7 @@ all-closed (j ∷ js) past later h e = both (titled h (key_of_job j)).state.clos
     first : (solo (own (key_of_job j) h)).closed ≡ true
     first =
         ap (λ (x : List Own). (solo x).closed) whole
-        ∙ events-closed (key_of_job j) later (fold (own_step (key_of_job j)) (fold (own_step (key_of_job j)) (own (key_of_job j) past) (job_events j)) (flat_map job_events js)) (events-closed (key_of_job j) (flat_map job_events js) (fold (own_step (key_of_job j)) (own (key_of_job j) past) (job_events j)) (posted-closed j (own (key_of_job j) past)))
+        ∙ events-closed (key_of_job j) later (fold (own_step (key_of_job j)) (fold (own_step (key_of_job j)) (own (key_of_job j) past) (job_events j)) (flat_map job_events js)) stay (events-closed (key_of_job j) (flat_map job_events js) (fold (own_step (key_of_job j)) (own (key_of_job j) past) (job_events j)) (jobs-stay js) (posted-closed j (own (key_of_job j) past)))
 
 -- where every job is closed and none is live, nothing is left to do
 pub closed-done : (ts : List KeyedJob) → list_all (λ t. t.state.closed) ts ≡ true → lives ts ≡ [] → is_done ts ≡ true
@@ -181,7 +184,7 @@ grown-keys workers s h grows =
 pub grown-driven : (workers : ℕ) (s : Scripted) (h : List Event) → GrowsByTurns workers (script_events s) h → lives (states h) ≡ [] → IsDriven workers (script_events s) h
 grown-driven workers s h grows none = record {
   turned = grows;
-  done = closed-done (states h) (ap (λ (ks : List Key). list_all (λ t. t.state.closed) (map (titled h) ks)) (grown-keys workers s h grows) ∙ all-closed s.jobs (open_events s.jobs) (flat_map events_in grows.turns) h grows.grown) none;
+  done = closed-done (states h) (ap (λ (ks : List Key). list_all (λ t. t.state.closed) (map (titled h) ks)) (grown-keys workers s h grows) ∙ all-closed s.jobs (open_events s.jobs) (flat_map events_in grows.turns) h grows.grown (turns-stay grows.turns)) none;
 }
 
 -- and with nothing out it is complete
@@ -190,4 +193,5 @@ grown-complete workers s h grows none home = record {
   posts = λ tenant. grown-posts workers tenant (script_events s) h grows ∙ script-posts tenant s;
   answered = none;
   home = home;
+  stay = grown-stays workers s h grows;
 }

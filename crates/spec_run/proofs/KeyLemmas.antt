@@ -17,7 +17,7 @@ use Rattle.spec_script.specs.declared.step.Step.{Step}
 use Rattle.spec_script.specs.declared.step.Step.TheVariants as steps
 
 -- openings open their keys
-pub opened-keys : (js : List ScriptedJob) (keys : List Key) → fold keys_step keys (open_events js) ≡ keys ++ map key_of_job js
+opened-keys : (js : List ScriptedJob) (keys : List Key) → fold keys_step keys (open_events js) ≡ keys ++ map key_of_job js
 opened-keys [] keys = sym (append-nil keys)
 opened-keys (j ∷ js) keys = opened-keys js (keys ++ key_of_job j ∷ []) ∙ append_assoc keys (key_of_job j ∷ []) (map key_of_job js)
 
@@ -49,12 +49,9 @@ begun-keys js es none =
     fold-append keys_step [] (open_events js) es
     ∙ (ap (λ (x : List Key). fold keys_step x es) (opened-keys js []) ∙ none (map key_of_job js))
 
--- a key that is among those of a history is found, and one that is not is not
+-- a key that is among those of a history is found
 pub job-found : (h : List Event) (k : Key) → list_any (is_key k) (keys_of h) ≡ true → job_of k (states h) ≡ Some (titled h k)
 job-found h k e = job_of-states h k ∙ ap (λ (b : Bool). cond b (Some (titled h k)) None) e
-
-pub job-absent : (h : List Event) (k : Key) → list_any (is_key k) (keys_of h) ≡ false → job_of k (states h) ≡ None
-job-absent h k e = job_of-states h k ∙ ap (λ (b : Bool). cond b (Some (titled h k)) None) e
 
 -- whether a key is among those of jobs
 pub among-keys : (k : Key) (js : List ScriptedJob) → list_any (is_key k) (map key_of_job js) ≡ list_any (λ i. is_key k (key_of_job i)) js

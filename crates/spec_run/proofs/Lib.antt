@@ -6,9 +6,10 @@ pub mod PostingLemmas
 pub mod CompleteLemmas
 pub mod HomeLemmas
 pub mod LossLemmas
+pub mod StayLemmas
 pub mod PostLemmas
 pub mod ReplayLemmas
 pub mod RunLemmas
+pub mod TenantLemmas
 -- what this crate alone cites
-mod TenantLemmas
 mod DecidedLemmas

@@ -12,15 +12,15 @@ use Rattle.spec_job.specs.SoloMachine.{Own, Opened, Revised, Reasked, Closed, So
 use Rattle.spec_job.specs.KeyedJob.{Key}
 use Rattle.spec_hall.specs.Events.{Event, Open, Revise, Reask, Close}
 use Rattle.spec_hall.specs.Own.{own, own_step, is_key}
-use Rattle.spec_hall.specs.States.{keys_of, states, titled}
+use Rattle.spec_hall.specs.States.{names_of, names_step, states, titled}
 use Rattle.spec_hall.specs.Legal.{MayOpen, MayRevise, MayReask, job_of, jobs_of, tenant_count}
 use Rattle.spec_hall.proofs.KeyLemmas.{is_key-Decides}
 use Rattle.spec_hall.proofs.PushLemmas.{own-push, solo-push, keys-push}
 use Rattle.spec_hall.proofs.VolumeLemmas.{revise-keeps}
 use Rattle.spec_run.specs.Complete.{key_of_job, job_events, open_events, step_events}
 use Rattle.spec_run.specs.Posting.{IsOpen}
-use Rattle.spec_run.proofs.KeyLemmas.{posted-keys, begun-keys, job-found, job-absent, among-keys, among-parts, adds-mine}
-use Rattle.spec_run.proofs.TenantLemmas.{titles, jobs-counted, tenant-fits}
+use Rattle.spec_run.proofs.KeyLemmas.{posted-keys, begun-keys, job-found, among-keys, among-parts, adds-mine}
+use Rattle.spec_run.proofs.TenantLemmas.{jobs-counted, tenant-fits}
 use Rattle.spec_script.specs.Formed.{MayFollow, MayAllFollow}
 use Rattle.spec_script.specs.Limits.{Limits, served}
 use Rattle.spec_script.specs.Script.{ScriptedJob, revisions_in}
@@ -62,19 +62,27 @@ part-of limits before j after h =
     let parts = follow-split limits [] before j after h in
     record { first = parts.0.new; last = apart-after limits (key_of_job j) (before ++ j ∷ []) after (among-parts before j []) parts.1 }
 
+-- the openings of a script's jobs name them, each once
+pub opened-names : (limits : Limits) (done js : List ScriptedJob) → MayAllFollow limits done js → fold names_step (map key_of_job done) (open_events js) ≡ map key_of_job (done ++ js)
+opened-names limits done [] follow = ap (map key_of_job) (sym (append-nil done))
+opened-names limits done (j ∷ js) follow =
+    ap (λ (b : Bool). fold names_step (cond b (map key_of_job done) (map key_of_job done ++ key_of_job j ∷ [])) (open_events js)) (among-keys (key_of_job j) done ∙ follow.0.new)
+    ∙ (ap (λ (names : List Key). fold names_step names (open_events js)) (sym (map-append key_of_job done (j ∷ [])))
+    ∙ (opened-names limits (done ++ j ∷ []) js follow.1 ∙ ap (map key_of_job) (append_assoc done (j ∷ []) js)))
+
 -- the next job of a script may be opened
-pub next-may_open : (h : List Event) (js : List ScriptedJob) (j : ScriptedJob) → keys_of h ≡ map key_of_job js → MayFollow served js j → MayOpen h (key_of_job j) j.ask
-next-may_open h js j keys follow = record {
+pub next-may_open : (h : List Event) (js : List ScriptedJob) (j : ScriptedJob) → names_of h ≡ map key_of_job js → MayFollow served js j → MayOpen h (key_of_job j) j.ask
+next-may_open h js j names follow = record {
   tenant = follow.formed.tenant;
   job = follow.formed.name;
   asked = follow.formed.ask;
-  fresh = job-absent h (key_of_job j) (ap (list_any (is_key (key_of_job j))) keys ∙ (among-keys (key_of_job j) js ∙ follow.new));
-  tenant_room = subst (λ (n : ℕ). n < 64) (sym (count ∙ jobs-counted h j.tenant js)) (ltb-true _ 64 (and_parts _ _ follow.room).0);
-  hall_room = λ e. subst (λ (ks : List Key). tenant_count (map (titled h) ks) < 64) (sym keys) (tenant-fits h js j 64 follow.tenants (sym count ∙ e));
+  fresh = ap (list_any (is_key (key_of_job j))) names ∙ (among-keys (key_of_job j) js ∙ follow.new);
+  tenant_room = subst (λ (n : ℕ). n < 64) (sym (count ∙ jobs-counted j.tenant js)) (ltb-true _ 64 (and_parts _ _ follow.room).0);
+  hall_room = λ e. subst (λ (ks : List Key). tenant_count ks < 64) (sym names) (tenant-fits js j 64 follow.tenants (sym count ∙ e));
 }
   where
-    count : jobs_of j.tenant (states h) ≡ jobs_of j.tenant (titles h js)
-    count = ap (λ (ks : List Key). jobs_of j.tenant (map (titled h) ks)) keys
+    count : jobs_of j.tenant (names_of h) ≡ jobs_of j.tenant (map key_of_job js)
+    count = ap (jobs_of j.tenant) names
 
 -- events of other jobs leave a job's own events as they are
 others-opened : (k : Key) (js : List ScriptedJob) (os : List Own) → IsApart k js → fold (own_step k) os (open_events js) ≡ os

@@ -2,11 +2,11 @@
 use Rattle.std.proofs.Common.{◌≡◌, ℕ, suc, ◌+◌, Bool, true, false, cond, List, [], ◌∷◌, ◌++◌, length, map, filter, flat_map, slice_get, Option, Some, None, option_map, refl, sym, ◌∙◌, ap, subst, arith, append_assoc, length-append}
 use Rattle.std.specs.List.{list_any}
 use Rattle.std.specs.Option.{option_map_or}
-use Rattle.std.proofs.lemmas.Bool.{or_parts}
+use Rattle.std.proofs.lemmas.Bool.{or_from, or_parts}
 use Rattle.mal_history.specs.declared.event.Event as written
 use Rattle.mal_history.specs.declared.event.Event.TheVariants as of
 use Rattle.mal_revision.specs.Posted.{Posted}
-use Rattle.spec_hall.specs.Events.{Event, Open, Revise, Reask, Close, Balance, Start, Finish, Exchange, bare}
+use Rattle.spec_hall.specs.Events.{Event, Open, Revise, Reask, Close, Balance, Start, Finish, Exchange, Leave, Arrive, bare, moves}
 use Rattle.spec_hall.specs.Dressed.{keyed}
 use Rattle.spec_hall.specs.Own.{is_key, is_text}
 use Rattle.spec_hall.proofs.KeyLemmas.{is_key-same}
@@ -34,6 +34,9 @@ some-same (x ∷ xs) (y ∷ ys) e =
 as-written : (x e : Event) (line : written.Event) → Some x ≡ Some e → bare x ≡ line → bare e ≡ line
 as-written x e line is same = let equal : x ≡ e = cc in ap bare (sym equal) ∙ same
 
+same-stays : (x e : Event) → Some x ≡ Some e → moves x ≡ false → moves e ≡ false
+same-stays x e is stay = let equal : x ≡ e = cc in ap moves (sym equal) ∙ stay
+
 bare-given : (s : Scripted) (line : written.Event) (e : Event) → event_by s line ≡ Some e → bare e ≡ line
 bare-given s (of.Open tenant job ask) e is = as-written (Open (keyed tenant job) ask) e (of.Open tenant job ask) is refl
 bare-given s (of.Revise tenant job number) e is = by_revision (revision_in s (keyed tenant job) number) is
@@ -47,6 +50,8 @@ bare-given s (of.Balance volumes) e is = as-written (Balance volumes) e (of.Bala
 bare-given s (of.Start tenant job index worker) e is = as-written (Start (keyed tenant job) index worker) e (of.Start tenant job index worker) is refl
 bare-given s (of.Finish tenant job index worker outcome) e is = as-written (Finish (keyed tenant job) index worker outcome) e (of.Finish tenant job index worker outcome) is refl
 bare-given s (of.Exchange tenant job) e is = as-written (Exchange (keyed tenant job)) e (of.Exchange tenant job) is refl
+bare-given s (of.Leave tenant job) e is = absurd (cc)
+bare-given s (of.Arrive tenant job) e is = absurd (cc)
 
 -- so what is written down are the lines of the events
 pub written-bare : (s : Scripted) (lines : List written.Event) (events : List Event) → AreWritten s lines events → lines ≡ map bare events
@@ -57,6 +62,31 @@ written-bare s (x ∷ xs) (y ∷ ys) e =
     let head : event_by s x ≡ Some y = cc in
     let tail : AreWritten s xs ys = cc in
     ap (λ (z : written.Event). z ∷ xs) (sym (bare-given s x y head)) ∙ ap (λ (zs : List written.Event). bare y ∷ zs) (written-bare s xs ys tail)
+
+-- and no job moves by them
+given-stays : (s : Scripted) (line : written.Event) (e : Event) → event_by s line ≡ Some e → moves e ≡ false
+given-stays s (of.Open tenant job ask) e is = same-stays (Open (keyed tenant job) ask) e is refl
+given-stays s (of.Revise tenant job number) e is = by_revision (revision_in s (keyed tenant job) number) is
+  where
+    by_revision : (o : Option Posted) → option_map (λ r. Revise (keyed tenant job) number r) o ≡ Some e → moves e ≡ false
+    by_revision None q = absurd (cc)
+    by_revision (Some r) q = same-stays (Revise (keyed tenant job) number r) e q refl
+given-stays s (of.Reask tenant job w) e is = same-stays (Reask (keyed tenant job) w) e is refl
+given-stays s (of.Close tenant job) e is = same-stays (Close (keyed tenant job)) e is refl
+given-stays s (of.Balance volumes) e is = same-stays (Balance volumes) e is refl
+given-stays s (of.Start tenant job index worker) e is = same-stays (Start (keyed tenant job) index worker) e is refl
+given-stays s (of.Finish tenant job index worker outcome) e is = same-stays (Finish (keyed tenant job) index worker outcome) e is refl
+given-stays s (of.Exchange tenant job) e is = same-stays (Exchange (keyed tenant job)) e is refl
+given-stays s (of.Leave tenant job) e is = absurd (cc)
+given-stays s (of.Arrive tenant job) e is = absurd (cc)
+
+pub written-stays : (s : Scripted) (lines : List written.Event) (events : List Event) → AreWritten s lines events → list_any moves events ≡ false
+written-stays s lines [] are = refl
+written-stays s [] (e ∷ es) are = absurd (cc)
+written-stays s (x ∷ xs) (e ∷ es) are =
+    let head : event_by s x ≡ Some e = cc in
+    let tail : AreWritten s xs es = cc in
+    or_from (moves e) (list_any moves es) (given-stays s x e head) (written-stays s xs es tail)
 
 -- each event has what the script says
 abbrev pub AreScripted : Scripted → List Event → Type 0
@@ -172,6 +202,8 @@ post-bare tenant (Balance shares) = refl
 post-bare tenant (Start k index worker) = refl
 post-bare tenant (Finish k index worker outcome) = refl
 post-bare tenant (Exchange k) = refl
+post-bare tenant (Leave k) = refl
+post-bare tenant (Arrive k brought) = refl
 
 posts-bare : (tenant : List ℕ) (events : List Event) → post_lines tenant (map bare events) ≡ map bare (filter (is_post_of tenant) events)
 posts-bare tenant [] = refl

@@ -11,14 +11,13 @@ use Rattle.mal_revision.specs.Posted.{Posted, is_posted}
 use Rattle.spec_job.specs.SoloMachine.{clauses_in, literals_in}
 use Rattle.spec_job.specs.KeyedJob.{Key}
 use Rattle.spec_hall.specs.Events.{Event, Open, Revise}
-use Rattle.spec_hall.specs.States.{keys_of, titled}
+use Rattle.spec_hall.specs.States.{names_of, titled}
 use Rattle.spec_hall.specs.Legal.{MayOpen, MayRevise}
 use Rattle.spec_run.specs.Complete.{key_of_job, job_events, open_events, step_events}
 use Rattle.spec_run.specs.Posting.{IsOpen}
-use Rattle.spec_run.proofs.KeyLemmas.{opened-keys}
-use Rattle.spec_run.proofs.OpenLemmas.{IsPart, follow-split, part-of, next-may_open, next-is_open, open-may_revise, revise-more}
+use Rattle.spec_run.proofs.OpenLemmas.{IsPart, follow-split, part-of, opened-names, next-may_open, next-is_open, open-may_revise, revise-more}
 use Rattle.spec_script.specs.Formed.{IsJob, is_step, is_up_to, is_weight, MayFollow, MayAllFollow}
-use Rattle.spec_script.specs.Limits.{served}
+use Rattle.spec_script.specs.Limits.{Limits, served}
 use Rattle.spec_script.specs.Script.{ScriptedJob, revisions, revisions_at, revisions_in}
 use Rattle.spec_script.specs.declared.step.Step.{Step}
 use Rattle.spec_script.specs.declared.step.Step.TheVariants as steps
@@ -34,9 +33,15 @@ take-one xs i x low is = take_more xs i x low ∙ ap (λ y. take i xs ++ y ∷ [
 follow-at : (js : List ScriptedJob) (i : ℕ) (j : ScriptedJob) → MayAllFollow served [] js → i < length js → j ≡ get_or js i j → MayFollow served (take i js) j
 follow-at js i j follow low is = (follow-split served [] (take i js) j (drop (i + 1) js) (subst (λ (x : List ScriptedJob). MayAllFollow served [] x) (at-parts js i j low is) follow)).0
 
+-- and those before it are a script's jobs in form
+follow-front : (limits : Limits) (done js : List ScriptedJob) (i : ℕ) → MayAllFollow limits done js → MayAllFollow limits done (take i js)
+follow-front limits done js zero follow = tt
+follow-front limits done [] (suc i) follow = tt
+follow-front limits done (j ∷ js) (suc i) follow = (follow.0, follow-front limits (done ++ j ∷ []) js i follow.1)
+
 -- where the jobs before it are opened, it may be opened
 pub opened-may_open : (h : List Event) (js : List ScriptedJob) (i : ℕ) (j : ScriptedJob) → h ≡ open_events (take i js) → MayAllFollow served [] js → i < length js → j ≡ get_or js i j → MayOpen h (key_of_job j) j.ask
-opened-may_open h js i j e follow low is = next-may_open h (take i js) j (ap keys_of e ∙ opened-keys (take i js) []) (follow-at js i j follow low is)
+opened-may_open h js i j e follow low is = next-may_open h (take i js) j (ap names_of e ∙ opened-names served [] (take i js) (follow-front served [] js i follow)) (follow-at js i j follow low is)
 
 -- then one job more is opened
 pub opened-more : (h after : List Event) (js : List ScriptedJob) (i : ℕ) (j : ScriptedJob) → h ≡ open_events (take i js) → after ≡ h ++ Open (key_of_job j) j.ask ∷ [] → i < length js → j ≡ get_or js i j → after ≡ open_events (take (i + 1) js)

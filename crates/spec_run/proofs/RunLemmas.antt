@@ -1,6 +1,8 @@
 -- A run's own history replays to its output.
 use Rattle.std.proofs.Common.{◌≡◌, ℕ, Bool, true, false, cond, List, [], ◌∷◌, map, filter, Option, Some, Ok, Err, refl, sym, ◌∙◌, ap, subst}
-use Rattle.spec_hall.specs.Events.{Event, Open, Revise, Reask, Close, Balance, Start, Finish, Exchange, bare}
+use Rattle.std.specs.List.{list_any}
+use Rattle.std.proofs.lemmas.Bool.{or_parts}
+use Rattle.spec_hall.specs.Events.{Event, Open, Revise, Reask, Close, Balance, Start, Finish, Exchange, Leave, Arrive, bare, moves}
 use Rattle.spec_hall.proofs.KeyLemmas.{is_text-Decides}
 use Rattle.mal_base.specs.declared.replay_fault.ReplayFault.TheVariants.{OutOfMemory}
 use Rattle.spec_run.specs.ReplayLaws.{RunIsReplied, RunIsReplayed}
@@ -23,33 +25,36 @@ rest-scripted s e es are tenant = by_test (is_post_of tenant e) (are tenant)
     by_test true whole = cc
     by_test false rest = rest
 
--- an event is the script's where what its tenant posts is
-first-scripted : (s : Scripted) (e : Event) (es : List Event) → PostsAreScripted s (e ∷ es) → event_by s (bare e) ≡ Some e
-first-scripted s (Open k ask) es are = refl
-first-scripted s (Revise k number r) es are =
+-- an event that moves no job is the script's where what its tenant posts is
+first-scripted : (s : Scripted) (e : Event) (es : List Event) → moves e ≡ false → PostsAreScripted s (e ∷ es) → event_by s (bare e) ≡ Some e
+first-scripted s (Open k ask) es stay are = refl
+first-scripted s (Revise k number r) es stay are =
     let mine : AreScripted s (Revise k number r ∷ filter (is_post_of k.tenant) es) =
     subst (λ (b : Bool). AreScripted s (cond b (Revise k number r ∷ filter (is_post_of k.tenant) es) (filter (is_post_of k.tenant) es))) ((is_text-Decides k.tenant k.tenant).1 refl) (are k.tenant) in
     cc
-first-scripted s (Reask k w) es are = refl
-first-scripted s (Close k) es are = refl
-first-scripted s (Balance shares) es are = refl
-first-scripted s (Start k index worker) es are = refl
-first-scripted s (Finish k index worker outcome) es are = refl
-first-scripted s (Exchange k) es are = refl
+first-scripted s (Reask k w) es stay are = refl
+first-scripted s (Close k) es stay are = refl
+first-scripted s (Balance shares) es stay are = refl
+first-scripted s (Start k index worker) es stay are = refl
+first-scripted s (Finish k index worker outcome) es stay are = refl
+first-scripted s (Exchange k) es stay are = refl
+first-scripted s (Leave k) es stay are = absurd (cc)
+first-scripted s (Arrive k brought) es stay are = absurd (cc)
 
--- so a history is the script's where what each tenant posts is
-all-scripted : (s : Scripted) (events : List Event) → PostsAreScripted s events → AreScripted s events
-all-scripted s [] are = refl
-all-scripted s (e ∷ es) are =
-    ap (λ (o : Option Event). o ∷ map (event_by s) (map bare es)) (first-scripted s e es are)
-    ∙ ap (λ (os : List (Option Event)). Some e ∷ os) (all-scripted s es (rest-scripted s e es are))
+-- so a history in which no job moves is the script's where what each tenant posts is
+all-scripted : (s : Scripted) (events : List Event) → list_any moves events ≡ false → PostsAreScripted s events → AreScripted s events
+all-scripted s [] stay are = refl
+all-scripted s (e ∷ es) stay are =
+    let parts = or_parts (moves e) (list_any moves es) stay in
+    ap (λ (o : Option Event). o ∷ map (event_by s) (map bare es)) (first-scripted s e es parts.0 are)
+    ∙ ap (λ (os : List (Option Event)). Some e ∷ os) (all-scripted s es parts.1 (rest-scripted s e es are))
 
 pub run-is_replied : RunIsReplied
 run-is_replied workers s history log out formed run =
     let posts : PostsAreScripted s history = λ tenant. subst (λ (es : List Event). AreScripted s es) (sym (run.complete.posts tenant)) (posts-scripted s tenant formed) in
     record {
       events = history;
-      legal = record { written = all-scripted s history posts; legal = run.legal };
+      legal = record { written = all-scripted s history run.complete.stay posts; legal = run.legal };
       complete = run.complete;
       text_is = run.out_text;
     }

@@ -35,8 +35,11 @@ posted_in s (of.Balance volumes) = None
 posted_in s (of.Start tenant job index worker) = None
 posted_in s (of.Finish tenant job index worker outcome) = None
 posted_in s (of.Exchange tenant job) = None
+posted_in s (of.Leave tenant job) = None
+posted_in s (of.Arrive tenant job) = None
 
--- the event that is written down, a Revise with the script's revision: none where the script lacks that revision
+-- the event that is written down, a Revise with the script's revision: none where the script lacks that revision, or a
+-- job moves
 abbrev pub event_by : Scripted → written.Event → Option Event
 event_by s e = given (posted_in s e) e
 

@@ -1,6 +1,7 @@
 use Rattle.std.specs.Prelude.{◌≡◌, ℕ, ◌+◌, Bool, false, List, [], ◌∷◌, ◌++◌, map, filter, flat_map}
+use Rattle.std.specs.List.{list_any}
 use Rattle.spec_job.specs.KeyedJob.{Key}
-use Rattle.spec_hall.specs.Events.{Event, Open, Revise, Reask, Close}
+use Rattle.spec_hall.specs.Events.{Event, Open, Revise, Reask, Close, moves}
 use Rattle.spec_hall.specs.Own.{is_text}
 use Rattle.spec_hall.specs.States.{states, lives, leases}
 use Rattle.spec_script.specs.Script.{ScriptedJob, Scripted}
@@ -46,8 +47,9 @@ abbrev pub script_events : Scripted → List Event
 script_events s = open_events s.jobs ++ flat_map job_events s.jobs
 
 -- a history is complete for a script: each tenant posted just what the script says, in its order; every revision is
--- answered, and nothing is out
+-- answered, nothing is out, and no job has left or arrived
 pub record IsComplete (s : Scripted) (history : List Event) : Type 0 where
   pub posts : (tenant : List ℕ) → filter (is_post_of tenant) history ≡ posts_of tenant s
   pub answered : lives (states history) ≡ []
   pub home : leases history ≡ []
+  pub stay : list_any moves history ≡ false
