@@ -1,0 +1,4 @@
+pub mod TakeLemmas
+pub mod LineLemmas
+pub mod EventLemmas
+pub mod PackLemmas

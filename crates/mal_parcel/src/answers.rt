@@ -1,0 +1,148 @@
+//! The section of the answers.
+
+ghost use Rattle.std.specs.Prelude.{◌≡◌, ◌==◌, ℕ, ◌<◌, ◌≤◌, ◌^◌, [], ◌∷◌, ◌++◌, Bool, List, length, map, flat_map, IfOk, OnOk};
+ghost use Rattle.mal_base.specs.declared.answer.Answer.{Answer};
+ghost use Rattle.mal_base.specs.declared.answer.Answer.TheVariants.{Satisfied, Refuted};
+ghost use Rattle.std.specs.Int.{w64};
+ghost use Rattle.mal_freeze.specs.Spelling.{phase_code, spelled};
+ghost use Rattle.spec_parcel.specs.Packed.{answer_bytes, listed};
+ghost use Rattle.mal_parcel.specs.Taking.{HasGoal, HasValues, verdict_of};
+
+use crate::sized::{put_length, put_number, take_number};
+use mal_base::{Answer, ClauseId, Values};
+use std::alloc::{AllocError, Global};
+
+/// Puts how many answers there are, and then each of them, behind the others.
+pub fn put_answers(out: &mut Vec<u8>, answers: &[Answer]) -> Result<(), AllocError>
+    ensures { OnOk result (out.new.items ≡ out.old.items ++ listed answer_bytes answers.now) }
+{
+    put_length(out, answers.len())?;
+    put_each(out, answers)
+}
+
+/// Puts answers behind the others.
+fn put_each(out: &mut Vec<u8>, answers: &[Answer]) -> Result<(), AllocError>
+    ensures { OnOk result (out.new.items ≡ out.old.items ++ flat_map answer_bytes answers.now) }
+{
+    for answer in answers {
+        put_answer(out, answer)?;
+    }
+    Ok(())
+}
+
+/// Puts an answer behind the others: its kind, and then its model or its goal.
+pub fn put_answer(out: &mut Vec<u8>, answer: &Answer) -> Result<(), AllocError>
+    ensures { OnOk result (out.new.items ≡ out.old.items ++ answer_bytes answer.now) }
+{
+    match answer {
+        Answer::Satisfied(model) => {
+            out.push(1)?;
+            put_values(out, model.as_slice())
+        }
+        Answer::Refuted { goal } => {
+            out.push(2)?;
+            put_number(out, goal.number())
+        }
+        Answer::Spent(_) => put_byte(out, 3),
+        Answer::OutOfStarts => put_byte(out, 4),
+    }
+}
+
+/// Puts a byte behind the others.
+fn put_byte(out: &mut Vec<u8>, byte: u8) -> Result<(), AllocError>
+    ensures { OnOk result (out.new.items ≡ out.old.items ++ byte ∷ []) }
+{
+    out.push(byte)?;
+    Ok(())
+}
+
+/// Puts the values of a model behind the others, 1 for true and 0 for false.
+fn put_values(out: &mut Vec<u8>, values: &[bool]) -> Result<(), AllocError>
+    ensures { OnOk result (out.new.items ≡ out.old.items ++ map phase_code values.now) }
+{
+    for value in values {
+        put_byte(out, phase_code(*value))?;
+    }
+    Ok(())
+}
+
+/// 1 for true, 0 for false.
+pub fn phase_code(value: bool) -> u8
+    ensures { result ≡ phase_code value }
+{
+    if value { 1 } else { 0 }
+}
+
+/// The answer at the front, where it is a verdict, of a job with so many variables by then, and what stands behind it.
+/// Bytes that no answer begins are want of memory.
+pub fn take_answer(
+    alloc: Global,
+    variables: usize,
+    bytes: &[u8],
+) -> Result<(Option<Answer>, &[u8]), AllocError>
+    requires { variables ≤ 65536 }
+    ensures { (a : Answer) (more : List ℕ) → HasValues variables a → HasGoal a → bytes.now ≡ answer_bytes a ++ more
+        → IfOk result (λ x. (x.0 ≡ verdict_of a) × (x.1.now ≡ more)) }
+{
+    match bytes {
+        [1, rest @ ..] => take_model(alloc, variables, rest),
+        [2, rest @ ..] => take_goal(rest),
+        [3, rest @ ..] => Ok((None, rest)),
+        [4, rest @ ..] => Ok((None, rest)),
+        _ => Err(AllocError),
+    }
+}
+
+/// The model of so many variables at the front, and what stands behind it.
+fn take_model(
+    alloc: Global,
+    variables: usize,
+    bytes: &[u8],
+) -> Result<(Option<Answer>, &[u8]), AllocError>
+    requires { variables ≤ 65536 }
+    ensures { (model : List Bool) (more : List ℕ) → length model ≡ variables
+        → bytes.now ≡ map phase_code model ++ more
+        → IfOk result (λ x. (x.0 ≡ verdict_of (Satisfied model)) × (x.1.now ≡ more)) }
+{
+    if bytes.len() < variables {
+        return Err(AllocError);
+    }
+    let (front, rest) = bytes.split_at(variables);
+    let values = values(alloc, front)?;
+    Ok((Some(Answer::Satisfied(Values::of(values))), rest))
+}
+
+/// The values of these bytes.
+fn values(alloc: Global, bytes: &[u8]) -> Result<Vec<bool>, AllocError>
+    ensures values { (model : List Bool) → bytes.now ≡ map phase_code model → IfOk result (λ v. v.items ≡ model) }
+    ensures count { IfOk result (λ v. length v.items ≡ length bytes.now) }
+{
+    let found = ones(alloc, bytes)?;
+    Ok(found)
+}
+
+/// Which of these bytes are 1.
+fn ones(alloc: Global, bytes: &[u8]) -> Result<Vec<bool>, AllocError>
+    ensures values { IfOk result (λ v. v.items ≡ map (λ b. b == 1) bytes.now) }
+    ensures count { IfOk result (λ v. length v.items ≡ length bytes.now) }
+{
+    let mut found = Vec::new(alloc);
+    for byte in bytes {
+        found.push(*byte == 1)?;
+    }
+    Ok(found)
+}
+
+/// The goal of 8 bytes at the front, and what stands behind it.
+fn take_goal(bytes: &[u8]) -> Result<(Option<Answer>, &[u8]), AllocError>
+    ensures { (goal : ℕ) (more : List ℕ) → goal < 2 ^ 64 → bytes.now ≡ spelled w64 goal ++ more
+        → IfOk result (λ x. (x.0 ≡ verdict_of (Refuted goal)) × (x.1.now ≡ more)) }
+{
+    let Some((number, rest)) = take_number(bytes) else {
+        return Err(AllocError);
+    };
+    match ClauseId::of(number) {
+        None => Err(AllocError),
+        Some(goal) => Ok((Some(Answer::Refuted { goal }), rest)),
+    }
+}

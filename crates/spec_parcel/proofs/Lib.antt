@@ -1,0 +1,4 @@
+pub mod SizedLemmas
+pub mod ListedLemmas
+pub mod SectionLemmas
+pub mod ExampleLemmas
