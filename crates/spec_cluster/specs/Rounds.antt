@@ -1,0 +1,90 @@
+-- Rounds of a cluster: each hall works for some slices, and then the first live job of each goes on to the next hall.
+use Rattle.std.specs.Prelude.{◌≡◌, ◌⊎◌, ℕ, zero, suc, ◌+◌, ◌%◌, Bool, true, false, ◌&&◌, ◌||◌, ◌==◌, not, nat_lt, List, [], ◌∷◌, ◌++◌, length, map, slice_get, sum_by, Option, Some, None, Ok, if◌then◌else◌}
+use Rattle.std.specs.List.{list_any}
+use Rattle.std.specs.Option.{option_map}
+use Rattle.mal_base.specs.declared.verdict.Outcome.{Outcome}
+use Rattle.spec_job.specs.KeyedJob.{Key}
+use Rattle.spec_hall.specs.Calls.{HasCalled, Handed, Picks, Leased, Idle, AllDone}
+use Rattle.spec_hall.specs.Driven.{was_lost}
+use Rattle.spec_hall.specs.Events.{Event, Finish}
+use Rattle.spec_hall.specs.Legal.{jobs_of, tenant_count}
+use Rattle.spec_hall.specs.Measure.{left_among}
+use Rattle.spec_hall.specs.States.{LeaseOut, lease_of, leases, lives, names_of, states}
+use Rattle.spec_cluster.specs.Calls.{went}
+use Rattle.spec_cluster.specs.Clusters.{Cluster, is_named}
+use Rattle.spec_cluster.specs.Visits.{Move, hall_at}
+
+-- the first worker of a hall picks, works its lease off and gives it back
+pub record IsSlice (workers : ℕ) (past now : List Event) : Type 0 where
+  pub lease : Handed
+  pub mid : List Event
+  pub picked : HasCalled workers past (Picks 1) (Ok (Leased lease)) mid
+  pub out : LeaseOut
+  pub is_out : lease_of 1 (leases mid) ≡ Some out
+  pub outcome : Outcome
+  pub came : was_lost outcome ≡ false
+  pub grown : now ≡ mid ++ Finish out.key out.index 1 outcome ∷ []
+
+-- it picks and gets no lease
+abbrev pub HasWaited : ℕ → List Event → List Event → Type 0
+HasWaited workers past now = HasCalled workers past (Picks 1) (Ok Idle) now ⊎ HasCalled workers past (Picks 1) (Ok AllDone) now
+
+-- a hall's turn of so many slices, which ends before where the worker gets no lease
+abbrev pub TakesTurn : ℕ → ℕ → List Event → List Event → Type 0
+TakesTurn workers zero past now = now ≡ past
+TakesTurn workers (suc n) past now = HasWaited workers past now ⊎ ((mid : List Event) × IsSlice workers past mid × TakesTurn workers n mid now)
+
+-- each hall takes its turn
+abbrev pub AllTurn : ℕ → ℕ → List (List Event) → List (List Event) → Type 0
+AllTurn workers n [] [] = Unit {0}
+AllTurn workers n [] (now ∷ nows) = ⊥
+AllTurn workers n (past ∷ pasts) [] = ⊥
+AllTurn workers n (past ∷ pasts) (now ∷ nows) = TakesTurn workers n past now × AllTurn workers n pasts nows
+
+-- the first live job of a hall
+abbrev pub first_live : List Event → Option Key
+first_live h = option_map (λ l. l.key) (slice_get (lives (states h)) 0)
+
+-- whether a job may come to a hall: its name was there, or there is room for one more
+abbrev pub may_come : Key → List Event → Bool
+may_come k h = is_named k h || (nat_lt (jobs_of k.tenant (names_of h)) 64 && (not (jobs_of k.tenant (names_of h) == 0) || nat_lt (tenant_count (names_of h)) 64))
+
+-- the place of the next hall, the first behind the last
+abbrev pub next_hall : ℕ → Cluster → ℕ
+next_hall from c = (from + 1) % length c.halls
+
+-- the job that was chosen in a hall goes on to the next where it may come there, and stays else
+abbrev pub goes : Option Key → ℕ → Cluster → Cluster
+goes None from c = c
+goes (Some k) from c = if may_come k (hall_at c.halls (next_hall from c)) then went k from (next_hall from c) c else c
+
+-- the jobs that were chosen go on one after the other, by their halls, of which the first has this place
+abbrev pub carried : List (Option Key) → ℕ → Cluster → Cluster
+carried [] from c = c
+carried (chosen ∷ rest) from c = carried rest (from + 1) (goes chosen from c)
+
+-- a round: all halls take their turns, and then the first live job of each goes on; all are chosen before the first goes
+pub record IsRound (every : ℕ) (before after : Cluster) : Type 0 where
+  pub mids : List (List Event)
+  pub turned : AllTurn before.workers every before.halls mids
+  pub moved : after ≡ carried (map first_live mids) 0 (record before { halls = mids })
+
+-- whether a job is live in some hall
+abbrev pub is_live : Cluster → Bool
+is_live c = list_any (λ h. not (length (lives (states h)) == 0)) c.halls
+
+-- rounds, one behind the other, while a job is live: these are the clusters after each
+abbrev pub AreRounds : ℕ → Cluster → List Cluster → Cluster → Type 0
+AreRounds every now [] end = (end ≡ now) × (is_live now ≡ false)
+AreRounds every now (next ∷ rest) end = (is_live now ≡ true) × IsRound every now next × AreRounds every next rest end
+
+-- memory was wanting while a cluster went rounds: all events and moves that were made stay
+pub record HasBegun (before after : Cluster) : Type 0 where
+  pub workers : after.workers ≡ before.workers
+  pub histories : (n : ℕ) → (later : List Event) × (hall_at after.halls n ≡ hall_at before.halls n ++ later)
+  pub more : List Move
+  pub moves : after.moves ≡ before.moves ++ more
+
+-- how many slices the jobs of all halls may still run
+abbrev pub left_over : Cluster → ℕ
+left_over c = sum_by (λ h. left_among (states h)) c.halls
