@@ -1,4 +1,4 @@
--- The first lines of a text, and the text behind them.
+-- The first lines of a text, and the text after them.
 use Rattle.std.proofs.Common.{◌≡◌, ℕ, ◌+◌, ◌≤◌, Bool, true, false, cond, ◌==◌, List, [], ◌∷◌, ◌++◌, flat_map, length, take, refl, sym, subst, ap, ap₂, ◌∙◌, eqb-true, append_assoc, append-nil, length-append, take_all, arith}
 use Rattle.std.specs.List.{AllByRecursion, onto_first}
 use Rattle.std.proofs.lemmas.List.{take-append-le}
@@ -47,22 +47,22 @@ first-cut (b ∷ bs) line next lines e = by_byte (b == 10) refl (lines_of bs) re
         record { rest = c.rest; whole = ap (λ (xs : List ℕ). b ∷ xs) c.whole ∙ ap (λ (xs : List ℕ). xs ++ 10 ∷ c.rest) first; others = c.others ∙ more }
 
 -- lines that others follow
-pub record Front (text : List ℕ) (front behind : List (List ℕ)) : Type 0 where
+pub record Prefix (text : List ℕ) (before after : List (List ℕ)) : Type 0 where
   pub rest : List ℕ
-  pub whole : text ≡ unlines front ++ rest
-  pub others : lines_of rest ≡ behind
+  pub whole : text ≡ unlines before ++ rest
+  pub others : lines_of rest ≡ after
 
-pub front-of : (text : List ℕ) (front : List (List ℕ)) (line : List ℕ) (lines : List (List ℕ)) → lines_of text ≡ front ++ line ∷ lines → Front text front (line ∷ lines)
-front-of text [] line lines e = record { rest = text; whole = refl; others = e }
-front-of text (l ∷ []) line lines e =
+pub prefix-of : (text : List ℕ) (before : List (List ℕ)) (line : List ℕ) (lines : List (List ℕ)) → lines_of text ≡ before ++ line ∷ lines → Prefix text before (line ∷ lines)
+prefix-of text [] line lines e = record { rest = text; whole = refl; others = e }
+prefix-of text (l ∷ []) line lines e =
     let c : Cut text l (line ∷ lines) = first-cut text l line lines e in
     record { rest = c.rest; whole = c.whole ∙ sym (ap (λ (xs : List ℕ). xs ++ c.rest) (append-nil (l ++ 10 ∷ [])) ∙ append_assoc l (10 ∷ []) c.rest); others = c.others }
-front-of text (l ∷ m ∷ front) line lines e =
-    let c : Cut text l (m ∷ (front ++ line ∷ lines)) = first-cut text l m (front ++ line ∷ lines) e in
-    let f : Front c.rest (m ∷ front) (line ∷ lines) = front-of c.rest (m ∷ front) line lines c.others in
+prefix-of text (l ∷ m ∷ before) line lines e =
+    let c : Cut text l (m ∷ (before ++ line ∷ lines)) = first-cut text l m (before ++ line ∷ lines) e in
+    let f : Prefix c.rest (m ∷ before) (line ∷ lines) = prefix-of c.rest (m ∷ before) line lines c.others in
     record {
       rest = f.rest;
-      whole = c.whole ∙ ap (λ (xs : List ℕ). l ++ 10 ∷ xs) f.whole ∙ sym (append_assoc (l ++ 10 ∷ []) (unlines (m ∷ front)) f.rest ∙ append_assoc l (10 ∷ []) (unlines (m ∷ front) ++ f.rest));
+      whole = c.whole ∙ ap (λ (xs : List ℕ). l ++ 10 ∷ xs) f.whole ∙ sym (append_assoc (l ++ 10 ∷ []) (unlines (m ∷ before)) f.rest ∙ append_assoc l (10 ∷ []) (unlines (m ∷ before) ++ f.rest));
       others = f.others;
     }
 
@@ -72,36 +72,36 @@ lines-again [] h = refl
 lines-again (line ∷ lines) h =
     ap lines_of (append_assoc line (10 ∷ []) (unlines lines)) ∙ lines_of_at line (unlines lines) h.0 ∙ ap (λ (ls : List (List ℕ)). line ∷ ls) (lines-again lines h.1)
 
-fronts-are : (front lines : List (List ℕ)) → AllByRecursion IsLine (front ++ lines) → AllByRecursion IsLine front
-fronts-are [] lines h = tt
-fronts-are (line ∷ front) lines h = (h.0, fronts-are front lines h.1)
+before-are : (before lines : List (List ℕ)) → AllByRecursion IsLine (before ++ lines) → AllByRecursion IsLine before
+before-are [] lines h = tt
+before-are (line ∷ before) lines h = (h.0, before-are before lines h.1)
 
-pub front-lines : (text : List ℕ) (front lines : List (List ℕ)) → lines_of text ≡ front ++ lines → lines_of (unlines front) ≡ front
-front-lines text front lines e = lines-again front (fronts-are front lines (subst (AllByRecursion IsLine) e (lines-are text)))
+pub prefix-lines : (text : List ℕ) (before lines : List (List ℕ)) → lines_of text ≡ before ++ lines → lines_of (unlines before) ≡ before
+prefix-lines text before lines e = lines-again before (before-are before lines (subst (AllByRecursion IsLine) e (lines-are text)))
 
 -- the first bytes of a text are those of its first lines
-pub front-taken : (text : List ℕ) (front : List (List ℕ)) (line : List ℕ) (lines : List (List ℕ)) → lines_of text ≡ front ++ line ∷ lines → take (length (unlines front)) text ≡ unlines front
-front-taken text front line lines e =
-    let f : Front text front (line ∷ lines) = front-of text front line lines e in
-    ap (take (length (unlines front))) f.whole ∙ take-append-le (length (unlines front)) (unlines front) f.rest (omega arith) ∙ take_all (length (unlines front)) (unlines front) (omega arith)
+pub prefix-taken : (text : List ℕ) (before : List (List ℕ)) (line : List ℕ) (lines : List (List ℕ)) → lines_of text ≡ before ++ line ∷ lines → take (length (unlines before)) text ≡ unlines before
+prefix-taken text before line lines e =
+    let f : Prefix text before (line ∷ lines) = prefix-of text before line lines e in
+    ap (take (length (unlines before))) f.whole ∙ take-append-le (length (unlines before)) (unlines before) f.rest (omega arith) ∙ take_all (length (unlines before)) (unlines before) (omega arith)
 
-pub front-more : (front : List (List ℕ)) (line : List ℕ) → length (unlines (front ++ line ∷ [])) ≡ length (unlines front) + (length line + 1)
-front-more front line =
-    ap length (flat_map-append (λ l. l ++ 10 ∷ []) front (line ∷ []) ∙ ap (λ (xs : List ℕ). unlines front ++ xs) (append-nil (line ++ 10 ∷ [])))
-    ∙ length-append (unlines front) (line ++ 10 ∷ [])
-    ∙ ap (λ (n : ℕ). length (unlines front) + n) (length-append line (10 ∷ []))
+pub prefix-more : (before : List (List ℕ)) (line : List ℕ) → length (unlines (before ++ line ∷ [])) ≡ length (unlines before) + (length line + 1)
+prefix-more before line =
+    ap length (flat_map-append (λ l. l ++ 10 ∷ []) before (line ∷ []) ∙ ap (λ (xs : List ℕ). unlines before ++ xs) (append-nil (line ++ 10 ∷ [])))
+    ∙ length-append (unlines before) (line ++ 10 ∷ [])
+    ∙ ap (λ (n : ℕ). length (unlines before) + n) (length-append line (10 ∷ []))
 
--- the lines behind a line are those of a text
-pub record Behind (lines : List (List ℕ)) : Type 0 where
+-- the lines after a line are those of a text
+pub record After (lines : List (List ℕ)) : Type 0 where
   pub rest : List ℕ
   pub lines_are : lines_of rest ≡ lines
 
-last-line : (text line : List ℕ) (lines : List (List ℕ)) → lines_of text ≡ line ∷ lines → Behind lines
+last-line : (text line : List ℕ) (lines : List (List ℕ)) → lines_of text ≡ line ∷ lines → After lines
 last-line text line [] e = record { rest = []; lines_are = refl }
 last-line text line (next ∷ lines) e = let c : Cut text line (next ∷ lines) = first-cut text line next lines e in record { rest = c.rest; lines_are = c.others }
 
-pub behind-of : (text : List ℕ) (front : List (List ℕ)) (line : List ℕ) (lines : List (List ℕ)) → lines_of text ≡ front ++ line ∷ lines → Behind lines
-behind-of text front line lines e = let f : Front text front (line ∷ lines) = front-of text front line lines e in last-line f.rest line lines f.others
+pub after-of : (text : List ℕ) (before : List (List ℕ)) (line : List ℕ) (lines : List (List ℕ)) → lines_of text ≡ before ++ line ∷ lines → After lines
+after-of text before line lines e = let f : Prefix text before (line ∷ lines) = prefix-of text before line lines e in last-line f.rest line lines f.others
 
 -- a line is no longer than what is left of the text
 line-length : (text line : List ℕ) (lines : List (List ℕ)) → lines_of text ≡ line ∷ lines → length line ≤ length text
@@ -113,8 +113,8 @@ line-length (b ∷ bs) line lines e = by_byte (b == 10) (lines_of bs) (λ l ls r
     by_byte false [] ih r k = let one : b ∷ [] ≡ line = cc in omega (arith, ap length one)
     by_byte false (l ∷ ls) ih r k = let first : b ∷ l ≡ line = cc in omega (arith, ap length first, ih l ls r)
 
-pub front-line : (text : List ℕ) (front : List (List ℕ)) (line : List ℕ) (lines : List (List ℕ)) → lines_of text ≡ front ++ line ∷ lines → length (unlines front) + length line ≤ length text
-front-line text front line lines e =
-    let f : Front text front (line ∷ lines) = front-of text front line lines e in
-    let n : length text ≡ length (unlines front) + length f.rest = ap length f.whole ∙ length-append (unlines front) f.rest in
+pub prefix-line : (text : List ℕ) (before : List (List ℕ)) (line : List ℕ) (lines : List (List ℕ)) → lines_of text ≡ before ++ line ∷ lines → length (unlines before) + length line ≤ length text
+prefix-line text before line lines e =
+    let f : Prefix text before (line ∷ lines) = prefix-of text before line lines e in
+    let n : length text ≡ length (unlines before) + length f.rest = ap length f.whole ∙ length-append (unlines before) f.rest in
     omega (arith, n, line-length f.rest line lines f.others)

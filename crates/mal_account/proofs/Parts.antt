@@ -26,8 +26,8 @@ use Rattle.mal_account.specs.Accounts as account
 use Rattle.mal_account.specs.Accounts.{is_history_line, script_rows, history_rows, read_lines, read_text}
 use Rattle.mal_account.specs.Accounts.Fault.{NoHistory}
 use Rattle.mal_account.specs.Grammar.{Spells}
-use Rattle.mal_account.proofs.LineLemmas.{unlines, front-lines, front-taken, front-line, front-more}
-use Rattle.mal_account.proofs.RowLemmas.{some-line, script-front, history-behind, rows-whole}
+use Rattle.mal_account.proofs.LineLemmas.{unlines, prefix-lines, prefix-taken, prefix-line, prefix-more}
+use Rattle.mal_account.proofs.RowLemmas.{some-line, script-before, history-after, rows-whole}
 use Rattle.mal_account.proofs.ReadLemmas.{spelled-is-read}
 use Rattle.mal_account.proofs.AgainLemmas.{written-is-read}
 use Rattle.mal_account.specs.declared.account.Account.{Account}
@@ -49,44 +49,44 @@ pub ruleset fault_lemmas = (script_fails, history_fails)
 
 -- lines that were passed, none of which is the line `history`, stand before the rest
 pub record Passed (text rest : List ℕ) (start : ℕ) : Type 0 where
-  pub front : List (List ℕ)
-  pub whole : lines_of text ≡ front ++ lines_of rest
-  pub start_is : start ≡ length (unlines front)
-  pub none : list_any is_history_line (map words_of front) ≡ false
+  pub before : List (List ℕ)
+  pub whole : lines_of text ≡ before ++ lines_of rest
+  pub start_is : start ≡ length (unlines before)
+  pub none : list_any is_history_line (map words_of before) ≡ false
 
 pub passed-none : (text : List ℕ) → Passed text text 0
-passed-none text = record { front = []; whole = refl; start_is = refl; none = refl }
+passed-none text = record { before = []; whole = refl; start_is = refl; none = refl }
 
-pub passed-more : (text rest behind row : List ℕ) (start next : ℕ) → Passed text rest start → lines_of rest ≡ row ∷ lines_of behind → is_history_line (words_of row) ≡ false → next ≡ start + (length row + 1) → Passed text behind next
-passed-more text rest behind row start next p e other n = record {
-  front = p.front ++ row ∷ [];
-  whole = p.whole ∙ ap (λ (ls : List (List ℕ)). p.front ++ ls) e ∙ sym (append_assoc p.front (row ∷ []) (lines_of behind));
-  start_is = n ∙ ap (λ (m : ℕ). m + (length row + 1)) p.start_is ∙ sym (front-more p.front row);
-  none = ap (list_any is_history_line) (map-append words_of p.front (row ∷ [])) ∙ list_any-append is_history_line (map words_of p.front) (words_of row ∷ []) ∙ or_from (list_any is_history_line (map words_of p.front)) (is_history_line (words_of row) || false) p.none (ap (λ (b : Bool). b || false) other);
+pub passed-more : (text rest after row : List ℕ) (start next : ℕ) → Passed text rest start → lines_of rest ≡ row ∷ lines_of after → is_history_line (words_of row) ≡ false → next ≡ start + (length row + 1) → Passed text after next
+passed-more text rest after row start next p e other n = record {
+  before = p.before ++ row ∷ [];
+  whole = p.whole ∙ ap (λ (ls : List (List ℕ)). p.before ++ ls) e ∙ sym (append_assoc p.before (row ∷ []) (lines_of after));
+  start_is = n ∙ ap (λ (m : ℕ). m + (length row + 1)) p.start_is ∙ sym (prefix-more p.before row);
+  none = ap (list_any is_history_line) (map-append words_of p.before (row ∷ [])) ∙ list_any-append is_history_line (map words_of p.before) (words_of row ∷ []) ∙ or_from (list_any is_history_line (map words_of p.before)) (is_history_line (words_of row) || false) p.none (ap (λ (b : Bool). b || false) other);
 }
 
 -- the bytes of the next line are some of the text
-pub passed-line : (text rest behind row : List ℕ) (start : ℕ) → Passed text rest start → lines_of rest ≡ row ∷ lines_of behind → start + length row ≤ length text
-passed-line text rest behind row start p e =
-    let whole : lines_of text ≡ p.front ++ row ∷ lines_of behind = p.whole ∙ ap (λ (ls : List (List ℕ)). p.front ++ ls) e in
-    omega (arith, front-line text p.front row (lines_of behind) whole, p.start_is)
+pub passed-line : (text rest after row : List ℕ) (start : ℕ) → Passed text rest start → lines_of rest ≡ row ∷ lines_of after → start + length row ≤ length text
+passed-line text rest after row start p e =
+    let whole : lines_of text ≡ p.before ++ row ∷ lines_of after = p.whole ∙ ap (λ (ls : List (List ℕ)). p.before ++ ls) e in
+    omega (arith, prefix-line text p.before row (lines_of after) whole, p.start_is)
 
 -- where the line `history` follows
-pub passed-cut : (text rest behind row front : List ℕ) (start : ℕ) → Passed text rest start → lines_of rest ≡ row ∷ lines_of behind → is_history_line (words_of row) ≡ true → front ≡ take start text
-    → (list_any is_history_line (rows_of text) ≡ true) × (rows_of front ≡ script_rows (rows_of text)) × (rows_of behind ≡ history_rows (rows_of text))
-passed-cut text rest behind row front start p e is f =
-    let whole : lines_of text ≡ p.front ++ row ∷ lines_of behind = p.whole ∙ ap (λ (ls : List (List ℕ)). p.front ++ ls) e in
-    let rows = rows-whole text row p.front (lines_of behind) whole in
-    let first : front ≡ unlines p.front = f ∙ ap (λ (n : ℕ). take n text) p.start_is ∙ front-taken text p.front row (lines_of behind) whole in (
-      ap (list_any is_history_line) rows ∙ some-line (map words_of p.front) (rows_of behind) (words_of row) is,
-      ap rows_of first ∙ ap (map words_of) (front-lines text p.front (row ∷ lines_of behind) whole) ∙ sym (ap script_rows rows ∙ script-front (map words_of p.front) (rows_of behind) (words_of row) p.none is),
-      sym (ap history_rows rows ∙ history-behind (map words_of p.front) (rows_of behind) (words_of row) p.none is),
+pub passed-cut : (text rest after row before : List ℕ) (start : ℕ) → Passed text rest start → lines_of rest ≡ row ∷ lines_of after → is_history_line (words_of row) ≡ true → before ≡ take start text
+    → (list_any is_history_line (rows_of text) ≡ true) × (rows_of before ≡ script_rows (rows_of text)) × (rows_of after ≡ history_rows (rows_of text))
+passed-cut text rest after row before start p e is f =
+    let whole : lines_of text ≡ p.before ++ row ∷ lines_of after = p.whole ∙ ap (λ (ls : List (List ℕ)). p.before ++ ls) e in
+    let rows = rows-whole text row p.before (lines_of after) whole in
+    let first : before ≡ unlines p.before = f ∙ ap (λ (n : ℕ). take n text) p.start_is ∙ prefix-taken text p.before row (lines_of after) whole in (
+      ap (list_any is_history_line) rows ∙ some-line (map words_of p.before) (rows_of after) (words_of row) is,
+      ap rows_of first ∙ ap (map words_of) (prefix-lines text p.before (row ∷ lines_of after) whole) ∙ sym (ap script_rows rows ∙ script-before (map words_of p.before) (rows_of after) (words_of row) p.none is),
+      sym (ap history_rows rows ∙ history-after (map words_of p.before) (rows_of after) (words_of row) p.none is),
     )
 
 -- where no line follows
 pub passed-all : (text rest : List ℕ) (start : ℕ) → Passed text rest start → lines_of rest ≡ [] → list_any is_history_line (rows_of text) ≡ false
 passed-all text rest start p e =
-    ap (list_any is_history_line) (ap (map words_of) (p.whole ∙ ap (λ (ls : List (List ℕ)). p.front ++ ls) e ∙ append-nil p.front)) ∙ p.none
+    ap (list_any is_history_line) (ap (map words_of) (p.whole ∙ ap (λ (ls : List (List ℕ)). p.before ++ ls) e ∙ append-nil p.before)) ∙ p.none
 
 -- what is read is spelled, and what is spelled is read
 pub found-spelled : (text : List ℕ) (r : Result Account AccountFault) → Gives seen r (read_text text) → IfOk r (λ a. Spells text (seen a))

@@ -16,27 +16,27 @@ use Rattle.mal_account.specs.Accounts.{Account, is_history_line, script_rows, hi
 use Rattle.mal_account.specs.Accounts.Fault.{NoHistory}
 use Rattle.mal_account.specs.Grammar.{Spells}
 use Rattle.mal_account.specs.Laws.{SpelledIsRead}
-use Rattle.mal_account.proofs.LineLemmas.{unlines, front-lines, Behind, behind-of}
-use Rattle.mal_account.proofs.RowLemmas.{history-line, some-line, script-front, history-behind, First, first-line, rows-whole}
+use Rattle.mal_account.proofs.LineLemmas.{unlines, prefix-lines, After, after-of}
+use Rattle.mal_account.proofs.RowLemmas.{history-line, some-line, script-before, history-after, First, first-line, rows-whole}
 
 -- the account of these lines
-lines-read : (front behind : List (List (List ℕ))) (row : List (List ℕ)) (a : Account) → list_any is_history_line front ≡ false → is_history_line row ≡ true → script.read_rows served front 0 script.unread ≡ Ok a.script → history.read_rows behind ≡ Ok a.history
-    → read_lines (front ++ row ∷ behind) ≡ Ok a
-lines-read front behind row a none is s h =
-    ap₂ (λ (f b : List (List (List ℕ))). in_script (script.read_rows served f 0 script.unread) >>= λ x. in_history (history.read_rows b) >>= λ y. Ok (record { script = x; history = y })) (script-front front behind row none is) (history-behind front behind row none is)
-    ∙ ap (λ (r : Result Scripted (ℕ × LineFault)). in_script r >>= λ x. in_history (history.read_rows behind) >>= λ y. Ok (record { script = x; history = y })) s
+lines-read : (before after : List (List (List ℕ))) (row : List (List ℕ)) (a : Account) → list_any is_history_line before ≡ false → is_history_line row ≡ true → script.read_rows served before 0 script.unread ≡ Ok a.script → history.read_rows after ≡ Ok a.history
+    → read_lines (before ++ row ∷ after) ≡ Ok a
+lines-read before after row a none is s h =
+    ap₂ (λ (f b : List (List (List ℕ))). in_script (script.read_rows served f 0 script.unread) >>= λ x. in_history (history.read_rows b) >>= λ y. Ok (record { script = x; history = y })) (script-before before after row none is) (history-after before after row none is)
+    ∙ ap (λ (r : Result Scripted (ℕ × LineFault)). in_script r >>= λ x. in_history (history.read_rows after) >>= λ y. Ok (record { script = x; history = y })) s
     ∙ ap (λ (r : Result history.Read (ℕ × history.Fault)). in_history r >>= λ y. Ok (record { script = a.script; history = y })) h
 
-pub rows-read : (text : List ℕ) (front behind : List (List (List ℕ))) (row : List (List ℕ)) (a : Account) → rows_of text ≡ front ++ row ∷ behind → list_any is_history_line front ≡ false → is_history_line row ≡ true → script.read_rows served front 0 script.unread ≡ Ok a.script → history.read_rows behind ≡ Ok a.history
+pub rows-read : (text : List ℕ) (before after : List (List (List ℕ))) (row : List (List ℕ)) (a : Account) → rows_of text ≡ before ++ row ∷ after → list_any is_history_line before ≡ false → is_history_line row ≡ true → script.read_rows served before 0 script.unread ≡ Ok a.script → history.read_rows after ≡ Ok a.history
     → read_text text ≡ Ok a
-rows-read text front behind row a rows none is s h =
+rows-read text before after row a rows none is s h =
     ap (λ (rs : List (List (List ℕ))). cond (list_any is_history_line rs) (read_lines rs) (Err NoHistory)) rows
-    ∙ ap (λ (b : Bool). cond b (read_lines (front ++ row ∷ behind)) (Err NoHistory)) (some-line front behind row is)
-    ∙ lines-read front behind row a none is s h
+    ∙ ap (λ (b : Bool). cond b (read_lines (before ++ row ∷ after)) (Err NoHistory)) (some-line before after row is)
+    ∙ lines-read before after row a none is s h
 
 spelled-read : (text : List ℕ) (a : Account) → Spells text a → read_text text ≡ Ok a
 spelled-read text a s =
-    rows-read text (rows_of s.front) (rows_of s.behind) (codes "history" ∷ []) a s.rows s.inside refl (scripts.spelled-read served s.front a.script s.script) ((spelled-rows (rows_of s.behind) a.history).0 s.history)
+    rows-read text (rows_of s.first) (rows_of s.last) (codes "history" ∷ []) a s.rows s.inside refl (scripts.spelled-read served s.first a.script s.script) ((spelled-rows (rows_of s.last) a.history).0 s.history)
 
 in_script_ok : {A : Type 0} (r : Result A (ℕ × LineFault)) (x : A) → in_script r ≡ Ok x → r ≡ Ok x
 in_script_ok (Ok y) x e = let h : y ≡ x = cc in rw h refl
@@ -56,18 +56,18 @@ read-spelled text a e =
   where
     spells : First (lines_of text) → (x : Scripted) (y : history.Read) → script.read_rows served (script_rows (rows_of text)) 0 script.unread ≡ Ok x → history.read_rows (history_rows (rows_of text)) ≡ Ok y → ◌≡◌ {A = Account} (record { script = x; history = y }) a → Spells text a
     spells f x y s h is =
-        let rows = rows-whole text f.line f.front f.behind f.whole in
-        let back : Behind f.behind = behind-of text f.front f.line f.behind f.whole in
-        let fronts : rows_of (unlines f.front) ≡ map words_of f.front = ap (map words_of) (front-lines text f.front (f.line ∷ f.behind) f.whole) in
-        let behinds : rows_of back.rest ≡ map words_of f.behind = ap (map words_of) back.lines_are in
-        let scripted : script_rows (rows_of text) ≡ rows_of (unlines f.front) = ap script_rows rows ∙ script-front (map words_of f.front) (map words_of f.behind) (words_of f.line) f.none f.is ∙ sym fronts in
-        let told : history_rows (rows_of text) ≡ rows_of back.rest = ap history_rows rows ∙ history-behind (map words_of f.front) (map words_of f.behind) (words_of f.line) f.none f.is ∙ sym behinds in
+        let rows = rows-whole text f.line f.before f.after f.whole in
+        let back : After f.after = after-of text f.before f.line f.after f.whole in
+        let rows_before : rows_of (unlines f.before) ≡ map words_of f.before = ap (map words_of) (prefix-lines text f.before (f.line ∷ f.after) f.whole) in
+        let rows_after : rows_of back.rest ≡ map words_of f.after = ap (map words_of) back.lines_are in
+        let scripted : script_rows (rows_of text) ≡ rows_of (unlines f.before) = ap script_rows rows ∙ script-before (map words_of f.before) (map words_of f.after) (words_of f.line) f.none f.is ∙ sym rows_before in
+        let told : history_rows (rows_of text) ≡ rows_of back.rest = ap history_rows rows ∙ history-after (map words_of f.before) (map words_of f.after) (words_of f.line) f.none f.is ∙ sym rows_after in
         subst (λ (z : Account). Spells text z) is (record {
-          front = unlines f.front;
-          behind = back.rest;
-          rows = rows ∙ ap₂ (λ (fs bs : List (List (List ℕ))). fs ++ words_of f.line ∷ bs) (sym fronts) (sym behinds) ∙ ap (λ (r : List (List ℕ)). rows_of (unlines f.front) ++ r ∷ rows_of back.rest) (history-line (words_of f.line) f.is);
-          inside = ap (list_any is_history_line) fronts ∙ f.none;
-          script = scripts.read-spelled served (unlines f.front) x (ap (λ (rs : List (List (List ℕ))). script.read_rows served rs 0 script.unread) (sym scripted) ∙ s);
+          first = unlines f.before;
+          last = back.rest;
+          rows = rows ∙ ap₂ (λ (fs bs : List (List (List ℕ))). fs ++ words_of f.line ∷ bs) (sym rows_before) (sym rows_after) ∙ ap (λ (r : List (List ℕ)). rows_of (unlines f.before) ++ r ∷ rows_of back.rest) (history-line (words_of f.line) f.is);
+          inside = ap (list_any is_history_line) rows_before ∙ f.none;
+          script = scripts.read-spelled served (unlines f.before) x (ap (λ (rs : List (List (List ℕ))). script.read_rows served rs 0 script.unread) (sym scripted) ∙ s);
           history = (spelled-rows (rows_of back.rest) y).1 (ap history.read_rows (sym told) ∙ h);
         })
 

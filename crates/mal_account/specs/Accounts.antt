@@ -16,7 +16,7 @@ pub record Account : Type 0 where
   pub history : history.Read
 
 -- the first fault of a text: no line says `history`, a line of the script is wrong, or a line of the history, which are
--- numbered from 1 on behind the line `history`
+-- numbered from 1 on after the line `history`
 pub data Fault : Type 0 where
   NoHistory : Fault
   InScript : (line : ℕ) → (fault : LineFault) → Fault
@@ -31,7 +31,7 @@ abbrev pub script_rows : List (List (List ℕ)) → List (List (List ℕ))
 script_rows [] = []
 script_rows (row ∷ rows) = if is_history_line row then [] else row ∷ script_rows rows
 
--- the lines of the history: those behind it
+-- the lines of the history: those after it
 abbrev pub history_rows : List (List (List ℕ)) → List (List (List ℕ))
 history_rows [] = []
 history_rows (row ∷ rows) = if is_history_line row then rows else history_rows rows

@@ -10,9 +10,9 @@ use Rattle.mal_account.specs.Accounts.{Account, is_history_line}
 -- a text spells an account: its lines are those of a text that spells the script, of which none is the line `history`,
 -- that line, and those of a text that spells the history
 pub record Spells (text : List ℕ) (a : Account) : Type 0 where
-  pub front : List ℕ
-  pub behind : List ℕ
-  pub rows : rows_of text ≡ rows_of front ++ (codes "history" ∷ []) ∷ rows_of behind
-  pub inside : list_any is_history_line (rows_of front) ≡ false
-  pub script : script.Spells served front a.script
-  pub history : history.Spells behind a.history
+  pub first : List ℕ
+  pub last : List ℕ
+  pub rows : rows_of text ≡ rows_of first ++ (codes "history" ∷ []) ∷ rows_of last
+  pub inside : list_any is_history_line (rows_of first) ≡ false
+  pub script : script.Spells served first a.script
+  pub history : history.Spells last a.history

@@ -43,8 +43,8 @@ fault_of answer.OutOfMemory = None
 abbrev pub Gives : {X Y : Type 0} → (X → Y) → Result X AccountFault → Result Y account.Fault → Type 0
 Gives view answer read = GivesBy fault_of view answer read
 
--- two texts are those before and behind the first line `history` among the lines of a text; none where no line is that
+-- two texts are those before and after the first line `history` among the lines of a text; none where no line is that
 -- word
 abbrev pub IsCut : Option (Bor (List ℕ) × Bor (List ℕ)) → List (List (List ℕ)) → Type 0
 IsCut None rows = list_any account.is_history_line rows ≡ false
-IsCut (Some (front, behind)) rows = (list_any account.is_history_line rows ≡ true) × (rows_of front.now ≡ account.script_rows rows) × (rows_of behind.now ≡ account.history_rows rows)
+IsCut (Some (before, after)) rows = (list_any account.is_history_line rows ≡ true) × (rows_of before.now ≡ account.script_rows rows) × (rows_of after.now ≡ account.history_rows rows)

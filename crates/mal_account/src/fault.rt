@@ -10,7 +10,7 @@ pub enum AccountFault {
     NoHistory,
     /// A line before the line `history` is wrong, counted from 1.
     Script { fault: ScriptFault },
-    /// A line behind the line `history` is wrong, counted from 1 behind it.
+    /// A line after the line `history` is wrong, counted from 1 after it.
     History { fault: HistoryFault },
     /// Memory ran out.
     OutOfMemory,

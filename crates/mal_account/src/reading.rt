@@ -18,7 +18,7 @@ use mal_script::{Script, ScriptFault};
 use mal_text::{first_line, is_word_line};
 use std::alloc::Global;
 
-/// The account that a text spells: the lines before the first line of the one word `history` are a script, those behind
+/// The account that a text spells: the lines before the first line of the one word `history` are a script, those after
 /// it a history.
 ///
 /// Errors: `NoHistory` where no line is that word; else the first fault of the script, and then that of the history,
@@ -52,18 +52,18 @@ fn first(alloc: Global, text: &[u8]) -> Result<Account, AccountFault>
     Ok(Account { script, history })
 }
 
-/// The text before the first line of the one word `history`, and the text behind it. None where no line is that word.
+/// The text before the first line of the one word `history`, and the text after it. None where no line is that word.
 fn cut(text: &[u8]) -> Option<(&[u8], &[u8])>
     ensures { IsCut result (rows_of text.now) }
 {
     let mut rest = text;
     let mut start = 0;
-    while let Some((row, behind)) = first_line(rest) {
+    while let Some((row, after)) = first_line(rest) {
         if is_word_line(row, b"history") {
-            return Some((&text[..start], behind));
+            return Some((&text[..start], after));
         }
         start += row.len() + 1;
-        rest = behind;
+        rest = after;
     }
     None
 }
@@ -80,7 +80,7 @@ fn read_script(alloc: Global, text: &[u8]) -> Result<Script, AccountFault>
     }
 }
 
-/// The history of the text behind the line `history`.
+/// The history of the text after the line `history`.
 #[tactic(auto, using(crate::proofs::Parts::fault_lemmas))]
 fn read_history(alloc: Global, text: &[u8]) -> Result<History, AccountFault>
     ensures { Gives (λ h. history_given.seen h) result (in_history (history.read_text text.now)) }
