@@ -96,6 +96,11 @@ pub record IsMove (c : Cluster) (k : Key) (to from : ℕ) (after : Cluster) : Ty
   pub arrives : MayArrive (hall_at c.halls (to - 1)) k (brought_from k (hall_at c.halls from))
   pub went_on : after ≡ went k from (to - 1) c
 
+-- a job may go there, as far as the halls are concerned
+pub record MayMove (c : Cluster) (k : Key) (to from : ℕ) : Type 0 where
+  pub may : MayTry c k to from
+  pub arrives : MayArrive (hall_at c.halls (to - 1)) k (brought_from k (hall_at c.halls from))
+
 -- its name is new there, and its tenant has 64 jobs there
 pub record IsTenantFull (c : Cluster) (k : Key) (to from : ℕ) : Type 0 where
   pub may : MayTry c k to from
@@ -109,7 +114,7 @@ pub record IsHallFull (c : Cluster) (k : Key) (to from : ℕ) : Type 0 where
   pub full : 64 ≤ tenant_count (names_of (hall_at c.halls (to - 1)))
 
 -- a job goes to the hall of a number, or that is refused and nothing changed: no hall has the job, there is no such hall,
--- the job is in it, or its name is new there and has no room
+-- the job is in it, its name is new there and has no room, or memory was wanting for what may be
 abbrev pub IsMoving : Cluster → Key → ℕ → Result (Unit {0}) MoveFault → Cluster → Type 0
 IsMoving c k to (Ok done) after = (from : ℕ) × IsMove c k to from after
 IsMoving c k to (Err moving.NoJob) after = (home k c.halls ≡ None) × (after ≡ c)
@@ -117,4 +122,4 @@ IsMoving c k to (Err moving.NoHall) after = (is_some (home k c.halls) ≡ true) 
 IsMoving c k to (Err moving.Same) after = (from : ℕ) × (home k c.halls ≡ Some from) × (to ≡ from + 1) × (after ≡ c)
 IsMoving c k to (Err moving.TenantFull) after = (from : ℕ) × IsTenantFull c k to from × (after ≡ c)
 IsMoving c k to (Err moving.HallFull) after = (from : ℕ) × IsHallFull c k to from × (after ≡ c)
-IsMoving c k to (Err moving.OutOfMemory) after = (from : ℕ) × MayTry c k to from × (after ≡ c)
+IsMoving c k to (Err moving.OutOfMemory) after = (from : ℕ) × MayMove c k to from × (after ≡ c)
