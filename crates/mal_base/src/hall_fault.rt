@@ -78,3 +78,27 @@ pub enum ApplyFault {
     #[error("out of memory")]
     OutOfMemory,
 }
+
+/// Why a job is not packed.
+#[derive(Clone, Copy, Debug, PartialEq, Eq, Drop, Error)]
+pub enum PackFault {
+    #[error("no such job")]
+    NoJob,
+    #[error("node {index} is out")]
+    Out { index: u32 },
+    #[error("out of memory")]
+    OutOfMemory,
+}
+
+/// Why a job is not admitted.
+#[derive(Clone, Copy, Debug, PartialEq, Eq, Drop, Error)]
+pub enum AdmitFault {
+    #[error("the hall has the job")]
+    Present,
+    #[error("the tenant has 64 jobs")]
+    TenantFull,
+    #[error("the hall has 64 tenants")]
+    HallFull,
+    #[error("out of memory")]
+    OutOfMemory,
+}

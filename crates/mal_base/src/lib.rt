@@ -31,7 +31,8 @@ pub use clause_id::ClauseId;
 pub use clause_list::ClauseList;
 pub use formula::Formula;
 pub use hall_fault::{
-    ApplyFault, CloseFault, OpenFault, PickFault, ReaskFault, ReplyFault, ReviseFault,
+    AdmitFault, ApplyFault, CloseFault, OpenFault, PackFault, PickFault, ReaskFault, ReplyFault,
+    ReviseFault,
 };
 pub use limit_kind::LimitKind;
 pub use line_fault::LineFault;

@@ -20,4 +20,4 @@ pub use laws::{histories_differ, reading_examples, spelled_is_read, written_is_r
 pub use owned::own;
 pub use post::{PostKind, PostLine};
 pub use reading::read;
-pub use writing::{write, write_to};
+pub use writing::{append_event, write, write_to};

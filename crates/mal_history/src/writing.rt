@@ -124,6 +124,13 @@ fn put_events<T: Taker>(out: &mut T, events: &[Event]) -> Result<(), T::Fault>
     Ok(())
 }
 
+/// Puts the line of an event behind the others.
+pub fn append_event(out: &mut Vec<u8>, event: &Event) -> Result<(), AllocError>
+    ensures { OnOk result (out.new.items ≡ out.old.items ++ line_of (event_words event.now)) }
+{
+    put_event(out, event)
+}
+
 /// Puts the line of an event.
 fn put_event<T: Taker>(out: &mut T, event: &Event) -> Result<(), T::Fault>
     ensures { OnOk result (T.took out.old out.new (line_of (event_words event.now))) }

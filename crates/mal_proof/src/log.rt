@@ -151,6 +151,24 @@ impl Log {
         self.number_room = 0;
     }
 
+    /// The number of parts.
+    pub fn part_count(&self) -> usize
+        ensures { result ≡ length self.now.parts }
+    {
+        self.full.len()
+    }
+
+    /// The lines of a part, and its mark, the parts counted from 0.
+    pub fn part(&self, n: usize) -> (&Lines, bool)
+        requires { n < length self.now.parts }
+        ensures { slice_get self.now.parts n ≡ Some (record { lines = result.0.now.lines; ends = result.1 }) }
+    {
+        match self.full.get(n + 1) {
+            Some(chunk) => (&chunk.lines, chunk.ends),
+            None => (&self.last, self.ends),
+        }
+    }
+
     /// The number of lines.
     pub fn count(&self) -> usize
         ensures value { result ≡ length self.now.lines }

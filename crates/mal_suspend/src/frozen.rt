@@ -1,7 +1,6 @@
 //! A node as bytes, with its journal.
 
 ghost use Rattle.std.specs.Prelude.{◌≡◌, IfOk, IfErr};
-ghost use Rattle.mal_freeze.specs.Spelling.{image_bytes};
 ghost use Rattle.spec_job.specs.Journaled.{node_of, started};
 ghost use Rattle.mal_suspend.specs.Freezing.{IsFrozen};
 
@@ -42,7 +41,7 @@ impl Frozen {
 
     /// The bytes: the image of the node.
     pub fn bytes(&self) -> &[u8]
-        ensures { result.now ≡ image_bytes (node_of self.now) }
+        ensures { IsFrozen result.now self.now }
     {
         self.bytes.as_slice()
     }

@@ -135,7 +135,7 @@ impl Suspended {
     }
 
     /// The bytes of the image of the node.
-    fn bytes(&self) -> Result<Vec<u8>, AllocError>
+    pub fn bytes(&self) -> Result<Vec<u8>, AllocError>
         ensures { IfOk result (λ v. IsFrozen v.items self.now) }
     {
         let alloc = self.journal.allocator();
