@@ -7,6 +7,7 @@ use Rattle.mal_revision.specs.Posted.{Posted}
 use Rattle.spec_node.specs.Load.{counted}
 use Rattle.spec_job.specs.Leased.{Finished}
 use Rattle.spec_job.specs.KeyedJob.{Key}
+use Rattle.spec_job.specs.SoloMachine.{Own}
 use Rattle.mal_base.specs.declared.hall_fault.OpenFault.{OpenFault}
 use Rattle.mal_base.specs.declared.hall_fault.OpenFault.TheVariants as opening
 use Rattle.mal_base.specs.declared.hall_fault.ReviseFault.{ReviseFault}
@@ -19,8 +20,12 @@ use Rattle.mal_base.specs.declared.hall_fault.PickFault.{PickFault}
 use Rattle.mal_base.specs.declared.hall_fault.PickFault.TheVariants as picking
 use Rattle.mal_base.specs.declared.hall_fault.ReplyFault.{ReplyFault}
 use Rattle.mal_base.specs.declared.hall_fault.ReplyFault.TheVariants as asking
-use Rattle.spec_hall.specs.Calls.{Back, CallIsLegal, Closes, Finishes, Idle, AllDone, Leased, Opens, Asks, Picks, Recalls, Revises, Reasks, Offer, Return, Strange, lost_of, IsOpening, IsRevising, IsReasking, IsClosing, IsPicking, IsReturning, IsAsking}
-use Rattle.spec_hall.specs.Events.{Event, Open, Revise, Reask, Close, Start, Finish}
+use Rattle.mal_base.specs.declared.hall_fault.PackFault.{PackFault}
+use Rattle.mal_base.specs.declared.hall_fault.PackFault.TheVariants as packing
+use Rattle.mal_base.specs.declared.hall_fault.AdmitFault.{AdmitFault}
+use Rattle.mal_base.specs.declared.hall_fault.AdmitFault.TheVariants as admitting
+use Rattle.spec_hall.specs.Calls.{Admits, Back, CallIsLegal, Closes, Finishes, Idle, AllDone, Leased, Leaves, Opens, Asks, Packs, Picks, Recalls, Revises, Reasks, Offer, Return, Strange, lost_of, IsOpening, IsRevising, IsReasking, IsClosing, IsPicking, IsReturning, IsAsking, IsPacking, IsAdmitting}
+use Rattle.spec_hall.specs.Events.{Event, Open, Revise, Reask, Close, Start, Finish, Leave, Arrive}
 use Rattle.spec_hall.specs.Legal.{Allowed, Legal}
 use Rattle.spec_hall.specs.States.{LeaseOut, leases, lease_of}
 use Rattle.spec_hall.proofs.PushLemmas.{Legal-push, leases-push}
@@ -104,6 +109,19 @@ ask-legal w past k n (Ok text) es legal (t, a, b, is) = none-legal w past es leg
 ask-legal w past k n (Err asking.NoJob) es legal is = none-legal w past es legal is.1
 ask-legal w past k n (Err asking.OutOfMemory) es legal (t, a, is) = none-legal w past es legal is
 
+pack-legal : (w : ℕ) (past : List Event) (k : Key) (r : Result (List Own) PackFault) (es : List Event) → Legal w past → IsPacking past k r es → Legal w (past ++ es)
+pack-legal w past k (Ok brought) es legal (t, a, b, c, is) = none-legal w past es legal is
+pack-legal w past k (Err packing.NoJob) es legal is = none-legal w past es legal is.1
+pack-legal w past k (Err (packing.Out index)) es legal (t, a, b, is) = none-legal w past es legal is
+pack-legal w past k (Err packing.OutOfMemory) es legal (t, a, is) = none-legal w past es legal is
+
+admit-legal : (w : ℕ) (past : List Event) (k : Key) (brought : List Own) (r : Result (Unit {0}) AdmitFault) (es : List Event) → Legal w past → IsAdmitting past k brought r es → Legal w (past ++ es)
+admit-legal w past k brought (Ok done) es legal is = one-legal w past es (Arrive k brought) legal is.0 is.1
+admit-legal w past k brought (Err admitting.Present) es legal is = none-legal w past es legal is.1
+admit-legal w past k brought (Err admitting.TenantFull) es legal is = none-legal w past es legal is.1
+admit-legal w past k brought (Err admitting.HallFull) es legal is = none-legal w past es legal is.1
+admit-legal w past k brought (Err admitting.OutOfMemory) es legal is = none-legal w past es legal is.1
+
 pub call-is_legal : CallIsLegal
 call-is_legal w past (Opens k ask) answer es some bound legal is = open-legal w past k ask answer es legal is
 call-is_legal w past (Revises k r) answer es some bound legal is = revise-legal w past k r answer es legal is
@@ -113,3 +131,6 @@ call-is_legal w past (Picks worker) answer es some bound legal is = pick-legal w
 call-is_legal w past (Finishes d) answer es some bound legal is = return-legal w past d answer es some bound legal is
 call-is_legal w past Recalls answer es some bound legal is = subst (λ (xs : List Event). Legal w (past ++ xs)) (sym is) (lost-legal w past (leases past) 1 w some bound legal (λ v low. refl))
 call-is_legal w past (Asks k r) answer es some bound legal is = ask-legal w past k r answer es legal is
+call-is_legal w past (Packs k) answer es some bound legal is = pack-legal w past k answer es legal is
+call-is_legal w past (Admits k brought) answer es some bound legal is = admit-legal w past k brought answer es legal is
+call-is_legal w past (Leaves k) answer es some bound legal (t, may, is) = one-legal w past es (Leave k) legal (t, may) is

@@ -10,6 +10,7 @@ use Rattle.mal_revision.specs.Posted.{Posted}
 use Rattle.spec_job.specs.Leased.{Finished}
 use Rattle.spec_job.specs.Replies.{reply}
 use Rattle.spec_job.specs.KeyedJob.{Key, KeyedJob}
+use Rattle.spec_job.specs.SoloMachine.{Own}
 use Rattle.mal_base.specs.declared.hall_fault.OpenFault.{OpenFault}
 use Rattle.mal_base.specs.declared.hall_fault.OpenFault.TheVariants as opening
 use Rattle.mal_base.specs.declared.hall_fault.ReviseFault.{ReviseFault}
@@ -22,7 +23,11 @@ use Rattle.mal_base.specs.declared.hall_fault.PickFault.{PickFault}
 use Rattle.mal_base.specs.declared.hall_fault.PickFault.TheVariants as picking
 use Rattle.mal_base.specs.declared.hall_fault.ReplyFault.{ReplyFault}
 use Rattle.mal_base.specs.declared.hall_fault.ReplyFault.TheVariants as asking
-use Rattle.spec_hall.specs.Calls.{Call, AnswerTo, Opens, Revises, Reasks, Closes, Picks, Finishes, Recalls, Asks, Handed, Offer, Leased, Idle, AllDone, Return, Back, Strange, AreDue, arranges, is_over, handed, IsStarting, IsWaiting, IsOpening, IsRevising, IsReasking, IsClosing, IsPicking, IsReturning, IsAsking, CallIsDecided, wanted}
+use Rattle.mal_base.specs.declared.hall_fault.PackFault.{PackFault}
+use Rattle.mal_base.specs.declared.hall_fault.PackFault.TheVariants as packing
+use Rattle.mal_base.specs.declared.hall_fault.AdmitFault.{AdmitFault}
+use Rattle.mal_base.specs.declared.hall_fault.AdmitFault.TheVariants as admitting
+use Rattle.spec_hall.specs.Calls.{Call, AnswerTo, Opens, Revises, Reasks, Closes, Picks, Finishes, Recalls, Asks, Packs, Admits, Leaves, Handed, Offer, Leased, Idle, AllDone, Return, Back, Strange, AreDue, arranges, is_over, handed, IsStarting, IsWaiting, IsOpening, IsRevising, IsReasking, IsClosing, IsPicking, IsReturning, IsAsking, IsPacking, IsAdmitting, first_out, CallIsDecided, wanted}
 use Rattle.spec_hall.specs.Driven.{IsCalm, is_done}
 use Rattle.spec_hall.specs.Events.{Event, Open, Revise, Reask, Close, Balance, Start, Finish, Exchange, Leave, Arrive}
 use Rattle.spec_hall.specs.Legal.{Allowed, LegalFrom, MayRevise, job_of}
@@ -357,6 +362,57 @@ revises-decided w past k r one other es fs a b same = by_answers one other a b s
     by_answers (Err revising.OutOfMemory) (Err (revising.JobFull which)) p q m = absurd (cc)
     by_answers (Err revising.OutOfMemory) (Err revising.OutOfMemory) p q m = (refl, λ n. absurd (cc))
 
+-- a job of which a node is out is not one of which none is
+none-out : (t u : KeyedJob) (index : ℕ) → t ≡ u → first_out t.state ≡ None → first_out u.state ≡ Some index → ⊥
+none-out t u index same none out = found-not (first_out u.state) index out (subst (λ (x : KeyedJob). first_out x.state ≡ None) same none)
+
+-- so is the packing of a job
+packs-decided : (w : ℕ) (past : List Event) (k : Key) (one other : Result (List Own) PackFault) (es fs : List Event) → IsPacking past k one es → IsPacking past k other fs → wanted (Packs k) one ≡ wanted (Packs k) other → Decided (Packs k) one other es fs
+packs-decided w past k (Ok one) (Ok other) es fs a b same = (ap Ok (a.3 ∙ sym b.3), λ m. no-events es fs a.4 b.4)
+packs-decided w past k (Ok one) (Err packing.NoJob) es fs a b same = absurd (found-not (job_of k (states past)) a.0 a.1.job b.0)
+packs-decided w past k (Ok one) (Err (packing.Out place)) es fs a b same = absurd (none-out a.0 b.0 place (found-same (job_of k (states past)) a.0 b.0 a.1.job b.1) a.2 b.2)
+packs-decided w past k (Ok one) (Err packing.OutOfMemory) es fs a b same = absurd (cc)
+packs-decided w past k (Err packing.NoJob) (Ok other) es fs a b same = absurd (found-not (job_of k (states past)) b.0 b.1.job a.0)
+packs-decided w past k (Err packing.NoJob) (Err packing.NoJob) es fs a b same = (refl, λ m. no-events es fs a.1 b.1)
+packs-decided w past k (Err packing.NoJob) (Err (packing.Out place)) es fs a b same = absurd (found-not (job_of k (states past)) b.0 b.1 a.0)
+packs-decided w past k (Err packing.NoJob) (Err packing.OutOfMemory) es fs a b same = absurd (cc)
+packs-decided w past k (Err (packing.Out index)) (Ok other) es fs a b same = absurd (none-out b.0 a.0 index (found-same (job_of k (states past)) b.0 a.0 b.1.job a.1) b.2 a.2)
+packs-decided w past k (Err (packing.Out index)) (Err packing.NoJob) es fs a b same = absurd (found-not (job_of k (states past)) a.0 a.1 b.0)
+packs-decided w past k (Err (packing.Out index)) (Err (packing.Out place)) es fs a b same = (ap (λ (i : ℕ). Err (packing.Out i)) (found-same (first_out b.0.state) index place (subst (λ (t : KeyedJob). first_out t.state ≡ Some index) (found-same (job_of k (states past)) a.0 b.0 a.1 b.1) a.2) b.2), λ m. no-events es fs a.3 b.3)
+packs-decided w past k (Err (packing.Out index)) (Err packing.OutOfMemory) es fs a b same = absurd (cc)
+packs-decided w past k (Err packing.OutOfMemory) (Ok other) es fs a b same = absurd (cc)
+packs-decided w past k (Err packing.OutOfMemory) (Err packing.NoJob) es fs a b same = absurd (cc)
+packs-decided w past k (Err packing.OutOfMemory) (Err (packing.Out place)) es fs a b same = absurd (cc)
+packs-decided w past k (Err packing.OutOfMemory) (Err packing.OutOfMemory) es fs a b same = (refl, λ m. absurd (cc))
+
+-- so is the admission of a job
+admits-decided : (w : ℕ) (past : List Event) (k : Key) (brought : List Own) (one other : Result (Unit {0}) AdmitFault) (es fs : List Event) → IsAdmitting past k brought one es → IsAdmitting past k brought other fs → wanted (Admits k brought) one ≡ wanted (Admits k brought) other → Decided (Admits k brought) one other es fs
+admits-decided w past k brought (Ok done) (Ok made) es fs a b same = (refl, λ m. a.1 ∙ sym b.1)
+admits-decided w past k brought (Ok done) (Err admitting.Present) es fs a b same = absurd (found-not (job_of k (states past)) b.0.0 b.0.1 a.0.absent)
+admits-decided w past k brought (Ok done) (Err admitting.TenantFull) es fs a b same = absurd (omega (arith, a.0.tenant_room b.0.1, b.0.2))
+admits-decided w past k brought (Ok done) (Err admitting.HallFull) es fs a b same = absurd (omega (arith, a.0.hall_room b.0.2, b.0.3))
+admits-decided w past k brought (Ok done) (Err admitting.OutOfMemory) es fs a b same = absurd (cc)
+admits-decided w past k brought (Err admitting.Present) (Ok made) es fs a b same = absurd (found-not (job_of k (states past)) a.0.0 a.0.1 b.0.absent)
+admits-decided w past k brought (Err admitting.Present) (Err admitting.Present) es fs a b same = (refl, λ m. no-events es fs a.1 b.1)
+admits-decided w past k brought (Err admitting.Present) (Err admitting.TenantFull) es fs a b same = absurd (found-not (job_of k (states past)) a.0.0 a.0.1 b.0.0)
+admits-decided w past k brought (Err admitting.Present) (Err admitting.HallFull) es fs a b same = absurd (found-not (job_of k (states past)) a.0.0 a.0.1 b.0.0)
+admits-decided w past k brought (Err admitting.Present) (Err admitting.OutOfMemory) es fs a b same = absurd (cc)
+admits-decided w past k brought (Err admitting.TenantFull) (Ok made) es fs a b same = absurd (omega (arith, b.0.tenant_room a.0.1, a.0.2))
+admits-decided w past k brought (Err admitting.TenantFull) (Err admitting.Present) es fs a b same = absurd (found-not (job_of k (states past)) b.0.0 b.0.1 a.0.0)
+admits-decided w past k brought (Err admitting.TenantFull) (Err admitting.TenantFull) es fs a b same = (refl, λ m. no-events es fs a.1 b.1)
+admits-decided w past k brought (Err admitting.TenantFull) (Err admitting.HallFull) es fs a b same = absurd (omega (arith, a.0.2, b.0.2))
+admits-decided w past k brought (Err admitting.TenantFull) (Err admitting.OutOfMemory) es fs a b same = absurd (cc)
+admits-decided w past k brought (Err admitting.HallFull) (Ok made) es fs a b same = absurd (omega (arith, b.0.hall_room a.0.2, a.0.3))
+admits-decided w past k brought (Err admitting.HallFull) (Err admitting.Present) es fs a b same = absurd (found-not (job_of k (states past)) b.0.0 b.0.1 a.0.0)
+admits-decided w past k brought (Err admitting.HallFull) (Err admitting.TenantFull) es fs a b same = absurd (omega (arith, a.0.2, b.0.2))
+admits-decided w past k brought (Err admitting.HallFull) (Err admitting.HallFull) es fs a b same = (refl, λ m. no-events es fs a.1 b.1)
+admits-decided w past k brought (Err admitting.HallFull) (Err admitting.OutOfMemory) es fs a b same = absurd (cc)
+admits-decided w past k brought (Err admitting.OutOfMemory) (Ok made) es fs a b same = absurd (cc)
+admits-decided w past k brought (Err admitting.OutOfMemory) (Err admitting.Present) es fs a b same = absurd (cc)
+admits-decided w past k brought (Err admitting.OutOfMemory) (Err admitting.TenantFull) es fs a b same = absurd (cc)
+admits-decided w past k brought (Err admitting.OutOfMemory) (Err admitting.HallFull) es fs a b same = absurd (cc)
+admits-decided w past k brought (Err admitting.OutOfMemory) (Err admitting.OutOfMemory) es fs a b same = (refl, λ m. absurd (cc))
+
 -- so is every call
 pub call-is_decided : CallIsDecided
 call-is_decided w past (Opens k ask) one other es fs a b same = opens-decided w past k ask one other es fs a b same
@@ -367,3 +423,6 @@ call-is_decided w past (Picks worker) one other es fs a b same = picks-decided w
 call-is_decided w past (Finishes d) one other es fs a b same = returns-decided w past d one other es fs a b
 call-is_decided w past Recalls one other es fs a b same = (refl, λ m. a ∙ sym b)
 call-is_decided w past (Asks k r) one other es fs a b same = asks-decided w past k r one other es fs a b same
+call-is_decided w past (Packs k) one other es fs a b same = packs-decided w past k one other es fs a b same
+call-is_decided w past (Admits k brought) one other es fs a b same = admits-decided w past k brought one other es fs a b same
+call-is_decided w past (Leaves k) one other es fs a b same = (refl, λ m. a.2 ∙ sym b.2)

@@ -58,7 +58,7 @@ module _ (w : ℕ) (k : Key) (some : 1 ≤ w) (bound : w ≤ 64) where
   adds-lawful : (past : List Event) (j : Key) (o : Own) → IsLawful (own k past) → MayPass (solo (own j past)) o → IsLawful (adds (is_key k j) (own k past) o)
   adds-lawful past j o h may = adds-keeps IsLawful (is_key k j) (own k past) o h (λ mine. lawful-push (own k past) o h (subst (λ (x : Key). MayPass (solo (own x past)) o) (sym ((is_key-Decides k j).0 mine)) may))
 
-  volume-lawful : (v : ℕ) (es : List Own) → v ≤ 64 → IsLawful es → IsLawful (adds_volume v es)
+  pub volume-lawful : (v : ℕ) (es : List Own) → v ≤ 64 → IsLawful es → IsLawful (adds_volume v es)
   volume-lawful v es low h = adds_volume-keeps IsLawful v es h (lawful-push es (Volume v) h low)
 
   lawful-lasts : Lasts w k IsLawful

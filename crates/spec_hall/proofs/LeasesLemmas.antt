@@ -216,7 +216,7 @@ same-leases w past e same outs are =
       nodes = λ k i. ap (λ (es : List Own). is_out (solo es) i) (own-push k past e) ∙ (outs k i ∙ (are.nodes k i ∙ ap (λ (ls : List LeaseOut). is_some (lease_at k i ls)) (sym now)));
     }
 
-within-out : (ps : List NodeSlot) (i : ℕ) → is_some (get_or ps i vacant).out ≡ true → i < length ps
+pub within-out : (ps : List NodeSlot) (i : ℕ) → is_some (get_or ps i vacant).out ≡ true → i < length ps
 within-out [] i e = absurd (cc)
 within-out (p ∷ ps) zero e = omega arith
 within-out (p ∷ ps) (suc i) e = let u : i < length ps = within-out ps i e in omega arith

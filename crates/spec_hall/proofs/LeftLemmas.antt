@@ -102,22 +102,32 @@ left-exchange w h ss n s seated calm first at =
     let was : left_in h ≡ left_by false (jobs_in ss) = left-when w h ss false seated calm in
     subst (λ (m : ℕ). m < left_in h) (sym now) (subst (λ (m : ℕ). left_by false (jobs_in (slice_set ss n seat)) < m) (sym was) (exchange-less ss n s first at))
 
--- less is left behind a start with its end that leaves less to its job
-pub left-slice : (w : ℕ) (h : List Event) (ss : List Seat) (n : ℕ) (s : Seat) (index worker : ℕ) (outcome : Outcome) → IsSeated w h ss → slice_get ss n ≡ Some s → is_balancing_due h ss ≡ false → Allowed w h (Start s.job.titled.key index worker) → Allowed w (h ++ Start s.job.titled.key index worker ∷ []) (Finish s.job.titled.key index worker outcome) → left_of (after_start s.job.titled.state index outcome) < left_of s.job.titled.state → left_in ((h ++ Start s.job.titled.key index worker ∷ []) ++ Finish s.job.titled.key index worker outcome ∷ []) < left_in h
-left-slice w h ss n s index worker outcome seated at calm may ends less =
+-- the seat of a job behind a start with its end
+abbrev pub sliced_seat : Seat → ℕ → Outcome → Seat
+sliced_seat s index outcome = record s { job = and_own (and_start s.job index 0) (Finished index outcome) }
+
+pub seated-slice : (w : ℕ) (h : List Event) (ss : List Seat) (n : ℕ) (s : Seat) (index worker : ℕ) (outcome : Outcome) → IsSeated w h ss → slice_get ss n ≡ Some s → Allowed w h (Start s.job.titled.key index worker) → Allowed w (h ++ Start s.job.titled.key index worker ∷ []) (Finish s.job.titled.key index worker outcome) → IsSeated w ((h ++ Start s.job.titled.key index worker ∷ []) ++ Finish s.job.titled.key index worker outcome ∷ []) (slice_set ss n (sliced_seat s index outcome))
+seated-slice w h ss n s index worker outcome seated at may ends =
     let begun : Seat = record s { job = and_start s.job index 0 } in
     let ended : Seat = record begun { job = and_own begun.job (Finished index outcome) } in
     let middle : List Seat = slice_set ss n begun in
     let later : List Event = (h ++ Start s.job.titled.key index worker ∷ []) ++ Finish s.job.titled.key index worker outcome ∷ [] in
     let started : IsSeated w (h ++ Start s.job.titled.key index worker ∷ []) middle = seated-start w h ss n s index worker 0 seated at may in
     let finished : IsSeated w later (slice_set middle n ended) = seated-finish w (h ++ Start s.job.titled.key index worker ∷ []) middle n begun index worker outcome started (set-get ss n s begun at) ends in
-    let seats : List Seat = slice_set ss n ended in
-    let whole : IsSeated w later seats = subst (IsSeated w later) (set-set ss n begun ended) finished in
-    let now : left_in later ≡ left_by (is_balancing_due later seats) (jobs_in seats) = seated-left w later seats whole in
-    let was : left_in h ≡ left_by false (jobs_in ss) = left-when w h ss false seated calm in
-    subst (λ (m : ℕ). m < left_in h) (sym now) (subst (λ (m : ℕ). left_by (is_balancing_due later seats) (jobs_in seats) < m) (sym was) (slice-less (is_balancing_due later seats) ss n s ended at less))
+    subst (IsSeated w later) (set-set ss n begun ended) finished
   where
     set-get : (xs : List Seat) (m : ℕ) (x t : Seat) → slice_get xs m ≡ Some x → slice_get (slice_set xs m t) m ≡ Some t
     set-get [] m x t e = absurd (cc)
     set-get (y ∷ ys) zero x t e = refl
     set-get (y ∷ ys) (suc m) x t e = set-get ys m x t e
+
+-- less is left behind a start with its end that leaves less to its job
+pub left-slice : (w : ℕ) (h : List Event) (ss : List Seat) (n : ℕ) (s : Seat) (index worker : ℕ) (outcome : Outcome) → IsSeated w h ss → slice_get ss n ≡ Some s → is_balancing_due h ss ≡ false → Allowed w h (Start s.job.titled.key index worker) → Allowed w (h ++ Start s.job.titled.key index worker ∷ []) (Finish s.job.titled.key index worker outcome) → left_of (after_start s.job.titled.state index outcome) < left_of s.job.titled.state → left_in ((h ++ Start s.job.titled.key index worker ∷ []) ++ Finish s.job.titled.key index worker outcome ∷ []) < left_in h
+left-slice w h ss n s index worker outcome seated at calm may ends less =
+    let ended : Seat = sliced_seat s index outcome in
+    let later : List Event = (h ++ Start s.job.titled.key index worker ∷ []) ++ Finish s.job.titled.key index worker outcome ∷ [] in
+    let seats : List Seat = slice_set ss n ended in
+    let whole : IsSeated w later seats = seated-slice w h ss n s index worker outcome seated at may ends in
+    let now : left_in later ≡ left_by (is_balancing_due later seats) (jobs_in seats) = seated-left w later seats whole in
+    let was : left_in h ≡ left_by false (jobs_in ss) = left-when w h ss false seated calm in
+    subst (λ (m : ℕ). m < left_in h) (sym now) (subst (λ (m : ℕ). left_by (is_balancing_due later seats) (jobs_in seats) < m) (sym was) (slice-less (is_balancing_due later seats) ss n s ended at less))

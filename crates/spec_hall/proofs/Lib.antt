@@ -30,6 +30,9 @@ pub mod OnceLemmas
 pub mod MovedLemmas
 pub mod SingleLemmas
 pub mod IsolationLemmas
+pub mod SlicedLemmas
+pub mod GoingLemmas
+pub mod NumberLemmas
 -- what this crate alone cites
 mod LastingLemmas
 mod LawfulLemmas

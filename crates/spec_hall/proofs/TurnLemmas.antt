@@ -202,6 +202,17 @@ start-less s i Ran e h = h.ran
 start-less s i Starved e h = h.starved
 start-less s i Lost e h = absurd (cc)
 
+-- the seat of the job whose node starts, to which the start with its end leaves less
+pub record IsSliceOf (ss : List Seat) (k : Key) (i : ℕ) (o : Outcome) : Type 0 where
+  pub found : SeatOf ss k
+  pub less : left_of (after_start found.seat.job.titled.state i o) < left_of found.seat.job.titled.state
+
+pub slice-seat : (w : ℕ) (h : List Event) (ss : List Seat) (k : Key) (i : ℕ) (o : Outcome) → 1 ≤ w → w ≤ 64 → IsSeated w h ss → was_lost o ≡ false → Allowed w h (Start k i 1) → IsSliceOf ss k i o
+slice-seat w h ss k i o some bound seated kept may =
+    let found : SeatOf ss k = opened-seat w h ss k seated (key-stands (keys_of h) may.0.job k may.1.key) in
+    let machine : solo (own k h) ≡ found.seat.job.titled.state = ap (λ (t : KeyedJob). t.state) (subst (λ (x : Key). titled h x ≡ found.seat.job.titled) found.key (sits-at h ss found.at found.seat seated.jobs found.is).machine) in
+    record { found = found; less = subst (λ (s : SoloMachine). left_of (after_start s i o) < left_of s) machine (start-less (solo (own k h)) i o kept (left-falls (own k h) i (start-free w h k i 1 some bound seated.legal may).low (picked-may w h k i 1 may.0 may.1))) }
+
 -- a start with its end, of the first worker where nothing is out
 pub record HasWorked (w : ℕ) (past history : List Event) : Type 0 where
   pub turns : GrowsByTurns w past history
@@ -229,8 +240,11 @@ slice-worked w h k i o some bound legal home left kept may = record { turns = tu
     has : HasSeats w h
     has = legal-seats w h some legal
 
+    is : IsSliceOf has.seats k i o
+    is = slice-seat w h has.seats k i o some bound has.are kept may
+
     found : SeatOf has.seats k
-    found = opened-seat w h has.seats k has.are (key-stands (keys_of h) may.0.job k may.1.key)
+    found = is.found
 
     due : is_due has.seats ≡ false
     due = by_test (is_due has.seats) refl
@@ -239,17 +253,11 @@ slice-worked w h k i o some bound legal home left kept may = record { turns = tu
         by_test false e = refl
         by_test true e = absurd (seated-due w h has.seats has.are e may.1.balance)
 
-    machine : solo (own k h) ≡ found.seat.job.titled.state
-    machine = ap (λ (t : KeyedJob). t.state) (subst (λ (x : Key). titled h x ≡ found.seat.job.titled) found.key (sits-at h has.seats found.at found.seat has.are.jobs found.is).machine)
-
-    fewer : left_of (after_start found.seat.job.titled.state i o) < left_of found.seat.job.titled.state
-    fewer = subst (λ (s : SoloMachine). left_of (after_start s i o) < left_of s) machine (start-less (solo (own k h)) i o kept (left-falls (own k h) i (start-free w h k i 1 some bound legal may).low (picked-may w h k i 1 may.0 may.1)))
-
     less : left_in ((h ++ Start k i 1 ∷ []) ++ Finish k i 1 o ∷ []) < left_in h
     less =
         let mine : Allowed w h (Start found.seat.job.titled.key i 1) = subst (λ (x : Key). Allowed w h (Start x i 1)) (sym found.key) may in
         let over : Allowed w (h ++ Start found.seat.job.titled.key i 1 ∷ []) (Finish found.seat.job.titled.key i 1 o) = subst (λ (x : Key). Allowed w (h ++ Start x i 1 ∷ []) (Finish x i 1 o)) (sym found.key) ends in
-        subst (λ (x : Key). left_in ((h ++ Start x i 1 ∷ []) ++ Finish x i 1 o ∷ []) < left_in h) found.key (left-slice w h has.seats found.at found.seat i 1 o has.are found.is (calm-due h has.seats (lives (states h)) (sym may.1.balance) due) mine over fewer)
+        subst (λ (x : Key). left_in ((h ++ Start x i 1 ∷ []) ++ Finish x i 1 o ∷ []) < left_in h) found.key (left-slice w h has.seats found.at found.seat i 1 o has.are found.is (calm-due h has.seats (lives (states h)) (sym may.1.balance) due) mine over is.less)
 
 -- the whole turn: what is due, the start and its end
 pub turn-worked : (w : ℕ) (past due : List Event) (k : Key) (i : ℕ) (o : Outcome) → 1 ≤ w → w ≤ 64 → Legal w past → leases past ≡ [] → is_done (states past) ≡ false → was_lost o ≡ false → AreDue w past due → Allowed w (past ++ due) (Start k i 1) → HasWorked w past (((past ++ due) ++ Start k i 1 ∷ []) ++ Finish k i 1 o ∷ [])

@@ -1,4 +1,4 @@
-use Rattle.std.specs.Prelude.{◌≡◌, ℕ, ◌+◌, ◌<◌, ◌≤◌, Bool, true, false, ◌&&◌, ◌==◌, List, [], ◌∷◌, ◌++◌, length, flat_map, Option, Some, None, is_some, Result, Ok, Err}
+use Rattle.std.specs.Prelude.{◌≡◌, ℕ, ◌+◌, ◌<◌, ◌≤◌, Bool, true, false, ◌&&◌, ◌==◌, List, [], ◌∷◌, ◌++◌, length, find, flat_map, Option, Some, None, is_some, Result, Ok, Err}
 use Rattle.std.specs.Option.{option_map_or, option_map}
 use Rattle.std.specs.List.{list_all, list_any}
 use Rattle.mal_base.specs.Asks.{Terms, Weighed}
@@ -10,6 +10,7 @@ use Rattle.spec_job.specs.Journaled.{Journaled}
 use Rattle.spec_job.specs.Leased.{Finished}
 use Rattle.spec_job.specs.Replies.{reply}
 use Rattle.spec_job.specs.KeyedJob.{Key, KeyedJob}
+use Rattle.spec_job.specs.SoloMachine.{Own, SoloMachine, place_at}
 use Rattle.spec_job.specs.Viewed.{IsGrownBy}
 use Rattle.mal_base.specs.declared.hall_fault.OpenFault.{OpenFault}
 use Rattle.mal_base.specs.declared.hall_fault.OpenFault.TheVariants as opening
@@ -23,16 +24,21 @@ use Rattle.mal_base.specs.declared.hall_fault.PickFault.{PickFault}
 use Rattle.mal_base.specs.declared.hall_fault.PickFault.TheVariants as picking
 use Rattle.mal_base.specs.declared.hall_fault.ReplyFault.{ReplyFault}
 use Rattle.mal_base.specs.declared.hall_fault.ReplyFault.TheVariants as asking
+use Rattle.mal_base.specs.declared.hall_fault.PackFault.{PackFault}
+use Rattle.mal_base.specs.declared.hall_fault.PackFault.TheVariants as packing
+use Rattle.mal_base.specs.declared.hall_fault.AdmitFault.{AdmitFault}
+use Rattle.mal_base.specs.declared.hall_fault.AdmitFault.TheVariants as admitting
 use Rattle.spec_hall.specs.Driven.{IsIdle, is_done}
-use Rattle.spec_hall.specs.Events.{Event, Open, Revise, Reask, Close, Balance, Start, Finish, Exchange}
+use Rattle.spec_hall.specs.Events.{Event, Open, Revise, Reask, Close, Balance, Start, Finish, Exchange, Leave, Arrive}
 use Rattle.spec_hall.specs.Leases.{lease_journal, lease_adds, start_number}
-use Rattle.spec_hall.specs.Legal.{Allowed, Legal, LegalFrom, MayOpen, MayRevise, MayReask, MayClose, job_of, jobs_of, tenant_count}
-use Rattle.spec_hall.specs.Own.{is_key}
+use Rattle.spec_hall.specs.Legal.{Allowed, Legal, LegalFrom, MayOpen, MayRevise, MayReask, MayClose, MayLeave, MayArrive, job_of, jobs_of, tenant_count}
+use Rattle.spec_hall.specs.Own.{is_key, brought_by}
 use Rattle.spec_hall.specs.Room.{IsOver}
 use Rattle.spec_hall.specs.States.{LeaseOut, leases, lease_of, states, names_of}
 
 -- a call of a hall: a job is opened, revised or closed, or its ask changes, a worker picks, what came of a lease is
--- given back, all leases are recalled, or the reply to a revision is asked for
+-- given back, all leases are recalled, or the reply to a revision is asked for; and where a job goes from one hall to
+-- another it is packed here with its own events, admitted there with them, and leaves here
 pub data Call : Type 0 where
   Opens : Key → Terms → Call
   Revises : Key → Posted → Call
@@ -42,6 +48,9 @@ pub data Call : Type 0 where
   Finishes : Finished → Call
   Recalls : Call
   Asks : Key → ℕ → Call
+  Packs : Key → Call
+  Admits : Key → List Own → Call
+  Leaves : Key → Call
 
 -- a lease as it is handed out: the journal of its node, what its start adds, and its worker
 pub record Handed : Type 0 where
@@ -71,6 +80,9 @@ AnswerTo (Picks worker) = Result Offer PickFault
 AnswerTo (Finishes d) = Return
 AnswerTo Recalls = Unit {0}
 AnswerTo (Asks k r) = Result (Option (List ℕ)) ReplyFault
+AnswerTo (Packs k) = Result (List Own) PackFault
+AnswerTo (Admits k brought) = Result (Unit {0}) AdmitFault
+AnswerTo (Leaves k) = Unit {0}
 
 -- a job is opened where it may be, or is refused: its name was there, its tenant had 64 jobs, or there were 64 other
 -- tenants
@@ -184,6 +196,45 @@ IsAsking past k r (Ok text) es = (t : KeyedJob) × (job_of k (states past) ≡ S
 IsAsking past k r (Err asking.NoJob) es = (job_of k (states past) ≡ None) × (es ≡ [])
 IsAsking past k r (Err asking.OutOfMemory) es = (t : KeyedJob) × (job_of k (states past) ≡ Some t) × (es ≡ [])
 
+-- the first node of a job that is out
+abbrev pub first_out : SoloMachine → Option ℕ
+first_out s = find (λ i. is_some (place_at s i).out) (counted 0 64)
+
+-- a job is packed with what it brings where it goes, or that is refused: there is no such job, or a node of it is out,
+-- the first of which is told
+abbrev pub IsPacking : List Event → Key → Result (List Own) PackFault → List Event → Type 0
+IsPacking past k (Ok brought) es = (t : KeyedJob) × MayLeave past k t × (first_out t.state ≡ None) × (brought ≡ brought_by k past) × (es ≡ [])
+IsPacking past k (Err packing.NoJob) es = (job_of k (states past) ≡ None) × (es ≡ [])
+IsPacking past k (Err (packing.Out index)) es = (t : KeyedJob) × (job_of k (states past) ≡ Some t) × (first_out t.state ≡ Some index) × (es ≡ [])
+IsPacking past k (Err packing.OutOfMemory) es = (t : KeyedJob) × MayLeave past k t × (es ≡ [])
+
+-- a job that is not there has the room that its coming wants, as far as the names are concerned
+pub record MayCome (past : List Event) (k : Key) : Type 0 where
+  pub absent : job_of k (states past) ≡ None
+  pub tenant_room : list_any (is_key k) (names_of past) ≡ false → jobs_of k.tenant (names_of past) < 64
+  pub hall_room : (jobs_of k.tenant (names_of past) ≡ 0) → tenant_count (names_of past) < 64
+
+-- whether a job has room: it may come, or it is there, or its name is new and its tenant had 64 jobs, or there were 64
+-- other tenants; memory is not wanting to it
+abbrev pub IsAdmission : List Event → Key → Result (Unit {0}) AdmitFault → Type 0
+IsAdmission past k (Ok done) = MayCome past k
+IsAdmission past k (Err admitting.Present) = (t : KeyedJob) × (job_of k (states past) ≡ Some t)
+IsAdmission past k (Err admitting.TenantFull) = (job_of k (states past) ≡ None) × (list_any (is_key k) (names_of past) ≡ false) × (64 ≤ jobs_of k.tenant (names_of past))
+IsAdmission past k (Err admitting.HallFull) = (job_of k (states past) ≡ None) × (list_any (is_key k) (names_of past) ≡ false) × (jobs_of k.tenant (names_of past) ≡ 0) × (64 ≤ tenant_count (names_of past))
+IsAdmission past k (Err admitting.OutOfMemory) = ⊥
+
+-- a job is admitted where it may arrive, or is refused where it has no room
+abbrev pub IsAdmitting : List Event → Key → List Own → Result (Unit {0}) AdmitFault → List Event → Type 0
+IsAdmitting past k brought (Ok done) es = MayArrive past k brought × (es ≡ Arrive k brought ∷ [])
+IsAdmitting past k brought (Err admitting.Present) es = IsAdmission past k (Err admitting.Present) × (es ≡ [])
+IsAdmitting past k brought (Err admitting.TenantFull) es = IsAdmission past k (Err admitting.TenantFull) × (es ≡ [])
+IsAdmitting past k brought (Err admitting.HallFull) es = IsAdmission past k (Err admitting.HallFull) × (es ≡ [])
+IsAdmitting past k brought (Err admitting.OutOfMemory) es = MayArrive past k brought × (es ≡ [])
+
+-- a job leaves that may
+abbrev pub IsLeaving : List Event → Key → Unit {0} → List Event → Type 0
+IsLeaving past k done es = (t : KeyedJob) × MayLeave past k t × (es ≡ Leave k ∷ [])
+
 -- a call of a hall of so many workers after a past is answered so and enters these events
 abbrev pub IsCall : ℕ → List Event → (c : Call) → AnswerTo c → List Event → Type 0
 IsCall workers past (Opens k ask) answer es = IsOpening past k ask answer es
@@ -194,6 +245,9 @@ IsCall workers past (Picks worker) answer es = IsPicking workers past worker ans
 IsCall workers past (Finishes d) answer es = IsReturning past d answer es
 IsCall workers past Recalls answer es = es ≡ recalled workers past
 IsCall workers past (Asks k r) answer es = IsAsking past k r answer es
+IsCall workers past (Packs k) answer es = IsPacking past k answer es
+IsCall workers past (Admits k brought) answer es = IsAdmitting past k brought answer es
+IsCall workers past (Leaves k) answer es = IsLeaving past k answer es
 
 -- a call has brought a history from a past
 pub record HasCalled (workers : ℕ) (past : List Event) (c : Call) (answer : AnswerTo c) (history : List Event) : Type 0 where
@@ -227,6 +281,16 @@ wanted Recalls answer = false
 wanted (Asks k r) (Ok text) = false
 wanted (Asks k r) (Err asking.NoJob) = false
 wanted (Asks k r) (Err asking.OutOfMemory) = true
+wanted (Packs k) (Ok brought) = false
+wanted (Packs k) (Err packing.NoJob) = false
+wanted (Packs k) (Err (packing.Out index)) = false
+wanted (Packs k) (Err packing.OutOfMemory) = true
+wanted (Admits k brought) (Ok done) = false
+wanted (Admits k brought) (Err admitting.Present) = false
+wanted (Admits k brought) (Err admitting.TenantFull) = false
+wanted (Admits k brought) (Err admitting.HallFull) = false
+wanted (Admits k brought) (Err admitting.OutOfMemory) = true
+wanted (Leaves k) answer = false
 
 -- the answer of a call and its events are decided by the history, the call and whether memory was wanting; where it
 -- was, the events of a pick are some of those that are due

@@ -11,6 +11,7 @@ pub mod Room
 pub mod Calls
 pub mod Measure
 pub mod Driven
+pub mod Turns
 pub mod Laws
 pub mod Unknowns
 pub mod Picked

@@ -62,3 +62,7 @@ arrives j event = false
 -- a job's own events in a history
 abbrev pub own : Key → List Event → List Own
 own j history = fold (own_step j) [] history
+
+-- what a job brings where it goes: all that it did, and no volume
+abbrev pub brought_by : Key → List Event → List Own
+brought_by k past = adds_volume 0 (own k past)
